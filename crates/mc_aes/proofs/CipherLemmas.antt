@@ -1,36 +1,36 @@
 -- The rounds of a cipher, one key at a time.
 use Rattle.std.proofs.Common.{◌≡◌, ℕ, suc, ◌+◌, ◌-◌, ◌<◌, List, [], ◌∷◌, length, get_or, drop, map, reverse, refl, sym, ap, ◌∙◌, arith, add-one, drop-cons}
 use Rattle.std.proofs.lemmas.List.{get_or-map, get_or-reverse, length-map, length-reverse, drop_all}
-use Rattle.mc_model_machine.specs.Modes.{added}
-use Rattle.mc_model_machine.specs.Aes.{rounds, round, last_round, enciphered, deciphered, rounds_back, round_back, last_round_back}
+use Rattle.mc_model_machine.specs.Modes.{bit_sum}
+use Rattle.mc_model_machine.specs.Aes.{rounds, round, last_round, cipher_block, inverse_cipher_block, rounds_back, round_back, last_round_back}
 use Rattle.mc_aes.specs.State.{state_bytes}
 use Rattle.mc_aes.specs.declared.state.State.{State}
 
 -- ---- one round of a list of keys
 
-pub rounds-cons : (k j : List ℕ) (ks : List (List ℕ)) (s : List ℕ) → rounds (k ∷ j ∷ ks) s ≡ rounds (j ∷ ks) (round k s)
+pub rounds_cons : (k j : List ℕ) (ks : List (List ℕ)) (s : List ℕ) → rounds (k ∷ j ∷ ks) s ≡ rounds (j ∷ ks) (round k s)
 unfolding rounds
-rounds-cons k j ks s = refl
+rounds_cons k j ks s = refl
 
-pub rounds-last : (k s : List ℕ) → rounds (k ∷ []) s ≡ last_round k s
+pub rounds_last : (k s : List ℕ) → rounds (k ∷ []) s ≡ last_round k s
 unfolding rounds
-rounds-last k s = refl
+rounds_last k s = refl
 
-pub rounds_back-cons : (k j : List ℕ) (ks : List (List ℕ)) (s : List ℕ) → rounds_back (k ∷ j ∷ ks) s ≡ rounds_back (j ∷ ks) (round_back k s)
+pub rounds_back_cons : (k j : List ℕ) (ks : List (List ℕ)) (s : List ℕ) → rounds_back (k ∷ j ∷ ks) s ≡ rounds_back (j ∷ ks) (round_back k s)
 unfolding rounds_back
-rounds_back-cons k j ks s = refl
+rounds_back_cons k j ks s = refl
 
-pub rounds_back-last : (k s : List ℕ) → rounds_back (k ∷ []) s ≡ added s k
+pub rounds_back_last : (k s : List ℕ) → rounds_back (k ∷ []) s ≡ bit_sum s k
 unfolding rounds_back
-rounds_back-last k s = refl
+rounds_back_last k s = refl
 
-pub enciphered-cons : (k : List ℕ) (ks : List (List ℕ)) (b : List ℕ) → enciphered (k ∷ ks) b ≡ rounds ks (added b k)
-unfolding enciphered
-enciphered-cons k ks b = refl
+pub enciphered_cons : (k : List ℕ) (ks : List (List ℕ)) (b : List ℕ) → cipher_block (k ∷ ks) b ≡ rounds ks (bit_sum b k)
+unfolding cipher_block
+enciphered_cons k ks b = refl
 
-pub deciphered-cons : (k : List ℕ) (ks : List (List ℕ)) (b : List ℕ) → deciphered (k ∷ ks) b ≡ rounds_back ks (last_round_back k b)
-unfolding deciphered
-deciphered-cons k ks b = refl
+pub deciphered_cons : (k : List ℕ) (ks : List (List ℕ)) (b : List ℕ) → inverse_cipher_block (k ∷ ks) b ≡ rounds_back ks (last_round_back k b)
+unfolding inverse_cipher_block
+deciphered_cons k ks b = refl
 
 -- ---- at an index of the list
 
@@ -40,16 +40,16 @@ two ls i h = drop-cons ls i [] (omega arith) ∙ ap (λ (t : List (List ℕ)). g
 one : (ls : List (List ℕ)) (i : ℕ) → suc i ≡ length ls → drop i ls ≡ get_or ls i [] ∷ []
 one ls i h = drop-cons ls i [] (omega arith) ∙ ap (λ (t : List (List ℕ)). get_or ls i [] ∷ t) (drop_all (suc i) ls (omega arith))
 
-rounds-drop : (ls : List (List ℕ)) (i : ℕ) (s : List ℕ) → suc i < length ls → rounds (drop (suc i) ls) (round (get_or ls i []) s) ≡ rounds (drop i ls) s
-rounds-drop ls i s h =
+rounds_drop : (ls : List (List ℕ)) (i : ℕ) (s : List ℕ) → suc i < length ls → rounds (drop (suc i) ls) (round (get_or ls i []) s) ≡ rounds (drop i ls) s
+rounds_drop ls i s h =
     ap (λ (l : List (List ℕ)). rounds l (round (get_or ls i []) s)) (drop-cons ls (suc i) [] h)
-    ∙ sym (rounds-cons (get_or ls i []) (get_or ls (suc i) []) (drop (suc (suc i)) ls) s)
+    ∙ sym (rounds_cons (get_or ls i []) (get_or ls (suc i) []) (drop (suc (suc i)) ls) s)
     ∙ ap (λ (l : List (List ℕ)). rounds l s) (sym (two ls i h))
 
-rounds_back-drop : (ls : List (List ℕ)) (i : ℕ) (s : List ℕ) → suc i < length ls → rounds_back (drop (suc i) ls) (round_back (get_or ls i []) s) ≡ rounds_back (drop i ls) s
-rounds_back-drop ls i s h =
+rounds_back_drop : (ls : List (List ℕ)) (i : ℕ) (s : List ℕ) → suc i < length ls → rounds_back (drop (suc i) ls) (round_back (get_or ls i []) s) ≡ rounds_back (drop i ls) s
+rounds_back_drop ls i s h =
     ap (λ (l : List (List ℕ)). rounds_back l (round_back (get_or ls i []) s)) (drop-cons ls (suc i) [] h)
-    ∙ sym (rounds_back-cons (get_or ls i []) (get_or ls (suc i) []) (drop (suc (suc i)) ls) s)
+    ∙ sym (rounds_back_cons (get_or ls i []) (get_or ls (suc i) []) (drop (suc (suc i)) ls) s)
     ∙ ap (λ (l : List (List ℕ)). rounds_back l s) (sym (two ls i h))
 
 -- ---- the keys of the code
@@ -71,45 +71,45 @@ module _ (keys : List State) (eleven : length keys ≡ 11) where
   count_back : length (reverse (map state_bytes keys)) ≡ 11
   count_back = length-reverse (map state_bytes keys) ∙ count
 
-  pub encipher_init : (d : State) (b s : List ℕ) → s ≡ added b (state_bytes (get_or keys 0 d)) → rounds (drop 1 (map state_bytes keys)) s ≡ enciphered (map state_bytes keys) b
+  pub encipher_init : (d : State) (b s : List ℕ) → s ≡ bit_sum b (state_bytes (get_or keys 0 d)) → rounds (drop 1 (map state_bytes keys)) s ≡ cipher_block (map state_bytes keys) b
   encipher_init d b s e =
       let l : List (List ℕ) = map state_bytes keys in
       let c : length l ≡ 11 = count in
-      ap (rounds (drop 1 l)) (e ∙ ap (added b) (sym (key_at 0 d (omega arith))))
-      ∙ sym (enciphered-cons (get_or l 0 []) (drop 1 l) b) ∙ ap (λ (x : List (List ℕ)). enciphered x b) (sym (drop-cons l 0 [] (omega arith)))
+      ap (rounds (drop 1 l)) (e ∙ ap (bit_sum b) (sym (key_at 0 d (omega arith))))
+      ∙ sym (enciphered_cons (get_or l 0 []) (drop 1 l) b) ∙ ap (λ (x : List (List ℕ)). cipher_block x b) (sym (drop-cons l 0 [] (omega arith)))
 
   pub encipher_step : (i : ℕ) (d : State) (s t e : List ℕ) → i < 10 → rounds (drop i (map state_bytes keys)) s ≡ e → t ≡ round (state_bytes (get_or keys i d)) s
       → rounds (drop (i + 1) (map state_bytes keys)) t ≡ e
   encipher_step i d s t e h same is =
       let l : List (List ℕ) = map state_bytes keys in
       let c : length l ≡ 11 = count in
-      rw add-one (ap (rounds (drop (suc i) l)) (is ∙ ap (λ (k : List ℕ). round k s) (sym (key_at i d (omega arith)))) ∙ rounds-drop l i s (omega arith) ∙ same)
+      rw add-one (ap (rounds (drop (suc i) l)) (is ∙ ap (λ (k : List ℕ). round k s) (sym (key_at i d (omega arith)))) ∙ rounds_drop l i s (omega arith) ∙ same)
 
   pub encipher_end : (i : ℕ) (d : State) (s t e : List ℕ) → i ≡ 10 → rounds (drop i (map state_bytes keys)) s ≡ e → t ≡ last_round (state_bytes (get_or keys 10 d)) s → t ≡ e
   encipher_end i d s t e h same is =
       let l : List (List ℕ) = map state_bytes keys in
       let c : length l ≡ 11 = count in
-      is ∙ ap (λ (k : List ℕ). last_round k s) (sym (key_at 10 d (omega arith))) ∙ sym (rounds-last (get_or l 10 []) s)
+      is ∙ ap (λ (k : List ℕ). last_round k s) (sym (key_at 10 d (omega arith))) ∙ sym (rounds_last (get_or l 10 []) s)
       ∙ ap (λ (x : List (List ℕ)). rounds x s) (sym (one l 10 (omega arith))) ∙ ap (λ (k : ℕ). rounds (drop k l) s) (sym h) ∙ same
 
   pub decipher_init : (d : State) (b s : List ℕ) → s ≡ last_round_back (state_bytes (get_or keys 10 d)) b
-      → rounds_back (drop 1 (reverse (map state_bytes keys))) s ≡ deciphered (reverse (map state_bytes keys)) b
+      → rounds_back (drop 1 (reverse (map state_bytes keys))) s ≡ inverse_cipher_block (reverse (map state_bytes keys)) b
   decipher_init d b s e =
       let l : List (List ℕ) = reverse (map state_bytes keys) in
       let c : length l ≡ 11 = count_back in
       ap (rounds_back (drop 1 l)) (e ∙ ap (λ (k : List ℕ). last_round_back k b) (sym (key_back 0 d (omega arith))))
-      ∙ sym (deciphered-cons (get_or l 0 []) (drop 1 l) b) ∙ ap (λ (x : List (List ℕ)). deciphered x b) (sym (drop-cons l 0 [] (omega arith)))
+      ∙ sym (deciphered_cons (get_or l 0 []) (drop 1 l) b) ∙ ap (λ (x : List (List ℕ)). inverse_cipher_block x b) (sym (drop-cons l 0 [] (omega arith)))
 
   pub decipher_step : (i : ℕ) (d : State) (s t e : List ℕ) → i < 10 → rounds_back (drop i (reverse (map state_bytes keys))) s ≡ e → t ≡ round_back (state_bytes (get_or keys (10 - i) d)) s
       → rounds_back (drop (i + 1) (reverse (map state_bytes keys))) t ≡ e
   decipher_step i d s t e h same is =
       let l : List (List ℕ) = reverse (map state_bytes keys) in
       let c : length l ≡ 11 = count_back in
-      rw add-one (ap (rounds_back (drop (suc i) l)) (is ∙ ap (λ (k : List ℕ). round_back k s) (sym (key_back i d (omega arith)))) ∙ rounds_back-drop l i s (omega arith) ∙ same)
+      rw add-one (ap (rounds_back (drop (suc i) l)) (is ∙ ap (λ (k : List ℕ). round_back k s) (sym (key_back i d (omega arith)))) ∙ rounds_back_drop l i s (omega arith) ∙ same)
 
-  pub decipher_end : (i : ℕ) (d : State) (s t e : List ℕ) → i ≡ 10 → rounds_back (drop i (reverse (map state_bytes keys))) s ≡ e → t ≡ added s (state_bytes (get_or keys 0 d)) → t ≡ e
+  pub decipher_end : (i : ℕ) (d : State) (s t e : List ℕ) → i ≡ 10 → rounds_back (drop i (reverse (map state_bytes keys))) s ≡ e → t ≡ bit_sum s (state_bytes (get_or keys 0 d)) → t ≡ e
   decipher_end i d s t e h same is =
       let l : List (List ℕ) = reverse (map state_bytes keys) in
       let c : length l ≡ 11 = count_back in
-      is ∙ ap (added s) (sym (key_back 10 d (omega arith))) ∙ sym (rounds_back-last (get_or l 10 []) s)
+      is ∙ ap (bit_sum s) (sym (key_back 10 d (omega arith))) ∙ sym (rounds_back_last (get_or l 10 []) s)
       ∙ ap (λ (x : List (List ℕ)). rounds_back x s) (sym (one l 10 (omega arith))) ∙ ap (λ (k : ℕ). rounds_back (drop k l) s) (sym h) ∙ same

@@ -1,37 +1,37 @@
 -- The key expansion of FIPS 197 on words.
 use Rattle.std.proofs.Common.{◌≡◌, ℕ, ◌/◌, ◌%◌, ◌^◌, List, [], ◌∷◌, ◌++◌, refl}
 use Rattle.std.specs.Prelude.{bit_xor}
-use Rattle.mc_model_machine.specs.Modes.{added}
-use Rattle.mc_model_machine.specs.Aes.{sub, changed, next_key, round_keys}
+use Rattle.mc_model_machine.specs.Modes.{bit_sum}
+use Rattle.mc_model_machine.specs.Aes.{sub, next_key_word, next_key, round_keys}
 use Rattle.mc_aes.specs.State.{word, state_bytes}
 use Rattle.mc_aes.specs.declared.state.State.{State}
-use Rattle.mc_aes.proofs.StateLemmas.{word-xor}
+use Rattle.mc_aes.proofs.StateLemmas.{word_xor}
 
-changed_bytes : (w constant : ℕ) → bit_xor (sub (w / 2 ^ 16 % 256)) constant ∷ sub (w / 2 ^ 8 % 256) ∷ sub (w % 256) ∷ sub (w / 2 ^ 24 % 256) ∷ [] ≡ changed constant (word w)
-unfolding word changed
+changed_bytes : (w constant : ℕ) → bit_xor (sub (w / 2 ^ 16 % 256)) constant ∷ sub (w / 2 ^ 8 % 256) ∷ sub (w % 256) ∷ sub (w / 2 ^ 24 % 256) ∷ [] ≡ next_key_word constant (word w)
+unfolding word next_key_word
 changed_bytes w constant = refl
 
 pub changed_is : (w constant r a b c d : ℕ) → word r ≡ bit_xor a constant ∷ b ∷ c ∷ d ∷ [] → a ≡ sub (w / 2 ^ 16 % 256) → b ≡ sub (w / 2 ^ 8 % 256) → c ≡ sub (w % 256) → d ≡ sub (w / 2 ^ 24 % 256)
-    → word r ≡ changed constant (word w)
+    → word r ≡ next_key_word constant (word w)
 changed_is w constant r a b c d e ea eb ec ed = rw (e, ea, eb, ec, ed) (changed_bytes w constant)
 
 next_words : (k : State) (constant : ℕ) →
-    let w0 = added (word k.first) (changed constant (word k.fourth)) in
-    let w1 = added (word k.second) w0 in
-    let w2 = added (word k.third) w1 in
-    let w3 = added (word k.fourth) w2 in
+    let w0 = bit_sum (word k.first) (next_key_word constant (word k.fourth)) in
+    let w1 = bit_sum (word k.second) w0 in
+    let w2 = bit_sum (word k.third) w1 in
+    let w3 = bit_sum (word k.fourth) w2 in
     w0 ++ w1 ++ w2 ++ w3 ≡ next_key constant (state_bytes k)
 unfolding word state_bytes next_key
 next_words k constant = refl
 
-pub next_key_is : (k : State) (constant x : ℕ) → word x ≡ changed constant (word k.fourth) →
+pub next_key_is : (k : State) (constant x : ℕ) → word x ≡ next_key_word constant (word k.fourth) →
     let a = bit_xor k.first x in
     let b = bit_xor k.second a in
     let c = bit_xor k.third b in
     let d = bit_xor k.fourth c in
     word a ++ word b ++ word c ++ word d ≡ next_key constant (state_bytes k)
 next_key_is k constant x e =
-    rw (word-xor k.fourth (bit_xor k.third (bit_xor k.second (bit_xor k.first x))), word-xor k.third (bit_xor k.second (bit_xor k.first x)), word-xor k.second (bit_xor k.first x), word-xor k.first x, e)
+    rw (word_xor k.fourth (bit_xor k.third (bit_xor k.second (bit_xor k.first x))), word_xor k.third (bit_xor k.second (bit_xor k.first x)), word_xor k.second (bit_xor k.first x), word_xor k.first x, e)
     (next_words k constant)
 
 round_keys_open : (key : List ℕ) → key

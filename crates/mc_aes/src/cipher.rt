@@ -1,7 +1,7 @@
 // The cipher and the inverse cipher of FIPS 197 on a state, with given round keys.
 
 ghost use Rattle.std.specs.Prelude.{◌≡◌, map, reverse};
-ghost use Rattle.mc_model_machine.specs.Aes.{enciphered, deciphered};
+ghost use Rattle.mc_model_machine.specs.Aes.{cipher_block, inverse_cipher_block};
 ghost use Rattle.mc_aes.specs.State.{state_bytes};
 
 use crate::rounds::{last_round, last_round_back, round, round_back};
@@ -10,7 +10,7 @@ use crate::state::{State, add};
 // The rounds are unrolled and inlined: a loop would put words of the state into memory.
 #[inline(always)]
 pub fn encipher_with(keys: &[State; 11], block: State) -> State
-    ensures { state_bytes result ≡ enciphered (map state_bytes keys.now) (state_bytes block) }
+    ensures { state_bytes result ≡ cipher_block (map state_bytes keys.now) (state_bytes block) }
 {
     let s0 = add(block, keys[0]);
     let s1 = round(s0, keys[1]);
@@ -26,7 +26,7 @@ pub fn encipher_with(keys: &[State; 11], block: State) -> State
 }
 
 pub fn decipher_with(keys: &[State; 11], block: State) -> State
-    ensures { state_bytes result ≡ deciphered (reverse (map state_bytes keys.now)) (state_bytes block) }
+    ensures { state_bytes result ≡ inverse_cipher_block (reverse (map state_bytes keys.now)) (state_bytes block) }
 {
     let mut state = last_round_back(block, keys[10]);
     for i in 1..10 {

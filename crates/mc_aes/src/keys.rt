@@ -1,7 +1,7 @@
 // The round keys of AES-128, by the key expansion of FIPS 197.
 
 ghost use Rattle.std.specs.Prelude.{◌≡◌, map};
-ghost use Rattle.mc_model_machine.specs.Aes.{changed, next_key, round_keys};
+ghost use Rattle.mc_model_machine.specs.Aes.{next_key_word, next_key, round_keys};
 ghost use Rattle.mc_aes.specs.State.{word, state_bytes};
 
 use crate::state::{State, byte0, byte1, byte2, byte3, load};
@@ -10,7 +10,7 @@ use crate::tables::substitute;
 // The last word of a round key, rotated, substituted and with the round constant added, as the first word of
 // the next round key needs it.
 fn changed(w: u32, constant: u8) -> u32
-    ensures { word result ≡ changed constant (word w) }
+    ensures { word result ≡ next_key_word constant (word w) }
 {
     u32::from_be_bytes([
         substitute(byte1(w)) ^ constant,

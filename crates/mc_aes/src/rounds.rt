@@ -1,7 +1,7 @@
 // The rounds of FIPS 197 and their inverses, column by column.
 
 ghost use Rattle.std.specs.Prelude.{◌≡◌, ℕ, [], ◌∷◌, slice_index, map};
-ghost use Rattle.mc_model_machine.specs.Modes.{added};
+ghost use Rattle.mc_model_machine.specs.Modes.{bit_sum};
 ghost use Rattle.mc_model_machine.specs.Aes.{mul, sub, sub_back, times_matrix, round, last_round, round_back, last_round_back, mix_columns_back, shift_rows_back};
 ghost use Rattle.mc_aes.specs.State.{word, state_bytes, substitutes_of, bytes_back_of};
 
@@ -15,7 +15,7 @@ use crate::tables::{
 // with the key's word.
 #[inline]
 fn round_column(row0: u32, row1: u32, row2: u32, row3: u32, key: u32) -> u32
-    ensures { word result ≡ added (times_matrix 2 3 1 1 (substitutes_of row0 row1 row2 row3)) (word key) }
+    ensures { word result ≡ bit_sum (times_matrix 2 3 1 1 (substitutes_of row0 row1 row2 row3)) (word key) }
 {
     column0(byte0(row0)) ^ column1(byte1(row1)) ^ column2(byte2(row2)) ^ column3(byte3(row3)) ^ key
 }
@@ -36,7 +36,7 @@ pub fn round(s: State, key: State) -> State
 // word.
 #[inline]
 fn last_column(row0: u32, row1: u32, row2: u32, row3: u32, key: u32) -> u32
-    ensures { word result ≡ added (substitutes_of row0 row1 row2 row3) (word key) }
+    ensures { word result ≡ bit_sum (substitutes_of row0 row1 row2 row3) (word key) }
 {
     let substitutes = joined(
         substitute(byte0(row0)),

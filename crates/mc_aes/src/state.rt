@@ -1,7 +1,7 @@
 // The state of FIPS 197: four columns of four bytes, each in a word, the byte of row 0 highest.
 
 ghost use Rattle.std.specs.Prelude.{◌≡◌, [], ◌∷◌, length, ◌/◌, ◌%◌, ◌^◌};
-ghost use Rattle.mc_model_machine.specs.Modes.{added};
+ghost use Rattle.mc_model_machine.specs.Modes.{bit_sum};
 ghost use Rattle.mc_aes.specs.State.{word, state_bytes};
 
 #[derive(Clone, Copy)]
@@ -38,7 +38,7 @@ pub fn store(s: State) -> [u8; 16]
 
 #[inline]
 pub fn add(s: State, key: State) -> State
-    ensures { state_bytes result ≡ added (state_bytes s) (state_bytes key) }
+    ensures { state_bytes result ≡ bit_sum (state_bytes s) (state_bytes key) }
 {
     State {
         first: s.first ^ key.first,

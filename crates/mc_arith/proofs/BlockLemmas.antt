@@ -3,8 +3,8 @@ use Rattle.std.proofs.Common.{◌≡◌, ℕ, zero, suc, ◌+◌, ◌*◌, ◌/�
 use Rattle.std.proofs.Math.Arith.{digits_div, digits_mod}
 use Rattle.std.proofs.Math.Nat.{pow-succ'}
 use Rattle.mc_model_device.specs.Bytes.{num, bytes, AreBytes}
-use Rattle.mc_model_machine.specs.Blocks.{Worked, worked, is_zero}
-use Rattle.mc_model_device.proofs.ListLemmas.{length-bytes}
+use Rattle.mc_model_machine.specs.Blocks.{Worked, result_with_flags, is_zero}
+use Rattle.mc_model_device.proofs.ListLemmas.{length_bytes}
 
 pub pow_more : (n : ℕ) → 256 ^ suc n ≡ 256 * 256 ^ n
 pow_more n = pow-succ' 256 n
@@ -48,10 +48,10 @@ num_bytes (suc n) v =
     let scaled = ap (λ k. k * p) digit in
     let whole : v ≡ v / p / 256 * (256 * p) + (v / p % 256 * p + v % p) = omega (arith, scaled, parts) in
     let reduced : v % (256 * p) ≡ v / p % 256 * p + v % p = ap (λ k. k % (256 * p)) whole ∙ digits_mod (v / p / 256) inside in
-    rw (length-bytes n v, num_bytes n v, pow_more n) (sym reduced)
+    rw (length_bytes n v, num_bytes n v, pow_more n) (sym reduced)
 
 -- a block with its flags is the result of v if v is its number with k in front
-pub worked_is : (v : ℕ) (l : List ℕ) (k : ℕ) (c z c' : Bool) → AreBytes l → v ≡ num l + k * 256 ^ length l → c ≡ c' → z ≡ is_zero l → ◌≡◌ {A = Worked} (record { value = l; c = c; z = z }) (worked (length l) v c')
+pub worked_is : (v : ℕ) (l : List ℕ) (k : ℕ) (c z c' : Bool) → AreBytes l → v ≡ num l + k * 256 ^ length l → c ≡ c' → z ≡ is_zero l → ◌≡◌ {A = Worked} (record { value = l; c = c; z = z }) (result_with_flags (length l) v c')
 worked_is v l k c z c' h e ec ez =
     let same : bytes (length l) v ≡ l = rw e (bytes_of l k h) in
     rw (same, ez, ec) refl

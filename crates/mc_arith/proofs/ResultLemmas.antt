@@ -3,7 +3,7 @@ use Rattle.std.proofs.Common.{◌≡◌, ℕ, ◌+◌, ◌-◌, ◌*◌, ◌%◌
 use Rattle.std.specs.Prelude.{nat_le, nat_lt, nat_eq, cond}
 use Rattle.std.proofs.Math.Arith.{digits_mod}
 use Rattle.mc_model_device.specs.Bytes.{num, AreBytes}
-use Rattle.mc_model_machine.specs.Blocks.{Worked, worked, is_zero, add_blocks, sub_blocks, inc_block, dec_block}
+use Rattle.mc_model_machine.specs.Blocks.{Worked, result_with_flags, is_zero, add_blocks, sub_blocks, inc_block, dec_block}
 use Rattle.mc_arith.specs.Carry.{carry_of}
 use Rattle.mc_arith.proofs.BlockLemmas.{num_below, num_bytes, pow_positive, times_at_most, worked_is}
 use Rattle.mc_arith.proofs.StepLemmas.{num_drop}
@@ -26,7 +26,7 @@ sum_is a b r c z l h e ez =
     let s : num a + num b ≡ num r + carry_of c * 256 ^ length r = rw l (sym e) in
     let f : c ≡ nat_le (256 ^ length a) (num a + num b) = carried (256 ^ length a) (num r) (num a + num b) c (subst (λ n. num r < 256 ^ n) l (num_below r h)) e in
     let w = worked_is (num a + num b) r (carry_of c) c z (nat_le (256 ^ length a) (num a + num b)) h s f ez in
-    subst (λ n. ◌≡◌ {A = Worked} (record { value = r; c = c; z = z }) (worked n (num a + num b) (nat_le (256 ^ length a) (num a + num b)))) l w
+    subst (λ n. ◌≡◌ {A = Worked} (record { value = r; c = c; z = z }) (result_with_flags n (num a + num b) (nat_le (256 ^ length a) (num a + num b)))) l w
 
 carried_one : (p r a : ℕ) (c : Bool) → r < p → a < p → r + carry_of c * p ≡ a + 1 → c ≡ nat_eq (a + 1) p
 carried_one p r a true h k e = grind (arith, h, k, e)
@@ -37,7 +37,7 @@ inc_is a r c z l g h e ez =
     let s : num a + 1 ≡ num r + carry_of c * 256 ^ length r = rw l (sym e) in
     let f : c ≡ nat_eq (num a + 1) (256 ^ length a) = carried_one (256 ^ length a) (num r) (num a) c (subst (λ n. num r < 256 ^ n) l (num_below r h)) (num_below a g) e in
     let w = worked_is (num a + 1) r (carry_of c) c z (nat_eq (num a + 1) (256 ^ length a)) h s f ez in
-    subst (λ n. ◌≡◌ {A = Worked} (record { value = r; c = c; z = z }) (worked n (num a + 1) (nat_eq (num a + 1) (256 ^ length a)))) l w
+    subst (λ n. ◌≡◌ {A = Worked} (record { value = r; c = c; z = z }) (result_with_flags n (num a + 1) (nat_eq (num a + 1) (256 ^ length a)))) l w
 
 -- the borrow of the difference of a and b modulo p
 borrowed : (p r a b : ℕ) (c : Bool) → r < p → r + b ≡ a + carry_of c * p → c ≡ nat_lt a b
@@ -57,7 +57,7 @@ difference_is a b r c z l h e ez =
     let s : p + num a - num b ≡ num r + left_of c * 256 ^ length r = rw l (without p (num r) (num a) (num b) c e) in
     let f : c ≡ nat_lt (num a) (num b) = borrowed p (num r) (num a) (num b) c (subst (λ n. num r < 256 ^ n) l (num_below r h)) e in
     let w = worked_is (p + num a - num b) r (left_of c) c z (nat_lt (num a) (num b)) h s f ez in
-    subst (λ n. ◌≡◌ {A = Worked} (record { value = r; c = c; z = z }) (worked n (p + num a - num b) (nat_lt (num a) (num b)))) l w
+    subst (λ n. ◌≡◌ {A = Worked} (record { value = r; c = c; z = z }) (result_with_flags n (p + num a - num b) (nat_lt (num a) (num b)))) l w
 
 borrowed_one : (p r a : ℕ) (c : Bool) → r < p → r + 1 ≡ a + carry_of c * p → c ≡ nat_eq a 0
 borrowed_one p r a true h e = grind (arith, h, e)
@@ -69,7 +69,7 @@ dec_is a r c z l h e ez =
     let s : p + num a - 1 ≡ num r + left_of c * 256 ^ length r = rw l (without p (num r) (num a) 1 c e) in
     let f : c ≡ nat_eq (num a) 0 = borrowed_one p (num r) (num a) c (subst (λ n. num r < 256 ^ n) l (num_below r h)) e in
     let w = worked_is (p + num a - 1) r (left_of c) c z (nat_eq (num a) 0) h s f ez in
-    subst (λ n. ◌≡◌ {A = Worked} (record { value = r; c = c; z = z }) (worked n (p + num a - 1) (nat_eq (num a) 0))) l w
+    subst (λ n. ◌≡◌ {A = Worked} (record { value = r; c = c; z = z }) (result_with_flags n (p + num a - 1) (nat_eq (num a) 0))) l w
 
 -- ---- zero and comparison
 

@@ -5,7 +5,7 @@ use Rattle.std.proofs.lemmas.Nat.{pow_pos}
 use Rattle.std.proofs.Math.Arith.{digits_div, digits_mod}
 use Rattle.std.proofs.Math.Nat.{pow-succ', div-div-eq-div-mul, mul-div_cancel_left}
 use Rattle.mc_model_device.specs.Bytes.{num, AreBytes}
-use Rattle.mc_model_machine.specs.Blocks.{Worked, worked, is_zero, bit, shift_left_block, shift_right_block}
+use Rattle.mc_model_machine.specs.Blocks.{Worked, result_with_flags, is_zero, bit, shift_left_block, shift_right_block}
 use Rattle.mc_arith.specs.Carry.{carry_of}
 use Rattle.mc_arith.proofs.BlockLemmas.{pow_more, pow_positive, worked_is}
 
@@ -76,11 +76,11 @@ left_is a r k c z l h e ec ez =
     let parts : v ≡ v % p + v / p * p = omega (arith, pos) in
     let s : v ≡ num r + v / p * 256 ^ length r = rw (l, e) parts in
     let w = worked_is v r (v / p) c z (bit (8 * length a - k) (num a)) h s ec ez in
-    subst (λ n. ◌≡◌ {A = Worked} (record { value = r; c = c; z = z }) (worked n v (bit (8 * length a - k) (num a)))) l w
+    subst (λ n. ◌≡◌ {A = Worked} (record { value = r; c = c; z = z }) (result_with_flags n v (bit (8 * length a - k) (num a)))) l w
 
 pub right_is : (a r : List ℕ) (k : ℕ) (c z : Bool) → length r ≡ length a → AreBytes r → num r ≡ num a / 2 ^ k → c ≡ bit (k - 1) (num a) → z ≡ is_zero r → ◌≡◌ {A = Worked} (record { value = r; c = c; z = z }) (shift_right_block a k)
 right_is a r k c z l h e ec ez =
     let v = num a / 2 ^ k in
     let s : v ≡ num r + 0 * 256 ^ length r = sym e ∙ omega arith in
     let w = worked_is v r 0 c z (bit (k - 1) (num a)) h s ec ez in
-    subst (λ n. ◌≡◌ {A = Worked} (record { value = r; c = c; z = z }) (worked n v (bit (k - 1) (num a)))) l w
+    subst (λ n. ◌≡◌ {A = Worked} (record { value = r; c = c; z = z }) (result_with_flags n v (bit (k - 1) (num a)))) l w

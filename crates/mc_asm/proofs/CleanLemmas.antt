@@ -3,7 +3,7 @@ use Rattle.std.proofs.Common.{◌≡◌, ℕ, Bool, true, false, List, [], ◌�
 use Rattle.std.specs.Prelude.{◌==◌, ◌&&◌, not, nat_lt, nat_le}
 use Rattle.mc_model_device.specs.Bytes.{lookup}
 use Rattle.mc_model_machine.specs.Text.{first_cut, pieces, is_blank, is_empty, trim, trim_front, trim_end, before_trimmed, every}
-use Rattle.mc_model_machine.specs.Assembly.{WordForm, CodeItem, words, worded, operands, word_and_operands, line_read}
+use Rattle.mc_model_machine.specs.Assembly.{WordForm, CodeItem, words, item_of_word, operands, word_and_operands, line_read}
 use Rattle.std.proofs.lemmas.Bool.{and_from as and_both, not-true}
 use Rattle.mc_model_device.proofs.BoolLemmas.{and_first, and_second}
 use Rattle.mc_model_machine.proofs.TextLemmas.{every_append}
@@ -171,11 +171,11 @@ unfolding operand_text
 operands_of [] s = refl
 operands_of (a ∷ ts) s = joined_pieces a ts s
 
-found_word : (name : List ℕ) (ts : List (List ℕ)) (f : WordForm) → Solid name → AllSolid ts → lookup words name ≡ Some f → word_and_operands (name, operand_text ts) ≡ worded f ts
+found_word : (name : List ℕ) (ts : List (List ℕ)) (f : WordForm) → Solid name → AllSolid ts → lookup words name ≡ Some f → word_and_operands (name, operand_text ts) ≡ item_of_word f ts
 found_word name ts f n s e = rw (n.some, e, operands_of ts s) refl
 
 -- a line of a word and its operands is read as the item of that word and these operands
-pub line_is_read : (name : List ℕ) (ts : List (List ℕ)) (f : WordForm) (i : CodeItem) → Solid name → AllSolid ts → lookup words name ≡ Some f → worded f ts ≡ Ok i
+pub line_is_read : (name : List ℕ) (ts : List (List ℕ)) (f : WordForm) (i : CodeItem) → Solid name → AllSolid ts → lookup words name ≡ Some f → item_of_word f ts ≡ Ok i
     → line_read (name ++ behind_word ts) ≡ Ok (record { label = None; item = i })
 unfolding line_read
 line_is_read name ts f i n s e h =

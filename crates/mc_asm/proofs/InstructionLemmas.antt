@@ -10,7 +10,7 @@ use Rattle.mc_model_machine.specs.declared.instruction.Ins.{Ins}
 use Rattle.mc_model_machine.specs.declared.instruction.Ins.TheVariants.{Nop, Setsw, Setla, Setswla, Exit, Exitsw, Exitla, Exitswla, Branch, Jump, Call, Pushz, Pushb, Pushw, Popn, Popb, Popw, Prim, Ret, Reti, Reto, Retio, Load, Store, Loadi, Storei, Loada, Index, Setb, Cmpb, Addb, Subb, Setw, Cmpw, Addw, Subw, Clearn, Testn, Incn, Decn, Notn, Cmpn, Addn, Subn, Andn, Orn, Xorn}
 use Rattle.mc_model_machine.specs.Code.{Shaped, IsTarget, IsAddress, IsPrimitive}
 use Rattle.mc_model_machine.specs.Listing.{hex_word, condition_name, address_text, arguments_text, byte_line, word_line, words_line, target_line, address_line, operand_line, text_of}
-use Rattle.mc_model_machine.specs.Assembly.{WordForm, Bare, OfByte, OfBytes, OfWord, OfWords, ByDistance, ByPlace, Primitive, Addressed, AddressedByte, AddressedWord, Plain, words, worded, line_read, all_bytes}
+use Rattle.mc_model_machine.specs.Assembly.{WordForm, Bare, OfByte, OfBytes, OfWord, OfWords, ByDistance, ByPlace, Primitive, Addressed, AddressedByte, AddressedWord, Plain, words, item_of_word, line_read, all_bytes}
 use Rattle.mc_asm.proofs.CleanLemmas.{Solid, AllSolid, written, joined, behind_word, line_is_read, word_written}
 use Rattle.mc_asm.proofs.NumeralLemmas.{byte_read, byte_solid, word_read, word_solid, signed_read, signed_solid, signed_no_label, half_8, condition_read, condition_solid, address_read, address_solid}
 
@@ -24,7 +24,7 @@ record NamedForm (name : List ℕ) (f : WordForm) : Type 0 where
   solid : Solid name
   found : lookup words name ≡ Some f
 
-of_operands : (name t : List ℕ) (ts : List (List ℕ)) (f : WordForm) (i : Ins) → NamedForm name f → AllSolid ts → worded f ts ≡ Ok (Plain i) → t ≡ name ++ behind_word ts → ReadsAs t i
+of_operands : (name t : List ℕ) (ts : List (List ℕ)) (f : WordForm) (i : Ins) → NamedForm name f → AllSolid ts → item_of_word f ts ≡ Ok (Plain i) → t ≡ name ++ behind_word ts → ReadsAs t i
 of_operands name t ts f i n s h e = subst (λ (x : List ℕ). ReadsAs x i) (sym e) (record { read = line_is_read name ts f (Plain i) n.solid s n.found h; all = word_written name ts n.solid s })
 
 bare_line : (name : List ℕ) → name ≡ name ++ behind_word []
@@ -47,13 +47,13 @@ with_address_line : (name a b : List ℕ) → name ++ codes " " ++ (a ++ codes "
 unfolding behind_word joined
 with_address_line name a b = append_assoc (name ++ codes " ") (a ++ codes ",") b ∙ ap (λ l. (name ++ codes " ") ++ l) (append_assoc a (codes ",") b) ∙ append_assoc name (codes " ") (a ++ (codes "," ++ b))
 
-no_operand : (name : List ℕ) (f : WordForm) (i : Ins) → NamedForm name f → worded f [] ≡ Ok (Plain i) → ReadsAs name i
+no_operand : (name : List ℕ) (f : WordForm) (i : Ins) → NamedForm name f → item_of_word f [] ≡ Ok (Plain i) → ReadsAs name i
 no_operand name f i n h = of_operands name name [] f i n tt h (bare_line name)
 
-one_operand : (name a : List ℕ) (f : WordForm) (i : Ins) → NamedForm name f → Solid a → worded f (a ∷ []) ≡ Ok (Plain i) → ReadsAs (name ++ codes " " ++ a) i
+one_operand : (name a : List ℕ) (f : WordForm) (i : Ins) → NamedForm name f → Solid a → item_of_word f (a ∷ []) ≡ Ok (Plain i) → ReadsAs (name ++ codes " " ++ a) i
 one_operand name a f i n s h = of_operands name (name ++ codes " " ++ a) (a ∷ []) f i n (s, tt) h (one_line name a)
 
-two_operands : (name a b : List ℕ) (f : WordForm) (i : Ins) → NamedForm name f → Solid a → Solid b → worded f (a ∷ b ∷ []) ≡ Ok (Plain i) → ReadsAs (name ++ codes " " ++ a ++ codes "," ++ b) i
+two_operands : (name a b : List ℕ) (f : WordForm) (i : Ins) → NamedForm name f → Solid a → Solid b → item_of_word f (a ∷ b ∷ []) ≡ Ok (Plain i) → ReadsAs (name ++ codes " " ++ a ++ codes "," ++ b) i
 two_operands name a b f i n s k h = of_operands name (name ++ codes " " ++ a ++ codes "," ++ b) (a ∷ b ∷ []) f i n (s, (k, tt)) h (two_line name a b)
 
 -- ---- by the shape of the operands

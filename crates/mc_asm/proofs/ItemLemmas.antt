@@ -8,7 +8,7 @@ use Rattle.mc_model_machine.specs.declared.assembler.AsmCause.TheVariants.{BadOp
 use Rattle.mc_model_machine.specs.declared.instruction.Ins.{Ins}
 use Rattle.mc_model_machine.specs.declared.instruction.Ins.TheVariants.{Prim}
 use Rattle.mc_model_machine.specs.Text.{ok_as}
-use Rattle.mc_model_machine.specs.Assembly.{WordForm, CodeItem, byte, both, all_bytes, primitive, Plain, worded, ByDistance, ByPlace, AddressedByte, AddressedWord, Primitive}
+use Rattle.mc_model_machine.specs.Assembly.{WordForm, CodeItem, byte, both, all_bytes, primitive, Plain, item_of_word, ByDistance, ByPlace, AddressedByte, AddressedWord, Primitive}
 
 one_more : {A : Type 0} (r : Result ℕ AsmCause) (f : A → List ℕ) (s : Result A AsmCause) → ok_as (λ p. p.0 ∷ p.1) (both r (ok_as f s)) ≡ ok_as (λ p. p.0 ∷ f p.1) (both r s)
 one_more (Ok a) f (Ok b) = refl
@@ -36,45 +36,45 @@ made : {A : Type 0} (f : A → List ℕ) (r : Result A AsmCause) → ok_as primi
 made f (Ok a) = refl
 made f (Err c) = refl
 
-pub primitive_two : (n a : List ℕ) → worded Primitive (n ∷ a ∷ []) ≡ ok_as (λ p. Plain (Prim 1 p.0 (p.1 ∷ 0 ∷ 0 ∷ []))) (both (byte n) (byte a))
+pub primitive_two : (n a : List ℕ) → item_of_word Primitive (n ∷ a ∷ []) ≡ ok_as (λ p. Plain (Prim 1 p.0 (p.1 ∷ 0 ∷ 0 ∷ []))) (both (byte n) (byte a))
 primitive_two n a = ap (ok_as primitive) (two_bytes n a) ∙ made (λ p. p.0 ∷ p.1 ∷ []) (both (byte n) (byte a))
 
-pub primitive_three : (n a b : List ℕ) → worded Primitive (n ∷ a ∷ b ∷ []) ≡ ok_as (λ p. Plain (Prim 2 p.0 ((p.1).0 ∷ (p.1).1 ∷ 0 ∷ []))) (both (byte n) (both (byte a) (byte b)))
+pub primitive_three : (n a b : List ℕ) → item_of_word Primitive (n ∷ a ∷ b ∷ []) ≡ ok_as (λ p. Plain (Prim 2 p.0 ((p.1).0 ∷ (p.1).1 ∷ 0 ∷ []))) (both (byte n) (both (byte a) (byte b)))
 primitive_three n a b = ap (ok_as primitive) (three_bytes n a b) ∙ made (λ p. p.0 ∷ (p.1).0 ∷ (p.1).1 ∷ []) (both (byte n) (both (byte a) (byte b)))
 
-pub primitive_four : (n a b c : List ℕ) → worded Primitive (n ∷ a ∷ b ∷ c ∷ []) ≡ ok_as (λ p. Plain (Prim 3 p.0 ((p.1).0 ∷ ((p.1).1).0 ∷ ((p.1).1).1 ∷ []))) (both (byte n) (both (byte a) (both (byte b) (byte c))))
+pub primitive_four : (n a b c : List ℕ) → item_of_word Primitive (n ∷ a ∷ b ∷ c ∷ []) ≡ ok_as (λ p. Plain (Prim 3 p.0 ((p.1).0 ∷ ((p.1).1).0 ∷ ((p.1).1).1 ∷ []))) (both (byte n) (both (byte a) (both (byte b) (byte c))))
 primitive_four n a b c = ap (ok_as primitive) (four_bytes n a b c) ∙ made (λ p. p.0 ∷ (p.1).0 ∷ ((p.1).1).0 ∷ ((p.1).1).1 ∷ []) (both (byte n) (both (byte a) (both (byte b) (byte c))))
 
 -- ---- other numbers of operands
 
 abbrev pub by_pair : WordForm → Option (List ℕ × List ℕ) → Result CodeItem AsmCause
 by_pair form None = Err BadOperands
-by_pair form (Some p) = worded form (p.0 ∷ p.1 ∷ [])
+by_pair form (Some p) = item_of_word form (p.0 ∷ p.1 ∷ [])
 
-pub distance_of_pair : (f : ℕ → ℤ → Ins) (ts : List (List ℕ)) → worded (ByDistance f) ts ≡ by_pair (ByDistance f) (pair_of ts)
+pub distance_of_pair : (f : ℕ → ℤ → Ins) (ts : List (List ℕ)) → item_of_word (ByDistance f) ts ≡ by_pair (ByDistance f) (pair_of ts)
 distance_of_pair f [] = refl
 distance_of_pair f (a ∷ []) = refl
 distance_of_pair f (a ∷ b ∷ []) = refl
 distance_of_pair f (a ∷ b ∷ c ∷ ts) = refl
 
-pub place_of_pair : (f : ℕ → ℕ → Ins) (ts : List (List ℕ)) → length ts ≢ 0 → worded (ByPlace f) ts ≡ by_pair (ByPlace f) (pair_of ts)
+pub place_of_pair : (f : ℕ → ℕ → Ins) (ts : List (List ℕ)) → length ts ≢ 0 → item_of_word (ByPlace f) ts ≡ by_pair (ByPlace f) (pair_of ts)
 place_of_pair f [] h = absurd (h refl)
 place_of_pair f (a ∷ []) h = refl
 place_of_pair f (a ∷ b ∷ []) h = refl
 place_of_pair f (a ∷ b ∷ c ∷ ts) h = refl
 
-pub no_addressed_byte : (f : ℕ → ℤ → ℕ → Ins) (ts : List (Bor (List ℕ))) → 3 ≤ length ts → Err BadOperands ≡ worded (AddressedByte f) (texts ts)
+pub no_addressed_byte : (f : ℕ → ℤ → ℕ → Ins) (ts : List (Bor (List ℕ))) → 3 ≤ length ts → Err BadOperands ≡ item_of_word (AddressedByte f) (texts ts)
 no_addressed_byte f [] h = absurd (omega (arith, h))
 no_addressed_byte f (a ∷ []) h = absurd (omega (arith, h))
 no_addressed_byte f (a ∷ b ∷ []) h = absurd (omega (arith, h))
 no_addressed_byte f (a ∷ b ∷ c ∷ ts) h = refl
 
-pub no_addressed_word : (f : ℕ → ℤ → ℕ → Ins) (ts : List (Bor (List ℕ))) → 3 ≤ length ts → Err BadOperands ≡ worded (AddressedWord f) (texts ts)
+pub no_addressed_word : (f : ℕ → ℤ → ℕ → Ins) (ts : List (Bor (List ℕ))) → 3 ≤ length ts → Err BadOperands ≡ item_of_word (AddressedWord f) (texts ts)
 no_addressed_word f [] h = absurd (omega (arith, h))
 no_addressed_word f (a ∷ []) h = absurd (omega (arith, h))
 no_addressed_word f (a ∷ b ∷ []) h = absurd (omega (arith, h))
 no_addressed_word f (a ∷ b ∷ c ∷ ts) h = refl
 
-pub no_primitive : (ts : List (List ℕ)) → 5 ≤ length ts → worded Primitive ts ≡ Err BadOperands
+pub no_primitive : (ts : List (List ℕ)) → 5 ≤ length ts → item_of_word Primitive ts ≡ Err BadOperands
 no_primitive [] h = absurd (omega (arith, h))
 no_primitive (a ∷ ts) h = let l : nat_le (length ts) 3 ≡ false = grind (arith, h) in rw l refl

@@ -2,7 +2,7 @@
 use Rattle.std.proofs.Common.{◌≡◌, ◌≢◌, ℕ, suc, ◌≤◌, false, List, [], ◌∷◌, ◌++◌, length, append-nil, subst, Bor, take, Option, Some, None, Result, arith, refl, sym, ap, ◌∙◌}
 use Rattle.std.specs.Prelude.{map, nat_le, ◌==◌}
 use Rattle.mc_model_machine.specs.Text.{first_cut, trim, is_empty}
-use Rattle.mc_model_machine.specs.Assembly.{WordForm, Bare, OfByte, OfBytes, OfWord, OfWords, RawByte, ByDistance, ByPlace, Primitive, Addressed, AddressedByte, AddressedWord, words, operands, worded, word_and_operands, label_and_rest, line_read, CodeItem, Line}
+use Rattle.mc_model_machine.specs.Assembly.{WordForm, Bare, OfByte, OfBytes, OfWord, OfWords, RawByte, ByDistance, ByPlace, Primitive, Addressed, AddressedByte, AddressedWord, words, operands, item_of_word, word_and_operands, label_and_rest, line_read, CodeItem, Line}
 use Rattle.mc_model_device.specs.Bytes.{lookup}
 use Rattle.mc_model_machine.specs.declared.assembler.AsmCause.{AsmCause}
 use Rattle.mc_asm.specs.Items.{texts}
@@ -23,7 +23,7 @@ pub operands_at : (t : List ℕ) → operands (Some t) ≡ trim (first_cut (λ c
 operands_at t = ap (map trim) (pieces_at (λ c. c == 44) t) ∙ operands_cut (first_cut (λ c. c == 44) t)
 
 -- a word with five operands or more is refused as it is with the first five
-first_five_long : (f : WordForm) (a b c d e : List ℕ) (ts : List (List ℕ)) → worded f (a ∷ b ∷ c ∷ d ∷ e ∷ ts) ≡ worded f (a ∷ b ∷ c ∷ d ∷ e ∷ [])
+first_five_long : (f : WordForm) (a b c d e : List ℕ) (ts : List (List ℕ)) → item_of_word f (a ∷ b ∷ c ∷ d ∷ e ∷ ts) ≡ item_of_word f (a ∷ b ∷ c ∷ d ∷ e ∷ [])
 first_five_long (Bare i) a b c d e ts = refl
 first_five_long (OfByte f) a b c d e ts = refl
 first_five_long (OfBytes f) a b c d e ts = refl
@@ -37,7 +37,7 @@ first_five_long (Addressed f) a b c d e ts = refl
 first_five_long (AddressedByte f) a b c d e ts = refl
 first_five_long (AddressedWord f) a b c d e ts = refl
 
-pub first_five : (f : WordForm) (ts : List (List ℕ)) → worded f (take 5 ts) ≡ worded f ts
+pub first_five : (f : WordForm) (ts : List (List ℕ)) → item_of_word f (take 5 ts) ≡ item_of_word f ts
 first_five f [] = refl
 first_five f (a ∷ []) = refl
 first_five f (a ∷ b ∷ []) = refl
@@ -81,11 +81,11 @@ operands_all ps w l h =
 -- ---- a line's word
 
 pub word_then : (s : List ℕ × Option (List ℕ)) (w : List ℕ) (rest : Option (List ℕ)) (f : WordForm) (ops : List (List ℕ)) (r : Result CodeItem AsmCause)
-    → w ≡ s.0 → rest ≡ s.1 → is_empty w ≡ false → lookup words w ≡ Some f → ops ≡ take 5 (operands rest) → r ≡ worded f ops → r ≡ word_and_operands s
+    → w ≡ s.0 → rest ≡ s.1 → is_empty w ≡ false → lookup words w ≡ Some f → ops ≡ take 5 (operands rest) → r ≡ item_of_word f ops → r ≡ word_and_operands s
 word_then s w rest f ops r e g h i j k =
     let n : is_empty s.0 ≡ false = subst (λ (x : List ℕ). is_empty x ≡ false) e h in
     let l : lookup words s.0 ≡ Some f = subst (λ (x : List ℕ). lookup words x ≡ Some f) e i in
-    rw (n, l) (k ∙ ap (worded f) j ∙ first_five f (operands rest) ∙ ap (λ o. worded f (operands o)) g)
+    rw (n, l) (k ∙ ap (item_of_word f) j ∙ first_five f (operands rest) ∙ ap (λ o. item_of_word f (operands o)) g)
 
 pub line_by_parts : (l t f : List ℕ) (b : Option (List ℕ)) (r : Result Line AsmCause)
     → t ≡ (first_cut (λ c. c == 59) l).0 → f ≡ (first_cut (λ c. c == 58) t).0 → b ≡ (first_cut (λ c. c == 58) t).1 → r ≡ label_and_rest f b → r ≡ line_read l

@@ -3,16 +3,16 @@ use Rattle.std.proofs.Common.{◌≡◌, ℕ, zero, suc, ◌+◌, ◌-◌, ◌<�
 use Rattle.std.specs.Prelude.{◌==◌, not, nat_le, codes, slice_index, IfOk}
 use Rattle.std.specs.List.{AllByRecursion}
 use Rattle.std.proofs.lemmas.List.{take-append-drop}
-use Rattle.mc_model_machine.specs.Text.{◌>>=◌, ok_as, every, lines, numbered}
+use Rattle.mc_model_machine.specs.Text.{◌>>=◌, ok_as, every, lines, with_numbers}
 use Rattle.mc_model_machine.specs.declared.instruction.DecodeFault.{DecodeFault}
 use Rattle.mc_model_machine.specs.declared.instruction.Ins.{Ins}
 use Rattle.mc_model_machine.specs.Code.{Shaped, DecodesTo, spell, front, from_place}
-use Rattle.mc_model_machine.specs.Listing.{text_of, line_before, listed_one, length_of, listed_from, listed}
-use Rattle.mc_model_machine.specs.Assembly.{assembled, line_laid}
+use Rattle.mc_model_machine.specs.Listing.{text_of, line_before, listing_with, length_of, listing_from, listing_of_code}
+use Rattle.mc_model_machine.specs.Assembly.{assembly_of, line_laid}
 use Rattle.mc_model_device.specs.Bytes.{AreBytes}
 use Rattle.mc_isa.proofs.PlaceLemmas.{decoded_stands}
 use Rattle.mc_text.specs.Reading.{next_line, without_return}
-use Rattle.mc_asm.specs.Passes.{places, coded, label_and_end, code_and_end}
+use Rattle.mc_asm.specs.Passes.{places, code_of_lines, label_and_end, code_and_end}
 use Rattle.mc_asm.proofs.PassLemmas.{two_passes, numbered_some, places_more, places_end, coded_more, coded_end}
 use Rattle.mc_asm.proofs.ListingLemmas.{whole_listed, no_bytes, front_some}
 use Rattle.mc_asm.proofs.CleanLemmas.{written, every_as, cut_there}
@@ -64,8 +64,8 @@ adds place t i r h =
 
 -- the text t from a place on assembles to these bytes, without labels
 record Assembles (place n : ℕ) (t bytes : List ℕ) : Type 0 where
-  labels : places [] place (numbered n (lines t)) ≡ Ok []
-  code : coded [] place (numbered n (lines t)) ≡ Ok bytes
+  labels : places [] place (with_numbers n (lines t)) ≡ Ok []
+  code : code_of_lines [] place (with_numbers n (lines t)) ≡ Ok bytes
 
 assembles_none : (place n : ℕ) → Assembles place n [] []
 assembles_none place n = record { labels = places_end [] place; code = coded_end [] place }
@@ -76,8 +76,8 @@ assembles_more place n i rest code r h a =
     let ls = numbered_some n (text_of i ++ codes "\n" ++ rest) (text_of i) rest (first_line (text_of i) rest r.all) in
     let d = adds place (text_of i) i r h in
     record {
-      labels = ap (places [] place) ls ∙ places_more [] place n (place + length (spell i)) (text_of i) (numbered (n + 1) (lines rest)) None (sym d.label) ∙ a.labels;
-      code = ap (coded [] place) ls ∙ coded_more [] place n (place + length (spell i)) (text_of i) (spell i) (numbered (n + 1) (lines rest)) (sym d.code) ∙ ap (ok_as (λ rest. spell i ++ rest)) a.code;
+      labels = ap (places [] place) ls ∙ places_more [] place n (place + length (spell i)) (text_of i) (with_numbers (n + 1) (lines rest)) None (sym d.label) ∙ a.labels;
+      code = ap (code_of_lines [] place) ls ∙ coded_more [] place n (place + length (spell i)) (text_of i) (spell i) (with_numbers (n + 1) (lines rest)) (sym d.code) ∙ ap (ok_as (λ rest. spell i ++ rest)) a.code;
     }
 
 -- ---- a whole listing
@@ -116,34 +116,34 @@ rest_assembled fuel at n l i k text (Ok rest) all h f q go =
     subst (λ (t : List ℕ). Assembles at n t l) is (subst (λ (c : List ℕ). Assembles at n (text_of i ++ codes "\n" ++ rest) c) f.whole made)
 
 one_assembled : (fuel at n : ℕ) (b : ℕ) (bs text : List ℕ) (r : Result (Ins × ℕ) DecodeFault) → front (b ∷ bs) ≡ r → AreBytes (b ∷ bs) → at + length (b ∷ bs) ≤ 8192 → length (b ∷ bs) ≤ suc fuel
-    → listed_from (suc fuel) (b ∷ bs) at ≡ Ok text
-    → ((l : List ℕ) (at n : ℕ) (text : List ℕ) → AreBytes l → length l ≤ fuel → at + length l ≤ 8192 → listed_from fuel l at ≡ Ok text → Assembles at n text l)
+    → listing_from (suc fuel) (b ∷ bs) at ≡ Ok text
+    → ((l : List ℕ) (at n : ℕ) (text : List ℕ) → AreBytes l → length l ≤ fuel → at + length l ≤ 8192 → listing_from fuel l at ≡ Ok text → Assembles at n text l)
     → Assembles at n text (b ∷ bs)
-unfolding listed_from
+unfolding listing_from
 one_assembled fuel at n b bs text (Err e) q all h m k go =
-    let f : Err (at, e) ≡ Ok text = sym (ap (λ r. listed_one at r (listed_from fuel (drop (length_of r) (b ∷ bs)) (at + length_of r))) q) ∙ k in
+    let f : Err (at, e) ≡ Ok text = sym (ap (λ r. listing_with at r (listing_from fuel (drop (length_of r) (b ∷ bs)) (at + length_of r))) q) ∙ k in
     absurd (cc f)
 one_assembled fuel at n b bs text (Ok p) q all h m k go =
-    let f : line_before (text_of p.0) (listed_from fuel (drop p.1 (b ∷ bs)) (at + p.1)) ≡ Ok text = sym (ap (λ r. listed_one at r (listed_from fuel (drop (length_of r) (b ∷ bs)) (at + length_of r))) q) ∙ k in
+    let f : line_before (text_of p.0) (listing_from fuel (drop p.1 (b ∷ bs)) (at + p.1)) ≡ Ok text = sym (ap (λ r. listing_with at r (listing_from fuel (drop (length_of r) (b ∷ bs)) (at + length_of r))) q) ∙ k in
     let fr = front_is (b ∷ bs) p.0 p.1 all q in
     let some = front_some b bs p q in
     let d = length-drop p.1 (b ∷ bs) in
-    rest_assembled fuel at n (b ∷ bs) p.0 p.1 text (listed_from fuel (drop p.1 (b ∷ bs)) (at + p.1)) all h fr f
+    rest_assembled fuel at n (b ∷ bs) p.0 p.1 text (listing_from fuel (drop p.1 (b ∷ bs)) (at + p.1)) all h fr f
     (λ rest e. go (drop p.1 (b ∷ bs)) (at + p.1) (n + 1) rest (bytes_behind p.1 (b ∷ bs) all) (omega (arith, d, some, m)) (omega (arith, d, h, fr.inside)) e)
 
-bytes_assembled : (fuel : ℕ) (l : List ℕ) (at n : ℕ) (text : List ℕ) → AreBytes l → length l ≤ fuel → at + length l ≤ 8192 → listed_from fuel l at ≡ Ok text → Assembles at n text l
+bytes_assembled : (fuel : ℕ) (l : List ℕ) (at n : ℕ) (text : List ℕ) → AreBytes l → length l ≤ fuel → at + length l ≤ 8192 → listing_from fuel l at ≡ Ok text → Assembles at n text l
 bytes_assembled fuel [] at n text all m h e =
     let is : [] ≡ text = cc (sym (no_bytes fuel at) ∙ e) in
     subst (λ (t : List ℕ). Assembles at n t []) is (assembles_none at n)
 bytes_assembled zero (b ∷ bs) at n text all m h e = absurd (omega (arith, m))
 bytes_assembled (suc fuel) (b ∷ bs) at n text all m h e = one_assembled fuel at n b bs text (front (b ∷ bs)) refl all h m e (λ l at n text. bytes_assembled fuel l at n text)
 
-pub listing_assembled : (code text : List ℕ) → AllByRecursion (λ b. b < 256) code → length code ≤ 8192 → listed code ≡ Ok text → assembled text ≡ Ok code
-unfolding assembled
+pub listing_assembled : (code text : List ℕ) → AllByRecursion (λ b. b < 256) code → length code ≤ 8192 → listing_of_code code ≡ Ok text → assembly_of text ≡ Ok code
+unfolding assembly_of
 listing_assembled code text all small e =
     let a = bytes_assembled (length code) code 0 1 text all (omega arith) (omega (arith, small)) (sym (whole_listed code) ∙ e) in
-    two_passes (numbered 1 (lines text)) ∙ ap (λ r. r >>= λ L. coded L 0 (numbered 1 (lines text))) a.labels ∙ a.code
+    two_passes (with_numbers 1 (lines text)) ∙ ap (λ r. r >>= λ L. code_of_lines L 0 (with_numbers 1 (lines text))) a.labels ∙ a.code
 
-pub listing_again : {V E : Type 0} (items : V → List ℕ) (code : List ℕ) (r : Result V E) → AllByRecursion (λ b. b < 256) code → length code ≤ 8192 → IfOk r (λ v. listed code ≡ Ok (items v)) → IfOk r (λ v. assembled (items v) ≡ Ok code)
+pub listing_again : {V E : Type 0} (items : V → List ℕ) (code : List ℕ) (r : Result V E) → AllByRecursion (λ b. b < 256) code → length code ≤ 8192 → IfOk r (λ v. listing_of_code code ≡ Ok (items v)) → IfOk r (λ v. assembly_of (items v) ≡ Ok code)
 listing_again items code (Ok v) all small h = listing_assembled code (items v) all small h
 listing_again items code (Err e) all small h = tt

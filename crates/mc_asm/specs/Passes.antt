@@ -10,7 +10,7 @@ use Rattle.mc_model_device.specs.Bytes.{lookup}
 use Rattle.mc_model_machine.specs.Text.{◌>>=◌, ok_as, err_as, only_if}
 use Rattle.mc_model_machine.specs.declared.assembler.AsmCause.{AsmCause}
 use Rattle.mc_model_machine.specs.declared.assembler.AsmCause.TheVariants.{TooLong}
-use Rattle.mc_model_machine.specs.Assembly.{CodeItem, with_label, line_read, line_laid, size, emitted, fits_signed}
+use Rattle.mc_model_machine.specs.Assembly.{CodeItem, with_label, line_read, line_laid, size, bytes_of_item, fits_signed}
 use Rattle.mc_asm.specs.declared.line.NumberedLine.{NumberedLine}
 pub use Rattle.mc_asm.specs.Refusals.{AssemblyRefuses}
 
@@ -38,14 +38,14 @@ abbrev pub code_and_end : List (List ℕ × ℕ) → ℕ → List ℕ → Result
 code_and_end labels place text = do
   l ← line_read text
   end ← end_of l.item place
-  ok_as (λ bytes. (bytes, end)) (emitted labels place l.item)
+  ok_as (λ bytes. (bytes, end)) (bytes_of_item labels place l.item)
 
 -- the code of lines with these labels, from a place on
-unfoldable pub coded : List (List ℕ × ℕ) → ℕ → List (ℕ × List ℕ) → Result (List ℕ) (ℕ × AsmCause)
-coded labels place [] = Ok []
-coded labels place (t ∷ ts) = do
+unfoldable pub code_of_lines : List (List ℕ × ℕ) → ℕ → List (ℕ × List ℕ) → Result (List ℕ) (ℕ × AsmCause)
+code_of_lines labels place [] = Ok []
+code_of_lines labels place (t ∷ ts) = do
   p ← err_as (λ c. (t.0, c)) (code_and_end labels place t.1)
-  ok_as (λ rest. p.0 ++ rest) (coded labels p.1 ts)
+  ok_as (λ rest. p.0 ++ rest) (code_of_lines labels p.1 ts)
 
 -- a distance, if it is in the range of a branch
 abbrev pub near : ℤ → Option ℤ

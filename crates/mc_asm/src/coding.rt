@@ -1,10 +1,10 @@
 // The second pass, which makes the code, and the whole assembler.
 ghost use Rattle.std.specs.Prelude.{◌≡◌, ◌+◌, ◌≤◌, ℕ, pos, ◌-ℤ◌, List, [], ◌∷◌, ◌++◌, length, Some, None, Ok, Err, IfOk, IfErr, MatchResult, OnOk, vec_len};
 ghost use Rattle.mc_model_device.specs.Limits.{most_code};
-ghost use Rattle.mc_model_machine.specs.Text.{lines, numbered};
-ghost use Rattle.mc_model_machine.specs.Assembly.{emitted, size, assembled, assembled_lines};
+ghost use Rattle.mc_model_machine.specs.Text.{lines, with_numbers};
+ghost use Rattle.mc_model_machine.specs.Assembly.{bytes_of_item, size, assembly_of, assembled_lines};
 ghost use Rattle.mc_asm.specs.Items.{item_of, Ready};
-ghost use Rattle.mc_asm.specs.Passes.{AreLabels, AssemblyRefuses, code_and_end, coded, near, numbered_lines};
+ghost use Rattle.mc_asm.specs.Passes.{AreLabels, AssemblyRefuses, code_and_end, code_of_lines, near, numbered_lines};
 ghost use Rattle.mc_asm.specs.declared.refusal.AsmRefusal.TheVariants.{NoMemory};
 ghost use Rattle.arrayvec.specs.ArrayVec.{array_vec_len};
 
@@ -40,8 +40,8 @@ fn emitted<'a>(
     requires place { place ≤ most_code }
     ensures size { IfOk result (λ v. array_vec_len v ≡ size (item_of item.now)) }
     ensures code { (l : List (List ℕ × ℕ)) → AreLabels labels.now l
-        → MatchResult result (λ v. emitted l place (item_of item.now) ≡ Ok v.items)
-        (λ e. emitted l place (item_of item.now) ≡ Err e) }
+        → MatchResult result (λ v. bytes_of_item l place (item_of item.now) ≡ Ok v.items)
+        (λ e. bytes_of_item l place (item_of item.now) ≡ Err e) }
 {
     match *item {
         Item::Nothing => Ok(ArrayVec::new()),
@@ -94,8 +94,8 @@ fn code_of<'a>(
     labels: &Labels<'a>,
 ) -> Result<Vec<u8>, AsmRefusal>
     ensures code { (l : List (List ℕ × ℕ)) → AreLabels labels.now l
-        → MatchResult result (λ v. coded l 0 (numbered_lines lines.now) ≡ Ok v.items)
-        (λ e. AssemblyRefuses (coded l 0 (numbered_lines lines.now)) e) }
+        → MatchResult result (λ v. code_of_lines l 0 (numbered_lines lines.now) ≡ Ok v.items)
+        (λ e. AssemblyRefuses (code_of_lines l 0 (numbered_lines lines.now)) e) }
     ensures short { IfOk result (λ v. vec_len v ≤ most_code) }
 {
     let mut code = Vec::new(alloc);
@@ -148,7 +148,7 @@ fn push_line<'a>(lines: &mut Vec<NumberedLine<'a>>, text: &'a [u8]) -> Result<()
 
 // The lines of a text with their numbers.
 fn lines_of(alloc: Global, text: &[u8]) -> Result<Vec<NumberedLine<'_>>, AsmRefusal>
-    ensures lines { IfOk result (λ v. numbered_lines v.items ≡ numbered 1 (lines text.now)) }
+    ensures lines { IfOk result (λ v. numbered_lines v.items ≡ with_numbers 1 (lines text.now)) }
     ensures memory { IfErr result (λ e. e ≡ NoMemory) }
 {
     let mut lines = Vec::new(alloc);
@@ -169,10 +169,10 @@ fn lines_of(alloc: Global, text: &[u8]) -> Result<Vec<NumberedLine<'_>>, AsmRefu
 /// Returns `At` with the first refused line, counted from 1, and its cause: the first line with a cause of
 /// its own, and if there is none, the first whose label is unknown or too far for a branch. Returns
 /// `NoMemory` if out of memory.
-#[tactic(auto, unfolding(mc_model_machine::specs::Assembly::assembled))]
+#[tactic(auto, unfolding(mc_model_machine::specs::Assembly::assembly_of))]
 pub fn assemble(alloc: Global, text: &[u8]) -> Result<Vec<u8>, AsmRefusal>
-    ensures code { IfOk result (λ v. assembled text.now ≡ Ok v.items) }
-    ensures refused { IfErr result (λ e. AssemblyRefuses (assembled text.now) e) }
+    ensures code { IfOk result (λ v. assembly_of text.now ≡ Ok v.items) }
+    ensures refused { IfErr result (λ e. AssemblyRefuses (assembly_of text.now) e) }
     ensures short { IfOk result (λ v. vec_len v ≤ most_code) }
 {
     let lines = lines_of(alloc, text)?;

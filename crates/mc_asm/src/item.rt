@@ -3,7 +3,7 @@ ghost use Rattle.std.specs.Prelude.{◌≡◌, ◌+◌, ◌<◌, ◌≤◌, ℕ,
 ghost use Rattle.std.specs.List.{AllByRecursion};
 ghost use Rattle.mc_model_machine.specs.Code.{Shaped};
 ghost use Rattle.mc_model_machine.specs.Text.{ok_as};
-ghost use Rattle.mc_model_machine.specs.Assembly.{byte, both, worded, Bare, OfByte, OfBytes, OfWord, OfWords, RawByte, ByDistance, ByPlace, Primitive, Addressed, AddressedByte, AddressedWord, Plain};
+ghost use Rattle.mc_model_machine.specs.Assembly.{byte, both, item_of_word, Bare, OfByte, OfBytes, OfWord, OfWords, RawByte, ByDistance, ByPlace, Primitive, Addressed, AddressedByte, AddressedWord, Plain};
 ghost use Rattle.mc_model_machine.specs.declared.instruction.Ins.TheVariants.{Branch, Retio, Prim, Loada};
 ghost use Rattle.mc_asm.specs.Forms.{form_of, of_byte, of_word, of_words, by_place, addressed_byte, addressed_word, BareShaped};
 ghost use Rattle.mc_asm.specs.Parts.{pair_of};
@@ -33,7 +33,7 @@ pub enum Item<'a> {
 // An instruction without operands.
 fn bare(ins: Ins, operands: &[&[u8]]) -> Result<Ins, AsmCause>
     requires { Shaped ins }
-    ensures value { ok_as (λ i. Plain i) result ≡ worded (Bare ins) (texts operands.now) }
+    ensures value { ok_as (λ i. Plain i) result ≡ item_of_word (Bare ins) (texts operands.now) }
     ensures shaped { IfOk result Shaped }
 {
     match operands {
@@ -44,7 +44,7 @@ fn bare(ins: Ins, operands: &[&[u8]]) -> Result<Ins, AsmCause>
 
 // An instruction with one byte.
 fn with_byte(name: ByteWord, operands: &[&[u8]]) -> Result<Ins, AsmCause>
-    ensures value { ok_as (λ i. Plain i) result ≡ worded (OfByte (of_byte name)) (texts operands.now) }
+    ensures value { ok_as (λ i. Plain i) result ≡ item_of_word (OfByte (of_byte name)) (texts operands.now) }
     ensures shaped { IfOk result Shaped }
 {
     match operands {
@@ -55,7 +55,7 @@ fn with_byte(name: ByteWord, operands: &[&[u8]]) -> Result<Ins, AsmCause>
 
 // The return with two bytes.
 fn with_bytes(operands: &[&[u8]]) -> Result<Ins, AsmCause>
-    ensures value { ok_as (λ i. Plain i) result ≡ worded (OfBytes Retio) (texts operands.now) }
+    ensures value { ok_as (λ i. Plain i) result ≡ item_of_word (OfBytes Retio) (texts operands.now) }
     ensures shaped { IfOk result Shaped }
 {
     match operands {
@@ -69,7 +69,7 @@ fn with_bytes(operands: &[&[u8]]) -> Result<Ins, AsmCause>
 
 // An instruction with one word.
 fn with_word(name: WordWord, operands: &[&[u8]]) -> Result<Ins, AsmCause>
-    ensures value { ok_as (λ i. Plain i) result ≡ worded (OfWord (of_word name)) (texts operands.now) }
+    ensures value { ok_as (λ i. Plain i) result ≡ item_of_word (OfWord (of_word name)) (texts operands.now) }
     ensures shaped { IfOk result Shaped }
 {
     match operands {
@@ -80,7 +80,7 @@ fn with_word(name: WordWord, operands: &[&[u8]]) -> Result<Ins, AsmCause>
 
 // An instruction with two words.
 fn with_words(name: WordsWord, operands: &[&[u8]]) -> Result<Ins, AsmCause>
-    ensures value { ok_as (λ i. Plain i) result ≡ worded (OfWords (of_words name)) (texts operands.now) }
+    ensures value { ok_as (λ i. Plain i) result ≡ item_of_word (OfWords (of_words name)) (texts operands.now) }
     ensures shaped { IfOk result Shaped }
 {
     match operands {
@@ -94,7 +94,7 @@ fn with_words(name: WordsWord, operands: &[&[u8]]) -> Result<Ins, AsmCause>
 
 // A byte that is no instruction.
 fn raw<'a>(operands: &[&'a [u8]]) -> Result<Item<'a>, AsmCause>
-    ensures { ok_as item_of result ≡ worded RawByte (texts operands.now) }
+    ensures { ok_as item_of result ≡ item_of_word RawByte (texts operands.now) }
 {
     match operands {
         [n] => Ok(Item::Raw(byte(n)?)),
@@ -104,7 +104,7 @@ fn raw<'a>(operands: &[&'a [u8]]) -> Result<Item<'a>, AsmCause>
 
 // A branch on a condition, to a label or by a displacement.
 fn branch_to<'a>(cond: &[u8], target: &'a [u8]) -> Result<Item<'a>, AsmCause>
-    ensures value { ok_as item_of result ≡ worded (ByDistance Branch) (cond.now ∷ target.now ∷ []) }
+    ensures value { ok_as item_of result ≡ item_of_word (ByDistance Branch) (cond.now ∷ target.now ∷ []) }
     ensures ready { IfOk result Ready }
 {
     if is_label(target) {
@@ -127,7 +127,7 @@ fn two<'a>(operands: &[&'a [u8]]) -> Option<(&'a [u8], &'a [u8])>
 // A branch.
 #[tactic(auto, using(crate::proofs::ItemLemmas::distance_of_pair))]
 fn branch<'a>(operands: &[&'a [u8]]) -> Result<Item<'a>, AsmCause>
-    ensures value { ok_as item_of result ≡ worded (ByDistance Branch) (texts operands.now) }
+    ensures value { ok_as item_of result ≡ item_of_word (ByDistance Branch) (texts operands.now) }
     ensures ready { IfOk result Ready }
 {
     match two(operands) {
@@ -138,7 +138,7 @@ fn branch<'a>(operands: &[&'a [u8]]) -> Result<Item<'a>, AsmCause>
 
 // A jump or call on a condition, to a label or an address.
 fn transfer_to<'a>(name: PlaceWord, cond: &[u8], target: &'a [u8]) -> Result<Item<'a>, AsmCause>
-    ensures value { ok_as item_of result ≡ worded (ByPlace (by_place name)) (cond.now ∷ target.now ∷ []) }
+    ensures value { ok_as item_of result ≡ item_of_word (ByPlace (by_place name)) (cond.now ∷ target.now ∷ []) }
     ensures ready { IfOk result Ready }
 {
     if is_label(target) {
@@ -151,7 +151,7 @@ fn transfer_to<'a>(name: PlaceWord, cond: &[u8], target: &'a [u8]) -> Result<Ite
 // A jump or call, to the address on the stack if it has no operand.
 #[tactic(auto, using(crate::proofs::ItemLemmas::place_of_pair))]
 fn transfer<'a>(name: PlaceWord, operands: &[&'a [u8]]) -> Result<Item<'a>, AsmCause>
-    ensures value { ok_as item_of result ≡ worded (ByPlace (by_place name)) (texts operands.now) }
+    ensures value { ok_as item_of result ≡ item_of_word (ByPlace (by_place name)) (texts operands.now) }
     ensures ready { IfOk result Ready }
 {
     if operands.is_empty() {
@@ -180,7 +180,7 @@ fn three_bytes(a: &[u8], b: &[u8], c: &[u8]) -> Result<(u8, (u8, u8)), AsmCause>
 // A primitive with two arguments.
 #[tactic(auto, using(crate::proofs::ItemLemmas::primitive_three))]
 fn with_two_arguments(number: &[u8], a: &[u8], b: &[u8]) -> Result<Ins, AsmCause>
-    ensures value { ok_as (λ i. Plain i) result ≡ worded Primitive (number.now ∷ a.now ∷ b.now ∷ []) }
+    ensures value { ok_as (λ i. Plain i) result ≡ item_of_word Primitive (number.now ∷ a.now ∷ b.now ∷ []) }
     ensures shaped { IfOk result Shaped }
 {
     let (number, (a, b)) = both(byte(number), two_bytes(a, b))?;
@@ -194,7 +194,7 @@ fn with_two_arguments(number: &[u8], a: &[u8], b: &[u8]) -> Result<Ins, AsmCause
 // A primitive with three arguments.
 #[tactic(auto, using(crate::proofs::ItemLemmas::primitive_four))]
 fn with_three_arguments(number: &[u8], a: &[u8], b: &[u8], c: &[u8]) -> Result<Ins, AsmCause>
-    ensures value { ok_as (λ i. Plain i) result ≡ worded Primitive (number.now ∷ a.now ∷ b.now ∷ c.now ∷ []) }
+    ensures value { ok_as (λ i. Plain i) result ≡ item_of_word Primitive (number.now ∷ a.now ∷ b.now ∷ c.now ∷ []) }
     ensures shaped { IfOk result Shaped }
 {
     let (number, (a, (b, c))) = both(byte(number), three_bytes(a, b, c))?;
@@ -208,7 +208,7 @@ fn with_three_arguments(number: &[u8], a: &[u8], b: &[u8], c: &[u8]) -> Result<I
 // A primitive's number and up to three arguments.
 #[tactic(auto, using(crate::proofs::ItemLemmas::primitive_two, crate::proofs::ItemLemmas::no_primitive))]
 fn primitive(operands: &[&[u8]]) -> Result<Ins, AsmCause>
-    ensures value { ok_as (λ i. Plain i) result ≡ worded Primitive (texts operands.now) }
+    ensures value { ok_as (λ i. Plain i) result ≡ item_of_word Primitive (texts operands.now) }
     ensures shaped { IfOk result Shaped }
 {
     match operands {
@@ -233,7 +233,7 @@ fn primitive(operands: &[&[u8]]) -> Result<Ins, AsmCause>
 
 // An address alone, or nothing for the top of the stack.
 fn addressed(operands: &[&[u8]]) -> Result<Ins, AsmCause>
-    ensures value { ok_as (λ i. Plain i) result ≡ worded (Addressed Loada) (texts operands.now) }
+    ensures value { ok_as (λ i. Plain i) result ≡ item_of_word (Addressed Loada) (texts operands.now) }
     ensures shaped { IfOk result Shaped }
 {
     match operands {
@@ -248,7 +248,7 @@ fn addressed(operands: &[&[u8]]) -> Result<Ins, AsmCause>
 
 // An address, or none for the top of the stack, and a byte.
 fn addressed_byte(name: AddressedByteWord, operands: &[&[u8]]) -> Result<Ins, AsmCause>
-    ensures value { ok_as (λ i. Plain i) result ≡ worded (AddressedByte (addressed_byte name)) (texts operands.now) }
+    ensures value { ok_as (λ i. Plain i) result ≡ item_of_word (AddressedByte (addressed_byte name)) (texts operands.now) }
     ensures shaped { IfOk result Shaped }
 {
     match operands {
@@ -263,7 +263,7 @@ fn addressed_byte(name: AddressedByteWord, operands: &[&[u8]]) -> Result<Ins, As
 
 // An address, or none for the top of the stack, and a word.
 fn addressed_word(name: AddressedWordWord, operands: &[&[u8]]) -> Result<Ins, AsmCause>
-    ensures value { ok_as (λ i. Plain i) result ≡ worded (AddressedWord (addressed_word name)) (texts operands.now) }
+    ensures value { ok_as (λ i. Plain i) result ≡ item_of_word (AddressedWord (addressed_word name)) (texts operands.now) }
     ensures shaped { IfOk result Shaped }
 {
     match operands {
@@ -283,7 +283,7 @@ fn addressed_word(name: AddressedWordWord, operands: &[&[u8]]) -> Result<Ins, As
 /// Returns the cause for which the operands are refused; of several, the first in the table of causes.
 pub fn worded<'a>(form: Form, operands: &[&'a [u8]]) -> Result<Item<'a>, AsmCause>
     requires { BareShaped form }
-    ensures value { ok_as item_of result ≡ worded (form_of form) (texts operands.now) }
+    ensures value { ok_as item_of result ≡ item_of_word (form_of form) (texts operands.now) }
     ensures ready { IfOk result Ready }
 {
     let ins = match form {

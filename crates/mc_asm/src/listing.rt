@@ -1,9 +1,9 @@
 // The listing of code.
 ghost use Rattle.std.specs.Prelude.{◌≡◌, ◌≤◌, ◌++◌, length, codes, Ok, IfOk, IfErr, OnOk};
 ghost use Rattle.mc_model_device.specs.Limits.{most_code};
-ghost use Rattle.mc_model_machine.specs.Listing.{listed, text_of};
+ghost use Rattle.mc_model_machine.specs.Listing.{listing_of_code, text_of};
 ghost use Rattle.mc_model_machine.specs.Code.{Shaped};
-ghost use Rattle.mc_model_machine.specs.Assembly.{assembled};
+ghost use Rattle.mc_model_machine.specs.Assembly.{assembly_of};
 ghost use Rattle.mc_asm.specs.Refusals.{RefusesListing};
 
 use crate::refusal::ListRefusal;
@@ -23,8 +23,8 @@ fn put_line(text: &mut Vec<u8>, ins: &Ins) -> Result<(), AllocError>
 // The listing of code.
 fn listing_of(alloc: Global, code: &[u8]) -> Result<Vec<u8>, ListRefusal>
     requires { length code.now ≤ most_code }
-    ensures text { IfOk result (λ v. listed code.now ≡ Ok v.items) }
-    ensures refused { IfErr result (λ e. RefusesListing (listed code.now) e) }
+    ensures text { IfOk result (λ v. listing_of_code code.now ≡ Ok v.items) }
+    ensures refused { IfErr result (λ e. RefusesListing (listing_of_code code.now) e) }
 {
     let mut text = Vec::new(alloc);
     let mut place = 0;
@@ -51,10 +51,10 @@ fn listing_of(alloc: Global, code: &[u8]) -> Result<Vec<u8>, ListRefusal>
 /// of memory.
 pub fn list(alloc: Global, code: &[u8]) -> Result<Vec<u8>, ListRefusal>
     requires { length code.now ≤ most_code }
-    ensures text { IfOk result (λ v. listed code.now ≡ Ok v.items) }
-    ensures refused { IfErr result (λ e. RefusesListing (listed code.now) e) }
+    ensures text { IfOk result (λ v. listing_of_code code.now ≡ Ok v.items) }
+    ensures refused { IfErr result (λ e. RefusesListing (listing_of_code code.now) e) }
     // The listing assembles to the code.
-    ensures again { IfOk result (λ v. assembled v.items ≡ Ok code.now) }
+    ensures again { IfOk result (λ v. assembly_of v.items ≡ Ok code.now) }
 {
     listing_of(alloc, code)
 }

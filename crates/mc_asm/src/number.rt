@@ -2,7 +2,7 @@
 ghost use Rattle.std.specs.Prelude.{◌≡◌, ◌+◌, ◌*◌, ◌<◌, ◌≤◌, ◌^◌, ℕ, Ok, Err, OnOk, IfOk, IfSome, MatchResult, option_map};
 ghost use Rattle.mc_model_machine.specs.Assembly.{byte, word, hex_number, natural, number_operand, signed_operand};
 ghost use Rattle.mc_asm.specs.Numbers.{FitsHalf};
-ghost use Rattle.mc_text.specs.Reading.{capped};
+ghost use Rattle.mc_text.specs.Reading.{capped_number};
 
 use mc_model_machine::AsmCause;
 use mc_text::{decimal_number, hex_value};
@@ -24,7 +24,7 @@ fn hex_number(digits: &[u8]) -> Option<u32>
 
 // A number without a sign.
 fn natural(text: &[u8]) -> Option<u64>
-    ensures { result ≡ option_map capped (natural text.now) }
+    ensures { result ≡ option_map capped_number (natural text.now) }
 {
     match text {
         [b'0', b'x', digits @ ..] => Some(hex_number(digits)? as u64),

@@ -4,7 +4,7 @@ use Rattle.mc_model_card.specs.declared.card.Part.{Part}
 use Rattle.mc_model_card.specs.declared.card.Sizes.{Sizes}
 use Rattle.mc_model_device.specs.Orders.{Answer, InOrder}
 use Rattle.mc_model_card.specs.Items.{Site, BankItem, Commit}
-use Rattle.mc_bank.specs.Bank.{BankState, IsGoodSite, StayGood, BytesStay, Spares, Changes, item_done, committed}
+use Rattle.mc_bank.specs.Bank.{BankState, IsGoodSite, StayGood, BytesStay, Spares, Changes, item_done, apps_after_commit}
 
 -- words of the static bytes of a name
 pub record Words : Type 0 where
@@ -18,34 +18,34 @@ commits (w ∷ ws) = Commit w.name w.words ∷ commits ws
 
 module _ {B : Type 0} (did : B → BankItem → Answer → B → Type 0) where
   -- what one commit keeps, a list of them keeps
-  pub kept-in_order : (K : B → B → Type 0) → ((b : B) → K b b) → ((b m e : B) → K b m → K m e → K b e)
+  pub kept_in_order : (K : B → B → Type 0) → ((b : B) → K b b) → ((b m e : B) → K b m → K m e → K b e)
       → ((b : B) (n : List ℕ) (ws : List (ℕ × List ℕ)) (a : Answer) (e : B) → did b (Commit n ws) a e → K b e)
       → (cs : List Words) (b : B) (a : Answer) (e : B) → InOrder did b (commits cs) a e → K b e
-  kept-in_order K itself onward one [] b (Ok u) e h = subst (K b) (sym h) (itself b)
-  kept-in_order K itself onward one [] b (Err s) e h = absurd h
-  kept-in_order K itself onward one (c ∷ cs) b a e h =
+  kept_in_order K itself onward one [] b (Ok u) e h = subst (K b) (sym h) (itself b)
+  kept_in_order K itself onward one [] b (Err s) e h = absurd h
+  kept_in_order K itself onward one (c ∷ cs) b a e h =
       elim h [
-        | inl done ↦ onward b done.0 e (one b c.name c.words (Ok tt) done.0 done.1) (kept-in_order K itself onward one cs done.0 a e done.2)
+        | inl done ↦ onward b done.0 e (one b c.name c.words (Ok tt) done.0 done.1) (kept_in_order K itself onward one cs done.0 a e done.2)
         | inr stop ↦ one b c.name c.words (Err stop.0) e stop.1
       ]
 
   -- slots name what they named
-  pub slots-in_order : (named : B → ℕ → Option (List ℕ))
+  pub slots_in_order : (named : B → ℕ → Option (List ℕ))
       → ((b : B) (i : BankItem) (a : Answer) (e : B) → did b i a e → (k : ℕ) (n : List ℕ) → named b k ≡ Some n → Spares n i → named e k ≡ Some n)
       → (cs : List Words) (b : B) (a : Answer) (e : B) → InOrder did b (commits cs) a e → (k : ℕ) (n : List ℕ) → named b k ≡ Some n → named e k ≡ Some n
-  slots-in_order named keeps =
-      kept-in_order (λ b e. (k : ℕ) (n : List ℕ) → named b k ≡ Some n → named e k ≡ Some n)
+  slots_in_order named keeps =
+      kept_in_order (λ b e. (k : ℕ) (n : List ℕ) → named b k ≡ Some n → named e k ≡ Some n)
       (λ b k n h. h)
       (λ b m e first second k n h. second k n (first k n h))
       (λ b n ws a e d k l h. keeps b (Commit n ws) a e d k l h tt)
 
   -- good sites stay good, and keep their bytes
-  pub sites-in_order : (state : B → BankState) (room : B → Sizes → Option ℕ) (standing : B → Site → Part → List ℕ)
+  pub sites_in_order : (state : B → BankState) (room : B → Sizes → Option ℕ) (standing : B → Site → Part → List ℕ)
       → ((b : B) (n : List ℕ) (ws : List (ℕ × List ℕ)) (a : Answer) (e : B) → did b (Commit n ws) a e → StayGood (state b).apps (room b) (state e).apps (room e))
       → ((b : B) (n : List ℕ) (ws : List (ℕ × List ℕ)) (a : Answer) (e : B) → did b (Commit n ws) a e → BytesStay (state b).apps (room b) (standing b) (standing e))
       → (cs : List Words) (b : B) (a : Answer) (e : B) → InOrder did b (commits cs) a e → (s : Site) → IsGoodSite (state b).apps (room b) s → IsGoodSite (state e).apps (room e) s × ((p : Part) → standing e s p ≡ standing b s p)
-  sites-in_order state room standing spares leaves =
-      kept-in_order (λ b e. (s : Site) → IsGoodSite (state b).apps (room b) s → IsGoodSite (state e).apps (room e) s × ((p : Part) → standing e s p ≡ standing b s p))
+  sites_in_order state room standing spares leaves =
+      kept_in_order (λ b e. (s : Site) → IsGoodSite (state b).apps (room b) s → IsGoodSite (state e).apps (room e) s × ((p : Part) → standing e s p ≡ standing b s p))
       (λ b s good. (good, λ p. refl))
       (λ b m e first second s good.
       let one = first s good in
@@ -54,22 +54,22 @@ module _ {B : Type 0} (did : B → BankItem → Answer → B → Type 0) where
       (λ b n ws a e d s good. (spares b n ws a e d s good, leaves b n ws a e d s good))
 
   -- the bank goes on if none of them stopped
-  pub going-in_order : (state : B → BankState) (standing : B → Site → Part → List ℕ)
+  pub going_in_order : (state : B → BankState) (standing : B → Site → Part → List ℕ)
       → ((b : B) (i : BankItem) (a : Answer) (e : B) → did b i a e → Changes (state b) (item_done (standing b) i (state b).apps) a (state e))
       → (cs : List Words) (b e : B) → InOrder did b (commits cs) (Ok tt) e → (state b).stopped ≡ false → (state e).stopped ≡ false
-  going-in_order state standing obeys [] b e h on = subst (λ (x : B). (state x).stopped ≡ false) (sym h) on
-  going-in_order state standing obeys (c ∷ cs) b e h on =
+  going_in_order state standing obeys [] b e h on = subst (λ (x : B). (state x).stopped ≡ false) (sym h) on
+  going_in_order state standing obeys (c ∷ cs) b e h on =
       elim h [
-        | inl done ↦ going-in_order state standing obeys cs done.0 e done.2 (obeys b (Commit c.name c.words) (Ok tt) done.0 done.1).going
+        | inl done ↦ going_in_order state standing obeys cs done.0 e done.2 (obeys b (Commit c.name c.words) (Ok tt) done.0 done.1).going
         | inr stop ↦ absurd (cc stop.2)
       ]
 
   -- the applications are those after one commit after another
-  pub apps-in_order : (state : B → BankState) (standing : B → Site → Part → List ℕ)
+  pub apps_in_order : (state : B → BankState) (standing : B → Site → Part → List ℕ)
       → ((b : B) (i : BankItem) (a : Answer) (e : B) → did b i a e → Changes (state b) (item_done (standing b) i (state b).apps) a (state e))
       → (c : Words) (cs : List Words) (b e : B) → InOrder did b (commits (c ∷ cs)) (Ok tt) e
-      → (m : B) × ((state m).apps ≡ committed (state b).apps c.name c.words) × InOrder did m (commits cs) (Ok tt) e
-  apps-in_order state standing obeys c cs b e h =
+      → (m : B) × ((state m).apps ≡ apps_after_commit (state b).apps c.name c.words) × InOrder did m (commits cs) (Ok tt) e
+  apps_in_order state standing obeys c cs b e h =
       elim h [
         | inl done ↦ (done.0, (obeys b (Commit c.name c.words) (Ok tt) done.0 done.1).apps, done.2)
         | inr stop ↦ absurd (cc stop.2)

@@ -18,8 +18,8 @@ use Rattle.mc_bank.specs.Memory.{facts_in, first_free, IsWholeEntry, IsMemory, a
 use Rattle.mc_bank.specs.EntryLaws.{facts_kept, whole_at, apps_free}
 use Rattle.mc_bank.specs.MemoryLaws.{set_self, entry_set, piece_keeps_facts}
 use Rattle.mc_bank.specs.Left.{FillLeft}
-use Rattle.mc_bank.proofs.LeftLemmas.{front_piece, splice-splice, same_named, memory_kept, free_place}
-use Rattle.mc_model_device.proofs.ListLemmas.{splice-none, length-splice}
+use Rattle.mc_bank.proofs.LeftLemmas.{front_piece, splice_splice, same_named, memory_kept, free_place}
+use Rattle.mc_model_device.proofs.ListLemmas.{splice_none, length_splice}
 
 -- ---- one entry
 
@@ -55,22 +55,22 @@ part_small Dir s x h w = let a = h.dir in let b = w.dir in omega (arith, a, b)
 part_small Fci s x h w = let a = h.fci in let b = w.fci in omega (arith, a, b)
 
 whole_with : (p : Part) (at : ℕ) (b : List ℕ) (x : Entry) → at + length b ≤ length (part_of p x) → IsWholeEntry x → IsWholeEntry (with_piece p at b x)
-whole_with Code at b x le w = record { facts = w.facts; code = length-splice x.code at b le ∙ w.code; fixed = w.fixed; dir = w.dir; fci = w.fci }
-whole_with Data at b x le w = record { facts = w.facts; code = w.code; fixed = length-splice x.fixed at b le ∙ w.fixed; dir = w.dir; fci = w.fci }
-whole_with Dir at b x le w = record { facts = w.facts; code = w.code; fixed = w.fixed; dir = length-splice x.dir at b le ∙ w.dir; fci = w.fci }
-whole_with Fci at b x le w = record { facts = w.facts; code = w.code; fixed = w.fixed; dir = w.dir; fci = length-splice x.fci at b le ∙ w.fci }
+whole_with Code at b x le w = record { facts = w.facts; code = length_splice x.code at b le ∙ w.code; fixed = w.fixed; dir = w.dir; fci = w.fci }
+whole_with Data at b x le w = record { facts = w.facts; code = w.code; fixed = length_splice x.fixed at b le ∙ w.fixed; dir = w.dir; fci = w.fci }
+whole_with Dir at b x le w = record { facts = w.facts; code = w.code; fixed = w.fixed; dir = length_splice x.dir at b le ∙ w.dir; fci = w.fci }
+whole_with Fci at b x le w = record { facts = w.facts; code = w.code; fixed = w.fixed; dir = w.dir; fci = length_splice x.fci at b le ∙ w.fci }
 
 piece_none : (p : Part) (at : ℕ) (x : Entry) → with_piece p at [] x ≡ x
-piece_none Code at x = ap (λ (l : List ℕ). record x { code = l }) (splice-none x.code at)
-piece_none Data at x = ap (λ (l : List ℕ). record x { fixed = l }) (splice-none x.fixed at)
-piece_none Dir at x = ap (λ (l : List ℕ). record x { dir = l }) (splice-none x.dir at)
-piece_none Fci at x = ap (λ (l : List ℕ). record x { fci = l }) (splice-none x.fci at)
+piece_none Code at x = ap (λ (l : List ℕ). record x { code = l }) (splice_none x.code at)
+piece_none Data at x = ap (λ (l : List ℕ). record x { fixed = l }) (splice_none x.fixed at)
+piece_none Dir at x = ap (λ (l : List ℕ). record x { dir = l }) (splice_none x.dir at)
+piece_none Fci at x = ap (λ (l : List ℕ). record x { fci = l }) (splice_none x.fci at)
 
 piece_joined : (p : Part) (at : ℕ) (b c : List ℕ) (x : Entry) → at ≤ length (part_of p x) → with_piece p (at + length b) c (with_piece p at b x) ≡ with_piece p at (b ++ c) x
-piece_joined Code at b c x le = ap (λ (l : List ℕ). record x { code = l }) (splice-splice x.code at b c le)
-piece_joined Data at b c x le = ap (λ (l : List ℕ). record x { fixed = l }) (splice-splice x.fixed at b c le)
-piece_joined Dir at b c x le = ap (λ (l : List ℕ). record x { dir = l }) (splice-splice x.dir at b c le)
-piece_joined Fci at b c x le = ap (λ (l : List ℕ). record x { fci = l }) (splice-splice x.fci at b c le)
+piece_joined Code at b c x le = ap (λ (l : List ℕ). record x { code = l }) (splice_splice x.code at b c le)
+piece_joined Data at b c x le = ap (λ (l : List ℕ). record x { fixed = l }) (splice_splice x.fixed at b c le)
+piece_joined Dir at b c x le = ap (λ (l : List ℕ). record x { dir = l }) (splice_splice x.dir at b c le)
+piece_joined Fci at b c x le = ap (λ (l : List ℕ). record x { fci = l }) (splice_splice x.fci at b c le)
 
 -- a piece in two parts, of which the first has k bytes if there are as many
 piece_parts : (p : Part) (at k : ℕ) (b : List ℕ) (x : Entry) → at ≤ length (part_of p x) → with_piece p (at + k) (drop k b) (with_piece p at (take k b) x) ≡ with_piece p at b x
@@ -119,7 +119,7 @@ did_words (suc n) m s p at (y ∷ b) few lt free room =
     let room_left : 0 < length (drop k c) → (at + k) + length (drop k c) ≤ length (part_of p (entry_at l s.place)) = λ some.
     let whole : length (take k c) ≡ k = length-take-le k c (omega (arith, some, left)) in
     let size : length (part_of p (entry_at l s.place)) ≡ length (part_of p x) =
-    ap (λ (e : Entry). length (part_of p e)) same ∙ ap length (part_with p at (take k c) x) ∙ length-splice (part_of p x) at (take k c) (omega (arith, fits, whole, some, left)) in
+    ap (λ (e : Entry). length (part_of p e)) same ∙ ap length (part_with p at (take k c) x) ∙ length_splice (part_of p x) at (take k c) (omega (arith, fits, whole, some, left)) in
     omega (arith, some, left, fits, size) in
     let rest = did_words n l s p (at + k) (drop k c) few_left there free_left room_left in
     let end : slice_set l s.place (with_piece p (at + k) (drop k c) (entry_at l s.place)) ≡ slice_set m s.place (with_piece p at c x) =

@@ -15,25 +15,25 @@ use Rattle.mc_base.specs.Name.{IsName}
 use Rattle.mc_bank.specs.declared.bank.Facts.{Facts}
 use Rattle.mc_bank.specs.declared.entries.Entry.{Entry}
 use Rattle.mc_bank.specs.Bank.{name_or, app_of, sizes_of, FitsLimits, CanCommit, IsGoodSite}
-use Rattle.mc_bank.specs.Memory.{facts_in, named_at, memory_named, first_free, is_named, AreFacts, IsWholeEntry, IsMemory, AreApart, app_in, apps_from, memory_room, entry_at, with_app, with_list, freed, new_facts, fixed_len, MemoryDid}
-use Rattle.mc_bank.specs.EntryLaws.{facts_set, facts_kept, length-facts, free_has_no_name, free_is_there, no_name, apart_freed, apart_set, lookup_is, whole_set, whole_at, length-apps}
+use Rattle.mc_bank.specs.Memory.{facts_in, name_of_entry, memory_named, first_free, is_named, AreFacts, IsWholeEntry, IsMemory, AreApart, app_in, apps_from, memory_room, entry_at, with_app, with_list, free_entry, new_facts, fixed_len, MemoryDid}
+use Rattle.mc_bank.specs.EntryLaws.{facts_set, facts_kept, length_facts, free_has_no_name, free_is_there, no_name, apart_freed, apart_set, lookup_is, whole_set, whole_at, length_apps}
 use Rattle.mc_bank.specs.MemoryLaws.{split, app_is, memory_obeys, memory_keeps, memory_spares, memory_leaves}
 use Rattle.mc_bank.specs.Shown.{app_at}
 use Rattle.mc_bank.specs.Slots.{slot_place, name_of_slot}
 use Rattle.mc_bank.specs.SlotLaws.{slot_stays, commit_sized}
 use Rattle.mc_bank.specs.Left.{CommitLeft, CreateLeft, DeleteLeft}
 use Rattle.mc_bank.proofs.ShownLemmas.{name_at, slot_at, slot_within}
-use Rattle.mc_model_device.proofs.ListLemmas.{length-splice}
+use Rattle.mc_model_device.proofs.ListLemmas.{length_splice}
 
 -- ---- lists of bytes
 
-pub length-laid : (x : List ℕ) (ws : List (ℕ × List ℕ)) → AllByRecursion (λ w. length w.1 ≡ 8) ws → AllByRecursion (λ w. 8 * w.0 + 8 ≤ length x) ws → length (laid_pieces x (word_pieces ws)) ≡ length x
-length-laid x [] h a = refl
-length-laid x (w ∷ ws) h a =
+pub length_laid : (x : List ℕ) (ws : List (ℕ × List ℕ)) → AllByRecursion (λ w. length w.1 ≡ 8) ws → AllByRecursion (λ w. 8 * w.0 + 8 ≤ length x) ws → length (laid_pieces x (word_pieces ws)) ≡ length x
+length_laid x [] h a = refl
+length_laid x (w ∷ ws) h a =
     let first = a.0 in
     let eight = h.0 in
-    let len = length-splice x (8 * w.0) w.1 (omega (arith, first, eight)) in
-    length-laid (splice x (8 * w.0) w.1) ws h.1 (subst (λ (k : ℕ). AllByRecursion (λ (v : ℕ × List ℕ). 8 * v.0 + 8 ≤ k) ws) (sym len) a.1) ∙ len
+    let len = length_splice x (8 * w.0) w.1 (omega (arith, first, eight)) in
+    length_laid (splice x (8 * w.0) w.1) ws h.1 (subst (λ (k : ℕ). AllByRecursion (λ (v : ℕ × List ℕ). 8 * v.0 + 8 ≤ k) ws) (sym len) a.1) ∙ len
 
 -- words of a segment end in its memory
 pub words_fit : (n k : ℕ) (ws : List (ℕ × List ℕ)) → n ≤ k → k ≡ 4096 → AllByRecursion (λ w. 8 * w.0 < n) ws → AllByRecursion (λ w. 8 * w.0 + 8 ≤ k) ws
@@ -52,8 +52,8 @@ front_piece n x at b le long =
     ∙ ap (λ (k : ℕ). q ++ drop (at + length b) (take k x)) (sym all)
     ∙ ap (λ (l : List ℕ). (l ++ b) ++ drop (at + length b) (take n x)) (sym (take-take at n x (omega (arith, le))))
 
-pub splice-splice : (x : List ℕ) (at : ℕ) (b c : List ℕ) → at ≤ length x → splice (splice x at b) (at + length b) c ≡ splice x at (b ++ c)
-splice-splice x at b c le =
+pub splice_splice : (x : List ℕ) (at : ℕ) (b c : List ℕ) → at ≤ length x → splice (splice x at b) (at + length b) c ≡ splice x at (b ++ c)
+splice_splice x at b c le =
     let paste-b : splice x at b ≡ take at x ++ take (length b) b ++ drop (at + length b) x = ap (λ (l : List ℕ). take at x ++ l ++ drop (at + length b) x) (sym (take-length b)) in
     let both : length (b ++ c) ≡ length b + length c = length-append b c in
     ap (λ (l : List ℕ). splice l (at + length b) c) paste-b
@@ -69,20 +69,20 @@ some_name None h = absurd (cc h)
 some_name (Some n) h = refl
 
 -- the name of a slot is at its place
-place_name : (m : List Entry) (j : ℕ) → IsSome (memory_named m j) → named_at (facts_in m) (slot_place j) ≡ Some (name_or (memory_named m j))
+place_name : (m : List Entry) (j : ℕ) → IsSome (memory_named m j) → name_of_entry (facts_in m) (slot_place j) ≡ Some (name_or (memory_named m j))
 place_name m j there = sym (slot_at m j there) ∙ some_name (memory_named m j) there
 
 -- entries that keep all facts and all sizes keep the names of slots
 pub same_named : (m e : List Entry) (j : ℕ) → facts_in e ≡ facts_in m → ((n : List ℕ) → sizes_of (app_of (apps_from 0 e) (Some n)) ≡ sizes_of (app_of (apps_from 0 m) (Some n))) → memory_named e j ≡ memory_named m j
 same_named m e j facts sizes =
-    slot_stays (apps_from 0 m) (apps_from 0 e) j (named_at (facts_in e) (slot_place j)) sizes ∙ ap (λ (fs : List (Option Facts)). name_of_slot (apps_from 0 m) j (named_at fs (slot_place j))) facts
+    slot_stays (apps_from 0 m) (apps_from 0 e) j (name_of_entry (facts_in e) (slot_place j)) sizes ∙ ap (λ (fs : List (Option Facts)). name_of_slot (apps_from 0 m) j (name_of_entry fs (slot_place j))) facts
 
 -- ---- entries
 
 pub memory_kept : (m : List Entry) (k : ℕ) (x : Entry) → IsMemory m → x.facts ≡ (entry_at m k).facts → IsWholeEntry x → IsMemory (slice_set m k x)
 memory_kept m k x h same whole =
     record {
-      room = sym (length-facts (slice_set m k x)) ∙ ap length (facts_kept m k x same) ∙ length-facts m ∙ h.room;
+      room = sym (length_facts (slice_set m k x)) ∙ ap length (facts_kept m k x same) ∙ length_facts m ∙ h.room;
       whole = whole_set m k x h.whole whole;
       apart = subst AreApart (sym (facts_kept m k x same)) h.apart;
     }
@@ -119,7 +119,7 @@ commit_left m j ws x h there can is =
     let n = name_or (memory_named m j) in
     let w = whole_at m k (slot_within m j there) h.whole in
     let whole : IsWholeEntry (with_list ws (entry_at m k)) =
-    record { facts = w.facts; code = w.code; fixed = length-laid (entry_at m k).fixed ws can.pending.whole (commit_fits m j ws h there can) ∙ w.fixed; dir = w.dir; fci = w.fci } in
+    record { facts = w.facts; code = w.code; fixed = length_laid (entry_at m k).fixed ws can.pending.whole (commit_fits m j ws h there can) ∙ w.fixed; dir = w.dir; fci = w.fci } in
     let e = slice_set m k x in
     let did : MemoryDid m (Commit n ws) (Ok tt) e =
     record {
@@ -146,19 +146,19 @@ commit_left m j ws x h there can is =
 
 -- ---- a deletion
 
-pub delete_left : (m : List Entry) (j : ℕ) (x : Entry) → IsMemory m → IsSome (memory_named m j) → x ≡ freed (entry_at m (slot_place j)) → DeleteLeft m j (slice_set m (slot_place j) x)
+pub delete_left : (m : List Entry) (j : ℕ) (x : Entry) → IsMemory m → IsSome (memory_named m j) → x ≡ free_entry (entry_at m (slot_place j)) → DeleteLeft m j (slice_set m (slot_place j) x)
 delete_left m j x h there is =
     let k = slot_place j in
     let n = name_or (memory_named m j) in
     let w = whole_at m k (slot_within m j there) h.whole in
-    let whole : IsWholeEntry (freed (entry_at m k)) = record { facts = tt; code = w.code; fixed = w.fixed; dir = w.dir; fci = w.fci } in
+    let whole : IsWholeEntry (free_entry (entry_at m k)) = record { facts = tt; code = w.code; fixed = w.fixed; dir = w.dir; fci = w.fci } in
     let e = slice_set m k x in
     let did : MemoryDid m (Remove n) (Ok tt) e =
     record { answer = refl; done = record { slot = k; named = place_name m j there; apart = h.apart; after = ap (slice_set m k) is } } in
     let facts : facts_in e ≡ slice_set (facts_in m) k None = facts_set m k x ∙ ap (λ (y : Entry). slice_set (facts_in m) k y.facts) is in
     record {
       memory = record {
-        room = sym (length-facts e) ∙ ap length facts ∙ length-set (facts_in m) k None ∙ length-facts m ∙ h.room;
+        room = sym (length_facts e) ∙ ap length facts ∙ length-set (facts_in m) k None ∙ length_facts m ∙ h.room;
         whole = whole_set m k x h.whole (subst IsWholeEntry (sym is) whole);
         apart = subst AreApart (sym facts) (apart_freed (facts_in m) k h.apart);
       };
@@ -174,8 +174,8 @@ free_place m s h good =
     let place : first_free (facts_in m) ≡ s.place = cc good.place in
     let few = good.few in
     let room = h.room in
-    let len = length-facts m in
-    let count = length-apps 0 m h.apart in
+    let len = length_facts m in
+    let count = length_apps 0 m h.apart in
     let there = free_is_there (facts_in m) (omega (arith, few, room, len, count)) in
     (subst (λ (k : ℕ). k < length m) place (omega (arith, there, len)), subst (λ (k : ℕ). (entry_at m k).facts ≡ None) place (no_name m (first_free (facts_in m)) (free_has_no_name (facts_in m))))
 
@@ -206,14 +206,14 @@ create_left m s n x h good fresh name is =
     record {
       facts = (name, new, refl);
       code = w.code;
-      fixed = length-splice (entry_at m s.place).fixed s.sizes.init zs (omega (arith, len, fixed, init, long)) ∙ w.fixed;
+      fixed = length_splice (entry_at m s.place).fixed s.sizes.init zs (omega (arith, len, fixed, init, long)) ∙ w.fixed;
       dir = w.dir;
       fci = w.fci;
     } in
     let facts : facts_in e ≡ slice_set (facts_in m) s.place (Some (new_facts s.sizes n)) = facts_set m s.place x ∙ ap (λ (y : Entry). slice_set (facts_in m) s.place y.facts) is in
     record {
       memory = record {
-        room = sym (length-facts e) ∙ ap length facts ∙ length-set (facts_in m) s.place (Some (new_facts s.sizes n)) ∙ length-facts m ∙ h.room;
+        room = sym (length_facts e) ∙ ap length facts ∙ length-set (facts_in m) s.place (Some (new_facts s.sizes n)) ∙ length_facts m ∙ h.room;
         whole = whole_set m s.place x h.whole (subst IsWholeEntry (sym is) whole);
         apart = subst AreApart (sym facts) (apart_set (facts_in m) s.place (new_facts s.sizes n) none h.apart);
       };

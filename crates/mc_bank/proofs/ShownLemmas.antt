@@ -6,14 +6,14 @@ use Rattle.mc_model_device.specs.Card.{App}
 use Rattle.mc_bank.specs.declared.bank.Facts.{Facts}
 use Rattle.mc_bank.specs.declared.entries.Entry.{Entry}
 use Rattle.mc_bank.specs.Bank.{app_of, sizes_of}
-use Rattle.mc_bank.specs.Memory.{facts_in, name_in, named_at, memory_named, has, app_in, apps_from, entry_at, AreFacts, IsMemory}
+use Rattle.mc_bank.specs.Memory.{facts_in, name_in, name_of_entry, memory_named, has, app_in, apps_from, entry_at, AreFacts, IsMemory}
 use Rattle.mc_bank.specs.EntryLaws.{named_here, named_is, lookup_is, sizes_are, whole_at}
 use Rattle.mc_bank.specs.MemoryLaws.{split, app_is}
 use Rattle.mc_bank.specs.Slots.{slot_number, slot_place, AreDigits}
 use Rattle.mc_bank.specs.SlotLaws.{place_back, sizes_back, slot_named, name_there as slot_name_there}
 use Rattle.mc_bank.specs.Shown.{app_at, IsFront, AreFactsOf, EntryShows}
 use Rattle.mc_model_device.proofs.MapLemmas.{same_name}
-use Rattle.mc_model_device.proofs.BoolLemmas.{some-is}
+use Rattle.mc_model_device.proofs.BoolLemmas.{some_is}
 
 -- an element is what a list has at its place, whatever replaces a missing one
 pub entry_is : (m : List Entry) (k : ℕ) (e : Entry) → k < length m → e ≡ slice_index_or m k e → e ≡ entry_at m k
@@ -25,23 +25,23 @@ has_name : (f : Option Facts) (n : List ℕ) → has f n ≡ true → (x : Facts
 has_name None n h = absurd (cc h)
 has_name (Some f) n h = (f, refl, same_name f.aid n h)
 
-stands_named : (m : List Entry) (k : ℕ) (f : Facts) → (entry_at m k).facts ≡ Some f → k < length m → named_at (facts_in m) k ≡ Some f.aid
+stands_named : (m : List Entry) (k : ℕ) (f : Facts) → (entry_at m k).facts ≡ Some f → k < length m → name_of_entry (facts_in m) k ≡ Some f.aid
 stands_named [] k f h lt = absurd (omega arith)
 stands_named (x ∷ m) zero f h lt = ap name_in h
 stands_named (x ∷ m) (suc k) f h lt = stands_named m k f h (omega arith)
 
-pub named_of : (m : List Entry) (k : ℕ) (e : Entry) (n : List ℕ) → k < length m → e ≡ slice_index_or m k e → has e.facts n ≡ true → named_at (facts_in m) k ≡ Some n
+pub named_of : (m : List Entry) (k : ℕ) (e : Entry) (n : List ℕ) → k < length m → e ≡ slice_index_or m k e → has e.facts n ≡ true → name_of_entry (facts_in m) k ≡ Some n
 named_of m k e n lt is h =
     let f = has_name e.facts n h in
     let same = entry_is m k e lt is in
     stands_named m k f.0 (sym (ap (λ (x : Entry). x.facts) same) ∙ f.1) lt ∙ ap (λ (l : List ℕ). Some l) f.2
 
 -- the name of a slot is the one at its place
-pub slot_at : (m : List Entry) (j : ℕ) → IsSome (memory_named m j) → memory_named m j ≡ named_at (facts_in m) (slot_place j)
-slot_at m j there = slot_name_there (apps_from 0 m) j (named_at (facts_in m) (slot_place j)) there
+pub slot_at : (m : List Entry) (j : ℕ) → IsSome (memory_named m j) → memory_named m j ≡ name_of_entry (facts_in m) (slot_place j)
+slot_at m j there = slot_name_there (apps_from 0 m) j (name_of_entry (facts_in m) (slot_place j)) there
 
-pub name_at : (m : List Entry) (j : ℕ) → IsSome (memory_named m j) → (n : List ℕ) × (named_at (facts_in m) (slot_place j) ≡ Some n) × (memory_named m j ≡ Some n)
-name_at m j there = let n = some-is (memory_named m j) there in (n.0, sym (slot_at m j there) ∙ n.1, n.1)
+pub name_at : (m : List Entry) (j : ℕ) → IsSome (memory_named m j) → (n : List ℕ) × (name_of_entry (facts_in m) (slot_place j) ≡ Some n) × (memory_named m j ≡ Some n)
+name_at m j there = let n = some_is (memory_named m j) there in (n.0, sym (slot_at m j there) ∙ n.1, n.1)
 
 front : (n : ℕ) (ys : List ℕ) → n ≤ length ys → IsFront (take n ys) ys
 front n ys le at k h =
@@ -49,7 +49,7 @@ front n ys le at k h =
     let fits : at + k ≤ n = omega (arith, len, h) in
     (omega (arith, fits, le), sym (drop-take at k ys) ∙ ap (drop at) (sym (take-take (at + k) n ys fits)) ∙ drop-take at k (take n ys))
 
-tells : (m : List Entry) (j k : ℕ) (f : Facts) → k < length m → IsMemory m → (entry_at m k).facts ≡ Some f → named_at (facts_in m) k ≡ Some f.aid → memory_named m j ≡ Some f.aid → app_at m j ≡ app_in k (entry_at m k) f.sizes → AreFactsOf m j f
+tells : (m : List Entry) (j k : ℕ) (f : Facts) → k < length m → IsMemory m → (entry_at m k).facts ≡ Some f → name_of_entry (facts_in m) k ≡ Some f.aid → memory_named m j ≡ Some f.aid → app_at m j ≡ app_in k (entry_at m k) f.sizes → AreFactsOf m j f
 tells m j k f lt h stands named own app =
     let w = whole_at m k lt h.whole in
     let facts = subst AreFacts stands w.facts in
@@ -60,7 +60,7 @@ tells m j k f lt h stands named own app =
       limits = facts.1;
     }
 
-shows_by : (m : List Entry) (j : ℕ) (n : List ℕ) → IsMemory m → named_at (facts_in m) (slot_place j) ≡ Some n → memory_named m j ≡ Some n → EntryShows m j (entry_at m (slot_place j))
+shows_by : (m : List Entry) (j : ℕ) (n : List ℕ) → IsMemory m → name_of_entry (facts_in m) (slot_place j) ≡ Some n → memory_named m j ≡ Some n → EntryShows m j (entry_at m (slot_place j))
 shows_by m j n h named own =
     let k = slot_place j in
     let here = named_here m k n named in
@@ -83,12 +83,12 @@ shows_by m j n h named own =
 pub shows : (m : List Entry) (j : ℕ) → IsMemory m → IsSome (memory_named m j) → EntryShows m j (entry_at m (slot_place j))
 shows m j h there = let n = name_at m j there in shows_by m j n.0 h n.1 n.2
 
-pub place_within : (m : List Entry) (k : ℕ) → IsSome (named_at (facts_in m) k) → k < length m
-place_within m k there = let n = some-is (named_at (facts_in m) k) there in (named_here m k n.0 n.1).within
+pub place_within : (m : List Entry) (k : ℕ) → IsSome (name_of_entry (facts_in m) k) → k < length m
+place_within m k there = let n = some_is (name_of_entry (facts_in m) k) there in (named_here m k n.0 n.1).within
 
-pub place_used : (m : List Entry) (k : ℕ) (e : Entry) → e ≡ entry_at m k → IsSome (named_at (facts_in m) k) → IsSome e.facts
+pub place_used : (m : List Entry) (k : ℕ) (e : Entry) → e ≡ entry_at m k → IsSome (name_of_entry (facts_in m) k) → IsSome e.facts
 place_used m k e is there =
-    let n = some-is (named_at (facts_in m) k) there in
+    let n = some_is (name_of_entry (facts_in m) k) there in
     ap (λ (x : Entry). is_some x.facts) is ∙ ap is_some (named_here m k n.0 n.1).stands
 
 pub slot_within : (m : List Entry) (j : ℕ) → IsSome (memory_named m j) → slot_place j < length m
@@ -101,9 +101,9 @@ pub slot_entry : (m : List Entry) (j k : ℕ) (e : Entry) → IsSome (memory_nam
 slot_entry m j k e there is at = entry_is m k e (place_is_within m j k there is) at ∙ ap (entry_at m) is
 
 -- the slot of a name at a place
-pub slot_of_place : (m : List Entry) (k : ℕ) (f : Facts) → IsMemory m → IsSome (named_at (facts_in m) k) → (entry_at m k).facts ≡ Some f → memory_named m (slot_number k f.sizes) ≡ named_at (facts_in m) k
+pub slot_of_place : (m : List Entry) (k : ℕ) (f : Facts) → IsMemory m → IsSome (name_of_entry (facts_in m) k) → (entry_at m k).facts ≡ Some f → memory_named m (slot_number k f.sizes) ≡ name_of_entry (facts_in m) k
 slot_of_place m k f h there stands =
-    let n = some-is (named_at (facts_in m) k) there in
+    let n = some_is (name_of_entry (facts_in m) k) there in
     let here = named_here m k n.0 n.1 in
     let s = split m k n.0 n.1 h.apart in
     let w = whole_at m k here.within h.whole in
@@ -126,7 +126,7 @@ slot_of_place m k f h there stands =
     let place : slot_place (slot_number k f.sizes) ≡ k = place_back k f.sizes digits in
     let sizes : sizes_of (app_of (apps_from 0 m) (Some n.0)) ≡ f.sizes =
     ap sizes_of (app_is m k n.0 s) ∙ ap (λ (x : Facts). sizes_of (app_in k (entry_at m k) x.sizes)) one ∙ sizes_are k (entry_at m k) f.sizes facts.1 facts.2 w in
-    slot_named (apps_from 0 m) (slot_number k f.sizes) (named_at (facts_in m) (slot_place (slot_number k f.sizes))) n.0
-    (ap (named_at (facts_in m)) place ∙ n.1)
+    slot_named (apps_from 0 m) (slot_number k f.sizes) (name_of_entry (facts_in m) (slot_place (slot_number k f.sizes))) n.0
+    (ap (name_of_entry (facts_in m)) place ∙ n.1)
     (sizes_back k f.sizes digits ∙ sym sizes)
     ∙ sym n.1

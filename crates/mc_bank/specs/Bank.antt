@@ -85,10 +85,10 @@ part_len Dir s = s.dir
 part_len Fci s = s.fci
 
 -- the result of a search for room, by whether 32 applications are there, and by the place at which there is room
-abbrev pub opened : Sizes → Bool → Option ℕ → Result Site OpenRefusal
-opened s true room = Err Apps
-opened s false None = Err NoRoom
-opened s false (Some p) = Ok (record { sizes = s; place = p })
+abbrev pub search_result : Sizes → Bool → Option ℕ → Result Site OpenRefusal
+search_result s true room = Err Apps
+search_result s false None = Err NoRoom
+search_result s false (Some p) = Ok (record { sizes = s; place = p })
 
 -- a search for room could return this site
 pub record IsGoodSite (apps : List (List ℕ × App)) (room : Sizes → Option ℕ) (s : Site) : Type 0 where
@@ -122,14 +122,14 @@ abbrev pub with_words : List (ℕ × List ℕ) → App → App
 with_words ws a = record a { fixed = laid_words a.fixed ws }
 
 -- the applications with words laid over the static bytes of one
-abbrev pub committed : List (List ℕ × App) → List ℕ → List (ℕ × List ℕ) → List (List ℕ × App)
-committed apps n ws = insert apps n (with_words ws (app_of apps (Some n)))
+abbrev pub apps_after_commit : List (List ℕ × App) → List ℕ → List (ℕ × List ℕ) → List (List ℕ × App)
+apps_after_commit apps n ws = insert apps n (with_words ws (app_of apps (Some n)))
 
 -- ---- items
 
 -- the application that is created of the bytes at a site: its static bytes are the data, followed by zeros
-abbrev pub entered : Site → (Part → List ℕ) → App
-entered s standing =
+abbrev pub app_of_site : Site → (Part → List ℕ) → App
+app_of_site s standing =
     record {
       code = standing Code;
       fixed = standing Data ++ zeros (s.sizes.fixed - s.sizes.init);
@@ -145,8 +145,8 @@ abbrev pub item_done : (Site → Part → List ℕ) → BankItem → List (List 
 item_done standing (Piece s p at b) apps = apps
 item_done standing (Blank s at n) apps = apps
 item_done standing (Note s n i) apps = apps
-item_done standing (Commit n ws) apps = committed apps n ws
-item_done standing (Enter s n) apps = insert apps n (entered s (standing s))
+item_done standing (Commit n ws) apps = apps_after_commit apps n ws
+item_done standing (Enter s n) apps = insert apps n (app_of_site s (standing s))
 item_done standing (Remove n) apps = remove apps n
 
 -- an item leaves the application of a name on the card

@@ -10,8 +10,8 @@ use Rattle.mc_model_device.specs.Card.{App}
 use Rattle.mc_bank.specs.declared.bank.Facts.{Facts}
 use Rattle.mc_bank.specs.declared.entries.Entry.{Entry}
 use Rattle.mc_bank.specs.Bank.{IsApplication, AreApps, FitsLimits, sizes_of}
-use Rattle.mc_bank.specs.Memory.{facts_in, name_in, named_at, first_free, used, has, is_named, IsApart, AreApart, app_in, with_entry, apps_from, entry_at, AreFacts, IsWholeEntry, IsMemory}
-use Rattle.mc_model_device.proofs.MapLemmas.{same_name, name_is_itself, other_way, lookup-inserted, lookup-beside, length-inserted, insert-swap, each-inserted, ascending-inserted}
+use Rattle.mc_bank.specs.Memory.{facts_in, name_in, name_of_entry, first_free, count_of_used, has, is_named, IsApart, AreApart, app_in, with_entry, apps_from, entry_at, AreFacts, IsWholeEntry, IsMemory}
+use Rattle.mc_model_device.proofs.MapLemmas.{same_name, name_is_itself, other_way, lookup_inserted_lem, lookup_beside, length_inserted, insert_swap, each_inserted, ascending_inserted}
 use Rattle.mc_model_device.proofs.BoolLemmas.{no_value}
 
 -- ---- facts
@@ -27,9 +27,9 @@ facts_kept [] k e h = refl
 facts_kept (x ∷ m) zero e h = ap (λ f. f ∷ facts_in m) h
 facts_kept (x ∷ m) (suc k) e h = ap (λ fs. x.facts ∷ fs) (facts_kept m k e h)
 
-pub length-facts : (m : List Entry) → length (facts_in m) ≡ length m
-length-facts [] = refl
-length-facts (x ∷ m) = ap suc (length-facts m)
+pub length_facts : (m : List Entry) → length (facts_in m) ≡ length m
+length_facts [] = refl
+length_facts (x ∷ m) = ap suc (length_facts m)
 
 -- ---- names
 
@@ -44,13 +44,13 @@ here_is : (x : Entry) (m : List Entry) (n : List ℕ) (f : Option Facts) → x.f
 here_is x m n None e h = absurd (cc h)
 here_is x m n (Some f) e h = record { facts = f; stands = e; name = cc h; within = omega arith }
 
-pub named_here : (m : List Entry) (k : ℕ) (n : List ℕ) → named_at (facts_in m) k ≡ Some n → EntryOfName m k n
+pub named_here : (m : List Entry) (k : ℕ) (n : List ℕ) → name_of_entry (facts_in m) k ≡ Some n → EntryOfName m k n
 named_here [] k n h = absurd (cc h)
 named_here (x ∷ m) zero n h = here_is x m n x.facts refl h
 named_here (x ∷ m) (suc k) n h = let r = named_here m k n h in let w = r.within in record { facts = r.facts; stands = r.stands; name = r.name; within = omega arith }
 
 -- a name stays when another entry changes
-pub named_other : (fs : List (Option Facts)) (k : ℕ) (f : Option Facts) (j : ℕ) (n : List ℕ) → named_at fs j ≡ Some n → named_at fs k ≢ Some n → named_at (slice_set fs k f) j ≡ Some n
+pub named_other : (fs : List (Option Facts)) (k : ℕ) (f : Option Facts) (j : ℕ) (n : List ℕ) → name_of_entry fs j ≡ Some n → name_of_entry fs k ≢ Some n → name_of_entry (slice_set fs k f) j ≡ Some n
 named_other [] k f j n h p = h
 named_other (g ∷ fs) zero f zero n h p = absurd (p h)
 named_other (g ∷ fs) zero f (suc j) n h p = h
@@ -61,17 +61,17 @@ has_name_in : (f : Option Facts) (n : List ℕ) → name_in f ≡ Some n → has
 has_name_in None n h = absurd (cc h)
 has_name_in (Some f) n h = subst (λ (m : List ℕ). bytes_eq f.aid m ≡ true) (cc h) (name_is_itself f.aid)
 
-pub named_is : (fs : List (Option Facts)) (k : ℕ) (n : List ℕ) → named_at fs k ≡ Some n → is_named fs n ≡ true
+pub named_is : (fs : List (Option Facts)) (k : ℕ) (n : List ℕ) → name_of_entry fs k ≡ Some n → is_named fs n ≡ true
 named_is [] k n h = absurd (cc h)
 named_is (f ∷ fs) zero n h = ap (λ b. b || is_named fs n) (has_name_in f n h)
 named_is (f ∷ fs) (suc k) n h = grind (arith, named_is fs k n h)
 
-pub free_has_no_name : (fs : List (Option Facts)) → named_at fs (first_free fs) ≡ None
+pub free_has_no_name : (fs : List (Option Facts)) → name_of_entry fs (first_free fs) ≡ None
 free_has_no_name [] = refl
 free_has_no_name (None ∷ fs) = refl
 free_has_no_name (Some f ∷ fs) = free_has_no_name fs
 
-pub free_is_there : (fs : List (Option Facts)) → used fs < length fs → first_free fs < length fs
+pub free_is_there : (fs : List (Option Facts)) → count_of_used fs < length fs → first_free fs < length fs
 free_is_there [] h = h
 free_is_there (None ∷ fs) h = omega arith
 free_is_there (Some f ∷ fs) h = let r = free_is_there fs (omega arith) in omega (arith, r)
@@ -80,12 +80,12 @@ unused : (f : Option Facts) → name_in f ≡ None → f ≡ None
 unused None h = refl
 unused (Some f) h = absurd (cc h)
 
-pub no_name : (m : List Entry) (k : ℕ) → named_at (facts_in m) k ≡ None → (entry_at m k).facts ≡ None
+pub no_name : (m : List Entry) (k : ℕ) → name_of_entry (facts_in m) k ≡ None → (entry_at m k).facts ≡ None
 no_name [] k h = refl
 no_name (x ∷ m) zero h = unused x.facts h
 no_name (x ∷ m) (suc k) h = no_name m k h
 
-pub free_named : (m : List Entry) (k : ℕ) → (entry_at m k).facts ≡ None → named_at (facts_in m) k ≡ None
+pub free_named : (m : List Entry) (k : ℕ) → (entry_at m k).facts ≡ None → name_of_entry (facts_in m) k ≡ None
 free_named [] k h = refl
 free_named (x ∷ m) zero h = ap name_in h
 free_named (x ∷ m) (suc k) h = free_named m k h
@@ -139,7 +139,7 @@ first_gone : (f : Option Facts) (fs : List (Option Facts)) (n : List ℕ) → na
 first_gone None fs n e h = absurd (cc e)
 first_gone (Some f) fs n e h = subst (λ (m : List ℕ). is_named fs m ≡ false) (cc e) h
 
-pub name_gone : (fs : List (Option Facts)) (k : ℕ) (n : List ℕ) → AreApart fs → named_at fs k ≡ Some n → is_named (slice_set fs k None) n ≡ false
+pub name_gone : (fs : List (Option Facts)) (k : ℕ) (n : List ℕ) → AreApart fs → name_of_entry fs k ≡ Some n → is_named (slice_set fs k None) n ≡ false
 name_gone [] k n h p = refl
 name_gone (f ∷ fs) zero n h p = first_gone f fs n p h.0
 name_gone (f ∷ fs) (suc k) n h p =
@@ -152,8 +152,8 @@ lookup_one j x None apps n = refl
 lookup_one j x (Some f) apps n = by_test (bytes_eq f.aid n) refl
   where
     by_test : (b : Bool) → bytes_eq f.aid n ≡ b → is_some (lookup (insert apps f.aid (app_in j x f.sizes)) n) ≡ b || is_some (lookup apps n)
-    by_test false e = ap is_some (lookup-beside apps f.aid (app_in j x f.sizes) n e)
-    by_test true e = ap is_some (subst (λ (k : List ℕ). lookup (insert apps f.aid (app_in j x f.sizes)) k ≡ Some (app_in j x f.sizes)) (same_name f.aid n e) (lookup-inserted apps f.aid (app_in j x f.sizes)))
+    by_test false e = ap is_some (lookup_beside apps f.aid (app_in j x f.sizes) n e)
+    by_test true e = ap is_some (subst (λ (k : List ℕ). lookup (insert apps f.aid (app_in j x f.sizes)) k ≡ Some (app_in j x f.sizes)) (same_name f.aid n e) (lookup_inserted_lem apps f.aid (app_in j x f.sizes)))
 
 -- a name is in the map if and only if an entry has it
 pub lookup_is : (j : ℕ) (m : List Entry) (n : List ℕ) → is_some (lookup (apps_from j m) n) ≡ is_named (facts_in m) n
@@ -171,7 +171,7 @@ apps_free j (x ∷ m) (suc k) u h p = ap (with_entry j x x.facts) (apps_free (su
 
 swapped : (j : ℕ) (x : Entry) (f : Option Facts) (apps : List (List ℕ × App)) (n : List ℕ) (a : App) → has f n ≡ false → with_entry j x f (insert apps n a) ≡ insert (with_entry j x f apps) n a
 swapped j x None apps n a h = refl
-swapped j x (Some f) apps n a h = insert-swap apps n a f.aid (app_in j x f.sizes) (other_way f.aid n h)
+swapped j x (Some f) apps n a h = insert_swap apps n a f.aid (app_in j x f.sizes) (other_way f.aid n h)
 
 -- an entry that is used is an insertion into what is there without it
 pub apps_set : (j : ℕ) (m : List Entry) (k : ℕ) (e u : Entry) (f : Facts) → k < length m → e.facts ≡ Some f → u.facts ≡ None → is_named (slice_set (facts_in m) k None) f.aid ≡ false
@@ -200,23 +200,23 @@ whole_at [] k lt h = absurd (omega arith)
 whole_at (x ∷ m) zero lt h = h.0
 whole_at (x ∷ m) (suc k) lt h = whole_at m k (omega arith) h.1
 
-one_more : (j : ℕ) (x : Entry) (f : Option Facts) (m : List Entry) → IsApart f (facts_in m) → length (apps_from (suc j) m) ≡ used (facts_in m) → length (with_entry j x f (apps_from (suc j) m)) ≡ used (f ∷ facts_in m)
+one_more : (j : ℕ) (x : Entry) (f : Option Facts) (m : List Entry) → IsApart f (facts_in m) → length (apps_from (suc j) m) ≡ count_of_used (facts_in m) → length (with_entry j x f (apps_from (suc j) m)) ≡ count_of_used (f ∷ facts_in m)
 one_more j x None m h r = r
-one_more j x (Some f) m h r = length-inserted (apps_from (suc j) m) f.aid (app_in j x f.sizes) (lookup_none (suc j) m f.aid h) ∙ ap suc r
+one_more j x (Some f) m h r = length_inserted (apps_from (suc j) m) f.aid (app_in j x f.sizes) (lookup_none (suc j) m f.aid h) ∙ ap suc r
 
 -- there are as many applications as used entries
-pub length-apps : (j : ℕ) (m : List Entry) → AreApart (facts_in m) → length (apps_from j m) ≡ used (facts_in m)
-length-apps j [] h = refl
-length-apps j (x ∷ m) h = one_more j x x.facts m h.0 (length-apps (suc j) m h.1)
+pub length_apps : (j : ℕ) (m : List Entry) → AreApart (facts_in m) → length (apps_from j m) ≡ count_of_used (facts_in m)
+length_apps j [] h = refl
+length_apps j (x ∷ m) h = one_more j x x.facts m h.0 (length_apps (suc j) m h.1)
 
-pub used_few : (fs : List (Option Facts)) → used fs ≤ length fs
+pub used_few : (fs : List (Option Facts)) → count_of_used fs ≤ length fs
 used_few [] = omega arith
 used_few (None ∷ fs) = let r = used_few fs in omega (arith, r)
 used_few (Some f ∷ fs) = let r = used_few fs in omega (arith, r)
 
 in_order : (j : ℕ) (x : Entry) (f : Option Facts) (apps : List (List ℕ × App)) → AscendByName apps → AscendByName (with_entry j x f apps)
 in_order j x None apps h = h
-in_order j x (Some f) apps h = ascending-inserted apps f.aid (app_in j x f.sizes) h
+in_order j x (Some f) apps h = ascending_inserted apps f.aid (app_in j x f.sizes) h
 
 pub apps_ascend : (j : ℕ) (m : List Entry) → AscendByName (apps_from j m)
 apps_ascend j [] = tt
@@ -234,7 +234,7 @@ sizes_are j x s h p w =
 entry_holds : (j : ℕ) (x : Entry) (f : Option Facts) (apps : List (List ℕ × App)) → AreFacts f → IsWholeEntry x → AllByRecursion IsApplication apps → AllByRecursion IsApplication (with_entry j x f apps)
 entry_holds j x None apps h w r = r
 entry_holds j x (Some f) apps h w r =
-    each-inserted IsApplication apps f.aid (app_in j x f.sizes) (record { name = h.0; limits = subst FitsLimits (sym (sizes_are j x f.sizes h.1 h.2 w)) h.1 }) r
+    each_inserted IsApplication apps f.aid (app_in j x f.sizes) (record { name = h.0; limits = subst FitsLimits (sym (sizes_are j x f.sizes h.1 h.2 w)) h.1 }) r
 
 pub each_holds : (j : ℕ) (m : List Entry) → AllByRecursion IsWholeEntry m → AllByRecursion IsApplication (apps_from j m)
 each_holds j [] h = tt
@@ -242,8 +242,8 @@ each_holds j (x ∷ m) h = entry_holds j x x.facts (apps_from (suc j) m) h.0.fac
 
 pub are_apps : (m : List Entry) → IsMemory m → AreApps (apps_from 0 m)
 are_apps m h =
-    let count = length-apps 0 m h.apart in
+    let count = length_apps 0 m h.apart in
     let few = used_few (facts_in m) in
-    let all = length-facts m in
+    let all = length_facts m in
     let room = h.room in
     record { few = omega (arith, count, few, all, room); each = each_holds 0 m h.whole; ascending = apps_ascend 0 m }

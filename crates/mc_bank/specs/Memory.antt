@@ -28,10 +28,10 @@ name_in None = None
 name_in (Some f) = Some f.aid
 
 -- the name of the entry with a number
-abbrev pub named_at : List (Option Facts) → ℕ → Option (List ℕ)
-named_at [] k = None
-named_at (f ∷ fs) zero = name_in f
-named_at (f ∷ fs) (suc k) = named_at fs k
+abbrev pub name_of_entry : List (Option Facts) → ℕ → Option (List ℕ)
+name_of_entry [] k = None
+name_of_entry (f ∷ fs) zero = name_in f
+name_of_entry (f ∷ fs) (suc k) = name_of_entry fs k
 
 -- the number of the first free entry; if none is free, the number of entries
 abbrev pub first_free : List (Option Facts) → ℕ
@@ -40,10 +40,10 @@ first_free (None ∷ fs) = 0
 first_free (Some f ∷ fs) = suc (first_free fs)
 
 -- the number of used entries
-abbrev pub used : List (Option Facts) → ℕ
-used [] = 0
-used (None ∷ fs) = used fs
-used (Some f ∷ fs) = suc (used fs)
+abbrev pub count_of_used : List (Option Facts) → ℕ
+count_of_used [] = 0
+count_of_used (None ∷ fs) = count_of_used fs
+count_of_used (Some f ∷ fs) = suc (count_of_used fs)
 
 -- whether an entry is used and has this name
 abbrev pub has : Option Facts → List ℕ → Bool
@@ -92,7 +92,7 @@ apps_from k (e ∷ es) = with_entry k e e.facts (apps_from (suc k) es)
 
 -- the name of a slot
 abbrev pub memory_named : List Entry → ℕ → Option (List ℕ)
-memory_named m k = name_of_slot (apps_from 0 m) k (named_at (facts_in m) (slot_place k))
+memory_named m k = name_of_slot (apps_from 0 m) k (name_of_entry (facts_in m) (slot_place k))
 
 -- the state of a bank in memory, which never stops
 abbrev pub memory_state : List Entry → BankState
@@ -143,8 +143,8 @@ abbrev pub with_list : List (ℕ × List ℕ) → Entry → Entry
 with_list ws e = record e { fixed = laid_pieces e.fixed (word_pieces ws) }
 
 -- the entry made free
-abbrev pub freed : Entry → Entry
-freed e = record e { facts = None }
+abbrev pub free_entry : Entry → Entry
+free_entry e = record e { facts = None }
 
 -- the size of the static segment of an entry that is used
 abbrev pub fixed_len : Option Facts → ℕ
@@ -182,7 +182,7 @@ pub record PieceDone (m : List Entry) (s : Site) (p : Part) (at : ℕ) (b : List
 -- words go into the entry of a name
 pub record CommitDone (m : List Entry) (n : List ℕ) (ws : List (ℕ × List ℕ)) (e : List Entry) : Type 0 where
   pub slot : ℕ
-  pub named : named_at (facts_in m) slot ≡ Some n
+  pub named : name_of_entry (facts_in m) slot ≡ Some n
   pub apart : AreApart (facts_in m)
   pub within : AllByRecursion (λ w. 8 * w.0 < fixed_len (entry_at m slot).facts) ws
   pub whole : fixed_len (entry_at m slot).facts ≤ length (entry_at m slot).fixed
@@ -200,9 +200,9 @@ pub record EnterDone (m : List Entry) (s : Site) (n : List ℕ) (e : List Entry)
 -- a name is removed
 pub record RemoveDone (m : List Entry) (n : List ℕ) (e : List Entry) : Type 0 where
   pub slot : ℕ
-  pub named : named_at (facts_in m) slot ≡ Some n
+  pub named : name_of_entry (facts_in m) slot ≡ Some n
   pub apart : AreApart (facts_in m)
-  pub after : e ≡ slice_set m slot (freed (entry_at m slot))
+  pub after : e ≡ slice_set m slot (free_entry (entry_at m slot))
 
 -- an item that is done at once: the creation sets the zeros after the data, and the plain writes before it change nothing
 abbrev pub ItemDone : List Entry → BankItem → List Entry → Type 0

@@ -9,22 +9,22 @@ use Rattle.mc_model_device.specs.Bytes.{lookup, insert, remove, splice}
 use Rattle.mc_model_device.specs.Pieces.{laid_pieces, laid_words, word_pieces}
 use Rattle.mc_model_device.specs.Card.{App}
 use Rattle.mc_model_card.specs.Items.{Site, BankItem, Piece, Blank, Note, Commit, Enter, Remove}
-use Rattle.mc_model_device.proofs.ListLemmas.{splice-longer as splice-long}
-use Rattle.mc_bank.specs.Bank.{app_of, no_app, sizes_of, with_words, entered, item_done, Spares}
-use Rattle.mc_bank.specs.Slots.{slot_number, digit, slot_place, slot_sizes, listed, same_sizes, name_of_slot, AreDigits}
-use Rattle.mc_model_device.proofs.MapLemmas.{same_name, name_is_itself, lookup-inserted, lookup-beside, lookup-left}
-use Rattle.mc_model_device.proofs.BoolLemmas.{some-is}
+use Rattle.mc_model_device.proofs.ListLemmas.{splice_longer as splice-long}
+use Rattle.mc_bank.specs.Bank.{app_of, no_app, sizes_of, with_words, app_of_site, item_done, Spares}
+use Rattle.mc_bank.specs.Slots.{slot_number, digit, slot_place, slot_sizes, list_of_sizes, same_sizes, name_of_slot, AreDigits}
+use Rattle.mc_model_device.proofs.MapLemmas.{same_name, name_is_itself, lookup_inserted_lem, lookup_beside, lookup_left}
+use Rattle.mc_model_device.proofs.BoolLemmas.{some_is}
 
 -- ---- digits
 
-digit-here : (a b : ℕ) → a < 65536 → digit 0 (a + 65536 * b) ≡ a
-digit-here a b h = omega arith
+digit_here : (a b : ℕ) → a < 65536 → digit 0 (a + 65536 * b) ≡ a
+digit_here a b h = omega arith
 
-digit-next : (i a b : ℕ) → a < 65536 → digit (suc i) (a + 65536 * b) ≡ digit i b
-digit-next i a b h = let e : (a + 65536 * b) / 65536 ≡ b = omega arith in ap (λ (n : ℕ). digit i n) e
+digit_next : (i a b : ℕ) → a < 65536 → digit (suc i) (a + 65536 * b) ≡ digit i b
+digit_next i a b h = let e : (a + 65536 * b) / 65536 ≡ b = omega arith in ap (λ (n : ℕ). digit i n) e
 
 pub place_back : (p : ℕ) (s : Sizes) → AreDigits p s → slot_place (slot_number p s) ≡ p
-place_back p s d = digit-here p (s.code + 65536 * (s.fixed + 65536 * (s.init + 65536 * (s.session + 65536 * (s.dir + 65536 * (s.fci + 65536 * s.deny)))))) d.place
+place_back p s d = digit_here p (s.code + 65536 * (s.fixed + 65536 * (s.init + 65536 * (s.session + 65536 * (s.dir + 65536 * (s.fci + 65536 * s.deny)))))) d.place
 
 pub sizes_back : (p : ℕ) (s : Sizes) → AreDigits p s → slot_sizes (slot_number p s) ≡ s
 sizes_back p s d =
@@ -35,17 +35,17 @@ sizes_back p s d =
     let a = s.fixed + 65536 * b in
     let t = s.code + 65536 * a in
     let k = p + 65536 * t in
-    let code : digit 1 k ≡ s.code = digit-next 0 p t d.place ∙ digit-here s.code a d.code in
-    let two : (i : ℕ) → digit (suc (suc i)) k ≡ digit i a = λ i. digit-next (suc i) p t d.place ∙ digit-next i s.code a d.code in
-    let four : (i : ℕ) → digit (suc (suc (suc (suc i)))) k ≡ digit i c = λ i. two (suc (suc i)) ∙ digit-next (suc i) s.fixed b d.fixed ∙ digit-next i s.init c d.init in
-    let six : (i : ℕ) → digit (suc (suc (suc (suc (suc (suc i)))))) k ≡ digit i f = λ i. four (suc (suc i)) ∙ digit-next (suc i) s.session e d.session ∙ digit-next i s.dir f d.dir in
-    let fixed : digit 2 k ≡ s.fixed = two 0 ∙ digit-here s.fixed b d.fixed in
-    let init : digit 3 k ≡ s.init = two 1 ∙ digit-next 0 s.fixed b d.fixed ∙ digit-here s.init c d.init in
-    let session : digit 4 k ≡ s.session = four 0 ∙ digit-here s.session e d.session in
-    let dir : digit 5 k ≡ s.dir = four 1 ∙ digit-next 0 s.session e d.session ∙ digit-here s.dir f d.dir in
-    let fci : digit 6 k ≡ s.fci = six 0 ∙ digit-here s.fci s.deny d.fci in
+    let code : digit 1 k ≡ s.code = digit_next 0 p t d.place ∙ digit_here s.code a d.code in
+    let two : (i : ℕ) → digit (suc (suc i)) k ≡ digit i a = λ i. digit_next (suc i) p t d.place ∙ digit_next i s.code a d.code in
+    let four : (i : ℕ) → digit (suc (suc (suc (suc i)))) k ≡ digit i c = λ i. two (suc (suc i)) ∙ digit_next (suc i) s.fixed b d.fixed ∙ digit_next i s.init c d.init in
+    let six : (i : ℕ) → digit (suc (suc (suc (suc (suc (suc i)))))) k ≡ digit i f = λ i. four (suc (suc i)) ∙ digit_next (suc i) s.session e d.session ∙ digit_next i s.dir f d.dir in
+    let fixed : digit 2 k ≡ s.fixed = two 0 ∙ digit_here s.fixed b d.fixed in
+    let init : digit 3 k ≡ s.init = two 1 ∙ digit_next 0 s.fixed b d.fixed ∙ digit_here s.init c d.init in
+    let session : digit 4 k ≡ s.session = four 0 ∙ digit_here s.session e d.session in
+    let dir : digit 5 k ≡ s.dir = four 1 ∙ digit_next 0 s.session e d.session ∙ digit_here s.dir f d.dir in
+    let fci : digit 6 k ≡ s.fci = six 0 ∙ digit_here s.fci s.deny d.fci in
     let last : s.deny % 65536 ≡ s.deny = let low = d.deny in omega (arith, low) in
-    let deny : digit 7 k ≡ s.deny = six 1 ∙ digit-next 0 s.fci s.deny d.fci ∙ last in
+    let deny : digit 7 k ≡ s.deny = six 1 ∙ digit_next 0 s.fci s.deny d.fci ∙ last in
     rw (code, fixed, init, session, dir, fci, deny) refl
 
 pub slot_back : (p : ℕ) (s : Sizes) → AreDigits p s → ◌≡◌ {A = ℕ × Sizes} (slot_place (slot_number p s), slot_sizes (slot_number p s)) (p, s)
@@ -60,10 +60,10 @@ sizes_in (a ∷ b ∷ c ∷ d ∷ e ∷ f ∷ g ∷ rest) = record { code = a; f
 sizes_in rest = record { code = 0; fixed = 0; init = 0; session = 0; dir = 0; fci = 0; deny = 0 }
 
 pub same_is : (a b : Sizes) → same_sizes a b ≡ true → a ≡ b
-same_is a b h = ap sizes_in (same_name (listed a) (listed b) h)
+same_is a b h = ap sizes_in (same_name (list_of_sizes a) (list_of_sizes b) h)
 
 pub same_self : (a b : Sizes) → a ≡ b → same_sizes a b ≡ true
-same_self a b h = ap (λ (s : Sizes). same_sizes a s) (sym h) ∙ name_is_itself (listed a)
+same_self a b h = ap (λ (s : Sizes). same_sizes a s) (sym h) ∙ name_is_itself (list_of_sizes a)
 
 -- ---- the name of a slot
 
@@ -72,17 +72,17 @@ pub record HasSizes (apps : List (List ℕ × App)) (k : ℕ) (o : Option (List 
   pub name : o ≡ Some n
   pub sizes : slot_sizes k ≡ sizes_of (app_of apps (Some n))
 
-has-kind : (apps : List (List ℕ × App)) (k : ℕ) (m n : List ℕ) (t : Bool) → same_sizes (slot_sizes k) (sizes_of (app_of apps (Some m))) ≡ t → cond t (Some m) None ≡ Some n → HasSizes apps k (Some m) n
-has-kind apps k m n true same h =
+has_kind : (apps : List (List ℕ × App)) (k : ℕ) (m n : List ℕ) (t : Bool) → same_sizes (slot_sizes k) (sizes_of (app_of apps (Some m))) ≡ t → cond t (Some m) None ≡ Some n → HasSizes apps k (Some m) n
+has_kind apps k m n true same h =
     record {
       name = h;
       sizes = same_is (slot_sizes k) (sizes_of (app_of apps (Some m))) same ∙ ap (λ (o : Option (List ℕ)). sizes_of (app_of apps o)) h;
     }
-has-kind apps k m n false same h = absurd (cc h)
+has_kind apps k m n false same h = absurd (cc h)
 
 pub has_sizes : (apps : List (List ℕ × App)) (k : ℕ) (o : Option (List ℕ)) (n : List ℕ) → name_of_slot apps k o ≡ Some n → HasSizes apps k o n
 has_sizes apps k None n h = absurd (cc h)
-has_sizes apps k (Some m) n h = has-kind apps k m n (same_sizes (slot_sizes k) (sizes_of (app_of apps (Some m)))) refl h
+has_sizes apps k (Some m) n h = has_kind apps k m n (same_sizes (slot_sizes k) (sizes_of (app_of apps (Some m)))) refl h
 
 pub slot_named : (apps : List (List ℕ × App)) (k : ℕ) (o : Option (List ℕ)) (n : List ℕ) → o ≡ Some n → slot_sizes k ≡ sizes_of (app_of apps (Some n)) → name_of_slot apps k o ≡ Some n
 slot_named apps k o n name sizes =
@@ -90,7 +90,7 @@ slot_named apps k o n name sizes =
 
 -- a slot that has a name has the one at its place
 pub name_there : (apps : List (List ℕ × App)) (k : ℕ) (o : Option (List ℕ)) → IsSome (name_of_slot apps k o) → name_of_slot apps k o ≡ o
-name_there apps k o h = let n = some-is (name_of_slot apps k o) h in n.1 ∙ sym (has_sizes apps k o n.0 n.1).name
+name_there apps k o h = let n = some_is (name_of_slot apps k o) h in n.1 ∙ sym (has_sizes apps k o n.0 n.1).name
 
 pub some_there : (apps : List (List ℕ × App)) (k : ℕ) (o : Option (List ℕ)) → IsSome (name_of_slot apps k o) → IsSome o
 some_there apps k o h = subst (λ (x : Option (List ℕ)). IsSome x) (name_there apps k o h) h
@@ -98,7 +98,7 @@ some_there apps k o h = subst (λ (x : Option (List ℕ)). IsSome x) (name_there
 -- a slot that has a name has the sizes of its application
 pub slot_sized : (apps : List (List ℕ × App)) (k : ℕ) (o : Option (List ℕ)) → IsSome (name_of_slot apps k o) → slot_sizes k ≡ sizes_of (app_of apps (name_of_slot apps k o))
 slot_sized apps k o h =
-    let n = some-is (name_of_slot apps k o) h in
+    let n = some_is (name_of_slot apps k o) h in
     (has_sizes apps k o n.0 n.1).sizes ∙ ap (λ (x : Option (List ℕ)). sizes_of (app_of apps x)) (sym n.1)
 
 -- applications that keep their sizes keep the names of slots
@@ -108,16 +108,16 @@ slot_stays apps apps' k (Some n) same = ap (λ (z : Sizes). cond (same_sizes (sl
 
 -- ---- the sizes of an application after an item
 
-pub pieces-long : (l : List ℕ) (ws : List (ℕ × List ℕ)) → length l ≤ length (laid_pieces l (word_pieces ws))
-pieces-long l [] = omega arith
-pieces-long l (w ∷ ws) = omega (arith, splice-long l (8 * w.0) w.1, pieces-long (splice l (8 * w.0) w.1) ws)
+pub pieces_long : (l : List ℕ) (ws : List (ℕ × List ℕ)) → length l ≤ length (laid_pieces l (word_pieces ws))
+pieces_long l [] = omega arith
+pieces_long l (w ∷ ws) = omega (arith, splice-long l (8 * w.0) w.1, pieces_long (splice l (8 * w.0) w.1) ws)
 
-pub laid-length : (l : List ℕ) (ws : List (ℕ × List ℕ)) → length (laid_words l ws) ≡ length l
-laid-length l ws = length-take-le (length l) (laid_pieces l (word_pieces ws)) (pieces-long l ws)
+pub laid_length : (l : List ℕ) (ws : List (ℕ × List ℕ)) → length (laid_words l ws) ≡ length l
+laid_length l ws = length-take-le (length l) (laid_pieces l (word_pieces ws)) (pieces_long l ws)
 
 -- words laid over static bytes keep all sizes
 pub words_sized : (ws : List (ℕ × List ℕ)) (a : App) → sizes_of (with_words ws a) ≡ sizes_of a
-words_sized ws a = ap (λ (n : ℕ). record (sizes_of a) { fixed = n; init = n }) (laid-length a.fixed ws)
+words_sized ws a = ap (λ (n : ℕ). record (sizes_of a) { fixed = n; init = n }) (laid_length a.fixed ws)
 
 beside : (m n : List ℕ) → m ≢ n → bytes_eq m n ≡ false
 beside m n h = false_from_ne_true (bytes_eq m n) (λ e. h (same_name m n e))
@@ -126,7 +126,7 @@ app_some : (apps apps' : List (List ℕ × App)) (n : List ℕ) → lookup apps'
 app_some apps apps' n h = ap (λ (o : Option App). unwrap_or o no_app) h
 
 pub beside_sized : (apps : List (List ℕ × App)) (m n : List ℕ) (a : App) → m ≢ n → sizes_of (app_of (insert apps m a) (Some n)) ≡ sizes_of (app_of apps (Some n))
-beside_sized apps m n a h = ap sizes_of (app_some apps (insert apps m a) n (lookup-beside apps m a n (beside m n h)))
+beside_sized apps m n a h = ap sizes_of (app_some apps (insert apps m a) n (lookup_beside apps m a n (beside m n h)))
 
 pub commit_sized : (apps : List (List ℕ × App)) (m : List ℕ) (ws : List (ℕ × List ℕ)) (n : List ℕ) → sizes_of (app_of (insert apps m (with_words ws (app_of apps (Some m)))) (Some n)) ≡ sizes_of (app_of apps (Some n))
 commit_sized apps m ws n = by_test (bytes_eq m n) refl
@@ -135,11 +135,11 @@ commit_sized apps m ws n = by_test (bytes_eq m n) refl
     by_test true e =
         let same : m ≡ n = same_name m n e in
         subst (λ (x : List ℕ). sizes_of (app_of (insert apps m (with_words ws (app_of apps (Some m)))) (Some x)) ≡ sizes_of (app_of apps (Some x))) same
-        (ap (λ (o : Option App). sizes_of (unwrap_or o no_app)) (lookup-inserted apps m (with_words ws (app_of apps (Some m)))) ∙ words_sized ws (app_of apps (Some m)))
-    by_test false e = ap sizes_of (app_some apps (insert apps m (with_words ws (app_of apps (Some m)))) n (lookup-beside apps m (with_words ws (app_of apps (Some m))) n e))
+        (ap (λ (o : Option App). sizes_of (unwrap_or o no_app)) (lookup_inserted_lem apps m (with_words ws (app_of apps (Some m)))) ∙ words_sized ws (app_of apps (Some m)))
+    by_test false e = ap sizes_of (app_some apps (insert apps m (with_words ws (app_of apps (Some m)))) n (lookup_beside apps m (with_words ws (app_of apps (Some m))) n e))
 
 pub remove_sized : (apps : List (List ℕ × App)) (m n : List ℕ) → m ≢ n → sizes_of (app_of (remove apps m) (Some n)) ≡ sizes_of (app_of apps (Some n))
-remove_sized apps m n h = ap sizes_of (app_some apps (remove apps m) n (lookup-left apps m n (beside m n h)))
+remove_sized apps m n h = ap sizes_of (app_some apps (remove apps m) n (lookup_left apps m n (beside m n h)))
 
 -- an item enters no application of this name
 abbrev pub EntersNot : List ℕ → BankItem → Type 0
@@ -156,5 +156,5 @@ item_sized standing (Piece s p at b) apps n spares other = refl
 item_sized standing (Blank s at c) apps n spares other = refl
 item_sized standing (Note s m i) apps n spares other = refl
 item_sized standing (Commit m ws) apps n spares other = commit_sized apps m ws n
-item_sized standing (Enter s m) apps n spares other = beside_sized apps m n (entered s (standing s)) other
+item_sized standing (Enter s m) apps n spares other = beside_sized apps m n (app_of_site s (standing s)) other
 item_sized standing (Remove m) apps n spares other = remove_sized apps m n (λ same. spares (sym same))

@@ -43,12 +43,12 @@ pub record AreDigits (index : ℕ) (s : Sizes) : Type 0 where
   pub deny : s.deny < 65536
 
 -- sizes as a list
-abbrev pub listed : Sizes → List ℕ
-listed s = s.code ∷ s.fixed ∷ s.init ∷ s.session ∷ s.dir ∷ s.fci ∷ s.deny ∷ []
+abbrev pub list_of_sizes : Sizes → List ℕ
+list_of_sizes s = s.code ∷ s.fixed ∷ s.init ∷ s.session ∷ s.dir ∷ s.fci ∷ s.deny ∷ []
 
 -- whether two sizes are equal
 abbrev pub same_sizes : Sizes → Sizes → Bool
-same_sizes a b = bytes_eq (listed a) (listed b)
+same_sizes a b = bytes_eq (list_of_sizes a) (list_of_sizes b)
 
 -- the name at the place of a slot, if the application of that name has the slot's sizes
 abbrev pub name_of_slot : List (List ℕ × App) → ℕ → Option (List ℕ) → Option (List ℕ)

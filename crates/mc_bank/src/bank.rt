@@ -6,8 +6,8 @@ ghost use Rattle.mc_model_device.specs.Bytes.{lookup, insert, remove, splice};
 ghost use Rattle.mc_model_card.specs.Items.{Site as SiteValue, BankItem, Piece, Commit, Remove};
 ghost use Rattle.mc_model_card.specs.Manager.{word_parts, create_items};
 ghost use Rattle.mc_bank.specs.Slots.{slot_number, slot_place, slot_sizes};
-ghost use Rattle.mc_bank.specs.Bank.{BankState, app_of, name_or, sizes_of, FitsLimits, AreApps, part_len, opened};
-ghost use Rattle.mc_bank.specs.Bank.{IsGoodSite, HasParts, StayGood, BytesStay, CanCommit, committed, entered};
+ghost use Rattle.mc_bank.specs.Bank.{BankState, app_of, name_or, sizes_of, FitsLimits, AreApps, part_len, search_result};
+ghost use Rattle.mc_bank.specs.Bank.{IsGoodSite, HasParts, StayGood, BytesStay, CanCommit, apps_after_commit, app_of_site};
 ghost use Rattle.mc_bank.specs.Bank.{item_done, Spares, Changes};
 
 use mc_base::{Aid, Steps, Stop, Word};
@@ -190,7 +190,7 @@ pub trait Bank {
         requires list { CanCommit (app_of (state self.old).apps (named self.old slot)).fixed list.now }
         ensures items { InOrder did self.old (Commit (name_or (named self.old slot)) list.now ∷ []) result self.new }
         ensures apps { Changes (state self.old)
-            (committed (state self.old).apps (name_or (named self.old slot)) list.now) result (state self.new) }
+            (apps_after_commit (state self.old).apps (name_or (named self.old slot)) list.now) result (state self.new) }
         ensures slots { (k : ℕ) → named self.new k ≡ named self.old k }
         ensures good { StayGood (state self.old).apps (room self.old) (state self.new).apps (room self.new) }
         ensures bytes { BytesStay (state self.old).apps (room self.old) (standing self.old) (standing self.new) };
@@ -203,7 +203,7 @@ pub trait Bank {
     fn open<L: Ledger>(&self, sizes: &Sizes, steps: &mut Steps<L>) -> Result<Site, OpenRefusal>
         requires going { (state self.now).stopped ≡ false }
         requires limits { FitsLimits sizes.now }
-        ensures answer { result ≡ opened sizes.now (nat_le 32 (length (state self.now).apps))
+        ensures answer { result ≡ search_result sizes.now (nat_le 32 (length (state self.now).apps))
             (room self.now sizes.now) }
         ensures good { IfOk result (λ site. IsGoodSite (state self.now).apps (room self.now) site) }
         ensures parts { IfOk result (λ site. HasParts site (standing self.now site)) }
@@ -242,7 +242,7 @@ pub trait Bank {
         requires fresh { lookup (state self.old).apps aid.now ≡ None }
         ensures items { InOrder did self.old (create_items site.now aid.now) result self.new }
         ensures apps { Changes (state self.old)
-            (insert (state self.old).apps aid.now (entered site.now (standing self.old site.now))) result
+            (insert (state self.old).apps aid.now (app_of_site site.now (standing self.old site.now))) result
             (state self.new) }
         ensures slots { (k : ℕ) → IsSome (named self.old k) → named self.new k ≡ named self.old k };
 

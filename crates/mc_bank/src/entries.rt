@@ -2,7 +2,7 @@ ghost use Rattle.std.specs.Prelude.{◌≡◌, ◌+◌, ◌-◌, ◌*◌, ◌<�
 ghost use Rattle.std.specs.List.{AllByRecursion};
 ghost use Rattle.mc_model_device.specs.Bytes.{splice, zeros};
 ghost use Rattle.mc_model_device.specs.Pieces.{laid_pieces, word_pieces};
-ghost use Rattle.mc_bank.specs.Memory.{facts_in, named_at, memory_named, first_free, used, has, is_named, part_of, with_piece, with_list, with_app, IsMemory};
+ghost use Rattle.mc_bank.specs.Memory.{facts_in, name_of_entry, memory_named, first_free, count_of_used, has, is_named, part_of, with_piece, with_list, with_app, IsMemory};
 ghost use Rattle.mc_bank.specs.Shown.{EntryShows};
 
 use crate::bank::{Facts, Slot};
@@ -33,7 +33,7 @@ fn is_of(entry: &Entry, aid: &Aid) -> bool
 pub fn entry_of(entries: &[Entry], aid: &Aid) -> Option<u16>
     requires few { length entries.now ≤ 32 }
     ensures there { is_some result ≡ is_named (facts_in entries.now) aid.now }
-    ensures named { IfSome result (λ k. named_at (facts_in entries.now) k ≡ Some aid.now) }
+    ensures named { IfSome result (λ k. name_of_entry (facts_in entries.now) k ≡ Some aid.now) }
 {
     for (i, entry) in entries.iter().enumerate() {
         if is_of(entry, aid) {
@@ -59,7 +59,7 @@ pub fn free_entry(entries: &[Entry]) -> u16
 /// Returns the number of used entries.
 pub fn count_used(entries: &[Entry]) -> u16
     requires few { length entries.now ≤ 32 }
-    ensures { result ≡ used (facts_in entries.now) }
+    ensures { result ≡ count_of_used (facts_in entries.now) }
 {
     let mut count = 0;
     for entry in entries {
@@ -145,8 +145,8 @@ pub fn put_app(entry: &mut Entry, sizes: &Sizes, aid: &Aid)
 /// Returns the slot of the application in an entry that is used.
 pub fn slot_of(entries: &[Entry], index: u16) -> Slot
     requires memory { IsMemory entries.now }
-    requires there { IsSome (named_at (facts_in entries.now) index) }
-    ensures { memory_named entries.now result ≡ named_at (facts_in entries.now) index }
+    requires there { IsSome (name_of_entry (facts_in entries.now) index) }
+    ensures { memory_named entries.now result ≡ name_of_entry (facts_in entries.now) index }
 {
     let entry = &entries[index as usize];
     Slot::new(index, entry.facts.unwrap().sizes)

@@ -55,7 +55,7 @@ impl MemBank {
 
 impl Bank for MemBank {
     ghost use Rattle.mc_bank.specs.Memory.{memory_state, memory_named, memory_room, memory_standing, MemoryDid};
-    ghost use Rattle.mc_bank.specs.Memory.{facts_in, named_at};
+    ghost use Rattle.mc_bank.specs.Memory.{facts_in, name_of_entry};
     ghost use Rattle.mc_bank.specs.Slots.{slot_place};
     ghost use Rattle.mc_bank.specs.SlotLaws.{slot_sized};
     ghost use Rattle.mc_bank.specs.MemoryLaws.{memory_obeys, memory_keeps, memory_spares, memory_leaves};
@@ -70,7 +70,7 @@ impl Bank for MemBank {
 
     ghost did = { MemoryDid };
 
-    ghost sized = { λ b k there. slot_sized (apps_from 0 b) k (named_at (facts_in b) (slot_place k)) there };
+    ghost sized = { λ b k there. slot_sized (apps_from 0 b) k (name_of_entry (facts_in b) (slot_place k)) there };
 
     ghost obeys = { memory_obeys };
 

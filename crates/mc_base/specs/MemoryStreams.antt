@@ -28,16 +28,16 @@ abbrev pub take_fails : SourceLeft → Bool
 take_fails s = list_any (λ number. number == one_more s.calls) s.fail_at
 
 -- the source after a call that failed, or that took n bytes
-abbrev pub left_after : SourceLeft → Bool → ℕ → SourceLeft
-left_after s true n = record s { calls = one_more s.calls; faults = one_more s.faults }
-left_after s false n = record s { bytes = drop n s.bytes; calls = one_more s.calls }
+abbrev pub source_after_call : SourceLeft → Bool → ℕ → SourceLeft
+source_after_call s true n = record s { calls = one_more s.calls; faults = one_more s.faults }
+source_after_call s false n = record s { bytes = drop n s.bytes; calls = one_more s.calls }
 
 -- whether a put of this piece fails
 abbrev pub put_fails : SinkTaken → List ℕ → Bool
 put_fails t piece = list_any (λ number. number == one_more t.calls) t.fail_at || ((t.room == 0) && not (length piece == 0))
 
 -- the sink after a put that failed, or that took as much of the piece as fits
-abbrev pub taken_after : SinkTaken → Bool → List ℕ → SinkTaken
-taken_after t true piece = record t { calls = one_more t.calls; faults = one_more t.faults }
-taken_after t false piece =
+abbrev pub sink_after_put : SinkTaken → Bool → List ℕ → SinkTaken
+sink_after_put t true piece = record t { calls = one_more t.calls; faults = one_more t.faults }
+sink_after_put t false piece =
     record t { bytes = t.bytes ++ take (min (length piece) t.room) piece; room = t.room - length piece; calls = one_more t.calls }

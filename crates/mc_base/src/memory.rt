@@ -59,7 +59,7 @@ impl Source for MemSource {
     ghost use Rattle.std.specs.Prelude.{◌≡◌, ℕ, ◌+◌, ◌<◌, ◌≤◌, min, List, length, take, Option, Some, is_err, IfOk, OnErr};
     ghost use Rattle.mc_model_device.specs.Counts.{Rose};
     ghost use Rattle.mc_base.specs.Streams.{Took, AtEnd, Stays};
-    ghost use Rattle.mc_base.specs.MemoryStreams.{take_fails, left_after};
+    ghost use Rattle.mc_base.specs.MemoryStreams.{take_fails, source_after_call};
 
     ghost left = { λ s. Some s.bytes };
 
@@ -74,7 +74,7 @@ impl Source for MemSource {
         ensures counted { self.old.faults ≤ self.new.faults }
         ensures fails { is_err result ≡ take_fails self.old }
         ensures count { IfOk result (λ n. n ≡ min (length into.old) (length self.old.bytes)) }
-        ensures after { self.new ≡ left_after self.old (is_err result) (min (length into.old) (length self.old.bytes)) }
+        ensures after { self.new ≡ source_after_call self.old (is_err result) (min (length into.old) (length self.old.bytes)) }
     {
         self.calls = self.calls.saturating_add(1);
         if has_call(self.fail_at.as_slice(), self.calls) {
@@ -172,7 +172,7 @@ impl Sink for MemSink {
     ghost use Rattle.std.specs.Prelude.{◌≡◌, ℕ, ◌+◌, ◌<◌, ◌≤◌, min, List, length, take, Option, Some, is_err, IfOk, OnErr};
     ghost use Rattle.mc_model_device.specs.Counts.{Rose};
     ghost use Rattle.mc_base.specs.Streams.{Grew, Stays};
-    ghost use Rattle.mc_base.specs.MemoryStreams.{put_fails, taken_after};
+    ghost use Rattle.mc_base.specs.MemoryStreams.{put_fails, sink_after_put};
 
     ghost taken = { λ t. Some t.bytes };
 
@@ -187,7 +187,7 @@ impl Sink for MemSink {
         ensures counted { self.old.faults ≤ self.new.faults }
         ensures fails { is_err result ≡ put_fails self.old piece.now }
         ensures count { IfOk result (λ n. n ≡ min (length piece.now) self.old.room) }
-        ensures after { self.new ≡ taken_after self.old (is_err result) piece.now }
+        ensures after { self.new ≡ sink_after_put self.old (is_err result) piece.now }
     {
         self.calls = self.calls.saturating_add(1);
         if is_refused(self.fail_at.as_slice(), self.calls, self.room, piece) {

@@ -5,25 +5,25 @@ use Rattle.std.proofs.lemmas.Bool.{eq-eqb, ne_eqb}
 use Rattle.mc_model_device.specs.Bytes.{or_else, be2}
 use Rattle.mc_model_device.specs.Card.{Block, word, header, blocks}
 use Rattle.mc_model_device.specs.Layout.{first_hole, bad_link, bad_chain}
-use Rattle.mc_blocks.specs.Blocks.{fitting, blocks_at, used_spans, hole_spans}
+use Rattle.mc_blocks.specs.Blocks.{block_within, blocks_at, used_spans, hole_spans}
 use Rattle.mc_blocks.proofs.Steps.{blocks_step, blocks_all}
 
 -- the first hole from a place on is the block there if that is a hole, and else the first after it
-pub hole_here : (m : List (List ℕ)) (p : ℕ) (b : Block) → Some b ≡ fitting (length m) (header p (word m p)) → b.used ≡ false → first_hole (blocks_at m p) ≡ b.place
+pub hole_here : (m : List (List ℕ)) (p : ℕ) (b : Block) → Some b ≡ block_within (length m) (header p (word m p)) → b.used ≡ false → first_hole (blocks_at m p) ≡ b.place
 hole_here m p b h e = ap first_hole (blocks_step m p b h) ∙ ap (λ (t : Bool). cond t (first_hole (blocks_at m (b.place + b.words))) b.place) e
 
-pub hole_behind : (m : List (List ℕ)) (p : ℕ) (b : Block) → Some b ≡ fitting (length m) (header p (word m p)) → b.used ≡ true → first_hole (blocks_at m p) ≡ first_hole (blocks_at m (b.place + b.words))
+pub hole_behind : (m : List (List ℕ)) (p : ℕ) (b : Block) → Some b ≡ block_within (length m) (header p (word m p)) → b.used ≡ true → first_hole (blocks_at m p) ≡ first_hole (blocks_at m (b.place + b.words))
 hole_behind m p b h e = ap first_hole (blocks_step m p b h) ∙ ap (λ (t : Bool). cond t (first_hole (blocks_at m (b.place + b.words))) b.place) e
 
 -- the first wrong link from a place on is that of the block there if it is wrong, and else the first after it
-pub link_wrong : (m : List (List ℕ)) (p due : ℕ) (b : Block) → Some b ≡ fitting (length m) (header p (word m p)) → due ≡ cond b.used 0 (first_hole (blocks_at m (b.place + b.words)))
+pub link_wrong : (m : List (List ℕ)) (p due : ℕ) (b : Block) → Some b ≡ block_within (length m) (header p (word m p)) → due ≡ cond b.used 0 (first_hole (blocks_at m (b.place + b.words)))
     → b.link ≢ due → bad_link (blocks_at m p) ≡ Some b.place
 link_wrong m p due b h e ne =
     ap bad_link (blocks_step m p b h)
     ∙ ap (λ (d : ℕ). cond (b.link == d) (bad_link (blocks_at m (b.place + b.words))) (Some b.place)) (sym e)
     ∙ ap (λ (t : Bool). cond t (bad_link (blocks_at m (b.place + b.words))) (Some b.place)) (ne_eqb b.link due ne)
 
-pub link_right : (m : List (List ℕ)) (p due : ℕ) (b : Block) → Some b ≡ fitting (length m) (header p (word m p)) → due ≡ cond b.used 0 (first_hole (blocks_at m (b.place + b.words)))
+pub link_right : (m : List (List ℕ)) (p due : ℕ) (b : Block) → Some b ≡ block_within (length m) (header p (word m p)) → due ≡ cond b.used 0 (first_hole (blocks_at m (b.place + b.words)))
     → b.link ≡ due → bad_link (blocks_at m p) ≡ bad_link (blocks_at m (b.place + b.words))
 link_right m p due b h e is =
     ap bad_link (blocks_step m p b h)
@@ -46,7 +46,7 @@ root_right m link first e f is =
     root_read m link first e f ∙ ap (λ (t : Bool). or_else (cond t None (Some 0)) (bad_link (blocks m))) (eq-eqb link first is)
 
 -- a block counts as used or as a hole
-pub used_more : (m : List (List ℕ)) (p : ℕ) (b : Block) → Some b ≡ fitting (length m) (header p (word m p)) → b.used ≡ true
+pub used_more : (m : List (List ℕ)) (p : ℕ) (b : Block) → Some b ≡ block_within (length m) (header p (word m p)) → b.used ≡ true
     → (length (used_spans (blocks_at m p)) ≡ length (used_spans (blocks_at m (b.place + b.words))) + 1) × (length (hole_spans (blocks_at m p)) ≡ length (hole_spans (blocks_at m (b.place + b.words))))
 used_more m p b h e =
     let us = used_spans (blocks_at m (b.place + b.words)) in
@@ -54,7 +54,7 @@ used_more m p b h e =
     let one : length (used_spans (blocks_at m p)) ≡ length ((b.place, b.words) ∷ us) = ap (λ l. length (used_spans l)) (blocks_step m p b h) ∙ ap (λ (t : Bool). length (cond t ((b.place, b.words) ∷ us) us)) e in
     (omega (arith, one), ap (λ l. length (hole_spans l)) (blocks_step m p b h) ∙ ap (λ (t : Bool). length (cond t hs ((b.place, b.words) ∷ hs))) e)
 
-pub hole_more : (m : List (List ℕ)) (p : ℕ) (b : Block) → Some b ≡ fitting (length m) (header p (word m p)) → b.used ≡ false
+pub hole_more : (m : List (List ℕ)) (p : ℕ) (b : Block) → Some b ≡ block_within (length m) (header p (word m p)) → b.used ≡ false
     → (length (used_spans (blocks_at m p)) ≡ length (used_spans (blocks_at m (b.place + b.words)))) × (length (hole_spans (blocks_at m p)) ≡ length (hole_spans (blocks_at m (b.place + b.words))) + 1)
 hole_more m p b h e =
     let us = used_spans (blocks_at m (b.place + b.words)) in

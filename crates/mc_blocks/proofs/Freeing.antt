@@ -7,14 +7,14 @@ use Rattle.mc_model_device.specs.Layout.{first_hole, first_place, hole_header, u
 use Rattle.mc_blocks.specs.Chains.{SpansAbove}
 use Rattle.mc_blocks.specs.Blocks.{used_spans, hole_spans}
 use Rattle.mc_blocks.specs.Plans.{changes, layout_of, link_word, has_span, without, gap_before, gaps_behind, joined_words, joined_next, touches, free_list}
-use Rattle.mc_blocks.proofs.Tiles.{Tiled, first-is}
-use Rattle.mc_blocks.proofs.Maps.{above-weaker}
-use Rattle.mc_blocks.proofs.Bridge.{used-above}
-use Rattle.mc_blocks.proofs.Search.{holes-above}
-use Rattle.mc_blocks.proofs.Changes.{From, from-weaker, under-same, under-other, links-differ, lengths-differ, back}
-use Rattle.mc_blocks.proofs.Heads.{heads, heads-from, heads-behind, heads-same, layout-is}
-use Rattle.mc_blocks.proofs.Claims.{Claim, later-either}
-use Rattle.mc_blocks.proofs.Taking.{free_block, tiled-end, first-range}
+use Rattle.mc_blocks.proofs.Tiles.{Tiled, first_is}
+use Rattle.mc_blocks.proofs.Maps.{above_weaker}
+use Rattle.mc_blocks.proofs.Bridge.{used_above}
+use Rattle.mc_blocks.proofs.Search.{holes_above}
+use Rattle.mc_blocks.proofs.Changes.{From, from_weaker, under_same, under_other, links_differ, lengths_differ, back}
+use Rattle.mc_blocks.proofs.Heads.{heads, heads_from, heads_behind, heads_same, layout_is}
+use Rattle.mc_blocks.proofs.Claims.{Claim, later_either}
+use Rattle.mc_blocks.proofs.Taking.{free_block, tiled_end, first_range}
 use Rattle.mc_model_device.proofs.BoolLemmas.{and_false}
 
 -- a hole of k words at q and the blocks after it, of which the first joins it if it is a hole
@@ -55,104 +55,104 @@ words_at p (s ∷ ss) = cond (s.0 == p) s.1 (words_at p ss)
 
 -- ---- a hole that may join the next
 
-with-first : (q k : ℕ) (bs : List Block) → first_hole (with_hole q k bs) ≡ q
-with-first q k [] = refl
-with-first q k (c ∷ cs) = elim c.used as (λ u. first_hole (cond u (free_block q k ∷ c ∷ cs) (free_block q (k + c.words) ∷ cs)) ≡ q) [ true ↦ refl | false ↦ refl ]
+with_first : (q k : ℕ) (bs : List Block) → first_hole (with_hole q k bs) ≡ q
+with_first q k [] = refl
+with_first q k (c ∷ cs) = elim c.used as (λ u. first_hole (cond u (free_block q k ∷ c ∷ cs) (free_block q (k + c.words) ∷ cs)) ≡ q) [ true ↦ refl | false ↦ refl ]
 
-not-joined : (q k r : ℕ) (hs : List (ℕ × ℕ)) → r ≡ q + k → SpansAbove (r + 1) hs → (joined_words q k hs ≡ k) × (joined_next q k hs ≡ first_place hs)
-not-joined q k r [] e a = (refl, refl)
-not-joined q k r (g ∷ gs) e a =
+not_joined : (q k r : ℕ) (hs : List (ℕ × ℕ)) → r ≡ q + k → SpansAbove (r + 1) hs → (joined_words q k hs ≡ k) × (joined_next q k hs ≡ first_place hs)
+not_joined q k r [] e a = (refl, refl)
+not_joined q k r (g ∷ gs) e a =
     let low : r + 1 ≤ g.0 = a.0 in
     let ne : g.0 ≢ q + k = λ h. absurd (omega (arith, h)) in
     (ap (λ (t : Bool). cond t (k + g.1) k) (ne_eqb g.0 (q + k) ne), ap (λ (t : Bool). cond t (first_place gs) g.0) (ne_eqb g.0 (q + k) ne))
 
-with-kind : (q k : ℕ) (c : Block) (cs : List Block) (u : Bool) → c.used ≡ u → c.place ≡ q + k → SpansAbove (q + k + 1) (hole_spans cs)
+with_kind : (q k : ℕ) (c : Block) (cs : List Block) (u : Bool) → c.used ≡ u → c.place ≡ q + k → SpansAbove (q + k + 1) (hole_spans cs)
     → heads (cond u (free_block q k ∷ c ∷ cs) (free_block q (k + c.words) ∷ cs))
     ≡ (q, hole_header (joined_words q k (cond u (hole_spans cs) ((c.place, c.words) ∷ hole_spans cs))) (joined_next q k (cond u (hole_spans cs) ((c.place, c.words) ∷ hole_spans cs)))) ∷ heads (cond u (c ∷ cs) cs)
-with-kind q k c cs true used place above =
-    let apart = not-joined q k (q + k) (hole_spans cs) refl above in
-    ap (λ (f : ℕ). (q, hole_header k f) ∷ heads (c ∷ cs)) (ap (λ (t : Bool). cond t (first_hole cs) c.place) used ∙ first-is cs ∙ sym apart.1)
+with_kind q k c cs true used place above =
+    let apart = not_joined q k (q + k) (hole_spans cs) refl above in
+    ap (λ (f : ℕ). (q, hole_header k f) ∷ heads (c ∷ cs)) (ap (λ (t : Bool). cond t (first_hole cs) c.place) used ∙ first_is cs ∙ sym apart.1)
     ∙ ap (λ (n : ℕ). (q, hole_header n (joined_next q k (hole_spans cs))) ∷ heads (c ∷ cs)) (sym apart.0)
-with-kind q k c cs false used place above =
-    ap (λ (f : ℕ). (q, hole_header (k + c.words) f) ∷ heads cs) (first-is cs)
+with_kind q k c cs false used place above =
+    ap (λ (f : ℕ). (q, hole_header (k + c.words) f) ∷ heads cs) (first_is cs)
     ∙ sym (ap (λ (t : Bool). (q, hole_header (cond t (k + c.words) k) (cond t (first_place (hole_spans cs)) c.place)) ∷ heads cs) (eq-eqb c.place (q + k) place))
 
 -- the headers of a hole and the blocks after it
-with-heads : (q k : ℕ) (a : Bool) (bs : List Block) (end : ℕ) → Tiled (q + k) a bs end
+with_heads : (q k : ℕ) (a : Bool) (bs : List Block) (end : ℕ) → Tiled (q + k) a bs end
     → heads (with_hole q k bs) ≡ (q, hole_header (joined_words q k (hole_spans bs)) (joined_next q k (hole_spans bs))) ∷ heads (rest_after bs)
-with-heads q k a [] end t = refl
-with-heads q k a (c ∷ cs) end t =
+with_heads q k a [] end t = refl
+with_heads q k a (c ∷ cs) end t =
     let low : 1 ≤ c.words = t.1 in
-    with-kind q k c cs c.used refl t.0 (above-weaker (q + k + c.words) (q + k + 1) (hole_spans cs) (omega arith) (holes-above (q + k + c.words) (not c.used) cs end t.3))
+    with_kind q k c cs c.used refl t.0 (above_weaker (q + k + c.words) (q + k + 1) (hole_spans cs) (omega arith) (holes_above (q + k + c.words) (not c.used) cs end t.3))
 
 -- a header in front that the new list lacks adds no change
 dropped : (e : ℕ × List ℕ) (old new : List (ℕ × List ℕ)) → From (e.0 + 1) new → changes (e ∷ old) new ≡ changes old new
 dropped e old new f = let lt : e.0 < e.0 + 1 = omega arith in back (e.0 + 1) (e ∷ []) old new (lt, tt) f
 
-rest-kind : (r : ℕ) (c : Block) (cs : List Block) (end : ℕ) (u : Bool) → Tiled r u (c ∷ cs) end → (v : Bool) → changes (heads (c ∷ cs)) (heads (cond v (c ∷ cs) cs)) ≡ []
-rest-kind r c cs end u t true = heads-same r u (c ∷ cs) end t
-rest-kind r c cs end u t false =
-    dropped (c.place, cond c.used (used_header c.words) (hole_header c.words (first_hole cs))) (heads cs) (heads cs) (heads-behind r c (not c.used) cs end t.0 t.1 t.3)
-    ∙ heads-same (r + c.words) (not c.used) cs end t.3
+rest_kind : (r : ℕ) (c : Block) (cs : List Block) (end : ℕ) (u : Bool) → Tiled r u (c ∷ cs) end → (v : Bool) → changes (heads (c ∷ cs)) (heads (cond v (c ∷ cs) cs)) ≡ []
+rest_kind r c cs end u t true = heads_same r u (c ∷ cs) end t
+rest_kind r c cs end u t false =
+    dropped (c.place, cond c.used (used_header c.words) (hole_header c.words (first_hole cs))) (heads cs) (heads cs) (heads_behind r c (not c.used) cs end t.0 t.1 t.3)
+    ∙ heads_same (r + c.words) (not c.used) cs end t.3
 
-rest-none : (r : ℕ) (a : Bool) (bs : List Block) (end : ℕ) → Tiled r a bs end → changes (heads bs) (heads (rest_after bs)) ≡ []
-rest-none r a [] end t = refl
-rest-none r a (c ∷ cs) end t = rest-kind r c cs end a t c.used
+rest_none : (r : ℕ) (a : Bool) (bs : List Block) (end : ℕ) → Tiled r a bs end → changes (heads bs) (heads (rest_after bs)) ≡ []
+rest_none r a [] end t = refl
+rest_none r a (c ∷ cs) end t = rest_kind r c cs end a t c.used
 
-rest-from-kind : (r : ℕ) (c : Block) (cs : List Block) (v : Bool) → From r (heads (c ∷ cs)) → From r (heads (cond v (c ∷ cs) cs))
-rest-from-kind r c cs true f = f
-rest-from-kind r c cs false f = f.1
+rest_from_kind : (r : ℕ) (c : Block) (cs : List Block) (v : Bool) → From r (heads (c ∷ cs)) → From r (heads (cond v (c ∷ cs) cs))
+rest_from_kind r c cs true f = f
+rest_from_kind r c cs false f = f.1
 
-rest-from : (r : ℕ) (a : Bool) (bs : List Block) (end : ℕ) → Tiled r a bs end → From r (heads (rest_after bs))
-rest-from r a [] end t = tt
-rest-from r a (c ∷ cs) end t = rest-from-kind r c cs c.used (heads-from r a (c ∷ cs) end t)
+rest_from : (r : ℕ) (a : Bool) (bs : List Block) (end : ℕ) → Tiled r a bs end → From r (heads (rest_after bs))
+rest_from r a [] end t = tt
+rest_from r a (c ∷ cs) end t = rest_from_kind r c cs c.used (heads_from r a (c ∷ cs) end t)
 
-with-tiled-kind : (q k : ℕ) (c : Block) (cs : List Block) (end : ℕ) (u : Bool) → c.used ≡ u → 1 ≤ k → c.place ≡ q + k → 1 ≤ c.words → Tiled (q + k + c.words) (not c.used) cs end
+with_tiled_kind : (q k : ℕ) (c : Block) (cs : List Block) (end : ℕ) (u : Bool) → c.used ≡ u → 1 ≤ k → c.place ≡ q + k → 1 ≤ c.words → Tiled (q + k + c.words) (not c.used) cs end
     → Tiled q false (cond u (free_block q k ∷ c ∷ cs) (free_block q (k + c.words) ∷ cs)) end
-with-tiled-kind q k c cs end true used low place long t = (refl, low, refl, (place, long, ap (λ (u : Bool). true && not u) used, t))
-with-tiled-kind q k c cs end false used low place long t =
+with_tiled_kind q k c cs end true used low place long t = (refl, low, refl, (place, long, ap (λ (u : Bool). true && not u) used, t))
+with_tiled_kind q k c cs end false used low place long t =
     let same : q + k + c.words ≡ q + (k + c.words) = omega arith in
     (refl, omega arith, refl, subst (λ (r : ℕ). Tiled r true cs end) same (subst (λ (u : Bool). Tiled (q + k + c.words) (not u) cs end) used t))
 
-with-tiled : (q k : ℕ) (a : Bool) (bs : List Block) (end : ℕ) → 1 ≤ k → Tiled (q + k) a bs end → Tiled q false (with_hole q k bs) end
-with-tiled q k a [] end low t = (refl, low, refl, t)
-with-tiled q k a (c ∷ cs) end low t = with-tiled-kind q k c cs end c.used refl low t.0 t.1 t.3
+with_tiled : (q k : ℕ) (a : Bool) (bs : List Block) (end : ℕ) → 1 ≤ k → Tiled (q + k) a bs end → Tiled q false (with_hole q k bs) end
+with_tiled q k a [] end low t = (refl, low, refl, t)
+with_tiled q k a (c ∷ cs) end low t = with_tiled_kind q k c cs end c.used refl low t.0 t.1 t.3
 
-with-spans-kind : (q k : ℕ) (c : Block) (cs : List Block) (u : Bool) → c.used ≡ u → used_spans (cond u (free_block q k ∷ c ∷ cs) (free_block q (k + c.words) ∷ cs)) ≡ cond c.used ((c.place, c.words) ∷ used_spans cs) (used_spans cs)
-with-spans-kind q k c cs true used = refl
-with-spans-kind q k c cs false used = sym (ap (λ (u : Bool). cond u ((c.place, c.words) ∷ used_spans cs) (used_spans cs)) used)
+with_spans_kind : (q k : ℕ) (c : Block) (cs : List Block) (u : Bool) → c.used ≡ u → used_spans (cond u (free_block q k ∷ c ∷ cs) (free_block q (k + c.words) ∷ cs)) ≡ cond c.used ((c.place, c.words) ∷ used_spans cs) (used_spans cs)
+with_spans_kind q k c cs true used = refl
+with_spans_kind q k c cs false used = sym (ap (λ (u : Bool). cond u ((c.place, c.words) ∷ used_spans cs) (used_spans cs)) used)
 
-with-spans : (q k : ℕ) (bs : List Block) → used_spans (with_hole q k bs) ≡ used_spans bs
-with-spans q k [] = refl
-with-spans q k (c ∷ cs) = with-spans-kind q k c cs c.used refl
+with_spans : (q k : ℕ) (bs : List Block) → used_spans (with_hole q k bs) ≡ used_spans bs
+with_spans q k [] = refl
+with_spans q k (c ∷ cs) = with_spans_kind q k c cs c.used refl
 
-shift-kind : (k n m : ℕ) (t : Bool) → cond t (k + n + m) (k + n) ≡ k + cond t (n + m) n
-shift-kind k n m true = omega arith
-shift-kind k n m false = refl
+shift_kind : (k n m : ℕ) (t : Bool) → cond t (k + n + m) (k + n) ≡ k + cond t (n + m) n
+shift_kind k n m true = omega arith
+shift_kind k n m false = refl
 
-joined-shift : (q k n : ℕ) (hs : List (ℕ × ℕ)) → (joined_words q (k + n) hs ≡ k + joined_words (q + k) n hs) × (joined_next q (k + n) hs ≡ joined_next (q + k) n hs)
-joined-shift q k n [] = (refl, refl)
-joined-shift q k n (g ∷ gs) =
+joined_shift : (q k n : ℕ) (hs : List (ℕ × ℕ)) → (joined_words q (k + n) hs ≡ k + joined_words (q + k) n hs) × (joined_next q (k + n) hs ≡ joined_next (q + k) n hs)
+joined_shift q k n [] = (refl, refl)
+joined_shift q k n (g ∷ gs) =
     let same : q + (k + n) ≡ q + k + n = omega arith in
-    (ap (λ (r : ℕ). cond (g.0 == r) (k + n + g.1) (k + n)) same ∙ shift-kind k n g.1 (g.0 == q + k + n), ap (λ (r : ℕ). cond (g.0 == r) (first_place gs) g.0) same)
+    (ap (λ (r : ℕ). cond (g.0 == r) (k + n + g.1) (k + n)) same ∙ shift_kind k n g.1 (g.0 == q + k + n), ap (λ (r : ℕ). cond (g.0 == r) (first_place gs) g.0) same)
 
 -- ---- where the block is
 
-not-before-hole : (a u : Bool) → u ≡ false → (a && not u) ≡ false → a ≡ false
-not-before-hole false u e h = refl
-not-before-hole true u e h = absurd (cc (sym (ap not e) ∙ h))
+not_before_hole : (a u : Bool) → u ≡ false → (a && not u) ≡ false → a ≡ false
+not_before_hole false u e h = refl
+not_before_hole true u e h = absurd (cc (sym (ap not e) ∙ h))
 
-used-apart : (p : ℕ) (b : Block) (bs : List Block) → b.used ≡ true → touched p b bs ≡ false
-used-apart p b [] e = refl
-used-apart p b (c ∷ cs) e = ap (λ (u : Bool). not u && c.place == p) e
+used_apart : (p : ℕ) (b : Block) (bs : List Block) → b.used ≡ true → touched p b bs ≡ false
+used_apart p b [] e = refl
+used_apart p b (c ∷ cs) e = ap (λ (u : Bool). not u && c.place == p) e
 
-pub span-from : (q p : ℕ) (ss : List (ℕ × ℕ)) → SpansAbove q ss → has_span p ss ≡ true → q ≤ p
-span-from q p [] a h = absurd (cc h)
-span-from q p (s ∷ ss) a h =
+pub span_from : (q p : ℕ) (ss : List (ℕ × ℕ)) → SpansAbove q ss → has_span p ss ≡ true → q ≤ p
+span_from q p [] a h = absurd (cc h)
+span_from q p (s ∷ ss) a h =
     let low : q ≤ s.0 = a.0 in
     elim (or_cases (s.0 == p) (has_span p ss) h) [
       | inl here ↦ let is : s.0 ≡ p = eqb-true s.0 p here in omega arith
-      | inr later ↦ span-from q p ss a.1 later
+      | inr later ↦ span_from q p ss a.1 later
     ]
 
 -- b is a hole that ends at p, and the next block, at p, is used
@@ -175,12 +175,12 @@ pub record Later (p : ℕ) (b : Block) (bs : List Block) : Type 0 where
 unfoldable pub SpanAt : ℕ → Block → List Block → Type 0
 SpanAt p b bs = ((b.used ≡ true) × (b.place ≡ p)) ⊎ (Touches p b bs ⊎ Later p b bs)
 
-after-hole : (p r : ℕ) (b c : Block) (cs : List Block) (end : ℕ) (t : Bool) → (c.place == p) ≡ t → b.used ≡ false → b.place < p → (b.place == p) ≡ false → b.place + b.words ≡ r → Tiled r (not b.used) (c ∷ cs) end → has_span p (used_spans (c ∷ cs)) ≡ true → SpanAt p b (c ∷ cs)
+after_hole : (p r : ℕ) (b c : Block) (cs : List Block) (end : ℕ) (t : Bool) → (c.place == p) ≡ t → b.used ≡ false → b.place < p → (b.place == p) ≡ false → b.place + b.words ≡ r → Tiled r (not b.used) (c ∷ cs) end → has_span p (used_spans (c ∷ cs)) ≡ true → SpanAt p b (c ∷ cs)
 unfolding SpanAt
-after-hole p r b c cs end true e used before other ends t span =
+after_hole p r b c cs end true e used before other ends t span =
     let both : (true && not c.used) ≡ false = subst (λ (u : Bool). (not u && not c.used) ≡ false) used t.2 in
     inr (inl (record { hole = used; other = other; next = c; rest = cs; is = refl; used = not-false c.used both; place = eqb-true c.place p e }))
-after-hole p r b c cs end false e used before other ends t span =
+after_hole p r b c cs end false e used before other ends t span =
     inr (inr (record {
       other = other;
       apart = ap (λ (u : Bool). not b.used && u) e ∙ and_false (not b.used);
@@ -189,133 +189,133 @@ after-hole p r b c cs end false e used before other ends t span =
       ends = λ _ same. eqb-false c.place p e (t.0 ∙ sym ends ∙ same);
     }))
 
-span-kind : (p q : ℕ) (b : Block) (bs : List Block) (end : ℕ) (u : Bool) → b.used ≡ u → b.place ≡ q → 1 ≤ b.words → Tiled (q + b.words) (not b.used) bs end → has_span p (cond u ((b.place, b.words) ∷ used_spans bs) (used_spans bs)) ≡ true → SpanAt p b bs
+span_kind : (p q : ℕ) (b : Block) (bs : List Block) (end : ℕ) (u : Bool) → b.used ≡ u → b.place ≡ q → 1 ≤ b.words → Tiled (q + b.words) (not b.used) bs end → has_span p (cond u ((b.place, b.words) ∷ used_spans bs) (used_spans bs)) ≡ true → SpanAt p b bs
 unfolding SpanAt
-span-kind p q b bs end true used place low t span =
+span_kind p q b bs end true used place low t span =
     elim (cases_eq b.place p) [
       | inl here ↦ inl (used, here)
       | inr apart ↦
           let other : (b.place == p) ≡ false = ne_eqb b.place p apart in
           let later : has_span p (used_spans bs) ≡ true = sym (ap (λ (x : Bool). x || has_span p (used_spans bs)) other) ∙ span in
-          let far : q + b.words ≤ p = span-from (q + b.words) p (used_spans bs) (used-above (q + b.words) (not b.used) bs end t) later in
-          inr (inr (record { other = other; apart = used-apart p b bs used; span = later; before = omega arith; ends = λ free. absurd (cc (sym used ∙ free)) }))
+          let far : q + b.words ≤ p = span_from (q + b.words) p (used_spans bs) (used_above (q + b.words) (not b.used) bs end t) later in
+          inr (inr (record { other = other; apart = used_apart p b bs used; span = later; before = omega arith; ends = λ free. absurd (cc (sym used ∙ free)) }))
     ]
-span-kind p q b [] end false used place low t span = absurd (cc span)
-span-kind p q b (c ∷ cs) end false used place low t span =
-    let far : q + b.words ≤ p = span-from (q + b.words) p (used_spans (c ∷ cs)) (used-above (q + b.words) (not b.used) (c ∷ cs) end t) span in
+span_kind p q b [] end false used place low t span = absurd (cc span)
+span_kind p q b (c ∷ cs) end false used place low t span =
+    let far : q + b.words ≤ p = span_from (q + b.words) p (used_spans (c ∷ cs)) (used_above (q + b.words) (not b.used) (c ∷ cs) end t) span in
     let ne : b.place ≢ p = λ e. absurd (omega (arith, e)) in
-    after-hole p (q + b.words) b c cs end (c.place == p) refl used (omega arith) (ne_eqb b.place p ne) (omega arith) t span
+    after_hole p (q + b.words) b c cs end (c.place == p) refl used (omega arith) (ne_eqb b.place p ne) (omega arith) t span
 
-pub span-at : (p q : ℕ) (a : Bool) (b : Block) (bs : List Block) (end : ℕ) → Tiled q a (b ∷ bs) end → has_span p (used_spans (b ∷ bs)) ≡ true → SpanAt p b bs
-span-at p q a b bs end t span = span-kind p q b bs end b.used refl t.0 t.1 t.3 span
+pub span_at : (p q : ℕ) (a : Bool) (b : Block) (bs : List Block) (end : ℕ) → Tiled q a (b ∷ bs) end → has_span p (used_spans (b ∷ bs)) ≡ true → SpanAt p b bs
+span_at p q a b bs end t span = span_kind p q b bs end b.used refl t.0 t.1 t.3 span
 
-pub freed-here : (p : ℕ) (b : Block) (bs : List Block) → b.place ≡ p → free_in p (b ∷ bs) ≡ with_hole p b.words bs
-freed-here p b bs here = ap (λ (t : Bool). cond t (with_hole p b.words bs) (cond (touched p b bs) (with_hole b.place (b.words + head_words bs) (tail_blocks bs)) (b ∷ free_in p bs))) (eq-eqb b.place p here)
+pub freed_here : (p : ℕ) (b : Block) (bs : List Block) → b.place ≡ p → free_in p (b ∷ bs) ≡ with_hole p b.words bs
+freed_here p b bs here = ap (λ (t : Bool). cond t (with_hole p b.words bs) (cond (touched p b bs) (with_hole b.place (b.words + head_words bs) (tail_blocks bs)) (b ∷ free_in p bs))) (eq-eqb b.place p here)
 
-pub freed-touching : (p : ℕ) (b c : Block) (cs : List Block) → b.used ≡ false → (b.place == p) ≡ false → c.place ≡ p → free_in p (b ∷ c ∷ cs) ≡ with_hole b.place (b.words + c.words) cs
-freed-touching p b c cs free other here =
+pub freed_touching : (p : ℕ) (b c : Block) (cs : List Block) → b.used ≡ false → (b.place == p) ≡ false → c.place ≡ p → free_in p (b ∷ c ∷ cs) ≡ with_hole b.place (b.words + c.words) cs
+freed_touching p b c cs free other here =
     ap (λ (t : Bool). cond t (with_hole p b.words (c ∷ cs)) (cond (touched p b (c ∷ cs)) (with_hole b.place (b.words + c.words) cs) (b ∷ free_in p (c ∷ cs)))) other
     ∙ ap (λ (t : Bool). cond t (with_hole b.place (b.words + c.words) cs) (b ∷ free_in p (c ∷ cs))) (and_from (not b.used) (c.place == p) (ap not free) (eq-eqb c.place p here))
 
-pub freed-later : (p : ℕ) (b : Block) (bs : List Block) → (b.place == p) ≡ false → touched p b bs ≡ false → free_in p (b ∷ bs) ≡ b ∷ free_in p bs
-freed-later p b bs other apart =
+pub freed_later : (p : ℕ) (b : Block) (bs : List Block) → (b.place == p) ≡ false → touched p b bs ≡ false → free_in p (b ∷ bs) ≡ b ∷ free_in p bs
+freed_later p b bs other apart =
     ap (λ (t : Bool). cond t (with_hole p b.words bs) (cond (touched p b bs) (with_hole b.place (b.words + head_words bs) (tail_blocks bs)) (b ∷ free_in p bs))) other
     ∙ ap (λ (t : Bool). cond t (with_hole b.place (b.words + head_words bs) (tail_blocks bs)) (b ∷ free_in p bs)) apart
 
 -- ---- the blocks after the change
 
-free-touching-tiled : (p q : ℕ) (a : Bool) (b c : Block) (cs bs : List Block) (end : ℕ) → bs ≡ c ∷ cs → Tiled q a (b ∷ bs) end → b.used ≡ false → (b.place == p) ≡ false → c.place ≡ p → Tiled q a (free_in p (b ∷ bs)) end
-free-touching-tiled p q a b c cs bs end is t free other here =
+free_touching_tiled : (p q : ℕ) (a : Bool) (b c : Block) (cs bs : List Block) (end : ℕ) → bs ≡ c ∷ cs → Tiled q a (b ∷ bs) end → b.used ≡ false → (b.place == p) ≡ false → c.place ≡ p → Tiled q a (free_in p (b ∷ bs)) end
+free_touching_tiled p q a b c cs bs end is t free other here =
     let tail : Tiled (q + b.words) (not b.used) (c ∷ cs) end = subst (λ (l : List Block). Tiled (q + b.words) (not b.used) l end) is t.3 in
     let place : b.place ≡ q = t.0 in
     let long : 1 ≤ b.words = t.1 in
-    let none : a ≡ false = not-before-hole a b.used free t.2 in
+    let none : a ≡ false = not_before_hole a b.used free t.2 in
     let same : q + b.words + c.words ≡ q + (b.words + c.words) = omega arith in
     subst (λ (l : List Block). Tiled q a (free_in p (b ∷ l)) end) (sym is)
-    (subst (λ (l : List Block). Tiled q a l end) (sym (freed-touching p b c cs free other here))
+    (subst (λ (l : List Block). Tiled q a l end) (sym (freed_touching p b c cs free other here))
     (subst (λ (r : ℕ). Tiled q a (with_hole r (b.words + c.words) cs) end) (sym place)
     (subst (λ (x : Bool). Tiled q x (with_hole q (b.words + c.words) cs) end) (sym none)
-    (with-tiled q (b.words + c.words) (not c.used) cs end (omega arith) (subst (λ (r : ℕ). Tiled r (not c.used) cs end) same tail.3)))))
+    (with_tiled q (b.words + c.words) (not c.used) cs end (omega arith) (subst (λ (r : ℕ). Tiled r (not c.used) cs end) same tail.3)))))
 
 -- if a hole precedes the blocks from q on, the first of them is not at p
 abbrev HoleApart : Bool → ℕ → ℕ → Type 0
 HoleApart a q p = a ≡ true → q ≢ p
 
-apart-false : (a : Bool) (q p : ℕ) → HoleApart a q p → q ≡ p → a ≡ false
-apart-false a q p h e = false_from_ne_true a (λ t. h t e)
+apart_false : (a : Bool) (q p : ℕ) → HoleApart a q p → q ≡ p → a ≡ false
+apart_false a q p h e = false_from_ne_true a (λ t. h t e)
 
-later-apart : (p q : ℕ) (b : Block) → b.place ≡ q → (b.used ≡ false → b.place + b.words ≢ p) → HoleApart (not b.used) (q + b.words) p
-later-apart p q b place h free same = h (not-true b.used free) (omega (arith, place, same))
+later_apart : (p q : ℕ) (b : Block) → b.place ≡ q → (b.used ≡ false → b.place + b.words ≢ p) → HoleApart (not b.used) (q + b.words) p
+later_apart p q b place h free same = h (not-true b.used free) (omega (arith, place, same))
 
-pub free-tiled : (p q : ℕ) (a : Bool) (bs : List Block) (end : ℕ) → HoleApart a q p → Tiled q a bs end → has_span p (used_spans bs) ≡ true → Tiled q a (free_in p bs) end
+pub free_tiled : (p q : ℕ) (a : Bool) (bs : List Block) (end : ℕ) → HoleApart a q p → Tiled q a bs end → has_span p (used_spans bs) ≡ true → Tiled q a (free_in p bs) end
 unfolding SpanAt
-free-tiled p q a [] end h t span = absurd (cc span)
-free-tiled p q a (b ∷ bs) end h t span =
+free_tiled p q a [] end h t span = absurd (cc span)
+free_tiled p q a (b ∷ bs) end h t span =
     let place : b.place ≡ q = t.0 in
-    elim (span-at p q a b bs end t span) [
+    elim (span_at p q a b bs end t span) [
       | inl here ↦
           let same : q ≡ p = sym place ∙ here.1 in
-          subst (λ (l : List Block). Tiled q a l end) (sym (freed-here p b bs here.1))
+          subst (λ (l : List Block). Tiled q a l end) (sym (freed_here p b bs here.1))
           (subst (λ (r : ℕ). Tiled q a (with_hole r b.words bs) end) same
-          (subst (λ (x : Bool). Tiled q x (with_hole q b.words bs) end) (sym (apart-false a q p h same)) (with-tiled q b.words (not b.used) bs end t.1 t.3)))
-      | inr (inl touch) ↦ free-touching-tiled p q a b touch.next touch.rest bs end touch.is t touch.hole touch.other touch.place
+          (subst (λ (x : Bool). Tiled q x (with_hole q b.words bs) end) (sym (apart_false a q p h same)) (with_tiled q b.words (not b.used) bs end t.1 t.3)))
+      | inr (inl touch) ↦ free_touching_tiled p q a b touch.next touch.rest bs end touch.is t touch.hole touch.other touch.place
       | inr (inr later) ↦
-          subst (λ (l : List Block). Tiled q a l end) (sym (freed-later p b bs later.other later.apart))
-          (t.0, t.1, t.2, free-tiled p (q + b.words) (not b.used) bs end (later-apart p q b place later.ends) t.3 later.span)
+          subst (λ (l : List Block). Tiled q a l end) (sym (freed_later p b bs later.other later.apart))
+          (t.0, t.1, t.2, free_tiled p (q + b.words) (not b.used) bs end (later_apart p q b place later.ends) t.3 later.span)
     ]
 
 -- ---- their spans
 
-without-above : (p : ℕ) (ss : List (ℕ × ℕ)) → SpansAbove (p + 1) ss → without p ss ≡ ss
-without-above p [] a = refl
-without-above p (s ∷ ss) a =
+without_above : (p : ℕ) (ss : List (ℕ × ℕ)) → SpansAbove (p + 1) ss → without p ss ≡ ss
+without_above p [] a = refl
+without_above p (s ∷ ss) a =
     let low : p + 1 ≤ s.0 = a.0 in
     let ne : s.0 ≢ p = λ e. absurd (omega (arith, e)) in
-    ap (λ (t : Bool). cond t (without p ss) (s ∷ without p ss)) (ne_eqb s.0 p ne) ∙ ap (λ (l : List (ℕ × ℕ)). s ∷ l) (without-above p ss a.1)
+    ap (λ (t : Bool). cond t (without p ss) (s ∷ without p ss)) (ne_eqb s.0 p ne) ∙ ap (λ (l : List (ℕ × ℕ)). s ∷ l) (without_above p ss a.1)
 
-without-first : (p n : ℕ) (ss : List (ℕ × ℕ)) (r : ℕ) → r ≡ p → SpansAbove (p + 1) ss → without p ((r, n) ∷ ss) ≡ ss
-without-first p n ss r e a = ap (λ (t : Bool). cond t (without p ss) ((r, n) ∷ without p ss)) (eq-eqb r p e) ∙ without-above p ss a
+without_first : (p n : ℕ) (ss : List (ℕ × ℕ)) (r : ℕ) → r ≡ p → SpansAbove (p + 1) ss → without p ((r, n) ∷ ss) ≡ ss
+without_first p n ss r e a = ap (λ (t : Bool). cond t (without p ss) ((r, n) ∷ without p ss)) (eq-eqb r p e) ∙ without_above p ss a
 
-later-without : (p : ℕ) (b : Block) (us vs : List (ℕ × ℕ)) (u : Bool) → (b.place == p) ≡ false → vs ≡ without p us → cond u ((b.place, b.words) ∷ vs) vs ≡ without p (cond u ((b.place, b.words) ∷ us) us)
-later-without p b us vs true other e = ap (λ (l : List (ℕ × ℕ)). (b.place, b.words) ∷ l) e ∙ sym (ap (λ (t : Bool). cond t (without p us) ((b.place, b.words) ∷ without p us)) other)
-later-without p b us vs false other e = e
+later_without : (p : ℕ) (b : Block) (us vs : List (ℕ × ℕ)) (u : Bool) → (b.place == p) ≡ false → vs ≡ without p us → cond u ((b.place, b.words) ∷ vs) vs ≡ without p (cond u ((b.place, b.words) ∷ us) us)
+later_without p b us vs true other e = ap (λ (l : List (ℕ × ℕ)). (b.place, b.words) ∷ l) e ∙ sym (ap (λ (t : Bool). cond t (without p us) ((b.place, b.words) ∷ without p us)) other)
+later_without p b us vs false other e = e
 
 -- the spans of a used block in front of others
-pub used-first : (b : Block) (us : List (ℕ × ℕ)) → b.used ≡ true → cond b.used ((b.place, b.words) ∷ us) us ≡ (b.place, b.words) ∷ us
-used-first b us e = ap (λ (u : Bool). cond u ((b.place, b.words) ∷ us) us) e
+pub used_first : (b : Block) (us : List (ℕ × ℕ)) → b.used ≡ true → cond b.used ((b.place, b.words) ∷ us) us ≡ (b.place, b.words) ∷ us
+used_first b us e = ap (λ (u : Bool). cond u ((b.place, b.words) ∷ us) us) e
 
-pub used-not : (b : Block) (us : List (ℕ × ℕ)) → b.used ≡ false → cond b.used ((b.place, b.words) ∷ us) us ≡ us
-used-not b us e = ap (λ (u : Bool). cond u ((b.place, b.words) ∷ us) us) e
+pub used_not : (b : Block) (us : List (ℕ × ℕ)) → b.used ≡ false → cond b.used ((b.place, b.words) ∷ us) us ≡ us
+used_not b us e = ap (λ (u : Bool). cond u ((b.place, b.words) ∷ us) us) e
 
-free-touching-spans : (p q : ℕ) (a : Bool) (b c : Block) (cs bs : List Block) (end : ℕ) → bs ≡ c ∷ cs → Tiled q a (b ∷ bs) end → b.used ≡ false → (b.place == p) ≡ false → c.used ≡ true → c.place ≡ p
+free_touching_spans : (p q : ℕ) (a : Bool) (b c : Block) (cs bs : List Block) (end : ℕ) → bs ≡ c ∷ cs → Tiled q a (b ∷ bs) end → b.used ≡ false → (b.place == p) ≡ false → c.used ≡ true → c.place ≡ p
     → used_spans (free_in p (b ∷ bs)) ≡ without p (used_spans (b ∷ bs))
-free-touching-spans p q a b c cs bs end is t free other used here =
+free_touching_spans p q a b c cs bs end is t free other used here =
     let tail : Tiled (q + b.words) (not b.used) (c ∷ cs) end = subst (λ (l : List Block). Tiled (q + b.words) (not b.used) l end) is t.3 in
     let at : c.place ≡ q + b.words = tail.0 in
     let long : 1 ≤ c.words = tail.1 in
     ap (λ (l : List Block). used_spans (free_in p (b ∷ l))) is
-    ∙ ap used_spans (freed-touching p b c cs free other here)
-    ∙ with-spans b.place (b.words + c.words) cs
-    ∙ sym (without-first p c.words (used_spans cs) c.place here (above-weaker (q + b.words + c.words) (p + 1) (used_spans cs) (omega arith) (used-above (q + b.words + c.words) (not c.used) cs end tail.3)))
-    ∙ sym (ap (λ (l : List (ℕ × ℕ)). without p l) (used-not b (used_spans bs) free ∙ ap used_spans is ∙ used-first c (used_spans cs) used))
+    ∙ ap used_spans (freed_touching p b c cs free other here)
+    ∙ with_spans b.place (b.words + c.words) cs
+    ∙ sym (without_first p c.words (used_spans cs) c.place here (above_weaker (q + b.words + c.words) (p + 1) (used_spans cs) (omega arith) (used_above (q + b.words + c.words) (not c.used) cs end tail.3)))
+    ∙ sym (ap (λ (l : List (ℕ × ℕ)). without p l) (used_not b (used_spans bs) free ∙ ap used_spans is ∙ used_first c (used_spans cs) used))
 
-pub free-spans : (p q : ℕ) (a : Bool) (bs : List Block) (end : ℕ) → Tiled q a bs end → has_span p (used_spans bs) ≡ true → used_spans (free_in p bs) ≡ without p (used_spans bs)
+pub free_spans : (p q : ℕ) (a : Bool) (bs : List Block) (end : ℕ) → Tiled q a bs end → has_span p (used_spans bs) ≡ true → used_spans (free_in p bs) ≡ without p (used_spans bs)
 unfolding SpanAt
-free-spans p q a [] end t span = absurd (cc span)
-free-spans p q a (b ∷ bs) end t span =
+free_spans p q a [] end t span = absurd (cc span)
+free_spans p q a (b ∷ bs) end t span =
     let place : b.place ≡ q = t.0 in
     let low : 1 ≤ b.words = t.1 in
-    elim (span-at p q a b bs end t span) [
+    elim (span_at p q a b bs end t span) [
       | inl here ↦
           let at : b.place ≡ p = here.1 in
-          ap used_spans (freed-here p b bs here.1)
-          ∙ with-spans p b.words bs
-          ∙ sym (without-first p b.words (used_spans bs) b.place here.1 (above-weaker (q + b.words) (p + 1) (used_spans bs) (omega arith) (used-above (q + b.words) (not b.used) bs end t.3)))
-          ∙ sym (ap (λ (l : List (ℕ × ℕ)). without p l) (used-first b (used_spans bs) here.0))
-      | inr (inl touch) ↦ free-touching-spans p q a b touch.next touch.rest bs end touch.is t touch.hole touch.other touch.used touch.place
+          ap used_spans (freed_here p b bs here.1)
+          ∙ with_spans p b.words bs
+          ∙ sym (without_first p b.words (used_spans bs) b.place here.1 (above_weaker (q + b.words) (p + 1) (used_spans bs) (omega arith) (used_above (q + b.words) (not b.used) bs end t.3)))
+          ∙ sym (ap (λ (l : List (ℕ × ℕ)). without p l) (used_first b (used_spans bs) here.0))
+      | inr (inl touch) ↦ free_touching_spans p q a b touch.next touch.rest bs end touch.is t touch.hole touch.other touch.used touch.place
       | inr (inr later) ↦
-          ap used_spans (freed-later p b bs later.other later.apart)
-          ∙ later-without p b (used_spans bs) (used_spans (free_in p bs)) b.used later.other (free-spans p (q + b.words) (not b.used) bs end t.3 later.span)
+          ap used_spans (freed_later p b bs later.other later.apart)
+          ∙ later_without p b (used_spans bs) (used_spans (free_in p bs)) b.used later.other (free_spans p (q + b.words) (not b.used) bs end t.3 later.span)
     ]
 
 -- ---- the headers that change
@@ -324,126 +324,126 @@ abbrev freed_at : ℕ → ℕ → ℕ → ℕ → ℕ × ℕ → List (ℕ × �
 freed_at v s p n g gs = free_list v s g gs p n
 
 -- gaps that all begin at p or after it have none before p
-gap-none : (p : ℕ) (g : ℕ × ℕ) (gs : List (ℕ × ℕ)) → SpansAbove p gs → gap_before p g gs ≡ g
-gap-none p g [] a = refl
-gap-none p g (h ∷ hs) a = let low : p ≤ h.0 = a.0 in ap (λ (t : Bool). cond t (gap_before p h hs) g) (le-ltb h.0 p low)
+gap_none : (p : ℕ) (g : ℕ × ℕ) (gs : List (ℕ × ℕ)) → SpansAbove p gs → gap_before p g gs ≡ g
+gap_none p g [] a = refl
+gap_none p g (h ∷ hs) a = let low : p ≤ h.0 = a.0 in ap (λ (t : Bool). cond t (gap_before p h hs) g) (le-ltb h.0 p low)
 
-behind-all : (p : ℕ) (gs : List (ℕ × ℕ)) → SpansAbove p gs → gaps_behind p gs ≡ gs
-behind-all p [] a = refl
-behind-all p (h ∷ hs) a = let low : p ≤ h.0 = a.0 in ap (λ (t : Bool). cond t (gaps_behind p hs) (h ∷ hs)) (le-ltb h.0 p low)
+behind_all : (p : ℕ) (gs : List (ℕ × ℕ)) → SpansAbove p gs → gaps_behind p gs ≡ gs
+behind_all p [] a = refl
+behind_all p (h ∷ hs) a = let low : p ≤ h.0 = a.0 in ap (λ (t : Bool). cond t (gaps_behind p hs) (h ∷ hs)) (le-ltb h.0 p low)
 
 -- the changes of freeing a block after a link that does not touch it
-free-here : (v s n p end : ℕ) (g : ℕ × ℕ) (a : Bool) (bs : List Block) → 1 ≤ p → 1 ≤ n → end < 65536 → g.0 < p → touches g p ≡ false → Tiled (p + n) a bs end
+free_here : (v s n p end : ℕ) (g : ℕ × ℕ) (a : Bool) (bs : List Block) → 1 ≤ p → 1 ≤ n → end < 65536 → g.0 < p → touches g p ≡ false → Tiled (p + n) a bs end
     → changes (link_word v s g (first_hole bs) ∷ (p, used_header n) ∷ heads bs) (link_word v s g (first_hole (with_hole p n bs)) ∷ heads (with_hole p n bs)) ≡ free_list v s g (hole_spans bs) p n
-free-here v s n p end g a bs low some few gap apart t =
-    let ends : p + n ≤ end = tiled-end (p + n) a bs end t in
-    let behind : From (p + n) (heads bs) = heads-from (p + n) a bs end t in
-    let rest : From (p + n) (heads (rest_after bs)) = rest-from (p + n) a bs end t in
+free_here v s n p end g a bs low some few gap apart t =
+    let ends : p + n ≤ end = tiled_end (p + n) a bs end t in
+    let behind : From (p + n) (heads bs) = heads_from (p + n) a bs end t in
+    let rest : From (p + n) (heads (rest_after bs)) = rest_from (p + n) a bs end t in
     let hole : ℕ × List ℕ = (p, hole_header (joined_words p n (hole_spans bs)) (joined_next p n (hole_spans bs))) in
-    let ne : p ≢ first_hole bs = λ h. elim (first-range (p + n) a bs end t) [ inl none ↦ absurd (omega (arith, h, none)) | inr some-hole ↦ absurd (omega (arith, h, some-hole.0)) ] in
-    let within : first_hole bs < 65536 = elim (first-range (p + n) a bs end t) [ inl none ↦ omega (arith, none) | inr some-hole ↦ omega (arith, some-hole.1) ] in
-    ap (λ (f : ℕ). changes (link_word v s g (first_hole bs) ∷ (p, used_header n) ∷ heads bs) (link_word v s g f ∷ heads (with_hole p n bs))) (with-first p n bs)
-    ∙ ap (λ (l : List (ℕ × List ℕ)). changes (link_word v s g (first_hole bs) ∷ (p, used_header n) ∷ heads bs) (link_word v s g p ∷ l)) (with-heads p n a bs end t)
-    ∙ under-other (link_word v s g (first_hole bs)) (link_word v s g p) ((p, used_header n) ∷ heads bs) (hole ∷ heads (rest_after bs)) refl (links-differ v s g p (first_hole bs) (omega arith) within ne)
-    (omega arith, from-weaker (p + n) (g.0 + 1) (heads bs) (omega arith) behind) (omega arith, from-weaker (p + n) (g.0 + 1) (heads (rest_after bs)) (omega arith) rest)
+    let ne : p ≢ first_hole bs = λ h. elim (first_range (p + n) a bs end t) [ inl none ↦ absurd (omega (arith, h, none)) | inr some-hole ↦ absurd (omega (arith, h, some-hole.0)) ] in
+    let within : first_hole bs < 65536 = elim (first_range (p + n) a bs end t) [ inl none ↦ omega (arith, none) | inr some-hole ↦ omega (arith, some-hole.1) ] in
+    ap (λ (f : ℕ). changes (link_word v s g (first_hole bs) ∷ (p, used_header n) ∷ heads bs) (link_word v s g f ∷ heads (with_hole p n bs))) (with_first p n bs)
+    ∙ ap (λ (l : List (ℕ × List ℕ)). changes (link_word v s g (first_hole bs) ∷ (p, used_header n) ∷ heads bs) (link_word v s g p ∷ l)) (with_heads p n a bs end t)
+    ∙ under_other (link_word v s g (first_hole bs)) (link_word v s g p) ((p, used_header n) ∷ heads bs) (hole ∷ heads (rest_after bs)) refl (links_differ v s g p (first_hole bs) (omega arith) within ne)
+    (omega arith, from_weaker (p + n) (g.0 + 1) (heads bs) (omega arith) behind) (omega arith, from_weaker (p + n) (g.0 + 1) (heads (rest_after bs)) (omega arith) rest)
     ∙ ap (λ (l : List (ℕ × List ℕ)). link_word v s g p ∷ l)
-    (under-other (p, used_header n) hole (heads bs) (heads (rest_after bs)) refl refl (from-weaker (p + n) (p + 1) (heads bs) (omega arith) behind) (from-weaker (p + n) (p + 1) (heads (rest_after bs)) (omega arith) rest)
-    ∙ ap (λ (l : List (ℕ × List ℕ)). hole ∷ l) (rest-none (p + n) a bs end t))
+    (under_other (p, used_header n) hole (heads bs) (heads (rest_after bs)) refl refl (from_weaker (p + n) (p + 1) (heads bs) (omega arith) behind) (from_weaker (p + n) (p + 1) (heads (rest_after bs)) (omega arith) rest)
+    ∙ ap (λ (l : List (ℕ × List ℕ)). hole ∷ l) (rest_none (p + n) a bs end t))
     ∙ sym (ap (λ (x : Bool). cond x ((g.0, hole_header (g.1 + joined_words p n (hole_spans bs)) (joined_next p n (hole_spans bs))) ∷ []) (link_word v s g p ∷ hole ∷ [])) apart)
 
-claim-here : (v s end : ℕ) (g : ℕ × ℕ) (a : Bool) (b : Block) (bs : List Block) → 1 ≤ b.place → 1 ≤ b.words → end < 65536 → g.0 < b.place → touches g b.place ≡ false → Tiled (b.place + b.words) a bs end
+claim_here : (v s end : ℕ) (g : ℕ × ℕ) (a : Bool) (b : Block) (bs : List Block) → 1 ≤ b.place → 1 ≤ b.words → end < 65536 → g.0 < b.place → touches g b.place ≡ false → Tiled (b.place + b.words) a bs end
     → Claim v s b.place (freed_at v s b.place b.words) g (record b { used = true } ∷ bs) (with_hole b.place b.words bs)
 unfolding Claim
-claim-here v s end g a b bs low some few gap apart t =
-    let above : SpansAbove b.place (hole_spans bs) = above-weaker (b.place + b.words) b.place (hole_spans bs) (omega arith) (holes-above (b.place + b.words) a bs end t) in
-    free-here v s b.words b.place end g a bs low some few gap apart t
-    ∙ sym (ap (λ (h : ℕ × ℕ). free_list v s h (gaps_behind b.place (hole_spans bs)) b.place b.words) (gap-none b.place g (hole_spans bs) above) ∙ ap (λ (l : List (ℕ × ℕ)). free_list v s g l b.place b.words) (behind-all b.place (hole_spans bs) above))
+claim_here v s end g a b bs low some few gap apart t =
+    let above : SpansAbove b.place (hole_spans bs) = above_weaker (b.place + b.words) b.place (hole_spans bs) (omega arith) (holes_above (b.place + b.words) a bs end t) in
+    free_here v s b.words b.place end g a bs low some few gap apart t
+    ∙ sym (ap (λ (h : ℕ × ℕ). free_list v s h (gaps_behind b.place (hole_spans bs)) b.place b.words) (gap_none b.place g (hole_spans bs) above) ∙ ap (λ (l : List (ℕ × ℕ)). free_list v s g l b.place b.words) (behind_all b.place (hole_spans bs) above))
 
 -- a hole that is joined with the next is no shorter, and ends within the device
-joined-kind : (q k : ℕ) (c : Block) (cs : List Block) (end : ℕ) (u : Bool) → c.place ≡ q + k → SpansAbove (q + k + 1) (hole_spans cs) → q + k + c.words ≤ end
+joined_kind : (q k : ℕ) (c : Block) (cs : List Block) (end : ℕ) (u : Bool) → c.place ≡ q + k → SpansAbove (q + k + 1) (hole_spans cs) → q + k + c.words ≤ end
     → (k ≤ joined_words q k (cond u (hole_spans cs) ((c.place, c.words) ∷ hole_spans cs))) × (q + joined_words q k (cond u (hole_spans cs) ((c.place, c.words) ∷ hole_spans cs)) ≤ end)
-joined-kind q k c cs end true place above ends =
-    let is : joined_words q k (hole_spans cs) ≡ k = (not-joined q k (q + k) (hole_spans cs) refl above).0 in
+joined_kind q k c cs end true place above ends =
+    let is : joined_words q k (hole_spans cs) ≡ k = (not_joined q k (q + k) (hole_spans cs) refl above).0 in
     (omega (arith, is), omega (arith, is))
-joined-kind q k c cs end false place above ends =
+joined_kind q k c cs end false place above ends =
     let is : cond (c.place == q + k) (k + c.words) k ≡ k + c.words = ap (λ (t : Bool). cond t (k + c.words) k) (eq-eqb c.place (q + k) place) in
     (omega (arith, is), omega (arith, is))
 
-joined-range : (q k : ℕ) (a : Bool) (bs : List Block) (end : ℕ) → Tiled (q + k) a bs end → (k ≤ joined_words q k (hole_spans bs)) × (q + joined_words q k (hole_spans bs) ≤ end)
-joined-range q k a [] end t = (omega arith, omega (arith, t))
-joined-range q k a (c ∷ cs) end t =
+joined_range : (q k : ℕ) (a : Bool) (bs : List Block) (end : ℕ) → Tiled (q + k) a bs end → (k ≤ joined_words q k (hole_spans bs)) × (q + joined_words q k (hole_spans bs) ≤ end)
+joined_range q k a [] end t = (omega arith, omega (arith, t))
+joined_range q k a (c ∷ cs) end t =
     let low : 1 ≤ c.words = t.1 in
-    joined-kind q k c cs end c.used t.0 (above-weaker (q + k + c.words) (q + k + 1) (hole_spans cs) (omega arith) (holes-above (q + k + c.words) (not c.used) cs end t.3)) (tiled-end (q + k + c.words) (not c.used) cs end t.3)
+    joined_kind q k c cs end c.used t.0 (above_weaker (q + k + c.words) (q + k + 1) (hole_spans cs) (omega arith) (holes_above (q + k + c.words) (not c.used) cs end t.3)) (tiled_end (q + k + c.words) (not c.used) cs end t.3)
 
 -- the changes of freeing a block after a hole that ends at it
-touch-list : (v s h k n end : ℕ) (g : ℕ × ℕ) (a : Bool) (cs : List Block) → g.0 < h → 1 ≤ k → 1 ≤ n → end < 65536 → Tiled (h + k + n) a cs end
+touch_list : (v s h k n end : ℕ) (g : ℕ × ℕ) (a : Bool) (cs : List Block) → g.0 < h → 1 ≤ k → 1 ≤ n → end < 65536 → Tiled (h + k + n) a cs end
     → changes (link_word v s g h ∷ (h, hole_header k (first_hole cs)) ∷ (h + k, used_header n) ∷ heads cs) (link_word v s g (first_hole (with_hole h (k + n) cs)) ∷ heads (with_hole h (k + n) cs))
     ≡ (h, hole_header (k + joined_words (h + k) n (hole_spans cs)) (joined_next (h + k) n (hole_spans cs))) ∷ []
-touch-list v s h k n end g a cs gap long some few t =
+touch_list v s h k n end g a cs gap long some few t =
     let same : h + k + n ≡ h + (k + n) = omega arith in
     let u : Tiled (h + (k + n)) a cs end = subst (λ (r : ℕ). Tiled r a cs end) same t in
-    let range = joined-range h (k + n) a cs end u in
+    let range = joined_range h (k + n) a cs end u in
     let longer : k + n ≤ joined_words h (k + n) (hole_spans cs) = range.0 in
     let ends : h + joined_words h (k + n) (hole_spans cs) ≤ end = range.1 in
     let ne : joined_words h (k + n) (hole_spans cs) ≢ k = λ e. absurd (omega (arith, e)) in
-    let rest : From (h + k + n) (heads (rest_after cs)) = rest-from (h + k + n) a cs end t in
-    let behind : From (h + k + n) (heads cs) = heads-from (h + k + n) a cs end t in
+    let rest : From (h + k + n) (heads (rest_after cs)) = rest_from (h + k + n) a cs end t in
+    let behind : From (h + k + n) (heads cs) = heads_from (h + k + n) a cs end t in
     let joined : ℕ × List ℕ = (h, hole_header (joined_words h (k + n) (hole_spans cs)) (joined_next h (k + n) (hole_spans cs))) in
     let old : List (ℕ × List ℕ) = (h + k, used_header n) ∷ heads cs in
-    let old-from : From (h + 1) old = (omega arith, from-weaker (h + k + n) (h + 1) (heads cs) (omega arith) behind) in
-    let new-from : From (h + 1) (heads (rest_after cs)) = from-weaker (h + k + n) (h + 1) (heads (rest_after cs)) (omega arith) rest in
-    let shifted = joined-shift h k n (hole_spans cs) in
-    ap (λ (f : ℕ). changes (link_word v s g h ∷ (h, hole_header k (first_hole cs)) ∷ old) (link_word v s g f ∷ heads (with_hole h (k + n) cs))) (with-first h (k + n) cs)
-    ∙ ap (λ (l : List (ℕ × List ℕ)). changes (link_word v s g h ∷ (h, hole_header k (first_hole cs)) ∷ old) (link_word v s g h ∷ l)) (with-heads h (k + n) a cs end u)
-    ∙ under-same (link_word v s g h) ((h, hole_header k (first_hole cs)) ∷ old) (joined ∷ heads (rest_after cs)) (omega arith, from-weaker (h + 1) (g.0 + 1) old (omega arith) old-from) (omega arith, from-weaker (h + 1) (g.0 + 1) (heads (rest_after cs)) (omega arith) new-from)
-    ∙ under-other (h, hole_header k (first_hole cs)) joined old (heads (rest_after cs)) refl
-    (lengths-differ (joined_words h (k + n) (hole_spans cs)) k (joined_next h (k + n) (hole_spans cs)) (first_hole cs) (omega arith) (omega (arith, tiled-end (h + k + n) a cs end t)) ne) old-from new-from
-    ∙ ap (λ (l : List (ℕ × List ℕ)). joined ∷ l) (dropped (h + k, used_header n) (heads cs) (heads (rest_after cs)) (from-weaker (h + k + n) (h + k + 1) (heads (rest_after cs)) (omega arith) rest) ∙ rest-none (h + k + n) a cs end t)
+    let old-from : From (h + 1) old = (omega arith, from_weaker (h + k + n) (h + 1) (heads cs) (omega arith) behind) in
+    let new-from : From (h + 1) (heads (rest_after cs)) = from_weaker (h + k + n) (h + 1) (heads (rest_after cs)) (omega arith) rest in
+    let shifted = joined_shift h k n (hole_spans cs) in
+    ap (λ (f : ℕ). changes (link_word v s g h ∷ (h, hole_header k (first_hole cs)) ∷ old) (link_word v s g f ∷ heads (with_hole h (k + n) cs))) (with_first h (k + n) cs)
+    ∙ ap (λ (l : List (ℕ × List ℕ)). changes (link_word v s g h ∷ (h, hole_header k (first_hole cs)) ∷ old) (link_word v s g h ∷ l)) (with_heads h (k + n) a cs end u)
+    ∙ under_same (link_word v s g h) ((h, hole_header k (first_hole cs)) ∷ old) (joined ∷ heads (rest_after cs)) (omega arith, from_weaker (h + 1) (g.0 + 1) old (omega arith) old-from) (omega arith, from_weaker (h + 1) (g.0 + 1) (heads (rest_after cs)) (omega arith) new-from)
+    ∙ under_other (h, hole_header k (first_hole cs)) joined old (heads (rest_after cs)) refl
+    (lengths_differ (joined_words h (k + n) (hole_spans cs)) k (joined_next h (k + n) (hole_spans cs)) (first_hole cs) (omega arith) (omega (arith, tiled_end (h + k + n) a cs end t)) ne) old-from new-from
+    ∙ ap (λ (l : List (ℕ × List ℕ)). joined ∷ l) (dropped (h + k, used_header n) (heads cs) (heads (rest_after cs)) (from_weaker (h + k + n) (h + k + 1) (heads (rest_after cs)) (omega arith) rest) ∙ rest_none (h + k + n) a cs end t)
     ∙ ap (λ (w : ℕ). (h, hole_header w (joined_next h (k + n) (hole_spans cs))) ∷ []) shifted.0
     ∙ ap (λ (x : ℕ). (h, hole_header (k + joined_words (h + k) n (hole_spans cs)) x) ∷ []) shifted.1
 
-touch-due : (v s h k n : ℕ) (g : ℕ × ℕ) (hs : List (ℕ × ℕ)) → 1 ≤ h → 1 ≤ k → SpansAbove (h + k) hs
+touch_due : (v s h k n : ℕ) (g : ℕ × ℕ) (hs : List (ℕ × ℕ)) → 1 ≤ h → 1 ≤ k → SpansAbove (h + k) hs
     → freed_at v s (h + k) n (gap_before (h + k) g ((h, k) ∷ hs)) (gaps_behind (h + k) ((h, k) ∷ hs)) ≡ (h, hole_header (k + joined_words (h + k) n hs) (joined_next (h + k) n hs)) ∷ []
-touch-due v s h k n g hs low long above =
+touch_due v s h k n g hs low long above =
     let p = h + k in
     let ne : h ≢ 0 = λ e. absurd (omega (arith, e)) in
     let meets : touches (h, k) p ≡ true = and_from (not (h == 0)) (h + k == p) (ap not (ne_eqb h 0 ne)) (eq-eqb (h + k) p refl) in
     ap (λ (x : Bool). freed_at v s p n (cond x (gap_before p (h, k) hs) g) (cond x (gaps_behind p hs) ((h, k) ∷ hs))) (lt-ltb h p (omega arith))
-    ∙ ap (λ (f : ℕ × ℕ). freed_at v s p n f (gaps_behind p hs)) (gap-none p (h, k) hs above)
-    ∙ ap (λ (l : List (ℕ × ℕ)). freed_at v s p n (h, k) l) (behind-all p hs above)
+    ∙ ap (λ (f : ℕ × ℕ). freed_at v s p n f (gaps_behind p hs)) (gap_none p (h, k) hs above)
+    ∙ ap (λ (l : List (ℕ × ℕ)). freed_at v s p n (h, k) l) (behind_all p hs above)
     ∙ ap (λ (x : Bool). cond x ((h, hole_header (k + joined_words p n hs) (joined_next p n hs)) ∷ []) (link_word v s (h, k) p ∷ (p, hole_header (joined_words p n hs) (joined_next p n hs)) ∷ [])) meets
 
-claim-touch : (v s end : ℕ) (g : ℕ × ℕ) (a : Bool) (b c : Block) (cs : List Block) → 1 ≤ b.place → g.0 < b.place → 1 ≤ b.words → 1 ≤ c.words → end < 65536 → Tiled (b.place + b.words + c.words) a cs end
+claim_touch : (v s end : ℕ) (g : ℕ × ℕ) (a : Bool) (b c : Block) (cs : List Block) → 1 ≤ b.place → g.0 < b.place → 1 ≤ b.words → 1 ≤ c.words → end < 65536 → Tiled (b.place + b.words + c.words) a cs end
     → Claim v s (b.place + b.words) (freed_at v s (b.place + b.words) c.words) g (record b { used = false } ∷ record c { used = true; place = b.place + b.words } ∷ cs) (with_hole b.place (b.words + c.words) cs)
 unfolding Claim
-claim-touch v s end g a b c cs low gap long some few t =
-    touch-list v s b.place b.words c.words end g a cs gap long some few t
-    ∙ sym (touch-due v s b.place b.words c.words g (hole_spans cs) low long
-    (above-weaker (b.place + b.words + c.words) (b.place + b.words) (hole_spans cs) (omega arith) (holes-above (b.place + b.words + c.words) a cs end t)))
+claim_touch v s end g a b c cs low gap long some few t =
+    touch_list v s b.place b.words c.words end g a cs gap long some few t
+    ∙ sym (touch_due v s b.place b.words c.words g (hole_spans cs) low long
+    (above_weaker (b.place + b.words + c.words) (b.place + b.words) (hole_spans cs) (omega arith) (holes_above (b.place + b.words + c.words) a cs end t)))
 
 -- ---- the words of the block
 
-words-here : (p n r : ℕ) (ss : List (ℕ × ℕ)) → r ≡ p → words_at p ((r, n) ∷ ss) ≡ n
-words-here p n r ss e = ap (λ (t : Bool). cond t n (words_at p ss)) (eq-eqb r p e)
+words_here : (p n r : ℕ) (ss : List (ℕ × ℕ)) → r ≡ p → words_at p ((r, n) ∷ ss) ≡ n
+words_here p n r ss e = ap (λ (t : Bool). cond t n (words_at p ss)) (eq-eqb r p e)
 
-words-later : (p : ℕ) (b : Block) (us : List (ℕ × ℕ)) (u : Bool) → (b.place == p) ≡ false → words_at p (cond u ((b.place, b.words) ∷ us) us) ≡ words_at p us
-words-later p b us true e = ap (λ (t : Bool). cond t b.words (words_at p us)) e
-words-later p b us false e = refl
+words_later : (p : ℕ) (b : Block) (us : List (ℕ × ℕ)) (u : Bool) → (b.place == p) ≡ false → words_at p (cond u ((b.place, b.words) ∷ us) us) ≡ words_at p us
+words_later p b us true e = ap (λ (t : Bool). cond t b.words (words_at p us)) e
+words_later p b us false e = refl
 
 -- ---- all blocks
 
-whole-touch : (v s p q n : ℕ) (g : ℕ × ℕ) (a : Bool) (b c : Block) (cs bs : List Block) (end : ℕ) → bs ≡ c ∷ cs → 1 ≤ q → end < 65536 → g.0 < q → Tiled q a (b ∷ bs) end → b.used ≡ false → (b.place == p) ≡ false → c.used ≡ true → c.place ≡ p
+whole_touch : (v s p q n : ℕ) (g : ℕ × ℕ) (a : Bool) (b c : Block) (cs bs : List Block) (end : ℕ) → bs ≡ c ∷ cs → 1 ≤ q → end < 65536 → g.0 < q → Tiled q a (b ∷ bs) end → b.used ≡ false → (b.place == p) ≡ false → c.used ≡ true → c.place ≡ p
     → words_at p (used_spans (b ∷ bs)) ≡ n → Claim v s p (freed_at v s p n) g (b ∷ bs) (free_in p (b ∷ bs))
-whole-touch v s p q n g a b c cs bs end is low few gap t free other used here words =
+whole_touch v s p q n g a b c cs bs end is low few gap t free other used here words =
     let tail : Tiled (q + b.words) (not b.used) (c ∷ cs) end = subst (λ (l : List Block). Tiled (q + b.words) (not b.used) l end) is t.3 in
     let place : b.place ≡ q = t.0 in
     let long : 1 ≤ b.words = t.1 in
     let some : 1 ≤ c.words = tail.1 in
     let at : b.place + b.words ≡ p = omega (arith, tail.0, here, place) in
-    let count : c.words ≡ n = sym (ap (λ (l : List (ℕ × ℕ)). words_at p l) (used-not b (used_spans bs) free ∙ ap used_spans is ∙ used-first c (used_spans cs) used) ∙ words-here p c.words c.place (used_spans cs) here) ∙ words in
+    let count : c.words ≡ n = sym (ap (λ (l : List (ℕ × ℕ)). words_at p l) (used_not b (used_spans bs) free ∙ ap used_spans is ∙ used_first c (used_spans cs) used) ∙ words_here p c.words c.place (used_spans cs) here) ∙ words in
     let behind : Tiled (b.place + b.words + c.words) (not c.used) cs end = subst (λ (r : ℕ). Tiled (r + b.words + c.words) (not c.used) cs end) (sym place) tail.3 in
     let first : Claim v s (b.place + b.words) (freed_at v s (b.place + b.words) c.words) g (record b { used = false } ∷ record c { used = true; place = b.place + b.words } ∷ cs) (with_hole b.place (b.words + c.words) cs) =
-    claim-touch v s end g (not c.used) b c cs (omega arith) (omega arith) long some few behind in
+    claim_touch v s end g (not c.used) b c cs (omega arith) (omega arith) long some few behind in
     let second : Claim v s p (freed_at v s p c.words) g (record b { used = false } ∷ record c { used = true; place = p } ∷ cs) (with_hole b.place (b.words + c.words) cs) =
     subst (λ (x : ℕ). Claim v s x (freed_at v s x c.words) g (record b { used = false } ∷ record c { used = true; place = x } ∷ cs) (with_hole b.place (b.words + c.words) cs)) at first in
     let third : Claim v s p (freed_at v s p c.words) g (record b { used = false } ∷ record c { used = true } ∷ cs) (with_hole b.place (b.words + c.words) cs) =
@@ -454,36 +454,36 @@ whole-touch v s p q n g a b c cs bs end is low few gap t free other used here wo
     subst (λ (x : Bool). Claim v s p (freed_at v s p c.words) g (record b { used = x } ∷ c ∷ cs) (with_hole b.place (b.words + c.words) cs)) (sym free) fourth in
     subst (λ (l : List Block). Claim v s p (freed_at v s p n) g (b ∷ l) (free_in p (b ∷ l))) (sym is)
     (subst (λ (m : ℕ). Claim v s p (freed_at v s p m) g (b ∷ c ∷ cs) (free_in p (b ∷ c ∷ cs))) count
-    (subst (λ (l : List Block). Claim v s p (freed_at v s p c.words) g (b ∷ c ∷ cs) l) (sym (freed-touching p b c cs free other here)) fifth))
+    (subst (λ (l : List Block). Claim v s p (freed_at v s p c.words) g (b ∷ c ∷ cs) l) (sym (freed_touching p b c cs free other here)) fifth))
 
 -- a hole that does not end at p does not touch p
-no-touch : (p : ℕ) (b : Block) → b.place + b.words ≢ p → touches (b.place, b.words) p ≡ false
-no-touch p b ne = and_right (not (b.place == 0)) (b.place + b.words == p) (ne_eqb (b.place + b.words) p ne)
+no_touch : (p : ℕ) (b : Block) → b.place + b.words ≢ p → touches (b.place, b.words) p ≡ false
+no_touch p b ne = and_right (not (b.place == 0)) (b.place + b.words == p) (ne_eqb (b.place + b.words) p ne)
 
-free-all : (v s p n q : ℕ) (g : ℕ × ℕ) (a : Bool) (bs : List Block) (end : ℕ) → 1 ≤ q → end < 65536 → g.0 < q → touches g p ≡ false → Tiled q a bs end → has_span p (used_spans bs) ≡ true → words_at p (used_spans bs) ≡ n
+free_all : (v s p n q : ℕ) (g : ℕ × ℕ) (a : Bool) (bs : List Block) (end : ℕ) → 1 ≤ q → end < 65536 → g.0 < q → touches g p ≡ false → Tiled q a bs end → has_span p (used_spans bs) ≡ true → words_at p (used_spans bs) ≡ n
     → Claim v s p (freed_at v s p n) g bs (free_in p bs)
 unfolding SpanAt
-free-all v s p n q g a [] end low few gap apart t span words = absurd (cc span)
-free-all v s p n q g a (b ∷ bs) end low few gap apart t span words =
+free_all v s p n q g a [] end low few gap apart t span words = absurd (cc span)
+free_all v s p n q g a (b ∷ bs) end low few gap apart t span words =
     let place : b.place ≡ q = t.0 in
     let long : 1 ≤ b.words = t.1 in
     let tail : Tiled (b.place + b.words) (not b.used) bs end = subst (λ (r : ℕ). Tiled (r + b.words) (not b.used) bs end) (sym place) t.3 in
-    elim (span-at p q a b bs end t span) [
+    elim (span_at p q a b bs end t span) [
       | inl here ↦
-          let count : b.words ≡ n = sym (ap (λ (l : List (ℕ × ℕ)). words_at p l) (used-first b (used_spans bs) here.0) ∙ words-here p b.words b.place (used_spans bs) here.1) ∙ words in
-          subst (λ (l : List Block). Claim v s p (freed_at v s p n) g (b ∷ bs) l) (sym (freed-here p b bs here.1))
+          let count : b.words ≡ n = sym (ap (λ (l : List (ℕ × ℕ)). words_at p l) (used_first b (used_spans bs) here.0) ∙ words_here p b.words b.place (used_spans bs) here.1) ∙ words in
+          subst (λ (l : List Block). Claim v s p (freed_at v s p n) g (b ∷ bs) l) (sym (freed_here p b bs here.1))
           (subst (λ (m : ℕ). Claim v s p (freed_at v s p m) g (b ∷ bs) (with_hole p b.words bs)) count
           (subst (λ (r : ℕ). Claim v s r (freed_at v s r b.words) g (b ∷ bs) (with_hole r b.words bs)) here.1
           (subst (λ (u : Bool). Claim v s b.place (freed_at v s b.place b.words) g (record b { used = u } ∷ bs) (with_hole b.place b.words bs)) (sym here.0)
-          (claim-here v s end g (not b.used) b bs (omega arith) long few (omega arith) (subst (λ (r : ℕ). touches g r ≡ false) (sym here.1) apart) tail))))
-      | inr (inl touch) ↦ whole-touch v s p q n g a b touch.next touch.rest bs end touch.is low few gap t touch.hole touch.other touch.used touch.place words
+          (claim_here v s end g (not b.used) b bs (omega arith) long few (omega arith) (subst (λ (r : ℕ). touches g r ≡ false) (sym here.1) apart) tail))))
+      | inr (inl touch) ↦ whole_touch v s p q n g a b touch.next touch.rest bs end touch.is low few gap t touch.hole touch.other touch.used touch.place words
       | inr (inr later) ↦
-          let still : words_at p (used_spans bs) ≡ n = sym (words-later p b (used_spans bs) b.used later.other) ∙ words in
-          subst (λ (l : List Block). Claim v s p (freed_at v s p n) g (b ∷ bs) l) (sym (freed-later p b bs later.other later.apart))
-          (later-either v s p end (freed_at v s p n) g b (not b.used) bs (free_in p bs) b.used (omega arith) later.before long tail
-          (free-tiled p (b.place + b.words) (not b.used) bs end (later-apart p b.place b refl later.ends) tail later.span)
-          (λ _. free-all v s p n (q + b.words) g (not b.used) bs end (omega arith) few (omega arith) apart t.3 later.span still)
-          (λ free. free-all v s p n (q + b.words) (b.place, b.words) (not b.used) bs end (omega arith) few (omega arith) (no-touch p b (later.ends free)) t.3 later.span still))
+          let still : words_at p (used_spans bs) ≡ n = sym (words_later p b (used_spans bs) b.used later.other) ∙ words in
+          subst (λ (l : List Block). Claim v s p (freed_at v s p n) g (b ∷ bs) l) (sym (freed_later p b bs later.other later.apart))
+          (later_either v s p end (freed_at v s p n) g b (not b.used) bs (free_in p bs) b.used (omega arith) later.before long tail
+          (free_tiled p (b.place + b.words) (not b.used) bs end (later_apart p b.place b refl later.ends) tail later.span)
+          (λ _. free_all v s p n (q + b.words) g (not b.used) bs end (omega arith) few (omega arith) apart t.3 later.span still)
+          (λ free. free_all v s p n (q + b.words) (b.place, b.words) (not b.used) bs end (omega arith) few (omega arith) (no_touch p b (later.ends free)) t.3 later.span still))
     ]
 
 -- the changes of freeing a block are those of `free_list`
@@ -491,6 +491,6 @@ pub free_plan : (v size p : ℕ) (bs : List Block) → size < 65536 → Tiled he
     → changes (layout_of v size (used_spans bs)) (layout_of v size (without p (used_spans bs))) ≡ free_list v size (gap_before p (0, 0) (hole_spans bs)) (gaps_behind p (hole_spans bs)) p (words_at p (used_spans bs))
 unfolding Claim
 free_plan v size p bs few t span =
-    ap (λ (l : List (ℕ × List ℕ)). changes l (layout_of v size (without p (used_spans bs)))) (layout-is v size bs (used_spans bs) t refl)
-    ∙ ap (λ (l : List (ℕ × List ℕ)). changes (link_word v size (0, 0) (first_hole bs) ∷ heads bs) l) (layout-is v size (free_in p bs) (without p (used_spans bs)) (free-tiled p heap_start false bs size (λ e. absurd (cc e)) t span) (sym (free-spans p heap_start false bs size t span)))
-    ∙ free-all v size p (words_at p (used_spans bs)) heap_start (0, 0) false bs size (omega arith) few (omega arith) refl t span refl
+    ap (λ (l : List (ℕ × List ℕ)). changes l (layout_of v size (without p (used_spans bs)))) (layout_is v size bs (used_spans bs) t refl)
+    ∙ ap (λ (l : List (ℕ × List ℕ)). changes (link_word v size (0, 0) (first_hole bs) ∷ heads bs) l) (layout_is v size (free_in p bs) (without p (used_spans bs)) (free_tiled p heap_start false bs size (λ e. absurd (cc e)) t span) (sym (free_spans p heap_start false bs size t span)))
+    ∙ free_all v size p (words_at p (used_spans bs)) heap_start (0, 0) false bs size (omega arith) few (omega arith) refl t span refl

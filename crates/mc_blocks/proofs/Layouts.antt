@@ -8,15 +8,15 @@ use Rattle.mc_model_device.specs.Bytes.{AreBytes, be2, bytes2}
 use Rattle.mc_model_device.specs.Device.{IsImage, sized}
 use Rattle.mc_model_device.specs.Image.{look, after}
 use Rattle.mc_model_device.specs.Card.{Block, used_tag, hole_tag, word, is_header, header, blocks, card_of, words_after, means}
-use Rattle.mc_model_device.specs.Layout.{put_at, spans, gaps, first_place, first_hole, hole_header, used_header, root, chained, with_used, layout, no_root, bad_link, words_fault, IsWellLaid}
+use Rattle.mc_model_device.specs.Layout.{put_at, spans, gaps, first_place, first_hole, hole_header, used_header, root, gap_headers, with_used, layout, no_root, bad_link, words_fault, IsWellLaid}
 use Rattle.mc_model_device.proofs.LookLemmas.{IsFull}
-use Rattle.mc_model_device.proofs.ImageBytes.{image-settled}
+use Rattle.mc_model_device.proofs.ImageBytes.{image_settled}
 use Rattle.mc_blocks.specs.Blocks.{used_spans, hole_spans}
-use Rattle.mc_blocks.proofs.Steps.{header-is}
-use Rattle.mc_blocks.proofs.Tiles.{HeadersRead, first-is}
+use Rattle.mc_blocks.proofs.Steps.{header_is}
+use Rattle.mc_blocks.proofs.Tiles.{HeadersRead, first_is}
 use Rattle.mc_blocks.proofs.Bridge.{WellLaid, laid}
-use Rattle.mc_model_device.proofs.LayoutLemmas.{sound-after}
-use Rattle.mc_blocks.proofs.Search.{link-none, chain-parts}
+use Rattle.mc_model_device.proofs.LayoutLemmas.{sound_after}
+use Rattle.mc_blocks.proofs.Search.{link_none, chain_parts}
 
 -- ---- words of eight bytes
 
@@ -33,18 +33,18 @@ eight (a ∷ b ∷ c ∷ d ∷ e ∷ f ∷ g ∷ []) h = absurd (cc h)
 eight (a ∷ b ∷ c ∷ d ∷ e ∷ f ∷ g ∷ i ∷ []) h = refl
 eight (a ∷ b ∷ c ∷ d ∷ e ∷ f ∷ g ∷ i ∷ j ∷ r) h = absurd (omega (arith, h))
 
-byte-at : (x : List ℕ) (i : ℕ) → AreBytes x → slice_index x i < 256
-byte-at [] i h = omega arith
-byte-at (b ∷ x) zero h = h.0
-byte-at (b ∷ x) (suc i) h = byte-at x i h.1
+byte_at : (x : List ℕ) (i : ℕ) → AreBytes x → slice_index x i < 256
+byte_at [] i h = omega arith
+byte_at (b ∷ x) zero h = h.0
+byte_at (b ∷ x) (suc i) h = byte_at x i h.1
 
 -- two bytes are the big-endian bytes of their number
 two : (x : List ℕ) (i n : ℕ) → AreBytes x → be2 x i ≡ n → bytes2 n ≡ slice_index x i ∷ slice_index x (i + 1) ∷ []
 two x i n h e =
     let a : ℕ = slice_index x i in
     let b : ℕ = slice_index x (i + 1) in
-    let low : a < 256 = byte-at x i h in
-    let high : b < 256 = byte-at x (i + 1) h in
+    let low : a < 256 = byte_at x i h in
+    let high : b < 256 = byte_at x (i + 1) h in
     let is : 256 * a + b ≡ n = e in
     let first : n / 256 % 256 ≡ a = omega arith in
     let second : n % 256 ≡ b = omega arith in
@@ -56,17 +56,17 @@ two x i n h e =
 abbrev tag_of : Bool → ℕ
 tag_of used = cond used used_tag hole_tag
 
-tag-is : (a : ℕ) (t : Bool) → (a == used_tag) ≡ t → (t || a == hole_tag) ≡ true → a ≡ tag_of t
-tag-is a true e h = eqb-true a used_tag e
-tag-is a false e h = eqb-true a hole_tag h
+tag_is : (a : ℕ) (t : Bool) → (a == used_tag) ≡ t → (t || a == hole_tag) ≡ true → a ≡ tag_of t
+tag_is a true e h = eqb-true a used_tag e
+tag_is a false e h = eqb-true a hole_tag h
 
 abbrev the_block : ℕ → List ℕ → Block
 the_block p x = record { place = p; used = slice_index x 0 == used_tag; words = be2 x 2; link = be2 x 4 }
 
 -- a header is that of its block
-header-by : (p : ℕ) (x : List ℕ) (b : Block) (t : Bool) → IsFull x → is_header x ≡ t → cond t (Some (the_block p x)) None ≡ Some b → x ≡ tag_of b.used ∷ 0 ∷ (bytes2 b.words ++ bytes2 b.link ++ 0 ∷ 0 ∷ [])
-header-by p x b false full h e = absurd (cc e)
-header-by p x b true full h e =
+header_by : (p : ℕ) (x : List ℕ) (b : Block) (t : Bool) → IsFull x → is_header x ≡ t → cond t (Some (the_block p x)) None ≡ Some b → x ≡ tag_of b.used ∷ 0 ∷ (bytes2 b.words ++ bytes2 b.link ++ 0 ∷ 0 ∷ [])
+header_by p x b false full h e = absurd (cc e)
+header_by p x b true full h e =
     let is : the_block p x ≡ b = cc in
     let tag = slice_index x 0 == used_tag || slice_index x 0 == hole_tag in
     let a = tag && slice_index x 1 == 0 in
@@ -76,7 +76,7 @@ header-by p x b true full h e =
     let first = and_parts a (nat_le 1 (be2 x 2)) sixth.0 in
     let second = and_parts tag (slice_index x 1 == 0) first.0 in
     let used : Bool = slice_index x 0 == used_tag in
-    let t0 : slice_index x 0 ≡ tag_of used = tag-is (slice_index x 0) used refl second.0 in
+    let t0 : slice_index x 0 ≡ tag_of used = tag_is (slice_index x 0) used refl second.0 in
     let t1 : slice_index x 1 ≡ 0 = eqb-true (slice_index x 1) 0 second.1 in
     let t6 : slice_index x 6 ≡ 0 = eqb-true (slice_index x 6) 0 sixth.1 in
     let t7 : slice_index x 7 ≡ 0 = eqb-true (slice_index x 7) 0 seventh.1 in
@@ -91,17 +91,17 @@ header-by p x b true full h e =
     ∙ ap (λ (l : List ℕ). tag_of used ∷ 0 ∷ (l ++ slice_index x 4 ∷ slice_index x 5 ∷ 0 ∷ 0 ∷ [])) words
     ∙ ap (λ (l : List ℕ). tag_of used ∷ 0 ∷ (bytes2 (be2 x 2) ++ (l ++ 0 ∷ 0 ∷ []))) link)
 
-header-form : (p : ℕ) (x : List ℕ) (b : Block) → IsFull x → header p x ≡ Some b → x ≡ tag_of b.used ∷ 0 ∷ (bytes2 b.words ++ bytes2 b.link ++ 0 ∷ 0 ∷ [])
-header-form p x b full h = header-by p x b (is_header x) full refl h
+header_form : (p : ℕ) (x : List ℕ) (b : Block) → IsFull x → header p x ≡ Some b → x ≡ tag_of b.used ∷ 0 ∷ (bytes2 b.words ++ bytes2 b.link ++ 0 ∷ 0 ∷ [])
+header_form p x b full h = header_by p x b (is_header x) full refl h
 
 -- ---- pairs at their places
 
 abbrev pub Stand : List (List ℕ) → List (ℕ × List ℕ) → Type 0
 Stand m ps = AllByRecursion (λ p. word m p.0 ≡ p.1) ps
 
-put-stands : (m : List (List ℕ)) (p : ℕ) (x : List ℕ) (es : List (ℕ × List ℕ)) → word m p ≡ x → Stand m es → Stand m (put_at p x es)
-put-stands m p x [] h a = (h, tt)
-put-stands m p x (e ∷ es) h a = by (nat_lt p e.0) (put-stands m p x es h a.1)
+put_stands : (m : List (List ℕ)) (p : ℕ) (x : List ℕ) (es : List (ℕ × List ℕ)) → word m p ≡ x → Stand m es → Stand m (put_at p x es)
+put_stands m p x [] h a = (h, tt)
+put_stands m p x (e ∷ es) h a = by (nat_lt p e.0) (put_stands m p x es h a.1)
   where
     by : (t : Bool) → Stand m (put_at p x es) → Stand m (cond t ((p, x) ∷ e ∷ es) (e ∷ put_at p x es))
     by true r = (h, a)
@@ -110,40 +110,40 @@ put-stands m p x (e ∷ es) h a = by (nat_lt p e.0) (put-stands m p x es h a.1)
 abbrev Used : List (List ℕ) → List (ℕ × ℕ) → Type 0
 Used m ss = AllByRecursion (λ s. word m s.0 ≡ used_header s.1) ss
 
-with-stands : (m : List (List ℕ)) (ss : List (ℕ × ℕ)) (hs : List (ℕ × List ℕ)) → Used m ss → Stand m hs → Stand m (with_used ss hs)
-with-stands m [] hs u h = h
-with-stands m (s ∷ ss) hs u h = put-stands m s.0 (used_header s.1) (with_used ss hs) u.0 (with-stands m ss hs u.1 h)
+with_stands : (m : List (List ℕ)) (ss : List (ℕ × ℕ)) (hs : List (ℕ × List ℕ)) → Used m ss → Stand m hs → Stand m (with_used ss hs)
+with_stands m [] hs u h = h
+with_stands m (s ∷ ss) hs u h = put_stands m s.0 (used_header s.1) (with_used ss hs) u.0 (with_stands m ss hs u.1 h)
 
 -- ---- blocks
 
-full-at : (m : List (List ℕ)) (b : Block) → header b.place (word m b.place) ≡ Some b → b.place + b.words ≤ length m → IsImage m → IsFull (word m b.place)
-full-at m b is ends image =
-    let low : 1 ≤ b.words = (header-is b.place (word m b.place) b is).low in
+full_at : (m : List (List ℕ)) (b : Block) → header b.place (word m b.place) ≡ Some b → b.place + b.words ≤ length m → IsImage m → IsFull (word m b.place)
+full_at m b is ends image =
+    let low : 1 ≤ b.words = (header_is b.place (word m b.place) b is).low in
     (image.words b.place (omega arith), image.bytes b.place)
 
-blocks-stand : (m : List (List ℕ)) (bs : List Block) → IsImage m → HeadersRead m bs → bad_link bs ≡ None → Used m (used_spans bs) × Stand m (chained (hole_spans bs))
-blocks-stand m [] image r h = (tt, tt)
-blocks-stand m (b ∷ bs) image r h =
-    let link = link-none b (cond b.used 0 (first_hole bs)) (bad_link bs) (b.link == cond b.used 0 (first_hole bs)) refl h in
-    by b.used refl (blocks-stand m bs image r.2 link.1) link.0
+blocks_stand : (m : List (List ℕ)) (bs : List Block) → IsImage m → HeadersRead m bs → bad_link bs ≡ None → Used m (used_spans bs) × Stand m (gap_headers (hole_spans bs))
+blocks_stand m [] image r h = (tt, tt)
+blocks_stand m (b ∷ bs) image r h =
+    let link = link_none b (cond b.used 0 (first_hole bs)) (bad_link bs) (b.link == cond b.used 0 (first_hole bs)) refl h in
+    by b.used refl (blocks_stand m bs image r.2 link.1) link.0
   where
-    by : (u : Bool) → b.used ≡ u → Used m (used_spans bs) × Stand m (chained (hole_spans bs)) → b.link ≡ cond u 0 (first_hole bs)
-        → Used m (cond u ((b.place, b.words) ∷ used_spans bs) (used_spans bs)) × Stand m (chained (cond u (hole_spans bs) ((b.place, b.words) ∷ hole_spans bs)))
+    by : (u : Bool) → b.used ≡ u → Used m (used_spans bs) × Stand m (gap_headers (hole_spans bs)) → b.link ≡ cond u 0 (first_hole bs)
+        → Used m (cond u ((b.place, b.words) ∷ used_spans bs) (used_spans bs)) × Stand m (gap_headers (cond u (hole_spans bs) ((b.place, b.words) ∷ hole_spans bs)))
     by true is rest link =
-        let form : word m b.place ≡ tag_of b.used ∷ 0 ∷ (bytes2 b.words ++ bytes2 b.link ++ 0 ∷ 0 ∷ []) = header-form b.place (word m b.place) b (full-at m b r.0 r.1 image) r.0 in
+        let form : word m b.place ≡ tag_of b.used ∷ 0 ∷ (bytes2 b.words ++ bytes2 b.link ++ 0 ∷ 0 ∷ []) = header_form b.place (word m b.place) b (full_at m b r.0 r.1 image) r.0 in
         let here : word m b.place ≡ used_header b.words =
         form ∙ ap (λ (t : Bool). tag_of t ∷ 0 ∷ (bytes2 b.words ++ bytes2 b.link ++ 0 ∷ 0 ∷ [])) is ∙ ap (λ (n : ℕ). used_tag ∷ 0 ∷ (bytes2 b.words ++ bytes2 n ++ 0 ∷ 0 ∷ [])) link in
         ((here, rest.0), rest.1)
     by false is rest link =
-        let form : word m b.place ≡ tag_of b.used ∷ 0 ∷ (bytes2 b.words ++ bytes2 b.link ++ 0 ∷ 0 ∷ []) = header-form b.place (word m b.place) b (full-at m b r.0 r.1 image) r.0 in
+        let form : word m b.place ≡ tag_of b.used ∷ 0 ∷ (bytes2 b.words ++ bytes2 b.link ++ 0 ∷ 0 ∷ []) = header_form b.place (word m b.place) b (full_at m b r.0 r.1 image) r.0 in
         let here : word m b.place ≡ hole_header b.words (first_place (hole_spans bs)) =
-        form ∙ ap (λ (t : Bool). tag_of t ∷ 0 ∷ (bytes2 b.words ++ bytes2 b.link ++ 0 ∷ 0 ∷ [])) is ∙ ap (λ (n : ℕ). hole_tag ∷ 0 ∷ (bytes2 b.words ++ bytes2 n ++ 0 ∷ 0 ∷ [])) (link ∙ first-is bs) in
+        form ∙ ap (λ (t : Bool). tag_of t ∷ 0 ∷ (bytes2 b.words ++ bytes2 b.link ++ 0 ∷ 0 ∷ [])) is ∙ ap (λ (n : ℕ). hole_tag ∷ 0 ∷ (bytes2 b.words ++ bytes2 n ++ 0 ∷ 0 ∷ [])) (link ∙ first_is bs) in
         (rest.0, (here, rest.1))
 
 -- ---- the root
 
-root-form : (x : List ℕ) (v size first : ℕ) → IsFull x → take 6 x ≡ take 6 (root v size 0) → be2 x 6 ≡ first → x ≡ root v size first
-root-form x v size first full front last =
+root_form : (x : List ℕ) (v size first : ℕ) → IsFull x → take 6 x ≡ take 6 (root v size 0) → be2 x 6 ≡ first → x ≡ root v size first
+root_form x v size first full front last =
     let e = eight x full.0 in
     let end : List ℕ = slice_index x 6 ∷ slice_index x 7 ∷ [] in
     e ∙ ap (λ (l : List ℕ). take 6 l ++ end) (sym e) ∙ ap (λ (l : List ℕ). l ++ end) front ∙ ap (λ (l : List ℕ). take 6 (root v size 0) ++ l) (sym (two x 6 first full.1 last))
@@ -152,28 +152,28 @@ rooted : (t : Bool) → cond {A = Option ℕ} t None (Some 0) ≡ None → t ≡
 rooted true h = refl
 rooted false h = absurd (cc h)
 
-root-stands : (m : List (List ℕ)) (first : ℕ) → IsImage m → no_root m ≡ None → be2 (word m 0) 6 ≡ first → word m 0 ≡ root (slice_index (word m 0) 3) (length m) first
-root-stands m first image h last =
+root_stands : (m : List (List ℕ)) (first : ℕ) → IsImage m → no_root m ≡ None → be2 (word m 0) 6 ≡ first → word m 0 ≡ root (slice_index (word m 0) 3) (length m) first
+root_stands m first image h last =
     let x = word m 0 in
     let v : ℕ = slice_index x 3 in
     let low : 256 ≤ length m = image.low in
     let both = and_parts (v == 1 || v == 2) (bytes_eq (take 6 x) (take 6 (root v (length m) 0))) (rooted _ h) in
-    root-form x v (length m) first (image.words 0 (omega arith), image.bytes 0) ((bytes_eq-Decides (take 6 x) (take 6 (root v (length m) 0))).0 both.1) last
+    root_form x v (length m) first (image.words 0 (omega arith), image.bytes 0) ((bytes_eq-Decides (take 6 x) (take 6 (root v (length m) 0))).0 both.1) last
 
 -- ---- the layout
 
-layout-stands : (m : List (List ℕ)) → IsImage m → words_fault m ≡ None → Stand m (layout (card_of m))
+layout_stands : (m : List (List ℕ)) → IsImage m → words_fault m ≡ None → Stand m (layout (card_of m))
 unfolding layout
-layout-stands m image good =
+layout_stands m image good =
     let l : WellLaid m = laid m (sized image) good in
     let bs = blocks m in
-    let chain = chain-parts (be2 (word m 0) 6) (first_hole bs) (bad_link bs) (be2 (word m 0) 6 == first_hole bs) refl l.chain in
-    let all = blocks-stand m bs image l.read chain.1 in
-    let holes : Stand m (chained (gaps (card_of m))) = subst (λ (g : List (ℕ × ℕ)). Stand m (chained g)) (sym l.gaps) all.1 in
+    let chain = chain_parts (be2 (word m 0) 6) (first_hole bs) (bad_link bs) (be2 (word m 0) 6 == first_hole bs) refl l.chain in
+    let all = blocks_stand m bs image l.read chain.1 in
+    let holes : Stand m (gap_headers (gaps (card_of m))) = subst (λ (g : List (ℕ × ℕ)). Stand m (gap_headers g)) (sym l.gaps) all.1 in
     let used : Used m (spans (card_of m)) = subst (λ (s : List (ℕ × ℕ)). Used m s) (sym l.spans) all.0 in
-    let first : be2 (word m 0) 6 ≡ first_place (gaps (card_of m)) = chain.0 ∙ first-is bs ∙ ap first_place (sym l.gaps) in
-    (root-stands m (first_place (gaps (card_of m))) image l.root first, with-stands m (spans (card_of m)) (chained (gaps (card_of m))) used holes)
+    let first : be2 (word m 0) 6 ≡ first_place (gaps (card_of m)) = chain.0 ∙ first_is bs ∙ ap first_place (sym l.gaps) in
+    (root_stands m (first_place (gaps (card_of m))) image l.root first, with_stands m (spans (card_of m)) (gap_headers (gaps (card_of m))) used holes)
 
 -- an image without a fault, once its journal is replayed
-pub layout-law : (m : List (List ℕ)) → IsImage m → IsWellLaid m → Stand (words_after (after m) m) (layout (means m))
-layout-law m image h = layout-stands (words_after (after m) m) (image-settled m image) (sound-after m (look m) refl h)
+pub layout_law : (m : List (List ℕ)) → IsImage m → IsWellLaid m → Stand (words_after (after m) m) (layout (means m))
+layout_law m image h = layout_stands (words_after (after m) m) (image_settled m image) (sound_after m (look m) refl h)

@@ -10,20 +10,20 @@ use Rattle.mc_model_device.specs.Layout.{first_place, gaps, IsWellLaid}
 use Rattle.mc_blocks.specs.Chains.{SpansAbove, IsChain}
 use Rattle.mc_blocks.specs.Blocks.{hole_spans}
 use Rattle.mc_blocks.specs.Plans.{names_before, gap_before, gaps_behind, joined_words, joined_next, has_room}
-use Rattle.mc_blocks.proofs.Search.{GapChain, chain-of, left_of, next-nearer}
-use Rattle.mc_blocks.proofs.Taking.{room-from}
+use Rattle.mc_blocks.proofs.Search.{GapChain, chain_of, left_of, next_nearer}
+use Rattle.mc_blocks.proofs.Taking.{room_from}
 
-chain-cut : (m : List (List ℕ)) (p : ℕ) (g : ℕ × ℕ) (gs : List (ℕ × ℕ)) (t : Bool) → IsChain m (g ∷ gs) → IsChain m (gaps_behind p gs) → IsChain m (cond t (gaps_behind p gs) (g ∷ gs))
-chain-cut m p g gs true c rest = rest
-chain-cut m p g gs false c rest = c
+chain_cut : (m : List (List ℕ)) (p : ℕ) (g : ℕ × ℕ) (gs : List (ℕ × ℕ)) (t : Bool) → IsChain m (g ∷ gs) → IsChain m (gaps_behind p gs) → IsChain m (cond t (gaps_behind p gs) (g ∷ gs))
+chain_cut m p g gs true c rest = rest
+chain_cut m p g gs false c rest = c
 
 -- the gaps from a place on are a chain
-pub chain-behind : (m : List (List ℕ)) (p : ℕ) (gs : List (ℕ × ℕ)) → IsChain m gs → IsChain m (gaps_behind p gs)
-chain-behind m p [] c = tt
-chain-behind m p (g ∷ gs) c = chain-cut m p g gs (nat_lt g.0 p) c (chain-behind m p gs c.6)
+pub chain_behind : (m : List (List ℕ)) (p : ℕ) (gs : List (ℕ × ℕ)) → IsChain m gs → IsChain m (gaps_behind p gs)
+chain_behind m p [] c = tt
+chain_behind m p (g ∷ gs) c = chain_cut m p g gs (nat_lt g.0 p) c (chain_behind m p gs c.6)
 
-pub gaps-chain : (m : List (List ℕ)) → IsSized m → look m ≡ Closed → IsWellLaid m → IsChain m (gaps (means m))
-gaps-chain m image closed h = let c : GapChain m = chain-of m image closed h in subst (λ (l : List (ℕ × ℕ)). IsChain m l) (sym c.gaps) c.chain
+pub gaps_chain : (m : List (List ℕ)) → IsSized m → look m ≡ Closed → IsWellLaid m → IsChain m (gaps (means m))
+gaps_chain m image closed h = let c : GapChain m = chain_of m image closed h in subst (λ (l : List (ℕ × ℕ)). IsChain m l) (sym c.gaps) c.chain
 
 -- ---- towards a place
 
@@ -35,9 +35,9 @@ pub record Trail (m : List (List ℕ)) (p : ℕ) (whole : List (ℕ × ℕ)) (pl
   pub before : gap_before p (0, 0) whole ≡ gap_before p (place, words) rest
   pub behind : gaps_behind p whole ≡ gaps_behind p rest
 
-pub trail-begins : (m : List (List ℕ)) (p next : ℕ) (x : List ℕ) → IsSized m → look m ≡ Closed → IsWellLaid m → x ≡ word m 0 → next ≡ be2 x 6 → Trail m p (gaps (means m)) 0 0 next
-trail-begins m p next x image closed h is here =
-    let c : GapChain m = chain-of m image closed h in
+pub trail_begins : (m : List (List ℕ)) (p next : ℕ) (x : List ℕ) → IsSized m → look m ≡ Closed → IsWellLaid m → x ≡ word m 0 → next ≡ be2 x 6 → Trail m p (gaps (means m)) 0 0 next
+trail_begins m p next x image closed h is here =
+    let c : GapChain m = chain_of m image closed h in
     record {
       rest = hole_spans (blocks m);
       chain = c.chain;
@@ -69,20 +69,20 @@ go m p place words next whole (g ∷ gs) c here before behind ne lt =
         before = before ∙ ap (λ (t : Bool). cond t (gap_before p g gs) (place, words)) less ∙ ap (λ (n : ℕ). gap_before p (g.0, n) gs) (sym c.3);
         behind = behind ∙ ap (λ (t : Bool). cond t (gaps_behind p gs) (g ∷ gs)) less;
       };
-      nearer = subst (λ (n : ℕ). left_of (length m) n < left_of (length m) g.0) (sym c.4) (next-nearer (length m) g.0 gs low (omega arith) c.5);
+      nearer = subst (λ (n : ℕ). left_of (length m) n < left_of (length m) g.0) (sym c.4) (next_nearer (length m) g.0 gs low (omega arith) c.5);
     })
 
-before-parts : (next p : ℕ) → names_before next p ≡ true → (next ≢ 0) × (next < p)
-before-parts next p h =
+before_parts : (next p : ℕ) → names_before next p ≡ true → (next ≢ 0) × (next < p)
+before_parts next p h =
     let parts = and_parts (not (next == 0)) (nat_lt next p) h in
     (eqb-false next 0 (not-true (next == 0) parts.0), ltb-true next p parts.1)
 
 pub ahead : (m : List (List ℕ)) (p : ℕ) (whole : List (ℕ × ℕ)) (place words next : ℕ) → Trail m p whole place words next → names_before next p ≡ true → Ahead m p whole next
-ahead m p whole place words next t h = let parts = before-parts next p h in go m p place words next whole t.rest t.chain t.here t.before t.behind parts.0 parts.1
+ahead m p whole place words next t h = let parts = before_parts next p h in go m p place words next whole t.rest t.chain t.here t.before t.behind parts.0 parts.1
 
-pub trail-on : (m : List (List ℕ)) (p : ℕ) (whole : List (ℕ × ℕ)) (place words next place' words' next' : ℕ) → Trail m p whole place words next → names_before next p ≡ true
+pub trail_on : (m : List (List ℕ)) (p : ℕ) (whole : List (ℕ × ℕ)) (place words next place' words' next' : ℕ) → Trail m p whole place words next → names_before next p ≡ true
     → place' ≡ next → words' ≡ be2 (word m next) 2 → next' ≡ be2 (word m next) 4 → Trail m p whole place' words' next'
-trail-on m p whole place words next place' words' next' t h a b c =
+trail_on m p whole place words next place' words' next' t h a b c =
     subst (λ (x : ℕ). Trail m p whole x words' next') (sym a)
     (subst (λ (x : ℕ). Trail m p whole next x next') (sym b)
     (subst (λ (x : ℕ). Trail m p whole next (be2 (word m next) 2) x) (sym c) (ahead m p whole place words next t h).on))
@@ -96,9 +96,9 @@ stop m p g (f ∷ fs) c h =
     let past : nat_lt f.0 p ≡ false = sym (ap (λ (t : Bool). not t && nat_lt f.0 p) (ne_eqb f.0 0 ne)) ∙ h in
     (ap (λ (t : Bool). cond t (gap_before p f fs) g) past, ap (λ (t : Bool). cond t (gaps_behind p fs) (f ∷ fs)) past)
 
-pub trail-ends : (m : List (List ℕ)) (p : ℕ) (whole : List (ℕ × ℕ)) (place words next : ℕ) → Trail m p whole place words next → names_before next p ≡ false
+pub trail_ends : (m : List (List ℕ)) (p : ℕ) (whole : List (ℕ × ℕ)) (place words next : ℕ) → Trail m p whole place words next → names_before next p ≡ false
     → ((place, words) ≡ gap_before p (0, 0) whole) × (next ≡ first_place (gaps_behind p whole))
-trail-ends m p whole place words next t h =
+trail_ends m p whole place words next t h =
     let s = stop m p (place, words) t.rest t.chain (subst (λ (n : ℕ). names_before n p ≡ false) t.here h) in
     (sym (t.before ∙ s.0), t.here ∙ sym (ap first_place (t.behind ∙ s.1)))
 
@@ -125,17 +125,17 @@ meet m p n next (g ∷ gs) c low here same =
       names = c.4 ∙ sym (ap (λ (t : Bool). cond t (first_place gs) g.0) is);
     })
 
-pub gap-meets : (m : List (List ℕ)) (p n next : ℕ) → IsSized m → look m ≡ Closed → IsWellLaid m → 1 ≤ p → next ≡ first_place (gaps_behind p (gaps (means m))) → next ≡ p + n → Meets m p n next (gaps_behind p (gaps (means m)))
-gap-meets m p n next image closed h low here same = meet m p n next (gaps_behind p (gaps (means m))) (chain-behind m p (gaps (means m)) (gaps-chain m image closed h)) low here same
+pub gap_meets : (m : List (List ℕ)) (p n next : ℕ) → IsSized m → look m ≡ Closed → IsWellLaid m → 1 ≤ p → next ≡ first_place (gaps_behind p (gaps (means m))) → next ≡ p + n → Meets m p n next (gaps_behind p (gaps (means m)))
+gap_meets m p n next image closed h low here same = meet m p n next (gaps_behind p (gaps (means m))) (chain_behind m p (gaps (means m)) (gaps_chain m image closed h)) low here same
 
-joined-test : (m : List (List ℕ)) (p n : ℕ) (g : ℕ × ℕ) (t : Bool) → (g.0 == p + n) ≡ t → g.0 + g.1 ≤ length m → p + n ≤ length m → p + cond t (n + g.1) n ≤ length m
-joined-test m p n g true e high h = let is : g.0 ≡ p + n = eqb-true g.0 (p + n) e in omega arith
-joined-test m p n g false e high h = h
+joined_test : (m : List (List ℕ)) (p n : ℕ) (g : ℕ × ℕ) (t : Bool) → (g.0 == p + n) ≡ t → g.0 + g.1 ≤ length m → p + n ≤ length m → p + cond t (n + g.1) n ≤ length m
+joined_test m p n g true e high h = let is : g.0 ≡ p + n = eqb-true g.0 (p + n) e in omega arith
+joined_test m p n g false e high h = h
 
 -- a hole that is joined with the next if they touch ends within the device
-pub joined-within : (m : List (List ℕ)) (p n : ℕ) (hs : List (ℕ × ℕ)) → IsChain m hs → p + n ≤ length m → p + joined_words p n hs ≤ length m
-joined-within m p n [] c h = h
-joined-within m p n (g ∷ gs) c h = joined-test m p n g (g.0 == p + n) refl c.1 h
+pub joined_within : (m : List (List ℕ)) (p n : ℕ) (hs : List (ℕ × ℕ)) → IsChain m hs → p + n ≤ length m → p + joined_words p n hs ≤ length m
+joined_within m p n [] c h = h
+joined_within m p n (g ∷ gs) c h = joined_test m p n g (g.0 == p + n) refl c.1 h
 
 -- ---- the hole at a place
 
@@ -147,8 +147,8 @@ pub record HoleAt (m : List (List ℕ)) (p need : ℕ) (gs : List (ℕ × ℕ)) 
   pub behind : gaps_behind p gs ≡ (p, be2 (word m p) 2) ∷ rest
   pub next : be2 (word m p) 4 ≡ first_place rest
 
-hole-first : (m : List (List ℕ)) (need : ℕ) (g : ℕ × ℕ) (gs : List (ℕ × ℕ)) → IsChain m (g ∷ gs) → need ≤ g.1 → HoleAt m g.0 need (g ∷ gs)
-hole-first m need g gs c fits =
+hole_first : (m : List (List ℕ)) (need : ℕ) (g : ℕ × ℕ) (gs : List (ℕ × ℕ)) → IsChain m (g ∷ gs) → need ≤ g.1 → HoleAt m g.0 need (g ∷ gs)
+hole_first m need g gs c fits =
     record {
       long = omega (arith, c.3);
       ends = omega (arith, c.3, c.1);
@@ -158,16 +158,16 @@ hole-first m need g gs c fits =
       next = c.4;
     }
 
-pub hole-at : (m : List (List ℕ)) (p need : ℕ) (gs : List (ℕ × ℕ)) → IsChain m gs → has_room p need gs ≡ true → HoleAt m p need gs
-hole-at m p need [] c h = absurd (cc h)
-hole-at m p need (g ∷ gs) c h =
+pub hole_at : (m : List (List ℕ)) (p need : ℕ) (gs : List (ℕ × ℕ)) → IsChain m gs → has_room p need gs ≡ true → HoleAt m p need gs
+hole_at m p need [] c h = absurd (cc h)
+hole_at m p need (g ∷ gs) c h =
     elim (or_cases (g.0 == p && nat_le need g.1) (has_room p need gs) h) [
       | inl here ↦
           let parts = and_parts (g.0 == p) (nat_le need g.1) here in
-          subst (λ (q : ℕ). HoleAt m q need (g ∷ gs)) (eqb-true g.0 p parts.0) (hole-first m need g gs c (leb-true need g.1 parts.1))
+          subst (λ (q : ℕ). HoleAt m q need (g ∷ gs)) (eqb-true g.0 p parts.0) (hole_first m need g gs c (leb-true need g.1 parts.1))
       | inr later ↦
-          let far : g.0 + 1 ≤ p = room-from (g.0 + 1) p need gs c.5 later in
-          let there : HoleAt m p need gs = hole-at m p need gs c.6 later in
+          let far : g.0 + 1 ≤ p = room_from (g.0 + 1) p need gs c.5 later in
+          let there : HoleAt m p need gs = hole_at m p need gs c.6 later in
           record { long = there.long; ends = there.ends; some = there.some; rest = there.rest; behind = ap (λ (t : Bool). cond t (gaps_behind p gs) (g ∷ gs)) (lt-ltb g.0 p (omega arith)) ∙ there.behind; next = there.next }
     ]
 
@@ -177,19 +177,19 @@ hole-at m p need (g ∷ gs) c h =
 pub BeforeAt : List (List ℕ) → ℕ → ℕ × ℕ → Type 0
 BeforeAt m p g = ((g.0 ≡ 0) × (g.1 ≡ 0)) ⊎ ((131 ≤ g.0) × (g.0 + g.1 ≤ length m) × (g.0 < p))
 
-before-kind : (m : List (List ℕ)) (p : ℕ) (g h : ℕ × ℕ) (more : ℕ × ℕ) (t : Bool) → nat_lt h.0 p ≡ t → BeforeAt m p g → 131 ≤ h.0 → h.0 + h.1 ≤ length m → (BeforeAt m p h → BeforeAt m p more) → BeforeAt m p (cond t more g)
+before_kind : (m : List (List ℕ)) (p : ℕ) (g h : ℕ × ℕ) (more : ℕ × ℕ) (t : Bool) → nat_lt h.0 p ≡ t → BeforeAt m p g → 131 ≤ h.0 → h.0 + h.1 ≤ length m → (BeforeAt m p h → BeforeAt m p more) → BeforeAt m p (cond t more g)
 unfolding BeforeAt
-before-kind m p g h more true e at low high rest = rest (inr (low, high, ltb-true h.0 p e))
-before-kind m p g h more false e at low high rest = at
+before_kind m p g h more true e at low high rest = rest (inr (low, high, ltb-true h.0 p e))
+before_kind m p g h more false e at low high rest = at
 
-before-all : (m : List (List ℕ)) (p : ℕ) (g : ℕ × ℕ) (gs : List (ℕ × ℕ)) → BeforeAt m p g → SpansAbove 131 gs → IsChain m gs → BeforeAt m p (gap_before p g gs)
-before-all m p g [] at a c = at
-before-all m p g (h ∷ hs) at a c = before-kind m p g h (gap_before p h hs) (nat_lt h.0 p) refl at a.0 c.1 (λ b. before-all m p h hs b a.1 c.6)
+before_all : (m : List (List ℕ)) (p : ℕ) (g : ℕ × ℕ) (gs : List (ℕ × ℕ)) → BeforeAt m p g → SpansAbove 131 gs → IsChain m gs → BeforeAt m p (gap_before p g gs)
+before_all m p g [] at a c = at
+before_all m p g (h ∷ hs) at a c = before_kind m p g h (gap_before p h hs) (nat_lt h.0 p) refl at a.0 c.1 (λ b. before_all m p h hs b a.1 c.6)
 
-pub before-at : (m : List (List ℕ)) (p : ℕ) (gs : List (ℕ × ℕ)) → SpansAbove 131 gs → IsChain m gs → BeforeAt m p (gap_before p (0, 0) gs)
+pub before_at : (m : List (List ℕ)) (p : ℕ) (gs : List (ℕ × ℕ)) → SpansAbove 131 gs → IsChain m gs → BeforeAt m p (gap_before p (0, 0) gs)
 unfolding BeforeAt
-before-at m p gs a c = before-all m p (0, 0) gs (inl (refl, refl)) a c
+before_at m p gs a c = before_all m p (0, 0) gs (inl (refl, refl)) a c
 
-pub before-cases : (m : List (List ℕ)) (p : ℕ) (g : ℕ × ℕ) → BeforeAt m p g → ((g.0 ≡ 0) × (g.1 ≡ 0)) ⊎ ((131 ≤ g.0) × (g.0 + g.1 ≤ length m) × (g.0 < p))
+pub before_cases : (m : List (List ℕ)) (p : ℕ) (g : ℕ × ℕ) → BeforeAt m p g → ((g.0 ≡ 0) × (g.1 ≡ 0)) ⊎ ((131 ≤ g.0) × (g.0 + g.1 ≤ length m) × (g.0 < p))
 unfolding BeforeAt
-before-cases m p g at = at
+before_cases m p g at = at

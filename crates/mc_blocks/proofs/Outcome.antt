@@ -9,123 +9,123 @@ use Rattle.mc_model_device.specs.Device.{IsSized}
 use Rattle.mc_model_device.specs.Card.{App, Card, Block, word, blocks, means, record_at, name_at, app_at, apps_of}
 use Rattle.mc_model_device.specs.Layout.{first_hole, gaps, spans, put_at, root, same_pair, is_record, IsWellLaid}
 use Rattle.mc_model_device.specs.Stopped.{LaidWhole as WrittenBy}
-use Rattle.mc_model_device.proofs.ImageLemmas.{HoldsWords, all-append, laid-other, length-laid}
+use Rattle.mc_model_device.proofs.ImageLemmas.{HoldsWords, all_append, laid_other, length_laid}
 use Rattle.mc_blocks.specs.Blocks.{used_spans, hole_spans}
 use Rattle.mc_blocks.specs.Outcomes.{OthersKept, Planned, HoldsApplications}
 use Rattle.mc_blocks.specs.Plans.{changes, layout_of, plan, link_word, without, has_room, has_span}
 use Rattle.mc_blocks.proofs.Tiles.{Tiled, HeadersRead}
-use Rattle.mc_blocks.proofs.Bridge.{WellLaid, well-laid, used-above, AreNamed, named, Faultless, faultless}
-use Rattle.mc_blocks.proofs.Applications.{few-blocks, found-application}
-use Rattle.mc_blocks.proofs.Changes.{from-weaker, split}
-use Rattle.mc_blocks.proofs.Heads.{heads, heads-from, layout-is}
-use Rattle.mc_blocks.proofs.Plans.{plan-is, gaps-are, spans-are}
-use Rattle.mc_blocks.proofs.Taking.{take_in, take-tiled, take-spans}
-use Rattle.mc_blocks.proofs.Freeing.{free_in, free-tiled, free-spans}
-use Rattle.mc_blocks.proofs.Built.{HoldsBlocks, built, same-block, root-good}
-use Rattle.mc_blocks.proofs.Written.{relink, relink-used, Relaid, written, root-apart}
-use Rattle.mc_blocks.proofs.Cards.{In, in-above, in-old, changes-apart, SameUsed, NotNamed, not-named, relink-named, relink-apps, ApplicationInserted, created, Deleted, deleted}
-use Rattle.mc_model_device.proofs.MapLemmas.{remove-inserted}
+use Rattle.mc_blocks.proofs.Bridge.{WellLaid, well_laid, used_above, AreNamed, named, Faultless, faultless}
+use Rattle.mc_blocks.proofs.Applications.{few_blocks, found_application}
+use Rattle.mc_blocks.proofs.Changes.{from_weaker, split}
+use Rattle.mc_blocks.proofs.Heads.{heads, heads_from, layout_is}
+use Rattle.mc_blocks.proofs.Plans.{plan_is, gaps_are, spans_are}
+use Rattle.mc_blocks.proofs.Taking.{take_in, take_tiled, take_spans}
+use Rattle.mc_blocks.proofs.Freeing.{free_in, free_tiled, free_spans}
+use Rattle.mc_blocks.proofs.Built.{HoldsBlocks, built, same_block, root_good}
+use Rattle.mc_blocks.proofs.Written.{relink, relink_used, Relaid, written, root_apart}
+use Rattle.mc_blocks.proofs.Cards.{In, in_above, in_old, changes_apart, SameUsed, NotNamed, not_named, relink_named, relink_apps, ApplicationInserted, created, Deleted, deleted}
+use Rattle.mc_model_device.proofs.MapLemmas.{remove_inserted}
 use Rattle.mc_model_device.proofs.LookLemmas.{outside_two}
-use Rattle.mc_model_device.proofs.LayoutLemmas.{closed_fault, closed_means, length-put}
-use Rattle.mc_blocks.proofs.Search.{chain-parts}
+use Rattle.mc_model_device.proofs.LayoutLemmas.{closed_fault, closed_means, length_put}
+use Rattle.mc_blocks.proofs.Search.{chain_parts}
 
 -- the words after a plan for the spans of these blocks
 record AfterPlan (m n : List (List ℕ)) (new : List Block) : Type 0 where
   relaid : Relaid m n new
   same : (s : ℕ × ℕ) → In s (used_spans (blocks m)) → In s (used_spans new) → (i : ℕ) → s.0 ≤ i → i < s.0 + s.1 → word n i ≡ word m i
 
-after-plan : (m n : List (List ℕ)) (f : List (ℕ × ℕ) → List (ℕ × ℕ)) (new : List Block) → IsSized m → look m ≡ Closed → IsWellLaid m → Planned m n (f (spans (means m))) → Tiled 131 false new (length m) → f (used_spans (blocks m)) ≡ used_spans new → AfterPlan m n new
-after-plan m n f new image closed h planned tiled spans-new =
-    let l : WellLaid m = well-laid m image closed h in
+after_plan : (m n : List (List ℕ)) (f : List (ℕ × ℕ) → List (ℕ × ℕ)) (new : List Block) → IsSized m → look m ≡ Closed → IsWellLaid m → Planned m n (f (spans (means m))) → Tiled 131 false new (length m) → f (used_spans (blocks m)) ≡ used_spans new → AfterPlan m n new
+after_plan m n f new image closed h planned tiled spans-new =
+    let l : WellLaid m = well_laid m image closed h in
     let v = slice_index (word m 0) 3 in
     let bs = blocks m in
     let high : length m ≤ 16384 = image.high in
     let old-list : List (ℕ × List ℕ) = link_word v (length m) (0, 0) (first_hole bs) ∷ heads bs in
     let new-list : List (ℕ × List ℕ) = link_word v (length m) (0, 0) (first_hole new) ∷ heads new in
     let listed : plan (means m) (f (spans (means m))) ≡ changes old-list new-list =
-    plan-is m f image closed h
-    ∙ ap (λ (x : List (ℕ × List ℕ)). changes x (layout_of v (length m) (f (used_spans bs)))) (layout-is v (length m) bs (used_spans bs) l.tiled refl)
-    ∙ ap (λ (x : List (ℕ × List ℕ)). changes old-list x) (layout-is v (length m) new (f (used_spans bs)) tiled spans-new) in
+    plan_is m f image closed h
+    ∙ ap (λ (x : List (ℕ × List ℕ)). changes x (layout_of v (length m) (f (used_spans bs)))) (layout_is v (length m) bs (used_spans bs) l.tiled refl)
+    ∙ ap (λ (x : List (ℕ × List ℕ)). changes old-list x) (layout_is v (length m) new (f (used_spans bs)) tiled spans-new) in
     let kept : OthersKept m n 131 (changes old-list new-list) = subst (λ (x : List (ℕ × List ℕ)). OthersKept m n 131 x) listed planned.heap in
-    let links = chain-parts (be2 (word m 0) 6) (first_hole bs) _ (be2 (word m 0) 6 == first_hole bs) refl l.chain in
+    let links = chain_parts (be2 (word m 0) 6) (first_hole bs) _ (be2 (word m 0) 6 == first_hole bs) refl l.chain in
     let one : 0 < 1 = omega arith in
     let parts : changes old-list new-list ≡ changes ((0, root v (length m) (first_hole bs)) ∷ []) ((0, root v (length m) (first_hole new)) ∷ []) ++ changes (heads bs) (heads new) =
-    split 1 ((0, root v (length m) (first_hole bs)) ∷ []) (heads bs) ((0, root v (length m) (first_hole new)) ∷ []) (heads new) (one, tt) (from-weaker 131 1 (heads bs) (omega arith) (heads-from 131 false bs (length m) l.tiled)) (one, tt) (from-weaker 131 1 (heads new) (omega arith) (heads-from 131 false new (length m) tiled)) in
+    split 1 ((0, root v (length m) (first_hole bs)) ∷ []) (heads bs) ((0, root v (length m) (first_hole new)) ∷ []) (heads new) (one, tt) (from_weaker 131 1 (heads bs) (omega arith) (heads_from 131 false bs (length m) l.tiled)) (one, tt) (from_weaker 131 1 (heads new) (omega arith) (heads_from 131 false new (length m) tiled)) in
     record {
-      relaid = written m n bs new (omega arith) planned.size (root-good m _ l.root) links.0 l.tiled l.read links.1 tiled
+      relaid = written m n bs new (omega arith) planned.size (root_good m _ l.root) links.0 l.tiled l.read links.1 tiled
           (subst (λ (x : List (ℕ × List ℕ)). HoldsWords n x) listed planned.stand)
           (subst (λ (x : List (ℕ × List ℕ)). AllByRecursion (λ (e : ℕ × List ℕ). e.0 ≢ 0) x → word n 0 ≡ word m 0) listed planned.root)
           kept;
       same = λ s here there i low below.
-          let above : 131 ≤ s.0 = in-above 131 s (used_spans bs) (used-above 131 false bs (length m) l.tiled) here in
+          let above : 131 ≤ s.0 = in_above 131 s (used_spans bs) (used_above 131 false bs (length m) l.tiled) here in
           kept i (omega arith) (subst (λ (x : List (ℕ × List ℕ)). AllByRecursion (λ (e : ℕ × List ℕ). e.0 ≢ i) x) (sym parts)
-          (all-append (λ (e : ℕ × List ℕ). e.0 ≢ i) (changes ((0, root v (length m) (first_hole bs)) ∷ []) ((0, root v (length m) (first_hole new)) ∷ [])) (changes (heads bs) (heads new))
-          (root-apart v (length m) (first_hole bs) (first_hole new) i (omega arith) (list_any (same_pair (0, root v (length m) (first_hole new))) ((0, root v (length m) (first_hole bs)) ∷ [])))
-          (changes-apart s i 131 false (heads bs) new (length m) tiled there low below (in-old s bs here))));
+          (all_append (λ (e : ℕ × List ℕ). e.0 ≢ i) (changes ((0, root v (length m) (first_hole bs)) ∷ []) ((0, root v (length m) (first_hole new)) ∷ [])) (changes (heads bs) (heads new))
+          (root_apart v (length m) (first_hole bs) (first_hole new) i (omega arith) (list_any (same_pair (0, root v (length m) (first_hole new))) ((0, root v (length m) (first_hole bs)) ∷ [])))
+          (changes_apart s i 131 false (heads bs) new (length m) tiled there low below (in_old s bs here))));
     }
 
 -- ---- used blocks have their words
 
-pub good-of : (m : List (List ℕ)) (names : List (List ℕ)) (b : Block) (bs : List Block) (u : Bool) → u ≡ true → MatchBool u ((is_record (record_at m b.place) b.words ≡ true) × (has_name (name_at m b.place) names ≡ false) × AreNamed m (name_at m b.place ∷ names) bs) (AreNamed m names bs)
+pub good_of : (m : List (List ℕ)) (names : List (List ℕ)) (b : Block) (bs : List Block) (u : Bool) → u ≡ true → MatchBool u ((is_record (record_at m b.place) b.words ≡ true) × (has_name (name_at m b.place) names ≡ false) × AreNamed m (name_at m b.place ∷ names) bs) (AreNamed m names bs)
     → is_record (record_at m b.place) b.words ≡ true
-good-of m names b bs true e nm = nm.0
-good-of m names b bs false e nm = absurd (cc e)
+good_of m names b bs true e nm = nm.0
+good_of m names b bs false e nm = absurd (cc e)
 
-pub tail-of : (m : List (List ℕ)) (names : List (List ℕ)) (b : Block) (bs : List Block) (u : Bool) → MatchBool u ((is_record (record_at m b.place) b.words ≡ true) × (has_name (name_at m b.place) names ≡ false) × AreNamed m (name_at m b.place ∷ names) bs) (AreNamed m names bs)
+pub tail_of : (m : List (List ℕ)) (names : List (List ℕ)) (b : Block) (bs : List Block) (u : Bool) → MatchBool u ((is_record (record_at m b.place) b.words ≡ true) × (has_name (name_at m b.place) names ≡ false) × AreNamed m (name_at m b.place ∷ names) bs) (AreNamed m names bs)
     → AreNamed m (cond u (name_at m b.place ∷ names) names) bs
-tail-of m names b bs true nm = nm.2
-tail-of m names b bs false nm = nm
+tail_of m names b bs true nm = nm.2
+tail_of m names b bs false nm = nm
 
-in-first : (b : Block) (us : List (ℕ × ℕ)) (u : Bool) → u ≡ true → In (b.place, b.words) (cond u ((b.place, b.words) ∷ us) us)
-in-first b us true e = inl refl
-in-first b us false e = absurd (cc e)
+in_first : (b : Block) (us : List (ℕ × ℕ)) (u : Bool) → u ≡ true → In (b.place, b.words) (cond u ((b.place, b.words) ∷ us) us)
+in_first b us true e = inl refl
+in_first b us false e = absurd (cc e)
 
-in-later : (s : ℕ × ℕ) (b : Block) (us : List (ℕ × ℕ)) (u : Bool) → In s us → In s (cond u ((b.place, b.words) ∷ us) us)
-in-later s b us true i = inr i
-in-later s b us false i = i
+in_later : (s : ℕ × ℕ) (b : Block) (us : List (ℕ × ℕ)) (u : Bool) → In s us → In s (cond u ((b.place, b.words) ∷ us) us)
+in_later s b us true i = inr i
+in_later s b us false i = i
 
-same-used : (m n : List (List ℕ)) (p : ℕ) (names : List (List ℕ)) (bs : List Block) → length n ≡ length m → HeadersRead m bs → AreNamed m names bs
+same_used : (m n : List (List ℕ)) (p : ℕ) (names : List (List ℕ)) (bs : List Block) → length n ≡ length m → HeadersRead m bs → AreNamed m names bs
     → ((s : ℕ × ℕ) → In s (used_spans bs) → s.0 ≢ p → (i : ℕ) → s.0 ≤ i → i < s.0 + s.1 → word n i ≡ word m i) → SameUsed m n p bs
-same-used m n p names [] size r nm same = tt
-same-used m n p names (b ∷ bs) size r nm same = (
-  (λ u ne. same-block m n b.place b.words size r.1 (good-of m names b bs b.used u nm) (same (b.place, b.words) (in-first b (used_spans bs) b.used u) ne)),
-  same-used m n p (cond b.used (name_at m b.place ∷ names) names) bs size r.2 (tail-of m names b bs b.used nm) (λ s i ne. same s (in-later s b (used_spans bs) b.used i) ne),
+same_used m n p names [] size r nm same = tt
+same_used m n p names (b ∷ bs) size r nm same = (
+  (λ u ne. same_block m n b.place b.words size r.1 (good_of m names b bs b.used u nm) (same (b.place, b.words) (in_first b (used_spans bs) b.used u) ne)),
+  same_used m n p (cond b.used (name_at m b.place ∷ names) names) bs size r.2 (tail_of m names b bs b.used nm) (λ s i ne. same s (in_later s b (used_spans bs) b.used i) ne),
 )
 
-in-put-kind : (s : ℕ × ℕ) (p n : ℕ) (e : ℕ × ℕ) (es more : List (ℕ × ℕ)) (t : Bool) → In s (e ∷ es) → (In s es → In s more) → In s (cond t ((p, n) ∷ e ∷ es) (e ∷ more))
-in-put-kind s p n e es more true i rest = inr i
-in-put-kind s p n e es more false i rest = elim i [ inl here ↦ inl here | inr later ↦ inr (rest later) ]
+in_put_kind : (s : ℕ × ℕ) (p n : ℕ) (e : ℕ × ℕ) (es more : List (ℕ × ℕ)) (t : Bool) → In s (e ∷ es) → (In s es → In s more) → In s (cond t ((p, n) ∷ e ∷ es) (e ∷ more))
+in_put_kind s p n e es more true i rest = inr i
+in_put_kind s p n e es more false i rest = elim i [ inl here ↦ inl here | inr later ↦ inr (rest later) ]
 
-in-put : (s : ℕ × ℕ) (p n : ℕ) (l : List (ℕ × ℕ)) → In s l → In s (put_at p n l)
-in-put s p n [] i = absurd i
-in-put s p n (e ∷ es) i = in-put-kind s p n e es (put_at p n es) (nat_lt p e.0) i (in-put s p n es)
+in_put : (s : ℕ × ℕ) (p n : ℕ) (l : List (ℕ × ℕ)) → In s l → In s (put_at p n l)
+in_put s p n [] i = absurd i
+in_put s p n (e ∷ es) i = in_put_kind s p n e es (put_at p n es) (nat_lt p e.0) i (in_put s p n es)
 
-in-without-kind : (s : ℕ × ℕ) (p : ℕ) (e : ℕ × ℕ) (es more : List (ℕ × ℕ)) (t : Bool) → (e.0 == p) ≡ t → s.0 ≢ p → In s (e ∷ es) → (In s es → In s more) → In s (cond t more (e ∷ more))
-in-without-kind s p e es more true h ne i rest = elim i [ inl here ↦ absurd (ne (sym (ap (λ (x : ℕ × ℕ). x.0) here) ∙ eqb-true e.0 p h)) | inr later ↦ rest later ]
-in-without-kind s p e es more false h ne i rest = elim i [ inl here ↦ inl here | inr later ↦ inr (rest later) ]
+in_without_kind : (s : ℕ × ℕ) (p : ℕ) (e : ℕ × ℕ) (es more : List (ℕ × ℕ)) (t : Bool) → (e.0 == p) ≡ t → s.0 ≢ p → In s (e ∷ es) → (In s es → In s more) → In s (cond t more (e ∷ more))
+in_without_kind s p e es more true h ne i rest = elim i [ inl here ↦ absurd (ne (sym (ap (λ (x : ℕ × ℕ). x.0) here) ∙ eqb-true e.0 p h)) | inr later ↦ rest later ]
+in_without_kind s p e es more false h ne i rest = elim i [ inl here ↦ inl here | inr later ↦ inr (rest later) ]
 
-in-without : (s : ℕ × ℕ) (p : ℕ) (l : List (ℕ × ℕ)) → s.0 ≢ p → In s l → In s (without p l)
-in-without s p [] ne i = absurd i
-in-without s p (e ∷ es) ne i = in-without-kind s p e es (without p es) (e.0 == p) refl ne i (in-without s p es ne)
+in_without : (s : ℕ × ℕ) (p : ℕ) (l : List (ℕ × ℕ)) → s.0 ≢ p → In s l → In s (without p l)
+in_without s p [] ne i = absurd i
+in_without s p (e ∷ es) ne i = in_without_kind s p e es (without p es) (e.0 == p) refl ne i (in_without s p es ne)
 
-less-kind : (p : ℕ) (e : ℕ × ℕ) (es more : List (ℕ × ℕ)) (t : Bool) → length more ≤ length es → length (cond t more (e ∷ more)) ≤ length es + 1
-less-kind p e es more true h = omega (arith, h)
-less-kind p e es more false h = omega (arith, h)
+less_kind : (p : ℕ) (e : ℕ × ℕ) (es more : List (ℕ × ℕ)) (t : Bool) → length more ≤ length es → length (cond t more (e ∷ more)) ≤ length es + 1
+less_kind p e es more true h = omega (arith, h)
+less_kind p e es more false h = omega (arith, h)
 
-length-without : (p : ℕ) (l : List (ℕ × ℕ)) → length (without p l) ≤ length l
-length-without p [] = omega arith
-length-without p (e ∷ es) = let h = less-kind p e es (without p es) (e.0 == p) (length-without p es) in omega (arith, h)
+length_without : (p : ℕ) (l : List (ℕ × ℕ)) → length (without p l) ≤ length l
+length_without p [] = omega arith
+length_without p (e ∷ es) = let h = less_kind p e es (without p es) (e.0 == p) (length_without p es) in omega (arith, h)
 
 -- ---- the cards
 
 leaves : (m n : List (List ℕ)) (new : List Block) (apps : List (List ℕ × App)) → look m ≡ Closed → length n ≡ length m → Relaid m n new → AreNamed n [] new → length (used_spans new) ≤ 32 → apps_of n new ≡ apps → HoldsApplications m n apps
 leaves m n new apps closed size r nm few is =
-    let s : HoldsBlocks n (relink new) = built n (relink new) (record { root = r.root; first = r.first; tiled = r.tiled; read = r.read; links = r.links; named = relink-named n [] new nm; few = subst (λ (l : List (ℕ × ℕ)). length l ≤ 32) (sym (relink-used new)) few }) in
+    let s : HoldsBlocks n (relink new) = built n (relink new) (record { root = r.root; first = r.first; tiled = r.tiled; read = r.read; links = r.links; named = relink_named n [] new nm; few = subst (λ (l : List (ℕ × ℕ)). length l ≤ 32) (sym (relink_used new)) few }) in
     record {
       laid = s.good;
       card = ap (λ (x : ℕ). record { size = x; layout = slice_index (word n 0) 3; apps = apps_of n (blocks n) }) size
           ∙ ap (λ (x : ℕ). record { size = length m; layout = x; apps = apps_of n (blocks n) }) r.version
-          ∙ ap (λ (x : List (List ℕ × App)). record { size = length m; layout = slice_index (word m 0) 3; apps = x }) (ap (λ (l : List Block). apps_of n l) s.blocks ∙ relink-apps n new ∙ is)
+          ∙ ap (λ (x : List (List ℕ × App)). record { size = length m; layout = slice_index (word m 0) 3; apps = x }) (ap (λ (l : List Block). apps_of n l) s.blocks ∙ relink_apps n new ∙ is)
           ∙ sym (ap (λ (k : Card). record k { apps = apps }) (closed_means m closed));
     }
 
@@ -133,56 +133,56 @@ leaves m n new apps closed size r nm few is =
 pub creates : (m n : List (List ℕ)) (p need : ℕ) → IsSized m → look m ≡ Closed → IsWellLaid m → 1 ≤ need → has_room p need (gaps (means m)) ≡ true → Planned m n (put_at p need (spans (means m)))
     → is_record (record_at n p) need ≡ true → lookup (means m).apps (name_at n p) ≡ None → length (means m).apps < 32 → HoldsApplications m n (insert (means m).apps (name_at n p) (app_at n p))
 creates m n p need image closed h some room planned good fresh few =
-    let l : WellLaid m = well-laid m image closed h in
+    let l : WellLaid m = well_laid m image closed h in
     let f : Faultless m = faultless m (sym (closed_fault m closed) ∙ h) in
     let bs = blocks m in
-    let free : has_room p need (hole_spans bs) ≡ true = subst (λ (x : List (ℕ × ℕ)). has_room p need x ≡ true) (gaps-are m image closed h) room in
+    let free : has_room p need (hole_spans bs) ≡ true = subst (λ (x : List (ℕ × ℕ)). has_room p need x ≡ true) (gaps_are m image closed h) room in
     let new = take_in p need bs in
-    let tiled : Tiled 131 false new (length m) = take-tiled p need 131 false bs (length m) some l.tiled free in
-    let same-spans : used_spans new ≡ put_at p need (used_spans bs) = take-spans p need 131 false bs (length m) l.tiled free in
-    let after : AfterPlan m n new = after-plan m n (put_at p need) new image closed h planned tiled (sym same-spans) in
+    let tiled : Tiled 131 false new (length m) = take_tiled p need 131 false bs (length m) some l.tiled free in
+    let same-spans : used_spans new ≡ put_at p need (used_spans bs) = take_spans p need 131 false bs (length m) l.tiled free in
+    let after : AfterPlan m n new = after_plan m n (put_at p need) new image closed h planned tiled (sym same-spans) in
     let names : AreNamed m [] bs = named m bs [] 0 f.records in
     let means-apps : (means m).apps ≡ apps_of m bs = ap (λ (k : Card). k.apps) (closed_means m closed) in
-    let used : SameUsed m n p bs = same-used m n p [] bs planned.size l.read names (λ s i ne. after.same s i (subst (λ (x : List (ℕ × ℕ)). In s x) (sym same-spans) (in-put s p need (used_spans bs) i))) in
-    let unnamed : NotNamed m (name_at n p) bs = not-named m (name_at n p) bs (sym (ap (λ (es : List (List ℕ × App)). lookup es (name_at n p)) means-apps) ∙ fresh) in
+    let used : SameUsed m n p bs = same_used m n p [] bs planned.size l.read names (λ s i ne. after.same s i (subst (λ (x : List (ℕ × ℕ)). In s x) (sym same-spans) (in_put s p need (used_spans bs) i))) in
+    let unnamed : NotNamed m (name_at n p) bs = not_named m (name_at n p) bs (sym (ap (λ (es : List (List ℕ × App)). lookup es (name_at n p)) means-apps) ∙ fresh) in
     let c : ApplicationInserted m n [] (name_at n p) (app_at n p) bs new = created m n p need 131 false [] bs (length m) l.tiled names used unnamed free refl good in
     let count : length (used_spans bs) < 32 = subst (λ (k : ℕ). k < 32) (ap (λ (es : List (List ℕ × App)). length es) means-apps ∙ l.apps) few in
-    let more : length (used_spans new) ≤ 32 = omega (arith, ap length same-spans, length-put p need (used_spans bs), count) in
+    let more : length (used_spans new) ≤ 32 = omega (arith, ap length same-spans, length_put p need (used_spans bs), count) in
     leaves m n new (insert (means m).apps (name_at n p) (app_at n p)) closed planned.size after.relaid c.named more (c.apps ∙ ap (λ (es : List (List ℕ × App)). insert es (name_at n p) (app_at n p)) (sym means-apps))
 
 -- a block is freed: the card loses its application
 pub deletes : (m n : List (List ℕ)) (k : List ℕ) (a : App) → IsSized m → look m ≡ Closed → IsWellLaid m → lookup (means m).apps k ≡ Some a → Planned m n (without a.place (spans (means m))) → HoldsApplications m n (remove (means m).apps k)
 deletes m n k a image closed h found planned =
-    let l : WellLaid m = well-laid m image closed h in
+    let l : WellLaid m = well_laid m image closed h in
     let f : Faultless m = faultless m (sym (closed_fault m closed) ∙ h) in
     let bs = blocks m in
     let p = a.place in
-    let at = found-application m k a image closed h found in
-    let there : has_span p (used_spans bs) ≡ true = subst (λ (x : List (ℕ × ℕ)). has_span p x ≡ true) (spans-are m image closed h) at.span in
+    let at = found_application m k a image closed h found in
+    let there : has_span p (used_spans bs) ≡ true = subst (λ (x : List (ℕ × ℕ)). has_span p x ≡ true) (spans_are m image closed h) at.span in
     let new = free_in p bs in
-    let tiled : Tiled 131 false new (length m) = free-tiled p 131 false bs (length m) (λ e. absurd (cc e)) l.tiled there in
-    let same-spans : used_spans new ≡ without p (used_spans bs) = free-spans p 131 false bs (length m) l.tiled there in
-    let after : AfterPlan m n new = after-plan m n (without p) new image closed h planned tiled (sym same-spans) in
+    let tiled : Tiled 131 false new (length m) = free_tiled p 131 false bs (length m) (λ e. absurd (cc e)) l.tiled there in
+    let same-spans : used_spans new ≡ without p (used_spans bs) = free_spans p 131 false bs (length m) l.tiled there in
+    let after : AfterPlan m n new = after_plan m n (without p) new image closed h planned tiled (sym same-spans) in
     let names : AreNamed m [] bs = named m bs [] 0 f.records in
     let means-apps : (means m).apps ≡ apps_of m bs = ap (λ (k : Card). k.apps) (closed_means m closed) in
-    let used : SameUsed m n p bs = same-used m n p [] bs planned.size l.read names (λ s i ne. after.same s i (subst (λ (x : List (ℕ × ℕ)). In s x) (sym same-spans) (in-without s p (used_spans bs) ne i))) in
+    let used : SameUsed m n p bs = same_used m n p [] bs planned.size l.read names (λ s i ne. after.same s i (subst (λ (x : List (ℕ × ℕ)). In s x) (sym same-spans) (in_without s p (used_spans bs) ne i))) in
     let d : Deleted m n [] (name_at m p) (app_at m p) bs new = deleted m n p 131 false [] bs (length m) l.tiled names used there in
-    let few : length (used_spans new) ≤ 32 = omega (arith, ap length same-spans, length-without p (used_spans bs), few-blocks m f) in
+    let few : length (used_spans new) ≤ 32 = omega (arith, ap length same-spans, length_without p (used_spans bs), few_blocks m f) in
     let left : remove (means m).apps k ≡ apps_of n new =
     ap (λ (es : List (List ℕ × App)). remove es k) (means-apps ∙ d.apps)
     ∙ ap (λ (x : List ℕ). remove (insert (apps_of n new) (name_at m p) (app_at m p)) x) (sym at.name)
-    ∙ remove-inserted (apps_of n new) (name_at m p) (app_at m p) d.gone in
+    ∙ remove_inserted (apps_of n new) (name_at m p) (app_at m p) d.gone in
     leaves m n new (remove (means m).apps k) closed planned.size after.relaid d.named few (sym left)
 
 -- ---- an atomic write of the plan
 
 -- what it leaves of words 0 and the heap
-pub written-plan : (m n : List (List ℕ)) (ss : List (ℕ × ℕ)) → WrittenBy Two m (plan (means m) ss) n → Planned m n ss
-written-plan m n ss s =
+pub written_plan : (m n : List (List ℕ)) (ss : List (ℕ × ℕ)) → WrittenBy Two m (plan (means m) ss) n → Planned m n ss
+written_plan m n ss s =
     let list = plan (means m) ss in
-    let stays : (q : ℕ) → (q ≡ 0) ⊎ (131 ≤ q) → AllByRecursion (λ (e : ℕ × List ℕ). e.0 ≢ q) list → word n q ≡ word m q = λ q at free. s.same.words q (outside_two q at) ∙ laid-other m list q free in
+    let stays : (q : ℕ) → (q ≡ 0) ⊎ (131 ≤ q) → AllByRecursion (λ (e : ℕ × List ℕ). e.0 ≢ q) list → word n q ≡ word m q = λ q at free. s.same.words q (outside_two q at) ∙ laid_other m list q free in
     record {
-      size = s.same.size ∙ length-laid m list;
+      size = s.same.size ∙ length_laid m list;
       stand = s.targets;
       root = λ free. stays 0 (inl refl) free;
       heap = λ q low free. stays q (inr low) free;

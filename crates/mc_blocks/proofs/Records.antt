@@ -2,9 +2,9 @@
 use Rattle.std.proofs.Common.{◌≡◌, ℕ, ◌+◌, ◌<◌, ◌≤◌, List, [], ◌∷◌, length, take, drop, refl, sym, ◌∙◌, ap, arith, subst, length-drop, Bool, true, false, ◌&&◌}
 use Rattle.std.specs.Prelude.{nat_le, ◌==◌, slice_index, bytes_eq}
 use Rattle.mc_model_device.specs.Bytes.{be2, zeros}
-use Rattle.mc_model_device.specs.Card.{needed_of, word, record_at}
+use Rattle.mc_model_device.specs.Card.{words_of_lengths, word, record_at}
 use Rattle.mc_model_device.specs.Layout.{is_record}
-use Rattle.mc_blocks.specs.Records.{named, sized, allowed}
+use Rattle.mc_blocks.specs.Records.{has_valid_name, has_valid_lengths, has_valid_access}
 use Rattle.std.specs.List.{flat_map}
 use Rattle.std.proofs.lemmas.List.{drop_more, take_all}
 use Rattle.std.proofs.lemmas.Bool.{le-leb}
@@ -40,22 +40,22 @@ and_six true a b c d e f = refl
 and_six false a b c d e f = refl
 
 -- the test of a record is that of its three parts and of its number of words
-pub record_parts : (r : List ℕ) (w : ℕ) → (named r && sized r && allowed r && w == needed_of (be2 r 20) (be2 r 22) (slice_index r 17) (slice_index r 18)) ≡ is_record r w
+pub record_parts : (r : List ℕ) (w : ℕ) → (has_valid_name r && has_valid_lengths r && has_valid_access r && w == words_of_lengths (be2 r 20) (be2 r 22) (slice_index r 17) (slice_index r 18)) ≡ is_record r w
 record_parts r w =
-    let fits = w == needed_of (be2 r 20) (be2 r 22) (slice_index r 17) (slice_index r 18) in
+    let fits = w == words_of_lengths (be2 r 20) (be2 r 22) (slice_index r 17) (slice_index r 18) in
     let session = nat_le (be2 r 24) 256 in
     let deny = nat_le (be2 r 26) 15 in
     let end = bytes_eq (drop 28 r) (zeros 4) in
-    ap (λ (t : Bool). t && fits) (and_three (named r && sized r) session deny end)
+    ap (λ (t : Bool). t && fits) (and_three (has_valid_name r && has_valid_lengths r) session deny end)
     ∙ ap (λ (t : Bool). t && session && deny && end && fits)
-    (and_six (named r) (nat_le (slice_index r 17) 128) (nat_le (slice_index r 18) 128) (slice_index r 19 == 0) (nat_le 1 (be2 r 20)) (nat_le (be2 r 20) 8192) (nat_le (be2 r 22) 4096))
+    (and_six (has_valid_name r) (nat_le (slice_index r 17) 128) (nat_le (slice_index r 18) 128) (slice_index r 19 == 0) (nat_le 1 (be2 r 20)) (nat_le (be2 r 20) 8192) (nat_le (be2 r 22) 4096))
 
 four_left : (r : List ℕ) → length r ≡ 32 → take 4 (drop 28 r) ≡ drop 28 r
 four_left r h = let few : length (drop 28 r) ≤ 4 = omega (arith, length-drop 28 r) in take_all 4 (drop 28 r) few
 
 -- the last part of the test, if the others hold
 pub allowed_end : (r : List ℕ) (s d : ℕ) (b : Bool) → length r ≡ 32 → s ≡ be2 r 24 → d ≡ be2 r 26 → (s ≤ 256) × (d ≤ 15)
-    → b ≡ bytes_eq (take 4 (drop 28 r)) (zeros (length (take 4 (drop 28 r)))) → b ≡ allowed r
+    → b ≡ bytes_eq (take 4 (drop 28 r)) (zeros (length (take 4 (drop 28 r)))) → b ≡ has_valid_access r
 allowed_end r s d b size session deny within zero =
     let first : nat_le (be2 r 24) 256 ≡ true = subst (λ (n : ℕ). nat_le n 256 ≡ true) session (le-leb s 256 within.0) in
     let second : nat_le (be2 r 26) 15 ≡ true = subst (λ (n : ℕ). nat_le n 15 ≡ true) deny (le-leb d 15 within.1) in

@@ -5,19 +5,19 @@ use Rattle.std.proofs.lemmas.Slice.Eq.{bytes_eq-Decides}
 use Rattle.std.proofs.lemmas.Bool.{eqb-true, leb-true, and_parts, or_cases}
 use Rattle.mc_model_device.specs.Bytes.{up, be2, lookup, insert, has_name}
 use Rattle.mc_model_device.specs.Device.{IsSized}
-use Rattle.mc_model_device.specs.Card.{App, Block, word, header, blocks, section, record_at, name_in, name_at, app_of, app_at, apps_of, card_of, needed_of}
+use Rattle.mc_model_device.specs.Card.{App, Block, word, header, blocks, section, record_at, name_in, name_at, app_of, app_at, apps_of, card_of, words_of_lengths}
 use Rattle.mc_model_device.specs.Layout.{is_record, words_fault, first_hole, bad_link}
 use Rattle.mc_blocks.specs.Chains.{SpansAbove}
 use Rattle.mc_blocks.specs.Blocks.{hole_spans, is_root_word}
 use Rattle.mc_blocks.specs.Plans.{has_room}
-use Rattle.mc_blocks.proofs.Search.{holes-above, chain-parts}
-use Rattle.mc_blocks.proofs.Taking.{room-from}
+use Rattle.mc_blocks.proofs.Search.{holes_above, chain_parts}
+use Rattle.mc_blocks.proofs.Taking.{room_from}
 use Rattle.mc_blocks.proofs.Tiles.{Tiled, HeadersRead}
-use Rattle.mc_blocks.proofs.Bridge.{WellLaid, laid, AreNamed, named, Faultless, faultless, with-block, some-apps, no-apps}
-use Rattle.mc_blocks.proofs.Applications.{few-blocks, lookup-insert}
-use Rattle.mc_blocks.proofs.Built.{HoldsBlocks, built, SameBlock, same-block, root-good}
-use Rattle.mc_blocks.proofs.Sections.{length-section, same-cells, same-section}
-use Rattle.mc_model_device.proofs.MapLemmas.{other_way, insert-swap, insert-twice}
+use Rattle.mc_blocks.proofs.Bridge.{WellLaid, laid, AreNamed, named, Faultless, faultless, with_block, some_apps, no_apps}
+use Rattle.mc_blocks.proofs.Applications.{few_blocks, lookup_insert}
+use Rattle.mc_blocks.proofs.Built.{HoldsBlocks, built, SameBlock, same_block, root_good}
+use Rattle.mc_blocks.proofs.Sections.{length_section, same_cells, same_section}
+use Rattle.mc_model_device.proofs.MapLemmas.{other_way, insert_swap, insert_twice}
 
 -- ---- blocks that are kept
 
@@ -27,17 +27,17 @@ record Stay (m n : List (List ℕ)) (names : List (List ℕ)) (bs : List Block) 
   named : AreNamed n names bs
   apps : apps_of n bs ≡ apps_of m bs
 
-stay-kind : (m n : List (List ℕ)) (names : List (List ℕ)) (b : Block) (bs : List Block) (u : Bool) → length n ≡ length m → b.place + b.words ≤ length m
+stay_kind : (m n : List (List ℕ)) (names : List (List ℕ)) (b : Block) (bs : List Block) (u : Bool) → length n ≡ length m → b.place + b.words ≤ length m
     → ((i : ℕ) → b.place ≤ i → i < b.place + b.words → word n i ≡ word m i)
     → MatchBool u ((is_record (record_at m b.place) b.words ≡ true) × (has_name (name_at m b.place) names ≡ false) × AreNamed m (name_at m b.place ∷ names) bs) (AreNamed m names bs)
     → ((ns : List (List ℕ)) → AreNamed m ns bs → Stay m n ns bs)
     → MatchBool u ((is_record (record_at n b.place) b.words ≡ true) × (has_name (name_at n b.place) names ≡ false) × AreNamed n (name_at n b.place ∷ names) bs) (AreNamed n names bs)
     × (HeadersRead n bs) × (cond u (insert (apps_of n bs) (name_at n b.place) (app_at n b.place)) (apps_of n bs) ≡ cond u (insert (apps_of m bs) (name_at m b.place) (app_at m b.place)) (apps_of m bs))
-stay-kind m n names b bs false size h same nm rest = let s = rest names nm in (s.named, s.read, s.apps)
-stay-kind m n names b bs true size h same nm rest =
+stay_kind m n names b bs false size h same nm rest = let s = rest names nm in (s.named, s.read, s.apps)
+stay_kind m n names b bs true size h same nm rest =
     let k = name_at m b.place in
     let s = rest (k ∷ names) nm.2 in
-    let block : SameBlock m n b.place = same-block m n b.place b.words size h nm.0 same in
+    let block : SameBlock m n b.place = same_block m n b.place b.words size h nm.0 same in
     let name : name_at n b.place ≡ name_at m b.place = ap name_in block.entry in (
       (
         subst (λ (r : List ℕ). is_record r b.words ≡ true) (sym block.entry) nm.0,
@@ -48,16 +48,16 @@ stay-kind m n names b bs true size h same nm rest =
       ap (λ (x : List ℕ). insert (apps_of n bs) x (app_at n b.place)) name ∙ ap (λ (x : App). insert (apps_of n bs) k x) block.app ∙ ap (λ (es : List (List ℕ × App)). insert es k (app_at m b.place)) s.apps,
     )
 
-header-same : (m n : List (List ℕ)) (b : Block) → length n ≡ length m → word n b.place ≡ word m b.place → (header b.place (word m b.place) ≡ Some b) → b.place + b.words ≤ length m → (header b.place (word n b.place) ≡ Some b) × (b.place + b.words ≤ length n)
-header-same m n b size same is ends = (ap (λ (x : List ℕ). header b.place x) same ∙ is, subst (λ (l : ℕ). b.place + b.words ≤ l) (sym size) ends)
+header_same : (m n : List (List ℕ)) (b : Block) → length n ≡ length m → word n b.place ≡ word m b.place → (header b.place (word m b.place) ≡ Some b) → b.place + b.words ≤ length m → (header b.place (word n b.place) ≡ Some b) × (b.place + b.words ≤ length n)
+header_same m n b size same is ends = (ap (λ (x : List ℕ). header b.place x) same ∙ is, subst (λ (l : ℕ). b.place + b.words ≤ l) (sym size) ends)
 
-stay-all : (m n : List (List ℕ)) (names : List (List ℕ)) (q : ℕ) (a : Bool) (bs : List Block) (end : ℕ) → length n ≡ length m → Tiled q a bs end → HeadersRead m bs → AreNamed m names bs → ((i : ℕ) → q ≤ i → word n i ≡ word m i) → Stay m n names bs
-stay-all m n names q a [] end size t r nm same = record { read = tt; named = tt; apps = no-apps n ∙ sym (no-apps m) }
-stay-all m n names q a (b ∷ bs) end size t r nm same =
+stay_all : (m n : List (List ℕ)) (names : List (List ℕ)) (q : ℕ) (a : Bool) (bs : List Block) (end : ℕ) → length n ≡ length m → Tiled q a bs end → HeadersRead m bs → AreNamed m names bs → ((i : ℕ) → q ≤ i → word n i ≡ word m i) → Stay m n names bs
+stay_all m n names q a [] end size t r nm same = record { read = tt; named = tt; apps = no_apps n ∙ sym (no_apps m) }
+stay_all m n names q a (b ∷ bs) end size t r nm same =
     let place : b.place ≡ q = t.0 in
-    let all = stay-kind m n names b bs b.used size r.1 (λ i low high. same i (omega (arith, place))) nm (λ ns ok. stay-all m n ns (q + b.words) (not b.used) bs end size t.3 r.2 ok (λ i low. same i (omega arith))) in
-    let head = header-same m n b size (same b.place (omega (arith, place))) r.0 r.1 in
-    record { read = (head.0, head.1, all.1); named = all.0; apps = some-apps n b bs ∙ all.2 ∙ sym (some-apps m b bs) }
+    let all = stay_kind m n names b bs b.used size r.1 (λ i low high. same i (omega (arith, place))) nm (λ ns ok. stay_all m n ns (q + b.words) (not b.used) bs end size t.3 r.2 ok (λ i low. same i (omega arith))) in
+    let head = header_same m n b size (same b.place (omega (arith, place))) r.0 r.1 in
+    record { read = (head.0, head.1, all.1); named = all.0; apps = some_apps n b bs ∙ all.2 ∙ sym (some_apps m b bs) }
 
 -- ---- a block with other static bytes
 
@@ -77,30 +77,30 @@ recorded_app p r code fixed dir fci = record { code = code; fixed = fixed; sessi
 record OnlyStaticChanged (m n : List (List ℕ)) (p : ℕ) (fixed : List ℕ) : Type 0 where
   entry : record_at n p ≡ record_at m p
   app : app_at n p ≡ record (app_at m p) { fixed = fixed }
-  ends : static_from (app_at m p) + up (length (app_at m p).fixed) 8 ≤ p + needed_of (be2 (record_at m p) 20) (be2 (record_at m p) 22) (slice_index (record_at m p) 17) (slice_index (record_at m p) 18)
+  ends : static_from (app_at m p) + up (length (app_at m p).fixed) 8 ≤ p + words_of_lengths (be2 (record_at m p) 20) (be2 (record_at m p) 22) (slice_index (record_at m p) 17) (slice_index (record_at m p) 18)
 
 -- the block of the application
-here-is : (m n : List (List ℕ)) (p words : ℕ) (fixed : List ℕ) → IsSized m → 131 ≤ p → p + words ≤ length m → is_record (record_at m p) words ≡ true → Restated m n (app_at m p) fixed → OnlyStaticChanged m n p fixed
+here_is : (m n : List (List ℕ)) (p words : ℕ) (fixed : List ℕ) → IsSized m → 131 ≤ p → p + words ≤ length m → is_record (record_at m p) words ≡ true → Restated m n (app_at m p) fixed → OnlyStaticChanged m n p fixed
 unfolding recorded_app
-here-is m n p words fixed image low h good s =
+here_is m n p words fixed image low h good s =
     let r = record_at m p in
     let code = be2 r 20 in
     let static = be2 r 22 in
     let dir = slice_index r 17 in
     let fci = slice_index r 18 in
     let size : length n ≡ length m = s.size in
-    let is : words ≡ needed_of code static dir fci = eqb-true words (needed_of code static dir fci) (and_parts _ (words == needed_of code static dir fci) good).1 in
-    let long : length (app_at m p).code ≡ code = length-section m (p + 5) code image (omega (arith, is)) in
-    let wide : length (app_at m p).fixed ≡ static = length-section m (p + 5 + up code 8) static image (omega (arith, is)) in
+    let is : words ≡ words_of_lengths code static dir fci = eqb-true words (words_of_lengths code static dir fci) (and_parts _ (words == words_of_lengths code static dir fci) good).1 in
+    let long : length (app_at m p).code ≡ code = length_section m (p + 5) code image (omega (arith, is)) in
+    let wide : length (app_at m p).fixed ≡ static = length_section m (p + 5 + up code 8) static image (omega (arith, is)) in
     let from : static_from (app_at m p) ≡ p + 5 + up code 8 = ap (λ (k : ℕ). p + 5 + up k 8) long in
     let before = λ (i : ℕ) (lo : p ≤ i) (hi : i < p + 5 + up code 8). s.words i (omega arith) (inl (omega (arith, from))) in
     let to : static_from (app_at m p) + up (length (app_at m p).fixed) 8 ≡ p + 5 + up code 8 + up static 8 = ap (λ (k : ℕ). k + up (length (app_at m p).fixed) 8) from ∙ ap (λ (k : ℕ). p + 5 + up code 8 + up k 8) wide in
     let behind = λ (i : ℕ) (lo : p + 5 + up code 8 + up static 8 ≤ i). s.words i (omega arith) (inr (omega (arith, to))) in
-    let entry : record_at n p ≡ r = same-cells m n 4 (p + 1) size (omega (arith, is)) (λ i above below. before i (omega arith) (omega arith)) in
-    let a : section n (p + 5) code ≡ section m (p + 5) code = same-section m n (p + 5) code size (omega (arith, is)) (λ i above below. before i (omega arith) (omega arith)) in
+    let entry : record_at n p ≡ r = same_cells m n 4 (p + 1) size (omega (arith, is)) (λ i above below. before i (omega arith) (omega arith)) in
+    let a : section n (p + 5) code ≡ section m (p + 5) code = same_section m n (p + 5) code size (omega (arith, is)) (λ i above below. before i (omega arith) (omega arith)) in
     let b : section n (p + 5 + up code 8) static ≡ fixed = ap (λ (k : ℕ). section n k static) (sym from) ∙ ap (λ (k : ℕ). section n (static_from (app_at m p)) k) (sym wide) ∙ s.bytes in
-    let c : section n (p + 5 + up code 8 + up static 8) dir ≡ section m (p + 5 + up code 8 + up static 8) dir = same-section m n (p + 5 + up code 8 + up static 8) dir size (omega (arith, is)) (λ i above below. behind i (omega arith)) in
-    let d : section n (p + 5 + up code 8 + up static 8 + up dir 8) fci ≡ section m (p + 5 + up code 8 + up static 8 + up dir 8) fci = same-section m n (p + 5 + up code 8 + up static 8 + up dir 8) fci size (omega (arith, is)) (λ i above below. behind i (omega arith)) in
+    let c : section n (p + 5 + up code 8 + up static 8) dir ≡ section m (p + 5 + up code 8 + up static 8) dir = same_section m n (p + 5 + up code 8 + up static 8) dir size (omega (arith, is)) (λ i above below. behind i (omega arith)) in
+    let d : section n (p + 5 + up code 8 + up static 8 + up dir 8) fci ≡ section m (p + 5 + up code 8 + up static 8 + up dir 8) fci = same_section m n (p + 5 + up code 8 + up static 8 + up dir 8) fci size (omega (arith, is)) (λ i above below. behind i (omega arith)) in
     record {
       entry = entry;
       app = ap (λ (t : List ℕ). app_of n p t) entry
@@ -139,11 +139,11 @@ record BlockStep (m n : List (List ℕ)) (names : List (List ℕ)) (k : List ℕ
   same : word n b.place ≡ word m b.place
   read : HeadersRead n bs
   named : MatchBool u ((is_record (record_at n b.place) b.words ≡ true) × (has_name (name_at n b.place) names ≡ false) × AreNamed n (name_at n b.place ∷ names) bs) (AreNamed n names bs)
-  apps : cond u (with-block n b bs) (apps_of n bs) ≡ insert (cond u (with-block m b bs) (apps_of m bs)) k (record a { fixed = fixed })
+  apps : cond u (with_block n b bs) (apps_of n bs) ≡ insert (cond u (with_block m b bs) (apps_of m bs)) k (record a { fixed = fixed })
   apart : (p need : ℕ) → has_room p need (cond u (hole_spans bs) ((b.place, b.words) ∷ hole_spans bs)) ≡ true → (p + need ≤ a.place) ⊎ (static_from a + up (length a.fixed) 8 ≤ p)
 
-hole-apart : (p need q words at end : ℕ) (hs : List (ℕ × ℕ)) → q + words ≤ at → ((q == p && nat_le need words) || has_room p need hs) ≡ true → (has_room p need hs ≡ true → (p + need ≤ at) ⊎ (end ≤ p)) → (p + need ≤ at) ⊎ (end ≤ p)
-hole-apart p need q words at end hs low room rest =
+hole_apart : (p need q words at end : ℕ) (hs : List (ℕ × ℕ)) → q + words ≤ at → ((q == p && nat_le need words) || has_room p need hs) ≡ true → (has_room p need hs ≡ true → (p + need ≤ at) ⊎ (end ≤ p)) → (p + need ≤ at) ⊎ (end ≤ p)
+hole_apart p need q words at end hs low room rest =
     elim (or_cases (q == p && nat_le need words) (has_room p need hs) room) [
       | inl here ↦
           let parts = and_parts (q == p) (nat_le need words) here in
@@ -153,24 +153,24 @@ hole-apart p need q words at end hs low room rest =
       | inr later ↦ rest later
     ]
 
-again-kind : (m n : List (List ℕ)) (names : List (List ℕ)) (k : List ℕ) (a : App) (fixed : List ℕ) (b : Block) (bs : List Block) (u t : Bool) → IsSized m → 131 ≤ b.place → 1 ≤ b.words → b.place + b.words ≤ length m
+again_kind : (m n : List (List ℕ)) (names : List (List ℕ)) (k : List ℕ) (a : App) (fixed : List ℕ) (b : Block) (bs : List Block) (u t : Bool) → IsSized m → 131 ≤ b.place → 1 ≤ b.words → b.place + b.words ≤ length m
     → SpansAbove (b.place + b.words) (hole_spans bs) → Restated m n a fixed → bytes_eq (name_at m b.place) k ≡ t
     → MatchBool u ((is_record (record_at m b.place) b.words ≡ true) × (has_name (name_at m b.place) names ≡ false) × AreNamed m (name_at m b.place ∷ names) bs) (AreNamed m names bs)
     → ((ns : List (List ℕ)) → AreNamed m ns bs → lookup (apps_of m bs) k ≡ Some a → Again m n ns k a fixed (b.place + b.words) bs)
     → ((ns : List (List ℕ)) → AreNamed m ns bs → ((i : ℕ) → b.place + b.words ≤ i → word n i ≡ word m i) → Stay m n ns bs)
-    → lookup (cond u (with-block m b bs) (apps_of m bs)) k ≡ Some a → BlockStep m n names k a fixed b bs u
-again-kind m n names k a fixed b bs false t image heap long h above s e nm rest stay l =
+    → lookup (cond u (with_block m b bs) (apps_of m bs)) k ≡ Some a → BlockStep m n names k a fixed b bs u
+again_kind m n names k a fixed b bs false t image heap long h above s e nm rest stay l =
     let g = rest names nm l in
     let low : b.place + b.words ≤ a.place = g.low in
-    record { low = omega arith; self = g.self; name = g.name; words = g.words; good = g.good; end = g.end; ends = g.ends; same = s.words b.place heap (inl (omega arith)); read = g.read; named = g.named; apps = g.apps; apart = λ p need room. hole-apart p need b.place b.words a.place (static_from a + up (length a.fixed) 8) (hole_spans bs) low room (g.apart p need) }
-again-kind m n names k a fixed b bs true true image heap long h above s e nm rest stay l =
+    record { low = omega arith; self = g.self; name = g.name; words = g.words; good = g.good; end = g.end; ends = g.ends; same = s.words b.place heap (inl (omega arith)); read = g.read; named = g.named; apps = g.apps; apart = λ p need room. hole_apart p need b.place b.words a.place (static_from a + up (length a.fixed) 8) (hole_spans bs) low room (g.apart p need) }
+again_kind m n names k a fixed b bs true true image heap long h above s e nm rest stay l =
     let x = name_at m b.place in
-    let is : Some (app_at m b.place) ≡ Some a = sym (lookup-insert (apps_of m bs) x k (app_at m b.place) ∙ ap (λ (y : Bool). cond y (Some (app_at m b.place)) (lookup (apps_of m bs) k)) e) ∙ l in
+    let is : Some (app_at m b.place) ≡ Some a = sym (lookup_insert (apps_of m bs) x k (app_at m b.place) ∙ ap (λ (y : Bool). cond y (Some (app_at m b.place)) (lookup (apps_of m bs) k)) e) ∙ l in
     let same : app_at m b.place ≡ a = cc in
     let place : b.place ≡ a.place = ap (λ (y : App). y.place) same in
-    let here : OnlyStaticChanged m n b.place fixed = here-is m n b.place b.words fixed image heap h nm.0 (subst (λ (y : App). Restated m n y fixed) (sym same) s) in
+    let here : OnlyStaticChanged m n b.place fixed = here_is m n b.place b.words fixed image heap h nm.0 (subst (λ (y : App). Restated m n y fixed) (sym same) s) in
     let r = record_at m b.place in
-    let need : b.words ≡ needed_of (be2 r 20) (be2 r 22) (slice_index r 17) (slice_index r 18) = eqb-true b.words _ (and_parts _ (b.words == needed_of (be2 r 20) (be2 r 22) (slice_index r 17) (slice_index r 18)) nm.0).1 in
+    let need : b.words ≡ words_of_lengths (be2 r 20) (be2 r 22) (slice_index r 17) (slice_index r 18) = eqb-true b.words _ (and_parts _ (b.words == words_of_lengths (be2 r 20) (be2 r 22) (slice_index r 17) (slice_index r 18)) nm.0).1 in
     let ends : static_from a + up (length a.fixed) 8 ≤ b.place + b.words = subst (λ (y : App). static_from y + up (length y.fixed) 8 ≤ b.place + b.words) same (subst (λ (y : ℕ). static_from (app_at m b.place) + up (length (app_at m b.place).fixed) 8 ≤ b.place + y) (sym need) here.ends) in
     let behind : Stay m n (x ∷ names) bs = stay (x ∷ names) nm.2 (λ i above. s.words i (omega arith) (inr (omega (arith, ends)))) in
     let name : name_at n b.place ≡ x = ap name_in here.entry in
@@ -189,15 +189,15 @@ again-kind m n names k a fixed b bs true true image heap long h above s e nm res
       apps = ap (λ (y : List ℕ). insert (apps_of n bs) y (app_at n b.place)) (name ∙ (bytes_eq-Decides x k).0 e)
           ∙ ap (λ (y : App). insert (apps_of n bs) k y) app
           ∙ ap (λ (es : List (List ℕ × App)). insert es k (record a { fixed = fixed })) behind.apps
-          ∙ sym (ap (λ (y : List ℕ). insert (insert (apps_of m bs) y (app_at m b.place)) k (record a { fixed = fixed })) ((bytes_eq-Decides x k).0 e) ∙ insert-twice (apps_of m bs) k (app_at m b.place) (record a { fixed = fixed }));
-      apart = λ p need room. let far : b.place + b.words ≤ p = room-from (b.place + b.words) p need (hole_spans bs) above room in inr (omega (arith, ends));
+          ∙ sym (ap (λ (y : List ℕ). insert (insert (apps_of m bs) y (app_at m b.place)) k (record a { fixed = fixed })) ((bytes_eq-Decides x k).0 e) ∙ insert_twice (apps_of m bs) k (app_at m b.place) (record a { fixed = fixed }));
+      apart = λ p need room. let far : b.place + b.words ≤ p = room_from (b.place + b.words) p need (hole_spans bs) above room in inr (omega (arith, ends));
     }
-again-kind m n names k a fixed b bs true false image heap long h above s e nm rest stay l =
+again_kind m n names k a fixed b bs true false image heap long h above s e nm rest stay l =
     let x = name_at m b.place in
-    let behind : lookup (apps_of m bs) k ≡ Some a = sym (lookup-insert (apps_of m bs) x k (app_at m b.place) ∙ ap (λ (y : Bool). cond y (Some (app_at m b.place)) (lookup (apps_of m bs) k)) e) ∙ l in
+    let behind : lookup (apps_of m bs) k ≡ Some a = sym (lookup_insert (apps_of m bs) x k (app_at m b.place) ∙ ap (λ (y : Bool). cond y (Some (app_at m b.place)) (lookup (apps_of m bs) k)) e) ∙ l in
     let g : Again m n (x ∷ names) k a fixed (b.place + b.words) bs = rest (x ∷ names) nm.2 behind in
     let low : b.place + b.words ≤ a.place = g.low in
-    let block : SameBlock m n b.place = same-block m n b.place b.words s.size h nm.0 (λ i above below. s.words i (omega arith) (inl (omega arith))) in
+    let block : SameBlock m n b.place = same_block m n b.place b.words s.size h nm.0 (λ i above below. s.words i (omega arith) (inl (omega arith))) in
     let name : name_at n b.place ≡ x = ap name_in block.entry in
     record {
       low = omega arith;
@@ -213,22 +213,22 @@ again-kind m n names k a fixed b bs true false image heap long h above s e nm re
       apps = ap (λ (y : List ℕ). insert (apps_of n bs) y (app_at n b.place)) name
           ∙ ap (λ (y : App). insert (apps_of n bs) x y) block.app
           ∙ ap (λ (es : List (List ℕ × App)). insert es x (app_at m b.place)) g.apps
-          ∙ insert-swap (apps_of m bs) k (record a { fixed = fixed }) x (app_at m b.place) (other_way x k e);
+          ∙ insert_swap (apps_of m bs) k (record a { fixed = fixed }) x (app_at m b.place) (other_way x k e);
       apart = g.apart;
     }
 
-again-all : (m n : List (List ℕ)) (names : List (List ℕ)) (k : List ℕ) (a : App) (fixed : List ℕ) (q : ℕ) (f : Bool) (bs : List Block) (end : ℕ) → IsSized m → 131 ≤ q → Tiled q f bs end → HeadersRead m bs → AreNamed m names bs
+again_all : (m n : List (List ℕ)) (names : List (List ℕ)) (k : List ℕ) (a : App) (fixed : List ℕ) (q : ℕ) (f : Bool) (bs : List Block) (end : ℕ) → IsSized m → 131 ≤ q → Tiled q f bs end → HeadersRead m bs → AreNamed m names bs
     → Restated m n a fixed → lookup (apps_of m bs) k ≡ Some a → Again m n names k a fixed q bs
-again-all m n names k a fixed q f [] end image heap t r nm s l = absurd (cc (sym (ap (λ (es : List (List ℕ × App)). lookup es k) (no-apps m)) ∙ l))
-again-all m n names k a fixed q f (b ∷ bs) end image heap t r nm s l =
+again_all m n names k a fixed q f [] end image heap t r nm s l = absurd (cc (sym (ap (λ (es : List (List ℕ × App)). lookup es k) (no_apps m)) ∙ l))
+again_all m n names k a fixed q f (b ∷ bs) end image heap t r nm s l =
     let place : b.place ≡ q = t.0 in
     let long : 1 ≤ b.words = t.1 in
     let tail : Tiled (b.place + b.words) (not b.used) bs end = subst (λ (x : ℕ). Tiled (x + b.words) (not b.used) bs end) (sym place) t.3 in
-    let g = again-kind m n names k a fixed b bs b.used (bytes_eq (name_at m b.place) k) image (omega (arith, place)) long r.1 (holes-above (b.place + b.words) (not b.used) bs end tail) s refl nm
-    (λ ns ok there. again-all m n ns k a fixed (b.place + b.words) (not b.used) bs end image (omega (arith, place)) tail r.2 ok s there)
-    (λ ns ok same. stay-all m n ns (b.place + b.words) (not b.used) bs end s.size tail r.2 ok same)
-    (sym (ap (λ (es : List (List ℕ × App)). lookup es k) (some-apps m b bs)) ∙ l) in
-    let head = header-same m n b s.size g.same r.0 r.1 in
+    let g = again_kind m n names k a fixed b bs b.used (bytes_eq (name_at m b.place) k) image (omega (arith, place)) long r.1 (holes_above (b.place + b.words) (not b.used) bs end tail) s refl nm
+    (λ ns ok there. again_all m n ns k a fixed (b.place + b.words) (not b.used) bs end image (omega (arith, place)) tail r.2 ok s there)
+    (λ ns ok same. stay_all m n ns (b.place + b.words) (not b.used) bs end s.size tail r.2 ok same)
+    (sym (ap (λ (es : List (List ℕ × App)). lookup es k) (some_apps m b bs)) ∙ l) in
+    let head = header_same m n b s.size g.same r.0 r.1 in
     record {
       low = omega (arith, place, g.low);
       self = g.self;
@@ -239,7 +239,7 @@ again-all m n names k a fixed q f (b ∷ bs) end image heap t r nm s l =
       ends = g.ends;
       read = (head.0, head.1, g.read);
       named = g.named;
-      apps = some-apps n b bs ∙ g.apps ∙ ap (λ (es : List (List ℕ × App)). insert es k (record a { fixed = fixed })) (sym (some-apps m b bs));
+      apps = some_apps n b bs ∙ g.apps ∙ ap (λ (es : List (List ℕ × App)). insert es k (record a { fixed = fixed })) (sym (some_apps m b bs));
       apart = g.apart;
     }
 
@@ -256,9 +256,9 @@ restates m n k a fixed image h there root s =
     let f : Faultless m = faultless m h in
     let l : WellLaid m = laid m image h in
     let bs = blocks m in
-    let g : Again m n [] k a fixed 131 bs = again-all m n [] k a fixed 131 false bs (length m) image (omega arith) l.tiled l.read (named m bs [] 0 f.records) s there in
-    let good : is_root_word (word m 0) (length m) ≡ true = root-good m (is_root_word (word m 0) (length m)) f.root in
-    let links = chain-parts (be2 (word m 0) 6) (first_hole bs) (bad_link bs) (be2 (word m 0) 6 == first_hole bs) refl f.chain in
+    let g : Again m n [] k a fixed 131 bs = again_all m n [] k a fixed 131 false bs (length m) image (omega arith) l.tiled l.read (named m bs [] 0 f.records) s there in
+    let good : is_root_word (word m 0) (length m) ≡ true = root_good m (is_root_word (word m 0) (length m)) f.root in
+    let links = chain_parts (be2 (word m 0) 6) (first_hole bs) (bad_link bs) (be2 (word m 0) 6 == first_hole bs) refl f.chain in
     let stands : HoldsBlocks n bs = built n bs (record {
       root = ap (λ (x : List ℕ). is_root_word x (length n)) root ∙ ap (λ (x : ℕ). is_root_word (word m 0) x) s.size ∙ good;
       first = ap (λ (x : List ℕ). be2 x 6) root ∙ links.0;
@@ -266,7 +266,7 @@ restates m n k a fixed image h there root s =
       read = g.read;
       links = links.1;
       named = g.named;
-      few = few-blocks m f;
+      few = few_blocks m f;
     }) in
     record {
       good = stands.good;
@@ -288,16 +288,16 @@ pub record StaticIn (m : List (List ℕ)) (k : List ℕ) (a : App) : Type 0 wher
   pub bytes : section m (static_from a) (length a.fixed) ≡ a.fixed
   pub apart : (p need : ℕ) → has_room p need (hole_spans (blocks m)) ≡ true → (p + need ≤ a.place) ⊎ (static_from a + up (length a.fixed) 8 ≤ p)
 
-pub static-in : (m : List (List ℕ)) (k : List ℕ) (a : App) → IsSized m → words_fault m ≡ None → lookup (card_of m).apps k ≡ Some a → StaticIn m k a
-static-in m k a image h there =
+pub static_in : (m : List (List ℕ)) (k : List ℕ) (a : App) → IsSized m → words_fault m ≡ None → lookup (card_of m).apps k ≡ Some a → StaticIn m k a
+static_in m k a image h there =
     let f : Faultless m = faultless m h in
     let l : WellLaid m = laid m image h in
     let bs = blocks m in
     let now = section m (static_from a) (length a.fixed) in
     let s : Restated m m a now = record { size = refl; words = λ i low out. refl; bytes = refl } in
-    let g : Again m m [] k a now 131 bs = again-all m m [] k a now 131 false bs (length m) image (omega arith) l.tiled l.read (named m bs [] 0 f.records) s there in
+    let g : Again m m [] k a now 131 bs = again_all m m [] k a now 131 false bs (length m) image (omega arith) l.tiled l.read (named m bs [] 0 f.records) s there in
     let again : Some a ≡ Some (record a { fixed = now }) =
-    sym there ∙ ap (λ (es : List (List ℕ × App)). lookup es k) g.apps ∙ lookup-insert (apps_of m bs) k k (record a { fixed = now })
+    sym there ∙ ap (λ (es : List (List ℕ × App)). lookup es k) g.apps ∙ lookup_insert (apps_of m bs) k k (record a { fixed = now })
     ∙ ap (λ (t : Bool). cond t (Some (record a { fixed = now })) (lookup (apps_of m bs) k)) ((bytes_eq-Decides k k).1 refl) in
     let same : a ≡ record a { fixed = now } = cc in
     record { low = g.low; self = g.self; name = g.name; words = g.words; good = g.good; end = g.end; ends = g.ends; bytes = sym (ap (λ (y : App). y.fixed) same); apart = g.apart }

@@ -15,9 +15,9 @@ read_block None = None
 read_block (Some b) = Some (block_of b)
 
 -- a block if it ends within a device of `size` words
-abbrev pub fitting : ℕ → Option Block → Option Block
-fitting size None = None
-fitting size (Some b) = cond (nat_le (b.place + b.words) size) (Some b) None
+abbrev pub block_within : ℕ → Option Block → Option Block
+block_within size None = None
+block_within size (Some b) = cond (nat_le (b.place + b.words) size) (Some b) None
 
 -- the blocks from word p on
 abbrev pub blocks_at : List (List ℕ) → ℕ → List Block
@@ -28,15 +28,15 @@ abbrev pub bad_from : List (List ℕ) → ℕ → Bool → Option ℕ
 bad_from m p after_hole = bad_block (length m - p) m p after_hole
 
 -- whether a used block is good after `used` others with these names: a good record, a new name, and fewer than 32 blocks before it
-abbrev pub admitted : List (List ℕ) → Block → List (List ℕ) → ℕ → Bool
-admitted m b names used =
+abbrev pub is_admissible : List (List ℕ) → Block → List (List ℕ) → ℕ → Bool
+is_admissible m b names used =
     is_record (record_at m b.place) b.words && not (has_name (name_in (record_at m b.place)) names) && nat_lt used 32
 
 -- the records of the blocks so far, before and after one more block: a good used block adds its record, a hole adds none
 abbrev pub Admits : List (List ℕ) → Block → List (List ℕ) → Bool → List (List ℕ) → Type 0
 Admits m b old true new =
-    MatchBool b.used ((admitted m b (map name_in old) (length old) ≡ true) × (new ≡ old ++ record_at m b.place ∷ [])) (new ≡ old)
-Admits m b old false new = (b.used ≡ true) × (admitted m b (map name_in old) (length old) ≡ false)
+    MatchBool b.used ((is_admissible m b (map name_in old) (length old) ≡ true) × (new ≡ old ++ record_at m b.place ∷ [])) (new ≡ old)
+Admits m b old false new = (b.used ≡ true) × (is_admissible m b (map name_in old) (length old) ≡ false)
 
 -- a block that was read and is good after the one before it
 abbrev pub FollowsBlock : ℕ → Bool → Option Block → Block → Type 0

@@ -16,6 +16,6 @@ IsChain m (g ∷ gs) =
     (1 ≤ g.0) × (g.0 + g.1 ≤ length m) × (1 ≤ g.1) × (be2 (word m g.0) 2 ≡ g.1) × (be2 (word m g.0) 4 ≡ first_place gs) × SpansAbove (g.0 + 1) gs × IsChain m gs
 
 -- the number of gaps that a search for n words reads: those up to the first of at least n words
-abbrev pub looked_at : ℕ → List (ℕ × ℕ) → ℕ
-looked_at n [] = 0
-looked_at n (g ∷ gs) = suc (cond (nat_le n g.1) 0 (looked_at n gs))
+abbrev pub count_of_searched_gaps : ℕ → List (ℕ × ℕ) → ℕ
+count_of_searched_gaps n [] = 0
+count_of_searched_gaps n (g ∷ gs) = suc (cond (nat_le n g.1) 0 (count_of_searched_gaps n gs))

@@ -2,7 +2,7 @@
 use Rattle.std.specs.Prelude.{ℕ, ◌+◌, ◌-◌, Bool, false, cond, not, ◌&&◌, ◌||◌, nat_lt, nat_le, ◌==◌, List, [], ◌∷◌, filter}
 use Rattle.std.specs.List.{list_any}
 use Rattle.mc_model_device.specs.Card.{Card, heap_start}
-use Rattle.mc_model_device.specs.Layout.{gaps_from, first_place, root, hole_header, used_header, chained, with_used, layout, same_pair}
+use Rattle.mc_model_device.specs.Layout.{gaps_from, first_place, root, hole_header, used_header, gap_headers, with_used, layout, same_pair}
 
 -- the pairs of a layout that are not in another
 abbrev pub changes : List (ℕ × List ℕ) → List (ℕ × List ℕ) → List (ℕ × List ℕ)
@@ -11,7 +11,7 @@ changes old new = filter (λ e. not (list_any (same_pair e) old)) new
 -- the layout of a card of this version and size whose applications have these spans: the root, and the headers of used blocks and gaps
 unfoldable pub layout_of : ℕ → ℕ → List (ℕ × ℕ) → List (ℕ × List ℕ)
 layout_of version size ss =
-    (0, root version size (first_place (gaps_from heap_start ss size))) ∷ with_used ss (chained (gaps_from heap_start ss size))
+    (0, root version size (first_place (gaps_from heap_start ss size))) ∷ with_used ss (gap_headers (gaps_from heap_start ss size))
 
 -- the atomic write that changes the layout of a card into that with these spans of applications
 abbrev pub plan : Card → List (ℕ × ℕ) → List (ℕ × List ℕ)

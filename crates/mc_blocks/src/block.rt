@@ -1,7 +1,7 @@
 ghost use Rattle.std.specs.Prelude.{◌≡◌, ◌+◌, ◌≤◌, length, MatchOption, true, false};
 ghost use Rattle.mc_model_device.specs.Card.{header, word};
 ghost use Rattle.mc_model_device.specs.Layout.{bad_header};
-ghost use Rattle.mc_blocks.specs.Blocks.{block_of, read_block, fitting};
+ghost use Rattle.mc_blocks.specs.Blocks.{block_of, read_block, block_within};
 
 use crate::header::{HOLE, USED};
 use mc_base::{Word, number_of};
@@ -55,7 +55,7 @@ pub fn decode(place: u16, word: Word) -> Option<Block>
 /// Returns the block whose header is at a place, or `None` if there is no header or the block ends after the
 /// device.
 pub fn block_at<N: Nvm>(device: &N, place: u32) -> Option<Block>
-    ensures { read_block result ≡ fitting (length (N.state device.now).words)
+    ensures { read_block result ≡ block_within (length (N.state device.now).words)
         (header place (word (N.state device.now).words place)) }
 {
     let size = device.len();

@@ -1,6 +1,6 @@
 ghost use Rattle.std.specs.Prelude.{◌≡◌, ◌-◌, ◌≤◌, [], ◌∷◌};
 ghost use Rattle.mc_model_device.specs.Bytes.{zeros};
-ghost use Rattle.mc_model_device.specs.Image.{shut};
+ghost use Rattle.mc_model_device.specs.Image.{shut_word};
 ghost use Rattle.mc_model_device.specs.Card.{heap_start};
 ghost use Rattle.mc_model_device.specs.Layout.{root, hole_header};
 
@@ -13,7 +13,7 @@ use mc_gate::{HEAD, Layout, SHUT};
 pub fn format_words(size: u32) -> [(u16, Word); 5]
     requires low { 256 ≤ size }
     requires high { size ≤ 16384 }
-    ensures { result ≡ (0, root 2 size heap_start) ∷ (1, shut) ∷ (2, zeros 8) ∷ (130, shut)
+    ensures { result ≡ (0, root 2 size heap_start) ∷ (1, shut_word) ∷ (2, zeros 8) ∷ (130, shut_word)
         ∷ (heap_start, hole_header (size - heap_start) 0) ∷ [] }
 {
     [

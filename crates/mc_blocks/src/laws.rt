@@ -1,10 +1,10 @@
 ghost use Rattle.std.specs.Prelude.{◌≡◌, ℕ, ◌-◌, ◌<◌, ◌≤◌, List, [], ◌∷◌, length, slice_index, true, false, Some, None};
 ghost use Rattle.std.specs.List.{AllByRecursion};
 ghost use Rattle.mc_model_device.specs.Bytes.{be2, lookup, insert, remove};
-ghost use Rattle.mc_model_device.specs.Image.{Closed, Two, look, after, shut};
+ghost use Rattle.mc_model_device.specs.Image.{Closed, Two, look, after, shut_word};
 ghost use Rattle.mc_model_device.specs.Device.{IsImage, IsSized};
 ghost use Rattle.mc_model_device.specs.Stopped.{LaidWhole as WrittenBy};
-ghost use Rattle.mc_model_device.specs.Card.{App, Card, needed, blocks, card_of, heap_start, means, words_after, word, record_at, name_at, app_at};
+ghost use Rattle.mc_model_device.specs.Card.{App, Card, words_of_app, blocks, card_of, heap_start, means, words_after, word, record_at, name_at, app_at};
 ghost use Rattle.mc_model_device.specs.Layout.{spans, spans_of, put_at, gaps, hole_header, root, first_place, first_fitting, layout, step_of, is_record, words_fault, IsWellLaid};
 ghost use Rattle.mc_blocks.specs.Blocks.{used_spans, hole_spans, is_root_word, WordsAgree};
 ghost use Rattle.mc_blocks.specs.Chains.{IsChain};
@@ -59,7 +59,7 @@ pub fn fits_room()
 pub fn inserts_span()
     ensures { (apps : List (List ℕ × App)) (name : List ℕ) (app : App) → lookup apps name ≡ None
         → has_span app.place (spans_of apps) ≡ false
-        → spans_of (insert apps name app) ≡ put_at app.place (needed app) (spans_of apps) }
+        → spans_of (insert apps name app) ≡ put_at app.place (words_of_app app) (spans_of apps) }
 {}
 
 /// An application of a well laid image that is found by its name has a span at its place, and removing it
@@ -116,7 +116,7 @@ pub fn writes_plan()
 /// The words of an empty card of 8,192 words that `format_words` sets.
 pub fn format_rows()
     ensures root { root 2 8192 heap_start ≡ 0x4D ∷ 0x45 ∷ 0x4C ∷ 2 ∷ 0x20 ∷ 0 ∷ 0 ∷ 0x83 ∷ [] }
-    ensures gate { shut ≡ 0x53 ∷ 0x48 ∷ 0x55 ∷ 0x54 ∷ 0x2D ∷ 0x2D ∷ 0x2D ∷ 0x2D ∷ [] }
+    ensures gate { shut_word ≡ 0x53 ∷ 0x48 ∷ 0x55 ∷ 0x54 ∷ 0x2D ∷ 0x2D ∷ 0x2D ∷ 0x2D ∷ [] }
     ensures hole { hole_header (8192 - heap_start) 0 ≡ 0x48 ∷ 0 ∷ 0x1F ∷ 0x7D ∷ 0 ∷ 0 ∷ 0 ∷ 0 ∷ [] }
 {}
 

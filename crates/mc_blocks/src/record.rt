@@ -1,8 +1,8 @@
 ghost use Rattle.std.specs.Prelude.{◌≡◌, ◌+◌, ◌≤◌, length, slice_index, bytes_eq};
 ghost use Rattle.mc_model_device.specs.Bytes.{be2, zeros, up};
-ghost use Rattle.mc_model_device.specs.Card.{record_at, needed_of};
+ghost use Rattle.mc_model_device.specs.Card.{record_at, words_of_lengths};
 ghost use Rattle.mc_model_device.specs.Layout.{is_record};
-ghost use Rattle.mc_blocks.specs.Records.{named, sized, allowed};
+ghost use Rattle.mc_blocks.specs.Records.{has_valid_name, has_valid_lengths, has_valid_access};
 
 use mc_base::number_of;
 use mc_nvm::Nvm;
@@ -39,7 +39,7 @@ pub fn is_good(entry: &Record, words: u16) -> bool
 
 // Whether the name has 5 to 16 bytes, with zeros after it.
 fn is_named(entry: &Record) -> bool
-    ensures { result ≡ named entry.now }
+    ensures { result ≡ has_valid_name entry.now }
 {
     let len = entry[16] as usize;
     len >= 5 && len <= 16 && are_zero(&entry[len..16])
@@ -47,7 +47,7 @@ fn is_named(entry: &Record) -> bool
 
 // Whether the lengths of the sections are within the limits.
 fn has_sizes(entry: &Record) -> bool
-    ensures { result ≡ sized entry.now }
+    ensures { result ≡ has_valid_lengths entry.now }
 {
     let code = number_of(entry[20], entry[21]);
     let fixed = number_of(entry[22], entry[23]);
@@ -61,7 +61,7 @@ fn has_sizes(entry: &Record) -> bool
 
 // Whether the session size and the access list are within the limits, and zeros follow.
 fn has_rights(entry: &Record) -> bool
-    ensures { result ≡ allowed entry.now }
+    ensures { result ≡ has_valid_access entry.now }
 {
     let session = number_of(entry[24], entry[25]);
     let deny = number_of(entry[26], entry[27]);
@@ -70,7 +70,7 @@ fn has_rights(entry: &Record) -> bool
 
 // The number of words of a block with sections of the lengths in its record.
 fn needed_words(entry: &Record) -> u32
-    ensures { result ≡ needed_of (be2 entry.now 20) (be2 entry.now 22) (slice_index entry.now 17)
+    ensures { result ≡ words_of_lengths (be2 entry.now 20) (be2 entry.now 22) (slice_index entry.now 17)
         (slice_index entry.now 18) }
 {
     let code = number_of(entry[20], entry[21]);

@@ -2,8 +2,8 @@ ghost use Rattle.std.specs.Prelude.{◌≡◌, ◌+◌, ◌≤◌, nat_le};
 ghost use Rattle.mc_model_device.specs.Image.{Closed, look};
 ghost use Rattle.mc_model_device.specs.Card.{means};
 ghost use Rattle.mc_model_device.specs.Layout.{first_fitting, gaps, IsWellLaid};
-ghost use Rattle.mc_nvm.specs.Probe.{probed};
-ghost use Rattle.mc_blocks.specs.Chains.{looked_at};
+ghost use Rattle.mc_nvm.specs.Probe.{device_of_probe};
+ghost use Rattle.mc_blocks.specs.Chains.{count_of_searched_gaps};
 
 use crate::link::{Link, link_of};
 use mc_base::{Steps, number_of};
@@ -18,11 +18,11 @@ pub fn first_fit<N: Nvm, L: Ledger>(
     need: u16,
     steps: &mut Steps<L>,
 ) -> Option<u16>
-    requires closed { look (N.state (probed device.now)).words ≡ Closed }
-    requires laid { IsWellLaid (N.state (probed device.now)).words }
+    requires closed { look (N.state (device_of_probe device.now)).words ≡ Closed }
+    requires laid { IsWellLaid (N.state (device_of_probe device.now)).words }
     requires some { 1 ≤ need }
-    ensures found { result ≡ first_fitting need (gaps (means (N.state (probed device.now)).words)) }
-    ensures ticks { steps.new ≡ steps.old + (1 + looked_at need (gaps (means (N.state (probed device.now)).words))) }
+    ensures found { result ≡ first_fitting need (gaps (means (N.state (device_of_probe device.now)).words)) }
+    ensures ticks { steps.new ≡ steps.old + (1 + count_of_searched_gaps need (gaps (means (N.state (device_of_probe device.now)).words))) }
 {
     // The contract of `len` states the size of the words, which the proof needs.
     let _size = device.len();

@@ -9,7 +9,7 @@ use Rattle.mc_model_card.specs.Items.{Site, BankItem, card_done, write_items}
 use Rattle.mc_model_card.specs.Manager.{Selected, Seat}
 use Rattle.mc_model_machine.specs.Chain.{Write}
 use Rattle.mc_bank.specs.Bank.{BankState, app_of}
-use Rattle.mc_bank.proofs.Commits.{slots-in_order, sites-in_order}
+use Rattle.mc_bank.proofs.Commits.{slots_in_order, sites_in_order}
 use Rattle.mc_store.specs.declared.store.Store.{Store}
 use Rattle.mc_store.specs.Store.{is_going, store_state, store_named, store_room, store_standing}
 use Rattle.mc_store.specs.StoreItems.{store_did}
@@ -23,7 +23,7 @@ use Rattle.mc_machine.specs.Chains.{Chained, ChainWrote}
 use Rattle.mc_card.specs.ItemWrites.{ItemsMade}
 use Rattle.mc_card.specs.Parts.{card_in, seat_in, with_session, IsUp}
 use Rattle.mc_machine.proofs.SoundChains.{AreSound, SameLengths, sizes_done}
-use Rattle.mc_card.proofs.MadeLemmas.{card-found}
+use Rattle.mc_card.proofs.MadeLemmas.{card_found}
 use Rattle.mc_card.proofs.WriteLemmas.{AsCommits, as_commits, writes_made}
 use Rattle.std.proofs.lemmas.Bool.{not-false}
 
@@ -54,8 +54,8 @@ module _ {N : Type 0} (state : N → DeviceState) (wrote : N → ℕ → List �
   view_stays ws s e a h =
       let c : AsCommits did bank_state s a e = as_commits did bank_state ws s e a h in
       record {
-        slots = slots-in_order did (λ s k. store_named (state s.device) k) (λ s i a e d. store_keeps state wrote obeys s.device e.device s.count e.count i a d) c.words s a e c.commits;
-        sites = sites-in_order did bank_state (λ s. store_room (state s.device)) (λ s. store_standing (state s.device)) (λ s n ws a e d. store_spares state wrote obeys s.device e.device s.count e.count n ws a d) (λ s n ws a e d. store_leaves state wrote obeys s.device e.device s.count e.count n ws a d) c.words s a e c.commits;
+        slots = slots_in_order did (λ s k. store_named (state s.device) k) (λ s i a e d. store_keeps state wrote obeys s.device e.device s.count e.count i a d) c.words s a e c.commits;
+        sites = sites_in_order did bank_state (λ s. store_room (state s.device)) (λ s. store_standing (state s.device)) (λ s n ws a e d. store_spares state wrote obeys s.device e.device s.count e.count n ws a d) (λ s n ws a e d. store_leaves state wrote obeys s.device e.device s.count e.count n ws a d) c.words s a e c.commits;
       }
 
   -- ---- a card that runs
@@ -68,7 +68,7 @@ module _ {N : Type 0} (state : N → DeviceState) (wrote : N → ℕ → List �
     module _ (e : Store N) (h : InOrder (ChainWrote did bank_state) c.store ws (Ok tt) e) where
       -- the card after them
       pub card_after : card_done (card_in state c) (write_items ws) ≡ means (state e.device).words
-      card_after = card-found (card_done (card_in state c) (write_items ws)) 0 (state e.device).words (card_made e (Ok tt) h).done
+      card_after = card_found (card_done (card_in state c) (write_items ws)) 0 (state e.device).words (card_made e (Ok tt) h).done
 
       -- its applications have the sizes of before
       pub sizes_after : SameLengths (card_in state c).apps (means (state e.device).words).apps

@@ -8,8 +8,8 @@ use Rattle.mc_model_device.specs.Device.{DeviceState, IsSized, Wrote as DeviceWr
 use Rattle.mc_model_device.specs.Card.{App, Card as ModelCard}
 use Rattle.mc_model_card.specs.Items.{BankItem, write_items}
 use Rattle.mc_model_machine.specs.Chain.{Chain, Ran, start, run}
-use Rattle.mc_model_card.specs.Manager.{Selected, Seat, Route, WrongClass, ToSelect, ToManager, ToApplication, routed, route}
-use Rattle.mc_model_card.specs.Commands.{Command, command, status, ran_command, passed, by_route}
+use Rattle.mc_model_card.specs.Manager.{Selected, Seat, Route, WrongClass, ToSelect, ToManager, ToApplication, route_of_parts, route}
+use Rattle.mc_model_card.specs.Commands.{Command, command, status, ran_command, application_command, by_route}
 use Rattle.mc_apdu.specs.declared.reply.Reply.{Reply}
 use Rattle.mc_bank.specs.Bank.{BankState, app_of, name_or}
 use Rattle.mc_manager.specs.declared.selection.Selection.{Selection}
@@ -17,51 +17,51 @@ use Rattle.mc_manager.specs.CommandDue.{most_ticks}
 use Rattle.mc_machine.specs.declared.outcome.End.{End}
 use Rattle.mc_machine.specs.declared.outcome.Outcome.{Outcome}
 use Rattle.mc_machine.specs.Chains.{Chained, RunsAs, ChainWrote}
-use Rattle.mc_machine.specs.Turns.{outcome_value, outcome_by, placed}
+use Rattle.mc_machine.specs.Turns.{outcome_value, outcome_by, reply_or_stop}
 use Rattle.mc_store.specs.declared.store.Store.{Store}
 use Rattle.mc_store.specs.Store.{apps_in, store_state, store_named}
 use Rattle.mc_store.specs.StoreItems.{store_did}
 use Rattle.mc_store.specs.GoingLaws.{going_is}
 use Rattle.mc_card.specs.declared.card.Card.{Card}
 use Rattle.mc_card.specs.Parts.{device_in, card_in, seat_in, view_in, due, IsReadyCard}
-use Rattle.mc_card.specs.Ends.{RunSteps, PassedSteps, RouteSteps, is_passed, most_weight, put_in, Commanded, PassedToChain, Answered}
+use Rattle.mc_card.specs.Ends.{RunSteps, PassedSteps, RouteSteps, is_passed, most_weight, outcome_or_stop, Commanded, PassedToChain, Answered}
 use Rattle.mc_card.specs.ItemWrites.{ItemsMade, MadeWithin}
 use Rattle.mc_card.specs.Managing.{IsAnswered, IsPassed}
-use Rattle.mc_card.proofs.StaticLemmas.{going-apps}
-use Rattle.mc_card.proofs.ManagerLemmas.{going-base}
-use Rattle.mc_card.proofs.MadeLemmas.{made-none}
-use Rattle.mc_card.proofs.FewLemmas.{AllWithin, within-made, writes-within, route-within, going-few}
+use Rattle.mc_card.proofs.StaticLemmas.{going_apps}
+use Rattle.mc_card.proofs.ManagerLemmas.{going_base}
+use Rattle.mc_card.proofs.MadeLemmas.{made_none}
+use Rattle.mc_card.proofs.FewLemmas.{AllWithin, within_made, writes_within, route_within, going_few}
 use Rattle.mc_machine.proofs.SoundRuns.{RunSound, run_sound, start_sound}
 use Rattle.mc_card.proofs.AfterLemmas.{card_made, still_up, seat_after}
 
 -- ---- steps
 
 -- a command that is not for the manager makes no steps there
-quiet-ticks : (a : ApduParts) (n : ℕ) → (a.cla == 0xBE) ≡ false → most_ticks a n ≡ 0
-quiet-ticks a n other = ap (λ (b : Bool). cond (b && a.ins == 0x12) n 0) other
+quiet_ticks : (a : ApduParts) (n : ℕ) → (a.cla == 0xBE) ≡ false → most_ticks a n ≡ 0
+quiet_ticks a n other = ap (λ (b : Bool). cond (b && a.ins == 0x12) n 0) other
 
-no-more : (old new n : ℕ) → n ≡ 0 → old ≤ new → new ≤ old + n → new ≡ old
-no-more old new n none low high = omega (arith, none, low, high)
+no_more : (old new n : ℕ) → n ≡ 0 → old ≤ new → new ≤ old + n → new ≡ old
+no_more old new n none low high = omega (arith, none, low, high)
 
 -- the manager makes no steps where a command is passed on
-pub passed-quiet : (a : ApduParts) (old new n : ℕ) → routed (Some a) ≡ ToApplication a → old ≤ new → new ≤ old + most_ticks a n → new ≡ old
-passed-quiet a old new n is low high = by-tests (a.cla == 0xFF) (a.cla == 0 && a.ins == 0xA4 && a.p1 == 4) (a.cla == 0xBE) refl is
+pub passed_quiet : (a : ApduParts) (old new n : ℕ) → route_of_parts (Some a) ≡ ToApplication a → old ≤ new → new ≤ old + most_ticks a n → new ≡ old
+passed_quiet a old new n is low high = by_tests (a.cla == 0xFF) (a.cla == 0 && a.ins == 0xA4 && a.p1 == 4) (a.cla == 0xBE) refl is
   where
-    by-tests : (p q r : Bool) → (a.cla == 0xBE) ≡ r → cond p WrongClass (cond q (ToSelect a) (cond r (ToManager a) (ToApplication a))) ≡ ToApplication a → new ≡ old
-    by-tests true q r h e = absurd (cc e)
-    by-tests false true r h e = absurd (cc e)
-    by-tests false false true h e = absurd (cc e)
-    by-tests false false false h e = no-more old new (most_ticks a n) (quiet-ticks a n h) low high
+    by_tests : (p q r : Bool) → (a.cla == 0xBE) ≡ r → cond p WrongClass (cond q (ToSelect a) (cond r (ToManager a) (ToApplication a))) ≡ ToApplication a → new ≡ old
+    by_tests true q r h e = absurd (cc e)
+    by_tests false true r h e = absurd (cc e)
+    by_tests false false true h e = absurd (cc e)
+    by_tests false false false h e = no_more old new (most_ticks a n) (quiet_ticks a n h) low high
 
 -- ---- a command by its bytes
 
-pub due-route : (c : ModelCard) (seat : Seat) (bytes : List ℕ) (budget : ℕ) (o : Option ApduParts) → apdu_read bytes ≡ o → command c seat bytes budget ≡ by_route c seat budget (routed o)
+pub due_route : (c : ModelCard) (seat : Seat) (bytes : List ℕ) (budget : ℕ) (o : Option ApduParts) → apdu_read bytes ≡ o → command c seat bytes budget ≡ by_route c seat budget (route_of_parts o)
 unfolding command
-due-route c seat bytes budget o is = ap (λ (x : Option ApduParts). by_route c seat budget (routed x)) is
+due_route c seat bytes budget o is = ap (λ (x : Option ApduParts). by_route c seat budget (route_of_parts x)) is
 
-due-within : (c : ModelCard) (seat : Seat) (bytes : List ℕ) (budget : ℕ) → length c.apps ≤ 32 → is_passed (route bytes) seat.selected ≡ false → AllWithin (most_weight (route bytes)) (command c seat bytes budget).items
+due_within : (c : ModelCard) (seat : Seat) (bytes : List ℕ) (budget : ℕ) → length c.apps ≤ 32 → is_passed (route bytes) seat.selected ≡ false → AllWithin (most_weight (route bytes)) (command c seat bytes budget).items
 unfolding command
-due-within c seat bytes budget few stays = route-within c seat budget (route bytes) few stays
+due_within c seat bytes budget few stays = route_within c seat budget (route bytes) few stays
 
 module _ {N : Type 0} (state : N → DeviceState) (wrote : N → ℕ → List ℕ → Answer → N → Type 0)
     (obeys : (d : N) (at : ℕ) (w : List ℕ) (a : Answer) (e : N) → (state d).on ≡ true → wrote d at w a e → DeviceWrote (state d) at w a (state e)) where
@@ -72,30 +72,30 @@ module _ {N : Type 0} (state : N → DeviceState) (wrote : N → ℕ → List �
   did s i a e = store_did state wrote s i a e
 
   -- a command whose length is wrong
-  pub wrong-done : (c : Card N) (bytes : List ℕ) (budget : ℕ) (o : Outcome) → IsReadyCard state c → apdu_read bytes ≡ None → outcome_value o ≡ status 0x6700 → Commanded state wrote c (due state c bytes budget) (Ok o) c
-  wrong-done c bytes budget o ready wrong is =
-      subst (λ (r : Command). Commanded state wrote c r (Ok o) c) (sym (due-route (card_in state c) (seat_in state c) bytes budget None wrong))
-      (record { made = made-none state wrote obeys (card_in state c) c.store.device (going-base (state c.store.device) c.store.count ready.up.going); outcome = is; seat = refl; ready = ready })
+  pub wrong_done : (c : Card N) (bytes : List ℕ) (budget : ℕ) (o : Outcome) → IsReadyCard state c → apdu_read bytes ≡ None → outcome_value o ≡ status 0x6700 → Commanded state wrote c (due state c bytes budget) (Ok o) c
+  wrong_done c bytes budget o ready wrong is =
+      subst (λ (r : Command). Commanded state wrote c r (Ok o) c) (sym (due_route (card_in state c) (seat_in state c) bytes budget None wrong))
+      (record { made = made_none state wrote obeys (card_in state c) c.store.device (going_base (state c.store.device) c.store.count ready.up.going); outcome = is; seat = refl; ready = ready })
 
-  pub wrong-begun : (c : Card N) (bytes : List ℕ) (budget : ℕ) (o : Outcome) → IsReadyCard state c → apdu_read bytes ≡ None → outcome_value o ≡ status 0x6700 → Answered state wrote c bytes budget (Ok o) c
-  wrong-begun c bytes budget o ready wrong is =
-      record { stays = ap (λ (x : Option ApduParts). is_passed (routed x) (seat_in state c).selected) wrong; commanded = wrong-done c bytes budget o ready wrong is }
+  pub wrong_begun : (c : Card N) (bytes : List ℕ) (budget : ℕ) (o : Outcome) → IsReadyCard state c → apdu_read bytes ≡ None → outcome_value o ≡ status 0x6700 → Answered state wrote c bytes budget (Ok o) c
+  wrong_begun c bytes budget o ready wrong is =
+      record { stays = ap (λ (x : Option ApduParts). is_passed (route_of_parts x) (seat_in state c).selected) wrong; commanded = wrong_done c bytes budget o ready wrong is }
 
   -- a command that the manager answers
-  pub answered-begun : (a : ApduParts) (c d : Card N) (bytes : List ℕ) (budget : ℕ) (result : Result Outcome Stop) → apdu_read bytes ≡ Some a → IsAnswered state wrote c a result d → Answered state wrote c bytes budget result d
-  answered-begun a c d bytes budget result is h =
+  pub answered_begun : (a : ApduParts) (c d : Card N) (bytes : List ℕ) (budget : ℕ) (result : Result Outcome Stop) → apdu_read bytes ≡ Some a → IsAnswered state wrote c a result d → Answered state wrote c bytes budget result d
+  answered_begun a c d bytes budget result is h =
       record {
-        stays = ap (λ (x : Option ApduParts). is_passed (routed x) (seat_in state c).selected) is ∙ h.stays;
-        commanded = subst (λ (r : Command). Commanded state wrote c r result d) (sym (due-route (card_in state c) (seat_in state c) bytes budget (Some a) is)) (h.commanded budget);
+        stays = ap (λ (x : Option ApduParts). is_passed (route_of_parts x) (seat_in state c).selected) is ∙ h.stays;
+        commanded = subst (λ (r : Command). Commanded state wrote c r result d) (sym (due_route (card_in state c) (seat_in state c) bytes budget (Some a) is)) (h.commanded budget);
       }
 
   -- each of its items is small
-  pub answered-within : (c d : Card N) (bytes : List ℕ) (budget : ℕ) (result : Result Outcome Stop) → IsReadyCard state c → IsSized (state c.store.device).words → Answered state wrote c bytes budget result d
+  pub answered_within : (c d : Card N) (bytes : List ℕ) (budget : ℕ) (result : Result Outcome Stop) → IsReadyCard state c → IsSized (state c.store.device).words → Answered state wrote c bytes budget result d
       → MadeWithin wrote (most_weight (route bytes)) (due state c bytes budget).items c.store.device (answer_of result) d.store.device
-  answered-within c d bytes budget result ready image h =
-      let few : length (card_in state c).apps ≤ 32 = going-few (state c.store.device) c.store.count image ready.up.going in
-      within-made state wrote (most_weight (route bytes)) (card_in state c) (due state c bytes budget).items c.store.device (answer_of result) d.store.device h.commanded.made
-      (due-within (card_in state c) (seat_in state c) bytes budget few h.stays)
+  answered_within c d bytes budget result ready image h =
+      let few : length (card_in state c).apps ≤ 32 = going_few (state c.store.device) c.store.count image ready.up.going in
+      within_made state wrote (most_weight (route bytes)) (card_in state c) (due state c bytes budget).items c.store.device (answer_of result) d.store.device h.commanded.made
+      (due_within (card_in state c) (seat_in state c) bytes budget few h.stays)
 
   -- ---- a command that the selected application runs
 
@@ -107,66 +107,66 @@ module _ {N : Type 0} (state : N → DeviceState) (wrote : N → ℕ → List �
     pub going : OnOk result ((bank_state e).stopped ≡ false)
 
   -- a run by its result did so, whose reply was written to a place
-  pub run-did : (c : Card N) (r : Ran) (x : Result End Stop) (reply : Reply) (e : Store N) (bytes : List ℕ) → InOrder (ChainWrote did bank_state) c.store r.writes (answer_of x) e
-      → IfOk x (λ o. outcome_value (outcome_by o reply) ≡ r.outcome) → OnOk x (bytes ≡ r.session) → OnOk x ((bank_state e).stopped ≡ false) → RunDid c r (placed x reply) e bytes
-  run-did c r (Ok o) reply e bytes writes outcome session going = record { writes = writes; outcome = outcome; session = session; going = going }
-  run-did c r (Err s) reply e bytes writes outcome session going = record { writes = writes; outcome = tt; session = tt; going = tt }
+  pub run_did : (c : Card N) (r : Ran) (x : Result End Stop) (reply : Reply) (e : Store N) (bytes : List ℕ) → InOrder (ChainWrote did bank_state) c.store r.writes (answer_of x) e
+      → IfOk x (λ o. outcome_value (outcome_by o reply) ≡ r.outcome) → OnOk x (bytes ≡ r.session) → OnOk x ((bank_state e).stopped ≡ false) → RunDid c r (reply_or_stop x reply) e bytes
+  run_did c r (Ok o) reply e bytes writes outcome session going = record { writes = writes; outcome = outcome; session = session; going = going }
+  run_did c r (Err s) reply e bytes writes outcome session going = record { writes = writes; outcome = tt; session = tt; going = tt }
 
   -- and it counted its steps
-  pub run-counted : (r : Ran) (x : Result End Stop) (reply : Reply) (old new : ℕ) → OnOk x (new ≡ old + r.count) → OnErr x (new ≤ old + r.count)
-      → OnOk (placed x reply) (new ≡ old + r.count) × OnErr (placed x reply) (new ≤ old + r.count)
-  run-counted r (Ok o) reply old new ticks most = (ticks, tt)
-  run-counted r (Err s) reply old new ticks most = (tt, most)
+  pub run_counted : (r : Ran) (x : Result End Stop) (reply : Reply) (old new : ℕ) → OnOk x (new ≡ old + r.count) → OnErr x (new ≤ old + r.count)
+      → OnOk (reply_or_stop x reply) (new ≡ old + r.count) × OnErr (reply_or_stop x reply) (new ≤ old + r.count)
+  run_counted r (Ok o) reply old new ticks most = (ticks, tt)
+  run_counted r (Err s) reply old new ticks most = (tt, most)
 
   -- the run of the application of a slot
   abbrev pub run_of : Card N → ℕ → ApduParts → ℕ → Ran
   run_of c slot a budget = run (apps_in (state c.store.device).words) (name_or (store_named (state c.store.device) slot)) c.session a budget
 
   module _ (c : Card N) (ready : IsReadyCard state c) (t : Selection) (is : c.manager.selected ≡ Some t) where
-    named-own : store_named (state c.store.device) t.slot ≡ Some t.aid
-    named-own = ready.up.fits.selected t is
+    named_own : store_named (state c.store.device) t.slot ≡ Some t.aid
+    named_own = ready.up.fits.selected t is
 
-    apps-own : apps_in (state c.store.device).words ≡ (card_in state c).apps
-    apps-own = going-apps (state c.store.device) c.store.count ready.up.going
+    apps_own : apps_in (state c.store.device).words ≡ (card_in state c).apps
+    apps_own = going_apps (state c.store.device) c.store.count ready.up.going
 
     -- the session bytes are as many as the application of its slot has
-    pub slot-session : (slot : ℕ) → t.slot ≡ slot → length c.session ≡ (app_of (apps_in (state c.store.device).words) (store_named (state c.store.device) slot)).session
-    slot-session slot at =
-        ready.up.session t is ∙ ap (λ (es : List (List ℕ × App)). (app_of es (Some t.aid)).session) (sym apps-own)
-        ∙ ap (λ (o : Option (List ℕ)). (app_of (apps_in (state c.store.device).words) o).session) (sym named-own ∙ ap (λ (k : ℕ). store_named (state c.store.device) k) at)
+    pub slot_session : (slot : ℕ) → t.slot ≡ slot → length c.session ≡ (app_of (apps_in (state c.store.device).words) (store_named (state c.store.device) slot)).session
+    slot_session slot at =
+        ready.up.session t is ∙ ap (λ (es : List (List ℕ × App)). (app_of es (Some t.aid)).session) (sym apps_own)
+        ∙ ap (λ (o : Option (List ℕ)). (app_of (apps_in (state c.store.device).words) o).session) (sym named_own ∙ ap (λ (k : ℕ). store_named (state c.store.device) k) at)
 
-    pub slot-there : (slot : ℕ) → t.slot ≡ slot → IsSome (store_named (state c.store.device) slot)
-    slot-there slot at = ap is_some (ap (λ (k : ℕ). store_named (state c.store.device) k) (sym at) ∙ named-own)
+    pub slot_there : (slot : ℕ) → t.slot ≡ slot → IsSome (store_named (state c.store.device) slot)
+    slot_there slot at = ap is_some (ap (λ (k : ℕ). store_named (state c.store.device) k) (sym at) ∙ named_own)
 
-    name-own : (slot : ℕ) → t.slot ≡ slot → name_or (store_named (state c.store.device) slot) ≡ t.aid
-    name-own slot at = ap name_or (ap (λ (k : ℕ). store_named (state c.store.device) k) (sym at) ∙ named-own)
+    name_own : (slot : ℕ) → t.slot ≡ slot → name_or (store_named (state c.store.device) slot) ≡ t.aid
+    name_own slot at = ap name_or (ap (λ (k : ℕ). store_named (state c.store.device) k) (sym at) ∙ named_own)
 
-    seat-own : (seat_in state c).selected ≡ Some (record { name = t.aid; session = c.session })
-    seat-own = ap (λ (o : Option Selection). option_map {T = Selection} {U = Selected} (λ s. record { name = s.aid; session = c.session }) o) is
+    seat_own : (seat_in state c).selected ≡ Some (record { name = t.aid; session = c.session })
+    seat_own = ap (λ (o : Option Selection). option_map {T = Selection} {U = Selected} (λ s. record { name = s.aid; session = c.session }) o) is
 
     sound : (a : ApduParts) (budget : ℕ) → RunSound (start (card_in state c).apps t.aid c.session a) (run (card_in state c).apps t.aid c.session a budget)
     sound a budget = run_sound budget (start (card_in state c).apps t.aid c.session a) (start_sound (card_in state c).apps t.aid c.session a (ready.up.session t is))
 
-    seat-with : (x : Option Selected) (s : List ℕ) → x ≡ Some (record { name = t.aid; session = c.session }) → option_map {T = Selected} (λ u. record u { session = s }) x ≡ Some (record { name = t.aid; session = s })
-    seat-with x s e = ap (λ (o : Option Selected). option_map {T = Selected} (λ u. record u { session = s }) o) e
+    seat_with : (x : Option Selected) (s : List ℕ) → x ≡ Some (record { name = t.aid; session = c.session }) → option_map {T = Selected} (λ u. record u { session = s }) x ≡ Some (record { name = t.aid; session = s })
+    seat_with x s e = ap (λ (o : Option Selected). option_map {T = Selected} (λ u. record u { session = s }) o) e
 
-    ran-commanded : (a : ApduParts) (budget : ℕ) (result : Result Outcome Stop) (e : Store N) (session : List ℕ) → RunDid c (run (card_in state c).apps t.aid c.session a budget) result e session
+    ran_commanded : (a : ApduParts) (budget : ℕ) (result : Result Outcome Stop) (e : Store N) (session : List ℕ) → RunDid c (run (card_in state c).apps t.aid c.session a budget) result e session
         → Commanded state wrote c (ran_command (seat_in state c) t.aid (run (card_in state c).apps t.aid c.session a budget)) result (record c { store = e; session = session })
-    ran-commanded a budget (Err s) e session h =
+    ran_commanded a budget (Err s) e session h =
         record {
           made = card_made state wrote obeys c ready.up (run (card_in state c).apps t.aid c.session a budget).writes (sound a budget).writes e (Err s) h.writes;
           outcome = tt;
           seat = tt;
           ready = tt;
         }
-    ran-commanded a budget (Ok o) e session h =
+    ran_commanded a budget (Ok o) e session h =
         let r = run (card_in state c).apps t.aid c.session a budget in
         let ws = (sound a budget).writes in
         record {
           made = card_made state wrote obeys c ready.up r.writes ws e (Ok tt) h.writes;
           outcome = h.outcome;
           seat = seat_after state wrote obeys c ready.up r.writes ws e h.writes session
-              ∙ ap (λ (x : Option Selected). record (seat_in state c) { selected = x }) (seat-with (seat_in state c).selected session seat-own ∙ ap (λ (s : List ℕ). Some (record { name = t.aid; session = s })) h.session);
+              ∙ ap (λ (x : Option Selected). record (seat_in state c) { selected = x }) (seat_with (seat_in state c).selected session seat_own ∙ ap (λ (s : List ℕ). Some (record { name = t.aid; session = s })) h.session);
           ready = record {
             up = still_up state wrote obeys c ready.up r.writes ws e h.writes session c.chain h.going (λ s own.
                 let same : t ≡ s = cc (is, own) in
@@ -175,61 +175,61 @@ module _ {N : Type 0} (state : N → DeviceState) (wrote : N → ℕ → List �
           };
         }
 
-    due-ran : (a : ApduParts) (budget : ℕ) (bytes : List ℕ) → apdu_read bytes ≡ Some a → routed (Some a) ≡ ToApplication a
+    due_ran : (a : ApduParts) (budget : ℕ) (bytes : List ℕ) → apdu_read bytes ≡ Some a → route_of_parts (Some a) ≡ ToApplication a
         → due state c bytes budget ≡ ran_command (seat_in state c) t.aid (run (card_in state c).apps t.aid c.session a budget)
-    due-ran a budget bytes read to =
-        due-route (card_in state c) (seat_in state c) bytes budget (Some a) read ∙ ap (λ (r : Route). by_route (card_in state c) (seat_in state c) budget r) to
-        ∙ ap (λ (x : Option Selected). passed (card_in state c) (seat_in state c) x a budget) seat-own
+    due_ran a budget bytes read to =
+        due_route (card_in state c) (seat_in state c) bytes budget (Some a) read ∙ ap (λ (r : Route). by_route (card_in state c) (seat_in state c) budget r) to
+        ∙ ap (λ (x : Option Selected). application_command (card_in state c) (seat_in state c) x a budget) seat_own
 
-    run-same : (a : ApduParts) (budget slot : ℕ) → t.slot ≡ slot → run_of c slot a budget ≡ run (card_in state c).apps t.aid c.session a budget
-    run-same a budget slot at =
-        ap (λ (es : List (List ℕ × App)). run es (name_or (store_named (state c.store.device) slot)) c.session a budget) apps-own
-        ∙ ap (λ (n : List ℕ). run (card_in state c).apps n c.session a budget) (name-own slot at)
+    run_same : (a : ApduParts) (budget slot : ℕ) → t.slot ≡ slot → run_of c slot a budget ≡ run (card_in state c).apps t.aid c.session a budget
+    run_same a budget slot at =
+        ap (λ (es : List (List ℕ × App)). run es (name_or (store_named (state c.store.device) slot)) c.session a budget) apps_own
+        ∙ ap (λ (n : List ℕ). run (card_in state c).apps n c.session a budget) (name_own slot at)
 
-    pub ran-done : (a : ApduParts) (budget slot : ℕ) (bytes : List ℕ) (result : Result Outcome Stop) (e : Store N) (session : List ℕ) → t.slot ≡ slot → apdu_read bytes ≡ Some a → routed (Some a) ≡ ToApplication a
+    pub ran_done : (a : ApduParts) (budget slot : ℕ) (bytes : List ℕ) (result : Result Outcome Stop) (e : Store N) (session : List ℕ) → t.slot ≡ slot → apdu_read bytes ≡ Some a → route_of_parts (Some a) ≡ ToApplication a
         → RunDid c (run_of c slot a budget) result e session
         → Commanded state wrote c (due state c bytes budget) result (record c { store = e; session = session })
-    ran-done a budget slot bytes result e session at read to h =
-        subst (λ (r : Command). Commanded state wrote c r result (record c { store = e; session = session })) (sym (due-ran a budget bytes read to))
-        (ran-commanded a budget result e session (subst (λ (r : Ran). RunDid c r result e session) (run-same a budget slot at) h))
+    ran_done a budget slot bytes result e session at read to h =
+        subst (λ (r : Command). Commanded state wrote c r result (record c { store = e; session = session })) (sym (due_ran a budget bytes read to))
+        (ran_commanded a budget result e session (subst (λ (r : Ran). RunDid c r result e session) (run_same a budget slot at) h))
 
     -- each write that was begun is small
-    pub ran-within : (a : ApduParts) (budget slot : ℕ) (bytes : List ℕ) (result : Result Outcome Stop) (e : Store N) (session : List ℕ) → t.slot ≡ slot → apdu_read bytes ≡ Some a → routed (Some a) ≡ ToApplication a
+    pub ran_within : (a : ApduParts) (budget slot : ℕ) (bytes : List ℕ) (result : Result Outcome Stop) (e : Store N) (session : List ℕ) → t.slot ≡ slot → apdu_read bytes ≡ Some a → route_of_parts (Some a) ≡ ToApplication a
         → RunDid c (run_of c slot a budget) result e session
         → MadeWithin wrote (most_weight (route bytes)) (due state c bytes budget).items c.store.device (answer_of result) e.device
-    ran-within a budget slot bytes result e session at read to h =
+    ran_within a budget slot bytes result e session at read to h =
         let r = run (card_in state c).apps t.aid c.session a budget in
-        let writes : InOrder (ChainWrote did bank_state) c.store r.writes (answer_of result) e = subst (λ (x : Ran). InOrder (ChainWrote did bank_state) c.store x.writes (answer_of result) e) (run-same a budget slot at) h.writes in
+        let writes : InOrder (ChainWrote did bank_state) c.store r.writes (answer_of result) e = subst (λ (x : Ran). InOrder (ChainWrote did bank_state) c.store x.writes (answer_of result) e) (run_same a budget slot at) h.writes in
         let within : MadeWithin wrote 147 (write_items r.writes) c.store.device (answer_of result) e.device =
-        writes-within state wrote obeys r.writes c.store e (answer_of result) (going_is (state c.store.device) c.store.count ready.up.going) (sound a budget).writes writes in
-        subst (λ (x : Command). MadeWithin wrote (most_weight (route bytes)) x.items c.store.device (answer_of result) e.device) (sym (due-ran a budget bytes read to))
-        (subst (λ (x : Route). MadeWithin wrote (most_weight x) (write_items r.writes) c.store.device (answer_of result) e.device) (sym (ap (λ (o : Option ApduParts). routed o) read ∙ to)) within)
+        writes_within state wrote obeys r.writes c.store e (answer_of result) (going_is (state c.store.device) c.store.count ready.up.going) (sound a budget).writes writes in
+        subst (λ (x : Command). MadeWithin wrote (most_weight (route bytes)) x.items c.store.device (answer_of result) e.device) (sym (due_ran a budget bytes read to))
+        (subst (λ (x : Route). MadeWithin wrote (most_weight x) (write_items r.writes) c.store.device (answer_of result) e.device) (sym (ap (λ (o : Option ApduParts). route_of_parts o) read ∙ to)) within)
 
-    steps-by : (r : Ran) (result : Result Outcome Stop) (old new : ℕ) → OnOk result (new ≡ old + r.count) → OnErr result (new ≤ old + r.count) → RunSteps r (answer_of result) old new
-    steps-by r (Ok o) old new done most = done
-    steps-by r (Err s) old new done most = most
+    steps_by : (r : Ran) (result : Result Outcome Stop) (old new : ℕ) → OnOk result (new ≡ old + r.count) → OnErr result (new ≤ old + r.count) → RunSteps r (answer_of result) old new
+    steps_by r (Ok o) old new done most = done
+    steps_by r (Err s) old new done most = most
 
-    pub ran-steps : (a : ApduParts) (budget slot : ℕ) (bytes : List ℕ) (result : Result Outcome Stop) (old new : ℕ) → t.slot ≡ slot → apdu_read bytes ≡ Some a → routed (Some a) ≡ ToApplication a
+    pub ran_steps : (a : ApduParts) (budget slot : ℕ) (bytes : List ℕ) (result : Result Outcome Stop) (old new : ℕ) → t.slot ≡ slot → apdu_read bytes ≡ Some a → route_of_parts (Some a) ≡ ToApplication a
         → OnOk result (new ≡ old + (run_of c slot a budget).count)
         → OnErr result (new ≤ old + (run_of c slot a budget).count)
         → RouteSteps (card_in state c) (seat_in state c).selected budget (route bytes) (answer_of result) old new
-    ran-steps a budget slot bytes result old new at read to done most =
-        subst (λ (r : Route). RouteSteps (card_in state c) (seat_in state c).selected budget r (answer_of result) old new) (sym (ap (λ (o : Option ApduParts). routed o) read ∙ to))
-        (subst (λ (x : Option Selected). PassedSteps (card_in state c) x a budget (answer_of result) old new) (sym seat-own)
-        (subst (λ (r : Ran). RunSteps r (answer_of result) old new) (run-same a budget slot at)
-        (steps-by (run_of c slot a budget) result old new done most)))
+    ran_steps a budget slot bytes result old new at read to done most =
+        subst (λ (r : Route). RouteSteps (card_in state c) (seat_in state c).selected budget r (answer_of result) old new) (sym (ap (λ (o : Option ApduParts). route_of_parts o) read ∙ to))
+        (subst (λ (x : Option Selected). PassedSteps (card_in state c) x a budget (answer_of result) old new) (sym seat_own)
+        (subst (λ (r : Ran). RunSteps r (answer_of result) old new) (run_same a budget slot at)
+        (steps_by (run_of c slot a budget) result old new done most)))
 
     -- ---- the beginning of such a command
 
-    pub begun-done : (a : ApduParts) (budget slot : ℕ) (bytes : List ℕ) (k : Chained) → t.slot ≡ slot → apdu_read bytes ≡ Some a → routed (Some a) ≡ ToApplication a
+    pub begun_done : (a : ApduParts) (budget slot : ℕ) (bytes : List ℕ) (k : Chained) → t.slot ≡ slot → apdu_read bytes ≡ Some a → route_of_parts (Some a) ≡ ToApplication a
         → RunsAs (view_in state c).state (view_in state c).named k (start (apps_in (state c.store.device).words) (name_or (store_named (state c.store.device) slot)) c.session a) → k.left ≡ budget
         → PassedToChain state wrote c bytes budget (record c { chain = Some k })
-    begun-done a budget slot bytes k at read to runs left =
+    begun_done a budget slot bytes k at read to runs left =
         record {
           apdu = a;
-          routed = ap (λ (o : Option ApduParts). routed o) read ∙ to;
+          routed = ap (λ (o : Option ApduParts). route_of_parts o) read ∙ to;
           selected = record { name = t.aid; session = c.session };
-          is = seat-own;
+          is = seat_own;
           device = refl;
           seat = refl;
           runs = record {
@@ -237,7 +237,7 @@ module _ {N : Type 0} (state : N → DeviceState) (wrote : N → ℕ → List �
             chained = k;
             is = refl;
             runs = subst (λ (ch : Chain). RunsAs (view_in state c).state (view_in state c).named k ch)
-                (ap (λ (es : List (List ℕ × App)). start es (name_or (store_named (state c.store.device) slot)) c.session a) apps-own ∙ ap (λ (n : List ℕ). start (card_in state c).apps n c.session a) (name-own slot at)) runs;
+                (ap (λ (es : List (List ℕ × App)). start es (name_or (store_named (state c.store.device) slot)) c.session a) apps_own ∙ ap (λ (n : List ℕ). start (card_in state c).apps n c.session a) (name_own slot at)) runs;
             left = left;
             own = ap (λ (o : Option Selection). option_map (λ (s : Selection). s.aid) o) is;
             sound = start_sound (card_in state c).apps t.aid c.session a (ready.up.session t is);
@@ -246,40 +246,40 @@ module _ {N : Type 0} (state : N → DeviceState) (wrote : N → ℕ → List �
 
   -- ---- a command that was passed on
 
-  pub passed-commanded : (c d : Card N) (a : ApduParts) (slot budget : ℕ) (bytes : List ℕ) (result : Result Outcome Stop) (e : Store N) (session : List ℕ) → IsReadyCard state c → IsPassed state wrote c a slot d → apdu_read bytes ≡ Some a
+  pub passed_commanded : (c d : Card N) (a : ApduParts) (slot budget : ℕ) (bytes : List ℕ) (result : Result Outcome Stop) (e : Store N) (session : List ℕ) → IsReadyCard state c → IsPassed state wrote c a slot d → apdu_read bytes ≡ Some a
       → RunDid d (run_of d slot a budget) result e session → Commanded state wrote c (due state c bytes budget) result (record d { store = e; session = session })
-  passed-commanded c d a slot budget bytes result e session ready p read did =
+  passed_commanded c d a slot budget bytes result e session ready p read did =
       subst (λ (x : Card N). Commanded state wrote c (due state c bytes budget) result (record x { store = e; session = session })) (sym p.unchanged)
-      (ran-done c ready p.selected p.is a budget slot bytes result e session p.slot_is read p.route (subst (λ (x : Card N). RunDid x (run_of x slot a budget) result e session) p.unchanged did))
+      (ran_done c ready p.selected p.is a budget slot bytes result e session p.slot_is read p.route (subst (λ (x : Card N). RunDid x (run_of x slot a budget) result e session) p.unchanged did))
 
-  pub passed-within : (c d : Card N) (a : ApduParts) (slot budget : ℕ) (bytes : List ℕ) (result : Result Outcome Stop) (e : Store N) (session : List ℕ) → IsReadyCard state c → IsPassed state wrote c a slot d → apdu_read bytes ≡ Some a
+  pub passed_within : (c d : Card N) (a : ApduParts) (slot budget : ℕ) (bytes : List ℕ) (result : Result Outcome Stop) (e : Store N) (session : List ℕ) → IsReadyCard state c → IsPassed state wrote c a slot d → apdu_read bytes ≡ Some a
       → RunDid d (run_of d slot a budget) result e session → MadeWithin wrote (most_weight (route bytes)) (due state c bytes budget).items c.store.device (answer_of result) e.device
-  passed-within c d a slot budget bytes result e session ready p read did =
-      ran-within c ready p.selected p.is a budget slot bytes result e session p.slot_is read p.route (subst (λ (x : Card N). RunDid x (run_of x slot a budget) result e session) p.unchanged did)
+  passed_within c d a slot budget bytes result e session ready p read did =
+      ran_within c ready p.selected p.is a budget slot bytes result e session p.slot_is read p.route (subst (λ (x : Card N). RunDid x (run_of x slot a budget) result e session) p.unchanged did)
 
-  pub passed-session : (c d : Card N) (a : ApduParts) (slot : ℕ) → IsReadyCard state c → IsPassed state wrote c a slot d → length d.session ≡ (app_of (apps_in (state d.store.device).words) (store_named (state d.store.device) slot)).session
-  passed-session c d a slot ready p =
-      subst (λ (x : Card N). length x.session ≡ (app_of (apps_in (state x.store.device).words) (store_named (state x.store.device) slot)).session) (sym p.unchanged) (slot-session c ready p.selected p.is slot p.slot_is)
+  pub passed_session : (c d : Card N) (a : ApduParts) (slot : ℕ) → IsReadyCard state c → IsPassed state wrote c a slot d → length d.session ≡ (app_of (apps_in (state d.store.device).words) (store_named (state d.store.device) slot)).session
+  passed_session c d a slot ready p =
+      subst (λ (x : Card N). length x.session ≡ (app_of (apps_in (state x.store.device).words) (store_named (state x.store.device) slot)).session) (sym p.unchanged) (slot_session c ready p.selected p.is slot p.slot_is)
 
-  pub passed-steps : (c d : Card N) (a : ApduParts) (slot budget : ℕ) (bytes : List ℕ) (result : Result Outcome Stop) (old mid new n : ℕ) → IsReadyCard state c → IsPassed state wrote c a slot d → apdu_read bytes ≡ Some a → old ≤ mid → mid ≤ old + most_ticks a n
+  pub passed_steps : (c d : Card N) (a : ApduParts) (slot budget : ℕ) (bytes : List ℕ) (result : Result Outcome Stop) (old mid new n : ℕ) → IsReadyCard state c → IsPassed state wrote c a slot d → apdu_read bytes ≡ Some a → old ≤ mid → mid ≤ old + most_ticks a n
       → OnOk result (new ≡ mid + (run_of d slot a budget).count) → OnErr result (new ≤ mid + (run_of d slot a budget).count) → RouteSteps (card_in state c) (seat_in state c).selected budget (route bytes) (answer_of result) old new
-  passed-steps c d a slot budget bytes result old mid new n ready p read low high done most =
-      let same : mid ≡ old = passed-quiet a old mid n p.route low high in
-      ran-steps c ready p.selected p.is a budget slot bytes result old new p.slot_is read p.route
+  passed_steps c d a slot budget bytes result old mid new n ready p read low high done most =
+      let same : mid ≡ old = passed_quiet a old mid n p.route low high in
+      ran_steps c ready p.selected p.is a budget slot bytes result old new p.slot_is read p.route
       (subst (λ (k : ℕ). OnOk result (new ≡ k + (run_of c slot a budget).count)) same (subst (λ (x : Card N). OnOk result (new ≡ mid + (run_of x slot a budget).count)) p.unchanged done))
       (subst (λ (k : ℕ). OnErr result (new ≤ k + (run_of c slot a budget).count)) same (subst (λ (x : Card N). OnErr result (new ≤ mid + (run_of x slot a budget).count)) p.unchanged most))
 
-  pub passed-begun : (c d : Card N) (a : ApduParts) (slot budget : ℕ) (bytes : List ℕ) (k : Chained) → IsReadyCard state c → IsPassed state wrote c a slot d → apdu_read bytes ≡ Some a
+  pub passed_begun : (c d : Card N) (a : ApduParts) (slot budget : ℕ) (bytes : List ℕ) (k : Chained) → IsReadyCard state c → IsPassed state wrote c a slot d → apdu_read bytes ≡ Some a
       → RunsAs (view_in state d).state (view_in state d).named k (start (apps_in (state d.store.device).words) (name_or (store_named (state d.store.device) slot)) d.session a) → k.left ≡ budget → PassedToChain state wrote c bytes budget (record d { chain = Some k })
-  passed-begun c d a slot budget bytes k ready p read runs left =
+  passed_begun c d a slot budget bytes k ready p read runs left =
       subst (λ (x : Card N). PassedToChain state wrote c bytes budget (record x { chain = Some k })) (sym p.unchanged)
-      (begun-done c ready p.selected p.is a budget slot bytes k p.slot_is read p.route
+      (begun_done c ready p.selected p.is a budget slot bytes k p.slot_is read p.route
       (subst (λ (x : Card N). RunsAs (view_in state x).state (view_in state x).named k (start (apps_in (state x.store.device).words) (name_or (store_named (state x.store.device) slot)) x.session a)) p.unchanged runs) left)
 
 -- ---- a command whose outcome was written to a place
 
 pub commanded_into : {N : Type 0} (state : N → DeviceState) (wrote : N → ℕ → List ℕ → Answer → N → Type 0) (c d : Card N) (r : Command) (x : Result (Unit {0}) Stop) (o : Outcome)
     → ItemsMade state wrote (card_in state c) r.items (device_in c) (answer_of x) (device_in d) → OnOk x (outcome_value o ≡ r.outcome) → OnOk x (seat_in state d ≡ r.seat) → OnOk x (IsReadyCard state d)
-    → Commanded state wrote c r (put_in x o) d
+    → Commanded state wrote c r (outcome_or_stop x o) d
 commanded_into state wrote c d r (Ok u) o made outcome seat ready = record { made = made; outcome = outcome; seat = seat; ready = ready }
 commanded_into state wrote c d r (Err s) o made outcome seat ready = record { made = made; outcome = tt; seat = tt; ready = tt }

@@ -15,10 +15,10 @@ use Rattle.mc_model_device.specs.Device.{DeviceState, IsSized, Wrote as DeviceWr
 use Rattle.mc_model_device.specs.Card.{App, Card, means}
 use Rattle.mc_model_machine.specs.Chain.{Write, no_app}
 use Rattle.mc_model_card.specs.Items.{Change, Fixed, Created, Deleted, Item, Plain, Atomic, weight, moves, card_done, BankItem, Piece, Blank, Note, Commit, Enter, Remove, write_items}
-use Rattle.mc_model_card.specs.Manager.{Seat, Selected, Route, WrongLength, WrongClass, ToSelect, ToManager, ToApplication, Open, Accepted, Managed, Declines, Accepts, answered, select, select_done, manage, open_load, open_refusals, open_done, delete, delete_refusals, delete_done, load_part, load_done, load_refusals, create, create_done, create_refusals, first_status, dir_in, room_on}
+use Rattle.mc_model_card.specs.Manager.{Seat, Selected, Route, WrongLength, WrongClass, ToSelect, ToManager, ToApplication, Open, Accepted, Managed, Declines, Accepts, answer_unless, select, select_done, manage, open_load, open_refusals, open_done, delete, delete_refusals, delete_done, load_part, load_done, load_refusals, create, create_done, create_refusals, first_status, dir_in, room_on}
 use Rattle.mc_model_card.specs.Units.{name_of}
-use Rattle.mc_model_card.specs.Commands.{item_of, atomic_of, managed, by_route}
-use Rattle.mc_model_device.proofs.OrdersLemmas.{InOrder-append}
+use Rattle.mc_model_card.specs.Commands.{item_of, atomic_of, manager_command, by_route}
+use Rattle.mc_model_device.proofs.OrdersLemmas.{in_order_append}
 use Rattle.mc_machine_laws.proofs.FewHeaders.{few_headers_law}
 use Rattle.mc_machine_laws.proofs.RowWords.{few_writes_law}
 use Rattle.mc_bank.specs.Bank.{BankState, AreApps}
@@ -31,72 +31,72 @@ use Rattle.mc_machine.specs.Chains.{ChainWrote}
 use Rattle.mc_machine.proofs.SoundChains.{AreSound}
 use Rattle.mc_card.specs.ItemWrites.{CountsWrites, ItemsMade, begun, MadeWithin}
 use Rattle.mc_card.specs.Ends.{is_passed, most_weight}
-use Rattle.mc_card.proofs.StaticLemmas.{going-apps}
-use Rattle.mc_card.proofs.MadeLemmas.{card-found}
+use Rattle.mc_card.proofs.StaticLemmas.{going_apps}
+use Rattle.mc_card.proofs.MadeLemmas.{card_found}
 use Rattle.mc_card.proofs.WriteLemmas.{write_made, goes_on}
-use Rattle.mc_model_card.proofs.ItemLemmas.{moves-append}
+use Rattle.mc_model_card.proofs.ItemLemmas.{moves_append}
 
 -- ---- items that were begun
 
 abbrev pub AllWithin : ℕ → List Item → Type 0
 AllWithin most is = AllByRecursion (λ i. weight i ≤ most) is
 
-all-begun : (most n : ℕ) (is : List Item) → AllWithin most is → AllWithin most (begun n is)
-all-begun most zero is h = tt
-all-begun most (suc n) [] h = tt
-all-begun most (suc n) (i ∷ is) h = (h.0, all-begun most (suc n - weight i) is h.1)
+all_begun : (most n : ℕ) (is : List Item) → AllWithin most is → AllWithin most (begun n is)
+all_begun most zero is h = tt
+all_begun most (suc n) [] h = tt
+all_begun most (suc n) (i ∷ is) h = (h.0, all_begun most (suc n - weight i) is h.1)
 
-begun-front : (n : ℕ) (is js : List Item) → n ≤ moves is → begun n (is ++ js) ≡ begun n is
-begun-front zero is js h = refl
-begun-front (suc n) [] js h = absurd (omega (arith, h))
-begun-front (suc n) (i ∷ is) js h = ap (λ (l : List Item). i ∷ l) (begun-front (suc n - weight i) is js (omega (arith, h)))
+begun_front : (n : ℕ) (is js : List Item) → n ≤ moves is → begun n (is ++ js) ≡ begun n is
+begun_front zero is js h = refl
+begun_front (suc n) [] js h = absurd (omega (arith, h))
+begun_front (suc n) (i ∷ is) js h = ap (λ (l : List Item). i ∷ l) (begun_front (suc n - weight i) is js (omega (arith, h)))
 
-some-weight : (i : Item) → 1 ≤ weight i
-some-weight Plain = omega arith
-some-weight (Atomic w c) = omega arith
+some_weight : (i : Item) → 1 ≤ weight i
+some_weight Plain = omega arith
+some_weight (Atomic w c) = omega arith
 
-begun-past : (most n m k : ℕ) (is js : List Item) → m ≡ moves is → n ≡ m + k → AllWithin most (begun m is) → AllWithin most (begun k js) → AllWithin most (begun n (is ++ js))
-begun-past most n m k [] js all e first second = subst (λ (t : ℕ). AllWithin most (begun t js)) (omega (arith, all, e)) second
-begun-past most n zero k (i ∷ is) js all e first second = absurd (omega (arith, all, some-weight i))
-begun-past most zero (suc m) k (i ∷ is) js all e first second = absurd (omega (arith, e))
-begun-past most (suc n) (suc m) k (i ∷ is) js all e first second = (
+begun_past : (most n m k : ℕ) (is js : List Item) → m ≡ moves is → n ≡ m + k → AllWithin most (begun m is) → AllWithin most (begun k js) → AllWithin most (begun n (is ++ js))
+begun_past most n m k [] js all e first second = subst (λ (t : ℕ). AllWithin most (begun t js)) (omega (arith, all, e)) second
+begun_past most n zero k (i ∷ is) js all e first second = absurd (omega (arith, all, some_weight i))
+begun_past most zero (suc m) k (i ∷ is) js all e first second = absurd (omega (arith, e))
+begun_past most (suc n) (suc m) k (i ∷ is) js all e first second = (
   first.0,
-  begun-past most (suc n - weight i) (suc m - weight i) k is js (omega (arith, all)) (omega (arith, all, e)) first.1 second,
+  begun_past most (suc n - weight i) (suc m - weight i) k is js (omega (arith, all)) (omega (arith, all, e)) first.1 second,
 )
 
 module _ {D : Type 0} (state : D → DeviceState) (wrote : D → ℕ → List ℕ → Answer → D → Type 0) where
   -- items that are all small
-  pub within-made : (most : ℕ) (c : Card) (is : List Item) (d : D) (a : Answer) (e : D) → ItemsMade state wrote c is d a e → AllWithin most is → MadeWithin wrote most is d a e
-  within-made most c is d a e m all = record { writes = m.writes; makes = m.makes; number = m.number; few = all-begun most (length m.writes) is all }
+  pub within_made : (most : ℕ) (c : Card) (is : List Item) (d : D) (a : Answer) (e : D) → ItemsMade state wrote c is d a e → AllWithin most is → MadeWithin wrote most is d a e
+  within_made most c is d a e m all = record { writes = m.writes; makes = m.makes; number = m.number; few = all_begun most (length m.writes) is all }
 
   -- items that stopped, whatever was to come after them
-  within-stopped : (most : ℕ) (is js : List Item) (d e : D) (s : Stop) → MadeWithin wrote most is d (Err s) e → MadeWithin wrote most (is ++ js) d (Err s) e
-  within-stopped most is js d e s m =
+  within_stopped : (most : ℕ) (is js : List Item) (d e : D) (s : Stop) → MadeWithin wrote most is d (Err s) e → MadeWithin wrote most (is ++ js) d (Err s) e
+  within_stopped most is js d e s m =
       let few : length m.writes ≤ moves is = m.number in
-      let all : moves (is ++ js) ≡ moves is + moves js = moves-append is js in
+      let all : moves (is ++ js) ≡ moves is + moves js = moves_append is js in
       record {
         writes = m.writes;
         makes = m.makes;
         number = omega (arith, few, all);
-        few = subst (λ (l : List Item). AllWithin most l) (sym (begun-front (length m.writes) is js few)) m.few;
+        few = subst (λ (l : List Item). AllWithin most l) (sym (begun_front (length m.writes) is js few)) m.few;
       }
 
-  all-append : (is js : List Item) (n k : ℕ) (a : Answer) → n ≡ moves is → CountsWrites js a k → CountsWrites (is ++ js) a (n + k)
-  all-append is js n k (Ok u) first second = let all = moves-append is js in omega (arith, first, second, all)
-  all-append is js n k (Err s) first second = let all = moves-append is js in omega (arith, first, second, all)
+  all_append : (is js : List Item) (n k : ℕ) (a : Answer) → n ≡ moves is → CountsWrites js a k → CountsWrites (is ++ js) a (n + k)
+  all_append is js n k (Ok u) first second = let all = moves_append is js in omega (arith, first, second, all)
+  all_append is js n k (Err s) first second = let all = moves_append is js in omega (arith, first, second, all)
 
   -- items that were done, and others after them
-  within-append : (most : ℕ) (is js : List Item) (d m e : D) (a : Answer) → MadeWithin wrote most is d (Ok tt) m → MadeWithin wrote most js m a e → MadeWithin wrote most (is ++ js) d a e
-  within-append most is js d m e a first second =
+  within_append : (most : ℕ) (is js : List Item) (d m e : D) (a : Answer) → MadeWithin wrote most is d (Ok tt) m → MadeWithin wrote most js m a e → MadeWithin wrote most (is ++ js) d a e
+  within_append most is js d m e a first second =
       let ws = first.writes in
       let vs = second.writes in
       let count : length ws ≡ moves is = first.number in
       let size : length (ws ++ vs) ≡ length ws + length vs = length-append ws vs in
       record {
         writes = ws ++ vs;
-        makes = InOrder-append (λ d p a e. wrote d p.0 p.1 a e) ws vs d m e a first.makes second.makes;
-        number = subst (λ (n : ℕ). CountsWrites (is ++ js) a n) (sym size) (all-append is js (length ws) (length vs) a count second.number);
-        few = begun-past most (length (ws ++ vs)) (length ws) (length vs) is js count size first.few second.few;
+        makes = in_order_append (λ d p a e. wrote d p.0 p.1 a e) ws vs d m e a first.makes second.makes;
+        number = subst (λ (n : ℕ). CountsWrites (is ++ js) a n) (sym size) (all_append is js (length ws) (length vs) a count second.number);
+        few = begun_past most (length (ws ++ vs)) (length ws) (length vs) is js count size first.few second.few;
       }
 
 -- ---- the atomic writes of an application
@@ -116,25 +116,25 @@ module _ {N : Type 0} (state : N → DeviceState) (wrote : N → ℕ → List �
   words_of s = (state s.device).words
 
   -- one of them
-  one-within : (s e : Store N) (w : Write) (a : Answer) → ItemsMade state wrote (means (words_of s)) (item w ∷ []) s.device a e.device → ChainWrote did bank_state s w a e → MadeWithin wrote 147 (item w ∷ []) s.device a e.device
-  one-within s e w a made h = within-made state wrote 147 (means (words_of s)) (item w ∷ []) s.device a e.device made (((few_writes_law w.words).1 h.3).two, tt)
+  one_within : (s e : Store N) (w : Write) (a : Answer) → ItemsMade state wrote (means (words_of s)) (item w ∷ []) s.device a e.device → ChainWrote did bank_state s w a e → MadeWithin wrote 147 (item w ∷ []) s.device a e.device
+  one_within s e w a made h = within_made state wrote 147 (means (words_of s)) (item w ∷ []) s.device a e.device made (((few_writes_law w.words).1 h.3).two, tt)
 
   -- all that were begun
-  pub writes-within : (ws : List Write) (s e : Store N) (a : Answer) → Going (state s.device) s.count → AreSound (means (words_of s)).apps ws → InOrder (ChainWrote did bank_state) s ws a e → MadeWithin wrote 147 (write_items ws) s.device a e.device
-  writes-within [] s e (Ok u) g sound h = record { writes = []; makes = ap (λ (t : Store N). t.device) h; number = refl; few = tt }
-  writes-within [] s e (Err x) g sound h = absurd h
-  writes-within (w ∷ ws) s e a g sound h =
+  pub writes_within : (ws : List Write) (s e : Store N) (a : Answer) → Going (state s.device) s.count → AreSound (means (words_of s)).apps ws → InOrder (ChainWrote did bank_state) s ws a e → MadeWithin wrote 147 (write_items ws) s.device a e.device
+  writes_within [] s e (Ok u) g sound h = record { writes = []; makes = ap (λ (t : Store N). t.device) h; number = refl; few = tt }
+  writes_within [] s e (Err x) g sound h = absurd h
+  writes_within (w ∷ ws) s e a g sound h =
       let c = means (words_of s) in
       let i = item w ∷ [] in
       elim h [
         | inl done ↦
             let m = done.0 in
             let first : ItemsMade state wrote c i s.device (Ok tt) m.device = write_made state wrote obeys s m w (Ok tt) sound.0 done.1 in
-            let now : card_done c i ≡ means (words_of m) = card-found (card_done c i) 0 (words_of m) first.done in
-            within-append state wrote 147 i (write_items ws) s.device m.device e.device a (one-within s m w (Ok tt) first done.1)
-            (writes-within ws m e a (goes_on state wrote obeys s m w done.1) (subst (λ (k : Card). AreSound k.apps ws) now sound.1) done.2)
+            let now : card_done c i ≡ means (words_of m) = card_found (card_done c i) 0 (words_of m) first.done in
+            within_append state wrote 147 i (write_items ws) s.device m.device e.device a (one_within s m w (Ok tt) first done.1)
+            (writes_within ws m e a (goes_on state wrote obeys s m w done.1) (subst (λ (k : Card). AreSound k.apps ws) now sound.1) done.2)
         | inr stop ↦ subst (λ (b : Answer). MadeWithin wrote 147 (write_items (w ∷ ws)) s.device b e.device) (sym stop.2)
-            (within-stopped state wrote 147 i (write_items ws) s.device e.device stop.0 (one-within s e w (Err stop.0) (write_made state wrote obeys s e w (Err stop.0) sound.0 stop.1) stop.1))
+            (within_stopped state wrote 147 i (write_items ws) s.device e.device stop.0 (one_within s e w (Err stop.0) (write_made state wrote obeys s e w (Err stop.0) sound.0 stop.1) stop.1))
       ]
 
 -- ---- the items of the manager
@@ -150,36 +150,36 @@ abbrev OnlyHeaders : Managed → Type 0
 OnlyHeaders (Declines sw) = ⊤
 OnlyHeaders (Accepts a) = OfHeaders a.change
 
-by-status : (o : Option ℕ) (a : Accepted) → OfHeaders a.change → OnlyHeaders (answered o a)
-by-status (Some sw) a h = tt
-by-status None a h = h
+by_status : (o : Option ℕ) (a : Accepted) → OfHeaders a.change → OnlyHeaders (answer_unless o a)
+by_status (Some sw) a h = tt
+by_status None a h = h
 
-select-headers : (seat : Seat) (a : ApduParts) (o : Option App) → OfHeaders (select_done seat a o).change
-select-headers seat a None = tt
-select-headers seat a (Some app) = tt
+select_headers : (seat : Seat) (a : ApduParts) (o : Option App) → OfHeaders (select_done seat a o).change
+select_headers seat a None = tt
+select_headers seat a (Some app) = tt
 
-load-headers : (seat : Seat) (o : Option Open) (p : Part) (a : ApduParts) → OfHeaders (load_done seat o p a).change
-load-headers seat None p a = tt
-load-headers seat (Some o) p a = tt
+load_headers : (seat : Seat) (o : Option Open) (p : Part) (a : ApduParts) → OfHeaders (load_done seat o p a).change
+load_headers seat None p a = tt
+load_headers seat (Some o) p a = tt
 
-create-headers : (seat : Seat) (o : Option Open) (n : Result (List ℕ) AidFault) → OfHeaders (create_done seat o n).change
-create-headers seat None n = tt
-create-headers seat (Some o) (Err e) = tt
-create-headers seat (Some o) (Ok n) = tt
+create_headers : (seat : Seat) (o : Option Open) (n : Result (List ℕ) AidFault) → OfHeaders (create_done seat o n).change
+create_headers seat None n = tt
+create_headers seat (Some o) (Err e) = tt
+create_headers seat (Some o) (Ok n) = tt
 
 either : (b : Bool) (x y : Managed) → OnlyHeaders x → OnlyHeaders y → OnlyHeaders (cond b x y)
 either true x y h k = h
 either false x y h k = k
 
-part-headers : (seat : Seat) (p : Part) (a : ApduParts) → OnlyHeaders (load_part p seat a)
-part-headers seat p a = by-status (first_status (load_refusals seat.load p a)) (load_done seat seat.load p a) (load-headers seat seat.load p a)
+part_headers : (seat : Seat) (p : Part) (a : ApduParts) → OnlyHeaders (load_part p seat a)
+part_headers seat p a = by_status (first_status (load_refusals seat.load p a)) (load_done seat seat.load p a) (load_headers seat seat.load p a)
 
-create-only : (map : List (List ℕ × App)) (seat : Seat) (a : ApduParts) → OnlyHeaders (create map seat a)
-create-only map seat a = by-status (first_status (create_refusals map seat.load a)) (create_done seat seat.load (name_of (dir_in seat.load))) (create-headers seat seat.load (name_of (dir_in seat.load)))
+create_only : (map : List (List ℕ × App)) (seat : Seat) (a : ApduParts) → OnlyHeaders (create map seat a)
+create_only map seat a = by_status (first_status (create_refusals map seat.load a)) (create_done seat seat.load (name_of (dir_in seat.load))) (create_headers seat seat.load (name_of (dir_in seat.load)))
 
-manage-headers : (c : Card) (seat : Seat) (a : ApduParts) → OnlyHeaders (manage (room_on c) c.apps seat a)
+manage_headers : (c : Card) (seat : Seat) (a : ApduParts) → OnlyHeaders (manage (room_on c) c.apps seat a)
 unfolding manage
-manage-headers c seat a =
+manage_headers c seat a =
     let map = c.apps in
     let deletes = cond (a.ins == 0x18) (delete map seat a) (Declines 0x6D00) in
     let creates = cond (a.ins == 0x16) (create map seat a) deletes in
@@ -187,55 +187,55 @@ manage-headers c seat a =
     let dir = cond (a.ins == 0x20) (load_part part.Dir seat a) fci in
     let init = cond (a.ins == 0x26) (load_part part.Data seat a) dir in
     let code = cond (a.ins == 0x24) (load_part part.Code seat a) init in
-    let none : OnlyHeaders deletes = either (a.ins == 0x18) (delete map seat a) (Declines 0x6D00) (by-status (first_status (delete_refusals map seat a)) (delete_done seat a) tt) tt in
-    let one : OnlyHeaders creates = either (a.ins == 0x16) (create map seat a) deletes (create-only map seat a) none in
-    let two : OnlyHeaders fci = either (a.ins == 0x22) (load_part part.Fci seat a) creates (part-headers seat part.Fci a) one in
-    let three : OnlyHeaders dir = either (a.ins == 0x20) (load_part part.Dir seat a) fci (part-headers seat part.Dir a) two in
-    let four : OnlyHeaders init = either (a.ins == 0x26) (load_part part.Data seat a) dir (part-headers seat part.Data a) three in
-    let five : OnlyHeaders code = either (a.ins == 0x24) (load_part part.Code seat a) init (part-headers seat part.Code a) four in
-    either (a.ins == 0x12) (open_load (room_on c) map seat a) code (by-status (first_status (open_refusals (room_on c) map a)) (open_done (room_on c) seat a) tt) five
+    let none : OnlyHeaders deletes = either (a.ins == 0x18) (delete map seat a) (Declines 0x6D00) (by_status (first_status (delete_refusals map seat a)) (delete_done seat a) tt) tt in
+    let one : OnlyHeaders creates = either (a.ins == 0x16) (create map seat a) deletes (create_only map seat a) none in
+    let two : OnlyHeaders fci = either (a.ins == 0x22) (load_part part.Fci seat a) creates (part_headers seat part.Fci a) one in
+    let three : OnlyHeaders dir = either (a.ins == 0x20) (load_part part.Dir seat a) fci (part_headers seat part.Dir a) two in
+    let four : OnlyHeaders init = either (a.ins == 0x26) (load_part part.Data seat a) dir (part_headers seat part.Data a) three in
+    let five : OnlyHeaders code = either (a.ins == 0x24) (load_part part.Code seat a) init (part_headers seat part.Code a) four in
+    either (a.ins == 0x12) (open_load (room_on c) map seat a) code (by_status (first_status (open_refusals (room_on c) map a)) (open_done (room_on c) seat a) tt) five
 
 -- the header words of a change
-header-cost : (w n : ℕ) → n ≤ 32 → w ≤ n + 4 → cost Two w ≤ 84
-header-cost w n few h = omega (arith, few, h)
+header_cost : (w n : ℕ) → n ≤ 32 → w ≤ n + 4 → cost Two w ≤ 84
+header_cost w n few h = omega (arith, few, h)
 
-header-weight : (c : Card) (o : Option Change) → length c.apps ≤ 32 → OfHeaders o → weight (atomic_of c o) ≤ 84
-header-weight c None few h = omega arith
-header-weight c (Some (Fixed n ps)) few h = absurd h
-header-weight c (Some (Created n a)) few h = header-cost _ (length c.apps) few (few_headers_law c n a).created
-header-weight c (Some (Deleted n)) few h = header-cost _ (length c.apps) few (few_headers_law c n no_app).deleted
+header_weight : (c : Card) (o : Option Change) → length c.apps ≤ 32 → OfHeaders o → weight (atomic_of c o) ≤ 84
+header_weight c None few h = omega arith
+header_weight c (Some (Fixed n ps)) few h = absurd h
+header_weight c (Some (Created n a)) few h = header_cost _ (length c.apps) few (few_headers_law c n a).created
+header_weight c (Some (Deleted n)) few h = header_cost _ (length c.apps) few (few_headers_law c n no_app).deleted
 
-item-weight : (whole : Item) (i : BankItem) → weight whole ≤ 84 → weight (item_of whole i) ≤ 84
-item-weight whole (Piece s p at b) h = omega arith
-item-weight whole (Blank s at n) h = omega arith
-item-weight whole (Note s n k) h = omega arith
-item-weight whole (Commit n ws) h = omega arith
-item-weight whole (Enter s n) h = h
-item-weight whole (Remove n) h = h
+item_weight : (whole : Item) (i : BankItem) → weight whole ≤ 84 → weight (item_of whole i) ≤ 84
+item_weight whole (Piece s p at b) h = omega arith
+item_weight whole (Blank s at n) h = omega arith
+item_weight whole (Note s n k) h = omega arith
+item_weight whole (Commit n ws) h = omega arith
+item_weight whole (Enter s n) h = h
+item_weight whole (Remove n) h = h
 
-items-within : (whole : Item) (is : List BankItem) → weight whole ≤ 84 → AllWithin 84 (map (item_of whole) is)
-items-within whole [] h = tt
-items-within whole (i ∷ is) h = (item-weight whole i h, items-within whole is h)
+items_within : (whole : Item) (is : List BankItem) → weight whole ≤ 84 → AllWithin 84 (map (item_of whole) is)
+items_within whole [] h = tt
+items_within whole (i ∷ is) h = (item_weight whole i h, items_within whole is h)
 
-managed-within : (c : Card) (seat : Seat) (m : Managed) → length c.apps ≤ 32 → OnlyHeaders m → AllWithin 84 (managed c seat m).items
-managed-within c seat (Declines sw) few h = tt
-managed-within c seat (Accepts a) few h = items-within (atomic_of c a.change) a.items (header-weight c a.change few h)
+managed_within : (c : Card) (seat : Seat) (m : Managed) → length c.apps ≤ 32 → OnlyHeaders m → AllWithin 84 (manager_command c seat m).items
+managed_within c seat (Declines sw) few h = tt
+managed_within c seat (Accepts a) few h = items_within (atomic_of c a.change) a.items (header_weight c a.change few h)
 
-no-application : (c : Card) (seat : Seat) (budget : ℕ) (a : ApduParts) (o : Option Selected) → seat.selected ≡ o → is_passed (ToApplication a) o ≡ false → AllWithin 147 (by_route c seat budget (ToApplication a)).items
-no-application c seat budget a None is stays = rw is tt
-no-application c seat budget a (Some s) is stays = absurd (cc stays)
+no_application : (c : Card) (seat : Seat) (budget : ℕ) (a : ApduParts) (o : Option Selected) → seat.selected ≡ o → is_passed (ToApplication a) o ≡ false → AllWithin 147 (by_route c seat budget (ToApplication a)).items
+no_application c seat budget a None is stays = rw is tt
+no_application c seat budget a (Some s) is stays = absurd (cc stays)
 
 -- a command that is not passed on
-pub route-within : (c : Card) (seat : Seat) (budget : ℕ) (r : Route) → length c.apps ≤ 32 → is_passed r seat.selected ≡ false → AllWithin (most_weight r) (by_route c seat budget r).items
-route-within c seat budget WrongLength few stays = tt
-route-within c seat budget WrongClass few stays = tt
-route-within c seat budget (ToSelect a) few stays = managed-within c seat (select c.apps seat a) few (by-status _ (select_done seat a (lookup c.apps a.body)) (select-headers seat a (lookup c.apps a.body)))
-route-within c seat budget (ToManager a) few stays = managed-within c seat (manage (room_on c) c.apps seat a) few (manage-headers c seat a)
-route-within c seat budget (ToApplication a) few stays = no-application c seat budget a seat.selected refl stays
+pub route_within : (c : Card) (seat : Seat) (budget : ℕ) (r : Route) → length c.apps ≤ 32 → is_passed r seat.selected ≡ false → AllWithin (most_weight r) (by_route c seat budget r).items
+route_within c seat budget WrongLength few stays = tt
+route_within c seat budget WrongClass few stays = tt
+route_within c seat budget (ToSelect a) few stays = managed_within c seat (select c.apps seat a) few (by_status _ (select_done seat a (lookup c.apps a.body)) (select_headers seat a (lookup c.apps a.body)))
+route_within c seat budget (ToManager a) few stays = managed_within c seat (manage (room_on c) c.apps seat a) few (manage_headers c seat a)
+route_within c seat budget (ToApplication a) few stays = no_application c seat budget a seat.selected refl stays
 
 -- a card that runs has at most 32 applications
-pub going-entries : (d : DeviceState) (count : ℕ) → IsSized d.words → is_going d count ≡ true → AreApps (apps_in d.words)
-going-entries d count image going = all_apps d count image (ap not going)
+pub going_entries : (d : DeviceState) (count : ℕ) → IsSized d.words → is_going d count ≡ true → AreApps (apps_in d.words)
+going_entries d count image going = all_apps d count image (ap not going)
 
-pub going-few : (d : DeviceState) (count : ℕ) → IsSized d.words → is_going d count ≡ true → length (means d.words).apps ≤ 32
-going-few d count image going = subst (λ (es : List (List ℕ × App)). length es ≤ 32) (going-apps d count going) (going-entries d count image going).few
+pub going_few : (d : DeviceState) (count : ℕ) → IsSized d.words → is_going d count ≡ true → length (means d.words).apps ≤ 32
+going_few d count image going = subst (λ (es : List (List ℕ × App)). length es ≤ 32) (going_apps d count going) (going_entries d count image going).few

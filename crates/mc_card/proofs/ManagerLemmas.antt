@@ -18,10 +18,10 @@ use Rattle.mc_model_device.specs.Card.{App, Card, means}
 use Rattle.mc_model_device.specs.Layout.{step_of}
 use Rattle.mc_model_card.specs.Units.{name_of}
 use Rattle.mc_model_card.specs.Items.{Created, Deleted, Item, Plain, Atomic, card_done, Site, BankItem, Piece, Blank, Note, Commit, Enter, Remove}
-use Rattle.mc_model_card.specs.Manager.{Seat, Open, got_of, select_body, Managed, Declines, Accepts, Accepted, Route, WrongLength, WrongClass, ToSelect, ToManager, ToApplication, can_create, first_status, answered, select_refusals, select_done, select, open_refusals, open_done, open_load, load_refusals, load_done, load_part, create_refusals, create_done, create_items, create, dir_in, fresh, delete_refusals, delete_done, delete, manage, word_parts, room_on}
+use Rattle.mc_model_card.specs.Manager.{Seat, Open, got_of, select_body, Managed, Declines, Accepts, Accepted, Route, WrongLength, WrongClass, ToSelect, ToManager, ToApplication, can_create, first_status, answer_unless, select_refusals, select_done, select, open_refusals, open_done, open_load, load_refusals, load_done, load_part, create_refusals, create_done, create_items, create, dir_in, fresh, delete_refusals, delete_done, delete, manage, word_parts, room_on}
 use Rattle.mc_model_device.specs.PowerUp.{OnCard}
-use Rattle.mc_model_card.specs.Commands.{item_of, atomic_of, managed, passed, by_route}
-use Rattle.mc_bank.specs.Bank.{entered}
+use Rattle.mc_model_card.specs.Commands.{item_of, atomic_of, manager_command, application_command, by_route}
+use Rattle.mc_bank.specs.Bank.{app_of_site}
 use Rattle.mc_manager.specs.ManagerState.{BankView, Loaded, ManagerState, open_of, seat_of, ManagerFits, FitsLoad}
 use Rattle.mc_manager.specs.declared.selection.Selection.{Selection}
 use Rattle.mc_manager.specs.Load.{is_full}
@@ -35,8 +35,8 @@ use Rattle.mc_store.specs.StoreItems.{store_did}
 use Rattle.mc_store.proofs.FoldLemmas.{IsQuiet, CardKept, all_kept, all_stand, stands_now, before_enter, creation_is, creation_quiet, quiet_plain as quiet-plain, same_entered as entered-same}
 use Rattle.mc_store.proofs.ItemLemmas.{IsPlain}
 use Rattle.mc_card.specs.ItemWrites.{ItemsMade}
-use Rattle.mc_card.proofs.StaticLemmas.{going-apps}
-use Rattle.mc_card.proofs.MadeLemmas.{IsAs, card-found, closed-base, made-stopped, made-append, made-fold, made-one}
+use Rattle.mc_card.proofs.StaticLemmas.{going_apps}
+use Rattle.mc_card.proofs.MadeLemmas.{IsAs, card_found, closed_base, made_stopped, made_append, made_fold, made_one}
 use Rattle.mc_model_device.proofs.LayoutLemmas.{closed_means}
 use Rattle.std.proofs.lemmas.Bool.{not-false}
 
@@ -44,50 +44,50 @@ use Rattle.std.proofs.lemmas.Bool.{not-false}
 
 module _ {D I : Type 0} (one : D → I → Answer → D → Type 0) where
   -- a list that was stopped in its first part, or came to its second one
-  pub in-order-parts : (xs ys : List I) (d e : D) (a : Answer) → InOrder one d (xs ++ ys) a e
+  pub in_order_parts : (xs ys : List I) (d e : D) (a : Answer) → InOrder one d (xs ++ ys) a e
       → ((m : D) × InOrder one d xs (Ok tt) m × InOrder one m ys a e) ⊎ ((s : Stop) × InOrder one d xs (Err s) e × (a ≡ Err s))
-  in-order-parts [] ys d e a h = inl (d, refl, h)
-  in-order-parts (x ∷ xs) ys d e a h =
+  in_order_parts [] ys d e a h = inl (d, refl, h)
+  in_order_parts (x ∷ xs) ys d e a h =
       elim h [
-        | inl done ↦ elim (in-order-parts xs ys done.0 e a done.2) [
+        | inl done ↦ elim (in_order_parts xs ys done.0 e a done.2) [
           | inl all ↦ inl (all.0, inl (done.0, done.1, all.1), all.2)
           | inr stop ↦ inr (stop.0, inl (done.0, done.1, stop.1), stop.2)
         ]
         | inr stop ↦ inr (stop.0, inr (stop.0, stop.1, refl), stop.2)
       ]
 
-  last-done : (x : I) (d m e : D) (a : Answer) → one d x (Ok tt) m → InOrder one m [] a e → one d x a e
-  last-done x d m e (Ok u) did h = subst (λ (t : D). one d x (Ok tt) t) (sym h) did
-  last-done x d m e (Err s) did h = absurd h
+  last_done : (x : I) (d m e : D) (a : Answer) → one d x (Ok tt) m → InOrder one m [] a e → one d x a e
+  last_done x d m e (Ok u) did h = subst (λ (t : D). one d x (Ok tt) t) (sym h) did
+  last_done x d m e (Err s) did h = absurd h
 
   -- a list of one step
-  pub in-order-one : (x : I) (d e : D) (a : Answer) → InOrder one d (x ∷ []) a e → one d x a e
-  in-order-one x d e a h =
+  pub in_order_one : (x : I) (d e : D) (a : Answer) → InOrder one d (x ∷ []) a e → one d x a e
+  in_order_one x d e a h =
       elim h [
-        | inl done ↦ last-done x d done.0 e a done.1 done.2
+        | inl done ↦ last_done x d done.0 e a done.1 done.2
         | inr stop ↦ subst (λ (b : Answer). one d x b e) (sym stop.2) stop.1
       ]
 
 -- ---- items that leave the card
 
-plain-as : (m : List (List ℕ)) (i : BankItem) (whole : Item) → IsPlain i → IsAs m i (item_of whole i)
-plain-as m (Piece s p at b) whole h = refl
-plain-as m (Blank s at n) whole h = refl
-plain-as m (Note s n i) whole h = refl
-plain-as m (Commit n ws) whole h = absurd h
-plain-as m (Enter s n) whole h = absurd h
-plain-as m (Remove n) whole h = absurd h
+plain_as : (m : List (List ℕ)) (i : BankItem) (whole : Item) → IsPlain i → IsAs m i (item_of whole i)
+plain_as m (Piece s p at b) whole h = refl
+plain_as m (Blank s at n) whole h = refl
+plain_as m (Note s n i) whole h = refl
+plain_as m (Commit n ws) whole h = absurd h
+plain_as m (Enter s n) whole h = absurd h
+plain_as m (Remove n) whole h = absurd h
 
-all-plain : (t : Site) (is : List BankItem) → AllByRecursion (IsQuiet t) is → AllByRecursion IsPlain is
-all-plain t [] h = tt
-all-plain t (i ∷ is) h = (quiet-plain t i h.0, all-plain t is h.1)
+all_plain : (t : Site) (is : List BankItem) → AllByRecursion (IsQuiet t) is → AllByRecursion IsPlain is
+all_plain t [] h = tt
+all_plain t (i ∷ is) h = (quiet-plain t i h.0, all_plain t is h.1)
 
-pieces-plain : (t : Site) (p : Part) (cs : List (ℕ × List ℕ)) → AllByRecursion IsPlain (map (λ c. Piece t p c.0 c.1) cs)
-pieces-plain t p [] = tt
-pieces-plain t p (c ∷ cs) = (tt, pieces-plain t p cs)
+pieces_plain : (t : Site) (p : Part) (cs : List (ℕ × List ℕ)) → AllByRecursion IsPlain (map (λ c. Piece t p c.0 c.1) cs)
+pieces_plain t p [] = tt
+pieces_plain t p (c ∷ cs) = (tt, pieces_plain t p cs)
 
-pub going-base : (d : DeviceState) (c : ℕ) → is_going d c ≡ true → HoldsBase (OnCard (means d.words)) 0 Two d.words
-going-base d c h = let g : Going d c = going_is d c h in closed-base d.words (means d.words) g.closed g.laid (sym (closed_means d.words g.closed))
+pub going_base : (d : DeviceState) (c : ℕ) → is_going d c ≡ true → HoldsBase (OnCard (means d.words)) 0 Two d.words
+going_base d c h = let g : Going d c = going_is d c h in closed_base d.words (means d.words) g.closed g.laid (sym (closed_means d.words g.closed))
 
 -- ---- the first refusal
 
@@ -96,16 +96,16 @@ abbrev pub items_in : Managed → List BankItem
 items_in (Declines sw) = []
 items_in (Accepts d) = d.items
 
-pub none-of : (b : Bool) (sw : ℕ) (rest : Option ℕ) → cond b (Some sw) rest ≡ None → (b ≡ false) × (rest ≡ None)
-none-of true sw rest h = absurd (cc h)
-none-of false sw rest h = (refl, h)
+pub none_of : (b : Bool) (sw : ℕ) (rest : Option ℕ) → cond b (Some sw) rest ≡ None → (b ≡ false) × (rest ≡ None)
+none_of true sw rest h = absurd (cc h)
+none_of false sw rest h = (refl, h)
 
 -- a CREATE that is not refused has a complete load
-can-create : (apps : List (List ℕ × App)) (load : Option Open) (a : ApduParts) → first_status (create_refusals apps load a) ≡ None → can_create load ≡ true
-can-create apps load a h =
-    let one = none-of _ 0x6A86 _ h in
-    let two = none-of _ 0x6700 _ one.1 in
-    let three = none-of _ 0x6985 _ two.1 in
+unrefused_can_create : (apps : List (List ℕ × App)) (load : Option Open) (a : ApduParts) → first_status (create_refusals apps load a) ≡ None → can_create load ≡ true
+unrefused_can_create apps load a h =
+    let one = none_of _ 0x6A86 _ h in
+    let two = none_of _ 0x6700 _ one.1 in
+    let three = none_of _ 0x6985 _ two.1 in
     not-false (can_create load) three.0
 
 module _ {N : Type 0} (state : N → DeviceState) (wrote : N → ℕ → List ℕ → Answer → N → Type 0)
@@ -121,17 +121,17 @@ module _ {N : Type 0} (state : N → DeviceState) (wrote : N → ℕ → List �
       record { state = store_state d (count_of s); named = store_named d; room = store_room d; standing = store_standing d }
 
   -- items that leave the card
-  pub plain-made : (whole : Item) (is : List BankItem) (s e : Store N) (a : Answer) → is_going (state s.device) s.count ≡ true → AllByRecursion IsPlain is → InOrder (store_did state wrote) s is a e
+  pub plain_made : (whole : Item) (is : List BankItem) (s e : Store N) (a : Answer) → is_going (state s.device) s.count ≡ true → AllByRecursion IsPlain is → InOrder (store_did state wrote) s is a e
       → ItemsMade state wrote (card_of_store s) (map (item_of whole) is) s.device a e.device
-  plain-made whole is s e a going plain h =
-      made-fold state wrote obeys (λ (t : Store N). t.device) (store_did state wrote) (item_of whole) IsPlain (λ s x a e did. (going_is (state s.device) s.count did.going).on)
-      (λ s x a e plain did. made-one state wrote obeys s.device e.device s.count e.count x (item_of whole x) a (plain-as (state s.device).words x whole plain) did)
-      is s e a (going-base (state s.device) s.count going) plain h
+  plain_made whole is s e a going plain h =
+      made_fold state wrote obeys (λ (t : Store N). t.device) (store_did state wrote) (item_of whole) IsPlain (λ s x a e did. (going_is (state s.device) s.count did.going).on)
+      (λ s x a e plain did. made_one state wrote obeys s.device e.device s.count e.count x (item_of whole x) a (plain_as (state s.device).words x whole plain) did)
+      is s e a (going_base (state s.device) s.count going) plain h
 
   -- a creation of what stands at a site
-  enter-as : (s m : Store N) (t : Site) (n : List ℕ) (o : Open) → means (state m.device).words ≡ means (state s.device).words → entered t (part_in (state m.device).words t) ≡ fresh o
+  enter_as : (s m : Store N) (t : Site) (n : List ℕ) (o : Open) → means (state m.device).words ≡ means (state s.device).words → app_of_site t (part_in (state m.device).words t) ≡ fresh o
       → IsAs (state m.device).words (Enter t n) (atomic_of (card_of_store s) (Some (Created n (fresh o))))
-  enter-as s m t n o card app =
+  enter_as s m t n o card app =
       let c = card_of_store s in
       let w = (state m.device).words in
       record {
@@ -141,135 +141,135 @@ module _ {N : Type 0} (state : N → DeviceState) (wrote : N → ℕ → List �
         apps = ap (λ (x : App). insert (means w).apps n x) (sym app);
       }
 
-  pub create-made : (s e : Store N) (a : Answer) (t : Site) (n : List ℕ) (o : Open) → is_going (state s.device) s.count ≡ true → entered t (store_standing (state s.device) t) ≡ fresh o → InOrder (store_did state wrote) s (create_items t n) a e
+  pub create_made : (s e : Store N) (a : Answer) (t : Site) (n : List ℕ) (o : Open) → is_going (state s.device) s.count ≡ true → app_of_site t (store_standing (state s.device) t) ≡ fresh o → InOrder (store_did state wrote) s (create_items t n) a e
       → ItemsMade state wrote (card_of_store s) (map (item_of (atomic_of (card_of_store s) (Some (Created n (fresh o))))) (create_items t n)) s.device a e.device
-  create-made s e a t n o going app h =
+  create_made s e a t n o going app h =
       let c = card_of_store s in
       let whole = atomic_of c (Some (Created n (fresh o))) in
       let is = before_enter t n in
       let quiet = creation_quiet t n in
-      let plain = all-plain t is quiet in
+      let plain = all_plain t is quiet in
       let parts : InOrder (store_did state wrote) s (is ++ Enter t n ∷ []) a e = subst (λ (l : List BankItem). InOrder (store_did state wrote) s l a e) (creation_is t n) h in
       subst (λ (l : List Item). ItemsMade state wrote c l s.device a e.device) (sym (ap (map (item_of whole)) (creation_is t n) ∙ map-append (item_of whole) is (Enter t n ∷ [])))
-      (elim (in-order-parts (store_did state wrote) is (Enter t n ∷ []) s e a parts) [
+      (elim (in_order_parts (store_did state wrote) is (Enter t n ∷ []) s e a parts) [
         | inl all ↦
             let m = all.0 in
-            let first : ItemsMade state wrote c (map (item_of whole) is) s.device (Ok tt) m.device = plain-made whole is s m (Ok tt) going plain all.1 in
+            let first : ItemsMade state wrote c (map (item_of whole) is) s.device (Ok tt) m.device = plain_made whole is s m (Ok tt) going plain all.1 in
             let kept : CardKept state wrote obeys s m = all_kept state wrote obeys is s m (Ok tt) plain all.1 in
-            let did : store_did state wrote m (Enter t n) a e = in-order-one (store_did state wrote) (Enter t n) m e a all.2 in
+            let did : store_did state wrote m (Enter t n) a e = in_order_one (store_did state wrote) (Enter t n) m e a all.2 in
             let standing : (p : Part) → part_in (state m.device).words t p ≡ store_standing (state s.device) t p =
             λ p. sym (stands_now state wrote obeys m t p did.going) ∙ all_stand state wrote obeys is s m t p quiet all.1 in
-            let same : entered t (part_in (state m.device).words t) ≡ fresh o = entered-same t (part_in (state m.device).words t) (store_standing (state s.device) t) standing ∙ app in
-            let now : card_done c (map (item_of whole) is) ≡ means (state m.device).words = card-found (card_done c (map (item_of whole) is)) 0 (state m.device).words first.done in
+            let same : app_of_site t (part_in (state m.device).words t) ≡ fresh o = entered-same t (part_in (state m.device).words t) (store_standing (state s.device) t) standing ∙ app in
+            let now : card_done c (map (item_of whole) is) ≡ means (state m.device).words = card_found (card_done c (map (item_of whole) is)) 0 (state m.device).words first.done in
             let last : ItemsMade state wrote (means (state m.device).words) (whole ∷ []) m.device a e.device =
-            made-one state wrote obeys m.device e.device m.count e.count (Enter t n) whole a (enter-as s m t n o kept.card same) did in
-            made-append state wrote obeys c (map (item_of whole) is) (whole ∷ []) s.device m.device e.device a (going_is (state s.device) s.count going).on first
+            made_one state wrote obeys m.device e.device m.count e.count (Enter t n) whole a (enter_as s m t n o kept.card same) did in
+            made_append state wrote obeys c (map (item_of whole) is) (whole ∷ []) s.device m.device e.device a (going_is (state s.device) s.count going).on first
             (subst (λ (k : Card). ItemsMade state wrote k (whole ∷ []) m.device a e.device) (sym now) last)
         | inr stop ↦ subst (λ (b : Answer). ItemsMade state wrote c (map (item_of whole) is ++ whole ∷ []) s.device b e.device) (sym stop.2)
-            (made-stopped state wrote obeys c (map (item_of whole) is) (whole ∷ []) s.device e.device stop.0 (plain-made whole is s e (Err stop.0) going plain stop.1))
+            (made_stopped state wrote obeys c (map (item_of whole) is) (whole ∷ []) s.device e.device stop.0 (plain_made whole is s e (Err stop.0) going plain stop.1))
       ])
 
-  pub delete-made : (s e : Store N) (a : Answer) (n : List ℕ) → InOrder (store_did state wrote) s (Remove n ∷ []) a e
+  pub delete_made : (s e : Store N) (a : Answer) (n : List ℕ) → InOrder (store_did state wrote) s (Remove n ∷ []) a e
       → ItemsMade state wrote (card_of_store s) (atomic_of (card_of_store s) (Some (Deleted n)) ∷ []) s.device a e.device
-  delete-made s e a n h =
-      made-one state wrote obeys s.device e.device s.count e.count (Remove n) (atomic_of (card_of_store s) (Some (Deleted n))) a
-      (record { change = Deleted n; is = refl; apps = refl }) (in-order-one (store_did state wrote) (Remove n) s e a h)
+  delete_made s e a n h =
+      made_one state wrote obeys s.device e.device s.count e.count (Remove n) (atomic_of (card_of_store s) (Some (Deleted n))) a
+      (record { change = Deleted n; is = refl; apps = refl }) (in_order_one (store_did state wrote) (Remove n) s e a h)
 
   -- ---- a command by its answer
 
   -- the items of an answer make its items of the definitions
   abbrev MakesAll : Store N → Seat → Managed → Type 0
-  MakesAll s seat x = (e : Store N) (a : Answer) → InOrder (store_did state wrote) s (items_in x) a e → ItemsMade state wrote (card_of_store s) (managed (card_of_store s) seat x).items s.device a e.device
+  MakesAll s seat x = (e : Store N) (a : Answer) → InOrder (store_did state wrote) s (items_in x) a e → ItemsMade state wrote (card_of_store s) (manager_command (card_of_store s) seat x).items s.device a e.device
 
   module _ (s : Store N) (seat : Seat) (going : is_going (state s.device) s.count ≡ true) where
-    no-items : (sw : ℕ) → MakesAll s seat (Declines sw)
-    no-items sw e a h = plain-made Plain [] s e a going tt h
+    no_items : (sw : ℕ) → MakesAll s seat (Declines sw)
+    no_items sw e a h = plain_made Plain [] s e a going tt h
 
-    quiet-items : (body : List ℕ) (next : Seat) → MakesAll s seat (Accepts (record { body = body; seat = next; items = []; change = None }))
-    quiet-items body next e a h = plain-made Plain [] s e a going tt h
+    quiet_items : (body : List ℕ) (next : Seat) → MakesAll s seat (Accepts (record { body = body; seat = next; items = []; change = None }))
+    quiet_items body next e a h = plain_made Plain [] s e a going tt h
 
-    by-refusal : (o : Option ℕ) (d : Accepted) → (o ≡ None → MakesAll s seat (Accepts d)) → MakesAll s seat (answered o d)
-    by-refusal None d h = h refl
-    by-refusal (Some sw) d h = no-items sw
+    by_refusal : (o : Option ℕ) (d : Accepted) → (o ≡ None → MakesAll s seat (Accepts d)) → MakesAll s seat (answer_unless o d)
+    by_refusal None d h = h refl
+    by_refusal (Some sw) d h = no_items sw
 
-    select-made : (apps : List (List ℕ × App)) (a : ApduParts) → MakesAll s seat (select apps seat a)
-    select-made apps a = by-refusal (first_status (select_refusals apps a)) (select_done seat a (lookup apps a.body)) (λ e. by-app (lookup apps a.body))
+    select_made : (apps : List (List ℕ × App)) (a : ApduParts) → MakesAll s seat (select apps seat a)
+    select_made apps a = by_refusal (first_status (select_refusals apps a)) (select_done seat a (lookup apps a.body)) (λ e. by_app (lookup apps a.body))
       where
-        by-app : (x : Option App) → MakesAll s seat (Accepts (select_done seat a x))
-        by-app None = quiet-items [] seat
-        by-app (Some app) = quiet-items (select_body a app) (select_done seat a (Some app)).seat
+        by_app : (x : Option App) → MakesAll s seat (Accepts (select_done seat a x))
+        by_app None = quiet_items [] seat
+        by_app (Some app) = quiet_items (select_body a app) (select_done seat a (Some app)).seat
 
-    open-made : (room : Sizes → Option ℕ) (apps : List (List ℕ × App)) (a : ApduParts) → MakesAll s seat (open_load room apps seat a)
-    open-made room apps a = by-refusal (first_status (open_refusals room apps a)) (open_done room seat a) (λ e. quiet-items [] (open_done room seat a).seat)
+    open_made : (room : Sizes → Option ℕ) (apps : List (List ℕ × App)) (a : ApduParts) → MakesAll s seat (open_load room apps seat a)
+    open_made room apps a = by_refusal (first_status (open_refusals room apps a)) (open_done room seat a) (λ e. quiet_items [] (open_done room seat a).seat)
 
-    load-made : (p : Part) (a : ApduParts) → MakesAll s seat (load_part p seat a)
-    load-made p a = by-refusal (first_status (load_refusals seat.load p a)) (load_done seat seat.load p a) (λ e. by-load seat.load)
+    load_made : (p : Part) (a : ApduParts) → MakesAll s seat (load_part p seat a)
+    load_made p a = by_refusal (first_status (load_refusals seat.load p a)) (load_done seat seat.load p a) (λ e. by_load seat.load)
       where
-        by-load : (x : Option Open) → MakesAll s seat (Accepts (load_done seat x p a))
-        by-load None = quiet-items [] seat
-        by-load (Some o) = λ e b h. plain-made Plain (map (λ c. Piece o.site p c.0 c.1) (word_parts (length (got_of p o.got)) a.body)) s e b going (pieces-plain o.site p (word_parts (length (got_of p o.got)) a.body)) h
+        by_load : (x : Option Open) → MakesAll s seat (Accepts (load_done seat x p a))
+        by_load None = quiet_items [] seat
+        by_load (Some o) = λ e b h. plain_made Plain (map (λ c. Piece o.site p c.0 c.1) (word_parts (length (got_of p o.got)) a.body)) s e b going (pieces_plain o.site p (word_parts (length (got_of p o.got)) a.body)) h
 
-    create-by : (l : Option Loaded) (apps : List (List ℕ × App)) (a : ApduParts) (n : Result (List ℕ) AidFault) → ForSome l (FitsLoad (view s)) → first_status (create_refusals apps (option_map (open_of (view s).standing) l) a) ≡ None
+    create_by : (l : Option Loaded) (apps : List (List ℕ × App)) (a : ApduParts) (n : Result (List ℕ) AidFault) → ForSome l (FitsLoad (view s)) → first_status (create_refusals apps (option_map (open_of (view s).standing) l) a) ≡ None
         → MakesAll s seat (Accepts (create_done seat (option_map (open_of (view s).standing) l) n))
-    create-by None apps a n fits clear = quiet-items [] seat
-    create-by (Some l) apps a (Err e) fits clear = quiet-items [] seat
-    create-by (Some l) apps a (Ok n) fits clear =
+    create_by None apps a n fits clear = quiet_items [] seat
+    create_by (Some l) apps a (Err e) fits clear = quiet_items [] seat
+    create_by (Some l) apps a (Ok n) fits clear =
         let here : FitsLoad (view s) l = fits l refl in
-        let full : is_full l ≡ true = sym (complete_full (view s) l here) ∙ can-create apps (Some (open_of (view s).standing l)) a clear in
-        λ e b h. create-made s e b l.site n (open_of (view s).standing l) going (sym (fresh_entered (view s) l here full)) h
+        let full : is_full l ≡ true = sym (complete_full (view s) l here) ∙ unrefused_can_create apps (Some (open_of (view s).standing l)) a clear in
+        λ e b h. create_made s e b l.site n (open_of (view s).standing l) going (sym (fresh_entered (view s) l here full)) h
 
-    delete-done : (apps : List (List ℕ × App)) (a : ApduParts) → MakesAll s seat (delete apps seat a)
-    delete-done apps a = by-refusal (first_status (delete_refusals apps seat a)) (delete_done seat a) (λ e. λ x b h. delete-made s x b a.body h)
+    delete_done_makes : (apps : List (List ℕ × App)) (a : ApduParts) → MakesAll s seat (delete apps seat a)
+    delete_done_makes apps a = by_refusal (first_status (delete_refusals apps seat a)) (delete_done seat a) (λ e. λ x b h. delete_made s x b a.body h)
 
-    by-test : (x y : Managed) → MakesAll s seat x → MakesAll s seat y → (b : Bool) → MakesAll s seat (cond b x y)
-    by-test x y h k true = h
-    by-test x y h k false = k
+    by_test : (x y : Managed) → MakesAll s seat x → MakesAll s seat y → (b : Bool) → MakesAll s seat (cond b x y)
+    by_test x y h k true = h
+    by_test x y h k false = k
 
   module _ (s : Store N) (session : List ℕ) (m : ManagerState) (going : is_going (state s.device) s.count ≡ true) (fits : ManagerFits (view s) m) where
     -- the seat of a manager over a store
     abbrev seat_on : Seat
     seat_on = seat_of (view s).standing session m
 
-    create-done : (apps : List (List ℕ × App)) (a : ApduParts) → MakesAll s seat_on (create apps seat_on a)
-    create-done apps a =
-        by-refusal s seat_on going (first_status (create_refusals apps seat_on.load a)) (create_done seat_on seat_on.load (name_of (dir_in seat_on.load)))
-        (create-by s seat_on going m.load apps a (name_of (dir_in seat_on.load)) fits.load)
+    create_done_makes : (apps : List (List ℕ × App)) (a : ApduParts) → MakesAll s seat_on (create apps seat_on a)
+    create_done_makes apps a =
+        by_refusal s seat_on going (first_status (create_refusals apps seat_on.load a)) (create_done seat_on seat_on.load (name_of (dir_in seat_on.load)))
+        (create_by s seat_on going m.load apps a (name_of (dir_in seat_on.load)) fits.load)
 
-    manage-made : (room : Sizes → Option ℕ) (apps : List (List ℕ × App)) (a : ApduParts) → MakesAll s seat_on (manage room apps seat_on a)
+    manage_made : (room : Sizes → Option ℕ) (apps : List (List ℕ × App)) (a : ApduParts) → MakesAll s seat_on (manage room apps seat_on a)
     unfolding manage
-    manage-made room apps a =
-        let load = load-made s seat_on going in
-        let test = by-test s seat_on going in
-        test _ _ (open-made s seat_on going room apps a) (test _ _ (load part.Code a) (test _ _ (load part.Data a) (test _ _ (load part.Dir a) (test _ _ (load part.Fci a)
-        (test _ _ (create-done apps a) (test _ _ (delete-done s seat_on going apps a) (no-items s seat_on going 0x6D00) (a.ins == 0x18)) (a.ins == 0x16)) (a.ins == 0x22)) (a.ins == 0x20)) (a.ins == 0x26)) (a.ins == 0x24)) (a.ins == 0x12)
+    manage_made room apps a =
+        let load = load_made s seat_on going in
+        let test = by_test s seat_on going in
+        test _ _ (open_made s seat_on going room apps a) (test _ _ (load part.Code a) (test _ _ (load part.Data a) (test _ _ (load part.Dir a) (test _ _ (load part.Fci a)
+        (test _ _ (create_done_makes apps a) (test _ _ (delete_done_makes s seat_on going apps a) (no_items s seat_on going 0x6D00) (a.ins == 0x18)) (a.ins == 0x16)) (a.ins == 0x22)) (a.ins == 0x20)) (a.ins == 0x26)) (a.ins == 0x24)) (a.ins == 0x12)
 
     -- ---- a command by its route
 
-    select-items : (x : Managed) → items_of (due_select x) ≡ items_in x
-    select-items (Declines sw) = refl
-    select-items (Accepts d) = refl
+    select_items : (x : Managed) → items_of (due_select x) ≡ items_in x
+    select_items (Declines sw) = refl
+    select_items (Accepts d) = refl
 
-    manager-items : (x : Managed) → items_of (due_manager x) ≡ items_in x
-    manager-items (Declines sw) = refl
-    manager-items (Accepts d) = refl
+    manager_items : (x : Managed) → items_of (due_manager x) ≡ items_in x
+    manager_items (Declines sw) = refl
+    manager_items (Accepts d) = refl
 
     -- the items of a command that is not passed on
-    pub due-made : (budget : ℕ) (r : Route) (e : Store N) (b : Answer) → (due_on (view s) seat_on r ≡ Passes → ⊥) → InOrder (store_did state wrote) s (items_of (due_on (view s) seat_on r)) b e
+    pub due_made : (budget : ℕ) (r : Route) (e : Store N) (b : Answer) → (due_on (view s) seat_on r ≡ Passes → ⊥) → InOrder (store_did state wrote) s (items_of (due_on (view s) seat_on r)) b e
         → ItemsMade state wrote (card_of_store s) (by_route (card_of_store s) seat_on budget r).items s.device b e.device
-    due-made budget WrongLength e b other h = no-items s seat_on going 0x6700 e b h
-    due-made budget WrongClass e b other h = no-items s seat_on going 0x6E00 e b h
-    due-made budget (ToSelect a) e b other h =
-        select-made s seat_on going (card_of_store s).apps a e b
-        (subst (λ (is : List BankItem). InOrder (store_did state wrote) s is b e) (select-items (select (card_of_store s).apps seat_on a))
-        (subst (λ (apps : List (List ℕ × App)). InOrder (store_did state wrote) s (items_of (due_select (select apps seat_on a))) b e) (going-apps (state s.device) s.count going) h))
-    due-made budget (ToManager a) e b other h =
-        manage-made (room_on (card_of_store s)) (card_of_store s).apps a e b
-        (subst (λ (is : List BankItem). InOrder (store_did state wrote) s is b e) (manager-items (manage (room_on (card_of_store s)) (card_of_store s).apps seat_on a))
-        (subst (λ (apps : List (List ℕ × App)). InOrder (store_did state wrote) s (items_of (due_manager (manage (room_on (card_of_store s)) apps seat_on a))) b e) (going-apps (state s.device) s.count going) h))
-    due-made budget (ToApplication a) e b other h = by-selected m.selected other h
+    due_made budget WrongLength e b other h = no_items s seat_on going 0x6700 e b h
+    due_made budget WrongClass e b other h = no_items s seat_on going 0x6E00 e b h
+    due_made budget (ToSelect a) e b other h =
+        select_made s seat_on going (card_of_store s).apps a e b
+        (subst (λ (is : List BankItem). InOrder (store_did state wrote) s is b e) (select_items (select (card_of_store s).apps seat_on a))
+        (subst (λ (apps : List (List ℕ × App)). InOrder (store_did state wrote) s (items_of (due_select (select apps seat_on a))) b e) (going_apps (state s.device) s.count going) h))
+    due_made budget (ToManager a) e b other h =
+        manage_made (room_on (card_of_store s)) (card_of_store s).apps a e b
+        (subst (λ (is : List BankItem). InOrder (store_did state wrote) s is b e) (manager_items (manage (room_on (card_of_store s)) (card_of_store s).apps seat_on a))
+        (subst (λ (apps : List (List ℕ × App)). InOrder (store_did state wrote) s (items_of (due_manager (manage (room_on (card_of_store s)) apps seat_on a))) b e) (going_apps (state s.device) s.count going) h))
+    due_made budget (ToApplication a) e b other h = by_selected m.selected other h
       where
-        by-selected : (x : Option Selection) → (due_application (option_map (λ s. record { name = s.aid; session = session }) x) ≡ Passes → ⊥)
+        by_selected : (x : Option Selection) → (due_application (option_map (λ s. record { name = s.aid; session = session }) x) ≡ Passes → ⊥)
             → InOrder (store_did state wrote) s (items_of (due_application (option_map (λ s. record { name = s.aid; session = session }) x))) b e
-            → ItemsMade state wrote (card_of_store s) (passed (card_of_store s) seat_on (option_map (λ s. record { name = s.aid; session = session }) x) a budget).items s.device b e.device
-        by-selected None other h = no-items s seat_on going 0x6985 e b h
-        by-selected (Some x) other h = absurd (other refl)
+            → ItemsMade state wrote (card_of_store s) (application_command (card_of_store s) seat_on (option_map (λ s. record { name = s.aid; session = session }) x) a budget).items s.device b e.device
+        by_selected None other h = no_items s seat_on going 0x6985 e b h
+        by_selected (Some x) other h = absurd (other refl)

@@ -5,7 +5,7 @@ use Rattle.mc_model_device.specs.declared.device.Stop.{Stop}
 use Rattle.mc_model_device.specs.Orders.{Answer, answer_of, InOrder}
 use Rattle.mc_model_device.specs.Device.{DeviceState, IsSized, Wrote as DeviceWrote}
 use Rattle.mc_model_device.specs.Card.{App}
-use Rattle.mc_model_card.specs.Items.{BankItem, done, write_items}
+use Rattle.mc_model_card.specs.Items.{BankItem, apps_after_items, write_items}
 use Rattle.mc_model_machine.specs.Chain.{Chain, Turn as ModelTurn, Outcome as ModelOutcome, Acted, Follows, Continues, Ends, chain_session, end_of, turn_of}
 use Rattle.mc_bank.specs.Bank.{BankState, AreApps, app_of}
 use Rattle.mc_store.specs.declared.store.Store.{Store}
@@ -23,8 +23,8 @@ use Rattle.mc_card.specs.ItemWrites.{ItemsMade}
 use Rattle.mc_card.specs.Parts.{card_in, seat_in, with_session, RunsChain}
 use Rattle.mc_machine.proofs.SoundChains.{AreSound, TurnSound, FollowsSound, first_in, session_size, turn_sound}
 use Rattle.mc_machine.proofs.SoundRuns.{turn_end}
-use Rattle.mc_card.proofs.StaticLemmas.{going-apps}
-use Rattle.mc_card.proofs.FewLemmas.{going-entries}
+use Rattle.mc_card.proofs.StaticLemmas.{going_apps}
+use Rattle.mc_card.proofs.FewLemmas.{going_entries}
 use Rattle.mc_card.proofs.AfterLemmas.{card_made, still_up, same_seat, seat_after}
 use Rattle.std.proofs.lemmas.Option.{same_Some}
 
@@ -52,7 +52,7 @@ module _ {N : Type 0} (state : N → DeviceState) (wrote : N → ℕ → List �
 
     -- the chain stands on the card
     own_map : ch.map ≡ apps
-    own_map = r.runs.map ∙ going-apps (state c.store.device) c.store.count r.up.going
+    own_map = r.runs.map ∙ going_apps (state c.store.device) c.store.count r.up.going
 
     sound : TurnSound ch t
     sound = turn_sound left ch r.sound
@@ -74,7 +74,7 @@ module _ {N : Type 0} (state : N → DeviceState) (wrote : N → ℕ → List �
       -- the chain goes on
       goes : (next : Chain) → t.follows ≡ Continues next → TurnGoesOn state wrote c ch (left - t.count) (Continues next) (record { store = e; manager = c.manager; session = c.session; chain = Some d })
       goes next is =
-          let s = subst (λ (f : Follows). FollowsSound ch (done ch.map (write_items t.writes)) f) is sound.follows in
+          let s = subst (λ (f : Follows). FollowsSound ch (apps_after_items ch.map (write_items t.writes)) f) is sound.follows in
           let all = acts.left in
           let old = r.left in (
             record {
@@ -187,7 +187,7 @@ module _ {N : Type 0} (state : N → DeviceState) (wrote : N → ℕ → List �
     pub turned_few : ((ch : Chain) → RunsAs (bank_state c.store) (named c.store) k ch → AreApps (bank_state c.store).apps → WritesFew (turn_of k.left ch)) → IsSized (state c.store.device).words
         → (ch : Chain) (left : ℕ) → RunsChain state c ch left → WritesFew (turn_of left ch)
     turned_few few image ch left r =
-        subst (λ (n : ℕ). WritesFew (turn_of n ch)) (left_own ch left r) (few ch (runs_own ch left r) (going-entries (state c.store.device) c.store.count image r.up.going))
+        subst (λ (n : ℕ). WritesFew (turn_of n ch)) (left_own ch left r) (few ch (runs_own ch left r) (going_entries (state c.store.device) c.store.count image r.up.going))
 
     -- its steps
     pub turned_steps : (old new : ℕ) → ((ch : Chain) → RunsAs (bank_state c.store) (named c.store) k ch → new ≡ old + (turn_of k.left ch).count) → (ch : Chain) (left : ℕ) → RunsChain state c ch left → new ≡ old + (turn_of left ch).count

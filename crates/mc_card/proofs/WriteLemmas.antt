@@ -4,30 +4,30 @@ use Rattle.std.specs.Prelude.{unwrap_or}
 use Rattle.std.proofs.lemmas.List.{length-map}
 use Rattle.mc_model_device.specs.Orders.{Answer, InOrder}
 use Rattle.mc_model_device.specs.Bytes.{lookup, insert, splice}
-use Rattle.mc_model_device.specs.Pieces.{laid_pieces, laid_words, with_words, with_touched, touched, HoldPieces, LieIn}
+use Rattle.mc_model_device.specs.Pieces.{laid_pieces, laid_words, with_words, with_touched, touched_words, HoldPieces, LieIn}
 use Rattle.mc_model_device.specs.Device.{DeviceState, Wrote as DeviceWrote}
 use Rattle.mc_model_device.specs.Card.{App, Card, means}
 use Rattle.mc_model_machine.specs.Chain.{Write, changed_app, map_changed}
 use Rattle.mc_model_card.specs.Items.{Fixed, Item, Atomic, card_done, BankItem, Commit, write_items}
 use Rattle.mc_trans.proofs.Holding.{words_laid}
-use Rattle.mc_bank.specs.Bank.{BankState, no_app, app_of, with_words as app_with, committed, item_done, Changes}
+use Rattle.mc_bank.specs.Bank.{BankState, no_app, app_of, with_words as app_with, apps_after_commit, item_done, Changes}
 use Rattle.mc_bank.proofs.Commits.{Words, commits}
 use Rattle.mc_store.specs.declared.store.Store.{Store}
 use Rattle.mc_store.specs.Store.{apps_in, is_going, store_state, store_standing}
 use Rattle.mc_store.specs.Laws.{store_obeys}
 use Rattle.mc_store.specs.StoreItems.{store_did}
 use Rattle.mc_store.specs.GoingLaws.{Going, going_is}
-use Rattle.mc_card.proofs.StaticLemmas.{going-apps}
+use Rattle.mc_card.proofs.StaticLemmas.{going_apps}
 use Rattle.mc_card.specs.ItemWrites.{ItemsMade}
 use Rattle.mc_machine_laws.specs.FewWords.{PiecesWithin}
 use Rattle.mc_machine.specs.Chains.{ChainWrote}
 use Rattle.mc_machine.proofs.SoundChains.{IsSoundWrite, AreSound}
-use Rattle.mc_card.proofs.MadeLemmas.{card-found, closed-base, made-none, made-stopped, made-append, IsAtomicAs, made-one}
+use Rattle.mc_card.proofs.MadeLemmas.{card_found, closed_base, made_none, made_stopped, made_append, IsAtomicAs, made_one}
 use Rattle.mc_model_device.proofs.LayoutLemmas.{closed_means}
 use Rattle.mc_model_device.proofs.PieceLemmas.{held_same}
-use Rattle.mc_model_device.proofs.ListLemmas.{splice-none}
+use Rattle.mc_model_device.proofs.ListLemmas.{splice_none}
 use Rattle.std.proofs.lemmas.Bool.{not-false}
-use Rattle.mc_model_device.proofs.BoolLemmas.{some-is}
+use Rattle.mc_model_device.proofs.BoolLemmas.{some_is}
 
 -- ---- words that hold pieces
 
@@ -41,7 +41,7 @@ solid [] = []
 solid (p ∷ ps) = put_solid p.0 p.1 (solid ps)
 
 laid_one : (l : List ℕ) (at : ℕ) (b : List ℕ) (ps : List (ℕ × List ℕ)) → laid_pieces l (put_solid at b ps) ≡ laid_pieces (splice l at b) ps
-laid_one l at [] ps = ap (λ (x : List ℕ). laid_pieces x ps) (sym (splice-none l at))
+laid_one l at [] ps = ap (λ (x : List ℕ). laid_pieces x ps) (sym (splice_none l at))
 laid_one l at (b ∷ bs) ps = refl
 
 laid_solid : (l : List ℕ) (ps : List (ℕ × List ℕ)) → laid_pieces l (solid ps) ≡ laid_pieces l ps
@@ -56,8 +56,8 @@ touched_solid : (ns : List ℕ) (ps : List (ℕ × List ℕ)) → with_touched n
 touched_solid ns [] = refl
 touched_solid ns (p ∷ ps) = touched_one ns p.0 p.1 (solid ps) ∙ touched_solid (with_words p.0 p.1 ns) ps
 
-same_touched : (ps : List (ℕ × List ℕ)) → touched ps ≡ touched (solid ps)
-unfolding touched
+same_touched : (ps : List (ℕ × List ℕ)) → touched_words ps ≡ touched_words (solid ps)
+unfolding touched_words
 same_touched ps = sym (touched_solid [] ps)
 
 lie_one : (n at : ℕ) (b : List ℕ) (ps : List (ℕ × List ℕ)) → at + length b ≤ n → LieIn n ps → LieIn n (put_solid at b ps)
@@ -72,11 +72,11 @@ laid_held : (l : List ℕ) (ps ws : List (ℕ × List ℕ)) → PiecesWithin (le
 laid_held l ps ws within held = words_laid l (solid ps) ws (lie_solid (length l) ps within) (held_same l ps (solid ps) ws (same_touched ps) (sym (laid_solid l ps)) held) ∙ laid_solid l ps
 
 -- words are as many as their pieces touch
-as_many : (l : List ℕ) (ps ws : List (ℕ × List ℕ)) → HoldPieces l ps ws → length ws ≡ length (touched ps)
+as_many : (l : List ℕ) (ps ws : List (ℕ × List ℕ)) → HoldPieces l ps ws → length ws ≡ length (touched_words ps)
 as_many l ps ws held = sym (length-map ws (λ w. w.0)) ∙ ap length held.touched_words
 
 -- a commit of them changes the applications as their pieces do
-committed_is : (apps : List (List ℕ × App)) (n : List ℕ) (ps ws : List (ℕ × List ℕ)) (a : App) → lookup apps n ≡ Some a → PiecesWithin (length (app_of apps (Some n)).fixed) ps → HoldPieces (app_of apps (Some n)).fixed ps ws → map_changed apps n (Some ps) ≡ committed apps n ws
+committed_is : (apps : List (List ℕ × App)) (n : List ℕ) (ps ws : List (ℕ × List ℕ)) (a : App) → lookup apps n ≡ Some a → PiecesWithin (length (app_of apps (Some n)).fixed) ps → HoldPieces (app_of apps (Some n)).fixed ps ws → map_changed apps n (Some ps) ≡ apps_after_commit apps n ws
 committed_is apps n ps ws a there within held =
     let own : app_of apps (Some n) ≡ a = ap (λ (o : Option App). unwrap_or o no_app) there in
     let laid : laid_words a.fixed ws ≡ laid_pieces a.fixed ps = subst (λ (x : App). laid_words x.fixed ws ≡ laid_pieces x.fixed ps) own (laid_held (app_of apps (Some n)).fixed ps ws within held) in
@@ -126,9 +126,9 @@ module _ {N : Type 0} (state : N → DeviceState) (wrote : N → ℕ → List �
       → IsAtomicAs (words_of s) (Commit w.name ws) (length ws) (item_of w)
   write_as s e w ws a sound held done =
       let m = words_of s in
-      let same : apps_in m ≡ (means m).apps = going-apps (state s.device) s.count done.going in
+      let same : apps_in m ≡ (means m).apps = going_apps (state s.device) s.count done.going in
       let here : HoldPieces (app_of (means m).apps (Some w.name)).fixed w.pieces ws = subst (λ (apps : List (List ℕ × App)). HoldPieces (app_of apps (Some w.name)).fixed w.pieces ws) same held in
-      let there = some-is (lookup (means m).apps w.name) done.allowed.0 in
+      let there = some_is (lookup (means m).apps w.name) done.allowed.0 in
       record {
         change = Fixed w.name w.pieces;
         is = ap (λ (n : ℕ). Atomic n (Fixed w.name w.pieces)) (sound.words ∙ sym (as_many _ w.pieces ws here));
@@ -136,7 +136,7 @@ module _ {N : Type 0} (state : N → DeviceState) (wrote : N → ℕ → List �
       }
 
   pub write_made : (s e : Store N) (w : Write) (a : Answer) → IsSoundWrite (means (words_of s)).apps w → ChainWrote did bank_state s w a e → ItemsMade state wrote (means (words_of s)) (item_of w ∷ []) s.device a e.device
-  write_made s e w a sound h = made-one state wrote obeys s.device e.device s.count e.count (Commit w.name h.0) (item_of w) a (write_as s e w h.0 a sound h.1 h.2) h.2
+  write_made s e w a sound h = made_one state wrote obeys s.device e.device s.count e.count (Commit w.name h.0) (item_of w) a (write_as s e w h.0 a sound h.1 h.2) h.2
 
   -- a store that made a write goes on
   pub goes_on : (s e : Store N) (w : Write) → ChainWrote did bank_state s w (Ok tt) e → Going (state e.device) e.count
@@ -152,7 +152,7 @@ module _ {N : Type 0} (state : N → DeviceState) (wrote : N → ℕ → List �
       → ItemsMade state wrote (means (words_of s)) (write_items ws) s.device a e.device
   writes_made [] s e (Ok u) g sound h =
       let m = words_of s in
-      subst (λ (t : Store N). ItemsMade state wrote (means m) [] s.device (Ok tt) t.device) (sym h) (made-none state wrote obeys (means m) s.device (closed-base m (means m) g.closed g.laid (sym (closed_means m g.closed))))
+      subst (λ (t : Store N). ItemsMade state wrote (means m) [] s.device (Ok tt) t.device) (sym h) (made_none state wrote obeys (means m) s.device (closed_base m (means m) g.closed g.laid (sym (closed_means m g.closed))))
   writes_made [] s e (Err x) g sound h = absurd h
   writes_made (w ∷ ws) s e a g sound h =
       let c = means (words_of s) in
@@ -161,10 +161,10 @@ module _ {N : Type 0} (state : N → DeviceState) (wrote : N → ℕ → List �
         | inl done ↦
             let m = done.0 in
             let first : ItemsMade state wrote c i s.device (Ok tt) m.device = write_made s m w (Ok tt) sound.0 done.1 in
-            let now : card_done c i ≡ means (words_of m) = card-found (card_done c i) 0 (words_of m) first.done in
+            let now : card_done c i ≡ means (words_of m) = card_found (card_done c i) 0 (words_of m) first.done in
             let rest : ItemsMade state wrote (means (words_of m)) (write_items ws) m.device a e.device =
             writes_made ws m e a (goes_on s m w done.1) (subst (λ (k : Card). AreSound k.apps ws) now sound.1) done.2 in
-            made-append state wrote obeys c i (write_items ws) s.device m.device e.device a g.on first (subst (λ (k : Card). ItemsMade state wrote k (write_items ws) m.device a e.device) (sym now) rest)
+            made_append state wrote obeys c i (write_items ws) s.device m.device e.device a g.on first (subst (λ (k : Card). ItemsMade state wrote k (write_items ws) m.device a e.device) (sym now) rest)
         | inr stop ↦ subst (λ (b : Answer). ItemsMade state wrote c (write_items (w ∷ ws)) s.device b e.device) (sym stop.2)
-            (made-stopped state wrote obeys c i (write_items ws) s.device e.device stop.0 (write_made s e w (Err stop.0) sound.0 stop.1))
+            (made_stopped state wrote obeys c i (write_items ws) s.device e.device stop.0 (write_made s e w (Err stop.0) sound.0 stop.1))
       ]

@@ -15,7 +15,7 @@ use Rattle.mc_machine.specs.declared.outcome.Turn.{Turn}
 use Rattle.mc_machine.specs.Turns.{outcome_value, turn_value}
 use Rattle.mc_manager.specs.CommandDue.{most_ticks}
 use Rattle.mc_store.specs.declared.power.Up.{Up}
-use Rattle.mc_store.specs.Power.{Powered, Runs as Runs_with, failed, count_of}
+use Rattle.mc_store.specs.Power.{Powered, Runs as Runs_with, failure_end, count_of}
 use Rattle.mc_card.specs.declared.card.Card.{Card}
 use Rattle.mc_card.specs.Parts.{device_in, card_in, seat_in, due, with_session, IsReadyCard, RunsChain}
 use Rattle.mc_card.specs.ItemWrites.{ItemsMade}
@@ -57,14 +57,14 @@ most_weight _ = 84
 -- ---- a power-up
 
 -- the end of a power-up
-abbrev pub powered : {N : Type 0} → Result (Card N × ℕ) (N × Up) → Powered
-powered (Ok p) = Runs_with p.1 (count_of (p.0).store)
-powered (Err p) = failed p.1
+abbrev pub power_up_end : {N : Type 0} → Result (Card N × ℕ) (N × Up) → Powered
+power_up_end (Ok p) = Runs_with p.1 (count_of (p.0).store)
+power_up_end (Err p) = failure_end p.1
 
 -- the end of a restart of a card, by the card after it
-abbrev pub restarted : {N : Type 0} → Card N → Result ℕ Up → Powered
-restarted c (Ok n) = Runs_with n (count_of c.store)
-restarted c (Err u) = failed u
+abbrev pub restart_end : {N : Type 0} → Card N → Result ℕ Up → Powered
+restart_end c (Ok n) = Runs_with n (count_of c.store)
+restart_end c (Err u) = failure_end u
 
 -- the device after a power-up
 abbrev pub device_after : {N : Type 0} → Result (Card N × ℕ) (N × Up) → N
@@ -72,9 +72,9 @@ device_after (Ok p) = device_in p.0
 device_after (Err p) = p.0
 
 -- the result of a command whose outcome was put in a place
-abbrev pub put_in : Result (Unit {0}) Stop → Outcome → Result Outcome Stop
-put_in (Ok u) o = Ok o
-put_in (Err s) o = Err s
+abbrev pub outcome_or_stop : Result (Unit {0}) Stop → Outcome → Result Outcome Stop
+outcome_or_stop (Ok u) o = Ok o
+outcome_or_stop (Err s) o = Err s
 
 -- whether a command is passed to the selected application
 abbrev pub is_passed : Route → Option Selected → Bool

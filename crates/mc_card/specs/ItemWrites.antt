@@ -4,7 +4,7 @@ use Rattle.std.specs.List.{AllByRecursion}
 use Rattle.mc_model_device.specs.Orders.{Answer}
 use Rattle.mc_model_device.specs.Image.{Two}
 use Rattle.mc_model_device.specs.Device.{DeviceState, Makes}
-use Rattle.mc_model_device.specs.Stopped.{torn}
+use Rattle.mc_model_device.specs.Stopped.{image_after_stop}
 use Rattle.mc_model_device.specs.Card.{Card}
 use Rattle.mc_model_card.specs.Items.{Item, Stopped, weight, moves, card_done, at_stop}
 use Rattle.mc_model_device.specs.PowerUp.{OnCard}
@@ -16,7 +16,7 @@ IsCardAfterStop c s m = HoldsBase (OnCard (card_done c s.whole)) s.owed Two m
 
 -- wherever one of these writes stops, and whatever word it leaves, the words are the card after the items that are whole then
 abbrev pub StopsAtEach : Card → List Item → List (List ℕ) → List (ℕ × List ℕ) → Type 0
-StopsAtEach c is m ws = (k : ℕ) (x : List ℕ) → 1 ≤ k → k ≤ length ws → length x ≡ 8 → IsCardAfterStop c (at_stop is k x) (torn m ws k x)
+StopsAtEach c is m ws = (k : ℕ) (x : List ℕ) → 1 ≤ k → k ≤ length ws → length x ≡ 8 → IsCardAfterStop c (at_stop is k x) (image_after_stop m ws k x)
 
 -- how many writes were made of items: all of them, where none stopped
 abbrev pub CountsWrites : List Item → Answer → ℕ → Type 0

@@ -4,7 +4,7 @@ use Rattle.mc_model_device.specs.declared.device.Stop.{Stop}
 use Rattle.mc_model_device.specs.Orders.{Answer}
 use Rattle.mc_model_device.specs.Device.{DeviceState}
 use Rattle.mc_model_machine.specs.Apdu.{ApduParts}
-use Rattle.mc_model_card.specs.Manager.{ToApplication, routed}
+use Rattle.mc_model_card.specs.Manager.{ToApplication, route_of_parts}
 use Rattle.mc_model_card.specs.Commands.{by_route}
 use Rattle.mc_apdu.specs.declared.reply.Reply.{Reply}
 use Rattle.mc_machine.specs.declared.outcome.Outcome.{Outcome}
@@ -19,12 +19,12 @@ use Rattle.mc_card.specs.Ends.{is_passed, Commanded}
 module _ {N : Type 0} (state : N → DeviceState) (wrote : N → ℕ → List ℕ → Answer → N → Type 0) where
   -- a command that the manager answers
   pub record IsAnswered (c : Card N) (a : ApduParts) (result : Result Outcome Stop) (d : Card N) : Type 0 where
-    pub stays : is_passed (routed (Some a)) (seat_in state c).selected ≡ false
-    pub commanded : (budget : ℕ) → Commanded state wrote c (by_route (card_in state c) (seat_in state c) budget (routed (Some a))) result d
+    pub stays : is_passed (route_of_parts (Some a)) (seat_in state c).selected ≡ false
+    pub commanded : (budget : ℕ) → Commanded state wrote c (by_route (card_in state c) (seat_in state c) budget (route_of_parts (Some a))) result d
 
   -- a command that the application of a slot is to run; nothing changed
   pub record IsPassed (c : Card N) (a : ApduParts) (slot : ℕ) (d : Card N) : Type 0 where
-    pub route : routed (Some a) ≡ ToApplication a
+    pub route : route_of_parts (Some a) ≡ ToApplication a
     pub selected : Selection
     pub is : c.manager.selected ≡ Some selected
     pub slot_is : selected.slot ≡ slot

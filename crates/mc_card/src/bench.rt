@@ -1,6 +1,6 @@
 // A card over a bench: its size, its power, its words before a power-up, and its fuses.
 ghost use Rattle.std.specs.Prelude.{◌≡◌, ◌≤◌, ◌<◌, length, slice_set, true, Some, None};
-ghost use Rattle.mc_model_device.specs.Device.{next_count, poked_once, IsImage};
+ghost use Rattle.mc_model_device.specs.Device.{next_count, bench_after_poke, IsImage};
 ghost use Rattle.mc_card.specs.Parts.{device_in, with_device};
 
 use crate::card::Card;
@@ -32,7 +32,7 @@ impl<N: Bench> Card<N> {
         ensures state { N.state (device_in self.new)
             ≡ record (N.state (device_in self.old)) { words = slice_set (N.state (device_in self.old)).words at word } }
         ensures bench { N.bench (device_in self.new)
-            ≡ poked_once (N.bench (device_in self.old)) }
+            ≡ bench_after_poke (N.bench (device_in self.old)) }
         ensures lent { N.same (device_in self.old) (device_in self.new) }
     {
         self.store.device_mut().poke(at, word);

@@ -8,10 +8,10 @@ ghost use Rattle.mc_model_machine.specs.Code.{Shaped};
 ghost use Rattle.mc_model_card.specs.Commands.{status};
 ghost use Rattle.mc_bank.specs.Bank.{app_of};
 ghost use Rattle.mc_machine.specs.declared.outcome.Outcome.TheVariants as outcome;
-ghost use Rattle.mc_machine.specs.Turns.{outcome_value, put_out, placed, IsReply, WritesFew};
+ghost use Rattle.mc_machine.specs.Turns.{outcome_value, run_outcome, reply_or_stop, IsReply, WritesFew};
 ghost use Rattle.mc_store.specs.Power.{power_writes, power_answer, PowersUp};
 ghost use Rattle.mc_card.specs.Parts.{device_in, card_in, seat_in, due, IsUp, IsReadyCard, RunsChain, IsRunning};
-ghost use Rattle.mc_card.specs.Ends.{powered, restarted, device_after, Commanded, Begun, ChainTurned, RouteSteps};
+ghost use Rattle.mc_card.specs.Ends.{power_up_end, restart_end, device_after, Commanded, Begun, ChainTurned, RouteSteps};
 ghost use Rattle.mc_card.specs.Ends.{BeginSteps, most_weight};
 ghost use Rattle.mc_card.specs.ItemWrites.{ItemsMade, MadeWithin};
 
@@ -50,10 +50,10 @@ impl<N: Nvm> Card<N> {
     pub fn power_up(dev: N) -> Result<(Card<N>, u16), (N, Up)>
         requires power { (N.state dev).on ≡ true }
         // Up to the first one that stops it makes the writes that recovery still has to make and then those of the migration.
-        ensures makes { Makes N.wrote dev (power_writes (N.state dev).words) (power_answer (powered result))
+        ensures makes { Makes N.wrote dev (power_writes (N.state dev).words) (power_answer (power_up_end result))
             (device_after result) }
         // The applications are those that the words meant; after a fault or a stop the words are what the rule of stops says.
-        ensures ends { PowersUp (N.state dev) (powered result) (N.state (device_after result)) }
+        ensures ends { PowersUp (N.state dev) (power_up_end result) (N.state (device_after result)) }
         // The card runs, and no command does.
         ensures ready { IfOk result (λ p. IsReadyCard N.state p.0) }
         // Nothing is selected, and no load is open.
@@ -92,9 +92,9 @@ impl<N: Nvm> Card<N> {
         requires power { (N.state (device_in self.old)).on ≡ true }
         // Up to the first one that stops it makes the writes that recovery still has to make and then those of the migration.
         ensures makes { Makes N.wrote (device_in self.old) (power_writes (N.state (device_in self.old)).words)
-            (power_answer (restarted self.new result)) (device_in self.new) }
+            (power_answer (restart_end self.new result)) (device_in self.new) }
         // The applications are those that the words meant; after a fault or a stop the words are what the rule of stops says.
-        ensures ends { PowersUp (N.state (device_in self.old)) (restarted self.new result)
+        ensures ends { PowersUp (N.state (device_in self.old)) (restart_end self.new result)
             (N.state (device_in self.new)) }
         // The card runs, and no command does.
         ensures ready { IfOk result (λ n. IsReadyCard N.state self.new) }
@@ -229,11 +229,11 @@ impl<N: Nvm> Card<N> {
         requires budget { budget ≤ 65536 }
         requires place { IsReply into.old }
         ensures done { Commanded N.state N.wrote self.old (due N.state self.old bytes.now budget)
-            (put_out result into.new) self.new }
+            (run_outcome result into.new) self.new }
         ensures steps { RouteSteps (card_in N.state self.old) (seat_in N.state self.old).selected budget
-            (route bytes.now) (answer_of (put_out result into.new)) steps.old steps.new }
+            (route bytes.now) (answer_of (run_outcome result into.new)) steps.old steps.new }
         ensures few { IsSized (N.state (device_in self.old)).words → MadeWithin N.wrote (most_weight (route bytes.now))
-            (due N.state self.old bytes.now budget).items (device_in self.old) (answer_of (put_out result into.new))
+            (due N.state self.old bytes.now budget).items (device_in self.old) (answer_of (run_outcome result into.new))
             (device_in self.new) }
     {
         match into {
@@ -254,11 +254,11 @@ impl<N: Nvm> Card<N> {
         requires some { 1 ≤ budget }
         requires budget { budget ≤ 65536 }
         ensures done { Commanded N.state N.wrote self.old (due N.state self.old bytes.now budget)
-            (placed result reply.new) self.new }
+            (reply_or_stop result reply.new) self.new }
         ensures steps { RouteSteps (card_in N.state self.old) (seat_in N.state self.old).selected budget
-            (route bytes.now) (answer_of (placed result reply.new)) steps.old steps.new }
+            (route bytes.now) (answer_of (reply_or_stop result reply.new)) steps.old steps.new }
         ensures few { IsSized (N.state (device_in self.old)).words → MadeWithin N.wrote (most_weight (route bytes.now))
-            (due N.state self.old bytes.now budget).items (device_in self.old) (answer_of (placed result reply.new))
+            (due N.state self.old bytes.now budget).items (device_in self.old) (answer_of (reply_or_stop result reply.new))
             (device_in self.new) }
     {
         let Ok(apdu) = parse(bytes) else {

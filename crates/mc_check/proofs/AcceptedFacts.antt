@@ -7,9 +7,9 @@ use Rattle.mc_model_machine.specs.declared.checker.CheckCause.TheVariants.{Undef
 use Rattle.mc_model_machine.specs.declared.instruction.DecodeFault.{DecodeFault}
 use Rattle.mc_model_machine.specs.declared.instruction.DecodeFault.TheVariants as fault
 use Rattle.mc_model_machine.specs.declared.instruction.Ins.{Ins}
-use Rattle.mc_model_machine.specs.Code.{decoded}
+use Rattle.mc_model_machine.specs.Code.{instruction_at}
 use Rattle.mc_model_machine.specs.StackRows.{need, is_indirect, counts, places_inside}
-use Rattle.mc_model_machine.specs.StackShape.{Fact, is_main, FactLook, Bad, Stands, seen, look, Gives, Reached, Depth, IsBase, Accepts}
+use Rattle.mc_model_machine.specs.StackShape.{Fact, is_main, FactLook, Bad, Stands, fact_look, look, Gives, Reached, Depth, IsBase, Accepts}
 
 -- ---- what is seen of a fact
 
@@ -21,7 +21,7 @@ none_bad a b c d w x y z l p q r s = rw (p, q, r, s) refl
 
 -- the instruction at a fact, at which nothing is wrong
 pub record GoodAt (code : List ℕ) (f : Fact) (i : Ins) (next : ℕ) : Type 0 where
-  pub decoded : decoded code f.place ≡ Ok (i, next)
+  pub decoded : instruction_at code f.place ≡ Ok (i, next)
   pub stands : look code f ≡ Stands i next
   pub direct : is_indirect i ≡ false
   pub home : (is_main f.routine && is_some (counts i)) ≡ false
@@ -38,19 +38,19 @@ abbrev pub HasBases : List ℕ → Type 0
 HasBases code = (f : Fact) → Reached code f → (b : ℕ) × IsBase code f.routine b
 
 module _ (code : List ℕ) (session most : ℕ) (accepts : Accepts code session most) where
-  pub undefined_never : (f : Fact) → Reached code f → decoded code f.place ≡ Err fault.Undefined → ⊥
+  pub undefined_never : (f : Fact) → Reached code f → instruction_at code f.place ≡ Err fault.Undefined → ⊥
   undefined_never f reached is = accepts.sound f Undefined reached is
 
-  pub past_never : (f : Fact) → Reached code f → decoded code f.place ≡ Err fault.Past → ⊥
+  pub past_never : (f : Fact) → Reached code f → instruction_at code f.place ≡ Err fault.Past → ⊥
   past_never f reached is = accepts.sound f Past reached is
 
-  stands_at : (f : Fact) (i : Ins) (next : ℕ) → decoded code f.place ≡ Ok (i, next) → is_indirect i ≡ false → (is_main f.routine && is_some (counts i)) ≡ false → nat_lt f.height (need i) ≡ false → places_inside (length code) i next ≡ true → look code f ≡ Stands i next
+  stands_at : (f : Fact) (i : Ins) (next : ℕ) → instruction_at code f.place ≡ Ok (i, next) → is_indirect i ≡ false → (is_main f.routine && is_some (counts i)) ≡ false → nat_lt f.height (need i) ≡ false → places_inside (length code) i next ≡ true → look code f ≡ Stands i next
   unfolding look
   stands_at f i next is direct home enough inside =
-      ap (λ (r : Result (Ins × ℕ) DecodeFault). seen (length code) f r) is
+      ap (λ (r : Result (Ins × ℕ) DecodeFault). fact_look (length code) f r) is
       ∙ none_bad (is_indirect i) (is_main f.routine && is_some (counts i)) (nat_lt f.height (need i)) (not (places_inside (length code) i next)) Indirect Returns Under Target (Stands i next) direct home enough (not_from_true _ inside)
 
-  pub good_at : (f : Fact) → Reached code f → (i : Ins) (next : ℕ) → decoded code f.place ≡ Ok (i, next) → GoodAt code f i next
+  pub good_at : (f : Fact) → Reached code f → (i : Ins) (next : ℕ) → instruction_at code f.place ≡ Ok (i, next) → GoodAt code f i next
   good_at f reached i next is =
       let direct : is_indirect i ≡ false = false_from_ne_true (is_indirect i) (λ e. accepts.sound f Indirect reached (i, next, is, e)) in
       let home : (is_main f.routine && is_some (counts i)) ≡ false = false_from_ne_true _ (λ e. accepts.sound f Returns reached (inl (i, next, is, e))) in

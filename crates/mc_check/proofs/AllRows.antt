@@ -6,10 +6,10 @@ use Rattle.mc_model_machine.specs.declared.instruction.Ins.{Ins}
 use Rattle.mc_model_machine.specs.declared.instruction.Ins.TheVariants as ins
 use Rattle.mc_model_machine.specs.declared.machine.Abend.{Abend}
 use Rattle.mc_model_machine.specs.Code.{Shaped}
-use Rattle.mc_model_machine.specs.Frame.{Frame, public_base, public_end, moved}
+use Rattle.mc_model_machine.specs.Frame.{Frame, public_base, public_end, moved_address}
 use Rattle.mc_model_machine.specs.Primitives.{Around, Then, Goes, Exits, Delegates, Done}
-use Rattle.mc_model_machine.specs.Chain.{stepped}
-use Rattle.mc_model_machine.specs.Row.{causes, first_cause, effect, holds, no_place, known, judged, row, Does}
+use Rattle.mc_model_machine.specs.Chain.{frame_at}
+use Rattle.mc_model_machine.specs.Row.{causes, first_cause, effect, holds, no_place, address_or_zero, row_end, row, Does}
 use Rattle.mc_model_machine.specs.StackRows.{need, height_after, row_uses, WritesNothing, row_writing, always_abends, is_indirect, counts, goes_on, call_target}
 use Rattle.mc_machine_laws.proofs.RowWords.{none_holds}
 use Rattle.mc_check.specs.Standing.{StandsAt}
@@ -37,12 +37,12 @@ not_all : (k : ℕ) (f : Frame) → holds k f ≡ false → (k == 7) ≡ false
 not_all k f h = false_from_ne_true (k == 7) (λ is. true≢false (subst (λ (n : ℕ). holds n f ≡ false) (eqb-true k 7 is) h))
 
 -- a place that may be gone to is one
-there : (f : Frame) (o : Option ℕ) → no_place f o ≡ false → o ≡ Some (known o)
+there : (f : Frame) (o : Option ℕ) → no_place f o ≡ false → o ≡ Some (address_or_zero o)
 there f None h = absurd (cc h)
 there f (Some p) h = refl
 
 -- a branch, by whether its condition holds
-branch_goes : (b : Bool) (k next at : ℕ) (o : Option ℕ) (f : Frame) → holds k f ≡ b → at ≡ cond b (known o) next → (b && no_place f o) ≡ false
+branch_goes : (b : Bool) (k next at : ℕ) (o : Option ℕ) (f : Frame) → holds k f ≡ b → at ≡ cond b (address_or_zero o) next → (b && no_place f o) ≡ false
     → ((at ≡ next) × (not (k == 7) ≡ true)) ⊎ (Some o ≡ Some (Some at))
 branch_goes true k next at o f held is inside = inr (ap Some (there f o inside ∙ ap Some (sym is)))
 branch_goes false k next at o f held is inside = inl (is, not_from_false (k == 7) (not_all k f held))
@@ -58,7 +58,7 @@ jump_goes b true k next at to f direct held is = absurd (cc direct)
 jump_goes true false k next at to f direct held is = inr (ap (λ (n : ℕ). Some (Some n)) (sym is))
 jump_goes false false k next at to f direct held is = inl (is, not_either (k == 7) false (not_all k f held) refl)
 
-branch_inside : (k : ℕ) (d : ℤ) (f : Frame) (public : List ℕ) (x : Around) → first_cause (causes (ins.Branch k d) f public x) ≡ None → (holds k f && no_place f (moved f.at d)) ≡ false
+branch_inside : (k : ℕ) (d : ℤ) (f : Frame) (public : List ℕ) (x : Around) → first_cause (causes (ins.Branch k d) f public x) ≡ None → (holds k f && no_place f (moved_address f.at d)) ≡ false
 unfolding causes
 branch_inside k d f public x e = (none_holds (causes (ins.Branch k d) f public x) e).0
 
@@ -69,7 +69,7 @@ row_goes ins.Exit h f public x at runs y is = tt
 row_goes (ins.Exitsw sw) h f public x at runs y is = tt
 row_goes (ins.Exitla la) h f public x at runs y is = tt
 row_goes (ins.Exitswla sw la) h f public x at runs y is = tt
-row_goes (ins.Branch k d) h f public x at runs y is = branch_goes (holds k f) k f.at at (moved f.at d) f refl is (branch_inside k d f public x y.no_cause)
+row_goes (ins.Branch k d) h f public x at runs y is = branch_goes (holds k f) k f.at at (moved_address f.at d) f refl is (branch_inside k d f public x y.no_cause)
 row_goes (ins.Jump k to) h f public x at runs y is = jump_goes (holds k f) (k == 0) k f.at at to f y.direct refl is
 row_goes (ins.Call k to) h f public x at runs y is = absurd (no_call (k == 0) to y.direct y.no_call)
 row_goes ins.Ret h f public x at runs y is = absurd (cc y.no_return)
@@ -81,7 +81,7 @@ row_goes i h f public x at runs y is = goes_behind i f.at at (effect i f public 
 -- ---- what a row leaves
 
 -- a row that is done has no cause, and its effect
-done_parts : (o : Option Abend) (d e : Done) → judged o d ≡ Does e → (o ≡ None) × (d ≡ e)
+done_parts : (o : Option Abend) (d e : Done) → row_end o d ≡ Does e → (o ≡ None) × (d ≡ e)
 done_parts (Some a) d e is = absurd (cc is)
 done_parts None d e is = (refl, cc is)
 
@@ -91,10 +91,10 @@ runs_from true i f public x is none = absurd (cc (always_first i f public x is, 
 runs_from false i f public x is none = refl
 
 -- the effect of a row that is no call and no return
-effect_stays : (len size base h : ℕ) (i : Ins) (next : ℕ) (f : Frame) (public : List ℕ) (x : Around) → StandsAt len size base h f → always_abends i ≡ false → RunsPlainRow h i (stepped f next) public x
-    → size + base + height_after i h ≤ 512 → RowStays len size base h i next f (effect i (stepped f next) public x)
+effect_stays : (len size base h : ℕ) (i : Ins) (next : ℕ) (f : Frame) (public : List ℕ) (x : Around) → StandsAt len size base h f → always_abends i ≡ false → RunsPlainRow h i (frame_at f next) public x
+    → size + base + height_after i h ≤ 512 → RowStays len size base h i next f (effect i (frame_at f next) public x)
 effect_stays len size base h i next f public x s runs y room =
-    let g = stepped f next in
+    let g = frame_at f next in
     let k = effect_kept len size base h g public (stepped_stands len size base h f next s) i x y in
     record {
       name = k.name;
@@ -114,10 +114,10 @@ effect_stays len size base h i next f public x s runs y room =
 rows_stay : (len size base h : ℕ) (i : Ins) (next : ℕ) (f : Frame) (public : List ℕ) (x : Around) (d : Done) → Shaped i → StandsAt len size base h f
     → need i ≤ h → is_indirect i ≡ false → counts i ≡ None → call_target i ≡ None
     → (always_abends i ≡ false → size + base + height_after i h ≤ 512) → public_end - public_base ≤ length public
-    → row i (stepped f next) public x ≡ Does d → RowStays len size base h i next f d
+    → row i (frame_at f next) public x ≡ Does d → RowStays len size base h i next f d
 unfolding row
 rows_stay len size base h i next f public x d shaped s few direct no_return no_call room whole e =
-    let g = stepped f next in
+    let g = frame_at f next in
     let parts = done_parts (first_cause (causes i g public x)) (effect i g public x) d e in
     let runs : always_abends i ≡ false = runs_from (always_abends i) i g public x refl parts.0 in
     let few_bytes : (row_uses i).needs ≤ h = need_few i h few runs in

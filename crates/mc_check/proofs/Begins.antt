@@ -9,7 +9,7 @@ use Rattle.mc_check.specs.declared.bases.Progress.{Progress}
 use Rattle.mc_check.specs.declared.bases.Progress.TheVariants as progress
 use Rattle.mc_check.specs.CallList.{IsCalled, EntersIn}
 use Rattle.mc_check.specs.CallList as list
-use Rattle.mc_check.specs.Searching.{unseen, Searches, IsSeen, StaySeen}
+use Rattle.mc_check.specs.Searching.{count_of_unseen, Searches, IsSeen, StaySeen}
 use Rattle.mc_check.proofs.ListPlaces.{get_push, before, last}
 use Rattle.mc_check.proofs.SearchSteps.{unseen_set, written, this, other, entered_bound, stay_seen}
 
@@ -27,7 +27,7 @@ module _ (states : List Progress) (l : List Call) (q : ℕ) (so : Searches l sta
   inside : q < length states
   inside = slice_get_within states q progress.Unseen there
 
-  fewer : unseen (set states q progress.Open) + 1 ≡ unseen states
+  fewer : count_of_unseen (set states q progress.Open) + 1 ≡ count_of_unseen states
   fewer = let less = unseen_set states q progress.Open progress.Unseen there in omega arith
 
   first : Searches l (set states q progress.Open) ([] ++ q ∷ [])
@@ -45,7 +45,7 @@ module _ (states : List Progress) (l : List Call) (q : ℕ) (so : Searches l sta
     room = let len = length-set states q progress.Open in let f = fewer in let r = so.room in omega arith;
     bound = λ r b get. elim (written states q progress.Open r (progress.Done b) inside get) [
       | this same is ↦ absurd (cc is)
-      | other ne old ↦ entered_bound (length states) (unseen states) 0 _ _ 1 b (length-set states q progress.Open) fewer refl so.room (so.bound r b old)
+      | other ne old ↦ entered_bound (length states) (count_of_unseen states) 0 _ _ 1 b (length-set states q progress.Open) fewer refl so.room (so.bound r b old)
     ];
   }
 

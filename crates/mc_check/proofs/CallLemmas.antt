@@ -6,9 +6,9 @@ use Rattle.mc_model_machine.specs.declared.instruction.Ins.{Ins}
 use Rattle.mc_model_machine.specs.declared.instruction.DecodeFault.{DecodeFault}
 use Rattle.mc_model_machine.specs.declared.instruction.DecodeFault.TheVariants as fault
 use Rattle.mc_model_machine.specs.declared.checker.CheckCause.TheVariants.{Indirect, Returns, Under, Target}
-use Rattle.mc_model_machine.specs.Code.{decoded}
+use Rattle.mc_model_machine.specs.Code.{instruction_at}
 use Rattle.mc_model_machine.specs.StackRows.{need, is_indirect, counts, goes_on, jump_target, call_target, target_inside, call_inside, places_inside}
-use Rattle.mc_model_machine.specs.StackShape.{Routine, Main, At, Fact, fact, is_main, FactLook, Stands, first_bad, seen, look, Reached, IsAt, Calls, IsBase, NoRecursion, ReachesItself}
+use Rattle.mc_model_machine.specs.StackShape.{Routine, Main, At, Fact, fact, is_main, FactLook, Stands, first_bad, fact_look, look, Reached, IsAt, Calls, IsBase, NoRecursion, ReachesItself}
 use Rattle.mc_model_machine.specs.StackShape as shape
 use Rattle.mc_check.specs.Table.{routine_of, IsGoodFact}
 use Rattle.mc_check.specs.declared.calls.Call.{Call}
@@ -32,7 +32,7 @@ none_bad false false true d x i m n e = cc
 none_bad false false false true x i m n e = (refl, e)
 none_bad false false false false x i m n e = cc
 
-seen_shows : (len : ℕ) (f : Fact) (r : Result (Ins × ℕ) DecodeFault) (i : Ins) (next : ℕ) → seen len f r ≡ Stands i next → DecodesInside len r i next
+seen_shows : (len : ℕ) (f : Fact) (r : Result (Ins × ℕ) DecodeFault) (i : Ins) (next : ℕ) → fact_look len f r ≡ Stands i next → DecodesInside len r i next
 seen_shows len f (Err fault.Undefined) i next e = cc
 seen_shows len f (Err fault.Past) i next e = cc
 seen_shows len f (Ok (x, m)) i next e =
@@ -44,9 +44,9 @@ seen_shows len f (Ok (x, m)) i next e =
     }
 
 -- a fact whose instruction stands
-shows_at : (code : List ℕ) (f : Fact) (i : Ins) (next : ℕ) → look code f ≡ Stands i next → DecodesInside (length code) (decoded code f.place) i next
+shows_at : (code : List ℕ) (f : Fact) (i : Ins) (next : ℕ) → look code f ≡ Stands i next → DecodesInside (length code) (instruction_at code f.place) i next
 unfolding look
-shows_at code f i next e = seen_shows (length code) f (decoded code f.place) i next e
+shows_at code f i next e = seen_shows (length code) f (instruction_at code f.place) i next e
 
 called_inside : (len : ℕ) (t : Option ℕ) (q : ℕ) → t ≡ Some q → call_inside len t ≡ true → q < len
 called_inside len None q is inside = cc
@@ -59,7 +59,7 @@ same_ins r a i m n e h = let same : ◌≡◌ {A = Ins × ℕ} (a, m) (i, n) = c
 pub target_is_inside : (code : List ℕ) (f : Fact) (i : Ins) (q : ℕ) → IsGoodFact code f → IsAt code f.place i → call_target i ≡ Some q → q < length code
 target_is_inside code f i q good at target =
     let shows = shows_at code f good.0 good.1 good.2 in
-    let same = same_ins (decoded code f.place) good.0 i good.1 at.0 shows.decoded at.1 in
+    let same = same_ins (instruction_at code f.place) good.0 i good.1 at.0 shows.decoded at.1 in
     let inside = and_parts ((not (goes_on good.0) || nat_lt good.1 (length code)) && target_inside (length code) (jump_target good.0 good.1)) (call_inside (length code) (call_target good.0)) shows.inside in
     called_inside (length code) (call_target good.0) q (ap call_target same ∙ target) inside.1
 

@@ -5,7 +5,7 @@ use Rattle.std.proofs.lemmas.Bool.{cases_eq}
 use Rattle.std.proofs.lemmas.Option.{slice_get_within, same_Some}
 use Rattle.mc_model_machine.specs.declared.instruction.Ins.{Ins}
 use Rattle.mc_model_machine.specs.declared.instruction.DecodeFault.{DecodeFault}
-use Rattle.mc_model_machine.specs.Code.{decoded}
+use Rattle.mc_model_machine.specs.Code.{instruction_at}
 use Rattle.mc_model_machine.specs.StackRows.{call_target}
 use Rattle.mc_model_machine.specs.StackShape.{Routine, Fact, fact, Calls}
 use Rattle.mc_check.specs.Table.{routine_of, fact_of, IsWholeTable}
@@ -19,7 +19,7 @@ use Rattle.mc_check.proofs.CallLemmas.{target_is_inside, called_by}
 pub record ListsUpTo (code : List ℕ) (t : List (Option Entry)) (n : ℕ) (l : List Call) : Type 0 where
   pub each : (k : ℕ) (c : Call) → slice_get l k ≡ Some c → IsCall code c
   pub heights : (k : ℕ) (c : Call) → slice_get l k ≡ Some c → c.height ≤ 65535
-  pub found : (p : ℕ) (e : Entry) (q : ℕ) → p < n → slice_get t p ≡ Some (Some e) → target_of (decoded code p) ≡ Some q → ListsCall l (routine_of e.routine) e.height q
+  pub found : (p : ℕ) (e : Entry) (q : ℕ) → p < n → slice_get t p ≡ Some (Some e) → target_of (instruction_at code p) ≡ Some q → ListsCall l (routine_of e.routine) e.height q
 
 -- ---- one entry more
 
@@ -31,9 +31,9 @@ target_at : (r : Result (Ins × ℕ) DecodeFault) (i : Ins) (next q : ℕ) → r
 target_at r i next q is target = ap target_of is ∙ target
 
 -- the call of an entry is one of the code
-is_call : (code : List ℕ) (t : List (Option Entry)) (p : ℕ) (e : Entry) (q : ℕ) → IsWholeTable code t → slice_get t p ≡ Some (Some e) → target_of (decoded code p) ≡ Some q → IsCall code (call_of p e q)
+is_call : (code : List ℕ) (t : List (Option Entry)) (p : ℕ) (e : Entry) (q : ℕ) → IsWholeTable code t → slice_get t p ≡ Some (Some e) → target_of (instruction_at code p) ≡ Some q → IsCall code (call_of p e q)
 is_call code t p e q whole there target =
-    let found = target_from (decoded code p) q target in
+    let found = target_from (instruction_at code p) q target in
     let sound = whole.sound (fact_of p e) (e, there, refl) in
     record { reached = sound.0; good = sound.1; ins = found.0; stands = (found.1, found.2); target = found.3 }
 
@@ -67,18 +67,18 @@ no_call p e q (Some t) is none = cc
 
 module _ (code : List ℕ) (t : List (Option Entry)) (n : ℕ) (l : List Call) (so : ListsUpTo code t n l) where
   -- no call is made at the next place
-  pub lists_same : ((e : Entry) → slice_get t n ≡ Some (Some e) → option_map (call_of n e) (target_of (decoded code n)) ≡ None) → ListsUpTo code t (n + 1) l
+  pub lists_same : ((e : Entry) → slice_get t n ≡ Some (Some e) → option_map (call_of n e) (target_of (instruction_at code n)) ≡ None) → ListsUpTo code t (n + 1) l
   lists_same none = record {
     each = so.each;
     heights = so.heights;
     found = λ p e q lt there target. elim (cases_eq p n) [
-      | inl same ↦ absurd (no_call n e q (target_of (decoded code n)) (subst (λ (k : ℕ). target_of (decoded code k) ≡ Some q) same target) (none e (subst (λ (k : ℕ). slice_get t k ≡ Some (Some e)) same there)))
+      | inl same ↦ absurd (no_call n e q (target_of (instruction_at code n)) (subst (λ (k : ℕ). target_of (instruction_at code k) ≡ Some q) same target) (none e (subst (λ (k : ℕ). slice_get t k ≡ Some (Some e)) same there)))
       | inr other ↦ so.found p e q (omega arith) there target
     ];
   }
 
   -- a call is made there
-  lists_call : (e : Entry) (q : ℕ) → e.height ≤ 65535 → IsWholeTable code t → slice_get t n ≡ Some (Some e) → target_of (decoded code n) ≡ Some q → ListsUpTo code t (n + 1) (l ++ call_of n e q ∷ [])
+  lists_call : (e : Entry) (q : ℕ) → e.height ≤ 65535 → IsWholeTable code t → slice_get t n ≡ Some (Some e) → target_of (instruction_at code n) ≡ Some q → ListsUpTo code t (n + 1) (l ++ call_of n e q ∷ [])
   lists_call e q small whole there target =
       let this = is_call code t n e q whole there target in
       record {
@@ -91,14 +91,14 @@ module _ (code : List ℕ) (t : List (Option Entry)) (n : ℕ) (l : List Call) (
           | last at same ↦ subst (λ (x : Call). x.height ≤ 65535) same small
         ];
         found = λ p f s lt here to. elim (cases_eq p n) [
-          | inl same ↦ has_last l n e f q s (same_entry (slice_get t n) e f there (subst (λ (k : ℕ). slice_get t k ≡ Some (Some f)) same here)) (same_target (target_of (decoded code n)) q s target (subst (λ (k : ℕ). target_of (decoded code k) ≡ Some s) same to))
+          | inl same ↦ has_last l n e f q s (same_entry (slice_get t n) e f there (subst (λ (k : ℕ). slice_get t k ≡ Some (Some f)) same here)) (same_target (target_of (instruction_at code n)) q s target (subst (λ (k : ℕ). target_of (instruction_at code k) ≡ Some s) same to))
           | inr other ↦ has_push l (call_of n e q) (routine_of f.routine) f.height s (so.found p f s (omega arith) here to)
         ];
       }
 
-  pub lists_more : (e : Entry) (c : Call) → c.height ≤ 65535 → IsWholeTable code t → slice_get t n ≡ Some (Some e) → option_map (call_of n e) (target_of (decoded code n)) ≡ Some c → ListsUpTo code t (n + 1) (l ++ c ∷ [])
+  pub lists_more : (e : Entry) (c : Call) → c.height ≤ 65535 → IsWholeTable code t → slice_get t n ≡ Some (Some e) → option_map (call_of n e) (target_of (instruction_at code n)) ≡ Some c → ListsUpTo code t (n + 1) (l ++ c ∷ [])
   lists_more e c small whole there is =
-      let found = call_from n e c (target_of (decoded code n)) is in
+      let found = call_from n e c (target_of (instruction_at code n)) is in
       subst (λ (x : Call). ListsUpTo code t (n + 1) (l ++ x ∷ [])) found.2 (lists_call e found.0 (subst (λ (x : Call). x.height ≤ 65535) (sym found.2) small) whole there found.1)
 
 -- ---- the whole table
@@ -111,7 +111,7 @@ are_calls code t n l long whole so =
     let all : (r : Routine) (h q : ℕ) → Calls code r h q → ListsCall l r h q = λ r h q by.
     let here = whole.all (fact r by.place h) by.reached in
     let inside = slice_get_within t by.place (Some here.0) here.1 in
-    let has = so.found by.place here.0 q (omega arith) here.1 (target_at (decoded code by.place) by.call by.stands.0 q by.stands.1 by.target) in
+    let has = so.found by.place here.0 q (omega arith) here.1 (target_at (instruction_at code by.place) by.call by.stands.0 q by.stands.1 by.target) in
     has_at l (routine_of here.0.routine) r here.0.height h q (ap (λ (f : Fact). f.routine) here.2) (ap (λ (f : Fact). f.height) here.2) has in
     record {
       closed = record {

@@ -13,7 +13,7 @@ use Rattle.mc_check.specs.declared.bases.Progress.TheVariants as progress
 use Rattle.mc_check.specs.declared.bases.Answer.{Answer}
 use Rattle.mc_check.specs.declared.bases.Answer.TheVariants as answer
 use Rattle.mc_check.specs.CallList.{IsCalled, AreClosed}
-use Rattle.mc_check.specs.Searching.{told_by, told_of, told, CallTells, AreAtMost, Answers}
+use Rattle.mc_check.specs.Searching.{answer_by_progress, answer_to_owner, answer_of_call, CallTells, AreAtMost, Answers}
 
 -- ---- places
 
@@ -30,13 +30,13 @@ is_called l k c there = (routine_of c.caller, c.height, record { at = k; call = 
 
 -- ---- a base that is told is not 0
 
-by_positive : (c : Call) (p d : ℕ) (o : Option Progress) → told_by c p o ≡ answer.Base d → 4 ≤ d
+by_positive : (c : Call) (p d : ℕ) (o : Option Progress) → answer_by_progress c p o ≡ answer.Base d → 4 ≤ d
 by_positive c p d None e = cc
 by_positive c p d (Some progress.Unseen) e = cc
 by_positive c p d (Some progress.Open) e = cc
 by_positive c p d (Some (progress.Done b)) e = let same : b + c.height + 4 ≡ d = cc in omega arith
 
-of_positive : (states : List Progress) (c : Call) (d : ℕ) (o : Owner) → told_of states c o ≡ answer.Base d → 4 ≤ d
+of_positive : (states : List Progress) (c : Call) (d : ℕ) (o : Owner) → answer_to_owner states c o ≡ answer.Base d → 4 ≤ d
 of_positive states c d owner.Main e = let same : c.height + 4 ≡ d = cc in omega arith
 of_positive states c d (owner.At p) e = by_positive c p d (slice_get states p) e
 
@@ -72,7 +72,7 @@ module _ (states : List Progress) (l : List Call) (q n g : ℕ) (so : TellsUpTo 
   }
 
   -- the next call tells a base
-  pub tells_base : (b : ℕ) → c.target ≡ q → told states c ≡ answer.Base b → TellsUpTo states l q (n + 1) (max g b)
+  pub tells_base : (b : ℕ) → c.target ≡ q → answer_of_call states c ≡ answer.Base b → TellsUpTo states l q (n + 1) (max g b)
   tells_base b of tells = record {
     some = elim (cases_lt g b) [
       | inl lt ↦
@@ -83,7 +83,7 @@ module _ (states : List Progress) (l : List Call) (q n g : ℕ) (so : TellsUpTo 
           subst (λ (m : ℕ). (m ≡ 0) ⊎ CallTells states l q (answer.Base m)) greatest so.some
     ];
     each = λ k d lt here target. elim (cases_eq k n) [
-      | inl same ↦ (b, ap (told states) (sym (call_at k d same here)) ∙ tells, omega arith)
+      | inl same ↦ (b, ap (answer_of_call states) (sym (call_at k d same here)) ∙ tells, omega arith)
       | inr ne ↦
           let before = so.each k d (omega arith) here target in
           (before.0, before.1, omega (arith, before.2))

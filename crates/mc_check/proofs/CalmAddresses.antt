@@ -6,10 +6,10 @@ use Rattle.std.proofs.lemmas.List.{length-take, length-drop}
 use Rattle.mc_model_device.specs.Bytes.{splice}
 use Rattle.mc_model_machine.specs.Code.{IsAddress}
 use Rattle.mc_model_device.specs.Pieces.{laid_pieces}
-use Rattle.mc_model_machine.specs.Frame.{Frame, Place, Static, Dynamic, Public, where_is, floor, dynamic_base, dynamic_end, public_base, public_end, moved, static_bytes, bytes_in, bytes_at, is_outside, no_access}
-use Rattle.mc_model_machine.specs.Row.{known, place_of}
+use Rattle.mc_model_machine.specs.Frame.{Frame, Place, Static, Dynamic, Public, where_is, floor, dynamic_base, dynamic_end, public_base, public_end, moved_address, static_bytes, bytes_in, bytes_at, is_outside, no_access}
+use Rattle.mc_model_machine.specs.Row.{address_or_zero, place_of}
 use Rattle.mc_model_machine.specs.StackRows.{Writing, WritesAt, WritesAnywhere, is_plain, is_plain_at}
-use Rattle.mc_model_device.proofs.ListLemmas.{splice-longer}
+use Rattle.mc_model_device.proofs.ListLemmas.{splice_longer}
 use Rattle.mc_check.specs.Standing.{StandsAt}
 use Rattle.mc_check.proofs.CalmWrites.{IsRoomy, IsSafeAt, MissesCalls, session, stack, none}
 
@@ -20,19 +20,19 @@ abbrev pub IsSafe : ℕ → ℕ → ℕ → Writing → Type 0
 IsSafe size base h w = (is_plain size h w ≡ true) ⊎ (base ≡ 0)
 
 -- an address that is dynamic is no unknown one
-two_is : (b : Bool) (x a : ℕ) → known (cond b (Some x) None) ≡ a → dynamic_base ≤ a → a ≡ x
+two_is : (b : Bool) (x a : ℕ) → address_or_zero (cond b (Some x) None) ≡ a → dynamic_base ≤ a → a ≡ x
 two_is true x a is low = omega arith
 two_is false x a is low = absurd (omega arith)
 
-below_is : (b c : Bool) (x a : ℕ) → known (cond b (cond c (Some x) None) None) ≡ a → dynamic_base ≤ a → (b ≡ true) × (a ≡ x)
+below_is : (b c : Bool) (x a : ℕ) → address_or_zero (cond b (cond c (Some x) None) None) ≡ a → dynamic_base ≤ a → (b ≡ true) × (a ≡ x)
 below_is true c x a is low = (refl, two_is c x a is low)
 below_is false c x a is low = absurd (omega arith)
 
 -- a register plus j, and less j
-up_is : (r j a : ℕ) → known (moved r (pos j)) ≡ a → dynamic_base ≤ a → a ≡ r + j
+up_is : (r j a : ℕ) → address_or_zero (moved_address r (pos j)) ≡ a → dynamic_base ≤ a → a ≡ r + j
 up_is r j a is low = two_is (nat_lt (r + j) 65536) (r + j) a is low
 
-down_is : (r j a : ℕ) → known (moved r (negsuc j)) ≡ a → dynamic_base ≤ a → (j < r) × (a ≡ r - suc j)
+down_is : (r j a : ℕ) → address_or_zero (moved_address r (negsuc j)) ≡ a → dynamic_base ≤ a → (j < r) × (a ≡ r - suc j)
 down_is r j a is low =
     let parts = below_is (nat_lt j r) (nat_lt (r - suc j) 65536) (r - suc j) a is low in
     (ltb-true j r parts.0, parts.1)
@@ -109,11 +109,11 @@ anywhere_safe len size base h f a m s low high (inr is) = no_call len size base 
 -- ---- bytes that are all there
 
 -- pieces that are laid over a list never make it shorter
-laid-longer : (l : List ℕ) (ps : List (ℕ × List ℕ)) → length l ≤ length (laid_pieces l ps)
-laid-longer l [] = omega arith
-laid-longer l (p ∷ ps) =
-    let first : length l ≤ length (splice l p.0 p.1) = splice-longer l p.0 p.1 in
-    let rest : length (splice l p.0 p.1) ≤ length (laid_pieces (splice l p.0 p.1) ps) = laid-longer (splice l p.0 p.1) ps in
+laid_longer : (l : List ℕ) (ps : List (ℕ × List ℕ)) → length l ≤ length (laid_pieces l ps)
+laid_longer l [] = omega arith
+laid_longer l (p ∷ ps) =
+    let first : length l ≤ length (splice l p.0 p.1) = splice_longer l p.0 p.1 in
+    let rest : length (splice l p.0 p.1) ≤ length (laid_pieces (splice l p.0 p.1) ps) = laid_longer (splice l p.0 p.1) ps in
     omega arith
 
 -- n bytes are in the segment where they lie
@@ -149,16 +149,16 @@ whole_in true f h public n place is r whole fits there =
     let nothing : n ≡ 0 = eqb-true n 0 is in
     omega arith
 whole_in false f h public n None is r whole fits there = absurd (cc there)
-whole_in false f h public n (Some (Static i)) is r whole fits there = taken n i (static_bytes f) (omega (arith, fits, laid-longer f.fixed f.pieces))
+whole_in false f h public n (Some (Static i)) is r whole fits there = taken n i (static_bytes f) (omega (arith, fits, laid_longer f.fixed f.pieces))
 whole_in false f h public n (Some (Dynamic i)) is r whole fits there = taken n i f.dyn (omega (arith, fits, r.dyn, r.high))
 whole_in false f h public n (Some (Public i)) is r whole fits there = taken n i public (omega (arith, fits))
 
 -- as many bytes are read as are asked for, where they are not outside
-pub at-whole : (f : Frame) (h : ℕ) (public : List ℕ) (a n : ℕ) → IsRoomy f h → public_end - public_base ≤ length public → is_outside f a n ≡ false → length (bytes_at f public a n) ≡ n
+pub at_whole : (f : Frame) (h : ℕ) (public : List ℕ) (a n : ℕ) → IsRoomy f h → public_end - public_base ≤ length public → is_outside f a n ≡ false → length (bytes_at f public a n) ≡ n
 unfolding bytes_at
-at-whole f h public a n r whole there = whole_in (n == 0) f h public n (where_is f a n) refl r whole (in_place f a n) there
+at_whole f h public a n r whole there = whole_in (n == 0) f h public n (where_is f a n) refl r whole (in_place f a n) there
 
 -- the same of an operand
-pub operand-whole : (f : Frame) (h : ℕ) (public : List ℕ) (o : Option ℕ) (n : ℕ) → IsRoomy f h → public_end - public_base ≤ length public → no_access f o n ≡ false → length (bytes_at f public (known o) n) ≡ n
-operand-whole f h public None n r whole there = absurd (cc there)
-operand-whole f h public (Some a) n r whole there = at-whole f h public a n r whole there
+pub operand_whole : (f : Frame) (h : ℕ) (public : List ℕ) (o : Option ℕ) (n : ℕ) → IsRoomy f h → public_end - public_base ≤ length public → no_access f o n ≡ false → length (bytes_at f public (address_or_zero o) n) ≡ n
+operand_whole f h public None n r whole there = absurd (cc there)
+operand_whole f h public (Some a) n r whole there = at_whole f h public a n r whole there

@@ -6,26 +6,26 @@ use Rattle.mc_model_machine.specs.declared.instruction.Ins.{Ins}
 use Rattle.mc_model_machine.specs.declared.instruction.Ins.TheVariants as ins
 use Rattle.mc_model_machine.specs.declared.machine.Abend.{Abend}
 use Rattle.mc_model_device.specs.Bytes.{bytes2, num, splice}
-use Rattle.mc_model_machine.specs.Frame.{Frame, dynamic_base, top, popped, entered}
-use Rattle.mc_model_machine.specs.Primitives.{Around, Done, Goes, going, framed}
-use Rattle.mc_model_machine.specs.Row.{causes, effect, first_cause, judged, row, Abends, Does, holds}
+use Rattle.mc_model_machine.specs.Frame.{Frame, dynamic_base, top, frame_after_pop, frame_after_entry}
+use Rattle.mc_model_machine.specs.Primitives.{Around, Done, Goes, effect_and_next, frame_effect}
+use Rattle.mc_model_machine.specs.Row.{causes, effect, first_cause, row_end, row, Abends, Does, holds}
 use Rattle.mc_model_machine.specs.Row as rows
-use Rattle.mc_model_machine.specs.Chain.{stepped}
+use Rattle.mc_model_machine.specs.Chain.{frame_at}
 use Rattle.mc_model_machine.specs.StackRows.{call_target, is_conditional}
 use Rattle.mc_model_machine.specs.StackShape.{Routine, At, fact, Reached, calls, passes, Depth, called, Accepts, Gives}
 use Rattle.mc_check.specs.Standing.{OpenCalls, call}
 use Rattle.mc_check.proofs.AcceptedFacts.{GoodAt, HasStackRoom, HasBases, room_at, gives_at}
 use Rattle.mc_check.proofs.OpenCalls.{IsAtFact, open_front, open_depth, spliced_above, spliced_words}
-use Rattle.mc_model_device.proofs.ListLemmas.{length-splice}
+use Rattle.mc_model_device.proofs.ListLemmas.{length_splice}
 
 -- ---- the end of a row
 
 -- the cause of a row that abends, and the effect of one that is done
-judged_cause : (o : Option Abend) (d : Done) (c : Abend) → judged o d ≡ Abends c → o ≡ Some c
+judged_cause : (o : Option Abend) (d : Done) (c : Abend) → row_end o d ≡ Abends c → o ≡ Some c
 judged_cause (Some a) d c e = let same : a ≡ c = cc e in ap (λ (b : Abend). Some b) same
 judged_cause None d c e = absurd (cc e)
 
-judged_done : (o : Option Abend) (d done : Done) → judged o d ≡ Does done → d ≡ done
+judged_done : (o : Option Abend) (d done : Done) → row_end o d ≡ Does done → d ≡ done
 judged_done (Some a) d done e = absurd (cc e)
 judged_done None d done e = cc e
 
@@ -41,7 +41,7 @@ row_done i f public x d e = judged_done (first_cause (causes i f public x)) (eff
 
 -- the frame has entered the routine, or it goes on behind a call under a condition
 pub record CallEnd (i : Ins) (q : ℕ) (f : Frame) (d : Done) : Type 0 where
-  pub frame : (d.effect.frame ≡ entered f q) ⊎ ((d.effect.frame ≡ f) × (is_conditional i ≡ true))
+  pub frame : (d.effect.frame ≡ frame_after_entry f q) ⊎ ((d.effect.frame ≡ f) × (is_conditional i ≡ true))
   pub next : d.next ≡ Goes
 
 -- a condition that does not hold is not ALL
@@ -49,9 +49,9 @@ not_always : (k : ℕ) (f : Frame) → holds k f ≡ false → not (k == 7) ≡ 
 not_always k f h = ap not (false_from_ne_true (k == 7) (λ e. let same : holds 7 f ≡ false = subst (λ (n : ℕ). holds n f ≡ false) (eqb-true k 7 e) h in absurd (cc same)))
 
 called_end : (k to q : ℕ) (f : Frame) (public : List ℕ) (on_stack taken : Bool) → holds k f ≡ taken → cond on_stack None (Some to) ≡ Some q
-    → CallEnd (ins.Call k to) q f (going (framed (rows.called taken (cond on_stack (popped f 2) f) (cond on_stack (num (top f 2)) to)) public))
+    → CallEnd (ins.Call k to) q f (effect_and_next (frame_effect (rows.frame_after_call taken (cond on_stack (frame_after_pop f 2) f) (cond on_stack (num (top f 2)) to)) public))
 called_end k to q f public true taken h e = absurd (cc e)
-called_end k to q f public false true h e = let same : to ≡ q = cc e in record { frame = inl (ap (λ (n : ℕ). entered f n) same); next = refl }
+called_end k to q f public false true h e = let same : to ≡ q = cc e in record { frame = inl (ap (λ (n : ℕ). frame_after_entry f n) same); next = refl }
 called_end k to q f public false false h e = record { frame = inr (refl, not_always k f h); next = refl }
 
 effect_end : (i : Ins) (q : ℕ) (f : Frame) (public : List ℕ) (x : Around) → call_target i ≡ Some q → CallEnd i q f (effect i f public x)
@@ -88,7 +88,7 @@ module _ (code : List ℕ) (session most : ℕ) (accepts : Accepts code session 
         room_at code session most accepts bases (fact (At q) q 0) (b + h + 4) routine_reached begins
 
     -- the frame in the routine
-    pub entered_at : IsAtFact code session (At q) (b + h + 4) 0 (entered (stepped f next) q)
+    pub entered_at : IsAtFact code session (At q) (b + h + 4) 0 (frame_after_entry (frame_at f next) q)
     entered_at =
         let s = here.stands in
         let size = s.session in
@@ -107,7 +107,7 @@ module _ (code : List ℕ) (session most : ℕ) (accepts : Accepts code session 
           stands = record {
             session = size;
             code_len = s.code_len;
-            dyn = length-splice f.dyn (f.dt - dynamic_base) words fits ∙ long;
+            dyn = length_splice f.dyn (f.dt - dynamic_base) words fits ∙ long;
             fixed = s.fixed;
             lb = omega (arith, lb, dt);
             dt = omega (arith);
@@ -118,7 +118,7 @@ module _ (code : List ℕ) (session most : ℕ) (accepts : Accepts code session 
         }
 
     -- the frame behind a call that is not taken
-    pub passed_at : is_conditional i ≡ true → IsAtFact code session r b h (stepped f next)
+    pub passed_at : is_conditional i ≡ true → IsAtFact code session r b h (frame_at f next)
     passed_at conditional =
         let s = here.stands in
         record {

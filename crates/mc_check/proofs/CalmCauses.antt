@@ -7,9 +7,9 @@ use Rattle.mc_model_machine.specs.declared.instruction.Ins.TheVariants as ins
 use Rattle.mc_model_machine.specs.declared.machine.Abend.{Abend}
 use Rattle.mc_model_machine.specs.declared.machine.Abend.TheVariants.{A06}
 use Rattle.mc_model_device.specs.Bytes.{num}
-use Rattle.mc_model_machine.specs.Frame.{Frame, floor, dynamic_end, is_under, is_over, popped, top}
+use Rattle.mc_model_machine.specs.Frame.{Frame, floor, dynamic_end, is_under, is_over, frame_after_pop, top}
 use Rattle.mc_model_machine.specs.Primitives.{Around, Primitive, CheckCase, LoadCcr, StoreCcr, Lookup, MemoryCompare, MemoryCopy, DelegateTo, DelegatorAid, Digest, CompareFixed, CopyFixed, SetProtection, Encipher, Decipher, Sign, BitByte, ShiftLeft, ShiftRight, BitWord, primitive, prim_causes, later_causes, told_causes}
-use Rattle.mc_model_machine.specs.Chain.{stepped}
+use Rattle.mc_model_machine.specs.Chain.{frame_at}
 use Rattle.mc_model_machine.specs.Row.{causes, first_cause, holds, no_place, on_stack, immediate_reads, immediate_writes, pair_reads, pair_writes}
 use Rattle.mc_model_machine.specs.StackRows.{need, always_abends, prim_abends, height_after, pair_uses, prim_uses, row_uses, is_indirect, counts, call_target, is_inside, target_inside, call_inside, goes_on, jump_target, places_inside}
 use Rattle.mc_check.specs.Checked.{is_excluded}
@@ -72,7 +72,7 @@ call_placed : (b : Bool) (f : Frame) (len n to : ℕ) → f.code_len ≡ len →
 call_placed true f len n to is direct inside = absurd (cc direct)
 call_placed false f len n to is direct inside = placed f len (Some to) is inside
 
-call_over : (b : Bool) (f : Frame) (to : ℕ) → b ≡ false → ((q : ℕ) → cond b None (Some to) ≡ Some q → f.dt + 4 ≤ dynamic_end) → is_over (cond b (popped f 2) f) 4 ≡ false
+call_over : (b : Bool) (f : Frame) (to : ℕ) → b ≡ false → ((q : ℕ) → cond b None (Some to) ≡ Some q → f.dt + 4 ≤ dynamic_end) → is_over (cond b (frame_after_pop f 2) f) 4 ≡ false
 call_over true f to direct room = absurd (cc direct)
 call_over false f to direct room = over f 4 (room to refl)
 
@@ -106,7 +106,7 @@ later_calm Lookup args f h public x r few room = (under f h 3 r few, (tt, tt))
 later_calm MemoryCompare args f h public x r few room = (under f h 6 r few, (tt, (tt, tt)))
 later_calm MemoryCopy args f h public x r few room = (under f h 6 r few, (tt, (tt, (tt, tt))))
 later_calm DelegateTo args f h public x r few room = (under f h 2 r few, (tt, (tt, tt)))
-later_calm DelegatorAid args f h public x r few room = (under f h 2 r few, told_calm (popped f 2) _ x.delegator)
+later_calm DelegatorAid args f h public x r few room = (under f h 2 r few, told_calm (frame_after_pop f 2) _ x.delegator)
 later_calm Digest args f h public x r few room = (under f h 6 r few, (tt, (tt, (tt, tt))))
 later_calm CompareFixed args f h public x r few room = (under f h 4 r few, (tt, tt))
 later_calm CopyFixed args f h public x r few room = (under f h 4 r few, (tt, (tt, tt)))
@@ -185,7 +185,7 @@ causes_calm (ins.Store tag off n) len h f public x y = (tt, (under f h (on_stack
 causes_calm (ins.Loadi tag off n) len h f public x y = (tt, (under_on (tag == 0) f h 2 y.roomy y.few, (tt, (over f n (omega (arith, y.room)), tt))))
 causes_calm (ins.Storei tag off n) len h f public x y = (tt, (under f h (on_stack tag (n + 2) n) y.roomy y.few, (tt, (tt, tt))))
 causes_calm (ins.Loada tag off) len h f public x y = (tt, (over f 2 (omega (arith, y.room)), tt))
-causes_calm (ins.Index tag off size) len h f public x y = (under f h (on_stack tag 3 1) y.roomy y.few, (tt, (over (popped f (on_stack tag 3 1)) 2 y.room, tt)))
+causes_calm (ins.Index tag off size) len h f public x y = (under f h (on_stack tag 3 1) y.roomy y.few, (tt, (over (frame_after_pop f (on_stack tag 3 1)) 2 y.room, tt)))
 causes_calm (ins.Setb tag off b) len h f public x y = immediate_write f h tag off 1 y.roomy y.few
 causes_calm (ins.Cmpb tag off b) len h f public x y = immediate_read f h tag off 1 y.roomy y.few
 causes_calm (ins.Addb tag off b) len h f public x y = immediate_write f h tag off 1 y.roomy y.few
@@ -242,7 +242,7 @@ always_first _ f public x h = absurd (cc h)
 -- ---- rows
 
 -- a frame with its code address behind the instruction stands as before
-pub stepped_stands : (len size base h : ℕ) (f : Frame) (next : ℕ) → StandsAt len size base h f → StandsAt len size base h (stepped f next)
+pub stepped_stands : (len size base h : ℕ) (f : Frame) (next : ℕ) → StandsAt len size base h f → StandsAt len size base h (frame_at f next)
 stepped_stands len size base h f next s =
     record { session = s.session; code_len = s.code_len; dyn = s.dyn; fixed = s.fixed; lb = s.lb; dt = s.dt; room = s.room }
 
@@ -295,6 +295,6 @@ calm_by false len size base h i f public x c is s few direct inside no_return ro
 pub rows_calm : (len size base h : ℕ) (i : Ins) (next : ℕ) (f : Frame) (public : List ℕ) (x : Around) (c : Abend) → StandsAt len size base h f
     → need i ≤ h → is_indirect i ≡ false → places_inside len i next ≡ true → counts i ≡ None
     → (always_abends i ≡ false → size + base + height_after i h ≤ 512) → ((q : ℕ) → call_target i ≡ Some q → size + base + h + 4 ≤ 512)
-    → first_cause (causes i (stepped f next) public x) ≡ Some c → is_excluded c ≡ false
+    → first_cause (causes i (frame_at f next) public x) ≡ Some c → is_excluded c ≡ false
 rows_calm len size base h i next f public x c s few direct inside no_return room call_room e =
-    calm_by (always_abends i) len size base h i (stepped f next) public x c refl (stepped_stands len size base h f next s) few direct inside no_return room call_room e
+    calm_by (always_abends i) len size base h i (frame_at f next) public x c refl (stepped_stands len size base h f next s) few direct inside no_return room call_room e

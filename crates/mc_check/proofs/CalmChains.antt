@@ -8,15 +8,15 @@ use Rattle.mc_model_machine.specs.declared.instruction.DecodeFault.TheVariants.{
 use Rattle.mc_model_machine.specs.declared.instruction.Ins.{Ins}
 use Rattle.mc_model_device.specs.Bytes.{bytes2, lookup, insert, zeros}
 use Rattle.mc_model_device.specs.Card.{App}
-use Rattle.mc_model_machine.specs.Code.{decoded}
+use Rattle.mc_model_machine.specs.Code.{instruction_at}
 use Rattle.mc_model_machine.specs.Frame.{Frame, Effect, dynamic_base, public_base, public_end, new_frame, with_sw, la_of}
 use Rattle.mc_model_machine.specs.Primitives.{Around, Then, Goes, Exits, Delegates, Done}
 use Rattle.mc_model_machine.specs.Row.{RowEnd, Abends, Does, row}
-use Rattle.mc_model_machine.specs.Chain.{Chain, Outcome, Reply, Abended, Follows, Continues, Ends, code_in, around, with_pieces, changed_app, map_changed, settled, called, called_app, is_active, depth_of, exited, follows, end_of, told_frame, row_turn, stepped, fetched, acted}
+use Rattle.mc_model_machine.specs.Chain.{Chain, Outcome, Reply, Abended, Follows, Continues, Ends, code_in, around, with_pieces, changed_app, map_changed, chain_after_effect, chain_after_call, called_app, is_active, depth_of, after_exit, follows, end_of, told_frame, row_turn, frame_at, turn_of_fetch, turn_of_chain}
 use Rattle.mc_model_device.specs.Limits.{most_static, most_code}
 use Rattle.mc_model_machine.specs.StackShape.{Main, fact, begins, main, Accepts}
 use Rattle.mc_bank.specs.Bank.{no_app, app_of}
-use Rattle.mc_model_device.proofs.ListLemmas.{splice-longer}
+use Rattle.mc_model_device.proofs.ListLemmas.{splice_longer}
 use Rattle.mc_check.specs.Checked.{ends_excluded, RunsCode, IsCalm, OnFollows}
 use Rattle.mc_machine_laws.specs.Limited.{AreLimited}
 use Rattle.mc_machine.specs.Sound.{IsSoundFrame, IsSoundChain}
@@ -27,7 +27,7 @@ use Rattle.mc_check.proofs.RowFacts.{RowsAreCalm}
 use Rattle.mc_check.proofs.AcceptedFacts.{HasBases, room_at, undefined_never, past_never, GoodAt, good_at}
 use Rattle.mc_check.proofs.OpenCalls.{IsStanding}
 use Rattle.mc_check.proofs.CalmTurns.{OnGoing, IsLow, DoneCalm, RowCalm, FixedStays, row_calm, low_at}
-use Rattle.mc_model_device.proofs.MapLemmas.{same_name, lookup-inserted, lookup-beside}
+use Rattle.mc_model_device.proofs.MapLemmas.{same_name, lookup_inserted_lem, lookup_beside}
 
 -- ---- applications with the code
 
@@ -42,10 +42,10 @@ pub record HasCode (bytes : List ℕ) (size : ℕ) (map : List (List ℕ × App)
 inserted_back : (code : List ℕ) (session : ℕ) (map : List (List ℕ × App)) (n : List ℕ) (ps : List (ℕ × List ℕ)) (old : App) (m : List ℕ) (b : Bool) → lookup map n ≡ Some old → bytes_eq n m ≡ b
     → HasCode code session (insert map n (with_pieces ps old)) m → HasCode code session map m
 inserted_back code session map n ps old m false there other has =
-    record { app = has.app; there = sym (lookup-beside map n (with_pieces ps old) m other) ∙ has.there; code = has.code; session = has.session }
+    record { app = has.app; there = sym (lookup_beside map n (with_pieces ps old) m other) ∙ has.there; code = has.code; session = has.session }
 inserted_back code session map n ps old m true there own has =
     let name : n ≡ m = same_name n m own in
-    let now : Some (with_pieces ps old) ≡ Some has.app = sym (lookup-inserted map n (with_pieces ps old)) ∙ ap (λ (k : List ℕ). lookup (insert map n (with_pieces ps old)) k) name ∙ has.there in
+    let now : Some (with_pieces ps old) ≡ Some has.app = sym (lookup_inserted_lem map n (with_pieces ps old)) ∙ ap (λ (k : List ℕ). lookup (insert map n (with_pieces ps old)) k) name ∙ has.there in
     let app : with_pieces ps old ≡ has.app = cc now in
     record {
       app = old;
@@ -145,14 +145,14 @@ module _ (code : List ℕ) (session most : ℕ) (accepts : Accepts code session 
 
   -- a status in a public segment leaves it whole
   whole_still : (public : List ℕ) (sw : ℕ) → IsWholePublic public → IsWholePublic (with_sw public sw)
-  whole_still public sw whole = let longer = splice-longer public 1039 (bytes2 sw) in omega (arith, whole, longer)
+  whole_still public sw whole = let longer = splice_longer public 1039 (bytes2 sw) in omega (arith, whole, longer)
 
   entered_held : (b : Bool) (ch : Chain) (n : List ℕ) (a : App) → lookup ch.map n ≡ Some a → IsHeldChain code session ch → IsHeldChain code session (called_app b ch n a)
   entered_held true ch n a there held = record { limited = held.limited; whole = whole_still ch.public 0x6985 held.whole; frame = held.frame; below = held.below }
   entered_held false ch n a there held =
       record { limited = held.limited; whole = held.whole; frame = new_held ch.map n a (zeros a.session) there (length-replicate {A = ℕ} a.session 0) held.limited; below = (held.frame, held.below) }
 
-  called_held : (ch : Chain) (n : List ℕ) (o : Option App) → lookup ch.map n ≡ o → IsHeldChain code session ch → IsHeldChain code session (called ch n o)
+  called_held : (ch : Chain) (n : List ℕ) (o : Option App) → lookup ch.map n ≡ o → IsHeldChain code session ch → IsHeldChain code session (chain_after_call ch n o)
   called_held ch n None there held = record { limited = held.limited; whole = whole_still ch.public 0x6A82 held.whole; frame = held.frame; below = held.below }
   called_held ch n (Some a) there held = entered_held (is_active n ch.frame ch.below || nat_le 4 (depth_of ch)) ch n a there held
 
@@ -161,7 +161,7 @@ module _ (code : List ℕ) (session most : ℕ) (accepts : Accepts code session 
   ends_both true o p = tt
   ends_both false o p = tt
 
-  exited_held : (ch : Chain) (fs : List Frame) → AreLimited ch.map → IsWholePublic ch.public → AllByRecursion (StandsIfRunning code session ch.map) fs → OnFollows (exited ch fs) (IsHeldChain code session)
+  exited_held : (ch : Chain) (fs : List Frame) → AreLimited ch.map → IsWholePublic ch.public → AllByRecursion (StandsIfRunning code session ch.map) fs → OnFollows (after_exit ch fs) (IsHeldChain code session)
   exited_held ch [] limited whole all = ends_both (nat_lt 1024 (la_of ch.public)) _ _
   exited_held ch (f ∷ fs) limited whole all = record { limited = limited; whole = whole; frame = all.0; below = all.1 }
 
@@ -176,7 +176,7 @@ ends_calm : (b : Bool) (o p : Outcome) → ends_excluded (Some o) ≡ false → 
 ends_calm true o p h k = h
 ends_calm false o p h k = k
 
-exited_calm : (ch : Chain) (fs : List Frame) → ends_excluded (end_of (exited ch fs)) ≡ false
+exited_calm : (ch : Chain) (fs : List Frame) → ends_excluded (end_of (after_exit ch fs)) ≡ false
 exited_calm ch [] = ends_calm (nat_lt 1024 (la_of ch.public)) _ _ refl refl
 exited_calm ch (f ∷ fs) = refl
 
@@ -193,8 +193,8 @@ told_low session most old new (Ends (Abended cause)) before after = before
 row_turn_calm : (code : List ℕ) (session most : ℕ) (ch : Chain) (i : Ins) (r : RowEnd) → IsLow session most ch.frame → RowCalm code session most r → IsCalm session most (row_turn ch i r).turn
 row_turn_calm code session most ch i (Abends cause) low calm = record { end = calm; dt = low }
 row_turn_calm code session most ch i (Does d) low calm =
-    let next = follows (settled ch d.effect) d.next in
-    record { end = follows_calm (settled ch d.effect) d.next; dt = told_low session most ch.frame d.effect.frame next low calm.dt }
+    let next = follows (chain_after_effect ch d.effect) d.next in
+    record { end = follows_calm (chain_after_effect ch d.effect) d.next; dt = told_low session most ch.frame d.effect.frame next low calm.dt }
 
 -- ---- turns
 
@@ -208,54 +208,54 @@ end_grows facts i f public x (Abends cause) is = tt
 end_grows facts i f public x (Does d) is = facts.grows i f public x d is
 
 -- what a row leaves of the chain's applications and frame
-fixed_stays : (ch : Chain) (next : ℕ) (r : RowEnd) → AreLimited ch.map → IsSoundChain ch → RowKeeps (stepped ch.frame next) r → FixedStays r
+fixed_stays : (ch : Chain) (next : ℕ) (r : RowEnd) → AreLimited ch.map → IsSoundChain ch → RowKeeps (frame_at ch.frame next) r → FixedStays r
 fixed_stays ch next (Abends cause) limited sound keeps = tt
 fixed_stays ch next (Does d) limited sound keeps = subst (λ (n : ℕ). n ≤ dynamic_base) (sym (keeps.fixed sound.0.pieces)) (fixed_low ch.map ch.frame limited sound.0)
 
-settled_limited : (ch : Chain) (next : ℕ) (e : Effect) → AreLimited ch.map → IsSoundChain ch → KeepsPartsOf (stepped ch.frame next) e → AreLimited (settled ch e).map
+settled_limited : (ch : Chain) (next : ℕ) (e : Effect) → AreLimited ch.map → IsSoundChain ch → KeepsPartsOf (frame_at ch.frame next) e → AreLimited (chain_after_effect ch e).map
 settled_limited ch next e limited sound keeps =
     let stands = sound.0 in
     let within : ChangesWithin (length (app_of ch.map (Some ch.frame.name)).fixed) e.changes = subst (λ (n : ℕ). ChangesWithin n e.changes) stands.fixed (keeps.change stands.pieces) in
-    limited_still ch.map (settled ch e).map (sizes_changed ch.map ch.frame.name e.changes within) limited
+    limited_still ch.map (chain_after_effect ch e).map (sizes_changed ch.map ch.frame.name e.changes within) limited
 
 module _ (code : List ℕ) (session most : ℕ) (accepts : Accepts code session most) (bases : HasBases code) where
   -- the frame after an instruction, if it runs the code
-  frame_held : (ch : Chain) (next : ℕ) (d : Done) → KeepsPartsOf (stepped ch.frame next) d.effect → (HasCode code session ch.map ch.frame.name → DoneCalm code session most d) → OnGoing d.next (StandsIfRunning code session (settled ch d.effect).map d.effect.frame)
+  frame_held : (ch : Chain) (next : ℕ) (d : Done) → KeepsPartsOf (frame_at ch.frame next) d.effect → (HasCode code session ch.map ch.frame.name → DoneCalm code session most d) → OnGoing d.next (StandsIfRunning code session (chain_after_effect ch d.effect).map d.effect.frame)
   frame_held ch next d keeps calm =
-      let back : HasCode code session (settled ch d.effect).map d.effect.frame.name → HasCode code session ch.map ch.frame.name =
-      λ has. code_back code session ch.map ch.frame.name d.effect.changes ch.frame.name (subst (λ (n : List ℕ). HasCode code session (settled ch d.effect).map n) keeps.name has) in
-      going_under d.next (HasCode code session (settled ch d.effect).map d.effect.frame.name) (IsStanding code session d.effect.frame) (λ has. (calm (back has)).stands)
+      let back : HasCode code session (chain_after_effect ch d.effect).map d.effect.frame.name → HasCode code session ch.map ch.frame.name =
+      λ has. code_back code session ch.map ch.frame.name d.effect.changes ch.frame.name (subst (λ (n : List ℕ). HasCode code session (chain_after_effect ch d.effect).map n) keeps.name has) in
+      going_under d.next (HasCode code session (chain_after_effect ch d.effect).map d.effect.frame.name) (IsStanding code session d.effect.frame) (λ has. (calm (back has)).stands)
 
-  row_turn_held : (ch : Chain) (i : Ins) (next : ℕ) (r : RowEnd) → IsSoundChain ch → IsHeldChain code session ch → RowKeeps (stepped ch.frame next) r → RowGrows ch.public r → (HasCode code session ch.map ch.frame.name → RowCalm code session most r) → OnFollows (row_turn ch i r).follows (IsHeldChain code session)
+  row_turn_held : (ch : Chain) (i : Ins) (next : ℕ) (r : RowEnd) → IsSoundChain ch → IsHeldChain code session ch → RowKeeps (frame_at ch.frame next) r → RowGrows ch.public r → (HasCode code session ch.map ch.frame.name → RowCalm code session most r) → OnFollows (row_turn ch i r).follows (IsHeldChain code session)
   row_turn_held ch i next (Abends cause) sound held keeps grows calm = tt
   row_turn_held ch i next (Does d) sound held keeps grows calm =
       let whole = held.whole in
-      follows_held code session most accepts bases (settled ch d.effect) d.next
+      follows_held code session most accepts bases (chain_after_effect ch d.effect) d.next
       (settled_limited ch next d.effect held.limited sound keeps) (omega (arith, whole, grows)) (frame_held ch next d keeps calm)
       (held_still code session ch.map ch.frame.name d.effect.changes ch.below held.below)
 
   module _ (short : length code ≤ most_code) (bytes : AllByRecursion (λ b. b < 256) code) (facts : RowsAreCalm) where
     -- the code that a frame fetches from, where it runs this code
-    fetches : (ch : Chain) (r : Result (Ins × ℕ) DecodeFault) → HasCode code session ch.map ch.frame.name → decoded (code_in (lookup ch.map ch.frame.name)) ch.frame.at ≡ r → decoded code ch.frame.at ≡ r
+    fetches : (ch : Chain) (r : Result (Ins × ℕ) DecodeFault) → HasCode code session ch.map ch.frame.name → instruction_at (code_in (lookup ch.map ch.frame.name)) ch.frame.at ≡ r → instruction_at code ch.frame.at ≡ r
     fetches ch r has is =
         let same : code_in (lookup ch.map ch.frame.name) ≡ code = ap code_in has.there ∙ has.code in
-        ap (λ (c : List ℕ). decoded c ch.frame.at) (sym same) ∙ is
+        ap (λ (c : List ℕ). instruction_at c ch.frame.at) (sym same) ∙ is
 
-    row_here : (ch : Chain) (i : Ins) (next : ℕ) → IsSoundChain ch → IsHeldChain code session ch → HasCode code session ch.map ch.frame.name → decoded code ch.frame.at ≡ Ok (i, next) → RowCalm code session most (row i (stepped ch.frame next) ch.public (around ch))
+    row_here : (ch : Chain) (i : Ins) (next : ℕ) → IsSoundChain ch → IsHeldChain code session ch → HasCode code session ch.map ch.frame.name → instruction_at code ch.frame.at ≡ Ok (i, next) → RowCalm code session most (row i (frame_at ch.frame next) ch.public (around ch))
     row_here ch i next sound held has is =
         let s : IsStanding code session ch.frame = held.frame has in
         let good : GoodAt code (fact s.routine ch.frame.at s.height) i next = good_at code session most accepts (fact s.routine ch.frame.at s.height) s.here.reached i next is in
         row_calm code session most accepts bases s.routine s.base s.height ch.frame s.here i next good short bytes facts ch.public held.whole (around ch)
-        (fixed_stays ch next (row i (stepped ch.frame next) ch.public (around ch)) held.limited sound (row_keeps i (stepped ch.frame next) ch.public (around ch)))
+        (fixed_stays ch next (row i (frame_at ch.frame next) ch.public (around ch)) held.limited sound (row_keeps i (frame_at ch.frame next) ch.public (around ch)))
 
-    fetched_held : (ch : Chain) (r : Result (Ins × ℕ) DecodeFault) → decoded (code_in (lookup ch.map ch.frame.name)) ch.frame.at ≡ r → IsSoundChain ch → IsHeldChain code session ch → OnFollows (fetched ch r).follows (IsHeldChain code session)
+    fetched_held : (ch : Chain) (r : Result (Ins × ℕ) DecodeFault) → instruction_at (code_in (lookup ch.map ch.frame.name)) ch.frame.at ≡ r → IsSoundChain ch → IsHeldChain code session ch → OnFollows (turn_of_fetch ch r).follows (IsHeldChain code session)
     fetched_held ch (Err Undefined) is sound held = tt
     fetched_held ch (Err Past) is sound held = tt
     fetched_held ch (Ok i) is sound held =
-        let f = stepped ch.frame i.1 in
+        let f = frame_at ch.frame i.1 in
         row_turn_held ch i.0 i.1 (row i.0 f ch.public (around ch)) sound held (row_keeps i.0 f ch.public (around ch)) (end_grows facts i.0 f ch.public (around ch) (row i.0 f ch.public (around ch)) refl) (λ has. row_here ch i.0 i.1 sound held has (fetches ch (Ok i) has is))
 
-    fetched_calm : (ch : Chain) (r : Result (Ins × ℕ) DecodeFault) → decoded code ch.frame.at ≡ r → IsSoundChain ch → IsHeldChain code session ch → HasCode code session ch.map ch.frame.name → IsCalm session most (fetched ch r).turn
+    fetched_calm : (ch : Chain) (r : Result (Ins × ℕ) DecodeFault) → instruction_at code ch.frame.at ≡ r → IsSoundChain ch → IsHeldChain code session ch → HasCode code session ch.map ch.frame.name → IsCalm session most (turn_of_fetch ch r).turn
     fetched_calm ch (Err Undefined) is sound held has =
         let s : IsStanding code session ch.frame = held.frame has in
         absurd (undefined_never code session most accepts (fact s.routine ch.frame.at s.height) s.here.reached is)
@@ -263,17 +263,17 @@ module _ (code : List ℕ) (session most : ℕ) (accepts : Accepts code session 
         let s : IsStanding code session ch.frame = held.frame has in
         absurd (past_never code session most accepts (fact s.routine ch.frame.at s.height) s.here.reached is)
     fetched_calm ch (Ok i) is sound held has =
-        row_turn_calm code session most ch i.0 (row i.0 (stepped ch.frame i.1) ch.public (around ch)) (low_at code session most accepts bases ch.frame (held.frame has)) (row_here ch i.0 i.1 sound held has is)
+        row_turn_calm code session most ch i.0 (row i.0 (frame_at ch.frame i.1) ch.public (around ch)) (low_at code session most accepts bases ch.frame (held.frame has)) (row_here ch i.0 i.1 sound held has is)
 
     -- the chain that follows a turn
-    pub acted_held : (ch : Chain) → IsSoundChain ch → IsHeldChain code session ch → OnFollows (acted ch).follows (IsHeldChain code session)
-    unfolding acted
-    acted_held ch sound held = fetched_held ch (decoded (code_in (lookup ch.map ch.frame.name)) ch.frame.at) refl sound held
+    pub acted_held : (ch : Chain) → IsSoundChain ch → IsHeldChain code session ch → OnFollows (turn_of_chain ch).follows (IsHeldChain code session)
+    unfolding turn_of_chain
+    acted_held ch sound held = fetched_held ch (instruction_at (code_in (lookup ch.map ch.frame.name)) ch.frame.at) refl sound held
 
     -- the turn of a frame that runs the code
-    pub acted_calm : (ch : Chain) → IsSoundChain ch → IsHeldChain code session ch → RunsCode code session ch → IsCalm session most (acted ch).turn
-    unfolding acted
+    pub acted_calm : (ch : Chain) → IsSoundChain ch → IsHeldChain code session ch → RunsCode code session ch → IsCalm session most (turn_of_chain ch).turn
+    unfolding turn_of_chain
     acted_calm ch sound held runs =
         let has : HasCode code session ch.map ch.frame.name = record { app = runs.app; there = runs.there; code = runs.code; session = runs.session } in
-        let r = decoded (code_in (lookup ch.map ch.frame.name)) ch.frame.at in
+        let r = instruction_at (code_in (lookup ch.map ch.frame.name)) ch.frame.at in
         fetched_calm ch r (fetches ch r has refl) sound held has

@@ -7,17 +7,17 @@ use Rattle.mc_model_machine.specs.declared.checker.CheckCause.TheVariants.{Under
 use Rattle.mc_model_machine.specs.declared.instruction.Ins.{Ins}
 use Rattle.mc_model_machine.specs.declared.instruction.Ins.TheVariants as ins
 use Rattle.mc_model_device.specs.Bytes.{bytes2, num, splice}
-use Rattle.mc_model_machine.specs.Frame.{Frame, dynamic_base, floor, top, saved, no_return, come_back}
-use Rattle.mc_model_machine.specs.Primitives.{Around, going, framed}
+use Rattle.mc_model_machine.specs.Frame.{Frame, dynamic_base, floor, top, saved_address, no_return, come_back}
+use Rattle.mc_model_machine.specs.Primitives.{Around, effect_and_next, frame_effect}
 use Rattle.mc_model_machine.specs.Row.{causes, effect, first_cause, return_causes, no_place}
-use Rattle.mc_model_machine.specs.Chain.{stepped}
+use Rattle.mc_model_machine.specs.Chain.{frame_at}
 use Rattle.mc_model_machine.specs.StackRows.{need, counts, goes_on, jump_target, call_target, target_inside, call_inside, places_inside}
 use Rattle.mc_model_machine.specs.StackShape.{Routine, At, fact, Reached, returns, Gives, ReturnsWith, Accepts}
 use Rattle.mc_check.specs.Standing.{StandsAt, OpenCalls, none, call}
 use Rattle.mc_check.proofs.AcceptedFacts.{GoodAt, good_at, HasStackRoom, HasBases, room_at}
 use Rattle.mc_check.proofs.FactLooks.{fine}
 use Rattle.mc_check.proofs.OpenCalls.{IsAtFact, IsStanding, open_front, open_depth, spliced_above, num_bytes2}
-use Rattle.mc_model_device.proofs.ListLemmas.{length-splice}
+use Rattle.mc_model_device.proofs.ListLemmas.{length_splice}
 use Rattle.mc_check.proofs.ClosingPlaces.{call_goes_on}
 use Rattle.mc_model_device.specs.Limits.{most_code}
 
@@ -26,7 +26,7 @@ use Rattle.mc_model_device.specs.Limits.{most_code}
 -- a return of these counts
 pub record IsReturn (i : Ins) (c : ℕ × ℕ) : Type 0 where
   pub causes : (f : Frame) (public : List ℕ) (x : Around) → causes i f public x ≡ return_causes f c.0 c.1
-  pub effect : (f : Frame) (public : List ℕ) (x : Around) → effect i f public x ≡ going (framed (come_back f c.0 c.1) public)
+  pub effect : (f : Frame) (public : List ℕ) (x : Around) → effect i f public x ≡ effect_and_next (frame_effect (come_back f c.0 c.1) public)
   pub need : need i ≡ c.1
 
 of_counts : (i : Ins) (c d : ℕ × ℕ) → IsReturn i c → Some c ≡ Some d → IsReturn i d
@@ -51,11 +51,11 @@ behind_call len j q after target inside =
 
 -- ---- numbers of a return
 
-no_cause : (f : Frame) (less more : ℕ) → no_return f less more ≡ false → no_place f (Some (saved f 2)) ≡ false → first_cause (return_causes f less more) ≡ None
+no_cause : (f : Frame) (less more : ℕ) → no_return f less more ≡ false → no_place f (Some (saved_address f 2)) ≡ false → first_cause (return_causes f less more) ≡ None
 no_cause f less more p q = rw (p, q) refl
 
 -- the word that a call pushed k bytes above its LB, read back so far below the new one
-read_back : (f : Frame) (session k below n : ℕ) → f.lb - below - dynamic_base ≡ session + k → take 2 (drop k (drop session f.dyn)) ≡ bytes2 n → n < 65536 → saved f below ≡ n
+read_back : (f : Frame) (session k below n : ℕ) → f.lb - below - dynamic_base ≡ session + k → take 2 (drop k (drop session f.dyn)) ≡ bytes2 n → n < 65536 → saved_address f below ≡ n
 read_back f session k below n place word small =
     ap (λ (m : ℕ). num (take 2 (drop m f.dyn))) place ∙ ap (λ (l : List ℕ). num (take 2 l)) (sym (drop-drop k session f.dyn)) ∙ ap (λ (l : List ℕ). num l) word ∙ num_bytes2 n small
 
@@ -102,7 +102,7 @@ module _ (code : List ℕ) (session most : ℕ) (accepts : Accepts code session 
       base_low : session + b ≤ 512
       base_low = let fits = room.stack in omega (arith, fits)
 
-      old_lb : saved f 4 ≡ dynamic_base + session + b
+      old_lb : saved_address f 4 ≡ dynamic_base + session + b
       old_lb =
           let lb = s.lb in
           read_back f session (b + k) 4 (dynamic_base + session + b) (omega (arith, lb)) (subst (λ (l : List ℕ). take 2 (drop (b + k) l) ≡ bytes2 (dynamic_base + session + b)) same lb_word) (omega (arith, base_low))
@@ -110,20 +110,20 @@ module _ (code : List ℕ) (session most : ℕ) (accepts : Accepts code session 
       inside : after < length code
       inside = behind_call (length code) j q after target call_good.inside
 
-      old_at : saved f 2 ≡ after
+      old_at : saved_address f 2 ≡ after
       old_at =
           let lb = s.lb in
           read_back f session (b + k + 2) 2 after (omega (arith, lb)) (subst (λ (l : List ℕ). take 2 (drop (b + k + 2) l) ≡ bytes2 after) same at_word) (omega (arith, inside, short))
 
-      back_calm : first_cause (return_causes (stepped f next) less more) ≡ None
+      back_calm : first_cause (return_causes (frame_at f next) less more) ≡ None
       back_calm =
           let size = s.session in
           let lb = s.lb in
           let dt = s.dt in
           let low : nat_le (floor f + 4 + less) f.lb ≡ true = le-leb _ _ (omega (arith, size, lb, fewer)) in
           let high : nat_le (f.lb + more) f.dt ≡ true = le-leb _ _ (omega (arith, dt, enough)) in
-          let place : nat_lt (saved f 2) f.code_len ≡ true = lt-ltb _ _ (subst (λ (n : ℕ). saved f 2 < n) (sym s.code_len) (subst (λ (n : ℕ). n < length code) (sym old_at) inside)) in
-          no_cause (stepped f next) less more (not_from_true _ (and_from _ _ low high)) (not_from_true _ place)
+          let place : nat_lt (saved_address f 2) f.code_len ≡ true = lt-ltb _ _ (subst (λ (n : ℕ). saved_address f 2 < n) (sym s.code_len) (subst (λ (n : ℕ). n < length code) (sym old_at) inside)) in
+          no_cause (frame_at f next) less more (not_from_true _ (and_from _ _ low high)) (not_from_true _ place)
 
       moved : ℕ
       moved = f.lb - 4 - less - dynamic_base
@@ -132,7 +132,7 @@ module _ (code : List ℕ) (session most : ℕ) (accepts : Accepts code session 
       unfolding moved
       moved_far = let lb = s.lb in omega (arith, lb, fewer)
 
-      back_here : IsAtFact code session r b (k - less + more) (come_back (stepped f next) less more)
+      back_here : IsAtFact code session r b (k - less + more) (come_back (frame_at f next) less more)
       unfolding moved
       back_here =
           let lb = s.lb in
@@ -149,7 +149,7 @@ module _ (code : List ℕ) (session most : ℕ) (accepts : Accepts code session 
             stands = record {
               session = s.session;
               code_len = s.code_len;
-              dyn = length-splice f.dyn moved (top f more) all ∙ long;
+              dyn = length_splice f.dyn moved (top f more) all ∙ long;
               fixed = s.fixed;
               lb = old_lb;
               dt = omega (arith, lb, old_lb, fewer);
@@ -159,7 +159,7 @@ module _ (code : List ℕ) (session most : ℕ) (accepts : Accepts code session 
             reached = subst (λ (n : ℕ). Reached code (fact r n (k - less + more))) (sym old_at) behind;
           }
 
-      back_over : Back code session (stepped f next) less more
+      back_over : Back code session (frame_at f next) less more
       back_over = record { calm = back_calm; standing = record { routine = r; base = b; height = k - less + more; here = back_here } }
 
   no_home : (i : Ins) (c : ℕ × ℕ) → is_some (counts i) ≡ false → counts i ≡ Some c → ⊥
@@ -167,10 +167,10 @@ module _ (code : List ℕ) (session most : ℕ) (accepts : Accepts code session 
 
   -- a return of a routine has a call to go back to
   back_from : {bytes : List ℕ} {r : Routine} {b : ℕ} (h : ℕ) (f : Frame) (i : Ins) (next less more : ℕ) → OpenCalls code session bytes r b → bytes ≡ drop session f.dyn → StandsAt (length code) session b h f → Reached code (fact r f.at h)
-      → GoodAt code (fact r f.at h) i next → counts i ≡ Some (less, more) → Back code session (stepped f next) less more
+      → GoodAt code (fact r f.at h) i next → counts i ≡ Some (less, more) → Back code session (frame_at f next) less more
   back_from h f i next less more none same s reached good e = absurd (no_home i (less, more) good.home e)
   back_from {bytes = bytes} h f i next less more (call {r = r} {p = p} {h = k} {b = b} {q = q} j after opened caller gives target lb at) same s reached good e =
       back_over bytes r p k b q j after opened caller gives target lb at h f same s i next less more reached good e
 
-  pub comes_back : (r : Routine) (b h : ℕ) (f : Frame) (i : Ins) (next : ℕ) (c : ℕ × ℕ) → IsAtFact code session r b h f → GoodAt code (fact r f.at h) i next → counts i ≡ Some c → Back code session (stepped f next) c.0 c.1
+  pub comes_back : (r : Routine) (b h : ℕ) (f : Frame) (i : Ins) (next : ℕ) (c : ℕ × ℕ) → IsAtFact code session r b h f → GoodAt code (fact r f.at h) i next → counts i ≡ Some c → Back code session (frame_at f next) c.0 c.1
   comes_back r b h f i next c here good e = back_from h f i next c.0 c.1 here.opened refl here.stands here.reached good e

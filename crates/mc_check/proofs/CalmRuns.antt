@@ -5,7 +5,7 @@ use Rattle.std.specs.List.{AllByRecursion}
 use Rattle.mc_model_machine.specs.Apdu.{ApduParts}
 use Rattle.mc_model_device.specs.Bytes.{lookup}
 use Rattle.mc_model_device.specs.Card.{App}
-use Rattle.mc_model_machine.specs.Chain.{Chain, Follows, Continues, Ends, acted, turn_of, no_app, start, start_app}
+use Rattle.mc_model_machine.specs.Chain.{Chain, Follows, Continues, Ends, turn_of_chain, turn_of, no_app, start, start_app}
 use Rattle.mc_model_machine.specs.StackShape.{Accepts}
 use Rattle.mc_bank.specs.Bank.{app_of}
 use Rattle.mc_check.specs.Checked.{RunsCode, IsCalm, OnFollows, RunsCalmly, IsChecked}
@@ -38,7 +38,7 @@ module _ (facts : RowsAreCalm) (code : List ℕ) (bytes : AllByRecursion (λ b. 
   runs_calmly (suc n) ch sound held =
       let follows = (turn_sound (suc n) ch sound).follows in (
         λ runs. acted_calm code session most accepts bases short bytes facts ch sound held runs,
-        on_follows code session ch _ (acted ch).follows (λ c. RunsCalmly code session most n c) follows (acted_held code session most accepts bases short bytes facts ch sound held) (λ next s h. runs_calmly n next s h),
+        on_follows code session ch _ (turn_of_chain ch).follows (λ c. RunsCalmly code session most n c) follows (acted_held code session most accepts bases short bytes facts ch sound held) (λ next s h. runs_calmly n next s h),
       )
 
   -- the first frame of a chain, by what stands under its name

@@ -7,11 +7,11 @@ use Rattle.mc_model_machine.specs.declared.checker.CheckCause.TheVariants.{Wild}
 use Rattle.mc_model_machine.specs.declared.instruction.DecodeFault.{DecodeFault}
 use Rattle.mc_model_machine.specs.declared.instruction.Ins.{Ins}
 use Rattle.mc_model_machine.specs.declared.machine.Abend.{Abend}
-use Rattle.mc_model_machine.specs.Code.{Shaped, DecodesTo, decoded}
+use Rattle.mc_model_machine.specs.Code.{Shaped, DecodesTo, instruction_at}
 use Rattle.mc_model_machine.specs.Frame.{Frame, dynamic_base, public_base, public_end, come_back}
-use Rattle.mc_model_machine.specs.Primitives.{Around, Then, Goes, Exits, Delegates, Done, going, framed}
+use Rattle.mc_model_machine.specs.Primitives.{Around, Then, Goes, Exits, Delegates, Done, effect_and_next, frame_effect}
 use Rattle.mc_model_machine.specs.Row.{effect, first_cause, row, RowEnd, Abends, Does}
-use Rattle.mc_model_machine.specs.Chain.{stepped}
+use Rattle.mc_model_machine.specs.Chain.{frame_at}
 use Rattle.mc_model_machine.specs.StackRows.{height_after, always_abends, writing, is_plain, counts, goes_on, jump_target, call_target}
 use Rattle.mc_model_machine.specs.StackShape.{Routine, fact, Reached, goes, jumps, Gives, Depth, Accepts}
 use Rattle.mc_isa.proofs.PlaceLemmas.{decoded_stands}
@@ -52,7 +52,7 @@ FixedStays (Abends cause) = Unit {0}
 FixedStays (Does d) = length d.effect.frame.fixed ≤ dynamic_base
 
 -- an instruction of code is shaped
-shaped_at : (code : List ℕ) (at : ℕ) (i : Ins) (next : ℕ) → AllByRecursion (λ b. b < 256) code → decoded code at ≡ Ok (i, next) → Shaped i
+shaped_at : (code : List ℕ) (at : ℕ) (i : Ins) (next : ℕ) → AllByRecursion (λ b. b < 256) code → instruction_at code at ≡ Ok (i, next) → Shaped i
 shaped_at code at i next bytes is =
     let stands : DecodesTo code at (Ok (i, next)) = subst (λ (r : Result (Ins × ℕ) DecodeFault). DecodesTo code at r) is (decoded_stands code at bytes) in
     stands.shaped
@@ -66,7 +66,7 @@ module _ (code : List ℕ) (session most : ℕ) (accepts : Accepts code session 
   -- ---- writes
 
   -- a write that is not plain stands only in code without a call
-  plain_or_bottom : {bytes : List ℕ} {r : Routine} {b : ℕ} (at h : ℕ) (i : Ins) (next : ℕ) → OpenCalls code session bytes r b → Reached code (fact r at h) → decoded code at ≡ Ok (i, next) → (is_plain session h (writing i) ≡ true) ⊎ (b ≡ 0)
+  plain_or_bottom : {bytes : List ℕ} {r : Routine} {b : ℕ} (at h : ℕ) (i : Ins) (next : ℕ) → OpenCalls code session bytes r b → Reached code (fact r at h) → instruction_at code at ≡ Ok (i, next) → (is_plain session h (writing i) ≡ true) ⊎ (b ≡ 0)
   plain_or_bottom at h i next none reached is = inr refl
   plain_or_bottom at h i next (call {r = r} {p = p} {h = k} {q = q} j after opened caller gives target lb_word at_word) reached is =
       elim (cases_Bool (is_plain session h (writing i))) [
@@ -116,7 +116,7 @@ module _ (code : List ℕ) (session most : ℕ) (accepts : Accepts code session 
     place_reached at no_call (inl on) = subst (λ (n : ℕ). Reached code (fact r n (height_after i h))) (sym on.0) (goes i next here.reached gives no_call on.1)
     place_reached at no_call (inr to) = subst (λ (n : ℕ). Reached code (fact r at n)) (sym (jump_height i next (Some at) h to)) (jumps i next at here.reached gives to)
 
-    module _ (public : List ℕ) (x : Around) (d : Done) (no_call : call_target i ≡ None) (done : row i (stepped f next) public x ≡ Does d) (stays : RowStays (length code) session b h i next f d) (low_fixed : length d.effect.frame.fixed ≤ dynamic_base) where
+    module _ (public : List ℕ) (x : Around) (d : Done) (no_call : call_target i ≡ None) (done : row i (frame_at f next) public x ≡ Does d) (stays : RowStays (length code) session b h i next f d) (low_fixed : length d.effect.frame.fixed ≤ dynamic_base) where
       -- the frame that goes on at such a place
       moved_on : Reached code (fact r d.effect.frame.at (height_after i h)) → IsStanding code session d.effect.frame
       moved_on reached =
@@ -132,8 +132,8 @@ module _ (code : List ℕ) (session most : ℕ) (accepts : Accepts code session 
 
       exit_calm : d.next ≡ Exits → DoneCalm code session most d
       exit_calm is =
-          let next_is : (effect i (stepped f next) public x).next ≡ Exits = ap (λ (e : Done). e.next) (row_done i (stepped f next) public x d done) ∙ is in
-          let same : height_after i h ≡ h = exit_height i (stepped f next) public x h next_is in
+          let next_is : (effect i (frame_at f next) public x).next ≡ Exits = ap (λ (e : Done). e.next) (row_done i (frame_at f next) public x d done) ∙ is in
+          let same : height_after i h ≡ h = exit_height i (frame_at f next) public x h next_is in
           let stands = stays.stands low_fixed in
           let lb = stands.lb in
           let dt = stands.dt in
@@ -151,9 +151,9 @@ module _ (code : List ℕ) (session most : ℕ) (accepts : Accepts code session 
 
     -- ---- calls and returns
 
-    call_calm : (q : ℕ) (public : List ℕ) (x : Around) (d : Done) → call_target i ≡ Some q → row i (stepped f next) public x ≡ Does d → DoneCalm code session most d
+    call_calm : (q : ℕ) (public : List ℕ) (x : Around) (d : Done) → call_target i ≡ Some q → row i (frame_at f next) public x ≡ Does d → DoneCalm code session most d
     call_calm q public x d target done =
-        let end : CallEnd i q (stepped f next) d = call_end i q (stepped f next) public x d target done in
+        let end : CallEnd i q (frame_at f next) d = call_end i q (frame_at f next) public x d target done in
         let s : IsStanding code session d.effect.frame =
         elim end.frame [
           | inl taken ↦ subst (λ (g : Frame). IsStanding code session g) (sym taken) (record { routine = _; base = b + h + 4; height = 0; here = entered_at code session most accepts bases r b h f here i next q good target })
@@ -162,18 +162,18 @@ module _ (code : List ℕ) (session most : ℕ) (accepts : Accepts code session 
         record { dt = low_at d.effect.frame s; stands = going_calm code session d.next d.effect.frame s }
 
     module _ (short : length code ≤ most_code) where
-      return_calm : (c : ℕ × ℕ) (public : List ℕ) (x : Around) (d : Done) → counts i ≡ Some c → row i (stepped f next) public x ≡ Does d → DoneCalm code session most d
+      return_calm : (c : ℕ × ℕ) (public : List ℕ) (x : Around) (d : Done) → counts i ≡ Some c → row i (frame_at f next) public x ≡ Does d → DoneCalm code session most d
       return_calm c public x d e done =
-          let back : Back code session (stepped f next) c.0 c.1 = comes_back code session most accepts bases short r b h f i next c here good e in
-          let g = come_back (stepped f next) c.0 c.1 in
-          let is : going (framed g public) ≡ d = sym ((returning i c e).effect (stepped f next) public x) ∙ row_done i (stepped f next) public x d done in
+          let back : Back code session (frame_at f next) c.0 c.1 = comes_back code session most accepts bases short r b h f i next c here good e in
+          let g = come_back (frame_at f next) c.0 c.1 in
+          let is : effect_and_next (frame_effect g public) ≡ d = sym ((returning i c e).effect (frame_at f next) public x) ∙ row_done i (frame_at f next) public x d done in
           subst (λ (t : Done). DoneCalm code session most t) is (record { dt = low_at g back.standing; stands = back.standing })
 
-      return_abends : (c : ℕ × ℕ) (public : List ℕ) (x : Around) (cause : Abend) → counts i ≡ Some c → row i (stepped f next) public x ≡ Abends cause → is_excluded cause ≡ false
+      return_abends : (c : ℕ × ℕ) (public : List ℕ) (x : Around) (cause : Abend) → counts i ≡ Some c → row i (frame_at f next) public x ≡ Abends cause → is_excluded cause ≡ false
       return_abends c public x cause e abends =
-          let back : Back code session (stepped f next) c.0 c.1 = comes_back code session most accepts bases short r b h f i next c here good e in
+          let back : Back code session (frame_at f next) c.0 c.1 = comes_back code session most accepts bases short r b h f i next c here good e in
           let is : None ≡ Some cause =
-          sym back.calm ∙ ap (λ (cs : List (Abend × Bool)). first_cause cs) (sym ((returning i c e).causes (stepped f next) public x)) ∙ row_cause i (stepped f next) public x cause abends in
+          sym back.calm ∙ ap (λ (cs : List (Abend × Bool)). first_cause cs) (sym ((returning i c e).causes (frame_at f next) public x)) ∙ row_cause i (frame_at f next) public x cause abends in
           absurd (cc is)
 
       -- ---- all rows
@@ -182,12 +182,12 @@ module _ (code : List ℕ) (session most : ℕ) (accepts : Accepts code session 
         shaped : Shaped i
         shaped = shaped_at code f.at i next bytes good.decoded
 
-        abends_calm : (o : Option (ℕ × ℕ)) (cause : Abend) → counts i ≡ o → row i (stepped f next) public x ≡ Abends cause → is_excluded cause ≡ false
+        abends_calm : (o : Option (ℕ × ℕ)) (cause : Abend) → counts i ≡ o → row i (frame_at f next) public x ≡ Abends cause → is_excluded cause ≡ false
         abends_calm (Some c) cause e abends = return_abends c public x cause e abends
         abends_calm None cause e abends =
-            facts.calm (length code) session b h i next f public x cause shaped here.stands good.needs good.direct good.inside e room_after call_fits (row_cause i (stepped f next) public x cause abends)
+            facts.calm (length code) session b h i next f public x cause shaped here.stands good.needs good.direct good.inside e room_after call_fits (row_cause i (frame_at f next) public x cause abends)
 
-        done_calm : (o : Option (ℕ × ℕ)) (t : Option ℕ) (d : Done) → counts i ≡ o → call_target i ≡ t → row i (stepped f next) public x ≡ Does d → length d.effect.frame.fixed ≤ dynamic_base → DoneCalm code session most d
+        done_calm : (o : Option (ℕ × ℕ)) (t : Option ℕ) (d : Done) → counts i ≡ o → call_target i ≡ t → row i (frame_at f next) public x ≡ Does d → length d.effect.frame.fixed ≤ dynamic_base → DoneCalm code session most d
         done_calm (Some c) t d e target done low_fixed = return_calm c public x d e done
         done_calm None (Some q) d e target done low_fixed = call_calm q public x d target done
         done_calm None None d e target done low_fixed =
@@ -195,9 +195,9 @@ module _ (code : List ℕ) (session most : ℕ) (accepts : Accepts code session 
             moved_calm public x d target done stays low_fixed d.next refl
 
         -- whatever the row's end
-        end_calm : (end : RowEnd) → row i (stepped f next) public x ≡ end → FixedStays end → RowCalm code session most end
+        end_calm : (end : RowEnd) → row i (frame_at f next) public x ≡ end → FixedStays end → RowCalm code session most end
         end_calm (Abends cause) is low_fixed = abends_calm (counts i) cause refl is
         end_calm (Does d) is low_fixed = done_calm (counts i) (call_target i) d refl refl is low_fixed
 
-        pub row_calm : FixedStays (row i (stepped f next) public x) → RowCalm code session most (row i (stepped f next) public x)
-        row_calm low_fixed = end_calm (row i (stepped f next) public x) refl low_fixed
+        pub row_calm : FixedStays (row i (frame_at f next) public x) → RowCalm code session most (row i (frame_at f next) public x)
+        row_calm low_fixed = end_calm (row i (frame_at f next) public x) refl low_fixed

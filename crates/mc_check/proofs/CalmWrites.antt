@@ -4,16 +4,16 @@ use Rattle.std.specs.Prelude.{◌==◌, ◌&&◌, ◌||◌, nat_le}
 use Rattle.std.proofs.lemmas.Bool.{and_parts, leb-true}
 use Rattle.std.proofs.lemmas.List.{length-append, length-take-le, take-append-le, drop-take}
 use Rattle.mc_model_device.specs.Bytes.{splice}
-use Rattle.mc_model_machine.specs.Frame.{Frame, Effect, Place, Static, Dynamic, Public, where_is, floor, dynamic_base, dynamic_end, static_written, written_in, written, pushed, popped, topped, flagged, protect, static_bytes, committed}
-use Rattle.mc_model_machine.specs.Primitives.{framed, effect_flagged}
-use Rattle.mc_model_device.proofs.ListLemmas.{length-splice}
+use Rattle.mc_model_machine.specs.Frame.{Frame, Effect, Place, Static, Dynamic, Public, where_is, floor, dynamic_base, dynamic_end, static_written, write_effect_at, write_effect, frame_after_push, frame_after_pop, frame_with_top, frame_with_flags, protect, static_bytes, pending_change}
+use Rattle.mc_model_machine.specs.Primitives.{frame_effect, effect_flagged}
+use Rattle.mc_model_device.proofs.ListLemmas.{length_splice}
 use Rattle.mc_check.specs.Standing.{StandsAt, calls_of}
 
 -- ---- lists
 
 -- the front of a list, written from there on
-front-splice : (l : List ℕ) (n at : ℕ) (b : List ℕ) → n ≤ at → at ≤ length l → take n (splice l at b) ≡ take n l
-front-splice l n at b before inside =
+front_splice : (l : List ℕ) (n at : ℕ) (b : List ℕ) → n ≤ at → at ≤ length l → take n (splice l at b) ≡ take n l
+front_splice l n at b before inside =
     let size : length (take at l) ≡ at = length-take-le at l inside in
     let more : length (take at l ++ b) ≡ length (take at l) + length b = length-append (take at l) b in
     take-append-le n (take at l ++ b) (drop (at + length b) l) (omega arith)
@@ -21,13 +21,13 @@ front-splice l n at b before inside =
     ∙ take-take n at l before
 
 -- the middle of a list, written behind it
-middle-splice : (l : List ℕ) (from n at : ℕ) (b : List ℕ) → from + n ≤ at → at ≤ length l → take n (drop from (splice l at b)) ≡ take n (drop from l)
-middle-splice l from n at b before inside =
-    sym (drop-take from n (splice l at b)) ∙ ap (drop from) (front-splice l (from + n) at b before inside) ∙ drop-take from n l
+middle_splice : (l : List ℕ) (from n at : ℕ) (b : List ℕ) → from + n ≤ at → at ≤ length l → take n (drop from (splice l at b)) ≡ take n (drop from l)
+middle_splice l from n at b before inside =
+    sym (drop-take from n (splice l at b)) ∙ ap (drop from) (front_splice l (from + n) at b before inside) ∙ drop-take from n l
 
 -- the rest of a list, written before it
-rest-splice : (l : List ℕ) (from at : ℕ) (b : List ℕ) → at + length b ≤ from → at ≤ length l → drop from (splice l at b) ≡ drop from l
-rest-splice l from at b behind inside =
+rest_splice : (l : List ℕ) (from at : ℕ) (b : List ℕ) → at + length b ≤ from → at ≤ length l → drop from (splice l at b) ≡ drop from l
+rest_splice l from at b behind inside =
     let past = at + length b in
     let size : length (take at l ++ b) ≡ past = length-append (take at l) b ∙ ap (λ (n : ℕ). n + length b) (length-take-le at l inside) in
     let split : past + (from - past) ≡ from = omega arith in
@@ -55,7 +55,7 @@ stands_roomy len size base h f s =
     record { dyn = s.dyn; low = omega arith; top = s.dt; high = omega arith }
 
 -- the top bytes taken off
-pub popped_roomy : (f : Frame) (h n : ℕ) → IsRoomy f h → n ≤ h → IsRoomy (popped f n) (h - n)
+pub popped_roomy : (f : Frame) (h n : ℕ) → IsRoomy f h → n ≤ h → IsRoomy (frame_after_pop f n) (h - n)
 popped_roomy f h n r few =
     let top : f.dt ≡ f.lb + h = r.top in
     let high : f.dt ≤ dynamic_end = r.high in
@@ -79,17 +79,17 @@ KeepsCalls f height place safe e = KeptParts f.name f.session f.code_len f.lb (c
 -- ---- effects by kind
 
 -- a frame whose flags or whose public segment changed
-pub framed_kept : (f : Frame) (h k : ℕ) (safe : Type 0) (public : List ℕ) (c z : Bool) → IsRoomy f h → k ≡ h → KeepsCalls f k f.at safe (framed (flagged f c z) public)
+pub framed_kept : (f : Frame) (h k : ℕ) (safe : Type 0) (public : List ℕ) (c z : Bool) → IsRoomy f h → k ≡ h → KeepsCalls f k f.at safe (frame_effect (frame_with_flags f c z) public)
 framed_kept f h k safe public c z r is =
     let top : f.dt ≡ f.lb + h = r.top in
     record { name = refl; session = refl; code_len = refl; lb = refl; dyn = r.dyn; dt = omega arith; at = refl; calls = λ p. refl }
 
 -- the same with the top bytes taken off
-pub popped_kept : (f : Frame) (h n k : ℕ) (safe : Type 0) (public : List ℕ) (c z : Bool) → IsRoomy f h → n ≤ h → k ≡ h - n → KeepsCalls f k f.at safe (framed (flagged (popped f n) c z) public)
-popped_kept f h n k safe public c z r few is = framed_kept (popped f n) (h - n) k safe public c z (popped_roomy f h n r few) is
+pub popped_kept : (f : Frame) (h n k : ℕ) (safe : Type 0) (public : List ℕ) (c z : Bool) → IsRoomy f h → n ≤ h → k ≡ h - n → KeepsCalls f k f.at safe (frame_effect (frame_with_flags (frame_after_pop f n) c z) public)
+popped_kept f h n k safe public c z r few is = framed_kept (frame_after_pop f n) (h - n) k safe public c z (popped_roomy f h n r few) is
 
 -- the code goes on elsewhere
-pub gone_kept : (f : Frame) (h k to : ℕ) (safe : Type 0) (public : List ℕ) → IsRoomy f h → k ≡ h → KeepsCalls f k to safe (framed (record f { at = to }) public)
+pub gone_kept : (f : Frame) (h k to : ℕ) (safe : Type 0) (public : List ℕ) → IsRoomy f h → k ≡ h → KeepsCalls f k to safe (frame_effect (record f { at = to }) public)
 gone_kept f h k to safe public r is =
     let top : f.dt ≡ f.lb + h = r.top in
     record { name = refl; session = refl; code_len = refl; lb = refl; dyn = r.dyn; dt = omega arith; at = refl; calls = λ p. refl }
@@ -109,42 +109,42 @@ pub data MissesCalls (low base a n : ℕ) : Type 0 where
 spliced_calls : (f : Frame) (h a : ℕ) (b : List ℕ) → IsRoomy f h → dynamic_base ≤ a → a + length b ≤ dynamic_end → MissesCalls (floor f) f.lb a (length b)
     → take (f.lb - floor f) (drop f.session (splice f.dyn (a - dynamic_base) b)) ≡ calls_of f
 spliced_calls f h a b r from to (session behind) =
-    ap (take (f.lb - floor f)) (rest-splice f.dyn f.session (a - dynamic_base) b (omega arith) (omega (arith, r.dyn)))
+    ap (take (f.lb - floor f)) (rest_splice f.dyn f.session (a - dynamic_base) b (omega arith) (omega (arith, r.dyn)))
 spliced_calls f h a b r from to (stack before) =
-    middle-splice f.dyn f.session (f.lb - floor f) (a - dynamic_base) b (omega (arith, r.low)) (omega (arith, r.dyn))
+    middle_splice f.dyn f.session (f.lb - floor f) (a - dynamic_base) b (omega (arith, r.low)) (omega (arith, r.dyn))
 spliced_calls f h a b r from to (none low) =
     let nothing : f.lb - floor f ≡ 0 = omega arith in
     ap (λ (n : ℕ). take n (drop f.session (splice f.dyn (a - dynamic_base) b))) nothing ∙ ap (λ (n : ℕ). take n (drop f.session f.dyn)) (sym nothing)
 
 -- bytes written into the dynamic segment, DT at a place not above its end
 spliced_kept : (f : Frame) (h k dt a : ℕ) (b : List ℕ) (safe : Type 0) (public : List ℕ) → IsRoomy f h → dynamic_base ≤ a → a + length b ≤ dynamic_end → dt ≡ f.lb + k → (safe → MissesCalls (floor f) f.lb a (length b))
-    → KeepsCalls f k f.at safe (framed (record f { dyn = splice f.dyn (a - dynamic_base) b; dt = dt }) public)
+    → KeepsCalls f k f.at safe (frame_effect (record f { dyn = splice f.dyn (a - dynamic_base) b; dt = dt }) public)
 spliced_kept f h k dt a b safe public r from to is untouched =
     record {
       name = refl;
       session = refl;
       code_len = refl;
       lb = refl;
-      dyn = length-splice f.dyn (a - dynamic_base) b (omega (arith, r.dyn)) ∙ r.dyn;
+      dyn = length_splice f.dyn (a - dynamic_base) b (omega (arith, r.dyn)) ∙ r.dyn;
       dt = is;
       at = refl;
       calls = λ p. spliced_calls f h a b r from to (untouched p);
     }
 
 -- bytes pushed
-pub pushed_kept : (f : Frame) (h k : ℕ) (b : List ℕ) (safe : Type 0) (public : List ℕ) → IsRoomy f h → k ≡ h + length b → f.dt + length b ≤ dynamic_end → KeepsCalls f k f.at safe (framed (pushed f b) public)
+pub pushed_kept : (f : Frame) (h k : ℕ) (b : List ℕ) (safe : Type 0) (public : List ℕ) → IsRoomy f h → k ≡ h + length b → f.dt + length b ≤ dynamic_end → KeepsCalls f k f.at safe (frame_effect (frame_after_push f b) public)
 pushed_kept f h k b safe public r is room =
     let top : f.dt ≡ f.lb + h = r.top in
     let low : floor f ≤ f.lb = r.low in
     spliced_kept f h k (f.dt + length b) f.dt b safe public r (omega arith) room (omega arith) (λ p. stack (omega arith))
 
 -- the top bytes replaced
-pub topped_kept : (f : Frame) (h k : ℕ) (b : List ℕ) (safe : Type 0) (public : List ℕ) (c z : Bool) → IsRoomy f h → length b ≤ h → k ≡ h → KeepsCalls f k f.at safe (framed (flagged (topped f b) c z) public)
+pub topped_kept : (f : Frame) (h k : ℕ) (b : List ℕ) (safe : Type 0) (public : List ℕ) (c z : Bool) → IsRoomy f h → length b ≤ h → k ≡ h → KeepsCalls f k f.at safe (frame_effect (frame_with_flags (frame_with_top f b) c z) public)
 topped_kept f h k b safe public c z r few is =
     let top : f.dt ≡ f.lb + h = r.top in
     let low : floor f ≤ f.lb = r.low in
     let high : f.dt ≤ dynamic_end = r.high in
-    let e : Effect = framed (topped f b) public in
+    let e : Effect = frame_effect (frame_with_top f b) public in
     flagged_kept f k f.at safe e c z (spliced_kept f h k f.dt (f.dt - length b) b safe public r (omega arith) (omega arith) (omega arith) (λ p. stack (omega arith)))
 
 -- where bytes lie that lie in the dynamic segment
@@ -170,7 +170,7 @@ abbrev pub IsSafeAt : Frame → ℕ → ℕ → Type 0 → Type 0
 IsSafeAt f a n safe = dynamic_base ≤ a → a + n ≤ dynamic_end → safe → MissesCalls (floor f) f.lb a n
 
 written_in_kept : (f : Frame) (h k : ℕ) (safe : Type 0) (public : List ℕ) (a : ℕ) (bytes : List ℕ) (place : Option Place) → IsRoomy f h → k ≡ h → IsSafeAt f a (length bytes) safe
-    → where_is f a (length bytes) ≡ place → KeepsCalls f k f.at safe (written_in f public bytes place)
+    → where_is f a (length bytes) ≡ place → KeepsCalls f k f.at safe (write_effect_at f public bytes place)
 written_in_kept f h k safe public a bytes None r is untouched e = framed_kept f h k safe public f.c f.z r is
 written_in_kept f h k safe public a bytes (Some (Static i)) r is untouched e = static_kept f.protected f h k safe public i bytes r is
 written_in_kept f h k safe public a bytes (Some (Dynamic i)) r is untouched e =
@@ -178,13 +178,13 @@ written_in_kept f h k safe public a bytes (Some (Dynamic i)) r is untouched e =
     let top : f.dt ≡ f.lb + h = r.top in
     let fits : (dynamic_base ≤ a) × (a + length bytes ≤ f.dt) × (i ≡ a - dynamic_base) = dynamic_fits _ _ _ a (length bytes) i _ _ f.dt refl e in
     let to : a + length bytes ≤ dynamic_end = omega arith in
-    subst (λ (j : ℕ). KeepsCalls f k f.at safe (framed (record f { dyn = splice f.dyn j bytes }) public)) (sym fits.2)
+    subst (λ (j : ℕ). KeepsCalls f k f.at safe (frame_effect (record f { dyn = splice f.dyn j bytes }) public)) (sym fits.2)
     (spliced_kept f h k f.dt a bytes safe public r fits.0 to (omega arith) (untouched fits.0 to))
 written_in_kept f h k safe public a bytes (Some (Public i)) r is untouched e = framed_kept f h k safe (splice public i bytes) f.c f.z r is
 
 -- bytes written at an address
-pub written_kept : (f : Frame) (h k : ℕ) (safe : Type 0) (public : List ℕ) (a : ℕ) (bytes : List ℕ) → IsRoomy f h → k ≡ h → IsSafeAt f a (length bytes) safe → KeepsCalls f k f.at safe (written f public a bytes)
-unfolding written
+pub written_kept : (f : Frame) (h k : ℕ) (safe : Type 0) (public : List ℕ) (a : ℕ) (bytes : List ℕ) → IsRoomy f h → k ≡ h → IsSafeAt f a (length bytes) safe → KeepsCalls f k f.at safe (write_effect f public a bytes)
+unfolding write_effect
 written_kept f h k safe public a bytes r is untouched = written_in_kept f h k safe public a bytes (where_is f a (length bytes)) r is untouched refl
 
 -- ---- protection
@@ -197,7 +197,7 @@ pub protect_kept : (f : Frame) (h k : ℕ) (safe : Type 0) (public : List ℕ) (
 protect_kept f h k safe public mode r is =
     let top : f.dt ≡ f.lb + h = r.top in
     let on = nat_le 2 mode in
-    let kept : Effect = record { frame = record f { fixed = static_bytes f; pieces = []; protected = on }; public = public; changes = committed f f.pieces } in
+    let kept : Effect = record { frame = record f { fixed = static_bytes f; pieces = []; protected = on }; public = public; changes = pending_change f f.pieces } in
     let dropped : Effect = record { frame = record f { pieces = []; protected = on }; public = public; changes = None } in
     cond_kept f k safe (mode == 1 || mode == 3) kept dropped
     (record { name = refl; session = refl; code_len = refl; lb = refl; dyn = r.dyn; dt = omega arith; at = refl; calls = λ p. refl })

@@ -2,10 +2,10 @@
 use Rattle.std.proofs.Common.{ℕ, zero, suc, Bool, true, false, List, [], ◌∷◌, Option, Some, None}
 use Rattle.std.specs.Prelude.{drop}
 use Rattle.std.specs.List.{AllByRecursion}
-use Rattle.mc_model_device.proofs.ImageLemmas.{all-append}
+use Rattle.mc_model_device.proofs.ImageLemmas.{all_append}
 use Rattle.mc_model_machine.specs.Apdu.{ApduParts}
 use Rattle.mc_model_device.specs.Card.{App, Card}
-use Rattle.mc_model_machine.specs.Chain.{Chain, Turn, Follows, Continues, Ends, acted}
+use Rattle.mc_model_machine.specs.Chain.{Chain, Turn, Follows, Continues, Ends, turn_of_chain}
 use Rattle.mc_model_card.specs.Items.{card_done}
 use Rattle.mc_model_card.specs.Manager.{Selected, Seat, Route, WrongLength, WrongClass, ToSelect, ToManager, ToApplication, route}
 use Rattle.mc_model_play.specs.DeckGrammar.{DeckLine}
@@ -37,7 +37,7 @@ module _ (code : List ℕ) (session deepest : ℕ) where
   run_calm : (n : ℕ) (ch : Chain) → RunsChecked n ch → AllByRecursion Calm (turns_from n ch)
   unfolding turns_from RunsCalmly
   run_calm zero ch h = (h, tt)
-  run_calm (suc n) ch h = (h.0, on_calm (acted ch).follows (λ c. RunsChecked n c) (λ c. turns_from n c) h.1 (λ c k. run_calm n c k))
+  run_calm (suc n) ch h = (h.0, on_calm (turn_of_chain ch).follows (λ c. RunsChecked n c) (λ c. turns_from n c) h.1 (λ c k. run_calm n c k))
 
   -- ---- commands
 
@@ -62,7 +62,7 @@ module _ (code : List ℕ) (session deepest : ℕ) where
       let r = command c seat b budget in
       let d = card_done c r.items in
       let rest = turns_sent d r.seat budget bs in
-      all-append Calm (turns_routed c.apps seat budget (route b)) (turns_behind (is_done r.outcome) rest) (routed_calm c.apps seat budget (route b) h.0)
+      all_append Calm (turns_routed c.apps seat budget (route b)) (turns_behind (is_done r.outcome) rest) (routed_calm c.apps seat budget (route b) h.0)
       (behind_calm (is_done r.outcome) (OnSent RunsChecked d r.seat budget bs) rest (λ k. sent_calm d r.seat budget bs k) h.1)
 
   -- ---- lines

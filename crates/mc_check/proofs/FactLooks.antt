@@ -6,9 +6,9 @@ use Rattle.mc_model_machine.specs.declared.checker.CheckCause.TheVariants.{Undef
 use Rattle.mc_model_machine.specs.declared.instruction.DecodeFault.{DecodeFault}
 use Rattle.mc_model_machine.specs.declared.instruction.DecodeFault.TheVariants as fault
 use Rattle.mc_model_machine.specs.declared.instruction.Ins.{Ins}
-use Rattle.mc_model_machine.specs.Code.{decoded}
+use Rattle.mc_model_machine.specs.Code.{instruction_at}
 use Rattle.mc_model_machine.specs.StackRows.{need, is_indirect, counts, places_inside}
-use Rattle.mc_model_machine.specs.StackShape.{Fact, FactLook, Bad, Stands, is_main, seen, look, Reached, IsAt, Breaks, Refuses}
+use Rattle.mc_model_machine.specs.StackShape.{Fact, FactLook, Bad, Stands, is_main, fact_look, look, Reached, IsAt, Breaks, Refuses}
 use Rattle.mc_check.specs.Table.{IsGoodFact}
 
 -- ---- the chain of tests
@@ -53,13 +53,13 @@ chain_bad false false false false i next cause h = absurd (cc h)
 
 -- what the instruction of a good fact keeps to
 pub record KeepsRules (code : List ℕ) (f : Fact) (i : Ins) (next : ℕ) : Type 0 where
-  pub there : decoded code f.place ≡ Ok (i, next)
+  pub there : instruction_at code f.place ≡ Ok (i, next)
   pub direct : is_indirect i ≡ false
   pub stays : (is_main f.routine && is_some (counts i)) ≡ false
   pub enough : nat_lt f.height (need i) ≡ false
   pub inside : places_inside (length code) i next ≡ true
 
-fine_from : (code : List ℕ) (f : Fact) (d : Result (Ins × ℕ) DecodeFault) (i : Ins) (next : ℕ) → decoded code f.place ≡ d → seen (length code) f d ≡ Stands i next → KeepsRules code f i next
+fine_from : (code : List ℕ) (f : Fact) (d : Result (Ins × ℕ) DecodeFault) (i : Ins) (next : ℕ) → instruction_at code f.place ≡ d → fact_look (length code) f d ≡ Stands i next → KeepsRules code f i next
 fine_from code f (Err fault.Undefined) i next e h = absurd (cc h)
 fine_from code f (Err fault.Past) i next e h = absurd (cc h)
 fine_from code f (Ok p) i next e h =
@@ -71,7 +71,7 @@ fine_from code f (Ok p) i next e h =
 
 pub fine : (code : List ℕ) (f : Fact) (i : Ins) (next : ℕ) → look code f ≡ Stands i next → KeepsRules code f i next
 unfolding look
-fine code f i next h = fine_from code f (decoded code f.place) i next refl h
+fine code f i next h = fine_from code f (instruction_at code f.place) i next refl h
 
 pub is_at : (code : List ℕ) (f : Fact) (i : Ins) (next : ℕ) → look code f ≡ Stands i next → IsAt code f.place i
 is_at code f i next h = (next, (fine code f i next h).there)
@@ -88,14 +88,14 @@ stands_at code f i good at =
 
 -- ---- a bad fact
 
-named_breaks : (code : List ℕ) (session : ℕ) (f : Fact) (p : Ins × ℕ) (cause : CheckCause) → decoded code f.place ≡ Ok p
+named_breaks : (code : List ℕ) (session : ℕ) (f : Fact) (p : Ins × ℕ) (cause : CheckCause) → instruction_at code f.place ≡ Ok p
     → FirstTestNamed (is_indirect p.0) (is_main f.routine && is_some (counts p.0)) (nat_lt f.height (need p.0)) (not (places_inside (length code) p.0 p.1)) cause → Breaks code session cause f
 named_breaks code session f p cause e (indirect h) = (p.0, p.1, e, h)
 named_breaks code session f p cause e (returns h) = inl (p.0, p.1, e, h)
 named_breaks code session f p cause e (under h) = inl (p.0, p.1, e, ltb-true f.height (need p.0) h)
 named_breaks code session f p cause e (target h) = (p.0, p.1, e, not-true (places_inside (length code) p.0 p.1) h)
 
-breaks_from : (code : List ℕ) (session : ℕ) (f : Fact) (d : Result (Ins × ℕ) DecodeFault) (cause : CheckCause) → decoded code f.place ≡ d → seen (length code) f d ≡ Bad cause → Breaks code session cause f
+breaks_from : (code : List ℕ) (session : ℕ) (f : Fact) (d : Result (Ins × ℕ) DecodeFault) (cause : CheckCause) → instruction_at code f.place ≡ d → fact_look (length code) f d ≡ Bad cause → Breaks code session cause f
 breaks_from code session f (Err fault.Undefined) cause e h = subst (λ (x : CheckCause). Breaks code session x f) (bad_same Undefined cause h) e
 breaks_from code session f (Err fault.Past) cause e h = subst (λ (x : CheckCause). Breaks code session x f) (bad_same Past cause h) e
 breaks_from code session f (Ok p) cause e h =
@@ -103,7 +103,7 @@ breaks_from code session f (Ok p) cause e h =
 
 pub breaks : (code : List ℕ) (session : ℕ) (f : Fact) (cause : CheckCause) → look code f ≡ Bad cause → Breaks code session cause f
 unfolding look
-breaks code session f cause h = breaks_from code session f (decoded code f.place) cause refl h
+breaks code session f cause h = breaks_from code session f (instruction_at code f.place) cause refl h
 
 -- ---- refusals
 

@@ -6,7 +6,7 @@ use Rattle.mc_model_machine.specs.Code.{Shaped}
 use Rattle.mc_model_machine.specs.Frame.{Frame, dynamic_base, public_base, public_end}
 use Rattle.mc_model_machine.specs.Primitives.{Around, Then, Goes, Exits, Delegates, Done}
 use Rattle.mc_model_machine.specs.Row.{causes, first_cause, row, Does}
-use Rattle.mc_model_machine.specs.Chain.{stepped}
+use Rattle.mc_model_machine.specs.Chain.{frame_at}
 use Rattle.mc_model_machine.specs.StackRows.{need, height_after, always_abends, writing, is_plain, is_indirect, counts, goes_on, jump_target, call_target, places_inside}
 use Rattle.mc_check.specs.Checked.{is_excluded}
 use Rattle.mc_check.specs.Standing.{StandsAt, calls_of}
@@ -29,9 +29,9 @@ pub record RowsAreCalm : Type 0 where
   pub calm : (len size base h : ℕ) (i : Ins) (next : ℕ) (f : Frame) (public : List ℕ) (x : Around) (c : Abend) → Shaped i → StandsAt len size base h f
       → need i ≤ h → is_indirect i ≡ false → places_inside len i next ≡ true → counts i ≡ None
       → (always_abends i ≡ false → size + base + height_after i h ≤ 512) → ((q : ℕ) → call_target i ≡ Some q → size + base + h + 4 ≤ 512)
-      → first_cause (causes i (stepped f next) public x) ≡ Some c → is_excluded c ≡ false
+      → first_cause (causes i (frame_at f next) public x) ≡ Some c → is_excluded c ≡ false
   pub stays : (len size base h : ℕ) (i : Ins) (next : ℕ) (f : Frame) (public : List ℕ) (x : Around) (d : Done) → Shaped i → StandsAt len size base h f
       → need i ≤ h → is_indirect i ≡ false → counts i ≡ None → call_target i ≡ None
       → (always_abends i ≡ false → size + base + height_after i h ≤ 512) → public_end - public_base ≤ length public
-      → row i (stepped f next) public x ≡ Does d → RowStays len size base h i next f d
+      → row i (frame_at f next) public x ≡ Does d → RowStays len size base h i next f d
   pub grows : (i : Ins) (f : Frame) (public : List ℕ) (x : Around) (d : Done) → row i f public x ≡ Does d → length public ≤ length d.effect.public

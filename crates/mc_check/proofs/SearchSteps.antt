@@ -15,7 +15,7 @@ use Rattle.mc_check.specs.declared.bases.Progress.TheVariants as progress
 use Rattle.mc_check.specs.declared.bases.Answer.TheVariants as answer
 use Rattle.mc_check.specs.CallList.{ListsCall, IsCalled, AreClosed, EntersIn, IsBaseIn, ClosesRing}
 use Rattle.mc_check.specs.CallList as list
-use Rattle.mc_check.specs.Searching.{CallTells, Answers, is_unseen, unseen, AreBelow, StaySeen, Searches, left}
+use Rattle.mc_check.specs.Searching.{CallTells, Answers, is_unseen, count_of_unseen, AreBelow, StaySeen, Searches, remaining_work}
 use Rattle.mc_check.proofs.ListPlaces.{get_set_same, get_set_other, get_push_before, get_push_last, get_push, before, last, get_take, take_get}
 use Rattle.mc_check.proofs.CallTelling.{called_is_inside, caller_is_inside}
 use Rattle.mc_check.proofs.ToldBases.{told_unseen, told_open, told_bound, base_found}
@@ -24,10 +24,10 @@ use Rattle.mc_model_device.specs.Limits.{most_code}
 -- ---- one change of a state
 
 -- how many routines are unseen then
-pub unseen_set : (states : List Progress) (p : ℕ) (x y : Progress) → slice_get states p ≡ Some y → unseen (set states p x) + cond (is_unseen y) 1 0 ≡ unseen states + cond (is_unseen x) 1 0
+pub unseen_set : (states : List Progress) (p : ℕ) (x y : Progress) → slice_get states p ≡ Some y → count_of_unseen (set states p x) + cond (is_unseen y) 1 0 ≡ count_of_unseen states + cond (is_unseen x) 1 0
 unseen_set states p x y there =
     let weight : Progress → ℕ = λ z. cond (is_unseen z) 1 0 in
-    ap (λ (z : Progress). unseen (set states p x) + cond (is_unseen z) 1 0) (sym (get_or_from_slice_get states p y y there))
+    ap (λ (z : Progress). count_of_unseen (set states p x) + cond (is_unseen z) 1 0) (sym (get_or_from_slice_get states p y y there))
     ∙ sum_by-set weight states p x y (slice_get_within states p y there)
 
 -- what stands at a place then: what was written there, or what stood there
@@ -71,7 +71,7 @@ left_old_bound n u s m v t b em ev et room low = left_bound n u s m v t b em ev 
 pub record IsStep (l : List Call) (states : List Progress) (stack : List ℕ) (new : List Progress) (now : List ℕ) : Type 0 where
   pub searches : Searches l new now
   pub seen : StaySeen states new
-  pub nearer : left new now < left states stack
+  pub nearer : remaining_work new now < remaining_work states stack
 
 step_as : (l : List Call) (states : List Progress) (stack : List ℕ) (new next : List Progress) (now then : List ℕ) → new ≡ next → now ≡ then → IsStep l states stack next then → IsStep l states stack new now
 step_as l states stack new next now then e f step = subst (λ (x : List Progress). IsStep l states stack x now) (sym e) (subst (λ (y : List ℕ). IsStep l states stack next y) (sym f) step)
@@ -90,8 +90,8 @@ module _ (states : List Progress) (l : List Call) (stack : List ℕ) (q : ℕ) (
   pub bases_below : length states ≤ most_code → AreBelow (2 ^ 31) states
   bases_below short r b there =
       let low = so.bound r b there in
-      let most : length states - unseen states - length stack ≤ most_code = omega arith in
-      let product : 65539 * (length states - unseen states - length stack) ≤ 65539 * most_code = omega arith in
+      let most : length states - count_of_unseen states - length stack ≤ most_code = omega arith in
+      let product : 65539 * (length states - count_of_unseen states - length stack) ≤ 65539 * most_code = omega arith in
       omega arith
 
   -- an unseen caller
@@ -107,7 +107,7 @@ module _ (states : List Progress) (l : List Call) (stack : List ℕ) (q : ℕ) (
         let there = slice_get-get_or states p progress.Unseen caller_inside in
         there ∙ ap Some ((told_unseen states tells.call p tells.call.caller tells.tells).none (get_or states p progress.Unseen) there)
 
-    fewer : unseen (set states p progress.Open) + 1 ≡ unseen states
+    fewer : count_of_unseen (set states p progress.Open) + 1 ≡ count_of_unseen states
     fewer = let less = unseen_set states p progress.Open progress.Unseen unseen_there in omega arith
 
     more : length (stack ++ p ∷ []) ≡ length stack + 1
@@ -153,11 +153,11 @@ module _ (states : List Progress) (l : List Call) (stack : List ℕ) (q : ℕ) (
       room = let len = length-set states p progress.Open in let f = fewer in let m = more in let r = so.room in omega arith;
       bound = λ r b get. elim (written states p progress.Open r (progress.Done b) caller_inside get) [
         | this same is ↦ absurd (cc is)
-        | other ne old ↦ entered_bound (length states) (unseen states) (length stack) _ _ _ b (length-set states p progress.Open) fewer more so.room (so.bound r b old)
+        | other ne old ↦ entered_bound (length states) (count_of_unseen states) (length stack) _ _ _ b (length-set states p progress.Open) fewer more so.room (so.bound r b old)
       ];
     }
 
-    entered_nearer : left (set states p progress.Open) (stack ++ p ∷ []) < left states stack
+    entered_nearer : remaining_work (set states p progress.Open) (stack ++ p ∷ []) < remaining_work states stack
     entered_nearer = let f = fewer in let m = more in omega arith
 
     pub enters : (new : List Progress) (now : List ℕ) → new ≡ set states p progress.Open → now ≡ stack ++ p ∷ [] → IsStep l states stack new now
@@ -178,7 +178,7 @@ module _ (states : List Progress) (l : List Call) (stack : List ℕ) (q : ℕ) (
     there_is : slice_get states q ≡ Some (get_or states q progress.Open)
     there_is = slice_get-get_or states q progress.Open last_inside
 
-    no_more : unseen (set states q (progress.Done b)) ≤ unseen states
+    no_more : count_of_unseen (set states q (progress.Done b)) ≤ count_of_unseen states
     no_more = let less = unseen_set states q (progress.Done b) (get_or states q progress.Open) there_is in omega arith
 
     one_less : length (take (length stack - 1) stack) + 1 ≡ length stack
@@ -208,14 +208,14 @@ module _ (states : List Progress) (l : List Call) (stack : List ℕ) (q : ℕ) (
       room = let len = length-set states q (progress.Done b) in let f = no_more in let m = one_less in let r = so.room in omega arith;
       bound = λ r d get. elim (written states q (progress.Done b) r (progress.Done d) last_inside get) [
         | this same is ↦
-            let low = told_bound states l q b (65539 * (length states - unseen states - length stack)) closed so.bound answers.0 in
+            let low = told_bound states l q b (65539 * (length states - count_of_unseen states - length stack)) closed so.bound answers.0 in
             let equal : b ≡ d = cc is in
-            left_bound (length states) (unseen states) (length stack) _ _ _ d (length-set states q (progress.Done b)) no_more one_less so.room (subst (λ (x : ℕ). x ≤ 65539 * (length states - unseen states - length stack) + 65539) equal low)
-        | other ne old ↦ left_old_bound (length states) (unseen states) (length stack) _ _ _ d (length-set states q (progress.Done b)) no_more one_less so.room (so.bound r d old)
+            left_bound (length states) (count_of_unseen states) (length stack) _ _ _ d (length-set states q (progress.Done b)) no_more one_less so.room (subst (λ (x : ℕ). x ≤ 65539 * (length states - count_of_unseen states - length stack) + 65539) equal low)
+        | other ne old ↦ left_old_bound (length states) (count_of_unseen states) (length stack) _ _ _ d (length-set states q (progress.Done b)) no_more one_less so.room (so.bound r d old)
       ];
     }
 
-    left_nearer : left (set states q (progress.Done b)) (take (length stack - 1) stack) < left states stack
+    left_nearer : remaining_work (set states q (progress.Done b)) (take (length stack - 1) stack) < remaining_work states stack
     left_nearer = let f = no_more in let m = one_less in omega arith
 
     pub leaves : (new : List Progress) (now : List ℕ) → new ≡ set states q (progress.Done b) → now ≡ take (length stack - 1) stack → IsStep l states stack new now

@@ -10,31 +10,31 @@ use Rattle.mc_model_machine.specs.declared.checker.CheckCause.TheVariants.{Undef
 use Rattle.mc_model_machine.specs.declared.instruction.DecodeFault.{DecodeFault}
 use Rattle.mc_model_machine.specs.declared.instruction.DecodeFault.TheVariants as fault
 use Rattle.mc_model_machine.specs.declared.instruction.Ins.{Ins}
-use Rattle.mc_model_machine.specs.Code.{decoded}
+use Rattle.mc_model_machine.specs.Code.{instruction_at}
 use Rattle.mc_model_machine.specs.StackRows.{need, is_indirect, counts, places_inside, is_call, is_plain, writing}
 use Rattle.mc_model_machine.specs.StackShape.{Routine, Main, At, Fact, fact, is_main, Bad, look, Reached, HoldsAtFact, ReachesItself, SharesPlace, WritesWild, TooDeep, Depth, Breaks, Accepts, Refuses}
 use Rattle.mc_check.specs.declared.table.Entry.{Entry}
 use Rattle.mc_check.specs.declared.table.Refusal.{Refusal}
 use Rattle.mc_check.specs.Judging.{calls_at, plain_at, depth_of, BeginsWithin, HasFactAt, HasCall, HasNoCall}
 use Rattle.mc_check.specs.Table.{routine_of, fact_of, base_in, IsWholeTable, AreBases, IsRefusalOf}
-use Rattle.mc_check.proofs.TableReads.{kept-inside}
+use Rattle.mc_check.proofs.TableReads.{kept_inside}
 use Rattle.mc_check.proofs.Reaching.{RoutineEntered, entered}
 use Rattle.mc_check.proofs.FactLooks.{KeepsRules as GoodAlone, fine as good-alone}
 use Rattle.mc_check.proofs.CallLemmas.{same_ins}
 
 -- ---- what stands at a place
 
-call-of : (r : Result (Ins × ℕ) DecodeFault) → calls_at r ≡ true → (i : Ins) × (next : ℕ) × (r ≡ Ok (i, next)) × (is_call i ≡ true)
-call-of (Ok p) h = (p.0, p.1, refl, h)
-call-of (Err e) h = absurd (cc h)
+call_of : (r : Result (Ins × ℕ) DecodeFault) → calls_at r ≡ true → (i : Ins) × (next : ℕ) × (r ≡ Ok (i, next)) × (is_call i ≡ true)
+call_of (Ok p) h = (p.0, p.1, refl, h)
+call_of (Err e) h = absurd (cc h)
 
-wild-of : (session height : ℕ) (r : Result (Ins × ℕ) DecodeFault) → plain_at session height r ≡ false
+wild_of : (session height : ℕ) (r : Result (Ins × ℕ) DecodeFault) → plain_at session height r ≡ false
     → (i : Ins) × (next : ℕ) × (r ≡ Ok (i, next)) × (is_plain session height (writing i) ≡ false)
-wild-of session height (Ok p) h = (p.0, p.1, refl, h)
-wild-of session height (Err e) h = absurd (cc h)
+wild_of session height (Ok p) h = (p.0, p.1, refl, h)
+wild_of session height (Err e) h = absurd (cc h)
 
-same-next : (r : Result (Ins × ℕ) DecodeFault) (i j : Ins) (n m : ℕ) → r ≡ Ok (i, n) → r ≡ Ok (j, m) → n ≡ m
-same-next r i j n m a b =
+same_next : (r : Result (Ins × ℕ) DecodeFault) (i j : Ins) (n m : ℕ) → r ≡ Ok (i, n) → r ≡ Ok (j, m) → n ≡ m
+same_next r i j n m a b =
     let pairs : ◌≡◌ {A = Ins × ℕ} (i, n) (j, m) = cc (a, b) in
     ap (λ (p : Ins × ℕ). p.1) pairs
 
@@ -43,7 +43,7 @@ same-next r i j n m a b =
 -- the depth of an entry at a place, or the rule that it breaks
 abbrev pub depth_in : List ℕ → ℕ → List ℕ → Bool → ℕ → Entry → Result ℕ Refusal
 depth_in code session bases calls p e =
-    depth_of session p (base_in bases (routine_of e.routine)) e.height (calls && not (plain_at session e.height (decoded code p)))
+    depth_of session p (base_in bases (routine_of e.routine)) e.height (calls && not (plain_at session e.height (instruction_at code p)))
 
 -- no rule was broken
 record NoRuleBroken (deep wild : Bool) (s d : ℕ) : Type 0 where
@@ -65,22 +65,22 @@ broken false false a b r s h = absurd (cc h)
 -- what a depth says of its entry
 pub record Rests (code : List ℕ) (session : ℕ) (bases : List ℕ) (calls : Bool) (p : ℕ) (e : Entry) (d : ℕ) : Type 0 where
   pub room : session + base_in bases (routine_of e.routine) + e.height ≤ 512
-  pub plain : calls ≡ true → plain_at session e.height (decoded code p) ≡ true
+  pub plain : calls ≡ true → plain_at session e.height (instruction_at code p) ≡ true
   pub depth : base_in bases (routine_of e.routine) + e.height ≡ d
 
-and-left : (a b : Bool) → (a && not b) ≡ false → a ≡ true → b ≡ true
-and-left true true h e = refl
-and-left true false h e = absurd (cc h)
-and-left false b h e = absurd (cc e)
+and_left : (a b : Bool) → (a && not b) ≡ false → a ≡ true → b ≡ true
+and_left true true h e = refl
+and_left true false h e = absurd (cc h)
+and_left false b h e = absurd (cc e)
 
 rests : (code : List ℕ) (session : ℕ) (bases : List ℕ) (calls : Bool) (p : ℕ) (e : Entry) (d : ℕ) → depth_in code session bases calls p e ≡ Ok d → Rests code session bases calls p e d
 rests code session bases calls p e d h =
     let base = base_in bases (routine_of e.routine) in
-    let plain = plain_at session e.height (decoded code p) in
+    let plain = plain_at session e.height (instruction_at code p) in
     let f = fine (nat_lt 512 (session + base + e.height)) (calls && not plain) (record { place = p; cause = Deep }) (record { place = p; cause = Wild }) (base + e.height) d h in
     record {
       room = ltb-false 512 (session + base + e.height) f.shallow;
-      plain = and-left calls plain f.plain;
+      plain = and_left calls plain f.plain;
       depth = f.depth;
     }
 
@@ -92,17 +92,17 @@ pub record Passes (code : List ℕ) (session : ℕ) (t : List (Option Entry)) (b
   pub some : (f : Fact) × Reached code f × (most ≡ base_in bases f.routine + f.height)
 
 -- the pass begins with the first fact
-pub passes-none : (code : List ℕ) (session : ℕ) (t : List (Option Entry)) (bases : List ℕ) (calls : Bool) → Passes code session t bases calls 0 0
-passes-none code session t bases calls =
+pub passes_none : (code : List ℕ) (session : ℕ) (t : List (Option Entry)) (bases : List ℕ) (calls : Bool) → Passes code session t bases calls 0 0
+passes_none code session t bases calls =
     record {
       each = λ p below e there. absurd (omega arith);
       some = (fact Main 0 0, Reached.begins, omega arith);
     }
 
 -- a place without an entry
-pub passes-skip : (code : List ℕ) (session : ℕ) (t : List (Option Entry)) (bases : List ℕ) (calls : Bool) (n most : ℕ) → (HasFactAt t n → ⊥)
+pub passes_skip : (code : List ℕ) (session : ℕ) (t : List (Option Entry)) (bases : List ℕ) (calls : Bool) (n most : ℕ) → (HasFactAt t n → ⊥)
     → Passes code session t bases calls n most → Passes code session t bases calls (n + 1) most
-passes-skip code session t bases calls n most none passes =
+passes_skip code session t bases calls n most none passes =
     let Each : ℕ → Type 0 = λ p. (e : Entry) → slice_get t p ≡ Some (Some e) → (d : ℕ) × (depth_in code session bases calls p e ≡ Ok d) × (d ≤ most) in
     record {
       each = below_more Each n passes.each (λ e there. absurd (none (e, there)));
@@ -115,19 +115,19 @@ record IsGreater (a b m : ℕ) : Type 0 where
   second : b ≤ m
   one : (m ≡ a) ⊎ (m ≡ b)
 
-by-tests : (a b : ℕ) (lt eq : Bool) → nat_lt b a ≡ lt → IsGreater a b (cond (is_lt (cond lt Less (cond eq Equal Greater))) a b)
-by-tests a b true eq h = record { first = omega arith; second = omega (arith, ltb-true b a h); one = inl refl }
-by-tests a b false true h = record { first = omega (arith, ltb-false b a h); second = omega arith; one = inr refl }
-by-tests a b false false h = record { first = omega (arith, ltb-false b a h); second = omega arith; one = inr refl }
+by_tests : (a b : ℕ) (lt eq : Bool) → nat_lt b a ≡ lt → IsGreater a b (cond (is_lt (cond lt Less (cond eq Equal Greater))) a b)
+by_tests a b true eq h = record { first = omega arith; second = omega (arith, ltb-true b a h); one = inl refl }
+by_tests a b false true h = record { first = omega (arith, ltb-false b a h); second = omega arith; one = inr refl }
+by_tests a b false false h = record { first = omega (arith, ltb-false b a h); second = omega arith; one = inr refl }
 
 greater : (a b : ℕ) → IsGreater a b (ord_max nat_cmp a b)
-greater a b = by-tests a b (nat_lt b a) (b == a) refl
+greater a b = by_tests a b (nat_lt b a) (b == a) refl
 
 -- a place with an entry that is fine
-pub passes-more : (code : List ℕ) (session : ℕ) (t : List (Option Entry)) (bases : List ℕ) (calls : Bool) (n most : ℕ) (e : Entry) (d : ℕ)
+pub passes_more : (code : List ℕ) (session : ℕ) (t : List (Option Entry)) (bases : List ℕ) (calls : Bool) (n most : ℕ) (e : Entry) (d : ℕ)
     → slice_get t n ≡ Some (Some e) → depth_in code session bases calls n e ≡ Ok d → Reached code (fact_of n e)
     → Passes code session t bases calls n most → Passes code session t bases calls (n + 1) (ord_max nat_cmp most d)
-passes-more code session t bases calls n most e d there depth reached passes =
+passes_more code session t bases calls n most e d there depth reached passes =
     let m = ord_max nat_cmp most d in
     let g : IsGreater most d m = greater most d in
     let Each : ℕ → Type 0 = λ p. (o : Entry) → slice_get t p ≡ Some (Some o) → (k : ℕ) × (depth_in code session bases calls p o ≡ Ok k) × (k ≤ m) in
@@ -149,20 +149,20 @@ passes-more code session t bases calls n most e d there depth reached passes =
 -- ---- the end
 
 -- the code has a call where one is kept
-told-true : (code : List ℕ) (t : List (Option Entry)) (calls : Bool) → MatchBool calls (HasCall code t) (HasNoCall code t (length t))
-    → (p : ℕ) → HasFactAt t p → calls_at (decoded code p) ≡ true → calls ≡ true
-told-true code t true told p kept called = refl
-told-true code t false told p kept called = absurd (cc (told p (kept-inside t p kept) kept, called))
+told_true : (code : List ℕ) (t : List (Option Entry)) (calls : Bool) → MatchBool calls (HasCall code t) (HasNoCall code t (length t))
+    → (p : ℕ) → HasFactAt t p → calls_at (instruction_at code p) ≡ true → calls ≡ true
+told_true code t true told p kept called = refl
+told_true code t false told p kept called = absurd (cc (told p (kept_inside t p kept) kept, called))
 
 -- where it has one, some entry is a call
-told-call : (code : List ℕ) (t : List (Option Entry)) (calls : Bool) → MatchBool calls (HasCall code t) (HasNoCall code t (length t)) → calls ≡ true → HasCall code t
-told-call code t true told h = told
-told-call code t false told h = absurd (cc h)
+told_call : (code : List ℕ) (t : List (Option Entry)) (calls : Bool) → MatchBool calls (HasCall code t) (HasNoCall code t (length t)) → calls ≡ true → HasCall code t
+told_call code t true told h = told
+told_call code t false told h = absurd (cc h)
 
-and-both : (a b : Bool) → (a && not b) ≡ true → (a ≡ true) × (b ≡ false)
-and-both true true h = absurd (cc h)
-and-both true false h = (refl, refl)
-and-both false b h = absurd (cc h)
+and_both : (a b : Bool) → (a && not b) ≡ true → (a ≡ true) × (b ≡ false)
+and_both true true h = absurd (cc h)
+and_both true false h = (refl, refl)
+and_both false b h = absurd (cc h)
 
 -- what the pass knows before it begins
 pub record Known (code : List ℕ) (t : List (Option Entry)) (bases : List ℕ) (calls : Bool) : Type 0 where
@@ -177,21 +177,21 @@ module _ (code : List ℕ) (session : ℕ) (t : List (Option Entry)) (bases : Li
       let g = (known.whole.sound f (known.whole.all f reached)).1 in
       (g.0, g.1, good-alone code f g.0 g.1 g.2)
 
-  no-holds : (f : Fact) (P : Ins → ℕ → Type 0) → Reached code f → ((i : Ins) (next : ℕ) → GoodAlone code f i next → P i next → ⊥) → HoldsAtFact code f P → ⊥
-  no-holds f P reached not-there h =
+  no_holds : (f : Fact) (P : Ins → ℕ → Type 0) → Reached code f → ((i : Ins) (next : ℕ) → GoodAlone code f i next → P i next → ⊥) → HoldsAtFact code f P → ⊥
+  no_holds f P reached not-there h =
       let g = good f reached in
-      let ins = same_ins (decoded code f.place) h.0 g.0 h.1 g.1 h.2 g.2.there in
-      let next = same-next (decoded code f.place) h.0 g.0 h.1 g.1 h.2 g.2.there in
+      let ins = same_ins (instruction_at code f.place) h.0 g.0 h.1 g.1 h.2 g.2.there in
+      let next = same_next (instruction_at code f.place) h.0 g.0 h.1 g.1 h.2 g.2.there in
       not-there g.0 g.1 g.2 (subst (λ (n : ℕ). P g.0 n) next (subst (λ (i : Ins). P i h.1) ins h.3))
 
-  no-undefined : (f : Fact) → Reached code f → decoded code f.place ≡ Err fault.Undefined → ⊥
-  no-undefined f reached h = let g = good f reached in cc (h, g.2.there)
+  no_undefined : (f : Fact) → Reached code f → instruction_at code f.place ≡ Err fault.Undefined → ⊥
+  no_undefined f reached h = let g = good f reached in cc (h, g.2.there)
 
-  no-past : (f : Fact) → Reached code f → decoded code f.place ≡ Err fault.Past → ⊥
-  no-past f reached h = let g = good f reached in cc (h, g.2.there)
+  no_past : (f : Fact) → Reached code f → instruction_at code f.place ≡ Err fault.Past → ⊥
+  no_past f reached h = let g = good f reached in cc (h, g.2.there)
 
-  no-shared : (f : Fact) → Reached code f → SharesPlace code f → ⊥
-  no-shared f reached shares =
+  no_shared : (f : Fact) → Reached code f → SharesPlace code f → ⊥
+  no_shared f reached shares =
       let mine = known.whole.all f reached in
       let other = known.whole.all shares.other shares.reached in
       let there : slice_get t f.place ≡ Some (Some other.0) = subst (λ (p : ℕ). slice_get t p ≡ Some (Some other.0)) shares.place other.1 in
@@ -199,64 +199,64 @@ module _ (code : List ℕ) (session : ℕ) (t : List (Option Entry)) (bases : Li
       let fact_there : fact_of f.place other.0 ≡ shares.other = subst (λ (p : ℕ). fact_of p other.0 ≡ shares.other) shares.place other.2 in
       shares.differ (sym fact_there ∙ ap (λ (e : Entry). fact_of f.place e) same ∙ mine.2)
 
-  no-recursion : (f : Fact) → Reached code f → ReachesItself code f → ⊥
-  no-recursion f reached r = known.based.sound f reached r
+  no_recursion : (f : Fact) → Reached code f → ReachesItself code f → ⊥
+  no_recursion f reached r = known.based.sound f reached r
 
   -- a caller that is reached is a call of the table
-  calls-told : (caller : Fact) (i : Ins) (next : ℕ) → Reached code caller → decoded code caller.place ≡ Ok (i, next) → is_call i ≡ true → calls ≡ true
-  calls-told caller i next reached stands is =
+  calls_told : (caller : Fact) (i : Ins) (next : ℕ) → Reached code caller → instruction_at code caller.place ≡ Ok (i, next) → is_call i ≡ true → calls ≡ true
+  calls_told caller i next reached stands is =
       let kept = known.whole.all caller reached in
-      let called : calls_at (decoded code caller.place) ≡ true = ap (λ (r : Result (Ins × ℕ) DecodeFault). calls_at r) stands ∙ is in
-      told-true code t calls known.told caller.place (kept.0, kept.1) called
+      let called : calls_at (instruction_at code caller.place) ≡ true = ap (λ (r : Result (Ins × ℕ) DecodeFault). calls_at r) stands ∙ is in
+      told_true code t calls known.told caller.place (kept.0, kept.1) called
 
   -- ---- no entry broke a rule
 
   module _ (most : ℕ) (passes : Passes code session t bases calls (length t) most) where
     -- the entry of a fact, and what its depth says
-    at-fact : (f : Fact) → Reached code f → (e : Entry) × (d : ℕ) × (fact_of f.place e ≡ f) × Rests code session bases calls f.place e d × (d ≤ most)
-    at-fact f reached =
+    at_fact : (f : Fact) → Reached code f → (e : Entry) × (d : ℕ) × (fact_of f.place e ≡ f) × Rests code session bases calls f.place e d × (d ≤ most)
+    at_fact f reached =
         let mine = known.whole.all f reached in
-        let deep = passes.each f.place (kept-inside t f.place (mine.0, mine.1)) mine.0 mine.1 in
+        let deep = passes.each f.place (kept_inside t f.place (mine.0, mine.1)) mine.0 mine.1 in
         (mine.0, deep.0, mine.2, rests code session bases calls f.place mine.0 deep.0 deep.1, deep.2)
 
-    no-wild : (f : Fact) → Reached code f → WritesWild code session f → ⊥
-    no-wild f reached w =
-        let a = at-fact f reached in
-        let called = calls-told w.caller w.call w.calls.0 w.reached w.calls.1 w.is_call in
+    no_wild : (f : Fact) → Reached code f → WritesWild code session f → ⊥
+    no_wild f reached w =
+        let a = at_fact f reached in
+        let called = calls_told w.caller w.call w.calls.0 w.reached w.calls.1 w.is_call in
         let plain : is_plain session a.0.height (writing w.writer) ≡ true =
         sym (ap (λ (r : Result (Ins × ℕ) DecodeFault). plain_at session a.0.height r) w.stands.1) ∙ a.3.plain called in
         let high : is_plain session f.height (writing w.writer) ≡ true = subst (λ (g : Fact). is_plain session g.height (writing w.writer) ≡ true) a.2 plain in
         cc (high, w.wild)
 
     -- the base of a fact and its height are no more than the depth
-    no-deeper : (f : Fact) (b : ℕ) → Reached code f → Depth code f.routine b → (session + b + f.height ≤ 512) × (b + f.height ≤ most)
-    no-deeper f b reached depth =
-        let a = at-fact f reached in
+    no_deeper : (f : Fact) (b : ℕ) → Reached code f → Depth code f.routine b → (session + b + f.height ≤ 512) × (b + f.height ≤ most)
+    no_deeper f b reached depth =
+        let a = at_fact f reached in
         let low = (known.based.each f reached).greatest b depth in
         let base : base_in bases (routine_of a.0.routine) ≡ base_in bases f.routine = ap (λ (g : Fact). base_in bases g.routine) a.2 in
         let height : a.0.height ≡ f.height = ap (λ (g : Fact). g.height) a.2 in
         (omega (arith, low, base, height, a.3.room), omega (arith, low, base, height, a.3.depth, a.4))
 
-    no-deep : (f : Fact) → Reached code f → TooDeep code session f → ⊥
-    no-deep f reached d = absurd (omega (arith, d.deep, (no-deeper f d.base reached d.is_base.reached).0))
+    no_deep : (f : Fact) → Reached code f → TooDeep code session f → ⊥
+    no_deep f reached d = absurd (omega (arith, d.deep, (no_deeper f d.base reached d.is_base.reached).0))
 
     sound : (f : Fact) (cause : CheckCause) → Reached code f → Breaks code session cause f → ⊥
-    sound f Undefined reached b = no-undefined f reached b
-    sound f Past reached b = no-past f reached b
-    sound f Indirect reached b = no-holds f (λ i next. is_indirect i ≡ true) reached (λ i next g h. cc (g.direct, h)) b
+    sound f Undefined reached b = no_undefined f reached b
+    sound f Past reached b = no_past f reached b
+    sound f Indirect reached b = no_holds f (λ i next. is_indirect i ≡ true) reached (λ i next g h. cc (g.direct, h)) b
     sound f Returns reached b = elim b [
-      | inl h ↦ no-holds f (λ i next. (is_main f.routine && is_some (counts i)) ≡ true) reached (λ i next g h. cc (g.stays, h)) h
+      | inl h ↦ no_holds f (λ i next. (is_main f.routine && is_some (counts i)) ≡ true) reached (λ i next g h. cc (g.stays, h)) h
       | inr d ↦ known.whole.returns f reached d
     ]
     sound f Under reached b = elim b [
-      | inl h ↦ no-holds f (λ i next. f.height < need i) reached (λ i next g h. let most = ltb-false f.height (need i) g.enough in absurd (omega (arith, most, h))) h
+      | inl h ↦ no_holds f (λ i next. f.height < need i) reached (λ i next g h. let most = ltb-false f.height (need i) g.enough in absurd (omega (arith, most, h))) h
       | inr takes ↦ known.whole.takes f reached takes
     ]
-    sound f Target reached b = no-holds f (λ i next. places_inside (length code) i next ≡ false) reached (λ i next g h. cc (g.inside, h)) b
+    sound f Target reached b = no_holds f (λ i next. places_inside (length code) i next ≡ false) reached (λ i next g h. cc (g.inside, h)) b
     sound f Recursive reached b = known.based.sound f reached b
-    sound f Heights reached b = no-shared f reached b
-    sound f Wild reached b = no-wild f reached b
-    sound f Deep reached b = no-deep f reached b
+    sound f Heights reached b = no_shared f reached b
+    sound f Wild reached b = no_wild f reached b
+    sound f Deep reached b = no_deep f reached b
 
     pub accepts : Accepts code session most
     accepts =
@@ -265,19 +265,19 @@ module _ (code : List ℕ) (session : ℕ) (t : List (Option Entry)) (bases : Li
           sound = sound;
           deepest = record {
             some = (top.0, base_in bases top.0.routine, top.1, known.based.each top.0 top.1, top.2);
-            greatest = λ f b reached base. (no-deeper f b reached base.reached).1;
+            greatest = λ f b reached base. (no_deeper f b reached base.reached).1;
           };
         }
 
   -- ---- an entry breaks a rule
 
-  never-bad : (f : Fact) → Reached code f → (cause alone : CheckCause) → look code f ≡ Bad alone → cause ≡ alone
-  never-bad f reached cause alone h =
+  never_bad : (f : Fact) → Reached code f → (cause alone : CheckCause) → look code f ≡ Bad alone → cause ≡ alone
+  never_bad f reached cause alone h =
       let g = (known.whole.sound f (known.whole.all f reached)).1 in
       absurd (cc (h, g.2))
 
-  too-deep : (p : ℕ) (e : Entry) → Reached code (fact_of p e) → 512 < session + base_in bases (routine_of e.routine) + e.height → Refuses code session p Deep
-  too-deep p e reached deep =
+  too_deep : (p : ℕ) (e : Entry) → Reached code (fact_of p e) → 512 < session + base_in bases (routine_of e.routine) + e.height → Refuses code session p Deep
+  too_deep p e reached deep =
       record {
         fact = fact_of p e;
         reached = reached;
@@ -288,16 +288,16 @@ module _ (code : List ℕ) (session : ℕ) (t : List (Option Entry)) (bases : Li
           is_base = known.based.each (fact_of p e) reached;
           deep = deep;
         };
-        first = never-bad (fact_of p e) reached Deep;
+        first = never_bad (fact_of p e) reached Deep;
       }
 
-  writes-wild : (p : ℕ) (e : Entry) → Reached code (fact_of p e) → (calls && not (plain_at session e.height (decoded code p))) ≡ true → Refuses code session p Wild
-  writes-wild p e reached test =
-      let both = and-both calls (plain_at session e.height (decoded code p)) test in
-      let caller = told-call code t calls known.told both.0 in
+  writes_wild : (p : ℕ) (e : Entry) → Reached code (fact_of p e) → (calls && not (plain_at session e.height (instruction_at code p))) ≡ true → Refuses code session p Wild
+  writes_wild p e reached test =
+      let both = and_both calls (plain_at session e.height (instruction_at code p)) test in
+      let caller = told_call code t calls known.told both.0 in
       let there = caller.1 in
-      let call = call-of (decoded code caller.0) caller.2 in
-      let writer = wild-of session e.height (decoded code p) both.1 in
+      let call = call_of (instruction_at code caller.0) caller.2 in
+      let writer = wild_of session e.height (instruction_at code p) both.1 in
       record {
         fact = fact_of p e;
         reached = reached;
@@ -312,30 +312,30 @@ module _ (code : List ℕ) (session : ℕ) (t : List (Option Entry)) (bases : Li
           stands = (writer.1, writer.2);
           wild = writer.3;
         };
-        first = never-bad (fact_of p e) reached Wild;
+        first = never_bad (fact_of p e) reached Wild;
       }
 
-  begins-within : (r : Routine) → RoutineEntered code r → BeginsWithin (length bases) r
-  begins-within Main h = tt
-  begins-within (At q) h =
+  begins_within : (r : Routine) → RoutineEntered code r → BeginsWithin (length bases) r
+  begins_within Main h = tt
+  begins_within (At q) h =
       let kept = known.whole.all (fact (At q) q 0) h in
-      let inside = kept-inside t q (kept.0, kept.1) in
+      let inside = kept_inside t q (kept.0, kept.1) in
       omega (arith, inside, known.whole.size, known.based.size)
 
   -- an entry stands for a reached fact
-  pub entry-reached : (p : ℕ) (e : Entry) → slice_get t p ≡ Some (Some e) → Reached code (fact_of p e)
-  entry-reached p e there = (known.whole.sound (fact_of p e) (e, there, refl)).0
+  pub entry_reached : (p : ℕ) (e : Entry) → slice_get t p ≡ Some (Some e) → Reached code (fact_of p e)
+  entry_reached p e there = (known.whole.sound (fact_of p e) (e, there, refl)).0
 
   pub refuses : (p : ℕ) (e : Entry) (r : Refusal) → slice_get t p ≡ Some (Some e) → depth_in code session bases calls p e ≡ Err r → IsRefusalOf code session r
   refuses p e r there depth =
-      let reached = entry-reached p e there in
+      let reached = entry_reached p e there in
       let base = base_in bases (routine_of e.routine) in
-      let wild = calls && not (plain_at session e.height (decoded code p)) in
+      let wild = calls && not (plain_at session e.height (instruction_at code p)) in
       elim (broken (nat_lt 512 (session + base + e.height)) wild (record { place = p; cause = Deep }) (record { place = p; cause = Wild }) r (base + e.height) depth) [
-        | inl deep ↦ subst (λ (x : Refusal). IsRefusalOf code session x) deep.1 (too-deep p e reached (ltb-true 512 (session + base + e.height) deep.0))
-        | inr wrote ↦ subst (λ (x : Refusal). IsRefusalOf code session x) wrote.1 (writes-wild p e reached wrote.0)
+        | inl deep ↦ subst (λ (x : Refusal). IsRefusalOf code session x) deep.1 (too_deep p e reached (ltb-true 512 (session + base + e.height) deep.0))
+        | inr wrote ↦ subst (λ (x : Refusal). IsRefusalOf code session x) wrote.1 (writes_wild p e reached wrote.0)
       ]
 
   -- the routine of an entry begins in the code
-  pub entry-begins : (p : ℕ) (e : Entry) → slice_get t p ≡ Some (Some e) → BeginsWithin (length bases) (routine_of e.routine)
-  entry-begins p e there = begins-within (routine_of e.routine) (entered (entry-reached p e there))
+  pub entry_begins : (p : ℕ) (e : Entry) → slice_get t p ≡ Some (Some e) → BeginsWithin (length bases) (routine_of e.routine)
+  entry_begins p e there = begins_within (routine_of e.routine) (entered (entry_reached p e there))

@@ -8,22 +8,22 @@ use Rattle.mc_check.specs.declared.table.Entry.{Entry}
 use Rattle.mc_check.specs.Judging.{HasFactAt}
 
 -- an entry that a read gives stands in the table
-pub read-kept : (t : List (Option Entry)) (p : ℕ) (e : Entry) → p < length t → get_or t p None ≡ Some e → slice_get t p ≡ Some (Some e)
-read-kept t p e inside read = slice_get-get_or t p None inside ∙ ap (λ (o : Option Entry). Some o) read
+pub read_kept : (t : List (Option Entry)) (p : ℕ) (e : Entry) → p < length t → get_or t p None ≡ Some e → slice_get t p ≡ Some (Some e)
+read_kept t p e inside read = slice_get-get_or t p None inside ∙ ap (λ (o : Option Entry). Some o) read
 
-some-of : (o : Option Entry) → is_some o ≡ true → (e : Entry) × (o ≡ Some e)
-some-of None h = absurd (cc h)
-some-of (Some e) h = (e, refl)
+some_of : (o : Option Entry) → is_some o ≡ true → (e : Entry) × (o ≡ Some e)
+some_of None h = absurd (cc h)
+some_of (Some e) h = (e, refl)
 
 -- where a read gives something, an entry is kept
-pub some-kept : (t : List (Option Entry)) (p : ℕ) → p < length t → is_some (get_or t p None) ≡ true → HasFactAt t p
-some-kept t p inside h =
-    let found = some-of (get_or t p None) h in
-    (found.0, read-kept t p found.0 inside found.1)
+pub some_kept : (t : List (Option Entry)) (p : ℕ) → p < length t → is_some (get_or t p None) ≡ true → HasFactAt t p
+some_kept t p inside h =
+    let found = some_of (get_or t p None) h in
+    (found.0, read_kept t p found.0 inside found.1)
 
 -- and where it gives nothing, none is
-pub none-kept : (t : List (Option Entry)) (p : ℕ) → is_some (get_or t p None) ≡ false → HasFactAt t p → ⊥
-none-kept t p h kept =
+pub none_kept : (t : List (Option Entry)) (p : ℕ) → is_some (get_or t p None) ≡ false → HasFactAt t p → ⊥
+none_kept t p h kept =
     let read = get_or_from_slice_get t p (Some kept.0) None kept.1 in
     cc (h, ap (λ (o : Option Entry). is_some o) read)
 
@@ -32,5 +32,5 @@ pub unread : (t : List (Option Entry)) (p : ℕ) → ((e : Entry) → get_or t p
 unread t p none kept = none kept.0 (get_or_from_slice_get t p (Some kept.0) None kept.1)
 
 -- a place with an entry is one of the table's
-pub kept-inside : (t : List (Option Entry)) (p : ℕ) → HasFactAt t p → p < length t
-kept-inside t p kept = elim (dec_lt p (length t)) [ yes inside ↦ inside | no outside ↦ absurd (cc (kept.1, slice_get_past t p (omega (arith, outside)))) ]
+pub kept_inside : (t : List (Option Entry)) (p : ℕ) → HasFactAt t p → p < length t
+kept_inside t p kept = elim (dec_lt p (length t)) [ yes inside ↦ inside | no outside ↦ absurd (cc (kept.1, slice_get_past t p (omega (arith, outside)))) ]

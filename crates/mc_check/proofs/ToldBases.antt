@@ -12,7 +12,7 @@ use Rattle.mc_check.specs.declared.bases.Progress.TheVariants as progress
 use Rattle.mc_check.specs.declared.bases.Answer.TheVariants as answer
 use Rattle.mc_check.specs.CallList.{ListsCall, AreClosed, DepthIn, IsBaseIn}
 use Rattle.mc_check.specs.CallList as list
-use Rattle.mc_check.specs.Searching.{told_by, told_of, CallTells, AreAtMost, Answers, AreBelow}
+use Rattle.mc_check.specs.Searching.{answer_by_progress, answer_to_owner, CallTells, AreAtMost, Answers, AreBelow}
 
 -- ---- one call
 
@@ -21,13 +21,13 @@ pub record ToldUnseen (states : List Progress) (o : Owner) (p : ℕ) : Type 0 wh
   pub by : o ≡ owner.At p
   pub none : (x : Progress) → slice_get states p ≡ Some x → x ≡ progress.Unseen
 
-unseen_by : (c : Call) (r p : ℕ) (o : Option Progress) → told_by c r o ≡ answer.Unseen p → (r ≡ p) × ((x : Progress) → o ≡ Some x → x ≡ progress.Unseen)
+unseen_by : (c : Call) (r p : ℕ) (o : Option Progress) → answer_by_progress c r o ≡ answer.Unseen p → (r ≡ p) × ((x : Progress) → o ≡ Some x → x ≡ progress.Unseen)
 unseen_by c r p None e = (cc, λ x is. cc)
 unseen_by c r p (Some progress.Unseen) e = (cc, λ x is. cc)
 unseen_by c r p (Some progress.Open) e = cc
 unseen_by c r p (Some (progress.Done b)) e = cc
 
-pub told_unseen : (states : List Progress) (c : Call) (p : ℕ) (o : Owner) → told_of states c o ≡ answer.Unseen p → ToldUnseen states o p
+pub told_unseen : (states : List Progress) (c : Call) (p : ℕ) (o : Owner) → answer_to_owner states c o ≡ answer.Unseen p → ToldUnseen states o p
 told_unseen states c p owner.Main e = cc
 told_unseen states c p (owner.At r) e =
     let both = unseen_by c r p (slice_get states r) e in
@@ -40,13 +40,13 @@ pub record ToldOpen (states : List Progress) (c : Call) (o : Owner) (place : ℕ
   pub open_there : slice_get states routine ≡ Some progress.Open
   pub at : c.place ≡ place
 
-open_by : (c : Call) (r p : ℕ) (o : Option Progress) → told_by c r o ≡ answer.Open p → (o ≡ Some progress.Open) × (c.place ≡ p)
+open_by : (c : Call) (r p : ℕ) (o : Option Progress) → answer_by_progress c r o ≡ answer.Open p → (o ≡ Some progress.Open) × (c.place ≡ p)
 open_by c r p None e = cc
 open_by c r p (Some progress.Unseen) e = cc
 open_by c r p (Some progress.Open) e = (refl, cc)
 open_by c r p (Some (progress.Done b)) e = cc
 
-pub told_open : (states : List Progress) (c : Call) (p : ℕ) (o : Owner) → told_of states c o ≡ answer.Open p → ToldOpen states c o p
+pub told_open : (states : List Progress) (c : Call) (p : ℕ) (o : Owner) → answer_to_owner states c o ≡ answer.Open p → ToldOpen states c o p
 told_open states c p owner.Main e = cc
 told_open states c p (owner.At r) e =
     let both = open_by c r p (slice_get states r) e in
@@ -57,13 +57,13 @@ pub data ToldBase (states : List Progress) (c : Call) (o : Owner) (b : ℕ) : Ty
   by_main : o ≡ owner.Main → c.height + 4 ≡ b → ToldBase states c o b
   by_done : (r d : ℕ) → o ≡ owner.At r → slice_get states r ≡ Some (progress.Done d) → d + c.height + 4 ≡ b → ToldBase states c o b
 
-base_by : (c : Call) (r b : ℕ) (o : Option Progress) → told_by c r o ≡ answer.Base b → (d : ℕ) × (o ≡ Some (progress.Done d)) × (d + c.height + 4 ≡ b)
+base_by : (c : Call) (r b : ℕ) (o : Option Progress) → answer_by_progress c r o ≡ answer.Base b → (d : ℕ) × (o ≡ Some (progress.Done d)) × (d + c.height + 4 ≡ b)
 base_by c r b None e = cc
 base_by c r b (Some progress.Unseen) e = cc
 base_by c r b (Some progress.Open) e = cc
 base_by c r b (Some (progress.Done d)) e = (d, refl, cc)
 
-pub told_base : (states : List Progress) (c : Call) (b : ℕ) (o : Owner) → told_of states c o ≡ answer.Base b → ToldBase states c o b
+pub told_base : (states : List Progress) (c : Call) (b : ℕ) (o : Owner) → answer_to_owner states c o ≡ answer.Base b → ToldBase states c o b
 told_base states c b owner.Main e = by_main refl (cc)
 told_base states c b (owner.At r) e =
     let done = base_by c r b (slice_get states r) e in

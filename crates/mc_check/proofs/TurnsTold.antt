@@ -3,15 +3,15 @@ use Rattle.std.proofs.Common.{◌≡◌, ℕ, zero, suc, Bool, true, false, List
 use Rattle.std.proofs.lemmas.List.{map-append, append-nil}
 use Rattle.mc_model_machine.specs.Apdu.{ApduParts}
 use Rattle.mc_model_device.specs.Card.{Card}
-use Rattle.mc_model_machine.specs.Chain.{Chain, Turn, Acted, Ran, Follows, Continues, Ends, acted, chain_session, ran, ran_on, start as begun}
+use Rattle.mc_model_machine.specs.Chain.{Chain, Turn, Acted, Ran, Follows, Continues, Ends, turn_of_chain, chain_session, run_of_chain, run_after_turn, start as begun}
 use Rattle.mc_model_card.specs.Items.{card_done}
 use Rattle.mc_model_card.specs.Manager.{Selected, Seat, Route, WrongLength, WrongClass, ToSelect, ToManager, ToApplication, Managed, Declines, Accepts, select, manage, room_on, route}
 use Rattle.mc_model_play.specs.DeckGrammar.{DeckLine}
 use Rattle.mc_model_play.specs.DeckGrammar as line
 use Rattle.mc_model_play.specs.Laws.{bytes_of}
-use Rattle.mc_model_play.specs.Play.{WornAt, Live, Running, Unpowered, Muted, Warm, State, Cold, Hot, Step, Armed, is_done, send, sent_on, line_command, card_line, hot_step, cold_step, step, select_bytes, delete_bytes}
+use Rattle.mc_model_play.specs.Play.{WornAt, Live, Running, Unpowered, Muted, Warm, State, Cold, Hot, Step, Armed, is_done, send, command_with_rest, line_command, card_line, hot_step, cold_step, step, select_bytes, delete_bytes}
 use Rattle.mc_model_device.specs.PowerUp.{Base, OnCard, AtFault}
-use Rattle.mc_model_card.specs.Commands.{Command, command, managed, passed, by_route}
+use Rattle.mc_model_card.specs.Commands.{Command, command, manager_command, application_command, by_route}
 use Rattle.mc_model_play.proofs.PlayLemmas.{step_is}
 use Rattle.mc_check.specs.Turns.{turns_on, turns_from, turns_passed, turns_routed, turns_behind, turns_sent, turns_taken, turns_in, turns_with, bare}
 
@@ -20,22 +20,22 @@ use Rattle.mc_check.specs.Turns.{turns_on, turns_from, turns_passed, turns_route
 bare_append : (xs ys : List (Chain × Turn)) → bare (xs ++ ys) ≡ bare xs ++ bare ys
 bare_append xs ys = map-append (λ (t : Chain × Turn). t.1) xs ys
 
-on_told : (ch : Chain) (t : Acted) (session : List ℕ) (f : Follows) (rest : Chain → List (Chain × Turn)) (run : Chain → Ran) → ((c : Chain) → bare (rest c) ≡ (run c).turns) → bare ((ch, t.turn) ∷ turns_on f rest) ≡ (ran_on t session f run).turns
+on_told : (ch : Chain) (t : Acted) (session : List ℕ) (f : Follows) (rest : Chain → List (Chain × Turn)) (run : Chain → Ran) → ((c : Chain) → bare (rest c) ≡ (run c).turns) → bare ((ch, t.turn) ∷ turns_on f rest) ≡ (run_after_turn t session f run).turns
 on_told ch t session (Ends o) rest run h = refl
 on_told ch t session (Continues c) rest run h = ap (λ (ts : List Turn). t.turn ∷ ts) (h c)
 
-run_told : (n : ℕ) (ch : Chain) → bare (turns_from n ch) ≡ (ran n ch).turns
-unfolding turns_from ran
+run_told : (n : ℕ) (ch : Chain) → bare (turns_from n ch) ≡ (run_of_chain n ch).turns
+unfolding turns_from run_of_chain
 run_told zero ch = refl
-run_told (suc n) ch = on_told ch (acted ch) (chain_session ch) (acted ch).follows (λ c. turns_from n c) (λ c. ran n c) (λ c. run_told n c)
+run_told (suc n) ch = on_told ch (turn_of_chain ch) (chain_session ch) (turn_of_chain ch).follows (λ c. turns_from n c) (λ c. run_of_chain n c) (λ c. run_told n c)
 
 -- ---- commands
 
-passed_told : (c : Card) (seat : Seat) (budget : ℕ) (o : Option Selected) (a : ApduParts) → bare (turns_passed c.apps budget o a) ≡ (passed c seat o a budget).turns
+passed_told : (c : Card) (seat : Seat) (budget : ℕ) (o : Option Selected) (a : ApduParts) → bare (turns_passed c.apps budget o a) ≡ (application_command c seat o a budget).turns
 passed_told c seat budget None a = refl
 passed_told c seat budget (Some s) a = run_told budget (begun c.apps s.name s.session a)
 
-managed_told : (c : Card) (seat : Seat) (m : Managed) → [] ≡ (managed c seat m).turns
+managed_told : (c : Card) (seat : Seat) (m : Managed) → [] ≡ (manager_command c seat m).turns
 managed_told c seat (Declines sw) = refl
 managed_told c seat (Accepts a) = refl
 
@@ -51,7 +51,7 @@ unfolding command
 command_told c seat budget b = routed_told c seat budget (route b)
 
 -- a command, and those behind it
-both_told : (d : Bool) (r rest : Command) (xs ys : List (Chain × Turn)) → bare xs ≡ r.turns → bare ys ≡ rest.turns → bare (xs ++ turns_behind d ys) ≡ (sent_on d r rest).turns
+both_told : (d : Bool) (r rest : Command) (xs ys : List (Chain × Turn)) → bare xs ≡ r.turns → bare ys ≡ rest.turns → bare (xs ++ turns_behind d ys) ≡ (command_with_rest d r rest).turns
 both_told true r rest xs ys h k = bare_append xs ys ∙ ap (λ (ts : List Turn). ts ++ bare ys) h ∙ ap (λ (ts : List Turn). r.turns ++ ts) k
 both_told false r rest xs ys h k = ap bare (append-nil xs) ∙ h
 

@@ -45,8 +45,8 @@ free (None ∷ t) = free t + 1
 free (Some e ∷ t) = free t
 
 -- what is left to do at most: each free place may get a fact, and then that fact is followed
-abbrev pub left : Tables → ℕ
-left s = 2 * free s.table + length s.work
+abbrev pub remaining_work : Tables → ℕ
+remaining_work s = 2 * free s.table + length s.work
 
 -- a routine returns with these counts
 pub record IsReal (code : List ℕ) (routine : ℕ) (c : Pair) : Type 0 where
@@ -108,4 +108,4 @@ pub record AddsFacts (old new : Tables) : Type 0 where
   pub counts : new.counts ≡ old.counts
   pub waiting : (place : ℕ) → IsAmong old.work place → IsAmong new.work place
   pub fresh : (f : Fact) → IsIn new.table f → IsIn old.table f ⊎ IsAmong new.work f.place
-  pub left : left new ≤ left old
+  pub left : remaining_work new ≤ remaining_work old

@@ -3,7 +3,7 @@ use Rattle.std.specs.Prelude.{ℕ, ◌≡◌, ◌+◌, ◌<◌, Bool, true, fals
 use Rattle.mc_model_machine.specs.declared.checker.CheckCause.TheVariants.{Deep, Wild}
 use Rattle.mc_model_machine.specs.declared.instruction.DecodeFault.{DecodeFault}
 use Rattle.mc_model_machine.specs.declared.instruction.Ins.{Ins}
-use Rattle.mc_model_machine.specs.Code.{decoded}
+use Rattle.mc_model_machine.specs.Code.{instruction_at}
 use Rattle.mc_model_machine.specs.StackRows.{is_call, is_plain, writing}
 use Rattle.mc_model_machine.specs.StackShape.{Routine, Main, At}
 use Rattle.mc_check.specs.declared.table.Entry.{Entry}
@@ -36,8 +36,8 @@ HasFactAt t p = (e : Entry) × (slice_get t p ≡ Some (Some e))
 
 -- a call stands at a place of the table
 abbrev pub HasCall : List ℕ → List (Option Entry) → Type 0
-HasCall code t = (p : ℕ) × HasFactAt t p × (calls_at (decoded code p) ≡ true)
+HasCall code t = (p : ℕ) × HasFactAt t p × (calls_at (instruction_at code p) ≡ true)
 
 -- none stands at any of its places before the n-th
 abbrev pub HasNoCall : List ℕ → List (Option Entry) → ℕ → Type 0
-HasNoCall code t n = (p : ℕ) → p < n → HasFactAt t p → calls_at (decoded code p) ≡ false
+HasNoCall code t n = (p : ℕ) → p < n → HasFactAt t p → calls_at (instruction_at code p) ≡ false

@@ -13,20 +13,20 @@ use Rattle.mc_check.specs.declared.bases.Answer.TheVariants as answer
 -- ---- what callers tell
 
 -- what a caller at a place tells of the base that its call gives
-abbrev pub told_by : Call → ℕ → Option Progress → Answer
-told_by c p None = answer.Unseen p
-told_by c p (Some progress.Unseen) = answer.Unseen p
-told_by c p (Some progress.Open) = answer.Open c.place
-told_by c p (Some (progress.Done b)) = answer.Base (b + c.height + 4)
+abbrev pub answer_by_progress : Call → ℕ → Option Progress → Answer
+answer_by_progress c p None = answer.Unseen p
+answer_by_progress c p (Some progress.Unseen) = answer.Unseen p
+answer_by_progress c p (Some progress.Open) = answer.Open c.place
+answer_by_progress c p (Some (progress.Done b)) = answer.Base (b + c.height + 4)
 
 -- the same of any caller
-abbrev pub told_of : List Progress → Call → Owner → Answer
-told_of states c owner.Main = answer.Base (c.height + 4)
-told_of states c (owner.At p) = told_by c p (slice_get states p)
+abbrev pub answer_to_owner : List Progress → Call → Owner → Answer
+answer_to_owner states c owner.Main = answer.Base (c.height + 4)
+answer_to_owner states c (owner.At p) = answer_by_progress c p (slice_get states p)
 
 -- what a call tells of the base of its target
-abbrev pub told : List Progress → Call → Answer
-told states c = told_of states c c.caller
+abbrev pub answer_of_call : List Progress → Call → Answer
+answer_of_call states c = answer_to_owner states c c.caller
 
 -- a call of the routine at q tells this
 pub record CallTells (states : List Progress) (calls : List Call) (q : ℕ) (a : Answer) : Type 0 where
@@ -34,12 +34,12 @@ pub record CallTells (states : List Progress) (calls : List Call) (q : ℕ) (a :
   pub call : Call
   pub there : slice_get calls at ≡ Some call
   pub target : call.target ≡ q
-  pub tells : told states call ≡ a
+  pub tells : answer_of_call states call ≡ a
 
 -- each call of the routine at q, among so many, tells a base that is at most this one
 abbrev pub AreAtMost : List Progress → List Call → ℕ → ℕ → ℕ → Type 0
 AreAtMost states calls q n b =
-    (k : ℕ) (c : Call) → k < n → slice_get calls k ≡ Some c → c.target ≡ q → (d : ℕ) × (told states c ≡ answer.Base d) × (d ≤ b)
+    (k : ℕ) (c : Call) → k < n → slice_get calls k ≡ Some c → c.target ≡ q → (d : ℕ) × (answer_of_call states c ≡ answer.Base d) × (d ≤ b)
 
 -- the greatest base that the calls of the routine at q tell, or a caller without a base
 abbrev pub Answers : List Progress → List Call → ℕ → Answer → Type 0
@@ -56,8 +56,8 @@ is_unseen progress.Open = false
 is_unseen (progress.Done b) = false
 
 -- how many routines were not seen
-abbrev pub unseen : List Progress → ℕ
-unseen states = count_by is_unseen states
+abbrev pub count_of_unseen : List Progress → ℕ
+count_of_unseen states = count_by is_unseen states
 
 -- each base that was found is at most this number
 abbrev pub AreBelow : ℕ → List Progress → Type 0
@@ -84,9 +84,9 @@ pub record Searches (calls : List Call) (states : List Progress) (stack : List �
   pub enters : (i j p q : ℕ) → i ≤ j → slice_get stack i ≡ Some p → slice_get stack j ≡ Some q → EntersIn calls (At q) (At p)
   pub on_stack : (q : ℕ) → slice_get states q ≡ Some progress.Open → (k : ℕ) × (slice_get stack k ≡ Some q)
   pub bases : (q b : ℕ) → slice_get states q ≡ Some (progress.Done b) → IsBaseIn calls q b
-  pub room : unseen states + length stack ≤ length states
-  pub bound : AreBelow (65539 * (length states - unseen states - length stack)) states
+  pub room : count_of_unseen states + length stack ≤ length states
+  pub bound : AreBelow (65539 * (length states - count_of_unseen states - length stack)) states
 
 -- what is left to do
-abbrev pub left : List Progress → List ℕ → ℕ
-left states stack = 2 * unseen states + length stack
+abbrev pub remaining_work : List Progress → List ℕ → ℕ
+remaining_work states stack = 2 * count_of_unseen states + length stack

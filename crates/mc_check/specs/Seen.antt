@@ -32,6 +32,6 @@ cause_of fault.Undefined = Undefined
 cause_of fault.Past = Past
 
 -- what a fact alone shows
-abbrev pub seen_as : Result Seen CheckCause → FactLook
-seen_as (Ok s) = Stands s.ins s.next
-seen_as (Err cause) = Bad cause
+abbrev pub fact_look_of : Result Seen CheckCause → FactLook
+fact_look_of (Ok s) = Stands s.ins s.next
+fact_look_of (Err cause) = Bad cause

@@ -3,7 +3,7 @@ ghost use Rattle.std.specs.Prelude.{◌≡◌, ◌<◌, ◌≤◌, ◌-◌, ◌^
 ghost use Rattle.mc_model_device.specs.Limits.{most_code};
 ghost use Rattle.mc_check.specs.Table.{IsWholeTable, AreBases, IsFaultDue};
 ghost use Rattle.mc_check.specs.CallList.{AreClosed, AreBasesIn, IsCalled, IsRing};
-ghost use Rattle.mc_check.specs.Searching.{told, Answers, AreBelow, IsSeen, StaySeen, Searches, left, base_of};
+ghost use Rattle.mc_check.specs.Searching.{answer_of_call, Answers, AreBelow, IsSeen, StaySeen, Searches, remaining_work, base_of};
 
 use crate::calls::{Call, list_calls};
 use crate::table::{Entry, Fault, Refusal, Routine};
@@ -40,7 +40,7 @@ struct Search {
 fn base_by(progress: &[Progress], call: &Call) -> Answer
     requires caller { (p : ℕ) → call.now.caller ≡ Routine.At p → p < length progress.now }
     requires bound { AreBelow (2 ^ 31) progress.now }
-    ensures { result ≡ told progress.now call.now }
+    ensures { result ≡ answer_of_call progress.now call.now }
 {
     match call.caller {
         Routine::Main => Answer::Base(u32::from(call.height) + 4),
@@ -121,8 +121,8 @@ impl Search {
         ensures len { OnOk result (length self.new.progress.items ≡ length self.old.progress.items) }
         ensures searches { OnOk result (Searches calls.now self.new.progress.items self.new.stack.items) }
         ensures seen { OnOk result (StaySeen self.old.progress.items self.new.progress.items) }
-        ensures nearer { OnOk result (left self.new.progress.items self.new.stack.items
-            < left self.old.progress.items self.old.stack.items) }
+        ensures nearer { OnOk result (remaining_work self.new.progress.items self.new.stack.items
+            < remaining_work self.old.progress.items self.old.stack.items) }
         ensures ring { IfErr result (IsRing calls.now) }
     {
         match base_of(self.progress.as_slice(), calls, routine) {

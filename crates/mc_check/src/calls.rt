@@ -1,7 +1,7 @@
 // The calls between the routines of code.
 ghost use Rattle.std.specs.Prelude.{◌≡◌, ◌≤◌, length, option_map, IfSome, IfOk};
 ghost use Rattle.mc_model_device.specs.Limits.{most_code};
-ghost use Rattle.mc_model_machine.specs.Code.{decoded};
+ghost use Rattle.mc_model_machine.specs.Code.{instruction_at};
 ghost use Rattle.mc_check.specs.Table.{IsWholeTable};
 ghost use Rattle.mc_check.specs.CallList.{AreCalls, call_of, target_of};
 
@@ -23,7 +23,7 @@ pub struct Call {
 // The routine that is called by the instruction at a place.
 fn called_at(code: &[u8], place: u16) -> Option<u16>
     requires { length code.now ≤ most_code }
-    ensures { result ≡ target_of (decoded code.now place) }
+    ensures { result ≡ target_of (instruction_at code.now place) }
 {
     match decode(code, place) {
         Ok((ins, _)) => call_target(ins),
@@ -34,7 +34,7 @@ fn called_at(code: &[u8], place: u16) -> Option<u16>
 // The call that stands at an entry, if one does.
 fn call_at(code: &[u8], place: u16, entry: Entry) -> Option<Call>
     requires { length code.now ≤ most_code }
-    ensures call { result ≡ option_map (call_of place entry) (target_of (decoded code.now place)) }
+    ensures call { result ≡ option_map (call_of place entry) (target_of (instruction_at code.now place)) }
     ensures height { IfSome result (λ call. call.height ≤ 65535) }
 {
     let target = called_at(code, place)?;

@@ -203,8 +203,8 @@ impl Closing {
         requires returns { shape.counts found.seen.ins ≡ Some (counts.less, counts.more) }
         ensures state { OnOk result (closing.ClosedOrWaiting code.now self.new.work.items
             (closing.tables_of self.new)) }
-        ensures left { OnOk result (closing.left (closing.tables_of self.new)
-            ≤ closing.left (closing.tables_of self.old)) }
+        ensures left { OnOk result (closing.remaining_work (closing.tables_of self.new)
+            ≤ closing.remaining_work (closing.tables_of self.old)) }
         ensures due { IfErr result (λ fault. IsFaultDue code.now fault) }
     {
         let Routine::At(routine) = found.entry.routine else {
@@ -270,8 +270,8 @@ impl Closing {
         requires calls { shape.call_target found.seen.ins ≡ Some routine }
         ensures state { OnOk result (closing.ClosedOrWaiting code.now self.new.work.items
             (closing.tables_of self.new)) }
-        ensures left { OnOk result (closing.left (closing.tables_of self.new)
-            ≤ closing.left (closing.tables_of self.old)) }
+        ensures left { OnOk result (closing.remaining_work (closing.tables_of self.new)
+            ≤ closing.remaining_work (closing.tables_of self.old)) }
         ensures due { IfErr result (λ fault. IsFaultDue code.now fault) }
     {
         let entry = Entry {
@@ -340,8 +340,8 @@ impl Closing {
         requires stays { shape.counts found.seen.ins ≡ None }
         ensures state { OnOk result (closing.ClosedOrWaiting code.now self.new.work.items
             (closing.tables_of self.new)) }
-        ensures left { OnOk result (closing.left (closing.tables_of self.new)
-            ≤ closing.left (closing.tables_of self.old)) }
+        ensures left { OnOk result (closing.remaining_work (closing.tables_of self.new)
+            ≤ closing.remaining_work (closing.tables_of self.old)) }
         ensures due { IfErr result (λ fault. IsFaultDue code.now fault) }
     {
         self.go_on(code, found)?;
@@ -357,8 +357,8 @@ impl Closing {
         requires found { closing.IsFound code.now found }
         ensures state { OnOk result (closing.ClosedOrWaiting code.now self.new.work.items
             (closing.tables_of self.new)) }
-        ensures left { OnOk result (closing.left (closing.tables_of self.new)
-            ≤ closing.left (closing.tables_of self.old)) }
+        ensures left { OnOk result (closing.remaining_work (closing.tables_of self.new)
+            ≤ closing.remaining_work (closing.tables_of self.old)) }
         ensures due { IfErr result (λ fault. IsFaultDue code.now fault) }
     {
         if let Some(counts) = return_counts(found.seen.ins) {
@@ -380,8 +380,8 @@ impl Closing {
         requires state { closing.ClosedOrWaiting code.now (place ∷ self.old.work.items) (closing.tables_of self.old) }
         ensures state { OnOk result (closing.ClosedOrWaiting code.now self.new.work.items
             (closing.tables_of self.new)) }
-        ensures left { OnOk result (closing.left (closing.tables_of self.new)
-            ≤ closing.left (closing.tables_of self.old)) }
+        ensures left { OnOk result (closing.remaining_work (closing.tables_of self.new)
+            ≤ closing.remaining_work (closing.tables_of self.old)) }
         ensures due { IfErr result (λ fault. IsFaultDue code.now fault) }
     {
         match self.table[place as usize] {

@@ -2,7 +2,7 @@
 // touch an open call, and how deep the stack is at most.
 ghost use Rattle.std.specs.Prelude.{◌≡◌, ◌≤◌, ◌<◌, ◌&&◌, not, length, IfOk, IfErr, MatchBool};
 ghost use Rattle.mc_model_device.specs.Limits.{most_code};
-ghost use Rattle.mc_model_machine.specs.Code.{decoded};
+ghost use Rattle.mc_model_machine.specs.Code.{instruction_at};
 ghost use Rattle.mc_model_machine.specs.StackShape.{Accepts};
 ghost use Rattle.mc_check.specs.Judging.{calls_at, plain_at, depth_of, BeginsWithin, HasCall, HasNoCall};
 ghost use Rattle.mc_check.specs.Verdicts.{IsVerdictOf};
@@ -20,7 +20,7 @@ const ROOM: u64 = 512;
 // Whether a call stands at a place of code.
 fn calls(code: &[u8], place: u16) -> bool
     requires { length code.now ≤ most_code }
-    ensures { result ≡ calls_at (decoded code.now place) }
+    ensures { result ≡ calls_at (instruction_at code.now place) }
 {
     match decode(code, place) {
         Ok((ins, _)) => is_call(ins),
@@ -31,7 +31,7 @@ fn calls(code: &[u8], place: u16) -> bool
 // Whether what stands at a place of code writes at no address that is not plain.
 fn writes_plain(code: &[u8], session: u16, place: u16, height: u16) -> bool
     requires { length code.now ≤ most_code }
-    ensures { result ≡ plain_at session height (decoded code.now place) }
+    ensures { result ≡ plain_at session height (instruction_at code.now place) }
 {
     match decode(code, place) {
         Ok((ins, _)) => is_plain(session, height, ins),
@@ -62,7 +62,7 @@ fn depth_at(
 ) -> Result<u16, Refusal>
     requires { length code.now ≤ most_code }
     ensures { result ≡ depth_of session place base height (has_calls
-        && not (plain_at session height (decoded code.now place))) }
+        && not (plain_at session height (instruction_at code.now place))) }
 {
     let depth = u64::from(base) + u64::from(height);
     if u64::from(session) + depth > ROOM {

@@ -4,8 +4,8 @@ ghost use Rattle.mc_model_device.specs.Limits.{most_code};
 ghost use Rattle.mc_model_machine.specs.Code.{Shaped};
 ghost use Rattle.mc_model_machine.specs.Frame as frame;
 ghost use Rattle.mc_model_machine.specs.StackRows as shape;
-ghost use Rattle.mc_model_machine.specs.StackShape.{is_main, look, seen};
-ghost use Rattle.mc_check.specs.Seen.{pair_of, cause_of, seen_as};
+ghost use Rattle.mc_model_machine.specs.StackShape.{is_main, look, fact_look};
+ghost use Rattle.mc_check.specs.Seen.{pair_of, cause_of, fact_look_of};
 ghost use Rattle.mc_check.specs.Table.{fact_of, routine_of};
 
 use crate::table::{Entry, Routine};
@@ -66,7 +66,7 @@ pub fn goes_on(ins: Ins) -> bool
 
 // The place that far from another one, if there is an address there.
 fn moved(next: u16, d: i8) -> Option<u16>
-    ensures { result ≡ frame.moved next d }
+    ensures { result ≡ frame.moved_address next d }
 {
     next.checked_add_signed(i16::from(d))
 }
@@ -162,7 +162,7 @@ fn is_return_in_main(routine: Routine, ins: Ins) -> bool
 
 // The first rule that an instruction is seen to break, where it is reached so in code of so many bytes.
 fn looked_at(len: usize, entry: Entry, ins: Ins, next: u16) -> Result<Seen, CheckCause>
-    ensures seen { seen_as result ≡ seen len (fact_of 0 entry) (Ok (ins, next)) }
+    ensures seen { fact_look_of result ≡ fact_look len (fact_of 0 entry) (Ok (ins, next)) }
     ensures same { IfOk result (λ s. (s.ins ≡ ins) × (s.next ≡ next)) }
 {
     if is_indirect(ins) {
@@ -185,7 +185,7 @@ fn looked_at(len: usize, entry: Entry, ins: Ins, next: u16) -> Result<Seen, Chec
 #[tactic(auto, unfolding(mc_model_machine::specs::StackShape::look))]
 pub fn look(code: &[u8], place: u16, entry: Entry) -> Result<Seen, CheckCause>
     requires high { length code.now ≤ most_code }
-    ensures seen { seen_as result ≡ look code.now (fact_of place entry) }
+    ensures seen { fact_look_of result ≡ look code.now (fact_of place entry) }
     ensures shaped { IfOk result (λ seen. Shaped seen.ins) }
     ensures inside { IfOk result (λ seen. seen.next ≤ most_code) }
 {

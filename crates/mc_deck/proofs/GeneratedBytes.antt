@@ -4,11 +4,11 @@ use Rattle.std.specs.Prelude.{nat_lt, ◌==◌}
 use Rattle.std.specs.List.{AllByRecursion}
 use Rattle.std.proofs.lemmas.Bool.{and_parts, ltb-true}
 use Rattle.mc_model_device.specs.Bytes.{AreBytes, bytes}
-use Rattle.mc_model_machine.specs.Text.{numbered, every}
+use Rattle.mc_model_machine.specs.Text.{with_numbers, every}
 use Rattle.mc_model_play.specs.DeckGrammar.{DeckLine, Power, Load, Select, Delete, Apdu}
-use Rattle.mc_model_play.specs.Generator.{command, next, draw, turns, line_of, opening, closing, cut_line, purse_line, generated, counter, purse, relay, counter_aid, purse_aid, relay_aid}
+use Rattle.mc_model_play.specs.Generator.{command, next, draw, turns, line_of, opening_lines, closing_lines, cut_line, purse_line, deck_of_number, counter, purse, relay, counter_aid, purse_aid, relay_aid}
 use Rattle.mc_model_play.specs.ReadyAgain.{IsLine}
-use Rattle.mc_model_device.proofs.ImageLemmas.{all-append}
+use Rattle.mc_model_device.proofs.ImageLemmas.{all_append}
 
 -- numbers that are all seen to be below 256
 low : (l : List ℕ) → every (λ b. nat_lt b 256) l ≡ true → AreBytes l
@@ -57,13 +57,13 @@ turns_bytes : (k x : ℕ) → AllByRecursion IsLine (turns k x)
 turns_bytes zero x = tt
 turns_bytes (suc k) x = (line_bytes (draw (next x)) (draw (next (next x))), turns_bytes k (next (next x)))
 
-all_numbered : (n : ℕ) (ls : List DeckLine) → AllByRecursion IsLine ls → AllByRecursion (λ (l : ℕ × DeckLine). IsLine l.1) (numbered n ls)
+all_numbered : (n : ℕ) (ls : List DeckLine) → AllByRecursion IsLine ls → AllByRecursion (λ (l : ℕ × DeckLine). IsLine l.1) (with_numbers n ls)
 all_numbered n [] h = tt
 all_numbered n (l ∷ ls) h = (h.0, all_numbered (suc n) ls h.1)
 
-pub generated_bytes : (n : ℕ) → AllByRecursion (λ (l : ℕ × DeckLine). IsLine l.1) (generated n)
-unfolding generated
+pub generated_bytes : (n : ℕ) → AllByRecursion (λ (l : ℕ × DeckLine). IsLine l.1) (deck_of_number n)
+unfolding deck_of_number
 generated_bytes n =
-    let first : AllByRecursion IsLine opening = (tt, (tt, (tt, (tt, (tt, (loads_counter, (loads_purse, (loads_relay, tt)))))))) in
-    let last : AllByRecursion IsLine closing = (tt, (tt, (tt, (tt, tt)))) in
-    all_numbered 1 (opening ++ turns 4000 n ++ closing) (all-append IsLine (opening ++ turns 4000 n) closing (all-append IsLine opening (turns 4000 n) first (turns_bytes 4000 n)) last)
+    let first : AllByRecursion IsLine opening_lines = (tt, (tt, (tt, (tt, (tt, (loads_counter, (loads_purse, (loads_relay, tt)))))))) in
+    let last : AllByRecursion IsLine closing_lines = (tt, (tt, (tt, (tt, tt)))) in
+    all_numbered 1 (opening_lines ++ turns 4000 n ++ closing_lines) (all_append IsLine (opening_lines ++ turns 4000 n) closing_lines (all_append IsLine opening_lines (turns 4000 n) first (turns_bytes 4000 n)) last)

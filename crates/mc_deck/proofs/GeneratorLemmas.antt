@@ -3,17 +3,17 @@ use Rattle.std.proofs.Common.{◌≡◌, ◌==◌, ◌/◌, ℕ, zero, suc, ◌+
 use Rattle.std.specs.Prelude.{nat_lt}
 use Rattle.std.specs.List.{AllByRecursion}
 use Rattle.mc_model_device.specs.Bytes.{bytes, zeros}
-use Rattle.mc_model_machine.specs.Text.{numbered}
+use Rattle.mc_model_machine.specs.Text.{with_numbers}
 use Rattle.mc_model_play.specs.DeckGrammar.{DeckLine, Format, Power, Named, Load, Select, Delete, Dump, Apdu, made_unit}
-use Rattle.mc_model_play.specs.Generator.{command, next, draw, turns, line_of, opening, closing, opening_word, cut_line, purse_line, generated, counter, purse, relay, counter_aid, purse_aid, relay_aid}
+use Rattle.mc_model_play.specs.Generator.{command, next, draw, turns, line_of, opening_lines, closing_lines, opening_word, cut_line, purse_line, deck_of_number, counter, purse, relay, counter_aid, purse_aid, relay_aid}
 use Rattle.mc_unit.proofs.Made.{made_name}
 use Rattle.mc_deck.specs.declared.line.OwnedLine.{OwnedLine}
-use Rattle.mc_deck.specs.Lines.{powered_by, UnitWithin, GoodLine, GoodUnit, Timely, OnTime, AreDeck}
+use Rattle.mc_deck.specs.Lines.{is_powered_after_line, UnitWithin, GoodLine, GoodUnit, Timely, OnTime, AreDeck}
 use Rattle.mc_deck.proofs.ReaderLemmas.{all_more}
 
 -- ---- numbers
 
-numbered_both : (n : ℕ) (xs ys : List DeckLine) → numbered n (xs ++ ys) ≡ numbered n xs ++ numbered (n + length xs) ys
+numbered_both : (n : ℕ) (xs ys : List DeckLine) → with_numbers n (xs ++ ys) ≡ with_numbers n xs ++ with_numbers (n + length xs) ys
 numbered_both n [] ys = let e : n + 0 ≡ n = omega arith in rw e refl
 numbered_both n (x ∷ xs) ys = let e : n + suc (length xs) ≡ suc n + length xs = omega arith in rw e (ap (λ ls. (n, x) ∷ ls) (numbered_both (suc n) xs ys))
 
@@ -22,33 +22,33 @@ turns_len zero x = refl
 turns_len (suc k) x = ap suc (turns_len k (next (next x)))
 
 -- the parts of the generated deck
-pub generated_parts : (n : ℕ) → generated n ≡ (numbered 1 opening ++ numbered 9 (turns 4000 n)) ++ numbered 4009 closing
-unfolding generated
+pub generated_parts : (n : ℕ) → deck_of_number n ≡ (with_numbers 1 opening_lines ++ with_numbers 9 (turns 4000 n)) ++ with_numbers 4009 closing_lines
+unfolding deck_of_number
 generated_parts n =
     let e : 9 + length (turns 4000 n) ≡ 4009 = ap (λ k. 9 + k) (turns_len 4000 n) in
-    numbered_both 1 opening (turns 4000 n ++ closing)
-    ∙ ap (λ ls. numbered 1 opening ++ ls) (numbered_both 9 (turns 4000 n) closing ∙ ap (λ k. numbered 9 (turns 4000 n) ++ numbered k closing) e)
-    ∙ sym (append_assoc (numbered 1 opening) (numbered 9 (turns 4000 n)) (numbered 4009 closing))
+    numbered_both 1 opening_lines (turns 4000 n ++ closing_lines)
+    ∙ ap (λ ls. with_numbers 1 opening_lines ++ ls) (numbered_both 9 (turns 4000 n) closing_lines ∙ ap (λ k. with_numbers 9 (turns 4000 n) ++ with_numbers k closing_lines) e)
+    ∙ sym (append_assoc (with_numbers 1 opening_lines) (with_numbers 9 (turns 4000 n)) (with_numbers 4009 closing_lines))
 
 -- ---- turns
 
-turns_next : (n x : ℕ) → n < 4009 → numbered n (turns (4009 - n) x) ≡ (n, line_of (draw (next x)) (draw (next (next x)))) ∷ numbered (n + 1) (turns (4009 - (n + 1)) (next (next x)))
+turns_next : (n x : ℕ) → n < 4009 → with_numbers n (turns (4009 - n) x) ≡ (n, line_of (draw (next x)) (draw (next (next x)))) ∷ with_numbers (n + 1) (turns (4009 - (n + 1)) (next (next x)))
 turns_next n x h = let e : 4009 - n ≡ suc (4009 - (n + 1)) = omega (arith, h) in rw (e, add-one n) refl
 
 -- one more turn, and the last
 pub turn_more : (so now : List (ℕ × DeckLine)) (n x r q : ℕ) (l : DeckLine) (whole : List (ℕ × DeckLine)) → n < 4009 → now ≡ so ++ (n, l) ∷ [] → r ≡ next x → q ≡ next r → l ≡ line_of (draw r) (draw q)
-    → so ++ numbered n (turns (4009 - n) x) ≡ whole → now ++ numbered (n + 1) (turns (4009 - (n + 1)) q) ≡ whole
+    → so ++ with_numbers n (turns (4009 - n) x) ≡ whole → now ++ with_numbers (n + 1) (turns (4009 - (n + 1)) q) ≡ whole
 turn_more so now n x r q l whole h e f g s w =
-    let left = numbered (n + 1) (turns (4009 - (n + 1)) (next (next x))) in
+    let left = with_numbers (n + 1) (turns (4009 - (n + 1)) (next (next x))) in
     let k : l ≡ line_of (draw (next x)) (draw (next (next x))) = rw (s, g, f) refl in
     let y : q ≡ next (next x) = g ∙ ap next f in
-    ap (λ q. now ++ numbered (n + 1) (turns (4009 - (n + 1)) q)) y ∙ ap (λ t. t ++ left) e ∙ append_assoc so ((n, l) ∷ []) left
+    ap (λ q. now ++ with_numbers (n + 1) (turns (4009 - (n + 1)) q)) y ∙ ap (λ t. t ++ left) e ∙ append_assoc so ((n, l) ∷ []) left
     ∙ ap (λ (k : DeckLine). so ++ ((n, k) ∷ left)) k ∙ ap (λ t. so ++ t) (sym (turns_next n x h)) ∙ w
 
-pub turns_done : (so : List (ℕ × DeckLine)) (n x : ℕ) (whole : List (ℕ × DeckLine)) → 4009 ≤ n → so ++ numbered n (turns (4009 - n) x) ≡ whole → so ≡ whole
+pub turns_done : (so : List (ℕ × DeckLine)) (n x : ℕ) (whole : List (ℕ × DeckLine)) → 4009 ≤ n → so ++ with_numbers n (turns (4009 - n) x) ≡ whole → so ≡ whole
 turns_done so n x whole h w =
     let e : 4009 - n ≡ 0 = omega (arith, h) in
-    sym (append-nil so) ∙ sym (ap (λ k. so ++ numbered n (turns k x)) e) ∙ w
+    sym (append-nil so) ∙ sym (ap (λ k. so ++ with_numbers n (turns k x)) e) ∙ w
 
 -- a line behind others
 pub inside_behind : (ls ks : List (ℕ × OwnedLine)) (n : ℕ) (l : OwnedLine) → ks ≡ ls ++ (n, l) ∷ [] → UnitWithin 3 l → AllByRecursion (λ l. UnitWithin 3 l.1) ls → AllByRecursion (λ (l : ℕ × OwnedLine). UnitWithin 3 l.1) ks
@@ -120,17 +120,17 @@ both_good : (ks ls : List DeckLine) → AllByRecursion GoodTurn ks → AllByRecu
 both_good [] ls g h = h
 both_good (k ∷ ks) ls g h = (g.0, both_good ks ls g.1 h)
 
-good_ranges : (n : ℕ) (ls : List DeckLine) → AllByRecursion GoodTurn ls → AllByRecursion (λ (l : ℕ × DeckLine). GoodLine l.1) (numbered n ls)
+good_ranges : (n : ℕ) (ls : List DeckLine) → AllByRecursion GoodTurn ls → AllByRecursion (λ (l : ℕ × DeckLine). GoodLine l.1) (with_numbers n ls)
 good_ranges n [] g = tt
 good_ranges n (l ∷ ls) g = ((g.0).0, good_ranges (suc n) ls g.1)
 
-good_times : (p : Bool) (n : ℕ) (ls : List DeckLine) → AllByRecursion GoodTurn ls → OnTime p (numbered n ls)
+good_times : (p : Bool) (n : ℕ) (ls : List DeckLine) → AllByRecursion GoodTurn ls → OnTime p (with_numbers n ls)
 good_times p n [] g = tt
-good_times p n (l ∷ ls) g = ((g.0).1 p, good_times (powered_by p l) (suc n) ls g.1)
+good_times p n (l ∷ ls) g = ((g.0).1 p, good_times (is_powered_after_line p l) (suc n) ls g.1)
 
 -- the lines behind the first
 abbrev behind_first : ℕ → List DeckLine
-behind_first n = Power ∷ Named ∷ Named ∷ Named ∷ Load counter 2 0 ∷ Load purse 10 0 ∷ Load relay 6 0 ∷ (turns 4000 n ++ closing)
+behind_first n = Power ∷ Named ∷ Named ∷ Named ∷ Load counter 2 0 ∷ Load purse 10 0 ∷ Load relay 6 0 ∷ (turns 4000 n ++ closing_lines)
 
 behind_good : (n : ℕ) → AllByRecursion GoodTurn (behind_first n)
 behind_good n =
@@ -142,14 +142,14 @@ behind_good n =
     let first : GoodTurn (Load counter 2 0) = ((counter_good, omega arith, omega arith), λ p. tt) in
     let second : GoodTurn (Load purse 10 0) = ((purse_good, omega arith, omega arith), λ p. tt) in
     let third : GoodTurn (Load relay 6 0) = ((relay_good, omega arith, omega arith), λ p. tt) in
-    let dumps : AllByRecursion GoodTurn closing = (plain, (dump, (dump_second, (dump_third, tt)))) in
-    (plain, (named, (named, (named, (first, (second, (third, both_good (turns 4000 n) closing (turns_good 4000 n) dumps)))))))
+    let dumps : AllByRecursion GoodTurn closing_lines = (plain, (dump, (dump_second, (dump_third, tt)))) in
+    (plain, (named, (named, (named, (first, (second, (third, both_good (turns 4000 n) closing_lines (turns_good 4000 n) dumps)))))))
 
-first_and_behind : (n : ℕ) → generated n ≡ (1, Format) ∷ numbered 2 (behind_first n)
-unfolding generated
+first_and_behind : (n : ℕ) → deck_of_number n ≡ (1, Format) ∷ with_numbers 2 (behind_first n)
+unfolding deck_of_number
 first_and_behind n = refl
 
-pub generated_deck : (n : ℕ) → AreDeck (generated n)
+pub generated_deck : (n : ℕ) → AreDeck (deck_of_number n)
 generated_deck n = rw (first_and_behind n) (record {
   ranges = (tt, good_ranges 2 (behind_first n) (behind_good n));
   times = (refl, good_times false 2 (behind_first n) (behind_good n));

@@ -6,7 +6,7 @@ use Rattle.hex.specs.Hex
 use Rattle.hex.specs.Hex.{decode_of, decode_pairs, decode_sized, digit_or_error, hex_digit_value}
 use Rattle.hex.specs.declared.error.FromHexError.{FromHexError}
 use Rattle.hex.proofs.HexLemmas.{decode_of-even, decode_of-odd, decode_of-ok, decode_pairs-ok}
-use Rattle.mc_model_machine.specs.Text.{hex_value, hex_values, before_values, paired, hex_bytes}
+use Rattle.mc_model_machine.specs.Text.{hex_value, hex_values, before_values, bytes_of_digits, hex_bytes}
 use Rattle.mc_model_play.specs.DeckGrammar.{hex_field}
 use Rattle.mc_model_play.specs.declared.deck.DeckCause.TheVariants.{BadHex}
 
@@ -22,8 +22,8 @@ digit_same c = grind arith
 abbrev pair_read : ℕ → ℕ → ℕ → Option ℕ → Option ℕ → Result (List ℕ) FromHexError → Result (List ℕ) FromHexError
 pair_read a b i oa ob d = Hex.◌>>=◌ (Hex.◌>>=◌ (digit_or_error a i oa) (λ h. Hex.◌>>=◌ (digit_or_error b (i + 1) ob) (λ l. Ok (h * 16 + l)))) (λ byte. Hex.◌>>=◌ d (λ bytes. Ok (byte ∷ bytes)))
 
-pair_spelled : (a b i : ℕ) (oa ob : Option ℕ) (vs : Option (List ℕ)) (d : Result (List ℕ) FromHexError) → option_and_then paired vs ≡ read_bytes d
-    → option_and_then paired (before_values oa (before_values ob vs)) ≡ read_bytes (pair_read a b i oa ob d)
+pair_spelled : (a b i : ℕ) (oa ob : Option ℕ) (vs : Option (List ℕ)) (d : Result (List ℕ) FromHexError) → option_and_then bytes_of_digits vs ≡ read_bytes d
+    → option_and_then bytes_of_digits (before_values oa (before_values ob vs)) ≡ read_bytes (pair_read a b i oa ob d)
 pair_spelled a b i None ob vs d h = refl
 pair_spelled a b i (Some x) None vs d h = refl
 pair_spelled a b i (Some x) (Some y) None (Ok bs) h = absurd (cc h)
@@ -36,7 +36,7 @@ unfolding decode_pairs
 spelled_pairs i [] = refl
 spelled_pairs i (a ∷ []) = one_digit (hex_value a)
   where
-    one_digit : (o : Option ℕ) → option_and_then paired (before_values o (Some [])) ≡ None
+    one_digit : (o : Option ℕ) → option_and_then bytes_of_digits (before_values o (Some [])) ≡ None
     one_digit None = refl
     one_digit (Some x) = refl
 spelled_pairs i (a ∷ b ∷ t) = rw (digit_same a, digit_same b) (pair_spelled a b i (hex_value a) (hex_value b) (hex_values t) (decode_pairs (i + 2) t) (spelled_pairs (i + 2) t))

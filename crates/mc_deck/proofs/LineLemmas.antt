@@ -4,7 +4,7 @@ use Rattle.std.specs.Prelude.{slice_index_or}
 use Rattle.std.specs.List.{AllByRecursion}
 use Rattle.mc_deck.specs.declared.unit.OwnedUnit.{OwnedUnit}
 use Rattle.mc_deck.specs.declared.line.OwnedLine.{OwnedLine}
-use Rattle.mc_deck.specs.Lines.{said, said_lines, unit_at, no_unit, owned_parts, GoodLine}
+use Rattle.mc_deck.specs.Lines.{grammar_line, said_lines, unit_at, no_unit, owned_parts, GoodLine}
 
 -- an element, whatever is read beyond the list
 pub at_place : (us : List OwnedUnit) (i : ℕ) (d : OwnedUnit) → i < length us → slice_index_or us i d ≡ slice_index_or us i no_unit
@@ -13,7 +13,7 @@ at_place (u ∷ us) zero d h = refl
 at_place (u ∷ us) (suc i) d h = at_place us i d (omega (arith, h))
 
 -- the line at a place is good
-pub good_in : (us : List OwnedUnit) (ls : List (ℕ × OwnedLine)) (i : ℕ) (d : ℕ × OwnedLine) → i < length (said_lines us ls) → AllByRecursion (λ l. GoodLine l.1) (said_lines us ls) → GoodLine (said us (slice_index_or ls i d).1)
+pub good_in : (us : List OwnedUnit) (ls : List (ℕ × OwnedLine)) (i : ℕ) (d : ℕ × OwnedLine) → i < length (said_lines us ls) → AllByRecursion (λ l. GoodLine l.1) (said_lines us ls) → GoodLine (grammar_line us (slice_index_or ls i d).1)
 good_in us [] i d h a = absurd (omega (arith, h))
 good_in us (l ∷ ls) zero d h a = a.0
 good_in us (l ∷ ls) (suc i) d h a = good_in us ls i d (omega (arith, h)) a.1

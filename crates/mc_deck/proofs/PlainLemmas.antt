@@ -1,9 +1,9 @@
 -- A line that is `apdu`, one blank and digits.
 use Rattle.std.proofs.Common.{◌≡◌, ℕ, ◌<◌, true, List, [], ◌∷◌, length, Option, Some, None, Ok, arith, refl, ap, ◌∙◌}
 use Rattle.std.specs.Prelude.{not, option_and_then, ok_or}
-use Rattle.mc_model_machine.specs.Text.{hex_value, hex_values, before_values, paired, every, is_blank, fields}
+use Rattle.mc_model_machine.specs.Text.{hex_value, hex_values, before_values, bytes_of_digits, every, is_blank, fields}
 use Rattle.mc_model_play.specs.declared.deck.DeckCause.TheVariants.{BadHex}
-use Rattle.mc_model_play.specs.DeckGrammar.{Context, Says, Apdu, hex_field, stated}
+use Rattle.mc_model_play.specs.DeckGrammar.{Context, Says, Apdu, hex_field, statement_of}
 use Rattle.mc_asm.proofs.CleanLemmas.{pieces_none}
 use Rattle.mc_deck.specs.Readers.{line_stated}
 
@@ -24,7 +24,7 @@ digits_solid : (t vs : List ℕ) → hex_values t ≡ Some vs → every (λ c. n
 digits_solid [] vs h = refl
 digits_solid (c ∷ t) vs h = solid_by c t vs (hex_value c) (hex_values t) refl refl h (λ ws e. digits_solid t ws e)
 
-field_solid : (t bs : List ℕ) (o : Option (List ℕ)) → hex_values t ≡ o → ok_or (option_and_then paired o) BadHex ≡ Ok bs → every (λ c. not (is_blank c)) t ≡ true
+field_solid : (t bs : List ℕ) (o : Option (List ℕ)) → hex_values t ≡ o → ok_or (option_and_then bytes_of_digits o) BadHex ≡ Ok bs → every (λ c. not (is_blank c)) t ≡ true
 field_solid t bs (Some vs) e h = digits_solid t vs e
 field_solid t bs None e h = absurd (cc h)
 
@@ -34,7 +34,7 @@ plain_fields [] l e = absurd (omega (arith, l))
 plain_fields (c ∷ t) l e = rw (pieces_none is_blank (c ∷ t) e) refl
 
 plain_word : (c : Context) (n : ℕ) (t bs : List ℕ) → hex_field t ≡ Ok bs → line_stated c n ((97 ∷ 112 ∷ 100 ∷ 117 ∷ []) ∷ t ∷ []) ≡ Ok (Some (Says (Apdu bs) c))
-unfolding stated
+unfolding statement_of
 plain_word c n t bs h = rw h refl
 
 -- such a line is a command

@@ -7,7 +7,7 @@ use Rattle.mc_model_card.specs.Units.{unit_read}
 use Rattle.mc_model_play.specs.declared.deck.DeckCause.TheVariants as causes
 use Rattle.mc_model_play.specs.declared.deck.DeckCause.TheVariants.{BadLine}
 use Rattle.mc_asm.specs.Parts.{pair_of}
-use Rattle.mc_model_play.specs.DeckGrammar.{deck_words, Word, UnitWord, Context, Says, Named, with_unit, stated, name_field, hex_field, new_name}
+use Rattle.mc_model_play.specs.DeckGrammar.{deck_words, Word, UnitWord, Context, Says, Named, with_unit, statement_of, name_field, hex_field, new_name}
 use Rattle.mc_deck.specs.declared.statement.Keyword.{Keyword}
 use Rattle.mc_deck.specs.Statements.{first_words, second_words, keyword_of}
 
@@ -29,20 +29,20 @@ pub by_second : (n : List ℕ) (o : Option Keyword) → None ≡ lookup first_wo
 by_second n o h e = e ∙ sym (halves n ∙ ap (λ o. or_else o (lookup second_words n)) (sym h))
 
 -- a unit in hexadecimal, step by step
-pub unit_stated : (c : Context) (n : ℕ) (name hex : List ℕ) → stated c n UnitWord (name ∷ hex ∷ [])
+pub unit_stated : (c : Context) (n : ℕ) (name hex : List ℕ) → statement_of c n UnitWord (name ∷ hex ∷ [])
     ≡ (name_field name >>= λ name. hex_field hex >>= λ bytes. new_name c name >>= λ name. err_as causes.Unit (unit_read bytes) >>= λ u. Ok (Says Named (with_unit c name u)))
-unfolding stated
+unfolding statement_of
 unit_stated c n name hex = refl
 
 -- two fields, and another number of them
-pub unit_some : (c : Context) (n : ℕ) (ts : List (List ℕ)) (a b : List ℕ) → Some (a, b) ≡ pair_of ts → stated c n UnitWord ts ≡ stated c n UnitWord (a ∷ b ∷ [])
+pub unit_some : (c : Context) (n : ℕ) (ts : List (List ℕ)) (a b : List ℕ) → Some (a, b) ≡ pair_of ts → statement_of c n UnitWord ts ≡ statement_of c n UnitWord (a ∷ b ∷ [])
 unit_some c n [] a b h = absurd (cc h)
 unit_some c n (x ∷ []) a b h = absurd (cc h)
-unit_some c n (x ∷ y ∷ []) a b h = let e : (a, b) ≡ (x, y) = cc h in ap (λ (p : List ℕ × List ℕ). stated c n UnitWord (p.0 ∷ p.1 ∷ [])) (sym e)
+unit_some c n (x ∷ y ∷ []) a b h = let e : (a, b) ≡ (x, y) = cc h in ap (λ (p : List ℕ × List ℕ). statement_of c n UnitWord (p.0 ∷ p.1 ∷ [])) (sym e)
 unit_some c n (x ∷ y ∷ z ∷ ts) a b h = absurd (cc h)
 
-pub unit_none : (c : Context) (n : ℕ) (ts : List (List ℕ)) → None ≡ pair_of ts → stated c n UnitWord ts ≡ Err BadLine
-unfolding stated
+pub unit_none : (c : Context) (n : ℕ) (ts : List (List ℕ)) → None ≡ pair_of ts → statement_of c n UnitWord ts ≡ Err BadLine
+unfolding statement_of
 unit_none c n [] h = refl
 unit_none c n (x ∷ []) h = refl
 unit_none c n (x ∷ y ∷ []) h = absurd (cc h)

@@ -42,20 +42,20 @@ abbrev pub unit_at : List OwnedUnit → ℕ → UnitParts
 unit_at us i = owned_parts (slice_index_or us i no_unit)
 
 -- a kept line as the grammar has it, where the named units are these
-abbrev pub said : List OwnedUnit → OwnedLine → DeckLine
-said us OwnedLine.Format = DeckGrammar.Format
-said us OwnedLine.Power = DeckGrammar.Power
-said us OwnedLine.Named = DeckGrammar.Named
-said us (OwnedLine.Load i fixed session) = DeckGrammar.Load (unit_at us i) fixed session
-said us (OwnedLine.Select a) = DeckGrammar.Select a
-said us (OwnedLine.Delete a) = DeckGrammar.Delete a
-said us (OwnedLine.Dump a) = DeckGrammar.Dump a
-said us (OwnedLine.Short b) = DeckGrammar.Apdu b
-said us (OwnedLine.Apdu b) = DeckGrammar.Apdu b
-said us (OwnedLine.Budget n) = DeckGrammar.Budget n
-said us (OwnedLine.Cut k fill) = DeckGrammar.Cut k fill
-said us (OwnedLine.Fail k) = DeckGrammar.Fail k
-said us (OwnedLine.Poke at fill) = DeckGrammar.Poke at fill
+abbrev pub grammar_line : List OwnedUnit → OwnedLine → DeckLine
+grammar_line us OwnedLine.Format = DeckGrammar.Format
+grammar_line us OwnedLine.Power = DeckGrammar.Power
+grammar_line us OwnedLine.Named = DeckGrammar.Named
+grammar_line us (OwnedLine.Load i fixed session) = DeckGrammar.Load (unit_at us i) fixed session
+grammar_line us (OwnedLine.Select a) = DeckGrammar.Select a
+grammar_line us (OwnedLine.Delete a) = DeckGrammar.Delete a
+grammar_line us (OwnedLine.Dump a) = DeckGrammar.Dump a
+grammar_line us (OwnedLine.Short b) = DeckGrammar.Apdu b
+grammar_line us (OwnedLine.Apdu b) = DeckGrammar.Apdu b
+grammar_line us (OwnedLine.Budget n) = DeckGrammar.Budget n
+grammar_line us (OwnedLine.Cut k fill) = DeckGrammar.Cut k fill
+grammar_line us (OwnedLine.Fail k) = DeckGrammar.Fail k
+grammar_line us (OwnedLine.Poke at fill) = DeckGrammar.Poke at fill
 
 -- the place of a kept line's unit is one of so many
 abbrev pub UnitWithin : ℕ → OwnedLine → Type 0
@@ -64,7 +64,7 @@ UnitWithin n l = Unit {0}
 
 -- kept lines with their numbers
 abbrev pub said_lines : List OwnedUnit → List (ℕ × OwnedLine) → List (ℕ × DeckLine)
-said_lines us ls = map (λ l. (l.0, said us l.1)) ls
+said_lines us ls = map (λ l. (l.0, grammar_line us l.1)) ls
 
 -- ---- what is true of every deck
 
@@ -100,14 +100,14 @@ Timely powered (DeckGrammar.Poke at fill) = powered ≡ false
 Timely powered l = Unit {0}
 
 -- whether a `power` stood, after a line
-abbrev pub powered_by : Bool → DeckLine → Bool
-powered_by powered DeckGrammar.Power = true
-powered_by powered l = powered
+abbrev pub is_powered_after_line : Bool → DeckLine → Bool
+is_powered_after_line powered DeckGrammar.Power = true
+is_powered_after_line powered l = powered
 
 -- no line is late
 abbrev pub OnTime : Bool → List (ℕ × DeckLine) → Type 0
 OnTime powered [] = Unit {0}
-OnTime powered (l ∷ ls) = Timely powered l.1 × OnTime (powered_by powered l.1) ls
+OnTime powered (l ∷ ls) = Timely powered l.1 × OnTime (is_powered_after_line powered l.1) ls
 
 -- the lines of a deck: their fields are in their ranges, and none is late
 pub record AreDeck (ls : List (ℕ × DeckLine)) : Type 0 where

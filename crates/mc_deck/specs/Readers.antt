@@ -5,26 +5,26 @@ use Rattle.std.specs.BTreeMap.{BTreeMap}
 use denote.Ref.{Bor}
 use Rattle.mc_model_device.specs.Bytes.{lookup}
 use Rattle.mc_model_machine.specs.Text.{◌>>=◌, ok_as, err_as, begins}
-use Rattle.mc_model_play.specs.DeckGrammar.{DeckLine, Context, Stated, LineTurn, Mode, Between, Within, deck_words, stated}
+use Rattle.mc_model_play.specs.DeckGrammar.{DeckLine, Context, Stated, LineTurn, Mode, Between, Within, deck_words, statement_of}
 use Rattle.mc_model_play.specs.declared.deck.DeckCause.{DeckCause}
 use Rattle.mc_model_play.specs.declared.deck.DeckCause.TheVariants.{BadLine}
 use Rattle.mc_deck.specs.declared.unit.OwnedUnit.{OwnedUnit}
 use Rattle.mc_deck.specs.declared.line.OwnedLine.{OwnedLine}
 use Rattle.mc_deck.specs.declared.section.Section.{Section}
 use Rattle.mc_deck.specs.declared.reading.Reader.{Reader}
-use Rattle.mc_deck.specs.Lines.{said_lines, owned_parts, powered_by, UnitWithin, GoodUnit, AreDeck}
+use Rattle.mc_deck.specs.Lines.{said_lines, owned_parts, is_powered_after_line, UnitWithin, GoodUnit, AreDeck}
 use Rattle.mc_deck.specs.Contexts.{AreNames}
 use Rattle.mc_deck.specs.Sections.{section_of}
 
 -- the statement of a line's fields, none where they are skipped
 abbrev pub line_stated : Context → ℕ → List (List ℕ) → Result (Option Stated) (ℕ × DeckCause)
 line_stated c n [] = Ok None
-line_stated c n (word ∷ rest) = cond (begins 35 word) (Ok None) (err_as (λ e. (n, e)) (ok_or (lookup deck_words word) BadLine >>= λ w. ok_as Some (stated c n w rest)))
+line_stated c n (word ∷ rest) = cond (begins 35 word) (Ok None) (err_as (λ e. (n, e)) (ok_or (lookup deck_words word) BadLine >>= λ w. ok_as Some (statement_of c n w rest)))
 
 -- whether a `power` stood, after lines
-abbrev pub powered_after : Bool → List (ℕ × DeckLine) → Bool
-powered_after powered [] = powered
-powered_after powered (l ∷ ls) = powered_after (powered_by powered l.1) ls
+abbrev pub is_powered_after : Bool → List (ℕ × DeckLine) → Bool
+is_powered_after powered [] = powered
+is_powered_after powered (l ∷ ls) = is_powered_after (is_powered_after_line powered l.1) ls
 
 -- the names, the units, the `power` and the lines stand for a context and for lines of a deck
 pub record StandsBy (m : BTreeMap (Bor (List ℕ)) ℕ) (us : List OwnedUnit) (powered : Bool) (ls : List (ℕ × OwnedLine)) (c : Context) : Type 0 where
@@ -33,7 +33,7 @@ pub record StandsBy (m : BTreeMap (Bor (List ℕ)) ℕ) (us : List OwnedUnit) (p
   pub good : AllByRecursion (λ u. GoodUnit (owned_parts u)) us
   pub inside : AllByRecursion (λ l. UnitWithin (length us) l.1) ls
   pub deck : AreDeck (said_lines us ls)
-  pub last : powered_after false (said_lines us ls) ≡ powered
+  pub last : is_powered_after false (said_lines us ls) ≡ powered
 
 -- what was read so far stands for a context
 abbrev pub StandsForContext : Reader → Context → Type 0

@@ -7,7 +7,7 @@ use Rattle.mc_deck.specs.declared.line.OwnedLine.{OwnedLine}
 use Rattle.mc_deck.specs.declared.names.Names.{Names}
 use Rattle.mc_deck.specs.declared.statement.Keyword.{Keyword}
 use Rattle.mc_deck.specs.declared.statement.Statement.{Statement}
-use Rattle.mc_deck.specs.Lines.{said, owned_parts, GoodUnit, NumberWithin}
+use Rattle.mc_deck.specs.Lines.{grammar_line, owned_parts, GoodUnit, NumberWithin}
 use Rattle.mc_deck.specs.Contexts.{AreNames}
 
 -- the word of a statement as the grammar has it
@@ -40,11 +40,11 @@ pub record InContext (names : Names) (powered : Bool) (c : Context) : Type 0 whe
   pub power : powered ≡ c.powered
 
 -- what a statement at line n says, as the grammar has it
-abbrev pub stated_of : List OwnedUnit → Context → ℕ → Statement → Stated
-stated_of us c n (Statement.Line l) = Says (said us l) c
-stated_of us c n Statement.Power = Says DeckGrammar.Power (record c { powered = true })
-stated_of us c n (Statement.Unit name u) = Says DeckGrammar.Named (with_unit c name.now (owned_parts u))
-stated_of us c n (Statement.Section name aid) = Opens (record { first = n; name = name.now; aid = aid; lines = [] }) c
+abbrev pub grammar_statement : List OwnedUnit → Context → ℕ → Statement → Stated
+grammar_statement us c n (Statement.Line l) = Says (grammar_line us l) c
+grammar_statement us c n Statement.Power = Says DeckGrammar.Power (record c { powered = true })
+grammar_statement us c n (Statement.Unit name u) = Says DeckGrammar.Named (with_unit c name.now (owned_parts u))
+grammar_statement us c n (Statement.Section name aid) = Opens (record { first = n; name = name.now; aid = aid; lines = [] }) c
 
 -- the fields of a kept line are in their ranges
 abbrev pub Ranged : OwnedLine → Type 0

@@ -1,10 +1,10 @@
 // The deck that a number generates.
 ghost use Rattle.std.specs.Prelude.{◌≡◌, ◌≢◌, ◌<◌, ◌≤◌, ◌*◌, ◌+◌, ◌^◌, ℕ, List, [], ◌∷◌, ◌++◌, length, IfOk, OnOk};
 ghost use Rattle.std.specs.List.{AllByRecursion};
-ghost use Rattle.mc_model_machine.specs.Text.{numbered};
+ghost use Rattle.mc_model_machine.specs.Text.{with_numbers};
 ghost use Rattle.mc_model_device.specs.Bytes.{bytes};
-ghost use Rattle.mc_model_play.specs.Generator.{closing, cut_line, generated, line_of, next, opening, purse_line, turns};
-ghost use Rattle.mc_deck.specs.Lines.{said, said_lines, UnitWithin};
+ghost use Rattle.mc_model_play.specs.Generator.{closing_lines, cut_line, deck_of_number, line_of, next, opening_lines, purse_line, turns};
+ghost use Rattle.mc_deck.specs.Lines.{grammar_line, said_lines, UnitWithin};
 ghost use Rattle.mc_deck.specs.Generated.{AreUnits};
 
 use crate::bytes::ShortBytes;
@@ -70,7 +70,7 @@ fn command(ins: u8, number: u32) -> OwnedLine
 
 // A cut by a draw.
 fn cut_line(q: u32) -> OwnedLine
-    ensures value { (us : List OwnedUnit) → said us result ≡ cut_line q }
+    ensures value { (us : List OwnedUnit) → grammar_line us result ≡ cut_line q }
     ensures inside { UnitWithin 3 result }
 {
     let fill = if q / 12 % 2 == 1 {
@@ -86,7 +86,7 @@ fn cut_line(q: u32) -> OwnedLine
 
 // A line on the purse by a draw, or `power`.
 fn purse_line(q: u32) -> OwnedLine
-    ensures value { (us : List OwnedUnit) → AreUnits us → said us result ≡ purse_line q }
+    ensures value { (us : List OwnedUnit) → AreUnits us → grammar_line us result ≡ purse_line q }
     ensures inside { UnitWithin 3 result }
 {
     match q % 4 {
@@ -102,7 +102,7 @@ fn purse_line(q: u32) -> OwnedLine
 
 // The line of a turn that draws r and q.
 fn line_of(r: u32, q: u32) -> OwnedLine
-    ensures value { (us : List OwnedUnit) → AreUnits us → said us result ≡ line_of r q }
+    ensures value { (us : List OwnedUnit) → AreUnits us → grammar_line us result ≡ line_of r q }
     ensures inside { UnitWithin 3 result }
 {
     match r % 16 {
@@ -148,7 +148,7 @@ fn units(alloc: Global) -> Result<Vec<OwnedUnit>, AllocError>
 // The first eight lines.
 fn opening(alloc: Global) -> Result<Vec<(u32, OwnedLine)>, AllocError>
     ensures lines { IfOk result (λ v. (us : List OwnedUnit) → AreUnits us
-        → said_lines us v.items ≡ numbered 1 opening) }
+        → said_lines us v.items ≡ with_numbers 1 opening_lines) }
     ensures inside { IfOk result (λ v. AllByRecursion (λ l. UnitWithin 3 l.1) v.items) }
 {
     Ok(Vec::from_array(
@@ -193,7 +193,7 @@ fn push(lines: &mut Vec<(u32, OwnedLine)>, number: u32, line: OwnedLine) -> Resu
     requires line { UnitWithin 3 line }
     requires lines { AllByRecursion (λ l. UnitWithin 3 l.1) lines.old.items }
     ensures said { OnOk result ((us : List OwnedUnit)
-        → said_lines us lines.new.items ≡ said_lines us lines.old.items ++ (number, said us line) ∷ []) }
+        → said_lines us lines.new.items ≡ said_lines us lines.old.items ++ (number, grammar_line us line) ∷ []) }
     ensures inside { OnOk result (AllByRecursion (λ l. UnitWithin 3 l.1) lines.new.items) }
 {
     lines.push((number, line))?;
@@ -205,7 +205,7 @@ fn push_turns(lines: &mut Vec<(u32, OwnedLine)>, n: u32) -> Result<(), AllocErro
     requires number { n < 2 ^ 31 }
     requires inside { AllByRecursion (λ l. UnitWithin 3 l.1) lines.old.items }
     ensures lines { OnOk result ((us : List OwnedUnit) → AreUnits us
-        → said_lines us lines.new.items ≡ said_lines us lines.old.items ++ numbered 9 (turns 4000 n)) }
+        → said_lines us lines.new.items ≡ said_lines us lines.old.items ++ with_numbers 9 (turns 4000 n)) }
     ensures inside { OnOk result (AllByRecursion (λ l. UnitWithin 3 l.1) lines.new.items) }
 {
     let mut x = n;
@@ -222,7 +222,7 @@ fn push_turns(lines: &mut Vec<(u32, OwnedLine)>, n: u32) -> Result<(), AllocErro
 fn push_closing(lines: &mut Vec<(u32, OwnedLine)>) -> Result<(), AllocError>
     requires { AllByRecursion (λ l. UnitWithin 3 l.1) lines.old.items }
     ensures lines { OnOk result ((us : List OwnedUnit)
-        → said_lines us lines.new.items ≡ said_lines us lines.old.items ++ numbered 4009 closing) }
+        → said_lines us lines.new.items ≡ said_lines us lines.old.items ++ with_numbers 4009 closing_lines) }
     ensures inside { OnOk result (AllByRecursion (λ l. UnitWithin 3 l.1) lines.new.items) }
 {
     push(lines, 4009, OwnedLine::Power)?;
@@ -237,7 +237,7 @@ fn push_closing(lines: &mut Vec<(u32, OwnedLine)>) -> Result<(), AllocError>
 /// of 4,012 lines, is this project's own.
 pub fn generate(alloc: Global, n: u32) -> Result<Deck, NoMemory>
     requires { n ≤ 2147483647 }
-    ensures { IfOk result (λ d. d ≡ generated n) }
+    ensures { IfOk result (λ d. d ≡ deck_of_number n) }
 {
     let units = units(alloc)?;
     let mut lines = opening(alloc)?;

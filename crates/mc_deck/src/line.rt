@@ -1,7 +1,7 @@
 // The lines of a deck.
 ghost use Rattle.std.specs.Prelude.{◌≡◌, ◌<◌, length};
 ghost use Rattle.mc_unit.specs.Parts.{parts_of};
-ghost use Rattle.mc_deck.specs.Lines.{line_of, said, unit_at, UnitWithin};
+ghost use Rattle.mc_deck.specs.Lines.{line_of, grammar_line, unit_at, UnitWithin};
 
 use crate::bytes::{Bytes, ShortBytes};
 use crate::unit::{OwnedUnit, lent};
@@ -77,7 +77,7 @@ fn lent_unit(units: &[OwnedUnit], place: usize) -> Unit<'_>
 #[inline(always)]
 pub fn lent_line<'a>(units: &'a [OwnedUnit], line: &'a OwnedLine) -> Line<'a>
     requires { UnitWithin (length units.now) line.now }
-    ensures { line_of result ≡ said units.now line.now }
+    ensures { line_of result ≡ grammar_line units.now line.now }
 {
     match line {
         OwnedLine::Format => Line::Format,

@@ -10,7 +10,7 @@ ghost use Rattle.mc_deck.specs.Refused.{DeckRefuses};
 ghost use Rattle.mc_deck.specs.declared.refusal.DeckRefusal.TheVariants.{NoMemory};
 ghost use Rattle.mc_deck.specs.Lines.{owned_parts, GoodUnit};
 ghost use Rattle.mc_deck.specs.Sections.{section_of};
-ghost use Rattle.mc_deck.specs.Statements.{stated_of, StatementFits, InContext};
+ghost use Rattle.mc_deck.specs.Statements.{grammar_statement, StatementFits, InContext};
 ghost use Rattle.mc_deck.specs.Readers.{line_stated, lines_of, mode_of, StandsForContext, TurnTaken, LineTurned};
 
 use crate::deck::Deck;
@@ -62,7 +62,7 @@ fn worded<'a>(
     ensures value { (c : Context) → InContext names.now powered c
         → MatchResult result
         (λ o. line_stated c number (word.now ∷ texts fields.now)
-        ≡ Ok (option_map (stated_of names.now.units.items c number) o))
+        ≡ Ok (option_map (grammar_statement names.now.units.items c number) o))
         (λ e. DeckRefuses (line_stated c number (word.now ∷ texts fields.now)) e) }
     ensures fits { (c : Context) → InContext names.now powered c
         → IfOk result (λ o. MatchOption o ⊤ (StatementFits (length names.now.units.items) powered)) }
@@ -91,7 +91,7 @@ fn statement_of<'a>(
     requires { AllByRecursion (λ t. 0 < length t.now) fields.now }
     ensures value { (c : Context) → InContext names.now powered c
         → MatchResult result
-        (λ o. line_stated c number (texts fields.now) ≡ Ok (option_map (stated_of names.now.units.items c number) o))
+        (λ o. line_stated c number (texts fields.now) ≡ Ok (option_map (grammar_statement names.now.units.items c number) o))
         (λ e. DeckRefuses (line_stated c number (texts fields.now)) e) }
     ensures fits { (c : Context) → InContext names.now powered c
         → IfOk result (λ o. MatchOption o ⊤ (StatementFits (length names.now.units.items) powered)) }
@@ -113,7 +113,7 @@ fn read_line<'a>(
 ) -> Result<Option<Statement<'a>>, DeckRefusal>
     ensures value { (c : Context) → InContext names.now powered c
         → MatchResult result
-        (λ o. line_stated c number (fields text.now) ≡ Ok (option_map (stated_of names.now.units.items c number) o))
+        (λ o. line_stated c number (fields text.now) ≡ Ok (option_map (grammar_statement names.now.units.items c number) o))
         (λ e. DeckRefuses (line_stated c number (fields text.now)) e) }
     ensures fits { (c : Context) → InContext names.now powered c
         → IfOk result (λ o. MatchOption o ⊤ (StatementFits (length names.now.units.items) powered)) }
@@ -168,7 +168,7 @@ fn take_statement<'a>(
     requires { StatementFits (length reader.old.names.units.items) reader.old.powered statement }
     ensures took { IfOk result (λ s. (c : Context) → StandsForContext reader.old c
         → TurnTaken reader.old reader.new s
-        (turn_of number (stated_of reader.old.names.units.items c number statement.entry))) }
+        (turn_of number (grammar_statement reader.old.names.units.items c number statement.entry))) }
     ensures memory { IfErr result (λ e. e ≡ NoMemory) }
 {
     match statement {

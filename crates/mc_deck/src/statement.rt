@@ -5,13 +5,13 @@ ghost use Rattle.mc_model_device.specs.Bytes.{lookup};
 ghost use Rattle.mc_model_machine.specs.Text.{err_as};
 ghost use Rattle.mc_model_card.specs.Units.{unit_read};
 ghost use Rattle.mc_model_play.specs.declared.deck.DeckCause.TheVariants.{Unit};
-ghost use Rattle.mc_model_play.specs.DeckGrammar.{deck_words, new_name, stated, Context, FormatWord, PowerWord, UnitWord, AppWord, LoadWord, SelectWord, DeleteWord, DumpWord, ApduWord, BudgetWord, CutWord, FailWord, PokeWord};
+ghost use Rattle.mc_model_play.specs.DeckGrammar.{deck_words, new_name, statement_of, Context, FormatWord, PowerWord, UnitWord, AppWord, LoadWord, SelectWord, DeleteWord, DumpWord, ApduWord, BudgetWord, CutWord, FailWord, PokeWord};
 ghost use Rattle.mc_asm.specs.Items.{texts};
 ghost use Rattle.mc_asm.specs.Parts.{pair_of};
 ghost use Rattle.mc_deck.specs.Refused.{Faulty};
-ghost use Rattle.mc_deck.specs.Lines.{owned_parts, said, GoodUnit, NumberWithin};
+ghost use Rattle.mc_deck.specs.Lines.{owned_parts, grammar_line, GoodUnit, NumberWithin};
 ghost use Rattle.mc_deck.specs.Contexts.{AreNames};
-ghost use Rattle.mc_deck.specs.Statements.{first_words, keyword_of, second_words, stated_of, StatementFits, InContext};
+ghost use Rattle.mc_deck.specs.Statements.{first_words, keyword_of, second_words, grammar_statement, StatementFits, InContext};
 
 use crate::bytes::Bytes;
 use crate::field::{
@@ -96,11 +96,11 @@ pub fn keyword_named(word: &[u8]) -> Option<Keyword>
 }
 
 // `format`, which stands before each `power`.
-#[tactic(auto, unfolding(mc_model_play::specs::DeckGrammar::stated))]
+#[tactic(auto, unfolding(mc_model_play::specs::DeckGrammar::statement_of))]
 fn format_statement<'a>(powered: bool, fields: &[&'a [u8]]) -> Result<Statement<'a>, Fault>
     ensures value { (us : List OwnedUnit) (c : Context) (n : ℕ) → powered ≡ c.powered
-        → MatchResult result (λ s. stated c n FormatWord (texts fields.now) ≡ Ok (stated_of us c n s))
-        (λ e. Faulty (stated c n FormatWord (texts fields.now)) e) }
+        → MatchResult result (λ s. statement_of c n FormatWord (texts fields.now) ≡ Ok (grammar_statement us c n s))
+        (λ e. Faulty (statement_of c n FormatWord (texts fields.now)) e) }
     ensures fits { (m : ℕ) → IfOk result (StatementFits m powered) }
 {
     match fields {
@@ -115,11 +115,11 @@ fn format_statement<'a>(powered: bool, fields: &[&'a [u8]]) -> Result<Statement<
 }
 
 // `power`.
-#[tactic(auto, unfolding(mc_model_play::specs::DeckGrammar::stated))]
+#[tactic(auto, unfolding(mc_model_play::specs::DeckGrammar::statement_of))]
 fn power_statement<'a>(powered: bool, fields: &[&'a [u8]]) -> Result<Statement<'a>, Fault>
     ensures value { (us : List OwnedUnit) (c : Context) (n : ℕ)
-        → MatchResult result (λ s. stated c n PowerWord (texts fields.now) ≡ Ok (stated_of us c n s))
-        (λ e. Faulty (stated c n PowerWord (texts fields.now)) e) }
+        → MatchResult result (λ s. statement_of c n PowerWord (texts fields.now) ≡ Ok (grammar_statement us c n s))
+        (λ e. Faulty (statement_of c n PowerWord (texts fields.now)) e) }
     ensures fits { (m : ℕ) → IfOk result (StatementFits m powered) }
 {
     match fields {
@@ -138,8 +138,8 @@ fn unit_line<'a>(
 ) -> Result<Statement<'a>, Fault>
     ensures value { (us : List OwnedUnit) (c : Context) (n : ℕ)
         → AreNames names.now.places names.now.units.items c.units
-        → MatchResult result (λ s. stated c n UnitWord (name.now ∷ hex.now ∷ []) ≡ Ok (stated_of us c n s))
-        (λ e. Faulty (stated c n UnitWord (name.now ∷ hex.now ∷ [])) e) }
+        → MatchResult result (λ s. statement_of c n UnitWord (name.now ∷ hex.now ∷ []) ≡ Ok (grammar_statement us c n s))
+        (λ e. Faulty (statement_of c n UnitWord (name.now ∷ hex.now ∷ [])) e) }
     ensures fits { (m : ℕ) (powered : Bool) → IfOk result (StatementFits m powered) }
 {
     let name = name_field(name)?;
@@ -168,8 +168,8 @@ fn unit_statement<'a>(
 ) -> Result<Statement<'a>, Fault>
     ensures value { (us : List OwnedUnit) (c : Context) (n : ℕ)
         → AreNames names.now.places names.now.units.items c.units
-        → MatchResult result (λ s. stated c n UnitWord (texts fields.now) ≡ Ok (stated_of us c n s))
-        (λ e. Faulty (stated c n UnitWord (texts fields.now)) e) }
+        → MatchResult result (λ s. statement_of c n UnitWord (texts fields.now) ≡ Ok (grammar_statement us c n s))
+        (λ e. Faulty (statement_of c n UnitWord (texts fields.now)) e) }
     ensures fits { (m : ℕ) (powered : Bool) → IfOk result (StatementFits m powered) }
 {
     match two(fields) {
@@ -202,7 +202,7 @@ fn new_name<'a>(names: &Names<'a>, name: &'a [u8]) -> Result<(), DeckCause>
 }
 
 // `app NAME AID`.
-#[tactic(auto, unfolding(mc_model_play::specs::DeckGrammar::stated))]
+#[tactic(auto, unfolding(mc_model_play::specs::DeckGrammar::statement_of))]
 fn app_statement<'a>(
     alloc: Global,
     names: &Names<'a>,
@@ -210,8 +210,8 @@ fn app_statement<'a>(
 ) -> Result<Statement<'a>, Fault>
     ensures value { (us : List OwnedUnit) (c : Context) (n : ℕ)
         → AreNames names.now.places names.now.units.items c.units
-        → MatchResult result (λ s. stated c n AppWord (texts fields.now) ≡ Ok (stated_of us c n s))
-        (λ e. Faulty (stated c n AppWord (texts fields.now)) e) }
+        → MatchResult result (λ s. statement_of c n AppWord (texts fields.now) ≡ Ok (grammar_statement us c n s))
+        (λ e. Faulty (statement_of c n AppWord (texts fields.now)) e) }
     ensures fits { (m : ℕ) (powered : Bool) → IfOk result (StatementFits m powered) }
 {
     let [name, aid] = fields else {
@@ -224,12 +224,12 @@ fn app_statement<'a>(
 }
 
 // `load NAME STATIC SESSION`.
-#[tactic(auto, unfolding(mc_model_play::specs::DeckGrammar::stated))]
+#[tactic(auto, unfolding(mc_model_play::specs::DeckGrammar::statement_of))]
 fn load_statement<'a>(names: &Names<'a>, fields: &[&'a [u8]]) -> Result<Statement<'a>, Fault>
     ensures value { (c : Context) (n : ℕ) → AreNames names.now.places names.now.units.items c.units
         → MatchResult result
-        (λ s. stated c n LoadWord (texts fields.now) ≡ Ok (stated_of names.now.units.items c n s))
-        (λ e. Faulty (stated c n LoadWord (texts fields.now)) e) }
+        (λ s. statement_of c n LoadWord (texts fields.now) ≡ Ok (grammar_statement names.now.units.items c n s))
+        (λ e. Faulty (statement_of c n LoadWord (texts fields.now)) e) }
     ensures fits { (c : Context) (powered : Bool) → AreNames names.now.places names.now.units.items c.units
         → IfOk result (StatementFits (length names.now.units.items) powered) }
 {
@@ -250,11 +250,11 @@ fn load_statement<'a>(names: &Names<'a>, fields: &[&'a [u8]]) -> Result<Statemen
 }
 
 // `select AID`.
-#[tactic(auto, unfolding(mc_model_play::specs::DeckGrammar::stated))]
+#[tactic(auto, unfolding(mc_model_play::specs::DeckGrammar::statement_of))]
 fn select_statement<'a>(alloc: Global, fields: &[&'a [u8]]) -> Result<Statement<'a>, Fault>
     ensures value { (us : List OwnedUnit) (c : Context) (n : ℕ)
-        → MatchResult result (λ s. stated c n SelectWord (texts fields.now) ≡ Ok (stated_of us c n s))
-        (λ e. Faulty (stated c n SelectWord (texts fields.now)) e) }
+        → MatchResult result (λ s. statement_of c n SelectWord (texts fields.now) ≡ Ok (grammar_statement us c n s))
+        (λ e. Faulty (statement_of c n SelectWord (texts fields.now)) e) }
     ensures fits { (m : ℕ) (powered : Bool) → IfOk result (StatementFits m powered) }
 {
     match fields {
@@ -264,11 +264,11 @@ fn select_statement<'a>(alloc: Global, fields: &[&'a [u8]]) -> Result<Statement<
 }
 
 // `delete AID`.
-#[tactic(auto, unfolding(mc_model_play::specs::DeckGrammar::stated))]
+#[tactic(auto, unfolding(mc_model_play::specs::DeckGrammar::statement_of))]
 fn delete_statement<'a>(alloc: Global, fields: &[&'a [u8]]) -> Result<Statement<'a>, Fault>
     ensures value { (us : List OwnedUnit) (c : Context) (n : ℕ)
-        → MatchResult result (λ s. stated c n DeleteWord (texts fields.now) ≡ Ok (stated_of us c n s))
-        (λ e. Faulty (stated c n DeleteWord (texts fields.now)) e) }
+        → MatchResult result (λ s. statement_of c n DeleteWord (texts fields.now) ≡ Ok (grammar_statement us c n s))
+        (λ e. Faulty (statement_of c n DeleteWord (texts fields.now)) e) }
     ensures fits { (m : ℕ) (powered : Bool) → IfOk result (StatementFits m powered) }
 {
     match fields {
@@ -278,11 +278,11 @@ fn delete_statement<'a>(alloc: Global, fields: &[&'a [u8]]) -> Result<Statement<
 }
 
 // `dump AID`.
-#[tactic(auto, unfolding(mc_model_play::specs::DeckGrammar::stated))]
+#[tactic(auto, unfolding(mc_model_play::specs::DeckGrammar::statement_of))]
 fn dump_statement<'a>(alloc: Global, fields: &[&'a [u8]]) -> Result<Statement<'a>, Fault>
     ensures value { (us : List OwnedUnit) (c : Context) (n : ℕ)
-        → MatchResult result (λ s. stated c n DumpWord (texts fields.now) ≡ Ok (stated_of us c n s))
-        (λ e. Faulty (stated c n DumpWord (texts fields.now)) e) }
+        → MatchResult result (λ s. statement_of c n DumpWord (texts fields.now) ≡ Ok (grammar_statement us c n s))
+        (λ e. Faulty (statement_of c n DumpWord (texts fields.now)) e) }
     ensures fits { (m : ℕ) (powered : Bool) → IfOk result (StatementFits m powered) }
 {
     match fields {
@@ -292,12 +292,12 @@ fn dump_statement<'a>(alloc: Global, fields: &[&'a [u8]]) -> Result<Statement<'a
 }
 
 // `apdu HEX`. A field has a digit, so there is a byte.
-#[tactic(auto, unfolding(mc_model_play::specs::DeckGrammar::stated))]
+#[tactic(auto, unfolding(mc_model_play::specs::DeckGrammar::statement_of))]
 fn apdu_statement<'a>(alloc: Global, fields: &[&'a [u8]]) -> Result<Statement<'a>, Fault>
     requires { AllByRecursion (λ t. 0 < length t.now) fields.now }
     ensures value { (us : List OwnedUnit) (c : Context) (n : ℕ)
-        → MatchResult result (λ s. stated c n ApduWord (texts fields.now) ≡ Ok (stated_of us c n s))
-        (λ e. Faulty (stated c n ApduWord (texts fields.now)) e) }
+        → MatchResult result (λ s. statement_of c n ApduWord (texts fields.now) ≡ Ok (grammar_statement us c n s))
+        (λ e. Faulty (statement_of c n ApduWord (texts fields.now)) e) }
     ensures fits { (m : ℕ) (powered : Bool) → IfOk result (StatementFits m powered) }
 {
     match fields {
@@ -310,11 +310,11 @@ fn apdu_statement<'a>(alloc: Global, fields: &[&'a [u8]]) -> Result<Statement<'a
 }
 
 // `budget N`.
-#[tactic(auto, unfolding(mc_model_play::specs::DeckGrammar::stated))]
+#[tactic(auto, unfolding(mc_model_play::specs::DeckGrammar::statement_of))]
 fn budget_statement<'a>(fields: &[&'a [u8]]) -> Result<Statement<'a>, Fault>
     ensures value { (us : List OwnedUnit) (c : Context) (n : ℕ)
-        → MatchResult result (λ s. stated c n BudgetWord (texts fields.now) ≡ Ok (stated_of us c n s))
-        (λ e. Faulty (stated c n BudgetWord (texts fields.now)) e) }
+        → MatchResult result (λ s. statement_of c n BudgetWord (texts fields.now) ≡ Ok (grammar_statement us c n s))
+        (λ e. Faulty (statement_of c n BudgetWord (texts fields.now)) e) }
     ensures fits { (m : ℕ) (powered : Bool) → IfOk result (StatementFits m powered) }
 {
     match fields {
@@ -324,11 +324,11 @@ fn budget_statement<'a>(fields: &[&'a [u8]]) -> Result<Statement<'a>, Fault>
 }
 
 // `cut K FILL`.
-#[tactic(auto, unfolding(mc_model_play::specs::DeckGrammar::stated))]
+#[tactic(auto, unfolding(mc_model_play::specs::DeckGrammar::statement_of))]
 fn cut_statement<'a>(alloc: Global, fields: &[&'a [u8]]) -> Result<Statement<'a>, Fault>
     ensures value { (us : List OwnedUnit) (c : Context) (n : ℕ)
-        → MatchResult result (λ s. stated c n CutWord (texts fields.now) ≡ Ok (stated_of us c n s))
-        (λ e. Faulty (stated c n CutWord (texts fields.now)) e) }
+        → MatchResult result (λ s. statement_of c n CutWord (texts fields.now) ≡ Ok (grammar_statement us c n s))
+        (λ e. Faulty (statement_of c n CutWord (texts fields.now)) e) }
     ensures fits { (m : ℕ) (powered : Bool) → IfOk result (StatementFits m powered) }
 {
     match fields {
@@ -342,11 +342,11 @@ fn cut_statement<'a>(alloc: Global, fields: &[&'a [u8]]) -> Result<Statement<'a>
 }
 
 // `fail K`.
-#[tactic(auto, unfolding(mc_model_play::specs::DeckGrammar::stated))]
+#[tactic(auto, unfolding(mc_model_play::specs::DeckGrammar::statement_of))]
 fn fail_statement<'a>(fields: &[&'a [u8]]) -> Result<Statement<'a>, Fault>
     ensures value { (us : List OwnedUnit) (c : Context) (n : ℕ)
-        → MatchResult result (λ s. stated c n FailWord (texts fields.now) ≡ Ok (stated_of us c n s))
-        (λ e. Faulty (stated c n FailWord (texts fields.now)) e) }
+        → MatchResult result (λ s. statement_of c n FailWord (texts fields.now) ≡ Ok (grammar_statement us c n s))
+        (λ e. Faulty (statement_of c n FailWord (texts fields.now)) e) }
     ensures fits { (m : ℕ) (powered : Bool) → IfOk result (StatementFits m powered) }
 {
     match fields {
@@ -356,15 +356,15 @@ fn fail_statement<'a>(fields: &[&'a [u8]]) -> Result<Statement<'a>, Fault>
 }
 
 // `poke AT FILL`, which stands before each `power`.
-#[tactic(auto, unfolding(mc_model_play::specs::DeckGrammar::stated))]
+#[tactic(auto, unfolding(mc_model_play::specs::DeckGrammar::statement_of))]
 fn poke_statement<'a>(
     alloc: Global,
     powered: bool,
     fields: &[&'a [u8]],
 ) -> Result<Statement<'a>, Fault>
     ensures value { (us : List OwnedUnit) (c : Context) (n : ℕ) → powered ≡ c.powered
-        → MatchResult result (λ s. stated c n PokeWord (texts fields.now) ≡ Ok (stated_of us c n s))
-        (λ e. Faulty (stated c n PokeWord (texts fields.now)) e) }
+        → MatchResult result (λ s. statement_of c n PokeWord (texts fields.now) ≡ Ok (grammar_statement us c n s))
+        (λ e. Faulty (statement_of c n PokeWord (texts fields.now)) e) }
     ensures fits { (m : ℕ) → IfOk result (StatementFits m powered) }
 {
     match fields {
@@ -391,8 +391,8 @@ pub fn read_statement<'a>(
     requires { AllByRecursion (λ t. 0 < length t.now) fields.now }
     ensures value { (c : Context) (n : ℕ) → InContext names.now powered c
         → MatchResult result
-        (λ s. stated c n (keyword_of keyword) (texts fields.now) ≡ Ok (stated_of names.now.units.items c n s))
-        (λ e. Faulty (stated c n (keyword_of keyword) (texts fields.now)) e) }
+        (λ s. statement_of c n (keyword_of keyword) (texts fields.now) ≡ Ok (grammar_statement names.now.units.items c n s))
+        (λ e. Faulty (statement_of c n (keyword_of keyword) (texts fields.now)) e) }
     ensures fits { (c : Context) → InContext names.now powered c
         → IfOk result (StatementFits (length names.now.units.items) powered) }
 {

@@ -26,8 +26,8 @@ all_decipher [] = true
 all_decipher (r ∷ rs) = bytes_eq (des_decipher (bytes 8 r.key) (bytes 8 r.enciphered)) (bytes 8 r.block) && all_decipher rs
 
 -- A widely printed worked example, one row of NIST SP 800-17, and the block of zeros under the key of zeros.
-abbrev pub worked : List KnownDesAnswer
-worked =
+abbrev pub known_answers : List KnownDesAnswer
+known_answers =
     row 0x133457799BBCDFF1 0x0123456789ABCDEF 0x85E813540F0AB405 ∷
     row 0x0101010101010101 0x95F8A5E5DD31D900 0x8000000000000000 ∷
     row 0x0000000000000000 0x0000000000000000 0x8CA64DE9C1B123A7 ∷ []

@@ -18,6 +18,6 @@ abbrev pub box_alone : ℕ → ℕ → List ℕ
 box_alone number six = zeros (4 * number) ++ (box_at (slice_index_or boxes number []) (bits 6 six) ++ zeros (4 * (7 - number)))
 
 -- the rounds of a permuted block of 64 bits, with its halves exchanged after them: the preoutput block of FIPS 46-3
-unfoldable pub passed : List (List ℕ) → List ℕ → List ℕ
+unfoldable pub block_after_rounds : List (List ℕ) → List ℕ → List ℕ
 unfolding rounds
-passed ks block = let halves = rounds ks (take 32 block) (drop 32 block) in halves.1 ++ halves.0
+block_after_rounds ks block = let halves = rounds ks (take 32 block) (drop 32 block) in halves.1 ++ halves.0

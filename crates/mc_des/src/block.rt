@@ -2,7 +2,7 @@
 
 ghost use Rattle.std.specs.Prelude.{◌≡◌, length, map, reverse};
 ghost use Rattle.std.specs.Int.{w64, to_be_bytes};
-ghost use Rattle.mc_model_machine.specs.Des.{ciphered};
+ghost use Rattle.mc_model_machine.specs.Des.{des_block};
 ghost use Rattle.mc_des.specs.Words.{key_bits};
 
 use crate::permute::{final_bits, initial};
@@ -27,8 +27,8 @@ pub fn reversed(mut keys: [u64; 16]) -> [u64; 16]
 // A block through three ciphers, of which the first and the third have the same round keys. Between two of
 // them the final permutation of the one and the initial permutation of the next cancel, so they are left out.
 pub fn thrice(outer: &[u64; 16], inner: &[u64; 16], block: u64) -> u64
-    ensures { to_be_bytes w64 result ≡ ciphered (map key_bits outer.now)
-        (ciphered (map key_bits inner.now) (ciphered (map key_bits outer.now) (to_be_bytes w64 block))) }
+    ensures { to_be_bytes w64 result ≡ des_block (map key_bits outer.now)
+        (des_block (map key_bits inner.now) (des_block (map key_bits outer.now) (to_be_bytes w64 block))) }
 {
     let start = initial(block);
     final_bits(passed(outer, passed(inner, passed(outer, start))))

@@ -2,8 +2,8 @@
 
 ghost use Rattle.std.specs.Prelude.{◌≡◌, ◌/◌, ◌%◌, ◌^◌, ◌<◌, map};
 ghost use Rattle.std.specs.Int.{w64, to_be_bytes};
-ghost use Rattle.mc_model_machine.specs.Des.{bits, f, ciphered};
-ghost use Rattle.mc_des.specs.Words.{key_bits, passed};
+ghost use Rattle.mc_model_machine.specs.Des.{bits, f, des_block};
+ghost use Rattle.mc_des.specs.Words.{key_bits, block_after_rounds};
 
 use crate::box_table::boxed;
 use crate::permute::{final_bits, initial};
@@ -38,7 +38,7 @@ fn f(right: u32, key: u64) -> u32
 // The sixteen rounds of a permuted block, whose halves are exchanged after them. They go two at a time, so
 // that no half has to change its place.
 pub fn passed(keys: &[u64; 16], block: u64) -> u64
-    ensures { bits 64 result ≡ passed (map key_bits keys.now) (bits 64 block) }
+    ensures { bits 64 result ≡ block_after_rounds (map key_bits keys.now) (bits 64 block) }
 {
     let mut left = (block >> 32) as u32;
     let mut right = (block & 0xFFFF_FFFF) as u32;
@@ -50,7 +50,7 @@ pub fn passed(keys: &[u64; 16], block: u64) -> u64
 }
 
 pub fn with_keys(keys: &[u64; 16], block: u64) -> u64
-    ensures { to_be_bytes w64 result ≡ ciphered (map key_bits keys.now) (to_be_bytes w64 block) }
+    ensures { to_be_bytes w64 result ≡ des_block (map key_bits keys.now) (to_be_bytes w64 block) }
 {
     final_bits(passed(keys, initial(block)))
 }

@@ -3,12 +3,12 @@
 ghost use Rattle.std.specs.Prelude.{◌≡◌, true, [], ◌∷◌, ◌++◌, codes};
 ghost use Rattle.mc_model_device.specs.Bytes.{bytes};
 ghost use Rattle.mc_model_machine.specs.Des.{tdes_encipher, tdes_decipher, des_signature, tdes_signature};
-ghost use Rattle.mc_des.specs.Vectors.{all_encipher, all_decipher, worked, variable_plaintext, variable_key, permutation_operation, substitution_table};
+ghost use Rattle.mc_des.specs.Vectors.{all_encipher, all_decipher, known_answers, variable_plaintext, variable_key, permutation_operation, substitution_table};
 
 /// Worked examples, enciphered and deciphered.
 pub fn worked_examples()
-    ensures enciphered { all_encipher worked ≡ true }
-    ensures deciphered { all_decipher worked ≡ true }
+    ensures enciphered { all_encipher known_answers ≡ true }
+    ensures deciphered { all_decipher known_answers ≡ true }
 {}
 
 /// NIST SP 800-17: variable plaintext.

@@ -9,44 +9,44 @@ use Rattle.mc_model_machine.specs.Code.{DecodesTo}
 use Rattle.mc_model_device.specs.Device.{IsImage}
 use Rattle.mc_model_device.specs.Image.{Two, look, after}
 use Rattle.mc_model_device.specs.Stopped.{cost, stands}
-use Rattle.mc_model_device.specs.Card.{App, Block, needed_of, record_at, name_in, name_at, app_at, apps_of, blocks, cells, section, words_after, means}
+use Rattle.mc_model_device.specs.Card.{App, Block, words_of_lengths, record_at, name_in, name_at, app_at, apps_of, blocks, cells, section, words_after, means}
 use Rattle.mc_model_device.specs.Layout.{is_record, bad_record, fault}
 use Rattle.mc_model_machine.specs.Chain.{code_in, with_pieces, changed_app}
-use Rattle.mc_model_card.specs.Items.{Change, Fixed, Created, Deleted, Item, Plain, Atomic, changed, done, Stopped, at_stop, in_flight, with_item}
-use Rattle.mc_model_device.proofs.ImageLemmas.{all-append}
-use Rattle.mc_model_device.proofs.ImageBytes.{image-settled}
+use Rattle.mc_model_card.specs.Items.{Change, Fixed, Created, Deleted, Item, Plain, Atomic, apps_after_change, apps_after_items, Stopped, at_stop, in_flight, with_item}
+use Rattle.mc_model_device.proofs.ImageLemmas.{all_append}
+use Rattle.mc_model_device.proofs.ImageBytes.{image_settled}
 use Rattle.mc_isa.proofs.PlaceLemmas.{decoded_stands}
 use Rattle.mc_machine_laws.specs.FewRuns.{AreCoded}
-use Rattle.mc_machine_laws.proofs.AppSizes.{Limited, are-limited}
-use Rattle.mc_machine_laws.proofs.FewHeaders.{insert-length, remove-length}
-use Rattle.mc_family.proofs.PlaySizes.{good-records}
-use Rattle.mc_model_device.proofs.MapLemmas.{each-found, each-inserted, each-removed, ascending-inserted, ascending-removed, length-again}
-use Rattle.mc_model_device.proofs.LayoutLemmas.{sound-after}
+use Rattle.mc_machine_laws.proofs.AppSizes.{Limited, are_limited}
+use Rattle.mc_machine_laws.proofs.FewHeaders.{insert_length, remove_length}
+use Rattle.mc_family.proofs.PlaySizes.{good_records}
+use Rattle.mc_model_device.proofs.MapLemmas.{each_found, each_inserted, each_removed, ascending_inserted, ascending_removed, length_again}
+use Rattle.mc_model_device.proofs.LayoutLemmas.{sound_after}
 
 -- ---- lists of bytes
 
-pub all-take : {A : Type 0} (P : A → Type 0) (n : ℕ) (xs : List A) → AllByRecursion P xs → AllByRecursion P (take n xs)
-all-take P zero xs h = tt
-all-take P (suc n) [] h = tt
-all-take P (suc n) (x ∷ xs) h = (h.0, all-take P n xs h.1)
+pub all_take : {A : Type 0} (P : A → Type 0) (n : ℕ) (xs : List A) → AllByRecursion P xs → AllByRecursion P (take n xs)
+all_take P zero xs h = tt
+all_take P (suc n) [] h = tt
+all_take P (suc n) (x ∷ xs) h = (h.0, all_take P n xs h.1)
 
-pub all-drop : {A : Type 0} (P : A → Type 0) (n : ℕ) (xs : List A) → AllByRecursion P xs → AllByRecursion P (drop n xs)
-all-drop P zero xs h = h
-all-drop P (suc n) [] h = tt
-all-drop P (suc n) (x ∷ xs) h = all-drop P n xs h.1
+pub all_drop : {A : Type 0} (P : A → Type 0) (n : ℕ) (xs : List A) → AllByRecursion P xs → AllByRecursion P (drop n xs)
+all_drop P zero xs h = h
+all_drop P (suc n) [] h = tt
+all_drop P (suc n) (x ∷ xs) h = all_drop P n xs h.1
 
-bytes-joined : (ws : List (List ℕ)) → AllByRecursion AreBytes ws → AreBytes (concat ws)
-bytes-joined [] h = tt
-bytes-joined (w ∷ ws) h = all-append (λ b. b < 256) w (concat ws) h.0 (bytes-joined ws h.1)
+bytes_joined : (ws : List (List ℕ)) → AllByRecursion AreBytes ws → AreBytes (concat ws)
+bytes_joined [] h = tt
+bytes_joined (w ∷ ws) h = all_append (λ b. b < 256) w (concat ws) h.0 (bytes_joined ws h.1)
 
-all-words : (m : List (List ℕ)) → ((i : ℕ) → AreBytes (slice_index_or m i [])) → AllByRecursion AreBytes m
-all-words [] h = tt
-all-words (w ∷ m) h = (h 0, all-words m (λ i. h (suc i)))
+all_words : (m : List (List ℕ)) → ((i : ℕ) → AreBytes (slice_index_or m i [])) → AllByRecursion AreBytes m
+all_words [] h = tt
+all_words (w ∷ m) h = (h 0, all_words m (λ i. h (suc i)))
 
 -- a section of an image is bytes
-section-bytes : (m : List (List ℕ)) (p n : ℕ) → IsImage m → AreBytes (section m p n)
-section-bytes m p n image =
-    all-take (λ b. b < 256) n (cells m p (up n 8)) (bytes-joined (take (up n 8) (drop p m)) (all-take AreBytes (up n 8) (drop p m) (all-drop AreBytes p m (all-words m image.bytes))))
+section_bytes : (m : List (List ℕ)) (p n : ℕ) → IsImage m → AreBytes (section m p n)
+section_bytes m p n image =
+    all_take (λ b. b < 256) n (cells m p (up n 8)) (bytes_joined (take (up n 8) (drop p m)) (all_take AreBytes (up n 8) (drop p m) (all_drop AreBytes p m (all_words m image.bytes))))
 
 -- ---- applications
 
@@ -61,20 +61,20 @@ pub record AreOnCard (m : List (List ℕ × App)) : Type 0 where
   pub entries : AllByRecursion IsNamedCode m
   pub count : length m ≤ 32
 
-pub code-bytes : (m : List (List ℕ × App)) → AreOnCard m → (o : Option App) (n : List ℕ) → lookup m n ≡ o → AreBytes (code_in o)
-code-bytes m h None n e = tt
-code-bytes m h (Some a) n e = (each-found IsNamedCode m n a h.entries e).code
+pub code_bytes : (m : List (List ℕ × App)) → AreOnCard m → (o : Option App) (n : List ℕ) → lookup m n ≡ o → AreBytes (code_in o)
+code_bytes m h None n e = tt
+code_bytes m h (Some a) n e = (each_found IsNamedCode m n a h.entries e).code
 
-pub name-short : (m : List (List ℕ × App)) (n : List ℕ) (a : App) → AreOnCard m → lookup m n ≡ Some a → length n ≤ 16
-name-short m n a h e = (each-found IsNamedCode m n a h.entries e).name
+pub name_short : (m : List (List ℕ × App)) (n : List ℕ) (a : App) → AreOnCard m → lookup m n ≡ Some a → length n ≤ 16
+name_short m n a h e = (each_found IsNamedCode m n a h.entries e).name
 
-pub are-coded : (m : List (List ℕ × App)) → Limited m → AreOnCard m → AreCoded m
-are-coded m limited h =
+pub are_coded : (m : List (List ℕ × App)) → Limited m → AreOnCard m → AreCoded m
+are_coded m limited h =
     record {
-      limited = are-limited m limited;
+      limited = are_limited m limited;
       shaped = λ name at i next e.
           let code = code_in (lookup m name) in
-          let bytes : AreBytes code = code-bytes m h (lookup m name) name refl in
+          let bytes : AreBytes code = code_bytes m h (lookup m name) name refl in
           (subst (λ (r : _). DecodesTo code at r) e (decoded_stands code at bytes)).shaped;
     }
 
@@ -89,68 +89,68 @@ ChangeStands m (Deleted n) = ⊤
 abbrev pub ItemsStand : List (List ℕ × App) → List Item → Type 0
 ItemsStand m [] = ⊤
 ItemsStand m (Plain ∷ is) = ItemsStand m is
-ItemsStand m (Atomic w c ∷ is) = ChangeStands m c × ItemsStand (changed c m) is
+ItemsStand m (Atomic w c ∷ is) = ChangeStands m c × ItemsStand (apps_after_change c m) is
 
 -- a change of static bytes
 again : (m : List (List ℕ × App)) (n : List ℕ) (ps : List (ℕ × List ℕ)) (o : Option App) → lookup m n ≡ o → AreOnCard m → AreOnCard (changed_app m n ps o) × (length (changed_app m n ps o) ≡ length m)
 again m n ps None e h = (h, refl)
 again m n ps (Some a) e h =
     let b : App = with_pieces ps a in
-    let found : IsNamedCode (n, a) = each-found IsNamedCode m n a h.entries e in
-    let same : length (insert m n b) ≡ length m = length-again m n a b h.ascending e in (
+    let found : IsNamedCode (n, a) = each_found IsNamedCode m n a h.entries e in
+    let same : length (insert m n b) ≡ length m = length_again m n a b h.ascending e in (
       record {
-        ascending = ascending-inserted m n b h.ascending;
-        entries = each-inserted IsNamedCode m n b (record { name = found.name; code = found.code }) h.entries;
+        ascending = ascending_inserted m n b h.ascending;
+        entries = each_inserted IsNamedCode m n b (record { name = found.name; code = found.code }) h.entries;
         count = subst (λ (k : ℕ). k ≤ 32) (sym same) h.count;
       },
       same,
     )
 
-pub fixed-again : (m : List (List ℕ × App)) (n : List ℕ) (ps : List (ℕ × List ℕ)) → AreOnCard m → AreOnCard (changed (Fixed n ps) m) × (length (changed (Fixed n ps) m) ≡ length m)
-fixed-again m n ps h = again m n ps (lookup m n) refl h
+pub fixed_again : (m : List (List ℕ × App)) (n : List ℕ) (ps : List (ℕ × List ℕ)) → AreOnCard m → AreOnCard (apps_after_change (Fixed n ps) m) × (length (apps_after_change (Fixed n ps) m) ≡ length m)
+fixed_again m n ps h = again m n ps (lookup m n) refl h
 
-pub changed-stands : (m : List (List ℕ × App)) (c : Change) → AreOnCard m → ChangeStands m c → AreOnCard (changed c m)
-changed-stands m (Fixed n ps) h k = (fixed-again m n ps h).0
-changed-stands m (Created n a) h k =
+pub changed_stands : (m : List (List ℕ × App)) (c : Change) → AreOnCard m → ChangeStands m c → AreOnCard (apps_after_change c m)
+changed_stands m (Fixed n ps) h k = (fixed_again m n ps h).0
+changed_stands m (Created n a) h k =
     let few : length m ≤ 31 = k.0 in
-    let more : length (insert m n a) ≤ length m + 1 = insert-length m n a in
-    record { ascending = ascending-inserted m n a h.ascending; entries = each-inserted IsNamedCode m n a k.1 h.entries; count = omega arith }
-changed-stands m (Deleted n) h k =
+    let more : length (insert m n a) ≤ length m + 1 = insert_length m n a in
+    record { ascending = ascending_inserted m n a h.ascending; entries = each_inserted IsNamedCode m n a k.1 h.entries; count = omega arith }
+changed_stands m (Deleted n) h k =
     let few : length m ≤ 32 = h.count in
-    let less : length (remove m n) ≤ length m = remove-length m n in
-    record { ascending = ascending-removed m n h.ascending; entries = each-removed IsNamedCode m n h.entries; count = omega arith }
+    let less : length (remove m n) ≤ length m = remove_length m n in
+    record { ascending = ascending_removed m n h.ascending; entries = each_removed IsNamedCode m n h.entries; count = omega arith }
 
-pub done-stands : (is : List Item) (m : List (List ℕ × App)) → AreOnCard m → ItemsStand m is → AreOnCard (done m is)
-done-stands [] m h f = h
-done-stands (Plain ∷ is) m h f = done-stands is m h f
-done-stands (Atomic w c ∷ is) m h f = done-stands is (changed c m) (changed-stands m c h f.0) f.1
+pub done_stands : (is : List Item) (m : List (List ℕ × App)) → AreOnCard m → ItemsStand m is → AreOnCard (apps_after_items m is)
+done_stands [] m h f = h
+done_stands (Plain ∷ is) m h f = done_stands is m h f
+done_stands (Atomic w c ∷ is) m h f = done_stands is (apps_after_change c m) (changed_stands m c h f.0) f.1
 
-stands-cond : (m : List (List ℕ × App)) (b : Bool) (s t : Stopped) → ItemsStand m s.whole → ItemsStand m t.whole → ItemsStand m (cond b s t).whole
-stands-cond m true s t h k = h
-stands-cond m false s t h k = k
+stands_cond : (m : List (List ℕ × App)) (b : Bool) (s t : Stopped) → ItemsStand m s.whole → ItemsStand m t.whole → ItemsStand m (cond b s t).whole
+stands_cond m true s t h k = h
+stands_cond m false s t h k = k
 
-stands-flight : (m : List (List ℕ × App)) (w : ℕ) (c : Change) (b : Bool) → ChangeStands m c → ItemsStand m (cond b (Atomic w c ∷ []) [])
-stands-flight m w c true h = (h, tt)
-stands-flight m w c false h = tt
+stands_flight : (m : List (List ℕ × App)) (w : ℕ) (c : Change) (b : Bool) → ChangeStands m c → ItemsStand m (cond b (Atomic w c ∷ []) [])
+stands_flight m w c true h = (h, tt)
+stands_flight m w c false h = tt
 
 -- the whole items of a stop
-pub whole-stand : (is : List Item) (m : List (List ℕ × App)) (k : ℕ) (x : List ℕ) → ItemsStand m is → ItemsStand m (at_stop is k x).whole
-whole-stand [] m k x f = tt
-whole-stand (Plain ∷ is) m k x f = stands-cond m (k == 1) (record { whole = []; owed = 0 }) (with_item Plain (at_stop is (k - 1) x)) tt (whole-stand is m (k - 1) x f)
-whole-stand (Atomic w c ∷ is) m k x f =
-    stands-cond m (nat_le k (cost Two w)) (in_flight w c k x) (with_item (Atomic w c) (at_stop is (k - cost Two w) x)) (stands-flight m w c (stands Two w k x) f.0)
-    (f.0, whole-stand is (changed c m) (k - cost Two w) x f.1)
+pub whole_stand : (is : List Item) (m : List (List ℕ × App)) (k : ℕ) (x : List ℕ) → ItemsStand m is → ItemsStand m (at_stop is k x).whole
+whole_stand [] m k x f = tt
+whole_stand (Plain ∷ is) m k x f = stands_cond m (k == 1) (record { whole = []; owed = 0 }) (with_item Plain (at_stop is (k - 1) x)) tt (whole_stand is m (k - 1) x f)
+whole_stand (Atomic w c ∷ is) m k x f =
+    stands_cond m (nat_le k (cost Two w)) (in_flight w c k x) (with_item (Atomic w c) (at_stop is (k - cost Two w) x)) (stands_flight m w c (stands Two w k x) f.0)
+    (f.0, whole_stand is (apps_after_change c m) (k - cost Two w) x f.1)
 
 -- items in order
-pub stand-append : (is js : List Item) (m : List (List ℕ × App)) → ItemsStand m is → ItemsStand (done m is) js → ItemsStand m (is ++ js)
-stand-append [] js m f g = g
-stand-append (Plain ∷ is) js m f g = stand-append is js m f g
-stand-append (Atomic w c ∷ is) js m f g = (f.0, stand-append is js (changed c m) f.1 g)
+pub stand_append : (is js : List Item) (m : List (List ℕ × App)) → ItemsStand m is → ItemsStand (apps_after_items m is) js → ItemsStand m (is ++ js)
+stand_append [] js m f g = g
+stand_append (Plain ∷ is) js m f g = stand_append is js m f g
+stand_append (Atomic w c ∷ is) js m f g = (f.0, stand_append is js (apps_after_change c m) f.1 g)
 
 -- ---- the card of an image
 
-name-few : (r : List ℕ) (words : ℕ) → is_record r words ≡ true → length (name_in r) ≤ 16
-name-few r words h =
+name_few : (r : List ℕ) (words : ℕ) → is_record r words ≡ true → length (name_in r) ≤ 16
+name_few r words h =
     let n : ℕ = slice_index r 16 in
     let a : Bool = nat_le 5 n && nat_le n 16 in
     let b : Bool = a && bytes_eq (take (16 - n) (drop n r)) (zeros (16 - n)) in
@@ -163,7 +163,7 @@ name-few r words h =
     let j : Bool = i && nat_le (be2 r 24) 256 in
     let k : Bool = j && nat_le (be2 r 26) 15 in
     let l : Bool = k && bytes_eq (drop 28 r) (zeros 4) in
-    let to-l = and_parts l (words == needed_of (be2 r 20) (be2 r 22) (slice_index r 17) (slice_index r 18)) h in
+    let to-l = and_parts l (words == words_of_lengths (be2 r 20) (be2 r 22) (slice_index r 17) (slice_index r 18)) h in
     let to-k = and_parts k (bytes_eq (drop 28 r) (zeros 4)) to-l.0 in
     let to-j = and_parts j (nat_le (be2 r 26) 15) to-k.0 in
     let to-i = and_parts i (nat_le (be2 r 24) 256) to-j.0 in
@@ -183,12 +183,12 @@ record RecordsRead (used : ℕ) (m : List (List ℕ × App)) : Type 0 where
   entries : AllByRecursion IsNamedCode m
   count : length m + used ≤ 32
 
-read-blocks : (m : List (List ℕ)) (bs : List Block) (names : List (List ℕ)) (used : ℕ) → IsImage m → used ≤ 32 → bad_record m bs names used ≡ None → RecordsRead used (apps_of m bs)
+read_blocks : (m : List (List ℕ)) (bs : List Block) (names : List (List ℕ)) (used : ℕ) → IsImage m → used ≤ 32 → bad_record m bs names used ≡ None → RecordsRead used (apps_of m bs)
 unfolding bad_record apps_of
-read-blocks m [] names used image few h = record { ascending = tt; entries = tt; count = omega (arith, few) }
-read-blocks m (b ∷ bs) names used image few h =
+read_blocks m [] names used image few h = record { ascending = tt; entries = tt; count = omega (arith, few) }
+read_blocks m (b ∷ bs) names used image few h =
     by b.used (is_record (record_at m b.place) b.words && not (has_name (name_in (record_at m b.place)) names) && nat_lt used 32) refl h
-    (λ less e. read-blocks m bs (name_in (record_at m b.place) ∷ names) (used + 1) image less e) (λ e. read-blocks m bs names used image few e)
+    (λ less e. read_blocks m bs (name_in (record_at m b.place) ∷ names) (used + 1) image less e) (λ e. read_blocks m bs names used image few e)
   where
     by : (u g : Bool) → (is_record (record_at m b.place) b.words && not (has_name (name_in (record_at m b.place)) names) && nat_lt used 32) ≡ g
         → cond u (cond g (bad_record m bs (name_in (record_at m b.place) ∷ names) (used + 1)) (Some b.place)) (bad_record m bs names used) ≡ None
@@ -201,20 +201,20 @@ read-blocks m (b ∷ bs) names used image few h =
         let less : used < 32 = ltb-true used 32 front.1 in
         let rest : RecordsRead (used + 1) (apps_of m bs) = next (omega arith) e in
         let most : length (apps_of m bs) + (used + 1) ≤ 32 = rest.count in
-        let more : length (insert (apps_of m bs) (name_at m b.place) (app_at m b.place)) ≤ length (apps_of m bs) + 1 = insert-length (apps_of m bs) (name_at m b.place) (app_at m b.place) in
+        let more : length (insert (apps_of m bs) (name_at m b.place) (app_at m b.place)) ≤ length (apps_of m bs) + 1 = insert_length (apps_of m bs) (name_at m b.place) (app_at m b.place) in
         record {
-          ascending = ascending-inserted (apps_of m bs) (name_at m b.place) (app_at m b.place) rest.ascending;
-          entries = each-inserted IsNamedCode (apps_of m bs) (name_at m b.place) (app_at m b.place)
-              (record { name = name-few r b.words good.0; code = section-bytes m (b.place + 5) (be2 r 20) image }) rest.entries;
+          ascending = ascending_inserted (apps_of m bs) (name_at m b.place) (app_at m b.place) rest.ascending;
+          entries = each_inserted IsNamedCode (apps_of m bs) (name_at m b.place) (app_at m b.place)
+              (record { name = name_few r b.words good.0; code = section_bytes m (b.place + 5) (be2 r 20) image }) rest.entries;
           count = omega arith;
         }
     by true false is e next other = absurd (cc e)
     by false g is e next other = other e
 
 -- an image without a fault holds such applications
-pub means-on-card : (m : List (List ℕ)) → IsImage m → fault m ≡ None → AreOnCard (means m).apps
-means-on-card m image h =
+pub means_on_card : (m : List (List ℕ)) → IsImage m → fault m ≡ None → AreOnCard (means m).apps
+means_on_card m image h =
     let w = words_after (after m) m in
-    let r : RecordsRead 0 (apps_of w (blocks w)) = read-blocks w (blocks w) [] 0 (image-settled m image) (omega arith) (good-records w (sound-after m (look m) refl h)) in
+    let r : RecordsRead 0 (apps_of w (blocks w)) = read_blocks w (blocks w) [] 0 (image_settled m image) (omega arith) (good_records w (sound_after m (look m) refl h)) in
     let most : length (apps_of w (blocks w)) + 0 ≤ 32 = r.count in
     record { ascending = r.ascending; entries = r.entries; count = omega arith }

@@ -9,7 +9,7 @@ use Rattle.mc_model_device.specs.Image.{Two}
 use Rattle.mc_model_device.specs.Stopped.{cost}
 use Rattle.mc_model_card.specs.Items.{Item, Plain, Atomic, moves, at_stop, with_item, Stopped}
 use Rattle.mc_model_machine.specs.Row.{RowEnd, Abends, Does}
-use Rattle.mc_model_machine.specs.Chain.{Chain, Ran, Acted, Follows, Continues, Ends, acted, fetched, row_turn, ran, ran_on}
+use Rattle.mc_model_machine.specs.Chain.{Chain, Ran, Acted, Follows, Continues, Ends, turn_of_chain, turn_of_fetch, row_turn, run_of_chain, run_after_turn}
 use Rattle.mc_family.specs.Split.{with_whole}
 
 passed : (b : Bool) (s t u : Stopped) → b ≡ false → t ≡ u → cond b s t ≡ u
@@ -31,20 +31,20 @@ row_count : (ch : Chain) (i : Ins) (r : RowEnd) → (row_turn ch i r).count ≤ 
 row_count ch i (Abends cause) = omega arith
 row_count ch i (Does d) = omega arith
 
-fetch_count : (ch : Chain) (r : Result (Ins × ℕ) DecodeFault) → (fetched ch r).count ≤ 1
+fetch_count : (ch : Chain) (r : Result (Ins × ℕ) DecodeFault) → (turn_of_fetch ch r).count ≤ 1
 fetch_count ch (Err Undefined) = omega arith
 fetch_count ch (Err Past) = omega arith
 fetch_count ch (Ok i) = row_count ch i.0 _
 
-turn_count : (ch : Chain) → (acted ch).count ≤ 1
-unfolding acted
+turn_count : (ch : Chain) → (turn_of_chain ch).count ≤ 1
+unfolding turn_of_chain
 turn_count ch = fetch_count ch _
 
-on_count : (n : ℕ) (t : Acted) (session : List ℕ) (f : Follows) (rest : Chain → Ran) → t.count ≤ 1 → ((ch : Chain) → (rest ch).count ≤ n) → (ran_on t session f rest).count ≤ suc n
+on_count : (n : ℕ) (t : Acted) (session : List ℕ) (f : Follows) (rest : Chain → Ran) → t.count ≤ 1 → ((ch : Chain) → (rest ch).count ≤ n) → (run_after_turn t session f rest).count ≤ suc n
 on_count n t session (Ends o) rest one more = omega arith
 on_count n t session (Continues ch) rest one more = let h : (rest ch).count ≤ n = more ch in omega arith
 
-pub run_count : (n : ℕ) (ch : Chain) → (ran n ch).count ≤ n
-unfolding ran
+pub run_count : (n : ℕ) (ch : Chain) → (run_of_chain n ch).count ≤ n
+unfolding run_of_chain
 run_count zero ch = omega arith
-run_count (suc n) ch = on_count n (acted ch) _ (acted ch).follows (λ c. ran n c) (turn_count ch) (λ c. run_count n c)
+run_count (suc n) ch = on_count n (turn_of_chain ch) _ (turn_of_chain ch).follows (λ c. run_of_chain n c) (turn_count ch) (λ c. run_count n c)

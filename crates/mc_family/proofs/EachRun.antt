@@ -14,42 +14,42 @@ use Rattle.mc_family.specs.Begins.{PassedWell, RoutedWell, BehindDone, SentWell,
 use Rattle.mc_family.proofs.PlaySizes.{begins_law}
 
 module _ (holds : ℕ → Chain → Type 0) (wherever : HoldsWherever holds) where
-  on-passed : (m : List (List ℕ × App)) (budget : ℕ) (o : Option Selected) (a : ApduParts) → PassedWell m o → OnPassed holds m budget o a
-  on-passed m budget None a h = tt
-  on-passed m budget (Some s) a h = wherever m s.name s.session a budget h.limited h.session
+  on_passed : (m : List (List ℕ × App)) (budget : ℕ) (o : Option Selected) (a : ApduParts) → PassedWell m o → OnPassed holds m budget o a
+  on_passed m budget None a h = tt
+  on_passed m budget (Some s) a h = wherever m s.name s.session a budget h.limited h.session
 
-  on-routed : (m : List (List ℕ × App)) (seat : Seat) (budget : ℕ) (r : Route) → RoutedWell m seat r → OnRouted holds m seat budget r
-  on-routed m seat budget (ToApplication a) h = on-passed m budget seat.selected a h
-  on-routed m seat budget WrongLength h = tt
-  on-routed m seat budget WrongClass h = tt
-  on-routed m seat budget (ToSelect a) h = tt
-  on-routed m seat budget (ToManager a) h = tt
+  on_routed : (m : List (List ℕ × App)) (seat : Seat) (budget : ℕ) (r : Route) → RoutedWell m seat r → OnRouted holds m seat budget r
+  on_routed m seat budget (ToApplication a) h = on_passed m budget seat.selected a h
+  on_routed m seat budget WrongLength h = tt
+  on_routed m seat budget WrongClass h = tt
+  on_routed m seat budget (ToSelect a) h = tt
+  on_routed m seat budget (ToManager a) h = tt
 
-  behind-done : (b : Bool) (before after : Type 0) → (before → after) → BehindDone b before → BehindDone b after
-  behind-done true before after f h = f h
-  behind-done false before after f h = tt
+  behind_done : (b : Bool) (before after : Type 0) → (before → after) → BehindDone b before → BehindDone b after
+  behind_done true before after f h = f h
+  behind_done false before after f h = tt
 
-  on-sent : (c : Card) (seat : Seat) (budget : ℕ) (bs : List (List ℕ)) → SentWell c seat budget bs → OnSent holds c seat budget bs
-  on-sent c seat budget [] h = tt
-  on-sent c seat budget (b ∷ bs) h =
+  on_sent : (c : Card) (seat : Seat) (budget : ℕ) (bs : List (List ℕ)) → SentWell c seat budget bs → OnSent holds c seat budget bs
+  on_sent c seat budget [] h = tt
+  on_sent c seat budget (b ∷ bs) h =
       let r = command c seat b budget in
       let d = card_done c r.items in
-      (on-routed c.apps seat budget (route b) h.0, behind-done (is_done r.outcome) (SentWell d r.seat budget bs) (OnSent holds d r.seat budget bs) (λ k. on-sent d r.seat budget bs k) h.1)
+      (on_routed c.apps seat budget (route b) h.0, behind_done (is_done r.outcome) (SentWell d r.seat budget bs) (OnSent holds d r.seat budget bs) (λ k. on_sent d r.seat budget bs k) h.1)
 
-  on-taken : (v : Live) (b : Base) (budget : ℕ) (bs : List (List ℕ)) → TakenWell v b budget bs → OnTaken holds v b budget bs
-  on-taken (Running seat) (OnCard c) budget bs h = on-sent c seat budget bs h
-  on-taken (Running seat) (AtFault cause p) budget bs h = tt
-  on-taken Unpowered b budget bs h = tt
-  on-taken Muted b budget bs h = tt
+  on_taken : (v : Live) (b : Base) (budget : ℕ) (bs : List (List ℕ)) → TakenWell v b budget bs → OnTaken holds v b budget bs
+  on_taken (Running seat) (OnCard c) budget bs h = on_sent c seat budget bs h
+  on_taken (Running seat) (AtFault cause p) budget bs h = tt
+  on_taken Unpowered b budget bs h = tt
+  on_taken Muted b budget bs h = tt
 
-  on-line : (z : State) (bs : List (List ℕ)) → LineWell z bs → OnLine holds z bs
-  on-line (Cold m b a) bs h = tt
-  on-line (Hot s) bs h = on-taken s.live s.base s.budget bs h
+  on_line : (z : State) (bs : List (List ℕ)) → LineWell z bs → OnLine holds z bs
+  on_line (Cold m b a) bs h = tt
+  on_line (Hot s) bs h = on_taken s.live s.base s.budget bs h
 
-  pub on-each : (ts : List Step) → BeginWell ts → OnEachRun holds ts
-  on-each [] h = tt
-  on-each (t ∷ ts) h = (on-line t.before (bytes_of t.line) h.0, on-each ts h.1)
+  pub on_each : (ts : List Step) → BeginWell ts → OnEachRun holds ts
+  on_each [] h = tt
+  on_each (t ∷ ts) h = (on_line t.before (bytes_of t.line) h.0, on_each ts h.1)
 
   -- of every play, and so of the checker's verdict on the runs of accepted code
   pub each_run : (ls : List (ℕ × DeckLine)) (m : List (List ℕ)) (ws : List (Option WornAt)) → OnEachRun holds (plays (start m) ls ws)
-  each_run ls m ws = on-each (plays (start m) ls ws) (begins_law ls m ws)
+  each_run ls m ws = on_each (plays (start m) ls ws) (begins_law ls m ws)

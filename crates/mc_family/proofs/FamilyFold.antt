@@ -2,18 +2,18 @@
 use Rattle.std.specs.Prelude.{◌≡◌, ◌⊎◌, ℕ, zero, suc, Bool, true, false, cond, ◌&&◌, List, [], ◌∷◌, ◌++◌, take, bytes_eq, Option, Some, None, ⊤}
 use Rattle.std.proofs.Common.{refl, ap, sym, subst, ◌∙◌, inl, inr}
 use Rattle.mc_model_device.specs.Bytes.{has_name, lookup}
-use Rattle.mc_model_device.specs.Card.{App, placed}
+use Rattle.mc_model_device.specs.Card.{App, app_at_place}
 use Rattle.mc_model_card.specs.Items.{Item, StopAt}
-use Rattle.mc_model_play.specs.Play.{Armed, State, Cold, Hot, LineResult, Step, WornAt, MayHit, Possible, step, cold_step, hit_of, power_moves, power_after, warmed, plays, last_state, start}
+use Rattle.mc_model_play.specs.Play.{Armed, State, Cold, Hot, LineResult, Step, WornAt, MayHit, Possible, step, cold_step, hit_of, power_moves, power_after, play_at_power, plays, last_state, start}
 use Rattle.mc_model_play.specs.Family.{ClosedPairs, Closed, is_own}
-use Rattle.mc_model_play.specs.Given.{Event, own_apps, apps_in, is_power, first_apps, events_of, events, given, dump_events}
+use Rattle.mc_model_play.specs.Given.{Event, own_apps, apps_in, is_power, first_apps, events_of, events, given_of_play, dump_events}
 use Rattle.mc_model_play.specs.Solo.{Solo, Heard, silent, heard_before, hears_all, solo}
-use Rattle.mc_model_play.specs.View.{is_seen, seen_if, answers, rest_of, work_if, work, IsIsolated}
+use Rattle.mc_model_play.specs.View.{is_seen, results_if, answers, rest_of, work_if, work, IsIsolated}
 use Rattle.mc_model_play.specs.DeckGrammar.{DeckLine}
 use Rattle.mc_model_play.specs.DeckGrammar as line
 use Rattle.mc_family.proofs.Agreement.{bare, MapsAgree}
-use Rattle.mc_family.proofs.Sim.{Simulates, LineKeepsSimulation, hears_all-append, hears_none, rest-alike}
-use Rattle.mc_family.proofs.HotLines.{hot-kept, SameAfterPower, powered, power-keeps}
+use Rattle.mc_family.proofs.Sim.{Simulates, LineKeepsSimulation, hears_all_append, hears_none, rest_alike}
+use Rattle.mc_family.proofs.HotLines.{hot_kept, SameAfterPower, powered, power_keeps}
 use Rattle.mc_model_device.proofs.MapLemmas.{same_name}
 use Rattle.mc_model_device.proofs.BoolLemmas.{and_false}
 
@@ -24,40 +24,40 @@ record HearsAlike (K : List (List ℕ)) (t : Solo) (s : State) (us : List Step) 
   map : MapsAgree K true (apps_in (last_state s us)) (hears_all t (events K us)).after.map
 
 module _ (K : List (List ℕ)) where
-  none-alike : (t : Solo) (s : State) → MapsAgree K true (apps_in s) t.map → HearsAlike K t s []
+  none_alike : (t : Solo) (s : State) → MapsAgree K true (apps_in s) t.map → HearsAlike K t s []
   unfolding hears_all events answers work
-  none-alike t s h = record { answer = refl; work = refl; map = h }
+  none_alike t s h = record { answer = refl; work = refl; map = h }
 
   -- a line, and those after it
-  then-alike : (t : Solo) (s : State) (u : Step) (us : List Step)
-      → (hears_all t (events_of K u u.line)).answer ≡ seen_if (is_seen K u u.line) u.result → (hears_all t (events_of K u u.line)).work ≡ work_if (is_own K u) u
+  then_alike : (t : Solo) (s : State) (u : Step) (us : List Step)
+      → (hears_all t (events_of K u u.line)).answer ≡ results_if (is_seen K u u.line) u.result → (hears_all t (events_of K u u.line)).work ≡ work_if (is_own K u) u
       → HearsAlike K (hears_all t (events_of K u u.line)).after u.after us → HearsAlike K t s (u ∷ us)
   unfolding events answers work
-  then-alike t s u us told worked r =
+  then_alike t s u us told worked r =
       let h = hears_all t (events_of K u u.line) in
-      let e : hears_all t (events_of K u u.line ++ events K us) ≡ heard_before h (hears_all h.after (events K us)) = hears_all-append t (events_of K u u.line) (events K us) in
+      let e : hears_all t (events_of K u u.line ++ events K us) ≡ heard_before h (hears_all h.after (events K us)) = hears_all_append t (events_of K u u.line) (events K us) in
       record {
-        answer = ap (λ (z : Heard). z.answer) e ∙ (ap (λ (z : List LineResult). z ++ (hears_all h.after (events K us)).answer) told ∙ ap (λ (z : List LineResult). seen_if (is_seen K u u.line) u.result ++ z) r.answer);
+        answer = ap (λ (z : Heard). z.answer) e ∙ (ap (λ (z : List LineResult). z ++ (hears_all h.after (events K us)).answer) told ∙ ap (λ (z : List LineResult). results_if (is_seen K u u.line) u.result ++ z) r.answer);
         work = ap (λ (z : Heard). z.work) e ∙ (ap (λ (z : List (List Item × Option StopAt)). z ++ (hears_all h.after (events K us)).work) worked ∙ ap (λ (z : List (List Item × Option StopAt)). work_if (is_own K u) u ++ z) r.work);
         map = subst (λ (z : Heard). MapsAgree K true (apps_in (last_state u.after us)) z.after.map) (sym e) r.map;
       }
 
   -- ---- from the first power line on
 
-  step-kept : (s : State) (t : Solo) (l : ℕ × DeckLine) (w : Option WornAt) → Simulates K s t → MayHit s l w → ClosedPairs K (step s l w).pairs → LineKeepsSimulation K t (step s l w)
+  step_kept : (s : State) (t : Solo) (l : ℕ × DeckLine) (w : Option WornAt) → Simulates K s t → MayHit s l w → ClosedPairs K (step s l w).pairs → LineKeepsSimulation K t (step s l w)
   unfolding step
-  step-kept (Cold m b a) t l w sim may closed = absurd sim.warm
-  step-kept (Hot s) t l w sim may closed = hot-kept K t l.0 s.owed s.by s.budget s.armed l.1 w s.base s.live sim may closed
+  step_kept (Cold m b a) t l w sim may closed = absurd sim.warm
+  step_kept (Hot s) t l w sim may closed = hot_kept K t l.0 s.owed s.by s.budget s.armed l.1 w s.base s.live sim may closed
 
-  warm-alike : (n : ℕ) (ls : List (ℕ × DeckLine)) (ws : List (Option WornAt)) (s : State) (t : Solo) → Simulates K s t → Possible s ls ws → Closed K (take n (plays s ls ws)) → HearsAlike K t s (take n (plays s ls ws))
+  warm_alike : (n : ℕ) (ls : List (ℕ × DeckLine)) (ws : List (Option WornAt)) (s : State) (t : Solo) → Simulates K s t → Possible s ls ws → Closed K (take n (plays s ls ws)) → HearsAlike K t s (take n (plays s ls ws))
   unfolding plays
-  warm-alike zero ls ws s t sim may closed = none-alike t s sim.map
-  warm-alike (suc n) [] ws s t sim may closed = none-alike t s sim.map
-  warm-alike (suc n) (l ∷ ls) [] s t sim may closed = absurd may
-  warm-alike (suc n) (l ∷ ls) (w ∷ ws) s t sim may closed =
+  warm_alike zero ls ws s t sim may closed = none_alike t s sim.map
+  warm_alike (suc n) [] ws s t sim may closed = none_alike t s sim.map
+  warm_alike (suc n) (l ∷ ls) [] s t sim may closed = absurd may
+  warm_alike (suc n) (l ∷ ls) (w ∷ ws) s t sim may closed =
       let u = step s l w in
-      let k : LineKeepsSimulation K t u = step-kept s t l w sim may.0 closed.0 in
-      then-alike t s u (take n (plays u.after ls ws)) k.answer k.work (warm-alike n ls ws u.after (hears_all t (events_of K u u.line)).after k.sim may.1 closed.1)
+      let k : LineKeepsSimulation K t u = step_kept s t l w sim may.0 closed.0 in
+      then_alike t s u (take n (plays u.after ls ws)) k.answer k.work (warm_alike n ls ws u.after (hears_all t (events_of K u u.line)).after k.sim may.1 closed.1)
 
   -- ---- before it
 
@@ -82,80 +82,80 @@ module _ (K : List (List ℕ)) where
   no_dump true n = refl
   no_dump false n = refl
 
-  cold-line : (n : ℕ) (l : DeckLine) (m : List (List ℕ)) (b : ℕ) (a : Armed) (w : Option WornAt) → GivesNoEvent (cold_step n l m b a w) ⊎ First (cold_step n l m b a w)
-  cold-line n (line.Dump x) m b a w = inl (record { power = refl; none = no_dump (has_name x K) x; seen = and_false (has_name x K); own = refl; cold = tt })
-  cold-line n line.Power m b a w =
-      let s = warmed m b a in
+  cold_line : (n : ℕ) (l : DeckLine) (m : List (List ℕ)) (b : ℕ) (a : Armed) (w : Option WornAt) → GivesNoEvent (cold_step n l m b a w) ⊎ First (cold_step n l m b a w)
+  cold_line n (line.Dump x) m b a w = inl (record { power = refl; none = no_dump (has_name x K) x; seen = and_false (has_name x K); own = refl; cold = tt })
+  cold_line n line.Power m b a w =
+      let s = play_at_power m b a in
       let st = hit_of a (power_moves s) w in
       let p : SameAfterPower K s (power_after s st) = powered K s st in
       inr (record {
         power = refl;
-        kept = λ t h. power-keeps K t n (Cold m b a) s st refl (subst (λ (z : List (List ℕ × App)). MapsAgree K true z t.map) p.map h);
+        kept = λ t h. power_keeps K t n (Cold m b a) s st refl (subst (λ (z : List (List ℕ × App)). MapsAgree K true z t.map) p.map h);
       })
-  cold-line n _ m b a w = inl (record { power = refl; none = refl; seen = refl; own = refl; cold = tt })
+  cold_line n _ m b a w = inl (record { power = refl; none = refl; seen = refl; own = refl; cold = tt })
 
-  cold-step : (s : State) (l : ℕ × DeckLine) (w : Option WornAt) → IsCold s → GivesNoEvent (step s l w) ⊎ First (step s l w)
+  cold_step_first : (s : State) (l : ℕ × DeckLine) (w : Option WornAt) → IsCold s → GivesNoEvent (step s l w) ⊎ First (step s l w)
   unfolding step
-  cold-step (Cold m b a) l w c = cold-line l.0 l.1 m b a w
-  cold-step (Hot s) l w c = absurd c
+  cold_step_first (Cold m b a) l w c = cold_line l.0 l.1 m b a w
+  cold_step_first (Hot s) l w c = absurd c
 
   -- ---- the family's applications on the first card
 
   own_here : (x y : Bool) (e : List ℕ × App) (es : List (List ℕ × App)) (k : List ℕ) → has_name k K ≡ true → has_name e.0 K ≡ x → bytes_eq e.0 k ≡ y → bare (lookup es k) ≡ bare (lookup (own_apps K es) k)
-      → bare (cond y (Some e.1) (lookup es k)) ≡ bare (lookup (cond x ((e.0, placed 0 e.1) ∷ own_apps K es) (own_apps K es)) k)
-  own_here true true e es k on p q r = ap (λ (b : Bool). bare (cond b (Some (placed 0 e.1)) (lookup (own_apps K es) k))) (sym q)
-  own_here true false e es k on p q r = r ∙ ap (λ (b : Bool). bare (cond b (Some (placed 0 e.1)) (lookup (own_apps K es) k))) (sym q)
+      → bare (cond y (Some e.1) (lookup es k)) ≡ bare (lookup (cond x ((e.0, app_at_place 0 e.1) ∷ own_apps K es) (own_apps K es)) k)
+  own_here true true e es k on p q r = ap (λ (b : Bool). bare (cond b (Some (app_at_place 0 e.1)) (lookup (own_apps K es) k))) (sym q)
+  own_here true false e es k on p q r = r ∙ ap (λ (b : Bool). bare (cond b (Some (app_at_place 0 e.1)) (lookup (own_apps K es) k))) (sym q)
   own_here false true e es k on p q r =
       let here : has_name e.0 K ≡ true = ap (λ (n : List ℕ). has_name n K) (same_name e.0 k q) ∙ on in
       absurd (cc (sym p ∙ here))
   own_here false false e es k on p q r = r
 
-  own_apps-agree : (m : List (List ℕ × App)) → MapsAgree K true m (own_apps K m)
-  own_apps-agree [] k on = refl
-  own_apps-agree (e ∷ es) k on = own_here (has_name e.0 K) (bytes_eq e.0 k) e es k on refl refl (own_apps-agree es k on)
+  own_apps_agree : (m : List (List ℕ × App)) → MapsAgree K true m (own_apps K m)
+  own_apps_agree [] k on = refl
+  own_apps_agree (e ∷ es) k on = own_here (has_name e.0 K) (bytes_eq e.0 k) e es k on refl refl (own_apps_agree es k on)
 
   -- ---- all lines
 
   abbrev first_solo : List Step → Solo
   first_solo us = record { map = own_apps K (first_apps us); selected = None }
 
-  silent-alike : (s : State) (u : Step) (us : List Step) → GivesNoEvent u → HearsAlike K (first_solo us) u.after us → HearsAlike K (first_solo (u ∷ us)) s (u ∷ us)
-  silent-alike s u us h r =
+  silent_alike : (s : State) (u : Step) (us : List Step) → GivesNoEvent u → HearsAlike K (first_solo us) u.after us → HearsAlike K (first_solo (u ∷ us)) s (u ∷ us)
+  silent_alike s u us h r =
       let t = first_solo us in
       let e : hears_all t (events_of K u u.line) ≡ silent t = ap (λ (es : List Event). hears_all t es) h.none ∙ hears_none t in
       let whole : HearsAlike K t s (u ∷ us) =
-      then-alike t s u us (ap (λ (z : Heard). z.answer) e ∙ sym (ap (λ (b : Bool). seen_if b u.result) h.seen)) (ap (λ (z : Heard). z.work) e ∙ sym (ap (λ (b : Bool). work_if b u) h.own))
+      then_alike t s u us (ap (λ (z : Heard). z.answer) e ∙ sym (ap (λ (b : Bool). results_if b u.result) h.seen)) (ap (λ (z : Heard). z.work) e ∙ sym (ap (λ (b : Bool). work_if b u) h.own))
       (subst (λ (z : Heard). HearsAlike K z.after u.after us) (sym e) r)
       in
       subst (λ (b : Bool). HearsAlike K (record { map = own_apps K (cond b (apps_in u.after) (first_apps us)); selected = None }) s (u ∷ us)) (sym h.power) whole
 
-  cold-alike : (n : ℕ) (ls : List (ℕ × DeckLine)) (ws : List (Option WornAt)) (s : State) → IsCold s → Possible s ls ws → Closed K (take n (plays s ls ws)) → HearsAlike K (first_solo (take n (plays s ls ws))) s (take n (plays s ls ws))
+  cold_alike : (n : ℕ) (ls : List (ℕ × DeckLine)) (ws : List (Option WornAt)) (s : State) → IsCold s → Possible s ls ws → Closed K (take n (plays s ls ws)) → HearsAlike K (first_solo (take n (plays s ls ws))) s (take n (plays s ls ws))
   unfolding plays
-  cold-alike zero ls ws (Cold m b a) c may closed = none-alike (record { map = []; selected = None }) (Cold m b a) (λ k on. refl)
-  cold-alike (suc n) [] ws (Cold m b a) c may closed = none-alike (record { map = []; selected = None }) (Cold m b a) (λ k on. refl)
-  cold-alike (suc n) (l ∷ ls) [] (Cold m b a) c may closed = absurd may
-  cold-alike (suc n) (l ∷ ls) (w ∷ ws) (Cold m b a) c may closed =
+  cold_alike zero ls ws (Cold m b a) c may closed = none_alike (record { map = []; selected = None }) (Cold m b a) (λ k on. refl)
+  cold_alike (suc n) [] ws (Cold m b a) c may closed = none_alike (record { map = []; selected = None }) (Cold m b a) (λ k on. refl)
+  cold_alike (suc n) (l ∷ ls) [] (Cold m b a) c may closed = absurd may
+  cold_alike (suc n) (l ∷ ls) (w ∷ ws) (Cold m b a) c may closed =
       let s = Cold m b a in
       let u = step s l w in
       let us = take n (plays u.after ls ws) in
-      elim (cold-step s l w tt) [
-        | inl h ↦ silent-alike s u us h (cold-alike n ls ws u.after h.cold may.1 closed.1)
+      elim (cold_step_first s l w tt) [
+        | inl h ↦ silent_alike s u us h (cold_alike n ls ws u.after h.cold may.1 closed.1)
         | inr h ↦
             let t : Solo = record { map = own_apps K (apps_in u.after); selected = None } in
-            let k : LineKeepsSimulation K t u = h.kept t (own_apps-agree (apps_in u.after)) in
-            let whole : HearsAlike K t s (u ∷ us) = then-alike t s u us k.answer k.work (warm-alike n ls ws u.after (hears_all t (events_of K u u.line)).after k.sim may.1 closed.1) in
+            let k : LineKeepsSimulation K t u = h.kept t (own_apps_agree (apps_in u.after)) in
+            let whole : HearsAlike K t s (u ∷ us) = then_alike t s u us k.answer k.work (warm_alike n ls ws u.after (hears_all t (events_of K u u.line)).after k.sim may.1 closed.1) in
             subst (λ (b : Bool). HearsAlike K (record { map = own_apps K (cond b (apps_in u.after) (first_apps us)); selected = None }) s (u ∷ us)) (sym h.power) whole
       ]
-  cold-alike n ls ws (Hot s) c may closed = absurd c
+  cold_alike n ls ws (Hot s) c may closed = absurd c
 
   -- family isolation, with equal items and stops, for every front of a play
   pub isolated : (n : ℕ) (ls : List (ℕ × DeckLine)) (m : List (List ℕ)) (ws : List (Option WornAt)) → Possible (start m) ls ws → Closed K (take n (plays (start m) ls ws)) → IsIsolated K (start m) (take n (plays (start m) ls ws))
   isolated n ls m ws may closed =
       let us = take n (plays (start m) ls ws) in
-      let h : HearsAlike K (first_solo us) (start m) us = cold-alike n ls ws (start m) tt may closed in
+      let h : HearsAlike K (first_solo us) (start m) us = cold_alike n ls ws (start m) tt may closed in
       record {
         view =
             ap (λ (z : List LineResult). record { answers = z; rest = rest_of K (apps_in (last_state (start m) us)) }) (sym h.answer)
-            ∙ ap (λ (z : List LineResult). record { answers = (solo (given K us)).answer; rest = z }) (rest-alike K (apps_in (last_state (start m) us)) (solo (given K us)).after.map h.map);
+            ∙ ap (λ (z : List LineResult). record { answers = (solo (given_of_play K us)).answer; rest = z }) (rest_alike K (apps_in (last_state (start m) us)) (solo (given_of_play K us)).after.map h.map);
         same_stop = sym h.work;
       }

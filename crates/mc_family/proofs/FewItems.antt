@@ -12,18 +12,18 @@ use Rattle.mc_model_card.specs.Units.{name_of, checked_name, template_of, name_a
 use Rattle.mc_model_device.specs.Card.{App, Card}
 use Rattle.mc_model_device.specs.Layout.{step_of}
 use Rattle.mc_model_machine.specs.Chain.{Write, no_app, run}
-use Rattle.mc_model_card.specs.Items.{Change, Fixed, Created, Plain, Atomic, changed, done, card_done, Site, Piece, Blank, write_items}
-use Rattle.mc_model_card.specs.Manager.{Selected, Open, Seat, Route, WrongLength, WrongClass, ToSelect, ToManager, ToApplication, route, routed, Accepted, Managed, Declines, Accepts, answered, first_status, is_empty, p1p2, select_done, select_refusals, select, sizes_in, fits_limits, open_done, open_load, load_refusals, load_done, load_part, word_parts, got_of, with_got, Got, can_create, dir_in, is_taken, fresh, create_done, create, is_selected, delete_done, delete, manage, room_on}
-use Rattle.mc_model_card.specs.Commands.{Command, item_of, managed, passed, by_route, command}
-use Rattle.mc_model_play.specs.Play.{is_done, sent_on, send}
+use Rattle.mc_model_card.specs.Items.{Change, Fixed, Created, Plain, Atomic, apps_after_change, apps_after_items, card_done, Site, Piece, Blank, write_items}
+use Rattle.mc_model_card.specs.Manager.{Selected, Open, Seat, Route, WrongLength, WrongClass, ToSelect, ToManager, ToApplication, route, route_of_parts, Accepted, Managed, Declines, Accepts, answer_unless, first_status, is_empty, p1p2, select_done, select_refusals, select, sizes_in, fits_limits, open_done, open_load, load_refusals, load_done, load_part, word_parts, got_of, with_got, Got, can_create, dir_in, is_taken, fresh, create_done, create, is_selected, delete_done, delete, manage, room_on}
+use Rattle.mc_model_card.specs.Commands.{Command, item_of, manager_command, application_command, by_route, command}
+use Rattle.mc_model_play.specs.Play.{is_done, command_with_rest, send}
 use Rattle.mc_model_play.specs.ReadyAgain.{FitsJournal}
-use Rattle.mc_model_device.proofs.ImageLemmas.{all-append}
-use Rattle.mc_machine_laws.proofs.AppSizes.{Limited, limited-done}
-use Rattle.mc_family.proofs.CardFacts.{all-take, AreOnCard, are-coded, name-short, ChangeStands, ItemsStand, fixed-again, done-stands, stand-append}
+use Rattle.mc_model_device.proofs.ImageLemmas.{all_append}
+use Rattle.mc_machine_laws.proofs.AppSizes.{Limited, limited_done}
+use Rattle.mc_family.proofs.CardFacts.{all_take, AreOnCard, are_coded, name_short, ChangeStands, ItemsStand, fixed_again, done_stands, stand_append}
 use Rattle.mc_machine_laws.proofs.FewHeaders.{few_headers_law}
 use Rattle.mc_machine_laws.proofs.FewRuns.{few_runs_law}
-use Rattle.mc_family.proofs.PlaySizes.{notes, SeatFits, CommandFits, command-fits}
-use Rattle.mc_model_card.proofs.ItemLemmas.{done-append}
+use Rattle.mc_family.proofs.PlaySizes.{notes, SeatFits, CommandFits, command_fits}
+use Rattle.mc_model_card.proofs.ItemLemmas.{done_append}
 
 -- ---- the bytes of a command
 
@@ -32,34 +32,34 @@ RestBytes : Option Rest → Type 0
 RestBytes None = ⊤
 RestBytes (Some r) = AreBytes r.body
 
-rest-cond : (b : Bool) (x y : Option Rest) → RestBytes x → RestBytes y → RestBytes (cond b x y)
-rest-cond true x y h k = h
-rest-cond false x y h k = k
+rest_cond : (b : Bool) (x y : Option Rest) → RestBytes x → RestBytes y → RestBytes (cond b x y)
+rest_cond true x y h k = h
+rest_cond false x y h k = k
 
-short-bytes : (lc : ℕ) (b : List ℕ) → AreBytes b → RestBytes (short_rest lc b)
+short_bytes : (lc : ℕ) (b : List ℕ) → AreBytes b → RestBytes (short_rest lc b)
 unfolding RestBytes
-short-bytes lc b h =
-    rest-cond (length b == lc) (Some (record { p3 = lc; body = b; le = None })) _ h
-    (rest-cond (length b == lc + 1) (Some (record { p3 = lc; body = take lc b; le = _ })) None (all-take (λ x. x < 256) lc b h) tt)
+short_bytes lc b h =
+    rest_cond (length b == lc) (Some (record { p3 = lc; body = b; le = None })) _ h
+    (rest_cond (length b == lc + 1) (Some (record { p3 = lc; body = take lc b; le = _ })) None (all_take (λ x. x < 256) lc b h) tt)
 
-body-bytes : (lc : ℕ) (b : List ℕ) → AreBytes b → RestBytes (extended_body lc b)
+body_bytes : (lc : ℕ) (b : List ℕ) → AreBytes b → RestBytes (extended_body lc b)
 unfolding RestBytes
-body-bytes lc b h =
-    rest-cond (length b == lc) (Some (record { p3 = 0; body = b; le = None })) _ h
-    (rest-cond (length b == lc + 2) (Some (record { p3 = 0; body = take lc b; le = _ })) None (all-take (λ x. x < 256) lc b h) tt)
+body_bytes lc b h =
+    rest_cond (length b == lc) (Some (record { p3 = 0; body = b; le = None })) _ h
+    (rest_cond (length b == lc + 2) (Some (record { p3 = 0; body = take lc b; le = _ })) None (all_take (λ x. x < 256) lc b h) tt)
 
-extended-bytes : (b : List ℕ) → AreBytes b → RestBytes (extended_rest b)
+extended_bytes : (b : List ℕ) → AreBytes b → RestBytes (extended_rest b)
 unfolding RestBytes
-extended-bytes [] h = tt
-extended-bytes (x ∷ []) h = tt
-extended-bytes (x ∷ l ∷ []) h = tt
-extended-bytes (x ∷ l ∷ y ∷ ys) h = rest-cond (nat_le 1 (256 * x + l) && nat_le (256 * x + l) 1024) (extended_body (256 * x + l) (y ∷ ys)) None (body-bytes (256 * x + l) (y ∷ ys) h.1.1) tt
+extended_bytes [] h = tt
+extended_bytes (x ∷ []) h = tt
+extended_bytes (x ∷ l ∷ []) h = tt
+extended_bytes (x ∷ l ∷ y ∷ ys) h = rest_cond (nat_le 1 (256 * x + l) && nat_le (256 * x + l) 1024) (extended_body (256 * x + l) (y ∷ ys)) None (body_bytes (256 * x + l) (y ∷ ys) h.1.1) tt
 
-rest-bytes : (b : List ℕ) → AreBytes (drop 1 b) → RestBytes (rest_read b)
+rest_bytes : (b : List ℕ) → AreBytes (drop 1 b) → RestBytes (rest_read b)
 unfolding RestBytes
-rest-bytes [] h = tt
-rest-bytes (p ∷ []) h = tt
-rest-bytes (p ∷ x ∷ xs) h = rest-cond (p == 0) (extended_rest (x ∷ xs)) (short_rest p (x ∷ xs)) (extended-bytes (x ∷ xs) h) (short-bytes p (x ∷ xs) h)
+rest_bytes [] h = tt
+rest_bytes (p ∷ []) h = tt
+rest_bytes (p ∷ x ∷ xs) h = rest_cond (p == 0) (extended_rest (x ∷ xs)) (short_rest p (x ∷ xs)) (extended_bytes (x ∷ xs) h) (short_bytes p (x ∷ xs) h)
 
 -- a command for the manager has a body of bytes
 abbrev RouteBytes : Route → Type 0
@@ -69,27 +69,27 @@ RouteBytes WrongClass = ⊤
 RouteBytes (ToSelect a) = ⊤
 RouteBytes (ToApplication a) = ⊤
 
-route-cond : (b : Bool) (x y : Route) → RouteBytes x → RouteBytes y → RouteBytes (cond b x y)
-route-cond true x y h k = h
-route-cond false x y h k = k
+route_cond : (b : Bool) (x y : Route) → RouteBytes x → RouteBytes y → RouteBytes (cond b x y)
+route_cond true x y h k = h
+route_cond false x y h k = k
 
-headed-bytes : (cla ins p1 p2 : ℕ) (r : Option Rest) → RestBytes r → RouteBytes (routed (option_map (λ r. record { cla = cla; ins = ins; p1 = p1; p2 = p2; p3 = r.p3; body = r.body; le = r.le }) r))
+headed_bytes : (cla ins p1 p2 : ℕ) (r : Option Rest) → RestBytes r → RouteBytes (route_of_parts (option_map (λ r. record { cla = cla; ins = ins; p1 = p1; p2 = p2; p3 = r.p3; body = r.body; le = r.le }) r))
 unfolding RestBytes
-headed-bytes cla ins p1 p2 None h = tt
-headed-bytes cla ins p1 p2 (Some r) h =
-    route-cond (cla == 0xFF) WrongClass _ tt (route-cond (cla == 0 && ins == 0xA4 && p1 == 4) (ToSelect _) _ tt (route-cond (cla == 0xBE) (ToManager _) (ToApplication _) h tt))
+headed_bytes cla ins p1 p2 None h = tt
+headed_bytes cla ins p1 p2 (Some r) h =
+    route_cond (cla == 0xFF) WrongClass _ tt (route_cond (cla == 0 && ins == 0xA4 && p1 == 4) (ToSelect _) _ tt (route_cond (cla == 0xBE) (ToManager _) (ToApplication _) h tt))
 
 -- all that follows the first five bytes of a command is bytes
 abbrev pub IsSent : List ℕ → Type 0
 IsSent b = AreBytes (drop 5 b)
 
-route-bytes : (b : List ℕ) → IsSent b → RouteBytes (route b)
+route_bytes : (b : List ℕ) → IsSent b → RouteBytes (route b)
 unfolding apdu_read
-route-bytes [] h = tt
-route-bytes (cla ∷ []) h = tt
-route-bytes (cla ∷ ins ∷ []) h = tt
-route-bytes (cla ∷ ins ∷ p1 ∷ []) h = tt
-route-bytes (cla ∷ ins ∷ p1 ∷ p2 ∷ r) h = headed-bytes cla ins p1 p2 (rest_read r) (rest-bytes r h)
+route_bytes [] h = tt
+route_bytes (cla ∷ []) h = tt
+route_bytes (cla ∷ ins ∷ []) h = tt
+route_bytes (cla ∷ ins ∷ p1 ∷ []) h = tt
+route_bytes (cla ∷ ins ∷ p1 ∷ p2 ∷ r) h = headed_bytes cla ins p1 p2 (rest_read r) (rest_bytes r h)
 
 -- ---- a running card
 
@@ -111,228 +111,228 @@ pub record SeatStands (m : List (List ℕ × App)) (seat : Seat) : Type 0 where
 pub record CommandStands (m : List (List ℕ × App)) (r : Command) : Type 0 where
   pub few : AllByRecursion FitsJournal r.items
   pub items : ItemsStand m r.items
-  pub seat : SeatStands (done m r.items) r.seat
+  pub seat : SeatStands (apps_after_items m r.items) r.seat
 
 -- a load on a map of as many applications
-same-load : (m d : List (List ℕ × App)) (o : Option Open) → length d ≡ length m → LoadStands m o → LoadStands d o
-same-load m d None e h = tt
-same-load m d (Some o) e h = (subst (λ (k : ℕ). k ≤ 31) (sym e) h.0, h.1)
+same_load : (m d : List (List ℕ × App)) (o : Option Open) → length d ≡ length m → LoadStands m o → LoadStands d o
+same_load m d None e h = tt
+same_load m d (Some o) e h = (subst (λ (k : ℕ). k ≤ 31) (sym e) h.0, h.1)
 
 -- ---- items without contents
 
-pieces-few : (s : Site) (p : Part) (cs : List (ℕ × List ℕ)) → AllByRecursion FitsJournal (map (item_of Plain) (map (λ c. Piece s p c.0 c.1) cs))
-pieces-few s p [] = tt
-pieces-few s p (c ∷ cs) = (tt, pieces-few s p cs)
+pieces_few : (s : Site) (p : Part) (cs : List (ℕ × List ℕ)) → AllByRecursion FitsJournal (map (item_of Plain) (map (λ c. Piece s p c.0 c.1) cs))
+pieces_few s p [] = tt
+pieces_few s p (c ∷ cs) = (tt, pieces_few s p cs)
 
-pieces-stand : (m : List (List ℕ × App)) (s : Site) (p : Part) (cs : List (ℕ × List ℕ)) → ItemsStand m (map (item_of Plain) (map (λ c. Piece s p c.0 c.1) cs)) × (done m (map (item_of Plain) (map (λ c. Piece s p c.0 c.1) cs)) ≡ m)
-pieces-stand m s p [] = (tt, refl)
-pieces-stand m s p (c ∷ cs) = pieces-stand m s p cs
+pieces_stand : (m : List (List ℕ × App)) (s : Site) (p : Part) (cs : List (ℕ × List ℕ)) → ItemsStand m (map (item_of Plain) (map (λ c. Piece s p c.0 c.1) cs)) × (apps_after_items m (map (item_of Plain) (map (λ c. Piece s p c.0 c.1) cs)) ≡ m)
+pieces_stand m s p [] = (tt, refl)
+pieces_stand m s p (c ∷ cs) = pieces_stand m s p cs
 
-creation-few : (w : ℕ) (c : Change) (s : Site) (n : List ℕ) (cs : List (ℕ × List ℕ)) → w ≤ 64 → AllByRecursion FitsJournal (map (item_of (Atomic w c)) (map (λ c. Blank s c.0 (length c.1)) cs ++ notes s n))
-creation-few w c s n [] h = (tt, (tt, (tt, (tt, (h, tt)))))
-creation-few w c s n (x ∷ cs) h = (tt, creation-few w c s n cs h)
+creation_few : (w : ℕ) (c : Change) (s : Site) (n : List ℕ) (cs : List (ℕ × List ℕ)) → w ≤ 64 → AllByRecursion FitsJournal (map (item_of (Atomic w c)) (map (λ c. Blank s c.0 (length c.1)) cs ++ notes s n))
+creation_few w c s n [] h = (tt, (tt, (tt, (tt, (h, tt)))))
+creation_few w c s n (x ∷ cs) h = (tt, creation_few w c s n cs h)
 
-creation-stands : (m : List (List ℕ × App)) (w : ℕ) (c : Change) (s : Site) (n : List ℕ) (cs : List (ℕ × List ℕ)) → ChangeStands m c → ItemsStand m (map (item_of (Atomic w c)) (map (λ c. Blank s c.0 (length c.1)) cs ++ notes s n))
-creation-stands m w c s n [] h = (h, tt)
-creation-stands m w c s n (x ∷ cs) h = creation-stands m w c s n cs h
+creation_stands : (m : List (List ℕ × App)) (w : ℕ) (c : Change) (s : Site) (n : List ℕ) (cs : List (ℕ × List ℕ)) → ChangeStands m c → ItemsStand m (map (item_of (Atomic w c)) (map (λ c. Blank s c.0 (length c.1)) cs ++ notes s n))
+creation_stands m w c s n [] h = (h, tt)
+creation_stands m w c s n (x ∷ cs) h = creation_stands m w c s n cs h
 
 -- ---- names
 
-checked-short : (o : Option (List ℕ)) (n : List ℕ) → checked_name o ≡ Ok n → length n ≤ 16
-checked-short None n e = absurd (cc e)
-checked-short (Some v) n e = by (nat_le 5 (length v)) (nat_le (length v) 16) refl e
+checked_short : (o : Option (List ℕ)) (n : List ℕ) → checked_name o ≡ Ok n → length n ≤ 16
+checked_short None n e = absurd (cc e)
+checked_short (Some v) n e = by (nat_le 5 (length v)) (nat_le (length v) 16) refl e
   where
     by : (x y : Bool) → nat_le (length v) 16 ≡ y → cond (x && y) (Ok v) (Err AidLength) ≡ Ok n → length n ≤ 16
     by true true is e = let same : v ≡ n = cc e in subst (λ (k : List ℕ). length k ≤ 16) same (grind (arith, is))
     by true false is e = absurd (cc e)
     by false y is e = absurd (cc e)
 
-short-name : (d n : List ℕ) → name_of d ≡ Ok n → length n ≤ 16
+short_name : (d n : List ℕ) → name_of d ≡ Ok n → length n ≤ 16
 unfolding name_of
-short-name d n e = checked-short (option_and_then (λ t. name_among (length t) t) (template_of d)) n e
+short_name d n e = checked_short (option_and_then (λ t. name_among (length t) t) (template_of d)) n e
 
 -- ---- the manager
 
-or-false : (x y : Bool) → (x || y) ≡ false → x ≡ false
-or-false true y e = absurd (cc e)
-or-false false y e = refl
+or_false : (x y : Bool) → (x || y) ≡ false → x ≡ false
+or_false true y e = absurd (cc e)
+or_false false y e = refl
 
-with-code : (p : Part) (b : List ℕ) (g : Got) → AreBytes b → AreBytes g.code → AreBytes (with_got p b g).code
-with-code part.Code b g h k = all-append (λ x. x < 256) g.code b k h
-with-code part.Data b g h k = k
-with-code part.Dir b g h k = k
-with-code part.Fci b g h k = k
+with_code : (p : Part) (b : List ℕ) (g : Got) → AreBytes b → AreBytes g.code → AreBytes (with_got p b g).code
+with_code part.Code b g h k = all_append (λ x. x < 256) g.code b k h
+with_code part.Data b g h k = k
+with_code part.Dir b g h k = k
+with_code part.Fci b g h k = k
 
 module _ (c : Card) (seat : Seat) (on : AreOnCard c.apps) (stands : SeatStands c.apps seat) where
   ManagedStands : Managed → Type 0
-  ManagedStands m = CommandStands c.apps (managed c seat m)
+  ManagedStands m = CommandStands c.apps (manager_command c seat m)
 
   declined : (sw : ℕ) → ManagedStands (Declines sw)
   unfolding ManagedStands
   declined sw = record { few = tt; items = tt; seat = stands }
 
-  answered-stands : (o : Option ℕ) (d : Accepted) → (o ≡ None → ManagedStands (Accepts d)) → ManagedStands (answered o d)
-  answered-stands (Some sw) d h = declined sw
-  answered-stands None d h = h refl
+  answered_stands : (o : Option ℕ) (d : Accepted) → (o ≡ None → ManagedStands (Accepts d)) → ManagedStands (answer_unless o d)
+  answered_stands (Some sw) d h = declined sw
+  answered_stands None d h = h refl
 
-  select-by : (a : ApduParts) (o : Option App) → lookup c.apps a.body ≡ o → ManagedStands (Accepts (select_done seat a o))
+  select_by : (a : ApduParts) (o : Option App) → lookup c.apps a.body ≡ o → ManagedStands (Accepts (select_done seat a o))
   unfolding ManagedStands
-  select-by a None e = record { few = tt; items = tt; seat = stands }
-  select-by a (Some app) e = record { few = tt; items = tt; seat = record { selected = name-short c.apps a.body app on e; load = stands.load } }
+  select_by a None e = record { few = tt; items = tt; seat = stands }
+  select_by a (Some app) e = record { few = tt; items = tt; seat = record { selected = name_short c.apps a.body app on e; load = stands.load } }
 
-  select-stands : (a : ApduParts) → ManagedStands (select c.apps seat a)
-  select-stands a = answered-stands (first_status (select_refusals c.apps a)) (select_done seat a (lookup c.apps a.body)) (λ e. select-by a (lookup c.apps a.body) refl)
+  select_stands : (a : ApduParts) → ManagedStands (select c.apps seat a)
+  select_stands a = answered_stands (first_status (select_refusals c.apps a)) (select_done seat a (lookup c.apps a.body)) (λ e. select_by a (lookup c.apps a.body) refl)
 
   -- ---- OPEN
 
-  opened-by : (a : ApduParts) (x y z v : Bool) → (nat_le 32 (length c.apps) || is_none (room_on c (sizes_in a))) ≡ v
-      → ManagedStands (answered (cond x (Some 0x6A86) (cond y (Some 0x6700) (cond (not z) (Some 0x6A80) (cond v (Some 0x6A84) None)))) (open_done (room_on c) seat a))
+  opened_by : (a : ApduParts) (x y z v : Bool) → (nat_le 32 (length c.apps) || is_none (room_on c (sizes_in a))) ≡ v
+      → ManagedStands (answer_unless (cond x (Some 0x6A86) (cond y (Some 0x6700) (cond (not z) (Some 0x6A80) (cond v (Some 0x6A84) None)))) (open_done (room_on c) seat a))
   unfolding ManagedStands
-  opened-by a true y z v h = declined 0x6A86
-  opened-by a false true z v h = declined 0x6700
-  opened-by a false false false v h = declined 0x6A80
-  opened-by a false false true true h = declined 0x6A84
-  opened-by a false false true false h =
-      let below : nat_le 32 (length c.apps) ≡ false = or-false (nat_le 32 (length c.apps)) (is_none (room_on c (sizes_in a))) h in
+  opened_by a true y z v h = declined 0x6A86
+  opened_by a false true z v h = declined 0x6700
+  opened_by a false false false v h = declined 0x6A80
+  opened_by a false false true true h = declined 0x6A84
+  opened_by a false false true false h =
+      let below : nat_le 32 (length c.apps) ≡ false = or_false (nat_le 32 (length c.apps)) (is_none (room_on c (sizes_in a))) h in
       record { few = tt; items = tt; seat = record { selected = stands.selected; load = (grind (arith, below), tt) } }
 
-  open-stands : (a : ApduParts) → ManagedStands (open_load (room_on c) c.apps seat a)
-  open-stands a = opened-by a (nat_lt 15 (p1p2 a)) (not (length a.body == 12)) (fits_limits (sizes_in a)) (nat_le 32 (length c.apps) || is_none (room_on c (sizes_in a))) refl
+  open_stands : (a : ApduParts) → ManagedStands (open_load (room_on c) c.apps seat a)
+  open_stands a = opened_by a (nat_lt 15 (p1p2 a)) (not (length a.body == 12)) (fits_limits (sizes_in a)) (nat_le 32 (length c.apps) || is_none (room_on c (sizes_in a))) refl
 
   -- ---- LOAD
 
-  loaded-by : (p : Part) (a : ApduParts) (o : Option Open) → AreBytes a.body → seat.load ≡ o → ManagedStands (Accepts (load_done seat o p a))
+  loaded_by : (p : Part) (a : ApduParts) (o : Option Open) → AreBytes a.body → seat.load ≡ o → ManagedStands (Accepts (load_done seat o p a))
   unfolding ManagedStands
-  loaded-by p a None bytes e = record { few = tt; items = tt; seat = stands }
-  loaded-by p a (Some o) bytes e =
+  loaded_by p a None bytes e = record { few = tt; items = tt; seat = stands }
+  loaded_by p a (Some o) bytes e =
       let cs = word_parts (length (got_of p o.got)) a.body in
-      let now = pieces-stand c.apps o.site p cs in
+      let now = pieces_stand c.apps o.site p cs in
       let load : LoadStands c.apps (Some o) = subst (LoadStands c.apps) e stands.load in
       record {
-        few = pieces-few o.site p cs;
+        few = pieces_few o.site p cs;
         items = now.0;
-        seat = subst (λ (m : List (List ℕ × App)). SeatStands m (load_done seat (Some o) p a).seat) (sym now.1) (record { selected = stands.selected; load = (load.0, with-code p a.body o.got bytes load.1) });
+        seat = subst (λ (m : List (List ℕ × App)). SeatStands m (load_done seat (Some o) p a).seat) (sym now.1) (record { selected = stands.selected; load = (load.0, with_code p a.body o.got bytes load.1) });
       }
 
-  load-stands : (p : Part) (a : ApduParts) → AreBytes a.body → ManagedStands (load_part p seat a)
-  load-stands p a bytes = answered-stands (first_status (load_refusals seat.load p a)) (load_done seat seat.load p a) (λ e. loaded-by p a seat.load bytes refl)
+  load_stands : (p : Part) (a : ApduParts) → AreBytes a.body → ManagedStands (load_part p seat a)
+  load_stands p a bytes = answered_stands (first_status (load_refusals seat.load p a)) (load_done seat seat.load p a) (λ e. loaded_by p a seat.load bytes refl)
 
   -- ---- CREATE
 
-  created-by : (a : ApduParts) (o : Open) (r : Result (List ℕ) AidFault) (x y z v : Bool) → seat.load ≡ Some o → name_of o.got.dir ≡ r
-      → ManagedStands (answered (cond x (Some 0x6A86) (cond y (Some 0x6700) (cond (not z) (Some 0x6985) (cond (not (is_ok r)) (Some 0x6A80) (cond v (Some 0x6A89) None))))) (create_done seat (Some o) r))
+  created_by : (a : ApduParts) (o : Open) (r : Result (List ℕ) AidFault) (x y z v : Bool) → seat.load ≡ Some o → name_of o.got.dir ≡ r
+      → ManagedStands (answer_unless (cond x (Some 0x6A86) (cond y (Some 0x6700) (cond (not z) (Some 0x6985) (cond (not (is_ok r)) (Some 0x6A80) (cond v (Some 0x6A89) None))))) (create_done seat (Some o) r))
   unfolding ManagedStands
-  created-by a o r true y z v e k = declined 0x6A86
-  created-by a o r false true z v e k = declined 0x6700
-  created-by a o r false false false v e k = declined 0x6985
-  created-by a o (Err f) false false true v e k = declined 0x6A80
-  created-by a o (Ok n) false false true true e k = declined 0x6A89
-  created-by a o (Ok n) false false true false e k =
+  created_by a o r true y z v e k = declined 0x6A86
+  created_by a o r false true z v e k = declined 0x6700
+  created_by a o r false false false v e k = declined 0x6985
+  created_by a o (Err f) false false true v e k = declined 0x6A80
+  created_by a o (Ok n) false false true true e k = declined 0x6A89
+  created_by a o (Ok n) false false true false e k =
       let ch = Created n (fresh o) in
       let cs = word_parts o.site.sizes.init (zeros (o.site.sizes.fixed - o.site.sizes.init)) in
       let load : LoadStands c.apps (Some o) = subst (LoadStands c.apps) e stands.load in
       let room : length c.apps ≤ 31 = load.0 in
       let words : length (step_of c (record c { apps = insert c.apps n (fresh o) })) ≤ length c.apps + 4 = (few_headers_law c n (fresh o)).created in
-      let items : ItemsStand c.apps (managed c seat (Accepts (create_done seat (Some o) (Ok n)))).items = creation-stands c.apps _ ch o.site n cs (load.0, record { name = short-name o.got.dir n k; code = load.1 }) in
-      record { few = creation-few _ ch o.site n cs (omega (arith, words, room)); items = items; seat = record { selected = stands.selected; load = tt } }
+      let items : ItemsStand c.apps (manager_command c seat (Accepts (create_done seat (Some o) (Ok n)))).items = creation_stands c.apps _ ch o.site n cs (load.0, record { name = short_name o.got.dir n k; code = load.1 }) in
+      record { few = creation_few _ ch o.site n cs (omega (arith, words, room)); items = items; seat = record { selected = stands.selected; load = tt } }
 
-  create-by : (a : ApduParts) (o : Option Open) (x y : Bool) → seat.load ≡ o
-      → ManagedStands (answered (cond x (Some 0x6A86) (cond y (Some 0x6700) (cond (not (can_create o)) (Some 0x6985) (cond (not (is_ok (name_of (dir_in o)))) (Some 0x6A80) (cond (is_taken c.apps (name_of (dir_in o))) (Some 0x6A89) None))))) (create_done seat o (name_of (dir_in o))))
-  create-by a None true y e = declined 0x6A86
-  create-by a None false true e = declined 0x6700
-  create-by a None false false e = declined 0x6985
-  create-by a (Some o) x y e = created-by a o (name_of o.got.dir) x y (can_create (Some o)) (is_taken c.apps (name_of o.got.dir)) e refl
+  create_by : (a : ApduParts) (o : Option Open) (x y : Bool) → seat.load ≡ o
+      → ManagedStands (answer_unless (cond x (Some 0x6A86) (cond y (Some 0x6700) (cond (not (can_create o)) (Some 0x6985) (cond (not (is_ok (name_of (dir_in o)))) (Some 0x6A80) (cond (is_taken c.apps (name_of (dir_in o))) (Some 0x6A89) None))))) (create_done seat o (name_of (dir_in o))))
+  create_by a None true y e = declined 0x6A86
+  create_by a None false true e = declined 0x6700
+  create_by a None false false e = declined 0x6985
+  create_by a (Some o) x y e = created_by a o (name_of o.got.dir) x y (can_create (Some o)) (is_taken c.apps (name_of o.got.dir)) e refl
 
-  create-stands : (a : ApduParts) → ManagedStands (create c.apps seat a)
-  create-stands a = create-by a seat.load (not (p1p2 a == 0)) (not (is_empty a.body)) refl
+  create_stands : (a : ApduParts) → ManagedStands (create c.apps seat a)
+  create_stands a = create_by a seat.load (not (p1p2 a == 0)) (not (is_empty a.body)) refl
 
   -- ---- DELETE
 
-  deleted-by : (a : ApduParts) (x y z v : Bool) → ManagedStands (answered (cond x (Some 0x6A86) (cond y (Some 0x6700) (cond z (Some 0x6A82) (cond v (Some 0x6985) None)))) (delete_done seat a))
+  deleted_by : (a : ApduParts) (x y z v : Bool) → ManagedStands (answer_unless (cond x (Some 0x6A86) (cond y (Some 0x6700) (cond z (Some 0x6A82) (cond v (Some 0x6985) None)))) (delete_done seat a))
   unfolding ManagedStands
-  deleted-by a true y z v = declined 0x6A86
-  deleted-by a false true z v = declined 0x6700
-  deleted-by a false false true v = declined 0x6A82
-  deleted-by a false false false true = declined 0x6985
-  deleted-by a false false false false =
+  deleted_by a true y z v = declined 0x6A86
+  deleted_by a false true z v = declined 0x6700
+  deleted_by a false false true v = declined 0x6A82
+  deleted_by a false false false true = declined 0x6985
+  deleted_by a false false false false =
       let words : length (step_of c (record c { apps = remove c.apps a.body })) ≤ length c.apps + 4 = (few_headers_law c a.body no_app).deleted in
       let count : length c.apps ≤ 32 = on.count in
       record { few = (omega (arith, words, count), tt); items = (tt, tt); seat = record { selected = stands.selected; load = tt } }
 
-  delete-stands : (a : ApduParts) → ManagedStands (delete c.apps seat a)
-  delete-stands a = deleted-by a (not (p1p2 a == 0)) (is_empty a.body) (is_none (lookup c.apps a.body)) (is_selected seat.selected a.body)
+  delete_stands : (a : ApduParts) → ManagedStands (delete c.apps seat a)
+  delete_stands a = deleted_by a (not (p1p2 a == 0)) (is_empty a.body) (is_none (lookup c.apps a.body)) (is_selected seat.selected a.body)
 
   either : (b : Bool) (m n : Managed) → ManagedStands m → ManagedStands n → ManagedStands (cond b m n)
   either true m n h k = h
   either false m n h k = k
 
-  manage-stands : (a : ApduParts) → AreBytes a.body → ManagedStands (manage (room_on c) c.apps seat a)
+  manage_stands : (a : ApduParts) → AreBytes a.body → ManagedStands (manage (room_on c) c.apps seat a)
   unfolding manage
-  manage-stands a bytes =
-      either (a.ins == 0x12) _ _ (open-stands a) (
-      either (a.ins == 0x24) _ _ (load-stands part.Code a bytes) (
-      either (a.ins == 0x26) _ _ (load-stands part.Data a bytes) (
-      either (a.ins == 0x20) _ _ (load-stands part.Dir a bytes) (
-      either (a.ins == 0x22) _ _ (load-stands part.Fci a bytes) (
-      either (a.ins == 0x16) _ _ (create-stands a) (either (a.ins == 0x18) _ _ (delete-stands a) (declined 0x6D00)))))))
+  manage_stands a bytes =
+      either (a.ins == 0x12) _ _ (open_stands a) (
+      either (a.ins == 0x24) _ _ (load_stands part.Code a bytes) (
+      either (a.ins == 0x26) _ _ (load_stands part.Data a bytes) (
+      either (a.ins == 0x20) _ _ (load_stands part.Dir a bytes) (
+      either (a.ins == 0x22) _ _ (load_stands part.Fci a bytes) (
+      either (a.ins == 0x16) _ _ (create_stands a) (either (a.ins == 0x18) _ _ (delete_stands a) (declined 0x6D00)))))))
 
 -- ---- a run
 
-writes-few : (ws : List Write) → AllByRecursion (λ w. w.words ≤ 64) ws → AllByRecursion FitsJournal (write_items ws)
-writes-few [] h = tt
-writes-few (w ∷ ws) h = (h.0, writes-few ws h.1)
+writes_few : (ws : List Write) → AllByRecursion (λ w. w.words ≤ 64) ws → AllByRecursion FitsJournal (write_items ws)
+writes_few [] h = tt
+writes_few (w ∷ ws) h = (h.0, writes_few ws h.1)
 
-writes-stand : (ws : List Write) (m : List (List ℕ × App)) → AreOnCard m → ItemsStand m (write_items ws) × (length (done m (write_items ws)) ≡ length m)
-writes-stand [] m h = (tt, refl)
-writes-stand (w ∷ ws) m h =
-    let d = changed (Fixed w.name w.pieces) m in
-    let one = fixed-again m w.name w.pieces h in
-    let rest = writes-stand ws d one.0 in
+writes_stand : (ws : List Write) (m : List (List ℕ × App)) → AreOnCard m → ItemsStand m (write_items ws) × (length (apps_after_items m (write_items ws)) ≡ length m)
+writes_stand [] m h = (tt, refl)
+writes_stand (w ∷ ws) m h =
+    let d = apps_after_change (Fixed w.name w.pieces) m in
+    let one = fixed_again m w.name w.pieces h in
+    let rest = writes_stand ws d one.0 in
     ((tt, rest.0), rest.1 ∙ one.1)
 
-passed-stands : (c : Card) (seat : Seat) (o : Option Selected) (a : ApduParts) (budget : ℕ) → seat.selected ≡ o → Limited c.apps → AreOnCard c.apps → SeatStands c.apps seat → CommandStands c.apps (passed c seat o a budget)
-passed-stands c seat None a budget e limited on h = record { few = tt; items = tt; seat = h }
-passed-stands c seat (Some s) a budget e limited on h =
+passed_stands : (c : Card) (seat : Seat) (o : Option Selected) (a : ApduParts) (budget : ℕ) → seat.selected ≡ o → Limited c.apps → AreOnCard c.apps → SeatStands c.apps seat → CommandStands c.apps (application_command c seat o a budget)
+passed_stands c seat None a budget e limited on h = record { few = tt; items = tt; seat = h }
+passed_stands c seat (Some s) a budget e limited on h =
     let r = run c.apps s.name s.session a budget in
     let short : length s.name ≤ 16 = subst SelectedStands e h.selected in
-    let after = writes-stand r.writes c.apps on in
+    let after = writes_stand r.writes c.apps on in
     record {
-      few = writes-few r.writes (few_runs_law c.apps s.name s.session a budget (are-coded c.apps limited on) short);
+      few = writes_few r.writes (few_runs_law c.apps s.name s.session a budget (are_coded c.apps limited on) short);
       items = after.0;
-      seat = record { selected = short; load = same-load c.apps (done c.apps (write_items r.writes)) seat.load after.1 h.load };
+      seat = record { selected = short; load = same_load c.apps (apps_after_items c.apps (write_items r.writes)) seat.load after.1 h.load };
     }
 
 -- ---- a command
 
-routed-stands : (c : Card) (seat : Seat) (budget : ℕ) (r : Route) → RouteBytes r → Limited c.apps → AreOnCard c.apps → SeatStands c.apps seat → CommandStands c.apps (by_route c seat budget r)
+routed_stands : (c : Card) (seat : Seat) (budget : ℕ) (r : Route) → RouteBytes r → Limited c.apps → AreOnCard c.apps → SeatStands c.apps seat → CommandStands c.apps (by_route c seat budget r)
 unfolding ManagedStands
-routed-stands c seat budget WrongLength bytes limited on h = record { few = tt; items = tt; seat = h }
-routed-stands c seat budget WrongClass bytes limited on h = record { few = tt; items = tt; seat = h }
-routed-stands c seat budget (ToSelect a) bytes limited on h = select-stands c seat on h a
-routed-stands c seat budget (ToManager a) bytes limited on h = manage-stands c seat on h a bytes
-routed-stands c seat budget (ToApplication a) bytes limited on h = passed-stands c seat seat.selected a budget refl limited on h
+routed_stands c seat budget WrongLength bytes limited on h = record { few = tt; items = tt; seat = h }
+routed_stands c seat budget WrongClass bytes limited on h = record { few = tt; items = tt; seat = h }
+routed_stands c seat budget (ToSelect a) bytes limited on h = select_stands c seat on h a
+routed_stands c seat budget (ToManager a) bytes limited on h = manage_stands c seat on h a bytes
+routed_stands c seat budget (ToApplication a) bytes limited on h = passed_stands c seat seat.selected a budget refl limited on h
 
-pub command-stands : (c : Card) (seat : Seat) (b : List ℕ) (budget : ℕ) → IsSent b → Limited c.apps → AreOnCard c.apps → SeatStands c.apps seat → CommandStands c.apps (command c seat b budget)
+pub command_stands : (c : Card) (seat : Seat) (b : List ℕ) (budget : ℕ) → IsSent b → Limited c.apps → AreOnCard c.apps → SeatStands c.apps seat → CommandStands c.apps (command c seat b budget)
 unfolding command
-command-stands c seat b budget sent limited on h = routed-stands c seat budget (route b) (route-bytes b sent) limited on h
+command_stands c seat b budget sent limited on h = routed_stands c seat budget (route b) (route_bytes b sent) limited on h
 
 -- ---- the commands of a line
 
-sent_on-stands : (m : List (List ℕ × App)) (b : Bool) (r rest : Command) → CommandStands m r → CommandStands (done m r.items) rest → CommandStands m (sent_on b r rest)
-sent_on-stands m true r rest h k =
+sent_on_stands : (m : List (List ℕ × App)) (b : Bool) (r rest : Command) → CommandStands m r → CommandStands (apps_after_items m r.items) rest → CommandStands m (command_with_rest b r rest)
+sent_on_stands m true r rest h k =
     record {
-      few = all-append FitsJournal r.items rest.items h.few k.few;
-      items = stand-append r.items rest.items m h.items k.items;
-      seat = subst (λ (d : List (List ℕ × App)). SeatStands d rest.seat) (sym (done-append r.items rest.items m)) k.seat;
+      few = all_append FitsJournal r.items rest.items h.few k.few;
+      items = stand_append r.items rest.items m h.items k.items;
+      seat = subst (λ (d : List (List ℕ × App)). SeatStands d rest.seat) (sym (done_append r.items rest.items m)) k.seat;
     }
-sent_on-stands m false r rest h k = h
+sent_on_stands m false r rest h k = h
 
-pub send-stands : (c : Card) (seat : Seat) (budget : ℕ) (bs : List (List ℕ)) → AllByRecursion IsSent bs → Limited c.apps → SeatFits c.apps seat → AreOnCard c.apps → SeatStands c.apps seat → CommandStands c.apps (send c seat budget bs)
+pub send_stands : (c : Card) (seat : Seat) (budget : ℕ) (bs : List (List ℕ)) → AllByRecursion IsSent bs → Limited c.apps → SeatFits c.apps seat → AreOnCard c.apps → SeatStands c.apps seat → CommandStands c.apps (send c seat budget bs)
 unfolding send
-send-stands c seat budget [] sent limited fits on h = record { few = tt; items = tt; seat = h }
-send-stands c seat budget (b ∷ bs) sent limited fits on h =
+send_stands c seat budget [] sent limited fits on h = record { few = tt; items = tt; seat = h }
+send_stands c seat budget (b ∷ bs) sent limited fits on h =
     let r = command c seat b budget in
-    let f : CommandFits c.apps r = command-fits c seat b budget fits in
-    let k : CommandStands c.apps r = command-stands c seat b budget sent.0 limited on h in
-    sent_on-stands c.apps (is_done r.outcome) r (send (card_done c r.items) r.seat budget bs) k
-    (send-stands (card_done c r.items) r.seat budget bs sent.1 (limited-done r.items c.apps limited f.items) f.seat (done-stands r.items c.apps on k.items) k.seat)
+    let f : CommandFits c.apps r = command_fits c seat b budget fits in
+    let k : CommandStands c.apps r = command_stands c seat b budget sent.0 limited on h in
+    sent_on_stands c.apps (is_done r.outcome) r (send (card_done c r.items) r.seat budget bs) k
+    (send_stands (card_done c r.items) r.seat budget bs sent.1 (limited_done r.items c.apps limited f.items) f.seat (done_stands r.items c.apps on k.items) k.seat)

@@ -8,45 +8,45 @@ use Rattle.mc_model_device.specs.declared.device.Stop.TheVariants as stop
 use Rattle.mc_model_device.specs.Bytes.{AreBytes, bytes2, zeros}
 use Rattle.mc_model_card.specs.Units.{UnitParts}
 use Rattle.mc_model_device.specs.Device.{IsImage}
-use Rattle.mc_model_device.specs.Image.{Journal, One, shut}
+use Rattle.mc_model_device.specs.Image.{Journal, One, shut_word}
 use Rattle.mc_model_device.specs.Stopped.{stands}
 use Rattle.mc_model_device.specs.Card.{App, Card, heap_start}
 use Rattle.mc_model_device.specs.Layout.{root, hole_header, fault}
-use Rattle.mc_model_card.specs.Items.{moves, done, StopAt, at_stop}
+use Rattle.mc_model_card.specs.Items.{moves, apps_after_items, StopAt, at_stop}
 use Rattle.mc_model_card.specs.Manager.{Seat}
 use Rattle.mc_model_play.specs.DeckGrammar.{DeckLine}
 use Rattle.mc_model_play.specs.DeckGrammar as line
-use Rattle.mc_model_play.specs.Play.{Armed, Live, Running, Unpowered, Muted, Warm, State, Cold, Hot, Step, select_bytes, delete_bytes, piece_commands, section_commands, load_commands, line_command, hit_of, WornAt, live_after, power_live, power_after, stopped_power, power_moves, line_after, card_line, hot_step, cold_step, step, warmed, plays, first_worn, start, formatted}
-use Rattle.mc_model_device.specs.PowerUp.{Base, OnCard, AtFault, migrated, base_of}
+use Rattle.mc_model_play.specs.Play.{Armed, Live, Running, Unpowered, Muted, Warm, State, Cold, Hot, Step, select_bytes, delete_bytes, piece_commands, section_commands, load_commands, line_command, hit_of, WornAt, live_after, power_live, power_after, stopped_power, power_moves, line_after, card_line, hot_step, cold_step, step, play_at_power, plays, first_worn, start, formatted_image}
+use Rattle.mc_model_device.specs.PowerUp.{Base, OnCard, AtFault, base_after_migration, base_of}
 use Rattle.mc_model_card.specs.Commands.{Command}
 use Rattle.mc_model_play.specs.ReadyAgain.{FitsJournal, AllFitJournal, IsLine, AreLines}
-use Rattle.mc_model_device.proofs.ImageLemmas.{all-append}
+use Rattle.mc_model_device.proofs.ImageLemmas.{all_append}
 use Rattle.mc_model_device.proofs.LookLemmas.{IsFull}
 use Rattle.mc_model_play.proofs.PlayLemmas.{step_is}
-use Rattle.mc_model_device.proofs.ImageBytes.{image-set, shut-full}
-use Rattle.mc_family.proofs.CardFacts.{all-take, all-drop, AreOnCard, done-stands, whole-stand, means-on-card}
-use Rattle.mc_family.proofs.FewItems.{IsSent, SeatStands, CommandStands, command-stands, send-stands}
+use Rattle.mc_model_device.proofs.ImageBytes.{image_set, shut_full}
+use Rattle.mc_family.proofs.CardFacts.{all_take, all_drop, AreOnCard, done_stands, whole_stand, means_on_card}
+use Rattle.mc_family.proofs.FewItems.{IsSent, SeatStands, CommandStands, command_stands, send_stands}
 use Rattle.mc_machine_laws.proofs.AppSizes.{Limited}
 use Rattle.mc_family.proofs.HotLines.{hot}
-use Rattle.mc_family.proofs.PlaySizes.{SeatFits, BaseFits, StateFits, step-fits}
-use Rattle.mc_model_device.proofs.ListLemmas.{pair-bytes}
+use Rattle.mc_family.proofs.PlaySizes.{SeatFits, BaseFits, StateFits, step_fits}
+use Rattle.mc_model_device.proofs.ListLemmas.{pair_bytes}
 
 -- ---- the commands of a line
 
-with-pair : (b : List ℕ) (n : ℕ) → AreBytes b → AreBytes (b ++ bytes2 n)
-with-pair b n h = all-append (λ x. x < 256) b (bytes2 n) h (pair-bytes n)
+with_pair : (b : List ℕ) (n : ℕ) → AreBytes b → AreBytes (b ++ bytes2 n)
+with_pair b n h = all_append (λ x. x < 256) b (bytes2 n) h (pair_bytes n)
 
-pieces-sent : (k ins at : ℕ) (b : List ℕ) → AreBytes b → AllByRecursion IsSent (piece_commands k ins at b)
-pieces-sent zero ins at b h = tt
-pieces-sent (suc k) ins at b h = by (length b == 0) (all-take (λ x. x < 256) 248 b h, pieces-sent k ins (at + 248) (drop 248 b) (all-drop (λ x. x < 256) 248 b h))
+pieces_sent : (k ins at : ℕ) (b : List ℕ) → AreBytes b → AllByRecursion IsSent (piece_commands k ins at b)
+pieces_sent zero ins at b h = tt
+pieces_sent (suc k) ins at b h = by (length b == 0) (all_take (λ x. x < 256) 248 b h, pieces_sent k ins (at + 248) (drop 248 b) (all_drop (λ x. x < 256) 248 b h))
   where
     by : (t : Bool) → AllByRecursion IsSent ((0xBE ∷ ins ∷ (bytes2 at ++ length (take 248 b) ∷ take 248 b)) ∷ piece_commands k ins (at + 248) (drop 248 b))
         → AllByRecursion IsSent (cond t [] ((0xBE ∷ ins ∷ (bytes2 at ++ length (take 248 b) ∷ take 248 b)) ∷ piece_commands k ins (at + 248) (drop 248 b)))
     by true r = tt
     by false r = r
 
-load-sent : (u : UnitParts) (fixed session : ℕ) → AreBytes u.code → AreBytes u.init → AreBytes u.dir → AreBytes u.fci → AllByRecursion IsSent (load_commands u fixed session)
-load-sent u fixed session code init dir fci =
+load_sent : (u : UnitParts) (fixed session : ℕ) → AreBytes u.code → AreBytes u.init → AreBytes u.dir → AreBytes u.fci → AllByRecursion IsSent (load_commands u fixed session)
+load_sent u fixed session code init dir fci =
     let P = λ (b : List ℕ). IsSent b in
     let c = section_commands 0x24 u.code in
     let i = section_commands 0x26 u.init in
@@ -59,41 +59,41 @@ load-sent u fixed session code init dir fci =
     let a4 : List ℕ = a3 ++ bytes2 session in
     let a5 : List ℕ = a4 ++ bytes2 (length u.dir) in
     let sizes : AreBytes (a5 ++ bytes2 (length u.fci)) =
-    with-pair a5 (length u.fci) (with-pair a4 (length u.dir) (with-pair a3 session (with-pair a2 (length u.init) (with-pair a1 fixed (pair-bytes (length u.code)))))) in (
+    with_pair a5 (length u.fci) (with_pair a4 (length u.dir) (with_pair a3 session (with_pair a2 (length u.init) (with_pair a1 fixed (pair_bytes (length u.code)))))) in (
       sizes,
-      all-append P (c ++ i ++ d ++ f) last
-          (all-append P (c ++ i ++ d) f
-          (all-append P (c ++ i) d (all-append P c i (pieces-sent (length u.code) 0x24 0 u.code code) (pieces-sent (length u.init) 0x26 0 u.init init)) (pieces-sent (length u.dir) 0x20 0 u.dir dir))
-          (pieces-sent (length u.fci) 0x22 0 u.fci fci)) (tt, tt),
+      all_append P (c ++ i ++ d ++ f) last
+          (all_append P (c ++ i ++ d) f
+          (all_append P (c ++ i) d (all_append P c i (pieces_sent (length u.code) 0x24 0 u.code code) (pieces_sent (length u.init) 0x26 0 u.init init)) (pieces_sent (length u.dir) 0x20 0 u.dir dir))
+          (pieces_sent (length u.fci) 0x22 0 u.fci fci)) (tt, tt),
     )
 
-line-stands : (c : Card) (seat : Seat) (budget : ℕ) (l : DeckLine) → IsLine l → Limited c.apps → SeatFits c.apps seat → AreOnCard c.apps → SeatStands c.apps seat → CommandStands c.apps (line_command c seat budget l)
-line-stands c seat budget (line.Select n) is limited fits on h = command-stands c seat (select_bytes n) budget is limited on h
-line-stands c seat budget (line.Delete n) is limited fits on h = command-stands c seat (delete_bytes n) budget is limited on h
-line-stands c seat budget (line.Apdu b) is limited fits on h = command-stands c seat b budget (all-drop (λ x. x < 256) 5 b is) limited on h
-line-stands c seat budget (line.Load u fixed session) is limited fits on h =
-    send-stands c seat budget (load_commands u fixed session) (load-sent u fixed session is.0 is.1 is.2 is.3) limited fits on h
-line-stands c seat budget _ is limited fits on h = record { few = tt; items = tt; seat = h }
+line_stands : (c : Card) (seat : Seat) (budget : ℕ) (l : DeckLine) → IsLine l → Limited c.apps → SeatFits c.apps seat → AreOnCard c.apps → SeatStands c.apps seat → CommandStands c.apps (line_command c seat budget l)
+line_stands c seat budget (line.Select n) is limited fits on h = command_stands c seat (select_bytes n) budget is limited on h
+line_stands c seat budget (line.Delete n) is limited fits on h = command_stands c seat (delete_bytes n) budget is limited on h
+line_stands c seat budget (line.Apdu b) is limited fits on h = command_stands c seat b budget (all_drop (λ x. x < 256) 5 b is) limited on h
+line_stands c seat budget (line.Load u fixed session) is limited fits on h =
+    send_stands c seat budget (load_commands u fixed session) (load_sent u fixed session is.0 is.1 is.2 is.3) limited fits on h
+line_stands c seat budget _ is limited fits on h = record { few = tt; items = tt; seat = h }
 
 -- ---- words that are set
 
-root-full : (v size first : ℕ) → v < 256 → IsFull (root v size first)
-root-full v size first h = (refl, (omega arith, (omega arith, (omega arith, (h, (omega arith, (omega arith, (omega arith, (omega arith, tt)))))))))
+root_full : (v size first : ℕ) → v < 256 → IsFull (root v size first)
+root_full v size first h = (refl, (omega arith, (omega arith, (omega arith, (h, (omega arith, (omega arith, (omega arith, (omega arith, tt)))))))))
 
-hole-full : (n link : ℕ) → IsFull (hole_header n link)
-hole-full n link = (refl, (omega arith, (omega arith, (omega arith, (omega arith, (omega arith, (omega arith, (omega arith, (omega arith, tt)))))))))
+hole_full : (n link : ℕ) → IsFull (hole_header n link)
+hole_full n link = (refl, (omega arith, (omega arith, (omega arith, (omega arith, (omega arith, (omega arith, (omega arith, (omega arith, tt)))))))))
 
-formatted-image : (m : List (List ℕ)) → IsImage m → IsImage (formatted m)
-formatted-image m image =
+formatted_image_lem : (m : List (List ℕ)) → IsImage m → IsImage (formatted_image m)
+formatted_image_lem m image =
     let size : ℕ = length m in
     let a = slice_set m 0 (root 2 size heap_start) in
-    let b = slice_set a 1 shut in
+    let b = slice_set a 1 shut_word in
     let c = slice_set b 2 (zeros 8) in
-    let d = slice_set c 130 shut in
+    let d = slice_set c 130 shut_word in
     let zero-full : IsFull (zeros 8) = (refl, (omega arith, (omega arith, (omega arith, (omega arith, (omega arith, (omega arith, (omega arith, (omega arith, tt))))))))) in
-    image-set d heap_start (hole_header (size - heap_start) 0)
-    (image-set c 130 shut (image-set b 2 (zeros 8) (image-set a 1 shut (image-set m 0 (root 2 size heap_start) image (root-full 2 size heap_start (omega arith))) shut-full) zero-full) shut-full)
-    (hole-full (size - heap_start) 0)
+    image_set d heap_start (hole_header (size - heap_start) 0)
+    (image_set c 130 shut_word (image_set b 2 (zeros 8) (image_set a 1 shut_word (image_set m 0 (root 2 size heap_start) image (root_full 2 size heap_start (omega arith))) shut_full) zero-full) shut_full)
+    (hole_full (size - heap_start) 0)
 
 -- ---- what is kept from line to line
 
@@ -114,98 +114,98 @@ record LineStands (u : Step) : Type 0 where
   few : AllByRecursion FitsJournal u.items
   next : StateStands u.after
 
-after-stop : (m : List (List ℕ × App)) (k : Stop) → LiveStands m (live_after k)
-after-stop m stop.Off = tt
-after-stop m stop.Worn = tt
+after_stop : (m : List (List ℕ × App)) (k : Stop) → LiveStands m (live_after k)
+after_stop m stop.Off = tt
+after_stop m stop.Worn = tt
 
 -- ---- power lines
 
-base-on-card : (b : Base) (v : Live) → BaseStands b v → BaseStands b Unpowered
-base-on-card (OnCard c) v h = (h.0, tt)
-base-on-card (AtFault cause p) v h = tt
+base_on_card : (b : Base) (v : Live) → BaseStands b v → BaseStands b Unpowered
+base_on_card (OnCard c) v h = (h.0, tt)
+base_on_card (AtFault cause p) v h = tt
 
-base-stopped : (b : Base) (k : Stop) → BaseStands b Unpowered → BaseStands b (live_after k)
-base-stopped (OnCard c) k h = (h.0, after-stop c.apps k)
-base-stopped (AtFault cause p) k h = tt
+base_stopped : (b : Base) (k : Stop) → BaseStands b Unpowered → BaseStands b (live_after k)
+base_stopped (OnCard c) k h = (h.0, after_stop c.apps k)
+base_stopped (AtFault cause p) k h = tt
 
-base-powered : (b : Base) → BaseStands b Unpowered → BaseStands (migrated b) (power_live b)
-base-powered (OnCard c) h = (h.0, record { selected = tt; load = tt })
-base-powered (AtFault cause p) h = tt
+base_powered : (b : Base) → BaseStands b Unpowered → BaseStands (base_after_migration b) (power_live b)
+base_powered (OnCard c) h = (h.0, record { selected = tt; load = tt })
+base_powered (AtFault cause p) h = tt
 
-base-migrated : (b : Base) (v : Live) → BaseStands b v → BaseStands (migrated b) v
-base-migrated (OnCard c) v h = h
-base-migrated (AtFault cause p) v h = h
+base_migrated : (b : Base) (v : Live) → BaseStands b v → BaseStands (base_after_migration b) v
+base_migrated (OnCard c) v h = h
+base_migrated (AtFault cause p) v h = h
 
-base-cond : (t : Bool) (b : Base) (v : Live) → BaseStands b v → BaseStands (cond t (migrated b) b) v
-base-cond true b v h = base-migrated b v h
-base-cond false b v h = h
+base_cond : (t : Bool) (b : Base) (v : Live) → BaseStands b v → BaseStands (cond t (base_after_migration b) b) v
+base_cond true b v h = base_migrated b v h
+base_cond false b v h = h
 
-stopped-stands : (s : Warm) (t : StopAt) (b : Bool) → BaseStands s.base Unpowered → StateStands (Hot (stopped_power s t b))
-stopped-stands s t true h = base-stopped s.base t.kind h
-stopped-stands s t false h = base-cond (stands One 1 (t.at - s.owed) t.left) s.base (live_after t.kind) (base-stopped s.base t.kind h)
+stopped_stands : (s : Warm) (t : StopAt) (b : Bool) → BaseStands s.base Unpowered → StateStands (Hot (stopped_power s t b))
+stopped_stands s t true h = base_stopped s.base t.kind h
+stopped_stands s t false h = base_cond (stands One 1 (t.at - s.owed) t.left) s.base (live_after t.kind) (base_stopped s.base t.kind h)
 
-power-stands : (s : Warm) (t : Option StopAt) → BaseStands s.base Unpowered → StateStands (Hot (power_after s t))
-power-stands s None h = base-powered s.base h
-power-stands s (Some t) h = stopped-stands s t (nat_le t.at s.owed) h
+power_stands : (s : Warm) (t : Option StopAt) → BaseStands s.base Unpowered → StateStands (Hot (power_after s t))
+power_stands s None h = base_powered s.base h
+power_stands s (Some t) h = stopped_stands s t (nat_le t.at s.owed) h
 
 -- ---- lines of a running card
 
-after-stands : (s : Warm) (c : Card) (r : Command) (t : Option StopAt) → AreOnCard c.apps → CommandStands c.apps r → StateStands (Hot (line_after s c r t))
-after-stands s c r None on k = (done-stands r.items c.apps on k.items, k.seat)
-after-stands s c r (Some t) on k =
+after_stands : (s : Warm) (c : Card) (r : Command) (t : Option StopAt) → AreOnCard c.apps → CommandStands c.apps r → StateStands (Hot (line_after s c r t))
+after_stands s c r None on k = (done_stands r.items c.apps on k.items, k.seat)
+after_stands s c r (Some t) on k =
     let whole = (at_stop r.items t.at t.left).whole in
-    (done-stands whole c.apps on (whole-stand r.items c.apps t.at t.left k.items), after-stop (done c.apps whole) t.kind)
+    (done_stands whole c.apps on (whole_stand r.items c.apps t.at t.left k.items), after_stop (apps_after_items c.apps whole) t.kind)
 
-card-stands : (n : ℕ) (l : DeckLine) (b : Base) (o : ℕ) (j : Journal) (v : Live) (g : ℕ) (a : Armed) (w : Option WornAt) → IsLine l → BaseFits b v → BaseStands b v → LineStands (card_line n l (hot b o j v g a) v b w)
-card-stands n l (OnCard c) o j (Running seat) g a w is f h =
+card_stands : (n : ℕ) (l : DeckLine) (b : Base) (o : ℕ) (j : Journal) (v : Live) (g : ℕ) (a : Armed) (w : Option WornAt) → IsLine l → BaseFits b v → BaseStands b v → LineStands (card_line n l (hot b o j v g a) v b w)
+card_stands n l (OnCard c) o j (Running seat) g a w is f h =
     let r = line_command c seat g l in
-    let k : CommandStands c.apps r = line-stands c seat g l is f.0 f.1 h.0 h.1 in
-    record { few = k.few; next = after-stands (hot (OnCard c) o j (Running seat) g a) c r (hit_of a (moves r.items) w) h.0 k }
-card-stands n l (AtFault cause p) o j (Running seat) g a w is f h = record { few = tt; next = tt }
-card-stands n l b o j Unpowered g a w is f h = record { few = tt; next = h }
-card-stands n l b o j Muted g a w is f h = record { few = tt; next = h }
+    let k : CommandStands c.apps r = line_stands c seat g l is f.0 f.1 h.0 h.1 in
+    record { few = k.few; next = after_stands (hot (OnCard c) o j (Running seat) g a) c r (hit_of a (moves r.items) w) h.0 k }
+card_stands n l (AtFault cause p) o j (Running seat) g a w is f h = record { few = tt; next = tt }
+card_stands n l b o j Unpowered g a w is f h = record { few = tt; next = h }
+card_stands n l b o j Muted g a w is f h = record { few = tt; next = h }
 
-hot-stands : (n : ℕ) (l : DeckLine) (s : Warm) (w : Option WornAt) → IsLine l → BaseFits s.base s.live → BaseStands s.base s.live → LineStands (hot_step n l s w)
-hot-stands n line.Power s w is f h = record { few = tt; next = power-stands s (hit_of s.armed (power_moves s) w) (base-on-card s.base s.live h) }
-hot-stands n (line.Load u fixed session) s w is f h = card-stands n (line.Load u fixed session) s.base s.owed s.by s.live s.budget s.armed w is f h
-hot-stands n (line.Select x) s w is f h = card-stands n (line.Select x) s.base s.owed s.by s.live s.budget s.armed w is f h
-hot-stands n (line.Delete x) s w is f h = card-stands n (line.Delete x) s.base s.owed s.by s.live s.budget s.armed w is f h
-hot-stands n (line.Apdu x) s w is f h = card-stands n (line.Apdu x) s.base s.owed s.by s.live s.budget s.armed w is f h
-hot-stands n _ s w is f h = record { few = tt; next = h }
+hot_stands : (n : ℕ) (l : DeckLine) (s : Warm) (w : Option WornAt) → IsLine l → BaseFits s.base s.live → BaseStands s.base s.live → LineStands (hot_step n l s w)
+hot_stands n line.Power s w is f h = record { few = tt; next = power_stands s (hit_of s.armed (power_moves s) w) (base_on_card s.base s.live h) }
+hot_stands n (line.Load u fixed session) s w is f h = card_stands n (line.Load u fixed session) s.base s.owed s.by s.live s.budget s.armed w is f h
+hot_stands n (line.Select x) s w is f h = card_stands n (line.Select x) s.base s.owed s.by s.live s.budget s.armed w is f h
+hot_stands n (line.Delete x) s w is f h = card_stands n (line.Delete x) s.base s.owed s.by s.live s.budget s.armed w is f h
+hot_stands n (line.Apdu x) s w is f h = card_stands n (line.Apdu x) s.base s.owed s.by s.live s.budget s.armed w is f h
+hot_stands n _ s w is f h = record { few = tt; next = h }
 
 -- ---- lines up to the first power line
 
-found-stands : (m : List (List ℕ)) (f : Option (Cause × ℕ)) → IsImage m → fault m ≡ f → BaseStands (base_of f m) Unpowered
-found-stands m None image h = (means-on-card m image h, tt)
-found-stands m (Some f) image h = tt
+found_stands : (m : List (List ℕ)) (f : Option (Cause × ℕ)) → IsImage m → fault m ≡ f → BaseStands (base_of f m) Unpowered
+found_stands m None image h = (means_on_card m image h, tt)
+found_stands m (Some f) image h = tt
 
-warmed-stands : (m : List (List ℕ)) (b : ℕ) (a : Armed) → IsImage m → BaseStands (warmed m b a).base Unpowered
-unfolding warmed
-warmed-stands m b a image = found-stands m (fault m) image refl
+warmed_stands : (m : List (List ℕ)) (b : ℕ) (a : Armed) → IsImage m → BaseStands (play_at_power m b a).base Unpowered
+unfolding play_at_power
+warmed_stands m b a image = found_stands m (fault m) image refl
 
-cold-stands : (n : ℕ) (l : DeckLine) (m : List (List ℕ)) (b : ℕ) (a : Armed) (w : Option WornAt) → IsLine l → IsImage m → LineStands (cold_step n l m b a w)
-cold-stands n line.Format m b a w is h = record { few = tt; next = formatted-image m h }
-cold-stands n (line.Poke at x) m b a w is h = record { few = tt; next = image-set m at x h (is.1, is.0) }
-cold-stands n line.Power m b a w is h = record { few = tt; next = power-stands (warmed m b a) (hit_of a (power_moves (warmed m b a)) w) (warmed-stands m b a h) }
-cold-stands n _ m b a w is h = record { few = tt; next = h }
+cold_stands : (n : ℕ) (l : DeckLine) (m : List (List ℕ)) (b : ℕ) (a : Armed) (w : Option WornAt) → IsLine l → IsImage m → LineStands (cold_step n l m b a w)
+cold_stands n line.Format m b a w is h = record { few = tt; next = formatted_image_lem m h }
+cold_stands n (line.Poke at x) m b a w is h = record { few = tt; next = image_set m at x h (is.1, is.0) }
+cold_stands n line.Power m b a w is h = record { few = tt; next = power_stands (play_at_power m b a) (hit_of a (power_moves (play_at_power m b a)) w) (warmed_stands m b a h) }
+cold_stands n _ m b a w is h = record { few = tt; next = h }
 
 -- ---- plays
 
-step-stands : (z : State) (l : ℕ × DeckLine) (w : Option WornAt) → IsLine l.1 → StateFits z → StateStands z → LineStands (step z l w)
+step_stands : (z : State) (l : ℕ × DeckLine) (w : Option WornAt) → IsLine l.1 → StateFits z → StateStands z → LineStands (step z l w)
 unfolding step
-step-stands (Cold m b a) l w is f h = cold-stands l.0 l.1 m b a w is h
-step-stands (Hot s) l w is f h = hot-stands l.0 l.1 s w is f h
+step_stands (Cold m b a) l w is f h = cold_stands l.0 l.1 m b a w is h
+step_stands (Hot s) l w is f h = hot_stands l.0 l.1 s w is f h
 
-few-from : (n : ℕ) (z : State) (ls : List (ℕ × DeckLine)) (ws : List (Option WornAt)) → StateFits z → StateStands z → AreLines (take n (plays z ls ws)) → AllFitJournal (take n (plays z ls ws))
+few_from : (n : ℕ) (z : State) (ls : List (ℕ × DeckLine)) (ws : List (Option WornAt)) → StateFits z → StateStands z → AreLines (take n (plays z ls ws)) → AllFitJournal (take n (plays z ls ws))
 unfolding plays
-few-from zero z ls ws f h are = tt
-few-from (suc n) z [] ws f h are = tt
-few-from (suc n) z (l ∷ ls) ws f h are =
+few_from zero z ls ws f h are = tt
+few_from (suc n) z [] ws f h are = tt
+few_from (suc n) z (l ∷ ls) ws f h are =
     let u : Step = step z l (first_worn ws) in
     let is : IsLine l.1 = subst IsLine (step_is z l (first_worn ws)).line are.0 in
-    let k : LineStands u = step-stands z l (first_worn ws) is f h in
-    (k.few, few-from n u.after ls (drop 1 ws) (step-fits z l (first_worn ws) f).next k.next are.1)
+    let k : LineStands u = step_stands z l (first_worn ws) is f h in
+    (k.few, few_from n u.after ls (drop 1 ws) (step_fits z l (first_worn ws) f).next k.next are.1)
 
 -- each item of a play from an image on fits a journal, for every front of it
 pub few_words : (n : ℕ) (m : List (List ℕ)) (ls : List (ℕ × DeckLine)) (ws : List (Option WornAt)) → IsImage m → AreLines (take n (plays (start m) ls ws)) → AllFitJournal (take n (plays (start m) ls ws))
-few_words n m ls ws image are = few-from n (start m) ls ws tt image are
+few_words n m ls ws image are = few_from n (start m) ls ws tt image are

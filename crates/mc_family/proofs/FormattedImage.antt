@@ -5,19 +5,19 @@ use Rattle.std.proofs.lemmas.Bool.{le-leb, le-ltb, eq-eqb, ne_eqb}
 use Rattle.std.proofs.lemmas.List.{length-set, get_or-set_same, get_or-set_other, get_or_past}
 use Rattle.std.proofs.lemmas.Slice.Eq.{bytes_eq-Decides}
 use Rattle.mc_model_device.specs.Bytes.{be2, zeros, or_else}
-use Rattle.mc_model_device.specs.Image.{One, Two, opening, shut, which_of, Closed, look, look_at, word_at}
+use Rattle.mc_model_device.specs.Image.{One, Two, opening, shut_word, which_of, Closed, look, look_at, word_at}
 use Rattle.mc_model_device.specs.Card.{Block, word, header, heap_start, blocks_from, blocks, block_and}
 use Rattle.mc_model_device.specs.Layout.{root, hole_header, no_root, bad_block, bad_record, bad_chain, by_cause, words_fault, fault, fault_of}
 use Rattle.mc_model_device.specs.declared.cause.Cause.TheVariants.{NoRoot, BadBlock, BadRecord, BadChain}
-use Rattle.mc_model_play.specs.Play.{formatted}
-use Rattle.mc_model_device.proofs.ListLemmas.{two-bytes}
+use Rattle.mc_model_play.specs.Play.{formatted_image}
+use Rattle.mc_model_device.proofs.ListLemmas.{two_bytes}
 
 -- the words of an empty card of layout 2
 record IsEmptyCard (n : ℕ) (w : List (List ℕ)) : Type 0 where
   size : length w ≡ n
   first : word w 0 ≡ root 2 n heap_start
-  one : word w 1 ≡ shut
-  two : word w 130 ≡ shut
+  one : word w 1 ≡ shut_word
+  two : word w 130 ≡ shut_word
   hole : word w 131 ≡ hole_header (n - 131) 0
 
 -- its one hole
@@ -27,7 +27,7 @@ hole_of n = record { place = 131; used = false; words = n - 131; link = 0 }
 closed : (n : ℕ) (w : List (List ℕ)) → IsEmptyCard n w → look w ≡ Closed
 closed n w h =
     ap (λ (x : List ℕ). look_at w (which_of (bytes_eq x (opening Two)) (bytes_eq (word_at w 1) (opening One)))) h.two
-    ∙ ap (λ (x : List ℕ). look_at w (which_of (bytes_eq shut (opening Two)) (bytes_eq x (opening One)))) h.one
+    ∙ ap (λ (x : List ℕ). look_at w (which_of (bytes_eq shut_word (opening Two)) (bytes_eq x (opening One)))) h.one
 
 abbrev rootless : List ℕ → ℕ → Option ℕ
 rootless x k = let v = slice_index x 3 in cond ((v == 1 || v == 2) && bytes_eq (take 6 x) (take 6 (root v k 0))) None (Some 0)
@@ -42,7 +42,7 @@ rooted n w h =
 headed : (n : ℕ) → 256 ≤ n → n ≤ 16384 → header 131 (hole_header (n - 131) 0) ≡ Some (hole_of n)
 headed n low high =
     let k : ℕ = n - 131 in
-    ap (λ (t : ℕ). cond (true && true && nat_le 1 t && true && true) (Some (record { place = 131; used = false; words = t; link = 0 })) None) (two-bytes k (omega arith))
+    ap (λ (t : ℕ). cond (true && true && nat_le 1 t && true && true) (Some (record { place = 131; used = false; words = t; link = 0 })) None) (two_bytes k (omega arith))
     ∙ ap (λ (b : Bool). cond (true && true && b && true && true) (Some (hole_of n)) None) (le-leb 1 k (omega arith))
 
 one_header : (k n : ℕ) (w : List (List ℕ)) → IsEmptyCard n w → 256 ≤ n → n ≤ 16384 → bad_block (suc (suc k)) w 131 false ≡ None
@@ -97,32 +97,32 @@ set_elsewhere : (m : W) (i j : ℕ) (x y : List ℕ) → j ≢ i → word m j �
 set_elsewhere m i j x y apart h = get_or-set_other m i j x [] apart ∙ h
 
 -- the words of a formatted image
-formatted_card : (m : W) → 256 ≤ length m → IsEmptyCard (length m) (formatted m)
+formatted_card : (m : W) → 256 ≤ length m → IsEmptyCard (length m) (formatted_image m)
 formatted_card m low =
     let n : ℕ = length m in
     let r : List ℕ = root 2 n heap_start in
     let hole : List ℕ = hole_header (n - heap_start) 0 in
     let a : W = slice_set m 0 r in
-    let b : W = slice_set a 1 shut in
+    let b : W = slice_set a 1 shut_word in
     let c : W = slice_set b 2 (zeros 8) in
-    let d : W = slice_set c 130 shut in
+    let d : W = slice_set c 130 shut_word in
     let la : length a ≡ n = length-set m 0 r in
-    let lb : length b ≡ n = length-set a 1 shut ∙ la in
+    let lb : length b ≡ n = length-set a 1 shut_word ∙ la in
     let lc : length c ≡ n = length-set b 2 (zeros 8) ∙ lb in
-    let ld : length d ≡ n = length-set c 130 shut ∙ lc in
+    let ld : length d ≡ n = length-set c 130 shut_word ∙ lc in
     record {
       size = length-set d 131 hole ∙ ld;
-      first = set_elsewhere d 131 0 hole r (λ e. absurd (omega (arith, e))) (set_elsewhere c 130 0 shut r (λ e. absurd (omega (arith, e))) (set_elsewhere b 2 0 (zeros 8) r (λ e. absurd (omega (arith, e)))
-          (set_elsewhere a 1 0 shut r (λ e. absurd (omega (arith, e))) (set_there m 0 0 n r refl refl (omega arith)))));
-      one = set_elsewhere d 131 1 hole shut (λ e. absurd (omega (arith, e))) (set_elsewhere c 130 1 shut shut (λ e. absurd (omega (arith, e))) (set_elsewhere b 2 1 (zeros 8) shut (λ e. absurd (omega (arith, e)))
-          (set_there a 1 1 n shut refl la (omega arith))));
-      two = set_elsewhere d 131 130 hole shut (λ e. absurd (omega (arith, e))) (set_there c 130 130 n shut refl lc (omega arith));
+      first = set_elsewhere d 131 0 hole r (λ e. absurd (omega (arith, e))) (set_elsewhere c 130 0 shut_word r (λ e. absurd (omega (arith, e))) (set_elsewhere b 2 0 (zeros 8) r (λ e. absurd (omega (arith, e)))
+          (set_elsewhere a 1 0 shut_word r (λ e. absurd (omega (arith, e))) (set_there m 0 0 n r refl refl (omega arith)))));
+      one = set_elsewhere d 131 1 hole shut_word (λ e. absurd (omega (arith, e))) (set_elsewhere c 130 1 shut_word shut_word (λ e. absurd (omega (arith, e))) (set_elsewhere b 2 1 (zeros 8) shut_word (λ e. absurd (omega (arith, e)))
+          (set_there a 1 1 n shut_word refl la (omega arith))));
+      two = set_elsewhere d 131 130 hole shut_word (λ e. absurd (omega (arith, e))) (set_there c 130 130 n shut_word refl lc (omega arith));
       hole = set_there d 131 131 n hole refl ld (omega arith);
     }
 
 -- has no fault
-pub formatted_sound : (m : W) → 256 ≤ length m → length m ≤ 16384 → fault (formatted m) ≡ None
-formatted_sound m low high = empty_sound (length m) (formatted m) (formatted_card m low) low high
+pub formatted_sound : (m : W) → 256 ≤ length m → length m ≤ 16384 → fault (formatted_image m) ≡ None
+formatted_sound m low high = empty_sound (length m) (formatted_image m) (formatted_card m low) low high
 
-pub formatted_size : (m : W) → 256 ≤ length m → length (formatted m) ≡ length m
+pub formatted_size : (m : W) → 256 ≤ length m → length (formatted_image m) ≡ length m
 formatted_size m low = (formatted_card m low).size

@@ -10,15 +10,15 @@ use Rattle.mc_model_card.specs.Units.{name_of}
 use Rattle.mc_model_device.specs.Card.{App, Card}
 use Rattle.mc_model_machine.specs.Chain.{run}
 use Rattle.mc_model_card.specs.Items.{Item, BankItem, Piece, Blank, Note, Commit, Enter, Remove}
-use Rattle.mc_model_card.specs.Manager.{Selected, Open, Seat, Route, WrongLength, WrongClass, ToSelect, ToManager, ToApplication, route, Managed, Declines, Accepted, answered, first_status, is_empty, select_done, select, open_refusals, open_done, load_refusals, load_done, create_refusals, create_done, delete_refusals, delete_done, manage, room_on, dir_in, open_load, load_part, create, delete}
-use Rattle.mc_model_card.specs.Commands.{Command, item_of, atomic_of, managed, passed, by_route, command}
-use Rattle.mc_model_play.specs.Play.{Answered, send, sent_on, is_done}
+use Rattle.mc_model_card.specs.Manager.{Selected, Open, Seat, Route, WrongLength, WrongClass, ToSelect, ToManager, ToApplication, route, Managed, Declines, Accepted, answer_unless, first_status, is_empty, select_done, select, open_refusals, open_done, load_refusals, load_done, create_refusals, create_done, delete_refusals, delete_done, manage, room_on, dir_in, open_load, load_part, create, delete}
+use Rattle.mc_model_card.specs.Commands.{Command, item_of, atomic_of, manager_command, application_command, by_route, command}
+use Rattle.mc_model_play.specs.Play.{Answered, send, command_with_rest, is_done}
 use Rattle.mc_model_card.specs.Items as items
 use Rattle.mc_model_play.specs.Family.{ClosedPairs, routes_in, selects_in}
 use Rattle.mc_model_play.specs.Given.{is_done_reply, selects_foreign, is_foreign_select}
-use Rattle.mc_family.proofs.RunLemma.{RunAlike, run-alike}
+use Rattle.mc_family.proofs.RunLemma.{RunAlike, run_alike}
 use Rattle.mc_family.proofs.Sim.{own_of}
-use Rattle.mc_family.proofs.Stops.{IsOther, AreOthers, AreOthers-append, writes-others}
+use Rattle.mc_family.proofs.Stops.{IsOther, AreOthers, are_others_append, writes_others}
 
 -- nothing if the selection was lost
 abbrev pub unless : Bool → Option Selected → Option Selected
@@ -38,46 +38,46 @@ pub record Aside (K : List (List ℕ)) (seat : Seat) (r : Command) : Type 0 wher
   pub selected : r.seat.selected ≡ seat.selected
 
 IsAside : List (List ℕ) → Card → Seat → Managed → Type 0
-IsAside K c seat m = Aside K seat (managed c seat m)
+IsAside K c seat m = Aside K seat (manager_command c seat m)
 
 by_cond : {A : Type 0} (P : A → Type 0) (b : Bool) (x y : A) → P x → P y → P (cond b x y)
 by_cond P true x y p q = p
 by_cond P false x y p q = q
 
-item_of-other : (K : List (List ℕ)) (w : Item) (b : BankItem) → IsOther K w → IsOther K (item_of w b)
-item_of-other K w (Piece s p at b) h = tt
-item_of-other K w (Blank s at n) h = tt
-item_of-other K w (Note s n i) h = tt
-item_of-other K w (Commit n ws) h = tt
-item_of-other K w (Enter s n) h = h
-item_of-other K w (Remove n) h = h
+item_of_other : (K : List (List ℕ)) (w : Item) (b : BankItem) → IsOther K w → IsOther K (item_of w b)
+item_of_other K w (Piece s p at b) h = tt
+item_of_other K w (Blank s at n) h = tt
+item_of_other K w (Note s n i) h = tt
+item_of_other K w (Commit n ws) h = tt
+item_of_other K w (Enter s n) h = h
+item_of_other K w (Remove n) h = h
 
-items-others : (K : List (List ℕ)) (w : Item) (bs : List BankItem) → IsOther K w → AreOthers K (map (item_of w) bs)
-items-others K w [] h = tt
-items-others K w (b ∷ bs) h = (item_of-other K w b h, items-others K w bs h)
+items_others : (K : List (List ℕ)) (w : Item) (bs : List BankItem) → IsOther K w → AreOthers K (map (item_of w) bs)
+items_others K w [] h = tt
+items_others K w (b ∷ bs) h = (item_of_other K w b h, items_others K w bs h)
 
 module _ (K : List (List ℕ)) (c : Card) (seat : Seat) where
-  answered-aside : (o : Option ℕ) (d : Accepted) → IsOther K (atomic_of c d.change) → d.seat.selected ≡ seat.selected → IsAside K c seat (answered o d)
+  answered_aside : (o : Option ℕ) (d : Accepted) → IsOther K (atomic_of c d.change) → d.seat.selected ≡ seat.selected → IsAside K c seat (answer_unless o d)
   unfolding IsAside
-  answered-aside (Some sw) d h e = record { others = tt; selected = refl }
-  answered-aside None d h e = record { others = items-others K (atomic_of c d.change) d.items h; selected = e }
+  answered_aside (Some sw) d h e = record { others = tt; selected = refl }
+  answered_aside None d h e = record { others = items_others K (atomic_of c d.change) d.items h; selected = e }
 
-  load-aside : (o : Option Open) (s : Option ℕ) (p : Part) (a : ApduParts) → IsAside K c seat (answered s (load_done seat o p a))
-  load-aside None s p a = answered-aside s (load_done seat None p a) tt refl
-  load-aside (Some o) s p a = answered-aside s (load_done seat (Some o) p a) tt refl
+  load_aside : (o : Option Open) (s : Option ℕ) (p : Part) (a : ApduParts) → IsAside K c seat (answer_unless s (load_done seat o p a))
+  load_aside None s p a = answered_aside s (load_done seat None p a) tt refl
+  load_aside (Some o) s p a = answered_aside s (load_done seat (Some o) p a) tt refl
 
-  create-aside : (o : Option Open) (s : Option ℕ) (n : Result (List ℕ) AidFault) → IsAside K c seat (answered s (create_done seat o n))
-  create-aside None s n = answered-aside s (create_done seat None n) tt refl
-  create-aside (Some o) s (Ok n) = answered-aside s (create_done seat (Some o) (Ok n)) tt refl
-  create-aside (Some o) s (Err e) = answered-aside s (create_done seat (Some o) (Err e)) tt refl
+  create_aside : (o : Option Open) (s : Option ℕ) (n : Result (List ℕ) AidFault) → IsAside K c seat (answer_unless s (create_done seat o n))
+  create_aside None s n = answered_aside s (create_done seat None n) tt refl
+  create_aside (Some o) s (Ok n) = answered_aside s (create_done seat (Some o) (Ok n)) tt refl
+  create_aside (Some o) s (Err e) = answered_aside s (create_done seat (Some o) (Err e)) tt refl
 
-  declines-aside : (sw : ℕ) → IsAside K c seat (Declines sw)
+  declines_aside : (sw : ℕ) → IsAside K c seat (Declines sw)
   unfolding IsAside
-  declines-aside sw = record { others = tt; selected = refl }
+  declines_aside sw = record { others = tt; selected = refl }
 
-  managed-aside : (a : ApduParts) → IsAside K c seat (manage (room_on c) c.apps seat a)
+  managed_aside : (a : ApduParts) → IsAside K c seat (manage (room_on c) c.apps seat a)
   unfolding manage
-  managed-aside a =
+  managed_aside a =
       let P = IsAside K c seat in
       let m = c.apps in
       let opened = open_load (room_on c) m seat a in
@@ -93,36 +93,36 @@ module _ (K : List (List ℕ)) (c : Card) (seat : Seat) where
       let r4 = cond (a.ins == 0x20) l0 r5 in
       let r3 = cond (a.ins == 0x26) l6 r4 in
       let r2 = cond (a.ins == 0x24) l4 r3 in
-      by_cond P (a.ins == 0x12) opened r2 (answered-aside (first_status (open_refusals (room_on c) m a)) (open_done (room_on c) seat a) tt refl) (
-      by_cond P (a.ins == 0x24) l4 r3 (load-aside seat.load (first_status (load_refusals seat.load part.Code a)) part.Code a) (
-      by_cond P (a.ins == 0x26) l6 r4 (load-aside seat.load (first_status (load_refusals seat.load part.Data a)) part.Data a) (
-      by_cond P (a.ins == 0x20) l0 r5 (load-aside seat.load (first_status (load_refusals seat.load part.Dir a)) part.Dir a) (
-      by_cond P (a.ins == 0x22) l2 r6 (load-aside seat.load (first_status (load_refusals seat.load part.Fci a)) part.Fci a) (
-      by_cond P (a.ins == 0x16) made r7 (create-aside seat.load (first_status (create_refusals m seat.load a)) (name_of (dir_in seat.load))) (
-      by_cond P (a.ins == 0x18) gone (Declines 0x6D00) (answered-aside (first_status (delete_refusals m seat a)) (delete_done seat a) tt refl) (declines-aside 0x6D00)
+      by_cond P (a.ins == 0x12) opened r2 (answered_aside (first_status (open_refusals (room_on c) m a)) (open_done (room_on c) seat a) tt refl) (
+      by_cond P (a.ins == 0x24) l4 r3 (load_aside seat.load (first_status (load_refusals seat.load part.Code a)) part.Code a) (
+      by_cond P (a.ins == 0x26) l6 r4 (load_aside seat.load (first_status (load_refusals seat.load part.Data a)) part.Data a) (
+      by_cond P (a.ins == 0x20) l0 r5 (load_aside seat.load (first_status (load_refusals seat.load part.Dir a)) part.Dir a) (
+      by_cond P (a.ins == 0x22) l2 r6 (load_aside seat.load (first_status (load_refusals seat.load part.Fci a)) part.Fci a) (
+      by_cond P (a.ins == 0x16) made r7 (create_aside seat.load (first_status (create_refusals m seat.load a)) (name_of (dir_in seat.load))) (
+      by_cond P (a.ins == 0x18) gone (Declines 0x6D00) (answered_aside (first_status (delete_refusals m seat a)) (delete_done seat a) tt refl) (declines_aside 0x6D00)
       ))))))
 
   -- ---- all routes
 
   -- a SELECT of a name outside the family
   select_at : (a : ApduParts) (x y : Bool) (o : Option App) → has_name a.body K ≡ false
-      → let r = managed c seat (answered (first_status ((0x6A86, x) ∷ (0x6700, y) ∷ (0x6A82, is_none o) ∷ [])) (select_done seat a o)) in Other K seat (is_done_reply (Some (Answered r.outcome))) r
+      → let r = manager_command c seat (answer_unless (first_status ((0x6A86, x) ∷ (0x6700, y) ∷ (0x6A82, is_none o) ∷ [])) (select_done seat a o)) in Other K seat (is_done_reply (Some (Answered r.outcome))) r
   select_at a true y o h = record { others = tt; selected = refl }
   select_at a false true o h = record { others = tt; selected = refl }
   select_at a false false None h = record { others = tt; selected = refl }
   select_at a false false (Some app) h = record { others = tt; selected = ap (λ (b : Bool). cond b (Some (record { name = a.body; session = zeros app.session })) None) h }
 
   other_select : (a : ApduParts) (b : Bool) → has_name a.body K ≡ b → b ≡ false
-      → let r = managed c seat (select c.apps seat a) in Other K seat (not b && is_done_reply (Some (Answered r.outcome))) r
+      → let r = manager_command c seat (select c.apps seat a) in Other K seat (not b && is_done_reply (Some (Answered r.outcome))) r
   other_select a true h e = absurd (cc e)
   other_select a false h e = select_at a (not (a.p2 == 0 || a.p2 == 0x0C)) (is_empty a.body) (lookup c.apps a.body) h
 
-  other_passed : (a : ApduParts) (budget : ℕ) (o : Option Selected) → seat.selected ≡ o → selects_in K o ≡ false → ClosedPairs K (passed c seat o a budget).pairs → Other K seat false (passed c seat o a budget)
+  other_passed : (a : ApduParts) (budget : ℕ) (o : Option Selected) → seat.selected ≡ o → selects_in K o ≡ false → ClosedPairs K (application_command c seat o a budget).pairs → Other K seat false (application_command c seat o a budget)
   other_passed a budget None e h closed = record { others = tt; selected = refl }
   other_passed a budget (Some s) e h closed =
-      let r : RunAlike K false (run c.apps s.name s.session a budget) (run c.apps s.name s.session a budget) = run-alike K false c.apps c.apps s.name s.session a budget closed (λ k on. refl) h in
+      let r : RunAlike K false (run c.apps s.name s.session a budget) (run c.apps s.name s.session a budget) = run_alike K false c.apps c.apps s.name s.session a budget closed (λ k on. refl) h in
       record {
-        others = writes-others K (run c.apps s.name s.session a budget).writes r.mine;
+        others = writes_others K (run c.apps s.name s.session a budget).writes r.mine;
         selected =
             ap (λ (b : Bool). cond b (Some (record { name = s.name; session = (run c.apps s.name s.session a budget).session })) None) h
             ∙ sym (ap (own_of K) e ∙ ap (λ (b : Bool). cond b (Some s) None) h);
@@ -137,7 +137,7 @@ module _ (K : List (List ℕ)) (c : Card) (seat : Seat) where
   other_routed budget WrongLength h closed = record { others = tt; selected = refl }
   other_routed budget WrongClass h closed = record { others = tt; selected = refl }
   other_routed budget (ToSelect a) h closed = other_select a (has_name a.body K) refl h
-  other_routed budget (ToManager a) h closed = aside_other (by_route c seat budget (ToManager a)) (managed-aside a)
+  other_routed budget (ToManager a) h closed = aside_other (by_route c seat budget (ToManager a)) (managed_aside a)
   other_routed budget (ToApplication a) h closed = other_passed a budget seat.selected refl h closed
 
   pub other_command : (bytes : List ℕ) (budget : ℕ) → routes_in K seat (route bytes) ≡ false → ClosedPairs K (command c seat bytes budget).pairs
@@ -159,26 +159,26 @@ abbrev pub AreManagers : List (List ℕ) → Type 0
 AreManagers [] = ⊤
 AreManagers (b ∷ bs) = IsManagers (route b) × AreManagers bs
 
-routed-aside : (K : List (List ℕ)) (c : Card) (seat : Seat) (budget : ℕ) (r : Route) → IsManagers r → Aside K seat (by_route c seat budget r)
+routed_aside : (K : List (List ℕ)) (c : Card) (seat : Seat) (budget : ℕ) (r : Route) → IsManagers r → Aside K seat (by_route c seat budget r)
 unfolding IsAside
-routed-aside K c seat budget WrongLength h = record { others = tt; selected = refl }
-routed-aside K c seat budget (ToManager a) h = managed-aside K c seat a
-routed-aside K c seat budget WrongClass h = absurd h
-routed-aside K c seat budget (ToSelect a) h = absurd h
-routed-aside K c seat budget (ToApplication a) h = absurd h
+routed_aside K c seat budget WrongLength h = record { others = tt; selected = refl }
+routed_aside K c seat budget (ToManager a) h = managed_aside K c seat a
+routed_aside K c seat budget WrongClass h = absurd h
+routed_aside K c seat budget (ToSelect a) h = absurd h
+routed_aside K c seat budget (ToApplication a) h = absurd h
 
-pub command-aside : (K : List (List ℕ)) (c : Card) (seat : Seat) (budget : ℕ) (b : List ℕ) → IsManagers (route b) → Aside K seat (command c seat b budget)
+pub command_aside : (K : List (List ℕ)) (c : Card) (seat : Seat) (budget : ℕ) (b : List ℕ) → IsManagers (route b) → Aside K seat (command c seat b budget)
 unfolding command
-command-aside K c seat budget b h = routed-aside K c seat budget (route b) h
+command_aside K c seat budget b h = routed_aside K c seat budget (route b) h
 
-sent-aside : (K : List (List ℕ)) (seat : Seat) (b : Bool) (r rest : Command) → Aside K seat r → Aside K r.seat rest → Aside K seat (sent_on b r rest)
-sent-aside K seat true r rest g h = record { others = AreOthers-append K r.items rest.items g.others h.others; selected = h.selected ∙ g.selected }
-sent-aside K seat false r rest g h = g
+sent_aside : (K : List (List ℕ)) (seat : Seat) (b : Bool) (r rest : Command) → Aside K seat r → Aside K r.seat rest → Aside K seat (command_with_rest b r rest)
+sent_aside K seat true r rest g h = record { others = are_others_append K r.items rest.items g.others h.others; selected = h.selected ∙ g.selected }
+sent_aside K seat false r rest g h = g
 
-pub send-aside : (K : List (List ℕ)) (c : Card) (seat : Seat) (budget : ℕ) (bs : List (List ℕ)) → AreManagers bs → Aside K seat (send c seat budget bs)
+pub send_aside : (K : List (List ℕ)) (c : Card) (seat : Seat) (budget : ℕ) (bs : List (List ℕ)) → AreManagers bs → Aside K seat (send c seat budget bs)
 unfolding send
-send-aside K c seat budget [] h = record { others = tt; selected = refl }
-send-aside K c seat budget (b ∷ bs) h =
+send_aside K c seat budget [] h = record { others = tt; selected = refl }
+send_aside K c seat budget (b ∷ bs) h =
     let r = command c seat b budget in
     let rest = send (items.card_done c r.items) r.seat budget bs in
-    sent-aside K seat (is_done r.outcome) r rest (command-aside K c seat budget b h.0) (send-aside K (items.card_done c r.items) r.seat budget bs h.1)
+    sent_aside K seat (is_done r.outcome) r rest (command_aside K c seat budget b h.0) (send_aside K (items.card_done c r.items) r.seat budget bs h.1)

@@ -16,27 +16,27 @@ use Rattle.mc_model_device.specs.Bytes.{lookup, insert, remove, zeros, up, be2, 
 use Rattle.mc_model_machine.specs.Apdu.{ApduParts}
 use Rattle.mc_model_card.specs.Units.{name_of}
 use Rattle.mc_model_device.specs.Image.{Journal, look, after}
-use Rattle.mc_model_device.specs.Card.{App, Card, Block, needed_of, record_at, name_in, name_at, app_at, apps_of, blocks, cells, words_after, means}
+use Rattle.mc_model_device.specs.Card.{App, Card, Block, words_of_lengths, record_at, name_in, name_at, app_at, apps_of, blocks, cells, words_after, means}
 use Rattle.mc_model_device.specs.Layout.{is_record, no_root, bad_block, bad_record, bad_chain, by_cause, words_fault, fault}
 use Rattle.mc_model_machine.specs.Chain.{Write, run}
-use Rattle.mc_model_card.specs.Items.{Change, Fixed, Created, Item, Plain, Atomic, moves, changed, done, card_done, StopAt, at_stop, Site, BankItem, Piece, Blank, Note, Enter, write_items}
+use Rattle.mc_model_card.specs.Items.{Change, Fixed, Created, Item, Plain, Atomic, moves, apps_after_change, apps_after_items, card_done, StopAt, at_stop, Site, BankItem, Piece, Blank, Note, Enter, write_items}
 use Rattle.mc_model_device.specs.Limits.{most_static, most_code, most_session, most_record}
-use Rattle.mc_model_card.specs.Manager.{Selected, Open, Seat, Route, WrongLength, WrongClass, ToSelect, ToManager, ToApplication, route, Accepted, Managed, Declines, Accepts, answered, first_status, is_empty, p1p2, select_done, select_refusals, select, sizes_in, fits_limits, open_done, open_load, load_refusals, load_done, load_part, word_parts, is_complete, can_create, dir_in, is_taken, fresh, create_done, create, is_selected, delete_done, delete, manage, room_on}
-use Rattle.mc_model_play.specs.Play.{Armed, Live, Running, Unpowered, Muted, Warm, State, Cold, Hot, Step, is_done, sent_on, send, line_command, hit_of, WornAt, live_after, power_live, power_after, stopped_power, power_moves, line_after, card_line, hot_step, cold_step, step, warmed, plays, first_worn, start, select_bytes, delete_bytes, load_commands}
-use Rattle.mc_model_device.specs.PowerUp.{Base, OnCard, AtFault, migrated, base_of}
-use Rattle.mc_model_card.specs.Commands.{Command, item_of, managed, passed, by_route, command}
+use Rattle.mc_model_card.specs.Manager.{Selected, Open, Seat, Route, WrongLength, WrongClass, ToSelect, ToManager, ToApplication, route, Accepted, Managed, Declines, Accepts, answer_unless, first_status, is_empty, p1p2, select_done, select_refusals, select, sizes_in, fits_limits, open_done, open_load, load_refusals, load_done, load_part, word_parts, is_complete, can_create, dir_in, is_taken, fresh, create_done, create, is_selected, delete_done, delete, manage, room_on}
+use Rattle.mc_model_play.specs.Play.{Armed, Live, Running, Unpowered, Muted, Warm, State, Cold, Hot, Step, is_done, command_with_rest, send, line_command, hit_of, WornAt, live_after, power_live, power_after, stopped_power, power_moves, line_after, card_line, hot_step, cold_step, step, play_at_power, plays, first_worn, start, select_bytes, delete_bytes, load_commands}
+use Rattle.mc_model_device.specs.PowerUp.{Base, OnCard, AtFault, base_after_migration, base_of}
+use Rattle.mc_model_card.specs.Commands.{Command, item_of, manager_command, application_command, by_route, command}
 use Rattle.mc_model_play.specs.Laws.{bytes_of}
 use Rattle.mc_model_play.specs.DeckGrammar.{DeckLine}
 use Rattle.mc_model_play.specs.DeckGrammar as line
 use Rattle.mc_machine_laws.specs.Limited.{session_in}
 use Rattle.mc_family.specs.Begins.{PassedWell, RoutedWell, BehindDone, SentWell, TakenWell, LineWell, BeginWell, BeginsLaw}
-use Rattle.mc_machine_laws.proofs.AppSizes.{size_of, size_in, SameSizes, changed-sizes, WriteFits, moved-writes, Limited, are-limited, limited-inserted, ChangeFits, ItemsFit, limited-done, fit-whole, fit-append}
-use Rattle.mc_machine_laws.proofs.RunSizes.{RanFits, run-fits}
+use Rattle.mc_machine_laws.proofs.AppSizes.{size_of, size_in, SameSizes, changed_sizes, WriteFits, moved_writes, Limited, are_limited, limited_inserted, ChangeFits, ItemsFit, limited_done, fit_whole, fit_append}
+use Rattle.mc_machine_laws.proofs.RunSizes.{RanFits, run_fits}
 use Rattle.mc_family.proofs.HotLines.{hot}
-use Rattle.mc_model_device.proofs.MapLemmas.{same_name, name_is_itself, lookup-beside, lookup-left}
-use Rattle.mc_model_card.proofs.ItemLemmas.{done-append}
-use Rattle.mc_model_device.proofs.BoolLemmas.{or_else-none, no_value}
-use Rattle.mc_model_device.proofs.LayoutLemmas.{cause-none, sound-after}
+use Rattle.mc_model_device.proofs.MapLemmas.{same_name, name_is_itself, lookup_beside, lookup_left}
+use Rattle.mc_model_card.proofs.ItemLemmas.{done_append}
+use Rattle.mc_model_device.proofs.BoolLemmas.{or_else_none, no_value}
+use Rattle.mc_model_device.proofs.LayoutLemmas.{cause_none, sound_after}
 
 -- ---- a running card
 
@@ -61,64 +61,64 @@ pub record SeatFits (m : List (List ℕ × App)) (seat : Seat) : Type 0 where
 -- what a command leaves
 pub record CommandFits (m : List (List ℕ × App)) (r : Command) : Type 0 where
   pub items : ItemsFit m r.items
-  pub seat : SeatFits (done m r.items) r.seat
+  pub seat : SeatFits (apps_after_items m r.items) r.seat
 
 -- the selection, if the application under its name is as before
-same-selected : (m d : List (List ℕ × App)) (s : Selected) → size_in d s.name ≡ size_in m s.name → SelectedFits m (Some s) → SelectedFits d (Some s)
-same-selected m d s e h = subst (λ (z : Option (ℕ × ℕ)). AsManySession z (length s.session)) (sym e) h
+same_selected : (m d : List (List ℕ × App)) (s : Selected) → size_in d s.name ≡ size_in m s.name → SelectedFits m (Some s) → SelectedFits d (Some s)
+same_selected m d s e h = subst (λ (z : Option (ℕ × ℕ)). AsManySession z (length s.session)) (sym e) h
 
 -- ---- items without contents
 
-plain-fit : (m : List (List ℕ × App)) (whole : Item) (s : Site) (p : Part) (cs : List (ℕ × List ℕ)) → ItemsFit m (map (item_of whole) (map (λ c. Piece s p c.0 c.1) cs))
-plain-fit m whole s p [] = tt
-plain-fit m whole s p (c ∷ cs) = plain-fit m whole s p cs
+plain_fit : (m : List (List ℕ × App)) (whole : Item) (s : Site) (p : Part) (cs : List (ℕ × List ℕ)) → ItemsFit m (map (item_of whole) (map (λ c. Piece s p c.0 c.1) cs))
+plain_fit m whole s p [] = tt
+plain_fit m whole s p (c ∷ cs) = plain_fit m whole s p cs
 
-plain-done : (m : List (List ℕ × App)) (whole : Item) (s : Site) (p : Part) (cs : List (ℕ × List ℕ)) → done m (map (item_of whole) (map (λ c. Piece s p c.0 c.1) cs)) ≡ m
-plain-done m whole s p [] = refl
-plain-done m whole s p (c ∷ cs) = plain-done m whole s p cs
+plain_done : (m : List (List ℕ × App)) (whole : Item) (s : Site) (p : Part) (cs : List (ℕ × List ℕ)) → apps_after_items m (map (item_of whole) (map (λ c. Piece s p c.0 c.1) cs)) ≡ m
+plain_done m whole s p [] = refl
+plain_done m whole s p (c ∷ cs) = plain_done m whole s p cs
 
 abbrev pub notes : Site → List ℕ → List BankItem
 notes s n = Note s n 0 ∷ Note s n 1 ∷ Note s n 2 ∷ Note s n 3 ∷ Enter s n ∷ []
 
-blanks-fit : (m : List (List ℕ × App)) (w : ℕ) (c : Change) (s : Site) (n : List ℕ) (cs : List (ℕ × List ℕ)) → ChangeFits m c → ItemsFit m (map (item_of (Atomic w c)) (map (λ c. Blank s c.0 (length c.1)) cs ++ notes s n))
-blanks-fit m w c s n [] h = (h, tt)
-blanks-fit m w c s n (x ∷ cs) h = blanks-fit m w c s n cs h
+blanks_fit : (m : List (List ℕ × App)) (w : ℕ) (c : Change) (s : Site) (n : List ℕ) (cs : List (ℕ × List ℕ)) → ChangeFits m c → ItemsFit m (map (item_of (Atomic w c)) (map (λ c. Blank s c.0 (length c.1)) cs ++ notes s n))
+blanks_fit m w c s n [] h = (h, tt)
+blanks_fit m w c s n (x ∷ cs) h = blanks_fit m w c s n cs h
 
-blanks-done : (m : List (List ℕ × App)) (w : ℕ) (c : Change) (s : Site) (n : List ℕ) (cs : List (ℕ × List ℕ)) → done m (map (item_of (Atomic w c)) (map (λ c. Blank s c.0 (length c.1)) cs ++ notes s n)) ≡ changed c m
-blanks-done m w c s n [] = refl
-blanks-done m w c s n (x ∷ cs) = blanks-done m w c s n cs
+blanks_done : (m : List (List ℕ × App)) (w : ℕ) (c : Change) (s : Site) (n : List ℕ) (cs : List (ℕ × List ℕ)) → apps_after_items m (map (item_of (Atomic w c)) (map (λ c. Blank s c.0 (length c.1)) cs ++ notes s n)) ≡ apps_after_change c m
+blanks_done m w c s n [] = refl
+blanks_done m w c s n (x ∷ cs) = blanks_done m w c s n cs
 
 -- ---- the manager
 
 module _ (c : Card) (seat : Seat) (fits : SeatFits c.apps seat) where
   ManagedFits : Managed → Type 0
-  ManagedFits m = CommandFits c.apps (managed c seat m)
+  ManagedFits m = CommandFits c.apps (manager_command c seat m)
 
   declined : (sw : ℕ) → ManagedFits (Declines sw)
   unfolding ManagedFits
   declined sw = record { items = tt; seat = fits }
 
-  answered-fits : (o : Option ℕ) (d : Accepted) → (o ≡ None → ManagedFits (Accepts d)) → ManagedFits (answered o d)
-  answered-fits (Some sw) d h = declined sw
-  answered-fits None d h = h refl
+  answered_fits : (o : Option ℕ) (d : Accepted) → (o ≡ None → ManagedFits (Accepts d)) → ManagedFits (answer_unless o d)
+  answered_fits (Some sw) d h = declined sw
+  answered_fits None d h = h refl
 
-  select-by : (a : ApduParts) (o : Option App) → lookup c.apps a.body ≡ o → ManagedFits (Accepts (select_done seat a o))
+  select_by : (a : ApduParts) (o : Option App) → lookup c.apps a.body ≡ o → ManagedFits (Accepts (select_done seat a o))
   unfolding ManagedFits
-  select-by a None e = record { items = tt; seat = fits }
-  select-by a (Some app) e =
+  select_by a None e = record { items = tt; seat = fits }
+  select_by a (Some app) e =
       let size : length (zeros app.session) ≡ app.session = length-replicate {A = ℕ} app.session 0 in
       record {
         items = tt;
         seat = record { selected = subst (λ (o : Option App). AsManySession (size_of o) (length (zeros app.session))) (sym e) size; load = fits.load };
       }
 
-  select-fits : (a : ApduParts) → ManagedFits (select c.apps seat a)
-  select-fits a = answered-fits (first_status (select_refusals c.apps a)) (select_done seat a (lookup c.apps a.body)) (λ e. select-by a (lookup c.apps a.body) refl)
+  select_fits : (a : ApduParts) → ManagedFits (select c.apps seat a)
+  select_fits a = answered_fits (first_status (select_refusals c.apps a)) (select_done seat a (lookup c.apps a.body)) (λ e. select_by a (lookup c.apps a.body) refl)
 
   -- ---- OPEN
 
-  limits-are : (s : Sizes) → fits_limits s ≡ true → (s.fixed ≤ most_static) × (s.init ≤ s.fixed)
-  limits-are s h =
+  limits_are : (s : Sizes) → fits_limits s ≡ true → (s.fixed ≤ most_static) × (s.init ≤ s.fixed)
+  limits_are s h =
       let a : Bool = nat_le 1 s.code && nat_le s.code most_code in
       let b : Bool = a && nat_le s.fixed most_static in
       let d : Bool = b && nat_le s.init s.fixed in
@@ -131,38 +131,38 @@ module _ (c : Card) (seat : Seat) (fits : SeatFits c.apps seat) where
       let to-a = and_parts a (nat_le s.fixed most_static) to-b.0 in
       (leb-true s.fixed most_static to-a.1, leb-true s.init s.fixed to-b.1)
 
-  opened-by : (a : ApduParts) (x y z v : Bool) → fits_limits (sizes_in a) ≡ z → ManagedFits (answered (cond x (Some 0x6A86) (cond y (Some 0x6700) (cond (not z) (Some 0x6A80) (cond v (Some 0x6A84) None)))) (open_done (room_on c) seat a))
+  opened_by : (a : ApduParts) (x y z v : Bool) → fits_limits (sizes_in a) ≡ z → ManagedFits (answer_unless (cond x (Some 0x6A86) (cond y (Some 0x6700) (cond (not z) (Some 0x6A80) (cond v (Some 0x6A84) None)))) (open_done (room_on c) seat a))
   unfolding ManagedFits
-  opened-by a true y z v h = declined 0x6A86
-  opened-by a false true z v h = declined 0x6700
-  opened-by a false false false v h = declined 0x6A80
-  opened-by a false false true true h = declined 0x6A84
-  opened-by a false false true false h = record { items = tt; seat = record { selected = fits.selected; load = limits-are (sizes_in a) h } }
+  opened_by a true y z v h = declined 0x6A86
+  opened_by a false true z v h = declined 0x6700
+  opened_by a false false false v h = declined 0x6A80
+  opened_by a false false true true h = declined 0x6A84
+  opened_by a false false true false h = record { items = tt; seat = record { selected = fits.selected; load = limits_are (sizes_in a) h } }
 
-  open-fits : (a : ApduParts) → ManagedFits (open_load (room_on c) c.apps seat a)
-  open-fits a =
-      opened-by a (nat_lt 15 (p1p2 a)) (not (length a.body == 12)) (fits_limits (sizes_in a)) (nat_le 32 (length c.apps) || is_none (room_on c (sizes_in a))) refl
+  open_fits : (a : ApduParts) → ManagedFits (open_load (room_on c) c.apps seat a)
+  open_fits a =
+      opened_by a (nat_lt 15 (p1p2 a)) (not (length a.body == 12)) (fits_limits (sizes_in a)) (nat_le 32 (length c.apps) || is_none (room_on c (sizes_in a))) refl
 
   -- ---- LOAD
 
-  loaded-by : (p : Part) (a : ApduParts) (o : Option Open) → seat.load ≡ o → ManagedFits (Accepts (load_done seat o p a))
+  loaded_by : (p : Part) (a : ApduParts) (o : Option Open) → seat.load ≡ o → ManagedFits (Accepts (load_done seat o p a))
   unfolding ManagedFits
-  loaded-by p a None e = record { items = tt; seat = fits }
-  loaded-by p a (Some o) e =
+  loaded_by p a None e = record { items = tt; seat = fits }
+  loaded_by p a (Some o) e =
       let cs = word_parts _ a.body in
       record {
-        items = plain-fit c.apps Plain o.site p cs;
-        seat = subst (λ (m : List (List ℕ × App)). SeatFits m (load_done seat (Some o) p a).seat) (sym (plain-done c.apps Plain o.site p cs))
+        items = plain_fit c.apps Plain o.site p cs;
+        seat = subst (λ (m : List (List ℕ × App)). SeatFits m (load_done seat (Some o) p a).seat) (sym (plain_done c.apps Plain o.site p cs))
             (record { selected = fits.selected; load = subst LoadFits e fits.load });
       }
 
-  load-fits : (p : Part) (a : ApduParts) → ManagedFits (load_part p seat a)
-  load-fits p a = answered-fits (first_status (load_refusals seat.load p a)) (load_done seat seat.load p a) (λ e. loaded-by p a seat.load refl)
+  load_fits : (p : Part) (a : ApduParts) → ManagedFits (load_part p seat a)
+  load_fits p a = answered_fits (first_status (load_refusals seat.load p a)) (load_done seat seat.load p a) (λ e. loaded_by p a seat.load refl)
 
   -- ---- CREATE
 
-  fresh-small : (o : Open) → is_complete o ≡ true → LoadFits (Some o) → length (fresh o).fixed ≤ most_static
-  fresh-small o h few =
+  fresh_small : (o : Open) → is_complete o ≡ true → LoadFits (Some o) → length (fresh o).fixed ≤ most_static
+  fresh_small o h few =
       let g = o.got in
       let s = o.site.sizes in
       let a : Bool = length g.code == s.code && length g.init == s.init in
@@ -175,43 +175,43 @@ module _ (c : Card) (seat : Seat) (fits : SeatFits c.apps seat) where
       omega (arith, length-append g.init (zeros (s.fixed - s.init)), length-replicate {A = ℕ} (s.fixed - s.init) 0)
 
   -- a selection beside a new name
-  beside-selected : (o : Option Selected) (n : List ℕ) (a : App) → lookup c.apps n ≡ None → SelectedFits c.apps o → SelectedFits (insert c.apps n a) o
-  beside-selected None n a e h = tt
-  beside-selected (Some s) n a e h = by (bytes_eq n s.name) refl
+  beside_selected : (o : Option Selected) (n : List ℕ) (a : App) → lookup c.apps n ≡ None → SelectedFits c.apps o → SelectedFits (insert c.apps n a) o
+  beside_selected None n a e h = tt
+  beside_selected (Some s) n a e h = by (bytes_eq n s.name) refl
     where
       by : (b : Bool) → bytes_eq n s.name ≡ b → SelectedFits (insert c.apps n a) (Some s)
       by true is =
           let gone : size_in c.apps s.name ≡ None = subst (λ (k : List ℕ). size_in c.apps k ≡ None) (same_name n s.name is) (ap size_of e) in
           absurd (subst (λ (z : Option (ℕ × ℕ)). AsManySession z (length s.session)) gone h)
-      by false is = same-selected c.apps (insert c.apps n a) s (ap size_of (lookup-beside c.apps n a s.name is)) h
+      by false is = same_selected c.apps (insert c.apps n a) s (ap size_of (lookup_beside c.apps n a s.name is)) h
 
-  created-by : (a : ApduParts) (o : Open) (r : Result (List ℕ) AidFault) (x y z v : Bool) → seat.load ≡ Some o → is_complete o ≡ z → is_taken c.apps r ≡ v
-      → ManagedFits (answered (cond x (Some 0x6A86) (cond y (Some 0x6700) (cond (not z) (Some 0x6985) (cond (not (is_ok r)) (Some 0x6A80) (cond v (Some 0x6A89) None))))) (create_done seat (Some o) r))
+  created_by : (a : ApduParts) (o : Open) (r : Result (List ℕ) AidFault) (x y z v : Bool) → seat.load ≡ Some o → is_complete o ≡ z → is_taken c.apps r ≡ v
+      → ManagedFits (answer_unless (cond x (Some 0x6A86) (cond y (Some 0x6700) (cond (not z) (Some 0x6985) (cond (not (is_ok r)) (Some 0x6A80) (cond v (Some 0x6A89) None))))) (create_done seat (Some o) r))
   unfolding ManagedFits
-  created-by a o r true y z v e h t = declined 0x6A86
-  created-by a o r false true z v e h t = declined 0x6700
-  created-by a o r false false false v e h t = declined 0x6985
-  created-by a o (Err f) false false true v e h t = declined 0x6A80
-  created-by a o (Ok n) false false true true e h t = declined 0x6A89
-  created-by a o (Ok n) false false true false e h t =
+  created_by a o r true y z v e h t = declined 0x6A86
+  created_by a o r false true z v e h t = declined 0x6700
+  created_by a o r false false false v e h t = declined 0x6985
+  created_by a o (Err f) false false true v e h t = declined 0x6A80
+  created_by a o (Ok n) false false true true e h t = declined 0x6A89
+  created_by a o (Ok n) false false true false e h t =
       let ch = Created n (fresh o) in
       let cs = word_parts o.site.sizes.init (zeros (o.site.sizes.fixed - o.site.sizes.init)) in
-      let small : length (fresh o).fixed ≤ most_static = fresh-small o h (subst LoadFits e fits.load) in
+      let small : length (fresh o).fixed ≤ most_static = fresh_small o h (subst LoadFits e fits.load) in
       record {
-        items = blanks-fit c.apps _ ch o.site n cs small;
-        seat = subst (λ (m : List (List ℕ × App)). SeatFits m (record seat { load = None })) (sym (blanks-done c.apps _ ch o.site n cs))
-            (record { selected = beside-selected seat.selected n (fresh o) (no_value (lookup c.apps n) t) fits.selected; load = tt });
+        items = blanks_fit c.apps _ ch o.site n cs small;
+        seat = subst (λ (m : List (List ℕ × App)). SeatFits m (record seat { load = None })) (sym (blanks_done c.apps _ ch o.site n cs))
+            (record { selected = beside_selected seat.selected n (fresh o) (no_value (lookup c.apps n) t) fits.selected; load = tt });
       }
 
-  create-by : (a : ApduParts) (o : Option Open) (x y : Bool) → seat.load ≡ o
-      → ManagedFits (answered (cond x (Some 0x6A86) (cond y (Some 0x6700) (cond (not (can_create o)) (Some 0x6985) (cond (not (is_ok (name_of (dir_in o)))) (Some 0x6A80) (cond (is_taken c.apps (name_of (dir_in o))) (Some 0x6A89) None))))) (create_done seat o (name_of (dir_in o))))
-  create-by a None true y e = declined 0x6A86
-  create-by a None false true e = declined 0x6700
-  create-by a None false false e = declined 0x6985
-  create-by a (Some o) x y e = created-by a o (name_of o.got.dir) x y (is_complete o) (is_taken c.apps (name_of o.got.dir)) e refl refl
+  create_by : (a : ApduParts) (o : Option Open) (x y : Bool) → seat.load ≡ o
+      → ManagedFits (answer_unless (cond x (Some 0x6A86) (cond y (Some 0x6700) (cond (not (can_create o)) (Some 0x6985) (cond (not (is_ok (name_of (dir_in o)))) (Some 0x6A80) (cond (is_taken c.apps (name_of (dir_in o))) (Some 0x6A89) None))))) (create_done seat o (name_of (dir_in o))))
+  create_by a None true y e = declined 0x6A86
+  create_by a None false true e = declined 0x6700
+  create_by a None false false e = declined 0x6985
+  create_by a (Some o) x y e = created_by a o (name_of o.got.dir) x y (is_complete o) (is_taken c.apps (name_of o.got.dir)) e refl refl
 
-  create-fits : (a : ApduParts) → ManagedFits (create c.apps seat a)
-  create-fits a = create-by a seat.load (not (p1p2 a == 0)) (not (is_empty a.body)) refl
+  create_fits : (a : ApduParts) → ManagedFits (create c.apps seat a)
+  create_fits a = create_by a seat.load (not (p1p2 a == 0)) (not (is_empty a.body)) refl
 
   -- ---- DELETE
 
@@ -223,138 +223,138 @@ module _ (c : Card) (seat : Seat) (fits : SeatFits c.apps seat) where
       by true is =
           let same : bytes_eq s.name n ≡ true = subst (λ (k : List ℕ). bytes_eq k n ≡ true) (same_name n s.name is) (name_is_itself n) in
           absurd (cc (sym same ∙ e))
-      by false is = same-selected c.apps (remove c.apps n) s (ap size_of (lookup-left c.apps n s.name is)) h
+      by false is = same_selected c.apps (remove c.apps n) s (ap size_of (lookup_left c.apps n s.name is)) h
 
-  deleted-by : (a : ApduParts) (x y z v : Bool) → is_selected seat.selected a.body ≡ v → ManagedFits (answered (cond x (Some 0x6A86) (cond y (Some 0x6700) (cond z (Some 0x6A82) (cond v (Some 0x6985) None)))) (delete_done seat a))
+  deleted_by : (a : ApduParts) (x y z v : Bool) → is_selected seat.selected a.body ≡ v → ManagedFits (answer_unless (cond x (Some 0x6A86) (cond y (Some 0x6700) (cond z (Some 0x6A82) (cond v (Some 0x6985) None)))) (delete_done seat a))
   unfolding ManagedFits
-  deleted-by a true y z v h = declined 0x6A86
-  deleted-by a false true z v h = declined 0x6700
-  deleted-by a false false true v h = declined 0x6A82
-  deleted-by a false false false true h = declined 0x6985
-  deleted-by a false false false false h = record { items = (tt, tt); seat = record { selected = unselected seat.selected a.body h fits.selected; load = tt } }
+  deleted_by a true y z v h = declined 0x6A86
+  deleted_by a false true z v h = declined 0x6700
+  deleted_by a false false true v h = declined 0x6A82
+  deleted_by a false false false true h = declined 0x6985
+  deleted_by a false false false false h = record { items = (tt, tt); seat = record { selected = unselected seat.selected a.body h fits.selected; load = tt } }
 
-  delete-fits : (a : ApduParts) → ManagedFits (delete c.apps seat a)
-  delete-fits a = deleted-by a (not (p1p2 a == 0)) (is_empty a.body) (is_none (lookup c.apps a.body)) (is_selected seat.selected a.body) refl
+  delete_fits : (a : ApduParts) → ManagedFits (delete c.apps seat a)
+  delete_fits a = deleted_by a (not (p1p2 a == 0)) (is_empty a.body) (is_none (lookup c.apps a.body)) (is_selected seat.selected a.body) refl
 
   either : (b : Bool) (m n : Managed) → ManagedFits m → ManagedFits n → ManagedFits (cond b m n)
   either true m n h k = h
   either false m n h k = k
 
-  manage-fits : (a : ApduParts) → ManagedFits (manage (room_on c) c.apps seat a)
+  manage_fits : (a : ApduParts) → ManagedFits (manage (room_on c) c.apps seat a)
   unfolding manage
-  manage-fits a =
-      either (a.ins == 0x12) _ _ (open-fits a) (
-      either (a.ins == 0x24) _ _ (load-fits part.Code a) (
-      either (a.ins == 0x26) _ _ (load-fits part.Data a) (
-      either (a.ins == 0x20) _ _ (load-fits part.Dir a) (
-      either (a.ins == 0x22) _ _ (load-fits part.Fci a) (
-      either (a.ins == 0x16) _ _ (create-fits a) (either (a.ins == 0x18) _ _ (delete-fits a) (declined 0x6D00)))))))
+  manage_fits a =
+      either (a.ins == 0x12) _ _ (open_fits a) (
+      either (a.ins == 0x24) _ _ (load_fits part.Code a) (
+      either (a.ins == 0x26) _ _ (load_fits part.Data a) (
+      either (a.ins == 0x20) _ _ (load_fits part.Dir a) (
+      either (a.ins == 0x22) _ _ (load_fits part.Fci a) (
+      either (a.ins == 0x16) _ _ (create_fits a) (either (a.ins == 0x18) _ _ (delete_fits a) (declined 0x6D00)))))))
 
 -- ---- a run
 
-writes-fit : (ws : List Write) (m : List (List ℕ × App)) → AllByRecursion (WriteFits m) ws → ItemsFit m (write_items ws)
-writes-fit [] m a = tt
-writes-fit (w ∷ ws) m a =
-    let d = changed (Fixed w.name w.pieces) m in
-    (a.0, writes-fit ws d (moved-writes m d ws (changed-sizes m w.name w.pieces a.0) a.1))
+writes_fit : (ws : List Write) (m : List (List ℕ × App)) → AllByRecursion (WriteFits m) ws → ItemsFit m (write_items ws)
+writes_fit [] m a = tt
+writes_fit (w ∷ ws) m a =
+    let d = apps_after_change (Fixed w.name w.pieces) m in
+    (a.0, writes_fit ws d (moved_writes m d ws (changed_sizes m w.name w.pieces a.0) a.1))
 
-writes-same : (ws : List Write) (m : List (List ℕ × App)) → AllByRecursion (WriteFits m) ws → SameSizes m (done m (write_items ws))
-writes-same [] m a = λ n. refl
-writes-same (w ∷ ws) m a =
-    let d = changed (Fixed w.name w.pieces) m in
-    let one : SameSizes m d = changed-sizes m w.name w.pieces a.0 in
-    let rest : SameSizes d (done d (write_items ws)) = writes-same ws d (moved-writes m d ws one a.1) in
+writes_same : (ws : List Write) (m : List (List ℕ × App)) → AllByRecursion (WriteFits m) ws → SameSizes m (apps_after_items m (write_items ws))
+writes_same [] m a = λ n. refl
+writes_same (w ∷ ws) m a =
+    let d = apps_after_change (Fixed w.name w.pieces) m in
+    let one : SameSizes m d = changed_sizes m w.name w.pieces a.0 in
+    let rest : SameSizes d (apps_after_items d (write_items ws)) = writes_same ws d (moved_writes m d ws one a.1) in
     λ n. rest n ∙ one n
 
-passed-fits : (c : Card) (seat : Seat) (o : Option Selected) (a : ApduParts) (budget : ℕ) → seat.selected ≡ o → SeatFits c.apps seat → CommandFits c.apps (passed c seat o a budget)
-passed-fits c seat None a budget e h = record { items = tt; seat = h }
-passed-fits c seat (Some s) a budget e h =
+passed_fits : (c : Card) (seat : Seat) (o : Option Selected) (a : ApduParts) (budget : ℕ) → seat.selected ≡ o → SeatFits c.apps seat → CommandFits c.apps (application_command c seat o a budget)
+passed_fits c seat None a budget e h = record { items = tt; seat = h }
+passed_fits c seat (Some s) a budget e h =
     let r = run c.apps s.name s.session a budget in
-    let k : RanFits c.apps (length s.session) r = run-fits c.apps s.name s.session a budget in
-    let same : SameSizes c.apps (done c.apps (write_items r.writes)) = writes-same r.writes c.apps k.writes in
+    let k : RanFits c.apps (length s.session) r = run_fits c.apps s.name s.session a budget in
+    let same : SameSizes c.apps (apps_after_items c.apps (write_items r.writes)) = writes_same r.writes c.apps k.writes in
     let mine : SelectedFits c.apps (Some s) = subst (SelectedFits c.apps) e h.selected in
-    let after : AsManySession (size_in (done c.apps (write_items r.writes)) s.name) (length s.session) = subst (λ (z : Option (ℕ × ℕ)). AsManySession z (length s.session)) (sym (same s.name)) mine in
+    let after : AsManySession (size_in (apps_after_items c.apps (write_items r.writes)) s.name) (length s.session) = subst (λ (z : Option (ℕ × ℕ)). AsManySession z (length s.session)) (sym (same s.name)) mine in
     record {
-      items = writes-fit r.writes c.apps k.writes;
-      seat = record { selected = subst (AsManySession (size_in (done c.apps (write_items r.writes)) s.name)) (sym k.session) after; load = h.load };
+      items = writes_fit r.writes c.apps k.writes;
+      seat = record { selected = subst (AsManySession (size_in (apps_after_items c.apps (write_items r.writes)) s.name)) (sym k.session) after; load = h.load };
     }
 
 -- ---- a command
 
-routed-fits : (c : Card) (seat : Seat) (budget : ℕ) (r : Route) → SeatFits c.apps seat → CommandFits c.apps (by_route c seat budget r)
+routed_fits : (c : Card) (seat : Seat) (budget : ℕ) (r : Route) → SeatFits c.apps seat → CommandFits c.apps (by_route c seat budget r)
 unfolding ManagedFits
-routed-fits c seat budget WrongLength h = record { items = tt; seat = h }
-routed-fits c seat budget WrongClass h = record { items = tt; seat = h }
-routed-fits c seat budget (ToSelect a) h = select-fits c seat h a
-routed-fits c seat budget (ToManager a) h = manage-fits c seat h a
-routed-fits c seat budget (ToApplication a) h = passed-fits c seat seat.selected a budget refl h
+routed_fits c seat budget WrongLength h = record { items = tt; seat = h }
+routed_fits c seat budget WrongClass h = record { items = tt; seat = h }
+routed_fits c seat budget (ToSelect a) h = select_fits c seat h a
+routed_fits c seat budget (ToManager a) h = manage_fits c seat h a
+routed_fits c seat budget (ToApplication a) h = passed_fits c seat seat.selected a budget refl h
 
-pub command-fits : (c : Card) (seat : Seat) (b : List ℕ) (budget : ℕ) → SeatFits c.apps seat → CommandFits c.apps (command c seat b budget)
+pub command_fits : (c : Card) (seat : Seat) (b : List ℕ) (budget : ℕ) → SeatFits c.apps seat → CommandFits c.apps (command c seat b budget)
 unfolding command
-command-fits c seat b budget h = routed-fits c seat budget (route b) h
+command_fits c seat b budget h = routed_fits c seat budget (route b) h
 
-session-by : (o : Option App) (n : ℕ) → AsManySession (size_of o) n → n ≡ session_in o
-session-by None n h = absurd h
-session-by (Some a) n h = h
+session_by : (o : Option App) (n : ℕ) → AsManySession (size_of o) n → n ≡ session_in o
+session_by None n h = absurd h
+session_by (Some a) n h = h
 
-selected-well : (m : List (List ℕ × App)) (o : Option Selected) → Limited m → SelectedFits m o → PassedWell m o
-selected-well m None l h = tt
-selected-well m (Some s) l h = record { limited = are-limited m l; session = session-by (lookup m s.name) (length s.session) h }
+selected_well : (m : List (List ℕ × App)) (o : Option Selected) → Limited m → SelectedFits m o → PassedWell m o
+selected_well m None l h = tt
+selected_well m (Some s) l h = record { limited = are_limited m l; session = session_by (lookup m s.name) (length s.session) h }
 
-route-well : (m : List (List ℕ × App)) (seat : Seat) (r : Route) → Limited m → SeatFits m seat → RoutedWell m seat r
-route-well m seat WrongLength l h = tt
-route-well m seat WrongClass l h = tt
-route-well m seat (ToSelect a) l h = tt
-route-well m seat (ToManager a) l h = tt
-route-well m seat (ToApplication a) l h = selected-well m seat.selected l h.selected
+route_well : (m : List (List ℕ × App)) (seat : Seat) (r : Route) → Limited m → SeatFits m seat → RoutedWell m seat r
+route_well m seat WrongLength l h = tt
+route_well m seat WrongClass l h = tt
+route_well m seat (ToSelect a) l h = tt
+route_well m seat (ToManager a) l h = tt
+route_well m seat (ToApplication a) l h = selected_well m seat.selected l h.selected
 
 behind : (b : Bool) (later : Type 0) → later → BehindDone b later
 behind true later h = h
 behind false later h = tt
 
-pub sent-well : (c : Card) (seat : Seat) (budget : ℕ) (bs : List (List ℕ)) → Limited c.apps → SeatFits c.apps seat → SentWell c seat budget bs
-sent-well c seat budget [] l h = tt
-sent-well c seat budget (b ∷ bs) l h =
+pub sent_well : (c : Card) (seat : Seat) (budget : ℕ) (bs : List (List ℕ)) → Limited c.apps → SeatFits c.apps seat → SentWell c seat budget bs
+sent_well c seat budget [] l h = tt
+sent_well c seat budget (b ∷ bs) l h =
     let r = command c seat b budget in
-    let k : CommandFits c.apps r = command-fits c seat b budget h in
-    (route-well c.apps seat (route b) l h, behind (is_done r.outcome) (SentWell (card_done c r.items) r.seat budget bs) (sent-well (card_done c r.items) r.seat budget bs (limited-done r.items c.apps l k.items) k.seat))
+    let k : CommandFits c.apps r = command_fits c seat b budget h in
+    (route_well c.apps seat (route b) l h, behind (is_done r.outcome) (SentWell (card_done c r.items) r.seat budget bs) (sent_well (card_done c r.items) r.seat budget bs (limited_done r.items c.apps l k.items) k.seat))
 
 -- ---- the commands of a line
 
-sent_on-fits : (m : List (List ℕ × App)) (b : Bool) (r rest : Command) → CommandFits m r → CommandFits (done m r.items) rest → CommandFits m (sent_on b r rest)
-sent_on-fits m true r rest h k =
+sent_on_fits : (m : List (List ℕ × App)) (b : Bool) (r rest : Command) → CommandFits m r → CommandFits (apps_after_items m r.items) rest → CommandFits m (command_with_rest b r rest)
+sent_on_fits m true r rest h k =
     record {
-      items = fit-append r.items rest.items m h.items k.items;
-      seat = subst (λ (d : List (List ℕ × App)). SeatFits d rest.seat) (sym (done-append r.items rest.items m)) k.seat;
+      items = fit_append r.items rest.items m h.items k.items;
+      seat = subst (λ (d : List (List ℕ × App)). SeatFits d rest.seat) (sym (done_append r.items rest.items m)) k.seat;
     }
-sent_on-fits m false r rest h k = h
+sent_on_fits m false r rest h k = h
 
-send-fits : (c : Card) (seat : Seat) (budget : ℕ) (bs : List (List ℕ)) → SeatFits c.apps seat → CommandFits c.apps (send c seat budget bs)
+send_fits : (c : Card) (seat : Seat) (budget : ℕ) (bs : List (List ℕ)) → SeatFits c.apps seat → CommandFits c.apps (send c seat budget bs)
 unfolding send
-send-fits c seat budget [] h = record { items = tt; seat = h }
-send-fits c seat budget (b ∷ bs) h =
+send_fits c seat budget [] h = record { items = tt; seat = h }
+send_fits c seat budget (b ∷ bs) h =
     let r = command c seat b budget in
-    let k : CommandFits c.apps r = command-fits c seat b budget h in
-    sent_on-fits c.apps (is_done r.outcome) r (send (card_done c r.items) r.seat budget bs) k (send-fits (card_done c r.items) r.seat budget bs k.seat)
+    let k : CommandFits c.apps r = command_fits c seat b budget h in
+    sent_on_fits c.apps (is_done r.outcome) r (send (card_done c r.items) r.seat budget bs) k (send_fits (card_done c r.items) r.seat budget bs k.seat)
 
-line-fits : (c : Card) (seat : Seat) (budget : ℕ) (l : DeckLine) → SeatFits c.apps seat → CommandFits c.apps (line_command c seat budget l)
-line-fits c seat budget (line.Select n) h = command-fits c seat (select_bytes n) budget h
-line-fits c seat budget (line.Delete n) h = command-fits c seat (delete_bytes n) budget h
-line-fits c seat budget (line.Apdu b) h = command-fits c seat b budget h
-line-fits c seat budget (line.Load u fixed session) h = send-fits c seat budget (load_commands u fixed session) h
-line-fits c seat budget l h = record { items = tt; seat = h }
+line_fits : (c : Card) (seat : Seat) (budget : ℕ) (l : DeckLine) → SeatFits c.apps seat → CommandFits c.apps (line_command c seat budget l)
+line_fits c seat budget (line.Select n) h = command_fits c seat (select_bytes n) budget h
+line_fits c seat budget (line.Delete n) h = command_fits c seat (delete_bytes n) budget h
+line_fits c seat budget (line.Apdu b) h = command_fits c seat b budget h
+line_fits c seat budget (line.Load u fixed session) h = send_fits c seat budget (load_commands u fixed session) h
+line_fits c seat budget l h = record { items = tt; seat = h }
 
 -- ---- the card that the first power line finds
 
-pub good-records : (w : List (List ℕ)) → words_fault w ≡ None → bad_record w (blocks w) [] 0 ≡ None
-good-records w h =
-    let root = or_else-none (by_cause NoRoot (no_root w)) _ h in
-    let block = or_else-none (by_cause BadBlock (bad_block (length w) w 131 false)) _ root.1 in
-    let records = or_else-none (by_cause BadRecord (bad_record w (blocks w) [] 0)) (by_cause BadChain (bad_chain w (blocks w))) block.1 in
-    cause-none BadRecord (bad_record w (blocks w) [] 0) records.0
+pub good_records : (w : List (List ℕ)) → words_fault w ≡ None → bad_record w (blocks w) [] 0 ≡ None
+good_records w h =
+    let root = or_else_none (by_cause NoRoot (no_root w)) _ h in
+    let block = or_else_none (by_cause BadBlock (bad_block (length w) w 131 false)) _ root.1 in
+    let records = or_else_none (by_cause BadRecord (bad_record w (blocks w) [] 0)) (by_cause BadChain (bad_chain w (blocks w))) block.1 in
+    cause_none BadRecord (bad_record w (blocks w) [] 0) records.0
 
-record-small : (r : List ℕ) (words : ℕ) → is_record r words ≡ true → be2 r 22 ≤ 4096
-record-small r words h =
+record_small : (r : List ℕ) (words : ℕ) → is_record r words ≡ true → be2 r 22 ≤ 4096
+record_small r words h =
     let n : ℕ = slice_index r 16 in
     let a : Bool = nat_le 5 n && nat_le n 16 && bytes_eq (take (16 - n) (drop n r)) (zeros (16 - n))
     && nat_le (slice_index r 17) 128 && nat_le (slice_index r 18) 128 && slice_index r 19 == 0 && nat_le 1 (be2 r 20) && nat_le (be2 r 20) 8192 in
@@ -362,26 +362,26 @@ record-small r words h =
     let d : Bool = b && nat_le (be2 r 24) 256 in
     let e : Bool = d && nat_le (be2 r 26) 15 in
     let f : Bool = e && bytes_eq (drop 28 r) (zeros 4) in
-    let to-f = and_parts f (words == needed_of (be2 r 20) (be2 r 22) (slice_index r 17) (slice_index r 18)) h in
+    let to-f = and_parts f (words == words_of_lengths (be2 r 20) (be2 r 22) (slice_index r 17) (slice_index r 18)) h in
     let to-e = and_parts e (bytes_eq (drop 28 r) (zeros 4)) to-f.0 in
     let to-d = and_parts d (nat_le (be2 r 26) 15) to-e.0 in
     let to-b = and_parts b (nat_le (be2 r 24) 256) to-d.0 in
     leb-true (be2 r 22) 4096 (and_parts a (nat_le (be2 r 22) 4096) to-b.0).1
 
-app-small : (m : List (List ℕ)) (p : ℕ) → be2 (record_at m p) 22 ≤ 4096 → length (app_at m p).fixed ≤ most_static
-app-small m p h =
+app_small : (m : List (List ℕ)) (p : ℕ) → be2 (record_at m p) 22 ≤ 4096 → length (app_at m p).fixed ≤ most_static
+app_small m p h =
     let r = record_at m p in
     omega (arith, length-take (be2 r 22) (cells m (p + 5 + up (be2 r 20) 8) (up (be2 r 22) 8)))
 
-limited-none : Limited []
-limited-none n = tt
+limited_none : Limited []
+limited_none n = tt
 
-limited-blocks : (m : List (List ℕ)) (bs : List Block) (names : List (List ℕ)) (used : ℕ) → bad_record m bs names used ≡ None → Limited (apps_of m bs)
+limited_blocks : (m : List (List ℕ)) (bs : List Block) (names : List (List ℕ)) (used : ℕ) → bad_record m bs names used ≡ None → Limited (apps_of m bs)
 unfolding bad_record apps_of
-limited-blocks m [] names used h = limited-none
-limited-blocks m (b ∷ bs) names used h =
+limited_blocks m [] names used h = limited_none
+limited_blocks m (b ∷ bs) names used h =
     by b.used (is_record (record_at m b.place) b.words && not (has_name (name_in (record_at m b.place)) names) && nat_lt used 32) refl h
-    (λ e. limited-blocks m bs (name_in (record_at m b.place) ∷ names) (used + 1) e) (λ e. limited-blocks m bs names used e)
+    (λ e. limited_blocks m bs (name_in (record_at m b.place) ∷ names) (used + 1) e) (λ e. limited_blocks m bs names used e)
   where
     by : (u g : Bool) → (is_record (record_at m b.place) b.words && not (has_name (name_in (record_at m b.place)) names) && nat_lt used 32) ≡ g
         → cond u (cond g (bad_record m bs (name_in (record_at m b.place) ∷ names) (used + 1)) (Some b.place)) (bad_record m bs names used) ≡ None
@@ -391,14 +391,14 @@ limited-blocks m (b ∷ bs) names used h =
         let r = record_at m b.place in
         let front = and_parts (is_record r b.words && not (has_name (name_in r) names)) (nat_lt used 32) is in
         let good = and_parts (is_record r b.words) (not (has_name (name_in r) names)) front.0 in
-        limited-inserted (apps_of m bs) (name_at m b.place) (app_at m b.place) (next e) (app-small m b.place (record-small r b.words good.0))
+        limited_inserted (apps_of m bs) (name_at m b.place) (app_at m b.place) (next e) (app_small m b.place (record_small r b.words good.0))
     by true false is e next other = absurd (cc e)
     by false g is e next other = other e
 
-means-limited : (m : List (List ℕ)) → fault m ≡ None → Limited (means m).apps
-means-limited m h =
+means_limited : (m : List (List ℕ)) → fault m ≡ None → Limited (means m).apps
+means_limited m h =
     let w = words_after (after m) m in
-    limited-blocks w (blocks w) [] 0 (good-records w (sound-after m (look m) refl h))
+    limited_blocks w (blocks w) [] 0 (good_records w (sound_after m (look m) refl h))
 
 -- ---- lines
 
@@ -419,91 +419,91 @@ pub record LineFits (u : Step) : Type 0 where
   pub well : LineWell u.before (bytes_of u.line)
   pub next : StateFits u.after
 
-after-stop : (m : List (List ℕ × App)) (k : Stop) → LiveFits m (live_after k)
-after-stop m stop.Off = tt
-after-stop m stop.Worn = tt
+after_stop : (m : List (List ℕ × App)) (k : Stop) → LiveFits m (live_after k)
+after_stop m stop.Off = tt
+after_stop m stop.Worn = tt
 
 -- power lines
-base-limited : (b : Base) (v : Live) → BaseFits b v → BaseFits b Unpowered
-base-limited (OnCard c) v h = (h.0, tt)
-base-limited (AtFault cause p) v h = tt
+base_limited : (b : Base) (v : Live) → BaseFits b v → BaseFits b Unpowered
+base_limited (OnCard c) v h = (h.0, tt)
+base_limited (AtFault cause p) v h = tt
 
-base-stopped : (b : Base) (k : Stop) → BaseFits b Unpowered → BaseFits b (live_after k)
-base-stopped (OnCard c) k h = (h.0, after-stop c.apps k)
-base-stopped (AtFault cause p) k h = tt
+base_stopped : (b : Base) (k : Stop) → BaseFits b Unpowered → BaseFits b (live_after k)
+base_stopped (OnCard c) k h = (h.0, after_stop c.apps k)
+base_stopped (AtFault cause p) k h = tt
 
-base-powered : (b : Base) → BaseFits b Unpowered → BaseFits (migrated b) (power_live b)
-base-powered (OnCard c) h = (h.0, record { selected = tt; load = tt })
-base-powered (AtFault cause p) h = tt
+base_powered : (b : Base) → BaseFits b Unpowered → BaseFits (base_after_migration b) (power_live b)
+base_powered (OnCard c) h = (h.0, record { selected = tt; load = tt })
+base_powered (AtFault cause p) h = tt
 
-base-migrated : (b : Base) (v : Live) → BaseFits b v → BaseFits (migrated b) v
-base-migrated (OnCard c) v h = h
-base-migrated (AtFault cause p) v h = h
+base_migrated : (b : Base) (v : Live) → BaseFits b v → BaseFits (base_after_migration b) v
+base_migrated (OnCard c) v h = h
+base_migrated (AtFault cause p) v h = h
 
-base-cond : (t : Bool) (b : Base) (v : Live) → BaseFits b v → BaseFits (cond t (migrated b) b) v
-base-cond true b v h = base-migrated b v h
-base-cond false b v h = h
+base_cond : (t : Bool) (b : Base) (v : Live) → BaseFits b v → BaseFits (cond t (base_after_migration b) b) v
+base_cond true b v h = base_migrated b v h
+base_cond false b v h = h
 
-stopped-fits : (s : Warm) (t : StopAt) (b : Bool) → BaseFits s.base Unpowered → StateFits (Hot (stopped_power s t b))
-stopped-fits s t true h = base-stopped s.base t.kind h
-stopped-fits s t false h = base-cond _ s.base (live_after t.kind) (base-stopped s.base t.kind h)
+stopped_fits : (s : Warm) (t : StopAt) (b : Bool) → BaseFits s.base Unpowered → StateFits (Hot (stopped_power s t b))
+stopped_fits s t true h = base_stopped s.base t.kind h
+stopped_fits s t false h = base_cond _ s.base (live_after t.kind) (base_stopped s.base t.kind h)
 
-power-fits : (s : Warm) (t : Option StopAt) → BaseFits s.base Unpowered → StateFits (Hot (power_after s t))
-power-fits s None h = base-powered s.base h
-power-fits s (Some t) h = stopped-fits s t (nat_le t.at s.owed) h
+power_fits : (s : Warm) (t : Option StopAt) → BaseFits s.base Unpowered → StateFits (Hot (power_after s t))
+power_fits s None h = base_powered s.base h
+power_fits s (Some t) h = stopped_fits s t (nat_le t.at s.owed) h
 
 -- lines of a running card
-after-fits : (s : Warm) (c : Card) (r : Command) (t : Option StopAt) → Limited c.apps → CommandFits c.apps r → StateFits (Hot (line_after s c r t))
-after-fits s c r None l k = (limited-done r.items c.apps l k.items, k.seat)
-after-fits s c r (Some t) l k = (limited-done (at_stop r.items t.at t.left).whole c.apps l (fit-whole r.items c.apps t.at t.left k.items), after-stop _ t.kind)
+after_fits : (s : Warm) (c : Card) (r : Command) (t : Option StopAt) → Limited c.apps → CommandFits c.apps r → StateFits (Hot (line_after s c r t))
+after_fits s c r None l k = (limited_done r.items c.apps l k.items, k.seat)
+after_fits s c r (Some t) l k = (limited_done (at_stop r.items t.at t.left).whole c.apps l (fit_whole r.items c.apps t.at t.left k.items), after_stop _ t.kind)
 
-card-fits : (n : ℕ) (l : DeckLine) (b : Base) (o : ℕ) (j : Journal) (v : Live) (g : ℕ) (a : Armed) (w : Option WornAt) → BaseFits b v → LineFits (card_line n l (hot b o j v g a) v b w)
-card-fits n l (OnCard c) o j (Running seat) g a w h =
+card_fits : (n : ℕ) (l : DeckLine) (b : Base) (o : ℕ) (j : Journal) (v : Live) (g : ℕ) (a : Armed) (w : Option WornAt) → BaseFits b v → LineFits (card_line n l (hot b o j v g a) v b w)
+card_fits n l (OnCard c) o j (Running seat) g a w h =
     let r = line_command c seat g l in
     let s = hot (OnCard c) o j (Running seat) g a in
-    record { well = sent-well c seat g (bytes_of l) h.0 h.1; next = after-fits s c r (hit_of a (moves r.items) w) h.0 (line-fits c seat g l h.1) }
-card-fits n l (AtFault cause p) o j (Running seat) g a w h = record { well = tt; next = tt }
-card-fits n l b o j Unpowered g a w h = record { well = tt; next = h }
-card-fits n l b o j Muted g a w h = record { well = tt; next = h }
+    record { well = sent_well c seat g (bytes_of l) h.0 h.1; next = after_fits s c r (hit_of a (moves r.items) w) h.0 (line_fits c seat g l h.1) }
+card_fits n l (AtFault cause p) o j (Running seat) g a w h = record { well = tt; next = tt }
+card_fits n l b o j Unpowered g a w h = record { well = tt; next = h }
+card_fits n l b o j Muted g a w h = record { well = tt; next = h }
 
 -- a line that has no commands
-none-taken : (v : Live) (b : Base) (g : ℕ) → TakenWell v b g []
-none-taken (Running seat) (OnCard c) g = tt
-none-taken (Running seat) (AtFault cause p) g = tt
-none-taken Unpowered b g = tt
-none-taken Muted b g = tt
+none_taken : (v : Live) (b : Base) (g : ℕ) → TakenWell v b g []
+none_taken (Running seat) (OnCard c) g = tt
+none_taken (Running seat) (AtFault cause p) g = tt
+none_taken Unpowered b g = tt
+none_taken Muted b g = tt
 
-hot-fits : (n : ℕ) (l : DeckLine) (s : Warm) (w : Option WornAt) → BaseFits s.base s.live → LineFits (hot_step n l s w)
-hot-fits n line.Power s w h = record { well = none-taken s.live s.base s.budget; next = power-fits s (hit_of s.armed (power_moves s) w) (base-limited s.base s.live h) }
-hot-fits n (line.Load u fixed session) s w h = card-fits n (line.Load u fixed session) s.base s.owed s.by s.live s.budget s.armed w h
-hot-fits n (line.Select x) s w h = card-fits n (line.Select x) s.base s.owed s.by s.live s.budget s.armed w h
-hot-fits n (line.Delete x) s w h = card-fits n (line.Delete x) s.base s.owed s.by s.live s.budget s.armed w h
-hot-fits n (line.Apdu x) s w h = card-fits n (line.Apdu x) s.base s.owed s.by s.live s.budget s.armed w h
-hot-fits n _ s w h = record { well = none-taken s.live s.base s.budget; next = h }
+hot_fits : (n : ℕ) (l : DeckLine) (s : Warm) (w : Option WornAt) → BaseFits s.base s.live → LineFits (hot_step n l s w)
+hot_fits n line.Power s w h = record { well = none_taken s.live s.base s.budget; next = power_fits s (hit_of s.armed (power_moves s) w) (base_limited s.base s.live h) }
+hot_fits n (line.Load u fixed session) s w h = card_fits n (line.Load u fixed session) s.base s.owed s.by s.live s.budget s.armed w h
+hot_fits n (line.Select x) s w h = card_fits n (line.Select x) s.base s.owed s.by s.live s.budget s.armed w h
+hot_fits n (line.Delete x) s w h = card_fits n (line.Delete x) s.base s.owed s.by s.live s.budget s.armed w h
+hot_fits n (line.Apdu x) s w h = card_fits n (line.Apdu x) s.base s.owed s.by s.live s.budget s.armed w h
+hot_fits n _ s w h = record { well = none_taken s.live s.base s.budget; next = h }
 
-found-fits : (m : List (List ℕ)) (f : Option (Cause × ℕ)) → fault m ≡ f → BaseFits (base_of f m) Unpowered
-found-fits m None h = (means-limited m h, tt)
-found-fits m (Some f) h = tt
+found_fits : (m : List (List ℕ)) (f : Option (Cause × ℕ)) → fault m ≡ f → BaseFits (base_of f m) Unpowered
+found_fits m None h = (means_limited m h, tt)
+found_fits m (Some f) h = tt
 
-warmed-fits : (m : List (List ℕ)) (b : ℕ) (a : Armed) → BaseFits (warmed m b a).base Unpowered
-unfolding warmed
-warmed-fits m b a = found-fits m (fault m) refl
+warmed_fits : (m : List (List ℕ)) (b : ℕ) (a : Armed) → BaseFits (play_at_power m b a).base Unpowered
+unfolding play_at_power
+warmed_fits m b a = found_fits m (fault m) refl
 
-cold-fits : (n : ℕ) (l : DeckLine) (m : List (List ℕ)) (b : ℕ) (a : Armed) (w : Option WornAt) → LineFits (cold_step n l m b a w)
-cold-fits n line.Power m b a w = record { well = tt; next = power-fits (warmed m b a) (hit_of a (power_moves (warmed m b a)) w) (warmed-fits m b a) }
-cold-fits n _ m b a w = record { well = tt; next = tt }
+cold_fits : (n : ℕ) (l : DeckLine) (m : List (List ℕ)) (b : ℕ) (a : Armed) (w : Option WornAt) → LineFits (cold_step n l m b a w)
+cold_fits n line.Power m b a w = record { well = tt; next = power_fits (play_at_power m b a) (hit_of a (power_moves (play_at_power m b a)) w) (warmed_fits m b a) }
+cold_fits n _ m b a w = record { well = tt; next = tt }
 
-pub step-fits : (z : State) (l : ℕ × DeckLine) (w : Option WornAt) → StateFits z → LineFits (step z l w)
+pub step_fits : (z : State) (l : ℕ × DeckLine) (w : Option WornAt) → StateFits z → LineFits (step z l w)
 unfolding step
-step-fits (Cold m b a) l w h = cold-fits l.0 l.1 m b a w
-step-fits (Hot s) l w h = hot-fits l.0 l.1 s w h
+step_fits (Cold m b a) l w h = cold_fits l.0 l.1 m b a w
+step_fits (Hot s) l w h = hot_fits l.0 l.1 s w h
 
 begin_from : (z : State) (ls : List (ℕ × DeckLine)) (ws : List (Option WornAt)) → StateFits z → BeginWell (plays z ls ws)
 unfolding plays
 begin_from z [] ws h = tt
 begin_from z (l ∷ ls) ws h =
     let u : Step = step z l (first_worn ws) in
-    let k : LineFits u = step-fits z l (first_worn ws) h in
+    let k : LineFits u = step_fits z l (first_worn ws) h in
     (k.well, begin_from u.after ls (drop 1 ws) k.next)
 
 -- the law of every play

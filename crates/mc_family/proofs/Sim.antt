@@ -11,7 +11,7 @@ use Rattle.mc_model_device.specs.PowerUp.{Base, OnCard, AtFault}
 use Rattle.mc_model_play.specs.Family.{live_in, is_own}
 use Rattle.mc_model_play.specs.Given.{Event, Leaves, apps_in, events_of}
 use Rattle.mc_model_play.specs.Solo.{Solo, Heard, silent, hears, heard_before, hears_all}
-use Rattle.mc_model_play.specs.View.{is_seen, seen_if, rest_of, work_if}
+use Rattle.mc_model_play.specs.View.{is_seen, results_if, rest_of, work_if}
 use Rattle.mc_family.proofs.Agreement.{bare, MapsAgree}
 use Rattle.mc_model_device.proofs.MapLemmas.{name_is_itself}
 use Rattle.std.proofs.lemmas.Bool.{or_right}
@@ -50,7 +50,7 @@ pub record Simulates (K : List (List ℕ)) (s : State) (t : Solo) : Type 0 where
 -- the relation, and that both sides have equal results and work.
 pub record KeepsSimulation (K : List (List ℕ)) (t : Solo) (u : Step) (es : List Event) (seen own : Bool) : Type 0 where
   pub sim : Simulates K u.after (hears_all t es).after
-  pub answer : (hears_all t es).answer ≡ seen_if seen u.result
+  pub answer : (hears_all t es).answer ≡ results_if seen u.result
   pub work : (hears_all t es).work ≡ work_if own u
 
 abbrev pub LineKeepsSimulation : List (List ℕ) → Solo → Step → Type 0
@@ -58,14 +58,14 @@ LineKeepsSimulation K t u = KeepsSimulation K t u (events_of K u u.line) (is_see
 
 -- ---- events in a row
 
-pub hears_all-append : (t : Solo) (es fs : List Event) → hears_all t (es ++ fs) ≡ heard_before (hears_all t es) (hears_all (hears_all t es).after fs)
+pub hears_all_append : (t : Solo) (es fs : List Event) → hears_all t (es ++ fs) ≡ heard_before (hears_all t es) (hears_all (hears_all t es).after fs)
 unfolding hears_all
-hears_all-append t [] fs = refl
-hears_all-append t (e ∷ es) fs =
+hears_all_append t [] fs = refl
+hears_all_append t (e ∷ es) fs =
     let h = hears t e in
     let r = hears_all h.after es in
     let s = hears_all r.after fs in
-    ap (λ (z : Heard). heard_before h z) (hears_all-append h.after es fs)
+    ap (λ (z : Heard). heard_before h z) (hears_all_append h.after es fs)
     ∙ (ap (λ (z : List LineResult). record { after = s.after; answer = z; work = h.work ++ (r.work ++ s.work) }) (sym (append_assoc h.answer r.answer s.answer))
     ∙ ap (λ (z : List (List Item × Option StopAt)). record { after = s.after; answer = (h.answer ++ r.answer) ++ s.answer; work = z }) (sym (append_assoc h.work r.work s.work)))
 
@@ -79,12 +79,12 @@ hears_leave t = refl
 
 -- ---- what a family's names have
 
-static_of-bare : (o : Option App) → static_of (bare o) ≡ static_of o
-static_of-bare None = refl
-static_of-bare (Some a) = refl
+static_of_bare : (o : Option App) → static_of (bare o) ≡ static_of o
+static_of_bare None = refl
+static_of_bare (Some a) = refl
 
 pub static_alike : (o p : Option App) → bare o ≡ bare p → static_of o ≡ static_of p
-static_alike o p e = sym (static_of-bare o) ∙ (ap static_of e ∙ static_of-bare p)
+static_alike o p e = sym (static_of_bare o) ∙ (ap static_of e ∙ static_of_bare p)
 
 rest_from : (ks : List (List ℕ)) (m d : List (List ℕ × App)) → MapsAgree ks true m d → rest_of ks m ≡ rest_of ks d
 rest_from [] m d h = refl
@@ -94,5 +94,5 @@ rest_from (k ∷ ks) m d h =
     ap (λ (z : LineResult). z ∷ rest_of ks m) first ∙ ap (λ (z : List LineResult). static_of (lookup d k) ∷ z) others
 
 -- the static bytes of the family are equal if the maps agree
-pub rest-alike : (K : List (List ℕ)) (m d : List (List ℕ × App)) → MapsAgree K true m d → rest_of K m ≡ rest_of K d
-rest-alike K m d h = rest_from K m d h
+pub rest_alike : (K : List (List ℕ)) (m d : List (List ℕ × App)) → MapsAgree K true m d → rest_of K m ≡ rest_of K d
+rest_alike K m d h = rest_from K m d h

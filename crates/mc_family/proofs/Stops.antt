@@ -6,14 +6,14 @@ use Rattle.mc_model_device.specs.declared.device.Stop.TheVariants as stop
 use Rattle.mc_model_device.specs.Bytes.{has_name, lookup, insert, remove}
 use Rattle.mc_model_device.specs.Image.{Two}
 use Rattle.mc_model_device.specs.Stopped.{cost, stands}
-use Rattle.mc_model_device.specs.Card.{App, placed}
+use Rattle.mc_model_device.specs.Card.{App, app_at_place}
 use Rattle.mc_model_machine.specs.Chain.{Write, map_changed}
-use Rattle.mc_model_card.specs.Items.{Change, Fixed, Created, Deleted, Item, Plain, Atomic, done, StopAt, Stopped, with_item, in_flight, at_stop, write_items}
+use Rattle.mc_model_card.specs.Items.{Change, Fixed, Created, Deleted, Item, Plain, Atomic, apps_after_items, StopAt, Stopped, with_item, in_flight, at_stop, write_items}
 use Rattle.mc_model_card.specs.Manager.{Selected}
 use Rattle.mc_model_play.specs.Play.{Armed, Unarmed, ArmedCut, ArmedFail, WornAt, hit_of}
-use Rattle.mc_model_play.specs.Given.{Event, Arrives, Departs, given_stop, told}
+use Rattle.mc_model_play.specs.Given.{Event, Arrives, Departs, given_stop, events_of_items}
 use Rattle.mc_model_play.specs.Solo.{Solo, Heard, silent, hears, heard_before, hears_all, hits}
-use Rattle.mc_family.proofs.Agreement.{MapsAgree, Agree-inserted, Agree-removed, Agree-beside, Agree-left, Agree-changed_app, Agree-joined}
+use Rattle.mc_family.proofs.Agreement.{MapsAgree, agree_inserted, agree_removed, agree_beside, agree_left, agree_changed_app, agree_joined}
 use Rattle.mc_family.proofs.RunLemma.{WritesOn}
 use Rattle.mc_family.proofs.Sim.{hears_none}
 
@@ -30,17 +30,17 @@ hit_where b s o h = ap (λ (c : Bool). cond c (Some s) o) h
 no_hit_where : (b : Bool) (s : StopAt) (o : Option StopAt) → b ≡ false → cond b (Some s) o ≡ o
 no_hit_where b s o h = ap (λ (c : Bool). cond c (Some s) o) h
 
-cut-given : (b : Bool) (m k : ℕ) (x : List ℕ) → nat_le k m ≡ b
+cut_given : (b : Bool) (m k : ℕ) (x : List ℕ) → nat_le k m ≡ b
     → hits m (given_stop (ArmedCut k x) (cond b (Some (record { kind = stop.Off; at = k; left = x })) None)) ≡ cond b (Some (record { kind = stop.Off; at = k; left = x })) None
-cut-given true m k x h = hit_where (nat_le k m) (record { kind = stop.Off; at = k; left = x }) None h
-cut-given false m k x h = no_hit_where (nat_le k m) (record { kind = stop.Off; at = k; left = x }) None h
+cut_given true m k x h = hit_where (nat_le k m) (record { kind = stop.Off; at = k; left = x }) None h
+cut_given false m k x h = no_hit_where (nat_le k m) (record { kind = stop.Off; at = k; left = x }) None h
 
 -- the lone card is hit by the very stop that hit the play
-pub hits-given : (armed : Armed) (m : ℕ) (w : Option WornAt) → WornWithin m w → hits m (given_stop armed (hit_of armed m w)) ≡ hit_of armed m w
-hits-given armed m (Some w) h = hit_where (nat_le w.at m) (record { kind = stop.Worn; at = w.at; left = w.left }) None (le-leb w.at m h)
-hits-given (ArmedCut k x) m None h = cut-given (nat_le k m) m k x refl
-hits-given Unarmed m None h = refl
-hits-given (ArmedFail k) m None h = refl
+pub hits_given : (armed : Armed) (m : ℕ) (w : Option WornAt) → WornWithin m w → hits m (given_stop armed (hit_of armed m w)) ≡ hit_of armed m w
+hits_given armed m (Some w) h = hit_where (nat_le w.at m) (record { kind = stop.Worn; at = w.at; left = w.left }) None (le-leb w.at m h)
+hits_given (ArmedCut k x) m None h = cut_given (nat_le k m) m k x refl
+hits_given Unarmed m None h = refl
+hits_given (ArmedFail k) m None h = refl
 
 -- ---- items of others
 
@@ -55,33 +55,33 @@ abbrev pub AreOthers : List (List ℕ) → List Item → Type 0
 AreOthers K [] = ⊤
 AreOthers K (i ∷ is) = IsOther K i × AreOthers K is
 
-pub AreOthers-append : (K : List (List ℕ)) (is js : List Item) → AreOthers K is → AreOthers K js → AreOthers K (is ++ js)
-AreOthers-append K [] js g h = h
-AreOthers-append K (i ∷ is) js g h = (g.0, AreOthers-append K is js g.1 h)
+pub are_others_append : (K : List (List ℕ)) (is js : List Item) → AreOthers K is → AreOthers K js → AreOthers K (is ++ js)
+are_others_append K [] js g h = h
+are_others_append K (i ∷ is) js g h = (g.0, are_others_append K is js g.1 h)
 
-pub writes-others : (K : List (List ℕ)) (ws : List Write) → WritesOn K false ws → AreOthers K (write_items ws)
-writes-others K [] h = tt
-writes-others K (w ∷ ws) h = (h.0, writes-others K ws h.1)
+pub writes_others : (K : List (List ℕ)) (ws : List Write) → WritesOn K false ws → AreOthers K (write_items ws)
+writes_others K [] h = tt
+writes_others K (w ∷ ws) h = (h.0, writes_others K ws h.1)
 
-in_flight-others : (K : List (List ℕ)) (w : ℕ) (c : Change) (b : Bool) → IsOther K (Atomic w c) → AreOthers K (cond b (Atomic w c ∷ []) [])
-in_flight-others K w c true h = (h, tt)
-in_flight-others K w c false h = tt
+in_flight_others : (K : List (List ℕ)) (w : ℕ) (c : Change) (b : Bool) → IsOther K (Atomic w c) → AreOthers K (cond b (Atomic w c ∷ []) [])
+in_flight_others K w c true h = (h, tt)
+in_flight_others K w c false h = tt
 
-plain-others : (K : List (List ℕ)) (b : Bool) (s : Stopped) → AreOthers K s.whole → AreOthers K (cond b (record { whole = []; owed = 0 }) (with_item Plain s)).whole
-plain-others K true s h = tt
-plain-others K false s h = (tt, h)
+plain_others : (K : List (List ℕ)) (b : Bool) (s : Stopped) → AreOthers K s.whole → AreOthers K (cond b (record { whole = []; owed = 0 }) (with_item Plain s)).whole
+plain_others K true s h = tt
+plain_others K false s h = (tt, h)
 
-atomic-others : (K : List (List ℕ)) (b : Bool) (w : ℕ) (c : Change) (f s : Stopped) → IsOther K (Atomic w c) → AreOthers K f.whole → AreOthers K s.whole → AreOthers K (cond b f (with_item (Atomic w c) s)).whole
-atomic-others K true w c f s i g h = g
-atomic-others K false w c f s i g h = (i, h)
+atomic_others : (K : List (List ℕ)) (b : Bool) (w : ℕ) (c : Change) (f s : Stopped) → IsOther K (Atomic w c) → AreOthers K f.whole → AreOthers K s.whole → AreOthers K (cond b f (with_item (Atomic w c) s)).whole
+atomic_others K true w c f s i g h = g
+atomic_others K false w c f s i g h = (i, h)
 
 -- what is whole of them after a stop
-pub whole-others : (K : List (List ℕ)) (is : List Item) (k : ℕ) (x : List ℕ) → AreOthers K is → AreOthers K (at_stop is k x).whole
-whole-others K [] k x h = tt
-whole-others K (Plain ∷ is) k x h = plain-others K (k == 1) (at_stop is (k - 1) x) (whole-others K is (k - 1) x h.1)
-whole-others K (Atomic w c ∷ is) k x h =
-    atomic-others K (nat_le k (cost Two w)) w c (in_flight w c k x) (at_stop is (k - cost Two w) x) h.0
-    (in_flight-others K w c (stands Two w k x) h.0) (whole-others K is (k - cost Two w) x h.1)
+pub whole_others : (K : List (List ℕ)) (is : List Item) (k : ℕ) (x : List ℕ) → AreOthers K is → AreOthers K (at_stop is k x).whole
+whole_others K [] k x h = tt
+whole_others K (Plain ∷ is) k x h = plain_others K (k == 1) (at_stop is (k - 1) x) (whole_others K is (k - 1) x h.1)
+whole_others K (Atomic w c ∷ is) k x h =
+    atomic_others K (nat_le k (cost Two w)) w c (in_flight w c k x) (at_stop is (k - cost Two w) x) h.0
+    (in_flight_others K w c (stands Two w k x) h.0) (whole_others K is (k - cost Two w) x h.1)
 
 -- ---- the lone card is given creations and deletions
 
@@ -91,9 +91,9 @@ pub record StillAgrees (K : List (List ℕ)) (t : Solo) (m : List (List ℕ × A
   pub heard : hears_all t es ≡ silent (record t { map = map })
   pub agree : MapsAgree K true m map
 
-hears-first : (t s : Solo) (e : Event) (es : List Event) (d : List (List ℕ × App)) → hears t e ≡ silent s → hears_all s es ≡ silent (record s { map = d }) → hears_all t (e ∷ es) ≡ silent (record s { map = d })
+hears_first : (t s : Solo) (e : Event) (es : List Event) (d : List (List ℕ × App)) → hears t e ≡ silent s → hears_all s es ≡ silent (record s { map = d }) → hears_all t (e ∷ es) ≡ silent (record s { map = d })
 unfolding hears_all
-hears-first t s e es d f r = ap (λ (z : Heard). heard_before z (hears_all z.after es)) f ∙ ap (λ (z : Heard). heard_before (silent s) z) r
+hears_first t s e es d f r = ap (λ (z : Heard). heard_before z (hears_all z.after es)) f ∙ ap (λ (z : Heard). heard_before (silent s) z) r
 
 hears_arrival : (t : Solo) (n : List ℕ) (a : App) → hears t (Arrives n a) ≡ silent (record t { map = insert t.map n a })
 unfolding hears
@@ -104,35 +104,35 @@ unfolding hears
 hears_departure t n = refl
 
 -- one creation or deletion, of the family or not, and what is given after it
-then-told : (K : List (List ℕ)) (t : Solo) (s : Solo) (m : List (List ℕ × App)) (e : Event) (es : List Event) → hears t e ≡ silent s → s.selected ≡ t.selected → StillAgrees K s m es → StillAgrees K t m (e ∷ es)
-then-told K t s m e es f same r =
+then_told : (K : List (List ℕ)) (t : Solo) (s : Solo) (m : List (List ℕ × App)) (e : Event) (es : List Event) → hears t e ≡ silent s → s.selected ≡ t.selected → StillAgrees K s m es → StillAgrees K t m (e ∷ es)
+then_told K t s m e es f same r =
     record {
       map = r.map;
-      heard = hears-first t s e es r.map f r.heard ∙ ap (λ (z : Option Selected). silent (record { map = r.map; selected = z })) same;
+      heard = hears_first t s e es r.map f r.heard ∙ ap (λ (z : Option Selected). silent (record { map = r.map; selected = z })) same;
       agree = r.agree;
     }
 
-creation-told : (K : List (List ℕ)) (b : Bool) (t : Solo) (m : List (List ℕ × App)) (n : List ℕ) (a : App) (es : List Event) (last : List (List ℕ × App)) → has_name n K ≡ b → MapsAgree K true m t.map
-    → ((s : Solo) → MapsAgree K true (insert m n a) s.map → StillAgrees K s last es) → StillAgrees K t last (cond b (Arrives n (placed 0 a) ∷ []) [] ++ es)
-creation-told K true t m n a es last is h again =
-    then-told K t (record t { map = insert t.map n (placed 0 a) }) last (Arrives n (placed 0 a)) es (hears_arrival t n (placed 0 a)) refl
-    (again (record t { map = insert t.map n (placed 0 a) }) (Agree-inserted K true m t.map n a (placed 0 a) refl h))
-creation-told K false t m n a es last is h again = again t (Agree-joined K true (insert m n a) m t.map (Agree-beside K true m n a is) h)
+creation_told : (K : List (List ℕ)) (b : Bool) (t : Solo) (m : List (List ℕ × App)) (n : List ℕ) (a : App) (es : List Event) (last : List (List ℕ × App)) → has_name n K ≡ b → MapsAgree K true m t.map
+    → ((s : Solo) → MapsAgree K true (insert m n a) s.map → StillAgrees K s last es) → StillAgrees K t last (cond b (Arrives n (app_at_place 0 a) ∷ []) [] ++ es)
+creation_told K true t m n a es last is h again =
+    then_told K t (record t { map = insert t.map n (app_at_place 0 a) }) last (Arrives n (app_at_place 0 a)) es (hears_arrival t n (app_at_place 0 a)) refl
+    (again (record t { map = insert t.map n (app_at_place 0 a) }) (agree_inserted K true m t.map n a (app_at_place 0 a) refl h))
+creation_told K false t m n a es last is h again = again t (agree_joined K true (insert m n a) m t.map (agree_beside K true m n a is) h)
 
-deletion-told : (K : List (List ℕ)) (b : Bool) (t : Solo) (m : List (List ℕ × App)) (n : List ℕ) (es : List Event) (last : List (List ℕ × App)) → has_name n K ≡ b → MapsAgree K true m t.map
+deletion_told : (K : List (List ℕ)) (b : Bool) (t : Solo) (m : List (List ℕ × App)) (n : List ℕ) (es : List Event) (last : List (List ℕ × App)) → has_name n K ≡ b → MapsAgree K true m t.map
     → ((s : Solo) → MapsAgree K true (remove m n) s.map → StillAgrees K s last es) → StillAgrees K t last (cond b (Departs n ∷ []) [] ++ es)
-deletion-told K true t m n es last is h again =
-    then-told K t (record t { map = remove t.map n }) last (Departs n) es (hears_departure t n) refl
-    (again (record t { map = remove t.map n }) (Agree-removed K true m t.map n h))
-deletion-told K false t m n es last is h again = again t (Agree-joined K true (remove m n) m t.map (Agree-left K true m n is) h)
+deletion_told K true t m n es last is h again =
+    then_told K t (record t { map = remove t.map n }) last (Departs n) es (hears_departure t n) refl
+    (again (record t { map = remove t.map n }) (agree_removed K true m t.map n h))
+deletion_told K false t m n es last is h again = again t (agree_joined K true (remove m n) m t.map (agree_left K true m n is) h)
 
-pub told-alike : (K : List (List ℕ)) (is : List Item) (t : Solo) (m : List (List ℕ × App)) → AreOthers K is → MapsAgree K true m t.map → StillAgrees K t (done m is) (told K is)
-told-alike K [] t m o h = record { map = t.map; heard = hears_none t; agree = h }
-told-alike K (Plain ∷ is) t m o h = told-alike K is t m o.1 h
-told-alike K (Atomic w (Fixed n ps) ∷ is) t m o h =
-    told-alike K is t (map_changed m n (Some ps)) o.1
-    (Agree-joined K true (map_changed m n (Some ps)) m t.map (Agree-changed_app K true m n ps (lookup m n) o.0) h)
-told-alike K (Atomic w (Created n a) ∷ is) t m o h =
-    creation-told K (has_name n K) t m n a (told K is) (done (insert m n a) is) refl h (λ s g. told-alike K is s (insert m n a) o.1 g)
-told-alike K (Atomic w (Deleted n) ∷ is) t m o h =
-    deletion-told K (has_name n K) t m n (told K is) (done (remove m n) is) refl h (λ s g. told-alike K is s (remove m n) o.1 g)
+pub told_alike : (K : List (List ℕ)) (is : List Item) (t : Solo) (m : List (List ℕ × App)) → AreOthers K is → MapsAgree K true m t.map → StillAgrees K t (apps_after_items m is) (events_of_items K is)
+told_alike K [] t m o h = record { map = t.map; heard = hears_none t; agree = h }
+told_alike K (Plain ∷ is) t m o h = told_alike K is t m o.1 h
+told_alike K (Atomic w (Fixed n ps) ∷ is) t m o h =
+    told_alike K is t (map_changed m n (Some ps)) o.1
+    (agree_joined K true (map_changed m n (Some ps)) m t.map (agree_changed_app K true m n ps (lookup m n) o.0) h)
+told_alike K (Atomic w (Created n a) ∷ is) t m o h =
+    creation_told K (has_name n K) t m n a (events_of_items K is) (apps_after_items (insert m n a) is) refl h (λ s g. told_alike K is s (insert m n a) o.1 g)
+told_alike K (Atomic w (Deleted n) ∷ is) t m o h =
+    deletion_told K (has_name n K) t m n (events_of_items K is) (apps_after_items (remove m n) is) refl h (λ s g. told_alike K is s (remove m n) o.1 g)

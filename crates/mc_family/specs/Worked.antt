@@ -3,18 +3,18 @@ use Rattle.std.specs.Prelude.{ℕ, List, [], ◌∷◌, replicate}
 use Rattle.mc_model_device.specs.Bytes.{zeros}
 use Rattle.mc_model_card.specs.Units.{UnitParts, name_of, made_dir, made_fci}
 use Rattle.mc_model_machine.specs.Apdu.{apdu_read}
-use Rattle.mc_model_device.specs.Pieces.{touched}
+use Rattle.mc_model_device.specs.Pieces.{touched_words}
 use Rattle.mc_model_device.specs.Image.{targets_1, targets_2, pairs, opening, Two}
 use Rattle.mc_model_device.specs.Card.{blocks_from, apps_of}
 use Rattle.mc_model_device.specs.Layout.{layout, step_of, bad_block, bad_record}
-use Rattle.mc_model_machine.specs.Frame.{bytes_at, written, too_many}
+use Rattle.mc_model_machine.specs.Frame.{bytes_at, write_effect, too_many}
 use Rattle.mc_model_machine.specs.Primitives.{later_causes, prim_effect}
 use Rattle.mc_model_machine.specs.Row.{causes, effect, row}
-use Rattle.mc_model_machine.specs.Chain.{acted, ran}
+use Rattle.mc_model_machine.specs.Chain.{turn_of_chain, run_of_chain}
 use Rattle.mc_model_card.specs.Manager.{manage}
-use Rattle.mc_model_play.specs.Play.{Step, start, send, warmed, step, plays, moves_of, steady_worn}
+use Rattle.mc_model_play.specs.Play.{Step, start, send, play_at_power, step, plays, moves_of, steady_worn}
 use Rattle.mc_model_card.specs.Commands.{command}
-use Rattle.mc_model_play.specs.Given.{events, given}
+use Rattle.mc_model_play.specs.Given.{events, given_of_play}
 use Rattle.mc_model_play.specs.Solo.{solo_command, hears, hears_all}
 use Rattle.mc_model_play.specs.View.{View, answers, view, solo_view}
 use Rattle.mc_model_play.specs.DeckGrammar.{DeckLine}
@@ -45,14 +45,14 @@ abbrev pub count : DeckLine
 count = line.Apdu (0x80 ∷ 1 ∷ 0 ∷ 0 ∷ 2 ∷ [])
 
 -- a cut at write 4, which opens the gate of an atomic write of one word and leaves the commit record
-abbrev pub cut_there : DeckLine
-cut_there = line.Cut 4 (opening Two)
+abbrev pub gate_cut : DeckLine
+gate_cut = line.Cut 4 (opening Two)
 
 -- both are loaded and count; a cut in the stranger's command, and one in the family's
 abbrev pub lines : List (ℕ × DeckLine)
 lines =
     (1, line.Format) ∷ (2, line.Power) ∷ (3, line.Load (counter first) 2 0) ∷ (4, line.Load (counter second) 2 0) ∷ (5, line.Select first) ∷ (6, count)
-    ∷ (7, line.Select second) ∷ (8, cut_there) ∷ (9, count) ∷ (10, line.Power) ∷ (11, line.Select first) ∷ (12, cut_there) ∷ (13, count) ∷ (14, line.Power)
+    ∷ (7, line.Select second) ∷ (8, gate_cut) ∷ (9, count) ∷ (10, line.Power) ∷ (11, line.Select first) ∷ (12, gate_cut) ∷ (13, count) ∷ (14, line.Power)
     ∷ (15, line.Dump first) ∷ (16, line.Dump second) ∷ []
 
 -- the words of a small device
@@ -61,15 +61,15 @@ blank = replicate 256 (zeros 8)
 
 -- the play, and the views of the family that has the first name alone
 unfoldable pub steps : List Step
-unfolding name_of apdu_read touched targets_1 targets_2 pairs blocks_from apps_of layout step_of bad_block bad_record bytes_at written too_many later_causes prim_effect causes effect row acted ran manage command send warmed step plays moves_of steady_worn
+unfolding name_of apdu_read touched_words targets_1 targets_2 pairs blocks_from apps_of layout step_of bad_block bad_record bytes_at write_effect too_many later_causes prim_effect causes effect row turn_of_chain run_of_chain manage command send play_at_power step plays moves_of steady_worn
 steps = plays (start blank) lines (steady_worn (start blank) lines)
 
 -- the view of the family in the play
-unfoldable pub seen_in_play : View
+unfoldable pub view_in_play : View
 unfolding steps answers
-seen_in_play = view (first ∷ []) (start blank) steps
+view_in_play = view (first ∷ []) (start blank) steps
 
 -- the view of the family on a card of its own
-unfoldable pub seen_alone : View
-unfolding steps events apdu_read touched bytes_at written too_many later_causes prim_effect causes effect row acted ran solo_command hears hears_all
-seen_alone = solo_view (first ∷ []) (given (first ∷ []) steps)
+unfoldable pub view_alone : View
+unfolding steps events apdu_read touched_words bytes_at write_effect too_many later_causes prim_effect causes effect row turn_of_chain run_of_chain solo_command hears hears_all
+view_alone = solo_view (first ∷ []) (given_of_play (first ∷ []) steps)

@@ -1,9 +1,9 @@
 //! Laws that check the definitions against each other.
 
 ghost use Rattle.std.specs.Prelude.{◌≡◌, ◌+◌, ◌-◌, ◌<◌, ◌≤◌, ℕ, List, ◌++◌};
-ghost use Rattle.mc_model_device.specs.Image.{laid};
+ghost use Rattle.mc_model_device.specs.Image.{image_with};
 ghost use Rattle.mc_model_card.specs.Items.{Item, moves, at_stop};
-ghost use Rattle.mc_model_machine.specs.Chain.{Chain, ran};
+ghost use Rattle.mc_model_machine.specs.Chain.{Chain, run_of_chain};
 ghost use Rattle.mc_model_play.specs.TraceText.{TraceLaw};
 ghost use Rattle.mc_family.specs.Begins.{BeginsLaw};
 ghost use Rattle.mc_family.specs.ReadDecks.{ReadLinesLaw, ReadDecksLaw};
@@ -12,7 +12,7 @@ ghost use Rattle.mc_family.specs.Split.{with_whole};
 /// Pairs that are laid after others are laid as one list.
 pub fn pairs_compose()
     ensures { (m : List (List ℕ)) (a : List (ℕ × List ℕ)) (b : List (ℕ × List ℕ))
-        → laid m (a ++ b) ≡ laid (laid m a) b }
+        → image_with m (a ++ b) ≡ image_with (image_with m a) b }
 {}
 
 /// A stop at write k falls in the first items if they make k device writes, and else in those after them.
@@ -25,7 +25,7 @@ pub fn stops_split()
 
 /// A run decodes no more instructions than its budget.
 pub fn counts_within_budget()
-    ensures { (budget : ℕ) (chain : Chain) → (ran budget chain).count ≤ budget }
+    ensures { (budget : ℕ) (chain : Chain) → (run_of_chain budget chain).count ≤ budget }
 {}
 
 /// The trace of a play, without the lines that begin with `>`, is its transcript.

@@ -8,7 +8,7 @@ ghost use Rattle.mc_model_machine.specs.Chain.{Reply};
 ghost use Rattle.mc_model_play.specs.Play.{Answered, OffAt, Static};
 ghost use Rattle.mc_model_play.specs.View.{View};
 ghost use Rattle.mc_model_play.specs.Laws.{IsolationLaw};
-ghost use Rattle.mc_family.specs.Worked.{seen_in_play, seen_alone};
+ghost use Rattle.mc_family.specs.Worked.{view_in_play, view_alone};
 
 pub use definitions::{
     counts_within_budget, pairs_compose, read_decks_fit, runs_begin_well, stops_split,
@@ -25,9 +25,9 @@ pub fn isolation()
 
 /// The view of one of two counters in a play with a cut in each of them: its results, and its static bytes at the
 /// end.
-#[tactic(auto, unfolding(crate::specs::Worked::seen_in_play))]
+#[tactic(auto, unfolding(crate::specs::Worked::view_in_play))]
 pub fn worked_view()
-    ensures { seen_in_play ≡ record {
+    ensures { view_in_play ≡ record {
       answers =
           Answered (Reply [] 0x9000) ∷ Answered (Reply (0 ∷ 1 ∷ []) 0x9000) ∷ Answered (Reply [] 0x9000) ∷ OffAt 4 ∷ Static (0 ∷ 2 ∷ []) ∷ [];
       rest = Static (0 ∷ 2 ∷ []) ∷ [];
@@ -35,9 +35,9 @@ pub fn worked_view()
 {}
 
 /// The view of that counter on a card of its own.
-#[tactic(auto, unfolding(crate::specs::Worked::seen_alone))]
+#[tactic(auto, unfolding(crate::specs::Worked::view_alone))]
 pub fn worked_solo_view()
-    ensures { seen_alone ≡ record {
+    ensures { view_alone ≡ record {
       answers =
           Answered (Reply [] 0x9000) ∷ Answered (Reply (0 ∷ 1 ∷ []) 0x9000) ∷ Answered (Reply [] 0x9000) ∷ OffAt 4 ∷ Static (0 ∷ 2 ∷ []) ∷ [];
       rest = Static (0 ∷ 2 ∷ []) ∷ [];

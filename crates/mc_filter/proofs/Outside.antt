@@ -4,24 +4,24 @@ use Rattle.mc_model_device.specs.Counts.{Rose}
 use Rattle.mc_base.specs.declared.refusals.WriteFault.{WriteFault as Fault}
 use Rattle.mc_filter.specs.declared.status.Status.{Status}
 use Rattle.mc_filter.specs.declared.status.Status.TheVariants.{Done, Failed, NoForm, ReadFault, WriteFault, NoMemory}
-use Rattle.mc_filter.specs.Statuses.{ended}
+use Rattle.mc_filter.specs.Statuses.{status_after_writing}
 use Rattle.mc_filter.specs.Outside.{long, short, AllStands, Completes, IsRead, IsWithoutFault, JobSays, NoJobSays, Outside}
 use Rattle.mc_filter.proofs.Inputs.{all_read, long_read}
 
 -- ---- statuses
 
 -- the promise of a job that was done, at the status that its writing ended with
-pub says_done : (Did : Status → Type 0) (Faulty Short : Type 0) (r : Result (Unit {0}) Fault) (s : Status) → s ≡ ended Done r → Did s → JobSays Did Faulty Short s
+pub says_done : (Did : Status → Type 0) (Faulty Short : Type 0) (r : Result (Unit {0}) Fault) (s : Status) → s ≡ status_after_writing Done r → Did s → JobSays Did Faulty Short s
 says_done Did Faulty Short (Ok u) s e d = subst (λ s. JobSays Did Faulty Short s) (sym e) (subst Did e d)
 says_done Did Faulty Short (Err f) s e d = subst (λ s. JobSays Did Faulty Short s) (sym e) (subst Did e d)
 
 -- the promise of a job that was refused, at the status that its writing ended with
-pub says_refused : (Did : Status → Type 0) (Faulty Short : Type 0) (r : Result (Unit {0}) Fault) (s : Status) → s ≡ ended Failed r → Did s → JobSays Did Faulty Short s
+pub says_refused : (Did : Status → Type 0) (Faulty Short : Type 0) (r : Result (Unit {0}) Fault) (s : Status) → s ≡ status_after_writing Failed r → Did s → JobSays Did Faulty Short s
 says_refused Did Faulty Short (Ok u) s e d = subst (λ s. JobSays Did Faulty Short s) (sym e) (subst Did e d)
 says_refused Did Faulty Short (Err f) s e d = subst (λ s. JobSays Did Faulty Short s) (sym e) (subst Did e d)
 
 -- the promise of the usage line, if the arguments select no job
-pub says_no_job : (Wrote : Status → Type 0) (r : Result (Unit {0}) Fault) (s : Status) → s ≡ ended NoForm r → Wrote s → NoJobSays Wrote s
+pub says_no_job : (Wrote : Status → Type 0) (r : Result (Unit {0}) Fault) (s : Status) → s ≡ status_after_writing NoForm r → Wrote s → NoJobSays Wrote s
 says_no_job Wrote (Ok u) s e d = subst (λ s. NoJobSays Wrote s) (sym e) (subst Wrote e d)
 says_no_job Wrote (Err f) s e d = subst (λ s. NoJobSays Wrote s) (sym e) (subst Wrote e d)
 

@@ -6,7 +6,7 @@ use Rattle.mc_base.specs.declared.refusals.WriteFault.{WriteFault as Fault}
 use Rattle.mc_text.specs.Texts.{Puts, Sunk}
 use Rattle.mc_filter.specs.declared.status.Status.{Status}
 use Rattle.mc_filter.specs.declared.status.Status.TheVariants.{Done, Failed, NoForm, ReadFault, WriteFault, NoMemory}
-use Rattle.mc_filter.specs.Statuses.{ended, number_of}
+use Rattle.mc_filter.specs.Statuses.{status_after_writing, number_of}
 
 -- a text was put, from the contract of the call that wrote an equal one
 pub puts_by : (a b : Sunk) (piece text : List ℕ) (r : Result (Unit {0}) Fault) → piece ≡ text → OnOk r (Grew a.taken b.taken piece)
@@ -16,7 +16,7 @@ puts_by a b piece text (Err f) is grew rose part counted = record { part = subst
 
 -- if the sink did not fail, a text was written whole
 pub written_whole : (a b : Sunk) (text : List ℕ) (good s : Status) (r : Result (Unit {0}) Fault) → (Rose a.faults b.faults → ⊥)
-    → s ≡ ended good r → Puts a text r b → s ≡ good
+    → s ≡ status_after_writing good r → Puts a text r b → s ≡ good
 written_whole a b text good s (Ok u) quiet e put = e
 written_whole a b text good s (Err f) quiet e put = absurd (quiet put.cause)
 

@@ -17,14 +17,14 @@ number_of WriteFault = 4
 number_of NoMemory = 5
 
 -- the status after a write: the given one, or `WriteFault` if the sink failed
-abbrev pub ended : Status → Result (Unit {0}) Fault → Status
-ended good (Ok u) = good
-ended good (Err f) = WriteFault
+abbrev pub status_after_writing : Status → Result (Unit {0}) Fault → Status
+status_after_writing good (Ok u) = good
+status_after_writing good (Err f) = WriteFault
 
 -- a text was written, whole or up to a fault
 pub record IsWritten (good : Status) (text : List ℕ) (s : Status) (before after : Sunk) : Type 0 where
   pub result : Result (Unit {0}) Fault
-  pub status : s ≡ ended good result
+  pub status : s ≡ status_after_writing good result
   pub written : Puts before text result after
 
 -- the end of a job that is rejected: the line of a refusal is written, and nothing at a fault of the source or out of memory

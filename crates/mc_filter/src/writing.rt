@@ -1,7 +1,7 @@
 // Writing at the end of a job.
 ghost use Rattle.std.specs.Prelude.{◌≡◌};
 ghost use Rattle.mc_text.specs.Texts.{sunk_in};
-ghost use Rattle.mc_filter.specs.Statuses.{ended, RejectionEnds};
+ghost use Rattle.mc_filter.specs.Statuses.{status_after_writing, RejectionEnds};
 
 use crate::rejection::Rejection;
 use crate::status::Status;
@@ -9,7 +9,7 @@ use mc_base::{Sink, WriteFault, put_all};
 
 /// Returns the status after a text was written: `good`, or `WriteFault` if the sink failed.
 pub fn ended(good: Status, written: Result<(), WriteFault>) -> Status
-    ensures { result ≡ ended good written }
+    ensures { result ≡ status_after_writing good written }
 {
     match written {
         Ok(()) => good,

@@ -4,12 +4,12 @@ use Rattle.mc_model_device.specs.declared.device.Stop.{Stop}
 use Rattle.mc_model_device.specs.Orders.{Answer}
 use Rattle.mc_model_device.specs.Device.{Makes}
 use Rattle.mc_model_device.specs.Image.{Journal, gate, opening}
-use Rattle.mc_model_device.specs.Stopped.{numbered, entries, replay, writes}
+use Rattle.mc_model_device.specs.Stopped.{word_of_number, entries, replay, writes}
 use Rattle.mc_model_device.proofs.LoopLemmas.{then, stopped}
 
 -- the two writes that open a journal: its head, which holds the number of pairs, and its gate
 abbrev pub opening_writes : Journal → List (ℕ × List ℕ) → List (ℕ × List ℕ)
-opening_writes j list = (2, numbered (length list)) ∷ (gate j, opening j) ∷ []
+opening_writes j list = (2, word_of_number (length list)) ∷ (gate j, opening j) ∷ []
 
 module _ {D : Type 0} (wrote : D → ℕ → List ℕ → Answer → D → Type 0) (j : Journal) (list : List (ℕ × List ℕ)) where
   -- an entry stopped

@@ -3,7 +3,7 @@ ghost use Rattle.mc_model_device.specs.Device.{Makes};
 ghost use Rattle.mc_model_device.specs.Image.{targets};
 ghost use Rattle.mc_model_device.specs.Stopped.{entries};
 ghost use Rattle.mc_gate.specs.Layouts.{journal_of};
-ghost use Rattle.mc_gate.specs.Look.{read_as};
+ghost use Rattle.mc_gate.specs.Look.{target_list};
 
 use crate::layouts::Layout;
 use crate::look::Targets;
@@ -42,5 +42,5 @@ pub trait Journal {
     fn read_targets<N: Nvm>(device: &N, count: usize) -> Result<Targets, u16>
         requires size { 256 ≤ length (N.state device.now).words }
         requires few { count ≤ 64 }
-        ensures { targets (journal_of LAYOUT) (N.state device.now).words count ≡ read_as result };
+        ensures { targets (journal_of LAYOUT) (N.state device.now).words count ≡ target_list result };
 }

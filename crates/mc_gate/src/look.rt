@@ -1,7 +1,7 @@
 ghost use Rattle.std.specs.Prelude.{◌≡◌, ◌≤◌, length, IfSome, MatchResult};
-ghost use Rattle.mc_model_device.specs.Image.{within, aimed, pairs, number, is_count, is_open, look_j};
+ghost use Rattle.mc_model_device.specs.Image.{within, look_by_targets, pairs, number, is_count, is_open, look_j};
 ghost use Rattle.mc_gate.specs.Layouts.{journal_of};
-ghost use Rattle.mc_gate.specs.Look.{look_of, read_as, HasCount};
+ghost use Rattle.mc_gate.specs.Look.{look_of, target_list, HasCount};
 
 use crate::journals::Journal;
 use crate::layouts::{HEAD, Layout};
@@ -77,7 +77,7 @@ fn head_count(head: Word) -> Option<usize>
 // Returns what is found of an open journal by its targets: their pairs, or the place of the first bad target word.
 fn aim<N: Nvm>(device: &N, layout: Layout, targets: Result<Targets, u16>) -> Found
     ensures { look_of (journal_of layout) result
-        ≡ aimed (journal_of layout) (N.state device.now).words (read_as targets) }
+        ≡ look_by_targets (journal_of layout) (N.state device.now).words (target_list targets) }
 {
     match targets {
         Ok(targets) => Found::Pending(read_pairs(device, layout, targets.as_slice())),

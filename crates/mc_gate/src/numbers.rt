@@ -1,11 +1,11 @@
 ghost use Rattle.std.specs.Prelude.{◌≡◌};
-ghost use Rattle.mc_model_device.specs.Stopped.{numbered};
+ghost use Rattle.mc_model_device.specs.Stopped.{word_of_number};
 
 use mc_base::{Word, bytes_of};
 
 /// Returns the word of six zero bytes and a number, high byte first.
 pub fn number_word(number: u16) -> Word
-    ensures { result ≡ numbered number }
+    ensures { result ≡ word_of_number number }
 {
     let [high, low] = bytes_of(number);
     [0, 0, 0, 0, 0, 0, high, low]

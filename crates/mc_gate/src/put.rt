@@ -2,7 +2,7 @@ ghost use Rattle.std.specs.Prelude.{◌≡◌, ◌≤◌, true, [], ◌∷◌, l
 ghost use Rattle.std.specs.List.{AllByRecursion};
 ghost use Rattle.mc_model_device.specs.Device.{Makes};
 ghost use Rattle.mc_model_device.specs.Image.{within, gate, opening};
-ghost use Rattle.mc_model_device.specs.Stopped.{numbered, replay};
+ghost use Rattle.mc_model_device.specs.Stopped.{word_of_number, replay};
 ghost use Rattle.mc_gate.specs.Layouts.{journal_of};
 
 use crate::layouts::{HEAD, Layout, SHUT};
@@ -20,7 +20,7 @@ pub fn open_gate<N: Nvm>(device: &mut N, layout: Layout, count: usize) -> Result
     requires size { 256 ≤ length (N.state device.old).words }
     requires few { count ≤ 64 }
     ensures makes { Makes N.wrote device.old
-        ((2, numbered count) ∷ (gate (journal_of layout), opening (journal_of layout)) ∷ []) result device.new }
+        ((2, word_of_number count) ∷ (gate (journal_of layout), opening (journal_of layout)) ∷ []) result device.new }
     ensures on { OnOk result ((N.state device.new).on ≡ true) }
     ensures size { length (N.state device.new).words ≡ length (N.state device.old).words }
 {

@@ -2,7 +2,7 @@
 use Rattle.std.proofs.Common.{◌≡◌, ℕ, zero, suc, ◌+◌, ◌<◌, ◌≤◌, Bool, true, false, cond, List, [], ◌∷◌, ◌++◌, length, take, drop, Option, Some, None, Result, Ok, Err, arith, refl, sym, ap, subst, inl, inr, ◌∙◌, length-drop, length-take}
 use Rattle.std.specs.Prelude.{nat_le, option_map, slice_index}
 use Rattle.std.proofs.lemmas.List.{take-append-drop}
-use Rattle.mc_model_machine.specs.Code.{Form, made, made_of, operands, total, form, spell, front, decoded, IsUndefined, IsPast, DecodesTo, kinds, from_place, Kind}
+use Rattle.mc_model_machine.specs.Code.{Form, instruction_of_form, made_of, operands, total, form, spell, front, instruction_at, IsUndefined, IsPast, DecodesTo, kinds, from_place, Kind}
 use Rattle.mc_model_machine.specs.declared.instruction.DecodeFault.{DecodeFault}
 use Rattle.mc_model_machine.specs.declared.instruction.DecodeFault.TheVariants.{Undefined, Past}
 use Rattle.mc_model_machine.specs.declared.instruction.Ins.{Ins}
@@ -30,12 +30,12 @@ length_at (x ∷ code) (suc at) b bs e = let h = length_at code at b bs e in gri
 none_at : (code : List ℕ) (at : ℕ) → drop at code ≡ [] → length code ≤ at
 none_at code at e = let h = length-drop at code in let l : length (drop at code) ≡ 0 = rw e refl in omega (arith, h, l)
 
-made_stands : (code : List ℕ) (at b : ℕ) (bs : List ℕ) (f : Form) → drop at code ≡ b ∷ bs → AreBytes bs → form b ≡ Some f → Good b f → (t : Bool) → nat_le (total (operands f)) (length bs) ≡ t → DecodesTo code at (from_place at (cond t (Ok (made f bs, total (operands f) + 1)) (Err Past)))
+made_stands : (code : List ℕ) (at b : ℕ) (bs : List ℕ) (f : Form) → drop at code ≡ b ∷ bs → AreBytes bs → form b ≡ Some f → Good b f → (t : Bool) → nat_le (total (operands f)) (length bs) ≡ t → DecodesTo code at (from_place at (cond t (Ok (instruction_of_form f bs, total (operands f) + 1)) (Err Past)))
 made_stands code at b bs f e all o g true le =
     let m = made_good b f bs g all le in
     let fits = leb-true (total (operands f)) (length bs) le in
     let short : length (take (total (operands f)) bs) ≡ total (operands f) = rw length-take (omega arith) in
-    let size : length (spell (made f bs)) ≡ total (operands f) + 1 = ap length m.1 ∙ ap suc short ∙ omega arith in
+    let size : length (spell (instruction_of_form f bs)) ≡ total (operands f) + 1 = ap length m.1 ∙ ap suc short ∙ omega arith in
     let whole = length_at code at b bs e in
     record {
       shaped = m.0;
@@ -59,7 +59,7 @@ place_stands code at [] e all = inl (none_at code at e)
 place_stands code at (b ∷ bs) e all = row_stands code at b bs (form b) e all.1 refl (good_form b)
 
 -- the computed answer holds
-pub decoded_stands : (code : List ℕ) (at : ℕ) → AreBytes code → DecodesTo code at (decoded code at)
+pub decoded_stands : (code : List ℕ) (at : ℕ) → AreBytes code → DecodesTo code at (instruction_at code at)
 decoded_stands code at all = place_stands code at (drop at code) refl (bytes_from code at all)
 
 kinds_none : (o : Option Form) → option_map operands o ≡ None → o ≡ None
@@ -89,7 +89,7 @@ past_only code at (b ∷ bs) e (inr p) =
     ap (from_place at) (past_row at bs (form b) p.0 k long)
 
 -- a decoding result that holds is the computed one
-pub decoded_only : (code : List ℕ) (at : ℕ) (r : Result (Ins × ℕ) DecodeFault) → DecodesTo code at r → decoded code at ≡ r
+pub decoded_only : (code : List ℕ) (at : ℕ) (r : Result (Ins × ℕ) DecodeFault) → DecodesTo code at r → instruction_at code at ≡ r
 decoded_only code at (Ok p) d =
     let e : spell p.0 ++ drop (length (spell p.0)) (drop at code) ≡ drop at code = ap (λ l. l ++ drop (length (spell p.0)) (drop at code)) (sym d.bytes) ∙ take-append-drop (length (spell p.0)) (drop at code) in
     let f = front_spell p.0 (drop (length (spell p.0)) (drop at code)) d.shaped in

@@ -5,7 +5,7 @@ use Rattle.std.specs.List.{AllByRecursion}
 use Rattle.std.specs.Int.{w8, cast_signed, cast_unsigned}
 use Rattle.std.proofs.lemmas.Int.{ints}
 use Rattle.mc_model_device.specs.Bytes.{bytes2, AreBytes}
-use Rattle.mc_model_machine.specs.Code.{Form, Plain, OneByte, TwoBytes, Word, TwoWords, Near, Target, Primitive, Offset, ByteOffset, WordOffset, made, operands, total, behind, U16, I16, row_at, rows, form, register_rows, stack_rows, call_rows, Shaped, IsTarget, IsAddress, spell, offset, target, offset_in, target_in}
+use Rattle.mc_model_machine.specs.Code.{Form, Plain, OneByte, TwoBytes, Word, TwoWords, Near, Target, Primitive, Offset, ByteOffset, WordOffset, instruction_of_form, operands, total, behind, U16, I16, row_at, rows, form, register_rows, stack_rows, call_rows, Shaped, IsTarget, IsAddress, spell, offset, target, offset_in, target_in}
 use Rattle.mc_model_machine.specs.declared.instruction.Ins.TheVariants.{Branch, Prim}
 use Rattle.mc_isa.proofs.ReadingLemmas.{bytes2_of, unsigned8, unsigned16, fits8, fits16}
 
@@ -187,7 +187,7 @@ take_two_more : (n x y : ℕ) (xs : List ℕ) → take (2 + n) (x ∷ y ∷ xs) 
 take_two_more n x y xs = grind arith
 
 abbrev pub IsSpelledForm : ℕ → Form → List ℕ → Type 0
-IsSpelledForm b f bs = Shaped (made f bs) × (spell (made f bs) ≡ b ∷ take (total (operands f)) bs)
+IsSpelledForm b f bs = Shaped (instruction_of_form f bs) × (spell (instruction_of_form f bs) ≡ b ∷ take (total (operands f)) bs)
 
 made_primitive : (set : ℕ) (bs : List ℕ) → set < 4 → AreBytes bs → nat_le (total (operands (Primitive set))) (length bs) ≡ true → IsSpelledForm (40 + set) (Primitive set) bs
 made_primitive zero [] h all le = absurd (grind (arith, le))

@@ -3,7 +3,7 @@ use Rattle.std.proofs.Common.{◌≡◌, ℕ, zero, suc, ◌+◌, ◌*◌, ◌<�
 use Rattle.std.specs.Prelude.{nat_eq, ℤ, FitsSigned}
 use Rattle.std.specs.Int.{w8, cast_unsigned}
 use Rattle.mc_model_device.specs.Bytes.{bytes2}
-use Rattle.mc_model_machine.specs.Code.{Near, Target, Offset, ByteOffset, WordOffset, made_of, row_of, form, Shaped, IsTarget, IsAddress, IsPrimitive, spell, offset, target, front, decoded, from_place}
+use Rattle.mc_model_machine.specs.Code.{Near, Target, Offset, ByteOffset, WordOffset, made_of, row_of, form, Shaped, IsTarget, IsAddress, IsPrimitive, spell, offset, target, front, instruction_at, from_place}
 use Rattle.mc_model_machine.specs.declared.instruction.DecodeFault.{DecodeFault}
 use Rattle.mc_model_machine.specs.declared.instruction.Ins.{Ins}
 use Rattle.mc_model_machine.specs.declared.instruction.Ins.TheVariants.{Nop, Setsw, Setla, Setswla, Exit, Exitsw, Exitla, Exitswla, Branch, Jump, Call, Pushz, Pushb, Pushw, Popn, Popb, Popw, Prim, Ret, Reti, Reto, Retio, Load, Store, Loadi, Storei, Loada, Index, Setb, Cmpb, Addb, Subb, Setw, Cmpw, Addw, Subw, Clearn, Testn, Incn, Decn, Notn, Cmpn, Addn, Subn, Andn, Orn, Xorn}
@@ -118,5 +118,5 @@ prefix_free i j r s t e =
     let k : length (spell i) ≡ length (spell j) = ap (λ i. length (spell i)) same in
     (same, nil_from_length r (omega (arith, l, k)))
 
-pub spelling_decoded : (i : Ins) (rest : List ℕ) → Shaped i → decoded (spell i ++ rest) 0 ≡ Ok (i, length (spell i))
+pub spelling_decoded : (i : Ins) (rest : List ℕ) → Shaped i → instruction_at (spell i ++ rest) 0 ≡ Ok (i, length (spell i))
 spelling_decoded i rest s = ap (from_place 0) (front_spell i rest s) ∙ ap (λ n. Ok (i, n)) (zero-add (length (spell i)))

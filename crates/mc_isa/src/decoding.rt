@@ -3,7 +3,7 @@
 ghost use Rattle.std.specs.Prelude.{◌≡◌, ℕ, ◌+◌, ◌*◌, ◌/◌, ◌%◌, ◌<◌, ◌≤◌, length, take, drop, ◌++◌};
 ghost use Rattle.mc_model_machine.specs.declared.instruction.Ins.TheVariants.{Branch, Jump, Call};
 ghost use Rattle.mc_model_device.specs.Limits.{most_code};
-ghost use Rattle.mc_model_machine.specs.Code.{made_of, row_at, row_of, register_rows, stack_rows, call_rows, near_row, target_row, form, front, decoded, DecodesTo};
+ghost use Rattle.mc_model_machine.specs.Code.{made_of, row_at, row_of, register_rows, stack_rows, call_rows, near_row, target_row, form, front, instruction_at, DecodesTo};
 
 use crate::reading::{
     arguments, byte, byte_and_offset, bytes, displacement, offset, offset_size, target,
@@ -202,7 +202,7 @@ fn instruction(byte: u8, rest: &[u8]) -> Result<(Ins, u16), DecodeFault>
 #[inline(always)]
 pub fn decode(code: &[u8], at: u16) -> Result<(Ins, u16), DecodeFault>
     requires { length code.now ≤ most_code }
-    ensures exact { result ≡ decoded code.now at }
+    ensures exact { result ≡ instruction_at code.now at }
     ensures stands { DecodesTo code.now at result }
 {
     if at as usize >= code.len() {

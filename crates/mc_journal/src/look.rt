@@ -1,6 +1,6 @@
 ghost use Rattle.std.specs.Prelude.{◌≡◌, ◌≤◌, length};
 ghost use Rattle.mc_model_device.specs.Image.{One, within, targets, number};
-ghost use Rattle.mc_gate.specs.Look.{read_as};
+ghost use Rattle.mc_gate.specs.Look.{target_list};
 
 use arrayvec::ArrayVec;
 use mc_base::{Word, number_of};
@@ -16,7 +16,7 @@ use mc_nvm::Nvm;
 pub fn read_targets<N: Nvm>(device: &N, count: usize) -> Result<Targets, u16>
     requires size { 256 ≤ length (N.state device.now).words }
     requires few { count ≤ 64 }
-    ensures { targets One (N.state device.now).words count ≡ read_as result }
+    ensures { targets One (N.state device.now).words count ≡ target_list result }
 {
     let size = device.len();
     let mut found = ArrayVec::new();

@@ -6,79 +6,79 @@ use Rattle.mc_lab.specs.Rising.{Rising, count_below, last_of}
 use Rattle.mc_lab.specs.Expectations.{last_below, later_or, where_is}
 
 -- what is left of a list from an element on
-pub drop-at : {A : Type 0} (xs : List A) (i : ℕ) (x : A) → slice_get xs i ≡ Some x → drop i xs ≡ x ∷ drop (i + 1) xs
-drop-at [] i x e = absurd (cc e)
-drop-at {A} (y ∷ xs) zero x e = let same : y ≡ x = cc e in ap (λ (y : A). y ∷ xs) same
-drop-at (y ∷ xs) (suc i) x e =
+pub drop_at : {A : Type 0} (xs : List A) (i : ℕ) (x : A) → slice_get xs i ≡ Some x → drop i xs ≡ x ∷ drop (i + 1) xs
+drop_at [] i x e = absurd (cc e)
+drop_at {A} (y ∷ xs) zero x e = let same : y ≡ x = cc e in ap (λ (y : A). y ∷ xs) same
+drop_at (y ∷ xs) (suc i) x e =
     let one : suc i + 1 ≡ suc (i + 1) = omega arith in
-    drop-at xs i x e ∙ ap (λ j. x ∷ drop j (y ∷ xs)) (sym one)
+    drop_at xs i x e ∙ ap (λ j. x ∷ drop j (y ∷ xs)) (sym one)
 
 module _ {A : Type 0} (number : A → ℕ) where
   -- none is below where the first is not
-  none-below : (m n : ℕ) (xs : List A) → n ≤ m → Rising number m xs → last_below number n xs ≡ None
-  none-below m n [] h r = refl
-  none-below m n (x ∷ xs) h r =
+  none_below : (m n : ℕ) (xs : List A) → n ≤ m → Rising number m xs → last_below number n xs ≡ None
+  none_below m n [] h r = refl
+  none_below m n (x ∷ xs) h r =
       let first : nat_lt (number x) n ≡ false = grind (arith, h, r.0) in
-      let rest : last_below number n xs ≡ None = none-below (suc (number x)) n xs (omega (arith, h, r.0)) r.1 in
+      let rest : last_below number n xs ≡ None = none_below (suc (number x)) n xs (omega (arith, h, r.0)) r.1 in
       ap (λ (b : Bool). later_or (where_is b x) (last_below number n xs)) first ∙ ap (λ (o : Option A). later_or None o) rest
 
-  pub count-most : (n : ℕ) (xs : List A) → count_below number n xs ≤ length xs
-  count-most n [] = omega arith
-  count-most n (x ∷ xs) = elim (nat_lt (number x) n) as (λ b. cond b (suc (count_below number n xs)) 0 ≤ suc (length xs)) [ true ↦ omega (arith, count-most n xs) | false ↦ omega arith ]
+  pub count_most : (n : ℕ) (xs : List A) → count_below number n xs ≤ length xs
+  count_most n [] = omega arith
+  count_most n (x ∷ xs) = elim (nat_lt (number x) n) as (λ b. cond b (suc (count_below number n xs)) 0 ≤ suc (length xs)) [ true ↦ omega (arith, count_most n xs) | false ↦ omega arith ]
 
   there : (k : ℕ) (xs : List A) → k < length xs → (a : A) × (slice_get xs k ≡ Some a)
   there k [] h = absurd (omega (arith, h))
   there zero (x ∷ xs) h = (x, refl)
   there (suc k) (x ∷ xs) h = there k xs (omega (arith, h))
 
-  later-is : (k : ℕ) (x : A) (xs : List A) (l : Option A) → k ≤ length xs → l ≡ last_of k xs → later_or (Some x) l ≡ slice_get (x ∷ xs) k
-  later-is zero x xs l h e = ap (later_or (Some x)) e
-  later-is (suc j) x xs l h e =
+  later_is : (k : ℕ) (x : A) (xs : List A) (l : Option A) → k ≤ length xs → l ≡ last_of k xs → later_or (Some x) l ≡ slice_get (x ∷ xs) k
+  later_is zero x xs l h e = ap (later_or (Some x)) e
+  later_is (suc j) x xs l h e =
       let a : (a : A) × (slice_get xs j ≡ Some a) = there j xs (omega (arith, h)) in
       ap (later_or (Some x)) (e ∙ a.1) ∙ sym a.1
 
-  last-is_by : (n : ℕ) (x : A) (xs : List A) (b : Bool) → nat_lt (number x) n ≡ b → last_below number n xs ≡ last_of (count_below number n xs) xs → Rising number (suc (number x)) xs
+  last_is_by : (n : ℕ) (x : A) (xs : List A) (b : Bool) → nat_lt (number x) n ≡ b → last_below number n xs ≡ last_of (count_below number n xs) xs → Rising number (suc (number x)) xs
       → later_or (where_is b x) (last_below number n xs) ≡ last_of (cond b (suc (count_below number n xs)) 0) (x ∷ xs)
-  last-is_by n x xs true e h r = later-is (count_below number n xs) x xs (last_below number n xs) (count-most n xs) h
-  last-is_by n x xs false e h r = ap (later_or None) (none-below (suc (number x)) n xs (grind (arith, e)) r)
+  last_is_by n x xs true e h r = later_is (count_below number n xs) x xs (last_below number n xs) (count_most n xs) h
+  last_is_by n x xs false e h r = ap (later_or None) (none_below (suc (number x)) n xs (grind (arith, e)) r)
 
   -- the last whose number is below a bound is the last of so many
-  pub last-is : (m n : ℕ) (xs : List A) → Rising number m xs → last_below number n xs ≡ last_of (count_below number n xs) xs
-  last-is m n [] r = refl
-  last-is m n (x ∷ xs) r = last-is_by n x xs (nat_lt (number x) n) refl (last-is (suc (number x)) n xs r.1) r.1
+  pub last_is : (m n : ℕ) (xs : List A) → Rising number m xs → last_below number n xs ≡ last_of (count_below number n xs) xs
+  last_is m n [] r = refl
+  last_is m n (x ∷ xs) r = last_is_by n x xs (nat_lt (number x) n) refl (last_is (suc (number x)) n xs r.1) r.1
 
   -- ---- counting on
 
-  count-here : (n : ℕ) (xs : List A) (i : ℕ) (x : A) (b : Bool) → slice_get xs i ≡ Some x → nat_lt (number x) n ≡ b → count_below number n (drop i xs) ≡ cond b (suc (count_below number n (drop (i + 1) xs))) 0
-  count-here n xs i x b e h = ap (count_below number n) (drop-at xs i x e) ∙ ap (λ b. cond b (suc (count_below number n (drop (i + 1) xs))) 0) h
+  count_here : (n : ℕ) (xs : List A) (i : ℕ) (x : A) (b : Bool) → slice_get xs i ≡ Some x → nat_lt (number x) n ≡ b → count_below number n (drop i xs) ≡ cond b (suc (count_below number n (drop (i + 1) xs))) 0
+  count_here n xs i x b e h = ap (count_below number n) (drop_at xs i x e) ∙ ap (λ b. cond b (suc (count_below number n (drop (i + 1) xs))) 0) h
 
   -- one more is below
-  pub count-step : (n : ℕ) (xs : List A) (i : ℕ) (x : A) → slice_get xs i ≡ Some x → number x < n → i + count_below number n (drop i xs) ≡ count_below number n xs → i + 1 + count_below number n (drop (i + 1) xs) ≡ count_below number n xs
-  count-step n xs i x e h k =
-      let here : count_below number n (drop i xs) ≡ suc (count_below number n (drop (i + 1) xs)) = count-here n xs i x true e (grind (arith, h)) in
+  pub count_step : (n : ℕ) (xs : List A) (i : ℕ) (x : A) → slice_get xs i ≡ Some x → number x < n → i + count_below number n (drop i xs) ≡ count_below number n xs → i + 1 + count_below number n (drop (i + 1) xs) ≡ count_below number n xs
+  count_step n xs i x e h k =
+      let here : count_below number n (drop i xs) ≡ suc (count_below number n (drop (i + 1) xs)) = count_here n xs i x true e (grind (arith, h)) in
       omega (arith, here, k)
 
   -- the next is not below
-  pub count-stop : (n : ℕ) (xs : List A) (i : ℕ) (x : A) → slice_get xs i ≡ Some x → n ≤ number x → i + count_below number n (drop i xs) ≡ count_below number n xs → i ≡ count_below number n xs
-  count-stop n xs i x e h k =
-      let here : count_below number n (drop i xs) ≡ 0 = count-here n xs i x false e (grind (arith, h)) in
+  pub count_stop : (n : ℕ) (xs : List A) (i : ℕ) (x : A) → slice_get xs i ≡ Some x → n ≤ number x → i + count_below number n (drop i xs) ≡ count_below number n xs → i ≡ count_below number n xs
+  count_stop n xs i x e h k =
+      let here : count_below number n (drop i xs) ≡ 0 = count_here n xs i x false e (grind (arith, h)) in
       omega (arith, here, k)
 
   -- there is no next
-  pub count-none : (n : ℕ) (xs : List A) (i : ℕ) → length xs ≤ i → i + count_below number n (drop i xs) ≡ count_below number n xs → i ≡ count_below number n xs
-  count-none n xs i e k =
+  pub count_none : (n : ℕ) (xs : List A) (i : ℕ) → length xs ≤ i → i + count_below number n (drop i xs) ≡ count_below number n xs → i ≡ count_below number n xs
+  count_none n xs i e k =
       let here : count_below number n (drop i xs) ≡ 0 = ap (count_below number n) (drop_of_length-le xs e) in
       omega (arith, here, k)
 
-  count-on_by : (m n : ℕ) (x : A) (xs : List A) (b : Bool) → nat_lt (number x) m ≡ b → m ≤ n → count_below number m xs + count_below number n (drop (count_below number m xs) xs) ≡ count_below number n xs
+  count_on_by : (m n : ℕ) (x : A) (xs : List A) (b : Bool) → nat_lt (number x) m ≡ b → m ≤ n → count_below number m xs + count_below number n (drop (count_below number m xs) xs) ≡ count_below number n xs
       → cond b (suc (count_below number m xs)) 0 + count_below number n (drop (cond b (suc (count_below number m xs)) 0) (x ∷ xs)) ≡ count_below number n (x ∷ xs)
-  count-on_by m n x xs true e h k =
+  count_on_by m n x xs true e h k =
       let first : nat_lt (number x) n ≡ true = grind (arith, e, h) in
       let all : count_below number n (x ∷ xs) ≡ suc (count_below number n xs) = ap (λ b. cond b (suc (count_below number n xs)) 0) first in
       omega (arith, all, k)
-  count-on_by m n x xs false e h k = omega arith
+  count_on_by m n x xs false e h k = omega arith
 
   -- those below a bound are below a greater one
-  pub count-on : (m n : ℕ) (xs : List A) → m ≤ n → count_below number m xs + count_below number n (drop (count_below number m xs) xs) ≡ count_below number n xs
-  count-on m n [] h = refl
-  count-on m n (x ∷ xs) h = count-on_by m n x xs (nat_lt (number x) m) refl h (count-on m n xs h)
+  pub count_on : (m n : ℕ) (xs : List A) → m ≤ n → count_below number m xs + count_below number n (drop (count_below number m xs) xs) ≡ count_below number n xs
+  count_on m n [] h = refl
+  count_on m n (x ∷ xs) h = count_on_by m n x xs (nat_lt (number x) m) refl h (count_on m n xs h)

@@ -9,88 +9,88 @@ use Rattle.mc_base.specs.declared.refusals.WriteFault.{WriteFault}
 use Rattle.mc_text.specs.Texts.{Sunk, Puts, Writes, Fails}
 use Rattle.mc_text.proofs.TextLemmas.{fails_before, puts_as, puts_then}
 use Rattle.mc_model_play.specs.Patterns.{holds}
-use Rattle.mc_lab.specs.Expectations.{count_failed, count_text, expect_text, failed_lines, is_met, result_above, told_of}
+use Rattle.mc_lab.specs.Expectations.{count_failed, count_text, expect_text, failed_lines, is_met, result_above, expectation_line}
 use Rattle.mc_lab.specs.Judged.{done_of, expectation_of, text_left}
 
 -- ---- expectations one by one
 
-pub expectation-at : (es : List NumberedLine) (i : ℕ) (d : NumberedLine) → i < length es → drop i (numbered_lines es) ≡ expectation_of (slice_index_or es i d) ∷ drop (i + 1) (numbered_lines es)
-expectation-at [] i d h = absurd (omega (arith, h))
-expectation-at (e ∷ es) zero d h = refl
-expectation-at (e ∷ es) (suc i) d h =
+pub expectation_at : (es : List NumberedLine) (i : ℕ) (d : NumberedLine) → i < length es → drop i (numbered_lines es) ≡ expectation_of (slice_index_or es i d) ∷ drop (i + 1) (numbered_lines es)
+expectation_at [] i d h = absurd (omega (arith, h))
+expectation_at (e ∷ es) zero d h = refl
+expectation_at (e ∷ es) (suc i) d h =
     let one : suc i + 1 ≡ suc (i + 1) = omega arith in
-    expectation-at es i d (omega (arith, h)) ∙ ap (λ j. expectation_of (slice_index_or es i d) ∷ drop j (expectation_of e ∷ numbered_lines es)) (sym one)
+    expectation_at es i d (omega (arith, h)) ∙ ap (λ j. expectation_of (slice_index_or es i d) ∷ drop j (expectation_of e ∷ numbered_lines es)) (sym one)
 
-pub expectation-none : (es : List NumberedLine) (i : ℕ) → length es ≤ i → drop i (numbered_lines es) ≡ []
-expectation-none [] zero h = refl
-expectation-none [] (suc i) h = refl
-expectation-none (e ∷ es) zero h = absurd (omega (arith, h))
-expectation-none (e ∷ es) (suc i) h = expectation-none es i (omega (arith, h))
+pub expectation_none : (es : List NumberedLine) (i : ℕ) → length es ≤ i → drop i (numbered_lines es) ≡ []
+expectation_none [] zero h = refl
+expectation_none [] (suc i) h = refl
+expectation_none (e ∷ es) zero h = absurd (omega (arith, h))
+expectation_none (e ∷ es) (suc i) h = expectation_none es i (omega (arith, h))
 
 -- ---- counts
 
-count-filter : {A : Type 0} (test : A → Bool) (b : Bool) (x : A) (xs : List A) → test x ≡ b → length (filter test (x ∷ xs)) ≡ cond b (suc (length (filter test xs))) (length (filter test xs))
-count-filter test true x xs e = rw e refl
-count-filter test false x xs e = rw e refl
+count_filter : {A : Type 0} (test : A → Bool) (b : Bool) (x : A) (xs : List A) → test x ≡ b → length (filter test (x ∷ xs)) ≡ cond b (suc (length (filter test xs))) (length (filter test xs))
+count_filter test true x xs e = rw e refl
+count_filter test false x xs e = rw e refl
 
 -- an expectation that holds does not count, and one that failed does
-pub count-met : (ts : List Step) (e : ℕ × List ℕ) (es : List (ℕ × List ℕ)) → is_met ts e ≡ true → count_failed ts (e ∷ es) ≡ count_failed ts es
-count-met ts e es h = count-filter (λ e. not (is_met ts e)) false e es (ap not h)
+pub count_met : (ts : List Step) (e : ℕ × List ℕ) (es : List (ℕ × List ℕ)) → is_met ts e ≡ true → count_failed ts (e ∷ es) ≡ count_failed ts es
+count_met ts e es h = count_filter (λ e. not (is_met ts e)) false e es (ap not h)
 
-pub count-unmet : (ts : List Step) (e : ℕ × List ℕ) (es : List (ℕ × List ℕ)) → is_met ts e ≡ false → count_failed ts (e ∷ es) ≡ suc (count_failed ts es)
-count-unmet ts e es h = count-filter (λ e. not (is_met ts e)) true e es (ap not h)
+pub count_unmet : (ts : List Step) (e : ℕ × List ℕ) (es : List (ℕ × List ℕ)) → is_met ts e ≡ false → count_failed ts (e ∷ es) ≡ suc (count_failed ts es)
+count_unmet ts e es h = count_filter (λ e. not (is_met ts e)) true e es (ap not h)
 
 -- ---- texts
 
 -- what is left to be told, by the first expectation that is left
-left-on : (ts : List Step) (e : ℕ × List ℕ) (es all : List (ℕ × List ℕ)) → text_left ts (e ∷ es) all ≡ told_of (is_met ts e) e (result_above ts e.0) ++ text_left ts es all
-left-on ts e es all = append_assoc (told_of (is_met ts e) e (result_above ts e.0)) (failed_lines ts es) (count_text (length all) (count_failed ts all))
+left_on : (ts : List Step) (e : ℕ × List ℕ) (es all : List (ℕ × List ℕ)) → text_left ts (e ∷ es) all ≡ expectation_line (is_met ts e) e (result_above ts e.0) ++ text_left ts es all
+left_on ts e es all = append_assoc (expectation_line (is_met ts e) e (result_above ts e.0)) (failed_lines ts es) (count_text (length all) (count_failed ts all))
 
 -- what was written of an expectation is written of what is left
-pub told-on : (ts : List Step) (left : List (ℕ × List ℕ)) (e : ℕ × List ℕ) (es all : List (ℕ × List ℕ)) (text : List ℕ) (x y : Sunk) (r : Result (Unit {0}) WriteFault) (z : Sunk)
-    → left ≡ e ∷ es → text ≡ result_above ts e.0 → Writes x (told_of (holds e.1 text) e text) y → Puts y (text_left ts es all) r z → Puts x (text_left ts left all) r z
-told-on ts left e es all text x y r z i is wrote rest =
-    let here : told_of (holds e.1 text) e text ≡ told_of (is_met ts e) e (result_above ts e.0) = ap (λ t. told_of (holds e.1 t) e t) is in
-    puts_as x z r (ap (λ t. t ++ text_left ts es all) here ∙ sym (left-on ts e es all) ∙ ap (λ l. text_left ts l all) (sym i)) (puts_then z (text_left ts es all) r wrote rest)
+pub told_on : (ts : List Step) (left : List (ℕ × List ℕ)) (e : ℕ × List ℕ) (es all : List (ℕ × List ℕ)) (text : List ℕ) (x y : Sunk) (r : Result (Unit {0}) WriteFault) (z : Sunk)
+    → left ≡ e ∷ es → text ≡ result_above ts e.0 → Writes x (expectation_line (holds e.1 text) e text) y → Puts y (text_left ts es all) r z → Puts x (text_left ts left all) r z
+told_on ts left e es all text x y r z i is wrote rest =
+    let here : expectation_line (holds e.1 text) e text ≡ expectation_line (is_met ts e) e (result_above ts e.0) = ap (λ t. expectation_line (holds e.1 t) e t) is in
+    puts_as x z r (ap (λ t. t ++ text_left ts es all) here ∙ sym (left_on ts e es all) ∙ ap (λ l. text_left ts l all) (sym i)) (puts_then z (text_left ts es all) r wrote rest)
 
-pub told-fails : (ts : List Step) (left : List (ℕ × List ℕ)) (e : ℕ × List ℕ) (es all : List (ℕ × List ℕ)) (text : List ℕ) (x y : Sunk)
-    → left ≡ e ∷ es → text ≡ result_above ts e.0 → Fails x (told_of (holds e.1 text) e text) y → Fails x (text_left ts left all) y
-told-fails ts left e es all text x y i is failed =
-    let here : told_of (holds e.1 text) e text ≡ told_of (is_met ts e) e (result_above ts e.0) = ap (λ t. told_of (holds e.1 t) e t) is in
-    subst (λ (t : List ℕ). Fails x t y) (ap (λ t. t ++ text_left ts es all) here ∙ sym (left-on ts e es all) ∙ ap (λ l. text_left ts l all) (sym i)) (fails_before (text_left ts es all) failed)
+pub told_fails : (ts : List Step) (left : List (ℕ × List ℕ)) (e : ℕ × List ℕ) (es all : List (ℕ × List ℕ)) (text : List ℕ) (x y : Sunk)
+    → left ≡ e ∷ es → text ≡ result_above ts e.0 → Fails x (expectation_line (holds e.1 text) e text) y → Fails x (text_left ts left all) y
+told_fails ts left e es all text x y i is failed =
+    let here : expectation_line (holds e.1 text) e text ≡ expectation_line (is_met ts e) e (result_above ts e.0) = ap (λ t. expectation_line (holds e.1 t) e t) is in
+    subst (λ (t : List ℕ). Fails x t y) (ap (λ t. t ++ text_left ts es all) here ∙ sym (left_on ts e es all) ∙ ap (λ l. text_left ts l all) (sym i)) (fails_before (text_left ts es all) failed)
 
-pub told-start : (ts : List Step) (es : List (ℕ × List ℕ)) → text_left ts es es ≡ expect_text ts es
+pub told_start : (ts : List Step) (es : List (ℕ × List ℕ)) → text_left ts es es ≡ expect_text ts es
 unfolding expect_text
-told-start ts es = refl
+told_start ts es = refl
 
-pub told-end : (ts : List Step) (left all : List (ℕ × List ℕ)) → left ≡ [] → text_left ts left all ≡ count_text (length all) (count_failed ts all)
-told-end ts left all e = ap (λ l. text_left ts l all) e
+pub told_end : (ts : List Step) (left all : List (ℕ × List ℕ)) → left ≡ [] → text_left ts left all ≡ count_text (length all) (count_failed ts all)
+told_end ts left all e = ap (λ l. text_left ts l all) e
 
-pub numbered-length : (es : List NumberedLine) → length (numbered_lines es) ≡ length es
-numbered-length [] = refl
-numbered-length (e ∷ es) = ap suc (numbered-length es)
+pub numbered_length : (es : List NumberedLine) → length (numbered_lines es) ≡ length es
+numbered_length [] = refl
+numbered_length (e ∷ es) = ap suc (numbered_length es)
 
 -- ---- ends
 
 -- one that held, or failed, and those that are left
-pub count-left : (ts : List Step) (left : List (ℕ × List ℕ)) (e : ℕ × List ℕ) (es : List (ℕ × List ℕ)) (held : Bool) → left ≡ e ∷ es → held ≡ is_met ts e → count_failed ts left ≡ cond held 0 1 + count_failed ts es
-count-left ts left e es true i h = ap (count_failed ts) i ∙ count-met ts e es (sym h) ∙ sym (zero-add (count_failed ts es))
-count-left ts left e es false i h =
-    let more : count_failed ts (e ∷ es) ≡ suc (count_failed ts es) = count-unmet ts e es (sym h) in
+pub count_left : (ts : List Step) (left : List (ℕ × List ℕ)) (e : ℕ × List ℕ) (es : List (ℕ × List ℕ)) (held : Bool) → left ≡ e ∷ es → held ≡ is_met ts e → count_failed ts left ≡ cond held 0 1 + count_failed ts es
+count_left ts left e es true i h = ap (count_failed ts) i ∙ count_met ts e es (sym h) ∙ sym (zero-add (count_failed ts es))
+count_left ts left e es false i h =
+    let more : count_failed ts (e ∷ es) ≡ suc (count_failed ts es) = count_unmet ts e es (sym h) in
     ap (count_failed ts) i ∙ more ∙ omega arith
 
-pub one-more : (held : Bool) (n i : ℕ) → n ≤ i → n + cond held 0 1 ≤ i + 1
-one-more true n i h = omega (arith, h)
-one-more false n i h = omega (arith, h)
+pub one_more : (held : Bool) (n i : ℕ) → n ≤ i → n + cond held 0 1 ≤ i + 1
+one_more true n i h = omega (arith, h)
+one_more false n i h = omega (arith, h)
 
 -- a text that was not written whole, by a call that gives a number
-pub fails-done : {A : Type 0} {a b : Sunk} {t : List ℕ} (r : Result A WriteFault) → IsErr r → Fails a t b → Puts a t (done_of r) b
-fails-done (Ok x) h f = absurd (cc h)
-fails-done (Err e) h f = f
+pub fails_done : {A : Type 0} {a b : Sunk} {t : List ℕ} (r : Result A WriteFault) → IsErr r → Fails a t b → Puts a t (done_of r) b
+fails_done (Ok x) h f = absurd (cc h)
+fails_done (Err e) h f = f
 
 -- all were told, and so many failed
-pub text-done : (ts : List Step) (left all : List (ℕ × List ℕ)) (n failed : ℕ) → left ≡ [] → n ≡ length all → failed + count_failed ts left ≡ count_failed ts all → count_text n failed ≡ text_left ts left all
-text-done ts left all n failed i len h =
+pub text_done : (ts : List Step) (left all : List (ℕ × List ℕ)) (n failed : ℕ) → left ≡ [] → n ≡ length all → failed + count_failed ts left ≡ count_failed ts all → count_text n failed ≡ text_left ts left all
+text_done ts left all n failed i len h =
     let none : count_failed ts left ≡ 0 = ap (count_failed ts) i in
     let same : failed ≡ count_failed ts all = omega (arith, none, h) in
-    ap (λ k. count_text k failed) len ∙ ap (count_text (length all)) same ∙ sym (told-end ts left all i)
+    ap (λ k. count_text k failed) len ∙ ap (count_text (length all)) same ∙ sym (told_end ts left all i)

@@ -8,27 +8,27 @@ use Rattle.mc_model_device.proofs.BoolLemmas.{and_second}
 
 -- ---- blanks
 
-pub without-plain : (c : ℕ) (t : List ℕ) → is_blank c ≡ false → without_blanks (c ∷ t) ≡ c ∷ without_blanks t
-without-plain c t e = grind (arith, e)
+pub without_plain : (c : ℕ) (t : List ℕ) → is_blank c ≡ false → without_blanks (c ∷ t) ≡ c ∷ without_blanks t
+without_plain c t e = grind (arith, e)
 
-pub without-blank : (c : ℕ) (t : List ℕ) → is_blank c ≡ true → without_blanks (c ∷ t) ≡ without_blanks t
-without-blank c t e = grind (arith, e)
+pub without_blank : (c : ℕ) (t : List ℕ) → is_blank c ≡ true → without_blanks (c ∷ t) ≡ without_blanks t
+without_blank c t e = grind (arith, e)
 
 -- ---- rests
 
-pub some_rest-first : (test : List ℕ → Bool) (t : List ℕ) → test t ≡ true → some_rest test t ≡ true
-some_rest-first test [] h = h
-some_rest-first test (c ∷ t) h = or_left (test (c ∷ t)) (some_rest test t) h
+pub some_rest_first : (test : List ℕ → Bool) (t : List ℕ) → test t ≡ true → some_rest test t ≡ true
+some_rest_first test [] h = h
+some_rest_first test (c ∷ t) h = or_left (test (c ∷ t)) (some_rest test t) h
 
-or-again : (a b : Bool) → ((a || b) || b) ≡ (a || b)
-or-again true b = refl
-or-again false true = refl
-or-again false false = refl
+or_again : (a b : Bool) → ((a || b) || b) ≡ (a || b)
+or_again true b = refl
+or_again false true = refl
+or_again false false = refl
 
 -- what is left of what is left is left
-pub some_rest-again : (test : List ℕ → Bool) (t : List ℕ) → some_rest (some_rest test) t ≡ some_rest test t
-some_rest-again test [] = refl
-some_rest-again test (c ∷ t) = subst (λ (b : Bool). ((test (c ∷ t) || some_rest test t) || b) ≡ (test (c ∷ t) || some_rest test t)) (sym (some_rest-again test t)) (or-again (test (c ∷ t)) (some_rest test t))
+pub some_rest_again : (test : List ℕ → Bool) (t : List ℕ) → some_rest (some_rest test) t ≡ some_rest test t
+some_rest_again test [] = refl
+some_rest_again test (c ∷ t) = subst (λ (b : Bool). ((test (c ∷ t) || some_rest test t) || b) ≡ (test (c ∷ t) || some_rest test t)) (sym (some_rest_again test t)) (or_again (test (c ∷ t)) (some_rest test t))
 
 -- ---- walks
 
@@ -38,88 +38,88 @@ pub record PatternWalked (p t ps ts : List ℕ) : Type 0 where
   pub later : some_rest (matches p) t ≡ true → some_rest (matches ps) ts ≡ true
 
 -- the same of lists that are equal
-walked-along : (p t x y u v : List ℕ) → x ≡ u → y ≡ v → PatternWalked p t x y → PatternWalked p t u v
-walked-along p t x y u v i j w = subst (λ (a : List ℕ). PatternWalked p t a v) i (subst (λ (b : List ℕ). PatternWalked p t x b) j w)
+walked_along : (p t x y u v : List ℕ) → x ≡ u → y ≡ v → PatternWalked p t x y → PatternWalked p t u v
+walked_along p t x y u v i j w = subst (λ (a : List ℕ). PatternWalked p t a v) i (subst (λ (b : List ℕ). PatternWalked p t x b) j w)
 
-false-true : {A : Type 0} → false ≡ true → A
-false-true h = absurd (cc h)
+false_true : {A : Type 0} → false ≡ true → A
+false_true h = absurd (cc h)
 
 -- a sign that is no star: where it and what is behind it match, what is behind it matches the rest
-sign-rest : (p : ℕ) (ps : List ℕ) (c : ℕ) (t : List ℕ) → is_star p ≡ false → matches (p ∷ ps) (c ∷ t) ≡ true → matches ps t ≡ true
+sign_rest : (p : ℕ) (ps : List ℕ) (c : ℕ) (t : List ℕ) → is_star p ≡ false → matches (p ∷ ps) (c ∷ t) ≡ true → matches ps t ≡ true
 unfolding matches
-sign-rest p ps c t e h =
+sign_rest p ps c t e h =
     and_second (is_any p || (c == p)) (matches ps t) (subst (λ (b : Bool). cond b (some_rest (matches ps) (c ∷ t)) (first_and_rest p (matches ps) (c ∷ t)) ≡ true) e h)
 
-sign-none : (p : ℕ) (ps : List ℕ) → is_star p ≡ false → matches (p ∷ ps) [] ≡ false
+sign_none : (p : ℕ) (ps : List ℕ) → is_star p ≡ false → matches (p ∷ ps) [] ≡ false
 unfolding matches
-sign-none p ps e = subst (λ (b : Bool). cond b (some_rest (matches ps) []) (first_and_rest p (matches ps) []) ≡ false) (sym e) refl
+sign_none p ps e = subst (λ (b : Bool). cond b (some_rest (matches ps) []) (first_and_rest p (matches ps) []) ≡ false) (sym e) refl
 
-or-cases : {A : Type 0} (a b : Bool) → (a || b) ≡ true → (a ≡ true → A) → (b ≡ true → A) → A
-or-cases true b h f g = f refl
-or-cases false b h f g = g h
+or_cases : {A : Type 0} (a b : Bool) → (a || b) ≡ true → (a ≡ true → A) → (b ≡ true → A) → A
+or_cases true b h f g = f refl
+or_cases false b h f g = g h
 
-step-rest : (p : ℕ) (ps : List ℕ) (c : ℕ) (t : List ℕ) → is_star p ≡ false → some_rest (matches (p ∷ ps)) (c ∷ t) ≡ true → some_rest (matches ps) t ≡ true
-step-rest p ps c [] e h =
-    or-cases (matches (p ∷ ps) (c ∷ [])) (matches (p ∷ ps) []) h
-    (λ first. sign-rest p ps c [] e first)
-    (λ none. false-true (sym (sign-none p ps e) ∙ none))
-step-rest p ps c (d ∷ t) e h =
-    or-cases (matches (p ∷ ps) (c ∷ d ∷ t)) (some_rest (matches (p ∷ ps)) (d ∷ t)) h
-    (λ first. some_rest-first (matches ps) (d ∷ t) (sign-rest p ps c (d ∷ t) e first))
-    (λ later. or_right (matches ps (d ∷ t)) (some_rest (matches ps) t) (step-rest p ps d t e later))
+step_rest : (p : ℕ) (ps : List ℕ) (c : ℕ) (t : List ℕ) → is_star p ≡ false → some_rest (matches (p ∷ ps)) (c ∷ t) ≡ true → some_rest (matches ps) t ≡ true
+step_rest p ps c [] e h =
+    or_cases (matches (p ∷ ps) (c ∷ [])) (matches (p ∷ ps) []) h
+    (λ first. sign_rest p ps c [] e first)
+    (λ none. false_true (sym (sign_none p ps e) ∙ none))
+step_rest p ps c (d ∷ t) e h =
+    or_cases (matches (p ∷ ps) (c ∷ d ∷ t)) (some_rest (matches (p ∷ ps)) (d ∷ t)) h
+    (λ first. some_rest_first (matches ps) (d ∷ t) (sign_rest p ps c (d ∷ t) e first))
+    (λ later. or_right (matches ps (d ∷ t)) (some_rest (matches ps) t) (step_rest p ps d t e later))
 
-sign-same : (p : ℕ) (ps : List ℕ) (c : ℕ) (t : List ℕ) → is_star p ≡ false → (is_any p || (c == p)) ≡ true → matches (p ∷ ps) (c ∷ t) ≡ matches ps t
+sign_same : (p : ℕ) (ps : List ℕ) (c : ℕ) (t : List ℕ) → is_star p ≡ false → (is_any p || (c == p)) ≡ true → matches (p ∷ ps) (c ∷ t) ≡ matches ps t
 unfolding matches
-sign-same p ps c t e h = grind (arith, e, h)
+sign_same p ps c t e h = grind (arith, e, h)
 
-sign-apart : (p : ℕ) (ps : List ℕ) (c : ℕ) (t : List ℕ) → is_star p ≡ false → (is_any p || (c == p)) ≡ false → matches (p ∷ ps) (c ∷ t) ≡ false
+sign_apart : (p : ℕ) (ps : List ℕ) (c : ℕ) (t : List ℕ) → is_star p ≡ false → (is_any p || (c == p)) ≡ false → matches (p ∷ ps) (c ∷ t) ≡ false
 unfolding matches
-sign-apart p ps c t e h = grind (arith, e, h)
+sign_apart p ps c t e h = grind (arith, e, h)
 
 -- a sign that stands for a character
-pub walked-step : (p t x y : List ℕ) (s : ℕ) (ps : List ℕ) (c : ℕ) (ts : List ℕ) → x ≡ s ∷ ps → y ≡ c ∷ ts → is_star s ≡ false → (is_any s || (c == s)) ≡ true → PatternWalked p t x y → PatternWalked p t ps ts
-walked-step p t x y s ps c ts i j e h v =
-    let w : PatternWalked p t (s ∷ ps) (c ∷ ts) = walked-along p t x y (s ∷ ps) (c ∷ ts) i j v in
-    record { same = w.same ∙ sign-same s ps c ts e h; later = λ m. step-rest s ps c ts e (w.later m) }
+pub walked_step : (p t x y : List ℕ) (s : ℕ) (ps : List ℕ) (c : ℕ) (ts : List ℕ) → x ≡ s ∷ ps → y ≡ c ∷ ts → is_star s ≡ false → (is_any s || (c == s)) ≡ true → PatternWalked p t x y → PatternWalked p t ps ts
+walked_step p t x y s ps c ts i j e h v =
+    let w : PatternWalked p t (s ∷ ps) (c ∷ ts) = walked_along p t x y (s ∷ ps) (c ∷ ts) i j v in
+    record { same = w.same ∙ sign_same s ps c ts e h; later = λ m. step_rest s ps c ts e (w.later m) }
 
 -- a sign that does not
-pub walked-apart : (p t x y : List ℕ) (s : ℕ) (ps : List ℕ) (c : ℕ) (ts : List ℕ) → x ≡ s ∷ ps → y ≡ c ∷ ts → is_star s ≡ false → (is_any s || (c == s)) ≡ false → PatternWalked p t x y → matches p t ≡ false
-walked-apart p t x y s ps c ts i j e h v =
-    let w : PatternWalked p t (s ∷ ps) (c ∷ ts) = walked-along p t x y (s ∷ ps) (c ∷ ts) i j v in
-    w.same ∙ sign-apart s ps c ts e h
+pub walked_apart : (p t x y : List ℕ) (s : ℕ) (ps : List ℕ) (c : ℕ) (ts : List ℕ) → x ≡ s ∷ ps → y ≡ c ∷ ts → is_star s ≡ false → (is_any s || (c == s)) ≡ false → PatternWalked p t x y → matches p t ≡ false
+walked_apart p t x y s ps c ts i j e h v =
+    let w : PatternWalked p t (s ∷ ps) (c ∷ ts) = walked_along p t x y (s ∷ ps) (c ∷ ts) i j v in
+    w.same ∙ sign_apart s ps c ts e h
 
 -- a sign at the end of a text
-pub walked-short : (p t x y : List ℕ) (s : ℕ) (ps : List ℕ) → x ≡ s ∷ ps → y ≡ [] → is_star s ≡ false → PatternWalked p t x y → matches p t ≡ false
-walked-short p t x y s ps i j e v = (walked-along p t x y (s ∷ ps) [] i j v).same ∙ sign-none s ps e
+pub walked_short : (p t x y : List ℕ) (s : ℕ) (ps : List ℕ) → x ≡ s ∷ ps → y ≡ [] → is_star s ≡ false → PatternWalked p t x y → matches p t ≡ false
+walked_short p t x y s ps i j e v = (walked_along p t x y (s ∷ ps) [] i j v).same ∙ sign_none s ps e
 
 -- the end of a pattern
-pub walked-end : (p t x y ts : List ℕ) → x ≡ [] → y ≡ ts → PatternWalked p t x y → matches p t ≡ is_empty ts
+pub walked_end : (p t x y ts : List ℕ) → x ≡ [] → y ≡ ts → PatternWalked p t x y → matches p t ≡ is_empty ts
 unfolding matches
-walked-end p t x y ts i j v = (walked-along p t x y [] ts i j v).same
+walked_end p t x y ts i j v = (walked_along p t x y [] ts i j v).same
 
-star-matches : (s : ℕ) (ps : List ℕ) → is_star s ≡ true → (t : List ℕ) → matches (s ∷ ps) t ≡ some_rest (matches ps) t
+star_matches : (s : ℕ) (ps : List ℕ) → is_star s ≡ true → (t : List ℕ) → matches (s ∷ ps) t ≡ some_rest (matches ps) t
 unfolding matches
-star-matches s ps e t = subst (λ (b : Bool). cond b (some_rest (matches ps) t) (first_and_rest s (matches ps) t) ≡ some_rest (matches ps) t) (sym e) refl
+star_matches s ps e t = subst (λ (b : Bool). cond b (some_rest (matches ps) t) (first_and_rest s (matches ps) t) ≡ some_rest (matches ps) t) (sym e) refl
 
-or-both : (a b c d : Bool) → a ≡ c → b ≡ d → (a || b) ≡ (c || d)
-or-both a b c d h k = ap (λ x. x || b) h ∙ ap (λ x. c || x) k
+or_both : (a b c d : Bool) → a ≡ c → b ≡ d → (a || b) ≡ (c || d)
+or_both a b c d h k = ap (λ x. x || b) h ∙ ap (λ x. c || x) k
 
-some_rest-same : (f g : List ℕ → Bool) → ((t : List ℕ) → f t ≡ g t) → (t : List ℕ) → some_rest f t ≡ some_rest g t
-some_rest-same f g h [] = h []
-some_rest-same f g h (c ∷ t) = or-both (f (c ∷ t)) (some_rest f t) (g (c ∷ t)) (some_rest g t) (h (c ∷ t)) (some_rest-same f g h t)
+some_rest_same : (f g : List ℕ → Bool) → ((t : List ℕ) → f t ≡ g t) → (t : List ℕ) → some_rest f t ≡ some_rest g t
+some_rest_same f g h [] = h []
+some_rest_same f g h (c ∷ t) = or_both (f (c ∷ t)) (some_rest f t) (g (c ∷ t)) (some_rest g t) (h (c ∷ t)) (some_rest_same f g h t)
 
-both-ways : (a b : Bool) → (a ≡ true → b ≡ true) → (b ≡ true → a ≡ true) → a ≡ b
-both-ways true b f g = sym (f refl)
-both-ways false true f g = g refl
-both-ways false false f g = refl
+both_ways : (a b : Bool) → (a ≡ true → b ≡ true) → (b ≡ true → a ≡ true) → a ≡ b
+both_ways true b f g = sym (f refl)
+both_ways false true f g = g refl
+both_ways false false f g = refl
 
 -- a star
-pub walked-star : (p t x : List ℕ) (s : ℕ) (ps ts : List ℕ) → x ≡ s ∷ ps → is_star s ≡ true → PatternWalked p t x ts → Parts p t ps ts
-walked-star p t x s ps ts i e v =
-    let w : PatternWalked p t (s ∷ ps) ts = walked-along p t x ts (s ∷ ps) ts i refl v in
-    let here : matches p t ≡ some_rest (matches ps) ts = w.same ∙ star-matches s ps e ts in
-    let whole : some_rest (matches (s ∷ ps)) ts ≡ some_rest (matches ps) ts = some_rest-same (matches (s ∷ ps)) (some_rest (matches ps)) (star-matches s ps e) ts ∙ some_rest-again (matches ps) ts in
+pub walked_star : (p t x : List ℕ) (s : ℕ) (ps ts : List ℕ) → x ≡ s ∷ ps → is_star s ≡ true → PatternWalked p t x ts → Parts p t ps ts
+walked_star p t x s ps ts i e v =
+    let w : PatternWalked p t (s ∷ ps) ts = walked_along p t x ts (s ∷ ps) ts i refl v in
+    let here : matches p t ≡ some_rest (matches ps) ts = w.same ∙ star_matches s ps e ts in
+    let whole : some_rest (matches (s ∷ ps)) ts ≡ some_rest (matches ps) ts = some_rest_same (matches (s ∷ ps)) (some_rest (matches ps)) (star_matches s ps e) ts ∙ some_rest_again (matches ps) ts in
     record {
       here = here;
-      later = both-ways (some_rest (matches p) t) (some_rest (matches ps) ts) (λ h. sym whole ∙ w.later h) (λ h. some_rest-first (matches p) t (here ∙ h));
+      later = both_ways (some_rest (matches p) t) (some_rest (matches ps) ts) (λ h. sym whole ∙ w.later h) (λ h. some_rest_first (matches p) t (here ∙ h));
     }

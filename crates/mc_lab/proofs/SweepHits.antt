@@ -6,14 +6,14 @@ use Rattle.mc_model_device.specs.declared.device.Stop.TheVariants as stop
 use Rattle.mc_model_device.specs.Image.{Journal}
 use Rattle.mc_model_device.specs.Card.{Card}
 use Rattle.mc_model_card.specs.Items.{moves, StopAt}
-use Rattle.mc_model_play.specs.Play.{Armed, Unarmed, ArmedCut, ArmedFail, Live, Running, Unpowered, Muted, Warm, State, Cold, Hot, step, moves_of, armed_in, is_card_line, warmed, power_moves, power_step, power_result, card_line, command_step, line_command}
+use Rattle.mc_model_play.specs.Play.{Armed, Unarmed, ArmedCut, ArmedFail, Live, Running, Unpowered, Muted, Warm, State, Cold, Hot, step, moves_of, armed_stop_in, is_card_line, play_at_power, power_moves, power_step, power_result, card_line, command_step, line_command}
 use Rattle.mc_model_device.specs.PowerUp.{Base, OnCard, AtFault}
 use Rattle.mc_model_card.specs.Commands.{Command}
 use Rattle.mc_model_play.specs.DeckGrammar.{DeckLine}
 use Rattle.mc_model_play.specs.DeckGrammar as line
-use Rattle.mc_lab.specs.Sweeps.{stepped, played, cut}
+use Rattle.mc_lab.specs.Sweeps.{steady_step, state_on_blank, cut_statement}
 use Rattle.mc_lab.specs.SweepLaws.{is_off, HitsWithin}
-use Rattle.mc_lab.proofs.SweepPlays.{next, played-one, warmed-moves}
+use Rattle.mc_lab.proofs.SweepPlays.{next, played_one, warmed_moves}
 
 abbrev cut_at : ℕ → List ℕ → StopAt
 cut_at k x = record { kind = stop.Off; at = k; left = x }
@@ -21,72 +21,72 @@ cut_at k x = record { kind = stop.Off; at = k; left = x }
 abbrev hot : Base → ℕ → Journal → Live → ℕ → Armed → Warm
 hot b o j v g a = record { base = b; owed = o; by = j; live = v; budget = g; armed = a }
 
-command-hit : (n : ℕ) (l : DeckLine) (s : Warm) (c : Card) (r : Command) (k : ℕ) (x : List ℕ) (b : Bool) → is_off (command_step n l s c r (cond b (Some (cut_at k x)) None)).result ≡ b
-command-hit n l s c r k x true = refl
-command-hit n l s c r k x false = refl
+command_hit : (n : ℕ) (l : DeckLine) (s : Warm) (c : Card) (r : Command) (k : ℕ) (x : List ℕ) (b : Bool) → is_off (command_step n l s c r (cond b (Some (cut_at k x)) None)).result ≡ b
+command_hit n l s c r k x true = refl
+command_hit n l s c r k x false = refl
 
-no-writes : (k : ℕ) → 1 ≤ k → false ≡ nat_le k 0
-no-writes k low = sym (lt-leb k 0 low)
+no_writes : (k : ℕ) → 1 ≤ k → false ≡ nat_le k 0
+no_writes k low = sym (lt-leb k 0 low)
 
-card-hit : (n : ℕ) (l : DeckLine) (b : Base) (o : ℕ) (j : Journal) (v : Live) (g k : ℕ) (x : List ℕ) → 1 ≤ k
+card_hit : (n : ℕ) (l : DeckLine) (b : Base) (o : ℕ) (j : Journal) (v : Live) (g k : ℕ) (x : List ℕ) → 1 ≤ k
     → is_off (card_line n l (hot b o j v g (ArmedCut k x)) v b None).result ≡ nat_le k (moves (card_line n l (hot b o j v g Unarmed) v b None).items)
-card-hit n l (OnCard c) o j (Running seat) g k x low =
+card_hit n l (OnCard c) o j (Running seat) g k x low =
     let r = line_command c seat g l in
-    command-hit n l (hot (OnCard c) o j (Running seat) g (ArmedCut k x)) c r k x (nat_le k (moves r.items))
-card-hit n l (AtFault cause place) o j (Running seat) g k x low = no-writes k low
-card-hit n l b o j Unpowered g k x low = no-writes k low
-card-hit n l b o j Muted g k x low = no-writes k low
+    command_hit n l (hot (OnCard c) o j (Running seat) g (ArmedCut k x)) c r k x (nat_le k (moves r.items))
+card_hit n l (AtFault cause place) o j (Running seat) g k x low = no_writes k low
+card_hit n l b o j Unpowered g k x low = no_writes k low
+card_hit n l b o j Muted g k x low = no_writes k low
 
-result-off : (m : ℕ) (b : Base) → is_off (Some (power_result m b)) ≡ false
-result-off m (OnCard c) = refl
-result-off m (AtFault cause place) = refl
+result_off : (m : ℕ) (b : Base) → is_off (Some (power_result m b)) ≡ false
+result_off m (OnCard c) = refl
+result_off m (AtFault cause place) = refl
 
-power-hit : (n : ℕ) (before : State) (w : Warm) (k : ℕ) (x : List ℕ) (b : Bool) → is_off (power_step n before w (cond b (Some (cut_at k x)) None)).result ≡ b
-power-hit n before w k x true = refl
-power-hit n before w k x false = result-off (power_moves w) w.base
+power_hit : (n : ℕ) (before : State) (w : Warm) (k : ℕ) (x : List ℕ) (b : Bool) → is_off (power_step n before w (cond b (Some (cut_at k x)) None)).result ≡ b
+power_hit n before w k x true = refl
+power_hit n before w k x false = result_off (power_moves w) w.base
 
-with-none : (k m n : ℕ) → m ≡ n → nat_le k m ≡ nat_le k n
-with-none k m n e = ap (λ (i : ℕ). nat_le k i) e
+with_none : (k m n : ℕ) → m ≡ n → nat_le k m ≡ nat_le k n
+with_none k m n e = ap (λ (i : ℕ). nat_le k i) e
 
-cold-hit : (n i : ℕ) (l : DeckLine) (m : List (List ℕ)) (b k : ℕ) (x : List ℕ) → is_card_line l ≡ true → 1 ≤ k
-    → is_off (stepped (next (Cold m b Unarmed) (cut i k x)) (n, l)).result ≡ nat_le k (moves_of (Cold m b Unarmed) (n, l))
+cold_hit : (n i : ℕ) (l : DeckLine) (m : List (List ℕ)) (b k : ℕ) (x : List ℕ) → is_card_line l ≡ true → 1 ≤ k
+    → is_off (steady_step (next (Cold m b Unarmed) (cut_statement i k x)) (n, l)).result ≡ nat_le k (moves_of (Cold m b Unarmed) (n, l))
 unfolding step moves_of
-cold-hit n i line.Power m b k x is low =
-    let w = warmed m b (ArmedCut k x) in
-    power-hit n (Cold m b (ArmedCut k x)) w k x (nat_le k (power_moves w))
-    ∙ with-none k (power_moves w) (power_moves (warmed m b Unarmed) + 0) (let e : power_moves w ≡ power_moves (warmed m b Unarmed) = warmed-moves m b (ArmedCut k x) Unarmed in omega (arith, e))
-cold-hit n i (line.Load u fixed session) m b k x is low = no-writes k low
-cold-hit n i (line.Select a) m b k x is low = no-writes k low
-cold-hit n i (line.Delete a) m b k x is low = no-writes k low
-cold-hit n i (line.Apdu a) m b k x is low = no-writes k low
-cold-hit n i _ m b k x is low = absurd (cc is)
+cold_hit n i line.Power m b k x is low =
+    let w = play_at_power m b (ArmedCut k x) in
+    power_hit n (Cold m b (ArmedCut k x)) w k x (nat_le k (power_moves w))
+    ∙ with_none k (power_moves w) (power_moves (play_at_power m b Unarmed) + 0) (let e : power_moves w ≡ power_moves (play_at_power m b Unarmed) = warmed_moves m b (ArmedCut k x) Unarmed in omega (arith, e))
+cold_hit n i (line.Load u fixed session) m b k x is low = no_writes k low
+cold_hit n i (line.Select a) m b k x is low = no_writes k low
+cold_hit n i (line.Delete a) m b k x is low = no_writes k low
+cold_hit n i (line.Apdu a) m b k x is low = no_writes k low
+cold_hit n i _ m b k x is low = absurd (cc is)
 
-hot-hit : (n i : ℕ) (l : DeckLine) (b : Base) (o : ℕ) (j : Journal) (v : Live) (g : ℕ) (k : ℕ) (x : List ℕ) → is_card_line l ≡ true → 1 ≤ k
-    → is_off (stepped (next (Hot (hot b o j v g Unarmed)) (cut i k x)) (n, l)).result ≡ nat_le k (moves_of (Hot (hot b o j v g Unarmed)) (n, l))
+hot_hit : (n i : ℕ) (l : DeckLine) (b : Base) (o : ℕ) (j : Journal) (v : Live) (g : ℕ) (k : ℕ) (x : List ℕ) → is_card_line l ≡ true → 1 ≤ k
+    → is_off (steady_step (next (Hot (hot b o j v g Unarmed)) (cut_statement i k x)) (n, l)).result ≡ nat_le k (moves_of (Hot (hot b o j v g Unarmed)) (n, l))
 unfolding step moves_of
-hot-hit n i line.Power b o j v g k x is low =
+hot_hit n i line.Power b o j v g k x is low =
     let w = hot b o j v g (ArmedCut k x) in
-    power-hit n (Hot w) w k x (nat_le k (power_moves w)) ∙ with-none k (power_moves w) (power_moves w + 0) (omega arith)
-hot-hit n i (line.Load u fixed session) b o j v g k x is low = card-hit n (line.Load u fixed session) b o j v g k x low ∙ with-none k _ _ (omega arith)
-hot-hit n i (line.Select a) b o j v g k x is low = card-hit n (line.Select a) b o j v g k x low ∙ with-none k _ _ (omega arith)
-hot-hit n i (line.Delete a) b o j v g k x is low = card-hit n (line.Delete a) b o j v g k x low ∙ with-none k _ _ (omega arith)
-hot-hit n i (line.Apdu a) b o j v g k x is low = card-hit n (line.Apdu a) b o j v g k x low ∙ with-none k _ _ (omega arith)
-hot-hit n i _ b o j v g k x is low = absurd (cc is)
+    power_hit n (Hot w) w k x (nat_le k (power_moves w)) ∙ with_none k (power_moves w) (power_moves w + 0) (omega arith)
+hot_hit n i (line.Load u fixed session) b o j v g k x is low = card_hit n (line.Load u fixed session) b o j v g k x low ∙ with_none k _ _ (omega arith)
+hot_hit n i (line.Select a) b o j v g k x is low = card_hit n (line.Select a) b o j v g k x low ∙ with_none k _ _ (omega arith)
+hot_hit n i (line.Delete a) b o j v g k x is low = card_hit n (line.Delete a) b o j v g k x low ∙ with_none k _ _ (omega arith)
+hot_hit n i (line.Apdu a) b o j v g k x is low = card_hit n (line.Apdu a) b o j v g k x low ∙ with_none k _ _ (omega arith)
+hot_hit n i _ b o j v g k x is low = absurd (cc is)
 
-armed-hit : (n i : ℕ) (l : DeckLine) (b : Base) (o : ℕ) (j : Journal) (v : Live) (g : ℕ) (a : Armed) (k : ℕ) (x : List ℕ) → a ≡ Unarmed → is_card_line l ≡ true → 1 ≤ k
-    → is_off (stepped (next (Hot (hot b o j v g a)) (cut i k x)) (n, l)).result ≡ nat_le k (moves_of (Hot (hot b o j v g a)) (n, l))
-armed-hit n i l b o j v g Unarmed k x is card low = hot-hit n i l b o j v g k x card low
-armed-hit n i l b o j v g (ArmedCut h y) k x is card low = absurd (cc is)
-armed-hit n i l b o j v g (ArmedFail h) k x is card low = absurd (cc is)
+armed_hit : (n i : ℕ) (l : DeckLine) (b : Base) (o : ℕ) (j : Journal) (v : Live) (g : ℕ) (a : Armed) (k : ℕ) (x : List ℕ) → a ≡ Unarmed → is_card_line l ≡ true → 1 ≤ k
+    → is_off (steady_step (next (Hot (hot b o j v g a)) (cut_statement i k x)) (n, l)).result ≡ nat_le k (moves_of (Hot (hot b o j v g a)) (n, l))
+armed_hit n i l b o j v g Unarmed k x is card low = hot_hit n i l b o j v g k x card low
+armed_hit n i l b o j v g (ArmedCut h y) k x is card low = absurd (cc is)
+armed_hit n i l b o j v g (ArmedFail h) k x is card low = absurd (cc is)
 
-pub line-hit : (s : State) (l : ℕ × DeckLine) (i k : ℕ) (x : List ℕ) → armed_in s ≡ Unarmed → is_card_line l.1 ≡ true → 1 ≤ k
-    → is_off (stepped (next s (cut i k x)) l).result ≡ nat_le k (moves_of s l)
-line-hit (Cold m b Unarmed) l i k x is card low = cold-hit l.0 i l.1 m b k x card low
-line-hit (Cold m b (ArmedCut h y)) l i k x is card low = absurd (cc is)
-line-hit (Cold m b (ArmedFail h)) l i k x is card low = absurd (cc is)
-line-hit (Hot s) l i k x is card low = armed-hit l.0 i l.1 s.base s.owed s.by s.live s.budget s.armed k x is card low
+pub line_hit : (s : State) (l : ℕ × DeckLine) (i k : ℕ) (x : List ℕ) → armed_stop_in s ≡ Unarmed → is_card_line l.1 ≡ true → 1 ≤ k
+    → is_off (steady_step (next s (cut_statement i k x)) l).result ≡ nat_le k (moves_of s l)
+line_hit (Cold m b Unarmed) l i k x is card low = cold_hit l.0 i l.1 m b k x card low
+line_hit (Cold m b (ArmedCut h y)) l i k x is card low = absurd (cc is)
+line_hit (Cold m b (ArmedFail h)) l i k x is card low = absurd (cc is)
+line_hit (Hot s) l i k x is card low = armed_hit l.0 i l.1 s.base s.owed s.by s.live s.budget s.armed k x is card low
 
 -- a cut behind a front
-pub hits-within : HitsWithin
-hits-within front l k x card unarmed low =
-    ap (λ (s : State). is_off (stepped s l).result) (played-one front (cut l.0 k x)) ∙ line-hit (played front) l l.0 k x unarmed card low
+pub hits_within : HitsWithin
+hits_within front l k x card unarmed low =
+    ap (λ (s : State). is_off (steady_step s l).result) (played_one front (cut_statement l.0 k x)) ∙ line_hit (state_on_blank front) l l.0 k x unarmed card low

@@ -7,11 +7,11 @@ use Rattle.mc_model_device.specs.Bytes.{lookup}
 use Rattle.mc_model_device.specs.Card.{App, heap_start}
 use Rattle.mc_model_machine.specs.Chain.{Turn}
 use Rattle.mc_model_device.specs.Device.{blank_words, device_words, DeviceState, BenchState, Entry}
-use Rattle.mc_model_play.specs.Play.{Armed, Live, Running, Unpowered, Muted, Warm, State, Cold, Hot, WornAt, LineResult, step, card_line, static_of, steady_at, moves_of, armed_in, warmed, power_moves, laid_entries, words_left, start, formatted, plays, steady_worn}
+use Rattle.mc_model_play.specs.Play.{Armed, Live, Running, Unpowered, Muted, Warm, State, Cold, Hot, WornAt, LineResult, step, card_line, static_of, steady_at, moves_of, armed_stop_in, play_at_power, power_moves, laid_entries, words_left, start, formatted_image, plays, steady_worn}
 use Rattle.mc_model_device.specs.PowerUp.{Base, OnCard, AtFault}
 use Rattle.mc_model_play.specs.DeckGrammar.{DeckLine}
 use Rattle.mc_model_play.specs.DeckGrammar as line
-use Rattle.mc_family.proofs.ReadyLines.{owed-most, migration-most}
+use Rattle.mc_family.proofs.ReadyLines.{owed_most, migration_most}
 use Rattle.mc_script.specs.declared.answer.Answer.{Answer}
 use Rattle.mc_script.specs.declared.answer.Answer.TheVariants as answer
 use Rattle.mc_script.specs.declared.player.Power.{Power}
@@ -21,299 +21,299 @@ use Rattle.mc_card.specs.declared.card.Card.{Card}
 use Rattle.mc_card.specs.Parts.{card_in, device_in}
 use Rattle.mc_script.specs.Players.{answer_value, device_of, dump_value, statics_by, statics_in, LiveIs, StateIs, IsPlayerAt, IsPlaying}
 use Rattle.mc_script.specs.Lines.{LineDone}
-use Rattle.mc_model_device.proofs.ImageLemmas.{length-laid as laid-size}
-use Rattle.mc_lab.specs.Sweeps.{played, played_from, told, told_by, Holds, held_under, running_apps, running_in, cut, under_cut}
+use Rattle.mc_model_device.proofs.ImageLemmas.{length_laid as laid-size}
+use Rattle.mc_lab.specs.Sweeps.{state_on_blank, state_after_lines, state_after_power, state_by_result, Holds, static_bytes_under, running_apps, running_in, cut_statement, under_cut}
 use Rattle.mc_lab.specs.SweepLaws.{is_off}
-use Rattle.mc_lab.specs.SweepBodies.{told_with, next, lines_behind, hits, front_of, line_in, names_in, told_in, hit_in, again_in, IsFewBehind}
+use Rattle.mc_lab.specs.SweepBodies.{state_by_fault, next, lines_behind, hits, front_of, line_in, names_in, state_at_place, hit_in, again_in, IsFewBehind}
 use Rattle.mc_lab.specs.SweepPlayers.{fault_in, off_in, BehindOn, CutOn, IsSteadyAt, LineOn}
 use Rattle.mc_lab.specs.declared.sweep_trial.Behind.{Behind}
 use Rattle.mc_lab.specs.declared.sweep_trial.Place.{Place}
 use Rattle.mc_lab.specs.declared.sweep_trial.Behind.TheVariants as behind
-use Rattle.mc_lab.proofs.SweepPlays.{played-one, played-two}
-use Rattle.mc_lab.proofs.SweepLoops.{take-set, map-append}
+use Rattle.mc_lab.proofs.SweepPlays.{played_one, played_two}
+use Rattle.mc_lab.proofs.SweepLoops.{take_set, map_append}
 
 -- ---- lists
 
-pub take-one : {A : Type 0} (i : ℕ) (xs : List A) (x : A) → slice_get xs i ≡ Some x → take (i + 1) xs ≡ take i xs ++ x ∷ []
-take-one i [] x h = absurd (cc h)
-take-one zero (y ∷ ys) x h = let e : y ≡ x = cc h in ap (λ (z : _). z ∷ []) e
-take-one (suc i) (y ∷ ys) x h =
-    ap (λ (n : ℕ). take n (y ∷ ys)) (let e : suc i + 1 ≡ suc (i + 1) = omega arith in e) ∙ ap (λ l. y ∷ l) (take-one i ys x h)
+pub take_one : {A : Type 0} (i : ℕ) (xs : List A) (x : A) → slice_get xs i ≡ Some x → take (i + 1) xs ≡ take i xs ++ x ∷ []
+take_one i [] x h = absurd (cc h)
+take_one zero (y ∷ ys) x h = let e : y ≡ x = cc h in ap (λ (z : _). z ∷ []) e
+take_one (suc i) (y ∷ ys) x h =
+    ap (λ (n : ℕ). take n (y ∷ ys)) (let e : suc i + 1 ≡ suc (i + 1) = omega arith in e) ∙ ap (λ l. y ∷ l) (take_one i ys x h)
 
-pub got-or : {A : Type 0} (xs : List A) (i : ℕ) (d x : A) → slice_get xs i ≡ Some x → get_or xs i d ≡ x
-got-or [] i d x h = absurd (cc h)
-got-or (y ∷ ys) zero d x h = cc h
-got-or (y ∷ ys) (suc i) d x h = got-or ys i d x h
+pub got_or : {A : Type 0} (xs : List A) (i : ℕ) (d x : A) → slice_get xs i ≡ Some x → get_or xs i d ≡ x
+got_or [] i d x h = absurd (cc h)
+got_or (y ∷ ys) zero d x h = cc h
+got_or (y ∷ ys) (suc i) d x h = got_or ys i d x h
 
 -- ---- how many words a device has
 
-hot-size : (m : List (List ℕ)) (es : List Entry) → length (laid_entries m es) ≡ length m
-hot-size m es = laid-size m (map (λ e. (e.at, e.left)) es)
+hot_size : (m : List (List ℕ)) (es : List Entry) → length (laid_entries m es) ≡ length m
+hot_size m es = laid-size m (map (λ e. (e.at, e.left)) es)
 
-card-size : (n : ℕ) (l : DeckLine) (s : Warm) (live : Live) (base : Base) (w : Option WornAt) (m : List (List ℕ)) (es : List Entry) → length (words_left m es (card_line n l s live base w).after) ≡ length m
-card-size n l s (Running seat) (OnCard c) w m es = hot-size m es
-card-size n l s (Running seat) (AtFault cause p) w m es = hot-size m es
-card-size n l s Unpowered base w m es = hot-size m es
-card-size n l s Muted base w m es = hot-size m es
+card_size : (n : ℕ) (l : DeckLine) (s : Warm) (live : Live) (base : Base) (w : Option WornAt) (m : List (List ℕ)) (es : List Entry) → length (words_left m es (card_line n l s live base w).after) ≡ length m
+card_size n l s (Running seat) (OnCard c) w m es = hot_size m es
+card_size n l s (Running seat) (AtFault cause p) w m es = hot_size m es
+card_size n l s Unpowered base w m es = hot_size m es
+card_size n l s Muted base w m es = hot_size m es
 
 -- before the first power line the words are the image
 abbrev WordsOf : List (List ℕ) → State → Type 0
 WordsOf m (Cold i b a) = m ≡ i
 WordsOf m (Hot s) = ⊤
 
-formatted-size : (m : List (List ℕ)) → length (formatted m) ≡ length m
-formatted-size m = length-set _ heap_start _ ∙ length-set _ 130 _ ∙ length-set _ 2 _ ∙ length-set _ 1 _ ∙ length-set m 0 _
+formatted_size : (m : List (List ℕ)) → length (formatted_image m) ≡ length m
+formatted_size m = length-set _ heap_start _ ∙ length-set _ 130 _ ∙ length-set _ 2 _ ∙ length-set _ 1 _ ∙ length-set m 0 _
 
-left-size : (s : State) (n : ℕ) (l : DeckLine) (w : Option WornAt) (m : List (List ℕ)) (es : List Entry) → WordsOf m s → length (words_left m es (step s (n, l) w).after) ≡ length m
+left_size : (s : State) (n : ℕ) (l : DeckLine) (w : Option WornAt) (m : List (List ℕ)) (es : List Entry) → WordsOf m s → length (words_left m es (step s (n, l) w).after) ≡ length m
 unfolding step
-left-size (Cold i b a) n line.Format w m es e = ap (λ (x : List (List ℕ)). length (formatted x)) (sym e) ∙ formatted-size m
-left-size (Cold i b a) n (line.Poke at x) w m es e = ap (λ (y : List (List ℕ)). length (slice_set y at x)) (sym e) ∙ length-set m at x
-left-size (Cold i b a) n line.Power w m es e = hot-size m es
-left-size (Hot s) n (line.Load u fixed session) w m es e = card-size n (line.Load u fixed session) s s.live s.base w m es
-left-size (Hot s) n (line.Select x) w m es e = card-size n (line.Select x) s s.live s.base w m es
-left-size (Hot s) n (line.Delete x) w m es e = card-size n (line.Delete x) s s.live s.base w m es
-left-size (Hot s) n (line.Apdu x) w m es e = card-size n (line.Apdu x) s s.live s.base w m es
-left-size (Cold i b a) n _ w m es e = ap length (sym e)
-left-size (Hot s) n _ w m es e = hot-size m es
+left_size (Cold i b a) n line.Format w m es e = ap (λ (x : List (List ℕ)). length (formatted_image x)) (sym e) ∙ formatted_size m
+left_size (Cold i b a) n (line.Poke at x) w m es e = ap (λ (y : List (List ℕ)). length (slice_set y at x)) (sym e) ∙ length-set m at x
+left_size (Cold i b a) n line.Power w m es e = hot_size m es
+left_size (Hot s) n (line.Load u fixed session) w m es e = card_size n (line.Load u fixed session) s s.live s.base w m es
+left_size (Hot s) n (line.Select x) w m es e = card_size n (line.Select x) s s.live s.base w m es
+left_size (Hot s) n (line.Delete x) w m es e = card_size n (line.Delete x) s s.live s.base w m es
+left_size (Hot s) n (line.Apdu x) w m es e = card_size n (line.Apdu x) s s.live s.base w m es
+left_size (Cold i b a) n _ w m es e = ap length (sym e)
+left_size (Hot s) n _ w m es e = hot_size m es
 
 -- ---- what a recovery writes
 
-warmed-few : (m : List (List ℕ)) (b : ℕ) (a : Armed) → power_moves (warmed m b a) ≤ 71
-unfolding warmed
-warmed-few m b a =
-    let few = owed-most m in
-    let most = migration-most (warmed m b a).base in
+warmed_few : (m : List (List ℕ)) (b : ℕ) (a : Armed) → power_moves (play_at_power m b a) ≤ 71
+unfolding play_at_power
+warmed_few m b a =
+    let few = owed_most m in
+    let most = migration_most (play_at_power m b a).base in
     omega (arith, few, most)
 
 -- ---- what is told
 
-static-held : (o : Option App) (names : List (List ℕ)) (s : State) → told_by names (Some (static_of o)) s ≡ Holds (held_under names (running_in s))
-static-held None names s = refl
-static-held (Some a) names s = refl
+static_held : (o : Option App) (names : List (List ℕ)) (s : State) → state_by_result names (Some (static_of o)) s ≡ Holds (static_bytes_under names (running_in s))
+static_held None names s = refl
+static_held (Some a) names s = refl
 
-static-on : (o : Option App) → false ≡ is_off (Some (static_of o))
-static-on None = refl
-static-on (Some a) = refl
+static_on : (o : Option App) → false ≡ is_off (Some (static_of o))
+static_on None = refl
+static_on (Some a) = refl
 
 module _ {N : Type 0} (state : N → DeviceState) where
-  dump-held : (p : Power) (c : Card N) (aid : List ℕ) (names : List (List ℕ)) (s : State) → told_by names (Some (dump_value state p c aid)) s ≡ Holds (held_under names (running_in s))
-  dump-held power.Cold c aid names s = refl
-  dump-held power.Off c aid names s = refl
-  dump-held power.Mute c aid names s = refl
-  dump-held power.On c aid names s = static-held _ names s
+  dump_held : (p : Power) (c : Card N) (aid : List ℕ) (names : List (List ℕ)) (s : State) → state_by_result names (Some (dump_value state p c aid)) s ≡ Holds (static_bytes_under names (running_in s))
+  dump_held power.Cold c aid names s = refl
+  dump_held power.Off c aid names s = refl
+  dump_held power.Mute c aid names s = refl
+  dump_held power.On c aid names s = static_held _ names s
 
-  told-answer : (p : Player N) (a : Option Answer) (names : List (List ℕ)) (s : State) → told_with (fault_in a) (held_under names (running_in s)) ≡ told_by names (option_map (answer_value state p) a) s
-  told-answer p None names s = refl
-  told-answer p (Some answer.Formatted) names s = refl
-  told-answer p (Some (answer.Ready n)) names s = refl
-  told-answer p (Some (answer.Unusable u)) names s = refl
-  told-answer p (Some (answer.OffAt k)) names s = refl
-  told-answer p (Some answer.Worn) names s = refl
-  told-answer p (Some answer.NoCard) names s = refl
-  told-answer p (Some answer.Mute) names s = refl
-  told-answer p (Some answer.Outcome) names s = refl
-  told-answer p (Some (answer.Dump aid)) names s = sym (dump-held p.power p.card aid names s)
+  told_answer : (p : Player N) (a : Option Answer) (names : List (List ℕ)) (s : State) → state_by_fault (fault_in a) (static_bytes_under names (running_in s)) ≡ state_by_result names (option_map (answer_value state p) a) s
+  told_answer p None names s = refl
+  told_answer p (Some answer.Formatted) names s = refl
+  told_answer p (Some (answer.Ready n)) names s = refl
+  told_answer p (Some (answer.Unusable u)) names s = refl
+  told_answer p (Some (answer.OffAt k)) names s = refl
+  told_answer p (Some answer.Worn) names s = refl
+  told_answer p (Some answer.NoCard) names s = refl
+  told_answer p (Some answer.Mute) names s = refl
+  told_answer p (Some answer.Outcome) names s = refl
+  told_answer p (Some (answer.Dump aid)) names s = sym (dump_held p.power p.card aid names s)
 
-  dump-on : (p : Power) (c : Card N) (aid : List ℕ) → false ≡ is_off (Some (dump_value state p c aid))
-  dump-on power.Cold c aid = refl
-  dump-on power.Off c aid = refl
-  dump-on power.Mute c aid = refl
-  dump-on power.On c aid = static-on _
+  dump_on : (p : Power) (c : Card N) (aid : List ℕ) → false ≡ is_off (Some (dump_value state p c aid))
+  dump_on power.Cold c aid = refl
+  dump_on power.Off c aid = refl
+  dump_on power.Mute c aid = refl
+  dump_on power.On c aid = static_on _
 
-  pub off-answer : (p : Player N) (a : Option Answer) → off_in a ≡ is_off (option_map (answer_value state p) a)
-  off-answer p None = refl
-  off-answer p (Some answer.Formatted) = refl
-  off-answer p (Some (answer.Ready n)) = refl
-  off-answer p (Some (answer.Unusable u)) = refl
-  off-answer p (Some (answer.OffAt k)) = refl
-  off-answer p (Some answer.Worn) = refl
-  off-answer p (Some answer.NoCard) = refl
-  off-answer p (Some answer.Mute) = refl
-  off-answer p (Some answer.Outcome) = refl
-  off-answer p (Some (answer.Dump aid)) = dump-on p.power p.card aid
+  pub off_answer : (p : Player N) (a : Option Answer) → off_in a ≡ is_off (option_map (answer_value state p) a)
+  off_answer p None = refl
+  off_answer p (Some answer.Formatted) = refl
+  off_answer p (Some (answer.Ready n)) = refl
+  off_answer p (Some (answer.Unusable u)) = refl
+  off_answer p (Some (answer.OffAt k)) = refl
+  off_answer p (Some answer.Worn) = refl
+  off_answer p (Some answer.NoCard) = refl
+  off_answer p (Some answer.Mute) = refl
+  off_answer p (Some answer.Outcome) = refl
+  off_answer p (Some (answer.Dump aid)) = dump_on p.power p.card aid
 
   -- what a player shows is on the card that runs
-  live-statics : (p : Power) (c : Card N) (b : Base) (v : Live) (n : List ℕ) → LiveIs state p c b v → statics_by state p c n ≡ option_map (λ a. a.fixed) (lookup (running_apps v b) n)
-  live-statics power.Cold c b v n h = absurd h
-  live-statics power.Off c b v n h = ap (λ (u : Live). option_map (λ a. a.fixed) (lookup (running_apps u b) n)) (sym h)
-  live-statics power.Mute c b v n h = ap (λ (u : Live). option_map (λ a. a.fixed) (lookup (running_apps u b) n)) (sym h)
-  live-statics power.On c b v n h =
+  live_statics : (p : Power) (c : Card N) (b : Base) (v : Live) (n : List ℕ) → LiveIs state p c b v → statics_by state p c n ≡ option_map (λ a. a.fixed) (lookup (running_apps v b) n)
+  live_statics power.Cold c b v n h = absurd h
+  live_statics power.Off c b v n h = ap (λ (u : Live). option_map (λ a. a.fixed) (lookup (running_apps u b) n)) (sym h)
+  live_statics power.Mute c b v n h = ap (λ (u : Live). option_map (λ a. a.fixed) (lookup (running_apps u b) n)) (sym h)
+  live_statics power.On c b v n h =
       ap (λ (u : Live). option_map (λ a. a.fixed) (lookup (running_apps u (OnCard (card_in state c))) n)) (sym h.live)
       ∙ ap (λ (x : Base). option_map (λ a. a.fixed) (lookup (running_apps v x) n)) (sym h.base)
 
-  cold-statics : (p : Power) (c : Card N) (n : List ℕ) → p ≡ power.Cold → statics_by state p c n ≡ None
-  cold-statics p c n h = ap (λ (q : Power). statics_by state q c n) h
+  cold_statics : (p : Power) (c : Card N) (n : List ℕ) → p ≡ power.Cold → statics_by state p c n ≡ None
+  cold_statics p c n h = ap (λ (q : Power). statics_by state q c n) h
 
-  state-statics : (p : Power) (c : Card N) (s : State) (n : List ℕ) → StateIs state p c s → statics_by state p c n ≡ option_map (λ a. a.fixed) (lookup (running_in s) n)
-  state-statics p c (Cold m b a) n h = cold-statics p c n h.0
-  state-statics p c (Hot w) n h = live-statics p c w.base w.live n h.0
+  state_statics : (p : Power) (c : Card N) (s : State) (n : List ℕ) → StateIs state p c s → statics_by state p c n ≡ option_map (λ a. a.fixed) (lookup (running_in s) n)
+  state_statics p c (Cold m b a) n h = cold_statics p c n h.0
+  state_statics p c (Hot w) n h = live_statics p c w.base w.live n h.0
 
-  all-statics : (p : Player N) (s : State) (names : List (List ℕ)) → StateIs state p.power p.card s → map (statics_in state p) names ≡ held_under names (running_in s)
-  all-statics p s [] h = refl
-  all-statics p s (n ∷ ns) h =
-      ap (λ (x : Option (List ℕ)). x ∷ map (statics_in state p) ns) (state-statics p.power p.card s n h)
-      ∙ ap (λ (l : List (Option (List ℕ))). option_map (λ a. a.fixed) (lookup (running_in s) n) ∷ l) (all-statics p s ns h)
+  all_statics : (p : Player N) (s : State) (names : List (List ℕ)) → StateIs state p.power p.card s → map (statics_in state p) names ≡ static_bytes_under names (running_in s)
+  all_statics p s [] h = refl
+  all_statics p s (n ∷ ns) h =
+      ap (λ (x : Option (List ℕ)). x ∷ map (statics_in state p) ns) (state_statics p.power p.card s n h)
+      ∙ ap (λ (l : List (Option (List ℕ))). option_map (λ a. a.fixed) (lookup (running_in s) n) ∷ l) (all_statics p s ns h)
 
 module _ {N : Type 0} (state : N → DeviceState) (bench : N → BenchState) where
   -- ---- a line
 
-  pub line-on : {R : Type 0} (told : R → List Turn → R → Type 0) (p q : Player N) (l : DeckLine) (before after : R) (a : Option Answer) → LineDone state bench told p l before after a q
+  pub line_on : {R : Type 0} (told : R → List Turn → R → Type 0) (p q : Player N) (l : DeckLine) (before after : R) (a : Option Answer) → LineDone state bench told p l before after a q
       → (s : State) (n : ℕ) → IsSteadyAt state bench p s → LineOn state bench s (n, l) a q
-  line-on told p q l before after a done s n h =
+  line_on told p q l before after a done s n h =
       let d = done s n h.at in
       let st = d.1.stepped in
-      let worn : d.0 ≡ steady_at (armed_in s) l (moves_of s (n, l)) = st.played.steady h.steady in
+      let worn : d.0 ≡ steady_at (armed_stop_in s) l (moves_of s (n, l)) = st.played.steady h.steady in
       record {
         at = record { at = subst (λ (w : Option WornAt). IsPlayerAt state bench q (step s (n, l) w).after) worn st.at; steady = st.played.counts.counts.steady ∙ h.steady };
         answers = st.answers ∙ ap (λ (w : Option WornAt). (step s (n, l) w).result) worn;
       }
 
-  pub line-playing : {R : Type 0} (told : R → List Turn → R → Type 0) (p q : Player N) (l : DeckLine) (before after : R) (a : Option Answer) → LineDone state bench told p l before after a q → IsPlaying state bench p → IsPlaying state bench q
-  line-playing told p q l before after a done h =
+  pub line_playing : {R : Type 0} (told : R → List Turn → R → Type 0) (p q : Player N) (l : DeckLine) (before after : R) (a : Option Answer) → LineDone state bench told p l before after a q → IsPlaying state bench p → IsPlaying state bench q
+  line_playing told p q l before after a done h =
       let d = done h.0 0 h.1 in
       ((step h.0 (0, l) d.0).after, d.1.stepped.at)
 
-  words-of : (p : Power) (c : Card N) (s : State) → StateIs state p c s → WordsOf (state (device_in c)).words s
-  words-of p c (Cold m b a) h = h.1
-  words-of p c (Hot w) h = tt
+  words_of : (p : Power) (c : Card N) (s : State) → StateIs state p c s → WordsOf (state (device_in c)).words s
+  words_of p c (Cold m b a) h = h.1
+  words_of p c (Hot w) h = tt
 
-  pub line-size : {R : Type 0} (told : R → List Turn → R → Type 0) (p q : Player N) (l : DeckLine) (before after : R) (a : Option Answer) → LineDone state bench told p l before after a q → IsPlaying state bench p
+  pub line_size : {R : Type 0} (told : R → List Turn → R → Type 0) (p q : Player N) (l : DeckLine) (before after : R) (a : Option Answer) → LineDone state bench told p l before after a q → IsPlaying state bench p
       → length (state (device_of q)).words ≡ length (state (device_of p)).words
-  line-size told p q l before after a done h =
+  line_size told p q l before after a done h =
       let d = done h.0 0 h.1 in
       let tape = d.1.stepped.played.tape in
-      sym (ap length tape.left) ∙ left-size h.0 0 l d.0 (state (device_of p)).words tape.entries (words-of p.power p.card h.0 h.1.stands)
+      sym (ap length tape.left) ∙ left_size h.0 0 l d.0 (state (device_of p)).words tape.entries (words_of p.power p.card h.0 h.1.stands)
 
   -- ---- the lines before a line
 
-  pub front-start : (d : N) (p : Player N) → IsPlayerAt state bench p (start (state d).words) → device_of p ≡ d → (bench d).steady ≡ true → (state d).words ≡ blank_words device_words → (ls : List (ℕ × DeckLine)) → IsSteadyAt state bench p (played (take 0 ls))
-  unfolding played_from plays steady_worn
-  front-start d p at device steady words ls =
+  pub front_start : (d : N) (p : Player N) → IsPlayerAt state bench p (start (state d).words) → device_of p ≡ d → (bench d).steady ≡ true → (state d).words ≡ blank_words device_words → (ls : List (ℕ × DeckLine)) → IsSteadyAt state bench p (state_on_blank (take 0 ls))
+  unfolding state_after_lines plays steady_worn
+  front_start d p at device steady words ls =
       record {
         at = subst (λ (m : List (List ℕ)). IsPlayerAt state bench p (start m)) words at;
         steady = ap (λ (e : N). (bench e).steady) device ∙ steady;
       }
 
-  pub front-on : (p q : Player N) (ls : List (ℕ × DeckLine)) (i n : ℕ) (l : DeckLine) (a : Option Answer) → slice_get ls i ≡ Some (n, l)
-      → ((s : State) (n : ℕ) → IsSteadyAt state bench p s → LineOn state bench s (n, l) a q) → IsSteadyAt state bench p (played (take i ls)) → IsSteadyAt state bench q (played (take (i + 1) ls))
-  front-on p q ls i n l a here on h =
-      subst (λ (s : State). IsSteadyAt state bench q s) (sym (ap played (take-one i ls (n, l) here) ∙ played-one (take i ls) (n, l))) (on (played (take i ls)) n h).at
+  pub front_on : (p q : Player N) (ls : List (ℕ × DeckLine)) (i n : ℕ) (l : DeckLine) (a : Option Answer) → slice_get ls i ≡ Some (n, l)
+      → ((s : State) (n : ℕ) → IsSteadyAt state bench p s → LineOn state bench s (n, l) a q) → IsSteadyAt state bench p (state_on_blank (take i ls)) → IsSteadyAt state bench q (state_on_blank (take (i + 1) ls))
+  front_on p q ls i n l a here on h =
+      subst (λ (s : State). IsSteadyAt state bench q s) (sym (ap state_on_blank (take_one i ls (n, l) here) ∙ played_one (take i ls) (n, l))) (on (state_on_blank (take i ls)) n h).at
 
   -- ---- a line with a write cut
 
-  pub cut-on : (p m q : Player N) (l : DeckLine) (k : ℕ) (fill : List ℕ) (armed a : Option Answer) (hit : Bool)
+  pub cut_on : (p m q : Player N) (l : DeckLine) (k : ℕ) (fill : List ℕ) (armed a : Option Answer) (hit : Bool)
       → ((s : State) (n : ℕ) → IsSteadyAt state bench p s → LineOn state bench s (n, line.Cut k fill) armed m)
       → ((s : State) (n : ℕ) → IsSteadyAt state bench m s → LineOn state bench s (n, l) a q) → hit ≡ off_in a
       → (s : State) (i n : ℕ) → IsSteadyAt state bench p s → CutOn state bench s (n, l) i k fill hit q
-  cut-on p m q l k fill armed a hit first second is s i n h =
+  cut_on p m q l k fill armed a hit first second is s i n h =
       let one = first s i h in
       let two = second (next s (i, line.Cut k fill)) n one.at in
-      record { at = two.at; says = is ∙ off-answer state q a ∙ ap is_off two.answers }
+      record { at = two.at; says = is ∙ off_answer state q a ∙ ap is_off two.answers }
 
   -- ---- what stands behind them
 
-  at-lines : (q : Player N) (s t : State) → t ≡ s → IsSteadyAt state bench q s → IsSteadyAt state bench q t
-  at-lines q s t e h = subst (λ (u : State). IsSteadyAt state bench q u) (sym e) h
+  at_lines : (q : Player N) (s t : State) → t ≡ s → IsSteadyAt state bench q s → IsSteadyAt state bench q t
+  at_lines q s t e h = subst (λ (u : State). IsSteadyAt state bench q u) (sym e) h
 
-  pub nothing-on : (p : Player N) (hit : Bool) → hit ≡ true → (front : List (ℕ × DeckLine)) (l : ℕ × DeckLine) → IsSteadyAt state bench p (played front) → BehindOn state bench front l behind.Nothing hit p
-  nothing-on p hit is front l h = record { at = h; says = is }
+  pub nothing_on : (p : Player N) (hit : Bool) → hit ≡ true → (front : List (ℕ × DeckLine)) (l : ℕ × DeckLine) → IsSteadyAt state bench p (state_on_blank front) → BehindOn state bench front l behind.Nothing hit p
+  nothing_on p hit is front l h = record { at = h; says = is }
 
-  pub whole-on : (q : Player N) (l : DeckLine) (a : Option Answer) (p : Player N) (hit : Bool) → hit ≡ true → ((s : State) (n : ℕ) → IsSteadyAt state bench p s → LineOn state bench s (n, l) a q)
-      → (front : List (ℕ × DeckLine)) (n : ℕ) → IsSteadyAt state bench p (played front) → BehindOn state bench front (n, l) behind.Whole hit q
-  whole-on q l a p hit is on front n h =
-      record { at = at-lines q (next (played front) (n, l)) (played (front ++ (n, l) ∷ [])) (played-one front (n, l)) (on (played front) n h).at; says = is }
+  pub whole_on : (q : Player N) (l : DeckLine) (a : Option Answer) (p : Player N) (hit : Bool) → hit ≡ true → ((s : State) (n : ℕ) → IsSteadyAt state bench p s → LineOn state bench s (n, l) a q)
+      → (front : List (ℕ × DeckLine)) (n : ℕ) → IsSteadyAt state bench p (state_on_blank front) → BehindOn state bench front (n, l) behind.Whole hit q
+  whole_on q l a p hit is on front n h =
+      record { at = at_lines q (next (state_on_blank front) (n, l)) (state_on_blank (front ++ (n, l) ∷ [])) (played_one front (n, l)) (on (state_on_blank front) n h).at; says = is }
 
-  pub cut-behind : (p q : Player N) (l : DeckLine) (k : ℕ) (fill : List ℕ) (hit : Bool) → ((s : State) (i n : ℕ) → IsSteadyAt state bench p s → CutOn state bench s (n, l) i k fill hit q)
-      → (front : List (ℕ × DeckLine)) (n : ℕ) → IsSteadyAt state bench p (played front) → BehindOn state bench front (n, l) (behind.Cut k fill) hit q
-  cut-behind p q l k fill hit on front n h =
-      let c = on (played front) n n h in
-      record { at = at-lines q (next (next (played front) (cut n k fill)) (n, l)) (played (front ++ cut n k fill ∷ (n, l) ∷ [])) (played-two front (cut n k fill) (n, l)) c.at; says = c.says }
+  pub cut_behind : (p q : Player N) (l : DeckLine) (k : ℕ) (fill : List ℕ) (hit : Bool) → ((s : State) (i n : ℕ) → IsSteadyAt state bench p s → CutOn state bench s (n, l) i k fill hit q)
+      → (front : List (ℕ × DeckLine)) (n : ℕ) → IsSteadyAt state bench p (state_on_blank front) → BehindOn state bench front (n, l) (behind.Cut k fill) hit q
+  cut_behind p q l k fill hit on front n h =
+      let c = on (state_on_blank front) n n h in
+      record { at = at_lines q (next (next (state_on_blank front) (cut_statement n k fill)) (n, l)) (state_on_blank (front ++ cut_statement n k fill ∷ (n, l) ∷ [])) (played_two front (cut_statement n k fill) (n, l)) c.at; says = c.says }
 
-  pub twice-behind : (p m q : Player N) (l : DeckLine) (k : ℕ) (fill : List ℕ) (again : ℕ) (first hit : Bool)
+  pub twice_behind : (p m q : Player N) (l : DeckLine) (k : ℕ) (fill : List ℕ) (again : ℕ) (first hit : Bool)
       → ((s : State) (i n : ℕ) → IsSteadyAt state bench p s → CutOn state bench s (n, l) i k fill first m)
       → ((s : State) (i n : ℕ) → IsSteadyAt state bench m s → CutOn state bench s (n, line.Power) i again fill hit q)
-      → (front : List (ℕ × DeckLine)) (n : ℕ) → IsSteadyAt state bench p (played front) → BehindOn state bench front (n, l) (behind.Twice k fill again) hit q
-  twice-behind p m q l k fill again first hit one two front n h =
-      let b = cut-behind p m l k fill first one front n h in
-      let lines = front ++ cut n k fill ∷ (n, l) ∷ [] in
-      let c = two (played lines) n n b.at in
+      → (front : List (ℕ × DeckLine)) (n : ℕ) → IsSteadyAt state bench p (state_on_blank front) → BehindOn state bench front (n, l) (behind.Twice k fill again) hit q
+  twice_behind p m q l k fill again first hit one two front n h =
+      let b = cut_behind p m l k fill first one front n h in
+      let lines = front ++ cut_statement n k fill ∷ (n, l) ∷ [] in
+      let c = two (state_on_blank lines) n n b.at in
       record {
-        at = at-lines q (next (next (played lines) (cut n again fill)) (n, line.Power)) (played (lines ++ cut n again fill ∷ (n, line.Power) ∷ [])) (played-two lines (cut n again fill) (n, line.Power)) c.at;
+        at = at_lines q (next (next (state_on_blank lines) (cut_statement n again fill)) (n, line.Power)) (state_on_blank (lines ++ cut_statement n again fill ∷ (n, line.Power) ∷ [])) (played_two lines (cut_statement n again fill) (n, line.Power)) c.at;
         says = c.says;
       }
 
   -- ---- what is told behind a power line
 
-  pub told-on : (q : Player N) (ls : List (ℕ × DeckLine)) (names : List (List ℕ)) (a : Option Answer) (f : Option Unusable) (held : List (Option (List ℕ)))
-      → LineOn state bench (played ls) (0, line.Power) a q → f ≡ fault_in a → held ≡ map (statics_in state q) names → told_with f held ≡ told names ls
-  unfolding told
-  told-on q ls names a f held on f_is held_is =
-      let s = next (played ls) (0, line.Power) in
-      ap (λ (x : Option Unusable). told_with x held) f_is
-      ∙ ap (λ (h : List (Option (List ℕ))). told_with (fault_in a) h) (held_is ∙ all-statics state q s names on.at.at.stands)
-      ∙ told-answer state q a names s
-      ∙ ap (λ (r : Option LineResult). told_by names r s) on.answers
+  pub told_on : (q : Player N) (ls : List (ℕ × DeckLine)) (names : List (List ℕ)) (a : Option Answer) (f : Option Unusable) (held : List (Option (List ℕ)))
+      → LineOn state bench (state_on_blank ls) (0, line.Power) a q → f ≡ fault_in a → held ≡ map (statics_in state q) names → state_by_fault f held ≡ state_after_power names ls
+  unfolding state_after_power
+  told_on q ls names a f held on f_is held_is =
+      let s = next (state_on_blank ls) (0, line.Power) in
+      ap (λ (x : Option Unusable). state_by_fault x held) f_is
+      ∙ ap (λ (h : List (Option (List ℕ))). state_by_fault (fault_in a) h) (held_is ∙ all_statics state q s names on.at.at.stands)
+      ∙ told_answer state q a names s
+      ∙ ap (λ (r : Option LineResult). state_by_result names r s) on.answers
 
   -- ---- how much a recovery writes
 
-  power-few-by : (p : Power) (c : Card N) (s : State) (n : ℕ) → StateIs state p c s → moves_of s (n, line.Power) ≤ 65535
+  power_few_by : (p : Power) (c : Card N) (s : State) (n : ℕ) → StateIs state p c s → moves_of s (n, line.Power) ≤ 65535
   unfolding moves_of step
-  power-few-by p c (Cold m b a) n h = let few = warmed-few m b a in omega (arith, few)
-  power-few-by p c (Hot w) n h =
-      let few = owed-most (state (device_in c)).words in
+  power_few_by p c (Cold m b a) n h = let few = warmed_few m b a in omega (arith, few)
+  power_few_by p c (Hot w) n h =
+      let few = owed_most (state (device_in c)).words in
       let is = h.1.owed in
-      let most = migration-most w.base in
+      let most = migration_most w.base in
       omega (arith, few, is, most)
 
-  pub power-few : (p : Player N) (s : State) (n : ℕ) → IsSteadyAt state bench p s → moves_of s (n, line.Power) ≤ 65535
-  power-few p s n h = power-few-by p.power p.card s n h.at.stands
+  pub power_few : (p : Player N) (s : State) (n : ℕ) → IsSteadyAt state bench p s → moves_of s (n, line.Power) ≤ 65535
+  power_few p s n h = power_few_by p.power p.card s n h.at.stands
 
   -- ---- one play
 
   module _ (p : Place) (b : Behind) (x : ℕ × DeckLine) (here : slice_get p.deck.now p.at ≡ Some x) (hit : Bool) (m : Player N) (behind_on : BehindOn state bench (front_of p) x b hit m) where
-    line-is : x ≡ line_in p
-    line-is = sym (got-or p.deck.now p.at (0, line.Named) x here)
+    line_is : x ≡ line_in p
+    line_is = sym (got_or p.deck.now p.at (0, line.Named) x here)
 
-    pub trial-told : (q : Player N) (a : Option Answer) (f : Option Unusable) (held : List (Option (List ℕ))) → ((s : State) (n : ℕ) → IsSteadyAt state bench m s → LineOn state bench s (n, line.Power) a q)
-        → f ≡ fault_in a → held ≡ map (statics_in state q) (names_in p) → told_with f held ≡ told_in p b
-    trial-told q a f held on f_is held_is =
+    pub trial_told : (q : Player N) (a : Option Answer) (f : Option Unusable) (held : List (Option (List ℕ))) → ((s : State) (n : ℕ) → IsSteadyAt state bench m s → LineOn state bench s (n, line.Power) a q)
+        → f ≡ fault_in a → held ≡ map (statics_in state q) (names_in p) → state_by_fault f held ≡ state_at_place p b
+    trial_told q a f held on f_is held_is =
         let ls = lines_behind (front_of p) x b in
-        told-on q ls (names_in p) a f held (on (played ls) 0 behind_on.at) f_is held_is ∙ ap (λ (l : ℕ × DeckLine). told (names_in p) (lines_behind (front_of p) l b)) line-is
+        told_on q ls (names_in p) a f held (on (state_on_blank ls) 0 behind_on.at) f_is held_is ∙ ap (λ (l : ℕ × DeckLine). state_after_power (names_in p) (lines_behind (front_of p) l b)) line_is
 
-    pub trial-hit : hit ≡ hit_in p b
-    trial-hit = behind_on.says ∙ ap (λ (l : ℕ × DeckLine). hits (front_of p) l b) line-is
+    pub trial_hit : hit ≡ hit_in p b
+    trial_hit = behind_on.says ∙ ap (λ (l : ℕ × DeckLine). hits (front_of p) l b) line_is
 
-  few-cut : (p : Place) (k : ℕ) (fill : List ℕ) (hit : Bool) (m : Player N) → BehindOn state bench (front_of p) (line_in p) (behind.Cut k fill) hit m → again_in p k fill ≤ 65535
-  few-cut p k fill hit m on = power-few m (played (under_cut (front_of p) (line_in p) k fill)) (line_in p).0 on.at
+  few_cut : (p : Place) (k : ℕ) (fill : List ℕ) (hit : Bool) (m : Player N) → BehindOn state bench (front_of p) (line_in p) (behind.Cut k fill) hit m → again_in p k fill ≤ 65535
+  few_cut p k fill hit m on = power_few m (state_on_blank (under_cut (front_of p) (line_in p) k fill)) (line_in p).0 on.at
 
-  few-by : (p : Place) (b : Behind) (hit : Bool) (m : Player N) → BehindOn state bench (front_of p) (line_in p) b hit m → IsFewBehind p b
-  few-by p behind.Nothing hit m on = tt
-  few-by p behind.Whole hit m on = tt
-  few-by p (behind.Cut k fill) hit m on = few-cut p k fill hit m on
-  few-by p (behind.Twice k fill again) hit m on = tt
+  few_by : (p : Place) (b : Behind) (hit : Bool) (m : Player N) → BehindOn state bench (front_of p) (line_in p) b hit m → IsFewBehind p b
+  few_by p behind.Nothing hit m on = tt
+  few_by p behind.Whole hit m on = tt
+  few_by p (behind.Cut k fill) hit m on = few_cut p k fill hit m on
+  few_by p (behind.Twice k fill again) hit m on = tt
 
-  pub trial-few : (p : Place) (b : Behind) (x : ℕ × DeckLine) → slice_get p.deck.now p.at ≡ Some x → (hit : Bool) (m : Player N) → BehindOn state bench (front_of p) x b hit m → IsFewBehind p b
-  trial-few p b x here hit m on =
-      few-by p b hit m (subst (λ (l : ℕ × DeckLine). BehindOn state bench (front_of p) l b hit m) (sym (got-or p.deck.now p.at (0, line.Named) x here)) on)
+  pub trial_few : (p : Place) (b : Behind) (x : ℕ × DeckLine) → slice_get p.deck.now p.at ≡ Some x → (hit : Bool) (m : Player N) → BehindOn state bench (front_of p) x b hit m → IsFewBehind p b
+  trial_few p b x here hit m on =
+      few_by p b hit m (subst (λ (l : ℕ × DeckLine). BehindOn state bench (front_of p) l b hit m) (sym (got_or p.deck.now p.at (0, line.Named) x here)) on)
 
 -- ---- what is held under names
 
-pub held-is : (o : Option (List ℕ)) (n m : ℕ) (held into : List ℕ) → Some n ≡ option_map length o → ((fixed : List ℕ) → o ≡ Some fixed → into ≡ take m (drop 0 fixed)) → m ≡ n → held ≡ into → Some held ≡ o
-held-is None n m held into h is size kept = absurd (cc h)
-held-is (Some fixed) n m held into h is size kept =
+pub held_is_statics : (o : Option (List ℕ)) (n m : ℕ) (held into : List ℕ) → Some n ≡ option_map length o → ((fixed : List ℕ) → o ≡ Some fixed → into ≡ take m (drop 0 fixed)) → m ≡ n → held ≡ into → Some held ≡ o
+held_is_statics None n m held into h is size kept = absurd (cc h)
+held_is_statics (Some fixed) n m held into h is size kept =
     let long : n ≡ length fixed = cc h in
     ap Some (kept ∙ is fixed refl ∙ take_all m fixed (omega (arith, size, long)))
 
-pub held-more : {A B C : Type 0} (f : A → C) (g : B → C) (i : ℕ) (held : List A) (names : List B) (x : A) (n : B) → i < length held → slice_get names i ≡ Some n → f x ≡ g n
+pub held_more : {A B C : Type 0} (f : A → C) (g : B → C) (i : ℕ) (held : List A) (names : List B) (x : A) (n : B) → i < length held → slice_get names i ≡ Some n → f x ≡ g n
     → map f (take i held) ≡ map g (take i names) → map f (take (i + 1) (slice_set held i x)) ≡ map g (take (i + 1) names)
-held-more f g i held names x n lt here is h =
-    ap (map f) (take-set i held x lt)
-    ∙ map-append f (take i held) (x ∷ [])
+held_more f g i held names x n lt here is h =
+    ap (map f) (take_set i held x lt)
+    ∙ map_append f (take i held) (x ∷ [])
     ∙ ap (λ l. l ++ f x ∷ []) h
     ∙ ap (λ y. map g (take i names) ++ y ∷ []) is
-    ∙ sym (ap (map g) (take-one i names n here) ∙ map-append g (take i names) (n ∷ []))
+    ∙ sym (ap (map g) (take_one i names n here) ∙ map_append g (take i names) (n ∷ []))
 
-pub held-all : {A B C : Type 0} (f : A → C) (g : B → C) (i : ℕ) (held : List A) (names : List B) → length held ≡ length names → length names ≤ i
+pub held_all : {A B C : Type 0} (f : A → C) (g : B → C) (i : ℕ) (held : List A) (names : List B) → length held ≡ length names → length names ≤ i
     → map f (take i held) ≡ map g (take i names) → map f held ≡ map g names
-held-all f g i held names size all h =
+held_all f g i held names size all h =
     ap (map f) (sym (take_all i held (omega (arith, size, all)))) ∙ h ∙ ap (map g) (take_all i names all)

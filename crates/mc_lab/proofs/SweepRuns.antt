@@ -7,12 +7,12 @@ use Rattle.mc_lab.specs.Sweeps.{Tried, count_from, Run, is_word, with_write, run
 use Rattle.mc_lab.specs.declared.sweep_word.Word.{Word}
 use Rattle.mc_lab.specs.declared.sweep_word.Word.TheVariants.{Before, After, Same, Between, Torn}
 
-pub word-itself : (w : Word) → is_word w w ≡ true
-word-itself Before = refl
-word-itself After = refl
-word-itself Same = refl
-word-itself Between = refl
-word-itself Torn = refl
+pub word_itself : (w : Word) → is_word w w ≡ true
+word_itself Before = refl
+word_itself After = refl
+word_itself Same = refl
+word_itself Between = refl
+word_itself Torn = refl
 
 -- the words of some writes
 abbrev pub words : List Tried → List Word
@@ -21,53 +21,53 @@ words ts = map (λ t. t.word) ts
 -- ---- what is true of each write is true of each run
 
 module _ (P : Word → Type 0) where
-  joined-all : (b : Bool) (k : ℕ) (w : Word) (r : Run) (rs : List Run) → P w → P r.word → AllByRecursion (λ r. P r.word) rs
+  joined_all : (b : Bool) (k : ℕ) (w : Word) (r : Run) (rs : List Run) → P w → P r.word → AllByRecursion (λ r. P r.word) rs
       → AllByRecursion (λ r. P r.word) (cond b (record r { first = k } ∷ rs) (record { first = k; last = k; word = w } ∷ r ∷ rs))
-  joined-all true k w r rs here first rest = (first, rest)
-  joined-all false k w r rs here first rest = (here, (first, rest))
+  joined_all true k w r rs here first rest = (first, rest)
+  joined_all false k w r rs here first rest = (here, (first, rest))
 
-  with-all : (k : ℕ) (w : Word) (rs : List Run) → P w → AllByRecursion (λ r. P r.word) rs → AllByRecursion (λ r. P r.word) (with_write k w rs)
-  with-all k w [] here all = (here, tt)
-  with-all k w (r ∷ rs) here all = joined-all (is_word w r.word) k w r rs here all.0 all.1
+  with_all : (k : ℕ) (w : Word) (rs : List Run) → P w → AllByRecursion (λ r. P r.word) rs → AllByRecursion (λ r. P r.word) (with_write k w rs)
+  with_all k w [] here all = (here, tt)
+  with_all k w (r ∷ rs) here all = joined_all (is_word w r.word) k w r rs here all.0 all.1
 
-  pub all-runs : (k : ℕ) (ts : List Tried) → AllByRecursion (λ t. P t.word) ts → AllByRecursion (λ r. P r.word) (runs k (words ts))
-  all-runs k [] all = tt
-  all-runs k (t ∷ ts) all = with-all k t.word (runs (k + 1) (words ts)) all.0 (all-runs (k + 1) ts all.1)
+  pub all_runs : (k : ℕ) (ts : List Tried) → AllByRecursion (λ t. P t.word) ts → AllByRecursion (λ r. P r.word) (runs k (words ts))
+  all_runs k [] all = tt
+  all_runs k (t ∷ ts) all = with_all k t.word (runs (k + 1) (words ts)) all.0 (all_runs (k + 1) ts all.1)
 
 -- what is true at each number is true of each that is counted
-pub all-counted : {A : Type 0} (Q : A → Type 0) (f : ℕ → A) (k n : ℕ) → ((j : ℕ) → k ≤ j → j < k + n → Q (f j)) → AllByRecursion Q (map f (count_from k n))
-all-counted Q f k zero h = tt
-all-counted Q f k (suc n) h = (h k (omega arith) (omega arith), all-counted Q f (k + 1) n (λ j low high. h j (omega arith) (omega arith)))
+pub all_counted : {A : Type 0} (Q : A → Type 0) (f : ℕ → A) (k n : ℕ) → ((j : ℕ) → k ≤ j → j < k + n → Q (f j)) → AllByRecursion Q (map f (count_from k n))
+all_counted Q f k zero h = tt
+all_counted Q f k (suc n) h = (h k (omega arith) (omega arith), all_counted Q f (k + 1) n (λ j low high. h j (omega arith) (omega arith)))
 
 -- ---- writes of one word, and of two
 
-pub with-same : (k last : ℕ) (v w : Word) (rs : List Run) → v ≡ w → with_write k v (record { first = k + 1; last = last; word = w } ∷ rs) ≡ record { first = k; last = last; word = w } ∷ rs
-with-same k last v w rs e =
+pub with_same : (k last : ℕ) (v w : Word) (rs : List Run) → v ≡ w → with_write k v (record { first = k + 1; last = last; word = w } ∷ rs) ≡ record { first = k; last = last; word = w } ∷ rs
+with_same k last v w rs e =
     ap (λ (x : Word). with_write k x (record { first = k + 1; last = last; word = w } ∷ rs)) e
-    ∙ ap (λ (b : Bool). cond b (record { first = k; last = last; word = w } ∷ rs) (record { first = k; last = k; word = w } ∷ record { first = k + 1; last = last; word = w } ∷ rs)) (word-itself w)
+    ∙ ap (λ (b : Bool). cond b (record { first = k; last = last; word = w } ∷ rs) (record { first = k; last = k; word = w } ∷ record { first = k + 1; last = last; word = w } ∷ rs)) (word_itself w)
 
 module _ (f : ℕ → Tried) where
-  pub runs-all : (w : Word) (n k : ℕ) → ((j : ℕ) → k ≤ j → j < k + suc n → (f j).word ≡ w) → runs k (words (map f (count_from k (suc n)))) ≡ record { first = k; last = k + n; word = w } ∷ []
-  runs-all w zero k h =
+  pub runs_all : (w : Word) (n k : ℕ) → ((j : ℕ) → k ≤ j → j < k + suc n → (f j).word ≡ w) → runs k (words (map f (count_from k (suc n)))) ≡ record { first = k; last = k + n; word = w } ∷ []
+  runs_all w zero k h =
       ap (λ (x : Word). record { first = k; last = k; word = x } ∷ []) (h k (omega arith) (omega arith))
       ∙ ap (λ (i : ℕ). record { first = k; last = i; word = w } ∷ []) (let e : k ≡ k + 0 = omega arith in e)
-  runs-all w (suc n) k h =
-      ap (λ (rs : List Run). with_write k (f k).word rs) (runs-all w n (k + 1) (λ j low high. h j (omega arith) (omega arith)))
-      ∙ with-same k (k + 1 + n) (f k).word w [] (h k (omega arith) (omega arith))
+  runs_all w (suc n) k h =
+      ap (λ (rs : List Run). with_write k (f k).word rs) (runs_all w n (k + 1) (λ j low high. h j (omega arith) (omega arith)))
+      ∙ with_same k (k + 1 + n) (f k).word w [] (h k (omega arith) (omega arith))
       ∙ ap (λ (i : ℕ). record { first = k; last = i; word = w } ∷ []) (let e : k + 1 + n ≡ k + suc n = omega arith in e)
 
   -- those up to g are `before`, and the others `after`
-  pub runs-split : (n k g : ℕ) → k ≤ g → g < k + n → ((j : ℕ) → k ≤ j → j ≤ g → (f j).word ≡ Before) → ((j : ℕ) → g < j → j < k + suc n → (f j).word ≡ After)
+  pub runs_split : (n k g : ℕ) → k ≤ g → g < k + n → ((j : ℕ) → k ≤ j → j ≤ g → (f j).word ≡ Before) → ((j : ℕ) → g < j → j < k + suc n → (f j).word ≡ After)
       → runs k (words (map f (count_from k (suc n)))) ≡ record { first = k; last = g; word = Before } ∷ record { first = g + 1; last = k + n; word = After } ∷ []
-  runs-split zero k g low high before after = absurd (omega arith)
-  runs-split (suc n) k g low high before after = elim (cases_lt k g) [
+  runs_split zero k g low high before after = absurd (omega arith)
+  runs_split (suc n) k g low high before after = elim (cases_lt k g) [
     | inl later ↦
-        ap (λ (rs : List Run). with_write k (f k).word rs) (runs-split n (k + 1) g (omega arith) (omega arith) (λ j l h. before j (omega arith) h) (λ j l h. after j l (omega arith)))
-        ∙ with-same k g (f k).word Before (record { first = g + 1; last = k + 1 + n; word = After } ∷ []) (before k (omega arith) low)
+        ap (λ (rs : List Run). with_write k (f k).word rs) (runs_split n (k + 1) g (omega arith) (omega arith) (λ j l h. before j (omega arith) h) (λ j l h. after j l (omega arith)))
+        ∙ with_same k g (f k).word Before (record { first = g + 1; last = k + 1 + n; word = After } ∷ []) (before k (omega arith) low)
         ∙ ap (λ (i : ℕ). record { first = k; last = g; word = Before } ∷ record { first = g + 1; last = i; word = After } ∷ []) (let e : k + 1 + n ≡ k + suc n = omega arith in e)
     | inr here ↦
         let is : k ≡ g = omega arith in
-        ap (λ (rs : List Run). with_write k (f k).word rs) (runs-all After n (k + 1) (λ j l h. after j (omega arith) (omega arith)))
+        ap (λ (rs : List Run). with_write k (f k).word rs) (runs_all After n (k + 1) (λ j l h. after j (omega arith) (omega arith)))
         ∙ ap (λ (w : Word). with_write k w (record { first = k + 1; last = k + 1 + n; word = After } ∷ [])) (before k (omega arith) low)
         ∙ ap (λ (i : ℕ). record { first = k; last = k; word = Before } ∷ record { first = k + 1; last = i; word = After } ∷ []) (let e : k + 1 + n ≡ k + suc n = omega arith in e)
         ∙ ap (λ (i : ℕ). record { first = k; last = i; word = Before } ∷ record { first = i + 1; last = k + suc n; word = After } ∷ []) is

@@ -6,48 +6,48 @@ use Rattle.mc_lab.specs.Sweeps.{Run, is_word, with_write, runs, run_text, runs_t
 use Rattle.mc_lab.specs.declared.sweep_word.Word.{Word}
 use Rattle.mc_lab.specs.declared.sweep_word.Word.TheVariants.{Before, After, Same, Between, Torn}
 use Rattle.std.proofs.lemmas.Bool.{cases_lt}
-use Rattle.mc_lab.proofs.SweepRuns.{word-itself, with-same}
+use Rattle.mc_lab.proofs.SweepRuns.{word_itself, with_same}
 
 -- a write before one of another word begins a run of its own
-apart-if : (k : ℕ) (w : Word) (r : Run) (rs : List Run) (b : Bool) → b ≡ false → cond b (record r { first = k } ∷ rs) (record { first = k; last = k; word = w } ∷ r ∷ rs) ≡ record { first = k; last = k; word = w } ∷ r ∷ rs
-apart-if k w r rs true h = absurd (cc h)
-apart-if k w r rs false h = refl
+apart_if : (k : ℕ) (w : Word) (r : Run) (rs : List Run) (b : Bool) → b ≡ false → cond b (record r { first = k } ∷ rs) (record { first = k; last = k; word = w } ∷ r ∷ rs) ≡ record { first = k; last = k; word = w } ∷ r ∷ rs
+apart_if k w r rs true h = absurd (cc h)
+apart_if k w r rs false h = refl
 
-one-word : (v w : Word) → is_word v w ≡ true → v ≡ w
-one-word Before Before h = refl
-one-word Before After h = absurd (cc h)
-one-word Before Same h = absurd (cc h)
-one-word Before Between h = absurd (cc h)
-one-word Before Torn h = absurd (cc h)
-one-word After Before h = absurd (cc h)
-one-word After After h = refl
-one-word After Same h = absurd (cc h)
-one-word After Between h = absurd (cc h)
-one-word After Torn h = absurd (cc h)
-one-word Same Before h = absurd (cc h)
-one-word Same After h = absurd (cc h)
-one-word Same Same h = refl
-one-word Same Between h = absurd (cc h)
-one-word Same Torn h = absurd (cc h)
-one-word Between Before h = absurd (cc h)
-one-word Between After h = absurd (cc h)
-one-word Between Same h = absurd (cc h)
-one-word Between Between h = refl
-one-word Between Torn h = absurd (cc h)
-one-word Torn Before h = absurd (cc h)
-one-word Torn After h = absurd (cc h)
-one-word Torn Same h = absurd (cc h)
-one-word Torn Between h = absurd (cc h)
-one-word Torn Torn h = refl
+one_word : (v w : Word) → is_word v w ≡ true → v ≡ w
+one_word Before Before h = refl
+one_word Before After h = absurd (cc h)
+one_word Before Same h = absurd (cc h)
+one_word Before Between h = absurd (cc h)
+one_word Before Torn h = absurd (cc h)
+one_word After Before h = absurd (cc h)
+one_word After After h = refl
+one_word After Same h = absurd (cc h)
+one_word After Between h = absurd (cc h)
+one_word After Torn h = absurd (cc h)
+one_word Same Before h = absurd (cc h)
+one_word Same After h = absurd (cc h)
+one_word Same Same h = refl
+one_word Same Between h = absurd (cc h)
+one_word Same Torn h = absurd (cc h)
+one_word Between Before h = absurd (cc h)
+one_word Between After h = absurd (cc h)
+one_word Between Same h = absurd (cc h)
+one_word Between Between h = refl
+one_word Between Torn h = absurd (cc h)
+one_word Torn Before h = absurd (cc h)
+one_word Torn After h = absurd (cc h)
+one_word Torn Same h = absurd (cc h)
+one_word Torn Between h = absurd (cc h)
+one_word Torn Torn h = refl
 
-other-by : (j k : ℕ) (w v : Word) (r : Run) (rs : List Run) → is_word w v ≡ false → (b : Bool) → is_word v r.word ≡ b
+other_by : (j k : ℕ) (w v : Word) (r : Run) (rs : List Run) → is_word w v ≡ false → (b : Bool) → is_word v r.word ≡ b
     → with_write k w (cond b (record r { first = j } ∷ rs) (record { first = j; last = j; word = v } ∷ r ∷ rs)) ≡ record { first = k; last = k; word = w } ∷ cond b (record r { first = j } ∷ rs) (record { first = j; last = j; word = v } ∷ r ∷ rs)
-other-by j k w v r rs h true e = apart-if k w (record r { first = j }) rs (is_word w r.word) (ap (λ (x : Word). is_word w x) (sym (one-word v r.word e)) ∙ h)
-other-by j k w v r rs h false e = apart-if k w (record { first = j; last = j; word = v }) (r ∷ rs) (is_word w v) h
+other_by j k w v r rs h true e = apart_if k w (record r { first = j }) rs (is_word w r.word) (ap (λ (x : Word). is_word w x) (sym (one_word v r.word e)) ∙ h)
+other_by j k w v r rs h false e = apart_if k w (record { first = j; last = j; word = v }) (r ∷ rs) (is_word w v) h
 
-before-other : (j k : ℕ) (w v : Word) (rs : List Run) → is_word w v ≡ false → with_write k w (with_write j v rs) ≡ record { first = k; last = k; word = w } ∷ with_write j v rs
-before-other j k w v [] h = apart-if k w (record { first = j; last = j; word = v }) [] (is_word w v) h
-before-other j k w v (r ∷ rs) h = other-by j k w v r rs h (is_word v r.word) refl
+before_other : (j k : ℕ) (w v : Word) (rs : List Run) → is_word w v ≡ false → with_write k w (with_write j v rs) ≡ record { first = k; last = k; word = w } ∷ with_write j v rs
+before_other j k w v [] h = apart_if k w (record { first = j; last = j; word = v }) [] (is_word w v) h
+before_other j k w v (r ∷ rs) h = other_by j k w v r rs h (is_word v r.word) refl
 
 -- what stands behind so many words is another word, or nothing
 abbrev pub RunEnds : List Word → ℕ → Word → Type 0
@@ -58,85 +58,85 @@ abbrev pub Fronts : List Word → ℕ → Word → Type 0
 Fronts ws n w = (i : ℕ) → i < n → is_word w (get_or ws i Before) ≡ true
 
 -- one more
-pub fronts-more : (ws : List Word) (n : ℕ) (w : Word) → Fronts ws n w → is_word w (get_or ws n Before) ≡ true → Fronts ws (n + 1) w
-fronts-more ws n w all here i lt = elim (cases_lt i n) [
+pub fronts_more : (ws : List Word) (n : ℕ) (w : Word) → Fronts ws n w → is_word w (get_or ws n Before) ≡ true → Fronts ws (n + 1) w
+fronts_more ws n w all here i lt = elim (cases_lt i n) [
   | inl below ↦ all i below
   | inr last ↦ let e : i ≡ n = omega arith in subst (λ (j : ℕ). is_word w (get_or ws j Before) ≡ true) (sym e) here
 ]
 
-pub fronts-one : (ws : List Word) → Fronts ws 1 (get_or ws 0 Before)
-fronts-one ws zero lt = word-itself (get_or ws 0 Before)
-fronts-one ws (suc i) lt = absurd (omega arith)
+pub fronts_one : (ws : List Word) → Fronts ws 1 (get_or ws 0 Before)
+fronts_one ws zero lt = word_itself (get_or ws 0 Before)
+fronts_one ws (suc i) lt = absurd (omega arith)
 
-first-run : (k : ℕ) (w : Word) (ws : List Word) → RunEnds (w ∷ ws) 1 w → runs k (w ∷ ws) ≡ record { first = k; last = k; word = w } ∷ runs (k + 1) ws
-first-run k w [] h = refl
-first-run k w (v ∷ vs) (inl short) = absurd (omega arith)
-first-run k w (v ∷ vs) (inr other) = before-other (k + 1) k w v (runs (k + 1 + 1) vs) other
+first_run : (k : ℕ) (w : Word) (ws : List Word) → RunEnds (w ∷ ws) 1 w → runs k (w ∷ ws) ≡ record { first = k; last = k; word = w } ∷ runs (k + 1) ws
+first_run k w [] h = refl
+first_run k w (v ∷ vs) (inl short) = absurd (omega arith)
+first_run k w (v ∷ vs) (inr other) = before_other (k + 1) k w v (runs (k + 1 + 1) vs) other
 
 later : (vs : List Word) (n : ℕ) (w v : Word) → RunEnds (v ∷ vs) (suc (suc n)) w → RunEnds vs (suc n) w
 later vs n w v (inl short) = inl (omega arith)
 later vs n w v (inr other) = inr other
 
 -- n words at the front are one, and no more
-pub runs-front : (n k : ℕ) (w : Word) (ws : List Word) → suc n ≤ length ws → Fronts ws (suc n) w → RunEnds ws (suc n) w
+pub runs_front : (n k : ℕ) (w : Word) (ws : List Word) → suc n ≤ length ws → Fronts ws (suc n) w → RunEnds ws (suc n) w
     → runs k ws ≡ record { first = k; last = k + n; word = w } ∷ runs (k + suc n) (drop (suc n) ws)
-runs-front n k w [] in_list same ends = absurd (omega arith)
-runs-front zero k w (v ∷ vs) in_list same ends =
-    let e : w ≡ v = one-word w v (same 0 (omega arith)) in
+runs_front n k w [] in_list same ends = absurd (omega arith)
+runs_front zero k w (v ∷ vs) in_list same ends =
+    let e : w ≡ v = one_word w v (same 0 (omega arith)) in
     subst (λ (x : Word). runs k (x ∷ vs) ≡ record { first = k; last = k + 0; word = w } ∷ runs (k + 1) vs) e
-    (first-run k w vs (subst (λ (x : Word). RunEnds (x ∷ vs) 1 w) (sym e) ends) ∙ ap (λ (i : ℕ). record { first = k; last = i; word = w } ∷ runs (k + 1) vs) (let f : k ≡ k + 0 = omega arith in f))
-runs-front (suc n) k w (v ∷ vs) in_list same ends =
-    let e : w ≡ v = one-word w v (same 0 (omega arith)) in
-    ap (λ (rs : List Run). with_write k v rs) (runs-front n (k + 1) w vs (omega arith) (λ i h. same (suc i) (omega arith)) (later vs n w v ends))
-    ∙ with-same k (k + 1 + n) v w (runs (k + 1 + suc n) (drop (suc n) vs)) (sym e)
+    (first_run k w vs (subst (λ (x : Word). RunEnds (x ∷ vs) 1 w) (sym e) ends) ∙ ap (λ (i : ℕ). record { first = k; last = i; word = w } ∷ runs (k + 1) vs) (let f : k ≡ k + 0 = omega arith in f))
+runs_front (suc n) k w (v ∷ vs) in_list same ends =
+    let e : w ≡ v = one_word w v (same 0 (omega arith)) in
+    ap (λ (rs : List Run). with_write k v rs) (runs_front n (k + 1) w vs (omega arith) (λ i h. same (suc i) (omega arith)) (later vs n w v ends))
+    ∙ with_same k (k + 1 + n) v w (runs (k + 1 + suc n) (drop (suc n) vs)) (sym e)
     ∙ ap (λ (i : ℕ). record { first = k; last = i; word = w } ∷ runs (k + 1 + suc n) (drop (suc n) vs)) (let f : k + 1 + n ≡ k + suc n = omega arith in f)
     ∙ ap (λ (i : ℕ). record { first = k; last = k + suc n; word = w } ∷ runs i (drop (suc n) vs)) (let f : k + 1 + suc n ≡ k + suc (suc n) = omega arith in f)
 
 -- the same by a length
-pub runs-len : (n k : ℕ) (ws : List Word) → 1 ≤ n → n ≤ length ws → Fronts ws n (get_or ws 0 Before) → RunEnds ws n (get_or ws 0 Before)
+pub runs_len : (n k : ℕ) (ws : List Word) → 1 ≤ n → n ≤ length ws → Fronts ws n (get_or ws 0 Before) → RunEnds ws n (get_or ws 0 Before)
     → runs k ws ≡ record { first = k; last = k + n - 1; word = get_or ws 0 Before } ∷ runs (k + n) (drop n ws)
-runs-len zero k ws low high same ends = absurd (omega arith)
-runs-len (suc n) k ws low high same ends =
-    runs-front n k (get_or ws 0 Before) ws high same ends
+runs_len zero k ws low high same ends = absurd (omega arith)
+runs_len (suc n) k ws low high same ends =
+    runs_front n k (get_or ws 0 Before) ws high same ends
     ∙ ap (λ (i : ℕ). record { first = k; last = i; word = get_or ws 0 Before } ∷ runs (k + suc n) (drop (suc n) ws)) (let f : k + n ≡ k + suc n - 1 = omega arith in f)
 
 -- ---- the runs that are left
 
-drop-all : (ws : List Word) (n : ℕ) → length ws ≤ n → drop n ws ≡ []
-drop-all [] zero h = refl
-drop-all [] (suc n) h = refl
-drop-all (w ∷ ws) zero h = absurd (omega arith)
-drop-all (w ∷ ws) (suc n) h = drop-all ws n (omega arith)
+drop_all : (ws : List Word) (n : ℕ) → length ws ≤ n → drop n ws ≡ []
+drop_all [] zero h = refl
+drop_all [] (suc n) h = refl
+drop_all (w ∷ ws) zero h = absurd (omega arith)
+drop_all (w ∷ ws) (suc n) h = drop_all ws n (omega arith)
 
-drop-twice : (n m : ℕ) (ws : List Word) → drop m (drop n ws) ≡ drop (n + m) ws
-drop-twice zero m ws = ap (λ (i : ℕ). drop i ws) (let e : m ≡ 0 + m = omega arith in e)
-drop-twice (suc n) m [] = drop-all [] m (omega arith) ∙ sym (drop-all [] (suc n + m) (omega arith))
-drop-twice (suc n) m (w ∷ ws) = drop-twice n m ws ∙ ap (λ (i : ℕ). drop i (w ∷ ws)) (let e : suc (n + m) ≡ suc n + m = omega arith in e)
+drop_twice : (n m : ℕ) (ws : List Word) → drop m (drop n ws) ≡ drop (n + m) ws
+drop_twice zero m ws = ap (λ (i : ℕ). drop i ws) (let e : m ≡ 0 + m = omega arith in e)
+drop_twice (suc n) m [] = drop_all [] m (omega arith) ∙ sym (drop_all [] (suc n + m) (omega arith))
+drop_twice (suc n) m (w ∷ ws) = drop_twice n m ws ∙ ap (λ (i : ℕ). drop i (w ∷ ws)) (let e : suc (n + m) ≡ suc n + m = omega arith in e)
 
-first-left : (n : ℕ) (ws : List Word) → get_or (drop n ws) 0 Before ≡ get_or ws n Before
-first-left zero ws = refl
-first-left (suc n) [] = refl
-first-left (suc n) (w ∷ ws) = first-left n ws
+first_left : (n : ℕ) (ws : List Word) → get_or (drop n ws) 0 Before ≡ get_or ws n Before
+first_left zero ws = refl
+first_left (suc n) [] = refl
+first_left (suc n) (w ∷ ws) = first_left n ws
 
-take-whole : (l : List Word) → take (length l) l ≡ l
-take-whole [] = refl
-take-whole (x ∷ xs) = ap (λ (l : List Word). x ∷ l) (take-whole xs)
+take_whole : (l : List Word) → take (length l) l ≡ l
+take_whole [] = refl
+take_whole (x ∷ xs) = ap (λ (l : List Word). x ∷ l) (take_whole xs)
 
-rest-is : (ws : List Word) (n : ℕ) → take (length ws - n) (drop n ws) ≡ drop n ws
-rest-is ws n = subst (λ (m : ℕ). take m (drop n ws) ≡ drop n ws) (length-drop n ws) (take-whole (drop n ws))
+rest_is : (ws : List Word) (n : ℕ) → take (length ws - n) (drop n ws) ≡ drop n ws
+rest_is ws n = subst (λ (m : ℕ). take m (drop n ws) ≡ drop n ws) (length-drop n ws) (take_whole (drop n ws))
 
 -- the text of what is left begins with that of its first run
-pub rest-text : (n m : ℕ) (ws : List Word) → 1 ≤ m
+pub rest_text : (n m : ℕ) (ws : List Word) → 1 ≤ m
     → runs (1 + n) (take (length ws - n) (drop n ws)) ≡ record { first = 1 + n; last = 1 + n + m - 1; word = get_or (take (length ws - n) (drop n ws)) 0 Before } ∷ runs (1 + n + m) (drop m (take (length ws - n) (drop n ws)))
     → runs_text (runs (1 + n) (drop n ws)) ≡ run_text (record { first = n + 1; last = n + m; word = get_or ws n Before }) ++ runs_text (runs (1 + (n + m)) (drop (n + m) ws))
-rest-text n m ws low h =
-    ap runs_text (subst (λ (l : List Word). runs (1 + n) l ≡ record { first = 1 + n; last = 1 + n + m - 1; word = get_or l 0 Before } ∷ runs (1 + n + m) (drop m l)) (rest-is ws n) h)
+rest_text n m ws low h =
+    ap runs_text (subst (λ (l : List Word). runs (1 + n) l ≡ record { first = 1 + n; last = 1 + n + m - 1; word = get_or l 0 Before } ∷ runs (1 + n + m) (drop m l)) (rest_is ws n) h)
     ∙ ap (λ (i : ℕ). run_text (record { first = i; last = 1 + n + m - 1; word = get_or (drop n ws) 0 Before }) ++ runs_text (runs (1 + n + m) (drop m (drop n ws)))) (let e : 1 + n ≡ n + 1 = omega arith in e)
     ∙ ap (λ (i : ℕ). run_text (record { first = n + 1; last = i; word = get_or (drop n ws) 0 Before }) ++ runs_text (runs (1 + n + m) (drop m (drop n ws)))) (let e : 1 + n + m - 1 ≡ n + m = omega arith in e)
-    ∙ ap (λ (w : Word). run_text (record { first = n + 1; last = n + m; word = w }) ++ runs_text (runs (1 + n + m) (drop m (drop n ws)))) (first-left n ws)
-    ∙ ap (λ (l : List Word). run_text (record { first = n + 1; last = n + m; word = get_or ws n Before }) ++ runs_text (runs (1 + n + m) l)) (drop-twice n m ws)
+    ∙ ap (λ (w : Word). run_text (record { first = n + 1; last = n + m; word = w }) ++ runs_text (runs (1 + n + m) (drop m (drop n ws)))) (first_left n ws)
+    ∙ ap (λ (l : List Word). run_text (record { first = n + 1; last = n + m; word = get_or ws n Before }) ++ runs_text (runs (1 + n + m) l)) (drop_twice n m ws)
     ∙ ap (λ (i : ℕ). run_text (record { first = n + 1; last = n + m; word = get_or ws n Before }) ++ runs_text (runs i (drop (n + m) ws))) (let e : 1 + n + m ≡ 1 + (n + m) = omega arith in e)
 
 -- nothing is left
-pub no-text : (n k : ℕ) (ws : List Word) → length ws ≤ n → [] ≡ runs_text (runs k (drop n ws))
-no-text n k ws h = ap (λ (l : List Word). runs_text (runs k l)) (sym (drop-all ws n h))
+pub no_text : (n k : ℕ) (ws : List Word) → length ws ≤ n → [] ≡ runs_text (runs k (drop n ws))
+no_text n k ws h = ap (λ (l : List Word). runs_text (runs k l)) (sym (drop_all ws n h))

@@ -9,68 +9,68 @@ use Rattle.mc_deck.specs.declared.refusal.DeckRefusal.TheVariants as deck
 use Rattle.mc_lab.specs.Trials.{refusal_of, RefusesTrial}
 use Rattle.mc_lab.specs.Rising.{Rising, count_below, last_of}
 use Rattle.mc_lab.specs.Expectations.{Trial, TrialFault, DeckFault, NoAnswer, expectations, first_unanswered, is_answered, last_below, line_number, trial_of, trial_read, trial_unless}
-use Rattle.mc_lab.proofs.RisingLemmas.{rising-lower}
-use Rattle.mc_lab.proofs.BelowLemmas.{count-on, last-is}
+use Rattle.mc_lab.proofs.RisingLemmas.{rising_lower}
+use Rattle.mc_lab.proofs.BelowLemmas.{count_on, last_is}
 
 -- so many lines stand above some number, and no expectation that is left is below it
 abbrev pub LinesAbove : List (ℕ × DeckLine) → ℕ → List (ℕ × List ℕ) → Type 0
 LinesAbove ls count left = (m : ℕ) × (count ≡ count_below line_number m ls) × Rising line_number m left
 
-count-zero : (ls : List (ℕ × DeckLine)) → 0 ≡ count_below line_number 0 ls
-count-zero [] = refl
-count-zero (l ∷ ls) =
+count_zero : (ls : List (ℕ × DeckLine)) → 0 ≡ count_below line_number 0 ls
+count_zero [] = refl
+count_zero (l ∷ ls) =
     let no : nat_lt l.0 0 ≡ false = grind arith in
     sym (ap (λ b. cond b (suc (count_below line_number 0 ls)) 0) no)
 
-pub above-start : (ls : List (ℕ × DeckLine)) (es : List (ℕ × List ℕ)) → Rising line_number 1 es → LinesAbove ls 0 es
-above-start ls es h = (0, count-zero ls, rising-lower line_number 0 1 es (omega arith) h)
+pub above_start : (ls : List (ℕ × DeckLine)) (es : List (ℕ × List ℕ)) → Rising line_number 1 es → LinesAbove ls 0 es
+above_start ls es h = (0, count_zero ls, rising_lower line_number 0 1 es (omega arith) h)
 
 -- those above an expectation are counted on
-pub above-from : (ls : List (ℕ × DeckLine)) (count : ℕ) (left : List (ℕ × List ℕ)) (e : ℕ × List ℕ) (es : List (ℕ × List ℕ)) → left ≡ e ∷ es → LinesAbove ls count left → count + count_below line_number e.0 (drop count ls) ≡ count_below line_number e.0 ls
-above-from ls count left e es i h =
+pub above_from : (ls : List (ℕ × DeckLine)) (count : ℕ) (left : List (ℕ × List ℕ)) (e : ℕ × List ℕ) (es : List (ℕ × List ℕ)) → left ≡ e ∷ es → LinesAbove ls count left → count + count_below line_number e.0 (drop count ls) ≡ count_below line_number e.0 ls
+above_from ls count left e es i h =
     let rises : Rising line_number h.0 (e ∷ es) = subst (λ (l : List (ℕ × List ℕ)). Rising line_number h.0 l) i h.2 in
-    subst (λ (k : ℕ). k + count_below line_number e.0 (drop k ls) ≡ count_below line_number e.0 ls) (sym h.1) (count-on line_number h.0 e.0 ls rises.0)
+    subst (λ (k : ℕ). k + count_below line_number e.0 (drop k ls) ≡ count_below line_number e.0 ls) (sym h.1) (count_on line_number h.0 e.0 ls rises.0)
 
-pub above-on : (ls : List (ℕ × DeckLine)) (count now : ℕ) (left : List (ℕ × List ℕ)) (e : ℕ × List ℕ) (es : List (ℕ × List ℕ)) → left ≡ e ∷ es → now ≡ count_below line_number e.0 ls → LinesAbove ls count left → LinesAbove ls now es
-above-on ls count now left e es i k h =
+pub above_on : (ls : List (ℕ × DeckLine)) (count now : ℕ) (left : List (ℕ × List ℕ)) (e : ℕ × List ℕ) (es : List (ℕ × List ℕ)) → left ≡ e ∷ es → now ≡ count_below line_number e.0 ls → LinesAbove ls count left → LinesAbove ls now es
+above_on ls count now left e es i k h =
     let rises : Rising line_number h.0 (e ∷ es) = subst (λ (l : List (ℕ × List ℕ)). Rising line_number h.0 l) i h.2 in
-    (e.0, k, rising-lower line_number e.0 (suc e.0) es (omega arith) rises.1)
+    (e.0, k, rising_lower line_number e.0 (suc e.0) es (omega arith) rises.1)
 
 -- ---- the first expectation without a result
 
 -- whether the statement above an expectation has a result, by how many lines stand above it
-answered-is : (ls : List (ℕ × DeckLine)) (n count : ℕ) (b : Bool) → Rising line_number 1 ls → count ≡ count_below line_number n ls → b ≡ is_answered (last_of count ls) → b ≡ is_answered (last_below line_number n ls)
-answered-is ls n count b h k e = e ∙ ap (λ c. is_answered (last_of c ls)) k ∙ ap is_answered (sym (last-is line_number 1 n ls h))
+answered_is : (ls : List (ℕ × DeckLine)) (n count : ℕ) (b : Bool) → Rising line_number 1 ls → count ≡ count_below line_number n ls → b ≡ is_answered (last_of count ls) → b ≡ is_answered (last_below line_number n ls)
+answered_is ls n count b h k e = e ∙ ap (λ c. is_answered (last_of c ls)) k ∙ ap is_answered (sym (last_is line_number 1 n ls h))
 
-pub unanswered-first : (ls : List (ℕ × DeckLine)) (left : List (ℕ × List ℕ)) (e : ℕ × List ℕ) (es : List (ℕ × List ℕ)) (count : ℕ) (b : Bool) (whole : Option ℕ)
+pub unanswered_first : (ls : List (ℕ × DeckLine)) (left : List (ℕ × List ℕ)) (e : ℕ × List ℕ) (es : List (ℕ × List ℕ)) (count : ℕ) (b : Bool) (whole : Option ℕ)
     → left ≡ e ∷ es → Rising line_number 1 ls → count ≡ count_below line_number e.0 ls → b ≡ is_answered (last_of count ls) → b ≡ false → first_unanswered ls left ≡ whole → Some e.0 ≡ whole
-unanswered-first ls left e es count b whole i h k t f w =
-    let here : is_answered (last_below line_number e.0 ls) ≡ false = sym (answered-is ls e.0 count b h k t) ∙ f in
+unanswered_first ls left e es count b whole i h k t f w =
+    let here : is_answered (last_below line_number e.0 ls) ≡ false = sym (answered_is ls e.0 count b h k t) ∙ f in
     sym (ap (λ b. cond b (first_unanswered ls es) (Some e.0)) here) ∙ sym (ap (first_unanswered ls) i) ∙ w
 
-pub unanswered-on : (ls : List (ℕ × DeckLine)) (left : List (ℕ × List ℕ)) (e : ℕ × List ℕ) (es : List (ℕ × List ℕ)) (count : ℕ) (b : Bool) (whole : Option ℕ)
+pub unanswered_on : (ls : List (ℕ × DeckLine)) (left : List (ℕ × List ℕ)) (e : ℕ × List ℕ) (es : List (ℕ × List ℕ)) (count : ℕ) (b : Bool) (whole : Option ℕ)
     → left ≡ e ∷ es → Rising line_number 1 ls → count ≡ count_below line_number e.0 ls → b ≡ is_answered (last_of count ls) → b ≡ true → first_unanswered ls left ≡ whole → first_unanswered ls es ≡ whole
-unanswered-on ls left e es count b whole i h k t f w =
-    let here : is_answered (last_below line_number e.0 ls) ≡ true = sym (answered-is ls e.0 count b h k t) ∙ f in
+unanswered_on ls left e es count b whole i h k t f w =
+    let here : is_answered (last_below line_number e.0 ls) ≡ true = sym (answered_is ls e.0 count b h k t) ∙ f in
     sym (ap (λ b. cond b (first_unanswered ls es) (Some e.0)) here) ∙ sym (ap (first_unanswered ls) i) ∙ w
 
-pub unanswered-none : (ls : List (ℕ × DeckLine)) (left : List (ℕ × List ℕ)) (whole : Option ℕ) → left ≡ [] → first_unanswered ls left ≡ whole → None ≡ whole
-unanswered-none ls left whole i w = sym (ap (first_unanswered ls) i) ∙ w
+pub unanswered_none : (ls : List (ℕ × DeckLine)) (left : List (ℕ × List ℕ)) (whole : Option ℕ) → left ≡ [] → first_unanswered ls left ≡ whole → None ≡ whole
+unanswered_none ls left whole i w = sym (ap (first_unanswered ls) i) ∙ w
 
 -- ---- what was read
 
-pub read-as : (text : List ℕ) (es : List (ℕ × List ℕ)) (r : Result (List (ℕ × DeckLine)) (ℕ × DeckCause)) → es ≡ expectations text → deck_read text ≡ r → trial_read text ≡ trial_of es r
+pub read_as : (text : List ℕ) (es : List (ℕ × List ℕ)) (r : Result (List (ℕ × DeckLine)) (ℕ × DeckCause)) → es ≡ expectations text → deck_read text ≡ r → trial_read text ≡ trial_of es r
 unfolding trial_read
-read-as text es r e h = ap (trial_of (expectations text)) h ∙ ap (λ es. trial_of es r) (sym e)
+read_as text es r e h = ap (trial_of (expectations text)) h ∙ ap (λ es. trial_of es r) (sym e)
 
-pub read-deck : (text : List ℕ) (n : ℕ) (c : DeckCause) → deck_read text ≡ Err (n, c) → trial_read text ≡ Err (DeckFault n c)
+pub read_deck : (text : List ℕ) (n : ℕ) (c : DeckCause) → deck_read text ≡ Err (n, c) → trial_read text ≡ Err (DeckFault n c)
 unfolding trial_read
-read-deck text n c h = ap (trial_of (expectations text)) h
+read_deck text n c h = ap (trial_of (expectations text)) h
 
-pub read-trial : (text : List ℕ) (ls : List (ℕ × DeckLine)) (es : List (ℕ × List ℕ)) (o : Option ℕ) → es ≡ expectations text → deck_read text ≡ Ok ls → o ≡ first_unanswered ls es → trial_read text ≡ trial_unless (record { lines = ls; expected = es }) o
-read-trial text ls es o e h w = read-as text es (Ok ls) e h ∙ ap (trial_unless (record { lines = ls; expected = es })) (sym w)
+pub read_trial : (text : List ℕ) (ls : List (ℕ × DeckLine)) (es : List (ℕ × List ℕ)) (o : Option ℕ) → es ≡ expectations text → deck_read text ≡ Ok ls → o ≡ first_unanswered ls es → trial_read text ≡ trial_unless (record { lines = ls; expected = es }) o
+read_trial text ls es o e h w = read_as text es (Ok ls) e h ∙ ap (trial_unless (record { lines = ls; expected = es })) (sym w)
 
 -- a deck that is refused refuses the trial
-pub refused-deck : (text : List ℕ) (e : DeckRefusal) → DeckRefuses (deck_read text) e → RefusesTrial (trial_read text) (refusal_of e)
-refused-deck text (deck.At n c) h = read-deck text n c h
-refused-deck text deck.NoMemory h = tt
+pub refused_deck : (text : List ℕ) (e : DeckRefusal) → DeckRefuses (deck_read text) e → RefusesTrial (trial_read text) (refusal_of e)
+refused_deck text (deck.At n c) h = read_deck text n c h
+refused_deck text deck.NoMemory h = tt

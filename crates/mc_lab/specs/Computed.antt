@@ -5,18 +5,18 @@ use Rattle.sha1.specs.Sha1.{sha1, digest_bytes, hash_after, compress, rounds, sc
 use Rattle.mc_model_device.specs.Device.{blank_words, device_words}
 use Rattle.mc_model_card.specs.Units.{name_of}
 use Rattle.mc_model_machine.specs.Apdu.{apdu_read}
-use Rattle.mc_model_device.specs.Pieces.{touched}
+use Rattle.mc_model_device.specs.Pieces.{touched_words}
 use Rattle.mc_model_machine.specs.Des.{des_encipher, des_decipher, tdes_encipher, tdes_decipher, des_signature, tdes_signature}
 use Rattle.mc_model_machine.specs.Aes.{aes_encipher, aes_decipher, aes_signature}
 use Rattle.mc_model_device.specs.Image.{targets_1, targets_2, pairs}
 use Rattle.mc_model_device.specs.Card.{blocks_from, apps_of}
 use Rattle.mc_model_device.specs.Layout.{layout, step_of, bad_block, bad_record}
-use Rattle.mc_model_machine.specs.Frame.{bytes_at, written, too_many}
+use Rattle.mc_model_machine.specs.Frame.{bytes_at, write_effect, too_many}
 use Rattle.mc_model_machine.specs.Primitives.{later_causes, prim_effect}
 use Rattle.mc_model_machine.specs.Row.{causes, effect, row}
-use Rattle.mc_model_machine.specs.Chain.{acted, ran}
+use Rattle.mc_model_machine.specs.Chain.{turn_of_chain, run_of_chain}
 use Rattle.mc_model_card.specs.Manager.{manage}
-use Rattle.mc_model_play.specs.Play.{Step, send, warmed, step, plays, moves_of, steady_worn}
+use Rattle.mc_model_play.specs.Play.{Step, send, play_at_power, step, plays, moves_of, steady_worn}
 use Rattle.mc_model_card.specs.Commands.{command}
 use Rattle.mc_model_play.specs.DeckGrammar.{DeckLine, deck_read}
 use Rattle.mc_model_play.specs.Patterns.{matches}
@@ -24,15 +24,15 @@ use Rattle.mc_lab.specs.Expectations.{Trial, TrialFault, trial_read, expect_text
 
 -- the play of a deck on a blank device of the laboratory
 unfoldable pub blank_steps : List (ℕ × DeckLine) → List Step
-unfolding steady_from name_of apdu_read touched des_encipher des_decipher tdes_encipher tdes_decipher des_signature tdes_signature aes_encipher aes_decipher aes_signature sha1 digest_bytes hash_after compress rounds schedule first_words targets_1 targets_2 pairs blocks_from apps_of layout step_of bad_block bad_record bytes_at written too_many later_causes prim_effect causes effect row acted ran manage command send warmed step plays moves_of steady_worn
+unfolding steady_from name_of apdu_read touched_words des_encipher des_decipher tdes_encipher tdes_decipher des_signature tdes_signature aes_encipher aes_decipher aes_signature sha1 digest_bytes hash_after compress rounds schedule first_words targets_1 targets_2 pairs blocks_from apps_of layout step_of bad_block bad_record bytes_at write_effect too_many later_causes prim_effect causes effect row turn_of_chain run_of_chain manage command send play_at_power step plays moves_of steady_worn
 blank_steps ls = steady_steps (blank_words device_words) ls
 
 -- what is told of the expectations of a deck
-abbrev pub told_in : Result Trial TrialFault → Result (List ℕ) TrialFault
-told_in (Ok t) = Ok (expect_text (blank_steps t.lines) t.expected)
-told_in (Err e) = Err e
+abbrev pub expectations_text : Result Trial TrialFault → Result (List ℕ) TrialFault
+expectations_text (Ok t) = Ok (expect_text (blank_steps t.lines) t.expected)
+expectations_text (Err e) = Err e
 
 -- what a deck's text tells of its expectations on a blank device
-unfoldable pub expected : List ℕ → Result (List ℕ) TrialFault
+unfoldable pub expectation_report : List ℕ → Result (List ℕ) TrialFault
 unfolding deck_read matches trial_read expect_text blank_steps digits
-expected text = told_in (trial_read text)
+expectation_report text = expectations_text (trial_read text)

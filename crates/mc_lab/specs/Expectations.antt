@@ -1,11 +1,11 @@
 -- Expectations: comments of a deck that begin with `#>`, each with a pattern for the result of the statement above it.
 use Rattle.std.specs.Prelude.{ℕ, ◌+◌, Bool, true, false, cond, not, ◌&&◌, nat_lt, ◌==◌, List, [], ◌∷◌, ◌++◌, length, filter, flat_map, bytes_eq, codes, decimal, Option, Some, None, Result, Ok, Err}
-use Rattle.mc_model_machine.specs.Text.{trim, trim_front, fields, first_cut, is_blank, lines, numbered}
+use Rattle.mc_model_machine.specs.Text.{trim, trim_front, fields, first_cut, is_blank, lines, with_numbers}
 use Rattle.mc_model_play.specs.declared.deck.DeckCause.{DeckCause}
-use Rattle.mc_model_play.specs.DeckGrammar.{DeckLine, Mode, Between, Within, LineTurn, stated, within, turn_at, deck_read}
+use Rattle.mc_model_play.specs.DeckGrammar.{DeckLine, Mode, Between, Within, LineTurn, statement_of, within, turn_at, deck_read}
 use Rattle.mc_model_play.specs.DeckGrammar as line
 use Rattle.mc_model_play.specs.Play.{LineResult, State, Step, plays, start, steady_worn}
-use Rattle.mc_model_play.specs.Transcript.{shown}
+use Rattle.mc_model_play.specs.Transcript.{text_of_result}
 use Rattle.mc_model_play.specs.Patterns.{holds}
 
 -- ---- which lines of a text they are
@@ -45,7 +45,7 @@ after_line (Err e) rest = []
 
 -- the expectations of lines, the first of which the deck's reader meets in this mode
 unfoldable pub expectations_from : Mode → List (ℕ × List ℕ) → List (ℕ × List ℕ)
-unfolding stated within
+unfolding statement_of within
 expectations_from m [] = []
 expectations_from m (l ∷ ls) =
     expectation_at (not (in_section m) && begins_with (codes "#>") (fields l.1)) l
@@ -54,7 +54,7 @@ expectations_from m (l ∷ ls) =
 -- the expectations of a deck's text
 unfoldable pub expectations : List ℕ → List (ℕ × List ℕ)
 unfolding expectations_from
-expectations text = expectations_from (Between (record { units = []; powered = false })) (numbered 1 (lines text))
+expectations text = expectations_from (Between (record { units = []; powered = false })) (with_numbers 1 (lines text))
 
 -- ---- what they speak of
 
@@ -132,7 +132,7 @@ trial_read text = trial_of (expectations text) (deck_read text)
 -- the text of a step's result
 abbrev pub result_text : Option LineResult → List ℕ
 result_text None = []
-result_text (Some r) = shown r
+result_text (Some r) = text_of_result r
 
 -- the text of the result of a step, where there is one
 abbrev pub step_text : Option Step → List ℕ
@@ -152,13 +152,13 @@ abbrev pub failed_line : ℕ × List ℕ → List ℕ → List ℕ
 failed_line e result = codes "line " ++ decimal e.0 ++ codes " expected " ++ e.1 ++ codes " was " ++ result ++ codes "\n"
 
 -- nothing of an expectation that holds, and the line of one that failed
-abbrev pub told_of : Bool → ℕ × List ℕ → List ℕ → List ℕ
-told_of true e result = []
-told_of false e result = failed_line e result
+abbrev pub expectation_line : Bool → ℕ × List ℕ → List ℕ → List ℕ
+expectation_line true e result = []
+expectation_line false e result = failed_line e result
 
 -- the lines of the expectations that failed
 abbrev pub failed_lines : List Step → List (ℕ × List ℕ) → List ℕ
-failed_lines ts es = flat_map (λ e. told_of (is_met ts e) e (result_above ts e.0)) es
+failed_lines ts es = flat_map (λ e. expectation_line (is_met ts e) e (result_above ts e.0)) es
 
 -- how many expectations failed
 abbrev pub count_failed : List Step → List (ℕ × List ℕ) → ℕ

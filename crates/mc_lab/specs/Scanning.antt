@@ -1,6 +1,6 @@
 -- The laboratory's pass over a deck's text, which keeps of the mode of the deck's reader whether it is in a section.
 use Rattle.std.specs.Prelude.{ℕ, Bool, true, false, not, ◌&&◌, List, [], ◌∷◌, ◌++◌, codes}
-use Rattle.mc_model_machine.specs.Text.{fields, lines, numbered}
+use Rattle.mc_model_machine.specs.Text.{fields, lines, with_numbers}
 use Rattle.mc_model_play.specs.DeckGrammar.{is_end}
 use Rattle.mc_lab.specs.Expectations.{begins_with, expectation_at}
 
@@ -19,4 +19,4 @@ scanned_from inside (l ∷ ls) =
 -- the expectations that the pass finds in a text
 unfoldable pub scanned : List ℕ → List (ℕ × List ℕ)
 unfolding scanned_from
-scanned text = scanned_from false (numbered 1 (lines text))
+scanned text = scanned_from false (with_numbers 1 (lines text))

@@ -3,11 +3,11 @@ use Rattle.std.specs.Prelude.{◌≡◌, ℕ, ◌≤◌, ◌<◌, Bool, true, fa
 use Rattle.arrayvec.specs.ArrayVec.{ArrayVec}
 use Rattle.mc_blocks.specs.declared.image.Unusable.{Unusable}
 use Rattle.mc_model_device.specs.Image.{opening, Two}
-use Rattle.mc_model_play.specs.Play.{State, armed_in, is_card_line}
+use Rattle.mc_model_play.specs.Play.{State, armed_stop_in, is_card_line}
 use Rattle.mc_model_play.specs.DeckGrammar.{DeckLine}
 use Rattle.mc_model_play.specs.DeckGrammar as line
 use Rattle.mc_lab.specs.declared.sweep_word.Word.{Word}
-use Rattle.mc_lab.specs.Sweeps.{word_if, word_by, recovered, told, Tried, tried, stepped, played, cut, power, under_cut, under_cuts, writes_behind, is_unarmed, ToldState, Holds, NoCard}
+use Rattle.mc_lab.specs.Sweeps.{word_if, word_by, recovery_states, state_after_power, Tried, cut_write, steady_step, state_on_blank, cut_statement, power, under_cut, under_cuts, writes_behind, is_unarmed, ToldState, Holds, NoCard}
 use Rattle.mc_lab.specs.SweepLaws.{is_off}
 use Rattle.mc_lab.specs.declared.sweep_account.Account.{Account}
 use Rattle.mc_lab.specs.declared.sweep_trial.Behind.{Behind}
@@ -23,19 +23,19 @@ abbrev pub held_value : Option (ArrayVec ℕ) → Option (List ℕ)
 held_value h = option_map (λ b. b.items) h
 
 -- what is told, by the fault and by what is held
-abbrev pub told_with : Option Unusable → List (Option (List ℕ)) → ToldState
-told_with None h = Holds h
-told_with (Some u) h = NoCard u.cause u.place
+abbrev pub state_by_fault : Option Unusable → List (Option (List ℕ)) → ToldState
+state_by_fault None h = Holds h
+state_by_fault (Some u) h = NoCard u.cause u.place
 
 -- what an account tells
 abbrev pub account_value : Account → ToldState
-account_value a = told_with a.fault (map held_value a.held.items)
+account_value a = state_by_fault a.fault (map held_value a.held.items)
 
 -- ---- plays
 
 -- the state after a line
 abbrev pub next : State → ℕ × DeckLine → State
-next s l = (stepped s l).after
+next s l = (steady_step s l).after
 
 -- the lines that are played of a line, and of a cut in it
 abbrev pub lines_behind : List (ℕ × DeckLine) → ℕ × DeckLine → Behind → List (ℕ × DeckLine)
@@ -48,8 +48,8 @@ lines_behind front l (behind.Twice k fill again) = under_cuts front l k fill aga
 abbrev pub hits : List (ℕ × DeckLine) → ℕ × DeckLine → Behind → Bool
 hits front l behind.Nothing = true
 hits front l behind.Whole = true
-hits front l (behind.Cut k fill) = is_off (stepped (next (played front) (cut l.0 k fill)) l).result
-hits front l (behind.Twice k fill again) = is_off (stepped (next (played (under_cut front l k fill)) (cut l.0 again fill)) (power l.0)).result
+hits front l (behind.Cut k fill) = is_off (steady_step (next (state_on_blank front) (cut_statement l.0 k fill)) l).result
+hits front l (behind.Twice k fill again) = is_off (steady_step (next (state_on_blank (under_cut front l k fill)) (cut_statement l.0 again fill)) (power l.0)).result
 
 -- the numbers of writes are counted from 1
 abbrev pub CanCut : Behind → Type 0
@@ -81,8 +81,8 @@ abbrev pub IsPlace : Place → Type 0
 IsPlace p = p.at < length p.deck.now
 
 -- what is told of a play of a place
-abbrev pub told_in : Place → Behind → ToldState
-told_in p b = told (names_in p) (lines_behind (front_of p) (line_in p) b)
+abbrev pub state_at_place : Place → Behind → ToldState
+state_at_place p b = state_after_power (names_in p) (lines_behind (front_of p) (line_in p) b)
 
 -- whether the last cut of a play of a place hit its line
 abbrev pub hit_in : Place → Behind → Bool
@@ -104,12 +104,12 @@ IsFewBehind p (behind.Cut k fill) = again_in p k fill ≤ 65535
 IsFewBehind p (behind.Twice k fill again) = Unit {0}
 
 -- the states where the recovery behind a cut is cut too
-abbrev pub recovered_in : Place → ℕ → List ℕ → List ToldState
-recovered_in p k fill = recovered (names_in p) (front_of p) (line_in p) k fill
+abbrev pub recovery_states_at : Place → ℕ → List ℕ → List ToldState
+recovery_states_at p k fill = recovery_states (names_in p) (front_of p) (line_in p) k fill
 
 -- one write of the line
-abbrev pub tried_in : Place → ℕ → Tried
-tried_in p k = tried (names_in p) (front_of p) (line_in p) (told_in p behind.Nothing) (told_in p behind.Whole) k
+abbrev pub cut_write_at : Place → ℕ → Tried
+cut_write_at p k = cut_write (names_in p) (front_of p) (line_in p) (state_at_place p behind.Nothing) (state_at_place p behind.Whole) k
 
 -- an account has room for the names
 abbrev pub AccountFits : Account → Place → Type 0
@@ -125,7 +125,7 @@ pub record AccountsHaveRoom (e : Ends) (p : Pair) (n : ℕ) : Type 0 where
 -- a line to the card for which no stop is armed
 pub record IsUnarmedLine (p : Place) : Type 0 where
   pub card : is_card_line (line_in p).1 ≡ true
-  pub unarmed : is_unarmed (armed_in (played (front_of p))) ≡ true
+  pub unarmed : is_unarmed (armed_stop_in (state_on_blank (front_of p))) ≡ true
 
 -- a word that opens no gate
 abbrev pub OpensNoGate : List ℕ → Type 0

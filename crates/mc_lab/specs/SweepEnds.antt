@@ -1,10 +1,10 @@
 -- A sweep by its lines, and how the call ends.
 use Rattle.std.specs.Prelude.{◌≡◌, ℕ, ◌+◌, ◌*◌, ◌≤◌, ◌<◌, Bool, true, false, ◌&&◌, List, [], length, take, drop, Result, Ok, Err}
-use Rattle.mc_model_play.specs.Play.{armed_in, is_card_line}
+use Rattle.mc_model_play.specs.Play.{armed_stop_in, is_card_line}
 use Rattle.mc_model_play.specs.DeckGrammar.{DeckLine}
 use Rattle.mc_model_play.specs.DeckGrammar as line
 use Rattle.mc_text.specs.Texts.{Sunk, Writes, Fails}
-use Rattle.mc_lab.specs.Sweeps.{played, is_unarmed, is_swept, swept, swept_if, Swept, sweep_behind, total, writes_behind, names_from}
+use Rattle.mc_lab.specs.Sweeps.{state_on_blank, is_unarmed, is_swept, line_sweep, sweeps_with, Swept, sweep_behind, total, writes_behind, names_from}
 use Rattle.mc_lab.specs.declared.sweep_trial.Place.{Place}
 use Rattle.mc_lab.specs.declared.sweep_text.Sums.{Sums}
 use Rattle.mc_lab.specs.declared.sweep_line.Ends.{Ends}
@@ -28,7 +28,7 @@ free_behind l free = free
 
 -- a line to the card behind others, for which no stop is armed
 abbrev pub is_open : List (ℕ × DeckLine) → ℕ × DeckLine → Bool
-is_open front l = is_card_line l.1 && is_unarmed (armed_in (played front))
+is_open front l = is_card_line l.1 && is_unarmed (armed_stop_in (state_on_blank front))
 
 -- the same of the line at a place of a deck
 abbrev pub is_open_at : List (ℕ × DeckLine) → ℕ → Bool
@@ -39,12 +39,12 @@ abbrev pub AtMost : List (ℕ × DeckLine) → ℕ → ℕ → Type 0
 AtMost ls n most = (i : ℕ) → i < n → is_open_at ls i ≡ true → writes_behind (take i ls) (line_at ls i) ≤ most
 
 -- the swept line of a place, if it is one
-abbrev pub swept_in : Place → List Swept
-swept_in p = swept_if (is_swept (front_of p) (line_in p)) (swept (names_in p) (front_of p) (line_in p)) []
+abbrev pub sweeps_at : Place → List Swept
+sweeps_at p = sweeps_with (is_swept (front_of p) (line_in p)) (line_sweep (names_in p) (front_of p) (line_in p)) []
 
 -- the swept lines among those from a place of a deck on
-abbrev pub left_from : List (List ℕ) → List (ℕ × DeckLine) → ℕ → List Swept
-left_from names ls i = sweep_behind names (take i ls) (drop i ls)
+abbrev pub sweeps_from : List (List ℕ) → List (ℕ × DeckLine) → ℕ → List Swept
+sweeps_from names ls i = sweep_behind names (take i ls) (drop i ls)
 
 -- ---- sums
 

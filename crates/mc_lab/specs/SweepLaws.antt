@@ -4,11 +4,11 @@ use Rattle.std.specs.List.{AllByRecursion}
 use Rattle.mc_model_device.specs.Image.{Two}
 use Rattle.mc_model_device.specs.Stopped.{opens_at}
 use Rattle.mc_model_device.specs.Card.{App}
-use Rattle.mc_model_card.specs.Items.{Item, Plain, Atomic, weight, done}
+use Rattle.mc_model_card.specs.Items.{Item, Plain, Atomic, weight, apps_after_items}
 use Rattle.mc_model_play.specs.Given.{apps_in}
-use Rattle.mc_model_play.specs.Play.{Unarmed, LineResult, OffAt, step, armed_in, is_card_line}
+use Rattle.mc_model_play.specs.Play.{Unarmed, LineResult, OffAt, step, armed_stop_in, is_card_line}
 use Rattle.mc_model_play.specs.DeckGrammar.{DeckLine}
-use Rattle.mc_lab.specs.Sweeps.{stepped, played, cut, held_under, are_same_held, Swept, swept, is_swept, writes_behind, names_from, Run, runs, sweep}
+use Rattle.mc_lab.specs.Sweeps.{steady_step, state_on_blank, cut_statement, static_bytes_under, are_same_held, Swept, line_sweep, is_swept, writes_behind, names_from, Run, runs, sweep}
 use Rattle.mc_lab.specs.declared.sweep_word.Word.{Word}
 use Rattle.mc_lab.specs.declared.sweep_word.Word.TheVariants.{Before, After, Same, Between, Torn}
 
@@ -16,12 +16,12 @@ use Rattle.mc_lab.specs.declared.sweep_word.Word.TheVariants.{Before, After, Sam
 
 -- whether an item changes what is told under some names
 abbrev pub changes : List (List ℕ) → List (List ℕ × App) → Item → Bool
-changes names apps i = not (are_same_held (held_under names apps) (held_under names (done apps (i ∷ []))))
+changes names apps i = not (are_same_held (static_bytes_under names apps) (static_bytes_under names (apps_after_items apps (i ∷ []))))
 
 -- how many items do, each on the applications that those before it leave
-abbrev pub changing : List (List ℕ) → List (List ℕ × App) → List Item → ℕ
-changing names apps [] = 0
-changing names apps (i ∷ is) = cond (changes names apps i) 1 0 + changing names (done apps (i ∷ [])) is
+abbrev pub count_of_changes : List (List ℕ) → List (List ℕ × App) → List Item → ℕ
+count_of_changes names apps [] = 0
+count_of_changes names apps (i ∷ is) = cond (changes names apps i) 1 0 + count_of_changes names (apps_after_items apps (i ∷ [])) is
 
 -- which device write of an item opens its gate; a write into a hole opens none
 abbrev pub opens : Item → ℕ
@@ -29,23 +29,23 @@ opens Plain = 0
 opens (Atomic w c) = opens_at Two w
 
 -- the device write that opens the gate of the first item that changes what is told
-abbrev pub opening : List (List ℕ) → List (List ℕ × App) → List Item → ℕ
-opening names apps [] = 0
-opening names apps (i ∷ is) = cond (changes names apps i) (opens i) (weight i + opening names (done apps (i ∷ [])) is)
+abbrev pub opening_write : List (List ℕ) → List (List ℕ × App) → List Item → ℕ
+opening_write names apps [] = 0
+opening_write names apps (i ∷ is) = cond (changes names apps i) (opens i) (weight i + opening_write names (apps_after_items apps (i ∷ [])) is)
 
 -- ---- a line behind a front
 
 -- the items of a line behind others
 abbrev pub items_behind : List (ℕ × DeckLine) → ℕ × DeckLine → List Item
-items_behind front l = (step (played front) l None).items
+items_behind front l = (step (state_on_blank front) l None).items
 
 -- the number of its items that change what is told
 abbrev pub changing_behind : List (List ℕ) → List (ℕ × DeckLine) → ℕ × DeckLine → ℕ
-changing_behind names front l = changing names (apps_in (played front)) (items_behind front l)
+changing_behind names front l = count_of_changes names (apps_in (state_on_blank front)) (items_behind front l)
 
 -- the first write that opens the gate of one of them
 abbrev pub opening_behind : List (List ℕ) → List (ℕ × DeckLine) → ℕ × DeckLine → ℕ
-opening_behind names front l = opening names (apps_in (played front)) (items_behind front l)
+opening_behind names front l = opening_write names (apps_in (state_on_blank front)) (items_behind front l)
 
 -- writes with no other word than this
 abbrev pub all_of : Word → ℕ → List Run
@@ -63,15 +63,15 @@ NotTorn s = AllByRecursion (λ r. r.word ≢ Torn) (runs 1 s.words)
 
 -- it tells a state between two others only where two or more items change what is told
 abbrev pub BetweenChanges : List (List ℕ) → List (ℕ × DeckLine) → ℕ × DeckLine → Type 0
-BetweenChanges names front l = changing_behind names front l ≤ 1 → AllByRecursion (λ r. r.word ≢ Between) (runs 1 (swept names front l).words)
+BetweenChanges names front l = changing_behind names front l ≤ 1 → AllByRecursion (λ r. r.word ≢ Between) (runs 1 (line_sweep names front l).words)
 
 -- one item that changes what is told splits it where that item's gate opens
 abbrev pub SplitsAtGate : List (List ℕ) → List (ℕ × DeckLine) → ℕ × DeckLine → Type 0
-SplitsAtGate names front l = changing_behind names front l ≡ 1 → runs 1 (swept names front l).words ≡ split_at (opening_behind names front l) (writes_behind front l)
+SplitsAtGate names front l = changing_behind names front l ≡ 1 → runs 1 (line_sweep names front l).words ≡ split_at (opening_behind names front l) (writes_behind front l)
 
 -- and where none does, every cut leaves the state that was before and is after
 abbrev pub StaysSame : List (List ℕ) → List (ℕ × DeckLine) → ℕ × DeckLine → Type 0
-StaysSame names front l = changing_behind names front l ≡ 0 → runs 1 (swept names front l).words ≡ all_of Same (writes_behind front l)
+StaysSame names front l = changing_behind names front l ≡ 0 → runs 1 (line_sweep names front l).words ≡ all_of Same (writes_behind front l)
 
 -- each swept line among those behind a front
 abbrev pub EachSwept : (List (ℕ × DeckLine) → ℕ × DeckLine → Type 0) → List (ℕ × DeckLine) → List (ℕ × DeckLine) → Type 0
@@ -88,8 +88,8 @@ is_off r = false
 -- A cut hits a line to the card exactly where the line makes so many writes; so trial plays tell the numbers of a sweep.
 abbrev pub HitsWithin : Type 0
 HitsWithin =
-    (front : List (ℕ × DeckLine)) (l : ℕ × DeckLine) (k : ℕ) (x : List ℕ) → is_card_line l.1 ≡ true → armed_in (played front) ≡ Unarmed → 1 ≤ k
-    → is_off (stepped (played (front ++ cut l.0 k x ∷ [])) l).result ≡ nat_le k (writes_behind front l)
+    (front : List (ℕ × DeckLine)) (l : ℕ × DeckLine) (k : ℕ) (x : List ℕ) → is_card_line l.1 ≡ true → armed_stop_in (state_on_blank front) ≡ Unarmed → 1 ≤ k
+    → is_off (steady_step (state_on_blank (front ++ cut_statement l.0 k x ∷ [])) l).result ≡ nat_le k (writes_behind front l)
 
 -- ---- laws of a deck
 

@@ -8,7 +8,7 @@ use Rattle.mc_script.specs.declared.answer.Answer.{Answer}
 use Rattle.mc_script.specs.declared.answer.Answer.TheVariants as answer
 use Rattle.mc_script.specs.declared.player.Player.{Player}
 use Rattle.mc_script.specs.Players.{answer_value, device_of, IsPlayerAt}
-use Rattle.mc_lab.specs.Sweeps.{stepped, played, cut}
+use Rattle.mc_lab.specs.Sweeps.{steady_step, state_on_blank, cut_statement}
 use Rattle.mc_lab.specs.SweepLaws.{is_off}
 use Rattle.mc_lab.specs.declared.sweep_trial.Behind.{Behind}
 use Rattle.mc_lab.specs.SweepBodies.{next, lines_behind, hits}
@@ -32,14 +32,14 @@ module _ {N : Type 0} (state : N → DeviceState) (bench : N → BenchState) whe
   -- a line was played from a state, with its result
   pub record LineOn (s : State) (l : ℕ × DeckLine) (answer : Option Answer) (q : Player N) : Type 0 where
     pub at : IsSteadyAt q (next s l)
-    pub answers : option_map (answer_value state q) answer ≡ (stepped s l).result
+    pub answers : option_map (answer_value state q) answer ≡ (steady_step s l).result
 
   -- a line was played from a state with one of its writes cut, where it makes so many
   pub record CutOn (s : State) (l : ℕ × DeckLine) (n k : ℕ) (fill : List ℕ) (hit : Bool) (q : Player N) : Type 0 where
-    pub at : IsSteadyAt q (next (next s (cut n k fill)) l)
-    pub says : hit ≡ is_off (stepped (next s (cut n k fill)) l).result
+    pub at : IsSteadyAt q (next (next s (cut_statement n k fill)) l)
+    pub says : hit ≡ is_off (steady_step (next s (cut_statement n k fill)) l).result
 
   -- what stands behind the lines before a line was played
   pub record BehindOn (front : List (ℕ × DeckLine)) (l : ℕ × DeckLine) (b : Behind) (hit : Bool) (q : Player N) : Type 0 where
-    pub at : IsSteadyAt q (played (lines_behind front l b))
+    pub at : IsSteadyAt q (state_on_blank (lines_behind front l b))
     pub says : hit ≡ hits front l b

@@ -4,7 +4,7 @@ use Rattle.mc_model_device.specs.declared.cause.Cause.{Cause}
 use Rattle.mc_model_device.specs.Bytes.{zeros, has_name, lookup}
 use Rattle.mc_model_device.specs.Device.{blank_words, device_words}
 use Rattle.mc_model_device.specs.Card.{App}
-use Rattle.mc_model_play.specs.Play.{Armed, Unarmed, ArmedCut, ArmedFail, Live, Running, State, Cold, Hot, Step, LineResult, Unusable, start, step, plays, steady_worn, steady_at, last_state, moves_of, armed_in, is_card_line}
+use Rattle.mc_model_play.specs.Play.{Armed, Unarmed, ArmedCut, ArmedFail, Live, Running, State, Cold, Hot, Step, LineResult, Unusable, start, step, plays, steady_worn, steady_at, last_state, moves_of, armed_stop_in, is_card_line}
 use Rattle.mc_model_device.specs.PowerUp.{Base, OnCard}
 use Rattle.mc_model_device.specs.Words.{cause_text}
 use Rattle.mc_model_play.specs.DeckGrammar.{DeckLine}
@@ -15,26 +15,26 @@ use Rattle.mc_lab.specs.declared.sweep_word.Word.TheVariants.{Before, After, Sam
 -- ---- plays
 
 -- a line that is played behind a state, and lines in turn, where a device refuses just the writes of `fail` lines
-abbrev pub stepped : State → ℕ × DeckLine → Step
-stepped s l = step s l (steady_at (armed_in s) l.1 (moves_of s l))
+abbrev pub steady_step : State → ℕ × DeckLine → Step
+steady_step s l = step s l (steady_at (armed_stop_in s) l.1 (moves_of s l))
 
 -- the state after lines that are played from a state
-unfoldable pub played_from : State → List (ℕ × DeckLine) → State
-played_from s ls = last_state s (plays s ls (steady_worn s ls))
+unfoldable pub state_after_lines : State → List (ℕ × DeckLine) → State
+state_after_lines s ls = last_state s (plays s ls (steady_worn s ls))
 
 -- the state after lines that are played on a blank device
-abbrev pub played : List (ℕ × DeckLine) → State
-played ls = played_from (start (blank_words device_words)) ls
+abbrev pub state_on_blank : List (ℕ × DeckLine) → State
+state_on_blank ls = state_after_lines (start (blank_words device_words)) ls
 
 -- ---- what a card is told to be
 
 -- the names that a line mentions
-abbrev pub mentioned : DeckLine → List (List ℕ)
-mentioned (line.Load u fixed session) = u.aid ∷ []
-mentioned (line.Select n) = n ∷ []
-mentioned (line.Delete n) = n ∷ []
-mentioned (line.Dump n) = n ∷ []
-mentioned _ = []
+abbrev pub names_in_line : DeckLine → List (List ℕ)
+names_in_line (line.Load u fixed session) = u.aid ∷ []
+names_in_line (line.Select n) = n ∷ []
+names_in_line (line.Delete n) = n ∷ []
+names_in_line (line.Dump n) = n ∷ []
+names_in_line _ = []
 
 -- names, and those of some that are new
 abbrev pub with_names : List (List ℕ) → List (List ℕ) → List (List ℕ)
@@ -44,7 +44,7 @@ with_names names (n ∷ ns) = with_names (cond (has_name n names) names (names +
 -- the names of a deck, in order of first mention, behind those that were mentioned before
 abbrev pub names_from : List (List ℕ) → List (ℕ × DeckLine) → List (List ℕ)
 names_from names [] = names
-names_from names (l ∷ ls) = names_from (with_names names (mentioned l.1)) ls
+names_from names (l ∷ ls) = names_from (with_names names (names_in_line l.1)) ls
 
 -- the state behind a whole power line: the static bytes under each name, none where it is absent; or why the words are no card
 pub data ToldState : Type 0 where
@@ -52,8 +52,8 @@ pub data ToldState : Type 0 where
   NoCard : (cause : Cause) (place : ℕ) → ToldState
 
 -- the static bytes under each name
-abbrev pub held_under : List (List ℕ) → List (List ℕ × App) → List (Option (List ℕ))
-held_under names apps = map (λ n. option_map (λ a. a.fixed) (lookup apps n)) names
+abbrev pub static_bytes_under : List (List ℕ) → List (List ℕ × App) → List (Option (List ℕ))
+static_bytes_under names apps = map (λ n. option_map (λ a. a.fixed) (lookup apps n)) names
 
 -- the applications of a card that is powered, none where there is no card
 abbrev pub running_apps : Live → Base → List (List ℕ × App)
@@ -66,18 +66,18 @@ running_in (Cold m b a) = []
 running_in (Hot s) = running_apps s.live s.base
 
 -- what is told of a whole power line by its result
-abbrev pub told_by : List (List ℕ) → Option LineResult → State → ToldState
-told_by names (Some (Unusable cause place)) s = NoCard cause place
-told_by names r s = Holds (held_under names (running_in s))
+abbrev pub state_by_result : List (List ℕ) → Option LineResult → State → ToldState
+state_by_result names (Some (Unusable cause place)) s = NoCard cause place
+state_by_result names r s = Holds (static_bytes_under names (running_in s))
 
 -- what is told of a power line that was played
-abbrev pub told_of : List (List ℕ) → Step → ToldState
-told_of names t = told_by names t.result t.after
+abbrev pub state_of_step : List (List ℕ) → Step → ToldState
+state_of_step names t = state_by_result names t.result t.after
 
 -- what is told behind lines and a whole power line
-unfoldable pub told : List (List ℕ) → List (ℕ × DeckLine) → ToldState
-unfolding played_from
-told names ls = told_of names (stepped (played ls) (0, line.Power))
+unfoldable pub state_after_power : List (List ℕ) → List (ℕ × DeckLine) → ToldState
+unfolding state_after_lines
+state_after_power names ls = state_of_step names (steady_step (state_on_blank ls) (0, line.Power))
 
 -- the same static bytes, or both absent
 abbrev pub is_same_held : Option (List ℕ) → Option (List ℕ) → Bool
@@ -135,8 +135,8 @@ abbrev pub ones : List ℕ
 ones = replicate 8 0xFF
 
 -- the statement that arms a cut, at the number of a line
-abbrev pub cut : ℕ → ℕ → List ℕ → ℕ × DeckLine
-cut n k fill = (n, line.Cut k fill)
+abbrev pub cut_statement : ℕ → ℕ → List ℕ → ℕ × DeckLine
+cut_statement n k fill = (n, line.Cut k fill)
 
 -- a power statement, at the number of a line
 abbrev pub power : ℕ → ℕ × DeckLine
@@ -144,20 +144,20 @@ power n = (n, line.Power)
 
 -- the lines before a line, and that line with its write k cut
 abbrev pub under_cut : List (ℕ × DeckLine) → ℕ × DeckLine → ℕ → List ℕ → List (ℕ × DeckLine)
-under_cut front l k fill = front ++ cut l.0 k fill ∷ l ∷ []
+under_cut front l k fill = front ++ cut_statement l.0 k fill ∷ l ∷ []
 
 -- the same, and a power line behind it whose write j is cut
 abbrev pub under_cuts : List (ℕ × DeckLine) → ℕ × DeckLine → ℕ → List ℕ → ℕ → List (ℕ × DeckLine)
-under_cuts front l k fill j = under_cut front l k fill ++ cut l.0 j fill ∷ power l.0 ∷ []
+under_cuts front l k fill j = under_cut front l k fill ++ cut_statement l.0 j fill ∷ power l.0 ∷ []
 
 -- the device writes that a line makes behind others
 abbrev pub writes_behind : List (ℕ × DeckLine) → ℕ × DeckLine → ℕ
-writes_behind front l = moves_of (played front) l
+writes_behind front l = moves_of (state_on_blank front) l
 
 -- the state behind a cut, and those where the recovery behind it is cut too, in each of its writes
-abbrev pub recovered : List (List ℕ) → List (ℕ × DeckLine) → ℕ × DeckLine → ℕ → List ℕ → List ToldState
-recovered names front l k fill =
-    map (λ j. told names (under_cuts front l k fill j)) (count_from 1 (writes_behind (under_cut front l k fill) (power l.0)))
+abbrev pub recovery_states : List (List ℕ) → List (ℕ × DeckLine) → ℕ × DeckLine → ℕ → List ℕ → List ToldState
+recovery_states names front l k fill =
+    map (λ j. state_after_power names (under_cuts front l k fill j)) (count_from 1 (writes_behind (under_cut front l k fill) (power l.0)))
 
 -- one write that was cut: its word, and the number of plays that tell it
 pub record Tried : Type 0 where
@@ -165,15 +165,15 @@ pub record Tried : Type 0 where
   pub plays : ℕ
 
 -- the states of a write, the first and the others
-abbrev pub tried_by : ToldState → ToldState → ToldState → List ToldState → Tried
-tried_by before after t ts = record { word = word_of before after t ts; plays = length ts + 1 }
+abbrev pub cut_write_of : ToldState → ToldState → ToldState → List ToldState → Tried
+cut_write_of before after t ts = record { word = word_of before after t ts; plays = length ts + 1 }
 
 -- one write of a line that is cut, with eight bytes 00 and with eight bytes FF
-unfoldable pub tried : List (List ℕ) → List (ℕ × DeckLine) → ℕ × DeckLine → ToldState → ToldState → ℕ → Tried
-unfolding told played_from
-tried names front l before after k =
-    tried_by before after (told names (under_cut front l k (zeros 8)))
-    (recovered names front l k (zeros 8) ++ told names (under_cut front l k ones) ∷ recovered names front l k ones)
+unfoldable pub cut_write : List (List ℕ) → List (ℕ × DeckLine) → ℕ × DeckLine → ToldState → ToldState → ℕ → Tried
+unfolding state_after_power state_after_lines
+cut_write names front l before after k =
+    cut_write_of before after (state_after_power names (under_cut front l k (zeros 8)))
+    (recovery_states names front l k (zeros 8) ++ state_after_power names (under_cut front l k ones) ∷ recovery_states names front l k ones)
 
 -- ---- a deck
 
@@ -189,16 +189,16 @@ pub record Swept : Type 0 where
   pub plays : ℕ
 
 -- a line of this number by its writes
-abbrev pub swept_by : ℕ → List Tried → Swept
-swept_by n ts = record { number = n; words = map (λ t. t.word) ts; plays = plays_of ts }
+abbrev pub sweep_of_writes : ℕ → List Tried → Swept
+sweep_of_writes n ts = record { number = n; words = map (λ t. t.word) ts; plays = plays_of ts }
 
 -- a line whose writes are cut
-unfoldable pub swept : List (List ℕ) → List (ℕ × DeckLine) → ℕ × DeckLine → Swept
-unfolding told tried played_from
-swept names front l =
-    let before = told names front in
-    let after = told names (front ++ l ∷ []) in
-    swept_by l.0 (map (tried names front l before after) (count_from 1 (writes_behind front l)))
+unfoldable pub line_sweep : List (List ℕ) → List (ℕ × DeckLine) → ℕ × DeckLine → Swept
+unfolding state_after_power cut_write state_after_lines
+line_sweep names front l =
+    let before = state_after_power names front in
+    let after = state_after_power names (front ++ l ∷ []) in
+    sweep_of_writes l.0 (map (cut_write names front l before after) (count_from 1 (writes_behind front l)))
 
 -- whether no stop is armed
 abbrev pub is_unarmed : Armed → Bool
@@ -208,21 +208,21 @@ is_unarmed (ArmedFail k) = false
 
 -- a line is swept where it is a card line, no stop is armed for it, and it makes a device write
 abbrev pub is_swept : List (ℕ × DeckLine) → ℕ × DeckLine → Bool
-is_swept front l = is_card_line l.1 && is_unarmed (armed_in (played front)) && nat_le 1 (writes_behind front l)
+is_swept front l = is_card_line l.1 && is_unarmed (armed_stop_in (state_on_blank front)) && nat_le 1 (writes_behind front l)
 
 -- a line before others, if it is swept
-abbrev pub swept_if : Bool → Swept → List Swept → List Swept
-swept_if true s rest = s ∷ rest
-swept_if false s rest = rest
+abbrev pub sweeps_with : Bool → Swept → List Swept → List Swept
+sweeps_with true s rest = s ∷ rest
+sweeps_with false s rest = rest
 
 -- the swept lines among those behind a front of a deck
 unfoldable pub sweep_behind : List (List ℕ) → List (ℕ × DeckLine) → List (ℕ × DeckLine) → List Swept
-unfolding swept played_from
+unfolding line_sweep state_after_lines
 sweep_behind names front [] = []
 sweep_behind names front (l ∷ ls) =
-    let s = swept names front l in
+    let s = line_sweep names front l in
     let rest = sweep_behind names (front ++ l ∷ []) ls in
-    swept_if (is_swept front l) s rest
+    sweeps_with (is_swept front l) s rest
 
 -- the swept lines of a deck
 unfoldable pub sweep : List (ℕ × DeckLine) → List Swept

@@ -2,7 +2,7 @@
 ghost use Rattle.std.specs.Prelude.{◌≡◌, codes, decimal, IfOk};
 ghost use Rattle.mc_text.specs.Texts.{sunk_in, Puts};
 ghost use Rattle.mc_model_play.specs.Patterns.{holds};
-ghost use Rattle.mc_lab.specs.Expectations.{count_text, failed_line, told_of};
+ghost use Rattle.mc_lab.specs.Expectations.{count_text, failed_line, expectation_line};
 ghost use Rattle.mc_lab.specs.Judged.{done_of, expectation_of};
 
 use crate::matching::holds;
@@ -36,7 +36,7 @@ pub fn judge<T: Sink>(
 ) -> Result<bool, WriteFault>
     ensures value { IfOk result (λ b. b ≡ holds expectation.now.text.now text.now) }
     ensures told { Puts (sunk_in T.taken T.faults out.old)
-        (told_of (holds expectation.now.text.now text.now) (expectation_of expectation.now) text.now) (done_of result)
+        (expectation_line (holds expectation.now.text.now text.now) (expectation_of expectation.now) text.now) (done_of result)
         (sunk_in T.taken T.faults out.new) }
 {
     if holds(expectation.text, text) {

@@ -1,4 +1,4 @@
-#![tactic(auto, unfolding(crate::specs::Patterns::matches))]
+#![tactic(auto, unfolding(mc_model_play::specs::Patterns::matches))]
 
 // Worked rows: what patterns hold of.
 ghost use Rattle.std.specs.Prelude.{◌≡◌, [], codes, true, false};

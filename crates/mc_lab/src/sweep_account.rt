@@ -1,7 +1,7 @@
 // What is told of a card behind a power line.
 ghost use Rattle.std.specs.Prelude.{◌≡◌, [], length, map, IfOk, Some};
 ghost use Rattle.mc_lab.specs.Sweeps.{are_same_held, is_same, is_same_held};
-ghost use Rattle.mc_lab.specs.SweepBodies.{account_value, held_value, told_with};
+ghost use Rattle.mc_lab.specs.SweepBodies.{account_value, held_value, state_by_fault};
 
 use arrayvec::ArrayVec;
 use mc_base::NoMemory;
@@ -32,7 +32,7 @@ fn is_same_held(a: &Held, b: &Held) -> bool
 
 // Whether the words are no card for the same cause.
 fn is_same_fault(a: &Unusable, b: &Unusable) -> bool
-    ensures { result ≡ is_same (told_with (Some a.now) []) (told_with (Some b.now) []) }
+    ensures { result ≡ is_same (state_by_fault (Some a.now) []) (state_by_fault (Some b.now) []) }
 {
     a.cause.word() == b.cause.word() && a.place == b.place
 }

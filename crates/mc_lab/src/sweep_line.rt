@@ -1,7 +1,7 @@
 // One line of a sweep: each of its writes is cut, and each of the recovery behind it.
 ghost use Rattle.std.specs.Prelude.{◌≡◌, ◌&&◌, ◌+◌, ◌≤◌, ◌<◌, ◌*◌, length, map, take, IfOk, IfSome, MatchOption};
 ghost use Rattle.mc_lab.specs.Sweeps.{all_same, count_from, plays_of};
-ghost use Rattle.mc_lab.specs.SweepBodies.{account_value, again_in, recovered_in, told_in, tried_in, word_with};
+ghost use Rattle.mc_lab.specs.SweepBodies.{account_value, again_in, recovery_states_at, state_at_place, cut_write_at, word_with};
 ghost use Rattle.mc_lab.specs.SweepBodies.{writes_in, AccountFits, AccountsHaveRoom, IsUnarmedLine, IsPlace};
 ghost use Rattle.mc_lab.specs.SweepBodies.{OpensNoGate};
 ghost use Rattle.mc_lab.specs.declared.sweep_trial.Behind.TheVariants as behind;
@@ -90,8 +90,8 @@ fn recoveries<D: Trials, L: Ledger>(
     requires shuts { OpensNoGate fill }
     requires few { again_in place.now k fill ≤ 65535 }
     requires room { AccountFits pair.old.now place.now }
-    ensures same { result.0 ≡ all_same (account_value pair.old.first) (recovered_in place.now k fill) }
-    ensures count { result.1 ≡ length (recovered_in place.now k fill) }
+    ensures same { result.0 ≡ all_same (account_value pair.old.first) (recovery_states_at place.now k fill) }
+    ensures count { result.1 ≡ length (recovery_states_at place.now k fill) }
     ensures first { pair.new.first ≡ pair.old.first }
     ensures room { AccountFits pair.new.now place.now }
 {
@@ -123,13 +123,13 @@ fn try_write<D: Trials, L: Ledger>(
     requires at { IsPlace place.now }
     requires open { IsUnarmedLine place.now }
     requires low { 1 ≤ k }
-    requires before { account_value ends.now.before ≡ told_in place.now behind.Nothing }
-    requires after { account_value ends.now.after ≡ told_in place.now behind.Whole }
+    requires before { account_value ends.now.before ≡ state_at_place place.now behind.Nothing }
+    requires after { account_value ends.now.after ≡ state_at_place place.now behind.Whole }
     requires first { AccountFits pair.old.first place.now }
     requires now { AccountFits pair.old.now place.now }
     ensures tried { MatchOption result (writes_in place.now < k)
-        (λ t. (k ≤ writes_in place.now) × (t.word ≡ (tried_in place.now k).word)
-        × (t.plays ≡ (tried_in place.now k).plays)) }
+        (λ t. (k ≤ writes_in place.now) × (t.word ≡ (cut_write_at place.now k).word)
+        × (t.plays ≡ (cut_write_at place.now k).plays)) }
     ensures few_plays { IfSome result (λ t. t.plays ≤ 131072) }
     ensures first { AccountFits pair.new.first place.now }
     ensures now { AccountFits pair.new.now place.now }
@@ -209,8 +209,8 @@ impl<D: Trials + Drop> Bench<D> {
         requires most { length words.old ≤ 4294967295 }
         ensures writes { result.writes ≡ writes_in place.now }
         ensures words { take result.writes words.new
-            ≡ map (λ t. t.word) (map (tried_in place.now) (count_from 1 (writes_in place.now))) }
-        ensures plays { result.plays ≡ plays_of (map (tried_in place.now) (count_from 1 (writes_in place.now))) }
+            ≡ map (λ t. t.word) (map (cut_write_at place.now) (count_from 1 (writes_in place.now))) }
+        ensures plays { result.plays ≡ plays_of (map (cut_write_at place.now) (count_from 1 (writes_in place.now))) }
         ensures few_plays { result.plays ≤ 131072 * result.writes }
         ensures size { length words.new ≡ length words.old }
         ensures room { AccountsHaveRoom self.new.ends self.new.pair (length place.now.names.now) }

@@ -2,7 +2,7 @@
 ghost use Rattle.std.specs.Prelude.{◌≡◌, [], ◌∷◌, IfOk, MatchOption};
 ghost use Rattle.mc_model_device.specs.Bytes.{has_name};
 ghost use Rattle.mc_deck.specs.Lines.{line_of};
-ghost use Rattle.mc_lab.specs.Sweeps.{mentioned, names_from, with_names};
+ghost use Rattle.mc_lab.specs.Sweeps.{names_in_line, names_from, with_names};
 
 use mc_base::{Aid, NoMemory};
 use mc_deck::{Deck, Line};
@@ -10,8 +10,8 @@ use std::alloc::{AllocError, Global};
 
 // The name that a line mentions; a load mentions that of its unit.
 fn mentioned(line: &Line<'_>) -> Option<Aid>
-    ensures { MatchOption result (mentioned (line_of line.now) ≡ [])
-        (λ name. mentioned (line_of line.now) ≡ name ∷ []) }
+    ensures { MatchOption result (names_in_line (line_of line.now) ≡ [])
+        (λ name. names_in_line (line_of line.now) ≡ name ∷ []) }
 {
     match line {
         Line::Load { unit, .. } => Some(unit.aid),
@@ -36,7 +36,7 @@ fn is_among(names: &[Aid], name: &Aid) -> bool
 
 // Adds the name that a line mentions, where it is new.
 fn add_mentioned(names: &mut Vec<Aid>, line: &Line<'_>) -> Result<(), NoMemory>
-    ensures { IfOk result (λ done. names.new.items ≡ with_names names.old.items (mentioned (line_of line.now))) }
+    ensures { IfOk result (λ done. names.new.items ≡ with_names names.old.items (names_in_line (line_of line.now))) }
 {
     let Some(name) = mentioned(line) else {
         return Ok(());

@@ -4,9 +4,9 @@ ghost use Rattle.mc_model_play.specs.Play.{State};
 ghost use Rattle.mc_model_play.specs.DeckGrammar.{DeckLine};
 ghost use Rattle.mc_deck.specs.Lines.{line_of, GoodLine};
 ghost use Rattle.mc_script.specs.Players.{device_of, statics_in, IsPlaying, IsUnfused};
-ghost use Rattle.mc_lab.specs.Sweeps.{played};
+ghost use Rattle.mc_lab.specs.Sweeps.{state_on_blank};
 ghost use Rattle.mc_model_device.specs.Device.{blank_words, device_words};
-ghost use Rattle.mc_lab.specs.SweepBodies.{account_value, held_value, hit_in, told_in, CanCut, AccountFits};
+ghost use Rattle.mc_lab.specs.SweepBodies.{account_value, held_value, hit_in, state_at_place, CanCut, AccountFits};
 ghost use Rattle.mc_lab.specs.SweepBodies.{IsFewBehind, IsPlace};
 ghost use Rattle.mc_lab.specs.declared.sweep_trial.Behind.TheVariants as behind;
 ghost use Rattle.mc_lab.specs.SweepPlayers.{fault_in, off_in, BehindOn, CutOn, IsSteadyAt, LineOn};
@@ -86,7 +86,7 @@ fn play_front<N: Bench, L: Ledger>(
     requires steady { (N.bench device).steady ≡ true }
     requires words { (N.state device).words ≡ blank_words device_words }
     requires place { at ≤ length deck.now }
-    ensures at { IsSteadyAt N.state N.bench result (played (take at deck.now)) }
+    ensures at { IsSteadyAt N.state N.bench result (state_on_blank (take at deck.now)) }
     ensures size { length (N.state (device_of result)).words ≡ length (N.state device).words }
     ensures lent { N.same device (device_of result) }
 {
@@ -133,7 +133,7 @@ fn play_twice<N: Bench, L: Ledger>(
     requires good { GoodLine (line_of line.now) }
     requires low { 1 ≤ k }
     requires first { 1 ≤ again }
-    ensures on { (front : List (ℕ × DeckLine)) (n : ℕ) → IsSteadyAt N.state N.bench player.old (played front)
+    ensures on { (front : List (ℕ × DeckLine)) (n : ℕ) → IsSteadyAt N.state N.bench player.old (state_on_blank front)
         → BehindOn N.state N.bench front (n, line_of line.now) (behind.Twice k fill again) result player.new }
     ensures size { length (N.state (device_of player.new)).words ≡ length (N.state (device_of player.old)).words }
     ensures lent { N.same (device_of player.old) (device_of player.new) }
@@ -152,7 +152,7 @@ fn play_behind<N: Bench, L: Ledger>(
     requires playing { IsPlaying N.state N.bench player.old }
     requires good { GoodLine (line_of line.now) }
     requires cuts { CanCut behind }
-    ensures on { (front : List (ℕ × DeckLine)) (n : ℕ) → IsSteadyAt N.state N.bench player.old (played front)
+    ensures on { (front : List (ℕ × DeckLine)) (n : ℕ) → IsSteadyAt N.state N.bench player.old (state_on_blank front)
         → BehindOn N.state N.bench front (n, line_of line.now) behind result player.new }
     ensures size { length (N.state (device_of player.new)).words ≡ length (N.state (device_of player.old)).words }
     ensures lent { N.same (device_of player.old) (device_of player.new) }
@@ -231,7 +231,7 @@ fn play_trial<N: Bench, L: Ledger>(
     requires at { IsPlace place.now }
     requires room { AccountFits into.old place.now }
     requires cuts { CanCut behind }
-    ensures told { account_value into.new ≡ told_in place.now behind }
+    ensures told { account_value into.new ≡ state_at_place place.now behind }
     ensures hit { result.1 ≡ hit_in place.now behind }
     ensures few { IsFewBehind place.now behind }
     ensures room { AccountFits into.new place.now }
@@ -258,7 +258,7 @@ fn play_blank<L: Ledger>(
     requires at { IsPlace place.now }
     requires room { AccountFits into.old place.now }
     requires cuts { CanCut behind }
-    ensures told { account_value into.new ≡ told_in place.now behind }
+    ensures told { account_value into.new ≡ state_at_place place.now behind }
     ensures hit { result ≡ hit_in place.now behind }
     ensures few { IsFewBehind place.now behind }
     ensures room { AccountFits into.new place.now }

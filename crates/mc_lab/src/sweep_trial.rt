@@ -1,6 +1,6 @@
 // The plays of a sweep, and who plays them.
 ghost use Rattle.std.specs.Prelude.{◌≡◌};
-ghost use Rattle.mc_lab.specs.SweepBodies.{account_value, hit_in, told_in, CanCut, AccountFits, IsFewBehind, IsPlace};
+ghost use Rattle.mc_lab.specs.SweepBodies.{account_value, hit_in, state_at_place, CanCut, AccountFits, IsFewBehind, IsPlace};
 
 use crate::sweep_account::Account;
 use mc_base::{Aid, Steps, Word};
@@ -39,7 +39,7 @@ pub trait Trials {
         requires at { IsPlace place.now }
         requires room { AccountFits into.old place.now }
         requires cuts { CanCut behind }
-        ensures told { account_value into.new ≡ told_in place.now behind }
+        ensures told { account_value into.new ≡ state_at_place place.now behind }
         ensures hit { result ≡ hit_in place.now behind }
         ensures few { IsFewBehind place.now behind }
         ensures room { AccountFits into.new place.now };

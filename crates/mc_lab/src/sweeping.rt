@@ -1,12 +1,12 @@
 // Sweeps of a deck.
 ghost use Rattle.std.specs.Prelude.{◌≡◌, ◌+◌, ◌≤◌, ◌<◌, length, take, true, false, IfOk, IfSome, MatchOption, OnOk};
-ghost use Rattle.mc_model_play.specs.Play.{armed_in, is_card_line};
+ghost use Rattle.mc_model_play.specs.Play.{armed_stop_in, is_card_line};
 ghost use Rattle.mc_deck.specs.Lines.{line_of};
 ghost use Rattle.mc_text.specs.Texts.{sunk_in, Puts};
 ghost use Rattle.mc_lab.specs.Judged.{done_of};
-ghost use Rattle.mc_lab.specs.Sweeps.{is_unarmed, names_from, played, sweep_text, swept_texts};
+ghost use Rattle.mc_lab.specs.Sweeps.{is_unarmed, names_from, state_on_blank, sweep_text, swept_texts};
 ghost use Rattle.mc_lab.specs.SweepBodies.{line_at, writes_in, AccountsHaveRoom, IsUnarmedLine, IsPlace};
-ghost use Rattle.mc_lab.specs.SweepEnds.{free_behind, is_open_at, left_from, swept_in, AddsSums, AtMost, IsRoom};
+ghost use Rattle.mc_lab.specs.SweepEnds.{free_behind, is_open_at, sweeps_from, sweeps_at, AddsSums, AtMost, IsRoom};
 ghost use Rattle.mc_lab.specs.SweepEnds.{IsSmall, TellsSweep};
 
 use crate::sweep_line::Bench;
@@ -68,7 +68,7 @@ fn free_behind(line: &Line<'_>, free: bool) -> bool
 // Whether no stop is armed behind the first lines of a deck.
 fn is_free(deck: &Deck, at: usize) -> bool
     requires { at ≤ length deck.now }
-    ensures { result ≡ is_unarmed (armed_in (played (take at deck.now))) }
+    ensures { result ≡ is_unarmed (armed_stop_in (state_on_blank (take at deck.now))) }
 {
     let mut free = true;
     for i in 0..at {
@@ -148,9 +148,9 @@ fn sweep_place<D: Trials + Drop, T: Sink, L: Ledger>(
     requires most { length words.old ≤ 4294967295 }
     requires sums { IsSmall sums.old place.now.at }
     requires room { AccountsHaveRoom bench.old.ends bench.old.pair (length place.now.names.now) }
-    ensures told { Puts (sunk_in T.taken T.faults out.old) (swept_texts (swept_in place.now)) result
+    ensures told { Puts (sunk_in T.taken T.faults out.old) (swept_texts (sweeps_at place.now)) result
         (sunk_in T.taken T.faults out.new) }
-    ensures adds { OnOk result (AddsSums sums.old (swept_in place.now) sums.new) }
+    ensures adds { OnOk result (AddsSums sums.old (sweeps_at place.now) sums.new) }
     ensures small { OnOk result (IsSmall sums.new (place.now.at + 1)) }
     ensures size { length words.new ≡ length words.old }
     ensures room { AccountsHaveRoom bench.new.ends bench.new.pair (length place.now.names.now) }
@@ -180,9 +180,9 @@ fn sweep_at<D: Trials + Drop, T: Sink, L: Ledger>(
     requires most { length words.old ≤ 4294967295 }
     requires sums { IsSmall sums.old place.now.at }
     requires room { AccountsHaveRoom bench.old.ends bench.old.pair (length place.now.names.now) }
-    ensures told { Puts (sunk_in T.taken T.faults out.old) (swept_texts (swept_in place.now)) result
+    ensures told { Puts (sunk_in T.taken T.faults out.old) (swept_texts (sweeps_at place.now)) result
         (sunk_in T.taken T.faults out.new) }
-    ensures adds { OnOk result (AddsSums sums.old (swept_in place.now) sums.new) }
+    ensures adds { OnOk result (AddsSums sums.old (sweeps_at place.now) sums.new) }
     ensures small { OnOk result (IsSmall sums.new (place.now.at + 1)) }
     ensures size { length words.new ≡ length words.old }
     ensures room { AccountsHaveRoom bench.new.ends bench.new.pair (length place.now.names.now) }
@@ -221,9 +221,9 @@ fn sweep_lines<D: Trials + Drop, T: Sink, L: Ledger>(
     requires most { length words.old ≤ 4294967295 }
     requires sums { IsSmall sums.old 0 }
     requires room { AccountsHaveRoom bench.old.ends bench.old.pair (length names.now) }
-    ensures told { Puts (sunk_in T.taken T.faults out.old) (swept_texts (left_from names.now deck.now 0)) result
+    ensures told { Puts (sunk_in T.taken T.faults out.old) (swept_texts (sweeps_from names.now deck.now 0)) result
         (sunk_in T.taken T.faults out.new) }
-    ensures adds { OnOk result (AddsSums sums.old (left_from names.now deck.now 0) sums.new) }
+    ensures adds { OnOk result (AddsSums sums.old (sweeps_from names.now deck.now 0) sums.new) }
 {
     for at in 0..deck.len() {
         let place = Place { deck, at, names };

@@ -8,20 +8,20 @@ use Rattle.mc_model_device.specs.Orders.{Answer, InOrder}
 use Rattle.mc_model_card.specs.Items.{BankItem}
 use Rattle.mc_model_device.specs.Bytes.{lookup}
 use Rattle.mc_model_device.specs.Card.{App}
-use Rattle.mc_model_machine.specs.Code.{decoded}
+use Rattle.mc_model_machine.specs.Code.{instruction_at}
 use Rattle.mc_model_machine.specs.Frame.{Frame, Effect, session_of}
 use Rattle.mc_model_machine.specs.Primitives.{Around, Then, Goes, Exits, Delegates}
 use Rattle.mc_model_machine.specs.Row.{RowEnd, Abends, Does, row}
-use Rattle.mc_model_machine.specs.Chain.{Chain, Turn, Outcome, Reply, Abended, Follows, Continues, Ends, code_in, around, first_frame, chain_session, write_of, words_of_write, pair_of, settled, follows, abends_at, done_turn, row_turn, stepped, fetched, acted, turn_of}
+use Rattle.mc_model_machine.specs.Chain.{Chain, Turn, Outcome, Reply, Abended, Follows, Continues, Ends, code_in, around, first_frame, chain_session, write_of, words_of_write, pair_of, chain_after_effect, follows, abends_at, done_turn, row_turn, frame_at, turn_of_fetch, turn_of_chain, turn_of}
 use Rattle.mc_bank.specs.Bank.{BankState, app_of}
 use Rattle.mc_segs.specs.declared.ends.Halt.{Halt}
 use Rattle.mc_segs.specs.declared.ends.Halt.TheVariants as halt
 use Rattle.mc_segs.specs.declared.ends.Next.{Next}
-use Rattle.mc_segs.specs.HeldFrames.{Held, Seen, shown, seen, app_under}
+use Rattle.mc_segs.specs.HeldFrames.{Held, Seen, frame_on_bank, frame_reading, app_under}
 use Rattle.mc_segs.specs.Ends.{EndActs as CallActs, EffectDone, scene, then_of}
 use Rattle.mc_machine.specs.Alike.{SameEffect, SameRowEnd, KeepsEffect, KeepsRow}
 use Rattle.mc_machine.specs.Chains.{Chained, RunsAs, FitsChain, ChainWrote, first_held, session_in}
-use Rattle.mc_machine.specs.Turns.{ActDone, Followed, advanced, halted, told_of, delegator_of, end_value, step_value}
+use Rattle.mc_machine.specs.Turns.{ActDone, Followed, chain_at_next, step_of_halt, step_of_frame, delegator_of, end_value, step_value}
 use Rattle.mc_machine.specs.declared.outcome.End.TheVariants as end
 use Rattle.mc_machine.specs.declared.outcome.Step.{Step}
 use Rattle.mc_machine.proofs.Alike.{rows_end_alike, guarded_seen}
@@ -56,12 +56,12 @@ one_less n some = omega arith
 
 -- ---- the turn of a chain with a budget
 
-not_spent : (n : ℕ) (ch : Chain) → n ≢ 0 → turn_of n ch ≡ acted ch
+not_spent : (n : ℕ) (ch : Chain) → n ≢ 0 → turn_of n ch ≡ turn_of_chain ch
 not_spent zero ch some = absurd (some refl)
 not_spent (suc n) ch some = refl
 
-acted_is : (ch : Chain) → acted ch ≡ fetched ch (decoded (code_in (lookup ch.map ch.frame.name)) ch.frame.at)
-unfolding acted
+acted_is : (ch : Chain) → turn_of_chain ch ≡ turn_of_fetch ch (instruction_at (code_in (lookup ch.map ch.frame.name)) ch.frame.at)
+unfolding turn_of_chain
 acted_is ch = refl
 
 -- one instruction counts once
@@ -71,12 +71,12 @@ row_count ch i (Does d) = refl
 
 module _ {B : Type 0} (did : B → BankItem → Answer → B → Type 0) (state : B → BankState) (named : B → ℕ → Option (List ℕ)) where
   pub turned : (b : B) (c : Chained) (ch : Chain) (found : Result (Ins × ℕ) DecodeFault) → RunsAs (state b) (named b) c ch → c.left ≢ 0
-      → found ≡ decoded (app_under (state b) (named b) c.running).code c.running.frame.at → turn_of c.left ch ≡ fetched ch found
+      → found ≡ instruction_at (app_under (state b) (named b) c.running).code c.running.frame.at → turn_of c.left ch ≡ turn_of_fetch ch found
   turned b c ch found r some is =
       let map : lookup ch.map ch.frame.name ≡ Some (app_under (state b) (named b) c.running) =
       ap (λ (m : List (List ℕ × App)). lookup m ch.frame.name) r.map ∙ app_is (state b) (named b) c.running ch.frame r.running in
-      not_spent c.left ch some ∙ acted_is ch ∙ ap (λ (o : Option App). fetched ch (decoded (code_in o) ch.frame.at)) map
-      ∙ ap (λ (at : ℕ). fetched ch (decoded (app_under (state b) (named b) c.running).code at)) (sym (ap (λ (t : Seen). t.at) r.running.same)) ∙ ap (λ (x : Result (Ins × ℕ) DecodeFault). fetched ch x) (sym is)
+      not_spent c.left ch some ∙ acted_is ch ∙ ap (λ (o : Option App). turn_of_fetch ch (instruction_at (code_in o) ch.frame.at)) map
+      ∙ ap (λ (at : ℕ). turn_of_fetch ch (instruction_at (app_under (state b) (named b) c.running).code at)) (sym (ap (λ (t : Seen). t.at) r.running.same)) ∙ ap (λ (x : Result (Ins × ℕ) DecodeFault). turn_of_fetch ch x) (sym is)
 
   -- the running frame's static bytes are those of its application
   pub own_fixed : (b : B) (c : Chained) (ch : Chain) → RunsAs (state b) (named b) c ch → (app_under (state b) (named b) c.running).fixed ≡ (app_of (state b).apps (Some ch.frame.name)).fixed
@@ -87,14 +87,14 @@ module _ {B : Type 0} (did : B → BankItem → Answer → B → Type 0) (state 
       → ◌≡◌ {A = Turn} (record { depth = length ch.below + 1; at = ch.frame.at; ins = i; dt = ch.frame.dt; c = ch.frame.c; z = ch.frame.z; end = o; wrote = w })
       (record { depth = length c.below + 1; at = c.running.frame.at; ins = i; dt = c.running.frame.dt; c = c.running.frame.c; z = c.running.frame.z; end = o; wrote = w })
   told_old b c ch o i w r =
-      let seen_so : seen ch.frame ≡ seen (shown (state b) (named b) c.running) = sym r.running.same in
+      let seen_so : frame_reading ch.frame ≡ frame_reading (frame_on_bank (state b) (named b) c.running) = sym r.running.same in
       told_same (length ch.below + 1) (length c.below + 1) ch.frame.at c.running.frame.at ch.frame.dt c.running.frame.dt ch.frame.c c.running.frame.c ch.frame.z c.running.frame.z o o i w
       (ap (λ (k : ℕ). k + 1) (sym (as_many (state b) (named b) c.below ch.below r.below)))
       (ap (λ (t : Seen). t.at) seen_so) (ap (λ (t : Seen). t.dt) seen_so) (ap (λ (t : Seen). t.c) seen_so) (ap (λ (t : Seen). t.z) seen_so) refl
 
   -- an abend, with which no byte was written
   pub abends_done : (b e : B) (c d : Chained) (ch : Chain) (i : Option Ins) (count : ℕ) (a : Abend) (step : Step) → RunsAs (state b) (named b) c ch → (state b).stopped ≡ false → e ≡ b → session_in d ≡ session_in c → d.left + count ≡ c.left
-      → step ≡ told_of c.running i (Some (end.Abend a)) → ActDone did state named b e c d ch (abends_at ch i count a) (Ok step)
+      → step ≡ step_of_frame c.running i (Some (end.Abend a)) → ActDone did state named b e c d ch (abends_at ch i count a) (Ok step)
   abends_done b e c d ch i count a step r going same session left is = (
     record {
       writes = same;
@@ -109,13 +109,13 @@ module _ {B : Type 0} (did : B → BankItem → Answer → B → Type 0) (state 
 
   pub row_related : (b : B) (c : Chained) (ch : Chain) (next : ℕ) (i : Ins) → RunsAs (state b) (named b) c ch
       → SameRowEnd (app_under (state b) (named b) c.running).fixed
-      (row i (shown (state b) (named b) (advanced c next).running) c.public (record { case = c.case; delegator = delegator_of (named b) c.below }))
-      (row i (stepped ch.frame next) ch.public (around ch))
+      (row i (frame_on_bank (state b) (named b) (chain_at_next c next).running) c.public (record { case = c.case; delegator = delegator_of (named b) c.below }))
+      (row i (frame_at ch.frame next) ch.public (around ch))
   row_related b c ch next i r =
-      let f = shown (state b) (named b) (advanced c next).running in
-      let g = stepped ch.frame next in
+      let f = frame_on_bank (state b) (named b) (chain_at_next c next).running in
+      let g = frame_at ch.frame next in
       let x : Around = record { case = c.case; delegator = delegator_of (named b) c.below } in
-      let same : seen f ≡ seen g = (advanced_runs (state b) (named b) c ch next r).running.same in
+      let same : frame_reading f ≡ frame_reading g = (advanced_runs (state b) (named b) c ch next r).running.same in
       let fixed = (app_under (state b) (named b) c.running).fixed in
       let knows : x ≡ around ch =
       ap (λ (k : ℕ). record { case = k; delegator = delegator_of (named b) c.below }) r.case ∙ ap (λ (o : Option (List ℕ)). record x { case = (around ch).case; delegator = o }) (delegators (state b) (named b) c.below ch.below r.below) in
@@ -123,11 +123,11 @@ module _ {B : Type 0} (did : B → BankItem → Answer → B → Type 0) (state 
       subst (λ (p : List ℕ). SameRowEnd fixed (row i f c.public x) (row i g p x)) r.public (rows_end_alike i f g c.public x (guarded_seen g f (sym same) r.running.guarded) same)
       )
 
-  module _ (laws : BankLaws did state named) (b e : B) (c mid : Chained) (ch : Chain) (next : ℕ) (i : Ins) (r : RunsAs (state b) (named b) c ch) (others : mid ≡ record (advanced c next) { running = mid.running; public = mid.public }) where
+  module _ (laws : BankLaws did state named) (b e : B) (c mid : Chained) (ch : Chain) (next : ℕ) (i : Ins) (r : RunsAs (state b) (named b) c ch) (others : mid ≡ record (chain_at_next c next) { running = mid.running; public = mid.public }) where
     -- ---- the instruction abends
 
     performed_abends : (going : (state b).stopped ≡ false) (some : c.left ≢ 0) (step : Step) (a : Abend) (x y : RowEnd) → SameRowEnd (app_under (state b) (named b) c.running).fixed x y
-        → CallActs did state named (scene b e (advanced c next).running mid.running c.public mid.public) x (Err (halt.Abend a)) → step ≡ told_of c.running (Some i) (Some (end.Abend a))
+        → CallActs did state named (scene b e (chain_at_next c next).running mid.running c.public mid.public) x (Err (halt.Abend a)) → step ≡ step_of_frame c.running (Some i) (Some (end.Abend a))
         → ActDone did state named b e c mid ch (row_turn ch i y) (Ok step)
     performed_abends going some step a (Abends p) (Abends q) same acts is =
         let quiet = acts.1 in
@@ -145,49 +145,49 @@ module _ {B : Type 0} (did : B → BankItem → Answer → B → Type 0) (state 
     -- ---- the bank stops in its change
 
     performed_stops : (stop : Stop) (x y : RowEnd) → SameRowEnd (app_under (state b) (named b) c.running).fixed x y
-        → CallActs did state named (scene b e (advanced c next).running mid.running c.public mid.public) x (Err (halt.Stop stop)) → InOrder (ChainWrote did state) b (row_turn ch i y).writes (Err stop) e
+        → CallActs did state named (scene b e (chain_at_next c next).running mid.running c.public mid.public) x (Err (halt.Stop stop)) → InOrder (ChainWrote did state) b (row_turn ch i y).writes (Err stop) e
     performed_stops stop (Abends p) (Abends q) same acts = absurd acts
     performed_stops stop (Abends p) (Does d) same acts = absurd same
     performed_stops stop (Does d) (Abends q) same acts = absurd same
     performed_stops stop (Does d) (Does k) same acts =
         writes_of did state ch.frame.name (app_under (state b) (named b) c.running).fixed k.effect.changes b (Err stop) e (own_fixed b c ch r) (committed_of did state named laws b e c ch d.effect k.effect (Err stop) r same.effect acts)
 
-    pub performed_halts : (going : (state b).stopped ≡ false) (some : c.left ≢ 0) (before : Step) → before ≡ told_of c.running (Some i) None → (h : Halt) (x y : RowEnd) → SameRowEnd (app_under (state b) (named b) c.running).fixed x y
-        → CallActs did state named (scene b e (advanced c next).running mid.running c.public mid.public) x (Err h) → ActDone did state named b e c mid ch (row_turn ch i y) (halted before h)
+    pub performed_halts : (going : (state b).stopped ≡ false) (some : c.left ≢ 0) (before : Step) → before ≡ step_of_frame c.running (Some i) None → (h : Halt) (x y : RowEnd) → SameRowEnd (app_under (state b) (named b) c.running).fixed x y
+        → CallActs did state named (scene b e (chain_at_next c next).running mid.running c.public mid.public) x (Err h) → ActDone did state named b e c mid ch (row_turn ch i y) (step_of_halt before h)
     performed_halts going some before is (halt.Abend a) x y same acts =
         performed_abends going some (record before { end = Some (end.Abend a) }) a x y same acts (ap (λ (s : Step). record s { end = Some (end.Abend a) }) is)
     performed_halts going some before is (halt.Stop stop) x y same acts = performed_stops stop x y same acts
 
     -- ---- the instruction is done
 
-    pub mid_runs : (d x : Effect) → SameEffect (app_under (state b) (named b) c.running).fixed d x → KeepsEffect (stepped ch.frame next) ch.public x
-        → EffectDone did state named (scene b e (advanced c next).running mid.running c.public mid.public) d → RunsAs (state e) (named e) mid (settled ch x)
+    pub mid_runs : (d x : Effect) → SameEffect (app_under (state b) (named b) c.running).fixed d x → KeepsEffect (frame_at ch.frame next) ch.public x
+        → EffectDone did state named (scene b e (chain_at_next c next).running mid.running c.public mid.public) d → RunsAs (state e) (named e) mid (chain_after_effect ch x)
     mid_runs d x same keeps left =
-        subst (λ (k : Chained). RunsAs (state e) (named e) k (settled ch x)) (sym others) (
-        settled_runs did state named laws b e (advanced c next) (record ch { frame = stepped ch.frame next }) mid.running mid.public d x (advanced_runs (state b) (named b) c ch next r) same keeps left
+        subst (λ (k : Chained). RunsAs (state e) (named e) k (chain_after_effect ch x)) (sym others) (
+        settled_runs did state named laws b e (chain_at_next c next) (record ch { frame = frame_at ch.frame next }) mid.running mid.public d x (advanced_runs (state b) (named b) c ch next r) same keeps left
         )
 
-    pub performed_fits : (nx : Next) (x y : RowEnd) → SameRowEnd (app_under (state b) (named b) c.running).fixed x y → KeepsRow (stepped ch.frame next) ch.public y
-        → CallActs did state named (scene b e (advanced c next).running mid.running c.public mid.public) x (Ok nx) → FitsChain (state e) (named e) mid
+    pub performed_fits : (nx : Next) (x y : RowEnd) → SameRowEnd (app_under (state b) (named b) c.running).fixed x y → KeepsRow (frame_at ch.frame next) ch.public y
+        → CallActs did state named (scene b e (chain_at_next c next).running mid.running c.public mid.public) x (Ok nx) → FitsChain (state e) (named e) mid
     performed_fits nx (Abends p) (Abends q) same keeps acts = absurd acts
     performed_fits nx (Abends p) (Does d) same keeps acts = absurd same
     performed_fits nx (Does d) (Abends q) same keeps acts = absurd same
-    performed_fits nx (Does d) (Does k) same keeps acts = (settled ch k.effect, mid_runs d.effect k.effect same.effect keeps acts.1)
+    performed_fits nx (Does d) (Does k) same keeps acts = (chain_after_effect ch k.effect, mid_runs d.effect k.effect same.effect keeps acts.1)
 
     -- the turn tells the frame as it is then
-    told_mid : (y : Effect) (o p : Option Outcome) (it : Option Ins) (w : Option ℕ) → RunsAs (state e) (named e) mid (settled ch y) → o ≡ p
+    told_mid : (y : Effect) (o p : Option Outcome) (it : Option Ins) (w : Option ℕ) → RunsAs (state e) (named e) mid (chain_after_effect ch y) → o ≡ p
         → ◌≡◌ {A = Turn} (record { depth = length ch.below + 1; at = ch.frame.at; ins = it; dt = y.frame.dt; c = y.frame.c; z = y.frame.z; end = o; wrote = w })
         (record { depth = length c.below + 1; at = c.running.frame.at; ins = it; dt = mid.running.frame.dt; c = mid.running.frame.c; z = mid.running.frame.z; end = p; wrote = w })
     told_mid y o p it w mr same =
-        let seen_so : seen y.frame ≡ seen (shown (state e) (named e) mid.running) = sym mr.running.same in
+        let seen_so : frame_reading y.frame ≡ frame_reading (frame_on_bank (state e) (named e) mid.running) = sym mr.running.same in
         told_same (length ch.below + 1) (length c.below + 1) ch.frame.at c.running.frame.at y.frame.dt mid.running.frame.dt y.frame.c mid.running.frame.c y.frame.z mid.running.frame.z o p it w
         (ap (λ (k : ℕ). k + 1) (sym (as_many (state b) (named b) c.below ch.below r.below)))
         (sym (ap (λ (t : Seen). t.at) r.running.same)) (ap (λ (t : Seen). t.dt) seen_so) (ap (λ (t : Seen). t.c) seen_so) (ap (λ (t : Seen). t.z) seen_so) same
 
     -- what followed
-    finish : (y : Effect) (d : Chained) (step : Step) (pairs : List (List ℕ × List ℕ)) (t : Follows) → RunsAs (state e) (named e) mid (settled ch y) → InOrder (ChainWrote did state) b (write_of ch.frame.name y.changes) (Ok tt) e
+    finish : (y : Effect) (d : Chained) (step : Step) (pairs : List (List ℕ × List ℕ)) (t : Follows) → RunsAs (state e) (named e) mid (chain_after_effect ch y) → InOrder (ChainWrote did state) b (write_of ch.frame.name y.changes) (Ok tt) e
         → (state e).stopped ≡ false → d.left + 1 ≡ c.left → d.le ≡ mid.le → ((o : Outcome) → t ≡ Ends o → session_in mid ≡ chain_session ch)
-        → Followed (state e) (named e) mid d i (told_of c.running (Some i) None) step t → ActDone did state named b e c d ch (done_turn ch i y t pairs) (Ok step)
+        → Followed (state e) (named e) mid d i (step_of_frame c.running (Some i) None) step t → ActDone did state named b e c d ch (done_turn ch i y t pairs) (Ok step)
     finish y d step pairs (Continues k) mr writes going left le session fol = (
       record { writes = writes; going = going; left = left; follows = fol.0 },
       subst (λ (s : Step). (done_turn ch i y (Continues k) pairs).turn ≡ step_value (length c.below + 1) c.running.frame.at d.public d.le s (words_of_write y.changes)) (sym fol.1) (
@@ -208,18 +208,18 @@ module _ {B : Type 0} (did : B → BankItem → Answer → B → Type 0) (state 
     )
 
     pub performed_done : (d : Chained) (step : Step) (nx : Next) (x y : RowEnd) → c.left ≢ 0 → d.left ≡ mid.left → d.le ≡ mid.le
-        → SameRowEnd (app_under (state b) (named b) c.running).fixed x y → KeepsRow (stepped ch.frame next) ch.public y → ExitKeeps (stepped ch.frame next) y
-        → CallActs did state named (scene b e (advanced c next).running mid.running c.public mid.public) x (Ok nx)
-        → ((k : Chain) → RunsAs (state e) (named e) mid k → Followed (state e) (named e) mid d i (told_of c.running (Some i) None) step (follows k (then_of nx)))
+        → SameRowEnd (app_under (state b) (named b) c.running).fixed x y → KeepsRow (frame_at ch.frame next) ch.public y → ExitKeeps (frame_at ch.frame next) y
+        → CallActs did state named (scene b e (chain_at_next c next).running mid.running c.public mid.public) x (Ok nx)
+        → ((k : Chain) → RunsAs (state e) (named e) mid k → Followed (state e) (named e) mid d i (step_of_frame c.running (Some i) None) step (follows k (then_of nx)))
         → ActDone did state named b e c d ch (row_turn ch i y) (Ok step)
     performed_done d step nx (Abends p) (Abends q) some left le same keeps exits acts followed = absurd acts
     performed_done d step nx (Abends p) (Does k) some left le same keeps exits acts followed = absurd same
     performed_done d step nx (Does k) (Abends q) some left le same keeps exits acts followed = absurd same
     performed_done d step nx (Does j) (Does k) some left le same keeps exits acts followed =
         let mr = mid_runs j.effect k.effect same.effect keeps acts.1 in
-        let settled_so = settled ch k.effect in
+        let settled_so = chain_after_effect ch k.effect in
         let writes = writes_of did state ch.frame.name (app_under (state b) (named b) c.running).fixed k.effect.changes b (Ok tt) e (own_fixed b c ch r) (committed_of did state named laws b e c ch j.effect k.effect (Ok tt) r same.effect acts.1.commits) in
-        let fol = subst (λ (th : Then). Followed (state e) (named e) mid d i (told_of c.running (Some i) None) step (follows settled_so th)) (acts.0 ∙ same.next) (followed settled_so mr) in
+        let fol = subst (λ (th : Then). Followed (state e) (named e) mid d i (step_of_frame c.running (Some i) None) step (follows settled_so th)) (acts.0 ∙ same.next) (followed settled_so mr) in
         finish k.effect d step (pair_of ch.frame.name k.next) (follows settled_so k.next) mr writes acts.1.going (ap (λ (n : ℕ). n + 1) (left ∙ ap (λ (m : Chained). m.left) others) ∙ one_less c.left some) le
         (λ o is. session_runs (state e) (named e) mid settled_so mr ∙ first_kept ch.frame k.effect.frame ch.below (exits (ends_exit settled_so k.next o is)))
         fol

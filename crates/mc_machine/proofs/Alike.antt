@@ -2,13 +2,13 @@
 use Rattle.std.proofs.Common.{◌≡◌, ℕ, List, Option, Some, None, refl, sym, ap, ◌∙◌}
 use Rattle.mc_model_machine.specs.declared.instruction.Ins.{Ins}
 use Rattle.mc_model_machine.specs.declared.machine.Abend.{Abend}
-use Rattle.mc_model_device.specs.Pieces.{laid_pieces, touched}
+use Rattle.mc_model_device.specs.Pieces.{laid_pieces, touched_words}
 use Rattle.mc_model_machine.specs.Frame.{Frame}
 use Rattle.mc_model_machine.specs.Primitives.{Around, Done}
-use Rattle.mc_model_machine.specs.Row.{RowEnd, Abends, Does, causes, effect, first_cause, judged, row}
+use Rattle.mc_model_machine.specs.Row.{RowEnd, Abends, Does, causes, effect, first_cause, row_end, row}
 use Rattle.mc_model_device.specs.Orders.{Answer}
 use Rattle.mc_model_card.specs.Items.{BankItem}
-use Rattle.mc_segs.specs.HeldFrames.{Seen, seen}
+use Rattle.mc_segs.specs.HeldFrames.{Seen, frame_reading}
 use Rattle.mc_segs.specs.Ends.{IsOneCommit, changed_bytes}
 use Rattle.mc_machine.specs.Alike.{seen_end, seen_change, IsGuarded, SameDone, SameRowEnd}
 use Rattle.mc_machine.proofs.AlikeBytes.{SamePieces, with_pieces}
@@ -16,7 +16,7 @@ use Rattle.mc_machine.proofs.AlikeCauses.{causes_same}
 use Rattle.mc_machine.proofs.AlikeEffects.{effect_same}
 use Rattle.mc_model_device.proofs.PieceLemmas.{held_same}
 
-judged_same : (fixed : List ℕ) (o : Option Abend) (d e : Done) → SameDone fixed d e → seen_end fixed (judged o d) ≡ seen_end fixed (judged o e)
+judged_same : (fixed : List ℕ) (o : Option Abend) (d e : Done) → SameDone fixed d e → seen_end fixed (row_end o d) ≡ seen_end fixed (row_end o e)
 judged_same fixed (Some a) d e s = refl
 judged_same fixed None d e s = rw (s.effect.frame, s.effect.public, s.effect.changes, s.next) refl
 
@@ -44,7 +44,7 @@ frame_of qs t =
       protected = t.protected;
     }
 
-pub seen_pieces : (f g : Frame) → seen f ≡ seen g → SamePieces f.fixed f.pieces g.pieces
+pub seen_pieces : (f g : Frame) → frame_reading f ≡ frame_reading g → SamePieces f.fixed f.pieces g.pieces
 seen_pieces f g e =
     let fixed : f.fixed ≡ g.fixed = ap (λ (t : Seen). t.fixed) e in
     record {
@@ -53,7 +53,7 @@ seen_pieces f g e =
       none = sym (ap (λ (t : Seen). t.none) e);
     }
 
-pub rows_alike : (i : Ins) (f g : Frame) (public : List ℕ) (x : Around) → IsGuarded f → seen f ≡ seen g → seen_end f.fixed (row i f public x) ≡ seen_end g.fixed (row i g public x)
+pub rows_alike : (i : Ins) (f g : Frame) (public : List ℕ) (x : Around) → IsGuarded f → frame_reading f ≡ frame_reading g → seen_end f.fixed (row i f public x) ≡ seen_end g.fixed (row i g public x)
 rows_alike i f g public x guard e =
     let same : with_pieces g.pieces f ≡ g = ap (λ (t : Seen). frame_of g.pieces t) e in
     sym (row_same i f g.pieces public x (seen_pieces f g e) guard) ∙ ap (λ (h : Frame). seen_end h.fixed (row i h public x)) same
@@ -67,20 +67,20 @@ ends_seen fixed (Does d) (Abends b) e = absurd (cc e)
 ends_seen fixed (Does d) (Does k) e = record { effect = record { frame = cc e; public = cc e; changes = cc e }; next = cc e }
 
 -- the same by cases on how the rows end
-pub rows_end_alike : (i : Ins) (f g : Frame) (public : List ℕ) (x : Around) → IsGuarded f → seen f ≡ seen g → SameRowEnd f.fixed (row i f public x) (row i g public x)
+pub rows_end_alike : (i : Ins) (f g : Frame) (public : List ℕ) (x : Around) → IsGuarded f → frame_reading f ≡ frame_reading g → SameRowEnd f.fixed (row i f public x) (row i g public x)
 rows_end_alike i f g public x guard e =
     let fixed : f.fixed ≡ g.fixed = ap (λ (t : Seen). t.fixed) e in
     ends_seen f.fixed (row i f public x) (row i g public x) (rows_alike i f g public x guard e ∙ ap (λ (l : List ℕ). seen_end l (row i g public x)) (sym fixed))
 
 -- a frame that reads the same is as guarded
-pub guarded_seen : (f g : Frame) → seen f ≡ seen g → IsGuarded f → IsGuarded g
+pub guarded_seen : (f g : Frame) → frame_reading f ≡ frame_reading g → IsGuarded f → IsGuarded g
 guarded_seen f g e guard = λ off. sym (ap (λ (t : Seen). t.none) e) ∙ guard (ap (λ (t : Seen). t.protected) e ∙ off)
 
 -- ---- static changes that are seen as one: the bytes after them, and their commit
 
-some_seen : (fixed : List ℕ) (ps qs : List (ℕ × List ℕ)) → seen_change fixed (Some ps) ≡ seen_change fixed (Some qs) → (laid_pieces fixed ps ≡ laid_pieces fixed qs) × (touched ps ≡ touched qs)
+some_seen : (fixed : List ℕ) (ps qs : List (ℕ × List ℕ)) → seen_change fixed (Some ps) ≡ seen_change fixed (Some qs) → (laid_pieces fixed ps ≡ laid_pieces fixed qs) × (touched_words ps ≡ touched_words qs)
 some_seen fixed ps qs e =
-    let both : (laid_pieces fixed ps, touched ps) ≡ (laid_pieces fixed qs, touched qs) = cc e in
+    let both : (laid_pieces fixed ps, touched_words ps) ≡ (laid_pieces fixed qs, touched_words qs) = cc e in
     (ap (λ (t : List ℕ × List ℕ). t.0) both, ap (λ (t : List ℕ × List ℕ). t.1) both)
 
 pub changed_seen : (fixed : List ℕ) (c d : Option (List (ℕ × List ℕ))) → seen_change fixed c ≡ seen_change fixed d → changed_bytes fixed c ≡ changed_bytes fixed d

@@ -2,16 +2,16 @@
 use Rattle.std.proofs.Common.{◌≡◌, ℕ, Bool, true, false, cond, List, [], ◌∷◌, ◌++◌, length, take, drop, Option, Some, None, refl, sym, ap, ◌∙◌}
 use Rattle.std.specs.Prelude.{nat_lt, ◌==◌}
 use Rattle.mc_model_device.specs.Bytes.{zeros}
-use Rattle.mc_model_device.specs.Pieces.{laid_pieces, touched, with_touched}
+use Rattle.mc_model_device.specs.Pieces.{laid_pieces, touched_words, with_touched}
 use Rattle.mc_model_machine.specs.Frame.{Frame, Place, Static, Dynamic, Public, where_is, bytes_in, bytes_at, passes_limit, too_many}
 use Rattle.mc_segs.specs.HeldFrames.{no_pieces}
-use Rattle.mc_model_device.proofs.PieceLemmas.{laid-append, touched-append}
-use Rattle.mc_segs.proofs.StoreLemmas.{no_pieces-append}
+use Rattle.mc_model_device.proofs.PieceLemmas.{laid_append, touched_append}
+use Rattle.mc_segs.proofs.StoreLemmas.{no_pieces_append}
 
 -- pieces that lay the same bytes over a segment, and touch the same words
 pub record SamePieces (fixed : List ℕ) (ps qs : List (ℕ × List ℕ)) : Type 0 where
   pub laid : laid_pieces fixed qs ≡ laid_pieces fixed ps
-  pub words : touched qs ≡ touched ps
+  pub words : touched_words qs ≡ touched_words ps
   pub none : no_pieces qs ≡ no_pieces ps
 
 -- a frame with other pieces
@@ -21,9 +21,9 @@ with_pieces qs f = record f { pieces = qs }
 -- pieces stay the same with one more
 pub same_pushed : (fixed : List ℕ) (ps qs : List (ℕ × List ℕ)) (p : ℕ × List ℕ) → SamePieces fixed ps qs → SamePieces fixed (ps ++ p ∷ []) (qs ++ p ∷ [])
 same_pushed fixed ps qs p s = record {
-  laid = laid-append fixed qs (p ∷ []) ∙ ap (λ (l : List ℕ). laid_pieces l (p ∷ [])) s.laid ∙ sym (laid-append fixed ps (p ∷ []));
-  words = touched-append qs (p ∷ []) ∙ ap (λ (ns : List ℕ). with_touched ns (p ∷ [])) s.words ∙ sym (touched-append ps (p ∷ []));
-  none = no_pieces-append qs p ∙ sym (no_pieces-append ps p);
+  laid = laid_append fixed qs (p ∷ []) ∙ ap (λ (l : List ℕ). laid_pieces l (p ∷ [])) s.laid ∙ sym (laid_append fixed ps (p ∷ []));
+  words = touched_append qs (p ∷ []) ∙ ap (λ (ns : List ℕ). with_touched ns (p ∷ [])) s.words ∙ sym (touched_append ps (p ∷ []));
+  none = no_pieces_append qs p ∙ sym (no_pieces_append ps p);
 }
 
 -- ---- reading

@@ -6,9 +6,9 @@ use Rattle.mc_model_machine.specs.declared.instruction.Ins.TheVariants as ins
 use Rattle.mc_model_machine.specs.declared.machine.Abend.{Abend}
 use Rattle.mc_model_machine.specs.declared.machine.Abend.TheVariants.{A02, A03, A04, A05, A06, A08, A0A}
 use Rattle.mc_model_device.specs.Bytes.{num}
-use Rattle.mc_model_machine.specs.Frame.{Frame, address_at, is_outside, no_access, is_under, is_over, popped, top}
-use Rattle.mc_model_machine.specs.Primitives.{Around, Primitive, CheckCase, LoadCcr, StoreCcr, Lookup, MemoryCompare, MemoryCopy, DelegateTo, DelegatorAid, Digest, CompareFixed, CopyFixed, SetProtection, Encipher, Decipher, Sign, BitByte, ShiftLeft, ShiftRight, BitWord, Cipher, primitive, prim_causes, later_causes, told_causes, cipher_causes, named, has_bad_argument, is_denied, block_len}
-use Rattle.mc_model_machine.specs.Row.{causes, holds, no_place, known, operand, on_stack, writes, immediate_writes, pair_writes}
+use Rattle.mc_model_machine.specs.Frame.{Frame, address_at, is_outside, no_access, is_under, is_over, frame_after_pop, top}
+use Rattle.mc_model_machine.specs.Primitives.{Around, Primitive, CheckCase, LoadCcr, StoreCcr, Lookup, MemoryCompare, MemoryCopy, DelegateTo, DelegatorAid, Digest, CompareFixed, CopyFixed, SetProtection, Encipher, Decipher, Sign, BitByte, ShiftLeft, ShiftRight, BitWord, Cipher, primitive, prim_causes, later_causes, told_causes, cipher_causes, number_below_top, has_bad_argument, is_denied, block_len}
+use Rattle.mc_model_machine.specs.Row.{causes, holds, no_place, address_or_zero, operand, on_stack, writes, immediate_writes, pair_writes}
 use Rattle.mc_machine.proofs.AlikeBytes.{SamePieces, with_pieces, bytes_same, too_many_same}
 
 abbrev pub Pieces : Type 0
@@ -24,25 +24,25 @@ told_same f qs a None s = refl
 told_same f qs a (Some name) s = ap (λ (b : Bool). (A03, is_outside f a (1 + length name)) ∷ (A08, b) ∷ []) (too_many_same f qs a (1 + length name) s)
 
 cipher_same : (c : Cipher) (n : ℕ) (f : Frame) (qs : Pieces) → HasSamePieces f qs → cipher_causes c n (with_pieces qs f) ≡ cipher_causes c n f
-cipher_same c n f qs s = rw (too_many_same (popped f 6) qs (named f 4) n s) refl
+cipher_same c n f qs s = rw (too_many_same (frame_after_pop f 6) qs (number_below_top f 4) n s) refl
 
 later_same : (p : Primitive) (args : List ℕ) (f : Frame) (qs : Pieces) (public : List ℕ) (x : Around) → HasSamePieces f qs → later_causes p args (with_pieces qs f) public x ≡ later_causes p args f public x
 unfolding later_causes
 later_same CheckCase args f qs public x s = refl
 later_same LoadCcr args f qs public x s = refl
 later_same StoreCcr args f qs public x s = refl
-later_same Lookup args f qs public x s = rw (bytes_same (popped f 3) qs public (named f 2) 1 s) refl
+later_same Lookup args f qs public x s = rw (bytes_same (frame_after_pop f 3) qs public (number_below_top f 2) 1 s) refl
 later_same MemoryCompare args f qs public x s = refl
-later_same MemoryCopy args f qs public x s = rw (too_many_same (popped f 6) qs (named f 4) (named f 6) s) refl
-later_same DelegateTo args f qs public x s = rw (bytes_same (popped f 2) qs public (named f 2) 1 s) refl
-later_same DelegatorAid args f qs public x s = ap (λ (l : List (Abend × Bool)). (A04, is_under f 2) ∷ l) (told_same (popped f 2) qs (named f 2) x.delegator s)
-later_same Digest args f qs public x s = rw (too_many_same (popped f 6) qs (named f 2) 20 s) refl
+later_same MemoryCopy args f qs public x s = rw (too_many_same (frame_after_pop f 6) qs (number_below_top f 4) (number_below_top f 6) s) refl
+later_same DelegateTo args f qs public x s = rw (bytes_same (frame_after_pop f 2) qs public (number_below_top f 2) 1 s) refl
+later_same DelegatorAid args f qs public x s = ap (λ (l : List (Abend × Bool)). (A04, is_under f 2) ∷ l) (told_same (frame_after_pop f 2) qs (number_below_top f 2) x.delegator s)
+later_same Digest args f qs public x s = rw (too_many_same (frame_after_pop f 6) qs (number_below_top f 2) 20 s) refl
 later_same CompareFixed args f qs public x s = refl
-later_same CopyFixed args f qs public x s = rw (too_many_same (popped f 4) qs (named f 4) (slice_index args 0) s) refl
+later_same CopyFixed args f qs public x s = rw (too_many_same (frame_after_pop f 4) qs (number_below_top f 4) (slice_index args 0) s) refl
 later_same SetProtection args f qs public x s = refl
 later_same (Encipher c) args f qs public x s = cipher_same c (slice_index args 0) f qs s
 later_same (Decipher c) args f qs public x s = cipher_same c (slice_index args 0) f qs s
-later_same (Sign c) args f qs public x s = rw (too_many_same (popped f 8) qs (named f 4) (block_len c) s) refl
+later_same (Sign c) args f qs public x s = rw (too_many_same (frame_after_pop f 8) qs (number_below_top f 4) (block_len c) s) refl
 later_same BitByte args f qs public x s = refl
 later_same ShiftLeft args f qs public x s = refl
 later_same ShiftRight args f qs public x s = refl
@@ -55,7 +55,7 @@ prim_same (Some p) args f qs public x s = ap (λ (l : List (Abend × Bool)). (A0
 -- ---- rows that write
 
 writes_same : (f : Frame) (qs : Pieces) (a : Option ℕ) (n : ℕ) → HasSamePieces f qs → writes (with_pieces qs f) a n ≡ writes f a n
-writes_same f qs a n s = ap (λ (b : Bool). (A03, no_access f a n) ∷ (A08, b) ∷ []) (too_many_same f qs (known a) n s)
+writes_same f qs a n s = ap (λ (b : Bool). (A03, no_access f a n) ∷ (A08, b) ∷ []) (too_many_same f qs (address_or_zero a) n s)
 
 immediate_same : (f : Frame) (qs : Pieces) (tag : ℕ) (off : ℤ) (n : ℕ) → HasSamePieces f qs → immediate_writes (with_pieces qs f) tag off n ≡ immediate_writes f tag off n
 immediate_same f qs tag off n s = ap (λ (l : List (Abend × Bool)). (A04, (tag == 0) && is_under f n) ∷ l) (writes_same f qs (operand f tag off n) n s)
@@ -69,7 +69,7 @@ behind b e = ap (λ (l : List (Abend × Bool)). (A06, b) ∷ l) e
 
 -- the causes of a call, with its address on the stack or not
 abbrev call_causes : ℕ → ℕ → Frame → Bool → List (Abend × Bool)
-call_causes k to f b = (A04, b && is_under f 2) ∷ (A02, holds k f && no_place f (Some (cond b (num (top f 2)) to))) ∷ (A05, holds k f && is_over (cond b (popped f 2) f) 4) ∷ []
+call_causes k to f b = (A04, b && is_under f 2) ∷ (A02, holds k f && no_place f (Some (cond b (num (top f 2)) to))) ∷ (A05, holds k f && is_over (cond b (frame_after_pop f 2) f) 4) ∷ []
 
 call_same : (k to : ℕ) (f : Frame) (qs : Pieces) (b : Bool) → call_causes k to (with_pieces qs f) b ≡ call_causes k to f b
 call_same k to f qs true = refl
@@ -102,11 +102,11 @@ causes_same (ins.Reti i) f qs public x s = refl
 causes_same (ins.Reto o) f qs public x s = refl
 causes_same (ins.Retio i o) f qs public x s = refl
 causes_same (ins.Load tag off n) f qs public x s = refl
-causes_same (ins.Store tag off n) f qs public x s = ap (λ (l : List (Abend × Bool)). (A06, n == 0) ∷ (A04, is_under f (on_stack tag (2 * n) n)) ∷ l) (writes_same (popped f n) qs (operand f tag off (2 * n)) n s)
-causes_same (ins.Loadi tag off n) f qs public x s = rw (bytes_same f qs public (known (operand f tag off 2)) 2 s) refl
+causes_same (ins.Store tag off n) f qs public x s = ap (λ (l : List (Abend × Bool)). (A06, n == 0) ∷ (A04, is_under f (on_stack tag (2 * n) n)) ∷ l) (writes_same (frame_after_pop f n) qs (operand f tag off (2 * n)) n s)
+causes_same (ins.Loadi tag off n) f qs public x s = rw (bytes_same f qs public (address_or_zero (operand f tag off 2)) 2 s) refl
 causes_same (ins.Storei tag off n) f qs public x s =
-    let to = address_at f public (known (operand f tag off (n + 2))) in
-    rw (bytes_same f qs public (known (operand f tag off (n + 2))) 2 s, too_many_same (popped f n) qs to n s) refl
+    let to = address_at f public (address_or_zero (operand f tag off (n + 2))) in
+    rw (bytes_same f qs public (address_or_zero (operand f tag off (n + 2))) 2 s, too_many_same (frame_after_pop f n) qs to n s) refl
 causes_same (ins.Loada tag off) f qs public x s = refl
 causes_same (ins.Index tag off size) f qs public x s = refl
 causes_same (ins.Setb tag off b) f qs public x s = immediate_same f qs tag off 1 s

@@ -5,7 +5,7 @@ use Rattle.std.specs.Prelude.{min, nat_eq, replicate, slice_index, option_map}
 use Rattle.mc_model_machine.specs.declared.instruction.DecodeFault.{DecodeFault}
 use Rattle.mc_model_machine.specs.declared.instruction.DecodeFault.TheVariants.{Undefined, Past}
 use Rattle.mc_model_machine.specs.declared.instruction.Ins.{Ins}
-use Rattle.mc_model_machine.specs.Code.{Form, Plain, OneByte, TwoBytes, Word, TwoWords, Near, Target, Primitive, Offset, ByteOffset, WordOffset, Kind, U8, U16, I16, operands, total, form, kinds, spell, made_of, DecodesTo, decoded, from_place}
+use Rattle.mc_model_machine.specs.Code.{Form, Plain, OneByte, TwoBytes, Word, TwoWords, Near, Target, Primitive, Offset, ByteOffset, WordOffset, Kind, U8, U16, I16, operands, total, form, kinds, spell, made_of, DecodesTo, instruction_at, from_place}
 use Rattle.mc_isa.proofs.PlaceLemmas.{decoded_only}
 use Rattle.mc_isa.proofs.RowLemmas.{Good, GoodRow, good_form}
 use Rattle.std.proofs.lemmas.List.{take-take}
@@ -79,7 +79,7 @@ place_size : (r : Result (Ins × ℕ) DecodeFault) (i : Ins) (n : ℕ) → from_
 place_size (Ok p) i n h = grind (arith, h)
 place_size (Err e) i n h = absurd (cc h)
 
-window_size : (l : List ℕ) (i : Ins) (n : ℕ) → decoded l 0 ≡ Ok (i, n) → (ks : List Kind) × (kinds (slice_index l 0) ≡ Some ks) × (n ≡ total ks + 1)
+window_size : (l : List ℕ) (i : Ins) (n : ℕ) → instruction_at l 0 ≡ Ok (i, n) → (ks : List Kind) × (kinds (slice_index l 0) ≡ Some ks) × (n ≡ total ks + 1)
 window_size [] i n h = absurd (cc h)
 window_size (b ∷ bs) i n h = made_size (form b) bs i n (place_size (made_of (form b) bs) i n h)
 

@@ -13,10 +13,10 @@ use Rattle.mc_model_device.specs.Card.{App}
 use Rattle.mc_model_machine.specs.Code.{Shaped}
 use Rattle.mc_model_machine.specs.Frame.{Frame}
 use Rattle.mc_model_machine.specs.Primitives.{Around}
-use Rattle.mc_model_machine.specs.Row.{RowEnd, Abends, Does, causes, effect, first_cause, judged, row}
-use Rattle.mc_model_machine.specs.Chain.{Chain, Write, abends_at, delegator_in, around, write_of, row_turn, stepped}
+use Rattle.mc_model_machine.specs.Row.{RowEnd, Abends, Does, causes, effect, first_cause, row_end, row}
+use Rattle.mc_model_machine.specs.Chain.{Chain, Write, abends_at, delegator_in, around, write_of, row_turn, frame_at}
 use Rattle.mc_machine_laws.specs.FewWords.{words_in, most_words, EndsWithin, IsToldName}
-use Rattle.mc_machine_laws.proofs.RowWords.{row-words, told-any, most-is}
+use Rattle.mc_machine_laws.proofs.RowWords.{row_words, told_any, most_is}
 use Rattle.mc_bank.specs.Bank.{BankState, IsApplication, AreApps}
 use Rattle.mc_segs.specs.HeldFrames.{Held}
 use Rattle.mc_machine.specs.Chains.{Chained, ReadAll, RunsAs, ChainWrote}
@@ -40,7 +40,7 @@ abbrev QuietExit : Ins → RowEnd → Type 0
 QuietExit i (Abends a) = ⊤
 QuietExit i (Does d) = is_exit i ≡ true → d.effect.changes ≡ None
 
-quiet_judged : (i : Ins) (f : Frame) (public : List ℕ) (x : Around) (o : Option Abend) → QuietExit i (judged o (effect i f public x))
+quiet_judged : (i : Ins) (f : Frame) (public : List ℕ) (x : Around) (o : Option Abend) → QuietExit i (row_end o (effect i f public x))
 quiet_judged i f public x (Some a) = tt
 quiet_judged i f public x None = exit_none i f public x
 
@@ -100,24 +100,24 @@ module _ {B : Type 0} (did : B → BankItem → Answer → B → Type 0) (state 
 
   -- a turn whose writes were begun
   turn_writes : (b : B) (c : Chained) (ch : Chain) (i : Ins) (next : ℕ) (a : Answer) (e : B) → RunsAs (state b) (named b) c ch → AreApps (state b).apps → Shaped i
-      → InOrder (ChainWrote did state) b (row_turn ch i (row i (stepped ch.frame next) ch.public (around ch))).writes a e
-      → WritesFew (row_turn ch i (row i (stepped ch.frame next) ch.public (around ch)))
+      → InOrder (ChainWrote did state) b (row_turn ch i (row i (frame_at ch.frame next) ch.public (around ch))).writes a e
+      → WritesFew (row_turn ch i (row i (frame_at ch.frame next) ch.public (around ch)))
   turn_writes b c ch i next a e r apps shaped done =
-      let f = stepped ch.frame next in
+      let f = frame_at ch.frame next in
       let x = around ch in
       let y = row i f ch.public x in
-      let told : IsToldName i x.delegator = told-any i x.delegator (delegator_short (state b) (named b) c.below ch.below apps r.below) in
+      let told : IsToldName i x.delegator = told_any i x.delegator (delegator_short (state b) (named b) c.below ch.below apps r.below) in
       row_writes ch i y (quiet_exit i f ch.public x) (
-      elim (most-is i) [
+      elim (most_is i) [
         | inl most ↦ subst (λ (n : ℕ). EndsWithin n y) (sym most) (begun_row b ch i y a e done)
-        | inr most ↦ row-words i f ch.public x shaped told (λ more. absurd (cc (sym most ∙ more)))
+        | inr most ↦ row_words i f ch.public x shaped told (λ more. absurd (cc (sym most ∙ more)))
       ]
       )
 
   -- a turn by its result
   pub act_writes : (b e : B) (c d : Chained) (ch : Chain) (i : Ins) (next : ℕ) (result : Result Step Stop) → RunsAs (state b) (named b) c ch → AreApps (state b).apps → Shaped i
-      → ActDone did state named b e c d ch (row_turn ch i (row i (stepped ch.frame next) ch.public (around ch))) result
-      → WritesFew (row_turn ch i (row i (stepped ch.frame next) ch.public (around ch)))
+      → ActDone did state named b e c d ch (row_turn ch i (row i (frame_at ch.frame next) ch.public (around ch))) result
+      → WritesFew (row_turn ch i (row i (frame_at ch.frame next) ch.public (around ch)))
   act_writes b e c d ch i next (Ok step) r apps shaped done = turn_writes b c ch i next (Ok tt) e r apps shaped done.0.writes
   act_writes b e c d ch i next (Err stop) r apps shaped done = turn_writes b c ch i next (Err stop) e r apps shaped done
 

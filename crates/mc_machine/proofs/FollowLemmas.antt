@@ -8,7 +8,7 @@ use Rattle.mc_model_card.specs.declared.card.Sizes.{Sizes}
 use Rattle.mc_model_device.specs.Bytes.{lookup, zeros}
 use Rattle.mc_model_device.specs.Card.{App}
 use Rattle.mc_model_machine.specs.Frame.{Frame, with_sw}
-use Rattle.mc_model_machine.specs.Chain.{Chain, is_active, depth_of, called, called_app, entered_app}
+use Rattle.mc_model_machine.specs.Chain.{Chain, is_active, depth_of, chain_after_call, called_app, entered_app}
 use Rattle.mc_segs.specs.HeldFrames.{new_held}
 use Rattle.mc_machine.specs.Chains.{Chained, RunsAs}
 use Rattle.mc_machine.specs.Turns.{has_frame}
@@ -45,25 +45,25 @@ module _ (s : BankState) (named : ℕ → Option (List ℕ)) where
     apart = r.apart;
   }
 
-  pub missing_call : (c : Chained) (ch : Chain) (n : List ℕ) → lookup s.apps n ≡ None → RunsAs s named c ch → RunsAs s named (record c { public = with_sw c.public 0x6A82 }) (called ch n (lookup ch.map n))
+  pub missing_call : (c : Chained) (ch : Chain) (n : List ℕ) → lookup s.apps n ≡ None → RunsAs s named c ch → RunsAs s named (record c { public = with_sw c.public 0x6A82 }) (chain_after_call ch n (lookup ch.map n))
   missing_call c ch n none r =
-      subst (λ (o : Option App). RunsAs s named (record c { public = with_sw c.public 0x6A82 }) (called ch n o)) (sym (ap (λ (m : List (List ℕ × App)). lookup m n) r.map ∙ none)) (public_runs c ch 0x6A82 r)
+      subst (λ (o : Option App). RunsAs s named (record c { public = with_sw c.public 0x6A82 }) (chain_after_call ch n o)) (sym (ap (λ (m : List (List ℕ × App)). lookup m n) r.map ∙ none)) (public_runs c ch 0x6A82 r)
 
   refusal_is : (c : Chained) (ch : Chain) (n : List ℕ) (b : Bool) → b ≡ (has_frame named n (c.running ∷ c.below) || nat_le 4 (length c.below + 1)) → RunsAs s named c ch → (is_active n ch.frame ch.below || nat_le 4 (depth_of ch)) ≡ b
   refusal_is c ch n b is r =
       sym (is ∙ ap (λ (x : Bool). x || nat_le 4 (length c.below + 1)) (active_runs s named c ch n r) ∙ ap (λ (k : ℕ). is_active n ch.frame ch.below || nat_le 4 (k + 1)) (as_many s named c.below ch.below r.below))
 
   called_is : (c : Chained) (ch : Chain) (n : List ℕ) (a : App) (b : Bool) → lookup s.apps n ≡ Some a → b ≡ (has_frame named n (c.running ∷ c.below) || nat_le 4 (length c.below + 1)) → RunsAs s named c ch
-      → called ch n (lookup ch.map n) ≡ called_app b ch n a
+      → chain_after_call ch n (lookup ch.map n) ≡ called_app b ch n a
   called_is c ch n a b app is r =
-      ap (λ (o : Option App). called ch n o) (ap (λ (m : List (List ℕ × App)). lookup m n) r.map ∙ app) ∙ ap (λ (x : Bool). called_app x ch n a) (refusal_is c ch n b is r)
+      ap (λ (o : Option App). chain_after_call ch n o) (ap (λ (m : List (List ℕ × App)). lookup m n) r.map ∙ app) ∙ ap (λ (x : Bool). called_app x ch n a) (refusal_is c ch n b is r)
 
   there_is : (l : Option App) → is_some l ≡ true → (a : App) × (l ≡ Some a)
   there_is None e = absurd (cc e)
   there_is (Some a) e = (a, refl)
 
   pub refused_call : (c : Chained) (ch : Chain) (n : List ℕ) → is_some (lookup s.apps n) ≡ true → true ≡ (has_frame named n (c.running ∷ c.below) || nat_le 4 (length c.below + 1)) → RunsAs s named c ch
-      → RunsAs s named (record c { public = with_sw c.public 0x6985 }) (called ch n (lookup ch.map n))
+      → RunsAs s named (record c { public = with_sw c.public 0x6985 }) (chain_after_call ch n (lookup ch.map n))
   refused_call c ch n there is r =
       let app = there_is (lookup s.apps n) there in
       subst (λ (k : Chain). RunsAs s named (record c { public = with_sw c.public 0x6985 }) k) (sym (called_is c ch n app.0 true app.1 is r)) (public_runs c ch 0x6985 r)
@@ -85,11 +85,11 @@ module _ (s : BankState) (named : ℕ → Option (List ℕ)) where
 
   pub entered_call : (c : Chained) (ch : Chain) (slot : ℕ) (n : List ℕ) (sizes : Sizes) → named slot ≡ Some n → IsSome (lookup s.apps n) → sizes ≡ sizes_of (app_of s.apps (named slot))
       → false ≡ (has_frame named n (c.running ∷ c.below) || nat_le 4 (length c.below + 1)) → RunsAs s named c ch
-      → RunsAs s named (record c { running = new_held slot sizes (zeros sizes.session); below = c.running ∷ c.below }) (called ch n (lookup ch.map n))
+      → RunsAs s named (record c { running = new_held slot sizes (zeros sizes.session); below = c.running ∷ c.below }) (chain_after_call ch n (lookup ch.map n))
   entered_call c ch slot n sizes there app size is r =
       let a = app_of s.apps (named slot) in
       let found : lookup s.apps n ≡ Some a = app_by s.apps (named slot) n there (subst (λ (o : Option (List ℕ)). IsSome (lookup s.apps (name_or o))) (sym there) app) in
       let from : Sizes → Chained = λ t. record c { running = new_held slot t (zeros t.session); below = c.running ∷ c.below } in
-      subst (λ (t : Sizes). RunsAs s named (from t) (called ch n (lookup ch.map n))) (sym size) (
+      subst (λ (t : Sizes). RunsAs s named (from t) (chain_after_call ch n (lookup ch.map n))) (sym size) (
       subst (λ (k : Chain). RunsAs s named (from (sizes_of a)) k) (sym (called_is c ch n a false found is r)) (entered_runs c ch slot n a there found (refusal_is c ch n false is r) r)
       )

@@ -7,11 +7,11 @@ use Rattle.mc_model_machine.specs.declared.instruction.Ins.TheVariants as ins
 use Rattle.mc_model_machine.specs.declared.machine.Abend.{Abend}
 use Rattle.mc_model_device.specs.Bytes.{bytes2}
 use Rattle.mc_model_device.specs.Pieces.{laid_pieces}
-use Rattle.mc_model_machine.specs.Frame.{Frame, static_bytes, committed, Effect, Place, Static, Dynamic, Public, where_is, public_base, public_end, static_written, written_in, written, popped, flagged, protect, with_sw, with_la}
-use Rattle.mc_model_machine.specs.Primitives.{Around, Done, framed, effect_flagged, Primitive, CheckCase, LoadCcr, StoreCcr, Lookup, MemoryCompare, MemoryCopy, DelegateTo, DelegatorAid, Digest, CompareFixed, CopyFixed, SetProtection, Encipher, Decipher, Sign, BitByte, ShiftLeft, ShiftRight, BitWord, primitive, prim_done, prim_effect, looked_up, delegator_told}
-use Rattle.mc_model_machine.specs.Row.{effect, holds, gone, called, target, causes, first_cause, judged, row, RowEnd, Does}
+use Rattle.mc_model_machine.specs.Frame.{Frame, static_bytes, pending_change, Effect, Place, Static, Dynamic, Public, where_is, public_base, public_end, static_written, write_effect_at, write_effect, frame_after_pop, frame_with_flags, protect, with_sw, with_la}
+use Rattle.mc_model_machine.specs.Primitives.{Around, Done, frame_effect, effect_flagged, Primitive, CheckCase, LoadCcr, StoreCcr, Lookup, MemoryCompare, MemoryCopy, DelegateTo, DelegatorAid, Digest, CompareFixed, CopyFixed, SetProtection, Encipher, Decipher, Sign, BitByte, ShiftLeft, ShiftRight, BitWord, primitive, prim_done, prim_effect, lookup_effect, delegator_told}
+use Rattle.mc_model_machine.specs.Row.{effect, holds, frame_after_jump, frame_after_call, target, causes, first_cause, row_end, row, RowEnd, Does}
 use Rattle.mc_segs.specs.Ends.{changed_bytes}
-use Rattle.mc_model_device.proofs.ListLemmas.{length-splice}
+use Rattle.mc_model_device.proofs.ListLemmas.{length_splice}
 use Rattle.mc_machine.specs.Alike.{IsGuarded, KeepsEffect, KeepsRow}
 
 -- what a frame has of its application
@@ -36,7 +36,7 @@ KeepsFactsOf f public e = KeepsFacts (facts f) (IsGuarded f) f.fixed public e
 
 -- ---- effects by kind
 
-framed_kept : (f : Frame) (public : List ℕ) → KeepsFactsOf f public (framed f public)
+framed_kept : (f : Frame) (public : List ℕ) → KeepsFactsOf f public (frame_effect f public)
 framed_kept f public = record { app_kept = refl; guard_kept = λ g. g; fixed_kept = refl; public_kept = λ e. e }
 
 public_fits : (s d p : Bool) (a n i : ℕ) (j k : ℕ) → p ≡ (nat_le public_base a && nat_le (a + n) public_end)
@@ -52,67 +52,67 @@ static_kept : (b : Bool) (f : Frame) (public : List ℕ) (i : ℕ) (bytes : List
 static_kept true f public i bytes on = record { app_kept = refl; guard_kept = λ g off. absurd (cc (on, off)); fixed_kept = refl; public_kept = λ e. e }
 static_kept false f public i bytes on = record { app_kept = refl; guard_kept = λ g. g; fixed_kept = refl; public_kept = λ e. e }
 
-written_in_kept : (f : Frame) (public : List ℕ) (a : ℕ) (bytes : List ℕ) (place : Option Place) → where_is f a (length bytes) ≡ place → KeepsFactsOf f public (written_in f public bytes place)
+written_in_kept : (f : Frame) (public : List ℕ) (a : ℕ) (bytes : List ℕ) (place : Option Place) → where_is f a (length bytes) ≡ place → KeepsFactsOf f public (write_effect_at f public bytes place)
 written_in_kept f public a bytes None is = framed_kept f public
 written_in_kept f public a bytes (Some (Static i)) is = static_kept f.protected f public i bytes refl
 written_in_kept f public a bytes (Some (Dynamic i)) is = record { app_kept = refl; guard_kept = λ g. g; fixed_kept = refl; public_kept = λ e. e }
 written_in_kept f public a bytes (Some (Public i)) is =
     let fits : i + length bytes ≤ 1041 = public_fits _ _ _ a (length bytes) i _ _ refl is in
-    record { app_kept = refl; guard_kept = λ g. g; fixed_kept = refl; public_kept = λ e. length-splice public i bytes (omega arith) ∙ e }
+    record { app_kept = refl; guard_kept = λ g. g; fixed_kept = refl; public_kept = λ e. length_splice public i bytes (omega arith) ∙ e }
 
-written_kept : (f : Frame) (public : List ℕ) (a : ℕ) (bytes : List ℕ) → KeepsFactsOf f public (written f public a bytes)
-unfolding written
+written_kept : (f : Frame) (public : List ℕ) (a : ℕ) (bytes : List ℕ) → KeepsFactsOf f public (write_effect f public a bytes)
+unfolding write_effect
 written_kept f public a bytes = written_in_kept f public a bytes (where_is f a (length bytes)) refl
 
-flagged_kept : (app : AppFacts) (guard : Type 0) (fixed public : List ℕ) (e : Effect) (c z : Bool) → KeepsFacts app guard fixed public e → KeepsFacts app guard fixed public (record e { frame = flagged e.frame c z })
+flagged_kept : (app : AppFacts) (guard : Type 0) (fixed public : List ℕ) (e : Effect) (c z : Bool) → KeepsFacts app guard fixed public e → KeepsFacts app guard fixed public (record e { frame = frame_with_flags e.frame c z })
 flagged_kept app guard fixed public e c z k = record { app_kept = k.app_kept; guard_kept = k.guard_kept; fixed_kept = k.fixed_kept; public_kept = k.public_kept }
 
 -- the frame is one with the same application and the same pieces
-moved_kept : (f : Frame) (public : List ℕ) (g : Frame) → facts g ≡ facts f → g.fixed ≡ f.fixed → (IsGuarded f → IsGuarded g) → KeepsFactsOf f public (framed g public)
+moved_kept : (f : Frame) (public : List ℕ) (g : Frame) → facts g ≡ facts f → g.fixed ≡ f.fixed → (IsGuarded f → IsGuarded g) → KeepsFactsOf f public (frame_effect g public)
 moved_kept f public g app fixed guard = record { app_kept = app; guard_kept = guard; fixed_kept = fixed; public_kept = λ e. e }
 
 cond_kept : (f : Frame) (public : List ℕ) (b : Bool) (d e : Effect) → KeepsFactsOf f public d → KeepsFactsOf f public e → KeepsFactsOf f public (cond b d e)
 cond_kept f public true d e s t = s
 cond_kept f public false d e s t = t
 
-committed_fixed : (f : Frame) (ps : List (ℕ × List ℕ)) → laid_pieces f.fixed ps ≡ changed_bytes f.fixed (committed f ps)
+committed_fixed : (f : Frame) (ps : List (ℕ × List ℕ)) → laid_pieces f.fixed ps ≡ changed_bytes f.fixed (pending_change f ps)
 committed_fixed f [] = refl
 committed_fixed f (p ∷ ps) = refl
 
 protect_kept : (f : Frame) (public : List ℕ) (mode : ℕ) → KeepsFactsOf f public (protect f public mode)
 protect_kept f public mode =
     let on = nat_le 2 mode in
-    let kept : Effect = record { frame = record f { fixed = static_bytes f; pieces = []; protected = on }; public = public; changes = committed f f.pieces } in
+    let kept : Effect = record { frame = record f { fixed = static_bytes f; pieces = []; protected = on }; public = public; changes = pending_change f f.pieces } in
     let dropped : Effect = record { frame = record f { pieces = []; protected = on }; public = public; changes = None } in
     cond_kept f public (mode == 1 || mode == 3) kept dropped (record { app_kept = refl; guard_kept = λ g off. refl; fixed_kept = committed_fixed f f.pieces; public_kept = λ e. e }) (record { app_kept = refl; guard_kept = λ g off. refl; fixed_kept = refl; public_kept = λ e. e })
 
 -- ---- primitives
 
-looked_kept : (f : Frame) (public : List ℕ) (o : Option ℕ) → KeepsFactsOf f public (looked_up f public o)
+looked_kept : (f : Frame) (public : List ℕ) (o : Option ℕ) → KeepsFactsOf f public (lookup_effect f public o)
 looked_kept f public (Some i) = record { app_kept = refl; guard_kept = λ g. g; fixed_kept = refl; public_kept = λ e. e }
 looked_kept f public None = record { app_kept = refl; guard_kept = λ g. g; fixed_kept = refl; public_kept = λ e. e }
 
 told_kept : (f : Frame) (public : List ℕ) (a : ℕ) (o : Option (List ℕ)) → KeepsFactsOf f public (delegator_told f public a o)
 told_kept f public a None = record { app_kept = refl; guard_kept = λ g. g; fixed_kept = refl; public_kept = λ e. e }
-told_kept f public a (Some name) = flagged_kept (facts f) (IsGuarded f) f.fixed public (written f public a (length name ∷ name)) f.c false (written_kept f public a (length name ∷ name))
+told_kept f public a (Some name) = flagged_kept (facts f) (IsGuarded f) f.fixed public (write_effect f public a (length name ∷ name)) f.c false (written_kept f public a (length name ∷ name))
 
 prim_effect_kept : (p : Primitive) (args : List ℕ) (f : Frame) (public : List ℕ) (x : Around) → KeepsFactsOf f public (prim_effect p args f public x).effect
 unfolding prim_effect
 prim_effect_kept CheckCase args f public x = moved_kept f public _ refl refl (λ g. g)
 prim_effect_kept LoadCcr args f public x = moved_kept f public _ refl refl (λ g. g)
 prim_effect_kept StoreCcr args f public x = moved_kept f public _ refl refl (λ g. g)
-prim_effect_kept Lookup args f public x = looked_kept (popped f 3) public _
+prim_effect_kept Lookup args f public x = looked_kept (frame_after_pop f 3) public _
 prim_effect_kept MemoryCompare args f public x = moved_kept f public _ refl refl (λ g. g)
-prim_effect_kept MemoryCopy args f public x = written_kept (popped f 6) public _ _
+prim_effect_kept MemoryCopy args f public x = written_kept (frame_after_pop f 6) public _ _
 prim_effect_kept DelegateTo args f public x = moved_kept f public _ refl refl (λ g. g)
-prim_effect_kept DelegatorAid args f public x = told_kept (popped f 2) public _ x.delegator
-prim_effect_kept Digest args f public x = written_kept (popped f 6) public _ _
+prim_effect_kept DelegatorAid args f public x = told_kept (frame_after_pop f 2) public _ x.delegator
+prim_effect_kept Digest args f public x = written_kept (frame_after_pop f 6) public _ _
 prim_effect_kept CompareFixed args f public x = moved_kept f public _ refl refl (λ g. g)
-prim_effect_kept CopyFixed args f public x = written_kept (popped f 4) public _ _
+prim_effect_kept CopyFixed args f public x = written_kept (frame_after_pop f 4) public _ _
 prim_effect_kept SetProtection args f public x = protect_kept f public (slice_index args 0)
-prim_effect_kept (Encipher c) args f public x = written_kept (popped f 6) public _ _
-prim_effect_kept (Decipher c) args f public x = written_kept (popped f 6) public _ _
-prim_effect_kept (Sign c) args f public x = written_kept (popped f 8) public _ _
+prim_effect_kept (Encipher c) args f public x = written_kept (frame_after_pop f 6) public _ _
+prim_effect_kept (Decipher c) args f public x = written_kept (frame_after_pop f 6) public _ _
+prim_effect_kept (Sign c) args f public x = written_kept (frame_after_pop f 8) public _ _
 prim_effect_kept BitByte args f public x = moved_kept f public _ refl refl (λ g. g)
 prim_effect_kept ShiftLeft args f public x = moved_kept f public _ refl refl (λ g. g)
 prim_effect_kept ShiftRight args f public x = moved_kept f public _ refl refl (λ g. g)
@@ -124,13 +124,13 @@ prim_kept (Some p) args f public x = prim_effect_kept p args f public x
 
 -- ---- jumps
 
-gone_kept : (b on : Bool) (f : Frame) (public : List ℕ) (to : ℕ) → KeepsFactsOf f public (framed (gone b (cond on (popped f 2) f) to) public)
+gone_kept : (b on : Bool) (f : Frame) (public : List ℕ) (to : ℕ) → KeepsFactsOf f public (frame_effect (frame_after_jump b (cond on (frame_after_pop f 2) f) to) public)
 gone_kept true true f public to = moved_kept f public _ refl refl (λ g. g)
 gone_kept true false f public to = moved_kept f public _ refl refl (λ g. g)
 gone_kept false true f public to = moved_kept f public _ refl refl (λ g. g)
 gone_kept false false f public to = moved_kept f public _ refl refl (λ g. g)
 
-called_kept : (b on : Bool) (f : Frame) (public : List ℕ) (to : ℕ) → KeepsFactsOf f public (framed (called b (cond on (popped f 2) f) to) public)
+called_kept : (b on : Bool) (f : Frame) (public : List ℕ) (to : ℕ) → KeepsFactsOf f public (frame_effect (frame_after_call b (cond on (frame_after_pop f 2) f) to) public)
 called_kept true true f public to = moved_kept f public _ refl refl (λ g. g)
 called_kept true false f public to = moved_kept f public _ refl refl (λ g. g)
 called_kept false true f public to = moved_kept f public _ refl refl (λ g. g)
@@ -139,17 +139,17 @@ called_kept false false f public to = moved_kept f public _ refl refl (λ g. g)
 -- ---- all rows
 
 sw_kept : (public : List ℕ) (sw : ℕ) → length public ≡ 1041 → length (with_sw public sw) ≡ 1041
-sw_kept public sw e = length-splice public 1039 (bytes2 sw) (omega arith) ∙ e
+sw_kept public sw e = length_splice public 1039 (bytes2 sw) (omega arith) ∙ e
 
 la_kept : (public : List ℕ) (la : ℕ) → length public ≡ 1041 → length (with_la public la) ≡ 1041
-la_kept public la e = length-splice public 1037 (bytes2 la) (omega arith) ∙ e
+la_kept public la e = length_splice public 1037 (bytes2 la) (omega arith) ∙ e
 
 -- only the public segment changes
-public_set : (f : Frame) (public to : List ℕ) → (length public ≡ 1041 → length to ≡ 1041) → KeepsFactsOf f public (framed f to)
+public_set : (f : Frame) (public to : List ℕ) → (length public ≡ 1041 → length to ≡ 1041) → KeepsFactsOf f public (frame_effect f to)
 public_set f public to len = record { app_kept = refl; guard_kept = λ g. g; fixed_kept = refl; public_kept = len }
 
-becomes_kept : (f : Frame) (public : List ℕ) (a : ℕ) (b : List ℕ) (c z : Bool) → KeepsFactsOf f public (effect_flagged (written f public a b) c z)
-becomes_kept f public a b c z = flagged_kept (facts f) (IsGuarded f) f.fixed public (written f public a b) c z (written_kept f public a b)
+becomes_kept : (f : Frame) (public : List ℕ) (a : ℕ) (b : List ℕ) (c z : Bool) → KeepsFactsOf f public (effect_flagged (write_effect f public a b) c z)
+becomes_kept f public a b c z = flagged_kept (facts f) (IsGuarded f) f.fixed public (write_effect f public a b) c z (written_kept f public a b)
 
 effect_kept : (i : Ins) (f : Frame) (public : List ℕ) (x : Around) → KeepsFactsOf f public (effect i f public x).effect
 unfolding effect
@@ -176,9 +176,9 @@ effect_kept (ins.Reti i) f public x = moved_kept f public _ refl refl (λ g. g)
 effect_kept (ins.Reto o) f public x = moved_kept f public _ refl refl (λ g. g)
 effect_kept (ins.Retio i o) f public x = moved_kept f public _ refl refl (λ g. g)
 effect_kept (ins.Load tag off n) f public x = moved_kept f public _ refl refl (λ g. g)
-effect_kept (ins.Store tag off n) f public x = written_kept (popped f n) public _ _
+effect_kept (ins.Store tag off n) f public x = written_kept (frame_after_pop f n) public _ _
 effect_kept (ins.Loadi tag off n) f public x = moved_kept f public _ refl refl (λ g. g)
-effect_kept (ins.Storei tag off n) f public x = written_kept (popped f n) public _ _
+effect_kept (ins.Storei tag off n) f public x = written_kept (frame_after_pop f n) public _ _
 effect_kept (ins.Loada tag off) f public x = moved_kept f public _ refl refl (λ g. g)
 effect_kept (ins.Index tag off size) f public x = moved_kept f public _ refl refl (λ g. g)
 effect_kept (ins.Setb tag off b) f public x = written_kept f public _ _
@@ -217,7 +217,7 @@ effect_keeps i f public x =
       public = k.public_kept;
     }
 
-judged_keeps : (f : Frame) (public : List ℕ) (o : Option Abend) (d : Done) → KeepsEffect f public d.effect → KeepsRow f public (judged o d)
+judged_keeps : (f : Frame) (public : List ℕ) (o : Option Abend) (d : Done) → KeepsEffect f public d.effect → KeepsRow f public (row_end o d)
 judged_keeps f public (Some a) d k = tt
 judged_keeps f public None d k = k
 

@@ -9,7 +9,7 @@ use Rattle.mc_model_card.specs.Items.{BankItem}
 use Rattle.mc_model_machine.specs.Frame.{Frame, la_of}
 use Rattle.mc_model_machine.specs.Primitives.{Then, Exits}
 use Rattle.mc_model_machine.specs.Row.{RowEnd, Abends, Does}
-use Rattle.mc_model_machine.specs.Chain.{Chain, Turn, Abended, Follows, Ends as Ended, Acted, stepped, row_turn, settled, follows, exited, last_exit, reply_of}
+use Rattle.mc_model_machine.specs.Chain.{Chain, Turn, Abended, Follows, Ends as Ended, Acted, frame_at, row_turn, chain_after_effect, follows, after_exit, last_exit, reply_of}
 use Rattle.mc_bank.specs.Bank.{BankState}
 use Rattle.mc_segs.specs.declared.ends.Next.TheVariants as go
 use Rattle.mc_segs.specs.declared.ends.Next.{Next}
@@ -19,7 +19,7 @@ use Rattle.mc_segs.specs.HeldFrames.{Held, app_under}
 use Rattle.mc_segs.specs.Ends.{EndActs as CallActs, scene}
 use Rattle.mc_machine.specs.Alike.{SameRowEnd, KeepsRow}
 use Rattle.mc_machine.specs.Chains.{Chained, ReadAll, RunsAs}
-use Rattle.mc_machine.specs.Turns.{ActDone, Followed, advanced, told_of, last_end, end_value}
+use Rattle.mc_machine.specs.Turns.{ActDone, Followed, chain_at_next, step_of_frame, last_end, end_value}
 use Rattle.mc_machine.specs.Lone.{lone_chain, lone_of, EndDone, Delegated, NameIsCalled, LoneDone}
 use Rattle.mc_machine.specs.declared.lone.Lone.TheVariants.{Delegates}
 use Rattle.mc_machine.specs.declared.outcome.End.{End}
@@ -33,31 +33,31 @@ use Rattle.mc_machine.proofs.ActLemmas.{one_less, own_fixed, mid_runs, performed
 
 -- what the turn of an exit tells: with an abend the registers that were before
 abbrev pub exit_step : Held → Held → Ins → End → Step
-exit_step old new i end.Reply = told_of new (Some i) (Some end.Reply)
-exit_step old new i (end.Abend a) = told_of old (Some i) (Some (end.Abend a))
+exit_step old new i end.Reply = step_of_frame new (Some i) (Some end.Reply)
+exit_step old new i (end.Abend a) = step_of_frame old (Some i) (Some (end.Abend a))
 
 exit_end : (old new : Held) (i : Ins) (o : End) → (exit_step old new i o).end ≡ Some o
 exit_end old new i end.Reply = refl
 exit_end old new i (end.Abend a) = refl
 
 module _ (s : BankState) (named : ℕ → Option (List ℕ)) (old h : Held) (public : List ℕ) (case le left : ℕ) (k : Chain) (i : Ins) (r : RunsAs s named (lone_chain h public case le left) k) where
-  exited_is : (fs : List Frame) → ReadAll s named [] fs → exited k fs ≡ last_exit k
+  exited_is : (fs : List Frame) → ReadAll s named [] fs → after_exit k fs ≡ last_exit k
   exited_is [] all = refl
   exited_is (f ∷ fs) all = absurd all
 
   reply_is : end_value public le end.Reply ≡ reply_of k
   reply_is = rw (r.public, r.le) refl
 
-  exit_by : (b : Bool) → Followed s named (lone_chain h public case le left) (lone_chain h public case le left) i (told_of old (Some i) None) (exit_step old h i (cond b (end.Abend A09) end.Reply)) (cond b (Ended (Abended A09)) (Ended (reply_of k)))
+  exit_by : (b : Bool) → Followed s named (lone_chain h public case le left) (lone_chain h public case le left) i (step_of_frame old (Some i) None) (exit_step old h i (cond b (end.Abend A09) end.Reply)) (cond b (Ended (Abended A09)) (Ended (reply_of k)))
   exit_by true = (refl, refl)
   exit_by false = (refl, refl, reply_is)
 
-  pub exit_follows : Followed s named (lone_chain h public case le left) (lone_chain h public case le left) i (told_of old (Some i) None) (exit_step old h i (last_end public)) (follows k Exits)
+  pub exit_follows : Followed s named (lone_chain h public case le left) (lone_chain h public case le left) i (step_of_frame old (Some i) None) (exit_step old h i (last_end public)) (follows k Exits)
   exit_follows =
       let c = lone_chain h public case le left in
       let same : cond (nat_lt 1024 (la_of public)) (Ended (Abended A09)) (Ended (reply_of k)) ≡ follows k Exits =
       ap (λ (p : List ℕ). cond (nat_lt 1024 (la_of p)) (Ended (Abended A09)) (Ended (reply_of k))) r.public ∙ sym (exited_is k.below r.below) in
-      subst (λ (f : Follows). Followed s named c c i (told_of old (Some i) None) (exit_step old h i (last_end public)) f) same (exit_by (nat_lt 1024 (la_of public)))
+      subst (λ (f : Follows). Followed s named c c i (step_of_frame old (Some i) None) (exit_step old h i (last_end public)) f) same (exit_by (nat_lt 1024 (la_of public)))
 
 -- ---- turns
 
@@ -67,8 +67,8 @@ module _ {B : Type 0} (did : B → BankItem → Answer → B → Type 0) (state 
   ended b e c d ch t step o is done = (done.0, ap (λ (u : Turn). u.end) done.1 ∙ ap (option_map (end_value d.public d.le)) is)
 
   -- a turn that ends by an abend
-  pub lone_abends : (b e : B) (c d : Chained) (ch : Chain) (t : Acted) (h : Held) (i : Option Ins) (a : Abend) → ActDone did state named b e c d ch t (Ok (told_of h i (Some (end.Abend a)))) → EndDone did state named b e c d ch t (Some (end.Abend a))
-  lone_abends b e c d ch t h i a done = ended b e c d ch t (told_of h i (Some (end.Abend a))) (Some (end.Abend a)) refl done
+  pub lone_abends : (b e : B) (c d : Chained) (ch : Chain) (t : Acted) (h : Held) (i : Option Ins) (a : Abend) → ActDone did state named b e c d ch t (Ok (step_of_frame h i (Some (end.Abend a)))) → EndDone did state named b e c d ch t (Some (end.Abend a))
+  lone_abends b e c d ch t h i a done = ended b e c d ch t (step_of_frame h i (Some (end.Abend a))) (Some (end.Abend a)) refl done
 
   module _ (laws : BankLaws did state named) (b e : B) (old h : Held) (public segment : List ℕ) (case le left : ℕ) (ch : Chain) (next : ℕ) (i : Ins) (r : RunsAs (state b) (named b) (lone_chain old public case le left) ch) where
     abbrev from : Chained
@@ -78,17 +78,17 @@ module _ {B : Type 0} (did : B → BankItem → Answer → B → Type 0) (state 
     mid = lone_chain h segment case le (left - 1)
 
     -- the next instruction follows
-    pub lone_goes : (x y : RowEnd) → left ≢ 0 → SameRowEnd (app_under (state b) (named b) old).fixed x y → KeepsRow (stepped ch.frame next) ch.public y → ExitKeeps (stepped ch.frame next) y
-        → CallActs did state named (scene b e (advanced from next).running h public segment) x (Ok go.Go) → EndDone did state named b e from mid ch (row_turn ch i y) None
+    pub lone_goes : (x y : RowEnd) → left ≢ 0 → SameRowEnd (app_under (state b) (named b) old).fixed x y → KeepsRow (frame_at ch.frame next) ch.public y → ExitKeeps (frame_at ch.frame next) y
+        → CallActs did state named (scene b e (chain_at_next from next).running h public segment) x (Ok go.Go) → EndDone did state named b e from mid ch (row_turn ch i y) None
     lone_goes x y some same keeps exits acts =
-        let step = told_of h (Some i) None in
+        let step = step_of_frame h (Some i) None in
         ended b e from mid ch (row_turn ch i y) step None refl (
         performed_done did state named laws b e from mid ch next i r refl mid step go.Go x y some refl refl same keeps exits acts (λ k runs. (runs, refl))
         )
 
     -- the frame exits
-    pub lone_exits : (x y : RowEnd) → left ≢ 0 → SameRowEnd (app_under (state b) (named b) old).fixed x y → KeepsRow (stepped ch.frame next) ch.public y → ExitKeeps (stepped ch.frame next) y
-        → CallActs did state named (scene b e (advanced from next).running h public segment) x (Ok go.Exit) → EndDone did state named b e from mid ch (row_turn ch i y) (Some (last_end segment))
+    pub lone_exits : (x y : RowEnd) → left ≢ 0 → SameRowEnd (app_under (state b) (named b) old).fixed x y → KeepsRow (frame_at ch.frame next) ch.public y → ExitKeeps (frame_at ch.frame next) y
+        → CallActs did state named (scene b e (chain_at_next from next).running h public segment) x (Ok go.Exit) → EndDone did state named b e from mid ch (row_turn ch i y) (Some (last_end segment))
     lone_exits x y some same keeps exits acts =
         let step = exit_step old h i (last_end segment) in
         ended b e from mid ch (row_turn ch i y) step (Some (last_end segment)) (exit_end old h i (last_end segment)) (
@@ -97,23 +97,23 @@ module _ {B : Type 0} (did : B → BankItem → Answer → B → Type 0) (state 
         )
 
     -- the frame delegates
-    pub lone_delegates : (name : List ℕ) (x y : RowEnd) → left ≢ 0 → SameRowEnd (app_under (state b) (named b) old).fixed x y → KeepsRow (stepped ch.frame next) ch.public y
-        → CallActs did state named (scene b e (advanced from next).running h public segment) x (Ok (go.Delegate name)) → Delegated did state named b e from mid (row_turn ch i y) name
+    pub lone_delegates : (name : List ℕ) (x y : RowEnd) → left ≢ 0 → SameRowEnd (app_under (state b) (named b) old).fixed x y → KeepsRow (frame_at ch.frame next) ch.public y
+        → CallActs did state named (scene b e (chain_at_next from next).running h public segment) x (Ok (go.Delegate name)) → Delegated did state named b e from mid (row_turn ch i y) name
     lone_delegates name (Abends p) (Abends q) some same keeps acts = absurd acts
     lone_delegates name (Abends p) (Does k) some same keeps acts = absurd same
     lone_delegates name (Does j) (Abends q) some same keeps acts = absurd same
     lone_delegates name (Does j) (Does k) some same keeps acts = record {
-      chain = settled ch k.effect;
+      chain = chain_after_effect ch k.effect;
       runs = mid_runs did state named laws b e from mid ch next i r refl j.effect k.effect same.effect keeps acts.1;
       writes = writes_of did state ch.frame.name (app_under (state b) (named b) old).fixed k.effect.changes b (Ok tt) e (own_fixed did state named b from ch r) (committed_of did state named laws b e from ch j.effect k.effect (Ok tt) r same.effect acts.1.commits);
       going = acts.1.going;
       left = one_less left some;
-      follows = ap (λ (th : Then). follows (settled ch k.effect) th) (sym (acts.0 ∙ same.next));
+      follows = ap (λ (th : Then). follows (chain_after_effect ch k.effect) th) (sym (acts.0 ∙ same.next));
     }
 
     -- an instruction, whatever it did
-    pub lone_does : (o : Result Next Halt) (callee : Option (List ℕ)) (x y : RowEnd) → (state b).stopped ≡ false → left ≢ 0 → SameRowEnd (app_under (state b) (named b) old).fixed x y → KeepsRow (stepped ch.frame next) ch.public y → ExitKeeps (stepped ch.frame next) y
-        → CallActs did state named (scene b e (advanced from next).running h public segment) x o → NameIsCalled o callee → LoneDone did state named b e from (lone_chain h segment case le) ch (row_turn ch i y) (lone_of o segment) callee
+    pub lone_does : (o : Result Next Halt) (callee : Option (List ℕ)) (x y : RowEnd) → (state b).stopped ≡ false → left ≢ 0 → SameRowEnd (app_under (state b) (named b) old).fixed x y → KeepsRow (frame_at ch.frame next) ch.public y → ExitKeeps (frame_at ch.frame next) y
+        → CallActs did state named (scene b e (chain_at_next from next).running h public segment) x o → NameIsCalled o callee → LoneDone did state named b e from (lone_chain h segment case le) ch (row_turn ch i y) (lone_of o segment) callee
     lone_does (Ok go.Go) callee x y going some same keeps exits acts called = (left - 1, lone_goes x y some same keeps exits acts)
     lone_does (Ok go.Exit) callee x y going some same keeps exits acts called = (left - 1, lone_exits x y some same keeps exits acts)
     lone_does (Ok (go.Delegate name)) callee x y going some same keeps exits acts called =
@@ -121,11 +121,11 @@ module _ {B : Type 0} (did : B → BankItem → Answer → B → Type 0) (state 
     lone_does (Err (halt.Abend a)) callee x y going some same keeps exits acts called = (
       left - 1,
       lone_abends b e from mid ch (row_turn ch i y) old (Some i) a (
-          performed_halts did state named laws b e from mid ch next i r refl going some (told_of old (Some i) None) refl (halt.Abend a) x y same acts
+          performed_halts did state named laws b e from mid ch next i r refl going some (step_of_frame old (Some i) None) refl (halt.Abend a) x y same acts
           ),
     )
     lone_does (Err (halt.Stop stop)) callee x y going some same keeps exits acts called =
-        performed_halts did state named laws b e from mid ch next i r refl going some (told_of old (Some i) None) refl (halt.Stop stop) x y same acts
+        performed_halts did state named laws b e from mid ch next i r refl going some (step_of_frame old (Some i) None) refl (halt.Stop stop) x y same acts
 
   -- a turn that delegates has called a name
   pub name_called : (b e : B) (c : Chained) (d : ℕ → Chained) (ch : Chain) (t : Acted) (callee : Option (List ℕ)) → LoneDone did state named b e c d ch t (Ok Delegates) callee → IsSome callee

@@ -6,11 +6,11 @@ use Rattle.mc_bank.specs.Bank.{BankState, app_of, name_or, no_app, sizes_of}
 use Rattle.mc_model_device.specs.Bytes.{lookup, zeros}
 use Rattle.mc_model_device.specs.Card.{App}
 use Rattle.mc_model_machine.specs.Frame.{Frame, session_of, new_frame}
-use Rattle.mc_model_machine.specs.Chain.{Chain, delegator_in, first_frame, chain_session, is_active, stepped}
-use Rattle.mc_segs.specs.HeldFrames.{Held, Seen, seen, app_under, new_held}
+use Rattle.mc_model_machine.specs.Chain.{Chain, delegator_in, first_frame, chain_session, is_active, frame_at}
+use Rattle.mc_segs.specs.HeldFrames.{Held, Seen, frame_reading, app_under, new_held}
 use Rattle.mc_bank.proofs.LeftLemmas.{some_name}
 use Rattle.mc_machine.specs.Chains.{Chained, FrameReadsAs, ReadAll, RunsAs, first_held, session_in}
-use Rattle.mc_machine.specs.Turns.{AllFitBank, delegator_of, has_frame, advanced}
+use Rattle.mc_machine.specs.Turns.{AllFitBank, delegator_of, has_frame, chain_at_next}
 
 -- ---- one frame
 
@@ -79,14 +79,14 @@ module _ (s : BankState) (named : ℕ → Option (List ℕ)) where
 
   -- ---- one instruction of the budget
 
-  pub advanced_reads : (h : Held) (f : Frame) (next : ℕ) → FrameReadsAs s named h f → FrameReadsAs s named (record h { frame = record h.frame { at = next } }) (stepped f next)
+  pub advanced_reads : (h : Held) (f : Frame) (next : ℕ) → FrameReadsAs s named h f → FrameReadsAs s named (record h { frame = record h.frame { at = next } }) (frame_at f next)
   advanced_reads h f next r = record {
     fits = record { there = r.fits.there; app = r.fits.app; code = r.fits.code; fixed = r.fits.fixed; deny = r.fits.deny; session = r.fits.session };
     same = ap (λ (t : Seen). record t { at = next }) r.same;
     guarded = r.guarded;
   }
 
-  pub advanced_runs : (c : Chained) (ch : Chain) (next : ℕ) → RunsAs s named c ch → RunsAs s named (advanced c next) (record ch { frame = stepped ch.frame next })
+  pub advanced_runs : (c : Chained) (ch : Chain) (next : ℕ) → RunsAs s named c ch → RunsAs s named (chain_at_next c next) (record ch { frame = frame_at ch.frame next })
   advanced_runs c ch next r = record {
     map = r.map;
     running = advanced_reads c.running ch.frame next r.running;
@@ -115,7 +115,7 @@ module _ (s : BankState) (named : ℕ → Option (List ℕ)) where
           deny = r.fits.deny ∙ ap (λ (a : App). a.deny) (sym apps);
           session = r.fits.session ∙ ap (λ (a : App). a.session) (sym apps);
         };
-        same = ap (λ (o : Option (List ℕ)). seen (record h.frame { name = name_or o; fixed = (app_under t names h).fixed })) name ∙ ap (λ (a : App). seen (record h.frame { name = name_or (named h.slot); fixed = a.fixed })) apps ∙ r.same;
+        same = ap (λ (o : Option (List ℕ)). frame_reading (record h.frame { name = name_or o; fixed = (app_under t names h).fixed })) name ∙ ap (λ (a : App). frame_reading (record h.frame { name = name_or (named h.slot); fixed = a.fixed })) apps ∙ r.same;
         guarded = r.guarded;
       }
 
@@ -133,6 +133,6 @@ module _ (s : BankState) (named : ℕ → Option (List ℕ)) where
           deny = ap (λ (b : App). b.deny) (sym is);
           session = length-replicate a.session 0 ∙ ap (λ (b : App). b.session) (sym is);
         };
-        same = ap (λ (o : Option (List ℕ)). seen (new_frame (name_or o) (length a.code) a.deny (app_of s.apps (named slot)).fixed (zeros a.session))) there ∙ ap (λ (b : App). seen (new_frame n (length a.code) a.deny b.fixed (zeros a.session))) is;
+        same = ap (λ (o : Option (List ℕ)). frame_reading (new_frame (name_or o) (length a.code) a.deny (app_of s.apps (named slot)).fixed (zeros a.session))) there ∙ ap (λ (b : App). frame_reading (new_frame n (length a.code) a.deny b.fixed (zeros a.session))) is;
         guarded = λ off. refl;
       }

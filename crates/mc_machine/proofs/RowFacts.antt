@@ -5,7 +5,7 @@ use Rattle.mc_model_machine.specs.declared.instruction.Ins.TheVariants as ins
 use Rattle.mc_model_machine.specs.declared.machine.Abend.{Abend}
 use Rattle.mc_model_machine.specs.Frame.{Frame, session_of}
 use Rattle.mc_model_machine.specs.Primitives.{Around, Done, Exits, Primitive, CheckCase, LoadCcr, StoreCcr, Lookup, MemoryCompare, MemoryCopy, DelegateTo, DelegatorAid, Digest, CompareFixed, CopyFixed, SetProtection, Encipher, Decipher, Sign, BitByte, ShiftLeft, ShiftRight, BitWord, primitive, prim_done, prim_effect}
-use Rattle.mc_model_machine.specs.Row.{effect, causes, first_cause, judged, row, RowEnd, Abends, Does}
+use Rattle.mc_model_machine.specs.Row.{effect, causes, first_cause, row_end, row, RowEnd, Abends, Does}
 use Rattle.mc_rows.specs.Families.{IsNoPrimitive}
 
 -- an instruction that exits keeps its frame's session bytes
@@ -92,7 +92,7 @@ effect_exits (ins.Andn tag off n) f public x e = absurd (cc e)
 effect_exits (ins.Orn tag off n) f public x e = absurd (cc e)
 effect_exits (ins.Xorn tag off n) f public x e = absurd (cc e)
 
-judged_exits : (f : Frame) (o : Option Abend) (d : Done) → ExitKeepsSession f d → ExitKeeps f (judged o d)
+judged_exits : (f : Frame) (o : Option Abend) (d : Done) → ExitKeepsSession f d → ExitKeeps f (row_end o d)
 judged_exits f (Some a) d k = tt
 judged_exits f None d k = k
 

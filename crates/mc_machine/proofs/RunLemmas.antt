@@ -8,12 +8,12 @@ use Rattle.mc_model_machine.specs.declared.instruction.DecodeFault.TheVariants.{
 use Rattle.mc_model_machine.specs.declared.machine.Abend.TheVariants.{A07}
 use Rattle.mc_model_device.specs.declared.device.Stop.{Stop}
 use Rattle.mc_model_device.specs.Orders.{Answer, InOrder, answer_of}
-use Rattle.mc_model_device.proofs.OrdersLemmas.{InOrder-append, InOrder-stopped}
+use Rattle.mc_model_device.proofs.OrdersLemmas.{in_order_append, in_order_stopped}
 use Rattle.mc_model_card.specs.Items.{BankItem}
-use Rattle.mc_model_machine.specs.Code.{decoded}
+use Rattle.mc_model_machine.specs.Code.{instruction_at}
 use Rattle.mc_model_device.specs.Bytes.{lookup}
 use Rattle.mc_model_machine.specs.Row.{RowEnd, Abends, Does, row}
-use Rattle.mc_model_machine.specs.Chain.{Chain, Outcome, Abended, Acted, Write, Ran, Follows, Continues, Ends, around, code_in, stepped, first_frame, chain_session, row_turn, fetched, acted, spent, turn_of, end_of, ends_with, goes_on, ran_on, ran, called}
+use Rattle.mc_model_machine.specs.Chain.{Chain, Outcome, Abended, Acted, Write, Ran, Follows, Continues, Ends, around, code_in, frame_at, first_frame, chain_session, row_turn, turn_of_fetch, turn_of_chain, turn_without_budget, turn_of, end_of, ends_with, goes_on, run_after_turn, run_of_chain, chain_after_call}
 use Rattle.mc_apdu.specs.declared.reply.Reply.{Reply}
 use Rattle.mc_bank.specs.Bank.{BankState}
 use Rattle.mc_machine.specs.declared.outcome.End.{End}
@@ -22,7 +22,7 @@ use Rattle.mc_machine.proofs.ReadsLemmas.{session_runs}
 use Rattle.mc_machine.specs.Chains.{Chained, RunsAs, ChainWrote, session_in}
 use Rattle.mc_machine.specs.Lone.{EndDone, Delegated, Finished, RanDone}
 use Rattle.mc_machine.specs.declared.outcome.Outcome.{Outcome as CodeOutcome}
-use Rattle.mc_machine.specs.Turns.{Follow, TurnActs, ActDone, end_value, outcome_value, outcome_by, placed}
+use Rattle.mc_machine.specs.Turns.{Follow, TurnActs, ActDone, end_value, outcome_value, outcome_by, reply_or_stop}
 use Rattle.mc_machine.proofs.FewLemmas.{all_few}
 
 -- ---- turns of the definition
@@ -45,32 +45,32 @@ row_told : (ch : Chain) (i : Ins) (r : RowEnd) → TellsEnd (row_turn ch i r)
 row_told ch i (Abends a) = record { end = refl; count = omega arith }
 row_told ch i (Does d) = record { end = refl; count = counts_one _ }
 
-fetched_told : (ch : Chain) (r : Result (Ins × ℕ) DecodeFault) → TellsEnd (fetched ch r)
+fetched_told : (ch : Chain) (r : Result (Ins × ℕ) DecodeFault) → TellsEnd (turn_of_fetch ch r)
 fetched_told ch (Err Undefined) = record { end = refl; count = omega arith }
 fetched_told ch (Err Past) = record { end = refl; count = omega arith }
-fetched_told ch (Ok i) = row_told ch i.0 (row i.0 (stepped ch.frame i.1) ch.public (around ch))
+fetched_told ch (Ok i) = row_told ch i.0 (row i.0 (frame_at ch.frame i.1) ch.public (around ch))
 
-acted_told : (ch : Chain) → TellsEnd (acted ch)
-unfolding acted
-acted_told ch = fetched_told ch (decoded (code_in (lookup ch.map ch.frame.name)) ch.frame.at)
+acted_told : (ch : Chain) → TellsEnd (turn_of_chain ch)
+unfolding turn_of_chain
+acted_told ch = fetched_told ch (instruction_at (code_in (lookup ch.map ch.frame.name)) ch.frame.at)
 
 turn_told : (n : ℕ) (ch : Chain) → TellsEnd (turn_of n ch)
 turn_told zero ch = record { end = refl; count = omega arith }
 turn_told (suc n) ch = acted_told ch
 
 -- a run whose first turn goes on
-ran_goes : (n m : ℕ) (ch next : Chain) → (turn_of n ch).follows ≡ Continues next → m + 1 ≡ n → ran n ch ≡ goes_on (turn_of n ch) (ran m next)
-unfolding ran
+ran_goes : (n m : ℕ) (ch next : Chain) → (turn_of n ch).follows ≡ Continues next → m + 1 ≡ n → run_of_chain n ch ≡ goes_on (turn_of n ch) (run_of_chain m next)
+unfolding run_of_chain
 ran_goes zero m ch next e size = absurd (cc e)
 ran_goes (suc n) m ch next e size =
     let same : n ≡ m = omega (arith, size) in
-    ap (λ (f : Follows). ran_on (acted ch) (chain_session ch) f (λ c. ran n c)) e ∙ ap (λ (k : ℕ). goes_on (acted ch) (ran k next)) same
+    ap (λ (f : Follows). run_after_turn (turn_of_chain ch) (chain_session ch) f (λ c. run_of_chain n c)) e ∙ ap (λ (k : ℕ). goes_on (turn_of_chain ch) (run_of_chain k next)) same
 
 -- a run whose first turn ends it
-ran_ends : (n : ℕ) (ch : Chain) (o : Outcome) → (turn_of n ch).follows ≡ Ends o → ran n ch ≡ ends_with (turn_of n ch) (chain_session ch) o
-unfolding ran
-ran_ends zero ch o e = ap (λ (p : Outcome). ends_with (spent ch) (chain_session ch) p) (cc e)
-ran_ends (suc n) ch o e = ap (λ (f : Follows). ran_on (acted ch) (chain_session ch) f (λ c. ran n c)) e
+ran_ends : (n : ℕ) (ch : Chain) (o : Outcome) → (turn_of n ch).follows ≡ Ends o → run_of_chain n ch ≡ ends_with (turn_of n ch) (chain_session ch) o
+unfolding run_of_chain
+ran_ends zero ch o e = ap (λ (p : Outcome). ends_with (turn_without_budget ch) (chain_session ch) p) (cc e)
+ran_ends (suc n) ch o e = ap (λ (f : Follows). run_after_turn (turn_of_chain ch) (chain_session ch) f (λ c. run_of_chain n c)) e
 
 ended_of : (f : Follows) (o : Outcome) → Some o ≡ end_of f → f ≡ Ends o
 ended_of (Continues c) o e = absurd (cc e)
@@ -80,12 +80,12 @@ goes_some : (n : ℕ) (ch next : Chain) → (turn_of n ch).follows ≡ Continues
 goes_some zero ch next e = absurd (cc e)
 goes_some (suc n) ch next e = omega arith
 
-turn_count : (n : ℕ) (ch : Chain) (f : Follows) → (turn_of n ch).follows ≡ f → (turn_of n ch).count ≤ (ran n ch).count
+turn_count : (n : ℕ) (ch : Chain) (f : Follows) → (turn_of n ch).follows ≡ f → (turn_of n ch).count ≤ (run_of_chain n ch).count
 turn_count n ch (Ends o) e =
-    let same : (ran n ch).count ≡ (turn_of n ch).count = ap (λ (r : Ran). r.count) (ran_ends n ch o e) in
+    let same : (run_of_chain n ch).count ≡ (turn_of n ch).count = ap (λ (r : Ran). r.count) (ran_ends n ch o e) in
     omega (arith, same)
 turn_count n ch (Continues next) e =
-    let same : (ran n ch).count ≡ (turn_of n ch).count + (ran (n - 1) next).count = ap (λ (r : Ran). r.count) (ran_goes n (n - 1) ch next e (goes_some n ch next e)) in
+    let same : (run_of_chain n ch).count ≡ (turn_of n ch).count + (run_of_chain (n - 1) next).count = ap (λ (r : Ran). r.count) (ran_goes n (n - 1) ch next e (goes_some n ch next e)) in
     omega (arith, same)
 
 -- ---- a run that is underway
@@ -97,16 +97,16 @@ pub record Underway {B : Type 0} (did : B → BankItem → Answer → B → Type
   pub runs : RunsAs (state here) (named here) c chain
   pub going : (state here).stopped ≡ false
   pub left : c.left + turn ≡ budget
-  pub writes : (a : Answer) (e : B) → InOrder (ChainWrote did state) here (ran c.left chain).writes a e → InOrder (ChainWrote did state) start whole.writes a e
-  pub count : steps + (ran c.left chain).count ≡ ticks + whole.count
-  pub session : (ran c.left chain).session ≡ whole.session
-  pub outcome : (ran c.left chain).outcome ≡ whole.outcome
+  pub writes : (a : Answer) (e : B) → InOrder (ChainWrote did state) here (run_of_chain c.left chain).writes a e → InOrder (ChainWrote did state) start whole.writes a e
+  pub count : steps + (run_of_chain c.left chain).count ≡ ticks + whole.count
+  pub session : (run_of_chain c.left chain).session ≡ whole.session
+  pub outcome : (run_of_chain c.left chain).outcome ≡ whole.outcome
 
 module _ {B : Type 0} (did : B → BankItem → Answer → B → Type 0) (state : B → BankState) (named : B → ℕ → Option (List ℕ)) where
   -- a chain before its first turn
-  pub underway : (start : B) (c : Chained) (ch : Chain) (budget steps : ℕ) → (state start).stopped ≡ false → RunsAs (state start) (named start) c ch → c.left ≡ budget → Underway did state named start (ran budget ch) steps budget 0 start c steps
+  pub underway : (start : B) (c : Chained) (ch : Chain) (budget steps : ℕ) → (state start).stopped ≡ false → RunsAs (state start) (named start) c ch → c.left ≡ budget → Underway did state named start (run_of_chain budget ch) steps budget 0 start c steps
   underway start c ch budget steps going runs left =
-      let same : ran c.left ch ≡ ran budget ch = ap (λ (n : ℕ). ran n ch) left in
+      let same : run_of_chain c.left ch ≡ run_of_chain budget ch = ap (λ (n : ℕ). run_of_chain n ch) left in
       record {
         chain = ch;
         runs = runs;
@@ -127,15 +127,15 @@ module _ {B : Type 0} (did : B → BankItem → Answer → B → Type 0) (state 
         let one : t.count ≡ 1 = subst (λ (f : Follows). CountsOne f t.count) follows (turn_told c.left u.chain).count in
         let left = acts.left in
         let size : d.left + 1 ≡ c.left = omega (arith, left, one) in
-        let same : ran c.left u.chain ≡ goes_on t (ran d.left next) = ran_goes c.left d.left u.chain next follows size in
+        let same : run_of_chain c.left u.chain ≡ goes_on t (run_of_chain d.left next) = ran_goes c.left d.left u.chain next follows size in
         let whole_left = u.left in
-        let whole_count : steps + (t.count + (ran d.left next).count) ≡ ticks + whole.count = ap (λ (r : Ran). steps + r.count) (sym same) ∙ u.count in
+        let whole_count : steps + (t.count + (run_of_chain d.left next).count) ≡ ticks + whole.count = ap (λ (r : Ran). steps + r.count) (sym same) ∙ u.count in
         record {
           chain = next;
           runs = subst (λ (f : Follows). Follow (state e) (named e) d u.chain f) follows acts.follows;
           going = acts.going;
           left = omega (arith, size, whole_left);
-          writes = λ a k w. u.writes a k (subst (λ (r : Ran). InOrder (ChainWrote did state) here r.writes a k) (sym same) (InOrder-append (ChainWrote did state) t.writes (ran d.left next).writes here e k a acts.writes w));
+          writes = λ a k w. u.writes a k (subst (λ (r : Ran). InOrder (ChainWrote did state) here r.writes a k) (sym same) (in_order_append (ChainWrote did state) t.writes (run_of_chain d.left next).writes here e k a acts.writes w));
           count = omega (arith, count, whole_count);
           session = ap (λ (r : Ran). r.session) (sym same) ∙ u.session;
           outcome = ap (λ (r : Ran). r.outcome) (sym same) ∙ u.outcome;
@@ -156,7 +156,7 @@ module _ {B : Type 0} (did : B → BankItem → Answer → B → Type 0) (state 
         let o = end_value d.public d.le end in
         let told : Some o ≡ end_of t.follows = sym done.1 ∙ (turn_told c.left u.chain).end in
         let ends = ended_of t.follows o told in
-        let same : ran c.left u.chain ≡ ends_with t (chain_session u.chain) o = ran_ends c.left u.chain o ends in
+        let same : run_of_chain c.left u.chain ≡ ends_with t (chain_session u.chain) o = ran_ends c.left u.chain o ends in
         record {
           writes = u.writes (Ok tt) e (subst (λ (r : Ran). InOrder (ChainWrote did state) here r.writes (Ok tt) e) (sym same) done.0.writes);
           going = done.0.going;
@@ -172,24 +172,24 @@ module _ {B : Type 0} (did : B → BankItem → Answer → B → Type 0) (state 
     -- a turn that delegates: the rest of the run is that of the chain in which the name is called
     module _ (name : List ℕ) (g : Delegated did state named here e c d (turn_of c.left u.chain) name) (count : now ≡ steps + (turn_of c.left u.chain).count) where
       abbrev pub next_chain : Chain
-      next_chain = called g.chain name (lookup g.chain.map name)
+      next_chain = chain_after_call g.chain name (lookup g.chain.map name)
 
-      rest_is : ran c.left u.chain ≡ goes_on (turn_of c.left u.chain) (ran d.left next_chain)
+      rest_is : run_of_chain c.left u.chain ≡ goes_on (turn_of c.left u.chain) (run_of_chain d.left next_chain)
       rest_is =
           let t = turn_of c.left u.chain in
           let one : t.count ≡ 1 = subst (λ (f : Follows). CountsOne f t.count) g.follows (turn_told c.left u.chain).count in
           let left = g.left in
           ran_goes c.left d.left u.chain next_chain g.follows (omega (arith, left, one))
 
-      pub delegated_ends : (end : B) (bytes after : List ℕ) (last : ℕ) (result : Result CodeOutcome Stop) → RanDone did state e end bytes after now last (ran d.left next_chain) result → RanDone did state start end bytes after ticks last whole result
+      pub delegated_ends : (end : B) (bytes after : List ℕ) (last : ℕ) (result : Result CodeOutcome Stop) → RanDone did state e end bytes after now last (run_of_chain d.left next_chain) result → RanDone did state start end bytes after ticks last whole result
       delegated_ends end bytes after last (Ok o) f =
           let t = turn_of c.left u.chain in
           let same = rest_is in
-          let rest = ran d.left next_chain in
+          let rest = run_of_chain d.left next_chain in
           let total : steps + (t.count + rest.count) ≡ ticks + whole.count = ap (λ (r : Ran). steps + r.count) (sym same) ∙ u.count in
           let more = f.count in
           record {
-            writes = u.writes (Ok tt) end (subst (λ (r : Ran). InOrder (ChainWrote did state) here r.writes (Ok tt) end) (sym same) (InOrder-append (ChainWrote did state) t.writes rest.writes here e end (Ok tt) g.writes f.writes));
+            writes = u.writes (Ok tt) end (subst (λ (r : Ran). InOrder (ChainWrote did state) here r.writes (Ok tt) end) (sym same) (in_order_append (ChainWrote did state) t.writes rest.writes here e end (Ok tt) g.writes f.writes));
             going = f.going;
             count = omega (arith, count, total, more);
             session = f.session ∙ ap (λ (r : Ran). r.session) (sym same) ∙ u.session;
@@ -198,20 +198,20 @@ module _ {B : Type 0} (did : B → BankItem → Answer → B → Type 0) (state 
       delegated_ends end bytes after last (Err s) h =
           let t = turn_of c.left u.chain in
           let same = rest_is in
-          let rest = ran d.left next_chain in
+          let rest = run_of_chain d.left next_chain in
           let total : steps + (t.count + rest.count) ≡ ticks + whole.count = ap (λ (r : Ran). steps + r.count) (sym same) ∙ u.count in
           let more = h.count in
           record {
-            writes = u.writes (Err s) end (subst (λ (r : Ran). InOrder (ChainWrote did state) here r.writes (Err s) end) (sym same) (InOrder-append (ChainWrote did state) t.writes rest.writes here e end (Err s) g.writes h.writes));
+            writes = u.writes (Err s) end (subst (λ (r : Ran). InOrder (ChainWrote did state) here r.writes (Err s) end) (sym same) (in_order_append (ChainWrote did state) t.writes rest.writes here e end (Err s) g.writes h.writes));
             count = omega (arith, count, total, more);
             session = h.session;
           }
 
-  stops_by : (n : ℕ) (ch : Chain) (b e : B) (s : Stop) (f : Follows) → (turn_of n ch).follows ≡ f → InOrder (ChainWrote did state) b (turn_of n ch).writes (Err s) e → InOrder (ChainWrote did state) b (ran n ch).writes (Err s) e
+  stops_by : (n : ℕ) (ch : Chain) (b e : B) (s : Stop) (f : Follows) → (turn_of n ch).follows ≡ f → InOrder (ChainWrote did state) b (turn_of n ch).writes (Err s) e → InOrder (ChainWrote did state) b (run_of_chain n ch).writes (Err s) e
   stops_by n ch b e s (Ends o) ends w = subst (λ (r : Ran). InOrder (ChainWrote did state) b r.writes (Err s) e) (sym (ran_ends n ch o ends)) w
   stops_by n ch b e s (Continues next) goes w =
       let t = turn_of n ch in
-      subst (λ (r : Ran). InOrder (ChainWrote did state) b r.writes (Err s) e) (sym (ran_goes n (n - 1) ch next goes (goes_some n ch next goes))) (InOrder-stopped (ChainWrote did state) t.writes (ran (n - 1) next).writes b e s w)
+      subst (λ (r : Ran). InOrder (ChainWrote did state) b r.writes (Err s) e) (sym (ran_goes n (n - 1) ch next goes (goes_some n ch next goes))) (in_order_stopped (ChainWrote did state) t.writes (run_of_chain (n - 1) next).writes b e s w)
 
   -- a stop in a turn
   pub underway_stops : (start : B) (whole : Ran) (ticks budget turn : ℕ) (here e : B) (c : Chained) (steps : ℕ) (u : Underway did state named start whole ticks budget turn here c steps) (s : Stop) → InOrder (ChainWrote did state) here (turn_of c.left u.chain).writes (Err s) e → InOrder (ChainWrote did state) start whole.writes (Err s) e
@@ -229,7 +229,7 @@ module _ {B : Type 0} (did : B → BankItem → Answer → B → Type 0) (state 
   underway_spent start whole ticks budget turn here c steps u done =
       let total = u.left in
       let none : c.left ≡ 0 = omega (arith, total, done) in
-      let same : ran c.left u.chain ≡ ends_with (spent u.chain) (chain_session u.chain) (Abended A07) = ap (λ (n : ℕ). ran n u.chain) none ∙ ran_ends 0 u.chain (Abended A07) refl in
+      let same : run_of_chain c.left u.chain ≡ ends_with (turn_without_budget u.chain) (chain_session u.chain) (Abended A07) = ap (λ (n : ℕ). run_of_chain n u.chain) none ∙ ran_ends 0 u.chain (Abended A07) refl in
       let all : steps + 0 ≡ ticks + whole.count = ap (λ (r : Ran). steps + r.count) (sym same) ∙ u.count in
       record {
         writes = u.writes (Ok tt) here (subst (λ (r : Ran). InOrder (ChainWrote did state) here r.writes (Ok tt) here) (sym same) refl);
@@ -248,34 +248,34 @@ pub lone_left : (n turn budget : ℕ) → n + turn ≡ budget → n ≡ budget -
 lone_left n turn budget e = omega (arith, e)
 
 module _ {B : Type 0} (did : B → BankItem → Answer → B → Type 0) (state : B → BankState) (b e : B) (bytes left : List ℕ) (ticks steps : ℕ) (whole : Ran) (reply : Reply) where
-  pub ran_writes : (x : Result End Stop) → RanDone did state b e bytes left ticks steps whole (placed x reply) → InOrder (ChainWrote did state) b whole.writes (answer_of x) e
+  pub ran_writes : (x : Result End Stop) → RanDone did state b e bytes left ticks steps whole (reply_or_stop x reply) → InOrder (ChainWrote did state) b whole.writes (answer_of x) e
   ran_writes (Ok o) f = f.writes
   ran_writes (Err s) h = h.writes
 
-  pub ran_few : (x : Result End Stop) → RanDone did state b e bytes left ticks steps whole (placed x reply) → OnOk x (AllByRecursion (λ (w : Write). w.words ≤ 64) whole.writes)
+  pub ran_few : (x : Result End Stop) → RanDone did state b e bytes left ticks steps whole (reply_or_stop x reply) → OnOk x (AllByRecursion (λ (w : Write). w.words ≤ 64) whole.writes)
   ran_few (Ok o) f = all_few did state whole.writes b e f.writes
   ran_few (Err s) h = tt
 
-  pub ran_outcome : (x : Result End Stop) → RanDone did state b e bytes left ticks steps whole (placed x reply) → IfOk x (λ o. outcome_value (outcome_by o reply) ≡ whole.outcome)
+  pub ran_outcome : (x : Result End Stop) → RanDone did state b e bytes left ticks steps whole (reply_or_stop x reply) → IfOk x (λ o. outcome_value (outcome_by o reply) ≡ whole.outcome)
   ran_outcome (Ok o) f = f.outcome
   ran_outcome (Err s) h = tt
 
-  pub ran_session : (x : Result End Stop) → RanDone did state b e bytes left ticks steps whole (placed x reply) → OnOk x (left ≡ whole.session)
+  pub ran_session : (x : Result End Stop) → RanDone did state b e bytes left ticks steps whole (reply_or_stop x reply) → OnOk x (left ≡ whole.session)
   ran_session (Ok o) f = f.session
   ran_session (Err s) h = tt
 
-  pub ran_ticks : (x : Result End Stop) → RanDone did state b e bytes left ticks steps whole (placed x reply) → OnOk x (steps ≡ ticks + whole.count)
+  pub ran_ticks : (x : Result End Stop) → RanDone did state b e bytes left ticks steps whole (reply_or_stop x reply) → OnOk x (steps ≡ ticks + whole.count)
   ran_ticks (Ok o) f = f.count
   ran_ticks (Err s) h = tt
 
-  pub ran_most : (x : Result End Stop) → RanDone did state b e bytes left ticks steps whole (placed x reply) → OnErr x (steps ≤ ticks + whole.count)
+  pub ran_most : (x : Result End Stop) → RanDone did state b e bytes left ticks steps whole (reply_or_stop x reply) → OnErr x (steps ≤ ticks + whole.count)
   ran_most (Ok o) f = tt
   ran_most (Err s) h = h.count
 
-  pub ran_going : (x : Result End Stop) → RanDone did state b e bytes left ticks steps whole (placed x reply) → OnOk x ((state e).stopped ≡ false)
+  pub ran_going : (x : Result End Stop) → RanDone did state b e bytes left ticks steps whole (reply_or_stop x reply) → OnOk x ((state e).stopped ≡ false)
   ran_going (Ok o) f = f.going
   ran_going (Err s) h = tt
 
-  pub ran_unchanged : (x : Result End Stop) → RanDone did state b e bytes left ticks steps whole (placed x reply) → OnErr x (left ≡ bytes)
+  pub ran_unchanged : (x : Result End Stop) → RanDone did state b e bytes left ticks steps whole (reply_or_stop x reply) → OnErr x (left ≡ bytes)
   ran_unchanged (Ok o) f = tt
   ran_unchanged (Err s) h = h.session

@@ -7,19 +7,19 @@ use Rattle.mc_model_machine.specs.declared.instruction.Ins.{Ins}
 use Rattle.mc_model_machine.specs.declared.instruction.DecodeFault.{DecodeFault}
 use Rattle.mc_model_machine.specs.declared.instruction.DecodeFault.TheVariants.{Undefined, Past}
 use Rattle.mc_model_device.specs.Bytes.{lookup, insert, zeros}
-use Rattle.mc_model_device.specs.Pieces.{touched}
+use Rattle.mc_model_device.specs.Pieces.{touched_words}
 use Rattle.mc_model_device.specs.Card.{App}
-use Rattle.mc_model_machine.specs.Code.{decoded}
+use Rattle.mc_model_machine.specs.Code.{instruction_at}
 use Rattle.mc_model_machine.specs.Frame.{Frame, Effect, new_frame, la_of}
 use Rattle.mc_model_machine.specs.Primitives.{Then, Goes, Exits, Delegates}
 use Rattle.mc_model_machine.specs.Row.{RowEnd, Abends, Does, row}
-use Rattle.mc_model_machine.specs.Chain.{Chain, Write, Acted, Follows, Continues, Ends, code_in, around, first_frame, chain_session, with_pieces, changed_app, map_changed, write_of, settled, called, called_app, is_active, depth_of, exited, follows, row_turn, stepped, fetched, acted, turn_of}
-use Rattle.mc_model_card.specs.Items.{done, write_items}
+use Rattle.mc_model_machine.specs.Chain.{Chain, Write, Acted, Follows, Continues, Ends, code_in, around, first_frame, chain_session, with_pieces, changed_app, map_changed, write_of, chain_after_effect, chain_after_call, called_app, is_active, depth_of, after_exit, follows, row_turn, frame_at, turn_of_fetch, turn_of_chain, turn_of}
+use Rattle.mc_model_card.specs.Items.{apps_after_items, write_items}
 use Rattle.mc_bank.specs.Bank.{no_app, app_of}
 use Rattle.mc_machine.specs.Sound.{IsSoundFrame, IsSoundChain}
 use Rattle.mc_machine_laws.specs.FewWords.{PiecesWithin}
-use Rattle.mc_machine.proofs.SoundRows.{ChangesWithin, KeepsPartsOf, RowKeeps, row_keeps, length-pieces}
-use Rattle.mc_model_device.proofs.MapLemmas.{same_name, lookup-inserted, lookup-beside}
+use Rattle.mc_machine.proofs.SoundRows.{ChangesWithin, KeepsPartsOf, RowKeeps, row_keeps, length_pieces}
+use Rattle.mc_model_device.proofs.MapLemmas.{same_name, lookup_inserted_lem, lookup_beside}
 
 -- ---- applications whose sizes stay
 
@@ -38,11 +38,11 @@ sizes_onward a b c first second = record { fixed = λ n. second.fixed n ∙ firs
 module _ (apps : List (List ℕ × App)) (n : List ℕ) (old new : App) (there : lookup apps n ≡ Some old) (fixed : length new.fixed ≡ length old.fixed) (session : new.session ≡ old.session) where
   inserted_at : (m : List ℕ) (b : Bool) → bytes_eq n m ≡ b → (length (app_of (insert apps n new) (Some m)).fixed ≡ length (app_of apps (Some m)).fixed) × ((app_of (insert apps n new) (Some m)).session ≡ (app_of apps (Some m)).session)
   inserted_at m false other =
-      let same : app_of (insert apps n new) (Some m) ≡ app_of apps (Some m) = ap (λ (o : Option App). unwrap_or o no_app) (lookup-beside apps n new m other) in
+      let same : app_of (insert apps n new) (Some m) ≡ app_of apps (Some m) = ap (λ (o : Option App). unwrap_or o no_app) (lookup_beside apps n new m other) in
       (ap (λ (a : App). length a.fixed) same, ap (λ (a : App). a.session) same)
   inserted_at m true own =
       let name : n ≡ m = same_name n m own in
-      let now : app_of (insert apps n new) (Some m) ≡ new = ap (λ (k : List ℕ). app_of (insert apps n new) (Some k)) (sym name) ∙ ap (λ (o : Option App). unwrap_or o no_app) (lookup-inserted apps n new) in
+      let now : app_of (insert apps n new) (Some m) ≡ new = ap (λ (k : List ℕ). app_of (insert apps n new) (Some k)) (sym name) ∙ ap (λ (o : Option App). unwrap_or o no_app) (lookup_inserted_lem apps n new) in
       let then : app_of apps (Some m) ≡ old = ap (λ (k : List ℕ). app_of apps (Some k)) (sym name) ∙ ap (λ (o : Option App). unwrap_or o no_app) there in
       (ap (λ (a : App). length a.fixed) now ∙ fixed ∙ ap (λ (a : App). length a.fixed) (sym then), ap (λ (a : App). a.session) now ∙ session ∙ ap (λ (a : App). a.session) (sym then))
 
@@ -53,7 +53,7 @@ sizes_by : (apps : List (List ℕ × App)) (n : List ℕ) (ps : List (ℕ × Lis
 sizes_by apps n ps None is within = subst (λ (now : List (List ℕ × App)). SameLengths apps now) (sym (ap (λ (o : Option App). changed_app apps n ps o) is)) (same_sizes apps)
 sizes_by apps n ps (Some a) is within =
     let app : app_of apps (Some n) ≡ a = ap (λ (o : Option App). unwrap_or o no_app) is in
-    let long = length-pieces a.fixed ps (subst (λ (x : App). PiecesWithin (length x.fixed) ps) app within) in
+    let long = length_pieces a.fixed ps (subst (λ (x : App). PiecesWithin (length x.fixed) ps) app within) in
     subst (λ (now : List (List ℕ × App)). SameLengths apps now) (sym (ap (λ (o : Option App). changed_app apps n ps o) is)) (sizes_inserted apps n a (with_pieces ps a) is long refl)
 
 pub sizes_changed : (apps : List (List ℕ × App)) (n : List ℕ) (changes : Option (List (ℕ × List ℕ))) → ChangesWithin (length (app_of apps (Some n)).fixed) changes → SameLengths apps (map_changed apps n changes)
@@ -64,7 +64,7 @@ sizes_changed apps n (Some ps) within = sizes_by apps n ps (lookup apps n) refl 
 
 -- a write of as many words as its pieces touch, which lie in the static segment
 pub record IsSoundWrite (apps : List (List ℕ × App)) (w : Write) : Type 0 where
-  pub words : w.words ≡ length (touched w.pieces)
+  pub words : w.words ≡ length (touched_words w.pieces)
   pub within : PiecesWithin (length (app_of apps (Some w.name)).fixed) w.pieces
 
 -- each of some writes is one, on the applications after those before it
@@ -77,16 +77,16 @@ write_sound apps n None within = tt
 write_sound apps n (Some ps) within = (record { words = refl; within = within }, tt)
 
 -- the applications after the write of a change
-pub write_done : (apps : List (List ℕ × App)) (n : List ℕ) (changes : Option (List (ℕ × List ℕ))) → done apps (write_items (write_of n changes)) ≡ map_changed apps n changes
+pub write_done : (apps : List (List ℕ × App)) (n : List ℕ) (changes : Option (List (ℕ × List ℕ))) → apps_after_items apps (write_items (write_of n changes)) ≡ map_changed apps n changes
 write_done apps n None = refl
 write_done apps n (Some ps) = refl
 
 -- the applications have the sizes of before
-pub sizes_done : (ws : List Write) (apps : List (List ℕ × App)) → AreSound apps ws → SameLengths apps (done apps (write_items ws))
+pub sizes_done : (ws : List Write) (apps : List (List ℕ × App)) → AreSound apps ws → SameLengths apps (apps_after_items apps (write_items ws))
 sizes_done [] apps sound = same_sizes apps
 sizes_done (w ∷ ws) apps sound =
     let now = map_changed apps w.name (Some w.pieces) in
-    sizes_onward apps now (done now (write_items ws)) (sizes_changed apps w.name (Some w.pieces) sound.0.within) (sizes_done ws now sound.1)
+    sizes_onward apps now (apps_after_items now (write_items ws)) (sizes_changed apps w.name (Some w.pieces) sound.0.within) (sizes_done ws now sound.1)
 
 -- ---- frames
 
@@ -154,7 +154,7 @@ last_sound : (ch : Chain) (b : Bool) (o p : Follows) → FollowsSound ch ch.map 
 last_sound ch true o p s t = s
 last_sound ch false o p s t = t
 
-exited_sound : (ch : Chain) (below : List Frame) → ch.below ≡ below → IsSoundChain ch → FollowsSound ch ch.map (exited ch below)
+exited_sound : (ch : Chain) (below : List Frame) → ch.below ≡ below → IsSoundChain ch → FollowsSound ch ch.map (after_exit ch below)
 exited_sound ch [] is sound = last_sound ch (nat_lt 1024 (la_of ch.public)) _ _ tt tt
 exited_sound ch (f ∷ fs) is sound =
     record {
@@ -167,7 +167,7 @@ called_app_sound : (b : Bool) (ch : Chain) (n : List ℕ) (a : App) → app_of c
 called_app_sound true ch n a is sound = record { sound = sound; map = refl; first = refl }
 called_app_sound false ch n a is sound = record { sound = (new_sound ch.map n a (zeros a.session) is (length-replicate a.session 0), sound); map = refl; first = refl }
 
-called_sound : (ch : Chain) (n : List ℕ) (o : Option App) → lookup ch.map n ≡ o → IsSoundChain ch → GoesSound ch ch.map (called ch n o)
+called_sound : (ch : Chain) (n : List ℕ) (o : Option App) → lookup ch.map n ≡ o → IsSoundChain ch → GoesSound ch ch.map (chain_after_call ch n o)
 called_sound ch n None is sound = record { sound = sound; map = refl; first = refl }
 called_sound ch n (Some a) is sound = called_app_sound (is_active n ch.frame ch.below || nat_le 4 (depth_of ch)) ch n a (ap (λ (o : Option App). unwrap_or o no_app) is) sound
 
@@ -181,7 +181,7 @@ follows_sound ch (Delegates n) sound = called_sound ch n (lookup ch.map n) refl 
 -- what a turn of a chain makes
 pub record TurnSound (ch : Chain) (t : Acted) : Type 0 where
   pub writes : AreSound ch.map t.writes
-  pub follows : FollowsSound ch (done ch.map (write_items t.writes)) t.follows
+  pub follows : FollowsSound ch (apps_after_items ch.map (write_items t.writes)) t.follows
 
 onward : (ch now : Chain) (apps : List (List ℕ × App)) (r : Follows) → now.map ≡ apps → (first_in now).name ≡ (first_in ch).name → FollowsSound now now.map r → FollowsSound ch apps r
 onward ch now apps (Ends o) map first s = tt
@@ -194,26 +194,26 @@ row_sound ch i f (Does d) sound stands name keeps =
     let own : length f.fixed ≡ length (app_of ch.map (Some ch.frame.name)).fixed = stands.fixed ∙ ap (λ (n : List ℕ). length (app_of ch.map (Some n)).fixed) name in
     let within : ChangesWithin (length (app_of ch.map (Some ch.frame.name)).fixed) e.changes = subst (λ (n : ℕ). ChangesWithin n e.changes) own (keeps.change stands.pieces) in
     let same : SameLengths ch.map (map_changed ch.map ch.frame.name e.changes) = sizes_changed ch.map ch.frame.name e.changes within in
-    let now = settled ch e in
+    let now = chain_after_effect ch e in
     let stays : IsSoundChain now = (frame_kept ch.map now.map f e same stands keeps, frames_stay ch.map now.map ch.below same sound.1) in
     record {
       writes = write_sound ch.map ch.frame.name e.changes within;
-      follows = onward ch now (done ch.map (write_items (write_of ch.frame.name e.changes))) (follows now d.next) (sym (write_done ch.map ch.frame.name e.changes)) (first_name ch.frame e.frame ch.below (keeps.name ∙ name)) (follows_sound now d.next stays);
+      follows = onward ch now (apps_after_items ch.map (write_items (write_of ch.frame.name e.changes))) (follows now d.next) (sym (write_done ch.map ch.frame.name e.changes)) (first_name ch.frame e.frame ch.below (keeps.name ∙ name)) (follows_sound now d.next stays);
     }
 
-stepped_sound : (apps : List (List ℕ × App)) (f : Frame) (next : ℕ) → IsSoundFrame apps f → IsSoundFrame apps (stepped f next)
+stepped_sound : (apps : List (List ℕ × App)) (f : Frame) (next : ℕ) → IsSoundFrame apps f → IsSoundFrame apps (frame_at f next)
 stepped_sound apps f next s = record { fixed = s.fixed; pieces = s.pieces; session = s.session; held = s.held }
 
-fetched_sound : (ch : Chain) (r : Result (Ins × ℕ) DecodeFault) → IsSoundChain ch → TurnSound ch (fetched ch r)
+fetched_sound : (ch : Chain) (r : Result (Ins × ℕ) DecodeFault) → IsSoundChain ch → TurnSound ch (turn_of_fetch ch r)
 fetched_sound ch (Err Undefined) sound = record { writes = tt; follows = tt }
 fetched_sound ch (Err Past) sound = record { writes = tt; follows = tt }
 fetched_sound ch (Ok i) sound =
-    let f = stepped ch.frame i.1 in
+    let f = frame_at ch.frame i.1 in
     row_sound ch i.0 f (row i.0 f ch.public (around ch)) sound (stepped_sound ch.map ch.frame i.1 sound.0) refl (row_keeps i.0 f ch.public (around ch))
 
-pub acted_sound : (ch : Chain) → IsSoundChain ch → TurnSound ch (acted ch)
-unfolding acted
-acted_sound ch sound = fetched_sound ch (decoded (code_in (lookup ch.map ch.frame.name)) ch.frame.at) sound
+pub acted_sound : (ch : Chain) → IsSoundChain ch → TurnSound ch (turn_of_chain ch)
+unfolding turn_of_chain
+acted_sound ch sound = fetched_sound ch (instruction_at (code_in (lookup ch.map ch.frame.name)) ch.frame.at) sound
 
 pub turn_sound : (n : ℕ) (ch : Chain) → IsSoundChain ch → TurnSound ch (turn_of n ch)
 turn_sound zero ch sound = record { writes = tt; follows = tt }

@@ -3,46 +3,46 @@ use Rattle.std.proofs.Common.{◌≡◌, ℕ, zero, suc, List, [], ◌∷◌, �
 use Rattle.mc_model_machine.specs.declared.instruction.Ins.{Ins}
 use Rattle.mc_model_machine.specs.declared.instruction.DecodeFault.{DecodeFault}
 use Rattle.mc_model_machine.specs.declared.instruction.DecodeFault.TheVariants.{Undefined, Past}
-use Rattle.mc_model_machine.specs.Code.{decoded}
+use Rattle.mc_model_machine.specs.Code.{instruction_at}
 use Rattle.mc_model_device.specs.Bytes.{lookup}
 use Rattle.mc_model_machine.specs.Row.{RowEnd, Abends, Does, row}
 use Rattle.mc_model_device.specs.Card.{App}
 use Rattle.mc_model_machine.specs.Apdu.{ApduParts}
-use Rattle.mc_model_card.specs.Items.{done, write_items}
-use Rattle.mc_model_machine.specs.Chain.{Chain, Write, Acted, Ran, Follows, Continues, Ends, around, code_in, stepped, chain_session, row_turn, fetched, acted, turn_of, end_of, map_changed, ran_on, ran, start}
+use Rattle.mc_model_card.specs.Items.{apps_after_items, write_items}
+use Rattle.mc_model_machine.specs.Chain.{Chain, Write, Acted, Ran, Follows, Continues, Ends, around, code_in, frame_at, chain_session, row_turn, turn_of_fetch, turn_of_chain, turn_of, end_of, map_changed, run_after_turn, run_of_chain, start}
 use Rattle.mc_bank.specs.Bank.{app_of}
 use Rattle.mc_machine.specs.Sound.{IsSoundChain}
 use Rattle.mc_machine.proofs.SoundChains.{AreSound, FollowsSound, TurnSound, SameLengths, sizes_done, first_in, new_sound, session_size, turn_sound}
 
 -- ---- writes and session bytes
 
-sound-append : (xs ys : List Write) (apps : List (List ℕ × App)) → AreSound apps xs → AreSound (done apps (write_items xs)) ys → AreSound apps (xs ++ ys)
-sound-append [] ys apps first second = second
-sound-append (x ∷ xs) ys apps first second = (first.0, sound-append xs ys (map_changed apps x.name (Some x.pieces)) first.1 second)
+sound_append : (xs ys : List Write) (apps : List (List ℕ × App)) → AreSound apps xs → AreSound (apps_after_items apps (write_items xs)) ys → AreSound apps (xs ++ ys)
+sound_append [] ys apps first second = second
+sound_append (x ∷ xs) ys apps first second = (first.0, sound_append xs ys (map_changed apps x.name (Some x.pieces)) first.1 second)
 
 -- what a run makes of a sound chain
 pub record RunSound (ch : Chain) (r : Ran) : Type 0 where
   pub writes : AreSound ch.map r.writes
   pub session : length r.session ≡ (app_of ch.map (Some (first_in ch).name)).session
 
-on_sound : (ch : Chain) (t : Acted) (f : Follows) (rest : Chain → Ran) → IsSoundChain ch → AreSound ch.map t.writes → FollowsSound ch (done ch.map (write_items t.writes)) f
-    → ((next : Chain) → IsSoundChain next → RunSound next (rest next)) → RunSound ch (ran_on t (chain_session ch) f rest)
+on_sound : (ch : Chain) (t : Acted) (f : Follows) (rest : Chain → Ran) → IsSoundChain ch → AreSound ch.map t.writes → FollowsSound ch (apps_after_items ch.map (write_items t.writes)) f
+    → ((next : Chain) → IsSoundChain next → RunSound next (rest next)) → RunSound ch (run_after_turn t (chain_session ch) f rest)
 on_sound ch t (Ends o) rest sound writes s all = record { writes = writes; session = session_size ch sound }
 on_sound ch t (Continues next) rest sound writes s all =
     let r = all next s.sound in
-    let now = done ch.map (write_items t.writes) in
+    let now = apps_after_items ch.map (write_items t.writes) in
     let same : SameLengths ch.map now = sizes_done t.writes ch.map writes in
     record {
-      writes = sound-append t.writes (rest next).writes ch.map writes (subst (λ (apps : List (List ℕ × App)). AreSound apps (rest next).writes) s.map r.writes);
+      writes = sound_append t.writes (rest next).writes ch.map writes (subst (λ (apps : List (List ℕ × App)). AreSound apps (rest next).writes) s.map r.writes);
       session = r.session ∙ ap (λ (apps : List (List ℕ × App)). (app_of apps (Some (first_in next).name)).session) s.map ∙ ap (λ (n : List ℕ). (app_of now (Some n)).session) s.first ∙ same.session (first_in ch).name;
     }
 
-pub run_sound : (n : ℕ) (ch : Chain) → IsSoundChain ch → RunSound ch (ran n ch)
-unfolding ran
+pub run_sound : (n : ℕ) (ch : Chain) → IsSoundChain ch → RunSound ch (run_of_chain n ch)
+unfolding run_of_chain
 run_sound zero ch sound = record { writes = tt; session = session_size ch sound }
 run_sound (suc n) ch sound =
-    let t : TurnSound ch (acted ch) = turn_sound (suc n) ch sound in
-    on_sound ch (acted ch) (acted ch).follows (λ c. ran n c) sound t.writes t.follows (λ c. run_sound n c)
+    let t : TurnSound ch (turn_of_chain ch) = turn_sound (suc n) ch sound in
+    on_sound ch (turn_of_chain ch) (turn_of_chain ch).follows (λ c. run_of_chain n c) sound t.writes t.follows (λ c. run_sound n c)
 
 -- a chain before its first turn is sound
 pub start_sound : (apps : List (List ℕ × App)) (name session : List ℕ) (apdu : ApduParts) → length session ≡ (app_of apps (Some name)).session → IsSoundChain (start apps name session apdu)
@@ -54,14 +54,14 @@ row_end : (ch : Chain) (i : Ins) (r : RowEnd) → (row_turn ch i r).turn.end ≡
 row_end ch i (Abends a) = refl
 row_end ch i (Does d) = refl
 
-fetched_end : (ch : Chain) (r : Result (Ins × ℕ) DecodeFault) → (fetched ch r).turn.end ≡ end_of (fetched ch r).follows
+fetched_end : (ch : Chain) (r : Result (Ins × ℕ) DecodeFault) → (turn_of_fetch ch r).turn.end ≡ end_of (turn_of_fetch ch r).follows
 fetched_end ch (Err Undefined) = refl
 fetched_end ch (Err Past) = refl
-fetched_end ch (Ok i) = row_end ch i.0 (row i.0 (stepped ch.frame i.1) ch.public (around ch))
+fetched_end ch (Ok i) = row_end ch i.0 (row i.0 (frame_at ch.frame i.1) ch.public (around ch))
 
-acted_end : (ch : Chain) → (acted ch).turn.end ≡ end_of (acted ch).follows
-unfolding acted
-acted_end ch = fetched_end ch (decoded (code_in (lookup ch.map ch.frame.name)) ch.frame.at)
+acted_end : (ch : Chain) → (turn_of_chain ch).turn.end ≡ end_of (turn_of_chain ch).follows
+unfolding turn_of_chain
+acted_end ch = fetched_end ch (instruction_at (code_in (lookup ch.map ch.frame.name)) ch.frame.at)
 
 pub turn_end : (n : ℕ) (ch : Chain) → (turn_of n ch).turn.end ≡ end_of (turn_of n ch).follows
 turn_end zero ch = refl

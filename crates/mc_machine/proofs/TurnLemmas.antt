@@ -5,23 +5,23 @@ use Rattle.std.proofs.lemmas.List.{length-map}
 use Rattle.std.specs.List.{AllByRecursion}
 use Rattle.mc_model_device.specs.Orders.{Answer, InOrder}
 use Rattle.mc_model_card.specs.Items.{BankItem, Commit}
-use Rattle.mc_model_device.specs.Pieces.{laid_pieces, laid_words, touched, HoldPieces}
+use Rattle.mc_model_device.specs.Pieces.{laid_pieces, laid_words, touched_words, HoldPieces}
 use Rattle.mc_model_device.specs.Bytes.{lookup, insert}
 use Rattle.mc_model_device.specs.Card.{App}
 use Rattle.mc_model_machine.specs.Frame.{Frame, Effect}
-use Rattle.mc_model_machine.specs.Chain.{Chain, changed_app, map_changed, write_of, settled}
-use Rattle.mc_bank.specs.Bank.{BankState, app_of, name_or, no_app, with_words, committed, Changes}
+use Rattle.mc_model_machine.specs.Chain.{Chain, changed_app, map_changed, write_of, chain_after_effect}
+use Rattle.mc_bank.specs.Bank.{BankState, app_of, name_or, no_app, with_words, apps_after_commit, Changes}
 use Rattle.mc_segs.specs.HeldFrames.{Held, Seen, app_under}
 use Rattle.mc_segs.specs.Ends.{IsOneCommit, changed_bytes, scene, EffectDone}
 use Rattle.mc_machine.specs.Alike.{SameEffect, KeepsEffect}
 use Rattle.mc_machine.specs.Chains.{Chained, ReadAll, RunsAs, ChainWrote}
 use Rattle.mc_machine.proofs.Alike.{committed_seen, changed_seen}
 use Rattle.mc_machine.proofs.ReadsLemmas.{name_is, app_is, moved_reads}
-use Rattle.mc_model_device.proofs.MapLemmas.{lookup-inserted, lookup-beside}
+use Rattle.mc_model_device.proofs.MapLemmas.{lookup_inserted_lem, lookup_beside}
 
 -- what the lemmas use of a bank: what a commit does to the applications and to the slots
 pub record BankLaws {B : Type 0} (did : B → BankItem → Answer → B → Type 0) (state : B → BankState) (named : B → ℕ → Option (List ℕ)) : Type 0 where
-  pub obeys : (b : B) (n : List ℕ) (ws : List (ℕ × List ℕ)) (a : Answer) (e : B) → did b (Commit n ws) a e → Changes (state b) (committed (state b).apps n ws) a (state e)
+  pub obeys : (b : B) (n : List ℕ) (ws : List (ℕ × List ℕ)) (a : Answer) (e : B) → did b (Commit n ws) a e → Changes (state b) (apps_after_commit (state b).apps n ws) a (state e)
   pub keeps : (b : B) (n : List ℕ) (ws : List (ℕ × List ℕ)) (a : Answer) (e : B) → did b (Commit n ws) a e → (k : ℕ) (m : List ℕ) → named b k ≡ Some m → named e k ≡ Some m
 
 -- ---- atomic writes
@@ -32,7 +32,7 @@ module _ {B : Type 0} (did : B → BankItem → Answer → B → Type 0) (state 
   none_wrote b (Err s) e done = absurd done
 
   -- words are as many as their pieces touch
-  few_touched : (l : List ℕ) (ps ws : List (ℕ × List ℕ)) → HoldPieces l ps ws → length ws ≤ 64 → length (touched ps) ≤ 64
+  few_touched : (l : List ℕ) (ps ws : List (ℕ × List ℕ)) → HoldPieces l ps ws → length ws ≤ 64 → length (touched_words ps) ≤ 64
   few_touched l ps ws held few = let same = ap (λ (ns : List ℕ). length ns) held.touched_words in omega (arith, length-map ws (λ w. w.0), same, few)
 
   pub writes_of : (name fixed : List ℕ) (changes : Option (List (ℕ × List ℕ))) (b : B) (a : Answer) (e : B) → fixed ≡ (app_of (state b).apps (Some name)).fixed → IsOneCommit did name fixed changes b a e
@@ -58,7 +58,7 @@ module _ {B : Type 0} (did : B → BankItem → Answer → B → Type 0) (state 
       ]
 
   -- the applications after it
-  apps_after : (name fixed : List ℕ) (ps : List (ℕ × List ℕ)) (b e : B) (done : IsOneCommit did name fixed (Some ps) b (Ok tt) e) → (state e).apps ≡ committed (state b).apps name done.0
+  apps_after : (name fixed : List ℕ) (ps : List (ℕ × List ℕ)) (b e : B) (done : IsOneCommit did name fixed (Some ps) b (Ok tt) e) → (state e).apps ≡ apps_after_commit (state b).apps name done.0
   apps_after name fixed ps b e done =
       elim done.2 [
         | inl whole ↦ ap (λ (x : B). (state x).apps) whole.2 ∙ (laws.obeys b name done.0 (Ok tt) whole.0 whole.1).apps
@@ -70,7 +70,7 @@ module _ {B : Type 0} (did : B → BankItem → Answer → B → Type 0) (state 
   others_stay name fixed None b e done m other = ap (λ (x : B). lookup (state x).apps m) done
   others_stay name fixed (Some ps) b e done m other =
       ap (λ (apps : List (List ℕ × App)). lookup apps m) (apps_after name fixed ps b e done)
-      ∙ lookup-beside (state b).apps name (with_words done.0 (app_of (state b).apps (Some name))) m other
+      ∙ lookup_beside (state b).apps name (with_words done.0 (app_of (state b).apps (Some name))) m other
 
   -- the map of the definitions after it, by the static bytes that the application has then
   map_after : (name : List ℕ) (a : App) (changes : Option (List (ℕ × List ℕ))) (b e : B) → lookup (state b).apps name ≡ Some a → IsOneCommit did name a.fixed changes b (Ok tt) e
@@ -82,7 +82,7 @@ module _ {B : Type 0} (did : B → BankItem → Answer → B → Type 0) (state 
       let old : app_of apps (Some name) ≡ a = ap (λ (l : Option App). unwrap_or l no_app) there in
       let now : (state e).apps ≡ insert apps name (with_words ws a) = apps_after name a.fixed ps b e done ∙ ap (λ (x : App). insert apps name (with_words ws x)) old in
       let new : app_of (state e).apps (Some name) ≡ with_words ws a =
-      ap (λ (m : List (List ℕ × App)). app_of m (Some name)) now ∙ ap (λ (l : Option App). unwrap_or l no_app) (lookup-inserted apps name (with_words ws a)) in
+      ap (λ (m : List (List ℕ × App)). app_of m (Some name)) now ∙ ap (λ (l : Option App). unwrap_or l no_app) (lookup_inserted_lem apps name (with_words ws a)) in
       let same : laid_pieces a.fixed ps ≡ laid_words a.fixed ws = sym bytes ∙ ap (λ (x : App). x.fixed) new in
       ap (λ (l : Option App). changed_app apps name ps l) there ∙ ap (λ (l : List ℕ). insert apps name (record a { fixed = l })) same ∙ sym now
 
@@ -108,7 +108,7 @@ module _ {B : Type 0} (did : B → BankItem → Answer → B → Type 0) (state 
       committed_seen did ch.frame.name fixed d.changes x.changes b a e same.changes (subst (λ (n : List ℕ). IsOneCommit did n fixed d.changes b a e) named_so done)
 
   pub settled_runs : (b e : B) (c : Chained) (ch : Chain) (h : Held) (public : List ℕ) (d x : Effect) → RunsAs (state b) (named b) c ch → SameEffect (app_under (state b) (named b) c.running).fixed d x
-      → KeepsEffect ch.frame ch.public x → EffectDone did state named (scene b e c.running h c.public public) d → RunsAs (state e) (named e) (record c { running = h; public = public }) (settled ch x)
+      → KeepsEffect ch.frame ch.public x → EffectDone did state named (scene b e c.running h c.public public) d → RunsAs (state e) (named e) (record c { running = h; public = public }) (chain_after_effect ch x)
   settled_runs b e c ch h public d x r same keeps left =
       let app = app_under (state b) (named b) c.running in
       let done = committed_of b e c ch d x (Ok tt) r same left.commits in

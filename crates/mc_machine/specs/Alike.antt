@@ -1,16 +1,16 @@
 -- What a row sees of a frame: its pending bytes, and not the pieces that they come from.
 use Rattle.std.specs.Prelude.{◌≡◌, ℕ, true, false, List, length, option_map, Option}
 use Rattle.mc_model_machine.specs.declared.machine.Abend.{Abend}
-use Rattle.mc_model_device.specs.Pieces.{laid_pieces, touched}
+use Rattle.mc_model_device.specs.Pieces.{laid_pieces, touched_words}
 use Rattle.mc_model_machine.specs.Frame.{Frame, Effect}
 use Rattle.mc_model_machine.specs.Primitives.{Then, Done}
 use Rattle.mc_model_machine.specs.Row.{RowEnd, Abends, Does}
-use Rattle.mc_segs.specs.HeldFrames.{Seen, seen, no_pieces}
+use Rattle.mc_segs.specs.HeldFrames.{Seen, frame_reading, no_pieces}
 use Rattle.mc_segs.specs.Ends.{changed_bytes}
 
 -- a static change, whichever pieces it is made of: the bytes after it, and the words that it touches
 abbrev pub seen_change : List ℕ → Option (List (ℕ × List ℕ)) → Option (List ℕ × List ℕ)
-seen_change fixed changes = option_map (λ ps. (laid_pieces fixed ps, touched ps)) changes
+seen_change fixed changes = option_map (λ ps. (laid_pieces fixed ps, touched_words ps)) changes
 
 -- the end of a row, whichever pieces its frame is made of
 pub data SeenEnd : Type 0 where
@@ -20,11 +20,11 @@ pub data SeenEnd : Type 0 where
 -- the end of a row that began with these static bytes
 abbrev pub seen_end : List ℕ → RowEnd → SeenEnd
 seen_end fixed (Abends a) = SeenAbend a
-seen_end fixed (Does d) = SeenDone (seen d.effect.frame) d.effect.public (seen_change fixed d.effect.changes) d.next
+seen_end fixed (Does d) = SeenDone (frame_reading d.effect.frame) d.effect.public (seen_change fixed d.effect.changes) d.next
 
 -- two effects that are seen as one, from these static bytes
 pub record SameEffect (fixed : List ℕ) (d e : Effect) : Type 0 where
-  pub frame : seen d.frame ≡ seen e.frame
+  pub frame : frame_reading d.frame ≡ frame_reading e.frame
   pub public : d.public ≡ e.public
   pub changes : seen_change fixed d.changes ≡ seen_change fixed e.changes
 

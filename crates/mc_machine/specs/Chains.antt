@@ -12,7 +12,7 @@ use Rattle.mc_model_device.specs.Bytes.{lookup}
 use Rattle.mc_model_device.specs.Card.{App}
 use Rattle.mc_apdu.specs.declared.command.Apdu.{Apdu}
 use Rattle.mc_apdu.specs.Command.{parts_of}
-use Rattle.mc_segs.specs.HeldFrames.{Held, FitsBank, shown, seen}
+use Rattle.mc_segs.specs.HeldFrames.{Held, FitsBank, frame_on_bank, frame_reading}
 use Rattle.mc_machine.specs.Alike.{IsGuarded}
 
 -- the running frame, the frames below it, of which the one that delegated to it comes first, the public segment, the case of the command,
@@ -30,7 +30,7 @@ pub record Chained : Type 0 where
 -- a frame fits the bank, and reads there as a frame of the definitions, which has pending bytes only while protection is on
 pub record FrameReadsAs (s : BankState) (named : ℕ → Option (List ℕ)) (h : Held) (f : Frame) : Type 0 where
   pub fits : FitsBank s named h
-  pub same : seen (shown s named h) ≡ seen f
+  pub same : frame_reading (frame_on_bank s named h) ≡ frame_reading f
   pub guarded : IsGuarded f
 
 -- each of some frames does
@@ -84,5 +84,5 @@ first_of apps name session =
     new_frame name (length a.code) a.deny a.fixed session
 
 -- the run of a command to the application of a slot
-abbrev pub ran_of : BankState → (ℕ → Option (List ℕ)) → ℕ → List ℕ → Apdu → ℕ → Ran
-ran_of s named first session apdu budget = run s.apps (name_or (named first)) session (parts_of apdu) budget
+abbrev pub run_of_command : BankState → (ℕ → Option (List ℕ)) → ℕ → List ℕ → Apdu → ℕ → Ran
+run_of_command s named first session apdu budget = run s.apps (name_or (named first)) session (parts_of apdu) budget

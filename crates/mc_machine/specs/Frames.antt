@@ -4,13 +4,13 @@ use Rattle.mc_segs.specs.HeldFrames.{Held}
 use Rattle.mc_machine.specs.declared.waiting.Waiting.TheInside.{Inside}
 
 -- the frame of a place, if there is one, before others
-abbrev pub held_before : Option Held → List Held → List Held
-held_before None hs = hs
-held_before (Some h) hs = h ∷ hs
+abbrev pub with_held_frame : Option Held → List Held → List Held
+with_held_frame None hs = hs
+with_held_frame (Some h) hs = h ∷ hs
 
 -- the one that delegated last comes first
 abbrev pub waiting_frames : Inside → List Held
-waiting_frames w = held_before w.third (held_before w.second (held_before w.first []))
+waiting_frames w = with_held_frame w.third (with_held_frame w.second (with_held_frame w.first []))
 
 -- a place is taken only where the one before it is
 pub record HasNoGap (w : Inside) : Type 0 where

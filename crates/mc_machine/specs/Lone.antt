@@ -5,7 +5,7 @@ use Rattle.mc_model_machine.specs.declared.instruction.Ins.{Ins}
 use Rattle.mc_model_device.specs.Orders.{Answer, InOrder}
 use Rattle.mc_model_card.specs.Items.{BankItem}
 use Rattle.mc_model_device.specs.Bytes.{lookup}
-use Rattle.mc_model_machine.specs.Chain.{Chain, Acted, Continues, Ran, called}
+use Rattle.mc_model_machine.specs.Chain.{Chain, Acted, Continues, Ran, chain_after_call}
 use Rattle.mc_model_machine.specs.Chain as model
 use Rattle.mc_model_machine.specs.Primitives.{Around}
 use Rattle.mc_bank.specs.Bank.{BankState}
@@ -38,7 +38,7 @@ pub record Delegated {B : Type 0} (did : B → BankItem → Answer → B → Typ
   pub writes : InOrder (ChainWrote did state) b t.writes (Ok tt) e
   pub going : (state e).stopped ≡ false
   pub left : d.left + t.count ≡ c.left
-  pub follows : t.follows ≡ Continues (called chain name (lookup chain.map name))
+  pub follows : t.follows ≡ Continues (chain_after_call chain name (lookup chain.map name))
 
 -- a turn of a frame that nobody waits for, by its result and the name that it calls: its chain afterwards has something left of the budget
 abbrev pub LoneDone : {B : Type 0} → (B → BankItem → Answer → B → Type 0) → (B → BankState) → (B → ℕ → Option (List ℕ)) → B → B → Chained → (ℕ → Chained) → Chain → Acted → Result Lone Stop → Option (List ℕ) → Type 0

@@ -51,13 +51,13 @@ abbrev pub outcome_by : End → Reply → Outcome
 outcome_by e r = outcome_put e (outcome.Reply r)
 
 -- the same where a stop may have come
-abbrev pub put_out : Result End Stop → Outcome → Result Outcome Stop
-put_out (Ok e) o = Ok (outcome_put e o)
-put_out (Err s) o = Err s
+abbrev pub run_outcome : Result End Stop → Outcome → Result Outcome Stop
+run_outcome (Ok e) o = Ok (outcome_put e o)
+run_outcome (Err s) o = Err s
 
 -- how a run ended, its reply standing in place of another
-abbrev pub placed : Result End Stop → Reply → Result Outcome Stop
-placed x r = put_out x (outcome.Reply r)
+abbrev pub reply_or_stop : Result End Stop → Reply → Result Outcome Stop
+reply_or_stop x r = run_outcome x (outcome.Reply r)
 
 -- a reply has at most 1,024 bytes
 abbrev pub EndFits : List ℕ → End → Type 0
@@ -140,12 +140,12 @@ abbrev pub last_end : List ℕ → End
 last_end public = cond (nat_lt 1024 (la_of public)) (end.Abend A09) end.Reply
 
 -- the chain with one instruction less to go, whose running frame is behind the one at its place
-abbrev pub advanced : Chained → ℕ → Chained
-advanced c next = record c { running = record c.running { frame = record c.running.frame { at = next } }; left = c.left - 1 }
+abbrev pub chain_at_next : Chained → ℕ → Chained
+chain_at_next c next = record c { running = record c.running { frame = record c.running.frame { at = next } }; left = c.left - 1 }
 
 -- a turn of a frame as its registers stand
-abbrev pub told_of : Held → Option Ins → Option End → Step
-told_of h ins end = record { ins = ins; dt = h.frame.dt; flags = record { c = h.frame.c; z = h.frame.z }; end = end }
+abbrev pub step_of_frame : Held → Option Ins → Option End → Step
+step_of_frame h ins end = record { ins = ins; dt = h.frame.dt; flags = record { c = h.frame.c; z = h.frame.z }; end = end }
 
 -- the running frame exits, by the frames that wait
 abbrev pub FrameExits : Chained → Chained → Option End → List Held → Type 0
@@ -154,12 +154,12 @@ FrameExits c d result (h ∷ hs) = (d ≡ record c { running = h; below = hs }) 
 
 -- what follows an instruction of a settled chain, and what the turn tells: with an abend the registers that were before
 abbrev pub Followed : BankState → (ℕ → Option (List ℕ)) → Chained → Chained → Ins → Step → Step → Follows → Type 0
-Followed s named c d i before step (Continues next) = RunsAs s named d next × (step ≡ told_of c.running (Some i) None)
+Followed s named c d i before step (Continues next) = RunsAs s named d next × (step ≡ step_of_frame c.running (Some i) None)
 Followed s named c d i before step (Ends (model.Reply body sw)) =
-    (d ≡ c) × (step ≡ told_of c.running (Some i) (Some end.Reply)) × (end_value c.public c.le end.Reply ≡ model.Reply body sw)
+    (d ≡ c) × (step ≡ step_of_frame c.running (Some i) (Some end.Reply)) × (end_value c.public c.le end.Reply ≡ model.Reply body sw)
 Followed s named c d i before step (Ends (model.Abended a)) = (d ≡ c) × (step ≡ record before { end = Some (end.Abend a) })
 
 -- an instruction that was not done: the turn that it tells by its abend, or the stop
-abbrev pub halted : Step → Halt → Result Step Stop
-halted before (halt.Abend a) = Ok (record before { end = Some (end.Abend a) })
-halted before (halt.Stop stop) = Err stop
+abbrev pub step_of_halt : Step → Halt → Result Step Stop
+step_of_halt before (halt.Abend a) = Ok (record before { end = Some (end.Abend a) })
+step_of_halt before (halt.Stop stop) = Err stop

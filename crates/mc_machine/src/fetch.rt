@@ -1,6 +1,6 @@
 // The instruction at the code address of a frame.
 ghost use Rattle.std.specs.Prelude.{◌≡◌, ◌+◌, ◌≤◌, false, length, min, take, drop};
-ghost use Rattle.mc_model_machine.specs.Code.{decoded, DecodesTo};
+ghost use Rattle.mc_model_machine.specs.Code.{instruction_at, DecodesTo};
 ghost use Rattle.mc_segs.specs.HeldFrames.{FitsBank, app_under};
 
 use mc_bank::Bank;
@@ -15,7 +15,7 @@ const LONGEST: u16 = 6;
 pub fn fetch<B: Bank>(bank: &B, frame: &Frame) -> Result<(Ins, u16), DecodeFault>
     requires going { (B.state bank.now).stopped ≡ false }
     requires fits { FitsBank (B.state bank.now) (B.named bank.now) frame.now }
-    ensures exact { result ≡ decoded (app_under (B.state bank.now) (B.named bank.now) frame.now).code
+    ensures exact { result ≡ instruction_at (app_under (B.state bank.now) (B.named bank.now) frame.now).code
         frame.now.frame.at }
     ensures stands { DecodesTo (app_under (B.state bank.now) (B.named bank.now) frame.now).code
         frame.now.frame.at result }

@@ -3,13 +3,13 @@ ghost use Rattle.mc_model_machine.specs.declared.instruction.Ins.{Ins};
 ghost use Rattle.mc_model_machine.specs.Frame.{Frame, new_frame};
 ghost use Rattle.mc_model_machine.specs.Primitives.{Around};
 ghost use Rattle.mc_model_machine.specs.Row.{row};
-ghost use Rattle.mc_segs.specs.HeldFrames.{seen};
+ghost use Rattle.mc_segs.specs.HeldFrames.{frame_reading};
 ghost use Rattle.mc_machine.specs.Alike.{seen_end, IsGuarded, KeepsRow};
 
 /// A row does the same to frames that read the same, whichever pieces their pending bytes come from, where bytes are pending only while
 /// protection is on.
 pub fn rows_see()
-    ensures { (i : Ins) (f g : Frame) (public : List ℕ) (x : Around) → IsGuarded f → seen f ≡ seen g
+    ensures { (i : Ins) (f g : Frame) (public : List ℕ) (x : Around) → IsGuarded f → frame_reading f ≡ frame_reading g
         → seen_end f.fixed (row i f public x) ≡ seen_end g.fixed (row i g public x) }
 {}
 

@@ -5,7 +5,7 @@ ghost use Rattle.mc_model_machine.specs.Code.{Shaped};
 ghost use Rattle.mc_model_machine.specs.Chain.{Chain as ModelChain, turn_of};
 ghost use Rattle.mc_segs.specs.HeldFrames.{FitsBank};
 ghost use Rattle.mc_segs.specs.Ends.{scene};
-ghost use Rattle.mc_rows.specs.Rows.{flowing};
+ghost use Rattle.mc_rows.specs.Rows.{row_result};
 ghost use Rattle.mc_machine.specs.Chains.{RunsAs};
 ghost use Rattle.mc_machine.specs.Lone.{lone_chain, lone_of, lone_next_of, lone_halt_of};
 ghost use Rattle.mc_machine.specs.Lone.{NameIsCalled, LoneActs, LoneDone, LoneFits};
@@ -150,8 +150,8 @@ fn after_done(next: Next, public: &Public, callee: &mut Option<Aid>) -> Lone
 // What comes after an instruction that is not PRIM.
 #[inline(always)]
 fn after_row(done: Result<Flow, Halt>, public: &Public) -> Result<Lone, Stop>
-    ensures value { result ≡ lone_of (flowing done) public.now }
-    ensures called { (callee : Option (List ℕ)) → NameIsCalled (flowing done) callee }
+    ensures value { result ≡ lone_of (row_result done) public.now }
+    ensures called { (callee : Option (List ℕ)) → NameIsCalled (row_result done) callee }
     ensures fits { LoneFits public.now result }
 {
     match done {

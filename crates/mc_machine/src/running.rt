@@ -3,11 +3,11 @@ ghost use Rattle.std.specs.Prelude.{◌≡◌, ◌+◌, ◌≤◌, length, false
 ghost use Rattle.std.specs.List.{AllByRecursion};
 ghost use Rattle.mc_model_device.specs.Orders.{InOrder, answer_of};
 ghost use Rattle.mc_model_device.specs.Bytes.{lookup};
-ghost use Rattle.mc_model_machine.specs.Chain.{Chain as ModelChain, called, ran};
+ghost use Rattle.mc_model_machine.specs.Chain.{Chain as ModelChain, chain_after_call, run_of_chain};
 ghost use Rattle.mc_bank.specs.Bank.{app_of};
-ghost use Rattle.mc_machine.specs.Chains.{FitsChain, RunsAs, ChainWrote, ran_of};
+ghost use Rattle.mc_machine.specs.Chains.{FitsChain, RunsAs, ChainWrote, run_of_command};
 ghost use Rattle.mc_machine.specs.Lone.{lone_chain, RanDone};
-ghost use Rattle.mc_machine.specs.Turns.{outcome_value, outcome_by, placed};
+ghost use Rattle.mc_machine.specs.Turns.{outcome_value, outcome_by, reply_or_stop};
 
 use crate::chain::{Chain, first_frame};
 use crate::lone::{Lone, lone_turn};
@@ -48,23 +48,23 @@ pub fn run<B: Bank, L: Ledger>(
     requires data { length apdu.now.body.now ≤ 1024 }
     // The atomic writes of the run are made in its order, up to the first that stops.
     ensures writes { InOrder (ChainWrote B.did B.state) bank.old
-        (ran_of (B.state bank.old) (B.named bank.old) first session.old apdu.now budget).writes
+        (run_of_command (B.state bank.old) (B.named bank.old) first session.old apdu.now budget).writes
         (answer_of result) bank.new }
     // Each of them touches at most 64 words.
     ensures few { OnOk result (AllByRecursion (λ w. w.words ≤ 64)
-        (ran_of (B.state bank.old) (B.named bank.old) first session.old apdu.now budget).writes) }
+        (run_of_command (B.state bank.old) (B.named bank.old) first session.old apdu.now budget).writes) }
     // The outcome is that of the run.
     ensures outcome { IfOk result (λ outcome. outcome_value outcome
-        ≡ (ran_of (B.state bank.old) (B.named bank.old) first session.old apdu.now budget).outcome) }
+        ≡ (run_of_command (B.state bank.old) (B.named bank.old) first session.old apdu.now budget).outcome) }
     // The session bytes are those that the run leaves.
     ensures session { OnOk result (session.new
-        ≡ (ran_of (B.state bank.old) (B.named bank.old) first session.old apdu.now budget).session) }
+        ≡ (run_of_command (B.state bank.old) (B.named bank.old) first session.old apdu.now budget).session) }
     // Each decoded instruction is one step.
     ensures ticks { OnOk result (steps.new
-        ≡ steps.old + (ran_of (B.state bank.old) (B.named bank.old) first session.old apdu.now budget).count) }
+        ≡ steps.old + (run_of_command (B.state bank.old) (B.named bank.old) first session.old apdu.now budget).count) }
     // A run that is stopped makes no more steps than the whole one.
     ensures most { OnErr result (steps.new
-        ≤ steps.old + (ran_of (B.state bank.old) (B.named bank.old) first session.old apdu.now budget).count) }
+        ≤ steps.old + (run_of_command (B.state bank.old) (B.named bank.old) first session.old apdu.now budget).count) }
     // The bank goes on.
     ensures going { OnOk result ((B.state bank.new).stopped ≡ false) }
     // A stop leaves the session bytes as they were.
@@ -107,23 +107,23 @@ pub fn run_into<B: Bank, L: Ledger>(
     requires data { length apdu.now.body.now ≤ 1024 }
     // The atomic writes of the run are made in its order, up to the first that stops.
     ensures writes { InOrder (ChainWrote B.did B.state) bank.old
-        (ran_of (B.state bank.old) (B.named bank.old) first session.old apdu.now budget).writes
+        (run_of_command (B.state bank.old) (B.named bank.old) first session.old apdu.now budget).writes
         (answer_of result) bank.new }
     // Each of them touches at most 64 words.
     ensures few { OnOk result (AllByRecursion (λ w. w.words ≤ 64)
-        (ran_of (B.state bank.old) (B.named bank.old) first session.old apdu.now budget).writes) }
+        (run_of_command (B.state bank.old) (B.named bank.old) first session.old apdu.now budget).writes) }
     // The outcome is that of the run.
     ensures outcome { IfOk result (λ end. outcome_value (outcome_by end reply.new)
-        ≡ (ran_of (B.state bank.old) (B.named bank.old) first session.old apdu.now budget).outcome) }
+        ≡ (run_of_command (B.state bank.old) (B.named bank.old) first session.old apdu.now budget).outcome) }
     // The session bytes are those that the run leaves.
     ensures session { OnOk result (session.new
-        ≡ (ran_of (B.state bank.old) (B.named bank.old) first session.old apdu.now budget).session) }
+        ≡ (run_of_command (B.state bank.old) (B.named bank.old) first session.old apdu.now budget).session) }
     // Each decoded instruction is one step.
     ensures ticks { OnOk result (steps.new
-        ≡ steps.old + (ran_of (B.state bank.old) (B.named bank.old) first session.old apdu.now budget).count) }
+        ≡ steps.old + (run_of_command (B.state bank.old) (B.named bank.old) first session.old apdu.now budget).count) }
     // A run that is stopped makes no more steps than the whole one.
     ensures most { OnErr result (steps.new
-        ≤ steps.old + (ran_of (B.state bank.old) (B.named bank.old) first session.old apdu.now budget).count) }
+        ≤ steps.old + (run_of_command (B.state bank.old) (B.named bank.old) first session.old apdu.now budget).count) }
     // The bank goes on.
     ensures going { OnOk result ((B.state bank.new).stopped ≡ false) }
     // A stop leaves the session bytes as they were.
@@ -150,7 +150,7 @@ fn run_turns<B: Bank, L: Ledger>(
     requires budget { budget ≤ 65536 }
     requires data { length apdu.now.body.now ≤ 1024 }
     ensures { RanDone B.did B.state bank.old bank.new session.old session.new steps.old steps.new
-        (ran_of (B.state bank.old) (B.named bank.old) first session.old apdu.now budget) (placed result reply.new) }
+        (run_of_command (B.state bank.old) (B.named bank.old) first session.old apdu.now budget) (reply_or_stop result reply.new) }
 {
     // Until it delegates, an application runs without a chain: a chain has room for three more frames, and making it takes longer
     // than a short command.
@@ -201,7 +201,7 @@ fn run_chain<B: Bank, L: Ledger>(
     requires left { left ≤ 65536 }
     ensures { (ch : ModelChain) → RunsAs (B.state bank.old) (B.named bank.old) (lone_chain frame public case le left) ch
         → RanDone B.did B.state bank.old bank.new session.old session.new steps.old steps.new
-        (ran left (called ch aid.now (lookup ch.map aid.now))) (placed result reply.new) }
+        (run_of_chain left (chain_after_call ch aid.now (lookup ch.map aid.now))) (reply_or_stop result reply.new) }
 {
     let mut chain = Chain {
         running: frame,
@@ -228,8 +228,8 @@ fn finish<B: Bank, L: Ledger>(
     requires fits { FitsChain (B.state bank.old) (B.named bank.old) chain.old }
     requires left { chain.old.left ≡ left }
     ensures { (ch : ModelChain) → RunsAs (B.state bank.old) (B.named bank.old) chain.old ch
-        → RanDone B.did B.state bank.old bank.new session.old session.new steps.old steps.new (ran left ch)
-        (placed result reply.new) }
+        → RanDone B.did B.state bank.old bank.new session.old session.new steps.old steps.new (run_of_chain left ch)
+        (reply_or_stop result reply.new) }
 {
     for _turn in 0..left {
         if let Some(end) = act(chain, bank, steps)?.end {

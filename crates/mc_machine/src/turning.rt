@@ -3,13 +3,13 @@ ghost use Rattle.std.specs.Prelude.{[], ◌≡◌, ◌≢◌, ◌+◌, ◌<◌, 
 ghost use Rattle.mc_bank.specs.Bank.{AreApps, name_or};
 ghost use Rattle.mc_model_device.specs.Bytes.{lookup};
 ghost use Rattle.mc_model_machine.specs.Code.{Shaped};
-ghost use Rattle.mc_model_machine.specs.Chain.{Chain as ModelChain, turn_of, called, follows};
+ghost use Rattle.mc_model_machine.specs.Chain.{Chain as ModelChain, turn_of, chain_after_call, follows};
 ghost use Rattle.mc_segs.specs.HeldFrames.{FitsBank};
 ghost use Rattle.mc_segs.specs.Ends.{scene, RowActs, then_of};
-ghost use Rattle.mc_rows.specs.Rows.{flowing};
+ghost use Rattle.mc_rows.specs.Rows.{row_result};
 ghost use Rattle.mc_machine.specs.Chains.{RunsAs, FitsChain};
-ghost use Rattle.mc_machine.specs.Frames.{held_before};
-ghost use Rattle.mc_machine.specs.Turns.{ActDone, TurnDone, WritesFew, EndFits, Followed, FrameExits, advanced, halted};
+ghost use Rattle.mc_machine.specs.Frames.{with_held_frame};
+ghost use Rattle.mc_machine.specs.Turns.{ActDone, TurnDone, WritesFew, EndFits, Followed, FrameExits, chain_at_next, step_of_halt};
 ghost use Rattle.mc_machine.specs.Turns.{delegator_of, has_frame, AllFitBank, outcome_value, end_value};
 
 use crate::chain::Chain;
@@ -114,7 +114,7 @@ pub fn act<B: Bank, L: Ledger>(
 impl Step {
     // The same for an instruction that was not done: it ends the chain by its abend, or the bank stopped.
     fn halts(self, halt: Halt) -> Result<Step, Stop>
-        ensures value { result ≡ halted self halt }
+        ensures value { result ≡ step_of_halt self halt }
         ensures ends { (public : List ℕ) → IfOk result (λ step. IfSome step.end (λ end. EndFits public end)) }
         ensures ins { IfOk result (λ step. step.ins ≡ self.ins) }
     {
@@ -158,7 +158,7 @@ fn perform<B: Bank>(ins: &Ins, chain: &mut Chain, bank: &mut B) -> Result<Next, 
 
 // What comes after an instruction that is not PRIM, as after any.
 fn next_of(done: Result<Flow, Halt>) -> Result<Next, Halt>
-    ensures { result ≡ flowing done }
+    ensures { result ≡ row_result done }
 {
     match done {
         Ok(Flow::Go) => Ok(Next::Go),
@@ -214,7 +214,7 @@ impl Chain {
     // One instruction less of the budget, and the running frame's code address is behind it.
     fn advance(&mut self, next: u16)
         requires { self.old.left ≢ 0 }
-        ensures { self.new ≡ advanced self.old next }
+        ensures { self.new ≡ chain_at_next self.old next }
     {
         self.left -= 1;
         self.running.go(next);
@@ -271,7 +271,7 @@ impl Chain {
         requires going { (B.state bank.now).stopped ≡ false }
         requires fits { FitsChain (B.state bank.now) (B.named bank.now) self.old }
         ensures runs { (ch : ModelChain) → RunsAs (B.state bank.now) (B.named bank.now) self.old ch
-            → RunsAs (B.state bank.now) (B.named bank.now) self.new (called ch aid.now (lookup ch.map aid.now)) }
+            → RunsAs (B.state bank.now) (B.named bank.now) self.new (chain_after_call ch aid.now (lookup ch.map aid.now)) }
         ensures left { self.new.left ≡ self.old.left }
         ensures le { self.new.le ≡ self.old.le }
     {
@@ -311,8 +311,8 @@ fn waits<B: Bank>(bank: &B, waiting: &Waiting, aid: &Aid) -> bool
 // Whether the frame of a place, if there is one, runs the application of a name.
 fn runs_in<B: Bank>(bank: &B, place: &Option<Frame>, aid: &Aid) -> bool
     requires going { (B.state bank.now).stopped ≡ false }
-    requires fits { AllFitBank (B.state bank.now) (B.named bank.now) (held_before place.now []) }
-    ensures { result ≡ has_frame (B.named bank.now) aid.now (held_before place.now []) }
+    requires fits { AllFitBank (B.state bank.now) (B.named bank.now) (with_held_frame place.now []) }
+    ensures { result ≡ has_frame (B.named bank.now) aid.now (with_held_frame place.now []) }
 {
     match place {
         Some(frame) => runs(bank, frame, aid),

@@ -6,15 +6,15 @@ use Rattle.mc_model_device.specs.Bytes.{lookup, insert, remove}
 use Rattle.mc_model_device.specs.Pieces.{laid_pieces}
 use Rattle.mc_model_device.specs.Card.{App}
 use Rattle.mc_model_machine.specs.Chain.{Write, with_pieces, changed_app, map_changed}
-use Rattle.mc_model_card.specs.Items.{Change, Fixed, Created, Deleted, Item, Plain, Atomic, changed, done, Stopped, at_stop, in_flight, with_item}
+use Rattle.mc_model_card.specs.Items.{Change, Fixed, Created, Deleted, Item, Plain, Atomic, apps_after_change, apps_after_items, Stopped, at_stop, in_flight, with_item}
 use Rattle.mc_model_device.specs.Image.{Two}
 use Rattle.mc_model_device.specs.Stopped.{cost, stands}
 use Rattle.mc_model_device.specs.Limits.{most_static}
 use Rattle.std.specs.Prelude.{nat_le, ◌==◌}
 use Rattle.mc_machine_laws.specs.FewWords.{PiecesWithin}
 use Rattle.mc_machine_laws.specs.Limited.{AreLimited}
-use Rattle.mc_machine_laws.proofs.RowSizes.{length-laid}
-use Rattle.mc_model_device.proofs.MapLemmas.{same_name, lookup-inserted, lookup-beside, lookup-removed, lookup-left}
+use Rattle.mc_machine_laws.proofs.RowSizes.{length_laid}
+use Rattle.mc_model_device.proofs.MapLemmas.{same_name, lookup_inserted_lem, lookup_beside, lookup_removed_lem, lookup_left}
 
 -- the lengths of static and session bytes
 abbrev pub SegmentSizes : Type 0
@@ -36,21 +36,21 @@ InsideApp None ps = ⊤
 InsideApp (Some s) ps = PiecesWithin s.0 ps
 
 -- a change of static bytes
-changed-size : (o : Option App) (m : List (List ℕ × App)) (n : List ℕ) (ps : List (ℕ × List ℕ)) → lookup m n ≡ o → InsideApp (size_of o) ps → SameSizes m (changed_app m n ps o)
-changed-size None m n ps e h k = refl
-changed-size (Some a) m n ps e h k = by (bytes_eq n k) refl
+changed_size : (o : Option App) (m : List (List ℕ × App)) (n : List ℕ) (ps : List (ℕ × List ℕ)) → lookup m n ≡ o → InsideApp (size_of o) ps → SameSizes m (changed_app m n ps o)
+changed_size None m n ps e h k = refl
+changed_size (Some a) m n ps e h k = by (bytes_eq n k) refl
   where
     same : length (laid_pieces a.fixed ps) ≡ length a.fixed
-    same = length-laid ps a.fixed h
+    same = length_laid ps a.fixed h
 
     by : (b : Bool) → bytes_eq n k ≡ b → size_in (insert m n (with_pieces ps a)) k ≡ size_in m k
     by true is =
         subst (λ (j : List ℕ). size_in (insert m n (with_pieces ps a)) j ≡ size_in m j) (same_name n k is)
-        (ap size_of (lookup-inserted m n (with_pieces ps a)) ∙ ap (λ (l : ℕ). Some (l, a.session)) same ∙ sym (ap size_of e))
-    by false is = ap size_of (lookup-beside m n (with_pieces ps a) k is)
+        (ap size_of (lookup_inserted_lem m n (with_pieces ps a)) ∙ ap (λ (l : ℕ). Some (l, a.session)) same ∙ sym (ap size_of e))
+    by false is = ap size_of (lookup_beside m n (with_pieces ps a) k is)
 
-pub changed-sizes : (m : List (List ℕ × App)) (n : List ℕ) (ps : List (ℕ × List ℕ)) → InsideApp (size_in m n) ps → SameSizes m (map_changed m n (Some ps))
-changed-sizes m n ps h = changed-size (lookup m n) m n ps refl h
+pub changed_sizes : (m : List (List ℕ × App)) (n : List ℕ) (ps : List (ℕ × List ℕ)) → InsideApp (size_in m n) ps → SameSizes m (map_changed m n (Some ps))
+changed_sizes m n ps h = changed_size (lookup m n) m n ps refl h
 
 -- ---- writes
 
@@ -58,12 +58,12 @@ changed-sizes m n ps h = changed-size (lookup m n) m n ps refl h
 abbrev pub WriteFits : List (List ℕ × App) → Write → Type 0
 WriteFits m w = InsideApp (size_in m w.name) w.pieces
 
-pub moved-inside : (m d : List (List ℕ × App)) (n : List ℕ) (ps : List (ℕ × List ℕ)) → SameSizes m d → InsideApp (size_in m n) ps → InsideApp (size_in d n) ps
-moved-inside m d n ps same h = subst (λ (s : Option (ℕ × ℕ)). InsideApp s ps) (sym (same n)) h
+pub moved_inside : (m d : List (List ℕ × App)) (n : List ℕ) (ps : List (ℕ × List ℕ)) → SameSizes m d → InsideApp (size_in m n) ps → InsideApp (size_in d n) ps
+moved_inside m d n ps same h = subst (λ (s : Option (ℕ × ℕ)). InsideApp s ps) (sym (same n)) h
 
-pub moved-writes : (m d : List (List ℕ × App)) (ws : List Write) → SameSizes m d → AllByRecursion (WriteFits m) ws → AllByRecursion (WriteFits d) ws
-moved-writes m d [] same a = tt
-moved-writes m d (w ∷ ws) same a = (moved-inside m d w.name w.pieces same a.0, moved-writes m d ws same a.1)
+pub moved_writes : (m d : List (List ℕ × App)) (ws : List Write) → SameSizes m d → AllByRecursion (WriteFits m) ws → AllByRecursion (WriteFits d) ws
+moved_writes m d [] same a = tt
+moved_writes m d (w ∷ ws) same a = (moved_inside m d w.name w.pieces same a.0, moved_writes m d ws same a.1)
 
 -- ---- limited maps
 
@@ -74,29 +74,29 @@ Limit (Some s) = s.0 ≤ most_static
 abbrev pub Limited : List (List ℕ × App) → Type 0
 Limited m = (n : List ℕ) → Limit (size_in m n)
 
-limit-of : (o : Option App) (a : App) → o ≡ Some a → Limit (size_of o) → length a.fixed ≤ most_static
-limit-of None a e h = absurd (cc e)
-limit-of (Some b) a e h = let same : b ≡ a = cc e in subst (λ (c : App). length c.fixed ≤ most_static) same h
+limit_of : (o : Option App) (a : App) → o ≡ Some a → Limit (size_of o) → length a.fixed ≤ most_static
+limit_of None a e h = absurd (cc e)
+limit_of (Some b) a e h = let same : b ≡ a = cc e in subst (λ (c : App). length c.fixed ≤ most_static) same h
 
-pub are-limited : (m : List (List ℕ × App)) → Limited m → AreLimited m
-are-limited m h n a e = limit-of (lookup m n) a e (h n)
+pub are_limited : (m : List (List ℕ × App)) → Limited m → AreLimited m
+are_limited m h n a e = limit_of (lookup m n) a e (h n)
 
-pub limited-same : (m d : List (List ℕ × App)) → SameSizes m d → Limited m → Limited d
-limited-same m d same h n = subst Limit (sym (same n)) (h n)
+pub limited_same : (m d : List (List ℕ × App)) → SameSizes m d → Limited m → Limited d
+limited_same m d same h n = subst Limit (sym (same n)) (h n)
 
-pub limited-inserted : (m : List (List ℕ × App)) (n : List ℕ) (a : App) → Limited m → length a.fixed ≤ most_static → Limited (insert m n a)
-limited-inserted m n a h small k = by (bytes_eq n k) refl
+pub limited_inserted : (m : List (List ℕ × App)) (n : List ℕ) (a : App) → Limited m → length a.fixed ≤ most_static → Limited (insert m n a)
+limited_inserted m n a h small k = by (bytes_eq n k) refl
   where
     by : (b : Bool) → bytes_eq n k ≡ b → Limit (size_in (insert m n a) k)
-    by true is = subst (λ (j : List ℕ). Limit (size_in (insert m n a) j)) (same_name n k is) (subst (λ (o : Option App). Limit (size_of o)) (sym (lookup-inserted m n a)) small)
-    by false is = subst (λ (o : Option App). Limit (size_of o)) (sym (lookup-beside m n a k is)) (h k)
+    by true is = subst (λ (j : List ℕ). Limit (size_in (insert m n a) j)) (same_name n k is) (subst (λ (o : Option App). Limit (size_of o)) (sym (lookup_inserted_lem m n a)) small)
+    by false is = subst (λ (o : Option App). Limit (size_of o)) (sym (lookup_beside m n a k is)) (h k)
 
-pub limited-removed : (m : List (List ℕ × App)) (n : List ℕ) → Limited m → Limited (remove m n)
-limited-removed m n h k = by (bytes_eq n k) refl
+pub limited_removed : (m : List (List ℕ × App)) (n : List ℕ) → Limited m → Limited (remove m n)
+limited_removed m n h k = by (bytes_eq n k) refl
   where
     by : (b : Bool) → bytes_eq n k ≡ b → Limit (size_in (remove m n) k)
-    by true is = subst (λ (j : List ℕ). Limit (size_in (remove m n) j)) (same_name n k is) (subst (λ (o : Option App). Limit (size_of o)) (sym (lookup-removed m n)) tt)
-    by false is = subst (λ (o : Option App). Limit (size_of o)) (sym (lookup-left m n k is)) (h k)
+    by true is = subst (λ (j : List ℕ). Limit (size_in (remove m n) j)) (same_name n k is) (subst (λ (o : Option App). Limit (size_of o)) (sym (lookup_removed_lem m n)) tt)
+    by false is = subst (λ (o : Option App). Limit (size_of o)) (sym (lookup_left m n k is)) (h k)
 
 -- ---- items
 
@@ -109,41 +109,41 @@ ChangeFits m (Deleted n) = ⊤
 abbrev pub ItemsFit : List (List ℕ × App) → List Item → Type 0
 ItemsFit m [] = ⊤
 ItemsFit m (Plain ∷ is) = ItemsFit m is
-ItemsFit m (Atomic w c ∷ is) = ChangeFits m c × ItemsFit (changed c m) is
+ItemsFit m (Atomic w c ∷ is) = ChangeFits m c × ItemsFit (apps_after_change c m) is
 
-limited-changed : (m : List (List ℕ × App)) (c : Change) → Limited m → ChangeFits m c → Limited (changed c m)
-limited-changed m (Fixed n ps) h f = limited-same m (changed (Fixed n ps) m) (changed-sizes m n ps f) h
-limited-changed m (Created n a) h f = limited-inserted m n a h f
-limited-changed m (Deleted n) h f = limited-removed m n h
+limited_changed : (m : List (List ℕ × App)) (c : Change) → Limited m → ChangeFits m c → Limited (apps_after_change c m)
+limited_changed m (Fixed n ps) h f = limited_same m (apps_after_change (Fixed n ps) m) (changed_sizes m n ps f) h
+limited_changed m (Created n a) h f = limited_inserted m n a h f
+limited_changed m (Deleted n) h f = limited_removed m n h
 
-pub limited-done : (is : List Item) (m : List (List ℕ × App)) → Limited m → ItemsFit m is → Limited (done m is)
-limited-done [] m h f = h
-limited-done (Plain ∷ is) m h f = limited-done is m h f
-limited-done (Atomic w c ∷ is) m h f = limited-done is (changed c m) (limited-changed m c h f.0) f.1
+pub limited_done : (is : List Item) (m : List (List ℕ × App)) → Limited m → ItemsFit m is → Limited (apps_after_items m is)
+limited_done [] m h f = h
+limited_done (Plain ∷ is) m h f = limited_done is m h f
+limited_done (Atomic w c ∷ is) m h f = limited_done is (apps_after_change c m) (limited_changed m c h f.0) f.1
 
-fit-cond : (m : List (List ℕ × App)) (b : Bool) (s t : Stopped) → ItemsFit m s.whole → ItemsFit m t.whole → ItemsFit m (cond b s t).whole
-fit-cond m true s t h k = h
-fit-cond m false s t h k = k
+fit_cond : (m : List (List ℕ × App)) (b : Bool) (s t : Stopped) → ItemsFit m s.whole → ItemsFit m t.whole → ItemsFit m (cond b s t).whole
+fit_cond m true s t h k = h
+fit_cond m false s t h k = k
 
-fit-flight : (m : List (List ℕ × App)) (w : ℕ) (c : Change) (b : Bool) → ChangeFits m c → ItemsFit m (cond b (Atomic w c ∷ []) [])
-fit-flight m w c true h = (h, tt)
-fit-flight m w c false h = tt
+fit_flight : (m : List (List ℕ × App)) (w : ℕ) (c : Change) (b : Bool) → ChangeFits m c → ItemsFit m (cond b (Atomic w c ∷ []) [])
+fit_flight m w c true h = (h, tt)
+fit_flight m w c false h = tt
 
 -- the whole items of a stop
-pub fit-whole : (is : List Item) (m : List (List ℕ × App)) (k : ℕ) (x : List ℕ) → ItemsFit m is → ItemsFit m (at_stop is k x).whole
-fit-whole [] m k x f = tt
-fit-whole (Plain ∷ is) m k x f = fit-cond m (k == 1) (record { whole = []; owed = 0 }) (with_item Plain (at_stop is (k - 1) x)) tt (fit-whole is m (k - 1) x f)
-fit-whole (Atomic w c ∷ is) m k x f =
-    fit-cond m (nat_le k (cost Two w)) (in_flight w c k x) (with_item (Atomic w c) (at_stop is (k - cost Two w) x)) (fit-flight m w c (stands Two w k x) f.0) (f.0, fit-whole is (changed c m) (k - cost Two w) x f.1)
+pub fit_whole : (is : List Item) (m : List (List ℕ × App)) (k : ℕ) (x : List ℕ) → ItemsFit m is → ItemsFit m (at_stop is k x).whole
+fit_whole [] m k x f = tt
+fit_whole (Plain ∷ is) m k x f = fit_cond m (k == 1) (record { whole = []; owed = 0 }) (with_item Plain (at_stop is (k - 1) x)) tt (fit_whole is m (k - 1) x f)
+fit_whole (Atomic w c ∷ is) m k x f =
+    fit_cond m (nat_le k (cost Two w)) (in_flight w c k x) (with_item (Atomic w c) (at_stop is (k - cost Two w) x)) (fit_flight m w c (stands Two w k x) f.0) (f.0, fit_whole is (apps_after_change c m) (k - cost Two w) x f.1)
 
 -- items in order
-pub fit-append : (is js : List Item) (m : List (List ℕ × App)) → ItemsFit m is → ItemsFit (done m is) js → ItemsFit m (is ++ js)
-fit-append [] js m f g = g
-fit-append (Plain ∷ is) js m f g = fit-append is js m f g
-fit-append (Atomic w c ∷ is) js m f g = (f.0, fit-append is js (changed c m) f.1 g)
+pub fit_append : (is js : List Item) (m : List (List ℕ × App)) → ItemsFit m is → ItemsFit (apps_after_items m is) js → ItemsFit m (is ++ js)
+fit_append [] js m f g = g
+fit_append (Plain ∷ is) js m f g = fit_append is js m f g
+fit_append (Atomic w c ∷ is) js m f g = (f.0, fit_append is js (apps_after_change c m) f.1 g)
 
-pub limited-from : (m : List (List ℕ × App)) → AreLimited m → Limited m
-limited-from m h n = by (lookup m n) refl
+pub limited_from : (m : List (List ℕ × App)) → AreLimited m → Limited m
+limited_from m h n = by (lookup m n) refl
   where
     by : (o : Option App) → lookup m n ≡ o → Limit (size_of o)
     by None e = tt

@@ -8,20 +8,20 @@ use Rattle.mc_model_machine.specs.declared.instruction.DecodeFault.TheVariants.{
 use Rattle.mc_model_machine.specs.declared.machine.Abend.{Abend}
 use Rattle.mc_model_device.specs.Bytes.{lookup, insert, zeros}
 use Rattle.mc_model_machine.specs.Apdu.{ApduParts}
-use Rattle.mc_model_machine.specs.Code.{Shaped, decoded}
+use Rattle.mc_model_machine.specs.Code.{Shaped, instruction_at}
 use Rattle.mc_model_device.specs.Card.{App}
 use Rattle.mc_model_machine.specs.Frame.{Frame, new_frame, la_of}
 use Rattle.mc_model_machine.specs.Primitives.{Then, Goes, Exits, Delegates}
-use Rattle.mc_model_machine.specs.Row.{Does, causes, effect, first_cause, judged, row}
-use Rattle.mc_model_machine.specs.Chain.{Outcome, Write, Chain, Ran, Acted, Follows, Continues, Ends, code_in, with_pieces, changed_app, map_changed, write_of, settled, is_active, depth_of, called_app, called, exited, follows, delegator_in, row_turn, fetched, stepped, around, acted, ran_on, ran, start_app, start, no_app}
-use Rattle.mc_model_device.proofs.ImageLemmas.{all-append}
+use Rattle.mc_model_machine.specs.Row.{Does, causes, effect, first_cause, row_end, row}
+use Rattle.mc_model_machine.specs.Chain.{Outcome, Write, Chain, Ran, Acted, Follows, Continues, Ends, code_in, with_pieces, changed_app, map_changed, write_of, chain_after_effect, is_active, depth_of, called_app, chain_after_call, after_exit, follows, delegator_in, row_turn, turn_of_fetch, frame_at, around, turn_of_chain, run_after_turn, run_of_chain, start_app, start, no_app}
+use Rattle.mc_model_device.proofs.ImageLemmas.{all_append}
 use Rattle.mc_machine_laws.specs.FewWords.{HoldsFew, words_in, most_words}
 use Rattle.mc_machine_laws.specs.FewRuns.{AreCoded, FewRunsLaw}
-use Rattle.mc_machine_laws.proofs.RowWords.{none_holds, DoneRowFacts, row-few, held-after, told-any, delegates-short, most-64}
-use Rattle.mc_machine_laws.proofs.AppSizes.{SameSizes, Limited, limited-from, are-limited, limited-same}
-use Rattle.mc_machine_laws.proofs.RunSizes.{ChainFits, changed-by, NextFits, acted-fits, start-fits}
-use Rattle.mc_model_device.proofs.MapLemmas.{same_name, lookup-inserted, lookup-beside}
-use Rattle.mc_model_device.proofs.PieceLemmas.{none-touched}
+use Rattle.mc_machine_laws.proofs.RowWords.{none_holds, DoneRowFacts, row_few, held_after, told_any, delegates_short, most_64}
+use Rattle.mc_machine_laws.proofs.AppSizes.{SameSizes, Limited, limited_from, are_limited, limited_same}
+use Rattle.mc_machine_laws.proofs.RunSizes.{ChainFits, changed_by, NextFits, acted_fits, start_fits}
+use Rattle.mc_model_device.proofs.MapLemmas.{same_name, lookup_inserted_lem, lookup_beside}
+use Rattle.mc_model_device.proofs.PieceLemmas.{none_touched}
 
 -- ---- code
 
@@ -29,19 +29,19 @@ use Rattle.mc_model_device.proofs.PieceLemmas.{none-touched}
 abbrev SameCode : List (List ℕ × App) → List (List ℕ × App) → Type 0
 SameCode m d = (n : List ℕ) → code_in (lookup d n) ≡ code_in (lookup m n)
 
-code-changed : (o : Option App) (m : List (List ℕ × App)) (n : List ℕ) (ps : List (ℕ × List ℕ)) → lookup m n ≡ o → SameCode m (changed_app m n ps o)
-code-changed None m n ps e k = refl
-code-changed (Some a) m n ps e k = by (bytes_eq n k) refl
+code_changed : (o : Option App) (m : List (List ℕ × App)) (n : List ℕ) (ps : List (ℕ × List ℕ)) → lookup m n ≡ o → SameCode m (changed_app m n ps o)
+code_changed None m n ps e k = refl
+code_changed (Some a) m n ps e k = by (bytes_eq n k) refl
   where
     by : (b : Bool) → bytes_eq n k ≡ b → code_in (lookup (insert m n (with_pieces ps a)) k) ≡ code_in (lookup m k)
     by true is =
         subst (λ (j : List ℕ). code_in (lookup (insert m n (with_pieces ps a)) j) ≡ code_in (lookup m j)) (same_name n k is)
-        (ap code_in (lookup-inserted m n (with_pieces ps a)) ∙ sym (ap code_in e))
-    by false is = ap code_in (lookup-beside m n (with_pieces ps a) k is)
+        (ap code_in (lookup_inserted_lem m n (with_pieces ps a)) ∙ sym (ap code_in e))
+    by false is = ap code_in (lookup_beside m n (with_pieces ps a) k is)
 
-code-kept : (m : List (List ℕ × App)) (n : List ℕ) (o : Option (List (ℕ × List ℕ))) → SameCode m (map_changed m n o)
-code-kept m n None = λ k. refl
-code-kept m n (Some ps) = code-changed (lookup m n) m n ps refl
+code_kept : (m : List (List ℕ × App)) (n : List ℕ) (o : Option (List (ℕ × List ℕ))) → SameCode m (map_changed m n o)
+code_kept m n None = λ k. refl
+code_kept m n (Some ps) = code_changed (lookup m n) m n ps refl
 
 -- ---- chains
 
@@ -55,7 +55,7 @@ AllFew [] = ⊤
 AllFew (f ∷ fs) = FewFrame f × AllFew fs
 
 abbrev Coded : List (List ℕ × App) → Type 0
-Coded m = (n : List ℕ) (at : ℕ) (i : Ins) (next : ℕ) → decoded (code_in (lookup m n)) at ≡ Ok (i, next) → Shaped i
+Coded m = (n : List ℕ) (at : ℕ) (i : Ins) (next : ℕ) → instruction_at (code_in (lookup m n)) at ≡ Ok (i, next) → Shaped i
 
 record FewChain (ch : Chain) : Type 0 where
   frame : FewFrame ch.frame
@@ -63,8 +63,8 @@ record FewChain (ch : Chain) : Type 0 where
   limited : Limited ch.map
   coded : Coded ch.map
 
-coded-moved : (m d : List (List ℕ × App)) → SameCode m d → Coded m → Coded d
-coded-moved m d same h n at i next e = h n at i next (subst (λ (c : List ℕ). decoded c at ≡ Ok (i, next)) (same n) e)
+coded_moved : (m d : List (List ℕ × App)) → SameCode m d → Coded m → Coded d
+coded_moved m d same h n at i next e = h n at i next (subst (λ (c : List ℕ). instruction_at c at ≡ Ok (i, next)) (same n) e)
 
 abbrev FewOfWrite : Write → Type 0
 FewOfWrite w = w.words ≤ 64
@@ -77,111 +77,111 @@ record ActFew (t : Acted) : Type 0 where
   writes : AllByRecursion FewOfWrite t.writes
   next : FewNext t.follows
 
-new-few : (n : List ℕ) (a : App) (session : List ℕ) → length n ≤ 16 → length a.fixed ≤ 4096 → FewFrame (new_frame n (length a.code) a.deny a.fixed session)
-new-few n a session short small = record { held = record { fixed = small; inside = tt; few = none-touched }; name = short }
+new_few : (n : List ℕ) (a : App) (session : List ℕ) → length n ≤ 16 → length a.fixed ≤ 4096 → FewFrame (new_frame n (length a.code) a.deny a.fixed session)
+new_few n a session short small = record { held = record { fixed = small; inside = tt; few = none_touched }; name = short }
 
-cond-ends : (b : Bool) (o p : Outcome) → FewNext (cond b (Ends o) (Ends p))
-cond-ends true o p = tt
-cond-ends false o p = tt
+cond_ends : (b : Bool) (o p : Outcome) → FewNext (cond b (Ends o) (Ends p))
+cond_ends true o p = tt
+cond_ends false o p = tt
 
-exited-few : (s : Chain) (fs : List Frame) → FewChain s → AllFew fs → FewNext (exited s fs)
-exited-few s [] h a = cond-ends (nat_lt 1024 (la_of s.public)) _ _
-exited-few s (f ∷ fs) h a = record { frame = a.0; below = a.1; limited = h.limited; coded = h.coded }
+exited_few : (s : Chain) (fs : List Frame) → FewChain s → AllFew fs → FewNext (after_exit s fs)
+exited_few s [] h a = cond_ends (nat_lt 1024 (la_of s.public)) _ _
+exited_few s (f ∷ fs) h a = record { frame = a.0; below = a.1; limited = h.limited; coded = h.coded }
 
-told-few : (s : Chain) (public : List ℕ) → FewChain s → FewChain (record s { public = public })
-told-few s public h = record { frame = h.frame; below = h.below; limited = h.limited; coded = h.coded }
+told_few : (s : Chain) (public : List ℕ) → FewChain s → FewChain (record s { public = public })
+told_few s public h = record { frame = h.frame; below = h.below; limited = h.limited; coded = h.coded }
 
-called-by : (s : Chain) (n : List ℕ) (b : Bool) (a : App) → lookup s.map n ≡ Some a → length n ≤ 16 → FewChain s → FewChain (called_app b s n a)
-called-by s n true a e short h = told-few s _ h
-called-by s n false a e short h =
-    record { frame = new-few n a (zeros a.session) short (are-limited s.map h.limited n a e); below = (h.frame, h.below); limited = h.limited; coded = h.coded }
+called_by : (s : Chain) (n : List ℕ) (b : Bool) (a : App) → lookup s.map n ≡ Some a → length n ≤ 16 → FewChain s → FewChain (called_app b s n a)
+called_by s n true a e short h = told_few s _ h
+called_by s n false a e short h =
+    record { frame = new_few n a (zeros a.session) short (are_limited s.map h.limited n a e); below = (h.frame, h.below); limited = h.limited; coded = h.coded }
 
-called-few : (s : Chain) (n : List ℕ) (o : Option App) → lookup s.map n ≡ o → length n ≤ 16 → FewChain s → FewChain (called s n o)
-called-few s n None e short h = told-few s _ h
-called-few s n (Some a) e short h = called-by s n (is_active n s.frame s.below || nat_le 4 (depth_of s)) a e short h
+called_few : (s : Chain) (n : List ℕ) (o : Option App) → lookup s.map n ≡ o → length n ≤ 16 → FewChain s → FewChain (chain_after_call s n o)
+called_few s n None e short h = told_few s _ h
+called_few s n (Some a) e short h = called_by s n (is_active n s.frame s.below || nat_le 4 (depth_of s)) a e short h
 
-follows-few : (s : Chain) (t : Then) → ((n : List ℕ) → t ≡ Delegates n → length n ≤ 16) → FewChain s → FewNext (follows s t)
-follows-few s Goes short h = h
-follows-few s Exits short h = exited-few s s.below h h.below
-follows-few s (Delegates n) short h = called-few s n (lookup s.map n) refl (short n refl) h
+follows_few : (s : Chain) (t : Then) → ((n : List ℕ) → t ≡ Delegates n → length n ≤ 16) → FewChain s → FewNext (follows s t)
+follows_few s Goes short h = h
+follows_few s Exits short h = exited_few s s.below h h.below
+follows_few s (Delegates n) short h = called_few s n (lookup s.map n) refl (short n refl) h
 
 -- ---- turns
 
-told-by : (fs : List Frame) → AllFew fs → IfSome (delegator_in fs) (λ n. length n ≤ 16)
-told-by [] a = tt
-told-by (f ∷ fs) a = a.0.name
+told_by : (fs : List Frame) → AllFew fs → IfSome (delegator_in fs) (λ n. length n ≤ 16)
+told_by [] a = tt
+told_by (f ∷ fs) a = a.0.name
 
-written-few : (n : List ℕ) (o : Option (List (ℕ × List ℕ))) → words_in o ≤ 64 → AllByRecursion FewOfWrite (write_of n o)
-written-few n None h = tt
-written-few n (Some ps) h = (h, tt)
+written_few : (n : List ℕ) (o : Option (List (ℕ × List ℕ))) → words_in o ≤ 64 → AllByRecursion FewOfWrite (write_of n o)
+written_few n None h = tt
+written_few n (Some ps) h = (h, tt)
 
-done-few : (ch : Chain) (i : Ins) (at : ℕ) → ChainFits ch → FewChain ch → (let f = stepped ch.frame at in DoneRowFacts i f ch.public (around ch)) → ActFew (row_turn ch i (Does (effect i (stepped ch.frame at) ch.public (around ch))))
-done-few ch i at fits h p =
-    let f = stepped ch.frame at in
+done_few : (ch : Chain) (i : Ins) (at : ℕ) → ChainFits ch → FewChain ch → (let f = frame_at ch.frame at in DoneRowFacts i f ch.public (around ch)) → ActFew (row_turn ch i (Does (effect i (frame_at ch.frame at) ch.public (around ch))))
+done_few ch i at fits h p =
+    let f = frame_at ch.frame at in
     let x = around ch in
     let d = effect i f ch.public x in
-    let k = row-few f ch.public x i in
+    let k = row_few f ch.public x i in
     let held : HoldsFew f = record { fixed = h.frame.held.fixed; inside = h.frame.held.inside; few = h.frame.held.few } in
     let m : List (List ℕ × App) = map_changed ch.map ch.frame.name d.effect.changes in
-    let same : SameSizes ch.map m = changed-by ch.map ch.frame.name (length ch.frame.fixed) d.effect.changes fits.frame.fixed (k.changes held.inside) in
-    let s : FewChain (settled ch d.effect) =
+    let same : SameSizes ch.map m = changed_by ch.map ch.frame.name (length ch.frame.fixed) d.effect.changes fits.frame.fixed (k.changes held.inside) in
+    let s : FewChain (chain_after_effect ch d.effect) =
     record {
-      frame = record { held = held-after i f ch.public x p held; name = subst (λ (n : List ℕ). length n ≤ 16) (sym k.name) h.frame.name };
+      frame = record { held = held_after i f ch.public x p held; name = subst (λ (n : List ℕ). length n ≤ 16) (sym k.name) h.frame.name };
       below = h.below;
-      limited = limited-same ch.map m same h.limited;
-      coded = coded-moved ch.map m (code-kept ch.map ch.frame.name d.effect.changes) h.coded;
+      limited = limited_same ch.map m same h.limited;
+      coded = coded_moved ch.map m (code_kept ch.map ch.frame.name d.effect.changes) h.coded;
     }
     in
-    let most : most_words i ≤ 64 = most-64 i in
+    let most : most_words i ≤ 64 = most_64 i in
     let words : words_in d.effect.changes ≤ most_words i = k.words p (λ e. held.few) in
     record {
-      writes = written-few ch.frame.name d.effect.changes (omega arith);
-      next = follows-few (settled ch d.effect) d.next (λ n e. delegates-short i f ch.public x p.none n e) s;
+      writes = written_few ch.frame.name d.effect.changes (omega arith);
+      next = follows_few (chain_after_effect ch d.effect) d.next (λ n e. delegates_short i f ch.public x p.none n e) s;
     }
 
-judged-few : (ch : Chain) (i : Ins) (at : ℕ) (o : Option Abend) → first_cause (causes i (stepped ch.frame at) ch.public (around ch)) ≡ o → ChainFits ch → FewChain ch → Shaped i
-    → ActFew (row_turn ch i (judged o (effect i (stepped ch.frame at) ch.public (around ch))))
-judged-few ch i at (Some a) e fits h shaped = record { writes = tt; next = tt }
-judged-few ch i at None e fits h shaped =
-    let f = stepped ch.frame at in
-    done-few ch i at fits h
+judged_few : (ch : Chain) (i : Ins) (at : ℕ) (o : Option Abend) → first_cause (causes i (frame_at ch.frame at) ch.public (around ch)) ≡ o → ChainFits ch → FewChain ch → Shaped i
+    → ActFew (row_turn ch i (row_end o (effect i (frame_at ch.frame at) ch.public (around ch))))
+judged_few ch i at (Some a) e fits h shaped = record { writes = tt; next = tt }
+judged_few ch i at None e fits h shaped =
+    let f = frame_at ch.frame at in
+    done_few ch i at fits h
     (record {
       shaped = shaped;
-      told = told-any i (around ch).delegator (told-by ch.below h.below);
+      told = told_any i (around ch).delegator (told_by ch.below h.below);
       none = none_holds (causes i f ch.public (around ch)) e;
     })
 
-row-turn-few : (ch : Chain) (i : Ins) (at : ℕ) → ChainFits ch → FewChain ch → Shaped i → ActFew (row_turn ch i (row i (stepped ch.frame at) ch.public (around ch)))
+row_turn_few : (ch : Chain) (i : Ins) (at : ℕ) → ChainFits ch → FewChain ch → Shaped i → ActFew (row_turn ch i (row i (frame_at ch.frame at) ch.public (around ch)))
 unfolding row
-row-turn-few ch i at fits h shaped = judged-few ch i at (first_cause (causes i (stepped ch.frame at) ch.public (around ch))) refl fits h shaped
+row_turn_few ch i at fits h shaped = judged_few ch i at (first_cause (causes i (frame_at ch.frame at) ch.public (around ch))) refl fits h shaped
 
-fetched-few : (ch : Chain) (r : Result (Ins × ℕ) DecodeFault) → decoded (code_in (lookup ch.map ch.frame.name)) ch.frame.at ≡ r → ChainFits ch → FewChain ch → ActFew (fetched ch r)
-fetched-few ch (Err Undefined) e fits h = record { writes = tt; next = tt }
-fetched-few ch (Err Past) e fits h = record { writes = tt; next = tt }
-fetched-few ch (Ok i) e fits h = row-turn-few ch i.0 i.1 fits h (h.coded ch.frame.name ch.frame.at i.0 i.1 e)
+fetched_few : (ch : Chain) (r : Result (Ins × ℕ) DecodeFault) → instruction_at (code_in (lookup ch.map ch.frame.name)) ch.frame.at ≡ r → ChainFits ch → FewChain ch → ActFew (turn_of_fetch ch r)
+fetched_few ch (Err Undefined) e fits h = record { writes = tt; next = tt }
+fetched_few ch (Err Past) e fits h = record { writes = tt; next = tt }
+fetched_few ch (Ok i) e fits h = row_turn_few ch i.0 i.1 fits h (h.coded ch.frame.name ch.frame.at i.0 i.1 e)
 
-acted-few : (ch : Chain) → ChainFits ch → FewChain ch → ActFew (acted ch)
-unfolding acted
-acted-few ch fits h = fetched-few ch (decoded (code_in (lookup ch.map ch.frame.name)) ch.frame.at) refl fits h
+acted_few : (ch : Chain) → ChainFits ch → FewChain ch → ActFew (turn_of_chain ch)
+unfolding turn_of_chain
+acted_few ch fits h = fetched_few ch (instruction_at (code_in (lookup ch.map ch.frame.name)) ch.frame.at) refl fits h
 
 -- ---- runs
 
-ran_on-few : (ch : Chain) (t : Acted) (session : List ℕ) (f : Follows) (rest : Chain → Ran) → AllByRecursion FewOfWrite t.writes → NextFits ch f → FewNext f
-    → ((c : Chain) → ChainFits c → FewChain c → AllByRecursion FewOfWrite (rest c).writes) → AllByRecursion FewOfWrite (ran_on t session f rest).writes
-ran_on-few ch t session (Ends o) rest writes next few more = writes
-ran_on-few ch t session (Continues c) rest writes next few more = all-append FewOfWrite t.writes (rest c).writes writes (more c next.1 few)
+ran_on_few : (ch : Chain) (t : Acted) (session : List ℕ) (f : Follows) (rest : Chain → Ran) → AllByRecursion FewOfWrite t.writes → NextFits ch f → FewNext f
+    → ((c : Chain) → ChainFits c → FewChain c → AllByRecursion FewOfWrite (rest c).writes) → AllByRecursion FewOfWrite (run_after_turn t session f rest).writes
+ran_on_few ch t session (Ends o) rest writes next few more = writes
+ran_on_few ch t session (Continues c) rest writes next few more = all_append FewOfWrite t.writes (rest c).writes writes (more c next.1 few)
 
-ran-few : (n : ℕ) (ch : Chain) → ChainFits ch → FewChain ch → AllByRecursion FewOfWrite (ran n ch).writes
-unfolding ran
-ran-few zero ch fits h = tt
-ran-few (suc n) ch fits h =
-    let t : ActFew (acted ch) = acted-few ch fits h in
-    ran_on-few ch (acted ch) _ (acted ch).follows (λ c. ran n c) t.writes (acted-fits ch fits).next t.next (λ c k l. ran-few n c k l)
+ran_few : (n : ℕ) (ch : Chain) → ChainFits ch → FewChain ch → AllByRecursion FewOfWrite (run_of_chain n ch).writes
+unfolding run_of_chain
+ran_few zero ch fits h = tt
+ran_few (suc n) ch fits h =
+    let t : ActFew (turn_of_chain ch) = acted_few ch fits h in
+    ran_on_few ch (turn_of_chain ch) _ (turn_of_chain ch).follows (λ c. run_of_chain n c) t.writes (acted_fits ch fits).next t.next (λ c k l. ran_few n c k l)
 
-start-few : (m : List (List ℕ × App)) (first session : List ℕ) (apdu : ApduParts) (o : Option App) → lookup m first ≡ o → AreCoded m → length first ≤ 16 → FewChain (start_app m first session apdu (unwrap_or o no_app))
-start-few m first session apdu None e good short = record { frame = new-few first no_app session short (omega arith); below = tt; limited = limited-from m good.limited; coded = good.shaped }
-start-few m first session apdu (Some a) e good short = record { frame = new-few first a session short (good.limited first a e); below = tt; limited = limited-from m good.limited; coded = good.shaped }
+start_few : (m : List (List ℕ × App)) (first session : List ℕ) (apdu : ApduParts) (o : Option App) → lookup m first ≡ o → AreCoded m → length first ≤ 16 → FewChain (start_app m first session apdu (unwrap_or o no_app))
+start_few m first session apdu None e good short = record { frame = new_few first no_app session short (omega arith); below = tt; limited = limited_from m good.limited; coded = good.shaped }
+start_few m first session apdu (Some a) e good short = record { frame = new_few first a session short (good.limited first a e); below = tt; limited = limited_from m good.limited; coded = good.shaped }
 
 pub few_runs_law : FewRunsLaw
 few_runs_law m first session apdu budget good short =
-    ran-few budget (start m first session apdu) (start-fits m first session apdu (lookup m first) refl) (start-few m first session apdu (lookup m first) refl good short)
+    ran_few budget (start m first session apdu) (start_fits m first session apdu (lookup m first) refl) (start_few m first session apdu (lookup m first) refl good short)

@@ -4,7 +4,7 @@ use Rattle.std.specs.List.{AllByRecursion}
 use Rattle.mc_model_machine.specs.declared.instruction.Ins.{Ins}
 use Rattle.mc_model_device.specs.Bytes.{lookup}
 use Rattle.mc_model_machine.specs.Apdu.{ApduParts}
-use Rattle.mc_model_machine.specs.Code.{Shaped, decoded}
+use Rattle.mc_model_machine.specs.Code.{Shaped, instruction_at}
 use Rattle.mc_model_device.specs.Card.{App}
 use Rattle.mc_model_machine.specs.Chain.{code_in, run}
 use Rattle.mc_machine_laws.specs.Limited.{AreLimited}
@@ -12,7 +12,7 @@ use Rattle.mc_machine_laws.specs.Limited.{AreLimited}
 -- applications that keep to the most static bytes, and code of bytes: the operands of each instruction in it are in their ranges
 pub record AreCoded (map : List (List ℕ × App)) : Type 0 where
   pub limited : AreLimited map
-  pub shaped : (name : List ℕ) (at : ℕ) (i : Ins) (next : ℕ) → decoded (code_in (lookup map name)) at ≡ Ok (i, next) → Shaped i
+  pub shaped : (name : List ℕ) (at : ℕ) (i : Ins) (next : ℕ) → instruction_at (code_in (lookup map name)) at ≡ Ok (i, next) → Shaped i
 
 -- each atomic write of a command to an application with a name of at most 16 bytes touches at most 64 words
 abbrev pub FewRunsLaw : Type 0

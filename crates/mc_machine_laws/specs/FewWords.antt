@@ -6,7 +6,7 @@ use Rattle.mc_model_machine.specs.declared.instruction.Ins.TheVariants as ins
 use Rattle.mc_model_device.specs.Image.{One, Two}
 use Rattle.mc_model_device.specs.Stopped.{cost}
 use Rattle.mc_model_machine.specs.Code.{Shaped}
-use Rattle.mc_model_device.specs.Pieces.{touched}
+use Rattle.mc_model_device.specs.Pieces.{touched_words}
 use Rattle.mc_model_machine.specs.Frame.{Frame}
 use Rattle.mc_model_machine.specs.Primitives.{Around, Exits, Done, Primitive, SetProtection, primitive}
 use Rattle.mc_model_machine.specs.Row.{RowEnd, Abends, Does, row}
@@ -20,12 +20,12 @@ PiecesWithin n ps = AllByRecursion (λ p. p.0 + length p.1 ≤ n) ps
 pub record HoldsFew (f : Frame) : Type 0 where
   pub fixed : length f.fixed ≤ most_static
   pub inside : PiecesWithin (length f.fixed) f.pieces
-  pub few : length (touched f.pieces) ≤ 64
+  pub few : length (touched_words f.pieces) ≤ 64
 
 -- the number of words that a change touches
 abbrev pub words_in : Option (List (ℕ × List ℕ)) → ℕ
 words_in None = 0
-words_in (Some ps) = length (touched ps)
+words_in (Some ps) = length (touched_words ps)
 
 -- the greatest number of words that a primitive changes: a commit of the pending pieces 64, any other 33
 abbrev pub most_of : Option Primitive → ℕ

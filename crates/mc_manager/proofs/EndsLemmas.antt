@@ -13,10 +13,10 @@ use Rattle.mc_model_device.specs.Bytes.{zeros, lookup, insert, remove}
 use Rattle.mc_model_machine.specs.Apdu.{ApduParts}
 use Rattle.mc_model_device.specs.Card.{App}
 use Rattle.mc_model_card.specs.Items.{Site, BankItem, Piece, Remove}
-use Rattle.mc_model_card.specs.Manager.{Open, Seat, Accepted, Managed, first_status, answered, select_body, select_done, select, p1p2, is_empty, got_of, size_of, with_got, word_parts, load_refusals, load_done, load_part, create_refusals, create_done, create_items, create, dir_in, is_selected, delete_refusals, delete_done, delete, open_load, Declines, WrongClass, ToSelect, ToManager, ToApplication, manage}
+use Rattle.mc_model_card.specs.Manager.{Open, Seat, Accepted, Managed, first_status, answer_unless, select_body, select_done, select, p1p2, is_empty, got_of, size_of, with_got, word_parts, load_refusals, load_done, load_part, create_refusals, create_done, create_items, create, dir_in, is_selected, delete_refusals, delete_done, delete, open_load, Declines, WrongClass, ToSelect, ToManager, ToApplication, manage}
 use Rattle.mc_model_card.specs.Units.{name_of}
 use Rattle.mc_apdu.specs.declared.reply.Reply.{Reply}
-use Rattle.mc_bank.specs.Bank.{part_len, no_app, app_of, name_or, entered, Changes}
+use Rattle.mc_bank.specs.Bank.{part_len, no_app, app_of, name_or, app_of_site, Changes}
 use Rattle.mc_manager.specs.declared.selection.Selection.{Selection}
 use Rattle.mc_manager.specs.declared.routed.Routed.{Routed}
 use Rattle.mc_manager.specs.declared.routed.Routed.TheVariants as routed
@@ -26,19 +26,19 @@ use Rattle.mc_manager.specs.CommandDue.{CommandDue, Refuses, Selects, Does, due_
 use Rattle.mc_manager.specs.Calls.{CanSelect, CanCreate, CanDelete, has_selected, delete_causes}
 use Rattle.mc_manager.specs.Ends.{CommandEnds}
 use Rattle.mc_manager.specs.declared.routed.Ruling.{Ruling}
-use Rattle.mc_manager.specs.Ruled.{ruled, placed}
+use Rattle.mc_manager.specs.Ruled.{ruling_with_reply, ruling_or_stop}
 use Rattle.mc_manager.proofs.LoadLemmas.{length_got, same_size, fresh_entered}
 use Rattle.mc_model_device.proofs.MapLemmas.{name_is_itself}
 
 -- ---- causes
 
 -- a command with a first refusal is refused
-pub refused_due : (x : Option ℕ) (d : Accepted) (sw : ℕ) → x ≡ Some sw → due_manager (answered x d) ≡ Refuses sw
-refused_due x d sw h = ap (λ (y : Option ℕ). due_manager (answered y d)) h
+pub refused_due : (x : Option ℕ) (d : Accepted) (sw : ℕ) → x ≡ Some sw → due_manager (answer_unless x d) ≡ Refuses sw
+refused_due x d sw h = ap (λ (y : Option ℕ). due_manager (answer_unless y d)) h
 
 -- and one without is done
-pub done_due : (x : Option ℕ) (d : Accepted) → x ≡ None → due_manager (answered x d) ≡ Does d
-done_due x d h = ap (λ (y : Option ℕ). due_manager (answered y d)) h
+pub done_due : (x : Option ℕ) (d : Accepted) → x ≡ None → due_manager (answer_unless x d) ≡ Does d
+done_due x d h = ap (λ (y : Option ℕ). due_manager (answer_unless y d)) h
 
 pub load_is_open : (p : Part) (a : ApduParts) → first_status (load_refusals None p a) ≡ None → ⊥
 load_is_open p a h = by_test (is_empty a.body) h
@@ -131,7 +131,7 @@ selected v m a s = select_done (seat_of v.standing s m) a (Some (app_of v.state.
 pub select_is_due : (v : BankView) (m : ManagerState) (c : Selection) (a : ApduParts) → CanSelect v.state.apps v.named a c → (s : List ℕ) → due_select (select v.state.apps (seat_of v.standing s m) a) ≡ Selects (selected v m a s)
 select_is_due v m c a h s =
     let seat = seat_of v.standing s m in
-    ap (λ (y : Option ℕ). due_select (answered y (select_done seat a (lookup v.state.apps a.body)))) h.clear
+    ap (λ (y : Option ℕ). due_select (answer_unless y (select_done seat a (lookup v.state.apps a.body)))) h.clear
     ∙ ap (λ (y : Option App). Selects (select_done seat a y)) (some_value (lookup v.state.apps a.body) no_app h.found.app)
 
 module _ {B : Type 0} (did : B → BankItem → Answer → B → Type 0) where
@@ -191,7 +191,7 @@ can_load v m x l p a load is fits clear =
 
 pub load_is_due : (v : BankView) (m : ManagerState) (l : Loaded) (p : Part) (a : ApduParts) → CanLoad v m l p a → (s : List ℕ) → due_manager (load_part p (seat_of v.standing s m) a) ≡ Does (piece_done v m l p a s)
 load_is_due v m l p a h s =
-    ap (λ (x : Option Loaded). due_manager (answered (first_status (load_refusals (option_map (open_of v.standing) x) p a)) (load_done (seat_of v.standing s m) (option_map (open_of v.standing) x) p a))) h.is
+    ap (λ (x : Option Loaded). due_manager (answer_unless (first_status (load_refusals (option_map (open_of v.standing) x) p a)) (load_done (seat_of v.standing s m) (option_map (open_of v.standing) x) p a))) h.is
     ∙ done_due (first_status (load_refusals (Some (open_of v.standing l)) p a)) (piece_done v m l p a s) h.clear
 
 module _ {B : Type 0} (did : B → BankItem → Answer → B → Type 0) where
@@ -263,21 +263,21 @@ create_is_due v m l n a h s =
     let seat = seat_of v.standing s m in
     let o = open_of v.standing l in
     ap (λ (x : Option Loaded).
-    due_manager (answered (first_status (create_refusals v.state.apps (option_map (open_of v.standing) x) a)) (create_done seat (option_map (open_of v.standing) x) (name_of (dir_in (option_map (open_of v.standing) x)))))) h.is
+    due_manager (answer_unless (first_status (create_refusals v.state.apps (option_map (open_of v.standing) x) a)) (create_done seat (option_map (open_of v.standing) x) (name_of (dir_in (option_map (open_of v.standing) x)))))) h.is
     ∙ done_due (first_status (create_refusals v.state.apps (Some o) a)) (create_done seat (Some o) (name_of o.got.dir)) h.clear
     ∙ ap (λ (x : Result (List ℕ) AidFault). Does (create_done seat (Some o) x)) (ap name_of h.fits.dir ∙ h.name)
 
 module _ {B : Type 0} (did : B → BankItem → Answer → B → Type 0) where
   pub ends_created : (v : BankView) (m : ManagerState) (l : Loaded) (n : List ℕ) (a : ApduParts) (b : B) (r : Reply) (w : BankView) (m' : ManagerState) (e : B) (t : Site) → t ≡ l.site → CanEnter v m l n a → ManagerFits v m
       → InOrder did b (create_items t n) (Ok tt) e
-      → Changes v.state (insert v.state.apps n (entered t (v.standing t))) (Ok tt) w.state
+      → Changes v.state (insert v.state.apps n (app_of_site t (v.standing t))) (Ok tt) w.state
       → ((k : ℕ) → IsSome (v.named k) → w.named k ≡ v.named k)
       → RepliesWith [] 0x9000 r → m'.selected ≡ m.selected → m'.load ≡ None
       → CommandEnds did (λ s. due_manager (create v.state.apps (seat_of v.standing s m) a)) v m b (Ok (routed.Answer r)) w m' e
   ends_created v m l n a b r w m' e t site h fits items apps slots says selected load =
       ends_done did (λ s. due_manager (create v.state.apps (seat_of v.standing s m) a)) (created v m l n) v m b r w m' e (create_is_due v m l n a h)
       (λ s. subst (λ (x : Site). InOrder did b (create_items x n) (Ok tt) e) site items)
-      (λ s. subst (λ (x : App). Changes v.state (insert v.state.apps n x) (Ok tt) w.state) (ap (λ (x : Site). entered x (v.standing x)) site ∙ sym (fresh_entered v l h.fits h.full)) apps)
+      (λ s. subst (λ (x : App). Changes v.state (insert v.state.apps n x) (Ok tt) w.state) (ap (λ (x : Site). app_of_site x (v.standing x)) site ∙ sym (fresh_entered v l h.fits h.full)) apps)
       (λ s. says) selected
       (λ s. ap (λ (x : Option Selection). record (seat_of w.standing s m') { selected = option_map (λ c. record { name = c.aid; session = s }) x }) selected
       ∙ ap (λ (x : Option Loaded). record (seat_of w.standing s m) { load = option_map (open_of w.standing) x }) load)
@@ -288,12 +288,12 @@ module _ {B : Type 0} (did : B → BankItem → Answer → B → Type 0) where
 
   pub ends_create_stopped : (v : BankView) (m : ManagerState) (l : Loaded) (n : List ℕ) (a : ApduParts) (b : B) (t : Stop) (w : BankView) (m' : ManagerState) (e : B) (q : Site) → q ≡ l.site → CanEnter v m l n a
       → InOrder did b (create_items q n) (Err t) e
-      → Changes v.state (insert v.state.apps n (entered q (v.standing q))) (Err t) w.state
+      → Changes v.state (insert v.state.apps n (app_of_site q (v.standing q))) (Err t) w.state
       → CommandEnds did (λ s. due_manager (create v.state.apps (seat_of v.standing s m) a)) v m b (Err t) w m' e
   ends_create_stopped v m l n a b t w m' e q site h items apps =
       ends_stopped did (λ s. due_manager (create v.state.apps (seat_of v.standing s m) a)) (created v m l n) v m b t w m' e (create_is_due v m l n a h)
       (λ s. subst (λ (x : Site). InOrder did b (create_items x n) (Err t) e) site items)
-      (λ s. subst (λ (x : App). Changes v.state (insert v.state.apps n x) (Err t) w.state) (ap (λ (x : Site). entered x (v.standing x)) site ∙ sym (fresh_entered v l h.fits h.full)) apps)
+      (λ s. subst (λ (x : App). Changes v.state (insert v.state.apps n x) (Err t) w.state) (ap (λ (x : Site). app_of_site x (v.standing x)) site ∙ sym (fresh_entered v l h.fits h.full)) apps)
 
 -- ---- DELETE
 
@@ -394,22 +394,22 @@ module _ {B : Type 0} (did : B → BankItem → Answer → B → Type 0) where
   -- ---- the promises of a command whose reply was written beside its ruling
 
   module _ (of : List ℕ → CommandDue) (v : BankView) (m : ManagerState) (b : B) (w : BankView) (n : ManagerState) (e : B) (r : Reply) where
-    pub ends_items : (x : Result Ruling Stop) → CommandEnds did of v m b (placed x r) w n e → (s : List ℕ) → InOrder did b (items_of (of s)) (answer_of x) e
+    pub ends_items : (x : Result Ruling Stop) → CommandEnds did of v m b (ruling_or_stop x r) w n e → (s : List ℕ) → InOrder did b (items_of (of s)) (answer_of x) e
     ends_items (Ok y) ends = ends.items
     ends_items (Err t) ends = ends.items
 
-    pub ends_apps : (x : Result Ruling Stop) → CommandEnds did of v m b (placed x r) w n e → (s : List ℕ) → Changes v.state (apps_after (of s) v.state.apps) (answer_of x) w.state
+    pub ends_apps : (x : Result Ruling Stop) → CommandEnds did of v m b (ruling_or_stop x r) w n e → (s : List ℕ) → Changes v.state (apps_after (of s) v.state.apps) (answer_of x) w.state
     ends_apps (Ok y) ends = ends.apps
     ends_apps (Err t) ends = ends.apps
 
-    pub ends_leaves : (x : Result Ruling Stop) → CommandEnds did of v m b (placed x r) w n e → (s : List ℕ) → IfOk x (λ y. CommandLeaves (of s) s v m (ruled y r) w n)
+    pub ends_leaves : (x : Result Ruling Stop) → CommandEnds did of v m b (ruling_or_stop x r) w n e → (s : List ℕ) → IfOk x (λ y. CommandLeaves (of s) s v m (ruling_with_reply y r) w n)
     ends_leaves (Ok y) ends = ends.leaves
     ends_leaves (Err t) ends = λ s. tt
 
-    pub ends_fits : (x : Result Ruling Stop) → CommandEnds did of v m b (placed x r) w n e → OnOk x (ManagerFits w n)
+    pub ends_fits : (x : Result Ruling Stop) → CommandEnds did of v m b (ruling_or_stop x r) w n e → OnOk x (ManagerFits w n)
     ends_fits (Ok y) ends = ends.fits
     ends_fits (Err t) ends = tt
 
-    pub ends_going : (x : Result Ruling Stop) → CommandEnds did of v m b (placed x r) w n e → OnOk x (w.state.stopped ≡ false)
+    pub ends_going : (x : Result Ruling Stop) → CommandEnds did of v m b (ruling_or_stop x r) w n e → OnOk x (w.state.stopped ≡ false)
     ends_going (Ok y) ends = ends.going
     ends_going (Err t) ends = tt

@@ -9,10 +9,10 @@ use Rattle.mc_model_card.specs.declared.card.Sizes.{Sizes}
 use Rattle.mc_model_device.specs.Bytes.{splice}
 use Rattle.mc_model_card.specs.Items.{Site}
 use Rattle.mc_model_card.specs.Manager.{got_of, size_of, with_got, is_complete, can_create, fresh}
-use Rattle.mc_bank.specs.Bank.{part_len, IsGoodSite, StayGood, entered}
+use Rattle.mc_bank.specs.Bank.{part_len, IsGoodSite, StayGood, app_of_site}
 use Rattle.mc_manager.specs.ManagerState.{BankView, Loaded, got_len, got_at, open_of, FitsLoad}
 use Rattle.mc_manager.specs.Load.{with_more, is_full}
-use Rattle.mc_model_device.proofs.ListLemmas.{length-splice}
+use Rattle.mc_model_device.proofs.ListLemmas.{length_splice}
 
 -- ---- sections
 
@@ -168,7 +168,7 @@ fits_filled v w l p b h =
               subst (λ (r : Part). length (w.standing l.site r) ≡ part_len r l.site.sizes) (sym is)
               (let room = h.room in
               let parts = h.fits.parts p in
-              ap length h.piece ∙ length-splice (v.standing l.site p) (got_len p l) b (omega (arith, room, parts)) ∙ parts)
+              ap length h.piece ∙ length_splice (v.standing l.site p) (got_len p l) b (omega (arith, room, parts)) ∙ parts)
           | no other ↦ ap length (h.others q other) ∙ h.fits.parts q
         ]
 
@@ -199,7 +199,7 @@ complete_full v l h =
 full_part : (v : BankView) (l : Loaded) (p : Part) → FitsLoad v l → got_len p l ≡ part_len p l.site.sizes → got_at v.standing l p ≡ v.standing l.site p
 full_part v l p h is = take_all (got_len p l) (v.standing l.site p) (let parts = h.parts p in omega (arith, is, parts))
 
-pub fresh_entered : (v : BankView) (l : Loaded) → FitsLoad v l → is_full l ≡ true → fresh (open_of v.standing l) ≡ entered l.site (v.standing l.site)
+pub fresh_entered : (v : BankView) (l : Loaded) → FitsLoad v l → is_full l ≡ true → fresh (open_of v.standing l) ≡ app_of_site l.site (v.standing l.site)
 fresh_entered v l h full =
     let sizes : (l.code ≡ l.site.sizes.code) × (l.init ≡ l.site.sizes.init) × (length l.dir ≡ l.site.sizes.dir) × (l.fci ≡ l.site.sizes.fci) = four_equal l.code l.site.sizes.code l.init l.site.sizes.init (length l.dir) l.site.sizes.dir l.fci l.site.sizes.fci full in
     let code = full_part v l Code h sizes.0 in

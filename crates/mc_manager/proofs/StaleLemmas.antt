@@ -9,12 +9,12 @@ use Rattle.mc_model_device.specs.Orders.{Answer}
 use Rattle.mc_model_device.specs.Bytes.{lookup, insert, remove}
 use Rattle.mc_model_machine.specs.Apdu.{ApduParts}
 use Rattle.mc_model_device.specs.Card.{App}
-use Rattle.mc_model_card.specs.Manager.{Selected, Open, Seat, Accepted, Managed, Declines, first_status, answered, WrongClass, ToSelect, ToManager, ToApplication, select_refusals, select_done, select, open_refusals, open_done, open_load, load_refusals, load_done, load_part, create_refusals, create_done, create, dir_in, fresh, delete_refusals, delete_done, delete, manage}
+use Rattle.mc_model_card.specs.Manager.{Selected, Open, Seat, Accepted, Managed, Declines, first_status, answer_unless, WrongClass, ToSelect, ToManager, ToApplication, select_refusals, select_done, select, open_refusals, open_done, open_load, load_refusals, load_done, load_part, create_refusals, create_done, create, dir_in, fresh, delete_refusals, delete_done, delete, manage}
 use Rattle.mc_model_card.specs.Units.{name_of}
 use Rattle.mc_bank.specs.Bank.{BankState, Changes}
 use Rattle.mc_manager.specs.ManagerState.{BankView, ManagerState, seat_of, load_of}
 use Rattle.mc_manager.specs.CommandDue.{CommandDue, Refuses, Selects, Does, due_select, due_manager, due_application, due_on, due, apps_after, NoneStale}
-use Rattle.mc_model_device.proofs.MapLemmas.{same_name, lookup-inserted, lookup-beside, lookup-removed}
+use Rattle.mc_model_device.proofs.MapLemmas.{same_name, lookup_inserted_lem, lookup_beside, lookup_removed_lem}
 
 -- ---- maps
 
@@ -25,15 +25,15 @@ lookup_inserted : (load : Option Open) (o : Open) (apps : List (List ℕ × App)
 lookup_inserted load o apps k is n a h = by_test (bytes_eq k n) refl
   where
     by_test : (b : Bool) → bytes_eq k n ≡ b → (lookup apps n ≡ Some a) ⊎ ((o : Open) × (load ≡ Some o) × (a ≡ fresh o))
-    by_test true e = inr (o, is, cc (ap (lookup (insert apps k (fresh o))) (same_name k n e), lookup-inserted apps k (fresh o), h))
-    by_test false e = inl (sym (lookup-beside apps k (fresh o) n e) ∙ h)
+    by_test true e = inr (o, is, cc (ap (lookup (insert apps k (fresh o))) (same_name k n e), lookup_inserted_lem apps k (fresh o), h))
+    by_test false e = inl (sym (lookup_beside apps k (fresh o) n e) ∙ h)
 
 lookup_removed : (apps : List (List ℕ × App)) (k n : List ℕ) (a : App) → lookup (remove apps k) n ≡ Some a → lookup apps n ≡ Some a
 lookup_removed [] k n a h = h
 lookup_removed (e ∷ es) k n a h = by_tests (bytes_eq e.0 k) (bytes_eq e.0 n) refl refl (lookup_removed es k n a) h
   where
     by_tests : (x y : Bool) → bytes_eq e.0 k ≡ x → bytes_eq e.0 n ≡ y → (lookup (remove es k) n ≡ Some a → lookup es n ≡ Some a) → lookup (cond x (remove es k) (e ∷ remove es k)) n ≡ Some a → cond y (Some e.1) (lookup es n) ≡ Some a
-    by_tests true true p q rest h = absurd (cc (ap (lookup (remove es k)) (sym (same_name e.0 n q) ∙ same_name e.0 k p), lookup-removed es k, h))
+    by_tests true true p q rest h = absurd (cc (ap (lookup (remove es k)) (sym (same_name e.0 n q) ∙ same_name e.0 k p), lookup_removed_lem es k, h))
     by_tests true false p q rest h = rest h
     by_tests false true p q rest h = ap (λ (b : Bool). cond b (Some e.1) (lookup (remove es k) n)) (sym q) ∙ h
     by_tests false false p q rest h = rest (ap (λ (b : Bool). cond b (Some e.1) (lookup (remove es k) n)) (sym q) ∙ h)
@@ -45,7 +45,7 @@ abbrev AddsFresh : Option Open → List (List ℕ × App) → CommandDue → Typ
 AddsFresh load apps d = NoneStale load apps (apps_after d apps)
 
 module _ (load : Option Open) (apps : List (List ℕ × App)) where
-  by_answer : (f : Managed → CommandDue) → (d : Accepted) → ((sw : ℕ) → f (Declines sw) ≡ Refuses sw) → AddsFresh load apps (f (answered None d)) → (x : Option ℕ) → AddsFresh load apps (f (answered x d))
+  by_answer : (f : Managed → CommandDue) → (d : Accepted) → ((sw : ℕ) → f (Declines sw) ≡ Refuses sw) → AddsFresh load apps (f (answer_unless None d)) → (x : Option ℕ) → AddsFresh load apps (f (answer_unless x d))
   by_answer f d is h None = h
   by_answer f d is h (Some sw) = subst (AddsFresh load apps) (sym (is sw)) (same_apps load apps)
 

@@ -4,8 +4,8 @@ use Rattle.std.specs.Prelude.{◌≡◌, ◌⊎◌, ℕ, Bool, cond, ◌&&◌, �
 use Rattle.mc_model_machine.specs.Apdu.{ApduParts}
 use Rattle.mc_model_device.specs.Bytes.{zeros, lookup}
 use Rattle.mc_model_device.specs.Card.{App}
-use Rattle.mc_model_card.specs.Items.{Change, changed, BankItem}
-use Rattle.mc_model_card.specs.Manager.{Selected, Seat, Route, WrongLength, WrongClass, ToSelect, ToManager, ToApplication, routed, Managed, Declines, Accepts, Accepted, Open, fresh, select, manage}
+use Rattle.mc_model_card.specs.Items.{Change, apps_after_change, BankItem}
+use Rattle.mc_model_card.specs.Manager.{Selected, Seat, Route, WrongLength, WrongClass, ToSelect, ToManager, ToApplication, route_of_parts, Managed, Declines, Accepts, Accepted, Open, fresh, select, manage}
 use Rattle.mc_apdu.specs.declared.reply.Reply.{Reply}
 use Rattle.mc_bank.specs.Bank.{app_of}
 use Rattle.mc_manager.specs.declared.selection.Selection.{Selection}
@@ -45,7 +45,7 @@ due_on v seat (ToApplication a) = due_application seat.selected
 
 -- what a command is due from a manager over a bank, with the session bytes of the selection
 abbrev pub due : BankView → List ℕ → ManagerState → ApduParts → CommandDue
-due v session m a = due_on v (seat_of v.standing session m) (routed (Some a))
+due v session m a = due_on v (seat_of v.standing session m) (route_of_parts (Some a))
 
 -- ---- the bank
 
@@ -59,7 +59,7 @@ items_of Passes = []
 -- the applications after a creation or deletion
 abbrev pub with_change : Option Change → List (List ℕ × App) → List (List ℕ × App)
 with_change None apps = apps
-with_change (Some c) apps = changed c apps
+with_change (Some c) apps = apps_after_change c apps
 
 -- the applications after a command
 abbrev pub apps_after : CommandDue → List (List ℕ × App) → List (List ℕ × App)

@@ -8,12 +8,12 @@ use Rattle.mc_manager.specs.declared.routed.Ruling.{Ruling}
 use Rattle.mc_manager.specs.declared.routed.Ruling.TheVariants.{Answer, Fresh, Pass}
 
 -- a ruling with its reply
-abbrev pub ruled : Ruling → Reply → Routed
-ruled Answer r = routed.Answer r
-ruled (Fresh slot) r = routed.Fresh slot r
-ruled (Pass slot) r = routed.Pass slot
+abbrev pub ruling_with_reply : Ruling → Reply → Routed
+ruling_with_reply Answer r = routed.Answer r
+ruling_with_reply (Fresh slot) r = routed.Fresh slot r
+ruling_with_reply (Pass slot) r = routed.Pass slot
 
 -- the same where a stop may have come
-abbrev pub placed : Result Ruling Stop → Reply → Result Routed Stop
-placed (Ok x) r = Ok (ruled x r)
-placed (Err s) r = Err s
+abbrev pub ruling_or_stop : Result Ruling Stop → Reply → Result Routed Stop
+ruling_or_stop (Ok x) r = Ok (ruling_with_reply x r)
+ruling_or_stop (Err s) r = Err s

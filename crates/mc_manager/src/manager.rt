@@ -7,7 +7,7 @@ ghost use Rattle.mc_manager.specs.ManagerState.{BankView, view_of, selected_of, 
 ghost use Rattle.mc_manager.specs.CommandDue.{due, due_application, due_select, due_manager, CommandLeaves, most_ticks};
 ghost use Rattle.mc_manager.specs.CommandDue.{items_of, apps_after, NoneStale};
 ghost use Rattle.mc_manager.specs.Ends.{CommandEnds};
-ghost use Rattle.mc_manager.specs.Ruled.{ruled, placed};
+ghost use Rattle.mc_manager.specs.Ruled.{ruling_with_reply, ruling_or_stop};
 
 use crate::creation::creation;
 use crate::deletion::deletion;
@@ -138,7 +138,7 @@ impl Manager {
         // It is answered as its row says, or passed on: the first refusal changes nothing.
         ensures leaves { (s : List ℕ) → IfOk result (λ r. CommandLeaves
             (due (view_of B.state B.named B.room B.standing bank.old) s self.old (parts_of apdu.now)) s
-            (view_of B.state B.named B.room B.standing bank.old) self.old (ruled r reply.new)
+            (view_of B.state B.named B.room B.standing bank.old) self.old (ruling_with_reply r reply.new)
             (view_of B.state B.named B.room B.standing bank.new) self.new) }
         // The manager fits the bank again.
         ensures fits { OnOk result (ManagerFits (view_of B.state B.named B.room B.standing bank.new) self.new) }
@@ -168,7 +168,7 @@ impl Manager {
         requires fits { ManagerFits (view_of B.state B.named B.room B.standing bank.old) self.old }
         ensures ends { CommandEnds B.did (λ s. due (view_of B.state B.named B.room B.standing bank.old) s self.old
             (parts_of apdu.now)) (view_of B.state B.named B.room B.standing bank.old) self.old bank.old
-            (placed result reply.new) (view_of B.state B.named B.room B.standing bank.new) self.new bank.new }
+            (ruling_or_stop result reply.new) (view_of B.state B.named B.room B.standing bank.new) self.new bank.new }
         ensures no_stale_byte { NoneStale (load_of (B.standing bank.old) self.old) (B.state bank.old).apps
             (B.state bank.new).apps }
         ensures rises { steps.old ≤ steps.new }
@@ -201,7 +201,7 @@ impl Manager {
         ensures ends { CommandEnds B.did (λ s. due_manager
             (manage (B.room bank.old) (B.state bank.old).apps (seat_of (B.standing bank.old) s self.old)
             (parts_of apdu.now))) (view_of B.state B.named B.room B.standing bank.old) self.old bank.old
-            (placed result reply.new) (view_of B.state B.named B.room B.standing bank.new) self.new bank.new }
+            (ruling_or_stop result reply.new) (view_of B.state B.named B.room B.standing bank.new) self.new bank.new }
         ensures rises { steps.old ≤ steps.new }
         ensures ticks { steps.new ≤ steps.old + cond (apdu.now.ins == 0x12) (B.state bank.old).ticks 0 }
     {
@@ -223,7 +223,7 @@ impl Manager {
     // A command for the selected application.
     fn pass(&self, reply: &mut Reply) -> Ruling
         ensures { (v : BankView) → (s : List ℕ)
-            → CommandLeaves (due_application (selected_of s self.now)) s v self.now (ruled result reply.new)
+            → CommandLeaves (due_application (selected_of s self.now)) s v self.now (ruling_with_reply result reply.new)
             v self.now }
     {
         match &self.selected {
@@ -241,7 +241,7 @@ impl Manager {
         requires fits { ManagerFits (view_of B.state B.named B.room B.standing bank.now) self.old }
         ensures { CommandEnds B.did (λ s. due_select
             (select (B.state bank.now).apps (seat_of (B.standing bank.now) s self.old) (parts_of apdu.now)))
-            (view_of B.state B.named B.room B.standing bank.now) self.old bank.now (Ok (ruled result reply.new))
+            (view_of B.state B.named B.room B.standing bank.now) self.old bank.now (Ok (ruling_with_reply result reply.new))
             (view_of B.state B.named B.room B.standing bank.now) self.new bank.now }
     {
         let selection = match selection(bank, apdu) {
@@ -270,7 +270,7 @@ impl Manager {
         ensures ends { CommandEnds B.did (λ s. due_manager
             (open_load (B.room bank.now) (B.state bank.now).apps (seat_of (B.standing bank.now) s self.old)
             (parts_of apdu.now))) (view_of B.state B.named B.room B.standing bank.now) self.old bank.now
-            (Ok (ruled result reply.new)) (view_of B.state B.named B.room B.standing bank.now) self.new bank.now }
+            (Ok (ruling_with_reply result reply.new)) (view_of B.state B.named B.room B.standing bank.now) self.new bank.now }
         ensures rises { steps.old ≤ steps.new }
         ensures ticks { steps.new ≤ steps.old + (B.state bank.now).ticks }
     {
@@ -299,7 +299,7 @@ impl Manager {
         requires fits { ManagerFits (view_of B.state B.named B.room B.standing bank.old) self.old }
         ensures { CommandEnds B.did (λ s. due_manager
             (load_part part (seat_of (B.standing bank.old) s self.old) (parts_of apdu.now)))
-            (view_of B.state B.named B.room B.standing bank.old) self.old bank.old (placed result reply.new)
+            (view_of B.state B.named B.room B.standing bank.old) self.old bank.old (ruling_or_stop result reply.new)
             (view_of B.state B.named B.room B.standing bank.new) self.new bank.new }
     {
         if let Some(refusal) = load_refusal(&self.load, part, apdu) {
@@ -326,7 +326,7 @@ impl Manager {
         requires fits { ManagerFits (view_of B.state B.named B.room B.standing bank.old) self.old }
         ensures { CommandEnds B.did (λ s. due_manager
             (create (B.state bank.old).apps (seat_of (B.standing bank.old) s self.old) (parts_of apdu.now)))
-            (view_of B.state B.named B.room B.standing bank.old) self.old bank.old (placed result reply.new)
+            (view_of B.state B.named B.room B.standing bank.old) self.old bank.old (ruling_or_stop result reply.new)
             (view_of B.state B.named B.room B.standing bank.new) self.new bank.new }
     {
         let aid = match creation(&self.load, bank, apdu) {
@@ -357,7 +357,7 @@ impl Manager {
         requires fits { ManagerFits (view_of B.state B.named B.room B.standing bank.old) self.old }
         ensures { CommandEnds B.did (λ s. due_manager
             (delete (B.state bank.old).apps (seat_of (B.standing bank.old) s self.old) (parts_of apdu.now)))
-            (view_of B.state B.named B.room B.standing bank.old) self.old bank.old (placed result reply.new)
+            (view_of B.state B.named B.room B.standing bank.old) self.old bank.old (ruling_or_stop result reply.new)
             (view_of B.state B.named B.room B.standing bank.new) self.new bank.new }
     {
         let slot = match deletion(&self.selected, bank, apdu) {

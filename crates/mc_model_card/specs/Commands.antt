@@ -4,7 +4,7 @@ use Rattle.mc_model_machine.specs.Apdu.{ApduParts}
 use Rattle.mc_model_device.specs.Card.{Card}
 use Rattle.mc_model_device.specs.Layout.{step_of}
 use Rattle.mc_model_machine.specs.Chain.{Outcome, Reply, Turn, Ran, run}
-use Rattle.mc_model_card.specs.Items.{Change, Item, Plain, Atomic, changed, BankItem, Piece, Blank, Note, Commit, Enter, Remove, write_items}
+use Rattle.mc_model_card.specs.Items.{Change, Item, Plain, Atomic, apps_after_change, BankItem, Piece, Blank, Note, Commit, Enter, Remove, write_items}
 use Rattle.mc_model_card.specs.Manager.{Selected, Seat, Route, WrongLength, WrongClass, ToSelect, ToManager, ToApplication, route, Managed, Declines, Accepts, select, manage, room_on}
 
 -- what a command does if nothing stops it: its items, its outcome, the session state after it, the pairs of its delegations, and its
@@ -21,8 +21,8 @@ abbrev pub status : ℕ → Outcome
 status sw = Reply [] sw
 
 -- a command that is refused with a status, and changes nothing
-abbrev pub refused : Seat → ℕ → Command
-refused seat sw = record { items = []; outcome = status sw; seat = seat; pairs = []; turns = [] }
+abbrev pub refusal : Seat → ℕ → Command
+refusal seat sw = record { items = []; outcome = status sw; seat = seat; pairs = []; turns = [] }
 
 -- an item of the bank without its contents; `whole` is the creation or the deletion
 abbrev pub item_of : Item → BankItem → Item
@@ -36,12 +36,12 @@ item_of whole (Commit n ws) = Plain
 -- a creation or deletion, as the atomic write of the header words that it changes
 abbrev pub atomic_of : Card → Option Change → Item
 atomic_of c None = Plain
-atomic_of c (Some ch) = Atomic (length (step_of c (record c { apps = changed ch c.apps }))) ch
+atomic_of c (Some ch) = Atomic (length (step_of c (record c { apps = apps_after_change ch c.apps }))) ch
 
 -- the manager's answer as a command
-abbrev pub managed : Card → Seat → Managed → Command
-managed c seat (Declines sw) = refused seat sw
-managed c seat (Accepts a) =
+abbrev pub manager_command : Card → Seat → Managed → Command
+manager_command c seat (Declines sw) = refusal seat sw
+manager_command c seat (Accepts a) =
     record { items = map (item_of (atomic_of c a.change)) a.items; outcome = Reply a.body 0x9000; seat = a.seat; pairs = []; turns = [] }
 
 -- a run as a command: its session bytes stay with the selection
@@ -56,17 +56,17 @@ ran_command seat n r =
     }
 
 -- a command for the selected application: 6985 if none is selected
-abbrev pub passed : Card → Seat → Option Selected → ApduParts → ℕ → Command
-passed c seat None a budget = refused seat 0x6985
-passed c seat (Some s) a budget = ran_command seat s.name (run c.apps s.name s.session a budget)
+abbrev pub application_command : Card → Seat → Option Selected → ApduParts → ℕ → Command
+application_command c seat None a budget = refusal seat 0x6985
+application_command c seat (Some s) a budget = ran_command seat s.name (run c.apps s.name s.session a budget)
 
 -- a command by its route
 abbrev pub by_route : Card → Seat → ℕ → Route → Command
-by_route c seat budget WrongLength = refused seat 0x6700
-by_route c seat budget WrongClass = refused seat 0x6E00
-by_route c seat budget (ToSelect a) = managed c seat (select c.apps seat a)
-by_route c seat budget (ToManager a) = managed c seat (manage (room_on c) c.apps seat a)
-by_route c seat budget (ToApplication a) = passed c seat seat.selected a budget
+by_route c seat budget WrongLength = refusal seat 0x6700
+by_route c seat budget WrongClass = refusal seat 0x6E00
+by_route c seat budget (ToSelect a) = manager_command c seat (select c.apps seat a)
+by_route c seat budget (ToManager a) = manager_command c seat (manage (room_on c) c.apps seat a)
+by_route c seat budget (ToApplication a) = application_command c seat seat.selected a budget
 
 -- one command on a running card
 unfoldable pub command : Card → Seat → List ℕ → ℕ → Command

@@ -37,20 +37,20 @@ write_items ws = map (λ w. Atomic w.words (Fixed w.name w.pieces)) ws
 -- ---- the applications after items
 
 -- the applications after a change
-abbrev pub changed : Change → List (List ℕ × App) → List (List ℕ × App)
-changed (Fixed n ps) map = map_changed map n (Some ps)
-changed (Created n a) map = insert map n a
-changed (Deleted n) map = remove map n
+abbrev pub apps_after_change : Change → List (List ℕ × App) → List (List ℕ × App)
+apps_after_change (Fixed n ps) map = map_changed map n (Some ps)
+apps_after_change (Created n a) map = insert map n a
+apps_after_change (Deleted n) map = remove map n
 
 -- the applications after items that are whole
-abbrev pub done : List (List ℕ × App) → List Item → List (List ℕ × App)
-done map [] = map
-done map (Plain ∷ is) = done map is
-done map (Atomic w c ∷ is) = done (changed c map) is
+abbrev pub apps_after_items : List (List ℕ × App) → List Item → List (List ℕ × App)
+apps_after_items map [] = map
+apps_after_items map (Plain ∷ is) = apps_after_items map is
+apps_after_items map (Atomic w c ∷ is) = apps_after_items (apps_after_change c map) is
 
 -- the card after items that are whole
 abbrev pub card_done : Card → List Item → Card
-card_done card is = record card { apps = done card.apps is }
+card_done card is = record card { apps = apps_after_items card.apps is }
 
 -- ---- stops
 

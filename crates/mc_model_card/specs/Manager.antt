@@ -9,7 +9,7 @@ use Rattle.mc_model_device.specs.Limits.{most_code, most_static, most_session, m
 use Rattle.mc_model_device.specs.Bytes.{be2, zeros, lookup}
 use Rattle.mc_model_machine.specs.Apdu.{ApduParts, apdu_read}
 use Rattle.mc_model_card.specs.Units.{name_of}
-use Rattle.mc_model_device.specs.Card.{App, Card, needed_of}
+use Rattle.mc_model_device.specs.Card.{App, Card, words_of_lengths}
 use Rattle.mc_model_device.specs.Layout.{gaps, first_fitting}
 use Rattle.mc_model_card.specs.Items.{Change, Created, Deleted, Site, BankItem, Piece, Blank, Note, Enter, Remove}
 
@@ -52,16 +52,16 @@ pub data Route : Type 0 where
   ToApplication : (apdu : ApduParts) → Route
 
 -- the route of a command APDU, or of bytes that are none
-abbrev pub routed : Option ApduParts → Route
-routed None = WrongLength
-routed (Some a) =
+abbrev pub route_of_parts : Option ApduParts → Route
+route_of_parts None = WrongLength
+route_of_parts (Some a) =
     cond (a.cla == 0xFF) WrongClass (
     cond (a.cla == 0 && a.ins == 0xA4 && a.p1 == 4) (ToSelect a) (cond (a.cla == 0xBE) (ToManager a) (ToApplication a))
     )
 
 -- the route of the bytes of a command
 abbrev pub route : List ℕ → Route
-route bytes = routed (apdu_read bytes)
+route bytes = route_of_parts (apdu_read bytes)
 
 -- ---- answers
 
@@ -83,9 +83,9 @@ first_status [] = None
 first_status (c ∷ cs) = cond c.1 (Some c.0) (first_status cs)
 
 -- the answer to a command, by its first refusal
-abbrev pub answered : Option ℕ → Accepted → Managed
-answered (Some sw) a = Declines sw
-answered None a = Accepts a
+abbrev pub answer_unless : Option ℕ → Accepted → Managed
+answer_unless (Some sw) a = Declines sw
+answer_unless None a = Accepts a
 
 -- P1 and P2 as one number
 abbrev pub p1p2 : ApduParts → ℕ
@@ -119,7 +119,7 @@ select_done seat a (Some app) =
 
 -- SELECT
 abbrev pub select : List (List ℕ × App) → Seat → ApduParts → Managed
-select map seat a = answered (first_status (select_refusals map a)) (select_done seat a (lookup map a.body))
+select map seat a = answer_unless (first_status (select_refusals map a)) (select_done seat a (lookup map a.body))
 
 -- ---- OPEN (BE 12): 6A86, 6700, 6A80, 6A84
 
@@ -162,7 +162,7 @@ open_done room seat a =
 
 -- OPEN
 abbrev pub open_load : (Sizes → Option ℕ) → List (List ℕ × App) → Seat → ApduParts → Managed
-open_load room map seat a = answered (first_status (open_refusals room map a)) (open_done room seat a)
+open_load room map seat a = answer_unless (first_status (open_refusals room map a)) (open_done room seat a)
 
 -- ---- LOAD (BE 24 code, BE 26 data, BE 20 DIR, BE 22 FCI): 6700, 6985, 6A80
 
@@ -218,7 +218,7 @@ load_done seat (Some o) p a =
 
 -- LOAD for a section
 abbrev pub load_part : Part → Seat → ApduParts → Managed
-load_part p seat a = answered (first_status (load_refusals seat.load p a)) (load_done seat seat.load p a)
+load_part p seat a = answer_unless (first_status (load_refusals seat.load p a)) (load_done seat seat.load p a)
 
 -- ---- CREATE (BE 16): 6A86, 6700, 6985, 6A80, 6A89
 
@@ -277,7 +277,7 @@ create_done seat (Some o) (Ok n) =
 
 -- CREATE
 abbrev pub create : List (List ℕ × App) → Seat → ApduParts → Managed
-create map seat a = answered (first_status (create_refusals map seat.load a)) (create_done seat seat.load (name_of (dir_in seat.load)))
+create map seat a = answer_unless (first_status (create_refusals map seat.load a)) (create_done seat seat.load (name_of (dir_in seat.load)))
 
 -- ---- DELETE (BE 18): 6A86, 6700, 6A82, 6985
 
@@ -297,7 +297,7 @@ delete_done seat a = record { body = []; seat = record seat { load = None }; ite
 
 -- DELETE
 abbrev pub delete : List (List ℕ × App) → Seat → ApduParts → Managed
-delete map seat a = answered (first_status (delete_refusals map seat a)) (delete_done seat a)
+delete map seat a = answer_unless (first_status (delete_refusals map seat a)) (delete_done seat a)
 
 -- ---- the table
 
@@ -318,4 +318,4 @@ manage room map seat a =
 
 -- the place at which a load has room on a card of words: the first gap that is long enough
 abbrev pub room_on : Card → Sizes → Option ℕ
-room_on card s = first_fitting (needed_of s.code s.fixed s.dir s.fci) (gaps card)
+room_on card s = first_fitting (words_of_lengths s.code s.fixed s.dir s.fci) (gaps card)

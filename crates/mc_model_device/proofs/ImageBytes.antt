@@ -7,15 +7,15 @@ use Rattle.std.proofs.lemmas.Bool.{cases_lt}
 use Rattle.std.proofs.lemmas.Bool.Decides.{eqb_tells}
 use Rattle.mc_model_device.specs.Bytes.{AreBytes}
 use Rattle.mc_model_device.specs.Device.{IsImage}
-use Rattle.mc_model_device.specs.Image.{Journal, Which, Both, Only, Neither, gate, shut, word_at, Look, Refused, Closed, Pending, look, look_at, look_j, which, replayed, after, laid}
+use Rattle.mc_model_device.specs.Image.{Journal, Which, Both, Only, Neither, gate, shut_word, word_at, Look, Refused, Closed, Pending, look, look_at, look_j, which, image_after_replay, after, image_with}
 use Rattle.mc_model_device.specs.Card.{words_after}
-use Rattle.mc_model_device.proofs.ImageLemmas.{all-append}
-use Rattle.mc_model_device.proofs.LookLemmas.{IsFull, good-pending}
+use Rattle.mc_model_device.proofs.ImageLemmas.{all_append}
+use Rattle.mc_model_device.proofs.LookLemmas.{IsFull, good_pending}
 
 -- ---- words set
 
-pub image-set : (m : List (List ℕ)) (k : ℕ) (x : List ℕ) → IsImage m → IsFull x → IsImage (slice_set m k x)
-image-set m k x image full =
+pub image_set : (m : List (List ℕ)) (k : ℕ) (x : List ℕ) → IsImage m → IsFull x → IsImage (slice_set m k x)
+image_set m k x image full =
     let size : length (slice_set m k x) ≡ length m = length-set m k x in
     record {
       low = subst (λ (n : ℕ). 256 ≤ n) (sym size) image.low;
@@ -36,25 +36,25 @@ image-set m k x image full =
           ];
     }
 
-pub image-laid : (m : List (List ℕ)) (ps : List (ℕ × List ℕ)) → IsImage m → AllByRecursion (λ p. IsFull p.1) ps → IsImage (laid m ps)
-image-laid m [] image a = image
-image-laid m (p ∷ ps) image a = image-laid (slice_set m p.0 p.1) ps (image-set m p.0 p.1 image a.0) a.1
+pub image_laid : (m : List (List ℕ)) (ps : List (ℕ × List ℕ)) → IsImage m → AllByRecursion (λ p. IsFull p.1) ps → IsImage (image_with m ps)
+image_laid m [] image a = image
+image_laid m (p ∷ ps) image a = image_laid (slice_set m p.0 p.1) ps (image_set m p.0 p.1 image a.0) a.1
 
 -- ---- after the replay
 
-pub shut-full : IsFull shut
-shut-full = (refl, (omega arith, (omega arith, (omega arith, (omega arith, (omega arith, (omega arith, (omega arith, (omega arith, tt)))))))))
+pub shut_full : IsFull shut_word
+shut_full = (refl, (omega arith, (omega arith, (omega arith, (omega arith, (omega arith, (omega arith, (omega arith, (omega arith, tt)))))))))
 
-replayed-by : (m : List (List ℕ)) (l : Look) → IsImage m → ((j : Journal) (ps : List (ℕ × List ℕ)) → l ≡ Pending j ps → AllByRecursion (λ p. IsFull p.1) ps) → IsImage (words_after (replayed m l) m)
-replayed-by m (Refused p) image h = image
-replayed-by m Closed image h = image
-replayed-by m (Pending j ps) image h = image-laid m (ps ++ (gate j, shut) ∷ []) image (all-append (λ p. IsFull p.1) ps ((gate j, shut) ∷ []) (h j ps refl) (shut-full, tt))
+replayed_by : (m : List (List ℕ)) (l : Look) → IsImage m → ((j : Journal) (ps : List (ℕ × List ℕ)) → l ≡ Pending j ps → AllByRecursion (λ p. IsFull p.1) ps) → IsImage (words_after (image_after_replay m l) m)
+replayed_by m (Refused p) image h = image
+replayed_by m Closed image h = image
+replayed_by m (Pending j ps) image h = image_laid m (ps ++ (gate j, shut_word) ∷ []) image (all_append (λ p. IsFull p.1) ps ((gate j, shut_word) ∷ []) (h j ps refl) (shut_full, tt))
 
-looked-full : (m : List (List ℕ)) (w : Which) (j : Journal) (ps : List (ℕ × List ℕ)) → IsImage m → look_at m w ≡ Pending j ps → AllByRecursion (λ p. IsFull p.1) ps
-looked-full m Both j ps image h = absurd (cc h)
-looked-full m (Only k) j ps image h = (good-pending k j m ps h).full image
-looked-full m Neither j ps image h = absurd (cc h)
+looked_full : (m : List (List ℕ)) (w : Which) (j : Journal) (ps : List (ℕ × List ℕ)) → IsImage m → look_at m w ≡ Pending j ps → AllByRecursion (λ p. IsFull p.1) ps
+looked_full m Both j ps image h = absurd (cc h)
+looked_full m (Only k) j ps image h = (good_pending k j m ps h).full image
+looked_full m Neither j ps image h = absurd (cc h)
 
 -- the words once the journal that is open, if one is, is replayed
-pub image-settled : (m : List (List ℕ)) → IsImage m → IsImage (words_after (after m) m)
-image-settled m image = replayed-by m (look m) image (λ j ps e. looked-full m (which m) j ps image e)
+pub image_settled : (m : List (List ℕ)) → IsImage m → IsImage (words_after (after m) m)
+image_settled m image = replayed_by m (look m) image (λ j ps e. looked_full m (which m) j ps image e)

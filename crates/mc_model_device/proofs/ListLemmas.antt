@@ -10,27 +10,27 @@ use Rattle.mc_model_device.specs.Bytes.{AreBytes, zeros, bytes2, bytes, splice}
 -- ---- bytes spliced in
 
 -- bytes written within a list keep its length
-pub length-splice : (l : List ℕ) (at : ℕ) (b : List ℕ) → at + length b ≤ length l → length (splice l at b) ≡ length l
-length-splice l at b fits =
+pub length_splice : (l : List ℕ) (at : ℕ) (b : List ℕ) → at + length b ≤ length l → length (splice l at b) ≡ length l
+length_splice l at b fits =
     omega (arith, length-append (take at l ++ b) (drop (at + length b) l), length-append (take at l) b, length-take at l, length-drop (at + length b) l)
 
 -- bytes written never make a list shorter
-pub splice-longer : (l : List ℕ) (at : ℕ) (b : List ℕ) → length l ≤ length (splice l at b)
-splice-longer l at b =
+pub splice_longer : (l : List ℕ) (at : ℕ) (b : List ℕ) → length l ≤ length (splice l at b)
+splice_longer l at b =
     omega (arith, length-append (take at l ++ b) (drop (at + length b) l), length-append (take at l) b, length-take at l, length-drop (at + length b) l)
 
 -- no bytes written change nothing
-pub splice-none : (l : List ℕ) (at : ℕ) → splice l at [] ≡ l
-splice-none l at =
+pub splice_none : (l : List ℕ) (at : ℕ) → splice l at [] ≡ l
+splice_none l at =
     let same : at + 0 ≡ at = omega arith in
     ap (λ (x : List ℕ). x ++ drop (at + 0) l) (append-nil (take at l)) ∙ ap (λ (n : ℕ). take at l ++ drop n l) same ∙ take-append-drop at l
 
 -- ---- lists
 
 -- a list whose elements are changed one by one
-pub length-map : {A B : Type 0} (f : A → B) (xs : List A) → length (map f xs) ≡ length xs
-length-map f [] = refl
-length-map f (x ∷ xs) = ap suc (length-map f xs)
+pub length_map : {A B : Type 0} (f : A → B) (xs : List A) → length (map f xs) ≡ length xs
+length_map f [] = refl
+length_map f (x ∷ xs) = ap suc (length_map f xs)
 
 -- a list of no elements has nothing after its first n
 pub drop_none : (n : ℕ) → drop {A = ℕ} n [] ≡ []
@@ -45,18 +45,18 @@ some_bytes (x ∷ xs) none = omega arith
 -- ---- bytes of numbers
 
 -- a number below 65,536 by its two bytes
-pub two-bytes : (n : ℕ) → n < 65536 → 256 * (n / 256 % 256) + n % 256 ≡ n
-two-bytes n h = omega arith
+pub two_bytes : (n : ℕ) → n < 65536 → 256 * (n / 256 % 256) + n % 256 ≡ n
+two_bytes n h = omega arith
 
-pub pair-bytes : (n : ℕ) → AreBytes (bytes2 n)
-pair-bytes n = (omega arith, (omega arith, tt))
+pub pair_bytes : (n : ℕ) → AreBytes (bytes2 n)
+pair_bytes n = (omega arith, (omega arith, tt))
 
-pub length-bytes : (n v : ℕ) → length (bytes n v) ≡ n
-length-bytes zero v = refl
-length-bytes (suc n) v = ap suc (length-bytes n v)
+pub length_bytes : (n v : ℕ) → length (bytes n v) ≡ n
+length_bytes zero v = refl
+length_bytes (suc n) v = ap suc (length_bytes n v)
 
-pub zeros-short : (n : ℕ) → length (zeros n) ≤ n
-zeros-short n = omega (arith, length-replicate {A = ℕ} n 0)
+pub zeros_short : (n : ℕ) → length (zeros n) ≤ n
+zeros_short n = omega (arith, length-replicate {A = ℕ} n 0)
 
 -- elements that fit a byte each are bytes
 pub all_bytes : (l : List ℕ) → ((i : ℕ) → Fits w8 (get_or l i 0)) → AreBytes l

@@ -50,51 +50,51 @@ apart K a b x p q = false_from_ne_true (bytes_eq a b) (λ e. two_names K a b x p
 
 module _ {A : Type 0} where
   -- an entry of this name, and one of another
-  pub lookup-here : (e : List ℕ × A) (es : List (List ℕ × A)) (n : List ℕ) → bytes_eq e.0 n ≡ true → lookup (e ∷ es) n ≡ Some e.1
-  lookup-here e es n h = ap (λ b. cond b (Some e.1) (lookup es n)) h
+  pub lookup_here : (e : List ℕ × A) (es : List (List ℕ × A)) (n : List ℕ) → bytes_eq e.0 n ≡ true → lookup (e ∷ es) n ≡ Some e.1
+  lookup_here e es n h = ap (λ b. cond b (Some e.1) (lookup es n)) h
 
-  pub lookup-there : (e : List ℕ × A) (es : List (List ℕ × A)) (n : List ℕ) → bytes_eq e.0 n ≡ false → lookup (e ∷ es) n ≡ lookup es n
-  lookup-there e es n h = ap (λ b. cond b (Some e.1) (lookup es n)) h
+  pub lookup_there : (e : List ℕ × A) (es : List (List ℕ × A)) (n : List ℕ) → bytes_eq e.0 n ≡ false → lookup (e ∷ es) n ≡ lookup es n
+  lookup_there e es n h = ap (λ b. cond b (Some e.1) (lookup es n)) h
 
   -- ---- insertion
 
   -- the first entry, by the two tests of an insertion
-  pub insert-here : (e : List ℕ × A) (es : List (List ℕ × A)) (n : List ℕ) (a : A) → bytes_eq e.0 n ≡ true → insert (e ∷ es) n a ≡ (n, a) ∷ es
-  insert-here e es n a h = ap (λ b. cond b ((n, a) ∷ es) (cond (name_before n e.0) ((n, a) ∷ e ∷ es) (e ∷ insert es n a))) h
+  pub insert_here : (e : List ℕ × A) (es : List (List ℕ × A)) (n : List ℕ) (a : A) → bytes_eq e.0 n ≡ true → insert (e ∷ es) n a ≡ (n, a) ∷ es
+  insert_here e es n a h = ap (λ b. cond b ((n, a) ∷ es) (cond (name_before n e.0) ((n, a) ∷ e ∷ es) (e ∷ insert es n a))) h
 
-  pub insert-before : (e : List ℕ × A) (es : List (List ℕ × A)) (n : List ℕ) (a : A) → bytes_eq e.0 n ≡ false → name_before n e.0 ≡ true → insert (e ∷ es) n a ≡ (n, a) ∷ e ∷ es
-  insert-before e es n a h k =
+  pub insert_before : (e : List ℕ × A) (es : List (List ℕ × A)) (n : List ℕ) (a : A) → bytes_eq e.0 n ≡ false → name_before n e.0 ≡ true → insert (e ∷ es) n a ≡ (n, a) ∷ e ∷ es
+  insert_before e es n a h k =
       ap (λ b. cond b ((n, a) ∷ es) (cond (name_before n e.0) ((n, a) ∷ e ∷ es) (e ∷ insert es n a))) h ∙ ap (λ b. cond b ((n, a) ∷ e ∷ es) (e ∷ insert es n a)) k
 
-  pub insert-behind : (e : List ℕ × A) (es : List (List ℕ × A)) (n : List ℕ) (a : A) → bytes_eq e.0 n ≡ false → name_before n e.0 ≡ false → insert (e ∷ es) n a ≡ e ∷ insert es n a
-  insert-behind e es n a h k =
+  pub insert_behind : (e : List ℕ × A) (es : List (List ℕ × A)) (n : List ℕ) (a : A) → bytes_eq e.0 n ≡ false → name_before n e.0 ≡ false → insert (e ∷ es) n a ≡ e ∷ insert es n a
+  insert_behind e es n a h k =
       ap (λ b. cond b ((n, a) ∷ es) (cond (name_before n e.0) ((n, a) ∷ e ∷ es) (e ∷ insert es n a))) h ∙ ap (λ b. cond b ((n, a) ∷ e ∷ es) (e ∷ insert es n a)) k
 
-  pub lookup-inserted : (es : List (List ℕ × A)) (n : List ℕ) (a : A) → lookup (insert es n a) n ≡ Some a
-  lookup-inserted [] n a = grind (arith, name_is_itself n)
-  lookup-inserted (e ∷ es) n a = grind (arith, name_is_itself n, lookup-inserted es n a)
+  pub lookup_inserted_lem : (es : List (List ℕ × A)) (n : List ℕ) (a : A) → lookup (insert es n a) n ≡ Some a
+  lookup_inserted_lem [] n a = grind (arith, name_is_itself n)
+  lookup_inserted_lem (e ∷ es) n a = grind (arith, name_is_itself n, lookup_inserted_lem es n a)
 
-  pub lookup-beside : (es : List (List ℕ × A)) (n : List ℕ) (a : A) (k : List ℕ) → bytes_eq n k ≡ false → lookup (insert es n a) k ≡ lookup es k
-  lookup-beside [] n a k p = grind (arith, p)
-  lookup-beside (e ∷ es) n a k p = grind (arith, p, same_name e.0 n, lookup-beside es n a k p)
+  pub lookup_beside : (es : List (List ℕ × A)) (n : List ℕ) (a : A) (k : List ℕ) → bytes_eq n k ≡ false → lookup (insert es n a) k ≡ lookup es k
+  lookup_beside [] n a k p = grind (arith, p)
+  lookup_beside (e ∷ es) n a k p = grind (arith, p, same_name e.0 n, lookup_beside es n a k p)
 
   -- a second insertion under a name takes the place of the first
-  pub insert-twice : (es : List (List ℕ × A)) (n : List ℕ) (a b : A) → insert (insert es n a) n b ≡ insert es n b
-  insert-twice [] n a b = grind (arith, name_is_itself n)
-  insert-twice (e ∷ es) n a b = grind (arith, name_is_itself n, insert-twice es n a b)
+  pub insert_twice : (es : List (List ℕ × A)) (n : List ℕ) (a b : A) → insert (insert es n a) n b ≡ insert es n b
+  insert_twice [] n a b = grind (arith, name_is_itself n)
+  insert_twice (e ∷ es) n a b = grind (arith, name_is_itself n, insert_twice es n a b)
 
-  pub length-inserted : (es : List (List ℕ × A)) (n : List ℕ) (a : A) → lookup es n ≡ None → length (insert es n a) ≡ suc (length es)
-  length-inserted [] n a h = refl
-  length-inserted (e ∷ es) n a h = grind (arith, h, length-inserted es n a)
+  pub length_inserted : (es : List (List ℕ × A)) (n : List ℕ) (a : A) → lookup es n ≡ None → length (insert es n a) ≡ suc (length es)
+  length_inserted [] n a h = refl
+  length_inserted (e ∷ es) n a h = grind (arith, h, length_inserted es n a)
 
-  pub length-same : (es : List (List ℕ × A)) (n : List ℕ) (a b : A) → length (insert es n a) ≡ length (insert es n b)
-  length-same [] n a b = refl
-  length-same (e ∷ es) n a b = grind (arith, length-same es n a b)
+  pub length_same : (es : List (List ℕ × A)) (n : List ℕ) (a b : A) → length (insert es n a) ≡ length (insert es n b)
+  length_same [] n a b = refl
+  length_same (e ∷ es) n a b = grind (arith, length_same es n a b)
 
   -- insertions under two names may change places
-  pub insert-swap : (es : List (List ℕ × A)) (n : List ℕ) (a : A) (m : List ℕ) (b : A) → bytes_eq n m ≡ false → insert (insert es n a) m b ≡ insert (insert es m b) n a
-  insert-swap [] n a m b p = grind (arith, p, other_way n m, not_after n m, not_after m n, one_before n m)
-  insert-swap (e ∷ es) n a m b p =
+  pub insert_swap : (es : List (List ℕ × A)) (n : List ℕ) (a : A) (m : List ℕ) (b : A) → bytes_eq n m ≡ false → insert (insert es n a) m b ≡ insert (insert es m b) n a
+  insert_swap [] n a m b p = grind (arith, p, other_way n m, not_after n m, not_after m n, one_before n m)
+  insert_swap (e ∷ es) n a m b p =
       grind (
         arith,
         p,
@@ -114,41 +114,41 @@ module _ {A : Type 0} where
         not_after m e.0,
         not_after e.0 n,
         not_after e.0 m,
-        insert-swap es n a m b p,
+        insert_swap es n a m b p,
       )
 
   -- ---- removal
 
-  pub lookup-removed : (es : List (List ℕ × A)) (n : List ℕ) → lookup (remove es n) n ≡ None
-  lookup-removed [] n = refl
-  lookup-removed (e ∷ es) n = by_test (bytes_eq e.0 n) refl (lookup-removed es n)
+  pub lookup_removed_lem : (es : List (List ℕ × A)) (n : List ℕ) → lookup (remove es n) n ≡ None
+  lookup_removed_lem [] n = refl
+  lookup_removed_lem (e ∷ es) n = by_test (bytes_eq e.0 n) refl (lookup_removed_lem es n)
     where
       by_test : (x : Bool) → bytes_eq e.0 n ≡ x → lookup (remove es n) n ≡ None → lookup (cond x (remove es n) (e ∷ remove es n)) n ≡ None
       by_test true h r = r
-      by_test false h r = lookup-there e (remove es n) n h ∙ r
+      by_test false h r = lookup_there e (remove es n) n h ∙ r
 
-  pub lookup-left : (es : List (List ℕ × A)) (n k : List ℕ) → bytes_eq n k ≡ false → lookup (remove es n) k ≡ lookup es k
-  lookup-left [] n k p = refl
-  lookup-left (e ∷ es) n k p = by_test (bytes_eq e.0 n) refl (lookup-left es n k p)
+  pub lookup_left : (es : List (List ℕ × A)) (n k : List ℕ) → bytes_eq n k ≡ false → lookup (remove es n) k ≡ lookup es k
+  lookup_left [] n k p = refl
+  lookup_left (e ∷ es) n k p = by_test (bytes_eq e.0 n) refl (lookup_left es n k p)
     where
       by_test : (x : Bool) → bytes_eq e.0 n ≡ x → lookup (remove es n) k ≡ lookup es k → lookup (cond x (remove es n) (e ∷ remove es n)) k ≡ lookup (e ∷ es) k
-      by_test true h r = r ∙ sym (lookup-there e es k (subst (λ (m : List ℕ). bytes_eq m k ≡ false) (sym (same_name e.0 n h)) p))
+      by_test true h r = r ∙ sym (lookup_there e es k (subst (λ (m : List ℕ). bytes_eq m k ≡ false) (sym (same_name e.0 n h)) p))
       by_test false h r = ap (λ o. cond (bytes_eq e.0 k) (Some e.1) o) r
 
-  pub remove-none : (es : List (List ℕ × A)) (n : List ℕ) → lookup es n ≡ None → remove es n ≡ es
-  remove-none [] n h = refl
-  remove-none (e ∷ es) n h = grind (arith, h, remove-none es n)
+  pub remove_none : (es : List (List ℕ × A)) (n : List ℕ) → lookup es n ≡ None → remove es n ≡ es
+  remove_none [] n h = refl
+  remove_none (e ∷ es) n h = grind (arith, h, remove_none es n)
 
-  pub remove-inserted : (es : List (List ℕ × A)) (n : List ℕ) (a : A) → lookup es n ≡ None → remove (insert es n a) n ≡ es
-  remove-inserted [] n a h = grind (arith, name_is_itself n)
-  remove-inserted (e ∷ es) n a h = grind (arith, h, name_is_itself n, remove-none es n, remove-inserted es n a)
+  pub remove_inserted : (es : List (List ℕ × A)) (n : List ℕ) (a : A) → lookup es n ≡ None → remove (insert es n a) n ≡ es
+  remove_inserted [] n a h = grind (arith, name_is_itself n)
+  remove_inserted (e ∷ es) n a h = grind (arith, h, name_is_itself n, remove_none es n, remove_inserted es n a)
 
   -- ---- what holds of every entry
 
   -- what holds of all entries, holds of one that is found
-  pub each-found : (P : List ℕ × A → Type 0) (es : List (List ℕ × A)) (n : List ℕ) (a : A) → AllByRecursion P es → lookup es n ≡ Some a → P (n, a)
-  each-found P [] n a h e = absurd (cc e)
-  each-found P (f ∷ es) n a h e = by (bytes_eq f.0 n) refl e (λ k. each-found P es n a h.1 k)
+  pub each_found : (P : List ℕ × A → Type 0) (es : List (List ℕ × A)) (n : List ℕ) (a : A) → AllByRecursion P es → lookup es n ≡ Some a → P (n, a)
+  each_found P [] n a h e = absurd (cc e)
+  each_found P (f ∷ es) n a h e = by (bytes_eq f.0 n) refl e (λ k. each_found P es n a h.1 k)
     where
       by : (b : Bool) → bytes_eq f.0 n ≡ b → cond b (Some f.1) (lookup es n) ≡ Some a → (lookup es n ≡ Some a → P (n, a)) → P (n, a)
       by true is e rest =
@@ -157,18 +157,18 @@ module _ {A : Type 0} where
       by false is e rest = rest e
 
   -- an insertion keeps what holds of all entries
-  pub each-inserted : (P : List ℕ × A → Type 0) (es : List (List ℕ × A)) (n : List ℕ) (a : A) → P (n, a) → AllByRecursion P es → AllByRecursion P (insert es n a)
-  each-inserted P [] n a p h = (p, tt)
-  each-inserted P (e ∷ es) n a p h = by_tests (bytes_eq e.0 n) (name_before n e.0) (each-inserted P es n a p h.1)
+  pub each_inserted : (P : List ℕ × A → Type 0) (es : List (List ℕ × A)) (n : List ℕ) (a : A) → P (n, a) → AllByRecursion P es → AllByRecursion P (insert es n a)
+  each_inserted P [] n a p h = (p, tt)
+  each_inserted P (e ∷ es) n a p h = by_tests (bytes_eq e.0 n) (name_before n e.0) (each_inserted P es n a p h.1)
     where
       by_tests : (x y : Bool) → AllByRecursion P (insert es n a) → AllByRecursion P (cond x ((n, a) ∷ es) (cond y ((n, a) ∷ e ∷ es) (e ∷ insert es n a)))
       by_tests true y r = (p, h.1)
       by_tests false true r = (p, h)
       by_tests false false r = (h.0, r)
 
-  pub each-removed : (P : List ℕ × A → Type 0) (es : List (List ℕ × A)) (n : List ℕ) → AllByRecursion P es → AllByRecursion P (remove es n)
-  each-removed P [] n h = tt
-  each-removed P (e ∷ es) n h = by (bytes_eq e.0 n) (each-removed P es n h.1)
+  pub each_removed : (P : List ℕ × A → Type 0) (es : List (List ℕ × A)) (n : List ℕ) → AllByRecursion P es → AllByRecursion P (remove es n)
+  each_removed P [] n h = tt
+  each_removed P (e ∷ es) n h = by (bytes_eq e.0 n) (each_removed P es n h.1)
     where
       by : (b : Bool) → AllByRecursion P (remove es n) → AllByRecursion P (cond b (remove es n) (e ∷ remove es n))
       by true r = r
@@ -177,35 +177,35 @@ module _ {A : Type 0} where
   -- ---- ascending names
 
   -- what comes after an entry comes after what is before the entry
-  behind-all : (m n : List ℕ) (es : List (List ℕ × A)) → name_before m n ≡ true → AllByRecursion (λ f. name_before n f.0 ≡ true) es → AllByRecursion (λ f. name_before m f.0 ≡ true) es
-  behind-all m n [] b h = tt
-  behind-all m n (e ∷ es) b h = (before_both m n e.0 b h.0, behind-all m n es b h.1)
+  behind_all : (m n : List ℕ) (es : List (List ℕ × A)) → name_before m n ≡ true → AllByRecursion (λ f. name_before n f.0 ≡ true) es → AllByRecursion (λ f. name_before m f.0 ≡ true) es
+  behind_all m n [] b h = tt
+  behind_all m n (e ∷ es) b h = (before_both m n e.0 b h.0, behind_all m n es b h.1)
 
-  pub ascending-inserted : (es : List (List ℕ × A)) (n : List ℕ) (a : A) → AscendByName es → AscendByName (insert es n a)
-  ascending-inserted [] n a h = (tt, tt)
-  ascending-inserted (e ∷ es) n a h = by_tests (bytes_eq e.0 n) (name_before n e.0) refl refl (ascending-inserted es n a h.1)
+  pub ascending_inserted : (es : List (List ℕ × A)) (n : List ℕ) (a : A) → AscendByName es → AscendByName (insert es n a)
+  ascending_inserted [] n a h = (tt, tt)
+  ascending_inserted (e ∷ es) n a h = by_tests (bytes_eq e.0 n) (name_before n e.0) refl refl (ascending_inserted es n a h.1)
     where
       by_tests : (x y : Bool) → bytes_eq e.0 n ≡ x → name_before n e.0 ≡ y → AscendByName (insert es n a) → AscendByName (cond x ((n, a) ∷ es) (cond y ((n, a) ∷ e ∷ es) (e ∷ insert es n a)))
       by_tests true y p q r = (subst (λ (m : List ℕ). AllByRecursion (λ f. name_before m f.0 ≡ true) es) (same_name e.0 n p) h.0, h.1)
-      by_tests false true p q r = ((q, behind-all n e.0 es q h.0), h)
-      by_tests false false p q r = (each-inserted (λ f. name_before e.0 f.0 ≡ true) es n a (one_before n e.0 (other_way e.0 n p) q) h.0, r)
+      by_tests false true p q r = ((q, behind_all n e.0 es q h.0), h)
+      by_tests false false p q r = (each_inserted (λ f. name_before e.0 f.0 ≡ true) es n a (one_before n e.0 (other_way e.0 n p) q) h.0, r)
 
-  pub ascending-removed : (es : List (List ℕ × A)) (n : List ℕ) → AscendByName es → AscendByName (remove es n)
-  ascending-removed [] n h = tt
-  ascending-removed (e ∷ es) n h = by (bytes_eq e.0 n) (ascending-removed es n h.1)
+  pub ascending_removed : (es : List (List ℕ × A)) (n : List ℕ) → AscendByName es → AscendByName (remove es n)
+  ascending_removed [] n h = tt
+  ascending_removed (e ∷ es) n h = by (bytes_eq e.0 n) (ascending_removed es n h.1)
     where
       by : (b : Bool) → AscendByName (remove es n) → AscendByName (cond b (remove es n) (e ∷ remove es n))
       by true r = r
-      by false r = (each-removed (λ f. name_before e.0 f.0 ≡ true) es n h.0, r)
+      by false r = (each_removed (λ f. name_before e.0 f.0 ≡ true) es n h.0, r)
 
   -- an insertion under a name that is there makes no entry more
-  pub length-again : (es : List (List ℕ × A)) (n : List ℕ) (a b : A) → AscendByName es → lookup es n ≡ Some a → length (insert es n b) ≡ length es
-  length-again [] n a b h e = absurd (cc e)
-  length-again (f ∷ es) n a b h e = by (bytes_eq f.0 n) e (λ k. length-again es n a b h.1 k)
+  pub length_again : (es : List (List ℕ × A)) (n : List ℕ) (a b : A) → AscendByName es → lookup es n ≡ Some a → length (insert es n b) ≡ length es
+  length_again [] n a b h e = absurd (cc e)
+  length_again (f ∷ es) n a b h e = by (bytes_eq f.0 n) e (λ k. length_again es n a b h.1 k)
     where
       by : (x : Bool) → cond x (Some f.1) (lookup es n) ≡ Some a → (lookup es n ≡ Some a → length (insert es n b) ≡ length es)
           → length (cond x ((n, b) ∷ es) (cond (name_before n f.0) ((n, b) ∷ f ∷ es) (f ∷ insert es n b))) ≡ suc (length es)
       by true e rest = refl
       by false e rest =
-          let before : name_before f.0 n ≡ true = each-found (λ g. name_before f.0 g.0 ≡ true) es n a h.0 e in
+          let before : name_before f.0 n ≡ true = each_found (λ g. name_before f.0 g.0 ≡ true) es n a h.0 e in
           ap (λ (y : Bool). length (cond y ((n, b) ∷ f ∷ es) (f ∷ insert es n b))) (not_after f.0 n before) ∙ ap suc (rest e)

@@ -3,26 +3,26 @@ use Rattle.std.proofs.Common.{◌≡◌, ℕ, ◌+◌, ◌*◌, ◌/◌, ◌<◌
 use Rattle.std.specs.Prelude.{IfSome, slice_index}
 use Rattle.std.proofs.lemmas.Bool.Decides.{nat_tests}
 use Rattle.mc_model_device.specs.Bytes.{splice}
-use Rattle.mc_model_device.specs.Pieces.{laid_pieces, touched, with_number, with_words, with_touched, pending_at, HoldPieces}
+use Rattle.mc_model_device.specs.Pieces.{laid_pieces, touched_words, with_number, with_words, with_touched, pending_at, HoldPieces}
 
 -- pieces that are laid after others
-pub laid-append : (l : List ℕ) (ps qs : List (ℕ × List ℕ)) → laid_pieces l (ps ++ qs) ≡ laid_pieces (laid_pieces l ps) qs
-laid-append l [] qs = refl
-laid-append l (p ∷ ps) qs = laid-append (splice l p.0 p.1) ps qs
+pub laid_append : (l : List ℕ) (ps qs : List (ℕ × List ℕ)) → laid_pieces l (ps ++ qs) ≡ laid_pieces (laid_pieces l ps) qs
+laid_append l [] qs = refl
+laid_append l (p ∷ ps) qs = laid_append (splice l p.0 p.1) ps qs
 
 -- the words that they touch
-pub with_touched-append : (ns : List ℕ) (ps qs : List (ℕ × List ℕ)) → with_touched ns (ps ++ qs) ≡ with_touched (with_touched ns ps) qs
-with_touched-append ns [] qs = refl
-with_touched-append ns (p ∷ ps) qs = with_touched-append (with_words p.0 p.1 ns) ps qs
+pub with_touched_append : (ns : List ℕ) (ps qs : List (ℕ × List ℕ)) → with_touched ns (ps ++ qs) ≡ with_touched (with_touched ns ps) qs
+with_touched_append ns [] qs = refl
+with_touched_append ns (p ∷ ps) qs = with_touched_append (with_words p.0 p.1 ns) ps qs
 
-pub touched-append : (ps qs : List (ℕ × List ℕ)) → touched (ps ++ qs) ≡ with_touched (touched ps) qs
-unfolding touched
-touched-append ps qs = with_touched-append [] ps qs
+pub touched_append : (ps qs : List (ℕ × List ℕ)) → touched_words (ps ++ qs) ≡ with_touched (touched_words ps) qs
+unfolding touched_words
+touched_append ps qs = with_touched_append [] ps qs
 
 -- no pieces touch no word, so few enough to be pending
-pub none-touched : length (touched []) ≤ 64
-unfolding touched
-none-touched = omega arith
+pub none_touched : length (touched_words []) ≤ 64
+unfolding touched_words
+none_touched = omega arith
 
 -- ---- the words of a piece's bytes
 
@@ -46,7 +46,7 @@ one_word n at (x ∷ b) ns some low high =
     ap (λ (m : ℕ). with_words (at + 1) b (with_number m ns)) here ∙ same_word n (at + 1) b ns (omega arith) (omega arith)
 
 -- words that hold pieces hold others that touch the same words and leave the same bytes
-pub held_same : (l : List ℕ) (ps qs ws : List (ℕ × List ℕ)) → touched ps ≡ touched qs → laid_pieces l ps ≡ laid_pieces l qs → HoldPieces l ps ws → HoldPieces l qs ws
+pub held_same : (l : List ℕ) (ps qs ws : List (ℕ × List ℕ)) → touched_words ps ≡ touched_words qs → laid_pieces l ps ≡ laid_pieces l qs → HoldPieces l ps ws → HoldPieces l qs ws
 held_same l ps qs ws words laid held = record {
   pending = held.pending;
   touched_words = held.touched_words ∙ words;

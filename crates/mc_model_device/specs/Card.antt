@@ -21,16 +21,16 @@ pub record Card : Type 0 where
   pub apps : List (List ℕ × App)
 
 -- an application with its block at another place
-abbrev pub placed : ℕ → App → App
-placed p a = record a { place = p }
+abbrev pub app_at_place : ℕ → App → App
+app_at_place p a = record a { place = p }
 
 -- the number of words of a block with sections of these lengths: header, record, and each section rounded up to whole words
-abbrev pub needed_of : ℕ → ℕ → ℕ → ℕ → ℕ
-needed_of code fixed dir fci = 5 + up code 8 + up fixed 8 + up dir 8 + up fci 8
+abbrev pub words_of_lengths : ℕ → ℕ → ℕ → ℕ → ℕ
+words_of_lengths code fixed dir fci = 5 + up code 8 + up fixed 8 + up dir 8 + up fci 8
 
 -- the number of words of an application's block
-abbrev pub needed : App → ℕ
-needed a = needed_of (length a.code) (length a.fixed) (length a.dir) (length a.fci)
+abbrev pub words_of_app : App → ℕ
+words_of_app a = words_of_lengths (length a.code) (length a.fixed) (length a.dir) (length a.fci)
 
 -- ---- blocks
 

@@ -139,13 +139,13 @@ pub record BenchState : Type 0 where
   pub steady : Bool
 
 -- a bench after one poke: the poke is counted, and the count of power-ups before it is kept
-abbrev pub poked_once : BenchState → BenchState
-poked_once b = record b { pokes = next_count b.pokes; poked = b.powers }
+abbrev pub bench_after_poke : BenchState → BenchState
+bench_after_poke b = record b { pokes = next_count b.pokes; poked = b.powers }
 
 -- a bench after k pokes
-abbrev pub poked_times : ℕ → BenchState → BenchState
-poked_times zero b = b
-poked_times (suc k) b = poked_times k (poked_once b)
+abbrev pub bench_after_pokes : ℕ → BenchState → BenchState
+bench_after_pokes zero b = b
+bench_after_pokes (suc k) b = bench_after_pokes k (bench_after_poke b)
 
 -- a fuse after one write: nearer by one, and spent if the write was its own
 abbrev pub nearer : ℕ → List ℕ → Option Fuse
@@ -153,9 +153,9 @@ nearer (suc (suc k)) fill = Some (record { writes = suc k; fill = fill })
 nearer _ fill = None
 
 -- a fuse after one write
-abbrev pub counted : Option Fuse → Option Fuse
-counted None = None
-counted (Some f) = nearer f.writes f.fill
+abbrev pub fuse_after_write : Option Fuse → Option Fuse
+fuse_after_write None = None
+fuse_after_write (Some f) = nearer f.writes f.fill
 
 -- the word that a fuse leaves in the next write, if it falls on it
 abbrev pub fill_at : ℕ → List ℕ → Option (List ℕ)
@@ -163,9 +163,9 @@ fill_at (suc zero) fill = Some fill
 fill_at _ fill = None
 
 -- the word that the next write leaves, if a fuse falls on it
-abbrev pub falling : Option Fuse → Option (List ℕ)
-falling None = None
-falling (Some f) = fill_at f.writes f.fill
+abbrev pub next_fill : Option Fuse → Option (List ℕ)
+next_fill None = None
+next_fill (Some f) = fill_at f.writes f.fill
 
 -- what the fuses do to the next write: power goes during it, it fails, or neither
 pub data Due : Type 0 where
@@ -195,11 +195,11 @@ Counts d (Err Worn) e = (e.cuts ≡ d.cuts) × (e.faults ≡ next_count d.faults
 
 -- the bench after a write: both fuses are nearer by one, after a stop the wear fuse may be dropped, and nothing else changes
 abbrev pub Burns : BenchState → Answer → BenchState → Type 0
-Burns b (Ok u) c = c ≡ record b { cut = counted b.cut; worn = counted b.worn }
-Burns b (Err s) c = (c ≡ record b { cut = counted b.cut; worn = counted b.worn }) ⊎ (c ≡ record b { cut = counted b.cut; worn = None })
+Burns b (Ok u) c = c ≡ record b { cut = fuse_after_write b.cut; worn = fuse_after_write b.worn }
+Burns b (Err s) c = (c ≡ record b { cut = fuse_after_write b.cut; worn = fuse_after_write b.worn }) ⊎ (c ≡ record b { cut = fuse_after_write b.cut; worn = None })
 
 -- one write on a bench
 pub record BenchWrote (d : DeviceState) (b : BenchState) (at : ℕ) (a : Answer) (e : DeviceState) (c : BenchState) : Type 0 where
-  pub ends : NextWriteEnds (due (falling b.cut) (falling b.worn)) b.steady d at a e
+  pub ends : NextWriteEnds (due (next_fill b.cut) (next_fill b.worn)) b.steady d at a e
   pub counts : Counts d a e
   pub fuses : Burns b a c

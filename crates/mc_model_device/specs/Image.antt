@@ -27,8 +27,8 @@ opening One = codes "OPEN-1--"
 opening Two = codes "OPEN-2--"
 
 -- the word that shuts either gate
-abbrev pub shut : List ℕ
-shut = codes "SHUT----"
+abbrev pub shut_word : List ℕ
+shut_word = codes "SHUT----"
 
 -- the place of a journal's gate, the word that holds its commit record
 abbrev pub gate : Journal → ℕ
@@ -156,23 +156,23 @@ pub data Look : Type 0 where
   Pending : Journal → List (ℕ × List ℕ) → Look
 
 -- a look at a journal, from its targets
-abbrev pub aimed : Journal → List (List ℕ) → Result (List ℕ) ℕ → Look
-aimed j m (Ok ts) = Pending j (pairs j m 0 ts)
-aimed j m (Err p) = Refused p
+abbrev pub look_by_targets : Journal → List (List ℕ) → Result (List ℕ) ℕ → Look
+look_by_targets j m (Ok ts) = Pending j (pairs j m 0 ts)
+look_by_targets j m (Err p) = Refused p
 
 -- a look at a journal, from its head
-abbrev pub headed : Journal → List (List ℕ) → Option ℕ → Look
-headed j m None = Refused 2
-headed j m (Some w) = aimed j m (targets j m w)
+abbrev pub look_by_head : Journal → List (List ℕ) → Option ℕ → Look
+look_by_head j m None = Refused 2
+look_by_head j m (Some w) = look_by_targets j m (targets j m w)
 
 -- a look at a journal, from whether its gate is open
-abbrev pub opened : Journal → List (List ℕ) → Bool → Look
-opened j m false = Closed
-opened j m true = headed j m (count m)
+abbrev pub look_by_gate : Journal → List (List ℕ) → Bool → Look
+look_by_gate j m false = Closed
+look_by_gate j m true = look_by_head j m (count m)
 
 -- a look at one journal alone
 abbrev pub look_j : Journal → List (List ℕ) → Look
-look_j j m = opened j m (is_open j m)
+look_j j m = look_by_gate j m (is_open j m)
 
 -- a look at the journal that is open; no more than one may be
 abbrev pub look_at : List (List ℕ) → Which → Look
@@ -187,9 +187,9 @@ look m = look_at m (which m)
 -- ---- after the replay
 
 -- the words with the pairs written over them in order: if a place comes twice, the last counts
-abbrev pub laid : List (List ℕ) → List (ℕ × List ℕ) → List (List ℕ)
-laid m [] = m
-laid m (p ∷ ps) = laid (slice_set m p.0 p.1) ps
+abbrev pub image_with : List (List ℕ) → List (ℕ × List ℕ) → List (List ℕ)
+image_with m [] = m
+image_with m (p ∷ ps) = image_with (slice_set m p.0 p.1) ps
 
 -- an image after the replay, or the place of the word by which the journal is refused
 pub data After : Type 0 where
@@ -197,10 +197,10 @@ pub data After : Type 0 where
   Words : List (List ℕ) → After
 
 -- the words after the replay of what a look found: its pairs are written, its gate is shut
-abbrev pub replayed : List (List ℕ) → Look → After
-replayed m (Refused p) = NoWords p
-replayed m Closed = Words m
-replayed m (Pending j ps) = Words (laid m (ps ++ (gate j, shut) ∷ []))
+abbrev pub image_after_replay : List (List ℕ) → Look → After
+image_after_replay m (Refused p) = NoWords p
+image_after_replay m Closed = Words m
+image_after_replay m (Pending j ps) = Words (image_with m (ps ++ (gate j, shut_word) ∷ []))
 
 -- the number of writes that recovery still has to make after a look: its pairs, and the gate
 abbrev pub debt : Look → ℕ
@@ -210,15 +210,15 @@ debt (Pending j ps) = length ps + 1
 
 -- the image after the replay
 abbrev pub after : List (List ℕ) → After
-after m = replayed m (look m)
+after m = image_after_replay m (look m)
 
 -- the number of writes that recovery still has to make on an image
-abbrev pub owed : List (List ℕ) → ℕ
-owed m = debt (look m)
+abbrev pub count_of_recovery_writes : List (List ℕ) → ℕ
+count_of_recovery_writes m = debt (look m)
 
 -- an image after the replay of one journal alone
 abbrev pub after_j : Journal → List (List ℕ) → After
-after_j j m = replayed m (look_j j m)
+after_j j m = image_after_replay m (look_j j m)
 
 -- the number of writes that recovery of one journal alone still has to make
 abbrev pub owed_j : Journal → List (List ℕ) → ℕ

@@ -6,7 +6,7 @@ use Rattle.mc_model_device.specs.declared.cause.Cause.TheVariants.{BadJournal, N
 use Rattle.mc_model_device.specs.Limits.{most_code, most_static, most_session}
 use Rattle.mc_model_device.specs.Bytes.{be2, bytes2, zeros, has_name, or_else}
 use Rattle.mc_model_device.specs.Image.{Look, Refused, Closed, Pending, look, after}
-use Rattle.mc_model_device.specs.Card.{App, Card, Block, needed, needed_of, used_tag, hole_tag, word, header, blocks, heap_start, record_at, name_in, words_after}
+use Rattle.mc_model_device.specs.Card.{App, Card, Block, words_of_app, words_of_lengths, used_tag, hole_tag, word, header, blocks, heap_start, record_at, name_in, words_after}
 
 -- ---- places
 
@@ -18,7 +18,7 @@ put_at p x (e ∷ es) = cond (nat_lt p e.0) ((p, x) ∷ e ∷ es) (e ∷ put_at 
 -- the place and the number of words of each application's block, ascending
 abbrev pub spans_of : List (List ℕ × App) → List (ℕ × ℕ)
 spans_of [] = []
-spans_of (e ∷ es) = put_at (e.1).place (needed e.1) (spans_of es)
+spans_of (e ∷ es) = put_at (e.1).place (words_of_app e.1) (spans_of es)
 
 -- the place and the number of words of the block of each application of a card, ascending
 abbrev pub spans : Card → List (ℕ × ℕ)
@@ -62,9 +62,9 @@ abbrev pub root : ℕ → ℕ → ℕ → List ℕ
 root version size first = 0x4D ∷ 0x45 ∷ 0x4C ∷ version ∷ (bytes2 size ++ bytes2 first)
 
 -- the headers of the gaps, each with the place of the next
-abbrev pub chained : List (ℕ × ℕ) → List (ℕ × List ℕ)
-chained [] = []
-chained (g ∷ gs) = (g.0, hole_header g.1 (first_place gs)) ∷ chained gs
+abbrev pub gap_headers : List (ℕ × ℕ) → List (ℕ × List ℕ)
+gap_headers [] = []
+gap_headers (g ∷ gs) = (g.0, hole_header g.1 (first_place gs)) ∷ gap_headers gs
 
 -- the headers of the applications among those of the gaps
 abbrev pub with_used : List (ℕ × ℕ) → List (ℕ × List ℕ) → List (ℕ × List ℕ)
@@ -74,7 +74,7 @@ with_used (s ∷ ss) headers = put_at s.0 (used_header s.1) (with_used ss header
 -- the root and the header of each block and each gap, ascending
 unfoldable pub layout : Card → List (ℕ × List ℕ)
 layout card =
-    (0, root card.layout card.size (first_place (gaps card))) ∷ with_used (spans card) (chained (gaps card))
+    (0, root card.layout card.size (first_place (gaps card))) ∷ with_used (spans card) (gap_headers (gaps card))
 
 -- whether two pairs have one place and one word
 abbrev pub same_pair : ℕ × List ℕ → ℕ × List ℕ → Bool
@@ -124,7 +124,7 @@ is_record r words =
     && nat_le (slice_index r 17) 128 && nat_le (slice_index r 18) 128 && slice_index r 19 == 0
     && nat_le 1 (be2 r 20) && nat_le (be2 r 20) most_code && nat_le (be2 r 22) most_static && nat_le (be2 r 24) most_session
     && nat_le (be2 r 26) 15 && bytes_eq (drop 28 r) (zeros 4)
-    && words == needed_of (be2 r 20) (be2 r 22) (slice_index r 17) (slice_index r 18)
+    && words == words_of_lengths (be2 r 20) (be2 r 22) (slice_index r 17) (slice_index r 18)
 
 -- the place of the first used block whose record is bad, whose name an earlier block has, or that is the 33rd
 unfoldable pub bad_record : List (List ℕ) → List Block → List (List ℕ) → ℕ → Option ℕ

@@ -4,9 +4,9 @@ use Rattle.std.specs.List.{AllByRecursion}
 use Rattle.mc_model_device.specs.Bytes.{down, splice, or_else}
 
 -- the byte at a place of the last piece that covers it, if one does
-abbrev pub covered : List (ℕ × List ℕ) → ℕ → Option ℕ
-covered [] i = None
-covered (p ∷ ps) i = or_else (covered ps i) (cond (nat_le p.0 i) (slice_get p.1 (i - p.0)) None)
+abbrev pub covering_byte : List (ℕ × List ℕ) → ℕ → Option ℕ
+covering_byte [] i = None
+covering_byte (p ∷ ps) i = or_else (covering_byte ps i) (cond (nat_le p.0 i) (slice_get p.1 (i - p.0)) None)
 
 -- the list with the pieces laid over it, in order
 abbrev pub laid_pieces : List ℕ → List (ℕ × List ℕ) → List ℕ
@@ -29,8 +29,8 @@ with_touched ns [] = ns
 with_touched ns (p ∷ ps) = with_touched (with_words p.0 p.1 ns) ps
 
 -- the numbers of the words that the pieces touch, distinct and ascending
-unfoldable pub touched : List (ℕ × List ℕ) → List ℕ
-touched ps = with_touched [] ps
+unfoldable pub touched_words : List (ℕ × List ℕ) → List ℕ
+touched_words ps = with_touched [] ps
 
 -- ---- pending words: pairs of a word's number and its eight bytes
 
@@ -79,5 +79,5 @@ LieIn n ps = AllByRecursion (λ p. (0 < length p.1) × (p.0 + length p.1 ≤ n))
 -- over it. Past the list's end a word may hold anything.
 pub record HoldPieces (l : List ℕ) (ps ws : List (ℕ × List ℕ)) : Type 0 where
   pub pending : ArePending ws
-  pub touched_words : numbers ws ≡ touched ps
+  pub touched_words : numbers ws ≡ touched_words ps
   pub bytes : (n k : ℕ) → k < 8 → 8 * n + k < length l → IfSome (pending_at ws n) (λ b. slice_index b k ≡ slice_index (laid_pieces l ps) (8 * n + k))

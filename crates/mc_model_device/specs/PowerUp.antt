@@ -15,9 +15,9 @@ migration (OnCard c) = cond (c.layout == 1) 6 0
 migration (AtFault cause p) = 0
 
 -- a base whose card has layout 2
-abbrev pub migrated : Base → Base
-migrated (OnCard c) = OnCard (record c { layout = 2 })
-migrated (AtFault cause p) = AtFault cause p
+abbrev pub base_after_migration : Base → Base
+base_after_migration (OnCard c) = OnCard (record c { layout = 2 })
+base_after_migration (AtFault cause p) = AtFault cause p
 
 -- what the first power-up finds, from the first fault of the words, if there is one
 abbrev pub base_of : Option (Cause × ℕ) → List (List ℕ) → Base
@@ -25,7 +25,7 @@ base_of None m = OnCard (means m)
 base_of (Some f) m = AtFault f.0 f.1
 
 -- the journal whose writes recovery still has to make, and journal 1 if there are none
-abbrev pub owing : Which → Journal
-owing (Only j) = j
-owing Both = One
-owing Neither = One
+abbrev pub pending_journal : Which → Journal
+pending_journal (Only j) = j
+pending_journal Both = One
+pending_journal Neither = One

@@ -2,7 +2,7 @@
 use Rattle.std.specs.Prelude.{◌≡◌, ◌≢◌, ◌⊎◌, ℕ, zero, suc, ◌+◌, ◌*◌, ◌≤◌, Bool, true, false, cond, not, ◌&&◌, ◌||◌, nat_lt, nat_le, ◌==◌, List, [], ◌∷◌, ◌++◌, length, take, drop, map, slice_set, bytes_eq, Ok, Err}
 use Rattle.std.specs.List.{AllByRecursion}
 use Rattle.mc_model_device.specs.Bytes.{up, zeros, bytes2}
-use Rattle.mc_model_device.specs.Image.{Journal, One, Two, opening, shut, gate, word_at, ascend, laid, after_j, owed_j, Words, Look, Refused, Closed, Pending}
+use Rattle.mc_model_device.specs.Image.{Journal, One, Two, opening, shut_word, gate, word_at, ascend, image_with, after_j, owed_j, Words, Look, Refused, Closed, Pending}
 use Rattle.mc_model_device.specs.declared.device.Stop.{Stop}
 use Rattle.mc_model_device.specs.Orders.{Answer}
 use Rattle.mc_model_device.specs.Device.{DeviceState, Ended, GrowsBy, done_entries, torn_entries}
@@ -32,13 +32,13 @@ remains j w k x = cond (nat_le k w || bytes_eq x (opening j)) (w + 1) 0
 -- ---- the device writes in order
 
 -- a word of six zero bytes and a number
-abbrev pub numbered : ℕ → List ℕ
-numbered n = zeros 6 ++ bytes2 n
+abbrev pub word_of_number : ℕ → List ℕ
+word_of_number n = zeros 6 ++ bytes2 n
 
 -- journal 1: the target word and the value of each pair from pair i on
 abbrev pub entries_1 : ℕ → List (ℕ × List ℕ) → List (ℕ × List ℕ)
 entries_1 i [] = []
-entries_1 i (p ∷ ps) = (3 + 2 * i, numbered p.0) ∷ (4 + 2 * i, p.1) ∷ entries_1 (i + 1) ps
+entries_1 i (p ∷ ps) = (3 + 2 * i, word_of_number p.0) ∷ (4 + 2 * i, p.1) ∷ entries_1 (i + 1) ps
 
 -- journal 2: two bytes of each target
 abbrev pub two_bytes_each : List ℕ → List ℕ
@@ -66,11 +66,11 @@ entries Two list = target_words 0 (up (length list) 4) (map (λ p. p.0) list) ++
 
 -- the writes of a recovery: the values at their targets, then the gate is shut. They are idempotent: recovery may begin them again
 abbrev pub replay : Journal → List (ℕ × List ℕ) → List (ℕ × List ℕ)
-replay j list = list ++ (gate j, shut) ∷ []
+replay j list = list ++ (gate j, shut_word) ∷ []
 
 -- the device writes of an atomic write: log entries, head, commit record, and then those of a recovery
 abbrev pub writes : Journal → List (ℕ × List ℕ) → List (ℕ × List ℕ)
-writes j list = entries j list ++ (2, numbered (length list)) ∷ (gate j, opening j) ∷ replay j list
+writes j list = entries j list ++ (2, word_of_number (length list)) ∷ (gate j, opening j) ∷ replay j list
 
 -- a list for an atomic write on a device of `size` words: 1 to 64 targets that ascend, each word 0 or in the heap
 pub record IsAtomic (size : ℕ) (list : List (ℕ × List ℕ)) : Type 0 where
@@ -81,16 +81,16 @@ pub record IsAtomic (size : ℕ) (list : List (ℕ × List ℕ)) : Type 0 where
 -- ---- what a stop leaves
 
 -- the words after a list of writes that was stopped at its write k, from 1 on, which left x
-abbrev pub torn : List (List ℕ) → List (ℕ × List ℕ) → ℕ → List ℕ → List (List ℕ)
-torn m [] k x = m
-torn m (p ∷ ps) zero x = m
-torn m (p ∷ ps) (suc zero) x = slice_set m p.0 x
-torn m (p ∷ ps) (suc (suc k)) x = torn (slice_set m p.0 p.1) ps (suc k) x
+abbrev pub image_after_stop : List (List ℕ) → List (ℕ × List ℕ) → ℕ → List ℕ → List (List ℕ)
+image_after_stop m [] k x = m
+image_after_stop m (p ∷ ps) zero x = m
+image_after_stop m (p ∷ ps) (suc zero) x = slice_set m p.0 x
+image_after_stop m (p ∷ ps) (suc (suc k)) x = image_after_stop (slice_set m p.0 p.1) ps (suc k) x
 
 -- the new words if the write is durable, else the old ones
-abbrev pub stood : Bool → List (List ℕ) → List (ℕ × List ℕ) → List (List ℕ)
-stood true m list = laid m list
-stood false m list = m
+abbrev pub image_if_written : Bool → List (List ℕ) → List (ℕ × List ℕ) → List (List ℕ)
+image_if_written true m list = image_with m list
+image_if_written false m list = m
 
 -- a place is one of the words of a journal
 abbrev pub InJournal : Journal → ℕ → Type 0
@@ -123,9 +123,9 @@ pub record Resumes (j : Journal) (m : List (List ℕ)) (n : ℕ) (t : List (List
 
 -- an atomic write that was not stopped: the gate is shut, the targets hold their words, the rest stays
 pub record LaidWhole (j : Journal) (old : List (List ℕ)) (list : List (ℕ × List ℕ)) (new : List (List ℕ)) : Type 0 where
-  pub gate : word_at new (gate j) ≡ shut
+  pub gate : word_at new (gate j) ≡ shut_word
   pub targets : AllByRecursion (λ p. word_at new p.0 ≡ p.1) list
-  pub same : SameOutside j new (laid old list)
+  pub same : SameOutside j new (image_with old list)
 
 -- ---- the calls of a journal
 
@@ -142,7 +142,7 @@ pub record WriteTorn (j : Journal) (d : DeviceState) (list : List (ℕ × List �
   pub low : 1 ≤ k
   pub high : k ≤ cost j (length list)
   pub size : length x ≡ 8
-  pub leaves : LeavesOwing j e.words (owes j (length list) k x) (stood (stands j (length list) k x) d.words list)
+  pub leaves : LeavesOwing j e.words (owes j (length list) k x) (image_if_written (stands j (length list) k x) d.words list)
   pub ended : Ended (Err s) d e
   pub tape : GrowsBy d.tape (torn_entries (writes j list) k x s) e.tape
 
@@ -180,7 +180,7 @@ LookAllows (Pending j ps) (BadAt p) = ⊥
 -- a recovery that was done: the image after the replay, its gate shut
 pub record ReplayDone (j : Journal) (d : DeviceState) (ps : List (ℕ × List ℕ)) (e : DeviceState) : Type 0 where
   pub after : after_j j d.words ≡ Words e.words
-  pub gate : word_at e.words (gate j) ≡ shut
+  pub gate : word_at e.words (gate j) ≡ shut_word
   pub ended : Ended (Ok tt) d e
   pub tape : GrowsBy d.tape (done_entries (replay j ps)) e.tape
 
@@ -191,8 +191,8 @@ pub record ReplayTorn (j : Journal) (d : DeviceState) (ps : List (ℕ × List �
   pub low : 1 ≤ k
   pub high : k ≤ length ps + 1
   pub size : length x ≡ 8
-  pub after : after_j j d.words ≡ Words (laid d.words (replay j ps))
-  pub resumes : Resumes j e.words (remains j (length ps) k x) (laid d.words (replay j ps))
+  pub after : after_j j d.words ≡ Words (image_with d.words (replay j ps))
+  pub resumes : Resumes j e.words (remains j (length ps) k x) (image_with d.words (replay j ps))
   pub ended : Ended (Err s) d e
   pub tape : GrowsBy d.tape (torn_entries (replay j ps) k x s) e.tape
 

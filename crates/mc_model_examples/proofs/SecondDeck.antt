@@ -6,13 +6,13 @@ use Rattle.mc_model_device.specs.Device.{blank_words, device_words}
 use Rattle.mc_model_device.specs.Image.{Two}
 use Rattle.mc_model_play.specs.Play.{State, start}
 use Rattle.mc_model_play.specs.DeckGrammar.{DeckLine}
-use Rattle.mc_model_play.specs.Generator.{generated, summary}
-use Rattle.mc_model_examples.specs.Summed.{Summed, joined, summed_text, part, between, generated_play}
+use Rattle.mc_model_play.specs.Generator.{deck_of_number, summary}
+use Rattle.mc_model_examples.specs.Summed.{Summed, sum_of_counts, summed_text, part, between, generated_play}
 use Rattle.mc_model_examples.proofs.SummedLemmas.{leads, ends, summary_of}
 
 -- the lines from each part on
 abbrev lines_0 : List (ℕ × DeckLine)
-lines_0 = generated 2
+lines_0 = deck_of_number 2
 
 abbrev lines_1 : List (ℕ × DeckLine)
 lines_1 = drop 459 lines_0
@@ -103,46 +103,46 @@ abbrev sum_8 : Summed
 sum_8 = record { lines = 319; replies = 265; abends = 0; cuts = 4; offs = 16; readies = 31; dumps = codes "static 03D3\nstatic 0000EB03000000000001\nstatic 05A000000001\n" }
 
 part_0 : part state_0 (take 459 lines_0) ≡ (sum_0, state_1)
-unfolding generated part between
+unfolding deck_of_number part between
 part_0 = refl
 
 part_1 : part state_1 (take 455 lines_1) ≡ (sum_1, state_2)
-unfolding generated part between
+unfolding deck_of_number part between
 part_1 = refl
 
 part_2 : part state_2 (take 468 lines_2) ≡ (sum_2, state_3)
-unfolding generated part between
+unfolding deck_of_number part between
 part_2 = refl
 
 part_3 : part state_3 (take 453 lines_3) ≡ (sum_3, state_4)
-unfolding generated part between
+unfolding deck_of_number part between
 part_3 = refl
 
 part_4 : part state_4 (take 451 lines_4) ≡ (sum_4, state_5)
-unfolding generated part between
+unfolding deck_of_number part between
 part_4 = refl
 
 part_5 : part state_5 (take 474 lines_5) ≡ (sum_5, state_6)
-unfolding generated part between
+unfolding deck_of_number part between
 part_5 = refl
 
 part_6 : part state_6 (take 455 lines_6) ≡ (sum_6, state_7)
-unfolding generated part between
+unfolding deck_of_number part between
 part_6 = refl
 
 part_7 : part state_7 (take 465 lines_7) ≡ (sum_7, state_8)
-unfolding generated part between
+unfolding deck_of_number part between
 part_7 = refl
 
 part_8 : (part state_8 lines_8).0 ≡ sum_8
-unfolding generated part between digits
+unfolding deck_of_number part between digits
 part_8 = refl
 
 -- the parts together
-text : summed_text (joined sum_0 (joined sum_1 (joined sum_2 (joined sum_3 (joined sum_4 (joined sum_5 (joined sum_6 (joined sum_7 (sum_8))))))))) ≡ codes "lines 3761 replies 2886 abends 0 cuts 41 offs 484 readies 346\n" ++ codes "static 03D3\n" ++ codes "static 0000EB03000000000001\n" ++ codes "static 05A000000001\n"
+text : summed_text (sum_of_counts sum_0 (sum_of_counts sum_1 (sum_of_counts sum_2 (sum_of_counts sum_3 (sum_of_counts sum_4 (sum_of_counts sum_5 (sum_of_counts sum_6 (sum_of_counts sum_7 (sum_8))))))))) ≡ codes "lines 3761 replies 2886 abends 0 cuts 41 offs 484 readies 346\n" ++ codes "static 03D3\n" ++ codes "static 0000EB03000000000001\n" ++ codes "static 05A000000001\n"
 unfolding digits
 text = refl
 
 pub second_summary : summary (generated_play 2) ≡ codes "lines 3761 replies 2886 abends 0 cuts 41 offs 484 readies 346\n" ++ codes "static 03D3\n" ++ codes "static 0000EB03000000000001\n" ++ codes "static 05A000000001\n"
 unfolding generated_play
-second_summary = summary_of state_0 lines_0 (joined sum_0 (joined sum_1 (joined sum_2 (joined sum_3 (joined sum_4 (joined sum_5 (joined sum_6 (joined sum_7 (sum_8))))))))) (leads state_0 state_1 459 lines_0 sum_0 (joined sum_1 (joined sum_2 (joined sum_3 (joined sum_4 (joined sum_5 (joined sum_6 (joined sum_7 (sum_8)))))))) part_0 (leads state_1 state_2 455 lines_1 sum_1 (joined sum_2 (joined sum_3 (joined sum_4 (joined sum_5 (joined sum_6 (joined sum_7 (sum_8))))))) part_1 (leads state_2 state_3 468 lines_2 sum_2 (joined sum_3 (joined sum_4 (joined sum_5 (joined sum_6 (joined sum_7 (sum_8)))))) part_2 (leads state_3 state_4 453 lines_3 sum_3 (joined sum_4 (joined sum_5 (joined sum_6 (joined sum_7 (sum_8))))) part_3 (leads state_4 state_5 451 lines_4 sum_4 (joined sum_5 (joined sum_6 (joined sum_7 (sum_8)))) part_4 (leads state_5 state_6 474 lines_5 sum_5 (joined sum_6 (joined sum_7 (sum_8))) part_5 (leads state_6 state_7 455 lines_6 sum_6 (joined sum_7 (sum_8)) part_6 (leads state_7 state_8 465 lines_7 sum_7 (sum_8) part_7 (ends state_8 lines_8 sum_8 part_8))))))))) ∙ text
+second_summary = summary_of state_0 lines_0 (sum_of_counts sum_0 (sum_of_counts sum_1 (sum_of_counts sum_2 (sum_of_counts sum_3 (sum_of_counts sum_4 (sum_of_counts sum_5 (sum_of_counts sum_6 (sum_of_counts sum_7 (sum_8))))))))) (leads state_0 state_1 459 lines_0 sum_0 (sum_of_counts sum_1 (sum_of_counts sum_2 (sum_of_counts sum_3 (sum_of_counts sum_4 (sum_of_counts sum_5 (sum_of_counts sum_6 (sum_of_counts sum_7 (sum_8)))))))) part_0 (leads state_1 state_2 455 lines_1 sum_1 (sum_of_counts sum_2 (sum_of_counts sum_3 (sum_of_counts sum_4 (sum_of_counts sum_5 (sum_of_counts sum_6 (sum_of_counts sum_7 (sum_8))))))) part_1 (leads state_2 state_3 468 lines_2 sum_2 (sum_of_counts sum_3 (sum_of_counts sum_4 (sum_of_counts sum_5 (sum_of_counts sum_6 (sum_of_counts sum_7 (sum_8)))))) part_2 (leads state_3 state_4 453 lines_3 sum_3 (sum_of_counts sum_4 (sum_of_counts sum_5 (sum_of_counts sum_6 (sum_of_counts sum_7 (sum_8))))) part_3 (leads state_4 state_5 451 lines_4 sum_4 (sum_of_counts sum_5 (sum_of_counts sum_6 (sum_of_counts sum_7 (sum_8)))) part_4 (leads state_5 state_6 474 lines_5 sum_5 (sum_of_counts sum_6 (sum_of_counts sum_7 (sum_8))) part_5 (leads state_6 state_7 455 lines_6 sum_6 (sum_of_counts sum_7 (sum_8)) part_6 (leads state_7 state_8 465 lines_7 sum_7 (sum_8) part_7 (ends state_8 lines_8 sum_8 part_8))))))))) ∙ text

@@ -3,7 +3,7 @@ use Rattle.std.specs.Prelude.{ℕ, zero, suc, ◌+◌, ◌-◌, Bool, true, fals
 use Rattle.std.specs.List.{list_any}
 use Rattle.mc_model_machine.specs.declared.instruction.Ins.{Ins}
 use Rattle.mc_model_machine.specs.declared.instruction.DecodeFault.{DecodeFault}
-use Rattle.mc_model_machine.specs.Code.{decoded}
+use Rattle.mc_model_machine.specs.Code.{instruction_at}
 use Rattle.mc_model_machine.specs.StackRows.{height_after, writing, is_plain, is_call, is_conditional, counts, goes_on, jump_target, call_target}
 use Rattle.mc_model_machine.specs.StackShape.{Routine, Main, At, Fact, fact, FactLook, Bad, Stands, look}
 
@@ -30,7 +30,7 @@ ins_of (Err e) = []
 
 -- the instruction at a place, if one stands there
 abbrev pub ins_at : List ℕ → ℕ → List Ins
-ins_at code p = ins_of (decoded code p)
+ins_at code p = ins_of (instruction_at code p)
 
 -- ---- facts
 

@@ -6,24 +6,24 @@ use Rattle.mc_model_play.specs.declared.deck.DeckCause.{DeckCause}
 use Rattle.mc_model_device.specs.Device.{blank_words, device_words}
 use Rattle.mc_model_card.specs.Units.{name_of, unit_bytes, made_dir, made_fci}
 use Rattle.mc_model_machine.specs.Apdu.{apdu_read}
-use Rattle.mc_model_device.specs.Pieces.{touched}
+use Rattle.mc_model_device.specs.Pieces.{touched_words}
 use Rattle.mc_model_machine.specs.Des.{des_encipher, des_decipher, tdes_encipher, tdes_decipher, des_signature, tdes_signature}
 use Rattle.mc_model_machine.specs.Aes.{aes_encipher, aes_decipher, aes_signature}
 use Rattle.mc_model_device.specs.Image.{targets_1, targets_2, pairs}
 use Rattle.mc_model_device.specs.Card.{Card, blocks_from, apps_of}
 use Rattle.mc_model_device.specs.Layout.{layout, step_of, bad_block, bad_record, gaps, first_fitting}
-use Rattle.mc_model_machine.specs.Frame.{bytes_at, written, too_many}
+use Rattle.mc_model_machine.specs.Frame.{bytes_at, write_effect, too_many}
 use Rattle.mc_model_machine.specs.Primitives.{later_causes, prim_effect}
 use Rattle.mc_model_machine.specs.Row.{causes, effect, row}
-use Rattle.mc_model_machine.specs.Chain.{acted, ran}
+use Rattle.mc_model_machine.specs.Chain.{turn_of_chain, run_of_chain}
 use Rattle.mc_model_card.specs.Manager.{manage}
-use Rattle.mc_model_play.specs.Play.{State, Step, start, send, warmed, step, plays, moves_of, steady_worn, Cold, Hot, last_state}
+use Rattle.mc_model_play.specs.Play.{State, Step, start, send, play_at_power, step, plays, moves_of, steady_worn, Cold, Hot, last_state}
 use Rattle.mc_model_card.specs.Commands.{command}
 use Rattle.mc_model_device.specs.PowerUp.{Base, OnCard, AtFault}
 use Rattle.mc_model_machine.specs.Listing.{hex_text}
 use Rattle.mc_model_play.specs.Transcript.{transcript}
 use Rattle.mc_model_machine.specs.TurnText.{turn_line}
-use Rattle.mc_model_play.specs.TraceText.{traced}
+use Rattle.mc_model_play.specs.TraceText.{trace_text}
 use Rattle.mc_model_play.specs.DeckGrammar.{DeckLine, deck_read}
 use Rattle.mc_model_play.specs.Generator.{summary}
 use Rattle.mc_model_examples.specs.Written.{hex}
@@ -35,7 +35,7 @@ unit_line name aid code init =
 
 -- the play of numbered lines on some words, on a device that refuses just the writes of `fail` lines
 unfoldable pub steps_on : List (List ℕ) → List (ℕ × DeckLine) → List Step
-unfolding name_of apdu_read touched des_encipher des_decipher tdes_encipher tdes_decipher des_signature tdes_signature aes_encipher aes_decipher aes_signature sha1 digest_bytes hash_after compress rounds schedule first_words targets_1 targets_2 pairs blocks_from apps_of layout step_of bad_block bad_record bytes_at written too_many later_causes prim_effect causes effect row acted ran manage command send warmed step plays moves_of steady_worn
+unfolding name_of apdu_read touched_words des_encipher des_decipher tdes_encipher tdes_decipher des_signature tdes_signature aes_encipher aes_decipher aes_signature sha1 digest_bytes hash_after compress rounds schedule first_words targets_1 targets_2 pairs blocks_from apps_of layout step_of bad_block bad_record bytes_at write_effect too_many later_causes prim_effect causes effect row turn_of_chain run_of_chain manage command send play_at_power step plays moves_of steady_worn
 steps_on words ls = plays (start words) ls (steady_worn (start words) ls)
 
 -- the transcript of a deck that was read, or its refusal
@@ -45,18 +45,18 @@ transcript_of words (Err e) = Err e
 
 -- the same for its trace
 abbrev pub trace_of : List (List ℕ) → Result (List (ℕ × DeckLine)) (ℕ × DeckCause) → Result (List ℕ) (ℕ × DeckCause)
-trace_of words (Ok ls) = Ok (traced (steps_on words ls))
+trace_of words (Ok ls) = Ok (trace_text (steps_on words ls))
 trace_of words (Err e) = Err e
 
 -- what a deck's text writes on a blank device of 8,192 words, and on one of so many
-unfoldable pub played : List ℕ → Result (List ℕ) (ℕ × DeckCause)
+unfoldable pub deck_transcript : List ℕ → Result (List ℕ) (ℕ × DeckCause)
 unfolding deck_read steps_on digits
-played text = transcript_of (blank_words device_words) (deck_read text)
+deck_transcript text = transcript_of (blank_words device_words) (deck_read text)
 
 -- a deck's transcript on a blank device of so many words
-unfoldable pub played_on : ℕ → List ℕ → Result (List ℕ) (ℕ × DeckCause)
+unfoldable pub deck_transcript_on : ℕ → List ℕ → Result (List ℕ) (ℕ × DeckCause)
 unfolding deck_read steps_on digits
-played_on size text = transcript_of (blank_words size) (deck_read text)
+deck_transcript_on size text = transcript_of (blank_words size) (deck_read text)
 
 -- the same with the lines of its instructions
 unfoldable pub trace : List ℕ → Result (List ℕ) (ℕ × DeckCause)
@@ -69,9 +69,9 @@ summary_in words (Ok ls) = Ok (summary (steps_on words ls))
 summary_in words (Err e) = Err e
 
 -- a deck's summary
-unfoldable pub summarised : List ℕ → Result (List ℕ) (ℕ × DeckCause)
+unfoldable pub deck_summary : List ℕ → Result (List ℕ) (ℕ × DeckCause)
 unfolding deck_read steps_on summary digits
-summarised text = summary_in (blank_words device_words) (deck_read text)
+deck_summary text = summary_in (blank_words device_words) (deck_read text)
 
 -- the card that a deck's text leaves on a device of so many blank words; none where no card is there
 abbrev pub card_at : Base → List Card

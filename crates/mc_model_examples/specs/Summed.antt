@@ -8,12 +8,12 @@ use Rattle.mc_model_card.specs.Manager.{empty_seat}
 use Rattle.mc_model_play.specs.Play.{State, Hot, Running, Unarmed, Step, plays, start, last_state}
 use Rattle.mc_model_device.specs.PowerUp.{OnCard}
 use Rattle.mc_model_play.specs.DeckGrammar.{DeckLine}
-use Rattle.mc_model_play.specs.Generator.{counter, purse, relay, counter_aid, purse_aid, relay_aid, generated, results, count, is_reply, is_abend, is_cut, is_off, is_ready, dump_lines}
+use Rattle.mc_model_play.specs.Generator.{counter, purse, relay, counter_aid, purse_aid, relay_aid, deck_of_number, results, count, is_reply, is_abend, is_cut, is_off, is_ready, dump_lines}
 use Rattle.mc_model_examples.specs.Played.{steps_on}
 
 -- the play of the deck that n generates, on a blank device of 8,192 words
 unfoldable pub generated_play : ℕ → List Step
-generated_play n = plays (start (blank_words device_words)) (generated n) []
+generated_play n = plays (start (blank_words device_words)) (deck_of_number n) []
 
 -- ---- what lines add to a summary
 
@@ -28,8 +28,8 @@ pub record Summed : Type 0 where
   pub dumps : List ℕ
 
 -- the counts of a play
-abbrev pub summed : List Step → Summed
-summed ts =
+abbrev pub counts_of_play : List Step → Summed
+counts_of_play ts =
     record {
       lines = length (results ts);
       replies = count is_reply (results ts);
@@ -41,8 +41,8 @@ summed ts =
     }
 
 -- one part after another
-abbrev pub joined : Summed → Summed → Summed
-joined a b =
+abbrev pub sum_of_counts : Summed → Summed → Summed
+sum_of_counts a b =
     record {
       lines = a.lines + b.lines;
       replies = a.replies + b.replies;
@@ -62,13 +62,13 @@ summed_text s =
 -- ---- parts
 
 -- the counts of a play and the state that it leaves
-abbrev pub told : State → List Step → Summed × State
-told s ts = (summed ts, last_state s ts)
+abbrev pub counts_and_state : State → List Step → Summed × State
+counts_and_state s ts = (counts_of_play ts, last_state s ts)
 
 -- what some lines add from a state on, and the state after them
 unfoldable pub part : State → List (ℕ × DeckLine) → Summed × State
 unfolding steps_on
-part s ls = told s (plays s ls [])
+part s ls = counts_and_state s (plays s ls [])
 
 -- an application of a unit, with these static bytes at this place
 abbrev pub app_of : UnitParts → List ℕ → ℕ → App

@@ -2,7 +2,7 @@
 use Rattle.std.specs.Prelude.{ℕ, zero, suc, not, List, [], ◌∷◌, ◌++◌, take, filter, unwrap_or, Result}
 use Rattle.std.specs.Fmt.{digits}
 use Rattle.mc_model_machine.specs.declared.instruction.DecodeFault.{DecodeFault}
-use Rattle.mc_model_machine.specs.Listing.{listed}
+use Rattle.mc_model_machine.specs.Listing.{listing_of_code}
 use Rattle.mc_model_machine.specs.Text.{hex_bytes, is_blank}
 
 -- the bytes that hexadecimal digits spell, with blanks anywhere
@@ -21,5 +21,5 @@ fronts (suc n) l = take n l ∷ fronts n l
 
 -- the listing of code, with its numbers written
 unfoldable pub listing : List ℕ → Result (List ℕ) (ℕ × DecodeFault)
-unfolding listed digits
-listing code = listed code
+unfolding listing_of_code digits
+listing code = listing_of_code code

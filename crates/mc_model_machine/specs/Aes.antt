@@ -1,7 +1,7 @@
 -- AES with keys of 128 bits, over the field of 256 elements, on lists of bytes.
 -- FIPS 197 (Advanced Encryption Standard), and NIST SP 800-38A for cipher block chaining.
 use Rattle.std.specs.Prelude.{ℕ, zero, suc, ◌+◌, ◌*◌, ◌/◌, ◌%◌, ◌^◌, List, [], ◌∷◌, ◌++◌, take, drop, map, reverse, slice_index, bit_xor}
-use Rattle.mc_model_machine.specs.Modes.{added, cbc_last}
+use Rattle.mc_model_machine.specs.Modes.{bit_sum, cbc_last}
 
 -- ---- the field
 
@@ -62,17 +62,17 @@ sub_back b = inverse (affine_back b)
 -- ---- steps on a state of 16 bytes: the byte in row r and column c is at r + 4 c
 
 -- the bytes at these places
-abbrev pub placed : List ℕ → List ℕ → List ℕ
-placed [] s = []
-placed (i ∷ is) s = slice_index s i ∷ placed is s
+abbrev pub bytes_at_places : List ℕ → List ℕ → List ℕ
+bytes_at_places [] s = []
+bytes_at_places (i ∷ is) s = slice_index s i ∷ bytes_at_places is s
 
 -- ShiftRows: row r turned left by r (FIPS 197, 5.1.2)
 abbrev pub shift_rows : List ℕ → List ℕ
-shift_rows s = placed (0 ∷ 5 ∷ 10 ∷ 15 ∷ 4 ∷ 9 ∷ 14 ∷ 3 ∷ 8 ∷ 13 ∷ 2 ∷ 7 ∷ 12 ∷ 1 ∷ 6 ∷ 11 ∷ []) s
+shift_rows s = bytes_at_places (0 ∷ 5 ∷ 10 ∷ 15 ∷ 4 ∷ 9 ∷ 14 ∷ 3 ∷ 8 ∷ 13 ∷ 2 ∷ 7 ∷ 12 ∷ 1 ∷ 6 ∷ 11 ∷ []) s
 
 -- InvShiftRows: the rows turned back (FIPS 197, 5.3.1)
 abbrev pub shift_rows_back : List ℕ → List ℕ
-shift_rows_back s = placed (0 ∷ 13 ∷ 10 ∷ 7 ∷ 4 ∷ 1 ∷ 14 ∷ 11 ∷ 8 ∷ 5 ∷ 2 ∷ 15 ∷ 12 ∷ 9 ∷ 6 ∷ 3 ∷ []) s
+shift_rows_back s = bytes_at_places (0 ∷ 13 ∷ 10 ∷ 7 ∷ 4 ∷ 1 ∷ 14 ∷ 11 ∷ 8 ∷ 5 ∷ 2 ∷ 15 ∷ 12 ∷ 9 ∷ 6 ∷ 3 ∷ []) s
 
 -- the sum of the products of four factors and the bytes of a column
 abbrev pub dot : ℕ → ℕ → ℕ → ℕ → List ℕ → ℕ
@@ -84,58 +84,58 @@ abbrev pub times_matrix : ℕ → ℕ → ℕ → ℕ → List ℕ → List ℕ
 times_matrix p q r s column = dot p q r s column ∷ dot s p q r column ∷ dot r s p q column ∷ dot q r s p column ∷ []
 
 -- the first n columns of a state times that matrix
-unfoldable pub mixed : ℕ → ℕ → ℕ → ℕ → ℕ → List ℕ → List ℕ
+unfoldable pub columns_times_matrix : ℕ → ℕ → ℕ → ℕ → ℕ → List ℕ → List ℕ
 unfolding mul
-mixed zero p q r s state = []
-mixed (suc n) p q r s state = times_matrix p q r s (take 4 state) ++ mixed n p q r s (drop 4 state)
+columns_times_matrix zero p q r s state = []
+columns_times_matrix (suc n) p q r s state = times_matrix p q r s (take 4 state) ++ columns_times_matrix n p q r s (drop 4 state)
 
 -- MixColumns: each column times the matrix (FIPS 197, 5.1.3)
 unfoldable pub mix_columns : List ℕ → List ℕ
-unfolding mixed
-mix_columns s = mixed 4 2 3 1 1 s
+unfolding columns_times_matrix
+mix_columns s = columns_times_matrix 4 2 3 1 1 s
 
 -- InvMixColumns (FIPS 197, 5.3.3)
 unfoldable pub mix_columns_back : List ℕ → List ℕ
-unfolding mixed
-mix_columns_back s = mixed 4 14 11 13 9 s
+unfolding columns_times_matrix
+mix_columns_back s = columns_times_matrix 4 14 11 13 9 s
 
 -- a round; its last step adds the round key, AddRoundKey (FIPS 197, 5.1 and 5.1.4)
 unfoldable pub round : List ℕ → List ℕ → List ℕ
 unfolding sub mix_columns
-round k s = added (mix_columns (shift_rows (map sub s))) k
+round k s = bit_sum (mix_columns (shift_rows (map sub s))) k
 
 -- the tenth round, without a column step (FIPS 197, 5.1)
 unfoldable pub last_round : List ℕ → List ℕ → List ℕ
 unfolding sub
-last_round k s = added (shift_rows (map sub s)) k
+last_round k s = bit_sum (shift_rows (map sub s)) k
 
 -- the inverse of the last round
 unfoldable pub last_round_back : List ℕ → List ℕ → List ℕ
 unfolding sub_back
-last_round_back k s = map sub_back (shift_rows_back (added s k))
+last_round_back k s = map sub_back (shift_rows_back (bit_sum s k))
 
 -- the inverse of a round
 unfoldable pub round_back : List ℕ → List ℕ → List ℕ
 unfolding sub_back mix_columns_back
-round_back k s = map sub_back (shift_rows_back (mix_columns_back (added s k)))
+round_back k s = map sub_back (shift_rows_back (mix_columns_back (bit_sum s k)))
 
 -- ---- the key
 
 -- the last word of a round key rotated left by a byte and substituted, with the round constant c added to its first byte: RotWord,
 -- SubWord and Rcon (FIPS 197, 5.2)
-unfoldable pub changed : ℕ → List ℕ → List ℕ
+unfoldable pub next_key_word : ℕ → List ℕ → List ℕ
 unfolding sub
-changed c w = added (map sub (drop 1 w ++ take 1 w)) (c ∷ [])
+next_key_word c w = bit_sum (map sub (drop 1 w ++ take 1 w)) (c ∷ [])
 
 -- the round key after a round key: four words, of which each is the word four before it and the word before it added,
 -- and the word before the first is changed
 unfoldable pub next_key : ℕ → List ℕ → List ℕ
-unfolding changed
+unfolding next_key_word
 next_key c k =
-    let w0 = added (take 4 k) (changed c (drop 12 k)) in
-    let w1 = added (take 4 (drop 4 k)) w0 in
-    let w2 = added (take 4 (drop 8 k)) w1 in
-    let w3 = added (drop 12 k) w2 in
+    let w0 = bit_sum (take 4 k) (next_key_word c (drop 12 k)) in
+    let w1 = bit_sum (take 4 (drop 4 k)) w0 in
+    let w2 = bit_sum (take 4 (drop 8 k)) w1 in
+    let w3 = bit_sum (drop 12 k) w2 in
     w0 ++ w1 ++ w2 ++ w3
 
 -- a round key and the n after it, with c the round constant of the next, a power of x
@@ -159,33 +159,33 @@ rounds (k ∷ []) s = last_round k s
 rounds (k ∷ j ∷ ks) s = rounds (j ∷ ks) (round k s)
 
 -- a block enciphered with a list of round keys: the first is added before the first round
-unfoldable pub enciphered : List (List ℕ) → List ℕ → List ℕ
+unfoldable pub cipher_block : List (List ℕ) → List ℕ → List ℕ
 unfolding rounds
-enciphered [] block = block
-enciphered (k ∷ ks) block = rounds ks (added block k)
+cipher_block [] block = block
+cipher_block (k ∷ ks) block = rounds ks (bit_sum block k)
 
 -- the inverse rounds with a list of round keys in reverse order, of which the last is only added
 unfoldable pub rounds_back : List (List ℕ) → List ℕ → List ℕ
 unfolding round_back
 rounds_back [] s = s
-rounds_back (k ∷ []) s = added s k
+rounds_back (k ∷ []) s = bit_sum s k
 rounds_back (k ∷ j ∷ ks) s = rounds_back (j ∷ ks) (round_back k s)
 
 -- a block deciphered with a list of round keys in reverse order
-unfoldable pub deciphered : List (List ℕ) → List ℕ → List ℕ
+unfoldable pub inverse_cipher_block : List (List ℕ) → List ℕ → List ℕ
 unfolding rounds_back last_round_back
-deciphered [] block = block
-deciphered (k ∷ ks) block = rounds_back ks (last_round_back k block)
+inverse_cipher_block [] block = block
+inverse_cipher_block (k ∷ ks) block = rounds_back ks (last_round_back k block)
 
 -- AES-128, with a key and a block of 16 bytes (FIPS 197, 5.1, cipher)
 unfoldable pub aes_encipher : List ℕ → List ℕ → List ℕ
-unfolding round_keys enciphered
-aes_encipher key block = enciphered (round_keys key) block
+unfolding round_keys cipher_block
+aes_encipher key block = cipher_block (round_keys key) block
 
 -- the inverse cipher of AES-128, with a key and a block of 16 bytes (FIPS 197, 5.3, inverse cipher)
 unfoldable pub aes_decipher : List ℕ → List ℕ → List ℕ
-unfolding round_keys deciphered
-aes_decipher key block = deciphered (reverse (round_keys key)) block
+unfolding round_keys inverse_cipher_block
+aes_decipher key block = inverse_cipher_block (reverse (round_keys key)) block
 
 -- the last block of CBC over a message of whole blocks, from a start block (SP 800-38A, 6.2)
 unfoldable pub aes_signature : List ℕ → List ℕ → List ℕ → List ℕ

@@ -6,7 +6,7 @@ use Rattle.mc_model_machine.specs.declared.instruction.Ins.{Ins}
 use Rattle.mc_model_machine.specs.declared.instruction.Ins.TheVariants.{Nop, Setsw, Setla, Setswla, Exit, Exitsw, Exitla, Exitswla, Branch, Jump, Call, Pushz, Pushb, Pushw, Popn, Popb, Popw, Prim, Ret, Reti, Reto, Retio, Load, Store, Loadi, Storei, Loada, Index, Setb, Cmpb, Addb, Subb, Setw, Cmpw, Addw, Subw, Clearn, Testn, Incn, Decn, Notn, Cmpn, Addn, Subn, Andn, Orn, Xorn}
 use Rattle.mc_model_device.specs.Limits.{most_code}
 use Rattle.mc_model_device.specs.Bytes.{zeros, lookup}
-use Rattle.mc_model_machine.specs.Text.{◌>>=◌, ok_as, err_as, only_if, pieces, first_cut, begins, lines, numbered, is_blank, is_empty, trim, is_within, is_digit, is_name, digits_onto, decimal_number, hex_values}
+use Rattle.mc_model_machine.specs.Text.{◌>>=◌, ok_as, err_as, only_if, pieces, first_cut, begins, lines, with_numbers, is_blank, is_empty, trim, is_within, is_digit, is_name, digits_onto, decimal_number, hex_values}
 use Rattle.mc_model_machine.specs.Code.{spell}
 use Rattle.mc_model_machine.specs.Listing.{condition_names, register_names}
 
@@ -31,8 +31,8 @@ minus zero = pos 0
 minus (suc n) = negsuc n
 
 -- a number with a sign: `-` and decimal digits, or one without a sign
-abbrev pub signed : List ℕ → Option ℤ
-signed t = cond (begins 45 t) (option_map minus (decimal_number (drop 1 t))) (option_map pos (natural t))
+abbrev pub signed_number : List ℕ → Option ℤ
+signed_number t = cond (begins 45 t) (option_map minus (decimal_number (drop 1 t))) (option_map pos (natural t))
 
 -- whether a signed number lies from -half to half - 1
 abbrev pub fits_signed : ℕ → ℤ → Bool
@@ -53,7 +53,7 @@ word t = number_operand 65535 t
 
 -- a signed operand from -half to half - 1
 abbrev pub signed_operand : ℕ → List ℕ → Result ℤ AsmCause
-signed_operand half t = ok_or (signed t) BadNumber >>= λ z. only_if (fits_signed half z) OutOfRange z
+signed_operand half t = ok_or (signed_number t) BadNumber >>= λ z. only_if (fits_signed half z) OutOfRange z
 
 -- the place of a word in a list, counted from n on
 abbrev pub place_among : ℕ → List (List ℕ) → List ℕ → Option ℕ
@@ -201,24 +201,24 @@ primitive [] = Nothing
 primitive (number ∷ args) = Plain (Prim (length args) number (take 3 (args ++ zeros 3)))
 
 -- a word with its operands
-abbrev pub worded : WordForm → List (List ℕ) → Result CodeItem AsmCause
-worded (Bare i) [] = Ok (Plain i)
-worded (OfByte f) (n ∷ []) = ok_as (λ n. Plain (f n)) (byte n)
-worded (OfBytes f) (i ∷ o ∷ []) = ok_as (λ p. Plain (f p.0 p.1)) (both (byte i) (byte o))
-worded (OfWord f) (w ∷ []) = ok_as (λ w. Plain (f w)) (word w)
-worded (OfWords f) (v ∷ w ∷ []) = ok_as (λ p. Plain (f p.0 p.1)) (both (word v) (word w))
-worded RawByte (n ∷ []) = ok_as Raw (byte n)
-worded (ByDistance f) (c ∷ t ∷ []) = ok_as (λ p. by_distance (f p.0) p.1) (both (condition c) (label_or_given (is_label t) t (signed_operand 128 t)))
-worded (ByPlace f) [] = Ok (Plain (f 0 0))
-worded (ByPlace f) (c ∷ t ∷ []) = ok_as (λ p. by_place (f p.0) p.1) (both (condition c) (label_or_given (is_label t) t (word t)))
-worded Primitive (n ∷ args) = cond (nat_le (length args) 3) (ok_as primitive (all_bytes (n ∷ args))) (Err BadOperands)
-worded (Addressed f) [] = Ok (Plain (f 0 (pos 0)))
-worded (Addressed f) (a ∷ []) = ok_as (λ a. Plain (f a.0 a.1)) (address a)
-worded (AddressedByte f) (n ∷ []) = ok_as (λ n. Plain (f 0 (pos 0) n)) (byte n)
-worded (AddressedByte f) (a ∷ n ∷ []) = ok_as (λ p. Plain (f (p.0).0 (p.0).1 p.1)) (both (address a) (byte n))
-worded (AddressedWord f) (w ∷ []) = ok_as (λ w. Plain (f 0 (pos 0) w)) (word w)
-worded (AddressedWord f) (a ∷ w ∷ []) = ok_as (λ p. Plain (f (p.0).0 (p.0).1 p.1)) (both (address a) (word w))
-worded form operands = Err BadOperands
+abbrev pub item_of_word : WordForm → List (List ℕ) → Result CodeItem AsmCause
+item_of_word (Bare i) [] = Ok (Plain i)
+item_of_word (OfByte f) (n ∷ []) = ok_as (λ n. Plain (f n)) (byte n)
+item_of_word (OfBytes f) (i ∷ o ∷ []) = ok_as (λ p. Plain (f p.0 p.1)) (both (byte i) (byte o))
+item_of_word (OfWord f) (w ∷ []) = ok_as (λ w. Plain (f w)) (word w)
+item_of_word (OfWords f) (v ∷ w ∷ []) = ok_as (λ p. Plain (f p.0 p.1)) (both (word v) (word w))
+item_of_word RawByte (n ∷ []) = ok_as Raw (byte n)
+item_of_word (ByDistance f) (c ∷ t ∷ []) = ok_as (λ p. by_distance (f p.0) p.1) (both (condition c) (label_or_given (is_label t) t (signed_operand 128 t)))
+item_of_word (ByPlace f) [] = Ok (Plain (f 0 0))
+item_of_word (ByPlace f) (c ∷ t ∷ []) = ok_as (λ p. by_place (f p.0) p.1) (both (condition c) (label_or_given (is_label t) t (word t)))
+item_of_word Primitive (n ∷ args) = cond (nat_le (length args) 3) (ok_as primitive (all_bytes (n ∷ args))) (Err BadOperands)
+item_of_word (Addressed f) [] = Ok (Plain (f 0 (pos 0)))
+item_of_word (Addressed f) (a ∷ []) = ok_as (λ a. Plain (f a.0 a.1)) (address a)
+item_of_word (AddressedByte f) (n ∷ []) = ok_as (λ n. Plain (f 0 (pos 0) n)) (byte n)
+item_of_word (AddressedByte f) (a ∷ n ∷ []) = ok_as (λ p. Plain (f (p.0).0 (p.0).1 p.1)) (both (address a) (byte n))
+item_of_word (AddressedWord f) (w ∷ []) = ok_as (λ w. Plain (f 0 (pos 0) w)) (word w)
+item_of_word (AddressedWord f) (a ∷ w ∷ []) = ok_as (λ p. Plain (f (p.0).0 (p.0).1 p.1)) (both (address a) (word w))
+item_of_word form operands = Err BadOperands
 
 -- ---- a line
 
@@ -229,7 +229,7 @@ operands (Some t) = map trim (pieces (λ c. c == 44) t)
 
 -- the word of a line and its operands
 abbrev pub word_and_operands : List ℕ × Option (List ℕ) → Result CodeItem AsmCause
-word_and_operands s = cond (is_empty s.0) (Ok Nothing) (ok_or (lookup words s.0) UnknownWord >>= λ form. worded form (operands s.1))
+word_and_operands s = cond (is_empty s.0) (Ok Nothing) (ok_or (lookup words s.0) UnknownWord >>= λ form. item_of_word form (operands s.1))
 
 -- a line's label, and what it puts into the code
 pub record Line : Type 0 where
@@ -298,12 +298,12 @@ laid_lines labels place (t ∷ ts) = do
   Ok (record rest { placed = record { number = t.0; place = place; item = l.item } ∷ rest.placed })
 
 -- the bytes that a line puts into the code, with these labels
-abbrev pub emitted : List (List ℕ × ℕ) → ℕ → CodeItem → Result (List ℕ) AsmCause
-emitted labels place Nothing = Ok []
-emitted labels place (Raw b) = Ok (b ∷ [])
-emitted labels place (Plain i) = Ok (spell i)
-emitted labels place (ToPlace f l) = ok_as (λ p. spell (f p)) (ok_or (lookup labels l) UnknownLabel)
-emitted labels place (ToDistance f l) = do
+abbrev pub bytes_of_item : List (List ℕ × ℕ) → ℕ → CodeItem → Result (List ℕ) AsmCause
+bytes_of_item labels place Nothing = Ok []
+bytes_of_item labels place (Raw b) = Ok (b ∷ [])
+bytes_of_item labels place (Plain i) = Ok (spell i)
+bytes_of_item labels place (ToPlace f l) = ok_as (λ p. spell (f p)) (ok_or (lookup labels l) UnknownLabel)
+bytes_of_item labels place (ToDistance f l) = do
   p ← ok_or (lookup labels l) UnknownLabel
   let d = pos p -ℤ pos (place + 2)
   only_if (fits_signed 128 d) FarBranch (spell (f d))
@@ -312,7 +312,7 @@ emitted labels place (ToDistance f l) = do
 unfoldable pub joined_code : List (List ℕ × ℕ) → List Placed → Result (List ℕ) (ℕ × AsmCause)
 joined_code labels [] = Ok []
 joined_code labels (p ∷ ps) = do
-  bytes ← err_as (λ c. (p.number, c)) (emitted labels p.place p.item)
+  bytes ← err_as (λ c. (p.number, c)) (bytes_of_item labels p.place p.item)
   ok_as (λ rest. bytes ++ rest) (joined_code labels ps)
 
 -- the code of numbered lines, or the first refusal
@@ -321,6 +321,6 @@ unfolding laid_lines joined_code
 assembled_lines ls = laid_lines [] 0 ls >>= λ laid. joined_code laid.labels laid.placed
 
 -- the code of a text, or the first refusal
-unfoldable pub assembled : List ℕ → Result (List ℕ) (ℕ × AsmCause)
+unfoldable pub assembly_of : List ℕ → Result (List ℕ) (ℕ × AsmCause)
 unfolding assembled_lines
-assembled t = assembled_lines (numbered 1 (lines t))
+assembly_of t = assembled_lines (with_numbers 1 (lines t))

@@ -6,9 +6,9 @@ use Rattle.mc_model_machine.specs.declared.instruction.DecodeFault.TheVariants.{
 use Rattle.mc_model_machine.specs.declared.machine.Abend.{Abend}
 use Rattle.mc_model_machine.specs.declared.machine.Abend.TheVariants.{A01, A02, A07, A09}
 use Rattle.mc_model_device.specs.Bytes.{zeros, lookup, insert}
-use Rattle.mc_model_device.specs.Pieces.{laid_pieces, touched}
+use Rattle.mc_model_device.specs.Pieces.{laid_pieces, touched_words}
 use Rattle.mc_model_machine.specs.Apdu.{ApduParts, apdu_case}
-use Rattle.mc_model_machine.specs.Code.{decoded}
+use Rattle.mc_model_machine.specs.Code.{instruction_at}
 use Rattle.mc_model_device.specs.Card.{App}
 use Rattle.mc_model_machine.specs.Frame.{Frame, Effect, new_frame, session_of, new_public, with_sw, sw_of, la_of}
 use Rattle.mc_model_machine.specs.Primitives.{Around, Then, Goes, Exits, Delegates, Done}
@@ -103,16 +103,16 @@ map_changed map n (Some ps) = changed_app map n ps (lookup map n)
 -- the atomic write of a list of static changes
 abbrev pub write_of : List ℕ → Option (List (ℕ × List ℕ)) → List Write
 write_of n None = []
-write_of n (Some ps) = record { name = n; pieces = ps; words = length (touched ps) } ∷ []
+write_of n (Some ps) = record { name = n; pieces = ps; words = length (touched_words ps) } ∷ []
 
 -- the number of words of that atomic write
 abbrev pub words_of_write : Option (List (ℕ × List ℕ)) → Option ℕ
 words_of_write None = None
-words_of_write (Some ps) = Some (length (touched ps))
+words_of_write (Some ps) = Some (length (touched_words ps))
 
 -- the chain after what an instruction changed
-abbrev pub settled : Chain → Effect → Chain
-settled ch e =
+abbrev pub chain_after_effect : Chain → Effect → Chain
+chain_after_effect ch e =
     record ch { map = map_changed ch.map ch.frame.name e.changes; frame = e.frame; public = e.public }
 
 -- ---- delegation and exit
@@ -133,9 +133,9 @@ called_app true ch n a = record ch { public = with_sw ch.public 0x6985 }
 called_app false ch n a = entered_app ch n a
 
 -- a delegation to a name: 6A82 if it is not on the card
-abbrev pub called : Chain → List ℕ → Option App → Chain
-called ch n None = record ch { public = with_sw ch.public 0x6A82 }
-called ch n (Some a) = called_app (is_active n ch.frame ch.below || nat_le 4 (depth_of ch)) ch n a
+abbrev pub chain_after_call : Chain → List ℕ → Option App → Chain
+chain_after_call ch n None = record ch { public = with_sw ch.public 0x6A82 }
+chain_after_call ch n (Some a) = called_app (is_active n ch.frame ch.below || nat_le 4 (depth_of ch)) ch n a
 
 -- the reply of the first frame: at most Le bytes of the public segment, and SW
 abbrev pub reply_of : Chain → Outcome
@@ -151,15 +151,15 @@ abbrev pub last_exit : Chain → Follows
 last_exit ch = cond (nat_lt 1024 (la_of ch.public)) (Ends (Abended A09)) (Ends (reply_of ch))
 
 -- an exit: the frame below goes on
-abbrev pub exited : Chain → List Frame → Follows
-exited ch [] = last_exit ch
-exited ch (f ∷ fs) = Continues (record ch { frame = f; below = fs })
+abbrev pub after_exit : Chain → List Frame → Follows
+after_exit ch [] = last_exit ch
+after_exit ch (f ∷ fs) = Continues (record ch { frame = f; below = fs })
 
 -- what follows an instruction in a settled chain
 abbrev pub follows : Chain → Then → Follows
 follows ch Goes = Continues ch
-follows ch Exits = exited ch ch.below
-follows ch (Delegates n) = Continues (called ch n (lookup ch.map n))
+follows ch Exits = after_exit ch ch.below
+follows ch (Delegates n) = Continues (chain_after_call ch n (lookup ch.map n))
 
 -- the pair of a delegation: the frame's name, and the name that it delegates to
 abbrev pub pair_of : List ℕ → Then → List (List ℕ × List ℕ)
@@ -214,30 +214,30 @@ done_turn ch i e next pairs =
 -- a turn by the end of its row
 abbrev pub row_turn : Chain → Ins → RowEnd → Acted
 row_turn ch i (Abends cause) = abends_at ch (Some i) 1 cause
-row_turn ch i (Does d) = done_turn ch i d.effect (follows (settled ch d.effect) d.next) (pair_of ch.frame.name d.next)
+row_turn ch i (Does d) = done_turn ch i d.effect (follows (chain_after_effect ch d.effect) d.next) (pair_of ch.frame.name d.next)
 
 -- the frame with its code address after the instruction
-abbrev pub stepped : Frame → ℕ → Frame
-stepped f next = record f { at = next }
+abbrev pub frame_at : Frame → ℕ → Frame
+frame_at f next = record f { at = next }
 
 -- the turn of a fetch: abend 01 if no instruction begins there, 02 if it is not whole in the code
-abbrev pub fetched : Chain → Result (Ins × ℕ) DecodeFault → Acted
-fetched ch (Err Undefined) = abends_at ch None 0 A01
-fetched ch (Err Past) = abends_at ch None 0 A02
-fetched ch (Ok i) = row_turn ch i.0 (row i.0 (stepped ch.frame i.1) ch.public (around ch))
+abbrev pub turn_of_fetch : Chain → Result (Ins × ℕ) DecodeFault → Acted
+turn_of_fetch ch (Err Undefined) = abends_at ch None 0 A01
+turn_of_fetch ch (Err Past) = abends_at ch None 0 A02
+turn_of_fetch ch (Ok i) = row_turn ch i.0 (row i.0 (frame_at ch.frame i.1) ch.public (around ch))
 
 -- one turn of a chain whose budget is not spent
-unfoldable pub acted : Chain → Acted
-acted ch = fetched ch (decoded (code_in (lookup ch.map ch.frame.name)) ch.frame.at)
+unfoldable pub turn_of_chain : Chain → Acted
+turn_of_chain ch = turn_of_fetch ch (instruction_at (code_in (lookup ch.map ch.frame.name)) ch.frame.at)
 
 -- the turn of a chain whose budget is spent
-abbrev pub spent : Chain → Acted
-spent ch = abends_at ch None 0 A07
+abbrev pub turn_without_budget : Chain → Acted
+turn_without_budget ch = abends_at ch None 0 A07
 
 -- a turn with this much of the budget left
 abbrev pub turn_of : ℕ → Chain → Acted
-turn_of zero ch = spent ch
-turn_of (suc n) ch = acted ch
+turn_of zero ch = turn_without_budget ch
+turn_of (suc n) ch = turn_of_chain ch
 
 -- ---- runs
 
@@ -252,14 +252,14 @@ goes_on t r =
     record { turns = t.turn ∷ r.turns; count = t.count + r.count; writes = t.writes ++ r.writes; pairs = t.pairs ++ r.pairs; session = r.session; outcome = r.outcome }
 
 -- a turn, and the rest if the chain goes on
-abbrev pub ran_on : Acted → List ℕ → Follows → (Chain → Ran) → Ran
-ran_on t session (Ends o) rest = ends_with t session o
-ran_on t session (Continues ch) rest = goes_on t (rest ch)
+abbrev pub run_after_turn : Acted → List ℕ → Follows → (Chain → Ran) → Ran
+run_after_turn t session (Ends o) rest = ends_with t session o
+run_after_turn t session (Continues ch) rest = goes_on t (rest ch)
 
 -- the run of a chain with this budget
-unfoldable pub ran : ℕ → Chain → Ran
-ran zero ch = ends_with (spent ch) (chain_session ch) (Abended A07)
-ran (suc n) ch = let t = acted ch in ran_on t (chain_session ch) t.follows (λ c. ran n c)
+unfoldable pub run_of_chain : ℕ → Chain → Ran
+run_of_chain zero ch = ends_with (turn_without_budget ch) (chain_session ch) (Abended A07)
+run_of_chain (suc n) ch = let t = turn_of_chain ch in run_after_turn t (chain_session ch) t.follows (λ c. run_of_chain n c)
 
 -- the chain of a command to an application with these session bytes, before its first turn
 abbrev pub start_app : List (List ℕ × App) → List ℕ → List ℕ → ApduParts → App → Chain
@@ -276,4 +276,4 @@ start map first session apdu = start_app map first session apdu (unwrap_or (look
 
 -- a command to the application `first`: the run of its chain
 abbrev pub run : List (List ℕ × App) → List ℕ → List ℕ → ApduParts → ℕ → Ran
-run map first session apdu budget = ran budget (start map first session apdu)
+run map first session apdu budget = run_of_chain budget (start map first session apdu)

@@ -348,25 +348,25 @@ abbrev pub offset_in : ℕ → List ℕ → ℕ → ℤ
 offset_in tag bs i = cond (tag == 0) (pos 0) (cast_signed w16 (be2 bs i))
 
 -- the instruction of a row with the operand bytes that follow
-abbrev pub made : Form → List ℕ → Ins
-made (Plain i) bs = i
-made (OneByte f) bs = f (slice_index bs 0)
-made (TwoBytes f) bs = f (slice_index bs 0) (slice_index bs 1)
-made (Word f) bs = f (be2 bs 0)
-made (TwoWords f) bs = f (be2 bs 0) (be2 bs 2)
-made (Near f) bs = f (cast_signed w8 (slice_index bs 0))
-made (Target c f) bs = f (target_in c bs)
-made (Primitive set) bs = Prim set (slice_index bs 0) (take set (drop 1 bs) ++ zeros (3 - set))
-made (Offset tag f) bs = f (offset_in tag bs 0)
-made (ByteOffset tag f) bs = f (offset_in tag bs 1) (slice_index bs 0)
-made (WordOffset tag f) bs = f (offset_in tag bs 2) (be2 bs 0)
+abbrev pub instruction_of_form : Form → List ℕ → Ins
+instruction_of_form (Plain i) bs = i
+instruction_of_form (OneByte f) bs = f (slice_index bs 0)
+instruction_of_form (TwoBytes f) bs = f (slice_index bs 0) (slice_index bs 1)
+instruction_of_form (Word f) bs = f (be2 bs 0)
+instruction_of_form (TwoWords f) bs = f (be2 bs 0) (be2 bs 2)
+instruction_of_form (Near f) bs = f (cast_signed w8 (slice_index bs 0))
+instruction_of_form (Target c f) bs = f (target_in c bs)
+instruction_of_form (Primitive set) bs = Prim set (slice_index bs 0) (take set (drop 1 bs) ++ zeros (3 - set))
+instruction_of_form (Offset tag f) bs = f (offset_in tag bs 0)
+instruction_of_form (ByteOffset tag f) bs = f (offset_in tag bs 1) (slice_index bs 0)
+instruction_of_form (WordOffset tag f) bs = f (offset_in tag bs 2) (be2 bs 0)
 
 -- a row's instruction and its length, if there are bytes enough after its first
 abbrev pub made_of : Option Form → List ℕ → Result (Ins × ℕ) DecodeFault
 made_of None bs = Err Undefined
 made_of (Some f) bs =
     let n = total (operands f) in
-    cond (nat_le n (length bs)) (Ok (made f bs, n + 1)) (Err Past)
+    cond (nat_le n (length bs)) (Ok (instruction_of_form f bs, n + 1)) (Err Past)
 
 -- the instruction at the front of bytes, and its length
 abbrev pub front : List ℕ → Result (Ins × ℕ) DecodeFault
@@ -379,5 +379,5 @@ from_place at (Ok p) = Ok (p.0, at + p.1)
 from_place at (Err e) = Err e
 
 -- the instruction at a place, and the place after it
-abbrev pub decoded : List ℕ → ℕ → Result (Ins × ℕ) DecodeFault
-decoded code at = from_place at (front (drop at code))
+abbrev pub instruction_at : List ℕ → ℕ → Result (Ins × ℕ) DecodeFault
+instruction_at code at = from_place at (front (drop at code))

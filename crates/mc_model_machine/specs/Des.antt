@@ -1,7 +1,7 @@
 -- DES, two-key triple DES and their signatures, over lists of bits that are numbered from 1 at the left.
 -- FIPS 46-3 (Data Encryption Standard), and FIPS 81 for cipher block chaining.
 use Rattle.std.specs.Prelude.{ℕ, zero, suc, ◌+◌, ◌-◌, ◌*◌, ◌/◌, ◌%◌, ◌^◌, List, [], ◌∷◌, ◌++◌, length, take, drop, reverse, slice_index, slice_index_or}
-use Rattle.mc_model_machine.specs.Modes.{added, cbc_last}
+use Rattle.mc_model_machine.specs.Modes.{bit_sum, cbc_last}
 
 -- ---- bits
 
@@ -120,13 +120,13 @@ through (box ∷ rest) l = box_at box (take 6 l) ++ through rest (drop 6 l)
 -- the cipher function f, of the right half and a round key (FIPS 46-3, The cipher function f)
 unfoldable pub f : List ℕ → List ℕ → List ℕ
 unfolding pick through expansion permutation boxes
-f r k = pick permutation (through boxes (added (pick expansion r) k))
+f r k = pick permutation (through boxes (bit_sum (pick expansion r) k))
 
 -- the rounds with a list of round keys, on a left and a right half
 unfoldable pub rounds : List (List ℕ) → List ℕ → List ℕ → List ℕ × List ℕ
 unfolding f
 rounds [] l r = (l, r)
-rounds (k ∷ ks) l r = rounds ks r (added l (f r k))
+rounds (k ∷ ks) l r = rounds ks r (bit_sum l (f r k))
 
 -- the round keys, from two halves and the shifts that remain
 unfoldable pub schedule : List ℕ → List ℕ → List ℕ → List (List ℕ)
@@ -152,19 +152,19 @@ with_keys ks block =
 -- ---- the ciphers
 
 -- a block of 8 bytes through the rounds with the round keys in this order
-unfoldable pub ciphered : List (List ℕ) → List ℕ → List ℕ
+unfoldable pub des_block : List (List ℕ) → List ℕ → List ℕ
 unfolding bits_of bytes_of with_keys
-ciphered ks block = bytes_of 8 (with_keys ks (bits_of block))
+des_block ks block = bytes_of 8 (with_keys ks (bits_of block))
 
 -- DES, with a key of 8 bytes (FIPS 46-3, Enciphering)
 unfoldable pub des_encipher : List ℕ → List ℕ → List ℕ
-unfolding round_keys ciphered
-des_encipher key block = ciphered (round_keys key) block
+unfolding round_keys des_block
+des_encipher key block = des_block (round_keys key) block
 
 -- DES deciphering: the round keys in reverse order (FIPS 46-3, Deciphering)
 unfoldable pub des_decipher : List ℕ → List ℕ → List ℕ
-unfolding round_keys ciphered
-des_decipher key block = ciphered (reverse (round_keys key)) block
+unfolding round_keys des_block
+des_decipher key block = des_block (reverse (round_keys key)) block
 
 -- two-key triple DES, with a key of 16 bytes (FIPS 46-3, Triple data encryption algorithm, keying option 2)
 unfoldable pub tdes_encipher : List ℕ → List ℕ → List ℕ

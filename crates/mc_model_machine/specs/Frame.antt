@@ -1,7 +1,7 @@
 -- A frame of a running application, the public segment that a chain shares, and the accesses to both.
 use Rattle.std.specs.Prelude.{ℕ, suc, ◌+◌, ◌-◌, Bool, true, false, cond, not, ◌&&◌, ◌||◌, nat_lt, nat_le, ◌==◌, List, [], ◌∷◌, ◌++◌, length, take, drop, ℤ, pos, negsuc, unwrap_or, is_none, Option, Some, None}
 use Rattle.mc_model_device.specs.Bytes.{be2, bytes2, num, zeros, splice}
-use Rattle.mc_model_device.specs.Pieces.{laid_pieces, touched}
+use Rattle.mc_model_device.specs.Pieces.{laid_pieces, touched_words}
 use Rattle.mc_model_machine.specs.Apdu.{ApduParts}
 
 -- the frame of a running application: `fixed` is the static segment without the pending pieces, `dyn` the 512 dynamic bytes, `at` the
@@ -70,13 +70,13 @@ abbrev pub in_two_bytes : ℕ → Option ℕ
 in_two_bytes a = cond (nat_lt a 65536) (Some a) None
 
 -- a number plus a signed one, if that is an address
-abbrev pub moved : ℕ → ℤ → Option ℕ
-moved r (pos n) = in_two_bytes (r + n)
-moved r (negsuc n) = cond (nat_lt n r) (in_two_bytes (r - suc n)) None
+abbrev pub moved_address : ℕ → ℤ → Option ℕ
+moved_address r (pos n) = in_two_bytes (r + n)
+moved_address r (negsuc n) = cond (nat_lt n r) (in_two_bytes (r - suc n)) None
 
 -- register plus offset, if that is an address
 abbrev pub resolve : Frame → ℕ → ℤ → Option ℕ
-resolve f tag off = moved (register f tag) off
+resolve f tag off = moved_address (register f tag) off
 
 -- ---- reading and writing
 
@@ -122,19 +122,19 @@ static_written true f public i b =
     record { frame = record f { pieces = f.pieces ++ (i, b) ∷ [] }; public = public; changes = None }
 
 -- the effect of writing bytes at a place of a segment
-abbrev pub written_in : Frame → List ℕ → List ℕ → Option Place → Effect
-written_in f public b None = record { frame = f; public = public; changes = None }
-written_in f public b (Some (Static i)) = static_written f.protected f public i b
-written_in f public b (Some (Dynamic i)) = record { frame = record f { dyn = splice f.dyn i b }; public = public; changes = None }
-written_in f public b (Some (Public i)) = record { frame = f; public = splice public i b; changes = None }
+abbrev pub write_effect_at : Frame → List ℕ → List ℕ → Option Place → Effect
+write_effect_at f public b None = record { frame = f; public = public; changes = None }
+write_effect_at f public b (Some (Static i)) = static_written f.protected f public i b
+write_effect_at f public b (Some (Dynamic i)) = record { frame = record f { dyn = splice f.dyn i b }; public = public; changes = None }
+write_effect_at f public b (Some (Public i)) = record { frame = f; public = splice public i b; changes = None }
 
 -- the effect of writing bytes at an address
-unfoldable pub written : Frame → List ℕ → ℕ → List ℕ → Effect
-written f public a b = written_in f public b (where_is f a (length b))
+unfoldable pub write_effect : Frame → List ℕ → ℕ → List ℕ → Effect
+write_effect f public a b = write_effect_at f public b (where_is f a (length b))
 
 -- whether with n bytes more at a place of the static segment more than 64 distinct words would be pending, abend 08
 abbrev pub passes_limit : Bool → Frame → Option Place → ℕ → Bool
-passes_limit true f (Some (Static i)) n = nat_lt 64 (length (touched (f.pieces ++ (i, zeros n) ∷ [])))
+passes_limit true f (Some (Static i)) n = nat_lt 64 (length (touched_words (f.pieces ++ (i, zeros n) ∷ [])))
 passes_limit true f (Some (Dynamic i)) n = false
 passes_limit true f (Some (Public i)) n = false
 passes_limit true f None n = false
@@ -155,42 +155,42 @@ abbrev pub is_over : Frame → ℕ → Bool
 is_over f n = nat_lt dynamic_end (f.dt + n)
 
 -- the frame with bytes pushed on its stack
-abbrev pub pushed : Frame → List ℕ → Frame
-pushed f b = record f { dyn = splice f.dyn (f.dt - dynamic_base) b; dt = f.dt + length b }
+abbrev pub frame_after_push : Frame → List ℕ → Frame
+frame_after_push f b = record f { dyn = splice f.dyn (f.dt - dynamic_base) b; dt = f.dt + length b }
 
 -- the stack without its top n bytes
-abbrev pub popped : Frame → ℕ → Frame
-popped f n = record f { dt = f.dt - n }
+abbrev pub frame_after_pop : Frame → ℕ → Frame
+frame_after_pop f n = record f { dt = f.dt - n }
 
 -- the n bytes of the stack that begin k bytes below its top
-abbrev pub stacked : Frame → ℕ → ℕ → List ℕ
-stacked f k n = take n (drop (f.dt - k - dynamic_base) f.dyn)
+abbrev pub stack_bytes : Frame → ℕ → ℕ → List ℕ
+stack_bytes f k n = take n (drop (f.dt - k - dynamic_base) f.dyn)
 
 -- the top n bytes of the stack
 abbrev pub top : Frame → ℕ → List ℕ
-top f n = stacked f n n
+top f n = stack_bytes f n n
 
 -- the frame with the top bytes of its stack replaced
-abbrev pub topped : Frame → List ℕ → Frame
-topped f b = record f { dyn = splice f.dyn (f.dt - length b - dynamic_base) b }
+abbrev pub frame_with_top : Frame → List ℕ → Frame
+frame_with_top f b = record f { dyn = splice f.dyn (f.dt - length b - dynamic_base) b }
 
 -- the frame with these flags C and Z
-abbrev pub flagged : Frame → Bool → Bool → Frame
-flagged f c z = record f { c = c; z = z }
+abbrev pub frame_with_flags : Frame → Bool → Bool → Frame
+frame_with_flags f c z = record f { c = c; z = z }
 
 -- ---- calls
 
 -- the frame after a call: LB and the code address are pushed, LB is the new top, and the code goes on at the target
-abbrev pub entered : Frame → ℕ → Frame
-entered f to = let g = pushed f (bytes2 f.lb ++ bytes2 f.at) in record g { lb = g.dt; at = to }
+abbrev pub frame_after_entry : Frame → ℕ → Frame
+frame_after_entry f to = let g = frame_after_push f (bytes2 f.lb ++ bytes2 f.at) in record g { lb = g.dt; at = to }
 
 -- whether no frame of a call lies below with i bytes under it, or fewer than o bytes lie above it, abend 04
 abbrev pub no_return : Frame → ℕ → ℕ → Bool
 no_return f i o = not (nat_le (floor f + 4 + i) f.lb && nat_le (f.lb + o) f.dt)
 
 -- the saved LB and return address
-abbrev pub saved : Frame → ℕ → ℕ
-saved f k = num (take 2 (drop (f.lb - k - dynamic_base) f.dyn))
+abbrev pub saved_address : Frame → ℕ → ℕ
+saved_address f k = num (take 2 (drop (f.lb - k - dynamic_base) f.dyn))
 
 -- the frame after a return: the top o bytes move over the frame of the call and the i bytes below it
 abbrev pub come_back : Frame → ℕ → ℕ → Frame
@@ -198,23 +198,23 @@ come_back f i o =
     record f {
       dyn = splice f.dyn (f.lb - 4 - i - dynamic_base) (top f o);
       dt = f.lb - 4 - i + o;
-      lb = saved f 4;
-      at = saved f 2;
+      lb = saved_address f 4;
+      at = saved_address f 2;
     }
 
 -- ---- protection
 
 -- the static changes of a commit: all pending pieces at once; with none no change
-abbrev pub committed : Frame → List (ℕ × List ℕ) → Option (List (ℕ × List ℕ))
-committed f [] = None
-committed f (p ∷ ps) = Some (p ∷ ps)
+abbrev pub pending_change : Frame → List (ℕ × List ℕ) → Option (List (ℕ × List ℕ))
+pending_change f [] = None
+pending_change f (p ∷ ps) = Some (p ∷ ps)
 
 -- the effect of a change of protection: mode 0 drops the pending pieces and turns it off; 1 commits, off; 2 drops, on; 3 commits, on
 abbrev pub protect : Frame → List ℕ → ℕ → Effect
 protect f public mode =
     let on = nat_le 2 mode in
     cond (mode == 1 || mode == 3) (
-    record { frame = record f { fixed = static_bytes f; pieces = []; protected = on }; public = public; changes = committed f f.pieces }
+    record { frame = record f { fixed = static_bytes f; pieces = []; protected = on }; public = public; changes = pending_change f f.pieces }
     ) (record { frame = record f { pieces = []; protected = on }; public = public; changes = None })
 
 -- ---- beginnings

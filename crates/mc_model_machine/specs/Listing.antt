@@ -133,9 +133,9 @@ line_before line (Ok rest) = Ok (line ++ codes "\n" ++ rest)
 line_before line (Err e) = Err e
 
 -- the line of the instruction at a place, and those after it
-abbrev pub listed_one : ℕ → Result (Ins × ℕ) DecodeFault → Result (List ℕ) (ℕ × DecodeFault) → Result (List ℕ) (ℕ × DecodeFault)
-listed_one at (Ok p) rest = line_before (text_of p.0) rest
-listed_one at (Err e) rest = Err (at, e)
+abbrev pub listing_with : ℕ → Result (Ins × ℕ) DecodeFault → Result (List ℕ) (ℕ × DecodeFault) → Result (List ℕ) (ℕ × DecodeFault)
+listing_with at (Ok p) rest = line_before (text_of p.0) rest
+listing_with at (Err e) rest = Err (at, e)
 
 -- the number of bytes of an instruction, 0 if there is none
 abbrev pub length_of : Result (Ins × ℕ) DecodeFault → ℕ
@@ -143,15 +143,15 @@ length_of (Ok p) = p.1
 length_of (Err e) = 0
 
 -- the lines of the remaining bytes from a place on; the fuel is at least their number
-unfoldable pub listed_from : ℕ → List ℕ → ℕ → Result (List ℕ) (ℕ × DecodeFault)
-listed_from zero left at = Ok []
-listed_from (suc fuel) [] at = Ok []
-listed_from (suc fuel) (b ∷ bs) at =
+unfoldable pub listing_from : ℕ → List ℕ → ℕ → Result (List ℕ) (ℕ × DecodeFault)
+listing_from zero left at = Ok []
+listing_from (suc fuel) [] at = Ok []
+listing_from (suc fuel) (b ∷ bs) at =
     let ins = front (b ∷ bs) in
-    let rest = listed_from fuel (drop (length_of ins) (b ∷ bs)) (at + length_of ins) in
-    listed_one at ins rest
+    let rest = listing_from fuel (drop (length_of ins) (b ∷ bs)) (at + length_of ins) in
+    listing_with at ins rest
 
 -- the listing of code, or the first place from 0 on that has no instruction
-unfoldable pub listed : List ℕ → Result (List ℕ) (ℕ × DecodeFault)
-unfolding listed_from
-listed code = listed_from (length code) code 0
+unfoldable pub listing_of_code : List ℕ → Result (List ℕ) (ℕ × DecodeFault)
+unfolding listing_from
+listing_of_code code = listing_from (length code) code 0

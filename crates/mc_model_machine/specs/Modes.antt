@@ -3,10 +3,10 @@
 use Rattle.std.specs.Prelude.{◌≡◌, ℕ, zero, suc, ◌/◌, ◌<◌, List, [], ◌∷◌, ◌++◌, length, take, drop, bit_xor}
 
 -- two lists added place by place, bit by bit (exclusive or)
-abbrev pub added : List ℕ → List ℕ → List ℕ
-added [] ys = []
-added (x ∷ xs) [] = x ∷ xs
-added (x ∷ xs) (y ∷ ys) = bit_xor x y ∷ added xs ys
+abbrev pub bit_sum : List ℕ → List ℕ → List ℕ
+bit_sum [] ys = []
+bit_sum (x ∷ xs) [] = x ∷ xs
+bit_sum (x ∷ xs) (y ∷ ys) = bit_xor x y ∷ bit_sum xs ys
 
 -- the first n blocks of a message
 abbrev pub blocks_of : ℕ → ℕ → List ℕ → List (List ℕ)
@@ -19,9 +19,9 @@ each cipher [] = []
 each cipher (b ∷ bs) = cipher b ++ each cipher bs
 
 -- the last block of CBC: every block is added to the one before it, and enciphered
-abbrev pub chained : (List ℕ → List ℕ) → List ℕ → List (List ℕ) → List ℕ
-chained cipher last [] = last
-chained cipher last (b ∷ bs) = chained cipher (cipher (added b last)) bs
+abbrev pub last_of_chain : (List ℕ → List ℕ) → List ℕ → List (List ℕ) → List ℕ
+last_of_chain cipher last [] = last
+last_of_chain cipher last (b ∷ bs) = last_of_chain cipher (cipher (bit_sum b last)) bs
 
 -- ECB: a message of whole blocks, block by block (SP 800-38A, 6.1)
 abbrev pub ecb : (List ℕ → List ℕ) → ℕ → List ℕ → List ℕ
@@ -29,7 +29,7 @@ ecb cipher size message = each cipher (blocks_of (length message / size) size me
 
 -- the last block of CBC over a message of whole blocks, from a start block (SP 800-38A, 6.2)
 abbrev pub cbc_last : (List ℕ → List ℕ) → ℕ → List ℕ → List ℕ → List ℕ
-cbc_last cipher size start message = chained cipher start (blocks_of (length message / size) size message)
+cbc_last cipher size start message = last_of_chain cipher start (blocks_of (length message / size) size message)
 
 -- each number of a list is below m
 abbrev pub AllBelow : ℕ → List ℕ → Type 0

@@ -7,8 +7,8 @@ use Rattle.mc_model_machine.specs.declared.machine.Abend.{Abend}
 use Rattle.mc_model_machine.specs.declared.machine.Abend.TheVariants.{A02, A03, A04, A05, A06, A08}
 use Rattle.mc_model_device.specs.Bytes.{bytes2, num, zeros}
 use Rattle.mc_model_machine.specs.Blocks.{Worked, add_blocks, sub_blocks, inc_block, dec_block, and_blocks, or_blocks, xor_blocks, not_block, is_zero}
-use Rattle.mc_model_machine.specs.Frame.{Frame, Effect, moved, in_two_bytes, resolve, bytes_at, address_at, is_outside, no_access, written, too_many, is_under, is_over, pushed, popped, stacked, top, flagged, entered, no_return, saved, come_back, with_sw, with_la}
-use Rattle.mc_model_machine.specs.Primitives.{Around, Then, Goes, Exits, Done, going, framed, effect_flagged, primitive, prim_causes, prim_done, in_range}
+use Rattle.mc_model_machine.specs.Frame.{Frame, Effect, moved_address, in_two_bytes, resolve, bytes_at, address_at, is_outside, no_access, write_effect, too_many, is_under, is_over, frame_after_push, frame_after_pop, stack_bytes, top, frame_with_flags, frame_after_entry, no_return, saved_address, come_back, with_sw, with_la}
+use Rattle.mc_model_machine.specs.Primitives.{Around, Then, Goes, Exits, Done, effect_and_next, frame_effect, effect_flagged, primitive, prim_causes, prim_done, in_range}
 
 -- ---- words of the rows
 
@@ -29,8 +29,8 @@ abbrev pub operand : Frame → ℕ → ℤ → ℕ → Option ℕ
 operand f tag off k = cond (tag == 0) (Some (f.dt - k)) (resolve f tag off)
 
 -- an address that is known to be one
-abbrev pub known : Option ℕ → ℕ
-known a = unwrap_or a 0
+abbrev pub address_or_zero : Option ℕ → ℕ
+address_or_zero a = unwrap_or a 0
 
 -- n with tag 0, when the operand is on the stack, else m
 abbrev pub on_stack : ℕ → ℕ → ℕ → ℕ
@@ -42,28 +42,28 @@ reads f a n = (A03, no_access f a n) ∷ []
 
 -- the causes of a place that is written: abends 03 and 08
 abbrev pub writes : Frame → Option ℕ → ℕ → List (Abend × Bool)
-writes f a n = (A03, no_access f a n) ∷ (A08, too_many f (known a) n) ∷ []
+writes f a n = (A03, no_access f a n) ∷ (A08, too_many f (address_or_zero a) n) ∷ []
 
 -- the value at a place becomes the result, which sets both flags
 abbrev pub becomes : Frame → List ℕ → ℕ → Worked → Done
-becomes f public a w = going (effect_flagged (written f public a w.value) w.c w.z)
+becomes f public a w = effect_and_next (effect_flagged (write_effect f public a w.value) w.c w.z)
 
 -- the value at a place becomes the result, which sets Z alone
 abbrev pub becomes_bits : Frame → List ℕ → ℕ → List ℕ → Done
-becomes_bits f public a b = going (effect_flagged (written f public a b) f.c (is_zero b))
+becomes_bits f public a b = effect_and_next (effect_flagged (write_effect f public a b) f.c (is_zero b))
 
 -- a result that sets the flags alone
 abbrev pub flags_of : Frame → List ℕ → Worked → Done
-flags_of f public w = going (framed (flagged f w.c w.z) public)
+flags_of f public w = effect_and_next (frame_effect (frame_with_flags f w.c w.z) public)
 
 -- the frame exits, once the public segment is set
-abbrev pub exiting : Frame → List ℕ → Done
-exiting f public = record { effect = framed f public; next = Exits }
+abbrev pub exit_with : Frame → List ℕ → Done
+exit_with f public = record { effect = frame_effect f public; next = Exits }
 
 -- the frame, its code going on at a place if the condition holds
-abbrev pub gone : Bool → Frame → ℕ → Frame
-gone true f to = record f { at = to }
-gone false f to = f
+abbrev pub frame_after_jump : Bool → Frame → ℕ → Frame
+frame_after_jump true f to = record f { at = to }
+frame_after_jump false f to = f
 
 -- the address of a jump or call: the two bytes on top of the stack under condition 0
 abbrev pub target : Frame → ℕ → ℕ → ℕ
@@ -71,26 +71,26 @@ target f k to = cond (k == 0) (num (top f 2)) to
 
 -- the frame without the address on its stack
 abbrev pub without_target : Frame → ℕ → Frame
-without_target f k = cond (k == 0) (popped f 2) f
+without_target f k = cond (k == 0) (frame_after_pop f 2) f
 
 -- the frame after a call if the condition holds, else the frame
-abbrev pub called : Bool → Frame → ℕ → Frame
-called true f to = entered f to
-called false f to = f
+abbrev pub frame_after_call : Bool → Frame → ℕ → Frame
+frame_after_call true f to = frame_after_entry f to
+frame_after_call false f to = f
 
 -- the base of an indexed address; the index is on top of the stack, and with tag 0 the base lies below it
 abbrev pub index_base : Frame → ℕ → ℤ → Option ℕ
-index_base f tag off = cond (tag == 0) (Some (num (stacked f 3 2))) (resolve f tag off)
+index_base f tag off = cond (tag == 0) (Some (num (stack_bytes f 3 2))) (resolve f tag off)
 
 -- base plus index times size, if that is an address
-abbrev pub indexed : Frame → ℕ → ℤ → ℕ → Option ℕ
-indexed f tag off size = option_and_then (λ a. in_two_bytes (a + num (top f 1) * size)) (index_base f tag off)
+abbrev pub indexed_address : Frame → ℕ → ℤ → ℕ → Option ℕ
+indexed_address f tag off size = option_and_then (λ a. in_two_bytes (a + num (top f 1) * size)) (index_base f tag off)
 
 -- ---- causes by kind of row
 
 -- returns: the saved words, and then the return address
 abbrev pub return_causes : Frame → ℕ → ℕ → List (Abend × Bool)
-return_causes f i o = (A04, no_return f i o) ∷ (A02, no_place f (Some (saved f 2))) ∷ []
+return_causes f i o = (A04, no_return f i o) ∷ (A02, no_place f (Some (saved_address f 2))) ∷ []
 
 -- a byte or a word at a place, or on top of the stack, against an immediate
 abbrev pub immediate_reads : Frame → ℕ → ℤ → ℕ → List (Abend × Bool)
@@ -120,7 +120,7 @@ causes ins.Exit f public x = []
 causes (ins.Exitsw sw) f public x = []
 causes (ins.Exitla la) f public x = []
 causes (ins.Exitswla sw la) f public x = []
-causes (ins.Branch k d) f public x = (A02, holds k f && no_place f (moved f.at d)) ∷ []
+causes (ins.Branch k d) f public x = (A02, holds k f && no_place f (moved_address f.at d)) ∷ []
 causes (ins.Jump k to) f public x = (A04, k == 0 && is_under f 2) ∷ (A02, holds k f && no_place f (Some (target f k to))) ∷ []
 causes (ins.Call k to) f public x =
     (A04, k == 0 && is_under f 2) ∷ (A02, holds k f && no_place f (Some (target f k to))) ∷ (A05, holds k f && is_over (without_target f k) 4) ∷ []
@@ -137,17 +137,17 @@ causes (ins.Reto o) f public x = return_causes f 0 o
 causes (ins.Retio i o) f public x = return_causes f i o
 causes (ins.Load tag off n) f public x = (A06, n == 0) ∷ (A04, tag == 0 && is_under f n) ∷ (A03, no_access f (operand f tag off n) n) ∷ (A05, is_over f n) ∷ []
 causes (ins.Store tag off n) f public x =
-    (A06, n == 0) ∷ (A04, is_under f (on_stack tag (2 * n) n)) ∷ writes (popped f n) (operand f tag off (2 * n)) n
+    (A06, n == 0) ∷ (A04, is_under f (on_stack tag (2 * n) n)) ∷ writes (frame_after_pop f n) (operand f tag off (2 * n)) n
 causes (ins.Loadi tag off n) f public x =
     let a = operand f tag off 2 in
-    (A06, n == 0) ∷ (A04, tag == 0 && is_under f 2) ∷ (A03, no_access f a 2 || is_outside f (address_at f public (known a)) n) ∷ (A05, is_over f n) ∷ []
+    (A06, n == 0) ∷ (A04, tag == 0 && is_under f 2) ∷ (A03, no_access f a 2 || is_outside f (address_at f public (address_or_zero a)) n) ∷ (A05, is_over f n) ∷ []
 causes (ins.Storei tag off n) f public x =
     let a = operand f tag off (n + 2) in
-    let to = address_at f public (known a) in
-    (A06, n == 0) ∷ (A04, is_under f (on_stack tag (n + 2) n)) ∷ (A03, no_access f a 2 || is_outside (popped f n) to n) ∷ (A08, too_many (popped f n) to n) ∷ []
+    let to = address_at f public (address_or_zero a) in
+    (A06, n == 0) ∷ (A04, is_under f (on_stack tag (n + 2) n)) ∷ (A03, no_access f a 2 || is_outside (frame_after_pop f n) to n) ∷ (A08, too_many (frame_after_pop f n) to n) ∷ []
 causes (ins.Loada tag off) f public x = (A03, is_none (operand f tag off 0)) ∷ (A05, is_over f 2) ∷ []
 causes (ins.Index tag off size) f public x =
-    (A04, is_under f (on_stack tag 3 1)) ∷ (A03, is_none (indexed f tag off size)) ∷ (A05, is_over (popped f (on_stack tag 3 1)) 2) ∷ []
+    (A04, is_under f (on_stack tag 3 1)) ∷ (A03, is_none (indexed_address f tag off size)) ∷ (A05, is_over (frame_after_pop f (on_stack tag 3 1)) 2) ∷ []
 causes (ins.Setb tag off b) f public x = immediate_writes f tag off 1
 causes (ins.Cmpb tag off b) f public x = immediate_reads f tag off 1
 causes (ins.Addb tag off b) f public x = immediate_writes f tag off 1
@@ -172,7 +172,7 @@ causes (ins.Xorn tag off n) f public x = (A06, n == 0) ∷ pair_writes f tag off
 
 -- the operand's place
 abbrev pub place_of : Frame → ℕ → ℤ → ℕ → ℕ
-place_of f tag off k = known (operand f tag off k)
+place_of f tag off k = address_or_zero (operand f tag off k)
 
 -- the operand's n bytes
 abbrev pub value_of : Frame → List ℕ → ℕ → ℤ → ℕ → List ℕ
@@ -184,45 +184,45 @@ first_of f public tag off n = bytes_at f public (place_of f tag off (2 * n)) n
 
 -- the effect of each instruction if no cause holds
 unfoldable pub effect : Ins → Frame → List ℕ → Around → Done
-effect ins.Nop f public x = going (framed f public)
-effect (ins.Setsw sw) f public x = going (framed f (with_sw public sw))
-effect (ins.Setla la) f public x = going (framed f (with_la public la))
-effect (ins.Setswla sw la) f public x = going (framed f (with_la (with_sw public sw) la))
-effect ins.Exit f public x = exiting f public
-effect (ins.Exitsw sw) f public x = exiting f (with_sw public sw)
-effect (ins.Exitla la) f public x = exiting f (with_la public la)
-effect (ins.Exitswla sw la) f public x = exiting f (with_la (with_sw public sw) la)
-effect (ins.Branch k d) f public x = going (framed (gone (holds k f) f (known (moved f.at d))) public)
-effect (ins.Jump k to) f public x = going (framed (gone (holds k f) (without_target f k) (target f k to)) public)
-effect (ins.Call k to) f public x = going (framed (called (holds k f) (without_target f k) (target f k to)) public)
-effect (ins.Pushz n) f public x = going (framed (pushed f (zeros n)) public)
-effect (ins.Pushb b) f public x = going (framed (pushed f (b ∷ [])) public)
-effect (ins.Pushw w) f public x = going (framed (pushed f (bytes2 w)) public)
-effect (ins.Popn n) f public x = going (framed (popped f n) public)
-effect ins.Popb f public x = going (framed (popped f 1) public)
-effect ins.Popw f public x = going (framed (popped f 2) public)
+effect ins.Nop f public x = effect_and_next (frame_effect f public)
+effect (ins.Setsw sw) f public x = effect_and_next (frame_effect f (with_sw public sw))
+effect (ins.Setla la) f public x = effect_and_next (frame_effect f (with_la public la))
+effect (ins.Setswla sw la) f public x = effect_and_next (frame_effect f (with_la (with_sw public sw) la))
+effect ins.Exit f public x = exit_with f public
+effect (ins.Exitsw sw) f public x = exit_with f (with_sw public sw)
+effect (ins.Exitla la) f public x = exit_with f (with_la public la)
+effect (ins.Exitswla sw la) f public x = exit_with f (with_la (with_sw public sw) la)
+effect (ins.Branch k d) f public x = effect_and_next (frame_effect (frame_after_jump (holds k f) f (address_or_zero (moved_address f.at d))) public)
+effect (ins.Jump k to) f public x = effect_and_next (frame_effect (frame_after_jump (holds k f) (without_target f k) (target f k to)) public)
+effect (ins.Call k to) f public x = effect_and_next (frame_effect (frame_after_call (holds k f) (without_target f k) (target f k to)) public)
+effect (ins.Pushz n) f public x = effect_and_next (frame_effect (frame_after_push f (zeros n)) public)
+effect (ins.Pushb b) f public x = effect_and_next (frame_effect (frame_after_push f (b ∷ [])) public)
+effect (ins.Pushw w) f public x = effect_and_next (frame_effect (frame_after_push f (bytes2 w)) public)
+effect (ins.Popn n) f public x = effect_and_next (frame_effect (frame_after_pop f n) public)
+effect ins.Popb f public x = effect_and_next (frame_effect (frame_after_pop f 1) public)
+effect ins.Popw f public x = effect_and_next (frame_effect (frame_after_pop f 2) public)
 effect (ins.Prim set number args) f public x = prim_done (primitive set number) args f public x
-effect ins.Ret f public x = going (framed (come_back f 0 0) public)
-effect (ins.Reti i) f public x = going (framed (come_back f i 0) public)
-effect (ins.Reto o) f public x = going (framed (come_back f 0 o) public)
-effect (ins.Retio i o) f public x = going (framed (come_back f i o) public)
-effect (ins.Load tag off n) f public x = going (framed (pushed f (value_of f public tag off n)) public)
-effect (ins.Store tag off n) f public x = going (written (popped f n) public (place_of f tag off (2 * n)) (top f n))
-effect (ins.Loadi tag off n) f public x = going (framed (pushed f (bytes_at f public (address_at f public (place_of f tag off 2)) n)) public)
-effect (ins.Storei tag off n) f public x = going (written (popped f n) public (address_at f public (place_of f tag off (n + 2))) (top f n))
-effect (ins.Loada tag off) f public x = going (framed (pushed f (bytes2 (place_of f tag off 0))) public)
+effect ins.Ret f public x = effect_and_next (frame_effect (come_back f 0 0) public)
+effect (ins.Reti i) f public x = effect_and_next (frame_effect (come_back f i 0) public)
+effect (ins.Reto o) f public x = effect_and_next (frame_effect (come_back f 0 o) public)
+effect (ins.Retio i o) f public x = effect_and_next (frame_effect (come_back f i o) public)
+effect (ins.Load tag off n) f public x = effect_and_next (frame_effect (frame_after_push f (value_of f public tag off n)) public)
+effect (ins.Store tag off n) f public x = effect_and_next (write_effect (frame_after_pop f n) public (place_of f tag off (2 * n)) (top f n))
+effect (ins.Loadi tag off n) f public x = effect_and_next (frame_effect (frame_after_push f (bytes_at f public (address_at f public (place_of f tag off 2)) n)) public)
+effect (ins.Storei tag off n) f public x = effect_and_next (write_effect (frame_after_pop f n) public (address_at f public (place_of f tag off (n + 2))) (top f n))
+effect (ins.Loada tag off) f public x = effect_and_next (frame_effect (frame_after_push f (bytes2 (place_of f tag off 0))) public)
 effect (ins.Index tag off size) f public x =
-    going (framed (pushed (popped f (on_stack tag 3 1)) (bytes2 (known (indexed f tag off size)))) public)
-effect (ins.Setb tag off b) f public x = going (written f public (place_of f tag off 1) (b ∷ []))
+    effect_and_next (frame_effect (frame_after_push (frame_after_pop f (on_stack tag 3 1)) (bytes2 (address_or_zero (indexed_address f tag off size)))) public)
+effect (ins.Setb tag off b) f public x = effect_and_next (write_effect f public (place_of f tag off 1) (b ∷ []))
 effect (ins.Cmpb tag off b) f public x = flags_of f public (sub_blocks (value_of f public tag off 1) (b ∷ []))
 effect (ins.Addb tag off b) f public x = becomes f public (place_of f tag off 1) (add_blocks (value_of f public tag off 1) (b ∷ []))
 effect (ins.Subb tag off b) f public x = becomes f public (place_of f tag off 1) (sub_blocks (value_of f public tag off 1) (b ∷ []))
-effect (ins.Setw tag off w) f public x = going (written f public (place_of f tag off 2) (bytes2 w))
+effect (ins.Setw tag off w) f public x = effect_and_next (write_effect f public (place_of f tag off 2) (bytes2 w))
 effect (ins.Cmpw tag off w) f public x = flags_of f public (sub_blocks (value_of f public tag off 2) (bytes2 w))
 effect (ins.Addw tag off w) f public x = becomes f public (place_of f tag off 2) (add_blocks (value_of f public tag off 2) (bytes2 w))
 effect (ins.Subw tag off w) f public x = becomes f public (place_of f tag off 2) (sub_blocks (value_of f public tag off 2) (bytes2 w))
 effect (ins.Clearn tag off n) f public x = becomes_bits f public (place_of f tag off n) (zeros n)
-effect (ins.Testn tag off n) f public x = going (framed (flagged f f.c (is_zero (value_of f public tag off n))) public)
+effect (ins.Testn tag off n) f public x = effect_and_next (frame_effect (frame_with_flags f f.c (is_zero (value_of f public tag off n))) public)
 effect (ins.Incn tag off n) f public x = becomes f public (place_of f tag off n) (inc_block (value_of f public tag off n))
 effect (ins.Decn tag off n) f public x = becomes f public (place_of f tag off n) (dec_block (value_of f public tag off n))
 effect (ins.Notn tag off n) f public x = becomes_bits f public (place_of f tag off n) (not_block (value_of f public tag off n))
@@ -246,10 +246,10 @@ pub data RowEnd : Type 0 where
   Does : (done : Done) → RowEnd
 
 -- a row by its first cause
-abbrev pub judged : Option Abend → Done → RowEnd
-judged (Some a) d = Abends a
-judged None d = Does d
+abbrev pub row_end : Option Abend → Done → RowEnd
+row_end (Some a) d = Abends a
+row_end None d = Does d
 
 -- the row of an instruction
 unfoldable pub row : Ins → Frame → List ℕ → Around → RowEnd
-row i f public x = let d = effect i f public x in judged (first_cause (causes i f public x)) d
+row i f public x = let d = effect i f public x in row_end (first_cause (causes i f public x)) d

@@ -2,7 +2,7 @@
 use Rattle.std.specs.Prelude.{ℕ, suc, ◌+◌, ◌-◌, ◌*◌, Bool, true, false, cond, not, ◌&&◌, ◌||◌, nat_lt, nat_le, ◌==◌, ℤ, pos, negsuc, List, slice_index, Option, Some, None, is_none}
 use Rattle.mc_model_machine.specs.declared.instruction.Ins.{Ins}
 use Rattle.mc_model_machine.specs.declared.instruction.Ins.TheVariants as ins
-use Rattle.mc_model_machine.specs.Frame.{moved}
+use Rattle.mc_model_machine.specs.Frame.{moved_address}
 use Rattle.mc_model_machine.specs.Primitives.{Primitive, CheckCase, LoadCcr, StoreCcr, Lookup, MemoryCompare, MemoryCopy, DelegateTo, DelegatorAid, Digest, CompareFixed, CopyFixed, SetProtection, Encipher, Decipher, Sign, BitByte, ShiftLeft, ShiftRight, BitWord, primitive, has_bad_argument, in_range}
 use Rattle.mc_model_machine.specs.Row.{on_stack}
 
@@ -231,7 +231,7 @@ goes_on i = not (always_abends i) && is_none (counts i)
 
 -- the target of a BRANCH or JUMP that ends right before `next`, which may be no place
 abbrev pub jump_target : Ins → ℕ → Option (Option ℕ)
-jump_target (ins.Branch k d) next = Some (moved next d)
+jump_target (ins.Branch k d) next = Some (moved_address next d)
 jump_target (ins.Jump k to) next = cond (k == 0) None (Some (Some to))
 jump_target _ next = None
 

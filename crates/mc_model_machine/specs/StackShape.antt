@@ -5,7 +5,7 @@ use Rattle.mc_model_machine.specs.declared.checker.CheckCause.TheVariants.{Undef
 use Rattle.mc_model_machine.specs.declared.instruction.DecodeFault.{DecodeFault}
 use Rattle.mc_model_machine.specs.declared.instruction.DecodeFault.TheVariants as fault
 use Rattle.mc_model_machine.specs.declared.instruction.Ins.{Ins}
-use Rattle.mc_model_machine.specs.Code.{decoded}
+use Rattle.mc_model_machine.specs.Code.{instruction_at}
 use Rattle.mc_model_machine.specs.StackRows.{need, height_after, writing, is_plain, is_indirect, is_call, is_conditional, counts, goes_on, jump_target, call_target, places_inside}
 
 -- ---- facts
@@ -41,10 +41,10 @@ first_bad [] look = look
 first_bad (c ∷ cs) look = cond c.1 (Bad c.0) (first_bad cs look)
 
 -- what a fact alone shows
-abbrev pub seen : ℕ → Fact → Result (Ins × ℕ) DecodeFault → FactLook
-seen len f (Err fault.Undefined) = Bad Undefined
-seen len f (Err fault.Past) = Bad Past
-seen len f (Ok p) =
+abbrev pub fact_look : ℕ → Fact → Result (Ins × ℕ) DecodeFault → FactLook
+fact_look len f (Err fault.Undefined) = Bad Undefined
+fact_look len f (Err fault.Past) = Bad Past
+fact_look len f (Ok p) =
     first_bad (
     (Indirect, is_indirect p.0)
     ∷ (Returns, is_main f.routine && is_some (counts p.0))
@@ -55,7 +55,7 @@ seen len f (Ok p) =
 
 -- what is seen of a fact of this code
 unfoldable pub look : List ℕ → Fact → FactLook
-look code f = seen (length code) f (decoded code f.place)
+look code f = fact_look (length code) f (instruction_at code f.place)
 
 -- a fact whose instruction leads to further facts
 pub record Gives (code : List ℕ) (f : Fact) (i : Ins) (next : ℕ) : Type 0 where
@@ -64,7 +64,7 @@ pub record Gives (code : List ℕ) (f : Fact) (i : Ins) (next : ℕ) : Type 0 wh
 
 -- the instruction at a fact's place, whatever else holds there
 abbrev pub IsAt : List ℕ → ℕ → Ins → Type 0
-IsAt code p i = (next : ℕ) × (decoded code p ≡ Ok (i, next))
+IsAt code p i = (next : ℕ) × (instruction_at code p ≡ Ok (i, next))
 
 -- The facts, the least set under these rules: the code begins in main; an instruction that is no CALL goes on with its pops
 -- and pushes; it goes to its target with the same height; a CALL begins its routine; a CALL under a condition may go on; and a CALL
@@ -173,12 +173,12 @@ pub record TooDeep (code : List ℕ) (session : ℕ) (f : Fact) : Type 0 where
 
 -- there is an instruction at a fact, and something holds of it and the place after it
 abbrev pub HoldsAtFact : List ℕ → Fact → (Ins → ℕ → Type 0) → Type 0
-HoldsAtFact code f holds = (i : Ins) × (next : ℕ) × (decoded code f.place ≡ Ok (i, next)) × holds i next
+HoldsAtFact code f holds = (i : Ins) × (next : ℕ) × (instruction_at code f.place ≡ Ok (i, next)) × holds i next
 
 -- the cause holds for a fact
 abbrev pub Breaks : List ℕ → ℕ → CheckCause → Fact → Type 0
-Breaks code session Undefined f = decoded code f.place ≡ Err fault.Undefined
-Breaks code session Past f = decoded code f.place ≡ Err fault.Past
+Breaks code session Undefined f = instruction_at code f.place ≡ Err fault.Undefined
+Breaks code session Past f = instruction_at code f.place ≡ Err fault.Past
 Breaks code session Indirect f = HoldsAtFact code f (λ i next. is_indirect i ≡ true)
 Breaks code session Returns f = HoldsAtFact code f (λ i next. (is_main f.routine && is_some (counts i)) ≡ true) ⊎ Differs code f
 Breaks code session Under f = HoldsAtFact code f (λ i next. f.height < need i) ⊎ TakesMore code f

@@ -28,25 +28,25 @@ only_if false e a = Err e
 -- ---- lines and pieces of a text
 
 -- a character before some pieces: a cut, or the front of the first piece
-abbrev pub cut_or_joined : Bool → ℕ → List (List ℕ) → List (List ℕ)
-cut_or_joined true c ps = [] ∷ ps
-cut_or_joined false c [] = (c ∷ []) ∷ []
-cut_or_joined false c (p ∷ ps) = (c ∷ p) ∷ ps
+abbrev pub pieces_with_character : Bool → ℕ → List (List ℕ) → List (List ℕ)
+pieces_with_character true c ps = [] ∷ ps
+pieces_with_character false c [] = (c ∷ []) ∷ []
+pieces_with_character false c (p ∷ ps) = (c ∷ p) ∷ ps
 
 -- the pieces of a text between the characters that cut it, one more than there are cuts
 abbrev pub pieces : (ℕ → Bool) → List ℕ → List (List ℕ)
 pieces cuts [] = [] ∷ []
-pieces cuts (c ∷ t) = cut_or_joined (cuts c) c (pieces cuts t)
+pieces cuts (c ∷ t) = pieces_with_character (cuts c) c (pieces cuts t)
 
 -- a character before a text that is cut: the text begins at a cut, or goes on
-abbrev pub cut_or_kept : Bool → ℕ → List ℕ → List ℕ × Option (List ℕ) → List ℕ × Option (List ℕ)
-cut_or_kept true c t rest = ([], Some t)
-cut_or_kept false c t rest = (c ∷ rest.0, rest.1)
+abbrev pub halves_with_character : Bool → ℕ → List ℕ → List ℕ × Option (List ℕ) → List ℕ × Option (List ℕ)
+halves_with_character true c t rest = ([], Some t)
+halves_with_character false c t rest = (c ∷ rest.0, rest.1)
 
 -- the text before the first cut, and the text after it, if there is a cut
 abbrev pub first_cut : (ℕ → Bool) → List ℕ → List ℕ × Option (List ℕ)
 first_cut cuts [] = ([], None)
-first_cut cuts (c ∷ t) = cut_or_kept (cuts c) c t (first_cut cuts t)
+first_cut cuts (c ∷ t) = halves_with_character (cuts c) c t (first_cut cuts t)
 
 -- whether a text begins with this character
 abbrev pub begins : ℕ → List ℕ → Bool
@@ -69,9 +69,9 @@ abbrev pub lines : List ℕ → List (List ℕ)
 lines t = no_last_empty (pieces (λ c. c == 10) (without_returns t))
 
 -- the lines with their numbers
-abbrev pub numbered : {A : Type 0} → ℕ → List A → List (ℕ × A)
-numbered n [] = []
-numbered n (l ∷ ls) = (n, l) ∷ numbered (suc n) ls
+abbrev pub with_numbers : {A : Type 0} → ℕ → List A → List (ℕ × A)
+with_numbers n [] = []
+with_numbers n (l ∷ ls) = (n, l) ∷ with_numbers (suc n) ls
 
 -- whether a character is a blank: space or tab
 abbrev pub is_blank : ℕ → Bool
@@ -153,14 +153,14 @@ hex_values [] = Some []
 hex_values (c ∷ t) = before_values (hex_value c) (hex_values t)
 
 -- the bytes that digits spell, two each; an odd number of digits spells none
-abbrev pub paired : List ℕ → Option (List ℕ)
-paired [] = Some []
-paired (a ∷ []) = None
-paired (a ∷ b ∷ vs) = option_map (λ bs. (a * 16 + b) ∷ bs) (paired vs)
+abbrev pub bytes_of_digits : List ℕ → Option (List ℕ)
+bytes_of_digits [] = Some []
+bytes_of_digits (a ∷ []) = None
+bytes_of_digits (a ∷ b ∷ vs) = option_map (λ bs. (a * 16 + b) ∷ bs) (bytes_of_digits vs)
 
 -- the bytes that hexadecimal digits spell
 abbrev pub hex_bytes : List ℕ → Option (List ℕ)
-hex_bytes t = option_and_then paired (hex_values t)
+hex_bytes t = option_and_then bytes_of_digits (hex_values t)
 
 -- ---- code as hexadecimal text
 
@@ -179,6 +179,6 @@ code_digits (l ∷ ls) = do
 -- code as hexadecimal digits, with blanks and line ends anywhere
 unfoldable pub code_text_read : List ℕ → Result (List ℕ) CodeFault
 code_text_read t = do
-  vs ← code_digits (numbered 1 (lines t))
-  code ← ok_or (paired vs) (BadHex (length (lines t)))
+  vs ← code_digits (with_numbers 1 (lines t))
+  code ← ok_or (bytes_of_digits vs) (BadHex (length (lines t)))
   only_if (nat_le (length code) most_code) TooLarge code

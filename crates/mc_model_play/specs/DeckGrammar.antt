@@ -6,7 +6,7 @@ use Rattle.mc_model_play.specs.declared.deck.DeckCause.TheVariants as causes
 use Rattle.mc_model_card.specs.declared.unit.UnitRefusal.{UnitRefusal}
 use Rattle.mc_model_card.specs.declared.unit.UnitRefusal.TheVariants.{NoCode, TooLarge}
 use Rattle.mc_model_device.specs.Bytes.{lookup, zeros}
-use Rattle.mc_model_machine.specs.Text.{◌>>=◌, ok_as, err_as, only_if, begins, lines, numbered, fields, is_within, is_name, decimal_number, hex_bytes}
+use Rattle.mc_model_machine.specs.Text.{◌>>=◌, ok_as, err_as, only_if, begins, lines, with_numbers, fields, is_within, is_name, decimal_number, hex_bytes}
 use Rattle.mc_model_card.specs.Units.{UnitParts, unit_read, made_dir, made_fci}
 use Rattle.mc_model_machine.specs.Assembly.{assembled_lines}
 
@@ -116,42 +116,42 @@ abbrev pub with_unit : Context → List ℕ → UnitParts → Context
 with_unit c name u = record c { units = (name, u) ∷ c.units }
 
 -- a statement at line n, by its word and its fields
-unfoldable pub stated : Context → ℕ → Word → List (List ℕ) → Result Stated DeckCause
+unfoldable pub statement_of : Context → ℕ → Word → List (List ℕ) → Result Stated DeckCause
 unfolding unit_read
-stated c n FormatWord [] = early c Format
-stated c n PowerWord [] = Ok (Says Power (record c { powered = true }))
-stated c n UnitWord (name ∷ hex ∷ []) = do
+statement_of c n FormatWord [] = early c Format
+statement_of c n PowerWord [] = Ok (Says Power (record c { powered = true }))
+statement_of c n UnitWord (name ∷ hex ∷ []) = do
   name ← name_field name
   bytes ← hex_field hex
   name ← new_name c name
   u ← err_as causes.Unit (unit_read bytes)
   Ok (Says Named (with_unit c name u))
-stated c n AppWord (name ∷ aid ∷ []) = do
+statement_of c n AppWord (name ∷ aid ∷ []) = do
   name ← name_field name
   aid ← aid_field aid
   name ← new_name c name
   Ok (Opens (record { first = n; name = name; aid = aid; lines = [] }) c)
-stated c n LoadWord (name ∷ fixed ∷ session ∷ []) = do
+statement_of c n LoadWord (name ∷ fixed ∷ session ∷ []) = do
   name ← name_field name
   fixed ← number_field 0 65535 fixed
   session ← number_field 0 65535 session
   u ← ok_or (lookup c.units name) UnknownName
   Ok (Says (Load u fixed session) c)
-stated c n SelectWord (aid ∷ []) = ok_as (λ a. Says (Select a) c) (aid_field aid)
-stated c n DeleteWord (aid ∷ []) = ok_as (λ a. Says (Delete a) c) (aid_field aid)
-stated c n DumpWord (aid ∷ []) = ok_as (λ a. Says (Dump a) c) (aid_field aid)
-stated c n ApduWord (hex ∷ []) = ok_as (λ b. Says (Apdu b) c) (hex_field hex)
-stated c n BudgetWord (b ∷ []) = ok_as (λ b. Says (Budget b) c) (number_field 1 65536 b)
-stated c n CutWord (k ∷ fill ∷ []) = do
+statement_of c n SelectWord (aid ∷ []) = ok_as (λ a. Says (Select a) c) (aid_field aid)
+statement_of c n DeleteWord (aid ∷ []) = ok_as (λ a. Says (Delete a) c) (aid_field aid)
+statement_of c n DumpWord (aid ∷ []) = ok_as (λ a. Says (Dump a) c) (aid_field aid)
+statement_of c n ApduWord (hex ∷ []) = ok_as (λ b. Says (Apdu b) c) (hex_field hex)
+statement_of c n BudgetWord (b ∷ []) = ok_as (λ b. Says (Budget b) c) (number_field 1 65536 b)
+statement_of c n CutWord (k ∷ fill ∷ []) = do
   k ← number_field 1 4294967295 k
   fill ← fill_field fill
   Ok (Says (Cut k fill) c)
-stated c n FailWord (k ∷ []) = ok_as (λ k. Says (Fail k) c) (number_field 1 4294967295 k)
-stated c n PokeWord (at ∷ fill ∷ []) = do
+statement_of c n FailWord (k ∷ []) = ok_as (λ k. Says (Fail k) c) (number_field 1 4294967295 k)
+statement_of c n PokeWord (at ∷ fill ∷ []) = do
   at ← number_field 0 16383 at
   fill ← fill_field fill
   early c (Poke at fill)
-stated c n word fields = Err BadLine
+statement_of c n word fields = Err BadLine
 
 -- ---- sections
 
@@ -223,7 +223,7 @@ abbrev pub between : Context → ℕ → List (List ℕ) → Result LineTurn (�
 between c n [] = Ok (record { lines = []; mode = Between c })
 between c n (word ∷ rest) =
     cond (begins 35 word) (Ok (record { lines = []; mode = Between c }))
-    (err_as (λ e. (n, e)) (ok_or (lookup deck_words word) BadLine >>= λ w. ok_as (turn_of n) (stated c n w rest)))
+    (err_as (λ e. (n, e)) (ok_or (lookup deck_words word) BadLine >>= λ w. ok_as (turn_of n) (statement_of c n w rest)))
 
 -- a line of a section, which ends it or goes on
 unfoldable pub within : Bool → Section → Context → ℕ × List ℕ → Result LineTurn (ℕ × DeckCause)
@@ -242,14 +242,14 @@ turn_at true m l = Err (l.0, TooManyLines)
 turn_at false m l = turn_in m l
 
 -- the end of the text: a section may not be open
-abbrev pub ended : Mode → Result (List (ℕ × DeckLine)) (ℕ × DeckCause)
-ended (Between c) = Ok []
-ended (Within s c) = Err (s.first, NoEnd)
+abbrev pub lines_at_end : Mode → Result (List (ℕ × DeckLine)) (ℕ × DeckCause)
+lines_at_end (Between c) = Ok []
+lines_at_end (Within s c) = Err (s.first, NoEnd)
 
 -- the lines of a deck, or the first refusal
 unfoldable pub deck_lines : Mode → List (ℕ × List ℕ) → Result (List (ℕ × DeckLine)) (ℕ × DeckCause)
-unfolding stated within
-deck_lines m [] = ended m
+unfolding statement_of within
+deck_lines m [] = lines_at_end m
 deck_lines m (l ∷ ls) = do
   t ← turn_at (l.0 == 20001) m l
   ok_as (λ rest. t.lines ++ rest) (deck_lines t.mode ls)
@@ -257,4 +257,4 @@ deck_lines m (l ∷ ls) = do
 -- the lines of a deck, or the first refusal
 unfoldable pub deck_read : List ℕ → Result (List (ℕ × DeckLine)) (ℕ × DeckCause)
 unfolding deck_lines
-deck_read text = deck_lines (Between (record { units = []; powered = false })) (numbered 1 (lines text))
+deck_read text = deck_lines (Between (record { units = []; powered = false })) (with_numbers 1 (lines text))

@@ -2,10 +2,10 @@
 use Rattle.std.specs.Prelude.{ℕ, zero, suc, ◌+◌, ◌*◌, ◌/◌, ◌%◌, ◌^◌, Bool, true, false, cond, nat_lt, ◌==◌, List, [], ◌∷◌, ◌++◌, length, filter, filter_map, flat_map, codes, decimal}
 use Rattle.mc_model_device.specs.Bytes.{bytes, zeros}
 use Rattle.mc_model_card.specs.Units.{UnitParts}
-use Rattle.mc_model_machine.specs.Text.{numbered}
+use Rattle.mc_model_machine.specs.Text.{with_numbers}
 use Rattle.mc_model_machine.specs.Chain.{Reply, Abended}
 use Rattle.mc_model_play.specs.Play.{Step, LineResult, Ready, OffAt, WornStop, NoCard, Answered}
-use Rattle.mc_model_play.specs.Transcript.{shown}
+use Rattle.mc_model_play.specs.Transcript.{text_of_result}
 use Rattle.mc_model_play.specs.DeckGrammar.{DeckLine, Format, Power, Named, Load, Select, Delete, Dump, Apdu, Cut, made_unit}
 
 -- ---- draws
@@ -65,8 +65,8 @@ relay = made_unit relay_aid (0x22 ∷ 0x00 ∷ 0x00 ∷ 0x28 ∷ 0x07 ∷ 0x04 �
 -- ---- the lines
 
 -- the first eight lines
-abbrev pub opening : List DeckLine
-opening = Format ∷ Power ∷ Named ∷ Named ∷ Named ∷ Load counter 2 0 ∷ Load purse 10 0 ∷ Load relay 6 0 ∷ []
+abbrev pub opening_lines : List DeckLine
+opening_lines = Format ∷ Power ∷ Named ∷ Named ∷ Named ∷ Load counter 2 0 ∷ Load purse 10 0 ∷ Load relay 6 0 ∷ []
 
 -- a command to a purse, with a number of four bytes or none
 abbrev pub command : ℕ → List ℕ → DeckLine
@@ -104,12 +104,12 @@ turns zero x = []
 turns (suc k) x = line_of (draw (next x)) (draw (next (next x))) ∷ turns k (next (next x))
 
 -- the last four lines
-abbrev pub closing : List DeckLine
-closing = Power ∷ Dump counter_aid ∷ Dump purse_aid ∷ Dump relay_aid ∷ []
+abbrev pub closing_lines : List DeckLine
+closing_lines = Power ∷ Dump counter_aid ∷ Dump purse_aid ∷ Dump relay_aid ∷ []
 
 -- the numbered lines of the deck that n generates
-unfoldable pub generated : ℕ → List (ℕ × DeckLine)
-generated n = numbered 1 (opening ++ turns 4000 n ++ closing)
+unfoldable pub deck_of_number : ℕ → List (ℕ × DeckLine)
+deck_of_number n = with_numbers 1 (opening_lines ++ turns 4000 n ++ closing_lines)
 
 -- ---- the summary of a play
 
@@ -154,7 +154,7 @@ is_dump _ = false
 
 -- the results of the `dump` lines, a line each
 abbrev pub dump_lines : List Step → List ℕ
-dump_lines ts = flat_map (λ r. shown r ++ codes "\n") (results (filter (λ t. is_dump t.line) ts))
+dump_lines ts = flat_map (λ r. text_of_result r ++ codes "\n") (results (filter (λ t. is_dump t.line) ts))
 
 -- the counts of a play: of its results, replies, abends, cuts, lines without a card and power-ups
 abbrev pub count_line : List LineResult → List ℕ

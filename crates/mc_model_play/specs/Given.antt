@@ -3,11 +3,11 @@ use Rattle.std.specs.Prelude.{ℕ, Bool, true, false, cond, not, ◌&&◌, ◌||
 use Rattle.mc_model_device.specs.declared.device.Stop.{Stop}
 use Rattle.mc_model_device.specs.declared.device.Stop.TheVariants as stop
 use Rattle.mc_model_device.specs.Bytes.{has_name}
-use Rattle.mc_model_device.specs.Card.{App, placed}
+use Rattle.mc_model_device.specs.Card.{App, app_at_place}
 use Rattle.mc_model_machine.specs.Chain.{Outcome, Reply, Abended}
 use Rattle.mc_model_card.specs.Items.{Change, Fixed, Created, Deleted, Item, Plain, Atomic, StopAt}
 use Rattle.mc_model_card.specs.Manager.{Route, WrongLength, WrongClass, ToSelect, ToManager, ToApplication, route}
-use Rattle.mc_model_play.specs.Play.{Armed, Unarmed, ArmedCut, ArmedFail, Live, Running, Unpowered, Muted, State, Cold, Hot, LineResult, Answered, Step, armed_in}
+use Rattle.mc_model_play.specs.Play.{Armed, Unarmed, ArmedCut, ArmedFail, Live, Running, Unpowered, Muted, State, Cold, Hot, LineResult, Answered, Step, armed_stop_in}
 use Rattle.mc_model_device.specs.PowerUp.{Base, OnCard, AtFault}
 use Rattle.mc_model_play.specs.Family.{command_of, live_in, is_running, is_own}
 use Rattle.mc_model_play.specs.DeckGrammar.{DeckLine}
@@ -31,7 +31,7 @@ pub record Given : Type 0 where
 -- the family's applications, without places
 abbrev pub own_apps : List (List ℕ) → List (List ℕ × App) → List (List ℕ × App)
 own_apps K [] = []
-own_apps K (e ∷ es) = cond (has_name e.0 K) ((e.0, placed 0 e.1) ∷ own_apps K es) (own_apps K es)
+own_apps K (e ∷ es) = cond (has_name e.0 K) ((e.0, app_at_place 0 e.1) ∷ own_apps K es) (own_apps K es)
 
 -- the applications of a base
 abbrev pub apps_on : Base → List (List ℕ × App)
@@ -59,7 +59,7 @@ first_apps (t ∷ ts) = cond (is_power t.line) (apps_in t.after) (first_apps ts)
 abbrev pub event_of : Item → Option (List ℕ × Event)
 event_of Plain = None
 event_of (Atomic w (Fixed n ps)) = None
-event_of (Atomic w (Created n a)) = Some (n, Arrives n (placed 0 a))
+event_of (Atomic w (Created n a)) = Some (n, Arrives n (app_at_place 0 a))
 event_of (Atomic w (Deleted n)) = Some (n, Departs n)
 
 -- an event, if its name is of the family
@@ -68,9 +68,9 @@ told_event K None = []
 told_event K (Some e) = cond (has_name e.0 K) (e.1 ∷ []) []
 
 -- the events of the family's creations and deletions among whole items
-abbrev pub told : List (List ℕ) → List Item → List Event
-told K [] = []
-told K (i ∷ is) = told_event K (event_of i) ++ told K is
+abbrev pub events_of_items : List (List ℕ) → List Item → List Event
+events_of_items K [] = []
+events_of_items K (i ∷ is) = told_event K (event_of i) ++ events_of_items K is
 
 -- the stop of a cut that is armed, if one is
 abbrev pub armed_stop : Armed → Option StopAt
@@ -108,9 +108,9 @@ abbrev pub is_left : List (List ℕ) → Step → Bool
 is_left K t = is_some t.stop || (is_running (live_in t.before) && is_foreign_select K (command_of t.line) && is_done_reply t.result)
 
 -- the event of a lost selection, if it is lost
-abbrev pub left_if : Bool → List Event
-left_if true = Leaves ∷ []
-left_if false = []
+abbrev pub leave_event_if : Bool → List Event
+leave_event_if true = Leaves ∷ []
+leave_event_if false = []
 
 -- the budget in a state
 abbrev pub budget_in : State → ℕ
@@ -120,13 +120,13 @@ budget_in (Hot s) = s.budget
 -- the event of a command of the family
 abbrev pub command_event : Step → Option (List ℕ) → List Event
 command_event t None = []
-command_event t (Some bytes) = Commands bytes (budget_in t.before) (given_stop (armed_in t.before) t.stop) ∷ []
+command_event t (Some bytes) = Commands bytes (budget_in t.before) (given_stop (armed_stop_in t.before) t.stop) ∷ []
 
 -- the events of a line that is neither power nor dump: a command of the family, or else what is durable, and whether the selection was
 -- lost
 abbrev pub line_events : Bool → List (List ℕ) → Step → List Event
 line_events true K t = command_event t (command_of t.line)
-line_events false K t = told K t.whole ++ left_if (is_left K t)
+line_events false K t = events_of_items K t.whole ++ leave_event_if (is_left K t)
 
 -- the event of a dump
 abbrev pub dump_events : Bool → List ℕ → List Event
@@ -145,5 +145,5 @@ events K [] = []
 events K (t ∷ ts) = events_of K t t.line ++ events K ts
 
 -- what is given of a play
-abbrev pub given : List (List ℕ) → List Step → Given
-given K steps = record { start = own_apps K (first_apps steps); events = events K steps }
+abbrev pub given_of_play : List (List ℕ) → List Step → Given
+given_of_play K steps = record { start = own_apps K (first_apps steps); events = events K steps }

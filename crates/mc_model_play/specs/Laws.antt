@@ -8,8 +8,8 @@ use Rattle.mc_model_card.specs.declared.card.Sizes.{Sizes}
 use Rattle.mc_model_device.specs.Bytes.{zeros, lookup}
 use Rattle.mc_model_machine.specs.Apdu.{ApduParts}
 use Rattle.mc_model_card.specs.Units.{name_of}
-use Rattle.mc_model_device.specs.Card.{App, Card, placed}
-use Rattle.mc_model_card.specs.Items.{Change, Fixed, Created, Deleted, Item, Plain, Atomic, done, StopAt, Stopped, at_stop}
+use Rattle.mc_model_device.specs.Card.{App, Card, app_at_place}
+use Rattle.mc_model_card.specs.Items.{Change, Fixed, Created, Deleted, Item, Plain, Atomic, apps_after_items, StopAt, Stopped, at_stop}
 use Rattle.mc_model_card.specs.Manager.{Seat, Route, WrongLength, WrongClass, ToSelect, ToManager, ToApplication, route, Got, got_of, with_got, sizes_in}
 use Rattle.mc_model_play.specs.Play.{Live, Running, Unpowered, Muted, Warm, State, Cold, Hot, Step, is_done, load_commands, plays, start, Possible, WornAt, select_bytes, delete_bytes}
 use Rattle.mc_model_device.specs.PowerUp.{Base, OnCard, AtFault}
@@ -33,7 +33,7 @@ whole_of is (Some s) = (at_stop is s.at s.left).whole
 -- the applications after a line are those before it with these items; before the first power line there is no card
 abbrev pub IsDoneFrom : State → List Item → State → Type 0
 IsDoneFrom (Cold m b a) is after = is ≡ []
-IsDoneFrom (Hot s) is after = apps_in after ≡ done (apps_on s.base) is
+IsDoneFrom (Hot s) is after = apps_in after ≡ apps_after_items (apps_on s.base) is
 
 -- a line has the whole items of its stop, and leaves the card with them
 pub record KeepsLine (t : Step) : Type 0 where
@@ -71,8 +71,8 @@ with_sent p b None = None
 with_sent p b (Some s) = Some (record s { got = with_got p b s.got })
 
 -- what is sent after a command of class BE that was done
-abbrev pub sent_by : Option Sent → ApduParts → Option Sent
-sent_by s a =
+abbrev pub sections_after_parts : Option Sent → ApduParts → Option Sent
+sections_after_parts s a =
     cond (a.ins == 0x12) (Some (record { sizes = sizes_in a; got = record { code = []; init = []; dir = []; fci = [] } })) (
     cond (a.ins == 0x24) (with_sent part.Code a.body s) (
     cond (a.ins == 0x26) (with_sent part.Data a.body s) (
@@ -82,12 +82,12 @@ sent_by s a =
     )
 
 -- what is sent after a command that was done
-abbrev pub sent_after : Option Sent → Route → Option Sent
-sent_after s (ToManager a) = sent_by s a
-sent_after s WrongLength = s
-sent_after s WrongClass = s
-sent_after s (ToSelect a) = s
-sent_after s (ToApplication a) = s
+abbrev pub sections_after_command : Option Sent → Route → Option Sent
+sections_after_command s (ToManager a) = sections_after_parts s a
+sections_after_command s WrongLength = s
+sections_after_command s WrongClass = s
+sections_after_command s (ToSelect a) = s
+sections_after_command s (ToApplication a) = s
 
 -- the name and the application of a CREATE that was done
 abbrev pub named_app : Result (List ℕ) AidFault → Sent → List (List ℕ × App)
@@ -100,35 +100,35 @@ made_of None = []
 made_of (Some s) = named_app (name_of s.got.dir) s
 
 -- the application of a command that is a CREATE
-abbrev pub made_by : Option Sent → Route → List (List ℕ × App)
-made_by s (ToManager a) = cond (a.ins == 0x16) (made_of s) []
-made_by s WrongLength = []
-made_by s WrongClass = []
-made_by s (ToSelect a) = []
-made_by s (ToApplication a) = []
+abbrev pub creation_of_command : Option Sent → Route → List (List ℕ × App)
+creation_of_command s (ToManager a) = cond (a.ins == 0x16) (made_of s) []
+creation_of_command s WrongLength = []
+creation_of_command s WrongClass = []
+creation_of_command s (ToSelect a) = []
+creation_of_command s (ToApplication a) = []
 
 -- what is sent after commands that were done, in order
-abbrev pub sent_after_all : Option Sent → List (List ℕ) → Option Sent
-sent_after_all s [] = s
-sent_after_all s (b ∷ bs) = sent_after_all (sent_after s (route b)) bs
+abbrev pub sections_after_commands : Option Sent → List (List ℕ) → Option Sent
+sections_after_commands s [] = s
+sections_after_commands s (b ∷ bs) = sections_after_commands (sections_after_command s (route b)) bs
 
 -- the applications of commands that were done
-abbrev pub made_by_all : Option Sent → List (List ℕ) → List (List ℕ × App)
-made_by_all s [] = []
-made_by_all s (b ∷ bs) = made_by s (route b) ++ made_by_all (sent_after s (route b)) bs
+abbrev pub creations_of_commands : Option Sent → List (List ℕ) → List (List ℕ × App)
+creations_of_commands s [] = []
+creations_of_commands s (b ∷ bs) = creation_of_command s (route b) ++ creations_of_commands (sections_after_command s (route b)) bs
 
 -- a command, if it was taken, and those that were taken after it
-abbrev pub taken_if : Bool → List ℕ → List (List ℕ) → List (List ℕ)
-taken_if true b rest = b ∷ rest
-taken_if false b rest = []
+abbrev pub commands_with : Bool → List ℕ → List (List ℕ) → List (List ℕ)
+commands_with true b rest = b ∷ rest
+commands_with false b rest = []
 
 -- the commands in turn that are answered by 9000 alone, up to the first that is not
-unfoldable pub taken : Card → Seat → ℕ → List (List ℕ) → List (List ℕ)
-taken c seat budget [] = []
-taken c seat budget (b ∷ bs) =
+unfoldable pub accepted_commands : Card → Seat → ℕ → List (List ℕ) → List (List ℕ)
+accepted_commands c seat budget [] = []
+accepted_commands c seat budget (b ∷ bs) =
     let r = command c seat b budget in
-    let rest = taken (items.card_done c r.items) r.seat budget bs in
-    taken_if (is_done r.outcome) b rest
+    let rest = accepted_commands (items.card_done c r.items) r.seat budget bs in
+    commands_with (is_done r.outcome) b rest
 
 -- the commands of a line
 abbrev pub bytes_of : DeckLine → List (List ℕ)
@@ -139,14 +139,14 @@ bytes_of (line.Load u fixed session) = load_commands u fixed session
 bytes_of _ = []
 
 -- the commands of a line that a running card takes
-abbrev pub taken_on : Live → Base → ℕ → DeckLine → List (List ℕ)
-taken_on (Running seat) (OnCard c) budget l = taken c seat budget (bytes_of l)
-taken_on live base budget l = []
+abbrev pub accepted_commands_on : Live → Base → ℕ → DeckLine → List (List ℕ)
+accepted_commands_on (Running seat) (OnCard c) budget l = accepted_commands c seat budget (bytes_of l)
+accepted_commands_on live base budget l = []
 
 -- the commands of a line that are taken in a state
-abbrev pub taken_in : State → DeckLine → List (List ℕ)
-taken_in (Cold m b a) l = []
-taken_in (Hot s) l = taken_on s.live s.base s.budget l
+abbrev pub accepted_commands_in : State → DeckLine → List (List ℕ)
+accepted_commands_in (Cold m b a) l = []
+accepted_commands_in (Hot s) l = accepted_commands_on s.live s.base s.budget l
 
 -- what of the commands sent so far counts after a line: the load is lost with power, and by any stop
 abbrev pub kept_sent : Bool → Option StopAt → Option Sent → Option Sent
@@ -155,21 +155,21 @@ kept_sent false (Some t) s = None
 kept_sent false None s = s
 
 -- the creation that an item is
-abbrev pub created_by : Item → List (List ℕ × App)
-created_by Plain = []
-created_by (Atomic w (Fixed n ps)) = []
-created_by (Atomic w (Created n a)) = (n, a) ∷ []
-created_by (Atomic w (Deleted n)) = []
+abbrev pub creation_of_item : Item → List (List ℕ × App)
+creation_of_item Plain = []
+creation_of_item (Atomic w (Fixed n ps)) = []
+creation_of_item (Atomic w (Created n a)) = (n, a) ∷ []
+creation_of_item (Atomic w (Deleted n)) = []
 
 -- the creations among items
-abbrev pub created_in : List Item → List (List ℕ × App)
-created_in [] = []
-created_in (i ∷ is) = created_by i ++ created_in is
+abbrev pub creations_among : List Item → List (List ℕ × App)
+creations_among [] = []
+creations_among (i ∷ is) = creation_of_item i ++ creations_among is
 
 -- applications without their places
 abbrev pub without_places : List (List ℕ × App) → List (List ℕ × App)
 without_places [] = []
-without_places (e ∷ es) = (e.0, placed 0 e.1) ∷ without_places es
+without_places (e ∷ es) = (e.0, app_at_place 0 e.1) ∷ without_places es
 
 -- each of these is what the map has under its name
 abbrev pub AllAreIn : List (List ℕ × App) → List (List ℕ × App) → Type 0
@@ -179,15 +179,15 @@ AllAreIn map (e ∷ es) = (lookup map e.0 ≡ Some e.1) × AllAreIn map es
 -- a new application has what its own load sent, and nothing else
 pub record KeepsFresh (sent : Option Sent) (t : Step) : Type 0 where
   -- what a line creates is what its load's own commands sent
-  pub made : without_places (created_in t.items) ≡ made_by_all sent (taken_in t.before t.line)
+  pub made : without_places (creations_among t.items) ≡ creations_of_commands sent (accepted_commands_in t.before t.line)
   -- and if the creation is durable, the map has it
-  pub stands : AllAreIn (apps_in t.after) (created_in t.whole)
+  pub stands : AllAreIn (apps_in t.after) (creations_among t.whole)
 
 -- each new application of a play has what its own load sent, and nothing else
 abbrev pub NoStaleByte : Option Sent → List Step → Type 0
 NoStaleByte sent [] = ⊤
 NoStaleByte sent (t ∷ ts) =
-    KeepsFresh sent t × NoStaleByte (kept_sent (is_power t.line) t.stop (sent_after_all sent (taken_in t.before t.line))) ts
+    KeepsFresh sent t × NoStaleByte (kept_sent (is_power t.line) t.stop (sections_after_commands sent (accepted_commands_in t.before t.line))) ts
 
 -- ---- the law
 

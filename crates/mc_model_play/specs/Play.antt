@@ -1,7 +1,7 @@
 -- A deck played on a device, line by line, with the lines' cuts and failed writes, and the words that a play leaves.
 use Rattle.std.specs.Prelude.{◌≡◌, ◌≢◌, ◌⊎◌, ℕ, zero, suc, ◌+◌, ◌-◌, ◌*◌, ◌/◌, ◌%◌, ◌<◌, ◌≤◌, Bool, true, false, cond, ◌&&◌, nat_lt, nat_le, ◌==◌, List, [], ◌∷◌, ◌++◌, length, take, drop, map, slice_set, Option, Some, None, ⊤}
-use Rattle.mc_model_device.specs.PowerUp.{Base, OnCard, AtFault, migration, migrated, base_of, owing}
-use Rattle.mc_model_card.specs.Commands.{Command, refused, command}
+use Rattle.mc_model_device.specs.PowerUp.{Base, OnCard, AtFault, migration, base_after_migration, base_of, pending_journal}
+use Rattle.mc_model_card.specs.Commands.{Command, refusal, command}
 use Rattle.mc_model_device.specs.declared.cause.Cause.{Cause}
 use Rattle.mc_model_device.specs.declared.device.Stop.{Stop}
 use Rattle.mc_model_device.specs.declared.device.Stop.TheVariants as stop
@@ -9,12 +9,12 @@ use Rattle.mc_model_device.specs.Bytes.{bytes2, zeros, lookup}
 use Rattle.mc_model_machine.specs.Apdu.{ApduParts}
 use Rattle.mc_model_card.specs.Units.{UnitParts}
 use Rattle.mc_model_device.specs.Device.{Entry}
-use Rattle.mc_model_device.specs.Image.{Journal, One, Two, Which, Both, Only, Neither, which, owed, shut, laid}
+use Rattle.mc_model_device.specs.Image.{Journal, One, Two, Which, Both, Only, Neither, which, count_of_recovery_writes, shut_word, image_with}
 use Rattle.mc_model_device.specs.Stopped.{stands, owes, remains}
 use Rattle.mc_model_device.specs.Card.{App, Card, means, heap_start}
 use Rattle.mc_model_device.specs.Layout.{root, hole_header, step_of, fault}
 use Rattle.mc_model_machine.specs.Chain.{Outcome, Reply, Write, Turn, Ran, run}
-use Rattle.mc_model_card.specs.Items.{Change, Fixed, Item, Plain, Atomic, moves, changed, card_done, StopAt, Stopped, at_stop, BankItem, Piece, Blank, Note, Commit, Enter, Remove}
+use Rattle.mc_model_card.specs.Items.{Change, Fixed, Item, Plain, Atomic, moves, apps_after_change, card_done, StopAt, Stopped, at_stop, BankItem, Piece, Blank, Note, Commit, Enter, Remove}
 use Rattle.mc_model_card.specs.Manager.{Selected, Seat, empty_seat, Route, WrongLength, WrongClass, ToSelect, ToManager, ToApplication, route, Managed, Declines, Accepts, Accepted, select, manage, room_on}
 use Rattle.mc_model_play.specs.DeckGrammar.{DeckLine}
 use Rattle.mc_model_play.specs.DeckGrammar as line
@@ -122,17 +122,17 @@ abbrev pub with_items : Command → Command → Command
 with_items first r = record r { items = first.items ++ r.items; pairs = first.pairs ++ r.pairs; turns = first.turns ++ r.turns }
 
 -- a command, and those after it if it was answered by 9000 alone
-abbrev pub sent_on : Bool → Command → Command → Command
-sent_on true first rest = with_items first rest
-sent_on false first rest = first
+abbrev pub command_with_rest : Bool → Command → Command → Command
+command_with_rest true first rest = with_items first rest
+command_with_rest false first rest = first
 
 -- commands in turn, up to the first that is not answered by 9000 alone
 unfoldable pub send : Card → Seat → ℕ → List (List ℕ) → Command
-send c seat budget [] = refused seat 0x9000
+send c seat budget [] = refusal seat 0x9000
 send c seat budget (b ∷ bs) =
     let r = command c seat b budget in
     let rest = send (card_done c r.items) r.seat budget bs in
-    sent_on (is_done r.outcome) r rest
+    command_with_rest (is_done r.outcome) r rest
 
 -- ---- stops
 
@@ -189,7 +189,7 @@ stopped_power s t true = record s { owed = remains s.by (s.owed - 1) t.at t.left
 stopped_power s t false =
     let j = t.at - s.owed in
     record s {
-      base = cond (stands One 1 j t.left) (migrated s.base) s.base;
+      base = cond (stands One 1 j t.left) (base_after_migration s.base) s.base;
       owed = owes One 1 j t.left;
       by = One;
       live = live_after t.kind;
@@ -198,7 +198,7 @@ stopped_power s t false =
 
 -- the play after a power line
 abbrev pub power_after : Warm → Option StopAt → Warm
-power_after s None = record s { base = migrated s.base; owed = 0; live = power_live s.base; armed = Unarmed }
+power_after s None = record s { base = base_after_migration s.base; owed = 0; live = power_live s.base; armed = Unarmed }
 power_after s (Some t) = stopped_power s t (nat_le t.at s.owed)
 
 -- the result of a power line
@@ -292,17 +292,17 @@ without_card Unpowered = NoCard
 without_card Muted = Silenced
 
 -- the result of a dump
-abbrev pub dumped : Live → Base → List ℕ → LineResult
-dumped (Running seat) (OnCard c) n = static_of (lookup c.apps n)
-dumped (Running seat) (AtFault cause p) n = NoCard
-dumped Unpowered base n = NoCard
-dumped Muted base n = Silenced
+abbrev pub dump_result : Live → Base → List ℕ → LineResult
+dump_result (Running seat) (OnCard c) n = static_of (lookup c.apps n)
+dump_result (Running seat) (AtFault cause p) n = NoCard
+dump_result Unpowered base n = NoCard
+dump_result Muted base n = Silenced
 
 -- the words of an empty card of layout 2 in their places
-abbrev pub formatted : List (List ℕ) → List (List ℕ)
-formatted m =
+abbrev pub formatted_image : List (List ℕ) → List (List ℕ)
+formatted_image m =
     let size = length m in
-    slice_set (slice_set (slice_set (slice_set (slice_set m 0 (root 2 size heap_start)) 1 shut) 2 (zeros 8)) 130 shut) heap_start (hole_header (size - heap_start) 0)
+    slice_set (slice_set (slice_set (slice_set (slice_set m 0 (root 2 size heap_start)) 1 shut_word) 2 (zeros 8)) 130 shut_word) heap_start (hole_header (size - heap_start) 0)
 
 -- ---- a line
 
@@ -312,7 +312,7 @@ line_command c seat budget (line.Select n) = command c seat (select_bytes n) bud
 line_command c seat budget (line.Delete n) = command c seat (delete_bytes n) budget
 line_command c seat budget (line.Apdu b) = command c seat b budget
 line_command c seat budget (line.Load u fixed session) = send c seat budget (load_commands u fixed session)
-line_command c seat budget _ = refused seat 0x9000
+line_command c seat budget _ = refusal seat 0x9000
 
 -- a card line other than power: its command if a card runs, else the result that none does
 abbrev pub card_line : ℕ → DeckLine → Warm → Live → Base → Option WornAt → Step
@@ -329,7 +329,7 @@ hot_step n line.Named s w = quiet n line.Named (Hot s) None (Hot s)
 hot_step n (line.Budget b) s w = quiet n (line.Budget b) (Hot s) None (Hot (record s { budget = b }))
 hot_step n (line.Cut k x) s w = quiet n (line.Cut k x) (Hot s) None (Hot (record s { armed = ArmedCut k x }))
 hot_step n (line.Fail k) s w = quiet n (line.Fail k) (Hot s) None (Hot (record s { armed = ArmedFail k }))
-hot_step n (line.Dump a) s w = quiet n (line.Dump a) (Hot s) (Some (dumped s.live s.base a)) (Hot s)
+hot_step n (line.Dump a) s w = quiet n (line.Dump a) (Hot s) (Some (dump_result s.live s.base a)) (Hot s)
 hot_step n line.Power s w = power_step n (Hot s) s (hit_of s.armed (power_moves s) w)
 hot_step n (line.Load u fixed session) s w = card_line n (line.Load u fixed session) s s.live s.base w
 hot_step n (line.Select a) s w = card_line n (line.Select a) s s.live s.base w
@@ -337,9 +337,9 @@ hot_step n (line.Delete a) s w = card_line n (line.Delete a) s s.live s.base w
 hot_step n (line.Apdu b) s w = card_line n (line.Apdu b) s s.live s.base w
 
 -- the play that the first power line finds
-unfoldable pub warmed : List (List ℕ) → ℕ → Armed → Warm
-warmed m budget armed =
-    record { base = base_of (fault m) m; owed = owed m; by = owing (which m); live = Unpowered; budget = budget; armed = armed }
+unfoldable pub play_at_power : List (List ℕ) → ℕ → Armed → Warm
+play_at_power m budget armed =
+    record { base = base_of (fault m) m; owed = count_of_recovery_writes m; by = pending_journal (which m); live = Unpowered; budget = budget; armed = armed }
 
 -- a line that wants a card before the first power line; a card line drops the armed stop
 abbrev pub cold_line : ℕ → DeckLine → List (List ℕ) → ℕ → Armed → Armed → Step
@@ -347,14 +347,14 @@ cold_line n l m budget armed after = quiet n l (Cold m budget armed) (Some NoCar
 
 -- a line before the first power line, or that line
 abbrev pub cold_step : ℕ → DeckLine → List (List ℕ) → ℕ → Armed → Option WornAt → Step
-cold_step n line.Format m b a w = quiet n line.Format (Cold m b a) (Some Formatted) (Cold (formatted m) b a)
+cold_step n line.Format m b a w = quiet n line.Format (Cold m b a) (Some Formatted) (Cold (formatted_image m) b a)
 cold_step n (line.Poke at x) m b a w = quiet n (line.Poke at x) (Cold m b a) None (Cold (slice_set m at x) b a)
 cold_step n line.Named m b a w = quiet n line.Named (Cold m b a) None (Cold m b a)
 cold_step n (line.Budget c) m b a w = quiet n (line.Budget c) (Cold m b a) None (Cold m c a)
 cold_step n (line.Cut k x) m b a w = quiet n (line.Cut k x) (Cold m b a) None (Cold m b (ArmedCut k x))
 cold_step n (line.Fail k) m b a w = quiet n (line.Fail k) (Cold m b a) None (Cold m b (ArmedFail k))
 cold_step n (line.Dump x) m b a w = cold_line n (line.Dump x) m b a a
-cold_step n line.Power m b a w = let s = warmed m b a in power_step n (Cold m b a) s (hit_of a (power_moves s) w)
+cold_step n line.Power m b a w = let s = play_at_power m b a in power_step n (Cold m b a) s (hit_of a (power_moves s) w)
 cold_step n (line.Load u fixed session) m b a w = cold_line n (line.Load u fixed session) m b a Unarmed
 cold_step n (line.Select x) m b a w = cold_line n (line.Select x) m b a Unarmed
 cold_step n (line.Delete x) m b a w = cold_line n (line.Delete x) m b a Unarmed
@@ -392,7 +392,7 @@ last_state s (t ∷ ts) = last_state t.after ts
 
 -- the number of device writes of a power line: those that recovery still has to make, and those of the migration
 abbrev pub power_part : State → DeckLine → ℕ
-power_part (Cold m b a) line.Power = power_moves (warmed m b a)
+power_part (Cold m b a) line.Power = power_moves (play_at_power m b a)
 power_part (Hot s) line.Power = power_moves s
 power_part (Cold m b a) _ = 0
 power_part (Hot s) _ = 0
@@ -402,9 +402,9 @@ unfoldable pub moves_of : State → ℕ × DeckLine → ℕ
 moves_of s l = power_part s l.1 + moves (step s l None).items
 
 -- the stop that is armed in a state
-abbrev pub armed_in : State → Armed
-armed_in (Cold m b a) = a
-armed_in (Hot s) = s.armed
+abbrev pub armed_stop_in : State → Armed
+armed_stop_in (Cold m b a) = a
+armed_stop_in (Hot s) = s.armed
 
 -- a failed write with this number comes before the cut that is armed
 abbrev pub IsBeforeCut : Armed → ℕ → Type 0
@@ -417,7 +417,7 @@ pub record IsPossibleAt (s : State) (l : ℕ × DeckLine) (w : WornAt) : Type 0 
   pub card_line : is_card_line l.1 ≡ true
   pub low : 1 ≤ w.at
   pub high : w.at ≤ moves_of s l
-  pub first : IsBeforeCut (armed_in s) w.at
+  pub first : IsBeforeCut (armed_stop_in s) w.at
 
 -- the failed write of a line is possible, if it has one
 abbrev pub MayHit : State → ℕ × DeckLine → Option WornAt → Type 0
@@ -444,7 +444,7 @@ unfoldable pub steady_worn : State → List (ℕ × DeckLine) → List (Option W
 steady_worn s [] = []
 steady_worn s (l ∷ ls) =
     let m = moves_of s l in
-    let w = steady_at (armed_in s) l.1 m in
+    let w = steady_at (armed_stop_in s) l.1 m in
     w ∷ steady_worn (step s l w).after ls
 
 -- whether an entry of a tape is a stop
@@ -489,12 +489,12 @@ tape_worn s (l ∷ ls) t =
 pub record StandsForCard (m : List (List ℕ)) (c : Card) (s : Warm) : Type 0 where
   pub sound : fault m ≡ None
   pub meaning : means m ≡ c
-  pub owed : owed m ≡ s.owed
+  pub owed : count_of_recovery_writes m ≡ s.owed
 
 -- the words fit a play whose base is a fault
 pub record StandsForFault (m : List (List ℕ)) (cause : Cause) (place : ℕ) (s : Warm) : Type 0 where
   pub unsound : fault m ≡ Some (cause, place)
-  pub owed : owed m ≡ s.owed
+  pub owed : count_of_recovery_writes m ≡ s.owed
 
 -- the words fit the base of a play
 abbrev pub StandsForBase : List (List ℕ) → Base → Warm → Type 0
@@ -505,13 +505,13 @@ StandsForBase m (AtFault cause p) s = StandsForFault m cause p s
 -- recovery still has to make is that of the play
 abbrev pub StandsForState : List (List ℕ) → State → Type 0
 StandsForState m (Cold image b a) = m ≡ image
-StandsForState m (Hot s) = StandsForBase m s.base s × (s.owed ≢ 0 → owing (which m) ≡ s.by)
+StandsForState m (Hot s) = StandsForBase m s.base s × (s.owed ≢ 0 → pending_journal (which m) ≡ s.by)
 
 -- ---- every write accounted
 
 -- the words after the entries of a tape
 abbrev pub laid_entries : List (List ℕ) → List Entry → List (List ℕ)
-laid_entries m es = laid m (map (λ e. (e.at, e.left)) es)
+laid_entries m es = image_with m (map (λ e. (e.at, e.left)) es)
 
 -- the words after a line
 abbrev pub words_left : List (List ℕ) → List Entry → State → List (List ℕ)
@@ -519,8 +519,8 @@ words_left m es (Cold image b a) = image
 words_left m es (Hot s) = laid_entries m es
 
 -- the state after this line, had a stop at write k that leaves x hit it
-abbrev pub stopped : State → ℕ × DeckLine → ℕ → List ℕ → State
-stopped s l k x = (step s l (Some (record { at = k; left = x }))).after
+abbrev pub state_after_stop : State → ℕ × DeckLine → ℕ → List ℕ → State
+state_after_stop s l k x = (step s l (Some (record { at = k; left = x }))).after
 
 -- each entry but the last was done, and the last ended as the line did
 abbrev pub EndsAs : Option Stop → List Entry → Type 0
@@ -538,7 +538,7 @@ abbrev pub StandsAtEach : List (List ℕ) → State → ℕ × DeckLine → ℕ 
 StandsAtEach m s l k [] = ⊤
 StandsAtEach m s l k (e ∷ es) =
     let n = slice_set m e.at e.left in
-    StandsForState n (stopped s l (k + 1) e.left) × StandsAtEach n s l (k + 1) es
+    StandsForState n (state_after_stop s l (k + 1) e.left) × StandsAtEach n s l (k + 1) es
 
 -- the entries of a line account for it
 pub record AccountsForLine (m : List (List ℕ)) (s : State) (l : ℕ × DeckLine) (t : Step) (es : List Entry) : Type 0 where

@@ -4,7 +4,7 @@ use Rattle.mc_model_device.specs.Bytes.{lookup, insert, remove}
 use Rattle.mc_model_machine.specs.Apdu.{ApduParts}
 use Rattle.mc_model_device.specs.Card.{App}
 use Rattle.mc_model_machine.specs.Chain.{Outcome, Reply, Ran, run}
-use Rattle.mc_model_card.specs.Items.{Item, moves, done, StopAt, Stopped, at_stop, write_items}
+use Rattle.mc_model_card.specs.Items.{Item, moves, apps_after_items, StopAt, Stopped, at_stop, write_items}
 use Rattle.mc_model_card.specs.Manager.{Selected, Seat, Route, WrongLength, WrongClass, ToSelect, ToManager, ToApplication, route, Managed, Declines, Accepts, select}
 use Rattle.mc_model_play.specs.Play.{LineResult, Answered, static_of, result_of_stop}
 use Rattle.mc_model_play.specs.Given.{Event, Arrives, Departs, Commands, Dumps, Leaves, Given}
@@ -65,10 +65,10 @@ pub record Heard : Type 0 where
 -- has to make are dropped
 abbrev pub solo_hit : Solo → SoloCommand → Option StopAt → Heard
 solo_hit t r None =
-    record { after = record { map = done t.map r.items; selected = r.selected }; answer = Answered r.outcome ∷ []; work = (r.items, None) ∷ [] }
+    record { after = record { map = apps_after_items t.map r.items; selected = r.selected }; answer = Answered r.outcome ∷ []; work = (r.items, None) ∷ [] }
 solo_hit t r (Some s) =
     record {
-      after = record { map = done t.map (at_stop r.items s.at s.left).whole; selected = None };
+      after = record { map = apps_after_items t.map (at_stop r.items s.at s.left).whole; selected = None };
       answer = result_of_stop s s.kind ∷ [];
       work = (r.items, Some s) ∷ [];
     }

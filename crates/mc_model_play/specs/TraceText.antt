@@ -32,8 +32,8 @@ abbrev pub traced_text : Step → List ℕ
 traced_text t = turn_lines (shown_turns t.turns t.stop) ++ plain_text t
 
 -- the text of a traced play
-abbrev pub traced : List Step → List ℕ
-traced ts = texts traced_text ts
+abbrev pub trace_text : List Step → List ℕ
+trace_text ts = texts traced_text ts
 
 -- ---- the transcript in it
 
@@ -42,15 +42,15 @@ abbrev pub is_turn_line : List ℕ → Bool
 is_turn_line l = begins 62 l
 
 -- pieces with a line feed between each and the next
-abbrev pub joined : List (List ℕ) → List ℕ
-joined [] = []
-joined (p ∷ []) = p
-joined (p ∷ q ∷ ps) = p ++ 10 ∷ joined (q ∷ ps)
+abbrev pub joined_lines : List (List ℕ) → List ℕ
+joined_lines [] = []
+joined_lines (p ∷ []) = p
+joined_lines (p ∷ q ∷ ps) = p ++ 10 ∷ joined_lines (q ∷ ps)
 
 -- a text without the lines that begin with `>`
 abbrev pub without_turn_lines : List ℕ → List ℕ
-without_turn_lines t = joined (filter (λ l. not (is_turn_line l)) (pieces (λ c. c == 10) t))
+without_turn_lines t = joined_lines (filter (λ l. not (is_turn_line l)) (pieces (λ c. c == 10) t))
 
 -- a trace without its turns' lines is the transcript
 abbrev pub TraceLaw : Type 0
-TraceLaw = (ts : List Step) → without_turn_lines (traced ts) ≡ transcript ts
+TraceLaw = (ts : List Step) → without_turn_lines (trace_text ts) ≡ transcript ts

@@ -19,22 +19,22 @@ static_text [] = codes "static"
 static_text (b ∷ bs) = codes "static " ++ hex_text (b ∷ bs)
 
 -- the text of a result
-abbrev pub shown : LineResult → List ℕ
-shown Formatted = codes "formatted"
-shown (Ready n) = codes "ready " ++ decimal n
-shown (Unusable cause place) = codes "unusable " ++ cause_text cause ++ codes " " ++ decimal place
-shown (OffAt k) = codes "off at write " ++ decimal k
-shown WornStop = codes "6581"
-shown NoCard = codes "off"
-shown Silenced = codes "mute"
-shown (Answered outcome) = outcome_text outcome
-shown (Static bytes) = static_text bytes
-shown Absent = codes "absent"
+abbrev pub text_of_result : LineResult → List ℕ
+text_of_result Formatted = codes "formatted"
+text_of_result (Ready n) = codes "ready " ++ decimal n
+text_of_result (Unusable cause place) = codes "unusable " ++ cause_text cause ++ codes " " ++ decimal place
+text_of_result (OffAt k) = codes "off at write " ++ decimal k
+text_of_result WornStop = codes "6581"
+text_of_result NoCard = codes "off"
+text_of_result Silenced = codes "mute"
+text_of_result (Answered outcome) = outcome_text outcome
+text_of_result (Static bytes) = static_text bytes
+text_of_result Absent = codes "absent"
 
 -- the text of a line with this number
 abbrev pub line_text : ℕ → Option LineResult → List ℕ
 line_text n None = []
-line_text n (Some r) = decimal n ++ codes " " ++ shown r ++ codes "\n"
+line_text n (Some r) = decimal n ++ codes " " ++ text_of_result r ++ codes "\n"
 
 -- the text of a line that was played
 abbrev pub plain_text : Step → List ℕ

@@ -5,7 +5,7 @@ use Rattle.mc_model_device.specs.Card.{App}
 use Rattle.mc_model_card.specs.Items.{Item, StopAt}
 use Rattle.mc_model_play.specs.Play.{State, LineResult, Step, static_of, last_state}
 use Rattle.mc_model_play.specs.Family.{live_in, is_running, is_own}
-use Rattle.mc_model_play.specs.Given.{Given, apps_in, given}
+use Rattle.mc_model_play.specs.Given.{Given, apps_in, given_of_play}
 use Rattle.mc_model_play.specs.Solo.{solo}
 use Rattle.mc_model_play.specs.DeckGrammar.{DeckLine}
 use Rattle.mc_model_play.specs.DeckGrammar as line
@@ -21,15 +21,15 @@ is_seen K t (line.Dump n) = has_name n K && is_running (live_in t.before)
 is_seen K t _ = is_own K t
 
 -- a result, if it is the family's
-abbrev pub seen_if : Bool → Option LineResult → List LineResult
-seen_if true (Some r) = r ∷ []
-seen_if true None = []
-seen_if false r = []
+abbrev pub results_if : Bool → Option LineResult → List LineResult
+results_if true (Some r) = r ∷ []
+results_if true None = []
+results_if false r = []
 
 -- the results of a play that are the family's
 unfoldable pub answers : List (List ℕ) → List Step → List LineResult
 answers K [] = []
-answers K (t ∷ ts) = seen_if (is_seen K t t.line) t.result ++ answers K ts
+answers K (t ∷ ts) = results_if (is_seen K t t.line) t.result ++ answers K ts
 
 -- the static bytes of each name, or that it is absent
 abbrev pub rest_of : List (List ℕ) → List (List ℕ × App) → List LineResult
@@ -57,5 +57,5 @@ work K (t ∷ ts) = work_if (is_own K t) t ++ work K ts
 
 -- the law of isolation for one play and one family
 pub record IsIsolated (K : List (List ℕ)) (s : State) (steps : List Step) : Type 0 where
-  pub view : view K s steps ≡ solo_view K (given K steps)
-  pub same_stop : work K steps ≡ (solo (given K steps)).work
+  pub view : view K s steps ≡ solo_view K (given_of_play K steps)
+  pub same_stop : work K steps ≡ (solo (given_of_play K steps)).work

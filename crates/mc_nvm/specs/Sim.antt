@@ -10,7 +10,7 @@ use Rattle.mc_nvm.specs.declared.sim.SimNvm.TheInside.{Inside as Held}
 use Rattle.mc_nvm.specs.declared.fuse.Due.{Due as Found}
 use Rattle.mc_nvm.specs.declared.fuse.Due.TheVariants.{Cut as FoundCut, Worn as FoundWorn, Not as FoundNot}
 use Rattle.mc_model_device.specs.Counts.{Rose, last_count}
-use Rattle.mc_model_device.specs.Device.{blank_words, DeviceState, BenchState, Fuse, Wrote, NextWriteEnds, fill_at, BenchWrote, Due, DueCut, DueWorn, DueNot, due, falling, counted, next_count}
+use Rattle.mc_model_device.specs.Device.{blank_words, DeviceState, BenchState, Fuse, Wrote, NextWriteEnds, fill_at, BenchWrote, Due, DueCut, DueWorn, DueNot, due, next_fill, fuse_after_write, next_count}
 
 -- the state of a device in memory
 pub record Sim : Type 0 where
@@ -54,9 +54,9 @@ sim_bench s = record { cut = s.cut; worn = s.worn; powers = s.powers; pokes = s.
 
 -- the device after a write with this due, its fuses nearer by one
 abbrev pub after_write : Sim → ℕ → List ℕ → Due → Sim
-after_write s at w (DueCut fill) = record s { words = slice_set s.words at fill; on = false; cuts = next_count s.cuts; cut = counted s.cut; worn = counted s.worn }
-after_write s at w (DueWorn fill) = record s { words = slice_set s.words at fill; faults = next_count s.faults; cut = counted s.cut; worn = counted s.worn }
-after_write s at w DueNot = record s { words = slice_set s.words at w; cut = counted s.cut; worn = counted s.worn }
+after_write s at w (DueCut fill) = record s { words = slice_set s.words at fill; on = false; cuts = next_count s.cuts; cut = fuse_after_write s.cut; worn = fuse_after_write s.worn }
+after_write s at w (DueWorn fill) = record s { words = slice_set s.words at fill; faults = next_count s.faults; cut = fuse_after_write s.cut; worn = fuse_after_write s.worn }
+after_write s at w DueNot = record s { words = slice_set s.words at w; cut = fuse_after_write s.cut; worn = fuse_after_write s.worn }
 
 -- how a write with this due ends
 abbrev pub answer_to : Due → Answer
@@ -78,7 +78,7 @@ own true DueNot = DueWorn (replicate 8 0)
 
 -- the due of the next write, by whether it fails by itself
 abbrev pub next_due : Bool → Sim → Due
-next_due refused s = own refused (due (falling s.cut) (falling s.worn))
+next_due refused s = own refused (due (next_fill s.cut) (next_fill s.worn))
 
 -- what holds of each device in memory
 pub record Sound (s : Sim) : Type 0 where
@@ -115,11 +115,11 @@ fills_word zero given fill h e = absurd (cc e)
 fills_word (suc zero) given fill h e = grind (arith, h, e)
 fills_word (suc (suc k)) given fill h e = absurd (cc e)
 
-pub falls_word : (f : Option Fuse) (fill : List ℕ) → Fills f → falling f ≡ Some fill → length fill ≡ 8
+pub falls_word : (f : Option Fuse) (fill : List ℕ) → Fills f → next_fill f ≡ Some fill → length fill ≡ 8
 falls_word None fill h e = absurd (cc e)
 falls_word (Some f) fill h e = fills_word f.writes f.fill fill h e
 
-rules : (s : Sim) (at : ℕ) (w : List ℕ) → s.on ≡ true → Sound s → (c b : Option (List ℕ)) → falling s.cut ≡ c → falling s.worn ≡ b
+rules : (s : Sim) (at : ℕ) (w : List ℕ) → s.on ≡ true → Sound s → (c b : Option (List ℕ)) → next_fill s.cut ≡ c → next_fill s.worn ≡ b
     → Wrote (sim_state s) at w (answer_to (due c b)) (sim_state (after_write s at w (due c b)))
 rules s at w on sound (Some fill) b ec eb =
     record { left = fill; size = falls_word s.cut fill sound.cut ec; words = refl; power = refl; cuts = next_rose s.cuts sound.cuts; falls_not = next_not_less s.cuts sound.cuts; faults = refl; tape = tt }
@@ -132,7 +132,7 @@ pub sim_obeys : (s : Sim) (at : ℕ) (w : List ℕ) (a : Answer) (e : Sim) → (
 sim_obeys s at w a e on r =
     subst (λ (t : Answer). Wrote (sim_state s) at w t (sim_state e)) (sym r.answer)
     (subst (λ (t : Sim). Wrote (sim_state s) at w (answer_to (next_due false s)) (sim_state t)) (sym r.after)
-    (rules s at w on r.sound (falling s.cut) (falling s.worn) refl refl))
+    (rules s at w on r.sound (next_fill s.cut) (next_fill s.worn) refl refl))
 
 burnt : (s : Sim) (at : ℕ) (w : List ℕ) (d : Due) → next_due false s ≡ d
     → BenchWrote (sim_state s) (sim_bench s) at (answer_to d) (sim_state (after_write s at w d)) (sim_bench (after_write s at w d))

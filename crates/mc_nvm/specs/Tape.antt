@@ -19,8 +19,8 @@ unless true es = None
 unless false es = Some es
 
 -- a tape from its fields
-abbrev pub told_inside : TapeInside → ToldTape
-told_inside t = record { room = t.room; told = unless t.over (map entry_of t.entries.items) }
+abbrev pub tape_view : TapeInside → ToldTape
+tape_view t = record { room = t.room; told = unless t.over (map entry_of t.entries.items) }
 
 -- memory was allocated at once for all entries that a tape may hold
 pub record KeepsRoom (t : TapeInside) : Type 0 where

@@ -4,7 +4,7 @@ use Rattle.std.proofs.Common.{subst, sym, inl}
 use Rattle.mc_model_device.specs.declared.device.Stop.{Stop}
 use Rattle.mc_model_device.specs.declared.device.Stop.TheVariants.{Off, Worn}
 use Rattle.mc_model_device.specs.Orders.{Answer}
-use Rattle.mc_model_device.specs.Device.{DeviceState, BenchState, Entry, Wrote, NextWriteEnds, Counts, Burns, Grows, BenchWrote, Due, DueCut, DueWorn, DueNot, due, falling, next_count}
+use Rattle.mc_model_device.specs.Device.{DeviceState, BenchState, Entry, Wrote, NextWriteEnds, Counts, Burns, Grows, BenchWrote, Due, DueCut, DueWorn, DueNot, due, next_fill, next_count}
 use Rattle.mc_nvm.specs.declared.tape_nvm.TapeNvm.TheInside.{Inside as Held}
 use Rattle.mc_nvm.specs.Sim.{Sim, sim_state, sim_bench, blank_sim, own, next_due, after_write, answer_to, Sound, falls_word, next_rose, next_not_less}
 use Rattle.mc_nvm.specs.Tape.{ToldTape, more, unless}
@@ -43,10 +43,10 @@ abbrev pub taped_bench : Taped → BenchState
 taped_bench t = record (sim_bench t.device) { steady = no_entry t.worn }
 
 -- the word that a write with this due leaves
-abbrev pub left_by : Due → List ℕ → List ℕ
-left_by (DueCut fill) w = fill
-left_by (DueWorn fill) w = fill
-left_by DueNot w = w
+abbrev pub word_after_write : Due → List ℕ → List ℕ
+word_after_write (DueCut fill) w = fill
+word_after_write (DueWorn fill) w = fill
+word_after_write DueNot w = w
 
 -- the stop of a write with this due, if it has one
 abbrev pub stop_of : Due → Option Stop
@@ -64,7 +64,7 @@ after_taped t at w d =
     record t {
       device = after_write t.device at w d;
       tried = next_count t.tried;
-      tape = record t.tape { told = more t.tape.room t.tape.told (record { at = at; left = left_by d w; end = stop_of d }) };
+      tape = record t.tape { told = more t.tape.room t.tape.told (record { at = at; left = word_after_write d w; end = stop_of d }) };
     }
 
 -- one write on a device with a tape
@@ -99,7 +99,7 @@ own_fills true (DueCut fill) h = h
 own_fills true (DueWorn fill) h = refl
 own_fills true DueNot h = refl
 
-due_fills : (s : Sim) → Sound s → (c w : Option (List ℕ)) → falling s.cut ≡ c → falling s.worn ≡ w → DueFills (due c w)
+due_fills : (s : Sim) → Sound s → (c w : Option (List ℕ)) → next_fill s.cut ≡ c → next_fill s.worn ≡ w → DueFills (due c w)
 unfolding DueFills
 due_fills s sound (Some fill) w ec ew = falls_word s.cut fill sound.cut ec
 due_fills s sound None (Some fill) ec ew = falls_word s.worn fill sound.worn ew
@@ -119,10 +119,10 @@ pub taped_obeys : (t : Taped) (at : ℕ) (w : List ℕ) (a : Answer) (e : Taped)
 taped_obeys t at w a e on r =
     subst (λ (x : Answer). Wrote (taped_state t) at w x (taped_state e)) (sym r.answer)
     (subst (λ (x : Taped). Wrote (taped_state t) at w (answer_to (taped_due t)) (taped_state x)) (sym r.after)
-    (rules t at w on r.sound (taped_due t) (own_fills (is_listed t.worn (next_count t.tried)) _ (due_fills t.device r.sound (falling t.device.cut) (falling t.device.worn) refl refl))))
+    (rules t at w on r.sound (taped_due t) (own_fills (is_listed t.worn (next_count t.tried)) _ (due_fills t.device r.sound (next_fill t.device.cut) (next_fill t.device.worn) refl refl))))
 
 -- how a write of a bench ends, if a write of the list may fail
-ends : (s : Bool) (b : Bool) (x : DeviceState) (at : ℕ) (w : List ℕ) (d : Due) (e : DeviceState) → (s ≡ true → b ≡ false) → e.words ≡ slice_set x.words at (left_by (own b d) w)
+ends : (s : Bool) (b : Bool) (x : DeviceState) (at : ℕ) (w : List ℕ) (d : Due) (e : DeviceState) → (s ≡ true → b ≡ false) → e.words ≡ slice_set x.words at (word_after_write (own b d) w)
     → NextWriteEnds d s x at (answer_to (own b d)) e
 ends s false x at w (DueCut fill) e h words = (refl, words)
 ends s true x at w (DueCut fill) e h words = (refl, words)
@@ -140,7 +140,7 @@ burnt t at w (DueCut fill) = ((refl, refl), inl refl)
 burnt t at w (DueWorn fill) = ((refl, refl), inl refl)
 burnt t at w DueNot = ((refl, refl), refl)
 
-words_left : (t : Taped) (at : ℕ) (w : List ℕ) (d : Due) → (taped_state (after_taped t at w d)).words ≡ slice_set t.device.words at (left_by d w)
+words_left : (t : Taped) (at : ℕ) (w : List ℕ) (d : Due) → (taped_state (after_taped t at w d)).words ≡ slice_set t.device.words at (word_after_write d w)
 words_left t at w (DueCut fill) = refl
 words_left t at w (DueWorn fill) = refl
 words_left t at w DueNot = refl
@@ -156,7 +156,7 @@ taped_burns t at w a e on r =
     (subst (λ (x : Taped). BenchWrote (taped_state t) (taped_bench t) at (answer_to (taped_due t)) (taped_state x) (taped_bench x)) (sym r.after)
     (let both = burnt t at w (taped_due t) in
     record {
-      ends = ends (no_entry t.worn) (is_listed t.worn (next_count t.tried)) (taped_state t) at w (due (falling t.device.cut) (falling t.device.worn)) (taped_state (after_taped t at w (taped_due t))) (none_listed t.worn (next_count t.tried)) (words_left t at w (taped_due t));
+      ends = ends (no_entry t.worn) (is_listed t.worn (next_count t.tried)) (taped_state t) at w (due (next_fill t.device.cut) (next_fill t.device.worn)) (taped_state (after_taped t at w (taped_due t))) (none_listed t.worn (next_count t.tried)) (words_left t at w (taped_due t));
       counts = both.0;
       fuses = both.1;
     }))

@@ -1,7 +1,7 @@
 ghost use Rattle.std.specs.Prelude.{◌≡◌, ℕ, ◌<◌, ◌≤◌, true, List, length, slice_index_or, slice_set, [], Some, None, refl};
 ghost use Rattle.std.proofs.Common.{◌∙◌};
 ghost use Rattle.mc_model_device.specs.Orders.{Answer};
-ghost use Rattle.mc_model_device.specs.Device.{DeviceState, BenchState, IsImage, Wrote, BenchWrote, next_count, poked_once};
+ghost use Rattle.mc_model_device.specs.Device.{DeviceState, BenchState, IsImage, Wrote, BenchWrote, next_count, bench_after_poke};
 
 use mc_base::{Stop, Word};
 
@@ -91,7 +91,7 @@ pub trait Bench: Nvm {
         requires { at < length (Self.state self.old).words }
         ensures state { Self.state self.new
             ≡ record (Self.state self.old) { words = slice_set (Self.state self.old).words at word } }
-        ensures bench { bench self.new ≡ poked_once (bench self.old) }
+        ensures bench { bench self.new ≡ bench_after_poke (bench self.old) }
         ensures lent { Self.same self.old self.new };
 
     /// Makes the k-th write from now fail and leave `fill` in its word, unless another stop comes before it or falls

@@ -1,5 +1,5 @@
 ghost use Rattle.std.specs.Prelude.{◌≡◌, option_map, IfSome};
-ghost use Rattle.mc_model_device.specs.Device.{falling, counted, due};
+ghost use Rattle.mc_model_device.specs.Device.{next_fill, fuse_after_write, due};
 ghost use Rattle.mc_nvm.specs.Sim.{fuse_of, due_of, own};
 
 use mc_base::Word;
@@ -21,7 +21,7 @@ pub enum Due {
 
 /// Returns the fuse after one write, or `None` if the write was its own.
 pub fn nearer(fuse: Option<Fuse>) -> Option<Fuse>
-    ensures { option_map fuse_of result ≡ counted (option_map fuse_of fuse) }
+    ensures { option_map fuse_of result ≡ fuse_after_write (option_map fuse_of fuse) }
 {
     match fuse {
         Some(f) if f.writes > 1 => {
@@ -37,7 +37,7 @@ pub fn nearer(fuse: Option<Fuse>) -> Option<Fuse>
 
 /// Returns the word that the fuse leaves in the next write, or `None` if it does not fall on it.
 pub fn falls(fuse: Option<Fuse>) -> Option<Word>
-    ensures { result ≡ falling (option_map fuse_of fuse) }
+    ensures { result ≡ next_fill (option_map fuse_of fuse) }
 {
     match fuse {
         Some(f) if f.writes == 1 => Some(f.fill),
@@ -48,7 +48,7 @@ pub fn falls(fuse: Option<Fuse>) -> Option<Word>
 /// Returns what happens to the next write: a cut goes before a write that fails by itself (`refused`), and that before
 /// the wear fuse.
 pub fn next(cut: Option<Fuse>, worn: Option<Fuse>, refused: bool) -> Due
-    ensures { due_of result ≡ own refused (due (falling (option_map fuse_of cut)) (falling (option_map fuse_of worn))) }
+    ensures { due_of result ≡ own refused (due (next_fill (option_map fuse_of cut)) (next_fill (option_map fuse_of worn))) }
 {
     match (falls(cut), falls(worn)) {
         (Some(fill), _) => Due::Cut(fill),

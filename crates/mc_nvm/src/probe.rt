@@ -1,6 +1,6 @@
 ghost use Rattle.std.specs.Prelude.{◌≡◌, ◌+◌, ◌<◌, length, slice_index_or, []};
 ghost use Rattle.mc_model_device.specs.Device.{IsImage};
-ghost use Rattle.mc_nvm.specs.Probe.{probed};
+ghost use Rattle.mc_nvm.specs.Probe.{device_of_probe};
 
 use crate::device::Nvm;
 use mc_base::{Steps, Word};
@@ -18,7 +18,7 @@ pub struct Probe<'a, N: Nvm, L: Ledger> {
 impl<'a, N: Nvm, L: Ledger> Probe<'a, N, L> {
     /// Creates a probe of this device.
     pub fn new(device: &'a N) -> Probe<'a, N, L>
-        ensures { probed result ≡ device.now }
+        ensures { device_of_probe result ≡ device.now }
     {
         Probe {
             device,
@@ -28,16 +28,16 @@ impl<'a, N: Nvm, L: Ledger> Probe<'a, N, L> {
 
     /// Returns the device's number of words.
     pub fn len(&self) -> u32
-        ensures len { result ≡ length (N.state (probed self.now)).words }
-        ensures image { IsImage (N.state (probed self.now)).words }
+        ensures len { result ≡ length (N.state (device_of_probe self.now)).words }
+        ensures image { IsImage (N.state (device_of_probe self.now)).words }
     {
         self.device.len()
     }
 
     /// Returns the word at a place below the length, and counts one step.
     pub fn read(&self, at: u32, steps: &mut Steps<L>) -> Word
-        requires { at < length (N.state (probed self.now)).words }
-        ensures word { result ≡ slice_index_or (N.state (probed self.now)).words at [] }
+        requires { at < length (N.state (device_of_probe self.now)).words }
+        ensures word { result ≡ slice_index_or (N.state (device_of_probe self.now)).words at [] }
         ensures ticks { steps.new ≡ steps.old + 1 }
     {
         steps.tick();

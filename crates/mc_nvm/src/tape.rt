@@ -22,11 +22,11 @@ pub struct Tape {
 }
 
 impl Model for Tape {
-    ghost use Rattle.mc_nvm.specs.Tape.{ToldTape, told_inside, KeepsRoom};
+    ghost use Rattle.mc_nvm.specs.Tape.{ToldTape, tape_view, KeepsRoom};
 
     ghost Value = { ToldTape };
 
-    ghost view = { told_inside };
+    ghost view = { tape_view };
 
     ghost invariant = { KeepsRoom };
 }

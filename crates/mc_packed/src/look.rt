@@ -1,6 +1,6 @@
 ghost use Rattle.std.specs.Prelude.{◌≡◌, ◌+◌, ◌≤◌, true, false, ◌++◌, length, min, MatchOption};
 ghost use Rattle.mc_model_device.specs.Image.{Two, within, four, all_zero, ascend, after_all, targets};
-ghost use Rattle.mc_gate.specs.Look.{read_as};
+ghost use Rattle.mc_gate.specs.Look.{target_list};
 ghost use Rattle.arrayvec.specs.ArrayVec.{array_vec_len};
 
 use crate::put::TARGETS;
@@ -18,7 +18,7 @@ use mc_nvm::Nvm;
 pub fn read_targets<N: Nvm>(device: &N, count: usize) -> Result<Targets, u16>
     requires size { 256 ≤ length (N.state device.now).words }
     requires few { count ≤ 64 }
-    ensures { targets Two (N.state device.now).words count ≡ read_as result }
+    ensures { targets Two (N.state device.now).words count ≡ target_list result }
 {
     let size = device.len();
     let mut found = ArrayVec::new();

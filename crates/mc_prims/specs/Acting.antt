@@ -5,9 +5,9 @@ use Rattle.mc_model_machine.specs.declared.machine.Abend.TheVariants.{A03, A04, 
 use Rattle.mc_model_device.specs.Orders.{Answer}
 use Rattle.mc_model_card.specs.Items.{BankItem}
 use Rattle.mc_model_machine.specs.Blocks.{sub_blocks}
-use Rattle.mc_model_machine.specs.Frame.{Frame, is_under, popped, top, is_outside, bytes_at}
-use Rattle.mc_model_machine.specs.Primitives.{Around, Primitive, Done, going, compared, in_range, count_at, later_causes, prim_effect}
-use Rattle.mc_model_machine.specs.Row.{first_cause, judged}
+use Rattle.mc_model_machine.specs.Frame.{Frame, is_under, frame_after_pop, top, is_outside, bytes_at}
+use Rattle.mc_model_machine.specs.Primitives.{Around, Primitive, Done, effect_and_next, comparison_effect, in_range, count_at, later_causes, prim_effect}
+use Rattle.mc_model_machine.specs.Row.{first_cause, row_end}
 use Rattle.mc_bank.specs.Bank.{BankState}
 use Rattle.mc_segs.specs.HeldFrames.{Held}
 use Rattle.mc_segs.specs.Ends.{Scene, before, EndActs}
@@ -20,7 +20,7 @@ alone = record { case = 0; delegator = None }
 
 -- the result of a call is the abend of the first cause that holds, and else the effect `done`
 abbrev pub CausesAct : {B : Type 0} → (B → BankItem → Answer → B → Type 0) → (B → BankState) → (B → ℕ → Option (List ℕ)) → Scene B → List (Abend × Bool) → Done → Result Next Halt → Type 0
-CausesAct did state named s causes done r = EndActs did state named s (judged (first_cause causes) done) r
+CausesAct did state named s causes done r = EndActs did state named s (row_end (first_cause causes) done) r
 
 -- the result of a call is that of a primitive whose argument bytes are good and which is not denied
 abbrev pub PrimActs : {B : Type 0} → (B → BankItem → Answer → B → Type 0) → (B → BankState) → (B → ℕ → Option (List ℕ)) → Scene B → Primitive → List ℕ → Around → Result Next Halt → Type 0
@@ -31,12 +31,12 @@ PrimActs did state named s p args x r =
 -- the top n bytes were popped and have this value, and n bytes have room on the stack again; abend 04 if the stack has fewer, and then
 -- only registers have changed
 abbrev pub Pops : {A : Type 0} → Result A Abend → A → ℕ → Held → Held → Type 0
-Pops (Ok v) value n h k = (is_under h.frame n ≡ false) × (v ≡ value) × (k ≡ record h { frame = popped h.frame n }) × (k.frame.dt + n ≤ 0x8200)
+Pops (Ok v) value n h k = (is_under h.frame n ≡ false) × (v ≡ value) × (k ≡ record h { frame = frame_after_pop h.frame n }) × (k.frame.dt + n ≤ 0x8200)
 Pops (Err a) value n h k = (is_under h.frame n ≡ true) × (a ≡ A04) × (k.frame.dyn ≡ h.frame.dyn) × (k.frame.session ≡ h.frame.session)
 
 -- the top n bytes were popped into an array, and n bytes have room on the stack again; abend 04 if the stack has fewer
 abbrev pub PopsInto : Result (Unit {0}) Abend → ℕ → Held → Held → List ℕ → Type 0
-PopsInto (Ok u) n h k into = (is_under h.frame n ≡ false) × (into ≡ top h.frame n) × (k ≡ record h { frame = popped h.frame n }) × (k.frame.dt + n ≤ 0x8200)
+PopsInto (Ok u) n h k into = (is_under h.frame n ≡ false) × (into ≡ top h.frame n) × (k ≡ record h { frame = frame_after_pop h.frame n }) × (k.frame.dt + n ≤ 0x8200)
 PopsInto (Err a) n h k into = (is_under h.frame n ≡ true) × (a ≡ A04) × (k ≡ h)
 
 -- the n bytes at an address were read; abend 03 if they do not lie whole in a segment
@@ -60,4 +60,4 @@ compare_causes g n first second = (A03, is_outside g first n || is_outside g sec
 
 -- the effect of a comparison of n bytes: the flags of their difference
 abbrev pub flags_compared : Frame → List ℕ → ℕ → ℕ → ℕ → Done
-flags_compared g public n first second = going (compared g public (sub_blocks (bytes_at g public first n) (bytes_at g public second n)))
+flags_compared g public n first second = effect_and_next (comparison_effect g public (sub_blocks (bytes_at g public first n) (bytes_at g public second n)))

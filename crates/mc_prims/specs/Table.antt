@@ -41,9 +41,9 @@ primitive_of prim.ShiftRight = model.ShiftRight
 primitive_of prim.BitWord = model.BitWord
 
 -- a block enciphered or deciphered by a cipher and a key
-abbrev pub turned : Way → model.Cipher → List ℕ → List ℕ → List ℕ
-turned way.Encipher c = model.enciphered c
-turned way.Decipher c = model.deciphered c
+abbrev pub block_under_key : Way → model.Cipher → List ℕ → List ℕ → List ℕ
+block_under_key way.Encipher c = model.encipherment c
+block_under_key way.Decipher c = model.decipherment c
 
 -- a block shifted left or right by a number of bits
 abbrev pub shift_block : Side → List ℕ → ℕ → Worked
@@ -51,5 +51,5 @@ shift_block side.Left = shift_left_block
 shift_block side.Right = shift_right_block
 
 -- the surroundings of a primitive as the definition's value
-abbrev pub known : Around → model.Around
-known a = record { case = a.case; delegator = a.delegator }
+abbrev pub surroundings_of : Around → model.Around
+surroundings_of a = record { case = a.case; delegator = a.delegator }

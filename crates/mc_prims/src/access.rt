@@ -3,10 +3,10 @@ ghost use Rattle.std.specs.Prelude.{◌≡◌, ◌%◌, ◌≤◌, ◌<◌, ◌�
 ghost use Rattle.mc_model_machine.specs.Modes.{ecb};
 ghost use Rattle.mc_model_machine.specs.Frame.{is_outside};
 ghost use Rattle.mc_model_machine.specs.Primitives as model;
-ghost use Rattle.mc_segs.specs.HeldFrames.{shown, CanRun};
+ghost use Rattle.mc_segs.specs.HeldFrames.{frame_on_bank, CanRun};
 ghost use Rattle.mc_segs.specs.Ends.{IfDue};
 ghost use Rattle.mc_prims.specs.Acting.{IsLength, ReadsBytes, ReadsCount};
-ghost use Rattle.mc_prims.specs.Table.{cipher_of, turned};
+ghost use Rattle.mc_prims.specs.Table.{cipher_of, block_under_key};
 
 use crate::ciphers::Way;
 use crate::table::Cipher;
@@ -44,7 +44,7 @@ impl Block {
         len: u8,
     ) -> Result<Block, Abend>
         requires runs { CanRun (B.state bank.now) (B.named bank.now) frame.now }
-        ensures { ReadsBytes result (shown (B.state bank.now) (B.named bank.now) frame.now) public.now at len }
+        ensures { ReadsBytes result (frame_on_bank (B.state bank.now) (B.named bank.now) frame.now) public.now at len }
     {
         let mut bytes = [0; 255];
         load(bank, frame, public, at, &mut bytes[..len as usize])?;
@@ -78,7 +78,7 @@ impl Block {
         requires key { length key.now ≡ model.key_len (cipher_of cipher) }
         requires whole { length self.old % model.block_len (cipher_of cipher) ≡ 0 }
         ensures size { length self.new ≡ length self.old }
-        ensures turned { self.new ≡ ecb (turned way (cipher_of cipher) key.now)
+        ensures turned { self.new ≡ ecb (block_under_key way (cipher_of cipher) key.now)
             (model.block_len (cipher_of cipher)) self.old }
     {
         let len = self.len as usize;
@@ -112,7 +112,7 @@ pub fn reach<B: Bank>(
     len: u8,
 ) -> Result<(), Abend>
     requires runs { CanRun (B.state bank.now) (B.named bank.now) frame.now }
-    ensures { IfDue result (is_outside (shown (B.state bank.now) (B.named bank.now) frame.now) at len) Abend.A03 }
+    ensures { IfDue result (is_outside (frame_on_bank (B.state bank.now) (B.named bank.now) frame.now) at len) Abend.A03 }
 {
     Block::read(bank, frame, public, at, len)?;
     Ok(())
@@ -132,7 +132,7 @@ pub fn read_count<B: Bank>(
 ) -> Result<(u8, u16), Abend>
     requires runs { CanRun (B.state bank.now) (B.named bank.now) frame.now }
     requires room { length frame.now.frame.fixed ≤ 4096 }
-    ensures { ReadsCount result (shown (B.state bank.now) (B.named bank.now) frame.now) public.now at }
+    ensures { ReadsCount result (frame_on_bank (B.state bank.now) (B.named bank.now) frame.now) public.now at }
 {
     // No segment holds the address FFFF: the static segment ends at 1000, and DT is at most 8200.
     let _top = frame.dt();

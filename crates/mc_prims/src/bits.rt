@@ -4,7 +4,7 @@ ghost use Rattle.mc_model_machine.specs.declared.machine.Abend.TheVariants.{A04}
 ghost use Rattle.mc_model_machine.specs.Blocks.{and_blocks, is_zero};
 ghost use Rattle.mc_model_machine.specs.Frame.{is_under, top};
 ghost use Rattle.mc_model_machine.specs.Primitives as model;
-ghost use Rattle.mc_segs.specs.HeldFrames.{shown, CanRun};
+ghost use Rattle.mc_segs.specs.HeldFrames.{frame_on_bank, CanRun};
 ghost use Rattle.mc_segs.specs.Ends.{scene};
 ghost use Rattle.mc_prims.specs.Acting.{CausesAct, PopsInto};
 ghost use Rattle.mc_prims.specs.Table.{shift_block};
@@ -36,10 +36,10 @@ pub fn manipulate_top<B: Bank, const N: usize>(
     requires low { 1 ≤ N }
     requires high { N ≤ 255 }
     ensures { CausesAct B.did B.state B.named (scene bank.old bank.new frame.old frame.new public.old public.new)
-        ((A04, is_under (shown (B.state bank.old) (B.named bank.old) frame.old) N)
-        ∷ []) (model.going
-        (model.bits_done (shown (B.state bank.old) (B.named bank.old) frame.old) public.old op
-        (top (shown (B.state bank.old) (B.named bank.old) frame.old) N) mask.now)) result }
+        ((A04, is_under (frame_on_bank (B.state bank.old) (B.named bank.old) frame.old) N)
+        ∷ []) (model.effect_and_next
+        (model.bits_done (frame_on_bank (B.state bank.old) (B.named bank.old) frame.old) public.old op
+        (top (frame_on_bank (B.state bank.old) (B.named bank.old) frame.old) N) mask.now)) result }
 {
     let mut value = [0; N];
     pop_into(frame, &mut value)?;
@@ -54,9 +54,9 @@ fn manipulate<const N: usize>(op: u8, value: &mut [u8; N], mask: &[u8; N]) -> bo
     requires op { op ≤ 3 }
     requires low { 1 ≤ N }
     requires high { N ≤ 255 }
-    ensures value { value.new ≡ model.manipulated op value.old mask.now }
+    ensures value { value.new ≡ model.masked_bytes op value.old mask.now }
     ensures zero { result ≡ is_zero (cond (op == 3) (and_blocks value.old mask.now)
-        (model.manipulated op value.old mask.now)) }
+        (model.masked_bytes op value.old mask.now)) }
 {
     match op {
         0 => {
@@ -89,10 +89,10 @@ pub fn shift_top<B: Bank>(
     requires some { 1 ≤ by }
     requires inside { by < 8 * len }
     ensures { CausesAct B.did B.state B.named (scene bank.old bank.new frame.old frame.new public.old public.new)
-        ((A04, is_under (shown (B.state bank.old) (B.named bank.old) frame.old) len)
-        ∷ []) (model.going
-        (model.shifted (shown (B.state bank.old) (B.named bank.old) frame.old) public.old
-        (shift_block side (top (shown (B.state bank.old) (B.named bank.old) frame.old) len) by))) result }
+        ((A04, is_under (frame_on_bank (B.state bank.old) (B.named bank.old) frame.old) len)
+        ∷ []) (model.effect_and_next
+        (model.shift_effect (frame_on_bank (B.state bank.old) (B.named bank.old) frame.old) public.old
+        (shift_block side (top (frame_on_bank (B.state bank.old) (B.named bank.old) frame.old) len) by))) result }
 {
     let mut bytes = [0; 16];
     let value = &mut bytes[..len as usize];

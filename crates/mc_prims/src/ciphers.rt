@@ -2,7 +2,7 @@
 ghost use Rattle.std.specs.Prelude.{◌≡◌, ◌%◌, ◌<◌, length, [], ◌∷◌, false, not};
 ghost use Rattle.mc_model_machine.specs.Modes.{ecb};
 ghost use Rattle.mc_model_machine.specs.Primitives as model;
-ghost use Rattle.mc_prims.specs.Table.{cipher_of, turned};
+ghost use Rattle.mc_prims.specs.Table.{cipher_of, block_under_key};
 
 use crate::table::Cipher;
 use mc_aes::{aes_decipher, aes_encipher, aes_signature};
@@ -32,7 +32,7 @@ impl Cipher {
     fn encipher(self, key: &[u8], block: &mut [u8])
         requires key { length key.now ≡ model.key_len (cipher_of self) }
         requires block { length block.old ≡ model.block_len (cipher_of self) }
-        ensures { block.new ≡ model.enciphered (cipher_of self) key.now block.old }
+        ensures { block.new ≡ model.encipherment (cipher_of self) key.now block.old }
     {
         match self {
             Cipher::Des => block.copy_from_slice(&des_encipher(&array(key), &array(block))),
@@ -45,7 +45,7 @@ impl Cipher {
     fn decipher(self, key: &[u8], block: &mut [u8])
         requires key { length key.now ≡ model.key_len (cipher_of self) }
         requires block { length block.old ≡ model.block_len (cipher_of self) }
-        ensures { block.new ≡ model.deciphered (cipher_of self) key.now block.old }
+        ensures { block.new ≡ model.decipherment (cipher_of self) key.now block.old }
     {
         match self {
             Cipher::Des => block.copy_from_slice(&des_decipher(&array(key), &array(block))),
@@ -58,7 +58,7 @@ impl Cipher {
     fn turn(self, way: Way, key: &[u8], block: &mut [u8])
         requires key { length key.now ≡ model.key_len (cipher_of self) }
         requires block { length block.old ≡ model.block_len (cipher_of self) }
-        ensures { block.new ≡ turned way (cipher_of self) key.now block.old }
+        ensures { block.new ≡ block_under_key way (cipher_of self) key.now block.old }
     {
         match way {
             Way::Encipher => self.encipher(key, block),
@@ -70,7 +70,7 @@ impl Cipher {
     pub fn turn_each(self, way: Way, key: &[u8], message: &mut [u8])
         requires key { length key.now ≡ model.key_len (cipher_of self) }
         requires whole { length message.old % model.block_len (cipher_of self) ≡ 0 }
-        ensures { message.new ≡ ecb (turned way (cipher_of self) key.now)
+        ensures { message.new ≡ ecb (block_under_key way (cipher_of self) key.now)
             (model.block_len (cipher_of self)) message.old }
     {
         let size = self.block_len() as usize;

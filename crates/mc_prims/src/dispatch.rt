@@ -2,10 +2,10 @@
 ghost use Rattle.std.specs.Prelude.{◌≡◌, ◌≤◌, false, length};
 ghost use Rattle.mc_model_machine.specs.declared.instruction.Ins.TheVariants.{Prim};
 ghost use Rattle.mc_model_machine.specs.Primitives as model;
-ghost use Rattle.mc_segs.specs.HeldFrames.{shown, CanRun};
+ghost use Rattle.mc_segs.specs.HeldFrames.{frame_on_bank, CanRun};
 ghost use Rattle.mc_segs.specs.Ends.{RowActs, scene};
 ghost use Rattle.mc_prims.specs.Acting.{PrimActs};
-ghost use Rattle.mc_prims.specs.Table.{known, primitive_of};
+ghost use Rattle.mc_prims.specs.Table.{surroundings_of, primitive_of};
 
 use crate::bits::{Side, manipulate_top, shift_top};
 use crate::ciphers::Way;
@@ -49,7 +49,7 @@ pub fn prim<B: Bank>(
 ) -> Result<Next, Halt>
     requires runs { CanRun (B.state bank.old) (B.named bank.old) frame.old }
     ensures { RowActs B.did B.state B.named (scene bank.old bank.new frame.old frame.new public.old public.new)
-        (Prim set number args.now) (known around.now) result }
+        (Prim set number args.now) (surroundings_of around.now) result }
 {
     let Some(primitive) = Primitive::of(set, number) else {
         return Err(Halt::Abend(Abend::A06));
@@ -78,7 +78,7 @@ fn run<B: Bank>(
     requires args { model.has_bad_argument (primitive_of primitive) args.now ≡ false }
     requires room { length frame.old.frame.fixed ≤ 4096 }
     ensures { PrimActs B.did B.state B.named (scene bank.old bank.new frame.old frame.new public.old public.new)
-        (primitive_of primitive) args.now (known around.now) result }
+        (primitive_of primitive) args.now (surroundings_of around.now) result }
 {
     match primitive {
         Primitive::CheckCase => check_case(around.case, frame, public, bank),

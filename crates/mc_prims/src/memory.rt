@@ -1,9 +1,9 @@
 // The primitives that copy, compare, digest and look up bytes.
 ghost use Rattle.std.specs.Prelude.{◌≡◌, ◌+◌, ◌==◌, ◌≤◌, [], ◌∷◌, false, length, position, Ok};
-ghost use Rattle.mc_model_machine.specs.Frame.{flagged, pushed};
+ghost use Rattle.mc_model_machine.specs.Frame.{frame_with_flags, frame_after_push};
 ghost use Rattle.mc_model_machine.specs.Primitives as model;
 ghost use Rattle.mc_model_machine.specs.Primitives.{Lookup, MemoryCompare, MemoryCopy, CompareFixed, CopyFixed, Digest};
-ghost use Rattle.mc_segs.specs.HeldFrames.{shown, CanRun};
+ghost use Rattle.mc_segs.specs.HeldFrames.{frame_on_bank, CanRun};
 ghost use Rattle.mc_segs.specs.Ends.{scene};
 ghost use Rattle.mc_segs.specs.declared.ends.Next.TheVariants.{Go};
 ghost use Rattle.mc_prims.specs.Acting.{alone, CausesAct, PrimActs, compare_causes, flags_compared};
@@ -100,8 +100,8 @@ fn compare_bytes<B: Bank>(
     requires runs { CanRun (B.state bank.old) (B.named bank.old) frame.old }
     requires len { 1 ≤ len }
     ensures { CausesAct B.did B.state B.named (scene bank.old bank.new frame.old frame.new public.old public.new)
-        (compare_causes (shown (B.state bank.old) (B.named bank.old) frame.old) len first second)
-        (flags_compared (shown (B.state bank.old) (B.named bank.old) frame.old) public.old len first second) result }
+        (compare_causes (frame_on_bank (B.state bank.old) (B.named bank.old) frame.old) len first second)
+        (flags_compared (frame_on_bank (B.state bank.old) (B.named bank.old) frame.old) public.old len first second) result }
 {
     let first = Block::read(bank, frame, public, first, len)?;
     let second = Block::read(bank, frame, public, second, len)?;
@@ -150,8 +150,8 @@ fn tell_place(place: u8, found: bool, frame: &mut Frame) -> Result<Next, Halt>
     requires room { frame.old.frame.dt + 1 ≤ 0x8200 }
     ensures done { result ≡ Ok Go }
     ensures told { frame.new ≡ record frame.old {
-      frame = flagged
-          (pushed frame.old.frame (place ∷ [])) frame.old.frame.c found;
+      frame = frame_with_flags
+          (frame_after_push frame.old.frame (place ∷ [])) frame.old.frame.c found;
     } }
 {
     push(frame, &[place])?;

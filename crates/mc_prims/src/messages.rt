@@ -1,10 +1,10 @@
 // The primitives that encipher, decipher and sign messages.
 ghost use Rattle.std.specs.Prelude.{◌≡◌, [], ◌∷◌, false, true, get_or, slice_index};
 ghost use Rattle.mc_model_machine.specs.Primitives as model;
-ghost use Rattle.mc_segs.specs.HeldFrames.{shown, CanRun};
+ghost use Rattle.mc_segs.specs.HeldFrames.{frame_on_bank, CanRun};
 ghost use Rattle.mc_segs.specs.Ends.{scene};
 ghost use Rattle.mc_prims.specs.Acting.{alone, CausesAct, PrimActs};
-ghost use Rattle.mc_prims.specs.Table.{cipher_of, turned};
+ghost use Rattle.mc_prims.specs.Table.{cipher_of, block_under_key};
 
 use crate::access::Block;
 use crate::ciphers::Way;
@@ -26,10 +26,10 @@ pub fn turn_message<B: Bank>(
     requires runs { CanRun (B.state bank.old) (B.named bank.old) frame.old }
     requires message { model.is_message (cipher_of cipher) len ≡ true }
     ensures { CausesAct B.did B.state B.named (scene bank.old bank.new frame.old frame.new public.old public.new)
-        (model.cipher_causes (cipher_of cipher) len (shown (B.state bank.old) (B.named bank.old) frame.old))
-        (model.going
-        (model.cipher_done (turned way (cipher_of cipher)) (cipher_of cipher) len
-        (shown (B.state bank.old) (B.named bank.old) frame.old) public.old)) result }
+        (model.cipher_causes (cipher_of cipher) len (frame_on_bank (B.state bank.old) (B.named bank.old) frame.old))
+        (model.effect_and_next
+        (model.cipher_done (block_under_key way (cipher_of cipher)) (cipher_of cipher) len
+        (frame_on_bank (B.state bank.old) (B.named bank.old) frame.old) public.old)) result }
 {
     let (from, to, key) = pop_three(frame)?;
     let mut message = Block::read(bank, frame, public, from, len)?;

@@ -1,8 +1,8 @@
 // The values that primitives take from the stack.
 ghost use Rattle.std.specs.Prelude.{◌≡◌, length, get_or, take, drop, slice_index};
 ghost use Rattle.mc_model_device.specs.Bytes.{num};
-ghost use Rattle.mc_model_machine.specs.Frame.{stacked, top};
-ghost use Rattle.mc_model_machine.specs.Primitives.{named};
+ghost use Rattle.mc_model_machine.specs.Frame.{stack_bytes, top};
+ghost use Rattle.mc_model_machine.specs.Primitives.{number_below_top};
 ghost use Rattle.mc_prims.specs.Acting.{Pops, PopsInto};
 
 use mc_model_machine::Abend;
@@ -32,7 +32,7 @@ pub fn pop_byte(frame: &mut Frame) -> Result<u8, Abend>
 
 /// Pops an address or a length, two bytes.
 pub fn pop_word(frame: &mut Frame) -> Result<u16, Abend>
-    ensures { Pops result (named frame.old.frame 2) 2 frame.old frame.new }
+    ensures { Pops result (number_below_top frame.old.frame 2) 2 frame.old frame.new }
 {
     let mut word = [0; 2];
     pop_into(frame, &mut word)?;
@@ -41,7 +41,7 @@ pub fn pop_word(frame: &mut Frame) -> Result<u16, Abend>
 
 /// Pops a byte and a word, which lies above it.
 pub fn pop_byte_and_word(frame: &mut Frame) -> Result<(u8, u16), Abend>
-    ensures { Pops result (num (stacked frame.old.frame 3 1), named frame.old.frame 2) 3 frame.old frame.new }
+    ensures { Pops result (num (stack_bytes frame.old.frame 3 1), number_below_top frame.old.frame 2) 3 frame.old frame.new }
 {
     let word = pop_word(frame)?;
     let byte = pop_byte(frame)?;
@@ -50,7 +50,7 @@ pub fn pop_byte_and_word(frame: &mut Frame) -> Result<(u8, u16), Abend>
 
 /// Pops two words; the first lies deeper.
 pub fn pop_two(frame: &mut Frame) -> Result<(u16, u16), Abend>
-    ensures { Pops result (named frame.old.frame 4, named frame.old.frame 2) 4 frame.old frame.new }
+    ensures { Pops result (number_below_top frame.old.frame 4, number_below_top frame.old.frame 2) 4 frame.old frame.new }
 {
     let second = pop_word(frame)?;
     let first = pop_word(frame)?;
@@ -59,7 +59,7 @@ pub fn pop_two(frame: &mut Frame) -> Result<(u16, u16), Abend>
 
 /// Pops three words; the first lies deepest.
 pub fn pop_three(frame: &mut Frame) -> Result<(u16, u16, u16), Abend>
-    ensures { Pops result (named frame.old.frame 6, named frame.old.frame 4, named frame.old.frame 2) 6 frame.old
+    ensures { Pops result (number_below_top frame.old.frame 6, number_below_top frame.old.frame 4, number_below_top frame.old.frame 2) 6 frame.old
         frame.new }
 {
     let (second, third) = pop_two(frame)?;
@@ -70,10 +70,10 @@ pub fn pop_three(frame: &mut Frame) -> Result<(u16, u16, u16), Abend>
 /// Pops four words; the first lies deepest.
 pub fn pop_four(frame: &mut Frame) -> Result<(u16, u16, u16, u16), Abend>
     ensures { Pops result (
-      named frame.old.frame 8,
-      named frame.old.frame 6,
-      named frame.old.frame 4,
-      named
+      number_below_top frame.old.frame 8,
+      number_below_top frame.old.frame 6,
+      number_below_top frame.old.frame 4,
+      number_below_top
           frame.old.frame 2,
     ) 8 frame.old frame.new }
 {

@@ -5,18 +5,18 @@ use Rattle.mc_model_device.specs.Device.{DeviceState}
 use Rattle.mc_model_device.specs.Card.{App}
 use Rattle.mc_model_play.specs.Play.{static_of}
 use Rattle.mc_base.specs.Streams.{Grew}
-use Rattle.mc_base.proofs.StreamsLemmas.{Grew-append}
+use Rattle.mc_base.proofs.StreamsLemmas.{grew_append}
 use Rattle.mc_text.specs.Texts.{Sunk, Puts}
 use Rattle.mc_text.specs.Texts as text
-use Rattle.mc_base.proofs.StreamsLemmas.{Rose-later}
+use Rattle.mc_base.proofs.StreamsLemmas.{rose_later}
 use Rattle.mc_script.specs.declared.answer.Answer.{Answer}
 use Rattle.mc_script.specs.declared.answer.Answer.TheVariants as answer
 use Rattle.mc_script.specs.declared.player.Player.{Player}
 use Rattle.mc_script.specs.declared.player.Power.TheVariants as power
 use Rattle.mc_script.specs.Players.{answer_value, dump_value}
-use Rattle.mc_reader.specs.Frames.{framed, framed_all}
+use Rattle.mc_reader.specs.Frames.{frame_bytes, frames_bytes}
 use Rattle.mc_reader.specs.Answers.{present, result_bytes}
-use Rattle.mc_reader.specs.Results.{answer_bytes, sent}
+use Rattle.mc_reader.specs.Results.{answer_bytes, answer_frame}
 use Rattle.mc_reader.specs.Sessions.{AnswersWritten, AnswersCut}
 
 -- ---- results
@@ -48,16 +48,16 @@ answer_is state p (Some (answer.Dump aid)) =
 -- ---- what was written
 
 -- one answer more
-present_more : (os : List (Option (List ℕ))) (o : Option (List ℕ)) → framed_all (present (os ++ o ∷ [])) ≡ framed_all (present os) ++ sent o
+present_more : (os : List (Option (List ℕ))) (o : Option (List ℕ)) → frames_bytes (present (os ++ o ∷ [])) ≡ frames_bytes (present os) ++ answer_frame o
 present_more [] None = refl
-present_more [] (Some f) = append-nil (framed f)
+present_more [] (Some f) = append-nil (frame_bytes f)
 present_more (None ∷ os) o = present_more os o
-present_more (Some g ∷ os) o = ap (λ t. framed g ++ t) (present_more os o) ∙ sym (append_assoc (framed g) (framed_all (present os)) (sent o))
+present_more (Some g ∷ os) o = ap (λ t. frame_bytes g ++ t) (present_more os o) ∙ sym (append_assoc (frame_bytes g) (frames_bytes (present os)) (answer_frame o))
 
-pub written_more : (x y z : Sunk) (os : List (Option (List ℕ))) (o : Option (List ℕ)) → AnswersWritten x os y → text.Writes y (sent o) z → AnswersWritten x (os ++ o ∷ []) z
+pub written_more : (x y z : Sunk) (os : List (Option (List ℕ))) (o : Option (List ℕ)) → AnswersWritten x os y → text.Writes y (answer_frame o) z → AnswersWritten x (os ++ o ∷ []) z
 written_more x y z os o h k =
     record {
-      whole = subst (λ (t : List ℕ). Grew x.taken z.taken t) (sym (present_more os o)) (Grew-append x.taken y.taken z.taken (framed_all (present os)) (sent o) h.whole k.whole);
+      whole = subst (λ (t : List ℕ). Grew x.taken z.taken t) (sym (present_more os o)) (grew_append x.taken y.taken z.taken (frames_bytes (present os)) (answer_frame o) h.whole k.whole);
       counted = omega (arith, h.counted, k.counted);
     }
 
@@ -68,7 +68,7 @@ no_part [] (b ∷ bs) e some = cc e
 no_part (x ∷ xs) back e some = cc e
 
 -- nothing is written of a frame without an answer, so that it cannot fail
-pub written_cut : (x y z : Sunk) (os : List (Option (List ℕ))) (o : Option (List ℕ)) → AnswersWritten x os y → text.Fails y (sent o) z → AnswersCut x (os ++ o ∷ []) z
+pub written_cut : (x y z : Sunk) (os : List (Option (List ℕ))) (o : Option (List ℕ)) → AnswersWritten x os y → text.Fails y (answer_frame o) z → AnswersCut x (os ++ o ∷ []) z
 written_cut x y z os None h k = absurd (no_part k.part.front k.part.rest k.part.parts k.part.some_left)
 written_cut x y z os (Some f) h k =
     record {
@@ -79,6 +79,6 @@ written_cut x y z os (Some f) h k =
       back = k.part.rest;
       parts = k.part.parts;
       some_left = k.part.some_left;
-      written = Grew-append x.taken y.taken z.taken (framed_all (present os)) k.part.front h.whole k.part.grew;
-      cause = Rose-later x.faults y.faults z.faults h.counted k.cause;
+      written = grew_append x.taken y.taken z.taken (frames_bytes (present os)) k.part.front h.whole k.part.grew;
+      cause = rose_later x.faults y.faults z.faults h.counted k.cause;
     }

@@ -6,13 +6,13 @@ use Rattle.mc_model_device.specs.Device.{DeviceState, BenchState}
 use Rattle.mc_model_play.specs.Play.{State, LineResult}
 use Rattle.mc_base.specs.Streams.{Took}
 use Rattle.mc_base.specs.declared.refusals.WriteFault.{WriteFault}
-use Rattle.mc_base.proofs.StreamsLemmas.{Took-append, Took-none, Grew-none, Rose-later}
+use Rattle.mc_base.proofs.StreamsLemmas.{took_append, took_none, grew_none, rose_later}
 use Rattle.mc_text.specs.Texts.{Sunk}
 use Rattle.mc_script.specs.declared.player.Player.{Player}
 use Rattle.mc_script.specs.Players.{IsPlayerAt}
 use Rattle.mc_script.specs.Plays.{Bench}
 use Rattle.mc_script.specs.Lines.{bench_of}
-use Rattle.mc_reader.specs.Frames.{framed, framed_all, first_frame}
+use Rattle.mc_reader.specs.Frames.{frame_bytes, frames_bytes, first_frame}
 use Rattle.mc_reader.specs.Meanings.{meaning, power_after}
 use Rattle.mc_reader.specs.Lines.{line_in, number_after}
 use Rattle.mc_reader.specs.Answers.{answer_to}
@@ -48,7 +48,7 @@ module _ {N : Type 0} (state : N → DeviceState) (bench : N → BenchState) whe
     pub at : IsPlayerAt state bench p here
     pub rest : (fs : List (List ℕ)) (os : List (Option (List ℕ))) (c : Bench) → ServedFrames here number powered fs (bench_of state bench p) os c → ServedFrames s n false (frames ++ fs) v.dev (answers ++ os) c
     pub fit : AllByRecursion LengthFits frames
-    pub took : Took v.left left (framed_all frames)
+    pub took : Took v.left left (frames_bytes frames)
     pub counted : v.reads ≤ reads
     pub written : AnswersWritten v.out answers out
     pub many : length frames ≡ count
@@ -65,9 +65,9 @@ module _ {N : Type 0} (state : N → DeviceState) (bench : N → BenchState) whe
         at = at;
         rest = λ fs os c h. h;
         fit = tt;
-        took = Took-none left;
+        took = took_none left;
         counted = omega arith;
-        written = record { whole = Grew-none out.taken; counted = omega arith };
+        written = record { whole = grew_none out.taken; counted = omega arith };
         many = refl;
       }
 
@@ -85,16 +85,16 @@ module _ {N : Type 0} (state : N → DeviceState) (bench : N → BenchState) whe
       (subst (λ (qs : List (Option (List ℕ))). ServedFrames s n false (h.frames ++ f ∷ fs) v.dev qs c) (sym (append_assoc h.answers (o ∷ []) os)) whole)
 
   -- the bytes of one frame more
-  took_on : (v : Start) (fs : List (List ℕ)) (f : List ℕ) (left next : Option (List ℕ)) → Took v.left left (framed_all fs) → Took left next (framed f) → Took v.left next (framed_all (fs ++ f ∷ []))
+  took_on : (v : Start) (fs : List (List ℕ)) (f : List ℕ) (left next : Option (List ℕ)) → Took v.left left (frames_bytes fs) → Took left next (frame_bytes f) → Took v.left next (frames_bytes (fs ++ f ∷ []))
   took_on v fs f left next h k =
-      subst (λ (t : List ℕ). Took v.left next t) (sym (framed_more fs f)) (Took-append v.left left next (framed_all fs) (framed f) h k)
+      subst (λ (t : List ℕ). Took v.left next t) (sym (framed_more fs f)) (took_append v.left left next (frames_bytes fs) (frame_bytes f) h k)
 
   many_on : (fs : List (List ℕ)) (f : List ℕ) (count : ℕ) → length fs ≡ count → length (fs ++ f ∷ []) ≡ count + 1
   many_on fs f count is = let e = length-append fs (f ∷ []) in omega (arith, is, e)
 
   -- one frame more was served, and its answer was written
   pub reached_on : (s : State) (n : ℕ) (v : Start) (count : ℕ) (p q : Player N) (powered on : Bool) (left next : Option (List ℕ)) (reads more : ℕ) (out wrote : Sunk)
-      (h : SessionReached s n v count p powered left reads out) (f : List ℕ) → LengthFits f → Took left next (framed f) → reads ≤ more → on ≡ power_after powered (meaning powered f)
+      (h : SessionReached s n v count p powered left reads out) (f : List ℕ) → LengthFits f → Took left next (frame_bytes f) → reads ≤ more → on ≡ power_after powered (meaning powered f)
       → ServesFrame state bench p h.here h.number (meaning powered f) out (Ok tt) q wrote → SessionReached s n v (count + 1) q on next more wrote
   reached_on s n v count p q powered on left next reads more out wrote h f fits took counted power served =
       record {
@@ -117,13 +117,13 @@ module _ {N : Type 0} (state : N → DeviceState) (bench : N → BenchState) whe
 
   -- no frame more is served
   finish : (s : State) (n : ℕ) (v : Start) (fs : List (List ℕ)) (os : List (Option (List ℕ))) (part : List ℕ) (left : Option (List ℕ)) (reads : ℕ) (out : Sunk) (c : Bench) (result : Result (Unit {0}) ServeError)
-      → Took v.left left (framed_all fs ++ part) → AllByRecursion LengthFits fs → first_frame part ≡ None → v.reads ≤ reads → ServedFrames s n false (fs ++ []) v.dev (os ++ []) c
+      → Took v.left left (frames_bytes fs ++ part) → AllByRecursion LengthFits fs → first_frame part ≡ None → v.reads ≤ reads → ServedFrames s n false (fs ++ []) v.dev (os ++ []) c
       → EndsBy fs part os result (around v left reads out c) → ServedFrom s n result (around v left reads out c)
   finish s n v fs os part left reads out c result took fit less counted served ends =
       record {
         frames = fs;
         part = part;
-        taken = framed_all fs ++ part;
+        taken = frames_bytes fs ++ part;
         took = took;
         read = frames_are fs part fit less;
         bytes = each_bytes fs fit;
@@ -141,7 +141,7 @@ module _ {N : Type 0} (state : N → DeviceState) (bench : N → BenchState) whe
       → EndsBy h.frames part h.answers result (around v next more out (bench_of state bench p)) → ServedFrom s n result (around v next more out (bench_of state bench p))
   served_end s n v count p powered left next reads more out h part result took less counted ends =
       let b = bench_of state bench p in
-      finish s n v h.frames h.answers part next more out b result (Took-append v.left left next (framed_all h.frames) part h.took took) h.fit less (omega (arith, h.counted, counted))
+      finish s n v h.frames h.answers part next more out b result (took_append v.left left next (frames_bytes h.frames) part h.took took) h.fit less (omega (arith, h.counted, counted))
       (h.rest [] [] b (frames_none h.here h.number powered b (at_stands state bench p h.here h.at) h.at.unfused)) ends
 
   -- the input ended between two frames
@@ -155,7 +155,7 @@ module _ {N : Type 0} (state : N → DeviceState) (bench : N → BenchState) whe
       → SessionReached s n v count p powered left reads out → last_count ≤ count → ServedFrom s n (Ok tt) (around v left reads out (bench_of state bench p))
   served_all s n v count p powered left reads out h all =
       let behind : last_count ≤ length h.frames = subst (λ (k : ℕ). last_count ≤ k) (sym h.many) all in
-      served_end s n v count p powered left left reads reads out h [] (Ok tt) (Took-none left) refl (omega arith) (record { between = refl; end = inr behind; written = h.written })
+      served_end s n v count p powered left left reads reads out h [] (Ok tt) (took_none left) refl (omega arith) (record { between = refl; end = inr behind; written = h.written })
 
   -- the input ended inside a frame
   pub served_short : (s : State) (n : ℕ) (v : Start) (count : ℕ) (p : Player N) (powered : Bool) (left next : Option (List ℕ)) (reads more : ℕ) (out : Sunk)
@@ -169,18 +169,18 @@ module _ {N : Type 0} (state : N → DeviceState) (bench : N → BenchState) whe
       → SessionReached s n v count p powered left reads out → TookPart left next → Rose reads more → reads ≤ more → ServedFrom s n (Err fault.ReadFault) (around v next more out (bench_of state bench p))
   served_unread s n v count p powered left next reads more out h took cause counted =
       served_end s n v count p powered left next reads more out h took.part (Err fault.ReadFault) took.took took.less counted
-      (record { cause = Rose-later v.reads reads more h.counted cause; written = h.written })
+      (record { cause = rose_later v.reads reads more h.counted cause; written = h.written })
 
   -- the sink failed in the answer of a frame
   pub served_cut : (s : State) (n : ℕ) (v : Start) (count : ℕ) (p q : Player N) (powered : Bool) (left next : Option (List ℕ)) (reads more : ℕ) (out wrote : Sunk) (e : WriteFault)
-      (h : SessionReached s n v count p powered left reads out) (f : List ℕ) → LengthFits f → Took left next (framed f) → reads ≤ more
+      (h : SessionReached s n v count p powered left reads out) (f : List ℕ) → LengthFits f → Took left next (frame_bytes f) → reads ≤ more
       → ServesFrame state bench p h.here h.number (meaning powered f) out (Err e) q wrote → ServedFrom s n (Err fault.WriteFault) (around v next more wrote (bench_of state bench q))
   served_cut s n v count p q powered left next reads more out wrote e h f fits took counted served =
       let b = bench_of state bench q in
       let o = answer_to (meaning powered f) served.told in
       let fs = h.frames ++ f ∷ [] in
       finish s n v fs (h.answers ++ o ∷ []) [] next more wrote b (Err fault.WriteFault)
-      (Took-append v.left next next (framed_all fs) [] (took_on v h.frames f left next h.took took) (Took-none next))
+      (took_append v.left next next (frames_bytes fs) [] (took_on v h.frames f left next h.took took) (took_none next))
       (fits_more h.frames f h.fit fits) refl (omega (arith, h.counted, counted))
       (rest_on s n v count p q powered left reads out h f served.after served.told served.moves [] [] b
       (frames_none served.after (number_after h.number (line_in (meaning powered f))) (power_after powered (meaning powered f)) b (at_stands state bench q served.after served.at) served.at.unfused))

@@ -6,7 +6,7 @@ use Rattle.std.proofs.lemmas.List.{take-append-le, length-take-le, take_all}
 use Rattle.std.proofs.Math.Seq.{take-append-add}
 use borrow.Rule.Slice.PartMut.{put_mid, post_of}
 use Rattle.mc_base.specs.Streams.{Took, AtEnd}
-use Rattle.mc_base.proofs.StreamsLemmas.{Took-append}
+use Rattle.mc_base.proofs.StreamsLemmas.{took_append}
 use Rattle.mc_reader.specs.Frames.{first_frame}
 use Rattle.mc_reader.specs.Readings.{TookPart, TookShort}
 
@@ -37,7 +37,7 @@ head_took a b head n two is h = subst (λ (t : List ℕ). Took a b t) (take_all 
 -- a head, and a part of the bytes behind it
 pub took_part : (a b c : Option (List ℕ)) (head body : List ℕ) (n : ℕ) → length head ≡ 2 → n ≡ 2 → Took a b (take n head) → Took b c body → length body < size_in head → TookPart a c
 took_part a b c head body n two is h k less =
-    record { part = head ++ body; took = Took-append a b c head body (head_took a b head n two is h) k; less = part_less head body two less }
+    record { part = head ++ body; took = took_append a b c head body (head_took a b head n two is h) k; less = part_less head body two less }
 
 -- one byte of a head
 one_byte : (head : List ℕ) → first_frame (take 1 head) ≡ None
@@ -58,7 +58,7 @@ pub short_body : (a b c : Option (List ℕ)) (head body : List ℕ) (n m : ℕ) 
 short_body a b c head body n m two is h k less end =
     let few : length (take m body) < size_in head = rw (length-take m body) (omega (arith, less)) in
     record {
-      took = record { part = head ++ take m body; took = Took-append a b c head (take m body) (head_took a b head n two is h) k; less = part_less head (take m body) two few };
+      took = record { part = head ++ take m body; took = took_append a b c head (take m body) (head_took a b head n two is h) k; less = part_less head (take m body) two few };
       some = rw (length-append head (take m body)) (omega (arith, two));
       end = end;
     }

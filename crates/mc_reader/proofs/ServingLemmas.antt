@@ -14,9 +14,9 @@ use Rattle.mc_script.specs.Plays.{Bench, Played}
 use Rattle.mc_script.specs.Lines.{bench_of}
 use Rattle.mc_script.proofs.PlayLemmas.{plays_on, played_on, played_none}
 use Rattle.mc_reader.specs.Meanings.{Meaning, PowerOn, PowerOff, WantsAtr, Nothing, Orders, Refused, ToCard, Unheard, meaning, power_after}
-use Rattle.mc_reader.specs.Lines.{line_in, numbered, number_after, lines_of}
+use Rattle.mc_reader.specs.Lines.{line_in, line_with_number, number_after, lines_of}
 use Rattle.mc_reader.specs.Answers.{result_bytes, answer_to, first_result, steps_behind, answer_each}
-use Rattle.mc_reader.specs.Results.{replied, sent}
+use Rattle.mc_reader.specs.Results.{reply_to_frame, answer_frame}
 use Rattle.mc_reader.specs.Serving.{Moves, PlaysLine, ServesFrame, ServedFrames}
 use Rattle.mc_reader.proofs.AnswerLemmas.{answer_is}
 
@@ -25,7 +25,7 @@ use Rattle.mc_reader.proofs.AnswerLemmas.{answer_is}
 module _ {N : Type 0} (state : N → DeviceState) (bench : N → BenchState) where
   -- a frame without a line
   without_line : (p q : Player N) (s : State) (n : ℕ) (m : Meaning) (x y : Sunk) (r : Result (Unit {0}) WriteFault) → line_in m ≡ None
-      → IsPlayerAt state bench p s → q ≡ p → Puts x (sent (answer_to m None)) r y → ServesFrame state bench p s n m x r q y
+      → IsPlayerAt state bench p s → q ≡ p → Puts x (answer_frame (answer_to m None)) r y → ServesFrame state bench p s n m x r q y
   without_line p q s n m x y r none at same puts =
       record {
         after = s;
@@ -37,7 +37,7 @@ module _ {N : Type 0} (state : N → DeviceState) (bench : N → BenchState) whe
 
   -- a frame with a line, whose answer is due by the line's result
   with_line : (p q : Player N) (s : State) (n : ℕ) (m : Meaning) (l : DeckLine) (answer : Option Answer) (x y : Sunk) (r : Result (Unit {0}) WriteFault) → line_in m ≡ Some l
-      → IsPlayerAt state bench p s → PlaysLine state bench p (Some l) answer q → Puts x (sent (answer_to m (option_map (answer_value state q) answer))) r y → ServesFrame state bench p s n m x r q y
+      → IsPlayerAt state bench p s → PlaysLine state bench p (Some l) answer q → Puts x (answer_frame (answer_to m (option_map (answer_value state q) answer))) r y → ServesFrame state bench p s n m x r q y
   with_line p q s n m l answer x y r some at plays puts =
       let done = plays s (n + 1) at in
       let t = step s (n + 1, l) done.0 in
@@ -46,12 +46,12 @@ module _ {N : Type 0} (state : N → DeviceState) (bench : N → BenchState) whe
         at = done.1.at;
         told = t.result;
         moves = subst (λ (o : Option DeckLine). Moves s n o (bench_of state bench p) t.result t.after (bench_of state bench q)) (sym some) (done.0, done.1.played, refl, refl);
-        puts = subst (λ (o : Option LineResult). Puts x (sent (answer_to m o)) r y) done.1.answers puts;
+        puts = subst (λ (o : Option LineResult). Puts x (answer_frame (answer_to m o)) r y) done.1.answers puts;
       }
 
   -- a frame whose line was played, and whose answer was written
   pub frame_served : (p q : Player N) (s : State) (n : ℕ) (m : Meaning) (answer : Option Answer) (x y : Sunk) (r : Result (Unit {0}) WriteFault)
-      → IsPlayerAt state bench p s → PlaysLine state bench p (line_in m) answer q → Puts x (sent (replied m q.outcome answer)) r y → ServesFrame state bench p s n m x r q y
+      → IsPlayerAt state bench p s → PlaysLine state bench p (line_in m) answer q → Puts x (answer_frame (reply_to_frame m q.outcome answer)) r y → ServesFrame state bench p s n m x r q y
   frame_served p q s n PowerOn answer x y r at plays puts = with_line p q s n PowerOn line.Power answer x y r refl at plays puts
   frame_served p q s n PowerOff answer x y r at plays puts = without_line p q s n PowerOff x y r refl at plays puts
   frame_served p q s n WantsAtr answer x y r at plays puts = without_line p q s n WantsAtr x y r refl at plays puts
@@ -60,7 +60,7 @@ module _ {N : Type 0} (state : N → DeviceState) (bench : N → BenchState) whe
   frame_served p q s n (Refused w) answer x y r at plays puts = without_line p q s n (Refused w) x y r refl at plays puts
   frame_served p q s n (ToCard f) answer x y r at plays puts =
       with_line p q s n (ToCard f) (line.Apdu f) answer x y r refl at plays
-      (subst (λ (t : List ℕ). Puts x (sent (Some t)) r y) (sym (answer_is state q answer)) puts)
+      (subst (λ (t : List ℕ). Puts x (answer_frame (Some t)) r y) (sym (answer_is state q answer)) puts)
   frame_served p q s n Unheard answer x y r at plays puts = without_line p q s n Unheard x y r refl at plays puts
 
 -- ---- a frame, and those behind it
@@ -72,9 +72,9 @@ frames_none s n powered a stands unfused = record { worn = []; played = played_n
 -- the lines of frames behind one with a meaning, and what it and they are answered
 record ServedBehind (s : State) (n : ℕ) (powered : Bool) (m : Meaning) (fs : List (List ℕ)) (a : Bench) (os : List (Option (List ℕ))) (c : Bench) : Type 0 where
   worn : List (Option WornAt)
-  played : Played s (numbered n (line_in m) ++ lines_of (number_after n (line_in m)) (power_after powered m) fs) worn a c
+  played : Played s (line_with_number n (line_in m) ++ lines_of (number_after n (line_in m)) (power_after powered m) fs) worn a c
   answers :
-      let ts = plays s (numbered n (line_in m) ++ lines_of (number_after n (line_in m)) (power_after powered m) fs) worn in
+      let ts = plays s (line_with_number n (line_in m) ++ lines_of (number_after n (line_in m)) (power_after powered m) fs) worn in
       os ≡ answer_to m (first_result ts) ∷ answer_each (power_after powered m) fs (steps_behind (line_in m) ts)
 
 -- behind a frame without a line

@@ -10,13 +10,13 @@ use Rattle.mc_model_play.specs.DeckGrammar as line
 use Rattle.mc_model_play.specs.Laws.{HoldsOf}
 use Rattle.mc_model_play.specs.Play.{State, WornAt, Step, plays, start, step, first_worn, last_state}
 use Rattle.mc_model_play.specs.ReadyAgain.{IsLine, AreLines}
-use Rattle.mc_model_device.proofs.ImageLemmas.{all-append}
+use Rattle.mc_model_device.proofs.ImageLemmas.{all_append}
 use Rattle.mc_family.proofs.DeckBytes.{played_bytes}
 use Rattle.mc_family.proofs.PlayLaw.{play_law}
 use Rattle.mc_script.specs.Plays.{Bench, LeadsTo}
 use Rattle.mc_script.proofs.Composing.{plays_append}
 use Rattle.mc_reader.specs.Meanings.{Meaning, PowerOn, PowerOff, WantsAtr, Nothing, wrong_length, wrong_instruction, wrong_parameters, in_range, cut_order, fail_order, budget_order, plain_order, order_by, order, by_order, by_power, meaning, power_after}
-use Rattle.mc_reader.specs.Lines.{line_in, numbered, number_after, last_number, lines_of, session_lines}
+use Rattle.mc_reader.specs.Lines.{line_in, line_with_number, number_after, last_number, lines_of, session_lines}
 use Rattle.mc_reader.specs.Answers.{answer_each, session_answers}
 use Rattle.mc_reader.specs.Sessions.{AroundSession, EndsBy, Served, Serves}
 use Rattle.mc_reader.specs.Serving.{ServedFrom}
@@ -101,7 +101,7 @@ carries powered (b ∷ c ∷ bs) bytes =
     let f = b ∷ c ∷ bs in
     carries_cond (b == 0xFF) (by_order (order f)) (by_power powered f) (carries_order (order f) (plain f)) (carries_power powered f bytes)
 
-numbered_bytes : (n : ℕ) (o : Option DeckLine) → IfSome o IsLine → AllByRecursion (λ l. IsLine l.1) (numbered n o)
+numbered_bytes : (n : ℕ) (o : Option DeckLine) → IfSome o IsLine → AllByRecursion (λ l. IsLine l.1) (line_with_number n o)
 numbered_bytes n None h = tt
 numbered_bytes n (Some l) h = (h, tt)
 
@@ -110,7 +110,7 @@ frames_bytes : (n : ℕ) (powered : Bool) (fs : List (List ℕ)) → AllByRecurs
 frames_bytes n powered [] all = tt
 frames_bytes n powered (f ∷ fs) all =
     let m = meaning powered f in
-    all-append (λ l. IsLine l.1) (numbered n (line_in m)) (lines_of (number_after n (line_in m)) (power_after powered m) fs) (numbered_bytes n (line_in m) (carries powered f all.0))
+    all_append (λ l. IsLine l.1) (line_with_number n (line_in m)) (lines_of (number_after n (line_in m)) (power_after powered m) fs) (numbered_bytes n (line_in m) (carries powered f all.0))
     (frames_bytes (number_after n (line_in m)) (power_after powered m) fs all.1)
 
 -- ---- one play
@@ -127,7 +127,7 @@ served_deck deck result a b u worn image bytes leads h =
     h.served.answers ∙ ap (λ (ts : List Step). answer_each false h.frames ts) (sym steps) in
     let m = a.dev_old.device.words in
     let laws : HoldsOf m (plays s (deck ++ ls) (worn ++ h.served.worn)) = play_law (session_lines deck h.frames) m (worn ++ h.served.worn) played.possible in
-    let mine = all-append (λ l. IsLine l.1) deck ls bytes (frames_bytes (last_number deck) false h.frames h.bytes) in
+    let mine = all_append (λ l. IsLine l.1) deck ls bytes (frames_bytes (last_number deck) false h.frames h.bytes) in
     let each : AreLines (plays s (deck ++ ls) (worn ++ h.served.worn)) = played_bytes s (session_lines deck h.frames) (worn ++ h.served.worn) mine in
     record {
       frames = h.frames;

@@ -6,16 +6,16 @@ use Rattle.mc_model_device.specs.Device.{blank_words}
 use Rattle.mc_model_play.specs.DeckGrammar.{DeckLine, deck_read}
 use Rattle.mc_model_examples.specs.Written.{hex}
 use Rattle.mc_model_examples.specs.Played.{steps_on}
-use Rattle.mc_reader.specs.Frames.{framed_all, frames_within, frames_read}
+use Rattle.mc_reader.specs.Frames.{frames_bytes, frames_within, frames_read}
 use Rattle.mc_reader.specs.Lines.{session_lines}
 use Rattle.mc_reader.specs.Answers.{present, session_answers}
 
 -- the answers to frames behind a deck
-abbrev pub answered : Result (List (ℕ × DeckLine)) (ℕ × DeckCause) → List (List ℕ) → List ℕ
-answered (Ok deck) fs = framed_all (present (session_answers deck fs (steps_on (blank_words 256) (session_lines deck fs))))
-answered (Err e) fs = []
+abbrev pub answers_to_frames : Result (List (ℕ × DeckLine)) (ℕ × DeckCause) → List (List ℕ) → List ℕ
+answers_to_frames (Ok deck) fs = frames_bytes (present (session_answers deck fs (steps_on (blank_words 256) (session_lines deck fs))))
+answers_to_frames (Err e) fs = []
 
 -- the same from a deck's text, and from bytes in hexadecimal
-unfoldable pub served : List ℕ → List ℕ → List ℕ
+unfoldable pub answers_to_input : List ℕ → List ℕ → List ℕ
 unfolding deck_read steps_on frames_within
-served deck input = answered (deck_read deck) ((frames_read (hex input)).0)
+answers_to_input deck input = answers_to_frames (deck_read deck) ((frames_read (hex input)).0)

@@ -4,23 +4,23 @@ use Rattle.std.specs.Prelude.{ℕ, zero, suc, ◌+◌, ◌*◌, cond, nat_le, Li
 use Rattle.mc_model_device.specs.Bytes.{bytes2}
 
 -- a frame as it is sent
-abbrev pub framed : List ℕ → List ℕ
-framed f = bytes2 (length f) ++ f
+abbrev pub frame_bytes : List ℕ → List ℕ
+frame_bytes f = bytes2 (length f) ++ f
 
 -- frames as they are sent, one behind the other
-abbrev pub framed_all : List (List ℕ) → List ℕ
-framed_all [] = []
-framed_all (f ∷ fs) = framed f ++ framed_all fs
+abbrev pub frames_bytes : List (List ℕ) → List ℕ
+frames_bytes [] = []
+frames_bytes (f ∷ fs) = frame_bytes f ++ frames_bytes fs
 
 -- the first n bytes and those behind them, where there are so many
-abbrev pub cut_off : ℕ → List ℕ → Option (List ℕ × List ℕ)
-cut_off n bs = cond (nat_le n (length bs)) (Some (take n bs, drop n bs)) None
+abbrev pub halves_at : ℕ → List ℕ → Option (List ℕ × List ℕ)
+halves_at n bs = cond (nat_le n (length bs)) (Some (take n bs, drop n bs)) None
 
 -- the frame that bytes begin with, and the bytes behind it
 abbrev pub first_frame : List ℕ → Option (List ℕ × List ℕ)
 first_frame [] = None
 first_frame (high ∷ []) = None
-first_frame (high ∷ low ∷ bs) = cut_off (256 * high + low) bs
+first_frame (high ∷ low ∷ bs) = halves_at (256 * high + low) bs
 
 -- the bytes behind a first frame
 abbrev pub behind : Option (List ℕ × List ℕ) → List ℕ

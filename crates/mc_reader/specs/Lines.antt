@@ -12,9 +12,9 @@ line_in (ToCard f) = Some (line.Apdu f)
 line_in _ = None
 
 -- a line that may be missing, numbered on from n
-abbrev pub numbered : ℕ → Option DeckLine → List (ℕ × DeckLine)
-numbered n None = []
-numbered n (Some l) = (n + 1, l) ∷ []
+abbrev pub line_with_number : ℕ → Option DeckLine → List (ℕ × DeckLine)
+line_with_number n None = []
+line_with_number n (Some l) = (n + 1, l) ∷ []
 
 -- the number of the last line then
 abbrev pub number_after : ℕ → Option DeckLine → ℕ
@@ -26,7 +26,7 @@ abbrev pub lines_of : ℕ → Bool → List (List ℕ) → List (ℕ × DeckLine
 lines_of n powered [] = []
 lines_of n powered (f ∷ fs) =
     let m = meaning powered f in
-    numbered n (line_in m) ++ lines_of (number_after n (line_in m)) (power_after powered m) fs
+    line_with_number n (line_in m) ++ lines_of (number_after n (line_in m)) (power_after powered m) fs
 
 -- the number of the last of some lines, and 0 where there is none
 abbrev pub last_number : List (ℕ × DeckLine) → ℕ

@@ -2,7 +2,7 @@
 use Rattle.std.specs.Prelude.{◌≡◌, ℕ, ◌<◌, ◌≤◌, List, [], length, take, Option, Some, None, Result, Ok, Err}
 use Rattle.mc_model_device.specs.Counts.{Rose}
 use Rattle.mc_base.specs.Streams.{Took, AtEnd}
-use Rattle.mc_reader.specs.Frames.{framed, first_frame}
+use Rattle.mc_reader.specs.Frames.{frame_bytes, first_frame}
 use Rattle.mc_reader.specs.declared.reading.FrameFault.{FrameFault}
 use Rattle.mc_reader.specs.declared.reading.FrameFault.TheVariants.{Short, ReadFault}
 
@@ -20,7 +20,7 @@ pub record TookPart (old new : Option (List ℕ)) : Type 0 where
 
 -- a frame was taken whole, and stands at the front of the room
 pub record TookFrame (old new : Option (List ℕ)) (room : List ℕ) (size : ℕ) : Type 0 where
-  pub took : Took old new (framed (take size room))
+  pub took : Took old new (frame_bytes (take size room))
   pub fits : size ≤ length room
 
 -- the input ended before a frame

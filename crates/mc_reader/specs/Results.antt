@@ -5,7 +5,7 @@ use Rattle.mc_machine.specs.declared.outcome.Outcome.{Outcome}
 use Rattle.mc_machine.specs.Turns.{outcome_value}
 use Rattle.mc_script.specs.declared.answer.Answer.{Answer}
 use Rattle.mc_script.specs.declared.answer.Answer.TheVariants as answer
-use Rattle.mc_reader.specs.Frames.{framed}
+use Rattle.mc_reader.specs.Frames.{frame_bytes}
 use Rattle.mc_reader.specs.Meanings.{Meaning, ToCard}
 use Rattle.mc_reader.specs.Answers.{outcome_bytes, answer_to}
 
@@ -16,11 +16,11 @@ answer_bytes last (Some answer.Worn) = bytes2 0x6581
 answer_bytes last _ = []
 
 -- what a frame is answered whose line had this result, where the last command ended so
-abbrev pub replied : Meaning → Outcome → Option Answer → Option (List ℕ)
-replied (ToCard f) last o = Some (answer_bytes last o)
-replied m last o = answer_to m None
+abbrev pub reply_to_frame : Meaning → Outcome → Option Answer → Option (List ℕ)
+reply_to_frame (ToCard f) last o = Some (answer_bytes last o)
+reply_to_frame m last o = answer_to m None
 
 -- an answer as it is sent, if there is one
-abbrev pub sent : Option (List ℕ) → List ℕ
-sent None = []
-sent (Some f) = framed f
+abbrev pub answer_frame : Option (List ℕ) → List ℕ
+answer_frame None = []
+answer_frame (Some f) = frame_bytes f

@@ -17,7 +17,7 @@ use Rattle.mc_reader.specs.Frames.{frames_read}
 use Rattle.mc_reader.specs.Meanings.{Meaning}
 use Rattle.mc_reader.specs.Lines.{line_in, lines_of}
 use Rattle.mc_reader.specs.Answers.{answer_to, answer_each}
-use Rattle.mc_reader.specs.Results.{sent}
+use Rattle.mc_reader.specs.Results.{answer_frame}
 use Rattle.mc_reader.specs.Sessions.{AroundSession, EndsBy}
 use Rattle.mc_reader.specs.declared.serve_error.ServeError.{ServeError}
 
@@ -41,7 +41,7 @@ module _ {N : Type 0} (state : N → DeviceState) (bench : N → BenchState) whe
     pub at : IsPlayerAt state bench q after
     pub told : Option LineResult
     pub moves : Moves s n (line_in m) (bench_of state bench p) told after (bench_of state bench q)
-    pub puts : Puts x (sent (answer_to m told)) result y
+    pub puts : Puts x (answer_frame (answer_to m told)) result y
 
 -- ---- frames
 

@@ -8,7 +8,7 @@ use Rattle.mc_model_play.specs.ReadyAgain.{AllFitJournal, ReadyAgain}
 use Rattle.mc_base.specs.Streams.{Took, AtEnd, Grew}
 use Rattle.mc_text.specs.Texts.{Sunk}
 use Rattle.mc_script.specs.Plays.{Bench, Played}
-use Rattle.mc_reader.specs.Frames.{framed, framed_all, frames_read}
+use Rattle.mc_reader.specs.Frames.{frame_bytes, frames_bytes, frames_read}
 use Rattle.mc_reader.specs.Lines.{session_lines}
 use Rattle.mc_reader.specs.Answers.{present, session_answers}
 use Rattle.mc_reader.specs.declared.serve_error.ServeError.{ServeError}
@@ -29,7 +29,7 @@ pub record AroundSession : Type 0 where
 
 -- the answers were written, each as a frame, in order
 pub record AnswersWritten (x : Sunk) (os : List (Option (List ℕ))) (y : Sunk) : Type 0 where
-  pub whole : Grew x.taken y.taken (framed_all (present os))
+  pub whole : Grew x.taken y.taken (frames_bytes (present os))
   pub counted : x.faults ≤ y.faults
 
 -- The answer of the last frame was not written whole: those before it were, and a front of its own.
@@ -39,9 +39,9 @@ pub record AnswersCut (x : Sunk) (os : List (Option (List ℕ))) (y : Sunk) : Ty
   pub are : os ≡ before ++ Some last ∷ []
   pub front : List ℕ
   pub back : List ℕ
-  pub parts : framed last ≡ front ++ back
+  pub parts : frame_bytes last ≡ front ++ back
   pub some_left : 0 < length back
-  pub written : Grew x.taken y.taken (framed_all (present before) ++ front)
+  pub written : Grew x.taken y.taken (frames_bytes (present before) ++ front)
   pub cause : Rose x.faults y.faults
 
 -- ---- how a session ends that served these frames, with this part of one more, and with these answers due

@@ -2,11 +2,11 @@
 ghost use Rattle.std.specs.Prelude.{◌≡◌, ◌≤◌, ◌++◌, length};
 ghost use Rattle.mc_model_device.specs.Bytes.{bytes2};
 ghost use Rattle.mc_text.specs.Texts.{sunk_in, Puts};
-ghost use Rattle.mc_reader.specs.Frames.{framed};
+ghost use Rattle.mc_reader.specs.Frames.{frame_bytes};
 ghost use Rattle.mc_reader.specs.Requests.{meaning_of};
 ghost use Rattle.mc_machine.specs.Turns.{outcome_value};
 ghost use Rattle.mc_reader.specs.Answers.{outcome_bytes};
-ghost use Rattle.mc_reader.specs.Results.{answer_bytes, replied, sent};
+ghost use Rattle.mc_reader.specs.Results.{answer_bytes, reply_to_frame, answer_frame};
 
 use crate::request::Request;
 use arrayvec::ArrayVec;
@@ -27,7 +27,7 @@ const LONGEST: usize = 1026;
 // Writes an answer as a frame, in one piece.
 fn put_frame<T: Sink>(out: &mut T, bytes: &[u8]) -> Result<(), WriteFault>
     requires { length bytes.now ≤ 1026 }
-    ensures { Puts (sunk_in T.taken T.faults out.old) (framed bytes.now) result (sunk_in T.taken T.faults out.new) }
+    ensures { Puts (sunk_in T.taken T.faults out.old) (frame_bytes bytes.now) result (sunk_in T.taken T.faults out.new) }
 {
     let mut frame = ArrayVec::<u8, 1028>::new();
     frame.push((bytes.len() / 256) as u8);
@@ -38,7 +38,7 @@ fn put_frame<T: Sink>(out: &mut T, bytes: &[u8]) -> Result<(), WriteFault>
 
 // Writes a reply: its data and its status.
 fn put_reply<T: Sink>(out: &mut T, reply: &Reply) -> Result<(), WriteFault>
-    ensures { Puts (sunk_in T.taken T.faults out.old) (framed (reply.now.body.items ++ bytes2 reply.now.sw)) result
+    ensures { Puts (sunk_in T.taken T.faults out.old) (frame_bytes (reply.now.body.items ++ bytes2 reply.now.sw)) result
         (sunk_in T.taken T.faults out.new) }
 {
     let mut bytes = ArrayVec::<u8, LONGEST>::new();
@@ -50,7 +50,7 @@ fn put_reply<T: Sink>(out: &mut T, reply: &Reply) -> Result<(), WriteFault>
 
 // Writes how a command ended.
 fn put_outcome<T: Sink>(out: &mut T, outcome: &Outcome) -> Result<(), WriteFault>
-    ensures { Puts (sunk_in T.taken T.faults out.old) (framed (outcome_bytes (outcome_value outcome.now))) result
+    ensures { Puts (sunk_in T.taken T.faults out.old) (frame_bytes (outcome_bytes (outcome_value outcome.now))) result
         (sunk_in T.taken T.faults out.new) }
 {
     match outcome {
@@ -65,7 +65,7 @@ fn put_result<T: Sink>(
     answer: &Option<Answer>,
     outcome: &Outcome,
 ) -> Result<(), WriteFault>
-    ensures { Puts (sunk_in T.taken T.faults out.old) (framed (answer_bytes outcome.now answer.now)) result
+    ensures { Puts (sunk_in T.taken T.faults out.old) (frame_bytes (answer_bytes outcome.now answer.now)) result
         (sunk_in T.taken T.faults out.new) }
 {
     match answer {
@@ -83,7 +83,7 @@ pub fn put_answer<T: Sink>(
     outcome: &Outcome,
 ) -> Result<(), WriteFault>
     ensures { Puts (sunk_in T.taken T.faults out.old)
-        (sent (replied (meaning_of request.now) outcome.now answer.now)) result (sunk_in T.taken T.faults out.new) }
+        (answer_frame (reply_to_frame (meaning_of request.now) outcome.now answer.now)) result (sunk_in T.taken T.faults out.new) }
 {
     match request {
         Request::Atr => put_frame(out, &ATR),

@@ -1,20 +1,20 @@
-#![tactic(auto, unfolding(crate::specs::Computed::served))]
+#![tactic(auto, unfolding(crate::specs::Computed::answers_to_input))]
 
 // Worked rows: sessions from the text of a deck and the bytes of the host's frames to the bytes of the answers.
 ghost use Rattle.std.specs.Prelude.{◌≡◌, ◌++◌, [], codes};
 ghost use Rattle.mc_model_examples.specs.Written.{hex, times};
 ghost use Rattle.mc_model_examples.specs.Played.{unit_line};
-ghost use Rattle.mc_reader.specs.Computed.{served};
+ghost use Rattle.mc_reader.specs.Computed.{answers_to_input};
 
 /// The answer to reset is wanted: with power or without it is the same.
 pub fn answer_to_reset()
-    ensures { served (codes "format\n") (codes "0001 04 0001 01 0001 04")
+    ensures { answers_to_input (codes "format\n") (codes "0001 04 0001 01 0001 04")
         ≡ hex (codes "000C 3B878001 4D454C43415244 56 000C 3B878001 4D454C43415244 56") }
 {}
 
 /// A counter that the deck loaded is selected and counts twice; a reset loses the selection, and the count stays.
 pub fn counts_and_a_reset()
-    ensures { served (
+    ensures { answers_to_input (
         codes "format\npower\n" ++
         unit_line (codes "a") (codes "A000000001") (codes "B9020000 39020000 46020000 060002") [] ++
         codes "load a 2 0\n") (
@@ -25,39 +25,39 @@ pub fn counts_and_a_reset()
 
 /// A reset of a card that holds a deck's application needs no word; before it the card has no power, and hears no command.
 pub fn commands_without_power()
-    ensures before { served (codes "format\npower\n") (codes "0005 8001000002 0001 01 0005 8001000002")
+    ensures before { answers_to_input (codes "format\npower\n") (codes "0005 8001000002 0001 01 0005 8001000002")
         ≡ hex (codes "0000 0002 6985") }
-    ensures off { served (codes "format\n") (codes "0001 01 0001 00 0005 8001000002 0001 04 0001 02 0005 8001000002")
+    ensures off { answers_to_input (codes "format\n") (codes "0001 01 0001 00 0005 8001000002 0001 04 0001 02 0005 8001000002")
         ≡ hex (codes "0000 000C 3B878001 4D454C43415244 56 0002 6985") }
 {}
 
 /// Bytes that mean nothing, and frames without a byte.
 pub fn nothing()
-    ensures { served (codes "format\n") (codes "0000 0001 03 0001 FF 0001 05 0001 80 0000") ≡ [] }
+    ensures { answers_to_input (codes "format\n") (codes "0000 0001 03 0001 FF 0001 05 0001 80 0000") ≡ [] }
 {}
 
 /// The refusals of commands to the reader, the first that holds. None of them is a line, and they need no power.
 pub fn refusals()
-    ensures length { served (codes "format\n") (
+    ensures length { answers_to_input (codes "format\n") (
         codes "0002 FFC0 0004 FFC00000 0005 FFC000000C 0006 FFC000000C00 0006 FFC300000000 " ++
         codes "0009 FFC000000400000001 0009 FFC101000400000001")
         ≡ hex (codes "0002 6700 0002 6700 0002 6700 0002 6700 0002 6700 0002 6700 0002 6A86") }
-    ensures instruction { served (codes "format\n") (codes "0005 FFC3000000 0005 FFC3010000 0006 FF00000001AA")
+    ensures instruction { answers_to_input (codes "format\n") (codes "0005 FFC3000000 0005 FFC3010000 0006 FF00000001AA")
         ≡ hex (codes "0002 6D00 0002 6D00 0002 6D00") }
-    ensures parameters { served (codes "format\n") (
+    ensures parameters { answers_to_input (codes "format\n") (
         codes "0011 FFC001000C000000000000000000000000 0009 FFC100010400000000 0009 FFC201010400000000")
         ≡ hex (codes "0002 6A86 0002 6A86 0002 6A86") }
-    ensures values { served (codes "format\n") (
+    ensures values { answers_to_input (codes "format\n") (
         codes "0011 FFC000000C000000000000000000000000 0009 FFC100000400000000 0009 FFC200000400000000 0009 FFC200000400010001")
         ≡ hex (codes "0002 6A80 0002 6A80 0002 6A80 0002 6A80") }
-    ensures taken { served (codes "format\n") (
+    ensures taken { answers_to_input (codes "format\n") (
         codes "0011 FFC000000C000000010000000000000000 0009 FFC1000004FFFFFFFF 0009 FFC200000400000001 0009 FFC200000400010000")
         ≡ hex (codes "0002 9000 0002 9000 0002 9000 0002 9000") }
 {}
 
 /// An application that meets an undefined instruction, and no application.
 pub fn an_abend()
-    ensures { served (
+    ensures { answers_to_input (
         codes "format\npower\n" ++
         unit_line (codes "a") (codes "A000000001") (codes "30") [] ++
         codes "load a 0 0\n") (codes "0001 01 000A 00A4040C05A000000001 0004 80010000 000A 00A4040C05A000000009")
@@ -67,14 +67,14 @@ pub fn an_abend()
 /// A stop that is armed between two commands, with a budget behind it: the command that it hits is not answered, and no other is until the
 /// next reset. The card counts on from what it kept. A write that is refused is answered, and leaves the card mute.
 pub fn stops()
-    ensures cut { served (
+    ensures cut { answers_to_input (
         codes "format\npower\n" ++
         unit_line (codes "a") (codes "A000000001") (codes "B9020000 39020000 46020000 060002") [] ++
         codes "load a 2 0\n") (
         codes "0001 01 000A 00A4040C05A000000001 0005 8001000002 0011 FFC000000C000000010000000000000000 0009 FFC200000400000100 " ++
         codes "0005 8001000002 0005 8001000002 0001 02 000A 00A4040C05A000000001 0005 8001000002")
         ≡ hex (codes "0002 9000 0004 00019000 0002 9000 0002 9000 0000 0000 0002 9000 0004 00029000") }
-    ensures refused { served (
+    ensures refused { answers_to_input (
         codes "format\npower\n" ++
         unit_line (codes "a") (codes "A000000001") (codes "B9020000 39020000 46020000 060002") [] ++
         codes "load a 2 0\n") (
@@ -84,7 +84,7 @@ pub fn stops()
 
 /// A command of 256 bytes, and one that does not come whole.
 pub fn long_and_short_frames()
-    ensures { served (
+    ensures { answers_to_input (
         codes "format\npower\n" ++
         unit_line (codes "a") (codes "A000000001") (codes "B9020000 39020000 46020000 060002") [] ++
         codes "load a 2 0\n") (

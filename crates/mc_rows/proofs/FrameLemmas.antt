@@ -6,14 +6,14 @@ use Rattle.mc_model_machine.specs.declared.machine.Abend.{Abend}
 use Rattle.mc_model_device.specs.Orders.{Answer}
 use Rattle.mc_model_card.specs.Items.{BankItem}
 use Rattle.mc_model_device.specs.Bytes.{lookup}
-use Rattle.mc_model_machine.specs.Primitives.{Done, going, framed}
+use Rattle.mc_model_machine.specs.Primitives.{Done, effect_and_next, frame_effect}
 use Rattle.mc_model_machine.specs.Row.{RowEnd, Abends, Does, row}
 use Rattle.mc_bank.specs.Bank.{BankState, app_of, name_or}
-use Rattle.mc_segs.specs.HeldFrames.{Held, FitsBank, app_under, seen, shown}
+use Rattle.mc_segs.specs.HeldFrames.{Held, FitsBank, app_under, frame_reading, frame_on_bank}
 use Rattle.mc_segs.specs.Ends.{EndActs, EffectDone, RowActs, scene}
 use Rattle.mc_segs.specs.declared.ends.Next.TheVariants.{Go}
-use Rattle.mc_rows.specs.Rows.{alone, flowing}
-use Rattle.mc_rows.specs.FrameRows.{on_app, AreOfOneApp, FrameEnds, FrameActs, framing}
+use Rattle.mc_rows.specs.Rows.{alone, row_result}
+use Rattle.mc_rows.specs.FrameRows.{on_app, AreOfOneApp, FrameEnds, FrameActs, frame_row_result}
 
 module _ {B : Type 0} (did : B → BankItem → Answer → B → Type 0) (state : B → BankState) (named : B → ℕ → Option (List ℕ)) where
   -- a frame fits a bank if one for the same application does
@@ -30,12 +30,12 @@ module _ {B : Type 0} (did : B → BankItem → Answer → B → Type 0) (state 
 
   -- a change of the frame alone does not change the bank
   left_alone : (b : B) (h k : Held) (public : List ℕ) → (state b).stopped ≡ false → FitsBank (state b) (named b) h → AreOfOneApp h k
-      → EffectDone did state named (scene b b h k public public) (framed (on_app k (name_or (named b h.slot)) (app_under (state b) (named b) h).fixed) public)
+      → EffectDone did state named (scene b b h k public public) (frame_effect (on_app k (name_or (named b h.slot)) (app_under (state b) (named b) h).fixed) public)
   left_alone b h k public going fits same =
       record {
         commits = refl;
         bytes = ap (λ (n : ℕ). (app_of (state b).apps (named b n)).fixed) same.slot;
-        frame = ap (λ (n : ℕ). seen (on_app k (name_or (named b n)) (app_of (state b).apps (named b n)).fixed)) same.slot;
+        frame = ap (λ (n : ℕ). frame_reading (on_app k (name_or (named b n)) (app_of (state b).apps (named b n)).fixed)) same.slot;
         public = refl;
         slot = same.slot;
         fits = fits_still b h k fits same;
@@ -43,7 +43,7 @@ module _ {B : Type 0} (did : B → BankItem → Answer → B → Type 0) (state 
       }
 
   frame_ends : (b : B) (h k : Held) (public : List ℕ) (r : RowEnd) (o : Result (Unit {0}) Abend) → (state b).stopped ≡ false → FitsBank (state b) (named b) h
-      → FrameEnds h k (name_or (named b h.slot)) (app_under (state b) (named b) h).fixed public r o → EndActs did state named (scene b b h k public public) r (flowing (framing o))
+      → FrameEnds h k (name_or (named b h.slot)) (app_under (state b) (named b) h).fixed public r o → EndActs did state named (scene b b h k public public) r (row_result (frame_row_result o))
   frame_ends b h k public (Abends a) (Ok u) going fits ends = absurd ends
   frame_ends b h k public (Abends a) (Err c) going fits ends = (ends.0, record { bank = refl; public = refl; dyn = ends.1; session = ends.2 })
   frame_ends b h k public (Does d) (Ok u) going fits ends =
@@ -52,8 +52,8 @@ module _ {B : Type 0} (did : B → BankItem → Answer → B → Type 0) (state 
 
   -- a row that depends on its frame alone acts as defined on every bank that the frame fits
   pub frame_acts : (i : Ins) (b : B) (h k : Held) (public : List ℕ) (o : Result (Unit {0}) Abend) → (state b).stopped ≡ false → FitsBank (state b) (named b) h
-      → FrameActs i h k o → RowActs did state named (scene b b h k public public) i alone (flowing (framing o))
+      → FrameActs i h k o → RowActs did state named (scene b b h k public public) i alone (row_result (frame_row_result o))
   frame_acts i b h k public o going fits acts =
       let name = name_or (named b h.slot) in
       let fixed = (app_under (state b) (named b) h).fixed in
-      frame_ends b h k public (row i (shown (state b) (named b) h) public alone) o going fits (acts name fixed public (sym fits.fixed))
+      frame_ends b h k public (row i (frame_on_bank (state b) (named b) h) public alone) o going fits (acts name fixed public (sym fits.fixed))

@@ -3,7 +3,7 @@ use Rattle.std.specs.Prelude.{◌≡◌, ℕ, List, length, Result, Ok, Err}
 use Rattle.mc_model_machine.specs.declared.instruction.Ins.{Ins}
 use Rattle.mc_model_machine.specs.declared.machine.Abend.{Abend}
 use Rattle.mc_model_machine.specs.Frame.{Frame}
-use Rattle.mc_model_machine.specs.Primitives.{Then, Goes, Exits, going, framed}
+use Rattle.mc_model_machine.specs.Primitives.{Then, Goes, Exits, effect_and_next, frame_effect}
 use Rattle.mc_model_machine.specs.Row.{RowEnd, Abends, Does, row}
 use Rattle.mc_segs.specs.HeldFrames.{Held}
 use Rattle.mc_segs.specs.declared.ends.Halt.{Halt}
@@ -28,7 +28,7 @@ pub record AreOfOneApp (h k : Held) : Type 0 where
 abbrev pub FrameEnds : Held → Held → List ℕ → List ℕ → List ℕ → RowEnd → Result (Unit {0}) Abend → Type 0
 FrameEnds h k name fixed public (Abends a) (Ok u) = ⊥
 FrameEnds h k name fixed public (Abends a) (Err b) = (b ≡ a) × (k.frame.dyn ≡ h.frame.dyn) × (k.frame.session ≡ h.frame.session)
-FrameEnds h k name fixed public (Does d) (Ok u) = (d ≡ going (framed (on_app k name fixed) public)) × AreOfOneApp h k
+FrameEnds h k name fixed public (Does d) (Ok u) = (d ≡ effect_and_next (frame_effect (on_app k name fixed) public)) × AreOfOneApp h k
 FrameEnds h k name fixed public (Does d) (Err b) = ⊥
 
 -- The result of a call that changes its frame alone is that of the instruction's row, on every application with as many static bytes and
@@ -38,9 +38,9 @@ FrameActs i h k r =
     (name fixed public : List ℕ) → length fixed ≡ length h.frame.fixed → FrameEnds h k name fixed public (row i (on_app h name fixed) public alone) r
 
 -- the result of such a call, as that of any instruction
-abbrev pub framing : Result (Unit {0}) Abend → Result Flow Halt
-framing (Ok u) = Ok flow.Go
-framing (Err a) = Err (halt.Abend a)
+abbrev pub frame_row_result : Result (Unit {0}) Abend → Result Flow Halt
+frame_row_result (Ok u) = Ok flow.Go
+frame_row_result (Err a) = Err (halt.Abend a)
 
 -- the continuation, as the definition's type
 abbrev pub then_after : Flow → Then
@@ -50,4 +50,4 @@ then_after flow.Exit = Exits
 -- the result of a call that changes the public segment alone is that of the instruction's row, for every frame, and never an abend
 abbrev pub PublicActs : Ins → List ℕ → List ℕ → Flow → Type 0
 PublicActs i public public_after next =
-    (f : Frame) → row i f public alone ≡ Does (record { effect = framed f public_after; next = then_after next })
+    (f : Frame) → row i f public alone ≡ Does (record { effect = frame_effect f public_after; next = then_after next })

@@ -3,9 +3,9 @@ use Rattle.std.specs.Prelude.{◌≡◌, ℕ, ◌+◌, ◌*◌, Bool, true, fals
 use Rattle.mc_model_machine.specs.declared.machine.Abend.{Abend}
 use Rattle.mc_model_machine.specs.declared.machine.Abend.TheVariants.{A02, A03, A04, A06}
 use Rattle.mc_model_machine.specs.Blocks.{Worked, add_blocks, sub_blocks, inc_block, dec_block, and_blocks, or_blocks, xor_blocks, not_block, is_zero}
-use Rattle.mc_model_machine.specs.Frame.{Frame, address_at, bytes_at, is_outside, no_access, written, is_under, top}
-use Rattle.mc_model_machine.specs.Primitives.{Around, Done, going, in_range}
-use Rattle.mc_model_machine.specs.Row.{RowEnd, first_cause, judged, operand, on_stack, immediate_reads, immediate_writes, pair_writes, becomes, flags_of, place_of, value_of, first_of}
+use Rattle.mc_model_machine.specs.Frame.{Frame, address_at, bytes_at, is_outside, no_access, write_effect, is_under, top}
+use Rattle.mc_model_machine.specs.Primitives.{Around, Done, effect_and_next, in_range}
+use Rattle.mc_model_machine.specs.Row.{RowEnd, first_cause, row_end, operand, on_stack, immediate_reads, immediate_writes, pair_writes, becomes, flags_of, place_of, value_of, first_of}
 use Rattle.mc_segs.specs.declared.ends.Halt.{Halt}
 use Rattle.mc_segs.specs.declared.ends.Next.{Next}
 use Rattle.mc_segs.specs.declared.ends.Next.TheVariants.{Go, Exit}
@@ -26,10 +26,10 @@ onward (Ok u) = Ok Go
 onward (Err halt) = Err halt
 
 -- the result of an instruction other than PRIM, as that of any instruction
-abbrev pub flowing : Result Flow Halt → Result Next Halt
-flowing (Ok flow.Go) = Ok Go
-flowing (Ok flow.Exit) = Ok Exit
-flowing (Err halt) = Err halt
+abbrev pub row_result : Result Flow Halt → Result Next Halt
+row_result (Ok flow.Go) = Ok Go
+row_result (Ok flow.Exit) = Ok Exit
+row_result (Err halt) = Err halt
 
 -- the address of an operand: 04 if the stack is too short, else 03 if there is no such address
 abbrev pub OperandPlaced : Result ℕ Abend → Bool → Option ℕ → Type 0
@@ -62,8 +62,8 @@ FirstRead (Err A03) f public tag off n value = (is_under f (on_stack tag (2 * n)
 FirstRead (Err _) f public tag off n value = ⊥
 
 -- the end of a row: the abend of the first cause that holds, else its effect
-abbrev pub ended : List (Abend × Bool) → Done → RowEnd
-ended causes done = judged (first_cause causes) done
+abbrev pub end_of_row : List (Abend × Bool) → Done → RowEnd
+end_of_row causes done = row_end (first_cause causes) done
 
 -- ---- operations
 
@@ -72,18 +72,18 @@ abbrev pub bits : Bool → List ℕ → Worked
 bits c b = record { value = b; c = c; z = is_zero b }
 
 -- the result and the flags of an operation on two blocks, if C was c
-abbrev pub combined_by : Binary → Bool → List ℕ → List ℕ → Worked
-combined_by Add c a b = add_blocks a b
-combined_by Sub c a b = sub_blocks a b
-combined_by And c a b = bits c (and_blocks a b)
-combined_by Or c a b = bits c (or_blocks a b)
-combined_by Xor c a b = bits c (xor_blocks a b)
+abbrev pub binary_result : Binary → Bool → List ℕ → List ℕ → Worked
+binary_result Add c a b = add_blocks a b
+binary_result Sub c a b = sub_blocks a b
+binary_result And c a b = bits c (and_blocks a b)
+binary_result Or c a b = bits c (or_blocks a b)
+binary_result Xor c a b = bits c (xor_blocks a b)
 
 -- the result and the flags of an operation on one block, if C was c
-abbrev pub changed_by : Unary → Bool → List ℕ → Worked
-changed_by Inc c a = inc_block a
-changed_by Dec c a = dec_block a
-changed_by Not c a = bits c (not_block a)
+abbrev pub unary_result : Unary → Bool → List ℕ → Worked
+unary_result Inc c a = inc_block a
+unary_result Dec c a = dec_block a
+unary_result Not c a = bits c (not_block a)
 
 -- the greatest length in bytes of two operands
 abbrev pub most_binary : Binary → ℕ
@@ -117,38 +117,38 @@ bad_unary Not n = n == 0
 
 -- the rows that set the bytes at a place
 abbrev pub set_end : Frame → List ℕ → ℕ → ℤ → List ℕ → RowEnd
-set_end f public tag off b = ended (immediate_writes f tag off (length b)) (going (written f public (place_of f tag off (length b)) b))
+set_end f public tag off b = end_of_row (immediate_writes f tag off (length b)) (effect_and_next (write_effect f public (place_of f tag off (length b)) b))
 
 -- the rows that compare the bytes at a place with an immediate
 abbrev pub compare_end : Frame → List ℕ → ℕ → ℤ → List ℕ → RowEnd
-compare_end f public tag off b = ended (immediate_reads f tag off (length b)) (flags_of f public (sub_blocks (value_of f public tag off (length b)) b))
+compare_end f public tag off b = end_of_row (immediate_reads f tag off (length b)) (flags_of f public (sub_blocks (value_of f public tag off (length b)) b))
 
 -- the rows that combine the bytes at a place with an immediate
 abbrev pub combine_end : Binary → Frame → List ℕ → ℕ → ℤ → List ℕ → RowEnd
 combine_end w f public tag off b =
-    ended (immediate_writes f tag off (length b))
-    (becomes f public (place_of f tag off (length b)) (combined_by w f.c (value_of f public tag off (length b)) b))
+    end_of_row (immediate_writes f tag off (length b))
+    (becomes f public (place_of f tag off (length b)) (binary_result w f.c (value_of f public tag off (length b)) b))
 
 -- the effect of a change of n bytes at a place
 abbrev pub change_done : Unary → Frame → List ℕ → ℕ → ℤ → ℕ → Done
-change_done w f public tag off n = becomes f public (place_of f tag off n) (changed_by w f.c (value_of f public tag off n))
+change_done w f public tag off n = becomes f public (place_of f tag off n) (unary_result w f.c (value_of f public tag off n))
 
 -- the rows that change n bytes at a place, if n is a good length
 abbrev pub changed_end : Unary → Frame → List ℕ → ℕ → ℤ → ℕ → RowEnd
-changed_end w f public tag off n = ended (immediate_writes f tag off n) (change_done w f public tag off n)
+changed_end w f public tag off n = end_of_row (immediate_writes f tag off n) (change_done w f public tag off n)
 
 -- the rows that change n bytes at a place
 abbrev pub change_end : Unary → Frame → List ℕ → ℕ → ℤ → ℕ → RowEnd
-change_end w f public tag off n = ended ((A06, bad_unary w n) ∷ immediate_writes f tag off n) (change_done w f public tag off n)
+change_end w f public tag off n = end_of_row ((A06, bad_unary w n) ∷ immediate_writes f tag off n) (change_done w f public tag off n)
 
 -- the effect of combining n bytes at a place with the top n bytes
 abbrev pub pair_done : Binary → Frame → List ℕ → ℕ → ℤ → ℕ → Done
-pair_done w f public tag off n = becomes f public (place_of f tag off (2 * n)) (combined_by w f.c (first_of f public tag off n) (top f n))
+pair_done w f public tag off n = becomes f public (place_of f tag off (2 * n)) (binary_result w f.c (first_of f public tag off n) (top f n))
 
 -- the rows that combine n bytes at a place with the top n bytes, if n is a good length
 abbrev pub paired_end : Binary → Frame → List ℕ → ℕ → ℤ → ℕ → RowEnd
-paired_end w f public tag off n = ended (pair_writes f tag off n) (pair_done w f public tag off n)
+paired_end w f public tag off n = end_of_row (pair_writes f tag off n) (pair_done w f public tag off n)
 
 -- the rows that combine n bytes at a place with the top n bytes
 abbrev pub pair_end : Binary → Frame → List ℕ → ℕ → ℤ → ℕ → RowEnd
-pair_end w f public tag off n = ended ((A06, bad_binary w n) ∷ pair_writes f tag off n) (pair_done w f public tag off n)
+pair_end w f public tag off n = end_of_row ((A06, bad_binary w n) ∷ pair_writes f tag off n) (pair_done w f public tag off n)

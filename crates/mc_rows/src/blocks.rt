@@ -1,7 +1,7 @@
 // Rows of a block of n bytes at a place.
 ghost use Rattle.std.specs.Prelude.{◌≡◌, ◌≤◌, false, length};
 ghost use Rattle.mc_model_machine.specs.declared.instruction.Ins.TheVariants.{Clearn, Testn};
-ghost use Rattle.mc_segs.specs.HeldFrames.{shown, CanRun};
+ghost use Rattle.mc_segs.specs.HeldFrames.{frame_on_bank, CanRun};
 ghost use Rattle.mc_segs.specs.Ends.{scene, EndActs, RowActs};
 ghost use Rattle.mc_rows.specs.Rows.{alone, change_end, changed_end, most_unary, onward};
 
@@ -24,7 +24,7 @@ pub fn change_block<B: Bank>(
     requires runs { CanRun (B.state bank.old) (B.named bank.old) frame.old }
     requires tag { tag ≤ 7 }
     ensures { EndActs B.did B.state B.named (scene bank.old bank.new frame.old frame.new public.old public.new)
-        (change_end kind (shown (B.state bank.old) (B.named bank.old) frame.old) public.old tag off n) (onward result) }
+        (change_end kind (frame_on_bank (B.state bank.old) (B.named bank.old) frame.old) public.old tag off n) (onward result) }
 {
     check_unary(kind, n)?;
     let count = n as usize;
@@ -51,7 +51,7 @@ fn change_in<B: Bank>(
     requires runs { CanRun (B.state bank.old) (B.named bank.old) frame.old }
     requires tag { tag ≤ 7 }
     ensures { EndActs B.did B.state B.named (scene bank.old bank.new frame.old frame.new public.old public.new)
-        (changed_end kind (shown (B.state bank.old) (B.named bank.old) frame.old) public.old tag off
+        (changed_end kind (frame_on_bank (B.state bank.old) (B.named bank.old) frame.old) public.old tag off
         (length value.old)) (onward result) }
 {
     let at = place(frame, tag, off, value.len() as u16)?;

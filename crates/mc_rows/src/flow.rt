@@ -1,7 +1,7 @@
 // Rows that go to another place of the code, and calls and returns.
 ghost use Rattle.std.specs.Prelude.{◌≡◌, ◌&&◌, ◌==◌, OnOk, OnErr, Some};
 ghost use Rattle.mc_model_machine.specs.declared.instruction.Ins.TheVariants.{Branch, Jump, Call, Retio};
-ghost use Rattle.mc_model_machine.specs.Frame.{is_under, moved};
+ghost use Rattle.mc_model_machine.specs.Frame.{is_under, moved_address};
 ghost use Rattle.mc_model_machine.specs.Row.{holds, no_place, target, without_target};
 ghost use Rattle.mc_segs.specs.Ends.{GivesOrAbends, IfDue};
 ghost use Rattle.mc_rows.specs.Rows.{Led};
@@ -88,7 +88,7 @@ fn check_place(frame: &Frame, to: u16) -> Result<(), Abend>
 
 // The target of a branch. Abend 02 if there is none.
 fn moved(at: u16, d: i8) -> Result<u16, Abend>
-    ensures { Led result (moved at d) }
+    ensures { Led result (moved_address at d) }
 {
     let to = at as i32 + d as i32;
     if to < 0 || to > 0xFFFF {

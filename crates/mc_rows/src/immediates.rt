@@ -1,6 +1,6 @@
 // Rows of a byte or a word at a place with an immediate operand.
 ghost use Rattle.std.specs.Prelude.{◌≡◌, ◌≤◌, false, length};
-ghost use Rattle.mc_segs.specs.HeldFrames.{shown, CanRun};
+ghost use Rattle.mc_segs.specs.HeldFrames.{frame_on_bank, CanRun};
 ghost use Rattle.mc_segs.specs.Ends.{scene, EndActs};
 ghost use Rattle.mc_rows.specs.Rows.{set_end, compare_end, combine_end, onward};
 
@@ -24,7 +24,7 @@ pub fn set<B: Bank>(
     requires low { 1 ≤ length bytes.now }
     requires high { length bytes.now ≤ 2 }
     ensures { EndActs B.did B.state B.named (scene bank.old bank.new frame.old frame.new public.old public.new)
-        (set_end (shown (B.state bank.old) (B.named bank.old) frame.old) public.old tag off bytes.now) (onward result) }
+        (set_end (frame_on_bank (B.state bank.old) (B.named bank.old) frame.old) public.old tag off bytes.now) (onward result) }
 {
     let at = place(frame, tag, off, bytes.len() as u16)?;
     store(bank, frame, public, at, bytes)?;
@@ -45,7 +45,7 @@ pub fn compare_with<B: Bank>(
     requires low { 1 ≤ length bytes.now }
     requires high { length bytes.now ≤ 2 }
     ensures { EndActs B.did B.state B.named (scene bank.old bank.new frame.old frame.new public.old public.new)
-        (compare_end (shown (B.state bank.old) (B.named bank.old) frame.old) public.old tag off bytes.now)
+        (compare_end (frame_on_bank (B.state bank.old) (B.named bank.old) frame.old) public.old tag off bytes.now)
         (onward result) }
 {
     let mut buffer = [0; 2];
@@ -72,7 +72,7 @@ pub fn combine_with<B: Bank>(
     requires low { 1 ≤ length bytes.now }
     requires high { length bytes.now ≤ 2 }
     ensures { EndActs B.did B.state B.named (scene bank.old bank.new frame.old frame.new public.old public.new)
-        (combine_end kind (shown (B.state bank.old) (B.named bank.old) frame.old) public.old tag off bytes.now)
+        (combine_end kind (frame_on_bank (B.state bank.old) (B.named bank.old) frame.old) public.old tag off bytes.now)
         (onward result) }
 {
     let mut buffer = [0; 2];

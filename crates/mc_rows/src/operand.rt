@@ -1,10 +1,10 @@
 // The addresses of the operands of a row.
 ghost use Rattle.std.specs.Prelude.{◌≡◌, ◌+◌, ◌*◌, ◌≤◌, ◌==◌, ◌&&◌, OnOk, length, false};
 ghost use Rattle.mc_model_device.specs.Bytes.{num};
-ghost use Rattle.mc_model_machine.specs.Frame.{address_at, in_two_bytes, is_outside, is_under, popped};
-ghost use Rattle.mc_model_machine.specs.Row.{indexed, on_stack, operand};
-ghost use Rattle.mc_segs.specs.HeldFrames.{shown, CanRun};
-ghost use Rattle.mc_segs.specs.Ends.{addressed, GivesOrAbends, IfDue};
+ghost use Rattle.mc_model_machine.specs.Frame.{address_at, in_two_bytes, is_outside, is_under, frame_after_pop};
+ghost use Rattle.mc_model_machine.specs.Row.{indexed_address, on_stack, operand};
+ghost use Rattle.mc_segs.specs.HeldFrames.{frame_on_bank, CanRun};
+ghost use Rattle.mc_segs.specs.Ends.{address_or_abend, GivesOrAbends, IfDue};
 ghost use Rattle.mc_rows.specs.Rows.{FirstRead, OperandPlaced};
 
 use crate::bytes::number;
@@ -44,7 +44,7 @@ pub fn on_stack(tag: u8, with: u16, without: u16) -> u16
 pub fn operand(frame: &Frame, tag: u8, off: i16, below: u16) -> Result<u16, Abend>
     requires tag { tag ≤ 7 }
     requires below { below ≤ 512 }
-    ensures { result ≡ addressed (operand frame.now.frame tag off below) }
+    ensures { result ≡ address_or_abend (operand frame.now.frame tag off below) }
 {
     if tag == 0 {
         return Ok(frame.dt() - below);
@@ -82,8 +82,8 @@ pub fn read_address<B: Bank>(
     bank: &B,
 ) -> Result<u16, Abend>
     requires runs { CanRun (B.state bank.now) (B.named bank.now) frame.now }
-    ensures { GivesOrAbends result (is_outside (shown (B.state bank.now) (B.named bank.now) frame.now) at 2) Abend.A03
-        (address_at (shown (B.state bank.now) (B.named bank.now) frame.now) public.now at) }
+    ensures { GivesOrAbends result (is_outside (frame_on_bank (B.state bank.now) (B.named bank.now) frame.now) at 2) Abend.A03
+        (address_at (frame_on_bank (B.state bank.now) (B.named bank.now) frame.now) public.now at) }
 {
     let mut address = [0; 2];
     load(bank, frame, public, at, &mut address)?;
@@ -109,7 +109,7 @@ pub fn read_first<B: Bank>(
     requires tag { tag ≤ 7 }
     requires low { 1 ≤ length into.old }
     requires high { length into.old ≤ 255 }
-    ensures first { FirstRead result (shown (B.state bank.now) (B.named bank.now) frame.now) public.now tag off
+    ensures first { FirstRead result (frame_on_bank (B.state bank.now) (B.named bank.now) frame.now) public.now tag off
         (length into.old) into.new }
     ensures second { OnOk result (is_under frame.now.frame (length into.old) ≡ false) }
 {
@@ -129,8 +129,8 @@ pub fn read_first<B: Bank>(
 pub fn indexed(frame: &mut Frame, tag: u8, off: i16, size: u8) -> Result<u16, Abend>
     requires tag { tag ≤ 7 }
     ensures place { OperandPlaced result (is_under frame.old.frame (on_stack tag 3 1))
-        (indexed frame.old.frame tag off size) }
-    ensures popped { OnOk result (frame.new ≡ record frame.old { frame = popped frame.old.frame (on_stack tag 3 1) }) }
+        (indexed_address frame.old.frame tag off size) }
+    ensures popped { OnOk result (frame.new ≡ record frame.old { frame = frame_after_pop frame.old.frame (on_stack tag 3 1) }) }
     ensures dynamic { frame.new.frame.dyn ≡ frame.old.frame.dyn }
     ensures session { frame.new.frame.session ≡ frame.old.frame.session }
 {
@@ -149,7 +149,7 @@ pub fn indexed(frame: &mut Frame, tag: u8, off: i16, size: u8) -> Result<u16, Ab
 
 // The address of an element of a table at a base. Abend 03 if there is none.
 fn element(base: u16, index: [u8; 1], size: u8) -> Result<u16, Abend>
-    ensures { result ≡ addressed (in_two_bytes (base + num index * size)) }
+    ensures { result ≡ address_or_abend (in_two_bytes (base + num index * size)) }
 {
     let [index] = index;
     let at = base as u32 + index as u32 * size as u32;

@@ -2,7 +2,7 @@
 ghost use Rattle.std.specs.Prelude.{◌≡◌, ◌≤◌, ◌==◌, length, not, OnOk};
 ghost use Rattle.mc_model_machine.specs.Primitives.{in_range};
 ghost use Rattle.mc_segs.specs.Ends.{IfDue};
-ghost use Rattle.mc_rows.specs.Rows.{combined_by, changed_by, most_binary, most_unary, bad_binary, bad_unary};
+ghost use Rattle.mc_rows.specs.Rows.{binary_result, unary_result, most_binary, most_unary, bad_binary, bad_unary};
 
 use mc_arith::{Flags, add, and, dec, inc, not, or, sub, xor};
 use mc_segs::Abend;
@@ -32,7 +32,7 @@ pub fn combine(kind: Binary, c: bool, a: &mut [u8], b: &[u8]) -> Flags
     requires same { length a.old ≡ length b.now }
     requires low { 1 ≤ length a.old }
     requires high { length a.old ≤ most_binary kind }
-    ensures { record { value = a.new; c = result.c; z = result.z } ≡ combined_by kind c a.old b.now }
+    ensures { record { value = a.new; c = result.c; z = result.z } ≡ binary_result kind c a.old b.now }
 {
     match kind {
         Binary::Add => add(a, b),
@@ -48,7 +48,7 @@ pub fn combine(kind: Binary, c: bool, a: &mut [u8], b: &[u8]) -> Flags
 pub fn change(kind: Unary, c: bool, a: &mut [u8]) -> Flags
     requires low { 1 ≤ length a.old }
     requires high { length a.old ≤ most_unary kind }
-    ensures { record { value = a.new; c = result.c; z = result.z } ≡ changed_by kind c a.old }
+    ensures { record { value = a.new; c = result.c; z = result.z } ≡ unary_result kind c a.old }
 {
     match kind {
         Unary::Inc => inc(a),

@@ -1,7 +1,7 @@
 // Rows of n bytes at a place and the top n bytes of the stack.
 ghost use Rattle.std.specs.Prelude.{◌≡◌, ◌≤◌, false, length};
 ghost use Rattle.mc_model_machine.specs.declared.instruction.Ins.TheVariants.{Cmpn};
-ghost use Rattle.mc_segs.specs.HeldFrames.{shown, CanRun};
+ghost use Rattle.mc_segs.specs.HeldFrames.{frame_on_bank, CanRun};
 ghost use Rattle.mc_segs.specs.Ends.{scene, EndActs, RowActs};
 ghost use Rattle.mc_rows.specs.Rows.{alone, most_binary, pair_end, paired_end, onward};
 
@@ -25,7 +25,7 @@ pub fn combine_pair<B: Bank>(
     requires runs { CanRun (B.state bank.old) (B.named bank.old) frame.old }
     requires tag { tag ≤ 7 }
     ensures { EndActs B.did B.state B.named (scene bank.old bank.new frame.old frame.new public.old public.new)
-        (pair_end kind (shown (B.state bank.old) (B.named bank.old) frame.old) public.old tag off n) (onward result) }
+        (pair_end kind (frame_on_bank (B.state bank.old) (B.named bank.old) frame.old) public.old tag off n) (onward result) }
 {
     check_binary(kind, n)?;
     let count = n as usize;
@@ -54,7 +54,7 @@ fn combine_in<B: Bank>(
     requires runs { CanRun (B.state bank.old) (B.named bank.old) frame.old }
     requires tag { tag ≤ 7 }
     ensures { EndActs B.did B.state B.named (scene bank.old bank.new frame.old frame.new public.old public.new)
-        (paired_end kind (shown (B.state bank.old) (B.named bank.old) frame.old) public.old tag off
+        (paired_end kind (frame_on_bank (B.state bank.old) (B.named bank.old) frame.old) public.old tag off
         (length first.old)) (onward result) }
 {
     let at = read_first(tag, off, first, frame, public, bank)?;

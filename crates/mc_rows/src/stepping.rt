@@ -3,7 +3,7 @@ ghost use Rattle.std.specs.Prelude.{◌≡◌, false};
 ghost use Rattle.mc_model_machine.specs.Code.{Shaped};
 ghost use Rattle.mc_segs.specs.HeldFrames.{CanRun};
 ghost use Rattle.mc_segs.specs.Ends.{scene, RowActs};
-ghost use Rattle.mc_rows.specs.Rows.{alone, flowing, onward};
+ghost use Rattle.mc_rows.specs.Rows.{alone, row_result, onward};
 ghost use Rattle.mc_rows.specs.FrameRows.{FrameActs};
 ghost use Rattle.mc_rows.specs.Families.{HasOperand, IsFrameRow, IsImmediate, IsNoPrimitive};
 
@@ -41,7 +41,7 @@ pub fn step<B: Bank>(
     requires shaped { Shaped ins.now }
     requires row { IsNoPrimitive ins.now }
     ensures { RowActs B.did B.state B.named
-        (scene bank.old bank.new frame.old frame.new public.old public.new) ins.now alone (flowing result) }
+        (scene bank.old bank.new frame.old frame.new public.old public.new) ins.now alone (row_result result) }
 {
     match *ins {
         Ins::Nop

@@ -1,7 +1,7 @@
 // Rows that move bytes between the stack and an address.
 ghost use Rattle.std.specs.Prelude.{◌≡◌, ◌≤◌, false};
 ghost use Rattle.mc_model_machine.specs.declared.instruction.Ins.TheVariants.{Load, Store, Loadi, Storei, Loada, Index};
-ghost use Rattle.mc_segs.specs.HeldFrames.{shown, CanRun};
+ghost use Rattle.mc_segs.specs.HeldFrames.{frame_on_bank, CanRun};
 ghost use Rattle.mc_segs.specs.Ends.{scene, RowActs};
 ghost use Rattle.mc_rows.specs.Rows.{alone, AddressUnder, onward};
 ghost use Rattle.mc_rows.specs.FrameRows.{FrameActs};
@@ -143,7 +143,7 @@ fn address_under<B: Bank>(
 ) -> Result<u16, Abend>
     requires runs { CanRun (B.state bank.now) (B.named bank.now) frame.now }
     requires tag { tag ≤ 7 }
-    ensures { AddressUnder result (shown (B.state bank.now) (B.named bank.now) frame.now) public.now tag off n }
+    ensures { AddressUnder result (frame_on_bank (B.state bank.now) (B.named bank.now) frame.now) public.now tag off n }
 {
     let count = n as u16;
     need(frame, on_stack(tag, count + 2, count))?;

@@ -4,15 +4,15 @@ use Rattle.std.specs.Prelude.{slice_set}
 use Rattle.std.specs.List.{AllByRecursion}
 use Rattle.mc_model_device.specs.declared.cause.Cause.{Cause}
 use Rattle.mc_model_device.specs.declared.device.Stop.{Stop}
-use Rattle.mc_model_device.specs.Image.{owed}
+use Rattle.mc_model_device.specs.Image.{count_of_recovery_writes}
 use Rattle.mc_model_device.specs.Device.{done_entries, torn_entries}
 use Rattle.mc_model_play.specs.DeckGrammar.{DeckLine}
 use Rattle.mc_model_device.specs.Card.{Card, means}
 use Rattle.mc_model_device.specs.Layout.{fault}
-use Rattle.mc_model_device.specs.Stopped.{torn}
-use Rattle.mc_model_device.specs.PowerUp.{Base, OnCard, AtFault, base_of, owing}
-use Rattle.mc_model_play.specs.Play.{Warm, State, Hot, StandsForState, StandsForBase, StandsAtEach, stopped}
-use Rattle.mc_store.specs.Power.{found, HoldsBase}
+use Rattle.mc_model_device.specs.Stopped.{image_after_stop}
+use Rattle.mc_model_device.specs.PowerUp.{Base, OnCard, AtFault, base_of, pending_journal}
+use Rattle.mc_model_play.specs.Play.{Warm, State, Hot, StandsForState, StandsForBase, StandsAtEach, state_after_stop}
+use Rattle.mc_store.specs.Power.{base_of_words, HoldsBase}
 
 -- ---- words that stand for a state
 
@@ -27,27 +27,27 @@ base_fault (Some f) m cause p h =
     let second : f.1 ≡ p = cc in
     ap (λ (x : Cause). Some (x, f.1)) first ∙ ap (λ (x : ℕ). Some (cause, x)) second
 
-base_stands : (b : Base) (m : List (List ℕ)) (w : Warm) → found m ≡ b → owed m ≡ w.owed → StandsForBase m b w
+base_stands : (b : Base) (m : List (List ℕ)) (w : Warm) → base_of_words m ≡ b → count_of_recovery_writes m ≡ w.owed → StandsForBase m b w
 base_stands (OnCard c) m w is n = let r = base_card (fault m) m c is in record { sound = r.0; meaning = r.1; owed = n }
 base_stands (AtFault cause p) m w is n = record { unsound = base_fault (fault m) m cause p is; owed = n }
 
 pub stands_hot : (m : List (List ℕ)) (w : Warm) → HoldsBase w.base w.owed w.by m → StandsForState m (Hot w)
-stands_hot m w r = (base_stands w.base m w r.base r.owed, λ some. ap owing (r.by some))
+stands_hot m w r = (base_stands w.base m w r.base r.owed, λ some. ap pending_journal (r.by some))
 
 -- ---- the entries of a list
 
 -- wherever one of some writes stops, and whatever word it leaves, the words stand for the play that was stopped there
 abbrev pub StopsStand : List (List ℕ) → State → ℕ × DeckLine → ℕ → List (ℕ × List ℕ) → Type 0
-StopsStand m s l j ws = (k : ℕ) (x : List ℕ) → 1 ≤ k → k ≤ length ws → length x ≡ 8 → StandsForState (torn m ws k x) (stopped s l (j + k) x)
+StopsStand m s l j ws = (k : ℕ) (x : List ℕ) → 1 ≤ k → k ≤ length ws → length x ≡ 8 → StandsForState (image_after_stop m ws k x) (state_after_stop s l (j + k) x)
 
 stands_behind : (m : List (List ℕ)) (s : State) (l : ℕ × DeckLine) (j : ℕ) (p : ℕ × List ℕ) (ws : List (ℕ × List ℕ)) → StopsStand m s l j (p ∷ ws) → StopsStand (slice_set m p.0 p.1) s l (j + 1) ws
 stands_behind m s l j p ws h zero x low high size = absurd (omega arith)
 stands_behind m s l j p ws h (suc k) x low high size =
     let e : j + suc (suc k) ≡ j + 1 + suc k = omega arith in
-    let r : StandsForState (torn m (p ∷ ws) (suc (suc k)) x) (stopped s l (j + suc (suc k)) x) = h (suc (suc k)) x (omega arith) (omega (arith, high)) size in
-    subst (λ (i : ℕ). StandsForState (torn (slice_set m p.0 p.1) ws (suc k) x) (stopped s l i x)) e r
+    let r : StandsForState (image_after_stop m (p ∷ ws) (suc (suc k)) x) (state_after_stop s l (j + suc (suc k)) x) = h (suc (suc k)) x (omega arith) (omega (arith, high)) size in
+    subst (λ (i : ℕ). StandsForState (image_after_stop (slice_set m p.0 p.1) ws (suc k) x) (state_after_stop s l i x)) e r
 
-first_stands : (m : List (List ℕ)) (s : State) (l : ℕ × DeckLine) (j : ℕ) (p : ℕ × List ℕ) (ws : List (ℕ × List ℕ)) (x : List ℕ) → StopsStand m s l j (p ∷ ws) → length x ≡ 8 → StandsForState (slice_set m p.0 x) (stopped s l (j + 1) x)
+first_stands : (m : List (List ℕ)) (s : State) (l : ℕ × DeckLine) (j : ℕ) (p : ℕ × List ℕ) (ws : List (ℕ × List ℕ)) (x : List ℕ) → StopsStand m s l j (p ∷ ws) → length x ≡ 8 → StandsForState (slice_set m p.0 x) (state_after_stop s l (j + 1) x)
 first_stands m s l j p ws x h size = h 1 x (omega arith) (omega arith) size
 
 pub each_done : (m : List (List ℕ)) (s : State) (l : ℕ × DeckLine) (j : ℕ) (ws : List (ℕ × List ℕ)) → StopsStand m s l j ws → AllByRecursion (λ p. length p.1 ≡ 8) ws → StandsAtEach m s l j (done_entries ws)

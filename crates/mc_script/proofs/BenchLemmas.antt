@@ -6,11 +6,11 @@ use Rattle.std.proofs.lemmas.List.{get_or-set_same, length-take-le}
 use Rattle.mc_model_device.specs.declared.device.Stop.{Stop}
 use Rattle.mc_model_device.specs.declared.device.Stop.TheVariants.{Off, Worn}
 use Rattle.mc_model_device.specs.Orders.{Answer}
-use Rattle.mc_model_device.specs.Device.{Entry, Grows, DeviceState, BenchState, counted, falling, due, NextWriteEnds, Counts, Burns, BenchWrote, Wrote, WriteDone, WriteCut, WriteWorn, Makes, GrowsBy, done_entries, torn_entries, next_count}
-use Rattle.mc_model_device.specs.Stopped.{torn}
-use Rattle.mc_model_device.proofs.DeviceLemmas.{DoneAll, makes-done}
+use Rattle.mc_model_device.specs.Device.{Entry, Grows, DeviceState, BenchState, fuse_after_write, next_fill, due, NextWriteEnds, Counts, Burns, BenchWrote, Wrote, WriteDone, WriteCut, WriteWorn, Makes, GrowsBy, done_entries, torn_entries, next_count}
+use Rattle.mc_model_device.specs.Stopped.{image_after_stop}
+use Rattle.mc_model_device.proofs.DeviceLemmas.{DoneAll, makes_done}
 use Rattle.mc_script.specs.Runs.{StoppedAtWrite}
-use Rattle.mc_script.proofs.EntryLemmas.{stopped_entry, torn-behind, entries-behind}
+use Rattle.mc_script.proofs.EntryLemmas.{stopped_entry, torn_behind, entries_behind}
 use Rattle.mc_script.proofs.AccountLemmas.{SizesTo}
 use Rattle.mc_script.proofs.FuseLemmas.{after_writes, Past, falls_at, past_on, past_first, past_none, none_due, cut_due, worn_due}
 
@@ -44,7 +44,7 @@ FusedAt Worn b k x = Past k b.cut × (b.steady ≡ true → b.worn ≡ Some (rec
 -- a list that stopped at its write k, which left x
 pub record HaltedList (d : DeviceState) (b : BenchState) (ws : List (ℕ × List ℕ)) (k : ℕ) (s : Stop) (x : List ℕ) (e : DeviceState) (c : BenchState) : Type 0 where
   pub size : length x ≡ 8
-  pub words : e.words ≡ torn d.words ws k x
+  pub words : e.words ≡ image_after_stop d.words ws k x
   pub tape : GrowsBy d.tape (torn_entries ws k x s) e.tape
   pub raises : Raises s d e
   pub fused : FusedAt s b k x
@@ -105,8 +105,8 @@ module _ {D : Type 0} (wrote : D → ℕ → List ℕ → Answer → D → Type 
 after_stop : (b c : BenchState) (s : Stop) → Burns b (Err s) c → SameCalls b c
 after_stop b c s h =
     elim h [
-      | inl e ↦ let q : c ≡ record b { cut = counted b.cut; worn = counted b.worn } = e in record { powers = ap (λ (x : BenchState). x.powers) q; pokes = ap (λ (x : BenchState). x.pokes) q; poked = ap (λ (x : BenchState). x.poked) q; arms = ap (λ (x : BenchState). x.arms) q; wears = ap (λ (x : BenchState). x.wears) q; steady = ap (λ (x : BenchState). x.steady) q }
-      | inr e ↦ let q : c ≡ record b { cut = counted b.cut; worn = None } = e in record { powers = ap (λ (x : BenchState). x.powers) q; pokes = ap (λ (x : BenchState). x.pokes) q; poked = ap (λ (x : BenchState). x.poked) q; arms = ap (λ (x : BenchState). x.arms) q; wears = ap (λ (x : BenchState). x.wears) q; steady = ap (λ (x : BenchState). x.steady) q }
+      | inl e ↦ let q : c ≡ record b { cut = fuse_after_write b.cut; worn = fuse_after_write b.worn } = e in record { powers = ap (λ (x : BenchState). x.powers) q; pokes = ap (λ (x : BenchState). x.pokes) q; poked = ap (λ (x : BenchState). x.poked) q; arms = ap (λ (x : BenchState). x.arms) q; wears = ap (λ (x : BenchState). x.wears) q; steady = ap (λ (x : BenchState). x.steady) q }
+      | inr e ↦ let q : c ≡ record b { cut = fuse_after_write b.cut; worn = None } = e in record { powers = ap (λ (x : BenchState). x.powers) q; pokes = ap (λ (x : BenchState). x.pokes) q; poked = ap (λ (x : BenchState). x.poked) q; arms = ap (λ (x : BenchState). x.arms) q; wears = ap (λ (x : BenchState). x.wears) q; steady = ap (λ (x : BenchState). x.steady) q }
     ]
 
 raises : (s : Stop) (d m e : DeviceState) → m.cuts ≡ d.cuts → m.faults ≡ d.faults → Counts m (Err s) e → Raises s d e
@@ -120,32 +120,32 @@ pub record LeftBy (d : DeviceState) (at : ℕ) (s : Stop) (e : DeviceState) : Ty
   pub words : e.words ≡ slice_set d.words at left
   pub tape : Grows d.tape (record { at = at; left = left; «end» = Some s }) e.tape
 
-grows-last : (t : Option (List Entry)) (es : List Entry) (u : Option (List Entry)) (e : Entry) (v : Option (List Entry)) → GrowsBy t es u → Grows u e v → GrowsBy t (es ++ e ∷ []) v
-grows-last t es u e None g h = tt
-grows-last t es None e (Some v) g h = absurd h
-grows-last None es (Some u) e (Some v) g h = absurd g
-grows-last (Some t) es (Some u) e (Some v) g h = h ∙ ap (λ (x : List Entry). x ++ e ∷ []) g ∙ append_assoc t es (e ∷ [])
+grows_last : (t : Option (List Entry)) (es : List Entry) (u : Option (List Entry)) (e : Entry) (v : Option (List Entry)) → GrowsBy t es u → Grows u e v → GrowsBy t (es ++ e ∷ []) v
+grows_last t es u e None g h = tt
+grows_last t es None e (Some v) g h = absurd h
+grows_last None es (Some u) e (Some v) g h = absurd g
+grows_last (Some t) es (Some u) e (Some v) g h = h ∙ ap (λ (x : List Entry). x ++ e ∷ []) g ∙ append_assoc t es (e ∷ [])
 
 same_word : (m : List (List ℕ)) (at : ℕ) (a b : List ℕ) → at < length m → slice_set m at a ≡ slice_set m at b → a ≡ b
 same_word m at a b low h = sym (get_or-set_same m at a [] low) ∙ ap (λ (t : List (List ℕ)). slice_index_or t at []) h ∙ get_or-set_same m at b [] low
 
-fused : (s : Stop) (b c : BenchState) (n : ℕ) (d e : DeviceState) (at : ℕ) (x : List ℕ) → Burnt b n c → NextWriteEnds (due (falling c.cut) (falling c.worn)) c.steady d at (Err s) e
+fused : (s : Stop) (b c : BenchState) (n : ℕ) (d e : DeviceState) (at : ℕ) (x : List ℕ) → Burnt b n c → NextWriteEnds (due (next_fill c.cut) (next_fill c.worn)) c.steady d at (Err s) e
     → at < length d.words → e.words ≡ slice_set d.words at x → FusedAt s b (suc n) x
 fused Off b c n d e at x burnt ends low words =
-    let r = cut_due (falling c.cut) (falling c.worn) c.steady d at e ends in
+    let r = cut_due (next_fill c.cut) (next_fill c.worn) c.steady d at e ends in
     let y : r.0 ≡ x = same_word d.words at r.0 x low (sym r.2 ∙ words) in
-    let f : falling (after_writes n b.cut) ≡ Some x = ap (λ (t : BenchState). falling t.cut) (sym burnt.is) ∙ r.1 ∙ ap (λ (z : List ℕ). Some z) y in
+    let f : next_fill (after_writes n b.cut) ≡ Some x = ap (λ (t : BenchState). next_fill t.cut) (sym burnt.is) ∙ r.1 ∙ ap (λ (z : List ℕ). Some z) y in
     let one : n + 1 ≡ suc n = omega arith in
     subst (λ (k : ℕ). b.cut ≡ Some (record { writes = k; fill = x })) one (falls_at n b.cut x f)
 fused Worn b c n d e at x burnt ends low words =
-    let r = worn_due (falling c.cut) (falling c.worn) c.steady d at e ends in
+    let r = worn_due (next_fill c.cut) (next_fill c.worn) c.steady d at e ends in
     let one : n + 1 ≡ suc n = omega arith in
-    let f : falling (after_writes n b.cut) ≡ None = ap (λ (t : BenchState). falling t.cut) (sym burnt.is) ∙ r.0 in (
+    let f : next_fill (after_writes n b.cut) ≡ None = ap (λ (t : BenchState). next_fill t.cut) (sym burnt.is) ∙ r.0 in (
       subst (λ (k : ℕ). Past k b.cut) one (past_on n b.cut f burnt.cut),
       λ steady.
           let q = r.1 (ap (λ (t : BenchState). t.steady) burnt.is ∙ steady) in
           let y : q.0 ≡ x = same_word d.words at q.0 x low (sym q.2 ∙ words) in
-          let g : falling (after_writes n b.worn) ≡ Some x = ap (λ (t : BenchState). falling t.worn) (sym burnt.is) ∙ q.1 ∙ ap (λ (z : List ℕ). Some z) y in
+          let g : next_fill (after_writes n b.worn) ≡ Some x = ap (λ (t : BenchState). next_fill t.worn) (sym burnt.is) ∙ q.1 ∙ ap (λ (z : List ℕ). Some z) y in
           subst (λ (k : ℕ). b.worn ≡ Some (record { writes = k; fill = x })) one (falls_at n b.worn x g),
     )
 
@@ -184,9 +184,9 @@ module _ {D : Type 0} (state : D → DeviceState) (bench : D → BenchState) (wr
             let m = step.0 in
             let first : BenchWrote (state d) (bench d) p.0 (Ok tt) (state m) (bench m) = burns d p.0 p.1 (Ok tt) m on step.1 in
             let wrote_one : WriteDone (state d) p.0 p.1 (state m) = obeys d p.0 p.1 (Ok tt) m on step.1 in
-            let free = none_due (falling (bench d).cut) (falling (bench d).worn) (bench d).steady (state d) p.0 (state m) first.ends in
+            let free = none_due (next_fill (bench d).cut) (next_fill (bench d).worn) (bench d).steady (state d) p.0 (state m) first.ends in
             let rest : Burnt (bench m) (length ws) (bench e) = burnt ws m e wrote_one.power step.2 in
-            let near : bench m ≡ record (bench d) { cut = counted (bench d).cut; worn = counted (bench d).worn } = first.fuses in
+            let near : bench m ≡ record (bench d) { cut = fuse_after_write (bench d).cut; worn = fuse_after_write (bench d).worn } = first.fuses in
             let n = length ws in
             record {
               is = rest.is ∙ ap (λ (x : BenchState). record x { cut = after_writes n x.cut; worn = after_writes n x.worn }) near;
@@ -208,7 +208,7 @@ module _ {D : Type 0} (state : D → DeviceState) (bench : D → BenchState) (wr
   halted_behind ws d e n s on r =
       let m = r.middle in
       let p : ℕ × List ℕ = slice_index_or ws n (0, []) in
-      let done : DoneAll (state d) (take n ws) (state m) = makes-done state wrote obeys (take n ws) d m on r.before in
+      let done : DoneAll (state d) (take n ws) (state m) = makes_done state wrote obeys (take n ws) d m on r.before in
       let count : length (take n ws) ≡ n = let high = r.high in length-take-le n ws (omega (arith, high)) in
       let near : Burnt (bench d) n (bench m) = subst (λ (j : ℕ). Burnt (bench d) j (bench m)) count (burnt (take n ws) d m on r.before) in
       let left : LeftBy (state m) p.0 s (state e) = left_by s m e p.0 p.1 done.power r.stopped in
@@ -218,9 +218,9 @@ module _ {D : Type 0} (state : D → DeviceState) (bench : D → BenchState) (wr
         x,
         record {
           size = left.size;
-          words = left.words ∙ ap (λ (t : List (List ℕ)). slice_set t p.0 x) done.words ∙ sym (torn-behind (state d).words ws n x r.high);
-          tape = subst (λ (es : List Entry). GrowsBy (state d).tape es (state e).tape) (sym (entries-behind ws n x s r.high))
-              (grows-last (state d).tape (done_entries (take n ws)) (state m).tape (stopped_entry ws n x s) (state e).tape done.tape left.tape);
+          words = left.words ∙ ap (λ (t : List (List ℕ)). slice_set t p.0 x) done.words ∙ sym (torn_behind (state d).words ws n x r.high);
+          tape = subst (λ (es : List Entry). GrowsBy (state d).tape es (state e).tape) (sym (entries_behind ws n x s r.high))
+              (grows_last (state d).tape (done_entries (take n ws)) (state m).tape (stopped_entry ws n x s) (state e).tape done.tape left.tape);
           raises = raises s (state d) (state m) (state e) done.cuts done.faults last.counts;
           fused = fused s (bench d) (bench m) n (state m) (state e) p.0 x near last.ends place left.words;
           calls = calls_then (bench d) (bench m) (bench e) (burnt_calls (bench d) (bench m) n near) (after_stop (bench m) (bench e) s last.fuses);

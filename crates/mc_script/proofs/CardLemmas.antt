@@ -4,7 +4,7 @@ use Rattle.std.specs.Option.{ForSome}
 use Rattle.std.specs.Prelude.{is_none, ◌==◌, length}
 use Rattle.std.proofs.lemmas.Bool.{and_parts}
 use Rattle.mc_model_device.specs.Device.{DeviceState}
-use Rattle.mc_model_device.specs.Image.{Look, Refused, Closed, Pending, look, owed, debt}
+use Rattle.mc_model_device.specs.Image.{Look, Refused, Closed, Pending, look, count_of_recovery_writes, debt}
 use Rattle.mc_model_device.specs.Layout.{words_fault}
 use Rattle.mc_model_device.specs.Card.{means}
 use Rattle.mc_store.specs.Store.{is_closed, is_going, store_state, store_named, store_room, store_standing}
@@ -35,7 +35,7 @@ module _ {N : Type 0} (state : N → DeviceState) where
   pub ready_on : (c : Card N) → IsReadyCard state c → (state (device_in c)).on ≡ true
   ready_on c r = (going_parts (state (device_in c)) (count_of c.store) r.up.going).0
 
-  pub ready_owes : (c : Card N) → IsReadyCard state c → owed (state (device_in c)).words ≡ 0
+  pub ready_owes : (c : Card N) → IsReadyCard state c → count_of_recovery_writes (state (device_in c)).words ≡ 0
   ready_owes c r = closed_owes_none (look (state (device_in c)).words) (going_parts (state (device_in c)) (count_of c.store) r.up.going).1
 
   seat_with : (c : Card N) (d : N) → state d ≡ state (device_in c) → seat_in state (with_device c d) ≡ seat_in state c

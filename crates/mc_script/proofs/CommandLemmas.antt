@@ -7,9 +7,9 @@ use Rattle.mc_model_device.specs.Device.{DeviceState, Wrote}
 use Rattle.mc_model_machine.specs.Apdu.{ApduParts}
 use Rattle.mc_model_device.specs.Card as model
 use Rattle.mc_model_device.specs.Card.{means}
-use Rattle.mc_model_machine.specs.Chain.{Chain, Turn, Ran as ModelRan, turn_of, ran, run, start}
+use Rattle.mc_model_machine.specs.Chain.{Chain, Turn, Ran as ModelRan, turn_of, run_of_chain, run, start}
 use Rattle.mc_model_card.specs.Manager.{Selected, Seat, Managed, Declines, Accepts, Route, WrongLength, WrongClass, ToSelect, ToManager, ToApplication, route, select, manage, room_on}
-use Rattle.mc_model_card.specs.Commands.{Command, command, managed, passed, by_route, ran_command}
+use Rattle.mc_model_card.specs.Commands.{Command, command, manager_command, application_command, by_route, ran_command}
 use Rattle.mc_model_card.specs.Items.{write_items}
 use Rattle.mc_model_play.specs.TraceText.{before_stop}
 use Rattle.mc_machine.specs.declared.outcome.Outcome.{Outcome}
@@ -26,11 +26,11 @@ use Rattle.mc_card.proofs.MadeLemmas.{MadeBy}
 
 -- ---- commands without turns
 
-managed_turns : (c : model.Card) (seat : Seat) (m : Managed) → (managed c seat m).turns ≡ []
+managed_turns : (c : model.Card) (seat : Seat) (m : Managed) → (manager_command c seat m).turns ≡ []
 managed_turns c seat (Declines sw) = refl
 managed_turns c seat (Accepts a) = refl
 
-passed_turns : (c : model.Card) (seat : Seat) (s : Option Selected) (a : ApduParts) (budget : ℕ) → is_passed (ToApplication a) s ≡ false → (passed c seat s a budget).turns ≡ []
+passed_turns : (c : model.Card) (seat : Seat) (s : Option Selected) (a : ApduParts) (budget : ℕ) → is_passed (ToApplication a) s ≡ false → (application_command c seat s a budget).turns ≡ []
 passed_turns c seat None a budget e = refl
 passed_turns c seat (Some s) a budget e = absurd (cc e)
 
@@ -48,7 +48,7 @@ command_turns c seat bytes budget e = route_turns c seat budget (route bytes) e
 
 -- a command that is passed on is a run
 passed_is : (c : model.Card) (seat : Seat) (budget : ℕ) (r : Route) (a : ApduParts) (s : Selected) → r ≡ ToApplication a → seat.selected ≡ Some s → by_route c seat budget r ≡ ran_command seat s.name (run c.apps s.name s.session a budget)
-passed_is c seat budget r a s routed is = ap (λ (r : Route). by_route c seat budget r) routed ∙ ap (λ (o : Option Selected). passed c seat o a budget) is
+passed_is c seat budget r a s routed is = ap (λ (r : Route). by_route c seat budget r) routed ∙ ap (λ (o : Option Selected). application_command c seat o a budget) is
 
 pub command_is : (c : model.Card) (seat : Seat) (bytes : List ℕ) (budget : ℕ) (a : ApduParts) (s : Selected) → route bytes ≡ ToApplication a → seat.selected ≡ Some s → command c seat bytes budget ≡ ran_command seat s.name (run c.apps s.name s.session a budget)
 unfolding command
@@ -117,7 +117,7 @@ module _ {N R : Type 0} (state : N → DeviceState) (wrote : N → ℕ → List 
   pub record RunLeads (c : Card N) (bytes : List ℕ) (budget : ℕ) (q : R) (n : ℕ) (m : Card N) (p : R) : Type 0 where
     pub chain : Chain
     pub runs : RunsChain state m chain n
-    pub rest : (result : Result Outcome Stop) (d : Card N) (r : R) → RunOf state wrote obeys told silent onward (ran n chain) m result d p r → RanAndTold state wrote told c (due state c bytes budget) result d q r
+    pub rest : (result : Result Outcome Stop) (d : Card N) (r : R) → RunOf state wrote obeys told silent onward (run_of_chain n chain) m result d p r → RanAndTold state wrote told c (due state c bytes budget) result d q r
 
   -- what a turn does, whatever chain it is
   abbrev pub TurnDoes : Card N → Result CodeTurn Stop → Card N → Type 0

@@ -4,8 +4,8 @@ use Rattle.mc_model_device.specs.declared.device.Stop.{Stop}
 use Rattle.mc_model_device.specs.declared.device.Stop.TheVariants.{Worn}
 use Rattle.mc_model_device.specs.Orders.{Answer as Ended}
 use Rattle.mc_model_device.specs.Device.{DeviceState, BenchState, Wrote, BenchWrote}
-use Rattle.mc_model_device.specs.Image.{owed}
-use Rattle.mc_model_device.specs.Stopped.{torn}
+use Rattle.mc_model_device.specs.Image.{count_of_recovery_writes}
+use Rattle.mc_model_device.specs.Stopped.{image_after_stop}
 use Rattle.mc_model_device.specs.Card.{means}
 use Rattle.mc_model_device.specs.Card as model
 use Rattle.mc_model_device.specs.Layout.{fault}
@@ -14,13 +14,13 @@ use Rattle.mc_model_card.specs.Items.{Item, StopAt, moves, card_done, at_stop}
 use Rattle.mc_model_machine.specs.Chain.{Turn}
 use Rattle.mc_model_card.specs.Commands as command
 use Rattle.mc_model_play.specs.Play as play
-use Rattle.mc_model_play.specs.Play.{Live, Running, Warm, State, Cold, Hot, Answered, WornAt, Step, step, line_command, card_line, command_step, line_after, stopped_line, result_of_stop, hit_of, worn_entry, moves_of, StandsForState, stopped}
+use Rattle.mc_model_play.specs.Play.{Live, Running, Warm, State, Cold, Hot, Answered, WornAt, Step, step, line_command, card_line, command_step, line_after, stopped_line, result_of_stop, hit_of, worn_entry, moves_of, StandsForState, state_after_stop}
 use Rattle.mc_model_device.specs.PowerUp.{Base, OnCard}
 use Rattle.mc_machine.specs.declared.outcome.Outcome.{Outcome}
 use Rattle.mc_card.specs.declared.card.Card.{Card}
 use Rattle.mc_card.specs.ItemWrites.{StopsAtEach, IsCardAfter}
 use Rattle.mc_card.specs.Parts.{device_in, card_in, seat_in, with_device, IsReadyCard}
-use Rattle.mc_store.specs.Power.{found, HoldsBase}
+use Rattle.mc_store.specs.Power.{base_of_words, HoldsBase}
 use Rattle.mc_script.specs.declared.answer.Answer.{Answer}
 use Rattle.mc_script.specs.declared.answer.Answer.TheVariants as answer
 use Rattle.mc_script.specs.declared.armed.Armed.{Armed}
@@ -70,13 +70,13 @@ module _ {N R : Type 0} (state : N → DeviceState) (bench : N → BenchState) (
   command_stands : (c : Card N) (w : Warm) (n : ℕ) (cmd : CardLine) (ws : List (ℕ × List ℕ)) → IsCardOfPlay state c w.base w.live → StopsAtEach (card_in state c) (asked c w cmd).items (state (device_in c)).words ws
       → StopsStand (state (device_in c)).words (Hot w) (n, deck_line_of cmd) 0 ws
   command_stands c w n cmd ws on stops k x low high size =
-      let m = torn (state (device_in c)).words ws k x in
+      let m = image_after_stop (state (device_in c)).words ws k x in
       let t : StopAt = record { kind = Worn; at = k; left = x } in
       let v : Warm = stopped_line w (card_in state c) t (at_stop (asked c w cmd).items k x) in
       let base : HoldsBase v.base v.owed v.by m = stops k x low high size in
       let here : StandsForState m (Hot v) = stands_hot m v base in
       let zero_on : 0 + k ≡ k = omega arith in
-      subst (λ (i : ℕ). StandsForState m (stopped (Hot w) (n, deck_line_of cmd) i x)) (sym zero_on)
+      subst (λ (i : ℕ). StandsForState m (state_after_stop (Hot w) (n, deck_line_of cmd) i x)) (sym zero_on)
       (subst (λ (u : Step). StandsForState m u.after) (sym (step_is c w n cmd (Some (record { at = k; left = x })) on)) here)
 
   -- the card that is armed is asked the same
@@ -134,7 +134,7 @@ module _ {N R : Type 0} (state : N → DeviceState) (bench : N → BenchState) (
       let means_new : means (state (device_in e)).words ≡ new = (base_card (fault (state (device_in e)).words) (state (device_in e)).words new whole.base).1 in
       let none : w.owed ≡ 0 = sym at.stands.1.owed ∙ ready_owes state c ready in
       let seat : seat_in state f ≡ r.seat = seat_over state e f over kept ∙ done.commanded.seat in
-      let base : HoldsBase (OnCard new) w.owed w.by (state (device_in f)).words = record { base = ap found words ∙ whole.base; owed = ap owed words ∙ whole.owed ∙ sym none; by = λ some. absurd (some none) } in
+      let base : HoldsBase (OnCard new) w.owed w.by (state (device_in f)).words = record { base = ap base_of_words words ∙ whole.base; owed = ap count_of_recovery_writes words ∙ whole.owed ∙ sym none; by = λ some. absurd (some none) } in
       let then : IsPlayerAt state bench q (Hot v) = record {
         stands = (subst (λ (y : Power). LiveIs state y f v.base v.live) (sym on_is) (record { ready = ready_over state e f over kept done.commanded.ready; base = ap OnCard (sym means_new ∙ ap means (sym words)); live = ap Running (sym seat) }), base);
         budget = at.budget;

@@ -14,7 +14,7 @@ use Rattle.mc_script.specs.declared.answer.Answer.{Answer}
 use Rattle.mc_script.specs.declared.player.Player.{Player}
 use Rattle.mc_script.specs.Players.{answer_value, IsPlayerAt}
 use Rattle.mc_script.specs.Lines.{bench_of, Lined, LineDone}
-use Rattle.mc_script.specs.Writers.{ended, text_by}
+use Rattle.mc_script.specs.Writers.{write_result, text_by}
 use Rattle.mc_script.specs.Plays.{Bench, PlaysFrom}
 use Rattle.mc_model_play.proofs.PlayLemmas.{step_is}
 use Rattle.mc_script.proofs.PlayLemmas.{from_on, from_cut, from_none}
@@ -98,6 +98,6 @@ pub no_line : (ls : List (ℕ × DeckLine)) (i : ℕ) → length ls ≤ i → dr
 no_line ls i h = drop_of_length-le ls h
 
 -- a script that ended well had no fault
-pub no_fault : (f : Option WriteFault) → is_err (ended f) ≡ false → f ≡ None
+pub no_fault : (f : Option WriteFault) → is_err (write_result f) ≡ false → f ≡ None
 no_fault None h = refl
 no_fault (Some f) h = absurd (cc h)

@@ -1,11 +1,11 @@
 -- The lines that poke words before the first power line.
 use Rattle.std.proofs.Common.{◌≡◌, ℕ, List, [], Option, Some, None, refl, sym, ◌∙◌, ap, subst, arith}
 use Rattle.std.specs.Prelude.{slice_set, option_map, cond, nat_lt, length, false}
-use Rattle.mc_model_device.specs.Device.{DeviceState, BenchState, GrowsBy, poked_times}
+use Rattle.mc_model_device.specs.Device.{DeviceState, BenchState, GrowsBy, bench_after_pokes}
 use Rattle.mc_model_play.specs.DeckGrammar.{DeckLine}
 use Rattle.mc_model_play.specs.DeckGrammar as line
 use Rattle.mc_model_play.specs.Play as play
-use Rattle.mc_model_play.specs.Play.{LineResult, Formatted, Warm, Cold, Hot, step, quiet, is_card_line, moves_of, formatted}
+use Rattle.mc_model_play.specs.Play.{LineResult, Formatted, Warm, Cold, Hot, step, quiet, is_card_line, moves_of, formatted_image}
 use Rattle.mc_script.specs.declared.answer.Answer.{Answer}
 use Rattle.mc_script.specs.declared.answer.Answer.TheVariants as answer
 use Rattle.mc_script.specs.declared.player.Power.{Power}
@@ -14,7 +14,7 @@ use Rattle.mc_script.specs.declared.player.Player.{Player}
 use Rattle.mc_card.specs.declared.card.Card.{Card}
 use Rattle.mc_card.specs.Parts.{device_in}
 use Rattle.mc_script.specs.Players.{answer_value, device_of, IsUnfused, LiveIs, IsPlayerAt}
-use Rattle.mc_script.specs.Counting.{raised, when_poked, line_pokes, line_powers, line_cuts, line_fails, LineCounts}
+use Rattle.mc_script.specs.Counting.{count_after_rises, when_poked, line_pokes, line_powers, line_cuts, line_fails, LineCounts}
 use Rattle.mc_script.specs.Lines.{Stepped, SilentDone, IsFormatted, IsPoked}
 use Rattle.mc_script.proofs.PokeLemmas.{poked_are}
 use Rattle.mc_script.proofs.QuietLemmas.{steady_none, grows_none, still}
@@ -23,7 +23,7 @@ module _ {N : Type 0} (state : N → DeviceState) (bench : N → BenchState) whe
   -- words that were poked before the first power line
   record Poked (d : N) (m : List (List ℕ)) (k : ℕ) (e : N) : Type 0 where
     device : state e ≡ record (state d) { words = m }
-    calls : bench e ≡ record (bench d) { pokes = raised (bench d).pokes k; poked = when_poked (bench d) k }
+    calls : bench e ≡ record (bench d) { pokes = count_after_rises (bench d).pokes k; poked = when_poked (bench d) k }
 
   unfused : (d e : N) (m : List (List ℕ)) (k : ℕ) → Poked d m k e → IsUnfused (bench d) → IsUnfused (bench e)
   unfused d e m k r h = record { cut = ap (λ (b : BenchState). b.cut) r.calls ∙ h.cut; worn = ap (λ (b : BenchState). b.worn) r.calls ∙ h.worn }
@@ -45,7 +45,7 @@ module _ {N : Type 0} (state : N → DeviceState) (bench : N → BenchState) whe
           may = tt;
           counts = subst (λ (y : DeviceState). LineCounts c (state d) t (bench (device_in e)) y) (sym did.device) (subst f (sym did.calls)
               (record {
-                counts = record { powers = ap (λ (i : ℕ). raised c.powers i) (sym powers); pokes = ap (λ (i : ℕ). raised c.pokes i) (sym pokes); poked = ap (λ (i : ℕ). when_poked c i) (sym pokes); cuts = refl; faults = refl; steady = refl };
+                counts = record { powers = ap (λ (i : ℕ). count_after_rises c.powers i) (sym powers); pokes = ap (λ (i : ℕ). count_after_rises c.pokes i) (sym pokes); poked = ap (λ (i : ℕ). when_poked c i) (sym pokes); cuts = refl; faults = refl; steady = refl };
                 arms = record { arms = rw cuts (omega arith); wears = rw fails (omega arith) };
               }));
           steady = λ h. steady_none r l (moves_of (Cold m b r) (n, l)) card;
@@ -70,8 +70,8 @@ module _ {N : Type 0} (state : N → DeviceState) (bench : N → BenchState) whe
   format_cold p e cold did (Hot w) n at = absurd (begun p w cold at)
   format_cold p e cold did (Cold m b r) n at =
       let d = device_of p in
-      let h : Poked d (formatted m) 5 (device_in e) = record { device = did.device ∙ ap (λ (y : List (List ℕ)). record (state d) { words = formatted y }) at.stands.1; calls = did.calls ∙ poked_are 5 (bench d) } in
-      (None, record { stepped = poked p e m b r n line.Format (Some Formatted) (Some answer.Formatted) (formatted m) 5 h refl refl refl refl refl refl at; silent = refl })
+      let h : Poked d (formatted_image m) 5 (device_in e) = record { device = did.device ∙ ap (λ (y : List (List ℕ)). record (state d) { words = formatted_image y }) at.stands.1; calls = did.calls ∙ poked_are 5 (bench d) } in
+      (None, record { stepped = poked p e m b r n line.Format (Some Formatted) (Some answer.Formatted) (formatted_image m) 5 h refl refl refl refl refl refl at; silent = refl })
 
   -- a `format` line of a play that has begun
   pub format_hot : (p : Player N) → (p.power ≡ power.Cold → ⊥) → SilentDone state bench p line.Format None p
@@ -91,7 +91,7 @@ module _ {N : Type 0} (state : N → DeviceState) (bench : N → BenchState) whe
       let j = cond (nat_lt at (length m)) 1 0 in
       let h : Poked d (slice_set m at fill) j (device_in e) = record {
         device = did.device ∙ ap (λ (y : List (List ℕ)). record (state d) { words = slice_set y at fill }) new;
-        calls = did.calls ∙ ap (λ (y : List (List ℕ)). poked_times (cond (nat_lt at (length y)) 1 0) (bench d)) new ∙ poked_are j (bench d);
+        calls = did.calls ∙ ap (λ (y : List (List ℕ)). bench_after_pokes (cond (nat_lt at (length y)) 1 0) (bench d)) new ∙ poked_are j (bench d);
       } in
       (None, record { stepped = poked p e m b r n (line.Poke at fill) None None (slice_set m at fill) j h refl refl refl refl refl refl here; silent = refl })
 

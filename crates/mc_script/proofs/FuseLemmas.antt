@@ -2,12 +2,12 @@
 use Rattle.std.proofs.Common.{◌≡◌, ℕ, zero, suc, ◌+◌, ◌<◌, ◌≤◌, Bool, true, false, List, Option, Some, None, Ok, Err, refl, ◌∙◌, ap, arith}
 use Rattle.std.specs.Prelude.{slice_set}
 use Rattle.mc_model_device.specs.declared.device.Stop.TheVariants.{Off, Worn}
-use Rattle.mc_model_device.specs.Device.{DeviceState, Fuse, nearer, counted, fill_at, falling, due, NextWriteEnds}
+use Rattle.mc_model_device.specs.Device.{DeviceState, Fuse, nearer, fuse_after_write, fill_at, next_fill, due, NextWriteEnds}
 
 -- a fuse after so many writes
 abbrev pub after_writes : ℕ → Option Fuse → Option Fuse
 after_writes zero f = f
-after_writes (suc n) f = after_writes n (counted f)
+after_writes (suc n) f = after_writes n (fuse_after_write f)
 
 -- the write of a fuse lies behind so many writes
 abbrev pub Past : ℕ → Option Fuse → Type 0
@@ -20,11 +20,11 @@ pub spent_none : (n : ℕ) → after_writes n None ≡ None
 spent_none zero = refl
 spent_none (suc n) = spent_none n
 
-none_falls : (n : ℕ) (y : List ℕ) → falling (after_writes n None) ≡ Some y → ⊥
+none_falls : (n : ℕ) (y : List ℕ) → next_fill (after_writes n None) ≡ Some y → ⊥
 none_falls n y h = let e : after_writes n None ≡ None = spent_none n in absurd (cc (rw e at h))
 
 -- a fuse that falls after n writes had the number n + 1, and leaves its own fill
-falls_here : (n k : ℕ) (x y : List ℕ) → falling (after_writes n (Some (record { writes = k; fill = x }))) ≡ Some y → (k ≡ n + 1) × (x ≡ y)
+falls_here : (n k : ℕ) (x y : List ℕ) → next_fill (after_writes n (Some (record { writes = k; fill = x }))) ≡ Some y → (k ≡ n + 1) × (x ≡ y)
 falls_here zero zero x y h = absurd (cc h)
 falls_here zero (suc zero) x y h = (refl, cc)
 falls_here zero (suc (suc k)) x y h = absurd (cc h)
@@ -32,17 +32,17 @@ falls_here (suc n) zero x y h = absurd (none_falls n y h)
 falls_here (suc n) (suc zero) x y h = absurd (none_falls n y h)
 falls_here (suc n) (suc (suc k)) x y h = let r = falls_here n (suc k) x y h in (omega (arith, r.0), r.1)
 
-fuse_falls : (n : ℕ) (f : Fuse) (y : List ℕ) → falling (after_writes n (Some f)) ≡ Some y → f ≡ record { writes = n + 1; fill = y }
+fuse_falls : (n : ℕ) (f : Fuse) (y : List ℕ) → next_fill (after_writes n (Some f)) ≡ Some y → f ≡ record { writes = n + 1; fill = y }
 fuse_falls n f y h =
     let r = falls_here n f.writes f.fill y h in
     ap (λ (k : ℕ). record f { writes = k }) r.0 ∙ ap (λ (x : List ℕ). record f { writes = n + 1; fill = x }) r.1
 
-pub falls_at : (n : ℕ) (f : Option Fuse) (y : List ℕ) → falling (after_writes n f) ≡ Some y → f ≡ Some (record { writes = n + 1; fill = y })
+pub falls_at : (n : ℕ) (f : Option Fuse) (y : List ℕ) → next_fill (after_writes n f) ≡ Some y → f ≡ Some (record { writes = n + 1; fill = y })
 falls_at n None y h = absurd (none_falls n y h)
 falls_at n (Some f) y h = let e : f ≡ record { writes = n + 1; fill = y } = fuse_falls n f y h in cc
 
 -- a fuse that does not fall after n writes lies behind one more
-lies_on : (n k : ℕ) (x : List ℕ) → falling (after_writes n (Some (record { writes = k; fill = x }))) ≡ None → n < k → n + 1 < k
+lies_on : (n k : ℕ) (x : List ℕ) → next_fill (after_writes n (Some (record { writes = k; fill = x }))) ≡ None → n < k → n + 1 < k
 lies_on zero zero x h low = absurd (omega arith)
 lies_on zero (suc zero) x h low = absurd (cc h)
 lies_on zero (suc (suc k)) x h low = omega arith
@@ -50,7 +50,7 @@ lies_on (suc n) zero x h low = absurd (omega arith)
 lies_on (suc n) (suc zero) x h low = absurd (omega arith)
 lies_on (suc n) (suc (suc k)) x h low = let r = lies_on n (suc k) x h (omega (arith, low)) in omega (arith, r)
 
-pub past_on : (n : ℕ) (f : Option Fuse) → falling (after_writes n f) ≡ None → Past n f → Past (n + 1) f
+pub past_on : (n : ℕ) (f : Option Fuse) → next_fill (after_writes n f) ≡ None → Past n f → Past (n + 1) f
 past_on n None h past = tt
 past_on n (Some f) h past = λ low. lies_on n f.writes f.fill h (past low)
 
@@ -60,7 +60,7 @@ past_next n zero x h past low = absurd (omega arith)
 past_next n (suc zero) x h past low = absurd (cc h)
 past_next n (suc (suc k)) x h past low = let r : n < suc k = past (omega arith) in omega (arith, r)
 
-pub past_first : (n : ℕ) (f : Option Fuse) → falling f ≡ None → Past n (counted f) → Past (suc n) f
+pub past_first : (n : ℕ) (f : Option Fuse) → next_fill f ≡ None → Past n (fuse_after_write f) → Past (suc n) f
 past_first n None h past = tt
 past_first n (Some f) h past = λ low. past_next n f.writes f.fill h past low
 

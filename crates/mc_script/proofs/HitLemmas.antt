@@ -13,7 +13,7 @@ use Rattle.mc_model_play.specs.Play.{ArmedCut, ArmedFail, WornAt, hit_of, steady
 use Rattle.mc_script.specs.declared.armed.Armed.{Armed}
 use Rattle.mc_script.specs.declared.armed.Armed.TheVariants as armed
 use Rattle.mc_script.specs.Players.{armed_value, cut_place, CanArm, IsUnfused}
-use Rattle.mc_script.specs.Counting.{raised, cuts_due, fails_due}
+use Rattle.mc_script.specs.Counting.{count_after_rises, cuts_due, fails_due}
 use Rattle.mc_script.specs.Arming.{armed_bench}
 use Rattle.mc_script.proofs.FuseLemmas.{Past}
 use Rattle.mc_script.proofs.BenchLemmas.{FusedAt, SameCalls}
@@ -104,7 +104,7 @@ place_is (armed.Fail j) b k x free h = absurd (uncut b (record { writes = k; fil
 
 -- the calls of a line: so many of `power`, and the fuse of the armed stop
 pub record CallsOf (b : BenchState) (n : ℕ) (a : play.Armed) (c : BenchState) : Type 0 where
-  pub powers : c.powers ≡ raised b.powers n
+  pub powers : c.powers ≡ count_after_rises b.powers n
   pub pokes : c.pokes ≡ b.pokes
   pub poked : c.poked ≡ b.poked
   pub arms : c.arms ≤ b.arms + cuts_due a

@@ -11,7 +11,7 @@ use Rattle.mc_text.proofs.LogLemmas.{logged_none}
 use Rattle.mc_script.specs.declared.writer.Telling.{Telling}
 use Rattle.mc_script.specs.declared.writer.Telling.TheVariants.{Results, Turns}
 use Rattle.mc_script.specs.declared.writer.Writer.{Writer}
-use Rattle.mc_script.specs.Writers.{ended, told_turns, turns_text, log_in, WriterKeeps}
+use Rattle.mc_script.specs.Writers.{write_result, told_turns, turns_text, log_in, WriterKeeps}
 
 -- no line is written of turns where only results are told
 none_told : (t : Telling) (ts : List Turn) → t ≡ Results → [] ≡ told_turns t ts
@@ -33,6 +33,6 @@ pub told_as : (t u : Telling) (ts : List Turn) (a : Sunk) (line : List ℕ) (r :
 told_as t u ts a line r b same h = subst (λ (v : Telling). Puts a (turns_text v ts ++ line) r b) same h
 
 -- the fault of a result, as the result
-pub ended_err : (r : Result (Unit {0}) WriteFault) → ended (result_err r) ≡ r
+pub ended_err : (r : Result (Unit {0}) WriteFault) → write_result (result_err r) ≡ r
 ended_err (Ok u) = refl
 ended_err (Err f) = refl

@@ -4,13 +4,13 @@ use Rattle.std.proofs.lemmas.List.{append-nil}
 use Rattle.mc_model_device.specs.Device.{DeviceState, BenchState, Entry, next_count}
 use Rattle.mc_model_play.specs.DeckGrammar.{DeckLine}
 use Rattle.mc_model_play.specs.DeckGrammar as line
-use Rattle.mc_model_play.specs.Play.{Armed, Live, Running, Unpowered, Muted, Warm, State, Cold, Hot, WornAt, Step, plays, step, card_line, armed_in, last_state, StandsForState, moves_of, steady_at, steady_worn, tape_worn}
+use Rattle.mc_model_play.specs.Play.{Armed, Live, Running, Unpowered, Muted, Warm, State, Cold, Hot, WornAt, Step, plays, step, card_line, armed_stop_in, last_state, StandsForState, moves_of, steady_at, steady_worn, tape_worn}
 use Rattle.mc_model_device.specs.PowerUp.{Base, OnCard, AtFault}
 use Rattle.mc_model_play.proofs.PlayLemmas.{step_is}
 use Rattle.mc_base.specs.Streams.{Grew}
 use Rattle.mc_base.specs.declared.refusals.WriteFault.{WriteFault}
-use Rattle.mc_base.proofs.StreamsLemmas.{Grew-append, Grew-none, Rose-later}
-use Rattle.mc_script.specs.Counting.{raised, when_poked, CountsCalls, LineCounts, PlayCounts}
+use Rattle.mc_base.proofs.StreamsLemmas.{grew_append, grew_none, rose_later}
+use Rattle.mc_script.specs.Counting.{count_after_rises, when_poked, CountsCalls, LineCounts, PlayCounts}
 use Rattle.mc_script.specs.Players.{IsUnfused}
 use Rattle.mc_script.specs.Plays.{Bench, PlayedLine, TapeTells, TapeIs, Played, texts, PlayEnds, PlaysFrom}
 use Rattle.mc_text.specs.Texts.{Sunk, Writes, Fails}
@@ -20,16 +20,16 @@ use Rattle.mc_script.proofs.TapeLemmas.{tape_on}
 -- ---- counts
 
 -- a count that rose twice
-pub raised_add : (n a b : ℕ) → raised n (a + b) ≡ raised (raised n a) b
-raised_add n zero b = let e : 0 + b ≡ b = omega arith in ap (λ k. raised n k) e
-raised_add n (suc a) b = let e : suc a + b ≡ suc (a + b) = omega arith in ap (λ k. raised n k) e ∙ raised_add (next_count n) a b
+pub raised_add : (n a b : ℕ) → count_after_rises n (a + b) ≡ count_after_rises (count_after_rises n a) b
+raised_add n zero b = let e : 0 + b ≡ b = omega arith in ap (λ k. count_after_rises n k) e
+raised_add n (suc a) b = let e : suc a + b ≡ suc (a + b) = omega arith in ap (λ k. count_after_rises n k) e ∙ raised_add (next_count n) a b
 
 -- how often power had come when the last word was poked by some lines and those behind them: where power came, no word was poked behind it
-poked_on : (b c : BenchState) (p q q' : ℕ) → c.powers ≡ raised b.powers p → c.poked ≡ when_poked b q → (p ≡ 0) ⊎ (q' ≡ 0) → when_poked c q' ≡ when_poked b (q + q')
+poked_on : (b c : BenchState) (p q q' : ℕ) → c.powers ≡ count_after_rises b.powers p → c.poked ≡ when_poked b q → (p ≡ 0) ⊎ (q' ≡ 0) → when_poked c q' ≡ when_poked b (q + q')
 poked_on b c p q zero powers poked apart = let e : q ≡ q + 0 = omega arith in poked ∙ ap (λ n. when_poked b n) e
 poked_on b c p q (suc k) powers poked apart =
     elim apart [
-      | inl none ↦ let e : suc (q + k) ≡ q + suc k = omega arith in powers ∙ ap (λ n. raised b.powers n) none ∙ ap (λ n. when_poked b n) e
+      | inl none ↦ let e : suc (q + k) ≡ q + suc k = omega arith in powers ∙ ap (λ n. count_after_rises b.powers n) none ∙ ap (λ n. when_poked b n) e
       | inr none ↦ absurd (cc none)
     ]
 
@@ -37,17 +37,17 @@ poked_on b c p q (suc k) powers poked apart =
 counts_on : (b c e : BenchState) (d f g : DeviceState) (p q k m p' q' k' m' : ℕ) → CountsCalls b d p q k m c f → CountsCalls c f p' q' k' m' e g → (p ≡ 0) ⊎ (q' ≡ 0) → CountsCalls b d (p + p') (q + q') (k + k') (m + m') e g
 counts_on b c e d f g p q k m p' q' k' m' one rest apart =
     record {
-      powers = rest.powers ∙ ap (λ n. raised n p') one.powers ∙ sym (raised_add b.powers p p');
-      pokes = rest.pokes ∙ ap (λ n. raised n q') one.pokes ∙ sym (raised_add b.pokes q q');
+      powers = rest.powers ∙ ap (λ n. count_after_rises n p') one.powers ∙ sym (raised_add b.powers p p');
+      pokes = rest.pokes ∙ ap (λ n. count_after_rises n q') one.pokes ∙ sym (raised_add b.pokes q q');
       poked = rest.poked ∙ poked_on b c p q q' one.powers one.poked apart;
-      cuts = rest.cuts ∙ ap (λ n. raised n k') one.cuts ∙ sym (raised_add d.cuts k k');
-      faults = rest.faults ∙ ap (λ n. raised n m') one.faults ∙ sym (raised_add d.faults m m');
+      cuts = rest.cuts ∙ ap (λ n. count_after_rises n k') one.cuts ∙ sym (raised_add d.cuts k k');
+      faults = rest.faults ∙ ap (λ n. count_after_rises n m') one.faults ∙ sym (raised_add d.faults m m');
       steady = rest.steady ∙ one.steady;
     }
 
 -- the counts of a line, and of the lines behind it
-play_counts_on : (a b c : Bench) (t : Step) (ts : List Step) → LineCounts a.bench a.device t b.bench b.device → PlayCounts b.bench b.device (armed_in t.after) ts c.bench c.device → PokesFirst t ts
-    → PlayCounts a.bench a.device (armed_in t.before) (t ∷ ts) c.bench c.device
+play_counts_on : (a b c : Bench) (t : Step) (ts : List Step) → LineCounts a.bench a.device t b.bench b.device → PlayCounts b.bench b.device (armed_stop_in t.after) ts c.bench c.device → PokesFirst t ts
+    → PlayCounts a.bench a.device (armed_stop_in t.before) (t ∷ ts) c.bench c.device
 play_counts_on a b c t ts one rest first =
     record {
       counts = counts_on a.bench b.bench c.bench a.device b.device c.device _ _ _ _ _ _ _ _ one.counts rest.counts first;
@@ -77,15 +77,15 @@ unfolding plays
 plays_none s = refl
 
 -- the worn stops of a steady bench
-steady_on : (s : State) (l : ℕ × DeckLine) (w : Option WornAt) (ls : List (ℕ × DeckLine)) (ws : List (Option WornAt)) → w ≡ steady_at (armed_in s) l.1 (moves_of s l) → ws ≡ steady_worn (step s l w).after ls → w ∷ ws ≡ steady_worn s (l ∷ ls)
+steady_on : (s : State) (l : ℕ × DeckLine) (w : Option WornAt) (ls : List (ℕ × DeckLine)) (ws : List (Option WornAt)) → w ≡ steady_at (armed_stop_in s) l.1 (moves_of s l) → ws ≡ steady_worn (step s l w).after ls → w ∷ ws ≡ steady_worn s (l ∷ ls)
 unfolding steady_worn
 steady_on s l w ls ws first rest = rw (← first, rest) refl
 
 -- the counts of a play that begins with a line
-counts_from : (s : State) (l : ℕ × DeckLine) (w : Option WornAt) (ts : List Step) (a b c : Bench) → LineCounts a.bench a.device (step s l w) b.bench b.device → PlayCounts b.bench b.device (armed_in (step s l w).after) ts c.bench c.device
-    → PokesFirst (step s l w) ts → PlayCounts a.bench a.device (armed_in s) (step s l w ∷ ts) c.bench c.device
+counts_from : (s : State) (l : ℕ × DeckLine) (w : Option WornAt) (ts : List Step) (a b c : Bench) → LineCounts a.bench a.device (step s l w) b.bench b.device → PlayCounts b.bench b.device (armed_stop_in (step s l w).after) ts c.bench c.device
+    → PokesFirst (step s l w) ts → PlayCounts a.bench a.device (armed_stop_in s) (step s l w ∷ ts) c.bench c.device
 counts_from s l w ts a b c one rest first =
-    subst (λ (u : State). PlayCounts a.bench a.device (armed_in u) (step s l w ∷ ts) c.bench c.device) (step_is s l w).before (play_counts_on a b c (step s l w) ts one rest first)
+    subst (λ (u : State). PlayCounts a.bench a.device (armed_stop_in u) (step s l w ∷ ts) c.bench c.device) (step_is s l w).before (play_counts_on a b c (step s l w) ts one rest first)
 
 -- a play of a line and of the lines behind it
 pub played_on : (s : State) (l : ℕ × DeckLine) (w : Option WornAt) (ls : List (ℕ × DeckLine)) (ws : List (Option WornAt)) (a b c : Bench) → PlayedLine s l w (step s l w) a b → Played (step s l w).after ls ws b c → Played s (l ∷ ls) (w ∷ ws) a c
@@ -94,7 +94,7 @@ played_on s l w ls ws a b c did rest =
     record {
       possible = (did.may, rest.possible);
       words = subst (λ (ts : List Step). StandsForState c.device.words (last_state s ts)) (sym e) rest.words;
-      counts = subst (λ (ts : List Step). PlayCounts a.bench a.device (armed_in s) ts c.bench c.device) (sym e) (counts_from s l w _ a b c did.counts rest.counts (pokes_first s l w ls ws));
+      counts = subst (λ (ts : List Step). PlayCounts a.bench a.device (armed_stop_in s) ts c.bench c.device) (sym e) (counts_from s l w _ a b c did.counts rest.counts (pokes_first s l w ls ws));
       steady = λ steady. steady_on s l w ls ws (did.steady steady) (rest.steady (did.counts.counts.steady ∙ steady));
       tape = let t = did.tape in tape_on a.device.words b.device.words s l ls w ws t.entries a.device.tape b.device.tape c.device.tape did.may t.accounts t.worn t.left t.grows rest.tape;
       unfused = rest.unfused;
@@ -120,7 +120,7 @@ played_none s a stands unfused =
     record {
       possible = tt;
       words = subst (λ (ts : List Step). StandsForState a.device.words (last_state s ts)) (sym (plays_none s)) stands;
-      counts = subst (λ (ts : List Step). PlayCounts a.bench a.device (armed_in s) ts a.bench a.device) (sym (plays_none s)) (counts_none a (armed_in s));
+      counts = subst (λ (ts : List Step). PlayCounts a.bench a.device (armed_stop_in s) ts a.bench a.device) (sym (plays_none s)) (counts_none a (armed_stop_in s));
       steady = λ steady. steady_none s;
       tape = tape_none a.device.words s a.device.tape;
       unfused = unfused;
@@ -130,7 +130,7 @@ played_none s a stands unfused =
 
 -- the texts of a line that was written, and of a play behind it
 pub ends_on : (f : Step → List ℕ) (x y z : Sunk) (rest : List (ℕ × DeckLine)) (t : Step) (ts : List Step) (r : Result (Unit {0}) WriteFault) → Writes x (f t) y → PlayEnds f y rest ts r z → PlayEnds f x rest (t ∷ ts) r z
-ends_on f x y z rest t ts (Ok u) first h = (h.0, Grew-append x.taken y.taken z.taken (f t) (texts f ts) first.whole h.1)
+ends_on f x y z rest t ts (Ok u) first h = (h.0, grew_append x.taken y.taken z.taken (f t) (texts f ts) first.whole h.1)
 ends_on f x y z rest t ts (Err e) first h =
     record {
       before = t ∷ h.before;
@@ -142,8 +142,8 @@ ends_on f x y z rest t ts (Err e) first h =
       some_left = h.some_left;
       written =
           subst (λ (bs : List ℕ). Grew x.taken z.taken bs) (sym (append_assoc (f t) (texts f h.before) h.front))
-          (Grew-append x.taken y.taken z.taken (f t) (texts f h.before ++ h.front) first.whole h.written);
-      cause = Rose-later x.faults y.faults z.faults first.counted h.cause;
+          (grew_append x.taken y.taken z.taken (f t) (texts f h.before ++ h.front) first.whole h.written);
+      cause = rose_later x.faults y.faults z.faults first.counted h.cause;
     }
 
 -- the text of a line that failed
@@ -197,5 +197,5 @@ from_none f s a x stands unfused =
       are = refl;
       worn = [];
       played = played_none s a stands unfused;
-      text = (refl, subst (λ (ts : List Step). Grew x.taken x.taken (texts f ts)) (sym (plays_none s)) (Grew-none x.taken));
+      text = (refl, subst (λ (ts : List Step). Grew x.taken x.taken (texts f ts)) (sym (plays_none s)) (grew_none x.taken));
     }

@@ -8,8 +8,8 @@ use Rattle.mc_model_device.specs.declared.device.Stop.TheVariants.{Off, Worn}
 use Rattle.mc_model_device.specs.Orders.{Answer as Ended}
 use Rattle.mc_model_device.specs.Device.{DeviceState, BenchState, Wrote, BenchWrote, IsImage, Makes}
 use Rattle.mc_model_play.specs.DeckGrammar as line
-use Rattle.mc_model_device.specs.Image.{Journal, One, Which, Both, Only, Neither, which, owed, look_at, debt}
-use Rattle.mc_model_device.specs.Stopped.{torn, stands, owes, remains}
+use Rattle.mc_model_device.specs.Image.{Journal, One, Which, Both, Only, Neither, which, count_of_recovery_writes, look_at, debt}
+use Rattle.mc_model_device.specs.Stopped.{image_after_stop, stands, owes, remains}
 use Rattle.mc_model_device.specs.Card.{Card as CardValue, means}
 use Rattle.mc_model_device.specs.Layout.{fault}
 use Rattle.mc_model_card.specs.Items.{StopAt}
@@ -17,9 +17,9 @@ use Rattle.mc_model_card.specs.Manager.{empty_seat}
 use Rattle.mc_model_play.specs.Given.{budget_in}
 use Rattle.mc_model_play.specs.TraceText.{shown_turns}
 use Rattle.mc_model_play.specs.Play as play
-use Rattle.mc_model_play.specs.Play.{Unarmed, Live, Running, Warm, State, Cold, Hot, Ready, WornAt, Step, step, warmed, power_moves, power_result, power_live, power_after, power_says, power_step, stopped_power, live_after, result_of_stop, hit_of, worn_entry, moves_of, armed_in, StandsForState, stopped}
-use Rattle.mc_model_device.specs.PowerUp.{Base, OnCard, AtFault, owing, base_of, migrated, migration}
-use Rattle.mc_store.specs.Power.{found, power_writes, power_count, HoldsBase, IsPowered, IsUnusable, IsHalted}
+use Rattle.mc_model_play.specs.Play.{Unarmed, Live, Running, Warm, State, Cold, Hot, Ready, WornAt, Step, step, play_at_power, power_moves, power_result, power_live, power_after, power_says, power_step, stopped_power, live_after, result_of_stop, hit_of, worn_entry, moves_of, armed_stop_in, StandsForState, state_after_stop}
+use Rattle.mc_model_device.specs.PowerUp.{Base, OnCard, AtFault, pending_journal, base_of, base_after_migration, migration}
+use Rattle.mc_store.specs.Power.{base_of_words, power_writes, power_count, HoldsBase, IsPowered, IsUnusable, IsHalted}
 use Rattle.mc_store.proofs.PowerLemmas.{count_writes, power_halted}
 use Rattle.mc_card.specs.declared.card.Card.{Card}
 use Rattle.mc_card.specs.Parts.{device_in, card_in, seat_in, IsReadyCard}
@@ -42,10 +42,10 @@ use Rattle.mc_script.proofs.TriedLemmas.{Handed, Freed, Worth, Went, went, went_
 
 -- the play that a power line finds
 pub warm_of : State → Warm
-warm_of (Cold m b a) = warmed m b a
+warm_of (Cold m b a) = play_at_power m b a
 warm_of (Hot w) = w
 
-power_is : (s : State) (n : ℕ) (x : Option WornAt) → step s (n, line.Power) x ≡ power_step n s (warm_of s) (hit_of (armed_in s) (power_moves (warm_of s)) x)
+power_is : (s : State) (n : ℕ) (x : Option WornAt) → step s (n, line.Power) x ≡ power_step n s (warm_of s) (hit_of (armed_stop_in s) (power_moves (warm_of s)) x)
 unfolding step warm_of
 power_is (Cold m b a) n x = refl
 power_is (Hot w) n x = refl
@@ -60,25 +60,25 @@ worth (Cold m b a) = record { card = refl; powers = refl; pokes = refl; cuts = r
 worth (Hot w) = record { card = refl; powers = refl; pokes = refl; cuts = refl; fails = refl }
 
 warm_budget : (s : State) → (warm_of s).budget ≡ budget_in s
-unfolding warm_of warmed
+unfolding warm_of play_at_power
 warm_budget (Cold m b a) = refl
 warm_budget (Hot w) = refl
 
 -- what owes is open alone
-only_owing : (m : List (List ℕ)) (i : Which) → debt (look_at m i) ≢ 0 → i ≡ Only (owing i)
+only_owing : (m : List (List ℕ)) (i : Which) → debt (look_at m i) ≢ 0 → i ≡ Only (pending_journal i)
 only_owing m Both h = absurd (h refl)
 only_owing m (Only j) h = refl
 only_owing m Neither h = absurd (h refl)
 
-warmed_base : (m : List (List ℕ)) (b : ℕ) (a : play.Armed) (words : List (List ℕ)) → words ≡ m → let w = warmed m b a in HoldsBase w.base w.owed w.by words
-unfolding warmed
+warmed_base : (m : List (List ℕ)) (b : ℕ) (a : play.Armed) (words : List (List ℕ)) → words ≡ m → let w = play_at_power m b a in HoldsBase w.base w.owed w.by words
+unfolding play_at_power
 warmed_base m b a words same =
-    subst (λ (x : List (List ℕ)). HoldsBase (base_of (fault m) m) (owed m) (owing (which m)) x) (sym same) (record { base = refl; owed = refl; by = λ some. only_owing m (which m) some })
+    subst (λ (x : List (List ℕ)). HoldsBase (base_of (fault m) m) (count_of_recovery_writes m) (pending_journal (which m)) x) (sym same) (record { base = refl; owed = refl; by = λ some. only_owing m (which m) some })
 
 -- ---- stops of a power line
 
 count_is : (m : List (List ℕ)) (w : Warm) → HoldsBase w.base w.owed w.by m → power_count m ≡ power_moves w
-count_is m w r = ap (λ (x : ℕ). x + migration (found m)) r.owed ∙ ap (λ (b : Base). w.owed + migration b) r.base
+count_is m w r = ap (λ (x : ℕ). x + migration (base_of_words m)) r.owed ∙ ap (λ (b : Base). w.owed + migration b) r.base
 
 -- the play after a stop of a power line
 record AfterStop (w : Warm) (t : StopAt) (v : Warm) : Type 0 where
@@ -94,21 +94,21 @@ halted_by : (m : List (List ℕ)) (w : Warm) (t : StopAt) (n : List (List ℕ)) 
     → let v = stopped_power w t b in HoldsBase v.base v.owed v.by n
 halted_by m w t n true r low h is =
     let early : t.at ≤ w.owed = leb-true t.at w.owed is in
-    let many : owed m ≡ w.owed = r.owed in
+    let many : count_of_recovery_writes m ≡ w.owed = r.owed in
     let some : w.owed ≢ 0 = λ z. absurd (omega (arith, z, early, low)) in
-    let who : owing (which m) ≡ w.by = ap owing (r.by some) in
+    let who : pending_journal (which m) ≡ w.by = ap pending_journal (r.by some) in
     let k = t.at in
     let x = t.left in
     subst (λ (c : Base). HoldsBase c (remains w.by (w.owed - 1) k x) w.by n) r.base
-    (subst (λ (j : Journal). HoldsBase (found m) (remains j (w.owed - 1) k x) j n) who
-    (subst (λ (i : ℕ). HoldsBase (found m) (remains (owing (which m)) (i - 1) k x) (owing (which m)) n) many (h.0 (omega (arith, many, early)))))
+    (subst (λ (j : Journal). HoldsBase (base_of_words m) (remains j (w.owed - 1) k x) j n) who
+    (subst (λ (i : ℕ). HoldsBase (base_of_words m) (remains (pending_journal (which m)) (i - 1) k x) (pending_journal (which m)) n) many (h.0 (omega (arith, many, early)))))
 halted_by m w t n false r low h is =
     let late : w.owed < t.at = leb-false t.at w.owed is in
-    let many : owed m ≡ w.owed = r.owed in
+    let many : count_of_recovery_writes m ≡ w.owed = r.owed in
     let k = t.at in
     let x = t.left in
-    subst (λ (c : Base). HoldsBase (cond (stands One 1 (k - w.owed) x) (migrated c) c) (owes One 1 (k - w.owed) x) One n) r.base
-    (subst (λ (i : ℕ). HoldsBase (cond (stands One 1 (k - i) x) (migrated (found m)) (found m)) (owes One 1 (k - i) x) One n) many (h.1 (omega (arith, many, late))))
+    subst (λ (c : Base). HoldsBase (cond (stands One 1 (k - w.owed) x) (base_after_migration c) c) (owes One 1 (k - w.owed) x) One n) r.base
+    (subst (λ (i : ℕ). HoldsBase (cond (stands One 1 (k - i) x) (base_after_migration (base_of_words m)) (base_of_words m)) (owes One 1 (k - i) x) One n) many (h.1 (omega (arith, many, late))))
 
 halted_base : (m : List (List ℕ)) (w : Warm) (t : StopAt) (n : List (List ℕ)) → HoldsBase w.base w.owed w.by m → 1 ≤ t.at → IsHalted m t.at t.left n → let v = power_after w (Some t) in HoldsBase v.base v.owed v.by n
 halted_base m w t n r low h = halted_by m w t n (nat_le t.at w.owed) r low h refl
@@ -119,12 +119,12 @@ power_stands m s n image r k x low high size =
     let w = warm_of s in
     let t : StopAt = record { kind = Worn; at = k; left = x } in
     let many : length (power_writes m) ≡ power_count m = count_writes m image.low image.high in
-    let halted : IsHalted m k x (torn m (power_writes m) k x) = power_halted m image.low image.high k x low (omega (arith, high, many)) in
-    let b = halted_base m w t (torn m (power_writes m) k x) r low halted in
-    let here : StandsForState (torn m (power_writes m) k x) (Hot (power_after w (Some t))) = stands_hot (torn m (power_writes m) k x) (power_after w (Some t)) b in
+    let halted : IsHalted m k x (image_after_stop m (power_writes m) k x) = power_halted m image.low image.high k x low (omega (arith, high, many)) in
+    let b = halted_base m w t (image_after_stop m (power_writes m) k x) r low halted in
+    let here : StandsForState (image_after_stop m (power_writes m) k x) (Hot (power_after w (Some t))) = stands_hot (image_after_stop m (power_writes m) k x) (power_after w (Some t)) b in
     let zero_on : 0 + k ≡ k = omega arith in
-    subst (λ (i : ℕ). StandsForState (torn m (power_writes m) k x) (stopped s (n, line.Power) i x)) (sym zero_on)
-    (subst (λ (u : Step). StandsForState (torn m (power_writes m) k x) u.after) (sym (power_is s n (Some (record { at = k; left = x })))) here)
+    subst (λ (i : ℕ). StandsForState (image_after_stop m (power_writes m) k x) (state_after_stop s (n, line.Power) i x)) (sym zero_on)
+    (subst (λ (u : Step). StandsForState (image_after_stop m (power_writes m) k x) u.after) (sym (power_is s n (Some (record { at = k; left = x })))) here)
 
 module _ {N : Type 0} (state : N → DeviceState) (bench : N → BenchState) (wrote : N → ℕ → List ℕ → Ended → N → Type 0)
     (obeys : (d : N) (at : ℕ) (w : List ℕ) (a : Ended) (e : N) → (state d).on ≡ true → wrote d at w a e → Wrote (state d) at w a (state e))
@@ -137,7 +137,7 @@ module _ {N : Type 0} (state : N → DeviceState) (bench : N → BenchState) (wr
   base_at p (Hot w) at = at.stands.1
 
   -- the step of a power line is silent
-  silently : (p q : Player N) (s : State) (n : ℕ) (x : Option WornAt) (t : Option StopAt) (r : Option Answer) → hit_of (armed_in s) (power_moves (warm_of s)) x ≡ t
+  silently : (p q : Player N) (s : State) (n : ℕ) (x : Option WornAt) (t : Option StopAt) (r : Option Answer) → hit_of (armed_stop_in s) (power_moves (warm_of s)) x ≡ t
       → Stepped state bench p s (n, line.Power) x (power_step n s (warm_of s) t) r q → shown_turns [] t ≡ [] → SilentLine state bench p s (n, line.Power) x r q
   silently p q s n x t r hits stepped none =
       let is : step s (n, line.Power) x ≡ power_step n s (warm_of s) t = power_is s n x ∙ ap (λ (y : Option StopAt). power_step n s (warm_of s) y) hits in
@@ -161,8 +161,8 @@ module _ {N : Type 0} (state : N → DeviceState) (bench : N → BenchState) (wr
       let did : Went state bench wrote obeys burns fits d (device_of q) p.armed 1 (power_writes m) = went state bench wrote obeys burns fits d u e (device_of q) p.armed 1 (power_writes m) at.can_arm handed made_on freed in
       let base : HoldsBase w.base w.owed w.by m = base_at p s at in
       let many : length (power_writes m) ≡ power_moves w = count_writes m image.low image.high ∙ count_is m w base in
-      let misses : hit_of (armed_in s) (power_moves w) None ≡ None =
-      subst (λ (i : ℕ). hit_of (armed_in s) i None ≡ None) many (subst (λ (y : play.Armed). hit_of y (length (power_writes m)) None ≡ None) at.armed did.missed.hit) in
+      let misses : hit_of (armed_stop_in s) (power_moves w) None ≡ None =
+      subst (λ (i : ℕ). hit_of (armed_stop_in s) i None ≡ None) many (subst (λ (y : play.Armed). hit_of y (length (power_writes m)) None ≡ None) at.armed did.missed.hit) in
       let then : IsPlayerAt state bench q (Hot (power_after w None)) = record {
         stands = stands;
         budget = budget ∙ at.budget ∙ sym (warm_budget s);
@@ -177,13 +177,13 @@ module _ {N : Type 0} (state : N → DeviceState) (bench : N → BenchState) (wr
       (None, silently p q s n None None (Some r) misses stepped refl)
 
   -- the found card, migrated, is the card that runs
-  card_on : (m e : List (List ℕ)) (w : Warm) → found m ≡ w.base → fault m ≡ None → found e ≡ migrated (found m) → (migrated w.base ≡ OnCard (means e)) × (power_live w.base ≡ Running empty_seat) × ((n : ℕ) → Ready n ≡ power_result n w.base)
+  card_on : (m e : List (List ℕ)) (w : Warm) → base_of_words m ≡ w.base → fault m ≡ None → base_of_words e ≡ base_after_migration (base_of_words m) → (base_after_migration w.base ≡ OnCard (means e)) × (power_live w.base ≡ Running empty_seat) × ((n : ℕ) → Ready n ≡ power_result n w.base)
   card_on m e w is sound then =
-      let card : found m ≡ OnCard (means m) = ap (λ (f : Option (Cause × ℕ)). base_of f m) sound in
+      let card : base_of_words m ≡ OnCard (means m) = ap (λ (f : Option (Cause × ℕ)). base_of f m) sound in
       let base : w.base ≡ OnCard (means m) = sym is ∙ card in
       let new : CardValue = record (means m) { layout = 2 } in
-      let upgraded : found e ≡ OnCard new = then ∙ ap migrated card in (
-        ap migrated base ∙ ap OnCard (sym (base_card (fault e) e new upgraded).1),
+      let upgraded : base_of_words e ≡ OnCard new = then ∙ ap base_after_migration card in (
+        ap base_after_migration base ∙ ap OnCard (sym (base_card (fault e) e new upgraded).1),
         ap power_live base,
         λ n. sym (ap (λ (b : Base). power_result n b) base),
       )
@@ -200,16 +200,16 @@ module _ {N : Type 0} (state : N → DeviceState) (bench : N → BenchState) (wr
       let base : HoldsBase w.base w.owed w.by m = base_at p s at in
       let same : (state u).words ≡ m = handed.words in
       let after : (state (device_in c)).words ≡ (state e).words = ap (λ (x : DeviceState). x.words) freed.state in
-      let left : HoldsBase (migrated (found (state u).words)) 0 One (state e).words = powered.base in
-      let on = card_on (state u).words (state e).words w (ap found same ∙ base.base) powered.card left.base in
+      let left : HoldsBase (base_after_migration (base_of_words (state u).words)) 0 One (state e).words = powered.base in
+      let on = card_on (state u).words (state e).words w (ap base_of_words same ∙ base.base) powered.card left.base in
       let words : List (List ℕ) = (state (device_in c)).words in
-      let is : HoldsBase (migrated w.base) 0 w.by words = record {
-        base = ap found after ∙ left.base ∙ ap migrated (ap found same ∙ base.base);
-        owed = ap owed after ∙ left.owed;
+      let is : HoldsBase (base_after_migration w.base) 0 w.by words = record {
+        base = ap base_of_words after ∙ left.base ∙ ap base_after_migration (ap base_of_words same ∙ base.base);
+        owed = ap count_of_recovery_writes after ∙ left.owed;
         by = λ some. absurd (some refl);
       } in
       let live : power_live w.base ≡ Running (seat_in state c) = on.1 ∙ ap Running (sym seat) in
-      let card : migrated w.base ≡ OnCard (card_in state c) = on.0 ∙ ap (λ (x : List (List ℕ)). OnCard (means x)) (sym after) in
+      let card : base_after_migration w.base ≡ OnCard (card_in state c) = on.0 ∙ ap (λ (x : List (List ℕ)). OnCard (means x)) (sym after) in
       let many : number ≡ power_moves w = powered.number ∙ ap power_count same ∙ count_is m w base in
       no_stop p q s n u e (answer.Ready number) at image handed made freed refl refl (record { ready = ready; base = card; live = live }, is) (ap Ready many ∙ on.2 (power_moves w))
 
@@ -226,11 +226,11 @@ module _ {N : Type 0} (state : N → DeviceState) (bench : N → BenchState) (wr
       let base : HoldsBase w.base w.owed w.by m = base_at p s at in
       let same : (state u).words ≡ m = handed.words in
       let after : (state f).words ≡ (state e).words = ap (λ (x : DeviceState). x.words) freed.state in
-      let left : HoldsBase (found (state u).words) 0 One (state e).words = unusable.base in
-      let broken : w.base ≡ AtFault r.cause r.place = sym (ap found same ∙ base.base) ∙ ap (λ (x : Option (Cause × ℕ)). base_of x (state u).words) unusable.fault in
-      let is : HoldsBase (migrated w.base) 0 w.by (state f).words = record {
-        base = ap found after ∙ left.base ∙ ap found same ∙ base.base ∙ broken ∙ ap migrated (sym broken);
-        owed = ap owed after ∙ left.owed;
+      let left : HoldsBase (base_of_words (state u).words) 0 One (state e).words = unusable.base in
+      let broken : w.base ≡ AtFault r.cause r.place = sym (ap base_of_words same ∙ base.base) ∙ ap (λ (x : Option (Cause × ℕ)). base_of x (state u).words) unusable.fault in
+      let is : HoldsBase (base_after_migration w.base) 0 w.by (state f).words = record {
+        base = ap base_of_words after ∙ left.base ∙ ap base_of_words same ∙ base.base ∙ broken ∙ ap base_after_migration (sym broken);
+        owed = ap count_of_recovery_writes after ∙ left.owed;
         by = λ some. absurd (some refl);
       } in
       no_stop p q s n u e (answer.Unusable r) at image handed made freed refl refl (ap power_live broken, is) (ap (λ (b : Base). power_result (power_moves w) b) (sym broken))
@@ -262,13 +262,13 @@ module _ {N : Type 0} (state : N → DeviceState) (bench : N → BenchState) (wr
       let base : HoldsBase w.base w.owed w.by m = base_at p s at in
       let many : length (power_writes m) ≡ power_moves w = count_writes m image.low image.high ∙ count_is m w base in
       let high : k ≤ power_moves w = let h = did.high in omega (arith, h, many) in
-      let by : HitBy (armed_in s) (power_moves w) (bench d).steady how k x (worn_entry k x (Some how)) =
+      let by : HitBy (armed_stop_in s) (power_moves w) (bench d).steady how k x (worn_entry k x (Some how)) =
       subst (λ (y : play.Armed). HitBy y (power_moves w) (bench d).steady how k x (worn_entry k x (Some how))) at.armed (did.by (power_moves w) high) in
       let v : Warm = power_after w (Some t) in
       let then : AfterStop w t v = after_stop w t (nat_le k w.owed) in
       let count : length (power_writes m) ≡ power_count m = count_writes m image.low image.high in
-      let halted : IsHalted m k x (torn m (power_writes m) k x) = power_halted m image.low image.high k x did.low (let h = did.high in omega (arith, h, count)) in
-      let torn_base : HoldsBase v.base v.owed v.by (torn m (power_writes m) k x) = halted_base m w t (torn m (power_writes m) k x) base did.low halted in
+      let halted : IsHalted m k x (image_after_stop m (power_writes m) k x) = power_halted m image.low image.high k x did.low (let h = did.high in omega (arith, h, count)) in
+      let torn_base : HoldsBase v.base v.owed v.by (image_after_stop m (power_writes m) k x) = halted_base m w t (image_after_stop m (power_writes m) k x) base did.low halted in
       let is : HoldsBase v.base v.owed v.by (state f).words = subst (λ (y : List (List ℕ)). HoldsBase v.base v.owed v.by y) (sym did.words) torn_base in
       let at_end : IsPlayerAt state bench q (Hot v) = record {
         stands = (live_stopped how c v.base v.live then.live, is);

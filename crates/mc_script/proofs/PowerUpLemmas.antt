@@ -4,11 +4,11 @@ use Rattle.mc_model_device.specs.Orders.{Answer as Ended}
 use Rattle.mc_model_device.specs.Device.{DeviceState, BenchState, Wrote, BenchWrote, IsImage, Makes, next_count}
 use Rattle.mc_model_card.specs.Manager.{empty_seat}
 use Rattle.mc_model_play.specs.DeckGrammar as line
-use Rattle.mc_store.specs.Power.{power_writes, power_answer, failed, IsPowered, PowersUp}
+use Rattle.mc_store.specs.Power.{power_writes, power_answer, failure_end, IsPowered, PowersUp}
 use Rattle.mc_store.specs.declared.power.Up.{Up}
 use Rattle.mc_store.specs.declared.power.Up.TheVariants as up
 use Rattle.mc_card.specs.declared.card.Card.{Card}
-use Rattle.mc_card.specs.Ends.{restarted}
+use Rattle.mc_card.specs.Ends.{restart_end}
 use Rattle.mc_card.specs.Parts.{device_in, seat_in, with_device, IsReadyCard}
 use Rattle.mc_script.specs.declared.answer.Answer.{Answer}
 use Rattle.mc_script.specs.declared.answer.Answer.TheVariants as answer
@@ -53,7 +53,7 @@ module _ {N : Type 0} (state : N → DeviceState) (bench : N → BenchState) (wr
 
   -- no card runs
   pub no_power : (p : Player N) (u : N) (c e : Card N) (r : Up) → IsImage (state (device_of p)).words → Handed (state (device_of p)) (bench (device_of p)) 1 p.armed (state u) (bench u)
-      → Makes wrote u (power_writes (state u).words) (power_answer (failed r)) (device_in c) → PowersUp (state u) (failed r) (state (device_in c))
+      → Makes wrote u (power_writes (state u).words) (power_answer (failure_end r)) (device_in c) → PowersUp (state u) (failure_end r) (state (device_in c))
       → state (device_in e) ≡ state (device_in c) → bench (device_in e) ≡ record (bench (device_in c)) { cut = None; worn = None }
       → SilentDone state bench p line.Power (Some (answer_after_failure r p.armed)) (record p { card = e; power = power_after_failure r; armed = armed.Not })
   no_power p u c e (up.Unusable r) image handed made ends same free s n at =
@@ -64,7 +64,7 @@ module _ {N : Type 0} (state : N → DeviceState) (bench : N → BenchState) (wr
 
   -- the same, by what the restart of the card answered
   pub restart_ready : (p : Player N) (u : N) (c e : Card N) (r : Result ℕ Up) (writes : ℕ) → r ≡ Ok writes → IsImage (state (device_of p)).words → Handed (state (device_of p)) (bench (device_of p)) 1 p.armed (state u) (bench u)
-      → Makes wrote u (power_writes (state u).words) (power_answer (restarted c r)) (device_in c) → PowersUp (state u) (restarted c r) (state (device_in c)) → IfOk r (λ n. IsReadyCard state c) → IfOk r (λ n. seat_in state c ≡ empty_seat)
+      → Makes wrote u (power_writes (state u).words) (power_answer (restart_end c r)) (device_in c) → PowersUp (state u) (restart_end c r) (state (device_in c)) → IfOk r (λ n. IsReadyCard state c) → IfOk r (λ n. seat_in state c ≡ empty_seat)
       → state (device_in e) ≡ state (device_in c) → bench (device_in e) ≡ record (bench (device_in c)) { cut = None; worn = None } → e ≡ with_device c (device_in e)
       → SilentDone state bench p line.Power (Some (answer.Ready writes)) (record p { card = e; power = power.On; armed = armed.Not })
   restart_ready p u c e (Err r) writes is image handed made ends ready seat same free rest = absurd (cc is)
@@ -74,11 +74,11 @@ module _ {N : Type 0} (state : N → DeviceState) (bench : N → BenchState) (wr
       (ready_power p u c e n _ image handed made ends ready seat kept free rest)
 
   pub restart_failed : (p : Player N) (u : N) (c e : Card N) (r : Result ℕ Up) (f : Up) (pw : Power) (ans : Answer) → r ≡ Err f → IsImage (state (device_of p)).words → Handed (state (device_of p)) (bench (device_of p)) 1 p.armed (state u) (bench u)
-      → Makes wrote u (power_writes (state u).words) (power_answer (restarted c r)) (device_in c) → PowersUp (state u) (restarted c r) (state (device_in c))
+      → Makes wrote u (power_writes (state u).words) (power_answer (restart_end c r)) (device_in c) → PowersUp (state u) (restart_end c r) (state (device_in c))
       → state (device_in e) ≡ state (device_in c) → bench (device_in e) ≡ record (bench (device_in c)) { cut = None; worn = None } → pw ≡ power_after_failure f → ans ≡ answer_after_failure f p.armed
       → SilentDone state bench p line.Power (Some ans) (record p { card = e; power = pw; armed = armed.Not })
   restart_failed p u c e r f pw ans is image handed made ends same free goes says =
       subst (λ (x : Power). SilentDone state bench p line.Power (Some ans) (record p { card = e; power = x; armed = armed.Not })) (sym goes)
       (subst (λ (x : Answer). SilentDone state bench p line.Power (Some x) (record p { card = e; power = power_after_failure f; armed = armed.Not })) (sym says)
-      (no_power p u c e f image handed (subst (λ (x : Result ℕ Up). Makes wrote u (power_writes (state u).words) (power_answer (restarted c x)) (device_in c)) is made)
-      (subst (λ (x : Result ℕ Up). PowersUp (state u) (restarted c x) (state (device_in c))) is ends) same free))
+      (no_power p u c e f image handed (subst (λ (x : Result ℕ Up). Makes wrote u (power_writes (state u).words) (power_answer (restart_end c x)) (device_in c)) is made)
+      (subst (λ (x : Result ℕ Up). PowersUp (state u) (restart_end c x) (state (device_in c))) is ends) same free))

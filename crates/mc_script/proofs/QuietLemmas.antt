@@ -6,7 +6,7 @@ use Rattle.mc_model_play.specs.DeckGrammar.{DeckLine}
 use Rattle.mc_model_play.specs.DeckGrammar as line
 use Rattle.mc_model_card.specs.Items.{moves}
 use Rattle.mc_model_play.specs.Play as play
-use Rattle.mc_model_play.specs.Play.{WornAt, Unarmed, ArmedCut, ArmedFail, Live, Running, Unpowered, Muted, LineResult, NoCard, Silenced, Warm, State, Cold, Hot, Step, step, quiet, card_line, dumped, static_of, is_card_line, armed_in, moves_of, steady_at, words_left}
+use Rattle.mc_model_play.specs.Play.{WornAt, Unarmed, ArmedCut, ArmedFail, Live, Running, Unpowered, Muted, LineResult, NoCard, Silenced, Warm, State, Cold, Hot, Step, step, quiet, card_line, dump_result, static_of, is_card_line, armed_stop_in, moves_of, steady_at, words_left}
 use Rattle.mc_model_device.specs.PowerUp.{Base}
 use Rattle.mc_model_play.specs.TraceText.{shown_turns}
 use Rattle.mc_card.specs.declared.card.Card.{Card}
@@ -20,7 +20,7 @@ use Rattle.mc_script.specs.declared.player.Power.{Power}
 use Rattle.mc_script.specs.declared.player.Power.TheVariants as power
 use Rattle.mc_script.specs.declared.player.Player.{Player}
 use Rattle.mc_script.specs.Players.{answer_value, armed_value, dump_value, device_of, CanArm, LiveIs, IsPlayerAt}
-use Rattle.mc_script.specs.Counting.{raised, when_poked, line_powers, line_pokes, line_cuts, line_fails, Arms, LineCounts}
+use Rattle.mc_script.specs.Counting.{count_after_rises, when_poked, line_powers, line_pokes, line_cuts, line_fails, Arms, LineCounts}
 use Rattle.mc_script.specs.Arming.{armed_bench}
 use Rattle.mc_script.specs.Commands.{deck_line_of}
 use Rattle.mc_script.specs.Plays.{StepTape}
@@ -57,17 +57,17 @@ module _ {N : Type 0} (state : N → DeviceState) (bench : N → BenchState) whe
 
   -- the counts of a line that calls nothing
   counts_same : (b : BenchState) (d : DeviceState) (s : State) (n : ℕ) (l : DeckLine) (result : Option LineResult) (after : State) → line_powers l ≡ 0 → line_pokes s l ≡ 0
-      → Arms b (armed_in s) (line_cuts l) (line_fails l) b (armed_in after) → LineCounts b d (quiet n l s result after) b d
+      → Arms b (armed_stop_in s) (line_cuts l) (line_fails l) b (armed_stop_in after) → LineCounts b d (quiet n l s result after) b d
   counts_same b d s n l result after powers pokes arms =
       record {
-        counts = record { powers = ap (λ (k : ℕ). raised b.powers k) (sym powers); pokes = ap (λ (k : ℕ). raised b.pokes k) (sym pokes); poked = ap (λ (k : ℕ). when_poked b k) (sym pokes); cuts = refl; faults = refl; steady = refl };
+        counts = record { powers = ap (λ (k : ℕ). count_after_rises b.powers k) (sym powers); pokes = ap (λ (k : ℕ). count_after_rises b.pokes k) (sym pokes); poked = ap (λ (k : ℕ). when_poked b k) (sym pokes); cuts = refl; faults = refl; steady = refl };
         arms = arms;
       }
 
   -- a line that leaves its device as it is
   pub quietly : (p q : Player N) (s : State) (n : ℕ) (l : DeckLine) (result : Option LineResult) (after : State) (r : Option Answer) → device_of q ≡ device_of p → IsPlayerAt state bench q after
-      → option_map (answer_value state q) r ≡ result → line_powers l ≡ 0 → line_pokes s l ≡ 0 → Arms (bench (device_of p)) (armed_in s) (line_cuts l) (line_fails l) (bench (device_of p)) (armed_in after)
-      → None ≡ steady_at (armed_in s) l (moves_of s (n, l)) → (state (device_of p)).words ≡ words_left (state (device_of p)).words [] after
+      → option_map (answer_value state q) r ≡ result → line_powers l ≡ 0 → line_pokes s l ≡ 0 → Arms (bench (device_of p)) (armed_stop_in s) (line_cuts l) (line_fails l) (bench (device_of p)) (armed_stop_in after)
+      → None ≡ steady_at (armed_stop_in s) l (moves_of s (n, l)) → (state (device_of p)).words ≡ words_left (state (device_of p)).words [] after
       → Stepped state bench p s (n, l) None (quiet n l s result after) r q
   quietly p q s n l result after r same at answers powers pokes arms steady words =
       let t = quiet n l s result after in
@@ -170,11 +170,11 @@ module _ {N : Type 0} (state : N → DeviceState) (bench : N → BenchState) whe
   -- ---- dumps
 
   -- what a player tells of a name is what the play does, from the first power line on
-  dump_live : (pw : Power) (c : Card N) (w : Warm) (aid : List ℕ) → LiveIs state pw c w.base w.live → dump_value state pw c aid ≡ dumped w.live w.base aid
+  dump_live : (pw : Power) (c : Card N) (w : Warm) (aid : List ℕ) → LiveIs state pw c w.base w.live → dump_value state pw c aid ≡ dump_result w.live w.base aid
   dump_live power.Cold c w aid h = absurd h
-  dump_live power.Off c w aid h = ap (λ (v : Live). dumped v w.base aid) (sym h)
-  dump_live power.Mute c w aid h = ap (λ (v : Live). dumped v w.base aid) (sym h)
-  dump_live power.On c w aid h = ap (λ (b : Base). dumped (Running (seat_in state c)) b aid) (sym h.base) ∙ ap (λ (v : Live). dumped v w.base aid) (sym h.live)
+  dump_live power.Off c w aid h = ap (λ (v : Live). dump_result v w.base aid) (sym h)
+  dump_live power.Mute c w aid h = ap (λ (v : Live). dump_result v w.base aid) (sym h)
+  dump_live power.On c w aid h = ap (λ (b : Base). dump_result (Running (seat_in state c)) b aid) (sym h.base) ∙ ap (λ (v : Live). dump_result v w.base aid) (sym h.live)
 
   pub dump_done : (p : Player N) (aid : List ℕ) → SilentDone state bench p (line.Dump aid) (Some (answer.Dump aid)) p
   unfolding step
@@ -188,8 +188,8 @@ module _ {N : Type 0} (state : N → DeviceState) (bench : N → BenchState) whe
         },
       )
   dump_done p aid (Hot w) n at =
-      let is : dump_value state p.power p.card aid ≡ dumped w.live w.base aid = dump_live p.power p.card w aid at.stands.0 in
-      (None, record { stepped = still p w n (line.Dump aid) (Some (dumped w.live w.base aid)) (Some (answer.Dump aid)) at (ap (λ (x : LineResult). Some x) is) refl refl refl refl refl; silent = refl })
+      let is : dump_value state p.power p.card aid ≡ dump_result w.live w.base aid = dump_live p.power p.card w aid at.stands.0 in
+      (None, record { stepped = still p w n (line.Dump aid) (Some (dump_result w.live w.base aid)) (Some (answer.Dump aid)) at (ap (λ (x : LineResult). Some x) is) refl refl refl refl refl; silent = refl })
 
   -- what a dump answers, whatever worn stop is given
   same_dump : (s : State) (n : ℕ) (aid : List ℕ) (w : Option WornAt) → (step s (n, line.Dump aid) None).result ≡ (step s (n, line.Dump aid) w).result

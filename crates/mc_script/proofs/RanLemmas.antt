@@ -8,7 +8,7 @@ use Rattle.mc_model_device.specs.Orders.{Answer, answer_of}
 use Rattle.mc_model_device.specs.Device.{DeviceState, Wrote, Makes}
 use Rattle.mc_model_device.specs.Card.{Card}
 use Rattle.mc_model_card.specs.Items.{Item, Atomic, Fixed, moves, card_done, write_items}
-use Rattle.mc_model_machine.specs.Chain.{Chain, Turn, Write, Acted, Ran, Follows, Continues, Ends, Abended, Outcome as ModelOutcome, spent, acted, turn_of, end_of, chain_session, ends_with, goes_on, ran_on, ran}
+use Rattle.mc_model_machine.specs.Chain.{Chain, Turn, Write, Acted, Ran, Follows, Continues, Ends, Abended, Outcome as ModelOutcome, turn_without_budget, turn_of_chain, turn_of, end_of, chain_session, ends_with, goes_on, run_after_turn, run_of_chain}
 use Rattle.mc_model_play.specs.TraceText.{before_stop}
 use Rattle.mc_machine.specs.declared.outcome.Outcome.{Outcome}
 use Rattle.mc_machine.specs.declared.outcome.Turn.{Turn as CodeTurn}
@@ -16,28 +16,28 @@ use Rattle.mc_machine.specs.Turns.{outcome_value, turn_value}
 use Rattle.mc_card.specs.declared.card.Card.{Card as CardOf}
 use Rattle.mc_card.specs.Parts.{device_in, card_in, seat_in, with_session, IsReadyCard, RunsChain}
 use Rattle.mc_card.specs.Ends.{TurnGoesOn, ChainTurned}
-use Rattle.mc_card.proofs.MadeLemmas.{card-found, MadeBy, by_made, made_before, made_on}
+use Rattle.mc_card.proofs.MadeLemmas.{card_found, MadeBy, by_made, made_before, made_on}
 use Rattle.mc_script.specs.Runs.{TellsTurns}
 use Rattle.mc_script.proofs.StopLemmas.{stopped_in, at_number, number_done}
 use Rattle.mc_script.proofs.TurnLemmas.{turn_moves, is_told, acted_counts, before_first, before_later}
 
 -- ---- a run by its first turn
 
-ran_ends : (n : ℕ) (ch : Chain) (o : ModelOutcome) → (turn_of n ch).follows ≡ Ends o → ran n ch ≡ ends_with (turn_of n ch) (chain_session ch) o
-unfolding ran
-ran_ends zero ch o e = let same : Abended A07 ≡ o = cc e in ap (λ (o : ModelOutcome). ends_with (spent ch) (chain_session ch) o) same
-ran_ends (suc n) ch o e = ap (λ (f : Follows). ran_on (acted ch) (chain_session ch) f (λ c. ran n c)) e
+ran_ends : (n : ℕ) (ch : Chain) (o : ModelOutcome) → (turn_of n ch).follows ≡ Ends o → run_of_chain n ch ≡ ends_with (turn_of n ch) (chain_session ch) o
+unfolding run_of_chain
+ran_ends zero ch o e = let same : Abended A07 ≡ o = cc e in ap (λ (o : ModelOutcome). ends_with (turn_without_budget ch) (chain_session ch) o) same
+ran_ends (suc n) ch o e = ap (λ (f : Follows). run_after_turn (turn_of_chain ch) (chain_session ch) f (λ c. run_of_chain n c)) e
 
-ran_goes : (n : ℕ) (ch next : Chain) → (acted ch).follows ≡ Continues next → ran (suc n) ch ≡ goes_on (acted ch) (ran n next)
-unfolding ran
-ran_goes n ch next e = ap (λ (f : Follows). ran_on (acted ch) (chain_session ch) f (λ c. ran n c)) e
+ran_goes : (n : ℕ) (ch next : Chain) → (turn_of_chain ch).follows ≡ Continues next → run_of_chain (suc n) ch ≡ goes_on (turn_of_chain ch) (run_of_chain n next)
+unfolding run_of_chain
+ran_goes n ch next e = ap (λ (f : Follows). run_after_turn (turn_of_chain ch) (chain_session ch) f (λ c. run_of_chain n c)) e
 
 -- a run begins with the writes and the turn of its first turn
 record RunBegins (n : ℕ) (ch : Chain) : Type 0 where
   writes : List Write
   turns : List Turn
-  all_writes : (ran n ch).writes ≡ (turn_of n ch).writes ++ writes
-  all_turns : (ran n ch).turns ≡ (turn_of n ch).turn ∷ turns
+  all_writes : (run_of_chain n ch).writes ≡ (turn_of n ch).writes ++ writes
+  all_turns : (run_of_chain n ch).turns ≡ (turn_of n ch).turn ∷ turns
 
 begins_ends : (n : ℕ) (ch : Chain) (o : ModelOutcome) → (turn_of n ch).follows ≡ Ends o → RunBegins n ch
 begins_ends n ch o e =
@@ -49,20 +49,20 @@ begins_ends n ch o e =
       all_turns = ap (λ (r : Ran). r.turns) is;
     }
 
-begins_by : (n : ℕ) (ch : Chain) (f : Follows) → (acted ch).follows ≡ f → RunBegins (suc n) ch
+begins_by : (n : ℕ) (ch : Chain) (f : Follows) → (turn_of_chain ch).follows ≡ f → RunBegins (suc n) ch
 begins_by n ch (Ends o) e = begins_ends (suc n) ch o e
 begins_by n ch (Continues next) e =
     let is = ran_goes n ch next e in
     record {
-      writes = (ran n next).writes;
-      turns = (ran n next).turns;
+      writes = (run_of_chain n next).writes;
+      turns = (run_of_chain n next).turns;
       all_writes = ap (λ (r : Ran). r.writes) is;
       all_turns = ap (λ (r : Ran). r.turns) is;
     }
 
 begins : (n : ℕ) (ch : Chain) → RunBegins n ch
 begins zero ch = begins_ends zero ch (Abended A07) refl
-begins (suc n) ch = begins_by n ch (acted ch).follows refl
+begins (suc n) ch = begins_by n ch (turn_of_chain ch).follows refl
 
 -- the items of writes behind writes
 items_append : (ws vs : List Write) → write_items (ws ++ vs) ≡ write_items ws ++ write_items vs
@@ -98,7 +98,7 @@ module _ {N : Type 0} (state : N → DeviceState) (wrote : N → ℕ → List �
 
     -- a turn that ends its chain
     pub run_ends : (c d : CardOf N) (ch : Chain) (n : ℕ) (turn : CodeTurn) (o : Outcome) (q r : R) → ChainTurned state wrote c ch n (turn_of n ch) (Ok turn) d → turn.end ≡ Some o
-        → told q (turn_value turn (turn_of n ch).turn.wrote ∷ []) r → RunOf (ran n ch) c (Ok o) d q r
+        → told q (turn_value turn (turn_of n ch).turn.wrote ∷ []) r → RunOf (run_of_chain n ch) c (Ok o) d q r
     run_ends c d ch n turn o q r turned end tells =
         let t = turn_of n ch in
         let follows : t.follows ≡ Ends (outcome_value o) = end_ends t.follows (outcome_value o) (end_told t turn turned.turn (is_told n ch).end ∙ ap (λ (e : Option Outcome). option_map outcome_value e) end) in
@@ -114,7 +114,7 @@ module _ {N : Type 0} (state : N → DeviceState) (wrote : N → ℕ → List �
         })
 
     -- a turn whose write stopped
-    pub run_stops : (c d : CardOf N) (ch : Chain) (n : ℕ) (s : Stop) (q : R) → ChainTurned state wrote c ch n (turn_of n ch) (Err s) d → RunOf (ran n ch) c (Err s) d q q
+    pub run_stops : (c d : CardOf N) (ch : Chain) (n : ℕ) (s : Stop) (q : R) → ChainTurned state wrote c ch n (turn_of n ch) (Err s) d → RunOf (run_of_chain n ch) c (Err s) d q q
     run_stops c d ch n s q turned =
         let t = turn_of n ch in
         let all = begins n ch in
@@ -123,7 +123,7 @@ module _ {N : Type 0} (state : N → DeviceState) (wrote : N → ℕ → List �
         let at = stopped_in wrote ws (device_in c) (device_in d) s made.makes in
         let few : length ws ≤ moves (write_items t.writes) = made.number in
         let here : suc at.0 ≤ turn_moves t.turn.wrote = let told = (is_told n ch).moves in let low = at.1.low in omega (arith, few, told, low) in
-        let none : before_stop (ran n ch).turns (suc at.0) ≡ [] = ap (λ (ts : List Turn). before_stop ts (suc at.0)) all.all_turns ∙ before_first t.turn all.turns (suc at.0) (omega arith) here in
+        let none : before_stop (run_of_chain n ch).turns (suc at.0) ≡ [] = ap (λ (ts : List Turn). before_stop ts (suc at.0)) all.all_turns ∙ before_first t.turn all.turns (suc at.0) (omega arith) here in
         record {
           writes = ws;
           made =
@@ -141,7 +141,7 @@ module _ {N : Type 0} (state : N → DeviceState) (wrote : N → ℕ → List �
       pub left : ℕ
       pub is : n ≡ suc left
       pub next : Chain
-      pub follows : (acted ch).follows ≡ Continues next
+      pub follows : (turn_of_chain ch).follows ≡ Continues next
       pub runs : RunsChain state d next left
       pub seat : seat_in state d ≡ seat_in state c
 
@@ -149,7 +149,7 @@ module _ {N : Type 0} (state : N → DeviceState) (wrote : N → ℕ → List �
     run_goes c d ch zero turn turned end =
         absurd (cc (end_told (turn_of zero ch) turn turned.turn (is_told zero ch).end ∙ ap (λ (e : Option Outcome). option_map outcome_value e) end))
     run_goes c d ch (suc n) turn turned end =
-        let t = acted ch in
+        let t = turn_of_chain ch in
         let next = end_goes t.follows (end_told t turn turned.turn (is_told (suc n) ch).end ∙ ap (λ (e : Option Outcome). option_map outcome_value e) end) in
         let on : TurnGoesOn state wrote c ch (suc n - t.count) (Continues next.0) d = subst (λ (f : Follows). TurnGoesOn state wrote c ch (suc n - t.count) f d) next.1 turned.follows in
         let left : suc n - t.count ≡ n = let one = acted_counts ch next.0 next.1 in omega (arith, one) in
@@ -170,20 +170,20 @@ module _ {N : Type 0} (state : N → DeviceState) (wrote : N → ℕ → List �
 
     -- a turn, and the run behind it
     pub run_on : (c m d : CardOf N) (ch : Chain) (n : ℕ) (turn : CodeTurn) (result : Result Outcome Stop) (p q r : R) (goes : Goes c ch n m) → (state (device_in c)).on ≡ true → ChainTurned state wrote c ch n (turn_of n ch) (Ok turn) m
-        → told p (turn_value turn (turn_of n ch).turn.wrote ∷ []) q → RunOf (ran goes.left goes.next) m result d q r → RunOf (ran n ch) c result d p r
+        → told p (turn_value turn (turn_of n ch).turn.wrote ∷ []) q → RunOf (run_of_chain goes.left goes.next) m result d q r → RunOf (run_of_chain n ch) c result d p r
     run_on c m d ch n turn result p q r goes on turned tells rest =
-        let one : ran (suc goes.left) ch ≡ goes_on (acted ch) (ran goes.left goes.next) = ran_goes goes.left ch goes.next goes.follows in
-        subst (λ (k : ℕ). RunOf (ran k ch) c result d p r) (sym goes.is)
+        let one : run_of_chain (suc goes.left) ch ≡ goes_on (turn_of_chain ch) (run_of_chain goes.left goes.next) = ran_goes goes.left ch goes.next goes.follows in
+        subst (λ (k : ℕ). RunOf (run_of_chain k ch) c result d p r) (sym goes.is)
         (subst (λ (run : Ran). RunOf run c result d p r) (sym one)
-        (turn_and_run c m d ch goes.left turn result p q r (ran goes.left goes.next) goes.seat on (subst (λ (k : ℕ). ChainTurned state wrote c ch k (turn_of k ch) (Ok turn) m) goes.is turned) (subst (λ (k : ℕ). told p (turn_value turn (turn_of k ch).turn.wrote ∷ []) q) goes.is tells) rest))
+        (turn_and_run c m d ch goes.left turn result p q r (run_of_chain goes.left goes.next) goes.seat on (subst (λ (k : ℕ). ChainTurned state wrote c ch k (turn_of k ch) (Ok turn) m) goes.is turned) (subst (λ (k : ℕ). told p (turn_value turn (turn_of k ch).turn.wrote ∷ []) q) goes.is tells) rest))
       where
         turn_and_run : (c m d : CardOf N) (ch : Chain) (n : ℕ) (turn : CodeTurn) (result : Result Outcome Stop) (p q r : R) (run : Ran) → seat_in state m ≡ seat_in state c → (state (device_in c)).on ≡ true
-            → ChainTurned state wrote c ch (suc n) (acted ch) (Ok turn) m → told p (turn_value turn (acted ch).turn.wrote ∷ []) q → RunOf run m result d q r → RunOf (goes_on (acted ch) run) c result d p r
+            → ChainTurned state wrote c ch (suc n) (turn_of_chain ch) (Ok turn) m → told p (turn_value turn (turn_of_chain ch).turn.wrote ∷ []) q → RunOf run m result d q r → RunOf (goes_on (turn_of_chain ch) run) c result d p r
         turn_and_run c m d ch n turn result p q r run seat on turned tells rest =
-            let t = acted ch in
+            let t = turn_of_chain ch in
             let ws = turned.made.writes in
             let first = by_made state wrote obeys (card_in state c) (write_items t.writes) (device_in c) (device_in m) (Ok tt) turned.made in
-            let now : card_done (card_in state c) (write_items t.writes) ≡ card_in state m = card-found (card_done (card_in state c) (write_items t.writes)) 0 (state (device_in m)).words first.done in
+            let now : card_done (card_in state c) (write_items t.writes) ≡ card_in state m = card_found (card_done (card_in state c) (write_items t.writes)) 0 (state (device_in m)).words first.done in
             let second = subst (λ (k : Card). MadeBy state wrote obeys k (write_items run.writes) (device_in m) (answer_of result) (device_in d) rest.writes) (sym now) rest.made in
             let size : length ws ≡ turn_moves t.turn.wrote = first.number ∙ (is_told (suc n) ch).moves in
             record {

@@ -11,16 +11,16 @@ use Rattle.mc_model_card.specs.Units.{UnitParts}
 use Rattle.mc_model_device.specs.Card as model
 use Rattle.mc_model_card.specs.Items.{card_done}
 use Rattle.mc_model_machine.specs.Chain.{Turn}
-use Rattle.mc_model_card.specs.Manager.{Seat, route, routed}
-use Rattle.mc_model_card.specs.Commands.{Command, command, refused, status}
-use Rattle.mc_model_play.specs.Play.{is_done, with_items, sent_on, send, piece_commands, section_commands, load_commands}
+use Rattle.mc_model_card.specs.Manager.{Seat, route, route_of_parts}
+use Rattle.mc_model_card.specs.Commands.{Command, command, refusal, status}
+use Rattle.mc_model_play.specs.Play.{is_done, with_items, command_with_rest, send, piece_commands, section_commands, load_commands}
 use Rattle.mc_model_play.specs.TraceText.{before_stop}
 use Rattle.mc_machine.specs.declared.outcome.Outcome.{Outcome}
 use Rattle.mc_machine.specs.Turns.{outcome_value}
 use Rattle.mc_card.specs.declared.card.Card.{Card}
 use Rattle.mc_card.specs.Parts.{device_in, card_in, seat_in, due, IsReadyCard}
 use Rattle.mc_card.specs.Ends.{is_passed}
-use Rattle.mc_card.proofs.MadeLemmas.{card-found, MadeBy, by_made, made_on, made_before}
+use Rattle.mc_card.proofs.MadeLemmas.{card_found, MadeBy, by_made, made_on, made_before}
 use Rattle.mc_script.specs.Classes.{IsManaged}
 use Rattle.mc_script.specs.Runs.{TellsTurns, RanAndTold}
 use Rattle.mc_script.proofs.StopLemmas.{number_done}
@@ -30,10 +30,10 @@ use Rattle.mc_script.proofs.UpLemmas.{up_on, up_base}
 -- ---- commands of class BE have no turns
 
 -- a command that was taken apart, by its class
-route_by : (a : ApduParts) (seat : Seat) → a.cla ≡ 0xBE → is_passed (routed (Some a)) seat.selected ≡ false
+route_by : (a : ApduParts) (seat : Seat) → a.cla ≡ 0xBE → is_passed (route_of_parts (Some a)) seat.selected ≡ false
 route_by a seat e = rw e refl
 
-read_by : (ins p1 p2 : ℕ) (r : Option Rest) (seat : Seat) → is_passed (routed (option_map (λ r. record { cla = 0xBE; ins = ins; p1 = p1; p2 = p2; p3 = r.p3; body = r.body; le = r.le }) r)) seat.selected ≡ false
+read_by : (ins p1 p2 : ℕ) (r : Option Rest) (seat : Seat) → is_passed (route_of_parts (option_map (λ r. record { cla = 0xBE; ins = ins; p1 = p1; p2 = p2; p3 = r.p3; body = r.body; le = r.le }) r)) seat.selected ≡ false
 read_by ins p1 p2 None seat = refl
 read_by ins p1 p2 (Some r) seat = refl
 
@@ -48,7 +48,7 @@ not_passed (c ∷ i ∷ p ∷ q ∷ b) seat h = subst (λ (k : ℕ). is_passed (
 pub managed_turns : (c : model.Card) (seat : Seat) (b : List ℕ) (budget : ℕ) → IsManaged b → (command c seat b budget).turns ≡ []
 managed_turns c seat b budget h = command_turns c seat b budget (not_passed b seat h)
 
-sent_turns : (k : Bool) (first rest : Command) → first.turns ≡ [] → rest.turns ≡ [] → (sent_on k first rest).turns ≡ []
+sent_turns : (k : Bool) (first rest : Command) → first.turns ≡ [] → rest.turns ≡ [] → (command_with_rest k first rest).turns ≡ []
 sent_turns true first rest e f = ap (λ ts. ts ++ rest.turns) e ∙ f
 sent_turns false first rest e f = e
 
@@ -61,11 +61,11 @@ send_turns c seat budget (b ∷ bs) all =
 
 -- ---- one command, and those behind it
 
-pub send_first : (c : model.Card) (seat : Seat) (budget : ℕ) (b : List ℕ) (bs : List (List ℕ)) → send c seat budget (b ∷ bs) ≡ sent_on (is_done (command c seat b budget).outcome) (command c seat b budget) (send (card_done c (command c seat b budget).items) (command c seat b budget).seat budget bs)
+pub send_first : (c : model.Card) (seat : Seat) (budget : ℕ) (b : List ℕ) (bs : List (List ℕ)) → send c seat budget (b ∷ bs) ≡ command_with_rest (is_done (command c seat b budget).outcome) (command c seat b budget) (send (card_done c (command c seat b budget).items) (command c seat b budget).seat budget bs)
 unfolding send
 send_first c seat budget b bs = refl
 
-pub send_none : (c : model.Card) (seat : Seat) (budget : ℕ) → send c seat budget [] ≡ refused seat 0x9000
+pub send_none : (c : model.Card) (seat : Seat) (budget : ℕ) → send c seat budget [] ≡ refusal seat 0x9000
 unfolding send
 send_none c seat budget = refl
 
@@ -96,7 +96,7 @@ module _ {N R : Type 0} (state : N → DeviceState) (wrote : N → ℕ → List 
       let ws = first.commanded.made.writes in
       let vs = rest.commanded.made.writes in
       let one = by_made state wrote obeys (card_in state c) k.items (device_in c) (device_in m) (Ok tt) first.commanded.made in
-      let now : card_done (card_in state c) k.items ≡ card_in state m = card-found (card_done (card_in state c) k.items) 0 (state (device_in m)).words one.done in
+      let now : card_done (card_in state c) k.items ≡ card_in state m = card_found (card_done (card_in state c) k.items) 0 (state (device_in m)).words one.done in
       let two = subst (λ (x : model.Card). MadeBy state wrote obeys x l.items (device_in m) (answer_of result) (device_in d) vs) (sym now) (by_made state wrote obeys (card_in state m) l.items (device_in m) (device_in d) (answer_of result) rest.commanded.made) in
       let made = made_on state wrote obeys (card_in state c) k.items l.items (device_in c) (device_in m) (device_in d) (answer_of result) ws vs on one two in
       record {
@@ -111,7 +111,7 @@ module _ {N R : Type 0} (state : N → DeviceState) (wrote : N → ℕ → List 
       }
 
   -- a command that was stopped, whatever was to come behind it
-  first_ran : (b : Bool) (c d : Card N) (k l : Command) (s : Stop) (p r : R) → k.turns ≡ [] → l.turns ≡ [] → RanAndTold state wrote told c k (Err s) d p r → RanAndTold state wrote told c (sent_on b k l) (Err s) d p r
+  first_ran : (b : Bool) (c d : Card N) (k l : Command) (s : Stop) (p r : R) → k.turns ≡ [] → l.turns ≡ [] → RanAndTold state wrote told c k (Err s) d p r → RanAndTold state wrote told c (command_with_rest b k l) (Err s) d p r
   first_ran false c d k l s p r none also h = h
   first_ran true c d k l s p r none also h =
       let ws = h.commanded.made.writes in
@@ -136,11 +136,11 @@ module _ {N R : Type 0} (state : N → DeviceState) (wrote : N → ℕ → List 
   sends_on c m d budget all q p r b left o h ran done =
       let k = command (card_in state m) (seat_in state m) b budget in
       let one = by_made state wrote obeys (card_in state m) k.items (device_in m) (device_in d) (Ok tt) ran.commanded.made in
-      let now : card_in state d ≡ card_done (card_in state m) k.items = sym (card-found (card_done (card_in state m) k.items) 0 (state (device_in d)).words one.done) in
+      let now : card_in state d ≡ card_done (card_in state m) k.items = sym (card_found (card_done (card_in state m) k.items) 0 (state (device_in d)).words one.done) in
       let behind = send (card_done (card_in state m) k.items) k.seat budget left in
       let same : send (card_in state d) (seat_in state d) budget left ≡ behind = ap (λ (x : model.Card). send x (seat_in state d) budget left) now ∙ ap (λ (x : Seat). send (card_done (card_in state m) k.items) x budget left) ran.commanded.seat in
       let good : is_done k.outcome ≡ true = ap is_done (sym ran.commanded.outcome) ∙ done in
-      let all-of : with_items k behind ≡ send (card_in state m) (seat_in state m) budget (b ∷ left) = sym (send_first (card_in state m) (seat_in state m) budget b left ∙ ap (λ (x : Bool). sent_on x k behind) good) in
+      let all-of : with_items k behind ≡ send (card_in state m) (seat_in state m) budget (b ∷ left) = sym (send_first (card_in state m) (seat_in state m) budget b left ∙ ap (λ (x : Bool). command_with_rest x k behind) good) in
       record {
         ready = ran.commanded.ready;
         managed = h.managed.1;
@@ -158,7 +158,7 @@ module _ {N R : Type 0} (state : N → DeviceState) (wrote : N → ℕ → List 
       let k = command (card_in state m) (seat_in state m) b budget in
       let behind = send (card_done (card_in state m) k.items) k.seat budget left in
       let bad : is_done k.outcome ≡ false = ap is_done (sym ran.commanded.outcome) ∙ done in
-      let all-of : k ≡ send (card_in state m) (seat_in state m) budget (b ∷ left) = sym (send_first (card_in state m) (seat_in state m) budget b left ∙ ap (λ (x : Bool). sent_on x k behind) bad) in
+      let all-of : k ≡ send (card_in state m) (seat_in state m) budget (b ∷ left) = sym (send_first (card_in state m) (seat_in state m) budget b left ∙ ap (λ (x : Bool). command_with_rest x k behind) bad) in
       h.rest (Ok o) d r (subst (λ (x : Command). RanAndTold state wrote told m x (Ok o) d p r) all-of ran)
 
   -- a command that was stopped

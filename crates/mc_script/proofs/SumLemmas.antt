@@ -8,7 +8,7 @@ use Rattle.mc_model_machine.specs.Chain.{Turn}
 use Rattle.mc_model_play.specs.DeckGrammar.{DeckLine}
 use Rattle.mc_model_play.specs.DeckGrammar as line
 use Rattle.mc_model_play.specs.Play.{State, Cold, Hot, WornAt, LineResult, Step, plays, step, first_worn, last_state}
-use Rattle.mc_model_play.specs.Transcript.{shown}
+use Rattle.mc_model_play.specs.Transcript.{text_of_result}
 use Rattle.mc_model_play.specs.Generator.{is_dump, results, count, dump_lines, count_line, summary, is_reply, is_abend, is_cut, is_off, is_ready}
 use Rattle.mc_model_play.proofs.PlayLemmas.{step_is}
 use Rattle.mc_script.specs.declared.answer.Answer.{Answer}
@@ -17,7 +17,7 @@ use Rattle.mc_script.specs.declared.summary.Counts.{Counts}
 use Rattle.mc_script.specs.Players.{answer_value, IsPlayerAt}
 use Rattle.mc_script.specs.Lines.{bench_of, LineDone}
 use Rattle.mc_script.specs.Plays.{Bench, Played}
-use Rattle.mc_script.specs.Sums.{Counted, listed, DumpsLast, result_line, dump_text, dumps_text, Tallied}
+use Rattle.mc_script.specs.Sums.{Counted, result_list, DumpsLast, result_line, dump_text, dumps_text, Tallied}
 use Rattle.mc_script.proofs.PlayLemmas.{plays_on, plays_none, played_on, played_none}
 use Rattle.mc_script.proofs.LinedLemmas.{at_stands}
 
@@ -60,23 +60,23 @@ count_most test (q ∷ rs) = more (test q) (count_most test rs)
 
 -- ---- the results of a play
 
-results_by : (t : Step) (ts : List Step) (o : Option LineResult) → t.result ≡ o → results (t ∷ ts) ≡ listed o ++ results ts
+results_by : (t : Step) (ts : List Step) (o : Option LineResult) → t.result ≡ o → results (t ∷ ts) ≡ result_list o ++ results ts
 results_by t ts None e = rw e refl
 results_by t ts (Some r) e = rw e refl
 
-pub results_cons : (t : Step) (ts : List Step) → results (t ∷ ts) ≡ listed t.result ++ results ts
+pub results_cons : (t : Step) (ts : List Step) → results (t ∷ ts) ≡ result_list t.result ++ results ts
 results_cons t ts = results_by t ts t.result refl
 
 -- ---- dump lines
 
 -- a result on its own line, before those of others
-lines_by : (o : Option LineResult) (rs : List LineResult) → flat_map (λ r. shown r ++ codes "\n") (listed o ++ rs) ≡ result_line o ++ flat_map (λ r. shown r ++ codes "\n") rs
+lines_by : (o : Option LineResult) (rs : List LineResult) → flat_map (λ r. text_of_result r ++ codes "\n") (result_list o ++ rs) ≡ result_line o ++ flat_map (λ r. text_of_result r ++ codes "\n") rs
 lines_by None rs = refl
 lines_by (Some r) rs = refl
 
 dump_by : (t : Step) (ts : List Step) (b : Bool) → is_dump t.line ≡ b → dump_lines (t ∷ ts) ≡ cond b (result_line t.result) [] ++ dump_lines ts
 dump_by t ts true e =
-    rw e (ap (λ (rs : List LineResult). flat_map (λ r. shown r ++ codes "\n") rs) (results_cons t (filter (λ t. is_dump t.line) ts)) ∙ lines_by t.result (results (filter (λ t. is_dump t.line) ts)))
+    rw e (ap (λ (rs : List LineResult). flat_map (λ r. text_of_result r ++ codes "\n") rs) (results_cons t (filter (λ t. is_dump t.line) ts)) ∙ lines_by t.result (results (filter (λ t. is_dump t.line) ts)))
 dump_by t ts false e = rw e refl
 
 -- a dump line changes nothing, and its result is that of any dump line of this name
@@ -177,12 +177,12 @@ module _ {N : Type 0} (state : N → DeviceState) (bench : N → BenchState) whe
       let end : last_state s (plays s ls all.0) ≡ h.here = all.3 ∙ ap (λ (ts : List Step). last_state h.here ts) none in
       record { worn = all.0; played = all.1; at = subst (λ (u : State). IsPlayerAt state bench p u) (sym end) h.at; counted = subst (λ (rs : List LineResult). Counted c rs) (sym are) h.counted }
 
-  few_on : (o : Option LineResult) (rs : List LineResult) (i : ℕ) → length rs ≤ i → length (rs ++ listed o) ≤ i + 1
+  few_on : (o : Option LineResult) (rs : List LineResult) (i : ℕ) → length rs ≤ i → length (rs ++ result_list o) ≤ i + 1
   few_on None rs i h = let e : length (rs ++ []) ≡ length rs = ap length (append-nil rs) in omega (arith, h, e)
   few_on (Some r) rs i h = let e : length (rs ++ r ∷ []) ≡ length rs + 1 = length-append rs (r ∷ []) in omega (arith, h, e)
 
   pub counting_on : {R : Type 0} (told : R → List Turn → R → Type 0) (s : State) (ls : List (ℕ × DeckLine)) (a : Bench) (left : List (ℕ × DeckLine)) (n : ℕ) (l : DeckLine) (p q : Player N) (c d : Counts) (i : ℕ) (before after : R) (answer : Option Answer)
-      → (h : Counting s ls a ((n, l) ∷ left) p c i) → LineDone state bench told p l before after answer q → Counted d (h.done ++ listed (option_map (answer_value state q) answer)) → Counting s ls a left q d (i + 1)
+      → (h : Counting s ls a ((n, l) ∷ left) p c i) → LineDone state bench told p l before after answer q → Counted d (h.done ++ result_list (option_map (answer_value state q) answer)) → Counting s ls a left q d (i + 1)
   counting_on told s ls a left n l p q c d i before after answer h done counted =
       let line = done h.here n h.at in
       let w = line.0 in
@@ -191,15 +191,15 @@ module _ {N : Type 0} (state : N → DeviceState) (bench : N → BenchState) whe
       record {
         here = t.after;
         at = end.at;
-        done = h.done ++ listed t.result;
-        counted = subst (λ (o : Option LineResult). Counted d (h.done ++ listed o)) end.answers counted;
+        done = h.done ++ result_list t.result;
+        counted = subst (λ (o : Option LineResult). Counted d (h.done ++ result_list o)) end.answers counted;
         few = few_on t.result h.done i h.few;
         rest = λ ws b played.
             let all = h.rest (w ∷ ws) b (played_on h.here (n, l) w left ws (bench_of state bench p) (bench_of state bench q) b end.played played) in
             let one = plays_on h.here (n, l) w left ws in (
               all.0,
               all.1,
-              all.2 ∙ ap (λ (ts : List Step). h.done ++ results ts) one ∙ ap (λ (x : List LineResult). h.done ++ x) (results_cons t (plays t.after left ws)) ∙ sym (append_assoc h.done (listed t.result) (results (plays t.after left ws))),
+              all.2 ∙ ap (λ (ts : List Step). h.done ++ results ts) one ∙ ap (λ (x : List LineResult). h.done ++ x) (results_cons t (plays t.after left ws)) ∙ sym (append_assoc h.done (result_list t.result) (results (plays t.after left ws))),
               all.3 ∙ ap (λ (ts : List Step). last_state h.here ts) one,
             );
       }

@@ -6,7 +6,7 @@ use Rattle.mc_model_device.specs.Device.{Entry, GrowsBy}
 use Rattle.mc_model_card.specs.Items.{StopAt, moves}
 use Rattle.mc_model_play.specs.DeckGrammar.{DeckLine}
 use Rattle.mc_model_play.specs.DeckGrammar as line
-use Rattle.mc_model_play.specs.Play.{Armed, Unarmed, ArmedCut, ArmedFail, Live, Running, Unpowered, Muted, Warm, State, Cold, Hot, WornAt, Step, step, power_part, hit_of, moves_with, power_moves, warmed, line_command, card_line, moves_of, MayHit, tape_worn, Accounts, AccountsForLine, words_left, chunk, with_entry, ends_tape, worn_in, EndsAs, kind_of}
+use Rattle.mc_model_play.specs.Play.{Armed, Unarmed, ArmedCut, ArmedFail, Live, Running, Unpowered, Muted, Warm, State, Cold, Hot, WornAt, Step, step, power_part, hit_of, moves_with, power_moves, play_at_power, line_command, card_line, moves_of, MayHit, tape_worn, Accounts, AccountsForLine, words_left, chunk, with_entry, ends_tape, worn_in, EndsAs, kind_of}
 use Rattle.mc_model_device.specs.PowerUp.{Base, OnCard, AtFault}
 use Rattle.mc_script.specs.Plays.{TapeTells, TapeIs}
 
@@ -68,7 +68,7 @@ moves_hot s l e = ap (λ p. p + moves (step (Hot s) l None).items) e ∙ nothing
 pub line_moved : (s : State) (l : ℕ × DeckLine) (w : Option WornAt) → MayReach (moves_of s l) w → Moved (moves_of s l) (step s l w)
 unfolding moves_of step
 line_moved (Cold m b a) (n, line.Power) w h =
-    let p = power_moves (warmed m b a) in
+    let p = power_moves (play_at_power m b a) in
     let e : p + 0 ≡ p = omega arith in
     moved_as (p + 0) p _ e (record { moves = refl; reaches = hit_reaches a p w (subst (λ k. MayReach k w) e h) })
 line_moved (Cold m b a) (n, _) w h = record { moves = refl; reaches = tt }

@@ -6,23 +6,23 @@ use Rattle.mc_model_device.specs.declared.device.Stop.TheVariants.{Off, Worn}
 use Rattle.mc_model_device.specs.Orders.{Answer as Ended}
 use Rattle.mc_model_device.specs.Device.{DeviceState, BenchState, Entry, Wrote, BenchWrote, Makes, GrowsBy, done_entries, torn_entries, next_count}
 use Rattle.mc_model_play.specs.DeckGrammar.{DeckLine}
-use Rattle.mc_model_device.specs.Image.{laid}
-use Rattle.mc_model_device.specs.Stopped.{torn}
+use Rattle.mc_model_device.specs.Image.{image_with}
+use Rattle.mc_model_device.specs.Stopped.{image_after_stop}
 use Rattle.mc_model_card.specs.Items.{Item, StopAt}
 use Rattle.mc_model_machine.specs.Chain.{Turn}
 use Rattle.mc_model_play.specs.Play as play
-use Rattle.mc_model_play.specs.Play.{Unarmed, LineResult, State, Hot, Warm, Step, is_card_line, armed_in, moves_of, worn_entry, MayHit, EndsAs, worn_in, StandsAtEach}
-use Rattle.mc_model_device.proofs.DeviceLemmas.{DoneAll, makes-done}
+use Rattle.mc_model_play.specs.Play.{Unarmed, LineResult, State, Hot, Warm, Step, is_card_line, armed_stop_in, moves_of, worn_entry, MayHit, EndsAs, worn_in, StandsAtEach}
+use Rattle.mc_model_device.proofs.DeviceLemmas.{DoneAll, makes_done}
 use Rattle.mc_script.specs.declared.answer.Answer.{Answer}
 use Rattle.mc_script.specs.declared.armed.Armed.{Armed}
 use Rattle.mc_script.specs.declared.player.Player.{Player}
 use Rattle.mc_script.specs.Players.{answer_value, armed_value, cut_place, device_of, CanArm, IsUnfused, IsPlayerAt}
-use Rattle.mc_script.specs.Counting.{raised, when_poked, cuts_due, fails_due, line_powers, line_pokes, line_cuts, line_fails, cut_by, worn_by, LineCounts}
+use Rattle.mc_script.specs.Counting.{count_after_rises, when_poked, cuts_due, fails_due, line_powers, line_pokes, line_cuts, line_fails, count_of_cuts, worn_by, LineCounts}
 use Rattle.mc_script.specs.Arming.{armed_bench}
 use Rattle.mc_script.specs.Lines.{Stepped}
 use Rattle.mc_script.specs.Runs.{StoppedAtWrite}
 use Rattle.mc_script.proofs.FuseLemmas.{Past}
-use Rattle.mc_script.proofs.EntryLemmas.{length-done, length-torn, ends-done, ends-torn, worn-done, worn-torn, laid-done, laid-torn}
+use Rattle.mc_script.proofs.EntryLemmas.{length_done, length_torn, ends_done, ends_torn, worn_done, worn_torn, laid_done, laid_torn}
 use Rattle.mc_script.proofs.AccountLemmas.{StopsStand, SizesTo, each_done, each_torn}
 use Rattle.mc_script.proofs.BenchLemmas.{Burnt, SameCalls, Raises, FusedAt, HaltedList, burnt_calls, burnt, halted, words_written, sizes_before}
 use Rattle.mc_script.proofs.HitLemmas.{NotHit, not_hit, HitBy, hit_by, place_is, CallsOf, armed_calls}
@@ -31,7 +31,7 @@ use Rattle.mc_script.proofs.HitLemmas.{NotHit, not_hit, HitBy, hit_by, place_is,
 
 -- a bench on which `power` was called so often
 abbrev pub called : ℕ → BenchState → BenchState
-called n b = record b { powers = raised b.powers n }
+called n b = record b { powers = count_after_rises b.powers n }
 
 -- the armed stop of a line was handed to its device, on which `power` was called so often
 pub record Handed (d : DeviceState) (b : BenchState) (n : ℕ) (a : Armed) (e : DeviceState) (c : BenchState) : Type 0 where
@@ -67,13 +67,13 @@ calls_are b c e n a same is = armed_calls a (called n b) c e same is
 
 -- the counts of a line under an armed stop
 line_counts : (n : ℕ) (l : DeckLine) (s : State) (result : LineResult) (items whole : List Item) (stop : Option StopAt) (m : ℕ) (pairs : List (List ℕ × List ℕ)) (turns : List Turn) (w : Warm)
-    (np : ℕ) (a : Armed) (b c : BenchState) (d e : DeviceState) → Worth s l np → armed_value a ≡ armed_in s → w.armed ≡ Unarmed → CallsOf (called np b) 0 (armed_value a) c
-    → e.cuts ≡ raised d.cuts (cut_by stop) → e.faults ≡ raised d.faults (worn_by stop) → LineCounts b d (stopped_step n l s result items whole stop m pairs turns w) c e
+    (np : ℕ) (a : Armed) (b c : BenchState) (d e : DeviceState) → Worth s l np → armed_value a ≡ armed_stop_in s → w.armed ≡ Unarmed → CallsOf (called np b) 0 (armed_value a) c
+    → e.cuts ≡ count_after_rises d.cuts (count_of_cuts stop) → e.faults ≡ count_after_rises d.faults (worn_by stop) → LineCounts b d (stopped_step n l s result items whole stop m pairs turns w) c e
 line_counts n l s result items whole stop m pairs turns w np a b c d e worth armed free calls cuts faults =
     record {
       counts = record {
-        powers = calls.powers ∙ ap (λ (k : ℕ). raised b.powers k) (sym worth.powers);
-        pokes = calls.pokes ∙ ap (λ (k : ℕ). raised b.pokes k) (sym worth.pokes);
+        powers = calls.powers ∙ ap (λ (k : ℕ). count_after_rises b.powers k) (sym worth.powers);
+        pokes = calls.pokes ∙ ap (λ (k : ℕ). count_after_rises b.pokes k) (sym worth.pokes);
         poked = calls.poked ∙ ap (λ (k : ℕ). when_poked b k) (sym worth.pokes);
         cuts = cuts;
         faults = faults;
@@ -81,17 +81,17 @@ line_counts n l s result items whole stop m pairs turns w np a b c d e worth arm
       };
       arms = record {
         arms =
-            let h : c.arms ≤ b.arms + cuts_due (armed_in s) = subst (λ (x : play.Armed). c.arms ≤ b.arms + cuts_due x) armed calls.arms in
+            let h : c.arms ≤ b.arms + cuts_due (armed_stop_in s) = subst (λ (x : play.Armed). c.arms ≤ b.arms + cuts_due x) armed calls.arms in
             let z : cuts_due w.armed ≡ 0 = ap cuts_due free in
             omega (arith, h, z);
         wears =
-            let h : c.wears ≤ b.wears + fails_due (armed_in s) = subst (λ (x : play.Armed). c.wears ≤ b.wears + fails_due x) armed calls.wears in
+            let h : c.wears ≤ b.wears + fails_due (armed_stop_in s) = subst (λ (x : play.Armed). c.wears ≤ b.wears + fails_due x) armed calls.wears in
             let z : fails_due w.armed ≡ 0 = ap fails_due free in
             omega (arith, h, z);
       };
     }
 
-raised_cut : (s : Stop) (d e : DeviceState) (k : ℕ) (x : List ℕ) → Raises s d e → let t : StopAt = record { kind = s; at = k; left = x } in (e.cuts ≡ raised d.cuts (cut_by (Some t))) × (e.faults ≡ raised d.faults (worn_by (Some t)))
+raised_cut : (s : Stop) (d e : DeviceState) (k : ℕ) (x : List ℕ) → Raises s d e → let t : StopAt = record { kind = s; at = k; left = x } in (e.cuts ≡ count_after_rises d.cuts (count_of_cuts (Some t))) × (e.faults ≡ count_after_rises d.faults (worn_by (Some t)))
 raised_cut Off d e k x r = r
 raised_cut Worn d e k x r = r
 
@@ -106,11 +106,11 @@ record HitEntries (p : DeviceState) (s : State) (l : ℕ × DeckLine) (ws : List
   each : StandsAtEach p.words s l 0 (torn_entries ws k x how)
   ends : EndsAs (Some how) (torn_entries ws k x how)
   worn : worn_in 0 (torn_entries ws k x how) ≡ worn_entry k x (Some how)
-  left : play.laid_entries p.words (torn_entries ws k x how) ≡ torn p.words ws k x
+  left : play.laid_entries p.words (torn_entries ws k x how) ≡ image_after_stop p.words ws k x
 
 -- ---- the worn stop of a line
 
-may_hit : (s : Stop) (state : State) (n : ℕ) (l : DeckLine) (k : ℕ) (x : List ℕ) → is_card_line l ≡ true → 1 ≤ k → k ≤ moves_of state (n, l) → (s ≡ Worn → play.IsBeforeCut (armed_in state) k)
+may_hit : (s : Stop) (state : State) (n : ℕ) (l : DeckLine) (k : ℕ) (x : List ℕ) → is_card_line l ≡ true → 1 ≤ k → k ≤ moves_of state (n, l) → (s ≡ Worn → play.IsBeforeCut (armed_stop_in state) k)
     → MayHit state (n, l) (worn_entry k x (Some s))
 may_hit Off state n l k x card low high first = tt
 may_hit Worn state n l k x card low high first = record { card_line = card; low = low; high = high; first = first refl }
@@ -123,7 +123,7 @@ module _ {N : Type 0} (state : N → DeviceState) (bench : N → BenchState) (wr
 
   -- what comes of writes that were all made: no stop hits the line
   pub record Went (d f : N) (a : Armed) (n : ℕ) (ws : List (ℕ × List ℕ)) : Type 0 where
-    pub words : (state f).words ≡ laid (state d).words ws
+    pub words : (state f).words ≡ image_with (state d).words ws
     pub tape : GrowsBy (state d).tape (done_entries ws) (state f).tape
     pub cuts : (state f).cuts ≡ (state d).cuts
     pub faults : (state f).faults ≡ (state d).faults
@@ -138,12 +138,12 @@ module _ {N : Type 0} (state : N → DeviceState) (bench : N → BenchState) (wr
   pub went : (d u e f : N) (a : Armed) (n : ℕ) (ws : List (ℕ × List ℕ)) → CanArm a → Handed (state d) (bench d) n a (state u) (bench u) → Makes wrote u ws (Ok tt) e
       → Freed (state e) (bench e) (state f) (bench f) → Went d f a n ws
   went d u e f a n ws can handed made freed =
-      let done : DoneAll (state u) ws (state e) = makes-done state wrote obeys ws u e handed.on made in
+      let done : DoneAll (state u) ws (state e) = makes_done state wrote obeys ws u e handed.on made in
       let near : Burnt (bench u) (length ws) (bench e) = burnt state bench wrote obeys burns fits ws u e handed.on made in
       let b : BenchState = called n (bench d) in
       let same : SameCalls (armed_bench a b) (bench e) = subst (λ (x : BenchState). SameCalls x (bench e)) handed.bench (burnt_calls (bench u) (bench e) (length ws) near) in
       record {
-        words = ap (λ (x : DeviceState). x.words) freed.state ∙ done.words ∙ ap (λ (x : List (List ℕ)). laid x ws) handed.words;
+        words = ap (λ (x : DeviceState). x.words) freed.state ∙ done.words ∙ ap (λ (x : List (List ℕ)). image_with x ws) handed.words;
         tape = subst (λ (x : DeviceState). GrowsBy (state d).tape (done_entries ws) x.tape) (sym freed.state) (subst (λ (x : Option (List Entry)). GrowsBy x (done_entries ws) (state e).tape) handed.tape done.tape);
         cuts = ap (λ (x : DeviceState). x.cuts) freed.state ∙ done.cuts ∙ handed.cuts;
         faults = ap (λ (x : DeviceState). x.faults) freed.state ∙ done.faults ∙ handed.faults;
@@ -167,13 +167,13 @@ module _ {N : Type 0} (state : N → DeviceState) (bench : N → BenchState) (wr
         played = record {
           may = tt;
           counts = line_counts n l s result items whole None m pairs turns w np p.armed (bench d) (bench f) (state d) (state f) worth at.armed free did.calls did.cuts did.faults;
-          steady = λ h. subst (λ (i : ℕ). None ≡ play.steady_at (armed_in s) l i) (number ∙ sym moves) (subst (λ (x : play.Armed). None ≡ play.steady_at x l (length ws)) at.armed (did.missed.steady l));
+          steady = λ h. subst (λ (i : ℕ). None ≡ play.steady_at (armed_stop_in s) l i) (number ∙ sym moves) (subst (λ (x : play.Armed). None ≡ play.steady_at x l (length ws)) at.armed (did.missed.steady l));
           tape = record {
             entries = done_entries ws;
             grows = did.tape;
-            accounts = record { count = length-done ws ∙ number; each = each_done (state d).words s (n, l) 0 ws stands did.sizes; ends = ends-done ws };
-            worn = worn-done 0 ws;
-            left = laid-done (state d).words ws ∙ sym did.words;
+            accounts = record { count = length_done ws ∙ number; each = each_done (state d).words s (n, l) 0 ws stands did.sizes; ends = ends_done ws };
+            worn = worn_done 0 ws;
+            left = laid_done (state d).words ws ∙ sym did.words;
           };
         };
       }
@@ -185,7 +185,7 @@ module _ {N : Type 0} (state : N → DeviceState) (bench : N → BenchState) (wr
     pub low : 1 ≤ k
     pub high : k ≤ length ws
     pub size : length x ≡ 8
-    pub words : (state f).words ≡ torn (state d).words ws k x
+    pub words : (state f).words ≡ image_after_stop (state d).words ws k x
     pub tape : GrowsBy (state d).tape (torn_entries ws k x s) (state f).tape
     pub raises : Raises s (state d) (state f)
     pub calls : CallsOf (called n (bench d)) 0 (armed_value a) (bench f)
@@ -212,7 +212,7 @@ module _ {N : Type 0} (state : N → DeviceState) (bench : N → BenchState) (wr
           low = stop.low;
           high = stop.high;
           size = h.size;
-          words = ap (λ (y : DeviceState). y.words) freed.state ∙ h.words ∙ ap (λ (y : List (List ℕ)). torn y ws k x) handed.words;
+          words = ap (λ (y : DeviceState). y.words) freed.state ∙ h.words ∙ ap (λ (y : List (List ℕ)). image_after_stop y ws k x) handed.words;
           tape = subst (λ (y : DeviceState). GrowsBy (state d).tape (torn_entries ws k x s) y.tape) (sym freed.state) (subst (λ (y : Option (List Entry)). GrowsBy y (torn_entries ws k x s) (state e).tape) handed.tape h.tape);
           raises = raises_over s (state d) (state u) (state e) (state f) handed.cuts handed.faults freed.state h.raises;
           calls = calls_are (bench d) (bench e) (bench f) n a same freed.bench;
@@ -229,11 +229,11 @@ module _ {N : Type 0} (state : N → DeviceState) (bench : N → BenchState) (wr
   hit_entries p s l ws (suc j) how x low high size sizes stands =
       let below : j < length ws = omega (arith, high) in
       record {
-        count = length-torn ws j x how below;
+        count = length_torn ws j x how below;
         each = each_torn p.words s l 0 ws j x how stands (sizes j refl) size;
-        ends = ends-torn ws j x how below;
-        worn = worn-torn 0 ws j x how below ∙ ap (λ (i : ℕ). worn_entry i x (Some how)) (omega arith);
-        left = laid-torn p.words ws j x how below;
+        ends = ends_torn ws j x how below;
+        worn = worn_torn 0 ws j x how below ∙ ap (λ (i : ℕ). worn_entry i x (Some how)) (omega arith);
+        left = laid_torn p.words ws j x how below;
       }
 
   -- the line that a stop hit, with the step that its play takes
@@ -246,7 +246,7 @@ module _ {N : Type 0} (state : N → DeviceState) (bench : N → BenchState) (wr
       let f = device_of q in
       let t : StopAt = record { kind = how; at = k; left = x } in
       let high : k ≤ m = let h = did.high in omega (arith, h, number) in
-      let by : HitBy (armed_in s) m (bench d).steady how k x (worn_entry k x (Some how)) = subst (λ (y : play.Armed). HitBy y m (bench d).steady how k x (worn_entry k x (Some how))) at.armed (did.by m high) in
+      let by : HitBy (armed_stop_in s) m (bench d).steady how k x (worn_entry k x (Some how)) = subst (λ (y : play.Armed). HitBy y m (bench d).steady how k x (worn_entry k x (Some how))) at.armed (did.by m high) in
       let rose = raised_cut how (state d) (state f) k x did.raises in
       let entries : HitEntries (state d) s (n, l) ws k how x = hit_entries (state d) s (n, l) ws k how x did.low did.high did.size did.sizes stands in
       record {
@@ -255,7 +255,7 @@ module _ {N : Type 0} (state : N → DeviceState) (bench : N → BenchState) (wr
         played = record {
           may = may_hit how s n l k x worth.card did.low (subst (λ (i : ℕ). k ≤ i) (sym moves) high) by.first;
           counts = line_counts n l s result items whole (Some t) k pairs turns w np p.armed (bench d) (bench f) (state d) (state f) worth at.armed free did.calls rose.0 rose.1;
-          steady = λ h. subst (λ (i : ℕ). worn_entry k x (Some how) ≡ play.steady_at (armed_in s) l i) (sym moves) (by.steady l worth.card h);
+          steady = λ h. subst (λ (i : ℕ). worn_entry k x (Some how) ≡ play.steady_at (armed_stop_in s) l i) (sym moves) (by.steady l worth.card h);
           tape = record {
             entries = torn_entries ws k x how;
             grows = did.tape;

@@ -5,13 +5,13 @@ use Rattle.mc_model_machine.specs.declared.instruction.Ins.{Ins}
 use Rattle.mc_model_machine.specs.declared.instruction.DecodeFault.{DecodeFault}
 use Rattle.mc_model_machine.specs.declared.instruction.DecodeFault.TheVariants.{Undefined, Past}
 use Rattle.mc_model_device.specs.Bytes.{lookup}
-use Rattle.mc_model_machine.specs.Code.{decoded}
-use Rattle.mc_model_device.specs.Pieces.{touched}
+use Rattle.mc_model_machine.specs.Code.{instruction_at}
+use Rattle.mc_model_device.specs.Pieces.{touched_words}
 use Rattle.mc_model_machine.specs.Row.{RowEnd, Abends, Does, row}
 use Rattle.mc_model_device.specs.Image.{Two}
 use Rattle.mc_model_device.specs.Stopped.{cost}
 use Rattle.mc_model_card.specs.Items.{moves, write_items}
-use Rattle.mc_model_machine.specs.Chain.{Chain, Turn, Acted, Continues, write_of, words_of_write, code_in, around, stepped, row_turn, fetched, acted, turn_of, end_of}
+use Rattle.mc_model_machine.specs.Chain.{Chain, Turn, Acted, Continues, write_of, words_of_write, code_in, around, frame_at, row_turn, turn_of_fetch, turn_of_chain, turn_of, end_of}
 use Rattle.mc_model_play.specs.TraceText.{before_stop}
 
 -- the device writes of a turn
@@ -23,7 +23,7 @@ turn_moves (Some w) = cost Two w
 
 write_moves : (n : List ℕ) (changes : Option (List (ℕ × List ℕ))) → moves (write_items (write_of n changes)) ≡ turn_moves (words_of_write changes)
 write_moves n None = refl
-write_moves n (Some ps) = let e : cost Two (length (touched ps)) + 0 ≡ cost Two (length (touched ps)) = omega arith in e
+write_moves n (Some ps) = let e : cost Two (length (touched_words ps)) + 0 ≡ cost Two (length (touched_words ps)) = omega arith in e
 
 -- what is true of a turn
 pub record TurnIsTold (t : Acted) : Type 0 where
@@ -34,14 +34,14 @@ row_told : (ch : Chain) (i : Ins) (r : RowEnd) → TurnIsTold (row_turn ch i r)
 row_told ch i (Abends a) = record { moves = refl; end = refl }
 row_told ch i (Does d) = record { moves = write_moves ch.frame.name d.effect.changes; end = refl }
 
-fetched_told : (ch : Chain) (r : Result (Ins × ℕ) DecodeFault) → TurnIsTold (fetched ch r)
+fetched_told : (ch : Chain) (r : Result (Ins × ℕ) DecodeFault) → TurnIsTold (turn_of_fetch ch r)
 fetched_told ch (Err Undefined) = record { moves = refl; end = refl }
 fetched_told ch (Err Past) = record { moves = refl; end = refl }
-fetched_told ch (Ok i) = row_told ch i.0 (row i.0 (stepped ch.frame i.1) ch.public (around ch))
+fetched_told ch (Ok i) = row_told ch i.0 (row i.0 (frame_at ch.frame i.1) ch.public (around ch))
 
-acted_told : (ch : Chain) → TurnIsTold (acted ch)
-unfolding acted
-acted_told ch = fetched_told ch (decoded (code_in (lookup ch.map ch.frame.name)) ch.frame.at)
+acted_told : (ch : Chain) → TurnIsTold (turn_of_chain ch)
+unfolding turn_of_chain
+acted_told ch = fetched_told ch (instruction_at (code_in (lookup ch.map ch.frame.name)) ch.frame.at)
 
 pub is_told : (n : ℕ) (ch : Chain) → TurnIsTold (turn_of n ch)
 is_told zero ch = record { moves = refl; end = refl }
@@ -52,14 +52,14 @@ row_counts : (ch next : Chain) (i : Ins) (r : RowEnd) → (row_turn ch i r).foll
 row_counts ch next i (Abends a) e = refl
 row_counts ch next i (Does d) e = refl
 
-fetched_counts : (ch next : Chain) (r : Result (Ins × ℕ) DecodeFault) → (fetched ch r).follows ≡ Continues next → (fetched ch r).count ≡ 1
+fetched_counts : (ch next : Chain) (r : Result (Ins × ℕ) DecodeFault) → (turn_of_fetch ch r).follows ≡ Continues next → (turn_of_fetch ch r).count ≡ 1
 fetched_counts ch next (Err Undefined) e = absurd (cc e)
 fetched_counts ch next (Err Past) e = absurd (cc e)
-fetched_counts ch next (Ok i) e = row_counts ch next i.0 (row i.0 (stepped ch.frame i.1) ch.public (around ch)) e
+fetched_counts ch next (Ok i) e = row_counts ch next i.0 (row i.0 (frame_at ch.frame i.1) ch.public (around ch)) e
 
-pub acted_counts : (ch next : Chain) → (acted ch).follows ≡ Continues next → (acted ch).count ≡ 1
-unfolding acted
-acted_counts ch next e = fetched_counts ch next (decoded (code_in (lookup ch.map ch.frame.name)) ch.frame.at) e
+pub acted_counts : (ch next : Chain) → (turn_of_chain ch).follows ≡ Continues next → (turn_of_chain ch).count ≡ 1
+unfolding turn_of_chain
+acted_counts ch next e = fetched_counts ch next (instruction_at (code_in (lookup ch.map ch.frame.name)) ch.frame.at) e
 
 -- ---- the turns before a stop
 

@@ -4,14 +4,14 @@ use Rattle.mc_model_device.specs.declared.device.Stop.{Stop}
 use Rattle.mc_model_device.specs.declared.device.Stop.TheVariants as stop
 use Rattle.mc_model_device.specs.Device.{DeviceState, BenchState, next_count}
 use Rattle.mc_model_card.specs.Items.{StopAt}
-use Rattle.mc_model_play.specs.Play.{Armed, Unarmed, ArmedCut, ArmedFail, State, Cold, Step, armed_in}
+use Rattle.mc_model_play.specs.Play.{Armed, Unarmed, ArmedCut, ArmedFail, State, Cold, Step, armed_stop_in}
 use Rattle.mc_model_play.specs.DeckGrammar.{DeckLine}
 use Rattle.mc_model_play.specs.DeckGrammar as line
 
 -- a count that rose so often; at its last value it stays
-abbrev pub raised : ℕ → ℕ → ℕ
-raised n zero = n
-raised n (suc k) = raised (next_count n) k
+abbrev pub count_after_rises : ℕ → ℕ → ℕ
+count_after_rises n zero = n
+count_after_rises n (suc k) = count_after_rises (next_count n) k
 
 -- the sum of a number over lines that were played
 abbrev pub total : (Step → ℕ) → List Step → ℕ
@@ -59,9 +59,9 @@ cut_kind stop.Off = 1
 cut_kind stop.Worn = 0
 
 -- a line that a cut hit
-abbrev pub cut_by : Option StopAt → ℕ
-cut_by None = 0
-cut_by (Some t) = cut_kind t.kind
+abbrev pub count_of_cuts : Option StopAt → ℕ
+count_of_cuts None = 0
+count_of_cuts (Some t) = cut_kind t.kind
 
 -- a stop that is a refused write
 abbrev pub worn_kind : Stop → ℕ
@@ -82,11 +82,11 @@ when_poked b (suc k) = b.powers
 
 -- the counts of a bench before and after lines that are worth so many calls and stops, whose pokes all come before power does
 pub record CountsCalls (b : BenchState) (d : DeviceState) (power_calls poke_calls cut worn : ℕ) (c : BenchState) (e : DeviceState) : Type 0 where
-  pub powers : c.powers ≡ raised b.powers power_calls
-  pub pokes : c.pokes ≡ raised b.pokes poke_calls
+  pub powers : c.powers ≡ count_after_rises b.powers power_calls
+  pub pokes : c.pokes ≡ count_after_rises b.pokes poke_calls
   pub poked : c.poked ≡ when_poked b poke_calls
-  pub cuts : e.cuts ≡ raised d.cuts cut
-  pub faults : e.faults ≡ raised d.faults worn
+  pub cuts : e.cuts ≡ count_after_rises d.cuts cut
+  pub faults : e.faults ≡ count_after_rises d.faults worn
   pub steady : c.steady ≡ b.steady
 
 -- the calls that arm a stop, between two states with stops that are still to be handed to the device
@@ -96,11 +96,11 @@ pub record Arms (b : BenchState) (due : Armed) (cuts fails : ℕ) (c : BenchStat
 
 -- the counts of one line
 pub record LineCounts (b : BenchState) (d : DeviceState) (t : Step) (c : BenchState) (e : DeviceState) : Type 0 where
-  pub counts : CountsCalls b d (line_powers t.line) (line_pokes t.before t.line) (cut_by t.stop) (worn_by t.stop) c e
-  pub arms : Arms b (armed_in t.before) (line_cuts t.line) (line_fails t.line) c (armed_in t.after)
+  pub counts : CountsCalls b d (line_powers t.line) (line_pokes t.before t.line) (count_of_cuts t.stop) (worn_by t.stop) c e
+  pub arms : Arms b (armed_stop_in t.before) (line_cuts t.line) (line_fails t.line) c (armed_stop_in t.after)
 
 -- the counts of a play that began with such a stop still to be handed to the device
 pub record PlayCounts (b : BenchState) (d : DeviceState) (due : Armed) (ts : List Step) (c : BenchState) (e : DeviceState) : Type 0 where
-  pub counts : CountsCalls b d (total (λ t. line_powers t.line) ts) (total (λ t. line_pokes t.before t.line) ts) (total (λ t. cut_by t.stop) ts) (total (λ t. worn_by t.stop) ts) c e
+  pub counts : CountsCalls b d (total (λ t. line_powers t.line) ts) (total (λ t. line_pokes t.before t.line) ts) (total (λ t. count_of_cuts t.stop) ts) (total (λ t. worn_by t.stop) ts) c e
   pub arms : c.arms ≤ b.arms + cuts_due due + total (λ t. line_cuts t.line) ts
   pub wears : c.wears ≤ b.wears + fails_due due + total (λ t. line_fails t.line) ts

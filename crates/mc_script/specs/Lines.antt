@@ -1,9 +1,9 @@
 -- What one line of a deck does to a player and its device, and what a whole deck does.
 use Rattle.std.specs.Prelude.{◌≡◌, ℕ, cond, nat_lt, List, [], length, slice_set, Option, option_map}
-use Rattle.mc_model_device.specs.Device.{DeviceState, BenchState, poked_times}
+use Rattle.mc_model_device.specs.Device.{DeviceState, BenchState, bench_after_pokes}
 use Rattle.mc_model_machine.specs.Chain.{Turn}
 use Rattle.mc_model_play.specs.DeckGrammar.{DeckLine}
-use Rattle.mc_model_play.specs.Play.{State, WornAt, Step, step, formatted}
+use Rattle.mc_model_play.specs.Play.{State, WornAt, Step, step, formatted_image}
 use Rattle.mc_model_play.specs.TraceText.{shown_turns}
 use Rattle.mc_script.specs.declared.answer.Answer.{Answer}
 use Rattle.mc_script.specs.declared.player.Player.{Player}
@@ -32,13 +32,13 @@ module _ {N : Type 0} (state : N → DeviceState) (bench : N → BenchState) whe
 
   -- a device before the first power line that was formatted
   pub record IsFormatted (d e : N) : Type 0 where
-    pub device : state e ≡ record (state d) { words = formatted (state d).words }
-    pub calls : bench e ≡ poked_times 5 (bench d)
+    pub device : state e ≡ record (state d) { words = formatted_image (state d).words }
+    pub calls : bench e ≡ bench_after_pokes 5 (bench d)
 
   -- a device before the first power line with one word set, where it has the place
   pub record IsPoked (d : N) (at : ℕ) (fill : List ℕ) (e : N) : Type 0 where
     pub device : state e ≡ record (state d) { words = slice_set (state d).words at fill }
-    pub calls : bench e ≡ poked_times (cond (nat_lt at (length (state d).words)) 1 0) (bench d)
+    pub calls : bench e ≡ bench_after_pokes (cond (nat_lt at (length (state d).words)) 1 0) (bench d)
 
 module _ {N R : Type 0} (state : N → DeviceState) (bench : N → BenchState) (told : R → List Turn → R → Type 0) where
   -- a line that was played with this worn stop, if it had one, and told

@@ -105,7 +105,7 @@ module _ {N : Type 0} (state : N → DeviceState) (bench : N → BenchState) whe
   pub record IsPlayerAt (p : Player N) (s : State) : Type 0 where
     pub stands : StateIs state p.power p.card s
     pub budget : p.budget ≡ budget_in s
-    pub armed : armed_value p.armed ≡ play.armed_in s
+    pub armed : armed_value p.armed ≡ play.armed_stop_in s
     pub some : 1 ≤ p.budget
     pub most : p.budget ≤ 65536
     pub can_arm : CanArm p.armed

@@ -3,7 +3,7 @@ use Rattle.std.specs.Prelude.{◌≡◌, ℕ, ◌<◌, true, false, List, [], �
 use Rattle.mc_model_device.specs.Counts.{Rose}
 use Rattle.mc_model_device.specs.Device.{DeviceState, BenchState, Entry, GrowsBy}
 use Rattle.mc_model_play.specs.DeckGrammar.{DeckLine}
-use Rattle.mc_model_play.specs.Play.{State, WornAt, Step, armed_in, plays, start, last_state, Possible, StandsForState, steady_worn, tape_worn, Accounts, MayHit, moves_of, steady_at, worn_in, words_left, AccountsForLine}
+use Rattle.mc_model_play.specs.Play.{State, WornAt, Step, armed_stop_in, plays, start, last_state, Possible, StandsForState, steady_worn, tape_worn, Accounts, MayHit, moves_of, steady_at, worn_in, words_left, AccountsForLine}
 use Rattle.mc_model_play.specs.Laws.{HoldsOf}
 use Rattle.mc_model_play.specs.ReadyAgain.{AllFitJournal, ReadyAgain}
 pub use Rattle.mc_model_play.specs.Transcript.{plain_text, texts}
@@ -33,7 +33,7 @@ pub record StepTape (s : State) (l : ℕ × DeckLine) (w : Option WornAt) (t : S
 pub record PlayedLine (s : State) (l : ℕ × DeckLine) (w : Option WornAt) (t : Step) (a b : Bench) : Type 0 where
   pub may : MayHit s l w
   pub counts : LineCounts a.bench a.device t b.bench b.device
-  pub steady : a.bench.steady ≡ true → w ≡ steady_at (armed_in s) l.1 (moves_of s l)
+  pub steady : a.bench.steady ≡ true → w ≡ steady_at (armed_stop_in s) l.1 (moves_of s l)
   pub tape : StepTape s l w t a.device b.device
 
 -- ---- lines that were played
@@ -54,7 +54,7 @@ TapeIs m s ls ws (Some old) (Some new) = (entries : List Entry) × (new ≡ old 
 pub record Played (s : State) (ls : List (ℕ × DeckLine)) (ws : List (Option WornAt)) (a b : Bench) : Type 0 where
   pub possible : Possible s ls ws
   pub words : StandsForState b.device.words (last_state s (plays s ls ws))
-  pub counts : PlayCounts a.bench a.device (armed_in s) (plays s ls ws) b.bench b.device
+  pub counts : PlayCounts a.bench a.device (armed_stop_in s) (plays s ls ws) b.bench b.device
   pub steady : a.bench.steady ≡ true → ws ≡ steady_worn s ls
   pub tape : TapeIs a.device.words s ls ws a.device.tape b.device.tape
   pub unfused : IsUnfused b.bench

@@ -4,7 +4,7 @@ use Rattle.std.specs.List.{AllByRecursion}
 use Rattle.mc_model_play.specs.DeckGrammar.{DeckLine}
 use Rattle.mc_model_play.specs.DeckGrammar as line
 use Rattle.mc_model_play.specs.Play.{State, WornAt, LineResult, Step, plays, last_state, step}
-use Rattle.mc_model_play.specs.Transcript.{shown}
+use Rattle.mc_model_play.specs.Transcript.{text_of_result}
 use Rattle.mc_model_play.specs.Generator.{is_reply, is_abend, is_cut, is_off, is_ready, is_dump, results, count}
 use Rattle.mc_model_device.specs.Device.{DeviceState, BenchState}
 use Rattle.mc_base.specs.declared.refusals.WriteFault.{WriteFault}
@@ -27,9 +27,9 @@ pub record Counted (c : Counts) (rs : List LineResult) : Type 0 where
   pub readies : c.readies ≡ count is_ready rs
 
 -- a result, where there is one
-abbrev pub listed : Option LineResult → List LineResult
-listed None = []
-listed (Some r) = r ∷ []
+abbrev pub result_list : Option LineResult → List LineResult
+result_list None = []
+result_list (Some r) = r ∷ []
 
 -- ---- dump lines
 
@@ -41,7 +41,7 @@ DumpsLast (l ∷ ls) = (is_dump l.1 ≡ true → AllByRecursion (λ k. is_dump k
 -- a result on a line of its own
 abbrev pub result_line : Option LineResult → List ℕ
 result_line None = []
-result_line (Some r) = shown r ++ codes "\n"
+result_line (Some r) = text_of_result r ++ codes "\n"
 
 -- the result of a dump line in a state, on a line of its own
 abbrev pub dump_text : State → DeckLine → List ℕ

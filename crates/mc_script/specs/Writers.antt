@@ -18,9 +18,9 @@ use Rattle.mc_script.specs.declared.writer.Writer.{Writer}
 -- ---- texts
 
 -- by the fault that its sink had
-abbrev pub ended : Option WriteFault → Result (Unit {0}) WriteFault
-ended None = Ok tt
-ended (Some f) = Err f
+abbrev pub write_result : Option WriteFault → Result (Unit {0}) WriteFault
+write_result None = Ok tt
+write_result (Some f) = Err f
 
 -- the turns of which a line is written
 abbrev pub told_turns : Telling → List Turn → List Turn

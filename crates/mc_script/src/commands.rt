@@ -5,7 +5,7 @@ ghost use Rattle.mc_deck.specs.Lines.{GoodLine};
 ghost use Rattle.mc_card.specs.Parts.{device_in, card_in, seat_in, IsReadyCard};
 ghost use Rattle.mc_script.specs.Commands.{deck_line_of};
 ghost use Rattle.mc_script.specs.Runs.{RanAndTold};
-ghost use Rattle.mc_card.specs.Ends.{put_in};
+ghost use Rattle.mc_card.specs.Ends.{outcome_or_stop};
 
 use crate::loading::{LoadCommands, send};
 use crate::runner::Runner;
@@ -56,7 +56,7 @@ pub fn run_line<N: Nvm, R: Runner, L: Ledger>(
     requires good { GoodLine (deck_line_of command.now) }
     ensures done { RanAndTold N.state N.wrote R.told card.old
         (line_command (card_in N.state card.old) (seat_in N.state card.old) budget (deck_line_of command.now))
-        (put_in result into.new) card.new runner.old runner.new }
+        (outcome_or_stop result into.new) card.new runner.old runner.new }
     ensures lent { N.same (device_in card.old) (device_in card.new) }
 {
     match command {

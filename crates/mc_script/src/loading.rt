@@ -10,7 +10,7 @@ ghost use Rattle.mc_machine.specs.Turns.{outcome_value};
 ghost use Rattle.mc_card.specs.Parts.{device_in, card_in, seat_in, IsReadyCard};
 ghost use Rattle.mc_script.specs.Classes.{IsManaged};
 ghost use Rattle.mc_script.specs.Runs.{RanAndTold};
-ghost use Rattle.mc_card.specs.Ends.{put_in};
+ghost use Rattle.mc_card.specs.Ends.{outcome_or_stop};
 
 use crate::runner::Runner;
 use arrayvec::ArrayVec;
@@ -232,7 +232,7 @@ pub fn send<N: Nvm, R: Runner, L: Ledger>(
     requires managed { AllByRecursion IsManaged commands.old }
     ensures done { RanAndTold N.state N.wrote R.told card.old
         (send (card_in N.state card.old) (seat_in N.state card.old) budget commands.old)
-        (put_in result into.new) card.new runner.old runner.new }
+        (outcome_or_stop result into.new) card.new runner.old runner.new }
     ensures lent { N.same (device_in card.old) (device_in card.new) }
 {
     while let Some(bytes) = commands.next() {

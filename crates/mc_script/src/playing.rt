@@ -6,7 +6,7 @@ ghost use Rattle.mc_model_play.specs.Play.{start};
 ghost use Rattle.mc_model_play.specs.ReadyAgain.{IsLine};
 ghost use Rattle.mc_script.specs.Players.{IsUnfused};
 ghost use Rattle.mc_text.specs.Texts.{sunk_in};
-ghost use Rattle.mc_script.specs.Writers.{ended, text_by, turns_text};
+ghost use Rattle.mc_script.specs.Writers.{write_result, text_by, turns_text};
 ghost use Rattle.mc_model_play.specs.Generator.{summary};
 ghost use Rattle.mc_script.specs.Sums.{DumpsLast};
 ghost use Rattle.mc_script.specs.Plays.{plain_text, traced_text, PlaysFrom, PlaysDeck, SumsDeck};
@@ -30,7 +30,7 @@ fn play_lines<N: Bench, T: Sink, L: Ledger>(
     requires fault { writer.old.fault ≡ None }
     ensures plays { PlaysFrom (text_by (turns_text writer.old.telling)) (start (N.state device).words) deck.now
         (record { device = N.state device; bench = N.bench device }) (sunk_in T.taken T.faults writer.old.out.now)
-        (ended writer.new.fault) (record { device = N.state result; bench = N.bench result })
+        (write_result writer.new.fault) (record { device = N.state result; bench = N.bench result })
         (sunk_in T.taken T.faults writer.new.out.now) }
     ensures image { IsImage (N.state device).words }
     ensures lines { AllByRecursion (λ l. IsLine l.1) deck.now }

@@ -1,10 +1,10 @@
 // Lines that make no device write.
 ghost use Rattle.std.specs.Prelude.{◌≡◌, ◌≤◌, ◌<◌, length, None, cond, nat_lt, slice_set};
 ghost use Rattle.std.specs.List.{AllByRecursion};
-ghost use Rattle.mc_model_device.specs.Device.{poked_times};
-ghost use Rattle.mc_model_device.specs.Image.{laid};
+ghost use Rattle.mc_model_device.specs.Device.{bench_after_pokes};
+ghost use Rattle.mc_model_device.specs.Image.{image_with};
 ghost use Rattle.mc_model_play.specs.DeckGrammar as line;
-ghost use Rattle.mc_model_play.specs.Play.{formatted};
+ghost use Rattle.mc_model_play.specs.Play.{formatted_image};
 ghost use Rattle.mc_card.specs.Parts.{device_in};
 ghost use Rattle.mc_script.specs.Players.{device_of};
 ghost use Rattle.mc_script.specs.Lines.{SilentDone};
@@ -21,8 +21,8 @@ use mc_nvm::Bench;
 fn poke_all<N: Bench>(card: &mut Card<N>, list: &[(u16, Word)])
     requires { AllByRecursion (λ p. p.0 < length (N.state (device_in card.old)).words) list.now }
     ensures state { N.state (device_in card.new)
-        ≡ record (N.state (device_in card.old)) { words = laid (N.state (device_in card.old)).words list.now } }
-    ensures bench { N.bench (device_in card.new) ≡ poked_times (length list.now) (N.bench (device_in card.old)) }
+        ≡ record (N.state (device_in card.old)) { words = image_with (N.state (device_in card.old)).words list.now } }
+    ensures bench { N.bench (device_in card.new) ≡ bench_after_pokes (length list.now) (N.bench (device_in card.old)) }
     ensures lent { N.same (device_in card.old) (device_in card.new) }
 {
     for (at, word) in list {
@@ -33,8 +33,8 @@ fn poke_all<N: Bench>(card: &mut Card<N>, list: &[(u16, Word)])
 // Sets the words of an empty card.
 fn format<N: Bench>(card: &mut Card<N>)
     ensures state { N.state (device_in card.new)
-        ≡ record (N.state (device_in card.old)) { words = formatted (N.state (device_in card.old)).words } }
-    ensures bench { N.bench (device_in card.new) ≡ poked_times 5 (N.bench (device_in card.old)) }
+        ≡ record (N.state (device_in card.old)) { words = formatted_image (N.state (device_in card.old)).words } }
+    ensures bench { N.bench (device_in card.new) ≡ bench_after_pokes 5 (N.bench (device_in card.old)) }
     ensures lent { N.same (device_in card.old) (device_in card.new) }
 {
     let words = format_words(card.len());
@@ -46,7 +46,7 @@ fn poke<N: Bench>(card: &mut Card<N>, at: u16, fill: Word)
     ensures state { N.state (device_in card.new)
         ≡ record (N.state (device_in card.old)) { words = slice_set (N.state (device_in card.old)).words at fill } }
     ensures bench { N.bench (device_in card.new)
-        ≡ poked_times (cond (nat_lt at (length (N.state (device_in card.old)).words)) 1 0)
+        ≡ bench_after_pokes (cond (nat_lt at (length (N.state (device_in card.old)).words)) 1 0)
         (N.bench (device_in card.old)) }
     ensures lent { N.same (device_in card.old) (device_in card.new) }
 {

@@ -3,7 +3,7 @@ ghost use Rattle.std.specs.Prelude.{◌≡◌, ◌≤◌, ◌++◌, List, []};
 ghost use Rattle.mc_model_machine.specs.Chain.{Turn as ModelTurn};
 ghost use Rattle.mc_card.specs.Parts.{device_in, due, IsReadyCard};
 ghost use Rattle.mc_script.specs.Runs.{RanAndTold};
-ghost use Rattle.mc_card.specs.Ends.{put_in};
+ghost use Rattle.mc_card.specs.Ends.{outcome_or_stop};
 
 use mc_base::{Steps, Stop};
 use mc_card::Card;
@@ -30,7 +30,7 @@ pub trait Runner {
         requires some { 1 ≤ budget }
         requires budget { budget ≤ 65536 }
         ensures done { RanAndTold N.state N.wrote told card.old (due N.state card.old bytes.now budget)
-            (put_in result into.new) card.new self.old self.new }
+            (outcome_or_stop result into.new) card.new self.old self.new }
         ensures lent { N.same (device_in card.old) (device_in card.new) };
 
     /// Where there are no turns, nothing is told.

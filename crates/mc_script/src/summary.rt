@@ -5,7 +5,7 @@ ghost use Rattle.mc_model_play.specs.Play.{LineResult};
 ghost use Rattle.mc_model_play.specs.Generator.{count_line, is_reply, is_abend, is_cut, is_off, is_ready};
 ghost use Rattle.mc_text.specs.Texts.{sunk_in, Puts};
 ghost use Rattle.mc_script.specs.Players.{answer_value};
-ghost use Rattle.mc_script.specs.Sums.{Counted, listed};
+ghost use Rattle.mc_script.specs.Sums.{Counted, result_list};
 
 use crate::answer::Answer;
 use crate::player::{Player, Power};
@@ -128,7 +128,7 @@ fn is_ready<N: Bench>(player: &Player<N>, answer: &Answer) -> bool
 pub fn counted<N: Bench>(counts: Counts, player: &Player<N>, answer: &Option<Answer>) -> Counts
     requires { (rs : List LineResult) × Counted counts rs × (length rs < 18446744073709551615) }
     ensures { (rs : List LineResult) → Counted counts rs
-        → Counted result (rs ++ listed (option_map (answer_value N.state player.now) answer.now)) }
+        → Counted result (rs ++ result_list (option_map (answer_value N.state player.now) answer.now)) }
 {
     match answer {
         Some(answer) => counts.with(player, answer),

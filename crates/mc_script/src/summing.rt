@@ -8,7 +8,7 @@ ghost use Rattle.mc_model_play.specs.Generator.{count_line, summary};
 ghost use Rattle.mc_deck.specs.Lines.{line_of};
 ghost use Rattle.mc_text.specs.Texts.{sunk_in, Puts};
 ghost use Rattle.mc_script.specs.Players.{device_of, IsPlayerAt, IsPlaying, IsUnfused};
-ghost use Rattle.mc_script.specs.Writers.{ended};
+ghost use Rattle.mc_script.specs.Writers.{write_result};
 ghost use Rattle.mc_script.specs.Lines.{bench_of};
 ghost use Rattle.mc_script.specs.Sums.{Counted, DumpsLast, dump_text, dumps_text, Tallied, SumsFrom};
 
@@ -108,7 +108,7 @@ pub fn sum_lines<N: Bench, T: Sink, L: Ledger>(
     requires dumps { DumpsLast deck.now }
     ensures sums { SumsFrom summary (start (N.state device).words) deck.now
         (record { device = N.state device; bench = N.bench device }) (sunk_in T.taken T.faults writer.old.out.now)
-        (ended writer.new.fault) (record { device = N.state result; bench = N.bench result })
+        (write_result writer.new.fault) (record { device = N.state result; bench = N.bench result })
         (sunk_in T.taken T.faults writer.new.out.now) }
     ensures image { IsImage (N.state device).words }
     ensures lines { AllByRecursion (λ l. IsLine l.1) deck.now }

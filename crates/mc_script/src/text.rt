@@ -6,7 +6,7 @@ ghost use Rattle.mc_model_play.specs.Play.{static_of};
 ghost use Rattle.mc_model_machine.specs.Words.{abend_code};
 ghost use Rattle.mc_model_device.specs.Words.{cause_text};
 ghost use Rattle.mc_model_machine.specs.Listing.{hex_text};
-ghost use Rattle.mc_model_play.specs.Transcript.{line_text, outcome_text, shown};
+ghost use Rattle.mc_model_play.specs.Transcript.{line_text, outcome_text, text_of_result};
 ghost use Rattle.mc_machine.specs.Turns.{outcome_value};
 ghost use Rattle.mc_bank.specs.Bank.{app_of};
 ghost use Rattle.mc_card.specs.Parts.{card_in, IsUp};
@@ -121,7 +121,7 @@ fn add_static<N: Nvm>(text: &mut Text, card: &Card<N>, aid: &Aid)
     requires up { IsUp N.state card.now }
     requires room { array_vec_len text.old ≤ 11 }
     ensures text { text.new.items ≡ text.old.items
-        ++ shown (static_of (lookup (card_in N.state card.now).apps aid.now)) }
+        ++ text_of_result (static_of (lookup (card_in N.state card.now).apps aid.now)) }
     ensures short { array_vec_len text.new ≤ 8210 }
 {
     match card.static_len(aid) {
@@ -139,7 +139,7 @@ fn add_dump<N: Bench>(text: &mut Text, player: &Player<N>, aid: &Aid)
     requires playing { IsPlaying N.state N.bench player.now }
     requires room { array_vec_len text.old ≤ 11 }
     ensures text { text.new.items ≡ text.old.items
-        ++ shown (dump_value N.state player.now.power player.now.card aid.now) }
+        ++ text_of_result (dump_value N.state player.now.power player.now.card aid.now) }
     ensures short { array_vec_len text.new ≤ 8210 }
 {
     match player.power {
@@ -154,7 +154,7 @@ fn add_dump<N: Bench>(text: &mut Text, player: &Player<N>, aid: &Aid)
 pub fn add_result<N: Bench>(text: &mut Text, player: &Player<N>, answer: &Answer)
     requires playing { IsPlaying N.state N.bench player.now }
     requires room { array_vec_len text.old ≤ 11 }
-    ensures text { text.new.items ≡ text.old.items ++ shown (answer_value N.state player.now answer.now) }
+    ensures text { text.new.items ≡ text.old.items ++ text_of_result (answer_value N.state player.now answer.now) }
     ensures short { array_vec_len text.new ≤ 8210 }
 {
     match answer {

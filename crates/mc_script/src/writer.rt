@@ -5,11 +5,11 @@ ghost use Rattle.mc_model_machine.specs.Code.{Shaped};
 ghost use Rattle.mc_model_play.specs.Transcript.{line_text};
 ghost use Rattle.mc_machine.specs.Turns.{turn_value};
 ghost use Rattle.mc_card.specs.Parts.{device_in, due, IsReadyCard};
-ghost use Rattle.mc_card.specs.Ends.{put_in};
+ghost use Rattle.mc_card.specs.Ends.{outcome_or_stop};
 ghost use Rattle.mc_text.specs.Texts.{sunk_in, Puts};
 ghost use Rattle.mc_script.specs.Players.{answer_value, IsPlaying};
 ghost use Rattle.mc_script.specs.Runs.{RanAndTold};
-ghost use Rattle.mc_script.specs.Writers.{ended, turns_text, keeps_none, keeps_on, WriterKeeps};
+ghost use Rattle.mc_script.specs.Writers.{write_result, turns_text, keeps_none, keeps_on, WriterKeeps};
 ghost use Rattle.mc_script.specs.declared.writer.Telling.TheVariants as telling;
 
 use crate::answer::Answer;
@@ -63,7 +63,7 @@ impl<'a, T: Sink> Writer<'a, T> {
         ensures tells { (before : Writer T) (ts : List ModelTurn) → before.fault ≡ None
             → WriterKeeps T.taken T.faults before ts self.old
             → Puts (sunk_in T.taken T.faults before.out.now) (turns_text before.telling ts
-            ++ line_text number (option_map (answer_value N.state player.now) answer.now)) (ended self.new.fault)
+            ++ line_text number (option_map (answer_value N.state player.now) answer.now)) (write_result self.new.fault)
             (sunk_in T.taken T.faults self.new.out.now) }
         ensures same { self.new.out.ghost_name ≡ self.old.out.ghost_name }
         ensures telling { self.new.telling ≡ self.old.telling }
@@ -75,7 +75,7 @@ impl<'a, T: Sink> Writer<'a, T> {
 
     /// Whether all was written.
     pub fn ended(&self) -> Result<(), WriteFault>
-        ensures { result ≡ ended self.now.fault }
+        ensures { result ≡ write_result self.now.fault }
     {
         match self.fault {
             None => Ok(()),
@@ -111,7 +111,7 @@ impl<'a, T: Sink> Writer<'a, T> {
         requires some { 1 ≤ budget }
         requires budget { budget ≤ 65536 }
         ensures done { RanAndTold N.state N.wrote (WriterKeeps T.taken T.faults) card.old
-            (due N.state card.old bytes.now budget) (put_in result into.new) card.new self.old self.new }
+            (due N.state card.old bytes.now budget) (outcome_or_stop result into.new) card.new self.old self.new }
         ensures lent { N.same (device_in card.old) (device_in card.new) }
     {
         if let Some(outcome) = card.begin(bytes, budget, steps)? {

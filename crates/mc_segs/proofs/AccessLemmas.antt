@@ -4,13 +4,13 @@ use Rattle.std.specs.Prelude.{nat_le, nat_eq, slice_get, unwrap_or}
 use Rattle.std.proofs.lemmas.Bool.{cases_lt, le-leb, ne_eqb, lt-leb}
 use Rattle.std.proofs.lemmas.List.{length-take, length-drop, get_or-take, get_or-drop, ext_get_or, length-replicate}
 use Rattle.mc_model_device.specs.Bytes.{splice}
-use Rattle.mc_model_device.specs.Pieces.{covered, laid_pieces, word_pieces}
+use Rattle.mc_model_device.specs.Pieces.{covering_byte, laid_pieces, word_pieces}
 use Rattle.mc_model_machine.specs.Frame.{Frame, Place, where_is, bytes_at, bytes_in}
 use Rattle.mc_bank.specs.Bank.{BankState}
-use Rattle.mc_trans.proofs.Overlay.{length-laid, splice_before, splice_in, splice_behind, get_some}
-use Rattle.mc_model_device.proofs.ListLemmas.{length-splice}
+use Rattle.mc_trans.proofs.Overlay.{length_laid, splice_before, splice_in, splice_behind, get_some}
+use Rattle.mc_model_device.proofs.ListLemmas.{length_splice}
 use Rattle.mc_segs.specs.Overlaid.{IsOverlaid}
-use Rattle.mc_segs.specs.HeldFrames.{Held, FitsBank, shown, pieces_of, ArePendingIn}
+use Rattle.mc_segs.specs.HeldFrames.{Held, FitsBank, frame_on_bank, pieces_of, ArePendingIn}
 use Rattle.mc_segs.specs.Inside.{frame_value, KeepsInside}
 use Rattle.mc_segs.specs.declared.frame.Frame.TheInside.{Inside}
 use Rattle.mc_segs.proofs.PendingLemmas.{read_byte, pieces_lie}
@@ -28,7 +28,7 @@ overlaid old word at place from to eight low_at low_place high_at high_place som
     let len : length piece ≡ to - from = omega (arith, length-take (to - place - (from - place)) (drop (from - place) word), length-drop (from - place) word) in
     let begin = from - at in
     record {
-      len = length-splice old begin piece (omega arith);
+      len = length_splice old begin piece (omega arith);
       bytes = λ i lt.
           elim (cases_lt (at + i) place) [
             | inl out ↦ splice_before old begin piece i (omega arith) (omega arith) ∙ sym (ap (λ (b : _). unwrap_or (cond b (slice_get word (at + i - place)) None) (get_or old i 0)) (lt-leb place (at + i) out))
@@ -81,10 +81,10 @@ has_words l f h view keeps same =
 -- ---- static bytes
 
 pub static_read : (l : List ℕ) (ps ws : List (ℕ × List ℕ)) (at n : ℕ) (into : List ℕ) → ps ≡ pieces_of (length l) ws → ArePendingIn (length l) ws → at + n ≤ length l → length into ≡ n
-    → ((i : ℕ) → i < n → get_or into i 0 ≡ unwrap_or (covered (word_pieces ws) (at + i)) (get_or l (at + i) 0)) → into ≡ take n (drop at (laid_pieces l ps))
+    → ((i : ℕ) → i < n → get_or into i 0 ≡ unwrap_or (covering_byte (word_pieces ws) (at + i)) (get_or l (at + i) 0)) → into ≡ take n (drop at (laid_pieces l ps))
 static_read l ps ws at n into pieces are range len bytes =
     let laid = laid_pieces l (pieces_of (length l) ws) in
-    let long : length laid ≡ length l = length-laid l (pieces_of (length l) ws) (pieces_lie (length l) ws are) in
+    let long : length laid ≡ length l = length_laid l (pieces_of (length l) ws) (pieces_lie (length l) ws are) in
     let whole : length (take n (drop at laid)) ≡ n = omega (arith, length-take n (drop at laid), length-drop at laid) in
     let all : into ≡ take n (drop at laid) =
     ext_get_or 0 into (take n (drop at laid)) (len ∙ sym whole) (λ i lt.
@@ -95,7 +95,7 @@ static_read l ps ws at n into pieces are range len bytes =
 -- ---- places
 
 -- an access lies in the same place of a frame whether or not it is completed from its bank
-pub where_shown : (s : BankState) (named : ℕ → Option (List ℕ)) (h : Held) (a n : ℕ) → FitsBank s named h → where_is (shown s named h) a n ≡ where_is h.frame a n
+pub where_shown : (s : BankState) (named : ℕ → Option (List ℕ)) (h : Held) (a n : ℕ) → FitsBank s named h → where_is (frame_on_bank s named h) a n ≡ where_is h.frame a n
 where_shown s named h a n fits = rw (sym fits.fixed) refl
 
 -- the bytes of an access of at least one byte
@@ -103,8 +103,8 @@ bytes_are : (f : Frame) (public : List ℕ) (a n : ℕ) (p : Option Place) → 0
 unfolding bytes_at
 bytes_are f public a n p some e = ap (λ (b : Bool). cond b [] (bytes_in f public n (where_is f a n))) (ne_eqb n 0 (λ none. omega arith)) ∙ ap (bytes_in f public n) e
 
-pub bytes_read : (s : BankState) (named : ℕ → Option (List ℕ)) (h : Held) (public : List ℕ) (a n : ℕ) (p : Option Place) → FitsBank s named h → 0 < n → p ≡ where_is h.frame a n → bytes_in (shown s named h) public n p ≡ bytes_at (shown s named h) public a n
-bytes_read s named h public a n p fits some e = sym (bytes_are (shown s named h) public a n p some (where_shown s named h a n fits ∙ sym e))
+pub bytes_read : (s : BankState) (named : ℕ → Option (List ℕ)) (h : Held) (public : List ℕ) (a n : ℕ) (p : Option Place) → FitsBank s named h → 0 < n → p ≡ where_is h.frame a n → bytes_in (frame_on_bank s named h) public n p ≡ bytes_at (frame_on_bank s named h) public a n
+bytes_read s named h public a n p fits some e = sym (bytes_are (frame_on_bank s named h) public a n p some (where_shown s named h a n fits ∙ sym e))
 
 pub no_bytes : (f : Frame) (public : List ℕ) (a : ℕ) (into : List ℕ) → nat_eq (length into) 0 ≡ true → into ≡ bytes_at f public a (length into)
 unfolding bytes_at

@@ -5,7 +5,7 @@ use Rattle.std.specs.List.{AllByRecursion}
 use Rattle.std.proofs.lemmas.Bool.{cases_lt, lt-leb}
 use Rattle.std.proofs.lemmas.Bool.Decides.{nat_tests}
 use Rattle.std.proofs.lemmas.List.{length-take}
-use Rattle.mc_model_device.specs.Pieces.{covered, laid_pieces, word_pieces, with_number, with_words, with_touched, touched, numbers, pending_at, Ascend, HoldPieces, LieIn}
+use Rattle.mc_model_device.specs.Pieces.{covering_byte, laid_pieces, word_pieces, with_number, with_words, with_touched, touched_words, numbers, pending_at, Ascend, HoldPieces, LieIn}
 use Rattle.mc_trans.proofs.Overlay.{LieIn_begin, laid_covered}
 use Rattle.mc_trans.proofs.Touched.{covered_word}
 use Rattle.mc_segs.specs.HeldFrames.{pieces_of, ArePendingIn}
@@ -65,7 +65,7 @@ one_same n i w lt =
       | inr le ↦ ap (λ (o : Option ℕ). cond (nat_le (8 * w.0) i) o None) (get_take w.1 (n - 8 * w.0) (i - 8 * w.0) (omega arith))
     ]
 
-pub covered_same : (n i : ℕ) (ws : List (ℕ × List ℕ)) → i < n → covered (pieces_of n ws) i ≡ covered (word_pieces ws) i
+pub covered_same : (n i : ℕ) (ws : List (ℕ × List ℕ)) → i < n → covering_byte (pieces_of n ws) i ≡ covering_byte (word_pieces ws) i
 covered_same n i [] lt = refl
 covered_same n i (w ∷ ws) lt = rw (covered_same n i ws lt, one_same n i w lt) refl
 
@@ -87,7 +87,7 @@ word_holds None d x k e = tt
 
 -- pending words hold the pieces that they make
 pub pieces_held : (l : List ℕ) (ws : List (ℕ × List ℕ)) → ArePendingIn (length l) ws → HoldPieces l (pieces_of (length l) ws) ws
-unfolding touched
+unfolding touched_words
 pieces_held l ws are =
     let n = length l in
     let ps = pieces_of n ws in
@@ -97,8 +97,8 @@ pieces_held l ws are =
       touched_words = sym (touched_are n 0 [] ws tt are.pending.ascending are.pending.whole are.within);
       bytes = λ m k lt within.
           let i = 8 * m + k in
-          let byte : get_or (laid_pieces l ps) i 0 ≡ unwrap_or (covered ps i) (get_or l i 0) = laid_covered n l ps i (LieIn_begin n ps lie) (omega arith) in
-          let word : covered ps i ≡ option_map (λ b. get_or b (i % 8) 0) (pending_at ws (i / 8)) = covered_same n i ws within ∙ covered_word 0 i ws are.pending.ascending are.pending.whole in
+          let byte : get_or (laid_pieces l ps) i 0 ≡ unwrap_or (covering_byte ps i) (get_or l i 0) = laid_covered n l ps i (LieIn_begin n ps lie) (omega arith) in
+          let word : covering_byte ps i ≡ option_map (λ b. get_or b (i % 8) 0) (pending_at ws (i / 8)) = covered_same n i ws within ∙ covered_word 0 i ws are.pending.ascending are.pending.whole in
           let all = byte ∙ ap (λ (o : Option ℕ). unwrap_or o (get_or l i 0)) word in
           let place : i % 8 ≡ k = omega arith in
           let number : i / 8 ≡ m = omega arith in
@@ -110,7 +110,7 @@ pieces_held l ws are =
 -- ---- reading
 
 -- a byte of a segment with pending words written over it: that of the word that covers it, and else the segment's
-pub read_byte : (l : List ℕ) (ws : List (ℕ × List ℕ)) (i : ℕ) → ArePendingIn (length l) ws → i < length l → get_or (laid_pieces l (pieces_of (length l) ws)) i 0 ≡ unwrap_or (covered (word_pieces ws) i) (get_or l i 0)
+pub read_byte : (l : List ℕ) (ws : List (ℕ × List ℕ)) (i : ℕ) → ArePendingIn (length l) ws → i < length l → get_or (laid_pieces l (pieces_of (length l) ws)) i 0 ≡ unwrap_or (covering_byte (word_pieces ws) i) (get_or l i 0)
 read_byte l ws i are lt =
     let n = length l in
     laid_covered n l (pieces_of n ws) i (LieIn_begin n (pieces_of n ws) (pieces_lie n ws are)) (omega arith)

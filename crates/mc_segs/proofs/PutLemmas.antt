@@ -7,11 +7,11 @@ use Rattle.std.proofs.lemmas.Bool.Decides.{nat_tests}
 use Rattle.std.proofs.lemmas.List.{take_all, append-nil}
 use Rattle.mc_model_device.specs.Bytes.{splice}
 use Rattle.mc_model_device.specs.Pieces.{laid_pieces, numbers, pending_at, put_word, not_pending, Ascend, ArePending, HoldPieces, LieIn}
-use Rattle.mc_model_device.proofs.ImageLemmas.{all-append}
+use Rattle.mc_model_device.proofs.ImageLemmas.{all_append}
 use Rattle.mc_trans.proofs.Words.{put_pending}
 use Rattle.mc_trans.proofs.Touched.{untouched}
 use Rattle.mc_trans.proofs.Putting.{piece_put, pieces_joined}
-use Rattle.mc_model_device.proofs.ListLemmas.{length-splice}
+use Rattle.mc_model_device.proofs.ListLemmas.{length_splice}
 use Rattle.mc_segs.specs.HeldFrames.{ArePendingIn}
 use Rattle.mc_segs.specs.Puts.{IsWordOf, PutsPiece}
 
@@ -21,9 +21,9 @@ none_below : (n least : ℕ) (ws : List (ℕ × List ℕ)) → n < least → Asc
 none_below n least [] lt asc = refl
 none_below n least (w ∷ ws) lt asc = grind (arith, nat_tests, none_below n (w.0 + 1) ws)
 
-length-put : (n least : ℕ) (b : List ℕ) (ws : List (ℕ × List ℕ)) → Ascend least (numbers ws) → length (put_word n b ws) ≡ length ws + cond (is_none (pending_at ws n)) 1 0
-length-put n least b [] asc = refl
-length-put n least b (w ∷ ws) asc = grind (arith, nat_tests, length-put n (w.0 + 1) b ws, none_below n (w.0 + 1) ws)
+length_put : (n least : ℕ) (b : List ℕ) (ws : List (ℕ × List ℕ)) → Ascend least (numbers ws) → length (put_word n b ws) ≡ length ws + cond (is_none (pending_at ws n)) 1 0
+length_put n least b [] asc = refl
+length_put n least b (w ∷ ws) asc = grind (arith, nat_tests, length_put n (w.0 + 1) b ws, none_below n (w.0 + 1) ws)
 
 other_put : (n m : ℕ) (b : List ℕ) (ws : List (ℕ × List ℕ)) → n < m → pending_at (put_word n b ws) m ≡ pending_at ws m
 other_put n m b [] lt = grind (arith, nat_tests)
@@ -35,7 +35,7 @@ later_put n m (suc count) b ws lt = rw (other_put n m b ws lt, later_put n (m + 
 
 -- a word that is put counts as pending and no more as not pending
 pub count_put : (n count : ℕ) (b : List ℕ) (ws : List (ℕ × List ℕ)) → ArePending ws → length (put_word n b ws) + not_pending (n + 1) count (put_word n b ws) ≡ length ws + not_pending n (suc count) ws
-count_put n count b ws are = omega (arith, length-put n 0 b ws are.ascending, later_put n (n + 1) count b ws (omega arith))
+count_put n count b ws are = omega (arith, length_put n 0 b ws are.ascending, later_put n (n + 1) count b ws (omega arith))
 
 -- ---- one word
 
@@ -73,7 +73,7 @@ next_held l ps ws at n j [] piece word lie held is some small place range =
 next_held l ps ws at n j (x ∷ a) piece word lie held is some small place range =
     let front = x ∷ a in
     let all = ps ++ (at, front) ∷ [] in
-    let lie_all : LieIn (length l) all = all-append (λ (p : ℕ × List ℕ). (0 < length p.1) × (p.0 + length p.1 ≤ length l)) ps ((at, front) ∷ []) lie ((omega arith, omega arith), tt) in
+    let lie_all : LieIn (length l) all = all_append (λ (p : ℕ × List ℕ). (0 < length p.1) × (p.0 + length p.1 ≤ length l)) ps ((at, front) ∷ []) lie ((omega arith, omega arith), tt) in
     let after = put_word n (splice word j piece) ws in
     let put = piece_put l all ws n j word piece lie_all held is.eight (λ k lt within. base_byte l all ws n k word (pending_at ws n) refl is lie_all held lt within) some small (omega arith) in
     let moved : HoldPieces l (all ++ (at + length front, piece) ∷ []) after = subst (λ (i : ℕ). HoldPieces l (all ++ (i, piece) ∷ []) after) place put in
@@ -91,7 +91,7 @@ pub puts_next : (l : List ℕ) (begin ws after : List (ℕ × List ℕ)) (at n j
     → a ++ piece ≡ next → PutsSome l begin at next after
 puts_next l begin ws after at n j a piece next done put some small place range few is =
     let now = splice put.word j piece in
-    let eight : length now ≡ 8 = length-splice put.word j piece (omega (arith, put.is.eight)) ∙ put.is.eight in
+    let eight : length now ≡ 8 = length_splice put.word j piece (omega (arith, put.is.eight)) ∙ put.is.eight in
     let all : PutsSome l begin at (a ++ piece) (put_word n now ws) = record {
       pending = record { few = subst (λ (t : List (ℕ × List ℕ)). length t ≤ 64) put.words few; pending = put_pending n now ws done.pending.pending eight; within = within_put (length l) n now ws (omega arith) done.pending.within };
       holds = λ ps lie held. next_held l ps ws at n j a piece put.word lie (done.holds ps lie held) put.is some small place range;

@@ -25,9 +25,9 @@ pub back_is : (f : Inside) (h : Held) (d : List ℕ) (i o lb at : ℕ) → frame
     → returned f d (32768 + (f.lb - 32768 - 4 - i) + o) lb at ≡ record { slot = h.slot; frame = model.come_back h.frame i o }
 back_is f h d i o lb at view size low high top first second moved =
     let g : Held = frame_value f in
-    let saved_lb : lb ≡ model.saved g.frame 4 =
+    let saved_lb : lb ≡ model.saved_address g.frame 4 =
     first ∙ word_is f.dynamic (f.lb - 32768 - 4) (omega arith) ∙ ap (λ (k : ℕ). num (take 2 (drop k f.dynamic))) (omega arith) in
-    let saved_at : at ≡ model.saved g.frame 2 =
+    let saved_at : at ≡ model.saved_address g.frame 2 =
     second ∙ word_is f.dynamic (f.lb - 32768 - 2) (omega arith) ∙ ap (λ (k : ℕ). num (take 2 (drop k f.dynamic))) (omega arith) in
     let dt_is : 32768 + (f.lb - 32768 - 4 - i) + o ≡ f.lb - 4 - i + o = omega arith in
     let to_is : f.lb - 32768 - 4 - i ≡ f.lb - 4 - i - 32768 = omega arith in
@@ -40,5 +40,5 @@ back_is f h d i o lb at view size low high top first second moved =
     ap (λ (t : List ℕ). returned f t (32768 + (f.lb - 32768 - 4 - i) + o) lb at) dyn_is
     ∙ ap (λ (k : ℕ). returned f (splice f.dynamic (f.lb - 4 - i - 32768) (model.top g.frame o)) k lb at) dt_is
     ∙ ap (λ (k : ℕ). returned f (splice f.dynamic (f.lb - 4 - i - 32768) (model.top g.frame o)) (f.lb - 4 - i + o) k at) saved_lb
-    ∙ ap (λ (k : ℕ). returned f (splice f.dynamic (f.lb - 4 - i - 32768) (model.top g.frame o)) (f.lb - 4 - i + o) (model.saved g.frame 4) k) saved_at in
+    ∙ ap (λ (k : ℕ). returned f (splice f.dynamic (f.lb - 4 - i - 32768) (model.top g.frame o)) (f.lb - 4 - i + o) (model.saved_address g.frame 4) k) saved_at in
     subst (λ (v : Held). returned f d (32768 + (f.lb - 32768 - 4 - i) + o) lb at ≡ record { slot = v.slot; frame = model.come_back v.frame i o }) view same

@@ -6,14 +6,14 @@ use Rattle.mc_model_device.specs.Orders.{Answer, InOrder}
 use Rattle.mc_model_card.specs.Items.{BankItem, Commit}
 use Rattle.mc_model_device.specs.Bytes.{lookup, insert, zeros}
 use Rattle.mc_model_device.specs.Card.{App}
-use Rattle.mc_model_device.specs.Pieces.{laid_pieces, touched, not_pending, HoldPieces, LieIn}
-use Rattle.mc_model_machine.specs.Frame.{Frame, Static, static_bytes, static_written, passes_limit, committed as changes_of}
-use Rattle.mc_bank.specs.Bank.{BankState, app_of, name_or, no_app, with_words, committed, Changes}
-use Rattle.mc_model_device.proofs.ImageLemmas.{all-append}
-use Rattle.mc_trans.proofs.Overlay.{length-laid}
+use Rattle.mc_model_device.specs.Pieces.{laid_pieces, touched_words, not_pending, HoldPieces, LieIn}
+use Rattle.mc_model_machine.specs.Frame.{Frame, Static, static_bytes, static_written, passes_limit, pending_change as changes_of}
+use Rattle.mc_bank.specs.Bank.{BankState, app_of, name_or, no_app, with_words, apps_after_commit, Changes}
+use Rattle.mc_model_device.proofs.ImageLemmas.{all_append}
+use Rattle.mc_trans.proofs.Overlay.{length_laid}
 use Rattle.mc_trans.proofs.Holding.{words_laid, none_held}
 use Rattle.mc_trans.proofs.Counting.{words_counted}
-use Rattle.mc_segs.specs.HeldFrames.{Held, FitsBank, shown, seen, no_pieces, pieces_of, ArePendingIn, app_under}
+use Rattle.mc_segs.specs.HeldFrames.{Held, FitsBank, frame_on_bank, frame_reading, no_pieces, pieces_of, ArePendingIn, app_under}
 use Rattle.mc_segs.specs.Inside.{frame_value}
 use Rattle.mc_segs.specs.Commits.{IsCommitted}
 use Rattle.mc_segs.specs.Ends.{EffectDone, IsOneCommit, Commits, scene}
@@ -21,7 +21,7 @@ use Rattle.mc_segs.specs.Puts.{PutsBytes, words_under}
 use Rattle.mc_segs.specs.declared.frame.Frame.TheInside.{Inside}
 use Rattle.mc_segs.proofs.PendingLemmas.{pieces_held, pieces_lie}
 use Rattle.mc_segs.proofs.AccessLemmas.{HasWords}
-use Rattle.mc_model_device.proofs.MapLemmas.{lookup-inserted}
+use Rattle.mc_model_device.proofs.MapLemmas.{lookup_inserted_lem}
 
 -- ---- counts
 
@@ -35,23 +35,23 @@ few_words at len low high = omega (arith, none_there (at / 8) (words_under at le
 
 -- ---- a bank after a commit
 
-app_after : (s s' : BankState) (o o' : Option (List ℕ)) (ws : List (ℕ × List ℕ)) → IsSome o → o' ≡ o → s'.apps ≡ committed s.apps (name_or o) ws → app_of s'.apps o' ≡ with_words ws (app_of s.apps o)
+app_after : (s s' : BankState) (o o' : Option (List ℕ)) (ws : List (ℕ × List ℕ)) → IsSome o → o' ≡ o → s'.apps ≡ apps_after_commit s.apps (name_or o) ws → app_of s'.apps o' ≡ with_words ws (app_of s.apps o)
 app_after s s' None o' ws there same apps = absurd (cc there)
 app_after s s' (Some n) o' ws there same apps =
     ap (app_of s'.apps) same
     ∙ ap (λ (m : List (List ℕ × App)). unwrap_or (lookup m n) no_app) apps
-    ∙ ap (λ (a : Option App). unwrap_or a no_app) (lookup-inserted s.apps n (with_words ws (app_of s.apps (Some n))))
+    ∙ ap (λ (a : Option App). unwrap_or a no_app) (lookup_inserted_lem s.apps n (with_words ws (app_of s.apps (Some n))))
 
-there_after : (s s' : BankState) (o o' : Option (List ℕ)) (ws : List (ℕ × List ℕ)) → IsSome o → o' ≡ o → s'.apps ≡ committed s.apps (name_or o) ws → IsSome (lookup s'.apps (name_or o'))
+there_after : (s s' : BankState) (o o' : Option (List ℕ)) (ws : List (ℕ × List ℕ)) → IsSome o → o' ≡ o → s'.apps ≡ apps_after_commit s.apps (name_or o) ws → IsSome (lookup s'.apps (name_or o'))
 there_after s s' o o' ws there same apps =
     let n = name_or o in
     let a = with_words ws (app_of s.apps (Some n)) in
-    let found : lookup s'.apps (name_or o') ≡ Some a = ap (λ (m : List (List ℕ × App)). lookup m (name_or o')) apps ∙ ap (λ (k : Option (List ℕ)). lookup (insert s.apps n a) (name_or k)) same ∙ lookup-inserted s.apps n a in
+    let found : lookup s'.apps (name_or o') ≡ Some a = ap (λ (m : List (List ℕ × App)). lookup m (name_or o')) apps ∙ ap (λ (k : Option (List ℕ)). lookup (insert s.apps n a) (name_or k)) same ∙ lookup_inserted_lem s.apps n a in
     subst (λ (f : Option App). IsSome f) (sym found) refl
 
 -- a commit of words that hold some pieces writes these pieces over the static bytes
 pub is_committed : (s s' : BankState) (named named' : ℕ → Option (List ℕ)) (h : Held) (ps ws : List (ℕ × List ℕ)) → FitsBank s named h → LieIn (length (app_under s named h).fixed) ps → HoldPieces (app_under s named h).fixed ps ws
-    → s'.apps ≡ committed s.apps (name_or (named h.slot)) ws → ((k : ℕ) → named' k ≡ named k) → IsCommitted s s' named named' h (laid_pieces (app_under s named h).fixed ps)
+    → s'.apps ≡ apps_after_commit s.apps (name_or (named h.slot)) ws → ((k : ℕ) → named' k ≡ named k) → IsCommitted s s' named named' h (laid_pieces (app_under s named h).fixed ps)
 is_committed s s' named named' h ps ws fits lie held apps slots =
     let l = (app_under s named h).fixed in
     let app : app_under s' named' h ≡ with_words ws (app_under s named h) = app_after s s' (named h.slot) (named' h.slot) ws fits.there (slots h.slot) apps in
@@ -63,7 +63,7 @@ is_committed s s' named named' h ps ws fits lie held apps slots =
         there = subst (λ (o : Option (List ℕ)). IsSome o) (sym (slots h.slot)) fits.there;
         app = there_after s s' (named h.slot) (named' h.slot) ws fits.there (slots h.slot) apps;
         code = fits.code ∙ ap (λ (a : App). length a.code) (sym app);
-        fixed = fits.fixed ∙ sym (ap length fixed ∙ length-laid l ps lie);
+        fixed = fits.fixed ∙ sym (ap length fixed ∙ length_laid l ps lie);
         deny = fits.deny ∙ ap (λ (a : App). a.deny) (sym app);
         session = fits.session ∙ ap (λ (a : App). a.session) (sym app);
       };
@@ -81,8 +81,8 @@ module _ {B : Type 0} (did : B → BankItem → Answer → B → Type 0) (state 
   commit_items b e h at from ws a puts items = (ws, puts.holds [] tt (none_held (fixed_under state named b h)), items, puts.pending.few)
 
   committed_at_once : (b e : B) (h : Held) (at : ℕ) (from : List ℕ) (ws : List (ℕ × List ℕ)) → FitsBank (state b) (named b) h → 1 ≤ length from → at + length from ≤ length h.frame.fixed → PutsBytes (fixed_under state named b h) [] at from ws
-      → InOrder did b (Commit (name_or (named b h.slot)) ws ∷ []) (Ok tt) e → (state e).apps ≡ committed (state b).apps (name_or (named b h.slot)) ws → ((k : ℕ) → named e k ≡ named b k) → (state e).stopped ≡ false
-      → EffectDone did state named (scene b e h h [] []) (static_written false (shown (state b) (named b) h) [] at from)
+      → InOrder did b (Commit (name_or (named b h.slot)) ws ∷ []) (Ok tt) e → (state e).apps ≡ apps_after_commit (state b).apps (name_or (named b h.slot)) ws → ((k : ℕ) → named e k ≡ named b k) → (state e).stopped ≡ false
+      → EffectDone did state named (scene b e h h [] []) (static_written false (frame_on_bank (state b) (named b) h) [] at from)
   committed_at_once b e h at from ws fits some range puts items apps slots going =
       let l = fixed_under state named b h in
       let held = puts.holds [] tt (none_held l) in
@@ -91,7 +91,7 @@ module _ {B : Type 0} (did : B → BankItem → Answer → B → Type 0) (state 
       record {
         commits = commit_items b e h at from ws (Ok tt) puts items;
         bytes = now.fixed;
-        frame = ap (λ (n : List ℕ). seen (record h.frame { name = n; fixed = fixed_under state named e h })) now.name ∙ ap (λ (t : List ℕ). seen (record h.frame { name = name_or (named b h.slot); fixed = t })) now.fixed;
+        frame = ap (λ (n : List ℕ). frame_reading (record h.frame { name = n; fixed = fixed_under state named e h })) now.name ∙ ap (λ (t : List ℕ). frame_reading (record h.frame { name = name_or (named b h.slot); fixed = t })) now.fixed;
         public = refl;
         slot = refl;
         fits = now.fits;
@@ -99,8 +99,8 @@ module _ {B : Type 0} (did : B → BankItem → Answer → B → Type 0) (state 
       }
 
   done_by_answer : (b e : B) (h : Held) (at : ℕ) (from : List ℕ) (ws : List (ℕ × List ℕ)) (a : Answer) → FitsBank (state b) (named b) h → 1 ≤ length from → at + length from ≤ length h.frame.fixed → PutsBytes (fixed_under state named b h) [] at from ws
-      → InOrder did b (Commit (name_or (named b h.slot)) ws ∷ []) a e → Changes (state b) (committed (state b).apps (name_or (named b h.slot)) ws) a (state e) → ((k : ℕ) → named e k ≡ named b k)
-      → OnOk a (EffectDone did state named (scene b e h h [] []) (static_written false (shown (state b) (named b) h) [] at from))
+      → InOrder did b (Commit (name_or (named b h.slot)) ws ∷ []) a e → Changes (state b) (apps_after_commit (state b).apps (name_or (named b h.slot)) ws) a (state e) → ((k : ℕ) → named e k ≡ named b k)
+      → OnOk a (EffectDone did state named (scene b e h h [] []) (static_written false (frame_on_bank (state b) (named b) h) [] at from))
   done_by_answer b e h at from ws (Ok u) fits some range puts items changes slots = committed_at_once b e h at from ws fits some range puts items changes.apps slots changes.going
   done_by_answer b e h at from ws (Err s) fits some range puts items changes slots = tt
 
@@ -114,25 +114,25 @@ module _ {B : Type 0} (did : B → BankItem → Answer → B → Type 0) (state 
       subst (λ (t : List (ℕ × List ℕ)). InOrder did b (Commit (name_or (named b h.slot)) t ∷ []) a e) is (subst (λ (i : ℕ). InOrder did b (Commit (name_or (named b i)) list ∷ []) a e) same items)
 
   pub items_at_once : (b e : B) (h : Held) (k : ℕ) (at : ℕ) (from : List ℕ) (none ws list : List (ℕ × List ℕ)) (a : Answer) → k ≡ h.slot → none ≡ [] → list ≡ ws → PutsBytes (app_of (state b).apps (named b k)).fixed none at from ws
-      → InOrder did b (Commit (name_or (named b k)) list ∷ []) a e → Commits did state named (scene b e h h [] []) (static_written false (shown (state b) (named b) h) [] at from) a
+      → InOrder did b (Commit (name_or (named b k)) list ∷ []) a e → Commits did state named (scene b e h h [] []) (static_written false (frame_on_bank (state b) (named b) h) [] at from) a
   items_at_once b e h k at from none ws list a same empty is puts items = commit_items b e h at from ws a (put_at_once b h k at from none ws same empty puts) (order_at_once b e h k ws list a same is items)
 
   pub done_at_once : (b e : B) (h : Held) (k : ℕ) (at : ℕ) (from : List ℕ) (none ws list : List (ℕ × List ℕ)) (a : Answer) → k ≡ h.slot → none ≡ [] → list ≡ ws → FitsBank (state b) (named b) h → 1 ≤ length from → at + length from ≤ length h.frame.fixed
-      → PutsBytes (app_of (state b).apps (named b k)).fixed none at from ws → InOrder did b (Commit (name_or (named b k)) list ∷ []) a e → Changes (state b) (committed (state b).apps (name_or (named b k)) list) a (state e) → ((k : ℕ) → named e k ≡ named b k)
-      → OnOk a (EffectDone did state named (scene b e h h [] []) (static_written false (shown (state b) (named b) h) [] at from))
+      → PutsBytes (app_of (state b).apps (named b k)).fixed none at from ws → InOrder did b (Commit (name_or (named b k)) list ∷ []) a e → Changes (state b) (apps_after_commit (state b).apps (name_or (named b k)) list) a (state e) → ((k : ℕ) → named e k ≡ named b k)
+      → OnOk a (EffectDone did state named (scene b e h h [] []) (static_written false (frame_on_bank (state b) (named b) h) [] at from))
   done_at_once b e h k at from none ws list a same empty is fits some range puts items changes slots =
       done_by_answer b e h at from ws a fits some range (put_at_once b h k at from none ws same empty puts) (order_at_once b e h k ws list a same is items)
-      (subst (λ (t : List (ℕ × List ℕ)). Changes (state b) (committed (state b).apps (name_or (named b h.slot)) t) a (state e)) is (subst (λ (i : ℕ). Changes (state b) (committed (state b).apps (name_or (named b i)) list) a (state e)) same changes))
+      (subst (λ (t : List (ℕ × List ℕ)). Changes (state b) (apps_after_commit (state b).apps (name_or (named b h.slot)) t) a (state e)) is (subst (λ (i : ℕ). Changes (state b) (apps_after_commit (state b).apps (name_or (named b i)) list) a (state e)) same changes))
       slots
 
 -- ---- later
 
 -- a frame reads the same with other pieces that write the same bytes and touch the same words
-same_seen : (f : Frame) (ps qs : List (ℕ × List ℕ)) → laid_pieces f.fixed ps ≡ laid_pieces f.fixed qs → touched ps ≡ touched qs → no_pieces ps ≡ no_pieces qs → seen (record f { pieces = ps }) ≡ seen (record f { pieces = qs })
+same_seen : (f : Frame) (ps qs : List (ℕ × List ℕ)) → laid_pieces f.fixed ps ≡ laid_pieces f.fixed qs → touched_words ps ≡ touched_words qs → no_pieces ps ≡ no_pieces qs → frame_reading (record f { pieces = ps }) ≡ frame_reading (record f { pieces = qs })
 same_seen f ps qs laid words none =
-    ap (λ (t : List ℕ). record (seen (record f { pieces = ps })) { read = t }) laid
-    ∙ ap (λ (t : List ℕ). record (seen (record f { pieces = qs })) { pending = t; none = no_pieces ps }) words
-    ∙ ap (λ (t : Bool). record (seen (record f { pieces = qs })) { none = t }) none
+    ap (λ (t : List ℕ). record (frame_reading (record f { pieces = ps })) { read = t }) laid
+    ∙ ap (λ (t : List ℕ). record (frame_reading (record f { pieces = qs })) { pending = t; none = no_pieces ps }) words
+    ∙ ap (λ (t : Bool). record (frame_reading (record f { pieces = qs })) { none = t }) none
 
 -- at least one word is pending after bytes are put
 some_put : (begin ws : List (ℕ × List ℕ)) (n count : ℕ) → length ws ≡ length begin + not_pending n count begin → 1 ≤ count → 1 ≤ length ws
@@ -143,43 +143,43 @@ some_pieces : (n : ℕ) (ws : List (ℕ × List ℕ)) → 1 ≤ length ws → no
 some_pieces n [] some = absurd (omega arith)
 some_pieces n (w ∷ ws) some = refl
 
-pub no_pieces-append : (ps : List (ℕ × List ℕ)) (p : ℕ × List ℕ) → no_pieces (ps ++ p ∷ []) ≡ false
-no_pieces-append [] p = refl
-no_pieces-append (q ∷ ps) p = refl
+pub no_pieces_append : (ps : List (ℕ × List ℕ)) (p : ℕ × List ℕ) → no_pieces (ps ++ p ∷ []) ≡ false
+no_pieces_append [] p = refl
+no_pieces_append (q ∷ ps) p = refl
 
 -- pieces that the same words hold write the same bytes and touch the same words
-pieces_same : (l : List ℕ) (ps qs ws : List (ℕ × List ℕ)) → LieIn (length l) ps → LieIn (length l) qs → HoldPieces l ps ws → HoldPieces l qs ws → (laid_pieces l ps ≡ laid_pieces l qs) × (touched ps ≡ touched qs)
+pieces_same : (l : List ℕ) (ps qs ws : List (ℕ × List ℕ)) → LieIn (length l) ps → LieIn (length l) qs → HoldPieces l ps ws → HoldPieces l qs ws → (laid_pieces l ps ≡ laid_pieces l qs) × (touched_words ps ≡ touched_words qs)
 pieces_same l ps qs ws lie lie' held held' = (sym (words_laid l ps ws lie held) ∙ words_laid l qs ws lie' held', sym held.touched_words ∙ held'.touched_words)
 
 -- a write passes the limit exactly if more than 64 words would be pending
 limit_is : (m : Frame) (l : List ℕ) (ws : List (ℕ × List ℕ)) (at n : ℕ) → m.pieces ≡ pieces_of (length l) ws → ArePendingIn (length l) ws → 0 < n → passes_limit true m (Some (Static at)) n ≡ nat_lt 64 (length ws + not_pending (at / 8) (words_under at n) ws)
 limit_is m l ws at n pieces are some =
     let len = length-replicate n 0 in
-    let count : length (touched (pieces_of (length l) ws ++ (at, zeros n) ∷ [])) ≡ length ws + not_pending (at / 8) (words_under at n) ws =
+    let count : length (touched_words (pieces_of (length l) ws ++ (at, zeros n) ∷ [])) ≡ length ws + not_pending (at / 8) (words_under at n) ws =
     words_counted l (pieces_of (length l) ws) ws at (zeros n) (pieces_held l ws are) (omega (arith, len)) ∙ ap (λ (k : ℕ). length ws + not_pending (at / 8) (words_under at k) ws) len in
-    ap (λ (ps : List (ℕ × List ℕ)). nat_lt 64 (length (touched (ps ++ (at, zeros n) ∷ [])))) pieces ∙ ap (λ (k : ℕ). nat_lt 64 k) count
+    ap (λ (ps : List (ℕ × List ℕ)). nat_lt 64 (length (touched_words (ps ++ (at, zeros n) ∷ [])))) pieces ∙ ap (λ (k : ℕ). nat_lt 64 k) count
 
 module _ {B : Type 0} (did : B → BankItem → Answer → B → Type 0) (state : B → BankState) (named : B → ℕ → Option (List ℕ)) where
   pub kept_later : (b : B) (f : Inside) (h : Held) (at : ℕ) (from : List ℕ) (ws : List (ℕ × List ℕ)) → frame_value f ≡ h → FitsBank (state b) (named b) h → HasWords (fixed_under state named b h) f.fixed_len f.pending h → (state b).stopped ≡ false
       → 1 ≤ length from → at + length from ≤ length h.frame.fixed → PutsBytes (fixed_under state named b h) f.pending at from ws
-      → EffectDone did state named (scene b b h (frame_value (record f { pending = ws })) [] []) (static_written true (shown (state b) (named b) h) [] at from)
+      → EffectDone did state named (scene b b h (frame_value (record f { pending = ws })) [] []) (static_written true (frame_on_bank (state b) (named b) h) [] at from)
   kept_later b f h at from ws view fits has going some range puts =
       let l = fixed_under state named b h in
       let n = length l in
       let ps = pieces_of n f.pending in
       let lie = pieces_lie n f.pending has.pending in
       let more : List (ℕ × List ℕ) = ps ++ (at, from) ∷ [] in
-      let lie_more : LieIn n more = all-append (λ (p : ℕ × List ℕ). (0 < length p.1) × (p.0 + length p.1 ≤ n)) ps ((at, from) ∷ []) lie ((omega arith, omega (arith, fits.fixed)), tt) in
+      let lie_more : LieIn n more = all_append (λ (p : ℕ × List ℕ). (0 < length p.1) × (p.0 + length p.1 ≤ n)) ps ((at, from) ∷ []) lie ((omega arith, omega (arith, fits.fixed)), tt) in
       let same = pieces_same l (pieces_of n ws) more ws (pieces_lie n ws puts.pending) lie_more (pieces_held l ws puts.pending) (puts.holds ps lie (pieces_held l f.pending has.pending)) in
       let now : frame_value (record f { pending = ws }) ≡ record h { frame = record h.frame { pieces = pieces_of n ws } } =
       ap (λ (t : Held). record t { frame = record t.frame { pieces = pieces_of f.fixed_len ws } }) view ∙ ap (λ (k : ℕ). record h { frame = record h.frame { pieces = pieces_of k ws } }) has.len in
-      let m = shown (state b) (named b) h in
+      let m = frame_on_bank (state b) (named b) h in
       let some_words : 1 ≤ length ws = some_put f.pending ws (at / 8) (words_under at (length from)) puts.count (omega arith) in
       subst (λ (t : Held). EffectDone did state named (scene b b h t [] []) (static_written true m [] at from)) (sym now)
       (record {
         commits = refl;
         bytes = refl;
-        frame = same_seen m (pieces_of n ws) more same.0 same.1 (some_pieces n ws some_words ∙ sym (no_pieces-append ps (at, from))) ∙ ap (λ (t : List (ℕ × List ℕ)). seen (record m { pieces = t ++ (at, from) ∷ [] })) (sym has.pieces);
+        frame = same_seen m (pieces_of n ws) more same.0 same.1 (some_pieces n ws some_words ∙ sym (no_pieces_append ps (at, from))) ∙ ap (λ (t : List (ℕ × List ℕ)). frame_reading (record m { pieces = t ++ (at, from) ∷ [] })) (sym has.pieces);
         public = refl;
         slot = refl;
         fits = record { there = fits.there; app = fits.app; code = fits.code; fixed = fits.fixed; deny = fits.deny; session = fits.session };
@@ -204,10 +204,10 @@ some_changed did b e name l m (w ∷ ws) a some few held items = (w ∷ ws, held
 
 module _ {B : Type 0} (did : B → BankItem → Answer → B → Type 0) (state : B → BankState) (named : B → ℕ → Option (List ℕ)) where
   abbrev pub pending_changed : B → B → Held → Answer → Type 0
-  pending_changed b e h a = IsOneCommit did (name_or (named b h.slot)) (fixed_under state named b h) (changes_of (shown (state b) (named b) h) h.frame.pieces) b a e
+  pending_changed b e h a = IsOneCommit did (name_or (named b h.slot)) (fixed_under state named b h) (changes_of (frame_on_bank (state b) (named b) h) h.frame.pieces) b a e
 
   abbrev pub is_now : B → B → Held → Type 0
-  is_now b e h = IsCommitted (state b) (state e) (named b) (named e) h (static_bytes (shown (state b) (named b) h))
+  is_now b e h = IsCommitted (state b) (state e) (named b) (named e) h (static_bytes (frame_on_bank (state b) (named b) h))
 
   pub all_words : (b e : B) (f : Inside) (h : Held) (k : ℕ) (list : List (ℕ × List ℕ)) (a : Answer) → k ≡ h.slot → list ≡ f.pending → HasWords (fixed_under state named b h) f.fixed_len f.pending h → 1 ≤ length list
       → InOrder did b (Commit (name_or (named b k)) list ∷ []) a e → pending_changed b e h a
@@ -216,15 +216,15 @@ module _ {B : Type 0} (did : B → BankItem → Answer → B → Type 0) (state 
       let name = name_or (named b h.slot) in
       let all : InOrder did b (Commit name f.pending ∷ []) a e = subst (λ (t : List (ℕ × List ℕ)). InOrder did b (Commit name t ∷ []) a e) is (subst (λ (i : ℕ). InOrder did b (Commit (name_or (named b i)) list ∷ []) a e) same items) in
       let long = ap (λ (t : List (ℕ × List ℕ)). length t) is in
-      subst (λ (ps : List (ℕ × List ℕ)). IsOneCommit did name l (changes_of (shown (state b) (named b) h) ps) b a e) (sym has.pieces)
-      (some_changed did b e name l (shown (state b) (named b) h) f.pending a (omega arith) has.pending.few (pieces_held l f.pending has.pending) all)
+      subst (λ (ps : List (ℕ × List ℕ)). IsOneCommit did name l (changes_of (frame_on_bank (state b) (named b) h) ps) b a e) (sym has.pieces)
+      (some_changed did b e name l (frame_on_bank (state b) (named b) h) f.pending a (omega arith) has.pending.few (pieces_held l f.pending has.pending) all)
 
   pub all_words_now : (b e : B) (f : Inside) (h : Held) (k : ℕ) (list : List (ℕ × List ℕ)) → k ≡ h.slot → list ≡ f.pending → FitsBank (state b) (named b) h → HasWords (fixed_under state named b h) f.fixed_len f.pending h
-      → (state e).apps ≡ committed (state b).apps (name_or (named b k)) list → ((i : ℕ) → named e i ≡ named b i) → is_now b e h
+      → (state e).apps ≡ apps_after_commit (state b).apps (name_or (named b k)) list → ((i : ℕ) → named e i ≡ named b i) → is_now b e h
   all_words_now b e f h k list same is fits has apps slots =
       let l = fixed_under state named b h in
       let now = is_committed (state b) (state e) (named b) (named e) h (pieces_of (length l) f.pending) f.pending fits (pieces_lie (length l) f.pending has.pending) (pieces_held l f.pending has.pending)
-      (apps ∙ ap (λ (i : ℕ). committed (state b).apps (name_or (named b i)) list) same ∙ ap (λ (t : List (ℕ × List ℕ)). committed (state b).apps (name_or (named b h.slot)) t) is) slots in
+      (apps ∙ ap (λ (i : ℕ). apps_after_commit (state b).apps (name_or (named b i)) list) same ∙ ap (λ (t : List (ℕ × List ℕ)). apps_after_commit (state b).apps (name_or (named b h.slot)) t) is) slots in
       subst (λ (ps : List (ℕ × List ℕ)). IsCommitted (state b) (state e) (named b) (named e) h (laid_pieces l ps)) (sym has.pieces) now
 
 pub some_words : (ws : List (ℕ × List ℕ)) → nat_eq (length ws) 0 ≡ false → 1 ≤ length ws

@@ -8,9 +8,9 @@ use Rattle.mc_model_device.specs.declared.device.Stop.{Stop}
 use Rattle.mc_model_device.specs.Orders.{Answer}
 use Rattle.mc_model_card.specs.Items.{BankItem}
 use Rattle.mc_model_device.specs.Bytes.{splice}
-use Rattle.mc_model_machine.specs.Frame.{Frame, Effect, Place, Static, Dynamic, Public, where_is, is_outside, passes_limit, too_many, static_written, written_in, written}
+use Rattle.mc_model_machine.specs.Frame.{Frame, Effect, Place, Static, Dynamic, Public, where_is, is_outside, passes_limit, too_many, static_written, write_effect_at, write_effect}
 use Rattle.mc_bank.specs.Bank.{BankState}
-use Rattle.mc_segs.specs.HeldFrames.{Held, FitsBank, shown}
+use Rattle.mc_segs.specs.HeldFrames.{Held, FitsBank, frame_on_bank}
 use Rattle.mc_segs.specs.Inside.{frame_value}
 use Rattle.mc_segs.specs.Ends.{EffectDone, Commits, CanWrite, Stores, scene}
 use Rattle.mc_segs.specs.declared.frame.Frame.TheInside.{Inside}
@@ -40,11 +40,11 @@ no_limit_public false m i n = refl
 
 -- ---- what is written
 
-written_is : (f : Frame) (public : List ℕ) (a : ℕ) (b : List ℕ) (p : Option Place) → where_is f a (length b) ≡ p → written_in f public b p ≡ written f public a b
-unfolding written
-written_is f public a b p is = sym (ap (λ (o : Option Place). written_in f public b o) is)
+written_is : (f : Frame) (public : List ℕ) (a : ℕ) (b : List ℕ) (p : Option Place) → where_is f a (length b) ≡ p → write_effect_at f public b p ≡ write_effect f public a b
+unfolding write_effect
+written_is f public a b p is = sym (ap (λ (o : Option Place). write_effect_at f public b o) is)
 
-static_is : (f : Frame) (public : List ℕ) (a i : ℕ) (b : List ℕ) (on : Bool) → f.protected ≡ on → where_is f a (length b) ≡ Some (Static i) → static_written on f public i b ≡ written f public a b
+static_is : (f : Frame) (public : List ℕ) (a i : ℕ) (b : List ℕ) (on : Bool) → f.protected ≡ on → where_is f a (length b) ≡ Some (Static i) → static_written on f public i b ≡ write_effect f public a b
 static_is f public a i b on protected is = ap (λ (t : Bool). static_written t f public i b) (sym protected) ∙ written_is f public a b (Some (Static i)) is
 
 module _ {B : Type 0} (did : B → BankItem → Answer → B → Type 0) (state : B → BankState) (named : B → ℕ → Option (List ℕ)) where
@@ -54,10 +54,10 @@ module _ {B : Type 0} (did : B → BankItem → Answer → B → Type 0) (state 
 
   -- in the static segment, while protection is on
   pub kept_stored : (b : B) (h h' : Held) (at i : ℕ) (from public : List ℕ) → FitsBank (state b) (named b) h → 1 ≤ length from → h.frame.protected ≡ true → Some (Static i) ≡ where_is h.frame at (length from)
-      → passes_limit true (shown (state b) (named b) h) (Some (Static i)) (length from) ≡ false → EffectDone did state named (scene b b h h' [] []) (static_written true (shown (state b) (named b) h) [] i from)
-      → Stores did state named (scene b b h h' public public) at (length from) (written (shown (state b) (named b) h) public at from) (Ok tt)
+      → passes_limit true (frame_on_bank (state b) (named b) h) (Some (Static i)) (length from) ≡ false → EffectDone did state named (scene b b h h' [] []) (static_written true (frame_on_bank (state b) (named b) h) [] i from)
+      → Stores did state named (scene b b h h' public public) at (length from) (write_effect (frame_on_bank (state b) (named b) h) public at from) (Ok tt)
   kept_stored b h h' at i from public fits some on place limit left =
-      let m = shown (state b) (named b) h in
+      let m = frame_on_bank (state b) (named b) h in
       let n = length from in
       let is : where_is m at n ≡ Some (Static i) = where_shown (state b) (named b) h at n fits ∙ sym place in (
         can_write m at n (Static i) some is (ap (λ (t : Bool). passes_limit t m (Some (Static i)) n) on ∙ limit),
@@ -65,10 +65,10 @@ module _ {B : Type 0} (did : B → BankItem → Answer → B → Type 0) (state 
       )
 
   pub refused : (b : B) (h h' : Held) (at i : ℕ) (from public : List ℕ) (a : Abend) → FitsBank (state b) (named b) h → 1 ≤ length from → h.frame.protected ≡ true → Some (Static i) ≡ where_is h.frame at (length from)
-      → passes_limit true (shown (state b) (named b) h) (Some (Static i)) (length from) ≡ true → a ≡ A08 → h' ≡ h
-      → Stores did state named (scene b b h h' public public) at (length from) (written (shown (state b) (named b) h) public at from) (Err (halt.Abend a))
+      → passes_limit true (frame_on_bank (state b) (named b) h) (Some (Static i)) (length from) ≡ true → a ≡ A08 → h' ≡ h
+      → Stores did state named (scene b b h h' public public) at (length from) (write_effect (frame_on_bank (state b) (named b) h) public at from) (Err (halt.Abend a))
   refused b h h' at i from public a fits some on place limit is_08 unchanged =
-      let m = shown (state b) (named b) h in
+      let m = frame_on_bank (state b) (named b) h in
       let n = length from in
       let is : where_is m at n ≡ Some (Static i) = where_shown (state b) (named b) h at n fits ∙ sym place in
       let due : too_many m at n ≡ true = limit_in m at n (Some (Static i)) is ∙ ap (λ (t : Bool). passes_limit t m (Some (Static i)) n) on ∙ limit in
@@ -76,10 +76,10 @@ module _ {B : Type 0} (did : B → BankItem → Answer → B → Type 0) (state 
 
   -- in the static segment, while protection is off
   pub committed_stored : (b e : B) (h : Held) (at i : ℕ) (from public : List ℕ) → FitsBank (state b) (named b) h → 1 ≤ length from → h.frame.protected ≡ false → Some (Static i) ≡ where_is h.frame at (length from)
-      → EffectDone did state named (scene b e h h [] []) (static_written false (shown (state b) (named b) h) [] i from)
-      → Stores did state named (scene b e h h public public) at (length from) (written (shown (state b) (named b) h) public at from) (Ok tt)
+      → EffectDone did state named (scene b e h h [] []) (static_written false (frame_on_bank (state b) (named b) h) [] i from)
+      → Stores did state named (scene b e h h public public) at (length from) (write_effect (frame_on_bank (state b) (named b) h) public at from) (Ok tt)
   committed_stored b e h at i from public fits some off place left =
-      let m = shown (state b) (named b) h in
+      let m = frame_on_bank (state b) (named b) h in
       let n = length from in
       let is : where_is m at n ≡ Some (Static i) = where_shown (state b) (named b) h at n fits ∙ sym place in (
         can_write m at n (Static i) some is (ap (λ (t : Bool). passes_limit t m (Some (Static i)) n) off),
@@ -87,10 +87,10 @@ module _ {B : Type 0} (did : B → BankItem → Answer → B → Type 0) (state 
       )
 
   pub stopped_stored : (b e : B) (h : Held) (at i : ℕ) (from public : List ℕ) (s : Stop) → FitsBank (state b) (named b) h → 1 ≤ length from → h.frame.protected ≡ false → Some (Static i) ≡ where_is h.frame at (length from)
-      → Commits did state named (scene b e h h [] []) (static_written false (shown (state b) (named b) h) [] i from) (Err s)
-      → Stores did state named (scene b e h h public public) at (length from) (written (shown (state b) (named b) h) public at from) (Err (halt.Stop s))
+      → Commits did state named (scene b e h h [] []) (static_written false (frame_on_bank (state b) (named b) h) [] i from) (Err s)
+      → Stores did state named (scene b e h h public public) at (length from) (write_effect (frame_on_bank (state b) (named b) h) public at from) (Err (halt.Stop s))
   stopped_stored b e h at i from public s fits some off place commits =
-      let m = shown (state b) (named b) h in
+      let m = frame_on_bank (state b) (named b) h in
       let n = length from in
       let is : where_is m at n ≡ Some (Static i) = where_shown (state b) (named b) h at n fits ∙ sym place in (
         can_write m at n (Static i) some is (ap (λ (t : Bool). passes_limit t m (Some (Static i)) n) off),
@@ -99,14 +99,14 @@ module _ {B : Type 0} (did : B → BankItem → Answer → B → Type 0) (state 
 
   -- in the dynamic segment
   pub dynamic_stored : (b : B) (f : Inside) (h : Held) (at i : ℕ) (from public dyn : List ℕ) → frame_value f ≡ h → FitsBank (state b) (named b) h → (state b).stopped ≡ false → 1 ≤ length from → Some (Dynamic i) ≡ where_is h.frame at (length from) → dyn ≡ splice f.dynamic i from
-      → Stores did state named (scene b b h (frame_value (record f { dynamic = dyn })) public public) at (length from) (written (shown (state b) (named b) h) public at from) (Ok tt)
+      → Stores did state named (scene b b h (frame_value (record f { dynamic = dyn })) public public) at (length from) (write_effect (frame_on_bank (state b) (named b) h) public at from) (Ok tt)
   dynamic_stored b f h at i from public dyn view fits going some place spliced =
-      let m = shown (state b) (named b) h in
+      let m = frame_on_bank (state b) (named b) h in
       let n = length from in
       let next : Held = record h { frame = record h.frame { dyn = splice h.frame.dyn i from } } in
       let now : frame_value (record f { dynamic = dyn }) ≡ next = ap (λ (t : List ℕ). frame_value (record f { dynamic = t })) spliced ∙ ap (λ (t : Held). record t { frame = record t.frame { dyn = splice t.frame.dyn i from } }) view in
       let is : where_is m at n ≡ Some (Dynamic i) = where_shown (state b) (named b) h at n fits ∙ sym place in
-      let left : EffectDone did state named (scene b b h next public public) (written_in m public from (Some (Dynamic i))) = record {
+      let left : EffectDone did state named (scene b b h next public public) (write_effect_at m public from (Some (Dynamic i))) = record {
         commits = refl;
         bytes = refl;
         frame = refl;
@@ -116,15 +116,15 @@ module _ {B : Type 0} (did : B → BankItem → Answer → B → Type 0) (state 
         going = going;
       } in (
         can_write m at n (Dynamic i) some is (no_limit_dynamic m.protected m i n),
-        subst (λ (t : Held). EffectDone did state named (scene b b h t public public) (written m public at from)) (sym now) (subst (λ (e : Effect). EffectDone did state named (scene b b h next public public) e) (written_is m public at from (Some (Dynamic i)) is) left),
+        subst (λ (t : Held). EffectDone did state named (scene b b h t public public) (write_effect m public at from)) (sym now) (subst (λ (e : Effect). EffectDone did state named (scene b b h next public public) e) (written_is m public at from (Some (Dynamic i)) is) left),
       )
 
   -- in the public segment
   pub public_stored : (b : B) (h : Held) (at i : ℕ) (from public public_after : List ℕ) → FitsBank (state b) (named b) h → (state b).stopped ≡ false → 1 ≤ length from → Some (Public i) ≡ where_is h.frame at (length from) → public_after ≡ splice public i from
-      → Stores did state named (scene b b h h public public_after) at (length from) (written (shown (state b) (named b) h) public at from) (Ok tt)
+      → Stores did state named (scene b b h h public public_after) at (length from) (write_effect (frame_on_bank (state b) (named b) h) public at from) (Ok tt)
   public_stored b h at i from public public_after fits going some place spliced =
-      let m = shown (state b) (named b) h in
+      let m = frame_on_bank (state b) (named b) h in
       let n = length from in
       let is : where_is m at n ≡ Some (Public i) = where_shown (state b) (named b) h at n fits ∙ sym place in
-      let left : EffectDone did state named (scene b b h h public public_after) (written_in m public from (Some (Public i))) = record { commits = refl; bytes = refl; frame = refl; public = spliced; slot = refl; fits = fits; going = going } in
+      let left : EffectDone did state named (scene b b h h public public_after) (write_effect_at m public from (Some (Public i))) = record { commits = refl; bytes = refl; frame = refl; public = spliced; slot = refl; fits = fits; going = going } in
       (can_write m at n (Public i) some is (no_limit_public m.protected m i n), subst (λ (e : Effect). EffectDone did state named (scene b b h h public public_after) e) (written_is m public at from (Some (Public i)) is) left)

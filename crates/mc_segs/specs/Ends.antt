@@ -11,7 +11,7 @@ use Rattle.mc_model_machine.specs.Frame.{Frame, Effect, is_outside, too_many}
 use Rattle.mc_model_machine.specs.Primitives.{Around, Then, Goes, Exits, Delegates}
 use Rattle.mc_model_machine.specs.Row.{RowEnd, Abends, Does, row}
 use Rattle.mc_bank.specs.Bank.{BankState}
-use Rattle.mc_segs.specs.HeldFrames.{Held, FitsBank, shown, seen}
+use Rattle.mc_segs.specs.HeldFrames.{Held, FitsBank, frame_on_bank, frame_reading}
 use Rattle.mc_segs.specs.declared.ends.Halt.{Halt}
 use Rattle.mc_segs.specs.declared.ends.Halt.TheVariants as halt
 use Rattle.mc_segs.specs.declared.ends.Next.{Next}
@@ -28,9 +28,9 @@ GivesOrAbends (Ok v) due a w = (due ≡ false) × (v ≡ w)
 GivesOrAbends (Err b) due a w = (due ≡ true) × (b ≡ a)
 
 -- an address if there is one, else abend 03
-abbrev pub addressed : Option ℕ → Result ℕ Abend
-addressed (Some a) = Ok a
-addressed None = Err A03
+abbrev pub address_or_abend : Option ℕ → Result ℕ Abend
+address_or_abend (Some a) = Ok a
+address_or_abend None = Err A03
 
 -- ---- static changes
 
@@ -59,11 +59,11 @@ pub record Scene (B : Type 0) : Type 0 where
 
 -- the frame on the bank before a call
 abbrev pub before : {B : Type 0} → (B → BankState) → (B → ℕ → Option (List ℕ)) → Scene B → Frame
-before state named s = shown (state s.bank) (named s.bank) s.held
+before state named s = frame_on_bank (state s.bank) (named s.bank) s.held
 
 -- the frame on the bank after a call
 abbrev pub after : {B : Type 0} → (B → BankState) → (B → ℕ → Option (List ℕ)) → Scene B → Frame
-after state named s = shown (state s.bank_after) (named s.bank_after) s.held_after
+after state named s = frame_on_bank (state s.bank_after) (named s.bank_after) s.held_after
 
 -- the static change of an effect, as a commit of the bank with this result
 abbrev pub Commits : {B : Type 0} → (B → BankItem → Answer → B → Type 0) → (B → BankState) → (B → ℕ → Option (List ℕ)) → Scene B → Effect → Answer → Type 0
@@ -73,7 +73,7 @@ Commits did state named s e a = IsOneCommit did (before state named s).name (bef
 pub record EffectDone {B : Type 0} (did : B → BankItem → Answer → B → Type 0) (state : B → BankState) (named : B → ℕ → Option (List ℕ)) (s : Scene B) (e : Effect) : Type 0 where
   pub commits : Commits did state named s e (Ok tt)
   pub bytes : (after state named s).fixed ≡ changed_bytes (before state named s).fixed e.changes
-  pub frame : seen (after state named s) ≡ seen e.frame
+  pub frame : frame_reading (after state named s) ≡ frame_reading e.frame
   pub public : s.public_after ≡ e.public
   pub slot : s.held_after.slot ≡ s.held.slot
   pub fits : FitsBank (state s.bank_after) (named s.bank_after) s.held_after

@@ -4,7 +4,7 @@ use Rattle.std.specs.List.{AllByRecursion}
 use Rattle.mc_model_card.specs.declared.card.Sizes.{Sizes}
 use Rattle.mc_model_device.specs.Bytes.{lookup, zeros}
 use Rattle.mc_model_device.specs.Card.{App}
-use Rattle.mc_model_device.specs.Pieces.{touched, ArePending}
+use Rattle.mc_model_device.specs.Pieces.{touched_words, ArePending}
 use Rattle.mc_model_machine.specs.Frame.{Frame, static_bytes, floor, dynamic_end, new_frame}
 use Rattle.mc_bank.specs.Bank.{BankState, app_of, name_or}
 
@@ -36,8 +36,8 @@ abbrev pub app_under : BankState → (ℕ → Option (List ℕ)) → Held → Ap
 app_under s named h = app_of s.apps (named h.slot)
 
 -- the machine's frame: the held one with the name and the static bytes of its application on the bank
-abbrev pub shown : BankState → (ℕ → Option (List ℕ)) → Held → Frame
-shown s named h = record h.frame { name = name_or (named h.slot); fixed = (app_under s named h).fixed }
+abbrev pub frame_on_bank : BankState → (ℕ → Option (List ℕ)) → Held → Frame
+frame_on_bank s named h = record h.frame { name = name_or (named h.slot); fixed = (app_under s named h).fixed }
 
 -- a frame fits a bank: its application is there, with the sizes and the access list that the frame was made with
 pub record FitsBank (s : BankState) (named : ℕ → Option (List ℕ)) (h : Held) : Type 0 where
@@ -84,8 +84,8 @@ pub record Seen : Type 0 where
   pub protected : Bool
 
 -- the observation of a frame
-abbrev pub seen : Frame → Seen
-seen f =
+abbrev pub frame_reading : Frame → Seen
+frame_reading f =
     record {
       name = f.name;
       code_len = f.code_len;
@@ -93,7 +93,7 @@ seen f =
       deny = f.deny;
       fixed = f.fixed;
       read = static_bytes f;
-      pending = touched f.pieces;
+      pending = touched_words f.pieces;
       none = no_pieces f.pieces;
       dyn = f.dyn;
       dt = f.dt;

@@ -1,8 +1,8 @@
 // Addresses, and accesses that lie whole in a segment.
 ghost use Rattle.std.specs.Prelude.{◌≡◌, ◌+◌, ◌*◌, ◌/◌, ◌^◌, ◌≤◌, ◌<◌, length, take, drop, false, OnOk, OnErr, option_map};
 ghost use Rattle.mc_model_machine.specs.Frame as model;
-ghost use Rattle.mc_segs.specs.HeldFrames.{shown, CanRun};
-ghost use Rattle.mc_segs.specs.Ends.{IfDue, scene, Stores, addressed};
+ghost use Rattle.mc_segs.specs.HeldFrames.{frame_on_bank, CanRun};
+ghost use Rattle.mc_segs.specs.Ends.{IfDue, scene, Stores, address_or_abend};
 ghost use Rattle.mc_segs.specs.Overlaid.{IsOverlaid};
 ghost use Rattle.mc_segs.specs.Places.{place_value};
 
@@ -37,7 +37,7 @@ pub enum Place {
 pub fn resolve(frame: &Frame, tag: u8, off: i16) -> Result<u16, Abend>
     requires low { 1 ≤ tag }
     requires high { tag ≤ 7 }
-    ensures { result ≡ addressed (model.resolve frame.now.frame tag off) }
+    ensures { result ≡ address_or_abend (model.resolve frame.now.frame tag off) }
 {
     register(frame, tag)
         .checked_add_signed(off)
@@ -97,10 +97,10 @@ pub fn load<B: Bank>(
     into: &mut [u8],
 ) -> Result<(), Abend>
     requires runs { CanRun (B.state bank.now) (B.named bank.now) frame.now }
-    ensures abend { IfDue result (model.is_outside (shown (B.state bank.now) (B.named bank.now) frame.now) at
+    ensures abend { IfDue result (model.is_outside (frame_on_bank (B.state bank.now) (B.named bank.now) frame.now) at
         (length into.old)) Abend.A03 }
     ensures bytes { OnOk result (into.new
-        ≡ model.bytes_at (shown (B.state bank.now) (B.named bank.now) frame.now) public.now at (length into.old)) }
+        ≡ model.bytes_at (frame_on_bank (B.state bank.now) (B.named bank.now) frame.now) public.now at (length into.old)) }
     ensures unchanged { OnErr result (into.new ≡ into.old) }
 {
     if into.is_empty() {
@@ -122,7 +122,7 @@ fn read_static<B: Bank>(bank: &B, frame: &Frame, at: u16, into: &mut [u8])
     requires runs { CanRun (B.state bank.now) (B.named bank.now) frame.now }
     requires range { at + length into.old ≤ length frame.now.frame.fixed }
     ensures { into.new ≡ take (length into.old)
-        (drop at (model.static_bytes (shown (B.state bank.now) (B.named bank.now) frame.now))) }
+        (drop at (model.static_bytes (frame_on_bank (B.state bank.now) (B.named bank.now) frame.now))) }
 {
     bank.fixed(frame.slot, at, into);
     for (number, word) in frame.pending.list() {
@@ -163,7 +163,7 @@ pub fn store<B: Bank>(
     requires high { length from.now ≤ 255 }
     ensures { Stores B.did B.state B.named (scene bank.old bank.new frame.old frame.new public.old public.new) at
         (length from.now)
-        (model.written (shown (B.state bank.old) (B.named bank.old) frame.old) public.old at from.now) result }
+        (model.write_effect (frame_on_bank (B.state bank.old) (B.named bank.old) frame.old) public.old at from.now) result }
 {
     match place_of(frame, at, from.len()) {
         Some(Place::Static(i)) if frame.protected => keep_static(bank, frame, i, from)?,

@@ -1,5 +1,5 @@
 ghost use Rattle.std.specs.Prelude.{◌≡◌, ◌≢◌, ◌-◌, ◌+◌, ◌≤◌, ◌<◌, length, true, false, OnOk, OnErr};
-ghost use Rattle.mc_model_machine.specs.Frame.{flagged, floor, session_of};
+ghost use Rattle.mc_model_machine.specs.Frame.{frame_with_flags, floor, session_of};
 ghost use Rattle.mc_segs.specs.HeldFrames.{new_held};
 
 use crate::bytes::write;
@@ -147,7 +147,7 @@ impl Frame {
 
     /// Sets the flags, and nothing else.
     pub fn set_flags(&mut self, c: bool, z: bool)
-        ensures { self.new ≡ record self.old { frame = flagged self.old.frame c z } }
+        ensures { self.new ≡ record self.old { frame = frame_with_flags self.old.frame c z } }
     {
         self.c = c;
         self.z = z;

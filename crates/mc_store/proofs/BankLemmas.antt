@@ -6,19 +6,19 @@ use Rattle.mc_model_device.specs.Bytes.{lookup, insert}
 use Rattle.mc_model_device.specs.Device.{DeviceState, IsSized, Wrote}
 use Rattle.mc_model_device.specs.Card.{App, means}
 use Rattle.mc_model_card.specs.Items.{BankItem, Commit, Remove}
-use Rattle.mc_bank.specs.Bank.{no_app, app_of, sizes_of, with_words, committed, item_done}
+use Rattle.mc_bank.specs.Bank.{no_app, app_of, sizes_of, with_words, apps_after_commit, item_done}
 use Rattle.mc_bank.specs.Slots.{slot_place, name_of_slot}
 use Rattle.mc_bank.specs.SlotLaws.{commit_sized, slot_stays}
 use Rattle.mc_blocks.proofs.Maps.{OneAt}
-use Rattle.mc_blocks.proofs.Applications.{found-application}
+use Rattle.mc_blocks.proofs.Applications.{found_application}
 use Rattle.mc_store.specs.declared.store.Store.{Store}
 use Rattle.mc_store.specs.Store.{apps_in, is_going, place_named, store_named, store_standing, name_of_place}
 use Rattle.mc_store.specs.GoingLaws.{Going, going_is}
-use Rattle.mc_store.specs.PlaceLaws.{place-changed}
-use Rattle.mc_store.specs.TurnLaws.{Standing, standing-of}
+use Rattle.mc_store.specs.PlaceLaws.{place_changed}
+use Rattle.mc_store.specs.TurnLaws.{Standing, standing_of}
 use Rattle.mc_store.specs.Laws.{store_obeys, store_keeps}
 use Rattle.mc_store.specs.StoreItems.{store_did}
-use Rattle.mc_model_device.proofs.BoolLemmas.{some-is}
+use Rattle.mc_model_device.proofs.BoolLemmas.{some_is}
 
 -- a store that is not stopped runs
 pub running : (d : DeviceState) (c : ℕ) → not (is_going d c) ≡ false → is_going d c ≡ true
@@ -37,19 +37,19 @@ module _ {N : Type 0} (state : N → DeviceState) (wrote : N → ℕ → List �
   map_either s e i (Err t) did = (store_obeys state wrote obeys s.device e.device s.count e.count i (Err t) did).apps
 
   places_stay : (s : Store N) (n : List ℕ) (ws : List (ℕ × List ℕ)) (k : ℕ) → IsSized (state s.device).words → is_going (state s.device) s.count ≡ true → IsSome (lookup (means (state s.device).words).apps n)
-      → name_of_place (committed (apps_in (state s.device).words) n ws) k ≡ name_of_place (apps_in (state s.device).words) k
+      → name_of_place (apps_after_commit (apps_in (state s.device).words) n ws) k ≡ name_of_place (apps_in (state s.device).words) k
   places_stay s n ws k image going there =
       let m = (state s.device).words in
       let g : Going (state s.device) s.count = going_is (state s.device) s.count going in
-      let t : Standing m = standing-of (state s.device) s.count g in
-      let found = some-is (lookup (means m).apps n) there in
+      let t : Standing m = standing_of (state s.device) s.count g in
+      let found = some_is (lookup (means m).apps n) there in
       let x = found.0 in
       let app : app_of (means m).apps (Some n) ≡ x = ap (λ (o : Option App). unwrap_or o no_app) found.1 in
-      let one : OneAt n x.place (means m).apps = (found-application m n x image g.closed t.well found.1).one in
+      let one : OneAt n x.place (means m).apps = (found_application m n x image g.closed t.well found.1).one in
       let same : apps_in m ≡ (means m).apps = t.map ∙ sym t.apps in
       ap (λ (es : List (List ℕ × App)). name_of_place (insert es n (with_words ws (app_of es (Some n)))) k) same
       ∙ ap (λ (y : App). name_of_place (insert (means m).apps n (with_words ws y)) k) app
-      ∙ place-changed (means m).apps n x.place k x (with_words ws x) refl one found.1
+      ∙ place_changed (means m).apps n x.place k x (with_words ws x) refl one found.1
       ∙ ap (λ (es : List (List ℕ × App)). name_of_place es k) (sym same)
 
   commit_sizes : (s e : Store N) (n : List ℕ) (ws : List (ℕ × List ℕ)) (a : Answer) → store_did state wrote s (Commit n ws) a e → (l : List ℕ)

@@ -12,28 +12,28 @@ use Rattle.mc_model_device.specs.Layout.{gaps, first_fitting}
 use Rattle.mc_model_card.specs.Items.{Site, BankItem, Piece, Blank, Note}
 use Rattle.mc_model_card.specs.Manager.{in_words, word_parts}
 use Rattle.mc_bank.specs.Bank.{part_len}
-use Rattle.mc_store.specs.Store.{apps_in, is_going, needed_by, part_from, IsGoodIn, IsInWord, StoreDid}
+use Rattle.mc_store.specs.Store.{apps_in, is_going, words_of_sizes, part_from, IsGoodIn, IsInWord, StoreDid}
 use Rattle.mc_store.specs.GoingLaws.{Going, going_is, is_going_of}
-use Rattle.mc_store.specs.CreationLaws.{AtSite, at-site}
-use Rattle.mc_store.specs.TurnLaws.{CardChanged, Standing, standing-of, turns, parted}
+use Rattle.mc_store.specs.CreationLaws.{AtSite, at_site}
+use Rattle.mc_store.specs.TurnLaws.{CardChanged, Standing, standing_of, turns, parted}
 use Rattle.mc_model_device.proofs.LayoutLemmas.{closed_means}
 use Rattle.mc_store.proofs.SiteLemmas.{no_words}
 
 -- ---- the parts of a piece
 
-words-fuel : (n k at : ℕ) (b : List ℕ) → length b ≤ n → length b ≤ k → in_words n at b ≡ in_words k at b
-words-fuel n k at [] hn hk = no_words n at ∙ sym (no_words k at)
-words-fuel zero k at (y ∷ b) hn hk = absurd (omega arith)
-words-fuel (suc n) zero at (y ∷ b) hn hk = absurd (omega arith)
-words-fuel (suc n) (suc k) at (y ∷ b) hn hk =
+words_fuel : (n k at : ℕ) (b : List ℕ) → length b ≤ n → length b ≤ k → in_words n at b ≡ in_words k at b
+words_fuel n k at [] hn hk = no_words n at ∙ sym (no_words k at)
+words_fuel zero k at (y ∷ b) hn hk = absurd (omega arith)
+words_fuel (suc n) zero at (y ∷ b) hn hk = absurd (omega arith)
+words_fuel (suc n) (suc k) at (y ∷ b) hn hk =
     let j = 8 - at % 8 in
     let left = length-drop j (y ∷ b) in
-    ap (λ (l : List (ℕ × List ℕ)). (at, take j (y ∷ b)) ∷ l) (words-fuel n k (at + j) (drop j (y ∷ b)) (omega (arith, left)) (omega (arith, left)))
+    ap (λ (l : List (ℕ × List ℕ)). (at, take j (y ∷ b)) ∷ l) (words_fuel n k (at + j) (drop j (y ∷ b)) (omega (arith, left)) (omega (arith, left)))
 
 -- the first part of some bytes, and those after it
-pub parts-step : (at j : ℕ) (b : List ℕ) → 1 ≤ j → j ≤ length b → at % 8 + j ≤ 8 → (j ≡ length b) ⊎ (at % 8 + j ≡ 8) → word_parts at b ≡ (at, take j b) ∷ word_parts (at + j) (drop j b)
-parts-step at j [] some few fits least = absurd (omega arith)
-parts-step at j (y ∷ ys) some few fits least =
+pub parts_step : (at j : ℕ) (b : List ℕ) → 1 ≤ j → j ≤ length b → at % 8 + j ≤ 8 → (j ≡ length b) ⊎ (at % 8 + j ≡ 8) → word_parts at b ≡ (at, take j b) ∷ word_parts (at + j) (drop j b)
+parts_step at j [] some few fits least = absurd (omega arith)
+parts_step at j (y ∷ ys) some few fits least =
     let b = y ∷ ys in
     let k = 8 - at % 8 in
     let left = length-drop j b in
@@ -46,23 +46,23 @@ parts-step at j (y ∷ ys) some few fits least =
       | inr word ↦
           let same : k ≡ j = omega (arith, word) in
           ap (λ (n : ℕ). (at, take n b) ∷ in_words (length ys) (at + n) (drop n b)) same
-          ∙ ap (λ (l : List (ℕ × List ℕ)). (at, take j b) ∷ l) (words-fuel (length ys) (length (drop j b)) (at + j) (drop j b) (omega (arith, left)) (omega arith))
+          ∙ ap (λ (l : List (ℕ × List ℕ)). (at, take j b) ∷ l) (words_fuel (length ys) (length (drop j b)) (at + j) (drop j b) (omega (arith, left)) (omega arith))
     ]
 
 -- the items of a piece
 abbrev pub piece_items : Site → Part → ℕ → List ℕ → List BankItem
 piece_items s p at b = map (λ c. Piece s p c.0 c.1) (word_parts at b)
 
-pub piece-step : (s : Site) (p : Part) (at j : ℕ) (b : List ℕ) → 1 ≤ j → j ≤ length b → at % 8 + j ≤ 8 → (j ≡ length b) ⊎ (at % 8 + j ≡ 8) → piece_items s p at b ≡ Piece s p at (take j b) ∷ piece_items s p (at + j) (drop j b)
-piece-step s p at j b some few fits least = ap (λ (l : List (ℕ × List ℕ)). map (λ (c : ℕ × List ℕ). Piece s p c.0 c.1) l) (parts-step at j b some few fits least)
+pub piece_step : (s : Site) (p : Part) (at j : ℕ) (b : List ℕ) → 1 ≤ j → j ≤ length b → at % 8 + j ≤ 8 → (j ≡ length b) ⊎ (at % 8 + j ≡ 8) → piece_items s p at b ≡ Piece s p at (take j b) ∷ piece_items s p (at + j) (drop j b)
+piece_step s p at j b some few fits least = ap (λ (l : List (ℕ × List ℕ)). map (λ (c : ℕ × List ℕ). Piece s p c.0 c.1) l) (parts_step at j b some few fits least)
 
 -- the parts from one on, as a loop has them
-pub piece-next : (s : Site) (p : Part) (at done j : ℕ) (b : List ℕ) → done < length b → 1 ≤ j → j ≤ length b - done → (at + done) % 8 + j ≤ 8 → (j ≡ length b - done) ⊎ ((at + done) % 8 + j ≡ 8)
+pub piece_next : (s : Site) (p : Part) (at done j : ℕ) (b : List ℕ) → done < length b → 1 ≤ j → j ≤ length b - done → (at + done) % 8 + j ≤ 8 → (j ≡ length b - done) ⊎ ((at + done) % 8 + j ≡ 8)
     → piece_items s p (at + done) (drop done b) ≡ Piece s p (at + done) (take (done + j - done) (drop done b)) ∷ piece_items s p (at + (done + j)) (drop (done + j) b)
-piece-next s p at done j b lt some few fits least =
+piece_next s p at done j b lt some few fits least =
     let left = length-drop done b in
     let same : j ≡ done + j - done = omega arith in
-    piece-step s p (at + done) j (drop done b) some (omega (arith, few, left)) fits (elim least [ inl all ↦ inl (all ∙ sym left) | inr full ↦ inr full ])
+    piece_step s p (at + done) j (drop done b) some (omega (arith, few, left)) fits (elim least [ inl all ↦ inl (all ∙ sym left) | inr full ↦ inr full ])
     ∙ ap (λ (n : ℕ). Piece s p (at + done) (take n (drop done b)) ∷ piece_items s p (at + done + j) (drop j (drop done b))) same
     ∙ ap (λ (n : ℕ). Piece s p (at + done) (take (done + j - done) (drop done b)) ∷ piece_items s p n (drop j (drop done b))) (let e : at + done + j ≡ at + (done + j) = omega arith in e)
     ∙ ap (λ (l : List ℕ). Piece s p (at + done) (take (done + j - done) (drop done b)) ∷ piece_items s p (at + (done + j)) l) (drop-drop j done b)
@@ -74,24 +74,24 @@ pub record ItemsLead {S : Type 0} (one : S → BankItem → Answer → S → Typ
   pub rest : (a : Answer) (e : S) → InOrder one now left a e → InOrder one start all a e
 
 module _ {S : Type 0} (one : S → BankItem → Answer → S → Type 0) where
-  pub leads-on : (start now next : S) (all left rest : List BankItem) (i : BankItem) → ItemsLead one start all now left → left ≡ i ∷ rest → one now i (Ok tt) next → ItemsLead one start all next rest
-  leads-on start now next all left rest i leads is did =
+  pub leads_on : (start now next : S) (all left rest : List BankItem) (i : BankItem) → ItemsLead one start all now left → left ≡ i ∷ rest → one now i (Ok tt) next → ItemsLead one start all next rest
+  leads_on start now next all left rest i leads is did =
       record { rest = λ a e h. leads.rest a e (subst (λ (l : List BankItem). InOrder one now l a e) (sym is) (inl (next, did, h))) }
 
-  pub leads-stop : (start now e : S) (all left rest : List BankItem) (i : BankItem) (s : Stop) → ItemsLead one start all now left → left ≡ i ∷ rest → one now i (Err s) e → InOrder one start all (Err s) e
-  leads-stop start now e all left rest i s leads is did = leads.rest (Err s) e (subst (λ (l : List BankItem). InOrder one now l (Err s) e) (sym is) (inr (s, did, refl)))
+  pub leads_stop : (start now e : S) (all left rest : List BankItem) (i : BankItem) (s : Stop) → ItemsLead one start all now left → left ≡ i ∷ rest → one now i (Err s) e → InOrder one start all (Err s) e
+  leads_stop start now e all left rest i s leads is did = leads.rest (Err s) e (subst (λ (l : List BankItem). InOrder one now l (Err s) e) (sym is) (inr (s, did, refl)))
 
 -- ---- one write
 
-pub site-word : (d : DeviceState) (c : ℕ) (s : Site) (p : Part) (at n : ℕ) → IsSized d.words → is_going d c ≡ true → IsGoodIn d.words s → IsInWord (part_len p s.sizes) at n → part_from p s.sizes s.place + at / 8 < length d.words
-site-word d c s p at n image going good i =
+pub site_word : (d : DeviceState) (c : ℕ) (s : Site) (p : Part) (at n : ℕ) → IsSized d.words → is_going d c ≡ true → IsGoodIn d.words s → IsInWord (part_len p s.sizes) at n → part_from p s.sizes s.place + at / 8 < length d.words
+site_word d c s p at n image going good i =
     let g : Going d c = going_is d c going in
-    let site : AtSite d.words s = at-site d.words s image g.closed (standing-of d c g).well good in
+    let site : AtSite d.words s = at_site d.words s image g.closed (standing_of d c g).well good in
     let lies = parted p s.sizes s.place at n good.limits i in
     omega (arith, site.ends, lies.1)
 
-pub power-on : (d : DeviceState) (c : ℕ) → is_going d c ≡ true → d.on ≡ true
-power-on d c going = (going_is d c going).on
+pub power_on : (d : DeviceState) (c : ℕ) → is_going d c ≡ true → d.on ≡ true
+power_on d c going = (going_is d c going).on
 
 -- a card that stays, on a store that goes on
 pub record PlainOn (d e : DeviceState) (c : ℕ) : Type 0 where
@@ -100,10 +100,10 @@ pub record PlainOn (d e : DeviceState) (c : ℕ) : Type 0 where
   pub cuts : e.cuts ≡ d.cuts
   pub faults : e.faults ≡ d.faults
 
-pub plain-on : (d e : DeviceState) (c : ℕ) → is_going d c ≡ true → CardChanged d (apps_in d.words) e c → PlainOn d e c
-plain-on d e c going t =
+pub plain_on : (d e : DeviceState) (c : ℕ) → is_going d c ≡ true → CardChanged d (apps_in d.words) e c → PlainOn d e c
+plain_on d e c going t =
     let g : Going d c = going_is d c going in
-    let s : Standing d.words = standing-of d c g in
+    let s : Standing d.words = standing_of d c g in
     let same : card_of e.words ≡ card_of d.words = t.card ∙ ap (λ (es : List (List ℕ × App)). record (card_of d.words) { apps = es }) s.map in
     record {
       going = is_going_of e c (record { on = t.ended.0; closed = t.closed; laid = t.good; layout = ap (λ (x : Card). x.layout) same ∙ g.layout; count = g.count ∙ sym (ap (λ (x : Card). length x.apps) same) });
@@ -112,48 +112,48 @@ plain-on d e c going t =
       faults = t.ended.2;
     }
 
-pub good-on : (d e : DeviceState) (c : ℕ) (s : Site) → PlainOn d e c → IsGoodIn d.words s → IsGoodIn e.words s
-good-on d e c s on good =
+pub good_on : (d e : DeviceState) (c : ℕ) (s : Site) → PlainOn d e c → IsGoodIn d.words s → IsGoodIn e.words s
+good_on d e c s on good =
     record {
       limits = good.limits;
       few = subst (λ (x : Card). length x.apps < 32) (sym on.means) good.few;
-      place = ap (λ (x : Card). first_fitting (needed_by s.sizes) (gaps x)) on.means ∙ good.place;
+      place = ap (λ (x : Card). first_fitting (words_of_sizes s.sizes) (gaps x)) on.means ∙ good.place;
     }
 
 module _ {D : Type 0} (state : D → DeviceState) (wrote : D → ℕ → List ℕ → Answer → D → Type 0)
     (obeys : (d : D) (at : ℕ) (w : List ℕ) (a : Answer) (e : D) → (state d).on ≡ true → wrote d at w a e → Wrote (state d) at w a (state e)) where
-  one-write : (d e : D) (at : ℕ) (w : List ℕ) (a : Answer) → wrote d at w a e → Makes wrote d ((at, w) ∷ []) a e
-  one-write d e at w (Ok u) h = inl (e, h, refl)
-  one-write d e at w (Err s) h = inr (s, h, refl)
+  one_write : (d e : D) (at : ℕ) (w : List ℕ) (a : Answer) → wrote d at w a e → Makes wrote d ((at, w) ∷ []) a e
+  one_write d e at w (Ok u) h = inl (e, h, refl)
+  one_write d e at w (Err s) h = inr (s, h, refl)
 
-  pub piece-did : (d e : D) (c : ℕ) (s : Site) (p : Part) (at from : ℕ) (b : List ℕ) (a : Answer) → IsSized (state d).words → is_going (state d) c ≡ true → IsGoodIn (state d).words s → IsInWord (part_len p s.sizes) at (length b) → from ≡ part_from p s.sizes s.place
+  pub piece_did : (d e : D) (c : ℕ) (s : Site) (p : Part) (at from : ℕ) (b : List ℕ) (a : Answer) → IsSized (state d).words → is_going (state d) c ≡ true → IsGoodIn (state d).words s → IsInWord (part_len p s.sizes) at (length b) → from ≡ part_from p s.sizes s.place
       → wrote d (from + at / 8) (splice (word (state d).words (from + at / 8)) (at % 8) b) a e → StoreDid state wrote d c (Piece s p at b) a e c
-  piece-did d e c s p at from b a image going good i is made =
+  piece_did d e c s p at from b a image going good i is made =
       record {
         going = going;
         image = image;
         allowed = (good, i);
-        makes = one-write d e _ _ a (subst (λ (q : ℕ). wrote d (q + at / 8) (splice (word (state d).words (q + at / 8)) (at % 8) b) a e) is made);
+        makes = one_write d e _ _ a (subst (λ (q : ℕ). wrote d (q + at / 8) (splice (word (state d).words (q + at / 8)) (at % 8) b) a e) is made);
         count = refl;
       }
 
   -- a piece that was done leaves the card
-  pub piece-on : (d e : D) (c : ℕ) (s : Site) (p : Part) (at : ℕ) (b : List ℕ) → StoreDid state wrote d c (Piece s p at b) (Ok tt) e c → PlainOn (state d) (state e) c
-  piece-on d e c s p at b did = plain-on (state d) (state e) c did.going (turns state wrote obeys (Piece s p at b) d e c c (Ok tt) did)
+  pub piece_on : (d e : D) (c : ℕ) (s : Site) (p : Part) (at : ℕ) (b : List ℕ) → StoreDid state wrote d c (Piece s p at b) (Ok tt) e c → PlainOn (state d) (state e) c
+  piece_on d e c s p at b did = plain_on (state d) (state e) c did.going (turns state wrote obeys (Piece s p at b) d e c c (Ok tt) did)
 
-  pub blank-on : (d e : D) (c : ℕ) (s : Site) (at n : ℕ) → StoreDid state wrote d c (Blank s at n) (Ok tt) e c → PlainOn (state d) (state e) c
-  blank-on d e c s at n did = plain-on (state d) (state e) c did.going (turns state wrote obeys (Blank s at n) d e c c (Ok tt) did)
+  pub blank_on : (d e : D) (c : ℕ) (s : Site) (at n : ℕ) → StoreDid state wrote d c (Blank s at n) (Ok tt) e c → PlainOn (state d) (state e) c
+  blank_on d e c s at n did = plain_on (state d) (state e) c did.going (turns state wrote obeys (Blank s at n) d e c c (Ok tt) did)
 
-  pub note-on : (d e : D) (c : ℕ) (s : Site) (n : List ℕ) (i : ℕ) → StoreDid state wrote d c (Note s n i) (Ok tt) e c → PlainOn (state d) (state e) c
-  note-on d e c s n i did = plain-on (state d) (state e) c did.going (turns state wrote obeys (Note s n i) d e c c (Ok tt) did)
+  pub note_on : (d e : D) (c : ℕ) (s : Site) (n : List ℕ) (i : ℕ) → StoreDid state wrote d c (Note s n i) (Ok tt) e c → PlainOn (state d) (state e) c
+  note_on d e c s n i did = plain_on (state d) (state e) c did.going (turns state wrote obeys (Note s n i) d e c c (Ok tt) did)
 
-  piece-going-by : (d e : D) (c : ℕ) (s : Site) (p : Part) (at : ℕ) (b : List ℕ) (a : Answer) → StoreDid state wrote d c (Piece s p at b) a e c → OnOk a (is_going (state e) c ≡ true)
-  piece-going-by d e c s p at b (Ok tt) did = (piece-on d e c s p at b did).going
-  piece-going-by d e c s p at b (Err t) did = tt
+  piece_going_by : (d e : D) (c : ℕ) (s : Site) (p : Part) (at : ℕ) (b : List ℕ) (a : Answer) → StoreDid state wrote d c (Piece s p at b) a e c → OnOk a (is_going (state e) c ≡ true)
+  piece_going_by d e c s p at b (Ok tt) did = (piece_on d e c s p at b did).going
+  piece_going_by d e c s p at b (Err t) did = tt
 
-  pub piece-going : (d e : D) (c : ℕ) (s : Site) (p : Part) (at : ℕ) (b : List ℕ) (a : Answer) → StoreDid state wrote d c (Piece s p at b) a e c → OnOk a (is_going (state e) c ≡ true)
-  piece-going d e c s p at b a did = piece-going-by d e c s p at b a did
+  pub piece_going : (d e : D) (c : ℕ) (s : Site) (p : Part) (at : ℕ) (b : List ℕ) (a : Answer) → StoreDid state wrote d c (Piece s p at b) a e c → OnOk a (is_going (state e) c ≡ true)
+  piece_going d e c s p at b a did = piece_going_by d e c s p at b a did
 
-  pub piece-good : (d e : D) (c : ℕ) (s : Site) (p : Part) (at : ℕ) (b : List ℕ) (a : Answer) → IsGoodIn (state d).words s → StoreDid state wrote d c (Piece s p at b) a e c → OnOk a (IsGoodIn (state e).words s)
-  piece-good d e c s p at b (Ok tt) good did = good-on (state d) (state e) c s (piece-on d e c s p at b did) good
-  piece-good d e c s p at b (Err t) good did = tt
+  pub piece_good : (d e : D) (c : ℕ) (s : Site) (p : Part) (at : ℕ) (b : List ℕ) (a : Answer) → IsGoodIn (state d).words s → StoreDid state wrote d c (Piece s p at b) a e c → OnOk a (IsGoodIn (state e).words s)
+  piece_good d e c s p at b (Ok tt) good did = good_on (state d) (state e) c s (piece_on d e c s p at b did) good
+  piece_good d e c s p at b (Err t) good did = tt

@@ -9,7 +9,7 @@ use Rattle.mc_model_device.specs.Bytes.{up}
 use Rattle.mc_model_device.specs.Device.{IsSized}
 use Rattle.mc_model_device.specs.Card.{word, cells, section}
 use Rattle.std.proofs.lemmas.List.Folds.{concat-append}
-use Rattle.mc_blocks.proofs.Sections.{length-cells}
+use Rattle.mc_blocks.proofs.Sections.{length_cells}
 use Rattle.mc_store.specs.Slots.{flat}
 
 take_sum : (a b : ℕ) (l : List ℕ) → take (a + b) l ≡ take a l ++ take b (drop a l)
@@ -110,7 +110,7 @@ module _ (m : List (List ℕ)) (image : IsSized m) where
   section_flat q n h =
       let k = up n 8 in
       let l = drop q m in
-      let whole : length (cells m q k) ≡ 8 * k = length-cells m k q image h in
+      let whole : length (cells m q k) ≡ 8 * k = length_cells m k q image h in
       let enough : n ≤ 8 * k = omega arith in
       let parts : concat l ≡ concat (take k l) ++ concat (drop k l) = ap concat (sym (take-append-drop k l)) ∙ concat-append (take k l) (drop k l) in
       sym (

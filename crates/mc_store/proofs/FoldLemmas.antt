@@ -16,22 +16,22 @@ use Rattle.mc_model_device.specs.Device.{DeviceState, Wrote, WriteDone, Makes}
 use Rattle.mc_model_device.specs.Card.{App, Card, means, card_of}
 use Rattle.mc_model_device.specs.Layout.{gaps, first_fitting}
 use Rattle.mc_model_card.specs.Items.{Site, BankItem, Piece, Blank, Note, Commit, Enter, Remove}
-use Rattle.mc_model_device.proofs.ImageLemmas.{all-map}
-use Rattle.mc_bank.specs.Bank.{BankState, IsGoodSite, StayGood, entered, item_done, part_len, IsChanged, IsStopped, StopRose, Changes}
+use Rattle.mc_model_device.proofs.ImageLemmas.{all_map}
+use Rattle.mc_bank.specs.Bank.{BankState, IsGoodSite, StayGood, app_of_site, item_done, part_len, IsChanged, IsStopped, StopRose, Changes}
 use Rattle.mc_store.specs.declared.store.Store.{Store}
 use Rattle.mc_bank.specs.Slots.{slot_place, name_of_slot}
-use Rattle.mc_store.specs.Store.{apps_in, is_going, store_state, store_named, store_room, store_standing, name_of_place, part_in, needed_by, IsGoodIn, IsInWord, item_writes}
+use Rattle.mc_store.specs.Store.{apps_in, is_going, store_state, store_named, store_room, store_standing, name_of_place, part_in, words_of_sizes, IsGoodIn, IsInWord, item_writes}
 use Rattle.mc_store.specs.GoingLaws.{Going, going_is, closed_settled, closed_apps, laid_apps}
-use Rattle.mc_store.specs.GapLaws.{just-one}
-use Rattle.mc_store.specs.CreationLaws.{at-site}
-use Rattle.mc_store.specs.TurnLaws.{ChangesCard, Standing, standing-of, turns}
+use Rattle.mc_store.specs.GapLaws.{just_one}
+use Rattle.mc_store.specs.CreationLaws.{at_site}
+use Rattle.mc_store.specs.TurnLaws.{ChangesCard, Standing, standing_of, turns}
 use Rattle.mc_store.specs.Laws.{store_obeys, store_keeps}
 use Rattle.mc_store.specs.StoreItems.{store_did}
 use Rattle.mc_store.proofs.SiteLemmas.{piece_part, piece_other, blank_part, note_part, laid_parts, part_length}
 use Rattle.mc_store.proofs.ItemLemmas.{IsPlain}
 use Rattle.mc_model_device.proofs.LayoutLemmas.{closed_means}
-use Rattle.mc_model_device.proofs.ListLemmas.{splice-none}
-use Rattle.mc_model_device.proofs.BoolLemmas.{some-is}
+use Rattle.mc_model_device.proofs.ListLemmas.{splice_none}
+use Rattle.mc_model_device.proofs.BoolLemmas.{some_is}
 
 -- ---- changes one after another
 
@@ -74,13 +74,13 @@ quiet_plain t (Commit n ws) h = absurd h
 quiet_plain t (Enter s n) h = absurd h
 quiet_plain t (Remove n) h = absurd h
 
-pub same_entered : (s : Site) (f g : Part → List ℕ) → ((p : Part) → f p ≡ g p) → entered s f ≡ entered s g
+pub same_entered : (s : Site) (f g : Part → List ℕ) → ((p : Part) → f p ≡ g p) → app_of_site s f ≡ app_of_site s g
 same_entered s f g h =
-    let x = entered s f in
+    let x = app_of_site s f in
     ap (λ (l : List ℕ). record x { code = l }) (h Code)
     ∙ ap (λ (l : List ℕ). record x { code = g Code; fixed = l ++ zeros (s.sizes.fixed - s.sizes.init) }) (h Data)
-    ∙ ap (λ (l : List ℕ). record (entered s g) { dir = l; fci = f Fci }) (h Dir)
-    ∙ ap (λ (l : List ℕ). record (entered s g) { fci = l }) (h Fci)
+    ∙ ap (λ (l : List ℕ). record (app_of_site s g) { dir = l; fci = f Fci }) (h Dir)
+    ∙ ap (λ (l : List ℕ). record (app_of_site s g) { fci = l }) (h Fci)
 
 module _ {N : Type 0} (state : N → DeviceState) (wrote : N → ℕ → List ℕ → Answer → N → Type 0)
     (obeys : (d : N) (at : ℕ) (w : List ℕ) (a : Answer) (e : N) → (state d).on ≡ true → wrote d at w a e → Wrote (state d) at w a (state e)) where
@@ -157,7 +157,7 @@ module _ {N : Type 0} (state : N → DeviceState) (wrote : N → ℕ → List �
       record {
         limits = good.limits;
         few = subst (λ (n : ℕ). n < 32) (sym (ap length k.apps)) good.few;
-        place = ap (λ (x : Card). first_fitting (needed_by t.sizes) (gaps x)) k.card ∙ good.place;
+        place = ap (λ (x : Card). first_fitting (words_of_sizes t.sizes) (gaps x)) k.card ∙ good.place;
       }
 
   pub kept_slots : (s e : Store N) → CardKept s e → (k : ℕ) → store_named (state e.device) k ≡ store_named (state s.device) k
@@ -169,7 +169,7 @@ module _ {N : Type 0} (state : N → DeviceState) (wrote : N → ℕ → List �
   one_written s m i w did is =
       let made : Makes wrote s.device (w ∷ []) (Ok tt) m.device = subst (λ (l : List (ℕ × List ℕ)). Makes wrote s.device l (Ok tt) m.device) is did.makes in
       let one : WriteDone (state s.device) w.0 w.1 (state m.device) =
-      obeys s.device w.0 w.1 (Ok tt) m.device (going_is (state s.device) s.count did.going).on (just-one wrote s.device m.device w.0 w.1 (Ok tt) made) in
+      obeys s.device w.0 w.1 (Ok tt) m.device (going_is (state s.device) s.count did.going).on (just_one wrote s.device m.device w.0 w.1 (Ok tt) made) in
       one.words
 
   -- the bytes at a site of a store that runs are in its words
@@ -183,10 +183,10 @@ module _ {N : Type 0} (state : N → DeviceState) (wrote : N → ℕ → List �
       by_test true h = refl
       by_test false h = absurd (cc h)
 
-  pub site_ends : (s m : Store N) (i : BankItem) (a : Answer) (t : Site) → store_did state wrote s i a m → IsGoodIn (state s.device).words t → t.place + needed_by t.sizes ≤ length (state s.device).words
+  pub site_ends : (s m : Store N) (i : BankItem) (a : Answer) (t : Site) → store_did state wrote s i a m → IsGoodIn (state s.device).words t → t.place + words_of_sizes t.sizes ≤ length (state s.device).words
   site_ends s m i a t did good =
       let g : Going (state s.device) s.count = going_is (state s.device) s.count did.going in
-      (at-site (state s.device).words t did.image g.closed (standing-of (state s.device) s.count g).well good).ends
+      (at_site (state s.device).words t did.image g.closed (standing_of (state s.device) s.count g).well good).ends
 
   -- a write keeps or changes a section
   stands_after : (s m : Store N) (i : BankItem) (w : ℕ × List ℕ) (t : Site) (p : Part) (l : List ℕ) → store_did state wrote s i (Ok tt) m → item_writes (state s.device).words i ≡ w ∷ []
@@ -265,7 +265,7 @@ module _ {N : Type 0} (state : N → DeviceState) (wrote : N → ℕ → List �
 
   -- the application is there or not, and all others keep their slots
   pub record ApplicationCreated (s e : Store N) (t : Site) (n : List ℕ) (a : Answer) : Type 0 where
-    pub apps : Changes (st s) (insert (apps_in (state s.device).words) n (entered t (store_standing (state s.device) t))) a (st e)
+    pub apps : Changes (st s) (insert (apps_in (state s.device).words) n (app_of_site t (store_standing (state s.device) t))) a (st e)
     pub slots : (k : ℕ) (l : List ℕ) → store_named (state s.device) k ≡ Some l → store_named (state e.device) k ≡ Some l
 
   enter_created : (s e : Store N) (t : Site) (n : List ℕ) (a : Answer) → InOrder (store_did state wrote) s (Enter t n ∷ []) a e → ApplicationCreated s e t n a
@@ -296,12 +296,12 @@ module _ {N : Type 0} (state : N → DeviceState) (wrote : N → ℕ → List �
             let first : IsChanged (st s) (apps_in (state s.device).words) (st m) = plain_changes s m i (Ok tt) plain done.1 in
             let kept : CardKept s m = plain_kept s m i (Ok tt) plain done.1 in
             let rest : ApplicationCreated m e t n a = all_created is m e t n a quiet.1 done.2 in
-            let same : entered t (store_standing (state m.device) t) ≡ entered t (store_standing (state s.device) t) =
+            let same : app_of_site t (store_standing (state m.device) t) ≡ app_of_site t (store_standing (state s.device) t) =
             same_entered t (store_standing (state m.device) t) (store_standing (state s.device) t) (λ o. quiet_stands s m i t o quiet.0 done.1) in
             record {
-              apps = change_after (st s) (st m) (st e) (insert (apps_in (state s.device).words) n (entered t (store_standing (state s.device) t))) a first
+              apps = change_after (st s) (st m) (st e) (insert (apps_in (state s.device).words) n (app_of_site t (store_standing (state s.device) t))) a first
                   (subst (λ (x : App). Changes (st m) (insert (apps_in (state s.device).words) n x) a (st e)) same
-                  (subst (λ (es : List (List ℕ × App)). Changes (st m) (insert es n (entered t (store_standing (state m.device) t))) a (st e)) kept.apps rest.apps));
+                  (subst (λ (es : List (List ℕ × App)). Changes (st m) (insert es n (app_of_site t (store_standing (state m.device) t))) a (st e)) kept.apps rest.apps));
               slots = λ k l is. rest.slots k l (kept_slots s m kept k ∙ is);
             }
         | inr stop ↦
@@ -309,7 +309,7 @@ module _ {N : Type 0} (state : N → DeviceState) (wrote : N → ℕ → List �
             let kept : CardKept s e = plain_kept s e i (Err stop.0) plain stop.1 in
             subst (λ (x : Answer). ApplicationCreated s e t n x) (sym stop.2)
             (record {
-              apps = stopped_changes (st s) (st e) stop.0 (insert (apps_in (state s.device).words) n (entered t (store_standing (state s.device) t))) (plain_changes s e i (Err stop.0) plain stop.1);
+              apps = stopped_changes (st s) (st e) stop.0 (insert (apps_in (state s.device).words) n (app_of_site t (store_standing (state s.device) t))) (plain_changes s e i (Err stop.0) plain stop.1);
               slots = λ k l is. kept_slots s e kept k ∙ is;
             })
       ]
@@ -319,7 +319,7 @@ module _ {N : Type 0} (state : N → DeviceState) (wrote : N → ℕ → List �
 words_from : (n at : ℕ) (b : List ℕ) → AllByRecursion (λ c. at ≤ c.0) (in_words n at b)
 words_from zero at b = tt
 words_from (suc n) at [] = tt
-words_from (suc n) at (x ∷ xs) = (omega arith, all-map (λ c. at + (8 - at % 8) ≤ c.0) (λ c. at ≤ c.0) (λ c h. omega (arith, h)) (in_words n (at + (8 - at % 8)) (drop (8 - at % 8) (x ∷ xs))) (words_from n (at + (8 - at % 8)) (drop (8 - at % 8) (x ∷ xs))))
+words_from (suc n) at (x ∷ xs) = (omega arith, all_map (λ c. at + (8 - at % 8) ≤ c.0) (λ c. at ≤ c.0) (λ c h. omega (arith, h)) (in_words n (at + (8 - at % 8)) (drop (8 - at % 8) (x ∷ xs))) (words_from n (at + (8 - at % 8)) (drop (8 - at % 8) (x ∷ xs))))
 
 blanks_quiet : (t : Site) (cs : List (ℕ × List ℕ)) (n : List ℕ) → AllByRecursion (λ c. t.sizes.init ≤ c.0) cs
     → AllByRecursion (IsQuiet t) (map (λ c. Blank t c.0 (length c.1)) cs ++ Note t n 0 ∷ Note t n 1 ∷ Note t n 2 ∷ Note t n 3 ∷ [])
@@ -346,12 +346,12 @@ module _ {N : Type 0} (state : N → DeviceState) (wrote : N → ℕ → List �
       all_created state wrote obeys (before_enter t n) s e t n a (creation_quiet t n) (subst (λ (is : List BankItem). InOrder (store_did state wrote) s is a e) (creation_is t n) h)
 
   pub create_slots : (s e : Store N) (t : Site) (n : List ℕ) (a : Answer) → ApplicationCreated state wrote obeys s e t n a → (k : ℕ) → IsSome (store_named (state s.device) k) → store_named (state e.device) k ≡ store_named (state s.device) k
-  create_slots s e t n a c k some = let x = some-is (store_named (state s.device) k) some in c.slots k x.0 x.1 ∙ sym x.1
+  create_slots s e t n a c k some = let x = some_is (store_named (state s.device) k) some in c.slots k x.0 x.1 ∙ sym x.1
 
   -- a piece of a section, in its words
   piece_laid : (s e : Store N) (t : Site) (p : Part) (at : ℕ) (b : List ℕ) → at + length b ≤ part_len p t.sizes → InOrder (store_did state wrote) s (map (λ c. Piece t p c.0 c.1) (word_parts at b)) (Ok tt) e
       → laid_pieces (store_standing (state s.device) t p) (word_parts at b) ≡ splice (store_standing (state s.device) t p) at b
-  piece_laid s e t p at [] range h = sym (splice-none (store_standing (state s.device) t p) at)
+  piece_laid s e t p at [] range h = sym (splice_none (store_standing (state s.device) t p) at)
   piece_laid s e t p at (x ∷ xs) range h =
       elim h [
         | inl done ↦
@@ -385,10 +385,10 @@ module _ {N : Type 0} (state : N → DeviceState) (wrote : N → ℕ → List �
 -- a site that is good by the bank is good in the words
 pub good_in : (d : DeviceState) (c : ℕ) (t : Site) → is_going d c ≡ true → IsGoodSite (apps_in d.words) (store_room d) t → IsGoodIn d.words t
 good_in d c t going good =
-    let s : Standing d.words = standing-of d c (going_is d c going) in
+    let s : Standing d.words = standing_of d c (going_is d c going) in
     record { limits = good.limits; few = subst (λ (n : ℕ). n < 32) (ap length (s.map ∙ sym s.apps)) good.few; place = good.place }
 
 pub fresh_in : (d : DeviceState) (c : ℕ) (n : List ℕ) → is_going d c ≡ true → lookup (apps_in d.words) n ≡ None → lookup (means d.words).apps n ≡ None
 fresh_in d c n going h =
-    let s : Standing d.words = standing-of d c (going_is d c going) in
+    let s : Standing d.words = standing_of d c (going_is d c going) in
     ap (λ (es : List (List ℕ × App)). lookup es n) (s.apps ∙ sym s.map) ∙ h

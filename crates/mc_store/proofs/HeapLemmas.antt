@@ -7,7 +7,7 @@ use Rattle.mc_model_device.specs.Bytes.{be2, has_name, insert, or_else, up}
 use Rattle.mc_model_device.specs.Card.{App, Block, word, header, block_and, blocks_from, blocks, heap_start, cells, section, record_at, name_in, name_at, app_of, app_at, apps_of, card_of}
 use Rattle.mc_model_device.specs.Layout.{is_record, no_root, bad_header, next_block, is_hole, bad_block, bad_record, bad_link, bad_chain, first_hole, by_cause, words_fault, root}
 use Rattle.mc_model_device.specs.declared.cause.Cause.TheVariants.{NoRoot, BadBlock, BadRecord, BadChain}
-use Rattle.mc_blocks.proofs.Steps.{HeaderIs, header-is}
+use Rattle.mc_blocks.proofs.Steps.{HeaderIs, header_is}
 
 -- the test of a root
 abbrev pub root_test : List ℕ → ℕ → Option ℕ
@@ -79,7 +79,7 @@ module _ (a b : List (List ℕ)) (same : SameHeap a b) where
   and_same : (size p : ℕ) (x : List ℕ) (o : Option Block) (f g : ℕ → List Block) → 131 ≤ p → header p x ≡ o → ((q : ℕ) → 131 ≤ q → f q ≡ g q) → block_and size o f ≡ block_and size o g
   and_same size p x None f g low e h = refl
   and_same size p x (Some k) f g low e h =
-      let is : HeaderIs p x k = header-is p x k e in
+      let is : HeaderIs p x k = header_is p x k e in
       let place : k.place ≡ p = is.place in
       ap (λ (l : List Block). cond (nat_le (k.place + k.words) size) (k ∷ l) []) (h (k.place + k.words) (omega arith))
 
@@ -98,7 +98,7 @@ module _ (a b : List (List ℕ)) (same : SameHeap a b) where
   and_high : (size p : ℕ) (x : List ℕ) (o : Option Block) (f : ℕ → List Block) (t : Bool) → 131 ≤ p → header p x ≡ o → ((q : ℕ) → 131 ≤ q → AllByRecursion (λ k. 131 ≤ k.place) (f q)) → AllByRecursion (λ k. 131 ≤ k.place) (block_and size o f)
   and_high size p x None f t low e h = tt
   and_high size p x (Some k) f t low e h =
-      let is : HeaderIs p x k = header-is p x k e in
+      let is : HeaderIs p x k = header_is p x k e in
       let place : k.place ≡ p = is.place in
       by_test (nat_le (k.place + k.words) size) (omega arith) (h (k.place + k.words) (omega arith))
     where
@@ -119,7 +119,7 @@ module _ (a b : List (List ℕ)) (same : SameHeap a b) where
   next_high : (p : ℕ) (x : List ℕ) (o : Option Block) → 131 ≤ p → header p x ≡ o → 131 ≤ next_block (length b) o
   next_high p x None low e = let size : length a ≡ length b = same.size in let l : 131 ≤ length a = same.low in omega arith
   next_high p x (Some k) low e =
-      let is : HeaderIs p x k = header-is p x k e in
+      let is : HeaderIs p x k = header_is p x k e in
       let place : k.place ≡ p = is.place in
       omega arith
 

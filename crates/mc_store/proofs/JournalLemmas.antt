@@ -3,16 +3,16 @@ use Rattle.std.proofs.Common.{◌≡◌, ◌≢◌, ℕ, ◌+◌, ◌≤◌, Boo
 use Rattle.std.specs.Prelude.{bytes_eq, Result, Ok, Err, ◌⊎◌}
 use Rattle.std.specs.List.{AllByRecursion}
 use Rattle.mc_model_device.specs.declared.cause.Cause.{Cause}
-use Rattle.mc_model_device.specs.Image.{Journal, One, Two, opening, shut, gate, is_open, Only, which, which_of, Look, Refused, Closed, Pending, look_j, look_at, look, laid, After, Words, after, after_j, owed_j, replayed, debt, opened, within, count, aimed, headed, targets}
-use Rattle.mc_model_device.specs.Stopped.{replay, remains, torn, Resumes}
+use Rattle.mc_model_device.specs.Image.{Journal, One, Two, opening, shut_word, gate, is_open, Only, which, which_of, Look, Refused, Closed, Pending, look_j, look_at, look, image_with, After, Words, after, after_j, owed_j, image_after_replay, debt, look_by_gate, within, count, look_by_targets, look_by_head, targets}
+use Rattle.mc_model_device.specs.Stopped.{replay, remains, image_after_stop, Resumes}
 use Rattle.mc_model_device.specs.Card.{Card, card_of, means, word, words_after}
 use Rattle.mc_model_device.specs.Layout.{words_fault, fault, fault_of}
 use Rattle.mc_model_device.specs.PowerUp.{Base, OnCard, AtFault, base_of}
-use Rattle.mc_model_device.proofs.ImageLemmas.{all-append, length-laid, laid-other}
-use Rattle.mc_model_device.proofs.LookLemmas.{GoodPending, good-pending, gate-inside}
-use Rattle.mc_model_device.proofs.StoppedLemmas.{torn-other, shut-closed, targets-outside, closed-look}
-use Rattle.mc_model_device.proofs.RecoveryLemmas.{resume, resumed, look-one, look-two}
-use Rattle.mc_store.specs.Power.{found, HoldsBase}
+use Rattle.mc_model_device.proofs.ImageLemmas.{all_append, length_laid, laid_other}
+use Rattle.mc_model_device.proofs.LookLemmas.{GoodPending, good_pending, gate_inside}
+use Rattle.mc_model_device.proofs.StoppedLemmas.{torn_other, shut_closed, targets_outside, closed_look}
+use Rattle.mc_model_device.proofs.RecoveryLemmas.{resume, resumed, look_one, look_two}
+use Rattle.mc_store.specs.Power.{base_of_words, HoldsBase}
 use Rattle.mc_store.proofs.HeapLemmas.{SameHeap, same_drop, same_fault, same_card}
 
 -- the other journal
@@ -27,15 +27,15 @@ gates_apart Two h = absurd (cc h)
 -- ---- which journal is open
 
 pub look_alone : (j : Journal) (m : List (List ℕ)) → is_open (other j) m ≡ false → look m ≡ look_j j m
-look_alone One m h = look-one m h
-look_alone Two m h = look-two m h
+look_alone One m h = look_one m h
+look_alone Two m h = look_two m h
 
 pub open_alone : (j : Journal) (m : List (List ℕ)) → is_open (other j) m ≡ false → is_open j m ≡ true → which m ≡ Only j
 open_alone One m h o = ap (λ (b : Bool). which_of b (is_open One m)) h ∙ ap (λ (b : Bool). which_of false b) o
 open_alone Two m h o = ap (λ (b : Bool). which_of b (is_open One m)) o ∙ ap (λ (b : Bool). which_of true b) h
 
 pub closed_alone : (j : Journal) (m : List (List ℕ)) → is_open (other j) m ≡ false → is_open j m ≡ false → look m ≡ Closed
-closed_alone j m h o = look_alone j m h ∙ closed-look j m o
+closed_alone j m h o = look_alone j m h ∙ closed_look j m o
 
 -- if an image has no open journal, neither gate is open
 pub record NoneOpen (m : List (List ℕ)) : Type 0 where
@@ -52,7 +52,7 @@ pub record IsPending (m : List (List ℕ)) (j : Journal) (ps : List (ℕ × List
 
 pending_in : (i j : Journal) (m : List (List ℕ)) (ps : List (ℕ × List ℕ)) → is_open (other i) m ≡ false → look_j i m ≡ Pending j ps → IsPending m j ps
 pending_in i j m ps h l =
-    let g : GoodPending i j m ps = good-pending i j m ps l in
+    let g : GoodPending i j m ps = good_pending i j m ps l in
     subst (λ (k : Journal). IsPending m k ps) (sym g.same)
     (record { shut = h; opens = g.opens; look = l ∙ ap (λ (k : Journal). Pending k ps) g.same; all = g.all; few = g.few })
 
@@ -65,15 +65,15 @@ pending_by m j ps false false ht ho l = absurd (cc l)
 pub is_pending : (m : List (List ℕ)) (j : Journal) (ps : List (ℕ × List ℕ)) → look m ≡ Pending j ps → IsPending m j ps
 is_pending m j ps l = pending_by m j ps (is_open Two m) (is_open One m) refl refl l
 
-closed_not : (j : Journal) (m : List (List ℕ)) (b : Bool) → opened j m b ≡ Closed → b ≡ false
+closed_not : (j : Journal) (m : List (List ℕ)) (b : Bool) → look_by_gate j m b ≡ Closed → b ≡ false
 closed_not j m false h = refl
 closed_not j m true h = headed_not j m (count m) h
   where
-    aimed_not : (i : Journal) (n : List (List ℕ)) (r : Result (List ℕ) ℕ) → aimed i n r ≡ Closed → true ≡ false
+    aimed_not : (i : Journal) (n : List (List ℕ)) (r : Result (List ℕ) ℕ) → look_by_targets i n r ≡ Closed → true ≡ false
     aimed_not i n (Ok ts) e = absurd (cc e)
     aimed_not i n (Err p) e = absurd (cc e)
 
-    headed_not : (i : Journal) (n : List (List ℕ)) (o : Option ℕ) → headed i n o ≡ Closed → true ≡ false
+    headed_not : (i : Journal) (n : List (List ℕ)) (o : Option ℕ) → look_by_head i n o ≡ Closed → true ≡ false
     headed_not i n None e = absurd (cc e)
     headed_not i n (Some w) e = aimed_not i n (targets i n w) e
 
@@ -100,16 +100,16 @@ base_is : (o : Option (Cause × ℕ)) (m : List (List ℕ)) → base_of o m ≡ 
 base_is None m = refl
 base_is (Some f) m = refl
 
-found_is : (m w : List (List ℕ)) → fault m ≡ words_fault w → means m ≡ card_of w → found m ≡ raw w
+found_is : (m w : List (List ℕ)) → fault m ≡ words_fault w → means m ≡ card_of w → base_of_words m ≡ raw w
 found_is m w f c = base_is (fault m) m ∙ ap (λ (o : Option (Cause × ℕ)). base_in o (means m)) f ∙ ap (λ (k : Card). base_in (words_fault w) k) c
 
 -- an image is what the words are that its replay leaves
-fault_after : (m w : List (List ℕ)) (l : Look) → look m ≡ l → replayed m l ≡ Words w → (fault_of l m ≡ words_fault w)
+fault_after : (m w : List (List ℕ)) (l : Look) → look m ≡ l → image_after_replay m l ≡ Words w → (fault_of l m ≡ words_fault w)
 fault_after m w (Refused p) e h = absurd (cc h)
 fault_after m w Closed e h = let same : m ≡ w = cc in ap words_fault same
-fault_after m w (Pending j ps) e h = ap (λ (k : Look). words_fault (words_after (replayed m k) m)) e ∙ ap (λ (x : After). words_fault (words_after x m)) h
+fault_after m w (Pending j ps) e h = ap (λ (k : Look). words_fault (words_after (image_after_replay m k) m)) e ∙ ap (λ (x : After). words_fault (words_after x m)) h
 
-pub found_after : (m w : List (List ℕ)) → after m ≡ Words w → found m ≡ raw w
+pub found_after : (m w : List (List ℕ)) → after m ≡ Words w → base_of_words m ≡ raw w
 found_after m w h = found_is m w (fault_after m w (look m) refl h) (ap (λ (x : After). card_of (words_after x m)) h)
 
 -- words that agree but inside the journals
@@ -121,14 +121,14 @@ same_raw a b size low h =
 
 owes_open : (j : Journal) (m : List (List ℕ)) (b : Bool) → is_open j m ≡ b → owed_j j m ≢ 0 → is_open j m ≡ true
 owes_open j m true e h = e
-owes_open j m false e h = absurd (h (ap debt (closed-look j m e)))
+owes_open j m false e h = absurd (h (ap debt (closed_look j m e)))
 
 -- an image on which recovery still has to make writes of one journal, and whose replay leaves words like others but inside it
 pub stays : (j : Journal) (m a b : List (List ℕ)) (n : ℕ) → is_open (other j) m ≡ false → owed_j j m ≡ n → after_j j m ≡ Words a → raw a ≡ raw b → HoldsBase (raw b) n j m
 stays j m a b n h o is same =
     let alone : look m ≡ look_j j m = look_alone j m h in
     record {
-      base = found_after m a (ap (λ (l : Look). replayed m l) alone ∙ is) ∙ same;
+      base = found_after m a (ap (λ (l : Look). image_after_replay m l) alone ∙ is) ∙ same;
       owed = ap debt alone ∙ o;
       by = λ ne. open_alone j m h (owes_open j m (is_open j m) refl (λ z. ne (sym o ∙ z)));
     }
@@ -138,27 +138,27 @@ stays j m a b n h o is same =
 module _ (m : List (List ℕ)) (j : Journal) (ps : List (ℕ × List ℕ)) (low : 256 ≤ length m) (p : IsPending m j ps) where
   others_gate : AllByRecursion (λ q. q.0 ≢ gate (other j)) (replay j ps)
   others_gate =
-      all-append (λ q. q.0 ≢ gate (other j)) ps ((gate j, shut) ∷ [])
-      (targets-outside (other j) (length m) ps (gate (other j)) p.all (gate-inside (other j))) (gates_apart j, tt)
+      all_append (λ q. q.0 ≢ gate (other j)) ps ((gate j, shut_word) ∷ [])
+      (targets_outside (other j) (length m) ps (gate (other j)) p.all (gate_inside (other j))) (gates_apart j, tt)
 
   -- once it is done no journal is open
-  pub recovered_closed : look (laid m (replay j ps)) ≡ Closed
+  pub recovered_closed : look (image_with m (replay j ps)) ≡ Closed
   recovered_closed =
-      closed_alone j (laid m (replay j ps))
-      (ap (λ (x : List ℕ). bytes_eq x (opening (other j))) (laid-other m (replay j ps) (gate (other j)) others_gate) ∙ p.shut)
-      (ap (λ (x : List ℕ). bytes_eq x (opening j)) (resumed j m ps low p.look) ∙ shut-closed j)
+      closed_alone j (image_with m (replay j ps))
+      (ap (λ (x : List ℕ). bytes_eq x (opening (other j))) (laid_other m (replay j ps) (gate (other j)) others_gate) ∙ p.shut)
+      (ap (λ (x : List ℕ). bytes_eq x (opening j)) (resumed j m ps low p.look) ∙ shut_closed j)
 
   -- stopped at write k, which left x, the image is what it was
-  pub recovery_halted : (k : ℕ) (x : List ℕ) → 1 ≤ k → k ≤ length ps + 1 → HoldsBase (raw (laid m (replay j ps))) (remains j (length ps) k x) j (torn m (replay j ps) k x)
+  pub recovery_halted : (k : ℕ) (x : List ℕ) → 1 ≤ k → k ≤ length ps + 1 → HoldsBase (raw (image_with m (replay j ps))) (remains j (length ps) k x) j (image_after_stop m (replay j ps) k x)
   recovery_halted k x first last =
-      let e = torn m (replay j ps) k x in
-      let r : Resumes j e (remains j (length ps) k x) (laid m (replay j ps)) = resume j m ps low p.look k x first last in
-      let size : length r.after ≡ length (laid m (replay j ps)) = r.same.size in
-      let long : length (laid m (replay j ps)) ≡ length m = length-laid m (replay j ps) in
-      stays j e r.after (laid m (replay j ps)) (remains j (length ps) k x)
-      (ap (λ (y : List ℕ). bytes_eq y (opening (other j))) (torn-other m (replay j ps) k x (gate (other j)) others_gate) ∙ p.shut)
+      let e = image_after_stop m (replay j ps) k x in
+      let r : Resumes j e (remains j (length ps) k x) (image_with m (replay j ps)) = resume j m ps low p.look k x first last in
+      let size : length r.after ≡ length (image_with m (replay j ps)) = r.same.size in
+      let long : length (image_with m (replay j ps)) ≡ length m = length_laid m (replay j ps) in
+      stays j e r.after (image_with m (replay j ps)) (remains j (length ps) k x)
+      (ap (λ (y : List ℕ). bytes_eq y (opening (other j))) (torn_other m (replay j ps) k x (gate (other j)) others_gate) ∙ p.shut)
       r.owed r.is
-      (same_raw r.after (laid m (replay j ps)) size (omega (arith, size, long)) (λ i h. r.same.words i (not_gate j i h)))
+      (same_raw r.after (image_with m (replay j ps)) size (omega (arith, size, long)) (λ i h. r.same.words i (not_gate j i h)))
     where
       not_gate : (g : Journal) (i : ℕ) → (i ≡ 0) ⊎ (131 ≤ i) → i ≢ gate g
       not_gate One i (inl z) e = absurd (omega (arith, z, e))

@@ -6,12 +6,12 @@ use Rattle.std.proofs.lemmas.List.{get_or-set_same, get_or-set_other, length-set
 use Rattle.std.proofs.lemmas.Bool.{eqb-true}
 use Rattle.mc_model_device.specs.declared.cause.Cause.TheVariants.{NoRoot, BadBlock, BadRecord, BadChain}
 use Rattle.mc_model_device.specs.Bytes.{be2, or_else}
-use Rattle.mc_model_device.specs.Image.{One, Two, opening, is_open, Closed, look, laid}
-use Rattle.mc_model_device.specs.Stopped.{InJournal, writes, stands, owes, torn, stood, IsAtomic, SameOutside, LeavesOwing, LaidWhole}
+use Rattle.mc_model_device.specs.Image.{One, Two, opening, is_open, Closed, look, image_with}
+use Rattle.mc_model_device.specs.Stopped.{InJournal, writes, stands, owes, image_after_stop, image_if_written, IsAtomic, SameOutside, LeavesOwing, LaidWhole}
 use Rattle.mc_model_device.specs.Card.{App, Block, card_of, word, blocks, heap_start}
 use Rattle.mc_model_device.specs.Layout.{words_fault, root, no_root, bad_block, bad_record, bad_link, bad_chain, first_hole, by_cause}
-use Rattle.mc_model_device.proofs.ImageLemmas.{laid-other}
-use Rattle.mc_model_device.proofs.StoppedLemmas.{torn-other, shut-closed, tear, done}
+use Rattle.mc_model_device.proofs.ImageLemmas.{laid_other}
+use Rattle.mc_model_device.proofs.StoppedLemmas.{torn_other, shut_closed, tear, done}
 use Rattle.mc_blocks.proofs.Bridge.{Faultless, faultless}
 use Rattle.mc_store.specs.Power.{new_root, HoldsBase}
 use Rattle.mc_store.proofs.HeapLemmas.{SameHeap, root_test, same_drop, all_blocks, all_apps, bad_blocks, bad_records}
@@ -25,8 +25,8 @@ record Upgraded (x : List ℕ) (n : ℕ) : Type 0 where
   version : slice_index (slice_set x 3 2) 3 ≡ 2
   first : be2 (slice_set x 3 2) 6 ≡ be2 x 6
 
-upgraded-from : (a b c d : ℕ) (x : List ℕ) (n : ℕ) → d ≡ 1 → root_test (a ∷ b ∷ c ∷ d ∷ x) n ≡ None → Upgraded (a ∷ b ∷ c ∷ d ∷ x) n
-upgraded-from a b c d x n e h =
+upgraded_from : (a b c d : ℕ) (x : List ℕ) (n : ℕ) → d ≡ 1 → root_test (a ∷ b ∷ c ∷ d ∷ x) n ≡ None → Upgraded (a ∷ b ∷ c ∷ d ∷ x) n
+upgraded_from a b c d x n e h =
     let one : root_test (a ∷ b ∷ c ∷ 1 ∷ x) n ≡ None = subst (λ (v : ℕ). root_test (a ∷ b ∷ c ∷ v ∷ x) n ≡ None) e h in
     record { root = one; version = refl; first = refl }
 
@@ -35,7 +35,7 @@ upgraded [] n v h = absurd (cc v)
 upgraded (a ∷ []) n v h = absurd (cc v)
 upgraded (a ∷ b ∷ []) n v h = absurd (cc v)
 upgraded (a ∷ b ∷ c ∷ []) n v h = absurd (cc v)
-upgraded (a ∷ b ∷ c ∷ d ∷ x) n v h = upgraded-from a b c d x n v h
+upgraded (a ∷ b ∷ c ∷ d ∷ x) n v h = upgraded_from a b c d x n v h
 
 -- a root has version 1 or 2
 version_by : (v : ℕ) (x : List ℕ) (n : ℕ) (s t : Bool) → (v == 1) ≡ s → (v == 2) ≡ t → cond {A = Option ℕ} ((s || t) && bytes_eq (take 6 x) (take 6 (root v n 0))) None (Some 0) ≡ None → (v ≡ 1) ⊎ (v ≡ 2)
@@ -53,7 +53,7 @@ version_is w h =
 
 -- the words with the new root
 abbrev pub upgrade : List (List ℕ) → List (List ℕ)
-upgrade w = laid w (new_root w)
+upgrade w = image_with w (new_root w)
 
 size_upgrade : (w : List (List ℕ)) → length (upgrade w) ≡ length w
 size_upgrade w = length-set w 0 (slice_set (word w 0) 3 2)
@@ -118,45 +118,45 @@ outside_one i (inl z) h = let low = h.0 in absurd (omega (arith, z, low))
 outside_one i (inr g) h = let high = h.1 in absurd (omega (arith, g, high))
 
 module _ (w : List (List ℕ)) (low : 256 ≤ length w) (high : length w ≤ 16384) (one : is_open One w ≡ false) (two : is_open Two w ≡ false) where
-  stood_size : (b : Bool) → length (stood b w (new_root w)) ≡ length w
+  stood_size : (b : Bool) → length (image_if_written b w (new_root w)) ≡ length w
   stood_size true = size_upgrade w
   stood_size false = refl
 
   -- stopped at write k, which left x, the card has the new root if the write is durable, else the old one
-  pub migration_halted : (k : ℕ) (x : List ℕ) → 1 ≤ k → k ≤ 6 → HoldsBase (raw (stood (stands One 1 k x) w (new_root w))) (owes One 1 k x) One (torn w (writes One (new_root w)) k x)
+  pub migration_halted : (k : ℕ) (x : List ℕ) → 1 ≤ k → k ≤ 6 → HoldsBase (raw (image_if_written (stands One 1 k x) w (new_root w))) (owes One 1 k x) One (image_after_stop w (writes One (new_root w)) k x)
   migration_halted k x first last =
-      let e = torn w (writes One (new_root w)) k x in
-      let to = stood (stands One 1 k x) w (new_root w) in
+      let e = image_after_stop w (writes One (new_root w)) k x in
+      let to = image_if_written (stands One 1 k x) w (new_root w) in
       let l : LeavesOwing One e (owes One 1 k x) to = tear One w (new_root w) low high (one_word w) one k x first last in
       let size : length l.after ≡ length to = l.same.size in
       let long : length to ≡ length w = stood_size (stands One 1 k x) in
       stays One e l.after to (owes One 1 k x)
-      (ap (λ (y : List ℕ). bytes_eq y (opening Two)) (torn-other w (writes One (new_root w)) k x 130 (spares_gate w)) ∙ two)
+      (ap (λ (y : List ℕ). bytes_eq y (opening Two)) (torn_other w (writes One (new_root w)) k x 130 (spares_gate w)) ∙ two)
       l.owed l.is
       (same_raw l.after to size (omega (arith, size, long)) (λ i h. l.same.words i (outside_one i h)))
 
   -- done, no journal is open and the card has the new root
-  pub migration_closed : look (laid w (writes One (new_root w))) ≡ Closed
+  pub migration_closed : look (image_with w (writes One (new_root w))) ≡ Closed
   migration_closed =
-      let e = laid w (writes One (new_root w)) in
+      let e = image_with w (writes One (new_root w)) in
       let s : LaidWhole One w (new_root w) e = done One w (new_root w) low high (one_word w) one in
       closed_alone One e
-      (ap (λ (y : List ℕ). bytes_eq y (opening Two)) (laid-other w (writes One (new_root w)) 130 (spares_gate w)) ∙ two)
-      (ap (λ (y : List ℕ). bytes_eq y (opening One)) s.gate ∙ shut-closed One)
+      (ap (λ (y : List ℕ). bytes_eq y (opening Two)) (laid_other w (writes One (new_root w)) 130 (spares_gate w)) ∙ two)
+      (ap (λ (y : List ℕ). bytes_eq y (opening One)) s.gate ∙ shut_closed One)
 
-  migration_outside : SameOutside One (laid w (writes One (new_root w))) (upgrade w)
+  migration_outside : SameOutside One (image_with w (writes One (new_root w))) (upgrade w)
   migration_outside = (done One w (new_root w) low high (one_word w) one).same
 
-  pub migration_heap : SameHeap (laid w (writes One (new_root w))) (upgrade w)
+  pub migration_heap : SameHeap (image_with w (writes One (new_root w))) (upgrade w)
   migration_heap =
-      let s : SameOutside One (laid w (writes One (new_root w))) (upgrade w) = migration_outside in
-      let size : length (laid w (writes One (new_root w))) ≡ length (upgrade w) = s.size in
+      let s : SameOutside One (image_with w (writes One (new_root w))) (upgrade w) = migration_outside in
+      let size : length (image_with w (writes One (new_root w))) ≡ length (upgrade w) = s.size in
       let long : length (upgrade w) ≡ length w = size_upgrade w in
       record {
         size = size;
         low = omega (arith, size, long);
-        heap = same_drop (laid w (writes One (new_root w))) (upgrade w) 131 size (λ i h. s.words i (outside_one i (inr h)));
+        heap = same_drop (image_with w (writes One (new_root w))) (upgrade w) 131 size (λ i h. s.words i (outside_one i (inr h)));
       }
 
-  pub migration_root : word (laid w (writes One (new_root w))) 0 ≡ word (upgrade w) 0
+  pub migration_root : word (image_with w (writes One (new_root w))) 0 ≡ word (upgrade w) 0
   migration_root = migration_outside.words 0 (outside_one 0 (inl refl))

@@ -8,19 +8,19 @@ use Rattle.mc_model_card.specs.declared.card.Sizes.{Sizes}
 use Rattle.mc_model_card.specs.declared.card.OpenRefusal.{OpenRefusal}
 use Rattle.mc_model_device.specs.Bytes.{be2, up, lookup}
 use Rattle.mc_model_device.specs.Device.{DeviceState, IsSized}
-use Rattle.mc_model_device.specs.Card.{App, Card, record_at, name_at, app_at, section, needed_of, blocks, means}
+use Rattle.mc_model_device.specs.Card.{App, Card, record_at, name_at, app_at, section, words_of_lengths, blocks, means}
 use Rattle.mc_model_device.specs.Layout.{words_fault, gaps, IsWellLaid}
 use Rattle.mc_model_device.specs.Image.{look, Closed}
 use Rattle.mc_model_card.specs.Items.{Site}
-use Rattle.mc_bank.specs.Bank.{app_of, sizes_of, FitsLimits, AreApps, opened, IsGoodSite, HasParts, part_len}
+use Rattle.mc_bank.specs.Bank.{app_of, sizes_of, FitsLimits, AreApps, search_result, IsGoodSite, HasParts, part_len}
 use Rattle.mc_bank.specs.Slots.{slot_place, slot_sizes}
 use Rattle.mc_bank.specs.SlotLaws.{name_there, some_there, slot_sized, slot_named}
-use Rattle.mc_blocks.specs.Chains.{looked_at}
-use Rattle.mc_store.specs.Store.{apps_in, search_steps, is_going, place_named, store_named, store_room, store_standing, name_of_place, part_from, part_in, needed_by}
+use Rattle.mc_blocks.specs.Chains.{count_of_searched_gaps}
+use Rattle.mc_store.specs.Store.{apps_in, search_steps, is_going, place_named, store_named, store_room, store_standing, name_of_place, part_from, part_in, words_of_sizes}
 use Rattle.mc_store.specs.Slots.{first_named, record_sizes, IsUsedBlock, part_of_app, flat}
 use Rattle.mc_store.specs.GoingLaws.{Going, closed_settled}
-use Rattle.mc_blocks.proofs.Sections.{length-section}
-use Rattle.mc_store.specs.CreationLaws.{AtSite, at-site}
+use Rattle.mc_blocks.proofs.Sections.{length_section}
+use Rattle.mc_store.specs.CreationLaws.{AtSite, at_site}
 use Rattle.mc_store.proofs.RecordLemmas.{RecordIs, record_is}
 use Rattle.mc_store.proofs.FlatLemmas.{section_bytes}
 use Rattle.mc_store.proofs.SlotLemmas.{runs, map_is, name_there as found_there, name_slot, are_apps, sizes_are, fits_limits, Slot, slot}
@@ -31,11 +31,11 @@ use Rattle.mc_model_device.proofs.LayoutLemmas.{closed_fault, closed_means}
 part_ends : (m : List (List ℕ)) (k : ℕ) (p : Part) → IsUsedBlock m k → part_from p (record_sizes (record_at m k)) k + up (part_len p (record_sizes (record_at m k))) 8 ≤ length m
 part_ends m k p b =
     let r : RecordIs (record_at m k) b.words = record_is (record_at m k) b.words b.good in
-    let fits : b.words ≡ needed_of (be2 (record_at m k) 20) (be2 (record_at m k) 22) (slice_index (record_at m k) 17) (slice_index (record_at m k) 18) = r.words in
+    let fits : b.words ≡ words_of_lengths (be2 (record_at m k) 20) (be2 (record_at m k) 22) (slice_index (record_at m k) 17) (slice_index (record_at m k) 18) = r.words in
     let end : k + b.words ≤ length m = b.end in
     by_part p fits end
   where
-    by_part : (q : Part) → b.words ≡ needed_of (be2 (record_at m k) 20) (be2 (record_at m k) 22) (slice_index (record_at m k) 17) (slice_index (record_at m k) 18) → k + b.words ≤ length m
+    by_part : (q : Part) → b.words ≡ words_of_lengths (be2 (record_at m k) 20) (be2 (record_at m k) 22) (slice_index (record_at m k) 17) (slice_index (record_at m k) 18) → k + b.words ≤ length m
         → part_from q (record_sizes (record_at m k)) k + up (part_len q (record_sizes (record_at m k))) 8 ≤ length m
     by_part Code f e = omega (arith, f, e)
     by_part Data f e = omega (arith, f, e)
@@ -84,7 +84,7 @@ reads d c k p at count from image h some range place =
     let is : from ≡ q = place ∙ ap (λ (z : Sizes). part_from p z (slot_place k)) s.sizes in
     let ends : q + up n 8 ≤ length m = part_ends m (slot_place k) p s.at.block in
     let part : part_of_app p (app_of (apps_in m) (store_named d k)) ≡ section m q n = ap (λ (a : App). part_of_app p a) s.app ∙ part_is m (slot_place k) p in
-    let long : length (part_of_app p (app_of (apps_in m) (store_named d k))) ≡ n = ap length part ∙ length-section m q n image ends in
+    let long : length (part_of_app p (app_of (apps_in m) (store_named d k))) ≡ n = ap length part ∙ length_section m q n image ends in
     record {
       inside = omega (arith, is, ends, long, range);
       bytes = ap (λ (x : ℕ). take count (drop (8 * x + at) (flat m))) is
@@ -156,14 +156,14 @@ no_journal d c h = (runs d c h).closed
 pub well_laid : (d : DeviceState) (c : ℕ) → not (is_going d c) ≡ false → IsWellLaid d.words
 well_laid d c h = closed_fault d.words (no_journal d c h) ∙ good_words d c h
 
-pub answers : (d : DeviceState) (c : ℕ) (s : Sizes) (r : Result Site OpenRefusal) → not (is_going d c) ≡ false → r ≡ opened s (nat_le 32 c) (store_room d s) → r ≡ opened s (nat_le 32 (length (apps_in d.words))) (store_room d s)
-answers d c s r h is = is ∙ ap (λ (n : ℕ). opened s (nat_le 32 n) (store_room d s)) (counted d c h)
+pub answers : (d : DeviceState) (c : ℕ) (s : Sizes) (r : Result Site OpenRefusal) → not (is_going d c) ≡ false → r ≡ search_result s (nat_le 32 c) (store_room d s) → r ≡ search_result s (nat_le 32 (length (apps_in d.words))) (store_room d s)
+answers d c s r h is = is ∙ ap (λ (n : ℕ). search_result s (nat_le 32 n) (store_room d s)) (counted d c h)
 
-looked-few : (n : ℕ) (gs : List (ℕ × ℕ)) → looked_at n gs ≤ length gs
-looked-few n [] = omega arith
-looked-few n (g ∷ gs) = by_test (nat_le n g.1) (looked-few n gs)
+looked_few : (n : ℕ) (gs : List (ℕ × ℕ)) → count_of_searched_gaps n gs ≤ length gs
+looked_few n [] = omega arith
+looked_few n (g ∷ gs) = by_test (nat_le n g.1) (looked_few n gs)
   where
-    by_test : (t : Bool) → looked_at n gs ≤ length gs → suc (cond t 0 (looked_at n gs)) ≤ suc (length gs)
+    by_test : (t : Bool) → count_of_searched_gaps n gs ≤ length gs → suc (cond t 0 (count_of_searched_gaps n gs)) ≤ suc (length gs)
     by_test true h = omega arith
     by_test false h = omega arith
 
@@ -176,20 +176,20 @@ pub record OpenSteps (d : DeviceState) (old new : ℕ) : Type 0 where
 pub open_steps : (d : DeviceState) (c n old new : ℕ) → not (is_going d c) ≡ false → new ≡ old + search_steps c n (gaps (means d.words)) → OpenSteps d old new
 open_steps d c n old new h is = by_test (nat_le 32 c) refl is
   where
-    by_test : (t : Bool) → nat_le 32 c ≡ t → new ≡ old + cond t 0 (1 + looked_at n (gaps (means d.words))) → OpenSteps d old new
+    by_test : (t : Bool) → nat_le 32 c ≡ t → new ≡ old + cond t 0 (1 + count_of_searched_gaps n (gaps (means d.words))) → OpenSteps d old new
     by_test true e k = record { rises = omega arith; ticks = omega arith; full = λ many. omega (arith, k) }
     by_test false e k =
-        let few = looked-few n (gaps (means d.words)) in
+        let few = looked_few n (gaps (means d.words)) in
         let past = leb-false 32 c e in
         let count = counted d c h in
         record { rises = omega arith; ticks = omega (arith, k, few); full = λ many. absurd (omega (arith, many, past, count)) }
 
-site_by : (apps : List (List ℕ × App)) (room : Sizes → Option ℕ) (s : Sizes) (t : Bool) (o : Option ℕ) → FitsLimits s → nat_le 32 (length apps) ≡ t → room s ≡ o → IfOk (opened s t o) (λ site. IsGoodSite apps room site)
+site_by : (apps : List (List ℕ × App)) (room : Sizes → Option ℕ) (s : Sizes) (t : Bool) (o : Option ℕ) → FitsLimits s → nat_le 32 (length apps) ≡ t → room s ≡ o → IfOk (search_result s t o) (λ site. IsGoodSite apps room site)
 site_by apps room s true o limits e f = tt
 site_by apps room s false None limits e f = tt
 site_by apps room s false (Some p) limits e f = record { limits = limits; few = let past = leb-false 32 (length apps) e in omega (arith, past); place = f }
 
-pub good_site : (apps : List (List ℕ × App)) (room : Sizes → Option ℕ) (s : Sizes) (r : Result Site OpenRefusal) → FitsLimits s → r ≡ opened s (nat_le 32 (length apps)) (room s) → IfOk r (λ site. IsGoodSite apps room site)
+pub good_site : (apps : List (List ℕ × App)) (room : Sizes → Option ℕ) (s : Sizes) (r : Result Site OpenRefusal) → FitsLimits s → r ≡ search_result s (nat_le 32 (length apps)) (room s) → IfOk r (λ site. IsGoodSite apps room site)
 good_site apps room s r limits is = subst (λ (x : Result Site OpenRefusal). IfOk x (λ site. IsGoodSite apps room site)) (sym is) (site_by apps room s (nat_le 32 (length apps)) (room s) limits refl refl)
 
 -- the sections of a good site have their lengths
@@ -199,11 +199,11 @@ site_parts d c s image h good p =
     let m = d.words in
     let g : Going d c = runs d c h in
     let fewer : length (means m).apps < 32 = subst (λ (n : ℕ). n < 32) (ap length (map_is d c h ∙ ap (λ (x : Card). x.apps) (sym (closed_means m g.closed)))) good.few in
-    let at : AtSite m s = at-site m s image g.closed (well_laid d c h) (record { limits = good.limits; few = fewer; place = good.place }) in
+    let at : AtSite m s = at_site m s image g.closed (well_laid d c h) (record { limits = good.limits; few = fewer; place = good.place }) in
     ap (λ (w : List (List ℕ)). length (section w (part_from p s.sizes s.place) (part_len p s.sizes))) (closed_settled m g.closed)
-    ∙ length-section m (part_from p s.sizes s.place) (part_len p s.sizes) image (by_part p good.limits at.ends)
+    ∙ length_section m (part_from p s.sizes s.place) (part_len p s.sizes) image (by_part p good.limits at.ends)
   where
-    by_part : (q : Part) → FitsLimits s.sizes → s.place + needed_by s.sizes ≤ length d.words → part_from q s.sizes s.place + up (part_len q s.sizes) 8 ≤ length d.words
+    by_part : (q : Part) → FitsLimits s.sizes → s.place + words_of_sizes s.sizes ≤ length d.words → part_from q s.sizes s.place + up (part_len q s.sizes) 8 ≤ length d.words
     by_part Code l e = omega (arith, e)
     by_part Data l e = let init = l.init in omega (arith, e, init)
     by_part Dir l e = omega (arith, e)

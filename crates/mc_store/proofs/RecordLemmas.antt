@@ -4,7 +4,7 @@ use Rattle.std.specs.Prelude.{nat_le, ◌==◌, slice_index, bytes_eq, ◌-◌}
 use Rattle.std.proofs.lemmas.Bool.{and_parts, leb-true, eqb-true, false_from_ne_true}
 use Rattle.std.proofs.lemmas.List.{take-take, take-append-le}
 use Rattle.mc_model_device.specs.Bytes.{be2, zeros}
-use Rattle.mc_model_device.specs.Card.{word, needed_of, record_at, name_in, name_at}
+use Rattle.mc_model_device.specs.Card.{word, words_of_lengths, record_at, name_in, name_at}
 use Rattle.mc_model_device.specs.Layout.{is_record}
 use Rattle.mc_blocks.proofs.Records.{record_is as record_bytes_are}
 use Rattle.mc_store.specs.Slots.{IsUsedBlock}
@@ -22,7 +22,7 @@ pub record RecordIs (r : List ℕ) (w : ℕ) : Type 0 where
   pub fixed : be2 r 22 ≤ 4096
   pub session : be2 r 24 ≤ 256
   pub deny : be2 r 26 ≤ 15
-  pub words : w ≡ needed_of (be2 r 20) (be2 r 22) (slice_index r 17) (slice_index r 18)
+  pub words : w ≡ words_of_lengths (be2 r 20) (be2 r 22) (slice_index r 17) (slice_index r 18)
 
 pub record_is : (r : List ℕ) (w : ℕ) → is_record r w ≡ true → RecordIs r w
 record_is r w h =
@@ -38,7 +38,7 @@ record_is r w h =
     let a9 = a8 && nat_le (be2 r 24) 256 in
     let a10 = a9 && nat_le (be2 r 26) 15 in
     let a11 = a10 && bytes_eq (drop 28 r) (zeros 4) in
-    let fits = w == needed_of (be2 r 20) (be2 r 22) (slice_index r 17) (slice_index r 18) in
+    let fits = w == words_of_lengths (be2 r 20) (be2 r 22) (slice_index r 17) (slice_index r 18) in
     let p11 = and_parts a11 fits h in
     let p10 = and_parts a10 (bytes_eq (drop 28 r) (zeros 4)) p11.0 in
     let p9 = and_parts a9 (nat_le (be2 r 26) 15) p10.0 in
@@ -61,7 +61,7 @@ record_is r w h =
       fixed = leb-true (be2 r 22) 4096 p7.1;
       session = leb-true (be2 r 24) 256 p8.1;
       deny = leb-true (be2 r 26) 15 p9.1;
-      words = eqb-true w (needed_of (be2 r 20) (be2 r 22) (slice_index r 17) (slice_index r 18)) p11.1;
+      words = eqb-true w (words_of_lengths (be2 r 20) (be2 r 22) (slice_index r 17) (slice_index r 18)) p11.1;
     }
 
 -- the header and the record of a block with a valid record end within the device
@@ -81,8 +81,8 @@ name_size r w size h =
     (omega (arith, e, size), omega (arith, e, size))
 
 -- a name begins with the bytes of the record's first word
-name-front : (m : List (List ℕ)) (p : ℕ) (w n : List ℕ) → p + 5 ≤ length m → length w ≡ 8 → w ≡ word m (p + 1) → 5 ≤ length n → name_at m p ≡ n → take 5 n ≡ take 5 w
-name-front m p w n fits eight is long same =
+name_front : (m : List (List ℕ)) (p : ℕ) (w n : List ℕ) → p + 5 ≤ length m → length w ≡ 8 → w ≡ word m (p + 1) → 5 ≤ length n → name_at m p ≡ n → take 5 n ≡ take 5 w
+name_front m p w n fits eight is long same =
     let r = record_at m p in
     let k = slice_index r 16 in
     let size : length (name_at m p) ≡ min k (length r) = length-take k r in
@@ -98,7 +98,7 @@ name-front m p w n fits eight is long same =
 pub other_name : (m : List (List ℕ)) (p : ℕ) (w n : List ℕ) → p + 5 ≤ length m → length w ≡ 8 → w ≡ word m (p + 1) → 5 ≤ length n → bytes_eq (take 5 w) (take 5 n) ≡ false → bytes_eq (name_at m p) n ≡ false
 other_name m p w n fits eight is long differ =
     false_from_ne_true (bytes_eq (name_at m p) n)
-    (λ e. cc (sym differ ∙ ap (λ (x : List ℕ). bytes_eq (take 5 w) x) (name-front m p w n fits eight is long (same_name (name_at m p) n e)) ∙ name_is_itself (take 5 w)))
+    (λ e. cc (sym differ ∙ ap (λ (x : List ℕ). bytes_eq (take 5 w) x) (name_front m p w n fits eight is long (same_name (name_at m p) n e)) ∙ name_is_itself (take 5 w)))
 
 pub neither : (x b : Bool) → b ≡ false → false ≡ x && b
 neither true b h = sym h

@@ -4,17 +4,17 @@ use Rattle.std.specs.Prelude.{Result, IfOk, ◌==◌, slice_set}
 use Rattle.mc_model_device.specs.declared.cause.Cause.{Cause}
 use Rattle.mc_model_device.specs.Orders.{Answer}
 use Rattle.mc_model_device.specs.Device.{DeviceState, Wrote, Makes}
-use Rattle.mc_model_device.specs.Image.{Journal, One, Look, Refused, Closed, Pending, look, look_j, owed, debt, replayed}
+use Rattle.mc_model_device.specs.Image.{Journal, One, Look, Refused, Closed, Pending, look, look_j, count_of_recovery_writes, debt, image_after_replay}
 use Rattle.mc_model_device.specs.Stopped.{writes, owed_writes, Recovered, LookAllows, RecoverEnds}
 use Rattle.mc_model_device.specs.Card.{Card, means, word, words_after}
 use Rattle.mc_model_device.specs.Layout.{words_fault, fault, fault_of}
 use Rattle.mc_model_device.specs.PowerUp.{Base, base_of, migration}
-use Rattle.mc_model_device.proofs.OrdersLemmas.{InOrder-append, InOrder-stopped}
-use Rattle.mc_model_device.proofs.DeviceLemmas.{DoneAll, makes-done}
+use Rattle.mc_model_device.proofs.OrdersLemmas.{in_order_append, in_order_stopped}
+use Rattle.mc_model_device.proofs.DeviceLemmas.{DoneAll, makes_done}
 use Rattle.mc_store.specs.declared.power.Up.{Up}
 use Rattle.mc_store.specs.declared.power.Up.TheVariants as up
-use Rattle.mc_store.specs.Store.{settled}
-use Rattle.mc_store.specs.Power.{found, new_root, migrating, power_writes, Powered, Runs, Halts, Fails, power_answer, PowerFollows, RecoverFollows, FinishFollows, failed, recovered}
+use Rattle.mc_store.specs.Store.{settled_words}
+use Rattle.mc_store.specs.Power.{base_of_words, new_root, migration_writes, power_writes, Powered, Runs, Halts, Fails, power_answer, PowerFollows, RecoverFollows, FinishFollows, failure_end, recovery_end}
 use Rattle.mc_store.specs.GoingLaws.{closed_settled}
 use Rattle.mc_store.proofs.JournalLemmas.{IsPending, is_pending, recovered_closed}
 use Rattle.mc_store.proofs.PowerLemmas.{OwedSettles, settles}
@@ -27,107 +27,107 @@ ends_follow j (Refused p) d e n h = h.0
 ends_follow j Closed d e n h = h.0
 ends_follow j (Pending i ps) d e n h = h.0
 
-follows_by : (m : List (List ℕ)) (n : ℕ) (l : Look) → 256 ≤ length m → look m ≡ l → LookAllows l (Recovered n) → (n ≡ owed m) × (look (settled m) ≡ Closed)
+follows_by : (m : List (List ℕ)) (n : ℕ) (l : Look) → 256 ≤ length m → look m ≡ l → LookAllows l (Recovered n) → (n ≡ count_of_recovery_writes m) × (look (settled_words m) ≡ Closed)
 follows_by m n (Refused p) low e f = absurd (cc f)
 follows_by m n Closed low e f =
     let none : n ≡ 0 = cc f in
     (none ∙ sym (ap debt e), ap look (closed_settled m e) ∙ e)
 follows_by m n (Pending j ps) low e f =
     let p : IsPending m j ps = is_pending m j ps e in
-    (f ∙ sym (ap debt e), ap (λ (l : Look). look (words_after (replayed m l) m)) e ∙ recovered_closed m j ps low p)
+    (f ∙ sym (ap debt e), ap (λ (l : Look). look (words_after (image_after_replay m l) m)) e ∙ recovered_closed m j ps low p)
 
 -- the number of writes, and that no journal is open
-pub replay_follows : (j : Journal) (d e : DeviceState) (n : ℕ) → 256 ≤ length d.words → look d.words ≡ look_j j d.words → RecoverEnds j (look_j j d.words) d (Recovered n) e → (n ≡ owed d.words) × (look (settled d.words) ≡ Closed)
+pub replay_follows : (j : Journal) (d e : DeviceState) (n : ℕ) → 256 ≤ length d.words → look d.words ≡ look_j j d.words → RecoverEnds j (look_j j d.words) d (Recovered n) e → (n ≡ count_of_recovery_writes d.words) × (look (settled_words d.words) ≡ Closed)
 replay_follows j d e n low alone r =
     let m = d.words in
     follows_by m n (look m) low refl (subst (λ (l : Look). LookAllows l (Recovered n)) (sym alone) (ends_follow j (look_j j m) d e n r))
 
 -- ---- what is settled
 
-settled_fault : (m : List (List ℕ)) (l : Look) → look m ≡ l → look (settled m) ≡ Closed → fault m ≡ words_fault (settled m)
+settled_fault : (m : List (List ℕ)) (l : Look) → look m ≡ l → look (settled_words m) ≡ Closed → fault m ≡ words_fault (settled_words m)
 settled_fault m (Refused p) e closed =
-    let same : settled m ≡ m = ap (λ (l : Look). words_after (replayed m l) m) e in
+    let same : settled_words m ≡ m = ap (λ (l : Look). words_after (image_after_replay m l) m) e in
     absurd (cc (sym closed ∙ ap look same ∙ e))
 settled_fault m Closed e closed = ap (λ (l : Look). fault_of l m) e ∙ sym (ap words_fault (closed_settled m e))
 settled_fault m (Pending j ps) e closed = ap (λ (l : Look). fault_of l m) e
 
-same_fault_settled : (m : List (List ℕ)) → look (settled m) ≡ Closed → fault (settled m) ≡ fault m
-same_fault_settled m closed = closed_fault (settled m) closed ∙ sym (settled_fault m (look m) refl closed)
+same_fault_settled : (m : List (List ℕ)) → look (settled_words m) ≡ Closed → fault (settled_words m) ≡ fault m
+same_fault_settled m closed = closed_fault (settled_words m) closed ∙ sym (settled_fault m (look m) refl closed)
 
-same_means_settled : (m : List (List ℕ)) → look (settled m) ≡ Closed → means (settled m) ≡ means m
-same_means_settled m closed = closed_means (settled m) closed
+same_means_settled : (m : List (List ℕ)) → look (settled_words m) ≡ Closed → means (settled_words m) ≡ means m
+same_means_settled m closed = closed_means (settled_words m) closed
 
-finish_by : (m : List (List ℕ)) (p : Powered) → 256 ≤ length m → look (settled m) ≡ Closed → FinishFollows (settled m) (owed m) p → PowerFollows m p
+finish_by : (m : List (List ℕ)) (p : Powered) → 256 ≤ length m → look (settled_words m) ≡ Closed → FinishFollows (settled_words m) (count_of_recovery_writes m) p → PowerFollows m p
 finish_by m (Runs n c) low closed f =
-    (sym (same_fault_settled m closed) ∙ f.0, f.1 ∙ ap (λ (b : Base). owed m + migration b) (settles m low).found, f.2 ∙ ap (λ (k : Card). length k.apps) (same_means_settled m closed))
+    (sym (same_fault_settled m closed) ∙ f.0, f.1 ∙ ap (λ (b : Base). count_of_recovery_writes m + migration b) (settles m low).found, f.2 ∙ ap (λ (k : Card). length k.apps) (same_means_settled m closed))
 finish_by m (Halts s) low closed f = tt
 finish_by m (Fails cause place) low closed f = sym (same_fault_settled m closed) ∙ f
 
 -- what comes after the writes of recovery follows from the whole
-pub finish_follows : (m w : List (List ℕ)) (n : ℕ) (p : Powered) → 256 ≤ length m → w ≡ settled m → look w ≡ Closed → n ≡ owed m → FinishFollows w n p → PowerFollows m p
+pub finish_follows : (m w : List (List ℕ)) (n : ℕ) (p : Powered) → 256 ≤ length m → w ≡ settled_words m → look w ≡ Closed → n ≡ count_of_recovery_writes m → FinishFollows w n p → PowerFollows m p
 finish_follows m w n p low is closed same f =
     finish_by m p low (ap look (sym is) ∙ closed)
-    (subst (λ (x : List (List ℕ)). FinishFollows x (owed m) p) is (subst (λ (k : ℕ). FinishFollows w k p) same f))
+    (subst (λ (x : List (List ℕ)). FinishFollows x (count_of_recovery_writes m) p) is (subst (λ (k : ℕ). FinishFollows w k p) same f))
 
 -- ---- the writes
 
 -- the writes of the migration of a card
-pub upgrade_writes : (m : List (List ℕ)) (v : ℕ) → fault m ≡ None → v ≡ (means m).layout → cond (v == 1) (writes One (new_root m)) [] ≡ migrating (found m) m
+pub upgrade_writes : (m : List (List ℕ)) (v : ℕ) → fault m ≡ None → v ≡ (means m).layout → cond (v == 1) (writes One (new_root m)) [] ≡ migration_writes (base_of_words m) m
 upgrade_writes m v h e =
-    ap (λ (n : ℕ). cond (n == 1) (writes One (new_root m)) []) e ∙ sym (ap (λ (o : Option (Cause × ℕ)). migrating (base_of o m) m) h)
+    ap (λ (n : ℕ). cond (n == 1) (writes One (new_root m)) []) e ∙ sym (ap (λ (o : Option (Cause × ℕ)). migration_writes (base_of o m) m) h)
 
 module _ {D : Type 0} (state : D → DeviceState) (wrote : D → ℕ → List ℕ → Answer → D → Type 0)
     (obeys : (d : D) (at : ℕ) (w : List ℕ) (a : Answer) (e : D) → (state d).on ≡ true → wrote d at w a e → Wrote (state d) at w a (state e)) where
   -- a recovery that was done leaves settled words, no journal open, and power on
-  recovered_words : (d e : D) (r : Result ℕ Up) → 256 ≤ length (state d).words → (state d).on ≡ true → Makes wrote d (owed_writes (look (state d).words)) (power_answer (recovered r)) e
-      → IfOk r (λ n. ((state e).words ≡ settled (state d).words) × ((state e).on ≡ true))
+  recovered_words : (d e : D) (r : Result ℕ Up) → 256 ≤ length (state d).words → (state d).on ≡ true → Makes wrote d (owed_writes (look (state d).words)) (power_answer (recovery_end r)) e
+      → IfOk r (λ n. ((state e).words ≡ settled_words (state d).words) × ((state e).on ≡ true))
   recovered_words d e (Ok n) low on made =
-      let all : DoneAll (state d) (owed_writes (look (state d).words)) (state e) = makes-done state wrote obeys (owed_writes (look (state d).words)) d e on made in
+      let all : DoneAll (state d) (owed_writes (look (state d).words)) (state e) = makes_done state wrote obeys (owed_writes (look (state d).words)) d e on made in
       (all.words ∙ (settles (state d).words low).laid, all.power)
   recovered_words d e (Err u) low on made = tt
 
-  ok_words : (d e : D) (r : Result ℕ Up) → IfOk r (λ n. ((state e).words ≡ settled (state d).words) × ((state e).on ≡ true)) → IfOk r (λ n. (state e).words ≡ settled (state d).words)
+  ok_words : (d e : D) (r : Result ℕ Up) → IfOk r (λ n. ((state e).words ≡ settled_words (state d).words) × ((state e).on ≡ true)) → IfOk r (λ n. (state e).words ≡ settled_words (state d).words)
   ok_words d e (Ok n) h = h.0
   ok_words d e (Err u) h = tt
 
-  ok_on : (d e : D) (r : Result ℕ Up) → IfOk r (λ n. ((state e).words ≡ settled (state d).words) × ((state e).on ≡ true)) → IfOk r (λ n. (state e).on ≡ true)
+  ok_on : (d e : D) (r : Result ℕ Up) → IfOk r (λ n. ((state e).words ≡ settled_words (state d).words) × ((state e).on ≡ true)) → IfOk r (λ n. (state e).on ≡ true)
   ok_on d e (Ok n) h = h.1
   ok_on d e (Err u) h = tt
 
-  ok_closed : (d e : D) (r : Result ℕ Up) → IfOk r (λ n. ((state e).words ≡ settled (state d).words) × ((state e).on ≡ true)) → RecoverFollows (state d).words (recovered r) → IfOk r (λ n. look (state e).words ≡ Closed)
+  ok_closed : (d e : D) (r : Result ℕ Up) → IfOk r (λ n. ((state e).words ≡ settled_words (state d).words) × ((state e).on ≡ true)) → RecoverFollows (state d).words (recovery_end r) → IfOk r (λ n. look (state e).words ≡ Closed)
   ok_closed d e (Ok n) h f = ap look h.0 ∙ f.1
   ok_closed d e (Err u) h f = tt
 
-  pub recovered_settles : (d e : D) (r : Result ℕ Up) → 256 ≤ length (state d).words → (state d).on ≡ true → Makes wrote d (owed_writes (look (state d).words)) (power_answer (recovered r)) e → IfOk r (λ n. (state e).words ≡ settled (state d).words)
+  pub recovered_settles : (d e : D) (r : Result ℕ Up) → 256 ≤ length (state d).words → (state d).on ≡ true → Makes wrote d (owed_writes (look (state d).words)) (power_answer (recovery_end r)) e → IfOk r (λ n. (state e).words ≡ settled_words (state d).words)
   recovered_settles d e r low on made = ok_words d e r (recovered_words d e r low on made)
 
-  pub recovered_on : (d e : D) (r : Result ℕ Up) → 256 ≤ length (state d).words → (state d).on ≡ true → Makes wrote d (owed_writes (look (state d).words)) (power_answer (recovered r)) e → IfOk r (λ n. (state e).on ≡ true)
+  pub recovered_on : (d e : D) (r : Result ℕ Up) → 256 ≤ length (state d).words → (state d).on ≡ true → Makes wrote d (owed_writes (look (state d).words)) (power_answer (recovery_end r)) e → IfOk r (λ n. (state e).on ≡ true)
   recovered_on d e r low on made = ok_on d e r (recovered_words d e r low on made)
 
-  pub recovered_shut : (d e : D) (r : Result ℕ Up) → 256 ≤ length (state d).words → (state d).on ≡ true → Makes wrote d (owed_writes (look (state d).words)) (power_answer (recovered r)) e → RecoverFollows (state d).words (recovered r) → IfOk r (λ n. look (state e).words ≡ Closed)
+  pub recovered_shut : (d e : D) (r : Result ℕ Up) → 256 ≤ length (state d).words → (state d).on ≡ true → Makes wrote d (owed_writes (look (state d).words)) (power_answer (recovery_end r)) e → RecoverFollows (state d).words (recovery_end r) → IfOk r (λ n. look (state e).words ≡ Closed)
   recovered_shut d e r low on made f = ok_closed d e r (recovered_words d e r low on made) f
 
   -- the writes of recovery, and those after them
-  pub whole_makes : (d e f : D) (p : Powered) → 256 ≤ length (state d).words → (state e).words ≡ settled (state d).words → Makes wrote d (owed_writes (look (state d).words)) (Ok tt) e
-      → Makes wrote e (migrating (found (state e).words) (state e).words) (power_answer p) f → Makes wrote d (power_writes (state d).words) (power_answer p) f
+  pub whole_makes : (d e f : D) (p : Powered) → 256 ≤ length (state d).words → (state e).words ≡ settled_words (state d).words → Makes wrote d (owed_writes (look (state d).words)) (Ok tt) e
+      → Makes wrote e (migration_writes (base_of_words (state e).words) (state e).words) (power_answer p) f → Makes wrote d (power_writes (state d).words) (power_answer p) f
   unfolding power_writes
   whole_makes d e f p low is first second =
       let m = (state d).words in
       let s : OwedSettles m = settles m low in
-      let same : migrating (found (state e).words) (state e).words ≡ migrating (found m) (settled m) =
-      ap (λ (w : List (List ℕ)). migrating (found w) w) is ∙ ap (λ (b : Base). migrating b (settled m)) s.found in
-      InOrder-append (λ x q a y. wrote x q.0 q.1 a y) (owed_writes (look m)) (migrating (found m) (settled m)) d e f (power_answer p) first
+      let same : migration_writes (base_of_words (state e).words) (state e).words ≡ migration_writes (base_of_words m) (settled_words m) =
+      ap (λ (w : List (List ℕ)). migration_writes (base_of_words w) w) is ∙ ap (λ (b : Base). migration_writes b (settled_words m)) s.found in
+      in_order_append (λ x q a y. wrote x q.0 q.1 a y) (owed_writes (look m)) (migration_writes (base_of_words m) (settled_words m)) d e f (power_answer p) first
       (subst (λ (l : List (ℕ × List ℕ)). Makes wrote e l (power_answer p) f) same second)
 
   -- the writes of recovery alone, if they stopped or there is no more to do
-  pub failed_makes : (d e : D) (u : Up) → Makes wrote d (owed_writes (look (state d).words)) (power_answer (failed u)) e → RecoverFollows (state d).words (failed u) → Makes wrote d (power_writes (state d).words) (power_answer (failed u)) e
+  pub failed_makes : (d e : D) (u : Up) → Makes wrote d (owed_writes (look (state d).words)) (power_answer (failure_end u)) e → RecoverFollows (state d).words (failure_end u) → Makes wrote d (power_writes (state d).words) (power_answer (failure_end u)) e
   unfolding power_writes
   failed_makes d e (up.Stop s) made follows =
       let m = (state d).words in
-      InOrder-stopped (λ x q a y. wrote x q.0 q.1 a y) (owed_writes (look m)) (migrating (found m) (settled m)) d e s made
+      in_order_stopped (λ x q a y. wrote x q.0 q.1 a y) (owed_writes (look m)) (migration_writes (base_of_words m) (settled_words m)) d e s made
   failed_makes d e (up.Unusable u) made follows =
       let m = (state d).words in
-      let none : migrating (found m) (settled m) ≡ [] = ap (λ (l : Look). migrating (base_of (fault_of l m) m) (settled m)) follows.1 in
+      let none : migration_writes (base_of_words m) (settled_words m) ≡ [] = ap (λ (l : Look). migration_writes (base_of (fault_of l m) m) (settled_words m)) follows.1 in
       subst (λ (l : List (ℕ × List ℕ)). Makes wrote d l (Ok tt) e) (sym (ap (λ (l : List (ℕ × List ℕ)). owed_writes (look m) ++ l) none ∙ append-nil (owed_writes (look m)))) made
 
   -- the migration of a card of layout 1

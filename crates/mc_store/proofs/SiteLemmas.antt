@@ -13,11 +13,11 @@ use Rattle.mc_model_device.specs.Device.{IsSized}
 use Rattle.mc_model_device.specs.Card.{word, section}
 use Rattle.mc_model_card.specs.Items.{Site}
 use Rattle.mc_bank.specs.Bank.{FitsLimits, part_len}
-use Rattle.mc_store.specs.Store.{needed_by, part_from, part_in, piece_write, IsInWord}
-use Rattle.mc_store.proofs.PieceLemmas.{section-write, splice-parts}
-use Rattle.mc_blocks.proofs.Sections.{section-front, same-section, length-section}
-use Rattle.mc_blocks.proofs.Splices.{image-set}
-use Rattle.mc_model_device.proofs.ListLemmas.{length-splice, splice-none}
+use Rattle.mc_store.specs.Store.{words_of_sizes, part_from, part_in, piece_write, IsInWord}
+use Rattle.mc_store.proofs.PieceLemmas.{section_write, splice_parts}
+use Rattle.mc_blocks.proofs.Sections.{section_front, same_section, length_section}
+use Rattle.mc_blocks.proofs.Splices.{image_set}
+use Rattle.mc_model_device.proofs.ListLemmas.{length_splice, splice_none}
 
 -- ---- bytes
 
@@ -36,12 +36,12 @@ module _ (m : List (List ℕ)) (image : IsSized m) where
   -- bytes of one word of a section
   section_piece : (q n at : ℕ) (b : List ℕ) → q + up n 8 ≤ length m → IsInWord n at (length b)
       → section (slice_set m (q + down at 8) (splice (word m (q + down at 8)) (at % 8) b)) q n ≡ splice (section m q n) at b
-  section_piece q n at b h inside = section-write m q n at b image h inside
+  section_piece q n at b h inside = section_write m q n at b image h inside
 
   -- a word outside a section
   section_apart : (k q n : ℕ) (x : List ℕ) → q + up n 8 ≤ length m → (k < q) ⊎ (q + up n 8 ≤ k) → section (slice_set m k x) q n ≡ section m q n
   section_apart k q n x h apart =
-      same-section m (slice_set m k x) q n (length-set m k x) h (λ i low high. get_or-set_other m k i x [] (λ e.
+      same_section m (slice_set m k x) q n (length-set m k x) h (λ i low high. get_or-set_other m k i x [] (λ e.
       elim apart [ inl before ↦ absurd (omega (arith, e, before, low)) | inr behind ↦ absurd (omega (arith, e, behind, high)) ]))
 
   -- bytes after the front of a section
@@ -55,18 +55,18 @@ module _ (m : List (List ℕ)) (image : IsSized m) where
       let x = splice (word m k) (at % 8) b in
       let lt : k < length m = omega arith in
       let eight : length (word m k) ≡ 8 = image.words k lt in
-      let size : length x ≡ 8 = length-splice (word m k) (at % 8) b (omega (arith, eight)) ∙ eight in
+      let size : length x ≡ 8 = length_splice (word m k) (at % 8) b (omega (arith, eight)) ∙ eight in
       let w = slice_set m k x in
       let long : length w ≡ length m = length-set m k x in
-      let whole : length (section m q n) ≡ n = length-section m q n image h in
-      sym (section-front w q i n (image-set m k x image lt size) (omega arith) (omega (arith, long)))
+      let whole : length (section m q n) ≡ n = length_section m q n image h in
+      sym (section_front w q i n (image_set m k x image lt size) (omega arith) (omega (arith, long)))
       ∙ ap (λ (l : List ℕ). take i l) (section_piece q n at b h inside)
       ∙ front_stays i at (section m q n) b low (omega (arith, whole))
-      ∙ section-front m q i n image (omega arith) h
+      ∙ section_front m q i n image (omega arith) h
 
 -- ---- sites
 
-part_inside : (p : Part) (z : Sizes) (q : ℕ) → FitsLimits z → part_from p z q + up (part_len p z) 8 ≤ q + needed_by z
+part_inside : (p : Part) (z : Sizes) (q : ℕ) → FitsLimits z → part_from p z q + up (part_len p z) 8 ≤ q + words_of_sizes z
 part_inside Code z q l = omega arith
 part_inside Data z q l = let init = l.init in omega arith
 part_inside Dir z q l = omega arith
@@ -92,7 +92,7 @@ parts_apart Fci Data z q at n l i ne = inr (let init = l.init in omega arith)
 parts_apart Fci Dir z q at n l i ne = inr (omega arith)
 parts_apart Fci Fci z q at n l i ne = absurd (ne refl)
 
-module _ (m : List (List ℕ)) (image : IsSized m) (s : Site) (limits : FitsLimits s.sizes) (ends : s.place + needed_by s.sizes ≤ length m) where
+module _ (m : List (List ℕ)) (image : IsSized m) (s : Site) (limits : FitsLimits s.sizes) (ends : s.place + words_of_sizes s.sizes ≤ length m) where
   within : (p : Part) → part_from p s.sizes s.place + up (part_len p s.sizes) 8 ≤ length m
   within p = let low = part_inside p s.sizes s.place limits in omega (arith, low, ends)
 
@@ -102,7 +102,7 @@ module _ (m : List (List ℕ)) (image : IsSized m) (s : Site) (limits : FitsLimi
   -- a section has its length
   pub part_length : (p : Part) → length (part_in m s p) ≡ part_len p s.sizes
   unfolding part_in
-  part_length p = length-section m (part_from p s.sizes s.place) (part_len p s.sizes) image (within p)
+  part_length p = length_section m (part_from p s.sizes s.place) (part_len p s.sizes) image (within p)
 
   -- a piece of a section
   pub piece_part : (p : Part) (at : ℕ) (b : List ℕ) → IsInWord (part_len p s.sizes) at (length b)
@@ -143,9 +143,9 @@ no_words zero at = refl
 no_words (suc n) at = refl
 
 laid_words : (n : ℕ) (l : List ℕ) (at : ℕ) (b : List ℕ) → length b ≤ n → at + length b ≤ length l → laid_pieces l (in_words n at b) ≡ splice l at b
-laid_words zero l at [] few h = sym (splice-none l at)
+laid_words zero l at [] few h = sym (splice_none l at)
 laid_words zero l at (x ∷ xs) few h = absurd (omega arith)
-laid_words (suc n) l at [] few h = sym (splice-none l at)
+laid_words (suc n) l at [] few h = sym (splice_none l at)
 laid_words (suc n) l at (x ∷ xs) few h =
     let b = x ∷ xs in
     let k = 8 - at % 8 in
@@ -158,8 +158,8 @@ laid_words (suc n) l at (x ∷ xs) few h =
           ∙ ap (λ (y : List ℕ). splice l at y) (take_all k b (omega (arith, short)))
       | inr long ↦
           let front : length (take k b) ≡ k = length-take-le k b (omega (arith, long)) in
-          let same : length (splice l at (take k b)) ≡ length l = length-splice l at (take k b) (omega (arith, front, long, h)) in
-          laid_words n (splice l at (take k b)) (at + k) (drop k b) (omega (arith, left, few, some)) (omega (arith, left, same, long, h)) ∙ splice-parts l at k b (omega arith)
+          let same : length (splice l at (take k b)) ≡ length l = length_splice l at (take k b) (omega (arith, front, long, h)) in
+          laid_words n (splice l at (take k b)) (at + k) (drop k b) (omega (arith, left, few, some)) (omega (arith, left, same, long, h)) ∙ splice_parts l at k b (omega arith)
     ]
 
 -- the parts of a piece in their words are the piece

@@ -7,25 +7,25 @@ use Rattle.mc_model_card.specs.declared.card.Sizes.{Sizes}
 use Rattle.mc_model_device.specs.Bytes.{be2, up, lookup, insert, name_before, AscendByName}
 use Rattle.mc_model_device.specs.Image.{look, Closed}
 use Rattle.mc_model_device.specs.Device.{DeviceState, IsSized}
-use Rattle.mc_model_device.specs.Card.{App, Card, Block, blocks, record_at, name_at, app_at, apps_of, card_of, needed_of}
+use Rattle.mc_model_device.specs.Card.{App, Card, Block, blocks, record_at, name_at, app_at, apps_of, card_of, words_of_lengths}
 use Rattle.mc_model_device.specs.Layout.{words_fault}
-use Rattle.mc_model_device.proofs.ImageLemmas.{all-map}
+use Rattle.mc_model_device.proofs.ImageLemmas.{all_map}
 use Rattle.mc_base.specs.Name.{IsName}
 use Rattle.mc_bank.specs.Bank.{app_of, no_app, sizes_of, FitsLimits, IsApplication, AreApps}
 use Rattle.mc_blocks.proofs.Steps.{blocks_all}
 use Rattle.mc_blocks.proofs.Tiles.{HeadersRead}
-use Rattle.mc_blocks.proofs.Bridge.{some-apps, no-apps, with-block}
-use Rattle.mc_blocks.proofs.Applications.{few-applications}
+use Rattle.mc_blocks.proofs.Bridge.{some_apps, no_apps, with_block}
+use Rattle.mc_blocks.proofs.Applications.{few_applications}
 use Rattle.mc_store.specs.Store.{apps_in, is_going, name_of_place, place_named}
 use Rattle.mc_store.specs.Slots.{first_named, record_sizes, IsUsedBlock}
 use Rattle.mc_store.specs.GoingLaws.{Going, going_is, closed_apps}
-use Rattle.mc_blocks.proofs.Sections.{length-cells, length-section}
+use Rattle.mc_blocks.proofs.Sections.{length_cells, length_section}
 use Rattle.mc_store.proofs.RecordLemmas.{RecordIs, record_is, name_size}
 use Rattle.mc_store.proofs.WalkLemmas.{HasRecord, Walk, walk_begins}
-use Rattle.mc_model_device.proofs.MapLemmas.{same_name, name_is_itself, not_after, lookup-inserted, lookup-beside, each-inserted, ascending-inserted, each-found}
+use Rattle.mc_model_device.proofs.MapLemmas.{same_name, name_is_itself, not_after, lookup_inserted_lem, lookup_beside, each_inserted, ascending_inserted, each_found}
 use Rattle.mc_model_device.proofs.LayoutLemmas.{closed_fault, closed_means}
 use Rattle.mc_blocks.proofs.Entries.{long_enough}
-use Rattle.mc_model_device.proofs.BoolLemmas.{some-is}
+use Rattle.mc_model_device.proofs.BoolLemmas.{some_is}
 
 -- ---- the entries of the map
 
@@ -37,48 +37,48 @@ pub record IsOf (m : List (List ℕ)) (e : List ℕ × App) : Type 0 where
 
 module _ (m : List (List ℕ)) where
   entries : (bs : List Block) → HeadersRead m bs → AllByRecursion (HasRecord m) bs → AllByRecursion (IsOf m) (apps_of m bs) × AscendByName (apps_of m bs)
-  entries [] r h = (subst (λ (es : List (List ℕ × App)). AllByRecursion (IsOf m) es) (sym (no-apps m)) tt, subst (λ (es : List (List ℕ × App)). AscendByName es) (sym (no-apps m)) tt)
+  entries [] r h = (subst (λ (es : List (List ℕ × App)). AllByRecursion (IsOf m) es) (sym (no_apps m)) tt, subst (λ (es : List (List ℕ × App)). AscendByName es) (sym (no_apps m)) tt)
   entries (b ∷ bs) r h =
       let rest = entries bs r.2 h.1 in
       let both = by_kind b.used refl rest.0 rest.1 in
-      (subst (λ (es : List (List ℕ × App)). AllByRecursion (IsOf m) es) (sym (some-apps m b bs)) both.0, subst (λ (es : List (List ℕ × App)). AscendByName es) (sym (some-apps m b bs)) both.1)
+      (subst (λ (es : List (List ℕ × App)). AllByRecursion (IsOf m) es) (sym (some_apps m b bs)) both.0, subst (λ (es : List (List ℕ × App)). AscendByName es) (sym (some_apps m b bs)) both.1)
     where
       by_kind : (t : Bool) → b.used ≡ t → AllByRecursion (IsOf m) (apps_of m bs) → AscendByName (apps_of m bs)
-          → AllByRecursion (IsOf m) (cond t (with-block m b bs) (apps_of m bs)) × AscendByName (cond t (with-block m b bs) (apps_of m bs))
+          → AllByRecursion (IsOf m) (cond t (with_block m b bs) (apps_of m bs)) × AscendByName (cond t (with_block m b bs) (apps_of m bs))
       by_kind true e each up = (
-        each-inserted (IsOf m) (apps_of m bs) (name_at m b.place) (app_at m b.place) (record { name = refl; app = refl; block = record { words = b.words; good = h.0 e; end = r.1 } }) each,
-        ascending-inserted (apps_of m bs) (name_at m b.place) (app_at m b.place) up,
+        each_inserted (IsOf m) (apps_of m bs) (name_at m b.place) (app_at m b.place) (record { name = refl; app = refl; block = record { words = b.words; good = h.0 e; end = r.1 } }) each,
+        ascending_inserted (apps_of m bs) (name_at m b.place) (app_at m b.place) up,
       )
       by_kind false e each up = (each, up)
 
   -- ---- found by a name
 
   found_kind : (n : List ℕ) (b : Block) (bs : List Block) (u t : Bool) → bytes_eq (name_at m b.place) n ≡ t → (p : ℕ) → cond (u && t) (Some b.place) (first_named m bs n) ≡ Some p
-      → (first_named m bs n ≡ Some p → lookup (apps_of m bs) n ≡ Some (app_at m p)) → lookup (cond u (with-block m b bs) (apps_of m bs)) n ≡ Some (app_at m p)
+      → (first_named m bs n ≡ Some p → lookup (apps_of m bs) n ≡ Some (app_at m p)) → lookup (cond u (with_block m b bs) (apps_of m bs)) n ≡ Some (app_at m p)
   found_kind n b bs false t e p h rest = rest h
-  found_kind n b bs true false e p h rest = lookup-beside (apps_of m bs) (name_at m b.place) (app_at m b.place) n e ∙ rest h
+  found_kind n b bs true false e p h rest = lookup_beside (apps_of m bs) (name_at m b.place) (app_at m b.place) n e ∙ rest h
   found_kind n b bs true true e p h rest =
       let place : b.place ≡ p = cc in
       ap (λ (k : List ℕ). lookup (insert (apps_of m bs) k (app_at m b.place)) n) (same_name (name_at m b.place) n e)
-      ∙ lookup-inserted (apps_of m bs) n (app_at m b.place)
+      ∙ lookup_inserted_lem (apps_of m bs) n (app_at m b.place)
       ∙ ap (λ (q : ℕ). Some (app_at m q)) place
 
   found : (n : List ℕ) (bs : List Block) (p : ℕ) → first_named m bs n ≡ Some p → lookup (apps_of m bs) n ≡ Some (app_at m p)
   unfolding first_named
   found n [] p h = absurd (cc h)
   found n (b ∷ bs) p h =
-      ap (λ (es : List (List ℕ × App)). lookup es n) (some-apps m b bs) ∙ found_kind n b bs b.used (bytes_eq (name_at m b.place) n) refl p h (λ r. found n bs p r)
+      ap (λ (es : List (List ℕ × App)). lookup es n) (some_apps m b bs) ∙ found_kind n b bs b.used (bytes_eq (name_at m b.place) n) refl p h (λ r. found n bs p r)
 
   none_kind : (n : List ℕ) (b : Block) (bs : List Block) (u t : Bool) → bytes_eq (name_at m b.place) n ≡ t → cond (u && t) (Some b.place) (first_named m bs n) ≡ None
-      → (first_named m bs n ≡ None → lookup (apps_of m bs) n ≡ None) → lookup (cond u (with-block m b bs) (apps_of m bs)) n ≡ None
+      → (first_named m bs n ≡ None → lookup (apps_of m bs) n ≡ None) → lookup (cond u (with_block m b bs) (apps_of m bs)) n ≡ None
   none_kind n b bs false t e h rest = rest h
-  none_kind n b bs true false e h rest = lookup-beside (apps_of m bs) (name_at m b.place) (app_at m b.place) n e ∙ rest h
+  none_kind n b bs true false e h rest = lookup_beside (apps_of m bs) (name_at m b.place) (app_at m b.place) n e ∙ rest h
   none_kind n b bs true true e h rest = absurd (cc h)
 
   none : (n : List ℕ) (bs : List Block) → first_named m bs n ≡ None → lookup (apps_of m bs) n ≡ None
   unfolding first_named
-  none n [] h = ap (λ (es : List (List ℕ × App)). lookup es n) (no-apps m)
-  none n (b ∷ bs) h = ap (λ (es : List (List ℕ × App)). lookup es n) (some-apps m b bs) ∙ none_kind n b bs b.used (bytes_eq (name_at m b.place) n) refl h (λ r. none n bs r)
+  none n [] h = ap (λ (es : List (List ℕ × App)). lookup es n) (no_apps m)
+  none n (b ∷ bs) h = ap (λ (es : List (List ℕ × App)). lookup es n) (some_apps m b bs) ∙ none_kind n b bs b.used (bytes_eq (name_at m b.place) n) refl h (λ r. none n bs r)
 
 -- ---- maps
 
@@ -91,7 +91,7 @@ module _ (m : List (List ℕ)) where
       by_test true true is at k rest = ap (λ (x : List ℕ). Some x) (same_name e.0 n is)
       by_test true false is at k rest = let same : e.1 ≡ a = cc in absurd (cc (sym at ∙ eq-eqb (e.1).place a.place (ap (λ (x : App). x.place) same)))
       by_test false true is at k rest =
-          let other : IsOf m (n, a) = each-found (IsOf m) es n a h.1 k in
+          let other : IsOf m (n, a) = each_found (IsOf m) es n a h.1 k in
           ap (λ (x : List ℕ). Some x) (h.0.name ∙ ap (λ (q : ℕ). name_at m q) (eqb-true (e.1).place a.place at) ∙ sym other.name)
       by_test false false is at k rest = rest k
 
@@ -123,7 +123,7 @@ module _ (m : List (List ℕ)) where
           }
       by_test false at j rest =
           let r : IsSlotApplication es k n = rest j in
-          let after : name_before e.0 n ≡ true = each-found (λ f. name_before e.0 f.0 ≡ true) es n (app_at m k) sorted.0 r.app in
+          let after : name_before e.0 n ≡ true = each_found (λ f. name_before e.0 f.0 ≡ true) es n (app_at m k) sorted.0 r.app in
           record { name = r.name; app = behind (bytes_eq e.0 n) refl after (lookup es n) ∙ r.app; block = r.block }
 
 -- ---- words without a fault
@@ -150,12 +150,12 @@ module _ (m : List (List ℕ)) (image : IsSized m) (good : words_fault m ≡ Non
   sizes_are p b =
       let r = record_at m p in
       let k : RecordIs r b.words = record_is r b.words b.good in
-      let fits : b.words ≡ needed_of (be2 r 20) (be2 r 22) (slice_index r 17) (slice_index r 18) = k.words in
+      let fits : b.words ≡ words_of_lengths (be2 r 20) (be2 r 22) (slice_index r 17) (slice_index r 18) = k.words in
       let end : p + b.words ≤ length m = b.end in
-      let one : length (app_at m p).code ≡ be2 r 20 = length-section m (p + 5) (be2 r 20) image (omega (arith, fits, end)) in
-      let two : length (app_at m p).fixed ≡ be2 r 22 = length-section m (p + 5 + up (be2 r 20) 8) (be2 r 22) image (omega (arith, fits, end)) in
-      let three : length (app_at m p).dir ≡ slice_index r 17 = length-section m (p + 5 + up (be2 r 20) 8 + up (be2 r 22) 8) (slice_index r 17) image (omega (arith, fits, end)) in
-      let four : length (app_at m p).fci ≡ slice_index r 18 = length-section m (p + 5 + up (be2 r 20) 8 + up (be2 r 22) 8 + up (slice_index r 17) 8) (slice_index r 18) image (omega (arith, fits, end)) in
+      let one : length (app_at m p).code ≡ be2 r 20 = length_section m (p + 5) (be2 r 20) image (omega (arith, fits, end)) in
+      let two : length (app_at m p).fixed ≡ be2 r 22 = length_section m (p + 5 + up (be2 r 20) 8) (be2 r 22) image (omega (arith, fits, end)) in
+      let three : length (app_at m p).dir ≡ slice_index r 17 = length_section m (p + 5 + up (be2 r 20) 8 + up (be2 r 22) 8) (slice_index r 17) image (omega (arith, fits, end)) in
+      let four : length (app_at m p).fci ≡ slice_index r 18 = length_section m (p + 5 + up (be2 r 20) 8 + up (be2 r 22) 8 + up (slice_index r 17) 8) (slice_index r 18) image (omega (arith, fits, end)) in
       let s = sizes_of (app_at m p) in
       ap (λ (n : ℕ). record s { code = n }) one
       ∙ ap (λ (n : ℕ). record s { code = be2 r 20; fixed = n; init = n }) two
@@ -174,7 +174,7 @@ module _ (m : List (List ℕ)) (image : IsSized m) (good : words_fault m ≡ Non
       let b : IsUsedBlock m p = h.block in
       let six : 6 ≤ b.words = long_enough (record_at m p) b.words b.good in
       let end : p + b.words ≤ length m = b.end in
-      let long : length (record_at m p) ≡ 32 = length-cells m 4 (p + 1) image (omega arith) in
+      let long : length (record_at m p) ≡ 32 = length_cells m 4 (p + 1) image (omega arith) in
       record {
         name = subst (λ (n : List ℕ). IsName n) (sym h.name) (name_size (record_at m p) b.words long b.good);
         limits = subst (λ (a : App). FitsLimits (sizes_of a)) (sym h.app) (subst (λ (s : Sizes). FitsLimits s) (sym (sizes_are p b)) (fits_limits p b));
@@ -183,8 +183,8 @@ module _ (m : List (List ℕ)) (image : IsSized m) (good : words_fault m ≡ Non
   pub are_apps : look m ≡ Closed → AreApps (card_of m).apps
   are_apps closed =
       record {
-        few = subst (λ (n : ℕ). n ≤ 32) (ap (λ (c : Card). length c.apps) (closed_means m closed)) (few-applications m image closed (closed_fault m closed ∙ good));
-        each = all-map (IsOf m) IsApplication (λ e h. entry_is e h) (card_of m).apps all_entries.0;
+        few = subst (λ (n : ℕ). n ≤ 32) (ap (λ (c : Card). length c.apps) (closed_means m closed)) (few_applications m image closed (closed_fault m closed ∙ good));
+        each = all_map (IsOf m) IsApplication (λ e h. entry_is e h) (card_of m).apps all_entries.0;
         ascending = all_entries.1;
       }
 
@@ -212,7 +212,7 @@ slot d c k image h some =
     let m = d.words in
     let g : Going d c = runs d c h in
     let apps : apps_in m ≡ (card_of m).apps = closed_apps m g.closed g.laid in
-    let n = some-is (place_named d k) some in
+    let n = some_is (place_named d k) some in
     let held : IsSlotApplication m (card_of m).apps k n.0 = slot_held m image g.laid k n.0 (sym (ap (λ (es : List (List ℕ × App)). name_of_place es k) apps) ∙ n.1) in
     let name : place_named d k ≡ Some (name_at m k) = n.1 ∙ ap (λ (x : List ℕ). Some x) held.name in
     let there : lookup (apps_in m) (name_at m k) ≡ Some (app_at m k) = ap (λ (es : List (List ℕ × App)). lookup es (name_at m k)) apps ∙ ap (λ (x : List ℕ). lookup (card_of m).apps x) (sym held.name) ∙ held.app in

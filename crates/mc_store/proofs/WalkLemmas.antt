@@ -7,8 +7,8 @@ use Rattle.mc_model_device.specs.Bytes.{be2, has_name}
 use Rattle.mc_model_device.specs.Device.{IsSized}
 use Rattle.mc_model_device.specs.Card.{Block, word, header, blocks, record_at, name_at, used_tag}
 use Rattle.mc_model_device.specs.Layout.{is_record, words_fault}
-use Rattle.mc_blocks.specs.Blocks.{fitting, blocks_at}
-use Rattle.mc_blocks.proofs.Steps.{HeaderIs, header-is, blocks_step, blocks_all}
+use Rattle.mc_blocks.specs.Blocks.{block_within, blocks_at}
+use Rattle.mc_blocks.proofs.Steps.{HeaderIs, header_is, blocks_step, blocks_all}
 use Rattle.mc_blocks.proofs.Tiles.{Tiled, HeadersRead}
 use Rattle.mc_blocks.proofs.Bridge.{WellLaid, laid, AreNamed, named, faultless}
 use Rattle.mc_store.specs.Slots.{first_named, IsUsedBlock}
@@ -17,17 +17,17 @@ use Rattle.mc_store.specs.Slots.{first_named, IsUsedBlock}
 abbrev pub HasRecord : List (List ℕ) → Block → Type 0
 HasRecord m b = b.used ≡ true → is_record (record_at m b.place) b.words ≡ true
 
-has-step : (m : List (List ℕ)) (names : List (List ℕ)) (b : Block) (bs : List Block) (t : Bool) → b.used ≡ t
+has_step : (m : List (List ℕ)) (names : List (List ℕ)) (b : Block) (bs : List Block) (t : Bool) → b.used ≡ t
     → MatchBool t ((is_record (record_at m b.place) b.words ≡ true) × (has_name (name_at m b.place) names ≡ false) × AreNamed m (name_at m b.place ∷ names) bs) (AreNamed m names bs)
     → HasRecord m b × ((ns : List (List ℕ)) × AreNamed m ns bs)
-has-step m names b bs true e n = (λ h. n.0, (name_at m b.place ∷ names, n.2))
-has-step m names b bs false e n = (λ h. absurd (cc (sym h ∙ e)), (names, n))
+has_step m names b bs true e n = (λ h. n.0, (name_at m b.place ∷ names, n.2))
+has_step m names b bs false e n = (λ h. absurd (cc (sym h ∙ e)), (names, n))
 
-pub all-records : (m : List (List ℕ)) (bs : List Block) (names : List (List ℕ)) → AreNamed m names bs → AllByRecursion (HasRecord m) bs
-all-records m [] names n = tt
-all-records m (b ∷ bs) names n =
-    let s = has-step m names b bs b.used refl n in
-    (s.0, all-records m bs s.1.0 s.1.1)
+pub all_records : (m : List (List ℕ)) (bs : List Block) (names : List (List ℕ)) → AreNamed m names bs → AllByRecursion (HasRecord m) bs
+all_records m [] names n = tt
+all_records m (b ∷ bs) names n =
+    let s = has_step m names b bs b.used refl n in
+    (s.0, all_records m bs s.1.0 s.1.1)
 
 -- the rest of the walk from place p on
 pub record Walk (m : List (List ℕ)) (p : ℕ) (bs : List Block) : Type 0 where
@@ -40,7 +40,7 @@ pub walk_begins : (m : List (List ℕ)) → IsSized m → words_fault m ≡ None
 walk_begins m image h =
     let l : WellLaid m = laid m image h in
     subst (λ (bs : List Block). Walk m 131 bs) (blocks_all m)
-    (record { after = false; tiled = l.tiled; read = l.read; records = all-records m (blocks m) [] (named m (blocks m) [] 0 (faultless m h).records) })
+    (record { after = false; tiled = l.tiled; read = l.read; records = all_records m (blocks m) [] (named m (blocks m) [] 0 (faultless m h).records) })
 
 -- the block at place p: its header, and the walk after it
 pub record BlockStands (m : List (List ℕ)) (p : ℕ) (used : Bool) (words : ℕ) : Type 0 where
@@ -51,16 +51,16 @@ pub record BlockStands (m : List (List ℕ)) (p : ℕ) (used : Bool) (words : �
   pub first : (n : List ℕ) → first_named m (blocks_at m p) n ≡ cond (used && bytes_eq (name_at m p) n) (Some p) (first_named m (blocks_at m (p + words)) n)
 
 module _ (m : List (List ℕ)) where
-  first-is : (b : Block) (bs : List Block) (n : List ℕ) → first_named m (b ∷ bs) n ≡ cond (b.used && bytes_eq (name_at m b.place) n) (Some b.place) (first_named m bs n)
+  first_is : (b : Block) (bs : List Block) (n : List ℕ) → first_named m (b ∷ bs) n ≡ cond (b.used && bytes_eq (name_at m b.place) n) (Some b.place) (first_named m bs n)
   unfolding first_named
-  first-is b bs n = refl
+  first_is b bs n = refl
 
-  fits-here : (b : Block) → header b.place (word m b.place) ≡ Some b → b.place + b.words ≤ length m → Some b ≡ fitting (length m) (header b.place (word m b.place))
-  fits-here b e h = sym (ap (λ (o : Option Block). fitting (length m) o) e ∙ ap (λ (t : Bool). cond t (Some b) None) (le-leb (b.place + b.words) (length m) h))
+  fits_here : (b : Block) → header b.place (word m b.place) ≡ Some b → b.place + b.words ≤ length m → Some b ≡ block_within (length m) (header b.place (word m b.place))
+  fits_here b e h = sym (ap (λ (o : Option Block). block_within (length m) o) e ∙ ap (λ (t : Bool). cond t (Some b) None) (le-leb (b.place + b.words) (length m) h))
 
   stands : (b : Block) (bs : List Block) → blocks_at m b.place ≡ b ∷ bs → Walk m b.place (b ∷ bs) → BlockStands m b.place b.used b.words
   stands b bs e w =
-      let step : blocks_at m b.place ≡ b ∷ blocks_at m (b.place + b.words) = blocks_step m b.place b (fits-here b w.read.0 w.read.1) in
+      let step : blocks_at m b.place ≡ b ∷ blocks_at m (b.place + b.words) = blocks_step m b.place b (fits_here b w.read.0 w.read.1) in
       let both : b ∷ bs ≡ b ∷ blocks_at m (b.place + b.words) = sym e ∙ step in
       let rest : bs ≡ blocks_at m (b.place + b.words) = cc in
       let tail : Walk m (b.place + b.words) bs = record { after = not b.used; tiled = w.tiled.3; read = w.read.2; records = w.records.1 } in
@@ -69,24 +69,24 @@ module _ (m : List (List ℕ)) where
         high = w.read.1;
         block = λ h. record { words = b.words; good = w.records.0 h; end = w.read.1 };
         next = subst (λ (l : List Block). Walk m (b.place + b.words) l) rest tail;
-        first = λ n. ap (λ (l : List Block). first_named m l n) step ∙ first-is b (blocks_at m (b.place + b.words)) n;
+        first = λ n. ap (λ (l : List Block). first_named m l n) step ∙ first_is b (blocks_at m (b.place + b.words)) n;
       }
 
-  stands-at : (p : ℕ) (b : Block) (bs : List Block) → b.place ≡ p → blocks_at m p ≡ b ∷ bs → Walk m p (b ∷ bs) → BlockStands m p b.used b.words
-  stands-at p b bs place e w =
+  stands_at : (p : ℕ) (b : Block) (bs : List Block) → b.place ≡ p → blocks_at m p ≡ b ∷ bs → Walk m p (b ∷ bs) → BlockStands m p b.used b.words
+  stands_at p b bs place e w =
       subst (λ (q : ℕ). BlockStands m q b.used b.words) place
       (stands b bs (ap (λ (q : ℕ). blocks_at m q) place ∙ e) (subst (λ (q : ℕ). Walk m q (b ∷ bs)) (sym place) w))
 
-  stands-by : (p : ℕ) (bs : List Block) → p < length m → blocks_at m p ≡ bs → Walk m p bs → BlockStands m p (slice_index (word m p) 0 == used_tag) (be2 (word m p) 2)
-  stands-by p [] lt e w = let end : p ≡ length m = w.tiled in absurd (omega (arith, end))
-  stands-by p (b ∷ bs) lt e w =
+  stands_by : (p : ℕ) (bs : List Block) → p < length m → blocks_at m p ≡ bs → Walk m p bs → BlockStands m p (slice_index (word m p) 0 == used_tag) (be2 (word m p) 2)
+  stands_by p [] lt e w = let end : p ≡ length m = w.tiled in absurd (omega (arith, end))
+  stands_by p (b ∷ bs) lt e w =
       let place : b.place ≡ p = w.tiled.0 in
       let read : header p (word m p) ≡ Some b = subst (λ (q : ℕ). header q (word m q) ≡ Some b) place w.read.0 in
-      let h : HeaderIs p (word m p) b = header-is p (word m p) b read in
-      subst (λ (u : Bool). BlockStands m p u (be2 (word m p) 2)) h.used (subst (λ (k : ℕ). BlockStands m p b.used k) h.words (stands-at p b bs place e w))
+      let h : HeaderIs p (word m p) b = header_is p (word m p) b read in
+      subst (λ (u : Bool). BlockStands m p u (be2 (word m p) 2)) h.used (subst (λ (k : ℕ). BlockStands m p b.used k) h.words (stands_at p b bs place e w))
 
   block_stands : (p : ℕ) → p < length m → Walk m p (blocks_at m p) → BlockStands m p (slice_index (word m p) 0 == used_tag) (be2 (word m p) 2)
-  block_stands p lt w = stands-by p (blocks_at m p) lt refl w
+  block_stands p lt w = stands_by p (blocks_at m p) lt refl w
 
   -- that, of the header that was read
   pub header_stands : (p : ℕ) (used : Bool) (words : ℕ) → p < length m → Walk m p (blocks_at m p) → used ≡ (slice_index (word m p) 0 == used_tag) → words ≡ be2 (word m p) 2 → BlockStands m p used words
@@ -94,14 +94,14 @@ module _ (m : List (List ℕ)) where
       subst (λ (t : Bool). BlockStands m p t words) (sym u) (subst (λ (n : ℕ). BlockStands m p (slice_index (word m p) 0 == used_tag) n) (sym k) (block_stands p lt w))
 
   -- past the end no block has the name
-  none-left : (p : ℕ) (bs : List Block) (n : List ℕ) → Walk m p bs → length m ≤ p → first_named m bs n ≡ None
+  none_left : (p : ℕ) (bs : List Block) (n : List ℕ) → Walk m p bs → length m ≤ p → first_named m bs n ≡ None
   unfolding first_named
-  none-left p [] n w h = refl
-  none-left p (b ∷ bs) n w h =
+  none_left p [] n w h = refl
+  none_left p (b ∷ bs) n w h =
       let place : b.place ≡ p = w.tiled.0 in
       let long : 1 ≤ b.words = w.tiled.1 in
       let end : b.place + b.words ≤ length m = w.read.1 in
       absurd (omega arith)
 
   pub walk_ends : (p : ℕ) (n : List ℕ) → Walk m p (blocks_at m p) → length m ≤ p → first_named m (blocks_at m p) n ≡ None
-  walk_ends p n w h = none-left p (blocks_at m p) n w h
+  walk_ends p n w h = none_left p (blocks_at m p) n w h

@@ -3,11 +3,11 @@ use Rattle.std.specs.Prelude.{◌≡◌, ℕ, Bool, true, false, ◌&&◌, cond,
 use Rattle.std.proofs.Common.{refl, sym, ◌∙◌, ap}
 use Rattle.std.proofs.lemmas.Bool.{and_parts, eqb-true, eq-eqb}
 use Rattle.mc_model_device.specs.declared.cause.Cause.{Cause}
-use Rattle.mc_model_device.specs.Image.{Look, Refused, Closed, Pending, look, replayed}
+use Rattle.mc_model_device.specs.Image.{Look, Refused, Closed, Pending, look, image_after_replay}
 use Rattle.mc_model_device.specs.Device.{DeviceState}
 use Rattle.mc_model_device.specs.Card.{Card, card_of, means, words_after}
 use Rattle.mc_model_device.specs.Layout.{words_fault, fault}
-use Rattle.mc_store.specs.Store.{is_closed, settled, apps_in, is_going}
+use Rattle.mc_store.specs.Store.{is_closed, settled_words, apps_in, is_going}
 use Rattle.mc_model_device.proofs.LayoutLemmas.{closed_fault, closed_means}
 
 -- power is on, no journal is open, the words are a card of layout 2 with c applications
@@ -28,8 +28,8 @@ none_is None h = refl
 none_is (Some x) h = absurd (cc h)
 
 -- words with no open journal stay as they are in a replay, hold their own card, and have the faults of words
-pub closed_settled : (m : List (List ℕ)) → look m ≡ Closed → settled m ≡ m
-closed_settled m h = ap (λ (l : Look). words_after (replayed m l) m) h
+pub closed_settled : (m : List (List ℕ)) → look m ≡ Closed → settled_words m ≡ m
+closed_settled m h = ap (λ (l : Look). words_after (image_after_replay m l) m) h
 
 pub laid_apps : (m : List (List ℕ)) → fault m ≡ None → apps_in m ≡ (means m).apps
 unfolding apps_in

@@ -4,13 +4,13 @@ use Rattle.mc_model_device.specs.declared.cause.Cause.{Cause}
 use Rattle.mc_model_device.specs.declared.cause.Cause.TheVariants.{BadJournal}
 use Rattle.mc_model_device.specs.declared.device.Stop.{Stop}
 use Rattle.mc_model_device.specs.Orders.{Answer}
-use Rattle.mc_model_device.specs.Image.{Journal, One, look, which, owed, Only, Closed, Refused}
+use Rattle.mc_model_device.specs.Image.{Journal, One, look, which, count_of_recovery_writes, Only, Closed, Refused}
 use Rattle.mc_model_device.specs.Device.{DeviceState, Ended, GrowsBy, done_entries, torn_entries}
-use Rattle.mc_model_device.specs.Stopped.{writes, owed_writes, torn, stands, owes, remains}
+use Rattle.mc_model_device.specs.Stopped.{writes, owed_writes, image_after_stop, stands, owes, remains}
 use Rattle.mc_model_device.specs.Card.{word, means}
 use Rattle.mc_model_device.specs.Layout.{fault}
-use Rattle.mc_model_device.specs.PowerUp.{Base, OnCard, AtFault, base_of, migration, migrated, owing}
-use Rattle.mc_store.specs.Store.{settled, is_going}
+use Rattle.mc_model_device.specs.PowerUp.{Base, OnCard, AtFault, base_of, migration, base_after_migration, pending_journal}
+use Rattle.mc_store.specs.Store.{settled_words, is_going}
 use Rattle.mc_store.specs.declared.store.Store.{Store}
 use Rattle.mc_store.specs.declared.power.Ready.{Ready}
 use Rattle.mc_store.specs.declared.power.Up.{Up}
@@ -19,32 +19,32 @@ use Rattle.mc_store.specs.declared.power.Up.TheVariants as up
 -- ---- the device writes
 
 -- what words are: a card, or a fault with its place
-abbrev pub found : List (List ℕ) → Base
-found m = base_of (fault m) m
+abbrev pub base_of_words : List (List ℕ) → Base
+base_of_words m = base_of (fault m) m
 
 -- the one word of a migration: the root with version 2
 abbrev pub new_root : List (List ℕ) → List (ℕ × List ℕ)
 new_root m = (0, slice_set (word m 0) 3 2) ∷ []
 
 -- the device writes of the migration of a card with these words, if it has layout 1
-abbrev pub migrating : Base → List (List ℕ) → List (ℕ × List ℕ)
-migrating (OnCard c) m = cond (c.layout == 1) (writes One (new_root m)) []
-migrating (AtFault cause p) m = []
+abbrev pub migration_writes : Base → List (List ℕ) → List (ℕ × List ℕ)
+migration_writes (OnCard c) m = cond (c.layout == 1) (writes One (new_root m)) []
+migration_writes (AtFault cause p) m = []
 
 -- the device writes of a power-up: those that recovery still has to make, and after them those of a migration
 unfoldable pub power_writes : List (List ℕ) → List (ℕ × List ℕ)
-power_writes m = owed_writes (look m) ++ migrating (found m) (settled m)
+power_writes m = owed_writes (look m) ++ migration_writes (base_of_words m) (settled_words m)
 
 -- the number of device writes of a power-up
 abbrev pub power_count : List (List ℕ) → ℕ
-power_count m = owed m + migration (found m)
+power_count m = count_of_recovery_writes m + migration (base_of_words m)
 
 -- ---- how it ends
 
 -- words that hold a base, and on which recovery still has to make n writes, of this journal if there are any
 pub record HoldsBase (b : Base) (n : ℕ) (j : Journal) (m : List (List ℕ)) : Type 0 where
-  pub base : found m ≡ b
-  pub owed : owed m ≡ n
+  pub base : base_of_words m ≡ b
+  pub owed : count_of_recovery_writes m ≡ n
   pub by : n ≢ 0 → which m ≡ Only j
 
 -- a card is there, with layout 2, and the store runs
@@ -53,15 +53,15 @@ pub record IsPowered (d : DeviceState) (n c : ℕ) (e : DeviceState) : Type 0 wh
   pub number : n ≡ power_count d.words
   pub means : means e.words ≡ record (means d.words) { layout = 2 }
   pub going : is_going e c ≡ true
-  pub base : HoldsBase (migrated (found d.words)) 0 One e.words
+  pub base : HoldsBase (base_after_migration (base_of_words d.words)) 0 One e.words
   pub ended : Ended (Ok tt) d e
   pub tape : GrowsBy d.tape (done_entries (power_writes d.words)) e.tape
 
 -- the words hold no card; recovery has made its writes, and nothing else was written
 pub record IsUnusable (d : DeviceState) (c : Cause) (p : ℕ) (e : DeviceState) : Type 0 where
   pub fault : fault d.words ≡ Some (c, p)
-  pub words : e.words ≡ settled d.words
-  pub base : HoldsBase (found d.words) 0 One e.words
+  pub words : e.words ≡ settled_words d.words
+  pub base : HoldsBase (base_of_words d.words) 0 One e.words
   pub ended : Ended (Ok tt) d e
   pub tape : GrowsBy d.tape (done_entries (power_writes d.words)) e.tape
 
@@ -69,8 +69,8 @@ pub record IsUnusable (d : DeviceState) (c : Cause) (p : ℕ) (e : DeviceState) 
 -- root, and the writes that recovery still has to make are in journal 1
 abbrev pub IsHalted : List (List ℕ) → ℕ → List ℕ → List (List ℕ) → Type 0
 IsHalted m k x n =
-    (k ≤ owed m → HoldsBase (found m) (remains (owing (which m)) (owed m - 1) k x) (owing (which m)) n)
-    × (owed m < k → HoldsBase (cond (stands One 1 (k - owed m) x) (migrated (found m)) (found m)) (owes One 1 (k - owed m) x) One n)
+    (k ≤ count_of_recovery_writes m → HoldsBase (base_of_words m) (remains (pending_journal (which m)) (count_of_recovery_writes m - 1) k x) (pending_journal (which m)) n)
+    × (count_of_recovery_writes m < k → HoldsBase (cond (stands One 1 (k - count_of_recovery_writes m) x) (base_after_migration (base_of_words m)) (base_of_words m)) (owes One 1 (k - count_of_recovery_writes m) x) One n)
 
 -- a power-up that was stopped at write k, which left x
 pub record IsTorn (d : DeviceState) (s : Stop) (e : DeviceState) : Type 0 where
@@ -79,7 +79,7 @@ pub record IsTorn (d : DeviceState) (s : Stop) (e : DeviceState) : Type 0 where
   pub low : 1 ≤ k
   pub high : k ≤ power_count d.words
   pub size : length x ≡ 8
-  pub words : e.words ≡ torn d.words (power_writes d.words) k x
+  pub words : e.words ≡ image_after_stop d.words (power_writes d.words) k x
   pub halted : IsHalted d.words k x e.words
   pub ended : Ended (Err s) d e
   pub tape : GrowsBy d.tape (torn_entries (power_writes d.words) k x s) e.tape
@@ -110,13 +110,13 @@ PowerFollows m (Fails cause place) = fault m ≡ Some (cause, place)
 
 -- the ends of a recovery alone: with the number of its writes, or at a bad journal
 abbrev pub RecoverFollows : List (List ℕ) → Powered → Type 0
-RecoverFollows m (Runs number count) = (number ≡ owed m) × (look (settled m) ≡ Closed)
+RecoverFollows m (Runs number count) = (number ≡ count_of_recovery_writes m) × (look (settled_words m) ≡ Closed)
 RecoverFollows m (Halts s) = Unit {0}
 RecoverFollows m (Fails cause place) = (cause ≡ BadJournal) × (look m ≡ Refused place)
 
 -- the ends of what follows a recovery of n writes, on words with no open journal
 abbrev pub FinishFollows : List (List ℕ) → ℕ → Powered → Type 0
-FinishFollows m n (Runs number count) = (fault m ≡ None) × (number ≡ n + migration (found m)) × (count ≡ length (means m).apps)
+FinishFollows m n (Runs number count) = (fault m ≡ None) × (number ≡ n + migration (base_of_words m)) × (count ≡ length (means m).apps)
 FinishFollows m n (Halts s) = Unit {0}
 FinishFollows m n (Fails cause place) = fault m ≡ Some (cause, place)
 
@@ -135,24 +135,24 @@ abbrev pub over : {N : Type 0} → Store N → N → Store N
 over s d = record s { device = d }
 
 -- the end of a power-up without a store
-abbrev pub failed : Up → Powered
-failed (up.Stop s) = Halts s
-failed (up.Unusable u) = Fails u.cause u.place
+abbrev pub failure_end : Up → Powered
+failure_end (up.Stop s) = Halts s
+failure_end (up.Unusable u) = Fails u.cause u.place
 
 -- the end of the work on a device, before there is a store
-abbrev pub prepared : Result Ready Up → Powered
-prepared (Ok r) = Runs r.writes r.count
-prepared (Err u) = failed u
+abbrev pub preparation_end : Result Ready Up → Powered
+preparation_end (Ok r) = Runs r.writes r.count
+preparation_end (Err u) = failure_end u
 
 -- the end of a recovery alone
-abbrev pub recovered : Result ℕ Up → Powered
-recovered (Ok n) = Runs n 0
-recovered (Err u) = failed u
+abbrev pub recovery_end : Result ℕ Up → Powered
+recovery_end (Ok n) = Runs n 0
+recovery_end (Err u) = failure_end u
 
 -- the end of a power-up
-abbrev pub powered : {N : Type 0} → Result (Store N × ℕ) (N × Up) → Powered
-powered (Ok p) = Runs p.1 (count_of p.0)
-powered (Err p) = failed p.1
+abbrev pub power_up_end : {N : Type 0} → Result (Store N × ℕ) (N × Up) → Powered
+power_up_end (Ok p) = Runs p.1 (count_of p.0)
+power_up_end (Err p) = failure_end p.1
 
 -- the device after a power-up
 abbrev pub device_after : {N : Type 0} → Result (Store N × ℕ) (N × Up) → N
@@ -160,6 +160,6 @@ device_after (Ok p) = device_of p.0
 device_after (Err p) = p.0
 
 -- the end of a restart of a store, by the store after it
-abbrev pub restarted : {N : Type 0} → Store N → Result ℕ Up → Powered
-restarted s (Ok n) = Runs n (count_of s)
-restarted s (Err u) = failed u
+abbrev pub restart_end : {N : Type 0} → Store N → Result ℕ Up → Powered
+restart_end s (Ok n) = Runs n (count_of s)
+restart_end s (Err u) = failure_end u

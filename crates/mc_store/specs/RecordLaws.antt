@@ -8,12 +8,12 @@ use Rattle.std.proofs.lemmas.Slice.Eq.{bytes_eq-Decides}
 use Rattle.mc_model_card.specs.declared.card.Sizes.{Sizes}
 use Rattle.mc_model_device.specs.Limits.{most_code}
 use Rattle.mc_model_device.specs.Bytes.{zeros, be2, bytes2}
-use Rattle.mc_model_device.specs.Card.{needed_of, name_in}
+use Rattle.mc_model_device.specs.Card.{words_of_lengths, name_in}
 use Rattle.mc_model_device.specs.Layout.{is_record}
 use Rattle.mc_base.specs.Name.{IsName}
 use Rattle.mc_bank.specs.Bank.{FitsLimits}
-use Rattle.mc_model_device.proofs.ListLemmas.{two-bytes}
-use Rattle.mc_store.specs.Store.{record_bytes, needed_by}
+use Rattle.mc_model_device.proofs.ListLemmas.{two_bytes}
+use Rattle.mc_store.specs.Store.{record_bytes, words_of_sizes}
 
 -- the bytes after the name and its zeros
 abbrev behind : Sizes → List ℕ → List ℕ
@@ -22,17 +22,17 @@ behind s n = length n ∷ s.dir ∷ s.fci ∷ 0 ∷ (bytes2 s.code ++ bytes2 s.f
 abbrev front : List ℕ → List ℕ
 front n = n ++ zeros (16 - length n)
 
-length-front : (n : List ℕ) → IsName n → length (front n) ≡ 16
-length-front n is = let e = length-append n (zeros (16 - length n)) in let f = length-replicate {A = ℕ} (16 - length n) 0 in omega (arith, e, f, is)
+length_front : (n : List ℕ) → IsName n → length (front n) ≡ 16
+length_front n is = let e = length-append n (zeros (16 - length n)) in let f = length-replicate {A = ℕ} (16 - length n) 0 in omega (arith, e, f, is)
 
 parted : (s : Sizes) (n : List ℕ) → record_bytes s n ≡ front n ++ behind s n
 parted s n = refl
 
-index-behind : (s : Sizes) (n : List ℕ) (i : ℕ) → IsName n → 16 ≤ i → slice_index (record_bytes s n) i ≡ slice_index (behind s n) (i - 16)
-index-behind s n i is low = ap (λ (r : List ℕ). slice_index r i) (parted s n) ∙ get_or-append_right (front n) (behind s n) 16 i 0 (length-front n is) low
+index_behind : (s : Sizes) (n : List ℕ) (i : ℕ) → IsName n → 16 ≤ i → slice_index (record_bytes s n) i ≡ slice_index (behind s n) (i - 16)
+index_behind s n i is low = ap (λ (r : List ℕ). slice_index r i) (parted s n) ∙ get_or-append_right (front n) (behind s n) 16 i 0 (length_front n is) low
 
-named-first : (s : Sizes) (n : List ℕ) → record_bytes s n ≡ n ++ (zeros (16 - length n) ++ behind s n)
-named-first s n = append_assoc n (zeros (16 - length n)) (behind s n)
+named_first : (s : Sizes) (n : List ℕ) → record_bytes s n ≡ n ++ (zeros (16 - length n) ++ behind s n)
+named_first s n = append_assoc n (zeros (16 - length n)) (behind s n)
 
 -- the fields of a record
 pub record Fields (s : Sizes) (n r : List ℕ) : Type 0 where
@@ -48,8 +48,8 @@ pub record Fields (s : Sizes) (n r : List ℕ) : Type 0 where
   pub name : name_in r ≡ n
   pub blank : take (16 - length n) (drop (length n) r) ≡ zeros (16 - length n)
 
-be2-at : (r : List ℕ) (i a b v : ℕ) → slice_index r i ≡ a → slice_index r (i + 1) ≡ b → 256 * a + b ≡ v → be2 r i ≡ v
-be2-at r i a b v ea eb e = ap (λ (x : ℕ). 256 * x + slice_index r (i + 1)) ea ∙ ap (λ (x : ℕ). 256 * a + x) eb ∙ e
+be2_at : (r : List ℕ) (i a b v : ℕ) → slice_index r i ≡ a → slice_index r (i + 1) ≡ b → 256 * a + b ≡ v → be2 r i ≡ v
+be2_at r i a b v ea eb e = ap (λ (x : ℕ). 256 * x + slice_index r (i + 1)) ea ∙ ap (λ (x : ℕ). 256 * a + x) eb ∙ e
 
 pub fields : (s : Sizes) (n : List ℕ) → FitsLimits s → IsName n → Fields s n (record_bytes s n)
 fields s n limits is =
@@ -57,33 +57,33 @@ fields s n limits is =
     let fixed : s.fixed ≤ 4096 = limits.fixed in
     let session : s.session ≤ 256 = limits.session in
     let deny : s.deny < 16 = limits.deny in
-    let sixteen : length (front n) ≡ 16 = length-front n is in
+    let sixteen : length (front n) ≡ 16 = length_front n is in
     record {
-      long = index-behind s n 16 is (omega arith);
-      dir = index-behind s n 17 is (omega arith);
-      fci = index-behind s n 18 is (omega arith);
-      zero = index-behind s n 19 is (omega arith);
-      code = be2-at (record_bytes s n) 20 (s.code / 256 % 256) (s.code % 256) s.code (index-behind s n 20 is (omega arith)) (index-behind s n 21 is (omega arith)) (two-bytes s.code (omega arith));
-      fixed = be2-at (record_bytes s n) 22 (s.fixed / 256 % 256) (s.fixed % 256) s.fixed (index-behind s n 22 is (omega arith)) (index-behind s n 23 is (omega arith)) (two-bytes s.fixed (omega arith));
-      session = be2-at (record_bytes s n) 24 (s.session / 256 % 256) (s.session % 256) s.session (index-behind s n 24 is (omega arith)) (index-behind s n 25 is (omega arith)) (two-bytes s.session (omega arith));
-      deny = be2-at (record_bytes s n) 26 (s.deny / 256 % 256) (s.deny % 256) s.deny (index-behind s n 26 is (omega arith)) (index-behind s n 27 is (omega arith)) (two-bytes s.deny (omega arith));
+      long = index_behind s n 16 is (omega arith);
+      dir = index_behind s n 17 is (omega arith);
+      fci = index_behind s n 18 is (omega arith);
+      zero = index_behind s n 19 is (omega arith);
+      code = be2_at (record_bytes s n) 20 (s.code / 256 % 256) (s.code % 256) s.code (index_behind s n 20 is (omega arith)) (index_behind s n 21 is (omega arith)) (two_bytes s.code (omega arith));
+      fixed = be2_at (record_bytes s n) 22 (s.fixed / 256 % 256) (s.fixed % 256) s.fixed (index_behind s n 22 is (omega arith)) (index_behind s n 23 is (omega arith)) (two_bytes s.fixed (omega arith));
+      session = be2_at (record_bytes s n) 24 (s.session / 256 % 256) (s.session % 256) s.session (index_behind s n 24 is (omega arith)) (index_behind s n 25 is (omega arith)) (two_bytes s.session (omega arith));
+      deny = be2_at (record_bytes s n) 26 (s.deny / 256 % 256) (s.deny % 256) s.deny (index_behind s n 26 is (omega arith)) (index_behind s n 27 is (omega arith)) (two_bytes s.deny (omega arith));
       rest = ap (λ (r : List ℕ). drop 28 r) (parted s n) ∙ ap (λ (k : ℕ). drop (k + 12) (front n ++ behind s n)) (sym sixteen) ∙ drop-append-add (front n) (behind s n) 12;
-      name = ap (λ (k : ℕ). take k (record_bytes s n)) (index-behind s n 16 is (omega arith)) ∙ ap (λ (r : List ℕ). take (length n) r) (named-first s n) ∙ take_at n (zeros (16 - length n) ++ behind s n) (length n) refl;
-      blank = ap (λ (r : List ℕ). take (16 - length n) (drop (length n) r)) (named-first s n)
+      name = ap (λ (k : ℕ). take k (record_bytes s n)) (index_behind s n 16 is (omega arith)) ∙ ap (λ (r : List ℕ). take (length n) r) (named_first s n) ∙ take_at n (zeros (16 - length n) ++ behind s n) (length n) refl;
+      blank = ap (λ (r : List ℕ). take (16 - length n) (drop (length n) r)) (named_first s n)
           ∙ ap (λ (r : List ℕ). take (16 - length n) r) (drop_at n (zeros (16 - length n) ++ behind s n) (length n) refl)
           ∙ take_at (zeros (16 - length n)) (behind s n) (16 - length n) (length-replicate {A = ℕ} (16 - length n) 0);
     }
 
-all-parts : (a b c d e f g h i j k l m : Bool) → a ≡ true → b ≡ true → c ≡ true → d ≡ true → e ≡ true → f ≡ true → g ≡ true → h ≡ true → i ≡ true → j ≡ true → k ≡ true → l ≡ true → m ≡ true
+all_parts : (a b c d e f g h i j k l m : Bool) → a ≡ true → b ≡ true → c ≡ true → d ≡ true → e ≡ true → f ≡ true → g ≡ true → h ≡ true → i ≡ true → j ≡ true → k ≡ true → l ≡ true → m ≡ true
     → (a && b && c && d && e && f && g && h && i && j && k && l && m) ≡ true
-all-parts a b c d e f g h i j k l m pa pb pc pd pe pf pg ph pi pj pk pl pm = rw (pa, pb, pc, pd, pe, pf, pg, ph, pi, pj, pk, pl, pm) refl
+all_parts a b c d e f g h i j k l m pa pb pc pd pe pf pg ph pi pj pk pl pm = rw (pa, pb, pc, pd, pe, pf, pg, ph, pi, pj, pk, pl, pm) refl
 
-same-test : (a b : List ℕ) → a ≡ b → bytes_eq a b ≡ true
-same-test a b e = (bytes_eq-Decides a b).1 e
+same_test : (a b : List ℕ) → a ≡ b → bytes_eq a b ≡ true
+same_test a b e = (bytes_eq-Decides a b).1 e
 
 -- that record is valid for a block of the words that the sizes need
-pub is-record : (s : Sizes) (n r : List ℕ) → FitsLimits s → IsName n → r ≡ record_bytes s n → is_record r (needed_by s) ≡ true
-is-record s n r limits is same =
+pub bytes_are_record : (s : Sizes) (n r : List ℕ) → FitsLimits s → IsName n → r ≡ record_bytes s n → is_record r (words_of_sizes s) ≡ true
+bytes_are_record s n r limits is same =
     let f : Fields s n r = subst (λ (x : List ℕ). Fields s n x) (sym same) (fields s n limits is) in
     let some : 1 ≤ s.code = limits.some_code in
     let code : s.code ≤ most_code = limits.code in
@@ -94,10 +94,10 @@ is-record s n r limits is same =
     let deny : s.deny < 16 = limits.deny in
     let low : 5 ≤ length n = is.0 in
     let high : length n ≤ 16 = is.1 in
-    all-parts _ _ _ _ _ _ _ _ _ _ _ _ _
+    all_parts _ _ _ _ _ _ _ _ _ _ _ _ _
     (le-leb 5 (slice_index r 16) (omega (arith, f.long)))
     (le-leb (slice_index r 16) 16 (omega (arith, f.long)))
-    (ap (λ (k : ℕ). bytes_eq (take (16 - k) (drop k r)) (zeros (16 - k))) f.long ∙ same-test (take (16 - length n) (drop (length n) r)) (zeros (16 - length n)) f.blank)
+    (ap (λ (k : ℕ). bytes_eq (take (16 - k) (drop k r)) (zeros (16 - k))) f.long ∙ same_test (take (16 - length n) (drop (length n) r)) (zeros (16 - length n)) f.blank)
     (le-leb (slice_index r 17) 128 (omega (arith, f.dir)))
     (le-leb (slice_index r 18) 128 (omega (arith, f.fci)))
     (eq-eqb (slice_index r 19) 0 f.zero)
@@ -106,7 +106,7 @@ is-record s n r limits is same =
     (le-leb (be2 r 22) 4096 (omega (arith, f.fixed)))
     (le-leb (be2 r 24) 256 (omega (arith, f.session)))
     (le-leb (be2 r 26) 15 (omega (arith, f.deny)))
-    (same-test (drop 28 r) (zeros 4) f.rest)
-    (eq-eqb (needed_by s) (needed_of (be2 r 20) (be2 r 22) (slice_index r 17) (slice_index r 18))
-    (sym (ap (λ (k : ℕ). needed_of k (be2 r 22) (slice_index r 17) (slice_index r 18)) f.code ∙ ap (λ (k : ℕ). needed_of s.code k (slice_index r 17) (slice_index r 18)) f.fixed
-    ∙ ap (λ (k : ℕ). needed_of s.code s.fixed k (slice_index r 18)) f.dir ∙ ap (λ (k : ℕ). needed_of s.code s.fixed s.dir k) f.fci)))
+    (same_test (drop 28 r) (zeros 4) f.rest)
+    (eq-eqb (words_of_sizes s) (words_of_lengths (be2 r 20) (be2 r 22) (slice_index r 17) (slice_index r 18))
+    (sym (ap (λ (k : ℕ). words_of_lengths k (be2 r 22) (slice_index r 17) (slice_index r 18)) f.code ∙ ap (λ (k : ℕ). words_of_lengths s.code k (slice_index r 17) (slice_index r 18)) f.fixed
+    ∙ ap (λ (k : ℕ). words_of_lengths s.code s.fixed k (slice_index r 18)) f.dir ∙ ap (λ (k : ℕ). words_of_lengths s.code s.fixed s.dir k) f.fci)))

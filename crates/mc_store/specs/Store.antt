@@ -8,13 +8,13 @@ use Rattle.mc_model_device.specs.Bytes.{up, down, zeros, bytes2, splice, lookup,
 use Rattle.mc_model_device.specs.Image.{Two, Look, Refused, Closed, Pending, look, after}
 use Rattle.mc_model_device.specs.Device.{DeviceState, IsSized, Makes}
 use Rattle.mc_model_device.specs.Stopped.{writes}
-use Rattle.mc_model_device.specs.Card.{App, Card, needed_of, word, section, record_at, means, words_after}
+use Rattle.mc_model_device.specs.Card.{App, Card, words_of_lengths, word, section, record_at, means, words_after}
 use Rattle.mc_model_device.specs.Layout.{gaps, first_fitting, words_fault, fault, step_of}
 use Rattle.mc_model_card.specs.Items.{Site, BankItem, Piece, Blank, Note, Commit, Enter, Remove}
 use Rattle.mc_base.specs.Name.{IsName}
-use Rattle.mc_bank.specs.Bank.{BankState, app_of, part_len, IsGoodSite, CanCommit, entered}
+use Rattle.mc_bank.specs.Bank.{BankState, app_of, part_len, IsGoodSite, CanCommit, app_of_site}
 use Rattle.mc_bank.specs.Slots.{slot_place, name_of_slot}
-use Rattle.mc_blocks.specs.Chains.{looked_at}
+use Rattle.mc_blocks.specs.Chains.{count_of_searched_gaps}
 
 -- ---- what the words hold
 
@@ -25,8 +25,8 @@ is_closed Closed = true
 is_closed (Pending j ps) = false
 
 -- the words once the journal that is open, if one is, is replayed
-abbrev pub settled : List (List ℕ) → List (List ℕ)
-settled m = words_after (after m) m
+abbrev pub settled_words : List (List ℕ) → List (List ℕ)
+settled_words m = words_after (after m) m
 
 -- the applications of words that are a card, and none if they are not
 unfoldable pub apps_in : List (List ℕ) → List (List ℕ × App)
@@ -60,16 +60,16 @@ store_named d k = name_of_slot (apps_in d.words) k (place_named d (slot_place k)
 -- ---- sites: a load is known by the place of its hole
 
 -- the number of words of the block of a load of these sizes
-abbrev pub needed_by : Sizes → ℕ
-needed_by s = needed_of s.code s.fixed s.dir s.fci
+abbrev pub words_of_sizes : Sizes → ℕ
+words_of_sizes s = words_of_lengths s.code s.fixed s.dir s.fci
 
 -- the place of the first hole with the needed words
 abbrev pub store_room : DeviceState → Sizes → Option ℕ
-store_room d s = first_fitting (needed_by s) (gaps (means d.words))
+store_room d s = first_fitting (words_of_sizes s) (gaps (means d.words))
 
 -- the number of steps of a search for n words on a card with `count` applications and these holes
 abbrev pub search_steps : ℕ → ℕ → List (ℕ × ℕ) → ℕ
-search_steps count n gs = cond (nat_le 32 count) 0 (1 + looked_at n gs)
+search_steps count n gs = cond (nat_le 32 count) 0 (1 + count_of_searched_gaps n gs)
 
 -- the word in which a section begins, of a block at p with sections of these lengths
 abbrev pub part_from : Part → Sizes → ℕ → ℕ
@@ -84,7 +84,7 @@ part_in m s p = section m (part_from p s.sizes s.place) (part_len p s.sizes)
 
 -- the bytes at a site, once the open journal is replayed
 abbrev pub store_standing : DeviceState → Site → Part → List ℕ
-store_standing d s p = part_in (settled d.words) s p
+store_standing d s p = part_in (settled_words d.words) s p
 
 -- ---- records
 
@@ -109,7 +109,7 @@ static_writes a ws = map (λ w. (a.place + 5 + up (length a.code) 8 + w.0, w.1))
 
 -- a card with the bytes at a site as an application
 abbrev pub card_with : List (List ℕ) → Site → List ℕ → Card
-card_with m s n = record (means m) { apps = insert (means m).apps n (entered s (part_in m s)) }
+card_with m s n = record (means m) { apps = insert (means m).apps n (app_of_site s (part_in m s)) }
 
 -- a card without an application
 abbrev pub card_without : List (List ℕ) → List ℕ → Card
@@ -128,7 +128,7 @@ item_writes m (Remove n) = writes Two (step_of (means m) (card_without m n))
 
 -- a site that a search for room on these words could return
 abbrev pub IsGoodIn : List (List ℕ) → Site → Type 0
-IsGoodIn m s = IsGoodSite (means m).apps (λ z. first_fitting (needed_by z) (gaps (means m))) s
+IsGoodIn m s = IsGoodSite (means m).apps (λ z. first_fitting (words_of_sizes z) (gaps (means m))) s
 
 -- bytes in one word of a section of `len` bytes
 pub record IsInWord (len at count : ℕ) : Type 0 where

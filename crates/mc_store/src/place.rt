@@ -2,7 +2,7 @@
 ghost use Rattle.std.specs.Prelude.{◌≡◌, ◌≤◌, ◌+◌};
 ghost use Rattle.mc_model_device.specs.Bytes.{up};
 ghost use Rattle.mc_bank.specs.Bank.{FitsLimits};
-ghost use Rattle.mc_store.specs.Store.{needed_by, part_from};
+ghost use Rattle.mc_store.specs.Store.{words_of_sizes, part_from};
 
 use mc_bank::{Part, Sizes};
 
@@ -16,7 +16,7 @@ pub fn words_of(bytes: u16) -> u16
 /// Returns the number of words of a block with sections of these sizes.
 pub fn needed_words(sizes: &Sizes) -> u16
     requires { FitsLimits sizes.now }
-    ensures { result ≡ needed_by sizes.now }
+    ensures { result ≡ words_of_sizes sizes.now }
 {
     5 + words_of(sizes.code) + words_of(sizes.fixed) + words_of(sizes.dir) + words_of(sizes.fci)
 }

@@ -8,8 +8,8 @@ ghost use Rattle.mc_model_device.specs.Card.{means, word};
 ghost use Rattle.mc_model_device.specs.Layout.{fault};
 ghost use Rattle.mc_gate.specs.Layouts.{journal_of};
 ghost use Rattle.mc_gate.specs.Recovery.{outcome_of};
-ghost use Rattle.mc_store.specs.Store.{settled};
-ghost use Rattle.mc_store.specs.Power.{new_root, found, migrating, power_writes, power_answer, PowersUp, PowerFollows, RecoverFollows, FinishFollows, recovered, prepared};
+ghost use Rattle.mc_store.specs.Store.{settled_words};
+ghost use Rattle.mc_store.specs.Power.{new_root, base_of_words, migration_writes, power_writes, power_answer, PowersUp, PowerFollows, RecoverFollows, FinishFollows, recovery_end, preparation_end};
 
 use mc_base::{Stop, Word};
 use mc_blocks::{Cause, Shape, Unusable, walk};
@@ -43,8 +43,8 @@ pub struct Ready {
 pub fn prepare<N: Nvm>(device: &mut N) -> Result<Ready, Up>
     requires power { (N.state device.old).on ≡ true }
     ensures makes { Makes N.wrote device.old (power_writes (N.state device.old).words)
-        (power_answer (prepared result)) device.new }
-    ensures ends { PowersUp (N.state device.old) (prepared result) (N.state device.new) }
+        (power_answer (preparation_end result)) device.new }
+    ensures ends { PowersUp (N.state device.old) (preparation_end result) (N.state device.new) }
     ensures lent { N.same device.old device.new }
 {
     let _size = device.len();
@@ -55,8 +55,8 @@ pub fn prepare<N: Nvm>(device: &mut N) -> Result<Ready, Up>
 fn recover_and_finish<N: Nvm>(device: &mut N) -> Result<Ready, Up>
     requires power { (N.state device.old).on ≡ true }
     ensures makes { Makes N.wrote device.old (power_writes (N.state device.old).words)
-        (power_answer (prepared result)) device.new }
-    ensures follows { PowerFollows (N.state device.old).words (prepared result) }
+        (power_answer (preparation_end result)) device.new }
+    ensures follows { PowerFollows (N.state device.old).words (preparation_end result) }
     ensures lent { N.same device.old device.new }
 {
     match recover(device) {
@@ -70,9 +70,9 @@ fn recover_and_finish<N: Nvm>(device: &mut N) -> Result<Ready, Up>
 fn recover<N: Nvm>(device: &mut N) -> Result<u16, Up>
     requires power { (N.state device.old).on ≡ true }
     ensures makes { Makes N.wrote device.old (owed_writes (look (N.state device.old).words))
-        (power_answer (recovered result)) device.new }
-    ensures follows { RecoverFollows (N.state device.old).words (recovered result) }
-    ensures words { IfOk result (λ n. (N.state device.new).words ≡ settled (N.state device.old).words) }
+        (power_answer (recovery_end result)) device.new }
+    ensures follows { RecoverFollows (N.state device.old).words (recovery_end result) }
+    ensures words { IfOk result (λ n. (N.state device.new).words ≡ settled_words (N.state device.old).words) }
     ensures closed { IfOk result (λ n. look (N.state device.new).words ≡ Closed) }
     ensures on { IfOk result (λ n. (N.state device.new).on ≡ true) }
     ensures few { IfOk result (λ n. n ≤ 65) }
@@ -87,8 +87,8 @@ fn recover<N: Nvm>(device: &mut N) -> Result<u16, Up>
 fn replay_open<N: Nvm>(device: &mut N) -> Result<u16, Up>
     requires power { (N.state device.old).on ≡ true }
     ensures makes { Makes N.wrote device.old (owed_writes (look (N.state device.old).words))
-        (power_answer (recovered result)) device.new }
-    ensures follows { RecoverFollows (N.state device.old).words (recovered result) }
+        (power_answer (recovery_end result)) device.new }
+    ensures follows { RecoverFollows (N.state device.old).words (recovery_end result) }
     ensures few { IfOk result (λ n. n ≤ 65) }
     ensures lent { N.same device.old device.new }
 {
@@ -108,8 +108,8 @@ fn replay_alone<N: Nvm>(device: &mut N, layout: Layout) -> Result<u16, Up>
     requires low { 256 ≤ length (N.state device.old).words }
     requires alone { look (N.state device.old).words ≡ look_j (journal_of layout) (N.state device.old).words }
     ensures makes { Makes N.wrote device.old (owed_writes (look (N.state device.old).words))
-        (power_answer (recovered result)) device.new }
-    ensures follows { RecoverFollows (N.state device.old).words (recovered result) }
+        (power_answer (recovery_end result)) device.new }
+    ensures follows { RecoverFollows (N.state device.old).words (recovery_end result) }
     ensures few { IfOk result (λ n. n ≤ 65) }
     ensures lent { N.same device.old device.new }
 {
@@ -150,9 +150,9 @@ fn finish<N: Nvm>(device: &mut N, owed: u16) -> Result<Ready, Up>
     requires power { (N.state device.old).on ≡ true }
     requires closed { look (N.state device.old).words ≡ Closed }
     requires few { owed ≤ 65 }
-    ensures makes { Makes N.wrote device.old (migrating (found (N.state device.old).words) (N.state device.old).words)
-        (power_answer (prepared result)) device.new }
-    ensures follows { FinishFollows (N.state device.old).words owed (prepared result) }
+    ensures makes { Makes N.wrote device.old (migration_writes (base_of_words (N.state device.old).words) (N.state device.old).words)
+        (power_answer (preparation_end result)) device.new }
+    ensures follows { FinishFollows (N.state device.old).words owed (preparation_end result) }
     ensures lent { N.same device.old device.new }
 {
     match walk(device) {
@@ -169,9 +169,9 @@ fn upgrade<N: Nvm>(device: &mut N, owed: u16, shape: &Shape) -> Result<Ready, Up
     requires used { shape.now.used ≡ length (means (N.state device.old).words).apps }
     requires layout { shape.now.layout ≡ (means (N.state device.old).words).layout }
     requires few { owed ≤ 65 }
-    ensures makes { Makes N.wrote device.old (migrating (found (N.state device.old).words) (N.state device.old).words)
-        (power_answer (prepared result)) device.new }
-    ensures follows { FinishFollows (N.state device.old).words owed (prepared result) }
+    ensures makes { Makes N.wrote device.old (migration_writes (base_of_words (N.state device.old).words) (N.state device.old).words)
+        (power_answer (preparation_end result)) device.new }
+    ensures follows { FinishFollows (N.state device.old).words owed (preparation_end result) }
     ensures lent { N.same device.old device.new }
 {
     match migrate(device, shape.layout) {

@@ -4,9 +4,9 @@ ghost use Rattle.mc_model_device.specs.Image.{Closed, look};
 ghost use Rattle.mc_model_device.specs.Card.{means};
 ghost use Rattle.mc_model_device.specs.Layout.{gaps, IsWellLaid};
 ghost use Rattle.mc_model_device.specs.Device.{IsImage};
-ghost use Rattle.mc_bank.specs.Bank.{FitsLimits, opened};
-ghost use Rattle.mc_blocks.specs.Chains.{looked_at};
-ghost use Rattle.mc_store.specs.Store.{store_state, store_room, needed_by, search_steps};
+ghost use Rattle.mc_bank.specs.Bank.{FitsLimits, search_result};
+ghost use Rattle.mc_blocks.specs.Chains.{count_of_searched_gaps};
+ghost use Rattle.mc_store.specs.Store.{store_state, store_room, words_of_sizes, search_steps};
 
 use crate::place::needed_words;
 use mc_bank::{OpenRefusal, Site, Sizes};
@@ -32,10 +32,10 @@ pub fn find_room<N: Nvm, L: Ledger>(
 ) -> Result<Site, OpenRefusal>
     requires going { (store_state (N.state device.now) count).stopped ≡ false }
     requires limits { FitsLimits sizes.now }
-    ensures answer { result ≡ opened sizes.now (nat_le 32 count) (store_room (N.state device.now) sizes.now) }
+    ensures answer { result ≡ search_result sizes.now (nat_le 32 count) (store_room (N.state device.now) sizes.now) }
     ensures image { IsImage (N.state device.now).words }
     ensures ticks { steps.new ≡ steps.old
-        + search_steps count (needed_by sizes.now) (gaps (means (N.state device.now).words)) }
+        + search_steps count (words_of_sizes sizes.now) (gaps (means (N.state device.now).words)) }
 {
     let _size = device.len();
     if count >= APPS {
@@ -54,9 +54,9 @@ fn first_room<N: Nvm, L: Ledger>(
     requires closed { look (N.state device.now).words ≡ Closed }
     requires laid { IsWellLaid (N.state device.now).words }
     requires limits { FitsLimits sizes.now }
-    ensures answer { result ≡ opened sizes.now false (store_room (N.state device.now) sizes.now) }
+    ensures answer { result ≡ search_result sizes.now false (store_room (N.state device.now) sizes.now) }
     ensures ticks { steps.new ≡ steps.old
-        + (1 + looked_at (needed_by sizes.now) (gaps (means (N.state device.now).words))) }
+        + (1 + count_of_searched_gaps (words_of_sizes sizes.now) (gaps (means (N.state device.now).words))) }
 {
     match first_fit(&Probe::new(device), needed_words(sizes), steps) {
         Some(place) => Ok(Site::new(*sizes, place)),

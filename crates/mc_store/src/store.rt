@@ -1,7 +1,7 @@
 ghost use Rattle.std.specs.Prelude.{◌≡◌, true, length};
 ghost use Rattle.mc_model_device.specs.Device.{Makes, IsImage};
 ghost use Rattle.std.specs.Borrow.{Lends, sem};
-ghost use Rattle.mc_store.specs.Power.{power_writes, power_answer, powered, restarted, device_of, device_after, over, PowersUp};
+ghost use Rattle.mc_store.specs.Power.{power_writes, power_answer, power_up_end, restart_end, device_of, device_after, over, PowersUp};
 ghost use Rattle.mc_store.specs.contracts.store.Store.{the_row};
 
 use crate::block::{find_block, name_of_block};
@@ -36,11 +36,11 @@ impl<N: Nvm> Store<N> {
     pub fn power_up(dev: N) -> Result<(Store<N>, u16), (N, Up)>
         requires power { (N.state dev).on ≡ true }
         // Up to the first one that stops it makes the writes that recovery still has to make and then those of the migration.
-        ensures makes { Makes N.wrote dev (power_writes (N.state dev).words) (power_answer (powered result))
+        ensures makes { Makes N.wrote dev (power_writes (N.state dev).words) (power_answer (power_up_end result))
             (device_after result) }
         // The applications are those that the words held; after a fault or a stop the words are as in `IsUnusable` or
         // `IsTorn`.
-        ensures ends { PowersUp (N.state dev) (powered result) (N.state (device_after result)) }
+        ensures ends { PowersUp (N.state dev) (power_up_end result) (N.state (device_after result)) }
         // The device is the one that came in.
         ensures lent { N.same dev (device_after result) }
     {
@@ -76,10 +76,10 @@ impl<N: Nvm> Store<N> {
         requires power { (N.state (device_of self.old)).on ≡ true }
         // Up to the first one that stops it makes the writes that recovery still has to make and then those of the migration.
         ensures makes { Makes N.wrote (device_of self.old) (power_writes (N.state (device_of self.old)).words)
-            (power_answer (restarted self.new result)) (device_of self.new) }
+            (power_answer (restart_end self.new result)) (device_of self.new) }
         // The applications are those that the words held; after a fault or a stop the words are as in `IsUnusable` or
         // `IsTorn`.
-        ensures ends { PowersUp (N.state (device_of self.old)) (restarted self.new result)
+        ensures ends { PowersUp (N.state (device_of self.old)) (restart_end self.new result)
             (N.state (device_of self.new)) }
         // The device is the one that was there.
         ensures lent { N.same (device_of self.old) (device_of self.new) }

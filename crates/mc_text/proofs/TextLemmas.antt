@@ -2,14 +2,14 @@
 use Rattle.std.proofs.Common.{◌≡◌, ℕ, List, [], ◌∷◌, ◌++◌, take, drop, Result, Ok, Err, IsErr, refl, arith, sym, ap, subst, ◌∙◌, append_assoc, length-append}
 use Rattle.std.proofs.lemmas.List.{take-append-drop}
 use Rattle.mc_model_machine.specs.Listing.{hex_text}
-use Rattle.mc_base.proofs.StreamsLemmas.{Grew-append, Grew-none, Rose-later}
+use Rattle.mc_base.proofs.StreamsLemmas.{grew_append, grew_none, rose_later}
 use Rattle.mc_base.specs.declared.refusals.WriteFault.{WriteFault}
 use Rattle.mc_text.specs.Texts.{Sunk, Writes, Fails, Puts}
 
 -- a text that was written after one that was written
 pub writes_then : {a b c : Sunk} {x y : List ℕ} → Writes a x b → Writes b y c → Writes a (x ++ y) c
 writes_then {a} {b} {c} {x} {y} first second =
-    record { whole = Grew-append a.taken b.taken c.taken x y first.whole second.whole; counted = omega (arith, first.counted, second.counted) }
+    record { whole = grew_append a.taken b.taken c.taken x y first.whole second.whole; counted = omega (arith, first.counted, second.counted) }
 
 -- a text that failed after one that was written
 pub fails_then : {a b c : Sunk} {x y : List ℕ} → Writes a x b → Fails b y c → Fails a (x ++ y) c
@@ -21,9 +21,9 @@ fails_then {a} {b} {c} {x} {y} first second =
             rest = second.part.rest;
             parts = ap (λ t. x ++ t) second.part.parts ∙ sym (append_assoc x second.part.front second.part.rest);
             some_left = second.part.some_left;
-            grew = Grew-append a.taken b.taken c.taken x second.part.front first.whole second.part.grew;
+            grew = grew_append a.taken b.taken c.taken x second.part.front first.whole second.part.grew;
           };
-      cause = Rose-later a.faults b.faults c.faults first.counted second.cause;
+      cause = rose_later a.faults b.faults c.faults first.counted second.cause;
     }
 
 -- a text that was written or failed after one that was written
@@ -53,7 +53,7 @@ puts_failed (Err w) is f = f
 
 -- the empty text is written without a call
 pub writes_none : (a : Sunk) → Writes a [] a
-writes_none a = record { whole = Grew-none a.taken; counted = omega arith }
+writes_none a = record { whole = grew_none a.taken; counted = omega arith }
 
 -- an equal text is put with the same result
 pub puts_as : (a b : Sunk) {t u : List ℕ} (r : Result (Unit {0}) WriteFault) → t ≡ u → Puts a t r b → Puts a u r b

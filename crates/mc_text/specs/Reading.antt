@@ -3,17 +3,17 @@ use Rattle.std.specs.Prelude.{ℕ, suc, ◌-◌, cond, nat_le, ◌==◌, List, [
 use Rattle.mc_model_machine.specs.Text.{every, is_digit, digits_onto, first_cut, is_empty}
 
 -- the minimum of a number and 4,294,967,296
-abbrev pub capped : ℕ → ℕ
-capped n = cond (nat_le n 4294967296) n 4294967296
+abbrev pub capped_number : ℕ → ℕ
+capped_number n = cond (nat_le n 4294967296) n 4294967296
 
 -- the number of decimal digits that are appended to those of n, if all are digits
 abbrev pub decimal_behind : ℕ → List ℕ → Option ℕ
 decimal_behind n t = cond (every is_digit t) (Some (digits_onto 10 n (map (λ c. c - 48) t))) None
 
 -- the text before an index and the text after it, or the whole text if there is no index
-abbrev pub cut_at : List ℕ → Option ℕ → List ℕ × Option (List ℕ)
-cut_at t None = (t, None)
-cut_at t (Some i) = (take i t, Some (drop (suc i) t))
+abbrev pub halves_at : List ℕ → Option ℕ → List ℕ × Option (List ℕ)
+halves_at t None = (t, None)
+halves_at t (Some i) = (take i t, Some (drop (suc i) t))
 
 -- a line without a trailing carriage return
 abbrev pub without_return : List ℕ → List ℕ

@@ -1,7 +1,7 @@
 // Reading texts: characters, numbers, cuts, lines, and trimmed blanks.
 ghost use Rattle.std.specs.Prelude.{◌≡◌, ◌+◌, ◌*◌, ◌<◌, ◌≤◌, ◌==◌, length, position, option_map, IfSome};
 ghost use Rattle.mc_model_machine.specs.Text.{decimal_number, every, first_cut, hex_value, is_blank, is_digit, is_name_character, trim, trim_front, trim_end};
-ghost use Rattle.mc_text.specs.Reading.{capped, cut_at, next_line, without_return};
+ghost use Rattle.mc_text.specs.Reading.{capped_number, halves_at, next_line, without_return};
 
 /// Returns whether a character is a space or a tab.
 pub fn is_blank(character: u8) -> bool
@@ -56,7 +56,7 @@ const LIMIT: u64 = 4294967296;
 fn with_digit(number: u64, digit: u8) -> u64
     requires number { number ≤ 4294967296 }
     requires digit { digit < 10 }
-    ensures { result ≡ capped (number * 10 + digit) }
+    ensures { result ≡ capped_number (number * 10 + digit) }
 {
     LIMIT.min(number * 10 + digit as u64)
 }
@@ -64,7 +64,7 @@ fn with_digit(number: u64, digit: u8) -> u64
 /// Returns the number of decimal digits, or 4,294,967,296 if it is greater; leading zeros are allowed.
 /// Returns `None` if there is no character, or one that is no digit.
 pub fn decimal_number(digits: &[u8]) -> Option<u64>
-    ensures { result ≡ option_map capped (decimal_number digits.now) }
+    ensures { result ≡ option_map capped_number (decimal_number digits.now) }
 {
     if digits.is_empty() {
         return None;
@@ -82,7 +82,7 @@ pub fn decimal_number(digits: &[u8]) -> Option<u64>
 // The text before an index and the text after it, or the whole text if there is no index.
 fn cut_at(text: &[u8], place: Option<usize>) -> (&[u8], Option<&[u8]>)
     requires { IfSome place (λ i. i < length text.now) }
-    ensures parts { (result.0.now, option_map (λ rest. rest.now) result.1) ≡ cut_at text.now place }
+    ensures parts { (result.0.now, option_map (λ rest. rest.now) result.1) ≡ halves_at text.now place }
     ensures shorter { IfSome result.1 (λ rest. length rest.now < length text.now) }
 {
     match place {

@@ -3,9 +3,9 @@ use Rattle.std.proofs.Common.{◌≡◌, ℕ, zero, suc, ◌+◌, ◌-◌, ◌/�
 use Rattle.std.specs.Prelude.{nat_eq, is_none}
 use Rattle.std.proofs.lemmas.Bool.{cases_lt, ne_eqb}
 use Rattle.std.proofs.lemmas.Bool.Decides.{nat_tests}
-use Rattle.mc_model_device.specs.Pieces.{touched, numbers, pending_at, not_pending, with_number, with_words, Ascend, HoldPieces}
+use Rattle.mc_model_device.specs.Pieces.{touched_words, numbers, pending_at, not_pending, with_number, with_words, Ascend, HoldPieces}
 use Rattle.mc_trans.proofs.Touched.{mem, mem_number}
-use Rattle.mc_model_device.proofs.PieceLemmas.{touched-append, with_number_twice}
+use Rattle.mc_model_device.proofs.PieceLemmas.{touched_append, with_number_twice}
 
 -- a sorted set of numbers with `count` more, from n on
 with_numbers : ℕ → ℕ → List ℕ → List ℕ
@@ -54,9 +54,9 @@ none_below : (least m : ℕ) (ns : List ℕ) → m < least → Ascend least ns �
 none_below least m [] lt asc = refl
 none_below least m (k ∷ ks) lt asc = grind (arith, nat_tests, none_below (k + 1) m ks)
 
-length-with_number : (least n : ℕ) (ns : List ℕ) → Ascend least ns → length (with_number n ns) ≡ length ns + cond (mem n ns) 0 1
-length-with_number least n [] asc = refl
-length-with_number least n (k ∷ ks) asc = grind (arith, nat_tests, length-with_number (k + 1) n ks, none_below (k + 1) n ks)
+length_with_number : (least n : ℕ) (ns : List ℕ) → Ascend least ns → length (with_number n ns) ≡ length ns + cond (mem n ns) 0 1
+length_with_number least n [] asc = refl
+length_with_number least n (k ∷ ks) asc = grind (arith, nat_tests, length_with_number (k + 1) n ks, none_below (k + 1) n ks)
 
 -- the number of numbers in n..n + count that are not in the list
 abbrev missing : ℕ → ℕ → List ℕ → ℕ
@@ -69,13 +69,13 @@ missing_later n m (suc count) ns lt =
     let other : nat_eq n m ≡ false = ne_eqb _ _ (omega arith) in
     rw (mem_number m n ns, other, missing_later n (m + 1) count ns (omega arith)) refl
 
-length-with_numbers : (n count : ℕ) (ns : List ℕ) → Ascend 0 ns → length (with_numbers n count ns) ≡ length ns + missing n count ns
+length_with_numbers : (n count : ℕ) (ns : List ℕ) → Ascend 0 ns → length (with_numbers n count ns) ≡ length ns + missing n count ns
 unfolding with_numbers
-length-with_numbers n zero ns asc = omega arith
-length-with_numbers n (suc count) ns asc =
-    let rest = length-with_numbers (n + 1) count (with_number n ns) (ascends_number 0 n ns (omega arith) asc) in
+length_with_numbers n zero ns asc = omega arith
+length_with_numbers n (suc count) ns asc =
+    let rest = length_with_numbers (n + 1) count (with_number n ns) (ascends_number 0 n ns (omega arith) asc) in
     let later = missing_later n (n + 1) count ns (omega arith) in
-    omega (arith, length-with_number 0 n ns asc, rest, later)
+    omega (arith, length_with_number 0 n ns asc, rest, later)
 
 -- a number is missing from the numbers of pending words exactly if no word is pending under it
 one_missing : (n : ℕ) (ws : List (ℕ × List ℕ)) → ◌≡◌ {A = ℕ} (cond (mem n (numbers ws)) 0 1) (cond (is_none (pending_at ws n)) 1 0)
@@ -86,14 +86,14 @@ missing_is : (n count : ℕ) (ws : List (ℕ × List ℕ)) → missing n count (
 missing_is n zero ws = refl
 missing_is n (suc count) ws = omega (arith, one_missing n ws, missing_is (n + 1) count ws)
 
-length-numbers : (ws : List (ℕ × List ℕ)) → length (numbers ws) ≡ length ws
-length-numbers [] = refl
-length-numbers (w ∷ ws) = ap suc (length-numbers ws)
+length_numbers : (ws : List (ℕ × List ℕ)) → length (numbers ws) ≡ length ws
+length_numbers [] = refl
+length_numbers (w ∷ ws) = ap suc (length_numbers ws)
 
-pub words_counted : (l : List ℕ) (ps ws : List (ℕ × List ℕ)) (at : ℕ) (b : List ℕ) → HoldPieces l ps ws → 0 < length b → length (touched (ps ++ (at, b) ∷ [])) ≡ length ws + not_pending (at / 8) ((at + length b - 1) / 8 + 1 - at / 8) ws
+pub words_counted : (l : List ℕ) (ps ws : List (ℕ × List ℕ)) (at : ℕ) (b : List ℕ) → HoldPieces l ps ws → 0 < length b → length (touched_words (ps ++ (at, b) ∷ [])) ≡ length ws + not_pending (at / 8) ((at + length b - 1) / 8 + 1 - at / 8) ws
 words_counted l ps ws at [] held some = absurd (omega arith)
 words_counted l ps ws at (x ∷ b) held some =
     let count = words_in at (suc (length b)) in
-    let words : touched (ps ++ (at, x ∷ b) ∷ []) ≡ with_numbers (at / 8) count (numbers ws) =
-    touched-append ps ((at, x ∷ b) ∷ []) ∙ ap (with_words at (x ∷ b)) (sym held.touched_words) ∙ numbers_are at x b (numbers ws) in
-    ap length words ∙ omega (arith, length-with_numbers (at / 8) count (numbers ws) held.pending.ascending, missing_is (at / 8) count ws, length-numbers ws)
+    let words : touched_words (ps ++ (at, x ∷ b) ∷ []) ≡ with_numbers (at / 8) count (numbers ws) =
+    touched_append ps ((at, x ∷ b) ∷ []) ∙ ap (with_words at (x ∷ b)) (sym held.touched_words) ∙ numbers_are at x b (numbers ws) in
+    ap length words ∙ omega (arith, length_with_numbers (at / 8) count (numbers ws) held.pending.ascending, missing_is (at / 8) count ws, length_numbers ws)

@@ -1,13 +1,13 @@
 -- Pending words that hold pieces.
 use Rattle.std.proofs.Common.{◌≡◌, ℕ, ◌+◌, ◌*◌, ◌/◌, ◌%◌, ◌<◌, List, [], length, get_or, Option, Some, None, refl, sym, ap, subst, ◌∙◌, arith}
 use Rattle.std.specs.Prelude.{IfSome, option_map, unwrap_or}
-use Rattle.mc_model_device.specs.Pieces.{laid_pieces, touched, pending_at, HoldPieces, LieIn, word_pieces, laid_words}
+use Rattle.mc_model_device.specs.Pieces.{laid_pieces, touched_words, pending_at, HoldPieces, LieIn, word_pieces, laid_words}
 use Rattle.std.proofs.lemmas.List.{ext_get_or, get_or-take, length-take}
-use Rattle.mc_trans.proofs.Overlay.{length-laid, length-laid_low, laid_covered}
+use Rattle.mc_trans.proofs.Overlay.{length_laid, length_laid_low, laid_covered}
 use Rattle.mc_trans.proofs.Touched.{untouched, words_begin_in, covered_word}
 
 pub none_held : (l : List ℕ) → HoldPieces l [] []
-unfolding touched
+unfolding touched_words
 none_held l = record { pending = record { ascending = tt; whole = tt }; touched_words = refl; bytes = λ n k small fits. tt }
 
 byte_is : (l : List ℕ) (ps ws : List (ℕ × List ℕ)) (i : ℕ) (o : Option (List ℕ)) → pending_at ws (i / 8) ≡ o → LieIn (length l) ps → HoldPieces l ps ws → i < length l → get_or (laid_pieces l ps) i 0 ≡ unwrap_or (option_map (λ b. get_or b (i % 8) 0) o) (get_or l i 0)
@@ -25,9 +25,9 @@ pub words_laid : (l : List ℕ) (ps ws : List (ℕ × List ℕ)) → LieIn (leng
 words_laid l ps ws lie held =
     let begin = words_begin_in l ps ws lie held.touched_words in
     let pieces = word_pieces ws in
-    let long = length-laid_low (length l) l pieces begin (omega arith) in
+    let long = length_laid_low (length l) l pieces begin (omega arith) in
     let len : length (laid_words l ws) ≡ length l = omega (arith, length-take (length l) (laid_pieces l pieces)) in
-    ext_get_or 0 (laid_words l ws) (laid_pieces l ps) (len ∙ sym (length-laid l ps lie)) (λ i lt.
+    ext_get_or 0 (laid_words l ws) (laid_pieces l ps) (len ∙ sym (length_laid l ps lie)) (λ i lt.
     let within : i < length l = omega arith in
     get_or-take (length l) (laid_pieces l pieces) i 0 within
     ∙ laid_covered (length l) l pieces i begin (omega arith)

@@ -6,8 +6,8 @@ use Rattle.std.proofs.lemmas.Bool.{cases_lt, le-leb, lt-leb}
 use Rattle.std.proofs.lemmas.List.{get_or_append_left, get_or-append_right, get_or-take, get_or-drop, length-append, length-take, drop-drop, take_at}
 use Rattle.std.proofs.Math.Seq.{drop-append-add}
 use Rattle.mc_model_device.specs.Bytes.{splice, or_else}
-use Rattle.mc_model_device.specs.Pieces.{covered, laid_pieces, LieIn}
-use Rattle.mc_model_device.proofs.ListLemmas.{length-splice, splice-longer}
+use Rattle.mc_model_device.specs.Pieces.{covering_byte, laid_pieces, LieIn}
+use Rattle.mc_model_device.proofs.ListLemmas.{length_splice, splice_longer}
 use Rattle.std.proofs.lemmas.Option.{slice_get_past}
 
 -- ---- one piece
@@ -68,33 +68,33 @@ or_else_or : (a b : Option ℕ) (d : ℕ) → unwrap_or (or_else a b) d ≡ unwr
 or_else_or (Some x) b d = refl
 or_else_or None b d = refl
 
-pub laid_covered : (n : ℕ) (l : List ℕ) (ps : List (ℕ × List ℕ)) (i : ℕ) → BeginIn n ps → n ≤ length l → get_or (laid_pieces l ps) i 0 ≡ unwrap_or (covered ps i) (get_or l i 0)
+pub laid_covered : (n : ℕ) (l : List ℕ) (ps : List (ℕ × List ℕ)) (i : ℕ) → BeginIn n ps → n ≤ length l → get_or (laid_pieces l ps) i 0 ≡ unwrap_or (covering_byte ps i) (get_or l i 0)
 laid_covered n l [] i begin fits = refl
 laid_covered n l (p ∷ ps) i begin fits =
-    let low = splice-longer l p.0 p.1 in
+    let low = splice_longer l p.0 p.1 in
     let rest = laid_covered n (splice l p.0 p.1) ps i begin.1 (omega arith) in
     let here = spliced l p i (omega (arith, begin.0)) in
-    rest ∙ ap (λ (d : ℕ). unwrap_or (covered ps i) d) here ∙ sym (or_else_or (covered ps i) (byte_of p i) (get_or l i 0))
+    rest ∙ ap (λ (d : ℕ). unwrap_or (covering_byte ps i) d) here ∙ sym (or_else_or (covering_byte ps i) (byte_of p i) (get_or l i 0))
 
-pub length-laid : (l : List ℕ) (ps : List (ℕ × List ℕ)) → LieIn (length l) ps → length (laid_pieces l ps) ≡ length l
-length-laid l [] lie = refl
-length-laid l (p ∷ ps) lie =
-    let same = length-splice l p.0 p.1 lie.0.1 in
-    length-laid (splice l p.0 p.1) ps (subst (λ (n : ℕ). LieIn n ps) (sym same) lie.1) ∙ same
+pub length_laid : (l : List ℕ) (ps : List (ℕ × List ℕ)) → LieIn (length l) ps → length (laid_pieces l ps) ≡ length l
+length_laid l [] lie = refl
+length_laid l (p ∷ ps) lie =
+    let same = length_splice l p.0 p.1 lie.0.1 in
+    length_laid (splice l p.0 p.1) ps (subst (λ (n : ℕ). LieIn n ps) (sym same) lie.1) ∙ same
 
-pub length-laid_low : (n : ℕ) (l : List ℕ) (ps : List (ℕ × List ℕ)) → BeginIn n ps → n ≤ length l → length l ≤ length (laid_pieces l ps)
-length-laid_low n l [] begin fits = omega arith
-length-laid_low n l (p ∷ ps) begin fits =
-    let low = splice-longer l p.0 p.1 in
-    let rest = length-laid_low n (splice l p.0 p.1) ps begin.1 (omega arith) in
+pub length_laid_low : (n : ℕ) (l : List ℕ) (ps : List (ℕ × List ℕ)) → BeginIn n ps → n ≤ length l → length l ≤ length (laid_pieces l ps)
+length_laid_low n l [] begin fits = omega arith
+length_laid_low n l (p ∷ ps) begin fits =
+    let low = splice_longer l p.0 p.1 in
+    let rest = length_laid_low n (splice l p.0 p.1) ps begin.1 (omega arith) in
     omega arith
 
 drop_both : (xs ys : List ℕ) (n k : ℕ) → length xs ≡ n → drop (n + k) (xs ++ ys) ≡ drop k ys
 drop_both xs ys n k len = subst (λ (m : ℕ). drop (m + k) (xs ++ ys) ≡ drop k ys) len (drop-append-add xs ys k)
 
 -- writing a piece is writing its two parts, one after the other
-pub splice-append : (l : List ℕ) (at : ℕ) (a b : List ℕ) → at + length a ≤ length l → splice (splice l at a) (at + length a) b ≡ splice l at (a ++ b)
-splice-append l at a b fits =
+pub splice_append : (l : List ℕ) (at : ℕ) (a b : List ℕ) → at + length a ≤ length l → splice (splice l at a) (at + length a) b ≡ splice l at (a ++ b)
+splice_append l at a b fits =
     let front = take at l ++ a in
     let n = at + length a in
     let len : length front ≡ n = front_len l at a (omega arith) in

@@ -4,11 +4,11 @@ use Rattle.std.specs.Prelude.{nat_eq, IfSome}
 use Rattle.std.proofs.lemmas.Bool.{cases_lt}
 use Rattle.std.proofs.lemmas.Bool.Decides.{nat_tests, eqb_tells}
 use Rattle.mc_model_device.specs.Bytes.{splice}
-use Rattle.mc_model_device.specs.Pieces.{laid_pieces, touched, numbers, pending_at, put_word, with_number, with_words, HoldPieces, LieIn}
-use Rattle.mc_model_device.proofs.ListLemmas.{length-splice}
-use Rattle.mc_trans.proofs.Overlay.{length-laid, splice_before, splice_in, splice_behind, splice-append}
+use Rattle.mc_model_device.specs.Pieces.{laid_pieces, touched_words, numbers, pending_at, put_word, with_number, with_words, HoldPieces, LieIn}
+use Rattle.mc_model_device.proofs.ListLemmas.{length_splice}
+use Rattle.mc_trans.proofs.Overlay.{length_laid, splice_before, splice_in, splice_behind, splice_append}
 use Rattle.mc_trans.proofs.Words.{put_pending}
-use Rattle.mc_model_device.proofs.PieceLemmas.{laid-append, touched-append, one_word, held_same}
+use Rattle.mc_model_device.proofs.PieceLemmas.{laid_append, touched_append, one_word, held_same}
 
 -- ---- numbers
 
@@ -55,15 +55,15 @@ pub piece_put : (l : List ℕ) (ps ws : List (ℕ × List ℕ)) (n j : ℕ) (wor
     → ((k : ℕ) → k < 8 → 8 * n + k < length l → get_or word k 0 ≡ get_or (laid_pieces l ps) (8 * n + k) 0) → 0 < length b → j + length b ≤ 8 → 8 * n + j + length b ≤ length l
     → HoldPieces l (ps ++ (8 * n + j, b) ∷ []) (put_word n (splice word j b) ws)
 piece_put l ps ws n j word b lie held eight old some small fits =
-    let len = length-laid l ps lie in
+    let len = length_laid l ps lie in
     let laid = laid_pieces l ps in
     let next = splice laid (8 * n + j) b in
     let put = splice word j b in
-    let after : laid_pieces l (ps ++ (8 * n + j, b) ∷ []) ≡ next = laid-append l ps ((8 * n + j, b) ∷ []) in
-    let words : numbers (put_word n put ws) ≡ touched (ps ++ (8 * n + j, b) ∷ []) =
-    numbers_put n put ws ∙ ap (with_number n) held.touched_words ∙ sym (touched-append ps ((8 * n + j, b) ∷ []) ∙ one_word n (8 * n + j) b (touched ps) some (omega arith) (omega arith)) in
+    let after : laid_pieces l (ps ++ (8 * n + j, b) ∷ []) ≡ next = laid_append l ps ((8 * n + j, b) ∷ []) in
+    let words : numbers (put_word n put ws) ≡ touched_words (ps ++ (8 * n + j, b) ∷ []) =
+    numbers_put n put ws ∙ ap (with_number n) held.touched_words ∙ sym (touched_append ps ((8 * n + j, b) ∷ []) ∙ one_word n (8 * n + j) b (touched_words ps) some (omega arith) (omega arith)) in
     record {
-      pending = put_pending n put ws held.pending (length-splice word j b (omega arith) ∙ eight);
+      pending = put_pending n put ws held.pending (length_splice word j b (omega arith) ∙ eight);
       touched_words = words;
       bytes = λ m k lt within.
           elim (eqb_tells n m) [
@@ -80,16 +80,16 @@ piece_put l ps ws n j word b lie held eight old some small fits =
 
 -- ---- one piece in two parts
 
-with_words-append : (at : ℕ) (a b ns : List ℕ) → with_words at (a ++ b) ns ≡ with_words (at + length a) b (with_words at a ns)
-with_words-append at [] b ns = ap (λ (n : ℕ). with_words n b ns) (omega arith)
-with_words-append at (x ∷ a) b ns =
-    with_words-append (at + 1) a b (with_number (at / 8) ns) ∙ ap (λ (n : ℕ). with_words n b (with_words (at + 1) a (with_number (at / 8) ns))) (omega arith)
+with_words_append : (at : ℕ) (a b ns : List ℕ) → with_words at (a ++ b) ns ≡ with_words (at + length a) b (with_words at a ns)
+with_words_append at [] b ns = ap (λ (n : ℕ). with_words n b ns) (omega arith)
+with_words_append at (x ∷ a) b ns =
+    with_words_append (at + 1) a b (with_number (at / 8) ns) ∙ ap (λ (n : ℕ). with_words n b (with_words (at + 1) a (with_number (at / 8) ns))) (omega arith)
 
 pub pieces_joined : (l : List ℕ) (ps ws : List (ℕ × List ℕ)) (at : ℕ) (a b : List ℕ) → LieIn (length l) ps → at + length a ≤ length l → HoldPieces l (ps ++ (at, a) ∷ (at + length a, b) ∷ []) ws → HoldPieces l (ps ++ (at, a ++ b) ∷ []) ws
 pieces_joined l ps ws at a b lie fits held =
     let two : List (ℕ × List ℕ) = (at, a) ∷ (at + length a, b) ∷ [] in
     let one : List (ℕ × List ℕ) = (at, a ++ b) ∷ [] in
-    let len = length-laid l ps lie in
-    let words : touched (ps ++ two) ≡ touched (ps ++ one) = touched-append ps two ∙ sym (touched-append ps one ∙ with_words-append at a b (touched ps)) in
-    let laid : laid_pieces l (ps ++ two) ≡ laid_pieces l (ps ++ one) = laid-append l ps two ∙ splice-append (laid_pieces l ps) at a b (omega arith) ∙ sym (laid-append l ps one) in
+    let len = length_laid l ps lie in
+    let words : touched_words (ps ++ two) ≡ touched_words (ps ++ one) = touched_append ps two ∙ sym (touched_append ps one ∙ with_words_append at a b (touched_words ps)) in
+    let laid : laid_pieces l (ps ++ two) ≡ laid_pieces l (ps ++ one) = laid_append l ps two ∙ splice_append (laid_pieces l ps) at a b (omega arith) ∙ sym (laid_append l ps one) in
     held_same l (ps ++ two) (ps ++ one) ws words laid held

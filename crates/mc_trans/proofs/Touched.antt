@@ -5,8 +5,8 @@ use Rattle.std.specs.List.{AllByRecursion}
 use Rattle.std.proofs.lemmas.Bool.{cases_lt, eqb-false, ne_eqb, le-leb, or_parts, lt-leb}
 use Rattle.std.proofs.lemmas.Bool.Decides.{nat_tests, eqb_tells}
 use Rattle.mc_model_device.specs.Bytes.{splice, or_else}
-use Rattle.mc_model_device.specs.Pieces.{covered, laid_pieces, word_pieces, with_number, with_words, with_touched, touched, numbers, pending_at, Ascend, LieIn}
-use Rattle.mc_model_device.proofs.ListLemmas.{length-splice}
+use Rattle.mc_model_device.specs.Pieces.{covering_byte, laid_pieces, word_pieces, with_number, with_words, with_touched, touched_words, numbers, pending_at, Ascend, LieIn}
+use Rattle.mc_model_device.proofs.ListLemmas.{length_splice}
 use Rattle.mc_trans.proofs.Overlay.{splice_before, splice_behind, BeginIn, get_some}
 use Rattle.std.proofs.lemmas.Option.{slice_get_past}
 
@@ -42,7 +42,7 @@ not_touched m ns (p ∷ ps) none = (not_words m p.0 p.1 ns (not_touched m (with_
 stays : (l ns : List ℕ) (ps : List (ℕ × List ℕ)) (i : ℕ) → LieIn (length l) ps → mem (i / 8) (with_touched ns ps) ≡ false → get_or (laid_pieces l ps) i 0 ≡ get_or l i 0
 stays l ns [] i lie none = refl
 stays l ns (p ∷ ps) i lie none =
-    let same = length-splice l p.0 p.1 lie.0.1 in
+    let same = length_splice l p.0 p.1 lie.0.1 in
     let rest = stays (splice l p.0 p.1) (with_words p.0 p.1 ns) ps i (subst (λ (n : ℕ). LieIn n ps) (sym same) lie.1) none in
     let out = (not_words (i / 8) p.0 p.1 ns (not_touched (i / 8) (with_words p.0 p.1 ns) ps none)).1 i in
     rest ∙ outside l p i (omega (arith, lie.0.1)) out
@@ -59,8 +59,8 @@ pub no_number : (ws : List (ℕ × List ℕ)) (m : ℕ) → pending_at ws m ≡ 
 no_number [] m e = refl
 no_number (w ∷ ws) m e = grind (arith, nat_tests, no_number ws m)
 
-pub untouched : (l : List ℕ) (ps ws : List (ℕ × List ℕ)) (i : ℕ) → LieIn (length l) ps → numbers ws ≡ touched ps → pending_at ws (i / 8) ≡ None → get_or (laid_pieces l ps) i 0 ≡ get_or l i 0
-unfolding touched
+pub untouched : (l : List ℕ) (ps ws : List (ℕ × List ℕ)) (i : ℕ) → LieIn (length l) ps → numbers ws ≡ touched_words ps → pending_at ws (i / 8) ≡ None → get_or (laid_pieces l ps) i 0 ≡ get_or l i 0
+unfolding touched_words
 untouched l ps ws i lie e none = stays l [] ps i lie (ap (mem (i / 8)) (sym e) ∙ no_number ws (i / 8) none)
 
 -- words that begin below the end of a list
@@ -83,13 +83,13 @@ words_begin : (end : ℕ) (ws : List (ℕ × List ℕ)) → BelowEnd end (number
 words_begin end [] all = tt
 words_begin end (w ∷ ws) all = (omega (arith, all.0), words_begin end ws all.1)
 
-pub words_begin_in : (l : List ℕ) (ps ws : List (ℕ × List ℕ)) → LieIn (length l) ps → numbers ws ≡ touched ps → BeginIn (length l) (word_pieces ws)
-unfolding touched
+pub words_begin_in : (l : List ℕ) (ps ws : List (ℕ × List ℕ)) → LieIn (length l) ps → numbers ws ≡ touched_words ps → BeginIn (length l) (word_pieces ws)
+unfolding touched_words
 words_begin_in l ps ws lie e = words_begin (length l) ws (subst (BelowEnd (length l)) (sym e) (below_touched (length l) [] ps lie tt))
 
 -- ---- the word that covers a byte
 
-none_later : (least i : ℕ) (ws : List (ℕ × List ℕ)) → Ascend least (numbers ws) → i / 8 < least → (covered (word_pieces ws) i ≡ None) × (pending_at ws (i / 8) ≡ None)
+none_later : (least i : ℕ) (ws : List (ℕ × List ℕ)) → Ascend least (numbers ws) → i / 8 < least → (covering_byte (word_pieces ws) i ≡ None) × (pending_at ws (i / 8) ≡ None)
 none_later least i [] asc lt = (refl, refl)
 none_later least i (w ∷ ws) asc lt =
     let rest = none_later (w.0 + 1) i ws asc.1 (omega (arith, asc.0)) in
@@ -115,10 +115,10 @@ byte_out w i eight other =
       | inr le ↦ rw (le-leb (8 * w.0) i le, slice_get_past w.1 (i - 8 * w.0) (omega arith)) refl
     ]
 
-pub covered_word : (least i : ℕ) (ws : List (ℕ × List ℕ)) → Ascend least (numbers ws) → AllByRecursion (λ w. length w.1 ≡ 8) ws → covered (word_pieces ws) i ≡ option_map (λ b. get_or b (i % 8) 0) (pending_at ws (i / 8))
+pub covered_word : (least i : ℕ) (ws : List (ℕ × List ℕ)) → Ascend least (numbers ws) → AllByRecursion (λ w. length w.1 ≡ 8) ws → covering_byte (word_pieces ws) i ≡ option_map (λ b. get_or b (i % 8) 0) (pending_at ws (i / 8))
 covered_word least i [] asc whole = refl
 covered_word least i (w ∷ ws) asc whole =
     elim (eqb_tells w.0 (i / 8)) [
       | inl here ↦ rw ((none_later (w.0 + 1) i ws asc.1 (omega (arith, here.1))).0, byte_in w i whole.0 here.1, here.0) refl
-      | inr other ↦ rw (byte_out w i whole.0 other.1, or_else_none (covered (word_pieces ws) i), other.0) (covered_word (w.0 + 1) i ws asc.1 whole.1)
+      | inr other ↦ rw (byte_out w i whole.0 other.1, or_else_none (covering_byte (word_pieces ws) i), other.0) (covered_word (w.0 + 1) i ws asc.1 whole.1)
     ]

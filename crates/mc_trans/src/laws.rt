@@ -1,13 +1,13 @@
 ghost use Rattle.std.specs.Prelude.{◌≡◌, ◌+◌, ◌-◌, ◌*◌, ◌/◌, ◌%◌, ◌<◌, ◌≤◌, ℕ, List, [], ◌∷◌, ◌++◌, length, option_map, slice_index, unwrap_or, Some, None};
 ghost use Rattle.mc_model_device.specs.Bytes.{splice, zeros};
-ghost use Rattle.mc_model_device.specs.Pieces.{covered, laid_pieces, laid_words, not_pending, pending_at, put_word, touched, HoldPieces, LieIn};
+ghost use Rattle.mc_model_device.specs.Pieces.{covering_byte, laid_pieces, laid_words, not_pending, pending_at, put_word, touched_words, HoldPieces, LieIn};
 ghost use Rattle.mc_trans.specs.Rows.{word_fronts};
 
 /// A byte of a list with pieces written over it is that of the last piece that covers it, and else the
 /// list's.
 pub fn reads_pieces()
     ensures { (l : List ℕ) (ps : List (ℕ × List ℕ)) (i : ℕ) → LieIn (length l) ps → i < length l
-        → slice_index (laid_pieces l ps) i ≡ unwrap_or (covered ps i) (slice_index l i) }
+        → slice_index (laid_pieces l ps) i ≡ unwrap_or (covering_byte ps i) (slice_index l i) }
 {}
 
 /// A byte of a list with pieces written over it is that of the pending word that holds it, and else the
@@ -50,21 +50,21 @@ pub fn joins_pieces()
 /// A piece adds as many pending words as it touches words that are not yet pending.
 pub fn counts_words()
     ensures { (l : List ℕ) (ps ws : List (ℕ × List ℕ)) (at : ℕ) (b : List ℕ) → HoldPieces l ps ws → 0 < length b
-        → length (touched (ps ++ (at, b) ∷ []))
+        → length (touched_words (ps ++ (at, b) ∷ []))
         ≡ length ws + not_pending (at / 8) ((at + length b - 1) / 8 + 1 - at / 8) ws }
 {}
 
 /// Two words of a segment of nine bytes, pieces over each other, and the words of many pieces.
-#[tactic(auto, unfolding(mc_model_device::specs::Pieces::touched))]
+#[tactic(auto, unfolding(mc_model_device::specs::Pieces::touched_words))]
 pub fn piece_rows()
     ensures two_words { laid_pieces (zeros 9) ((0, 0x11 ∷ []) ∷ (8, 0x22 ∷ []) ∷ [])
         ≡ 0x11 ∷ 0 ∷ 0 ∷ 0 ∷ 0 ∷ 0 ∷ 0 ∷ 0 ∷ 0x22 ∷ [] }
-    ensures two_numbers { touched ((8, 0x22 ∷ []) ∷ (0, 0x11 ∷ []) ∷ []) ≡ 0 ∷ 1 ∷ [] }
+    ensures two_numbers { touched_words ((8, 0x22 ∷ []) ∷ (0, 0x11 ∷ []) ∷ []) ≡ 0 ∷ 1 ∷ [] }
     ensures last_counts { laid_pieces (zeros 5) ((1, 1 ∷ 2 ∷ []) ∷ (2, 7 ∷ 8 ∷ []) ∷ []) ≡ 0 ∷ 1 ∷ 7 ∷ 8 ∷ 0 ∷ [] }
-    ensures last_covers { covered ((1, 1 ∷ 2 ∷ []) ∷ (2, 7 ∷ 8 ∷ []) ∷ []) 2 ≡ Some 7 }
-    ensures none_covers { covered ((1, 1 ∷ 2 ∷ []) ∷ (2, 7 ∷ 8 ∷ []) ∷ []) 4 ≡ None }
-    ensures scattered { touched ((7, 1 ∷ 2 ∷ []) ∷ (30, 1 ∷ []) ∷ (2, 1 ∷ []) ∷ (22, 9 ∷ 9 ∷ 9 ∷ []) ∷ [])
+    ensures last_covers { covering_byte ((1, 1 ∷ 2 ∷ []) ∷ (2, 7 ∷ 8 ∷ []) ∷ []) 2 ≡ Some 7 }
+    ensures none_covers { covering_byte ((1, 1 ∷ 2 ∷ []) ∷ (2, 7 ∷ 8 ∷ []) ∷ []) 4 ≡ None }
+    ensures scattered { touched_words ((7, 1 ∷ 2 ∷ []) ∷ (30, 1 ∷ []) ∷ (2, 1 ∷ []) ∷ (22, 9 ∷ 9 ∷ 9 ∷ []) ∷ [])
         ≡ 0 ∷ 1 ∷ 2 ∷ 3 ∷ [] }
-    ensures limit { length (touched (word_fronts 64)) ≡ 64 }
-    ensures past_limit { length (touched (word_fronts 65)) ≡ 65 }
+    ensures limit { length (touched_words (word_fronts 64)) ≡ 64 }
+    ensures past_limit { length (touched_words (word_fronts 65)) ≡ 65 }
 {}

@@ -13,8 +13,8 @@ use Rattle.mc_model_card.specs.Units.{◌>>=◌, bytes_at, length_at, field_at, 
 abbrev pub IsBytes : List ℕ → Type 0
 IsBytes b = (i : ℕ) → get_or b i 0 < 256
 
-IsBytes-drop : (n : ℕ) (b : List ℕ) → IsBytes b → IsBytes (drop n b)
-IsBytes-drop n b h i = rw get_or-drop (h (n + i))
+is_bytes_drop : (n : ℕ) (b : List ℕ) → IsBytes b → IsBytes (drop n b)
+is_bytes_drop n b h i = rw get_or-drop (h (n + i))
 
 -- a step that succeeded before a sequence that succeeded
 bind_ok : {A B : Type 0} (r : Result A UnitRefusal) (f : A → Result B UnitRefusal) (y : B) → (r >>= f) ≡ Ok y → (x : A) × (r ≡ Ok x) × (f x ≡ Ok y)
@@ -42,8 +42,8 @@ record Takes (bytes text rest : List ℕ) : Type 0 where
   parts : bytes ≡ text ++ rest
   rest_fits : IsBytes rest
 
-Takes-then : (a x b y c : List ℕ) → Takes a x b → Takes b y c → Takes a (x ++ y) c
-Takes-then a x b y c p q = record { parts = p.parts ∙ ap (λ (t : List ℕ). x ++ t) q.parts ∙ sym (append_assoc x y c); rest_fits = q.rest_fits }
+takes_then : (a x b y c : List ℕ) → Takes a x b → Takes b y c → Takes a (x ++ y) c
+takes_then a x b y c p q = record { parts = p.parts ∙ ap (λ (t : List ℕ). x ++ t) q.parts ∙ sym (append_assoc x y c); rest_fits = q.rest_fits }
 
 -- ---- bytes, lengths and fields
 
@@ -52,7 +52,7 @@ bytes_take n b x rest fits e =
     let g = guard_ok (nat_lt (length b) n) refusals.Short (Ok (take n b, drop n b)) (x, rest) e in
     let long : n ≤ length b = ltb-false _ _ g.0 in
     let same = ok_is (take n b, drop n b) (x, rest) g.1 in
-    let taken : Takes b (take n b) (drop n b) × (length (take n b) ≡ n) = (record { parts = sym (take-append-drop n b); rest_fits = IsBytes-drop n b fits }, omega (arith, length-take n b)) in
+    let taken : Takes b (take n b) (drop n b) × (length (take n b) ≡ n) = (record { parts = sym (take-append-drop n b); rest_fits = is_bytes_drop n b fits }, omega (arith, length-take n b)) in
     subst (λ (p : List ℕ × List ℕ). Takes b p.0 p.1 × (length p.0 ≡ n)) same taken
 
 bytes_again : (n : ℕ) (x rest : List ℕ) → length x ≡ n → bytes_at n (x ++ rest) ≡ Ok (x, rest)
@@ -88,7 +88,7 @@ field_take most b x rest fits e =
     let small : n.0.0 ≤ most = ltb-false _ _ g.0 in
     let first = length_take b n.0.0 n.0.1 fits n.1 in
     let second = bytes_take n.0.0 n.0.1 x rest first.0.rest_fits g.1 in
-    let both = Takes-then b (bytes2 n.0.0) n.0.1 x rest first.0 second.0 in
+    let both = takes_then b (bytes2 n.0.0) n.0.1 x rest first.0 second.0 in
     (subst (λ (k : ℕ). Takes b (bytes2 k ++ x) rest) (sym second.1) both, omega (arith, second.1))
 
 field_again : (most : ℕ) (x rest : List ℕ) → length x ≤ most → most < 65536 → field_at most (field x ++ rest) ≡ Ok (x, rest)
@@ -106,7 +106,7 @@ code_take b x rest fits e =
     let small : n.0.0 ≤ 8192 = ltb-false _ _ g.0 in
     let first = length_take b n.0.0 n.0.1 fits n.1 in
     let second = bytes_take n.0.0 n.0.1 x rest first.0.rest_fits g.1 in
-    let both = Takes-then b (bytes2 n.0.0) n.0.1 x rest first.0 second.0 in
+    let both = takes_then b (bytes2 n.0.0) n.0.1 x rest first.0 second.0 in
     (subst (λ (k : ℕ). Takes b (bytes2 k ++ x) rest) (sym second.1) both, some_code n.0.0 (length x) second.1 some.0, omega (arith, second.1))
   where
     some_code : (n k : ℕ) → k ≡ n → nat_eq n 0 ≡ false → 0 < k
@@ -202,12 +202,12 @@ unit_takes b u fits e =
     let f2 = f1 ++ field init.0.0 in
     let f3 = f2 ++ field dir.0.0 in
     let f4 = f3 ++ field fci.0.0 in
-    let to1 = Takes-then b number.0.0 number.0.1 (field code.0.0) code.0.1 t0.0 t1.0 in
-    let to2 = Takes-then b f1 code.0.1 (field init.0.0) init.0.1 to1 t2.0 in
-    let to3 = Takes-then b f2 init.0.1 (field dir.0.0) dir.0.1 to2 t3.0 in
-    let to4 = Takes-then b f3 dir.0.1 (field fci.0.0) fci.0.1 to3 t4.0 in
-    let tail = Takes-then fci.0.1 (zeros 2) signature.0 (zeros 2) key.0 t5 t6 in
-    let all = Takes-then b f4 fci.0.1 (zeros 4) key.0 to4 tail in
+    let to1 = takes_then b number.0.0 number.0.1 (field code.0.0) code.0.1 t0.0 t1.0 in
+    let to2 = takes_then b f1 code.0.1 (field init.0.0) init.0.1 to1 t2.0 in
+    let to3 = takes_then b f2 init.0.1 (field dir.0.0) dir.0.1 to2 t3.0 in
+    let to4 = takes_then b f3 dir.0.1 (field fci.0.0) fci.0.1 to3 t4.0 in
+    let tail = takes_then fci.0.1 (zeros 2) signature.0 (zeros 2) key.0 t5 t6 in
+    let all = takes_then b f4 fci.0.1 (zeros 4) key.0 to4 tail in
     let whole : b ≡ f4 ++ zeros 4 = all.parts ∙ ap (λ (r : List ℕ). f4 ++ zeros 4 ++ r) none ∙ append-nil (f4 ++ zeros 4) in
     let is : IsUnit b (made number.0 code.0 init.0 dir.0 fci.0 aid.0) = record {
       number = t0.1;

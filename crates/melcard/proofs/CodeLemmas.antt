@@ -4,7 +4,7 @@ use Rattle.std.specs.Prelude.{filter, not, nat_le, ok_or, option_map}
 use Rattle.std.proofs.lemmas.Bool.{le-leb, lt-leb}
 use Rattle.std.proofs.lemmas.List.{append-nil}
 use Rattle.mc_model_machine.specs.Text
-use Rattle.mc_model_machine.specs.Text.{CodeFault, is_blank, hex_value, hex_values, before_values, paired, hex_bytes, lines, numbered, ok_as, only_if, code_digits, code_text_read, ◌>>=◌}
+use Rattle.mc_model_machine.specs.Text.{CodeFault, is_blank, hex_value, hex_values, before_values, bytes_of_digits, hex_bytes, lines, with_numbers, ok_as, only_if, code_digits, code_text_read, ◌>>=◌}
 use Rattle.mc_text.specs.Reading.{next_line}
 use Rattle.mc_text.proofs.ReadingLemmas.{lines_at, lines_from}
 use Rattle.mc_asm.proofs.PassLemmas.{numbered_some, numbered_none}
@@ -103,18 +103,18 @@ line_counted n total t l b e h = let one : length (lines t) ≡ suc (length (lin
 pub lines_counted : (n total : ℕ) (t : List ℕ) → None ≡ next_line t → n + length (lines t) ≡ total → n ≡ total
 lines_counted n total t e h = let none : length (lines t) ≡ 0 = ap length (no_line t e) in omega (arith, none, h)
 
-module _ (n : ℕ) (rest cur : List ℕ) (whole : Result (List ℕ) CodeFault) (so : ok_as (λ vs. cur ++ vs) (text_digits (numbered (n + 1) (lines rest))) ≡ ok_as (λ vs. [] ++ vs) whole) where
+module _ (n : ℕ) (rest cur : List ℕ) (whole : Result (List ℕ) CodeFault) (so : ok_as (λ vs. cur ++ vs) (text_digits (with_numbers (n + 1) (lines rest))) ≡ ok_as (λ vs. [] ++ vs) whole) where
   -- a line before those behind it
-  by_line : (line behind : List ℕ) → Some (line, behind) ≡ next_line rest → ok_as (λ vs. cur ++ vs) (first_then (line_digits (n + 1) line) (text_digits (numbered (n + 1 + 1) (lines behind)))) ≡ ok_as (λ vs. [] ++ vs) whole
+  by_line : (line behind : List ℕ) → Some (line, behind) ≡ next_line rest → ok_as (λ vs. cur ++ vs) (first_then (line_digits (n + 1) line) (text_digits (with_numbers (n + 1 + 1) (lines behind)))) ≡ ok_as (λ vs. [] ++ vs) whole
   by_line line behind e = ap (λ ls. ok_as (λ vs. cur ++ vs) (text_digits ls)) (sym (numbered_some (n + 1) rest line behind e)) ∙ so
 
   -- one line more
-  pub line_taken : (line behind new : List ℕ) → Some (line, behind) ≡ next_line rest → ok_as (λ vs. cur ++ vs) (line_digits (n + 1) line) ≡ Ok new → ok_as (λ vs. new ++ vs) (text_digits (numbered (n + 1 + 1) (lines behind))) ≡ ok_as (λ vs. [] ++ vs) whole
-  line_taken line behind new e is = first_read (line_digits (n + 1) line) (text_digits (numbered (n + 1 + 1) (lines behind))) (ok_as (λ vs. [] ++ vs) whole) cur new is (by_line line behind e)
+  pub line_taken : (line behind new : List ℕ) → Some (line, behind) ≡ next_line rest → ok_as (λ vs. cur ++ vs) (line_digits (n + 1) line) ≡ Ok new → ok_as (λ vs. new ++ vs) (text_digits (with_numbers (n + 1 + 1) (lines behind))) ≡ ok_as (λ vs. [] ++ vs) whole
+  line_taken line behind new e is = first_read (line_digits (n + 1) line) (text_digits (with_numbers (n + 1 + 1) (lines behind))) (ok_as (λ vs. [] ++ vs) whole) cur new is (by_line line behind e)
 
   -- a line that is refused
   pub line_refused : (line behind : List ℕ) (r : CodeRefusal) → Some (line, behind) ≡ next_line rest → RefusesCode (line_digits (n + 1) line) r → RefusesCode whole r
-  line_refused line behind r e is = first_refused (line_digits (n + 1) line) (text_digits (numbered (n + 1 + 1) (lines behind))) whole cur [] r is (by_line line behind e)
+  line_refused line behind r e is = first_refused (line_digits (n + 1) line) (text_digits (with_numbers (n + 1 + 1) (lines behind))) whole cur [] r is (by_line line behind e)
 
   -- no line is left
   pub lines_taken : None ≡ next_line rest → whole ≡ Ok cur
@@ -173,9 +173,9 @@ code_of last bytes = ok_or bytes (Text.BadHex last) >>= λ code. only_if (nat_le
 
 -- the code by the values of its digits
 abbrev pub by_values : ℕ → Result (List ℕ) CodeFault → Result (List ℕ) CodeFault
-by_values last values = values >>= λ vs. code_of last (paired vs)
+by_values last values = values >>= λ vs. code_of last (bytes_of_digits vs)
 
-code_text : (t : List ℕ) → code_text_read t ≡ by_values (length (lines t)) (code_digits (numbered 1 (lines t)))
+code_text : (t : List ℕ) → code_text_read t ≡ by_values (length (lines t)) (code_digits (with_numbers 1 (lines t)))
 unfolding code_text_read
 code_text t = refl
 
@@ -188,20 +188,20 @@ bytes_spelled last digits (Ok vs) h = rw h refl
 bytes_spelled last digits (Err e) h = absurd h
 
 -- a refusal of the digits
-fault_refused : (t : List ℕ) (f : CodeFault) → text_digits (numbered 1 (lines t)) ≡ Err f → code_text_read t ≡ Err f
+fault_refused : (t : List ℕ) (f : CodeFault) → text_digits (with_numbers 1 (lines t)) ≡ Err f → code_text_read t ≡ Err f
 fault_refused t f h =
-    let ls = numbered 1 (lines t) in
+    let ls = with_numbers 1 (lines t) in
     code_text t ∙ ap (by_values (length (lines t))) (fault_spelled f (code_digits ls) (subst (λ (r : Result (List ℕ) CodeFault). SpellsAlike r (code_digits ls)) h (spells_lines ls)))
 
-pub digits_refused : (t : List ℕ) (e : CodeRefusal) → RefusesCode (text_digits (numbered 1 (lines t))) e → RefusesCode (code_text_read t) e
+pub digits_refused : (t : List ℕ) (e : CodeRefusal) → RefusesCode (text_digits (with_numbers 1 (lines t))) e → RefusesCode (code_text_read t) e
 digits_refused t (BadHex n) h = fault_refused t (Text.BadHex n) h
 digits_refused t TooLarge h = fault_refused t Text.TooLarge h
 digits_refused t NoMemory h = tt
 
-module _ (t digits : List ℕ) (last : ℕ) (h : text_digits (numbered 1 (lines t)) ≡ Ok digits) (counted : last ≡ length (lines t)) where
+module _ (t digits : List ℕ) (last : ℕ) (h : text_digits (with_numbers 1 (lines t)) ≡ Ok digits) (counted : last ≡ length (lines t)) where
   spelled_text : (o : Option (List ℕ)) → o ≡ hex_bytes digits → code_text_read t ≡ code_of last o
   spelled_text o is =
-      let ls = numbered 1 (lines t) in
+      let ls = with_numbers 1 (lines t) in
       let spells = subst (λ (r : Result (List ℕ) CodeFault). SpellsAlike r (code_digits ls)) h (spells_lines ls) in
       code_text t ∙ bytes_spelled (length (lines t)) digits (code_digits ls) spells ∙ ap (λ n. code_of n (hex_bytes digits)) (sym counted) ∙ ap (code_of last) (sym is)
 

@@ -9,14 +9,14 @@ use Rattle.mc_script.specs.Plays.{Bench, PlaysDeck, SumsDeck}
 use Rattle.mc_text.specs.Texts.{Sunk}
 use Rattle.mc_filter.proofs.Statuses.{same_status, written_whole}
 use Rattle.mc_filter.proofs.Outside.{all_stands, complete}
-use Rattle.mc_filter.specs.Statuses.{ended, number_of}
+use Rattle.mc_filter.specs.Statuses.{status_after_writing, number_of}
 use Rattle.mc_filter.specs.Outside.{IsWithoutFault, Outside}
 use Rattle.melcard.specs.declared.job.Job.{Job}
 use Rattle.melcard.specs.declared.job.Job.TheVariants as job
 use Rattle.mc_filter.specs.declared.status.Status.{Status}
 use Rattle.mc_filter.specs.declared.status.Status.TheVariants.{Done, Failed}
 use Rattle.melcard.specs.Verdicts.{JobVerdict, Whole, Refusal, Plays, Sums, StandsFor}
-use Rattle.melcard.specs.Statuses.{status_of, told, CardOutside, IsAllDue, IsDone, IsDue, MelcardCompletes, MelcardDone, MelcardNoMemory, MelcardReadFault, MelcardWhole, MelcardSays}
+use Rattle.melcard.specs.Statuses.{status_of, text_of_step, CardOutside, IsAllDue, IsDone, IsDue, MelcardCompletes, MelcardDone, MelcardNoMemory, MelcardReadFault, MelcardWhole, MelcardSays}
 
 -- ---- the source
 
@@ -29,12 +29,12 @@ all_due (job.Write f) a v due = all_stands Refusal (StandsFor (job.Write f)) a.l
 -- ---- the sink
 
 -- a deck was told whole
-played_whole : (f : Step → List ℕ) (ls : List (ℕ × DeckLine)) (x y : Bench) (a b : Sunk) (s : Status) (r : Result (Unit {0}) Fault) → (Rose a.faults b.faults → ⊥) → s ≡ ended Done r → PlaysDeck f ls x a r y b → s ≡ Done
+played_whole : (f : Step → List ℕ) (ls : List (ℕ × DeckLine)) (x y : Bench) (a b : Sunk) (s : Status) (r : Result (Unit {0}) Fault) → (Rose a.faults b.faults → ⊥) → s ≡ status_after_writing Done r → PlaysDeck f ls x a r y b → s ≡ Done
 played_whole f ls x y a b s (Ok u) quiet e plays = e
 played_whole f ls x y a b s (Err w) quiet e plays = absurd (quiet plays.from.text.cause)
 
 -- a deck was summarised whole
-summed_whole : (ls : List (ℕ × DeckLine)) (x y : Bench) (a b : Sunk) (s : Status) (r : Result (Unit {0}) Fault) → (Rose a.faults b.faults → ⊥) → s ≡ ended Done r → SumsDeck summary ls x a r y b → s ≡ Done
+summed_whole : (ls : List (ℕ × DeckLine)) (x y : Bench) (a b : Sunk) (s : Status) (r : Result (Unit {0}) Fault) → (Rose a.faults b.faults → ⊥) → s ≡ status_after_writing Done r → SumsDeck summary ls x a r y b → s ≡ Done
 summed_whole ls x y a b s (Ok u) quiet e sums = e
 summed_whole ls x y a b s (Err f) quiet e sums = absurd (quiet sums.text.cause)
 
@@ -42,7 +42,7 @@ summed_whole ls x y a b s (Err f) quiet e sums = absurd (quiet sums.text.cause)
 done_whole : (v : JobVerdict) (s : Status) (a : CardOutside) → (Rose a.streams.out_old.faults a.streams.out.faults → ⊥) → IsDone v s a → s ≡ status_of v
 done_whole (Whole text) s a quiet d = written_whole a.streams.out_old a.streams.out text Done s d.result quiet d.status d.written
 done_whole (Refusal line) s a quiet d = written_whole a.streams.out_old a.streams.out line Failed s d.result quiet d.status d.written
-done_whole (Plays t lines) s a quiet d = played_whole (told t) lines a.dev_old a.dev a.streams.out_old a.streams.out s d.result quiet d.status d.plays
+done_whole (Plays t lines) s a quiet d = played_whole (text_of_step t) lines a.dev_old a.dev a.streams.out_old a.streams.out s d.result quiet d.status d.plays
 done_whole (Sums lines) s a quiet d = summed_whole lines a.dev_old a.dev a.streams.out_old a.streams.out s d.result quiet d.status d.sums
 
 -- ---- the status

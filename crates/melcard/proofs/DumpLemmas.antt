@@ -2,9 +2,9 @@
 use Rattle.std.proofs.Common.{◌≡◌, ◌==◌, ◌%◌, ℕ, zero, suc, Bool, true, false, cond, List, [], ◌∷◌, ◌++◌, refl, sym, subst, ◌∙◌, true≢false, nat_lt}
 use Rattle.std.specs.List.{AllByRecursion}
 use Rattle.mc_model_device.specs.Bytes.{bytes}
-use Rattle.mc_model_machine.specs.Text.{numbered}
+use Rattle.mc_model_machine.specs.Text.{with_numbers}
 use Rattle.mc_model_play.specs.DeckGrammar.{DeckLine, Power, Load, Select, Delete, Apdu}
-use Rattle.mc_model_play.specs.Generator.{closing, command, counter_aid, cut_line, draw, generated, is_dump, line_of, next, opening, purse, purse_aid, purse_line, relay_aid, turns}
+use Rattle.mc_model_play.specs.Generator.{closing_lines, command, counter_aid, cut_line, draw, deck_of_number, is_dump, line_of, next, opening_lines, purse, purse_aid, purse_line, relay_aid, turns}
 use Rattle.mc_script.specs.Sums.{DumpsLast}
 
 -- ---- the turns have no dump line
@@ -36,22 +36,22 @@ turns_none (suc k) x = (line_none (draw (next x)) (draw (next (next x))), turns_
 -- ---- the deck
 
 -- lines that are no dump lines stand before others
-before : (m : ℕ) (ks ls : List DeckLine) → AllByRecursion (λ l. is_dump l ≡ false) ks → ((n : ℕ) → DumpsLast (numbered n ls)) → DumpsLast (numbered m (ks ++ ls))
+before : (m : ℕ) (ks ls : List DeckLine) → AllByRecursion (λ l. is_dump l ≡ false) ks → ((n : ℕ) → DumpsLast (with_numbers n ls)) → DumpsLast (with_numbers m (ks ++ ls))
 before m [] ls none last = last m
 before m (k ∷ ks) ls none last = (λ is. absurd (true≢false (sym is ∙ none.0)), before (suc m) ks ls none.1 last)
 
-closing_last : (n : ℕ) → DumpsLast (numbered n closing)
+closing_last : (n : ℕ) → DumpsLast (with_numbers n closing_lines)
 closing_last n = (λ is. (refl, (refl, (refl, tt))), (λ is. (refl, (refl, tt)), (λ is. (refl, tt), (λ is. tt, tt))))
 
-opening_none : AllByRecursion (λ l. is_dump l ≡ false) opening
+opening_none : AllByRecursion (λ l. is_dump l ≡ false) opening_lines
 opening_none = (refl, (refl, (refl, (refl, (refl, (refl, (refl, (refl, tt))))))))
 
-deck_last : (k n : ℕ) → DumpsLast (numbered 1 (opening ++ turns k n ++ closing))
-deck_last k n = before 1 opening (turns k n ++ closing) opening_none (λ m. before m (turns k n) closing (turns_none k n) closing_last)
+deck_last : (k n : ℕ) → DumpsLast (with_numbers 1 (opening_lines ++ turns k n ++ closing_lines))
+deck_last k n = before 1 opening_lines (turns k n ++ closing_lines) opening_none (λ m. before m (turns k n) closing_lines (turns_none k n) closing_last)
 
-generated_is : (n : ℕ) → generated n ≡ numbered 1 (opening ++ turns 4000 n ++ closing)
-unfolding generated
+generated_is : (n : ℕ) → deck_of_number n ≡ with_numbers 1 (opening_lines ++ turns 4000 n ++ closing_lines)
+unfolding deck_of_number
 generated_is n = refl
 
-pub generated_last : (ls : List (ℕ × DeckLine)) (n : ℕ) → ls ≡ generated n → DumpsLast ls
+pub generated_last : (ls : List (ℕ × DeckLine)) (n : ℕ) → ls ≡ deck_of_number n → DumpsLast ls
 generated_last ls n e = subst (λ (ls : List (ℕ × DeckLine)). DumpsLast ls) (sym (e ∙ generated_is n)) (deck_last 4000 n)

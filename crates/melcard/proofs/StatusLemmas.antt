@@ -1,12 +1,12 @@
 -- What a job says at the status that it ended with.
 use Rattle.std.proofs.Common.{◌≡◌, ℕ, Option, Some, None, Result, Ok, Err, IfErr, IfOk, refl, sym, subst, ◌∙◌}
 use Rattle.mc_model_device.specs.Device.{BenchState, DeviceState}
-use Rattle.mc_model_play.specs.Generator.{generated}
+use Rattle.mc_model_play.specs.Generator.{deck_of_number}
 use Rattle.mc_base.specs.declared.refusals.WriteFault.{WriteFault as Fault}
 use Rattle.mc_base.specs.declared.sink.Sink as sink
 use Rattle.mc_base.specs.declared.source.Source as source
 use Rattle.mc_text.specs.Texts.{sunk_in, Puts, Sunk}
-use Rattle.mc_filter.specs.Statuses.{RejectionEnds, ended}
+use Rattle.mc_filter.specs.Statuses.{RejectionEnds, status_after_writing}
 use Rattle.mc_filter.specs.Outside.{outside, Outside, Untouched}
 use Rattle.mc_filter.proofs.Outside as filter
 use Rattle.melcard.specs.declared.job.Form.{Form}
@@ -44,10 +44,10 @@ memory_only work a (Err e) source only = subst (λ (e : Rejection). RejectsJob w
 -- ---- what was done
 
 -- what was done says itself, at the status that its writing ended with
-says_done : (Kept : Type 0) (work : Job) (a : CardOutside) (r : Result (Unit {0}) Fault) (s : Status) → s ≡ ended Done r → MelcardDone Kept work a s → MelcardSays Kept s (Some work) a
+says_done : (Kept : Type 0) (work : Job) (a : CardOutside) (r : Result (Unit {0}) Fault) (s : Status) → s ≡ status_after_writing Done r → MelcardDone Kept work a s → MelcardSays Kept s (Some work) a
 says_done Kept work a r s e d = filter.says_done (MelcardDone Kept work a) (MelcardReadFault Kept work a) (MelcardNoMemory Kept work a) r s e d
 
-says_refused : (Kept : Type 0) (work : Job) (a : CardOutside) (r : Result (Unit {0}) Fault) (s : Status) → s ≡ ended Failed r → MelcardDone Kept work a s → MelcardSays Kept s (Some work) a
+says_refused : (Kept : Type 0) (work : Job) (a : CardOutside) (r : Result (Unit {0}) Fault) (s : Status) → s ≡ status_after_writing Failed r → MelcardDone Kept work a s → MelcardSays Kept s (Some work) a
 says_refused Kept work a r s e d = filter.says_refused (MelcardDone Kept work a) (MelcardReadFault Kept work a) (MelcardNoMemory Kept work a) r s e d
 
 -- the deck of an input was played
@@ -55,8 +55,8 @@ pub says_played : (Kept : Type 0) (t : Telling) (s : Status) (a : CardOutside) �
 says_played Kept t s a p = says_done Kept (job.Play t) a p.played.result s p.played.status (record { verdict = Plays t p.lines; due = p.due; done = (p.played, tt) })
 
 -- a generated deck was played
-pub says_summed : (Kept : Type 0) (n : ℕ) (s : Status) (a : CardOutside) → Untouched a.streams → IsSummed (generated n) s a.dev_old a.streams.out_old a.dev a.streams.out → MelcardSays Kept s (Some (job.Generate n)) a
-says_summed Kept n s a still d = says_done Kept (job.Generate n) a d.result s d.status (record { verdict = Sums (generated n); due = (still, refl); done = (d, tt) })
+pub says_summed : (Kept : Type 0) (n : ℕ) (s : Status) (a : CardOutside) → Untouched a.streams → IsSummed (deck_of_number n) s a.dev_old a.streams.out_old a.dev a.streams.out → MelcardSays Kept s (Some (job.Generate n)) a
+says_summed Kept n s a still d = says_done Kept (job.Generate n) a d.result s d.status (record { verdict = Sums (deck_of_number n); due = (still, refl); done = (d, tt) })
 
 -- the text of an input was written
 pub says_written : (Kept : Type 0) (f : Form) (s : Status) (a : CardOutside) → Kept → WritesInput f s a.streams → MelcardSays Kept s (Some (job.Write f)) a
@@ -85,7 +85,7 @@ says_rejected Kept work a x rejection.NoMemory s kept why ends =
     subst (λ s. MelcardSays Kept s (Some work) a) (sym ends.0) (record { source = takes_still work a.streams x why; written = ends.1 }, kept)
 
 -- the words name no job, and the usage line was written
-pub says_no_form : (Kept : Type 0) (form : Option Job) (a : CardOutside) (r : Result (Unit {0}) Fault) (s : Status) → form ≡ None → s ≡ ended NoForm r → Kept → Untouched a.streams → Puts a.streams.out_old usage r a.streams.out → MelcardSays Kept s form a
+pub says_no_form : (Kept : Type 0) (form : Option Job) (a : CardOutside) (r : Result (Unit {0}) Fault) (s : Status) → form ≡ None → s ≡ status_after_writing NoForm r → Kept → Untouched a.streams → Puts a.streams.out_old usage r a.streams.out → MelcardSays Kept s form a
 says_no_form Kept form a r s is e kept still put =
     subst (λ o. MelcardSays Kept s o a) (sym is)
     (filter.says_no_job (MelcardNoForm Kept a) r s e (record { source = still; written = record { result = r; status = e; written = put } }, kept))

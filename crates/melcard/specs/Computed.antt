@@ -2,9 +2,9 @@
 use Rattle.std.specs.Prelude.{ℕ, List}
 use Rattle.std.specs.Fmt.{digits}
 use Rattle.hex.specs.Hex.{decode_pairs, encode_with}
-use Rattle.mc_model_machine.specs.Assembly.{assembled}
-use Rattle.mc_model_play.specs.DeckGrammar.{deck_lines, deck_read, section_unit, stated, within}
-use Rattle.mc_model_machine.specs.Listing.{listed}
+use Rattle.mc_model_machine.specs.Assembly.{assembly_of}
+use Rattle.mc_model_play.specs.DeckGrammar.{deck_lines, deck_read, section_unit, statement_of, within}
+use Rattle.mc_model_machine.specs.Listing.{listing_of_code}
 use Rattle.mc_model_machine.specs.Text.{code_text_read}
 use Rattle.melcard.specs.declared.job.Telling.TheVariants.{Transcript}
 use Rattle.mc_check.specs.declared.verdict.Verdict.{Verdict as CodeVerdict}
@@ -12,17 +12,17 @@ use Rattle.melcard.specs.Verdicts.{JobVerdict, of_assembly, of_code, of_deck, ve
 
 -- a deck that is to be played
 unfoldable pub deck_verdict : List ℕ → JobVerdict
-unfolding digits decode_pairs encode_with assembled deck_lines deck_read section_unit stated within
+unfolding digits decode_pairs encode_with assembly_of deck_lines deck_read section_unit statement_of within
 deck_verdict input = of_deck Transcript (deck_read input)
 
 -- an assembly text
 unfoldable pub code_verdict : List ℕ → JobVerdict
-unfolding digits encode_with assembled
-code_verdict input = of_assembly (assembled input)
+unfolding digits encode_with assembly_of
+code_verdict input = of_assembly (assembly_of input)
 
 -- code that is to be listed
 unfoldable pub listing_verdict : List ℕ → JobVerdict
-unfolding digits decode_pairs encode_with listed code_text_read
+unfolding digits decode_pairs encode_with listing_of_code code_text_read
 listing_verdict input = of_code (code_text_read input)
 
 -- the line of a load line

@@ -13,13 +13,13 @@ abbrev pub greatest_number : ℕ
 greatest_number = 2147483647
 
 -- a number that generates a deck
-abbrev pub generating : Option ℕ → Option ℕ
-generating None = None
-generating (Some n) = cond (nat_le n greatest_number) (Some n) None
+abbrev pub generator_number : Option ℕ → Option ℕ
+generator_number None = None
+generator_number (Some n) = cond (nat_le n greatest_number) (Some n) None
 
 -- the number that 1 to 10 decimal digits spell, if it generates a deck
 abbrev pub generated_number : List ℕ → Option ℕ
-generated_number w = cond (nat_le (length w) 10) (generating (decimal_number w)) None
+generated_number w = cond (nat_le (length w) 10) (generator_number (decimal_number w)) None
 
 -- the job that one word names
 abbrev pub job_named : List ℕ → Option Job

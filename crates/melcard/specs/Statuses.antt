@@ -2,7 +2,7 @@
 use Rattle.std.specs.Prelude.{◌≡◌, ℕ, List, Option, Some, None, Result, Ok, Err, ⊤}
 use Rattle.mc_model_device.specs.Device.{DeviceState, BenchState}
 use Rattle.mc_model_play.specs.DeckGrammar.{DeckLine}
-use Rattle.mc_model_play.specs.Generator.{generated, summary}
+use Rattle.mc_model_play.specs.Generator.{deck_of_number, summary}
 use Rattle.mc_model_play.specs.Play as play
 use Rattle.mc_model_play.specs.Play.{Step}
 use Rattle.mc_base.specs.declared.refusals.WriteFault.{WriteFault as Fault}
@@ -14,7 +14,7 @@ use Rattle.mc_script.specs.Plays.{Bench, plain_text, traced_text, PlaysDeck, Sum
 use Rattle.mc_filter.specs.declared.status.Status.{Status}
 use Rattle.mc_filter.specs.declared.status.Status.TheVariants.{Done, Failed}
 use Rattle.mc_filter.specs.Inputs.{TookLimited}
-use Rattle.mc_filter.specs.Statuses.{ended, IsWritten}
+use Rattle.mc_filter.specs.Statuses.{status_after_writing, IsWritten}
 use Rattle.mc_filter.specs.Outside.{outside, AllStands, Completes, IsRead, IsWhole, JobSays, NoJobSays, Outside, SaysDone, SaysNoForm, SaysNoMemory, SaysReadFault, Untouched}
 use Rattle.melcard.specs.declared.job.Job.{Job}
 use Rattle.melcard.specs.declared.job.Job.TheVariants as job
@@ -49,7 +49,7 @@ card_outside s t state bench in_old in_new out_old out_new dev_old dev_new =
 
 -- what a job is to do: by its number, or by what was read
 abbrev pub IsDue : Job → Outside → JobVerdict → Type 0
-IsDue (job.Generate n) a v = Untouched a × (v ≡ Sums (generated n))
+IsDue (job.Generate n) a v = Untouched a × (v ≡ Sums (deck_of_number n))
 IsDue (job.Play t) a v = IsRead Refusal (StandsFor (job.Play t)) a.left_old a.left v
 IsDue (job.Write f) a v = IsRead Refusal (StandsFor (job.Write f)) a.left_old a.left v
 
@@ -62,21 +62,21 @@ TakesAtMost (job.Write f) a = TookLimited a.left_old a.left
 -- ---- what was done
 
 -- the text of a line of a play, as it is told
-abbrev pub told : Telling → Step → List ℕ
-told Transcript = plain_text
-told Trace = traced_text
+abbrev pub text_of_step : Telling → Step → List ℕ
+text_of_step Transcript = plain_text
+text_of_step Trace = traced_text
 
 -- A deck was played and told, whole or up to a fault. Accepted code on its card keeps to its verdict.
 pub record IsPlayed (t : Telling) (lines : List (ℕ × DeckLine)) (s : Status) (dev_old : Bench) (out_old : Sunk) (dev : Bench) (out : Sunk) : Type 0 where
   pub result : Result (Unit {0}) Fault
-  pub status : s ≡ ended Done result
-  pub plays : PlaysDeck (told t) lines dev_old out_old result dev out
+  pub status : s ≡ status_after_writing Done result
+  pub plays : PlaysDeck (text_of_step t) lines dev_old out_old result dev out
   pub checked : KeepToVerdicts (play.plays (play.start dev_old.device.words) plays.from.lines plays.from.worn)
 
 -- A deck was played and summarised, whole or up to a fault. Accepted code on its card keeps to its verdict.
 pub record IsSummed (lines : List (ℕ × DeckLine)) (s : Status) (dev_old : Bench) (out_old : Sunk) (dev : Bench) (out : Sunk) : Type 0 where
   pub result : Result (Unit {0}) Fault
-  pub status : s ≡ ended Done result
+  pub status : s ≡ status_after_writing Done result
   pub sums : SumsDeck summary lines dev_old out_old result dev out
   pub checked : KeepToVerdicts (play.plays (play.start dev_old.device.words) lines sums.worn)
 
@@ -134,7 +134,7 @@ status_of (Sums lines) = Done
 
 -- what a job is to do: by its number, or by all that its source had left
 abbrev pub IsAllDue : Job → Outside → JobVerdict → Type 0
-IsAllDue (job.Generate n) a v = v ≡ Sums (generated n)
+IsAllDue (job.Generate n) a v = v ≡ Sums (deck_of_number n)
 IsAllDue (job.Play t) a v = AllStands Refusal (StandsFor (job.Play t)) a.left_old v
 IsAllDue (job.Write f) a v = AllStands Refusal (StandsFor (job.Write f)) a.left_old v
 

@@ -1,9 +1,9 @@
 -- What the input of a job stands for: the whole text that is due, the one line that refuses it, or a deck that is played.
 use Rattle.std.specs.Prelude.{◌≡◌, ℕ, List, [], ◌∷◌, ◌++◌, codes, decimal, Result, Ok, Err}
-use Rattle.mc_model_machine.specs.Assembly.{assembled}
+use Rattle.mc_model_machine.specs.Assembly.{assembly_of}
 use Rattle.mc_model_play.specs.DeckGrammar.{DeckLine, deck_read}
 use Rattle.mc_model_play.specs.DeckGrammar as line
-use Rattle.mc_model_machine.specs.Listing.{listed, hex_text}
+use Rattle.mc_model_machine.specs.Listing.{listing_of_code, hex_text}
 use Rattle.mc_model_machine.specs.Text.{CodeFault, BadHex, TooLarge, code_text_read}
 use Rattle.mc_model_machine.specs.Words.{asm_word, check_word, decode_word}
 use Rattle.mc_model_machine.specs.declared.assembler.AsmCause.{AsmCause}
@@ -40,7 +40,7 @@ of_listing (Err (place, fault)) = Refusal (at_place place (decode_word fault))
 
 -- code that is to be listed: its digits are judged first, then its length
 abbrev pub of_code : Result (List ℕ) CodeFault → JobVerdict
-of_code (Ok code) = of_listing (listed code)
+of_code (Ok code) = of_listing (listing_of_code code)
 of_code (Err (BadHex number)) = Refusal (at_line number (codes "BadHex"))
 of_code (Err TooLarge) = Refusal too_long
 
@@ -96,7 +96,7 @@ IsCheckOf (Ok lines) v = (text : List ℕ) × (v ≡ Whole text) × AreVerdicts 
 
 -- what an input stands for where its text is written
 abbrev pub IsTextOf : Form → List ℕ → JobVerdict → Type 0
-IsTextOf form.Code input v = v ≡ of_assembly (assembled input)
+IsTextOf form.Code input v = v ≡ of_assembly (assembly_of input)
 IsTextOf form.Listing input v = v ≡ of_code (code_text_read input)
 IsTextOf form.Verdicts input v = IsCheckOf (deck_read input) v
 

@@ -1,7 +1,7 @@
 // Code that is given as hexadecimal digits.
 ghost use Rattle.std.specs.Prelude.{◌≡◌, ◌≤◌, ◌<◌, ◌++◌, ◌∷◌, [], length, vec_len, option_map, Ok, IfOk, IfErr, OnOk};
 ghost use Rattle.mc_model_device.specs.Limits.{most_code};
-ghost use Rattle.mc_model_machine.specs.Text.{hex_bytes, lines, numbered, ok_as, code_text_read};
+ghost use Rattle.mc_model_machine.specs.Text.{hex_bytes, lines, with_numbers, ok_as, code_text_read};
 ghost use Rattle.mc_filter.specs.Inputs.{input_limit};
 ghost use Rattle.melcard.specs.Judging.{line_digits, text_digits, RefusesCode};
 
@@ -64,9 +64,9 @@ fn push_line(digits: &mut Vec<u8>, number: u32, line: &[u8]) -> Result<(), CodeR
 // The digits of all lines, and how many lines there are.
 fn digits_of(alloc: Global, text: &[u8]) -> Result<(Vec<u8>, u32), CodeRefusal>
     requires { length text.now ≤ input_limit }
-    ensures digits { IfOk result (λ r. text_digits (numbered 1 (lines text.now)) ≡ Ok r.0.items) }
+    ensures digits { IfOk result (λ r. text_digits (with_numbers 1 (lines text.now)) ≡ Ok r.0.items) }
     ensures lines { IfOk result (λ r. r.1 ≡ length (lines text.now)) }
-    ensures refused { IfErr result (λ e. RefusesCode (text_digits (numbered 1 (lines text.now))) e) }
+    ensures refused { IfErr result (λ e. RefusesCode (text_digits (with_numbers 1 (lines text.now))) e) }
 {
     let mut digits = Vec::new(alloc);
     let mut count: u32 = 0;

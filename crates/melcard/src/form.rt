@@ -1,9 +1,9 @@
 // The texts that are made of an input.
 ghost use Rattle.std.specs.Prelude.{◌≡◌, ◌≤◌, length, Ok, IfErr, IfOk, MatchResult};
 ghost use Rattle.mc_model_device.specs.Limits.{most_code};
-ghost use Rattle.mc_model_machine.specs.Assembly.{assembled};
+ghost use Rattle.mc_model_machine.specs.Assembly.{assembly_of};
 ghost use Rattle.mc_model_play.specs.DeckGrammar.{deck_read};
-ghost use Rattle.mc_model_machine.specs.Listing.{listed};
+ghost use Rattle.mc_model_machine.specs.Listing.{listing_of_code};
 ghost use Rattle.mc_model_machine.specs.Text.{code_text_read};
 ghost use Rattle.mc_filter.specs.Inputs.{input_limit};
 ghost use Rattle.melcard.specs.Verdicts.{of_assembly, of_code, of_listing, IsCheckOf, IsTextOf, Whole};
@@ -20,7 +20,7 @@ use std::alloc::Global;
 // The code of an assembly text.
 fn assembled(alloc: Global, text: &[u8]) -> Result<Vec<u8>, Rejection>
     ensures { MatchResult result (λ t. Whole t.items
-        ≡ of_assembly (assembled text.now)) (RejectsAs (λ v. v ≡ of_assembly (assembled text.now))) }
+        ≡ of_assembly (assembly_of text.now)) (RejectsAs (λ v. v ≡ of_assembly (assembly_of text.now))) }
 {
     match assemble(alloc, text) {
         Ok(code) => Ok(hex_line(alloc, code.as_slice())?),
@@ -33,7 +33,7 @@ fn assembled(alloc: Global, text: &[u8]) -> Result<Vec<u8>, Rejection>
 fn listed(alloc: Global, code: &[u8]) -> Result<Vec<u8>, Rejection>
     requires { length code.now ≤ most_code }
     ensures { MatchResult result (λ t. Whole t.items
-        ≡ of_listing (listed code.now)) (RejectsAs (λ v. v ≡ of_listing (listed code.now))) }
+        ≡ of_listing (listing_of_code code.now)) (RejectsAs (λ v. v ≡ of_listing (listing_of_code code.now))) }
 {
     match list(alloc, code) {
         Ok(text) => Ok(text),

@@ -1,6 +1,6 @@
 // The top call: a job over a source, a sink and a device.
 ghost use Rattle.std.specs.Prelude.{◌≡◌, ◌≤◌, Some, IfErr, IfOk, IfSome};
-ghost use Rattle.mc_model_play.specs.Generator.{generated};
+ghost use Rattle.mc_model_play.specs.Generator.{deck_of_number};
 ghost use Rattle.mc_script.specs.Players.{IsUnfused};
 ghost use Rattle.mc_text.specs.Texts.{sunk_in};
 ghost use Rattle.mc_filter.specs.declared.status.Status.{Status};
@@ -10,7 +10,7 @@ ghost use Rattle.melcard.specs.declared.job.Job.TheVariants as job;
 ghost use Rattle.mc_filter.specs.declared.rejection.Rejection.TheVariants as rejection;
 ghost use Rattle.melcard.specs.Jobs.{greatest_number, job_of, JobFits};
 ghost use Rattle.melcard.specs.Running.{PlaysInput, RejectsJob, WritesInput};
-ghost use Rattle.melcard.specs.Statuses.{bench_of, card_outside, told, IsSummed, MelcardCompletes, MelcardSays};
+ghost use Rattle.melcard.specs.Statuses.{bench_of, card_outside, text_of_step, IsSummed, MelcardCompletes, MelcardSays};
 ghost use Rattle.mc_script.specs.Plays.{PlaysDeck};
 
 use crate::form::text_of;
@@ -32,7 +32,7 @@ fn play_as<T: Sink, N: Bench, L: Ledger>(
     steps: &mut Steps<L>,
 ) -> Result<(), WriteFault>
     requires { IsUnfused (N.bench dev.old) }
-    ensures { PlaysDeck (told telling) deck.now (bench_of N.state N.bench dev.old)
+    ensures { PlaysDeck (text_of_step telling) deck.now (bench_of N.state N.bench dev.old)
         (sunk_in T.taken T.faults out.old) result (bench_of N.state N.bench dev.new)
         (sunk_in T.taken T.faults out.new) }
 {
@@ -74,7 +74,7 @@ fn sum<T: Sink, N: Bench, L: Ledger>(
 ) -> Result<Status, Rejection>
     requires number { number ≤ greatest_number }
     requires fuses { IsUnfused (N.bench dev.old) }
-    ensures done { IfOk result (λ s. IsSummed (generated number) s
+    ensures done { IfOk result (λ s. IsSummed (deck_of_number number) s
         (bench_of N.state N.bench dev.old) (sunk_in T.taken T.faults out.old)
         (bench_of N.state N.bench dev.new) (sunk_in T.taken T.faults out.new)) }
     ensures rejected { IfErr result (λ e. e ≡ rejection.NoMemory) }

@@ -3,7 +3,7 @@ use Rattle.std.proofs.Common.{◌≡◌, Bool, true, false, Option, Some, None, 
 use Rattle.mc_base.specs.declared.refusals.WriteFault.{WriteFault as Fault}
 use Rattle.mc_text.specs.Texts.{Puts, Sunk}
 use Rattle.mc_filter.specs.Inputs.{TookLimited}
-use Rattle.mc_filter.specs.Statuses.{RejectionEnds, ended}
+use Rattle.mc_filter.specs.Statuses.{RejectionEnds, status_after_writing}
 use Rattle.mc_filter.specs.Outside.{IsRead, Outside, SaysNoForm, SaysNoMemory, SaysReadFault, Untouched}
 use Rattle.mc_filter.proofs.Outside as filter
 use Rattle.mellab.specs.declared.job.Job.{Job}
@@ -18,7 +18,7 @@ use Rattle.mellab.specs.Statuses.{status_by, IsTextWritten, IsVerdictOfJob, Mell
 
 -- ---- what was done
 
-says_by : (work : Job) (a : Outside) (well : Bool) (r : Result (Unit {0}) Fault) (s : Status) → s ≡ ended (status_by well) r → MellabDone work a s → MellabSays s (Some work) a
+says_by : (work : Job) (a : Outside) (well : Bool) (r : Result (Unit {0}) Fault) (s : Status) → s ≡ status_after_writing (status_by well) r → MellabDone work a s → MellabSays s (Some work) a
 says_by work a true r s e d = filter.says_done (MellabDone work a) (SaysReadFault (TookLimited a.left_old a.left) a) (SaysNoMemory (TookLimited a.left_old a.left) a) r s e d
 says_by work a false r s e d = filter.says_refused (MellabDone work a) (SaysReadFault (TookLimited a.left_old a.left) a) (SaysNoMemory (TookLimited a.left_old a.left) a) r s e d
 
@@ -39,7 +39,7 @@ says_rejected work a x rejection.ReadFault s why ends = subst (λ s. MellabSays 
 says_rejected work a x rejection.NoMemory s why ends = subst (λ s. MellabSays s (Some work) a) (sym ends.0) (record { source = why; written = ends.1 })
 
 -- the words name no job, and the usage line was written
-pub says_no_form : (form : Option Job) (a : Outside) (r : Result (Unit {0}) Fault) (s : Status) → form ≡ None → s ≡ ended NoForm r → Untouched a → Puts a.out_old usage r a.out → MellabSays s form a
+pub says_no_form : (form : Option Job) (a : Outside) (r : Result (Unit {0}) Fault) (s : Status) → form ≡ None → s ≡ status_after_writing NoForm r → Untouched a → Puts a.out_old usage r a.out → MellabSays s form a
 says_no_form form a r s is e still put =
     subst (λ o. MellabSays s o a) (sym is)
     (filter.says_no_job (λ (t : Status). SaysNoForm usage t a) r s e (record { source = still; written = record { result = r; status = e; written = put } }))

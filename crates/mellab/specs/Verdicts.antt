@@ -22,18 +22,18 @@ fault_line (NoAnswer n) = at_line n (codes "NoAnswer")
 -- ---- jobs
 
 -- a deck's expectations on a blank device: all is well where none failed
-abbrev pub expected : Result Trial TrialFault → LabVerdict
-expected (Ok t) =
+abbrev pub expectation_verdict : Result Trial TrialFault → LabVerdict
+expectation_verdict (Ok t) =
     let ts = steady_steps (blank_words device_words) t.lines in
     Tells (expect_text ts t.expected) (count_failed ts t.expected == 0)
-expected (Err e) = Refusal (fault_line e)
+expectation_verdict (Err e) = Refusal (fault_line e)
 
 -- a sweep of a deck: nothing of it can fail
-abbrev pub swept : Result (List (ℕ × DeckLine)) (ℕ × DeckCause) → LabVerdict
-swept (Ok ls) = Tells (sweep_text ls) true
-swept (Err e) = Refusal (deck_line e)
+abbrev pub sweep_verdict : Result (List (ℕ × DeckLine)) (ℕ × DeckCause) → LabVerdict
+sweep_verdict (Ok ls) = Tells (sweep_text ls) true
+sweep_verdict (Err e) = Refusal (deck_line e)
 
 -- what an input within the limit stands for
 abbrev pub verdict_of : Job → List ℕ → LabVerdict
-verdict_of job.Expect input = expected (trial_read input)
-verdict_of job.Sweep input = swept (deck_read input)
+verdict_of job.Expect input = expectation_verdict (trial_read input)
+verdict_of job.Sweep input = sweep_verdict (deck_read input)

@@ -5,7 +5,7 @@ use Rattle.mc_model_play.specs.declared.deck.DeckCause.{DeckCause}
 use Rattle.mc_filter.specs.Inputs.{refused_deck, ReadWhole, Rejects, RejectsRead, TookLimited}
 use Rattle.mc_filter.specs.declared.rejection.Rejection.{Rejection}
 use Rattle.mc_filter.specs.declared.rejection.Rejection.TheVariants as rejection
-use Rattle.melreader.specs.Decks.{blank_deck, judged, HasDeck, Stream}
+use Rattle.melreader.specs.Decks.{blank_deck, lines_or_refusal, HasDeck, Stream}
 
 -- a text that was not read spells no deck
 pub not_read : (a b : Stream) (e : Rejection) → RejectsRead a.left b.left a.faults b.faults e → HasDeck (Some a) (Some b) (Err e)
@@ -14,7 +14,7 @@ not_read a b rejection.ReadFault why = why
 not_read a b rejection.NoMemory why = why
 
 -- the line that refuses a deck is what the deck is judged
-refused_is : (r : Result (List (ℕ × DeckLine)) (ℕ × DeckCause)) (line : List ℕ) → refused_deck r line → Err line ≡ judged r
+refused_is : (r : Result (List (ℕ × DeckLine)) (ℕ × DeckCause)) (line : List ℕ) → refused_deck r line → Err line ≡ lines_or_refusal r
 refused_is (Ok lines) line why = absurd why
 refused_is (Err e) line why = ap Err why
 
@@ -27,7 +27,7 @@ took_limited old new text read =
 -- a text that was read is the deck that it spells, or the line that refuses it
 pub was_read : (a b : Stream) (text : List ℕ) (r : Result (List (ℕ × DeckLine)) Rejection) → ReadWhole a.left b.left text
     → IfOk r (λ d. deck_read text ≡ Ok d) → IfErr r (Rejects (refused_deck (deck_read text))) → HasDeck (Some a) (Some b) r
-was_read a b text (Ok lines) read is why = inr (record { input = text; read = read; is = sym (ap judged is) })
+was_read a b text (Ok lines) read is why = inr (record { input = text; read = read; is = sym (ap lines_or_refusal is) })
 was_read a b text (Err (rejection.Refusal line)) read is why = inr (record { input = text; read = read; is = refused_is (deck_read text) line.items why })
 was_read a b text (Err rejection.ReadFault) read is why = absurd why
 was_read a b text (Err rejection.NoMemory) read is why = took_limited a.left b.left text read
@@ -40,7 +40,7 @@ blank_read = refl
 -- so it spells the deck of a blank card
 pub blank_has : (r : Result (List (ℕ × DeckLine)) Rejection) → IfOk r (λ d. deck_read (codes "format") ≡ Ok d)
     → IfErr r (Rejects (refused_deck (deck_read (codes "format")))) → HasDeck None None r
-blank_has (Ok lines) is why = ap judged (sym is ∙ blank_read)
+blank_has (Ok lines) is why = ap lines_or_refusal (sym is ∙ blank_read)
 blank_has (Err (rejection.Refusal line)) is why = absurd (subst (λ r. refused_deck r line.items) blank_read why)
 blank_has (Err rejection.ReadFault) is why = absurd why
 blank_has (Err rejection.NoMemory) is why = tt

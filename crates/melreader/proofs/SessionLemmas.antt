@@ -4,7 +4,7 @@ use Rattle.mc_base.specs.declared.refusals.WriteFault.{WriteFault as Fault}
 use Rattle.mc_reader.specs.declared.serve_error.ServeError.{ServeError}
 use Rattle.mc_reader.specs.declared.serve_error.ServeError.TheVariants as serve
 use Rattle.mc_text.specs.Texts.{Sunk, Puts}
-use Rattle.mc_filter.specs.Statuses.{ended}
+use Rattle.mc_filter.specs.Statuses.{status_after_writing}
 use Rattle.mc_filter.specs.Statuses as filter
 use Rattle.mc_filter.specs.declared.rejection.Rejection.{Rejection}
 use Rattle.mc_filter.specs.declared.rejection.Rejection.TheVariants as rejection
@@ -14,12 +14,12 @@ use Rattle.melreader.specs.Decks.{HasDeck}
 use Rattle.melreader.specs.Sessions.{short_frame, ReaderEnds, ReaderOutside, MelreaderSays, SaysRefused}
 
 -- the input ended inside a frame
-pub ends_short : (a b : Sunk) (r : Result (Unit {0}) Fault) (s : Status) (e : ServeError) (n : ℕ) → s ≡ ended Failed r → e ≡ serve.Short n
+pub ends_short : (a b : Sunk) (r : Result (Unit {0}) Fault) (s : Status) (e : ServeError) (n : ℕ) → s ≡ status_after_writing Failed r → e ≡ serve.Short n
     → Puts a (short_frame n) r b → ReaderEnds (Err e) s a b
 ends_short a b r s e n by is put = subst (λ (e : ServeError). ReaderEnds (Err e) s a b) (sym is) (record { result = r; status = by; written = put })
 
 -- a deck that is refused says so, at the status that its line ended with
-says_refused : (Kept : Type 0) (o : ReaderOutside) (r : Result (Unit {0}) Fault) (s : Status) → s ≡ ended Failed r → SaysRefused Kept s o → MelreaderSays Kept s o
+says_refused : (Kept : Type 0) (o : ReaderOutside) (r : Result (Unit {0}) Fault) (s : Status) → s ≡ status_after_writing Failed r → SaysRefused Kept s o → MelreaderSays Kept s o
 says_refused Kept o (Ok u) s e d = subst (λ s. MelreaderSays Kept s o) (sym e) (inl (subst (λ s. SaysRefused Kept s o) e d))
 says_refused Kept o (Err f) s e d = subst (λ s. MelreaderSays Kept s o) (sym e) (inl (subst (λ s. SaysRefused Kept s o) e d))
 

@@ -24,30 +24,30 @@ abbrev pub stream : {S : Type 0} → source.Ghosts S → S → Stream
 stream t s = record { left = t.left s; faults = t.faults s }
 
 -- the same of a source that may be handed in
-abbrev pub handed_in : {D : Type 0} → source.Ghosts D → Option (MutBor D) → Option Stream
-handed_in t None = None
-handed_in t (Some d) = Some (stream t d.now)
+abbrev pub stream_of_source : {D : Type 0} → source.Ghosts D → Option (MutBor D) → Option Stream
+stream_of_source t None = None
+stream_of_source t (Some d) = Some (stream t d.now)
 
 -- what such a reference leaves
 abbrev pub LeftReference : Type 0 → Type 0
 LeftReference D = Unit {0} ⊎ ((MutBor D × Unit {0}) ⊎ ⊥)
 
 -- the same of the source that is left behind it
-abbrev pub handed_back : {D : Type 0} → source.Ghosts D → LeftReference D → Option Stream
-handed_back t (inl none) = None
-handed_back t (inr (inl d)) = Some (stream t (d.0).now)
-handed_back t (inr (inr never)) = None
+abbrev pub stream_left : {D : Type 0} → source.Ghosts D → LeftReference D → Option Stream
+stream_left t (inl none) = None
+stream_left t (inr (inl d)) = Some (stream t (d.0).now)
+stream_left t (inr (inr never)) = None
 
 -- ---- what it stands for
 
 -- the lines that a text spells, or the line that refuses it
-abbrev pub judged : Result (List (ℕ × DeckLine)) (ℕ × DeckCause) → Result (List (ℕ × DeckLine)) (List ℕ)
-judged (Ok lines) = Ok lines
-judged (Err e) = Err (deck_line e)
+abbrev pub lines_or_refusal : Result (List (ℕ × DeckLine)) (ℕ × DeckCause) → Result (List (ℕ × DeckLine)) (List ℕ)
+lines_or_refusal (Ok lines) = Ok lines
+lines_or_refusal (Err e) = Err (deck_line e)
 
 -- what a text within the limit stands for
 abbrev pub SpellsDeck : List ℕ → Result (List (ℕ × DeckLine)) (List ℕ) → Type 0
-SpellsDeck text v = v ≡ judged (deck_read text)
+SpellsDeck text v = v ≡ lines_or_refusal (deck_read text)
 
 -- the lines of a blank card: the one line `format`
 abbrev pub blank_deck : List (ℕ × DeckLine)

@@ -5,7 +5,7 @@ ghost use Rattle.mc_script.specs.Players.{IsUnfused};
 ghost use Rattle.mc_text.specs.Texts.{sunk_in};
 ghost use Rattle.mc_filter.specs.declared.status.Status.{Status};
 ghost use Rattle.mc_filter.specs.Statuses.{number_of};
-ghost use Rattle.melreader.specs.Decks.{handed_in, handed_back, HasDeck, Stream};
+ghost use Rattle.melreader.specs.Decks.{stream_of_source, stream_left, HasDeck, Stream};
 ghost use Rattle.melreader.specs.Sessions.{outside, AreKept, ReaderEnds, MelreaderSays};
 
 use crate::deck::{blank_deck, deck_from};
@@ -80,8 +80,8 @@ pub fn melreader<D: Source, S: Source, T: Sink, E: Sink, N: Bench, L: Ledger>(
     requires { IsUnfused (N.bench dev.old) }
     ensures { (s : Status) × (result ≡ number_of s)
         × MelreaderSays (AreKept input.old input.new out.old out.new dev.old dev.new) s
-        (outside S.Source T.Sink E.Sink N.state N.bench (handed_in D.Source deck.entry)
-        (handed_back D.Source deck.exit) input.old input.new out.old out.new err.old err.new dev.old dev.new) }
+        (outside S.Source T.Sink E.Sink N.state N.bench (stream_of_source D.Source deck.entry)
+        (stream_left D.Source deck.exit) input.old input.new out.old out.new err.old err.new dev.old dev.new) }
 {
     match deck {
         Some(source) => {

@@ -1,10 +1,10 @@
 use Rattle.std.proofs.Common.{◌≡◌, ◌-◌, ◌*◌, ◌/◌, length, drop}
 use Rattle.std.specs.Int.{w64, to_be_bytes}
-use Rattle.mc_model_machine.specs.Modes.{chained, blocks_of}
+use Rattle.mc_model_machine.specs.Modes.{last_of_chain, blocks_of}
 use Rattle.mc_model_machine.specs.Des.{des_encipher, des_signature}
 use Rattle.mc_des.proofs.des_signature.Given as goal
 
 abbrev pub invariant-loop-i : goal.invariant-loop-i
 invariant-loop-i l =
-    chained (des_encipher l.fn.key) (to_be_bytes w64 l.last) (blocks_of (length l.message / 8 - l.i) 8 (drop (8 * l.i) l.message))
+    last_of_chain (des_encipher l.fn.key) (to_be_bytes w64 l.last) (blocks_of (length l.message / 8 - l.i) 8 (drop (8 * l.i) l.message))
     ≡ des_signature l.fn.key l.fn.start l.message

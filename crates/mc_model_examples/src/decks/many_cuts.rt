@@ -1,11 +1,11 @@
-#![tactic(auto, unfolding(mc_model_examples::specs::Played::played))]
+#![tactic(auto, unfolding(crate::specs::Played::deck_transcript))]
 
 ghost use Rattle.std.specs.Prelude.{◌≡◌, ◌++◌, [], codes, Ok};
-ghost use Rattle.mc_model_examples.specs.Played.{played};
+ghost use Rattle.mc_model_examples.specs.Played.{deck_transcript};
 
 /// 2 applications, 4 loads, 2 cuts, 6 abends.
 pub fn deck_of_2_cuts_6_abends_43_answers()
-    ensures { played (
+    ensures { deck_transcript (
         codes "budget 300\npoke 0 4D454C0220000098\npoke 1 534855542D2D2D2D\npoke 130 534855542D2D2D2D\n" ++
         codes "poke 131 5500001500000000\npoke 132 A000000004010200\npoke 133 0000000000000000\n" ++
         codes "poke 134 07000200005B0012\npoke 135 0008000400000000\npoke 136 7701FFF4160047BB\n" ++
@@ -51,7 +51,7 @@ pub fn deck_of_2_cuts_6_abends_43_answers()
 
 /// 5 applications, 5 loads, 2 cuts, an abend, a deletion.
 pub fn deck_of_2_cuts_one_abend_42_answers()
-    ensures { played (
+    ensures { deck_transcript (
         codes "budget 300\nformat\napp u0 A000000009\nCMPB PT[-12],1\nJUMP NE,no0\nLOAD SB[0],2\nSTORE SB[2],2\n" ++
         codes "PUSHB 0\nPRIM 1\nPRIM 2\nSTORE PB[4],1\nPUSHB 0\nINDEX SB[0],2\nPUSHB 7\nSTOREI 1\nLOAD SB[0],2\n" ++
         codes "STORE PB[0],2\nEXITLA 2\nno0: NOP\nCMPB PT[-12],2\nJUMP NE,no1\nINCN DB[0],1\nLOAD DB[0],1\n" ++
@@ -103,7 +103,7 @@ pub fn deck_of_2_cuts_one_abend_42_answers()
 
 /// 2 applications, 4 loads, 3 cuts, 5 abends.
 pub fn deck_of_3_cuts_5_abends_50_answers()
-    ensures { played (
+    ensures { deck_transcript (
         codes "budget 300\npoke 0 4D454C0220000083\npoke 1 534855542D2D2D2D\npoke 130 534855542D2D2D2D\n" ++
         codes "poke 131 48001F7D00000000\n" ++
         codes "unit u0 0000000000000000007B7701FFF416001522000322C0002200002809060004007702FFF4160040BB0100003B01" ++
@@ -141,7 +141,7 @@ pub fn deck_of_3_cuts_5_abends_50_answers()
 
 /// 4 applications, 3 loads, 4 cuts, 2 abends.
 pub fn deck_of_4_cuts_2_abends_60_answers()
-    ensures { played (
+    ensures { deck_transcript (
         codes "budget 300\nformat\napp u0 A000000003\nDATA 10A0000000050102030405060708090A0B\nCMPB PT[-12],1\n" ++
         codes "JUMP NE,no0\nPUSHW 0\nPRIM 7\nSETB PT[-6],235\nLOAD SB[0],4\nSTORE PB[0],4\nEXITSW 0x6A80\n" ++
         codes "no0: NOP\nPRIM 3,3\nSETW SB[21],0xA74E\nSETB SB[43],5\nLOAD PB[0],1\nSTORE SB[17],1\n" ++
@@ -195,7 +195,7 @@ pub fn deck_of_4_cuts_2_abends_60_answers()
 
 /// One application, a load, 2 cuts, 2 abends.
 pub fn deck_of_2_cuts_2_abends_20_answers()
-    ensures { played (
+    ensures { deck_transcript (
         codes "budget 300\npoke 0 4D454C0220000083\npoke 1 534855542D2D2D2D\npoke 130 534855542D2D2D2D\n" ++
         codes "poke 131 4800001400B40000\npoke 151 5500001D00000000\npoke 152 A000000001000000\n" ++
         codes "poke 153 0000000000000000\npoke 154 050002000097001E\npoke 155 0008000000000000\n" ++
@@ -225,7 +225,7 @@ pub fn deck_of_2_cuts_2_abends_20_answers()
 
 /// 3 applications, 5 loads, 3 cuts, 2 abends, a deletion.
 pub fn deck_of_3_cuts_2_abends_56_answers()
-    ensures { played (
+    ensures { deck_transcript (
         codes "budget 300\nformat\n" ++
         codes "unit u0 000000000000000000427701FFF41600152903028954950002290303060004007702FFF4160034BB0100003B01" ++
         codes "00004601000039040000460400000600040039010007E10100032401060002001110A0000000050102030405060708090A" ++
@@ -262,7 +262,7 @@ pub fn deck_of_3_cuts_2_abends_56_answers()
 
 /// 2 applications, 3 loads, 3 cuts, 3 abends, 2 deletions.
 pub fn deck_of_3_cuts_3_abends_67_answers()
-    ensures { played (
+    ensures { deck_transcript (
         codes "budget 300\nformat\n" ++
         codes "unit u0 0000000000000000008F7701FFF416002E290302690C0005B90400003E0400004104000229030126287EA90003" ++
         codes "3904000046040000060002007702FFF416008029030389CB2F0008898AF200023E09000041090006898F57000AB9090002" ++

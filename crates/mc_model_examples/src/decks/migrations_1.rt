@@ -1,11 +1,11 @@
-#![tactic(auto, unfolding(mc_model_examples::specs::Played::played))]
+#![tactic(auto, unfolding(crate::specs::Played::deck_transcript))]
 
 ghost use Rattle.std.specs.Prelude.{◌≡◌, ◌++◌, [], codes, Ok};
-ghost use Rattle.mc_model_examples.specs.Played.{played};
+ghost use Rattle.mc_model_examples.specs.Played.{deck_transcript};
 
 /// 4 applications, 4 loads, an image of layout 1, a cut, an abend.
 pub fn old_image_one_cut_one_abend_31_answers()
-    ensures { played (
+    ensures { deck_transcript (
         codes "budget 300\npoke 0 4D454C0120000083\npoke 1 4F50454E2D312D2D\npoke 2 0000000000000001\n" ++
         codes "poke 3 00000000000000A1\npoke 4 EEFF18DA00000000\npoke 130 0000000000000000\n" ++
         codes "poke 131 4800000500A40000\npoke 136 5500001C00000000\npoke 137 A000000005010203\n" ++
@@ -63,7 +63,7 @@ pub fn old_image_one_cut_one_abend_31_answers()
 
 /// 3 applications, a load, an image of layout 1, an abend.
 pub fn old_image_one_abend_24_answers()
-    ensures { played (
+    ensures { deck_transcript (
         codes "budget 300\nformat\npoke 0 4D454C0120000083\n" ++
         codes "unit u0 000000000000000000277701FFF41600170390000100390400004604000006000400BB0100003B010000460100" ++
         codes "00060002000D368BAA502847F6C36B8C033D24000961074F05A00000000300096F078405A00000000300000000\n" ++
@@ -91,7 +91,7 @@ pub fn old_image_one_abend_24_answers()
 
 /// 5 applications, 3 loads, an image of layout 1, a cut, a deletion.
 pub fn old_image_one_cut_18_answers()
-    ensures { played (
+    ensures { deck_transcript (
         codes "budget 300\nformat\npoke 0 4D454C0120000083\n" ++
         codes "unit u0 000000000000000000207701FFF416001922001128073904000046040000079001000300220011280704002610" ++
         codes "A0000000050102030405060708090A0B07A000000004010270DA2253223F51A82E6F215048001461124F10A00000000501" ++
@@ -133,7 +133,7 @@ pub fn old_image_one_cut_18_answers()
 
 /// 2 applications, 5 loads, an image of layout 1, a cut.
 pub fn old_image_one_cut_23_answers()
-    ensures { played (
+    ensures { deck_transcript (
         codes "budget 300\npoke 0 4D454C01200000A7\npoke 1 534855542D2D2D2D\npoke 130 534855542D2D2D2D\n" ++
         codes "poke 131 5500001000000000\npoke 132 A000000009000000\npoke 133 0000000000000000\n" ++
         codes "poke 134 050202000034000F\npoke 135 0000000800000000\npoke 136 7701FFF416001F22\n" ++
@@ -174,7 +174,7 @@ pub fn old_image_one_cut_23_answers()
 
 /// 5 applications, 7 loads, an image of layout 1, 2 abends, a deletion.
 pub fn old_image_2_abends_mute_card_34_answers()
-    ensures { played (
+    ensures { deck_transcript (
         codes "budget 300\npoke 0 4D454C0120000083\npoke 1 0000000000000000\npoke 130 534855542D2D2D2D\n" ++
         codes "poke 131 4800000100900000\npoke 132 5500000C00000000\npoke 133 A000000005010203\n" ++
         codes "poke 134 0405060708090A0B\npoke 135 1000020000300000\npoke 136 0004000F00000000\n" ++
@@ -284,7 +284,7 @@ pub fn old_image_2_abends_mute_card_34_answers()
 
 /// 4 applications, 3 loads, an image of layout 1, 5 abends.
 pub fn old_image_5_abends_29_answers()
-    ensures { played (
+    ensures { deck_transcript (
         codes "budget 300\nformat\npoke 0 4D454C0120000083\n" ++
         codes "unit u0 000000000000000000367701FFF4160010390400004604000004007702FFF416002E22704F2A02020846020000" ++
         codes "3904000046040000056A8000A928099A0600020000000961074F05A00000000200096F078405A00000000200000000\n" ++
@@ -322,7 +322,7 @@ pub fn old_image_5_abends_29_answers()
 
 /// 2 applications, 3 loads, an image of layout 1.
 pub fn old_image_15_answers()
-    ensures { played (
+    ensures { deck_transcript (
         codes "budget 300\nformat\npoke 0 4D454C0120000083\n" ++
         codes "unit u0 000000000000000000EA7701FFF4160023590013480146010001A908001C075B39040000460400000790010003" ++
         codes "007702FFF416004622000022C000220023280903900000043904000046040000056A80007703FFF416007D220000280722" ++
@@ -348,7 +348,7 @@ pub fn old_image_15_answers()
 
 /// 2 applications, 2 loads, an image of layout 1, 5 abends, 2 deletions.
 pub fn old_image_5_abends_51_answers()
-    ensures { played (
+    ensures { deck_transcript (
         codes "budget 300\nformat\npoke 0 4D454C0120000083\napp u0 A000000009\nDATA 363BAAD2504090C2\n" ++
         codes "CMPB PT[-12],1\nJUMP NE,no0\nINCN DB[0],1\nLOAD DB[0],1\nSTORE SB[0],1\nPUSHB 3\nPRIM 1\nPRIM 2\n" ++
         codes "STORE PB[4],1\nBYTE 178\nBYTE 4\nhere0: BRANCH ALL,here0\nLOAD SB[0],4\nSTORE PB[0],4\n" ++
@@ -386,7 +386,7 @@ pub fn old_image_5_abends_51_answers()
 
 /// 4 applications, 4 loads, an image of layout 1, 4 abends.
 pub fn old_image_4_abends_26_answers()
-    ensures { played (
+    ensures { deck_transcript (
         codes "budget 300\nformat\npoke 0 4D454C0120000083\napp u0 A0000000040102\n" ++
         codes "DATA 10A0000000050102030405060708090A0B\nCMPB PT[-12],1\nJUMP NE,no0\nINCN DB[0],1\nLOAD DB[0],1\n" ++
         codes "STORE PB[0],1\nPUSHB 178\nPUSHW 7\nPRIM 4\nSTORE PB[0],1\nCALL GT,sub\nPUSHW 0\nPRIM 7\n" ++
@@ -434,7 +434,7 @@ pub fn old_image_4_abends_26_answers()
 
 /// 3 applications, 3 loads, an image of layout 1, a deletion.
 pub fn old_image_37_answers()
-    ensures { played (
+    ensures { deck_transcript (
         codes "budget 300\npoke 0 4D454C012000008F\npoke 1 4F50454E2D312D2D\npoke 2 0000000000000005\n" ++
         codes "poke 3 0000000000000000\npoke 4 4D454C012000008F\npoke 5 0000000000000087\n" ++
         codes "poke 6 0100000000000000\npoke 7 0000000000000089\npoke 8 E322000128044601\n" ++
@@ -474,7 +474,7 @@ pub fn old_image_37_answers()
 
 /// One application, 3 loads, an image of layout 1, 7 abends.
 pub fn old_image_7_abends_44_answers()
-    ensures { played (
+    ensures { deck_transcript (
         codes "budget 300\nformat\npoke 0 4D454C0120000083\n" ++
         codes "unit u0 000000000000000000557701FFF416001639010000D301000024010790010003007702FFF416002D22001422C0" ++
         codes "0022C0002809C990C804007703FFF416004039010000460100000600020039080000D40800032408042108460100002F01" ++
@@ -508,7 +508,7 @@ pub fn old_image_7_abends_44_answers()
 
 /// 3 applications, 4 loads, an image of layout 1, a cut, 6 abends, 31 manager commands.
 pub fn old_image_one_cut_6_abends_manager_commands_96_answers()
-    ensures { played (
+    ensures { deck_transcript (
         codes "budget 300\npoke 0 4D454C012000009C\npoke 1 0000000000000000\npoke 2 0000000000000001\n" ++
         codes "poke 3 009B000000000000\npoke 19 6663A0C0079ACBEA\npoke 130 4F50454E2D322D2D\n" ++
         codes "poke 131 5500001900000000\npoke 132 A000000005010203\npoke 133 0405060708090A0B\n" ++
@@ -591,7 +591,7 @@ pub fn old_image_one_cut_6_abends_manager_commands_96_answers()
 
 /// 5 applications, a load, an image of layout 1, 8 manager commands.
 pub fn old_image_manager_commands_37_answers()
-    ensures { played (
+    ensures { deck_transcript (
         codes "budget 300\npoke 0 4D454C0120000083\npoke 1 534855542D2D2D2D\npoke 2 0000110000000000\n" ++
         codes "poke 130 534855542D2D2D2D\npoke 131 48001F7D00000000\n" ++
         codes "unit u0 0000000000000000009F7701FFF416001A1734C73A02FFF8E30200002402190099056A80007702FFF416003DBB" ++

@@ -1,11 +1,11 @@
-#![tactic(auto, unfolding(mc_model_examples::specs::Played::played))]
+#![tactic(auto, unfolding(crate::specs::Played::deck_transcript))]
 
 ghost use Rattle.std.specs.Prelude.{◌≡◌, ◌++◌, [], codes, Ok};
-ghost use Rattle.mc_model_examples.specs.Played.{played};
+ghost use Rattle.mc_model_examples.specs.Played.{deck_transcript};
 
 /// 5 applications, 2 loads, an image of layout 1, 9 abends, 5 manager commands.
 pub fn old_image_9_abends_manager_commands_52_answers()
-    ensures { played (
+    ensures { deck_transcript (
         codes "budget 300\npoke 0 4D454C0120000083\npoke 1 FFFFFFFFFFFFFFFF\npoke 130 534855542D2D2D2D\n" ++
         codes "poke 131 4800000500A90000\npoke 136 5500002100000000\npoke 137 A000000004010200\n" ++
         codes "poke 138 0000000000000000\npoke 139 0702020000A9001D\npoke 140 0004000200000000\n" ++
@@ -75,7 +75,7 @@ pub fn old_image_9_abends_manager_commands_52_answers()
 
 /// 5 applications, an image of layout 1, 2 deletions.
 pub fn old_image_60_answers()
-    ensures { played (
+    ensures { deck_transcript (
         codes "budget 300\nformat\npoke 0 4D454C0120000083\napp u0 A000000003\n" ++
         codes "DATA 10A0000000050102030405060708090A0B0D\nCMPB PT[-12],1\nJUMP NE,no0\nINCN DB[0],1\n" ++
         codes "LOAD DB[0],1\nSTORE SB[0],1\nLOAD DB[11],2\nSTORE SB[12],2\nLOAD SB[0],4\nSTORE PB[0],4\n" ++
@@ -146,7 +146,7 @@ pub fn old_image_60_answers()
 
 /// 4 applications, 6 loads, an image of layout 1, a cut, 3 abends.
 pub fn old_image_one_cut_3_abends_32_answers()
-    ensures { played (
+    ensures { deck_transcript (
         codes "budget 300\npoke 0 4D454C0120000083\npoke 1 0000000000000000\npoke 130 D1BA5AAEDB796321\n" ++
         codes "poke 131 48001F7D00000000\n" ++
         codes "unit u0 0000000000000000003F7701FFF4160029BB0100003B010000460100000312340002210161030F542107500117" ++
@@ -272,7 +272,7 @@ pub fn old_image_one_cut_3_abends_32_answers()
 
 /// 4 applications, 4 loads, an image of layout 1, a cut, an abend, a deletion.
 pub fn old_image_one_cut_one_abend_40_answers()
-    ensures { played (
+    ensures { deck_transcript (
         codes "budget 300\nformat\npoke 0 4D454C0120000083\n" ++
         codes "unit u0 0000000000000000001C7701FFF4160012871CFFFAB9020007056A80003901001E46010001040008AEEFFC6CD4" ++
         codes "01A429000961074F05A00000000900096F078405A00000000900000000\n" ++
@@ -308,7 +308,7 @@ pub fn old_image_one_cut_one_abend_40_answers()
 
 /// 4 applications, 7 loads, an image of layout 1, 4 cuts, 7 abends.
 pub fn old_image_4_cuts_7_abends_69_answers()
-    ensures { played (
+    ensures { deck_transcript (
         codes "budget 300\npoke 0 4D454C0120000091\npoke 1 4F50454E2D312D2D\npoke 2 0000000000000001\n" ++
         codes "poke 3 0000000000001FFF\npoke 4 3901000046010000\npoke 130 D0C6D63B156ACA8A\n" ++
         codes "poke 131 5500000E00000000\npoke 132 A000000004010200\npoke 133 0000000000000000\n" ++

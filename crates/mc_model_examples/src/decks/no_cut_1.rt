@@ -1,11 +1,11 @@
-#![tactic(auto, unfolding(mc_model_examples::specs::Played::played))]
+#![tactic(auto, unfolding(crate::specs::Played::deck_transcript))]
 
 ghost use Rattle.std.specs.Prelude.{◌≡◌, ◌++◌, [], codes, Ok};
-ghost use Rattle.mc_model_examples.specs.Played.{played};
+ghost use Rattle.mc_model_examples.specs.Played.{deck_transcript};
 
 /// 3 applications, 4 loads, an abend, 25 manager commands.
 pub fn one_abend_manager_commands_77_answers()
-    ensures { played (
+    ensures { deck_transcript (
         codes "budget 300\nformat\n" ++
         codes "unit u0 000000000000000000827701FFF4160028BB0100003B010000460100003902000CEA02FFF92402390200094102" ++
         codes "0008060004007702FFF4160059BB0100003B01000046010000220011280722000322C00022C00028090369850100220011" ++
@@ -60,7 +60,7 @@ pub fn one_abend_manager_commands_77_answers()
 
 /// 5 applications, 6 loads, 4 abends, 26 manager commands.
 pub fn deck_of_4_abends_manager_commands_58_answers()
-    ensures { played (
+    ensures { deck_transcript (
         codes "budget 300\nformat\napp u0 A000000002\nDATA 05A00000000310A0000000050102030405060708090A0B\n" ++
         codes "CMPB PT[-12],1\nJUMP NE,no0\nPUSHW 0\nPRIM 7\nEXITSW 0x6A80\nno0: NOP\nCMPB PT[-12],2\n" ++
         codes "JUMP NE,no1\nINCN DB[0],1\nLOAD DB[0],1\nSTORE PB[0],1\nPUSHW 0\nPRIM 7\nPUSHW 0\nPRIM 7\n" ++
@@ -114,7 +114,7 @@ pub fn deck_of_4_abends_manager_commands_58_answers()
 
 /// 5 applications, 5 loads, a deletion.
 pub fn deck_of_23_answers()
-    ensures { played (
+    ensures { deck_transcript (
         codes "budget 300\npoke 0 4D454C0220000083\npoke 1 0000000000000000\npoke 130 534855542D2D2D2D\n" ++
         codes "poke 131 4800000500AA0000\npoke 136 5500002200000000\npoke 137 A000000003000000\n" ++
         codes "poke 138 0000000000000000\npoke 139 0500020000AE002B\npoke 140 0004000100000000\n" ++
@@ -164,7 +164,7 @@ pub fn deck_of_23_answers()
 
 /// 4 applications, 3 loads, 2 abends.
 pub fn deck_of_2_abends_24_answers()
-    ensures { played (
+    ensures { deck_transcript (
         codes "budget 300\nformat\npoke 8191 7D136876E6E513A9\npoke 132 4F50454E2D322D2D\n" ++
         codes "poke 19 0000000000000001\n" ++
         codes "unit u0 0000000000000000004D7701FFF4160016B822000022C0032901080FFE060002007702FFF416003CBB0100003B" ++
@@ -193,7 +193,7 @@ pub fn deck_of_2_abends_24_answers()
 
 /// 2 applications, 2 loads, a deletion.
 pub fn deck_of_36_answers()
-    ensures { played (
+    ensures { deck_transcript (
         codes "budget 300\nformat\n" ++
         codes "unit u0 000000000000000000B37701FFF416001EBB0100003B010000460100003904000046040000060004007702FFF4" ++
         codes "16003922C00028081900AB3904000046040000056A80007703FFF416004C3904000046040000060004007704FFF41600A0" ++
@@ -223,7 +223,7 @@ pub fn deck_of_36_answers()
 
 /// 3 applications, 2 loads, 2 abends, a deletion.
 pub fn deck_of_2_abends_21_answers()
-    ensures { played (
+    ensures { deck_transcript (
         codes "budget 300\npoke 0 4D454C0220000083\npoke 1 FFFFFFFFFFFFFFFF\npoke 19 0000000000000000\n" ++
         codes "poke 130 0000000000000000\npoke 131 48001F7D00000000\n" ++
         codes "unit u0 000000000000000000C87701FFF4160020BB0100003B0100004601000039040000460400000790010003007702" ++
@@ -260,7 +260,7 @@ pub fn deck_of_2_abends_21_answers()
 
 /// 4 applications, a load, 14 manager commands, 3 deletions.
 pub fn manager_commands_67_answers()
-    ensures { played (
+    ensures { deck_transcript (
         codes "budget 300\nformat\npoke 1 4800002700000000\npoke 1 4F50454E2D322D2D\npoke 8192 4F50454E2D312D2D\n" ++
         codes "unit u0 000000000000000000577701FFF416001F210061000000210750011C004E3902000046020000060002007702FF" ++
         codes "F416003E39080000F90800002408390200004602000007900100030022000022C0002200002904080600022107B9010000" ++
@@ -310,7 +310,7 @@ pub fn manager_commands_67_answers()
 
 /// 5 applications, 7 loads, an abend.
 pub fn one_abend_mute_card_44_answers()
-    ensures { played (
+    ensures { deck_transcript (
         codes "budget 300\npoke 0 4D454C0220000083\npoke 1 534855542D2D2D2D\npoke 130 0000000000000000\n" ++
         codes "poke 131 48001F7D00000000\napp u0 A000000003\n" ++
         codes "DATA 05A00000000210A0000000050102030405060708090A0B8EFAA7F97F0D38C5086A338112\nCMPB PT[-12],1\n" ++
@@ -363,7 +363,7 @@ pub fn one_abend_mute_card_44_answers()
 
 /// 5 applications, 3 loads.
 pub fn deck_of_19_answers()
-    ensures { played (
+    ensures { deck_transcript (
         codes "budget 300\nformat\n" ++
         codes "unit u0 000000000000000000497701FFF416001D21832200032804460100013904000046040000056A80007702FFF416" ++
         codes "003C21032801280246010002390400004604000007900100030022000222001122C000280504000E05A000000003C33A7A" ++
@@ -406,7 +406,7 @@ pub fn deck_of_19_answers()
 
 /// 3 applications, a load, an abend, 14 manager commands.
 pub fn one_abend_manager_commands_33_answers()
-    ensures { played (
+    ensures { deck_transcript (
         codes "budget 300\nformat\n" ++
         codes "unit u0 000000000000000001147701FFF416002939040028FE0400032404346A218D2200092804460100003904000046" ++
         codes "040000056A80007702FFF416004CBB0100003B01000041010000210161020013210750010FFE060002007703FFF416009F" ++
@@ -449,7 +449,7 @@ pub fn one_abend_manager_commands_33_answers()
 
 /// 3 applications, 2 loads, 5 abends, 15 manager commands, 3 deletions.
 pub fn deck_of_5_abends_mute_card_manager_commands_67_answers()
-    ensures { played (
+    ensures { deck_transcript (
         codes "budget 300\npoke 0 4D454C0220000096\npoke 1 534855542D2D2D2D\npoke 2 0000000000000004\n" ++
         codes "poke 3 0087008C00900092\npoke 19 0000000000000000\npoke 20 4604000004002903\n" ++
         codes "poke 21 060002333C910C8A\npoke 22 4FAB42E03C6F0000\npoke 130 4F50454E2D322D2D\n" ++
@@ -512,7 +512,7 @@ pub fn deck_of_5_abends_mute_card_manager_commands_67_answers()
 
 /// 5 applications, 6 loads, 4 abends, 9 manager commands, a deletion.
 pub fn deck_of_4_abends_mute_card_manager_commands_57_answers()
-    ensures { played (
+    ensures { deck_transcript (
         codes "budget 300\nformat\n" ++
         codes "unit u0 000000000000000000767701FFF416004A2200002807863F2102610000012107500129030289684E00003E0200" ++
         codes "0041020002B9020003290302B90900003E09000041090000210428012802460100030790010003007702FFF4160070BB01" ++
@@ -563,7 +563,7 @@ pub fn deck_of_4_abends_mute_card_manager_commands_57_answers()
 
 /// 3 applications, 4 loads, 2 abends.
 pub fn deck_of_2_abends_21_answers_2()
-    ensures { played (
+    ensures { deck_transcript (
         codes "budget 300\nformat\napp u0 A000000009\nDATA 05A000000009BC\nCMPB PT[-12],1\nJUMP NE,no0\n" ++
         codes "EXITLA 2\nno0: NOP\nNOTN SB[3],4\nEXIT\nsub: PUSHB 6\nINCN SB[0],1\nRETO 1\nend\n" ++
         codes "app u1 A000000009\nDATA 05A000000001\nCMPB PT[-12],1\nJUMP NE,no0\nPUSHW 2\nPUSHW 13\n" ++
@@ -587,7 +587,7 @@ pub fn deck_of_2_abends_21_answers_2()
 
 /// One application, 4 loads, 11 abends.
 pub fn deck_of_11_abends_56_answers()
-    ensures { played (
+    ensures { deck_transcript (
         codes "budget 300\nformat\napp u0 A000000009\nCMPB PT[-12],1\nJUMP NE,no0\nINCN DB[0],1\nLOAD DB[0],1\n" ++
         codes "STORE SB[0],1\nCLEARN SB[1],40\nNOTN PT[-13],1\nBYTE 71\nBYTE 118\nBYTE 49\nEXIT\nno0: NOP\n" ++
         codes "CMPB PT[-12],2\nJUMP NE,no1\nPUSHW 0xC000\nPUSHW 0\nPRIM 1,9\nLOAD SB[0],1\nSTORE PB[0],1\n" ++
@@ -618,7 +618,7 @@ pub fn deck_of_11_abends_56_answers()
 
 /// 4 applications, 4 loads, an abend, 16 manager commands.
 pub fn one_abend_mute_card_manager_commands_36_answers()
-    ensures { played (
+    ensures { deck_transcript (
         codes "budget 300\npoke 0 4D454C0220000083\npoke 1 534855542D2D2D2D\npoke 130 534855542D2D2D2D\n" ++
         codes "poke 131 4800000200990000\npoke 133 5500001400000000\npoke 134 A000000009000000\n" ++
         codes "poke 135 0000000000000000\npoke 136 0502020000630000\npoke 137 0004000F00000000\n" ++

@@ -1,11 +1,11 @@
-#![tactic(auto, unfolding(mc_model_examples::specs::Played::played))]
+#![tactic(auto, unfolding(crate::specs::Played::deck_transcript))]
 
 ghost use Rattle.std.specs.Prelude.{◌≡◌, ◌++◌, [], codes, Ok};
-ghost use Rattle.mc_model_examples.specs.Played.{played};
+ghost use Rattle.mc_model_examples.specs.Played.{deck_transcript};
 
 /// 5 applications, 7 loads, 3 abends.
 pub fn deck_of_3_abends_mute_card_64_answers()
-    ensures { played (
+    ensures { deck_transcript (
         codes "budget 300\nformat\n" ++
         codes "unit u0 000000000000000000B47701FFF416002A2200002807994D1E00092903023E0800004108000229030139040000" ++
         codes "46040000056A80007702FFF41600662200002807220000280722000028073F02FFFE46020001211E220007280446010001" ++
@@ -64,7 +64,7 @@ pub fn deck_of_3_abends_mute_card_64_answers()
 
 /// 2 applications, 3 loads, 8 abends, 8 manager commands, 2 deletions.
 pub fn deck_of_8_abends_manager_commands_62_answers()
-    ensures { played (
+    ensures { deck_transcript (
         codes "budget 300\npoke 0 4D454C0220000083\npoke 1 534855542D2D2D2D\npoke 130 534855542D2D2D2D\n" ++
         codes "poke 131 48001F7D00000000\n" ++
         codes "unit u0 000000000000000000C17701FFF416002E3B040000D1040004240422000028073F02FFFE460200058920390006" ++
@@ -121,7 +121,7 @@ pub fn deck_of_8_abends_manager_commands_62_answers()
 
 /// 4 applications, 5 loads, an abend.
 pub fn one_abend_24_answers()
-    ensures { played (
+    ensures { deck_transcript (
         codes "budget 300\nformat\napp u0 A000000009\nDATA 05A00000000305A0000000014069F1D86AC9BAC15E2D30B551\n" ++
         codes "CMPB PT[-12],1\nJUMP NE,no0\nINCN DB[0],1\nLOAD DB[0],1\nSTORE PB[0],1\nPUSHW 49152\nPRIM 8\n" ++
         codes "INCN SB[7],1\nLOAD SB[0],4\nSTORE PB[0],4\nEXITSW 0x6A80\nno0: NOP\nCMPB PT[-12],2\nJUMP NE,no1\n" ++
@@ -154,7 +154,7 @@ pub fn one_abend_24_answers()
 
 /// 5 applications, 7 loads, an abend, 20 manager commands.
 pub fn one_abend_mute_card_manager_commands_45_answers()
-    ensures { played (
+    ensures { deck_transcript (
         codes "budget 300\nformat\n" ++
         codes "unit u0 000000000000000000237701FFF416000D50F96E06000800210128012802460100030600022103B90100002D01" ++
         codes "00012E000961074F05A00000000300096F078405A00000000300000000\n" ++
@@ -198,7 +198,7 @@ pub fn one_abend_mute_card_manager_commands_45_answers()
 
 /// 4 applications.
 pub fn deck_of_36_answers_2()
-    ensures { played (
+    ensures { deck_transcript (
         codes "budget 300\npoke 0 4D454C0220000083\npoke 1 4F50454E2D312D2D\npoke 2 0000000000000005\n" ++
         codes "poke 3 0000000000000000\npoke 4 4D454C0220000083\npoke 5 0000000000000083\n" ++
         codes "poke 6 48001F7D00000000\npoke 7 00000000000002C8\npoke 8 50AE088937505F6E\n" ++
@@ -252,7 +252,7 @@ pub fn deck_of_36_answers_2()
 
 /// 4 applications, a manager command.
 pub fn manager_commands_36_answers()
-    ensures { played (
+    ensures { deck_transcript (
         codes "budget 300\nformat\napp u0 A000000003\nDATA 05A000000009\nCMPB PT[-12],1\nJUMP NE,no0\nPRIM 3,2\n" ++
         codes "SETW SB[13],0x4DAB\nSETW SB[11],0xA755\nSETW SB[11],0xF189\nSETB SB[0],28\nSETW SB[8],0xC174\n" ++
         codes "SETW SB[12],0xE80A\nSETW SB[2],0x819B\nSETW SB[3],0x2EF4\nSETW SB[3],0x9C3\nINCN SB[17],2\n" ++
@@ -298,7 +298,7 @@ pub fn manager_commands_36_answers()
 
 /// One application.
 pub fn deck_of_24_answers()
-    ensures { played (
+    ensures { deck_transcript (
         codes "budget 300\nformat\n" ++
         codes "unit u0 000000000000000000767701FFF4160033BB0100003B0100004601000021026103000D2107500122C00022000E" ++
         codes "29020139040000460400000790010003007702FFF41600463904000046040000056A80007703FFF416006821B022000B28" ++

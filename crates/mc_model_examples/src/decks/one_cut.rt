@@ -1,11 +1,11 @@
-#![tactic(auto, unfolding(mc_model_examples::specs::Played::played))]
+#![tactic(auto, unfolding(crate::specs::Played::deck_transcript))]
 
 ghost use Rattle.std.specs.Prelude.{◌≡◌, ◌++◌, [], codes, Ok};
-ghost use Rattle.mc_model_examples.specs.Played.{played};
+ghost use Rattle.mc_model_examples.specs.Played.{deck_transcript};
 
 /// One application, a load, a cut, 4 abends.
 pub fn one_cut_4_abends_37_answers()
-    ensures { played (
+    ensures { deck_transcript (
         codes "budget 300\ncut 4 58B89D54C6419459\nselect A000000001\npoke 0 4D454C022000009C\n" ++
         codes "poke 1 534855542D2D2D2D\npoke 130 534855542D2D2D2D\npoke 131 5500001900000000\n" ++
         codes "poke 132 A000000009000000\npoke 133 0000000000000000\npoke 134 05020200007D000A\n" ++
@@ -42,7 +42,7 @@ pub fn one_cut_4_abends_37_answers()
 
 /// 4 applications, 6 loads, a cut, an abend.
 pub fn one_cut_one_abend_19_answers()
-    ensures { played (
+    ensures { deck_transcript (
         codes "budget 300\nformat\napp u0 A0000000050102030405060708090A0B\nDATA B2A3C870D5A03ACA\n" ++
         codes "CMPB PT[-12],1\nJUMP NE,no0\nPUSHW 4\nPUSHW 4\nPUSHW 0xC000\nPRIM 5\nCALL EQ,sub\nPUSHB 52\n" ++
         codes "PUSHW 6\nPRIM 4\nSTORE PB[1],1\nLOADA SB[2]\nLOADI 2\nSTORE PB[3],2\nCALL ALL,sub\nLOAD SB[0],4\n" ++
@@ -81,7 +81,7 @@ pub fn one_cut_one_abend_19_answers()
 
 /// 7 applications, a load, a cut, 4 abends, 6 manager commands, a deletion.
 pub fn one_cut_4_abends_mute_card_manager_commands_32_answers()
-    ensures { played (
+    ensures { deck_transcript (
         codes "budget 300\nfail 1\ndump A000000001\npoke 0 4D454C022000009E\npoke 1 FFFFFFFFFFFFFFFF\n" ++
         codes "poke 2 0000000000000004\npoke 3 00850088009400A7\npoke 4 00AF000000000000\n" ++
         codes "poke 19 0000000000000000\npoke 20 7701FFF4160022BB\npoke 21 0022000228082903\n" ++
@@ -155,7 +155,7 @@ pub fn one_cut_4_abends_mute_card_manager_commands_32_answers()
 
 /// 2 applications, 2 loads, a cut, a deletion.
 pub fn one_cut_40_answers()
-    ensures { played (
+    ensures { deck_transcript (
         codes "budget 300\nformat\n" ++
         codes "unit u0 000000000000000000737701FFF4160016BB0100003B01000046010000056A80007702FFF4160064BB0100003B" ++
         codes "0100004101000022000022C00022C000280919006D200424022200002807210228012802460100041F006D22000028073F" ++
@@ -191,7 +191,7 @@ pub fn one_cut_40_answers()
 
 /// 2 applications, 2 loads, a cut.
 pub fn one_cut_15_answers()
-    ensures { played (
+    ensures { deck_transcript (
         codes "budget 300\nformat\n" ++
         codes "unit u0 0000000000000000006A7701FFF416002A22C00022C0002200072904081C006521026100001021075001A90100" ++
         codes "121C0065060002007702FFF416005F22000028075E00004801460100001F006522000028073F02FFFE46020003A9280008" ++
@@ -211,7 +211,7 @@ pub fn one_cut_15_answers()
 
 /// 3 applications, 2 loads, a cut.
 pub fn one_cut_mute_card_24_answers()
-    ensures { played (
+    ensures { deck_transcript (
         codes "budget 300\nformat\n" ++
         codes "unit u0 000000000000000000F67701FFF4160042220000280789D52E00132200FF22C00022C00028095B000048024602" ++
         codes "0000BB0100003B010000460100033A01FFFD41010019390400004604000004007702FFF416008521222200022804460100" ++
@@ -242,7 +242,7 @@ pub fn one_cut_mute_card_24_answers()
 
 /// 2 applications, 3 loads, a cut.
 pub fn one_cut_23_answers()
-    ensures { played (
+    ensures { deck_transcript (
         codes "budget 300\nformat\n" ++
         codes "unit u0 000000000000000000777701FFF416002CBB0100003B01000041010000220000280722000322C00022C0002809" ++
         codes "390400004604000004007702FFF4160037056A80007703FFF4160070BB0100003B010000460100002200002807290303B9" ++
@@ -270,7 +270,7 @@ pub fn one_cut_23_answers()
 
 /// One application, a cut.
 pub fn one_cut_12_answers()
-    ensures { played (
+    ensures { deck_transcript (
         codes "budget 300\npoke 0 4D454C0220000083\npoke 1 534855542D2D2D2D\npoke 130 534855542D2D2D2D\n" ++
         codes "poke 131 4800001400B90000\npoke 151 5500002200000000\npoke 152 A000000002000000\n" ++
         codes "poke 153 0000000000000000\npoke 154 0500020000C50014\npoke 155 0100000800000000\n" ++
@@ -296,7 +296,7 @@ pub fn one_cut_12_answers()
 
 /// 2 applications, 3 loads, a cut, 2 abends, 46 manager commands, a deletion.
 pub fn one_cut_2_abends_manager_commands_79_answers()
-    ensures { played (
+    ensures { deck_transcript (
         codes "budget 300\nformat\npoke 3 4F50454E2D322D2D\npoke 132 4F50454E2D322D2D\napp u0 A000000009\n" ++
         codes "DATA 287EEC5DE8B6175C07CE84D69A\nCMPB PT[-12],1\nJUMP NE,no0\nPUSHW 49152\nPRIM 8\nPRIM 3,2\n" ++
         codes "LOAD PB[0],8\nSTORE SB[10],8\nPRIM 3,1\nPUSHW 0\nPUSHW 0xC002\nPRIM 2,2\nBYTE 250\nBYTE 108\n" ++
@@ -359,7 +359,7 @@ pub fn one_cut_2_abends_manager_commands_79_answers()
 
 /// 6 applications, 6 loads, a cut, 4 abends, 11 manager commands.
 pub fn one_cut_4_abends_manager_commands_58_answers()
-    ensures { played (
+    ensures { deck_transcript (
         codes "budget 300\nformat\n" ++
         codes "unit u0 000000000000000000247701FFF416001439010012E9010024240106000800BB0100033B01000046010001056D" ++
         codes "00002607A000000004010210A0000000050102030405060708090A0BB9C2B157A00ED5A7FA4989A335000D610B4F05A000" ++
@@ -416,7 +416,7 @@ pub fn one_cut_4_abends_manager_commands_58_answers()
 
 /// 5 applications, 3 loads, a cut, 5 abends.
 pub fn one_cut_5_abends_44_answers()
-    ensures { played (
+    ensures { deck_transcript (
         codes "budget 300\nformat\napp u0 A000000009\nDATA 10A0000000050102030405060708090A0B\nCMPB PT[-12],1\n" ++
         codes "JUMP NE,no0\nPUSHW 0\nPRIM 7\nLOAD PT[-2],2\nSTORE PB[0],2\nLOAD SB[8],1\nADDN SB[12],1\nPOPN 1\n" ++
         codes "LOAD SB[0],4\nSTORE PB[0],4\nEXITLA 4\nno0: NOP\nCMPB PT[-12],2\nJUMP NE,no1\nPUSHB 98\nPUSHW 8\n" ++
@@ -463,7 +463,7 @@ pub fn one_cut_5_abends_44_answers()
 
 /// 4 applications, 4 loads, a cut, 3 abends.
 pub fn one_cut_3_abends_23_answers()
-    ensures { played (
+    ensures { deck_transcript (
         codes "budget 300\nformat\n" ++
         codes "unit u0 0000000000000000009B7701FFF416004CBB0100003B010000410100003222000022001B22C0002806B101001B" ++
         codes "2903023E040000410400063E040000410400183E0400004104000D290302390100194101000A060002007702FFF416006F" ++
@@ -509,7 +509,7 @@ pub fn one_cut_3_abends_23_answers()
 
 /// 3 applications, 4 loads, a cut, 3 abends.
 pub fn one_cut_3_abends_29_answers()
-    ensures { played (
+    ensures { deck_transcript (
         codes "budget 300\nformat\n" ++
         codes "unit u0 000000000000000000367701FFF416002722C00022000022C010290B1822C00722000629020239040000460400" ++
         codes "000600040022000422000222C0002805056D00000111000D610B4F05A0000000035002616200017C00000000\n" ++

@@ -1,4 +1,4 @@
-#![tactic(auto, unfolding(mc_model_examples::specs::Played::trace))]
+#![tactic(auto, unfolding(crate::specs::Played::trace))]
 
 ghost use Rattle.std.specs.Prelude.{◌≡◌, ◌++◌, [], codes, Ok};
 ghost use Rattle.mc_model_examples.specs.Played.{trace};

@@ -1,28 +1,28 @@
-#![tactic(auto, unfolding(mc_model_machine::specs::Assembly::assembled))]
+#![tactic(auto, unfolding(mc_model_machine::specs::Assembly::assembly_of))]
 
 ghost use Rattle.std.specs.Prelude.{◌≡◌, ◌++◌, [], codes, Ok, Err};
-ghost use Rattle.mc_model_machine.specs.Assembly.{assembled};
+ghost use Rattle.mc_model_machine.specs.Assembly.{assembly_of};
 ghost use Rattle.mc_model_machine.specs.declared.assembler.AsmCause.TheVariants.{BadNumber, LabelTwice};
 ghost use Rattle.mc_model_examples.specs.Written.{hex};
 
 /// Words without a label, and no line feed at the end.
 pub fn popped_word()
-    ensures { assembled (codes "POPW\nEXITSWLA 0x0000,0x0002\nRETO 1 ") ≡ Ok (hex (codes "2607000000022E01")) }
+    ensures { assembly_of (codes "POPW\nEXITSWLA 0x0000,0x0002\nRETO 1 ") ≡ Ok (hex (codes "2607000000022E01")) }
 {}
 
 /// A carriage return at the end of the text is a character of the last operand.
 pub fn return_at_the_end()
-    ensures { assembled (codes "l0: BRANCH LE , l0;,:[\r\nPUSHB 0\r\nl2: CALL LE,l4\r") ≡ Err (3, BadNumber) }
+    ensures { assembly_of (codes "l0: BRANCH LE , l0;,:[\r\nPUSHB 0\r\nl2: CALL LE,l4\r") ≡ Err (3, BadNumber) }
 {}
 
 /// A label before a word without operands.
 pub fn label_before_a_bare_call()
-    ensures { assembled (codes "l4: CALL\nLOADI LB[0],255\nRET\n") ≡ Ok (hex (codes "184CFF00002C")) }
+    ensures { assembly_of (codes "l4: CALL\nLOADI LB[0],255\nRET\n") ≡ Ok (hex (codes "184CFF00002C")) }
 {}
 
 /// A label that stands before a third line too.
 pub fn label_given_twice()
-    ensures { assembled (
+    ensures { assembly_of (
         codes "l0: SUBN 216\nl1: SUBN DT[1],1\nl2: NOP\nl3: LOADI DT[-1],3\nEXITLA 0x0000 \nJUMP  LT  ,  l5\n" ++
         codes "SUBW DT[1],0x0001\nPOPB\nl0: BRANCH ALL,l4\nTESTN LB[-1],16\nDECN LB[-1] , 143 \nRETIO 3,3\nEXIT\n" ++
         codes "CLEARN 8\nPUSHW 0x8000\nANDN DB[-1],255\nl0: STORE PT[32767],126\nl1: ANDN 24\nSTORE DB[1],255\n" ++
@@ -36,7 +36,7 @@ pub fn label_given_twice()
 
 /// A label that was given before, in a text whose lines end with carriage returns.
 pub fn label_given_twice_under_returns()
-    ensures { assembled (
+    ensures { assembly_of (
         codes "l0: JUMP ALL,0x0002\r\nl1:  SUBN  255 \r\nCALL\tLT\t,\tl7 ; c\r\nEXITSWLA 0x7F26,0x0001\r\n" ++
         codes "LOADI ST[-32768],3\r\nl5: EXIT\r\nl6: POPB\r\nSUBN ST[-32768],16\r\nLOAD  DB[32767]  ,  2 \r\n" ++
         codes "RETIO 3,17\r\nNOP\r\nSUBW DB[5],0x8000\r\nEXITSW 0x24A7\r\nSTORE PB[-16],3\r\n" ++
@@ -51,7 +51,7 @@ pub fn label_given_twice_under_returns()
 
 /// A line far behind is refused at its own number.
 pub fn number_of_one_line_of_seventy()
-    ensures { assembled (
+    ensures { assembly_of (
         codes "CMPB PT[-12],1\r\nJUMP NE,no0\r\nPUSHW 0\r\nPRIM 7\r\nPUSHW 255\r\nPUSHW 0xC000\r\nPUSHW 49152\r\n" ++
         codes "PRIM 9\r\nPUSHW 0\r\nPUSHW 0xC000\r\nPUSHW 49152\r\nPRIM 9\r\nEXIT\r\nno0: NOP\r\n" ++
         codes "CMPB PT[-12],2\r\nJUMP NE,no1\r\nINCN DB[0],1\r\nLOAD DB[0],1\r\nSTORE PB[0],1\r\nPRIM 3,3\r\n" ++
@@ -69,26 +69,26 @@ pub fn number_of_one_line_of_seventy()
 
 /// Blanks around the operands.
 pub fn blanks_around_commas()
-    ensures { assembled (codes "NOP\nCALL GT,0x0001\nCMPW  LB[-1]  ,  0x8A12\n\n")
+    ensures { assembly_of (codes "NOP\nCALL GT,0x0001\nCMPW  LB[-1]  ,  0x8A12\n\n")
         ≡ Ok (hex (codes "001C0001948A12FFFF")) }
 {}
 
 /// A byte has no sign, and the first refused line counts.
 pub fn negative_zero_for_a_byte()
-    ensures { assembled (codes "PUSHB -0\nINCN SB[ 0 ],1") ≡ Err (1, BadNumber) }
+    ensures { assembly_of (codes "PUSHB -0\nINCN SB[ 0 ],1") ≡ Err (1, BadNumber) }
 {}
 
 /// Five hexadecimal digits are no number, and the first refused line counts.
 pub fn five_hexadecimal_digits()
-    ensures { assembled (codes "PUSHW 0x12345\nEXITSWLA 0x0000,0x2716\nRETIO 1,\n\n") ≡ Err (1, BadNumber) }
+    ensures { assembly_of (codes "PUSHW 0x12345\nEXITSWLA 0x0000,0x2716\nRETIO 1,\n\n") ≡ Err (1, BadNumber) }
 {}
 
 /// The lowest offset, and no line feed at the end.
 pub fn lowest_offset()
-    ensures { assembled (codes "TESTN ST[0],255\nRETI 1\nORN SB[-32768],8") ≡ Ok (hex (codes "B2FF00002D01F1088000")) }
+    ensures { assembly_of (codes "TESTN ST[0],255\nRETI 1\nORN SB[-32768],8") ≡ Ok (hex (codes "B2FF00002D01F1088000")) }
 {}
 
 /// A carriage return at the end of the only line is a character of its operand.
 pub fn return_in_an_operand()
-    ensures { assembled (codes "l0: RETIO 1,17\r") ≡ Err (1, BadNumber) }
+    ensures { assembly_of (codes "l0: RETIO 1,17\r") ≡ Err (1, BadNumber) }
 {}

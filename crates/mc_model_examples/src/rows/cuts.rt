@@ -1,11 +1,11 @@
-#![tactic(auto, unfolding(crate::specs::Played::played))]
+#![tactic(auto, unfolding(crate::specs::Played::deck_transcript))]
 
 ghost use Rattle.std.specs.Prelude.{◌≡◌, ◌++◌, [], codes, Ok};
-ghost use Rattle.mc_model_examples.specs.Played.{played, unit_line};
+ghost use Rattle.mc_model_examples.specs.Played.{deck_transcript, unit_line};
 
 /// A write that is cut before its gate leaves what was there, and no card runs.
 pub fn cut_before_the_gate()
-    ensures { played (
+    ensures { deck_transcript (
         codes "format\npower\n" ++
         unit_line (codes "counter") (codes "A000000001") (codes "B9020000 39020000 46020000 060002") [] ++
         codes "load counter 2 0\nselect A000000001\ncut 3 0000000000000000\napdu 8001000002\napdu 8001000002\n" ++
@@ -15,7 +15,7 @@ pub fn cut_before_the_gate()
 
 /// A torn gate that holds the opening word stands.
 pub fn torn_gate_that_opens()
-    ensures { played (
+    ensures { deck_transcript (
         codes "format\npower\n" ++
         unit_line (codes "counter") (codes "A000000001") (codes "B9020000 39020000 46020000 060002") [] ++
         codes "load counter 2 0\nselect A000000001\ncut 4 4F50454E2D322D2D\napdu 8001000002\npower\n" ++
@@ -25,7 +25,7 @@ pub fn torn_gate_that_opens()
 
 /// A torn gate that holds another word does not.
 pub fn torn_gate()
-    ensures { played (
+    ensures { deck_transcript (
         codes "format\npower\n" ++
         unit_line (codes "counter") (codes "A000000001") (codes "B9020000 39020000 46020000 060002") [] ++
         codes "load counter 2 0\nselect A000000001\ncut 4 0000000000000000\napdu 8001000002\npower\n" ++
@@ -35,7 +35,7 @@ pub fn torn_gate()
 
 /// A torn closing of the gate.
 pub fn torn_closing()
-    ensures { played (
+    ensures { deck_transcript (
         codes "format\npower\n" ++
         unit_line (codes "counter") (codes "A000000001") (codes "B9020000 39020000 46020000 060002") [] ++
         codes "load counter 2 0\nselect A000000001\ncut 6 0000000000000000\napdu 8001000002\npower\n" ++
@@ -45,7 +45,7 @@ pub fn torn_closing()
 
 /// A torn closing that leaves the opening word is written again.
 pub fn torn_closing_that_opens()
-    ensures { played (
+    ensures { deck_transcript (
         codes "format\npower\n" ++
         unit_line (codes "counter") (codes "A000000001") (codes "B9020000 39020000 46020000 060002") [] ++
         codes "load counter 2 0\nselect A000000001\ncut 6 4F50454E2D322D2D\napdu 8001000002\npower\n" ++
@@ -55,7 +55,7 @@ pub fn torn_closing_that_opens()
 
 /// A recovery that is cut is made again.
 pub fn cut_in_a_recovery()
-    ensures { played (
+    ensures { deck_transcript (
         codes "format\npower\n" ++
         unit_line (codes "counter") (codes "A000000001") (codes "B9020000 39020000 46020000 060002") [] ++
         codes "load counter 2 0\nselect A000000001\ncut 5 0000000000000000\napdu 8001000002\n" ++
@@ -67,7 +67,7 @@ pub fn cut_in_a_recovery()
 
 /// A cut behind the last write hits nothing, and is dropped.
 pub fn no_cut()
-    ensures { played (
+    ensures { deck_transcript (
         codes "format\npower\n" ++
         unit_line (codes "counter") (codes "A000000001") (codes "B9020000 39020000 46020000 060002") [] ++
         codes "load counter 2 0\nselect A000000001\ncut 7 0000000000000000\napdu 8001000002\napdu 8001000002\n")
@@ -76,7 +76,7 @@ pub fn no_cut()
 
 /// Two words of one transaction, cut before and behind its gate.
 pub fn transaction_of_two_words()
-    ensures { played (
+    ensures { deck_transcript (
         codes "format\npower\n" ++
         unit_line (codes "a") (codes "A000000005") (codes "290302 69110000 69220008 290301 04") [] ++
         codes "load a 9 0\nselect A000000005\ncut 5 0000000000000000\napdu 80010000\npower\ndump A000000005\n" ++
@@ -89,7 +89,7 @@ pub fn transaction_of_two_words()
 
 /// Two words of one transaction, whose torn gate holds the opening word.
 pub fn transaction_with_a_torn_gate()
-    ensures { played (
+    ensures { deck_transcript (
         codes "format\npower\n" ++
         unit_line (codes "a") (codes "A000000005") (codes "290302 69110000 69220008 290301 04") [] ++
         codes "load a 9 0\nselect A000000005\ncut 5 4F50454E2D322D2D\napdu 80010000\npower\ndump A000000005\n")
@@ -100,7 +100,7 @@ pub fn transaction_with_a_torn_gate()
 
 /// A transaction that is not committed is dropped.
 pub fn transaction_without_commit()
-    ensures { played (
+    ensures { deck_transcript (
         codes "format\npower\n" ++
         unit_line (codes "a") (codes "A000000005") (codes "290302 69330000 04") [] ++
         codes "load a 9 0\nselect A000000005\napdu 80010000\ndump A000000005\n")
@@ -109,7 +109,7 @@ pub fn transaction_without_commit()
 
 /// A commit of 64 words makes 147 device writes.
 pub fn most_pending_words()
-    ensures { played (
+    ensures { deck_transcript (
         codes "format\npower\n" ++
         unit_line (codes "a") (codes "A000000005") (
         codes "290302 69010000 69010008 69010010 69010018 69010020 69010028 69010030 69010038" ++
@@ -127,7 +127,7 @@ pub fn most_pending_words()
 
 /// One word more abends, and changes nothing.
 pub fn too_many_pending_words()
-    ensures { played (
+    ensures { deck_transcript (
         codes "format\npower\n" ++
         unit_line (codes "a") (codes "A000000005") (
         codes "290302 69010000 69010008 69010010 69010018 69010020 69010028 69010030 69010038" ++
@@ -157,7 +157,7 @@ pub fn too_many_pending_words()
 
 /// A load of 21 writes that is cut before its gate.
 pub fn cut_before_a_creation()
-    ensures { played (
+    ensures { deck_transcript (
         codes "format\npower\n" ++
         unit_line (codes "counter") (codes "A000000001") (codes "B9020000 39020000 46020000 060002") [] ++
         codes "cut 16 0000000000000000\nload counter 2 0\npower\ndump A000000001\n")
@@ -166,7 +166,7 @@ pub fn cut_before_a_creation()
 
 /// A load whose torn gate holds the opening word.
 pub fn cut_behind_a_creation()
-    ensures { played (
+    ensures { deck_transcript (
         codes "format\npower\n" ++
         unit_line (codes "counter") (codes "A000000001") (codes "B9020000 39020000 46020000 060002") [] ++
         codes "cut 17 4F50454E2D322D2D\nload counter 2 0\npower\ndump A000000001\n")
@@ -175,7 +175,7 @@ pub fn cut_behind_a_creation()
 
 /// A load makes 21 writes.
 pub fn last_write_of_a_load()
-    ensures { played (
+    ensures { deck_transcript (
         codes "format\npower\n" ++
         unit_line (codes "counter") (codes "A000000001") (codes "B9020000 39020000 46020000 060002") [] ++
         codes "cut 21 0000000000000000\nload counter 2 0\ncut 22 0000000000000000\npower\ndump A000000001\n")
@@ -184,7 +184,7 @@ pub fn last_write_of_a_load()
 
 /// A write that the device refuses leaves a mute card.
 pub fn refused_write()
-    ensures { played (
+    ensures { deck_transcript (
         codes "format\npower\n" ++
         unit_line (codes "counter") (codes "A000000001") (codes "B9020000 39020000 46020000 060002") [] ++
         codes "load counter 2 0\nselect A000000001\nfail 4\napdu 8001000002\napdu 8001000002\npower\n" ++
@@ -194,7 +194,7 @@ pub fn refused_write()
 
 /// A refused write behind the gate is owed.
 pub fn refused_target_write()
-    ensures { played (
+    ensures { deck_transcript (
         codes "format\npower\n" ++
         unit_line (codes "counter") (codes "A000000001") (codes "B9020000 39020000 46020000 060002") [] ++
         codes "load counter 2 0\nselect A000000001\nfail 5\napdu 8001000002\npower\ndump A000000001\n")
@@ -203,7 +203,7 @@ pub fn refused_target_write()
 
 /// A refused write of a recovery.
 pub fn refused_recovery()
-    ensures { played (
+    ensures { deck_transcript (
         codes "format\npower\n" ++
         unit_line (codes "counter") (codes "A000000001") (codes "B9020000 39020000 46020000 060002") [] ++
         codes "load counter 2 0\nselect A000000001\ncut 5 0000000000000000\napdu 8001000002\nfail 1\npower\n" ++
@@ -213,7 +213,7 @@ pub fn refused_recovery()
 
 /// A later `fail` takes the place of a cut, and behind the last write it hits nothing.
 pub fn fail_behind_the_last_write()
-    ensures { played (
+    ensures { deck_transcript (
         codes "format\npower\n" ++
         unit_line (codes "counter") (codes "A000000001") (codes "B9020000 39020000 46020000 060002") [] ++
         codes "load counter 2 0\nselect A000000001\ncut 2 0000000000000000\nfail 7\napdu 8001000002\n")

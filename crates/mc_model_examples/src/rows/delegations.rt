@@ -1,11 +1,11 @@
-#![tactic(auto, unfolding(crate::specs::Played::played))]
+#![tactic(auto, unfolding(crate::specs::Played::deck_transcript))]
 
 ghost use Rattle.std.specs.Prelude.{◌≡◌, ◌++◌, [], codes, Ok};
-ghost use Rattle.mc_model_examples.specs.Played.{played, unit_line};
+ghost use Rattle.mc_model_examples.specs.Played.{deck_transcript, unit_line};
 
 /// Two applications that name each other, and a name that is not there.
 pub fn delegation()
-    ensures { played (
+    ensures { deck_transcript (
         codes "format\npower\n" ++
         unit_line (codes "a") (codes "A000000001") (codes "220000 2807 3F02FFFE 220006 2807 3F02FFFE 46040000 0790000004") (codes "05A00000000205A000000009") ++
         unit_line (codes "b") (codes "A000000002") (codes "220000 2807 04") (codes "05A000000001") ++
@@ -15,7 +15,7 @@ pub fn delegation()
 
 /// A relay hands a command to the counter; a cut in the counter's write.
 pub fn relay_under_a_cut()
-    ensures { played (
+    ensures { deck_transcript (
         codes "format\npower\n" ++
         unit_line (codes "counter") (codes "A000000001") (codes "B9020000 39020000 46020000 060002") [] ++
         unit_line (codes "relay") (codes "A000000003") (codes "220000280704") (codes "05A000000001") ++
@@ -28,7 +28,7 @@ pub fn relay_under_a_cut()
 
 /// A chain of four frames: the fourth may delegate no further.
 pub fn full_chain()
-    ensures { played (
+    ensures { deck_transcript (
         codes "format\npower\n" ++
         unit_line (codes "r1") (codes "A000000201") (codes "220000280704") (codes "05A000000202") ++
         unit_line (codes "r2") (codes "A000000202") (codes "220000280704") (codes "05A000000203") ++

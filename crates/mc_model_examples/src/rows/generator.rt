@@ -1,9 +1,9 @@
-#![tactic(auto, unfolding(mc_model_play::specs::Generator::generated, crate::specs::Played::summarised))]
+#![tactic(auto, unfolding(mc_model_play::specs::Generator::deck_of_number, crate::specs::Played::deck_summary))]
 
 ghost use Rattle.std.specs.Prelude.{◌≡◌, ◌∷◌, ◌++◌, [], codes, drop, length, take, Ok};
 ghost use Rattle.mc_model_play.specs.DeckGrammar.{Apdu, Select, Power, Dump};
-ghost use Rattle.mc_model_play.specs.Generator.{counter_aid, draw, generated, next, purse_aid, relay_aid};
-ghost use Rattle.mc_model_examples.specs.Played.{summarised, unit_line};
+ghost use Rattle.mc_model_play.specs.Generator.{counter_aid, draw, deck_of_number, next, purse_aid, relay_aid};
+ghost use Rattle.mc_model_examples.specs.Played.{deck_summary, unit_line};
 ghost use Rattle.mc_model_examples.specs.Written.{hex};
 
 /// The first six numbers that 1 draws.
@@ -18,16 +18,16 @@ pub fn first_draws()
 
 /// The deck of 1: its length, its first turns, and its end.
 pub fn deck_of_one()
-    ensures lines { length (generated 1) ≡ 4012 }
-    ensures turns { take 3 (drop 8 (generated 1))
+    ensures lines { length (deck_of_number 1) ≡ 4012 }
+    ensures turns { take 3 (drop 8 (deck_of_number 1))
         ≡ (9, Apdu (hex (codes "8001000002"))) ∷ (10, Select relay_aid) ∷ (11, Apdu (hex (codes "8040000004000015FB"))) ∷ [] }
-    ensures end { drop 4008 (generated 1)
+    ensures end { drop 4008 (deck_of_number 1)
         ≡ (4009, Power) ∷ (4010, Dump counter_aid) ∷ (4011, Dump purse_aid) ∷ (4012, Dump relay_aid) ∷ [] }
 {}
 
 /// The counts of a play with each kind of result, and the results of its `dump` lines.
 pub fn summary()
-    ensures { summarised (
+    ensures { deck_summary (
         codes "format\npower\n" ++
         unit_line (codes "counter") (codes "A000000001") (codes "B9020000 39020000 46020000 060002") [] ++
         unit_line (codes "stray") (codes "A000000004") (codes "30") [] ++

@@ -1,11 +1,11 @@
-#![tactic(auto, unfolding(crate::specs::Played::played, crate::specs::Played::played_on))]
+#![tactic(auto, unfolding(crate::specs::Played::deck_transcript, crate::specs::Played::deck_transcript_on))]
 
 ghost use Rattle.std.specs.Prelude.{◌≡◌, ◌++◌, [], codes, Ok};
-ghost use Rattle.mc_model_examples.specs.Played.{played, played_on, unit_line};
+ghost use Rattle.mc_model_examples.specs.Played.{deck_transcript, deck_transcript_on, unit_line};
 
 /// A counter, loaded and selected, counts two commands.
 pub fn ordinary_use()
-    ensures { played (
+    ensures { deck_transcript (
         codes "format\npower\n" ++
         codes "unit counter 0000000000000000000FB902000039020000460200000600020000000961074F05A0000000010" ++
         codes "0096F078405A00000000100000000\nload counter 2 0\nselect A000000001\napdu 8001000002\n" ++
@@ -15,7 +15,7 @@ pub fn ordinary_use()
 
 /// A counter that passes its end: C and Z are set.
 pub fn carry_and_zero()
-    ensures { played (
+    ensures { deck_transcript (
         codes "format\npower\n" ++
         unit_line (codes "a") (codes "A000000001") (codes "B9020000 2802 46010000 060001") (codes "FFFF") ++
         codes "load a 2 0\nselect A000000001\napdu 8001000001\ndump A000000001\n")
@@ -24,7 +24,7 @@ pub fn carry_and_zero()
 
 /// A device of 256 words: a load that finds no room finds it once another application is deleted.
 pub fn room()
-    ensures { played_on 256 (
+    ensures { deck_transcript_on 256 (
         codes "format\npower\n" ++
         unit_line (codes "a") (codes "A000000001") (codes "B9020000 39020000 46020000 060002") [] ++
         unit_line (codes "b") (codes "A000000002") (codes "B9020000 39020000 46020000 060002") [] ++
@@ -35,7 +35,7 @@ pub fn room()
 
 /// A load into the words of a deleted application finds zeros.
 pub fn no_stale_byte()
-    ensures { played (
+    ensures { deck_transcript (
         codes "format\npower\n" ++
         unit_line (codes "old") (codes "A000000006") (codes "04") (codes "DEADBEEFDEADBEEF") ++
         unit_line (codes "new") (codes "A000000007") (codes "04") [] ++
@@ -45,7 +45,7 @@ pub fn no_stale_byte()
 
 /// A unit whose DIR has a label behind the name.
 pub fn label_behind_the_name()
-    ensures { played (
+    ensures { deck_transcript (
         codes "format\npower\n" ++
         codes "unit counter 0000000000000000000FB902000039020000460200000600020000000E610C4F05A0000000015" ++
         codes "00350555200096F078405A00000000100000000\nload counter 2 0\n")
@@ -54,7 +54,7 @@ pub fn label_behind_the_name()
 
 /// Credits, debits and the balance, a debit that is cut, and one that is refused.
 pub fn purse()
-    ensures { played (
+    ensures { deck_transcript (
         codes "format\npower\n" ++
         unit_line (codes "purse") (codes "A000000002") (
         codes "7730FFF4 110023 7740FFF4 11002C 7750FFF4 110018 056D00 39040000 46040000 060004" ++
@@ -71,7 +71,7 @@ pub fn purse()
 
 /// Commands that no application is selected for.
 pub fn routing()
-    ensures { played (
+    ensures { deck_transcript (
         codes "format\npower\napdu 8001\napdu 8001000002AA\napdu 800100000000\napdu FF010000\napdu BE990000\n" ++
         codes "apdu 00A40402\napdu 80010000\napdu BE1200000C000F00020000000000090009\napdu BE24000101B9\n")
         ≡ Ok (
@@ -81,7 +81,7 @@ pub fn routing()
 
 /// A load whose access list denies delegation.
 pub fn access_list()
-    ensures { played (
+    ensures { deck_transcript (
         codes "format\npower\napdu BE1200020C000600060006000000090000\napdu BE24000006220000280704\n" ++
         codes "apdu BE2600000605A000000001\napdu BE2000000961074F05A000000003\napdu BE160000\nselect A000000003\n" ++
         codes "apdu 80010000\n")
@@ -90,7 +90,7 @@ pub fn access_list()
 
 /// The same load, with an access list that denies nothing.
 pub fn empty_access_list()
-    ensures { played (
+    ensures { deck_transcript (
         codes "format\npower\napdu BE1200000C000600060006000000090000\napdu BE24000006220000280704\n" ++
         codes "apdu BE2600000605A000000001\napdu BE2000000961074F05A000000003\napdu BE160000\nselect A000000003\n" ++
         codes "apdu 80010000\n")
@@ -99,21 +99,21 @@ pub fn empty_access_list()
 
 /// An access list with a bit that denies nothing.
 pub fn unknown_access_bit()
-    ensures { played (
+    ensures { deck_transcript (
         codes "format\npower\napdu BE1200100C000600060006000000090000\n")
         ≡ Ok (codes "1 formatted\n2 ready 0\n3 6A86\n") }
 {}
 
 /// Before the first power line, on a blank device, and after a stop no card answers.
 pub fn states_without_a_card()
-    ensures { played (
+    ensures { deck_transcript (
         codes "select A000000001\ndump A000000001\napdu 80\npower\napdu 80010000\n")
         ≡ Ok (codes "1 off\n2 off\n3 off\n4 unusable NoRoot 0\n5 off\n") }
 {}
 
 /// Session bytes stay from command to command, and are zero after a selection.
 pub fn session_bytes()
-    ensures { played (
+    ensures { deck_transcript (
         codes "format\npower\n" ++
         unit_line (codes "a") (codes "A000000008") (codes "BB020000 3B020000 46020000 060002") [] ++
         codes "load a 0 2\nselect A000000008\napdu 8001000002\napdu 8001000002\nselect A000000008\n" ++
@@ -123,7 +123,7 @@ pub fn session_bytes()
 
 /// A routine that is called, and returns with its result.
 pub fn call_and_return()
-    ensures { played (
+    ensures { deck_transcript (
         codes "format\npower\n" ++
         unit_line (codes "a") (codes "A000000001") (codes "2105 1F000C 46010000 060001 3C01FFFB 7803 2F0101") [] ++
         codes "load a 0 0\nselect A000000001\napdu 8001000001\n")
@@ -132,7 +132,7 @@ pub fn call_and_return()
 
 /// The last byte of a segment is written, the one behind it is not.
 pub fn last_static_byte()
-    ensures { played (
+    ensures { deck_transcript (
         codes "format\npower\n" ++
         unit_line (codes "a") (codes "A000000001") (codes "39010001 04") [] ++
         unit_line (codes "b") (codes "A000000002") (codes "39020001 04") [] ++
@@ -144,7 +144,7 @@ pub fn last_static_byte()
 
 /// Each decoded instruction counts; the fetch past the budget abends.
 pub fn budgets()
-    ensures { played (
+    ensures { deck_transcript (
         codes "format\npower\n" ++
         unit_line (codes "a") (codes "A000000001") (codes "000004") [] ++
         codes "load a 0 0\nselect A000000001\nbudget 3\napdu 80010000\nbudget 2\napdu 80010000\n")
@@ -153,7 +153,7 @@ pub fn budgets()
 
 /// A branch to itself abends at every budget.
 pub fn endless()
-    ensures { played (
+    ensures { deck_transcript (
         codes "format\npower\n" ++
         unit_line (codes "a") (codes "A000000001") (codes "0FFE") [] ++
         codes "load a 0 0\nselect A000000001\nbudget 1\napdu 80010000\nbudget 100\napdu 80010000\n")
@@ -162,7 +162,7 @@ pub fn endless()
 
 /// A write before an abend stays.
 pub fn abend_after_a_write()
-    ensures { played (
+    ensures { deck_transcript (
         codes "format\npower\n" ++
         unit_line (codes "a") (codes "A000000001") (codes "69110000 30") [] ++
         codes "load a 1 0\nselect A000000001\napdu 80010000\ndump A000000001\n")
@@ -171,7 +171,7 @@ pub fn abend_after_a_write()
 
 /// An op with a tag that begins no instruction.
 pub fn undefined_tag()
-    ensures { played (
+    ensures { deck_transcript (
         codes "format\npower\n" ++
         unit_line (codes "a") (codes "A000000001") (codes "23") [] ++
         codes "load a 0 0\nselect A000000001\napdu 80010000\n")
@@ -180,7 +180,7 @@ pub fn undefined_tag()
 
 /// The public segment begins with the data of the command, and zeros behind them.
 pub fn public_bytes()
-    ensures { played (
+    ensures { deck_transcript (
         codes "format\npower\n" ++
         unit_line (codes "a") (codes "A000000001") (codes "060004") [] ++
         codes "load a 0 0\nselect A000000001\napdu 80010000041122334404\napdu 8001000004\n")
@@ -189,7 +189,7 @@ pub fn public_bytes()
 
 /// Commands in the extended form.
 pub fn extended_commands()
-    ensures { played (
+    ensures { deck_transcript (
         codes "format\npower\n" ++
         unit_line (codes "a") (codes "A000000001") (codes "060004") [] ++
         codes "load a 0 0\nselect A000000001\napdu 8001000000000211220004\napdu 8001000000000211220000\n" ++
@@ -199,7 +199,7 @@ pub fn extended_commands()
 
 /// More than 1,024 bytes of data are a wrong length.
 pub fn extended_command_too_long()
-    ensures { played (
+    ensures { deck_transcript (
         codes "format\npower\n" ++
         unit_line (codes "a") (codes "A000000001") (codes "060004") [] ++
         codes "load a 0 0\nselect A000000001\n" ++
@@ -231,7 +231,7 @@ pub fn extended_command_too_long()
 
 /// A reply of 1,024 bytes.
 pub fn longest_reply()
-    ensures { played (
+    ensures { deck_transcript (
         codes "format\npower\n" ++
         unit_line (codes "a") (codes "A000000001") (codes "060400") [] ++
         codes "load a 0 0\nselect A000000001\napdu 80010000000000\n")
@@ -263,7 +263,7 @@ pub fn longest_reply()
 
 /// A reply of more bytes.
 pub fn reply_too_long()
-    ensures { played (
+    ensures { deck_transcript (
         codes "format\npower\n" ++
         unit_line (codes "a") (codes "A000000001") (codes "060401") [] ++
         codes "load a 0 0\nselect A000000001\napdu 80010000\n")

@@ -1,11 +1,11 @@
-#![tactic(auto, unfolding(crate::specs::Played::played))]
+#![tactic(auto, unfolding(crate::specs::Played::deck_transcript))]
 
 ghost use Rattle.std.specs.Prelude.{◌≡◌, ◌++◌, [], codes, Ok};
-ghost use Rattle.mc_model_examples.specs.Played.{played, unit_line};
+ghost use Rattle.mc_model_examples.specs.Played.{deck_transcript, unit_line};
 
 /// A byte that is found at its place.
 pub fn lookup()
-    ensures { played (
+    ensures { deck_transcript (
         codes "format\npower\n" ++
         unit_line (codes "a") (codes "A000000001") (codes "210B 220000 2804 46010000 060001") (codes "030A0B0C") ++
         codes "load a 4 0\nselect A000000001\napdu 8001000001\n")
@@ -14,7 +14,7 @@ pub fn lookup()
 
 /// A word that is shifted left by two bits.
 pub fn shift_left()
-    ensures { played (
+    ensures { deck_transcript (
         codes "format\npower\n" ++
         unit_line (codes "a") (codes "A000000001") (codes "224001 2A020202 46020000 060002") [] ++
         codes "load a 0 0\nselect A000000001\napdu 8001000002\n")
@@ -23,7 +23,7 @@ pub fn shift_left()
 
 /// A primitive that finds no byte on the stack.
 pub fn check_case_without_a_byte()
-    ensures { played (
+    ensures { deck_transcript (
         codes "format\npower\n" ++
         unit_line (codes "a") (codes "A000000001") (codes "2801") [] ++
         codes "load a 0 0\nselect A000000001\napdu 80010000\n")
@@ -32,7 +32,7 @@ pub fn check_case_without_a_byte()
 
 /// A case that is none of the four.
 pub fn check_case_out_of_range()
-    ensures { played (
+    ensures { deck_transcript (
         codes "format\npower\n" ++
         unit_line (codes "a") (codes "A000000001") (codes "2105 2801") [] ++
         codes "load a 0 0\nselect A000000001\napdu 80010000\n")
@@ -41,7 +41,7 @@ pub fn check_case_out_of_range()
 
 /// A pair that is no primitive.
 pub fn no_primitive()
-    ensures { played (
+    ensures { deck_transcript (
         codes "format\npower\n" ++
         unit_line (codes "a") (codes "A000000001") (codes "28FF") [] ++
         codes "load a 0 0\nselect A000000001\napdu 80010000\n")
@@ -50,7 +50,7 @@ pub fn no_primitive()
 
 /// A block through DES.
 pub fn des()
-    ensures { played (
+    ensures { deck_transcript (
         codes "format\npower\n" ++
         unit_line (codes "a") (codes "A000000001") (codes "22C000 22C000 220000 290408 060008") (codes "133457799BBCDFF1") ++
         codes "load a 8 0\nselect A000000001\napdu 80010000080123456789ABCDEF08\n")
@@ -59,7 +59,7 @@ pub fn des()
 
 /// A message that is not of whole blocks.
 pub fn des_of_seven_bytes()
-    ensures { played (
+    ensures { deck_transcript (
         codes "format\npower\n" ++
         unit_line (codes "a") (codes "A000000001") (codes "22C000 22C000 220000 290407 060008") (codes "133457799BBCDFF1") ++
         codes "load a 8 0\nselect A000000001\napdu 80010000080123456789ABCDEF08\n")
@@ -68,7 +68,7 @@ pub fn des_of_seven_bytes()
 
 /// A block through AES.
 pub fn aes()
-    ensures { played (
+    ensures { deck_transcript (
         codes "format\npower\n" ++
         unit_line (codes "a") (codes "A000000001") (codes "22C000 22C000 220000 290A10 060010") (codes "000102030405060708090A0B0C0D0E0F") ++
         codes "load a 16 0\nselect A000000001\napdu 800100001000112233445566778899AABBCCDDEEFF10\n")
@@ -77,7 +77,7 @@ pub fn aes()
 
 /// A message that is not of whole blocks.
 pub fn aes_of_a_block_and_a_half()
-    ensures { played (
+    ensures { deck_transcript (
         codes "format\npower\n" ++
         unit_line (codes "a") (codes "A000000001") (codes "22C000 22C000 220000 290A18 060010") (codes "000102030405060708090A0B0C0D0E0F") ++
         codes "load a 16 0\nselect A000000001\napdu 800100001000112233445566778899AABBCCDDEEFF10\n")
@@ -86,7 +86,7 @@ pub fn aes_of_a_block_and_a_half()
 
 /// The digest of three bytes.
 pub fn sha1()
-    ensures { played (
+    ensures { deck_transcript (
         codes "format\npower\n" ++
         unit_line (codes "a") (codes "A000000001") (codes "220003 22C000 22C000 2809 060014") [] ++
         codes "load a 0 0\nselect A000000001\napdu 800100000361626314\n")

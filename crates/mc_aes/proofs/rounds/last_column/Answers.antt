@@ -1,6 +1,6 @@
 use Rattle.std.proofs.Common.{◌≡◌, ap, ◌∙◌}
 use Rattle.mc_model_machine.specs.Aes.{sub}
-use Rattle.mc_aes.proofs.StateLemmas.{word-xor-of}
+use Rattle.mc_aes.proofs.StateLemmas.{word_xor_of}
 use Rattle.mc_aes.proofs.rounds.last_column.Goals as goal
 
 pub returns : goal.returns
@@ -9,4 +9,4 @@ returns c =
     let e1 : c.substitute-2.result ≡ sub _ = c.substitute-2.ensures ∙ ap sub c.byte1.ensures in
     let e2 : c.substitute-3.result ≡ sub _ = c.substitute-3.ensures ∙ ap sub c.byte2.ensures in
     let e3 : c.substitute-4.result ≡ sub _ = c.substitute-4.ensures ∙ ap sub c.byte3.ensures in
-    rw (← e0, ← e1, ← e2, ← e3) (word-xor-of c.joined-substitutes.result c.args.key _ c.joined-substitutes.ensures)
+    rw (← e0, ← e1, ← e2, ← e3) (word_xor_of c.joined-substitutes.result c.args.key _ c.joined-substitutes.ensures)

@@ -1,5 +1,5 @@
-use Rattle.mc_aes.proofs.StateLemmas.{state-added}
+use Rattle.mc_aes.proofs.StateLemmas.{state_added}
 use Rattle.mc_aes.proofs.state.add.Goals as goal
 
 pub returns : goal.returns
-returns c = state-added c.args.s c.args.key
+returns c = state_added c.args.s c.args.key

@@ -1,7 +1,7 @@
 use Rattle.std.proofs.Common.{ap, sym, ◌∙◌, arith}
 use Rattle.std.specs.Prelude.{option_map}
 use Rattle.mc_model_machine.specs.Text.{first_cut, is_blank, ok_as}
-use Rattle.mc_model_machine.specs.Assembly.{worded}
+use Rattle.mc_model_machine.specs.Assembly.{item_of_word}
 use Rattle.mc_asm.specs.Items.{item_of, texts}
 use Rattle.mc_asm.specs.Forms.{form_of}
 use Rattle.mc_asm.proofs.LineLemmas.{word_then, nonempty}
@@ -13,4 +13,4 @@ returns-clause-value c =
     (nonempty c.cut_blank.result.0.now (grind arith))
     (sym c.form_named.ensures.value ∙ ap (option_map form_of) c.in-Some.is)
     c.operands.ensures
-    (c.worded.ensures.value ∙ ap (λ l. worded (form_of c.in-Some.form) (texts l)) c.as_slice.ensures.value)
+    (c.worded.ensures.value ∙ ap (λ l. item_of_word (form_of c.in-Some.form) (texts l)) c.as_slice.ensures.value)

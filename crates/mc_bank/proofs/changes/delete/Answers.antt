@@ -1,5 +1,5 @@
 use Rattle.std.proofs.Common.{ap, subst, sym, ◌<◌, ℕ, slice_set}
-use Rattle.mc_bank.specs.Memory.{freed}
+use Rattle.mc_bank.specs.Memory.{free_entry}
 use Rattle.mc_bank.specs.Left.{DeleteLeft}
 use Rattle.mc_bank.proofs.ShownLemmas.{place_is_within, slot_entry}
 use Rattle.mc_bank.proofs.LeftLemmas.{delete_left}
@@ -11,7 +11,7 @@ index_mut-requires c = subst (λ (n : ℕ). c.index.result < n) (sym c.check_len
 pub returns : goal.returns
 returns c =
     record {
-      left = subst (λ (k : ℕ). DeleteLeft c.args.entries.now.items c.args.slot (slice_set c.args.entries.now.items k (freed c.index_mut.result.now))) (sym c.index.ensures)
-          (delete_left c.args.entries.now.items c.args.slot (freed c.index_mut.result.now) c.requires.memory c.requires.there
-          (ap freed (slot_entry c.args.entries.now.items c.args.slot c.index.result c.index_mut.result.now c.requires.there c.index.ensures c.index_mut.ensures.value)));
+      left = subst (λ (k : ℕ). DeleteLeft c.args.entries.now.items c.args.slot (slice_set c.args.entries.now.items k (free_entry c.index_mut.result.now))) (sym c.index.ensures)
+          (delete_left c.args.entries.now.items c.args.slot (free_entry c.index_mut.result.now) c.requires.memory c.requires.there
+          (ap free_entry (slot_entry c.args.entries.now.items c.args.slot c.index.result c.index_mut.result.now c.requires.there c.index.ensures c.index_mut.ensures.value)));
     }

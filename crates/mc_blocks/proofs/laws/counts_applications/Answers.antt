@@ -1,5 +1,5 @@
-use Rattle.mc_blocks.proofs.Applications.{few-applications}
+use Rattle.mc_blocks.proofs.Applications.{few_applications}
 use Rattle.mc_blocks.proofs.laws.counts_applications.Goals as goal
 
 pub returns : goal.returns
-returns c = few-applications
+returns c = few_applications

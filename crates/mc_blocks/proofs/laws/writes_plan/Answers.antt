@@ -1,5 +1,5 @@
-use Rattle.mc_blocks.proofs.Outcome.{written-plan}
+use Rattle.mc_blocks.proofs.Outcome.{written_plan}
 use Rattle.mc_blocks.proofs.laws.writes_plan.Goals as goal
 
 pub returns : goal.returns
-returns c = written-plan
+returns c = written_plan

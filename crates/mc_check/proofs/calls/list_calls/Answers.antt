@@ -3,7 +3,7 @@ use Rattle.std.specs.Prelude.{slice_get, option_map}
 use Rattle.std.proofs.lemmas.Option.{slice_get-get_or, same_Some}
 use Rattle.mc_check.specs.declared.calls.Call.{Call}
 use Rattle.mc_check.specs.declared.table.Entry.{Entry}
-use Rattle.mc_model_machine.specs.Code.{decoded}
+use Rattle.mc_model_machine.specs.Code.{instruction_at}
 use Rattle.mc_check.specs.CallList.{call_of, target_of}
 use Rattle.mc_check.proofs.CallList.{ListsUpTo, lists_same, lists_more, are_calls}
 use Rattle.mc_check.proofs.calls.list_calls.Goals as goal
@@ -24,7 +24,7 @@ loop-place-preserved c =
       | in-Some+in_default-call_at w ↦
           let now = ap (λ (v : Vec Call Global). v.items) w.calls-is in
           let same : (e : Entry) → slice_get table n ≡ Some (Some e) → w.in-Some.entry ≡ e = λ e there. same_Some w.in-Some.entry e (sym w.in-Some.is ∙ same_Some _ (Some e) (sym at ∙ there)) in
-          subst (λ (k : List Call). ListsUpTo code table (n + 1) k) (sym now) (lists_same code table n l c.loop-place.invariant (λ e there. subst (λ (x : Entry). option_map (call_of n x) (target_of (decoded code n)) ≡ None) (same e there) (sym w.call_at.ensures.call ∙ w.in_default-call_at.is)))
+          subst (λ (k : List Call). ListsUpTo code table (n + 1) k) (sym now) (lists_same code table n l c.loop-place.invariant (λ e there. subst (λ (x : Entry). option_map (call_of n x) (target_of (instruction_at code n)) ≡ None) (same e there) (sym w.call_at.ensures.call ∙ w.in_default-call_at.is)))
       | in_default w ↦
           let now = ap (λ (v : Vec Call Global). v.items) w.calls-is in
           subst (λ (k : List Call). ListsUpTo code table (n + 1) k) (sym now) (lists_same code table n l c.loop-place.invariant (λ e there. absurd (w.in_default.not-Some e (same_Some _ (Some e) (sym at ∙ there)))))

@@ -1,6 +1,6 @@
 use Rattle.std.proofs.Common.{◌≡◌, ◌+◌, arith, ℕ, List, Bor, [], false, Ok, sym, ap, subst, ◌∙◌}
 use Rattle.std.specs.Prelude.{option_map}
-use Rattle.mc_model_machine.specs.Text.{lines, numbered}
+use Rattle.mc_model_machine.specs.Text.{lines, with_numbers}
 use Rattle.mc_model_play.specs.DeckGrammar.{Context, Mode, Between, deck_lines, deck_read}
 use Rattle.mc_family.proofs.DeckBytes.{read_lines_law}
 use Rattle.mc_deck.specs.Readers.{lines_of, mode_of}
@@ -18,7 +18,7 @@ loop-line-init c =
 pub loop-line-preserved : goal.loop-line-preserved
 loop-line-preserved c =
     let leads = c.loop-line.invariant.leads in
-    let whole = deck_lines (Between (record { units = []; powered = false })) (numbered 1 (lines c.args.text.now)) in
+    let whole = deck_lines (Between (record { units = []; powered = false })) (with_numbers 1 (lines c.args.text.now)) in
     let n = c.loop-line.number + 1 in
     let next = ap (option_map (λ (l : Bor (List ℕ) × Bor (List ℕ)). (l.0.now, l.1.now))) (sym c.in-Some.is) ∙ c.next_line.ensures.line in
     let turned = c.in-Ok.ensures.turned leads.0 leads.1 in
@@ -32,7 +32,7 @@ pub returns-in-Err-clause-refused : goal.returns-in-Err-clause-refused
 unfolding deck_read
 returns-in-Err-clause-refused c =
     let leads = c.loop-line.invariant.leads in
-    let whole = deck_lines (Between (record { units = []; powered = false })) (numbered 1 (lines c.args.text.now)) in
+    let whole = deck_lines (Between (record { units = []; powered = false })) (with_numbers 1 (lines c.args.text.now)) in
     let next = ap (option_map (λ (l : Bor (List ℕ) × Bor (List ℕ)). (l.0.now, l.1.now))) (sym c.in-Some.is) ∙ c.next_line.ensures.line in
     line_refused (lines_of c.loop-line.reader) (mode_of c.loop-line.section leads.0) (c.loop-line.number + 1) c.loop-line.rest.now c.in-Some.line.now c.in-Some.behind.now whole c.in-Err.refusal next (c.in-Err.ensures.turned leads.0 leads.1) leads.2
 
@@ -40,7 +40,7 @@ pub deck_of-requires-clause-bytes : goal.deck_of-requires-clause-bytes
 unfolding deck_read
 deck_of-requires-clause-bytes c =
     let leads = c.loop-line.invariant.leads in
-    let whole = deck_lines (Between (record { units = []; powered = false })) (numbered 1 (lines c.args.text.now)) in
+    let whole = deck_lines (Between (record { units = []; powered = false })) (with_numbers 1 (lines c.args.text.now)) in
     let next = ap (option_map (λ (l : Bor (List ℕ) × Bor (List ℕ)). (l.0.now, l.1.now))) (sym c.in_default.is) ∙ c.next_line.ensures.line in
     read_lines_law c.args.text.now (lines_of c.loop-line.reader)
     (lines_done (lines_of c.loop-line.reader) (mode_of c.loop-line.section leads.0) (c.loop-line.number + 1) c.loop-line.rest.now whole next leads.2 ∙ ended_none (lines_of c.loop-line.reader) leads.0 c.loop-line.section c.in-None.is)
@@ -49,7 +49,7 @@ pub returns-in-None-clause-lines : goal.returns-in-None-clause-lines
 unfolding deck_read
 returns-in-None-clause-lines c =
     let leads = c.loop-line.invariant.leads in
-    let whole = deck_lines (Between (record { units = []; powered = false })) (numbered 1 (lines c.args.text.now)) in
+    let whole = deck_lines (Between (record { units = []; powered = false })) (with_numbers 1 (lines c.args.text.now)) in
     let next = ap (option_map (λ (l : Bor (List ℕ) × Bor (List ℕ)). (l.0.now, l.1.now))) (sym c.in_default.is) ∙ c.next_line.ensures.line in
     lines_done (lines_of c.loop-line.reader) (mode_of c.loop-line.section leads.0) (c.loop-line.number + 1) c.loop-line.rest.now whole next leads.2
     ∙ ended_none (lines_of c.loop-line.reader) leads.0 c.loop-line.section c.in-None.is ∙ ap Ok (sym c.deck_of.ensures)
@@ -58,7 +58,7 @@ pub returns-in-Some-section-clause-refused : goal.returns-in-Some-section-clause
 unfolding deck_read
 returns-in-Some-section-clause-refused c =
     let leads = c.loop-line.invariant.leads in
-    let whole = deck_lines (Between (record { units = []; powered = false })) (numbered 1 (lines c.args.text.now)) in
+    let whole = deck_lines (Between (record { units = []; powered = false })) (with_numbers 1 (lines c.args.text.now)) in
     let next = ap (option_map (λ (l : Bor (List ℕ) × Bor (List ℕ)). (l.0.now, l.1.now))) (sym c.in_default.is) ∙ c.next_line.ensures.line in
     lines_done (lines_of c.loop-line.reader) (mode_of c.loop-line.section leads.0) (c.loop-line.number + 1) c.loop-line.rest.now whole next leads.2
     ∙ ended_some (lines_of c.loop-line.reader) leads.0 c.loop-line.section c.in-Some-section.section c.in-Some-section.is

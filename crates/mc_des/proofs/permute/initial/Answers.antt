@@ -1,6 +1,6 @@
 use Rattle.std.proofs.Common.{◌≡◌, ◌-◌, ◌*◌, arith, refl}
 use Rattle.mc_model_machine.specs.Des.{bits, pick, initial}
-use Rattle.mc_des.proofs.BitsLemmas.{fours_step, fours_all, bits-xor}
+use Rattle.mc_des.proofs.BitsLemmas.{fours_step, fours_all, bits_xor}
 use Rattle.mc_des.proofs.permute.initial.Goals as goal
 
 pub loop-i-init : goal.loop-i-init
@@ -10,8 +10,8 @@ loop-i-init c = refl
 pub loop-i-preserved : goal.loop-i-preserved
 loop-i-preserved c =
     let place : 60 - 4 * c.loop-i.i ≡ 4 * (16 - 1 - c.loop-i.i) = omega arith in
-    fours_step (bits 64) (bits-xor 64) initial 16 c.loop-i.i c.args.block _ _ _ c.loop-i-test.true c.loop-i.invariant
+    fours_step (bits 64) (bits_xor 64) initial 16 c.loop-i.i c.args.block _ _ _ c.loop-i-test.true c.loop-i.invariant
     (rw place at c.four_above.ensures) c.initial_of-word.ensures
 
 pub returns : goal.returns
-returns c = fours_all (bits 64) (bits-xor 64) initial 16 c.loop-i.i c.args.block _ c.loop-i-test.false (omega arith) c.loop-i.invariant
+returns c = fours_all (bits 64) (bits_xor 64) initial 16 c.loop-i.i c.args.block _ c.loop-i-test.false (omega arith) c.loop-i.invariant

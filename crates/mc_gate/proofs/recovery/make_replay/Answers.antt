@@ -1,7 +1,7 @@
 use Rattle.std.proofs.Common.{◌≡◌, ℕ, List, true, length, subst, sym, ◌∙◌, ap}
 use Rattle.std.specs.List.{AllByRecursion}
 use Rattle.mc_model_device.specs.Image.{within}
-use Rattle.mc_model_device.proofs.LookLemmas.{GoodPending, good-pending}
+use Rattle.mc_model_device.proofs.LookLemmas.{GoodPending, good_pending}
 use Rattle.mc_gate.specs.Layouts.{journal_of}
 use Rattle.mc_gate.specs.Look.{look_of}
 use Rattle.mc_gate.specs.declared.look.Found.{Found}
@@ -11,5 +11,5 @@ pub replay_all-requires-clause-targets : goal.replay_all-requires-clause-targets
 replay_all-requires-clause-targets g c =
     let j = journal_of c.args.layout in
     let m = (g.N.Nvm.state c.args.device.now).words in
-    let good : GoodPending j j m c.in-Pending.list.items = good-pending j j m c.in-Pending.list.items (sym c.requires.found ∙ ap (λ (f : Found). look_of j f) c.in-Pending.is) in
+    let good : GoodPending j j m c.in-Pending.list.items = good_pending j j m c.in-Pending.list.items (sym c.requires.found ∙ ap (λ (f : Found). look_of j f) c.in-Pending.is) in
     subst (λ (l : List (ℕ × List ℕ)). AllByRecursion {X = ℕ × List ℕ} (λ p. within (length m) p.0 ≡ true) l) (sym c.as_slice.ensures.value) good.all

@@ -4,7 +4,7 @@ use Rattle.std.proofs.lemmas.Result.{err_from_is_err_and}
 use Rattle.mc_model_device.specs.Device.{Makes}
 use Rattle.mc_model_device.specs.Image.{within}
 use Rattle.mc_model_device.specs.Stopped.{replay}
-use Rattle.mc_model_device.proofs.GeometryLemmas.{targets-within}
+use Rattle.mc_model_device.proofs.GeometryLemmas.{targets_within}
 use Rattle.mc_gate.specs.Layouts.{journal_of}
 use Rattle.mc_gate.specs.declared.layouts.Layout.{Layout}
 use Rattle.mc_gate.proofs.WriteLemmas.{opening_writes, stops_in_entries, stops_at_gate, replays}
@@ -28,7 +28,7 @@ replay_all-requires-clause-targets g c =
     let same : length (g.N.Nvm.state c.open_gate.new.device).words ≡ length (g.N.Nvm.state c.args.device.now).words =
     c.in_ok-open_gate.ensures.size ∙ c.in_ok-put_entries.ensures.size in
     subst (λ (n : ℕ). AllByRecursion {X = ℕ × List ℕ} (λ p. within n p.0 ≡ true) c.args.list.now) (sym same)
-    (targets-within (length (g.N.Nvm.state c.args.device.now).words) c.args.list.now c.requires.list)
+    (targets_within (length (g.N.Nvm.state c.args.device.now).words) c.args.list.now c.requires.list)
 
 pub returns-clause-makes : goal.returns-clause-makes
 returns-clause-makes g c =

@@ -1,7 +1,7 @@
 -- That the result holds at the place follows from its being the computed one, since the code consists of bytes.
 use Rattle.std.proofs.Common.{arith, ◌≡◌, ℕ, ◌+◌, ◌-◌, ◌≤◌, sym, ◌∙◌, subst, length, take, drop, get_or, length-take, Result, Ok}
 use Rattle.std.proofs.lemmas.Grind.{common_steps}
-use Rattle.mc_model_machine.specs.Code.{decoded, form, DecodesTo}
+use Rattle.mc_model_machine.specs.Code.{instruction_at, form, DecodesTo}
 use Rattle.mc_model_machine.specs.declared.instruction.DecodeFault.{DecodeFault}
 use Rattle.mc_model_machine.specs.declared.instruction.Ins.{Ins}
 use Rattle.mc_isa.proofs.PlaceLemmas.{decoded_stands}
@@ -18,11 +18,11 @@ overflow_add-result c =
 
 pub returns-in_err-ins-clause-stands : goal.returns-in_err-ins-clause-stands
 returns-in_err-ins-clause-stands c =
-    let e : decoded c.args.code.now c.args.at ≡ c.from_residual.result = grind (arith, common_steps) in
+    let e : instruction_at c.args.code.now c.args.at ≡ c.from_residual.result = grind (arith, common_steps) in
     subst (λ (r : Result (Ins × ℕ) DecodeFault). DecodesTo c.args.code.now c.args.at r) e (decoded_stands c.args.code.now c.args.at (all_bytes c.args.code.now c.type_inv.code))
 
 pub returns-clause-stands : goal.returns-clause-stands
 returns-clause-stands c =
     let answer : Result (Ins × ℕ) DecodeFault = Ok (c.in_ok-ins.ins, c.args.at + c.in_ok-ins.size) in
-    let e : decoded c.args.code.now c.args.at ≡ answer = grind (arith, common_steps) in
+    let e : instruction_at c.args.code.now c.args.at ≡ answer = grind (arith, common_steps) in
     subst (λ (r : Result (Ins × ℕ) DecodeFault). DecodesTo c.args.code.now c.args.at r) e (decoded_stands c.args.code.now c.args.at (all_bytes c.args.code.now c.type_inv.code))

@@ -1,8 +1,8 @@
 use Rattle.std.proofs.Common.{refl}
 use Rattle.std.specs.Fmt.{digits}
-use Rattle.mc_model_machine.specs.Listing.{listed}
+use Rattle.mc_model_machine.specs.Listing.{listing_of_code}
 use Rattle.mc_isa.proofs.worked.listings.Goals as goal
 
 pub returns : goal.returns
-unfolding listed digits
+unfolding listing_of_code digits
 returns c = record { counter = refl; empty = refl; undefined = refl; past = refl }

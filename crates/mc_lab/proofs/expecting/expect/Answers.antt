@@ -9,15 +9,15 @@ use Rattle.mc_model_play.specs.Patterns.{holds}
 use Rattle.mc_lab.specs.Rising.{last_of}
 use Rattle.mc_lab.specs.Expectations.{is_met, result_above, steady_steps, step_text}
 use Rattle.mc_lab.specs.Judged.{done_of, expectation_of}
-use Rattle.mc_lab.proofs.TrialLemmas.{above-start, above-from, above-on}
-use Rattle.mc_lab.proofs.StageLemmas.{above-is, staged-start}
-use Rattle.mc_lab.proofs.ExpectLemmas.{count-left, expectation-at, expectation-none, fails-done, numbered-length, one-more, text-done, told-fails, told-on, told-start}
+use Rattle.mc_lab.proofs.TrialLemmas.{above_start, above_from, above_on}
+use Rattle.mc_lab.proofs.StageLemmas.{above_is, staged_start}
+use Rattle.mc_lab.proofs.ExpectLemmas.{count_left, expectation_at, expectation_none, fails_done, numbered_length, one_more, text_done, told_fails, told_on, told_start}
 use Rattle.mc_lab.proofs.expecting.expect.Goals as goal
 
 -- the expectation at a place, and those behind it
 next-at : (given es : List NumberedLine) (i : ℕ) → given ≡ es → i + 1 ≤ length given → drop i (numbered_lines es) ≡ expectation_of (slice_index_or given i no_line) ∷ drop (i + 1) (numbered_lines es)
 next-at given es i is h =
-    ap (λ (v : List NumberedLine). drop i (numbered_lines v)) (sym is) ∙ expectation-at given i no_line (omega (arith, h))
+    ap (λ (v : List NumberedLine). drop i (numbered_lines v)) (sym is) ∙ expectation_at given i no_line (omega (arith, h))
     ∙ ap (λ (v : List NumberedLine). expectation_of (slice_index_or given i no_line) ∷ drop (i + 1) (numbered_lines v)) is
 
 pub loop-expectation-init : goal.loop-expectation-init
@@ -26,11 +26,11 @@ loop-expectation-init g c =
     let es = numbered_lines trial.expectations.items in
     let whole = steady_steps (g.N.Nvm.state c.args.device).words trial.deck in
     record {
-      above = above-start trial.deck es c.requires.rising.expected;
-      staged = staged-start g.N.Nvm.state g.N.Bench.bench trial.deck c.args.device c.new-player.result c.new-text.result.items c.new-player.ensures.at c.new-player.ensures.device c.requires.steady c.new-text.ensures;
+      above = above_start trial.deck es c.requires.rising.expected;
+      staged = staged_start g.N.Nvm.state g.N.Bench.bench trial.deck c.args.device c.new-player.result c.new-text.result.items c.new-player.ensures.at c.new-player.ensures.device c.requires.steady c.new-text.ensures;
       left = zero-add _;
       few = omega arith;
-      told = λ r b h. puts_as _ _ r (told-start whole es) h;
+      told = λ r b h. puts_as _ _ r (told_start whole es) h;
     }
 
 pub count_above-above-requires : goal.count_above-above-requires
@@ -39,7 +39,7 @@ count_above-above-requires g c =
     let es = numbered_lines c.args.trial.now.expectations.items in
     let i = c.loop-expectation.expectation-index in
     let next = next-at given c.args.trial.now.expectations.items i c.as_slice-expectations.ensures.value (omega (arith, c.loop-expectation-test.true)) in
-    above-from c.args.trial.now.deck c.loop-expectation.count (drop i es) (expectation_of (slice_index_or given i no_line)) (drop (i + 1) es) next c.loop-expectation.invariant.above
+    above_from c.args.trial.now.deck c.loop-expectation.count (drop i es) (expectation_of (slice_index_or given i no_line)) (drop (i + 1) es) next c.loop-expectation.invariant.above
 
 pub play_lines-requires-clause-order : goal.play_lines-requires-clause-order
 play_lines-requires-clause-order g c =
@@ -47,7 +47,7 @@ play_lines-requires-clause-order g c =
     let es = numbered_lines c.args.trial.now.expectations.items in
     let i = c.loop-expectation.expectation-index in
     let next = next-at given c.args.trial.now.expectations.items i c.as_slice-expectations.ensures.value (omega (arith, c.loop-expectation-test.true)) in
-    let from = above-from c.args.trial.now.deck c.loop-expectation.count (drop i es) (expectation_of (slice_index_or given i no_line)) (drop (i + 1) es) next c.loop-expectation.invariant.above in
+    let from = above_from c.args.trial.now.deck c.loop-expectation.count (drop i es) (expectation_of (slice_index_or given i no_line)) (drop (i + 1) es) next c.loop-expectation.invariant.above in
     omega (arith, from, c.count_above-above.ensures.count)
 
 pub returns-in_err-held-clause-told : goal.returns-in_err-held-clause-told
@@ -63,11 +63,11 @@ returns-in_err-held-clause-told g c =
     let inv = c.loop-expectation.invariant in
     let staged = c.play_lines.ensures.staged whole inv.staged in
     let is : c.as_slice.result.now ≡ result_above whole e.0 =
-    c.as_slice.ensures.value ∙ staged.last ∙ ap (λ k. step_text (last_of k whole)) c.count_above-above.ensures.count ∙ sym (above-is (start words) e.0 trial.deck c.requires.rising.lines) in
+    c.as_slice.ensures.value ∙ staged.last ∙ ap (λ k. step_text (last_of k whole)) c.count_above-above.ensures.count ∙ sym (above_is (start words) e.0 trial.deck c.requires.rising.lines) in
     let x = sunk_in g.T.Sink.taken g.T.Sink.faults c.loop-expectation.out in
     let y = sunk_in g.T.Sink.taken g.T.Sink.faults c.judge.new.out in
     inv.told (done_of c.from_residual.result) y
-    (fails-done c.from_residual.result c.from_residual.ensures.0 (told-fails whole (drop i es) e (drop (i + 1) es) es c.as_slice.result.now x y next is c.in_err-held.ensures.told))
+    (fails_done c.from_residual.result c.from_residual.ensures.0 (told_fails whole (drop i es) e (drop (i + 1) es) es c.as_slice.result.now x y next is c.in_err-held.ensures.told))
 
 pub loop-expectation-preserved : goal.loop-expectation-preserved
 loop-expectation-preserved g c =
@@ -82,18 +82,18 @@ loop-expectation-preserved g c =
     let inv = c.loop-expectation.invariant in
     let staged = c.play_lines.ensures.staged whole inv.staged in
     let is : c.as_slice.result.now ≡ result_above whole e.0 =
-    c.as_slice.ensures.value ∙ staged.last ∙ ap (λ k. step_text (last_of k whole)) c.count_above-above.ensures.count ∙ sym (above-is (start words) e.0 trial.deck c.requires.rising.lines) in
+    c.as_slice.ensures.value ∙ staged.last ∙ ap (λ k. step_text (last_of k whole)) c.count_above-above.ensures.count ∙ sym (above_is (start words) e.0 trial.deck c.requires.rising.lines) in
     let held = c.in_ok-held.held in
     let met : held ≡ is_met whole e = c.in_ok-held.ensures.value ∙ ap (holds e.1) is in
     let x = sunk_in g.T.Sink.taken g.T.Sink.faults c.loop-expectation.out in
     let y = sunk_in g.T.Sink.taken g.T.Sink.faults c.judge.new.out in
-    let count = count-left whole (drop i es) e (drop (i + 1) es) held next met in
+    let count = count_left whole (drop i es) e (drop (i + 1) es) held next met in
     record {
-      above = above-on trial.deck c.loop-expectation.count c.count_above-above.result (drop i es) e (drop (i + 1) es) next c.count_above-above.ensures.count inv.above;
+      above = above_on trial.deck c.loop-expectation.count c.count_above-above.result (drop i es) e (drop (i + 1) es) next c.count_above-above.ensures.count inv.above;
       staged = staged;
       left = omega (arith, count, c.counted-failed.ensures, inv.left);
-      few = omega (arith, c.counted-failed.ensures, one-more held c.loop-expectation.failed i inv.few);
-      told = λ r b rest. inv.told r b (told-on whole (drop i es) e (drop (i + 1) es) es c.as_slice.result.now x y r b next is c.in_ok-held.ensures.told rest);
+      few = omega (arith, c.counted-failed.ensures, one_more held c.loop-expectation.failed i inv.few);
+      told = λ r b rest. inv.told r b (told_on whole (drop i es) e (drop (i + 1) es) es c.as_slice.result.now x y r b next is c.in_ok-held.ensures.told rest);
     }
 
 pub returns-clause-told : goal.returns-clause-told
@@ -105,9 +105,9 @@ returns-clause-told g c =
     let i = c.loop-expectation.expectation-index in
     let whole = steady_steps (g.N.Nvm.state c.args.device).words trial.deck in
     let all : length given ≤ i = search rules in
-    let none : drop i es ≡ [] = ap (λ (v : List NumberedLine). drop i (numbered_lines v)) (sym value) ∙ expectation-none given i all in
-    let len : length given ≡ length es = sym (numbered-length given) ∙ ap (λ (v : List NumberedLine). length (numbered_lines v)) value in
+    let none : drop i es ≡ [] = ap (λ (v : List NumberedLine). drop i (numbered_lines v)) (sym value) ∙ expectation_none given i all in
+    let len : length given ≡ length es = sym (numbered_length given) ∙ ap (λ (v : List NumberedLine). length (numbered_lines v)) value in
     let inv = c.loop-expectation.invariant in
     let x = sunk_in g.T.Sink.taken g.T.Sink.faults c.loop-expectation.out in
     let y = sunk_in g.T.Sink.taken g.T.Sink.faults c.put_counts.new.out in
-    inv.told (Ok tt) y (puts_as x y (Ok tt) (text-done whole (drop i es) es (length given) c.loop-expectation.failed none len inv.left) c.in_ok-put_counts.ensures)
+    inv.told (Ok tt) y (puts_as x y (Ok tt) (text_done whole (drop i es) es (length given) c.loop-expectation.failed none len inv.left) c.in_ok-put_counts.ensures)

@@ -1,5 +1,5 @@
-use Rattle.mc_lab.proofs.SweepLawLemmas.{each-between}
+use Rattle.mc_lab.proofs.SweepLawLemmas.{each_between}
 use Rattle.mc_lab.proofs.sweep_laws.between_two_changes.Goals as goal
 
 pub returns : goal.returns
-returns c = each-between
+returns c = each_between

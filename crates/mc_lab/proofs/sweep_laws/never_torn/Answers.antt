@@ -1,5 +1,5 @@
-use Rattle.mc_lab.proofs.SweepLawLemmas.{never-torn}
+use Rattle.mc_lab.proofs.SweepLawLemmas.{never_torn}
 use Rattle.mc_lab.proofs.sweep_laws.never_torn.Goals as goal
 
 pub returns : goal.returns
-returns c = never-torn
+returns c = never_torn

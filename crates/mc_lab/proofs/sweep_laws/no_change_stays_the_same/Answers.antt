@@ -1,5 +1,5 @@
-use Rattle.mc_lab.proofs.SweepLawLemmas.{each-stays}
+use Rattle.mc_lab.proofs.SweepLawLemmas.{each_stays}
 use Rattle.mc_lab.proofs.sweep_laws.no_change_stays_the_same.Goals as goal
 
 pub returns : goal.returns
-returns c = each-stays
+returns c = each_stays

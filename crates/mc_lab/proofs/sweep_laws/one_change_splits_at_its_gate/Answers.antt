@@ -1,5 +1,5 @@
-use Rattle.mc_lab.proofs.SweepLawLemmas.{each-splits}
+use Rattle.mc_lab.proofs.SweepLawLemmas.{each_splits}
 use Rattle.mc_lab.proofs.sweep_laws.one_change_splits_at_its_gate.Goals as goal
 
 pub returns : goal.returns
-returns c = each-splits
+returns c = each_splits

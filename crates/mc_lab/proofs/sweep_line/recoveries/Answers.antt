@@ -2,40 +2,40 @@ use Rattle.std.proofs.Common.{◌≡◌, ◌+◌, Bool, true, false, arith, rule
 use Rattle.mc_lab.specs.Sweeps.{is_same}
 use Rattle.mc_lab.specs.SweepBodies.{account_value}
 use Rattle.mc_lab.specs.declared.sweep_account.Account.{Account}
-use Rattle.mc_lab.proofs.SweepLoops.{hit-again, Recovering, recovering-none, recovering-more, recovered-missed, recovered-last}
+use Rattle.mc_lab.proofs.SweepLoops.{hit_again, Recovering, recovering_none, recovering_more, recovered_missed, recovered_last}
 use Rattle.mc_lab.proofs.sweep_line.recoveries.Goals as goal
 
 pub loop-made-init : goal.loop-made-init
-loop-made-init g c = record { recovering = recovering-none c.args.place.now c.args.k c.args.fill (account_value c.args.pair.now.first); first = refl; room = c.requires.room }
+loop-made-init g c = record { recovering = recovering_none c.args.place.now c.args.k c.args.fill (account_value c.args.pair.now.first); first = refl; room = c.requires.room }
 
 pub returns-then-not-tell-clause-same : goal.returns-then-not-tell-clause-same
 returns-then-not-tell-clause-same g c =
     let made = c.loop-made.made in
     let r = c.requires in
-    let test = c.tell.ensures.hit ∙ hit-again c.args.place.now r.open c.args.k c.args.fill (made + 1) r.low r.high r.shuts (omega arith) in
+    let test = c.tell.ensures.hit ∙ hit_again c.args.place.now r.open c.args.k c.args.fill (made + 1) r.low r.high r.shuts (omega arith) in
     let missed : c.tell.result ≡ false = search rules in
-    (recovered-missed c.args.place.now c.args.k c.args.fill (account_value c.args.pair.now.first) made c.loop-made.same c.tell.result c.loop-made.invariant.recovering test missed).same_as
+    (recovered_missed c.args.place.now c.args.k c.args.fill (account_value c.args.pair.now.first) made c.loop-made.same c.tell.result c.loop-made.invariant.recovering test missed).same_as
 
 pub returns-then-not-tell-clause-count : goal.returns-then-not-tell-clause-count
 returns-then-not-tell-clause-count g c =
     let made = c.loop-made.made in
     let r = c.requires in
-    let test = c.tell.ensures.hit ∙ hit-again c.args.place.now r.open c.args.k c.args.fill (made + 1) r.low r.high r.shuts (omega arith) in
+    let test = c.tell.ensures.hit ∙ hit_again c.args.place.now r.open c.args.k c.args.fill (made + 1) r.low r.high r.shuts (omega arith) in
     let missed : c.tell.result ≡ false = search rules in
-    (recovered-missed c.args.place.now c.args.k c.args.fill (account_value c.args.pair.now.first) made c.loop-made.same c.tell.result c.loop-made.invariant.recovering test missed).count
+    (recovered_missed c.args.place.now c.args.k c.args.fill (account_value c.args.pair.now.first) made c.loop-made.same c.tell.result c.loop-made.invariant.recovering test missed).count
 
 pub loop-made-preserved : goal.loop-made-preserved
 loop-made-preserved g c =
     let made = c.loop-made.made in
     let r = c.requires in
     let first = account_value c.args.pair.now.first in
-    let test = c.tell.ensures.hit ∙ hit-again c.args.place.now r.open c.args.k c.args.fill (made + 1) r.low r.high r.shuts (omega arith) in
+    let test = c.tell.ensures.hit ∙ hit_again c.args.place.now r.open c.args.k c.args.fill (made + 1) r.low r.high r.shuts (omega arith) in
     let hit : c.tell.result ≡ true = search rules in
     let same = c.is_same.ensures ∙ ap (λ (a : Account). is_same (account_value c.tell.new.into) (account_value a)) c.loop-made.invariant.first in
     record {
       recovering =
           subst (λ (b : Bool). Recovering c.args.place.now c.args.k c.args.fill first (made + 1) b) (sym c.both-same.ensures)
-          (recovering-more c.args.place.now c.args.k c.args.fill first (account_value c.tell.new.into) made c.loop-made.same c.is_same.result c.tell.result c.loop-made.invariant.recovering test hit c.tell.ensures.told same);
+          (recovering_more c.args.place.now c.args.k c.args.fill first (account_value c.tell.new.into) made c.loop-made.same c.is_same.result c.tell.result c.loop-made.invariant.recovering test hit c.tell.ensures.told same);
       first = c.loop-made.invariant.first;
       room = c.tell.ensures.room;
     }
@@ -43,9 +43,9 @@ loop-made-preserved g c =
 pub returns-clause-same : goal.returns-clause-same
 returns-clause-same g c =
     let last : c.loop-made.made ≡ 65535 = omega arith in
-    (recovered-last c.args.place.now c.args.k c.args.fill (account_value c.args.pair.now.first) c.loop-made.made c.loop-made.same c.loop-made.invariant.recovering last c.requires.few).same_as
+    (recovered_last c.args.place.now c.args.k c.args.fill (account_value c.args.pair.now.first) c.loop-made.made c.loop-made.same c.loop-made.invariant.recovering last c.requires.few).same_as
 
 pub returns-clause-count : goal.returns-clause-count
 returns-clause-count g c =
     let last : c.loop-made.made ≡ 65535 = omega arith in
-    sym last ∙ (recovered-last c.args.place.now c.args.k c.args.fill (account_value c.args.pair.now.first) c.loop-made.made c.loop-made.same c.loop-made.invariant.recovering last c.requires.few).count
+    sym last ∙ (recovered_last c.args.place.now c.args.k c.args.fill (account_value c.args.pair.now.first) c.loop-made.made c.loop-made.same c.loop-made.invariant.recovering last c.requires.few).count

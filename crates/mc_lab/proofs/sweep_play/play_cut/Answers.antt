@@ -1,13 +1,13 @@
 use Rattle.std.proofs.Common.{◌∙◌}
 use Rattle.mc_deck.specs.Lines.{line_of}
-use Rattle.mc_lab.proofs.SweepPlayers.{cut-on}
+use Rattle.mc_lab.proofs.SweepPlayers.{cut_on}
 use Rattle.mc_lab.proofs.sweep_play.play_cut.Goals as goal
 
 pub returns-clause-on : goal.returns-clause-on
 returns-clause-on g c =
     let a = c.play_line-armed in
     let b = c.play_line-answer in
-    cut-on g.N.Nvm.state g.N.Bench.bench c.args.player.now a.new.player b.new.player (line_of c.args.line.now) c.args.k c.args.fill a.result b.result c.is_off.result a.ensures.on b.ensures.on c.is_off.ensures
+    cut_on g.N.Nvm.state g.N.Bench.bench c.args.player.now a.new.player b.new.player (line_of c.args.line.now) c.args.k c.args.fill a.result b.result c.is_off.result a.ensures.on b.ensures.on c.is_off.ensures
 
 pub returns-clause-size : goal.returns-clause-size
 returns-clause-size g c = c.play_line-answer.ensures.size ∙ c.play_line-armed.ensures.size

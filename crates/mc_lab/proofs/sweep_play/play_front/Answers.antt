@@ -1,6 +1,6 @@
 use Rattle.std.proofs.Common.{length, ap, sym, subst, ◌∙◌}
 use Rattle.mc_deck.specs.Lines.{line_of}
-use Rattle.mc_lab.proofs.SweepPlayers.{front-start, front-on}
+use Rattle.mc_lab.proofs.SweepPlayers.{front_start, front_on}
 use Rattle.mc_lab.proofs.sweep_play.play_front.Goals as goal
 
 pub loop-i-init : goal.loop-i-init
@@ -8,7 +8,7 @@ loop-i-init g c =
     let p = c.new-player.result in
     let device = c.new-player.ensures.device in
     record {
-      at = front-start g.N.Nvm.state g.N.Bench.bench c.args.device p c.new-player.ensures.at device c.requires.steady c.requires.words c.args.deck.now;
+      at = front_start g.N.Nvm.state g.N.Bench.bench c.args.device p c.new-player.ensures.at device c.requires.steady c.requires.words c.args.deck.now;
       size = ap (λ (d : _). length (g.N.Nvm.state d).words) device;
       lent = subst (λ (d : _). g.N.Nvm.same c.args.device d) (sym device) (g.met.N.Nvm.itself c.args.device);
     }
@@ -22,7 +22,7 @@ loop-i-preserved g c =
     let l = c.play_line-answer in
     let i = c.loop-i.invariant in
     record {
-      at = front-on g.N.Nvm.state g.N.Bench.bench c.loop-i.player l.new.player c.args.deck.now c.loop-i.i line.0 (line_of line.1) l.result c.line-number.ensures.line l.ensures.on i.at;
+      at = front_on g.N.Nvm.state g.N.Bench.bench c.loop-i.player l.new.player c.args.deck.now c.loop-i.i line.0 (line_of line.1) l.result c.line-number.ensures.line l.ensures.on i.at;
       size = l.ensures.size ∙ i.size;
       lent = g.met.N.Nvm.onward _ _ _ i.lent l.ensures.lent;
     }

@@ -1,8 +1,8 @@
 use Rattle.std.proofs.Common.{◌≡◌, take}
-use Rattle.mc_model_play.specs.Play.{armed_in}
-use Rattle.mc_lab.specs.Sweeps.{is_unarmed, played}
+use Rattle.mc_model_play.specs.Play.{armed_stop_in}
+use Rattle.mc_lab.specs.Sweeps.{is_unarmed, state_on_blank}
 use Rattle.mc_lab.proofs.sweeping.is_free.Given as goal
 
 -- whether no stop is armed behind the lines so far
 abbrev pub invariant-loop-i : goal.invariant-loop-i
-invariant-loop-i l = l.free ≡ is_unarmed (armed_in (played (take l.i l.deck)))
+invariant-loop-i l = l.free ≡ is_unarmed (armed_stop_in (state_on_blank (take l.i l.deck)))

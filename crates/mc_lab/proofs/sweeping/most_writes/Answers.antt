@@ -1,5 +1,5 @@
 use Rattle.std.proofs.Common.{arith, rules}
-use Rattle.mc_lab.proofs.SweepDecks.{most-more}
+use Rattle.mc_lab.proofs.SweepDecks.{most_more}
 use Rattle.mc_lab.proofs.sweeping.most_writes.Goals as goal
 
 pub loop-at-init : goal.loop-at-init
@@ -8,6 +8,6 @@ loop-at-init g c = record { most = λ i lt is_open. absurd (omega (arith, lt)); 
 pub loop-at-preserved : goal.loop-at-preserved
 loop-at-preserved g c =
     record {
-      most = most-more c.args.deck.now c.loop-at.at c.loop-at.most c.in_ok-writes.writes _ c.loop-at.invariant.most c.in_ok-writes.ensures.writes (search rules) (search rules);
+      most = most_more c.args.deck.now c.loop-at.at c.loop-at.most c.in_ok-writes.writes _ c.loop-at.invariant.most c.in_ok-writes.ensures.writes (search rules) (search rules);
       room = c.writes_at.ensures.room;
     }

@@ -2,8 +2,8 @@ use Rattle.std.proofs.Common.{◌≤◌, ◌<◌, ◌+◌, ◌∙◌, List, ap, 
 use Rattle.mc_text.specs.Texts.{Sunk, sunk_in}
 use Rattle.mc_text.proofs.TextLemmas.{puts_as, puts_failed, writes_none}
 use Rattle.mc_lab.specs.Sweeps.{Swept, swept_texts}
-use Rattle.mc_lab.specs.SweepEnds.{left_from, AddsSums}
-use Rattle.mc_lab.proofs.SweepDecks.{adds-none, adds-on, left-none, left-step, swept_at, told-on, told-fails}
+use Rattle.mc_lab.specs.SweepEnds.{sweeps_from, AddsSums}
+use Rattle.mc_lab.proofs.SweepDecks.{adds_none, adds_on, left_none, left_step, swept_at, told_on, told_fails}
 use Rattle.mc_lab.proofs.sweeping.sweep_lines.Goals as goal
 
 pub loop-at-init : goal.loop-at-init
@@ -18,7 +18,7 @@ returns-in_err-sweep_at-clause-told g c =
     let a : Sunk = sunk_in g.T.Sink.taken g.T.Sink.faults c.loop-at.out in
     let b : Sunk = sunk_in g.T.Sink.taken g.T.Sink.faults c.sweep_at.new.out in
     let r = c.from_residual.result in
-    c.loop-at.invariant.told r b (puts_failed r c.from_residual.ensures.0 (told-fails (left_from names ls at) (swept_at names ls at) (left_from names ls (at + 1)) a b (left-step names ls at below) c.in_err-sweep_at.ensures.told))
+    c.loop-at.invariant.told r b (puts_failed r c.from_residual.ensures.0 (told_fails (sweeps_from names ls at) (swept_at names ls at) (sweeps_from names ls (at + 1)) a b (left_step names ls at below) c.in_err-sweep_at.ensures.told))
 
 pub loop-at-preserved : goal.loop-at-preserved
 loop-at-preserved g c =
@@ -26,13 +26,13 @@ loop-at-preserved g c =
     let names = c.args.names.now in
     let at = c.loop-at.at in
     let below : at < length ls = search rules in
-    let step = left-step names ls at below in
+    let step = left_step names ls at below in
     let a : Sunk = sunk_in g.T.Sink.taken g.T.Sink.faults c.loop-at.out in
     let b : Sunk = sunk_in g.T.Sink.taken g.T.Sink.faults c.sweep_at.new.out in
     let one = c.in_ok-sweep_at.ensures in
     record {
-      told = λ r d rest. c.loop-at.invariant.told r d (told-on (left_from names ls at) (swept_at names ls at) (left_from names ls (at + 1)) a b d r step one.told rest);
-      adds = λ d rest. c.loop-at.invariant.adds d (subst (λ (ss : List Swept). AddsSums c.loop-at.sums ss d) (sym step) (adds-on c.loop-at.sums c.sweep_at.new.sums d (swept_at names ls at) (left_from names ls (at + 1)) one.adds rest));
+      told = λ r d rest. c.loop-at.invariant.told r d (told_on (sweeps_from names ls at) (swept_at names ls at) (sweeps_from names ls (at + 1)) a b d r step one.told rest);
+      adds = λ d rest. c.loop-at.invariant.adds d (subst (λ (ss : List Swept). AddsSums c.loop-at.sums ss d) (sym step) (adds_on c.loop-at.sums c.sweep_at.new.sums d (swept_at names ls at) (sweeps_from names ls (at + 1)) one.adds rest));
       small = one.small;
       size = c.sweep_at.ensures.size ∙ c.loop-at.invariant.size;
       room = c.sweep_at.ensures.room;
@@ -45,7 +45,7 @@ returns-clause-told g c =
     let at = c.loop-at.at in
     let all : length ls ≤ at = search rules in
     let a : Sunk = sunk_in g.T.Sink.taken g.T.Sink.faults c.loop-at.out in
-    c.loop-at.invariant.told (Ok tt) a (puts_as a a (Ok tt) (ap swept_texts (left-none names ls at all)) (writes_none a))
+    c.loop-at.invariant.told (Ok tt) a (puts_as a a (Ok tt) (ap swept_texts (left_none names ls at all)) (writes_none a))
 
 pub returns-clause-adds : goal.returns-clause-adds
 returns-clause-adds g c =
@@ -53,4 +53,4 @@ returns-clause-adds g c =
     let names = c.args.names.now in
     let at = c.loop-at.at in
     let all : length ls ≤ at = search rules in
-    c.loop-at.invariant.adds c.loop-at.sums (adds-none c.loop-at.sums (left_from names ls at) (left-none names ls at all))
+    c.loop-at.invariant.adds c.loop-at.sums (adds_none c.loop-at.sums (sweeps_from names ls at) (left_none names ls at all))

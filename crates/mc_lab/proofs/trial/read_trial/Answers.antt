@@ -7,16 +7,16 @@ use Rattle.mc_lab.specs.Rising.{Rising}
 use Rattle.mc_lab.specs.declared.trial.TrialRefusal.{TrialRefusal}
 use Rattle.mc_lab.specs.Trials.{RefusesTrial}
 use Rattle.mc_lab.specs.Expectations.{expectations, first_unanswered, line_number, trial_read}
-use Rattle.mc_lab.proofs.ExpectationLemmas.{expectations-rise}
-use Rattle.mc_lab.proofs.RisingLemmas.{deck-rising}
-use Rattle.mc_lab.proofs.TrialLemmas.{read-trial, refused-deck}
+use Rattle.mc_lab.proofs.ExpectationLemmas.{expectations_rise}
+use Rattle.mc_lab.proofs.RisingLemmas.{deck_rising}
+use Rattle.mc_lab.proofs.TrialLemmas.{read_trial, refused_deck}
 use Rattle.mc_lab.proofs.trial.read_trial.Goals as goal
 
 pub returns-in-Err-clause-refused : goal.returns-in-Err-clause-refused
-returns-in-Err-clause-refused c = subst (λ (e : TrialRefusal). RefusesTrial (trial_read c.args.text.now) e) (sym c.refusal_of.ensures) (refused-deck c.args.text.now c.in-Err.refusal c.in-Err.ensures.refused)
+returns-in-Err-clause-refused c = subst (λ (e : TrialRefusal). RefusesTrial (trial_read c.args.text.now) e) (sym c.refusal_of.ensures) (refused_deck c.args.text.now c.in-Err.refusal c.in-Err.ensures.refused)
 
 pub first_unanswered-requires-clause-lines : goal.first_unanswered-requires-clause-lines
-first_unanswered-requires-clause-lines c = deck-rising c.args.text.now c.in-Ok.deck c.in-Ok.ensures.lines
+first_unanswered-requires-clause-lines c = deck_rising c.args.text.now c.in-Ok.deck c.in-Ok.ensures.lines
 
 -- the expectations of a text that is a deck
 found : (text : List ℕ) (ls : List (ℕ × DeckLine)) (es : List (ℕ × List ℕ)) → deck_read text ≡ Ok ls → OnOk (deck_read text) (es ≡ expectations text) → es ≡ expectations text
@@ -25,24 +25,24 @@ found text ls es deck h = IfOk-at_ok (λ (ls : List (ℕ × DeckLine)). es ≡ e
 pub first_unanswered-requires-clause-expectations : goal.first_unanswered-requires-clause-expectations
 first_unanswered-requires-clause-expectations c =
     let is = found c.args.text.now c.in-Ok.deck (numbered_lines c.in_ok-expectations.expectations.items) c.in-Ok.ensures.lines c.in_ok-expectations.ensures in
-    subst (λ (es : List (ℕ × List ℕ)). Rising line_number 1 es) (sym (ap numbered_lines c.as_slice.ensures.value ∙ is)) (expectations-rise c.args.text.now)
+    subst (λ (es : List (ℕ × List ℕ)). Rising line_number 1 es) (sym (ap numbered_lines c.as_slice.ensures.value ∙ is)) (expectations_rise c.args.text.now)
 
 pub returns-in-Some-clause-refused : goal.returns-in-Some-clause-refused
 returns-in-Some-clause-refused c =
     let es = numbered_lines c.as_slice.result.now in
     let is = found c.args.text.now c.in-Ok.deck (numbered_lines c.in_ok-expectations.expectations.items) c.in-Ok.ensures.lines c.in_ok-expectations.ensures in
-    read-trial c.args.text.now c.in-Ok.deck es (Some c.in-Some.number) (ap numbered_lines c.as_slice.ensures.value ∙ is) c.in-Ok.ensures.lines (sym c.in-Some.is ∙ c.first_unanswered.ensures)
+    read_trial c.args.text.now c.in-Ok.deck es (Some c.in-Some.number) (ap numbered_lines c.as_slice.ensures.value ∙ is) c.in-Ok.ensures.lines (sym c.in-Some.is ∙ c.first_unanswered.ensures)
 
 pub returns-clause-trial : goal.returns-clause-trial
 returns-clause-trial c =
     let es = numbered_lines c.in_ok-expectations.expectations.items in
     let same = ap numbered_lines c.as_slice.ensures.value in
-    read-trial c.args.text.now c.in-Ok.deck es None (found c.args.text.now c.in-Ok.deck es c.in-Ok.ensures.lines c.in_ok-expectations.ensures) c.in-Ok.ensures.lines (sym c.in-None.is ∙ c.first_unanswered.ensures ∙ ap (first_unanswered c.in-Ok.deck) same)
+    read_trial c.args.text.now c.in-Ok.deck es None (found c.args.text.now c.in-Ok.deck es c.in-Ok.ensures.lines c.in_ok-expectations.ensures) c.in-Ok.ensures.lines (sym c.in-None.is ∙ c.first_unanswered.ensures ∙ ap (first_unanswered c.in-Ok.deck) same)
 
 pub returns-clause-rising : goal.returns-clause-rising
 returns-clause-rising c =
     let is = found c.args.text.now c.in-Ok.deck (numbered_lines c.in_ok-expectations.expectations.items) c.in-Ok.ensures.lines c.in_ok-expectations.ensures in
     record {
-      lines = deck-rising c.args.text.now c.in-Ok.deck c.in-Ok.ensures.lines;
-      expected = subst (λ (es : List (ℕ × List ℕ)). Rising line_number 1 es) (sym is) (expectations-rise c.args.text.now);
+      lines = deck_rising c.args.text.now c.in-Ok.deck c.in-Ok.ensures.lines;
+      expected = subst (λ (es : List (ℕ × List ℕ)). Rising line_number 1 es) (sym is) (expectations_rise c.args.text.now);
     }

@@ -4,14 +4,14 @@ use Rattle.mc_model_machine.specs.declared.instruction.DecodeFault.{DecodeFault}
 use Rattle.mc_model_machine.specs.declared.instruction.DecodeFault.TheVariants.{Undefined, Past}
 use Rattle.mc_model_machine.specs.declared.machine.Abend.TheVariants.{A01, A02}
 use Rattle.mc_model_card.specs.Items.{Commit}
-use Rattle.mc_model_machine.specs.Code.{decoded}
+use Rattle.mc_model_machine.specs.Code.{instruction_at}
 use Rattle.mc_model_machine.specs.Primitives.{Around}
 use Rattle.mc_model_machine.specs.Row.{row}
-use Rattle.mc_model_machine.specs.Chain.{Acted, abends_at, around, stepped, row_turn, turn_of}
-use Rattle.mc_segs.specs.HeldFrames.{Held, shown, app_under}
+use Rattle.mc_model_machine.specs.Chain.{Acted, abends_at, around, frame_at, row_turn, turn_of}
+use Rattle.mc_segs.specs.HeldFrames.{Held, frame_on_bank, app_under}
 use Rattle.mc_segs.specs.Ends.{RowActs, scene}
 use Rattle.mc_model_device.specs.declared.device.Stop.{Stop}
-use Rattle.mc_machine.specs.Turns.{advanced, told_of}
+use Rattle.mc_machine.specs.Turns.{chain_at_next, step_of_frame}
 use Rattle.mc_machine.specs.Lone.{lone_chain, LoneDone}
 use Rattle.mc_machine.specs.declared.lone.Lone.{Lone}
 use Rattle.mc_machine.specs.declared.lone.Lone.TheVariants.{Ends}
@@ -33,11 +33,11 @@ returns-in-Err-Undefined-clause-done g c ch le left some r =
     let public = c.args.public.now in
     let case = c.args.case in
     let from = lone_chain old public case le left in
-    let exact : Err Undefined ≡ decoded (app_under (state b) (named b) old).code old.frame.at =
-    subst (λ (f : DecodeFault). Err f ≡ decoded (app_under (state b) (named b) old).code old.frame.at) c.in-Err-Undefined.field-0-is c.in-Err-Undefined.ensures.exact in
+    let exact : Err Undefined ≡ instruction_at (app_under (state b) (named b) old).code old.frame.at =
+    subst (λ (f : DecodeFault). Err f ≡ instruction_at (app_under (state b) (named b) old).code old.frame.at) c.in-Err-Undefined.field-0-is c.in-Err-Undefined.ensures.exact in
     subst (λ (t : Acted). LoneDone did state named b b from (lone_chain old public case le) ch t (Ok (Ends (end.Abend A01))) c.args.callee.now) (sym (turned did state named b from ch (Err Undefined) r some exact)) (
       left,
-      lone_abends did state named b b from from ch (abends_at ch None 0 A01) old None A01 (abends_done did state named b b from from ch None 0 A01 (told_of old None (Some (end.Abend A01))) r c.requires.going refl refl (omega arith) refl),
+      lone_abends did state named b b from from ch (abends_at ch None 0 A01) old None A01 (abends_done did state named b b from from ch None 0 A01 (step_of_frame old None (Some (end.Abend A01))) r c.requires.going refl refl (omega arith) refl),
     )
 
 pub returns-in-Err-Undefined-clause-ticks : goal.returns-in-Err-Undefined-clause-ticks
@@ -50,8 +50,8 @@ returns-in-Err-Undefined-clause-ticks g c ch le left some r =
     let public = c.args.public.now in
     let case = c.args.case in
     let from = lone_chain old public case le left in
-    let exact : Err Undefined ≡ decoded (app_under (state b) (named b) old).code old.frame.at =
-    subst (λ (f : DecodeFault). Err f ≡ decoded (app_under (state b) (named b) old).code old.frame.at) c.in-Err-Undefined.field-0-is c.in-Err-Undefined.ensures.exact in
+    let exact : Err Undefined ≡ instruction_at (app_under (state b) (named b) old).code old.frame.at =
+    subst (λ (f : DecodeFault). Err f ≡ instruction_at (app_under (state b) (named b) old).code old.frame.at) c.in-Err-Undefined.field-0-is c.in-Err-Undefined.ensures.exact in
     let none : (turn_of left ch).count ≡ 0 = ap (λ (t : Acted). t.count) (turned did state named b from ch (Err Undefined) r some exact) in
     omega (arith, none)
 
@@ -65,11 +65,11 @@ returns-in-Err-Past-clause-done g c ch le left some r =
     let public = c.args.public.now in
     let case = c.args.case in
     let from = lone_chain old public case le left in
-    let exact : Err Past ≡ decoded (app_under (state b) (named b) old).code old.frame.at =
-    subst (λ (f : DecodeFault). Err f ≡ decoded (app_under (state b) (named b) old).code old.frame.at) c.in-Err-Past.field-0-is c.in-Err-Past.ensures.exact in
+    let exact : Err Past ≡ instruction_at (app_under (state b) (named b) old).code old.frame.at =
+    subst (λ (f : DecodeFault). Err f ≡ instruction_at (app_under (state b) (named b) old).code old.frame.at) c.in-Err-Past.field-0-is c.in-Err-Past.ensures.exact in
     subst (λ (t : Acted). LoneDone did state named b b from (lone_chain old public case le) ch t (Ok (Ends (end.Abend A02))) c.args.callee.now) (sym (turned did state named b from ch (Err Past) r some exact)) (
       left,
-      lone_abends did state named b b from from ch (abends_at ch None 0 A02) old None A02 (abends_done did state named b b from from ch None 0 A02 (told_of old None (Some (end.Abend A02))) r c.requires.going refl refl (omega arith) refl),
+      lone_abends did state named b b from from ch (abends_at ch None 0 A02) old None A02 (abends_done did state named b b from from ch None 0 A02 (step_of_frame old None (Some (end.Abend A02))) r c.requires.going refl refl (omega arith) refl),
     )
 
 pub returns-in-Err-Past-clause-ticks : goal.returns-in-Err-Past-clause-ticks
@@ -82,8 +82,8 @@ returns-in-Err-Past-clause-ticks g c ch le left some r =
     let public = c.args.public.now in
     let case = c.args.case in
     let from = lone_chain old public case le left in
-    let exact : Err Past ≡ decoded (app_under (state b) (named b) old).code old.frame.at =
-    subst (λ (f : DecodeFault). Err f ≡ decoded (app_under (state b) (named b) old).code old.frame.at) c.in-Err-Past.field-0-is c.in-Err-Past.ensures.exact in
+    let exact : Err Past ≡ instruction_at (app_under (state b) (named b) old).code old.frame.at =
+    subst (λ (f : DecodeFault). Err f ≡ instruction_at (app_under (state b) (named b) old).code old.frame.at) c.in-Err-Past.field-0-is c.in-Err-Past.ensures.exact in
     let none : (turn_of left ch).count ≡ 0 = ap (λ (t : Acted). t.count) (turned did state named b from ch (Err Past) r some exact) in
     omega (arith, none)
 
@@ -106,16 +106,16 @@ returns-clause-done g c ch le left some r =
     let next = found.1 in
     let laws : BankLaws did state named =
     record { obeys = λ b n ws a e d. g.met.B.Bank.obeys b (Commit n ws) a e d; keeps = λ b n ws a e d k m is. g.met.B.Bank.keeps b (Commit n ws) a e d k m is tt } in
-    let exact : Ok found ≡ decoded (app_under (state b) (named b) old).code old.frame.at = c.in-Ok.ensures.exact in
+    let exact : Ok found ≡ instruction_at (app_under (state b) (named b) old).code old.frame.at = c.in-Ok.ensures.exact in
     let lone : Around = record { case = case; delegator = None } in
-    let x = row i (shown (state b) (named b) (advanced from next).running) public lone in
-    let y = row i (stepped ch.frame next) ch.public (around ch) in
+    let x = row i (frame_on_bank (state b) (named b) (chain_at_next from next).running) public lone in
+    let y = row i (frame_at ch.frame next) ch.public (around ch) in
     let same = row_related did state named b from ch next i r in
     let done = c.perform_lone.ensures.acts in
-    let acts : RowActs did state named (scene b e (advanced from next).running h public segment) i lone done.done =
+    let acts : RowActs did state named (scene b e (chain_at_next from next).running h public segment) i lone done.done =
     subst (λ (k : Held). RowActs did state named (scene b e k h public segment) i lone done.done) c.go.ensures done.acts in
-    let keeps = row_keeps i (stepped ch.frame next) ch.public (around ch) in
-    let exits = row_exits i (stepped ch.frame next) ch.public (around ch) in
+    let keeps = row_keeps i (frame_at ch.frame next) ch.public (around ch) in
+    let exits = row_exits i (frame_at ch.frame next) ch.public (around ch) in
     subst (λ (t : Acted). LoneDone did state named b e from (lone_chain h segment case le) ch t c.perform_lone.result callee) (sym (turned did state named b from ch (Ok found) r some exact)) (
     subst (λ (o : Result Lone Stop). LoneDone did state named b e from (lone_chain h segment case le) ch (row_turn ch i y) o callee) (sym done.value) (
     lone_does did state named laws b e old h public segment case le left ch next i r done.done callee x y c.requires.going some same keeps exits acts done.called)
@@ -133,6 +133,6 @@ returns-clause-ticks g c ch le left some r =
     let from = lone_chain old public case le left in
     let found = c.in-Ok.found in
     let i = found.0 in
-    let exact : Ok found ≡ decoded (app_under (state b) (named b) old).code old.frame.at = c.in-Ok.ensures.exact in
-    let one : (turn_of left ch).count ≡ 1 = ap (λ (t : Acted). t.count) (turned did state named b from ch (Ok found) r some exact) ∙ row_count ch i (row i (stepped ch.frame found.1) ch.public (around ch)) in
+    let exact : Ok found ≡ instruction_at (app_under (state b) (named b) old).code old.frame.at = c.in-Ok.ensures.exact in
+    let one : (turn_of left ch).count ≡ 1 = ap (λ (t : Acted). t.count) (turned did state named b from ch (Ok found) r some exact) ∙ row_count ch i (row i (frame_at ch.frame found.1) ch.public (around ch)) in
     c.tick.ensures ∙ ap (λ (n : ℕ). c.args.steps.now + n) (sym one)

@@ -1,5 +1,5 @@
 use Rattle.std.proofs.Common.{◌≡◌}
-use Rattle.mc_model_machine.specs.Chain.{Chain, ran}
+use Rattle.mc_model_machine.specs.Chain.{Chain, run_of_chain}
 use Rattle.mc_machine.specs.Chains.{RunsAs}
 use Rattle.mc_machine.proofs.RunLemmas.{Underway}
 use Rattle.mc_machine.proofs.running.finish.Given as goal
@@ -9,5 +9,5 @@ abbrev pub invariant-loop-turn : goal.invariant-loop-turn
 invariant-loop-turn g l =
     record {
       session : l.session ≡ l.fn.session;
-      underway : (ch : Chain) → RunsAs (g.B.Bank.state l.fn.bank) (g.B.Bank.named l.fn.bank) l.fn.chain ch → Underway g.B.Bank.did g.B.Bank.state g.B.Bank.named l.fn.bank (ran l.fn.left ch) l.fn.steps l.fn.left l._turn l.bank l.chain l.steps;
+      underway : (ch : Chain) → RunsAs (g.B.Bank.state l.fn.bank) (g.B.Bank.named l.fn.bank) l.fn.chain ch → Underway g.B.Bank.did g.B.Bank.state g.B.Bank.named l.fn.bank (run_of_chain l.fn.left ch) l.fn.steps l.fn.left l._turn l.bank l.chain l.steps;
     }

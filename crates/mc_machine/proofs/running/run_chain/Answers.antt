@@ -1,7 +1,7 @@
 -- The chain in which the name is called runs to its end.
 use Rattle.std.proofs.Common.{List, sym, subst}
 use Rattle.mc_model_device.specs.Bytes.{lookup}
-use Rattle.mc_model_machine.specs.Chain.{called}
+use Rattle.mc_model_machine.specs.Chain.{chain_after_call}
 use Rattle.mc_segs.specs.HeldFrames.{Held}
 use Rattle.mc_machine.specs.Chains.{RunsAs}
 use Rattle.mc_machine.proofs.running.run_chain.Goals as goal
@@ -10,9 +10,9 @@ pub finish-requires-clause-fits : goal.finish-requires-clause-fits
 finish-requires-clause-fits g c =
     let ch = c.requires.fits.0 in
     let made = subst (λ (b : List Held). RunsAs (g.B.Bank.state c.args.bank.now) (g.B.Bank.named c.args.bank.now) (record { running = c.args.frame; below = b; public = c.args.public; case = c.args.case; le = c.args.le; left = c.args.left }) ch) (sym c.new.ensures) c.requires.fits.1 in
-    (called ch c.args.aid.now (lookup ch.map c.args.aid.now), c.call.ensures.runs ch made)
+    (chain_after_call ch c.args.aid.now (lookup ch.map c.args.aid.now), c.call.ensures.runs ch made)
 
 pub returns : goal.returns
 returns g c ch r =
     let made = subst (λ (b : List Held). RunsAs (g.B.Bank.state c.args.bank.now) (g.B.Bank.named c.args.bank.now) (record { running = c.args.frame; below = b; public = c.args.public; case = c.args.case; le = c.args.le; left = c.args.left }) ch) (sym c.new.ensures) r in
-    c.finish.ensures (called ch c.args.aid.now (lookup ch.map c.args.aid.now)) (c.call.ensures.runs ch made)
+    c.finish.ensures (chain_after_call ch c.args.aid.now (lookup ch.map c.args.aid.now)) (c.call.ensures.runs ch made)

@@ -4,9 +4,9 @@ use Rattle.std.proofs.lemmas.Result.{err_from_is_err_and}
 use Rattle.mc_model_machine.specs.Chain.{start, turn_of}
 use Rattle.mc_apdu.specs.Command.{parts_of}
 use Rattle.mc_bank.specs.Bank.{name_or}
-use Rattle.mc_machine.specs.Chains.{Chained, RunsAs, ran_of}
+use Rattle.mc_machine.specs.Chains.{Chained, RunsAs, run_of_command}
 use Rattle.mc_machine.specs.Lone.{lone_chain, LoneDone, RanDone}
-use Rattle.mc_machine.specs.Turns.{placed}
+use Rattle.mc_machine.specs.Turns.{reply_or_stop}
 use Rattle.mc_machine.specs.declared.lone.Lone.{Lone}
 use Rattle.mc_machine.specs.declared.lone.Lone.TheVariants.{Delegates}
 use Rattle.mc_machine.proofs.LoneLemmas.{name_called}
@@ -34,7 +34,7 @@ lone_turn-requires-clause-going g c =
     let named = g.B.Bank.named in
     let start = c.args.bank.now in
     let budget = c.args.budget in
-    let whole = ran_of (state start) (named start) c.args.first c.args.session.now c.args.apdu.now budget in
+    let whole = run_of_command (state start) (named start) c.args.first c.args.session.now c.args.apdu.now budget in
     let ticks = c.args.steps.now in
     let l = c.loop-turn in
     let u = l.invariant.underway in
@@ -51,7 +51,7 @@ lone_turn-requires-clause-fits g c =
     let named = g.B.Bank.named in
     let start = c.args.bank.now in
     let budget = c.args.budget in
-    let whole = ran_of (state start) (named start) c.args.first c.args.session.now c.args.apdu.now budget in
+    let whole = run_of_command (state start) (named start) c.args.first c.args.session.now c.args.apdu.now budget in
     let ticks = c.args.steps.now in
     let l = c.loop-turn in
     let u = l.invariant.underway in
@@ -68,7 +68,7 @@ unwrap-aid-requires g c =
     let named = g.B.Bank.named in
     let start = c.args.bank.now in
     let budget = c.args.budget in
-    let whole = ran_of (state start) (named start) c.args.first c.args.session.now c.args.apdu.now budget in
+    let whole = run_of_command (state start) (named start) c.args.first c.args.session.now c.args.apdu.now budget in
     let ticks = c.args.steps.now in
     let l = c.loop-turn in
     let u = l.invariant.underway in
@@ -91,7 +91,7 @@ run_chain-requires-clause-going g c =
     let named = g.B.Bank.named in
     let start = c.args.bank.now in
     let budget = c.args.budget in
-    let whole = ran_of (state start) (named start) c.args.first c.args.session.now c.args.apdu.now budget in
+    let whole = run_of_command (state start) (named start) c.args.first c.args.session.now c.args.apdu.now budget in
     let ticks = c.args.steps.now in
     let l = c.loop-turn in
     let u = l.invariant.underway in
@@ -115,7 +115,7 @@ run_chain-requires-clause-fits g c =
     let named = g.B.Bank.named in
     let start = c.args.bank.now in
     let budget = c.args.budget in
-    let whole = ran_of (state start) (named start) c.args.first c.args.session.now c.args.apdu.now budget in
+    let whole = run_of_command (state start) (named start) c.args.first c.args.session.now c.args.apdu.now budget in
     let ticks = c.args.steps.now in
     let l = c.loop-turn in
     let u = l.invariant.underway in
@@ -139,7 +139,7 @@ loop-turn-preserved g c =
     let named = g.B.Bank.named in
     let start = c.args.bank.now in
     let budget = c.args.budget in
-    let whole = ran_of (state start) (named start) c.args.first c.args.session.now c.args.apdu.now budget in
+    let whole = run_of_command (state start) (named start) c.args.first c.args.session.now c.args.apdu.now budget in
     let ticks = c.args.steps.now in
     let l = c.loop-turn in
     let u = l.invariant.underway in
@@ -167,7 +167,7 @@ returns-in_err-lone_turn g c =
     let named = g.B.Bank.named in
     let start = c.args.bank.now in
     let budget = c.args.budget in
-    let whole = ran_of (state start) (named start) c.args.first c.args.session.now c.args.apdu.now budget in
+    let whole = run_of_command (state start) (named start) c.args.first c.args.session.now c.args.apdu.now budget in
     let ticks = c.args.steps.now in
     let l = c.loop-turn in
     let u = l.invariant.underway in
@@ -193,7 +193,7 @@ returns-in-Ends g c =
     let named = g.B.Bank.named in
     let start = c.args.bank.now in
     let budget = c.args.budget in
-    let whole = ran_of (state start) (named start) c.args.first c.args.session.now c.args.apdu.now budget in
+    let whole = run_of_command (state start) (named start) c.args.first c.args.session.now c.args.apdu.now budget in
     let ticks = c.args.steps.now in
     let l = c.loop-turn in
     let u = l.invariant.underway in
@@ -217,7 +217,7 @@ returns-in-Delegates g c =
     let named = g.B.Bank.named in
     let start = c.args.bank.now in
     let budget = c.args.budget in
-    let whole = ran_of (state start) (named start) c.args.first c.args.session.now c.args.apdu.now budget in
+    let whole = run_of_command (state start) (named start) c.args.first c.args.session.now c.args.apdu.now budget in
     let ticks = c.args.steps.now in
     let l = c.loop-turn in
     let u = l.invariant.underway in
@@ -232,8 +232,8 @@ returns-in-Delegates g c =
     let count = c.in_ok-lone_turn.ensures.ticks u.chain le left some u.runs in
     let called = subst (λ (o : Lone). LoneDone did state named l.bank e here after u.chain (turn_of left u.chain) (Ok o) c.lone_turn.new.callee) c.in-Delegates.is (c.in_ok-lone_turn.ensures.done u.chain le left some u.runs) in
     let done = subst (λ (n : Option (List ℕ)). LoneDone did state named l.bank e here after u.chain (turn_of left u.chain) (Ok Delegates) n) c.unwrap-aid.ensures called in
-    subst (λ (x : List ℕ). RanDone did state start c.run_chain.new.bank x c.run_chain.new.session ticks c.run_chain.new.steps whole (placed c.run_chain.result c.run_chain.new.reply)) l.invariant.session
-    (delegated_ends did state named start whole ticks budget l.turn l.bank e here (after (left - 1)) l.steps now u c.unwrap-aid.result done count c.run_chain.new.bank l.session c.run_chain.new.session c.run_chain.new.steps (placed c.run_chain.result c.run_chain.new.reply) (c.run_chain.ensures done.chain done.runs))
+    subst (λ (x : List ℕ). RanDone did state start c.run_chain.new.bank x c.run_chain.new.session ticks c.run_chain.new.steps whole (reply_or_stop c.run_chain.result c.run_chain.new.reply)) l.invariant.session
+    (delegated_ends did state named start whole ticks budget l.turn l.bank e here (after (left - 1)) l.steps now u c.unwrap-aid.result done count c.run_chain.new.bank l.session c.run_chain.new.session c.run_chain.new.steps (reply_or_stop c.run_chain.result c.run_chain.new.reply) (c.run_chain.ensures done.chain done.runs))
 
 pub returns : goal.returns
 returns g c =
@@ -242,7 +242,7 @@ returns g c =
     let named = g.B.Bank.named in
     let start = c.args.bank.now in
     let budget = c.args.budget in
-    let whole = ran_of (state start) (named start) c.args.first c.args.session.now c.args.apdu.now budget in
+    let whole = run_of_command (state start) (named start) c.args.first c.args.session.now c.args.apdu.now budget in
     let ticks = c.args.steps.now in
     let l = c.loop-turn in
     let u = l.invariant.underway in

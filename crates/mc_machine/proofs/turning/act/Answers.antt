@@ -4,13 +4,13 @@ use Rattle.mc_model_machine.specs.declared.instruction.DecodeFault.TheVariants.{
 use Rattle.mc_model_machine.specs.declared.machine.Abend.TheVariants.{A01, A02, A07}
 use Rattle.mc_model_device.specs.declared.device.Stop.{Stop}
 use Rattle.mc_model_card.specs.Items.{Commit}
-use Rattle.mc_model_machine.specs.Code.{decoded}
+use Rattle.mc_model_machine.specs.Code.{instruction_at}
 use Rattle.mc_model_machine.specs.Row.{row}
-use Rattle.mc_model_machine.specs.Chain.{Acted, around, stepped, row_turn, turn_of, follows}
-use Rattle.mc_segs.specs.HeldFrames.{shown, app_under}
+use Rattle.mc_model_machine.specs.Chain.{Acted, around, frame_at, row_turn, turn_of, follows}
+use Rattle.mc_segs.specs.HeldFrames.{frame_on_bank, app_under}
 use Rattle.mc_segs.specs.Ends.{RowActs, scene, then_of}
 use Rattle.mc_machine.specs.Chains.{Chained}
-use Rattle.mc_machine.specs.Turns.{ActDone, AllFitBank, WritesFew, Followed, advanced, told_of, delegator_of}
+use Rattle.mc_machine.specs.Turns.{ActDone, AllFitBank, WritesFew, Followed, chain_at_next, step_of_frame, delegator_of}
 use Rattle.mc_machine.specs.declared.outcome.End.TheVariants as end
 use Rattle.mc_machine.specs.declared.outcome.Step.{Step}
 use Rattle.mc_machine.proofs.Kept.{row_keeps}
@@ -37,7 +37,7 @@ returns-then-chain-eq0-clause-done g c ch r =
     let now = c.args.chain.now in
     let none : now.left ≡ 0 = subst (λ (k : Chained). k.left ≡ 0) c.chain.view_is c.if-chain-eq0.true in
     let step = c.abends.result in
-    let told : c.told-before.result ≡ told_of now.running None None = subst (λ (k : Chained). c.told-before.result ≡ told_of k.running None None) c.chain.view_is c.told-before.ensures in
+    let told : c.told-before.result ≡ step_of_frame now.running None None = subst (λ (k : Chained). c.told-before.result ≡ step_of_frame k.running None None) c.chain.view_is c.told-before.ensures in
     subst (λ (n : ℕ). ActDone did state named b b now now ch (turn_of n ch) (Ok step)) (sym none) (
     abends_done did state named b b now now ch None 0 A07 step r c.requires.going refl refl (omega arith) (c.abends.ensures ∙ ap (λ (x : Step). record x { end = Some (end.Abend A07) }) told)
     )
@@ -50,12 +50,12 @@ returns-in-Err-Undefined-clause-done g c ch r =
     let b = c.args.bank.now in
     let now = c.args.chain.now in
     let some : now.left ≢ 0 = subst (λ (k : Chained). k.left ≢ 0) c.chain.view_is c.if-chain-eq0.false in
-    let exact : Err Undefined ≡ decoded (app_under (state b) (named b) now.running).code now.running.frame.at =
-    subst (λ (k : Chained). Err Undefined ≡ decoded (app_under (state b) (named b) k.running).code k.running.frame.at) c.chain.view_is (
-    subst (λ (f : DecodeFault). Err f ≡ decoded (app_under (state b) (named b) c.chain.inside.running).code c.chain.inside.running.frame.at) c.in-Err-Undefined.field-0-is c.in-Err-Undefined.ensures.exact
+    let exact : Err Undefined ≡ instruction_at (app_under (state b) (named b) now.running).code now.running.frame.at =
+    subst (λ (k : Chained). Err Undefined ≡ instruction_at (app_under (state b) (named b) k.running).code k.running.frame.at) c.chain.view_is (
+    subst (λ (f : DecodeFault). Err f ≡ instruction_at (app_under (state b) (named b) c.chain.inside.running).code c.chain.inside.running.frame.at) c.in-Err-Undefined.field-0-is c.in-Err-Undefined.ensures.exact
     ) in
     let step = c.abends-in-Err-Undefined.result in
-    let told : c.told-before.result ≡ told_of now.running None None = subst (λ (k : Chained). c.told-before.result ≡ told_of k.running None None) c.chain.view_is c.told-before.ensures in
+    let told : c.told-before.result ≡ step_of_frame now.running None None = subst (λ (k : Chained). c.told-before.result ≡ step_of_frame k.running None None) c.chain.view_is c.told-before.ensures in
     subst (λ (t : Acted). ActDone did state named b b now now ch t (Ok step)) (sym (turned did state named b now ch (Err Undefined) r some exact)) (
     abends_done did state named b b now now ch None 0 A01 step r c.requires.going refl refl (omega arith) (c.abends-in-Err-Undefined.ensures ∙ ap (λ (x : Step). record x { end = Some (end.Abend A01) }) told)
     )
@@ -68,9 +68,9 @@ returns-in-Err-Undefined-clause-ticks g c ch r =
     let b = c.args.bank.now in
     let now = c.args.chain.now in
     let some : now.left ≢ 0 = subst (λ (k : Chained). k.left ≢ 0) c.chain.view_is c.if-chain-eq0.false in
-    let exact : Err Undefined ≡ decoded (app_under (state b) (named b) now.running).code now.running.frame.at =
-    subst (λ (k : Chained). Err Undefined ≡ decoded (app_under (state b) (named b) k.running).code k.running.frame.at) c.chain.view_is (
-    subst (λ (f : DecodeFault). Err f ≡ decoded (app_under (state b) (named b) c.chain.inside.running).code c.chain.inside.running.frame.at) c.in-Err-Undefined.field-0-is c.in-Err-Undefined.ensures.exact
+    let exact : Err Undefined ≡ instruction_at (app_under (state b) (named b) now.running).code now.running.frame.at =
+    subst (λ (k : Chained). Err Undefined ≡ instruction_at (app_under (state b) (named b) k.running).code k.running.frame.at) c.chain.view_is (
+    subst (λ (f : DecodeFault). Err f ≡ instruction_at (app_under (state b) (named b) c.chain.inside.running).code c.chain.inside.running.frame.at) c.in-Err-Undefined.field-0-is c.in-Err-Undefined.ensures.exact
     ) in
     let none : (turn_of now.left ch).count ≡ 0 = ap (λ (t : Acted). t.count) (turned did state named b now ch (Err Undefined) r some exact) in
     omega arith
@@ -83,12 +83,12 @@ returns-in-Err-Past-clause-done g c ch r =
     let b = c.args.bank.now in
     let now = c.args.chain.now in
     let some : now.left ≢ 0 = subst (λ (k : Chained). k.left ≢ 0) c.chain.view_is c.if-chain-eq0.false in
-    let exact : Err Past ≡ decoded (app_under (state b) (named b) now.running).code now.running.frame.at =
-    subst (λ (k : Chained). Err Past ≡ decoded (app_under (state b) (named b) k.running).code k.running.frame.at) c.chain.view_is (
-    subst (λ (f : DecodeFault). Err f ≡ decoded (app_under (state b) (named b) c.chain.inside.running).code c.chain.inside.running.frame.at) c.in-Err-Past.field-0-is c.in-Err-Past.ensures.exact
+    let exact : Err Past ≡ instruction_at (app_under (state b) (named b) now.running).code now.running.frame.at =
+    subst (λ (k : Chained). Err Past ≡ instruction_at (app_under (state b) (named b) k.running).code k.running.frame.at) c.chain.view_is (
+    subst (λ (f : DecodeFault). Err f ≡ instruction_at (app_under (state b) (named b) c.chain.inside.running).code c.chain.inside.running.frame.at) c.in-Err-Past.field-0-is c.in-Err-Past.ensures.exact
     ) in
     let step = c.abends-in-Err-Past.result in
-    let told : c.told-before.result ≡ told_of now.running None None = subst (λ (k : Chained). c.told-before.result ≡ told_of k.running None None) c.chain.view_is c.told-before.ensures in
+    let told : c.told-before.result ≡ step_of_frame now.running None None = subst (λ (k : Chained). c.told-before.result ≡ step_of_frame k.running None None) c.chain.view_is c.told-before.ensures in
     subst (λ (t : Acted). ActDone did state named b b now now ch t (Ok step)) (sym (turned did state named b now ch (Err Past) r some exact)) (
     abends_done did state named b b now now ch None 0 A02 step r c.requires.going refl refl (omega arith) (c.abends-in-Err-Past.ensures ∙ ap (λ (x : Step). record x { end = Some (end.Abend A02) }) told)
     )
@@ -101,9 +101,9 @@ returns-in-Err-Past-clause-ticks g c ch r =
     let b = c.args.bank.now in
     let now = c.args.chain.now in
     let some : now.left ≢ 0 = subst (λ (k : Chained). k.left ≢ 0) c.chain.view_is c.if-chain-eq0.false in
-    let exact : Err Past ≡ decoded (app_under (state b) (named b) now.running).code now.running.frame.at =
-    subst (λ (k : Chained). Err Past ≡ decoded (app_under (state b) (named b) k.running).code k.running.frame.at) c.chain.view_is (
-    subst (λ (f : DecodeFault). Err f ≡ decoded (app_under (state b) (named b) c.chain.inside.running).code c.chain.inside.running.frame.at) c.in-Err-Past.field-0-is c.in-Err-Past.ensures.exact
+    let exact : Err Past ≡ instruction_at (app_under (state b) (named b) now.running).code now.running.frame.at =
+    subst (λ (k : Chained). Err Past ≡ instruction_at (app_under (state b) (named b) k.running).code k.running.frame.at) c.chain.view_is (
+    subst (λ (f : DecodeFault). Err f ≡ instruction_at (app_under (state b) (named b) c.chain.inside.running).code c.chain.inside.running.frame.at) c.in-Err-Past.field-0-is c.in-Err-Past.ensures.exact
     ) in
     let none : (turn_of now.left ch).count ≡ 0 = ap (λ (t : Acted). t.count) (turned did state named b now ch (Err Past) r some exact) in
     omega arith
@@ -125,14 +125,14 @@ follow-requires-clause-fits g c =
     let next = found.1 in
     let laws : BankLaws did state named =
     record { obeys = λ b n ws a e d. g.met.B.Bank.obeys b (Commit n ws) a e d; keeps = λ b n ws a e d k m is. g.met.B.Bank.keeps b (Commit n ws) a e d k m is tt } in
-    let others : mid ≡ record (advanced now next) { running = mid.running; public = mid.public } =
+    let others : mid ≡ record (chain_at_next now next) { running = mid.running; public = mid.public } =
     c.perform.ensures.others ∙ ap (λ (k : Chained). record k { running = mid.running; public = mid.public }) c.advance.ensures in
-    let acts : RowActs did state named (scene b e (advanced now next).running mid.running now.public mid.public) i (record { case = now.case; delegator = delegator_of (named b) now.below }) (Ok c.in-Ok-perform.next) =
+    let acts : RowActs did state named (scene b e (chain_at_next now next).running mid.running now.public mid.public) i (record { case = now.case; delegator = delegator_of (named b) now.below }) (Ok c.in-Ok-perform.next) =
     subst (λ (k : Chained). RowActs did state named (scene b e k.running mid.running k.public mid.public) i (record { case = k.case; delegator = delegator_of (named b) k.below }) (Ok c.in-Ok-perform.next)) c.advance.ensures c.in-Ok-perform.ensures.acts in
-    let x = row i (shown (state b) (named b) (advanced now next).running) now.public (record { case = now.case; delegator = delegator_of (named b) now.below }) in
-    let y = row i (stepped ch.frame next) ch.public (around ch) in
+    let x = row i (frame_on_bank (state b) (named b) (chain_at_next now next).running) now.public (record { case = now.case; delegator = delegator_of (named b) now.below }) in
+    let y = row i (frame_at ch.frame next) ch.public (around ch) in
     let same = row_related did state named b now ch next i r in
-    let keeps = row_keeps i (stepped ch.frame next) ch.public (around ch) in
+    let keeps = row_keeps i (frame_at ch.frame next) ch.public (around ch) in
     performed_fits did state named laws b e now mid ch next i r others c.in-Ok-perform.next x y same keeps acts
 
 pub returns-in-Ok-perform-clause-done : goal.returns-in-Ok-perform-clause-done
@@ -150,22 +150,22 @@ returns-in-Ok-perform-clause-done g c ch r =
     let next = found.1 in
     let laws : BankLaws did state named =
     record { obeys = λ b n ws a e d. g.met.B.Bank.obeys b (Commit n ws) a e d; keeps = λ b n ws a e d k m is. g.met.B.Bank.keeps b (Commit n ws) a e d k m is tt } in
-    let others : mid ≡ record (advanced now next) { running = mid.running; public = mid.public } =
+    let others : mid ≡ record (chain_at_next now next) { running = mid.running; public = mid.public } =
     c.perform.ensures.others ∙ ap (λ (k : Chained). record k { running = mid.running; public = mid.public }) c.advance.ensures in
-    let exact : Ok found ≡ decoded (app_under (state b) (named b) now.running).code now.running.frame.at =
-    subst (λ (k : Chained). Ok found ≡ decoded (app_under (state b) (named b) k.running).code k.running.frame.at) c.chain.view_is c.in-Ok.ensures.exact in
-    let acts : RowActs did state named (scene b e (advanced now next).running mid.running now.public mid.public) i (record { case = now.case; delegator = delegator_of (named b) now.below }) (Ok c.in-Ok-perform.next) =
+    let exact : Ok found ≡ instruction_at (app_under (state b) (named b) now.running).code now.running.frame.at =
+    subst (λ (k : Chained). Ok found ≡ instruction_at (app_under (state b) (named b) k.running).code k.running.frame.at) c.chain.view_is c.in-Ok.ensures.exact in
+    let acts : RowActs did state named (scene b e (chain_at_next now next).running mid.running now.public mid.public) i (record { case = now.case; delegator = delegator_of (named b) now.below }) (Ok c.in-Ok-perform.next) =
     subst (λ (k : Chained). RowActs did state named (scene b e k.running mid.running k.public mid.public) i (record { case = k.case; delegator = delegator_of (named b) k.below }) (Ok c.in-Ok-perform.next)) c.advance.ensures c.in-Ok-perform.ensures.acts in
-    let x = row i (shown (state b) (named b) (advanced now next).running) now.public (record { case = now.case; delegator = delegator_of (named b) now.below }) in
-    let y = row i (stepped ch.frame next) ch.public (around ch) in
+    let x = row i (frame_on_bank (state b) (named b) (chain_at_next now next).running) now.public (record { case = now.case; delegator = delegator_of (named b) now.below }) in
+    let y = row i (frame_at ch.frame next) ch.public (around ch) in
     let same = row_related did state named b now ch next i r in
-    let keeps = row_keeps i (stepped ch.frame next) ch.public (around ch) in
-    let told : c.told-before.result ≡ told_of now.running None None = subst (λ (k : Chained). c.told-before.result ≡ told_of k.running None None) c.chain.view_is c.told-before.ensures in
+    let keeps = row_keeps i (frame_at ch.frame next) ch.public (around ch) in
+    let told : c.told-before.result ≡ step_of_frame now.running None None = subst (λ (k : Chained). c.told-before.result ≡ step_of_frame k.running None None) c.chain.view_is c.told-before.ensures in
     let d = c.follow.new.chain in
     let step = c.follow.result in
     let nx = c.in-Ok-perform.next in
     subst (λ (t : Acted). ActDone did state named b e now d ch t (Ok step)) (sym (turned did state named b now ch (Ok found) r some exact)) (
-    performed_done did state named laws b e now mid ch next i r others d step nx x y some c.follow.ensures.left c.follow.ensures.le same keeps (row_exits i (stepped ch.frame next) ch.public (around ch)) acts
+    performed_done did state named laws b e now mid ch next i r others d step nx x y some c.follow.ensures.left c.follow.ensures.le same keeps (row_exits i (frame_at ch.frame next) ch.public (around ch)) acts
     (λ k runs. subst (λ (s : Step). Followed (state e) (named e) mid d i s step (follows k (then_of nx))) (ap (λ (s : Step). record s { ins = Some i }) told) (c.follow.ensures.follows k runs))
     )
 
@@ -180,9 +180,9 @@ returns-in-Ok-perform-clause-ticks g c ch r =
     let found = c.in-Ok.found in
     let i = found.0 in
     let next = found.1 in
-    let exact : Ok found ≡ decoded (app_under (state b) (named b) now.running).code now.running.frame.at =
-    subst (λ (k : Chained). Ok found ≡ decoded (app_under (state b) (named b) k.running).code k.running.frame.at) c.chain.view_is c.in-Ok.ensures.exact in
-    let one : (turn_of now.left ch).count ≡ 1 = ap (λ (t : Acted). t.count) (turned did state named b now ch (Ok found) r some exact) ∙ row_count ch i (row i (stepped ch.frame next) ch.public (around ch)) in
+    let exact : Ok found ≡ instruction_at (app_under (state b) (named b) now.running).code now.running.frame.at =
+    subst (λ (k : Chained). Ok found ≡ instruction_at (app_under (state b) (named b) k.running).code k.running.frame.at) c.chain.view_is c.in-Ok.ensures.exact in
+    let one : (turn_of now.left ch).count ≡ 1 = ap (λ (t : Acted). t.count) (turned did state named b now ch (Ok found) r some exact) ∙ row_count ch i (row i (frame_at ch.frame next) ch.public (around ch)) in
     c.tick.ensures ∙ ap (λ (n : ℕ). c.args.steps.now + n) (sym one)
 
 pub returns-in-Err-clause-ticks : goal.returns-in-Err-clause-ticks
@@ -196,9 +196,9 @@ returns-in-Err-clause-ticks g c ch r =
     let found = c.in-Ok.found in
     let i = found.0 in
     let next = found.1 in
-    let exact : Ok found ≡ decoded (app_under (state b) (named b) now.running).code now.running.frame.at =
-    subst (λ (k : Chained). Ok found ≡ decoded (app_under (state b) (named b) k.running).code k.running.frame.at) c.chain.view_is c.in-Ok.ensures.exact in
-    let one : (turn_of now.left ch).count ≡ 1 = ap (λ (t : Acted). t.count) (turned did state named b now ch (Ok found) r some exact) ∙ row_count ch i (row i (stepped ch.frame next) ch.public (around ch)) in
+    let exact : Ok found ≡ instruction_at (app_under (state b) (named b) now.running).code now.running.frame.at =
+    subst (λ (k : Chained). Ok found ≡ instruction_at (app_under (state b) (named b) k.running).code k.running.frame.at) c.chain.view_is c.in-Ok.ensures.exact in
+    let one : (turn_of now.left ch).count ≡ 1 = ap (λ (t : Acted). t.count) (turned did state named b now ch (Ok found) r some exact) ∙ row_count ch i (row i (frame_at ch.frame next) ch.public (around ch)) in
     c.tick.ensures ∙ ap (λ (n : ℕ). c.args.steps.now + n) (sym one)
 
 pub returns-in-Err-clause-done : goal.returns-in-Err-clause-done
@@ -216,16 +216,16 @@ returns-in-Err-clause-done g c ch r =
     let next = found.1 in
     let laws : BankLaws did state named =
     record { obeys = λ b n ws a e d. g.met.B.Bank.obeys b (Commit n ws) a e d; keeps = λ b n ws a e d k m is. g.met.B.Bank.keeps b (Commit n ws) a e d k m is tt } in
-    let others : mid ≡ record (advanced now next) { running = mid.running; public = mid.public } =
+    let others : mid ≡ record (chain_at_next now next) { running = mid.running; public = mid.public } =
     c.perform.ensures.others ∙ ap (λ (k : Chained). record k { running = mid.running; public = mid.public }) c.advance.ensures in
-    let exact : Ok found ≡ decoded (app_under (state b) (named b) now.running).code now.running.frame.at =
-    subst (λ (k : Chained). Ok found ≡ decoded (app_under (state b) (named b) k.running).code k.running.frame.at) c.chain.view_is c.in-Ok.ensures.exact in
-    let acts : RowActs did state named (scene b e (advanced now next).running mid.running now.public mid.public) i (record { case = now.case; delegator = delegator_of (named b) now.below }) (Err c.in-Err.halt) =
+    let exact : Ok found ≡ instruction_at (app_under (state b) (named b) now.running).code now.running.frame.at =
+    subst (λ (k : Chained). Ok found ≡ instruction_at (app_under (state b) (named b) k.running).code k.running.frame.at) c.chain.view_is c.in-Ok.ensures.exact in
+    let acts : RowActs did state named (scene b e (chain_at_next now next).running mid.running now.public mid.public) i (record { case = now.case; delegator = delegator_of (named b) now.below }) (Err c.in-Err.halt) =
     subst (λ (k : Chained). RowActs did state named (scene b e k.running mid.running k.public mid.public) i (record { case = k.case; delegator = delegator_of (named b) k.below }) (Err c.in-Err.halt)) c.advance.ensures c.in-Err.ensures.acts in
-    let x = row i (shown (state b) (named b) (advanced now next).running) now.public (record { case = now.case; delegator = delegator_of (named b) now.below }) in
-    let y = row i (stepped ch.frame next) ch.public (around ch) in
+    let x = row i (frame_on_bank (state b) (named b) (chain_at_next now next).running) now.public (record { case = now.case; delegator = delegator_of (named b) now.below }) in
+    let y = row i (frame_at ch.frame next) ch.public (around ch) in
     let same = row_related did state named b now ch next i r in
-    let told : c.told-before.result ≡ told_of now.running None None = subst (λ (k : Chained). c.told-before.result ≡ told_of k.running None None) c.chain.view_is c.told-before.ensures in
+    let told : c.told-before.result ≡ step_of_frame now.running None None = subst (λ (k : Chained). c.told-before.result ≡ step_of_frame k.running None None) c.chain.view_is c.told-before.ensures in
     let before : Step = record c.told-before.result { ins = Some i } in
     subst (λ (t : Acted). ActDone did state named b e now mid ch t c.halts.result) (sym (turned did state named b now ch (Ok found) r some exact)) (
     subst (λ (res : Result Step Stop). ActDone did state named b e now mid ch (row_turn ch i y) res) (sym c.halts.ensures.value) (
@@ -243,9 +243,9 @@ returns-in-Err-Undefined-clause-few g c ch r apps =
     let b = c.args.bank.now in
     let now = c.args.chain.now in
     let some : now.left ≢ 0 = subst (λ (k : Chained). k.left ≢ 0) c.chain.view_is c.if-chain-eq0.false in
-    let exact : Err Undefined ≡ decoded (app_under (state b) (named b) now.running).code now.running.frame.at =
-    subst (λ (k : Chained). Err Undefined ≡ decoded (app_under (state b) (named b) k.running).code k.running.frame.at) c.chain.view_is (
-    subst (λ (f : DecodeFault). Err f ≡ decoded (app_under (state b) (named b) c.chain.inside.running).code c.chain.inside.running.frame.at) c.in-Err-Undefined.field-0-is c.in-Err-Undefined.ensures.exact
+    let exact : Err Undefined ≡ instruction_at (app_under (state b) (named b) now.running).code now.running.frame.at =
+    subst (λ (k : Chained). Err Undefined ≡ instruction_at (app_under (state b) (named b) k.running).code k.running.frame.at) c.chain.view_is (
+    subst (λ (f : DecodeFault). Err f ≡ instruction_at (app_under (state b) (named b) c.chain.inside.running).code c.chain.inside.running.frame.at) c.in-Err-Undefined.field-0-is c.in-Err-Undefined.ensures.exact
     ) in
     subst (λ (t : Acted). WritesFew t) (sym (turned did state named b now ch (Err Undefined) r some exact)) (abend_writes ch A01)
 
@@ -257,9 +257,9 @@ returns-in-Err-Past-clause-few g c ch r apps =
     let b = c.args.bank.now in
     let now = c.args.chain.now in
     let some : now.left ≢ 0 = subst (λ (k : Chained). k.left ≢ 0) c.chain.view_is c.if-chain-eq0.false in
-    let exact : Err Past ≡ decoded (app_under (state b) (named b) now.running).code now.running.frame.at =
-    subst (λ (k : Chained). Err Past ≡ decoded (app_under (state b) (named b) k.running).code k.running.frame.at) c.chain.view_is (
-    subst (λ (f : DecodeFault). Err f ≡ decoded (app_under (state b) (named b) c.chain.inside.running).code c.chain.inside.running.frame.at) c.in-Err-Past.field-0-is c.in-Err-Past.ensures.exact
+    let exact : Err Past ≡ instruction_at (app_under (state b) (named b) now.running).code now.running.frame.at =
+    subst (λ (k : Chained). Err Past ≡ instruction_at (app_under (state b) (named b) k.running).code k.running.frame.at) c.chain.view_is (
+    subst (λ (f : DecodeFault). Err f ≡ instruction_at (app_under (state b) (named b) c.chain.inside.running).code c.chain.inside.running.frame.at) c.in-Err-Past.field-0-is c.in-Err-Past.ensures.exact
     ) in
     subst (λ (t : Acted). WritesFew t) (sym (turned did state named b now ch (Err Past) r some exact)) (abend_writes ch A02)
 
@@ -272,8 +272,8 @@ returns-in-Ok-perform-clause-few g c ch r apps =
     let now = c.args.chain.now in
     let some : now.left ≢ 0 = subst (λ (k : Chained). k.left ≢ 0) c.chain.view_is c.if-chain-eq0.false in
     let found = c.in-Ok.found in
-    let exact : Ok found ≡ decoded (app_under (state b) (named b) now.running).code now.running.frame.at =
-    subst (λ (k : Chained). Ok found ≡ decoded (app_under (state b) (named b) k.running).code k.running.frame.at) c.chain.view_is c.in-Ok.ensures.exact in
+    let exact : Ok found ≡ instruction_at (app_under (state b) (named b) now.running).code now.running.frame.at =
+    subst (λ (k : Chained). Ok found ≡ instruction_at (app_under (state b) (named b) k.running).code k.running.frame.at) c.chain.view_is c.in-Ok.ensures.exact in
     let is = turned did state named b now ch (Ok found) r some exact in
     let d = c.follow.new.chain in
     let step = c.follow.result in
@@ -291,8 +291,8 @@ returns-in-Err-clause-few g c ch r apps =
     let now = c.args.chain.now in
     let some : now.left ≢ 0 = subst (λ (k : Chained). k.left ≢ 0) c.chain.view_is c.if-chain-eq0.false in
     let found = c.in-Ok.found in
-    let exact : Ok found ≡ decoded (app_under (state b) (named b) now.running).code now.running.frame.at =
-    subst (λ (k : Chained). Ok found ≡ decoded (app_under (state b) (named b) k.running).code k.running.frame.at) c.chain.view_is c.in-Ok.ensures.exact in
+    let exact : Ok found ≡ instruction_at (app_under (state b) (named b) now.running).code now.running.frame.at =
+    subst (λ (k : Chained). Ok found ≡ instruction_at (app_under (state b) (named b) k.running).code k.running.frame.at) c.chain.view_is c.in-Ok.ensures.exact in
     let is = turned did state named b now ch (Ok found) r some exact in
     let mid = c.perform.new.chain in
     subst (λ (t : Acted). WritesFew t) (sym is) (

@@ -1,11 +1,11 @@
 use Rattle.std.proofs.Common.{Result, sym, ap, subst}
 use Rattle.mc_model_machine.specs.Primitives.{Around}
 use Rattle.mc_model_machine.specs.Row.{RowEnd, row}
-use Rattle.mc_segs.specs.HeldFrames.{shown}
+use Rattle.mc_segs.specs.HeldFrames.{frame_on_bank}
 use Rattle.mc_segs.specs.Ends.{EndActs, RowActs, scene}
 use Rattle.mc_segs.specs.declared.ends.Halt.{Halt}
 use Rattle.mc_segs.specs.declared.ends.Next.{Next}
-use Rattle.mc_rows.specs.Rows.{alone, flowing}
+use Rattle.mc_rows.specs.Rows.{alone, row_result}
 use Rattle.mc_machine.specs.Chains.{Chained}
 use Rattle.mc_machine.specs.Turns.{delegator_of}
 use Rattle.mc_rows.proofs.AloneLemmas.{row_alone}
@@ -26,11 +26,11 @@ returns-in_default g c =
     let i = c.args.ins.now in
     let x : Around = record { case = now.case; delegator = delegator_of (named b) now.below } in
     let sc = scene b e now.running c.step.new.frame now.public c.step.new.public in
-    let o = flowing c.step.result in
+    let o = row_result c.step.result in
     let acts : RowActs did state named sc i alone o =
     subst (λ (k : Chained). RowActs did state named (scene b e k.running c.step.new.frame k.public c.step.new.public) i alone o) c.chain.view_is c.step.ensures in
-    let around = subst (λ (r : RowEnd). EndActs did state named sc r o) (sym (row_alone i (shown (state b) (named b) now.running) now.public x (no_primitive i c.in_default.not-Prim))) acts in
+    let around = subst (λ (r : RowEnd). EndActs did state named sc r o) (sym (row_alone i (frame_on_bank (state b) (named b) now.running) now.public x (no_primitive i c.in_default.not-Prim))) acts in
     record {
-      acts = subst (λ (a : Result Next Halt). EndActs did state named sc (row i (shown (state b) (named b) now.running) now.public x) a) (sym c.next_of.ensures) around;
+      acts = subst (λ (a : Result Next Halt). EndActs did state named sc (row i (frame_on_bank (state b) (named b) now.running) now.public x) a) (sym c.next_of.ensures) around;
       others = ap (λ (k : Chained). record k { running = c.step.new.frame; public = c.step.new.public }) c.chain.view_is;
     }

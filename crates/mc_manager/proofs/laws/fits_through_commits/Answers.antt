@@ -1,4 +1,4 @@
-use Rattle.mc_bank.proofs.Commits.{slots-in_order, sites-in_order}
+use Rattle.mc_bank.proofs.Commits.{slots_in_order, sites_in_order}
 use Rattle.mc_manager.specs.ManagerState.{view_of}
 use Rattle.mc_manager.proofs.CommitLemmas.{KeepsSlotsAndSites, fits_kept, seat_kept}
 use Rattle.mc_manager.proofs.laws.fits_through_commits.Goals as goal
@@ -9,8 +9,8 @@ returns-clause-fits g c m cs b a e h fits =
     let w = view_of g.B.Bank.state g.B.Bank.named g.B.Bank.room g.B.Bank.standing e in
     let keeps : KeepsSlotsAndSites v w =
     record {
-      slots = slots-in_order g.B.Bank.did g.B.Bank.named g.met.B.Bank.keeps cs b a e h;
-      sites = sites-in_order g.B.Bank.did g.B.Bank.state g.B.Bank.room g.B.Bank.standing g.met.B.Bank.spares g.met.B.Bank.leaves cs b a e h;
+      slots = slots_in_order g.B.Bank.did g.B.Bank.named g.met.B.Bank.keeps cs b a e h;
+      sites = sites_in_order g.B.Bank.did g.B.Bank.state g.B.Bank.room g.B.Bank.standing g.met.B.Bank.spares g.met.B.Bank.leaves cs b a e h;
     } in
     fits_kept v w m keeps fits
 
@@ -20,7 +20,7 @@ returns-clause-seat g c m cs b a e h fits s =
     let w = view_of g.B.Bank.state g.B.Bank.named g.B.Bank.room g.B.Bank.standing e in
     let keeps : KeepsSlotsAndSites v w =
     record {
-      slots = slots-in_order g.B.Bank.did g.B.Bank.named g.met.B.Bank.keeps cs b a e h;
-      sites = sites-in_order g.B.Bank.did g.B.Bank.state g.B.Bank.room g.B.Bank.standing g.met.B.Bank.spares g.met.B.Bank.leaves cs b a e h;
+      slots = slots_in_order g.B.Bank.did g.B.Bank.named g.met.B.Bank.keeps cs b a e h;
+      sites = sites_in_order g.B.Bank.did g.B.Bank.state g.B.Bank.room g.B.Bank.standing g.met.B.Bank.spares g.met.B.Bank.leaves cs b a e h;
     } in
     seat_kept v w m keeps fits s

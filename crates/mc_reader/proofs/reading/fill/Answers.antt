@@ -1,6 +1,6 @@
 use Rattle.std.proofs.Common.{◌-◌, length, take, List, ℕ, sym, subst, arith}
 use Rattle.mc_base.specs.Streams.{Took}
-use Rattle.mc_base.proofs.StreamsLemmas.{Took-append}
+use Rattle.mc_base.proofs.StreamsLemmas.{took_append}
 use Rattle.mc_reader.proofs.ReadingLemmas.{filled}
 use Rattle.mc_reader.proofs.reading.fill.Goals as goal
 
@@ -13,6 +13,6 @@ loop-done-preserved g c =
       within = omega (arith, c.loop-done.invariant.within, c.in_ok-count.ensures.bound);
       took =
           subst (λ (t : List ℕ). Took (left c.args.source.now) (left c.take.new.self) t) (sym (filled at room c.in_ok-count.count c.loop-done.into c.take.new.into c.loop-done.invariant.within c.in_ok-count.ensures.bound))
-          (Took-append (left c.args.source.now) (left c.loop-done.source) (left c.take.new.self) (take at c.loop-done.into) (take c.in_ok-count.count c.take.new.into) c.loop-done.invariant.took c.in_ok-count.ensures.bytes);
+          (took_append (left c.args.source.now) (left c.loop-done.source) (left c.take.new.self) (take at c.loop-done.into) (take c.in_ok-count.count c.take.new.into) c.loop-done.invariant.took c.in_ok-count.ensures.bytes);
       counted = omega (arith, c.loop-done.invariant.counted, c.take.ensures.counted);
     }

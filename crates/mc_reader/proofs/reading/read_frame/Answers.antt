@@ -1,6 +1,6 @@
 use Rattle.std.proofs.Common.{◌≡◌, ◌<◌, length, length-take, arith}
 use Rattle.std.proofs.lemmas.Result.{err_from_is_err_and}
-use Rattle.mc_base.proofs.StreamsLemmas.{Rose-later}
+use Rattle.mc_base.proofs.StreamsLemmas.{rose_later}
 use Rattle.mc_reader.proofs.ReadingLemmas.{size_in, took_part, short_head, short_body}
 use Rattle.mc_reader.proofs.reading.read_frame.Goals as goal
 
@@ -20,7 +20,7 @@ returns-in_err-fill-clause-reads g c =
     let less : length part.part < size_in c.fill.new.into = omega (arith, simp length-take at part.less) in
     rw (p.1, p.2) (
       took_part (left c.args.source.now) (left c.fill.new.source) (left c.fill-2.new.source) c.fill.new.into part.part c.in_ok-came.came c.fill.auto.into full c.in_ok-came.ensures.bytes part.took less,
-      Rose-later (faults c.args.source.now) (faults c.fill.new.source) (faults c.fill-2.new.source) c.fill.ensures.counted c.in_err-fill.ensures.failed,
+      rose_later (faults c.args.source.now) (faults c.fill.new.source) (faults c.fill-2.new.source) c.fill.ensures.counted c.in_err-fill.ensures.failed,
     )
 
 pub returns-then-branch-count-clause-reads : goal.returns-then-branch-count-clause-reads

@@ -6,7 +6,7 @@ use Rattle.mc_deck.specs.Lines.{line_of}
 use Rattle.mc_base.specs.declared.refusals.WriteFault.{WriteFault}
 use Rattle.mc_script.specs.Players.{device_of}
 use Rattle.mc_text.specs.Texts.{sunk_in}
-use Rattle.mc_script.specs.Writers.{ended, text_by, turns_text, WriterKeeps}
+use Rattle.mc_script.specs.Writers.{write_result, text_by, turns_text, WriterKeeps}
 use Rattle.mc_script.specs.Plays.{Bench, PlaysFrom}
 use Rattle.mc_script.proofs.DeckLemmas.{PlayReached, reached_end, reached_failed, reached_written, next_line, no_line, no_fault}
 use Rattle.mc_script.proofs.LoggedLemmas.{told_as}
@@ -29,9 +29,9 @@ returns-then-is_err-clause-plays g c =
     let line = c.line-number.result in
     let here = next_line deck c.loop-i.i line.0 (line_of line.1) c.line-number.ensures.line in
     let reached = subst (λ (left : List (ℕ × DeckLine)). PlayReached state bench (text_by text) (start (state c.args.device).words) deck a (out c.args.writer.now.out.now) left c.loop-i.player (out c.loop-i.writer.out.now)) here c.loop-i.invariant.reached in
-    let failed : is_err (ended c.tell.new.self.fault) ≡ true = search rules in
-    subst (λ d. PlaysFrom (text_by text) (start (state c.args.device).words) deck a (out c.args.writer.now.out.now) (ended c.tell.new.self.fault) (record { device = state d; bench = bench d }) (out c.tell.new.self.out.now)) (sym c.into_dev.ensures)
-    (reached_failed state bench (WriterKeeps g.T.Sink.taken g.T.Sink.faults) text (start (state c.args.device).words) deck a (out c.args.writer.now.out.now) (out c.loop-i.writer.out.now) (out c.tell.new.self.out.now) (drop (c.loop-i.i + 1) deck) line.0 (line_of line.1) c.loop-i.player c.line-answer.new.self c.loop-i.writer c.line-answer.new.runner c.line-answer.result (ended c.tell.new.self.fault) failed reached c.line-answer.ensures.done (λ ts told. told_as _ _ ts _ _ _ _ c.loop-i.invariant.telling (c.tell.ensures.tells c.loop-i.writer ts c.loop-i.invariant.fault told)))
+    let failed : is_err (write_result c.tell.new.self.fault) ≡ true = search rules in
+    subst (λ d. PlaysFrom (text_by text) (start (state c.args.device).words) deck a (out c.args.writer.now.out.now) (write_result c.tell.new.self.fault) (record { device = state d; bench = bench d }) (out c.tell.new.self.out.now)) (sym c.into_dev.ensures)
+    (reached_failed state bench (WriterKeeps g.T.Sink.taken g.T.Sink.faults) text (start (state c.args.device).words) deck a (out c.args.writer.now.out.now) (out c.loop-i.writer.out.now) (out c.tell.new.self.out.now) (drop (c.loop-i.i + 1) deck) line.0 (line_of line.1) c.loop-i.player c.line-answer.new.self c.loop-i.writer c.line-answer.new.runner c.line-answer.result (write_result c.tell.new.self.fault) failed reached c.line-answer.ensures.done (λ ts told. told_as _ _ ts _ _ _ _ c.loop-i.invariant.telling (c.tell.ensures.tells c.loop-i.writer ts c.loop-i.invariant.fault told)))
 
 pub loop-i-preserved : goal.loop-i-preserved
 loop-i-preserved g c =
@@ -44,11 +44,11 @@ loop-i-preserved g c =
     let line = c.line-number.result in
     let here = next_line deck c.loop-i.i line.0 (line_of line.1) c.line-number.ensures.line in
     let reached = subst (λ (left : List (ℕ × DeckLine)). PlayReached state bench (text_by text) (start (state c.args.device).words) deck a (out c.args.writer.now.out.now) left c.loop-i.player (out c.loop-i.writer.out.now)) here c.loop-i.invariant.reached in
-    let written : is_err (ended c.tell.new.self.fault) ≡ false = search rules in
+    let written : is_err (write_result c.tell.new.self.fault) ≡ false = search rules in
     let done = c.line-answer.ensures.done c.loop-i.invariant.reached.here 0 c.loop-i.invariant.reached.at in
     record {
       reached =
-          reached_written state bench (WriterKeeps g.T.Sink.taken g.T.Sink.faults) text (start (state c.args.device).words) deck a (out c.args.writer.now.out.now) (out c.loop-i.writer.out.now) (out c.tell.new.self.out.now) (drop (c.loop-i.i + 1) deck) line.0 (line_of line.1) c.loop-i.player c.line-answer.new.self c.loop-i.writer c.line-answer.new.runner c.line-answer.result (ended c.tell.new.self.fault) written reached c.line-answer.ensures.done (λ ts told. told_as _ _ ts _ _ _ _ c.loop-i.invariant.telling (c.tell.ensures.tells c.loop-i.writer ts c.loop-i.invariant.fault told));
+          reached_written state bench (WriterKeeps g.T.Sink.taken g.T.Sink.faults) text (start (state c.args.device).words) deck a (out c.args.writer.now.out.now) (out c.loop-i.writer.out.now) (out c.tell.new.self.out.now) (drop (c.loop-i.i + 1) deck) line.0 (line_of line.1) c.loop-i.player c.line-answer.new.self c.loop-i.writer c.line-answer.new.runner c.line-answer.result (write_result c.tell.new.self.fault) written reached c.line-answer.ensures.done (λ ts told. told_as _ _ ts _ _ _ _ c.loop-i.invariant.telling (c.tell.ensures.tells c.loop-i.writer ts c.loop-i.invariant.fault told));
       fault = no_fault c.tell.new.self.fault written;
       lent = g.met.N.Nvm.onward _ _ _ c.loop-i.invariant.lent c.line-answer.ensures.lent;
       telling = c.tell.ensures.telling ∙ done.1.tells.telling ∙ c.loop-i.invariant.telling;
@@ -66,8 +66,8 @@ returns-clause-plays g c =
     let all : length deck ≤ c.loop-i.i = search rules in
     let reached = subst (λ (left : List (ℕ × DeckLine)). PlayReached state bench (text_by text) (start (state c.args.device).words) deck a (out c.args.writer.now.out.now) left c.loop-i.player (out c.loop-i.writer.out.now)) (no_line deck c.loop-i.i all) c.loop-i.invariant.reached in
     let whole = reached_end state bench (text_by text) (start (state c.args.device).words) deck a (out c.args.writer.now.out.now) (out c.loop-i.writer.out.now) c.loop-i.player reached in
-    let good : Ok tt ≡ ended c.loop-i.writer.fault = sym (ap ended c.loop-i.invariant.fault) in
-    subst (λ d. PlaysFrom (text_by text) (start (state c.args.device).words) deck a (out c.args.writer.now.out.now) (ended c.loop-i.writer.fault) (record { device = state d; bench = bench d }) (out c.loop-i.writer.out.now)) (sym c.into_dev-2.ensures)
+    let good : Ok tt ≡ write_result c.loop-i.writer.fault = sym (ap write_result c.loop-i.invariant.fault) in
+    subst (λ d. PlaysFrom (text_by text) (start (state c.args.device).words) deck a (out c.args.writer.now.out.now) (write_result c.loop-i.writer.fault) (record { device = state d; bench = bench d }) (out c.loop-i.writer.out.now)) (sym c.into_dev-2.ensures)
     (subst (λ (r : Result (Unit {0}) WriteFault). PlaysFrom (text_by text) (start (state c.args.device).words) deck a (out c.args.writer.now.out.now) r (record { device = state (device_of c.loop-i.player); bench = bench (device_of c.loop-i.player) }) (out c.loop-i.writer.out.now)) good whole)
 
 pub line-answer-requires-clause-playing : goal.line-answer-requires-clause-playing

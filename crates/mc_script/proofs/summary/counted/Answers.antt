@@ -2,7 +2,7 @@ use Rattle.std.proofs.Common.{◌++◌, arith, subst, sym}
 use Rattle.std.specs.Prelude.{option_map}
 use Rattle.mc_model_play.specs.Generator.{is_reply, is_abend, is_cut, is_off, is_ready}
 use Rattle.mc_script.specs.Players.{answer_value}
-use Rattle.mc_script.specs.Sums.{Counted, listed}
+use Rattle.mc_script.specs.Sums.{Counted, result_list}
 use Rattle.mc_script.proofs.SumLemmas.{count_most, counted_on}
 use Rattle.mc_script.proofs.summary.counted.Goals as goal
 
@@ -46,4 +46,4 @@ returns-in-Some g c rs are =
     let value = answer_value g.N.Nvm.state c.args.player.now in
     let w = c.with.ensures in
     let one = counted_on c.args.counts c.with.result rs (value c.in-Some.answer) are w.lines w.replies w.abends w.cuts w.offs w.readies in
-    subst (λ o. Counted c.with.result (rs ++ listed (option_map value o))) (sym c.in-Some.is) one
+    subst (λ o. Counted c.with.result (rs ++ result_list (option_map value o))) (sym c.in-Some.is) one

@@ -5,7 +5,7 @@ use Rattle.mc_base.specs.declared.refusals.WriteFault.{WriteFault}
 use Rattle.mc_text.specs.Texts.{Puts, sunk_in}
 use Rattle.mc_text.proofs.TextLemmas.{puts_as}
 use Rattle.mc_script.specs.Players.{device_of}
-use Rattle.mc_script.specs.Writers.{ended}
+use Rattle.mc_script.specs.Writers.{write_result}
 use Rattle.mc_script.specs.Plays.{Bench, Played}
 use Rattle.mc_script.proofs.LoggedLemmas.{ended_err}
 use Rattle.mc_script.proofs.SumLemmas.{summary_is}
@@ -22,7 +22,7 @@ returns-clause-sums g c =
     let steps = plays first deck t.worn in
     let before = sunk_in g.T.Sink.taken g.T.Sink.faults c.args.writer.now.out.now in
     let after = sunk_in g.T.Sink.taken g.T.Sink.faults c.put_summary.new.out in
-    let is : c.put_summary.result ≡ ended c.err-writer.result = sym (ap ended c.err-writer.ensures.value ∙ ended_err c.put_summary.result) in
+    let is : c.put_summary.result ≡ write_result c.err-writer.result = sym (ap write_result c.err-writer.ensures.value ∙ ended_err c.put_summary.result) in
     let text = puts_as before after c.put_summary.result (summary_is first deck t.worn c.requires.dumps) (c.put_summary.ensures (last_state first steps) (results steps) t.at t.counted) in
     record {
       worn = t.worn;

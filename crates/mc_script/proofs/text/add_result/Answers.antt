@@ -1,5 +1,5 @@
 use Rattle.std.proofs.Common.{◌++◌, ap, codes, decimal, sym, ◌∙◌, append_assoc}
-use Rattle.mc_model_play.specs.Transcript.{shown}
+use Rattle.mc_model_play.specs.Transcript.{text_of_result}
 use Rattle.mc_script.specs.Players.{answer_value}
 use Rattle.mc_script.proofs.text.add_result.Goals as goal
 
@@ -8,4 +8,4 @@ returns-in-OffAt-clause-text g c =
     let old = c.args.text.now.items in
     c.add_number-in-OffAt.ensures.text
     ∙ append_assoc old (codes "off at write ") (decimal c.in-OffAt.k)
-    ∙ ap (λ a. old ++ shown (answer_value g.N.Nvm.state c.args.player.now a)) (sym c.in-OffAt.is)
+    ∙ ap (λ a. old ++ text_of_result (answer_value g.N.Nvm.state c.args.player.now a)) (sym c.in-OffAt.is)

@@ -1,13 +1,13 @@
 use Rattle.std.proofs.Common.{List, ℕ, length, take, drop, Some, sym, ap, ◌∙◌}
 use Rattle.mc_model_machine.specs.Frame as model
-use Rattle.mc_segs.specs.HeldFrames.{Held, shown}
+use Rattle.mc_segs.specs.HeldFrames.{Held, frame_on_bank}
 use Rattle.mc_segs.proofs.AccessLemmas.{bytes_read, no_bytes}
 use Rattle.mc_model_device.proofs.ListLemmas.{some_bytes}
 use Rattle.mc_segs.proofs.access.load.Goals as goal
 
 pub returns-then-is_empty-clause-bytes : goal.returns-then-is_empty-clause-bytes
 returns-then-is_empty-clause-bytes g c =
-    no_bytes (shown (g.B.Bank.state c.args.bank.now) (g.B.Bank.named c.args.bank.now) c.args.frame.now) c.args.public.now c.args.at c.args.into.now (sym c.is_empty.ensures ∙ c.if-is_empty.true)
+    no_bytes (frame_on_bank (g.B.Bank.state c.args.bank.now) (g.B.Bank.named c.args.bank.now) c.args.frame.now) c.args.public.now c.args.at c.args.into.now (sym c.is_empty.ensures ∙ c.if-is_empty.true)
 
 pub returns-in-Some-Static-clause-bytes : goal.returns-in-Some-Static-clause-bytes
 returns-in-Some-Static-clause-bytes g c =

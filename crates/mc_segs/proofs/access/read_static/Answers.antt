@@ -1,7 +1,7 @@
 use Rattle.std.proofs.Common.{List, ℕ, length, get_or, ◌+◌, sym, ap, ◌∙◌, arith}
 use Rattle.std.specs.Prelude.{unwrap_or}
 use Rattle.std.proofs.lemmas.List.{drop_all}
-use Rattle.mc_model_device.specs.Pieces.{covered, word_pieces}
+use Rattle.mc_model_device.specs.Pieces.{covering_byte, word_pieces}
 use Rattle.mc_segs.specs.HeldFrames.{app_under}
 use Rattle.mc_segs.proofs.AccessLemmas.{has_words, static_read}
 use Rattle.mc_segs.proofs.access.read_static.Goals as goal
@@ -14,6 +14,6 @@ returns g c =
     let same = c.requires.runs.fits.fixed in
     let range = c.requires.range in
     static_read l h.frame.pieces c.frame.inside.pending c.args.at (length c.args.into.now) c.loop-number.into has.pieces has.pending (omega (arith, same, range)) c.loop-number.invariant.len (λ i lt.
-    sym (ap (λ (ws : List (ℕ × List ℕ)). unwrap_or (covered (word_pieces ws) (c.args.at + i)) (get_or c.loop-number.into i 0)) (drop_all c.loop-number.number-index c.list-number-items.result.now c.loop-number-test.false))
+    sym (ap (λ (ws : List (ℕ × List ℕ)). unwrap_or (covering_byte (word_pieces ws) (c.args.at + i)) (get_or c.loop-number.into i 0)) (drop_all c.loop-number.number-index c.list-number-items.result.now c.loop-number-test.false))
     ∙ c.loop-number.invariant.bytes i lt
-    ∙ ap (λ (ws : List (ℕ × List ℕ)). unwrap_or (covered (word_pieces ws) (c.args.at + i)) (get_or l (c.args.at + i) 0)) c.list-number-items.ensures.words)
+    ∙ ap (λ (ws : List (ℕ × List ℕ)). unwrap_or (covering_byte (word_pieces ws) (c.args.at + i)) (get_or l (c.args.at + i) 0)) c.list-number-items.ensures.words)

@@ -1,6 +1,6 @@
 use Rattle.std.proofs.Common.{◌≡◌, ℕ, ◌+◌, ◌<◌, length, drop, get_or}
 use Rattle.std.specs.Prelude.{unwrap_or}
-use Rattle.mc_model_device.specs.Pieces.{covered, word_pieces}
+use Rattle.mc_model_device.specs.Pieces.{covering_byte, word_pieces}
 use Rattle.mc_bank.specs.Bank.{app_of}
 use Rattle.mc_segs.proofs.access.read_static.Given as goal
 
@@ -10,5 +10,5 @@ invariant-loop-number g l =
     let fixed = (app_of (g.B.Bank.state l.bank).apps (g.B.Bank.named l.bank l.frame.slot)).fixed in
     record {
       len : length l.into ≡ length l.fn.into;
-      bytes : (i : ℕ) → i < length l.fn.into → unwrap_or (covered (word_pieces (drop l.number-index l.number-items)) (l.at + i)) (get_or l.into i 0) ≡ unwrap_or (covered (word_pieces l.number-items) (l.at + i)) (get_or fixed (l.at + i) 0);
+      bytes : (i : ℕ) → i < length l.fn.into → unwrap_or (covering_byte (word_pieces (drop l.number-index l.number-items)) (l.at + i)) (get_or l.into i 0) ≡ unwrap_or (covering_byte (word_pieces l.number-items) (l.at + i)) (get_or fixed (l.at + i) 0);
     }

@@ -1,5 +1,5 @@
 use Rattle.std.proofs.Common.{ap, sym, ◌∙◌}
-use Rattle.mc_bank.specs.Bank.{committed, name_or}
+use Rattle.mc_bank.specs.Bank.{apps_after_commit, name_or}
 use Rattle.mc_segs.specs.HeldFrames.{Held}
 use Rattle.mc_segs.proofs.AccessLemmas.{has_words}
 use Rattle.mc_segs.proofs.StoreLemmas.{fixed_under, all_words, all_words_now, some_words, on_ok, is_now}
@@ -23,5 +23,5 @@ returns-clause-fixed g c =
     let e = c.commit.new.self in
     let h = c.args.frame.now in
     let has = has_words (fixed_under state named b h) c.frame.inside h c.frame.view_is c.frame.invariant c.requires.runs.fits.fixed in
-    on_ok (state b) (state e) (committed (state b).apps (name_or (named b c.frame.inside.slot)) c.list-words.result.now) c.commit.result (is_now g.B.Bank.did state named b e h) c.commit.ensures.apps (λ apps.
+    on_ok (state b) (state e) (apps_after_commit (state b).apps (name_or (named b c.frame.inside.slot)) c.list-words.result.now) c.commit.result (is_now g.B.Bank.did state named b e h) c.commit.ensures.apps (λ apps.
     all_words_now g.B.Bank.did state named b e c.frame.inside h c.frame.inside.slot c.list-words.result.now (ap (λ (t : Held). t.slot) c.frame.view_is) c.list-words.ensures.words c.requires.runs.fits has apps c.commit.ensures.slots)

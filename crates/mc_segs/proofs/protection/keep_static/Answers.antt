@@ -1,6 +1,6 @@
 use Rattle.std.proofs.Common.{ℕ, ◌+◌, length, refl, ap, subst, ◌∙◌, arith}
 use Rattle.std.proofs.lemmas.Bool.{lt-ltb, le-ltb}
-use Rattle.mc_segs.specs.HeldFrames.{Held, shown}
+use Rattle.mc_segs.specs.HeldFrames.{Held, frame_on_bank}
 use Rattle.mc_segs.specs.Puts.{PutsBytes}
 use Rattle.mc_bank.specs.Bank.{app_of}
 use Rattle.mc_segs.proofs.AccessLemmas.{has_words}
@@ -16,7 +16,7 @@ returns-then-list-more-gt64-clause-abend g c =
     let l = fixed_under state named b h in
     let has = has_words l c.frame.inside h c.frame.view_is c.frame.invariant c.requires.runs.fits.fixed in
     let many = c.if-list-more-gt64.true in
-    let limit = limit_by (shown (state b) (named b) h) l c.frame.inside.pending c.list.result.now c.args.at (length c.args.from.now) c.missing-more.result has.pieces has.pending c.requires.low c.list.ensures.words c.missing-more.ensures.value in
+    let limit = limit_by (frame_on_bank (state b) (named b) h) l c.frame.inside.pending c.list.result.now c.args.at (length c.args.from.now) c.missing-more.result has.pieces has.pending c.requires.low c.list.ensures.words c.missing-more.ensures.value in
     (limit ∙ lt-ltb 64 (length c.list.result.now + c.missing-more.result) (omega arith), refl)
 
 pub returns-clause-abend : goal.returns-clause-abend
@@ -28,7 +28,7 @@ returns-clause-abend g c =
     let l = fixed_under state named b h in
     let has = has_words l c.frame.inside h c.frame.view_is c.frame.invariant c.requires.runs.fits.fixed in
     let few = c.if-list-more-gt64.false in
-    let limit = limit_by (shown (state b) (named b) h) l c.frame.inside.pending c.list.result.now c.args.at (length c.args.from.now) c.missing-more.result has.pieces has.pending c.requires.low c.list.ensures.words c.missing-more.ensures.value in
+    let limit = limit_by (frame_on_bank (state b) (named b) h) l c.frame.inside.pending c.list.result.now c.args.at (length c.args.from.now) c.missing-more.result has.pieces has.pending c.requires.low c.list.ensures.words c.missing-more.ensures.value in
     limit ∙ le-ltb 64 (length c.list.result.now + c.missing-more.result) (omega arith)
 
 pub returns-clause-kept : goal.returns-clause-kept

@@ -1,7 +1,7 @@
 use Rattle.std.proofs.Common.{◌∙◌, ℕ, List, Bor, arith, ap, sym, length}
 use Rattle.std.proofs.lemmas.Result.{err_from_is_err_and}
 use Rattle.std.specs.Prelude.{option_map}
-use Rattle.mc_model_machine.specs.Text.{lines, numbered}
+use Rattle.mc_model_machine.specs.Text.{lines, with_numbers}
 use Rattle.melcard.specs.Judging.{text_digits}
 use Rattle.melcard.proofs.CodeLemmas.{line_counted, lines_counted, line_taken, line_refused, lines_taken}
 use Rattle.melcard.proofs.code.digits_of.Goals as goal
@@ -9,7 +9,7 @@ use Rattle.melcard.proofs.code.digits_of.Goals as goal
 pub loop-line-preserved : goal.loop-line-preserved
 loop-line-preserved c =
     let next = ap (option_map (λ (l : Bor (List ℕ) × Bor (List ℕ)). (l.0.now, l.1.now))) (sym c.in-Some.is) ∙ c.next_line.ensures.line in
-    let whole = text_digits (numbered 1 (lines c.args.text.now)) in
+    let whole = text_digits (with_numbers 1 (lines c.args.text.now)) in
     let bound = c.loop-line.invariant.bound in
     let shorter = c.in-Some.ensures.shorter in
     record {
@@ -22,12 +22,12 @@ pub returns-in_err-push_line-clause-refused : goal.returns-in_err-push_line-clau
 returns-in_err-push_line-clause-refused c =
     let next = ap (option_map (λ (l : Bor (List ℕ) × Bor (List ℕ)). (l.0.now, l.1.now))) (sym c.in-Some.is) ∙ c.next_line.ensures.line in
     let p = err_from_is_err_and c.from_residual.result c.from_residual.ensures.1 in
-    rw (p.1, p.2) (line_refused c.loop-line.count c.loop-line.rest.now c.loop-line.digits.items (text_digits (numbered 1 (lines c.args.text.now))) c.loop-line.invariant.leads c.in-Some.line.now c.in-Some.behind.now c.in_err-push_line.field-0.0 next c.in_err-push_line.ensures.refused)
+    rw (p.1, p.2) (line_refused c.loop-line.count c.loop-line.rest.now c.loop-line.digits.items (text_digits (with_numbers 1 (lines c.args.text.now))) c.loop-line.invariant.leads c.in-Some.line.now c.in-Some.behind.now c.in_err-push_line.field-0.0 next c.in_err-push_line.ensures.refused)
 
 pub returns-clause-digits : goal.returns-clause-digits
 returns-clause-digits c =
     let next = ap (option_map (λ (l : Bor (List ℕ) × Bor (List ℕ)). (l.0.now, l.1.now))) (sym c.in_default.is) ∙ c.next_line.ensures.line in
-    lines_taken c.loop-line.count c.loop-line.rest.now c.loop-line.digits.items (text_digits (numbered 1 (lines c.args.text.now))) c.loop-line.invariant.leads next
+    lines_taken c.loop-line.count c.loop-line.rest.now c.loop-line.digits.items (text_digits (with_numbers 1 (lines c.args.text.now))) c.loop-line.invariant.leads next
 
 pub returns-clause-lines : goal.returns-clause-lines
 returns-clause-lines c =

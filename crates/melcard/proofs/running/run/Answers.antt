@@ -1,5 +1,5 @@
 use Rattle.std.proofs.Common.{◌≡◌, refl}
-use Rattle.mc_model_play.specs.Generator.{generated}
+use Rattle.mc_model_play.specs.Generator.{deck_of_number}
 use Rattle.melcard.specs.declared.job.Job.TheVariants as job
 use Rattle.mc_filter.specs.declared.status.Status.{Status}
 use Rattle.melcard.specs.Running.{PlaysInput, WritesInput}
@@ -31,7 +31,7 @@ returns-in-Ok g c =
           let n = w.in-Generate.number in
           let did = w.sum-done in
           let a : CardOutside = around source sink state bench input input out did.new.out dev did.new.dev in
-          let summed = ok_is all.done did.result s (λ (s : Status). IsSummed (generated n) s a.dev_old a.streams.out_old a.dev a.streams.out) c.in-Ok.is w.done-is did.ensures.done in
+          let summed = ok_is all.done did.result s (λ (s : Status). IsSummed (deck_of_number n) s a.dev_old a.streams.out_old a.dev a.streams.out) c.in-Ok.is w.done-is did.ensures.done in
           says_at source sink state bench input all.input input out all.out did.new.out dev all.dev did.new.dev c.args.job (job.Generate n) s w.input-is w.out-is w.dev-is w.in-Generate.is
           (says_summed (did.new.dev ≡ dev) n s a (record { left = refl; reads = refl }) summed)
       | in-Write w ↦

@@ -1,6 +1,6 @@
 use Rattle.std.proofs.Common.{ℕ, List, subst}
 use Rattle.mc_model_play.specs.DeckGrammar.{DeckLine}
-use Rattle.mc_model_play.specs.Generator.{generated, summary}
+use Rattle.mc_model_play.specs.Generator.{deck_of_number, summary}
 use Rattle.mc_script.specs.Plays.{SumsDeck}
 use Rattle.mc_text.specs.Texts.{sunk_in}
 use Rattle.mc_check.proofs.CheckedPlays.{checked_plays_law}
@@ -22,5 +22,5 @@ returns-clause-done g c =
       result = c.summarise.result;
       status = c.ended.ensures;
       sums = sums;
-      checked = checked_plays_law (generated c.args.number) before.device.words sums.worn;
+      checked = checked_plays_law (deck_of_number c.args.number) before.device.words sums.worn;
     }

@@ -10,13 +10,13 @@ use Rattle.mc_card.specs.declared.managing.Directed.{Directed}
 use Rattle.mc_card.specs.Managing.{Directs}
 use Rattle.mc_card.specs.Parts.{device_in}
 use Rattle.mc_card.specs.Ends.{Begun}
-use Rattle.mc_card.proofs.CommandLemmas.{wrong-begun, answered-begun, passed-session, passed-begun}
-use Rattle.mc_card.proofs.DeviceLemmas.{commanded-ended, none-ended}
+use Rattle.mc_card.proofs.CommandLemmas.{wrong_begun, answered_begun, passed_session, passed_begun}
+use Rattle.mc_card.proofs.DeviceLemmas.{commanded_ended, none_ended}
 use Rattle.mc_card.proofs.card.Card.begin.Goals as goal
 
 pub returns-in_default-clause-done : goal.returns-in_default-clause-done
 returns-in_default-clause-done g c =
-    wrong-begun g.N.Nvm.state g.N.Nvm.wrote g.met.N.Nvm.obeys c.args.self.now c.args.bytes.now c.args.budget (outcome.Reply c.wrong_length.new.reply) c.requires.ready c.in_default.ensures.read c.wrong_length.ensures
+    wrong_begun g.N.Nvm.state g.N.Nvm.wrote g.met.N.Nvm.obeys c.args.self.now c.args.bytes.now c.args.budget (outcome.Reply c.wrong_length.new.reply) c.requires.ready c.in_default.ensures.read c.wrong_length.ensures
 
 pub returns-in_err-direct-clause-done : goal.returns-in_err-direct-clause-done
 returns-in_err-direct-clause-done g c =
@@ -24,45 +24,45 @@ returns-in_err-direct-clause-done g c =
     let a = parts_of c.in-Ok.apdu in
     let p = err_from_is_err_and c.from_residual.result c.from_residual.ensures.1 in
     subst (λ (r : Result (Option Outcome) Stop). Begun g.N.Nvm.state g.N.Nvm.wrote old c.args.bytes.now c.args.budget r c.direct.new.self) (sym (p.1 ∙ ap (λ (s : Stop). Err s) p.2))
-    (answered-begun g.N.Nvm.state g.N.Nvm.wrote g.met.N.Nvm.obeys a old c.direct.new.self c.args.bytes.now c.args.budget (Err c.in_err-direct.field-0.0) c.in-Ok.ensures.read c.in_err-direct.ensures.done)
+    (answered_begun g.N.Nvm.state g.N.Nvm.wrote g.met.N.Nvm.obeys a old c.direct.new.self c.args.bytes.now c.args.budget (Err c.in_err-direct.field-0.0) c.in-Ok.ensures.read c.in_err-direct.ensures.done)
 
 pub returns-in-Answered-clause-done : goal.returns-in-Answered-clause-done
 returns-in-Answered-clause-done g c =
     let old = c.args.self.now in
     let a = parts_of c.in-Ok.apdu in
-    answered-begun g.N.Nvm.state g.N.Nvm.wrote g.met.N.Nvm.obeys a old c.direct.new.self c.args.bytes.now c.args.budget (Ok (outcome.Reply c.direct.new.reply)) c.in-Ok.ensures.read
+    answered_begun g.N.Nvm.state g.N.Nvm.wrote g.met.N.Nvm.obeys a old c.direct.new.self c.args.bytes.now c.args.budget (Ok (outcome.Reply c.direct.new.reply)) c.in-Ok.ensures.read
     (subst (λ (x : Directed). Directs g.N.Nvm.state g.N.Nvm.wrote old a (Ok x) c.direct.new.reply c.direct.new.self) c.in-Answered.is c.in_ok-direct.ensures.done)
 
 pub begin-requires-clause-session : goal.begin-requires-clause-session
 begin-requires-clause-session g c =
     let old = c.args.self.now in
     let a = parts_of c.in-Ok.apdu in
-    passed-session g.N.Nvm.state g.N.Nvm.wrote g.met.N.Nvm.obeys old c.direct.new.self a c.in-Passed.slot c.requires.ready
+    passed_session g.N.Nvm.state g.N.Nvm.wrote g.met.N.Nvm.obeys old c.direct.new.self a c.in-Passed.slot c.requires.ready
     (subst (λ (x : Directed). Directs g.N.Nvm.state g.N.Nvm.wrote old a (Ok x) c.direct.new.reply c.direct.new.self) c.in-Passed.is c.in_ok-direct.ensures.done)
 
 pub returns-in-Passed-clause-done : goal.returns-in-Passed-clause-done
 returns-in-Passed-clause-done g c =
     let old = c.args.self.now in
     let a = parts_of c.in-Ok.apdu in
-    passed-begun g.N.Nvm.state g.N.Nvm.wrote g.met.N.Nvm.obeys old c.direct.new.self a c.in-Passed.slot c.args.budget c.args.bytes.now c.begin.result c.requires.ready
+    passed_begun g.N.Nvm.state g.N.Nvm.wrote g.met.N.Nvm.obeys old c.direct.new.self a c.in-Passed.slot c.args.budget c.args.bytes.now c.begin.result c.requires.ready
     (subst (λ (x : Directed). Directs g.N.Nvm.state g.N.Nvm.wrote old a (Ok x) c.direct.new.reply c.direct.new.self) c.in-Passed.is c.in_ok-direct.ensures.done)
     c.in-Ok.ensures.read c.begin.ensures.runs c.begin.ensures.left
 
 pub returns-in_default-clause-ended : goal.returns-in_default-clause-ended
 returns-in_default-clause-ended g c =
-    none-ended g.N.Nvm.state g.N.Nvm.wrote g.met.N.Nvm.obeys c.args.self.now c.args.self.now c.requires.ready.up refl
+    none_ended g.N.Nvm.state g.N.Nvm.wrote g.met.N.Nvm.obeys c.args.self.now c.args.self.now c.requires.ready.up refl
 
 pub returns-in_err-direct-clause-ended : goal.returns-in_err-direct-clause-ended
 returns-in_err-direct-clause-ended g c =
     let old = c.args.self.now in
     let p = err_from_is_err_and c.from_residual.result c.from_residual.ensures.1 in
     subst (λ (r : Result (Option Outcome) Stop). Ended (answer_of r) (g.N.Nvm.state (device_in old)) (g.N.Nvm.state (device_in c.direct.new.self))) (sym (p.1 ∙ ap (λ (s : Stop). Err s) p.2))
-    (commanded-ended g.N.Nvm.state g.N.Nvm.wrote g.met.N.Nvm.obeys _ old c.direct.new.self (Err c.in_err-direct.field-0.0) c.requires.ready (c.in_err-direct.ensures.done.commanded 1))
+    (commanded_ended g.N.Nvm.state g.N.Nvm.wrote g.met.N.Nvm.obeys _ old c.direct.new.self (Err c.in_err-direct.field-0.0) c.requires.ready (c.in_err-direct.ensures.done.commanded 1))
 
 pub returns-in-Answered-clause-ended : goal.returns-in-Answered-clause-ended
 returns-in-Answered-clause-ended g c =
-    commanded-ended g.N.Nvm.state g.N.Nvm.wrote g.met.N.Nvm.obeys _ c.args.self.now c.direct.new.self (Ok (outcome.Reply c.direct.new.reply)) c.requires.ready (returns-in-Answered-clause-done g c).commanded
+    commanded_ended g.N.Nvm.state g.N.Nvm.wrote g.met.N.Nvm.obeys _ c.args.self.now c.direct.new.self (Ok (outcome.Reply c.direct.new.reply)) c.requires.ready (returns-in-Answered-clause-done g c).commanded
 
 pub returns-in-Passed-clause-ended : goal.returns-in-Passed-clause-ended
 returns-in-Passed-clause-ended g c =
-    none-ended g.N.Nvm.state g.N.Nvm.wrote g.met.N.Nvm.obeys c.args.self.now (record c.direct.new.self { chain = Some c.begin.result }) c.requires.ready.up (returns-in-Passed-clause-done g c).device
+    none_ended g.N.Nvm.state g.N.Nvm.wrote g.met.N.Nvm.obeys c.args.self.now (record c.direct.new.self { chain = Some c.begin.result }) c.requires.ready.up (returns-in-Passed-clause-done g c).device

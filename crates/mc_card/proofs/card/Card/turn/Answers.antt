@@ -1,14 +1,14 @@
 use Rattle.std.proofs.Common.{ℕ, List, None, Ok, Err, sym, ◌∙◌, ap, subst}
 use Rattle.std.proofs.lemmas.Result.{err_from_is_err_and}
 use Rattle.std.specs.Option.{option_copied_mut}
-use Rattle.mc_model_device.proofs.LoopLemmas.{makes-same}
+use Rattle.mc_model_device.proofs.LoopLemmas.{makes_same}
 use Rattle.mc_model_machine.specs.Chain.{turn_of}
 use Rattle.mc_model_device.specs.Device.{Ended}
 use Rattle.mc_store.specs.GoingLaws.{going_is}
 use Rattle.mc_card.specs.declared.card.Card.{Card}
 use Rattle.mc_card.specs.Ends.{ChainTurned}
 use Rattle.mc_card.proofs.TurnLemmas.{card_of, done_made, turned_stop, turned_on, turned_off, turned_few, turned_steps}
-use Rattle.mc_card.proofs.DeviceLemmas.{made-ended}
+use Rattle.mc_card.proofs.DeviceLemmas.{made_ended}
 use Rattle.mc_card.proofs.card.Card.turn.Goals.{then-is_some, else-is_some}
 use Rattle.mc_card.proofs.card.Card.turn.Goals as goal
 
@@ -31,7 +31,7 @@ returns-in_err-told-clause-lent g c =
     let made =
     done_made g.N.Nvm.state g.N.Nvm.wrote g.met.N.Nvm.obeys c.args.self.now c.unwrap-chain.result.now (sym c.as_mut.ensures.value ∙ ap option_copied_mut c.unwrap-chain.ensures) c.turn.new.bank c.turn.new.chain
     (Err c.in_err-told.field-0.0) c.in_err-told.ensures.done r.0 r.1 r.2 in
-    makes-same g.N.Nvm.wrote g.N.Nvm.same g.met.N.Nvm.keeps g.met.N.Nvm.itself g.met.N.Nvm.onward made.writes c.args.self.now.store.device c.turn.new.bank.device (Err c.in_err-told.field-0.0) made.makes
+    makes_same g.N.Nvm.wrote g.N.Nvm.same g.met.N.Nvm.keeps g.met.N.Nvm.itself g.met.N.Nvm.onward made.writes c.args.self.now.store.device c.turn.new.bank.device (Err c.in_err-told.field-0.0) made.makes
 
 pub returns-clause-steps : goal.returns-clause-steps
 returns-clause-steps g c =
@@ -60,7 +60,7 @@ returns-clause-lent g c =
     let is = sym c.as_mut.ensures.value ∙ ap option_copied_mut c.unwrap-chain.ensures in
     let r = c.requires.running in
     let made = done_made g.N.Nvm.state g.N.Nvm.wrote g.met.N.Nvm.obeys old c.unwrap-chain.result.now is c.turn.new.bank c.turn.new.chain (Ok c.in_ok-told.told) c.in_ok-told.ensures.done r.0 r.1 r.2 in
-    let same = makes-same g.N.Nvm.wrote g.N.Nvm.same g.met.N.Nvm.keeps g.met.N.Nvm.itself g.met.N.Nvm.onward made.writes old.store.device c.turn.new.bank.device (Ok tt) made.makes in
+    let same = makes_same g.N.Nvm.wrote g.N.Nvm.same g.met.N.Nvm.keeps g.met.N.Nvm.itself g.met.N.Nvm.onward made.writes old.store.device c.turn.new.bank.device (Ok tt) made.makes in
     elim c.if-is_some.branch [
       | then-is_some w ↦ subst (λ (d : Card g.row.N.Denot). g.N.Nvm.same old.store.device d.store.device) (sym w.self-is) same
       | else-is_some w ↦ subst (λ (d : Card g.row.N.Denot). g.N.Nvm.same old.store.device d.store.device) (sym w.self-is) same
@@ -73,7 +73,7 @@ returns-in_err-told-clause-ended g c =
     let is = sym c.as_mut.ensures.value ∙ ap option_copied_mut c.unwrap-chain.ensures in
     let p = err_from_is_err_and c.from_residual.result c.from_residual.ensures.1 in
     let made = done_made g.N.Nvm.state g.N.Nvm.wrote g.met.N.Nvm.obeys old c.unwrap-chain.result.now is c.turn.new.bank c.turn.new.chain (Err c.in_err-told.field-0.0) c.in_err-told.ensures.done r.0 r.1 r.2 in
-    rw (p.1, p.2) (made-ended g.N.Nvm.state g.N.Nvm.wrote g.met.N.Nvm.obeys _ _ old.store.device c.turn.new.bank.device (Err c.in_err-told.field-0.0) (going_is (g.N.Nvm.state old.store.device) old.store.count r.2.up.going).on made)
+    rw (p.1, p.2) (made_ended g.N.Nvm.state g.N.Nvm.wrote g.met.N.Nvm.obeys _ _ old.store.device c.turn.new.bank.device (Err c.in_err-told.field-0.0) (going_is (g.N.Nvm.state old.store.device) old.store.count r.2.up.going).on made)
 
 pub returns-clause-ended : goal.returns-clause-ended
 returns-clause-ended g c =
@@ -81,7 +81,7 @@ returns-clause-ended g c =
     let is = sym c.as_mut.ensures.value ∙ ap option_copied_mut c.unwrap-chain.ensures in
     let r = c.requires.running in
     let made = done_made g.N.Nvm.state g.N.Nvm.wrote g.met.N.Nvm.obeys old c.unwrap-chain.result.now is c.turn.new.bank c.turn.new.chain (Ok c.in_ok-told.told) c.in_ok-told.ensures.done r.0 r.1 r.2 in
-    let ended = made-ended g.N.Nvm.state g.N.Nvm.wrote g.met.N.Nvm.obeys _ _ old.store.device c.turn.new.bank.device (Ok tt) (going_is (g.N.Nvm.state old.store.device) old.store.count r.2.up.going).on made in
+    let ended = made_ended g.N.Nvm.state g.N.Nvm.wrote g.met.N.Nvm.obeys _ _ old.store.device c.turn.new.bank.device (Ok tt) (going_is (g.N.Nvm.state old.store.device) old.store.count r.2.up.going).on made in
     elim c.if-is_some.branch [
       | then-is_some w ↦ subst (λ (d : Card g.row.N.Denot). Ended (Ok tt) (g.N.Nvm.state old.store.device) (g.N.Nvm.state d.store.device)) (sym w.self-is) ended
       | else-is_some w ↦ subst (λ (d : Card g.row.N.Denot). Ended (Ok tt) (g.N.Nvm.state old.store.device) (g.N.Nvm.state d.store.device)) (sym w.self-is) ended

@@ -1,5 +1,5 @@
 use Rattle.std.proofs.Common.{◌≡◌, length}
-use Rattle.mc_check.specs.Searching.{Searches, StaySeen, IsSeen, left}
+use Rattle.mc_check.specs.Searching.{Searches, StaySeen, IsSeen, remaining_work}
 use Rattle.mc_check.proofs.bases.Search.find.Given as goal
 
 abbrev pub invariant-loop-last : goal.invariant-loop-last
@@ -11,4 +11,4 @@ invariant-loop-last l = record {
 }
 
 abbrev pub decreases-loop-last : goal.decreases-loop-last
-decreases-loop-last l = left l.self.progress.items l.self.stack.items
+decreases-loop-last l = remaining_work l.self.progress.items l.self.stack.items

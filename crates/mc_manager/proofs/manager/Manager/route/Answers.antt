@@ -4,7 +4,7 @@ use Rattle.mc_model_card.specs.Manager.{manage}
 use Rattle.mc_apdu.specs.Command.{parts_of}
 use Rattle.mc_manager.specs.ManagerState.{view_of, seat_of}
 use Rattle.mc_manager.specs.CommandDue.{due_manager, due}
-use Rattle.mc_manager.specs.Ruled.{placed}
+use Rattle.mc_manager.specs.Ruled.{ruling_or_stop}
 use Rattle.mc_manager.proofs.EndsLemmas.{ends_as, manager_due}
 use Rattle.mc_manager.proofs.StaleLemmas.{none_stale}
 use Rattle.mc_manager.proofs.manager.Manager.route.Goals as goal
@@ -15,11 +15,11 @@ returns-then-apdu-3-clause-ends g c =
     let w = view_of g.B.Bank.state g.B.Bank.named g.B.Bank.room g.B.Bank.standing c.manage.new.bank in
     let m = c.args.self.now in
     let a = parts_of c.args.apdu.now in
-    ends_as g.B.Bank.did (λ s. due v s m a) (λ s. due_manager (manage v.room v.state.apps (seat_of v.standing s m) a)) v m c.args.bank.now (placed c.manage.result c.manage.new.reply) w c.manage.new.self c.manage.new.bank
+    ends_as g.B.Bank.did (λ s. due v s m a) (λ s. due_manager (manage v.room v.state.apps (seat_of v.standing s m) a)) v m c.args.bank.now (ruling_or_stop c.manage.result c.manage.new.reply) w c.manage.new.self c.manage.new.bank
     (λ s. manager_due v s m a c.if-apdu-3.true) c.manage.ensures.ends
 
 pub returns-then-apdu-3-clause-no_stale_byte : goal.returns-then-apdu-3-clause-no_stale_byte
 returns-then-apdu-3-clause-no_stale_byte g c =
     let v = view_of g.B.Bank.state g.B.Bank.named g.B.Bank.room g.B.Bank.standing c.args.bank.now in
     let ends = returns-then-apdu-3-clause-ends g c in
-    none_stale v [] c.args.self.now (parts_of c.args.apdu.now) (answer_of (placed c.manage.result c.manage.new.reply)) (g.B.Bank.state c.manage.new.bank) (ends.apps [])
+    none_stale v [] c.args.self.now (parts_of c.args.apdu.now) (answer_of (ruling_or_stop c.manage.result c.manage.new.reply)) (g.B.Bank.state c.manage.new.bank) (ends.apps [])

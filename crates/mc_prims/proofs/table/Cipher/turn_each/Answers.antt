@@ -1,12 +1,12 @@
 use Rattle.std.proofs.Common.{◌≡◌, ℕ, take, drop, ◌++◌, ◌+◌, ◌-◌, ◌*◌, ◌/◌, ◌≤◌, suc, length, arith, subst}
 use Rattle.mc_model_machine.specs.Modes.{ecb, each, blocks_of}
-use Rattle.mc_prims.specs.Table.{cipher_of, turned}
+use Rattle.mc_prims.specs.Table.{cipher_of, block_under_key}
 use Rattle.mc_prims.proofs.BlocksLemmas.{each_step}
 use Rattle.mc_prims.proofs.table.Cipher.turn_each.Goals as goal
 
 pub loop-i-preserved : goal.loop-i-preserved
 loop-i-preserved c =
-    let turn = turned c.args.way (cipher_of c.args.self) c.args.key.now in
+    let turn = block_under_key c.args.way (cipher_of c.args.self) c.args.key.now in
     let size = c.block_len-size.result in
     let n = length c.args.message.now / size in
     let left : n - c.loop-i.i ≡ suc (n - (c.loop-i.i + 1)) = omega arith in

@@ -1,10 +1,10 @@
 use Rattle.std.proofs.Common.{◌≡◌, ◌-◌, ◌*◌, ◌/◌, ◌++◌, length, take, drop}
 use Rattle.mc_model_machine.specs.Modes.{ecb, each, blocks_of}
-use Rattle.mc_prims.specs.Table.{cipher_of, turned}
+use Rattle.mc_prims.specs.Table.{cipher_of, block_under_key}
 use Rattle.mc_prims.proofs.table.Cipher.turn_each.Given as goal
 
 -- the blocks done so far, followed by the other blocks enciphered or deciphered, are the whole message so
 abbrev pub invariant-loop-i : goal.invariant-loop-i
 invariant-loop-i l =
-    let turn = turned l.way (cipher_of l.self) l.key in
+    let turn = block_under_key l.way (cipher_of l.self) l.key in
     take (l.size * l.i) l.message ++ each turn (blocks_of (length l.fn.message / l.size - l.i) l.size (drop (l.size * l.i) l.message)) ≡ ecb turn l.size l.fn.message

@@ -1,4 +1,4 @@
-use Rattle.mc_card.specs.Ends.{put_in}
+use Rattle.mc_card.specs.Ends.{outcome_or_stop}
 use Rattle.mc_card.proofs.CommandLemmas.{commanded_into}
 use Rattle.mc_script.proofs.CommandLemmas.{untold_ran}
 use Rattle.mc_script.proofs.runner.SilentRunner.run.Goals as goal
@@ -6,5 +6,5 @@ use Rattle.mc_script.proofs.runner.SilentRunner.run.Goals as goal
 pub returns-clause-done : goal.returns-clause-done
 returns-clause-done g c =
     let e = c.command_into.ensures in
-    untold_ran g.N.Nvm.state g.N.Nvm.wrote _ (put_in c.command_into.result c.command_into.new.into) c.args.card.now c.command_into.new.self _ _ _ (λ ts. tt)
+    untold_ran g.N.Nvm.state g.N.Nvm.wrote _ (outcome_or_stop c.command_into.result c.command_into.new.into) c.args.card.now c.command_into.new.self _ _ _ (λ ts. tt)
     (commanded_into g.N.Nvm.state g.N.Nvm.wrote c.args.card.now c.command_into.new.self _ c.command_into.result c.command_into.new.into e.made e.outcome e.seat e.on)

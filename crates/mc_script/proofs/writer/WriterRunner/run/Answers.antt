@@ -1,4 +1,4 @@
-use Rattle.mc_card.specs.Ends.{put_in}
+use Rattle.mc_card.specs.Ends.{outcome_or_stop}
 use Rattle.mc_card.proofs.CommandLemmas.{commanded_into}
 use Rattle.mc_script.proofs.CommandLemmas.{untold_ran}
 use Rattle.mc_script.proofs.LoggedLemmas.{keeps_untold}
@@ -7,6 +7,6 @@ use Rattle.mc_script.proofs.writer.WriterRunner.run.Goals as goal
 pub returns-in-Results-clause-done : goal.returns-in-Results-clause-done
 returns-in-Results-clause-done g c =
     let e = c.command_into.ensures in
-    untold_ran g.N.Nvm.state g.N.Nvm.wrote _ (put_in c.command_into.result c.command_into.new.into) c.args.card.now c.command_into.new.self _ _ _
+    untold_ran g.N.Nvm.state g.N.Nvm.wrote _ (outcome_or_stop c.command_into.result c.command_into.new.into) c.args.card.now c.command_into.new.self _ _ _
     (λ ts. keeps_untold g.T.Sink.taken g.T.Sink.faults c.args.self.now ts c.in-Results.is)
     (commanded_into g.N.Nvm.state g.N.Nvm.wrote c.args.card.now c.command_into.new.self _ c.command_into.result c.command_into.new.into e.made e.outcome e.seat e.on)

@@ -1,4 +1,4 @@
-use Rattle.mc_store.specs.Store.{store_room, apps_in, needed_by}
+use Rattle.mc_store.specs.Store.{store_room, apps_in, words_of_sizes}
 use Rattle.mc_store.proofs.ReadLemmas.{answers, good_site, open_parts, open_steps}
 use Rattle.mc_model_device.specs.Device.{sized}
 use Rattle.mc_store.proofs.store.StoreBank.open.Goals as goal
@@ -20,12 +20,12 @@ returns-clause-parts g c =
 
 pub returns-clause-rises : goal.returns-clause-rises
 returns-clause-rises g c =
-    (open_steps (g.N.Nvm.state c.args.self.now.device) c.args.self.now.count (needed_by c.args.sizes.now) c.args.steps.now c.find_room.new.steps c.requires.going c.find_room.ensures.ticks).rises
+    (open_steps (g.N.Nvm.state c.args.self.now.device) c.args.self.now.count (words_of_sizes c.args.sizes.now) c.args.steps.now c.find_room.new.steps c.requires.going c.find_room.ensures.ticks).rises
 
 pub returns-clause-ticks : goal.returns-clause-ticks
 returns-clause-ticks g c =
-    (open_steps (g.N.Nvm.state c.args.self.now.device) c.args.self.now.count (needed_by c.args.sizes.now) c.args.steps.now c.find_room.new.steps c.requires.going c.find_room.ensures.ticks).ticks
+    (open_steps (g.N.Nvm.state c.args.self.now.device) c.args.self.now.count (words_of_sizes c.args.sizes.now) c.args.steps.now c.find_room.new.steps c.requires.going c.find_room.ensures.ticks).ticks
 
 pub returns-clause-full : goal.returns-clause-full
 returns-clause-full g c =
-    (open_steps (g.N.Nvm.state c.args.self.now.device) c.args.self.now.count (needed_by c.args.sizes.now) c.args.steps.now c.find_room.new.steps c.requires.going c.find_room.ensures.ticks).full
+    (open_steps (g.N.Nvm.state c.args.self.now.device) c.args.self.now.count (words_of_sizes c.args.sizes.now) c.args.steps.now c.find_room.new.steps c.requires.going c.find_room.ensures.ticks).full
