@@ -1,4 +1,4 @@
--- What the atomic writes of a chain leave of a card.
+-- A card after the atomic writes of a chain.
 use Rattle.std.proofs.Common.{◌≡◌, ℕ, true, false, List, length, Option, Some, None, Ok, refl, sym, ◌∙◌, subst}
 use Rattle.std.specs.Prelude.{option_map}
 use Rattle.mc_model_card.specs.declared.card.Part.{Part}
@@ -27,7 +27,7 @@ use Rattle.mc_card.proofs.MadeLemmas.{card_found}
 use Rattle.mc_card.proofs.WriteLemmas.{AsCommits, as_commits, writes_made}
 use Rattle.std.proofs.lemmas.Bool.{not-false}
 
--- the seat with other session bytes
+-- a session state with other session bytes
 seat_with : (standing : Site → Part → List ℕ) (old new : List ℕ) (m : ManagerState) → seat_of standing new m ≡ with_session new (seat_of standing old m)
 seat_with standing old new m = by_selected m.selected
   where
@@ -45,11 +45,11 @@ module _ {N : Type 0} (state : N → DeviceState) (wrote : N → ℕ → List �
   abbrev did : Store N → BankItem → Answer → Store N → Type 0
   did s i a e = store_did state wrote s i a e
 
-  -- what the manager sees of a store
+  -- the bank that the manager sees over a store
   abbrev view_at : Store N → BankView
   view_at s = record { state = bank_state s; named = store_named (state s.device); room = store_room (state s.device); standing = store_standing (state s.device) }
 
-  -- the manager's slots and sites stay through the writes of a chain
+  -- the manager's slots and sites are unchanged by the writes of a chain
   pub view_stays : (ws : List Write) (s e : Store N) (a : Answer) → InOrder (ChainWrote did bank_state) s ws a e → KeepsSlotsAndSites (view_at s) (view_at e)
   view_stays ws s e a h =
       let c : AsCommits did bank_state s a e = as_commits did bank_state ws s e a h in
@@ -61,7 +61,7 @@ module _ {N : Type 0} (state : N → DeviceState) (wrote : N → ℕ → List �
   -- ---- a card that runs
 
   module _ (c : Card N) (up : IsUp state c) (ws : List Write) (sound : AreSound (card_in state c).apps ws) where
-    -- the writes, as items
+    -- the writes, as items of the definition
     pub card_made : (e : Store N) (a : Answer) → InOrder (ChainWrote did bank_state) c.store ws a e → ItemsMade state wrote (card_in state c) (write_items ws) c.store.device a e.device
     card_made e a h = writes_made state wrote obeys ws c.store e a (going_is (state c.store.device) c.store.count up.going) sound h
 
@@ -70,11 +70,11 @@ module _ {N : Type 0} (state : N → DeviceState) (wrote : N → ℕ → List �
       pub card_after : card_done (card_in state c) (write_items ws) ≡ means (state e.device).words
       card_after = card_found (card_done (card_in state c) (write_items ws)) 0 (state e.device).words (card_made e (Ok tt) h).done
 
-      -- its applications have the sizes of before
+      -- its applications have sections of the lengths before the writes
       pub sizes_after : SameLengths (card_in state c).apps (means (state e.device).words).apps
       sizes_after = subst (λ (m : ModelCard). SameLengths (card_in state c).apps m.apps) card_after (sizes_done ws (card_in state c).apps sound)
 
-      -- it runs with session bytes that are as many as the selected application has
+      -- it runs with as many session bytes as the selected application has
       pub still_up : (session : List ℕ) (chain : Option Chained) → (bank_state e).stopped ≡ false
           → ((s : Selection) → c.manager.selected ≡ Some s → length session ≡ (app_of (card_in state c).apps (Some s.aid)).session)
           → IsUp state (record { store = e; manager = c.manager; session = session; chain = chain })
@@ -84,11 +84,11 @@ module _ {N : Type 0} (state : N → DeviceState) (wrote : N → ℕ → List �
         session = λ s is. size s is ∙ sym (sizes_after.session s.aid);
       }
 
-      -- its seat with the session bytes that it had
+      -- its session state, with unchanged session bytes
       pub same_seat : seat_of (store_standing (state e.device)) c.session c.manager ≡ seat_in state c
       same_seat = seat_kept (view_at c.store) (view_at e) c.manager (view_stays ws c.store e (Ok tt) h) up.fits c.session
 
-      -- and with others
+      -- its session state with other session bytes
       pub seat_after : (session : List ℕ) → seat_of (store_standing (state e.device)) session c.manager ≡ with_session session (seat_in state c)
       seat_after session =
           seat_kept (view_at c.store) (view_at e) c.manager (view_stays ws c.store e (Ok tt) h) up.fits session ∙ seat_with (store_standing (state c.store.device)) c.session session c.manager

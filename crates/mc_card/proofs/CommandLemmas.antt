@@ -1,4 +1,4 @@
--- A command over a card: one that the manager answers, and one that the selected application runs.
+-- A command on a card: one that the manager answers, and one that the selected application runs.
 use Rattle.std.proofs.Common.{◌≡◌, ℕ, ◌+◌, ◌≤◌, Bool, true, false, cond, List, length, Option, Some, None, Result, Ok, Err, refl, sym, ◌∙◌, ap, subst, arith}
 use Rattle.std.specs.Prelude.{◌==◌, ◌&&◌, is_some, option_map, IsSome, IfOk, OnOk, OnErr}
 use Rattle.mc_model_device.specs.declared.device.Stop.{Stop}
@@ -36,14 +36,14 @@ use Rattle.mc_card.proofs.AfterLemmas.{card_made, still_up, seat_after}
 
 -- ---- steps
 
--- a command that is not for the manager makes no steps there
+-- a command of another class than BE makes no steps in the manager
 quiet_ticks : (a : ApduParts) (n : ℕ) → (a.cla == 0xBE) ≡ false → most_ticks a n ≡ 0
 quiet_ticks a n other = ap (λ (b : Bool). cond (b && a.ins == 0x12) n 0) other
 
 no_more : (old new n : ℕ) → n ≡ 0 → old ≤ new → new ≤ old + n → new ≡ old
 no_more old new n none low high = omega (arith, none, low, high)
 
--- the manager makes no steps where a command is passed on
+-- a command for an application makes no steps in the manager
 pub passed_quiet : (a : ApduParts) (old new n : ℕ) → route_of_parts (Some a) ≡ ToApplication a → old ≤ new → new ≤ old + most_ticks a n → new ≡ old
 passed_quiet a old new n is low high = by_tests (a.cla == 0xFF) (a.cla == 0 && a.ins == 0xA4 && a.p1 == 4) (a.cla == 0xBE) refl is
   where
@@ -71,7 +71,7 @@ module _ {N : Type 0} (state : N → DeviceState) (wrote : N → ℕ → List �
   abbrev did : Store N → BankItem → Answer → Store N → Type 0
   did s i a e = store_did state wrote s i a e
 
-  -- a command whose length is wrong
+  -- a command of a wrong length
   pub wrong_done : (c : Card N) (bytes : List ℕ) (budget : ℕ) (o : Outcome) → IsReadyCard state c → apdu_read bytes ≡ None → outcome_value o ≡ status 0x6700 → Commanded state wrote c (due state c bytes budget) (Ok o) c
   wrong_done c bytes budget o ready wrong is =
       subst (λ (r : Command). Commanded state wrote c r (Ok o) c) (sym (due_route (card_in state c) (seat_in state c) bytes budget None wrong))
@@ -89,7 +89,7 @@ module _ {N : Type 0} (state : N → DeviceState) (wrote : N → ℕ → List �
         commanded = subst (λ (r : Command). Commanded state wrote c r result d) (sym (due_route (card_in state c) (seat_in state c) bytes budget (Some a) is)) (h.commanded budget);
       }
 
-  -- each of its items is small
+  -- each item of a command that the manager answers makes at most 84 writes
   pub answered_within : (c d : Card N) (bytes : List ℕ) (budget : ℕ) (result : Result Outcome Stop) → IsReadyCard state c → IsSized (state c.store.device).words → Answered state wrote c bytes budget result d
       → MadeWithin wrote (most_weight (route bytes)) (due state c bytes budget).items c.store.device (answer_of result) d.store.device
   answered_within c d bytes budget result ready image h =
@@ -99,26 +99,26 @@ module _ {N : Type 0} (state : N → DeviceState) (wrote : N → ℕ → List �
 
   -- ---- a command that the selected application runs
 
-  -- what a run did to a card, with the run that it is
+  -- the end of a run on a card, with its run
   pub record RunDid (c : Card N) (r : Ran) (result : Result Outcome Stop) (e : Store N) (bytes : List ℕ) : Type 0 where
     pub writes : InOrder (ChainWrote did bank_state) c.store r.writes (answer_of result) e
     pub outcome : IfOk result (λ o. outcome_value o ≡ r.outcome)
     pub session : OnOk result (bytes ≡ r.session)
     pub going : OnOk result ((bank_state e).stopped ≡ false)
 
-  -- a run by its result did so, whose reply was written to a place
+  -- a run on a card, from its result and the reply that was written to a place
   pub run_did : (c : Card N) (r : Ran) (x : Result End Stop) (reply : Reply) (e : Store N) (bytes : List ℕ) → InOrder (ChainWrote did bank_state) c.store r.writes (answer_of x) e
       → IfOk x (λ o. outcome_value (outcome_by o reply) ≡ r.outcome) → OnOk x (bytes ≡ r.session) → OnOk x ((bank_state e).stopped ≡ false) → RunDid c r (reply_or_stop x reply) e bytes
   run_did c r (Ok o) reply e bytes writes outcome session going = record { writes = writes; outcome = outcome; session = session; going = going }
   run_did c r (Err s) reply e bytes writes outcome session going = record { writes = writes; outcome = tt; session = tt; going = tt }
 
-  -- and it counted its steps
+  -- the steps of a run
   pub run_counted : (r : Ran) (x : Result End Stop) (reply : Reply) (old new : ℕ) → OnOk x (new ≡ old + r.count) → OnErr x (new ≤ old + r.count)
       → OnOk (reply_or_stop x reply) (new ≡ old + r.count) × OnErr (reply_or_stop x reply) (new ≤ old + r.count)
   run_counted r (Ok o) reply old new ticks most = (ticks, tt)
   run_counted r (Err s) reply old new ticks most = (tt, most)
 
-  -- the run of the application of a slot
+  -- the run of the application in a slot
   abbrev pub run_of : Card N → ℕ → ApduParts → ℕ → Ran
   run_of c slot a budget = run (apps_in (state c.store.device).words) (name_or (store_named (state c.store.device) slot)) c.session a budget
 
@@ -129,7 +129,7 @@ module _ {N : Type 0} (state : N → DeviceState) (wrote : N → ℕ → List �
     apps_own : apps_in (state c.store.device).words ≡ (card_in state c).apps
     apps_own = going_apps (state c.store.device) c.store.count ready.up.going
 
-    -- the session bytes are as many as the application of its slot has
+    -- there are as many session bytes as the application in the slot of the selection has
     pub slot_session : (slot : ℕ) → t.slot ≡ slot → length c.session ≡ (app_of (apps_in (state c.store.device).words) (store_named (state c.store.device) slot)).session
     slot_session slot at =
         ready.up.session t is ∙ ap (λ (es : List (List ℕ × App)). (app_of es (Some t.aid)).session) (sym apps_own)
@@ -193,7 +193,7 @@ module _ {N : Type 0} (state : N → DeviceState) (wrote : N → ℕ → List �
         subst (λ (r : Command). Commanded state wrote c r result (record c { store = e; session = session })) (sym (due_ran a budget bytes read to))
         (ran_commanded a budget result e session (subst (λ (r : Ran). RunDid c r result e session) (run_same a budget slot at) h))
 
-    -- each write that was begun is small
+    -- each item of a run that was begun makes at most 147 writes
     pub ran_within : (a : ApduParts) (budget slot : ℕ) (bytes : List ℕ) (result : Result Outcome Stop) (e : Store N) (session : List ℕ) → t.slot ≡ slot → apdu_read bytes ≡ Some a → route_of_parts (Some a) ≡ ToApplication a
         → RunDid c (run_of c slot a budget) result e session
         → MadeWithin wrote (most_weight (route bytes)) (due state c bytes budget).items c.store.device (answer_of result) e.device
@@ -219,7 +219,7 @@ module _ {N : Type 0} (state : N → DeviceState) (wrote : N → ℕ → List �
         (subst (λ (r : Ran). RunSteps r (answer_of result) old new) (run_same a budget slot at)
         (steps_by (run_of c slot a budget) result old new done most)))
 
-    -- ---- the beginning of such a command
+    -- ---- the beginning of a command that an application runs
 
     pub begun_done : (a : ApduParts) (budget slot : ℕ) (bytes : List ℕ) (k : Chained) → t.slot ≡ slot → apdu_read bytes ≡ Some a → route_of_parts (Some a) ≡ ToApplication a
         → RunsAs (view_in state c).state (view_in state c).named k (start (apps_in (state c.store.device).words) (name_or (store_named (state c.store.device) slot)) c.session a) → k.left ≡ budget
@@ -244,7 +244,7 @@ module _ {N : Type 0} (state : N → DeviceState) (wrote : N → ℕ → List �
           };
         }
 
-  -- ---- a command that was passed on
+  -- ---- a command that was passed to the application
 
   pub passed_commanded : (c d : Card N) (a : ApduParts) (slot budget : ℕ) (bytes : List ℕ) (result : Result Outcome Stop) (e : Store N) (session : List ℕ) → IsReadyCard state c → IsPassed state wrote c a slot d → apdu_read bytes ≡ Some a
       → RunDid d (run_of d slot a budget) result e session → Commanded state wrote c (due state c bytes budget) result (record d { store = e; session = session })

@@ -1,4 +1,4 @@
--- What a command leaves of the device itself: which one it is, its power, and its counts of stops.
+-- The device after a command: it is the same one, with its power and its numbers of stops.
 use Rattle.std.proofs.Common.{◌≡◌, ℕ, true, List, Some, Result, Ok, Err, refl, sym, subst}
 use Rattle.mc_model_device.specs.declared.device.Stop.{Stop}
 use Rattle.mc_model_device.specs.Orders.{Answer, answer_of}
@@ -31,7 +31,7 @@ module _ {D : Type 0} (state : D → DeviceState) (wrote : D → ℕ → List �
 
 module _ {D : Type 0} (state : D → DeviceState) (wrote : D → ℕ → List ℕ → Answer → D → Type 0)
     (obeys : (d : D) (at : ℕ) (w : List ℕ) (a : Answer) (e : D) → (state d).on ≡ true → wrote d at w a e → Wrote (state d) at w a (state e)) where
-  -- items that were done leave power and counts, and a stop raised its count
+  -- items that were done leave power and the numbers of stops, and a stop has raised its number
   pub made_ended : (c : Card) (is : List Item) (d e : D) (a : Answer) → (state d).on ≡ true → ItemsMade state wrote c is d a e → Ended a (state d) (state e)
   made_ended c is d e (Ok tt) on m =
       let all : DoneAll (state d) m.writes (state e) = makes_done state wrote obeys m.writes d e on m.makes in
@@ -42,7 +42,7 @@ module _ {D : Type 0} (state : D → DeviceState) (wrote : D → ℕ → List �
   commanded_ended r c d result ready h =
       made_ended (card_in state c) r.items (device_in c) (device_in d) (answer_of result) (going_is (state c.store.device) c.store.count ready.up.going).on h.made
 
-  -- nothing was written
+  -- a command without writes
   pub none_ended : (c d : CardOf D) → IsUp state c → device_in d ≡ device_in c → Ended (Ok tt) (state (device_in c)) (state (device_in d))
   none_ended c d up same =
       subst (λ (x : D). Ended (Ok tt) (state (device_in c)) (state x)) (sym same) ((going_is (state c.store.device) c.store.count up.going).on, refl, refl)

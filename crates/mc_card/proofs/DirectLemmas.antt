@@ -1,4 +1,4 @@
--- A command as the manager of a card deals with it: what it makes, what it answers, and that the card is ready again.
+-- A command that the manager of a card handles: its items, its answer, and that the card is ready again.
 use Rattle.std.proofs.Common.{◌≡◌, ℕ, Bool, true, false, cond, List, [], length, Option, Some, None, Ok, Err, refl, sym, ◌∙◌, ap, subst}
 use Rattle.std.specs.Prelude.{◌==◌, ◌&&◌, Result, bytes_eq, is_some, option_map, unwrap_or, IsSome}
 use Rattle.std.proofs.lemmas.List.{length-replicate}
@@ -42,9 +42,9 @@ use Rattle.mc_card.proofs.ManagerLemmas.{none_of, due_made}
 use Rattle.mc_model_device.proofs.MapLemmas.{same_name, lookup_beside, lookup_left, other_way}
 use Rattle.mc_model_device.proofs.BoolLemmas.{no_value}
 
--- ---- what a command is due, and what it does
+-- ---- the verdict on a command, and what it does
 
--- the outcome and the seat of a command, by what it is due
+-- the outcome and the session state of a command are those of the verdict on it
 abbrev Matches : CommandDue → Seat → Command → Type 0
 Matches (Refuses sw) seat r = (r.outcome ≡ Reply [] sw) × (r.seat ≡ seat)
 Matches (Selects d) seat r = (r.outcome ≡ Reply d.body 0x9000) × (r.seat ≡ d.seat)
@@ -63,7 +63,7 @@ application_matches : (c : ModelCard) (seat : Seat) (x : Option Selected) (a : A
 application_matches c seat None a budget = (refl, refl)
 application_matches c seat (Some s) a budget = tt
 
--- a command that is not passed is due something else
+-- a command that is not passed to the application has another verdict
 pub passed_not : (v : BankView) (seat : Seat) (r : Route) → (due_on v seat r ≡ Passes → ⊥) → is_passed r seat.selected ≡ false
 passed_not v seat WrongLength h = refl
 passed_not v seat WrongClass h = refl
@@ -75,10 +75,10 @@ passed_not v seat (ToApplication a) h = by_selected seat.selected h
     by_selected None h = refl
     by_selected (Some s) h = absurd (h refl)
 
--- ---- the selected application stays
+-- ---- the selected application is unchanged
 
 module _ (apps : List (List ℕ × App)) (n : List ℕ) (there : is_some (lookup apps n) ≡ true) where
-  -- the application of this name is the same after a command
+  -- the application of this name is unchanged by a command
   abbrev CommandSpares : CommandDue → Type 0
   CommandSpares d = lookup (apps_after d apps) n ≡ lookup apps n
 
@@ -135,7 +135,7 @@ module _ (apps : List (List ℕ × App)) (n : List ℕ) (there : is_some (lookup
       (by_test _ _ (load_spares part.Dir seat a) (by_test _ _ (load_spares part.Fci seat a)
       (by_test _ _ (create_spares seat a) (by_test _ _ (delete_spares seat a other) refl (a.ins == 0x18)) (a.ins == 0x16)) (a.ins == 0x22)) (a.ins == 0x20)) (a.ins == 0x26)) (a.ins == 0x24)) (a.ins == 0x12)
 
--- the selected application is the same after a command
+-- the selected application is unchanged by a command
 due_spares : (v : BankView) (s : List ℕ) (m : ManagerState) (t : Selection) (r : Route) → m.selected ≡ Some t → is_some (lookup v.state.apps t.aid) ≡ true
     → lookup (apps_after (due_on v (seat_of v.standing s m) r) v.state.apps) t.aid ≡ lookup v.state.apps t.aid
 due_spares v s m t WrongLength is there = refl
@@ -172,7 +172,7 @@ selected_of (Selects d) reply s v w m n leaves = absurd leaves
 selected_of (Does d) reply s v w m n leaves = leaves.selected
 selected_of Passes reply s v w m n leaves = absurd leaves
 
--- a new selection comes from a SELECT alone, which makes no items
+-- only a SELECT makes a new selection, and it makes no items
 quiet_select : (v : BankView) (seat : Seat) (r : Route) (d : Accepted) → due_on v seat r ≡ Selects d → d.items ≡ []
 quiet_select v seat WrongLength d h = absurd (cc h)
 quiet_select v seat WrongClass d h = absurd (cc h)
@@ -193,7 +193,7 @@ quiet_select v seat (ToApplication a) d h = by_selected seat.selected h
     by_selected None e = absurd (cc e)
     by_selected (Some s) e = absurd (cc e)
 
--- ---- the route of a command that is passed on
+-- ---- the route of a command that is passed to the application
 
 routed_apdu : (a x : ApduParts) → route_of_parts (Some a) ≡ ToApplication x → x ≡ a
 routed_apdu a x h = by_tests (a.cla == 0xFF) (a.cla == 0 && a.ins == 0xA4 && a.p1 == 4) (a.cla == 0xBE) h
@@ -226,14 +226,14 @@ card_same c d store manager session chain =
 
 -- ---- the clauses
 
--- what the manager did to a command over a card
+-- the end of a command that the manager of a card handled
 abbrev pub DirectEnds : {N : Type 0} → (N → DeviceState) → (N → ℕ → List ℕ → Answer → N → Type 0) → Card N → ApduParts → Result Routed Stop → Card N → Type 0
 DirectEnds state wrote c a result d =
     CommandEnds (store_did state wrote) (λ s. due (view_in state c) s c.manager a) (view_in state c) c.manager c.store result (view_in state d) d.manager d.store
 
 module _ {N : Type 0} (state : N → DeviceState) (wrote : N → ℕ → List ℕ → Answer → N → Type 0)
     (obeys : (d : N) (at : ℕ) (w : List ℕ) (a : Answer) (e : N) → (state d).on ≡ true → wrote d at w a e → Wrote (state d) at w a (state e)) where
-  -- the outcome and the seat of a command are those that it is due
+  -- the outcome and the session state of a command are those of the verdict on it
   matches : (c : Card N) (budget : ℕ) (r : Route) → is_going (state c.store.device) c.store.count ≡ true → Matches (due_on (view_in state c) (seat_in state c) r) (seat_in state c) (by_route (card_in state c) (seat_in state c) budget r)
   matches c budget WrongLength going = (refl, refl)
   matches c budget WrongClass going = (refl, refl)
@@ -245,7 +245,7 @@ module _ {N : Type 0} (state : N → DeviceState) (wrote : N → ℕ → List �
       (sym (going_apps (state c.store.device) c.store.count going)) (manager_matches (card_in state c) (seat_in state c) (manage (room_on (card_in state c)) (card_in state c).apps (seat_in state c) a))
   matches c budget (ToApplication a) going = application_matches (card_in state c) (seat_in state c) (seat_in state c).selected a budget
 
-  -- the seat after an answer
+  -- the session state after an answer
   seat_of_answer : (x : CommandDue) (c d : Card N) (r : Command) (reply : CardReply) → d.session ≡ c.session → Matches x (seat_in state c) r → InOrder (store_did state wrote) c.store (items_of x) (Ok tt) d.store
       → CommandLeaves x c.session (view_in state c) c.manager (Answers reply) (view_in state d) d.manager → seat_in state d ≡ r.seat
   seat_of_answer (Refuses sw) c d r reply session match items leaves =
@@ -256,7 +256,7 @@ module _ {N : Type 0} (state : N → DeviceState) (wrote : N → ℕ → List �
   seat_of_answer (Does q) c d r reply session match items leaves = ap (λ (s : List ℕ). seat_of (store_standing (state d.store.device)) s d.manager) session ∙ leaves.seat ∙ sym match.1
   seat_of_answer Passes c d r reply session match items leaves = absurd leaves
 
-  -- the session bytes of the selected application
+  -- the number of session bytes of the selected application is unchanged
   session_stays : (c d : Card N) (t : Selection) (after : List (List ℕ × App)) → is_going (state c.store.device) c.store.count ≡ true → is_going (state d.store.device) d.store.count ≡ true → apps_in (state d.store.device).words ≡ after
       → lookup after t.aid ≡ lookup (apps_in (state c.store.device).words) t.aid → (app_of (card_in state d).apps (Some t.aid)).session ≡ (app_of (card_in state c).apps (Some t.aid)).session
   session_stays c d t after before now apps same =
@@ -264,7 +264,7 @@ module _ {N : Type 0} (state : N → DeviceState) (wrote : N → ℕ → List �
       ∙ ap (λ (o : Option App). (unwrap_or o no_app).session) same
       ∙ ap (λ (es : List (List ℕ × App)). (app_of es (Some t.aid)).session) (going_apps (state c.store.device) c.store.count before)
 
-  -- a selected application is there
+  -- the selected application is on the card
   selected_there : (c : Card N) (t : Selection) → ManagerFits (view_in state c) c.manager → c.manager.selected ≡ Some t → is_some (lookup (apps_in (state c.store.device).words) t.aid) ≡ true
   selected_there c t fits is =
       let apps = apps_in (state c.store.device).words in
@@ -307,7 +307,7 @@ module _ {N : Type 0} (state : N → DeviceState) (wrote : N → ℕ → List �
   stops_not : (x : CommandDue) (c d : Card N) (t : Stop) → x ≡ Passes → InOrder (store_did state wrote) c.store (items_of x) (Err t) d.store → ⊥
   stops_not x c d t is h = subst (λ (y : CommandDue). InOrder (store_did state wrote) c.store (items_of y) (Err t) d.store) is h
 
-  -- a command in which a device write stopped
+  -- a command that a stop ended
   pub stopped_done : (a : ApduParts) (c d : Card N) (t : Stop) → IsReadyCard state c → DirectEnds state wrote c a (Err t) d → IsAnswered state wrote c a (Err t) d
   stopped_done a c d t ready ends =
       let r = route_of_parts (Some a) in
@@ -325,7 +325,7 @@ module _ {N : Type 0} (state : N → DeviceState) (wrote : N → ℕ → List �
 
   -- ---- a new selection
 
-  -- the application of a new selection, and the seat that it has
+  -- the application of a new selection, and the session state after it
   record NewlySelected (c d : Card N) (r : Command) (slot : ℕ) (reply : CardReply) : Type 0 where
     store : d.store ≡ c.store
     selected : Selection
@@ -394,7 +394,7 @@ module _ {N : Type 0} (state : N → DeviceState) (wrote : N → ℕ → List �
       newly (due_on (view_in state c) (seat_in state c) r) c d a (by_route (card_in state c) (seat_in state c) 1 r) slot reply refl (matches c 1 r ready.up.going) (ends.items c.session) (ends.leaves c.session) in
       ap is_some (ap (λ (k : ℕ). store_named (state d.store.device) k) (sym one.slot_is) ∙ ends.fits.selected one.selected one.is)
 
-  -- ---- a command that is passed on
+  -- ---- a command that is passed to the application
 
   slot_of : (x : Option Selection) (k : ℕ) → option_map (λ (s : Selection). s.slot) x ≡ Some k → (t : Selection) × (x ≡ Some t) × (t.slot ≡ k)
   slot_of None k h = absurd (cc h)

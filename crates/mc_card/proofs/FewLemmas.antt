@@ -1,4 +1,4 @@
--- How many device writes an item makes that a command began.
+-- The number of device writes of each item that a command began.
 use Rattle.std.proofs.Common.{◌≡◌, ℕ, zero, suc, ◌+◌, ◌-◌, ◌≤◌, Bool, true, false, cond, not, List, [], ◌∷◌, ◌++◌, length, map, Option, Some, None, Result, Ok, Err, refl, sym, ap, subst, inl, inr, arith, length-append}
 use Rattle.std.specs.Prelude.{⊤, ◌==◌}
 use Rattle.std.specs.List.{AllByRecursion}
@@ -65,11 +65,11 @@ begun_past most (suc n) (suc m) k (i ∷ is) js all e first second = (
 )
 
 module _ {D : Type 0} (state : D → DeviceState) (wrote : D → ℕ → List ℕ → Answer → D → Type 0) where
-  -- items that are all small
+  -- items that make at most `most` writes each
   pub within_made : (most : ℕ) (c : Card) (is : List Item) (d : D) (a : Answer) (e : D) → ItemsMade state wrote c is d a e → AllWithin most is → MadeWithin wrote most is d a e
   within_made most c is d a e m all = record { writes = m.writes; makes = m.makes; number = m.number; few = all_begun most (length m.writes) is all }
 
-  -- items that stopped, whatever was to come after them
+  -- items that stopped, before other items
   within_stopped : (most : ℕ) (is js : List Item) (d e : D) (s : Stop) → MadeWithin wrote most is d (Err s) e → MadeWithin wrote most (is ++ js) d (Err s) e
   within_stopped most is js d e s m =
       let few : length m.writes ≤ moves is = m.number in
@@ -85,7 +85,7 @@ module _ {D : Type 0} (state : D → DeviceState) (wrote : D → ℕ → List �
   all_append is js n k (Ok u) first second = let all = moves_append is js in omega (arith, first, second, all)
   all_append is js n k (Err s) first second = let all = moves_append is js in omega (arith, first, second, all)
 
-  -- items that were done, and others after them
+  -- items that were done, before other items
   within_append : (most : ℕ) (is js : List Item) (d m e : D) (a : Answer) → MadeWithin wrote most is d (Ok tt) m → MadeWithin wrote most js m a e → MadeWithin wrote most (is ++ js) d a e
   within_append most is js d m e a first second =
       let ws = first.writes in
@@ -115,11 +115,11 @@ module _ {N : Type 0} (state : N → DeviceState) (wrote : N → ℕ → List �
   abbrev words_of : Store N → List (List ℕ)
   words_of s = (state s.device).words
 
-  -- one of them
+  -- one atomic write
   one_within : (s e : Store N) (w : Write) (a : Answer) → ItemsMade state wrote (means (words_of s)) (item w ∷ []) s.device a e.device → ChainWrote did bank_state s w a e → MadeWithin wrote 147 (item w ∷ []) s.device a e.device
   one_within s e w a made h = within_made state wrote 147 (means (words_of s)) (item w ∷ []) s.device a e.device made (((few_writes_law w.words).1 h.3).two, tt)
 
-  -- all that were begun
+  -- all atomic writes that were begun
   pub writes_within : (ws : List Write) (s e : Store N) (a : Answer) → Going (state s.device) s.count → AreSound (means (words_of s)).apps ws → InOrder (ChainWrote did bank_state) s ws a e → MadeWithin wrote 147 (write_items ws) s.device a e.device
   writes_within [] s e (Ok u) g sound h = record { writes = []; makes = ap (λ (t : Store N). t.device) h; number = refl; few = tt }
   writes_within [] s e (Err x) g sound h = absurd h
@@ -139,7 +139,7 @@ module _ {N : Type 0} (state : N → DeviceState) (wrote : N → ℕ → List �
 
 -- ---- the items of the manager
 
--- a change that is none of static bytes
+-- a change of headers: none of static bytes
 abbrev OfHeaders : Option Change → Type 0
 OfHeaders None = ⊤
 OfHeaders (Some (Fixed n ps)) = ⊥
@@ -195,7 +195,7 @@ manage_headers c seat a =
     let five : OnlyHeaders code = either (a.ins == 0x24) (load_part part.Code seat a) init (part_headers seat part.Code a) four in
     either (a.ins == 0x12) (open_load (room_on c) map seat a) code (by_status (first_status (open_refusals (room_on c) map a)) (open_done (room_on c) seat a) tt) five
 
--- the header words of a change
+-- the device writes of a change of headers
 header_cost : (w n : ℕ) → n ≤ 32 → w ≤ n + 4 → cost Two w ≤ 84
 header_cost w n few h = omega (arith, few, h)
 
@@ -225,7 +225,7 @@ no_application : (c : Card) (seat : Seat) (budget : ℕ) (a : ApduParts) (o : Op
 no_application c seat budget a None is stays = rw is tt
 no_application c seat budget a (Some s) is stays = absurd (cc stays)
 
--- a command that is not passed on
+-- a command that is not passed to the application
 pub route_within : (c : Card) (seat : Seat) (budget : ℕ) (r : Route) → length c.apps ≤ 32 → is_passed r seat.selected ≡ false → AllWithin (most_weight r) (by_route c seat budget r).items
 route_within c seat budget WrongLength few stays = tt
 route_within c seat budget WrongClass few stays = tt

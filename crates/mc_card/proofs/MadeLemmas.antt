@@ -1,4 +1,4 @@
--- Items of a store as items of the definitions: one of them, and lists of them one after another, done or stopped.
+-- Items of a store as items of the definition: one of them, and lists of them in sequence, done or stopped.
 use Rattle.std.proofs.Common.{◌≡◌, ℕ, ◌+◌, ◌-◌, ◌≤◌, Bool, true, false, cond, List, [], ◌∷◌, ◌++◌, length, map, Option, Some, None, Ok, Err, refl, sym, ◌∙◌, ap, subst, inl, inr, arith, length-append}
 use Rattle.std.specs.Prelude.{nat_le, unwrap_or}
 use Rattle.std.specs.List.{AllByRecursion}
@@ -51,7 +51,7 @@ closed_base m c closed good is =
       by = λ ne. absurd (ne refl);
     }
 
--- ---- items one after another
+-- ---- items in sequence
 
 module _ {D : Type 0} (state : D → DeviceState) (wrote : D → ℕ → List ℕ → Answer → D → Type 0)
     (obeys : (d : D) (at : ℕ) (w : List ℕ) (a : Answer) (e : D) → (state d).on ≡ true → wrote d at w a e → Wrote (state d) at w a (state e)) where
@@ -60,7 +60,7 @@ module _ {D : Type 0} (state : D → DeviceState) (wrote : D → ℕ → List �
   made_none c d base =
       record { writes = []; makes = refl; number = refl; stops = λ k x low high size. absurd (omega (arith, low, high)); done = base }
 
-  -- items made by these writes
+  -- items done by these device writes
   pub record MadeBy (c : Card) (is : List Item) (d : D) (a : Answer) (e : D) (ws : List (ℕ × List ℕ)) : Type 0 where
     pub makes : Makes wrote d ws a e
     pub number : CountsWrites is a (length ws)
@@ -70,7 +70,7 @@ module _ {D : Type 0} (state : D → DeviceState) (wrote : D → ℕ → List �
   pub by_made : (c : Card) (is : List Item) (d e : D) (a : Answer) (m : ItemsMade state wrote c is d a e) → MadeBy c is d a e m.writes
   by_made c is d e a m = record { makes = m.makes; number = m.number; stops = m.stops; done = m.done }
 
-  -- items that stopped, whatever was to come after them
+  -- items that stopped, before other items
   pub made_before : (c : Card) (is js : List Item) (d e : D) (s : Stop) (ws : List (ℕ × List ℕ)) → MadeBy c is d (Err s) e ws → MadeBy c (is ++ js) d (Err s) e ws
   made_before c is js d e s ws m =
       let few : length ws ≤ moves is = m.number in
@@ -91,7 +91,7 @@ module _ {D : Type 0} (state : D → DeviceState) (wrote : D → ℕ → List �
   done_on c is js (Ok u) m h = subst (λ (k : Card). HoldsBase (OnCard k) 0 Two m) (sym (card_append is js c)) h
   done_on c is js (Err s) m h = tt
 
-  -- items behind items that were done
+  -- items after items that were done
   pub made_on : (c : Card) (is js : List Item) (d m e : D) (a : Answer) (ws vs : List (ℕ × List ℕ)) → (state d).on ≡ true → MadeBy c is d (Ok tt) m ws → MadeBy (card_done c is) js m a e vs → MadeBy c (is ++ js) d a e (ws ++ vs)
   made_on c is js d m e a ws vs on first second =
       let all : DoneAll (state d) ws (state m) = makes_done state wrote obeys ws d m on first.makes in
@@ -128,7 +128,7 @@ module _ {D : Type 0} (state : D → DeviceState) (wrote : D → ℕ → List �
   made_append c is js d m e a on first second =
       of_made c (is ++ js) d e a (first.writes ++ second.writes) (made_on c is js d m e a first.writes second.writes on (by_made c is d m (Ok tt) first) (by_made (card_done c is) js m e a second))
 
-  -- steps of any kind of which each makes one item
+  -- steps of any kind that each make one item
   module _ {S X : Type 0} (device : S → D) (one : S → X → Answer → S → Type 0) (item : X → Item) (P : X → Type 0)
       (power : (s : S) (x : X) (a : Answer) (e : S) → one s x a e → (state (device s)).on ≡ true)
       (step : (s : S) (x : X) (a : Answer) (e : S) → P x → one s x a e → ItemsMade state wrote (means (state (device s)).words) (item x ∷ []) (device s) a (device e)) where
@@ -154,13 +154,13 @@ module _ {D : Type 0} (state : D → DeviceState) (wrote : D → ℕ → List �
 
 -- ---- one item of a store
 
--- an atomic write of so many words, which changes the applications as an item of the store does
+-- an atomic write of `w` words, which changes the applications as an item of the store does
 pub record IsAtomicAs (m : List (List ℕ)) (i : BankItem) (w : ℕ) (j : Item) : Type 0 where
   pub change : Change
   pub is : j ≡ Atomic w change
   pub apps : apps_after_change change (means m).apps ≡ item_done (part_in m) i (means m).apps
 
--- an item of the store, on words with no open journal, as an item of the definitions
+-- an item of the store, on words without an open journal, as an item of the definition
 abbrev pub IsAs : List (List ℕ) → BankItem → Item → Type 0
 IsAs m (Piece s p at b) j = j ≡ Plain
 IsAs m (Blank s at n) j = j ≡ Plain
@@ -169,7 +169,7 @@ IsAs m (Commit n ws) j = IsAtomicAs m (Commit n ws) (length ws) j
 IsAs m (Enter s n) j = IsAtomicAs m (Enter s n) (length (step_of (means m) (card_with m s n))) j
 IsAs m (Remove n) j = IsAtomicAs m (Remove n) (length (step_of (means m) (card_without m n))) j
 
--- what one item is: so many writes, the card after it, and where a stop in it falls
+-- one item: the number of its writes, the card after it, and the card after a stop in it
 record OneIs (m : List (List ℕ)) (i : BankItem) (j : Item) : Type 0 where
   count : length (item_writes m i) ≡ weight j
   card : card_done (means m) (j ∷ []) ≡ card_after m i

@@ -1,4 +1,4 @@
--- What the items of a manager's command make of a card in the words of a device.
+-- The card in the words of a device after the items of a manager's command.
 use Rattle.std.proofs.Common.{◌≡◌, ◌⊎◌, ℕ, ◌-◌, Bool, true, false, cond, List, [], ◌∷◌, ◌++◌, length, map, Option, Some, None, Ok, Err, refl, sym, ◌∙◌, ap, subst, inl, inr}
 use Rattle.std.specs.Prelude.{◌==◌, Result, option_map}
 use Rattle.std.specs.Option.{ForSome}
@@ -43,7 +43,7 @@ use Rattle.std.proofs.lemmas.Bool.{not-false}
 -- ---- lists of steps that are done in order
 
 module _ {D I : Type 0} (one : D → I → Answer → D → Type 0) where
-  -- a list that was stopped in its first part, or came to its second one
+  -- a list that stopped in its first part, or reached its second part
   pub in_order_parts : (xs ys : List I) (d e : D) (a : Answer) → InOrder one d (xs ++ ys) a e
       → ((m : D) × InOrder one d xs (Ok tt) m × InOrder one m ys a e) ⊎ ((s : Stop) × InOrder one d xs (Err s) e × (a ≡ Err s))
   in_order_parts [] ys d e a h = inl (d, refl, h)
@@ -91,7 +91,7 @@ going_base d c h = let g : Going d c = going_is d c h in closed_base d.words (me
 
 -- ---- the first refusal
 
--- the items of a command that a manager answers
+-- the items of a command that the manager answers
 abbrev pub items_in : Managed → List BankItem
 items_in (Declines sw) = []
 items_in (Accepts d) = d.items
@@ -100,7 +100,7 @@ pub none_of : (b : Bool) (sw : ℕ) (rest : Option ℕ) → cond b (Some sw) res
 none_of true sw rest h = absurd (cc h)
 none_of false sw rest h = (refl, h)
 
--- a CREATE that is not refused has a complete load
+-- a CREATE without a refusal has a complete load
 unrefused_can_create : (apps : List (List ℕ × App)) (load : Option Open) (a : ApduParts) → first_status (create_refusals apps load a) ≡ None → can_create load ≡ true
 unrefused_can_create apps load a h =
     let one = none_of _ 0x6A86 _ h in
@@ -120,7 +120,7 @@ module _ {N : Type 0} (state : N → DeviceState) (wrote : N → ℕ → List �
       let d = state (device_of s) in
       record { state = store_state d (count_of s); named = store_named d; room = store_room d; standing = store_standing d }
 
-  -- items that leave the card
+  -- items that leave the card unchanged
   pub plain_made : (whole : Item) (is : List BankItem) (s e : Store N) (a : Answer) → is_going (state s.device) s.count ≡ true → AllByRecursion IsPlain is → InOrder (store_did state wrote) s is a e
       → ItemsMade state wrote (card_of_store s) (map (item_of whole) is) s.device a e.device
   plain_made whole is s e a going plain h =
@@ -128,7 +128,7 @@ module _ {N : Type 0} (state : N → DeviceState) (wrote : N → ℕ → List �
       (λ s x a e plain did. made_one state wrote obeys s.device e.device s.count e.count x (item_of whole x) a (plain_as (state s.device).words x whole plain) did)
       is s e a (going_base (state s.device) s.count going) plain h
 
-  -- a creation of what stands at a site
+  -- the creation of an application from the bytes at a site, as an item of the definition
   enter_as : (s m : Store N) (t : Site) (n : List ℕ) (o : Open) → means (state m.device).words ≡ means (state s.device).words → app_of_site t (part_in (state m.device).words t) ≡ fresh o
       → IsAs (state m.device).words (Enter t n) (atomic_of (card_of_store s) (Some (Created n (fresh o))))
   enter_as s m t n o card app =
@@ -177,7 +177,7 @@ module _ {N : Type 0} (state : N → DeviceState) (wrote : N → ℕ → List �
 
   -- ---- a command by its answer
 
-  -- the items of an answer make its items of the definitions
+  -- the bank's items of an answer make its items of the definition
   abbrev MakesAll : Store N → Seat → Managed → Type 0
   MakesAll s seat x = (e : Store N) (a : Answer) → InOrder (store_did state wrote) s (items_in x) a e → ItemsMade state wrote (card_of_store s) (manager_command (card_of_store s) seat x).items s.device a e.device
 
@@ -226,7 +226,7 @@ module _ {N : Type 0} (state : N → DeviceState) (wrote : N → ℕ → List �
     by_test x y h k false = k
 
   module _ (s : Store N) (session : List ℕ) (m : ManagerState) (going : is_going (state s.device) s.count ≡ true) (fits : ManagerFits (view s) m) where
-    -- the seat of a manager over a store
+    -- the session state of a manager over a store
     abbrev seat_on : Seat
     seat_on = seat_of (view s).standing session m
 
@@ -253,7 +253,7 @@ module _ {N : Type 0} (state : N → DeviceState) (wrote : N → ℕ → List �
     manager_items (Declines sw) = refl
     manager_items (Accepts d) = refl
 
-    -- the items of a command that is not passed on
+    -- the items of a command that is not passed to the application
     pub due_made : (budget : ℕ) (r : Route) (e : Store N) (b : Answer) → (due_on (view s) seat_on r ≡ Passes → ⊥) → InOrder (store_did state wrote) s (items_of (due_on (view s) seat_on r)) b e
         → ItemsMade state wrote (card_of_store s) (by_route (card_of_store s) seat_on budget r).items s.device b e.device
     due_made budget WrongLength e b other h = no_items s seat_on going 0x6700 e b h

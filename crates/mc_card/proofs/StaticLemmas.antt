@@ -1,4 +1,4 @@
--- The static segment of an application of a card, as its bank shows it.
+-- The static segment of an application of a card, in its bank.
 use Rattle.std.proofs.Common.{◌≡◌, ℕ, true, false, List, length, Option, Some, None, refl, sym, ◌∙◌, ap}
 use Rattle.std.specs.Prelude.{is_some, option_map, unwrap_or, IsSome}
 use Rattle.mc_model_device.specs.Bytes.{lookup}
@@ -11,15 +11,15 @@ use Rattle.mc_store.specs.GoingLaws.{going_is}
 use Rattle.mc_store.specs.TurnLaws.{Standing, standing_of}
 use Rattle.mc_model_device.proofs.BoolLemmas.{no_value}
 
--- the applications of a bank that goes on are those of the card
+-- the applications of a bank that has not stopped are those of the card
 pub going_apps : (d : DeviceState) (c : ℕ) → is_going d c ≡ true → apps_in d.words ≡ (means d.words).apps
 going_apps d c h = let t : Standing d.words = standing_of d c (going_is d c h) in t.map ∙ sym t.apps
 
--- the application of a slot
+-- the application in a slot
 pub slot_app : (d : DeviceState) (c k : ℕ) (n : List ℕ) → is_going d c ≡ true → store_named d k ≡ Some n → app_of (apps_in d.words) (store_named d k) ≡ app_of (means d.words).apps (Some n)
 slot_app d c k n going named = ap (app_of (apps_in d.words)) named ∙ ap (λ (es : List (List ℕ × App)). app_of es (Some n)) (going_apps d c going)
 
--- a name that the bank does not find
+-- a name that the bank does not find is not on the card
 pub not_there : (d : DeviceState) (c : ℕ) (n : List ℕ) → is_going d c ≡ true → is_some (lookup (apps_in d.words) n) ≡ false → lookup (means d.words).apps n ≡ None
 not_there d c n going h = ap (λ (es : List (List ℕ × App)). lookup es n) (sym (going_apps d c going)) ∙ no_value (lookup (apps_in d.words) n) h
 

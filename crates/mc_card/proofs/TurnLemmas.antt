@@ -1,4 +1,4 @@
--- What a turn of a chain leaves of a card.
+-- A card after a turn of a chain.
 use Rattle.std.proofs.Common.{◌≡◌, ℕ, ◌+◌, ◌-◌, true, false, List, length, Option, Some, None, Result, Ok, Err, refl, sym, ◌∙◌, ap, subst, arith}
 use Rattle.std.specs.Prelude.{option_map, is_some}
 use Rattle.mc_model_device.specs.declared.device.Stop.{Stop}
@@ -28,7 +28,7 @@ use Rattle.mc_card.proofs.FewLemmas.{going_entries}
 use Rattle.mc_card.proofs.AfterLemmas.{card_made, still_up, same_seat, seat_after}
 use Rattle.std.proofs.lemmas.Option.{same_Some}
 
--- a card of these parts
+-- the card with these parts
 abbrev pub card_of : {N : Type 0} → Store N → ManagerState → List ℕ → Option Chained → Card N
 card_of store manager session chain = record { store = store; manager = manager; session = session; chain = chain }
 
@@ -50,7 +50,7 @@ module _ {N : Type 0} (state : N → DeviceState) (wrote : N → ℕ → List �
     abbrev apps : List (List ℕ × App)
     apps = (card_in state c).apps
 
-    -- the chain stands on the card
+    -- the chain has the applications of the card
     own_map : ch.map ≡ apps
     own_map = r.runs.map ∙ going_apps (state c.store.device) c.store.count r.up.going
 
@@ -60,7 +60,7 @@ module _ {N : Type 0} (state : N → DeviceState) (wrote : N → ℕ → List �
     writes_sound : AreSound apps t.writes
     writes_sound = subst (λ (m : List (List ℕ × App)). AreSound m t.writes) own_map sound.writes
 
-    -- the turn's writes, as items
+    -- the turn's writes, as items of the definition
     pub turn_made : (e : Store N) (a : Answer) → InOrder (ChainWrote did bank_state) c.store t.writes a e → ItemsMade state wrote (card_in state c) (write_items t.writes) c.store.device a e.device
     turn_made = card_made state wrote obeys c r.up t.writes writes_sound
 
@@ -71,7 +71,7 @@ module _ {N : Type 0} (state : N → DeviceState) (wrote : N → ℕ → List �
         session_size ch r.sound ∙ ap (λ (m : List (List ℕ × App)). (app_of m (Some (first_in ch).name)).session) own_map ∙ ap (λ (n : List ℕ). (app_of apps (Some n)).session) (sym name)
 
     module _ (e : Store N) (d : Chained) (acts : TurnActs did bank_state named c.store e r.chained d ch t) where
-      -- the chain goes on
+      -- the chain continues
       goes : (next : Chain) → t.follows ≡ Continues next → TurnGoesOn state wrote c ch (left - t.count) (Continues next) (record { store = e; manager = c.manager; session = c.session; chain = Some d })
       goes next is =
           let s = subst (λ (f : Follows). FollowsSound ch (apps_after_items ch.map (write_items t.writes)) f) is sound.follows in
@@ -89,7 +89,7 @@ module _ {N : Type 0} (state : N → DeviceState) (wrote : N → ℕ → List �
             same_seat state wrote obeys c r.up t.writes writes_sound e acts.writes,
           )
 
-      -- it ended
+      -- the chain has ended
       ends : (o : ModelOutcome) → t.follows ≡ Ends o → TurnGoesOn state wrote c ch (left - t.count) (Ends o) (record { store = e; manager = c.manager; session = session_in d; chain = None })
       ends o is =
           let bytes : session_in d ≡ chain_session ch = subst (λ (f : Follows). Follow (bank_state e) (store_named (state e.device)) d ch f) is acts.follows in (
@@ -105,32 +105,32 @@ module _ {N : Type 0} (state : N → DeviceState) (wrote : N → ℕ → List �
       ends_by (Continues next) o is some = absurd (cc some)
       ends_by (Ends p) o is some = ends p is
 
-      -- a turn that tells no end
+      -- a turn after which the command continues
       pub turn_goes : t.turn.end ≡ None → TurnGoesOn state wrote c ch (left - t.count) t.follows (record { store = e; manager = c.manager; session = c.session; chain = Some d })
       turn_goes none = goes_by t.follows refl (sym (turn_end left ch) ∙ none)
 
-      -- a turn that tells one
+      -- a turn that ends the command
       pub turn_ends : (o : ModelOutcome) → t.turn.end ≡ Some o → TurnGoesOn state wrote c ch (left - t.count) t.follows (record { store = e; manager = c.manager; session = session_in d; chain = None })
       turn_ends o some = ends_by t.follows o refl (sym (turn_end left ch) ∙ some)
 
   -- ---- the turn of the code
 
   module _ (c : Card N) (k : Chained) (is : c.chain ≡ Some k) (e : Store N) (d : Chained) where
-    -- the card whose chain goes on, and the one whose chain has ended
+    -- the card whose chain continues, and the card whose chain has ended
     abbrev card_on : Card N
     card_on = card_of e c.manager c.session (Some d)
 
     abbrev card_off : Card N
     card_off = card_of e c.manager (session_in d) None
 
-    -- what the turn of the machine ensures
+    -- the clauses of the turn of the machine
     abbrev Does : Result Turn Stop → Type 0
     Does result = (ch : Chain) → RunsAs (bank_state c.store) (named c.store) k ch → TurnDone did bank_state named c.store e k d ch (turn_of k.left ch) result
 
     own_chain : (ch : Chain) (left : ℕ) (r : RunsChain state c ch left) → r.chained ≡ k
     own_chain ch left r = same_Some r.chained k (sym r.is ∙ is)
 
-    -- the chain that runs is the code's
+    -- the chain of the code represents the chain of the definition
     pub runs_own : (ch : Chain) (left : ℕ) → RunsChain state c ch left → RunsAs (bank_state c.store) (named c.store) k ch
     runs_own ch left r = subst (λ (x : Chained). RunsAs (bank_state c.store) (named c.store) x ch) (own_chain ch left r) r.runs
 
@@ -142,7 +142,7 @@ module _ {N : Type 0} (state : N → DeviceState) (wrote : N → ℕ → List �
         subst (λ (x : Chained). TurnDone did bank_state named c.store e x d ch (turn_of left ch) result) (sym (own_chain ch left r))
         (subst (λ (n : ℕ). TurnDone did bank_state named c.store e k d ch (turn_of n ch) result) (left_own ch left r) (does ch (runs_own ch left r)))
 
-    -- the device writes that were tried, however it ended
+    -- the device writes that were tried, with a stop or without
     pub done_made : (result : Result Turn Stop) → Does result → (ch : Chain) (left : ℕ) → RunsChain state c ch left → ItemsMade state wrote (card_in state c) (write_items (turn_of left ch).writes) c.store.device (answer_of result) e.device
     done_made result does ch left r = made_by result (done_own result does ch left r)
       where
@@ -150,11 +150,11 @@ module _ {N : Type 0} (state : N → DeviceState) (wrote : N → ℕ → List �
         made_by (Ok told) own = turn_made c ch left r e (Ok tt) own.0.writes
         made_by (Err s) own = turn_made c ch left r e (Err s) own
 
-    -- it stopped
+    -- a turn that stopped
     pub turned_stop : (s : Stop) → Does (Err s) → (ch : Chain) (left : ℕ) → RunsChain state c ch left → ChainTurned state wrote c ch left (turn_of left ch) (Err s) card_on
     turned_stop s does ch left r = record { made = done_made (Err s) does ch left r; turn = tt; follows = tt }
 
-    -- it told no end
+    -- a turn of the code after which the command continues
     pub turned_on : (told : Turn) → is_some told.end ≡ false → Does (Ok told) → (ch : Chain) (left : ℕ) → RunsChain state c ch left → ChainTurned state wrote c ch left (turn_of left ch) (Ok told) card_on
     turned_on told none does ch left r =
         let own = done_own (Ok told) does ch left r in
@@ -168,7 +168,7 @@ module _ {N : Type 0} (state : N → DeviceState) (wrote : N → ℕ → List �
         no_end None h = refl
         no_end (Some x) h = absurd (cc h)
 
-    -- it told one
+    -- a turn of the code that ends the command
     pub turned_off : (told : Turn) → is_some told.end ≡ true → Does (Ok told) → (ch : Chain) (left : ℕ) → RunsChain state c ch left → ChainTurned state wrote c ch left (turn_of left ch) (Ok told) card_off
     turned_off told some does ch left r =
         let own = done_own (Ok told) does ch left r in
@@ -183,12 +183,12 @@ module _ {N : Type 0} (state : N → DeviceState) (wrote : N → ℕ → List �
         some_end None h = absurd (cc h)
         some_end (Some x) h = (outcome_value x, refl)
 
-    -- how much it writes
+    -- the number of its device writes
     pub turned_few : ((ch : Chain) → RunsAs (bank_state c.store) (named c.store) k ch → AreApps (bank_state c.store).apps → WritesFew (turn_of k.left ch)) → IsSized (state c.store.device).words
         → (ch : Chain) (left : ℕ) → RunsChain state c ch left → WritesFew (turn_of left ch)
     turned_few few image ch left r =
         subst (λ (n : ℕ). WritesFew (turn_of n ch)) (left_own ch left r) (few ch (runs_own ch left r) (going_entries (state c.store.device) c.store.count image r.up.going))
 
-    -- its steps
+    -- the number of its steps
     pub turned_steps : (old new : ℕ) → ((ch : Chain) → RunsAs (bank_state c.store) (named c.store) k ch → new ≡ old + (turn_of k.left ch).count) → (ch : Chain) (left : ℕ) → RunsChain state c ch left → new ≡ old + (turn_of left ch).count
     turned_steps old new ticks ch left r = ticks ch (runs_own ch left r) ∙ ap (λ (n : ℕ). old + (turn_of n ch).count) (left_own ch left r)

@@ -1,4 +1,4 @@
--- The atomic writes of a chain on a store, as items of the definitions and as commits of a bank.
+-- The atomic writes of a chain on a store, as items of the definition and as commits of a bank.
 use Rattle.std.proofs.Common.{◌≡◌, ℕ, ◌+◌, ◌≤◌, true, List, [], ◌∷◌, length, Option, Some, Ok, Err, refl, sym, ◌∙◌, ap, subst, inl, inr, arith}
 use Rattle.std.specs.Prelude.{unwrap_or}
 use Rattle.std.proofs.lemmas.List.{length-map}
@@ -31,7 +31,7 @@ use Rattle.mc_model_device.proofs.BoolLemmas.{some_is}
 
 -- ---- words that hold pieces
 
--- pieces without those that have no bytes
+-- one piece before a list of pieces, left out if it has no bytes
 abbrev put_solid : ℕ → List ℕ → List (ℕ × List ℕ) → List (ℕ × List ℕ)
 put_solid at [] ps = ps
 put_solid at (b ∷ bs) ps = (at, b ∷ bs) ∷ ps
@@ -71,11 +71,11 @@ lie_solid n (p ∷ ps) within = lie_one n p.0 p.1 (solid ps) within.0 (lie_solid
 laid_held : (l : List ℕ) (ps ws : List (ℕ × List ℕ)) → PiecesWithin (length l) ps → HoldPieces l ps ws → laid_words l ws ≡ laid_pieces l ps
 laid_held l ps ws within held = words_laid l (solid ps) ws (lie_solid (length l) ps within) (held_same l ps (solid ps) ws (same_touched ps) (sym (laid_solid l ps)) held) ∙ laid_solid l ps
 
--- words are as many as their pieces touch
+-- there are as many words as their pieces touch
 as_many : (l : List ℕ) (ps ws : List (ℕ × List ℕ)) → HoldPieces l ps ws → length ws ≡ length (touched_words ps)
 as_many l ps ws held = sym (length-map ws (λ w. w.0)) ∙ ap length held.touched_words
 
--- a commit of them changes the applications as their pieces do
+-- a commit of words that hold pieces changes the applications as the pieces do
 committed_is : (apps : List (List ℕ × App)) (n : List ℕ) (ps ws : List (ℕ × List ℕ)) (a : App) → lookup apps n ≡ Some a → PiecesWithin (length (app_of apps (Some n)).fixed) ps → HoldPieces (app_of apps (Some n)).fixed ps ws → map_changed apps n (Some ps) ≡ apps_after_commit apps n ws
 committed_is apps n ps ws a there within held =
     let own : app_of apps (Some n) ≡ a = ap (λ (o : Option App). unwrap_or o no_app) there in
@@ -87,7 +87,7 @@ committed_is apps n ps ws a there within held =
 -- ---- writes as commits
 
 module _ {B : Type 0} (did : B → BankItem → Answer → B → Type 0) (state : B → BankState) where
-  -- the words that writes committed
+  -- the writes of a chain, as commits of these words
   pub record AsCommits (b : B) (a : Answer) (e : B) : Type 0 where
     pub words : List Words
     pub commits : InOrder did b (commits words) a e
@@ -121,7 +121,7 @@ module _ {N : Type 0} (state : N → DeviceState) (wrote : N → ℕ → List �
   abbrev words_of : Store N → List (List ℕ)
   words_of s = (state s.device).words
 
-  -- the commit of a write is its item
+  -- the commit of a write is the item of the write
   write_as : (s e : Store N) (w : Write) (ws : List (ℕ × List ℕ)) (a : Answer) → IsSoundWrite (means (words_of s)).apps w → HoldPieces (app_of (bank_state s).apps (Some w.name)).fixed w.pieces ws → did s (Commit w.name ws) a e
       → IsAtomicAs (words_of s) (Commit w.name ws) (length ws) (item_of w)
   write_as s e w ws a sound held done =
@@ -138,16 +138,16 @@ module _ {N : Type 0} (state : N → DeviceState) (wrote : N → ℕ → List �
   pub write_made : (s e : Store N) (w : Write) (a : Answer) → IsSoundWrite (means (words_of s)).apps w → ChainWrote did bank_state s w a e → ItemsMade state wrote (means (words_of s)) (item_of w ∷ []) s.device a e.device
   write_made s e w a sound h = made_one state wrote obeys s.device e.device s.count e.count (Commit w.name h.0) (item_of w) a (write_as s e w h.0 a sound h.1 h.2) h.2
 
-  -- a store that made a write goes on
+  -- a store that made a write has not stopped
   pub goes_on : (s e : Store N) (w : Write) → ChainWrote did bank_state s w (Ok tt) e → Going (state e.device) e.count
   goes_on s e w h =
       let t : Changes (bank_state s) (item_done (store_standing (state s.device)) (Commit w.name h.0) (bank_state s).apps) (Ok tt) (bank_state e) =
       store_obeys state wrote obeys s.device e.device s.count e.count (Commit w.name h.0) (Ok tt) h.2 in
       going_is (state e.device) e.count (not-false (is_going (state e.device) e.count) t.going)
 
-  -- ---- writes in order
+  -- ---- writes in sequence
 
-  -- the writes of a chain on a store that goes on
+  -- the writes of a chain on a store that has not stopped
   pub writes_made : (ws : List Write) (s e : Store N) (a : Answer) → Going (state s.device) s.count → AreSound (means (words_of s)).apps ws → InOrder (ChainWrote did bank_state) s ws a e
       → ItemsMade state wrote (means (words_of s)) (write_items ws) s.device a e.device
   writes_made [] s e (Ok u) g sound h =

@@ -1,4 +1,4 @@
--- How the calls of a card end: a power-up, a command that is answered or passed on, and a turn.
+-- The ends of the calls of a card: a power-up, a command that is answered or passed to the application, and a turn.
 use Rattle.std.specs.Prelude.{◌≡◌, ℕ, ◌+◌, ◌-◌, ◌≤◌, Bool, true, false, List, length, Option, Some, None, Result, Ok, Err, IfOk, OnOk}
 use Rattle.mc_model_device.specs.declared.device.Stop.{Stop}
 use Rattle.mc_model_device.specs.Orders.{Answer, answer_of}
@@ -22,12 +22,12 @@ use Rattle.mc_card.specs.ItemWrites.{ItemsMade}
 
 -- ---- steps
 
--- the steps of a run: one for each decoded instruction, and no more where it stopped
+-- the steps of a run: one for each decoded instruction, and at most as many if it stopped
 abbrev pub RunSteps : Ran → Answer → ℕ → ℕ → Type 0
 RunSteps r (Ok u) old new = new ≡ old + r.count
 RunSteps r (Err s) old new = new ≤ old + r.count
 
--- the steps of a command for the selected application, where there is one
+-- the steps of a command for the selected application, if there is one
 abbrev pub PassedSteps : model.Card → Option Selected → ApduParts → ℕ → Answer → ℕ → ℕ → Type 0
 PassedSteps c None a budget answer old new = new ≡ old
 PassedSteps c (Some s) a budget answer old new = RunSteps (run c.apps s.name s.session a budget) answer old new
@@ -40,7 +40,7 @@ RouteSteps c selected budget (ToSelect a) answer old new = new ≡ old
 RouteSteps c selected budget (ToManager a) answer old new = (old ≤ new) × (new ≤ old + most_ticks a (2 + length (gaps c)))
 RouteSteps c selected budget (ToApplication a) answer old new = PassedSteps c selected a budget answer old new
 
--- the steps of the beginning of a command: those of a command that is answered, and none where it is passed on
+-- the steps of the beginning of a command: those of a command that is answered, and none if it is passed to the application
 abbrev pub BeginSteps : model.Card → Route → ℕ → ℕ → Type 0
 BeginSteps c WrongLength old new = new ≡ old
 BeginSteps c WrongClass old new = new ≡ old
@@ -71,7 +71,7 @@ abbrev pub device_after : {N : Type 0} → Result (Card N × ℕ) (N × Up) → 
 device_after (Ok p) = device_in p.0
 device_after (Err p) = p.0
 
--- the result of a command whose outcome was put in a place
+-- the result of a command whose outcome was written to a place
 abbrev pub outcome_or_stop : Result (Unit {0}) Stop → Outcome → Result Outcome Stop
 outcome_or_stop (Ok u) o = Ok o
 outcome_or_stop (Err s) o = Err s
@@ -84,14 +84,14 @@ is_passed _ selected = false
 module _ {N : Type 0} (state : N → DeviceState) (wrote : N → ℕ → List ℕ → Answer → N → Type 0) where
   -- ---- a command
 
-  -- what a command did: its items, and where none stopped its outcome and the seat after it
+  -- the end of a command: its items, and without a stop its outcome and the session state after it
   pub record Commanded (c : Card N) (r : Command) (result : Result Outcome Stop) (d : Card N) : Type 0 where
     pub made : ItemsMade state wrote (card_in state c) r.items (device_in c) (answer_of result) (device_in d)
     pub outcome : IfOk result (λ o. outcome_value o ≡ r.outcome)
     pub seat : OnOk result (seat_in state d ≡ r.seat)
     pub ready : OnOk result (IsReadyCard state d)
 
-  -- a command is passed to the selected application: its chain is ready to run, and nothing else changed
+  -- a command that is passed to the selected application: its chain is ready to run, and nothing else has changed
   pub record PassedToChain (c : Card N) (bytes : List ℕ) (budget : ℕ) (d : Card N) : Type 0 where
     pub apdu : ApduParts
     pub routed : route bytes ≡ ToApplication apdu
@@ -101,7 +101,7 @@ module _ {N : Type 0} (state : N → DeviceState) (wrote : N → ℕ → List �
     pub seat : seat_in state d ≡ seat_in state c
     pub runs : RunsChain state d (start (card_in state c).apps selected.name selected.session apdu) budget
 
-  -- a command that is not passed on
+  -- a command that is not passed to the application
   pub record Answered (c : Card N) (bytes : List ℕ) (budget : ℕ) (result : Result Outcome Stop) (d : Card N) : Type 0 where
     pub stays : is_passed (route bytes) (seat_in state c).selected ≡ false
     pub commanded : Commanded c (due state c bytes budget) result d
@@ -114,12 +114,13 @@ module _ {N : Type 0} (state : N → DeviceState) (wrote : N → ℕ → List �
 
   -- ---- a turn
 
-  -- what follows a turn: the chain goes on with what is left of the budget, or it has ended, and its session bytes stay with the selection
+  -- what follows a turn: the chain continues with the rest of the budget, or it has ended and its session bytes are those of the
+  -- selection
   abbrev pub TurnGoesOn : Card N → Chain → ℕ → Follows → Card N → Type 0
   TurnGoesOn c ch left (Continues next) d = RunsChain state d next left × (seat_in state d ≡ seat_in state c)
   TurnGoesOn c ch left (Ends o) d = IsReadyCard state d × (seat_in state d ≡ with_session (chain_session ch) (seat_in state c))
 
-  -- a turn of a chain: its items, what it tells, and what follows where none stopped
+  -- a turn of a chain: its items, what it reports, and without a stop what follows
   pub record ChainTurned (c : Card N) (ch : Chain) (left : ℕ) (t : Acted) (result : Result Turn Stop) (d : Card N) : Type 0 where
     pub made : ItemsMade state wrote (card_in state c) (write_items t.writes) (device_in c) (answer_of result) (device_in d)
     pub turn : IfOk result (λ told. t.turn ≡ turn_value told t.turn.wrote)

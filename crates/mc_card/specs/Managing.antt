@@ -1,4 +1,4 @@
--- How the manager of a card deals with a command.
+-- How the manager of a card handles a command.
 use Rattle.std.specs.Prelude.{◌≡◌, ℕ, false, List, Some, Result, Ok, Err}
 use Rattle.mc_model_device.specs.declared.device.Stop.{Stop}
 use Rattle.mc_model_device.specs.Orders.{Answer}
@@ -22,7 +22,7 @@ module _ {N : Type 0} (state : N → DeviceState) (wrote : N → ℕ → List �
     pub stays : is_passed (route_of_parts (Some a)) (seat_in state c).selected ≡ false
     pub commanded : (budget : ℕ) → Commanded state wrote c (by_route (card_in state c) (seat_in state c) budget (route_of_parts (Some a))) result d
 
-  -- a command that the application of a slot is to run; nothing changed
+  -- a command that the application in this slot is to run; nothing has changed
   pub record IsPassed (c : Card N) (a : ApduParts) (slot : ℕ) (d : Card N) : Type 0 where
     pub route : route_of_parts (Some a) ≡ ToApplication a
     pub selected : Selection
@@ -30,7 +30,7 @@ module _ {N : Type 0} (state : N → DeviceState) (wrote : N → ℕ → List �
     pub slot_is : selected.slot ≡ slot
     pub unchanged : d ≡ c
 
-  -- a command, by what the manager makes of it, and the reply that stands beside it
+  -- the end of a command, by how the manager handled it and the reply that it wrote
   abbrev pub Directs : Card N → ApduParts → Result Directed Stop → Reply → Card N → Type 0
   Directs c a (Ok Answered) r d = IsAnswered c a (Ok (outcome.Reply r)) d
   Directs c a (Ok (Passed slot)) r d = IsPassed c a slot d

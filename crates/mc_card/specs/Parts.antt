@@ -1,4 +1,4 @@
--- What a card is made of, and what it shows: the card in its device's words, its selection and open load, and the chain that runs on it.
+-- The parts of a card and what it shows: the card in its device's words, its selection and open load, and the chain that runs on it.
 use Rattle.std.specs.Prelude.{◌≡◌, ℕ, true, List, length, option_map, Some, None}
 use Rattle.std.specs.Option.{ForSome}
 use Rattle.mc_model_device.specs.Device.{DeviceState}
@@ -19,20 +19,20 @@ use Rattle.mc_machine.specs.Sound.{IsSoundChain}
 abbrev pub device_in : {N : Type 0} → Card N → N
 device_in c = device_of c.store
 
--- a card over another device
+-- the card over another device
 abbrev pub with_device : {N : Type 0} → Card N → N → Card N
 with_device c d = record c { store = over c.store d }
 
--- the selection with these session bytes
+-- the session state with these session bytes of its selection
 abbrev pub with_session : List ℕ → Seat → Seat
 with_session session seat = record seat { selected = option_map {T = Selected} (λ s. record s { session = session }) seat.selected }
 
 module _ {N : Type 0} (state : N → DeviceState) where
-  -- its words
+  -- the words of the device
   abbrev pub words_in : Card N → List (List ℕ)
   words_in c = (state (device_in c)).words
 
-  -- the applications and the free words
+  -- the applications and the free words that the words of the device mean
   abbrev pub card_in : Card N → model.Card
   card_in c = means (words_in c)
 
@@ -42,27 +42,27 @@ module _ {N : Type 0} (state : N → DeviceState) where
       let d = state (device_in c) in
       record { state = store_state d (count_of c.store); named = store_named d; room = store_room d; standing = store_standing d }
 
-  -- the selection with its session bytes, and the open load
+  -- the session state: the selection with its session bytes, and the open load
   abbrev pub seat_in : Card N → Seat
   seat_in c = seat_of (store_standing (state (device_in c))) c.session c.manager
 
-  -- what a command is due
+  -- the effect and the outcome of a command on this card, by the definition
   abbrev pub due : Card N → List ℕ → ℕ → Command
   due c bytes budget = command (card_in c) (seat_in c) bytes budget
 
-  -- A card runs: its device has power, owes nothing and holds a card of layout 2, the manager fits it, and the session bytes are as
-  -- many as the selected application has.
+  -- A card that runs: its device has power and holds a card of layout 2 without writes that recovery still has to make, the manager fits
+  -- it, and there are as many session bytes as the selected application has.
   pub record IsUp (c : Card N) : Type 0 where
     pub going : is_going (state (device_in c)) (count_of c.store) ≡ true
     pub fits : ManagerFits (view_in c) c.manager
     pub session : ForSome c.manager.selected (λ s. length c.session ≡ (app_of (card_in c).apps (Some s.aid)).session)
 
-  -- a card runs, and no command does
+  -- a card that runs, on which no command runs
   pub record IsReadyCard (c : Card N) : Type 0 where
     pub up : IsUp c
     pub idle : c.chain ≡ None
 
-  -- the selected application runs a command on a card: this chain of the definitions, with so much of the budget left
+  -- the selected application runs a command on a card: the chain of the definition, with `n` instructions of the budget left
   pub record RunsChain (c : Card N) (ch : Chain) (n : ℕ) : Type 0 where
     pub up : IsUp c
     pub chained : Chained
@@ -72,6 +72,6 @@ module _ {N : Type 0} (state : N → DeviceState) where
     pub own : option_map (λ s. s.aid) c.manager.selected ≡ Some (first_frame ch.frame ch.below).name
     pub sound : IsSoundChain ch
 
-  -- a chain runs on the card
+  -- a chain runs on this card
   abbrev pub IsRunning : Card N → Type 0
   IsRunning c = (ch : Chain) × (left : ℕ) × RunsChain c ch left

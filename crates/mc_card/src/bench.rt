@@ -1,4 +1,4 @@
-// A card over a bench: its size, its power, its words before a power-up, and its fuses.
+// A card over a bench: its size, its power, its words before a power-up, and its armed stops.
 ghost use Rattle.std.specs.Prelude.{◌≡◌, ◌≤◌, ◌<◌, length, slice_set, true, Some, None};
 ghost use Rattle.mc_model_device.specs.Device.{next_count, bench_after_poke, IsImage};
 ghost use Rattle.mc_card.specs.Parts.{device_in, with_device};
@@ -8,7 +8,7 @@ use mc_base::Word;
 use mc_nvm::Bench;
 
 impl<N: Bench> Card<N> {
-    /// The number of words of the device.
+    /// Returns the number of words of the device.
     pub fn len(&self) -> u32
         ensures len { result ≡ length (N.state (device_in self.now)).words }
         ensures image { IsImage (N.state (device_in self.now)).words }
@@ -16,7 +16,7 @@ impl<N: Bench> Card<N> {
         self.store.device_len()
     }
 
-    /// Turns the power of the device on. A card that ran is good for `restart` alone.
+    /// Turns the power of the device on. A card that ran is valid for `restart` alone afterwards.
     pub fn power(&mut self)
         ensures state { N.state (device_in self.new) ≡ record (N.state (device_in self.old)) { on = true } }
         ensures bench { N.bench (device_in self.new)
@@ -26,7 +26,8 @@ impl<N: Bench> Card<N> {
         self.store.device_mut().power();
     }
 
-    /// Sets a word of the device. A card that ran is good for `restart` alone.
+    /// Sets the word of the device at `at` to `word`. A card that ran is valid for `restart` alone
+    /// afterwards.
     pub fn poke(&mut self, at: u32, word: Word)
         requires { at < length (N.state (device_in self.old)).words }
         ensures state { N.state (device_in self.new)
@@ -38,7 +39,8 @@ impl<N: Bench> Card<N> {
         self.store.device_mut().poke(at, word);
     }
 
-    /// Cuts the k-th device write from now, which leaves `fill` in its word. It takes the place of an earlier fuse.
+    /// Arms a power cut at the `k`-th device write from now, which leaves `fill` in its word. It replaces an
+    /// earlier armed cut.
     pub fn arm(&mut self, k: u32, fill: Word)
         requires { 1 ≤ k }
         ensures state { N.state (device_in self.new) ≡ N.state (device_in self.old) }
@@ -53,8 +55,8 @@ impl<N: Bench> Card<N> {
         self.store.device_mut().arm(k, fill);
     }
 
-    /// Refuses the k-th device write from now, which leaves `fill` in its word, unless another stop comes first. It takes the place of an
-    /// earlier wear fuse.
+    /// Arms a failed write: the device refuses the `k`-th device write from now, which leaves `fill` in its
+    /// word, unless another stop comes first. It replaces an earlier armed failed write.
     pub fn wear(&mut self, k: u32, fill: Word)
         requires { 1 ≤ k }
         ensures state { N.state (device_in self.new) ≡ N.state (device_in self.old) }
@@ -69,7 +71,7 @@ impl<N: Bench> Card<N> {
         self.store.device_mut().wear(k, fill);
     }
 
-    /// Takes both fuses away.
+    /// Disarms both the power cut and the failed write.
     pub fn disarm(&mut self)
         ensures state { N.state (device_in self.new) ≡ N.state (device_in self.old) }
         ensures bench { N.bench (device_in self.new)

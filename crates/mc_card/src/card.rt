@@ -52,7 +52,8 @@ impl<N: Nvm> Card<N> {
         // Up to the first one that stops it makes the writes that recovery still has to make and then those of the migration.
         ensures makes { Makes N.wrote dev (power_writes (N.state dev).words) (power_answer (power_up_end result))
             (device_after result) }
-        // The applications are those that the words meant; after a fault or a stop the words are what the rule of stops says.
+        // The applications are those that the words mean before the power-up; after a fault or a stop the
+        // words are what the rule of stops allows.
         ensures ends { PowersUp (N.state dev) (power_up_end result) (N.state (device_after result)) }
         // The card runs, and no command does.
         ensures ready { IfOk result (λ p. IsReadyCard N.state p.0) }
@@ -68,8 +69,8 @@ impl<N: Nvm> Card<N> {
         }
     }
 
-    /// Returns a card over a device whose words are not looked at yet. Until a `restart` succeeds only `into_dev` and `restart` may be
-    /// called.
+    /// Returns a card over a device whose words have not been read yet. Until a `restart` succeeds only
+    /// `into_dev` and `restart` may be called.
     pub fn asleep(dev: N) -> Card<N>
         ensures { device_in result ≡ dev }
     {
@@ -93,14 +94,15 @@ impl<N: Nvm> Card<N> {
         // Up to the first one that stops it makes the writes that recovery still has to make and then those of the migration.
         ensures makes { Makes N.wrote (device_in self.old) (power_writes (N.state (device_in self.old)).words)
             (power_answer (restart_end self.new result)) (device_in self.new) }
-        // The applications are those that the words meant; after a fault or a stop the words are what the rule of stops says.
+        // The applications are those that the words mean before the power-up; after a fault or a stop the
+        // words are what the rule of stops allows.
         ensures ends { PowersUp (N.state (device_in self.old)) (restart_end self.new result)
             (N.state (device_in self.new)) }
         // The card runs, and no command does.
         ensures ready { IfOk result (λ n. IsReadyCard N.state self.new) }
         // Nothing is selected, and no load is open.
         ensures seat { IfOk result (λ n. seat_in N.state self.new ≡ empty_seat) }
-        // The device is the one that was there.
+        // The device is the same one.
         ensures lent { N.same (device_in self.old) (device_in self.new) }
     {
         let writes = self.store.restart()?;
@@ -112,7 +114,8 @@ impl<N: Nvm> Card<N> {
         Ok(writes)
     }
 
-    // No chain runs any more. A chain is large, and its place is cleared where one is made: so this is a call of its own.
+    // Ends the chain. It is a call of its own because a chain is large and its place is cleared where it is
+    // made.
     #[cold]
     #[inline(never)]
     fn end_chain(&mut self)
@@ -138,14 +141,14 @@ impl<N: Nvm> Card<N> {
         requires ready { IsReadyCard N.state self.old }
         requires some { 1 ≤ budget }
         requires budget { budget ≤ 65536 }
-        // Its device writes are those of its items in order; wherever one stops, the words are the card after the items that are
-        // whole then, and without a stop after all of them.
+        // Its device writes are those of its items in order; wherever one stops, the words are the card after
+        // the items that are complete then, and without a stop after all of them.
         ensures made { ItemsMade N.state N.wrote (card_in N.state self.old)
             (due N.state self.old bytes.now budget).items (device_in self.old) (answer_of result)
             (device_in self.new) }
         // The outcome is that of its row.
         ensures outcome { IfOk result (λ o. outcome_value o ≡ (due N.state self.old bytes.now budget).outcome) }
-        // So are the selection, its session bytes and the open load.
+        // The session state after it is that of its row.
         ensures seat { OnOk result (seat_in N.state self.new ≡ (due N.state self.old bytes.now budget).seat) }
         // The card is ready for the next command.
         ensures on { OnOk result (IsReadyCard N.state self.new) }
@@ -158,7 +161,7 @@ impl<N: Nvm> Card<N> {
             (device_in self.new) }
         // A stop comes only if the device's count of cuts or faults rose.
         ensures ended { Ended (answer_of result) (N.state (device_in self.old)) (N.state (device_in self.new)) }
-        // The device is the one that was there.
+        // The device is the same one.
         ensures lent { N.same (device_in self.old) (device_in self.new) }
     {
         let mut outcome = Outcome::done();
@@ -183,14 +186,14 @@ impl<N: Nvm> Card<N> {
         requires ready { IsReadyCard N.state self.old }
         requires some { 1 ≤ budget }
         requires budget { budget ≤ 65536 }
-        // Its device writes are those of its items in order; wherever one stops, the words are the card after the items that are
-        // whole then, and without a stop after all of them.
+        // Its device writes are those of its items in order; wherever one stops, the words are the card after
+        // the items that are complete then, and without a stop after all of them.
         ensures made { ItemsMade N.state N.wrote (card_in N.state self.old)
             (due N.state self.old bytes.now budget).items (device_in self.old) (answer_of result)
             (device_in self.new) }
         // The outcome is that of its row.
         ensures outcome { OnOk result (outcome_value into.new ≡ (due N.state self.old bytes.now budget).outcome) }
-        // So are the selection, its session bytes and the open load.
+        // The session state after it is that of its row.
         ensures seat { OnOk result (seat_in N.state self.new ≡ (due N.state self.old bytes.now budget).seat) }
         // The card is ready for the next command.
         ensures on { OnOk result (IsReadyCard N.state self.new) }
@@ -203,7 +206,7 @@ impl<N: Nvm> Card<N> {
             (device_in self.new) }
         // A stop comes only if the device's count of cuts or faults rose.
         ensures ended { Ended (answer_of result) (N.state (device_in self.old)) (N.state (device_in self.new)) }
-        // The device is the one that was there.
+        // The device is the same one.
         ensures lent { N.same (device_in self.old) (device_in self.new) }
     {
         make_reply(into);
@@ -216,7 +219,7 @@ impl<N: Nvm> Card<N> {
         }
     }
 
-    // Runs one command, whose reply is written to the reply that an outcome is, if it ends with one.
+    // Runs one command. Its reply, if it ends with one, is written to the reply in `into`.
     fn perform_in<L: Ledger>(
         &mut self,
         bytes: &[u8],
@@ -242,7 +245,7 @@ impl<N: Nvm> Card<N> {
         }
     }
 
-    // Runs one command, whose reply is written to `reply`, if it ends with one.
+    // Runs one command. Its reply, if it ends with one, is written to `reply`.
     fn perform<L: Ledger>(
         &mut self,
         bytes: &[u8],
@@ -279,8 +282,12 @@ impl<N: Nvm> Card<N> {
         }
     }
 
-    /// The beginning of the same command: its outcome, or `None` exactly where it is passed to the selected application. Then `turn` runs
-    /// it, and nothing but `turn` may be called until an end came.
+    /// Begins a command as `command` does, and returns its outcome, or `None` exactly if it is passed to the
+    /// selected application. Then `turn` runs it, and only `turn` may be called until the chain has ended.
+    ///
+    /// # Errors
+    ///
+    /// Returns the `Stop` of the device. After a `Stop` only `into_dev` and `restart` may be called.
     pub fn begin<L: Ledger>(
         &mut self,
         bytes: &[u8],
@@ -312,8 +319,13 @@ impl<N: Nvm> Card<N> {
         }
     }
 
-    /// The next turn of a command that `begin` passed on and that has not ended: one executed instruction, and one step, or a fetch that
-    /// ends it. With the last turn the session bytes stay with the selection.
+    /// Runs the next turn of a command that `begin` passed to the application and that has not ended: one
+    /// executed instruction, which is one step, or a fetch that ends it. With the last turn the session bytes
+    /// become those of the selection.
+    ///
+    /// # Errors
+    ///
+    /// Returns the `Stop` of the device. After a `Stop` only `into_dev` and `restart` may be called.
     pub fn turn<L: Ledger>(&mut self, steps: &mut Steps<L>) -> Result<Turn, Stop>
         requires running { IsRunning N.state self.old }
         ensures done { (ch : ModelChain) (left : ℕ) → RunsChain N.state self.old ch left
@@ -337,7 +349,8 @@ impl<N: Nvm> Card<N> {
         Ok(told)
     }
 
-    /// The length in bytes of the static segment of an application, or `None` exactly where the name is not on the card.
+    /// Returns the length in bytes of the static segment of an application, or `None` exactly if the name is
+    /// not on the card.
     pub fn static_len(&self, aid: &Aid) -> Option<u16>
         requires { IsUp N.state self.now }
         ensures value { result ≡ option_map (λ a. length a.fixed) (lookup (card_in N.state self.now).apps aid.now) }
@@ -347,7 +360,8 @@ impl<N: Nvm> Card<N> {
         Some(self.store.facts(slot).sizes.fixed)
     }
 
-    /// Copies static bytes of an application that is on the card, from a place on; they lie in its segment.
+    /// Copies static bytes of an application that is on the card to `into`, from `at` on; all of them lie in
+    /// its segment.
     pub fn static_of(&self, aid: &Aid, at: u16, into: &mut [u8])
         requires up { IsUp N.state self.now }
         requires there { IsSome (lookup (card_in N.state self.now).apps aid.now) }
@@ -360,7 +374,7 @@ impl<N: Nvm> Card<N> {
         }
     }
 
-    /// The device, whose words are the card.
+    /// Returns the device, whose words are the card.
     pub fn into_dev(self) -> N
         ensures { result ≡ device_in self }
     {
@@ -368,7 +382,7 @@ impl<N: Nvm> Card<N> {
     }
 }
 
-// Makes a reply that to a command whose length is wrong (ISO/IEC 7816-4).
+// Writes to `reply` the reply to a command of a wrong length (ISO/IEC 7816-4).
 fn wrong_length(reply: &mut Reply)
     ensures { outcome_value (outcome.Reply reply.new) ≡ status 0x6700 }
 {
@@ -376,7 +390,7 @@ fn wrong_length(reply: &mut Reply)
     reply.sw = 0x6700;
 }
 
-// Makes an outcome a reply, where it is none.
+// Makes an outcome a reply if it is none.
 fn make_reply(outcome: &mut Outcome)
     ensures { IsReply outcome.new }
 {
@@ -386,7 +400,8 @@ fn make_reply(outcome: &mut Outcome)
     }
 }
 
-// Puts an abend in place of an outcome. The new outcome's place is cleared where it is made, so this is a call of its own.
+// Replaces an outcome by an abend. It is a call of its own because the place of the new outcome is cleared
+// where it is made.
 #[cold]
 #[inline(never)]
 fn put_abend(into: &mut Outcome, abend: Abend)

@@ -1,4 +1,4 @@
-// A command as the manager of a card deals with it, with the session bytes of a selection.
+// A command that the manager of a card handles, with the session bytes of a selection.
 ghost use Rattle.std.specs.Prelude.{◌≡◌, ◌+◌, ◌≤◌, true, IsSome, length};
 ghost use Rattle.mc_model_device.specs.Bytes.{zeros};
 ghost use Rattle.mc_model_device.specs.Layout.{gaps};
@@ -20,7 +20,8 @@ use mc_segs::Session;
 use mc_store::Store;
 use std::sync::ledger::Ledger;
 
-/// How the manager deals with a command: by the reply beside it, or the application of a slot is to run it.
+/// How the manager handled a command: it has written the reply, or the application in a slot is to run the
+/// command.
 #[derive(Clone, Copy, Debug, PartialEq, Eq)]
 pub enum Directed {
     Answered,
@@ -28,8 +29,13 @@ pub enum Directed {
 }
 
 impl<N: Nvm> Card<N> {
-    /// One command by the manager, whose reply is put in place of another. A new selection begins with session bytes of zero. Where an
-    /// application is to run the command, nothing changed but what stands in that place.
+    /// Passes one command to the manager, which writes its reply to `reply`. A new selection begins with
+    /// session bytes of zero. If an application is to run the command, nothing but the contents of `reply`
+    /// has changed.
+    ///
+    /// # Errors
+    ///
+    /// Returns the `Stop` of the device. The contents of `reply` are unspecified then.
     pub(crate) fn direct<L: Ledger>(
         &mut self,
         apdu: &Apdu,
@@ -54,7 +60,7 @@ impl<N: Nvm> Card<N> {
     }
 }
 
-// The session bytes with which a selection of the application of a slot begins.
+// Returns the session bytes of a new selection of the application in a slot: zeros.
 fn session_of<N: Nvm>(store: &Store<N>, slot: Slot) -> Session
     requires going { is_going (N.state (device_of store.now)) (count_of store.now) ≡ true }
     requires there { IsSome (store_named (N.state (device_of store.now)) slot) }

@@ -1,10 +1,10 @@
--- How many writes a recovery makes.
+-- The number of writes of a recovery.
 use Rattle.std.proofs.Common.{◌≡◌, ℕ, ◌≤◌, List, [], ◌∷◌, length, refl, length-append}
 use Rattle.mc_model_device.specs.Image.{Journal, gate, shut_word, Look, Refused, Closed, Pending, look_j, debt, owed_j}
 use Rattle.mc_model_device.specs.Stopped.{owed_writes}
 use Rattle.mc_model_device.proofs.LookLemmas.{owed_few}
 
--- a look leaves as many writes as it owes
+-- there are as many writes that recovery still has to make as the debt states
 pub as_many : (l : Look) → length (owed_writes l) ≡ debt l
 as_many (Refused p) = refl
 as_many Closed = refl

@@ -1,5 +1,5 @@
-// The journals tried on devices in memory, against the rule of stops written out by hand; and worked rows of what a
-// journal costs and of what a damaged one means.
+// The journals tested on devices in memory, against the rule of stops written out by hand; and worked rows of
+// the cost of a journal and of the meaning of a damaged one.
 
 #[cfg(test)]
 mod bench;

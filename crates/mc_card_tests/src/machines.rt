@@ -1,4 +1,4 @@
-// Worked rows of commands to applications, tried over a bank in memory.
+// Worked rows of commands to applications, tested over a bank in memory.
 
 mod card;
 mod rows;

@@ -1,5 +1,6 @@
-// Cards in the words of devices in memory: worked rows of the heap and of power-ups, each change and each power-up
-// stopped at every write, against the rule of stops written out by hand, and the reads that a store takes.
+// Cards in the words of devices in memory: worked rows of the heap and of power-ups, each change and each
+// power-up stopped at every write, against the rule of stops written out by hand, and the number of reads of
+// a store.
 
 mod bench;
 mod card;

@@ -159,7 +159,7 @@ abbrev pub AreManagers : List (List ℕ) → Type 0
 AreManagers [] = ⊤
 AreManagers (b ∷ bs) = IsManagers (route b) × AreManagers bs
 
-routed_aside : (K : List (List ℕ)) (c : Card) (seat : Seat) (budget : ℕ) (r : Route) → IsManagers r → Aside K seat (by_route c seat budget r)
+pub routed_aside : (K : List (List ℕ)) (c : Card) (seat : Seat) (budget : ℕ) (r : Route) → IsManagers r → Aside K seat (by_route c seat budget r)
 unfolding IsAside
 routed_aside K c seat budget WrongLength h = record { others = tt; selected = refl }
 routed_aside K c seat budget (ToManager a) h = managed_aside K c seat a

@@ -1,11 +1,11 @@
--- The last of some values whose number is below a bound, where the numbers rise.
+-- The last value whose number is below a bound, if the numbers ascend.
 use Rattle.std.proofs.Common.{◌≡◌, ◌+◌, ◌-◌, ◌<◌, ◌≤◌, refl, sym, ◌∙◌, ap, subst, ℕ, zero, suc, List, [], ◌∷◌, ◌++◌, length, drop, Bool, true, false, cond, Option, Some, None, arith, add-one}
 use Rattle.std.specs.Prelude.{nat_lt, slice_get}
 use Rattle.std.proofs.Math.ListN.{drop_of_length-le}
 use Rattle.mc_lab.specs.Rising.{Rising, count_below, last_of}
 use Rattle.mc_lab.specs.Expectations.{last_below, later_or, where_is}
 
--- what is left of a list from an element on
+-- the rest of a list from an element on
 pub drop_at : {A : Type 0} (xs : List A) (i : ℕ) (x : A) → slice_get xs i ≡ Some x → drop i xs ≡ x ∷ drop (i + 1) xs
 drop_at [] i x e = absurd (cc e)
 drop_at {A} (y ∷ xs) zero x e = let same : y ≡ x = cc e in ap (λ (y : A). y ∷ xs) same
@@ -14,7 +14,7 @@ drop_at (y ∷ xs) (suc i) x e =
     drop_at xs i x e ∙ ap (λ j. x ∷ drop j (y ∷ xs)) (sym one)
 
 module _ {A : Type 0} (number : A → ℕ) where
-  -- none is below where the first is not
+  -- no number is below a bound if the first is not
   none_below : (m n : ℕ) (xs : List A) → n ≤ m → Rising number m xs → last_below number n xs ≡ None
   none_below m n [] h r = refl
   none_below m n (x ∷ xs) h r =
@@ -42,29 +42,29 @@ module _ {A : Type 0} (number : A → ℕ) where
   last_is_by n x xs true e h r = later_is (count_below number n xs) x xs (last_below number n xs) (count_most n xs) h
   last_is_by n x xs false e h r = ap (later_or None) (none_below (suc (number x)) n xs (grind (arith, e)) r)
 
-  -- the last whose number is below a bound is the last of so many
+  -- the last value whose number is below a bound is the last of those that are counted below it
   pub last_is : (m n : ℕ) (xs : List A) → Rising number m xs → last_below number n xs ≡ last_of (count_below number n xs) xs
   last_is m n [] r = refl
   last_is m n (x ∷ xs) r = last_is_by n x xs (nat_lt (number x) n) refl (last_is (suc (number x)) n xs r.1) r.1
 
-  -- ---- counting on
+  -- ---- counting further
 
   count_here : (n : ℕ) (xs : List A) (i : ℕ) (x : A) (b : Bool) → slice_get xs i ≡ Some x → nat_lt (number x) n ≡ b → count_below number n (drop i xs) ≡ cond b (suc (count_below number n (drop (i + 1) xs))) 0
   count_here n xs i x b e h = ap (count_below number n) (drop_at xs i x e) ∙ ap (λ b. cond b (suc (count_below number n (drop (i + 1) xs))) 0) h
 
-  -- one more is below
+  -- one more number is below the bound
   pub count_step : (n : ℕ) (xs : List A) (i : ℕ) (x : A) → slice_get xs i ≡ Some x → number x < n → i + count_below number n (drop i xs) ≡ count_below number n xs → i + 1 + count_below number n (drop (i + 1) xs) ≡ count_below number n xs
   count_step n xs i x e h k =
       let here : count_below number n (drop i xs) ≡ suc (count_below number n (drop (i + 1) xs)) = count_here n xs i x true e (grind (arith, h)) in
       omega (arith, here, k)
 
-  -- the next is not below
+  -- the next number is not below the bound
   pub count_stop : (n : ℕ) (xs : List A) (i : ℕ) (x : A) → slice_get xs i ≡ Some x → n ≤ number x → i + count_below number n (drop i xs) ≡ count_below number n xs → i ≡ count_below number n xs
   count_stop n xs i x e h k =
       let here : count_below number n (drop i xs) ≡ 0 = count_here n xs i x false e (grind (arith, h)) in
       omega (arith, here, k)
 
-  -- there is no next
+  -- there is no next number
   pub count_none : (n : ℕ) (xs : List A) (i : ℕ) → length xs ≤ i → i + count_below number n (drop i xs) ≡ count_below number n xs → i ≡ count_below number n xs
   count_none n xs i e k =
       let here : count_below number n (drop i xs) ≡ 0 = ap (count_below number n) (drop_of_length-le xs e) in
@@ -78,7 +78,7 @@ module _ {A : Type 0} (number : A → ℕ) where
       omega (arith, all, k)
   count_on_by m n x xs false e h k = omega arith
 
-  -- those below a bound are below a greater one
+  -- the numbers below a bound are below a greater one
   pub count_on : (m n : ℕ) (xs : List A) → m ≤ n → count_below number m xs + count_below number n (drop (count_below number m xs) xs) ≡ count_below number n xs
   count_on m n [] h = refl
   count_on m n (x ∷ xs) h = count_on_by m n x xs (nat_lt (number x) m) refl h (count_on m n xs h)

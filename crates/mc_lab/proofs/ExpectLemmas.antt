@@ -1,4 +1,4 @@
--- Expectations judged one by one, and what is told of them.
+-- Expectations compared one by one, and the report of them.
 use Rattle.std.proofs.Common.{◌≡◌, ◌+◌, ◌<◌, ◌≤◌, refl, sym, ◌∙◌, ap, subst, ℕ, zero, suc, List, [], ◌∷◌, ◌++◌, length, drop, map, filter, not, Bool, true, false, cond, Option, Some, None, Result, Ok, Err, IsErr, arith, add-one, zero-add, append_assoc}
 use Rattle.std.specs.Prelude.{slice_index_or}
 use Rattle.std.proofs.lemmas.List.{length-map}
@@ -33,7 +33,7 @@ count_filter : {A : Type 0} (test : A → Bool) (b : Bool) (x : A) (xs : List A)
 count_filter test true x xs e = rw e refl
 count_filter test false x xs e = rw e refl
 
--- an expectation that holds does not count, and one that failed does
+-- an expectation that holds does not count as failed, and one that failed does
 pub count_met : (ts : List Step) (e : ℕ × List ℕ) (es : List (ℕ × List ℕ)) → is_met ts e ≡ true → count_failed ts (e ∷ es) ≡ count_failed ts es
 count_met ts e es h = count_filter (λ e. not (is_met ts e)) false e es (ap not h)
 
@@ -42,11 +42,11 @@ count_unmet ts e es h = count_filter (λ e. not (is_met ts e)) true e es (ap not
 
 -- ---- texts
 
--- what is left to be told, by the first expectation that is left
+-- the rest of the report, by the first expectation that is left
 left_on : (ts : List Step) (e : ℕ × List ℕ) (es all : List (ℕ × List ℕ)) → text_left ts (e ∷ es) all ≡ expectation_line (is_met ts e) e (result_above ts e.0) ++ text_left ts es all
 left_on ts e es all = append_assoc (expectation_line (is_met ts e) e (result_above ts e.0)) (failed_lines ts es) (count_text (length all) (count_failed ts all))
 
--- what was written of an expectation is written of what is left
+-- the line that was written of an expectation is the first part of the rest of the report
 pub told_on : (ts : List Step) (left : List (ℕ × List ℕ)) (e : ℕ × List ℕ) (es all : List (ℕ × List ℕ)) (text : List ℕ) (x y : Sunk) (r : Result (Unit {0}) WriteFault) (z : Sunk)
     → left ≡ e ∷ es → text ≡ result_above ts e.0 → Writes x (expectation_line (holds e.1 text) e text) y → Puts y (text_left ts es all) r z → Puts x (text_left ts left all) r z
 told_on ts left e es all text x y r z i is wrote rest =
@@ -72,7 +72,7 @@ numbered_length (e ∷ es) = ap suc (numbered_length es)
 
 -- ---- ends
 
--- one that held, or failed, and those that are left
+-- one expectation that held or failed, and those that are left
 pub count_left : (ts : List Step) (left : List (ℕ × List ℕ)) (e : ℕ × List ℕ) (es : List (ℕ × List ℕ)) (held : Bool) → left ≡ e ∷ es → held ≡ is_met ts e → count_failed ts left ≡ cond held 0 1 + count_failed ts es
 count_left ts left e es true i h = ap (count_failed ts) i ∙ count_met ts e es (sym h) ∙ sym (zero-add (count_failed ts es))
 count_left ts left e es false i h =
@@ -83,12 +83,12 @@ pub one_more : (held : Bool) (n i : ℕ) → n ≤ i → n + cond held 0 1 ≤ i
 one_more true n i h = omega (arith, h)
 one_more false n i h = omega (arith, h)
 
--- a text that was not written whole, by a call that gives a number
+-- a text that was not completely written, by a call that returns a number
 pub fails_done : {A : Type 0} {a b : Sunk} {t : List ℕ} (r : Result A WriteFault) → IsErr r → Fails a t b → Puts a t (done_of r) b
 fails_done (Ok x) h f = absurd (cc h)
 fails_done (Err e) h f = f
 
--- all were told, and so many failed
+-- all lines were written, and `failed` expectations failed
 pub text_done : (ts : List Step) (left all : List (ℕ × List ℕ)) (n failed : ℕ) → left ≡ [] → n ≡ length all → failed + count_failed ts left ≡ count_failed ts all → count_text n failed ≡ text_left ts left all
 text_done ts left all n failed i len h =
     let none : count_failed ts left ≡ 0 = ap (count_failed ts) i in

@@ -1,4 +1,4 @@
--- Lines that are expectations, and those that are none.
+-- Lines that are expectations, and lines that are not.
 use Rattle.std.proofs.Common.{◌≡◌, ◌+◌, ◌<◌, length, refl, sym, ◌∙◌, ap, subst, ℕ, suc, List, [], ◌∷◌, ◌++◌, Bool, true, false, not, cond, filter, Option, Some, None, append_assoc, append-nil, arith}
 use Rattle.std.specs.Prelude.{◌&&◌, ◌==◌, codes, bytes_eq, Result, Ok, Err}
 use Rattle.mc_model_machine.specs.Text.{fields, first_cut, pieces_with_character, halves_with_character, is_blank, is_empty, lines, with_numbers, pieces, trim_front}
@@ -27,12 +27,12 @@ trim_fields_by : (c : ℕ) (t : List ℕ) (b : Bool) → is_blank c ≡ b → fi
 trim_fields_by c t true e h = ap (λ b. fields (cond b (trim_front t) (c ∷ t))) e ∙ h ∙ sym (ap (λ b. filter (λ p. not (is_empty p)) (pieces_with_character b c (pieces is_blank t))) e)
 trim_fields_by c t false e h = ap (λ b. fields (cond b (trim_front t) (c ∷ t))) e
 
--- blanks before a line are nothing
+-- blanks before a line are ignored
 trim_fields : (t : List ℕ) → fields (trim_front t) ≡ fields t
 trim_fields [] = refl
 trim_fields (c ∷ t) = trim_fields_by c t (is_blank c) refl (trim_fields t)
 
--- a text that does not begin with a blank
+-- a text does not begin with a blank
 abbrev Plain : List ℕ → Type 0
 Plain [] = Unit {0}
 Plain (c ∷ t) = is_blank c ≡ false
@@ -45,7 +45,7 @@ trim_plain : (t : List ℕ) → Plain (trim_front t)
 trim_plain [] = tt
 trim_plain (c ∷ t) = trim_plain_by c t (is_blank c) refl (trim_plain t)
 
--- its first field is empty where the whole text is
+-- the first field of such a text is empty only if the text is
 plain_cut : (t : List ℕ) → Plain t → is_empty (first_cut is_blank t).0 ≡ true → (first_cut is_blank t).1 ≡ None
 plain_cut [] h e = refl
 plain_cut (c ∷ t) h e =
@@ -86,7 +86,7 @@ ends_by l = ends_by_empty l (is_empty (first_field l).0) refl
 
 -- ---- line by line
 
--- what is there, and the expectations that are left
+-- the expectations found, followed by those that are left
 abbrev pub with_left : List (ℕ × List ℕ) → Bool → ℕ → List ℕ → List (ℕ × List ℕ)
 with_left so inside n rest = so ++ scanned_from inside (with_numbers n (lines rest))
 
@@ -108,7 +108,7 @@ pub scanned_are : (text : List ℕ) → with_left [] false 1 text ≡ scanned te
 unfolding scanned
 scanned_are text = refl
 
--- ---- their numbers
+-- ---- their line numbers
 
 rising_at : (n : ℕ) (l : List ℕ) (b : Bool) (es : List (ℕ × List ℕ)) → Rising line_number (suc n) es → Rising line_number n (expectation_at b (n, l) ++ es)
 rising_at n l true es h = (omega arith, h)
@@ -126,7 +126,7 @@ rising_from m n (l ∷ ls) =
     let rest : Mode → List (ℕ × List ℕ) = λ k. expectations_from k (with_numbers (suc n) ls) in
     rising_at n l (not (in_section m) && begins_with (codes "#>") (fields l)) (after_line turn rest) (rising_turn (suc n) turn rest (λ k. rising_from k (suc n) ls))
 
--- the numbers of expectations rise, from 1 on
+-- the line numbers of expectations ascend, from 1 on
 pub expectations_rise : (text : List ℕ) → Rising line_number 1 (expectations text)
 unfolding expectations
 expectations_rise text = rising_from (Between (record { units = []; powered = false })) 1 (lines text)

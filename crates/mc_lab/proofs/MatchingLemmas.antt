@@ -1,4 +1,4 @@
--- Blanks that are left out, and walks of a pattern along a text.
+-- Texts without blanks, and walks of a pattern along a text.
 use Rattle.std.proofs.Common.{◌≡◌, ◌||◌, ◌==◌, refl, sym, ◌∙◌, ap, subst, ℕ, List, [], ◌∷◌, Bool, true, false, cond, arith}
 use Rattle.mc_model_machine.specs.Text.{is_blank, is_empty}
 use Rattle.mc_lab.specs.Walks.{Parts}
@@ -25,26 +25,26 @@ or_again true b = refl
 or_again false true = refl
 or_again false false = refl
 
--- what is left of what is left is left
+-- a rest of a rest is a rest
 pub some_rest_again : (test : List ℕ → Bool) (t : List ℕ) → some_rest (some_rest test) t ≡ some_rest test t
 some_rest_again test [] = refl
 some_rest_again test (c ∷ t) = subst (λ (b : Bool). ((test (c ∷ t) || some_rest test t) || b) ≡ (test (c ∷ t) || some_rest test t)) (sym (some_rest_again test t)) (or_again (test (c ∷ t)) (some_rest test t))
 
 -- ---- walks
 
--- where a walk is: the pattern matches exactly where what is left of it does, and further on at most there
+-- the state of a walk: the pattern matches exactly if its rest does, and if it matches further on, so does its rest
 pub record PatternWalked (p t ps ts : List ℕ) : Type 0 where
   pub same : matches p t ≡ matches ps ts
   pub later : some_rest (matches p) t ≡ true → some_rest (matches ps) ts ≡ true
 
--- the same of lists that are equal
+-- a walk along equal lists
 walked_along : (p t x y u v : List ℕ) → x ≡ u → y ≡ v → PatternWalked p t x y → PatternWalked p t u v
 walked_along p t x y u v i j w = subst (λ (a : List ℕ). PatternWalked p t a v) i (subst (λ (b : List ℕ). PatternWalked p t x b) j w)
 
 false_true : {A : Type 0} → false ≡ true → A
 false_true h = absurd (cc h)
 
--- a sign that is no star: where it and what is behind it match, what is behind it matches the rest
+-- a sign other than `*`: if it and the signs after it match, the signs after it match the rest
 sign_rest : (p : ℕ) (ps : List ℕ) (c : ℕ) (t : List ℕ) → is_star p ≡ false → matches (p ∷ ps) (c ∷ t) ≡ true → matches ps t ≡ true
 unfolding matches
 sign_rest p ps c t e h =
@@ -76,13 +76,13 @@ sign_apart : (p : ℕ) (ps : List ℕ) (c : ℕ) (t : List ℕ) → is_star p �
 unfolding matches
 sign_apart p ps c t e h = grind (arith, e, h)
 
--- a sign that stands for a character
+-- a sign that matches a character
 pub walked_step : (p t x y : List ℕ) (s : ℕ) (ps : List ℕ) (c : ℕ) (ts : List ℕ) → x ≡ s ∷ ps → y ≡ c ∷ ts → is_star s ≡ false → (is_any s || (c == s)) ≡ true → PatternWalked p t x y → PatternWalked p t ps ts
 walked_step p t x y s ps c ts i j e h v =
     let w : PatternWalked p t (s ∷ ps) (c ∷ ts) = walked_along p t x y (s ∷ ps) (c ∷ ts) i j v in
     record { same = w.same ∙ sign_same s ps c ts e h; later = λ m. step_rest s ps c ts e (w.later m) }
 
--- a sign that does not
+-- a sign that does not match a character
 pub walked_apart : (p t x y : List ℕ) (s : ℕ) (ps : List ℕ) (c : ℕ) (ts : List ℕ) → x ≡ s ∷ ps → y ≡ c ∷ ts → is_star s ≡ false → (is_any s || (c == s)) ≡ false → PatternWalked p t x y → matches p t ≡ false
 walked_apart p t x y s ps c ts i j e h v =
     let w : PatternWalked p t (s ∷ ps) (c ∷ ts) = walked_along p t x y (s ∷ ps) (c ∷ ts) i j v in
@@ -113,7 +113,7 @@ both_ways true b f g = sym (f refl)
 both_ways false true f g = g refl
 both_ways false false f g = refl
 
--- a star
+-- a `*`
 pub walked_star : (p t x : List ℕ) (s : ℕ) (ps ts : List ℕ) → x ≡ s ∷ ps → is_star s ≡ true → PatternWalked p t x ts → Parts p t ps ts
 walked_star p t x s ps ts i e v =
     let w : PatternWalked p t (s ∷ ps) ts = walked_along p t x ts (s ∷ ps) ts i refl v in

@@ -1,4 +1,4 @@
--- The numbers of the lines of a deck rise.
+-- The line numbers of a deck ascend.
 use Rattle.std.proofs.Common.{◌≡◌, ◌+◌, ◌<◌, ◌≤◌, refl, sym, ◌∙◌, ap, subst, ℕ, zero, suc, List, [], ◌∷◌, ◌++◌, Bool, true, false, cond, Option, Some, None, Result, Ok, Err, arith}
 use Rattle.std.specs.Prelude.{◌==◌, not, ok_or}
 use Rattle.mc_model_play.specs.declared.deck.DeckCause.{DeckCause}
@@ -84,17 +84,17 @@ opens_at c n PokeWord (f0 ∷ f1 ∷ f ∷ fs) = tt
 
 -- ---- turns
 
--- a section that is open began before a line
+-- an open section began before a line
 abbrev pub IsBefore : ℕ → Mode → Type 0
 IsBefore n (Between c) = Unit {0}
 IsBefore n (Within s c) = s.first < n
 
--- the lowest number that the lines from line n on may have
+-- the least number that the lines from line `n` on may have
 abbrev pub lowest : ℕ → Mode → ℕ
 lowest n (Between c) = n
 lowest n (Within s c) = s.first
 
--- a turn at line n: its lines stand before those behind it
+-- a turn at line `n`: its lines have numbers below those after them
 record Rises (n : ℕ) (m : Mode) (u : LineTurn) : Type 0 where
   pub before : IsBefore (suc n) u.mode
   pub lines : (r : List (ℕ × DeckLine)) → Rising line_number (lowest (suc n) u.mode) r → Rising line_number (lowest n m) (u.lines ++ r)
@@ -146,7 +146,7 @@ ended_rising : (n : ℕ) (m : Mode) (ls : List (ℕ × DeckLine)) → lines_at_e
 ended_rising n (Between c) ls e = let e2 : [] ≡ ls = cc e in subst (λ (ls : List (ℕ × DeckLine)). Rising line_number n ls) e2 tt
 ended_rising n (Within s c) ls e = absurd (cc e)
 
--- the rest of some lines, where the whole is there
+-- the rest of some lines ascends if all of them do
 rest_rising : (n : ℕ) (m : Mode) (u : LineTurn) (q : Result (List (ℕ × DeckLine)) (ℕ × DeckCause)) (ls : List (ℕ × DeckLine)) → Rises n m u → ((r : List (ℕ × DeckLine)) → q ≡ Ok r → Rising line_number (lowest (suc n) u.mode) r) → ok_as (λ rest. u.lines ++ rest) q ≡ Ok ls → Rising line_number (lowest n m) ls
 rest_rising n m u (Err e) ls h f k = absurd (cc k)
 rest_rising n m u (Ok r) ls h f k = let e : u.lines ++ r ≡ ls = cc k in subst (λ (ls : List (ℕ × DeckLine)). Rising line_number (lowest n m) ls) e (h.lines r (f r refl))
@@ -163,7 +163,7 @@ lines_rising n m [] ls h e = ended_rising n m ls e
 lines_rising n m (t ∷ ts) ls h e =
     turn_rising n m (turn_at (n == 20001) m (n, t)) (with_numbers (suc n) ts) ls (rises_at n m t (n == 20001) h) (λ u b r k. lines_rising (suc n) u.mode ts r b k) e
 
--- the numbers of the lines of a deck rise, from 1 on
+-- the line numbers of a deck ascend, from 1 on
 pub deck_rising : (text : List ℕ) (ls : List (ℕ × DeckLine)) → deck_read text ≡ Ok ls → Rising line_number 1 ls
 unfolding deck_read
 deck_rising text ls e = lines_rising 1 (Between (record { units = []; powered = false })) (lines text) ls tt e

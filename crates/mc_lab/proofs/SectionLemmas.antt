@@ -1,4 +1,4 @@
--- The laboratory's pass over a deck's text is in a section exactly when the deck's reader is.
+-- The pass of the laboratory over a deck's text is in a section exactly if the deck's reader is.
 use Rattle.std.proofs.Common.{◌≡◌, ℕ, Bool, true, false, not, List, [], ◌∷◌, ◌++◌, Option, Some, None, Result, Ok, Err, refl, sym, ap, ◌∙◌}
 use Rattle.std.specs.Prelude.{◌&&◌, ◌==◌, ⊤, bytes_eq, codes, ok_or, IfOk, OnOk}
 use Rattle.std.proofs.lemmas.Bool.{eqb-true}
@@ -113,7 +113,7 @@ turned : (n : ℕ) (s : Stated) → in_section (turn_of n s).mode ≡ opens s
 turned n (Says l c) = refl
 turned n (Opens s c) = refl
 
--- a turn after which a line lies in a section, or not
+-- whether the line after a turn is in a section
 abbrev LeavesIn : Bool → LineTurn → Type 0
 LeavesIn b t = in_section t.mode ≡ b
 
@@ -160,7 +160,7 @@ scanned_from_lem (Within s c) [] = tt
 scanned_from_lem m (l ∷ ls) =
     by_turn (expectation_at (not (in_section m) && begins_with (codes "#>") (fields l.1)) l) ls (stays_inside (in_section m) (fields l.1)) (turn_at (l.0 == 20001) m l) (turn_leaves (l.0 == 20001) m l) (λ k. scanned_from_lem k ls)
 
--- in a text that is a deck the pass finds its expectations
+-- if a text is a deck, the pass finds its expectations
 pub scanned_is : (text : List ℕ) → OnOk (deck_read text) (scanned text ≡ expectations text)
 unfolding deck_read scanned expectations
 scanned_is text = scanned_from_lem (Between (record { units = []; powered = false })) (with_numbers 1 (lines text))

@@ -17,11 +17,11 @@ use Rattle.mc_lab.proofs.BelowLemmas.{drop_at, last_is}
 
 -- ---- steps
 
--- the worn stop of a line on a steady bench, if it has one
+-- the failed write of a line on a steady bench, if it has one
 abbrev worn_of : State → ℕ × DeckLine → Option WornAt
 worn_of s l = steady_at (armed_stop_in s) l.1 (moves_of s l)
 
--- the first line, and those behind it
+-- the step of the first line, and the steps of the lines after it
 steady_on : (s : State) (l : ℕ × DeckLine) (ls : List (ℕ × DeckLine)) → steady_from s (l ∷ ls) ≡ step s l (worn_of s l) ∷ steady_from (step s l (worn_of s l)).after ls
 unfolding steady_from plays steady_worn
 steady_on s l ls = refl
@@ -34,7 +34,7 @@ steady_none s = refl
 abbrev pub number_in : Step → ℕ
 number_in t = t.number
 
--- the numbers of steps are those of their lines
+-- the numbers of steps ascend as those of their lines do
 steps_rise : (s : State) (m : ℕ) (ls : List (ℕ × DeckLine)) → Rising line_number m ls → Rising number_in m (steady_from s ls)
 steps_rise s m [] h = subst (λ (ts : List Step). Rising number_in m ts) (sym (steady_none s)) tt
 steps_rise s m (l ∷ ls) h =
@@ -53,7 +53,7 @@ count_steps s n (l ∷ ls) =
     ∙ ap (λ k. cond (nat_lt k n) (suc (count_below number_in n (steady_from t.after ls))) 0) number
     ∙ ap (λ k. cond (nat_lt l.0 n) (suc k) 0) (count_steps t.after n ls)
 
--- the result above a line is that of the last of the lines that are counted above it
+-- the result above a line is that of the last of the lines counted above it
 pub above_is : (s : State) (n : ℕ) (ls : List (ℕ × DeckLine)) → Rising line_number 1 ls → result_above (steady_from s ls) n ≡ step_text (last_of (count_below line_number n ls) (steady_from s ls))
 above_is s n ls h =
     ap step_text (last_is number_in 1 n (steady_from s ls) (steps_rise s 1 ls h))
@@ -61,7 +61,7 @@ above_is s n ls h =
 
 -- ---- lists
 
--- what stands first in what is left, and behind it
+-- the first of the rest of a list, and the list after it
 record Next {A : Type 0} (xs : List A) (i : ℕ) (x : A) (r : List A) : Type 0 where
   pub first : slice_get xs i ≡ Some x
   pub behind : drop (i + 1) xs ≡ r
@@ -102,7 +102,7 @@ module _ {N : Type 0} (state : N → DeviceState) (bench : N → BenchState) whe
       ap result_text stepped.answers ∙ sym (ap step_text (ap (λ k. last_of k whole) (add-one i) ∙ next.first)) in
       record { here = t.after; at = stepped.at; steady = stepped.played.counts.counts.steady ∙ h.steady; rest = next.behind; last = is ∙ text_is }
 
-  -- a player that was playing plays on
+  -- a player that was playing continues
   pub playing_on : {R : Type 0} (told : R → List Turn → R → Type 0) (p q : Player N) (n : ℕ) (l : DeckLine) (before after : R) (answer : Option Answer) → LineDone state bench told p l before after answer q → IsPlaying state bench p → IsPlaying state bench q
   playing_on told p q n l before after answer done h =
       let d = done h.0 n h.1 in

@@ -1,4 +1,4 @@
--- Accounts of other lengths are not the same.
+-- Accounts of different lengths are not equal.
 use Rattle.std.specs.Prelude.{◌≡◌, ◌≢◌, ℕ, suc, Bool, true, false, ◌&&◌, List, [], ◌∷◌, length, map, Option, refl}
 use Rattle.std.proofs.Common.{arith, sym, ◌∙◌}
 use Rattle.mc_model_device.proofs.ListLemmas.{length_map as map-length}

@@ -1,4 +1,4 @@
--- What a stop leaves of items of which none changes what is told, or one.
+-- The observed state after a stop in items of which none changes it, or one does.
 use Rattle.std.specs.Prelude.{◌≡◌, ◌≢◌, ℕ, ◌+◌, ◌-◌, ◌<◌, ◌≤◌, Bool, true, false, cond, not, ◌&&◌, ◌||◌, nat_lt, nat_le, ◌==◌, bytes_eq, List, [], ◌∷◌, Option, Some, None, refl}
 use Rattle.std.proofs.Common.{arith, ap, sym, subst, ◌∙◌}
 use Rattle.std.proofs.lemmas.Slice.Eq.{bytes_eq-Decides}
@@ -12,7 +12,7 @@ use Rattle.mc_model_card.specs.Items.{Change, Item, Plain, Atomic, moves, apps_a
 use Rattle.mc_lab.specs.Sweeps.{static_bytes_under, is_same_held, are_same_held}
 use Rattle.mc_lab.specs.SweepLaws.{changes, count_of_changes, opening_write}
 
--- ---- the same is told
+-- ---- equal observed states
 
 held_same : (a b : Option (List ℕ)) → is_same_held a b ≡ true → a ≡ b
 held_same None None h = refl
@@ -57,7 +57,7 @@ module _ (names : List (List ℕ)) where
   plain_kept : (apps : List (List ℕ × App)) → changes names apps Plain ≡ false
   plain_kept apps = ap (λ (t : Bool). not t) (all_held_itself (static_bytes_under names apps))
 
-  -- what a stop in an atomic write leaves
+  -- the static bytes after a stop in an atomic write
   flight_held : (apps : List (List ℕ × App)) (w : ℕ) (c : Change) (k : ℕ) (b : Bool) → static_bytes_under names apps ≡ static_bytes_under names (apps_after_change c apps) → static_bytes_under names (apps_after_items apps (cond b (Atomic w c ∷ []) [])) ≡ static_bytes_under names apps
   flight_held apps w c k true h = sym h
   flight_held apps w c k false h = refl
@@ -70,7 +70,7 @@ module _ (names : List (List ℕ)) where
   chosen_held apps true s t h first second = first
   chosen_held apps false s t h first second = second
 
-  -- where no item changes what is told, a stop leaves it as it was, and so do all items
+  -- if no item changes the observed state, a stop leaves it unchanged, and so do all items
   pub none_stopped : (is : List Item) (apps : List (List ℕ × App)) (k : ℕ) (x : List ℕ) → count_of_changes names apps is ≡ 0 → static_bytes_under names (apps_after_items apps (at_stop is k x).whole) ≡ static_bytes_under names apps
   none_stopped [] apps k x h = refl
   none_stopped (Plain ∷ is) apps k x h =
@@ -88,7 +88,7 @@ module _ (names : List (List ℕ)) where
       let z = zero_first (changes names apps (Atomic w c)) (count_of_changes names (apps_after_change c apps) is) h in
       none_done is (apps_after_change c apps) z.1 ∙ sym (kept apps (Atomic w c) z.0)
 
-  -- what a stop at write k leaves where one item changes what is told
+  -- the observed state after a stop at write `k`, if one item changes it
   pub record Splits (apps : List (List ℕ × App)) (is : List Item) : Type 0 where
     pub low : 1 ≤ opening_write names apps is
     pub high : opening_write names apps is < moves is
@@ -121,7 +121,7 @@ module _ (names : List (List ℕ)) where
   gate_within : (w : ℕ) → (2 ≤ opens_at Two w) × (opens_at Two w < cost Two w)
   gate_within w = (omega arith, omega arith)
 
-  -- the item that changes what is told
+  -- the item that changes the observed state
   changed_splits : (w : ℕ) (c : Change) (is : List Item) (apps : List (List ℕ × App)) → changes names apps (Atomic w c) ≡ true → count_of_changes names (apps_after_change c apps) is ≡ 0 → Splits apps (Atomic w c ∷ is)
   changed_splits w c is apps e h =
       let o : opening_write names apps (Atomic w c ∷ is) ≡ opens_at Two w = ap (λ (t : Bool). cond t (opens_at Two w) (cost Two w + opening_write names (apps_after_change c apps) is)) e in
@@ -141,7 +141,7 @@ module _ (names : List (List ℕ)) where
             (λ t. none_stopped is (apps_after_change c apps) (k - cost Two w) x h ∙ sym rest);
       }
 
-  -- one before it
+  -- an item before it
   passed_splits : (w : ℕ) (c : Change) (is : List Item) (apps : List (List ℕ × App)) → changes names apps (Atomic w c) ≡ false → Splits (apps_after_change c apps) is → Splits apps (Atomic w c ∷ is)
   passed_splits w c is apps e s =
       let o : opening_write names apps (Atomic w c ∷ is) ≡ cost Two w + opening_write names (apps_after_change c apps) is = ap (λ (t : Bool). cond t (opens_at Two w) (cost Two w + opening_write names (apps_after_change c apps) is)) e in

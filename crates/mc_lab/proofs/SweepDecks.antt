@@ -1,4 +1,4 @@
--- The lines of a deck that are swept one by one, and what is told of them.
+-- The lines of a deck that are swept one by one, and their text.
 use Rattle.std.specs.Prelude.{◌≡◌, ℕ, ◌+◌, ◌<◌, ◌≤◌, Bool, true, false, ◌&&◌, nat_le, List, [], ◌∷◌, ◌++◌, length, map, take, drop, slice_get, Option, Some, None, Result, refl}
 use Rattle.std.proofs.Common.{arith, ap, sym, subst, inl, inr, ◌∙◌, append_assoc, length-append}
 use Rattle.std.proofs.lemmas.Bool.{le-leb, cases_lt, and_from, and_left, and_parts}
@@ -101,7 +101,7 @@ none_swept p none = not_swept p (swept_false p none)
 pub shut_swept : (p : Place) → is_open_at p.deck.now p.at ≡ false → [] ≡ sweeps_at p
 shut_swept p shut = not_swept p (and_left (is_open (front_of p) (line_in p)) (nat_le 1 (writes_in p)) shut)
 
--- ---- the most writes
+-- ---- the greatest number of writes
 
 pub most_more : (ls : List (ℕ × DeckLine)) (n most w new : ℕ) → AtMost ls n most → (is_open_at ls n ≡ true → writes_behind (take n ls) (line_at ls n) ≤ w) → most ≤ new → w ≤ new → AtMost ls (n + 1) new
 most_more ls n most w new so_far here old now i lt is_open_there = elim (cases_lt i n) [
@@ -169,7 +169,7 @@ place_adds p number n words plays a b is s o some x y z =
     subst (λ (ss : List Swept). AddsSums a ss b) (sym (one_swept p number n words plays is s o some))
     (record { lines = omega (arith, x); writes = omega (arith, y, long); plays = omega (arith, z) })
 
--- ---- the lines that are left
+-- ---- the rest of the lines
 
 swept_split : (b : Bool) (s : Swept) (rest : List Swept) → sweeps_with b s rest ≡ sweeps_with b s [] ++ rest
 swept_split true s rest = refl
@@ -192,7 +192,7 @@ left_by names ls i x here =
     ∙ swept_split (is_swept (take i ls) x) (line_sweep names (take i ls) x) (sweep_behind names (take i ls ++ x ∷ []) (drop (i + 1) ls))
     ∙ ap (λ (f : List (ℕ × DeckLine)). sweeps_with (is_swept (take i ls) x) (line_sweep names (take i ls) x) [] ++ sweep_behind names f (drop (i + 1) ls)) (sym (take_one i ls x here))
 
--- the swept line at a place, if it is one
+-- the swept line at a place, if it is swept
 abbrev pub swept_at : List (List ℕ) → List (ℕ × DeckLine) → ℕ → List Swept
 swept_at names ls i = sweeps_with (is_swept (take i ls) (line_at ls i)) (line_sweep names (take i ls) (line_at ls i)) []
 

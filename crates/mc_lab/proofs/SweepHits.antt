@@ -1,4 +1,4 @@
--- Whether a cut hits its line: exactly where the line makes so many writes.
+-- A cut hits its line exactly if the line makes that write.
 use Rattle.std.specs.Prelude.{◌≡◌, ℕ, ◌+◌, ◌≤◌, Bool, true, false, cond, nat_le, List, Some, None, refl}
 use Rattle.std.proofs.Common.{arith, ap, sym, ◌∙◌}
 use Rattle.std.proofs.lemmas.Bool.{lt-leb}
@@ -86,7 +86,7 @@ line_hit (Cold m b (ArmedCut h y)) l i k x is card low = absurd (cc is)
 line_hit (Cold m b (ArmedFail h)) l i k x is card low = absurd (cc is)
 line_hit (Hot s) l i k x is card low = armed_hit l.0 i l.1 s.base s.owed s.by s.live s.budget s.armed k x is card low
 
--- a cut behind a front
+-- a cut after other lines
 pub hits_within : HitsWithin
 hits_within front l k x card unarmed low =
     ap (λ (s : State). is_off (steady_step s l).result) (played_one front (cut_statement l.0 k x)) ∙ line_hit (state_on_blank front) l l.0 k x unarmed card low

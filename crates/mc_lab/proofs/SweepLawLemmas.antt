@@ -21,7 +21,7 @@ module _ (names : List (List ℕ)) (front : List (ℕ × DeckLine)) (l : ℕ × 
   abbrev write : ℕ → Tried
   write k = cut_write names front l (state_after_power names front) (state_after_power names (front ++ l ∷ [])) k
 
-  -- what is true of each word is true of each run
+  -- a property of each word is one of each run
   each_run : (P : Word → Type 0) → ((k : ℕ) → 1 ≤ k → k ≤ writes_behind front l → P (write k).word) → AllByRecursion (λ r. P r.word) (runs 1 (line_sweep names front l).words)
   unfolding line_sweep
   each_run P h = all_runs P 1 (map write (count_from 1 (writes_behind front l))) (all_counted (λ t. P t.word) write 1 (writes_behind front l) (λ k low high. h k low (omega arith)))

@@ -1,4 +1,4 @@
--- The loops of a sweep: which cuts hit, and what is told of them.
+-- The loops of a sweep: the cuts that hit, and the observed states.
 use Rattle.std.specs.Prelude.{◌≡◌, ℕ, zero, suc, ◌+◌, ◌*◌, slice_set, ◌<◌, ◌≤◌, Bool, true, false, ◌&&◌, nat_le, List, [], ◌∷◌, ◌++◌, length, map, take, refl}
 use Rattle.std.proofs.Common.{arith, ap, sym, ◌∙◌}
 use Rattle.std.proofs.lemmas.Bool.{leb-true}
@@ -24,7 +24,7 @@ module _ (p : Place) (open_line : IsUnarmedLine p) where
   pub hit_cut : (k : ℕ) (fill : List ℕ) → 1 ≤ k → hit_in p (behind.Cut k fill) ≡ nat_le k (writes_in p)
   hit_cut k fill low = line_hit (state_on_blank (front_of p)) (line_in p) (line_in p).0 k fill at_front open_line.card low
 
-  -- and one in the recovery behind it exactly the writes of that
+  -- a cut in the recovery after it hits exactly the writes of the recovery
   pub hit_again : (k : ℕ) (fill : List ℕ) (j : ℕ) → 1 ≤ k → k ≤ writes_in p → OpensNoGate fill → 1 ≤ j → hit_in p (behind.Twice k fill j) ≡ nat_le j (again_in p k fill)
   hit_again k fill j low high shuts first =
       let l = line_in p in
@@ -53,7 +53,7 @@ count_length k (suc n) = ap suc (count_length (k + 1) n)
 pub counted_length : {A : Type 0} (f : ℕ → A) (n : ℕ) → length (map f (count_from 1 n)) ≡ n
 counted_length f n = map-length f (count_from 1 n) ∙ count_length 1 n
 
--- ---- the same state
+-- ---- equal states
 
 and_assoc : (a b c : Bool) → (a && (b && c)) ≡ ((a && b) && c)
 and_assoc true b c = refl
@@ -69,7 +69,7 @@ pub same_append : (t : ToldState) (xs ys : List ToldState) → all_same t (xs ++
 same_append t [] ys = refl
 same_append t (x ∷ xs) ys = ap (λ (b : Bool). is_same x t && b) (same_append t xs ys) ∙ and_assoc (is_same x t) (all_same t xs) (all_same t ys)
 
--- the states of the recoveries so far
+-- the states of the recoveries that were cut already
 pub record Recovering (p : Place) (k : ℕ) (fill : List ℕ) (first : ToldState) (made : ℕ) (same : Bool) : Type 0 where
   pub within : made ≤ again_in p k fill
   pub is : same ≡ all_same first (map (λ j. state_at_place p (behind.Twice k fill j)) (count_from 1 made))
@@ -93,7 +93,7 @@ recovering_more p k fill first now made same now_same hit r test is_hit is test_
           ∙ ap (λ (l : List ToldState). all_same first l) (sym (map_more f made));
     }
 
--- a cut that hit no more, or the last number
+-- the recoveries of a write after the cut that hit no more, or after the last number
 pub record Recovered (p : Place) (k : ℕ) (fill : List ℕ) (first : ToldState) (made : ℕ) (same : Bool) : Type 0 where
   pub same_as : same ≡ all_same first (recovery_states_at p k fill)
   pub count : made ≡ length (recovery_states_at p k fill)
@@ -119,7 +119,7 @@ recovered_last p k fill first made same r last few =
 
 -- ---- one write
 
--- its word and its plays
+-- the word and the number of plays of a write
 pub record TriedAs (p : Place) (k : ℕ) (w : Word) (n : ℕ) : Type 0 where
   pub word : w ≡ (cut_write_at p k).word
   pub plays : n ≡ (cut_write_at p k).plays
@@ -172,7 +172,7 @@ plays_more : (ts : List Tried) (t : Tried) → plays_of (ts ++ t ∷ []) ≡ pla
 plays_more [] t = omega arith
 plays_more (u ∷ us) t = let e = plays_more us t in omega (arith, e)
 
--- the words and the plays of the writes so far
+-- the words and the number of plays of the writes that were cut already
 pub record Sweeping (p : Place) (i : ℕ) (words : List Word) (plays : ℕ) : Type 0 where
   pub within : i ≤ writes_in p
   pub words_are : take i words ≡ map (λ t. t.word) (map (cut_write_at p) (count_from 1 i))
@@ -201,7 +201,7 @@ sweeping_more p i words plays w n s lt within w_is n_is few =
       few_plays = omega (arith, before, few);
     }
 
--- all writes of a line
+-- the words and the number of plays of all writes of a line
 pub record SweptAs (p : Place) (n : ℕ) (words : List Word) (plays : ℕ) : Type 0 where
   pub writes : n ≡ writes_in p
   pub words_are : take n words ≡ map (λ t. t.word) (map (cut_write_at p) (count_from 1 (writes_in p)))

@@ -1,4 +1,4 @@
--- Players in the plays of a sweep: the states that they stand for, and what is told of them.
+-- Players in the plays of a sweep: the states that they represent, and the observed states.
 use Rattle.std.specs.Prelude.{◌≡◌, ℕ, zero, suc, ◌+◌, ◌<◌, ◌≤◌, Bool, true, false, List, [], ◌∷◌, ◌++◌, length, map, take, drop, slice_get, slice_set, get_or, Option, Some, None, option_map, refl, ⊤}
 use Rattle.std.proofs.Common.{arith, ap, sym, subst, ◌∙◌}
 use Rattle.std.proofs.lemmas.List.{length-set, take_all}
@@ -45,7 +45,7 @@ got_or [] i d x h = absurd (cc h)
 got_or (y ∷ ys) zero d x h = cc h
 got_or (y ∷ ys) (suc i) d x h = got_or ys i d x h
 
--- ---- how many words a device has
+-- ---- the number of words of a device
 
 hot_size : (m : List (List ℕ)) (es : List Entry) → length (laid_entries m es) ≡ length m
 hot_size m es = laid-size m (map (λ e. (e.at, e.left)) es)
@@ -76,7 +76,7 @@ left_size (Hot s) n (line.Apdu x) w m es e = card_size n (line.Apdu x) s s.live 
 left_size (Cold i b a) n _ w m es e = ap length (sym e)
 left_size (Hot s) n _ w m es e = hot_size m es
 
--- ---- what a recovery writes
+-- ---- the writes of a recovery
 
 warmed_few : (m : List (List ℕ)) (b : ℕ) (a : Armed) → power_moves (play_at_power m b a) ≤ 71
 unfolding play_at_power
@@ -85,7 +85,7 @@ warmed_few m b a =
     let most = migration_most (play_at_power m b a).base in
     omega (arith, few, most)
 
--- ---- what is told
+-- ---- the observed state
 
 static_held : (o : Option App) (names : List (List ℕ)) (s : State) → state_by_result names (Some (static_of o)) s ≡ Holds (static_bytes_under names (running_in s))
 static_held None names s = refl
@@ -132,7 +132,7 @@ module _ {N : Type 0} (state : N → DeviceState) where
   off_answer p (Some answer.Outcome) = refl
   off_answer p (Some (answer.Dump aid)) = dump_on p.power p.card aid
 
-  -- what a player shows is on the card that runs
+  -- the static bytes that a player shows are those of the card that runs
   live_statics : (p : Power) (c : Card N) (b : Base) (v : Live) (n : List ℕ) → LiveIs state p c b v → statics_by state p c n ≡ option_map (λ a. a.fixed) (lookup (running_apps v b) n)
   live_statics power.Cold c b v n h = absurd h
   live_statics power.Off c b v n h = ap (λ (u : Live). option_map (λ a. a.fixed) (lookup (running_apps u b) n)) (sym h)
@@ -210,7 +210,7 @@ module _ {N : Type 0} (state : N → DeviceState) (bench : N → BenchState) whe
       let two = second (next s (i, line.Cut k fill)) n one.at in
       record { at = two.at; says = is ∙ off_answer state q a ∙ ap is_off two.answers }
 
-  -- ---- what stands behind them
+  -- ---- the lines of a trial from its line on
 
   at_lines : (q : Player N) (s t : State) → t ≡ s → IsSteadyAt state bench q s → IsSteadyAt state bench q t
   at_lines q s t e h = subst (λ (u : State). IsSteadyAt state bench q u) (sym e) h
@@ -242,7 +242,7 @@ module _ {N : Type 0} (state : N → DeviceState) (bench : N → BenchState) whe
         says = c.says;
       }
 
-  -- ---- what is told behind a power line
+  -- ---- the observed state after a power line
 
   pub told_on : (q : Player N) (ls : List (ℕ × DeckLine)) (names : List (List ℕ)) (a : Option Answer) (f : Option Unusable) (held : List (Option (List ℕ)))
       → LineOn state bench (state_on_blank ls) (0, line.Power) a q → f ≡ fault_in a → held ≡ map (statics_in state q) names → state_by_fault f held ≡ state_after_power names ls
@@ -254,7 +254,7 @@ module _ {N : Type 0} (state : N → DeviceState) (bench : N → BenchState) whe
       ∙ told_answer state q a names s
       ∙ ap (λ (r : Option LineResult). state_by_result names r s) on.answers
 
-  -- ---- how much a recovery writes
+  -- ---- the number of writes of a recovery
 
   power_few_by : (p : Power) (c : Card N) (s : State) (n : ℕ) → StateIs state p c s → moves_of s (n, line.Power) ≤ 65535
   unfolding moves_of step
@@ -296,7 +296,7 @@ module _ {N : Type 0} (state : N → DeviceState) (bench : N → BenchState) whe
   trial_few p b x here hit m on =
       few_by p b hit m (subst (λ (l : ℕ × DeckLine). BehindOn state bench (front_of p) l b hit m) (sym (got_or p.deck.now p.at (0, line.Named) x here)) on)
 
--- ---- what is held under names
+-- ---- the static bytes under names
 
 pub held_is_statics : (o : Option (List ℕ)) (n m : ℕ) (held into : List ℕ) → Some n ≡ option_map length o → ((fixed : List ℕ) → o ≡ Some fixed → into ≡ take m (drop 0 fixed)) → m ≡ n → held ≡ into → Some held ≡ o
 held_is_statics None n m held into h is size kept = absurd (cc h)

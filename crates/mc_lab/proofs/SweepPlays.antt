@@ -1,4 +1,4 @@
--- What a cut leaves of a line, and of the recovery behind it.
+-- The card after a cut in a line, and after one in the recovery after it.
 use Rattle.std.specs.Prelude.{◌≡◌, ℕ, ◌-◌, ◌≤◌, Bool, true, false, cond, ◌&&◌, ◌||◌, ◌⊎◌, nat_lt, nat_le, ◌==◌, List, [], ◌∷◌, ◌++◌, Option, Some, None, refl}
 use Rattle.std.proofs.Common.{arith, ap, sym, inl, inr, ◌∙◌}
 use Rattle.std.proofs.lemmas.Bool.{le-leb}
@@ -19,7 +19,7 @@ use Rattle.mc_lab.specs.SweepBodies.{OpensNoGate}
 
 -- ---- plays, line by line
 
--- the state after a line, on a device that refuses just the writes of `fail` lines
+-- the state after a line, on a device whose only failed writes are those of `fail` lines
 abbrev pub next : State → ℕ × DeckLine → State
 next s l = (steady_step s l).after
 
@@ -35,21 +35,21 @@ pub played_append : (s : State) (xs ys : List (ℕ × DeckLine)) → state_after
 played_append s [] ys = ap (λ (t : State). state_after_lines t ys) (sym (played_none s))
 played_append s (l ∷ xs) ys = played_line s l (xs ++ ys) ∙ played_append (next s l) xs ys ∙ ap (λ (t : State). state_after_lines t ys) (sym (played_line s l xs))
 
--- one line behind others, and two
+-- one line after others, and two
 pub played_one : (front : List (ℕ × DeckLine)) (l : ℕ × DeckLine) → state_on_blank (front ++ l ∷ []) ≡ next (state_on_blank front) l
 played_one front l = played_append _ front (l ∷ []) ∙ played_line (state_on_blank front) l [] ∙ played_none _
 
 pub played_two : (front : List (ℕ × DeckLine)) (k l : ℕ × DeckLine) → state_on_blank (front ++ k ∷ l ∷ []) ≡ next (next (state_on_blank front) k) l
 played_two front k l = played_append _ front (k ∷ l ∷ []) ∙ played_line (state_on_blank front) k (l ∷ []) ∙ played_line (next (state_on_blank front) k) l [] ∙ played_none _
 
--- ---- what is told
+-- ---- the observed state
 
 -- the base that a power line finds
 abbrev pub base_in : State → Base
 base_in (Cold m b a) = (play_at_power m b a).base
 base_in (Hot s) = s.base
 
--- what is told of a base
+-- the observed state of a base
 abbrev pub shown : List (List ℕ) → Base → ToldState
 shown names (OnCard c) = Holds (static_bytes_under names c.apps)
 shown names (AtFault cause place) = NoCard cause place
@@ -82,7 +82,7 @@ told_lines names ls s is unarmed = ap (λ (t : State). state_of_step names (stea
 
 -- ---- cuts
 
--- the base with items that are whole
+-- the base after complete items
 abbrev pub base_done : Base → List Item → Base
 base_done (OnCard c) is = OnCard (card_done c is)
 base_done (AtFault cause place) is = AtFault cause place
@@ -97,7 +97,7 @@ zeros_shut = refl
 pub ones_shut : OpensNoGate ones
 ones_shut = refl
 
--- which items are whole does not depend on such a word
+-- the items that are complete do not depend on a word that opens no gate
 stands_same : (w k : ℕ) (x y : List ℕ) → OpensNoGate x → OpensNoGate y → stands Two w k x ≡ stands Two w k y
 stands_same w k x y hx hy = ap (λ (b : Bool). nat_lt (opens_at Two w) k || ((k == opens_at Two w) && b)) (hx ∙ sym hy)
 
@@ -113,7 +113,7 @@ whole_same (Atomic w c ∷ is) k x y hx hy =
     (ap (λ (b : Bool). cond b (Atomic w c ∷ []) []) (stands_same w k x y hx hy))
     (ap (λ (js : List Item). Atomic w c ∷ js) (whole_same is (k - cost Two w) x y hx hy))
 
--- a line that was cut: no stop is armed, and what is told is that of its whole items
+-- the state after a cut in a line: no stop is armed, and the observed state is that of its complete items
 pub record CutTo (s : State) (is : List Item) (t : State) : Type 0 where
   pub warm : Warm
   pub state : t ≡ Hot warm
@@ -123,7 +123,7 @@ pub record CutTo (s : State) (is : List Item) (t : State) : Type 0 where
 abbrev cut_at : ℕ → List ℕ → StopAt
 cut_at k x = record { kind = stop.Off; at = k; left = x }
 
--- a command
+-- a state after the first power line
 abbrev hot : Base → ℕ → Journal → Live → ℕ → Armed → Warm
 hot b o j v g a = record { base = b; owed = o; by = j; live = v; budget = g; armed = a }
 
@@ -147,7 +147,7 @@ card_cut n l (AtFault cause place) o j (Running seat) g k x shuts low high = abs
 card_cut n l b o j Unpowered g k x shuts low high = absurd (omega arith)
 card_cut n l b o j Muted g k x shuts low high = absurd (omega arith)
 
--- a power line
+-- a power line: a migration does not change the observed state
 migrated_if : (names : List (List ℕ)) (t : Bool) (b : Base) → shown names (cond t (base_after_migration b) b) ≡ shown names b
 migrated_if names true b = shown_migrated names b
 migrated_if names false b = refl
@@ -171,7 +171,7 @@ power_cut s w before n k x same true is =
     }
 power_cut s w before n k x same false is = absurd (cc is)
 
--- a line up to the first power line
+-- a line before the first power line
 pub warmed_moves : (m : List (List ℕ)) (b : ℕ) (a c : Armed) → power_moves (play_at_power m b a) ≡ power_moves (play_at_power m b c)
 unfolding play_at_power
 warmed_moves m b a c = refl
@@ -193,7 +193,7 @@ cold_cut n i (line.Delete a) m b k x is shuts low high = absurd (omega arith)
 cold_cut n i (line.Apdu a) m b k x is shuts low high = absurd (omega arith)
 cold_cut n i _ m b k x is shuts low high = absurd (cc is)
 
--- a line from the first power line on
+-- a line after the first power line
 hot_cut : (n i : ℕ) (l : DeckLine) (b : Base) (o : ℕ) (j : Journal) (v : Live) (g k : ℕ) (x : List ℕ) → is_card_line l ≡ true → OpensNoGate x → 1 ≤ k → k ≤ moves_of (Hot (hot b o j v g Unarmed)) (n, l)
     → CutTo (Hot (hot b o j v g Unarmed)) (at_stop (step (Hot (hot b o j v g Unarmed)) (n, l) None).items k (zeros 8)).whole (next (next (Hot (hot b o j v g Unarmed)) (cut_statement i k x)) (n, l))
 unfolding step moves_of
@@ -212,7 +212,7 @@ armed_cut n i l b o j v g Unarmed k x is card shuts low high = hot_cut n i l b o
 armed_cut n i l b o j v g (ArmedCut h y) k x is card shuts low high = absurd (cc is)
 armed_cut n i l b o j v g (ArmedFail h) k x is card shuts low high = absurd (cc is)
 
--- any line for which no stop is armed, with its write k cut
+-- any line for which no stop is armed, with its write `k` cut
 pub line_cut : (s : State) (l : ℕ × DeckLine) (i k : ℕ) (x : List ℕ) → armed_stop_in s ≡ Unarmed → is_card_line l.1 ≡ true → OpensNoGate x → 1 ≤ k → k ≤ moves_of s l
     → CutTo s (at_stop (step s l None).items k (zeros 8)).whole (next (next s (cut_statement i k x)) l)
 line_cut (Cold m b Unarmed) l i k x is card shuts low high = cold_cut l.0 i l.1 m b k x card shuts low high
@@ -275,7 +275,7 @@ line_whole (Hot s) l is card some = armed_whole l.0 l.1 s.base s.owed s.by s.liv
 
 -- ---- the items of a line, and the applications that they change
 
--- A line without items, or one on a card that has these applications, whose device writes are those of its items.
+-- the items of a line: there are none, or they are done on a card with these applications and make the device writes of the line
 abbrev pub ItemsOn : State → ℕ × DeckLine → Type 0
 ItemsOn s l = ((step s l None).items ≡ []) ⊎ ((c : Card) × (base_in s ≡ OnCard c) × (apps_in s ≡ c.apps) × (moves_of s l ≡ moves (step s l None).items))
 
@@ -286,7 +286,7 @@ card_items n l (AtFault cause place) o j (Running seat) g a = inl refl
 card_items n l b o j Unpowered g a = inl refl
 card_items n l b o j Muted g a = inl refl
 
--- those of a line on a running card
+-- the items of a line on a running card
 card_on : (n : ℕ) (l : DeckLine) (s : Warm) (items : List Item) (m : ℕ) → m ≡ moves items → (items ≡ []) ⊎ ((c : Card) × (s.base ≡ OnCard c) × (apps_in (Hot s) ≡ c.apps))
     → (items ≡ []) ⊎ ((c : Card) × (s.base ≡ OnCard c) × (apps_in (Hot s) ≡ c.apps) × (m ≡ moves items))
 card_on n l s items m e (inl none) = inl none

@@ -1,4 +1,4 @@
--- The runs of writes whose words are known.
+-- The runs of writes with known words.
 use Rattle.std.specs.Prelude.{◌≡◌, ℕ, zero, suc, ◌+◌, ◌<◌, ◌≤◌, Bool, true, false, cond, List, [], ◌∷◌, map, refl}
 use Rattle.std.specs.List.{AllByRecursion}
 use Rattle.std.proofs.Common.{arith, ap, inl, inr, ◌∙◌}
@@ -18,7 +18,7 @@ word_itself Torn = refl
 abbrev pub words : List Tried → List Word
 words ts = map (λ t. t.word) ts
 
--- ---- what is true of each write is true of each run
+-- ---- a property of each write is one of each run
 
 module _ (P : Word → Type 0) where
   joined_all : (b : Bool) (k : ℕ) (w : Word) (r : Run) (rs : List Run) → P w → P r.word → AllByRecursion (λ r. P r.word) rs
@@ -34,7 +34,7 @@ module _ (P : Word → Type 0) where
   all_runs k [] all = tt
   all_runs k (t ∷ ts) all = with_all k t.word (runs (k + 1) (words ts)) all.0 (all_runs (k + 1) ts all.1)
 
--- what is true at each number is true of each that is counted
+-- a property of each number is one of each number that is counted
 pub all_counted : {A : Type 0} (Q : A → Type 0) (f : ℕ → A) (k n : ℕ) → ((j : ℕ) → k ≤ j → j < k + n → Q (f j)) → AllByRecursion Q (map f (count_from k n))
 all_counted Q f k zero h = tt
 all_counted Q f k (suc n) h = (h k (omega arith) (omega arith), all_counted Q f (k + 1) n (λ j low high. h j (omega arith) (omega arith)))
@@ -56,7 +56,7 @@ module _ (f : ℕ → Tried) where
       ∙ with_same k (k + 1 + n) (f k).word w [] (h k (omega arith) (omega arith))
       ∙ ap (λ (i : ℕ). record { first = k; last = i; word = w } ∷ []) (let e : k + 1 + n ≡ k + suc n = omega arith in e)
 
-  -- those up to g are `before`, and the others `after`
+  -- writes up to `g` are `before`, and the writes after it are `after`
   pub runs_split : (n k g : ℕ) → k ≤ g → g < k + n → ((j : ℕ) → k ≤ j → j ≤ g → (f j).word ≡ Before) → ((j : ℕ) → g < j → j < k + suc n → (f j).word ≡ After)
       → runs k (words (map f (count_from k (suc n)))) ≡ record { first = k; last = g; word = Before } ∷ record { first = g + 1; last = k + n; word = After } ∷ []
   runs_split zero k g low high before after = absurd (omega arith)

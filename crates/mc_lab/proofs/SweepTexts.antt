@@ -1,4 +1,4 @@
--- The runs at the front of words.
+-- The first run of words.
 use Rattle.std.proofs.Common.{take, length-drop}
 use Rattle.std.specs.Prelude.{◌≡◌, ◌++◌, ℕ, zero, suc, ◌+◌, ◌-◌, ◌<◌, ◌≤◌, ◌⊎◌, Bool, true, false, cond, List, [], ◌∷◌, length, drop, get_or, refl}
 use Rattle.std.proofs.Common.{arith, ap, sym, subst, inl, inr, ◌∙◌}
@@ -8,7 +8,7 @@ use Rattle.mc_lab.specs.declared.sweep_word.Word.TheVariants.{Before, After, Sam
 use Rattle.std.proofs.lemmas.Bool.{cases_lt}
 use Rattle.mc_lab.proofs.SweepRuns.{word_itself, with_same}
 
--- a write before one of another word begins a run of its own
+-- a write before a write of another word begins a run of its own
 apart_if : (k : ℕ) (w : Word) (r : Run) (rs : List Run) (b : Bool) → b ≡ false → cond b (record r { first = k } ∷ rs) (record { first = k; last = k; word = w } ∷ r ∷ rs) ≡ record { first = k; last = k; word = w } ∷ r ∷ rs
 apart_if k w r rs true h = absurd (cc h)
 apart_if k w r rs false h = refl
@@ -49,15 +49,15 @@ before_other : (j k : ℕ) (w v : Word) (rs : List Run) → is_word w v ≡ fals
 before_other j k w v [] h = apart_if k w (record { first = j; last = j; word = v }) [] (is_word w v) h
 before_other j k w v (r ∷ rs) h = other_by j k w v r rs h (is_word v r.word) refl
 
--- what stands behind so many words is another word, or nothing
+-- the word after the first `n` words is another one, or there is none
 abbrev pub RunEnds : List Word → ℕ → Word → Type 0
 RunEnds ws n w = (length ws ≤ n) ⊎ (is_word w (get_or ws n Before) ≡ false)
 
--- so many words at the front are one
+-- the first `n` words are equal to this one
 abbrev pub Fronts : List Word → ℕ → Word → Type 0
 Fronts ws n w = (i : ℕ) → i < n → is_word w (get_or ws i Before) ≡ true
 
--- one more
+-- one more word
 pub fronts_more : (ws : List Word) (n : ℕ) (w : Word) → Fronts ws n w → is_word w (get_or ws n Before) ≡ true → Fronts ws (n + 1) w
 fronts_more ws n w all here i lt = elim (cases_lt i n) [
   | inl below ↦ all i below
@@ -77,7 +77,7 @@ later : (vs : List Word) (n : ℕ) (w v : Word) → RunEnds (v ∷ vs) (suc (suc
 later vs n w v (inl short) = inl (omega arith)
 later vs n w v (inr other) = inr other
 
--- n words at the front are one, and no more
+-- the first `n` words are equal, and the next one is not
 pub runs_front : (n k : ℕ) (w : Word) (ws : List Word) → suc n ≤ length ws → Fronts ws (suc n) w → RunEnds ws (suc n) w
     → runs k ws ≡ record { first = k; last = k + n; word = w } ∷ runs (k + suc n) (drop (suc n) ws)
 runs_front n k w [] in_list same ends = absurd (omega arith)
@@ -92,7 +92,7 @@ runs_front (suc n) k w (v ∷ vs) in_list same ends =
     ∙ ap (λ (i : ℕ). record { first = k; last = i; word = w } ∷ runs (k + 1 + suc n) (drop (suc n) vs)) (let f : k + 1 + n ≡ k + suc n = omega arith in f)
     ∙ ap (λ (i : ℕ). record { first = k; last = k + suc n; word = w } ∷ runs i (drop (suc n) vs)) (let f : k + 1 + suc n ≡ k + suc (suc n) = omega arith in f)
 
--- the same by a length
+-- the first run, by its length
 pub runs_len : (n k : ℕ) (ws : List Word) → 1 ≤ n → n ≤ length ws → Fronts ws n (get_or ws 0 Before) → RunEnds ws n (get_or ws 0 Before)
     → runs k ws ≡ record { first = k; last = k + n - 1; word = get_or ws 0 Before } ∷ runs (k + n) (drop n ws)
 runs_len zero k ws low high same ends = absurd (omega arith)
@@ -100,7 +100,7 @@ runs_len (suc n) k ws low high same ends =
     runs_front n k (get_or ws 0 Before) ws high same ends
     ∙ ap (λ (i : ℕ). record { first = k; last = i; word = get_or ws 0 Before } ∷ runs (k + suc n) (drop (suc n) ws)) (let f : k + n ≡ k + suc n - 1 = omega arith in f)
 
--- ---- the runs that are left
+-- ---- the rest of the runs
 
 drop_all : (ws : List Word) (n : ℕ) → length ws ≤ n → drop n ws ≡ []
 drop_all [] zero h = refl
@@ -125,7 +125,7 @@ take_whole (x ∷ xs) = ap (λ (l : List Word). x ∷ l) (take_whole xs)
 rest_is : (ws : List Word) (n : ℕ) → take (length ws - n) (drop n ws) ≡ drop n ws
 rest_is ws n = subst (λ (m : ℕ). take m (drop n ws) ≡ drop n ws) (length-drop n ws) (take_whole (drop n ws))
 
--- the text of what is left begins with that of its first run
+-- the text of the rest begins with that of its first run
 pub rest_text : (n m : ℕ) (ws : List Word) → 1 ≤ m
     → runs (1 + n) (take (length ws - n) (drop n ws)) ≡ record { first = 1 + n; last = 1 + n + m - 1; word = get_or (take (length ws - n) (drop n ws)) 0 Before } ∷ runs (1 + n + m) (drop m (take (length ws - n) (drop n ws)))
     → runs_text (runs (1 + n) (drop n ws)) ≡ run_text (record { first = n + 1; last = n + m; word = get_or ws n Before }) ++ runs_text (runs (1 + (n + m)) (drop (n + m) ws))
@@ -137,6 +137,6 @@ rest_text n m ws low h =
     ∙ ap (λ (l : List Word). run_text (record { first = n + 1; last = n + m; word = get_or ws n Before }) ++ runs_text (runs (1 + n + m) l)) (drop_twice n m ws)
     ∙ ap (λ (i : ℕ). run_text (record { first = n + 1; last = n + m; word = get_or ws n Before }) ++ runs_text (runs i (drop (n + m) ws))) (let e : 1 + n + m ≡ 1 + (n + m) = omega arith in e)
 
--- nothing is left
+-- no runs are left
 pub no_text : (n k : ℕ) (ws : List Word) → length ws ≤ n → [] ≡ runs_text (runs k (drop n ws))
 no_text n k ws h = ap (λ (l : List Word). runs_text (runs k l)) (sym (drop_all ws n h))

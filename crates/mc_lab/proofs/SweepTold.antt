@@ -1,4 +1,4 @@
--- What is told of a swept line, and the word of each of its writes.
+-- The observed states of a swept line, and the word of each of its writes.
 use Rattle.std.specs.Prelude.{◌≡◌, ℕ, ◌<◌, ◌≤◌, Bool, true, false, ◌&&◌, nat_le, ◌==◌, bytes_eq, List, [], ◌∷◌, ◌++◌, Option, refl}
 use Rattle.std.specs.List.{AllByRecursion}
 use Rattle.std.proofs.Common.{arith, ap, sym, subst, inl, inr, ◌∙◌}
@@ -22,7 +22,7 @@ use Rattle.mc_lab.specs.SweepBodies.{OpensNoGate}
 use Rattle.mc_lab.proofs.SweepChanges.{all_held_itself, apart_turned, none_stopped, none_done, Splits, one_splits}
 use Rattle.mc_lab.proofs.SweepRuns.{all_counted}
 
--- ---- the same is told
+-- ---- equal observed states
 
 told_itself : (t : ToldState) → is_same t t ≡ true
 told_itself (Holds a) = all_held_itself a
@@ -50,11 +50,11 @@ module _ (names : List (List ℕ)) (front : List (ℕ × DeckLine)) (l : ℕ × 
   abbrev state : State
   state = state_on_blank front
 
-  -- what is told once these items are whole
+  -- the observed state after these items
   abbrev shown_with : List Item → ToldState
   shown_with is = shown names (base_done (base_in state) is)
 
-  -- the items that are whole after a cut
+  -- the items that are complete after a cut
   abbrev whole_at : ℕ → List Item
   whole_at k = (at_stop (items_behind front l) k (zeros 8)).whole
 
@@ -102,12 +102,12 @@ module _ (names : List (List ℕ)) (front : List (ℕ × DeckLine)) (l : ℕ × 
         all_append (λ u. u ≡ shown_with (whole_at k)) (recovery_states names front l k (zeros 8)) (state_after_power names (under_cut front l k ones) ∷ recovery_states names front l k ones)
         (recovered_all (zeros 8) zeros_shut) (cut_told ones ones_shut, recovered_all ones ones_shut)
 
-    -- the states of one write do not differ
+    -- the states of one write are equal
     word_same : (before after t u : ToldState) (ts : List ToldState) → t ≡ u → all_same u ts ≡ true → word_of before after t ts ≡ word_by (is_same u before) (is_same u after)
     word_same before after t u ts e all =
         ap (λ (x : ToldState). word_of before after x ts) e ∙ ap (λ (b : Bool). word_if b (word_by (is_same u before) (is_same u after))) all
 
-    -- the word of a write: by its whole items, and those of before and after
+    -- the word of a write, by its complete items, the state before and the state after
     pub word_told : (cut_write names front l (state_after_power names front) (state_after_power names (front ++ l ∷ [])) k).word
         ≡ word_by (is_same (shown_with (whole_at k)) (shown_with [])) (is_same (shown_with (whole_at k)) (shown_with (items_behind front l)))
     unfolding cut_write others
@@ -117,7 +117,7 @@ module _ (names : List (List ℕ)) (front : List (ℕ × DeckLine)) (l : ℕ × 
         ∙ ap (λ (b : ToldState). word_by (is_same (shown_with (whole_at k)) b) (is_same (shown_with (whole_at k)) (state_after_power names (front ++ l ∷ [])))) before_told
         ∙ ap (λ (a : ToldState). word_by (is_same (shown_with (whole_at k)) (shown_with [])) (is_same (shown_with (whole_at k)) a)) after_told
 
-  -- ---- by the items that change what is told
+  -- ---- by the items that change the observed state
 
   abbrev word_at : ℕ → Word
   word_at k = (cut_write names front l (state_after_power names front) (state_after_power names (front ++ l ∷ [])) k).word
@@ -154,7 +154,7 @@ module _ (names : List (List ℕ)) (front : List (ℕ × DeckLine)) (l : ℕ × 
         ∙ ap (λ (t : ToldState). word_by (is_same (Holds (held_with (whole_at k))) t) (is_same (Holds (held_with (whole_at k))) (shown_with (items_behind front l)))) (on_card [])
         ∙ ap (λ (t : ToldState). word_by (are_same_held (held_with (whole_at k)) (held_with [])) (is_same (Holds (held_with (whole_at k))) t)) (on_card (items_behind front l))
 
-    -- none of its items does
+    -- no item changes the observed state
     card_same : (k : ℕ) → 1 ≤ k → k ≤ writes_behind front l → changing_behind names front l ≡ 0 → word_at k ≡ Same
     card_same k low high none =
         let e : count_of_changes names c.apps (items_behind front l) ≡ 0 = sym changing_is ∙ none in
@@ -165,7 +165,7 @@ module _ (names : List (List ℕ)) (front : List (ℕ × DeckLine)) (l : ℕ × 
         ∙ ap (λ (h : List (Option (List ℕ))). word_by (are_same_held (held_with []) (held_with [])) (are_same_held (held_with []) h)) all
         ∙ ap (λ (b : Bool). word_by b b) (all_held_itself (held_with []))
 
-    -- one of them does
+    -- one item changes the observed state
     module _ (one : changing_behind names front l ≡ 1) where
       splits : Splits names c.apps (items_behind front l)
       splits = one_splits names (items_behind front l) c.apps (sym changing_is ∙ one)
@@ -205,7 +205,7 @@ module _ (names : List (List ℕ)) (front : List (ℕ × DeckLine)) (l : ℕ × 
     | inr card ↦ card_same card.0 card.1 card.2 card.3 k low high none
   ]
 
-  -- where one item changes what is told, and where its gate is opened
+  -- one item changes the observed state, with the write that opens its gate
   pub record SplitsLine : Type 0 where
     pub low : 1 ≤ opening_behind names front l
     pub high : opening_behind names front l < writes_behind front l

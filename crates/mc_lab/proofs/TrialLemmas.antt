@@ -1,4 +1,4 @@
--- Decks with their expectations: which lines stand above an expectation, and which expectation has no result.
+-- Decks with their expectations: the lines above an expectation, and the expectations without a result.
 use Rattle.std.proofs.Common.{◌≡◌, ◌+◌, ◌<◌, ◌≤◌, refl, sym, ◌∙◌, ap, subst, ℕ, zero, suc, List, [], ◌∷◌, length, drop, Bool, true, false, cond, Option, Some, None, Result, Ok, Err, arith}
 use Rattle.std.specs.Prelude.{nat_lt}
 use Rattle.mc_model_play.specs.DeckGrammar.{DeckLine, deck_read}
@@ -12,7 +12,7 @@ use Rattle.mc_lab.specs.Expectations.{Trial, TrialFault, DeckFault, NoAnswer, ex
 use Rattle.mc_lab.proofs.RisingLemmas.{rising_lower}
 use Rattle.mc_lab.proofs.BelowLemmas.{count_on, last_is}
 
--- so many lines stand above some number, and no expectation that is left is below it
+-- `count` lines are above some number, and no expectation that is left is below it
 abbrev pub LinesAbove : List (ℕ × DeckLine) → ℕ → List (ℕ × List ℕ) → Type 0
 LinesAbove ls count left = (m : ℕ) × (count ≡ count_below line_number m ls) × Rising line_number m left
 
@@ -25,7 +25,7 @@ count_zero (l ∷ ls) =
 pub above_start : (ls : List (ℕ × DeckLine)) (es : List (ℕ × List ℕ)) → Rising line_number 1 es → LinesAbove ls 0 es
 above_start ls es h = (0, count_zero ls, rising_lower line_number 0 1 es (omega arith) h)
 
--- those above an expectation are counted on
+-- the count of the lines above the next expectation continues from there
 pub above_from : (ls : List (ℕ × DeckLine)) (count : ℕ) (left : List (ℕ × List ℕ)) (e : ℕ × List ℕ) (es : List (ℕ × List ℕ)) → left ≡ e ∷ es → LinesAbove ls count left → count + count_below line_number e.0 (drop count ls) ≡ count_below line_number e.0 ls
 above_from ls count left e es i h =
     let rises : Rising line_number h.0 (e ∷ es) = subst (λ (l : List (ℕ × List ℕ)). Rising line_number h.0 l) i h.2 in
@@ -38,7 +38,7 @@ above_on ls count now left e es i k h =
 
 -- ---- the first expectation without a result
 
--- whether the statement above an expectation has a result, by how many lines stand above it
+-- whether the statement above an expectation has a result, by the number of lines above it
 answered_is : (ls : List (ℕ × DeckLine)) (n count : ℕ) (b : Bool) → Rising line_number 1 ls → count ≡ count_below line_number n ls → b ≡ is_answered (last_of count ls) → b ≡ is_answered (last_below line_number n ls)
 answered_is ls n count b h k e = e ∙ ap (λ c. is_answered (last_of c ls)) k ∙ ap is_answered (sym (last_is line_number 1 n ls h))
 
@@ -70,7 +70,7 @@ read_deck text n c h = ap (trial_of (expectations text)) h
 pub read_trial : (text : List ℕ) (ls : List (ℕ × DeckLine)) (es : List (ℕ × List ℕ)) (o : Option ℕ) → es ≡ expectations text → deck_read text ≡ Ok ls → o ≡ first_unanswered ls es → trial_read text ≡ trial_unless (record { lines = ls; expected = es }) o
 read_trial text ls es o e h w = read_as text es (Ok ls) e h ∙ ap (trial_unless (record { lines = ls; expected = es })) (sym w)
 
--- a deck that is refused refuses the trial
+-- the refusal of a deck is one of the trial
 pub refused_deck : (text : List ℕ) (e : DeckRefusal) → DeckRefuses (deck_read text) e → RefusesTrial (trial_read text) (refusal_of e)
 refused_deck text (deck.At n c) h = read_deck text n c h
 refused_deck text deck.NoMemory h = tt

@@ -1,4 +1,4 @@
--- What a deck's text tells of its expectations, for rows that compute it.
+-- The report of the expectations of a deck's text, for rows that compute it.
 use Rattle.std.specs.Prelude.{ℕ, List, Result, Ok, Err}
 use Rattle.std.specs.Fmt.{digits}
 use Rattle.sha1.specs.Sha1.{sha1, digest_bytes, hash_after, compress, rounds, schedule, first_words}
@@ -27,12 +27,12 @@ unfoldable pub blank_steps : List (ℕ × DeckLine) → List Step
 unfolding steady_from name_of apdu_read touched_words des_encipher des_decipher tdes_encipher tdes_decipher des_signature tdes_signature aes_encipher aes_decipher aes_signature sha1 digest_bytes hash_after compress rounds schedule first_words targets_1 targets_2 pairs blocks_from apps_of layout step_of bad_block bad_record bytes_at write_effect too_many later_causes prim_effect causes effect row turn_of_chain run_of_chain manage command send play_at_power step plays moves_of steady_worn
 blank_steps ls = steady_steps (blank_words device_words) ls
 
--- what is told of the expectations of a deck
+-- the report of the expectations of a deck
 abbrev pub expectations_text : Result Trial TrialFault → Result (List ℕ) TrialFault
 expectations_text (Ok t) = Ok (expect_text (blank_steps t.lines) t.expected)
 expectations_text (Err e) = Err e
 
--- what a deck's text tells of its expectations on a blank device
+-- the report of the expectations of a deck's text on a blank device
 unfoldable pub expectation_report : List ℕ → Result (List ℕ) TrialFault
 unfolding deck_read matches trial_read expect_text blank_steps digits
 expectation_report text = expectations_text (trial_read text)

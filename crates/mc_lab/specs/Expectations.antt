@@ -8,27 +8,27 @@ use Rattle.mc_model_play.specs.Play.{LineResult, State, Step, plays, start, stea
 use Rattle.mc_model_play.specs.Transcript.{text_of_result}
 use Rattle.mc_model_play.specs.Patterns.{holds}
 
--- ---- which lines of a text they are
+-- ---- the expectations of a text
 
 -- whether the first field of a line is this word
 abbrev pub begins_with : List ℕ → List (List ℕ) → Bool
 begins_with word [] = false
 begins_with word (f ∷ fs) = bytes_eq f word
 
--- what stands behind a cut, nothing where there is none
+-- the text after a cut, empty if there is none
 abbrev pub or_nothing : Option (List ℕ) → List ℕ
 or_nothing None = []
 or_nothing (Some t) = t
 
--- the first field of a line, empty where it has none, and what stands behind the blank at its end
+-- the first field of a line, empty if it has none, and the text after the blank at its end
 abbrev pub first_field : List ℕ → List ℕ × Option (List ℕ)
 first_field l = first_cut is_blank (trim_front l)
 
--- what stands behind the first field of a line, without the blanks around it
+-- the text after the first field of a line, without the blanks around it
 abbrev pub behind_field : List ℕ → List ℕ
 behind_field l = trim (or_nothing (first_field l).1)
 
--- whether a line lies in a section, by the mode in which the deck's reader meets it
+-- whether a line is in a section, by the mode of the deck's reader before it
 abbrev pub in_section : Mode → Bool
 in_section (Between c) = false
 in_section (Within s c) = true
@@ -38,12 +38,12 @@ abbrev pub expectation_at : Bool → ℕ × List ℕ → List (ℕ × List ℕ)
 expectation_at true l = (l.0, behind_field l.1) ∷ []
 expectation_at false l = []
 
--- what follows a line in the mode after it; nothing follows a line that the reader refuses
+-- the expectations after a line, by the mode after it; there are none after a line that the reader refuses
 abbrev pub after_line : Result LineTurn (ℕ × DeckCause) → (Mode → List (ℕ × List ℕ)) → List (ℕ × List ℕ)
 after_line (Ok t) rest = rest t.mode
 after_line (Err e) rest = []
 
--- the expectations of lines, the first of which the deck's reader meets in this mode
+-- the expectations of lines, by the mode of the deck's reader before the first
 unfoldable pub expectations_from : Mode → List (ℕ × List ℕ) → List (ℕ × List ℕ)
 unfolding statement_of within
 expectations_from m [] = []
@@ -56,14 +56,14 @@ unfoldable pub expectations : List ℕ → List (ℕ × List ℕ)
 unfolding expectations_from
 expectations text = expectations_from (Between (record { units = []; powered = false })) (with_numbers 1 (lines text))
 
--- ---- what they speak of
+-- ---- the statements that expectations refer to
 
--- the second of two, where it is there
+-- the second of two, if there is one, else the first
 abbrev pub later_or : {A : Type 0} → Option A → Option A → Option A
 later_or first None = first
 later_or first (Some a) = Some a
 
--- a value, where a test passes
+-- a value, if a test holds
 abbrev pub where_is : {A : Type 0} → Bool → A → Option A
 where_is true a = Some a
 where_is false a = None
@@ -92,7 +92,7 @@ has_result (line.Cut k fill) = false
 has_result (line.Fail k) = false
 has_result (line.Poke at fill) = false
 
--- whether there is a statement, and it has a result
+-- whether a statement is there and has a result
 abbrev pub is_answered : Option (ℕ × DeckLine) → Bool
 is_answered None = false
 is_answered (Some l) = has_result l.1
@@ -107,7 +107,7 @@ pub record Trial : Type 0 where
   pub lines : List (ℕ × DeckLine)
   pub expected : List (ℕ × List ℕ)
 
--- why a text is none: the refusal of its deck, or an expectation without a result
+-- why a text is not a deck with expectations: the refusal of its deck, or an expectation without a result
 pub data TrialFault : Type 0 where
   DeckFault : ℕ → DeckCause → TrialFault
   NoAnswer : ℕ → TrialFault
@@ -117,7 +117,7 @@ abbrev pub trial_unless : Trial → Option ℕ → Result Trial TrialFault
 trial_unless t None = Ok t
 trial_unless t (Some n) = Err (NoAnswer n)
 
--- expectations with the deck that was read, if it was
+-- a deck with its expectations, if the deck was read
 abbrev pub trial_of : List (ℕ × List ℕ) → Result (List (ℕ × DeckLine)) (ℕ × DeckCause) → Result Trial TrialFault
 trial_of es (Ok ls) = trial_unless (record { lines = ls; expected = es }) (first_unanswered ls es)
 trial_of es (Err e) = Err (DeckFault e.0 e.1)
@@ -127,14 +127,14 @@ unfoldable pub trial_read : List ℕ → Result Trial TrialFault
 unfolding expectations deck_read
 trial_read text = trial_of (expectations text) (deck_read text)
 
--- ---- what is told of them
+-- ---- the report
 
 -- the text of a step's result
 abbrev pub result_text : Option LineResult → List ℕ
 result_text None = []
 result_text (Some r) = text_of_result r
 
--- the text of the result of a step, where there is one
+-- the text of the result of a step, if there is one
 abbrev pub step_text : Option Step → List ℕ
 step_text None = []
 step_text (Some t) = result_text t.result
@@ -151,7 +151,7 @@ is_met ts e = holds e.1 (result_above ts e.0)
 abbrev pub failed_line : ℕ × List ℕ → List ℕ → List ℕ
 failed_line e result = codes "line " ++ decimal e.0 ++ codes " expected " ++ e.1 ++ codes " was " ++ result ++ codes "\n"
 
--- nothing of an expectation that holds, and the line of one that failed
+-- no text for an expectation that holds, and the line of one that failed
 abbrev pub expectation_line : Bool → ℕ × List ℕ → List ℕ → List ℕ
 expectation_line true e result = []
 expectation_line false e result = failed_line e result
@@ -160,24 +160,24 @@ expectation_line false e result = failed_line e result
 abbrev pub failed_lines : List Step → List (ℕ × List ℕ) → List ℕ
 failed_lines ts es = flat_map (λ e. expectation_line (is_met ts e) e (result_above ts e.0)) es
 
--- how many expectations failed
+-- the number of expectations that failed
 abbrev pub count_failed : List Step → List (ℕ × List ℕ) → ℕ
 count_failed ts es = length (filter (λ e. not (is_met ts e)) es)
 
--- the line of how many expectations there were and how many failed
+-- the line with the number of expectations and the number that failed
 abbrev pub count_text : ℕ → ℕ → List ℕ
 count_text expected failed = codes "expected " ++ decimal expected ++ codes " failed " ++ decimal failed ++ codes "\n"
 
--- what is told of expectations in a play
+-- the report of expectations in a play
 unfoldable pub expect_text : List Step → List (ℕ × List ℕ) → List ℕ
 expect_text ts es = failed_lines ts es ++ count_text (length es) (count_failed ts es)
 
 -- ---- the play
 
--- the play of lines from a state on a device that refuses just the writes of `fail` lines
+-- the play of lines from a state on a device whose only failed writes are those of `fail` lines
 unfoldable pub steady_from : State → List (ℕ × DeckLine) → List Step
 steady_from s ls = plays s ls (steady_worn s ls)
 
--- the same from the words of a device
+-- the play of lines from the words of a device, on such a device
 abbrev pub steady_steps : List (List ℕ) → List (ℕ × DeckLine) → List Step
 steady_steps words ls = steady_from (start words) ls

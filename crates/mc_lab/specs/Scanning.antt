@@ -1,15 +1,15 @@
--- The laboratory's pass over a deck's text, which keeps of the mode of the deck's reader whether it is in a section.
+-- The pass of the laboratory over a deck's text, which keeps only whether the deck's reader is in a section.
 use Rattle.std.specs.Prelude.{ℕ, Bool, true, false, not, ◌&&◌, List, [], ◌∷◌, ◌++◌, codes}
 use Rattle.mc_model_machine.specs.Text.{fields, lines, with_numbers}
 use Rattle.mc_model_play.specs.DeckGrammar.{is_end}
 use Rattle.mc_lab.specs.Expectations.{begins_with, expectation_at}
 
--- whether the line after a line with these fields lies in a section, if this one does or does not
+-- whether the line after a line with these fields is in a section, if this one is or is not
 abbrev pub stays_inside : Bool → List (List ℕ) → Bool
 stays_inside false fs = begins_with (codes "app") fs
 stays_inside true fs = not (is_end fs)
 
--- the expectations that the pass finds in lines, the first of which lies in a section or not
+-- the expectations that the pass finds in lines, the first of which is in a section or not
 unfoldable pub scanned_from : Bool → List (ℕ × List ℕ) → List (ℕ × List ℕ)
 scanned_from inside [] = []
 scanned_from inside (l ∷ ls) =

@@ -1,4 +1,4 @@
--- What the code of sweeps holds, and what its plays are.
+-- The data of the code of sweeps, and its plays.
 use Rattle.std.specs.Prelude.{◌≡◌, ℕ, ◌≤◌, ◌<◌, Bool, true, false, List, [], ◌∷◌, ◌++◌, length, take, get_or, map, option_map, Option, Some, None, bytes_eq}
 use Rattle.arrayvec.specs.ArrayVec.{ArrayVec}
 use Rattle.mc_blocks.specs.declared.image.Unusable.{Unusable}
@@ -18,16 +18,16 @@ use Rattle.mc_lab.specs.declared.sweep_line.Pair.{Pair}
 
 -- ---- accounts
 
--- what is held under a name
+-- the static bytes under a name, as a value of the model
 abbrev pub held_value : Option (ArrayVec ℕ) → Option (List ℕ)
 held_value h = option_map (λ b. b.items) h
 
--- what is told, by the fault and by what is held
+-- the observed state, by the fault and by the static bytes
 abbrev pub state_by_fault : Option Unusable → List (Option (List ℕ)) → ToldState
 state_by_fault None h = Holds h
 state_by_fault (Some u) h = NoCard u.cause u.place
 
--- what an account tells
+-- the observed state of an account
 abbrev pub account_value : Account → ToldState
 account_value a = state_by_fault a.fault (map held_value a.held.items)
 
@@ -37,7 +37,7 @@ account_value a = state_by_fault a.fault (map held_value a.held.items)
 abbrev pub next : State → ℕ × DeckLine → State
 next s l = (steady_step s l).after
 
--- the lines that are played of a line, and of a cut in it
+-- the lines that are played of a deck up to a line, and of a cut in it
 abbrev pub lines_behind : List (ℕ × DeckLine) → ℕ × DeckLine → Behind → List (ℕ × DeckLine)
 lines_behind front l behind.Nothing = front
 lines_behind front l behind.Whole = front ++ l ∷ []
@@ -64,7 +64,7 @@ CanCut (behind.Twice k fill again) = (1 ≤ k) × (1 ≤ again)
 abbrev pub line_at : List (ℕ × DeckLine) → ℕ → ℕ × DeckLine
 line_at ls i = get_or ls i (0, line.Named)
 
--- the lines before the line of a place, the line, and the names that are told
+-- the lines before the line of a place
 abbrev pub front_of : Place → List (ℕ × DeckLine)
 front_of p = take p.at p.deck.now
 
@@ -72,15 +72,15 @@ front_of p = take p.at p.deck.now
 abbrev pub line_in : Place → ℕ × DeckLine
 line_in p = line_at p.deck.now p.at
 
--- the names that are told of a place
+-- the names whose static bytes are observed
 abbrev pub names_in : Place → List (List ℕ)
 names_in p = p.names.now
 
--- the line is one of the deck's
+-- the place is one of the deck
 abbrev pub IsPlace : Place → Type 0
 IsPlace p = p.at < length p.deck.now
 
--- what is told of a play of a place
+-- the observed state of a play of a place
 abbrev pub state_at_place : Place → Behind → ToldState
 state_at_place p b = state_after_power (names_in p) (lines_behind (front_of p) (line_in p) b)
 
@@ -92,22 +92,22 @@ hit_in p b = hits (front_of p) (line_in p) b
 abbrev pub writes_in : Place → ℕ
 writes_in p = writes_behind (front_of p) (line_in p)
 
--- the number of device writes of the recovery behind a cut in it
+-- the number of device writes of the recovery after a cut in the line
 abbrev pub again_in : Place → ℕ → List ℕ → ℕ
 again_in p k fill = writes_behind (under_cut (front_of p) (line_in p) k fill) (power (line_in p).0)
 
--- the recovery behind a cut makes a number of device writes that has two bytes
+-- the recovery after a cut makes at most 65,535 device writes
 abbrev pub IsFewBehind : Place → Behind → Type 0
 IsFewBehind p behind.Nothing = Unit {0}
 IsFewBehind p behind.Whole = Unit {0}
 IsFewBehind p (behind.Cut k fill) = again_in p k fill ≤ 65535
 IsFewBehind p (behind.Twice k fill again) = Unit {0}
 
--- the states where the recovery behind a cut is cut too
+-- the observed states after a cut in which the recovery is cut too
 abbrev pub recovery_states_at : Place → ℕ → List ℕ → List ToldState
 recovery_states_at p k fill = recovery_states (names_in p) (front_of p) (line_in p) k fill
 
--- one write of the line
+-- the cut of one write of the line
 abbrev pub cut_write_at : Place → ℕ → Tried
 cut_write_at p k = cut_write (names_in p) (front_of p) (line_in p) (state_at_place p behind.Nothing) (state_at_place p behind.Whole) k
 
@@ -115,7 +115,7 @@ cut_write_at p k = cut_write (names_in p) (front_of p) (line_in p) (state_at_pla
 abbrev pub AccountFits : Account → Place → Type 0
 AccountFits a p = length a.held.items ≡ length p.names.now
 
--- each account has room for so many names
+-- each account has room for `n` names
 pub record AccountsHaveRoom (e : Ends) (p : Pair) (n : ℕ) : Type 0 where
   pub before : length e.before.held.items ≡ n
   pub after : length e.after.held.items ≡ n
@@ -133,6 +133,6 @@ OpensNoGate x = bytes_eq x (opening Two) ≡ false
 
 -- ---- the writes of a line
 
--- the word of a write by its states, as the code tells it
+-- the word of a write, by whether its states are equal, and equal to the state before and to the state after
 abbrev pub word_with : Bool → Bool → Bool → Word
 word_with same before after = word_if same (word_by before after)

@@ -1,4 +1,4 @@
--- A sweep by its lines, and how the call ends.
+-- A sweep line by line, and the ends of the call.
 use Rattle.std.specs.Prelude.{◌≡◌, ℕ, ◌+◌, ◌*◌, ◌≤◌, ◌<◌, Bool, true, false, ◌&&◌, List, [], length, take, drop, Result, Ok, Err}
 use Rattle.mc_model_play.specs.Play.{armed_stop_in, is_card_line}
 use Rattle.mc_model_play.specs.DeckGrammar.{DeckLine}
@@ -15,7 +15,7 @@ use Rattle.mc_lab.specs.SweepBodies.{line_at, front_of, line_in, names_in, Accou
 
 -- ---- lines
 
--- whether no stop is armed behind a line, by whether none was before it
+-- whether no stop is armed after a line, by whether none was before it
 abbrev pub free_behind : DeckLine → Bool → Bool
 free_behind (line.Cut k fill) free = false
 free_behind (line.Fail k) free = false
@@ -26,19 +26,19 @@ free_behind (line.Delete n) free = true
 free_behind (line.Apdu b) free = true
 free_behind l free = free
 
--- a line to the card behind others, for which no stop is armed
+-- whether a line after others is one to the card for which no stop is armed
 abbrev pub is_open : List (ℕ × DeckLine) → ℕ × DeckLine → Bool
 is_open front l = is_card_line l.1 && is_unarmed (armed_stop_in (state_on_blank front))
 
--- the same of the line at a place of a deck
+-- whether the line at a place of a deck is one to the card for which no stop is armed
 abbrev pub is_open_at : List (ℕ × DeckLine) → ℕ → Bool
 is_open_at ls i = is_open (take i ls) (line_at ls i)
 
--- none of the first so many lines that may be swept makes more device writes
+-- each of the first `n` lines that may be swept makes at most `most` device writes
 abbrev pub AtMost : List (ℕ × DeckLine) → ℕ → ℕ → Type 0
 AtMost ls n most = (i : ℕ) → i < n → is_open_at ls i ≡ true → writes_behind (take i ls) (line_at ls i) ≤ most
 
--- the swept line of a place, if it is one
+-- the swept line of a place, if it is swept
 abbrev pub sweeps_at : Place → List Swept
 sweeps_at p = sweeps_with (is_swept (front_of p) (line_in p)) (line_sweep (names_in p) (front_of p) (line_in p)) []
 
@@ -48,13 +48,13 @@ sweeps_from names ls i = sweep_behind names (take i ls) (drop i ls)
 
 -- ---- sums
 
--- sums with those of swept lines
+-- sums after those of swept lines are added
 pub record AddsSums (a : Sums) (ss : List Swept) (b : Sums) : Type 0 where
   pub lines : b.lines ≡ a.lines + length ss
   pub writes : b.writes ≡ a.writes + total (λ s. length s.words) ss
   pub plays : b.plays ≡ a.plays + total (λ s. s.plays) ss
 
--- the sums of so many lines
+-- bounds for the sums of `n` lines
 pub record IsSmall (a : Sums) (n : ℕ) : Type 0 where
   pub lines : a.lines ≤ n
   pub writes : a.writes ≤ n * 4294967296
@@ -62,14 +62,14 @@ pub record IsSmall (a : Sums) (n : ℕ) : Type 0 where
 
 -- ---- ends
 
--- there is room for a sweep of a deck
+-- the room for a sweep of a deck
 pub record IsRoom (ls : List (ℕ × DeckLine)) (names : List (List ℕ)) (e : Ends) (p : Pair) (words : ℕ) : Type 0 where
   pub names_are : names ≡ names_from [] ls
   pub accounts : AccountsHaveRoom e p (length names)
   pub most : AtMost ls (length ls) words
   pub few : words ≤ 4294967295
 
--- a text was told, by the result; nothing was where there was no room
+-- the text was written, by the result of the call; without room nothing was
 abbrev pub TellsSweep : Sunk → List ℕ → Result (Unit {0}) SweepFault → Sunk → Type 0
 TellsSweep a text (Ok u) b = Writes a text b
 TellsSweep a text (Err fault.WriteFault) b = Fails a text b

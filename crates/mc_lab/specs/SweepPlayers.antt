@@ -1,4 +1,4 @@
--- What a player stands for in the plays of a sweep.
+-- The states of the model that a player represents in the plays of a sweep.
 use Rattle.std.specs.Prelude.{◌≡◌, ℕ, true, false, Bool, List, option_map, Option, Some, None}
 use Rattle.mc_blocks.specs.declared.image.Unusable.{Unusable}
 use Rattle.mc_model_device.specs.Device.{DeviceState, BenchState}
@@ -13,7 +13,7 @@ use Rattle.mc_lab.specs.SweepLaws.{is_off}
 use Rattle.mc_lab.specs.declared.sweep_trial.Behind.{Behind}
 use Rattle.mc_lab.specs.SweepBodies.{next, lines_behind, hits}
 
--- whether a result tells of a cut
+-- whether a result is that of a cut
 abbrev pub off_in : Option Answer → Bool
 off_in (Some (answer.OffAt k)) = true
 off_in r = false
@@ -24,7 +24,7 @@ fault_in (Some (answer.Unusable u)) = Some u
 fault_in r = None
 
 module _ {N : Type 0} (state : N → DeviceState) (bench : N → BenchState) where
-  -- a player stands for a state, and its bench refuses no write by itself
+  -- a player represents a state, and its bench refuses no write by itself
   pub record IsSteadyAt (p : Player N) (s : State) : Type 0 where
     pub at : IsPlayerAt state bench p s
     pub steady : (bench (device_of p)).steady ≡ true
@@ -34,12 +34,12 @@ module _ {N : Type 0} (state : N → DeviceState) (bench : N → BenchState) whe
     pub at : IsSteadyAt q (next s l)
     pub answers : option_map (answer_value state q) answer ≡ (steady_step s l).result
 
-  -- a line was played from a state with one of its writes cut, where it makes so many
+  -- a line was played from a state with its write `k` cut, if it makes that write
   pub record CutOn (s : State) (l : ℕ × DeckLine) (n k : ℕ) (fill : List ℕ) (hit : Bool) (q : Player N) : Type 0 where
     pub at : IsSteadyAt q (next (next s (cut_statement n k fill)) l)
     pub says : hit ≡ is_off (steady_step (next s (cut_statement n k fill)) l).result
 
-  -- what stands behind the lines before a line was played
+  -- the lines of a trial from its line on were played
   pub record BehindOn (front : List (ℕ × DeckLine)) (l : ℕ × DeckLine) (b : Behind) (hit : Bool) (q : Player N) : Type 0 where
     pub at : IsSteadyAt q (state_on_blank (lines_behind front l b))
     pub says : hit ≡ hits front l b

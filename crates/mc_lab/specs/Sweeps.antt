@@ -1,4 +1,5 @@
--- Sweeps: power cut in every device write of every line of a deck, and in every write of the recovery behind it, and what the card was then.
+-- Sweeps: power cut in every device write of every line of a deck, and in every write of the recovery after it, and the observed states
+-- of the card.
 use Rattle.std.specs.Prelude.{ℕ, zero, suc, ◌+◌, Bool, true, false, cond, ◌&&◌, nat_le, ◌==◌, List, [], ◌∷◌, ◌++◌, length, map, replicate, bytes_eq, codes, decimal, Option, Some, None, option_map}
 use Rattle.mc_model_device.specs.declared.cause.Cause.{Cause}
 use Rattle.mc_model_device.specs.Bytes.{zeros, has_name, lookup}
@@ -14,7 +15,7 @@ use Rattle.mc_lab.specs.declared.sweep_word.Word.TheVariants.{Before, After, Sam
 
 -- ---- plays
 
--- a line that is played behind a state, and lines in turn, where a device refuses just the writes of `fail` lines
+-- the step of a line from a state, on a device whose only failed writes are those of `fail` lines
 abbrev pub steady_step : State → ℕ × DeckLine → Step
 steady_step s l = step s l (steady_at (armed_stop_in s) l.1 (moves_of s l))
 
@@ -26,7 +27,7 @@ state_after_lines s ls = last_state s (plays s ls (steady_worn s ls))
 abbrev pub state_on_blank : List (ℕ × DeckLine) → State
 state_on_blank ls = state_after_lines (start (blank_words device_words)) ls
 
--- ---- what a card is told to be
+-- ---- the observed state of a card
 
 -- the names that a line mentions
 abbrev pub names_in_line : DeckLine → List (List ℕ)
@@ -36,17 +37,18 @@ names_in_line (line.Delete n) = n ∷ []
 names_in_line (line.Dump n) = n ∷ []
 names_in_line _ = []
 
--- names, and those of some that are new
+-- names, and those of some others that are new
 abbrev pub with_names : List (List ℕ) → List (List ℕ) → List (List ℕ)
 with_names names [] = names
 with_names names (n ∷ ns) = with_names (cond (has_name n names) names (names ++ n ∷ [])) ns
 
--- the names of a deck, in order of first mention, behind those that were mentioned before
+-- the names of a deck, in order of first mention, after those that were mentioned before
 abbrev pub names_from : List (List ℕ) → List (ℕ × DeckLine) → List (List ℕ)
 names_from names [] = names
 names_from names (l ∷ ls) = names_from (with_names names (names_in_line l.1)) ls
 
--- the state behind a whole power line: the static bytes under each name, none where it is absent; or why the words are no card
+-- the observed state after a power line without a cut: the static bytes under each name, `None` if it is absent; or why the words are not
+-- a card
 pub data ToldState : Type 0 where
   Holds : (held : List (Option (List ℕ))) → ToldState
   NoCard : (cause : Cause) (place : ℕ) → ToldState
@@ -55,45 +57,45 @@ pub data ToldState : Type 0 where
 abbrev pub static_bytes_under : List (List ℕ) → List (List ℕ × App) → List (Option (List ℕ))
 static_bytes_under names apps = map (λ n. option_map (λ a. a.fixed) (lookup apps n)) names
 
--- the applications of a card that is powered, none where there is no card
+-- the applications of a card that runs; none if no card runs
 abbrev pub running_apps : Live → Base → List (List ℕ × App)
 running_apps (Running seat) (OnCard c) = c.apps
 running_apps live base = []
 
--- the same in a state of a play
+-- the applications of a card that runs in a state of a play
 abbrev pub running_in : State → List (List ℕ × App)
 running_in (Cold m b a) = []
 running_in (Hot s) = running_apps s.live s.base
 
--- what is told of a whole power line by its result
+-- the observed state after a power line, by its result
 abbrev pub state_by_result : List (List ℕ) → Option LineResult → State → ToldState
 state_by_result names (Some (Unusable cause place)) s = NoCard cause place
 state_by_result names r s = Holds (static_bytes_under names (running_in s))
 
--- what is told of a power line that was played
+-- the observed state after the step of a power line
 abbrev pub state_of_step : List (List ℕ) → Step → ToldState
 state_of_step names t = state_by_result names t.result t.after
 
--- what is told behind lines and a whole power line
+-- the observed state after lines and a power line without a cut
 unfoldable pub state_after_power : List (List ℕ) → List (ℕ × DeckLine) → ToldState
 unfolding state_after_lines
 state_after_power names ls = state_of_step names (steady_step (state_on_blank ls) (0, line.Power))
 
--- the same static bytes, or both absent
+-- equal static bytes, or both absent
 abbrev pub is_same_held : Option (List ℕ) → Option (List ℕ) → Bool
 is_same_held None None = true
 is_same_held (Some a) (Some b) = bytes_eq a b
 is_same_held None (Some b) = false
 is_same_held (Some a) None = false
 
--- the same under each name
+-- equal static bytes under each name
 abbrev pub are_same_held : List (Option (List ℕ)) → List (Option (List ℕ)) → Bool
 are_same_held [] [] = true
 are_same_held (x ∷ xs) (y ∷ ys) = is_same_held x y && are_same_held xs ys
 are_same_held [] (y ∷ ys) = false
 are_same_held (x ∷ xs) [] = false
 
--- the same is told
+-- equal observed states
 abbrev pub is_same : ToldState → ToldState → Bool
 is_same (Holds a) (Holds b) = are_same_held a b
 is_same (NoCard c p) (NoCard d q) = bytes_eq (cause_text c) (cause_text d) && (p == q)
@@ -102,24 +104,24 @@ is_same (NoCard c p) (Holds b) = false
 
 -- ---- words
 
--- by whether it is the state of before, and whether that of after
+-- the word of a state, by whether it is the state before, and whether it is the state after
 abbrev pub word_by : Bool → Bool → Word
 word_by true false = Before
 word_by false true = After
 word_by true true = Same
 word_by false false = Between
 
--- whether all are the same as the first
+-- whether all states are equal to the first
 abbrev pub all_same : ToldState → List ToldState → Bool
 all_same t [] = true
 all_same t (u ∷ us) = is_same u t && all_same t us
 
--- where they differ, torn
+-- a word, or `torn` if the states differ
 abbrev pub word_if : Bool → Word → Word
 word_if true w = w
 word_if false w = Torn
 
--- the word of the states of one write, the first and the others
+-- the word of a write, by the state before, the state after, its first state and its other states
 abbrev pub word_of : ToldState → ToldState → ToldState → List ToldState → Word
 word_of before after t ts = word_if (all_same t ts) (word_by (is_same t before) (is_same t after))
 
@@ -130,45 +132,45 @@ abbrev pub count_from : ℕ → ℕ → List ℕ
 count_from k zero = []
 count_from k (suc n) = k ∷ count_from (k + 1) n
 
--- the words that a cut leaves
+-- the other word that a cut leaves: eight bytes FF
 abbrev pub ones : List ℕ
 ones = replicate 8 0xFF
 
--- the statement that arms a cut, at the number of a line
+-- the statement that arms a cut, with the number of a line
 abbrev pub cut_statement : ℕ → ℕ → List ℕ → ℕ × DeckLine
 cut_statement n k fill = (n, line.Cut k fill)
 
--- a power statement, at the number of a line
+-- a power statement, with the number of a line
 abbrev pub power : ℕ → ℕ × DeckLine
 power n = (n, line.Power)
 
--- the lines before a line, and that line with its write k cut
+-- the lines before a line, and that line with its write `k` cut
 abbrev pub under_cut : List (ℕ × DeckLine) → ℕ × DeckLine → ℕ → List ℕ → List (ℕ × DeckLine)
 under_cut front l k fill = front ++ cut_statement l.0 k fill ∷ l ∷ []
 
--- the same, and a power line behind it whose write j is cut
+-- those lines, and a power line after them whose write `j` is cut
 abbrev pub under_cuts : List (ℕ × DeckLine) → ℕ × DeckLine → ℕ → List ℕ → ℕ → List (ℕ × DeckLine)
 under_cuts front l k fill j = under_cut front l k fill ++ cut_statement l.0 j fill ∷ power l.0 ∷ []
 
--- the device writes that a line makes behind others
+-- the number of device writes of a line after others
 abbrev pub writes_behind : List (ℕ × DeckLine) → ℕ × DeckLine → ℕ
 writes_behind front l = moves_of (state_on_blank front) l
 
--- the state behind a cut, and those where the recovery behind it is cut too, in each of its writes
+-- the observed states after a cut if the recovery after it is cut too, in each of its writes
 abbrev pub recovery_states : List (List ℕ) → List (ℕ × DeckLine) → ℕ × DeckLine → ℕ → List ℕ → List ToldState
 recovery_states names front l k fill =
     map (λ j. state_after_power names (under_cuts front l k fill j)) (count_from 1 (writes_behind (under_cut front l k fill) (power l.0)))
 
--- one write that was cut: its word, and the number of plays that tell it
+-- the cut of one write: its word, and the number of plays that determine it
 pub record Tried : Type 0 where
   pub word : Word
   pub plays : ℕ
 
--- the states of a write, the first and the others
+-- the cut of one write, by the state before, the state after, its first state and its other states
 abbrev pub cut_write_of : ToldState → ToldState → ToldState → List ToldState → Tried
 cut_write_of before after t ts = record { word = word_of before after t ts; plays = length ts + 1 }
 
--- one write of a line that is cut, with eight bytes 00 and with eight bytes FF
+-- the cut of one write of a line, with eight bytes 00 and with eight bytes FF
 unfoldable pub cut_write : List (List ℕ) → List (ℕ × DeckLine) → ℕ × DeckLine → ToldState → ToldState → ℕ → Tried
 unfolding state_after_power state_after_lines
 cut_write names front l before after k =
@@ -177,22 +179,22 @@ cut_write names front l before after k =
 
 -- ---- a deck
 
--- the plays of some writes
+-- the number of plays of some writes
 abbrev pub plays_of : List Tried → ℕ
 plays_of [] = 0
 plays_of (t ∷ ts) = t.plays + plays_of ts
 
--- a swept line: its number, the words of its writes from the first on, and the number of plays that tell them
+-- a swept line: its number, the words of its writes in order, and the number of plays that determine them
 pub record Swept : Type 0 where
   pub number : ℕ
   pub words : List Word
   pub plays : ℕ
 
--- a line of this number by its writes
+-- the swept line of a number, by its writes
 abbrev pub sweep_of_writes : ℕ → List Tried → Swept
 sweep_of_writes n ts = record { number = n; words = map (λ t. t.word) ts; plays = plays_of ts }
 
--- a line whose writes are cut
+-- the swept line of a line after others
 unfoldable pub line_sweep : List (List ℕ) → List (ℕ × DeckLine) → ℕ × DeckLine → Swept
 unfolding state_after_power cut_write state_after_lines
 line_sweep names front l =
@@ -206,7 +208,7 @@ is_unarmed Unarmed = true
 is_unarmed (ArmedCut k fill) = false
 is_unarmed (ArmedFail k) = false
 
--- a line is swept where it is a card line, no stop is armed for it, and it makes a device write
+-- whether a line is swept: it is a card line, no stop is armed for it, and it makes a device write
 abbrev pub is_swept : List (ℕ × DeckLine) → ℕ × DeckLine → Bool
 is_swept front l = is_card_line l.1 && is_unarmed (armed_stop_in (state_on_blank front)) && nat_le 1 (writes_behind front l)
 
@@ -215,7 +217,7 @@ abbrev pub sweeps_with : Bool → Swept → List Swept → List Swept
 sweeps_with true s rest = s ∷ rest
 sweeps_with false s rest = rest
 
--- the swept lines among those behind a front of a deck
+-- the swept lines of the rest of a deck
 unfoldable pub sweep_behind : List (List ℕ) → List (ℕ × DeckLine) → List (ℕ × DeckLine) → List Swept
 unfolding line_sweep state_after_lines
 sweep_behind names front [] = []
@@ -239,11 +241,11 @@ word_text Same = codes "same"
 word_text Between = codes "between"
 word_text Torn = codes "torn"
 
--- the same word
+-- whether two words are equal
 abbrev pub is_word : Word → Word → Bool
 is_word v w = bytes_eq (word_text v) (word_text w)
 
--- writes of one word in order, as long as they go on
+-- a run: consecutive writes of one word, from the first to the last
 pub record Run : Type 0 where
   pub first : ℕ
   pub last : ℕ
@@ -254,7 +256,7 @@ abbrev pub with_write : ℕ → Word → List Run → List Run
 with_write k w [] = record { first = k; last = k; word = w } ∷ []
 with_write k w (r ∷ rs) = cond (is_word w r.word) (record r { first = k } ∷ rs) (record { first = k; last = k; word = w } ∷ r ∷ rs)
 
--- the longest runs of the writes from write k on
+-- the longest runs of the writes from write `k` on
 abbrev pub runs : ℕ → List Word → List Run
 runs k [] = []
 runs k (w ∷ ws) = with_write k w (runs (k + 1) ws)

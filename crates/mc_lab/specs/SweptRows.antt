@@ -18,7 +18,7 @@ use Rattle.mc_model_play.specs.Play.{send, play_at_power, step, plays, moves_of,
 use Rattle.mc_model_play.specs.DeckGrammar.{DeckLine, deck_read}
 use Rattle.mc_lab.specs.Sweeps.{sweep_text}
 
--- the sweep of the lines that a text gives
+-- the text of the sweep of a deck, if it was read
 abbrev pub sweep_of : Result (List (ℕ × DeckLine)) (ℕ × DeckCause) → Result (List ℕ) (ℕ × DeckCause)
 sweep_of (Ok ls) = Ok (sweep_text ls)
 sweep_of (Err e) = Err e

@@ -1,4 +1,4 @@
--- Decks with their expectations as the code has them, and why a text is none.
+-- Decks with their expectations as the code has them, and why a text is not one.
 use Rattle.std.specs.Prelude.{◌≡◌, ℕ, Result, Err, ⊤}
 use Rattle.mc_asm.specs.Passes.{numbered_lines}
 use Rattle.mc_deck.specs.declared.refusal.DeckRefusal.{DeckRefusal}
@@ -10,11 +10,11 @@ use Rattle.mc_lab.specs.declared.trial.Trial.{Trial}
 use Rattle.mc_lab.specs.declared.trial.TrialRefusal.{TrialRefusal}
 use Rattle.mc_lab.specs.declared.trial.TrialRefusal.TheVariants as refusal
 
--- a trial as the definitions have it
+-- a trial, as the model has it
 abbrev pub trial_value : Trial → model.Trial
 trial_value t = record { lines = t.deck; expected = numbered_lines t.expectations.items }
 
--- the numbers of the lines and of the expectations of a trial rise
+-- the line numbers of the lines and of the expectations of a trial ascend
 pub record IsRising (t : Trial) : Type 0 where
   pub lines : Rising line_number 1 t.deck
   pub expected : Rising line_number 1 (numbered_lines t.expectations.items)
@@ -24,7 +24,7 @@ abbrev pub refusal_of : DeckRefusal → TrialRefusal
 refusal_of (deck.At n c) = refusal.Deck n c
 refusal_of deck.NoMemory = refusal.NoMemory
 
--- the refusal is the one of the definition, or for want of memory
+-- the refusal is that of the model, or the code was out of memory
 abbrev pub RefusesTrial : {A : Type 0} → Result A TrialFault → TrialRefusal → Type 0
 RefusesTrial r (refusal.Deck n c) = r ≡ Err (model.DeckFault n c)
 RefusesTrial r (refusal.NoAnswer n) = r ≡ Err (model.NoAnswer n)

@@ -22,7 +22,7 @@ fn line_begins(line: &[u8], word: &[u8]) -> bool
     field == word
 }
 
-// Whether a field is this word, and nothing but blanks stands behind it.
+// Whether a field is this word, and only blanks follow it.
 fn is_last(field: &[u8], behind: &[u8], word: &[u8]) -> bool
     ensures { result ≡ (bytes_eq field.now word.now && is_empty (first_field behind.now).0) }
 {
@@ -38,7 +38,7 @@ fn ends_section(line: &[u8]) -> bool
     is_last(field, behind, b"end")
 }
 
-// What stands behind the first field of a line, without the blanks around it.
+// The rest of a line after its first field, without the blanks around it.
 fn behind_field(line: &[u8]) -> &[u8]
     ensures { result.now ≡ behind_field line.now }
 {
@@ -46,7 +46,7 @@ fn behind_field(line: &[u8]) -> &[u8]
     trim(behind)
 }
 
-// Whether the line after a line lies in a section, if this one does or does not.
+// Whether the next line is in a section, if this one is or is not.
 fn stays_inside(inside: bool, line: &[u8]) -> bool
     ensures { result ≡ stays_inside inside (fields line.now) }
 {
@@ -57,14 +57,14 @@ fn stays_inside(inside: bool, line: &[u8]) -> bool
     }
 }
 
-// Whether a line is an expectation, where it stands in a section or not.
+// Whether a line that is in a section or not is an expectation.
 fn is_expectation(inside: bool, line: &[u8]) -> bool
     ensures { result ≡ (not inside && begins_with (codes "#>") (fields line.now)) }
 {
     !inside && line_begins(line, b"#>")
 }
 
-// Adds the expectation of a line, if it is one, where the line stands in a section or not.
+// Adds the expectation of a line that is in a section or not, if it is one.
 fn push_expectation<'a>(
     expectations: &mut Vec<NumberedLine<'a>>,
     inside: bool,
@@ -85,8 +85,13 @@ fn push_expectation<'a>(
     }
 }
 
-/// Returns the expectations of a deck's text, each with the number of its line and its pattern: the comment lines whose first field
-/// is `#>`. A line inside a section is assembly, where `#` is no comment. Of a text that is no deck it may return any lines.
+/// Returns the expectations of a deck's text, each with the number of its line and its pattern: the comment
+/// lines whose first field is `#>`. A line inside a section is assembly, where `#` does not begin a comment.
+/// If the text is not a deck the result is unspecified.
+///
+/// # Errors
+///
+/// Returns `NoMemory` if it is out of memory.
 pub fn expectations(alloc: Global, text: &[u8]) -> Result<Vec<NumberedLine<'_>>, NoMemory>
     requires { length text.now < 2 ^ 32 }
     ensures { IfOk result (λ v. OnOk (deck_read text.now) (numbered_lines v.items ≡ expectations text.now)) }

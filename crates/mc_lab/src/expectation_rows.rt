@@ -1,6 +1,6 @@
 #![tactic(auto, unfolding(crate::specs::Computed::expectation_report))]
 
-// Worked rows: what decks tell of their expectations.
+// Worked rows: reports of the expectations of decks.
 ghost use Rattle.std.specs.Prelude.{◌≡◌, ◌++◌, [], codes, Ok, Err};
 ghost use Rattle.mc_model_play.specs.declared.deck.DeckCause.TheVariants.{BadLine};
 ghost use Rattle.mc_lab.specs.Computed.{expectation_report};
@@ -16,7 +16,7 @@ pub fn all_hold()
         ≡ Ok (codes "expected 7 failed 0\n") }
 {}
 
-/// Failed expectations are told in order with their patterns as they stand, and the last one counts.
+/// Failed expectations are reported in order with their patterns as written, and the last one counts too.
 pub fn some_fail()
     ensures { expectation_report (
         codes "format\n #>   form  \npower\n\n# a comment\n#>\n#> READY 0\n#> ready0\ndump A000000001\n#> abs?nt\n\t#>\tabs?t\t\r\n")
@@ -25,20 +25,20 @@ pub fn some_fail()
         codes "line 11 expected abs?t was absent\nexpected 6 failed 4\n") }
 {}
 
-/// A comment without a blank behind `#>` is none, nor is `##>`.
+/// A comment without a blank after `#>` is not an expectation, nor is `##>`.
 pub fn comments()
     ensures { expectation_report (codes "format\n#>formatted\n##> formatted\n# > formatted\n")
         ≡ Ok (codes "expected 0 failed 0\n") }
 {}
 
-/// A cut line, a mute card, and lines that a result is wanted of.
+/// A cut line, a mute card, and lines from which a result is expected.
 pub fn stops()
     ensures { expectation_report (
         codes "format\ncut 1 0000000000000000\npower\n#> ready 0\nfail 1\n# none\npower\n#> ready 0\ndump A000000001\n#> absent\n")
         ≡ Ok (codes "expected 3 failed 0\n") }
 {}
 
-/// A statement without a result has no expectation, and neither has the head of a deck.
+/// A statement without a result has no expectation, and neither has the beginning of a deck.
 pub fn unanswered()
     ensures budget { expectation_report (codes "format\n#> formatted\nbudget 5\n#> *\n#> *\n") ≡ Err (NoAnswer 4) }
     ensures head { expectation_report (codes "#> formatted\nformat\n") ≡ Err (NoAnswer 1) }
@@ -46,7 +46,7 @@ pub fn unanswered()
     ensures section { expectation_report (codes "format\napp a A000000001\nEXIT\nend\n#> *\n") ≡ Err (NoAnswer 5) }
 {}
 
-/// A deck's own refusals come first.
+/// The refusals of the deck come first.
 pub fn refused()
     ensures { expectation_report (codes "#> formatted\nformat\nreboot\n") ≡ Err (DeckFault 3 BadLine) }
 {}

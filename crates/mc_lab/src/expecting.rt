@@ -14,7 +14,7 @@ use mc_nvm::Bench;
 use mc_script::{Player, Text};
 use std::sync::ledger::Ledger;
 
-// How many expectations failed, with one more that held or failed.
+// The number of failed expectations after one more that held or failed.
 fn counted(failed: usize, held: bool) -> usize
     requires { failed < 2 ^ 63 }
     ensures { result ≡ failed + cond held 0 1 }
@@ -22,11 +22,16 @@ fn counted(failed: usize, held: bool) -> usize
     if held { failed } else { failed + 1 }
 }
 
-/// Plays a deck on a device and compares its results with its expectations: a line for each that fails, in their order, and a last
-/// line with how many there were and how many failed, which is also answered.
+/// Plays a deck on a device and compares its results with its expectations. Writes a line for each
+/// expectation that fails, in their order, and a last line with the number of expectations and the number
+/// that failed, and returns the number that failed.
 ///
-/// The device is handed in without a fuse, and refuses no write by itself. It takes no memory. A result is compared when its line was
-/// played and is not kept longer; lines behind the last expectation are not played, since nothing is told of them.
+/// The device has no armed stop, and refuses no write by itself. It allocates no memory. A result is compared
+/// as soon as its line was played and is then dropped; lines after the last expectation are not played.
+///
+/// # Errors
+///
+/// Returns `WriteFault` if the sink fails; the first bytes of the report were written then.
 pub fn expect<N: Bench + Drop, T: Sink, L: Ledger>(
     trial: &Trial<'_>,
     device: N,

@@ -1,4 +1,4 @@
-// Expectations compared with results, and what is told of them.
+// Expectations compared with results, and the report of them.
 ghost use Rattle.std.specs.Prelude.{◌≡◌, codes, decimal, IfOk};
 ghost use Rattle.mc_text.specs.Texts.{sunk_in, Puts};
 ghost use Rattle.mc_model_play.specs.Patterns.{holds};
@@ -28,7 +28,11 @@ fn put_failed<T: Sink>(
     put(out, b"\n")
 }
 
-/// Whether an expectation holds of the text of a result; one that does not is told.
+/// Returns whether an expectation holds for the text of a result, and writes the line of one that does not.
+///
+/// # Errors
+///
+/// Returns `WriteFault` if the sink fails.
 pub fn judge<T: Sink>(
     out: &mut T,
     expectation: &NumberedLine<'_>,
@@ -54,7 +58,11 @@ fn put_count<T: Sink>(out: &mut T, count: usize) -> Result<(), WriteFault>
     put(out, buffer.format(count).as_bytes())
 }
 
-/// Writes how many expectations there were, and how many failed.
+/// Writes the number of expectations and the number that failed.
+///
+/// # Errors
+///
+/// Returns `WriteFault` if the sink fails.
 pub fn put_counts<T: Sink>(out: &mut T, expected: usize, failed: usize) -> Result<(), WriteFault>
     ensures { Puts (sunk_in T.taken T.faults out.old) (count_text expected failed) result
         (sunk_in T.taken T.faults out.new) }

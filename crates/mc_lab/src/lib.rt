@@ -1,6 +1,7 @@
 #![tactic(auto)]
 
-//! The laboratory: expectations that stand in a deck's comments, compared with its play; and sweeps of a deck, with their laws.
+//! The laboratory: expectations in the comments of a deck, compared with its play; and sweeps of a deck, with
+//! their laws.
 
 mod expectation;
 mod expectation_rows;

@@ -1,21 +1,21 @@
-// Patterns against texts.
+// Patterns matched against texts.
 ghost use Rattle.std.specs.Prelude.{◌≡◌, ◌<◌, ◌||◌, ◌==◌, ◌∷◌, [], length, IfSome, MatchOption};
 ghost use Rattle.mc_model_play.specs.Patterns.{holds, is_any, matches, some_rest, without_blanks};
 ghost use Rattle.mc_lab.specs.Walks.{WalkEnds, WalkIs};
 
 use mc_text::is_blank;
 
-/// Where a walk of a pattern along a text ends.
+/// The end of a walk of a pattern along a text.
 pub enum Walk<'a> {
-    /// Both at their ends.
+    /// Pattern and text both ended.
     Whole,
-    /// Behind a `*`: what is left of the pattern behind it, and of the text.
+    /// At a `*`: the rest of the pattern after it, and the rest of the text.
     Star(&'a [u8], &'a [u8]),
     /// At characters that do not match.
     Apart,
 }
 
-// The first character of a text that is no blank, and what stands behind it.
+// The first character of a text that is not a blank, and the rest after it.
 fn first_of(text: &[u8]) -> Option<(u8, &[u8])>
     ensures parts { MatchOption result (without_blanks text.now ≡ [])
         (λ p. without_blanks text.now ≡ p.0 ∷ without_blanks p.1.now) }
@@ -31,14 +31,14 @@ fn first_of(text: &[u8]) -> Option<(u8, &[u8])>
     None
 }
 
-// Whether a sign of a pattern stands for a character.
+// Whether a sign of a pattern matches a character.
 fn stands_for(sign: u8, character: u8) -> bool
     ensures { result ≡ (is_any sign || (character == sign)) }
 {
     sign == b'?' || character == sign
 }
 
-// Walks a pattern along a text, up to its first `*`. Blanks are nothing.
+// Walks a pattern along a text, up to its first `*`. Blanks are ignored.
 fn walk_to_star<'a>(pattern: &'a [u8], text: &'a [u8]) -> Walk<'a>
     ensures is { WalkIs pattern.now text.now result }
     ensures ends { WalkEnds pattern.now text.now result }
@@ -64,7 +64,7 @@ fn walk_to_star<'a>(pattern: &'a [u8], text: &'a [u8]) -> Walk<'a>
     }
 }
 
-// Whether what is left of a text behind some front of it matches a pattern. Blanks are nothing.
+// Whether some rest of a text matches a pattern. Blanks are ignored.
 fn matches_some_rest(pattern: &[u8], text: &[u8]) -> bool
     ensures { result ≡ some_rest (matches (without_blanks pattern.now)) (without_blanks text.now) }
 {
@@ -87,11 +87,12 @@ fn matches_some_rest(pattern: &[u8], text: &[u8]) -> bool
     }
 }
 
-/// Whether a pattern holds of the text of a result: `?` is any one character, `*` any characters or none, all else itself, and blanks are
-/// nothing in both. A pattern of blanks alone holds of nothing.
+/// Returns whether a pattern holds for the text of a result: `?` matches any one character, `*` any
+/// characters or none, every other sign itself, and blanks are ignored in both. A pattern of blanks alone
+/// holds for no text.
 ///
-/// It takes no memory. A pattern with one `*` or none is walked in time linear in both; each `*` tries again from each place of the
-/// text at most once.
+/// It allocates no memory. A pattern with at most one `*` takes time linear in both; each `*` restarts the
+/// walk at each place of the text at most once.
 pub fn holds(pattern: &[u8], text: &[u8]) -> bool
     ensures { result ≡ holds pattern.now text.now }
 {

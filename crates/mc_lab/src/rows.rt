@@ -1,10 +1,10 @@
 #![tactic(auto, unfolding(mc_model_play::specs::Patterns::matches))]
 
-// Worked rows: what patterns hold of.
+// Worked rows: the texts that patterns hold for.
 ghost use Rattle.std.specs.Prelude.{◌≡◌, [], codes, true, false};
 ghost use Rattle.mc_model_play.specs.Patterns.{holds, matches};
 
-/// A pattern without signs matches itself and nothing else; case counts.
+/// A pattern without `?` and `*` matches itself and nothing else; case counts.
 pub fn plain()
     ensures same { matches (codes "9000") (codes "9000") ≡ true }
     ensures shorter { matches (codes "900") (codes "9000") ≡ false }
@@ -12,7 +12,7 @@ pub fn plain()
     ensures case_counts { matches (codes "6a82") (codes "6A82") ≡ false }
 {}
 
-/// `?` is exactly one character.
+/// `?` matches exactly one character.
 pub fn any_one()
     ensures one { matches (codes "90?0") (codes "9000") ≡ true }
     ensures last { matches (codes "900?") (codes "9000") ≡ true }
@@ -20,7 +20,7 @@ pub fn any_one()
     ensures itself { matches (codes "?") (codes "?") ≡ true }
 {}
 
-/// `*` is any characters or none, and the rest of the pattern is found wherever it stands.
+/// `*` matches any characters or none, and the rest of the pattern matches at any place after them.
 pub fn any_or_none()
     ensures none { matches (codes "90*00") (codes "9000") ≡ true }
     ensures some { matches (codes "*9000") (codes "00019000") ≡ true }
@@ -33,7 +33,7 @@ pub fn any_or_none()
     ensures star_for_itself { matches (codes "a*") (codes "a*b*") ≡ true }
 {}
 
-/// Blanks are nothing in a pattern and in a result; a pattern of blanks alone, or of nothing, never holds.
+/// Blanks are ignored in a pattern and in a result; a pattern of blanks alone, or an empty one, never holds.
 pub fn blanks()
     ensures pattern { holds (codes "0001 9000") (codes "00019000") ≡ true }
     ensures tab { holds (codes "0001\t90 00") (codes "00019000") ≡ true }

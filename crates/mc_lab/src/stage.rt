@@ -12,7 +12,7 @@ use mc_nvm::Bench;
 use mc_script::{Answer, Player, Silent, Text, add_result};
 use std::sync::ledger::Ledger;
 
-// Gathers the text of a result of a player, none where there is none.
+// Copies the text of a result of a player to `text`, empty if there is no result.
 fn gather<N: Bench>(text: &mut Text, player: &Player<N>, answer: &Option<Answer>)
     requires { IsPlaying N.state N.bench player.now }
     ensures { text.new.items ≡ result_text (option_map (answer_value N.state player.now) answer.now) }
@@ -23,7 +23,8 @@ fn gather<N: Bench>(text: &mut Text, player: &Player<N>, answer: &Option<Answer>
     }
 }
 
-/// Plays the lines of a deck from one place up to another, and gathers the text of the last one's result.
+/// Plays the lines of a deck from one place up to another, and leaves the text of the last one's result in
+/// `text`.
 pub fn play_lines<N: Bench, L: Ledger>(
     player: &mut Player<N>,
     deck: &Deck,

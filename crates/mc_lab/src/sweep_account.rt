@@ -1,4 +1,4 @@
-// What is told of a card behind a power line.
+// The observed state of a card after a power line.
 ghost use Rattle.std.specs.Prelude.{◌≡◌, [], length, map, IfOk, Some};
 ghost use Rattle.mc_lab.specs.Sweeps.{are_same_held, is_same, is_same_held};
 ghost use Rattle.mc_lab.specs.SweepBodies.{account_value, held_value, state_by_fault};
@@ -8,17 +8,18 @@ use mc_base::NoMemory;
 use mc_blocks::Unusable;
 use std::alloc::{AllocError, Global};
 
-/// The static bytes under a name, or `None` where it is absent.
+/// The static bytes of the application of a name, or `None` if it is absent.
 pub type Held = Option<ArrayVec<u8, 4096>>;
 
-/// What is told of a card behind a power line: why the words are no card, or what is held under each name of a deck.
+/// The observed state of a card after a power line: why the words are not a card, or the static bytes under
+/// each name of a deck.
 #[derive(Drop)]
 pub struct Account {
     pub fault: Option<Unusable>,
     pub held: Vec<Held>,
 }
 
-// Whether the same is held.
+// Whether the static bytes are equal, or both absent.
 fn is_same_held(a: &Held, b: &Held) -> bool
     ensures { result ≡ is_same_held (held_value a.now) (held_value b.now) }
 {
@@ -30,14 +31,14 @@ fn is_same_held(a: &Held, b: &Held) -> bool
     }
 }
 
-// Whether the words are no card for the same cause.
+// Whether the words are not a card for equal causes at equal places.
 fn is_same_fault(a: &Unusable, b: &Unusable) -> bool
     ensures { result ≡ is_same (state_by_fault (Some a.now) []) (state_by_fault (Some b.now) []) }
 {
     a.cause.word() == b.cause.word() && a.place == b.place
 }
 
-// Whether the same is held under each name.
+// Whether the static bytes under each name are equal.
 fn are_same_held(a: &[Held], b: &[Held]) -> bool
     ensures { result ≡ are_same_held (map held_value a.now) (map held_value b.now) }
 {
@@ -53,7 +54,11 @@ fn are_same_held(a: &[Held], b: &[Held]) -> bool
 }
 
 impl Account {
-    /// Room for what is told under so many names.
+    /// Returns an account with room for `count` names.
+    ///
+    /// # Errors
+    ///
+    /// Returns `NoMemory` if it is out of memory.
     pub fn new(alloc: Global, count: usize) -> Result<Account, NoMemory>
         ensures { IfOk result (λ account. length account.held.items ≡ count) }
     {
@@ -66,7 +71,7 @@ impl Account {
         Ok(Account { fault: None, held })
     }
 
-    /// Whether the same is told.
+    /// Returns whether two observed states are equal.
     pub fn is_same(&self, other: &Account) -> bool
         ensures { result ≡ is_same (account_value self.now) (account_value other.now) }
     {

@@ -1,4 +1,4 @@
-// One line of a sweep: each of its writes is cut, and each of the recovery behind it.
+// One line of a sweep: each of its writes is cut, and each write of the recovery after it.
 ghost use Rattle.std.specs.Prelude.{◌≡◌, ◌&&◌, ◌+◌, ◌≤◌, ◌<◌, ◌*◌, length, map, take, IfOk, IfSome, MatchOption};
 ghost use Rattle.mc_lab.specs.Sweeps.{all_same, count_from, plays_of};
 ghost use Rattle.mc_lab.specs.SweepBodies.{account_value, again_in, recovery_states_at, state_at_place, cut_write_at, word_with};
@@ -18,21 +18,21 @@ const ZEROS: [u8; 8] = [0; 8];
 
 const ONES: [u8; 8] = [0xFF; 8];
 
-/// What is told of the lines before a line, and of those up to its end.
+/// The observed states before a line and after it.
 #[derive(Drop)]
 pub struct Ends {
     before: Account,
     after: Account,
 }
 
-/// What is told of the first play of a write, and of the last play.
+/// The observed states of the first play of a write and of the last one.
 #[derive(Drop)]
 pub struct Pair {
     first: Account,
     now: Account,
 }
 
-/// A laboratory, and room for what it tells.
+/// A laboratory, and room for the states that it observes.
 #[derive(Drop)]
 pub struct Bench<D: Trials + Drop> {
     trials: D,
@@ -40,28 +40,29 @@ pub struct Bench<D: Trials + Drop> {
     pair: Pair,
 }
 
-/// A write that was cut: its word, and the plays that tell it.
+/// A write that was cut: its word, and the number of plays that determine it.
 #[derive(Clone, Copy, Debug)]
 pub struct Tried {
     pub word: Word,
     pub plays: u32,
 }
 
-/// A line whose writes were cut: how many they are, and the plays that tell their words.
+/// A line whose writes were cut: the number of writes, and the number of plays that determine their words.
 #[derive(Clone, Copy, Debug)]
 pub struct Swept {
     pub writes: usize,
     pub plays: u64,
 }
 
-// Whether both are so.
+// Whether both hold.
 fn both(a: bool, b: bool) -> bool
     ensures { result ≡ (a && b) }
 {
     a && b
 }
 
-// The word of a write by whether its states are one, and what they are.
+// The word of a write, by whether all its states are equal, and equal to the state before and to the state
+// after.
 fn word_of(is_one: bool, is_before: bool, is_after: bool) -> Word
     ensures { result ≡ word_with is_one is_before is_after }
 {
@@ -74,7 +75,8 @@ fn word_of(is_one: bool, is_before: bool, is_after: bool) -> Word
     }
 }
 
-// Cuts each write of the recovery behind a cut: whether it always leaves the first state, and how many they are.
+// Cuts each write of the recovery after a cut: whether the first state is always left, and the number of
+// those writes.
 fn recoveries<D: Trials, L: Ledger>(
     trials: &mut D,
     place: &Place<'_>,
@@ -111,7 +113,8 @@ fn recoveries<D: Trials, L: Ledger>(
     (same, u16::MAX)
 }
 
-// Cuts a write of a line with both fills, and the recovery behind it, where the line makes so many writes.
+// Cuts write `k` of a line with both fills, and each write of the recovery after it, if the line makes at
+// least `k` writes.
 fn try_write<D: Trials, L: Ledger>(
     trials: &mut D,
     place: &Place<'_>,
@@ -158,7 +161,11 @@ fn try_write<D: Trials, L: Ledger>(
 }
 
 impl<D: Trials + Drop> Bench<D> {
-    /// A bench for so many names.
+    /// Returns a bench for this number of names.
+    ///
+    /// # Errors
+    ///
+    /// Returns `NoMemory` if it is out of memory.
     pub fn new(alloc: Global, trials: D, names: usize) -> Result<Bench<D>, NoMemory>
         ensures { IfOk result (λ bench. AccountsHaveRoom bench.ends bench.pair names) }
     {
@@ -175,7 +182,8 @@ impl<D: Trials + Drop> Bench<D> {
         })
     }
 
-    /// How many device writes a line makes, or `None` where they are more than a `cut` can name.
+    /// Returns the number of device writes of a line, or `None` if it is greater than the argument of a `cut`
+    /// may be.
     pub fn writes<L: Ledger>(&mut self, place: &Place<'_>, steps: &mut Steps<L>) -> Option<u32>
         requires at { IsPlace place.now }
         requires open { IsUnarmedLine place.now }
@@ -195,7 +203,7 @@ impl<D: Trials + Drop> Bench<D> {
         None
     }
 
-    /// Cuts each write of a line, which makes at most as many as there is room for words.
+    /// Cuts each write of a line, which makes at most as many writes as there is room for in `words`.
     pub fn sweep_line<L: Ledger>(
         &mut self,
         place: &Place<'_>,

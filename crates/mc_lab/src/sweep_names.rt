@@ -1,4 +1,4 @@
-// The names that a deck speaks of.
+// The names that a deck mentions.
 ghost use Rattle.std.specs.Prelude.{◌≡◌, [], ◌∷◌, IfOk, MatchOption};
 ghost use Rattle.mc_model_device.specs.Bytes.{has_name};
 ghost use Rattle.mc_deck.specs.Lines.{line_of};
@@ -34,7 +34,7 @@ fn is_among(names: &[Aid], name: &Aid) -> bool
     false
 }
 
-// Adds the name that a line mentions, where it is new.
+// Adds the name that a line mentions, if it is new.
 fn add_mentioned(names: &mut Vec<Aid>, line: &Line<'_>) -> Result<(), NoMemory>
     ensures { IfOk result (λ done. names.new.items ≡ with_names names.old.items (names_in_line (line_of line.now))) }
 {
@@ -50,7 +50,11 @@ fn add_mentioned(names: &mut Vec<Aid>, line: &Line<'_>) -> Result<(), NoMemory>
     }
 }
 
-/// The names that the lines of a deck mention, in order of first mention.
+/// Returns the names that the lines of a deck mention, in order of first mention.
+///
+/// # Errors
+///
+/// Returns `NoMemory` if it is out of memory.
 pub fn names_of(alloc: Global, deck: &Deck) -> Result<Vec<Aid>, NoMemory>
     ensures { IfOk result (λ names. names.items ≡ names_from [] deck.now) }
 {

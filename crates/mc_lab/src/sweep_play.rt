@@ -58,7 +58,7 @@ fn fault_of(answer: &Option<Answer>) -> Option<Unusable>
     }
 }
 
-// Plays a line, and tells nothing of its turns.
+// Plays a line, and drops the record of its turns.
 fn play_line<N: Bench, L: Ledger>(
     player: &mut Player<N>,
     line: &Line<'_>,
@@ -98,7 +98,7 @@ fn play_front<N: Bench, L: Ledger>(
     player
 }
 
-// Plays a line with one of its writes cut, and tells whether it made so many.
+// Plays a line with its write `k` cut, and returns whether it made that write.
 fn play_cut<N: Bench, L: Ledger>(
     player: &mut Player<N>,
     line: &Line<'_>,
@@ -120,7 +120,8 @@ fn play_cut<N: Bench, L: Ledger>(
     is_off(&answer)
 }
 
-// Plays a line with one of its writes cut, and behind it a power line with one of its own, and tells whether that made so many.
+// Plays a line with its write `k` cut, and after it a power line with its write `again` cut, and returns
+// whether the power line made that write.
 fn play_twice<N: Bench, L: Ledger>(
     player: &mut Player<N>,
     line: &Line<'_>,
@@ -142,7 +143,7 @@ fn play_twice<N: Bench, L: Ledger>(
     play_cut(player, &Line::Power, again, fill, steps)
 }
 
-// Plays what stands behind the lines before a line, and tells whether the last cut hit its line.
+// Plays the lines of a trial from its line on, and returns whether the last cut hit its line.
 fn play_behind<N: Bench, L: Ledger>(
     player: &mut Player<N>,
     line: &Line<'_>,
@@ -168,7 +169,7 @@ fn play_behind<N: Bench, L: Ledger>(
     }
 }
 
-// The static bytes under a name, and none where it is absent or no card runs.
+// The static bytes under a name, or `None` if it is absent or no card runs.
 fn held_now<N: Bench>(player: &Player<N>, name: &Aid) -> Held
     requires { IsPlaying N.state N.bench player.now }
     ensures { held_value result ≡ statics_in N.state player.now name.now }
@@ -180,7 +181,7 @@ fn held_now<N: Bench>(player: &Player<N>, name: &Aid) -> Held
     Some(kept(held))
 }
 
-// Bytes that are kept.
+// A copy of the bytes.
 fn kept(bytes: &[u8]) -> ArrayVec<u8, 4096>
     requires { length bytes.now ≤ 4096 }
     ensures { result.items ≡ bytes.now }
@@ -190,7 +191,7 @@ fn kept(bytes: &[u8]) -> ArrayVec<u8, 4096>
     kept
 }
 
-// Takes down what is held under each name.
+// Stores the static bytes under each name.
 fn take_held<N: Bench>(held: &mut [Held], player: &Player<N>, names: &[Aid])
     requires playing { IsPlaying N.state N.bench player.now }
     requires room { length held.old ≡ length names.now }
@@ -201,7 +202,7 @@ fn take_held<N: Bench>(held: &mut [Held], player: &Player<N>, names: &[Aid])
     }
 }
 
-// Takes down what is told of a player behind a power line, by what that line answered.
+// Stores the observed state of a player after a power line, by the result of that line.
 fn take_down<N: Bench>(
     into: &mut Account,
     player: &Player<N>,
@@ -217,7 +218,8 @@ fn take_down<N: Bench>(
     take_held(into.held.as_mut_slice(), player, names);
 }
 
-// One play on a blank device: the lines before a line, what stands behind them, and a whole power line.
+// One play on a blank device: the lines before a line, the lines of the trial from there on, and a power line
+// without a cut.
 fn play_trial<N: Bench, L: Ledger>(
     device: N,
     place: &Place<'_>,
@@ -246,7 +248,7 @@ fn play_trial<N: Bench, L: Ledger>(
     (player.into_dev(), hit)
 }
 
-// One play on a device in memory of 8,192 words, which is made blank for it.
+// One play on a device in memory of 8,192 words, which is erased for it.
 fn play_blank<L: Ledger>(
     device: &mut SimNvm,
     place: &Place<'_>,
@@ -270,7 +272,11 @@ fn play_blank<L: Ledger>(
 }
 
 impl Laboratory {
-    /// A laboratory with room for its device.
+    /// Returns a laboratory with room for its device.
+    ///
+    /// # Errors
+    ///
+    /// Returns `NoMemory` if it is out of memory.
     pub fn new(alloc: Global) -> Result<Laboratory, NoMemory> {
         Ok(Laboratory {
             device: SimNvm::new(alloc, DEVICE_WORDS)?,

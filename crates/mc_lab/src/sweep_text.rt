@@ -9,7 +9,7 @@ use itoa::Buffer;
 use mc_base::{Sink, WriteFault};
 use mc_text::{put, put_decimal};
 
-/// The sums of a sweep: its lines, their writes, and the plays that tell them.
+/// The sums of a sweep: its lines, their writes, and the plays that determine their words.
 #[derive(Clone, Copy, Debug)]
 pub struct Sums {
     pub lines: u128,
@@ -25,7 +25,7 @@ fn put_sum<T: Sink>(out: &mut T, number: u128) -> Result<(), WriteFault>
     put(out, buffer.format(number).as_bytes())
 }
 
-// Writes a run of writes of one word, by the first and the last of them.
+// Writes a run of writes of one word, by its first and its last write.
 fn put_run<T: Sink>(out: &mut T, word: Word, first: u32, last: u32) -> Result<(), WriteFault>
     ensures { Puts (sunk_in T.taken T.faults out.old)
         (run_text (record { first = first; last = last; word = word })) result (sunk_in T.taken T.faults out.new) }
@@ -38,14 +38,14 @@ fn put_run<T: Sink>(out: &mut T, word: Word, first: u32, last: u32) -> Result<()
     put_decimal(out, last)
 }
 
-// Whether two words are the same.
+// Whether two words are equal.
 fn is_word(a: Word, b: Word) -> bool
     ensures { result ≡ is_word a b }
 {
     a.text() == b.text()
 }
 
-// How many words at the front are the same.
+// The length of the first run of words.
 fn run_len(words: &[Word]) -> usize
     requires { 0 < length words.now }
     ensures low { 1 ≤ result }
@@ -79,7 +79,11 @@ fn put_runs<T: Sink>(out: &mut T, words: &[Word]) -> Result<(), WriteFault>
     Ok(())
 }
 
-/// Writes a swept line, by its number and the words of its writes.
+/// Writes the text of a swept line: its number and the runs of its writes.
+///
+/// # Errors
+///
+/// Returns `WriteFault` if the sink fails.
 pub fn put_swept<T: Sink>(out: &mut T, number: u32, words: &[Word]) -> Result<(), WriteFault>
     requires { length words.now ≤ 4294967295 }
     ensures { Puts (sunk_in T.taken T.faults out.old) (codes "line " ++ decimal number ++ codes " writes "
@@ -96,6 +100,10 @@ pub fn put_swept<T: Sink>(out: &mut T, number: u32, words: &[Word]) -> Result<()
 }
 
 /// Writes the sums of a sweep.
+///
+/// # Errors
+///
+/// Returns `WriteFault` if the sink fails.
 pub fn put_sums<T: Sink>(out: &mut T, sums: &Sums) -> Result<(), WriteFault>
     ensures { Puts (sunk_in T.taken T.faults out.old) (sums_text sums.now.lines sums.now.writes sums.now.plays) result
         (sunk_in T.taken T.faults out.new) }

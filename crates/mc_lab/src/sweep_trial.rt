@@ -1,4 +1,4 @@
-// The plays of a sweep, and who plays them.
+// The plays of a sweep, and the trait of what plays them.
 ghost use Rattle.std.specs.Prelude.{◌≡◌};
 ghost use Rattle.mc_lab.specs.SweepBodies.{account_value, hit_in, state_at_place, CanCut, AccountFits, IsFewBehind, IsPlace};
 
@@ -7,7 +7,7 @@ use mc_base::{Aid, Steps, Word};
 use mc_deck::Deck;
 use std::sync::ledger::Ledger;
 
-/// A line of a deck, and the names whose static bytes are told.
+/// A line of a deck, and the names whose static bytes are observed.
 #[derive(Clone, Copy)]
 pub struct Place<'a> {
     pub deck: &'a Deck,
@@ -15,8 +15,8 @@ pub struct Place<'a> {
     pub names: &'a [Aid],
 }
 
-/// What is played behind the lines before a line: nothing, the line, the line with one of its writes cut, or also a power line with one
-/// of its writes cut. Writes are counted from 1, and a cut leaves its fill.
+/// The lines that are played after those before a line: none, the line, the line with one of its writes cut,
+/// or also a power line with one of its writes cut. Writes are counted from 1, and a cut leaves its fill.
 #[derive(Clone, Copy, Debug)]
 pub enum Behind {
     Nothing,
@@ -25,10 +25,11 @@ pub enum Behind {
     Twice { k: u32, fill: Word, again: u32 },
 }
 
-/// Plays lines of a deck on a blank device of 8,192 words, anew each time, and takes down what is told of the card then.
+/// Plays lines of a deck on a blank device of 8,192 words, anew each time, and stores the observed state of
+/// the card after them.
 pub trait Trials {
-    /// Plays the lines before a line and what stands behind them, and then a whole power line. It takes down what is told, and tells
-    /// whether the last cut hit its line.
+    /// Plays the lines before a line, the lines of the trial from there on, and then a power line without a
+    /// cut. Stores the observed state in `into`, and returns whether the last cut hit its line.
     fn tell<L: Ledger>(
         &mut self,
         place: &Place<'_>,

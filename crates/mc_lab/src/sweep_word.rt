@@ -2,8 +2,8 @@
 ghost use Rattle.std.specs.Prelude.{◌≡◌};
 ghost use Rattle.mc_lab.specs.Sweeps.{word_text};
 
-/// What a cut left: the state of before, that of after, both where they are one, another; or states that differ by fill or by a cut of
-/// the recovery.
+/// The state that a cut left: that before the line, that after it, both if they are equal, or another; or
+/// states that differ by fill or by a cut of the recovery.
 #[derive(Clone, Copy, Debug, PartialEq, Eq)]
 pub enum Word {
     Before,
@@ -14,7 +14,7 @@ pub enum Word {
 }
 
 impl Word {
-    /// The word that is printed.
+    /// Returns the word that is printed.
     pub fn text(&self) -> &'static str
         ensures { result.now ≡ word_text self.now }
     {

@@ -20,14 +20,16 @@ use mc_deck::{Deck, Line};
 use std::alloc::Global;
 use std::sync::ledger::Ledger;
 
-/// Why a sweep ended early: there was no room for it, and nothing was written; or its text was not wholly written.
+/// Why a sweep ended early: it was out of memory, and nothing was written; or its text was not completely
+/// written.
 #[derive(Clone, Copy, Debug, PartialEq, Eq)]
 pub enum SweepFault {
     NoMemory,
     WriteFault,
 }
 
-/// All that a sweep needs room for: the names of the deck, the device and what is told of it, and the words of the writes of one line.
+/// The room of a sweep: the names of the deck, the device and the observed states, and the words of the
+/// writes of one line.
 #[derive(Drop)]
 struct Room {
     names: Vec<Aid>,
@@ -49,7 +51,7 @@ fn is_card_line(line: &Line<'_>) -> bool
     }
 }
 
-// Whether no stop is armed behind a line, by whether none was before it.
+// Whether no stop is armed after a line, by whether none was before it.
 fn free_behind(line: &Line<'_>, free: bool) -> bool
     ensures { result ≡ free_behind (line_of line.now) free }
 {
@@ -65,7 +67,7 @@ fn free_behind(line: &Line<'_>, free: bool) -> bool
     }
 }
 
-// Whether no stop is armed behind the first lines of a deck.
+// Whether no stop is armed after the first `at` lines of a deck.
 fn is_free(deck: &Deck, at: usize) -> bool
     requires { at ≤ length deck.now }
     ensures { result ≡ is_unarmed (armed_stop_in (state_on_blank (take at deck.now))) }
@@ -78,7 +80,7 @@ fn is_free(deck: &Deck, at: usize) -> bool
     free
 }
 
-// The number of a line that may be swept: a line to the card for which no stop is armed.
+// The number of the line, if it may be swept: a line to the card for which no stop is armed.
 fn open_number(deck: &Deck, at: usize) -> Option<u32>
     requires { at < length deck.now }
     ensures { MatchOption result (is_open_at deck.now at ≡ false)
@@ -94,7 +96,8 @@ fn open_number(deck: &Deck, at: usize) -> Option<u32>
     Some(number)
 }
 
-// The device writes of a line, 0 where it may not be swept, or `None` where they are more than a `cut` can name.
+// The number of device writes of a line, 0 if it may not be swept, or `None` if it is greater than the
+// argument of a `cut` may be.
 fn writes_at<D: Trials + Drop, L: Ledger>(
     bench: &mut Bench<D>,
     place: &Place<'_>,
@@ -111,7 +114,8 @@ fn writes_at<D: Trials + Drop, L: Ledger>(
     }
 }
 
-// The most device writes that a line makes of those that may be swept, or `None` where a line makes more than a `cut` can name.
+// The greatest number of device writes of the lines that may be swept, or `None` if a line makes more than
+// the argument of a `cut` may be.
 fn most_writes<D: Trials + Drop, L: Ledger>(
     bench: &mut Bench<D>,
     deck: &Deck,
@@ -131,7 +135,7 @@ fn most_writes<D: Trials + Drop, L: Ledger>(
     Some(most)
 }
 
-// Sweeps a line, and writes its text where it makes a device write.
+// Sweeps a line, and writes its text if it makes a device write.
 fn sweep_place<D: Trials + Drop, T: Sink, L: Ledger>(
     bench: &mut Bench<D>,
     place: &Place<'_>,
@@ -193,7 +197,7 @@ fn sweep_at<D: Trials + Drop, T: Sink, L: Ledger>(
     }
 }
 
-// No sums.
+// Sums of no lines.
 fn no_sums() -> Sums
     ensures small { IsSmall result 0 }
     ensures lines { result.lines ≡ 0 }
@@ -232,7 +236,7 @@ fn sweep_lines<D: Trials + Drop, T: Sink, L: Ledger>(
     Ok(())
 }
 
-// Takes the room for a sweep of a deck.
+// Allocates the room for a sweep of a deck.
 fn room_for<L: Ledger>(alloc: Global, deck: &Deck, steps: &mut Steps<L>) -> Result<Room, NoMemory>
     ensures { IfOk result (λ room. IsRoom deck.now room.names.items room.bench.ends room.bench.pair
         (length room.words.items)) }
@@ -250,7 +254,7 @@ fn room_for<L: Ledger>(alloc: Global, deck: &Deck, steps: &mut Steps<L>) -> Resu
     })
 }
 
-// Sweeps a deck where there is room for it, and writes its text.
+// Sweeps a deck for which there is room, and writes its text.
 fn sweep_in<T: Sink, L: Ledger>(
     room: &mut Room,
     deck: &Deck,
@@ -274,12 +278,17 @@ fn sweep_in<T: Sink, L: Ledger>(
     put_sums(out, &sums)
 }
 
-/// Cuts power in each device write of each line of a deck for which the deck arms no stop, and in each write of the recovery behind it,
-/// with eight bytes 00 and with eight bytes FF, and writes what the card was then: a line of text for each swept line, when it is done,
-/// and a last one with their sums.
+/// Cuts power in each device write of each line of a deck for which the deck arms no stop, and in each write
+/// of the recovery after it, with eight bytes 00 and with eight bytes FF, and writes the observed state of
+/// the card: a line of text for each swept line, when it is done, and a last one with their sums.
 ///
-/// Each of its plays runs on a blank device of 8,192 words. All room is taken before the first byte is written; a line of more than
-/// 4,294,967,294 device writes finds none. Where the sink fails, a front of the text was written.
+/// Each of its plays runs on a blank device of 8,192 words. All memory is allocated before the first byte is
+/// written; for a line of more than 4,294,967,294 device writes the sweep is out of memory.
+///
+/// # Errors
+///
+/// Returns `NoMemory` if it is out of memory, and nothing was written then, or `WriteFault` if the sink
+/// fails; the first bytes of the text were written then.
 pub fn sweep<T: Sink, L: Ledger>(
     alloc: Global,
     deck: &Deck,

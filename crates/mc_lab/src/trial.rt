@@ -20,16 +20,16 @@ pub struct Trial<'a> {
     pub expectations: Vec<NumberedLine<'a>>,
 }
 
-/// Why a text is no deck with expectations.
+/// Why a text is not a deck with expectations.
 #[derive(Clone, Copy, Debug, PartialEq, Eq, Error)]
 pub enum TrialRefusal {
     /// The first refused line of the deck, counted from 1, and its cause.
     #[error("line {0}: refused")]
     Deck(u32, DeckCause),
-    /// The line of the first expectation that has no statement above it with a result.
+    /// The line of the first expectation without a statement above it that has a result.
     #[error("line {0}: no answer")]
     NoAnswer(u32),
-    /// Memory that was asked for was not there.
+    /// Out of memory.
     #[error("out of memory")]
     NoMemory,
 }
@@ -45,7 +45,7 @@ impl From<NoMemory> for TrialRefusal {
     }
 }
 
-/// How many lines of a deck stand above a line of its text, where so many do at least.
+/// Returns the number of lines of a deck above a line of its text, if that is at least `from`.
 pub fn count_above(deck: &Deck, from: usize, number: u32) -> usize
     requires { from + count_below line_number number (drop from deck.now) ≡ count_below line_number number deck.now }
     ensures count { result ≡ count_below line_number number deck.now }
@@ -72,7 +72,7 @@ fn has_result(line: &Line<'_>) -> bool
     )
 }
 
-// Whether the last of so many lines of a deck has a result.
+// Whether the last of the first `count` lines of a deck has a result.
 fn is_answered(deck: &Deck, count: usize) -> bool
     requires { count ≤ length deck.now }
     ensures { result ≡ is_answered (last_of count deck.now) }
@@ -84,7 +84,7 @@ fn is_answered(deck: &Deck, count: usize) -> bool
     has_result(&line)
 }
 
-// The number of the first expectation that has no statement above it with a result.
+// The line of the first expectation without a statement above it that has a result.
 fn first_unanswered(deck: &Deck, expectations: &[NumberedLine<'_>]) -> Option<u32>
     requires lines { Rising line_number 1 deck.now }
     requires expectations { Rising line_number 1 (numbered_lines expectations.now) }
@@ -110,8 +110,12 @@ fn refusal_of(refusal: DeckRefusal) -> TrialRefusal
     }
 }
 
-/// Reads a deck and its expectations. The refusals of the deck come first, then the first expectation that has no statement above it
-/// with a result.
+/// Reads a deck and its expectations.
+///
+/// # Errors
+///
+/// Returns the refusal of the deck, or else the line of the first expectation without a statement above it
+/// that has a result; or `NoMemory` if it is out of memory.
 pub fn read_trial(alloc: Global, text: &[u8]) -> Result<Trial<'_>, TrialRefusal>
     requires { length text.now < 2 ^ 32 }
     ensures trial { IfOk result (λ t. trial_read text.now ≡ Ok (trial_value t)) }

@@ -1,4 +1,4 @@
--- What commits leave of a manager that fits.
+-- A manager that fits a bank fits it after commits.
 use Rattle.std.proofs.Common.{◌≡◌, ℕ, List, length, take, Option, Some, None, refl, ap, ◌∙◌}
 use Rattle.std.specs.Prelude.{option_map}
 use Rattle.std.specs.Option.{ForSome}
@@ -9,7 +9,7 @@ use Rattle.mc_model_card.specs.Manager.{Open}
 use Rattle.mc_bank.specs.Bank.{IsGoodSite}
 use Rattle.mc_manager.specs.ManagerState.{BankView, Loaded, ManagerState, open_of, seat_of, FitsLoad, ManagerFits}
 
--- slots, good sites and their bytes stay
+-- every slot keeps its name, and every good site is good and keeps its bytes
 pub record KeepsSlotsAndSites (v w : BankView) : Type 0 where
   pub slots : (k : ℕ) (n : List ℕ) → v.named k ≡ Some n → w.named k ≡ Some n
   pub sites : (s : Site) → IsGoodSite v.state.apps v.room s → IsGoodSite w.state.apps w.room s × ((p : Part) → w.standing s p ≡ v.standing s p)

@@ -1,4 +1,4 @@
--- How each command ends, from what its parts ensure.
+-- The end of each command, from what its parts ensure.
 use Rattle.std.proofs.Common.{◌≡◌, ◌≢◌, ℕ, ◌+◌, ◌≤◌, Bool, true, false, List, [], ◌∷◌, length, Option, Some, None, Ok, Err, refl, sym, ap, subst, ◌∙◌, arith}
 use Rattle.std.specs.Prelude.{map, option_map, IsSome, is_some, is_none, Result, nat_lt, not, cond, ◌==◌, bytes_eq, unwrap_or, IfOk, OnOk, ◌&&◌}
 use Rattle.std.specs.Option.{ForSome}
@@ -36,7 +36,7 @@ use Rattle.mc_model_device.proofs.MapLemmas.{name_is_itself}
 pub refused_due : (x : Option ℕ) (d : Accepted) (sw : ℕ) → x ≡ Some sw → due_manager (answer_unless x d) ≡ Refuses sw
 refused_due x d sw h = ap (λ (y : Option ℕ). due_manager (answer_unless y d)) h
 
--- and one without is done
+-- a command without a refusal is done
 pub done_due : (x : Option ℕ) (d : Accepted) → x ≡ None → due_manager (answer_unless x d) ≡ Does d
 done_due x d h = ap (λ (y : Option ℕ). due_manager (answer_unless y d)) h
 
@@ -62,7 +62,7 @@ has_room v l p a fits h =
     by_tests false true true is h = absurd (cc h)
     by_tests false true false is h = grind (arith, nat_tests, is)
 
--- the same name is selected, whatever the session bytes are
+-- whether a name is selected does not depend on the session bytes
 pub same_selected : (m : ManagerState) (s n : List ℕ) → is_selected (selected_of s m) n ≡ has_selected m.selected n
 same_selected m s n = by_selected m.selected
   where
@@ -77,7 +77,7 @@ same_causes v m s a =
 -- ---- ends
 
 module _ {B : Type 0} (did : B → BankItem → Answer → B → Type 0) where
-  -- a refusal
+  -- the end of a command that is refused
   pub ends_refused : (of : List ℕ → CommandDue) (v : BankView) (m : ManagerState) (b : B) (r : Reply) (sw : ℕ) → ((s : List ℕ) → of s ≡ Refuses sw) → RepliesWith [] sw r → v.state.stopped ≡ false → ManagerFits v m
       → CommandEnds did of v m b (Ok (routed.Answer r)) v m b
   ends_refused of v m b r sw is says going fits =
@@ -89,7 +89,7 @@ module _ {B : Type 0} (did : B → BankItem → Answer → B → Type 0) where
         going = going;
       }
 
-  -- what is done
+  -- the end of a command that is done
   pub ends_done : (of : List ℕ → CommandDue) (d : List ℕ → Accepted) (v : BankView) (m : ManagerState) (b : B) (r : Reply) (w : BankView) (n : ManagerState) (e : B) → ((s : List ℕ) → of s ≡ Does (d s))
       → ((s : List ℕ) → InOrder did b (d s).items (Ok tt) e)
       → ((s : List ℕ) → Changes v.state (apps_after (Does (d s)) v.state.apps) (Ok tt) w.state)
@@ -104,7 +104,7 @@ module _ {B : Type 0} (did : B → BankItem → Answer → B → Type 0) where
         going = (apps []).going;
       }
 
-  -- what is stopped
+  -- the end of a command that is stopped
   pub ends_stopped : (of : List ℕ → CommandDue) (d : List ℕ → Accepted) (v : BankView) (m : ManagerState) (b : B) (t : Stop) (w : BankView) (n : ManagerState) (e : B) → ((s : List ℕ) → of s ≡ Does (d s))
       → ((s : List ℕ) → InOrder did b (d s).items (Err t) e)
       → ((s : List ℕ) → Changes v.state (apps_after (Does (d s)) v.state.apps) (Err t) w.state)
@@ -124,7 +124,7 @@ some_value : {X : Type 0} (x : Option X) (d : X) → IsSome x → x ≡ Some (un
 some_value None d h = absurd (cc h)
 some_value (Some x) d h = refl
 
--- what the SELECT of a name does
+-- what the SELECT of an application does
 abbrev pub selected : BankView → ManagerState → ApduParts → List ℕ → Accepted
 selected v m a s = select_done (seat_of v.standing s m) a (Some (app_of v.state.apps (Some a.body)))
 
@@ -170,11 +170,11 @@ load_refused v m x p a sw is h s =
     refused_due (first_status (load_refusals seat.load p a)) (load_done seat seat.load p a) sw
     (ap (λ (y : Option Loaded). first_status (load_refusals (option_map (open_of v.standing) y) p a)) (sym is) ∙ h)
 
--- what a piece for an open load does
+-- what a LOAD command for an open load does
 abbrev pub piece_done : (v : BankView) (m : ManagerState) (l : Loaded) (p : Part) (a : ApduParts) → List ℕ → Accepted
 piece_done v m l p a s = load_done (seat_of v.standing s m) (Some (open_of v.standing l)) p a
 
--- a piece may be written for an open load
+-- the conditions for a LOAD command to write its piece
 pub record CanLoad (v : BankView) (m : ManagerState) (l : Loaded) (p : Part) (a : ApduParts) : Type 0 where
   pub is : m.load ≡ Some l
   pub fits : FitsLoad v l
@@ -228,11 +228,11 @@ module _ {B : Type 0} (did : B → BankItem → Answer → B → Type 0) where
 
 -- ---- CREATE
 
--- what the creation of an open load does
+-- what the CREATE of an open load does
 abbrev pub created : BankView → ManagerState → Loaded → List ℕ → List ℕ → Accepted
 created v m l n s = create_done (seat_of v.standing s m) (Some (open_of v.standing l)) (Ok n)
 
--- an open load may become an application
+-- the conditions for an open load to become an application
 pub record CanEnter (v : BankView) (m : ManagerState) (l : Loaded) (n : List ℕ) (a : ApduParts) : Type 0 where
   pub is : m.load ≡ Some l
   pub fits : FitsLoad v l
@@ -348,7 +348,7 @@ module _ {B : Type 0} (did : B → BankItem → Answer → B → Type 0) where
 
 -- ---- the table
 
--- a command of class BE with this INS
+-- a command of class BE, by its INS
 abbrev by_ins : ℕ → (Sizes → Option ℕ) → List (List ℕ × App) → Seat → ApduParts → Managed
 by_ins i room map seat a =
     cond (i == 0x12) (open_load room map seat a) (
@@ -367,13 +367,13 @@ pub manage_is : (i : ℕ) (room : Sizes → Option ℕ) (map : List (List ℕ ×
 unfolding manage
 manage_is i room map seat a is = ap (λ (k : ℕ). by_ins k room map seat a) is
 
--- class BE is the manager's
+-- the verdict on a command of class BE is that of the manager's table
 pub manager_due : (v : BankView) (s : List ℕ) (m : ManagerState) (a : ApduParts) → a.cla ≡ 0xBE → due v s m a ≡ due_manager (manage v.room v.state.apps (seat_of v.standing s m) a)
 manager_due v s m a is =
     ap (λ (c : ℕ). due_on v (seat_of v.standing s m) (cond (c == 0xFF) WrongClass (cond (c == 0 && a.ins == 0xA4 && a.p1 == 4) (ToSelect a) (cond (c == 0xBE) (ToManager a) (ToApplication a))))) is
 
 module _ {B : Type 0} (did : B → BankItem → Answer → B → Type 0) where
-  -- the same is due in other words
+  -- the end of a command for a verdict that is equal to its own
   pub ends_as : (f h : List ℕ → CommandDue) (v : BankView) (m : ManagerState) (b : B) (x : Result Routed Stop) (w : BankView) (n : ManagerState) (e : B) → ((s : List ℕ) → f s ≡ h s) → CommandEnds did h v m b x w n e → CommandEnds did f v m b x w n e
   ends_as f h v m b x w n e is ends =
       record {
@@ -391,7 +391,7 @@ module _ {B : Type 0} (did : B → BankItem → Answer → B → Type 0) where
       ends_as (λ s. due_manager (manage v.room v.state.apps (seat_of v.standing s m) a)) (λ s. due_manager (by_ins i v.room v.state.apps (seat_of v.standing s m) a)) v m b x w n e
       (λ s. ap due_manager (manage_is i v.room v.state.apps (seat_of v.standing s m) a is))
 
-  -- ---- the promises of a command whose reply was written beside its ruling
+  -- ---- the clauses of a command whose reply was written beside its ruling
 
   module _ (of : List ℕ → CommandDue) (v : BankView) (m : ManagerState) (b : B) (w : BankView) (n : ManagerState) (e : B) (r : Reply) where
     pub ends_items : (x : Result Ruling Stop) → CommandEnds did of v m b (ruling_or_stop x r) w n e → (s : List ℕ) → InOrder did b (items_of (of s)) (answer_of x) e

@@ -1,4 +1,4 @@
--- What an open load is for the definitions, and what a piece and a creation make of it.
+-- An open load as the model has it, and what a LOAD command and a CREATE make of it.
 use Rattle.std.proofs.Common.{◌≡◌, ◌≢◌, ℕ, ◌+◌, ◌≤◌, Bool, true, false, List, ◌++◌, length, take, drop, Option, Some, refl, sym, ap, subst, ◌∙◌, arith}
 use Rattle.std.specs.Prelude.{◌==◌, ◌&&◌, option_map}
 use Rattle.std.proofs.lemmas.Bool.Decides.{nat_tests}
@@ -16,7 +16,7 @@ use Rattle.mc_model_device.proofs.ListLemmas.{length_splice}
 
 -- ---- sections
 
--- two sections are the same or not
+-- equality of sections is decidable
 same_part : (p q : Part) → Dec (p ≡ q)
 same_part Code Code = yes refl
 same_part Code Data = no (λ e. cc e)
@@ -48,7 +48,7 @@ four_equal a b c d e f g k h = by_tests (a == b) (c == d) (e == f) (g == k) refl
     by_tests true true false z p q r s h = absurd (cc h)
     by_tests true true true false p q r s h = absurd (cc h)
 
--- ---- what a section has got
+-- ---- the bytes that a section has received
 
 pub length_front : (v : BankView) (l : Loaded) (p : Part) → FitsLoad v l → length (got_at v.standing l p) ≡ got_len p l
 length_front v l p h = length-take-le (got_len p l) (v.standing l.site p) (subst (λ (n : ℕ). got_len p l ≤ n) (sym (h.parts p)) (h.within p))
@@ -105,7 +105,7 @@ more_site Data b l = refl
 more_site Dir b l = refl
 more_site Fci b l = refl
 
--- a piece behind what a section has got: the bytes of the bank before and after it
+-- a piece written after the bytes that a section has received: the bytes of the bank before and after it
 pub record IsFilled (v w : BankView) (l : Loaded) (p : Part) (b : List ℕ) : Type 0 where
   pub fits : FitsLoad v l
   pub room : got_len p l + length b ≤ part_len p l.site.sizes

@@ -1,4 +1,4 @@
--- The front of an FCI.
+-- The first bytes of an FCI.
 use Rattle.std.proofs.Common.{◌≡◌, ℕ, List, length, take, ap, ◌∙◌}
 use Rattle.std.specs.Prelude.{min}
 use Rattle.std.proofs.lemmas.List.{take_min}

@@ -40,7 +40,7 @@ lookup_removed (e ∷ es) k n a h = by_tests (bytes_eq e.0 k) (bytes_eq e.0 n) r
 
 -- ---- commands
 
--- what a command is due adds nothing stale
+-- every application after a command with this verdict was there before, or is that of the open load
 abbrev AddsFresh : Option Open → List (List ℕ × App) → CommandDue → Type 0
 AddsFresh load apps d = NoneStale load apps (apps_after d apps)
 
@@ -88,7 +88,7 @@ module _ (load : Option Open) (apps : List (List ℕ × App)) where
       by_test _ _ (open_adds room seat a) (by_test _ _ (load_adds part.Code seat a) (by_test _ _ (load_adds part.Data seat a) (by_test _ _ (load_adds part.Dir seat a) (by_test _ _ (load_adds part.Fci seat a)
       (by_test _ _ (create_adds seat a is) (by_test _ _ (delete_adds seat a) (same_apps load apps) (a.ins == 0x18)) (a.ins == 0x16)) (a.ins == 0x22)) (a.ins == 0x20)) (a.ins == 0x26)) (a.ins == 0x24)) (a.ins == 0x12)
 
--- a command adds nothing stale
+-- a command by its route leaves no stale application
 pub due_adds : (v : BankView) (s : List ℕ) (m : ManagerState) (a : ApduParts) → NoneStale (load_of v.standing m) v.state.apps (apps_after (due v s m a) v.state.apps)
 due_adds v s m a = by_class (a.cla == 0xFF) (a.cla == 0 && a.ins == 0xA4 && a.p1 == 4) (a.cla == 0xBE)
   where
@@ -102,7 +102,7 @@ due_adds v s m a = by_class (a.cla == 0xFF) (a.cla == 0 && a.ins == 0xA4 && a.p1
     by_class false false true = manage_adds (load_of v.standing m) v.state.apps v.room (seat_of v.standing s m) a refl
     by_class false false false = by_selection (seat_of v.standing s m).selected
 
--- whatever became of it
+-- a command leaves no stale application, whether it stopped or not
 pub none_stale : (v : BankView) (s : List ℕ) (m : ManagerState) (a : ApduParts) (x : Answer) (e : BankState) → Changes v.state (apps_after (due v s m a) v.state.apps) x e → NoneStale (load_of v.standing m) v.state.apps e.apps
 none_stale v s m a (Ok u) e h = subst (NoneStale (load_of v.standing m) v.state.apps) (sym h.apps) (due_adds v s m a)
 none_stale v s m a (Err t) e h =

@@ -1,4 +1,4 @@
--- When each command can be done, and what of the bank it takes.
+-- When each command succeeds, and what of the bank it needs.
 use Rattle.std.specs.Prelude.{◌≡◌, ℕ, Bool, true, false, not, ◌==◌, List, [], ◌∷◌, bytes_eq, is_none, unwrap_or, option_map, Option, Some, None, Ok}
 use Rattle.mc_model_machine.specs.Apdu.{ApduParts}
 use Rattle.mc_model_device.specs.Bytes.{lookup}
@@ -9,18 +9,18 @@ use Rattle.mc_manager.specs.declared.selection.Selection.{Selection}
 use Rattle.mc_manager.specs.ManagerState.{BankView, Loaded, open_of, FitsLoad, NamedBy}
 use Rattle.mc_manager.specs.Load.{empty_load, is_full}
 
--- a SELECT selects this application
+-- the conditions for a SELECT to select this application
 pub record CanSelect (apps : List (List ℕ × App)) (named : ℕ → Option (List ℕ)) (a : ApduParts) (s : Selection) : Type 0 where
   pub clear : first_status (select_refusals apps a) ≡ None
   pub found : NamedBy apps named a.body s
 
--- an OPEN opens this load
+-- the conditions for an OPEN to open this load
 pub record CanOpen (v : BankView) (a : ApduParts) (l : Loaded) : Type 0 where
   pub clear : first_status (open_refusals v.room v.state.apps a) ≡ None
   pub load : l ≡ empty_load (record { sizes = sizes_in a; place = unwrap_or (v.room (sizes_in a)) 0 })
   pub fits : FitsLoad v l
 
--- a CREATE makes the application of an open load, under this name
+-- the conditions for a CREATE to make the application of an open load under this name
 pub record CanCreate (v : BankView) (load : Option Loaded) (a : ApduParts) (n : List ℕ) : Type 0 where
   pub clear : first_status (create_refusals v.state.apps (option_map (open_of v.standing) load) a) ≡ None
   pub loaded : Loaded
@@ -29,17 +29,17 @@ pub record CanCreate (v : BankView) (load : Option Loaded) (a : ApduParts) (n : 
   pub name : name_of loaded.dir ≡ Ok n
   pub fresh : lookup v.state.apps n ≡ None
 
--- the name is that of the selected application
+-- whether the name is that of the selected application
 abbrev pub has_selected : Option Selection → List ℕ → Bool
 has_selected None name = false
 has_selected (Some s) name = bytes_eq s.aid name
 
--- why a DELETE is refused, in order
+-- the conditions under which a DELETE is refused, each with its status word, in order
 abbrev pub delete_causes : List (List ℕ × App) → Option Selection → ApduParts → List (ℕ × Bool)
 delete_causes apps selected a =
     (0x6A86, not (p1p2 a == 0)) ∷ (0x6700, is_empty a.body) ∷ (0x6A82, is_none (lookup apps a.body)) ∷ (0x6985, has_selected selected a.body) ∷ []
 
--- a DELETE takes out the application of this slot
+-- the conditions for a DELETE to remove the application in this slot
 pub record CanDelete (apps : List (List ℕ × App)) (named : ℕ → Option (List ℕ)) (selected : Option Selection) (a : ApduParts) (k : ℕ) : Type 0 where
   pub clear : first_status (delete_causes apps selected a) ≡ None
   pub slot : named k ≡ Some a.body

@@ -1,5 +1,4 @@
--- What a command is due by the routing and the manager's table, and how it is answered.
--- Status words are those of ISO/IEC 7816-4.
+-- The verdict on a command by the routing and the manager's table, and its reply. Status words are those of ISO/IEC 7816-4.
 use Rattle.std.specs.Prelude.{◌≡◌, ◌⊎◌, ℕ, Bool, cond, ◌&&◌, ◌==◌, List, [], option_map, Option, Some, None}
 use Rattle.mc_model_machine.specs.Apdu.{ApduParts}
 use Rattle.mc_model_device.specs.Bytes.{zeros, lookup}
@@ -13,29 +12,29 @@ use Rattle.mc_manager.specs.declared.routed.Routed.{Routed}
 use Rattle.mc_manager.specs.declared.routed.Routed.TheVariants.{Answer, Fresh, Pass}
 use Rattle.mc_manager.specs.ManagerState.{BankView, ManagerState, seat_of}
 
--- a command is refused with a status, selects, is done, or is passed to the selected application
+-- the verdict on a command: it is refused with a status word, selects an application, is done, or is passed to the selected application
 pub data CommandDue : Type 0 where
   Refuses : (sw : ℕ) → CommandDue
   Selects : (done : Accepted) → CommandDue
   Does : (done : Accepted) → CommandDue
   Passes : CommandDue
 
--- what a SELECT is due
+-- the verdict on a SELECT
 abbrev pub due_select : Managed → CommandDue
 due_select (Declines sw) = Refuses sw
 due_select (Accepts d) = Selects d
 
--- what a command of class BE is due
+-- the verdict on a command of class BE
 abbrev pub due_manager : Managed → CommandDue
 due_manager (Declines sw) = Refuses sw
 due_manager (Accepts d) = Does d
 
--- what a command for the selected application is due
+-- the verdict on a command for the selected application
 abbrev pub due_application : Option Selected → CommandDue
 due_application None = Refuses 0x6985
 due_application (Some s) = Passes
 
--- what a command is due by its route
+-- the verdict on a command by its route
 abbrev pub due_on : BankView → Seat → Route → CommandDue
 due_on v seat WrongLength = Refuses 0x6700
 due_on v seat WrongClass = Refuses 0x6E00
@@ -43,13 +42,13 @@ due_on v seat (ToSelect a) = due_select (select v.state.apps seat a)
 due_on v seat (ToManager a) = due_manager (manage v.room v.state.apps seat a)
 due_on v seat (ToApplication a) = due_application seat.selected
 
--- what a command is due from a manager over a bank, with the session bytes of the selection
+-- the verdict on a command, by a manager over a bank and the session bytes of the selection
 abbrev pub due : BankView → List ℕ → ManagerState → ApduParts → CommandDue
 due v session m a = due_on v (seat_of v.standing session m) (route_of_parts (Some a))
 
 -- ---- the bank
 
--- the items that a command makes
+-- the items that a command makes on the bank, in order
 abbrev pub items_of : CommandDue → List BankItem
 items_of (Refuses sw) = []
 items_of (Selects d) = d.items
@@ -68,19 +67,19 @@ apps_after (Selects d) apps = with_change d.change apps
 apps_after (Does d) apps = with_change d.change apps
 apps_after Passes apps = apps
 
--- ---- the answer
+-- ---- the reply
 
--- a reply of these data with this status
+-- a reply with these data and this status word
 pub record RepliesWith (bytes : List ℕ) (status : ℕ) (r : Reply) : Type 0 where
   pub body : r.body.items ≡ bytes
   pub sw : r.sw ≡ status
 
--- a refusal changes nothing
+-- a command that is refused: a status word without data, and nothing changed
 pub record CommandRefused (sw : ℕ) (m : ManagerState) (r : Reply) (m' : ManagerState) : Type 0 where
   pub reply : RepliesWith [] sw r
   pub unchanged : m' ≡ m
 
--- a new selection of an application, with its slot; its session bytes are zeros, and the load stays
+-- a selection that a SELECT made, with its slot: its session bytes are zeros, and the open load is unchanged
 pub record Chosen (d : Accepted) (v : BankView) (m : ManagerState) (k : ℕ) (r : Reply) (m' : ManagerState) : Type 0 where
   pub selected : Selection
   pub reply : RepliesWith d.body 0x9000 r
@@ -89,18 +88,18 @@ pub record Chosen (d : Accepted) (v : BankView) (m : ManagerState) (k : ℕ) (r 
   pub load : m'.load ≡ m.load
   pub seat : seat_of v.standing (zeros (app_of v.state.apps (Some selected.aid)).session) m' ≡ d.seat
 
--- a command of class BE that is done; selection and session bytes stay
+-- a command of class BE that is done; the selection and its session bytes are unchanged
 pub record CommandDone (d : Accepted) (session : List ℕ) (m : ManagerState) (r : Reply) (v' : BankView) (m' : ManagerState) : Type 0 where
   pub reply : RepliesWith d.body 0x9000 r
   pub selected : m'.selected ≡ m.selected
   pub seat : seat_of v'.standing session m' ≡ d.seat
 
--- a command that is passed to the application of a slot
+-- a command that is passed to the application in this slot
 pub record CommandPassed (m : ManagerState) (k : ℕ) (m' : ManagerState) : Type 0 where
   pub slot : option_map (λ s. s.slot) m.selected ≡ Some k
   pub unchanged : m' ≡ m
 
--- how a command that did not stop is answered, and what the manager holds then
+-- the reply to a command that did not stop, and the manager after it
 abbrev pub CommandLeaves : CommandDue → List ℕ → BankView → ManagerState → Routed → BankView → ManagerState → Type 0
 CommandLeaves (Refuses sw) session v m (Answer r) v' m' = CommandRefused sw m r m'
 CommandLeaves (Selects d) session v m (Fresh slot r) v' m' = Chosen d v m slot r m'
@@ -114,13 +113,13 @@ CommandLeaves _ session v m _ v' m' = ⊥
 abbrev pub is_open : ApduParts → Bool
 is_open a = a.cla == 0xBE && a.ins == 0x12
 
--- the most ticks of a command
+-- the maximum number of steps of a command
 abbrev pub most_ticks : ApduParts → ℕ → ℕ
 most_ticks a ticks = cond (is_open a) ticks 0
 
 -- ---- stale bytes
 
--- an application that is there after a command was there before, or is that of the open load: code, DIR and FCI as they were
--- sent for it, the data as they were sent and zeros behind them, sizes and access list of its OPEN
+-- every application after a command was there before it, or is that of the open load: its code, DIR and FCI as they were sent, its data
+-- as they were sent and filled with zeros, its sizes and access list those of the OPEN
 abbrev pub NoneStale : Option Open → List (List ℕ × App) → List (List ℕ × App) → Type 0
 NoneStale load before after = (n : List ℕ) → (a : App) → lookup after n ≡ Some a → (lookup before n ≡ Some a) ⊎ ((o : Open) × (load ≡ Some o) × (a ≡ fresh o))

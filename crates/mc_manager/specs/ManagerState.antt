@@ -1,4 +1,4 @@
--- What the manager holds, the definition's seat that it stands for over a bank, and when it fits the bank.
+-- The state of the manager, the session state of the model that it represents over a bank, and when it fits the bank.
 use Rattle.std.specs.Prelude.{◌≡◌, ℕ, ◌≤◌, List, length, take, option_map, Option, Some, IsSome}
 use Rattle.std.specs.Option.{ForSome}
 use Rattle.mc_model_card.specs.declared.card.Part.{Part}
@@ -13,7 +13,7 @@ use Rattle.mc_manager.specs.declared.selection.Selection.{Selection}
 
 -- ---- a bank
 
--- what a bank shows at one moment: its state, the names of its slots, where it has room, and what stands at its sites
+-- what a bank shows at one moment: its state, the names of its slots, where it has room, and the bytes at its sites
 pub record BankView : Type 0 where
   pub state : BankState
   pub named : ℕ → Option (List ℕ)
@@ -26,7 +26,7 @@ view_of state named room standing b = record { state = state b; named = named b;
 
 -- ---- a manager
 
--- an open load: its site, how many bytes code, data and FCI have got, and the bytes that the DIR has got
+-- an open load: its site, the number of bytes that code, data and FCI have received, and the bytes that the DIR has received
 pub record Loaded : Type 0 where
   pub site : Site
   pub code : ℕ
@@ -39,20 +39,20 @@ pub record ManagerState : Type 0 where
   pub selected : Option Selection
   pub load : Option Loaded
 
--- how many bytes a section has got
+-- the number of bytes that a section has received
 abbrev pub got_len : Part → Loaded → ℕ
 got_len Code l = l.code
 got_len Data l = l.init
 got_len Dir l = length l.dir
 got_len Fci l = l.fci
 
--- ---- the seat
+-- ---- the session state
 
--- what a section has got: the front of what stands there
+-- what a section has received: the first bytes of its place in the bank
 abbrev pub got_at : (Site → Part → List ℕ) → Loaded → Part → List ℕ
 got_at standing l p = take (got_len p l) (standing l.site p)
 
--- the definition's load
+-- an open load, as the model has it
 abbrev pub open_of : (Site → Part → List ℕ) → Loaded → Open
 open_of standing l =
     record {
@@ -60,35 +60,36 @@ open_of standing l =
       got = record { code = got_at standing l Code; init = got_at standing l Data; dir = got_at standing l Dir; fci = got_at standing l Fci };
     }
 
--- the definition's load of a manager, where one is open
+-- the open load of a manager, if there is one, as the model has it
 abbrev pub load_of : (Site → Part → List ℕ) → ManagerState → Option Open
 load_of standing m = option_map (open_of standing) m.load
 
--- the definition's selection; the session bytes are kept by whoever runs the application
+-- the selection, as the model has it; its session bytes are kept by whoever runs the application
 abbrev pub selected_of : List ℕ → ManagerState → Option Selected
 selected_of session m = option_map (λ s. record { name = s.aid; session = session }) m.selected
 
--- the definition's seat
+-- the session state of the model
 abbrev pub seat_of : (Site → Part → List ℕ) → List ℕ → ManagerState → Seat
 seat_of standing session m = record { selected = selected_of session m; load = load_of standing m }
 
 -- ---- the fit
 
--- an open load fits: its site is good, each section there has its size and has got no more, and the DIR's bytes stand there
+-- whether an open load fits a bank: its site is good, each of its sections has its size there and has received no more, and the bytes of
+-- the DIR are there
 pub record FitsLoad (v : BankView) (l : Loaded) : Type 0 where
   pub good : IsGoodSite v.state.apps v.room l.site
   pub parts : HasParts l.site (v.standing l.site)
   pub within : (p : Part) → got_len p l ≤ part_len p l.site.sizes
   pub dir : got_at v.standing l Dir ≡ l.dir
 
--- a manager fits a bank: the selected application is there under its slot, and the open load fits
+-- whether a manager fits a bank: the selected application is in its slot, and the open load fits
 pub record ManagerFits (v : BankView) (m : ManagerState) : Type 0 where
   pub selected : ForSome m.selected (λ s. v.named s.slot ≡ Some s.aid)
   pub load : ForSome m.load (FitsLoad v)
 
 -- ---- names
 
--- the application of a name that is on the card
+-- the application of this name, which is on the card
 pub record NamedBy (apps : List (List ℕ × App)) (named : ℕ → Option (List ℕ)) (name : List ℕ) (s : Selection) : Type 0 where
   pub aid : s.aid ≡ name
   pub slot : named s.slot ≡ Some s.aid

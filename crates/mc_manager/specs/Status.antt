@@ -1,10 +1,9 @@
--- The status words of the manager.
--- ISO/IEC 7816-4.
+-- The status words of the manager (ISO/IEC 7816-4).
 use Rattle.std.specs.Prelude.{ℕ}
 use Rattle.mc_manager.specs.declared.status.Status.{Status}
 use Rattle.mc_manager.specs.declared.status.Status.TheVariants.{Done, WrongLength, Conditions, WrongData, NotFound, NoRoom, WrongParameters, Exists, NoInstruction, NoClass}
 
--- the word of a status
+-- the status word of a status
 abbrev pub word_of : Status → ℕ
 word_of Done = 0x9000
 word_of WrongLength = 0x6700

@@ -18,7 +18,11 @@ use mc_bank::{Bank, Part};
 use mc_base::Aid;
 use mc_unit::aid_of;
 
-/// The name that CREATE gives to the application of the open load, else its first refusal.
+/// Returns the name in the DIR record of the open load, which CREATE registers.
+///
+/// # Errors
+///
+/// Returns the status of its first refusal.
 #[tactic(auto, using(crate::proofs::LoadLemmas::complete_full))]
 pub fn creation<B: Bank>(load: &Option<Load>, bank: &B, apdu: &Apdu) -> Result<Aid, Status>
     requires going { (B.state bank.now).stopped ≡ false }
@@ -50,7 +54,7 @@ pub fn creation<B: Bank>(load: &Option<Load>, bank: &B, apdu: &Apdu) -> Result<A
     Ok(aid)
 }
 
-// Whether each section has got its bytes.
+// Whether each section has received all its bytes.
 fn is_full(load: &Load) -> bool
     ensures { result ≡ is_full load.now }
 {
@@ -60,7 +64,7 @@ fn is_full(load: &Load) -> bool
         && is_filled(load, Part::Fci)
 }
 
-// Whether a section has got its bytes.
+// Whether a section has received all its bytes.
 fn is_filled(load: &Load, part: Part) -> bool
     ensures { result ≡ (got_len part load.now == part_len part load.now.site.sizes) }
 {

@@ -12,7 +12,11 @@ use crate::status::Status;
 use mc_apdu::Apdu;
 use mc_bank::{Bank, Slot};
 
-/// The application that DELETE takes out, else its first refusal.
+/// Returns the slot of the application that DELETE removes.
+///
+/// # Errors
+///
+/// Returns the status of its first refusal.
 pub fn deletion<B: Bank>(
     selected: &Option<Selection>,
     bank: &B,

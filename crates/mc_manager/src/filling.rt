@@ -16,7 +16,7 @@ use mc_apdu::Apdu;
 use mc_bank::{Bank, Part};
 use mc_base::Stop;
 
-/// The first refusal of a LOAD for a section.
+/// Returns the status of the first refusal of a LOAD command for a section, or `None` if there is none.
 #[tactic(auto, using(crate::proofs::LoadLemmas::length_got, crate::proofs::LoadLemmas::same_size))]
 pub fn load_refusal(load: &Option<Load>, part: Part, apdu: &Apdu) -> Option<Status>
     ensures { (v : BankView) → ForSome load.now (FitsLoad v)
@@ -39,7 +39,11 @@ pub fn load_refusal(load: &Option<Load>, part: Part, apdu: &Apdu) -> Option<Stat
     None
 }
 
-/// Writes a piece behind what a section has got.
+/// Writes a piece after the bytes that a section has received.
+///
+/// # Errors
+///
+/// Returns the `Stop` of the bank.
 #[tactic(auto, using(crate::proofs::LoadLemmas::fits_filled, crate::proofs::LoadLemmas::open_filled))]
 pub fn fill<B: Bank>(load: &mut Load, bank: &mut B, part: Part, piece: &[u8]) -> Result<(), Stop>
     requires going { (B.state bank.old).stopped ≡ false }

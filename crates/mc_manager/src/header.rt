@@ -6,15 +6,15 @@ ghost use Rattle.mc_bank.specs.Bank.{FitsLimits};
 use mc_apdu::Apdu;
 use mc_model_card::Sizes;
 
-/// P1 and P2 as one number.
+/// Returns P1 and P2 as one number.
 pub fn parameters(apdu: &Apdu) -> u16
     ensures { result ≡ p1p2 (parts_of apdu.now) }
 {
     u16::from_be_bytes([apdu.p1, apdu.p2])
 }
 
-/// The sizes of an OPEN: code, static segment, data, session, DIR and FCI, two bytes each, and P1 P2 as access list. `None`
-/// where its data are not 12 bytes.
+/// Returns the sizes in the data of an OPEN (code, static segment, data, session, DIR and FCI, two bytes
+/// each) with P1 P2 as the access list, or `None` if the data are not 12 bytes.
 pub fn sizes_in(apdu: &Apdu) -> Option<Sizes>
     ensures sizes { IfSome result (λ sizes. (sizes ≡ sizes_in (parts_of apdu.now)) × (length apdu.now.body.now ≡ 12)) }
     ensures none { IfNone result (length apdu.now.body.now ≢ 12) }
@@ -33,7 +33,7 @@ pub fn sizes_in(apdu: &Apdu) -> Option<Sizes>
     })
 }
 
-/// Whether sizes are within the limits of an application.
+/// Returns whether sizes are within the limits of an application.
 pub fn fits_limits(sizes: &Sizes) -> bool
     ensures value { result ≡ fits_limits sizes.now }
     ensures limits { result ≡ true → sizes.now.deny < 16 → FitsLimits sizes.now }

@@ -5,8 +5,8 @@ ghost use Rattle.mc_manager.specs.ManagerState.{view_of, ManagerState, ManagerFi
 
 use mc_bank::Bank;
 
-/// Whatever an application commits, and wherever a commit stops: a manager that fits the bank fits it afterwards, and stands
-/// for the same selection and the same load.
+/// Whatever an application commits, and wherever a commit stops: a manager that fits the bank fits it
+/// afterwards, and has the same selection and the same load.
 pub fn fits_through_commits<B: Bank>()
     ensures fits { (m : ManagerState) → (cs : List Words) → (b : B) → (a : Answer) → (e : B)
         → InOrder B.did b (commits cs) a e → ManagerFits (view_of B.state B.named B.room B.standing b) m

@@ -1,6 +1,7 @@
 #![tactic(auto)]
 
-//! The card manager: which command goes where, and the commands that select, load, create and delete applications.
+//! The card manager: the route of each command, and the commands that select, load, create and delete
+//! applications.
 
 mod creation;
 mod deletion;

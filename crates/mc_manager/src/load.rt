@@ -7,11 +7,11 @@ use arrayvec::ArrayVec;
 use mc_bank::{Part, Site};
 use std::marker::Model;
 
-/// The most bytes of a DIR record.
+/// The maximum length of a DIR record in bytes.
 pub const DIR_BYTES: usize = 128;
 
-/// An open load: its site, how many bytes code, data and FCI have got, and the bytes of the DIR, which name the
-/// application. All other bytes stand in the bank.
+/// An open load: its site, the number of bytes that code, data and FCI have received, and the bytes of the
+/// DIR, which name the application. All other bytes are in the bank.
 #[derive(Debug, Drop)]
 pub struct Load {
     site: Site,
@@ -30,7 +30,7 @@ impl Model for Load {
 }
 
 impl Load {
-    /// A load at a site, of which no section has got a byte.
+    /// Returns a load at `site` of which no section has received a byte.
     pub fn new(site: Site) -> Load
         ensures { result ≡ empty_load site }
     {
@@ -43,21 +43,21 @@ impl Load {
         }
     }
 
-    /// The site that the load fills.
+    /// Returns the site that the load fills.
     pub fn site(&self) -> &Site
         ensures { result.now ≡ self.now.site }
     {
         &self.site
     }
 
-    /// The bytes of the DIR record so far.
+    /// Returns the bytes of the DIR record that were received.
     pub fn dir(&self) -> &[u8]
         ensures { result.now ≡ self.now.dir }
     {
         self.dir.as_slice()
     }
 
-    /// How many bytes a section has got.
+    /// Returns the number of bytes that a section has received.
     pub fn got(&self, part: Part) -> u16
         ensures { result ≡ got_len part self.now }
     {
@@ -69,7 +69,7 @@ impl Load {
         }
     }
 
-    /// The size of a section.
+    /// Returns the size of a section in bytes.
     pub fn size(&self, part: Part) -> u16
         ensures { result ≡ part_len part self.now.site.sizes }
     {
@@ -82,7 +82,8 @@ impl Load {
         }
     }
 
-    /// A section has got these bytes more. It stays within its size, and the sizes within their limits.
+    /// Records that a section has received `piece`. The section stays within its size, and the sizes within
+    /// their limits.
     pub fn add(&mut self, part: Part, piece: &[u8])
         requires room { got_len part self.old + length piece.now ≤ part_len part self.old.site.sizes }
         requires limits { FitsLimits self.old.site.sizes }

@@ -42,7 +42,7 @@ impl Model for Manager {
 }
 
 impl Manager {
-    /// Nothing is selected, and no load is open. It fits every bank.
+    /// Returns a manager that has no selection and no open load. It fits every bank.
     pub fn new() -> Manager
         ensures empty { result ≡ record { selected = None; load = None } }
         ensures fits { (v : BankView) → ManagerFits v result }
@@ -63,7 +63,8 @@ impl Manager {
     ///
     /// # Errors
     ///
-    /// Returns the `Stop` of the bank, which comes only if a count of cuts or faults below it rose. The manager is of no more use then.
+    /// Returns the `Stop` of the bank, which comes only if the number of power cuts or of failed writes rose.
+    /// After a `Stop` the manager is not used again.
     pub fn command<B: Bank, L: Ledger>(
         &mut self,
         bank: &mut B,
@@ -76,23 +77,25 @@ impl Manager {
         ensures items { (s : List ℕ) → InOrder B.did bank.old
             (items_of (due (view_of B.state B.named B.room B.standing bank.old) s self.old (parts_of apdu.now)))
             (answer_of result) bank.new }
-        // The applications change as its row says; after a stop they are the old or the new ones.
+        // The applications change as the row of the command has it; after a stop they are the old or the new
+        // ones.
         ensures apps { (s : List ℕ) → Changes (B.state bank.old)
             (apps_after (due (view_of B.state B.named B.room B.standing bank.old) s self.old (parts_of apdu.now))
             (B.state bank.old).apps) (answer_of result) (B.state bank.new) }
-        // It is answered as its row says, or passed on: the first refusal changes nothing.
+        // It is answered as its row has it, or passed to the selected application: the first refusal changes
+        // nothing.
         ensures leaves { (s : List ℕ) → IfOk result (λ r. CommandLeaves
             (due (view_of B.state B.named B.room B.standing bank.old) s self.old (parts_of apdu.now)) s
             (view_of B.state B.named B.room B.standing bank.old) self.old r
             (view_of B.state B.named B.room B.standing bank.new) self.new) }
         // The manager fits the bank again.
         ensures fits { OnOk result (ManagerFits (view_of B.state B.named B.room B.standing bank.new) self.new) }
-        // The bank goes on.
+        // The bank has not stopped.
         ensures going { OnOk result ((B.state bank.new).stopped ≡ false) }
-        // An application that is there now was there before, or is what its own load sent.
+        // An application that is on the card now was there before, or consists of what its own load sent.
         ensures no_stale_byte { NoneStale (load_of (B.standing bank.old) self.old) (B.state bank.old).apps
             (B.state bank.new).apps }
-        // Steps are never taken back.
+        // The number of steps never falls.
         ensures rises { steps.old ≤ steps.new }
         // OPEN alone makes steps, at most as many as the bank allows.
         ensures ticks { steps.new ≤ steps.old + most_ticks (parts_of apdu.now) (B.state bank.old).ticks }
@@ -116,8 +119,8 @@ impl Manager {
     ///
     /// # Errors
     ///
-    /// Returns the `Stop` of the bank, which comes only if a count of cuts or faults below it rose. The contents of `reply` are unspecified
-    /// then, and the manager is of no more use.
+    /// Returns the `Stop` of the bank, which comes only if the number of power cuts or of failed writes rose.
+    /// The contents of `reply` are unspecified then, and the manager is not used again.
     pub fn rule<B: Bank, L: Ledger>(
         &mut self,
         bank: &mut B,
@@ -131,23 +134,25 @@ impl Manager {
         ensures items { (s : List ℕ) → InOrder B.did bank.old
             (items_of (due (view_of B.state B.named B.room B.standing bank.old) s self.old (parts_of apdu.now)))
             (answer_of result) bank.new }
-        // The applications change as its row says; after a stop they are the old or the new ones.
+        // The applications change as the row of the command has it; after a stop they are the old or the new
+        // ones.
         ensures apps { (s : List ℕ) → Changes (B.state bank.old)
             (apps_after (due (view_of B.state B.named B.room B.standing bank.old) s self.old (parts_of apdu.now))
             (B.state bank.old).apps) (answer_of result) (B.state bank.new) }
-        // It is answered as its row says, or passed on: the first refusal changes nothing.
+        // It is answered as its row has it, or passed to the selected application: the first refusal changes
+        // nothing.
         ensures leaves { (s : List ℕ) → IfOk result (λ r. CommandLeaves
             (due (view_of B.state B.named B.room B.standing bank.old) s self.old (parts_of apdu.now)) s
             (view_of B.state B.named B.room B.standing bank.old) self.old (ruling_with_reply r reply.new)
             (view_of B.state B.named B.room B.standing bank.new) self.new) }
         // The manager fits the bank again.
         ensures fits { OnOk result (ManagerFits (view_of B.state B.named B.room B.standing bank.new) self.new) }
-        // The bank goes on.
+        // The bank has not stopped.
         ensures going { OnOk result ((B.state bank.new).stopped ≡ false) }
-        // An application that is there now was there before, or is what its own load sent.
+        // An application that is on the card now was there before, or consists of what its own load sent.
         ensures no_stale_byte { NoneStale (load_of (B.standing bank.old) self.old) (B.state bank.old).apps
             (B.state bank.new).apps }
-        // Steps are never taken back.
+        // The number of steps never falls.
         ensures rises { steps.old ≤ steps.new }
         // OPEN alone makes steps, at most as many as the bank allows.
         ensures ticks { steps.new ≤ steps.old + most_ticks (parts_of apdu.now) (B.state bank.old).ticks }
@@ -155,7 +160,7 @@ impl Manager {
         self.route(bank, apdu, reply, steps)
     }
 
-    // A command by its route. It is the body of `rule`, by the relation that its parts keep.
+    // Runs a command by its route. It is the body of `rule`, with the relation that its parts ensure.
     #[inline(always)]
     fn route<B: Bank, L: Ledger>(
         &mut self,
@@ -187,7 +192,7 @@ impl Manager {
         Ok(self.pass(reply))
     }
 
-    // A command of class BE by its INS.
+    // Runs a command of class BE by its INS.
     #[tactic(auto, unfolding(mc_model_card::specs::Manager::manage))]
     fn manage<B: Bank, L: Ledger>(
         &mut self,
@@ -220,7 +225,7 @@ impl Manager {
         }
     }
 
-    // A command for the selected application.
+    // Passes a command to the selected application.
     fn pass(&self, reply: &mut Reply) -> Ruling
         ensures { (v : BankView) → (s : List ℕ)
             → CommandLeaves (due_application (selected_of s self.now)) s v self.now (ruling_with_reply result reply.new)

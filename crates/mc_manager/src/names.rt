@@ -6,7 +6,7 @@ use crate::selection::Selection;
 use mc_bank::Bank;
 use mc_base::Aid;
 
-/// The application whose name these bytes are, where it is on the card.
+/// Returns the application whose name is `name`, or `None` if it is not on the card.
 #[tactic(auto, using(crate::proofs::NameLemmas::no_other_names))]
 pub fn named<B: Bank>(bank: &B, name: &[u8]) -> Option<Selection>
     requires going { (B.state bank.now).stopped ≡ false }
@@ -14,7 +14,7 @@ pub fn named<B: Bank>(bank: &B, name: &[u8]) -> Option<Selection>
     ensures some { IfSome result (λ s. NamedBy (B.state bank.now).apps (B.named bank.now) name.now s) }
 {
     let Some(aid) = Aid::new(name) else {
-        // The applications on the card have names of 5 to 16 bytes, all of them.
+        // All applications on the card have names of 5 to 16 bytes.
         let _count = bank.count();
         return None;
     };

@@ -16,7 +16,11 @@ use std::sync::ledger::Ledger;
 /// The bits of an access list.
 const ACCESS_LIST: u16 = 0x000F;
 
-/// The load that OPEN opens, else its first refusal.
+/// Returns the load that OPEN opens.
+///
+/// # Errors
+///
+/// Returns the status of its first refusal.
 pub fn open<B: Bank, L: Ledger>(bank: &B, apdu: &Apdu, steps: &mut Steps<L>) -> Result<Load, Status>
     requires going { (B.state bank.now).stopped ≡ false }
     ensures opened { IfOk result (λ load. CanOpen (view_of B.state B.named B.room B.standing bank.now)

@@ -1,10 +1,10 @@
 use mc_apdu::Reply;
 use mc_bank::Slot;
 
-/// How the manager deals with a command.
+/// How the manager handles a command.
 ///
-/// `Answer` is its reply. `Fresh` is the reply to a SELECT that was done, with the application that is selected now: its
-/// session bytes are zero. `Pass` hands the command to the selected application.
+/// `Answer` has its reply. `Fresh` has the slot of the application that a SELECT has selected, whose session
+/// bytes are zeros, and the reply. `Pass` passes the command to the selected application.
 #[derive(Debug, Drop)]
 pub enum Routed {
     Answer(Reply),
@@ -12,7 +12,8 @@ pub enum Routed {
     Pass(Slot),
 }
 
-/// How the manager deals with a command whose reply stands beside it: `Answer` and `Fresh` have it there, `Pass` has none.
+/// How the manager handles a command whose reply is in a separate place: `Answer` and `Fresh` have written it
+/// there, `Pass` has none.
 #[derive(Clone, Copy, Debug, PartialEq, Eq)]
 pub enum Ruling {
     Answer,

@@ -14,7 +14,11 @@ use arrayvec::ArrayVec;
 use mc_apdu::{Apdu, Reply};
 use mc_bank::{Bank, Slot};
 
-/// The application that SELECT selects, else its first refusal.
+/// Returns the application that SELECT selects.
+///
+/// # Errors
+///
+/// Returns the status of its first refusal.
 pub fn selection<B: Bank>(bank: &B, apdu: &Apdu) -> Result<Selection, Status>
     requires going { (B.state bank.now).stopped ≡ false }
     ensures selected { IfOk result (λ s. CanSelect (B.state bank.now).apps (B.named bank.now) (parts_of apdu.now) s) }
@@ -33,7 +37,7 @@ pub fn selection<B: Bank>(bank: &B, apdu: &Apdu) -> Result<Selection, Status>
     }
 }
 
-/// Makes a reply that to the SELECT of an application: with P2 00 the front of its FCI.
+/// Writes to `reply` the reply to the SELECT of an application: with P2 00 the first bytes of its FCI.
 pub fn say_selected<B: Bank>(bank: &B, slot: Slot, apdu: &Apdu, reply: &mut Reply)
     requires going { (B.state bank.now).stopped ≡ false }
     requires there { IsSome (B.named bank.now slot) }
@@ -45,7 +49,7 @@ pub fn say_selected<B: Bank>(bank: &B, slot: Slot, apdu: &Apdu, reply: &mut Repl
     reply.sw = Status::Done.word();
 }
 
-// Puts the data of the reply: with P2 00 the front of the FCI.
+// Writes the data of the reply: with P2 00 the first bytes of the FCI.
 fn put_data<B: Bank>(bank: &B, slot: Slot, apdu: &Apdu, body: &mut ArrayVec<u8, 1024>)
     requires going { (B.state bank.now).stopped ≡ false }
     requires there { IsSome (B.named bank.now slot) }
@@ -59,7 +63,7 @@ fn put_data<B: Bank>(bank: &B, slot: Slot, apdu: &Apdu, body: &mut ArrayVec<u8, 
     put_fci(bank, slot, apdu.le.unwrap_or(0), body);
 }
 
-// Puts the first bytes of the FCI, at most so many.
+// Appends the first bytes of the FCI, at most `most` of them.
 #[tactic(auto, using(crate::proofs::SelectLemmas::take_least))]
 fn put_fci<B: Bank>(bank: &B, slot: Slot, most: u16, body: &mut ArrayVec<u8, 1024>)
     requires going { (B.state bank.now).stopped ≡ false }

@@ -1,7 +1,7 @@
 use mc_bank::Slot;
 use mc_base::Aid;
 
-/// The selected application.
+/// The selected application: its slot and its name.
 #[derive(Clone, Copy, Debug)]
 pub struct Selection {
     pub slot: Slot,

@@ -4,19 +4,19 @@ ghost use Rattle.mc_manager.specs.Status.{word_of};
 
 use mc_apdu::Reply;
 
-/// How a command of the manager ends (status words of ISO/IEC 7816-4).
+/// The outcome of a command of the manager, as a status word of ISO/IEC 7816-4.
 #[derive(Clone, Copy, Debug, PartialEq, Eq)]
 pub enum Status {
     Done,
-    /// The command lacks data, or has data that it may not have.
+    /// The length of the data is wrong.
     WrongLength,
-    /// Conditions not satisfied.
+    /// Conditions of use not satisfied.
     Conditions,
     /// Wrong data.
     WrongData,
     /// The name is not on the card.
     NotFound,
-    /// 32 applications are there, or the sizes have no room.
+    /// The card has 32 applications already, or no room for the sizes.
     NoRoom,
     /// Wrong P1 P2.
     WrongParameters,
@@ -29,7 +29,7 @@ pub enum Status {
 }
 
 impl Status {
-    /// The status word.
+    /// Returns the status word of ISO/IEC 7816-4.
     pub fn word(self) -> u16
         ensures { result ≡ word_of self }
     {
@@ -47,7 +47,7 @@ impl Status {
         }
     }
 
-    /// Makes a reply this status alone.
+    /// Makes `reply` this status word without data.
     pub fn say(self, reply: &mut Reply)
         ensures { RepliesWith [] (word_of self) reply.new }
     {

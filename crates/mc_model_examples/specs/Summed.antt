@@ -1,4 +1,4 @@
--- The play of a generated deck in parts: what the lines of a part add to the summary, and the state between two parts.
+-- The play of a generated deck in parts: the counts that the lines of a part add to the summary, and the state between two parts.
 use Rattle.std.specs.Prelude.{ℕ, ◌+◌, List, [], ◌∷◌, ◌++◌, length, codes, decimal, Option, Some, None}
 use Rattle.mc_model_device.specs.Device.{blank_words, device_words}
 use Rattle.mc_model_device.specs.Image.{Journal}
@@ -15,7 +15,7 @@ use Rattle.mc_model_examples.specs.Played.{steps_on}
 unfoldable pub generated_play : ℕ → List Step
 generated_play n = plays (start (blank_words device_words)) (deck_of_number n) []
 
--- ---- what lines add to a summary
+-- ---- the counts that lines add to a summary
 
 -- the counts of a summary
 pub record Summed : Type 0 where
@@ -40,7 +40,7 @@ counts_of_play ts =
       dumps = dump_lines ts;
     }
 
--- one part after another
+-- the counts of two parts in sequence
 abbrev pub sum_of_counts : Summed → Summed → Summed
 sum_of_counts a b =
     record {
@@ -65,12 +65,12 @@ summed_text s =
 abbrev pub counts_and_state : State → List Step → Summed × State
 counts_and_state s ts = (counts_of_play ts, last_state s ts)
 
--- what some lines add from a state on, and the state after them
+-- the counts that some lines add from a state on, and the state after them
 unfoldable pub part : State → List (ℕ × DeckLine) → Summed × State
 unfolding steps_on
 part s ls = counts_and_state s (plays s ls [])
 
--- an application of a unit, with these static bytes at this place
+-- the application of a unit, with these static bytes at this place
 abbrev pub app_of : UnitParts → List ℕ → ℕ → App
 app_of u fixed place = record { code = u.code; fixed = fixed; session = 0; deny = 0; dir = u.dir; fci = u.fci; place = place }
 
@@ -79,7 +79,8 @@ abbrev pub purse_in : Option (List ℕ) → List (List ℕ × App)
 purse_in None = []
 purse_in (Some fixed) = (purse_aid, app_of purse fixed 143) ∷ []
 
--- the play right after a `power` line that was ready: the counter's and the purse's static bytes, and the journal that owed last
+-- the state right after a `power` line that found a card: the static bytes of the counter and of the purse, and the journal of the last
+-- recovery
 unfoldable pub between : List ℕ → Option (List ℕ) → Journal → State
 between fixed purse_fixed by =
     Hot (record {

@@ -1,4 +1,4 @@
-// Whole decks, each with the text that its play writes on a blank device of 8,192 words, or the trace of its instructions.
+// Complete decks, each with the output of its play on a blank device of 8,192 words, or the trace of its instructions.
 
 mod many_cuts;
 mod migrations_1;

@@ -1,4 +1,4 @@
-// Worked rows: what the definitions give on texts whose answers are known.
+// Worked rows: the values of the definitions on texts with known results.
 
 mod assembly;
 mod assembly_texts;

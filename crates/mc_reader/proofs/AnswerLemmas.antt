@@ -1,4 +1,4 @@
--- The answer of one frame, and of the frames behind it.
+-- The answer to one frame, and to the frames after it.
 use Rattle.std.proofs.Common.{◌≡◌, ℕ, ◌<◌, List, [], ◌∷◌, ◌++◌, length, Option, Some, None, refl, arith, sym, ◌∙◌, ap, subst, append_assoc, append-nil}
 use Rattle.std.specs.Prelude.{option_map}
 use Rattle.mc_model_device.specs.Device.{DeviceState}
@@ -47,7 +47,7 @@ answer_is state p (Some (answer.Dump aid)) =
 
 -- ---- what was written
 
--- one answer more
+-- one more answer
 present_more : (os : List (Option (List ℕ))) (o : Option (List ℕ)) → frames_bytes (present (os ++ o ∷ [])) ≡ frames_bytes (present os) ++ answer_frame o
 present_more [] None = refl
 present_more [] (Some f) = append-nil (frame_bytes f)
@@ -61,13 +61,13 @@ written_more x y z os o h k =
       counted = omega (arith, h.counted, k.counted);
     }
 
--- no bytes have no part that is left
+-- empty bytes have no part that is left
 no_part : (front back : List ℕ) → [] ≡ front ++ back → 0 < length back → ⊥
 no_part [] [] e some = omega (arith, some)
 no_part [] (b ∷ bs) e some = cc e
 no_part (x ∷ xs) back e some = cc e
 
--- nothing is written of a frame without an answer, so that it cannot fail
+-- nothing is written for a frame without an answer, so that writing it cannot fail
 pub written_cut : (x y z : Sunk) (os : List (Option (List ℕ))) (o : Option (List ℕ)) → AnswersWritten x os y → text.Fails y (answer_frame o) z → AnswersCut x (os ++ o ∷ []) z
 written_cut x y z os None h k = absurd (no_part k.part.front k.part.rest k.part.parts k.part.some_left)
 written_cut x y z os (Some f) h k =

@@ -1,4 +1,4 @@
--- Bytes that are frames, one behind the other.
+-- Bytes that are frames, in sequence.
 use Rattle.std.proofs.Common.{◌≡◌, ℕ, zero, suc, ◌+◌, ◌*◌, ◌/◌, ◌%◌, ◌<◌, ◌≤◌, List, [], ◌∷◌, ◌++◌, length, Some, None, refl, arith, sym, ◌∙◌, ap, append_assoc, append-nil, length-append}
 use Rattle.std.specs.List.{AllByRecursion}
 use Rattle.std.proofs.lemmas.Bool.{le-leb}
@@ -6,7 +6,7 @@ use Rattle.std.proofs.lemmas.List.{take_at, drop_at}
 use Rattle.mc_model_device.specs.Bytes.{AreBytes}
 use Rattle.mc_reader.specs.Frames.{frame_bytes, frames_bytes, first_frame, frames_within, frames_read}
 
--- a frame is bytes, and its length fits two of them
+-- a frame consists of bytes, and its length fits two bytes
 abbrev pub LengthFits : List ℕ → Type 0
 LengthFits f = (length f < 65536) × AreBytes f
 
@@ -22,12 +22,12 @@ first_framed f rest fits =
     let long : length f ≤ length (f ++ rest) = rw (length-append f rest) (omega arith) in
     rw (size, le-leb (length f) (length (f ++ rest)) long, take_at f rest (length f) refl, drop_at f rest (length f) refl) refl
 
--- frames have at least as many bytes as they are
+-- there are at most as many frames as bytes in them
 count_frames : (fs : List (List ℕ)) → length fs ≤ length (frames_bytes fs)
 count_frames [] = omega arith
 count_frames (f ∷ fs) = rw (length-append f (frames_bytes fs)) (omega (arith, count_frames fs))
 
--- frames, and bytes that are less than one more
+-- frames, and bytes that are less than one more frame
 frames_whole : (k : ℕ) (fs : List (List ℕ)) (part : List ℕ) → length fs ≤ k → AllByRecursion LengthFits fs → first_frame part ≡ None → frames_within k (frames_bytes fs ++ part) ≡ (fs, part)
 unfolding frames_within
 frames_whole zero [] part few fit less = refl
@@ -39,13 +39,13 @@ frames_whole (suc k) (f ∷ fs) part few fit less =
     ap first_frame (append_assoc (frame_bytes f) (frames_bytes fs) part) ∙ first_framed f (frames_bytes fs ++ part) fit.0 in
     rw (first, rest) refl
 
--- what was taken, frame by frame
+-- the bytes taken, frame by frame
 pub frames_are : (fs : List (List ℕ)) (part : List ℕ) → AllByRecursion LengthFits fs → first_frame part ≡ None → frames_read (frames_bytes fs ++ part) ≡ (fs, part)
 frames_are fs part fit less =
     let count : length fs ≤ length (frames_bytes fs ++ part) = rw (length-append (frames_bytes fs) part) (omega (arith, count_frames fs)) in
     frames_whole (length (frames_bytes fs ++ part)) fs part count fit less
 
--- one frame more
+-- one more frame
 pub framed_more : (fs : List (List ℕ)) (f : List ℕ) → frames_bytes (fs ++ f ∷ []) ≡ frames_bytes fs ++ frame_bytes f
 framed_more [] f = append-nil (frame_bytes f)
 framed_more (g ∷ fs) f = ap (λ t. frame_bytes g ++ t) (framed_more fs f) ∙ sym (append_assoc (frame_bytes g) (frames_bytes fs) (frame_bytes f))

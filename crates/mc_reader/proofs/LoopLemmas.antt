@@ -26,20 +26,20 @@ use Rattle.mc_reader.proofs.AnswerLemmas.{written_more, written_cut}
 use Rattle.mc_reader.proofs.ServingLemmas.{frames_none, frames_on}
 use Rattle.mc_script.proofs.LinedLemmas.{at_stands}
 
--- what was told of source and sink and bench when a loop began
+-- the state of source, sink and bench when a loop began
 pub record Start : Type 0 where
   pub left : Option (List ℕ)
   pub reads : ℕ
   pub out : Sunk
   pub dev : Bench
 
--- the same, and what is told now
+-- the state of source, sink and bench then and now
 abbrev pub around : Start → Option (List ℕ) → ℕ → Sunk → Bench → AroundSession
 around v left reads out dev = record { left_old = v.left; left = left; reads_old = v.reads; reads = reads; out_old = v.out; out = out; dev_old = v.dev; dev = dev }
 
 module _ {N : Type 0} (state : N → DeviceState) (bench : N → BenchState) where
-  -- So many frames were served, and the player stands for a state of the play: whatever frames are served from here, they and those before
-  -- them are served from the start.
+  -- `count` frames were served, and the player represents a state of the play: whatever frames are served from here, they and those
+  -- before them are served from the start
   pub record SessionReached (s : State) (n : ℕ) (v : Start) (count : ℕ) (p : Player N) (powered : Bool) (left : Option (List ℕ)) (reads : ℕ) (out : Sunk) : Type 0 where
     pub frames : List (List ℕ)
     pub answers : List (Option (List ℕ))
@@ -71,7 +71,7 @@ module _ {N : Type 0} (state : N → DeviceState) (bench : N → BenchState) whe
         many = refl;
       }
 
-  -- the frames that were served are served from the start, with those behind one more
+  -- frames that are served after one more are served from the start with those before them
   rest_on : (s : State) (n : ℕ) (v : Start) (count : ℕ) (p q : Player N) (powered : Bool) (left : Option (List ℕ)) (reads : ℕ) (out : Sunk)
       (h : SessionReached s n v count p powered left reads out) (f : List ℕ) (u : State) (told : Option LineResult)
       → Moves h.here h.number (line_in (meaning powered f)) (bench_of state bench p) told u (bench_of state bench q)
@@ -84,7 +84,7 @@ module _ {N : Type 0} (state : N → DeviceState) (bench : N → BenchState) whe
       subst (λ (gs : List (List ℕ)). ServedFrames s n false gs v.dev ((h.answers ++ o ∷ []) ++ os) c) (sym (append_assoc h.frames (f ∷ []) fs))
       (subst (λ (qs : List (Option (List ℕ))). ServedFrames s n false (h.frames ++ f ∷ fs) v.dev qs c) (sym (append_assoc h.answers (o ∷ []) os)) whole)
 
-  -- the bytes of one frame more
+  -- the bytes of one more frame
   took_on : (v : Start) (fs : List (List ℕ)) (f : List ℕ) (left next : Option (List ℕ)) → Took v.left left (frames_bytes fs) → Took left next (frame_bytes f) → Took v.left next (frames_bytes (fs ++ f ∷ []))
   took_on v fs f left next h k =
       subst (λ (t : List ℕ). Took v.left next t) (sym (framed_more fs f)) (took_append v.left left next (frames_bytes fs) (frame_bytes f) h k)
@@ -115,7 +115,7 @@ module _ {N : Type 0} (state : N → DeviceState) (bench : N → BenchState) whe
         many = many_on h.frames f count h.many;
       }
 
-  -- no frame more is served
+  -- no more frame is served
   finish : (s : State) (n : ℕ) (v : Start) (fs : List (List ℕ)) (os : List (Option (List ℕ))) (part : List ℕ) (left : Option (List ℕ)) (reads : ℕ) (out : Sunk) (c : Bench) (result : Result (Unit {0}) ServeError)
       → Took v.left left (frames_bytes fs ++ part) → AllByRecursion LengthFits fs → first_frame part ≡ None → v.reads ≤ reads → ServedFrames s n false (fs ++ []) v.dev (os ++ []) c
       → EndsBy fs part os result (around v left reads out c) → ServedFrom s n result (around v left reads out c)
@@ -135,7 +135,7 @@ module _ {N : Type 0} (state : N → DeviceState) (bench : N → BenchState) whe
         ends = ends;
       }
 
-  -- no frame more is served behind those that were
+  -- no more frame is served after those that were
   served_end : (s : State) (n : ℕ) (v : Start) (count : ℕ) (p : Player N) (powered : Bool) (left next : Option (List ℕ)) (reads more : ℕ) (out : Sunk)
       (h : SessionReached s n v count p powered left reads out) (part : List ℕ) (result : Result (Unit {0}) ServeError) → Took left next part → first_frame part ≡ None → reads ≤ more
       → EndsBy h.frames part h.answers result (around v next more out (bench_of state bench p)) → ServedFrom s n result (around v next more out (bench_of state bench p))
@@ -150,7 +150,7 @@ module _ {N : Type 0} (state : N → DeviceState) (bench : N → BenchState) whe
   served_whole s n v count p powered left next reads more out h took counted =
       served_end s n v count p powered left next reads more out h [] (Ok tt) took.took refl counted (record { between = refl; end = inl took.end; written = h.written })
 
-  -- as many frames came as can be counted
+  -- the greatest number of frames that can be counted was received
   pub served_all : (s : State) (n : ℕ) (v : Start) (count : ℕ) (p : Player N) (powered : Bool) (left : Option (List ℕ)) (reads : ℕ) (out : Sunk)
       → SessionReached s n v count p powered left reads out → last_count ≤ count → ServedFrom s n (Ok tt) (around v left reads out (bench_of state bench p))
   served_all s n v count p powered left reads out h all =

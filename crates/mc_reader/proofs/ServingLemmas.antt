@@ -1,4 +1,4 @@
--- One frame that was served, and the frames behind it.
+-- One frame that was served, and the frames after it.
 use Rattle.std.proofs.Common.{◌≡◌, ℕ, ◌+◌, Bool, List, [], ◌∷◌, ◌++◌, drop, Option, Some, None, Result, refl, sym, ◌∙◌, ap, subst}
 use Rattle.std.specs.Prelude.{option_map}
 use Rattle.mc_model_device.specs.Device.{DeviceState, BenchState}
@@ -35,7 +35,7 @@ module _ {N : Type 0} (state : N → DeviceState) (bench : N → BenchState) whe
         puts = puts;
       }
 
-  -- a frame with a line, whose answer is due by the line's result
+  -- a frame with a line, whose answer follows from the line's result
   with_line : (p q : Player N) (s : State) (n : ℕ) (m : Meaning) (l : DeckLine) (answer : Option Answer) (x y : Sunk) (r : Result (Unit {0}) WriteFault) → line_in m ≡ Some l
       → IsPlayerAt state bench p s → PlaysLine state bench p (Some l) answer q → Puts x (answer_frame (answer_to m (option_map (answer_value state q) answer))) r y → ServesFrame state bench p s n m x r q y
   with_line p q s n m l answer x y r some at plays puts =
@@ -63,13 +63,13 @@ module _ {N : Type 0} (state : N → DeviceState) (bench : N → BenchState) whe
       (subst (λ (t : List ℕ). Puts x (answer_frame (Some t)) r y) (sym (answer_is state q answer)) puts)
   frame_served p q s n Unheard answer x y r at plays puts = without_line p q s n Unheard x y r refl at plays puts
 
--- ---- a frame, and those behind it
+-- ---- a frame, and those after it
 
 -- no frame
 pub frames_none : (s : State) (n : ℕ) (powered : Bool) (a : Bench) → StandsForState a.device.words s → IsUnfused a.bench → ServedFrames s n powered [] a [] a
 frames_none s n powered a stands unfused = record { worn = []; played = played_none s a stands unfused; answers = refl }
 
--- the lines of frames behind one with a meaning, and what it and they are answered
+-- the lines of frames after one with a meaning, and the answers to it and to them
 record ServedBehind (s : State) (n : ℕ) (powered : Bool) (m : Meaning) (fs : List (List ℕ)) (a : Bench) (os : List (Option (List ℕ))) (c : Bench) : Type 0 where
   worn : List (Option WornAt)
   played : Played s (line_with_number n (line_in m) ++ lines_of (number_after n (line_in m)) (power_after powered m) fs) worn a c
@@ -77,13 +77,13 @@ record ServedBehind (s : State) (n : ℕ) (powered : Bool) (m : Meaning) (fs : L
       let ts = plays s (line_with_number n (line_in m) ++ lines_of (number_after n (line_in m)) (power_after powered m) fs) worn in
       os ≡ answer_to m (first_result ts) ∷ answer_each (power_after powered m) fs (steps_behind (line_in m) ts)
 
--- behind a frame without a line
+-- frames after a frame without a line
 behind_none : (s u : State) (n : ℕ) (q : Bool) (fs : List (List ℕ)) (a b c : Bench) (told : Option LineResult) (os : List (Option (List ℕ)))
     → Moves s n None a told u b → ServedFrames u n q fs b os c → ServedFrames s n q fs a os c
 behind_none s u n q fs a b c told os m h =
     subst (λ (v : State). ServedFrames v n q fs a os c) m.0 (subst (λ (d : Bench). ServedFrames u n q fs d os c) m.1 h)
 
--- behind a line
+-- frames after a line
 record BehindLine (s : State) (n : ℕ) (l : DeckLine) (q : Bool) (fs : List (List ℕ)) (a c : Bench) (told : Option LineResult) (os : List (Option (List ℕ))) : Type 0 where
   worn : List (Option WornAt)
   played : Played s ((n + 1, l) ∷ lines_of (n + 1) q fs) worn a c
@@ -136,7 +136,7 @@ behind s u n powered Unheard fs a b c told os m h =
     let r = behind_none s u n _ fs a b c told os m h in
     record { worn = r.worn; played = r.played; answers = ap (λ (qs : List (Option (List ℕ))). Some [] ∷ qs) r.answers }
 
--- a frame that was served, and those behind it
+-- a frame that was served, and those after it
 pub frames_on : (s u : State) (n : ℕ) (powered : Bool) (f : List ℕ) (fs : List (List ℕ)) (a b c : Bench) (told : Option LineResult) (os : List (Option (List ℕ)))
     → Moves s n (line_in (meaning powered f)) a told u b
     → ServedFrames u (number_after n (line_in (meaning powered f))) (power_after powered (meaning powered f)) fs b os c

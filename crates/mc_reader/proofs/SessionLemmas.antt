@@ -1,4 +1,4 @@
--- A deck that was played, and the frames that were served behind it, as one session.
+-- A deck that was played, and the frames that were served after it, as one session.
 use Rattle.std.proofs.Common.{◌≡◌, ℕ, suc, Bool, true, false, cond, List, [], ◌∷◌, ◌++◌, length, take, drop, Option, Some, None, Result, Ok, Err, refl, sym, ◌∙◌, ap, subst}
 use Rattle.std.specs.Prelude.{◌&&◌, ◌==◌, nat_le, IfOk, IfSome}
 use Rattle.std.specs.List.{AllByRecursion}
@@ -36,7 +36,7 @@ steps_behind_deck s u deck ls ws vs many last =
     ∙ drop_at (plays s deck ws) (plays (last_state s (plays s deck ws)) ls vs) (length deck) (length_plays s deck ws)
     ∙ ap (λ (v : State). plays v ls vs) (sym last)
 
--- how a session ends does not speak of the device
+-- the end of a session does not depend on the device
 ends_same : (fs : List (List ℕ)) (part : List ℕ) (os : List (Option (List ℕ))) (result : Result (Unit {0}) ServeError) (a : AroundSession) (b c : Bench) → EndsBy fs part os result (record a { dev_old = b; dev = c }) → EndsBy fs part os result a
 ends_same fs part os (Ok u) a b c h = record { between = h.between; end = h.end; written = h.written }
 ends_same fs part os (Err (fault.Short n)) a b c h = record { some = h.some; end = h.end; number = h.number; written = h.written }
@@ -46,7 +46,7 @@ ends_same fs part os (Err fault.NoMemory) a b c h = h
 
 -- ---- lines of bytes
 
--- an order is no line that carries bytes
+-- an order is a line that carries no bytes
 plain_cond : (b : Bool) (r q : Result DeckLine ℕ) → IfOk r IsLine → IfOk q IsLine → IfOk (cond b r q) IsLine
 plain_cond true r q h k = h
 plain_cond false r q h k = k
@@ -92,7 +92,7 @@ carries_power : (powered : Bool) (f : List ℕ) → AreBytes f → Carries (by_p
 carries_power true f bytes = bytes
 carries_power false f bytes = tt
 
--- a frame of bytes means no line of anything else
+-- the meaning of a frame of bytes has no line with anything else
 carries : (powered : Bool) (f : List ℕ) → AreBytes f → Carries (meaning powered f)
 carries powered [] bytes = tt
 carries powered (b ∷ []) bytes =
@@ -144,7 +144,7 @@ served_deck deck result a b u worn image bytes leads h =
       ends = subst (λ (os : List (Option (List ℕ))). EndsBy h.frames h.part os result a) are (ends_same h.frames h.part h.answers result a b a.dev h.ends);
     }
 
--- a session is not without memory
+-- a session is not out of memory
 serves : (deck : List (ℕ × DeckLine)) (result : Result (Unit {0}) ServeError) (a : AroundSession) → Served deck result a → Serves deck result a
 serves deck (Ok u) a h = h
 serves deck (Err (fault.Short n)) a h = h
@@ -159,7 +159,7 @@ bench_same x y device bench =
     let second : record { device = y.device; bench = x.bench } ≡ y = ap (λ (b : BenchState). record { device = y.device; bench = b }) bench in
     first ∙ second
 
--- a session on a device that is lent to its player, and handed back
+-- a session on a device that its player borrows and returns
 pub served_session : (deck : List (ℕ × DeckLine)) (result : Result (Unit {0}) ServeError) (a : AroundSession) (d b c : Bench) (u : State) (worn : List (Option WornAt))
     → IsImage a.dev_old.device.words → AllByRecursion (λ l. IsLine l.1) deck → LeadsTo (start a.dev_old.device.words) deck worn d u b → ServedFrom u (last_number deck) result (record a { dev_old = b; dev = c })
     → d.device ≡ a.dev_old.device → d.bench ≡ a.dev_old.bench → c.device ≡ a.dev.device → c.bench ≡ a.dev.bench → Serves deck result a

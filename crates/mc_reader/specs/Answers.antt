@@ -1,5 +1,4 @@
--- What the frames of a session are answered, by the steps of the play.
--- ISO/IEC 7816-3 (the ATR); ISO/IEC 7816-4 (status bytes).
+-- The answers to the frames of a session, by the steps of the play. ISO/IEC 7816-3 (the ATR); ISO/IEC 7816-4 (status bytes).
 use Rattle.std.specs.Prelude.{ℕ, Bool, false, List, [], ◌∷◌, ◌++◌, length, drop, Option, Some, None}
 use Rattle.mc_model_device.specs.Bytes.{bytes2}
 use Rattle.mc_model_machine.specs.Chain.{Outcome, Reply, Abended}
@@ -9,22 +8,22 @@ use Rattle.mc_model_machine.specs.Words.{abend_code}
 use Rattle.mc_reader.specs.Meanings.{Meaning, PowerOn, PowerOff, WantsAtr, Nothing, Orders, Refused, ToCard, Unheard, meaning, power_after}
 use Rattle.mc_reader.specs.Lines.{line_in}
 
--- the answer to reset: T=0 and T=1 are offered, the historical bytes are MELCARD, and the last byte checks those before it
+-- the answer to reset: it offers T=0 and T=1, its historical bytes are MELCARD, and its last byte is the check byte
 abbrev pub atr : List ℕ
 atr = 0x3B ∷ 0x87 ∷ 0x80 ∷ 0x01 ∷ 0x4D ∷ 0x45 ∷ 0x4C ∷ 0x43 ∷ 0x41 ∷ 0x52 ∷ 0x44 ∷ 0x56 ∷ []
 
--- the bytes of an outcome: a reply is its data and its status, an abend has a status of its own
+-- the bytes of an outcome: those of a reply are its data and its status word, and an abend has a status word of its own
 abbrev pub outcome_bytes : Outcome → List ℕ
 outcome_bytes (Reply body sw) = body ++ bytes2 sw
 outcome_bytes (Abended cause) = 0x6F ∷ abend_code cause ∷ []
 
--- the bytes of the result of a command; where power was cut, no card runs or the card is mute, it gives no answer
+-- the bytes of the result of a command; if power was cut, no card runs or the card is mute, there are none
 abbrev pub result_bytes : Option LineResult → List ℕ
 result_bytes (Some (Answered o)) = outcome_bytes o
 result_bytes (Some WornStop) = bytes2 0x6581
 result_bytes _ = []
 
--- what a frame is answered, where its line has this result, and `None` where it is not answered
+-- the answer to a frame by the result of its line, `None` if it is not answered
 abbrev pub answer_to : Meaning → Option LineResult → Option (List ℕ)
 answer_to PowerOn r = None
 answer_to PowerOff r = None
@@ -40,12 +39,12 @@ abbrev pub first_result : List Step → Option LineResult
 first_result [] = None
 first_result (t ∷ ts) = t.result
 
--- the steps behind that of a line, if there is a line
+-- the steps after that of a line, if there is a line
 abbrev pub steps_behind : Option DeckLine → List Step → List Step
 steps_behind None ts = ts
 steps_behind (Some l) ts = drop 1 ts
 
--- for each frame what it is answered, by the steps of the frames' lines
+-- the answer to each frame, by the steps of the frames' lines
 abbrev pub answer_each : Bool → List (List ℕ) → List Step → List (Option (List ℕ))
 answer_each powered [] ts = []
 answer_each powered (f ∷ fs) ts =
@@ -58,6 +57,6 @@ present [] = []
 present (None ∷ os) = present os
 present (Some a ∷ os) = a ∷ present os
 
--- for each frame of a session what it is answered, by the steps of the whole play
+-- the answer to each frame of a session, by the steps of the whole play
 abbrev pub session_answers : List (ℕ × DeckLine) → List (List ℕ) → List Step → List (Option (List ℕ))
 session_answers deck fs ts = answer_each false fs (drop (length deck) ts)

@@ -1,4 +1,4 @@
--- What a session on a blank device of 256 words answers, from the text of its deck and the bytes of its frames. For worked rows: no
+-- The answers of a session on a blank device of 256 words, from the text of its deck and the bytes of its frames. For worked rows: no
 -- contract rests on it.
 use Rattle.std.specs.Prelude.{ℕ, List, [], Result, Ok, Err}
 use Rattle.mc_model_play.specs.declared.deck.DeckCause.{DeckCause}
@@ -10,12 +10,12 @@ use Rattle.mc_reader.specs.Frames.{frames_bytes, frames_within, frames_read}
 use Rattle.mc_reader.specs.Lines.{session_lines}
 use Rattle.mc_reader.specs.Answers.{present, session_answers}
 
--- the answers to frames behind a deck
+-- the answers to frames after a deck
 abbrev pub answers_to_frames : Result (List (ℕ × DeckLine)) (ℕ × DeckCause) → List (List ℕ) → List ℕ
 answers_to_frames (Ok deck) fs = frames_bytes (present (session_answers deck fs (steps_on (blank_words 256) (session_lines deck fs))))
 answers_to_frames (Err e) fs = []
 
--- the same from a deck's text, and from bytes in hexadecimal
+-- the answers to frames after a deck, from the text of the deck and the bytes in hexadecimal
 unfoldable pub answers_to_input : List ℕ → List ℕ → List ℕ
 unfolding deck_read steps_on frames_within
 answers_to_input deck input = answers_to_frames (deck_read deck) ((frames_read (hex input)).0)

@@ -1,4 +1,4 @@
--- What a frame asks for as the code has it, and what it stands for.
+-- The requests of frames as the code has them, and what they represent.
 use Rattle.std.specs.Prelude.{◌≡◌, ℕ, ◌<◌, length, Result, Ok, Err}
 use Rattle.mc_model_play.specs.DeckGrammar.{DeckLine}
 use Rattle.mc_model_play.specs.DeckGrammar as line
@@ -12,7 +12,7 @@ use Rattle.mc_reader.specs.declared.order.Refusal.TheVariants as refusal
 use Rattle.mc_reader.specs.declared.request.Request.{Request}
 use Rattle.mc_reader.specs.declared.request.Request.TheVariants as request
 
--- the status of a refusal
+-- the status word of a refusal
 abbrev pub status_of : Refusal → ℕ
 status_of refusal.WrongLength = wrong_length
 status_of refusal.WrongInstruction = wrong_instruction
@@ -25,7 +25,7 @@ order_line (order.Cut k fill) = line.Cut k fill
 order_line (order.Fail k) = line.Fail k
 order_line (order.Budget n) = line.Budget n
 
--- what a command to the reader orders, or its refusal
+-- the order of a command to the reader, or its refusal, as the model has it
 abbrev pub Orders : Result DeckLine ℕ → Result Order Refusal → Type 0
 Orders said (Ok o) = said ≡ Ok (order_line o)
 Orders said (Err r) = said ≡ Err (status_of r)
@@ -41,7 +41,7 @@ meaning_of (request.Refused r) = meaning.Refused (status_of r)
 meaning_of (request.ToCard b) = meaning.ToCard b.now
 meaning_of request.Unheard = meaning.Unheard
 
--- the line of a request is in the ranges of the deck grammar
+-- the numbers in the line of a request are in the ranges of the deck grammar
 abbrev pub IsGoodRequest : Request → Type 0
 IsGoodRequest (request.Order o) = GoodLine (order_line o)
 IsGoodRequest (request.ToCard b) = 0 < length b.now

@@ -1,4 +1,4 @@
--- What the parts of a session do: one frame, and frames that are served from a state of a play on.
+-- The parts of a session: one frame, and frames that are served from a state of a play.
 use Rattle.std.specs.Prelude.{◌≡◌, ℕ, ◌+◌, ◌≤◌, Bool, false, List, Option, Some, None, Result}
 use Rattle.std.specs.List.{AllByRecursion}
 use Rattle.mc_model_device.specs.Bytes.{AreBytes}
@@ -23,19 +23,19 @@ use Rattle.mc_reader.specs.declared.serve_error.ServeError.{ServeError}
 
 -- ---- one frame
 
--- The line of a frame, if it has one, was played from a state, numbered on from n: its result, and the state behind it.
+-- the play of the line of a frame, if it has one, from a state and with the number after n: its result, and the state after it
 abbrev pub Moves : State → ℕ → Option DeckLine → Bench → Option LineResult → State → Bench → Type 0
 Moves s n None a r u b = (u ≡ s) × (b ≡ a)
 Moves s n (Some l) a r u b =
     (w : Option WornAt) × PlayedLine s (n + 1, l) w (step s (n + 1, l) w) a b × (r ≡ (step s (n + 1, l) w).result) × (u ≡ (step s (n + 1, l) w).after)
 
 module _ {N : Type 0} (state : N → DeviceState) (bench : N → BenchState) where
-  -- a line that may be missing was played, whatever its number; without one nothing changed
+  -- a line that may be missing was played, whatever its number; without a line nothing has changed
   abbrev pub PlaysLine : Player N → Option DeckLine → Option Answer → Player N → Type 0
   PlaysLine p None answer q = q ≡ p
   PlaysLine p (Some l) answer q = (s : State) (n : ℕ) → IsPlayerAt state bench p s → (w : Option WornAt) × Stepped state bench p s (n, l) w (step s (n, l) w) answer q
 
-  -- a frame with this meaning was served: its line was played, and its answer was written, whole or up to a fault
+  -- a frame with this meaning was served: its line was played, and its answer was written, completely or up to a fault
   pub record ServesFrame (p : Player N) (s : State) (n : ℕ) (m : Meaning) (x : Sunk) (result : Result (Unit {0}) WriteFault) (q : Player N) (y : Sunk) : Type 0 where
     pub after : State
     pub at : IsPlayerAt state bench q after
@@ -45,13 +45,14 @@ module _ {N : Type 0} (state : N → DeviceState) (bench : N → BenchState) whe
 
 -- ---- frames
 
--- Frames were served from a state of a play, by power on or off, their lines numbered on from n: they are answered so.
+-- frames were served from a state of a play, by whether the card has power before them, their lines with numbers after n, and these are
+-- their answers
 pub record ServedFrames (s : State) (n : ℕ) (powered : Bool) (fs : List (List ℕ)) (a : Bench) (os : List (Option (List ℕ))) (b : Bench) : Type 0 where
   pub worn : List (Option WornAt)
   pub played : Played s (lines_of n powered fs) worn a b
   pub answers : os ≡ answer_each powered fs (plays s (lines_of n powered fs) worn)
 
--- The frames of an input were served from a state of a play on, up to the end of the input or up to a fault.
+-- the frames of an input were served from a state of a play, up to the end of the input or up to a fault
 pub record ServedFrom (s : State) (n : ℕ) (result : Result (Unit {0}) ServeError) (a : AroundSession) : Type 0 where
   pub frames : List (List ℕ)
   pub part : List ℕ

@@ -14,7 +14,7 @@ use Rattle.mc_reader.specs.Answers.{present, session_answers}
 use Rattle.mc_reader.specs.declared.serve_error.ServeError.{ServeError}
 use Rattle.mc_reader.specs.declared.serve_error.ServeError.TheVariants as fault
 
--- what source, sink and device tell before and after a session
+-- the state of source, sink and device before and after a session
 pub record AroundSession : Type 0 where
   pub left_old : Option (List ℕ)
   pub left : Option (List ℕ)
@@ -32,7 +32,7 @@ pub record AnswersWritten (x : Sunk) (os : List (Option (List ℕ))) (y : Sunk) 
   pub whole : Grew x.taken y.taken (frames_bytes (present os))
   pub counted : x.faults ≤ y.faults
 
--- The answer of the last frame was not written whole: those before it were, and a front of its own.
+-- the answer of the last frame was not written completely: the answers before it were, and the first bytes of its own
 pub record AnswersCut (x : Sunk) (os : List (Option (List ℕ))) (y : Sunk) : Type 0 where
   pub before : List (Option (List ℕ))
   pub last : List ℕ
@@ -44,9 +44,9 @@ pub record AnswersCut (x : Sunk) (os : List (Option (List ℕ))) (y : Sunk) : Ty
   pub written : Grew x.taken y.taken (frames_bytes (present before) ++ front)
   pub cause : Rose x.faults y.faults
 
--- ---- how a session ends that served these frames, with this part of one more, and with these answers due
+-- ---- the end of a session that served these frames, with this part of one more, and with these answers due
 
--- The input ended between two frames, or behind as many as can be counted.
+-- the input ended between two frames, or after the greatest number of frames that can be counted
 pub record SessionEnds (fs : List (List ℕ)) (part : List ℕ) (os : List (Option (List ℕ))) (a : AroundSession) : Type 0 where
   pub between : part ≡ []
   pub end : AtEnd a.left ⊎ (last_count ≤ length fs)
@@ -64,12 +64,12 @@ pub record EndsUnread (os : List (Option (List ℕ))) (a : AroundSession) : Type
   pub cause : Rose a.reads_old a.reads
   pub written : AnswersWritten a.out_old os a.out
 
--- The sink failed. The write of any answer may fail, so that at each of them the frames up to its own were taken and no byte behind them.
+-- the sink failed; the write of any answer may fail, so that at each of them the frames up to its own were taken and no byte after them
 pub record EndsUnwritten (part : List ℕ) (os : List (Option (List ℕ))) (a : AroundSession) : Type 0 where
   pub between : part ≡ []
   pub written : AnswersCut a.out_old os a.out
 
--- how it ends, by its result
+-- the end of a session, by its result
 abbrev pub EndsBy : List (List ℕ) → List ℕ → List (Option (List ℕ)) → Result (Unit {0}) ServeError → AroundSession → Type 0
 EndsBy fs part os (Ok u) a = SessionEnds fs part os a
 EndsBy fs part os (Err (fault.Short n)) a = EndsShort fs part os n a
@@ -79,15 +79,15 @@ EndsBy fs part os (Err fault.NoMemory) a = ⊥
 
 -- ---- a session
 
--- the steps of a session that served these frames, with these worn stops
+-- the steps of a session that served these frames, with these failed writes
 abbrev pub session_steps : List (ℕ × DeckLine) → List (List ℕ) → List (Option WornAt) → AroundSession → List Step
 session_steps deck fs worn a = plays (start a.dev_old.device.words) (session_lines deck fs) worn
 
--- A session: these frames were served, and exactly their bytes were taken of the source, and the part of one that did not come whole. One
--- list of worn stops accounts for the words, the counts and the tape of the device, and for all that was written. Every closed family of
--- applications is told and holds what it is told and holds on a card of its own, each line leaves the card with its whole items, and no new
--- application has a stale byte. Each item fits a journal, and a card that was found or formatted is found by every later power line that no
--- stop hits.
+-- A session that served these frames: exactly their bytes, and the part of one that was not received completely, were taken from the
+-- source. One list of failed writes accounts for the words, the counts and the tape of the device, and for all that was written. Every
+-- closed family of applications has the same results and the same bytes as on a card of its own, each line leaves the card with its
+-- complete items, and no new application has a stale byte. Each item fits a journal, and a card that was found or formatted is found by
+-- every later power line that no stop hits.
 pub record Served (deck : List (ℕ × DeckLine)) (result : Result (Unit {0}) ServeError) (a : AroundSession) : Type 0 where
   pub frames : List (List ℕ)
   pub part : List ℕ
@@ -102,14 +102,14 @@ pub record Served (deck : List (ℕ × DeckLine)) (result : Result (Unit {0}) Se
   pub ready : ReadyAgain false (session_steps deck frames worn a)
   pub ends : EndsBy frames part (session_answers deck frames (session_steps deck frames worn a)) result a
 
--- want of memory: nothing was read, played or written
+-- out of memory: nothing was read, played or written
 pub record IsUntouched (a : AroundSession) : Type 0 where
   pub left : a.left ≡ a.left_old
   pub reads : a.reads ≡ a.reads_old
   pub out : a.out ≡ a.out_old
   pub dev : a.dev ≡ a.dev_old
 
--- what a session did, by its result
+-- the end of a session, by its result
 abbrev pub Serves : List (ℕ × DeckLine) → Result (Unit {0}) ServeError → AroundSession → Type 0
 Serves deck (Err fault.NoMemory) a = IsUntouched a
 Serves deck (Ok u) a = Served deck (Ok u) a

@@ -1,4 +1,4 @@
-// The answers of frames.
+// The answers to frames.
 ghost use Rattle.std.specs.Prelude.{◌≡◌, ◌≤◌, ◌++◌, length};
 ghost use Rattle.mc_model_device.specs.Bytes.{bytes2};
 ghost use Rattle.mc_text.specs.Texts.{sunk_in, Puts};
@@ -21,10 +21,10 @@ const ATR: [u8; 12] = [
     0x3B, 0x87, 0x80, 0x01, 0x4D, 0x45, 0x4C, 0x43, 0x41, 0x52, 0x44, 0x56,
 ];
 
-/// The longest answer: the data of a reply and its two status bytes.
+/// The length of the longest answer: the data of a reply and its two status bytes.
 const LONGEST: usize = 1026;
 
-// Writes an answer as a frame, in one piece.
+// Writes an answer as one frame.
 fn put_frame<T: Sink>(out: &mut T, bytes: &[u8]) -> Result<(), WriteFault>
     requires { length bytes.now ≤ 1026 }
     ensures { Puts (sunk_in T.taken T.faults out.old) (frame_bytes bytes.now) result (sunk_in T.taken T.faults out.new) }
@@ -36,7 +36,7 @@ fn put_frame<T: Sink>(out: &mut T, bytes: &[u8]) -> Result<(), WriteFault>
     put(out, frame.as_slice())
 }
 
-// Writes a reply: its data and its status.
+// Writes a reply: its data and its status word.
 fn put_reply<T: Sink>(out: &mut T, reply: &Reply) -> Result<(), WriteFault>
     ensures { Puts (sunk_in T.taken T.faults out.old) (frame_bytes (reply.now.body.items ++ bytes2 reply.now.sw)) result
         (sunk_in T.taken T.faults out.new) }
@@ -48,7 +48,7 @@ fn put_reply<T: Sink>(out: &mut T, reply: &Reply) -> Result<(), WriteFault>
     put_frame(out, bytes.as_slice())
 }
 
-// Writes how a command ended.
+// Writes the outcome of a command.
 fn put_outcome<T: Sink>(out: &mut T, outcome: &Outcome) -> Result<(), WriteFault>
     ensures { Puts (sunk_in T.taken T.faults out.old) (frame_bytes (outcome_bytes (outcome_value outcome.now))) result
         (sunk_in T.taken T.faults out.new) }
@@ -59,7 +59,8 @@ fn put_outcome<T: Sink>(out: &mut T, outcome: &Outcome) -> Result<(), WriteFault
     }
 }
 
-// Writes the result of a command, where the last one ended so. A command that a stop hit has no answer, nor has one where no card runs or the card is mute.
+// Writes the result of a command, by the outcome of the last command. A command that a stop hit has no
+// answer, nor has one if no card runs or the card is mute.
 fn put_result<T: Sink>(
     out: &mut T,
     answer: &Option<Answer>,
@@ -75,7 +76,12 @@ fn put_result<T: Sink>(
     }
 }
 
-/// Writes the answer of a request whose line had this result, where it is answered, and where the last command ended so.
+/// Writes the answer to a request if it is answered, by the result of its line and the outcome of the last
+/// command.
+///
+/// # Errors
+///
+/// Returns `WriteFault` if the sink fails.
 pub fn put_answer<T: Sink>(
     out: &mut T,
     request: &Request<'_>,

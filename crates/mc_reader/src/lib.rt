@@ -1,6 +1,7 @@
 #![tactic(auto)]
 
-//! A card in a reader: commands of a host are played on a card as lines of a deck, and answered frame by frame.
+//! A card in a reader: the commands of a host are played on a card as lines of a deck, and answered frame by
+//! frame.
 
 mod answering;
 mod order;

@@ -9,10 +9,10 @@ ghost use Rattle.mc_reader.specs.Requests.{order_line, status_of, Orders};
 use mc_base::Word;
 use mc_deck::Line;
 
-/// The greatest budget of a command.
+/// The maximum budget of a command.
 const MOST_STEPS: u32 = 65_536;
 
-/// What a command to the reader orders: the line of a deck that it stands for.
+/// The order of a command to the reader: the line of a deck that it represents.
 #[derive(Clone, Copy, Debug, PartialEq, Eq)]
 pub enum Order {
     Cut { k: u32, fill: Word },
@@ -23,7 +23,7 @@ pub enum Order {
 /// Why a command to the reader is refused.
 #[derive(Clone, Copy, Debug, PartialEq, Eq)]
 pub enum Refusal {
-    /// It is not five bytes and as many as its Lc says, or its instruction has another Lc.
+    /// Its length is not five bytes and the number that its Lc states, or its instruction has another Lc.
     WrongLength,
     /// It has another instruction.
     WrongInstruction,
@@ -34,7 +34,7 @@ pub enum Refusal {
 }
 
 impl Order {
-    /// The line.
+    /// Returns the line of the order.
     pub fn line<'a>(&self) -> Line<'a>
         ensures { line_of result ≡ order_line self.now }
     {
@@ -47,7 +47,7 @@ impl Order {
 }
 
 impl Refusal {
-    /// The status that answers the command, of ISO/IEC 7816-4.
+    /// Returns the status word that answers the command (ISO/IEC 7816-4).
     pub fn status(self) -> [u8; 2]
         ensures { result ≡ bytes2 (status_of self) }
     {
@@ -60,7 +60,7 @@ impl Refusal {
     }
 }
 
-// The number of four bytes.
+// The value of four bytes, big endian.
 fn number(bytes: &[u8]) -> u32
     requires { length bytes.now ≡ 4 }
     ensures { result ≡ num bytes.now }
@@ -71,7 +71,7 @@ fn number(bytes: &[u8]) -> u32
     ((*a as u32 * 256 + *b as u32) * 256 + *c as u32) * 256 + *d as u32
 }
 
-// Whether an order has so many bytes of data, and P1 and P2 are 0.
+// Whether an order has `size` bytes of data, and P1 and P2 are 0.
 fn check_form(size: usize, p1: u8, p2: u8, body: &[u8]) -> Result<(), Refusal>
     ensures size { OnOk result (length body.now ≡ size) }
     ensures form { (order : Result DeckLine ℕ)
@@ -128,7 +128,11 @@ fn read_budget(p1: u8, p2: u8, body: &[u8]) -> Result<Order, Refusal>
     Ok(Order::Budget(count))
 }
 
-/// Reads what a command of class FF orders, or its first refusal.
+/// Reads the order of a command of class FF.
+///
+/// # Errors
+///
+/// Returns the first refusal.
 pub fn read_order(bytes: &[u8]) -> Result<Order, Refusal>
     ensures value { Orders (order bytes.now) result }
     ensures good { IfOk result (λ o. GoodLine (order_line o)) }

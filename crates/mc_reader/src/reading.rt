@@ -1,4 +1,4 @@
-// Frames taken from a source, and no byte more.
+// Frames read from a source, and no byte after them.
 ghost use Rattle.std.specs.Prelude.{◌≡◌, ◌<◌, ◌≤◌, length, take, IfOk, OnErr};
 ghost use Rattle.mc_model_device.specs.Counts.{Rose};
 ghost use Rattle.mc_base.specs.Streams.{Took, AtEnd};
@@ -6,10 +6,10 @@ ghost use Rattle.mc_reader.specs.Readings.{TookLess, ReadsFrame};
 
 use mc_base::{Failed, Source};
 
-/// Why the bytes that came are no frame.
+/// Why the bytes that were read are not a frame.
 #[derive(Clone, Copy, Debug, PartialEq, Eq)]
 pub enum FrameFault {
-    /// The input ended behind the first byte of a frame and before its last.
+    /// The input ended after the first byte of a frame and before its last.
     Short,
     /// The source failed.
     ReadFault,
@@ -26,7 +26,7 @@ impl From<Failed> for FrameFault {
     }
 }
 
-/// Takes bytes until `into` is full or the input ends, and says how many came.
+/// Reads bytes until `into` is full or the input ends, and returns the number of bytes read.
 fn fill<S: Source>(source: &mut S, into: &mut [u8]) -> Result<usize, Failed>
     ensures bound { IfOk result (λ n. n ≤ length into.new) }
     ensures bytes { IfOk result (λ n. Took (S.left source.old) (S.left source.new) (take n into.new)) }
@@ -46,8 +46,12 @@ fn fill<S: Source>(source: &mut S, into: &mut [u8]) -> Result<usize, Failed>
     Ok(done)
 }
 
-/// Reads the next frame into the front of `room`, which fits the longest one, and says how many bytes it has, or `None` where the input
-/// ends before it. No byte behind the frame is taken.
+/// Reads the next frame into the first bytes of `room`, which has room for the longest one, and returns its
+/// length in bytes, or `None` if the input ends before it. No byte after the frame is read.
+///
+/// # Errors
+///
+/// Returns `Short` if the input ends inside the frame, or `ReadFault` if the source fails.
 pub fn read_frame<S: Source>(source: &mut S, room: &mut [u8]) -> Result<Option<usize>, FrameFault>
     requires { length room.old ≡ 65535 }
     ensures reads { ReadsFrame (S.left source.old) (S.faults source.old) (S.left source.new)

@@ -1,4 +1,4 @@
-// What a frame of the host asks for.
+// The request in a frame of the host.
 ghost use Rattle.std.specs.Prelude.{◌≡◌, option_map, IfSome};
 ghost use Rattle.mc_deck.specs.Lines.{line_of, GoodLine};
 ghost use Rattle.mc_reader.specs.Meanings.{control, meaning, power_after};
@@ -8,11 +8,12 @@ ghost use Rattle.mc_reader.specs.Requests.{meaning_of, IsGoodRequest};
 use crate::order::{Order, Refusal, read_order};
 use mc_deck::Line;
 
-/// The class of commands to the reader itself, which no card has (ISO/IEC 7816-3).
+/// The class of commands to the reader itself, which no card uses (ISO/IEC 7816-3).
 const CLASS: u8 = 0xFF;
 
-/// What a frame asks for: power on or a reset, power off, the answer to reset, nothing, a line by a command to the reader, such a command
-/// that is refused, or a command to the card, which hears it only under power.
+/// The request of a frame: power on or a reset, power off, the answer to reset, nothing, a line by a command
+/// to the reader, such a command that is refused, or a command to the card, which receives it only under
+/// power.
 #[derive(Clone, Copy, Debug)]
 pub enum Request<'a> {
     PowerOn,
@@ -25,7 +26,7 @@ pub enum Request<'a> {
     Unheard,
 }
 
-// What a byte alone asks for.
+// The request of a byte alone.
 fn control<'a>(byte: u8) -> Request<'a>
     ensures meaning { meaning_of result ≡ control byte }
     ensures good { IsGoodRequest result }
@@ -39,7 +40,7 @@ fn control<'a>(byte: u8) -> Request<'a>
 }
 
 impl<'a> Request<'a> {
-    /// What a frame asks for, where the card has power or not.
+    /// Returns the request of a frame, by whether the card has power.
     pub fn of(frame: &'a [u8], powered: bool) -> Request<'a>
         ensures meaning { meaning_of result ≡ meaning powered frame.now }
         ensures good { IsGoodRequest result }
@@ -61,7 +62,7 @@ impl<'a> Request<'a> {
         }
     }
 
-    /// The line that it stands for, where it stands for one.
+    /// Returns the line that the request represents, or `None` if it represents none.
     pub fn line(&self) -> Option<Line<'a>>
         requires { IsGoodRequest self.now }
         ensures line { option_map line_of result ≡ line_in (meaning_of self.now) }
@@ -75,7 +76,7 @@ impl<'a> Request<'a> {
         }
     }
 
-    /// Whether the card has power behind it, where it had power before it or not.
+    /// Returns whether the card has power after the request, by whether it had power before it.
     pub fn power(&self, powered: bool) -> bool
         ensures { result ≡ power_after powered (meaning_of self.now) }
     {

@@ -6,13 +6,14 @@ ghost use Rattle.mc_model_examples.specs.Written.{hex, times};
 ghost use Rattle.mc_model_examples.specs.Played.{unit_line};
 ghost use Rattle.mc_reader.specs.Computed.{answers_to_input};
 
-/// The answer to reset is wanted: with power or without it is the same.
+/// The host requests the answer to reset: it does not depend on power.
 pub fn answer_to_reset()
     ensures { answers_to_input (codes "format\n") (codes "0001 04 0001 01 0001 04")
         ≡ hex (codes "000C 3B878001 4D454C43415244 56 000C 3B878001 4D454C43415244 56") }
 {}
 
-/// A counter that the deck loaded is selected and counts twice; a reset loses the selection, and the count stays.
+/// A counter that the deck loaded is selected and counts twice; a reset ends the selection, and the count is
+/// kept.
 pub fn counts_and_a_reset()
     ensures { answers_to_input (
         codes "format\npower\n" ++
@@ -23,7 +24,7 @@ pub fn counts_and_a_reset()
         ≡ hex (codes "0002 9000 0004 00019000 0004 00029000 0002 6985 0002 9000 0004 00039000") }
 {}
 
-/// A reset of a card that holds a deck's application needs no word; before it the card has no power, and hears no command.
+/// Before a power-on or a reset the card has no power and receives no command, whatever the deck did.
 pub fn commands_without_power()
     ensures before { answers_to_input (codes "format\npower\n") (codes "0005 8001000002 0001 01 0005 8001000002")
         ≡ hex (codes "0000 0002 6985") }
@@ -31,12 +32,13 @@ pub fn commands_without_power()
         ≡ hex (codes "0000 000C 3B878001 4D454C43415244 56 0002 6985") }
 {}
 
-/// Bytes that mean nothing, and frames without a byte.
+/// Bytes without a meaning, and frames without a byte.
 pub fn nothing()
     ensures { answers_to_input (codes "format\n") (codes "0000 0001 03 0001 FF 0001 05 0001 80 0000") ≡ [] }
 {}
 
-/// The refusals of commands to the reader, the first that holds. None of them is a line, and they need no power.
+/// The refusals of commands to the reader: the first that applies. None of them is a line, and they need no
+/// power.
 pub fn refusals()
     ensures length { answers_to_input (codes "format\n") (
         codes "0002 FFC0 0004 FFC00000 0005 FFC000000C 0006 FFC000000C00 0006 FFC300000000 " ++
@@ -55,7 +57,7 @@ pub fn refusals()
         ≡ hex (codes "0002 9000 0002 9000 0002 9000 0002 9000") }
 {}
 
-/// An application that meets an undefined instruction, and no application.
+/// An application with an undefined instruction, and a command without a selected application.
 pub fn an_abend()
     ensures { answers_to_input (
         codes "format\npower\n" ++
@@ -64,8 +66,9 @@ pub fn an_abend()
         ≡ hex (codes "0002 9000 0002 6F01 0002 6A82") }
 {}
 
-/// A stop that is armed between two commands, with a budget behind it: the command that it hits is not answered, and no other is until the
-/// next reset. The card counts on from what it kept. A write that is refused is answered, and leaves the card mute.
+/// A stop that is armed between two commands, with a budget after it: the command that it hits is not
+/// answered, and no other is until the next reset. The card continues from what it kept. A failed write is
+/// answered, and leaves the card mute.
 pub fn stops()
     ensures cut { answers_to_input (
         codes "format\npower\n" ++
@@ -82,7 +85,7 @@ pub fn stops()
         ≡ hex (codes "0002 9000 0002 9000 0002 6581 0000") }
 {}
 
-/// A command of 256 bytes, and one that does not come whole.
+/// A command of 256 bytes, and one that is not received completely.
 pub fn long_and_short_frames()
     ensures { answers_to_input (
         codes "format\npower\n" ++

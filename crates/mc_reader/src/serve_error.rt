@@ -4,13 +4,13 @@ use std::alloc::AllocError;
 /// Why a session ended before the end of its input.
 #[derive(Clone, Copy, Debug, PartialEq, Eq)]
 pub enum ServeError {
-    /// The input ended inside the frame of this number; all frames are counted, from 1.
+    /// The input ended inside the frame of this number; frames are counted from 1.
     Short(u64),
     /// The input failed.
     ReadFault,
     /// The sink of the answers failed.
     WriteFault,
-    /// The room for the longest frame was not there. Nothing was read, played or written.
+    /// Out of memory for the longest frame. Nothing was read, played or written.
     NoMemory,
 }
 

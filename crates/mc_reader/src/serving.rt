@@ -22,10 +22,10 @@ use mc_script::{Answer, Player, Silent};
 use std::alloc::Global;
 use std::sync::ledger::Ledger;
 
-/// How many bytes the longest frame has.
+/// The length of the longest frame in bytes.
 const LONGEST_FRAME: usize = 65_535;
 
-// Plays the line of a request, where it has one.
+// Plays the line of a request, if it has one.
 fn play_request<N: Bench, L: Ledger>(
     player: &mut Player<N>,
     request: &Request<'_>,
@@ -64,7 +64,7 @@ fn serve_frame<N: Bench, T: Sink, L: Ledger>(
     put_answer(out, &request, &answer, player.outcome())
 }
 
-// Serves frames up to the end of the input, or up to a fault. The card has no power at their start.
+// Serves frames up to the end of the input, or up to a fault. The card has no power before them.
 fn serve_frames<S: Source, T: Sink, N: Bench, L: Ledger>(
     player: &mut Player<N>,
     input: &mut S,
@@ -101,10 +101,16 @@ fn serve_frames<S: Source, T: Sink, N: Bench, L: Ledger>(
     Ok(())
 }
 
-/// Plays a deck on a device, and then serves the frames of a host, each of them before the next is read: its line is played as a line of
-/// the deck would be, and its answer is written as a frame.
+/// Plays a deck on a device, and then serves the frames of a host, each of them before the next is read: its
+/// line is played as a line of the deck would be, and its answer is written as a frame.
 ///
-/// The device is handed in without a fuse. Nothing is written of the deck's results. Where the sink fails, no later frame is read.
+/// The device has no armed stop. The results of the deck are not written. If the sink fails, no later frame
+/// is read.
+///
+/// # Errors
+///
+/// Returns why the session ended before the end of its input. If it is out of memory, nothing was read,
+/// played or written.
 pub fn serve<S: Source, T: Sink, N: Bench, L: Ledger>(
     alloc: Global,
     deck: &Deck,

@@ -1,3 +1,3 @@
-// The assembler and the listing tried with ample memory.
+// The assembler and the listing tested with ample memory.
 
 mod tests;

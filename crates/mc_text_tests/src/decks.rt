@@ -1,4 +1,4 @@
-// Decks with ample memory: a deck that is read, decks that are refused, and one that a number generates.
+// Decks with ample memory: a deck that is accepted, decks that are refused, and one that a number generates.
 
 mod more_samples;
 mod refusals;

@@ -21,7 +21,7 @@ unfolding AreVerdicts
 no_verdict n (line.Load u fixed session) other = absurd (other u fixed session refl)
 no_verdict n _ other = refl
 
--- a line that is no load line adds nothing
+-- a line that is not a load line adds nothing
 pub nothing_added : (n : ℕ) (l : Line) (old : List ℕ) → ((u : _) (fixed session : ℕ) → l ≢ line.Load u fixed session) → AddsVerdict (n, line_of l) old old
 nothing_added n l old other = ([], sym (append-nil old), no_verdict n l other)
 
@@ -50,18 +50,18 @@ verdict_before n _ ls text behind one rest = nothing_before ls text behind one r
 
 -- ---- all lines
 
--- whatever is due for the lines from a place on, laid behind this text, is due for all lines
+-- a text for the lines from a place on, appended to this text, is one for all lines
 abbrev pub VerdictsLead : List (ℕ × DeckLine) → ℕ → List ℕ → Type 0
 VerdictsLead ls i text = (behind : List ℕ) → AreVerdicts (drop i ls) behind → AreVerdicts ls (text ++ behind)
 
--- one line more
+-- one more line
 pub leads_next : (ls : List (ℕ × DeckLine)) (i n : ℕ) (l : DeckLine) (old new : List ℕ) → slice_get ls i ≡ Some (n, l) → AddsVerdict (n, l) old new → VerdictsLead ls i old → VerdictsLead ls (i + 1) new
 leads_next ls i n l old new here adds leads behind rest =
     let text = adds.0 in
     let due : AreVerdicts (drop i ls) (text ++ behind) = subst (λ (ks : List (ℕ × DeckLine)). AreVerdicts ks (text ++ behind)) (sym (next_line ls i n l here)) (verdict_before n l (drop (i + 1) ls) text behind adds.2 rest) in
     subst (λ t. AreVerdicts ls t) (sym (ap (λ t. t ++ behind) adds.1 ∙ append_assoc old text behind)) (leads (text ++ behind) due)
 
--- behind the last line
+-- after the last line
 pub leads_last : (ls : List (ℕ × DeckLine)) (i : ℕ) (text : List ℕ) → length ls ≤ i → VerdictsLead ls i text → AreVerdicts ls text
 unfolding AreVerdicts
 leads_last ls i text end leads =

@@ -13,9 +13,9 @@ use Rattle.melcard.specs.declared.code.CodeRefusal.TheVariants.{BadHex, TooLarge
 use Rattle.melcard.specs.Judging.{line_digits, text_digits, RefusesCode}
 use Rattle.mc_model_device.specs.Limits.{most_code}
 
--- ---- digits behind others
+-- ---- digits after others
 
--- what is read first, and what is read behind it
+-- the digits read first, followed by those read after them
 abbrev pub first_then : Result (List ℕ) CodeFault → Result (List ℕ) CodeFault → Result (List ℕ) CodeFault
 first_then one rest = one >>= λ vs. ok_as (λ ws. vs ++ ws) rest
 
@@ -23,7 +23,7 @@ nothing_first : (rest : Result (List ℕ) CodeFault) → rest ≡ first_then (Ok
 nothing_first (Ok vs) = refl
 nothing_first (Err e) = refl
 
--- these digits, where they have values
+-- these digits, if they have values
 abbrev valued : List ℕ → Option (List ℕ) → Option (List ℕ)
 valued digits values = option_map (λ vs. digits) values
 
@@ -44,7 +44,7 @@ line_from n line i lt =
     let c = get_or line i 0 in
     ap (line_digits n) (drop-cons line i 0 lt) ∙ character_first n c (drop (suc i) line) (is_blank c) refl ∙ ap (λ k. first_then (line_digits n (c ∷ [])) (line_digits n (drop k line))) (sym (add-one i))
 
--- what was read first stands behind the digits so far
+-- the digits read first are appended to the digits already read
 pub first_read : (one rest whole : Result (List ℕ) CodeFault) (cur new : List ℕ) → ok_as (λ vs. cur ++ vs) one ≡ Ok new → ok_as (λ vs. cur ++ vs) (first_then one rest) ≡ whole → ok_as (λ vs. new ++ vs) rest ≡ whole
 first_read (Ok vs) (Ok ws) whole cur new h so =
     let e : cur ++ vs ≡ new = cc h in
@@ -57,7 +57,7 @@ same_fault (Ok vs) rest whole cur old f h so = absurd (cc h)
 same_fault (Err g) rest (Ok ws) cur old f h so = absurd (cc so)
 same_fault (Err g) rest (Err k) cur old f h so = cc (h, so)
 
--- what refuses the part that is read first refuses the whole
+-- a refusal of the part that is read first is one of the whole
 pub first_refused : (one rest whole : Result (List ℕ) CodeFault) (cur old : List ℕ) (e : CodeRefusal) → RefusesCode one e → ok_as (λ vs. cur ++ vs) (first_then one rest) ≡ ok_as (λ vs. old ++ vs) whole → RefusesCode whole e
 first_refused one rest whole cur old (BadHex n) h so = same_fault one rest whole cur old (Text.BadHex n) h so
 first_refused one rest whole cur old TooLarge h so = same_fault one rest whole cur old Text.TooLarge h so
@@ -66,7 +66,7 @@ first_refused one rest whole cur old NoMemory h so = tt
 -- ---- the characters of a line
 
 module _ (n : ℕ) (line : List ℕ) (i : ℕ) (cur old : List ℕ) (so : ok_as (λ vs. cur ++ vs) (line_digits n (drop i line)) ≡ ok_as (λ vs. old ++ vs) (line_digits n line)) where
-  -- one character more
+  -- one more character
   pub character_read : (new : List ℕ) → i < length line → ok_as (λ vs. cur ++ vs) (line_digits n (get_or line i 0 ∷ [])) ≡ Ok new → ok_as (λ vs. new ++ vs) (line_digits n (drop (i + 1) line)) ≡ ok_as (λ vs. old ++ vs) (line_digits n line)
   character_read new lt is =
       first_read (line_digits n (get_or line i 0 ∷ [])) (line_digits n (drop (i + 1) line)) (ok_as (λ vs. old ++ vs) (line_digits n line)) cur new is
@@ -84,19 +84,19 @@ module _ (n : ℕ) (line : List ℕ) (i : ℕ) (cur old : List ℕ) (so : ok_as 
 
 -- ---- all lines
 
--- nothing before digits changes them
+-- digits after an empty list are unchanged
 nothing_before : (whole : Result (List ℕ) CodeFault) (cur : List ℕ) → ok_as (λ vs. [] ++ vs) whole ≡ Ok cur → whole ≡ Ok cur
 nothing_before (Ok vs) cur h = h
 nothing_before (Err e) cur h = absurd (cc h)
 
--- the first line of a text, and the text behind it
+-- the first line of a text, and the text after it
 line_and_rest : (t l b : List ℕ) → Some (l, b) ≡ next_line t → lines t ≡ l ∷ lines b
 line_and_rest t l b e = lines_at t ∙ ap lines_from (sym e)
 
 no_line : (t : List ℕ) → None ≡ next_line t → lines t ≡ []
 no_line t e = lines_at t ∙ ap lines_from (sym e)
 
--- a line counts one
+-- the number of lines grows by one with a line
 pub line_counted : (n total : ℕ) (t l b : List ℕ) → Some (l, b) ≡ next_line t → n + length (lines t) ≡ total → n + 1 + length (lines b) ≡ total
 line_counted n total t l b e h = let one : length (lines t) ≡ suc (length (lines b)) = ap length (line_and_rest t l b e) in omega (arith, one, h)
 
@@ -104,11 +104,11 @@ pub lines_counted : (n total : ℕ) (t : List ℕ) → None ≡ next_line t → 
 lines_counted n total t e h = let none : length (lines t) ≡ 0 = ap length (no_line t e) in omega (arith, none, h)
 
 module _ (n : ℕ) (rest cur : List ℕ) (whole : Result (List ℕ) CodeFault) (so : ok_as (λ vs. cur ++ vs) (text_digits (with_numbers (n + 1) (lines rest))) ≡ ok_as (λ vs. [] ++ vs) whole) where
-  -- a line before those behind it
+  -- a line before the lines after it
   by_line : (line behind : List ℕ) → Some (line, behind) ≡ next_line rest → ok_as (λ vs. cur ++ vs) (first_then (line_digits (n + 1) line) (text_digits (with_numbers (n + 1 + 1) (lines behind)))) ≡ ok_as (λ vs. [] ++ vs) whole
   by_line line behind e = ap (λ ls. ok_as (λ vs. cur ++ vs) (text_digits ls)) (sym (numbered_some (n + 1) rest line behind e)) ∙ so
 
-  -- one line more
+  -- one more line
   pub line_taken : (line behind new : List ℕ) → Some (line, behind) ≡ next_line rest → ok_as (λ vs. cur ++ vs) (line_digits (n + 1) line) ≡ Ok new → ok_as (λ vs. new ++ vs) (text_digits (with_numbers (n + 1 + 1) (lines behind))) ≡ ok_as (λ vs. [] ++ vs) whole
   line_taken line behind new e is = first_read (line_digits (n + 1) line) (text_digits (with_numbers (n + 1 + 1) (lines behind))) (ok_as (λ vs. [] ++ vs) whole) cur new is (by_line line behind e)
 
@@ -123,13 +123,13 @@ module _ (n : ℕ) (rest cur : List ℕ) (whole : Result (List ℕ) CodeFault) (
 
 -- ---- bytes
 
--- the bytes of digits that an answer of the code stands for
+-- the bytes of digits, from a result of the code
 pub bytes_found : {V : Type 0} (items : V → List ℕ) (o p : Option V) (held digits : List ℕ) → o ≡ p → held ≡ digits → option_map items o ≡ hex_bytes held → option_map items p ≡ hex_bytes digits
 bytes_found items o p held digits e k h = ap (option_map items) (sym e) ∙ h ∙ ap hex_bytes k
 
 -- ---- digits and their values
 
--- digits have these values, or both are refused alike
+-- the digits have these values, or both are refused for one reason
 abbrev SpellsAlike : Result (List ℕ) CodeFault → Result (List ℕ) CodeFault → Type 0
 SpellsAlike (Ok t) (Ok vs) = hex_values t ≡ Some vs
 SpellsAlike (Ok t) (Err e) = ⊥
@@ -167,7 +167,7 @@ spells_lines (l ∷ ls) =
 
 -- ---- the whole text
 
--- the code of digits, where the last line has this number
+-- the code of digits, if the last line has this number
 abbrev pub code_of : ℕ → Option (List ℕ) → Result (List ℕ) CodeFault
 code_of last bytes = ok_or bytes (Text.BadHex last) >>= λ code. only_if (nat_le (length code) most_code) Text.TooLarge code
 

@@ -1,4 +1,4 @@
--- A job is complete where no call of source or sink fails.
+-- A job is complete if no call of source or sink fails.
 use Rattle.std.proofs.Common.{◌≡◌, ℕ, List, Option, Some, None, Result, Ok, Err, IfSome, subst}
 use Rattle.mc_model_device.specs.Counts.{Rose}
 use Rattle.mc_model_play.specs.DeckGrammar.{DeckLine}
@@ -20,7 +20,7 @@ use Rattle.melcard.specs.Statuses.{status_of, text_of_step, CardOutside, IsAllDu
 
 -- ---- the source
 
--- what is due by what was read is due by all that was left
+-- the verdict by the input that was read is the verdict by all bytes that were left
 all_due : (work : Job) (a : Outside) (v : JobVerdict) → IsDue work a v → IsAllDue work a v
 all_due (job.Generate n) a v due = due.1
 all_due (job.Play t) a v due = all_stands Refusal (StandsFor (job.Play t)) a.left_old a.left v due
@@ -28,17 +28,17 @@ all_due (job.Write f) a v due = all_stands Refusal (StandsFor (job.Write f)) a.l
 
 -- ---- the sink
 
--- a deck was told whole
+-- the output of a deck was written completely
 played_whole : (f : Step → List ℕ) (ls : List (ℕ × DeckLine)) (x y : Bench) (a b : Sunk) (s : Status) (r : Result (Unit {0}) Fault) → (Rose a.faults b.faults → ⊥) → s ≡ status_after_writing Done r → PlaysDeck f ls x a r y b → s ≡ Done
 played_whole f ls x y a b s (Ok u) quiet e plays = e
 played_whole f ls x y a b s (Err w) quiet e plays = absurd (quiet plays.from.text.cause)
 
--- a deck was summarised whole
+-- a deck was summarised completely
 summed_whole : (ls : List (ℕ × DeckLine)) (x y : Bench) (a b : Sunk) (s : Status) (r : Result (Unit {0}) Fault) → (Rose a.faults b.faults → ⊥) → s ≡ status_after_writing Done r → SumsDeck summary ls x a r y b → s ≡ Done
 summed_whole ls x y a b s (Ok u) quiet e sums = e
 summed_whole ls x y a b s (Err f) quiet e sums = absurd (quiet sums.text.cause)
 
--- whatever was due was done whole
+-- the verdict was carried out completely
 done_whole : (v : JobVerdict) (s : Status) (a : CardOutside) → (Rose a.streams.out_old.faults a.streams.out.faults → ⊥) → IsDone v s a → s ≡ status_of v
 done_whole (Whole text) s a quiet d = written_whole a.streams.out_old a.streams.out text Done s d.result quiet d.status d.written
 done_whole (Refusal line) s a quiet d = written_whole a.streams.out_old a.streams.out line Failed s d.result quiet d.status d.written
@@ -60,7 +60,7 @@ completes : (Kept : Type 0) (s : Status) (work : Job) (a : CardOutside) → Melc
 completes Kept s work a says =
     complete (MelcardDone Kept work a) (MelcardWhole work a) (MelcardReadFault Kept work a) (MelcardNoMemory Kept work a) a.streams s (whole Kept work a) (λ f. (f.1).cause) says
 
--- the same at the number of a status, for the job that the words name
+-- a job is complete at the number of a status, for the job that the words select
 pub complete_at : (Kept : Type 0) (form : Option Job) (s t : Status) (a : CardOutside) (n : ℕ) → n ≡ number_of s → n ≡ number_of t → MelcardSays Kept s form a → IfSome form (λ work. MelcardCompletes t work a)
 complete_at Kept None s t a n e f says = tt
 complete_at Kept (Some work) s t a n e f says = subst (λ t. MelcardCompletes t work a) (same_status s t n e f) (completes Kept s work a says)

@@ -1,4 +1,4 @@
--- Behind the first dump line of a generated deck there are only dump lines.
+-- After the first dump line of a generated deck there are only dump lines.
 use Rattle.std.proofs.Common.{◌≡◌, ◌==◌, ◌%◌, ℕ, zero, suc, Bool, true, false, cond, List, [], ◌∷◌, ◌++◌, refl, sym, subst, ◌∙◌, true≢false, nat_lt}
 use Rattle.std.specs.List.{AllByRecursion}
 use Rattle.mc_model_device.specs.Bytes.{bytes}
@@ -35,7 +35,7 @@ turns_none (suc k) x = (line_none (draw (next x)) (draw (next (next x))), turns_
 
 -- ---- the deck
 
--- lines that are no dump lines stand before others
+-- lines that are not dump lines, before others
 before : (m : ℕ) (ks ls : List DeckLine) → AllByRecursion (λ l. is_dump l ≡ false) ks → ((n : ℕ) → DumpsLast (with_numbers n ls)) → DumpsLast (with_numbers m (ks ++ ls))
 before m [] ls none last = last m
 before m (k ∷ ks) ls none last = (λ is. absurd (true≢false (sym is ∙ none.0)), before (suc m) ks ls none.1 last)

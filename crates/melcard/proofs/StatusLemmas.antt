@@ -1,4 +1,4 @@
--- What a job says at the status that it ended with.
+-- The meaning of the status with which a job ended.
 use Rattle.std.proofs.Common.{◌≡◌, ℕ, Option, Some, None, Result, Ok, Err, IfErr, IfOk, refl, sym, subst, ◌∙◌}
 use Rattle.mc_model_device.specs.Device.{BenchState, DeviceState}
 use Rattle.mc_model_play.specs.Generator.{deck_of_number}
@@ -24,26 +24,26 @@ use Rattle.melcard.specs.Statuses.{bench_of, card_outside, CardOutside, IsDue, I
 
 -- ---- results
 
--- what holds of a result that is Ok, or that is not
+-- a property of a result that is `Ok`, or of one that is not
 pub ok_is : {X E : Type 0} (q r : Result X E) (x : X) (P : X → Type 0) → q ≡ Ok x → q ≡ r → IfOk r P → P x
 ok_is q r x P e f h = subst (λ r. IfOk r P) (sym f ∙ e) h
 
 err_is : {X E : Type 0} (q r : Result X E) (x : E) (P : E → Type 0) → q ≡ Err x → q ≡ r → IfErr r P → P x
 err_is q r x P e f h = subst (λ r. IfErr r P) (sym f ∙ e) h
 
--- what holds of each error
+-- a property that holds for each error
 pub err_always : {X E P : Type 0} (r : Result X E) → P → IfErr r (λ _. P)
 err_always (Ok x) p = tt
 err_always (Err e) p = p
 
--- a job that is rejected for want of memory alone
+-- a job that is rejected only because it is out of memory
 pub memory_only : {X : Type 0} (work : Job) (a : Outside) (r : Result X Rejection) → TakesAtMost work a → IfErr r (λ e. e ≡ rejection.NoMemory) → IfErr r (RejectsJob work a)
 memory_only work a (Ok x) source only = tt
 memory_only work a (Err e) source only = subst (λ (e : Rejection). RejectsJob work a e) (sym only) source
 
 -- ---- what was done
 
--- what was done says itself, at the status that its writing ended with
+-- a verdict that was carried out is the meaning of the status with which its writing ended
 says_done : (Kept : Type 0) (work : Job) (a : CardOutside) (r : Result (Unit {0}) Fault) (s : Status) → s ≡ status_after_writing Done r → MelcardDone Kept work a s → MelcardSays Kept s (Some work) a
 says_done Kept work a r s e d = filter.says_done (MelcardDone Kept work a) (MelcardReadFault Kept work a) (MelcardNoMemory Kept work a) r s e d
 
@@ -64,7 +64,7 @@ says_written Kept f s a kept w = says_done Kept (job.Write f) a w.written.result
 
 -- ---- what was not done
 
--- what is due is told by the source, whatever is written afterwards
+-- the verdict depends on the source, and not on what is written afterwards
 due_still : (work : Job) (a : Outside) (x : Sunk) (v : JobVerdict) → IsDue work (record a { out = x }) v → IsDue work a v
 due_still (job.Generate n) a x v due = (record { left = (due.0).left; reads = (due.0).reads }, due.1)
 due_still (job.Play t) a x v due = due
@@ -84,20 +84,20 @@ says_rejected Kept work a x rejection.ReadFault s kept why ends =
 says_rejected Kept work a x rejection.NoMemory s kept why ends =
     subst (λ s. MelcardSays Kept s (Some work) a) (sym ends.0) (record { source = takes_still work a.streams x why; written = ends.1 }, kept)
 
--- the words name no job, and the usage line was written
+-- the words select no job, and the usage line was written
 pub says_no_form : (Kept : Type 0) (form : Option Job) (a : CardOutside) (r : Result (Unit {0}) Fault) (s : Status) → form ≡ None → s ≡ status_after_writing NoForm r → Kept → Untouched a.streams → Puts a.streams.out_old usage r a.streams.out → MelcardSays Kept s form a
 says_no_form Kept form a r s is e kept still put =
     subst (λ o. MelcardSays Kept s o a) (sym is)
     (filter.says_no_job (MelcardNoForm Kept a) r s e (record { source = still; written = record { result = r; status = e; written = put } }, kept))
 
--- ---- the outside of a call
+-- ---- the environment of a call
 
 module _ {S T N : Type 0} (input : source.Ghosts S) (output : sink.Ghosts T) (state : N → DeviceState) (bench : N → BenchState) where
-  -- what source, sink and device tell before and after
+  -- source, sink and device before and after the call
   abbrev pub around : S → S → T → T → N → N → CardOutside
   around s t x y d e = card_outside input output state bench s t x y d e
 
-  -- the same of a job, a source, a sink and a device that are named in another way
+  -- the meaning of a status does not depend on how the job, the source, the sink and the device are named
   pub says_at : (s t u : S) (x y z : T) (d e f : N) (work other : Job) (q : Status) → t ≡ u → y ≡ z → e ≡ f → work ≡ other → MelcardSays (f ≡ d) q (Some other) (around s u x z d f) → MelcardSays (e ≡ d) q (Some work) (around s t x y d e)
   says_at s t u x y z d e f work other q from to device is says =
       subst (λ t. MelcardSays (e ≡ d) q (Some work) (around s t x y d e)) (sym from)
@@ -105,7 +105,7 @@ module _ {S T N : Type 0} (input : source.Ghosts S) (output : sink.Ghosts T) (st
       (subst (λ e. MelcardSays (e ≡ d) q (Some work) (around s u x z d e)) (sym device)
       (subst (λ w. MelcardSays (f ≡ d) q (Some w) (around s u x z d f)) (sym is) says)))
 
-  -- a job that was rejected, by the result of the call that did not do it: its sink and device were as before
+  -- a job that was rejected, by the result of the call that did not do it: its sink and device were unchanged
   pub rejected_at : (s t u : S) (x y z m : T) (d e f : N) (work other : Job) (done result : Result Status Rejection) (why : Rejection) (q : Status) → done ≡ Err why → t ≡ u → y ≡ z → e ≡ f → done ≡ result → work ≡ other
       → IfErr result (RejectsJob other (outside input output s u x z)) → IfErr result (λ _. z ≡ x) → IfErr result (λ _. f ≡ d)
       → RejectionEnds why (sunk_in output.taken output.faults y) q (sunk_in output.taken output.faults m) → MelcardSays (e ≡ d) q (Some work) (around s t x m d e)

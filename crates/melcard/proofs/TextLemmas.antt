@@ -4,11 +4,11 @@ use Rattle.std.specs.List.{AllByRecursion}
 use Rattle.hex.specs.Hex.{encode_upper, encode_with, upper_digits}
 use Rattle.mc_model_machine.specs.Listing.{hex_digit, hex_text}
 
--- a digit as the crate has it, and as the definition does
+-- a digit of the crate is that of the model
 digit_same : (d : ℕ) → d < 16 → slice_index upper_digits d ≡ hex_digit d
 digit_same d lt = grind (arith, lt)
 
--- bytes as the crate writes them, and as the definition does
+-- bytes in hexadecimal of the crate are those of the model
 pub hex_same : (bs : List ℕ) → AllByRecursion (λ b. b < 256) bs → encode_upper bs ≡ hex_text bs
 unfolding encode_with
 hex_same [] all = refl

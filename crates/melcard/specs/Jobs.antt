@@ -1,4 +1,4 @@
--- The jobs that the words of the command line name.
+-- The jobs that the words of the command line select.
 use Rattle.std.specs.Prelude.{ℕ, ◌≤◌, List, [], ◌∷◌, length, nat_le, bytes_eq, codes, cond, string_bytes, Option, Some, None}
 use Rattle.std.specs.declared.alloc.Global.{Global}
 use Rattle.std.specs.declared.string.String.{String}
@@ -21,7 +21,7 @@ generator_number (Some n) = cond (nat_le n greatest_number) (Some n) None
 abbrev pub generated_number : List ℕ → Option ℕ
 generated_number w = cond (nat_le (length w) 10) (generator_number (decimal_number w)) None
 
--- the job that one word names
+-- the job that one word selects
 abbrev pub job_named : List ℕ → Option Job
 job_named w =
     cond (bytes_eq w (codes "play")) (Some (job.Play Transcript)) (
@@ -35,11 +35,11 @@ abbrev pub generating_job : Option ℕ → Option Job
 generating_job None = None
 generating_job (Some n) = Some (job.Generate n)
 
--- the job that two words name
+-- the job that two words select
 abbrev pub job_numbered : List ℕ → List ℕ → Option Job
 job_numbered w n = cond (bytes_eq w (codes "gen")) (generating_job (generated_number n)) None
 
--- the job that the words of the command line name
+-- the job that the words of the command line select
 abbrev pub job_of : List (String Global) → Option Job
 job_of [] = None
 job_of (w ∷ []) = job_named (string_bytes w)
@@ -52,6 +52,6 @@ JobFits (job.Play t) = Unit {0}
 JobFits (job.Generate n) = n ≤ greatest_number
 JobFits (job.Write f) = Unit {0}
 
--- what is written where the words name no job
+-- the text that is written if the words select no job
 abbrev pub usage : List ℕ
 usage = codes "usage: melcard play | asm | list | gen N | check | trace\n"

@@ -1,4 +1,4 @@
--- What the code has of listed code and of rejected input, and what it stands for.
+-- The results of the code for listed code and for rejected input, in terms of the model.
 use Rattle.std.specs.Prelude.{◌≡◌, ℕ, not, List, [], ◌∷◌, ◌++◌, filter, ok_or, option_map, Result, Ok, Err, ⊤}
 use Rattle.mc_model_machine.specs.Text
 use Rattle.mc_model_machine.specs.Text.{CodeFault, ◌>>=◌, hex_values, is_blank, ok_as}
@@ -18,16 +18,16 @@ abbrev pub text_digits : List (ℕ × List ℕ) → Result (List ℕ) CodeFault
 text_digits [] = Ok []
 text_digits (l ∷ ls) = line_digits l.0 l.1 >>= λ digits. ok_as (λ rest. digits ++ rest) (text_digits ls)
 
--- the refusal is the one of the definition, or for want of memory
+-- the refusal is that of the model, or the code was out of memory
 abbrev pub RefusesCode : {A : Type 0} → Result A CodeFault → CodeRefusal → Type 0
 RefusesCode r (BadHex n) = r ≡ Err (Text.BadHex n)
 RefusesCode r TooLarge = r ≡ Err Text.TooLarge
 RefusesCode r NoMemory = ⊤
 
--- a rejection of an input that stands for this
+-- a rejection of an input, by the verdicts that the input may have
 abbrev pub RejectsAs : (JobVerdict → Type 0) → Rejection → Type 0
 RejectsAs IsOf why = Rejects (λ line. IsOf (Refusal line)) why
 
--- a text grew by the line of a load line, and else not
+-- a text grew by the output line if the line is a load line, and is unchanged if not
 abbrev pub AddsVerdict : ℕ × DeckLine → List ℕ → List ℕ → Type 0
 AddsVerdict l old new = (text : List ℕ) × (new ≡ old ++ text) × AreVerdicts (l ∷ []) text

@@ -1,4 +1,4 @@
--- What the parts of a job do, and why a job is not done.
+-- The parts of a job, and why a job is not done.
 use Rattle.std.specs.Prelude.{ℕ, List}
 use Rattle.mc_model_device.specs.Counts.{Rose}
 use Rattle.mc_model_play.specs.DeckGrammar.{DeckLine}

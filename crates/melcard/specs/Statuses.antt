@@ -1,4 +1,4 @@
--- What the top call says of the outside at each of its statuses.
+-- The relation of the top call to its environment at each of its statuses.
 use Rattle.std.specs.Prelude.{◌≡◌, ℕ, List, Option, Some, None, Result, Ok, Err, ⊤}
 use Rattle.mc_model_device.specs.Device.{DeviceState, BenchState}
 use Rattle.mc_model_play.specs.DeckGrammar.{DeckLine}
@@ -23,19 +23,19 @@ use Rattle.melcard.specs.declared.job.Telling.TheVariants.{Transcript, Trace}
 use Rattle.melcard.specs.Jobs.{usage}
 use Rattle.melcard.specs.Verdicts.{JobVerdict, Whole, Refusal, Plays, Sums, StandsFor}
 
--- ---- the outside
+-- ---- the environment
 
--- what source and sink tell before and after the call, and what its device tells
+-- the environment of the call: source and sink before and after it, and the device before and after it
 pub record CardOutside : Type 0 where
   pub streams : Outside
   pub dev_old : Bench
   pub dev : Bench
 
--- a bench as its device tells it
+-- the bench of a device
 abbrev pub bench_of : {N : Type 0} → (N → DeviceState) → (N → BenchState) → N → Bench
 bench_of state bench dev = record { device = state dev; bench = bench dev }
 
--- the outside by the values of a call, before and after it
+-- the environment, by the values of a call before and after it
 abbrev pub card_outside : {S T N : Type 0} → source.Ghosts S → sink.Ghosts T → (N → DeviceState) → (N → BenchState)
     → S → S → T → T → N → N → CardOutside
 card_outside s t state bench in_old in_new out_old out_new dev_old dev_new =
@@ -47,13 +47,13 @@ card_outside s t state bench in_old in_new out_old out_new dev_old dev_new =
 
 -- ---- what was read
 
--- what a job is to do: by its number, or by what was read
+-- the verdict that a job carries out: by its number, or by the input that was read
 abbrev pub IsDue : Job → Outside → JobVerdict → Type 0
 IsDue (job.Generate n) a v = Untouched a × (v ≡ Sums (deck_of_number n))
 IsDue (job.Play t) a v = IsRead Refusal (StandsFor (job.Play t)) a.left_old a.left v
 IsDue (job.Write f) a v = IsRead Refusal (StandsFor (job.Write f)) a.left_old a.left v
 
--- what a job takes of its source: one that generates nothing, and any other no more than the limit and one byte behind it
+-- the bytes that a job takes from its source: none if it generates a deck, and else at most the limit and one byte after it
 abbrev pub TakesAtMost : Job → Outside → Type 0
 TakesAtMost (job.Generate n) a = Untouched a
 TakesAtMost (job.Play t) a = TookLimited a.left_old a.left
@@ -61,40 +61,40 @@ TakesAtMost (job.Write f) a = TookLimited a.left_old a.left
 
 -- ---- what was done
 
--- the text of a line of a play, as it is told
+-- the output text of a step of a play
 abbrev pub text_of_step : Telling → Step → List ℕ
 text_of_step Transcript = plain_text
 text_of_step Trace = traced_text
 
--- A deck was played and told, whole or up to a fault. Accepted code on its card keeps to its verdict.
+-- A deck was played and its output written, completely or up to a fault. Accepted code on its card keeps to its verdict.
 pub record IsPlayed (t : Telling) (lines : List (ℕ × DeckLine)) (s : Status) (dev_old : Bench) (out_old : Sunk) (dev : Bench) (out : Sunk) : Type 0 where
   pub result : Result (Unit {0}) Fault
   pub status : s ≡ status_after_writing Done result
   pub plays : PlaysDeck (text_of_step t) lines dev_old out_old result dev out
   pub checked : KeepToVerdicts (play.plays (play.start dev_old.device.words) plays.from.lines plays.from.worn)
 
--- A deck was played and summarised, whole or up to a fault. Accepted code on its card keeps to its verdict.
+-- A deck was played and summarised, completely or up to a fault. Accepted code on its card keeps to its verdict.
 pub record IsSummed (lines : List (ℕ × DeckLine)) (s : Status) (dev_old : Bench) (out_old : Sunk) (dev : Bench) (out : Sunk) : Type 0 where
   pub result : Result (Unit {0}) Fault
   pub status : s ≡ status_after_writing Done result
   pub sums : SumsDeck summary lines dev_old out_old result dev out
   pub checked : KeepToVerdicts (play.plays (play.start dev_old.device.words) lines sums.worn)
 
--- what an input stands for was done
+-- the verdict on an input was carried out
 abbrev pub IsDone : JobVerdict → Status → CardOutside → Type 0
 IsDone (Whole text) s a = IsWritten Done text s a.streams.out_old a.streams.out
 IsDone (Refusal line) s a = IsWritten Failed line s a.streams.out_old a.streams.out
 IsDone (Plays t lines) s a = IsPlayed t lines s a.dev_old a.streams.out_old a.dev a.streams.out
 IsDone (Sums lines) s a = IsSummed lines s a.dev_old a.streams.out_old a.dev a.streams.out
 
--- a device that is not played on is as it was handed in
+-- a device on which nothing is played is unchanged
 abbrev pub IsKeptUnlessPlayed : Type 0 → JobVerdict → Type 0
 IsKeptUnlessPlayed Kept (Whole text) = Kept
 IsKeptUnlessPlayed Kept (Refusal line) = Kept
 IsKeptUnlessPlayed Kept (Plays t lines) = ⊤
 IsKeptUnlessPlayed Kept (Sums lines) = ⊤
 
--- ---- statuses: `Kept` says that the device is as it was handed in
+-- ---- statuses: `Kept` states that the device is unchanged
 
 -- a job was done, or its input was refused, or the sink failed
 abbrev pub MelcardDone : Type 0 → Job → CardOutside → Status → Type 0
@@ -106,42 +106,42 @@ IsReading (job.Play t) = ⊤
 IsReading (job.Generate n) = ⊥
 IsReading (job.Write f) = ⊤
 
--- the source of a job that reads failed, and the device is kept
+-- the source of a job that reads failed, and the device is unchanged
 abbrev pub MelcardReadFault : Type 0 → Job → CardOutside → Type 0
 MelcardReadFault Kept job a = IsReading job × SaysReadFault (TakesAtMost job a.streams) a.streams × Kept
 
--- memory was short, and the device is kept
+-- out of memory, and the device is unchanged
 abbrev pub MelcardNoMemory : Type 0 → Job → CardOutside → Type 0
 MelcardNoMemory Kept job a = SaysNoMemory (TakesAtMost job a.streams) a.streams × Kept
 
--- the usage line was written, and the device is kept
+-- the usage line was written, and the device is unchanged
 abbrev pub MelcardNoForm : Type 0 → CardOutside → Status → Type 0
 MelcardNoForm Kept a s = SaysNoForm usage s a.streams × Kept
 
--- what each status says, by the job that the words name
+-- the meaning of each status, by the job that the words select
 abbrev pub MelcardSays : Type 0 → Status → Option Job → CardOutside → Type 0
 MelcardSays Kept s (Some job) a = JobSays (MelcardDone Kept job a) (MelcardReadFault Kept job a) (MelcardNoMemory Kept job a) s
 MelcardSays Kept s None a = NoJobSays (MelcardNoForm Kept a) s
 
 -- ---- completeness
 
--- the status that comes where a verdict is done whole
+-- the status if a verdict is carried out completely
 abbrev pub status_of : JobVerdict → Status
 status_of (Whole text) = Done
 status_of (Refusal line) = Failed
 status_of (Plays t lines) = Done
 status_of (Sums lines) = Done
 
--- what a job is to do: by its number, or by all that its source had left
+-- the verdict that a job carries out: by its number, or by all bytes that were left in its source
 abbrev pub IsAllDue : Job → Outside → JobVerdict → Type 0
 IsAllDue (job.Generate n) a v = v ≡ Sums (deck_of_number n)
 IsAllDue (job.Play t) a v = AllStands Refusal (StandsFor (job.Play t)) a.left_old v
 IsAllDue (job.Write f) a v = AllStands Refusal (StandsFor (job.Write f)) a.left_old v
 
--- the whole of what is due was done
+-- all that is due was done
 abbrev pub MelcardWhole : Job → CardOutside → Status → Type 0
 MelcardWhole job a s = IsWhole (IsAllDue job a.streams) status_of (λ (v : JobVerdict). IsDone v s a) s
 
--- where no call of source or sink fails, all that is due is done, or memory was short before the first byte
+-- if no call of source or sink fails, all that is due is done, or the call was out of memory before the first byte of output
 abbrev pub MelcardCompletes : Status → Job → CardOutside → Type 0
 MelcardCompletes s job a = Completes (MelcardWhole job a s) s a.streams

@@ -1,4 +1,4 @@
-// What the stack checker says of the code of a deck.
+// The stack checker's verdicts on the code of a deck.
 ghost use Rattle.std.specs.Prelude.{◌≡◌, ◌++◌, decimal, IfOk, OnOk};
 ghost use Rattle.mc_deck.specs.Lines.{line_of, GoodLine};
 ghost use Rattle.melcard.specs.Verdicts.{verdict_line, AreVerdicts};
@@ -40,7 +40,7 @@ fn push_verdict(text: &mut Vec<u8>, number: u32, verdict: &Verdict) -> Result<()
     Ok(())
 }
 
-// Adds the line of a load line, and nothing for any other.
+// Adds the line of a load line, and nothing for any other line.
 fn push_line(
     alloc: Global,
     text: &mut Vec<u8>,
@@ -57,8 +57,12 @@ fn push_line(
     push_verdict(text, number, &verdict)
 }
 
-/// A line for each load line of a deck, in order: its number, and what the stack checker says of its unit's code with its
-/// session size.
+/// Returns a text with a line for each load line of a deck, in order: its number, and the stack checker's
+/// verdict on its unit's code with its session size.
+///
+/// # Errors
+///
+/// Returns `NoMemory` if it is out of memory.
 pub fn verdicts_of(alloc: Global, deck: &Deck) -> Result<Vec<u8>, NoMemory>
     ensures { IfOk result (λ text. AreVerdicts deck.now text.items) }
 {

@@ -1,4 +1,4 @@
-// Code that is given as hexadecimal digits.
+// Code given as hexadecimal digits.
 ghost use Rattle.std.specs.Prelude.{◌≡◌, ◌≤◌, ◌<◌, ◌++◌, ◌∷◌, [], length, vec_len, option_map, Ok, IfOk, IfErr, OnOk};
 ghost use Rattle.mc_model_device.specs.Limits.{most_code};
 ghost use Rattle.mc_model_machine.specs.Text.{hex_bytes, lines, with_numbers, ok_as, code_text_read};
@@ -10,15 +10,15 @@ use mc_base::MOST_CODE;
 use mc_text::{hex_value, is_blank, next_line};
 use std::alloc::{AllocError, Global};
 
-/// Why a text is no code.
+/// Why a text is not code.
 #[derive(Clone, Copy, Debug, PartialEq, Eq)]
 pub enum CodeRefusal {
-    /// The first line, counted from 1, with a character that is neither a digit nor a blank; the last line where the
-    /// number of digits is odd.
+    /// The first line, counted from 1, with a character that is neither a digit nor a blank; the last line if
+    /// the number of digits is odd.
     BadHex(u32),
-    /// The digits spell more bytes than the code of an application has.
+    /// The digits spell more bytes than the code of an application may have.
     TooLarge,
-    /// Memory that was asked for was not there.
+    /// Out of memory.
     NoMemory,
 }
 
@@ -33,7 +33,7 @@ impl From<AllocError> for CodeRefusal {
     }
 }
 
-// Adds one character of a line, and none for a blank.
+// Adds one character of a line, and nothing for a blank.
 fn push_digit(digits: &mut Vec<u8>, number: u32, character: u8) -> Result<(), CodeRefusal>
     ensures ok { OnOk result (ok_as (λ vs. digits.old.items ++ vs) (line_digits number (character ∷ []))
         ≡ Ok digits.new.items) }
@@ -61,7 +61,7 @@ fn push_line(digits: &mut Vec<u8>, number: u32, line: &[u8]) -> Result<(), CodeR
     Ok(())
 }
 
-// The digits of all lines, and how many lines there are.
+// The digits of all lines, and the number of lines.
 fn digits_of(alloc: Global, text: &[u8]) -> Result<(Vec<u8>, u32), CodeRefusal>
     requires { length text.now ≤ input_limit }
     ensures digits { IfOk result (λ r. text_digits (with_numbers 1 (lines text.now)) ≡ Ok r.0.items) }
@@ -79,7 +79,7 @@ fn digits_of(alloc: Global, text: &[u8]) -> Result<(Vec<u8>, u32), CodeRefusal>
     Ok((digits, count))
 }
 
-// The bytes that hexadecimal digits spell, none where their number is odd.
+// The bytes that hexadecimal digits spell, or `None` if their number is odd.
 #[tactic(auto, using(mc_deck::proofs::HexLemmas::bytes_spelled, mc_deck::proofs::HexLemmas::bytes_misspelled))]
 fn bytes_of(alloc: Global, digits: &[u8]) -> Result<Option<Vec<u8>>, AllocError>
     ensures { IfOk result (λ r. option_map (λ code. code.items) r ≡ hex_bytes digits.now) }
@@ -91,8 +91,13 @@ fn bytes_of(alloc: Global, digits: &[u8]) -> Result<Option<Vec<u8>>, AllocError>
     }
 }
 
-/// The code that hexadecimal digits in either case spell, with blanks and line ends anywhere: at most 8,192 bytes. Bad
-/// characters are found first, then an odd number of digits, then too many bytes.
+/// Returns the code that hexadecimal digits in either case spell, with blanks and line ends anywhere: at most
+/// 8,192 bytes.
+///
+/// # Errors
+///
+/// Returns the first of these that applies: a bad character, an odd number of digits, too many bytes;
+/// or `NoMemory` if it is out of memory.
 pub fn read_code(alloc: Global, text: &[u8]) -> Result<Vec<u8>, CodeRefusal>
     requires { length text.now ≤ input_limit }
     ensures code { IfOk result (λ v. code_text_read text.now ≡ Ok v.items) }

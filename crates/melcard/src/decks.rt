@@ -1,8 +1,8 @@
-// Decks, and what the jobs `play` and `trace` write of them: cuts, refused writes, damaged and old images, commands to
-// applications, delegation, transactions, and refused decks.
+// Decks, and the output of the jobs `play` and `trace` for them: power cuts, failed writes, damaged and old
+// images, commands to applications, delegation, transactions, and refused decks.
 use crate::samples::Sample;
 
-/// The decks that are tried.
+/// The decks that are tested.
 pub const DECKS: [Sample; 15] = [
     Sample {
         word: "play",

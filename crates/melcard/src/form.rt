@@ -1,4 +1,4 @@
-// The texts that are made of an input.
+// The texts that are made from an input.
 ghost use Rattle.std.specs.Prelude.{◌≡◌, ◌≤◌, length, Ok, IfErr, IfOk, MatchResult};
 ghost use Rattle.mc_model_device.specs.Limits.{most_code};
 ghost use Rattle.mc_model_machine.specs.Assembly.{assembly_of};
@@ -44,7 +44,7 @@ fn listed(alloc: Global, code: &[u8]) -> Result<Vec<u8>, Rejection>
     }
 }
 
-// The listing of code that is given as hexadecimal digits.
+// The listing of code given as hexadecimal digits.
 fn read_and_listed(alloc: Global, text: &[u8]) -> Result<Vec<u8>, Rejection>
     requires { length text.now ≤ input_limit }
     ensures { MatchResult result (λ t. Whole t.items
@@ -58,7 +58,7 @@ fn read_and_listed(alloc: Global, text: &[u8]) -> Result<Vec<u8>, Rejection>
     }
 }
 
-// What the checker says of the code of a deck.
+// The stack checker's verdicts on the code of a deck.
 fn checked(alloc: Global, text: &[u8]) -> Result<Vec<u8>, Rejection>
     ensures { MatchResult result (λ t. IsCheckOf (deck_read text.now) (Whole t.items))
         (RejectsAs (IsCheckOf (deck_read text.now))) }
@@ -67,7 +67,11 @@ fn checked(alloc: Global, text: &[u8]) -> Result<Vec<u8>, Rejection>
     Ok(verdicts_of(alloc, &deck)?)
 }
 
-/// The text that is due for an input within the limit, or the line that refuses the input.
+/// Returns the text due for an input within the limit.
+///
+/// # Errors
+///
+/// Returns the line that refuses the input, or `NoMemory` if it is out of memory.
 pub fn text_of(alloc: Global, form: Form, input: &[u8]) -> Result<Vec<u8>, Rejection>
     requires { length input.now ≤ input_limit }
     ensures { MatchResult result (λ t. IsTextOf form input.now (Whole t.items)) (RejectsAs (IsTextOf form input.now)) }

@@ -4,34 +4,34 @@ ghost use Rattle.melcard.specs.Jobs.{generated_number, job_named, job_of, JobFit
 
 use mc_text::decimal_number;
 
-/// What is told of a play.
+/// The output of a play.
 #[derive(Clone, Copy, Debug, PartialEq, Eq)]
 pub enum Telling {
     /// The results of its lines.
     Transcript,
-    /// A line besides for each executed instruction.
+    /// The results of its lines, and a line for each executed instruction.
     Trace,
 }
 
-/// A text that is made of an input.
+/// A text that is made from an input.
 #[derive(Clone, Copy, Debug, PartialEq, Eq)]
 pub enum Form {
     /// The code of an assembly text, in hexadecimal.
     Code,
-    /// The listing of code that is given in hexadecimal.
+    /// The listing of code given in hexadecimal.
     Listing,
-    /// What the stack checker says of the code of each load line of a deck.
+    /// The stack checker's verdict on the code of each load line of a deck.
     Verdicts,
 }
 
-/// What the words of the command line ask for.
+/// The job that the words of the command line select.
 #[derive(Clone, Copy, Debug, PartialEq, Eq)]
 pub enum Job {
-    /// To play a deck and to tell its play.
+    /// Plays a deck and writes the output of the play.
     Play(Telling),
-    /// To play the deck that a number up to 2,147,483,647 generates, and to summarise its play.
+    /// Plays the deck that a number up to 2,147,483,647 generates, and writes a summary of the play.
     Generate(u32),
-    /// To write a text of the input.
+    /// Writes a text made from the input.
     Write(Form),
 }
 
@@ -66,7 +66,8 @@ fn job_named(word: &str) -> Option<Job>
     }
 }
 
-/// The job that the words of the command line name, without the name of the program.
+/// Returns the job that the words of the command line, without the name of the program, select, or `None` if
+/// they select none.
 pub fn job_of(words: &[String]) -> Option<Job>
     ensures job { result ≡ job_of words.now }
     ensures fits { IfSome result JobFits }

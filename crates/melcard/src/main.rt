@@ -42,7 +42,7 @@ fn program<L: Ledger>(rt: &HostRuntime, blank: Blank) -> u8
     let Ok(words) = command_words(rt) else {
         return number(Status::NoMemory);
     };
-    // Words that cannot be had are no form.
+    // Arguments that are not UTF-8 select no job.
     let words = words.unwrap_or_else(|| Vec::new(alloc));
     let Ok(mut device) = blank_device(alloc) else {
         return number(Status::NoMemory);

@@ -1,4 +1,4 @@
-// Worked inputs, and what they stand for.
+// Worked inputs and their verdicts.
 ghost use Rattle.std.specs.Prelude.{◌≡◌, [], codes, None, Some};
 ghost use Rattle.mc_model_machine.specs.declared.checker.CheckCause.TheVariants.{Deep};
 ghost use Rattle.mc_check.specs.declared.verdict.Verdict.TheVariants.{Accept, Refuse};
@@ -9,7 +9,7 @@ ghost use Rattle.melcard.specs.Jobs.{generated_number, job_named, job_numbered};
 ghost use Rattle.melcard.specs.Verdicts.{Plays, Refusal, Whole};
 ghost use Rattle.melcard.specs.Computed.{checked_line, code_verdict, deck_verdict, listing_verdict};
 
-/// The words of the jobs, and words that name none.
+/// The words of the jobs, and words that select none.
 pub fn words_of_jobs()
     ensures play { job_named (codes "play") ≡ Some (job.Play Transcript) }
     ensures trace { job_named (codes "trace") ≡ Some (job.Play Trace) }
@@ -39,13 +39,14 @@ pub fn lines_of_verdicts()
     ensures refused { checked_line 12 (Refuse 130 Deep) ≡ codes "12 refuse 130 Deep\n" }
 {}
 
-/// The first line that is not taken is refused by its number, and skipped lines count.
+/// The first line that is not accepted is refused by its number, and skipped lines count.
 #[tactic(auto, unfolding(crate::specs::Computed::deck_verdict))]
 pub fn refused_deck()
     ensures { deck_verdict (codes "format\n\n# reboot\nreboot\npower\n") ≡ Refusal (codes "line 4 BadLine\n") }
 {}
 
-/// An empty deck has no line to be played, an empty assembly text gives a line without a digit, and code of no byte nothing.
+/// An empty deck has no line to play, an empty assembly text gives a line without a digit, and code without a
+/// byte gives an empty text.
 #[tactic(auto, unfolding(crate::specs::Computed::deck_verdict, crate::specs::Computed::code_verdict, crate::specs::Computed::listing_verdict))]
 pub fn empty()
     ensures deck { deck_verdict [] ≡ Plays Transcript [] }
@@ -62,7 +63,7 @@ pub fn counter_code()
         ≡ Whole (codes "INCN SB[0],2\nLOAD SB[0],2\nSTORE PB[0],2\nEXITLA 0x0002\n") }
 {}
 
-/// The first refused line of an assembly text by itself, and where there is none, the first unknown label.
+/// The first refused line of an assembly text by itself, and, if there is none, the first unknown label.
 #[tactic(auto, unfolding(crate::specs::Computed::code_verdict))]
 pub fn refused_texts()
     ensures number { code_verdict (codes "BRANCH ALL,away\nPUSHB 256\nBYTES 1\n")

@@ -23,7 +23,7 @@ use mc_script::{play, summarise, trace};
 use std::alloc::Global;
 use std::sync::ledger::Ledger;
 
-// Plays a deck and tells its play.
+// Plays a deck and writes the output of the play.
 fn play_as<T: Sink, N: Bench, L: Ledger>(
     telling: Telling,
     deck: &Deck,
@@ -42,7 +42,7 @@ fn play_as<T: Sink, N: Bench, L: Ledger>(
     }
 }
 
-// Plays the deck that an input spells, and tells its play.
+// Plays the deck that an input spells, and writes the output of the play.
 fn tell<S: Source, T: Sink, N: Bench, L: Ledger>(
     alloc: Global,
     telling: Telling,
@@ -64,7 +64,7 @@ fn tell<S: Source, T: Sink, N: Bench, L: Ledger>(
     Ok(ended(Status::Done, play_as(telling, &deck, out, dev, steps)))
 }
 
-// Plays the deck that a number generates, and summarises its play.
+// Plays the deck that a number generates, and writes a summary of the play.
 fn sum<T: Sink, N: Bench, L: Ledger>(
     alloc: Global,
     number: u32,
@@ -128,9 +128,9 @@ fn run<S: Source, T: Sink, N: Bench, L: Ledger>(
     }
 }
 
-/// Does the job that the words name, over a source, a sink and a device that is handed in without a fuse, and gives its
-/// status: 0 done, 1 the input is refused, 2 the words name no job, 3 a fault of the source, 4 a fault of the sink, 5 want
-/// of memory.
+/// Does the job that the words select, over a source, a sink and a device without an armed stop, and returns
+/// its status: 0 done, 1 the input is refused, 2 the words select no job, 3 a fault of the source, 4 a fault
+/// of the sink, 5 out of memory.
 pub fn melcard<S: Source, T: Sink, N: Bench, L: Ledger>(
     alloc: Global,
     words: &[String],

@@ -1,6 +1,6 @@
-// Assembly texts and codes, and what the jobs `asm` and `list` write of them.
+// Assembly texts and codes, and the output of the jobs `asm` and `list` for them.
 
-/// An input of a job, with the status and the text that are due.
+/// An input of a job, with the status and the text due.
 pub struct Sample {
     pub word: &'static str,
     pub input: &'static [u8],
@@ -8,7 +8,7 @@ pub struct Sample {
     pub text: &'static [u8],
 }
 
-/// The samples that are tried.
+/// The samples that are tested.
 pub const SAMPLES: [Sample; 26] = [
     Sample {
         word: "asm",

@@ -1,4 +1,4 @@
-// Decks whose device writes are stopped, one after another.
+// Decks whose device writes are stopped, each in turn.
 ghost use Rattle.std.specs.Prelude.{◌≡◌, ◌<◌};
 
 use crate::running::melcard;
@@ -14,7 +14,8 @@ use std::test::Fail;
 const NAMES: &str =
     "format\npower\napp counter A000000001\nINCN SB[0],2\nLOAD SB[0],2\nSTORE PB[0],2\nEXITLA 2\nend\napp purse A000000002\nPRIM 3,2\nSUBW SB[0],0x0001\nADDW SB[8],0x0001\nPRIM 3,1\nDATA 00050000000000000000\nEXIT\nend\n";
 
-// A line that changes the card behind some others, and what an application's static bytes are without the change and with it.
+// A line that changes the card after some other lines, and the static bytes of an application without the
+// change and with it.
 struct Change {
     before: &'static str,
     line: &'static str,
@@ -55,7 +56,7 @@ const CHANGES: [Change; 4] = [
     },
 ];
 
-// What is armed: a cut with the word that it leaves, or a refused write.
+// The stop that is armed: a power cut with the word that it leaves, or a failed write.
 #[derive(Clone, Copy)]
 enum Arming {
     Cut(&'static str),
@@ -69,7 +70,8 @@ fn armed(alloc: Global, arming: Arming, k: u32) -> Result<String, AllocError> {
     }
 }
 
-// A deck whose change is armed with a stop, and after it a recovery that is cut at a write, where it is not 0.
+// A deck in which a stop is armed for the change, and after it, if `cut` is not 0, a recovery that is cut at
+// that write.
 fn stopped_deck(
     alloc: Global,
     change: &Change,
@@ -90,14 +92,14 @@ fn stopped_deck(
     format!(in alloc; "{NAMES}{before}{stop}{line}\n{recovery}power\ndump {name}\n")
 }
 
-// How a change came out: whether its line was stopped, and whether the card has it.
+// The outcome of a change: whether its line was stopped, and whether the card has it.
 #[derive(Clone, Copy, Debug, PartialEq, Eq)]
 struct Outcome {
     is_stopped: bool,
     is_new: bool,
 }
 
-// How a stopped change comes out, where it is whole.
+// The outcome of a stopped change, if it is atomic.
 fn outcome_of(
     alloc: Global,
     change: &Change,
@@ -115,7 +117,8 @@ fn outcome_of(
     Ok(is_whole.then_some(Outcome { is_stopped, is_new }))
 }
 
-// Whether the change is as it came out, wherever the recovery behind it is cut: no recovery of these has 12 writes.
+// Whether the outcome of the change is the same wherever the recovery after it is cut: none of these
+// recoveries has 12 writes.
 fn is_kept(alloc: Global, change: &Change, stop: &str, is_new: bool) -> Result<bool, NoMemory> {
     for cut in 1..=12 {
         let end = outcome_of(alloc, change, stop, cut)?;
@@ -126,8 +129,8 @@ fn is_kept(alloc: Global, change: &Change, stop: &str, is_new: bool) -> Result<b
     Ok(true)
 }
 
-// Each change, stopped at each of its writes, with recoveries that are cut at each of theirs: it is whole, and once it is there at a write,
-// it is at each later one.
+// Each change, stopped at each of its writes, with recoveries that are cut at each of theirs: it is atomic,
+// and if it is durable at a write it is durable at each later one.
 #[test]
 fn stopped_changes(rt: HostRuntime) -> Result<(), Fail> {
     let alloc = rt.alloc();
@@ -161,8 +164,8 @@ fn stopped_changes(rt: HostRuntime) -> Result<(), Fail> {
     Ok(())
 }
 
-// What a play over a device that refuses some writes gives: its status, its transcript, how many writes were tried, and
-// which of them, counted from 1, was the first to be refused.
+// The output of a play over a device that refuses some writes: its status, its transcript, the number of
+// writes that were tried, and the number of the first failed write, counted from 1.
 #[derive(Drop)]
 struct Taped {
     status: u8,
@@ -171,7 +174,7 @@ struct Taped {
     refused: Option<usize>,
 }
 
-// The first write of a tape that was refused, counted from 1.
+// The number of the first failed write of a tape, counted from 1.
 fn first_refused(entries: &[Entry]) -> Option<usize> {
     for (i, entry) in entries.iter().enumerate() {
         if entry.end == Some(Stop::Worn) {
@@ -213,13 +216,13 @@ fn over_tape<L: Ledger>(
     })
 }
 
-// With steps of its own.
+// Plays a deck over a tape, with steps of its own.
 fn play_taped(alloc: Global, input: &[u8], worn: &[u32]) -> Result<Taped, NoMemory> {
     over_tape::<Brand>(alloc, Blank::new(1), input, worn)
 }
 
-// A deck whose device refuses one of its writes, each in turn: a line answers so exactly where the tape has it, and the
-// number at the end is one that the counter had.
+// A deck whose device refuses one of its writes, each in turn: a line is answered 6581, the tape has the
+// failed write, and the number at the end is one that the counter had.
 #[test]
 fn refused_writes(rt: HostRuntime) -> Result<(), Fail> {
     let alloc = rt.alloc();
@@ -245,8 +248,8 @@ fn refused_writes(rt: HostRuntime) -> Result<(), Fail> {
     Ok(())
 }
 
-// Whether a device that refuses a write of a change by itself gives the text of one that a `fail` line has refuse it; `None`
-// where the change has no such write.
+// Whether a device that refuses a write of a change by itself gives the same text as one in which a `fail`
+// line makes that write fail; `None` if the change has no such write.
 fn refuses_alike(alloc: Global, change: &Change, k: u32) -> Result<Option<bool>, NoMemory> {
     let stop = armed(alloc, Arming::Fail, k)?;
     let deck = stopped_deck(alloc, change, stop.as_str(), 0)?;
@@ -265,7 +268,7 @@ fn refuses_alike(alloc: Global, change: &Change, k: u32) -> Result<Option<bool>,
     Ok(Some(is_alike))
 }
 
-// Each write of each change, refused by the device.
+// Each write of each change, failed by the device itself.
 #[test]
 fn worn_writes(rt: HostRuntime) -> Result<(), Fail> {
     let alloc = rt.alloc();

@@ -11,7 +11,7 @@ use std::marker::Brand;
 use std::sync::ledger::{Blank, Ledger};
 use std::test::Fail;
 
-// How many answers of a transcript are of each kind.
+// The number of answers of each kind in a transcript.
 #[derive(Clone, Copy)]
 struct Kinds {
     lines: u32,
@@ -22,7 +22,7 @@ struct Kinds {
     readies: u32,
 }
 
-// The counts with one line more, which answers this.
+// The counts after one more line with this answer.
 fn with_answer(kinds: Kinds, answer: &str) -> Kinds {
     let one = |is_so: bool| if is_so { 1 } else { 0 };
     let is_named = ["formatted", "unusable", "mute", "absent", "static"]
@@ -43,7 +43,7 @@ fn with_answer(kinds: Kinds, answer: &str) -> Kinds {
     }
 }
 
-// The answer behind the number of a line.
+// The answer after the number of a line.
 fn answer_of(line: &str) -> &str {
     match line.split_once(' ') {
         Some((_, answer)) => answer,
@@ -51,7 +51,8 @@ fn answer_of(line: &str) -> &str {
     }
 }
 
-// The summary that a transcript of a generated deck counts up to: its last three lines are those of the applications.
+// The summary counted from a transcript of a generated deck: its last three lines are those of the
+// applications.
 fn counted(alloc: Global, transcript: &str) -> Result<String, AllocError> {
     let mut kinds = Kinds {
         lines: 0,
@@ -104,7 +105,7 @@ fn transcript(alloc: Global, number: u32) -> Result<Vec<u8>, NoMemory>
     played::<Brand>(alloc, Blank::new(1), &deck)
 }
 
-// What `gen` writes of the first twenty numbers is what their transcripts count up to.
+// The output of `gen` for the first twenty numbers is the summary counted from their transcripts.
 #[test]
 fn summaries(rt: HostRuntime) -> Result<(), Fail> {
     let alloc = rt.alloc();

@@ -18,7 +18,7 @@ const COUNTER: &[u8] =
 
 const TEXT: &[u8] = b"1 formatted\n2 ready 0\n4 9000\n5 9000\n6 00019000\n7 00029000\n";
 
-/// How a job ended, what it wrote, and how many bytes it left in its source.
+/// The end of a job: its status, its output, and the number of bytes that it left in its source.
 #[derive(Drop)]
 pub struct End {
     pub status: u8,
@@ -27,13 +27,13 @@ pub struct End {
 }
 
 impl End {
-    /// Whether the status and the text are these.
+    /// Returns whether the status and the text are these.
     pub fn is(&self, status: u8, text: &[u8]) -> bool {
         self.status == status && self.text.as_slice() == text
     }
 }
 
-// The end of a job over memory and a blank device of so many words, with a count of steps.
+// The end of a job over memory and a blank device of `device_words` words, with a count of steps.
 fn counted<L: Ledger>(
     alloc: Global,
     blank: Blank,
@@ -72,7 +72,8 @@ fn counted<L: Ledger>(
     })
 }
 
-/// The end of a job over memory: its words, its input, the room of its sink, and the calls of its source that fail.
+/// Returns the end of a job over memory, by its words, its input, the room of its sink, and the calls of its
+/// source that fail.
 pub fn ended(
     alloc: Global,
     words: &[String],
@@ -83,7 +84,7 @@ pub fn ended(
     ended_on(alloc, DEVICE_WORDS, words, input, room, fail_at)
 }
 
-// The same over a device of so many words.
+// The end of a job over memory and a device of `device_words` words.
 fn ended_on(
     alloc: Global,
     device_words: u32,
@@ -106,7 +107,7 @@ fn ended_on(
     )
 }
 
-/// The words of a command line.
+/// Returns the words of a command line.
 pub fn words(alloc: Global, texts: &[&str]) -> Result<Vec<String>, AllocError> {
     let mut words = Vec::new(alloc);
     for text in texts {
@@ -115,7 +116,7 @@ pub fn words(alloc: Global, texts: &[&str]) -> Result<Vec<String>, AllocError> {
     Ok(words)
 }
 
-// Whether these words give the usage line, and leave the source as it was.
+// Whether these words lead to the usage line, and leave the source unchanged.
 fn is_no_form(alloc: Global, texts: &[&str]) -> Result<bool, NoMemory> {
     let words = words(alloc, texts)?;
     let end = ended(alloc, words.as_slice(), COUNTER, 58, &[])?;
@@ -145,13 +146,13 @@ fn statuses(rt: HostRuntime) -> Result<(), Fail> {
     Ok(())
 }
 
-// Whether a sample gives what is due over a sink with room, a front of it over one with a byte too little, and nothing over
-// a source that fails.
+// Whether a sample has the output due over a sink with room, all but its last byte over a sink with one byte
+// too little, and nothing over a source that fails.
 fn is_due(alloc: Global, sample: &Sample) -> Result<bool, NoMemory> {
     is_due_on(alloc, DEVICE_WORDS, sample)
 }
 
-// The same over a device of so many words.
+// Whether a sample has the output due in that way, over a device of `device_words` words.
 fn is_due_on(alloc: Global, device_words: u32, sample: &Sample) -> Result<bool, NoMemory>
     requires low { 256 ≤ device_words }
     requires high { device_words ≤ 16384 }
@@ -189,7 +190,7 @@ fn decks(rt: HostRuntime) -> Result<(), Fail> {
     Ok(())
 }
 
-// The place of the first sample that gives something else than what is due.
+// The place of the first sample without the status and the text due.
 fn wrong_at(alloc: Global, samples: &[Sample]) -> Result<Option<usize>, NoMemory> {
     for (i, sample) in samples.iter().enumerate() {
         if !is_due(alloc, sample)? {
@@ -199,7 +200,7 @@ fn wrong_at(alloc: Global, samples: &[Sample]) -> Result<Option<usize>, NoMemory
     Ok(None)
 }
 
-// The decks of the worked rows, against what the definitions compute of each.
+// The decks of the worked rows, with the output that the definitions compute for each.
 #[test]
 fn worked_plays(rt: HostRuntime) -> Result<(), Fail> {
     let wrong = wrong_at(rt.alloc(), &PLAYS)?;
@@ -274,7 +275,7 @@ fn generated(rt: HostRuntime) -> Result<(), Fail> {
     Ok(())
 }
 
-// What the checker says of the code of a deck's load lines, with their session bytes.
+// The stack checker's verdicts on the code of a deck's load lines, with their session bytes.
 #[test]
 fn checked(rt: HostRuntime) -> Result<(), Fail> {
     let alloc = rt.alloc();
@@ -323,7 +324,7 @@ fn long_codes(rt: HostRuntime) -> Result<(), Fail> {
     Ok(())
 }
 
-// Words that name no job.
+// Words that select no job.
 #[test]
 fn usage(rt: HostRuntime) -> Result<(), Fail> {
     let alloc = rt.alloc();

@@ -1,4 +1,4 @@
-// The decks of the worked rows, with the transcript or the trace that the definitions compute of each.
+// The decks of the worked rows, with the transcript or the trace that the definitions compute for each.
 use crate::samples::Sample;
 
 /// Rows of plays.

@@ -1,4 +1,4 @@
--- A job is complete where no call of source or sink fails.
+-- A job is complete if no call of source or sink fails.
 use Rattle.std.proofs.Common.{◌≡◌, ℕ, Option, Some, None, IfSome, subst}
 use Rattle.mc_model_device.specs.Counts.{Rose}
 use Rattle.mc_filter.proofs.Statuses.{same_status, written_whole}
@@ -12,7 +12,7 @@ use Rattle.mc_filter.specs.declared.status.Status.TheVariants.{Failed}
 use Rattle.mellab.specs.Verdicts.{LabVerdict, Tells, Refusal}
 use Rattle.mellab.specs.Statuses.{status_by, status_of, IsTextWritten, IsVerdictOfJob, MellabCompletes, MellabDone, MellabWhole, MellabSays}
 
--- whatever was due was done whole
+-- the text of the verdict was written completely
 done_whole : (v : LabVerdict) (s : Status) (a : Outside) → (Rose a.out_old.faults a.out.faults → ⊥) → IsTextWritten v s a → s ≡ status_of v
 done_whole (Tells text well) s a quiet d = written_whole a.out_old a.out text (status_by well) s d.result quiet d.status d.written
 done_whole (Refusal line) s a quiet d = written_whole a.out_old a.out line Failed s d.result quiet d.status d.written
@@ -30,7 +30,7 @@ completes : (s : Status) (work : Job) (a : Outside) → MellabSays s (Some work)
 completes s work a says =
     complete (MellabDone work a) (MellabWhole work a) (SaysReadFault (TookLimited a.left_old a.left) a) (SaysNoMemory (TookLimited a.left_old a.left) a) a s (whole work a) (λ f. f.cause) says
 
--- the same at the number of a status, for the job that the words name
+-- a job is complete at the number of a status, for the job that the words select
 pub complete_at : (form : Option Job) (s t : Status) (a : Outside) (n : ℕ) → n ≡ number_of s → n ≡ number_of t → MellabSays s form a → IfSome form (λ work. MellabCompletes t work a)
 complete_at None s t a n e f says = tt
 complete_at (Some work) s t a n e f says = subst (λ t. MellabCompletes t work a) (same_status s t n e f) (completes s work a says)

@@ -1,4 +1,4 @@
--- What a job says at the status that it ended with.
+-- The meaning of the status with which a job ended.
 use Rattle.std.proofs.Common.{◌≡◌, Bool, true, false, Option, Some, None, Result, Ok, Err, refl, sym, subst}
 use Rattle.mc_base.specs.declared.refusals.WriteFault.{WriteFault as Fault}
 use Rattle.mc_text.specs.Texts.{Puts, Sunk}
@@ -26,7 +26,7 @@ says_verdict : (work : Job) (a : Outside) (v : LabVerdict) (s : Status) → IsRe
 says_verdict work a (Tells text well) s due d = says_by work a well d.result s d.status (record { verdict = Tells text well; due = due; done = d })
 says_verdict work a (Refusal line) s due d = says_by work a false d.result s d.status (record { verdict = Refusal line; due = due; done = d })
 
--- what was done says itself, at the status that its writing ended with
+-- a verdict whose text was written is the meaning of the status with which its writing ended
 pub says_done : (work : Job) (s : Status) (a : Outside) → MellabDone work a s → MellabSays s (Some work) a
 says_done work s a d = says_verdict work a d.verdict s d.due d.done
 
@@ -38,7 +38,7 @@ says_rejected work a x (rejection.Refusal line) s why ends = says_verdict work a
 says_rejected work a x rejection.ReadFault s why ends = subst (λ s. MellabSays s (Some work) a) (sym ends.0) (record { cause = why.0; source = why.1; written = ends.1 })
 says_rejected work a x rejection.NoMemory s why ends = subst (λ s. MellabSays s (Some work) a) (sym ends.0) (record { source = why; written = ends.1 })
 
--- the words name no job, and the usage line was written
+-- the words select no job, and the usage line was written
 pub says_no_form : (form : Option Job) (a : Outside) (r : Result (Unit {0}) Fault) (s : Status) → form ≡ None → s ≡ status_after_writing NoForm r → Untouched a → Puts a.out_old usage r a.out → MellabSays s form a
 says_no_form form a r s is e still put =
     subst (λ o. MellabSays s o a) (sym is)

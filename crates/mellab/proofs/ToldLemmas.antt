@@ -1,4 +1,4 @@
--- What is told of expectations on a blank device.
+-- The report of expectations on a blank device.
 use Rattle.std.proofs.Common.{◌≡◌, ◌∙◌, ap, refl, sym, subst, ℕ, List, true, Result, Ok, Err, IfOk, inr}
 use Rattle.std.specs.Prelude.{◌==◌}
 use Rattle.mc_base.specs.declared.refusals.WriteFault.{WriteFault as Fault}
@@ -21,7 +21,7 @@ told_status : (r : Result ℕ Fault) (n : ℕ) → ((k : ℕ) → r ≡ Ok k →
 told_status (Ok k) n h = ap (λ m. status_by (m == 0)) (h k refl)
 told_status (Err f) n h = refl
 
--- a deck's expectations were told
+-- the report of a deck's expectations was written
 pub says_expected : (a : Outside) (input : List ℕ) (t : Trial) (words : List (List ℕ)) (r : Result ℕ Fault) (s : Status) → ReadWhole a.left_old a.left input → trial_read input ≡ Ok t → words ≡ blank_words device_words → s ≡ status_after r
     → ((k : ℕ) → r ≡ Ok k → k ≡ count_failed (steady_steps words t.lines) t.expected) → Puts a.out_old (expect_text (steady_steps words t.lines) t.expected) (done_of r) a.out → MellabDone job.Expect a s
 says_expected a input t words r s read is blank status count put =
@@ -33,11 +33,11 @@ says_expected a input t words r s read is blank status count put =
       done = record { result = done_of r; status = status ∙ told_status r n count; written = put };
     }
 
--- what holds of a result that is Ok
+-- a property of a result that is `Ok`
 pub if_ok : {X E : Type 0} (r : Result X E) (P : X → Type 0) → IfOk r P → (k : X) → r ≡ Ok k → P k
 if_ok r P h k e = subst (λ r. IfOk r P) e h
 
--- a deck's sweep was told, or the sink failed
+-- the text of a deck's sweep was written, or the sink failed
 pub says_swept : (a : Outside) (input : List ℕ) (ls : List (ℕ × DeckLine)) (r : Result (Unit {0}) Fault) (s : Status) → ReadWhole a.left_old a.left input → deck_read input ≡ Ok ls → s ≡ status_after_writing Done r → Puts a.out_old (sweep_text ls) r a.out → MellabDone job.Sweep a s
 says_swept a input ls r s read is status put =
     record {

@@ -1,4 +1,4 @@
--- What the input of a job stands for: the text that is due, and whether all is well, or the one line that refuses it.
+-- The verdict on the input of a job: the text due, and whether all expectations hold, or the one line that refuses the input.
 use Rattle.std.specs.Prelude.{ℕ, Bool, true, ◌==◌, List, codes, Result, Ok, Err}
 use Rattle.mc_model_device.specs.Device.{blank_words, device_words}
 use Rattle.mc_model_play.specs.DeckGrammar.{DeckLine, deck_read}
@@ -9,31 +9,31 @@ use Rattle.mc_filter.specs.Lines.{at_line, deck_line}
 use Rattle.mellab.specs.declared.job.Job.{Job}
 use Rattle.mellab.specs.declared.job.Job.TheVariants as job
 
--- a text, and whether all that it tells of is well, or the line of a refusal
+-- a verdict: a text, and whether all expectations hold, or the line of a refusal
 pub data LabVerdict : Type 0 where
   Tells : (text : List ℕ) (well : Bool) → LabVerdict
   Refusal : (line : List ℕ) → LabVerdict
 
--- a refused line of a deck, or an expectation without a result
+-- the line of a refusal: a refused line of a deck, or an expectation without a result
 abbrev pub fault_line : TrialFault → List ℕ
 fault_line (DeckFault n c) = deck_line (n, c)
 fault_line (NoAnswer n) = at_line n (codes "NoAnswer")
 
 -- ---- jobs
 
--- a deck's expectations on a blank device: all is well where none failed
+-- the verdict on a deck's expectations, played on a blank device
 abbrev pub expectation_verdict : Result Trial TrialFault → LabVerdict
 expectation_verdict (Ok t) =
     let ts = steady_steps (blank_words device_words) t.lines in
     Tells (expect_text ts t.expected) (count_failed ts t.expected == 0)
 expectation_verdict (Err e) = Refusal (fault_line e)
 
--- a sweep of a deck: nothing of it can fail
+-- the verdict on a sweep of a deck, which has no expectations
 abbrev pub sweep_verdict : Result (List (ℕ × DeckLine)) (ℕ × DeckCause) → LabVerdict
 sweep_verdict (Ok ls) = Tells (sweep_text ls) true
 sweep_verdict (Err e) = Refusal (deck_line e)
 
--- what an input within the limit stands for
+-- the verdict on an input within the limit
 abbrev pub verdict_of : Job → List ℕ → LabVerdict
 verdict_of job.Expect input = expectation_verdict (trial_read input)
 verdict_of job.Sweep input = sweep_verdict (deck_read input)

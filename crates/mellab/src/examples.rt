@@ -1,6 +1,6 @@
-// The decks of `examples/` with expectations, and what is told of them.
+// The decks of `examples/` with expectations, and the reports of them.
 
-/// A deck, and what `expect` tells of it.
+/// A deck, and the output of `expect` for it.
 pub struct Example {
     pub name: &'static str,
     pub deck: &'static str,

@@ -2,12 +2,12 @@
 ghost use Rattle.std.specs.Prelude.{◌≡◌};
 ghost use Rattle.mellab.specs.Jobs.{job_named, job_of};
 
-/// What the words of the command line ask for.
+/// The job that the words of the command line select.
 #[derive(Clone, Copy, Debug, PartialEq, Eq)]
 pub enum Job {
-    /// To play a deck and to compare its results with its expectations.
+    /// Plays a deck and compares its results with its expectations.
     Expect,
-    /// To cut power in each write of a deck's lines, and to tell what the card was then.
+    /// Cuts power in each write of a deck's lines, and writes the observed states of the card.
     Sweep,
 }
 
@@ -22,7 +22,8 @@ fn job_named(word: &str) -> Option<Job>
     }
 }
 
-/// The job that the words of the command line name, without the name of the program.
+/// Returns the job that the words of the command line, without the name of the program, select, or `None` if
+/// they select none.
 pub fn job_of(words: &[String]) -> Option<Job>
     ensures { result ≡ job_of words.now }
 {

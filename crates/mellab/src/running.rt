@@ -22,10 +22,10 @@ use mc_lab::{SweepFault, Trial, TrialRefusal, expect, read_trial, sweep};
 use std::alloc::Global;
 use std::sync::ledger::Ledger;
 
-// What is written where the words name no job.
+// The text that is written if the words select no job.
 const USAGE: &[u8] = b"usage: mellab expect | sweep\n";
 
-// Reads a deck and its expectations, or gives the line that refuses them.
+// Reads a deck and its expectations, or returns the line that refuses them.
 fn trial_of(alloc: Global, text: &[u8]) -> Result<Trial<'_>, Rejection>
     requires { length text.now ≤ input_limit }
     ensures trial { IfOk result (λ t. trial_read text.now ≡ Ok (trial_value t)) }
@@ -40,7 +40,7 @@ fn trial_of(alloc: Global, text: &[u8]) -> Result<Trial<'_>, Rejection>
     }
 }
 
-// The status of a call that told expectations, by how many failed.
+// The status after a report of expectations, by the number that failed.
 fn status_after(told: Result<usize, WriteFault>) -> Status
     ensures { result ≡ status_after told }
 {
@@ -51,7 +51,8 @@ fn status_after(told: Result<usize, WriteFault>) -> Status
     }
 }
 
-// Plays the deck that an input spells, on a blank device of its own, and tells its expectations.
+// Plays the deck that an input spells, on a blank device of its own, and writes the report of its
+// expectations.
 fn expect_input<S: Source, T: Sink, L: Ledger>(
     alloc: Global,
     input: &mut S,
@@ -92,7 +93,7 @@ fn sweep_input<S: Source, T: Sink, L: Ledger>(
     }
 }
 
-// Does what a job is, unless it is rejected.
+// Does a job, unless it is rejected.
 fn attempt<S: Source, T: Sink, L: Ledger>(
     alloc: Global,
     job: Job,
@@ -126,9 +127,9 @@ fn run<S: Source, T: Sink, L: Ledger>(
     }
 }
 
-/// Does the job that the words name, over a source and a sink, and gives its status: 0 done and all is well, 1 an
-/// expectation failed or the input is refused, 2 the words name no job, 3 a fault of the source, 4 a fault of the sink,
-/// 5 want of memory.
+/// Does the job that the words select, over a source and a sink, and returns its status: 0 done and all
+/// expectations hold, 1 an expectation failed or the input is refused, 2 the words select no job, 3 a fault
+/// of the source, 4 a fault of the sink, 5 out of memory.
 ///
 /// It makes its own devices in memory, of 8,192 words.
 pub fn mellab<S: Source, T: Sink, L: Ledger>(

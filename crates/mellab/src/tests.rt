@@ -12,7 +12,7 @@ use std::test::Fail;
 const FAILING: &[u8] = b"format\n #>   form  \npower\n\n# a comment\n#>\n#> READY 0\n#> ready0\n\
     dump A000000001\n#> abs?nt\n#>abs\n#> *t?\n";
 
-// What is told of it.
+// The report of it.
 const FAILED: &[u8] = b"line 2 expected form was formatted\nline 6 expected  was ready 0\n\
     line 7 expected READY 0 was ready 0\nline 12 expected *t? was absent\nexpected 6 failed 4\n";
 
@@ -21,12 +21,12 @@ const COUNTER: &[u8] = b"format\npower\n\
     unit counter 0000000000000000000FB902000039020000460200000600020000000961074F05A0000000010\
     0096F078405A00000000100000000\nload counter 2 0\nselect A000000001\napdu 8001000002\napdu 8001000002\n";
 
-// What is told of its sweep.
+// The text of its sweep.
 const SWEPT: &[u8] =
     b"line 4 writes 21: before 1-17 after 18-21\nline 6 writes 6: before 1-4 after 5-6\n\
     line 7 writes 6: before 1-4 after 5-6\nswept 3 writes 33 plays 98\n";
 
-// How a job ended, what it wrote, and how many bytes it left in its source.
+// The end of a job: its status, its output, and the number of bytes that it left in its source.
 #[derive(Drop)]
 struct End {
     status: u8,
@@ -69,7 +69,8 @@ fn counted<L: Ledger>(
     })
 }
 
-// The end of a job over memory: its words, its input, the room of its sink, and the calls of its source that fail.
+// The end of a job over memory, by its words, its input, the room of its sink, and the calls of its source
+// that fail.
 fn ended(
     alloc: Global,
     words: &[String],
@@ -164,7 +165,7 @@ fn refused(rt: HostRuntime) -> Result<(), Fail> {
     Ok(())
 }
 
-// A sweep, whole and up to a fault of the sink, a source that fails, and a deck that is refused.
+// A sweep, complete and up to a fault of the sink, a source that fails, and a deck that is refused.
 #[test]
 fn swept(rt: HostRuntime) -> Result<(), Fail> {
     let alloc = rt.alloc();
@@ -183,7 +184,7 @@ fn swept(rt: HostRuntime) -> Result<(), Fail> {
     Ok(())
 }
 
-// Words that name no job: the usage line is written, and the source is as it was.
+// Words that select no job: the usage line is written, and the source is unchanged.
 #[test]
 fn usage(rt: HostRuntime) -> Result<(), Fail> {
     let alloc = rt.alloc();

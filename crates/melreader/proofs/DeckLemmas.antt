@@ -1,4 +1,4 @@
--- The deck that a source has, and that of a blank card.
+-- The deck in a source, and that of a blank card.
 use Rattle.std.proofs.Common.{◌≡◌, ◌≤◌, ℕ, List, Option, Some, None, codes, Result, Ok, Err, IfOk, IfErr, refl, ap, sym, subst, ◌∙◌, inl, inr, length, arith}
 use Rattle.mc_model_play.specs.DeckGrammar.{DeckLine, deck_lines, deck_read}
 use Rattle.mc_model_play.specs.declared.deck.DeckCause.{DeckCause}
@@ -7,18 +7,18 @@ use Rattle.mc_filter.specs.declared.rejection.Rejection.{Rejection}
 use Rattle.mc_filter.specs.declared.rejection.Rejection.TheVariants as rejection
 use Rattle.melreader.specs.Decks.{blank_deck, lines_or_refusal, HasDeck, Stream}
 
--- a text that was not read spells no deck
+-- a text that was not read is no deck
 pub not_read : (a b : Stream) (e : Rejection) → RejectsRead a.left b.left a.faults b.faults e → HasDeck (Some a) (Some b) (Err e)
 not_read a b (rejection.Refusal line) why = inl (record { over = why.0; no_further = why.1; is = ap Err why.2 })
 not_read a b rejection.ReadFault why = why
 not_read a b rejection.NoMemory why = why
 
--- the line that refuses a deck is what the deck is judged
+-- the line that refuses a deck is the verdict on the deck
 refused_is : (r : Result (List (ℕ × DeckLine)) (ℕ × DeckCause)) (line : List ℕ) → refused_deck r line → Err line ≡ lines_or_refusal r
 refused_is (Ok lines) line why = absurd why
 refused_is (Err e) line why = ap Err why
 
--- a text that was read whole took no more than the limit
+-- a text that was read completely took at most the limit
 took_limited : (old new : Option (List ℕ)) (text : List ℕ) → ReadWhole old new text → TookLimited old new
 took_limited old new text read =
     let fits = read.fits in
@@ -37,7 +37,7 @@ blank_read : deck_read (codes "format") ≡ Ok blank_deck
 unfolding deck_read deck_lines
 blank_read = refl
 
--- so it spells the deck of a blank card
+-- it spells the deck of a blank card
 pub blank_has : (r : Result (List (ℕ × DeckLine)) Rejection) → IfOk r (λ d. deck_read (codes "format") ≡ Ok d)
     → IfErr r (Rejects (refused_deck (deck_read (codes "format")))) → HasDeck None None r
 blank_has (Ok lines) is why = ap lines_or_refusal (sym is ∙ blank_read)

@@ -1,4 +1,4 @@
--- What a session says at the status that it ended with, where it had no deck or its input ended inside a frame.
+-- The meaning of the status with which a session ended, if it had no deck or its input ended inside a frame.
 use Rattle.std.proofs.Common.{◌≡◌, ℕ, List, Result, Ok, Err, sym, subst, inl}
 use Rattle.mc_base.specs.declared.refusals.WriteFault.{WriteFault as Fault}
 use Rattle.mc_reader.specs.declared.serve_error.ServeError.{ServeError}
@@ -18,7 +18,7 @@ pub ends_short : (a b : Sunk) (r : Result (Unit {0}) Fault) (s : Status) (e : Se
     → Puts a (short_frame n) r b → ReaderEnds (Err e) s a b
 ends_short a b r s e n by is put = subst (λ (e : ServeError). ReaderEnds (Err e) s a b) (sym is) (record { result = r; status = by; written = put })
 
--- a deck that is refused says so, at the status that its line ended with
+-- the refusal of a deck is the meaning of the status with which the writing of its line ended
 says_refused : (Kept : Type 0) (o : ReaderOutside) (r : Result (Unit {0}) Fault) (s : Status) → s ≡ status_after_writing Failed r → SaysRefused Kept s o → MelreaderSays Kept s o
 says_refused Kept o (Ok u) s e d = subst (λ s. MelreaderSays Kept s o) (sym e) (inl (subst (λ s. SaysRefused Kept s o) e d))
 says_refused Kept o (Err f) s e d = subst (λ s. MelreaderSays Kept s o) (sym e) (inl (subst (λ s. SaysRefused Kept s o) e d))

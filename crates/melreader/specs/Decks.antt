@@ -1,4 +1,4 @@
--- The deck that a session begins with: what was read of it, and the lines that it stands for or the line that refuses it.
+-- The deck that a session begins with: the input that was read, and the lines that it spells or the line that refuses it.
 use Rattle.std.specs.Prelude.{◌≡◌, ◌⊎◌, ℕ, List, [], ◌∷◌, Option, Some, None, Result, Ok, Err, ⊤}
 use Rattle.std.proofs.Common.{inl, inr}
 use Rattle.std.specs.Borrow.{MutBor}
@@ -14,38 +14,38 @@ use Rattle.mc_filter.specs.declared.rejection.Rejection.TheVariants as rejection
 
 -- ---- sources
 
--- what a source tells that it has left, and its count of faults
+-- a source: the bytes that it has left, and its number of faults
 pub record Stream : Type 0 where
   pub left : Option (List ℕ)
   pub faults : ℕ
 
--- the same of a source
+-- a source, by the members of its trait
 abbrev pub stream : {S : Type 0} → source.Ghosts S → S → Stream
 stream t s = record { left = t.left s; faults = t.faults s }
 
--- the same of a source that may be handed in
+-- a source that may be missing
 abbrev pub stream_of_source : {D : Type 0} → source.Ghosts D → Option (MutBor D) → Option Stream
 stream_of_source t None = None
 stream_of_source t (Some d) = Some (stream t d.now)
 
--- what such a reference leaves
+-- the reference to such a source after the call
 abbrev pub LeftReference : Type 0 → Type 0
 LeftReference D = Unit {0} ⊎ ((MutBor D × Unit {0}) ⊎ ⊥)
 
--- the same of the source that is left behind it
+-- such a source after the call
 abbrev pub stream_left : {D : Type 0} → source.Ghosts D → LeftReference D → Option Stream
 stream_left t (inl none) = None
 stream_left t (inr (inl d)) = Some (stream t (d.0).now)
 stream_left t (inr (inr never)) = None
 
--- ---- what it stands for
+-- ---- the deck that a text spells
 
 -- the lines that a text spells, or the line that refuses it
 abbrev pub lines_or_refusal : Result (List (ℕ × DeckLine)) (ℕ × DeckCause) → Result (List (ℕ × DeckLine)) (List ℕ)
 lines_or_refusal (Ok lines) = Ok lines
 lines_or_refusal (Err e) = Err (deck_line e)
 
--- what a text within the limit stands for
+-- the lines that a text within the limit spells, or the line that refuses it
 abbrev pub SpellsDeck : List ℕ → Result (List (ℕ × DeckLine)) (List ℕ) → Type 0
 SpellsDeck text v = v ≡ lines_or_refusal (deck_read text)
 
@@ -59,19 +59,19 @@ IsDeck None b v = v ≡ Ok blank_deck
 IsDeck (Some a) None v = ⊥
 IsDeck (Some a) (Some b) v = IsRead Err SpellsDeck a.left b.left v
 
--- no more was read of the deck's source, if there is one, than the limit and one byte behind it
+-- at most the limit and one byte after it was read from the deck's source, if there is one
 abbrev pub DeckLimited : Option Stream → Option Stream → Type 0
 DeckLimited None b = ⊤
 DeckLimited (Some a) None = ⊥
 DeckLimited (Some a) (Some b) = TookLimited a.left b.left
 
--- the count of faults of the deck's source rose, and no more was read of it
+-- the number of faults of the deck's source rose, and at most the limit and one byte after it was read
 abbrev pub DeckFails : Option Stream → Option Stream → Type 0
 DeckFails None b = ⊥
 DeckFails (Some a) None = ⊥
 DeckFails (Some a) (Some b) = Rose a.faults b.faults × TookLimited a.left b.left
 
--- ---- what the code has
+-- ---- the deck of the code
 
 -- the deck that a source has, or why there is none
 abbrev pub HasDeck : Option Stream → Option Stream → Result (List (ℕ × DeckLine)) Rejection → Type 0

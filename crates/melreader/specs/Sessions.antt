@@ -1,4 +1,4 @@
--- What the top call says of the outside at each of its statuses.
+-- The relation of the top call to its environment at each of its statuses.
 use Rattle.std.specs.Prelude.{◌≡◌, ◌⊎◌, ℕ, ◌++◌, List, codes, decimal, Option, Result, Ok, Err}
 use Rattle.mc_model_play.specs.DeckGrammar.{DeckLine}
 use Rattle.mc_base.specs.declared.sink.Sink as sink
@@ -13,7 +13,7 @@ use Rattle.mc_filter.specs.declared.status.Status.{Status}
 use Rattle.mc_filter.specs.declared.status.Status.TheVariants.{Done, Failed, NoForm, ReadFault, WriteFault, NoMemory}
 use Rattle.melreader.specs.Decks.{Stream, IsDeck, DeckFails, DeckLimited}
 
--- what is told before and after the call: the deck's source, if there is one, the sink of refusals, and what a session has to do with
+-- the environment of the call: the deck's source, if there is one, the sink of refusals, and the environment of the session
 pub record ReaderOutside : Type 0 where
   pub deck_old : Option Stream
   pub deck : Option Stream
@@ -21,7 +21,7 @@ pub record ReaderOutside : Type 0 where
   pub err : Sunk
   pub session : AroundSession
 
--- the same of the values of a call
+-- the environment, by the values of a call before and after it
 abbrev pub outside : {S T E N : Type 0} → source.Ghosts S → sink.Ghosts T → sink.Ghosts E → (N → DeviceState) → (N → BenchState)
     → Option Stream → Option Stream → S → S → T → T → E → E → N → N → ReaderOutside
 outside s t e state bench deck_old deck in_old in_new out_old out_new err_old err_new dev_old dev_new =
@@ -43,17 +43,17 @@ outside s t e state bench deck_old deck in_old in_new out_old out_new err_old er
           };
     }
 
--- the input, the sink of answers and the device are as they were handed in
+-- the input, the sink of answers and the device are unchanged
 abbrev pub AreKept : {S T N : Type 0} → S → S → T → T → N → N → Type 0
 AreKept in_old in_new out_old out_new dev_old dev_new = (in_new ≡ in_old) × (out_new ≡ out_old) × (dev_new ≡ dev_old)
 
 -- ---- the line of a refusal
 
--- the input ended inside the frame with this number
+-- the output line if the input ended inside the frame with this number
 abbrev pub short_frame : ℕ → List ℕ
 short_frame n = codes "frame " ++ decimal n ++ codes " Short\n"
 
--- ---- statuses: `Kept` says that input, answers and device are as they were handed in
+-- ---- statuses: `Kept` states that input, answers and device are unchanged
 
 -- the deck is refused
 pub record SaysRefused (Kept : Type 0) (s : Status) (o : ReaderOutside) : Type 0 where
@@ -62,13 +62,13 @@ pub record SaysRefused (Kept : Type 0) (s : Status) (o : ReaderOutside) : Type 0
   pub refused : IsWritten Failed line s o.err_old o.err
   pub kept : Kept
 
--- the deck was not read: its source failed, or memory was short
+-- the deck was not read: its source failed, or the call was out of memory
 pub record SaysNoDeck (Kept Cause : Type 0) (o : ReaderOutside) : Type 0 where
   pub cause : Cause
   pub err : o.err ≡ o.err_old
   pub kept : Kept
 
--- the status of a session by how it ended, and what is written of it
+-- the status of a session by its end, and the line that is written for it
 abbrev pub ReaderEnds : Result (Unit {0}) ServeError → Status → Sunk → Sunk → Type 0
 ReaderEnds (Ok u) s a b = (s ≡ Done) × (b ≡ a)
 ReaderEnds (Err (serve.Short n)) s a b = IsWritten Failed (short_frame n) s a b
@@ -84,7 +84,7 @@ pub record SaysServed (s : Status) (o : ReaderOutside) : Type 0 where
   pub serves : Serves lines result o.session
   pub ends : ReaderEnds result s o.err_old o.err
 
--- what each status says
+-- the meaning of each status
 abbrev pub MelreaderSays : Type 0 → Status → ReaderOutside → Type 0
 MelreaderSays Kept Done o = SaysServed Done o
 MelreaderSays Kept Failed o = SaysRefused Kept Failed o ⊎ SaysServed Failed o

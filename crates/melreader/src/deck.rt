@@ -7,10 +7,14 @@ use mc_deck::Deck;
 use mc_filter::{Rejection, deck_of, read_input};
 use std::alloc::Global;
 
-// The deck of a card that is blank.
+// The deck of a blank card.
 const BLANK_DECK: &[u8] = b"format";
 
-/// The deck that a source has, which is read to its end.
+/// Reads a source to its end and returns the deck in it.
+///
+/// # Errors
+///
+/// Returns the line that refuses the deck, a fault of the source, or `NoMemory`.
 pub fn deck_from<D: Source>(alloc: Global, source: &mut D) -> Result<Deck, Rejection>
     ensures { HasDeck (Some (stream D.Source source.old)) (Some (stream D.Source source.new)) result }
 {
@@ -18,7 +22,11 @@ pub fn deck_from<D: Source>(alloc: Global, source: &mut D) -> Result<Deck, Rejec
     deck_of(alloc, text.as_slice())
 }
 
-/// The deck of a blank card: the one line `format`.
+/// Returns the deck of a blank card: the one line `format`.
+///
+/// # Errors
+///
+/// Returns `NoMemory` if it is out of memory.
 pub fn blank_deck(alloc: Global) -> Result<Deck, Rejection>
     ensures { HasDeck None None result }
 {

@@ -1,4 +1,4 @@
-// The line of a frame that is not whole.
+// The output line for a frame that is not complete.
 ghost use Rattle.std.specs.Prelude.{decimal};
 ghost use Rattle.mc_text.specs.Texts.{sunk_in, Puts};
 ghost use Rattle.melreader.specs.Sessions.{short_frame};
@@ -16,6 +16,10 @@ fn put_count<E: Sink>(err: &mut E, number: u64) -> Result<(), WriteFault>
 }
 
 /// Writes that the input ended inside a frame: `frame N Short`.
+///
+/// # Errors
+///
+/// Returns `WriteFault` if the sink fails.
 pub fn put_short<E: Sink>(err: &mut E, number: u64) -> Result<(), WriteFault>
     ensures { Puts (sunk_in E.taken E.faults err.old) (short_frame number) result (sunk_in E.taken E.faults err.new) }
 {

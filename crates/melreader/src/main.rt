@@ -18,14 +18,14 @@ use std::marker::Brand;
 use std::process::ExitCode;
 use std::sync::ledger::{Blank, Ledger};
 
-// Says how the program is called.
+// Writes the usage line of the program.
 fn usage(rt: &HostRuntime) -> u8 {
     let mut err = StdSink::new(rt.stderr());
     let _written = put_all(&mut err, b"usage: melreader [DECK]\n");
     number(Status::NoForm)
 }
 
-// A session over the standard streams and a blank device.
+// Runs a session over the standard streams and a blank device.
 fn over_streams<D: Source, L: Ledger>(
     rt: &HostRuntime,
     deck: Option<&mut D>,
@@ -49,7 +49,7 @@ fn over_streams<D: Source, L: Ledger>(
     )
 }
 
-// A session on a card on which the deck of a path was played.
+// Runs a session on a card on which the deck of a path was played.
 fn with_deck<L: Ledger>(rt: &HostRuntime, path: &str, steps: &mut Steps<L>) -> u8 {
     let Ok(file) = File::open(rt, path) else {
         return usage(rt);
@@ -58,7 +58,7 @@ fn with_deck<L: Ledger>(rt: &HostRuntime, path: &str, steps: &mut Steps<L>) -> u
     over_streams(rt, Some(&mut deck), steps)
 }
 
-// Runs the session that the words ask for.
+// Runs the session that the words select.
 fn program<L: Ledger>(rt: &HostRuntime, blank: Blank) -> u8
     requires name { blank.name ≡ L.name }
     requires parts { blank.parts ≡ L.parts }
@@ -67,7 +67,7 @@ fn program<L: Ledger>(rt: &HostRuntime, blank: Blank) -> u8
     let mut steps = Steps::<L>::new(blank);
     let words = match command_words(rt) {
         Ok(Some(words)) => words,
-        // Words that cannot be had name no deck.
+        // Arguments that are not UTF-8 select no deck.
         Ok(None) => return usage(rt),
         Err(NoMemory) => return number(Status::NoMemory),
     };

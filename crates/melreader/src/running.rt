@@ -18,7 +18,7 @@ use mc_reader::{ServeError, serve};
 use std::alloc::Global;
 use std::sync::ledger::Ledger;
 
-// Says why a session ended before its input.
+// Writes why a session ended before the end of its input, and returns its status.
 fn fail<E: Sink>(err: &mut E, error: ServeError) -> Status
     ensures { ReaderEnds (Err error) result (sunk_in E.taken E.faults err.old) (sunk_in E.taken E.faults err.new) }
 {
@@ -30,7 +30,7 @@ fn fail<E: Sink>(err: &mut E, error: ServeError) -> Status
     }
 }
 
-// Says how a session ended.
+// Writes the end of a session, and returns its status.
 fn end<E: Sink>(err: &mut E, served: Result<(), ServeError>) -> Status
     ensures { ReaderEnds served result (sunk_in E.taken E.faults err.old) (sunk_in E.taken E.faults err.new) }
 {
@@ -40,7 +40,7 @@ fn end<E: Sink>(err: &mut E, served: Result<(), ServeError>) -> Status
     }
 }
 
-// Plays the deck that was found and serves the frames of a host, or says why there is no deck.
+// Plays the deck that was found and serves the frames of a host, or writes why there is no deck.
 fn session<S: Source, T: Sink, E: Sink, N: Bench, L: Ledger>(
     alloc: Global,
     found: Result<Deck, Rejection>,
@@ -62,12 +62,14 @@ fn session<S: Source, T: Sink, E: Sink, N: Bench, L: Ledger>(
     }
 }
 
-/// Plays the deck of a source on a device that is handed in without a fuse, or the one line `format` where there is none, and then
-/// serves the frames of a host on that card. Its status is 0 where the input ended between two frames; 1 where the deck is refused or
-/// the input ended inside a frame; 3 after a fault of the deck or the input; 4 after a fault of a sink; 5 for want of memory.
+/// Plays the deck of a source on a device without an armed stop, or the one line `format` if there is no
+/// source, and then serves the frames of a host on that card. Its status is 0 if the input ended between two
+/// frames; 1 if the deck is refused or the input ended inside a frame; 3 after a fault of the deck or the
+/// input; 4 after a fault of a sink; 5 if it was out of memory.
 ///
-/// Answers alone are written to `out`, and to `err` the line of a refused deck, or `frame N Short`. Nothing is written of the deck's
-/// results. A deck that is refused leaves `input`, `out` and the device untouched.
+/// Only answers are written to `out`, and to `err` the line of a refused deck, or `frame N Short`. The
+/// results of the deck are not written. A deck that is refused leaves `input`, `out` and the device
+/// unchanged.
 pub fn melreader<D: Source, S: Source, T: Sink, E: Sink, N: Bench, L: Ledger>(
     alloc: Global,
     deck: Option<&mut D>,

@@ -9,14 +9,14 @@ use std::marker::Brand;
 use std::sync::ledger::{Blank, Ledger};
 use std::test::Fail;
 
-// The ATR is wanted, power comes on, and an application is selected that is not there.
+// The host requests the ATR, turns power on, and selects an application that is not on the card.
 const FRAMES: &[u8] = b"\x00\x01\x04\x00\x01\x01\x00\x0A\x00\xA4\x04\x0C\x05\xA0\x00\x00\x00\x01";
 
 // The answers to them.
 const ANSWERS: &[u8] = b"\x00\x0C\x3B\x87\x80\x01MELCARD\x56\x00\x02\x6A\x82";
 
-// What a session is tried on: its deck, which of the deck's calls fail, its frames, which of their calls fail, and the room of the
-// sinks of answers and of refusals.
+// The parts of a session under test: its deck, the calls of the deck that fail, its frames, the calls of the
+// frames that fail, and the room of the sinks of answers and of refusals.
 #[derive(Clone, Copy)]
 struct Trial {
     deck: Option<&'static [u8]>,
@@ -37,7 +37,7 @@ const PLAIN: Trial = Trial {
     err_room: 30,
 };
 
-// How a session ended, and what it wrote to both sinks.
+// The end of a session: its status, and its output to both sinks.
 #[derive(Drop)]
 struct End {
     status: u8,
@@ -96,7 +96,8 @@ fn ended(alloc: Global, trial: &Trial) -> Result<End, NoMemory> {
     }
 }
 
-// Frames that are served, whole and up to a fault of the sink or of the input, and an input that ends inside a frame.
+// Frames that are served, completely and up to a fault of the sink or of the input, and an input that ends
+// inside a frame.
 #[test]
 fn frames(rt: HostRuntime) -> Result<(), Fail> {
     let alloc = rt.alloc();

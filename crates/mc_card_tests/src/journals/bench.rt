@@ -8,7 +8,7 @@ use mc_base::{Stop, Word};
 use mc_gate::{Recover, is_gate_open, is_within};
 use mc_nvm::Bench;
 
-/// What a call of a journal answered.
+/// The answer of a call of a journal.
 #[derive(Clone, Copy, Debug, PartialEq, Eq, Drop)]
 pub enum Answer {
     Written,
@@ -18,7 +18,7 @@ pub enum Answer {
     NotTried,
 }
 
-/// Gives each place its old word, and takes all fuses away.
+/// Sets each place to its old word, and disarms all stops.
 pub fn prepare<N: Bench>(device: &mut N) {
     device.disarm();
     for at in 0..device.len() {
@@ -32,7 +32,7 @@ fn set<N: Bench>(device: &mut N, at: u32, word: Word) {
     }
 }
 
-/// The word at a place, and zeros past the last.
+/// Returns the word at a place, or zeros past the last place.
 pub fn word_of<N: Bench>(device: &N, at: u32) -> Word {
     if at < device.len() {
         device.read(at)
@@ -41,7 +41,7 @@ pub fn word_of<N: Bench>(device: &N, at: u32) -> Word {
     }
 }
 
-/// Stops the k-th write from now, by a cut or by a refusal.
+/// Stops the `k`-th write from now, by a power cut or as a failed write; if `k` is 0, none.
 pub fn stop_at<N: Bench>(device: &mut N, stop: Stop, k: u16, fill: Word) {
     if k < 1 {
         return;
@@ -52,7 +52,7 @@ pub fn stop_at<N: Bench>(device: &mut N, stop: Stop, k: u16, fill: Word) {
     }
 }
 
-/// An atomic write of w words on a device with power.
+/// Does an atomic write of `w` words on a device with power.
 pub fn write<N: Bench>(device: &mut N, journal: Journal, w: u8) -> Answer {
     let list = list_of(w);
     match journal {
@@ -61,7 +61,7 @@ pub fn write<N: Bench>(device: &mut N, journal: Journal, w: u8) -> Answer {
     }
 }
 
-/// A recovery of a device after power came back.
+/// Turns power on and recovers the device.
 pub fn recover<N: Bench>(device: &mut N, journal: Journal) -> Answer {
     device.power();
     let recovered = match journal {
@@ -75,7 +75,8 @@ pub fn recover<N: Bench>(device: &mut N, journal: Journal) -> Answer {
     }
 }
 
-/// The first place outside the journal that does not hold what it has to.
+/// Returns the first place outside the journal that does not hold the word due there, or `None` if there is
+/// none.
 pub fn wrong_place<N: Bench>(device: &N, journal: Journal, w: u8, stands: bool) -> Option<u32> {
     for at in 0..device.len() {
         if !journal.has(at) && word_of(device, at) != word_after(at, w, stands) {
@@ -85,7 +86,7 @@ pub fn wrong_place<N: Bench>(device: &N, journal: Journal, w: u8, stands: bool) 
     None
 }
 
-// The first w pairs.
+// The first w pairs of target and value.
 fn list_of(w: u8) -> ArrayVec<(u16, Word), 64> {
     let mut list = ArrayVec::new();
     for i in 0..w {
@@ -116,7 +117,7 @@ fn write_two<N: Bench>(device: &mut N, list: &[(u16, Word)]) -> Answer {
     }
 }
 
-// Whether the list may be written at once to the device.
+// Whether the list is an atomic write that the device can make.
 fn is_atomic<N: Bench>(device: &N, list: &[(u16, Word)]) -> bool
     ensures atomic { result ≡ true → IsAtomic (length (N.state device.now).words) list.now }
     ensures low { 256 ≤ length (N.state device.now).words }
@@ -128,7 +129,7 @@ fn is_atomic<N: Bench>(device: &N, list: &[(u16, Word)]) -> bool
     ascends(list, size)
 }
 
-// Whether the targets ascend, each word 0 or in the heap.
+// Whether the targets ascend, each of them word 0 or in the heap.
 fn ascends(list: &[(u16, Word)], size: u32) -> bool
     ensures { result ≡ ascend size 0 (map (λ p. p.0) list.now) }
 {

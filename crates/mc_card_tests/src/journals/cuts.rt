@@ -4,8 +4,8 @@ use mc_base::{Stop, Word};
 use mc_nvm::{SimNvm, TapeNvm};
 use std::test::Fail;
 
-/// What an atomic write answered that was stopped, the word that this left, what the recovery behind it answered and
-/// one more, and the first place that is not as it has to be.
+/// The answer of an atomic write that was stopped, the word that the stop left, the answers of the recovery
+/// after it and of one more, and the first place that does not hold the word due there.
 #[derive(Clone, Copy, Debug, PartialEq, Eq, Drop)]
 struct Seen {
     write: Answer,
@@ -15,7 +15,7 @@ struct Seen {
     wrong: Option<u32>,
 }
 
-// An atomic write that is stopped at any device write stands whole or not at all, by the rule.
+// An atomic write that is stopped at any device write is durable as a whole or not at all, by the rule.
 #[test]
 fn stopped_writes(rt: HostRuntime) -> Result<(), Fail> {
     let mut device = SimNvm::new(rt.alloc(), 256)?;
@@ -64,7 +64,8 @@ fn by_rule(journal: Journal, w: u8, stop: Stop, k: u16, fill: Word) -> Seen {
     }
 }
 
-// Without a stop all words stand, and nothing is owed; a tape with room for one write less tells nothing.
+// Without a stop all words are durable, and recovery has no writes to make; a tape with room for one write
+// less shows nothing.
 #[test]
 fn whole_writes(rt: HostRuntime) -> Result<(), Fail> {
     for journal in [Journal::One, Journal::Two] {
@@ -84,7 +85,7 @@ fn whole_writes(rt: HostRuntime) -> Result<(), Fail> {
     Ok(())
 }
 
-// Of two stops on one write the cut goes first, and leaves its own word.
+// Of two stops at one write the power cut comes first, and leaves its own word.
 #[test]
 fn both_fuses(rt: HostRuntime) -> Result<(), Fail> {
     let mut device = SimNvm::new(rt.alloc(), 256)?;

@@ -4,8 +4,8 @@ use mc_base::{Stop, Word};
 use mc_nvm::SimNvm;
 use std::test::Fail;
 
-/// What an atomic write answered that was stopped, the recovery behind it that was stopped too, the two behind that
-/// one, and the first place that is not as it has to be.
+/// The answer of an atomic write that was stopped, those of its recovery that was stopped too and of the two
+/// recoveries after it, and the first place that does not hold the word due there.
 #[derive(Clone, Copy, Debug, PartialEq, Eq, Drop)]
 struct Seen {
     write: Answer,
@@ -15,7 +15,8 @@ struct Seen {
     wrong: Option<u32>,
 }
 
-/// An atomic write of w words, stopped at its device write `first`, and its recovery, stopped at its write `second`.
+/// An atomic write of `w` words, stopped at its device write `first`, and its recovery, stopped at its write
+/// `second`.
 #[derive(Clone, Copy, Drop)]
 struct Stops {
     journal: Journal,
@@ -25,7 +26,8 @@ struct Stops {
     second: u16,
 }
 
-// A recovery that is stopped at any of its writes owes the rest by the rule, and another one finishes it.
+// A recovery that is stopped at any of its writes leaves the rest of its writes to the next one, by the rule,
+// and that one finishes it.
 #[test]
 fn stopped_recoveries(rt: HostRuntime) -> Result<(), Fail> {
     let mut device = SimNvm::new(rt.alloc(), 256)?;
@@ -37,8 +39,8 @@ fn stopped_recoveries(rt: HostRuntime) -> Result<(), Fail> {
     Ok(())
 }
 
-// The first of the tried stops of a write of w words, at or behind the opening of its gate, behind which a stopped
-// recovery goes otherwise than by the rule.
+// The first stops that do not go by the rule: one of the tried stops of a write of w words, at the opening of
+// its gate or after it, and one of its recovery.
 fn wrong_write(device: &mut SimNvm, journal: Journal, w: u8) -> Option<(u16, u16)> {
     for first in journal.opens_at(w)..=journal.cost(w) {
         if is_tried(w, journal.cost(w).saturating_sub(first)) {
@@ -50,7 +52,7 @@ fn wrong_write(device: &mut SimNvm, journal: Journal, w: u8) -> Option<(u16, u16
     None
 }
 
-// The first write of a recovery at which a stop goes otherwise.
+// The first write of a recovery at which a stop does not go by the rule.
 fn wrong_recovery(device: &mut SimNvm, journal: Journal, w: u8, first: u16) -> Option<u16> {
     for second in 1..=w as u16 + 1 {
         for stop in [Stop::Off, Stop::Worn] {
@@ -69,7 +71,8 @@ fn wrong_recovery(device: &mut SimNvm, journal: Journal, w: u8, first: u16) -> O
     None
 }
 
-// Whether both go by the rule, whatever the stop leaves in its word: zero, the word that opens the gate, or what is due.
+// Whether both go by the rule, whatever the stop leaves in its word: zeros, the word that opens the gate, or
+// the word due.
 fn goes_by_rule(device: &mut SimNvm, stops: Stops) -> bool {
     let due = recovery_write(stops.journal, stops.w, stops.second).1;
     for fill in [ZERO, stops.journal.opening(), due] {
@@ -80,7 +83,8 @@ fn goes_by_rule(device: &mut SimNvm, stops: Stops) -> bool {
     true
 }
 
-// The write is stopped at or behind the opening of the gate, and leaves the opening word: it stands and owes all.
+// Observes a write that is stopped at the opening of the gate or after it and leaves the opening word: it is
+// durable, and recovery has all its writes to make.
 fn observe(device: &mut SimNvm, stops: Stops, fill: Word) -> Seen {
     let Stops {
         journal,

@@ -4,7 +4,7 @@ pub const ZERO: Word = [0; 8];
 
 const SHUT: Word = [b'S', b'H', b'U', b'T', b'-', b'-', b'-', b'-'];
 
-/// The journal that is tried: that of layout 1 or that of layout 2.
+/// The journal that is tested: that of layout 1 or that of layout 2.
 #[derive(Clone, Copy, Debug, PartialEq, Eq, Drop)]
 pub enum Journal {
     One,
@@ -12,7 +12,7 @@ pub enum Journal {
 }
 
 impl Journal {
-    /// The word that opens the gate.
+    /// Returns the word that opens the gate.
     pub fn opening(self) -> Word {
         match self {
             Journal::One => [b'O', b'P', b'E', b'N', b'-', b'1', b'-', b'-'],
@@ -20,7 +20,7 @@ impl Journal {
         }
     }
 
-    /// The place of the gate.
+    /// Returns the place of the gate.
     pub fn gate(self) -> u32 {
         match self {
             Journal::One => 1,
@@ -28,7 +28,7 @@ impl Journal {
         }
     }
 
-    /// Whether the place is one of the journal's.
+    /// Returns whether the place is one of the journal's.
     pub fn has(self, at: u32) -> bool {
         match self {
             Journal::One => at >= 1 && at <= 130,
@@ -36,7 +36,7 @@ impl Journal {
         }
     }
 
-    /// The number of device writes of an atomic write of w words.
+    /// Returns the number of device writes of an atomic write of `w` words.
     pub fn cost(self, w: u8) -> u16 {
         match self {
             Journal::One => 3 * w as u16 + 3,
@@ -44,7 +44,7 @@ impl Journal {
         }
     }
 
-    /// Which of them opens the gate.
+    /// Returns the number of the device write that opens the gate.
     pub fn opens_at(self, w: u8) -> u16 {
         match self {
             Journal::One => 2 * w as u16 + 2,
@@ -52,12 +52,13 @@ impl Journal {
         }
     }
 
-    /// Whether an atomic write stands that was stopped at its device write k, which left this word.
+    /// Returns whether an atomic write is durable that was stopped at its device write `k`, which left
+    /// `left`.
     pub fn stands(self, w: u8, k: u16, left: Word) -> bool {
         k > self.opens_at(w) || k == self.opens_at(w) && left == self.opening()
     }
 
-    /// How many writes it owes then.
+    /// Returns the number of writes that recovery then still has to make.
     pub fn owes(self, w: u8, k: u16, left: Word) -> u16 {
         let is_over = k == self.cost(w) && left != self.opening();
         if self.stands(w, k, left) && !is_over {
@@ -67,7 +68,8 @@ impl Journal {
         }
     }
 
-    /// How many are left of a recovery of w words that was stopped at its write k, which left this word.
+    /// Returns the number of writes that remain of a recovery of `w` words that was stopped at its write `k`,
+    /// which left `left`.
     pub fn remains(self, w: u8, k: u16, left: Word) -> u16 {
         if k <= w as u16 || left == self.opening() {
             w as u16 + 1
@@ -77,28 +79,29 @@ impl Journal {
     }
 }
 
-/// Whether this one of the stops of a recovery is tried together with every stop of another: of 64 words, each
+/// Returns whether this stop of a recovery is tested together with every stop of the write: of 64 words, each
 /// thirteenth.
 pub fn is_tried(w: u8, k: u16) -> bool {
     w < 64 || k % 13 == 0
 }
 
-/// The target of pair i: word 0, then every other word of the heap up to the last of 256.
+/// Returns the target of pair `i`: word 0, then every other word of the heap up to the last of 256.
 pub fn target(i: u8) -> u16 {
     if i == 0 { 0 } else { 129 + 2 * i as u16 }
 }
 
-/// The value of pair i.
+/// Returns the value of pair `i`.
 pub fn value(i: u8) -> Word {
     [9, 0, 0, 0, 0, 0, 0, i]
 }
 
-/// What a place held before.
+/// Returns the word that a place holds before the write.
 pub fn old_word(at: u32) -> Word {
     [7, 0, 0, 0, 0, 0, (at / 256 % 256) as u8, (at % 256) as u8]
 }
 
-/// What a place outside the journal holds once w words were written, or once they were not.
+/// Returns the word that a place outside the journal holds after `w` words were written, or after they were
+/// not.
 pub fn word_after(at: u32, w: u8, stands: bool) -> Word {
     let i = if at < 131 { 0 } else { (at - 129) / 2 };
     let is_target = at == 0 || at >= 131 && at % 2 == 1;
@@ -109,7 +112,7 @@ pub fn word_after(at: u32, w: u8, stands: bool) -> Word {
     }
 }
 
-/// Device write k, from 1 on, of an atomic write of w words: its place and its word.
+/// Returns the place and the word of device write `k`, counted from 1, of an atomic write of `w` words.
 pub fn device_write(journal: Journal, w: u8, k: u16) -> (u32, Word) {
     let words = w as u16;
     let before_head = match journal {
@@ -126,12 +129,12 @@ pub fn device_write(journal: Journal, w: u8, k: u16) -> (u32, Word) {
     }
 }
 
-/// Write k, from 1 on, of a recovery of w words.
+/// Returns the place and the word of write `k`, counted from 1, of a recovery of `w` words.
 pub fn recovery_write(journal: Journal, w: u8, k: u16) -> (u32, Word) {
     last_write(journal, w, k.saturating_add(2))
 }
 
-// From the head on: the head, the gate is opened, the targets, the gate is shut.
+// The writes from the head on: the head, the opening of the gate, the targets, the shutting of the gate.
 fn last_write(journal: Journal, w: u8, k: u16) -> (u32, Word) {
     if k <= 1 {
         return (2, [0, 0, 0, 0, 0, 0, 0, w]);
@@ -146,7 +149,7 @@ fn last_write(journal: Journal, w: u8, k: u16) -> (u32, Word) {
     (journal.gate(), SHUT)
 }
 
-// Journal 1: a word of the target, then one of the value, for each pair.
+// Layout 1: a word of the target, then one of the value, for each pair.
 fn pair_write(n: u16) -> (u32, Word) {
     let i = (n / 2 % 256) as u8;
     let place = 3 + n as u32;
@@ -158,7 +161,7 @@ fn pair_write(n: u16) -> (u32, Word) {
     }
 }
 
-// Journal 2: words of four targets each, then the values.
+// Layout 2: words of four targets each, then the values.
 fn packed_write(w: u8, n: u16) -> (u32, Word) {
     let target_words = (w as u16 + 3) / 4;
     if n >= target_words {

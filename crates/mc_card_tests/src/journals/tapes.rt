@@ -4,8 +4,8 @@ use mc_base::Stop;
 use mc_nvm::{Entry, TapeNvm};
 use std::test::Fail;
 
-/// An atomic write of w words that was refused at its device write `first`, and where `second` is not 0 its recovery
-/// that was refused at that write; each left zeros.
+/// An atomic write of `w` words whose device write `first` failed, and, if `second` is not 0, its recovery
+/// whose write `second` failed; each left zeros.
 #[derive(Clone, Copy, Drop)]
 struct Refusals {
     journal: Journal,
@@ -14,7 +14,8 @@ struct Refusals {
     second: u16,
 }
 
-// A device that refuses writes by itself: the same rule, and a tape of exactly the writes that it gives.
+// Devices that refuse writes by themselves follow the rule, and their tapes have exactly the writes of the
+// rule.
 #[test]
 fn worn_writes(rt: HostRuntime) -> Result<(), Fail> {
     for journal in [Journal::One, Journal::Two] {
@@ -59,7 +60,7 @@ fn worn_writes(rt: HostRuntime) -> Result<(), Fail> {
     Ok(())
 }
 
-// How many writes the last recovery makes.
+// The number of writes of the last recovery.
 fn left_to_do(refusals: Refusals) -> u16 {
     let Refusals {
         journal,
@@ -74,7 +75,7 @@ fn left_to_do(refusals: Refusals) -> u16 {
     }
 }
 
-// The first entry that is not as the rule says, or the one past the last where there are too few or too many.
+// The first entry that differs from the rule, or the length of the tape if it has too few or too many.
 fn wrong_entry(tape: Option<&[Entry]>, refusals: Refusals) -> Option<usize> {
     let entries = match tape {
         Some(entries) => entries,
@@ -93,7 +94,7 @@ fn wrong_entry(tape: Option<&[Entry]>, refusals: Refusals) -> Option<usize> {
     }
 }
 
-// Entry i, from 0 on.
+// The entry `i` of the tape, counted from 0, by the rule.
 fn entry_by_rule(refusals: Refusals, i: usize) -> Entry {
     let Refusals {
         journal,

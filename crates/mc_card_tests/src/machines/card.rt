@@ -11,7 +11,7 @@ use mc_segs::Session;
 use std::alloc::Global;
 use std::sync::ledger::Ledger;
 
-/// Why a row could not be tried.
+/// Why a row could not be tested.
 #[derive(Clone, Copy, Debug, PartialEq, Eq, Drop)]
 pub enum Fault {
     NoMemory,
@@ -35,7 +35,8 @@ pub struct Unit<'a> {
     pub deny: u16,
 }
 
-/// The sizes of an application without session bytes, DIR and FCI, where they are within the limits.
+/// Returns the sizes of an application without session bytes, DIR and FCI, or `None` if they are not within
+/// the limits.
 fn sizes_of(unit: &Unit<'_>) -> Option<Sizes>
     ensures limits { IfSome result (λ sizes. FitsLimits sizes) }
     ensures code { IfSome result (λ sizes. sizes.code ≡ length unit.now.code.now) }
@@ -58,7 +59,7 @@ fn sizes_of(unit: &Unit<'_>) -> Option<Sizes>
     })
 }
 
-/// A good site for a load of these sizes.
+/// Returns a good site for a load of these sizes.
 fn site_for<L: Ledger>(bank: &MemBank, sizes: &Sizes, steps: &mut Steps<L>) -> Result<Site, Fault>
     requires limits { FitsLimits sizes.now }
     ensures good { IfOk result (λ site. IsGoodSite (memory_state bank.now).apps (memory_room bank.now) site) }
@@ -96,7 +97,7 @@ pub fn load<L: Ledger>(
     }
 }
 
-/// A command to an application under a budget, from zero session bytes.
+/// Runs a command to an application under a budget, from session bytes of zero.
 pub fn command<L: Ledger>(
     bank: &mut MemBank,
     name: &Aid,
@@ -120,7 +121,7 @@ pub fn command<L: Ledger>(
     }
 }
 
-/// The static bytes of an application.
+/// Returns the static bytes of an application.
 pub fn static_bytes(alloc: Global, bank: &MemBank, name: &Aid) -> Result<Vec<u8>, Fault> {
     let Some(slot) = bank.find(name) else {
         return Err(Fault::Absent);

@@ -1,4 +1,4 @@
-// Rows of a table: applications, commands to the first of them, and what is due.
+// Rows of a table: applications, commands to the first of them, and the answers due.
 ghost use Rattle.std.specs.Prelude.{◌≡◌, ◌<◌};
 
 use crate::machines::card::{Fault, Unit, command, load, static_bytes};
@@ -20,15 +20,15 @@ pub struct App<'a> {
     pub deny: u16,
 }
 
-/// What a command answers: the data of its reply and the status in hexadecimal, or an abend.
+/// The answer to a command: the data of its reply and the status word in hexadecimal, or an abend.
 #[derive(Clone, Copy, Debug)]
 pub enum Answer<'a> {
     Reply(&'a str),
     Abend(Abend),
 }
 
-/// The applications, a command in hexadecimal and its answer, one after the other under a budget, and the static bytes of
-/// the first application after the last one.
+/// The applications, the commands in hexadecimal with their answers, in sequence under one budget, and the
+/// static bytes of the first application after the last command.
 #[derive(Clone, Copy, Debug)]
 pub struct Row<'a> {
     pub apps: &'a [App<'a>],
@@ -37,8 +37,8 @@ pub struct Row<'a> {
     pub left: &'a str,
 }
 
-/// The number of the first command of a row that answers something else, or how many there are where other static bytes
-/// are left; `None` where all is as it is due.
+/// Returns the number of the first command of a row with another answer, or the number of commands if other
+/// static bytes are left; `None` if the row is as due.
 pub fn wrong_at<L: Ledger>(
     alloc: Global,
     blank: Blank,
@@ -137,7 +137,8 @@ fn name_of(alloc: Global, text: &str) -> Result<Aid, Fault> {
     }
 }
 
-/// How a command to a single application without data ends, under a budget, and the static bytes that it leaves.
+/// Returns the outcome of a command without data to a single application under a budget, and the static bytes
+/// that it leaves.
 pub fn lone<L: Ledger>(
     alloc: Global,
     blank: Blank,

@@ -8,12 +8,12 @@ use std::marker::Brand;
 use std::sync::ledger::Blank;
 use std::test::Fail;
 
-// Whether a row goes as it is due.
+// Whether a row is as due.
 fn goes(alloc: Global, row: &Row<'_>) -> bool {
     matches!(wrong_at::<Brand>(alloc, Blank::new(1), row), Ok(None))
 }
 
-// How a command to a single application ends, and the static bytes that it leaves.
+// The outcome of a command to a single application, and the static bytes that it leaves.
 fn ended(
     alloc: Global,
     code: &[u8],
@@ -101,7 +101,7 @@ const ACCESSES: [Case; 6] = [
     },
 ];
 
-// Budgets that are enough, and that are not.
+// Budgets that are sufficient, and budgets that are not.
 const BUDGETS: [Case; 4] = [
     Case {
         title: "budget of 3",
@@ -276,7 +276,7 @@ const COMMANDS: [Case; 5] = [
     },
 ];
 
-// The title of the first case that goes otherwise.
+// The title of the first case that is not as due.
 fn wrong_case(alloc: Global, cases: &[Case]) -> Option<&'static str> {
     for case in cases {
         let app = App {
@@ -350,7 +350,7 @@ fn public_bytes(rt: HostRuntime) {
     assert!(rt; goes(rt.alloc(), &row));
 }
 
-// A delegation that is done, one to a running application and one to a missing one.
+// A delegation that succeeds, one to a running application and one to a missing one.
 #[test]
 fn delegation(rt: HostRuntime) {
     let row = Row {
@@ -442,7 +442,7 @@ fn access_list(rt: HostRuntime) {
     }
 }
 
-// The code that writes the first byte of so many words under protection, and commits them.
+// The code that writes the first byte of `words` words under protection, and commits them.
 fn writes(alloc: Global, words: u16) -> Result<Vec<u8>, Fail> {
     let mut code = Vec::from_slice(alloc, &[0x29, 0x03, 0x02])?;
     for word in 0..words {
@@ -453,7 +453,7 @@ fn writes(alloc: Global, words: u16) -> Result<Vec<u8>, Fail> {
     Ok(code)
 }
 
-// Whether a command answered this reply, and left these static bytes.
+// Whether a command was answered by this reply, and left these static bytes.
 fn is_reply(end: &Result<(Outcome, Vec<u8>), Fault>, sw: u16, body: &[u8], left: &[u8]) -> bool {
     match end {
         Ok((Outcome::Reply(reply), bytes)) => {
@@ -464,7 +464,7 @@ fn is_reply(end: &Result<(Outcome, Vec<u8>), Fault>, sw: u16, body: &[u8], left:
     }
 }
 
-// Whether a command ended by this abend, and left these static bytes.
+// Whether a command ended with this abend, and left these static bytes.
 fn is_abend(end: &Result<(Outcome, Vec<u8>), Fault>, abend: Abend, left: &[u8]) -> bool {
     match end {
         Ok((Outcome::Reply(_reply), _bytes)) => false,
@@ -489,7 +489,7 @@ fn pending_limit(rt: HostRuntime) -> Result<(), Fail> {
     Ok(())
 }
 
-// Each code of one byte ends.
+// Every code of one byte ends.
 #[test]
 fn codes_of_one_byte(rt: HostRuntime) {
     for byte in 0..=255 {

@@ -30,7 +30,8 @@ fn open(code: u16, init: u8) -> ArrayVec<u8, 1031> {
     command(0x12, 0, &[high, low, 0, 8, 0, init, 0, 0, 0, 9, 0, 9])
 }
 
-/// Whether an application named A0000000 and a byte is loaded, each section in pieces of this length.
+/// Returns whether an application whose name is A0000000 and one byte is loaded, each section in pieces of
+/// this length.
 pub fn loads<B: Bank, L: Ledger>(
     manager: &mut Manager,
     bank: &mut B,
@@ -91,7 +92,8 @@ fn fills<B: Bank, L: Ledger>(
     true
 }
 
-/// Whether a card of 32 applications has no room for one more until one of them, A000000009, is deleted.
+/// Returns whether a card of 32 applications has no room for one more until one of them, A000000009, is
+/// deleted.
 pub fn is_full<B: Bank, L: Ledger>(
     manager: &mut Manager,
     bank: &mut B,

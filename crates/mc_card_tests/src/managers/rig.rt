@@ -9,20 +9,20 @@ use mc_manager::{Manager, Routed};
 use std::alloc::Global;
 use std::sync::ledger::Ledger;
 
-/// What a command is to come to.
+/// The result that a command is to have.
 #[derive(Clone, Copy, Debug, PartialEq, Eq)]
 pub enum Want {
-    /// It is no command.
+    /// It is not a command.
     WrongLength,
-    /// A status without data.
+    /// A status word without data.
     Status(u16),
-    /// A new selection, and 9000 behind these data.
+    /// A new selection, and 9000 after these data.
     Fresh(&'static [u8]),
     /// It is passed to the selected application.
     Pass,
 }
 
-/// Whether a command comes to what it is to come to.
+/// Returns whether a command has the result that it is to have.
 pub fn comes_to<B: Bank, L: Ledger>(
     manager: &mut Manager,
     bank: &mut B,
@@ -60,7 +60,8 @@ fn is_fresh(reply: &Reply, want: Want) -> bool {
     }
 }
 
-/// The number of the first row whose command, in hexadecimal, does not come to what it is to come to.
+/// Returns the number of the first row whose command, in hexadecimal, does not have the result that it is to
+/// have, or `None` if there is none.
 pub fn first_wrong<B: Bank, L: Ledger>(
     alloc: Global,
     manager: &mut Manager,
@@ -84,7 +85,7 @@ pub fn first_wrong<B: Bank, L: Ledger>(
     None
 }
 
-/// The first eight static bytes of an application that has eight.
+/// Returns the static bytes of an application that has eight, or `None`.
 pub fn fixed_of<B: Bank>(bank: &B, name: &[u8]) -> Option<[u8; 8]>
     requires { (B.state bank.now).stopped ≡ false }
 {
@@ -97,14 +98,14 @@ pub fn fixed_of<B: Bank>(bank: &B, name: &[u8]) -> Option<[u8; 8]>
     Some(fixed)
 }
 
-/// The access list of an application.
+/// Returns the access list of an application, or `None` if it is not on the card.
 pub fn deny_of<B: Bank>(bank: &B, name: &[u8]) -> Option<u16>
     requires { (B.state bank.now).stopped ≡ false }
 {
     Some(bank.facts(slot_of(bank, name)?).sizes.deny)
 }
 
-/// Whether an application has this code.
+/// Returns whether an application has this code.
 pub fn has_code<B: Bank>(bank: &B, name: &[u8], code: &[u8; 1024]) -> bool
     requires { (B.state bank.now).stopped ≡ false }
 {

@@ -1,4 +1,4 @@
-// A card of 256 words: an OPEN has room exactly where a hole of the card is long enough.
+// A card of 256 words: an OPEN has room exactly if a hole of the card is long enough.
 ghost use Rattle.std.specs.Prelude.{◌≡◌, ◌<◌};
 
 use crate::managers::rig::{Want, first_wrong};
@@ -62,7 +62,8 @@ const ROWS: &[(&str, Want)] = &[
     ("BE1200000C000100000000000000000000", Want::Status(0x6A84)),
 ];
 
-// What the session comes to: no card at all, or its first wrong row, and words 0, 131 and 192 of the card after it.
+// The result of the session: no card at all, or its first wrong row, and words 0, 131 and 192 of the card
+// after it.
 #[derive(Debug, PartialEq, Eq, Drop)]
 enum Session {
     NoCard,
@@ -108,7 +109,7 @@ fn played<L: Ledger>(alloc: Global, blank: Blank) -> Result<Session, NoMemory>
     Ok(Session::Played(wrong, words))
 }
 
-// The words of the first, and of the third in the place of the second.
+// The words of the first application, and of the third in the place of the second.
 #[test]
 fn room(rt: HostRuntime) -> Result<(), Fail> {
     assert_eq!(rt;

@@ -1,6 +1,7 @@
 use crate::managers::rig::Want;
 
-/// A session that begins with an empty card: each refusal of each row of the manager's table, and what is done between them.
+/// A session that begins with an empty card: each refusal of each row of the manager's table, and the
+/// commands that succeed between them.
 pub const ROWS: &[(&str, Want)] = &[
     // Routing, with nothing selected.
     ("8001", Want::WrongLength),
@@ -12,7 +13,7 @@ pub const ROWS: &[(&str, Want)] = &[
     ("80010000", Want::Status(0x6985)),
     ("00A40000", Want::Status(0x6985)),
     ("01A4040C05A000000001", Want::Status(0x6985)),
-    // SELECT on an empty card: P2, no data, no such name, no name at all.
+    // SELECT on an empty card: P2, no data, a name that is not on the card, data that are not a name.
     ("00A40402", Want::Status(0x6A86)),
     ("00A4040205A000000001", Want::Status(0x6A86)),
     ("00A4040C", Want::Status(0x6700)),
@@ -45,7 +46,8 @@ pub const ROWS: &[(&str, Want)] = &[
     // The largest sizes, and then an OPEN that replaces them.
     ("BE12000F0C200010001000010000800080", Want::Status(0x9000)),
     ("BE1200000C000F00020000000000090009", Want::Status(0x9000)),
-    // LOAD CODE: no data, another place than the bytes got, past the size. A refused OPEN leaves the load as it is.
+    // LOAD CODE: no data, another offset than the number of bytes received, past the size. A refused OPEN
+    // leaves the load as it is.
     ("BE240000", Want::Status(0x6700)),
     ("BE24000101B9", Want::Status(0x6985)),
     (
@@ -79,7 +81,7 @@ pub const ROWS: &[(&str, Want)] = &[
     ("BE220000096F078405A000000001", Want::Status(0x9000)),
     ("BE160000", Want::Status(0x6A80)),
     ("BE22000901AA", Want::Status(0x6A80)),
-    // A second OPEN begins anew. CREATE with an Le is taken, and ends the load.
+    // A second OPEN begins anew. CREATE with an Le is accepted, and ends the load.
     ("BE1200000C000F00020000000000090009", Want::Status(0x9000)),
     ("BE24000F01AA", Want::Status(0x6985)),
     (
@@ -91,7 +93,7 @@ pub const ROWS: &[(&str, Want)] = &[
     ("BE220000096F078405A000000001", Want::Status(0x9000)),
     ("BE16000000", Want::Status(0x9000)),
     ("BE160000", Want::Status(0x6985)),
-    // CREATE of a name that is there.
+    // CREATE of a name that is on the card.
     ("BE1200000C000F00020000000000090009", Want::Status(0x9000)),
     (
         "BE2400000FB90200003902000046020000060002",
@@ -101,7 +103,8 @@ pub const ROWS: &[(&str, Want)] = &[
     ("BE220000096F078405A000000001", Want::Status(0x9000)),
     ("BE160000", Want::Status(0x6A89)),
     ("BE160000", Want::Status(0x6A89)),
-    // DELETE: P1 P2, no data, no such name, no name at all. Refused, it leaves the load open; done, it ends it.
+    // DELETE: P1 P2, no data, a name that is not on the card, data that are not a name. If it is refused the
+    // load stays open; if it succeeds the load ends.
     ("BE18000105A000000001", Want::Status(0x6A86)),
     ("BE180100", Want::Status(0x6A86)),
     ("BE180000", Want::Status(0x6700)),
@@ -111,7 +114,7 @@ pub const ROWS: &[(&str, Want)] = &[
     ("BE18000005A000000001", Want::Status(0x9000)),
     ("BE160000", Want::Status(0x6985)),
     ("00A4040C05A000000001", Want::Status(0x6A82)),
-    // SELECT: no data with P2 0C and without Le, else the front of the FCI.
+    // SELECT: no data with P2 0C and without Le, else the first bytes of the FCI.
     ("BE1200000C000F00020000000000090009", Want::Status(0x9000)),
     (
         "BE2400000FB90200003902000046020000060002",
@@ -140,7 +143,7 @@ pub const ROWS: &[(&str, Want)] = &[
         Want::Fresh(b"\x6F\x07\x84\x05\xA0\x00\x00\x00\x01"),
     ),
     ("00A4040C05A00000000100", Want::Fresh(b"")),
-    // A refused command leaves the selection, and what is no command of the manager is passed.
+    // A refused command leaves the selection, and a command that is not the manager's is passed.
     ("00A4040C05A000000002", Want::Status(0x6A82)),
     ("00A40402", Want::Status(0x6A86)),
     ("80010000", Want::Pass),
@@ -157,7 +160,7 @@ pub const ROWS: &[(&str, Want)] = &[
     ("80010000", Want::Pass),
     ("00A4040C", Want::Status(0x6700)),
     ("BE2400010102", Want::Status(0x9000)),
-    // An application with an access list. Once it is selected, the one that was can go.
+    // An application with an access list. After it is selected, the one selected before can be deleted.
     ("BE1200020C000600060006000000090000", Want::Status(0x9000)),
     ("BE24000006220000280704", Want::Status(0x9000)),
     ("BE2600000605A000000001", Want::Status(0x9000)),

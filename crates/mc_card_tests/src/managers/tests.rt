@@ -11,7 +11,7 @@ use std::marker::Brand;
 use std::sync::ledger::{Blank, Ledger};
 use std::test::Fail;
 
-// What a session comes to: its first wrong row, how many applications are there, an access list, and static bytes.
+// The result of a session: its first wrong row, the number of applications, an access list, and static bytes.
 #[derive(Debug, PartialEq, Drop)]
 struct Session {
     wrong: Option<usize>,
@@ -39,7 +39,7 @@ fn played<L: Ledger>(alloc: Global, blank: Blank) -> Result<Session, NoMemory>
     })
 }
 
-// Each row of the table, and what stands on the card after it.
+// Each row of the table, and the card after it.
 #[test]
 fn table(rt: HostRuntime) -> Result<(), Fail> {
     assert_eq!(rt;
@@ -55,8 +55,8 @@ fn table(rt: HostRuntime) -> Result<(), Fail> {
     Ok(())
 }
 
-// The name of the first application that is not loaded as it was sent, of 32, and 33 where all of them are and one more
-// finds no room until one is deleted.
+// The name of the first application of 32 that is not loaded as it was sent, or 33 if all are and one more
+// has no room until one is deleted.
 fn first_missing<L: Ledger>(alloc: Global, blank: Blank) -> Result<u8, NoMemory>
     requires name { blank.name ≡ L.name }
     requires parts { blank.parts ≡ L.parts }

@@ -6,7 +6,7 @@ use mc_blocks::{Cause, Unusable};
 use mc_nvm::Bench;
 use mc_store::{Store, Up};
 
-/// What a power-up came to: a card and the writes that it took, a stop, or no card.
+/// The result of a power-up: a card and the number of its writes, a stop, or no card.
 #[derive(Clone, Copy, Debug, PartialEq, Eq, Drop)]
 pub enum Power {
     Ready(u16),
@@ -14,7 +14,7 @@ pub enum Power {
     Unusable(Cause, u16),
 }
 
-/// Stops the k-th write from now, by a cut or by a refusal; none where k is 0.
+/// Stops the `k`-th write from now, by a power cut or as a failed write; if `k` is 0, none.
 pub fn stop_at<N: Bench>(device: &mut N, stop: Stop, k: u16, fill: Word) {
     if k < 1 {
         return;
@@ -25,19 +25,19 @@ pub fn stop_at<N: Bench>(device: &mut N, stop: Stop, k: u16, fill: Word) {
     }
 }
 
-/// Sets a word, where the device has its place.
+/// Sets a word, if the device has its place.
 pub fn set<N: Bench>(device: &mut N, at: u16, word: Word) {
     if (at as u32) < device.len() {
         device.poke(at as u32, word);
     }
 }
 
-/// Sets the word of this number.
+/// Sets the word with this number.
 pub fn set_number<N: Bench>(device: &mut N, at: u16, number: u64) {
     set(device, at, number.to_be_bytes());
 }
 
-/// The word at a place as a number, and 0 past the last.
+/// Returns the word at a place as a number, or 0 past the last place.
 pub fn number_at<N: Bench>(device: &N, at: u16) -> u64 {
     if (at as u32) < device.len() {
         u64::from_be_bytes(device.read(at as u32))
@@ -53,7 +53,7 @@ pub fn format<N: Bench>(device: &mut N) {
     }
 }
 
-/// Turns power on, and gives the store of the words, or what the power-up came to.
+/// Turns power on, and returns the result of the power-up.
 pub fn power_up<N: Bench>(device: &mut N) -> Power {
     device.power();
     match Store::power_up(device) {
@@ -65,7 +65,7 @@ pub fn power_up<N: Bench>(device: &mut N) -> Power {
     }
 }
 
-/// What a power-up came to that gave no store.
+/// Returns the result of a power-up that found no card or was stopped.
 pub fn power_of(up: Up) -> Power {
     match up {
         Up::Stop(stop) => Power::Stopped(stop),

@@ -19,7 +19,7 @@ pub struct Unit {
 /// A code that counts in its first two static bytes.
 pub const COUNTER: &[u8] = &[0xB9, 2, 0, 0, 0x39, 2, 0, 0, 0x46, 2, 0, 0, 6, 0, 2];
 
-/// The counter with two static bytes, under a name that ends so.
+/// Returns the counter with two static bytes, under a name with this last byte.
 pub fn counter(last: u8) -> Unit {
     Unit {
         name: [0xA0, 0, 0, 0, last],
@@ -29,7 +29,7 @@ pub fn counter(last: u8) -> Unit {
     }
 }
 
-/// What a change came to.
+/// The result of a change.
 #[derive(Clone, Copy, Debug, PartialEq, Eq, Drop)]
 pub enum Came {
     Done,
@@ -40,7 +40,7 @@ pub enum Came {
     Absent,
 }
 
-/// The sizes of an application, where they are within the limits.
+/// Returns the sizes of an application, or `None` if they are not within the limits.
 pub fn sizes_of(unit: &Unit) -> Option<Sizes>
     ensures limits { IfSome result (λ sizes. FitsLimits sizes) }
     ensures code { IfSome result (λ sizes. sizes.code ≡ length unit.now.code.now) }
@@ -105,7 +105,7 @@ pub fn fill<B: Bank>(bank: &mut B, site: &Site, unit: &Unit) -> Result<(), Stop>
     bank.fill(site, Part::Fci, 0, &[0x6F, 7, 0x84, 5, a, b, c, d, e])
 }
 
-/// Makes an application of what stands at a site.
+/// Makes an application of the bytes at a site.
 pub fn create<B: Bank>(bank: &mut B, site: &Site, unit: &Unit) -> Result<Came, Stop>
     requires going { (B.state bank.old).stopped ≡ false }
     requires good { IsGoodSite (B.state bank.old).apps (B.room bank.old) site.now }
@@ -121,7 +121,7 @@ pub fn create<B: Bank>(bank: &mut B, site: &Site, unit: &Unit) -> Result<Came, S
     Ok(Came::Done)
 }
 
-/// Takes an application out.
+/// Deletes an application.
 pub fn delete<B: Bank>(bank: &mut B, unit: &Unit) -> Result<Came, Stop>
     requires going { (B.state bank.old).stopped ≡ false }
     ensures going { OnOk result ((B.state bank.new).stopped ≡ false) }
@@ -154,7 +154,7 @@ pub fn commit<B: Bank>(
     Ok(Came::Done)
 }
 
-/// The slot of a name.
+/// Returns the slot of a name, or `None` if there is none.
 pub fn slot_of<B: Bank>(bank: &B, name: &[u8; 5]) -> Option<Slot>
     requires { (B.state bank.now).stopped ≡ false }
     ensures { IfSome result (λ slot. IsSome (B.named bank.now slot)) }
@@ -162,8 +162,8 @@ pub fn slot_of<B: Bank>(bank: &B, name: &[u8; 5]) -> Option<Slot>
     bank.find(&Aid::new(name)?)
 }
 
-/// The first of these applications that is not in a bank with its code and static bytes, of those that have no more
-/// than 64; and one past the last where the bank has others.
+/// Returns the first of these applications that is not in the bank with its code and static bytes, if those
+/// are at most 64, or the number of applications if the bank has others; `None` if there is none.
 pub fn first_wrong<B: Bank>(bank: &B, apps: &[(Unit, &'static [u8])]) -> Option<usize>
     requires { (B.state bank.now).stopped ≡ false }
 {

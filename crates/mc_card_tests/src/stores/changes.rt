@@ -1,4 +1,4 @@
-// Changes of a card one after the other, on a device that is lent.
+// Changes of a card in sequence, on a borrowed device.
 ghost use Rattle.std.specs.Prelude.{◌≡◌, false, None, OnOk};
 
 use crate::stores::bench::{Power, power_of};
@@ -17,7 +17,7 @@ pub enum Change {
     Commit(Unit, Word, (u16, Word)),
 }
 
-/// How some changes went behind a power-up: all as they were to, the number of the first that did not, a stop, or no
+/// The result of changes after a power-up: all as due, the number of the first that was not, a stop, or no
 /// store.
 #[derive(Clone, Copy, Debug, PartialEq, Eq, Drop)]
 pub enum Went {
@@ -46,7 +46,7 @@ pub fn make<B: Bank, L: Ledger>(
     }
 }
 
-/// Makes changes, each of which is to come to what stands beside it.
+/// Makes changes in sequence until one has another result than the one due.
 pub fn make_all<B: Bank, L: Ledger>(
     bank: &mut B,
     rows: &[(Change, Came)],
@@ -82,7 +82,7 @@ pub fn play<N: Bench, L: Ledger>(
     }
 }
 
-/// What a power-up comes to, and which of these applications is not there as it has to be.
+/// The result of a power-up, and the first of these applications that is not as due.
 #[derive(Clone, Copy, Debug, PartialEq, Eq, Drop)]
 pub struct Shown {
     pub power: Power,

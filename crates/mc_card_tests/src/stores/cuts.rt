@@ -1,4 +1,4 @@
-// Each change of a card stopped at each of its writes, and the power-up behind it at each of its own.
+// Each change of a card stopped at each of its writes, and the power-up after it at each of its own.
 ghost use Rattle.std.specs.Prelude.{◌≡◌, ◌<◌};
 
 use crate::stores::bench::{Power, format, power_up, stop_at};
@@ -71,7 +71,7 @@ const D_BYTES: &[u8] = &[1, 2, 3, 0, 0, 0, 0, 0, 0, 0, 0, 0, 0, 0, 0, 0, 0, 0, 0
 
 const D_WRITTEN: &[u8] = &[9, 9, 9, 9, 9, 9, 9, 9, 0, 0, 0, 0, 0, 0, 0, 0, 8, 8, 8, 8];
 
-/// The blocks of A, B, C, of 12 words each, and of D, of 14, one behind the other from word 131 on.
+/// The blocks of A, B, C, of 12 words each, and of D, of 14, consecutive from word 131 on.
 const FOUR: &[(Change, Came)] = &[
     (Change::Load(A), Came::Done),
     (Change::Load(B), Came::Done),
@@ -79,7 +79,7 @@ const FOUR: &[(Change, Came)] = &[
     (Change::Load(D), Came::Done),
 ];
 
-/// The same with holes where A and C were.
+/// The blocks of B and D, with holes in the places of A and C.
 const TWO: &[(Change, Came)] = &[
     (Change::Load(A), Came::Done),
     (Change::Load(B), Came::Done),
@@ -99,7 +99,7 @@ const CASES: &[Case] = &[
         old: &[(B, &[0, 0]), (D, D_BYTES)],
         new: &[(B, &[0, 0]), (D, D_BYTES), (E, &[0, 0])],
     },
-    // Into the front of the last hole.
+    // Into the first words of the last hole.
     Case {
         made: TWO,
         change: Change::Load(F),
@@ -120,7 +120,7 @@ const CASES: &[Case] = &[
         old: &[(B, &[0, 0]), (D, D_BYTES)],
         new: &[(B, &[0, 0]), (D, D_WRITTEN)],
     },
-    // One hole of the block and of those before it and behind it.
+    // One hole of the block and the holes before it and after it.
     Case {
         made: TWO,
         change: Change::Delete(B),
@@ -149,8 +149,8 @@ const CASES: &[Case] = &[
     },
 ];
 
-/// A change that is stopped at its write `first`, which leaves `left`, and where `second` is not 0 the power-up behind
-/// it at that write, which leaves `then`.
+/// A change that is stopped at its write `first`, which leaves `left`, and, if `second` is not 0, the
+/// power-up after it at that write, which leaves `then`.
 #[derive(Clone, Copy, Debug, Drop)]
 struct Stops {
     stop: Stop,
@@ -160,7 +160,7 @@ struct Stops {
     then: Word,
 }
 
-/// What they come to, and two more power-ups.
+/// Their results, and those of two more power-ups.
 #[derive(Clone, Copy, Debug, PartialEq, Eq, Drop)]
 struct Seen {
     went: Went,
@@ -220,12 +220,12 @@ fn by_rule(case: &Case, stops: Stops) -> Seen {
     }
 }
 
-// Whether the change is made once it was stopped at a write.
+// Whether the change is made after a stop at a write.
 fn stands(case: &Case, atomic: &Atomic, k: u16, left: Word) -> bool {
     k > case.plain && atomic.stands(k - case.plain, left)
 }
 
-// How many writes are owed then.
+// The number of writes that recovery then still has to make.
 fn owes(case: &Case, atomic: &Atomic, k: u16, left: Word) -> u16 {
     if k > case.plain {
         atomic.owes(k - case.plain, left)
@@ -234,7 +234,8 @@ fn owes(case: &Case, atomic: &Atomic, k: u16, left: Word) -> u16 {
     }
 }
 
-/// A case that was tried at all of its writes: how many there are, and the first stops that came to something else.
+/// A case that was tested at all of its writes: the number of writes, and the first stops with another
+/// result.
 #[derive(Debug, Drop)]
 struct Tried {
     writes: u16,
@@ -275,12 +276,12 @@ fn try_case<L: Ledger>(alloc: Global, blank: Blank, case: &Case) -> Result<Tried
     Ok(Tried { writes, other })
 }
 
-// The same with steps of its own.
+// Tests a case, with steps of its own.
 fn trial(alloc: Global, case: &Case) -> Result<Tried, NoMemory> {
     try_case::<Brand>(alloc, Blank::new(1), case)
 }
 
-// The same first stop with each second one.
+// Each second stop after one first stop.
 fn second_stops<L: Ledger>(
     device: &mut SimNvm,
     image: &Image,

@@ -1,4 +1,4 @@
-// Words that are no card, and some that are.
+// Words that are not a card, and words that are.
 use crate::stores::bench::{Power, format, power_up, set_number};
 use mc_blocks::Cause;
 use mc_nvm::{DEVICE_WORDS, SimNvm};
@@ -9,7 +9,7 @@ const OPEN_1: u64 = 0x4F50454E2D312D2D;
 
 const OPEN_2: u64 = 0x4F50454E2D322D2D;
 
-/// Words that are set on an empty card of 8,192 words, and what a power-up comes to.
+/// Words that are set on an empty card of 8,192 words, and the result of the power-up.
 type Row = (&'static [(u16, u64)], Power);
 
 const JOURNALS: &[Row] = &[

@@ -1,4 +1,4 @@
-// The words of cards, after loads and deletions that have room or have none.
+// The words of cards after loads and deletions, with room and without.
 ghost use Rattle.std.specs.Prelude.{◌≡◌, ◌<◌, ◌≤◌};
 
 use crate::stores::bench::{Power, format, number_at, power_up, stop_at};
@@ -12,7 +12,7 @@ use std::marker::Brand;
 use std::sync::ledger::{Blank, Ledger};
 use std::test::Fail;
 
-// What changes on an empty card come to, and the first of these words that is not there.
+// The results of changes on an empty card, and the first of these words that is not as due.
 #[derive(Clone, Copy, Debug, PartialEq, Eq, Drop)]
 struct Seen {
     went: Went,
@@ -47,7 +47,7 @@ fn played<L: Ledger>(
     })
 }
 
-// The same with steps of its own.
+// Changes on an empty card, with steps of their own.
 fn words_after(
     alloc: Global,
     size: u32,
@@ -69,7 +69,7 @@ fn wrong_word(device: &SimNvm, words: &[(u16, u64)]) -> Option<u16> {
     None
 }
 
-// Blank devices are no card. An empty card has five words, and owes nothing.
+// Blank devices are not cards. An empty card has five words, and no writes for recovery.
 #[test]
 fn empty_cards(rt: HostRuntime) -> Result<(), Fail> {
     for (size, root, hole) in [
@@ -134,7 +134,7 @@ fn one_load(rt: HostRuntime) -> Result<(), Fail> {
     Ok(())
 }
 
-// The third load has no room until a hole of 64 words is there.
+// The third load has no room until there is a hole of 64 words.
 #[test]
 fn room(rt: HostRuntime) -> Result<(), Fail> {
     let rows = [
@@ -155,7 +155,7 @@ fn room(rt: HostRuntime) -> Result<(), Fail> {
     Ok(())
 }
 
-// Twenty applications, and holes where some of them were.
+// Twenty applications, and holes in the places of some of them.
 #[test]
 fn hole_chain(rt: HostRuntime) -> Result<(), Fail> {
     let rows = [
@@ -216,7 +216,7 @@ const EMPTY: Unit = Unit {
     fixed: 8,
 };
 
-// What stands on a card after changes that may be stopped at write k.
+// The card after changes that may be stopped at write `k`.
 fn left_by<L: Ledger>(
     alloc: Global,
     blank: Blank,
@@ -237,7 +237,7 @@ fn left_by<L: Ledger>(
     Ok((went, show(&mut device, apps)))
 }
 
-// The same with steps of its own.
+// The card after such changes, with steps of their own.
 fn stands_after(
     alloc: Global,
     rows: &[(Change, Came)],
@@ -248,7 +248,7 @@ fn stands_after(
     left_by::<Brand>(alloc, Blank::new(1), rows, k, fill, apps)
 }
 
-// An application without data in the words of one that had some.
+// An application without data, in the words of a deleted one with data.
 #[test]
 fn no_stale_byte(rt: HostRuntime) -> Result<(), Fail> {
     let rows = [
@@ -267,7 +267,7 @@ fn no_stale_byte(rt: HostRuntime) -> Result<(), Fail> {
     Ok(())
 }
 
-// A load of 21 writes, cut in the one before its gate opens, and in the one that opens it.
+// A load of 21 writes, cut in the write before its gate opens, and in the one that opens it.
 #[test]
 fn cut_in_a_load(rt: HostRuntime) -> Result<(), Fail> {
     let rows = [(Change::Load(counter(1)), Came::Done)];

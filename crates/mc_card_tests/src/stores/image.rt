@@ -1,4 +1,4 @@
-// The words of a device of 256 words, kept and put back, and the writes on a tape.
+// The words of a device of 256 words, saved and restored, and the writes on a tape.
 use crate::stores::bench::set;
 use mc_base::Word;
 use mc_nvm::{Bench, Nvm, TapeNvm};
@@ -6,7 +6,7 @@ use mc_nvm::{Bench, Nvm, TapeNvm};
 /// The words of a device of 256 words.
 pub type Image = [Word; 256];
 
-/// The words as they are.
+/// Returns the words of the device.
 pub fn image_of<N: Nvm>(device: &N) -> Image {
     let size = device.len();
     let mut image = [[0; 8]; 256];
@@ -18,7 +18,7 @@ pub fn image_of<N: Nvm>(device: &N) -> Image {
     image
 }
 
-/// Puts words back, and takes all fuses away.
+/// Restores the words, and disarms all stops.
 pub fn restore<N: Bench>(device: &mut N, image: &Image) {
     device.disarm();
     for (at, word) in (0..256).zip(image) {
@@ -26,7 +26,7 @@ pub fn restore<N: Bench>(device: &mut N, image: &Image) {
     }
 }
 
-/// How many writes a tape tells.
+/// Returns the number of writes on a tape.
 pub fn writes_of(device: &TapeNvm) -> u16 {
     match device.tape() {
         Some(entries) => entries.len().min(1000) as u16,
@@ -34,7 +34,7 @@ pub fn writes_of(device: &TapeNvm) -> u16 {
     }
 }
 
-/// The word that write k, from 1 on, left.
+/// Returns the word that write `k`, counted from 1, left.
 pub fn due_word(device: &TapeNvm, k: u16) -> Word {
     let Some(entries) = device.tape() else {
         return [0; 8];

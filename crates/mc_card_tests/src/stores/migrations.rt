@@ -14,8 +14,8 @@ use std::marker::Brand;
 use std::sync::ledger::{Blank, Ledger};
 use std::test::Fail;
 
-/// Words that are set on an empty card of layout 1, and power-ups: the write at which each is cut, or 0, what this
-/// leaves, and what it comes to.
+/// Words that are set on an empty card of layout 1, and power-ups: the write at which each is cut, or 0, the
+/// word that the cut leaves, and the result.
 type Row = (&'static [(u16, u64)], &'static [(u16, Word, Power)]);
 
 const OFF: Power = Power::Stopped(Stop::Off);
@@ -60,7 +60,7 @@ const ROWS: &[Row] = &[
 
 const ROOT_1: u64 = 0x4D454C0120000083;
 
-// The first power-up that comes to something else.
+// The first power-up with another result.
 fn first_other(
     device: &mut SimNvm,
     words: &[(u16, u64)],
@@ -80,7 +80,7 @@ fn first_other(
     None
 }
 
-// Six writes, behind those that are owed.
+// Six writes, after those of the recovery.
 #[test]
 fn migrations(rt: HostRuntime) -> Result<(), Fail> {
     for (i, (words, ups)) in ROWS.iter().enumerate() {
@@ -112,8 +112,8 @@ const LOADS: &[(Change, Came)] = &[
 
 const APPS: &[App] = &[(B, &[7, 0, 0, 0, 0, 0, 0, 0, 0, 0])];
 
-/// A power-up that is stopped at its write `first`, which leaves `left`, and where `second` is not 0 the one behind it
-/// at that write, which leaves `then`.
+/// A power-up that is stopped at its write `first`, which leaves `left`, and, if `second` is not 0, the one
+/// after it at that write, which leaves `then`.
 #[derive(Clone, Copy, Debug, Drop)]
 struct Stops {
     stop: Stop,
@@ -123,7 +123,7 @@ struct Stops {
     then: Word,
 }
 
-/// What they come to, one more, and the applications and the version behind that.
+/// Their results, that of one more, and the applications and the version after it.
 #[derive(Clone, Copy, Debug, PartialEq, Eq, Drop)]
 struct Seen {
     first: Power,
@@ -149,7 +149,8 @@ fn observe(device: &mut SimNvm, image: &Image, stops: Stops) -> Seen {
     }
 }
 
-// How many writes the second power-up makes: those of the recovery, or the six of a migration from the start.
+// The number of writes of the second power-up: those of the recovery, or the six of a migration from the
+// start.
 fn due_writes(first: u16, left: Word) -> u16 {
     let atomic = Atomic::plain(1);
     if atomic.stands(first, left) {
@@ -159,7 +160,7 @@ fn due_writes(first: u16, left: Word) -> u16 {
     }
 }
 
-// And the third, where the second was stopped.
+// The number of writes of the third power-up, if the second was stopped.
 fn left_writes(stops: Stops) -> u16 {
     let atomic = Atomic::plain(1);
     if atomic.stands(stops.first, stops.left) {
@@ -190,7 +191,7 @@ fn by_rule(stops: Stops) -> Seen {
     }
 }
 
-// The first stops that come to something else, of all.
+// The first stops with another result, of all.
 fn first_stops<L: Ledger>(
     alloc: Global,
     blank: Blank,
@@ -228,7 +229,7 @@ fn first_stops<L: Ledger>(
     Ok((writes_of(&taped), other))
 }
 
-// The same first stop with each second one.
+// Each second stop after one first stop.
 fn second_stops(
     device: &mut SimNvm,
     image: &Image,
@@ -253,7 +254,7 @@ fn second_stops(
     None
 }
 
-// The applications stay, and the layout is the second one at last.
+// The applications are unchanged, and the layout is 2 in the end.
 #[test]
 fn stopped_migrations(rt: HostRuntime) -> Result<(), Fail> {
     let (writes, other) = first_stops::<Brand>(rt.alloc(), Blank::new(1))?;

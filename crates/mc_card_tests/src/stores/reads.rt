@@ -1,4 +1,4 @@
-// How many words a store reads to find room, to take a hole and to free a block.
+// The number of words that a store reads to find room, to fill a hole and to free a block.
 ghost use Rattle.std.specs.Prelude.{◌≡◌, ◌<◌, true, false, IsSome, IfSome, IfOk};
 ghost use Rattle.mc_model_device.specs.Image.{Closed, look};
 ghost use Rattle.mc_model_device.specs.Card.{means};
@@ -40,7 +40,8 @@ struct Fetches {
     fixed: u32,
 }
 
-/// The reads of a search for 13 words and its answer, of the plan to take them there, and of the plan to free a block.
+/// The reads of a search for 13 words and its result, of the plan to take them there, and of the plan to free
+/// a block.
 #[derive(Clone, Copy, Debug, PartialEq, Eq, Drop)]
 struct Plans {
     place: u16,
@@ -63,7 +64,7 @@ fn loads(last: u8) -> (Change, Came) {
     (Change::Load(chained(last, 2)), Came::Done)
 }
 
-// Thirty-two applications of twelve words each, as many as a card has.
+// Thirty-two applications of twelve words each, the maximum of a card.
 fn all_loads() -> [(Change, Came); 32] {
     [
         loads(1),
@@ -171,7 +172,7 @@ fn empty_card(alloc: Global) -> Result<SimNvm, NoMemory>
     Ok(device)
 }
 
-// The reads on a card with so many applications, and where some of them are deleted.
+// The reads on a card with `count` applications, after some of them are deleted.
 fn reads_over<L: Ledger>(
     alloc: Global,
     blank: Blank,
@@ -209,7 +210,7 @@ fn reads_of<B: Bank, L: Ledger>(
     count_reads(bank, &chained(33, 2), &chained(20, 2), reads, steps)
 }
 
-// Loads so many and deletes some of them; the slot of the twentieth.
+// Loads `count` applications and deletes some of them; returns the slot of the twentieth.
 fn slot_of_twentieth<B: Bank, L: Ledger>(
     bank: &mut B,
     count: usize,
@@ -230,7 +231,7 @@ fn slot_of_twentieth<B: Bank, L: Ledger>(
     slot_of(bank, &chained(20, 2).name)
 }
 
-// The reads of the search and of the plans on the same cards.
+// The reads of the search and of the plans on such cards.
 fn plans_over<L: Ledger>(
     alloc: Global,
     blank: Blank,
@@ -305,7 +306,7 @@ fn deletes(last: u8) -> (Change, Came) {
     (Change::Delete(chained(last, 2)), Came::Done)
 }
 
-// Both with steps of their own.
+// The reads on a card, with steps of their own.
 fn store_reads(
     alloc: Global,
     count: usize,
@@ -318,9 +319,9 @@ fn plan_reads(alloc: Global, deleted: &[(Change, Came)]) -> Result<Option<Plans>
     plans_over::<Brand>(alloc, Blank::new(1), deleted)
 }
 
-// Along the chain of holes alone: at most two more reads than there are holes to find room, and eight more to create
-// or to delete, on a card that is full then as on one with twenty. Bytes of an application take the reads of the
-// words that they lie in.
+// Along the chain of holes alone: at most two more reads than there are holes to find room, and eight more to
+// create or to delete, both on a full card and on one with twenty applications. A read of bytes of an
+// application takes the reads of the words that they lie in.
 #[test]
 fn reads_of_a_store(rt: HostRuntime) -> Result<(), Fail> {
     for (count, deleted, holes) in [
@@ -353,7 +354,7 @@ fn reads_of_a_store(rt: HostRuntime) -> Result<(), Fail> {
     Ok(())
 }
 
-// And four more to make a plan.
+// At most four more reads than there are holes to make a plan.
 #[test]
 fn reads_of_plans(rt: HostRuntime) -> Result<(), Fail> {
     for (deleted, holes, search) in [

@@ -8,7 +8,7 @@ pub const OPEN_1: Word = *b"OPEN-1--";
 
 pub const OPEN_2: Word = *b"OPEN-2--";
 
-/// An atomic write of some words, in the journal of one of the layouts.
+/// An atomic write of `words` words, in the journal of one of the layouts.
 #[derive(Clone, Copy, Debug, PartialEq, Eq, Drop)]
 pub struct Atomic {
     pub words: u16,
@@ -18,7 +18,7 @@ pub struct Atomic {
 }
 
 impl Atomic {
-    /// In the journal of layout 1.
+    /// Returns an atomic write in the journal of layout 1.
     pub fn plain(words: u8) -> Atomic {
         let words = words as u16;
         Atomic {
@@ -29,7 +29,7 @@ impl Atomic {
         }
     }
 
-    /// In the journal of layout 2.
+    /// Returns an atomic write in the journal of layout 2.
     pub fn packed(words: u8) -> Atomic {
         let words = words as u16;
         let targets = (words + 3) / 4;
@@ -41,12 +41,12 @@ impl Atomic {
         }
     }
 
-    /// Whether it stands once it was stopped at its device write k, which left this word.
+    /// Returns whether it is durable after a stop at its device write `k`, which left `left`.
     pub fn stands(&self, k: u16, left: Word) -> bool {
         k > self.opens_at || k == self.opens_at && left == self.opening
     }
 
-    /// How many writes the next power-up owes then.
+    /// Returns the number of writes that recovery then still has to make.
     pub fn owes(&self, k: u16, left: Word) -> u16 {
         let is_over = k == self.cost && left != self.opening;
         if self.stands(k, left) && !is_over {
@@ -56,7 +56,8 @@ impl Atomic {
         }
     }
 
-    /// How many are left of its recovery that was stopped at its write k, which left this word.
+    /// Returns the number of writes that remain of its recovery after a stop at its write `k`, which left
+    /// `left`.
     pub fn remains(&self, k: u16, left: Word) -> u16 {
         if k <= self.words || left == self.opening {
             self.words.saturating_add(1)

@@ -2,10 +2,10 @@ use mc_asm::{AsmCause, AsmRefusal, assemble, list};
 use std::alloc::{AllocError, Global};
 use std::test::Fail;
 
-// The code of a counter: it adds to a word of its static segment, and answers it.
+// The code of a counter: it adds to a word of its static segment, and replies with it.
 const COUNTER: [u8; 15] = [0xB9, 2, 0, 0, 0x39, 2, 0, 0, 0x46, 2, 0, 0, 6, 0, 2];
 
-// A branch over so many lines `NOP`, to a line `far: EXIT`.
+// A branch over `lines` lines `NOP`, to a line `far: EXIT`.
 fn branch_over(alloc: Global, lines: usize) -> Result<Vec<u8>, AllocError> {
     let mut text = Vec::new(alloc);
     text.extend_from_slice(b"BRANCH ALL,far\n")?;
@@ -16,7 +16,7 @@ fn branch_over(alloc: Global, lines: usize) -> Result<Vec<u8>, AllocError> {
     Ok(text)
 }
 
-// The code of the longest branch.
+// Whether this is the code of the longest branch.
 fn is_longest(code: &[u8]) -> bool {
     match code {
         [0x0F, 0x7F, nops @ .., 0x04] => nops.len() == 127 && nops.iter().all(|byte| *byte == 0),
@@ -24,7 +24,7 @@ fn is_longest(code: &[u8]) -> bool {
     }
 }
 
-// A branch reaches over 127 bytes and over no more, and a counter is listed.
+// A branch reaches over 127 bytes but not over 128, and a counter is listed.
 #[test]
 fn branches(rt: HostRuntime) -> Result<(), Fail> {
     let alloc = rt.alloc();

@@ -1,4 +1,4 @@
-/// More refused decks, and what a refusal prints of each.
+/// More refused decks, and the output of a refusal for each.
 pub const MORE_SAMPLES: &[(&[u8], &str)] = &[
     (
         b"budget 300

@@ -1,11 +1,11 @@
-// What a refusal prints of texts that are no decks.
+// The output of a refusal for texts that are not decks.
 use crate::decks::more_samples::MORE_SAMPLES;
 use crate::decks::samples::SAMPLES;
 use mc_deck::{DeckRefusal, read_deck};
 use std::alloc::{AllocError, Global};
 use std::test::Fail;
 
-// What the reading of a text prints: the first refused line and its cause, or how many lines the deck has.
+// The output for a text: the first refused line and its cause, or the number of lines of the deck.
 fn printed(alloc: Global, text: &[u8]) -> Result<String, Fail> {
     match read_deck(alloc, text) {
         Ok(deck) => Ok(format!(in alloc; "lines: {}", deck.len())?),
@@ -16,7 +16,7 @@ fn printed(alloc: Global, text: &[u8]) -> Result<String, Fail> {
     }
 }
 
-// Whole decks, each with one line that is broken.
+// Complete decks, each with one line that is broken.
 #[test]
 fn broken_decks(rt: HostRuntime) -> Result<(), Fail> {
     for (text, due) in SAMPLES {
@@ -28,7 +28,7 @@ fn broken_decks(rt: HostRuntime) -> Result<(), Fail> {
     Ok(())
 }
 
-// How lines and fields are cut, and which cause comes where several hold.
+// How lines and fields are cut, and which cause is reported if several apply.
 #[test]
 fn small_decks(rt: HostRuntime) -> Result<(), Fail> {
     for (text, due) in SMALL {
@@ -52,7 +52,7 @@ const SMALL: &[(&[u8], &str)] = &[
     (b" #format \x00\xFF\r\n\n  \nformat\n", "lines: 1"),
     (b"format # now\n", "line 1 BadLine"),
     (b"Format\n", "line 1 BadLine"),
-    // Fields from the front, each by its form and then by its size.
+    // Fields from the first on, each by its form and then by its size.
     (b"select A0000000\n", "line 1 OutOfRange"),
     (b"select A00000000\n", "line 1 BadHex"),
     (b"select a00000000g\n", "line 1 BadHex"),

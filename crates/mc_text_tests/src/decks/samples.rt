@@ -1,4 +1,4 @@
-/// Refused decks, and what a refusal prints of each.
+/// Refused decks, and the output of a refusal for each.
 pub const SAMPLES: &[(&[u8], &str)] = &[
     (
         b"budget 300\r

@@ -12,19 +12,19 @@ use std::test::Fail;
 const COUNTER: &[u8] =
     b"format\npower\nunit counter 0000000000000000000FB902000039020000460200000600020000000961074F05A00000000100096F078405A00000000100000000\nload counter 2 0\nselect A000000001\napdu 8001000002\napdu 8001000002\n";
 
-/// The same, and a cut is armed for the second count.
+/// The counter, with a cut armed for the second count.
 const ARMED: &[u8] =
     b"format\npower\nunit counter 0000000000000000000FB902000039020000460200000600020000000961074F05A00000000100096F078405A00000000100000000\nload counter 2 0\nselect A000000001\napdu 8001000002\ncut 2 0000000000000000\napdu 8001000002\n";
 
-/// What is told of the first deck.
+/// The text of the sweep of the first deck.
 const TEXT: &[u8] =
     b"line 4 writes 21: before 1-17 after 18-21\nline 6 writes 6: before 1-4 after 5-6\nline 7 writes 6: before 1-4 after 5-6\nswept 3 writes 33 plays 98\n";
 
-/// What is told of the second.
+/// The text of the sweep of the second deck.
 const ARMED_TEXT: &[u8] =
     b"line 4 writes 21: before 1-17 after 18-21\nline 6 writes 6: before 1-4 after 5-6\nswept 2 writes 27 plays 82\n";
 
-/// How a sweep ended, and what it wrote.
+/// The end of a sweep, and its output.
 #[derive(Drop)]
 struct End {
     result: Result<(), SweepFault>,
@@ -68,7 +68,7 @@ fn counter(rt: HostRuntime) -> Result<(), Fail> {
     Ok(())
 }
 
-// A line for which a cut is armed is not.
+// A line for which a cut is armed is not swept.
 #[test]
 fn armed(rt: HostRuntime) -> Result<(), Fail> {
     let end = swept(rt.alloc(), ARMED, 1024)?;
@@ -77,7 +77,7 @@ fn armed(rt: HostRuntime) -> Result<(), Fail> {
     Ok(())
 }
 
-// Where the sink has a byte too little, all but that byte is written.
+// If the sink has one byte too little, all but that byte is written.
 #[test]
 fn byte_too_little(rt: HostRuntime) -> Result<(), Fail> {
     let end = swept(rt.alloc(), COUNTER, TEXT.len() - 1)?;

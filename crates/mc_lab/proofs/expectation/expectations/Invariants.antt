@@ -4,7 +4,7 @@ use Rattle.mc_lab.specs.Scanning.{scanned}
 use Rattle.mc_lab.proofs.ExpectationLemmas.{with_left}
 use Rattle.mc_lab.proofs.expectation.expectations.Given as goal
 
--- what is there and what is left are all expectations
+-- the expectations found and those that are left are all
 abbrev pub invariant-loop-line : goal.invariant-loop-line
 invariant-loop-line l = record {
   all : with_left (numbered_lines l.expectations.items) l.inside (l.number + 1) l.rest ≡ scanned l.fn.text;

@@ -14,7 +14,7 @@ use Rattle.mc_lab.proofs.StageLemmas.{above_is, staged_start}
 use Rattle.mc_lab.proofs.ExpectLemmas.{count_left, expectation_at, expectation_none, fails_done, numbered_length, one_more, text_done, told_fails, told_on, told_start}
 use Rattle.mc_lab.proofs.expecting.expect.Goals as goal
 
--- the expectation at a place, and those behind it
+-- the expectation at a place, and those after it
 next-at : (given es : List NumberedLine) (i : ℕ) → given ≡ es → i + 1 ≤ length given → drop i (numbered_lines es) ≡ expectation_of (slice_index_or given i no_line) ∷ drop (i + 1) (numbered_lines es)
 next-at given es i is h =
     ap (λ (v : List NumberedLine). drop i (numbered_lines v)) (sym is) ∙ expectation_at given i no_line (omega (arith, h))

@@ -8,7 +8,7 @@ use Rattle.mc_lab.specs.Stages.{Staged}
 use Rattle.mc_lab.proofs.TrialLemmas.{LinesAbove}
 use Rattle.mc_lab.proofs.expecting.expect.Given as goal
 
--- the lines above some number were played; what writes what is left to be told from here, writes all of it from the start
+-- the lines above some number were played; a writer of the rest of the report from here writes all of it from the start
 abbrev pub invariant-loop-expectation : goal.invariant-loop-expectation
 invariant-loop-expectation g l =
     let state = g.N.Nvm.state in

@@ -2,7 +2,7 @@ use Rattle.std.proofs.Common.{◌≡◌, ◌≤◌, length}
 use Rattle.mc_model_play.specs.Patterns.{without_blanks}
 use Rattle.mc_lab.proofs.matching.first_of.Given as goal
 
--- what is left has the same characters
+-- the rest has the same characters
 abbrev pub invariant-loop-rest : goal.invariant-loop-rest
 invariant-loop-rest l = record {
   same : without_blanks l.rest ≡ without_blanks l.text;

@@ -2,7 +2,7 @@ use Rattle.std.proofs.Common.{◌≡◌, ◌+◌, length, ℕ}
 use Rattle.mc_model_play.specs.Patterns.{matches, some_rest, without_blanks}
 use Rattle.mc_lab.proofs.matching.matches_some_rest.Given as goal
 
--- what is left is found where the whole is
+-- a match is found in the rest if it is found in the whole
 abbrev pub invariant-loop-next_signs : goal.invariant-loop-next_signs
 invariant-loop-next_signs l = some_rest (matches (without_blanks l.signs)) (without_blanks l.rest) ≡ some_rest (matches (without_blanks l.fn.pattern)) (without_blanks l.fn.text)
 

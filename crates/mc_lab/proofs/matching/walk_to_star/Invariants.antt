@@ -3,7 +3,7 @@ use Rattle.mc_model_play.specs.Patterns.{without_blanks}
 use Rattle.mc_lab.proofs.MatchingLemmas.{PatternWalked}
 use Rattle.mc_lab.proofs.matching.walk_to_star.Given as goal
 
--- what is left matches where the whole does
+-- the rests match if pattern and text do
 abbrev pub invariant-loop-sign : goal.invariant-loop-sign
 invariant-loop-sign l = record {
   walked : PatternWalked (without_blanks l.fn.pattern) (without_blanks l.fn.text) (without_blanks l.signs) (without_blanks l.rest);

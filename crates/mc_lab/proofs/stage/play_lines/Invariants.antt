@@ -4,7 +4,7 @@ use Rattle.mc_script.specs.Players.{IsPlaying}
 use Rattle.mc_lab.specs.Stages.{Staged}
 use Rattle.mc_lab.proofs.stage.play_lines.Given as goal
 
--- the lines up to here were played, and the last of them was gathered
+-- the lines up to here were played, and the text is the result of the last of them
 abbrev pub invariant-loop-at : goal.invariant-loop-at
 invariant-loop-at g l =
     let state = g.N.Nvm.state in

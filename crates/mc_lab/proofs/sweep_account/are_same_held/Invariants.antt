@@ -3,7 +3,7 @@ use Rattle.mc_lab.specs.Sweeps.{are_same_held}
 use Rattle.mc_lab.specs.SweepBodies.{held_value}
 use Rattle.mc_lab.proofs.sweep_account.are_same_held.Given as goal
 
--- what is left is the same exactly where all are
+-- the rests are equal exactly if the lists are
 abbrev pub invariant-loop-i : goal.invariant-loop-i
 invariant-loop-i l =
     record {

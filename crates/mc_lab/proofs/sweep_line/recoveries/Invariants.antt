@@ -3,7 +3,7 @@ use Rattle.mc_lab.specs.SweepBodies.{account_value, AccountFits}
 use Rattle.mc_lab.proofs.SweepLoops.{Recovering}
 use Rattle.mc_lab.proofs.sweep_line.recoveries.Given as goal
 
--- the recoveries that were cut so far
+-- the recoveries that were cut already
 abbrev pub invariant-loop-made : goal.invariant-loop-made
 invariant-loop-made g l =
     record {

@@ -2,6 +2,6 @@ use Rattle.std.proofs.Common.{◌≡◌, drop}
 use Rattle.mc_model_device.specs.Bytes.{has_name}
 use Rattle.mc_lab.proofs.sweep_names.is_among.Given as goal
 
--- it is among those that are left, or nowhere
+-- the name is among the rest, or nowhere
 abbrev pub invariant-loop-known : goal.invariant-loop-known
 invariant-loop-known l = has_name l.name (drop l.known-index l.names) ≡ has_name l.name l.names

@@ -4,7 +4,7 @@ use Rattle.mc_lab.specs.Sweeps.{state_on_blank}
 use Rattle.mc_lab.specs.SweepPlayers.{IsSteadyAt}
 use Rattle.mc_lab.proofs.sweep_play.play_front.Given as goal
 
--- the lines so far were played
+-- the lines up to here were played
 abbrev pub invariant-loop-i : goal.invariant-loop-i
 invariant-loop-i g l =
     record {

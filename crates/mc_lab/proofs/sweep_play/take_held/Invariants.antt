@@ -3,7 +3,7 @@ use Rattle.mc_script.specs.Players.{statics_in}
 use Rattle.mc_lab.specs.SweepBodies.{held_value}
 use Rattle.mc_lab.proofs.sweep_play.take_held.Given as goal
 
--- what is held under the names so far
+-- the static bytes under the names up to here
 abbrev pub invariant-loop-i : goal.invariant-loop-i
 invariant-loop-i g l =
     record {

@@ -4,7 +4,7 @@ use Rattle.mc_text.specs.Texts.{Sunk, sunk_in, Puts}
 use Rattle.mc_lab.specs.Sweeps.{runs, runs_text}
 use Rattle.mc_lab.proofs.sweep_text.put_runs.Given as goal
 
--- what writes the runs that are left, writes all from the start
+-- a writer of the rest of the runs writes all from the start
 abbrev pub invariant-loop-at : goal.invariant-loop-at
 invariant-loop-at g l =
     record {

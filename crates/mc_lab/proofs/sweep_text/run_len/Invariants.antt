@@ -3,7 +3,7 @@ use Rattle.mc_lab.specs.declared.sweep_word.Word.TheVariants.{Before}
 use Rattle.mc_lab.proofs.SweepTexts.{Fronts}
 use Rattle.mc_lab.proofs.sweep_text.run_len.Given as goal
 
--- the words so far are the first one
+-- the words up to here are equal to the first one
 abbrev pub invariant-loop-len : goal.invariant-loop-len
 invariant-loop-len l =
     record {

@@ -3,7 +3,7 @@ use Rattle.mc_lab.specs.SweepBodies.{AccountsHaveRoom}
 use Rattle.mc_lab.specs.SweepEnds.{AtMost}
 use Rattle.mc_lab.proofs.sweeping.most_writes.Given as goal
 
--- the most of the lines so far
+-- the greatest number of writes of the lines up to here
 abbrev pub invariant-loop-at : goal.invariant-loop-at
 invariant-loop-at g l =
     record {

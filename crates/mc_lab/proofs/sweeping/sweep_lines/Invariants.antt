@@ -7,7 +7,7 @@ use Rattle.mc_lab.specs.SweepBodies.{AccountsHaveRoom}
 use Rattle.mc_lab.specs.SweepEnds.{sweeps_from, AddsSums, IsSmall}
 use Rattle.mc_lab.proofs.sweeping.sweep_lines.Given as goal
 
--- what is told of the lines that are left from here, is told of all from the start
+-- a writer of the text of the rest of the lines writes all from the start
 abbrev pub invariant-loop-at : goal.invariant-loop-at
 invariant-loop-at g l =
     record {

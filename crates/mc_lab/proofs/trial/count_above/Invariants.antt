@@ -3,7 +3,7 @@ use Rattle.mc_lab.specs.Rising.{count_below}
 use Rattle.mc_lab.specs.Expectations.{line_number}
 use Rattle.mc_lab.proofs.trial.count_above.Given as goal
 
--- those counted and those that are left are all
+-- the counted lines and the rest are all
 abbrev pub invariant-loop-count : goal.invariant-loop-count
 invariant-loop-count l = l.count + count_below line_number l.number (drop l.count l.deck) ≡ count_below line_number l.number l.deck
 

@@ -4,7 +4,7 @@ use Rattle.mc_lab.specs.Rising.{count_below, Rising}
 use Rattle.mc_lab.specs.Expectations.{first_unanswered, line_number}
 use Rattle.mc_lab.proofs.trial.first_unanswered.Given as goal
 
--- so many lines stand above some number, and none of the expectations that are left is below it
+-- `count` lines are above some number, and no expectation that is left is below it
 abbrev pub invariant-loop-expectation : goal.invariant-loop-expectation
 invariant-loop-expectation l = record {
   above : (m : ℕ) × (l.count ≡ count_below line_number m l.deck) × Rising line_number m (drop l.expectation-index (numbered_lines l.expectations));

@@ -8,7 +8,7 @@ serve_frames-result-requires-clause-playing g c =
     let deck = c.deck.ensures.done _ c.new-player.ensures.at in
     (deck.here, deck.at)
 
--- the device that is handed back is the one that was lent
+-- the device that is returned is the one that was borrowed
 pub returns : goal.returns
 returns g c =
     let deck = c.deck.ensures.done _ c.new-player.ensures.at in

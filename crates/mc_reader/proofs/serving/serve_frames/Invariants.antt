@@ -6,7 +6,7 @@ use Rattle.mc_script.specs.Lines.{bench_of}
 use Rattle.mc_reader.proofs.LoopLemmas.{SessionReached}
 use Rattle.mc_reader.proofs.serving.serve_frames.Given as goal
 
--- whatever is made of the frames to come, is made of all frames from the start
+-- whatever the frames that follow do, all frames from the start do
 abbrev pub invariant-loop-before : goal.invariant-loop-before
 invariant-loop-before g l =
     let state = g.N.Nvm.state in

@@ -3,7 +3,7 @@ use Rattle.mc_model_machine.specs.Text.{ok_as, lines, with_numbers}
 use Rattle.melcard.specs.Judging.{text_digits}
 use Rattle.melcard.proofs.code.digits_of.Given as goal
 
--- the digits so far, and those of the lines that are left, are those of the text
+-- the digits up to here, and those of the lines that are left, are those of the text
 abbrev pub invariant-loop-line : goal.invariant-loop-line
 invariant-loop-line l = record {
   leads : ok_as (λ vs. l.digits.items ++ vs) (text_digits (with_numbers (l.count + 1) (lines l.rest))) ≡ ok_as (λ vs. [] ++ vs) (text_digits (with_numbers 1 (lines l.fn.text)));

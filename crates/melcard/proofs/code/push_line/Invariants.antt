@@ -3,6 +3,6 @@ use Rattle.mc_model_machine.specs.Text.{ok_as}
 use Rattle.melcard.specs.Judging.{line_digits}
 use Rattle.melcard.proofs.code.push_line.Given as goal
 
--- the digits so far, and those of the characters that are left, are those of the line behind the digits before
+-- the digits up to here, and those of the characters that are left, are those of the line after the digits before
 abbrev pub invariant-loop-character : goal.invariant-loop-character
 invariant-loop-character l = ok_as (λ vs. l.digits.items ++ vs) (line_digits l.number (drop l.character-index l.line)) ≡ ok_as (λ vs. l.fn.digits.items ++ vs) (line_digits l.number l.line)

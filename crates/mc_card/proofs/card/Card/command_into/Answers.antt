@@ -1,4 +1,4 @@
--- What the command leaves of the device follows from what it did.
+-- What the command leaves of the device follows from its items.
 use Rattle.std.proofs.Common.{Ok, Err}
 use Rattle.std.proofs.lemmas.Result.{err_from_is_err_and}
 use Rattle.mc_machine.specs.Turns.{run_outcome}

@@ -4,7 +4,7 @@ use Rattle.mc_lab.specs.declared.sweep_trial.Behind.TheVariants as behind
 use Rattle.mc_lab.proofs.SweepLoops.{Sweeping}
 use Rattle.mc_lab.proofs.sweep_line.Bench.sweep_line.Given as goal
 
--- the writes that were cut so far
+-- the writes that were cut already
 abbrev pub invariant-loop-writes : goal.invariant-loop-writes
 invariant-loop-writes g l =
     record {

@@ -1,4 +1,4 @@
--- Each promise of a command is a part of how it ends.
+-- Each clause of a command is a part of its end.
 use Rattle.mc_manager.proofs.EndsLemmas.{ends_items, ends_apps, ends_leaves, ends_fits, ends_going}
 use Rattle.mc_manager.proofs.manager.Manager.rule.Goals as goal
 

@@ -1,0 +1,12 @@
+pub mod Parts
+pub mod Declarations
+pub mod Operands
+pub mod Statements
+pub mod Drafts
+pub mod Listings
+pub mod Verdicts
+pub mod Told
+pub mod Traces
+pub mod Coverage
+pub mod PurseDraft
+pub mod Computed

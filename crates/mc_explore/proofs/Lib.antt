@@ -1,0 +1,13 @@
+pub mod Recoveries
+pub mod Showings
+pub mod Fills
+pub mod Actions
+pub mod SameStates
+pub mod Starts
+pub mod Searches
+pub mod ReadRules
+pub mod Safety
+pub mod Decisions
+pub mod Breaks
+pub mod FitLemmas
+pub mod Statements

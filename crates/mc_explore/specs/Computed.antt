@@ -1,0 +1,39 @@
+-- The text of the exploration of a deck's text, for rows that compute it.
+use Rattle.std.specs.Prelude.{ℕ, List, Result, Ok, Err}
+use Rattle.std.specs.Fmt.{digits}
+use Rattle.sha1.specs.Sha1.{sha1, digest_bytes, hash_after, compress, rounds, schedule, first_words}
+use Rattle.mc_model_play.specs.declared.deck.DeckCause.{DeckCause}
+use Rattle.mc_model_card.specs.Units.{name_of}
+use Rattle.mc_model_machine.specs.Apdu.{apdu_read}
+use Rattle.mc_model_device.specs.Pieces.{touched_words}
+use Rattle.mc_model_machine.specs.Des.{des_encipher, des_decipher, tdes_encipher, tdes_decipher, des_signature, tdes_signature}
+use Rattle.mc_model_machine.specs.Aes.{aes_encipher, aes_decipher, aes_signature}
+use Rattle.mc_model_device.specs.Image.{targets_1, targets_2, pairs}
+use Rattle.mc_model_device.specs.Card.{blocks_from, apps_of}
+use Rattle.mc_model_device.specs.Layout.{layout, step_of, bad_block, bad_record}
+use Rattle.mc_model_machine.specs.Frame.{bytes_at, write_effect, too_many}
+use Rattle.mc_model_machine.specs.Primitives.{later_causes, prim_effect}
+use Rattle.mc_model_machine.specs.Row.{causes, effect, row}
+use Rattle.mc_model_machine.specs.Chain.{turn_of_chain, run_of_chain}
+use Rattle.mc_model_machine.specs.TurnText.{turn_line}
+use Rattle.mc_model_card.specs.Manager.{manage}
+use Rattle.mc_model_card.specs.Commands.{command}
+use Rattle.mc_model_play.specs.Play.{send, play_at_power, step, plays, moves_of, steady_worn}
+use Rattle.mc_explore.specs.Matching.{fits}
+use Rattle.mc_explore.specs.Rules.{Exploration, exploration_read}
+use Rattle.mc_explore.specs.Search.{most_states, text_within}
+
+-- the exploration of a deck that was read, with at most so many states
+abbrev pub text_in : ℕ → ℕ → Result Exploration (ℕ × DeckCause) → Result (List ℕ) (ℕ × DeckCause)
+text_in limit n (Ok x) = Ok (text_within limit n x)
+text_in limit n (Err e) = Err e
+
+-- the text of the exploration of a deck's text, n depths deep, with at most so many states
+unfoldable pub explored_within : ℕ → ℕ → List ℕ → Result (List ℕ) (ℕ × DeckCause)
+unfolding digits name_of apdu_read touched_words des_encipher des_decipher tdes_encipher tdes_decipher des_signature tdes_signature aes_encipher aes_decipher aes_signature sha1 digest_bytes hash_after compress rounds schedule first_words targets_1 targets_2 pairs blocks_from apps_of layout step_of bad_block bad_record bytes_at write_effect too_many later_causes prim_effect causes effect row turn_of_chain run_of_chain turn_line manage command send play_at_power step plays moves_of steady_worn fits exploration_read text_within
+explored_within limit n text = text_in limit n (exploration_read text)
+
+-- the text of the exploration of a deck's text, n depths deep
+unfoldable pub explored_deck : ℕ → List ℕ → Result (List ℕ) (ℕ × DeckCause)
+unfolding explored_within
+explored_deck n text = explored_within most_states n text

@@ -1,0 +1,8 @@
+pub mod Rules
+pub mod Matching
+pub mod States
+pub mod Tries
+pub mod Search
+pub mod Safety
+pub mod Computed
+pub mod Decks

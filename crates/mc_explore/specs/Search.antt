@@ -1,0 +1,234 @@
+-- The search through all states, breadth first, and the text that it writes.
+use Rattle.std.specs.Prelude.{ℕ, zero, suc, ◌+◌, Bool, true, false, nat_lt, List, [], ◌∷◌, ◌++◌, length, reverse, codes, decimal, Result, Ok, Err}
+use Rattle.mc_model_machine.specs.Text.{◌>>=◌}
+use Rattle.mc_model_machine.specs.Listing.{hex_text}
+use Rattle.mc_model_device.specs.PowerUp.{Base, OnCard, AtFault}
+use Rattle.mc_model_play.specs.DeckGrammar.{DeckLine}
+use Rattle.mc_model_play.specs.DeckGrammar as line
+use Rattle.mc_model_play.specs.Play.{Armed, Unarmed, ArmedCut, ArmedFail, Live, Running, armed_stop_in, State}
+use Rattle.mc_explore.specs.Rules.{Move, OnRule, Rules, Exploration}
+use Rattle.mc_explore.specs.States.{CardState, warm_state, warm_in, play_of_deck, first_play, is_known}
+use Rattle.mc_explore.specs.Tries.{Manner, Whole, CutAt, Try, tries_of, outcome}
+
+-- ---- one depth
+
+-- a state that was found, and the tries that lead to it, the last first
+pub record Node : Type 0 where
+  pub state : CardState
+  pub path : List Try
+
+-- what was found so far: all states, those of this depth in the order in which they were found, the number of states and of tries
+pub record Round : Type 0 where
+  pub known : List CardState
+  pub fresh : List Node
+  pub count : ℕ
+  pub tries : ℕ
+
+-- what ends a search within a depth: an allowance that is spent below zero, by these tries, the last first; or one state too many
+pub data Halt : Type 0 where
+  Breaks : (name : List ℕ) (path : List Try) → Halt
+  Full : Halt
+
+-- a search that ended within a depth: why, and the number of states and of tries
+pub record Halted : Type 0 where
+  pub halt : Halt
+  pub count : ℕ
+  pub tries : ℕ
+
+-- one try more
+abbrev pub counted : Round → Round
+counted r = record r { tries = r.tries + 1 }
+
+-- a search that ends here
+abbrev pub halted : Halt → Round → Halted
+halted h r = record { halt = h; count = r.count; tries = r.tries }
+
+-- a new state, if there is room for one more
+abbrev pub with_new : Bool → Node → Round → Result Round Halted
+with_new true n r = Ok (record r { known = n.state ∷ r.known; fresh = r.fresh ++ n ∷ []; count = r.count + 1 })
+with_new false n r = Err (halted Full r)
+
+-- a state that was reached, by whether it is known
+abbrev pub with_reached : Bool → ℕ → Node → Round → Result Round Halted
+with_reached true limit n r = Ok r
+with_reached false limit n r = with_new (nat_lt r.count limit) n r
+
+-- a try by its outcome
+abbrev pub after_outcome : Result CardState (List ℕ) → ℕ → List Try → Round → Result Round Halted
+after_outcome (Err name) limit path r = Err (halted (Breaks name path) r)
+after_outcome (Ok c) limit path r = with_reached (is_known c r.known) limit (record { state = c; path = path }) r
+
+-- the tries of a state, one after the other
+unfoldable pub tried_all : ℕ → List OnRule → Node → List Try → Round → Result Round Halted
+unfolding outcome is_known
+tried_all limit ons n [] r = Ok r
+tried_all limit ons n (t ∷ ts) r = after_outcome (outcome ons n.state t) limit (t ∷ n.path) (counted r) >>= λ q. tried_all limit ons n ts q
+
+-- the states of a depth, one after the other
+unfoldable pub expanded : ℕ → Rules → List Node → Round → Result Round Halted
+unfolding tried_all tries_of
+expanded limit rules [] r = Ok r
+expanded limit rules (n ∷ ns) r = tried_all limit rules.ons n (tries_of rules.moves n.state) r >>= λ q. expanded limit rules ns q
+
+-- ---- all depths
+
+-- how a search ends: no new state is left; the last depth still had new states; an allowance was spent below zero; or there were too many
+-- states, at this depth
+pub data Ending : Type 0 where
+  All : Ending
+  AtDepth : (depth : ℕ) → Ending
+  Broken : (name : List ℕ) (path : List Try) → Ending
+  TooMany : (depth : ℕ) → Ending
+
+-- a search: the number of new states of each depth that is done, the number of states and of tries, and how it ends
+pub record Explored : Type 0 where
+  pub news : List ℕ
+  pub states : ℕ
+  pub tries : ℕ
+  pub ending : Ending
+
+-- a search that ends before another depth is done
+abbrev pub explored_at : Ending → ℕ → ℕ → Explored
+explored_at e states tries = record { news = []; states = states; tries = tries; ending = e }
+
+-- how a depth ends a search
+abbrev pub ending_of : Halt → ℕ → Ending
+ending_of (Breaks name path) d = Broken name path
+ending_of Full d = TooMany d
+
+-- a search with one depth before it
+abbrev pub with_depth : ℕ → Explored → Explored
+with_depth n e = record e { news = n ∷ e.news }
+
+-- after a depth that is done: it goes on from the new states, if there are some
+abbrev pub after_depth : List Node → Round → (List Node → Round → Explored) → Explored
+after_depth [] r again = with_depth 0 (explored_at All r.count r.tries)
+after_depth (n ∷ ns) r again = with_depth (length (n ∷ ns)) (again (n ∷ ns) r)
+
+-- after a depth
+abbrev pub after_round : Result Round Halted → ℕ → (List Node → Round → Explored) → Explored
+after_round (Err h) d again = explored_at (ending_of h.halt d) h.count h.tries
+after_round (Ok r) d again = after_depth r.fresh r again
+
+-- n depths more after depth d, from the states of depth d
+unfoldable pub explored_from : ℕ → ℕ → ℕ → Rules → List Node → Round → Explored
+unfolding expanded
+explored_from zero d limit rules ns r = explored_at (AtDepth d) r.count r.tries
+explored_from (suc n) d limit rules ns r =
+    after_round (expanded limit rules ns (record r { fresh = [] })) (d + 1) (λ ms q. explored_from n (d + 1) limit rules ms q)
+
+-- the search of n depths from a state, with at most so many states
+unfoldable pub explored : ℕ → ℕ → Rules → CardState → Explored
+unfolding explored_from
+explored n limit rules c =
+    explored_from n 0 limit rules (record { state = c; path = [] } ∷ []) (record { known = c ∷ []; fresh = []; count = 1; tries = 0 })
+
+-- the most states of a search
+abbrev pub most_states : ℕ
+most_states = 1000000
+
+-- the first state of a deck: the card after its last line, and its allowances
+unfoldable pub first_state : Exploration → CardState
+unfolding first_play
+first_state x = warm_state (first_play x.lines) x.rules.allowances
+
+-- ---- the lines that lead to a broken rule
+
+-- a statement: its text, and the line of a deck that it is
+abbrev pub Statement : Type 0
+Statement = List ℕ × DeckLine
+
+-- a power statement
+abbrev pub power_statement : Statement
+power_statement = (codes "power", line.Power)
+
+-- a statement that arms a cut
+abbrev pub cut_statement : ℕ → List ℕ → Statement
+cut_statement k x = (codes "cut " ++ decimal k ++ codes " " ++ hex_text x, line.Cut k x)
+
+-- a command too short to be one: a card answers it without a write, and a stop that is armed is dropped
+abbrev pub idle_statement : Statement
+idle_statement = (codes "apdu 00", line.Apdu (0 ∷ []))
+
+-- the statements of a move
+abbrev pub move_statements : Manner → Move → List Statement
+move_statements Whole m = (m.text, m.line) ∷ []
+move_statements (CutAt k x) m = cut_statement k x ∷ (m.text, m.line) ∷ power_statement ∷ []
+
+-- the statements of tries in order
+abbrev pub path_statements : List Try → List Statement
+path_statements [] = []
+path_statements (t ∷ ts) = move_statements t.manner t.move ++ path_statements ts
+
+-- whether a move arms a cut
+abbrev pub is_cut : Manner → Bool
+is_cut Whole = false
+is_cut (CutAt k x) = true
+
+-- whether the first of some tries does
+abbrev pub begins_cut : List Try → Bool
+begins_cut [] = false
+begins_cut (t ∷ ts) = is_cut t.manner
+
+-- the statement that drops a stop, if one is armed
+abbrev pub dropping : Armed → List Statement
+dropping Unarmed = []
+dropping (ArmedCut k x) = idle_statement ∷ []
+dropping (ArmedFail k) = idle_statement ∷ []
+
+-- the statements that lead from the end of a deck to the first state, by whether a cut takes the place of an armed stop next
+abbrev pub lead_statements : Live → Base → Armed → Bool → List Statement
+lead_statements (Running seat) b a true = []
+lead_statements (Running seat) b a false = dropping a
+lead_statements v (OnCard c) a cut = dropping a ++ power_statement ∷ []
+lead_statements v (AtFault cause place) a cut = dropping a
+
+-- the statements that lead from the end of a deck through tries: appended to the deck, they play to the last of them
+unfoldable pub statements_to : State → List Try → List Statement
+statements_to s ts = lead_statements (warm_in s).live (warm_in s).base (armed_stop_in s) (begins_cut ts) ++ path_statements ts
+
+-- ---- the text
+
+-- the lines of the depths from depth d on
+abbrev pub depth_lines : ℕ → List ℕ → List ℕ
+depth_lines d [] = []
+depth_lines d (n ∷ ns) = codes "depth " ++ decimal d ++ codes " states " ++ decimal n ++ codes "\n" ++ depth_lines (d + 1) ns
+
+-- the text of statements, a line each
+abbrev pub statements_text : List Statement → List ℕ
+statements_text [] = []
+statements_text (l ∷ ls) = l.0 ++ codes "\n" ++ statements_text ls
+
+-- the line of a broken rule, and the statements that lead there
+abbrev pub broken_text : List ℕ → List Statement → List ℕ
+broken_text name ls = codes "broken " ++ name ++ codes " after " ++ decimal (length ls) ++ codes " lines\n" ++ statements_text ls
+
+-- the line of the sums
+abbrev pub sums_text : ℕ → ℕ → List ℕ → List ℕ
+sums_text states tries how = codes "explored states " ++ decimal states ++ codes " tries " ++ decimal tries ++ how ++ codes "\n"
+
+-- how a search ends, from the end of a deck
+abbrev pub ending_text : State → Explored → Ending → List ℕ
+ending_text s e All = sums_text e.states e.tries (codes " all")
+ending_text s e (AtDepth d) = sums_text e.states e.tries (codes " depth " ++ decimal d)
+ending_text s e (TooMany d) = sums_text e.states e.tries (codes " depth " ++ decimal d)
+ending_text s e (Broken name path) = broken_text name (statements_to s (reverse path))
+
+-- the text of a search, from the end of a deck
+abbrev pub text_of : State → Explored → List ℕ
+text_of s e = depth_lines 1 e.news ++ ending_text s e e.ending
+
+-- the search of n depths of a deck with its rules, with at most so many states
+unfoldable pub search_of : ℕ → ℕ → Exploration → Explored
+unfolding explored first_state
+search_of limit n x = explored n limit x.rules (first_state x)
+
+-- its text
+unfoldable pub text_within : ℕ → ℕ → Exploration → List ℕ
+unfolding search_of statements_to play_of_deck
+text_within limit n x = text_of (play_of_deck x.lines) (search_of limit n x)
+
+-- the text of the exploration of a deck with its rules, n depths deep
+unfoldable pub explore_text : ℕ → Exploration → List ℕ
+unfolding text_within
+explore_text n x = text_within most_states n x

@@ -1,0 +1,7 @@
+//! A model checker for card applications: what every sequence of a terminal's moves can reach, with power cut in any write.
+#![tactic(auto)]
+
+mod laws;
+mod purse_rows;
+mod refusal_rows;
+mod rows;

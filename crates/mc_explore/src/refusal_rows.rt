@@ -1,0 +1,66 @@
+#![tactic(auto, unfolding(crate::specs::Computed::explored_deck, crate::specs::Computed::explored_within))]
+
+// Worked rows: what is refused of rules, and in which order.
+ghost use Rattle.std.specs.Prelude.{◌≡◌, ◌++◌, [], codes, Ok, Err};
+ghost use Rattle.mc_model_play.specs.declared.deck.DeckCause.TheVariants.{
+  BadHex,
+  BadLine,
+  BadName,
+  BadNumber,
+  NameTwice,
+  OutOfRange,
+  UnknownName,
+};
+ghost use Rattle.mc_explore.specs.Computed.{explored_deck};
+
+/// Lines that are no rule.
+pub fn bad_lines()
+    ensures empty { explored_deck 1 (codes "format\n#@\n") ≡ Err (2, BadLine) }
+    ensures word { explored_deck 1 (codes "format\n#@ moves power\n") ≡ Err (2, BadLine) }
+    ensures no_move { explored_deck 1 (codes "format\n#@ move\n") ≡ Err (2, BadLine) }
+    ensures load { explored_deck 1 (codes "format\n#@ move load a 1 1\n") ≡ Err (2, BadLine) }
+    ensures format { explored_deck 1 (codes "format\n#@ move format\n") ≡ Err (2, BadLine) }
+    ensures more { explored_deck 1 (codes "format\n#@ move power 1\n") ≡ Err (2, BadLine) }
+    ensures allow { explored_deck 1 (codes "format\n#@ allow a\n") ≡ Err (2, BadLine) }
+    ensures allow_more { explored_deck 1 (codes "format\n#@ allow a 1 2\n") ≡ Err (2, BadLine) }
+    ensures no_effect { explored_deck 1 (codes "format\n#@ allow a 1\n#@ on power gives *\n") ≡ Err (3, BadLine) }
+    ensures no_occasion { explored_deck 1 (codes "format\n#@ allow a 1\n#@ on power * allow a 1\n") ≡ Err (3, BadLine) }
+    ensures no_pattern { explored_deck 1 (codes "format\n#@ allow a 1\n#@ on power gives allow a 1\n") ≡ Err (3, BadLine) }
+    ensures no_moves { explored_deck 1 (codes "format\n#@ allow a 1\n#@ on gives * allow a 1\n") ≡ Err (3, BadLine) }
+    ensures no_amount { explored_deck 1 (codes "format\n#@ allow a 1\n#@ on power gives * allow a\n") ≡ Err (3, BadLine) }
+{}
+
+/// A statement's own causes.
+pub fn bad_statements()
+    ensures aid { explored_deck 1 (codes "format\n#@ move select A0\n") ≡ Err (2, OutOfRange) }
+    ensures delete { explored_deck 1 (codes "format\n#@ move delete A00000000G\n") ≡ Err (2, BadHex) }
+    ensures hex { explored_deck 1 (codes "format\n#@ move apdu 800\n") ≡ Err (2, BadHex) }
+{}
+
+/// Names and numbers.
+pub fn bad_names()
+    ensures name { explored_deck 1 (codes "format\n#@ allow a-b x\n") ≡ Err (2, BadName) }
+    ensures number { explored_deck 1 (codes "format\n#@ allow a x\n") ≡ Err (2, BadNumber) }
+    ensures range { explored_deck 1 (codes "format\n#@ allow a 4294967296\n") ≡ Err (2, OutOfRange) }
+    ensures twice { explored_deck 1 (codes "format\n#@ allow a 1\n#@ allow a 1\n") ≡ Err (3, NameTwice) }
+    ensures unknown { explored_deck 1 (codes "format\n#@ on power gives * spend a 1\n#@ allow a 1\n") ≡ Err (2, UnknownName) }
+    ensures on_name { explored_deck 1 (codes "format\n#@ on power turns * spend a-b 1\n") ≡ Err (2, BadName) }
+    ensures on_number { explored_deck 1 (codes "format\n#@ on power turns * spend a -1\n") ≡ Err (2, BadNumber) }
+    ensures on_range { explored_deck 1 (codes "format\n#@ on power turns * spend a 4294967296\n") ≡ Err (2, OutOfRange) }
+{}
+
+/// The first line is refused first, and after all of the deck's own.
+pub fn order()
+    ensures first { explored_deck 1 (codes "format\n#@ allow a x\n#@ allow\n") ≡ Err (2, BadNumber) }
+    ensures deck_first { explored_deck 1 (codes "format\n#@ allow\nreboot\n") ≡ Err (3, BadLine) }
+{}
+
+/// A mark that is no field of its own is a plain comment.
+pub fn comments()
+    ensures { explored_deck 1 (codes "format\n#@move\n# #@ move\n#>@ move\n") ≡ Ok (codes "depth 1 states 0\nexplored states 1 tries 0 all\n") }
+{}
+
+/// After a section there are rules again, whatever blanks are around them.
+pub fn sections()
+    ensures { explored_deck 1 (codes "format\napp a A000000001\nEXIT\nend\n  #@\tallow a x\n") ≡ Err (5, BadNumber) }
+{}

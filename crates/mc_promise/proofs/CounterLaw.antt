@@ -1,0 +1,27 @@
+-- What the counter promises follows from its outline.
+use Rattle.std.proofs.Common.{◌≡◌, ℕ, List, [], ◌∷◌, Option, Some, None}
+use Rattle.std.specs.Prelude.{⊤}
+use Rattle.mc_model_device.specs.Bytes.{lookup}
+use Rattle.mc_model_device.specs.Card.{App}
+use Rattle.mc_model_device.specs.PowerUp.{Base, OnCard, AtFault}
+use Rattle.mc_model_play.specs.Given.{apps_in}
+use Rattle.mc_model_play.specs.Play.{State, Cold, Hot, Warm, Live, Step, plays, start}
+use Rattle.mc_promise.specs.Along.{Along, OnApp, OnFixed, OnAnswer, command_for}
+use Rattle.mc_promise.specs.History.{Watch, after_step}
+use Rattle.mc_promise.specs.Outline.{Outline}
+use Rattle.mc_promise.specs.Kept.{KeptIn, BaseKept, StateKept, LineKept}
+use Rattle.mc_promise.specs.Counter.{CounterLaw, KeepsCount, counter_name, counter_watch, counter_app, AnswersCount}
+use Rattle.mc_promise.proofs.Lines.{kept_along}
+use Rattle.mc_promise.proofs.FromOutline.{along_from, fixed_from}
+use Rattle.mc_promise.proofs.CounterOutline.{CountKept, counter_outline, counter_shown}
+
+counts : (h fixed : List ℕ) → CountKept h fixed → KeepsCount h fixed
+counts h fixed k = record { holds = k.holds; rises = k.rises }
+
+line : (h : List ℕ) (t : Step) (k : List ℕ) → LineKept counter_outline h t k
+    → OnFixed counter_name (KeepsCount k) t.after × OnAnswer (AnswersCount h k) (command_for counter_name t.before t.line) t.result
+line h t k x = (fixed_from counter_outline k (KeepsCount k) t.after (λ fixed kept. counts k fixed kept) x.0, x.1)
+
+pub counter_law : CounterLaw
+counter_law ls m ws =
+    along_from counter_watch counter_app (LineKept counter_outline) _ line [] (plays (start m) ls ws) (kept_along counter_outline counter_shown ls m ws)

@@ -1,0 +1,15 @@
+pub mod RowTracks
+pub mod Chains
+pub mod Turns
+pub mod EachTurn
+pub mod OwnTurn
+pub mod Runs
+pub mod ItemLists
+pub mod SelectedStays
+pub mod Commands
+pub mod Lines
+pub mod PublicBytes
+pub mod CounterOutline
+pub mod FromOutline
+pub mod CounterLaw
+pub mod FewData

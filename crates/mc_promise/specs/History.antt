@@ -1,0 +1,200 @@
+-- What happened to one application in a play, as its writer counts it: the events of its turns, of selections and of the ends
+-- of sessions, since its creation. A history has the newest event first.
+use Rattle.std.specs.Prelude.{ℕ, zero, suc, ◌+◌, ◌-◌, Bool, true, false, cond, nat_le, List, [], ◌∷◌, length, bytes_eq, Option, Some, None, Result, Ok, Err}
+use Rattle.mc_model_machine.specs.declared.instruction.Ins.{Ins}
+use Rattle.mc_model_machine.specs.declared.instruction.DecodeFault.{DecodeFault}
+use Rattle.mc_model_device.specs.Bytes.{lookup}
+use Rattle.mc_model_device.specs.Image.{Two}
+use Rattle.mc_model_device.specs.Stopped.{cost, stands}
+use Rattle.mc_model_device.specs.Card.{App, Card}
+use Rattle.mc_model_device.specs.PowerUp.{Base, OnCard, AtFault}
+use Rattle.mc_model_machine.specs.Apdu.{ApduParts}
+use Rattle.mc_model_machine.specs.Code.{instruction_at}
+use Rattle.mc_model_machine.specs.Frame.{Frame, Effect}
+use Rattle.mc_model_machine.specs.Row.{RowEnd, Abends, Does, row}
+use Rattle.mc_model_machine.specs.Chain.{Chain, Write, Acted, Follows, Continues, Ends, code_in, frame_at, around, turn_of_chain, depth_of, start}
+use Rattle.mc_model_card.specs.Items.{Change, Fixed, Created, Deleted, Item, Plain, Atomic, StopAt}
+use Rattle.mc_model_card.specs.Manager.{Selected, Seat, Route, WrongLength, WrongClass, ToSelect, ToManager, ToApplication, route, Managed, Declines, Accepts, select}
+use Rattle.mc_model_play.specs.DeckGrammar.{DeckLine}
+use Rattle.mc_model_play.specs.DeckGrammar as line
+use Rattle.mc_model_play.specs.Play.{Live, Running, Unpowered, Muted, Warm, State, Cold, Hot, Step, select_bytes, delete_bytes}
+
+-- ---- events
+
+-- An instruction that was done in a frame of the application: the frame before it (its code address is the instruction's place),
+-- the public segment before it, whether a selection began the frame (else a delegation), the number of frames, the instruction,
+-- and what it changed.
+pub record Deed : Type 0 where
+  pub frame : Frame
+  pub public : List ℕ
+  pub direct : Bool
+  pub depth : ℕ
+  pub ins : Ins
+  pub effect : Effect
+
+-- what the writer of an application counts: the event of an instruction that was done, if it is one, that of a new selection of
+-- the application, and that of the end of a session
+pub record Watch (E : Type 0) : Type 0 where
+  pub name : List ℕ
+  pub of_deed : Deed → Option E
+  pub of_selection : Option E
+  pub of_end : Option E
+
+-- a history with an event more, if there is one
+abbrev pub with_event : {E : Type 0} → Option E → List E → List E
+with_event None h = h
+with_event (Some e) h = e ∷ h
+
+-- ---- the turns of a run
+
+-- no frame lies below: the frame was begun by the selection
+abbrev pub is_first : List Frame → Bool
+is_first [] = true
+is_first (f ∷ fs) = false
+
+-- the event of the end of a row, in a frame of the application
+abbrev pub row_event : {E : Type 0} → Watch E → Chain → Ins → RowEnd → Option E
+row_event w ch i (Abends cause) = None
+row_event w ch i (Does d) =
+    w.of_deed (record { frame = ch.frame; public = ch.public; direct = is_first ch.below; depth = depth_of ch; ins = i; effect = d.effect })
+
+-- the event of what was fetched
+abbrev pub fetched_event : {E : Type 0} → Watch E → Chain → Result (Ins × ℕ) DecodeFault → Option E
+fetched_event w ch (Err fault) = None
+fetched_event w ch (Ok i) = row_event w ch i.0 (row i.0 (frame_at ch.frame i.1) ch.public (around ch))
+
+-- the event of a turn in a frame of the application, or in another's
+abbrev pub event_if : {E : Type 0} → Bool → Watch E → Chain → Option E
+event_if true w ch = fetched_event w ch (instruction_at (code_in (lookup ch.map ch.frame.name)) ch.frame.at)
+event_if false w ch = None
+
+-- the event of the next turn of a chain
+abbrev pub turn_event : {E : Type 0} → Watch E → Chain → Option E
+turn_event w ch = event_if (bytes_eq ch.frame.name w.name) w ch
+
+-- ---- a run, and a stop in it
+
+-- a stop in a run: the number of its device write, and the word that it leaves
+pub record CutAt : Type 0 where
+  pub at : ℕ
+  pub left : List ℕ
+
+-- the cut of a stop
+abbrev pub cut_of : Option StopAt → Option CutAt
+cut_of None = None
+cut_of (Some s) = Some (record { at = s.at; left = s.left })
+
+-- a cut behind an atomic write of so many words
+abbrev pub cut_after : ℕ → CutAt → CutAt
+cut_after words c = record c { at = c.at - cost Two words }
+
+-- the last turn of a cut run: it counts where its write is whole
+abbrev pub last_turn : {E : Type 0} → Bool → Option E → List E → List E
+last_turn true e h = with_event e h
+last_turn false e h = h
+
+-- a cut in the atomic write of a turn ends the run there; one that comes later does not
+abbrev pub cut_turn : {E : Type 0} → Bool → Write → CutAt → Option E → List E → (Option CutAt → List E → List E) → List E
+cut_turn true w c e h rest = last_turn (stands Two w.words c.at c.left) e h
+cut_turn false w c e h rest = rest (Some (cut_after w.words c)) (with_event e h)
+
+-- a turn with its atomic write, if it makes one, and what is run after it
+abbrev pub after_writes : {E : Type 0} → List Write → Option CutAt → Option E → List E → (Option CutAt → List E → List E) → List E
+after_writes [] c e h rest = rest c (with_event e h)
+after_writes (w ∷ ws) None e h rest = rest None (with_event e h)
+after_writes (w ∷ ws) (Some c) e h rest = cut_turn (nat_le c.at (cost Two w.words)) w c e h rest
+
+-- the history after the rest of a run, where the chain goes on
+abbrev pub after_follows : {E : Type 0} → Follows → (Chain → Option CutAt → List E → List E) → Option CutAt → List E → List E
+after_follows (Ends o) rest c h = h
+after_follows (Continues ch) rest c h = rest ch c h
+
+-- The history after a chain was run with this budget, up to its cut, if it has one: the turns before the device write that was cut,
+-- and the turn of that write exactly where it is whole.
+unfoldable pub after_run : {E : Type 0} → Watch E → ℕ → Chain → Option CutAt → List E → List E
+after_run w zero ch c h = h
+after_run w (suc n) ch c h =
+    let t = turn_of_chain ch in
+    after_writes t.writes c (turn_event w ch) h (λ c h. after_follows t.follows (λ ch c h. after_run w n ch c h) c h)
+
+-- ---- a command
+
+-- a new selection: of the application, or of another, which ends a session
+abbrev pub selection_event : {E : Type 0} → Watch E → Bool → Option E
+selection_event w true = w.of_selection
+selection_event w false = w.of_end
+
+-- a SELECT: one that is refused selects nothing
+abbrev pub after_select : {E : Type 0} → Watch E → List ℕ → Managed → List E → List E
+after_select w n (Declines sw) h = h
+after_select w n (Accepts a) h = with_event (selection_event w (bytes_eq n w.name)) h
+
+-- a command that is passed to the selected application
+abbrev pub after_passed : {E : Type 0} → Watch E → Card → Option Selected → ApduParts → ℕ → Option CutAt → List E → List E
+after_passed w c None a budget cut h = h
+after_passed w c (Some s) a budget cut h = after_run w budget (start c.apps s.name s.session a) cut h
+
+-- a command by its route
+abbrev pub after_route : {E : Type 0} → Watch E → Card → Seat → ℕ → Route → Option CutAt → List E → List E
+after_route w c seat budget WrongLength cut h = h
+after_route w c seat budget WrongClass cut h = h
+after_route w c seat budget (ToManager a) cut h = h
+after_route w c seat budget (ToSelect a) cut h = after_select w a.body (select c.apps seat a) h
+after_route w c seat budget (ToApplication a) cut h = after_passed w c seat.selected a budget cut h
+
+-- ---- a line
+
+-- a creation of the name begins its history anew
+abbrev pub anew : {E : Type 0} → Bool → List E → List E
+anew true h = []
+anew false h = h
+
+-- the history after the items of a line that are whole
+abbrev pub after_items : {E : Type 0} → List ℕ → List Item → List E → List E
+after_items n [] h = h
+after_items n (Plain ∷ is) h = after_items n is h
+after_items n (Atomic w (Fixed m ps) ∷ is) h = after_items n is h
+after_items n (Atomic w (Created m a) ∷ is) h = after_items n is (anew (bytes_eq m n) h)
+after_items n (Atomic w (Deleted m) ∷ is) h = after_items n is h
+
+-- any stop ends the session
+abbrev pub after_stop : {E : Type 0} → Watch E → Option StopAt → List E → List E
+after_stop w None h = h
+after_stop w (Some s) h = with_event w.of_end h
+
+-- the one command of a line to a running card; the many of a load reach no application
+abbrev pub command_in : DeckLine → Option (List ℕ)
+command_in (line.Select n) = Some (select_bytes n)
+command_in (line.Delete n) = Some (delete_bytes n)
+command_in (line.Apdu b) = Some b
+command_in _ = None
+
+-- what a line's command does
+abbrev pub after_command : {E : Type 0} → Watch E → Card → Seat → ℕ → Option (List ℕ) → Option CutAt → List E → List E
+after_command w c seat budget None cut h = h
+after_command w c seat budget (Some b) cut h = after_route w c seat budget (route b) cut h
+
+-- a card line other than power, on a running card or on none
+abbrev pub after_taken : {E : Type 0} → Watch E → Live → Base → ℕ → Step → List E → List E
+after_taken w (Running seat) (OnCard c) budget t h =
+    after_stop w t.stop (after_command w c seat budget (command_in t.line) (cut_of t.stop) (after_items w.name t.whole h))
+after_taken w live base budget t h = h
+
+-- a line from a state
+abbrev pub after_line : {E : Type 0} → Watch E → State → Step → DeckLine → List E → List E
+after_line w z t line.Power h = with_event w.of_end h
+after_line w (Cold m b a) t _ h = h
+after_line w (Hot s) t (line.Load u fixed session) h = after_taken w s.live s.base s.budget t h
+after_line w (Hot s) t (line.Select n) h = after_taken w s.live s.base s.budget t h
+after_line w (Hot s) t (line.Delete n) h = after_taken w s.live s.base s.budget t h
+after_line w (Hot s) t (line.Apdu b) h = after_taken w s.live s.base s.budget t h
+after_line w (Hot s) t _ h = h
+
+-- the history after a line that was played
+abbrev pub after_step : {E : Type 0} → Watch E → Step → List E → List E
+after_step w t h = after_line w t.before t t.line h
+
+-- the history after lines that were played
+abbrev pub after_steps : {E : Type 0} → Watch E → List Step → List E → List E
+after_steps w [] h = h
+after_steps w (t ∷ ts) h = after_steps w ts (after_step w t h)

@@ -1,0 +1,5 @@
+pub mod History
+pub mod Along
+pub mod Outline
+pub mod Kept
+pub mod Counter

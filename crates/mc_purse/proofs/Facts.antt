@@ -1,0 +1,227 @@
+-- What the instructions of the purse do to the facts of its places.
+use Rattle.std.proofs.Common.{◌≡◌, ℕ, zero, suc, ◌+◌, ◌-◌, ◌*◌, ◌/◌, ◌%◌, ◌^◌, ◌<◌, ◌≤◌, Bool, true, false, cond, not, List, [], ◌∷◌, ◌++◌, length, take, drop, Option, Some, None, refl, sym, ap, subst, ◌∙◌, arith, inl, inr}
+use Rattle.std.specs.Prelude.{⊤, ◌≢◌, ◌⊎◌, bytes_eq}
+use Rattle.std.proofs.lemmas.Bool.{eqb-true, false_from_ne_true}
+use Rattle.mc_model_device.specs.Bytes.{bytes, bytes2, num, splice}
+use Rattle.mc_model_machine.specs.Apdu.{ApduParts}
+use Rattle.mc_model_machine.specs.Blocks.{sub_blocks, is_zero}
+use Rattle.mc_model_machine.specs.Frame.{Frame, new_public, session_of, sw_of, with_la}
+use Rattle.mc_model_machine.specs.Primitives.{Done}
+use Rattle.mc_promise.specs.History.{with_event}
+use Rattle.mc_promise.specs.Outline.{Entry, BySelection, ByDelegation, is_direct, public_size, ExitShown, DeedShown}
+use Rattle.mc_promise.proofs.PublicBytes.{ins_byte, length_bytes, body_of_two, status_set, status_beside_la, status_beside_two, status_new}
+use Rattle.mc_purse.specs.Purse.{Event, Right, Wrong, Debited, Selected, Ended, comparison}
+use Rattle.mc_purse.specs.Laws.{RightLaw, wrong_since, AtMostThree, debited, debits, is_shown, KeepsSessions, AnswersDebit}
+use Rattle.mc_purse.proofs.Places.{PurseKept, PurseHolds, Cells, fixed_of, balance_of, less, one_more, IsFresh, IsZeroed, Sits, IsNoDebit, NoneStands, IsPaid, IsRight, IsOpen, HasTwo, Carries, Debits, purse_outline}
+use Rattle.mc_model_device.proofs.MapLemmas.{name_is_itself, same_name}
+
+-- ---- events
+
+-- an instruction that moves no money counts nothing
+pub still : (e : Entry Event) (h : List Event) (f : Frame) (d : Done) (l : List ℕ) (q : Bool) (a : ℕ) → DeedShown purse_outline e h f d
+    → DeedShown purse_outline e (with_event (cond (not (bytes_eq l l)) (Some (Debited q a)) None) h) f d
+still e h f d l q a x = subst (λ (b : Bool). DeedShown purse_outline e (with_event (cond (not b) (Some (Debited q a)) None) h) f d) (sym (name_is_itself l)) x
+
+-- one that moves it is a debit
+pub moved : (e : Entry Event) (h : List Event) (f : Frame) (d : Done) (l r : List ℕ) (q : Bool) (a : ℕ) → bytes_eq l r ≡ false → DeedShown purse_outline e (Debited q a ∷ h) f d
+    → DeedShown purse_outline e (with_event (cond (not (bytes_eq l r)) (Some (Debited q a)) None) h) f d
+moved e h f d l r q a differ x = subst (λ (b : Bool). DeedShown purse_outline e (with_event (cond (not b) (Some (Debited q a)) None) h) f d) (sym differ) x
+
+-- ---- which command
+
+pub shows : (e : Entry Event) (h : List Event) (p : List ℕ) → IsFresh e h p → (sub_blocks (take 1 (drop 1029 p)) (0x20 ∷ [])).z ≡ true → IsNoDebit e
+shows ByDelegation h p f z = tt
+shows (BySelection a before) h p f z = λ small is.
+    let same : take 1 (drop 1029 p) ≡ 0x40 ∷ [] = ap (λ (q : List ℕ). take 1 (drop 1029 q)) f.1 ∙ (ins_byte a small ∙ ap (λ (i : ℕ). i ∷ []) is) in
+    let clear : (sub_blocks (take 1 (drop 1029 p)) (0x20 ∷ [])).z ≡ false = ap (λ (b : List ℕ). (sub_blocks b (0x20 ∷ [])).z) same in
+    absurd (cc (sym clear ∙ z))
+
+pub no_debit : (e : Entry Event) (h : List Event) (p : List ℕ) → IsFresh e h p → (sub_blocks (take 1 (drop 1029 p)) (0x40 ∷ [])).z ≡ false → IsNoDebit e
+no_debit ByDelegation h p f z = tt
+no_debit (BySelection a before) h p f z = λ small is.
+    let same : take 1 (drop 1029 p) ≡ 0x40 ∷ [] = ap (λ (q : List ℕ). take 1 (drop 1029 q)) f.1 ∙ (ins_byte a small ∙ ap (λ (i : ℕ). i ∷ []) is) in
+    let set : (sub_blocks (take 1 (drop 1029 p)) (0x40 ∷ [])).z ≡ true = ap (λ (b : List ℕ). (sub_blocks b (0x40 ∷ [])).z) same in
+    absurd (cc (sym set ∙ z))
+
+pub none_fresh : (e : Entry Event) (h : List Event) (p : List ℕ) → IsFresh e h p → NoneStands e h
+none_fresh ByDelegation h p f = tt
+none_fresh (BySelection a before) h p f = λ small is. f.0
+
+pub none_else : (e : Entry Event) (h : List Event) → IsNoDebit e → NoneStands e h
+none_else ByDelegation h n = tt
+none_else (BySelection a before) h n = λ small is. absurd (n small is)
+
+pub paid_else : (e : Entry Event) (h : List Event) (p : List ℕ) → IsNoDebit e → IsPaid e h p
+paid_else ByDelegation h p n = tt
+paid_else (BySelection a before) h p n = λ small is. absurd (n small is)
+
+-- ---- tries
+
+pub some_try : (t : ℕ) → is_zero (t ∷ []) ≡ false → t ≢ 0
+some_try t z is = let set : is_zero (t ∷ []) ≡ true = ap (λ (n : ℕ). is_zero (n ∷ [])) is in absurd (cc (sym set ∙ z))
+
+-- one try less
+abbrev pub spent_try : ℕ → ℕ
+spent_try t = (256 ^ 1 + num (t ∷ []) - 1) / 256 ^ 0 % 256
+
+pub spent : (t w : ℕ) → t ≢ 0 → t + w ≤ 3 → spent_try t + suc w ≤ 3
+spent zero w some few = absurd (some refl)
+spent (suc zero) w some few = omega (arith, few)
+spent (suc (suc zero)) w some few = omega (arith, few)
+spent (suc (suc (suc zero))) w some few = omega (arith, few)
+spent (suc (suc (suc (suc t)))) w some few = absurd (omega (arith, few))
+
+pub kept_try : (h : List Event) (v : Cells) (t : ℕ) → PurseKept h (fixed_of v) → t + wrong_since h ≤ 3 → PurseKept h (fixed_of (record v { t = t }))
+kept_try h v t k few = record { size = refl; few = k.few; tries = few; pin = k.pin; balance = k.balance; number = k.number; sessions = k.sessions }
+
+-- ---- a comparison
+
+equal_is : (n : ℕ) → is_zero (bytes 2 (65536 + n - n)) ≡ true
+equal_is n = ap (λ (k : ℕ). is_zero (bytes 2 k)) same
+  where
+    same : 65536 + n - n ≡ 65536
+    same = omega arith
+
+same_right : (x y p q : ℕ) → x ≡ p → y ≡ q → (sub_blocks (p ∷ q ∷ []) (x ∷ y ∷ [])).z ≡ true
+same_right x y p q e g =
+    let same : num (x ∷ y ∷ []) ≡ num (p ∷ q ∷ []) = ap (λ (k : ℕ). num (k ∷ y ∷ [])) e ∙ ap (λ (k : ℕ). num (p ∷ k ∷ [])) g in
+    ap (λ (k : ℕ). is_zero (bytes 2 (65536 + num (p ∷ q ∷ []) - k))) same ∙ equal_is (num (p ∷ q ∷ []))
+
+right_is : (p q x y : ℕ) → p < 256 → q < 256 → x < 256 → y < 256 → num (bytes 2 (65536 + num (p ∷ q ∷ []) - num (x ∷ y ∷ []))) ≡ 0 → (x ≡ p) × (y ≡ q)
+right_is p q x y hp hq hx hy e = (omega (arith, e), omega (arith, e))
+
+pub right_law : RightLaw
+right_law p q x y hp hq hx hy =
+    (λ z. right_is p q x y hp hq hx hy (eqb-true (num (bytes 2 (65536 + num (p ∷ q ∷ []) - num (x ∷ y ∷ [])))) 0 z),
+    λ e g. same_right x y p q e g)
+
+pub kept_compared : (z q : Bool) (h : List Event) (v : Cells) → PurseKept h (fixed_of v) → v.t + suc (wrong_since h) ≤ 3 → PurseKept (comparison z q ∷ h) (fixed_of v)
+kept_compared true q h v k few = record { size = refl; few = (omega arith, k.few); tries = omega (arith, few); pin = k.pin; balance = k.balance; number = k.number; sessions = k.sessions }
+kept_compared false q h v k few = record { size = refl; few = (omega (arith, few), k.few); tries = few; pin = k.pin; balance = k.balance; number = k.number; sessions = k.sessions }
+
+pub sits_compared : (e : Entry Event) (z : Bool) (h : List Event) (s : ℕ) → Sits e h (s ∷ []) → Sits e (comparison z (is_direct e) ∷ h) (s ∷ [])
+sits_compared ByDelegation z h s x = tt
+sits_compared (BySelection a before) true h s (inl is) = inl is
+sits_compared (BySelection a before) true h s (inr is) = inr (is.0, refl)
+sits_compared (BySelection a before) false h s x = x
+
+pub right_compared : (e : Entry Event) (z : Bool) (h : List Event) → z ≡ true → IsRight e (comparison z (is_direct e) ∷ h)
+right_compared ByDelegation true h is = refl
+right_compared (BySelection a before) true h is = (refl, refl)
+right_compared e false h is = absurd (cc is)
+
+pub right_tries : (e : Entry Event) (h : List Event) → IsRight e h → 3 + wrong_since h ≤ 3
+right_tries ByDelegation h r = omega (arith, r)
+right_tries (BySelection a before) h r = let none : wrong_since h ≡ 0 = r.0 in omega arith
+
+pub sits_right : (e : Entry Event) (h : List Event) → IsRight e h → Sits e h (1 ∷ [])
+sits_right ByDelegation h r = tt
+sits_right (BySelection a before) h r = inr (refl, r.1)
+
+-- ---- a debit
+
+pub opened : (e : Entry Event) (h : List Event) (s : ℕ) → Sits e h (s ∷ []) → IsZeroed e s → (sub_blocks (s ∷ []) (1 ∷ [])).z ≡ true → IsOpen e h
+opened ByDelegation h s x is z =
+    let clear : (sub_blocks (s ∷ []) (1 ∷ [])).z ≡ false = ap (λ (n : ℕ). (sub_blocks (n ∷ []) (1 ∷ [])).z) is in
+    cc (sym clear ∙ z)
+opened (BySelection a before) h s (inl is) zeroed z =
+    let clear : (sub_blocks (s ∷ []) (1 ∷ [])).z ≡ false = ap (λ (n : ℕ). (sub_blocks (n ∷ []) (1 ∷ [])).z) is in
+    absurd (cc (sym clear ∙ z))
+opened (BySelection a before) h s (inr is) zeroed z = is.1
+
+two_by : (n : ℕ) → n ≤ 1024 → is_zero (bytes 2 (65536 + num (bytes2 n) - 2)) ≡ true → n ≡ 2
+two_by n small z =
+    let none : num (bytes 2 (65536 + num (bytes2 n) - 2)) ≡ 0 = eqb-true (num (bytes 2 (65536 + num (bytes2 n) - 2))) 0 z in
+    omega (arith, none)
+
+pub two_bytes : (e : Entry Event) (h : List Event) (p : List ℕ) → IsFresh e h p → (sub_blocks (take 2 (drop 1033 p)) (0 ∷ 2 ∷ [])).z ≡ true → HasTwo e
+two_bytes ByDelegation h p f z = tt
+two_bytes (BySelection a before) h p f z = λ small.
+    let same : take 2 (drop 1033 p) ≡ bytes2 (length a.body) = ap (λ (q : List ℕ). take 2 (drop 1033 q)) f.1 ∙ length_bytes a small in
+    let set : (sub_blocks (bytes2 (length a.body)) (0 ∷ 2 ∷ [])).z ≡ true = sym (ap (λ (b : List ℕ). (sub_blocks b (0 ∷ 2 ∷ [])).z) same) ∙ z in
+    two_by (length a.body) small set
+
+pub carried : (e : Entry Event) (h : List Event) (p : List ℕ) (x y : ℕ) → IsFresh e h p → HasTwo e → take 2 p ≡ x ∷ y ∷ [] → Carries e x y
+carried ByDelegation h p x y f two is = tt
+carried (BySelection a before) h p x y f two is = λ small. sym (body_of_two a (two small)) ∙ (sym (ap (λ (q : List ℕ). take 2 q) f.1) ∙ is)
+
+pub paid : (e : Entry Event) (h : List Event) (p : List ℕ) (x y : ℕ) → Debits e h p x y → IsPaid e (Debited (is_direct e) (num (take 2 p)) ∷ h) p
+paid ByDelegation h p x y d = tt
+paid (BySelection a before) h p x y d = λ small ins.
+    let amount : num (take 2 p) ≡ num a.body = ap num (d.amount ∙ sym (d.carries small)) in
+    (ap sw_of d.fresh.1 ∙ status_new a small, ap (λ (n : ℕ). Debited true n ∷ h) amount ∙ ap (λ (k : List Event). Debited true (num a.body) ∷ k) d.fresh.0)
+
+pub sits_paid : (e : Entry Event) (h : List Event) (q : Bool) (a s : ℕ) → Sits e h (s ∷ []) → Sits e (Debited q a ∷ h) (s ∷ [])
+sits_paid ByDelegation h q a s x = tt
+sits_paid (BySelection b before) h q a s x = x
+
+pub stored : (e : Entry Event) (h : List Event) (p : List ℕ) (x y : ℕ) → IsPaid e h p → IsPaid e h (splice p 0 (x ∷ y ∷ []))
+stored ByDelegation h p x y done = tt
+stored (BySelection a before) h p x y done = λ small ins. (status_beside_two p x y ∙ (done small ins).0, (done small ins).1)
+
+-- the arithmetic of a debit
+less_is : (b a : ℕ) → b ≤ 1000 → a ≤ b → num (bytes 2 (65536 + b - a)) + a ≡ b
+less_is b a small low = omega arith
+
+more_is : (c n : ℕ) → c ≡ n % 65536 → num (bytes 2 (c + 1)) ≡ suc n % 65536
+more_is c n is = omega (arith, is)
+
+more_differs : (c : ℕ) → c < 65536 → num (bytes 2 (c + 1)) ≡ c → ⊥
+more_differs c small is = omega (arith, is)
+
+-- static bytes after the commit
+abbrev pub paid_cells : Cells → ℕ → ℕ → List ℕ
+paid_cells v x y = splice (splice (fixed_of v) 0 (less v x y)) 5 (one_more v)
+
+pub money_moves : (h : List Event) (v : Cells) (x y : ℕ) → PurseKept h (fixed_of v)
+    → bytes_eq (v.b0 ∷ v.b1 ∷ v.c0 ∷ v.c1 ∷ []) (take 2 (paid_cells v x y) ++ drop 5 (paid_cells v x y)) ≡ false
+money_moves h v x y k =
+    let c : ℕ = num (v.c0 ∷ v.c1 ∷ []) in
+    let small : c < 65536 = let is : c ≡ debits h % 65536 = k.number in omega (arith, is) in
+    false_from_ne_true (bytes_eq (v.b0 ∷ v.b1 ∷ v.c0 ∷ v.c1 ∷ []) (take 2 (paid_cells v x y) ++ drop 5 (paid_cells v x y)))
+    (λ e. more_differs c small (sym (ap (λ (l : List ℕ). num (drop 2 l)) (same_name (v.b0 ∷ v.b1 ∷ v.c0 ∷ v.c1 ∷ []) (take 2 (paid_cells v x y) ++ drop 5 (paid_cells v x y)) e))))
+
+paid_direct : (h : List Event) (v : Cells) (x y : ℕ) → PurseKept h (fixed_of v) → is_shown h ≡ true → num (x ∷ y ∷ []) ≤ balance_of v → PurseKept (Debited true (num (x ∷ y ∷ [])) ∷ h) (paid_cells v x y)
+paid_direct h v x y k shown low =
+    let b : ℕ = balance_of v in
+    let a : ℕ = num (x ∷ y ∷ []) in
+    let sum : b + debited h ≡ 1000 = k.balance in
+    let small : b ≤ 1000 = omega arith in
+    let rest : num (less v x y) + a ≡ b = less_is b a small low in
+    record {
+      size = refl;
+      few = (omega (arith, k.tries), k.few);
+      tries = k.tries;
+      pin = k.pin;
+      balance = omega (arith, rest, sum);
+      number = more_is (num (v.c0 ∷ v.c1 ∷ [])) (debits h) k.number;
+      sessions = (refl, shown, k.sessions);
+    }
+
+pub kept_paid : (e : Entry Event) (h : List Event) (p : List ℕ) (v : Cells) (x y : ℕ) → PurseKept h (fixed_of v) → Debits e h p x y → num (x ∷ y ∷ []) ≤ balance_of v
+    → PurseKept (Debited (is_direct e) (num (take 2 p)) ∷ h) (paid_cells v x y)
+kept_paid ByDelegation h p v x y k d low = absurd d.open_session
+kept_paid (BySelection a before) h p v x y k d low =
+    subst (λ (l : List ℕ). PurseKept (Debited true (num l) ∷ h) (paid_cells v x y)) (sym d.amount) (paid_direct h v x y k d.open_session low)
+
+-- ---- exits
+
+-- a status other than 9000, where no debit stands of the command
+pub refused_exit : (e : Entry Event) (h : List Event) (p : List ℕ) (f : Frame) (d : Done) (high low : ℕ) → Sits e h (session_of f) → NoneStands e h → d.effect.public ≡ splice p 1039 (high ∷ low ∷ []) → public_size ≤ length p → 256 * high + low ≢ 0x9000
+    → ExitShown purse_outline e h f d
+refused_exit ByDelegation h p f d high low sit none is size other = tt
+refused_exit (BySelection a before) h p f d high low sit none is size other =
+    let sw : sw_of d.effect.public ≡ 256 * high + low = ap sw_of is ∙ status_set p high low size in
+    (sit, record { stands = λ small ins done. absurd (other (sym sw ∙ done)); refused = λ small ins differs. none small ins })
+
+-- 9000, where a debit stands if the command is one
+pub paid_exit : (e : Entry Event) (h : List Event) (p : List ℕ) (f : Frame) (d : Done) → Sits e h (session_of f) → IsPaid e h p → d.effect.public ≡ with_la p 2 → public_size ≤ length p → ExitShown purse_outline e h f d
+paid_exit ByDelegation h p f d sit done is size = tt
+paid_exit (BySelection a before) h p f d sit done is size =
+    let sw : sw_of d.effect.public ≡ sw_of p = ap sw_of is ∙ status_beside_la p 2 size in
+    (sit, record { stands = λ small ins good. (done small ins).1; refused = λ small ins differs. absurd (differs (sw ∙ (done small ins).0)) })
+
+-- any status, where the command is no debit
+pub other_exit : (e : Entry Event) (h : List Event) (f : Frame) (d : Done) → Sits e h (session_of f) → IsNoDebit e → ExitShown purse_outline e h f d
+other_exit ByDelegation h f d sit n = tt
+other_exit (BySelection a before) h f d sit n = (sit, record { stands = λ small ins good. absurd (n small ins); refused = λ small ins differs. absurd (n small ins) })

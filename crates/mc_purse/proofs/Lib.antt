@@ -1,0 +1,4 @@
+pub mod Places
+pub mod Facts
+pub mod PurseOutline
+pub mod PurseLaws

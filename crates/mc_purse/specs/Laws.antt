@@ -1,0 +1,108 @@
+-- The three promises of the purse. A history has its newest event first.
+use Rattle.std.specs.Prelude.{◌≡◌, ◌≢◌, ℕ, zero, suc, ◌+◌, ◌%◌, ◌<◌, ◌≤◌, Bool, true, false, List, [], ◌∷◌, length, take, drop, slice_index, Option, ⊤}
+use Rattle.mc_model_device.specs.Bytes.{num}
+use Rattle.mc_model_machine.specs.Apdu.{ApduParts}
+use Rattle.mc_model_machine.specs.Blocks.{sub_blocks}
+use Rattle.mc_model_play.specs.DeckGrammar.{DeckLine}
+use Rattle.mc_model_play.specs.Play.{WornAt, Step, plays, start}
+use Rattle.mc_promise.specs.Along.{Along, OnFixed, OnAnswer, command_for}
+use Rattle.mc_purse.specs.Purse.{Event, Right, Wrong, Debited, Selected, Ended, purse_name, purse_app, purse_watch}
+
+-- ---- guesses
+
+-- of bytes, a comparison sets Z just where they are the same
+abbrev pub RightLaw : Type 0
+RightLaw =
+    (p q x y : ℕ) → p < 256 → q < 256 → x < 256 → y < 256
+    → ((sub_blocks (p ∷ q ∷ []) (x ∷ y ∷ [])).z ≡ true → (x ≡ p) × (y ≡ q)) × ((x ≡ p) → (y ≡ q) → (sub_blocks (p ∷ q ∷ []) (x ∷ y ∷ [])).z ≡ true)
+
+-- the wrong comparisons since the last right one
+abbrev pub wrong_since : List Event → ℕ
+wrong_since [] = 0
+wrong_since (Right direct ∷ h) = 0
+wrong_since (Wrong ∷ h) = suc (wrong_since h)
+wrong_since (Debited direct amount ∷ h) = wrong_since h
+wrong_since (Selected ∷ h) = wrong_since h
+wrong_since (Ended ∷ h) = wrong_since h
+
+-- between two right comparisons, and before the first one, there are at most three wrong ones
+abbrev pub AtMostThree : List Event → Type 0
+AtMostThree [] = ⊤
+AtMostThree (e ∷ h) = (wrong_since (e ∷ h) ≤ 3) × AtMostThree h
+
+-- so it is, static byte 2 never has more tries than 3 less what was wrong since, and the PIN is 1234
+pub record KeepsGuesses (h : List Event) (fixed : List ℕ) : Type 0 where
+  pub few : AtMostThree h
+  pub tries : slice_index fixed 2 + wrong_since h ≤ 3
+  pub pin : take 2 (drop 3 fixed) ≡ 0x12 ∷ 0x34 ∷ []
+
+-- ---- books
+
+-- the amounts of the debits that stand
+abbrev pub debited : List Event → ℕ
+debited [] = 0
+debited (Right direct ∷ h) = debited h
+debited (Wrong ∷ h) = debited h
+debited (Debited direct amount ∷ h) = amount + debited h
+debited (Selected ∷ h) = debited h
+debited (Ended ∷ h) = debited h
+
+-- the number of debits that stand
+abbrev pub debits : List Event → ℕ
+debits [] = 0
+debits (Right direct ∷ h) = debits h
+debits (Wrong ∷ h) = debits h
+debits (Debited direct amount ∷ h) = suc (debits h)
+debits (Selected ∷ h) = debits h
+debits (Ended ∷ h) = debits h
+
+-- the balance is 1,000 less the amounts of the debits that stand, and the number of debits is how many stand, modulo 65,536
+pub record KeepsBalance (h : List Event) (fixed : List ℕ) : Type 0 where
+  pub balance : num (take 2 fixed) + debited h ≡ 1000
+  pub number : num (take 2 (drop 5 fixed)) ≡ debits h % 65536
+
+-- A debit that is answered with 9000 stands, with the amount of its data; one that is answered with another status does not. (Data of a
+-- command of bytes are at most 1,024.)
+pub record AnswersDebit (before after : List Event) (a : ApduParts) (sw : ℕ) : Type 0 where
+  pub stands : length a.body ≤ 1024 → a.ins ≡ 0x40 → sw ≡ 0x9000 → after ≡ Debited true (num a.body) ∷ before
+  pub refused : length a.body ≤ 1024 → a.ins ≡ 0x40 → sw ≢ 0x9000 → after ≡ before
+
+-- ---- sessions
+
+-- the PIN was shown since the last selection, with no end of a session between
+abbrev pub is_shown : List Event → Bool
+is_shown [] = false
+is_shown (Right direct ∷ h) = direct
+is_shown (Wrong ∷ h) = is_shown h
+is_shown (Debited direct amount ∷ h) = is_shown h
+is_shown (Selected ∷ h) = false
+is_shown (Ended ∷ h) = false
+
+-- no debit stands but in a session in which the PIN was shown before it, and none that a delegation made
+abbrev pub KeepsSessions : List Event → Type 0
+KeepsSessions [] = ⊤
+KeepsSessions (Right direct ∷ h) = KeepsSessions h
+KeepsSessions (Wrong ∷ h) = KeepsSessions h
+KeepsSessions (Debited direct amount ∷ h) = (direct ≡ true) × (is_shown h ≡ true) × KeepsSessions h
+KeepsSessions (Selected ∷ h) = KeepsSessions h
+KeepsSessions (Ended ∷ h) = KeepsSessions h
+
+-- ---- the laws: for every deck, every image and every list of refused writes, along the whole play
+
+-- what holds along every play in which each application that comes under the purse's name is the purse
+abbrev pub InEveryPlay : (List Event → Step → List Event → Type 0) → Type 0
+InEveryPlay says =
+    (ls : List (ℕ × DeckLine)) (m : List (List ℕ)) (ws : List (Option WornAt)) → Along purse_watch purse_app says [] (plays (start m) ls ws)
+
+-- a PIN is guessed with at most three tries
+abbrev pub GuessesLaw : Type 0
+GuessesLaw = InEveryPlay (λ before t after. OnFixed purse_name (KeepsGuesses after) t.after)
+
+-- balance and number are those of the debits that stand, and the answers say which stand
+abbrev pub BooksLaw : Type 0
+BooksLaw =
+    InEveryPlay (λ before t after. OnFixed purse_name (KeepsBalance after) t.after × OnAnswer (AnswersDebit before after) (command_for purse_name t.before t.line) t.result)
+
+-- no debit without the PIN, and none by delegation
+abbrev pub SessionsLaw : Type 0
+SessionsLaw = InEveryPlay (λ before t after. OnFixed purse_name (λ fixed. KeepsSessions after) t.after)

@@ -1,0 +1,3 @@
+pub mod Purse
+pub mod Laws
+pub mod Worked

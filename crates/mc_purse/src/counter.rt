@@ -1,0 +1,23 @@
+ghost use Rattle.std.specs.Prelude.{ℕ};
+ghost use Rattle.mc_promise.specs.Kept.{IsKept};
+ghost use Rattle.mc_promise.proofs.CounterOutline.{counter_outline, counter_shown};
+
+use mc_promise::{keeps, Promise};
+
+/// The counter, under the rule.
+pub struct Counter;
+
+impl Promise for Counter {
+    ghost Event = { ℕ };
+
+    ghost outline = { counter_outline };
+
+    ghost shown = { counter_shown };
+}
+
+/// What the outline of the counter says holds along every play.
+pub fn counter_keeps()
+    ensures { IsKept counter_outline }
+{
+    keeps::<Counter>();
+}
