@@ -1,7 +1,7 @@
 """A PC/SC reader with a card for trials: pcscd with the driver vpcd, joined to `melreader` by tools/vpcd.py.
 
-It needs Debian's packages pcscd, vsmartcard-vpcd and python3-pyscard, to be run as root, and no other pcscd that runs:
-`missing()` tells what is not there. All that is started here is ended by its process id.
+It needs Debian's packages pcscd, vsmartcard-vpcd and python3-pyscard, which is a package of /usr/bin/python3 alone, to be run as root, and
+no other pcscd that runs: `missing()` says what is not there. All that is started here is ended by its process id.
 """
 
 import contextlib
@@ -29,7 +29,7 @@ def missing(programs=()):
     try:
         import smartcard  # noqa: F401
     except ImportError:
-        return "the package python3-pyscard is missing"
+        return f"{sys.executable} has no package smartcard: Debian's python3-pyscard is for /usr/bin/python3, others take `pip install pyscard`"
     if os.geteuid() != 0:
         return "pcscd is to be run as root"
     with socket.socket(socket.AF_UNIX) as other:
@@ -79,7 +79,7 @@ def daemon(log):
 def card(path=None):
     """A card in the reader, on which the deck of this path was played; none: a blank card."""
     with Watch() as watch:
-        words = [] if path is None else [path]
+        words = ["--quiet"] if path is None else ["--quiet", path]
         with running([sys.executable, str(TOOLS / "vpcd.py"), *words]) as bridge:
 
             def is_there():

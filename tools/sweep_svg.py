@@ -1,118 +1,129 @@
 #!/usr/bin/env python3
 """Draws the text of `mellab sweep` as a picture: a bar for each swept line, its writes coloured by their word.
 
-Usage: sweep_svg.py SWEEP [DECK] > PICTURE.svg
+    tools/sweep_svg.py SWEEP [DECK] > PICTURE.svg
 
 SWEEP is the text that `mellab sweep` wrote, or - for the standard input. Where the deck is given too, the statement of each line stands
-beside its bar. Only the standard library is used.
+beside its bar. Each write is as wide as each other, 64 in a row: a long load takes more rows, and those of them that are of one word alone
+are drawn as one.
+
+It needs Python 3.9. It ends with 2 where it cannot read what it is given.
 """
 
-import re
+import argparse
 import sys
+from typing import Iterator, List, Optional, Tuple
 from xml.sax.saxutils import escape
 
-COLOURS = {
-    "before": "#4c78a8",
-    "after": "#59a14f",
-    "same": "#bab0ac",
-    "between": "#f28e2b",
-    "torn": "#e15759",
-}
+import labtexts
+from labtexts import BadText, Swept
 
-ROW = 26
-BAR = 16
-LEFT = 70
-WIDTH = 640
+COLOURS = {"before": "#4c78a8", "after": "#59a14f", "same": "#bab0ac", "between": "#f28e2b", "torn": "#e15759"}
+
+PER_ROW = 64
+WRITE = 10
+BAR = 14
+ROW = 18
+GAP = 8
+LEFT = 60
+TOP = 74
 BESIDE = 420
-TOP = 64
 MOST_CHARACTERS = 56
 
-LINE = re.compile(r"line (\d+) writes (\d+):(( [a-z]+ \d+-\d+)+)$")
-RUN = re.compile(r" ([a-z]+) (\d+)-(\d+)")
-SUMS = re.compile(r"swept (\d+) writes (\d+) plays (\d+)$")
+# A row of a bar: its first and its last write, and its runs.
+Row = Tuple[int, int, List[Tuple[str, int, int]]]
 
 
-class BadSweep(Exception):
-    """A line that no sweep writes."""
-
-
-def read_sweep(text):
-    """The swept lines as (number, writes, runs) with runs as (word, first, last), and the text of the sums, if it is there."""
-    swept, sums = [], None
-    for number, line in enumerate(text.splitlines(), 1):
-        found = LINE.match(line)
-        if found:
-            runs = [(word, int(first), int(last)) for word, first, last in RUN.findall(found.group(3))]
-            if any(word not in COLOURS for word, _, _ in runs):
-                raise BadSweep(f"line {number}: no such word: {line}")
-            swept.append((int(found.group(1)), int(found.group(2)), runs))
-        elif SUMS.match(line):
-            sums = line
+def rows_of(line: Swept) -> List[Row]:
+    """The rows of a swept line's bar, where rows of one word alone are joined; the first and the last stay by themselves."""
+    rows: List[Row] = []
+    for first in range(1, line.writes + 1, PER_ROW):
+        last = min(first + PER_ROW - 1, line.writes)
+        runs = [(word, max(start, first), min(end, last)) for word, start, end in line.runs if start <= last and end >= first]
+        is_like_before = len(rows) > 1 and len(runs) == len(rows[-1][2]) == 1 and runs[0][0] == rows[-1][2][0][0]
+        if is_like_before and last < line.writes:
+            start = rows[-1][0]
+            rows[-1] = start, last, [(runs[0][0], start, last)]
         else:
-            raise BadSweep(f"line {number}: {line}")
-    return swept, sums
+            rows.append((first, last, runs))
+    return rows
 
 
-def beside(statement):
+def beside(statement: str) -> str:
     """A statement as it stands beside its bar, shortened."""
     words = " ".join(statement.split())
     return words if len(words) <= MOST_CHARACTERS else words[: MOST_CHARACTERS - 1] + "…"
 
 
-def bar(y, writes, runs, most):
-    """The bar of a swept line: a box for each run, with its numbers as a title."""
-    step = WIDTH / most
-    for word, first, last in runs:
-        x = LEFT + (first - 1) * step
-        width = (last - first + 1) * step
-        yield (
-            f'<rect x="{x:.2f}" y="{y}" width="{width:.2f}" height="{BAR}" fill="{COLOURS[word]}">'
-            f"<title>{word} {first}-{last} of {writes}</title></rect>"
-        )
+def row_of_bar(y: int, row: Row, writes: int) -> Iterator[str]:
+    """A row: a box for each run, with its numbers as a title, and the numbers of rows that were joined."""
+    first, last, runs = row
+    is_joined = last - first >= PER_ROW
+    for word, start, end in runs:
+        x = LEFT if is_joined else LEFT + (start - first) * WRITE
+        width = PER_ROW * WRITE if is_joined else (end - start + 1) * WRITE
+        yield (f'<rect x="{x}" y="{y}" width="{width}" height="{BAR}" fill="{COLOURS[word]}">'
+               f"<title>{word} {start}-{end} of {writes}</title></rect>")
+    if is_joined:
+        yield f'<text x="{LEFT + PER_ROW * WRITE // 2}" y="{y + 11}" fill="white" text-anchor="middle">{first}-{last} {runs[0][0]}</text>'
+    elif first > 1:
+        yield f'<text x="{LEFT - 6}" y="{y + 11}" fill="#777" text-anchor="end" font-size="10">{first}</text>'
 
 
-def picture(swept, sums, statements):
+def axis(height: int) -> Iterator[str]:
+    """The numbers of the writes in a row, and lines down from them."""
+    for write in (1, *range(8, PER_ROW + 1, 8)):
+        x = LEFT + write * WRITE - WRITE // 2
+        yield f'<line x1="{x}" y1="{TOP - 8}" x2="{x}" y2="{height - 8}" stroke="#eee"/>'
+        yield f'<text x="{x}" y="{TOP - 12}" fill="#777" text-anchor="middle" font-size="10">{write}</text>'
+
+
+def legend() -> Iterator[str]:
+    """The words and their colours."""
+    for place, (word, colour) in enumerate(COLOURS.items()):
+        yield f'<rect x="{10 + 100 * place}" y="30" width="12" height="12" fill="{colour}"/>'
+        yield f'<text x="{28 + 100 * place}" y="41">{word}</text>'
+
+
+def picture(swept: List[Swept], sums: Optional[str], statements: List[str]) -> Iterator[str]:
     """The whole picture."""
-    most = max((writes for _, writes, _ in swept), default=1)
-    height = TOP + ROW * len(swept) + 20
-    width = LEFT + WIDTH + 20 + (BESIDE if statements else 0)
-    yield f'<svg xmlns="http://www.w3.org/2000/svg" width="{width}" height="{height}" font-family="monospace" font-size="12">'
+    bars = [(line, rows_of(line)) for line in swept]
+    height = TOP + sum(ROW * len(rows) + GAP for _, rows in bars) + 12
+    width = LEFT + PER_ROW * WRITE + 20 + (BESIDE if statements else 0)
+    yield (f'<svg xmlns="http://www.w3.org/2000/svg" width="{width}" height="{height}" viewBox="0 0 {width} {height}" '
+           'font-family="monospace" font-size="12">')
     yield f'<rect width="{width}" height="{height}" fill="white"/>'
     yield f'<text x="10" y="20">{escape(sums or "a sweep that is not done")}</text>'
-    x = 10
-    for word, colour in COLOURS.items():
-        yield f'<rect x="{x}" y="32" width="12" height="12" fill="{colour}"/><text x="{x + 18}" y="43">{word}</text>'
-        x += 100
-    for place, (number, writes, runs) in enumerate(swept):
-        y = TOP + ROW * place
-        yield f'<text x="10" y="{y + 13}">{number}</text>'
-        yield from bar(y, writes, runs, most)
-        if 0 < number <= len(statements):
-            yield f'<text x="{LEFT + WIDTH + 10}" y="{y + 13}">{escape(beside(statements[number - 1]))}</text>'
+    yield from legend()
+    yield from axis(height)
+    y = TOP
+    for line, rows in bars:
+        yield f'<text x="10" y="{y + 11}">{line.number}</text>'
+        if 0 < line.number <= len(statements):
+            yield f'<text x="{LEFT + PER_ROW * WRITE + 10}" y="{y + 11}">{escape(beside(statements[line.number - 1]))}</text>'
+        for row in rows:
+            yield from row_of_bar(y, row, line.writes)
+            y += ROW
+        y += GAP
     yield "</svg>"
 
 
-def read(name):
-    """The text of a file, or of the standard input."""
-    if name == "-":
-        return sys.stdin.read()
-    with open(name, encoding="utf-8", errors="replace") as file:
-        return file.read()
-
-
-def main(words):
-    if not 1 <= len(words) <= 2:
-        print(__doc__.split("\n\n")[1], file=sys.stderr)
-        return 2
+def main() -> int:
+    words = argparse.ArgumentParser(description="Draws what mellab sweep wrote.")
+    words.add_argument("sweep", help="what mellab sweep wrote; - is the standard input")
+    words.add_argument("deck", nargs="?", help="the deck that it is of")
+    given = words.parse_args()
     try:
-        swept, sums = read_sweep(read(words[0]))
-        statements = read(words[1]).splitlines() if len(words) == 2 else []
-    except (OSError, BadSweep) as error:
-        print(f"sweep_svg: {error}", file=sys.stderr)
-        return 3
-    print("\n".join(picture(swept, sums, statements)))
+        text = labtexts.read_text(sys.stdin.read() if given.sweep == "-" else labtexts.read(given.sweep))
+        if text.kind not in ("sweep", ""):
+            raise BadText(f"{given.sweep} is no sweep: {text.last or 'the deck is refused'}")
+        statements = [] if given.deck is None else labtexts.lines_of(labtexts.read(given.deck))
+    except (OSError, BadText) as error:
+        print(f"sweep_svg.py: {error}", file=sys.stderr)
+        return 2
+    print("\n".join(picture(text.swept, text.last if text.is_whole else None, statements)))
     return 0
 
 
 if __name__ == "__main__":
-    sys.exit(main(sys.argv[1:]))
+    sys.exit(main())

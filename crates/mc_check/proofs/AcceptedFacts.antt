@@ -11,15 +11,15 @@ use Rattle.mc_model_machine.specs.Code.{instruction_at}
 use Rattle.mc_model_machine.specs.StackRows.{need, is_indirect, counts, places_inside}
 use Rattle.mc_model_machine.specs.StackShape.{Fact, is_main, FactLook, Bad, Stands, fact_look, look, Gives, Reached, Depth, IsBase, Accepts}
 
--- ---- what is seen of a fact
+-- ---- the look of a fact
 
--- nothing is bad
+-- none of the tests holds
 none_bad : (a b c d : Bool) (w x y z : CheckCause) (l : FactLook) → a ≡ false → b ≡ false → c ≡ false → d ≡ false → cond a (Bad w) (cond b (Bad x) (cond c (Bad y) (cond d (Bad z) l))) ≡ l
 none_bad a b c d w x y z l p q r s = rw (p, q, r, s) refl
 
 -- ---- facts of accepted code
 
--- the instruction at a fact, at which nothing is wrong
+-- the instruction at a fact that breaks no rule
 pub record GoodAt (code : List ℕ) (f : Fact) (i : Ins) (next : ℕ) : Type 0 where
   pub decoded : instruction_at code f.place ≡ Ok (i, next)
   pub stands : look code f ≡ Stands i next
@@ -28,7 +28,7 @@ pub record GoodAt (code : List ℕ) (f : Fact) (i : Ins) (next : ℕ) : Type 0 w
   pub needs : need i ≤ f.height
   pub inside : places_inside (length code) i next ≡ true
 
--- room for so many bytes above a base, within the stack and within the deepest one
+-- room for `height` bytes above a base, within the stack and within the deepest height
 pub record HasStackRoom (session most base height : ℕ) : Type 0 where
   pub stack : session + base + height ≤ 512
   pub deepest : base + height ≤ most

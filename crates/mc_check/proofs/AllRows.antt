@@ -1,4 +1,4 @@
--- What a row that stands on accepted code leaves of its frame, and where it goes: the facts of all rows.
+-- What a row of accepted code leaves of its frame, and the place that it goes to: the facts of all rows.
 use Rattle.std.proofs.Common.{◌≡◌, ◌⊎◌, ℕ, ◌+◌, ◌-◌, ◌≤◌, ℤ, Bool, true, false, cond, List, length, Option, Some, None, refl, sym, ap, subst, ◌∙◌, inl, inr, arith}
 use Rattle.std.specs.Prelude.{◌==◌, ◌&&◌, ◌||◌, not}
 use Rattle.std.proofs.lemmas.Bool.{true≢false, eqb-true, false_from_ne_true, not_from_false}
@@ -19,9 +19,9 @@ use Rattle.mc_check.proofs.CalmCauses.{always_first, stepped_stands, need_few, r
 use Rattle.mc_check.proofs.CalmPublic.{effect_grows}
 use Rattle.mc_check.proofs.CalmEffects.{RunsPlainRow, place_after, effect_kept, no_call}
 
--- ---- where a frame goes on
+-- ---- the place at which a frame goes on
 
--- behind the instruction
+-- a frame that goes on at the place after the instruction
 goes_behind : (i : Ins) (next at : ℕ) (t : Then) → at ≡ next → goes_on i ≡ true → GoesTo i next at t
 goes_behind i next at Goes is on = inl (is, on)
 goes_behind i next at Exits is on = tt
@@ -36,7 +36,7 @@ on_from false h = refl
 not_all : (k : ℕ) (f : Frame) → holds k f ≡ false → (k == 7) ≡ false
 not_all k f h = false_from_ne_true (k == 7) (λ is. true≢false (subst (λ (n : ℕ). holds n f ≡ false) (eqb-true k 7 is) h))
 
--- a place that may be gone to is one
+-- a place that may be gone to is an address
 there : (f : Frame) (o : Option ℕ) → no_place f o ≡ false → o ≡ Some (address_or_zero o)
 there f None h = absurd (cc h)
 there f (Some p) h = refl
@@ -62,7 +62,7 @@ branch_inside : (k : ℕ) (d : ℤ) (f : Frame) (public : List ℕ) (x : Around)
 unfolding causes
 branch_inside k d f public x e = (none_holds (causes (ins.Branch k d) f public x) e).0
 
--- where a row goes that is no call and no return
+-- the place after a row that is no call and no return
 row_goes : (i : Ins) (h : ℕ) (f : Frame) (public : List ℕ) (x : Around) (at : ℕ) → always_abends i ≡ false → RunsPlainRow h i f public x → at ≡ place_after i f → GoesTo i f.at at (effect i f public x).next
 unfolding effect
 row_goes ins.Exit h f public x at runs y is = tt
@@ -141,7 +141,7 @@ rows_grow i f public x d e =
     let parts = done_parts (first_cause (causes i f public x)) (effect i f public x) d e in
     subst (λ (done : Done). length public ≤ length done.effect.public) parts.1 (effect_grows i f public x)
 
--- what every row keeps to that stands on accepted code
+-- the facts of every row of accepted code
 pub row_facts : RowsAreCalm
 row_facts = record {
   calm = λ len size base h i next f public x c shaped. rows_calm len size base h i next f public x c;

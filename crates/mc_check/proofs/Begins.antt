@@ -16,7 +16,7 @@ use Rattle.mc_check.proofs.SearchSteps.{unseen_set, written, this, other, entere
 pub none_there : (k q : ℕ) → slice_get {X = ℕ} [] k ≡ Some q → ⊥
 none_there k q e = cc
 
--- what is open at first
+-- the routines that are open at first
 one_open : (k q r : ℕ) → slice_get ([] ++ q ∷ []) k ≡ Some r → (k ≡ 0) × (q ≡ r)
 one_open k q r get = elim (get_push [] q k r get) [
   | before lt old ↦ absurd (none_there k r old)
@@ -55,7 +55,7 @@ module _ (states : List Progress) (l : List Call) (q : ℕ) (so : Searches l sta
     | other ne old ↦ absurd (ne refl)
   ]
 
-  -- what holds once it was entered
+  -- the invariant of the search, once the first routine was entered
   pub begun : (new : List Progress) (stack now : List ℕ) → stack ≡ [] → new ≡ set states q progress.Open → now ≡ stack ++ q ∷ [] → Searches l new now × StaySeen states new × IsSeen new q
   begun new stack now none e f =
       let open_now : now ≡ [] ++ q ∷ [] = f ∙ ap (λ (s : List ℕ). s ++ q ∷ []) none in (

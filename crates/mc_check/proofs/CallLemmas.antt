@@ -1,4 +1,4 @@
--- The list of calls of code: what its table of facts gives, and what the list says of depths.
+-- The list of calls of code: what follows from its table of facts, and the depths by the list.
 use Rattle.std.proofs.Common.{◌≡◌, ℕ, ◌+◌, ◌<◌, ◌≤◌, Bool, true, false, not, List, [], ◌∷◌, length, Option, Some, None, Result, Ok, Err, refl, sym, ap, subst, ◌∙◌, arith}
 use Rattle.std.specs.Prelude.{◌&&◌, ◌||◌, nat_lt, is_some}
 use Rattle.std.proofs.lemmas.Bool.{ltb-true, and_parts}
@@ -17,7 +17,7 @@ use Rattle.mc_check.specs.CallList as list
 
 -- ---- what a good fact shows
 
--- what was decoded there, and where it may go
+-- the instruction that was decoded at a place, and the places that it may go to
 record DecodesInside (len : ℕ) (r : Result (Ins × ℕ) DecodeFault) (i : Ins) (next : ℕ) : Type 0 where
   decoded : r ≡ Ok (i, next)
   inside : places_inside len i next ≡ true
@@ -43,7 +43,7 @@ seen_shows len f (Ok (x, m)) i next e =
       inside = sym (ap (λ (y : Ins). places_inside len y m) parts.0 ∙ ap (λ (n : ℕ). places_inside len i n) parts.1) ∙ both.0;
     }
 
--- a fact whose instruction stands
+-- a fact whose instruction breaks no rule by itself
 shows_at : (code : List ℕ) (f : Fact) (i : Ins) (next : ℕ) → look code f ≡ Stands i next → DecodesInside (length code) (instruction_at code f.place) i next
 unfolding look
 shows_at code f i next e = seen_shows (length code) f (instruction_at code f.place) i next e
@@ -131,6 +131,6 @@ not_itself code bases f (At q) reached is itself =
     let back = base.1.greatest on.0 (subst (λ (r : Routine). shape.Depth code r on.0) is on.1) in
     absurd (omega (arith, on.2, back))
 
--- where each routine that is reached has a base, none reaches itself
+-- if each routine that is reached has a base, none reaches itself
 pub no_recursion : (code : List ℕ) → ((f : Fact) (q : ℕ) → Reached code f → f.routine ≡ At q → (b : ℕ) × IsBase code (At q) b) → NoRecursion code
 no_recursion code bases f reached itself = not_itself code bases f f.routine reached refl itself

@@ -56,7 +56,7 @@ same_entry o e f a b = cc
 same_target : (o : Option ℕ) (q t : ℕ) → o ≡ Some q → o ≡ Some t → q ≡ t
 same_target o q t a b = cc
 
--- the target of a call that was made, and that none is made without one
+-- the target of a listed call, and that no call is listed without a target
 call_from : (p : ℕ) (e : Entry) (c : Call) (o : Option ℕ) → option_map (call_of p e) o ≡ Some c → (q : ℕ) × (o ≡ Some q) × (call_of p e q ≡ c)
 call_from p e c None is = cc
 call_from p e c (Some q) is = (q, refl, same_Some (call_of p e q) c is)
@@ -66,7 +66,7 @@ no_call p e q None is none = cc
 no_call p e q (Some t) is none = cc
 
 module _ (code : List ℕ) (t : List (Option Entry)) (n : ℕ) (l : List Call) (so : ListsUpTo code t n l) where
-  -- no call is made at the next place
+  -- no call is listed at the next place
   pub lists_same : ((e : Entry) → slice_get t n ≡ Some (Some e) → option_map (call_of n e) (target_of (instruction_at code n)) ≡ None) → ListsUpTo code t (n + 1) l
   lists_same none = record {
     each = so.each;
@@ -77,7 +77,7 @@ module _ (code : List ℕ) (t : List (Option Entry)) (n : ℕ) (l : List Call) (
     ];
   }
 
-  -- a call is made there
+  -- a call is listed at the next place
   lists_call : (e : Entry) (q : ℕ) → e.height ≤ 65535 → IsWholeTable code t → slice_get t n ≡ Some (Some e) → target_of (instruction_at code n) ≡ Some q → ListsUpTo code t (n + 1) (l ++ call_of n e q ∷ [])
   lists_call e q small whole there target =
       let this = is_call code t n e q whole there target in

@@ -1,4 +1,4 @@
--- What the calls of a routine tell of its base, as they are gone through.
+-- The base of a routine by its calls, in a pass over them.
 use Rattle.std.proofs.Common.{◌≡◌, ◌⊎◌, ℕ, ◌+◌, ◌<◌, ◌≤◌, max, Bool, true, false, cond, eqb, ltb, List, length, Less, Equal, Greater, Option, Some, None, refl, sym, ap, subst, inl, inr, ◌∙◌, arith}
 use Rattle.std.specs.Prelude.{slice_get}
 use Rattle.std.specs.Ordering.{is_lt, ord_max, nat_cmp}
@@ -28,7 +28,7 @@ caller_is_inside len l k c closed there p by = called_is_inside len l p closed (
 pub is_called : (l : List Call) (k : ℕ) (c : Call) → slice_get l k ≡ Some c → IsCalled l c.target
 is_called l k c there = (routine_of c.caller, c.height, record { at = k; call = c; there = there; caller = refl; height = refl; target = refl })
 
--- ---- a base that is told is not 0
+-- ---- a base by a call is not 0
 
 by_positive : (c : Call) (p d : ℕ) (o : Option Progress) → answer_by_progress c p o ≡ answer.Base d → 4 ≤ d
 by_positive c p d None e = cc
@@ -52,7 +52,7 @@ greater_is g b = greater_by (ltb b g) (eqb b g) g b refl
 
 -- ---- along the calls
 
--- what the calls before a place tell, with the greatest base among it, or 0
+-- the bases by the calls before a place, with the greatest one, or 0
 pub record TellsUpTo (states : List Progress) (l : List Call) (q n greatest : ℕ) : Type 0 where
   pub some : (greatest ≡ 0) ⊎ CallTells states l q (answer.Base greatest)
   pub each : AreAtMost states l q n greatest
@@ -71,7 +71,7 @@ module _ (states : List Progress) (l : List Call) (q n g : ℕ) (so : TellsUpTo 
     ];
   }
 
-  -- the next call tells a base
+  -- the next call has a base for the routine
   pub tells_base : (b : ℕ) → c.target ≡ q → answer_of_call states c ≡ answer.Base b → TellsUpTo states l q (n + 1) (max g b)
   tells_base b of tells = record {
     some = elim (cases_lt g b) [
@@ -90,7 +90,7 @@ module _ (states : List Progress) (l : List Call) (q n g : ℕ) (so : TellsUpTo 
     ];
   }
 
--- all calls were gone through, and one is of the routine
+-- all calls were passed, and one is of the routine
 pub tells_all : (states : List Progress) (l : List Call) (q n g : ℕ) → TellsUpTo states l q n g → length l ≤ n → IsCalled l q → Answers states l q (answer.Base g)
 tells_all states l q n g so long called =
     let has = called.2 in
@@ -102,12 +102,12 @@ tells_all states l q n g so long called =
       | inr some ↦ (some, each)
     ]
 
--- a call tells that there is no base yet
+-- a call whose caller has no base yet
 pub tells_stop : (states : List Progress) (l : List Call) (q : ℕ) (a : Answer) → ((b : ℕ) → a ≡ answer.Base b → ⊥) → CallTells states l q a → Answers states l q a
 tells_stop states l q (answer.Base b) other is = absurd (other b refl)
 tells_stop states l q (answer.Unseen p) other is = is
 tells_stop states l q (answer.Open p) other is = is
 
--- the element that a loop has for a place behind the end
+-- the default element, for places after the end
 abbrev pub no_call : Call
 no_call = record { place = 0; caller = owner.Main; height = 0; target = 0 }

@@ -1,4 +1,4 @@
--- Written addresses that are plain touch no byte of the stack below LB; and how many bytes the rows read and write.
+-- Written addresses that are plain touch no byte of the stack below LB; and the number of bytes that rows read and write.
 use Rattle.std.proofs.Common.{◌≡◌, ◌⊎◌, ℕ, zero, suc, ◌+◌, ◌-◌, ◌≤◌, ◌<◌, ℤ, pos, negsuc, Bool, true, false, cond, List, [], ◌∷◌, take, drop, length, Option, Some, None, refl, inl, inr, arith}
 use Rattle.std.specs.Prelude.{◌==◌, ◌&&◌, not, nat_lt, nat_le, is_none}
 use Rattle.std.proofs.lemmas.Bool.{and_parts, leb-true, ltb-true, eqb-true}
@@ -116,7 +116,7 @@ laid_longer l (p ∷ ps) =
     let rest : length (splice l p.0 p.1) ≤ length (laid_pieces (splice l p.0 p.1) ps) = laid_longer (splice l p.0 p.1) ps in
     omega arith
 
--- n bytes are in the segment where they lie
+-- n bytes from a place on lie within its segment
 InPlace : Frame → ℕ → Option Place → Type 0
 InPlace f n None = Unit {0}
 InPlace f n (Some (Static i)) = i + n ≤ length f.fixed
@@ -153,12 +153,12 @@ whole_in false f h public n (Some (Static i)) is r whole fits there = taken n i 
 whole_in false f h public n (Some (Dynamic i)) is r whole fits there = taken n i f.dyn (omega (arith, fits, r.dyn, r.high))
 whole_in false f h public n (Some (Public i)) is r whole fits there = taken n i public (omega (arith, fits))
 
--- as many bytes are read as are asked for, where they are not outside
+-- the number of bytes that are read is the one that is asked for, if none is outside
 pub at_whole : (f : Frame) (h : ℕ) (public : List ℕ) (a n : ℕ) → IsRoomy f h → public_end - public_base ≤ length public → is_outside f a n ≡ false → length (bytes_at f public a n) ≡ n
 unfolding bytes_at
 at_whole f h public a n r whole there = whole_in (n == 0) f h public n (where_is f a n) refl r whole (in_place f a n) there
 
--- the same of an operand
+-- the number of bytes of an operand that are read is the one that is asked for
 pub operand_whole : (f : Frame) (h : ℕ) (public : List ℕ) (o : Option ℕ) (n : ℕ) → IsRoomy f h → public_end - public_base ≤ length public → no_access f o n ≡ false → length (bytes_at f public (address_or_zero o) n) ≡ n
 operand_whole f h public None n r whole there = absurd (cc there)
 operand_whole f h public (Some a) n r whole there = at_whole f h public a n r whole there

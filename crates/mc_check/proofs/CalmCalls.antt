@@ -1,4 +1,4 @@
--- Calls of accepted code: the frame goes on at the routine, with the call among its open ones, or behind a call that is not taken.
+-- Calls of accepted code: the frame goes on at the routine, with the call among its open ones, or after a call that is not taken.
 use Rattle.std.proofs.Common.{◌≡◌, ℕ, ◌+◌, ◌-◌, ◌≤◌, Bool, true, false, cond, List, ◌++◌, length, take, drop, Option, Some, None, refl, sym, ap, subst, ◌∙◌, inl, inr, arith}
 use Rattle.std.specs.Prelude.{◌⊎◌, ◌==◌, not}
 use Rattle.std.proofs.lemmas.Bool.{false_from_ne_true, eqb-true}
@@ -39,7 +39,7 @@ row_done i f public x d e = judged_done (first_cause (causes i f public x)) (eff
 
 -- ---- what a call leaves
 
--- the frame has entered the routine, or it goes on behind a call under a condition
+-- the frame has entered the routine, or it goes on after a call under a condition
 pub record CallEnd (i : Ins) (q : ℕ) (f : Frame) (d : Done) : Type 0 where
   pub frame : (d.effect.frame ≡ frame_after_entry f q) ⊎ ((d.effect.frame ≡ f) × (is_conditional i ≡ true))
   pub next : d.next ≡ Goes
@@ -117,7 +117,7 @@ module _ (code : List ℕ) (session most : ℕ) (accepts : Accepts code session 
           reached = routine_reached;
         }
 
-    -- the frame behind a call that is not taken
+    -- the frame after a call that is not taken
     pub passed_at : is_conditional i ≡ true → IsAtFact code session r b h (frame_at f next)
     passed_at conditional =
         let s = here.stands in

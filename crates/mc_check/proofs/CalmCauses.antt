@@ -1,4 +1,4 @@
--- The causes of a row that stands on accepted code: none of the abends 01, 02, 04 and 05 is the first that holds.
+-- The causes of a row of accepted code: none of the abends 01, 02, 04 and 05 is the first that holds.
 use Rattle.std.proofs.Common.{◌≡◌, ℕ, ◌+◌, ◌-◌, ◌*◌, ◌≤◌, ℤ, Bool, true, false, cond, List, [], ◌∷◌, Option, Some, None, refl, sym, ap, subst, ◌∙◌, arith, le-ltb}
 use Rattle.std.specs.Prelude.{◌==◌, ◌&&◌, ◌||◌, not, nat_lt, slice_index}
 use Rattle.std.proofs.lemmas.Bool.{and_parts, and_left, and_right, not_from_true}
@@ -49,7 +49,7 @@ first_calm (p ∷ cs) c calm e = first_of_two p.0 c p.1 (first_cause cs) calm.0 
 under : (f : Frame) (h n : ℕ) → IsRoomy f h → n ≤ h → is_under f n ≡ false
 under f h n r few = le-ltb f.dt (floor f + n) (omega (arith, r.low, r.top))
 
--- the same where the operand lies on the stack alone
+-- there are n bytes on the stack, for an operand that may be on the stack
 under_on : (b : Bool) (f : Frame) (h n : ℕ) → IsRoomy f h → cond b n 0 ≤ h → (b && is_under f n) ≡ false
 under_on true f h n r few = under f h n r few
 under_on false f h n r few = refl
@@ -126,7 +126,7 @@ prim_calm (Some p) args f h public x r few room = (tt, (tt, later_calm p args f 
 
 -- ---- all rows
 
--- what is known where an instruction runs: its bytes are there, its places are in the code, and there is room behind it
+-- the conditions under which an instruction runs: its bytes are there, its places are in the code, and there is room after it
 pub record IsReadyToRun (len : ℕ) (i : Ins) (f : Frame) (h : ℕ) : Type 0 where
   pub roomy : IsRoomy f h
   pub code_len : f.code_len ≡ len
@@ -241,7 +241,7 @@ always_first _ f public x h = absurd (cc h)
 
 -- ---- rows
 
--- a frame with its code address behind the instruction stands as before
+-- a frame keeps its stack as its code address moves after the instruction
 pub stepped_stands : (len size base h : ℕ) (f : Frame) (next : ℕ) → StandsAt len size base h f → StandsAt len size base h (frame_at f next)
 stepped_stands len size base h f next s =
     record { session = s.session; code_len = s.code_len; dyn = s.dyn; fixed = s.fixed; lb = s.lb; dt = s.dt; room = s.room }

@@ -1,4 +1,5 @@
--- A turn of a chain whose frames of accepted code stand at facts: it ends with no excluded abend, and the chain that follows is such a chain.
+-- A turn of a chain whose frames of accepted code are at facts: it ends with no excluded abend, and the chain that follows is such a
+-- chain.
 use Rattle.std.proofs.Common.{◌≡◌, ℕ, ◌-◌, ◌≤◌, ◌<◌, Bool, true, false, cond, List, [], ◌∷◌, length, Option, Some, None, Result, Ok, Err, refl, sym, ap, subst, ◌∙◌, arith}
 use Rattle.std.specs.Prelude.{unwrap_or, bytes_eq, ◌||◌, nat_lt, nat_le}
 use Rattle.std.specs.List.{AllByRecursion}
@@ -31,14 +32,14 @@ use Rattle.mc_model_device.proofs.MapLemmas.{same_name, lookup_inserted_lem, loo
 
 -- ---- applications with the code
 
--- the application of a name has this code and so many session bytes
+-- the application of a name has the given code and number of session bytes
 pub record HasCode (bytes : List ℕ) (size : ℕ) (map : List (List ℕ × App)) (name : List ℕ) : Type 0 where
   pub app : App
   pub there : lookup map name ≡ Some app
   pub code : app.code ≡ bytes
   pub session : app.session ≡ size
 
--- a change of static bytes brings none
+-- an application with the code after a change of static bytes had it before
 inserted_back : (code : List ℕ) (session : ℕ) (map : List (List ℕ × App)) (n : List ℕ) (ps : List (ℕ × List ℕ)) (old : App) (m : List ℕ) (b : Bool) → lookup map n ≡ Some old → bytes_eq n m ≡ b
     → HasCode code session (insert map n (with_pieces ps old)) m → HasCode code session map m
 inserted_back code session map n ps old m false there other has =
@@ -82,9 +83,9 @@ fixed_low map f limited s =
     let low = limited_by map f.name (lookup map f.name) limited refl in
     omega (arith, long, low)
 
--- ---- chains that are held
+-- ---- chains whose frames of the code are at facts
 
--- a frame, if it runs the code, stands at a fact
+-- a frame, if it runs the code, is at a fact
 abbrev pub StandsIfRunning : List ℕ → ℕ → List (List ℕ × App) → Frame → Type 0
 StandsIfRunning code session map f = HasCode code session map f.name → IsStanding code session f
 
@@ -92,7 +93,7 @@ StandsIfRunning code session map f = HasCode code session map f.name → IsStand
 abbrev pub IsWholePublic : List ℕ → Type 0
 IsWholePublic public = public_end - public_base ≤ length public
 
--- each frame of a chain does, its applications keep to the limit, and its public segment is whole
+-- each frame of a chain is at a fact, if it runs the code; its applications keep to the limit, and its public segment is whole
 pub record IsHeldChain (code : List ℕ) (session : ℕ) (ch : Chain) : Type 0 where
   pub limited : AreLimited ch.map
   pub whole : IsWholePublic ch.public
@@ -103,7 +104,7 @@ held_still : (code : List ℕ) (session : ℕ) (map : List (List ℕ × App)) (n
 held_still code session map n changes [] all = tt
 held_still code session map n changes (f ∷ fs) all = (λ has. all.0 (code_back code session map n changes f.name has), held_still code session map n changes fs all.1)
 
--- what a frame that does not exit keeps under a premise
+-- a property of a frame that does not exit, under a premise
 going_under : (t : Then) (P Q : Type 0) → (P → OnGoing t Q) → OnGoing t (P → Q)
 going_under Goes P Q h = h
 going_under Exits P Q h = tt
@@ -156,7 +157,7 @@ module _ (code : List ℕ) (session most : ℕ) (accepts : Accepts code session 
   called_held ch n None there held = record { limited = held.limited; whole = whole_still ch.public 0x6A82 held.whole; frame = held.frame; below = held.below }
   called_held ch n (Some a) there held = entered_held (is_active n ch.frame ch.below || nat_le 4 (depth_of ch)) ch n a there held
 
-  -- the end of a chain holds nothing
+  -- of the end of a chain nothing is claimed
   ends_both : (b : Bool) (o p : Outcome) → OnFollows (cond b (Ends o) (Ends p)) (IsHeldChain code session)
   ends_both true o p = tt
   ends_both false o p = tt
@@ -207,7 +208,7 @@ end_grows : (facts : RowsAreCalm) (i : Ins) (f : Frame) (public : List ℕ) (x :
 end_grows facts i f public x (Abends cause) is = tt
 end_grows facts i f public x (Does d) is = facts.grows i f public x d is
 
--- what a row leaves of the chain's applications and frame
+-- the chain's applications and its frame after a row
 fixed_stays : (ch : Chain) (next : ℕ) (r : RowEnd) → AreLimited ch.map → IsSoundChain ch → RowKeeps (frame_at ch.frame next) r → FixedStays r
 fixed_stays ch next (Abends cause) limited sound keeps = tt
 fixed_stays ch next (Does d) limited sound keeps = subst (λ (n : ℕ). n ≤ dynamic_base) (sym (keeps.fixed sound.0.pieces)) (fixed_low ch.map ch.frame limited sound.0)
@@ -235,7 +236,7 @@ module _ (code : List ℕ) (session most : ℕ) (accepts : Accepts code session 
       (held_still code session ch.map ch.frame.name d.effect.changes ch.below held.below)
 
   module _ (short : length code ≤ most_code) (bytes : AllByRecursion (λ b. b < 256) code) (facts : RowsAreCalm) where
-    -- the code that a frame fetches from, where it runs this code
+    -- the code that a frame fetches from, if it runs this code
     fetches : (ch : Chain) (r : Result (Ins × ℕ) DecodeFault) → HasCode code session ch.map ch.frame.name → instruction_at (code_in (lookup ch.map ch.frame.name)) ch.frame.at ≡ r → instruction_at code ch.frame.at ≡ r
     fetches ch r has is =
         let same : code_in (lookup ch.map ch.frame.name) ≡ code = ap code_in has.there ∙ has.code in

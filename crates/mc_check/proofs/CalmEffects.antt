@@ -1,4 +1,4 @@
--- What each row that stands on accepted code leaves of its frame: where DT and the code address are then, and the open calls.
+-- What each row of accepted code leaves of its frame: DT, the code address and the open calls after it.
 use Rattle.std.proofs.Common.{◌≡◌, ℕ, ◌+◌, ◌-◌, ◌*◌, ◌≤◌, ℤ, Bool, true, false, cond, List, [], ◌∷◌, length, Option, Some, None, arith}
 use Rattle.std.specs.Prelude.{◌==◌, slice_index, take, drop}
 use Rattle.std.proofs.lemmas.Bool.{or_parts}
@@ -34,13 +34,13 @@ manipulated_short false true c v mask n few = each_short _ v _ n few
 manipulated_short false false true v mask n few = each_short _ v _ n few
 manipulated_short false false false v mask n few = few
 
--- where the code address is after a row that is no call and no return
+-- the code address after a row that is no call and no return
 abbrev pub place_after : Ins → Frame → ℕ
 place_after (ins.Branch k d) f = cond (holds k f) (address_or_zero (moved_address f.at d)) f.at
 place_after (ins.Jump k to) f = cond (holds k f) to f.at
 place_after _ f = f.at
 
--- what is known where a row is done that is no call and no return
+-- the conditions under which a row is done that is no call and no return
 pub record RunsPlainRow (h : ℕ) (i : Ins) (f : Frame) (public : List ℕ) (x : Around) : Type 0 where
   pub shaped : Shaped i
   pub few : (row_uses i).needs ≤ h
@@ -51,7 +51,7 @@ pub record RunsPlainRow (h : ℕ) (i : Ins) (f : Frame) (public : List ℕ) (x :
   pub whole : public_end - public_base ≤ length public
   pub no_cause : first_cause (causes i f public x) ≡ None
 
--- a call is no row of these
+-- a call whose address is not on the stack has a target, so it is no plain row
 pub no_call : (b : Bool) (to : ℕ) → b ≡ false → cond b None (Some to) ≡ None → ⊥
 no_call true to direct none = cc direct
 no_call false to direct none = cc none
@@ -82,7 +82,7 @@ module _ (len size base h : ℕ) (f : Frame) (public : List ℕ) (s : StandsAt l
   higher : (k : ℕ) (b : List ℕ) (safe : Type 0) → k ≡ h + length b → f.dt + length b ≤ dynamic_end → KeepsCalls f k f.at safe (frame_effect (frame_after_push f b) public)
   higher k b safe is room = pushed_kept f h k b safe public roomy is room
 
-  -- so many bytes taken, and some pushed
+  -- n bytes taken, and some pushed
   longer : (n k : ℕ) (b : List ℕ) (safe : Type 0) → n ≤ h → k ≡ h - n + length b → f.dt - n + length b ≤ dynamic_end → KeepsCalls f k f.at safe (frame_effect (frame_after_push (frame_after_pop f n) b) public)
   longer n k b safe few is room = pushed_kept (frame_after_pop f n) (h - n) k b safe public (popped_roomy f h n roomy few) is room
 
@@ -96,7 +96,7 @@ module _ (len size base h : ℕ) (f : Frame) (public : List ℕ) (s : StandsAt l
       written_kept f h k (IsSafe size base h (WritesAt tag off n)) public (place_of f tag off depth) b roomy is
       (operand_safe len size base h f tag off n depth (length b) s shaped (on_top (tag == 0) depth other h few) short)
 
-  -- the same with flags
+  -- a write at an operand, with flags
   becomes_kept : (tag : ℕ) (off : ℤ) (n depth other k : ℕ) (b : List ℕ) (c z : Bool) → IsAddress tag off → on_stack tag depth other ≤ h → length b ≤ n → k ≡ h
       → KeepsCalls f k f.at (IsSafe size base h (WritesAt tag off n)) (effect_flagged (write_effect f public (place_of f tag off depth) b) c z)
   becomes_kept tag off n depth other k b c z shaped few short is =
@@ -109,7 +109,7 @@ module _ (len size base h : ℕ) (f : Frame) (public : List ℕ) (s : StandsAt l
       written_kept (frame_after_pop f n) (h - n) k (IsSafe size base h (WritesAt tag off n)) public (place_of f tag off (2 * n)) (top f n) (popped_roomy f h n roomy taken) is
       (operand_safe len size base h f tag off n (2 * n) (length (top f n)) s shaped (on_top (tag == 0) (2 * n) n h few) (stacked_short f n n))
 
-  -- a write anywhere, so many bytes taken
+  -- a write anywhere, with n bytes taken
   anywhere : (n k a : ℕ) (b : List ℕ) → n ≤ h → k ≡ h - n → KeepsCalls f k f.at (IsSafe size base h WritesAnywhere) (write_effect (frame_after_pop f n) public a b)
   anywhere n k a b few is =
       written_kept (frame_after_pop f n) (h - n) k (IsSafe size base h WritesAnywhere) public a b (popped_roomy f h n roomy few) is (anywhere_safe len size base h f a (length b) s)
@@ -160,12 +160,12 @@ module _ (len size base h : ℕ) (f : Frame) (public : List ℕ) (s : StandsAt l
 
   -- ---- jumps
 
-  -- on to a place where the condition holds
+  -- a jump to a place, if the condition holds
   jumped : (b : Bool) (k to : ℕ) (safe : Type 0) → k ≡ h → KeepsCalls f k (cond b to f.at) safe (frame_effect (frame_after_jump b f to) public)
   jumped true k to safe is = gone_kept f h k to safe public roomy is
   jumped false k to safe is = gone_kept f h k f.at safe public roomy is
 
-  -- the same where the place may be on the stack, and is not
+  -- a jump whose place may be on the stack, and is not
   direct_kept : (on b : Bool) (k n to : ℕ) (safe : Type 0) → on ≡ false → k ≡ h → KeepsCalls f k (cond b to f.at) safe (frame_effect (frame_after_jump b (cond on (frame_after_pop f 2) f) (cond on n to)) public)
   direct_kept true b k n to safe direct is = absurd (cc direct)
   direct_kept false b k n to safe direct is = jumped b k to safe is

@@ -11,7 +11,7 @@ use Rattle.mc_model_machine.specs.Primitives.{Around, Primitive, Lookup, MemoryC
 use Rattle.mc_model_machine.specs.Row.{effect}
 use Rattle.mc_model_device.proofs.ListLemmas.{splice_longer}
 
--- the public segment of an effect is no shorter than this one
+-- the public segment of an effect is no shorter than the given one
 abbrev PublicGrows : List ℕ → Effect → Type 0
 PublicGrows public e = length public ≤ length e.public
 

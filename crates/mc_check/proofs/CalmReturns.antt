@@ -1,4 +1,4 @@
--- Returns of accepted code: none abends, and the frame goes on behind the call that was open last, with the LB of its routine.
+-- Returns of accepted code: none abends, and the frame goes on after the call that was open last, with the LB of its routine.
 use Rattle.std.proofs.Common.{◌≡◌, ℕ, ◌+◌, ◌-◌, ◌≤◌, ◌<◌, Bool, true, false, List, length, take, drop, Option, Some, None, refl, sym, ap, subst, ◌∙◌, inl, inr, arith}
 use Rattle.std.specs.Prelude.{◌&&◌, ◌||◌, not, nat_lt, nat_le, is_some}
 use Rattle.std.proofs.lemmas.Bool.{and_parts, and_from, ltb-true, lt-ltb, le-leb, cases_lt, not_from_true}
@@ -23,7 +23,7 @@ use Rattle.mc_model_device.specs.Limits.{most_code}
 
 -- ---- the rows of returns
 
--- a return of these counts
+-- a return with the given counts
 pub record IsReturn (i : Ins) (c : ℕ × ℕ) : Type 0 where
   pub causes : (f : Frame) (public : List ℕ) (x : Around) → causes i f public x ≡ return_causes f c.0 c.1
   pub effect : (f : Frame) (public : List ℕ) (x : Around) → effect i f public x ≡ effect_and_next (frame_effect (come_back f c.0 c.1) public)
@@ -40,9 +40,9 @@ returning (ins.Reto n) c e = of_counts (ins.Reto n) (0, n) c (record { causes = 
 returning (ins.Retio n m) c e = of_counts (ins.Retio n m) (n, m) c (record { causes = λ f public x. refl; effect = λ f public x. refl; need = refl }) e
 returning i c e = absurd (cc e)
 
--- ---- the place behind a call
+-- ---- the place after a call
 
--- it lies in the code
+-- the place after a call lies in the code
 pub behind_call : (len : ℕ) (j : Ins) (q after : ℕ) → call_target j ≡ Some q → places_inside len j after ≡ true → after < len
 behind_call len j q after target inside =
     let first : ((not (goes_on j) || nat_lt after len) && target_inside len (jump_target j after)) ≡ true = (and_parts _ (call_inside len (call_target j)) inside).0 in
@@ -54,7 +54,7 @@ behind_call len j q after target inside =
 no_cause : (f : Frame) (less more : ℕ) → no_return f less more ≡ false → no_place f (Some (saved_address f 2)) ≡ false → first_cause (return_causes f less more) ≡ None
 no_cause f less more p q = rw (p, q) refl
 
--- the word that a call pushed k bytes above its LB, read back so far below the new one
+-- the word that a call pushed k bytes above its LB, read back `below` bytes below the new LB
 read_back : (f : Frame) (session k below n : ℕ) → f.lb - below - dynamic_base ≡ session + k → take 2 (drop k (drop session f.dyn)) ≡ bytes2 n → n < 65536 → saved_address f below ≡ n
 read_back f session k below n place word small =
     ap (λ (m : ℕ). num (take 2 (drop m f.dyn))) place ∙ ap (λ (l : List ℕ). num (take 2 l)) (sym (drop-drop k session f.dyn)) ∙ ap (λ (l : List ℕ). num l) word ∙ num_bytes2 n small

@@ -20,7 +20,7 @@ use Rattle.mc_check.proofs.CalmTurns.{low_at}
 use Rattle.mc_check.proofs.CalmChains.{StandsIfRunning, IsHeldChain, new_held, acted_held, acted_calm}
 use Rattle.mc_model_device.specs.Limits.{most_code}
 
--- what holds of each sound and held chain holds of the one that follows
+-- what holds of each sound chain whose frames are at facts holds of the one that follows
 on_follows : (code : List ℕ) (session : ℕ) (ch : Chain) (apps : List (List ℕ × App)) (f : Follows) (holds : Chain → Type 0) → FollowsSound ch apps f → OnFollows f (IsHeldChain code session)
     → ((next : Chain) → IsSoundChain next → IsHeldChain code session next → holds next) → OnFollows f holds
 on_follows code session ch apps (Ends o) holds sound held all = tt
@@ -41,7 +41,7 @@ module _ (facts : RowsAreCalm) (code : List ℕ) (bytes : AllByRecursion (λ b. 
         on_follows code session ch _ (turn_of_chain ch).follows (λ c. RunsCalmly code session most n c) follows (acted_held code session most accepts bases short bytes facts ch sound held) (λ next s h. runs_calmly n next s h),
       )
 
-  -- the first frame of a chain, by what stands under its name
+  -- the first frame of a chain, by the application of its name
   first_held : (map : List (List ℕ × App)) (first body : List ℕ) (apdu : ApduParts) (o : Option App) → lookup map first ≡ o → length body ≡ session_in o → AreLimited map → StandsIfRunning code session map (start_app map first body apdu (unwrap_or o no_app)).frame
   first_held map first body apdu None is size limited = λ has. let found : None ≡ Some has.app = sym is ∙ has.there in absurd (cc found)
   first_held map first body apdu (Some a) is size limited = new_held code session most accepts bases map first a body is size limited

@@ -26,13 +26,13 @@ use Rattle.mc_check.proofs.FactLooks.{fine}
 use Rattle.mc_check.proofs.CalmReturns.{returning, Back, comes_back}
 use Rattle.mc_model_device.specs.Limits.{most_code}
 
--- what holds of a frame that does not exit
+-- a property of a frame, if it does not exit
 abbrev pub OnGoing : Then → Type 0 → Type 0
 OnGoing Goes holds = holds
 OnGoing Exits holds = Unit {0}
 OnGoing (Delegates n) holds = holds
 
--- DT of a frame lies at most so far above its floor
+-- DT of a frame is at most `most` bytes above its floor
 abbrev pub IsLow : ℕ → ℕ → Frame → Type 0
 IsLow session most f = f.dt ≤ dynamic_base + session + most
 
@@ -65,7 +65,7 @@ going_calm code session (Delegates n) f s = s
 module _ (code : List ℕ) (session most : ℕ) (accepts : Accepts code session most) (bases : HasBases code) where
   -- ---- writes
 
-  -- a write that is not plain stands only in code without a call
+  -- a write that is not plain is only in code without a call
   plain_or_bottom : {bytes : List ℕ} {r : Routine} {b : ℕ} (at h : ℕ) (i : Ins) (next : ℕ) → OpenCalls code session bytes r b → Reached code (fact r at h) → instruction_at code at ≡ Ok (i, next) → (is_plain session h (writing i) ≡ true) ⊎ (b ≡ 0)
   plain_or_bottom at h i next none reached is = inr refl
   plain_or_bottom at h i next (call {r = r} {p = p} {h = k} {q = q} j after opened caller gives target lb_word at_word) reached is =
@@ -194,7 +194,7 @@ module _ (code : List ℕ) (session most : ℕ) (accepts : Accepts code session 
             let stays : RowStays (length code) session b h i next f d = facts.stays (length code) session b h i next f public x d shaped here.stands good.needs good.direct e target room_after whole done in
             moved_calm public x d target done stays low_fixed d.next refl
 
-        -- whatever the row's end
+        -- the row is calm, whatever its end
         end_calm : (end : RowEnd) → row i (frame_at f next) public x ≡ end → FixedStays end → RowCalm code session most end
         end_calm (Abends cause) is low_fixed = abends_calm (counts i) cause refl is
         end_calm (Does d) is low_fixed = done_calm (counts i) (call_target i) d refl refl is low_fixed

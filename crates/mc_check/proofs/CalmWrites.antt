@@ -1,4 +1,4 @@
--- What a change of a frame leaves as it was: its name, its sizes, LB, and the bytes of the stack below LB, where no byte of them is written.
+-- What a change of a frame leaves as it was: its name, its sizes, LB, and the bytes of the stack below LB, if no byte of them is written.
 use Rattle.std.proofs.Common.{◌≡◌, ℕ, ◌+◌, ◌-◌, ◌≤◌, Bool, true, false, cond, List, [], ◌++◌, take, drop, length, Option, Some, None, refl, sym, ap, subst, ◌∙◌, arith, drop_at, drop-drop, take-take}
 use Rattle.std.specs.Prelude.{◌==◌, ◌&&◌, ◌||◌, nat_le}
 use Rattle.std.proofs.lemmas.Bool.{and_parts, leb-true}
@@ -20,12 +20,12 @@ front_splice l n at b before inside =
     ∙ take-append-le n (take at l) b (omega arith)
     ∙ take-take n at l before
 
--- the middle of a list, written behind it
+-- the middle of a list, if the write is after it
 middle_splice : (l : List ℕ) (from n at : ℕ) (b : List ℕ) → from + n ≤ at → at ≤ length l → take n (drop from (splice l at b)) ≡ take n (drop from l)
 middle_splice l from n at b before inside =
     sym (drop-take from n (splice l at b)) ∙ ap (drop from) (front_splice l (from + n) at b before inside) ∙ drop-take from n l
 
--- the rest of a list, written before it
+-- the rest of a list, if the write is before it
 rest_splice : (l : List ℕ) (from at : ℕ) (b : List ℕ) → at + length b ≤ from → at ≤ length l → drop from (splice l at b) ≡ drop from l
 rest_splice l from at b behind inside =
     let past = at + length b in
@@ -39,7 +39,7 @@ rest_splice l from at b behind inside =
 
 -- ---- frames
 
--- a frame whose stack is whole: LB not below the floor, DT that much above LB and not above the end
+-- a frame whose stack is whole: LB not below the floor, DT `height` bytes above LB and not above the end
 pub record IsRoomy (f : Frame) (height : ℕ) : Type 0 where
   pub dyn : length f.dyn ≡ 512
   pub low : floor f ≤ f.lb
@@ -61,8 +61,8 @@ popped_roomy f h n r few =
     let high : f.dt ≤ dynamic_end = r.high in
     record { dyn = r.dyn; low = r.low; top = omega arith; high = omega arith }
 
--- What an effect leaves of a frame with these parts: DT lies that much above LB then, the code goes on there, and the calls are the same
--- where the write is safe.
+-- What an effect leaves of a frame with these parts: DT is `height` bytes above LB then, the code goes on at `place`, and the calls are
+-- unchanged if the write is safe.
 pub record KeptParts (known : List ℕ) (size len base : ℕ) (opened : List ℕ) (height place : ℕ) (safe : Type 0) (e : Effect) : Type 0 where
   pub name : e.frame.name ≡ known
   pub session : e.frame.session ≡ size
@@ -84,7 +84,7 @@ framed_kept f h k safe public c z r is =
     let top : f.dt ≡ f.lb + h = r.top in
     record { name = refl; session = refl; code_len = refl; lb = refl; dyn = r.dyn; dt = omega arith; at = refl; calls = λ p. refl }
 
--- the same with the top bytes taken off
+-- a frame whose flags or whose public segment changed, with the top bytes taken off
 pub popped_kept : (f : Frame) (h n k : ℕ) (safe : Type 0) (public : List ℕ) (c z : Bool) → IsRoomy f h → n ≤ h → k ≡ h - n → KeepsCalls f k f.at safe (frame_effect (frame_with_flags (frame_after_pop f n) c z) public)
 popped_kept f h n k safe public c z r few is = framed_kept (frame_after_pop f n) (h - n) k safe public c z (popped_roomy f h n r few) is
 
@@ -100,7 +100,7 @@ flagged_kept f k place safe e c z s = record { name = s.name; session = s.sessio
 
 -- ---- written bytes
 
--- Bytes at a dynamic address that are none of those from the floor up to LB: session bytes, bytes from LB on, or any where LB is the floor.
+-- Bytes at a dynamic address that are none of those from the floor up to LB: session bytes, bytes from LB on, or any if LB is the floor.
 pub data MissesCalls (low base a n : ℕ) : Type 0 where
   session : a + n ≤ low → MissesCalls low base a n
   stack : base ≤ a → MissesCalls low base a n
@@ -147,7 +147,7 @@ topped_kept f h k b safe public c z r few is =
     let e : Effect = frame_effect (frame_with_top f b) public in
     flagged_kept f k f.at safe e c z (spliced_kept f h k f.dt (f.dt - length b) b safe public r (omega arith) (omega arith) (omega arith) (λ p. stack (omega arith)))
 
--- where bytes lie that lie in the dynamic segment
+-- the place of bytes that lie in the dynamic segment
 dynamic_fits : (s d p : Bool) (a n i j k dt : ℕ) → d ≡ (nat_le dynamic_base a && nat_le (a + n) dt)
     → cond s (Some (Static j)) (cond d (Some (Dynamic (a - dynamic_base))) (cond p (Some (Public k)) None)) ≡ Some (Dynamic i) → (dynamic_base ≤ a) × (a + n ≤ dt) × (i ≡ a - dynamic_base)
 dynamic_fits true d p a n i j k dt test e = absurd (cc e)
@@ -165,7 +165,7 @@ static_kept false f h k safe public i bytes r is =
     let top : f.dt ≡ f.lb + h = r.top in
     record { name = refl; session = refl; code_len = refl; lb = refl; dyn = r.dyn; dt = omega arith; at = refl; calls = λ p. refl }
 
--- what makes a write at an address safe: where it is in the dynamic segment, it touches no call
+-- under a condition, a write at an address is safe: if the address is in the dynamic segment, the write touches no call
 abbrev pub IsSafeAt : Frame → ℕ → ℕ → Type 0 → Type 0
 IsSafeAt f a n safe = dynamic_base ≤ a → a + n ≤ dynamic_end → safe → MissesCalls (floor f) f.lb a n
 

@@ -1,4 +1,4 @@
--- What accepted code keeps to wherever a run begins well, it keeps to in every turn of a play.
+-- The property that accepted code has in every run that begins well, in every turn of a play.
 use Rattle.std.proofs.Common.{ℕ, zero, suc, Bool, true, false, List, [], ◌∷◌, Option, Some, None}
 use Rattle.std.specs.Prelude.{drop}
 use Rattle.std.specs.List.{AllByRecursion}
@@ -21,7 +21,7 @@ use Rattle.mc_check.specs.Turns.{turns_on, turns_from, turns_passed, turns_route
 use Rattle.mc_check.proofs.TurnsTold.{line_tells}
 
 module _ (code : List ℕ) (session deepest : ℕ) where
-  -- what is said of a turn with its chain
+  -- the property of a turn with its chain
   abbrev Calm : Chain × Turn → Type 0
   Calm p = RunsCode code session p.0 → IsCalm session deepest p.1
 

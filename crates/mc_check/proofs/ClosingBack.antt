@@ -1,4 +1,4 @@
--- Going back behind CALLs: what one CALL, and all CALLs of a routine in the table, leave in the tables.
+-- Facts after CALLs: what one CALL, and all CALLs of a routine in the table, leave in the tables.
 use Rattle.std.proofs.Common.{◌≡◌, ◌⊎◌, ◌<◌, ◌≤◌, ◌+◌, ℕ, List, length, slice_get, Option, Some, Result, OnOk, Ok, Err, sym, ap, ap₂, ◌∙◌, subst, inl, inr, arith}
 use Rattle.std.proofs.lemmas.Bool.{cases_eq}
 use Rattle.std.proofs.lemmas.Option.{slice_get_within}
@@ -55,7 +55,7 @@ module _ (code : List ℕ) (t t' : List (Option Entry)) (place routine : ℕ) (c
       let next_same : found.seen.next ≡ next = cc both in
       subst (λ (n : ℕ). ComesBack t' f n c.less c.more) next_same (subst (λ (g : Fact). ComesBack t' g found.seen.next c.less c.more) same comes)
 
-  -- no CALL of the routine stands there
+  -- the instruction at the place is no CALL of the routine
   pub back_not : (call_target found.seen.ins ≡ Some routine → ⊥) → (f : Fact) → IsIn t f → f.place ≡ place → ComesBackFrom code t' routine c f
   back_not other f m at_f i next stands call =
       let both : Stands found.seen.ins found.seen.next ≡ Stands i next = sym there.stands ∙ ap (λ (g : Fact). look code g) (found_is f m at_f) ∙ stands in

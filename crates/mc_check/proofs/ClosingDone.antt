@@ -57,7 +57,7 @@ module _ (code : List ℕ) (found : Found) (a : Tables) (state : ClosedOrWaiting
       open_followed code found.place a a (found_fact found) state (adds_none a) state.fit here refl
       (closed_high code a.table a.counts (found_fact found) found.seen.ins found.seen.next there.stands high stays (λ q c known. (state.fit.real q c known).less))
 
-  -- a return whose routine has these counts already
+  -- a return whose routine has the same counts already
   pub return_known : (q : ℕ) (c : Pair) → (found_fact found).routine ≡ At q → counts found.seen.ins ≡ Some (c.less, c.more) → slice_get a.counts q ≡ Some (Some c) → ClosedOrWaiting code a.work a
   return_known q c at e known =
       open_followed code found.place a a (found_fact found) state (adds_none a) state.fit here refl
@@ -70,7 +70,7 @@ module _ (code : List ℕ) (found : Found) (a : Tables) (state : ClosedOrWaiting
   pub known_counts : (q : ℕ) (c : Pair) → (found_fact found).routine ≡ At q → slice_get a.counts q ≡ Some (Some c) → ReturnsWith code (found_fact found).routine c.less c.more
   known_counts q c at known = subst (λ (r : Routine). ReturnsWith code r c.less c.more) (sym at) (state.fit.real q c known).counts
 
--- no return of main is good
+-- a return of main breaks a rule
 pub main_returns_not : (code : List ℕ) (found : Found) (c : ℕ × ℕ) → (found_fact found).routine ≡ Main → IsFound code found → counts found.seen.ins ≡ Some c → ⊥
 main_returns_not code found c main there e =
     let stays = (fine code (found_fact found) found.seen.ins found.seen.next there.stands).stays in

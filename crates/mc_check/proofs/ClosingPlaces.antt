@@ -1,4 +1,4 @@
--- Where an instruction goes: its places are in the code, and a CALL, a return and the rest are apart.
+-- The places that an instruction goes to: they are in the code, and a CALL, a return and the rest are apart.
 use Rattle.std.proofs.Common.{◌≡◌, ◌<◌, ℕ, Bool, true, false, not, ◌&&◌, ◌||◌, nat_lt, List, length, Option, Some, None, option_and_then, refl, ap, subst, ltb-true, arith}
 use Rattle.std.proofs.lemmas.Bool.{and_parts}
 use Rattle.mc_model_machine.specs.declared.instruction.Ins.{Ins}

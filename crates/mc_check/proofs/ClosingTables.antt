@@ -166,7 +166,7 @@ some_same p q h = cc
 has_pair : (cs : List (Option Pair)) (q : ℕ) (c : Pair) (less more : ℕ) → slice_get cs q ≡ Some (Some c) → ◌≡◌ {A = ℕ × ℕ} (c.less, c.more) (less, more) → HasCounts cs (At q) less more
 has_pair cs q c less more there e = there ∙ ap (λ (p : ℕ × ℕ). Some (Some (pair p))) e
 
--- a return whose counts stand in the tables
+-- a return whose counts are in the tables
 pub closed_return : (code : List ℕ) (t : List (Option Entry)) (cs : List (Option Pair)) (f : Fact) (i : Ins) (next q : ℕ) (c : Pair) → f.routine ≡ At q → look code f ≡ Stands i next
     → counts i ≡ Some (c.less, c.more) → slice_get cs q ≡ Some (Some c) → IsClosed code t cs f
 closed_return code t cs f i next q c at h e there =
@@ -189,7 +189,7 @@ module _ (code : List ℕ) (s : Tables) (q : ℕ) (c : Pair) (free_there : slice
   counts_beside : (r : ℕ) → (r ≡ q → ⊥) → slice_get (counted s q c).counts r ≡ slice_get s.counts r
   counts_beside r beside = get_set_other s.counts q r (Some c) beside
 
-  -- the counts that stand there are these, or those from before
+  -- the counts of a routine are the new ones, or those from before
   counts_known : (r : ℕ) (d : Pair) → slice_get (counted s q c).counts r ≡ Some (Some d) → ((r ≡ q) × (c ≡ d)) ⊎ (slice_get s.counts r ≡ Some (Some d))
   counts_known r d h =
       elim (cases_eq r q) [
@@ -229,7 +229,7 @@ module _ (code : List ℕ) (s : Tables) (q : ℕ) (c : Pair) (free_there : slice
         counted = λ less more e. counts_before f.routine less more (followed.counted less more e);
       }
 
--- a return gives its routine the counts, and each CALL of it in the tables has been followed
+-- a return sets the counts of its routine, and each CALL of it in the tables has been followed
 pub open_counted : (code : List ℕ) (place : ℕ) (old s : Tables) (f : Fact) (i : Ins) (next q : ℕ) (c : Pair) → ClosedOrWaiting code (place ∷ old.work) old → AddsFacts old s → IsFit code s
     → slice_get old.counts q ≡ Some None → q < length code → IsReal code q c
     → ((g : Fact) → IsIn s.table g → ComesBackFrom code s.table q c g ⊎ IsAmong s.work g.place)

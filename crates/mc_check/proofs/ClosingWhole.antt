@@ -15,7 +15,7 @@ module _ (code : List ℕ) (s : Tables) (state : ClosedOrWaiting code [] s) wher
   closed_in : (f : Fact) → IsIn s.table f → IsClosed code s.table s.counts f
   closed_in f m = elim (state.closed f m) [ inl closed ↦ closed | inr waits ↦ absurd waits ]
 
-  -- what follows from a fact, by the instruction at its place
+  -- the successors of a fact are in the tables, by the instruction at its place
   followed_at : (f : Fact) (i : Ins) → IsIn s.table f → IsAt code f.place i → (next : ℕ) × (look code f ≡ Stands i next) × IsFollowed s.table s.counts f i next
   followed_at f i m at =
       let stands = stands_at code f i (state.fit.sound f m).1 at in
@@ -31,7 +31,7 @@ module _ (code : List ℕ) (s : Tables) (state : ClosedOrWaiting code [] s) wher
       let known = (followed_at (fact (At q) at t) back (all_in there) stands).2.counted less more e_back in
       ((closed_in (fact r p h) (all_in from) i next gives.stands).back q (record { less = less; more = more }) e known).back gives.height
 
-  -- the counts of a return are those that stand in the tables
+  -- the counts of a return are those in the tables
   counts_known : (f : Fact) (back : Ins) (less more : ℕ) → Reached code f → IsAt code f.place back → counts back ≡ Some (less, more) → HasCounts s.counts f.routine less more
   counts_known f back less more reached at e = (followed_at f back (all_in reached) at).2.counted less more e
 

@@ -1,4 +1,4 @@
--- What stands at a fact: why a bad one is refused, and what a good one keeps to.
+-- The look of a fact: why a bad one is refused, and what holds of a good one.
 use Rattle.std.proofs.Common.{◌≡◌, ℕ, Bool, true, false, cond, not, ◌&&◌, nat_lt, List, length, is_some, Result, Ok, Err, refl, sym, ap, ◌∙◌, subst, inl, ltb-true}
 use Rattle.std.proofs.lemmas.Bool.{not-true, not-false}
 use Rattle.mc_model_machine.specs.declared.checker.CheckCause.{CheckCause}
@@ -13,7 +13,7 @@ use Rattle.mc_check.specs.Table.{IsGoodFact}
 
 -- ---- the chain of tests
 
--- the tests, one after another, and what stands there where none of them holds
+-- the tests, one after another, and the look if none of them holds
 abbrev chain : Bool → Bool → Bool → Bool → FactLook → FactLook
 chain a b c d look = cond a (Bad Indirect) (cond b (Bad Returns) (cond c (Bad Under) (cond d (Bad Target) look)))
 
@@ -35,7 +35,7 @@ chain_stands false false false false l i next h = record { indirect = refl; retu
 bad_same : (a b : CheckCause) → Bad a ≡ Bad b → a ≡ b
 bad_same a b h = cc
 
--- the first test that holds is named
+-- a cause is that of one of the tests, which holds
 data FirstTestNamed (a b c d : Bool) : CheckCause → Type 0 where
   indirect : a ≡ true → FirstTestNamed a b c d Indirect
   returns : b ≡ true → FirstTestNamed a b c d Returns
@@ -51,7 +51,7 @@ chain_bad false false false false i next cause h = absurd (cc h)
 
 -- ---- a good fact
 
--- what the instruction of a good fact keeps to
+-- the rules that the instruction of a good fact keeps
 pub record KeepsRules (code : List ℕ) (f : Fact) (i : Ins) (next : ℕ) : Type 0 where
   pub there : instruction_at code f.place ≡ Ok (i, next)
   pub direct : is_indirect i ≡ false
@@ -79,7 +79,7 @@ is_at code f i next h = (next, (fine code f i next h).there)
 ok_same : (p q : Ins × ℕ) → ◌≡◌ {A = Result (Ins × ℕ) DecodeFault} (Ok p) (Ok q) → p ≡ q
 ok_same p q h = cc
 
--- the instruction at a good fact's place is the one that stands there
+-- the instruction at a good fact's place is that of its look
 pub stands_at : (code : List ℕ) (f : Fact) (i : Ins) → IsGoodFact code f → IsAt code f.place i → (next : ℕ) × (look code f ≡ Stands i next)
 stands_at code f i good at =
     let there = (fine code f good.0 good.1 good.2).there in

@@ -23,7 +23,7 @@ moves (ins.Reto n) h may = inr (omega arith)
 moves (ins.Retio n m) h may = inr (omega arith)
 moves i h may = inl (ap (λ (b : Bool). not b && true) may, refl)
 
--- one with a target leaves the height
+-- an instruction with a target leaves the height
 pub jump_height : (i : Ins) (next : ℕ) (t : Option ℕ) (h : ℕ) → jump_target i next ≡ Some t → height_after i h ≡ h
 jump_height (ins.Branch k d) next t h e = omega arith
 jump_height (ins.Jump k to) next t h e = omega arith

@@ -1,14 +1,14 @@
--- An element of a list by its place, after a write, behind one more element, and before the last one.
+-- An element of a list by its place, after a write, after one more element, and before the last one.
 use Rattle.std.proofs.Common.{◌≡◌, ◌≢◌, ℕ, zero, suc, ◌<◌, List, [], ◌∷◌, ◌++◌, length, set, take, Some, refl, ap, arith}
 use Rattle.std.specs.Prelude.{slice_get}
 
--- what a write leaves at its place
+-- the element at the place of a write
 pub get_set_same : {X : Type 0} (xs : List X) (i : ℕ) (x : X) → i < length xs → slice_get (set xs i x) i ≡ Some x
 get_set_same [] i x lt = absurd (omega arith)
 get_set_same (y ∷ ys) zero x lt = refl
 get_set_same (y ∷ ys) (suc i) x lt = get_set_same ys i x (omega arith)
 
--- and at any other place
+-- the element at any other place
 pub get_set_other : {X : Type 0} (xs : List X) (i j : ℕ) (x : X) → j ≢ i → slice_get (set xs i x) j ≡ slice_get xs j
 get_set_other [] i j x ne = refl
 get_set_other (y ∷ ys) zero zero x ne = absurd (ne refl)
@@ -16,7 +16,7 @@ get_set_other (y ∷ ys) zero (suc j) x ne = refl
 get_set_other (y ∷ ys) (suc i) zero x ne = refl
 get_set_other (y ∷ ys) (suc i) (suc j) x ne = get_set_other ys i j x (λ e. ne (ap suc e))
 
--- the elements before one more are the same
+-- the elements before one more do not change
 pub get_push_before : {X : Type 0} (xs : List X) (x y : X) (k : ℕ) → slice_get xs k ≡ Some y → slice_get (xs ++ x ∷ []) k ≡ Some y
 get_push_before [] x y k e = cc
 get_push_before (z ∷ zs) x y zero e = e
@@ -27,7 +27,7 @@ pub get_push_last : {X : Type 0} (xs : List X) (x : X) → slice_get (xs ++ x �
 get_push_last [] x = refl
 get_push_last (z ∷ zs) x = get_push_last zs x
 
--- an element behind one more: it stood there before, or is the new one
+-- an element of a list with one more: it was in the list before, or is the new one
 pub data Pushed {X : Type 0} (xs : List X) (x : X) (k : ℕ) (y : X) : Type 0 where
   before : k < length xs → slice_get xs k ≡ Some y → Pushed xs x k y
   last : k ≡ length xs → x ≡ y → Pushed xs x k y

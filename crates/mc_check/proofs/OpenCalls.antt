@@ -19,11 +19,11 @@ two_of k b xs fits = sym (drop-take k 2 xs) ∙ ap (λ (l : List ℕ). drop k l)
 same_two : (k b : ℕ) (xs ys : List ℕ) → k + 2 ≤ b → take b xs ≡ take b ys → take 2 (drop k xs) ≡ take 2 (drop k ys)
 same_two k b xs ys fits same = two_of k b xs fits ∙ ap (λ (l : List ℕ). drop k (take (k + 2) l)) same ∙ sym (two_of k b ys fits)
 
--- fewer bytes of the same ones
+-- lists that agree in b bytes agree in fewer
 same_fewer : (a b : ℕ) (xs ys : List ℕ) → a ≤ b → take b xs ≡ take b ys → take a xs ≡ take a ys
 same_fewer a b xs ys fewer same = sym (take-take a b xs fewer) ∙ ap (λ (l : List ℕ). take a l) same ∙ take-take a b ys fewer
 
--- what was spliced in stands at its place
+-- the bytes that were spliced in are at their place
 spliced_at : (l : List ℕ) (at : ℕ) (c : List ℕ) → at ≤ length l → drop at (splice l at c) ≡ c ++ drop (at + length c) l
 spliced_at l at c fits =
     let rest = drop (at + length c) l in
@@ -36,7 +36,7 @@ spliced_above s b l at c below fits =
     let front : take at (splice l at c) ≡ take at l = ap (λ (m : List ℕ). take at m) (append_assoc (take at l) c rest) ∙ take_at (take at l) (c ++ rest) at (length-take-le at l fits) in
     sym (drop-take s b (splice l at c)) ∙ ap (λ (m : List ℕ). drop s m) (same_fewer (s + b) at (splice l at c) l below front) ∙ drop-take s b l
 
--- two numbers of two bytes, spliced in k bytes behind s
+-- two numbers of two bytes, spliced in k bytes after s
 pub spliced_words : (s k : ℕ) (l : List ℕ) (at x y : ℕ) → at ≡ s + k → at ≤ length l
     → (take 2 (drop k (drop s (splice l at (bytes2 x ++ bytes2 y)))) ≡ bytes2 x) × (take 2 (drop (k + 2) (drop s (splice l at (bytes2 x ++ bytes2 y)))) ≡ bytes2 y)
 spliced_words s k l at x y is fits =
@@ -53,7 +53,7 @@ num_bytes2 n small = omega arith
 
 -- ---- open calls
 
--- they depend on the bytes below LB alone
+-- the open calls depend on the bytes below LB alone
 pub open_front : {code : List ℕ} {session : ℕ} {xs : List ℕ} (ys : List ℕ) {r : Routine} {b : ℕ} → OpenCalls code session xs r b → take b xs ≡ take b ys → OpenCalls code session ys r b
 open_front ys none same = none
 open_front {xs = xs} ys (call {p = p} {h = h} {b = b} i next opened reached gives target lb at) same =

@@ -1,4 +1,4 @@
--- Which facts are reached besides a fact that is reached.
+-- The facts that are reached if a fact is.
 use Rattle.std.proofs.Common.{ℕ, List}
 use Rattle.mc_model_machine.specs.StackShape.{Routine, Main, At, Fact, fact, Reached}
 

@@ -1,4 +1,4 @@
--- What a row keeps to that stands on accepted code: which causes it never has, and what it leaves of its frame.
+-- The facts of a row of accepted code: the causes that it never has, and what it leaves of its frame.
 use Rattle.std.specs.Prelude.{◌≡◌, ◌⊎◌, ◌≤◌, ◌+◌, ◌-◌, ℕ, true, false, List, length, Some, None}
 use Rattle.mc_model_machine.specs.declared.instruction.Ins.{Ins}
 use Rattle.mc_model_machine.specs.declared.machine.Abend.{Abend}
@@ -11,20 +11,21 @@ use Rattle.mc_model_machine.specs.StackRows.{need, height_after, always_abends, 
 use Rattle.mc_check.specs.Checked.{is_excluded}
 use Rattle.mc_check.specs.Standing.{StandsAt, calls_of}
 
--- where a frame that goes on stands: behind its instruction, or at its target
+-- the place of a frame that goes on: after its instruction, or at its target
 abbrev pub GoesTo : Ins → ℕ → ℕ → Then → Type 0
 GoesTo i next at Exits = Unit {0}
 GoesTo i next at Goes = ((at ≡ next) × (goes_on i ≡ true)) ⊎ (jump_target i next ≡ Some (Some at))
 GoesTo i next at (Delegates n) = ((at ≡ next) × (goes_on i ≡ true)) ⊎ (jump_target i next ≡ Some (Some at))
 
--- what an instruction that is no call and no return leaves of its frame
+-- the frame after an instruction that is no call and no return
 pub record RowStays (len size base h : ℕ) (i : Ins) (next : ℕ) (f : Frame) (d : Done) : Type 0 where
   pub name : d.effect.frame.name ≡ f.name
   pub stands : length d.effect.frame.fixed ≤ dynamic_base → StandsAt len size base (height_after i h) d.effect.frame
   pub calls : ((is_plain size h (writing i) ≡ true) ⊎ (base ≡ 0)) → calls_of d.effect.frame ≡ calls_of f
   pub place : GoesTo i next d.effect.frame.at d.next
 
--- Both, of every row, where the public segment is whole that it may load from; and no row makes that segment shorter.
+-- The facts of every row: its causes and its frame, if the public segment that it may load from is whole; and no row makes that segment
+-- shorter.
 pub record RowsAreCalm : Type 0 where
   pub calm : (len size base h : ℕ) (i : Ins) (next : ℕ) (f : Frame) (public : List ℕ) (x : Around) (c : Abend) → Shaped i → StandsAt len size base h f
       → need i ≤ h → is_indirect i ≡ false → places_inside len i next ≡ true → counts i ≡ None

@@ -1,4 +1,4 @@
--- What the search has found when it ends: the bases of code, or a CALL by which a routine reaches itself.
+-- The result of the search: the bases of code, or a CALL by which a routine reaches itself.
 use Rattle.std.proofs.Common.{◌≡◌, ℕ, ◌+◌, ◌<◌, ◌≤◌, List, [], length, map, get_or, replicate, Some, refl, sym, ap, subst, inl, inr, ◌∙◌, arith}
 use Rattle.std.specs.Prelude.{slice_get, slice_index, option_map}
 use Rattle.std.proofs.lemmas.Bool.{cases_eq}

@@ -23,14 +23,14 @@ use Rattle.mc_model_device.specs.Limits.{most_code}
 
 -- ---- one change of a state
 
--- how many routines are unseen then
+-- the number of unseen routines after the change
 pub unseen_set : (states : List Progress) (p : ℕ) (x y : Progress) → slice_get states p ≡ Some y → count_of_unseen (set states p x) + cond (is_unseen y) 1 0 ≡ count_of_unseen states + cond (is_unseen x) 1 0
 unseen_set states p x y there =
     let weight : Progress → ℕ = λ z. cond (is_unseen z) 1 0 in
     ap (λ (z : Progress). count_of_unseen (set states p x) + cond (is_unseen z) 1 0) (sym (get_or_from_slice_get states p y y there))
     ∙ sum_by-set weight states p x y (slice_get_within states p y there)
 
--- what stands at a place then: what was written there, or what stood there
+-- the state at a place after the change: the one that was written there, or the one from before
 pub data Written (states : List Progress) (p : ℕ) (x : Progress) (q : ℕ) (y : Progress) : Type 0 where
   this : q ≡ p → x ≡ y → Written states p x q y
   other : (q ≡ p → ⊥) → slice_get states q ≡ Some y → Written states p x q y
@@ -50,13 +50,13 @@ stay_seen states p x inside seen q was get = elim (written states p x q progress
 
 -- ---- numbers
 
--- what is known of bases, with one routine fewer that is unseen and one more that is open
+-- the bound on bases, with one unseen routine fewer and one open routine more
 pub entered_bound : (n u s m v t b : ℕ) → m ≡ n → v + 1 ≡ u → t ≡ s + 1 → u + s ≤ n → b ≤ 65539 * (n - u - s) → b ≤ 65539 * (m - v - t)
 entered_bound n u s m v t b em ev et room low =
     let same : n - u - s ≡ m - v - t = omega arith in
     subst (λ (k : ℕ). b ≤ 65539 * k) same low
 
--- and with one open routine fewer
+-- the bound on bases, with one open routine fewer
 left_bound : (n u s m v t b : ℕ) → m ≡ n → v ≤ u → t + 1 ≡ s → u + s ≤ n → b ≤ 65539 * (n - u - s) + 65539 → b ≤ 65539 * (m - v - t)
 left_bound n u s m v t b em ev et room low =
     let more : n - u - s + 1 ≤ m - v - t = omega arith in
@@ -77,7 +77,7 @@ step_as : (l : List Call) (states : List Progress) (stack : List ℕ) (new next 
 step_as l states stack new next now then e f step = subst (λ (x : List Progress). IsStep l states stack x now) (sym e) (subst (λ (y : List ℕ). IsStep l states stack next y) (sym f) step)
 
 module _ (states : List Progress) (l : List Call) (stack : List ℕ) (q : ℕ) (closed : AreClosed (length states) l) (so : Searches l states stack) (top : slice_get stack (length stack - 1) ≡ Some q) where
-  -- what the last routine needs
+  -- the last open routine is called
   pub last_called : IsCalled l q
   last_called = so.called (length stack - 1) q top
 

@@ -1,4 +1,4 @@
--- What the last pass over a whole table, with its bases, proves of the code.
+-- The properties of code that the last pass over a whole table, with its bases, proves.
 use Rattle.std.proofs.Common.{◌≡◌, ◌⊎◌, ℕ, ◌+◌, ◌<◌, ◌≤◌, Bool, true, false, cond, not, List, length, Option, Some, refl, sym, ap, subst, ◌∙◌, inl, inr, arith}
 use Rattle.std.specs.Prelude.{◌&&◌, ◌==◌, nat_lt, is_some, slice_get, MatchBool, Result, Ok, Err}
 use Rattle.std.proofs.lemmas.Bool.{ltb-true, ltb-false}
@@ -22,7 +22,7 @@ use Rattle.mc_check.proofs.Reaching.{RoutineEntered, entered}
 use Rattle.mc_check.proofs.FactLooks.{KeepsRules as GoodAlone, fine as good-alone}
 use Rattle.mc_check.proofs.CallLemmas.{same_ins}
 
--- ---- what stands at a place
+-- ---- the instruction at a place
 
 call_of : (r : Result (Ins × ℕ) DecodeFault) → calls_at r ≡ true → (i : Ins) × (next : ℕ) × (r ≡ Ok (i, next)) × (is_call i ≡ true)
 call_of (Ok p) h = (p.0, p.1, refl, h)
@@ -62,7 +62,7 @@ broken true wild a b r s h = inl (refl, cc h)
 broken false true a b r s h = inr (refl, cc h)
 broken false false a b r s h = absurd (cc h)
 
--- what a depth says of its entry
+-- an entry has a depth: it is within the stack, and its write is plain if the code has a call
 pub record Rests (code : List ℕ) (session : ℕ) (bases : List ℕ) (calls : Bool) (p : ℕ) (e : Entry) (d : ℕ) : Type 0 where
   pub room : session + base_in bases (routine_of e.routine) + e.height ≤ 512
   pub plain : calls ≡ true → plain_at session e.height (instruction_at code p) ≡ true
@@ -86,7 +86,7 @@ rests code session bases calls p e d h =
 
 -- ---- the pass
 
--- of the first n places no entry breaks a rule, and this is the greatest depth
+-- no entry of the first n places breaks a rule or is deeper than `most`, and `most` is the depth of some fact
 pub record Passes (code : List ℕ) (session : ℕ) (t : List (Option Entry)) (bases : List ℕ) (calls : Bool) (n most : ℕ) : Type 0 where
   pub each : (p : ℕ) → p < n → (e : Entry) → slice_get t p ≡ Some (Some e) → (d : ℕ) × (depth_in code session bases calls p e ≡ Ok d) × (d ≤ most)
   pub some : (f : Fact) × Reached code f × (most ≡ base_in bases f.routine + f.height)
@@ -123,7 +123,7 @@ by_tests a b false false h = record { first = omega (arith, ltb-false b a h); se
 greater : (a b : ℕ) → IsGreater a b (ord_max nat_cmp a b)
 greater a b = by_tests a b (nat_lt b a) (b == a) refl
 
--- a place with an entry that is fine
+-- a place with an entry that breaks no rule
 pub passes_more : (code : List ℕ) (session : ℕ) (t : List (Option Entry)) (bases : List ℕ) (calls : Bool) (n most : ℕ) (e : Entry) (d : ℕ)
     → slice_get t n ≡ Some (Some e) → depth_in code session bases calls n e ≡ Ok d → Reached code (fact_of n e)
     → Passes code session t bases calls n most → Passes code session t bases calls (n + 1) (ord_max nat_cmp most d)
@@ -148,13 +148,13 @@ passes_more code session t bases calls n most e d there depth reached passes =
 
 -- ---- the end
 
--- the code has a call where one is kept
+-- if some entry is a call, the flag is true
 told_true : (code : List ℕ) (t : List (Option Entry)) (calls : Bool) → MatchBool calls (HasCall code t) (HasNoCall code t (length t))
     → (p : ℕ) → HasFactAt t p → calls_at (instruction_at code p) ≡ true → calls ≡ true
 told_true code t true told p kept called = refl
 told_true code t false told p kept called = absurd (cc (told p (kept_inside t p kept) kept, called))
 
--- where it has one, some entry is a call
+-- if the flag is true, some entry is a call
 told_call : (code : List ℕ) (t : List (Option Entry)) (calls : Bool) → MatchBool calls (HasCall code t) (HasNoCall code t (length t)) → calls ≡ true → HasCall code t
 told_call code t true told h = told
 told_call code t false told h = absurd (cc h)
@@ -164,14 +164,14 @@ and_both true true h = absurd (cc h)
 and_both true false h = (refl, refl)
 and_both false b h = absurd (cc h)
 
--- what the pass knows before it begins
+-- the premises of the pass
 pub record Known (code : List ℕ) (t : List (Option Entry)) (bases : List ℕ) (calls : Bool) : Type 0 where
   pub whole : IsWholeTable code t
   pub based : AreBases code bases
   pub told : MatchBool calls (HasCall code t) (HasNoCall code t (length t))
 
 module _ (code : List ℕ) (session : ℕ) (t : List (Option Entry)) (bases : List ℕ) (calls : Bool) (known : Known code t bases calls) where
-  -- the instruction at a fact breaks no rule that is seen from the fact alone
+  -- the instruction at a fact breaks no rule by the fact alone
   good : (f : Fact) → Reached code f → (i : Ins) × (next : ℕ) × GoodAlone code f i next
   good f reached =
       let g = (known.whole.sound f (known.whole.all f reached)).1 in
@@ -212,7 +212,7 @@ module _ (code : List ℕ) (session : ℕ) (t : List (Option Entry)) (bases : Li
   -- ---- no entry broke a rule
 
   module _ (most : ℕ) (passes : Passes code session t bases calls (length t) most) where
-    -- the entry of a fact, and what its depth says
+    -- the entry of a fact, and what follows from its depth
     at_fact : (f : Fact) → Reached code f → (e : Entry) × (d : ℕ) × (fact_of f.place e ≡ f) × Rests code session bases calls f.place e d × (d ≤ most)
     at_fact f reached =
         let mine = known.whole.all f reached in
@@ -322,7 +322,7 @@ module _ (code : List ℕ) (session : ℕ) (t : List (Option Entry)) (bases : Li
       let inside = kept_inside t q (kept.0, kept.1) in
       omega (arith, inside, known.whole.size, known.based.size)
 
-  -- an entry stands for a reached fact
+  -- the fact of an entry is reached
   pub entry_reached : (p : ℕ) (e : Entry) → slice_get t p ≡ Some (Some e) → Reached code (fact_of p e)
   entry_reached p e there = (known.whole.sound (fact_of p e) (e, there, refl)).0
 

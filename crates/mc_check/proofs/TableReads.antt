@@ -7,7 +7,7 @@ use Prim.{yes, no}
 use Rattle.mc_check.specs.declared.table.Entry.{Entry}
 use Rattle.mc_check.specs.Judging.{HasFactAt}
 
--- an entry that a read gives stands in the table
+-- an entry that a read returns is in the table
 pub read_kept : (t : List (Option Entry)) (p : ℕ) (e : Entry) → p < length t → get_or t p None ≡ Some e → slice_get t p ≡ Some (Some e)
 read_kept t p e inside read = slice_get-get_or t p None inside ∙ ap (λ (o : Option Entry). Some o) read
 
@@ -15,19 +15,19 @@ some_of : (o : Option Entry) → is_some o ≡ true → (e : Entry) × (o ≡ So
 some_of None h = absurd (cc h)
 some_of (Some e) h = (e, refl)
 
--- where a read gives something, an entry is kept
+-- if a read returns something, the table has an entry there
 pub some_kept : (t : List (Option Entry)) (p : ℕ) → p < length t → is_some (get_or t p None) ≡ true → HasFactAt t p
 some_kept t p inside h =
     let found = some_of (get_or t p None) h in
     (found.0, read_kept t p found.0 inside found.1)
 
--- and where it gives nothing, none is
+-- if a read returns nothing, the table has no entry there
 pub none_kept : (t : List (Option Entry)) (p : ℕ) → is_some (get_or t p None) ≡ false → HasFactAt t p → ⊥
 none_kept t p h kept =
     let read = get_or_from_slice_get t p (Some kept.0) None kept.1 in
     cc (h, ap (λ (o : Option Entry). is_some o) read)
 
--- a read that gives no entry finds none kept
+-- if a read returns no entry, the table has none there
 pub unread : (t : List (Option Entry)) (p : ℕ) → ((e : Entry) → get_or t p None ≡ Some e → ⊥) → HasFactAt t p → ⊥
 unread t p none kept = none kept.0 (get_or_from_slice_get t p (Some kept.0) None kept.1)
 

@@ -1,4 +1,4 @@
--- What a call tells, taken apart; and the base of a routine whose calls all tell one.
+-- The answers for a call, taken apart; and the base of a routine whose calls all have one.
 use Rattle.std.proofs.Common.{◌≡◌, ℕ, ◌+◌, ◌≤◌, List, length, Option, Some, None, refl, sym, ap, subst, ◌∙◌, arith}
 use Rattle.std.specs.Prelude.{slice_get}
 use Rattle.std.proofs.lemmas.Option.{slice_get_within}
@@ -71,7 +71,7 @@ told_base states c b (owner.At r) e =
 
 -- ---- bounds
 
--- what a call tells is little more than the bases before
+-- the base by a call is at most 65,539 more than the bases before
 pub told_bound : (states : List Progress) (l : List Call) (q b most : ℕ) → AreClosed (length states) l → AreBelow most states → CallTells states l q (answer.Base b) → b ≤ most + 65539
 told_bound states l q b most closed below tells =
     let small = closed.heights tells.at tells.call tells.there in
@@ -100,7 +100,7 @@ module _ (states : List Progress) (l : List Call) (known : (q b : ℕ) → slice
             subst (λ (n : ℕ). DepthIn l (At q) n) is (list.called (known r d there).reached has)
       ]
 
-  -- a depth by a call is at most the base that the call tells
+  -- a depth by a call is at most the base by the call
   within : (r : Routine) (b h : ℕ) (c : Call) (d : ℕ) → DepthIn l r b → routine_of c.caller ≡ r → c.height ≡ h → ToldBase states c c.caller d → b + h + 4 ≤ d
   within r b h c d deep from height (by_main main is) =
       let none = main_depth deep (subst (λ (o : Owner). r ≡ routine_of o) main (sym from)) in
@@ -118,6 +118,6 @@ module _ (states : List Progress) (l : List Call) (known : (q b : ℕ) → slice
       let least = within r d h has.call told.0 deep has.caller has.height (told_base states has.call told.0 has.call.caller told.1) in
       omega (arith, told.2)
 
-  -- the greatest base that is told is the base
+  -- the greatest base by the calls is the base
   pub base_found : (q b : ℕ) → Answers states l q (answer.Base b) → IsBaseIn l q b
   base_found q b answers = record { reached = reached_by q b answers.0; greatest = λ d deep. at_most deep q b answers.1 refl }

@@ -1,4 +1,4 @@
--- The turns that a line tells are those of its runs.
+-- The turns of a line are those of its runs.
 use Rattle.std.proofs.Common.{◌≡◌, ℕ, zero, suc, Bool, true, false, List, [], ◌∷◌, ◌++◌, Option, Some, None, refl, sym, ap, subst, ◌∙◌}
 use Rattle.std.proofs.lemmas.List.{map-append, append-nil}
 use Rattle.mc_model_machine.specs.Apdu.{ApduParts}
@@ -50,7 +50,7 @@ command_told : (c : Card) (seat : Seat) (budget : ℕ) (b : List ℕ) → bare (
 unfolding command
 command_told c seat budget b = routed_told c seat budget (route b)
 
--- a command, and those behind it
+-- a command, and those after it
 both_told : (d : Bool) (r rest : Command) (xs ys : List (Chain × Turn)) → bare xs ≡ r.turns → bare ys ≡ rest.turns → bare (xs ++ turns_behind d ys) ≡ (command_with_rest d r rest).turns
 both_told true r rest xs ys h k = bare_append xs ys ∙ ap (λ (ts : List Turn). ts ++ bare ys) h ∙ ap (λ (ts : List Turn). r.turns ++ ts) k
 both_told false r rest xs ys h k = ap bare (append-nil xs) ∙ h
@@ -63,7 +63,7 @@ sent_told c seat budget (b ∷ bs) =
     let d = card_done c r.items in
     both_told (is_done r.outcome) r (send d r.seat budget bs) (turns_routed c.apps seat budget (route b)) (turns_sent d r.seat budget bs) (command_told c seat budget b) (sent_told d r.seat budget bs)
 
--- a command with nothing behind it
+-- a command with nothing after it
 last_told : (d : Bool) (xs : List (Chain × Turn)) → bare (xs ++ turns_behind d []) ≡ bare xs
 last_told true xs = ap bare (append-nil xs)
 last_told false xs = ap bare (append-nil xs)

@@ -1,4 +1,4 @@
--- What accepted code keeps to, by the verdict on it.
+-- The property of accepted code in every run, by the verdict on it.
 use Rattle.std.proofs.Common.{ℕ, ◌<◌, ◌≤◌, List, length}
 use Rattle.std.specs.List.{AllByRecursion}
 use Rattle.mc_check.specs.declared.verdict.Verdict.{Verdict}

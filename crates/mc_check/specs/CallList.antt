@@ -1,4 +1,4 @@
--- The calls between the routines of code as a list, and what they say of bases.
+-- The calls between the routines of code as a list, and the bases by that list.
 use Rattle.std.specs.Prelude.{◌≡◌, ◌<◌, ◌≤◌, ◌+◌, ℕ, List, length, slice_get, slice_index, Option, Some, None, Result, Ok, Err}
 use Rattle.mc_model_machine.specs.declared.instruction.Ins.{Ins}
 use Rattle.mc_model_machine.specs.declared.instruction.DecodeFault.{DecodeFault}
@@ -14,7 +14,7 @@ use Rattle.mc_check.specs.declared.table.Routine.TheVariants as owner
 
 -- ---- the list
 
--- the target of what was decoded
+-- the target of the call that was decoded, if it is one
 abbrev pub target_of : Result (Ins × ℕ) DecodeFault → Option ℕ
 target_of (Ok p) = call_target p.0
 target_of (Err e) = None
@@ -44,19 +44,19 @@ pub record IsCall (code : List ℕ) (c : Call) : Type 0 where
   pub stands : IsAt code c.place ins
   pub target : call_target ins ≡ Some c.target
 
--- each target is a place of so many bytes, each height is one of two bytes, and each caller but main is called itself
+-- each target is a place of code of `len` bytes, each height is below 65,536, and each caller but main is called itself
 pub record AreClosed (len : ℕ) (calls : List Call) : Type 0 where
   pub inside : (k : ℕ) (c : Call) → slice_get calls k ≡ Some c → c.target < len
   pub heights : (k : ℕ) (c : Call) → slice_get calls k ≡ Some c → c.height ≤ 65535
   pub callers : (k : ℕ) (c : Call) (p : ℕ) → slice_get calls k ≡ Some c → c.caller ≡ owner.At p → IsCalled calls p
 
--- these are the calls of the code
+-- the list has the calls of the code, and no others
 pub record AreCalls (code : List ℕ) (calls : List Call) : Type 0 where
   pub closed : AreClosed (length code) calls
   pub each : (k : ℕ) (c : Call) → slice_get calls k ≡ Some c → IsCall code c
   pub all : (r : Routine) (h q : ℕ) → Calls code r h q → ListsCall calls r h q
 
--- ---- what the list says of bases
+-- ---- bases by the list
 
 -- LB of a routine may lie this far above the floor, by the listed calls from main to it
 pub data DepthIn (calls : List Call) : Routine → ℕ → Type 0 where
@@ -73,7 +73,7 @@ pub record IsBaseIn (calls : List Call) (q b : ℕ) : Type 0 where
   pub reached : DepthIn calls (At q) b
   pub greatest : (d : ℕ) → DepthIn calls (At q) d → d ≤ b
 
--- these are the bases of the routines that are called, by their places in so many bytes
+-- the list has the bases of the routines that are called, by their places in code of `len` bytes
 pub record AreBasesIn (len : ℕ) (calls : List Call) (bases : List ℕ) : Type 0 where
   pub size : length bases ≡ len
   pub each : (q : ℕ) → IsCalled calls q → IsBaseIn calls q (slice_index bases q)
@@ -86,7 +86,7 @@ pub record ClosesRing (calls : List Call) (c : Call) : Type 0 where
 
 -- ---- faults
 
--- a fault is want of memory, or names such a call
+-- a fault is out of memory, or has the place of a call by which its routine reaches itself
 abbrev pub IsRing : List Call → Fault → Type 0
 IsRing calls NoMemory = Unit {0}
 IsRing calls (Refused r) = (c : Call) × ClosesRing calls c × (r.place ≡ c.place) × (r.cause ≡ Recursive)

@@ -1,4 +1,4 @@
--- The search for all facts: what its tables say while it runs, and what of them is still to be followed.
+-- The search for all facts: the invariant of its tables while it runs, and the facts that are still to be followed.
 use Rattle.std.specs.Prelude.{◌≡◌, ◌⊎◌, ◌<◌, ◌≤◌, ◌+◌, ◌-◌, ◌*◌, ℕ, true, List, [], ◌∷◌, length, slice_get, Option, Some, None}
 use Rattle.mc_model_machine.specs.declared.instruction.Ins.{Ins}
 use Rattle.mc_model_machine.specs.Code.{Shaped}
@@ -16,39 +16,39 @@ use Rattle.mc_check.specs.Table.{fact_of, IsIn, IsSoundTable}
 abbrev pub found_fact : Found → Fact
 found_fact found = fact_of found.place found.entry
 
--- its instruction stands there
+-- the instruction of a found fact is the one at its place, and breaks no rule by itself
 pub record IsFound (code : List ℕ) (found : Found) : Type 0 where
   pub stands : look code (found_fact found) ≡ Stands found.seen.ins found.seen.next
   pub shaped : Shaped found.seen.ins
 
 -- ---- the tables
 
--- the facts by their places, the counts of routines by theirs, and the places whose facts are not followed yet
+-- the tables of the search: the facts by their places, the counts of routines by theirs, and the places whose facts are not followed yet
 pub record Tables : Type 0 where
   pub table : List (Option Entry)
   pub counts : List (Option Pair)
   pub work : List ℕ
 
--- the tables of the search
+-- the tables that the code's search has
 abbrev pub tables_of : Closing → Tables
 tables_of c = record { table = c.table.items; counts = c.counts.items; work = c.work.items }
 
--- one of some places
+-- a place is in a list of places
 abbrev pub IsAmong : List ℕ → ℕ → Type 0
 IsAmong [] place = ⊥
 IsAmong (p ∷ ps) place = (p ≡ place) ⊎ IsAmong ps place
 
--- how many places have no fact
+-- the number of places without a fact
 abbrev pub free : List (Option Entry) → ℕ
 free [] = 0
 free (None ∷ t) = free t + 1
 free (Some e ∷ t) = free t
 
--- what is left to do at most: each free place may get a fact, and then that fact is followed
+-- the most work that is left: each free place may get a fact, and then that fact is followed
 abbrev pub remaining_work : Tables → ℕ
 remaining_work s = 2 * free s.table + length s.work
 
--- a routine returns with these counts
+-- a routine has a return with the given counts
 pub record IsReal (code : List ℕ) (routine : ℕ) (c : Pair) : Type 0 where
   pub counts : ReturnsWith code (At routine) c.less c.more
   pub less : c.less ≤ 255
@@ -63,23 +63,23 @@ pub record IsFit (code : List ℕ) (s : Tables) : Type 0 where
 
 -- ---- what follows from a fact
 
--- the facts that a fact gives whatever the counts are
+-- the successors of a fact that do not depend on counts are in the table
 pub record HasSuccessors (t : List (Option Entry)) (f : Fact) (i : Ins) (next : ℕ) : Type 0 where
   pub goes : call_target i ≡ None → goes_on i ≡ true → IsIn t (fact f.routine next (height_after i f.height))
   pub jumps : (to : ℕ) → jump_target i next ≡ Some (Some to) → IsIn t (fact f.routine to f.height)
   pub calls : (q : ℕ) → call_target i ≡ Some q → IsIn t (fact (At q) q 0)
   pub passes : (q : ℕ) → call_target i ≡ Some q → is_conditional i ≡ true → IsIn t (fact f.routine next f.height)
 
--- a CALL whose routine has the counts: it finds the bytes that are taken, and its next fact is there
+-- the successor of a CALL whose routine has the counts: the bytes that are taken are there, and the fact after the CALL is in the table
 pub record ComesBack (t : List (Option Entry)) (f : Fact) (next less more : ℕ) : Type 0 where
   pub enough : less ≤ f.height
   pub back : f.height ≤ 512 → IsIn t (fact f.routine next (f.height - less + more))
 
--- so, if the fact is a CALL of the routine
+-- the successor of a fact, if it is a CALL of the routine, is in the table
 abbrev pub ComesBackFrom : List ℕ → List (Option Entry) → ℕ → Pair → Fact → Type 0
 ComesBackFrom code t routine c f = (i : Ins) (next : ℕ) → look code f ≡ Stands i next → call_target i ≡ Some routine → ComesBack t f next c.less c.more
 
--- the counts of a routine stand in the list
+-- the counts of a routine are in the list
 abbrev pub HasCounts : List (Option Pair) → Routine → ℕ → ℕ → Type 0
 HasCounts cs Main less more = ⊥
 HasCounts cs (At routine) less more = slice_get cs routine ≡ Some (Some (record { less = less; more = more }))
@@ -90,7 +90,7 @@ pub record IsFollowed (t : List (Option Entry)) (cs : List (Option Pair)) (f : F
   pub back : (routine : ℕ) (c : Pair) → call_target i ≡ Some routine → slice_get cs routine ≡ Some (Some c) → ComesBack t f next c.less c.more
   pub counted : (less more : ℕ) → counts i ≡ Some (less, more) → HasCounts cs f.routine less more
 
--- so, with the instruction that stands at the fact
+-- all that follows from a fact with its instruction is in the tables
 abbrev pub IsClosed : List ℕ → List (Option Entry) → List (Option Pair) → Fact → Type 0
 IsClosed code t cs f = (i : Ins) (next : ℕ) → look code f ≡ Stands i next → IsFollowed t cs f i next
 
@@ -102,7 +102,7 @@ pub record ClosedOrWaiting (code : List ℕ) (waiting : List ℕ) (s : Tables) :
   pub first : IsIn s.table (fact Main 0 0)
   pub closed : (f : Fact) → IsIn s.table f → IsClosed code s.table s.counts f ⊎ IsAmong waiting f.place
 
--- facts came into the tables, and these wait
+-- facts were added to the tables, and wait to be followed
 pub record AddsFacts (old new : Tables) : Type 0 where
   pub kept : (f : Fact) → IsIn old.table f → IsIn new.table f
   pub counts : new.counts ≡ old.counts

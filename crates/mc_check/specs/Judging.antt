@@ -1,4 +1,4 @@
--- What the last pass over the table finds.
+-- The results of the last pass over the table.
 use Rattle.std.specs.Prelude.{ℕ, ◌≡◌, ◌+◌, ◌<◌, Bool, true, false, cond, nat_lt, List, slice_get, Option, Some, Result, Ok, Err}
 use Rattle.mc_model_machine.specs.declared.checker.CheckCause.TheVariants.{Deep, Wild}
 use Rattle.mc_model_machine.specs.declared.instruction.DecodeFault.{DecodeFault}
@@ -9,35 +9,35 @@ use Rattle.mc_model_machine.specs.StackShape.{Routine, Main, At}
 use Rattle.mc_check.specs.declared.table.Entry.{Entry}
 use Rattle.mc_check.specs.declared.table.Refusal.{Refusal}
 
--- whether a call stands at a place
+-- whether the instruction at a place is a call
 abbrev pub calls_at : Result (Ins × ℕ) DecodeFault → Bool
 calls_at (Ok p) = is_call p.0
 calls_at (Err fault) = false
 
--- whether what stands at a place writes at no address that is not plain
+-- whether the instruction at a place writes at no address that is not plain
 abbrev pub plain_at : ℕ → ℕ → Result (Ins × ℕ) DecodeFault → Bool
 plain_at session height (Ok p) = is_plain session height (writing p.0)
 plain_at session height (Err fault) = true
 
--- how far the stack reaches above its floor at a place, or the rule that is broken there
+-- the height of the stack above its floor at a place, or the rule that is broken there
 abbrev pub depth_of : ℕ → ℕ → ℕ → ℕ → Bool → Result ℕ Refusal
 depth_of session place base height wild =
     cond (nat_lt 512 (session + base + height)) (Err (record { place = place; cause = Deep }))
     (cond wild (Err (record { place = place; cause = Wild })) (Ok (base + height)))
 
--- a routine that begins within so many places
+-- a routine that begins at one of the first n places
 abbrev pub BeginsWithin : ℕ → Routine → Type 0
 BeginsWithin n Main = Unit {0}
 BeginsWithin n (At q) = q < n
 
--- a fact of the table stands at the place
+-- the table has a fact at the place
 abbrev pub HasFactAt : List (Option Entry) → ℕ → Type 0
 HasFactAt t p = (e : Entry) × (slice_get t p ≡ Some (Some e))
 
--- a call stands at a place of the table
+-- the table has a call at some place
 abbrev pub HasCall : List ℕ → List (Option Entry) → Type 0
 HasCall code t = (p : ℕ) × HasFactAt t p × (calls_at (instruction_at code p) ≡ true)
 
--- none stands at any of its places before the n-th
+-- the table has no call at its first n places
 abbrev pub HasNoCall : List ℕ → List (Option Entry) → ℕ → Type 0
 HasNoCall code t n = (p : ℕ) → p < n → HasFactAt t p → calls_at (instruction_at code p) ≡ false

@@ -1,4 +1,4 @@
--- What is seen of an instruction, in the definition's words.
+-- The properties of an instruction in the code, as those of the definition.
 use Rattle.std.specs.Prelude.{ℕ, Result, Ok, Err}
 use Rattle.mc_model_machine.specs.declared.checker.CheckCause.{CheckCause}
 use Rattle.mc_model_machine.specs.declared.checker.CheckCause.TheVariants.{Undefined, Past}
@@ -12,11 +12,11 @@ use Rattle.mc_check.specs.declared.uses.Uses.{Uses}
 use Rattle.mc_check.specs.declared.writing.Writing.{Writing}
 use Rattle.mc_check.specs.declared.writing.Writing.TheVariants as writing
 
--- what an instruction uses of the stack
+-- the uses of the definitions that the uses of an instruction are
 abbrev pub uses_of : Uses → shape.Uses
 uses_of u = shape.uses u.needs u.pops u.pushes
 
--- where an instruction writes
+-- the write of the definitions that the write of an instruction is
 abbrev pub writing_of : Writing → shape.Writing
 writing_of writing.Nothing = shape.WritesNothing
 writing_of (writing.At tag off n) = shape.WritesAt tag off n
@@ -31,7 +31,7 @@ abbrev pub cause_of : DecodeFault → CheckCause
 cause_of fault.Undefined = Undefined
 cause_of fault.Past = Past
 
--- what a fact alone shows
+-- the look of the definitions that the look of a fact is
 abbrev pub fact_look_of : Result Seen CheckCause → FactLook
 fact_look_of (Ok s) = Stands s.ins s.next
 fact_look_of (Err cause) = Bad cause

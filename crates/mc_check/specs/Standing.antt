@@ -1,4 +1,4 @@
--- A frame that runs accepted code: where it stands, and its open calls.
+-- A frame that runs accepted code: its place and its stack, and its open calls.
 use Rattle.std.specs.Prelude.{◌≡◌, ◌≤◌, ◌+◌, ◌-◌, ℕ, List, length, take, drop, Some}
 use Rattle.mc_model_machine.specs.declared.instruction.Ins.{Ins}
 use Rattle.mc_model_device.specs.Bytes.{bytes2}
@@ -6,7 +6,7 @@ use Rattle.mc_model_machine.specs.Frame.{Frame, floor, dynamic_base}
 use Rattle.mc_model_machine.specs.StackRows.{call_target}
 use Rattle.mc_model_machine.specs.StackShape.{Routine, Main, At, fact, Reached, Gives}
 
--- a frame with so many session bytes, whose DT lies that much above LB, and LB that much above the floor
+-- a frame with `size` session bytes, whose DT is `height` bytes above LB, and LB `base` bytes above the floor
 pub record StandsAt (len size base height : ℕ) (f : Frame) : Type 0 where
   pub session : f.session ≡ size
   pub code_len : f.code_len ≡ len
@@ -20,8 +20,8 @@ pub record StandsAt (len size base height : ℕ) (f : Frame) : Type 0 where
 abbrev pub calls_of : Frame → List ℕ
 calls_of f = take (f.lb - floor f) (drop f.session f.dyn)
 
--- The open calls of a routine, whose LB lies that much above the floor, in the bytes of the stack from the floor on: a CALL of
--- each routine, the first one of main, with the LB and the return address that it pushed.
+-- The open calls of a routine, whose LB is the given number of bytes above the floor, in the bytes of the stack from the floor on: a CALL
+-- of each routine, the first one of main, with the LB and the return address that it pushed.
 pub data OpenCalls (code : List ℕ) (session : ℕ) (bytes : List ℕ) : Routine → ℕ → Type 0 where
   none : OpenCalls code session bytes Main 0
   call : {r : Routine} {p h b q : ℕ} (i : Ins) (next : ℕ) → OpenCalls code session bytes r b → Reached code (fact r p h) → Gives code (fact r p h) i next

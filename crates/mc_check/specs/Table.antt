@@ -18,11 +18,11 @@ routine_of (owner.At p) = At p
 abbrev pub fact_of : ℕ → Entry → Fact
 fact_of p e = fact (routine_of e.routine) p e.height
 
--- the fact stands in the table
+-- the fact is in the table
 abbrev pub IsIn : List (Option Entry) → Fact → Type 0
 IsIn t f = (e : Entry) × (slice_get t f.place ≡ Some (Some e)) × (fact_of f.place e ≡ f)
 
--- nothing that is seen from the fact alone is wrong with it
+-- a fact breaks no rule by itself
 abbrev pub IsGoodFact : List ℕ → Fact → Type 0
 IsGoodFact code f = (i : Ins) × (next : ℕ) × (look code f ≡ Stands i next)
 
@@ -30,8 +30,8 @@ IsGoodFact code f = (i : Ins) × (next : ℕ) × (look code f ≡ Stands i next)
 abbrev pub IsSoundTable : List ℕ → List (Option Entry) → Type 0
 IsSoundTable code t = (f : Fact) → IsIn t f → Reached code f × IsGoodFact code f
 
--- The table of all facts: none is wrong by itself, no two have the same place, no two returns of a routine differ, and each CALL finds
--- the bytes that its routine takes.
+-- The table of all facts: none breaks a rule by itself, no two have the same place, no two returns of a routine differ, and each CALL
+-- finds the bytes that its routine takes.
 pub record IsWholeTable (code : List ℕ) (t : List (Option Entry)) : Type 0 where
   pub size : length t ≡ length code
   pub sound : IsSoundTable code t
@@ -39,11 +39,11 @@ pub record IsWholeTable (code : List ℕ) (t : List (Option Entry)) : Type 0 whe
   pub returns : (f : Fact) → Reached code f → Differs code f → ⊥
   pub takes : (f : Fact) → Reached code f → TakesMore code f → ⊥
 
--- a refusal whose cause does not depend on session bytes
+-- a refusal of code with the given number of session bytes: the rule of its cause is broken at its place
 abbrev pub IsRefusalOf : List ℕ → ℕ → Refusal → Type 0
 IsRefusalOf code session r = Refuses code session r.place r.cause
 
--- a fault that is due: want of memory, or a refusal whatever the session bytes are
+-- a fault that is due: out of memory, or a refusal whatever the session bytes are
 abbrev pub IsFaultDue : List ℕ → Fault → Type 0
 IsFaultDue code NoMemory = Unit {0}
 IsFaultDue code (Refused r) = (session : ℕ) → IsRefusalOf code session r
@@ -53,7 +53,7 @@ abbrev pub base_in : List ℕ → Routine → ℕ
 base_in bases Main = 0
 base_in bases (At q) = slice_index bases q
 
--- no routine reaches itself, and these are the bases of the routines that are reached
+-- no routine reaches itself, and the list has the bases of the routines that are reached
 pub record AreBases (code : List ℕ) (bases : List ℕ) : Type 0 where
   pub size : length bases ≡ length code
   pub sound : NoRecursion code

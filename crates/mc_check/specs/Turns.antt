@@ -1,4 +1,4 @@
--- The turns of a play, each with the chain that does it.
+-- The turns of a play, each with its chain.
 use Rattle.std.specs.Prelude.{ℕ, zero, suc, Bool, true, false, List, [], ◌∷◌, ◌++◌, map, Option, Some, None}
 use Rattle.mc_model_machine.specs.Apdu.{ApduParts}
 use Rattle.mc_model_device.specs.Card.{App, Card}
@@ -15,17 +15,17 @@ abbrev pub turns_on : Follows → (Chain → List (Chain × Turn)) → List (Cha
 turns_on (Continues ch) rest = rest ch
 turns_on (Ends o) rest = []
 
--- those of a chain with this budget
+-- the turns of a chain with the given budget
 unfoldable pub turns_from : ℕ → Chain → List (Chain × Turn)
 turns_from zero ch = (ch, (turn_of zero ch).turn) ∷ []
 turns_from (suc n) ch = (ch, (turn_of (suc n) ch).turn) ∷ turns_on (turn_of (suc n) ch).follows (λ c. turns_from n c)
 
--- those of a command that is passed to the selected application
+-- the turns of a command that is passed to the selected application
 abbrev pub turns_passed : List (List ℕ × App) → ℕ → Option Selected → ApduParts → List (Chain × Turn)
 turns_passed map budget None a = []
 turns_passed map budget (Some s) a = turns_from budget (begun map s.name s.session a)
 
--- those of a command by its route
+-- the turns of a command by its route
 abbrev pub turns_routed : List (List ℕ × App) → Seat → ℕ → Route → List (Chain × Turn)
 turns_routed map seat budget (ToApplication a) = turns_passed map budget seat.selected a
 turns_routed map seat budget WrongLength = []
@@ -33,31 +33,31 @@ turns_routed map seat budget WrongClass = []
 turns_routed map seat budget (ToSelect a) = []
 turns_routed map seat budget (ToManager a) = []
 
--- those behind a command, if it was answered by 9000 alone
+-- the turns after a command, if it was answered by 9000 alone
 abbrev pub turns_behind : Bool → List (Chain × Turn) → List (Chain × Turn)
 turns_behind true later = later
 turns_behind false later = []
 
--- those of commands in turn, up to the first that is not answered by 9000 alone
+-- the turns of commands in order, up to the first that is not answered by 9000 alone
 abbrev pub turns_sent : Card → Seat → ℕ → List (List ℕ) → List (Chain × Turn)
 turns_sent c seat budget [] = []
 turns_sent c seat budget (b ∷ bs) =
     let r = command c seat b budget in
     turns_routed c.apps seat budget (route b) ++ turns_behind (is_done r.outcome) (turns_sent (card_done c r.items) r.seat budget bs)
 
--- those of the commands that a running card takes
+-- the turns of the commands that a running card takes
 abbrev pub turns_taken : Live → Base → ℕ → List (List ℕ) → List (Chain × Turn)
 turns_taken (Running seat) (OnCard c) budget bs = turns_sent c seat budget bs
 turns_taken (Running seat) (AtFault cause p) budget bs = []
 turns_taken Unpowered base budget bs = []
 turns_taken Muted base budget bs = []
 
--- those of the commands of a line in a state
+-- the turns of the commands of a line in a state
 abbrev pub turns_in : State → List (List ℕ) → List (Chain × Turn)
 turns_in (Cold m b a) bs = []
 turns_in (Hot s) bs = turns_taken s.live s.base s.budget bs
 
--- those of a line that was played
+-- the turns of a line that was played
 abbrev pub turns_with : Step → List (Chain × Turn)
 turns_with t = turns_in t.before (bytes_of t.line)
 

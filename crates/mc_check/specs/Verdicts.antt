@@ -1,16 +1,16 @@
--- What a verdict of the checker says of code, and of every run of it.
+-- The meaning of a verdict of the checker, for code and for every run of it.
 use Rattle.std.specs.Prelude.{ℕ, List, ⊤}
 use Rattle.mc_model_machine.specs.StackShape.{Accepts, Refuses}
 use Rattle.mc_check.specs.declared.verdict.Verdict.{Verdict}
 use Rattle.mc_check.specs.declared.verdict.Verdict.TheVariants.{Accept, Refuse}
 use Rattle.mc_check.specs.Checked.{IsChecked}
 
--- a verdict that holds of code with so many session bytes
+-- a verdict is right for code with the given number of session bytes
 abbrev pub IsVerdictOf : List ℕ → ℕ → Verdict → Type 0
 IsVerdictOf code session (Accept deepest) = Accepts code session deepest
 IsVerdictOf code session (Refuse place cause) = Refuses code session place cause
 
--- what accepted code keeps to in every run
+-- if a verdict accepts code, each turn of it in every run is calm
 abbrev pub KeepsTo : List ℕ → ℕ → Verdict → Type 0
 KeepsTo code session (Accept deepest) = IsChecked code session deepest
 KeepsTo code session (Refuse place cause) = ⊤

@@ -10,7 +10,7 @@ use crate::table::{Entry, Fault, Refusal, Routine};
 use mc_model_machine::CheckCause;
 use std::alloc::{AllocError, Global};
 
-// How far the search has come with a routine.
+// The progress of the search with a routine.
 #[derive(Clone, Copy)]
 enum Progress {
     Unseen,
@@ -18,14 +18,14 @@ enum Progress {
     Done(u32),
 }
 
-// What the callers of a routine tell of its base.
+// The base of a routine by its calls, or why there is none yet.
 #[derive(Clone, Copy)]
 enum Answer {
     // The base.
     Base(u32),
     // This caller is unseen.
     Unseen(u16),
-    // By the call at this place an open routine calls the one that is asked for.
+    // The call at this place is by an open routine.
     Open(u16),
 }
 
@@ -36,7 +36,7 @@ struct Search {
     stack: Vec<u16>,
 }
 
-// The base that a call gives its target.
+// Returns the base of a call's target by the call, or why there is none yet.
 fn base_by(progress: &[Progress], call: &Call) -> Answer
     requires caller { (p : ℕ) → call.now.caller ≡ Routine.At p → p < length progress.now }
     requires bound { AreBelow (2 ^ 31) progress.now }
@@ -52,7 +52,7 @@ fn base_by(progress: &[Progress], call: &Call) -> Answer
     }
 }
 
-// The greatest base that a routine's calls give it, or the first call whose routine has no base yet.
+// Returns the greatest base of a routine by its calls, or the first call whose routine has no base yet.
 fn base_of(progress: &[Progress], calls: &[Call], routine: u16) -> Answer
     requires closed { AreClosed (length progress.now) calls.now }
     requires called { IsCalled calls.now routine }
@@ -72,7 +72,7 @@ fn base_of(progress: &[Progress], calls: &[Call], routine: u16) -> Answer
 }
 
 impl Search {
-    // No routine was seen, in so many bytes of code.
+    // Returns a search in which no routine was seen, in `len` bytes of code.
     fn new(alloc: Global, len: usize) -> Result<Self, AllocError>
         ensures progress { IfOk result (λ s. s.progress.items ≡ replicate len Progress.Unseen) }
         ensures stack { IfOk result (λ s. s.stack.items ≡ []) }
@@ -105,14 +105,15 @@ impl Search {
         self.progress[routine as usize] = Progress::Done(base);
     }
 
-    // The routine that was entered last and not left.
+    // Returns the routine that was entered last and not left.
     fn last(&self) -> Option<u16>
         ensures { result ≡ slice_get self.now.stack.items (length self.now.stack.items - 1) }
     {
         self.stack.last().copied()
     }
 
-    // One step with the routine that was entered last: it is left, or an unseen caller of it is entered.
+    // Makes one step with the routine that was entered last: it is left, or an unseen caller of it is
+    // entered.
     fn advance(&mut self, calls: &[Call], routine: u16) -> Result<(), Fault>
         requires len { length self.old.progress.items ≤ most_code }
         requires closed { AreClosed (length self.old.progress.items) calls.now }
@@ -166,7 +167,7 @@ impl Search {
     }
 }
 
-// The bases that were found, by place.
+// Returns the bases that were found, by place.
 fn found(alloc: Global, progress: &[Progress]) -> Result<Vec<u32>, AllocError>
     ensures { IfOk result (λ bases. bases.items ≡ map base_of progress.now) }
 {
@@ -179,7 +180,8 @@ fn found(alloc: Global, progress: &[Progress]) -> Result<Vec<u32>, AllocError>
         .collect(alloc)
 }
 
-// The bases of the routines that are called, in code of so many bytes; or a call by which a routine reaches itself.
+// Returns the bases of the routines that are called, in code of `len` bytes; or a call by which a routine
+// reaches itself.
 fn bases_by(alloc: Global, calls: &[Call], len: usize) -> Result<Vec<u32>, Fault>
     requires len { len ≤ most_code }
     requires closed { AreClosed len calls.now }
@@ -193,8 +195,8 @@ fn bases_by(alloc: Global, calls: &[Call], len: usize) -> Result<Vec<u32>, Fault
     Ok(found(alloc, search.progress.as_slice())?)
 }
 
-/// The bases of the routines that are reached, by their places, from the table of all facts; or a CALL by which its routine
-/// reaches itself.
+/// Returns the bases of the routines that are reached, by their places, from the table of all facts; or a
+/// CALL by which its routine reaches itself.
 pub fn find_bases(alloc: Global, code: &[u8], table: &[Option<Entry>]) -> Result<Vec<u32>, Fault>
     requires high { length code.now ≤ most_code }
     requires whole { IsWholeTable code.now table.now }

@@ -10,8 +10,8 @@ use crate::table::{Entry, Routine};
 use mc_isa::decode;
 use std::alloc::{AllocError, Global};
 
-/// A CALL that is reached: its place, the routine that has it, how many bytes DT lies above LB there, and the place of the
-/// routine that it calls.
+/// A CALL that is reached: its place, the routine that has it, the number of bytes from LB to DT there, and
+/// the place of the routine that it calls.
 #[derive(Clone, Copy)]
 pub struct Call {
     pub place: u16,
@@ -20,7 +20,7 @@ pub struct Call {
     pub target: u16,
 }
 
-// The routine that is called by the instruction at a place.
+// Returns the routine that is called by the instruction at a place.
 fn called_at(code: &[u8], place: u16) -> Option<u16>
     requires { length code.now ≤ most_code }
     ensures { result ≡ target_of (instruction_at code.now place) }
@@ -31,7 +31,7 @@ fn called_at(code: &[u8], place: u16) -> Option<u16>
     }
 }
 
-// The call that stands at an entry, if one does.
+// Returns the call at an entry, or `None` if its instruction is not one.
 fn call_at(code: &[u8], place: u16, entry: Entry) -> Option<Call>
     requires { length code.now ≤ most_code }
     ensures call { result ≡ option_map (call_of place entry) (target_of (instruction_at code.now place)) }
@@ -46,7 +46,7 @@ fn call_at(code: &[u8], place: u16, entry: Entry) -> Option<Call>
     })
 }
 
-/// The calls of all facts of a table.
+/// Returns the calls of all facts of a table.
 pub fn list_calls(
     alloc: Global,
     code: &[u8],

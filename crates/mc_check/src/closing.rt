@@ -1,4 +1,4 @@
-// The search for all facts of code. It ends with a table of them, or at the first fact that is seen to break a rule.
+// The search for all facts of code. It ends with a table of them, or at the first fact that breaks a rule.
 ghost use Rattle.std.specs.Prelude.{◌≡◌, ◌⊎◌, ℕ, ◌+◌, ◌<◌, ◌≤◌, true, [], ◌∷◌, length, replicate, slice_get, OnOk, IfOk, IfErr};
 ghost use Rattle.mc_model_device.specs.Limits.{most_code};
 ghost use Rattle.mc_model_machine.specs.StackRows as shape;
@@ -17,7 +17,7 @@ use std::alloc::Global;
 // From a height above this one no fact follows.
 const HIGHEST: u16 = 512;
 
-// A fact of code, and the instruction there with the place behind it.
+// A fact of code, and the instruction there with the place after it.
 #[derive(Clone, Copy)]
 struct Found {
     place: u16,
@@ -25,8 +25,8 @@ struct Found {
     seen: Seen,
 }
 
-// What the search has found so far: the facts by their places, the counts of routines by theirs, and the places whose facts
-// are still to be followed.
+// The state of the search: the facts by their places, the counts of routines by theirs, and the places whose
+// facts are still to be followed.
 #[derive(Drop)]
 struct Closing {
     table: Vec<Option<Entry>>,
@@ -40,7 +40,7 @@ fn refusal(place: u16, cause: CheckCause) -> Fault
     Fault::Refused(Refusal { place, cause })
 }
 
-// What stands at a fact, which is refused where it is bad by itself.
+// Returns a fact with its instruction; refuses one that is bad by itself.
 fn find(code: &[u8], place: u16, entry: Entry) -> Result<Found, Fault>
     requires high { length code.now ≤ most_code }
     requires reached { stack.Reached code.now (fact_of place entry) }
@@ -55,7 +55,7 @@ fn find(code: &[u8], place: u16, entry: Entry) -> Result<Found, Fault>
     }
 }
 
-// Two facts with one place have to be the same.
+// Checks that two facts with one place are the same.
 fn same_fact(code: &[u8], place: u16, known: Entry, entry: Entry) -> Result<(), Fault>
     requires known { stack.Reached code.now (fact_of place known) }
     requires good { IsGoodFact code.now (fact_of place known) }
@@ -70,7 +70,7 @@ fn same_fact(code: &[u8], place: u16, known: Entry, entry: Entry) -> Result<(), 
     }
 }
 
-// Two returns of one routine have to have the same counts.
+// Checks that two returns of one routine have the same counts.
 fn same_counts(code: &[u8], found: Found, known: Counts, counts: Counts) -> Result<(), Fault>
     requires reached { stack.Reached code.now (closing.found_fact found) }
     requires found { closing.IsFound code.now found }
@@ -99,7 +99,7 @@ impl Closing {
         })
     }
 
-    // Puts a fact into the table, if it is good by itself and no other fact has its place.
+    // Adds a fact to the table, if it is good by itself and no other fact has its place.
     fn add(&mut self, code: &[u8], place: u16, entry: Entry) -> Result<(), Fault>
         requires high { length code.now ≤ most_code }
         requires inside { place < length code.now }
@@ -119,7 +119,7 @@ impl Closing {
         Ok(())
     }
 
-    // Follows a CALL to the place behind it, where its routine has these counts.
+    // Follows a CALL to the place after it, with the counts of its routine.
     fn come_back(&mut self, code: &[u8], found: Found, counts: Counts) -> Result<(), Fault>
         requires high { length code.now ≤ most_code }
         requires fit { closing.IsFit code.now (closing.tables_of self.old) }
@@ -147,7 +147,7 @@ impl Closing {
         self.add(code, found.seen.next, entry)
     }
 
-    // Follows the fact at a place to the place behind it, if it is a CALL of this routine.
+    // Follows the fact at a place to the place after it, if it is a CALL of this routine.
     fn come_back_at(
         &mut self,
         code: &[u8],
@@ -175,7 +175,7 @@ impl Closing {
         }
     }
 
-    // Follows each CALL of a routine to the place behind it. A fact that comes in here waits, whatever it is.
+    // Follows each CALL of a routine to the place after it. A fact that is added here waits, whatever it is.
     fn come_back_all(&mut self, code: &[u8], routine: u16, counts: Counts) -> Result<(), Fault>
         requires high { length code.now ≤ most_code }
         requires fit { closing.IsFit code.now (closing.tables_of self.old) }
@@ -193,7 +193,7 @@ impl Closing {
         Ok(())
     }
 
-    // Works a return with these counts, which are those of its routine from now on.
+    // Follows a return with these counts, which are those of its routine from now on.
     fn work_return(&mut self, code: &[u8], found: Found, counts: Counts) -> Result<(), Fault>
         requires high { length code.now ≤ most_code }
         requires state { closing.ClosedOrWaiting code.now (found.place ∷ self.old.work.items)
@@ -218,7 +218,7 @@ impl Closing {
         Ok(())
     }
 
-    // Goes on behind a CALL with the same height, if it has a condition.
+    // Goes on after a CALL with the same height, if it has a condition.
     fn pass(&mut self, code: &[u8], found: Found) -> Result<(), Fault>
         requires high { length code.now ≤ most_code }
         requires fit { closing.IsFit code.now (closing.tables_of self.old) }
@@ -239,7 +239,7 @@ impl Closing {
         self.add(code, found.seen.next, found.entry)
     }
 
-    // Goes on behind a CALL of a routine, if its counts are known.
+    // Goes on after a CALL of a routine, if its counts are known.
     fn come_back_known(&mut self, code: &[u8], found: Found, routine: u16) -> Result<(), Fault>
         requires high { length code.now ≤ most_code }
         requires fit { closing.IsFit code.now (closing.tables_of self.old) }
@@ -259,7 +259,7 @@ impl Closing {
         }
     }
 
-    // Works a CALL of a routine.
+    // Follows a CALL of a routine.
     fn work_call(&mut self, code: &[u8], found: Found, routine: u16) -> Result<(), Fault>
         requires high { length code.now ≤ most_code }
         requires state { closing.ClosedOrWaiting code.now (found.place ∷ self.old.work.items)
@@ -283,7 +283,7 @@ impl Closing {
         self.come_back_known(code, found, routine)
     }
 
-    // Goes on behind an instruction that is no CALL.
+    // Goes on after an instruction that is no CALL.
     fn go_on(&mut self, code: &[u8], found: Found) -> Result<(), Fault>
         requires high { length code.now ≤ most_code }
         requires fit { closing.IsFit code.now (closing.tables_of self.old) }
@@ -328,7 +328,7 @@ impl Closing {
         }
     }
 
-    // Works an instruction that is neither a CALL nor a return.
+    // Follows an instruction that is neither a CALL nor a return.
     fn work_step(&mut self, code: &[u8], found: Found) -> Result<(), Fault>
         requires high { length code.now ≤ most_code }
         requires state { closing.ClosedOrWaiting code.now (found.place ∷ self.old.work.items)
@@ -348,7 +348,7 @@ impl Closing {
         self.jump(code, found)
     }
 
-    // Works a fact: all that follows from it comes into the table. Where it is too high, nothing does.
+    // Follows a fact: all that follows from it is added to the table. If it is too high, nothing follows.
     fn work_fact(&mut self, code: &[u8], found: Found) -> Result<(), Fault>
         requires high { length code.now ≤ most_code }
         requires state { closing.ClosedOrWaiting code.now (found.place ∷ self.old.work.items)
@@ -373,7 +373,7 @@ impl Closing {
         }
     }
 
-    // Works the fact at a place, if there is one.
+    // Follows the fact at a place, if there is one.
     fn work_place(&mut self, code: &[u8], place: u16) -> Result<(), Fault>
         requires high { length code.now ≤ most_code }
         requires inside { place < length code.now }
@@ -393,7 +393,7 @@ impl Closing {
         }
     }
 
-    // Works all facts.
+    // Follows all facts that wait.
     fn work_all(&mut self, code: &[u8]) -> Result<(), Fault>
         requires high { length code.now ≤ most_code }
         requires state { closing.ClosedOrWaiting code.now self.old.work.items (closing.tables_of self.old) }
@@ -407,7 +407,7 @@ impl Closing {
     }
 }
 
-/// The table of all facts of code, or why the code is refused whatever its session bytes are.
+/// Returns the table of all facts of code, or why the code is refused whatever its session bytes are.
 pub fn close(alloc: Global, code: &[u8]) -> Result<Vec<Option<Entry>>, Fault>
     requires low { 1 ≤ length code.now }
     requires high { length code.now ≤ most_code }

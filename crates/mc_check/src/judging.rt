@@ -1,5 +1,5 @@
-// The last pass over the facts, when the bases of the routines are known: where the stack grows too deep, where a write may
-// touch an open call, and how deep the stack is at most.
+// The last pass over the facts, when the bases of the routines are known: it finds the facts at which the
+// stack grows too deep or a write may touch an open call, and the greatest depth of the stack.
 ghost use Rattle.std.specs.Prelude.{◌≡◌, ◌≤◌, ◌<◌, ◌&&◌, not, length, IfOk, IfErr, MatchBool};
 ghost use Rattle.mc_model_device.specs.Limits.{most_code};
 ghost use Rattle.mc_model_machine.specs.Code.{instruction_at};
@@ -17,7 +17,7 @@ use mc_model_machine::CheckCause;
 // The bytes of the dynamic segment that session data and the stack share.
 const ROOM: u64 = 512;
 
-// Whether a call stands at a place of code.
+// Returns whether the instruction at a place of code is a call.
 fn calls(code: &[u8], place: u16) -> bool
     requires { length code.now ≤ most_code }
     ensures { result ≡ calls_at (instruction_at code.now place) }
@@ -28,7 +28,7 @@ fn calls(code: &[u8], place: u16) -> bool
     }
 }
 
-// Whether what stands at a place of code writes at no address that is not plain.
+// Returns whether the instruction at a place of code writes at no address that is not plain.
 fn writes_plain(code: &[u8], session: u16, place: u16, height: u16) -> bool
     requires { length code.now ≤ most_code }
     ensures { result ≡ plain_at session height (instruction_at code.now place) }
@@ -39,7 +39,7 @@ fn writes_plain(code: &[u8], session: u16, place: u16, height: u16) -> bool
     }
 }
 
-// The base of a routine.
+// Returns the base of a routine.
 fn base_of(bases: &[u32], routine: Routine) -> u32
     requires { BeginsWithin (length bases.now) (routine_of routine) }
     ensures { result ≡ base_in bases.now (routine_of routine) }
@@ -50,8 +50,8 @@ fn base_of(bases: &[u32], routine: Routine) -> u32
     }
 }
 
-// How far the stack reaches above its floor at a place, or the rule that is broken there; in code without calls, any write
-// is allowed.
+// Returns the height of the stack above its floor at a place, or the rule that is broken there; in code
+// without calls, any write is allowed.
 fn depth_at(
     code: &[u8],
     session: u16,
@@ -80,7 +80,7 @@ fn depth_at(
     Ok(depth as u16)
 }
 
-// Whether some fact is a call.
+// Returns whether some fact is a call.
 fn has_call(code: &[u8], table: &[Option<Entry>]) -> bool
     requires high { length code.now ≤ most_code }
     requires size { length table.now ≡ length code.now }
@@ -94,7 +94,7 @@ fn has_call(code: &[u8], table: &[Option<Entry>]) -> bool
     false
 }
 
-// The greatest depth of the stack over all facts, or a rule that one of them breaks.
+// Returns the greatest depth of the stack over all facts, or a rule that one of them breaks.
 fn greatest_depth(
     code: &[u8],
     session: u16,
@@ -119,7 +119,7 @@ fn greatest_depth(
     Ok(most)
 }
 
-/// The verdict on code, from the whole table of its facts and the bases of its routines.
+/// Returns the verdict on code, from the whole table of its facts and the bases of its routines.
 pub fn judge(code: &[u8], session: u16, table: &[Option<Entry>], bases: &[u32]) -> Verdict
     requires low { 1 ≤ length code.now }
     requires high { length code.now ≤ most_code }

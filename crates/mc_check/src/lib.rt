@@ -1,6 +1,7 @@
 #![tactic(auto)]
 
-//! The stack checker: which code never abends for want or for too much of stack, and never runs outside itself.
+//! The stack checker: it accepts code that never abends by stack underflow or overflow, and never runs
+//! outside itself.
 
 mod bases;
 mod calls;

@@ -5,10 +5,10 @@ use mc_model_machine::CheckCause;
 use std::alloc::Global;
 use std::test::Fail;
 
-// It adds to a word of its static segment, and answers it.
+// Adds to a word of its static segment, and replies it.
 const COUNTER: [u8; 15] = [0xB9, 2, 0, 0, 0x39, 2, 0, 0, 0x46, 2, 0, 0, 6, 0, 2];
 
-// It keeps a balance: credits, debits, and tells it.
+// Keeps a balance: credits it, debits it, and replies it.
 const PURSE: [u8; 77] = [
     0x77, 0x30, 0xFF, 0xF4, 0x11, 0x00, 0x23, 0x77, 0x40, 0xFF, 0xF4, 0x11, 0x00, 0x2C, 0x77, 0x50,
     0xFF, 0xF4, 0x11, 0x00, 0x18, 0x05, 0x6D, 0x00, 0x39, 0x04, 0x00, 0x00, 0x46, 0x04, 0x00, 0x00,
@@ -17,13 +17,13 @@ const PURSE: [u8; 77] = [
     0x00, 0x00, 0xB9, 0x02, 0x00, 0x08, 0x29, 0x03, 0x01, 0x04, 0x05, 0x69, 0x85,
 ];
 
-// A routine that takes a byte and gives one back.
+// Calls a routine that takes a byte and returns one.
 const CALL_AND_RETURN: [u8; 21] = [
     0x21, 0x05, 0x1F, 0x00, 0x0C, 0x46, 0x01, 0x00, 0x00, 0x06, 0x00, 0x01, 0x3C, 0x01, 0xFF, 0xFB,
     0x78, 0x03, 0x2F, 0x01, 0x01,
 ];
 
-// A CALL of a routine that takes a byte, where there is none.
+// Calls a routine that takes a byte, when there is none.
 const TAKES_TOO_MUCH: [u8; 6] = [0x1F, 0x00, 0x04, 0x04, 0x2D, 0x01];
 
 // PUSHB 1, EXIT.
@@ -48,7 +48,7 @@ const REFUSED: [(&[u8], u16, CheckCause); 7] = [
     (&TAKES_TOO_MUCH, 0, CheckCause::Under),
 ];
 
-// The verdict on code of a length that can be checked.
+// Returns the verdict on code, or `None` if its length cannot be checked.
 fn verdict(alloc: Global, code: &[u8], session: u16) -> Result<Option<Verdict>, NoMemory> {
     if code.is_empty() || code.len() > MOST_CODE {
         return Ok(None);

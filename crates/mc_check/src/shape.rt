@@ -1,4 +1,4 @@
-// Where an instruction goes, and what is seen of a fact alone.
+// The places that an instruction goes to, and the rules that a fact may break by itself.
 ghost use Rattle.std.specs.Prelude.{◌≡◌, ◌≤◌, ◌==◌, ◌&&◌, if◌then◌else◌, IfOk, is_some, length, option_map, option_and_then};
 ghost use Rattle.mc_model_device.specs.Limits.{most_code};
 ghost use Rattle.mc_model_machine.specs.Code.{Shaped};
@@ -18,28 +18,28 @@ use mc_model_machine::{CheckCause, DecodeFault, Ins};
 // The condition of a jump or call that always goes.
 const ALWAYS: u8 = 7;
 
-/// The bytes that a return moves: so many less below the call, and so many more on top.
+/// The bytes that a return moves: `less` fewer below the call, and `more` more on top.
 #[derive(Clone, Copy, Debug, PartialEq, Eq)]
 pub struct Counts {
     pub less: u8,
     pub more: u8,
 }
 
-/// An instruction at a place, and the place behind it.
+/// An instruction at a place, and the place after it.
 #[derive(Clone, Copy, Debug, PartialEq, Eq)]
 pub struct Seen {
     pub ins: Ins,
     pub next: u16,
 }
 
-// Whether it is a jump or call whose address is on the stack.
+// Returns whether an instruction is a jump or call whose address is on the stack.
 fn is_indirect(ins: Ins) -> bool
     ensures { result ≡ shape.is_indirect ins }
 {
     matches!(ins, Ins::Jump { cond: 0, .. } | Ins::Call { cond: 0, .. })
 }
 
-/// The counts of a return.
+/// Returns the counts of a return, or `None` for any other instruction.
 pub fn return_counts(ins: Ins) -> Option<Counts>
     ensures { option_map pair_of result ≡ shape.counts ins }
 {
@@ -52,7 +52,7 @@ pub fn return_counts(ins: Ins) -> Option<Counts>
     }
 }
 
-/// Whether the code goes on at the next place behind an instruction that is no call.
+/// Returns whether the code goes on at the next place after an instruction that is no call.
 pub fn goes_on(ins: Ins) -> bool
     ensures { result ≡ shape.goes_on ins }
 {
@@ -64,21 +64,21 @@ pub fn goes_on(ins: Ins) -> bool
     }
 }
 
-// The place that far from another one, if there is an address there.
+// Returns the place `d` bytes from `next`, or `None` if that is no address.
 fn moved(next: u16, d: i8) -> Option<u16>
     ensures { result ≡ frame.moved_address next d }
 {
     next.checked_add_signed(i16::from(d))
 }
 
-// The address in a jump or call, which stands there under each condition but 0.
+// Returns the address in a jump or call, which has one under each condition but 0.
 fn stated(cond: u8, to: u16) -> Option<u16>
     ensures { result ≡ (if cond == 0 then None else Some to) }
 {
     if cond == 0 { None } else { Some(to) }
 }
 
-/// The target of a branch or jump; `None` too where it is no address.
+/// Returns the target of a branch or jump; `None` also if it is no address.
 pub fn jump_target(ins: Ins, next: u16) -> Option<u16>
     ensures { result ≡ option_and_then (λ target. target) (shape.jump_target ins next) }
 {
@@ -89,7 +89,7 @@ pub fn jump_target(ins: Ins, next: u16) -> Option<u16>
     }
 }
 
-/// The target of a call.
+/// Returns the target of a call.
 pub fn call_target(ins: Ins) -> Option<u16>
     ensures { result ≡ shape.call_target ins }
 {
@@ -99,14 +99,14 @@ pub fn call_target(ins: Ins) -> Option<u16>
     }
 }
 
-/// Whether it is a call.
+/// Returns whether an instruction is a call.
 pub fn is_call(ins: Ins) -> bool
     ensures { result ≡ shape.is_call ins }
 {
     matches!(ins, Ins::Call { .. })
 }
 
-/// Whether it is a call that may not be made.
+/// Returns whether an instruction is a call under a condition.
 pub fn is_conditional(ins: Ins) -> bool
     ensures { result ≡ shape.is_conditional ins }
 {
@@ -116,14 +116,14 @@ pub fn is_conditional(ins: Ins) -> bool
     }
 }
 
-// Whether a place is in code of so many bytes.
+// Returns whether a place is in code of `len` bytes.
 fn is_inside(len: usize, place: Option<u16>) -> bool
     ensures { result ≡ shape.is_inside len place }
 {
     place.is_some_and(|place| usize::from(place) < len)
 }
 
-// Whether a branch or jump goes to a place in the code.
+// Returns whether a branch or jump goes to a place in the code.
 fn is_target_inside(len: usize, ins: Ins, next: u16) -> bool
     ensures { result ≡ shape.target_inside len (shape.jump_target ins next) }
 {
@@ -134,7 +134,7 @@ fn is_target_inside(len: usize, ins: Ins, next: u16) -> bool
     }
 }
 
-// Whether each place that an instruction may go to is in the code.
+// Returns whether each place that an instruction may go to is in the code.
 fn are_places_inside(len: usize, ins: Ins, next: u16) -> bool
     ensures { result ≡ shape.places_inside len ins next }
 {
@@ -143,7 +143,7 @@ fn are_places_inside(len: usize, ins: Ins, next: u16) -> bool
         && call_target(ins).is_none_or(|to| usize::from(to) < len)
 }
 
-// The cause in a fault of the decoder.
+// Returns the cause in a fault of the decoder.
 fn cause_of(fault: DecodeFault) -> CheckCause
     ensures { result ≡ cause_of fault }
 {
@@ -153,14 +153,14 @@ fn cause_of(fault: DecodeFault) -> CheckCause
     }
 }
 
-// Whether it is a return where no routine was called.
+// Returns whether an instruction is a return in the main code.
 fn is_return_in_main(routine: Routine, ins: Ins) -> bool
     ensures { result ≡ (is_main (routine_of routine) && is_some (shape.counts ins)) }
 {
     routine == Routine::Main && return_counts(ins).is_some()
 }
 
-// The first rule that an instruction is seen to break, where it is reached so in code of so many bytes.
+// Returns an instruction of code of `len` bytes, or the first rule that it breaks by its fact alone.
 fn looked_at(len: usize, entry: Entry, ins: Ins, next: u16) -> Result<Seen, CheckCause>
     ensures seen { fact_look_of result ≡ fact_look len (fact_of 0 entry) (Ok (ins, next)) }
     ensures same { IfOk result (λ s. (s.ins ≡ ins) × (s.next ≡ next)) }
@@ -180,8 +180,8 @@ fn looked_at(len: usize, entry: Entry, ins: Ins, next: u16) -> Result<Seen, Chec
     Ok(Seen { ins, next })
 }
 
-/// What stands at a place of code that is reached so: the instruction and the place behind it, or the first rule that is
-/// broken there, as far as it is seen from this alone.
+/// Returns the instruction of a fact and the place after it, or the first rule that is broken there by the
+/// fact alone.
 #[tactic(auto, unfolding(mc_model_machine::specs::StackShape::look))]
 pub fn look(code: &[u8], place: u16, entry: Entry) -> Result<Seen, CheckCause>
     requires high { length code.now ≤ most_code }

@@ -1,22 +1,22 @@
-// What the checker has found out: for each place of the code at most one fact.
+// The checker's table: for each place of the code at most one fact.
 use mc_model_machine::CheckCause;
 use std::alloc::{AllocError, AllocFailed};
 
-/// Where a place of code belongs: to the main code, or to the routine that begins at a place.
+/// The routine of a place of code: the main code, or the routine that begins at a place.
 #[derive(Clone, Copy, Debug, PartialEq, Eq)]
 pub enum Routine {
     Main,
     At(u16),
 }
 
-/// A fact at a known place: its routine, and how many bytes DT lies above LB there.
+/// A fact at a known place: its routine, and the number of bytes from LB to DT there.
 #[derive(Clone, Copy, Debug, PartialEq, Eq)]
 pub struct Entry {
     pub routine: Routine,
     pub height: u16,
 }
 
-/// Where code is refused, and why.
+/// The place at which code is refused, and the cause.
 #[derive(Clone, Copy, Debug, PartialEq, Eq)]
 pub struct Refusal {
     pub place: u16,

@@ -1,4 +1,4 @@
-// What an instruction does to the stack: the bytes that it needs, pops and pushes.
+// The effect of an instruction on the stack: the bytes that it needs, pops and pushes.
 ghost use Rattle.std.specs.Prelude.{◌≡◌, ◌≤◌, ◌*◌};
 ghost use Rattle.mc_model_machine.specs.Code.{Shaped};
 ghost use Rattle.mc_model_machine.specs.Primitives as model;
@@ -30,7 +30,7 @@ impl Uses {
     }
 }
 
-// One number for an operand on the stack, and another one for an operand at an address.
+// Returns `top` for an operand on the stack, and `address` for an operand at an address.
 fn on_stack(tag: u8, top: u16, address: u16) -> u16
     ensures { result ≡ row.on_stack tag top address }
 {
@@ -59,7 +59,7 @@ fn primitive_uses(primitive: Primitive, args: &[u8; 3]) -> Uses
     }
 }
 
-// The same of a set and a number; a pair that is no primitive uses nothing.
+// Returns the uses of a primitive by its set and number; a pair that is no primitive uses nothing.
 fn pair_uses(set: u8, number: u8, args: &[u8; 3]) -> Uses
     ensures { uses_of result ≡ shape.pair_uses (model.primitive set number) args.now }
 {
@@ -69,7 +69,7 @@ fn pair_uses(set: u8, number: u8, args: &[u8; 3]) -> Uses
     }
 }
 
-// Whether an instruction abends with 06 by its own bytes, whatever the stack holds.
+// Returns whether a primitive abends with 06 by its own bytes, whatever the stack holds.
 fn pair_abends(set: u8, number: u8, args: &[u8; 3]) -> bool
     ensures { result ≡ shape.prim_abends (model.primitive set number) args.now }
 {
@@ -79,14 +79,14 @@ fn pair_abends(set: u8, number: u8, args: &[u8; 3]) -> bool
     }
 }
 
-// Whether numbers of so many bytes can be worked with.
+// Returns whether numbers of `n` bytes are valid operands.
 fn is_number_len(n: u8) -> bool
     ensures { result ≡ model.in_range 1 16 n }
 {
     1 <= n && n <= 16
 }
 
-/// Whether an instruction abends with 06 by its own bytes, whatever the stack and the memory hold.
+/// Returns whether an instruction abends with 06 by its own bytes, whatever the stack and the memory hold.
 pub fn always_abends(ins: Ins) -> bool
     ensures { result ≡ shape.always_abends ins }
 {
@@ -112,7 +112,7 @@ pub fn always_abends(ins: Ins) -> bool
     }
 }
 
-// What an instruction uses.
+// Returns the uses of an instruction.
 fn row_uses(ins: Ins) -> Uses
     ensures { uses_of result ≡ shape.row_uses ins }
 {
@@ -168,14 +168,14 @@ fn row_uses(ins: Ins) -> Uses
     }
 }
 
-// The bytes of two operands of a length, or of one where the other one stands at an address.
+// Returns the bytes of two operands of a length, or of one if the other is at an address.
 fn pair_needs(tag: u8, n: u8) -> u16
     ensures { result ≡ row.on_stack tag (2 * n) n }
 {
     on_stack(tag, 2 * u16::from(n), u16::from(n))
 }
 
-/// The bytes of the stack that an instruction needs: none where it always abends.
+/// Returns the bytes of the stack that an instruction needs: none if it always abends.
 pub fn need(ins: Ins) -> u16
     ensures { result ≡ shape.need ins }
 {
@@ -186,7 +186,7 @@ pub fn need(ins: Ins) -> u16
     }
 }
 
-/// The height of the stack behind an instruction.
+/// Returns the height of the stack after an instruction.
 pub fn height_after(ins: Ins, height: u16) -> u16
     requires low { height ≤ 512 }
     requires shaped { Shaped ins }

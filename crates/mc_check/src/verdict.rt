@@ -12,14 +12,14 @@ use mc_base::NoMemory;
 use mc_model_machine::CheckCause;
 use std::alloc::Global;
 
-/// What the checker says of code: how many bytes of stack it takes at most, or where a rule is broken.
+/// A verdict on code: the most bytes of stack that it takes, or the place and cause of a rule that it breaks.
 #[derive(Clone, Copy, Debug, PartialEq, Eq)]
 pub enum Verdict {
     Accept { deepest: u16 },
     Refuse { place: u16, cause: CheckCause },
 }
 
-// The verdict, or why it comes to none before the session bytes are looked at.
+// Returns the verdict, or a fault that is due whatever the session bytes are.
 fn decide(alloc: Global, code: &[u8], session: u16) -> Result<Verdict, Fault>
     requires low { 1 ≤ length code.now }
     requires high { length code.now ≤ most_code }
@@ -32,8 +32,13 @@ fn decide(alloc: Global, code: &[u8], session: u16) -> Result<Verdict, Fault>
     Ok(judge(code, session, &table, &bases))
 }
 
-/// Checks the code of an application with so many session bytes. Code that is accepted never abends with 01, 02, 04 or 05,
-/// and a rule that a refusal names is broken there. The code has 1 to 8,192 bytes.
+/// Checks the code of an application with `session` session bytes, and returns the verdict. Code that is
+/// accepted never abends with 01, 02, 04 or 05, and the rule of a refusal is broken at its place. The code
+/// has 1 to 8,192 bytes.
+///
+/// # Errors
+///
+/// Returns `NoMemory` if out of memory.
 pub fn check(alloc: Global, code: &[u8], session: u16) -> Result<Verdict, NoMemory>
     requires low { 1 ≤ length code.now }
     requires high { length code.now ≤ most_code }

@@ -1,4 +1,4 @@
-// Where an instruction writes, and which of these addresses are plain: they touch no byte of an open call.
+// The addresses at which instructions write, and those that are plain: they touch no byte of an open call.
 ghost use Rattle.std.specs.Prelude.{◌≡◌, ◌<◌};
 ghost use Rattle.mc_model_machine.specs.Primitives as model;
 ghost use Rattle.mc_model_machine.specs.StackRows as shape;
@@ -8,8 +8,8 @@ use crate::uses::always_abends;
 use mc_model_machine::Ins;
 use mc_prims::Primitive;
 
-// Where an instruction writes: at no address, at n bytes of an address by tag and offset, or at an address that comes
-// from the stack or from memory.
+// The write of an instruction: at no address, at n bytes of an address by tag and offset, or at an address
+// that comes from the stack or from memory.
 #[derive(Clone, Copy)]
 enum Writing {
     Nothing,
@@ -34,7 +34,7 @@ fn primitive_writing(set: u8, number: u8) -> Writing
     }
 }
 
-// Where an instruction writes if it does not abend.
+// Returns the write of an instruction if it does not abend.
 fn row_writing(ins: Ins) -> Writing
     ensures { writing_of result ≡ shape.row_writing ins }
 {
@@ -61,7 +61,7 @@ fn row_writing(ins: Ins) -> Writing
     }
 }
 
-// Where an instruction writes; one that always abends writes nowhere.
+// Returns the write of an instruction; one that always abends writes nowhere.
 fn written_by(ins: Ins) -> Writing
     ensures { writing_of result ≡ shape.writing ins }
 {
@@ -72,8 +72,8 @@ fn written_by(ins: Ins) -> Writing
     }
 }
 
-// Whether n bytes from k bytes above a register on are plain. Tags are 0 for the top of the stack, then SB, ST, DB, LB,
-// DT, PB, PT.
+// Returns whether n bytes from k bytes above a register on are plain. Tags are 0 for the top of the stack,
+// then SB, ST, DB, LB, DT, PB, PT.
 fn is_plain_above(session: u16, height: u16, tag: u8, k: u16, n: u8) -> bool
     requires { k < 32768 }
     ensures { result ≡ shape.is_plain_above session height tag k n }
@@ -88,7 +88,7 @@ fn is_plain_above(session: u16, height: u16, tag: u8, k: u16, n: u8) -> bool
     }
 }
 
-// The same of k bytes below a register.
+// Returns whether n bytes from k bytes below a register on are plain.
 fn is_plain_below(height: u16, tag: u8, k: u16, n: u8) -> bool
     ensures { result ≡ shape.is_plain_below height tag k n }
 {
@@ -100,7 +100,8 @@ fn is_plain_below(height: u16, tag: u8, k: u16, n: u8) -> bool
     }
 }
 
-/// Whether an instruction that stands so high above LB writes at no address, or at one that touches no byte of an open call.
+/// Returns whether an instruction that runs `height` bytes above LB writes at no address, or at one that
+/// touches no byte of an open call.
 pub fn is_plain(session: u16, height: u16, ins: Ins) -> bool
     ensures { result ≡ shape.is_plain session height (shape.writing ins) }
 {

@@ -17,7 +17,7 @@ abbrev pub left_of : Option (List ℕ) → ℕ
 left_of None = 0
 left_of (Some t) = suc (length t)
 
--- a part before fields, which is none where it is empty
+-- the list of fields with a part before it, unless the part is empty
 abbrev pub put_field : Bool → List ℕ → List (List ℕ) → List (List ℕ)
 put_field true p ps = ps
 put_field false p ps = p ∷ ps

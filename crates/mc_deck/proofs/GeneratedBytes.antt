@@ -10,7 +10,7 @@ use Rattle.mc_model_play.specs.Generator.{command, next, draw, turns, line_of, o
 use Rattle.mc_model_play.specs.ReadyAgain.{IsLine}
 use Rattle.mc_model_device.proofs.ImageLemmas.{all_append}
 
--- numbers that are all seen to be below 256
+-- numbers that are all computed to be below 256
 low : (l : List ℕ) → every (λ b. nat_lt b 256) l ≡ true → AreBytes l
 low [] h = tt
 low (b ∷ l) h = let both = and_parts (nat_lt b 256) (every (λ b. nat_lt b 256) l) h in (ltb-true b 256 both.0, low l both.1)

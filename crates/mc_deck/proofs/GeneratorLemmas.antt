@@ -50,13 +50,13 @@ turns_done so n x whole h w =
     let e : 4009 - n ≡ 0 = omega (arith, h) in
     sym (append-nil so) ∙ sym (ap (λ k. so ++ with_numbers n (turns k x)) e) ∙ w
 
--- a line behind others
+-- a line after others
 pub inside_behind : (ls ks : List (ℕ × OwnedLine)) (n : ℕ) (l : OwnedLine) → ks ≡ ls ++ (n, l) ∷ [] → UnitWithin 3 l → AllByRecursion (λ l. UnitWithin 3 l.1) ls → AllByRecursion (λ (l : ℕ × OwnedLine). UnitWithin 3 l.1) ks
 inside_behind ls ks n l e h a = rw e (all_more (λ (l : ℕ × OwnedLine). UnitWithin 3 l.1) ls (n, l) a h)
 
 -- ---- the lines of a generated deck are those of a deck
 
--- a line that may stand anywhere
+-- a line that is valid at any place of a deck
 abbrev GoodTurn : DeckLine → Type 0
 GoodTurn l = GoodLine l × ((p : Bool) → Timely p l)
 
@@ -128,7 +128,7 @@ good_times : (p : Bool) (n : ℕ) (ls : List DeckLine) → AllByRecursion GoodTu
 good_times p n [] g = tt
 good_times p n (l ∷ ls) g = ((g.0).1 p, good_times (is_powered_after_line p l) (suc n) ls g.1)
 
--- the lines behind the first
+-- the lines after the first
 abbrev behind_first : ℕ → List DeckLine
 behind_first n = Power ∷ Named ∷ Named ∷ Named ∷ Load counter 2 0 ∷ Load purse 10 0 ∷ Load relay 6 0 ∷ (turns 4000 n ++ closing_lines)
 

@@ -1,4 +1,4 @@
--- Hexadecimal digits as the crate `hex` reads them, and as the definition does.
+-- Hexadecimal digits as the crate `hex` decodes them, and as the definition does.
 use Rattle.std.proofs.Common.{◌≡◌, ℕ, ◌+◌, ◌*◌, ◌/◌, ◌%◌, ◌<◌, List, [], ◌∷◌, length, Option, Some, None, Result, Ok, Err, inl, inr, arith, refl, sym, ap, ◌∙◌}
 use Rattle.std.specs.Prelude.{option_and_then, MatchResult}
 use Rattle.std.proofs.lemmas.Bool.{cases_eq}
@@ -10,7 +10,7 @@ use Rattle.mc_model_machine.specs.Text.{hex_value, hex_values, before_values, by
 use Rattle.mc_model_play.specs.DeckGrammar.{hex_field}
 use Rattle.mc_model_play.specs.declared.deck.DeckCause.TheVariants.{BadHex}
 
--- the bytes that were read
+-- the decoded bytes, if the digits were accepted
 abbrev read_bytes : Result (List ℕ) FromHexError → Option (List ℕ)
 read_bytes (Ok bs) = Some bs
 read_bytes (Err e) = None
@@ -52,7 +52,7 @@ all_spelled t =
       | inr even ↦ let e : length t % 2 ≡ 0 = omega arith in spelled_pairs 0 t ∙ sym (ap read_bytes (decode_of-even t e))
     ]
 
--- digits that the crate reads, and others
+-- digits that the crate accepts, and others
 pub bytes_spelled : (t bs : List ℕ) → decode_of t ≡ Ok bs → hex_bytes t ≡ Some bs
 bytes_spelled t bs h = all_spelled t ∙ ap read_bytes h
 
@@ -69,7 +69,7 @@ misspelled t e h = rw (bytes_misspelled t e h) refl
 pub some_bytes : (t bs : List ℕ) → decode_of t ≡ Ok bs → 0 < length t → 0 < length bs
 some_bytes t bs h l = let p = decode_of-ok t bs h in omega (arith, p.2, l)
 
--- ---- digits that are read into room for one byte for every two of them
+-- ---- digits that are decoded into one byte for every two of them
 
 sized_half : (t : List ℕ) (n : ℕ) → n ≡ length t / 2 → decode_sized t n ≡ decode_of t
 sized_half t n h = grind (arith, h)

@@ -1,4 +1,4 @@
--- Kept lines, and the lines that they stand for.
+-- Owned lines, and the lines of the grammar that they are.
 use Rattle.std.proofs.Common.{◌≡◌, ℕ, zero, suc, ◌<◌, List, [], ◌∷◌, ◌++◌, length, arith, refl, ap}
 use Rattle.std.specs.Prelude.{slice_index_or}
 use Rattle.std.specs.List.{AllByRecursion}
@@ -6,7 +6,7 @@ use Rattle.mc_deck.specs.declared.unit.OwnedUnit.{OwnedUnit}
 use Rattle.mc_deck.specs.declared.line.OwnedLine.{OwnedLine}
 use Rattle.mc_deck.specs.Lines.{grammar_line, said_lines, unit_at, no_unit, owned_parts, GoodLine}
 
--- an element, whatever is read beyond the list
+-- an element, whatever the default beyond the list
 pub at_place : (us : List OwnedUnit) (i : ℕ) (d : OwnedUnit) → i < length us → slice_index_or us i d ≡ slice_index_or us i no_unit
 at_place [] i d h = absurd (omega (arith, h))
 at_place (u ∷ us) zero d h = refl

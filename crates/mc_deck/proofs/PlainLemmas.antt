@@ -13,7 +13,7 @@ digit_solid c v h = grind (arith, h)
 solid_more : (c : ℕ) (t : List ℕ) → not (is_blank c) ≡ true → every (λ c. not (is_blank c)) t ≡ true → every (λ c. not (is_blank c)) (c ∷ t) ≡ true
 solid_more c t h k = rw (h, k) refl
 
--- digits have no blank among them
+-- there is no blank among digits
 solid_by : (c : ℕ) (t vs : List ℕ) (o : Option ℕ) (os : Option (List ℕ)) → hex_value c ≡ o → hex_values t ≡ os → before_values o os ≡ Some vs
     → ((ws : List ℕ) → hex_values t ≡ Some ws → every (λ c. not (is_blank c)) t ≡ true) → every (λ c. not (is_blank c)) (c ∷ t) ≡ true
 solid_by c t vs None os e f h k = absurd (cc h)

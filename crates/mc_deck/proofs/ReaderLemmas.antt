@@ -1,4 +1,4 @@
--- What was read so far, line by line.
+-- The reader, line by line.
 use Rattle.std.proofs.Common.{◌≡◌, ℕ, zero, suc, ◌<◌, Bool, true, false, cond, List, [], ◌∷◌, ◌++◌, length, take, Bor, Option, Some, None, Result, Ok, Err, arith, refl, sym, ap, subst, ◌∙◌}
 use Rattle.std.specs.Prelude.{ok_or}
 use Rattle.std.specs.BTreeMap.{BTreeMap}
@@ -20,7 +20,7 @@ use Rattle.mc_deck.proofs.LineLemmas.{unit_front, one_longer}
 
 -- ---- fields
 
--- no statement has more than three fields behind its word
+-- no statement has more than three fields after its word
 more_fields : (c : Context) (n : ℕ) (w : Word) (a b d e : List ℕ) (ts us : List (List ℕ)) → statement_of c n w (a ∷ b ∷ d ∷ e ∷ ts) ≡ statement_of c n w (a ∷ b ∷ d ∷ e ∷ us)
 unfolding statement_of
 more_fields c n FormatWord a b d e ts us = refl
@@ -37,7 +37,7 @@ worded_five : (c : Context) (n : ℕ) (o : Option Word) (ts : List (List ℕ)) �
 worded_five c n None ts = refl
 worded_five c n (Some w) ts = rw (four_fields c n w ts) refl
 
--- the first five fields tell
+-- the first five fields determine the statement
 pub line_five : (c : Context) (n : ℕ) (ts : List (List ℕ)) → line_stated c n (take 5 ts) ≡ line_stated c n ts
 line_five c n [] = refl
 line_five c n (a ∷ ts) = ap (cond (begins 35 a) (Ok None)) (worded_five c n (lookup deck_words a) ts)
@@ -75,7 +75,7 @@ unit_good [] i h a = absurd (omega (arith, h))
 unit_good (u ∷ us) zero h a = a.0
 unit_good (u ∷ us) (suc i) h a = unit_good us i (omega (arith, h)) a.1
 
--- a line that a statement says
+-- the line of a statement
 good_said : (us : List OwnedUnit) (p : Bool) (l : OwnedLine) → Ranged l → LineInRange (length us) p l → AllByRecursion (λ u. GoodUnit (owned_parts u)) us → GoodLine (grammar_line us l)
 good_said us p OwnedLine.Format r h a = tt
 good_said us p OwnedLine.Power r h a = tt
@@ -96,7 +96,7 @@ inside_said : (n : ℕ) (p : Bool) (l : OwnedLine) → LineInRange n p l → Uni
 inside_said n p (OwnedLine.Load i fixed session) h = h
 inside_said n p _ h = tt
 
--- a line that a statement says, behind others
+-- the line of a statement, after others
 pub stands_line : (m : BTreeMap (Bor (List ℕ)) ℕ) (us : List OwnedUnit) (p : Bool) (ls ks : List (ℕ × OwnedLine)) (c : Context) (n : ℕ) (l : OwnedLine) → ks ≡ ls ++ (n, l) ∷ [] → Ranged l → LineInRange (length us) p l
     → StandsBy m us p ls c → StandsBy m us p ks c
 stands_line m us p ls ks c n l e r h s = rw e (record {
@@ -108,7 +108,7 @@ stands_line m us p ls ks c n l e r h s = rw e (record {
   last = ap (is_powered_after false) (said_more us ls n l) ∙ after_more false (said_lines us ls) (n, grammar_line us l) ∙ ap (λ b. is_powered_after_line b (grammar_line us l)) s.last ∙ power_said us (length us) p l h;
 })
 
--- a `power` behind other lines
+-- a `power` after other lines
 pub stands_power : (m : BTreeMap (Bor (List ℕ)) ℕ) (us : List OwnedUnit) (p : Bool) (ls ks : List (ℕ × OwnedLine)) (c : Context) (n : ℕ) → ks ≡ ls ++ (n, OwnedLine.Power) ∷ []
     → StandsBy m us p ls c → StandsBy m us true ks (record c { powered = true })
 stands_power m us p ls ks c n e s = rw e (record {
@@ -138,7 +138,7 @@ all_inside_more : (n : ℕ) (ls : List (ℕ × OwnedLine)) → AllByRecursion (�
 all_inside_more n [] a = tt
 all_inside_more n (l ∷ ls) a = (inside_more n l.1 a.0, all_inside_more n ls a.1)
 
--- the lines behind which a unit is named
+-- the lines after which a unit is named
 pub named_lines : (us vs : List OwnedUnit) (u : OwnedUnit) (ls ks : List (ℕ × OwnedLine)) (n : ℕ) → vs ≡ us ++ u ∷ [] → ks ≡ ls ++ (n, OwnedLine.Named) ∷ [] → AllByRecursion (λ l. UnitWithin (length us) l.1) ls
     → said_lines vs ks ≡ said_lines us ls ++ (n, DeckGrammar.Named) ∷ []
 named_lines us vs u ls ks n d e a = rw (d, e) (said_more (us ++ u ∷ []) ls n OwnedLine.Named ∙ ap (λ x. x ++ (n, DeckGrammar.Named) ∷ []) (lines_grow us u ls a))
@@ -158,7 +158,7 @@ stands_unit m k us vs u p ls ks c n name d e g a s =
 
 -- ---- turns
 
--- a line that a statement says, and a `power`
+-- the line of a statement, and a `power`
 pub took_line : (old new : Reader) (c : Context) (n : ℕ) (l : OwnedLine) → StandsForContext old c → Ranged l → LineInRange (length old.names.units.items) old.powered l
     → new.names.units.items ≡ old.names.units.items → new.names.places ≡ old.names.places → new.powered ≡ old.powered → new.lines.items ≡ old.lines.items ++ (n, l) ∷ []
     → TurnTaken old new None (turn_of n (Says (grammar_line old.names.units.items l) c))

@@ -4,7 +4,7 @@ use Rattle.mc_model_machine.specs.Text.{◌>>=◌}
 use Rattle.mc_model_play.specs.DeckGrammar.{is_end, is_data, data_hex, section_data, section_unit, made_unit, Section}
 use Rattle.mc_deck.specs.Sections.{section_code, unit_judged}
 
--- the first five fields tell
+-- the first five fields determine the end of a section
 pub end_five : (ts : List (List ℕ)) → is_end (take 5 ts) ≡ is_end ts
 end_five [] = refl
 end_five (a ∷ []) = refl

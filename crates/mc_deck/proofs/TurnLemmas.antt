@@ -24,11 +24,11 @@ use Rattle.mc_deck.specs.Contexts.{AreNames}
 use Rattle.mc_deck.specs.Lines.{said_lines}
 use Rattle.mc_deck.proofs.ReaderLemmas.{between_skipped, between_says, between_refused}
 
--- what was read so far, as the statement reader has it
+-- the context of a reader, as the statement reader has it
 pub in_context : (r : Reader) (c : Context) → StandsForContext r c → InContext r.names r.powered c
 in_context r c s = record { named = s.named; power = s.power }
 
--- what a line's reading answers of its statement
+-- the result of reading a line: its statement, or the refusal
 abbrev pub ReadsStatement : Reader → Context → ℕ → List (List ℕ) → Result (Option Statement) DeckRefusal → Type 0
 ReadsStatement old c n ts r = MatchResult r (λ o. line_stated c n ts ≡ Ok (option_map (grammar_statement old.names.units.items c n) o)) (λ e. DeckRefuses (line_stated c n ts) e)
 
@@ -104,7 +104,7 @@ lines_end : (m : Mode) → deck_lines m [] ≡ lines_at_end m
 unfolding deck_lines
 lines_end m = refl
 
--- what the lines that are left make of those so far
+-- the lines so far with those of the text that is left, or the refusal of one of these
 abbrev pub left_lines : List (ℕ × DeckLine) → Mode → ℕ → List ℕ → Result (List (ℕ × DeckLine)) (ℕ × DeckCause)
 left_lines so m n t = ok_as (λ rest. so ++ rest) (deck_lines m (with_numbers n (lines t)))
 

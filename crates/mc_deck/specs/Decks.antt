@@ -1,4 +1,4 @@
--- What a deck stands for.
+-- The lines of a deck, and what holds of every deck.
 use Rattle.std.specs.Prelude.{ℕ, List, length}
 use Rattle.std.specs.List.{AllByRecursion}
 use Rattle.mc_model_play.specs.DeckGrammar.{DeckLine}
@@ -10,7 +10,7 @@ use Rattle.mc_deck.specs.Lines.{said_lines, UnitWithin, AreDeck}
 abbrev pub deck_view : DeckFields → List (ℕ × DeckLine)
 deck_view d = said_lines d.units.items d.lines.items
 
--- each `load` has its unit, the lines are those of a deck, and what they carry is bytes
+-- each `load` has its unit, the lines are those of a deck, and their data are bytes
 pub record KeepsDeck (d : DeckFields) : Type 0 where
   pub inside : AllByRecursion (λ l. UnitWithin (length d.units.items) l.1) d.lines.items
   pub deck : AreDeck (deck_view d)

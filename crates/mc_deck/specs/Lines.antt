@@ -1,4 +1,4 @@
--- The lines of a deck as the code has them, and what they stand for.
+-- The lines of a deck as the code has them, and the lines of the grammar that they are.
 use Rattle.std.specs.Prelude.{◌≡◌, ℕ, ◌<◌, ◌≤◌, Bool, true, false, List, [], ◌∷◌, length, map, slice_index_or, Ok}
 use Rattle.std.specs.List.{AllByRecursion}
 use Rattle.mc_model_device.specs.Bytes.{zeros}
@@ -10,13 +10,13 @@ use Rattle.mc_deck.specs.declared.unit.OwnedUnit.{OwnedUnit}
 use Rattle.mc_deck.specs.declared.line.Line.{Line}
 use Rattle.mc_deck.specs.declared.line.OwnedLine.{OwnedLine}
 
--- ---- a line that is lent
+-- ---- a borrowed line
 
 -- the parts of a unit
 abbrev pub owned_parts : OwnedUnit → UnitParts
 owned_parts u = record { number = u.number; code = u.code; init = u.init; dir = u.dir; fci = u.fci; aid = u.aid }
 
--- a line as the grammar has it
+-- the line of the grammar that a borrowed line is
 abbrev pub line_of : Line → DeckLine
 line_of Line.Format = DeckGrammar.Format
 line_of Line.Power = DeckGrammar.Power
@@ -31,9 +31,9 @@ line_of (Line.Cut k fill) = DeckGrammar.Cut k fill
 line_of (Line.Fail k) = DeckGrammar.Fail k
 line_of (Line.Poke at fill) = DeckGrammar.Poke at fill
 
--- ---- a line that is kept
+-- ---- an owned line
 
--- what a place beyond the units is read as
+-- the default unit, for places beyond the units
 abbrev pub no_unit : OwnedUnit
 no_unit = record { number = []; code = []; init = []; dir = []; fci = []; aid = zeros 5 }
 
@@ -41,7 +41,7 @@ no_unit = record { number = []; code = []; init = []; dir = []; fci = []; aid = 
 abbrev pub unit_at : List OwnedUnit → ℕ → UnitParts
 unit_at us i = owned_parts (slice_index_or us i no_unit)
 
--- a kept line as the grammar has it, where the named units are these
+-- the line of the grammar that an owned line is, with the given named units
 abbrev pub grammar_line : List OwnedUnit → OwnedLine → DeckLine
 grammar_line us OwnedLine.Format = DeckGrammar.Format
 grammar_line us OwnedLine.Power = DeckGrammar.Power
@@ -57,16 +57,16 @@ grammar_line us (OwnedLine.Cut k fill) = DeckGrammar.Cut k fill
 grammar_line us (OwnedLine.Fail k) = DeckGrammar.Fail k
 grammar_line us (OwnedLine.Poke at fill) = DeckGrammar.Poke at fill
 
--- the place of a kept line's unit is one of so many
+-- the place of an owned line's unit is below n
 abbrev pub UnitWithin : ℕ → OwnedLine → Type 0
 UnitWithin n (OwnedLine.Load i fixed session) = i < n
 UnitWithin n l = Unit {0}
 
--- kept lines with their numbers
+-- the lines of the grammar that owned lines are, with their numbers
 abbrev pub said_lines : List OwnedUnit → List (ℕ × OwnedLine) → List (ℕ × DeckLine)
 said_lines us ls = map (λ l. (l.0, grammar_line us l.1)) ls
 
--- ---- what is true of every deck
+-- ---- what holds of every deck
 
 -- a unit is within the limits, and has the name of its DIR record
 pub record GoodUnit (u : UnitParts) : Type 0 where
@@ -93,13 +93,13 @@ GoodLine (DeckGrammar.Cut k fill) = NumberWithin 1 4294967295 k × (length fill 
 GoodLine (DeckGrammar.Fail k) = NumberWithin 1 4294967295 k
 GoodLine (DeckGrammar.Poke at fill) = (at ≤ 16383) × (length fill ≡ 8)
 
--- a line that may stand where a `power` stood before, or none
+-- a line that is valid after a `power`, or before any, by the flag
 abbrev pub Timely : Bool → DeckLine → Type 0
 Timely powered DeckGrammar.Format = powered ≡ false
 Timely powered (DeckGrammar.Poke at fill) = powered ≡ false
 Timely powered l = Unit {0}
 
--- whether a `power` stood, after a line
+-- whether a `power` came before, after one more line
 abbrev pub is_powered_after_line : Bool → DeckLine → Bool
 is_powered_after_line powered DeckGrammar.Power = true
 is_powered_after_line powered l = powered

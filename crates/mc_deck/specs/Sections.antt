@@ -1,4 +1,4 @@
--- Sections as the code has them, and what they stand for.
+-- Sections as the code has them, and the sections of the grammar that they are.
 use Rattle.std.specs.Prelude.{ℕ, List, Result}
 use Rattle.mc_model_machine.specs.Text.{err_as}
 use Rattle.mc_model_card.specs.Units.{UnitParts}
@@ -10,11 +10,11 @@ use Rattle.mc_model_play.specs.declared.deck.DeckCause.TheVariants.{Asm, Unit}
 use Rattle.mc_asm.specs.Passes.{numbered_lines}
 use Rattle.mc_deck.specs.declared.section.Section.{Section}
 
--- a section as the grammar has it
+-- the section of the grammar that a section of the code is
 abbrev pub section_of : Section → DeckGrammar.Section
 section_of s = record { first = s.first; name = s.name.now; aid = s.aid; lines = numbered_lines s.lines.items }
 
--- a made unit within the limits, refused at line n
+-- a made unit, or its refusal at line n if it exceeds the limits
 abbrev pub unit_judged : ℕ → UnitParts → Result UnitParts (ℕ × DeckCause)
 unit_judged n u = err_as (λ e. (n, Unit e)) (unit_within u)
 

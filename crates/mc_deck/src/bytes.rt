@@ -1,7 +1,7 @@
 use std::alloc::{AllocError, Global};
 use std::marker::Model;
 
-/// Bytes on the heap, which clauses see as their list.
+/// Bytes on the heap, whose view in contracts is their list.
 #[derive(Drop)]
 pub struct Bytes {
     bytes: Vec<u8>,
@@ -18,14 +18,14 @@ impl Model for Bytes {
 impl Bytes {
     ghost use Rattle.std.specs.Prelude.{◌≡◌, IfOk};
 
-    /// Takes these bytes over.
+    /// Returns the given bytes, without a copy.
     pub fn from_vec(bytes: Vec<u8>) -> Self
         ensures { result ≡ bytes.items }
     {
         Bytes { bytes }
     }
 
-    /// A copy of these bytes.
+    /// Returns a copy of these bytes.
     pub fn copied(alloc: Global, bytes: &[u8]) -> Result<Self, AllocError>
         ensures { IfOk result (λ b. b ≡ bytes.now) }
     {
@@ -34,7 +34,7 @@ impl Bytes {
         })
     }
 
-    /// The bytes.
+    /// Returns the bytes.
     pub fn as_slice(&self) -> &[u8]
         ensures { result.now ≡ self.now }
     {
@@ -42,7 +42,8 @@ impl Bytes {
     }
 }
 
-/// At most 16 bytes, which stay where they are kept and take no memory of their own. Clauses see them as their list.
+/// At most 16 bytes, stored in the value itself, without memory of the heap. Their view in contracts is their
+/// list.
 #[derive(Drop)]
 pub struct ShortBytes {
     bytes: [u8; 16],
@@ -62,7 +63,7 @@ impl Model for ShortBytes {
 impl ShortBytes {
     ghost use Rattle.std.specs.Prelude.{◌≡◌, ◌≤◌, length, take};
 
-    /// The first of these bytes.
+    /// Returns the first `len` of these bytes.
     pub fn front(bytes: [u8; 16], len: usize) -> Self
         requires { len ≤ 16 }
         ensures { result ≡ take len bytes }
@@ -70,7 +71,7 @@ impl ShortBytes {
         ShortBytes { bytes, len }
     }
 
-    /// A copy of these bytes.
+    /// Returns a copy of these bytes.
     pub fn copied(bytes: &[u8]) -> Self
         requires { length bytes.now ≤ 16 }
         ensures { result ≡ bytes.now }
@@ -80,7 +81,7 @@ impl ShortBytes {
         ShortBytes::front(front, bytes.len())
     }
 
-    /// The bytes.
+    /// Returns the bytes.
     pub fn as_slice(&self) -> &[u8]
         ensures { result.now ≡ self.now }
     {

@@ -2,8 +2,8 @@ use crate::line::{Line, OwnedLine, lent_line};
 use crate::unit::OwnedUnit;
 use std::marker::Model;
 
-/// A deck, seen as the list of its lines, each with its number. Lines that are skipped are not in it, and they count in the
-/// numbers of the others. A deck owns all that its lines speak of.
+/// A deck, whose view in contracts is the list of its lines, each with its number. Lines that are skipped are
+/// not in it, and they count in the numbers of the others. A deck owns everything that its lines refer to.
 #[derive(Drop)]
 pub struct Deck {
     pub units: Vec<OwnedUnit>,
@@ -29,7 +29,7 @@ impl Deck {
     ghost use Rattle.mc_model_play.specs.ReadyAgain.{IsLine};
     ghost use Rattle.mc_deck.specs.Lines.{line_of, AreDeck, GoodLine};
 
-    /// How many lines the deck has.
+    /// Returns the number of lines of the deck.
     pub fn len(&self) -> usize
         ensures value { result ≡ length self.now }
         ensures deck { AreDeck self.now }
@@ -38,8 +38,8 @@ impl Deck {
         self.lines.len()
     }
 
-    /// The line at a place from 0 on, and its number.
-    // A line is large, since a `Load` is: it is best made where it is looked at.
+    /// Returns the line at place `i`, counted from 0, and its number.
+    // A line is large, since a `Load` is: it is cheapest to make it in the caller.
     #[inline(always)]
     pub fn line(&self, i: usize) -> (u32, Line<'_>)
         requires { i < length self.now }

@@ -11,10 +11,10 @@ use mc_model_play::DeckCause;
 use mc_text::{decimal_number, has_name_characters};
 use std::alloc::Global;
 
-/// How many digits spell a short command at the most.
+/// The most digits of a short command.
 pub const SHORT_DIGITS: usize = 32;
 
-/// A name: 1 to 32 letters, digits and underscores.
+/// Returns a name: 1 to 32 letters, digits and underscores.
 pub fn name_field(text: &[u8]) -> Result<&[u8], DeckCause>
     ensures value { MatchResult result (λ t. name_field text.now ≡ Ok t.now) (λ e. name_field text.now ≡ Err e) }
     ensures same { IfOk result (λ t. t.now ≡ text.now) }
@@ -25,7 +25,7 @@ pub fn name_field(text: &[u8]) -> Result<&[u8], DeckCause>
     Ok(text)
 }
 
-/// The bytes that hexadecimal digits in either case spell.
+/// Returns the bytes of hexadecimal digits in either case.
 #[tactic(auto, using(crate::proofs::HexLemmas::spelled, crate::proofs::HexLemmas::misspelled, crate::proofs::HexLemmas::some_bytes))]
 pub fn hex_field(alloc: Global, text: &[u8]) -> Result<Vec<u8>, Fault>
     ensures some { IfOk result (λ v. 0 < length text.now → 0 < length v.items) }
@@ -38,7 +38,7 @@ pub fn hex_field(alloc: Global, text: &[u8]) -> Result<Vec<u8>, Fault>
     }
 }
 
-// The same bytes, put where there is room for one for every two digits.
+// Writes the bytes of hexadecimal digits to `into`, which has one byte for every two digits.
 fn spell(text: &[u8], into: &mut [u8]) -> Result<(), DeckCause>
     requires { length into.old ≡ length text.now / 2 }
     ensures value { MatchResult result (λ _. hex_field text.now ≡ Ok into.new) (λ e. hex_field text.now ≡ Err e) }
@@ -51,7 +51,7 @@ fn spell(text: &[u8], into: &mut [u8]) -> Result<(), DeckCause>
     }
 }
 
-/// The bytes that at most 32 hexadecimal digits in either case spell, which take no memory.
+/// Returns the bytes of at most 32 hexadecimal digits in either case, without memory of the heap.
 pub fn short_hex_field(text: &[u8]) -> Result<ShortBytes, DeckCause>
     requires { length text.now ≤ 32 }
     ensures some { IfOk result (λ b. 0 < length text.now → 0 < length b) }
@@ -63,7 +63,7 @@ pub fn short_hex_field(text: &[u8]) -> Result<ShortBytes, DeckCause>
     Ok(ShortBytes::front(bytes, len))
 }
 
-/// A name of an application: 5 to 16 bytes.
+/// Returns the name of an application: 5 to 16 bytes.
 pub fn aid_field(alloc: Global, text: &[u8]) -> Result<Aid, Fault>
     ensures value { MatchResult result (λ a. aid_field text.now ≡ Ok a) (λ e. Faulty (aid_field text.now) e) }
     ensures low { IfOk result (λ a. 5 ≤ length a) }
@@ -76,7 +76,7 @@ pub fn aid_field(alloc: Global, text: &[u8]) -> Result<Aid, Fault>
     }
 }
 
-/// A word of eight bytes.
+/// Returns a word of eight bytes.
 pub fn fill_field(alloc: Global, text: &[u8]) -> Result<Word, Fault>
     ensures { MatchResult result (λ w. fill_field text.now ≡ Ok w) (λ e. Faulty (fill_field text.now) e) }
 {
@@ -87,7 +87,7 @@ pub fn fill_field(alloc: Global, text: &[u8]) -> Result<Word, Fault>
     }
 }
 
-/// A decimal number from `low` to `high`; leading zeros are good.
+/// Returns a decimal number from `low` to `high`; leading zeros are accepted.
 pub fn number_field(text: &[u8], low: u32, high: u32) -> Result<u32, DeckCause>
     ensures value { result ≡ number_field low high text.now }
     ensures low { IfOk result (λ n. low ≤ n) }

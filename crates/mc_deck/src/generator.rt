@@ -14,12 +14,12 @@ use crate::unit::{OwnedUnit, made};
 use mc_base::{Aid, NoMemory, Word};
 use std::alloc::{AllocError, Global};
 
-// One more at each command, and the two bytes as the reply.
+// Adds one to a counter at each command, and replies its two bytes.
 const COUNTER: [u8; 15] = [
     0xB9, 0x02, 0x00, 0x00, 0x39, 0x02, 0x00, 0x00, 0x46, 0x02, 0x00, 0x00, 0x06, 0x00, 0x02,
 ];
 
-// 30 credits, 40 debits, 50 answers the balance.
+// Command 30 credits, 40 debits, and 50 is answered by the balance.
 const PURSE: [u8; 77] = [
     0x77, 0x30, 0xFF, 0xF4, 0x11, 0x00, 0x23, 0x77, 0x40, 0xFF, 0xF4, 0x11, 0x00, 0x2C, 0x77, 0x50,
     0xFF, 0xF4, 0x11, 0x00, 0x18, 0x05, 0x6D, 0x00, 0x39, 0x04, 0x00, 0x00, 0x46, 0x04, 0x00, 0x00,
@@ -28,7 +28,7 @@ const PURSE: [u8; 77] = [
     0x00, 0x00, 0xB9, 0x02, 0x00, 0x08, 0x29, 0x03, 0x01, 0x04, 0x05, 0x69, 0x85,
 ];
 
-// Hands the command to the application that its static bytes name.
+// Delegates the command to the application that its static bytes name.
 const RELAY: [u8; 6] = [0x22, 0x00, 0x00, 0x28, 0x07, 0x04];
 
 const RELAY_DATA: [u8; 6] = [0x05, 0xA0, 0, 0, 0, 1];
@@ -36,7 +36,7 @@ const RELAY_DATA: [u8; 6] = [0x05, 0xA0, 0, 0, 0, 1];
 // `OPEN-2--`, the word that opens the gate.
 const OPENING_WORD: Word = [0x4F, 0x50, 0x45, 0x4E, 0x2D, 0x32, 0x2D, 0x2D];
 
-// The number after a draw.
+// Returns the number after a draw.
 fn next(x: u32) -> u32
     requires { x < 2 ^ 31 }
     ensures value { result ≡ next x }
@@ -45,14 +45,14 @@ fn next(x: u32) -> u32
     ((x as u64 * 1_103_515_245 + 12_345) % 2_147_483_648) as u32
 }
 
-// The name of an application of the deck.
+// Returns the name of an application of the deck.
 fn aid(last: u8) -> Aid
     ensures { result ≡ 0xA0 ∷ 0 ∷ 0 ∷ 0 ∷ last ∷ [] }
 {
     Aid::new(&[0xA0, 0, 0, 0, last]).unwrap()
 }
 
-// A line with a short command.
+// Returns a line with a short command.
 fn apdu(bytes: &[u8]) -> OwnedLine
     requires { length bytes.now ≤ 16 }
     ensures { result ≡ OwnedLine.Short bytes.now }
@@ -60,7 +60,7 @@ fn apdu(bytes: &[u8]) -> OwnedLine
     OwnedLine::Short(ShortBytes::copied(bytes))
 }
 
-// A command to the purse with a number of four bytes.
+// Returns a command to the purse with a number of four bytes.
 fn command(ins: u8, number: u32) -> OwnedLine
     ensures { result ≡ OwnedLine.Short (0x80 ∷ ins ∷ 0 ∷ 0 ∷ 4 ∷ bytes 4 number) }
 {
@@ -68,7 +68,7 @@ fn command(ins: u8, number: u32) -> OwnedLine
     apdu(&[0x80, ins, 0, 0, 4, a, b, c, d])
 }
 
-// A cut by a draw.
+// Returns a `cut` line by a draw.
 fn cut_line(q: u32) -> OwnedLine
     ensures value { (us : List OwnedUnit) → grammar_line us result ≡ cut_line q }
     ensures inside { UnitWithin 3 result }
@@ -84,7 +84,7 @@ fn cut_line(q: u32) -> OwnedLine
     }
 }
 
-// A line on the purse by a draw, or `power`.
+// Returns a line on the purse, or `power`, by a draw.
 fn purse_line(q: u32) -> OwnedLine
     ensures value { (us : List OwnedUnit) → AreUnits us → grammar_line us result ≡ purse_line q }
     ensures inside { UnitWithin 3 result }
@@ -100,7 +100,7 @@ fn purse_line(q: u32) -> OwnedLine
     }
 }
 
-// The line of a turn that draws r and q.
+// Returns the line of a turn that draws r and q.
 fn line_of(r: u32, q: u32) -> OwnedLine
     ensures value { (us : List OwnedUnit) → AreUnits us → grammar_line us result ≡ line_of r q }
     ensures inside { UnitWithin 3 result }
@@ -119,7 +119,7 @@ fn line_of(r: u32, q: u32) -> OwnedLine
     }
 }
 
-// The three units.
+// Returns the three units.
 fn units(alloc: Global) -> Result<Vec<OwnedUnit>, AllocError>
     ensures units { IfOk result (λ v. AreUnits v.items) }
     ensures count { IfOk result (λ v. length v.items ≡ 3) }
@@ -145,7 +145,7 @@ fn units(alloc: Global) -> Result<Vec<OwnedUnit>, AllocError>
     Ok(Vec::from_array(alloc, [counter, purse, relay])?)
 }
 
-// The first eight lines.
+// Returns the first eight lines.
 fn opening(alloc: Global) -> Result<Vec<(u32, OwnedLine)>, AllocError>
     ensures lines { IfOk result (λ v. (us : List OwnedUnit) → AreUnits us
         → said_lines us v.items ≡ with_numbers 1 opening_lines) }
@@ -187,7 +187,7 @@ fn opening(alloc: Global) -> Result<Vec<(u32, OwnedLine)>, AllocError>
     )?)
 }
 
-// A line behind others.
+// Appends a line with its number.
 #[tactic(auto, using(crate::proofs::ReaderLemmas::said_more, crate::proofs::GeneratorLemmas::inside_behind))]
 fn push(lines: &mut Vec<(u32, OwnedLine)>, number: u32, line: OwnedLine) -> Result<(), AllocError>
     requires line { UnitWithin 3 line }
@@ -200,7 +200,7 @@ fn push(lines: &mut Vec<(u32, OwnedLine)>, number: u32, line: OwnedLine) -> Resu
     Ok(())
 }
 
-// The turns behind the opening.
+// Appends the turns after the opening.
 fn push_turns(lines: &mut Vec<(u32, OwnedLine)>, n: u32) -> Result<(), AllocError>
     requires number { n < 2 ^ 31 }
     requires inside { AllByRecursion (λ l. UnitWithin 3 l.1) lines.old.items }
@@ -218,7 +218,7 @@ fn push_turns(lines: &mut Vec<(u32, OwnedLine)>, n: u32) -> Result<(), AllocErro
     Ok(())
 }
 
-// The last four lines.
+// Appends the last four lines.
 fn push_closing(lines: &mut Vec<(u32, OwnedLine)>) -> Result<(), AllocError>
     requires { AllByRecursion (λ l. UnitWithin 3 l.1) lines.old.items }
     ensures lines { OnOk result ((us : List OwnedUnit)
@@ -232,9 +232,13 @@ fn push_closing(lines: &mut Vec<(u32, OwnedLine)>) -> Result<(), AllocError>
     Ok(())
 }
 
-/// The deck that a number up to 2,147,483,647 generates: it formats a card and loads three applications, and then has 4,000
-/// lines by draws of x, which begins as the number and changes to (x * 1103515245 + 12345) mod 2^31 at each draw. The deck,
-/// of 4,012 lines, is this project's own.
+/// Returns the deck that a number up to 2,147,483,647 generates: it formats a card and loads three
+/// applications, and then has 4,000 lines by draws of x, which begins as the number and changes to (x *
+/// 1103515245 + 12345) mod 2^31 at each draw. The deck, of 4,012 lines, is this project's own.
+///
+/// # Errors
+///
+/// Returns `NoMemory` if out of memory.
 pub fn generate(alloc: Global, n: u32) -> Result<Deck, NoMemory>
     requires { n ≤ 2147483647 }
     ensures { IfOk result (λ d. d ≡ deck_of_number n) }

@@ -8,8 +8,8 @@ use crate::unit::{OwnedUnit, lent};
 use mc_base::{Aid, Word};
 use mc_unit::Unit;
 
-/// A line of a deck. `Named` is a statement that gives a unit a name; a `Load` has the unit, and the sizes in bytes of its
-/// static segment and of its session; the other lines have their fields.
+/// A line of a deck. `Named` is a statement that names a unit; a `Load` has the unit, and the sizes in bytes
+/// of its static segment and of its session; the other lines have their fields.
 #[derive(Clone, Copy, Debug, PartialEq, Eq)]
 pub enum Line<'a> {
     Format,
@@ -36,8 +36,8 @@ pub enum Line<'a> {
     },
 }
 
-/// A line as a deck keeps it: a `Load` has the place of its unit among the named units. A command is `Short` where it has at most
-/// 16 bytes, as nearly all have: it takes no memory but its line's.
+/// A line as a deck owns it: a `Load` has the place of its unit among the named units. A command is `Short`
+/// if it has at most 16 bytes, as nearly all have: it takes no memory but its line's.
 #[derive(Drop)]
 pub enum OwnedLine {
     Format,
@@ -65,7 +65,7 @@ pub enum OwnedLine {
     },
 }
 
-// The unit at a place, lent.
+// Borrows the unit at a place.
 fn lent_unit(units: &[OwnedUnit], place: usize) -> Unit<'_>
     requires { place < length units.now }
     ensures { parts_of result ≡ unit_at units.now place }
@@ -73,7 +73,7 @@ fn lent_unit(units: &[OwnedUnit], place: usize) -> Unit<'_>
     lent(&units[place])
 }
 
-/// The line, lent.
+/// Borrows the line.
 #[inline(always)]
 pub fn lent_line<'a>(units: &'a [OwnedUnit], line: &'a OwnedLine) -> Line<'a>
     requires { UnitWithin (length units.now) line.now }

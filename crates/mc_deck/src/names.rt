@@ -18,7 +18,7 @@ pub struct Names<'a> {
     pub places: BTreeMap<&'a [u8], usize>,
 }
 
-/// No unit was named.
+/// Returns the names of no unit.
 pub fn no_names<'a>(alloc: Global) -> Names<'a>
     ensures names { AreNames result.places result.units.items [] }
     ensures units { result.units.items ≡ [] }
@@ -29,7 +29,7 @@ pub fn no_names<'a>(alloc: Global) -> Names<'a>
     }
 }
 
-/// The place of the unit with a name, `None` where no unit has it.
+/// Returns the place of the unit with a name, or `None` if no unit has it.
 pub fn place_of<'a>(names: &Names<'a>, name: &'a [u8]) -> Option<usize>
     ensures value { (named : List (List ℕ × UnitParts)) → AreNames names.now.places names.now.units.items named
         → lookup named name.now ≡ option_map (unit_at names.now.units.items) result }
@@ -39,7 +39,7 @@ pub fn place_of<'a>(names: &Names<'a>, name: &'a [u8]) -> Option<usize>
     names.places.get(&name).copied()
 }
 
-// The place of the next unit under its name.
+// Adds the place of the next unit under its name.
 fn put_place<'a>(
     places: &mut BTreeMap<&'a [u8], usize>,
     name: &'a [u8],
@@ -56,7 +56,7 @@ fn put_place<'a>(
     }
 }
 
-// One more unit.
+// Appends a unit.
 fn push_unit(units: &mut Vec<OwnedUnit>, unit: OwnedUnit) -> Result<(), DeckRefusal>
     ensures units { OnOk result (units.new.items ≡ units.old.items ++ unit ∷ []) }
     ensures memory { IfErr result (λ e. e ≡ NoMemory) }
@@ -67,7 +67,7 @@ fn push_unit(units: &mut Vec<OwnedUnit>, unit: OwnedUnit) -> Result<(), DeckRefu
     }
 }
 
-/// Gives a unit a name.
+/// Adds a unit under a name.
 pub fn give_name<'a>(
     names: &mut Names<'a>,
     name: &'a [u8],

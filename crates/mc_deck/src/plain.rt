@@ -7,7 +7,7 @@ ghost use Rattle.mc_deck.specs.Readers.{line_stated};
 use crate::bytes::ShortBytes;
 use crate::field::{SHORT_DIGITS, short_hex_field};
 
-// What stands behind `apdu` and one blank.
+// Returns the text after `apdu` and one blank, or `None` if the line does not begin so.
 fn behind_word(text: &[u8]) -> Option<&[u8]>
     ensures { IfSome result (λ hex. text.now ≡ 97 ∷ 112 ∷ 100 ∷ 117 ∷ 32 ∷ hex.now) }
 {
@@ -17,8 +17,8 @@ fn behind_word(text: &[u8]) -> Option<&[u8]>
     }
 }
 
-/// The command of a line that is `apdu`, one blank and the digits of at most 16 bytes, which needs no search for fields. None of any
-/// other line, which may be a command too, or a refused one.
+/// Returns the command of a line that is `apdu`, one blank and the digits of at most 16 bytes, which needs no
+/// search for fields. Returns `None` for any other line, which may be a command too, or a refused one.
 #[tactic(auto, using(crate::proofs::PlainLemmas::plain_stated))]
 pub fn plain_command(text: &[u8]) -> Option<ShortBytes>
     ensures some { IfSome result (λ b. 0 < length b) }

@@ -30,7 +30,7 @@ use std::alloc::Global;
 // The number of the first line that no deck has.
 const TOO_MANY: u32 = 20001;
 
-/// What was read so far: the units that were named, whether a `power` stood, and the lines.
+/// A reader after some lines: the units that were named, whether a `power` came, and the lines.
 #[derive(Drop)]
 pub struct Reader<'a> {
     pub names: Names<'a>,
@@ -38,7 +38,7 @@ pub struct Reader<'a> {
     pub lines: Vec<(u32, OwnedLine)>,
 }
 
-// Whether a field begins with `#`.
+// Returns whether a field begins with `#`.
 fn is_comment(field: &[u8]) -> bool
     ensures { result ≡ begins 35 field.now }
 {
@@ -48,7 +48,7 @@ fn is_comment(field: &[u8]) -> bool
     }
 }
 
-// The statement of a word and the fields behind it, none where they are skipped.
+// Returns the statement of a word and the fields after it, or `None` if the line is skipped.
 #[tactic(auto, using(crate::proofs::ReaderLemmas::line_refused))]
 fn worded<'a>(
     alloc: Global,
@@ -80,7 +80,7 @@ fn worded<'a>(
     }
 }
 
-// The statement of these fields, none where they are skipped.
+// Returns the statement of these fields, or `None` if the line is skipped.
 fn statement_of<'a>(
     alloc: Global,
     names: &Names<'a>,
@@ -102,7 +102,7 @@ fn statement_of<'a>(
     }
 }
 
-// The statement of a line, none where it is skipped.
+// Returns the statement of a line, or `None` if it is skipped.
 #[tactic(auto, using(crate::proofs::ReaderLemmas::line_five))]
 fn read_line<'a>(
     alloc: Global,
@@ -124,7 +124,7 @@ fn read_line<'a>(
     statement_of(alloc, names, powered, number, fields(text).as_slice())
 }
 
-// A line behind others, with its number.
+// Appends a line with its number.
 fn push_line(
     lines: &mut Vec<(u32, OwnedLine)>,
     number: u32,
@@ -139,7 +139,7 @@ fn push_line(
     }
 }
 
-// A unit under its name, by the line of this number.
+// Adds a unit under its name, and the line of this number.
 fn take_unit<'a>(
     reader: &mut Reader<'a>,
     number: u32,
@@ -158,7 +158,7 @@ fn take_unit<'a>(
     Ok(())
 }
 
-// Takes what a statement at the line of this number says. A section is answered.
+// Does what a statement at the line of this number asks for. Returns the section that it opens, or `None`.
 fn take_statement<'a>(
     alloc: Global,
     reader: &mut Reader<'a>,
@@ -194,7 +194,7 @@ fn take_statement<'a>(
     }
 }
 
-// A line between statements. A section that it opens is answered.
+// Reads a line between statements. Returns the section that it opens, or `None`.
 fn between<'a>(
     alloc: Global,
     reader: &mut Reader<'a>,
@@ -213,7 +213,7 @@ fn between<'a>(
     }
 }
 
-// A line of a section behind its other lines.
+// Appends a line to a section.
 fn push_text<'a>(
     lines: &mut Vec<NumberedLine<'a>>,
     number: u32,
@@ -229,7 +229,7 @@ fn push_text<'a>(
     }
 }
 
-// A line of a section, which ends it or goes on.
+// Reads a line of a section, which ends it or goes on.
 fn within<'a>(
     alloc: Global,
     reader: &mut Reader<'a>,
@@ -255,7 +255,7 @@ fn within<'a>(
     Ok(Some(section))
 }
 
-// A line, between statements or in a section that is open. No deck has a line 20,001.
+// Reads a line, between statements or in a section that is open. No deck has a line 20,001.
 fn turn<'a>(
     alloc: Global,
     reader: &mut Reader<'a>,
@@ -280,7 +280,7 @@ fn turn<'a>(
     }
 }
 
-// The deck of what was read.
+// Returns the deck of the lines that were read.
 fn deck_of(reader: Reader<'_>) -> Deck
     requires stands { (c : Context) × StandsForContext reader c }
     requires bytes { AllByRecursion (λ l. IsLine l.1) (lines_of reader) }
@@ -295,7 +295,10 @@ fn deck_of(reader: Reader<'_>) -> Deck
 /// assembly text up to `end`, `load NAME STATIC SESSION`, `select AID`, `apdu HEX` and others. A line ends with a line feed,
 /// which the last may lack; an empty line and one that begins with `#` are skipped. The grammar is this project's own.
 ///
-/// `At` names the first refused line, counted from 1, and its cause.
+/// # Errors
+///
+/// Returns `At` with the number of the first refused line, counted from 1, and its cause, or `NoMemory` if
+/// out of memory.
 #[tactic(auto, unfolding(mc_model_play::specs::DeckGrammar::deck_read))]
 pub fn read_deck(alloc: Global, text: &[u8]) -> Result<Deck, DeckRefusal>
     ensures lines { IfOk result (λ d. deck_read text.now ≡ Ok d) }

@@ -8,12 +8,12 @@ pub enum DeckRefusal {
     /// The first refused line, counted from 1, and its cause.
     #[error("line {0}: refused")]
     At(u32, DeckCause),
-    /// Memory that was asked for was not there.
+    /// Out of memory.
     #[error("out of memory")]
     NoMemory,
 }
 
-/// Why a statement is refused, before its line is named.
+/// Why a statement is refused, without its line.
 #[derive(Clone, Copy, Debug, PartialEq, Eq)]
 pub enum Fault {
     Cause(DeckCause),

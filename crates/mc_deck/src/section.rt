@@ -29,7 +29,7 @@ pub struct Section<'a> {
     pub lines: Vec<NumberedLine<'a>>,
 }
 
-// Whether the fields are those of the end of a section.
+// Returns whether the fields are those of the end of a section.
 fn is_end(fields: &[&[u8]]) -> bool
     ensures { result ≡ is_end (texts fields.now) }
 {
@@ -39,7 +39,7 @@ fn is_end(fields: &[&[u8]]) -> bool
     }
 }
 
-// Whether the fields are those of a DATA line.
+// Returns whether the fields are those of a DATA line.
 fn is_data(fields: &[&[u8]]) -> bool
     ensures { result ≡ is_data (texts fields.now) }
 {
@@ -49,7 +49,7 @@ fn is_data(fields: &[&[u8]]) -> bool
     }
 }
 
-/// Whether a line ends a section.
+/// Returns whether a line ends a section.
 #[tactic(auto, using(crate::proofs::SectionLemmas::end_five))]
 pub fn ends_section(line: &[u8]) -> bool
     ensures { result ≡ is_end (fields line.now) }
@@ -57,7 +57,7 @@ pub fn ends_section(line: &[u8]) -> bool
     is_end(fields(line).as_slice())
 }
 
-// Whether a line of a section is a DATA line.
+// Returns whether a line of a section is a DATA line.
 #[tactic(auto, using(crate::proofs::SectionLemmas::data_five))]
 fn has_data(line: &[u8]) -> bool
     ensures { result ≡ is_data (fields line.now) }
@@ -65,7 +65,7 @@ fn has_data(line: &[u8]) -> bool
     is_data(fields(line).as_slice())
 }
 
-// The bytes of a line `DATA HEX`.
+// Returns the bytes of a line `DATA HEX`.
 fn data_hex(alloc: Global, fields: &[&[u8]]) -> Result<Vec<u8>, Fault>
     ensures { MatchResult result (λ v. data_hex (texts fields.now) ≡ Ok v.items)
         (λ e. Faulty (data_hex (texts fields.now)) e) }
@@ -76,7 +76,7 @@ fn data_hex(alloc: Global, fields: &[&[u8]]) -> Result<Vec<u8>, Fault>
     }
 }
 
-// The data of a line of a section, none of a line that goes to the assembler.
+// Returns the data of a line of a section, which is empty for a line that goes to the assembler.
 #[tactic(auto, using(crate::proofs::SectionLemmas::data_five, crate::proofs::SectionLemmas::hex_five))]
 fn data_of_line(alloc: Global, line: &[u8]) -> Result<Vec<u8>, Fault>
     ensures { MatchResult result (λ v. data_of_line (fields line.now) ≡ Ok v.items)
@@ -89,7 +89,7 @@ fn data_of_line(alloc: Global, line: &[u8]) -> Result<Vec<u8>, Fault>
     data_hex(alloc, fields.as_slice())
 }
 
-// The data of a section.
+// Returns the data of a section.
 fn section_data(alloc: Global, lines: &[NumberedLine<'_>]) -> Result<Vec<u8>, DeckRefusal>
     ensures { MatchResult result (λ v. section_data (numbered_lines lines.now) ≡ Ok v.items)
         (λ e. DeckRefuses (section_data (numbered_lines lines.now)) e) }
@@ -105,7 +105,7 @@ fn section_data(alloc: Global, lines: &[NumberedLine<'_>]) -> Result<Vec<u8>, De
     Ok(bytes)
 }
 
-// The lines of a section that go to the assembler.
+// Returns the lines of a section that go to the assembler.
 fn section_program<'a>(
     alloc: Global,
     lines: &[NumberedLine<'a>],
@@ -124,7 +124,7 @@ fn section_program<'a>(
     Ok(program)
 }
 
-// The code of the lines of a section.
+// Returns the code of the lines of a section.
 fn section_code(alloc: Global, lines: &[NumberedLine<'_>]) -> Result<Vec<u8>, DeckRefusal>
     ensures value { MatchResult result (λ v. section_code (numbered_lines lines.now) ≡ Ok v.items)
         (λ e. DeckRefuses (section_code (numbered_lines lines.now)) e) }
@@ -138,7 +138,7 @@ fn section_code(alloc: Global, lines: &[NumberedLine<'_>]) -> Result<Vec<u8>, De
     }
 }
 
-// The unit of code and data, refused at the line of this number.
+// Returns the unit of code and data, or its refusal at the line of this number.
 #[tactic(auto, using(mc_unit::proofs::Made::made_name))]
 fn judged(
     alloc: Global,
@@ -161,7 +161,7 @@ fn judged(
     Ok(made(alloc, aid, code, init)?)
 }
 
-/// The unit of a section that ends at the line of this number.
+/// Returns the unit of a section that ends at the line of this number.
 #[tactic(auto, using(crate::proofs::SectionLemmas::unit_steps))]
 pub fn section_unit(
     alloc: Global,

@@ -44,7 +44,7 @@ pub enum Keyword {
     Poke,
 }
 
-/// What a statement says: a line, a unit with its name, or the first line of a section with its name and AID.
+/// A statement: a line, a unit with its name, or the first line of a section with its name and AID.
 #[derive(Drop)]
 pub enum Statement<'a> {
     Line(OwnedLine),
@@ -53,7 +53,7 @@ pub enum Statement<'a> {
     Section(&'a [u8], Aid),
 }
 
-// The first words of the table.
+// Returns the word of a statement among the first ones of the table, or `None`.
 fn first_keyword(word: &[u8]) -> Option<Keyword>
     ensures { option_map keyword_of result ≡ lookup first_words word.now }
 {
@@ -69,7 +69,7 @@ fn first_keyword(word: &[u8]) -> Option<Keyword>
     }
 }
 
-// The other words of the table.
+// Returns the word of a statement among the other ones of the table, or `None`.
 fn second_keyword(word: &[u8]) -> Option<Keyword>
     ensures { option_map keyword_of result ≡ lookup second_words word.now }
 {
@@ -84,7 +84,7 @@ fn second_keyword(word: &[u8]) -> Option<Keyword>
     }
 }
 
-/// The word of a statement, `None` for what is none.
+/// Returns the word of a statement, or `None` if it is not one.
 #[tactic(auto, using(crate::proofs::StatementLemmas::by_first, crate::proofs::StatementLemmas::by_second))]
 pub fn keyword_named(word: &[u8]) -> Option<Keyword>
     ensures { option_map keyword_of result ≡ lookup deck_words word.now }
@@ -95,7 +95,7 @@ pub fn keyword_named(word: &[u8]) -> Option<Keyword>
     second_keyword(word)
 }
 
-// `format`, which stands before each `power`.
+// Reads `format`, which is valid only before the first `power`.
 #[tactic(auto, unfolding(mc_model_play::specs::DeckGrammar::statement_of))]
 fn format_statement<'a>(powered: bool, fields: &[&'a [u8]]) -> Result<Statement<'a>, Fault>
     ensures value { (us : List OwnedUnit) (c : Context) (n : ℕ) → powered ≡ c.powered
@@ -114,7 +114,7 @@ fn format_statement<'a>(powered: bool, fields: &[&'a [u8]]) -> Result<Statement<
     }
 }
 
-// `power`.
+// Reads `power`.
 #[tactic(auto, unfolding(mc_model_play::specs::DeckGrammar::statement_of))]
 fn power_statement<'a>(powered: bool, fields: &[&'a [u8]]) -> Result<Statement<'a>, Fault>
     ensures value { (us : List OwnedUnit) (c : Context) (n : ℕ)
@@ -128,7 +128,7 @@ fn power_statement<'a>(powered: bool, fields: &[&'a [u8]]) -> Result<Statement<'
     }
 }
 
-// A unit under its name, in hexadecimal.
+// Reads a unit in hexadecimal, with its name.
 #[tactic(auto, using(crate::proofs::StatementLemmas::unit_stated))]
 fn unit_line<'a>(
     alloc: Global,
@@ -149,7 +149,7 @@ fn unit_line<'a>(
     Ok(Statement::Unit(name, unit))
 }
 
-// The two fields of a statement that has two.
+// Returns the two fields of a statement, or `None` if it has another number of them.
 fn two<'a>(fields: &[&'a [u8]]) -> Option<(&'a [u8], &'a [u8])>
     ensures { option_map (λ p. (p.0.now, p.1.now)) result ≡ pair_of (texts fields.now) }
 {
@@ -159,7 +159,7 @@ fn two<'a>(fields: &[&'a [u8]]) -> Option<(&'a [u8], &'a [u8])>
     }
 }
 
-// `unit NAME HEX`.
+// Reads `unit NAME HEX`.
 #[tactic(auto, using(crate::proofs::StatementLemmas::unit_some, crate::proofs::StatementLemmas::unit_none))]
 fn unit_statement<'a>(
     alloc: Global,
@@ -178,7 +178,7 @@ fn unit_statement<'a>(
     }
 }
 
-// The unit that the bytes are.
+// Returns the unit that the bytes are.
 fn unit_of(alloc: Global, bytes: &[u8]) -> Result<OwnedUnit, Fault>
     ensures value { MatchResult result (λ u. err_as Unit (unit_read bytes.now) ≡ Ok (owned_parts u))
         (λ e. Faulty (err_as Unit (unit_read bytes.now)) e) }
@@ -190,7 +190,7 @@ fn unit_of(alloc: Global, bytes: &[u8]) -> Result<OwnedUnit, Fault>
     }
 }
 
-// A name that no unit has.
+// Accepts a name that no unit has.
 fn new_name<'a>(names: &Names<'a>, name: &'a [u8]) -> Result<(), DeckCause>
     ensures { (c : Context) → AreNames names.now.places names.now.units.items c.units
         → MatchResult result (λ _. new_name c name.now ≡ Ok name.now) (λ e. new_name c name.now ≡ Err e) }
@@ -201,7 +201,7 @@ fn new_name<'a>(names: &Names<'a>, name: &'a [u8]) -> Result<(), DeckCause>
     Ok(())
 }
 
-// `app NAME AID`.
+// Reads `app NAME AID`.
 #[tactic(auto, unfolding(mc_model_play::specs::DeckGrammar::statement_of))]
 fn app_statement<'a>(
     alloc: Global,
@@ -223,7 +223,7 @@ fn app_statement<'a>(
     Ok(Statement::Section(name, aid))
 }
 
-// `load NAME STATIC SESSION`.
+// Reads `load NAME STATIC SESSION`.
 #[tactic(auto, unfolding(mc_model_play::specs::DeckGrammar::statement_of))]
 fn load_statement<'a>(names: &Names<'a>, fields: &[&'a [u8]]) -> Result<Statement<'a>, Fault>
     ensures value { (c : Context) (n : ℕ) → AreNames names.now.places names.now.units.items c.units
@@ -249,7 +249,7 @@ fn load_statement<'a>(names: &Names<'a>, fields: &[&'a [u8]]) -> Result<Statemen
     }
 }
 
-// `select AID`.
+// Reads `select AID`.
 #[tactic(auto, unfolding(mc_model_play::specs::DeckGrammar::statement_of))]
 fn select_statement<'a>(alloc: Global, fields: &[&'a [u8]]) -> Result<Statement<'a>, Fault>
     ensures value { (us : List OwnedUnit) (c : Context) (n : ℕ)
@@ -263,7 +263,7 @@ fn select_statement<'a>(alloc: Global, fields: &[&'a [u8]]) -> Result<Statement<
     }
 }
 
-// `delete AID`.
+// Reads `delete AID`.
 #[tactic(auto, unfolding(mc_model_play::specs::DeckGrammar::statement_of))]
 fn delete_statement<'a>(alloc: Global, fields: &[&'a [u8]]) -> Result<Statement<'a>, Fault>
     ensures value { (us : List OwnedUnit) (c : Context) (n : ℕ)
@@ -277,7 +277,7 @@ fn delete_statement<'a>(alloc: Global, fields: &[&'a [u8]]) -> Result<Statement<
     }
 }
 
-// `dump AID`.
+// Reads `dump AID`.
 #[tactic(auto, unfolding(mc_model_play::specs::DeckGrammar::statement_of))]
 fn dump_statement<'a>(alloc: Global, fields: &[&'a [u8]]) -> Result<Statement<'a>, Fault>
     ensures value { (us : List OwnedUnit) (c : Context) (n : ℕ)
@@ -291,7 +291,7 @@ fn dump_statement<'a>(alloc: Global, fields: &[&'a [u8]]) -> Result<Statement<'a
     }
 }
 
-// `apdu HEX`. A field has a digit, so there is a byte.
+// Reads `apdu HEX`. A field has a digit, so there is a byte.
 #[tactic(auto, unfolding(mc_model_play::specs::DeckGrammar::statement_of))]
 fn apdu_statement<'a>(alloc: Global, fields: &[&'a [u8]]) -> Result<Statement<'a>, Fault>
     requires { AllByRecursion (λ t. 0 < length t.now) fields.now }
@@ -309,7 +309,7 @@ fn apdu_statement<'a>(alloc: Global, fields: &[&'a [u8]]) -> Result<Statement<'a
     }
 }
 
-// `budget N`.
+// Reads `budget N`.
 #[tactic(auto, unfolding(mc_model_play::specs::DeckGrammar::statement_of))]
 fn budget_statement<'a>(fields: &[&'a [u8]]) -> Result<Statement<'a>, Fault>
     ensures value { (us : List OwnedUnit) (c : Context) (n : ℕ)
@@ -323,7 +323,7 @@ fn budget_statement<'a>(fields: &[&'a [u8]]) -> Result<Statement<'a>, Fault>
     }
 }
 
-// `cut K FILL`.
+// Reads `cut K FILL`.
 #[tactic(auto, unfolding(mc_model_play::specs::DeckGrammar::statement_of))]
 fn cut_statement<'a>(alloc: Global, fields: &[&'a [u8]]) -> Result<Statement<'a>, Fault>
     ensures value { (us : List OwnedUnit) (c : Context) (n : ℕ)
@@ -341,7 +341,7 @@ fn cut_statement<'a>(alloc: Global, fields: &[&'a [u8]]) -> Result<Statement<'a>
     }
 }
 
-// `fail K`.
+// Reads `fail K`.
 #[tactic(auto, unfolding(mc_model_play::specs::DeckGrammar::statement_of))]
 fn fail_statement<'a>(fields: &[&'a [u8]]) -> Result<Statement<'a>, Fault>
     ensures value { (us : List OwnedUnit) (c : Context) (n : ℕ)
@@ -355,7 +355,7 @@ fn fail_statement<'a>(fields: &[&'a [u8]]) -> Result<Statement<'a>, Fault>
     }
 }
 
-// `poke AT FILL`, which stands before each `power`.
+// Reads `poke AT FILL`, which is valid only before the first `power`.
 #[tactic(auto, unfolding(mc_model_play::specs::DeckGrammar::statement_of))]
 fn poke_statement<'a>(
     alloc: Global,
@@ -380,7 +380,8 @@ fn poke_statement<'a>(
     }
 }
 
-/// A statement by its word and the fields behind it, after these names and maybe a `power`.
+/// Reads a statement by its word and the fields after it, with the units that were named before, and whether
+/// a `power` came.
 pub fn read_statement<'a>(
     alloc: Global,
     names: &Names<'a>,

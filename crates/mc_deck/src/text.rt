@@ -7,7 +7,7 @@ ghost use Rattle.mc_asm.specs.Items.{texts};
 use arrayvec::ArrayVec;
 use mc_text::cut_blank;
 
-/// The first five fields of a line: no statement has more than four.
+/// Returns the first five fields of a line: no statement has more than four.
 pub fn fields<'a>(line: &'a [u8]) -> ArrayVec<&'a [u8], 5>
     ensures value { texts result.items ≡ take 5 (fields line.now) }
     ensures filled { AllByRecursion (λ t. 0 < length t.now) result.items }

@@ -21,7 +21,7 @@ pub struct OwnedUnit {
     pub aid: Aid,
 }
 
-/// A copy of a unit.
+/// Returns a copy of a unit.
 pub fn copied(alloc: Global, unit: &Unit<'_>) -> Result<OwnedUnit, AllocError>
     ensures { IfOk result (λ u. owned_parts u ≡ parts_of unit.now) }
 {
@@ -35,7 +35,8 @@ pub fn copied(alloc: Global, unit: &Unit<'_>) -> Result<OwnedUnit, AllocError>
     })
 }
 
-// A record of a name: an object with the name in another object, each with a tag and a length of one byte.
+// Returns a record of a name: an object with the name in another object, each with a tag and a length of one
+// byte.
 fn record_of(alloc: Global, outer: u8, inner: u8, aid: &Aid) -> Result<Bytes, AllocError>
     ensures value { IfOk result (λ b. b ≡ object outer (object inner aid.now)) }
     ensures name { IfOk result (λ b. NumberWithin 5 16 (length aid.now)) }
@@ -48,7 +49,8 @@ fn record_of(alloc: Global, outer: u8, inner: u8, aid: &Aid) -> Result<Bytes, Al
     Ok(Bytes::from_vec(bytes))
 }
 
-/// The unit of a section: its code and its data, a card number of zeros, and the DIR and FCI records of its name.
+/// Returns the unit of a section: its code and its data, a card number of zeros, and the DIR and FCI records
+/// of its name.
 pub fn made(alloc: Global, aid: &Aid, code: Vec<u8>, init: Vec<u8>) -> Result<OwnedUnit, AllocError>
     ensures value { IfOk result (λ u. owned_parts u ≡ made_unit aid.now code.items init.items) }
     ensures name { IfOk result (λ u. NumberWithin 5 16 (length aid.now)) }
@@ -63,7 +65,7 @@ pub fn made(alloc: Global, aid: &Aid, code: Vec<u8>, init: Vec<u8>) -> Result<Ow
     })
 }
 
-/// The unit, lent.
+/// Borrows the unit.
 pub fn lent(unit: &OwnedUnit) -> Unit<'_>
     ensures { parts_of result ≡ owned_parts unit.now }
 {

@@ -10,26 +10,34 @@ use Rattle.mc_model_play.specs.declared.deck.DeckCause.TheVariants.{BadLine, Bad
 use Rattle.mc_desk.specs.Parts.{without_comment}
 
 -- what a name stands for: bytes from an offset of a register on, by the register's tag, or a number as it was written
-pub data Meaning : Type 0 where
-  Bytes : (tag : ℕ) (at : ℤ) (size : ℕ) → Meaning
-  Number : (text : List ℕ) → Meaning
+pub data NameMeaning : Type 0 where
+  Bytes : (tag : ℕ) (at : ℤ) (size : ℕ) → NameMeaning
+  Number : (text : List ℕ) → NameMeaning
 
--- the command's header in the last bytes of the public segment: CLA to P3, Lc, Le, La and SW
-abbrev pub header_names : List (List ℕ × Meaning)
-header_names =
+-- the bytes of the command's header in the last bytes of the public segment
+abbrev pub header_bytes : List (List ℕ × NameMeaning)
+header_bytes =
     (codes "CLA", Bytes 7 (negsuc 12) 1) ∷
     (codes "INS", Bytes 7 (negsuc 11) 1) ∷
     (codes "P1", Bytes 7 (negsuc 10) 1) ∷
     (codes "P2", Bytes 7 (negsuc 9) 1) ∷
-    (codes "P3", Bytes 7 (negsuc 8) 1) ∷
+    (codes "P3", Bytes 7 (negsuc 8) 1) ∷ []
+
+-- the words of the command's header: its lengths, and the status
+abbrev pub header_words : List (List ℕ × NameMeaning)
+header_words =
     (codes "Lc", Bytes 7 (negsuc 7) 2) ∷
     (codes "Le", Bytes 7 (negsuc 5) 2) ∷
     (codes "La", Bytes 7 (negsuc 3) 2) ∷
     (codes "SW", Bytes 7 (negsuc 1) 2) ∷ []
 
+-- the names that are there in every section
+abbrev pub header_names : List (List ℕ × NameMeaning)
+header_names = header_bytes ++ header_words
+
 -- what stands in a section before a line: its names, its static and session bytes, and the number of its DATA bytes, if it has a DATA line
 pub record Declared : Type 0 where
-  pub names : List (List ℕ × Meaning)
+  pub names : List (List ℕ × NameMeaning)
   pub fixed : ℕ
   pub session : ℕ
   pub data_bytes : Option ℕ
@@ -112,7 +120,7 @@ abbrev pub declaration_in : List ℕ → Option (DeclarationWord × List (List �
 declaration_in l = declaration_of (fields (without_comment l))
 
 -- a section with one more name
-abbrev pub with_name : Declared → List ℕ → Meaning → Declared
+abbrev pub with_name : Declared → List ℕ → NameMeaning → Declared
 with_name d name m = record d { names = (name, m) ∷ d.names }
 
 -- the next static bytes

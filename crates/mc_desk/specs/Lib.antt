@@ -8,5 +8,7 @@ pub mod Verdicts
 pub mod Told
 pub mod Traces
 pub mod Coverage
+pub mod Views
+pub mod Laws
 pub mod PurseDraft
 pub mod Computed

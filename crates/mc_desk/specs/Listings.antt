@@ -63,7 +63,6 @@ source_of s =
 
 -- the sections of a draft with their code
 abbrev pub sources_of : Draft → List Source
-unfolding source_of
 sources_of d = map source_of d.sections
 
 -- the line whose code has the byte at a place, if one has it
@@ -97,7 +96,7 @@ pub record Desk : Type 0 where
 
 -- a draft and its deck, or the first line that is refused as a draft's, else as its deck's
 unfoldable pub desk_read : List ℕ → Result Desk (ℕ × DeckCause)
-unfolding draft_read deck_read sources_of
+unfolding draft_read deck_read source_of
 desk_read t = do
   d ← draft_read t
   ls ← deck_read d.deck

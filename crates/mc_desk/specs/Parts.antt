@@ -53,12 +53,6 @@ first_word t = (first_cut is_blank (trim_front t)).0
 abbrev pub after_word : List ℕ → List ℕ
 after_word t = drop (length (first_word t)) (trim_front t)
 
--- texts with a character between each and the next
-abbrev pub joined_with : ℕ → List (List ℕ) → List ℕ
-joined_with c [] = []
-joined_with c (p ∷ []) = p
-joined_with c (p ∷ q ∷ ps) = p ++ c ∷ joined_with c (q ∷ ps)
-
 -- a line of a section without its comment
 abbrev pub without_comment : List ℕ → List ℕ
 without_comment l = (first_cut (λ c. c == 59) l).0

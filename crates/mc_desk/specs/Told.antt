@@ -81,7 +81,6 @@ after_row ch i (Does d) =
 
 -- the frame and the operand after a fetch
 abbrev pub after_fetch : Chain → Result (Ins × ℕ) DecodeFault → Frame × List ℕ
-unfolding row
 after_fetch ch (Err e) = (ch.frame, [])
 after_fetch ch (Ok i) = after_row ch i.0 (row i.0 (frame_at ch.frame i.1) ch.public (around ch))
 
@@ -95,7 +94,7 @@ surrounded ch t after = record { turn = t; code = running_code ch; frame = after
 
 -- the turn of a chain whose budget is not spent
 unfoldable pub told : Chain → Turn → Told
-unfolding after_fetch
+unfolding row
 told ch t = surrounded ch t (after_fetch ch (instruction_at (running_code ch) ch.frame.at))
 
 -- ---- runs
@@ -128,7 +127,6 @@ told_route c seat budget (ToApplication a) = told_passed c seat.selected a budge
 
 -- the turns of one command on a running card
 abbrev pub told_command : Card → Seat → List ℕ → ℕ → List Told
-unfolding told_run
 told_command c seat bytes budget = told_route c seat budget (route bytes)
 
 -- turns, and those after them where the command was answered by 9000 alone
@@ -138,7 +136,7 @@ told_sent false first rest = first
 
 -- the turns of commands in turn, up to the first that is not answered by 9000 alone
 unfoldable pub told_send : Card → Seat → ℕ → List (List ℕ) → List Told
-unfolding command told_command
+unfolding command told_run
 told_send c seat budget [] = []
 told_send c seat budget (b ∷ bs) =
     let r = command c seat b budget in
@@ -147,7 +145,6 @@ told_send c seat budget (b ∷ bs) =
 
 -- the turns of a line of a running card
 abbrev pub told_line : Card → Seat → ℕ → DeckLine → List Told
-unfolding told_command told_send
 told_line c seat budget (line.Select n) = told_command c seat (select_bytes n) budget
 told_line c seat budget (line.Delete n) = told_command c seat (delete_bytes n) budget
 told_line c seat budget (line.Apdu b) = told_command c seat b budget
@@ -156,7 +153,6 @@ told_line c seat budget _ = []
 
 -- the turns of a line where a card runs
 abbrev pub told_live : Live → Base → ℕ → DeckLine → List Told
-unfolding told_line
 told_live (Running seat) (OnCard c) budget l = told_line c seat budget l
 told_live (Running seat) (AtFault cause p) budget l = []
 told_live Unpowered base budget l = []
@@ -164,7 +160,7 @@ told_live Muted base budget l = []
 
 -- the turns of a line in a state
 unfoldable pub told_of : State → DeckLine → List Told
-unfolding told_live
+unfolding told_run told_send
 told_of (Cold m b a) l = []
 told_of (Hot s) l = told_live s.live s.base s.budget l
 

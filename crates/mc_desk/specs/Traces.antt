@@ -42,7 +42,6 @@ with_part l part = take (length l - 1) l ++ part ++ codes "\n"
 
 -- the line of a turn
 abbrev pub told_line : List Source → Told → List ℕ
-unfolding turn_line
 told_line ss t = with_part (turn_line t.turn) (turn_part t (line_of_turn ss t))
 
 -- the lines of turns
@@ -52,10 +51,9 @@ told_lines ss (t ∷ ts) = told_line ss t ++ told_lines ss ts
 
 -- the text of a line that was played, after the lines of its turns
 abbrev pub told_text : List Source → Step → List ℕ
-unfolding told_step
 told_text ss t = told_lines ss (told_step t) ++ plain_text t
 
 -- the trace of a play of a draft's deck
 unfoldable pub traced : List Source → List Step → List ℕ
-unfolding told_text
+unfolding turn_line told_step
 traced ss ts = texts (told_text ss) ts

@@ -19,7 +19,7 @@ use Rattle.mc_explore.specs.Rules.{Move}
 use Rattle.mc_explore.specs.States.{CardState, play_of, state_in}
 use Rattle.mc_explore.specs.Tries.{Manner, Whole, CutAt, manners, writes_of, next, step_of, recovery}
 use Rattle.mc_explore.specs.Safety.{Among, after_cuts, recovery_with, CanMake, ShowsSame, IsFill, DoesSame, IsSettled, FillLaw}
-use Rattle.mc_explore.proofs.Recoveries.{cuts_heal, whole_power, states_equal}
+use Rattle.mc_explore.proofs.Recoveries.{state_by, cuts_heal, whole_power, states_equal}
 use Rattle.mc_explore.proofs.Fills.{OpenAlike, whole_same, fill_for, cuts_among}
 
 -- ---- plays that agree with a state
@@ -51,9 +51,6 @@ pub warm_is : (s : Warm) (b : Base) (v : Live) (g : ℕ) → s.base ≡ b → s.
 warm_is s b v g x y z u =
     ap (λ (e : Base). hot e s.owed s.by s.live s.budget s.armed) x ∙ ap (λ (e : Live). hot b s.owed s.by e s.budget s.armed) y
     ∙ ap (λ (e : ℕ). hot b s.owed s.by v e s.armed) z ∙ ap (λ (e : Armed). hot b s.owed s.by v g e) u
-
-abbrev state_by : Base → Live → ℕ → List (List ℕ × ℕ) → CardState
-state_by b v g a = record { base = b; live = v; budget = g; allowances = a }
 
 -- ---- one action
 

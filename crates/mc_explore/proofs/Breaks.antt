@@ -10,7 +10,7 @@ use Rattle.mc_model_play.specs.Family.{live_in, is_running}
 use Rattle.mc_explore.specs.Rules.{Move, Rules}
 use Rattle.mc_explore.specs.States.{CardState, play_of, is_known, first_play}
 use Rattle.mc_explore.specs.Tries.{Manner, Whole, CutAt, Try, cuts_from, manners, writes_of, tries_with, tries_of, step_of, allowances_after, outcome}
-use Rattle.mc_explore.specs.Search.{Node, Round, Halt, Breaks as Broke, Full, Halted, counted, with_new, with_reached, after_outcome, tried_all, expanded, Broken, Explored, explored_at, ending_of, after_depth, after_round, explored_from, explored, first_state}
+use Rattle.mc_explore.specs.Search.{Node, Round, Halt, RuleBroken, Full, HaltedRound, with_try, with_new, with_reached, after_outcome, round_of_tries, round_of_states, Broken, Search, search_end, ending_of, after_depth, after_round, search_on, search_from, first_state}
 use Rattle.mc_explore.specs.Safety.{Among, CanMake, CanTry, Breaks, BrokenLaw}
 use Rattle.mc_explore.proofs.Showings.{allowances_same}
 use Rattle.mc_explore.proofs.Actions.{Agrees, move_writes}
@@ -23,11 +23,11 @@ use Rattle.mc_explore.proofs.Safety.{outcome_from, left_by, safe_keeps, ending_f
 -- ---- answers of both kinds
 
 -- what holds of an answer, and what of a refusal
-abbrev EitherWay : {A E : Type 0} → (A → Type 0) → (E → Type 0) → Result A E → Type 0
+abbrev pub EitherWay : {A E : Type 0} → (A → Type 0) → (E → Type 0) → Result A E → Type 0
 EitherWay P Q (Ok a) = P a
 EitherWay P Q (Err e) = Q e
 
-either_way : {A B E : Type 0} (P : A → Type 0) (R : B → Type 0) (Q : E → Type 0) (x : Result A E) (f : A → Result B E) → EitherWay P Q x → ((a : A) → P a → EitherWay R Q (f a)) → EitherWay R Q (x >>= f)
+pub either_way : {A B E : Type 0} (P : A → Type 0) (R : B → Type 0) (Q : E → Type 0) (x : Result A E) (f : A → Result B E) → EitherWay P Q x → ((a : A) → P a → EitherWay R Q (f a)) → EitherWay R Q (x >>= f)
 either_way P R Q (Ok a) f h g = g a h
 either_way P R Q (Err e) f h g = h
 
@@ -56,10 +56,10 @@ module _ (limit : ℕ) (rules : Rules) (first : CardState) where
   Finds d r = AreNodes (d + 1) r.fresh
 
   abbrev HaltsAt : ℕ → Halt → Type 0
-  HaltsAt d (Broke name path) = EndsIn path name × (length path ≡ d + 1)
+  HaltsAt d (RuleBroken name path) = EndsIn path name × (length path ≡ d + 1)
   HaltsAt d Full = ⊤
 
-  abbrev Halts : ℕ → Halted → Type 0
+  abbrev Halts : ℕ → HaltedRound → Type 0
   Halts d h = HaltsAt d h.halt
 
   module _ (d : ℕ) (n : Node) (is : IsNode d n) where
@@ -78,22 +78,22 @@ module _ (limit : ℕ) (rules : Rules) (first : CardState) where
     outcome_finds t r (Err name) among e h = ((n.state, is.0, among, e), (let k : length n.path ≡ d = is.1 in omega (arith, k)))
     outcome_finds t r (Ok c) among e h = reached_finds t r c (is_known c r.known) among e h
 
-    tries_find : (ts : List Try) (r : Round) → ((t : Try) → Among t ts → Among t (tries_of rules.moves n.state)) → Finds d r → EitherWay (Finds d) (Halts d) (tried_all limit rules.ons n ts r)
-    unfolding tried_all
+    tries_find : (ts : List Try) (r : Round) → ((t : Try) → Among t ts → Among t (tries_of rules.moves n.state)) → Finds d r → EitherWay (Finds d) (Halts d) (round_of_tries limit rules.ons n ts r)
+    unfolding round_of_tries
     tries_find [] r among h = h
     tries_find (t ∷ ts) r among h =
-        either_way (Finds d) (Finds d) (Halts d) (after_outcome (outcome rules.ons n.state t) limit (t ∷ n.path) (counted r)) (λ q. tried_all limit rules.ons n ts q)
-        (outcome_finds t (counted r) (outcome rules.ons n.state t) (among t (inl refl)) refl h) (λ q g. tries_find ts q (λ u i. among u (inr i)) g)
+        either_way (Finds d) (Finds d) (Halts d) (after_outcome (outcome rules.ons n.state t) limit (t ∷ n.path) (with_try r)) (λ q. round_of_tries limit rules.ons n ts q)
+        (outcome_finds t (with_try r) (outcome rules.ons n.state t) (among t (inl refl)) refl h) (λ q g. tries_find ts q (λ u i. among u (inr i)) g)
 
-  nodes_find : (d : ℕ) (ns : List Node) (r : Round) → AreNodes d ns → Finds d r → EitherWay (Finds d) (Halts d) (expanded limit rules ns r)
-  unfolding expanded
+  nodes_find : (d : ℕ) (ns : List Node) (r : Round) → AreNodes d ns → Finds d r → EitherWay (Finds d) (Halts d) (round_of_states limit rules ns r)
+  unfolding round_of_states
   nodes_find d [] r are h = h
   nodes_find d (n ∷ ns) r are h =
-      either_way (Finds d) (Finds d) (Halts d) (tried_all limit rules.ons n (tries_of rules.moves n.state) r) (λ q. expanded limit rules ns q)
+      either_way (Finds d) (Finds d) (Halts d) (round_of_tries limit rules.ons n (tries_of rules.moves n.state) r) (λ q. round_of_states limit rules ns q)
       (tries_find d n are.0 (tries_of rules.moves n.state) r (λ t i. i) h) (λ q g. nodes_find d ns q are.1 g)
 
   -- a search from some depth on that ends with a broken rule
-  abbrev EndsBroken : Explored → ℕ → Type 0
+  abbrev EndsBroken : Search → ℕ → Type 0
   EndsBroken e d = (name : List ℕ) (path : List Try) → e.ending ≡ Broken name path → EndsIn path name × (length path ≡ d + length e.news + 1)
 
   broken_same : (d : ℕ) (m name : List ℕ) (p path : List Try) → EndsIn p m × (length p ≡ d + 1) → Broken m p ≡ Broken name path → EndsIn path name × (length path ≡ d + 0 + 1)
@@ -103,31 +103,31 @@ module _ (limit : ℕ) (rules : Rules) (first : CardState) where
       let many : length p ≡ d + 1 = h.1 in
       (subst (λ (q : List Try). EndsIn q name) paths (subst (λ (x : List ℕ). EndsIn p x) names h.0), subst (λ (q : List Try). length q ≡ d + 0 + 1) paths (omega (arith, many)))
 
-  halt_broken : (d s t : ℕ) (h : Halt) → HaltsAt d h → EndsBroken (explored_at (ending_of h (d + 1)) s t) d
-  halt_broken d s t (Broke m p) h name path e = broken_same d m name p path h e
+  halt_broken : (d s t : ℕ) (h : Halt) → HaltsAt d h → EndsBroken (search_end (ending_of h (d + 1)) s t) d
+  halt_broken d s t (RuleBroken m p) h name path e = broken_same d m name p path h e
   halt_broken d s t Full h name path e = absurd (cc e)
 
-  depth_broken : (d : ℕ) (ns : List Node) (q : Round) (again : List Node → Round → Explored) → EndsBroken (again ns q) (d + 1) → EndsBroken (after_depth ns q again) d
+  depth_broken : (d : ℕ) (ns : List Node) (q : Round) (again : List Node → Round → Search) → EndsBroken (again ns q) (d + 1) → EndsBroken (after_depth ns q again) d
   depth_broken d [] q again later name path e = absurd (cc e)
   depth_broken d (n ∷ ns) q again later name path e =
       let h = later name path e in
       let many : length path ≡ d + 1 + length (again (n ∷ ns) q).news + 1 = h.1 in
       (h.0, omega (arith, many))
 
-  round_broken : (d : ℕ) (x : Result Round Halted) (again : List Node → Round → Explored) → EitherWay (Finds d) (Halts d) x
+  round_broken : (d : ℕ) (x : Result Round HaltedRound) (again : List Node → Round → Search) → EitherWay (Finds d) (Halts d) x
       → ((ms : List Node) (q : Round) → AreNodes (d + 1) ms → EndsBroken (again ms q) (d + 1)) → EndsBroken (after_round x (d + 1) again) d
   round_broken d (Err h) again finds later = halt_broken d h.count h.tries h.halt finds
   round_broken d (Ok q) again finds later = depth_broken d q.fresh q again (later q.fresh q finds)
 
-  explored_broken : (n d : ℕ) (ns : List Node) (r : Round) → AreNodes d ns → EndsBroken (explored_from n d limit rules ns r) d
-  unfolding explored_from
+  explored_broken : (n d : ℕ) (ns : List Node) (r : Round) → AreNodes d ns → EndsBroken (search_on n d limit rules ns r) d
+  unfolding search_on
   explored_broken zero d ns r are = λ name path e. absurd (cc e)
   explored_broken (suc n) d ns r are =
-      round_broken d (expanded limit rules ns (record r { fresh = [] })) (λ ms q. explored_from n (d + 1) limit rules ms q) (nodes_find d ns (record r { fresh = [] }) are tt)
+      round_broken d (round_of_states limit rules ns (record r { fresh = [] })) (λ ms q. search_on n (d + 1) limit rules ms q) (nodes_find d ns (record r { fresh = [] }) are tt)
       (λ ms q more. explored_broken n (d + 1) ms q more)
 
-  search_broken : (n : ℕ) → EndsBroken (explored n limit rules first) 0
-  unfolding explored
+  search_broken : (n : ℕ) → EndsBroken (search_from n limit rules first) 0
+  unfolding search_from
   search_broken n = explored_broken n 0 (record { state = first; path = [] } ∷ []) (record { known = first ∷ []; fresh = []; count = 1; tries = 0 }) ((refl, refl), tt)
 
 -- ---- what is tried can be made
@@ -243,7 +243,7 @@ unfolding first_state
 broken_law limit n name path text x read ends =
     let moves = moves_of_exploration text x read in
     let start = Hot (first_play x.lines) in
-    let e = explored n limit x.rules (first_state x) in
+    let e = search_from n limit x.rules (first_state x) in
     let found = search_broken limit x.rules (first_state x) n name path (sym (ending_first limit n x) ∙ ends) in
     let many : length path ≡ 0 + length e.news + 1 = found.1 in
     let p = ends_played limit x.rules moves start (first_state x) (first_agrees x) path name found.0 in

@@ -6,7 +6,7 @@ use Rattle.mc_model_play.specs.Play.{State, Hot, is_card_line}
 use Rattle.mc_explore.specs.Rules.{Move, OnRule, Rules, Exploration, exploration_read}
 use Rattle.mc_explore.specs.States.{CardState, play_of, state_in, first_play}
 use Rattle.mc_explore.specs.Tries.{Manner, Try, manners, writes_of, tries_with, tries_of, step_of, recovery, allowances_after, outcome}
-use Rattle.mc_explore.specs.Search.{Ending, All, AtDepth, TooMany, explored, first_state, search_of}
+use Rattle.mc_explore.specs.Search.{Ending, All, AtDepth, TooMany, search_from, first_state, search_of}
 use Rattle.mc_explore.specs.Safety.{Among, Action, after_action, KeepsRules, KeepsRulesIn, AllLaw, DepthLaw, LimitLaw}
 use Rattle.mc_explore.proofs.Showings.{allowances_same}
 use Rattle.mc_explore.proofs.Actions.{Agrees, refilled, IsTried, action_tried}
@@ -82,7 +82,7 @@ module _ (limit : ℕ) (rules : Rules) (moves : AreMoves rules.moves) where
 
 -- ---- the laws
 
-pub ending_first : (limit n : ℕ) (x : Exploration) → (search_of limit n x).ending ≡ (explored n limit x.rules (first_state x)).ending
+pub ending_first : (limit n : ℕ) (x : Exploration) → (search_of limit n x).ending ≡ (search_from n limit x.rules (first_state x)).ending
 unfolding search_of
 ending_first limit n x = refl
 

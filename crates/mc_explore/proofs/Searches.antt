@@ -1,14 +1,15 @@
 -- A search that goes on has every try of the states before it kept, with its state among those that were found.
 use Rattle.std.specs.Prelude.{◌≡◌, ◌⊎◌, ℕ, zero, suc, ◌+◌, ◌<◌, ◌≤◌, Bool, true, false, nat_lt, List, [], ◌∷◌, ◌++◌, length, Result, Ok, Err, ⊤, refl}
 use Rattle.std.specs.List.{AllByRecursion}
-use Rattle.std.proofs.Common.{arith, sym, subst, inl, inr}
+use Rattle.std.proofs.Common.{arith, sym, subst, inl, inr, ◌∙◌}
 use Rattle.mc_model_device.proofs.ImageLemmas.{all_map}
 use Rattle.mc_model_machine.specs.Text.{◌>>=◌}
 use Rattle.mc_explore.specs.Rules.{OnRule, Rules}
 use Rattle.mc_explore.specs.States.{CardState, is_known}
 use Rattle.mc_explore.specs.Tries.{Try, tries_of, outcome}
-use Rattle.mc_explore.specs.Search.{Node, Round, Halt, Breaks, Full, Halted, counted, with_new, with_reached, after_outcome, tried_all, expanded, Ending, All, AtDepth, Broken, TooMany, Explored, explored_at, ending_of, with_depth, after_depth, after_round, explored_from, explored}
+use Rattle.mc_explore.specs.Search.{Node, Round, Halt, RuleBroken, Full, HaltedRound, with_try, with_new, with_reached, after_outcome, round_of_tries, round_of_states, Ending, All, AtDepth, Broken, TooMany, Search, search_end, ending_of, with_depth, after_depth, after_round, search_on, search_from}
 use Rattle.mc_explore.specs.Safety.{Among}
+use Rattle.mc_explore.proofs.Showings.{bind_same}
 use Rattle.mc_explore.proofs.SameStates.{known_among}
 
 -- ---- answers that go on
@@ -35,29 +36,25 @@ bind_bind : {A B C E : Type 0} (x : Result A E) (f : A → Result B E) (g : B �
 bind_bind (Ok a) f g = refl
 bind_bind (Err e) f g = refl
 
-bind_same : {A B E : Type 0} (x : Result A E) (f g : A → Result B E) → ((a : A) → f a ≡ g a) → (x >>= f) ≡ (x >>= g)
-bind_same (Ok a) f g h = h a
-bind_same (Err e) f g h = refl
-
 -- tries in two parts
 pub tried_append : (limit : ℕ) (ons : List OnRule) (n : Node) (ts us : List Try) (r : Round)
-    → tried_all limit ons n (ts ++ us) r ≡ (tried_all limit ons n ts r >>= λ q. tried_all limit ons n us q)
-unfolding tried_all
+    → round_of_tries limit ons n (ts ++ us) r ≡ (round_of_tries limit ons n ts r >>= λ q. round_of_tries limit ons n us q)
+unfolding round_of_tries
 tried_append limit ons n [] us r = refl
 tried_append limit ons n (t ∷ ts) us r =
-    let first = after_outcome (outcome ons n.state t) limit (t ∷ n.path) (counted r) in
-    bind_same first (λ q. tried_all limit ons n (ts ++ us) q) (λ q. tried_all limit ons n ts q >>= λ p. tried_all limit ons n us p) (λ q. tried_append limit ons n ts us q)
-    ∙ sym (bind_bind first (λ q. tried_all limit ons n ts q) (λ p. tried_all limit ons n us p))
+    let first = after_outcome (outcome ons n.state t) limit (t ∷ n.path) (with_try r) in
+    bind_same first (λ q. round_of_tries limit ons n (ts ++ us) q) (λ q. round_of_tries limit ons n ts q >>= λ p. round_of_tries limit ons n us p) (λ q. tried_append limit ons n ts us q)
+    ∙ sym (bind_bind first (λ q. round_of_tries limit ons n ts q) (λ p. round_of_tries limit ons n us p))
 
 -- states in two parts
 pub expanded_append : (limit : ℕ) (rules : Rules) (ns ms : List Node) (r : Round)
-    → expanded limit rules (ns ++ ms) r ≡ (expanded limit rules ns r >>= λ q. expanded limit rules ms q)
-unfolding expanded
+    → round_of_states limit rules (ns ++ ms) r ≡ (round_of_states limit rules ns r >>= λ q. round_of_states limit rules ms q)
+unfolding round_of_states
 expanded_append limit rules [] ms r = refl
 expanded_append limit rules (n ∷ ns) ms r =
-    let first = tried_all limit rules.ons n (tries_of rules.moves n.state) r in
-    bind_same first (λ q. expanded limit rules (ns ++ ms) q) (λ q. expanded limit rules ns q >>= λ p. expanded limit rules ms p) (λ q. expanded_append limit rules ns ms q)
-    ∙ sym (bind_bind first (λ q. expanded limit rules ns q) (λ p. expanded limit rules ms p))
+    let first = round_of_tries limit rules.ons n (tries_of rules.moves n.state) r in
+    bind_same first (λ q. round_of_states limit rules (ns ++ ms) q) (λ q. round_of_states limit rules ns q >>= λ p. round_of_states limit rules ms p) (λ q. expanded_append limit rules ns ms q)
+    ∙ sym (bind_bind first (λ q. round_of_states limit rules ns q) (λ p. round_of_states limit rules ms p))
 
 -- ---- what a depth adds
 
@@ -86,7 +83,7 @@ record Advances (r q : Round) : Type 0 where
   fresh : (c : CardState) → InNodes c r.fresh → InNodes c q.fresh
   new : (c : CardState) → Among c q.known → Among c r.known ⊎ InNodes c q.fresh
 
-stays : (r : Round) → Advances r (counted r)
+stays : (r : Round) → Advances r (with_try r)
 stays r = record { known = λ c i. i; fresh = λ c i. i; new = λ c i. inl i }
 
 still : (r : Round) → Advances r r
@@ -122,7 +119,7 @@ module _ (limit : ℕ) (ons : List OnRule) (n : Node) where
   Tried r t q = Advances r q × LeadsInto ons q.known n.state t
 
   room : (t : Try) (r : Round) (c : CardState) (path : List Try) (b : Bool) → outcome ons n.state t ≡ Ok c
-      → IfGoesOn (Tried r t) (with_new b (record { state = c; path = path }) (counted r))
+      → IfGoesOn (Tried r t) (with_new b (record { state = c; path = path }) (with_try r))
   room t r c path true e = (
     record {
       known = λ d i. inr i;
@@ -134,21 +131,21 @@ module _ (limit : ℕ) (ons : List OnRule) (n : Node) where
   room t r c path false e = tt
 
   reached : (t : Try) (r : Round) (c : CardState) (path : List Try) (b : Bool) → outcome ons n.state t ≡ Ok c → is_known c r.known ≡ b
-      → IfGoesOn (Tried r t) (with_reached b limit (record { state = c; path = path }) (counted r))
+      → IfGoesOn (Tried r t) (with_reached b limit (record { state = c; path = path }) (with_try r))
   reached t r c path true e k = (stays r, (c, e, known_among c r.known k))
   reached t r c path false e k = room t r c path (nat_lt r.count limit) e
 
-  outcome_kept : (t : Try) (r : Round) (o : Result CardState (List ℕ)) → outcome ons n.state t ≡ o → IfGoesOn (Tried r t) (after_outcome o limit (t ∷ n.path) (counted r))
+  outcome_kept : (t : Try) (r : Round) (o : Result CardState (List ℕ)) → outcome ons n.state t ≡ o → IfGoesOn (Tried r t) (after_outcome o limit (t ∷ n.path) (with_try r))
   outcome_kept t r (Err name) e = tt
   outcome_kept t r (Ok c) e = reached t r c (t ∷ n.path) (is_known c r.known) e refl
 
-  all_tried : (ts : List Try) (r : Round) → IfGoesOn (λ q. Advances r q × AllByRecursion (LeadsInto ons q.known n.state) ts) (tried_all limit ons n ts r)
-  unfolding tried_all
+  all_tried : (ts : List Try) (r : Round) → IfGoesOn (λ q. Advances r q × AllByRecursion (LeadsInto ons q.known n.state) ts) (round_of_tries limit ons n ts r)
+  unfolding round_of_tries
   all_tried [] r = (still r, tt)
   all_tried (t ∷ ts) r =
-      goes_on (Tried r t) (λ q. Advances r q × AllByRecursion (LeadsInto ons q.known n.state) (t ∷ ts)) (after_outcome (outcome ons n.state t) limit (t ∷ n.path) (counted r))
-      (λ q. tried_all limit ons n ts q) (outcome_kept t r (outcome ons n.state t) refl)
-      (λ p h. weaker (λ q. Advances p q × AllByRecursion (LeadsInto ons q.known n.state) ts) (λ q. Advances r q × AllByRecursion (LeadsInto ons q.known n.state) (t ∷ ts)) (tried_all limit ons n ts p)
+      goes_on (Tried r t) (λ q. Advances r q × AllByRecursion (LeadsInto ons q.known n.state) (t ∷ ts)) (after_outcome (outcome ons n.state t) limit (t ∷ n.path) (with_try r))
+      (λ q. round_of_tries limit ons n ts q) (outcome_kept t r (outcome ons n.state t) refl)
+      (λ p h. weaker (λ q. Advances p q × AllByRecursion (LeadsInto ons q.known n.state) ts) (λ q. Advances r q × AllByRecursion (LeadsInto ons q.known n.state) (t ∷ ts)) (round_of_tries limit ons n ts p)
       (λ q g. (then r p q h.0 g.0, (leads_on ons n.state t p.known q.known (g.0).known h.1, g.1))) (all_tried ts p))
 
 module _ (limit : ℕ) (rules : Rules) where
@@ -162,13 +159,13 @@ module _ (limit : ℕ) (rules : Rules) where
   abbrev Expands : List Node → Round → Round → Type 0
   Expands ns r q = Advances r q × AllByRecursion (λ n. Closes q.known n.state) ns
 
-  all_expanded : (ns : List Node) (r : Round) → IfGoesOn (Expands ns r) (expanded limit rules ns r)
-  unfolding expanded
+  all_expanded : (ns : List Node) (r : Round) → IfGoesOn (Expands ns r) (round_of_states limit rules ns r)
+  unfolding round_of_states
   all_expanded [] r = (still r, tt)
   all_expanded (n ∷ ns) r =
-      goes_on (λ q. Advances r q × Closes q.known n.state) (Expands (n ∷ ns) r) (tried_all limit rules.ons n (tries_of rules.moves n.state) r)
-      (λ q. expanded limit rules ns q) (all_tried limit rules.ons n (tries_of rules.moves n.state) r)
-      (λ p h. weaker (Expands ns p) (Expands (n ∷ ns) r) (expanded limit rules ns p) (λ q g. (then r p q h.0 g.0, (closes_on p.known q.known (g.0).known n.state h.1, g.1))) (all_expanded ns p))
+      goes_on (λ q. Advances r q × Closes q.known n.state) (Expands (n ∷ ns) r) (round_of_tries limit rules.ons n (tries_of rules.moves n.state) r)
+      (λ q. round_of_states limit rules ns q) (all_tried limit rules.ons n (tries_of rules.moves n.state) r)
+      (λ p h. weaker (Expands ns p) (Expands (n ∷ ns) r) (round_of_states limit rules ns p) (λ q g. (then r p q h.0 g.0, (closes_on p.known q.known (g.0).known n.state h.1, g.1))) (all_expanded ns p))
 
   -- ---- safety
 
@@ -181,7 +178,7 @@ module _ (limit : ℕ) (rules : Rules) where
   safe_from k known c f h =
       all_map (LeadsInto rules.ons known c) (λ t. (d : CardState) × (outcome rules.ons c t ≡ Ok d) × Safe k d) (λ t g. (g.0, g.1, f g.0 g.2)) (tries_of rules.moves c) h
 
-  -- where all states close, each is safe for ever
+  -- if all states close, each is safe for ever
   closed_safe : (known : List CardState) → ((d : CardState) → Among d known → Closes known d) → (k : ℕ) (c : CardState) → Among c known → Safe k c
   closed_safe known all zero c i = tt
   closed_safe known all (suc k) c i = safe_from k known c (closed_safe known all k) (all c i)
@@ -191,10 +188,10 @@ module _ (limit : ℕ) (rules : Rules) where
   Pending ns known = (c : CardState) → Among c known → InNodes c ns ⊎ Closes known c
 
   -- a number of tries in a row that a search from some depth on promises: none of a depth that was not done
-  pub record IsPromise (P : Explored → ℕ → ℕ → Type 0) : Type 0 where
-    pub halt : (h : Halt) (s t d k : ℕ) → P (explored_at (ending_of h (d + 1)) s t) d (suc k) → ⊥
-    pub last : (s t d k : ℕ) → P (explored_at (AtDepth d) s t) d (suc k) → ⊥
-    pub later : (n : ℕ) (e : Explored) (d k : ℕ) → P (with_depth n e) d (suc k) → P e (d + 1) k
+  pub record IsPromise (P : Search → ℕ → ℕ → Type 0) : Type 0 where
+    pub halt : (h : Halt) (s t d k : ℕ) → P (search_end (ending_of h (d + 1)) s t) d (suc k) → ⊥
+    pub last : (s t d k : ℕ) → P (search_end (AtDepth d) s t) d (suc k) → ⊥
+    pub later : (n : ℕ) (e : Search) (d k : ℕ) → P (with_depth n e) d (suc k) → P e (d + 1) k
 
   -- a state that was found closes among those that are found after its depth
   found_closes : (ns : List Node) (r q : Round) → Pending ns r.known → Expands ns (record r { fresh = [] }) q → (c : CardState) → Among c r.known → Closes q.known c
@@ -213,18 +210,18 @@ module _ (limit : ℕ) (rules : Rules) where
   none_pending : (known : List CardState) → Pending [] known → (c : CardState) → Among c known → Closes known c
   none_pending known h c i = elim (h c i) [ inl none ↦ absurd none | inr closes ↦ closes ]
 
-  module _ (P : Explored → ℕ → ℕ → Type 0) (is : IsPromise P) where
+  module _ (P : Search → ℕ → ℕ → Type 0) (is : IsPromise P) where
     -- what a search promises of every state that was found before it
-    abbrev SafeAfter : Explored → ℕ → Round → Type 0
+    abbrev SafeAfter : Search → ℕ → Round → Type 0
     SafeAfter e d r = (k : ℕ) → P e d k → (c : CardState) → Among c r.known → Safe k c
 
     -- after a depth that is done
-    depth_safe : (d : ℕ) (ns : List Node) (q : Round) (again : List Node → Round → Explored) → Pending ns q.known → SafeAfter (again ns q) (d + 1) q
+    depth_safe : (d : ℕ) (ns : List Node) (q : Round) (again : List Node → Round → Search) → Pending ns q.known → SafeAfter (again ns q) (d + 1) q
         → (k : ℕ) → P (after_depth ns q again) d (suc k) → (c : CardState) → Among c q.known → Safe k c
     depth_safe d [] q again pending later k h c i = closed_safe q.known (none_pending q.known pending) k c i
     depth_safe d (n ∷ ns) q again pending later k h c i = later k (is.later (length (n ∷ ns)) (again (n ∷ ns) q) d k h) c i
 
-    round_safe : (d : ℕ) (ns : List Node) (r : Round) (x : Result Round Halted) (again : List Node → Round → Explored) → Pending ns r.known → IfGoesOn (Expands ns (record r { fresh = [] })) x
+    round_safe : (d : ℕ) (ns : List Node) (r : Round) (x : Result Round HaltedRound) (again : List Node → Round → Search) → Pending ns r.known → IfGoesOn (Expands ns (record r { fresh = [] })) x
         → ((ms : List Node) (q : Round) → Pending ms q.known → SafeAfter (again ms q) (d + 1) q) → (k : ℕ) → P (after_round x (d + 1) again) d (suc k)
         → (c : CardState) → Among c r.known → Safe (suc k) c
     round_safe d ns r (Err h) again pending ex later k promise c i = absurd (is.halt h.halt h.count h.tries d k promise)
@@ -232,17 +229,17 @@ module _ (limit : ℕ) (rules : Rules) where
         let after = pending_after ns r q pending ex in
         safe_from k q.known c (depth_safe d q.fresh q again after (later q.fresh q after) k promise) (found_closes ns r q pending ex c i)
 
-    explored_safe : (n d : ℕ) (ns : List Node) (r : Round) → Pending ns r.known → SafeAfter (explored_from n d limit rules ns r) d r
-    unfolding explored_from
+    explored_safe : (n d : ℕ) (ns : List Node) (r : Round) → Pending ns r.known → SafeAfter (search_on n d limit rules ns r) d r
+    unfolding search_on
     explored_safe n d ns r pending zero h c i = tt
     explored_safe zero d ns r pending (suc k) h c i = absurd (is.last r.count r.tries d k h)
     explored_safe (suc n) d ns r pending (suc k) h c i =
-        round_safe d ns r (expanded limit rules ns (record r { fresh = [] })) (λ ms q. explored_from n (d + 1) limit rules ms q) pending (all_expanded ns (record r { fresh = [] }))
+        round_safe d ns r (round_of_states limit rules ns (record r { fresh = [] })) (λ ms q. search_on n (d + 1) limit rules ms q) pending (all_expanded ns (record r { fresh = [] }))
         (λ ms q p. explored_safe n (d + 1) ms q p) k h c i
 
     -- a search promises as many tries in a row from its first state
-    pub search_safe : (n : ℕ) (c : CardState) (k : ℕ) → P (explored n limit rules c) 0 k → Safe k c
-    unfolding explored
+    pub search_safe : (n : ℕ) (c : CardState) (k : ℕ) → P (search_from n limit rules c) 0 k → Safe k c
+    unfolding search_from
     search_safe n c k h =
         explored_safe n 0 (record { state = c; path = [] } ∷ []) (record { known = c ∷ []; fresh = []; count = 1; tries = 0 })
         (λ d i. elim i [ inl same ↦ inl (inl same) | inr none ↦ absurd none ]) k h c (inl refl)
@@ -263,7 +260,7 @@ module _ (limit : ℕ) (rules : Rules) where
   promise_later (Broken name path) d k h = h
 
   no_halt : (h : Halt) (d k : ℕ) → Promises (ending_of h (d + 1)) d (suc k) → ⊥
-  no_halt (Breaks name path) d k h = h
+  no_halt (RuleBroken name path) d k h = h
   no_halt Full d k h = omega arith
 
   pub promise_by_ending : IsPromise (λ e d k. Promises e.ending d k)

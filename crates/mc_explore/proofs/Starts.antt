@@ -14,7 +14,7 @@ use Rattle.mc_model_play.specs.Play.{Armed, Unarmed, Live, Running, Unpowered, M
 use Rattle.mc_explore.specs.Rules.{Exploration}
 use Rattle.mc_explore.specs.States.{warm_in, play_of_deck, first_warm, first_play}
 use Rattle.mc_explore.specs.Search.{first_state}
-use Rattle.mc_explore.specs.Safety.{IsSettled}
+use Rattle.mc_explore.specs.Safety.{IsSettled, FirstLaw}
 use Rattle.mc_explore.proofs.Actions.{IsStarted, Agrees, hot}
 
 -- the running card of a play is settled
@@ -128,3 +128,15 @@ unfolding first_state
 first_agrees x =
     let f = first_is x.lines in
     record { warm = first_play x.lines; is = refl; base = refl; live = refl; budget = refl; unarmed = f.unarmed; started = f.started }
+
+started_settles : (v : Live) (b : Base) (o : ℕ) → IsStarted v b o → IsSettled v b o
+started_settles (Running seat) (OnCard c) o h = h
+started_settles (Running seat) (AtFault cause place) o h = h
+started_settles Unpowered b o h = tt
+started_settles Muted b o h = tt
+
+pub first_law : FirstLaw
+first_law ls =
+    let f = first_is ls in
+    let s = first_play ls in
+    record { unarmed = f.unarmed; settled = started_settles s.live s.base s.owed f.started }

@@ -1,7 +1,7 @@
 -- The statements of a broken rule, appended to their deck, play to where their tries lead.
-use Rattle.std.specs.Prelude.{◌≡◌, ℕ, ◌+◌, ◌≤◌, Bool, true, false, ◌&&◌, cond, nat_le, List, [], ◌∷◌, ◌++◌, map, Option, Some, None, ⊤, refl}
+use Rattle.std.specs.Prelude.{◌≡◌, ℕ, ◌≤◌, Bool, true, false, cond, nat_le, List, [], ◌∷◌, ◌++◌, map, Option, Some, None, ⊤, refl}
 use Rattle.std.specs.List.{AllByRecursion}
-use Rattle.std.proofs.Common.{arith, ap, sym, subst, ◌∙◌}
+use Rattle.std.proofs.Common.{ap, sym, ◌∙◌}
 use Rattle.std.proofs.lemmas.Bool.{lt-leb}
 use Rattle.std.proofs.lemmas.List.{append_assoc}
 use Rattle.mc_model_device.specs.declared.device.Stop.TheVariants as stop
@@ -11,19 +11,18 @@ use Rattle.mc_model_device.specs.Device.{blank_words, device_words}
 use Rattle.mc_model_device.specs.Card.{Card}
 use Rattle.mc_model_device.specs.Layout.{fault}
 use Rattle.mc_model_device.specs.PowerUp.{Base, OnCard, AtFault, base_of}
-use Rattle.mc_model_card.specs.Manager.{Seat}
 use Rattle.mc_model_card.specs.Items.{moves, StopAt}
 use Rattle.mc_model_card.specs.Commands.{Command, refusal, command}
 use Rattle.mc_model_machine.specs.Apdu.{apdu_read}
 use Rattle.mc_model_play.specs.DeckGrammar.{DeckLine}
 use Rattle.mc_model_play.specs.DeckGrammar as line
 use Rattle.mc_model_play.specs.Family.{is_running}
-use Rattle.mc_model_play.specs.Play.{Armed, Unarmed, ArmedCut, ArmedFail, Live, Running, Unpowered, Muted, Warm, State, Cold, Hot, Step, WornAt, step, hot_step, cold_step, card_line, line_command, line_after, hit_of, power_moves, stopped_power, is_card_line, moves_of, armed_stop_in, steady_at, steady_worn, plays, start, last_state, play_at_power, power_after}
+use Rattle.mc_model_play.specs.Play.{Armed, Unarmed, ArmedCut, ArmedFail, Live, Running, Unpowered, Muted, Warm, State, Cold, Hot, WornAt, step, card_line, line_command, line_after, hit_of, power_moves, stopped_power, is_card_line, moves_of, armed_stop_in, steady_at, steady_worn, plays, start, last_state, play_at_power, power_after}
 use Rattle.mc_explore.specs.Rules.{Move}
 use Rattle.mc_explore.specs.States.{warm_in, play_of_deck, running_or_powered, first_warm, first_play}
 use Rattle.mc_explore.specs.Tries.{Manner, Whole, CutAt, Try, next, step_of, recovery}
-use Rattle.mc_explore.specs.Search.{Statement, cut_statement, power_statement, idle_statement, move_statements, path_statements, is_cut, begins_cut, dropping, lead_statements, statements_to}
-use Rattle.mc_explore.specs.Safety.{after_tries, CountsFromOne, with_statements, StatementsLaw}
+use Rattle.mc_explore.specs.Search.{Statement, cut_statement, power_statement, move_statements, path_statements, is_cut, drop_statements, lead_statements, statements_to}
+use Rattle.mc_explore.specs.Safety.{after_tries, CountsFromOne, StatementsLaw}
 use Rattle.mc_explore.proofs.Actions.{hot}
 
 -- ---- plays line by line
@@ -52,7 +51,7 @@ deck_append : (ls ms : List (ℕ × DeckLine)) → play_of_deck (ls ++ ms) ≡ p
 unfolding play_of_deck
 deck_append ls ms = played_append (start (blank_words device_words)) ls ms
 
--- where no failed write is armed, no write fails
+-- if no failed write is armed, no write fails
 abbrev IsSteady : Armed → Type 0
 IsSteady Unarmed = ⊤
 IsSteady (ArmedCut k x) = ⊤
@@ -198,7 +197,7 @@ idle_drops n b o j Unpowered g a h = refl
 idle_drops n b o j Muted g a h = refl
 
 dropping_plays : (n : ℕ) (b : Base) (o : ℕ) (j : Journal) (v : Live) (g : ℕ) (a : Armed) (rest : List Statement) → CountsFromOne a
-    → played (Hot (hot b o j v g a)) (lines_of n (dropping a ++ rest)) ≡ played (Hot (hot b o j v g Unarmed)) (lines_of n rest)
+    → played (Hot (hot b o j v g a)) (lines_of n (drop_statements a ++ rest)) ≡ played (Hot (hot b o j v g Unarmed)) (lines_of n rest)
 dropping_plays n b o j v g Unarmed rest h = refl
 dropping_plays n b o j v g (ArmedCut k x) rest h =
     played_line (Hot (hot b o j v g (ArmedCut k x))) (n, line.Apdu (0 ∷ [])) (lines_of n rest) ∙ ap (λ (z : State). played z (lines_of n rest)) (idle_drops n b o j v g (ArmedCut k x) h)
@@ -210,7 +209,7 @@ cold_drops : (n : ℕ) (m : List (List ℕ)) (g : ℕ) (a : Armed) → steady_ne
 unfolding step
 cold_drops n m g a = refl
 
-cold_dropping : (n : ℕ) (m : List (List ℕ)) (g : ℕ) (a : Armed) (rest : List Statement) → played (Cold m g a) (lines_of n (dropping a ++ rest)) ≡ played (Cold m g Unarmed) (lines_of n rest)
+cold_dropping : (n : ℕ) (m : List (List ℕ)) (g : ℕ) (a : Armed) (rest : List Statement) → played (Cold m g a) (lines_of n (drop_statements a ++ rest)) ≡ played (Cold m g Unarmed) (lines_of n rest)
 cold_dropping n m g Unarmed rest = refl
 cold_dropping n m g (ArmedCut k x) rest =
     played_line (Cold m g (ArmedCut k x)) (n, line.Apdu (0 ∷ [])) (lines_of n rest) ∙ ap (λ (z : State). played z (lines_of n rest)) (cold_drops n m g (ArmedCut k x))
@@ -237,11 +236,11 @@ LeadPlays : ℕ → State → Live → Base → Armed → Warm → Manner → Mo
 LeadPlays n z v b a first w m rest =
     played z (lines_of n (lead_statements v b a (is_cut w) ++ (move_statements w m ++ rest))) ≡ played (Hot first) (lines_of n (move_statements w m ++ rest))
 
--- where a power line has to make a card run
-powered_lead : (n : ℕ) (z y : State) (a : Armed) (s : Warm) (more : List Statement) → ((rest : List Statement) → played z (lines_of n (dropping a ++ rest)) ≡ played y (lines_of n rest))
-    → steady_next y (n, line.Power) ≡ Hot s → played z (lines_of n ((dropping a ++ power_statement ∷ []) ++ more)) ≡ played (Hot s) (lines_of n more)
+-- if a power line has to make a card run
+powered_lead : (n : ℕ) (z y : State) (a : Armed) (s : Warm) (more : List Statement) → ((rest : List Statement) → played z (lines_of n (drop_statements a ++ rest)) ≡ played y (lines_of n rest))
+    → steady_next y (n, line.Power) ≡ Hot s → played z (lines_of n ((drop_statements a ++ power_statement ∷ []) ++ more)) ≡ played (Hot s) (lines_of n more)
 powered_lead n z y a s more drops power =
-    ap (λ (l : List Statement). played z (lines_of n l)) (append_assoc (dropping a) (power_statement ∷ []) more)
+    ap (λ (l : List Statement). played z (lines_of n l)) (append_assoc (drop_statements a) (power_statement ∷ []) more)
     ∙ drops (power_statement ∷ more)
     ∙ played_line y (n, line.Power) (lines_of n more)
     ∙ ap (λ (x : State). played x (lines_of n more)) power

@@ -107,7 +107,7 @@ abbrev pub with_front : {W : Type 0} → List ℕ → Option (Parts W) → Optio
 with_front f None = None
 with_front f (Some p) = Some (f ++ p.0, p.1, p.2)
 
--- the parts where this field is the word, or those of the rest with it at their front
+-- the parts if this field is the word, else those of the rest with it at their front
 abbrev pub parts_at : {W : Type 0} → Option W → List ℕ → List (List ℕ) → Option (Parts W) → Option (Parts W)
 parts_at (Some w) f fs rest = Some ([], w, fs)
 parts_at None f fs rest = with_front f rest

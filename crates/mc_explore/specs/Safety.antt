@@ -1,5 +1,5 @@
 -- What an exploration promises: the laws of its fills, of its recoveries, and of every sequence of moves and cuts.
-use Rattle.std.specs.Prelude.{◌≡◌, ◌⊎◌, ℕ, ◌<◌, ◌≤◌, true, List, [], ◌∷◌, ◌++◌, length, map, reverse, Ok, Err, ⊤}
+use Rattle.std.specs.Prelude.{◌≡◌, ◌⊎◌, ℕ, ◌<◌, ◌≤◌, true, List, [], ◌∷◌, ◌++◌, length, map, reverse, codes, decimal, ◌^◌, Ok, Err, ⊤}
 use Rattle.std.specs.List.{AllByRecursion}
 use Rattle.mc_model_device.specs.Bytes.{zeros}
 use Rattle.mc_model_device.specs.Image.{Two, opening}
@@ -16,7 +16,7 @@ use Rattle.mc_explore.specs.Matching.{small, fits}
 use Rattle.mc_explore.specs.Rules.{Move, OnRule, Rules, Exploration, exploration_read}
 use Rattle.mc_explore.specs.States.{state_in, play_of_deck, first_play}
 use Rattle.mc_explore.specs.Tries.{Manner, Whole, CutAt, Try, allowances_after, writes_of, ones, next, step_of, recovery}
-use Rattle.mc_explore.specs.Search.{All, AtDepth, Broken, TooMany, Statement, statements_to, search_of}
+use Rattle.mc_explore.specs.Search.{All, AtDepth, Broken, TooMany, Statement, statements_to, depth_lines, sums_text, most_states, search_of, explore_text}
 
 -- one of some
 abbrev pub Among : {A : Type 0} → A → List A → Type 0
@@ -76,10 +76,35 @@ AllLaw =
     (limit n : ℕ) (text : List ℕ) (x : Exploration) → exploration_read text ≡ Ok x → (search_of limit n x).ending ≡ All
     → (ts : List Action) → KeepsRulesIn x ts
 
+-- a text that says `all`: the lines of depths, and the line of the sums with this word
+pub record SaysAll (text : List ℕ) : Type 0 where
+  pub news : List ℕ
+  pub states : ℕ
+  pub tries : ℕ
+  pub is : text ≡ depth_lines 1 news ++ sums_text states tries (codes " all")
+
+-- So it is of the text that is written.
+abbrev pub TextLaw : Type 0
+TextLaw = (n : ℕ) (text : List ℕ) (x : Exploration) → exploration_read text ≡ Ok x → SaysAll (explore_text n x) → (ts : List Action) → KeepsRulesIn x ts
+
 -- If it says `depth N`, no list of at most N actions does.
 abbrev pub DepthLaw : Type 0
 DepthLaw =
     (limit n d : ℕ) (text : List ℕ) (x : Exploration) → exploration_read text ≡ Ok x → (search_of limit n x).ending ≡ AtDepth d
+    → (ts : List Action) → length ts ≤ d → KeepsRulesIn x ts
+
+-- a text that says `depth N`, with fewer states than the most: the lines of depths, and the line of the sums with this depth
+pub record SaysDepth (text : List ℕ) (depth : ℕ) : Type 0 where
+  pub news : List ℕ
+  pub states : ℕ
+  pub tries : ℕ
+  pub few : states < most_states
+  pub is : text ≡ depth_lines 1 news ++ sums_text states tries (codes " depth " ++ decimal depth)
+
+-- So it is of the text that is written.
+abbrev pub DepthTextLaw : Type 0
+DepthTextLaw =
+    (n d : ℕ) (text : List ℕ) (x : Exploration) → n < 2 ^ 64 → d < 2 ^ 64 → exploration_read text ≡ Ok x → SaysDepth (explore_text n x) d
     → (ts : List Action) → length ts ≤ d → KeepsRulesIn x ts
 
 -- If it ends at depth D for too many states, no list of fewer than D actions does.
@@ -147,7 +172,7 @@ StatementsLaw =
 abbrev pub IsFill : List ℕ → Type 0
 IsFill x = (x ≡ zeros 8) ⊎ ((x ≡ ones) ⊎ (x ≡ opening Two))
 
--- two lines that were played tell the same: the same result, and the same turns in a trace
+-- two lines that were played show the same: the same result, and the same turns in a trace
 pub record ShowsSame (t u : Step) : Type 0 where
   pub result : t.result ≡ u.result
   pub turns : shown_turns t.turns t.stop ≡ shown_turns u.turns u.stop
@@ -169,6 +194,10 @@ IsSettled Muted b owed = ⊤
 pub record IsIdle (s : Warm) : Type 0 where
   pub unarmed : s.armed ≡ Unarmed
   pub settled : IsSettled s.live s.base s.owed
+
+-- An exploration begins so: with layout 2 in force if a card runs, so that the third fill opens its journal.
+abbrev pub FirstLaw : Type 0
+FirstLaw = (ls : List (ℕ × DeckLine)) → IsIdle (first_play ls)
 
 -- Every word that a cut leaves, in every write of every move, does what one of the three fills does.
 abbrev pub FillLaw : Type 0
@@ -195,7 +224,7 @@ pub record IsOneState (s t : Warm) : Type 0 where
   pub live : s.live ≡ t.live
   pub budget : s.budget ≡ t.budget
 
--- a move in two plays: as many device writes, and made in one manner the same is told, and the states after it are one
+-- a move in two plays: as many device writes, and made in one manner it shows the same and leads to one state
 pub record AnswersSame (s t : Warm) (m : Move) : Type 0 where
   pub writes : writes_of (Hot s) m ≡ writes_of (Hot t) m
   pub shows : (w : Manner) → CanMake (Hot s) m w → ShowsSame (step_of (Hot s) m w) (step_of (Hot t) m w)
@@ -215,6 +244,6 @@ WordsLaw =
 
 -- ---- patterns
 
--- A pattern fits a text where it holds of it, as expectations do, once all capital letters are small ones.
+-- A pattern fits a text if it holds of it as that of an expectation, with all capital letters made small.
 abbrev pub FitsLaw : Type 0
 FitsLaw = (pattern text : List ℕ) → fits pattern text ≡ holds (map small pattern) (map small text)

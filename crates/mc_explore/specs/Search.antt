@@ -26,49 +26,49 @@ pub record Round : Type 0 where
 
 -- what ends a search within a depth: an allowance that is spent below zero, by these tries, the last first; or one state too many
 pub data Halt : Type 0 where
-  Breaks : (name : List ℕ) (path : List Try) → Halt
+  RuleBroken : (name : List ℕ) (path : List Try) → Halt
   Full : Halt
 
 -- a search that ended within a depth: why, and the number of states and of tries
-pub record Halted : Type 0 where
+pub record HaltedRound : Type 0 where
   pub halt : Halt
   pub count : ℕ
   pub tries : ℕ
 
 -- one try more
-abbrev pub counted : Round → Round
-counted r = record r { tries = r.tries + 1 }
+abbrev pub with_try : Round → Round
+with_try r = record r { tries = r.tries + 1 }
 
 -- a search that ends here
-abbrev pub halted : Halt → Round → Halted
-halted h r = record { halt = h; count = r.count; tries = r.tries }
+abbrev pub halt_of : Halt → Round → HaltedRound
+halt_of h r = record { halt = h; count = r.count; tries = r.tries }
 
 -- a new state, if there is room for one more
-abbrev pub with_new : Bool → Node → Round → Result Round Halted
+abbrev pub with_new : Bool → Node → Round → Result Round HaltedRound
 with_new true n r = Ok (record r { known = n.state ∷ r.known; fresh = r.fresh ++ n ∷ []; count = r.count + 1 })
-with_new false n r = Err (halted Full r)
+with_new false n r = Err (halt_of Full r)
 
 -- a state that was reached, by whether it is known
-abbrev pub with_reached : Bool → ℕ → Node → Round → Result Round Halted
+abbrev pub with_reached : Bool → ℕ → Node → Round → Result Round HaltedRound
 with_reached true limit n r = Ok r
 with_reached false limit n r = with_new (nat_lt r.count limit) n r
 
 -- a try by its outcome
-abbrev pub after_outcome : Result CardState (List ℕ) → ℕ → List Try → Round → Result Round Halted
-after_outcome (Err name) limit path r = Err (halted (Breaks name path) r)
+abbrev pub after_outcome : Result CardState (List ℕ) → ℕ → List Try → Round → Result Round HaltedRound
+after_outcome (Err name) limit path r = Err (halt_of (RuleBroken name path) r)
 after_outcome (Ok c) limit path r = with_reached (is_known c r.known) limit (record { state = c; path = path }) r
 
 -- the tries of a state, one after the other
-unfoldable pub tried_all : ℕ → List OnRule → Node → List Try → Round → Result Round Halted
+unfoldable pub round_of_tries : ℕ → List OnRule → Node → List Try → Round → Result Round HaltedRound
 unfolding outcome is_known
-tried_all limit ons n [] r = Ok r
-tried_all limit ons n (t ∷ ts) r = after_outcome (outcome ons n.state t) limit (t ∷ n.path) (counted r) >>= λ q. tried_all limit ons n ts q
+round_of_tries limit ons n [] r = Ok r
+round_of_tries limit ons n (t ∷ ts) r = after_outcome (outcome ons n.state t) limit (t ∷ n.path) (with_try r) >>= λ q. round_of_tries limit ons n ts q
 
 -- the states of a depth, one after the other
-unfoldable pub expanded : ℕ → Rules → List Node → Round → Result Round Halted
-unfolding tried_all tries_of
-expanded limit rules [] r = Ok r
-expanded limit rules (n ∷ ns) r = tried_all limit rules.ons n (tries_of rules.moves n.state) r >>= λ q. expanded limit rules ns q
+unfoldable pub round_of_states : ℕ → Rules → List Node → Round → Result Round HaltedRound
+unfolding round_of_tries tries_of
+round_of_states limit rules [] r = Ok r
+round_of_states limit rules (n ∷ ns) r = round_of_tries limit rules.ons n (tries_of rules.moves n.state) r >>= λ q. round_of_states limit rules ns q
 
 -- ---- all depths
 
@@ -81,47 +81,47 @@ pub data Ending : Type 0 where
   TooMany : (depth : ℕ) → Ending
 
 -- a search: the number of new states of each depth that is done, the number of states and of tries, and how it ends
-pub record Explored : Type 0 where
+pub record Search : Type 0 where
   pub news : List ℕ
   pub states : ℕ
   pub tries : ℕ
   pub ending : Ending
 
 -- a search that ends before another depth is done
-abbrev pub explored_at : Ending → ℕ → ℕ → Explored
-explored_at e states tries = record { news = []; states = states; tries = tries; ending = e }
+abbrev pub search_end : Ending → ℕ → ℕ → Search
+search_end e states tries = record { news = []; states = states; tries = tries; ending = e }
 
 -- how a depth ends a search
 abbrev pub ending_of : Halt → ℕ → Ending
-ending_of (Breaks name path) d = Broken name path
+ending_of (RuleBroken name path) d = Broken name path
 ending_of Full d = TooMany d
 
 -- a search with one depth before it
-abbrev pub with_depth : ℕ → Explored → Explored
+abbrev pub with_depth : ℕ → Search → Search
 with_depth n e = record e { news = n ∷ e.news }
 
 -- after a depth that is done: it goes on from the new states, if there are some
-abbrev pub after_depth : List Node → Round → (List Node → Round → Explored) → Explored
-after_depth [] r again = with_depth 0 (explored_at All r.count r.tries)
+abbrev pub after_depth : List Node → Round → (List Node → Round → Search) → Search
+after_depth [] r again = with_depth 0 (search_end All r.count r.tries)
 after_depth (n ∷ ns) r again = with_depth (length (n ∷ ns)) (again (n ∷ ns) r)
 
 -- after a depth
-abbrev pub after_round : Result Round Halted → ℕ → (List Node → Round → Explored) → Explored
-after_round (Err h) d again = explored_at (ending_of h.halt d) h.count h.tries
+abbrev pub after_round : Result Round HaltedRound → ℕ → (List Node → Round → Search) → Search
+after_round (Err h) d again = search_end (ending_of h.halt d) h.count h.tries
 after_round (Ok r) d again = after_depth r.fresh r again
 
 -- n depths more after depth d, from the states of depth d
-unfoldable pub explored_from : ℕ → ℕ → ℕ → Rules → List Node → Round → Explored
-unfolding expanded
-explored_from zero d limit rules ns r = explored_at (AtDepth d) r.count r.tries
-explored_from (suc n) d limit rules ns r =
-    after_round (expanded limit rules ns (record r { fresh = [] })) (d + 1) (λ ms q. explored_from n (d + 1) limit rules ms q)
+unfoldable pub search_on : ℕ → ℕ → ℕ → Rules → List Node → Round → Search
+unfolding round_of_states
+search_on zero d limit rules ns r = search_end (AtDepth d) r.count r.tries
+search_on (suc n) d limit rules ns r =
+    after_round (round_of_states limit rules ns (record r { fresh = [] })) (d + 1) (λ ms q. search_on n (d + 1) limit rules ms q)
 
--- the search of n depths from a state, with at most so many states
-unfoldable pub explored : ℕ → ℕ → Rules → CardState → Explored
-unfolding explored_from
-explored n limit rules c =
-    explored_from n 0 limit rules (record { state = c; path = [] } ∷ []) (record { known = c ∷ []; fresh = []; count = 1; tries = 0 })
+-- the search of n depths from a state, with at most `limit` states
+unfoldable pub search_from : ℕ → ℕ → Rules → CardState → Search
+unfolding search_on
+search_from n limit rules c =
+    search_on n 0 limit rules (record { state = c; path = [] } ∷ []) (record { known = c ∷ []; fresh = []; count = 1; tries = 0 })
 
 -- the most states of a search
 abbrev pub most_states : ℕ
@@ -171,17 +171,17 @@ begins_cut [] = false
 begins_cut (t ∷ ts) = is_cut t.manner
 
 -- the statement that drops a stop, if one is armed
-abbrev pub dropping : Armed → List Statement
-dropping Unarmed = []
-dropping (ArmedCut k x) = idle_statement ∷ []
-dropping (ArmedFail k) = idle_statement ∷ []
+abbrev pub drop_statements : Armed → List Statement
+drop_statements Unarmed = []
+drop_statements (ArmedCut k x) = idle_statement ∷ []
+drop_statements (ArmedFail k) = idle_statement ∷ []
 
 -- the statements that lead from the end of a deck to the first state, by whether a cut takes the place of an armed stop next
 abbrev pub lead_statements : Live → Base → Armed → Bool → List Statement
 lead_statements (Running seat) b a true = []
-lead_statements (Running seat) b a false = dropping a
-lead_statements v (OnCard c) a cut = dropping a ++ power_statement ∷ []
-lead_statements v (AtFault cause place) a cut = dropping a
+lead_statements (Running seat) b a false = drop_statements a
+lead_statements v (OnCard c) a cut = drop_statements a ++ power_statement ∷ []
+lead_statements v (AtFault cause place) a cut = drop_statements a
 
 -- the statements that lead from the end of a deck through tries: appended to the deck, they play to the last of them
 unfoldable pub statements_to : State → List Try → List Statement
@@ -208,20 +208,20 @@ abbrev pub sums_text : ℕ → ℕ → List ℕ → List ℕ
 sums_text states tries how = codes "explored states " ++ decimal states ++ codes " tries " ++ decimal tries ++ how ++ codes "\n"
 
 -- how a search ends, from the end of a deck
-abbrev pub ending_text : State → Explored → Ending → List ℕ
+abbrev pub ending_text : State → Search → Ending → List ℕ
 ending_text s e All = sums_text e.states e.tries (codes " all")
 ending_text s e (AtDepth d) = sums_text e.states e.tries (codes " depth " ++ decimal d)
 ending_text s e (TooMany d) = sums_text e.states e.tries (codes " depth " ++ decimal d)
 ending_text s e (Broken name path) = broken_text name (statements_to s (reverse path))
 
 -- the text of a search, from the end of a deck
-abbrev pub text_of : State → Explored → List ℕ
+abbrev pub text_of : State → Search → List ℕ
 text_of s e = depth_lines 1 e.news ++ ending_text s e e.ending
 
--- the search of n depths of a deck with its rules, with at most so many states
-unfoldable pub search_of : ℕ → ℕ → Exploration → Explored
-unfolding explored first_state
-search_of limit n x = explored n limit x.rules (first_state x)
+-- the search of n depths of a deck with its rules, with at most `limit` states
+unfoldable pub search_of : ℕ → ℕ → Exploration → Search
+unfolding search_from first_state
+search_of limit n x = search_from n limit x.rules (first_state x)
 
 -- its text
 unfoldable pub text_within : ℕ → ℕ → Exploration → List ℕ

@@ -45,14 +45,14 @@ abbrev pub with_amount : List ℕ → ℕ → List (List ℕ × ℕ) → List (L
 with_amount name k a = map (λ e. cond (bytes_eq e.0 name) (e.0, k) e) a
 
 -- an allowance reduced if it is enough, else its name: the rule is broken
-abbrev pub reduced : Bool → List ℕ → ℕ → List (List ℕ × ℕ) → Result (List (List ℕ × ℕ)) (List ℕ)
-reduced true name left a = Ok (with_amount name left a)
-reduced false name left a = Err name
+abbrev pub after_spending : Bool → List ℕ → ℕ → List (List ℕ × ℕ) → Result (List (List ℕ × ℕ)) (List ℕ)
+after_spending true name left a = Ok (with_amount name left a)
+after_spending false name left a = Err name
 
 -- an effect, once
 abbrev pub effect_once : Effect → List ℕ → ℕ → List (List ℕ × ℕ) → Result (List (List ℕ × ℕ)) (List ℕ)
 effect_once Allows name k a = Ok (with_amount name k a)
-effect_once Spends name k a = reduced (nat_le k (amount_of a name)) name (amount_of a name - k) a
+effect_once Spends name k a = after_spending (nat_le k (amount_of a name)) name (amount_of a name - k) a
 
 -- an effect, n times
 abbrev pub effect_times : ℕ → Effect → List ℕ → ℕ → List (List ℕ × ℕ) → Result (List (List ℕ × ℕ)) (List ℕ)
@@ -106,7 +106,7 @@ tries_of ms c = flat_map (tries_with c) ms
 
 -- ---- what a try does
 
--- a line that is played where no write fails
+-- the play after a line, when no write of it fails
 abbrev pub next : State → ℕ × DeckLine → State
 next s l = (step s l None).after
 

@@ -1,4 +1,9 @@
-ghost use Rattle.mc_explore.specs.Safety.{AllLaw, BrokenLaw, DepthLaw, FillLaw, FitsLaw, LimitLaw, RecoveryLaw, StateLaw, StatementsLaw, WordsLaw};
+ghost use Rattle.mc_explore.specs.Safety.{AllLaw, BrokenLaw, DepthLaw, DepthTextLaw, FillLaw, FirstLaw, FitsLaw, LimitLaw, RecoveryLaw, StateLaw, StatementsLaw, TextLaw, WordsLaw};
+
+/// Every exploration begins with no stop armed, and with a card of layout 2 that owes no write if one runs.
+pub fn first_card_is_settled()
+    ensures { FirstLaw }
+{}
 
 /// Whatever word a cut leaves, in whatever write of a move, does to the card and to what it answers what one of three words does:
 /// eight bytes 00, eight bytes FF, or the word that opens a journal.
@@ -17,9 +22,19 @@ pub fn all_is_safe()
     ensures { AllLaw }
 {}
 
+/// If the text of an exploration says `all`, no sequence of moves spends an allowance below zero.
+pub fn a_text_that_says_all_is_safe()
+    ensures { TextLaw }
+{}
+
 /// If a search ends at depth N and nothing was broken, no sequence of at most N moves does.
 pub fn depth_is_safe()
     ensures { DepthLaw }
+{}
+
+/// If the text of an exploration says `depth N` and fewer than 1,000,000 states, no sequence of at most N moves does.
+pub fn a_text_that_says_depth_is_safe()
+    ensures { DepthTextLaw }
 {}
 
 /// If a search ends within depth D because of too many states, no sequence of fewer than D moves does.

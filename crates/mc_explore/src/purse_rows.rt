@@ -11,7 +11,7 @@ pub fn pin_four()
         ≡ Ok (codes "depth 1 states 4\ndepth 2 states 8\ndepth 3 states 14\ndepth 4 states 21\nexplored states 48 tries 1017 depth 4\n") }
 {}
 
-/// A purse that counts a wrong guess after it compared it: a cut in between gives a fourth.
+/// A purse that counts a wrong guess after it compared it: a cut in between allows a fourth.
 pub fn late_guess()
     ensures { explored_deck 40 late_deck
         ≡ Ok (

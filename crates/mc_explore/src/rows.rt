@@ -1,8 +1,12 @@
-#![tactic(auto, unfolding(crate::specs::Computed::explored_deck, crate::specs::Computed::explored_within))]
+#![tactic(auto, unfolding(crate::specs::Computed::explored_deck, crate::specs::Computed::explored_within, crate::specs::Computed::statements_read))]
 
 // Worked rows: what small decks with their rules come to.
-ghost use Rattle.std.specs.Prelude.{◌≡◌, ◌++◌, [], codes, Ok, Err};
-ghost use Rattle.mc_explore.specs.Computed.{explored_deck, explored_within};
+ghost use Rattle.std.specs.Prelude.{◌≡◌, ◌++◌, ◌∷◌, [], codes, Ok};
+ghost use Rattle.mc_model_device.specs.Image.{opening, Two};
+ghost use Rattle.mc_model_play.specs.DeckGrammar as line;
+ghost use Rattle.mc_explore.specs.Tries.{ones};
+ghost use Rattle.mc_explore.specs.Search.{cut_statement, idle_statement, power_statement};
+ghost use Rattle.mc_explore.specs.Computed.{explored_deck, explored_within, statements_read};
 ghost use Rattle.mc_explore.specs.Decks.{counter_deck, idle_deck, session_deck, twice_deck};
 
 /// A deck without rules has one state.
@@ -89,7 +93,7 @@ pub fn below_zero()
         ≡ Ok (codes "broken x after 1 lines\napdu 8001000000\n") }
 {}
 
-/// A search says `all` only where a depth has no new state.
+/// A search says `all` only when a depth has no new state.
 pub fn all_or_depth()
     ensures one { explored_deck 1 (idle_deck ++ codes "#@ move power\n")
         ≡ Ok (codes "depth 1 states 1\nexplored states 2 tries 2 depth 1\n") }
@@ -123,4 +127,10 @@ pub fn unusable()
         ≡ Ok (codes "broken x after 1 lines\nselect A000000001\n") }
     ensures all { explored_deck 5 (codes "format\npoke 0 0000000000000000\n#@ move power\n#@ move select A000000001\n#@ allow x 1\n#@ on power gives unusable* allow x 1\n")
         ≡ Ok (codes "depth 1 states 0\nexplored states 1 tries 2 all\n") }
+{}
+
+/// The statements of a report are read as the lines that they are.
+pub fn statements()
+    ensures { statements_read (power_statement ∷ idle_statement ∷ cut_statement 7 ones ∷ cut_statement 4294967295 (opening Two) ∷ [])
+        ≡ Ok ((1, line.Format) ∷ (2, line.Power) ∷ (3, line.Apdu (0 ∷ [])) ∷ (4, line.Cut 7 ones) ∷ (5, line.Cut 4294967295 (opening Two)) ∷ []) }
 {}

@@ -29,7 +29,7 @@ use Rattle.mc_machine.proofs.RowFacts.{ExitKeeps}
 use Rattle.mc_machine.proofs.ReadsLemmas.{name_is, app_is, as_many, delegators, session_runs, advanced_runs}
 use Rattle.mc_machine.proofs.TurnLemmas.{BankLaws, writes_of, committed_of, settled_runs}
 
--- ---- what a turn tells
+-- ---- the record of a turn
 
 told_same : (k l at at' dt dt' : ℕ) (c c' z z' : Bool) (o p : Option Outcome) (i : Option Ins) (w : Option ℕ) → k ≡ l → at ≡ at' → dt ≡ dt' → c ≡ c' → z ≡ z' → o ≡ p
     → ◌≡◌ {A = Turn} (record { depth = k; at = at; ins = i; dt = dt; c = c; z = z; end = o; wrote = w }) (record { depth = l; at = at'; ins = i; dt = dt'; c = c'; z = z'; end = p; wrote = w })
@@ -45,7 +45,7 @@ held_kept : (h k : Held) (hs : List Held) → session_of k.frame ≡ session_of 
 held_kept h k [] same = same
 held_kept h k (j ∷ hs) same = refl
 
--- a chain ends only where its frame exits
+-- a chain ends only if its frame exits
 ends_exit : (k : Chain) (th : Then) (o : Outcome) → follows k th ≡ Ends o → th ≡ Exits
 ends_exit k Goes o is = absurd (cc is)
 ends_exit k Exits o is = refl
@@ -82,7 +82,7 @@ module _ {B : Type 0} (did : B → BankItem → Answer → B → Type 0) (state 
   pub own_fixed : (b : B) (c : Chained) (ch : Chain) → RunsAs (state b) (named b) c ch → (app_under (state b) (named b) c.running).fixed ≡ (app_of (state b).apps (Some ch.frame.name)).fixed
   own_fixed b c ch r = ap (λ (o : Option (List ℕ)). (app_of (state b).apps o).fixed) (name_is (state b) (named b) c.running ch.frame r.running)
 
-  -- the turn tells the frame as it was
+  -- the record of the turn has the frame's registers from before the instruction
   told_old : (b : B) (c : Chained) (ch : Chain) (o : Option Outcome) (i : Option Ins) (w : Option ℕ) → RunsAs (state b) (named b) c ch
       → ◌≡◌ {A = Turn} (record { depth = length ch.below + 1; at = ch.frame.at; ins = i; dt = ch.frame.dt; c = ch.frame.c; z = ch.frame.z; end = o; wrote = w })
       (record { depth = length c.below + 1; at = c.running.frame.at; ins = i; dt = c.running.frame.dt; c = c.running.frame.c; z = c.running.frame.z; end = o; wrote = w })
@@ -92,7 +92,7 @@ module _ {B : Type 0} (did : B → BankItem → Answer → B → Type 0) (state 
       (ap (λ (k : ℕ). k + 1) (sym (as_many (state b) (named b) c.below ch.below r.below)))
       (ap (λ (t : Seen). t.at) seen_so) (ap (λ (t : Seen). t.dt) seen_so) (ap (λ (t : Seen). t.c) seen_so) (ap (λ (t : Seen). t.z) seen_so) refl
 
-  -- an abend, with which no byte was written
+  -- an abend, after which no byte was written
   pub abends_done : (b e : B) (c d : Chained) (ch : Chain) (i : Option Ins) (count : ℕ) (a : Abend) (step : Step) → RunsAs (state b) (named b) c ch → (state b).stopped ≡ false → e ≡ b → session_in d ≡ session_in c → d.left + count ≡ c.left
       → step ≡ step_of_frame c.running i (Some (end.Abend a)) → ActDone did state named b e c d ch (abends_at ch i count a) (Ok step)
   abends_done b e c d ch i count a step r going same session left is = (
@@ -174,7 +174,7 @@ module _ {B : Type 0} (did : B → BankItem → Answer → B → Type 0) (state 
     performed_fits nx (Does d) (Abends q) same keeps acts = absurd same
     performed_fits nx (Does d) (Does k) same keeps acts = (chain_after_effect ch k.effect, mid_runs d.effect k.effect same.effect keeps acts.1)
 
-    -- the turn tells the frame as it is then
+    -- the record of the turn has the frame's registers after the instruction
     told_mid : (y : Effect) (o p : Option Outcome) (it : Option Ins) (w : Option ℕ) → RunsAs (state e) (named e) mid (chain_after_effect ch y) → o ≡ p
         → ◌≡◌ {A = Turn} (record { depth = length ch.below + 1; at = ch.frame.at; ins = it; dt = y.frame.dt; c = y.frame.c; z = y.frame.z; end = o; wrote = w })
         (record { depth = length c.below + 1; at = c.running.frame.at; ins = it; dt = mid.running.frame.dt; c = mid.running.frame.c; z = mid.running.frame.z; end = p; wrote = w })
@@ -184,7 +184,7 @@ module _ {B : Type 0} (did : B → BankItem → Answer → B → Type 0) (state 
         (ap (λ (k : ℕ). k + 1) (sym (as_many (state b) (named b) c.below ch.below r.below)))
         (sym (ap (λ (t : Seen). t.at) r.running.same)) (ap (λ (t : Seen). t.dt) seen_so) (ap (λ (t : Seen). t.c) seen_so) (ap (λ (t : Seen). t.z) seen_so) same
 
-    -- what followed
+    -- the turn, by what follows its instruction
     finish : (y : Effect) (d : Chained) (step : Step) (pairs : List (List ℕ × List ℕ)) (t : Follows) → RunsAs (state e) (named e) mid (chain_after_effect ch y) → InOrder (ChainWrote did state) b (write_of ch.frame.name y.changes) (Ok tt) e
         → (state e).stopped ≡ false → d.left + 1 ≡ c.left → d.le ≡ mid.le → ((o : Outcome) → t ≡ Ends o → session_in mid ≡ chain_session ch)
         → Followed (state e) (named e) mid d i (step_of_frame c.running (Some i) None) step t → ActDone did state named b e c d ch (done_turn ch i y t pairs) (Ok step)

@@ -1,4 +1,4 @@
--- A row does the same to frames that read the same, whichever pieces their pending bytes come from.
+-- A row has the same effect on frames with the same reading, whichever pieces their pending bytes come from.
 use Rattle.std.proofs.Common.{◌≡◌, ℕ, List, Option, Some, None, refl, sym, ap, ◌∙◌}
 use Rattle.mc_model_machine.specs.declared.instruction.Ins.{Ins}
 use Rattle.mc_model_machine.specs.declared.machine.Abend.{Abend}
@@ -25,7 +25,7 @@ unfolding row
 row_same i f qs public x s guard =
     rw (causes_same i f qs public x s) (judged_same f.fixed (first_cause (causes i f public x)) (effect i (with_pieces qs f) public x) (effect i f public x) (effect_same i f qs public x s guard))
 
--- the frame with these pieces that is seen as this
+-- the frame with the given pieces whose reading is the given one
 abbrev frame_of : List (ℕ × List ℕ) → Seen → Frame
 frame_of qs t =
     record {
@@ -66,17 +66,17 @@ ends_seen fixed (Abends a) (Does d) e = absurd (cc e)
 ends_seen fixed (Does d) (Abends b) e = absurd (cc e)
 ends_seen fixed (Does d) (Does k) e = record { effect = record { frame = cc e; public = cc e; changes = cc e }; next = cc e }
 
--- the same by cases on how the rows end
+-- rows on two frames with the same reading, by cases on how the rows end
 pub rows_end_alike : (i : Ins) (f g : Frame) (public : List ℕ) (x : Around) → IsGuarded f → frame_reading f ≡ frame_reading g → SameRowEnd f.fixed (row i f public x) (row i g public x)
 rows_end_alike i f g public x guard e =
     let fixed : f.fixed ≡ g.fixed = ap (λ (t : Seen). t.fixed) e in
     ends_seen f.fixed (row i f public x) (row i g public x) (rows_alike i f g public x guard e ∙ ap (λ (l : List ℕ). seen_end l (row i g public x)) (sym fixed))
 
--- a frame that reads the same is as guarded
+-- a frame is guarded if one with the same reading is
 pub guarded_seen : (f g : Frame) → frame_reading f ≡ frame_reading g → IsGuarded f → IsGuarded g
 guarded_seen f g e guard = λ off. sym (ap (λ (t : Seen). t.none) e) ∙ guard (ap (λ (t : Seen). t.protected) e ∙ off)
 
--- ---- static changes that are seen as one: the bytes after them, and their commit
+-- ---- static changes with the same reading: the bytes after them, and their commit
 
 some_seen : (fixed : List ℕ) (ps qs : List (ℕ × List ℕ)) → seen_change fixed (Some ps) ≡ seen_change fixed (Some qs) → (laid_pieces fixed ps ≡ laid_pieces fixed qs) × (touched_words ps ≡ touched_words qs)
 some_seen fixed ps qs e =

@@ -63,11 +63,11 @@ immediate_same f qs tag off n s = ap (λ (l : List (Abend × Bool)). (A04, (tag 
 pair_same : (f : Frame) (qs : Pieces) (tag : ℕ) (off : ℤ) (n : ℕ) → HasSamePieces f qs → pair_writes (with_pieces qs f) tag off n ≡ pair_writes f tag off n
 pair_same f qs tag off n s = ap (λ (l : List (Abend × Bool)). (A04, is_under f (on_stack tag (2 * n) n)) ∷ l) (writes_same f qs (operand f tag off (2 * n)) n s)
 
--- with a test of the row's own before
+-- causes after a test of the row's own
 behind : (b : Bool) {k l : List (Abend × Bool)} → k ≡ l → (A06, b) ∷ k ≡ (A06, b) ∷ l
 behind b e = ap (λ (l : List (Abend × Bool)). (A06, b) ∷ l) e
 
--- the causes of a call, with its address on the stack or not
+-- the causes of a call, whether or not its address is on the stack
 abbrev call_causes : ℕ → ℕ → Frame → Bool → List (Abend × Bool)
 call_causes k to f b = (A04, b && is_under f 2) ∷ (A02, holds k f && no_place f (Some (cond b (num (top f 2)) to))) ∷ (A05, holds k f && is_over (cond b (frame_after_pop f 2) f) 4) ∷ []
 

@@ -1,5 +1,5 @@
--- An instruction has at most five bytes of operands, so what stands at the front of six bytes, of which those that are left are code, stands in the
--- code too, unless it is longer than what is left.
+-- An instruction has at most five bytes of operands. So the instruction at the front of a window of six bytes, whose first bytes are the
+-- code that is left, is the instruction at the front of that code, unless it is longer than what is left.
 use Rattle.std.proofs.Common.{◌≡◌, ℕ, zero, suc, ◌+◌, ◌<◌, ◌≤◌, Bool, true, false, cond, List, [], ◌∷◌, length, take, drop, Option, Some, None, Result, Ok, Err, arith, refl, sym, ap, subst, inl, inr, ◌∙◌}
 use Rattle.std.specs.Prelude.{min, nat_eq, replicate, slice_index, option_map}
 use Rattle.mc_model_machine.specs.declared.instruction.DecodeFault.{DecodeFault}
@@ -70,7 +70,7 @@ first_byte code window at left w =
     let some : 0 < min left 6 = let h = w.some in omega (arith, h) in
     sym (first_of (min left 6) window some) ∙ ap (λ (l : List ℕ). slice_index l 0) w.front ∙ first_of (min left 6) (drop at code) some ∙ byte_of code at
 
--- the operands of a row that is made, and its length
+-- the operands of a decoded row, and its length
 made_size : (o : Option Form) (bs : List ℕ) (i : Ins) (n : ℕ) → made_of o bs ≡ Ok (i, n) → (ks : List Kind) × (option_map operands o ≡ Some ks) × (n ≡ total ks + 1)
 made_size None bs i n h = absurd (cc h)
 made_size (Some f) bs i n h = (operands f, refl, grind (arith, h))
@@ -83,7 +83,7 @@ window_size : (l : List ℕ) (i : Ins) (n : ℕ) → instruction_at l 0 ≡ Ok (
 window_size [] i n h = absurd (cc h)
 window_size (b ∷ bs) i n h = made_size (form b) bs i n (place_size (made_of (form b) bs) i n h)
 
--- what is no instruction at the front of the window is none in the code
+-- if there is no instruction at the front of the window, there is none at the front of the code
 pub fault_there : (code window : List ℕ) (at left : ℕ) (e : DecodeFault) → IsWindow code window at left → DecodesTo window 0 (Err e) → DecodesTo code at (Err e)
 fault_there code window at left Undefined w u =
     let end = w.end in
@@ -96,7 +96,7 @@ fault_there code window at left Past w (inr past) =
     let six = w.six in
     absurd (omega (arith, few, long, six))
 
--- an instruction that is longer than what is left
+-- an instruction that is longer than the code that is left
 pub past_there : (code window : List ℕ) (at left : ℕ) (i : Ins) (n : ℕ) → IsWindow code window at left → DecodesTo window 0 (Ok (i, n)) → left < n → DecodesTo code at (Err Past)
 past_there code window at left i n w d long =
     let end = w.end in
@@ -104,7 +104,7 @@ past_there code window at left i n w d long =
     let total = size.2 in
     inr (size.0, subst (λ (b : ℕ). kinds b ≡ Some size.0) (first_byte code window at left w) size.1, omega (arith, end, total, long))
 
--- an instruction that lies in what is left
+-- an instruction that lies within the code that is left
 pub stands_there : (code window : List ℕ) (at left : ℕ) (i : Ins) (n : ℕ) → IsWindow code window at left → DecodesTo window 0 (Ok (i, n)) → n ≤ left → DecodesTo code at (Ok (i, at + n))
 stands_there code window at left i n w d short =
     let end = w.end in

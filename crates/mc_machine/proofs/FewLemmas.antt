@@ -1,4 +1,5 @@
--- How much a turn writes: at most one atomic write, of no more words than its instruction changes, and none with an exit.
+-- The number of words that a turn writes: at most one atomic write, of no more words than its instruction changes, and no write with an
+-- exit.
 use Rattle.std.proofs.Common.{◌≡◌, ℕ, ◌≤◌, Bool, true, false, cond, List, [], ◌∷◌, length, Option, Some, None, Result, Ok, Err, refl, sym, ap, subst, ◌∙◌, inl, inr, arith}
 use Rattle.std.specs.Prelude.{⊤, bytes_eq, IfSome}
 use Rattle.std.specs.List.{AllByRecursion}

@@ -20,7 +20,7 @@ neither true b e = absurd (cc e)
 neither false true e = absurd (cc e)
 neither false false e = (refl, refl)
 
--- a name that no frame runs is none of theirs
+-- a name that no frame runs differs from the names of all frames
 others_apart : (n : List ℕ) (f : Frame) (fs : List Frame) → is_active n f fs ≡ false → AllByRecursion (λ (g : Frame). bytes_eq n g.name ≡ false) (f ∷ fs)
 others_apart n f [] e = (other_way f.name n e, tt)
 others_apart n f (g ∷ gs) e =

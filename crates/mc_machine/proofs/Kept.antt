@@ -14,7 +14,7 @@ use Rattle.mc_segs.specs.Ends.{changed_bytes}
 use Rattle.mc_model_device.proofs.ListLemmas.{length_splice}
 use Rattle.mc_machine.specs.Alike.{IsGuarded, KeepsEffect, KeepsRow}
 
--- what a frame has of its application
+-- the parts of a frame that come from its application
 record AppFacts : Type 0 where
   name : List ℕ
   code_len : ℕ
@@ -24,7 +24,7 @@ record AppFacts : Type 0 where
 abbrev facts : Frame → AppFacts
 facts f = record { name = f.name; code_len = f.code_len; session = f.session; deny = f.deny }
 
--- the same where a frame's facts, guard and public segment are these
+-- what an effect keeps of a frame, if the frame's facts, guard and public segment are the given ones
 record KeepsFacts (app : AppFacts) (guard : Type 0) (fixed public : List ℕ) (e : Effect) : Type 0 where
   app_kept : facts e.frame ≡ app
   guard_kept : guard → IsGuarded e.frame
@@ -67,7 +67,7 @@ written_kept f public a bytes = written_in_kept f public a bytes (where_is f a (
 flagged_kept : (app : AppFacts) (guard : Type 0) (fixed public : List ℕ) (e : Effect) (c z : Bool) → KeepsFacts app guard fixed public e → KeepsFacts app guard fixed public (record e { frame = frame_with_flags e.frame c z })
 flagged_kept app guard fixed public e c z k = record { app_kept = k.app_kept; guard_kept = k.guard_kept; fixed_kept = k.fixed_kept; public_kept = k.public_kept }
 
--- the frame is one with the same application and the same pieces
+-- the new frame has the same application and the same pieces
 moved_kept : (f : Frame) (public : List ℕ) (g : Frame) → facts g ≡ facts f → g.fixed ≡ f.fixed → (IsGuarded f → IsGuarded g) → KeepsFactsOf f public (frame_effect g public)
 moved_kept f public g app fixed guard = record { app_kept = app; guard_kept = guard; fixed_kept = fixed; public_kept = λ e. e }
 
@@ -225,6 +225,6 @@ pub row_keeps : (i : Ins) (f : Frame) (public : List ℕ) (x : Around) → Keeps
 unfolding row
 row_keeps i f public x = judged_keeps f public (first_cause (causes i f public x)) (effect i f public x) (effect_keeps i f public x)
 
--- the same of a row that is done
+-- an effect that is done keeps these
 pub row_done_keeps : (i : Ins) (f : Frame) (public : List ℕ) (x : Around) (d : Done) → row i f public x ≡ Does d → KeepsEffect f public d.effect
 row_done_keeps i f public x d is = subst (λ (e : RowEnd). KeepsRow f public e) is (row_keeps i f public x)

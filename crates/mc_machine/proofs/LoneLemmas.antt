@@ -1,4 +1,4 @@
--- A turn of an application that nobody waits for, by what its instruction did.
+-- A turn of an application that no frame waits for, by what its instruction did.
 use Rattle.std.proofs.Common.{◌≡◌, ◌≢◌, ℕ, ◌-◌, Bool, true, false, cond, List, [], ◌∷◌, Option, Some, None, Result, Ok, Err, refl, sym, ap, subst, ◌∙◌}
 use Rattle.std.specs.Prelude.{nat_lt, option_map, IsSome}
 use Rattle.mc_model_machine.specs.declared.instruction.Ins.{Ins}
@@ -29,9 +29,9 @@ use Rattle.mc_machine.proofs.RowFacts.{ExitKeeps}
 use Rattle.mc_machine.proofs.TurnLemmas.{BankLaws, writes_of, committed_of}
 use Rattle.mc_machine.proofs.ActLemmas.{one_less, own_fixed, mid_runs, performed_done, performed_halts}
 
--- ---- the exit of a frame that nobody waits for
+-- ---- the exit of a frame that no frame waits for
 
--- what the turn of an exit tells: with an abend the registers that were before
+-- the record of the turn of an exit: if it ends by an abend, it has the registers from before the exit
 abbrev pub exit_step : Held → Held → Ins → End → Step
 exit_step old new i end.Reply = step_of_frame new (Some i) (Some end.Reply)
 exit_step old new i (end.Abend a) = step_of_frame old (Some i) (Some (end.Abend a))
@@ -62,7 +62,7 @@ module _ (s : BankState) (named : ℕ → Option (List ℕ)) (old h : Held) (pub
 -- ---- turns
 
 module _ {B : Type 0} (did : B → BankItem → Answer → B → Type 0) (state : B → BankState) (named : B → ℕ → Option (List ℕ)) where
-  -- the end that a turn tells
+  -- the end in the record of a turn
   pub ended : (b e : B) (c d : Chained) (ch : Chain) (t : Acted) (step : Step) (o : Option End) → step.end ≡ o → ActDone did state named b e c d ch t (Ok step) → EndDone did state named b e c d ch t o
   ended b e c d ch t step o is done = (done.0, ap (λ (u : Turn). u.end) done.1 ∙ ap (option_map (end_value d.public d.le)) is)
 

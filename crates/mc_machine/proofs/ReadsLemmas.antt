@@ -1,4 +1,4 @@
--- A chain that runs as one of the definitions: its parts, one by one.
+-- A chain of the code that runs as a chain of the definitions: its parts, one by one.
 use Rattle.std.proofs.Common.{◌≡◌, ℕ, Bool, true, false, List, [], ◌∷◌, length, suc, Option, Some, None, refl, sym, ap, subst, ◌∙◌}
 use Rattle.std.specs.Prelude.{IsSome, bytes_eq, ◌||◌, unwrap_or}
 use Rattle.std.proofs.lemmas.List.{length-replicate}
@@ -22,11 +22,11 @@ pub app_by : (apps : List (List ℕ × App)) (o : Option (List ℕ)) (n : List �
 app_by apps o n is = subst (λ (p : Option (List ℕ)). IsSome (lookup apps (name_or p)) → lookup apps n ≡ Some (app_of apps p)) (sym is) (some_app (lookup apps n))
 
 module _ (s : BankState) (named : ℕ → Option (List ℕ)) where
-  -- a frame's slot has its name
+  -- the slot of a frame has the frame's name
   pub name_is : (h : Held) (f : Frame) → FrameReadsAs s named h f → named h.slot ≡ Some f.name
   name_is h f r = some_name (named h.slot) r.fits.there ∙ ap Some (ap (λ (t : Seen). t.name) r.same)
 
-  -- and its application is there
+  -- the application of a frame is on the card
   pub app_is : (h : Held) (f : Frame) → FrameReadsAs s named h f → lookup s.apps f.name ≡ Some (app_under s named h)
   app_is h f r = app_by s.apps (named h.slot) f.name (name_is h f r) r.fits.app
 
@@ -98,7 +98,7 @@ module _ (s : BankState) (named : ℕ → Option (List ℕ)) where
     apart = r.apart;
   }
 
-  -- ---- a frame on another state of the bank that has its application as it is
+  -- ---- a frame on another state of the bank with the frame's application unchanged
 
   pub moved_reads : (t : BankState) (names : ℕ → Option (List ℕ)) (h : Held) (f : Frame) → names h.slot ≡ Some f.name → lookup t.apps f.name ≡ lookup s.apps f.name → FrameReadsAs s named h f → FrameReadsAs t names h f
   moved_reads t names h f there app r =

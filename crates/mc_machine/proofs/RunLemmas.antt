@@ -1,4 +1,4 @@
--- A run by its turns: what is left to run leads where the whole leads.
+-- A run by its turns: the rest of the run has the result of the whole run.
 use Rattle.std.proofs.Common.{◌≡◌, ℕ, zero, suc, ◌+◌, ◌-◌, ◌≤◌, ◌<◌, ◌≢◌, false, List, [], Option, Some, None, Result, Ok, Err, arith, refl, sym, ap, subst, ◌∙◌}
 use Rattle.std.specs.Prelude.{option_map, IfOk, OnOk, OnErr}
 use Rattle.std.specs.List.{AllByRecursion}
@@ -32,7 +32,7 @@ abbrev CountsOne : Follows → ℕ → Type 0
 CountsOne (Continues c) n = n ≡ 1
 CountsOne (Ends o) n = n ≤ 1
 
--- a turn tells its end, and counts one where it goes on
+-- the record of a turn has the turn's end, and a turn after which the chain goes on counts one
 record TellsEnd (t : Acted) : Type 0 where
   end : t.turn.end ≡ end_of t.follows
   count : CountsOne t.follows t.count
@@ -90,8 +90,8 @@ turn_count n ch (Continues next) e =
 
 -- ---- a run that is underway
 
--- After some turns of a run from `start`, what is left to run from here is what is left of the whole: whatever it does from here is done
--- by the whole from the start.
+-- A run from `start` after some of its turns: the rest of the run from here is the rest of the whole run, so its writes, steps and end
+-- are those of the whole run from the start.
 pub record Underway {B : Type 0} (did : B → BankItem → Answer → B → Type 0) (state : B → BankState) (named : B → ℕ → Option (List ℕ)) (start : B) (whole : Ran) (ticks budget turn : ℕ) (here : B) (c : Chained) (steps : ℕ) : Type 0 where
   pub chain : Chain
   pub runs : RunsAs (state here) (named here) c chain
@@ -213,11 +213,11 @@ module _ {B : Type 0} (did : B → BankItem → Answer → B → Type 0) (state 
       let t = turn_of n ch in
       subst (λ (r : Ran). InOrder (ChainWrote did state) b r.writes (Err s) e) (sym (ran_goes n (n - 1) ch next goes (goes_some n ch next goes))) (in_order_stopped (ChainWrote did state) t.writes (run_of_chain (n - 1) next).writes b e s w)
 
-  -- a stop in a turn
+  -- a turn that a `Stop` ends
   pub underway_stops : (start : B) (whole : Ran) (ticks budget turn : ℕ) (here e : B) (c : Chained) (steps : ℕ) (u : Underway did state named start whole ticks budget turn here c steps) (s : Stop) → InOrder (ChainWrote did state) here (turn_of c.left u.chain).writes (Err s) e → InOrder (ChainWrote did state) start whole.writes (Err s) e
   underway_stops start whole ticks budget turn here e c steps u s w = u.writes (Err s) e (stops_by c.left u.chain here e s (turn_of c.left u.chain).follows refl w)
 
-  -- a turn counts no more than the run
+  -- a turn counts no more steps than the run
   pub underway_most : (start : B) (whole : Ran) (ticks budget turn : ℕ) (here : B) (c : Chained) (steps now : ℕ) (u : Underway did state named start whole ticks budget turn here c steps) → now ≡ steps + (turn_of c.left u.chain).count → now ≤ ticks + whole.count
   underway_most start whole ticks budget turn here c steps now u count =
       let few = turn_count c.left u.chain (turn_of c.left u.chain).follows refl in

@@ -1,4 +1,5 @@
--- What a turn keeps of a sound chain: its frames stand on their applications, whose sizes stay, and its writes hold in them.
+-- What a turn keeps of a sound chain: its frames match their applications, the sizes of the applications do not change, and its writes
+-- lie in their static segments.
 use Rattle.std.proofs.Common.{◌≡◌, ℕ, zero, suc, ◌-◌, Bool, true, false, cond, List, [], ◌∷◌, length, Option, Some, None, Result, Ok, Err, refl, sym, ap, subst, ◌∙◌, arith}
 use Rattle.std.specs.Prelude.{unwrap_or, bytes_eq, ◌||◌, nat_lt, nat_le}
 use Rattle.std.specs.List.{AllByRecursion}
@@ -21,9 +22,9 @@ use Rattle.mc_machine_laws.specs.FewWords.{PiecesWithin}
 use Rattle.mc_machine.proofs.SoundRows.{ChangesWithin, KeepsPartsOf, RowKeeps, row_keeps, length_pieces}
 use Rattle.mc_model_device.proofs.MapLemmas.{same_name, lookup_inserted_lem, lookup_beside}
 
--- ---- applications whose sizes stay
+-- ---- applications whose sizes do not change
 
--- each name has as many static and session bytes as before
+-- the application of each name has the same numbers of static and session bytes as before
 pub record SameLengths (apps now : List (List ℕ × App)) : Type 0 where
   pub fixed : (n : List ℕ) → length (app_of now (Some n)).fixed ≡ length (app_of apps (Some n)).fixed
   pub session : (n : List ℕ) → (app_of now (Some n)).session ≡ (app_of apps (Some n)).session
@@ -62,12 +63,12 @@ sizes_changed apps n (Some ps) within = sizes_by apps n ps (lookup apps n) refl 
 
 -- ---- atomic writes
 
--- a write of as many words as its pieces touch, which lie in the static segment
+-- a write whose number of words is that of the words that its pieces touch, and whose pieces lie in the static segment
 pub record IsSoundWrite (apps : List (List ℕ × App)) (w : Write) : Type 0 where
   pub words : w.words ≡ length (touched_words w.pieces)
   pub within : PiecesWithin (length (app_of apps (Some w.name)).fixed) w.pieces
 
--- each of some writes is one, on the applications after those before it
+-- each write of a list is sound on the applications as the writes before it left them
 abbrev pub AreSound : List (List ℕ × App) → List Write → Type 0
 AreSound apps [] = Unit {0}
 AreSound apps (w ∷ ws) = IsSoundWrite apps w × AreSound (map_changed apps w.name (Some w.pieces)) ws
@@ -81,7 +82,7 @@ pub write_done : (apps : List (List ℕ × App)) (n : List ℕ) (changes : Optio
 write_done apps n None = refl
 write_done apps n (Some ps) = refl
 
--- the applications have the sizes of before
+-- the applications keep their sizes
 pub sizes_done : (ws : List Write) (apps : List (List ℕ × App)) → AreSound apps ws → SameLengths apps (apps_after_items apps (write_items ws))
 sizes_done [] apps sound = same_sizes apps
 sizes_done (w ∷ ws) apps sound =
@@ -126,7 +127,7 @@ first_all : (apps : List (List ℕ × App)) (f : Frame) (fs : List Frame) → Al
 first_all apps f [] all = all.0
 first_all apps f (g ∷ fs) all = first_all apps g fs all.1
 
--- a chain has as many session bytes as its first application
+-- the number of a chain's session bytes is that of its first application
 pub session_size : (ch : Chain) → IsSoundChain ch → length (chain_session ch) ≡ (app_of ch.map (Some (first_in ch).name)).session
 session_size ch sound =
     let first : IsSoundFrame ch.map (first_in ch) = first_all ch.map ch.frame ch.below sound in
@@ -140,7 +141,7 @@ first_name f g (h ∷ fs) same = refl
 
 -- ---- what follows
 
--- a chain that goes on is sound, stands on the applications after the writes, and its first frame has its name
+-- a chain that goes on is sound, its frames match the applications after the writes, and its first frame has the same name as before
 pub record GoesSound (ch : Chain) (apps : List (List ℕ × App)) (next : Chain) : Type 0 where
   pub sound : IsSoundChain next
   pub map : next.map ≡ apps
@@ -178,7 +179,7 @@ follows_sound ch (Delegates n) sound = called_sound ch n (lookup ch.map n) refl 
 
 -- ---- turns
 
--- what a turn of a chain makes
+-- what a turn of a sound chain keeps: its writes are sound, and the chain stays sound
 pub record TurnSound (ch : Chain) (t : Acted) : Type 0 where
   pub writes : AreSound ch.map t.writes
   pub follows : FollowsSound ch (apps_after_items ch.map (write_items t.writes)) t.follows

@@ -1,5 +1,5 @@
--- What a row keeps of its frame: its name and its number of session bytes, which its dynamic bytes hold; its static change and what it
--- has pending lie in its static segment.
+-- What a row keeps of its frame: its name and the number of its session bytes, which its dynamic bytes hold; its static change and its
+-- pending bytes lie in its static segment.
 use Rattle.std.proofs.Common.{◌≡◌, ℕ, ◌+◌, ◌-◌, ◌≤◌, Bool, true, false, cond, List, [], ◌∷◌, ◌++◌, length, Option, Some, None, refl, sym, ap, subst, ◌∙◌, arith}
 use Rattle.std.specs.Prelude.{◌==◌, ◌||◌, nat_le, slice_index}
 use Rattle.std.proofs.lemmas.Bool.Decides.{nat_tests}
@@ -33,7 +33,7 @@ abbrev pub ChangesWithin : ℕ → Option (List (ℕ × List ℕ)) → Type 0
 ChangesWithin n None = Unit {0}
 ChangesWithin n (Some ps) = PiecesWithin n ps
 
--- what an effect keeps of a frame with a name, so many session, static and dynamic bytes, and pieces that are pending
+-- what an effect keeps of a frame with a name, `s` session, `l` static and `d` dynamic bytes, and pending pieces
 pub record KeepsParts (n : List ℕ) (s l d : ℕ) (ps : List (ℕ × List ℕ)) (e : Effect) : Type 0 where
   pub name : e.frame.name ≡ n
   pub session : e.frame.session ≡ s
@@ -45,7 +45,7 @@ pub record KeepsParts (n : List ℕ) (s l d : ℕ) (ps : List (ℕ × List ℕ))
 abbrev pub KeepsPartsOf : Frame → Effect → Type 0
 KeepsPartsOf f e = KeepsParts f.name f.session (length f.fixed) (length f.dyn) f.pieces e
 
--- a frame alone, with the same static segment
+-- an effect that changes the frame alone, with the same static segment
 still : (f : Frame) (public : List ℕ) (g : Frame) → g.name ≡ f.name → g.session ≡ f.session → g.fixed ≡ f.fixed → g.pieces ≡ f.pieces → length f.dyn ≤ length g.dyn → KeepsPartsOf f (frame_effect g public)
 still f public g name session fixed pieces dyn =
     record {
@@ -220,7 +220,7 @@ effect_kept (ins.Andn tag off n) f public x = becomes_kept f public _ _ _ _
 effect_kept (ins.Orn tag off n) f public x = becomes_kept f public _ _ _ _
 effect_kept (ins.Xorn tag off n) f public x = becomes_kept f public _ _ _ _
 
--- what a row keeps that is done
+-- what a row that is done keeps
 abbrev pub RowKeeps : Frame → RowEnd → Type 0
 RowKeeps f (Abends a) = Unit {0}
 RowKeeps f (Does d) = KeepsPartsOf f d.effect

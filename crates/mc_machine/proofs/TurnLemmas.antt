@@ -19,7 +19,7 @@ use Rattle.mc_machine.proofs.Alike.{committed_seen, changed_seen}
 use Rattle.mc_machine.proofs.ReadsLemmas.{name_is, app_is, moved_reads}
 use Rattle.mc_model_device.proofs.MapLemmas.{lookup_inserted_lem, lookup_beside}
 
--- what the lemmas use of a bank: what a commit does to the applications and to the slots
+-- the properties of a bank that the lemmas use: the effect of a commit on the applications and on the slots
 pub record BankLaws {B : Type 0} (did : B → BankItem → Answer → B → Type 0) (state : B → BankState) (named : B → ℕ → Option (List ℕ)) : Type 0 where
   pub obeys : (b : B) (n : List ℕ) (ws : List (ℕ × List ℕ)) (a : Answer) (e : B) → did b (Commit n ws) a e → Changes (state b) (apps_after_commit (state b).apps n ws) a (state e)
   pub keeps : (b : B) (n : List ℕ) (ws : List (ℕ × List ℕ)) (a : Answer) (e : B) → did b (Commit n ws) a e → (k : ℕ) (m : List ℕ) → named b k ≡ Some m → named e k ≡ Some m
@@ -31,7 +31,7 @@ module _ {B : Type 0} (did : B → BankItem → Answer → B → Type 0) (state 
   none_wrote b (Ok u) e done = done
   none_wrote b (Err s) e done = absurd done
 
-  -- words are as many as their pieces touch
+  -- the number of words is that of the words that their pieces touch
   few_touched : (l : List ℕ) (ps ws : List (ℕ × List ℕ)) → HoldPieces l ps ws → length ws ≤ 64 → length (touched_words ps) ≤ 64
   few_touched l ps ws held few = let same = ap (λ (ns : List ℕ). length ns) held.touched_words in omega (arith, length-map ws (λ w. w.0), same, few)
 
@@ -65,7 +65,7 @@ module _ {B : Type 0} (did : B → BankItem → Answer → B → Type 0) (state 
         | inr stop ↦ absurd (cc stop.2)
       ]
 
-  -- other applications are as before
+  -- other applications do not change
   others_stay : (name fixed : List ℕ) (changes : Option (List (ℕ × List ℕ))) (b e : B) → IsOneCommit did name fixed changes b (Ok tt) e → (m : List ℕ) → bytes_eq name m ≡ false → lookup (state e).apps m ≡ lookup (state b).apps m
   others_stay name fixed None b e done m other = ap (λ (x : B). lookup (state x).apps m) done
   others_stay name fixed (Some ps) b e done m other =
@@ -98,7 +98,7 @@ module _ {B : Type 0} (did : B → BankItem → Answer → B → Type 0) (state 
 
   -- ---- a settled chain
 
-  -- the commit of what was changed, in the words of the definitions' frame
+  -- the commit of the changed bytes, for the frame of the definitions
   pub committed_of : (b e : B) (c : Chained) (ch : Chain) (d x : Effect) (a : Answer) → RunsAs (state b) (named b) c ch → SameEffect (app_under (state b) (named b) c.running).fixed d x
       → IsOneCommit did (name_or (named b c.running.slot)) (app_under (state b) (named b) c.running).fixed d.changes b a e
       → IsOneCommit did ch.frame.name (app_under (state b) (named b) c.running).fixed x.changes b a e

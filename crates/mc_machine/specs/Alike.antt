@@ -1,4 +1,4 @@
--- What a row sees of a frame: its pending bytes, and not the pieces that they come from.
+-- The reading of a frame, which is all that a row depends on: its pending bytes, and not the pieces that they come from.
 use Rattle.std.specs.Prelude.{◌≡◌, ℕ, true, false, List, length, option_map, Option}
 use Rattle.mc_model_machine.specs.declared.machine.Abend.{Abend}
 use Rattle.mc_model_device.specs.Pieces.{laid_pieces, touched_words}
@@ -8,32 +8,32 @@ use Rattle.mc_model_machine.specs.Row.{RowEnd, Abends, Does}
 use Rattle.mc_segs.specs.HeldFrames.{Seen, frame_reading, no_pieces}
 use Rattle.mc_segs.specs.Ends.{changed_bytes}
 
--- a static change, whichever pieces it is made of: the bytes after it, and the words that it touches
+-- the reading of a static change, whichever pieces it is made of: the bytes after it, and the words that it touches
 abbrev pub seen_change : List ℕ → Option (List (ℕ × List ℕ)) → Option (List ℕ × List ℕ)
 seen_change fixed changes = option_map (λ ps. (laid_pieces fixed ps, touched_words ps)) changes
 
--- the end of a row, whichever pieces its frame is made of
+-- the reading of the end of a row, whichever pieces its frame is made of
 pub data SeenEnd : Type 0 where
   SeenAbend : (cause : Abend) → SeenEnd
   SeenDone : (frame : Seen) (public : List ℕ) (change : Option (List ℕ × List ℕ)) (next : Then) → SeenEnd
 
--- the end of a row that began with these static bytes
+-- the reading of the end of a row that began with the given static bytes
 abbrev pub seen_end : List ℕ → RowEnd → SeenEnd
 seen_end fixed (Abends a) = SeenAbend a
 seen_end fixed (Does d) = SeenDone (frame_reading d.effect.frame) d.effect.public (seen_change fixed d.effect.changes) d.next
 
--- two effects that are seen as one, from these static bytes
+-- two effects with the same reading, from the given static bytes
 pub record SameEffect (fixed : List ℕ) (d e : Effect) : Type 0 where
   pub frame : frame_reading d.frame ≡ frame_reading e.frame
   pub public : d.public ≡ e.public
   pub changes : seen_change fixed d.changes ≡ seen_change fixed e.changes
 
--- two instructions that are done, and are seen as one
+-- two instructions that are done, with the same reading
 pub record SameDone (fixed : List ℕ) (d e : Done) : Type 0 where
   pub effect : SameEffect fixed d.effect e.effect
   pub next : d.next ≡ e.next
 
--- two ends of a row that are seen as one
+-- two ends of a row with the same reading
 abbrev pub SameRowEnd : List ℕ → RowEnd → RowEnd → Type 0
 SameRowEnd fixed (Abends a) (Abends b) = a ≡ b
 SameRowEnd fixed (Abends a) (Does e) = ⊥
@@ -51,14 +51,14 @@ pub record SameApp (f g : Frame) : Type 0 where
   pub session : f.session ≡ g.session
   pub deny : f.deny ≡ g.deny
 
--- what an effect keeps of the frame and of the public segment that it began with: the static bytes change as it says
+-- what an effect keeps of the frame and of the public segment that it began with; its static bytes are those of before with its change
 pub record KeepsEffect (f : Frame) (segment : List ℕ) (e : Effect) : Type 0 where
   pub app : SameApp e.frame f
   pub guarded : IsGuarded f → IsGuarded e.frame
   pub fixed : e.frame.fixed ≡ changed_bytes f.fixed e.changes
   pub public : length segment ≡ 1041 → length e.public ≡ 1041
 
--- what a row keeps: where it abends, nothing came of it
+-- what a row that is done keeps; nothing is claimed of one that abends
 abbrev pub KeepsRow : Frame → List ℕ → RowEnd → Type 0
 KeepsRow f public (Abends a) = Unit {0}
 KeepsRow f public (Does d) = KeepsEffect f public d.effect

@@ -15,8 +15,8 @@ use Rattle.mc_apdu.specs.Command.{parts_of}
 use Rattle.mc_segs.specs.HeldFrames.{Held, FitsBank, frame_on_bank, frame_reading}
 use Rattle.mc_machine.specs.Alike.{IsGuarded}
 
--- the running frame, the frames below it, of which the one that delegated to it comes first, the public segment, the case of the command,
--- its Le, which is 0 where it has none, and how many instructions the budget has left
+-- a chain of the code: the running frame, the frames below it with the one that delegated to it first, the public segment, the case of
+-- the command, its Le, which is 0 if it has none, and the number of instructions left in the budget
 pub record Chained : Type 0 where
   pub running : Held
   pub below : List Held
@@ -27,13 +27,14 @@ pub record Chained : Type 0 where
 
 -- ---- the chain of the definitions
 
--- a frame fits the bank, and reads there as a frame of the definitions, which has pending bytes only while protection is on
+-- a frame of the code fits the bank, and its reading there is a frame of the definitions, which has pending bytes only while protection
+-- is on
 pub record FrameReadsAs (s : BankState) (named : ℕ → Option (List ℕ)) (h : Held) (f : Frame) : Type 0 where
   pub fits : FitsBank s named h
   pub same : frame_reading (frame_on_bank s named h) ≡ frame_reading f
   pub guarded : IsGuarded f
 
--- each of some frames does
+-- each frame of a list reads as the one at its place in a list of frames of the definitions
 abbrev pub ReadAll : BankState → (ℕ → Option (List ℕ)) → List Held → List Frame → Type 0
 ReadAll s named [] [] = Unit {0}
 ReadAll s named [] (f ∷ fs) = ⊥
@@ -45,7 +46,7 @@ abbrev pub NamesApart : List Frame → Type 0
 NamesApart [] = Unit {0}
 NamesApart (f ∷ fs) = AllByRecursion (λ g. bytes_eq f.name g.name ≡ false) fs × NamesApart fs
 
--- the chain runs as this one of the definitions
+-- a chain of the code runs as a chain of the definitions
 pub record RunsAs (s : BankState) (named : ℕ → Option (List ℕ)) (c : Chained) (ch : Chain) : Type 0 where
   pub map : ch.map ≡ s.apps
   pub running : FrameReadsAs s named c.running ch.frame

@@ -1,4 +1,4 @@
--- An application that nobody waits for: its chain, what its turns leave, and the end of a run.
+-- An application that no frame waits for: its chain, what its turns leave, and the end of a run.
 use Rattle.std.specs.Prelude.{◌≡◌, ℕ, ◌+◌, ◌-◌, ◌≤◌, false, List, [], option_map, Option, Some, None, Result, Ok, Err}
 use Rattle.mc_model_device.specs.declared.device.Stop.{Stop}
 use Rattle.mc_model_machine.specs.declared.instruction.Ins.{Ins}
@@ -23,11 +23,11 @@ use Rattle.mc_machine.specs.declared.outcome.Outcome.{Outcome}
 use Rattle.mc_machine.specs.declared.lone.Lone.{Lone}
 use Rattle.mc_machine.specs.declared.lone.Lone.TheVariants.{Goes, Ends, Delegates}
 
--- the chain of a frame that nobody waits for, with so much of the budget left
+-- the chain of a frame that no frame waits for, with the given number of instructions left in the budget
 abbrev pub lone_chain : Held → List ℕ → ℕ → ℕ → ℕ → Chained
 lone_chain h public case le left = record { running = h; below = []; public = public; case = case; le = le; left = left }
 
--- a turn that no stop hit, and its end
+-- a turn without a `Stop`, and its end
 abbrev pub EndDone : {B : Type 0} → (B → BankItem → Answer → B → Type 0) → (B → BankState) → (B → ℕ → Option (List ℕ)) → B → B → Chained → Chained → Chain → Acted → Option End → Type 0
 EndDone did state named b e c d ch t end = TurnActs did state named b e c d ch t × (t.turn.end ≡ option_map (end_value d.public d.le) end)
 
@@ -40,7 +40,7 @@ pub record Delegated {B : Type 0} (did : B → BankItem → Answer → B → Typ
   pub left : d.left + t.count ≡ c.left
   pub follows : t.follows ≡ Continues (chain_after_call chain name (lookup chain.map name))
 
--- a turn of a frame that nobody waits for, by its result and the name that it calls: its chain afterwards has something left of the budget
+-- a turn of a frame that no frame waits for, by its result and the name that it calls; `n` is the budget that its chain has left
 abbrev pub LoneDone : {B : Type 0} → (B → BankItem → Answer → B → Type 0) → (B → BankState) → (B → ℕ → Option (List ℕ)) → B → B → Chained → (ℕ → Chained) → Chain → Acted → Result Lone Stop → Option (List ℕ) → Type 0
 LoneDone did state named b e c d ch t (Ok Goes) callee = (n : ℕ) × EndDone did state named b e c (d n) ch t None
 LoneDone did state named b e c d ch t (Ok (Ends end)) callee = (n : ℕ) × EndDone did state named b e c (d n) ch t (Some end)
@@ -48,37 +48,37 @@ LoneDone did state named b e c d ch t (Ok Delegates) None = ⊥
 LoneDone did state named b e c d ch t (Ok Delegates) (Some name) = Delegated did state named b e c (d (c.left - 1)) t name
 LoneDone did state named b e c d ch t (Err stop) callee = InOrder (ChainWrote did state) b t.writes (Err stop) e
 
--- a reply fits where the turn ends with one
+-- a reply fits, if the turn ends with one
 abbrev pub LoneFits : List ℕ → Result Lone Stop → Type 0
 LoneFits public (Ok Goes) = Unit {0}
 LoneFits public (Ok (Ends end)) = EndFits public end
 LoneFits public (Ok Delegates) = Unit {0}
 LoneFits public (Err stop) = Unit {0}
 
--- what comes after an instruction that was done, with these public bytes
+-- the result of a turn whose instruction was done, with the given public bytes
 abbrev pub lone_next_of : Next → List ℕ → Lone
 lone_next_of go.Go public = Goes
 lone_next_of go.Exit public = Ends (last_end public)
 lone_next_of (go.Delegate name) public = Delegates
 
--- what comes after one that was not done
+-- the result of a turn whose instruction was not done
 abbrev pub lone_halt_of : Halt → Result Lone Stop
 lone_halt_of (halt.Abend a) = Ok (Ends (end.Abend a))
 lone_halt_of (halt.Stop stop) = Err stop
 
--- what comes after an instruction, with these public bytes
+-- the result of a turn by that of its instruction, with the given public bytes
 abbrev pub lone_of : Result Next Halt → List ℕ → Result Lone Stop
 lone_of (Ok next) public = Ok (lone_next_of next public)
 lone_of (Err halt) public = lone_halt_of halt
 
--- the name that an instruction calls, if it delegates, stands in its place
+-- the name that an instruction calls, if it delegates, is in the place for it
 abbrev pub NameIsCalled : Result Next Halt → Option (List ℕ) → Type 0
 NameIsCalled (Ok go.Go) callee = Unit {0}
 NameIsCalled (Ok go.Exit) callee = Unit {0}
 NameIsCalled (Ok (go.Delegate name)) callee = callee ≡ Some name
 NameIsCalled (Err halt) callee = Unit {0}
 
--- an instruction of a frame that nobody waits for, by what comes after it and the name that it calls
+-- an instruction of a frame that no frame waits for, by what comes after it and the name that it calls
 pub record LoneActs {B : Type 0} (did : B → BankItem → Answer → B → Type 0) (state : B → BankState) (named : B → ℕ → Option (List ℕ)) (s : Scene B) (i : Ins) (x : Around) (result : Result Lone Stop) (callee : Option (List ℕ)) : Type 0 where
   pub done : Result Next Halt
   pub acts : RowActs did state named s i x done
@@ -87,7 +87,7 @@ pub record LoneActs {B : Type 0} (did : B → BankItem → Answer → B → Type
 
 -- ---- runs
 
--- the end of a run: all its writes were done, it counted its steps from these on, and left these session bytes
+-- the end of a run: all its writes were done, `steps` counts its steps as well, and it left the given session bytes
 pub record Finished {B : Type 0} (did : B → BankItem → Answer → B → Type 0) (state : B → BankState) (start : B) (whole : Ran) (ticks : ℕ) (end : B) (bytes : List ℕ) (told : model.Outcome) (steps : ℕ) : Type 0 where
   pub writes : InOrder (ChainWrote did state) start whole.writes (Ok tt) end
   pub going : (state end).stopped ≡ false
@@ -95,13 +95,13 @@ pub record Finished {B : Type 0} (did : B → BankItem → Answer → B → Type
   pub session : bytes ≡ whole.session
   pub outcome : told ≡ whole.outcome
 
--- a run that a stop hit: it counted no more than all of its steps, and left the session bytes as they were
+-- a run that a `Stop` ended: it counted no more steps than the whole run, and left the session bytes as they were
 pub record HaltedRun {B : Type 0} (did : B → BankItem → Answer → B → Type 0) (state : B → BankState) (start : B) (whole : Ran) (ticks : ℕ) (end : B) (bytes left : List ℕ) (stop : Stop) (steps : ℕ) : Type 0 where
   pub writes : InOrder (ChainWrote did state) start whole.writes (Err stop) end
   pub count : steps ≤ ticks + whole.count
   pub session : left ≡ bytes
 
--- a run by its result: from a bank to another, from session bytes to others, and from so many steps to so many
+-- a run by its result: the bank, the session bytes and the number of steps before it and after it
 abbrev pub RanDone : {B : Type 0} → (B → BankItem → Answer → B → Type 0) → (B → BankState) → B → B → List ℕ → List ℕ → ℕ → ℕ → Ran → Result Outcome Stop → Type 0
 RanDone did state b e bytes left ticks steps whole (Ok outcome) = Finished did state b whole ticks e left (outcome_value outcome) steps
 RanDone did state b e bytes left ticks steps whole (Err stop) = HaltedRun did state b whole ticks e bytes left stop steps

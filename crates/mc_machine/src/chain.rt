@@ -1,4 +1,4 @@
-// A chain of frames: its beginning, its end, and what a frame asks of the others.
+// A chain of frames: its beginning, its end, and what one frame reads of the others.
 ghost use Rattle.std.specs.Prelude.{◌≡◌, ◌≤◌, length, false, IsSome};
 ghost use Rattle.mc_model_machine.specs.Chain.{start};
 ghost use Rattle.mc_apdu.specs.Command.{parts_of};
@@ -41,8 +41,9 @@ impl Model for Chain {
     ghost invariant = { λ c. c.left ≤ 65536 };
 }
 
-/// The chain of a command to the application of a slot, with the session bytes of its selection, before its first turn. The
-/// budget is 1 to 65,536 instructions, and the command has at most 1,024 bytes of data.
+/// Returns the chain of a command to the application of slot `first`, with the session bytes of its
+/// selection, before its first turn. The budget is 1 to 65,536 instructions, and the command has at most
+/// 1,024 bytes of data.
 pub fn begin<B: Bank>(bank: &B, first: Slot, session: &Session, apdu: &Apdu, budget: u32) -> Chain
     requires going { (B.state bank.now).stopped ≡ false }
     requires there { IsSome (B.named bank.now first) }
@@ -64,7 +65,8 @@ pub fn begin<B: Bank>(bank: &B, first: Slot, session: &Session, apdu: &Apdu, bud
     }
 }
 
-/// The frame of the application of a slot, with the session bytes of its selection, before its first turn.
+/// Returns the frame of the application of slot `first`, with the session bytes of its selection, before its
+/// first turn.
 pub fn first_frame<B: Bank>(bank: &B, first: Slot, session: &Session) -> Frame
     requires going { (B.state bank.now).stopped ≡ false }
     requires there { IsSome (B.named bank.now first) }
@@ -76,7 +78,7 @@ pub fn first_frame<B: Bank>(bank: &B, first: Slot, session: &Session) -> Frame
 }
 
 impl Chain {
-    /// The session bytes of the first frame, as they stand.
+    /// Returns the present session bytes of the first frame.
     pub fn session(&self) -> Session
         ensures { result ≡ session_in self.now }
     {

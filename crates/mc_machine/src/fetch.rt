@@ -7,10 +7,10 @@ use mc_bank::Bank;
 use mc_isa::{DecodeFault, Ins, decode};
 use mc_segs::Frame;
 
-/// How many bytes an instruction has at the most.
+/// The most bytes that an instruction has.
 const LONGEST: u16 = 6;
 
-/// The instruction at the frame's code address, and the place behind it.
+/// Returns the instruction at the frame's code address, and the address after it.
 #[inline(always)]
 pub fn fetch<B: Bank>(bank: &B, frame: &Frame) -> Result<(Ins, u16), DecodeFault>
     requires going { (B.state bank.now).stopped ≡ false }
@@ -35,7 +35,7 @@ pub fn fetch<B: Bank>(bank: &B, frame: &Frame) -> Result<(Ins, u16), DecodeFault
     Ok((ins, at + size))
 }
 
-// Reads as many bytes of code as an instruction may have; where fewer are left, other bytes stand behind those.
+// Reads `LONGEST` bytes of code. If fewer are left, the bytes after those are unspecified.
 #[inline(always)]
 fn read_code<B: Bank>(bank: &B, frame: &Frame, left: u16, into: &mut [u8; 6])
     requires going { (B.state bank.now).stopped ≡ false }
@@ -51,7 +51,7 @@ fn read_code<B: Bank>(bank: &B, frame: &Frame, left: u16, into: &mut [u8; 6])
     }
 }
 
-// The last bytes of code, where fewer are left than an instruction may have.
+// Reads the last bytes of code, when fewer than `LONGEST` are left.
 #[cold]
 #[inline(never)]
 fn read_last<B: Bank>(bank: &B, frame: &Frame, into: &mut [u8])

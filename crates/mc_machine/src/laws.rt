@@ -6,8 +6,8 @@ ghost use Rattle.mc_model_machine.specs.Row.{row};
 ghost use Rattle.mc_segs.specs.HeldFrames.{frame_reading};
 ghost use Rattle.mc_machine.specs.Alike.{seen_end, IsGuarded, KeepsRow};
 
-/// A row does the same to frames that read the same, whichever pieces their pending bytes come from, where bytes are pending only while
-/// protection is on.
+/// A row has the same effect on frames with the same reading, whichever pieces their pending bytes come from,
+/// if bytes are pending only while protection is on.
 pub fn rows_see()
     ensures { (i : Ins) (f g : Frame) (public : List ℕ) (x : Around) → IsGuarded f → frame_reading f ≡ frame_reading g
         → seen_end f.fixed (row i f public x) ≡ seen_end g.fixed (row i g public x) }

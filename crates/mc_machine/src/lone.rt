@@ -1,4 +1,4 @@
-// Turns of an application that nobody waits for: the first one of a chain, until it delegates.
+// Turns of an application that no frame waits for: the first one of a chain, until it delegates.
 ghost use Rattle.std.specs.Prelude.{◌≡◌, ◌≢◌, ◌+◌, false, ℕ, List, Option, None, Ok};
 ghost use Rattle.mc_model_machine.specs.declared.instruction.Ins.TheVariants.{Prim};
 ghost use Rattle.mc_model_machine.specs.Code.{Shaped};
@@ -20,8 +20,9 @@ use mc_rows::{Flow, step};
 use mc_segs::{Abend, Frame, Halt, Next, Public};
 use std::sync::ledger::Ledger;
 
-/// What comes after a turn of an application that nobody waits for: its next turn, the end of the command, or another
-/// application, whose name stands elsewhere, since each turn would hand on the room for it.
+/// What comes after a turn of an application that no frame waits for: its next turn, the end of the command,
+/// or another application. The name of that one is kept elsewhere, since every turn would pass the room for
+/// it.
 #[derive(Clone, Copy, Debug, PartialEq, Eq)]
 pub enum Lone {
     Goes,
@@ -29,9 +30,9 @@ pub enum Lone {
     Delegates,
 }
 
-/// One turn of an application that nobody waits for, under a budget that is not spent: one executed instruction, and one
-/// step, or a fetch that ends the chain. Where it delegates, the name is put into `callee`. A `Stop` is that of the bank in
-/// the instruction's change.
+/// Runs one turn of an application that no frame waits for, under a budget that is not spent: one executed
+/// instruction, and one step, or a fetch that ends the chain. If it delegates, the name is written to
+/// `callee`. A `Stop` is that of the bank in the instruction's change.
 #[inline(always)]
 pub fn lone_turn<B: Bank, L: Ledger>(
     frame: &mut Frame,
@@ -62,7 +63,7 @@ pub fn lone_turn<B: Bank, L: Ledger>(
     perform_lone(&ins, frame, public, case, callee, bank)
 }
 
-// An instruction of an application that nobody delegated to, whose code address is already behind it.
+// Executes an instruction of an application that nobody delegated to, whose code address is already after it.
 #[inline(always)]
 fn perform_lone<B: Bank>(
     ins: &Ins,
@@ -88,7 +89,8 @@ fn perform_lone<B: Bank>(
     }
 }
 
-// A primitive of the same application. It stands apart, so that no other instruction makes room for what it takes.
+// Executes a primitive of such an application. It is a function of its own, so that no other instruction
+// makes room for what it takes.
 #[inline(never)]
 fn primitive<B: Bank>(
     set: u8,
@@ -115,7 +117,7 @@ fn primitive<B: Bank>(
     after_primitive(done, public, callee)
 }
 
-// What comes after a primitive, and the name that it calls, if it delegates.
+// Returns what comes after a primitive; the name that it calls, if it delegates, is written to `callee`.
 fn after_primitive(
     done: Result<Next, Halt>,
     public: &Public,
@@ -131,7 +133,7 @@ fn after_primitive(
     }
 }
 
-// The same where it was done.
+// Returns what comes after a primitive that was done.
 fn after_done(next: Next, public: &Public, callee: &mut Option<Aid>) -> Lone
     ensures value { result ≡ lone_next_of next public.now }
     ensures called { NameIsCalled (Ok next) callee.new }
@@ -147,7 +149,7 @@ fn after_done(next: Next, public: &Public, callee: &mut Option<Aid>) -> Lone
     }
 }
 
-// What comes after an instruction that is not PRIM.
+// Returns what comes after an instruction that is not PRIM.
 #[inline(always)]
 fn after_row(done: Result<Flow, Halt>, public: &Public) -> Result<Lone, Stop>
     ensures value { result ≡ lone_of (row_result done) public.now }
@@ -161,7 +163,7 @@ fn after_row(done: Result<Flow, Halt>, public: &Public) -> Result<Lone, Stop>
     }
 }
 
-// What comes after an instruction that was not done.
+// Returns what comes after an instruction that was not done.
 fn after_halt(halt: Halt) -> Result<Lone, Stop>
     ensures value { result ≡ lone_halt_of halt }
     ensures fits { (public : List ℕ) → LoneFits public result }

@@ -48,7 +48,8 @@ impl Outcome {
         }
     }
 
-    // The place of a new reply is cleared where it is made, so this is a call of its own.
+    // Replaces an abend by the reply 9000. The place of a new reply is cleared by the function that makes it,
+    // so this is a call of its own.
     #[cold]
     #[inline(never)]
     fn replace_by_done(&mut self)
@@ -59,9 +60,10 @@ impl Outcome {
     }
 }
 
-/// One executed instruction, or a fetch that ends the chain: the depth of its frame from 1 to 4, the code address it was at,
-/// the instruction, which is missing exactly after a fetch that abends with 01, 02 or 07, DT and the flags of the frame
-/// after it, or before it where the chain ends by an abend, and the chain's end where it came.
+/// One executed instruction, or a fetch that ends the chain: the depth of its frame from 1 to 4, the code
+/// address it was at, the instruction, which is missing exactly after a fetch that abends with 01, 02 or 07,
+/// DT and the flags of the frame after it, or before it if the chain ends by an abend, and the chain's end if
+/// this turn ends it.
 #[derive(Clone, Debug, Drop)]
 pub struct Turn {
     pub depth: u8,
@@ -72,14 +74,15 @@ pub struct Turn {
     pub end: Option<Outcome>,
 }
 
-/// The end of a command to an application, whose reply stands elsewhere: in its public segment, or in the place that it was put in.
+/// The end of a command to an application. Its reply is kept elsewhere: in the public segment, or in the
+/// place that it was written to.
 #[derive(Clone, Copy, Debug, PartialEq, Eq)]
 pub enum End {
     Reply,
     Abend(Abend),
 }
 
-// What a turn tells, without its place.
+// The record of a turn, without its place.
 #[derive(Clone, Copy, Debug, PartialEq, Eq)]
 pub struct Step {
     pub ins: Option<Ins>,
@@ -89,7 +92,7 @@ pub struct Step {
 }
 
 impl Step {
-    /// The same, with an abend as end.
+    /// Returns this record with `abend` as its end.
     pub fn abends(self, abend: Abend) -> Step
         ensures { result ≡ record self { end = Some (End.Abend abend) } }
     {
@@ -100,7 +103,7 @@ impl Step {
     }
 }
 
-/// A turn of a frame as its registers stand.
+/// Returns the record of a turn with the present registers of a frame.
 pub fn told(frame: &Frame, ins: Option<Ins>, end: Option<End>) -> Step
     ensures { result ≡ record {
       ins = ins;
@@ -120,7 +123,7 @@ pub fn told(frame: &Frame, ins: Option<Ins>, end: Option<End>) -> Step
     }
 }
 
-/// La, the length of the reply's data.
+/// Returns La, the length of the reply's data.
 pub fn la(public: &Public) -> u16
     ensures { result ≡ la_of public.now }
 {
@@ -128,7 +131,7 @@ pub fn la(public: &Public) -> u16
     bytes[1037] as u16 * 256 + bytes[1038] as u16
 }
 
-// SW, the status of the reply.
+// Returns SW, the status of the reply.
 fn sw(public: &Public) -> u16
     ensures { result ≡ sw_of public.now }
 {
@@ -136,8 +139,8 @@ fn sw(public: &Public) -> u16
     bytes[1039] as u16 * 256 + bytes[1040] as u16
 }
 
-/// How the exit of a chain's first frame ends it: 09 where its reply would be too long.
-// It comes once a command, so no turn makes room for it.
+/// Returns how the exit of a chain's first frame ends it: 09 if its reply would be too long.
+// It is called once a command, so no turn makes room for it.
 #[inline(never)]
 pub fn last_exit(public: &Public) -> End
     ensures value { result ≡ last_end public.now }
@@ -150,7 +153,7 @@ pub fn last_exit(public: &Public) -> End
     }
 }
 
-// The reply that stands in a public segment.
+// Returns the reply in a public segment.
 fn reply_in(public: &Public, le: u16) -> Reply
     requires { la_of public.now ≤ 1024 }
     ensures body { result.body.items ≡ take (min (la_of public.now) le) public.now }
@@ -164,7 +167,7 @@ fn reply_in(public: &Public, le: u16) -> Reply
     reply
 }
 
-// Puts the reply that stands in a public segment in place of another.
+// Replaces a reply by the one in a public segment.
 fn put_reply(public: &Public, le: u16, reply: &mut Reply)
     requires { la_of public.now ≤ 1024 }
     ensures body { reply.new.body.items ≡ take (min (la_of public.now) le) public.now }
@@ -179,7 +182,8 @@ fn put_reply(public: &Public, le: u16, reply: &mut Reply)
     reply.sw = sw(public);
 }
 
-/// Puts the reply of an end, if it has one, in place of another: the first bytes of the public segment, at most La and Le, with the status.
+/// Replaces `reply` by the reply of an end, if it has one: the first bytes of the public segment, at most La
+/// and Le, with the status.
 pub fn put_end(public: &Public, le: u16, end: End, reply: &mut Reply)
     requires { EndFits public.now end }
     ensures { outcome_value (outcome_by end reply.new) ≡ end_value public.now le end }
@@ -190,7 +194,8 @@ pub fn put_end(public: &Public, le: u16, end: End, reply: &mut Reply)
     }
 }
 
-/// The outcome of an end: the reply is the first bytes of the public segment, at most La and Le, with the status.
+/// Returns the outcome of an end: the reply is the first bytes of the public segment, at most La and Le, with
+/// the status.
 pub fn final_outcome(public: &Public, le: u16, end: End) -> Outcome
     requires { EndFits public.now end }
     ensures { outcome_value result ≡ end_value public.now le end }
@@ -202,7 +207,7 @@ pub fn final_outcome(public: &Public, le: u16, end: End) -> Outcome
 }
 
 impl Chain {
-    /// Puts the reply of an end of the chain, if it has one, in place of another.
+    /// Replaces `reply` by the reply of an end of the chain, if it has one.
     pub fn put_end(&self, end: End, reply: &mut Reply)
         requires { EndFits self.now.public end }
         ensures { outcome_value (outcome_by end reply.new) ≡ end_value self.now.public self.now.le end }
@@ -210,7 +215,7 @@ impl Chain {
         put_end(&self.public, self.le, end, reply);
     }
 
-    /// The outcome of an end of the chain.
+    /// Returns the outcome of an end of the chain.
     pub fn outcome(&self, end: End) -> Outcome
         requires { EndFits self.now.public end }
         ensures { outcome_value result ≡ end_value self.now.public self.now.le end }

@@ -132,7 +132,8 @@ pub fn run_into<B: Bank, L: Ledger>(
     run_turns(bank, first, session, apdu, budget, reply, steps)
 }
 
-// The turns of a command, from the first to its end. It is the body of `run_into`, by the relation that its loop keeps.
+// Runs the turns of a command, from the first to its end. It is the body of `run_into`, by the relation that
+// its loop keeps.
 #[inline(always)]
 fn run_turns<B: Bank, L: Ledger>(
     bank: &mut B,
@@ -181,7 +182,7 @@ fn run_turns<B: Bank, L: Ledger>(
     Ok(End::Abend(Abend::A07))
 }
 
-// The rest of a command, from the first delegation on: the application that runs delegates to a name.
+// Runs the rest of a command, from the first delegation on: the application that runs delegates to a name.
 #[cold]
 #[inline(never)]
 fn run_chain<B: Bank, L: Ledger>(
@@ -215,7 +216,7 @@ fn run_chain<B: Bank, L: Ledger>(
     finish(&mut chain, left, bank, session, reply, steps)
 }
 
-// The turns of a chain to its end.
+// Runs the turns of a chain to its end.
 fn finish<B: Bank, L: Ledger>(
     chain: &mut Chain,
     left: u32,

@@ -25,18 +25,22 @@ use mc_segs::{Abend, Frame, Halt, Next, Session};
 use std::mem;
 use std::sync::ledger::Ledger;
 
-/// How many frames a chain has at the most.
+/// The most frames that a chain has.
 const FRAMES: u8 = 4;
 
-/// Delegates to a name that is not on the card.
+/// The status of a delegation to a name that is not on the card.
 const NOT_FOUND: u16 = 0x6A82;
 
-/// Delegates where that application runs already, or the chain is full.
+/// The status of a delegation to an application that runs already, or in a full chain.
 const NOT_ALLOWED: u16 = 0x6985;
 
-/// One turn of a chain that no end was answered for: one executed instruction, and one step, or a fetch that ends the chain.
-/// A `Stop` is that of the bank in the instruction's change, which is one atomic write of at most 33 words, or of at most 64 where the
-/// instruction commits what is pending.
+/// Runs one turn of a chain that has not ended: one executed instruction, and one step, or a fetch that ends
+/// the chain. The instruction's change of static bytes is one atomic write of at most 33 words, or of at most
+/// 64 if the instruction commits what is pending.
+///
+/// # Errors
+///
+/// Returns the `Stop` of the bank in that change.
 pub fn turn<B: Bank, L: Ledger>(
     chain: &mut Chain,
     bank: &mut B,
@@ -73,7 +77,7 @@ pub fn turn<B: Bank, L: Ledger>(
     })
 }
 
-/// The same turn, told in few bytes.
+/// Runs one turn as `turn` does, and returns its record without its place, which has fewer bytes.
 pub fn act<B: Bank, L: Ledger>(
     chain: &mut Chain,
     bank: &mut B,
@@ -112,7 +116,8 @@ pub fn act<B: Bank, L: Ledger>(
 }
 
 impl Step {
-    // The same for an instruction that was not done: it ends the chain by its abend, or the bank stopped.
+    // Returns what an instruction that was not done leads to: the record of a turn that ends the chain by its
+    // abend, or the `Stop` of the bank.
     fn halts(self, halt: Halt) -> Result<Step, Stop>
         ensures value { result ≡ step_of_halt self halt }
         ensures ends { (public : List ℕ) → IfOk result (λ step. IfSome step.end (λ end. EndFits public end)) }
@@ -125,7 +130,7 @@ impl Step {
     }
 }
 
-// An instruction of the running frame, whose code address is already behind it.
+// Executes an instruction of the running frame, whose code address is already after it.
 fn perform<B: Bank>(ins: &Ins, chain: &mut Chain, bank: &mut B) -> Result<Next, Halt>
     requires going { (B.state bank.old).stopped ≡ false }
     requires fits { FitsBank (B.state bank.old) (B.named bank.old) chain.old.running }
@@ -156,7 +161,7 @@ fn perform<B: Bank>(ins: &Ins, chain: &mut Chain, bank: &mut B) -> Result<Next, 
     }
 }
 
-// What comes after an instruction that is not PRIM, as after any.
+// Returns what comes after an instruction that is not PRIM, in the type of any instruction.
 fn next_of(done: Result<Flow, Halt>) -> Result<Next, Halt>
     ensures { result ≡ row_result done }
 {
@@ -167,8 +172,8 @@ fn next_of(done: Result<Flow, Halt>) -> Result<Next, Halt>
     }
 }
 
-// What follows an instruction that was done, and what the turn tells: where the chain ends by an abend, the registers that
-// were before.
+// Does what follows an instruction that was done, and returns the record of the turn: if the chain ends by an
+// abend, it has the registers from before the instruction.
 fn follow<B: Bank>(next: Next, ins: Ins, before: Step, chain: &mut Chain, bank: &B) -> Step
     requires going { (B.state bank.now).stopped ≡ false }
     requires fits { FitsChain (B.state bank.now) (B.named bank.now) chain.old }
@@ -199,7 +204,7 @@ fn follow<B: Bank>(next: Next, ins: Ins, before: Step, chain: &mut Chain, bank: 
 }
 
 impl Chain {
-    // The name of the application that delegated to the running one.
+    // Returns the name of the application that delegated to the running one, or `None` if there is none.
     fn delegator<B: Bank>(&self, bank: &B) -> Option<Aid>
         requires going { (B.state bank.now).stopped ≡ false }
         requires waiting { AllFitBank (B.state bank.now) (B.named bank.now) self.now.below }
@@ -211,7 +216,8 @@ impl Chain {
         }
     }
 
-    // One instruction less of the budget, and the running frame's code address is behind it.
+    // Takes one instruction from the budget, and moves the running frame's code address to `next`, after its
+    // instruction.
     fn advance(&mut self, next: u16)
         requires { self.old.left ≢ 0 }
         ensures { self.new ≡ chain_at_next self.old next }
@@ -220,7 +226,7 @@ impl Chain {
         self.running.go(next);
     }
 
-    // What the end of a turn says, if it has one.
+    // Returns the outcome of a turn's end, or `None` if it has no end.
     fn outcome_of(&self, end: Option<End>) -> Option<Outcome>
         requires { IfSome end (λ end. EndFits self.now.public end) }
         ensures { option_map outcome_value result ≡ option_map (end_value self.now.public self.now.le) end }
@@ -231,7 +237,7 @@ impl Chain {
         }
     }
 
-    // The running frame exits: the one that waits for it goes on, or the chain ends.
+    // Exits the running frame: the one that waits for it goes on, or the chain ends.
     fn leave(&mut self) -> Option<End>
         ensures { FrameExits self.old self.new result self.old.below }
     {
@@ -244,7 +250,7 @@ impl Chain {
         }
     }
 
-    // Whether a frame of the chain runs the application of a name.
+    // Returns whether a frame of the chain runs the application of a name.
     fn is_active<B: Bank>(&self, bank: &B, aid: &Aid) -> bool
         requires going { (B.state bank.now).stopped ≡ false }
         requires running { FitsBank (B.state bank.now) (B.named bank.now) self.now.running }
@@ -254,7 +260,7 @@ impl Chain {
         runs(bank, &self.running, aid) || waits(bank, &self.waiting, aid)
     }
 
-    // Whether a delegation to a name that is on the card is refused.
+    // Returns whether a delegation to a name that is on the card is refused.
     fn refuses<B: Bank>(&self, bank: &B, aid: &Aid) -> bool
         requires going { (B.state bank.now).stopped ≡ false }
         requires running { FitsBank (B.state bank.now) (B.named bank.now) self.now.running }
@@ -265,8 +271,8 @@ impl Chain {
         self.is_active(bank, aid) || self.waiting.count() + 1 >= FRAMES
     }
 
-    // A delegation to a name: a status where it is not on the card, where it runs already, or where the chain is full; else
-    // its application runs on top, with zero session bytes.
+    // Delegates to a name: sets a status if it is not on the card, if it runs already, or if the chain is
+    // full; else its application runs on top, with zero session bytes.
     pub(crate) fn call<B: Bank>(&mut self, bank: &B, aid: &Aid)
         requires going { (B.state bank.now).stopped ≡ false }
         requires fits { FitsChain (B.state bank.now) (B.named bank.now) self.old }
@@ -287,7 +293,7 @@ impl Chain {
         self.enter(Frame::new(slot, &facts, &Session::new(facts.sizes.session)));
     }
 
-    // A frame runs on top of the others, which are three at the most.
+    // Puts a frame on top of the others, of which there are three at the most.
     fn enter(&mut self, callee: Frame)
         requires { length self.old.below < 3 }
         ensures { self.new ≡ record self.old { running = callee; below = self.old.running ∷ self.old.below } }
@@ -297,7 +303,7 @@ impl Chain {
     }
 }
 
-// Whether one of the frames that wait runs the application of a name.
+// Returns whether one of the frames that wait runs the application of a name.
 fn waits<B: Bank>(bank: &B, waiting: &Waiting, aid: &Aid) -> bool
     requires going { (B.state bank.now).stopped ≡ false }
     requires fits { AllFitBank (B.state bank.now) (B.named bank.now) waiting.now }
@@ -308,7 +314,7 @@ fn waits<B: Bank>(bank: &B, waiting: &Waiting, aid: &Aid) -> bool
         || runs_in(bank, &waiting.first, aid)
 }
 
-// Whether the frame of a place, if there is one, runs the application of a name.
+// Returns whether the frame of a place, if there is one, runs the application of a name.
 fn runs_in<B: Bank>(bank: &B, place: &Option<Frame>, aid: &Aid) -> bool
     requires going { (B.state bank.now).stopped ≡ false }
     requires fits { AllFitBank (B.state bank.now) (B.named bank.now) (with_held_frame place.now []) }
@@ -320,7 +326,7 @@ fn runs_in<B: Bank>(bank: &B, place: &Option<Frame>, aid: &Aid) -> bool
     }
 }
 
-// Whether a frame runs the application of a name.
+// Returns whether a frame runs the application of a name.
 fn runs<B: Bank>(bank: &B, frame: &Frame, aid: &Aid) -> bool
     requires going { (B.state bank.now).stopped ≡ false }
     requires fits { FitsBank (B.state bank.now) (B.named bank.now) frame.now }

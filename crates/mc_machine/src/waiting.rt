@@ -6,8 +6,8 @@ use mc_bank::Slot;
 use mc_segs::Frame;
 use std::marker::Model;
 
-/// At most three frames, of which the one that delegated last comes first. Each stays in its place while it waits: a frame is
-/// dear to move.
+/// At most three frames, of which the one that delegated last comes first. Each remains in its place while it
+/// waits, since moving a frame is expensive.
 #[derive(Debug, Drop)]
 pub struct Waiting {
     pub(crate) first: Option<Frame>,
@@ -28,7 +28,7 @@ impl Model for Waiting {
 }
 
 impl Waiting {
-    /// No frame waits.
+    /// Returns an empty list of frames.
     pub fn new() -> Waiting
         ensures { result ≡ [] }
     {
@@ -39,7 +39,7 @@ impl Waiting {
         }
     }
 
-    /// How many frames wait.
+    /// Returns the number of frames that wait.
     pub fn count(&self) -> u8
         ensures count { result ≡ length self.now }
         ensures few { result ≤ 3 }
@@ -55,7 +55,7 @@ impl Waiting {
         }
     }
 
-    /// The slot of the frame that delegated last.
+    /// Returns the slot of the frame that delegated last, or `None` if no frame waits.
     pub fn top_slot(&self) -> Option<Slot>
         ensures { result ≡ top_slot self.now }
     {
@@ -67,7 +67,7 @@ impl Waiting {
         }
     }
 
-    /// One frame more, which delegated last. There are at most two before.
+    /// Adds a frame, which delegated last. There are at most two frames before.
     pub fn push(&mut self, frame: Frame)
         requires { length self.old < 3 }
         ensures { self.new ≡ frame ∷ self.old }
@@ -79,7 +79,7 @@ impl Waiting {
         }
     }
 
-    /// Takes the frame that delegated last.
+    /// Removes and returns the frame that delegated last, or `None` if no frame waits.
     pub fn pop(&mut self) -> Option<Frame>
         ensures { TookTop self.old result self.new }
     {

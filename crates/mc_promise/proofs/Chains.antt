@@ -1,18 +1,16 @@
 -- What holds of a chain while an application with an outline may be among its frames: its own frame runs, or waits below, or there is none.
-use Rattle.std.proofs.Common.{◌≡◌, ℕ, ◌≤◌, Bool, true, false, cond, List, [], ◌∷◌, length, Option, Some, None, refl, sym, ap, subst, ◌∙◌, arith}
-use Rattle.std.specs.Prelude.{⊤, ◌||◌, bytes_eq}
-use Rattle.std.proofs.lemmas.Bool.{or_parts, false_from_ne_true}
-use Rattle.mc_model_device.specs.Bytes.{lookup, insert}
-use Rattle.mc_model_device.specs.Pieces.{laid_pieces}
+use Rattle.std.proofs.Common.{◌≡◌, ℕ, ◌≤◌, Bool, true, false, List, [], ◌∷◌, length, Option, Some, None, refl, sym, ap, subst, ◌∙◌}
+use Rattle.std.specs.Prelude.{⊤, bytes_eq}
+use Rattle.std.proofs.lemmas.Bool.{or_parts}
+use Rattle.mc_model_device.specs.Bytes.{lookup}
 use Rattle.mc_model_device.specs.Card.{App}
 use Rattle.mc_model_machine.specs.Apdu.{ApduParts}
-use Rattle.mc_model_machine.specs.Frame.{Frame, session_of}
-use Rattle.mc_model_machine.specs.Chain.{Outcome, Reply, Abended, Chain, with_pieces, changed_app, map_changed, is_active, first_frame, chain_session}
-use Rattle.mc_promise.specs.History.{Watch}
-use Rattle.mc_promise.specs.Outline.{Entry, BySelection, ByDelegation, Outline, Shown, public_size}
-use Rattle.mc_promise.specs.Kept.{IsLike, KeptIn}
+use Rattle.mc_model_machine.specs.Frame.{Frame}
+use Rattle.mc_model_machine.specs.Chain.{Outcome, Reply, Abended, Chain, with_pieces, changed_app, map_changed, is_active}
+use Rattle.mc_promise.specs.Outline.{Entry, BySelection, ByDelegation, Outline, public_size}
+use Rattle.mc_promise.specs.Kept.{IsLike}
 use Rattle.mc_promise.proofs.RowTracks.{after_change}
-use Rattle.mc_model_device.proofs.MapLemmas.{lookup_beside, lookup_inserted_lem, name_is_itself, same_name}
+use Rattle.mc_model_device.proofs.MapLemmas.{lookup_beside, lookup_inserted_lem}
 
 -- ---- names
 
@@ -34,7 +32,7 @@ abbrev pub entry_over : {E : Type 0} → ApduParts → List E → List Frame →
 entry_over apdu before [] = BySelection apdu before
 entry_over apdu before (f ∷ fs) = ByDelegation
 
--- a frame of the application that waits for a delegation: what is required behind it, whatever public segment comes back
+-- a frame of the application that waits for a delegation: what is required after it, whatever public segment comes back
 pub record Waits {E : Type 0} (o : Outline E) (apdu : ApduParts) (before h : List E) (fixed : List ℕ) (f : Frame) (fs : List Frame) : Type 0 where
   pub same : f.fixed ≡ fixed
   pub at : (p : List ℕ) → public_size ≤ length p → o.at (entry_over apdu before fs) h f p

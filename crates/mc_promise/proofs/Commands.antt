@@ -1,23 +1,23 @@
 -- A command keeps what the outline asks for, whatever its route: a run, a selection, or one of the manager.
-use Rattle.std.proofs.Common.{◌≡◌, ℕ, ◌-◌, ◌≤◌, Bool, true, false, cond, not, List, [], ◌∷◌, ◌++◌, length, Option, Some, None, refl, sym, ap, subst, ◌∙◌, arith}
+use Rattle.std.proofs.Common.{◌≡◌, ℕ, ◌-◌, ◌≤◌, Bool, true, false, not, List, [], ◌∷◌, ◌++◌, length, Option, Some, None, refl, sym, ap, subst, ◌∙◌, arith}
 use Rattle.std.specs.Prelude.{⊤, ◌||◌, ◌==◌, bytes_eq, is_some, is_none, unwrap_or}
 use Rattle.std.proofs.lemmas.List.{length-append, length-replicate}
 use Rattle.mc_model_device.specs.Bytes.{bytes2, zeros, lookup}
 use Rattle.mc_model_device.specs.Card.{App, Card}
 use Rattle.mc_model_machine.specs.Apdu.{ApduParts}
 use Rattle.mc_model_machine.specs.Frame.{Frame, new_frame, new_public}
-use Rattle.mc_model_machine.specs.Chain.{Outcome, Reply, Abended, Chain, Ran, start_app, start, no_app, run}
+use Rattle.mc_model_machine.specs.Chain.{Outcome, Reply, start_app, start, no_app, run}
 use Rattle.mc_model_card.specs.Items.{apps_after_items, at_stop, write_items}
-use Rattle.mc_model_card.specs.Manager.{Selected, Seat, Route, WrongLength, WrongClass, ToSelect, ToManager, ToApplication, Managed, answer_unless, first_status, is_empty, select_done, select, is_selected}
+use Rattle.mc_model_card.specs.Manager.{Selected, Seat, Route, WrongLength, WrongClass, ToSelect, ToManager, ToApplication, answer_unless, first_status, is_empty, select_done, is_selected}
 use Rattle.mc_model_card.specs.Commands.{Command, manager_command, application_command, by_route}
 use Rattle.mc_machine_laws.proofs.RunSizes.{RanFits, run_fits}
-use Rattle.mc_family.proofs.Stops.{AreOthers, whole_others}
+use Rattle.mc_family.proofs.Stops.{whole_others}
 use Rattle.mc_family.proofs.OtherCommand.{IsManagers, Aside, routed_aside}
-use Rattle.mc_promise.specs.History.{Watch, CutAt, with_event, after_run, selection_event, after_select, after_passed, after_route, after_items}
+use Rattle.mc_promise.specs.History.{CutAt, with_event, after_run, selection_event, after_select, after_passed, after_route, after_items}
 use Rattle.mc_promise.specs.Along.{CreatesOnly, own_parts, parts_for}
-use Rattle.mc_promise.specs.Outline.{BySelection, Outline, Shown, public_size, first_frame_of}
+use Rattle.mc_promise.specs.Outline.{BySelection, Outline, IsShown, public_size, first_frame_of}
 use Rattle.mc_promise.specs.Kept.{IsLike, KeptIn, SessionKept, SessionIf, SelectedKept}
-use Rattle.mc_promise.proofs.Chains.{NoneOf, AllWait, Runs, others_run, own_runs, ThereKept, FoundKept, ChainKept, SessionIn, AnsweredBy, EndKept}
+use Rattle.mc_promise.proofs.Chains.{Runs, others_run, own_runs, ThereKept, FoundKept, ChainKept, SessionIn, AnsweredBy, EndKept}
 use Rattle.mc_promise.proofs.Runs.{RunKept, run_kept, cut_kept}
 use Rattle.mc_promise.proofs.ItemLists.{AllAvoid, avoid_lookup, avoid_history, writes_fixed, whole_fixed, fixed_history, items_kept}
 use Rattle.mc_promise.proofs.SelectedStays.{manager_avoids}
@@ -41,7 +41,7 @@ pub record CommandKept {E : Type 0} (o : Outline E) (h : List E) (c : Card) (sea
   pub selected : SelectedKept o k (apps_after_items c.apps r.items) r.seat.selected
   pub answer : OnParts o (parts_for o.watch.name seat.selected rt) h k r.outcome
 
-module _ {E : Type 0} (o : Outline E) (shown : Shown o) where
+module _ {E : Type 0} (o : Outline E) (shown : IsShown o) where
   -- ---- a run begins
 
   start_is : (m : List (List ℕ × App)) (n session : List ℕ) (a : App) (apdu : ApduParts) → lookup m n ≡ Some a → start_app m n session apdu a ≡ start m n session apdu
@@ -107,10 +107,11 @@ module _ {E : Type 0} (o : Outline E) (shown : Shown o) where
       let r = run c.apps s.name s.session a budget in
       let k = after_run o.watch budget (start c.apps s.name s.session a) None h in
       let d : RunKept b o a h c.apps r k = run_passed h c seat s a budget b e kept holds in
-      let fits : RanFits c.apps (length s.session) r = run_fits c.apps s.name s.session a budget in
-      (d.after,
-      ended_session b h k (lookup c.apps o.watch.name) (lookup (apps_after_items c.apps (write_items r.writes)) o.watch.name) s.session r.session a r.outcome fits.session holds d.ended,
-      ended_answer b h k (lookup (apps_after_items c.apps (write_items r.writes)) o.watch.name) r.session a r.outcome d.ended)
+      let fits : RanFits c.apps (length s.session) r = run_fits c.apps s.name s.session a budget in (
+        d.after,
+        ended_session b h k (lookup c.apps o.watch.name) (lookup (apps_after_items c.apps (write_items r.writes)) o.watch.name) s.session r.session a r.outcome fits.session holds d.ended,
+        ended_answer b h k (lookup (apps_after_items c.apps (write_items r.writes)) o.watch.name) r.session a r.outcome d.ended,
+      )
 
   passed_kept : (h : List E) (c : Card) (seat : Seat) (found : Option Selected) (a : ApduParts) (budget : ℕ) → seat.selected ≡ found → KeptIn o h (lookup c.apps o.watch.name) → SelectedKept o h c.apps found
       → CommandKept o h c seat (ToApplication a) (application_command c seat found a budget) (after_passed o.watch c found a budget None (after_items o.watch.name (application_command c seat found a budget).items h))
@@ -154,9 +155,10 @@ module _ {E : Type 0} (o : Outline E) (shown : Shown o) where
       let there : lookup m o.watch.name ≡ Some a = subst (λ (z : List ℕ). lookup m z ≡ Some a) (same_name n o.watch.name e) is in
       let old : KeptIn o h (Some a) = subst (KeptIn o h) there kept in
       let new = shown.selected h a.fixed old.1 in
-      let size : length (zeros a.session) ≡ o.app.session = length-replicate {A = ℕ} a.session 0 ∙ old.0.session in
-      (subst (KeptIn o k) (sym there) (old.0, new.0),
-      subst (λ (z : Option App). SessionKept o k z (zeros a.session)) (sym there) (subst (λ (z : ℕ). o.holds k a.fixed (zeros z)) (sym old.0.session) new.1, size))
+      let size : length (zeros a.session) ≡ o.app.session = length-replicate {A = ℕ} a.session 0 ∙ old.0.session in (
+        subst (KeptIn o k) (sym there) (old.0, new.0),
+        subst (λ (z : Option App). SessionKept o k z (zeros a.session)) (sym there) (subst (λ (z : ℕ). o.holds k a.fixed (zeros z)) (sym old.0.session) new.1, size),
+      )
 
   select_by : (h : List E) (c : Card) (seat : Seat) (a : ApduParts) (x y : Bool) (found : Option App) → lookup c.apps a.body ≡ found → KeptIn o h (lookup c.apps o.watch.name) → SelectedKept o h c.apps seat.selected
       → let d = answer_unless (first_status ((0x6A86, x) ∷ (0x6700, y) ∷ (0x6A82, is_none found) ∷ [])) (select_done seat a found) in
@@ -215,9 +217,10 @@ module _ {E : Type 0} (o : Outline E) (shown : Shown o) where
   manager_kept h c seat budget r m only kept holds =
       let items = (by_route c seat budget r).items in
       let aside : Aside (o.watch.name ∷ []) seat (by_route c seat budget r) = routed_aside (o.watch.name ∷ []) c seat budget r m in
-      let k = after_items o.watch.name items h in
-      (items_kept o shown items h c.apps aside.others only kept,
-      subst (SelectedKept o k (apps_after_items c.apps items)) (sym aside.selected) (manager_selected h c seat budget r seat.selected m refl holds))
+      let k = after_items o.watch.name items h in (
+        items_kept o shown items h c.apps aside.others only kept,
+        subst (SelectedKept o k (apps_after_items c.apps items)) (sym aside.selected) (manager_selected h c seat budget r seat.selected m refl holds),
+      )
 
   manager_cut : (h : List E) (c : Card) (seat : Seat) (budget : ℕ) (r : Route) (cut : CutAt) → IsManagers r
       → let whole = (at_stop (by_route c seat budget r).items cut.at cut.left).whole in

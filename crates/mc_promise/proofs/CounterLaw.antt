@@ -1,15 +1,8 @@
 -- What the counter promises follows from its outline.
-use Rattle.std.proofs.Common.{◌≡◌, ℕ, List, [], ◌∷◌, Option, Some, None}
-use Rattle.std.specs.Prelude.{⊤}
-use Rattle.mc_model_device.specs.Bytes.{lookup}
-use Rattle.mc_model_device.specs.Card.{App}
-use Rattle.mc_model_device.specs.PowerUp.{Base, OnCard, AtFault}
-use Rattle.mc_model_play.specs.Given.{apps_in}
-use Rattle.mc_model_play.specs.Play.{State, Cold, Hot, Warm, Live, Step, plays, start}
-use Rattle.mc_promise.specs.Along.{Along, OnApp, OnFixed, OnAnswer, command_for}
-use Rattle.mc_promise.specs.History.{Watch, after_step}
-use Rattle.mc_promise.specs.Outline.{Outline}
-use Rattle.mc_promise.specs.Kept.{KeptIn, BaseKept, StateKept, LineKept}
+use Rattle.std.proofs.Common.{ℕ, List, []}
+use Rattle.mc_model_play.specs.Play.{Step, plays, start}
+use Rattle.mc_promise.specs.Along.{OnFixed, OnAnswer, command_for}
+use Rattle.mc_promise.specs.Kept.{LineKept}
 use Rattle.mc_promise.specs.Counter.{CounterLaw, KeepsCount, counter_name, counter_watch, counter_app, AnswersCount}
 use Rattle.mc_promise.proofs.Lines.{kept_along}
 use Rattle.mc_promise.proofs.FromOutline.{along_from, fixed_from}

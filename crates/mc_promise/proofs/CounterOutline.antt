@@ -1,25 +1,23 @@
 -- The proof outline of the counter.
-use Rattle.std.proofs.Common.{◌≡◌, ℕ, zero, suc, ◌+◌, ◌-◌, ◌*◌, ◌<◌, ◌≤◌, Bool, true, false, cond, List, [], ◌∷◌, length, take, drop, Option, Some, None, refl, sym, ap, subst, ◌∙◌, arith}
+use Rattle.std.proofs.Common.{◌≡◌, ℕ, suc, ◌+◌, ◌-◌, ◌*◌, ◌<◌, ◌≤◌, Bool, true, false, List, [], ◌∷◌, length, take, drop, refl, sym, ap, subst, ◌∙◌, arith}
 use Rattle.std.specs.Prelude.{⊤, ◌≢◌, ◌⊎◌}
 use Rattle.std.proofs.Common.{inl, inr}
 use Rattle.std.proofs.lemmas.Bool.{cases_eq}
-use Rattle.mc_model_device.specs.Bytes.{bytes, num, zeros, splice}
-use Rattle.mc_model_device.specs.Pieces.{touched_words}
-use Rattle.mc_model_machine.specs.Apdu.{ApduParts}
+use Rattle.mc_model_device.specs.Bytes.{bytes, num, splice}
 use Rattle.mc_model_machine.specs.Blocks.{sub_blocks, is_zero}
 use Rattle.mc_model_machine.specs.Code.{instruction_at}
 use Rattle.mc_model_machine.specs.Frame.{Frame, bytes_at, write_effect, too_many, new_public, sw_of, with_la}
 use Rattle.mc_model_machine.specs.Primitives.{Around, Done}
 use Rattle.mc_model_machine.specs.Row.{causes, effect, row}
-use Rattle.mc_promise.specs.Outline.{Entry, BySelection, ByDelegation, Outline, Shown, FitsEntry, public_size, ExitShown, FetchShown, first_frame_of}
-use Rattle.mc_promise.specs.Counter.{counter_name, counter_code, counter_app, counter_watch, newest, Rises, AnswersCount}
+use Rattle.mc_promise.specs.Outline.{Entry, BySelection, ByDelegation, Outline, IsShown, FitsEntry, public_size, ExitShown, FetchShown, first_frame_of}
+use Rattle.mc_promise.specs.Counter.{counter_name, counter_code, counter_app, counter_watch, newest_count, Rises, AnswersCount}
 use Rattle.mc_promise.proofs.PublicBytes.{ins_byte, status_set, status_beside_la, status_beside_two, status_new}
 
 -- ---- what keeps
 
 pub record CountKept (h fixed : List ℕ) : Type 0 where
   pub size : length fixed ≡ 2
-  pub holds : num fixed ≡ newest h
+  pub holds : num fixed ≡ newest_count h
   pub small : num fixed < 65536
   pub rises : Rises h
 
@@ -56,7 +54,7 @@ IsNoCount ByDelegation = ⊤
 
 -- it was counted, where the command is to count, and the status is 9000
 abbrev pub IsCounted : Entry ℕ → List ℕ → List ℕ → Type 0
-IsCounted (BySelection a before) h p = length a.body ≤ 1024 → (sw_of p ≡ 0x9000) × (a.ins ≡ 0x10 → h ≡ suc (newest before) ∷ before)
+IsCounted (BySelection a before) h p = length a.body ≤ 1024 → (sw_of p ≡ 0x9000) × (a.ins ≡ 0x10 → h ≡ suc (newest_count before) ∷ before)
 IsCounted ByDelegation h p = ⊤
 
 -- before the instruction at each place
@@ -107,30 +105,30 @@ below n small other = by (cases_eq n 65535)
     by (inl is) = absurd (other is)
     by (inr other) = omega (arith, other)
 
-one_more : (n : ℕ) → n < 65536 → n ≢ 65535 → num (bytes 2 (n + 1)) ≡ suc n
-one_more n small other = let less : n + 1 < 65536 = below n small other in omega arith
+one_more_is : (n : ℕ) → n < 65536 → n ≢ 65535 → num (bytes 2 (n + 1)) ≡ suc n
+one_more_is n small other = let less : n + 1 < 65536 = below n small other in omega arith
 
 uncounted : (e : Entry ℕ) (h p : List ℕ) → IsFresh e h p → IsNoCount e → IsCounted e h p
 uncounted ByDelegation h p f n = tt
 uncounted (BySelection a before) h p f n = λ small. (ap sw_of f.1 ∙ status_new a small, λ is. absurd (n small is))
 
-counted : (e : Entry ℕ) (h p : List ℕ) (v : ℕ) → IsFresh e h p → v ≡ suc (newest h) → IsCounted e (v ∷ h) p
+counted : (e : Entry ℕ) (h p : List ℕ) (v : ℕ) → IsFresh e h p → v ≡ suc (newest_count h) → IsCounted e (v ∷ h) p
 counted ByDelegation h p v f is = tt
-counted (BySelection a before) h p v f is = λ small. (ap sw_of f.1 ∙ status_new a small, λ ins. ap (λ (k : List ℕ). v ∷ k) f.0 ∙ ap (λ (n : ℕ). n ∷ before) (is ∙ ap (λ (k : List ℕ). suc (newest k)) f.0))
+counted (BySelection a before) h p v f is = λ small. (ap sw_of f.1 ∙ status_new a small, λ ins. ap (λ (k : List ℕ). v ∷ k) f.0 ∙ ap (λ (n : ℕ). n ∷ before) (is ∙ ap (λ (k : List ℕ). suc (newest_count k)) f.0))
 
 -- a status other than 9000 ends a command in which nothing was written
 refused_exit : (e : Entry ℕ) (h p : List ℕ) (f : Frame) (d : Done) (high low : ℕ) → IsFresh e h p → d.effect.public ≡ splice p 1039 (high ∷ low ∷ []) → public_size ≤ length p → 256 * high + low ≢ 0x9000 → ExitShown counter_outline e h f d
 refused_exit ByDelegation h p f d high low fresh is size other = tt
 refused_exit (BySelection a before) h p f d high low fresh is size other =
     let sw : sw_of d.effect.public ≡ 256 * high + low = ap sw_of is ∙ status_set p high low size in
-    (tt, record { stands = λ small ins done. absurd (other (sym sw ∙ done)); refused = λ small ins other. fresh.0 })
+    (tt, record { durable = λ small ins done. absurd (other (sym sw ∙ done)); refused = λ small ins other. fresh.0 })
 
 -- 9000 ends a command that was counted, if it is to count
 counted_exit : (e : Entry ℕ) (h p : List ℕ) (f : Frame) (d : Done) → IsCounted e h p → d.effect.public ≡ with_la p 2 → public_size ≤ length p → ExitShown counter_outline e h f d
 counted_exit ByDelegation h p f d done is size = tt
 counted_exit (BySelection a before) h p f d done is size =
     let sw : sw_of d.effect.public ≡ sw_of p = ap sw_of is ∙ status_beside_la p 2 size in
-    (tt, record { stands = λ small ins good. (done small).1 ins; refused = λ small ins other. absurd (other (sw ∙ (done small).0)) })
+    (tt, record { durable = λ small ins good. (done small).1 ins; refused = λ small ins other. absurd (other (sw ∙ (done small).0)) })
 
 stored : (e : Entry ℕ) (h p : List ℕ) (x y : ℕ) → IsCounted e h p → IsCounted e h (splice p 0 (x ∷ y ∷ []))
 stored ByDelegation h p x y done = tt
@@ -142,7 +140,7 @@ more_kept h x y kept other =
     let n : ℕ = num (x ∷ y ∷ []) in
     let small : n < 65536 = kept.small in
     let less : n + 1 < 65536 = below n small other in
-    let same : num (bytes 2 (n + 1)) ≡ suc n = one_more n small other in
+    let same : num (bytes 2 (n + 1)) ≡ suc n = one_more_is n small other in
     record { size = refl; holds = refl; small = omega (arith, same, less); rises = (same ∙ ap suc kept.holds, kept.rises) }
 
 turn : (e : Entry ℕ) (h : List ℕ) (f : Frame) (p : List ℕ) (depth : ℕ) (x : Around) → CounterAt e h p f → CountKept h f.fixed → FitsEntry e x → public_size ≤ length p
@@ -176,7 +174,7 @@ no_session : (session : List ℕ) → length session ≡ 0 → session ≡ []
 no_session [] e = refl
 no_session (x ∷ xs) e = absurd (cc e)
 
-pub counter_shown : Shown counter_outline
+pub counter_shown : IsShown counter_outline
 counter_shown =
     record {
       created = record { size = refl; holds = refl; small = omega arith; rises = tt };

@@ -1,28 +1,25 @@
 -- Each turn of a chain, of the application by its outline, of another by what it cannot touch.
 use Rattle.std.proofs.Common.{◌≡◌, ℕ, ◌≤◌, Bool, true, false, cond, List, [], ◌∷◌, length, Option, Some, None, Result, Ok, Err, refl, sym, ap, subst, ◌∙◌, arith}
-use Rattle.std.specs.Prelude.{⊤, bytes_eq, nat_lt}
+use Rattle.std.specs.Prelude.{bytes_eq, nat_lt}
 use Rattle.mc_model_machine.specs.declared.instruction.Ins.{Ins}
 use Rattle.mc_model_machine.specs.declared.instruction.DecodeFault.{DecodeFault}
 use Rattle.mc_model_machine.specs.declared.instruction.DecodeFault.TheVariants.{Undefined, Past}
 use Rattle.mc_model_machine.specs.declared.machine.Abend.TheVariants.{A01, A02, A09}
 use Rattle.mc_model_device.specs.Bytes.{lookup}
 use Rattle.mc_model_device.specs.Card.{App}
-use Rattle.mc_model_machine.specs.Apdu.{ApduParts, apdu_case}
-use Rattle.mc_model_machine.specs.Code.{instruction_at}
+use Rattle.mc_model_machine.specs.Apdu.{ApduParts}
 use Rattle.mc_model_machine.specs.Frame.{Frame, session_of, la_of, sw_of}
-use Rattle.mc_model_machine.specs.Primitives.{Around, Then, Goes, Exits, Delegates, Done}
+use Rattle.mc_model_machine.specs.Primitives.{Then, Goes, Exits, Delegates, Done}
 use Rattle.mc_model_machine.specs.Row.{RowEnd, Abends, Does, row}
-use Rattle.mc_model_machine.specs.Chain.{Outcome, Reply, Abended, Chain, Follows, Continues, Ends, code_in, map_changed, write_of, chain_after_effect, depth_of, reply_of, after_exit, follows, row_turn, turn_of_fetch, frame_at, around, turn_of_chain, first_frame, chain_session}
+use Rattle.mc_model_machine.specs.Chain.{Outcome, Reply, Abended, Chain, Ends, write_of, chain_after_effect, reply_of, after_exit, follows, row_turn, turn_of_fetch, frame_at, around, first_frame, chain_session}
 use Rattle.mc_model_card.specs.Items.{apps_after_items, write_items}
-use Rattle.mc_promise.specs.History.{Watch, Deed, with_event, is_first, row_event, fetched_event, event_if, turn_event}
-use Rattle.mc_promise.specs.Outline.{Entry, BySelection, ByDelegation, Outline, Shown, is_direct, FitsEntry, public_size, ExitShown, NextShown, DeedShown, RowShown, FetchShown}
-use Rattle.mc_promise.proofs.RowTracks.{after_change, Tracked, RowTracks, row_tracks}
+use Rattle.mc_promise.specs.Outline.{Outline, IsShown, public_size, ExitShown}
+use Rattle.mc_promise.proofs.RowTracks.{Tracked, RowTracks, row_tracks}
 use Rattle.mc_promise.specs.Kept.{IsLike, KeptIn}
-use Rattle.mc_promise.proofs.Chains.{NoneOf, entry_over, Waits, Runs, AllWait, StackKept, none_waits, others_run, own_runs, own_waits, others_wait, others_wait_below, own_run, ThereKept, FoundKept, ChainKept, SessionIn, EndKept, beside_changed, with_change, own_changed}
-use Rattle.mc_promise.proofs.Turns.{FollowsKept, TurnKept, BelowKept, FoundBelow, first_name, single_write, done_write, direct_is, abended, exited_chain, called_chain}
-use Rattle.mc_model_device.proofs.MapLemmas.{same_name}
+use Rattle.mc_promise.proofs.Chains.{NoneOf, entry_over, none_waits, others_run, others_wait, others_wait_below, FoundKept, ChainKept, SessionIn, beside_changed}
+use Rattle.mc_promise.proofs.Turns.{FollowsKept, TurnKept, FoundBelow, first_name, single_write, done_write, abended, exited_chain, called_chain}
 
-module _ {E : Type 0} (o : Outline E) (shown : Shown o) (apdu : ApduParts) (before : List E) where
+module _ {E : Type 0} (o : Outline E) (shown : IsShown o) (apdu : ApduParts) (before : List E) where
   -- ---- another's turn
 
   other_below : (h : List E) (found : Option App) (f : Frame) (fs : List Frame) (p : List ℕ) → bytes_eq f.name o.watch.name ≡ false → FoundKept o apdu before h found f fs p → FoundBelow o apdu before h found fs

@@ -1,10 +1,10 @@
 -- A command of bytes carries at most 1,024 bytes of data.
 use Rattle.std.proofs.Common.{◌≡◌, ℕ, ◌+◌, ◌*◌, ◌<◌, ◌≤◌, Bool, true, false, cond, List, [], ◌∷◌, length, take, Option, Some, None, refl, subst, arith}
-use Rattle.std.specs.Prelude.{⊤, ◌==◌, ◌&&◌, nat_le, option_map, slice_index}
+use Rattle.std.specs.Prelude.{⊤, ◌==◌, ◌&&◌, nat_le, option_map}
 use Rattle.std.proofs.lemmas.Bool.{and_parts, leb-true, eqb-true}
 use Rattle.std.proofs.lemmas.List.{length-take}
-use Rattle.mc_model_device.specs.Bytes.{AreBytes, be2}
-use Rattle.mc_model_machine.specs.Apdu.{ApduParts, Rest, short_le, extended_le, short_rest, extended_body, extended_rest, rest_read, apdu_read}
+use Rattle.mc_model_device.specs.Bytes.{AreBytes}
+use Rattle.mc_model_machine.specs.Apdu.{ApduParts, Rest, short_rest, extended_body, extended_rest, rest_read, apdu_read}
 
 abbrev IsFew : Option Rest → Type 0
 IsFew None = ⊤
@@ -13,7 +13,7 @@ IsFew (Some r) = length r.body ≤ 1024
 front_few : (lc : ℕ) (b : List ℕ) → lc ≤ 1024 → length (take lc b) ≤ 1024
 front_few lc b h = omega (arith, length-take lc b)
 
--- Lc says how many bytes there are, or one or two more stand behind them
+-- Lc is the number of bytes, or that of the bytes before Le
 whole_few : (x y : Bool) (lc p : ℕ) (b : List ℕ) (le : Option ℕ) → lc ≤ 1024 → (length b == lc) ≡ x → IsFew (cond x (Some (record { p3 = p; body = b; le = None })) (cond y (Some (record { p3 = p; body = take lc b; le = le })) None))
 whole_few true y lc p b le h e = let same : length b ≡ lc = eqb-true (length b) lc e in omega arith
 whole_few false true lc p b le h e = front_few lc b h

@@ -1,12 +1,11 @@
 -- From what an outline says along a play to what its application promises.
 use Rattle.std.proofs.Common.{◌≡◌, ℕ, List, [], ◌∷◌, Option, Some, None, refl}
-use Rattle.std.specs.Prelude.{⊤}
 use Rattle.mc_model_device.specs.Bytes.{lookup}
 use Rattle.mc_model_device.specs.Card.{App}
 use Rattle.mc_model_device.specs.PowerUp.{Base, OnCard, AtFault}
-use Rattle.mc_model_play.specs.Play.{State, Cold, Hot, Warm, Live, WornAt, Step}
+use Rattle.mc_model_play.specs.Play.{State, Cold, Hot, Warm, Live, Step}
 use Rattle.mc_promise.specs.History.{Watch, after_step}
-use Rattle.mc_promise.specs.Along.{BringsOnly, stopped_step, Along, OnApp, OnFixed}
+use Rattle.mc_promise.specs.Along.{stopped_step, Along, OnApp, OnFixed}
 use Rattle.mc_promise.specs.Outline.{Outline}
 use Rattle.mc_promise.specs.Kept.{KeptIn, BaseKept, StateKept}
 
@@ -14,9 +13,10 @@ use Rattle.mc_promise.specs.Kept.{KeptIn, BaseKept, StateKept}
 pub along_from : {E : Type 0} (w : Watch E) (app : App) (P Q : List E → Step → List E → Type 0) → ((h : List E) (t : Step) (k : List E) → P h t k → Q h t k)
     → (h : List E) (ts : List Step) → Along w app P h ts → Along w app Q h ts
 along_from w app P Q f h [] x = tt
-along_from w app P Q f h (t ∷ ts) x =
-    (λ brings. (f h t (after_step w t h) (x.0 brings).0, along_from w app P Q f (after_step w t h) ts (x.0 brings).1),
-    λ c brings. f h (stopped_step t c) (after_step w (stopped_step t c) h) (x.1 c brings))
+along_from w app P Q f h (t ∷ ts) x = (
+  λ brings. (f h t (after_step w t h) (x.0 brings).0, along_from w app P Q f (after_step w t h) ts (x.0 brings).1),
+  λ c brings. f h (stopped_step t c) (after_step w (stopped_step t c) h) (x.1 c brings),
+)
 
 module _ {E : Type 0} (o : Outline E) (h : List E) (holds : List ℕ → Type 0) where
   app_from : (found : Option App) → ((fixed : List ℕ) → o.keeps h fixed → holds fixed) → KeptIn o h found → OnApp holds found

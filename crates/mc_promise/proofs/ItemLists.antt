@@ -1,19 +1,19 @@
 -- Lists of items and one name: those that do not touch it, those that change other static bytes alone, and what keeps over them.
-use Rattle.std.proofs.Common.{◌≡◌, ℕ, ◌-◌, Bool, true, false, cond, List, [], ◌∷◌, ◌++◌, Option, Some, None, refl, sym, ap, subst, ◌∙◌}
-use Rattle.std.specs.Prelude.{⊤, ◌||◌, ◌==◌, bytes_eq, nat_le, map}
+use Rattle.std.proofs.Common.{◌≡◌, ℕ, ◌-◌, Bool, true, false, cond, List, [], ◌∷◌, ◌++◌, Some, None, refl, sym, ap, subst, ◌∙◌}
+use Rattle.std.specs.Prelude.{⊤, ◌==◌, bytes_eq, nat_le, map}
 use Rattle.std.proofs.lemmas.Bool.{or_parts, false_from_ne_true}
 use Rattle.mc_model_device.specs.Bytes.{lookup, insert, remove, has_name}
 use Rattle.mc_model_device.specs.Image.{Two}
 use Rattle.mc_model_device.specs.Stopped.{cost, stands}
 use Rattle.mc_model_device.specs.Card.{App}
 use Rattle.mc_model_machine.specs.Chain.{Write, map_changed}
-use Rattle.mc_model_card.specs.Items.{Change, Fixed, Created, Deleted, Item, Plain, Atomic, apps_after_change, apps_after_items, Stopped, with_item, in_flight, at_stop, BankItem, Piece, Blank, Note, Commit, Enter, Remove, write_items}
+use Rattle.mc_model_card.specs.Items.{Change, Fixed, Created, Deleted, Item, Plain, Atomic, apps_after_items, Stopped, with_item, in_flight, at_stop, BankItem, Piece, Blank, Note, Commit, Enter, Remove, write_items}
 use Rattle.mc_model_card.specs.Commands.{item_of}
-use Rattle.mc_family.proofs.Stops.{IsOther, AreOthers}
-use Rattle.mc_promise.specs.History.{anew, after_items}
-use Rattle.mc_promise.specs.Along.{IsApp, IsAppIf, CreatesOnly}
-use Rattle.mc_promise.specs.Outline.{Outline, Shown}
-use Rattle.mc_promise.specs.Kept.{IsLike, KeptIn}
+use Rattle.mc_family.proofs.Stops.{AreOthers}
+use Rattle.mc_promise.specs.History.{unless_created, after_items}
+use Rattle.mc_promise.specs.Along.{IsAppIf, CreatesOnly}
+use Rattle.mc_promise.specs.Outline.{Outline, IsShown}
+use Rattle.mc_promise.specs.Kept.{KeptIn}
 use Rattle.mc_promise.proofs.Chains.{beside_changed}
 use Rattle.mc_model_device.proofs.MapLemmas.{lookup_beside, lookup_inserted_lem, lookup_left, lookup_removed_lem, name_is_itself, same_name}
 
@@ -44,7 +44,7 @@ pub avoid_history : {E : Type 0} (n : List ℕ) (is : List Item) (h : List E) �
 avoid_history n [] h a = refl
 avoid_history n (Plain ∷ is) h a = avoid_history n is h a.1
 avoid_history n (Atomic w (Fixed k ps) ∷ is) h a = avoid_history n is h a.1
-avoid_history n (Atomic w (Created k x) ∷ is) h a = ap (λ (b : Bool). after_items n is (anew b h)) a.0 ∙ avoid_history n is h a.1
+avoid_history n (Atomic w (Created k x) ∷ is) h a = ap (λ (b : Bool). after_items n is (unless_created b h)) a.0 ∙ avoid_history n is h a.1
 avoid_history n (Atomic w (Deleted k) ∷ is) h a = avoid_history n is h a.1
 
 item_avoids : (n : List ℕ) (i : Item) (b : BankItem) → Avoids n i → Avoids n (item_of i b)
@@ -109,8 +109,8 @@ beside n k h =
     let apart : bytes_eq n k ≡ false = (or_parts (bytes_eq n k) false h).0 in
     false_from_ne_true (bytes_eq k n) (λ e. cc (sym (name_is_itself n) ∙ (ap (λ (z : List ℕ). bytes_eq n z) (sym (same_name k n e)) ∙ apart)))
 
-module _ {E : Type 0} (o : Outline E) (shown : Shown o) where
-  created_kept : (b : Bool) (h : List E) (m : List (List ℕ × App)) (k : List ℕ) (a : App) → bytes_eq k o.watch.name ≡ b → IsAppIf b o.app a → KeptIn o h (lookup m o.watch.name) → KeptIn o (anew b h) (lookup (insert m k a) o.watch.name)
+module _ {E : Type 0} (o : Outline E) (shown : IsShown o) where
+  created_kept : (b : Bool) (h : List E) (m : List (List ℕ × App)) (k : List ℕ) (a : App) → bytes_eq k o.watch.name ≡ b → IsAppIf b o.app a → KeptIn o h (lookup m o.watch.name) → KeptIn o (unless_created b h) (lookup (insert m k a) o.watch.name)
   created_kept false h m k a e only kept = subst (KeptIn o h) (sym (lookup_beside m k a o.watch.name e)) kept
   created_kept true h m k a e only kept =
       let is : lookup (insert m k a) o.watch.name ≡ Some a = subst (λ (n : List ℕ). lookup (insert m k a) n ≡ Some a) (same_name k o.watch.name e) (lookup_inserted_lem m k a) in
@@ -130,5 +130,5 @@ module _ {E : Type 0} (o : Outline E) (shown : Shown o) where
   items_kept (Atomic w (Fixed k ps) ∷ is) h m a only kept =
       items_kept is h (map_changed m k (Some ps)) a.1 only (subst (KeptIn o h) (sym (beside_changed m k o.watch.name (Some ps) (beside o.watch.name k a.0))) kept)
   items_kept (Atomic w (Created k x) ∷ is) h m a only kept =
-      items_kept is (anew (bytes_eq k o.watch.name) h) (insert m k x) a.1 only.1 (created_kept (bytes_eq k o.watch.name) h m k x refl only.0 kept)
+      items_kept is (unless_created (bytes_eq k o.watch.name) h) (insert m k x) a.1 only.1 (created_kept (bytes_eq k o.watch.name) h m k x refl only.0 kept)
   items_kept (Atomic w (Deleted k) ∷ is) h m a only kept = items_kept is h (remove m k) a.1 only (deleted_kept (bytes_eq k o.watch.name) h m k refl kept)

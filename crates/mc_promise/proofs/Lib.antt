@@ -13,3 +13,4 @@ pub mod CounterOutline
 pub mod FromOutline
 pub mod CounterLaw
 pub mod FewData
+pub mod Tested

@@ -5,25 +5,24 @@ use Rattle.mc_model_device.specs.declared.device.Stop.{Stop}
 use Rattle.mc_model_device.specs.declared.device.Stop.TheVariants as stop
 use Rattle.mc_model_device.specs.Bytes.{lookup}
 use Rattle.mc_model_device.specs.Image.{Journal, One}
-use Rattle.mc_model_device.specs.Stopped.{stands}
 use Rattle.mc_model_device.specs.Card.{App, Card}
 use Rattle.mc_model_device.specs.PowerUp.{Base, OnCard, AtFault, base_after_migration}
 use Rattle.mc_model_machine.specs.Apdu.{ApduParts}
 use Rattle.mc_model_machine.specs.Chain.{Outcome, Reply, Abended}
-use Rattle.mc_model_card.specs.Items.{apps_after_items, card_done, moves, StopAt, at_stop}
+use Rattle.mc_model_card.specs.Items.{apps_after_items, moves, StopAt, at_stop}
 use Rattle.mc_model_card.specs.Manager.{Selected, Seat, route, is_selected}
 use Rattle.mc_model_card.specs.Commands.{Command, command}
 use Rattle.mc_model_play.specs.DeckGrammar.{DeckLine}
 use Rattle.mc_model_play.specs.DeckGrammar as line
 use Rattle.mc_model_play.specs.Given.{apps_in}
-use Rattle.mc_model_play.specs.Play.{Armed, Unarmed, Live, Running, Unpowered, Muted, Warm, State, Cold, Hot, LineResult, Answered, WornAt, Step, select_bytes, delete_bytes, load_commands, send, hit_of, live_after, result_of_stop, power_live, power_moves, stopped_power, power_after, power_step, command_step, line_says, whole_items, card_line, hot_step, cold_step, play_at_power, step, plays, first_worn, start}
-use Rattle.mc_family.proofs.Stops.{AreOthers, whole_others}
+use Rattle.mc_model_play.specs.Play.{Armed, Unarmed, Live, Running, Unpowered, Muted, Warm, State, Cold, Hot, Answered, WornAt, Step, select_bytes, delete_bytes, load_commands, send, hit_of, live_after, result_of_stop, power_live, power_moves, stopped_power, power_after, command_step, line_says, whole_items, card_line, hot_step, cold_step, play_at_power, step, plays, first_worn, start}
+use Rattle.mc_family.proofs.Stops.{whole_others}
 use Rattle.mc_family.proofs.OtherCommand.{AreManagers, Aside, send_aside}
 use Rattle.mc_family.proofs.LoadCommands.{load_managers}
 use Rattle.mc_family.proofs.HotLines.{hot}
-use Rattle.mc_promise.specs.History.{Watch, CutAt, cut_of, with_event, after_route, after_items, after_stop, after_step}
-use Rattle.mc_promise.specs.Along.{CreatesOnly, BringsOnly, stopped_step, Along, parts_for, live_parts, command_for, OnAnswer}
-use Rattle.mc_promise.specs.Outline.{Outline, Shown}
+use Rattle.mc_promise.specs.History.{CutAt, cut_of, with_event, after_route, after_items, after_stop, after_step}
+use Rattle.mc_promise.specs.Along.{CreatesOnly, BringsOnly, stopped_step, Along, parts_for, command_for, OnAnswer}
+use Rattle.mc_promise.specs.Outline.{Outline, IsShown}
 use Rattle.mc_promise.specs.Kept.{KeptIn, SessionKept, SessionIf, SelectedKept, LiveKept, BaseKept, StateKept, LineKept, IsKept}
 use Rattle.mc_promise.proofs.ItemLists.{AllAvoid, avoid_lookup, avoid_history, items_kept}
 use Rattle.mc_promise.proofs.SelectedStays.{send_avoids}
@@ -77,7 +76,7 @@ stopped_is z l w c =
     ap (λ (q : State). step q l (Some c)) (sym e.0)
     ∙ (ap (λ (n : ℕ). step (step z l w).before (n, l.1) (Some c)) (sym e.1) ∙ ap (λ (k : DeckLine). step (step z l w).before ((step z l w).number, k) (Some c)) (sym e.2))
 
-module _ {E : Type 0} (o : Outline E) (shown : Shown o) where
+module _ {E : Type 0} (o : Outline E) (shown : IsShown o) where
   -- ---- answers
 
   looked_at : (b : Bool) (found : Option ApduParts) (h k : List E) (outcome : Outcome) → OnParts o found h k outcome → OnParts o (parts_if b found) h k outcome
@@ -161,11 +160,11 @@ module _ {E : Type 0} (o : Outline E) (shown : Shown o) where
   AfterCommand h k c r found (Some t) =
       KeptIn o k (lookup (apps_after_items c.apps (at_stop r.items t.at t.left).whole) o.watch.name) × OnAnswer (λ a sw. o.answers a h k sw) found (Some (line_says r (Some t)))
 
-  after_command : (h k : List E) (n : ℕ) (l : DeckLine) (s : Warm) (c : Card) (r : Command) (found : Option ApduParts) (t : Option StopAt) → command_for o.watch.name (Hot s) l ≡ found → AfterCommand h k c r found t
+  command_line_kept : (h k : List E) (n : ℕ) (l : DeckLine) (s : Warm) (c : Card) (r : Command) (found : Option ApduParts) (t : Option StopAt) → command_for o.watch.name (Hot s) l ≡ found → AfterCommand h k c r found t
       → LineKept o h (command_step n l s c r t) k
   unfolding AfterCommand
-  after_command h k n l s c r found None e x = ((x.0, x.1), subst (λ (z : Option ApduParts). OnAnswer (λ a sw. o.answers a h k sw) z (Some (line_says r None))) (sym e) x.2)
-  after_command h k n l s c r found (Some t) e x = ((x.0, dead k _ t.kind), subst (λ (z : Option ApduParts). OnAnswer (λ a sw. o.answers a h k sw) z (Some (line_says r (Some t)))) (sym e) x.1)
+  command_line_kept h k n l s c r found None e x = ((x.0, x.1), subst (λ (z : Option ApduParts). OnAnswer (λ a sw. o.answers a h k sw) z (Some (line_says r None))) (sym e) x.2)
+  command_line_kept h k n l s c r found (Some t) e x = ((x.0, dead k _ t.kind), subst (λ (z : Option ApduParts). OnAnswer (λ a sw. o.answers a h k sw) z (Some (line_says r (Some t)))) (sym e) x.1)
 
   -- whether its answer is one to the application as the selected one, or is not looked at
   one_command : (h : List E) (c : Card) (seat : Seat) (g : ℕ) (b : List ℕ) (looked : Bool) (t : Option StopAt) → KeptIn o h (lookup c.apps o.watch.name) → SelectedKept o h c.apps seat.selected
@@ -233,19 +232,19 @@ module _ {E : Type 0} (o : Outline E) (shown : Shown o) where
   card_kept h n (line.Select x) (OnCard c) q j (Running seat) g a w i kept brings =
       let r = command c seat (select_bytes x) g in
       let t = hit_of a (moves r.items) w in
-      after_command h _ n (line.Select x) (hot (OnCard c) q j (Running seat) g a) c r None t refl (one_command h c seat g (select_bytes x) false t kept.0 kept.1 brings.creates)
+      command_line_kept h _ n (line.Select x) (hot (OnCard c) q j (Running seat) g a) c r None t refl (one_command h c seat g (select_bytes x) false t kept.0 kept.1 brings.creates)
   card_kept h n (line.Delete x) (OnCard c) q j (Running seat) g a w i kept brings =
       let r = command c seat (delete_bytes x) g in
       let t = hit_of a (moves r.items) w in
-      after_command h _ n (line.Delete x) (hot (OnCard c) q j (Running seat) g a) c r None t refl (one_command h c seat g (delete_bytes x) false t kept.0 kept.1 brings.creates)
+      command_line_kept h _ n (line.Delete x) (hot (OnCard c) q j (Running seat) g a) c r None t refl (one_command h c seat g (delete_bytes x) false t kept.0 kept.1 brings.creates)
   card_kept h n (line.Apdu x) (OnCard c) q j (Running seat) g a w i kept brings =
       let r = command c seat x g in
       let t = hit_of a (moves r.items) w in
-      after_command h _ n (line.Apdu x) (hot (OnCard c) q j (Running seat) g a) c r (parts_for o.watch.name seat.selected (route x)) t refl (one_command h c seat g x true t kept.0 kept.1 brings.creates)
+      command_line_kept h _ n (line.Apdu x) (hot (OnCard c) q j (Running seat) g a) c r (parts_for o.watch.name seat.selected (route x)) t refl (one_command h c seat g x true t kept.0 kept.1 brings.creates)
   card_kept h n (line.Load u fixed session) (OnCard c) q j (Running seat) g a w i kept brings =
       let r = send c seat g (load_commands u fixed session) in
       let t = hit_of a (moves r.items) w in
-      after_command h _ n (line.Load u fixed session) (hot (OnCard c) q j (Running seat) g a) c r None t refl (a_load h c seat g (load_commands u fixed session) t (load_managers u fixed session) kept.0 kept.1 brings.creates)
+      command_line_kept h _ n (line.Load u fixed session) (hot (OnCard c) q j (Running seat) g a) c r None t refl (a_load h c seat g (load_commands u fixed session) t (load_managers u fixed session) kept.0 kept.1 brings.creates)
   card_kept h n (line.Select x) (AtFault cause p) q j (Running seat) g a w i kept brings = (tt, tt)
   card_kept h n (line.Delete x) (AtFault cause p) q j (Running seat) g a w i kept brings = (tt, tt)
   card_kept h n (line.Apdu x) (AtFault cause p) q j (Running seat) g a w i kept brings = (tt, tt)
@@ -313,9 +312,10 @@ module _ {E : Type 0} (o : Outline E) (shown : Shown o) where
   along_kept [] ws h z kept = tt
   along_kept (l ∷ ls) ws h z kept =
       let t : Step = step z l (first_worn ws) in
-      let k : List E = after_step o.watch t h in
-      (λ brings. let line = step_kept h z l (first_worn ws) kept brings in (line, along_kept ls (drop 1 ws) k t.after line.0),
-      λ c. subst (λ (u : Step). BringsOnly o.watch.name o.app u → LineKept o h u (after_step o.watch u h)) (stopped_is z l (first_worn ws) c) (step_kept h z l (Some c) kept))
+      let k : List E = after_step o.watch t h in (
+        λ brings. let line = step_kept h z l (first_worn ws) kept brings in (line, along_kept ls (drop 1 ws) k t.after line.0),
+        λ c. subst (λ (u : Step). BringsOnly o.watch.name o.app u → LineKept o h u (after_step o.watch u h)) (stopped_is z l (first_worn ws) c) (step_kept h z l (Some c) kept),
+      )
 
   -- an outline holds along every play
   pub kept_along : IsKept o

@@ -1,6 +1,6 @@
 -- A turn in the application's own frame leads where its outline says; and so each turn of a chain keeps what the outline asks for.
-use Rattle.std.proofs.Common.{◌≡◌, ℕ, ◌≤◌, Bool, true, false, cond, List, [], ◌∷◌, length, Option, Some, None, Result, Ok, Err, refl, sym, ap, subst, ◌∙◌, arith}
-use Rattle.std.specs.Prelude.{⊤, bytes_eq}
+use Rattle.std.proofs.Common.{◌≡◌, ℕ, ◌≤◌, Bool, true, false, List, [], ◌∷◌, length, Option, Some, None, Result, Ok, Err, refl, sym, ap, subst, ◌∙◌, arith}
+use Rattle.std.specs.Prelude.{bytes_eq}
 use Rattle.mc_model_machine.specs.declared.instruction.Ins.{Ins}
 use Rattle.mc_model_machine.specs.declared.instruction.DecodeFault.{DecodeFault}
 use Rattle.mc_model_machine.specs.declared.instruction.DecodeFault.TheVariants.{Undefined, Past}
@@ -10,12 +10,12 @@ use Rattle.mc_model_device.specs.Card.{App}
 use Rattle.mc_model_machine.specs.Apdu.{ApduParts, apdu_case}
 use Rattle.mc_model_machine.specs.Code.{instruction_at}
 use Rattle.mc_model_machine.specs.Frame.{Frame}
-use Rattle.mc_model_machine.specs.Primitives.{Around, Then, Goes, Exits, Delegates, Done}
+use Rattle.mc_model_machine.specs.Primitives.{Then, Goes, Exits, Delegates, Done}
 use Rattle.mc_model_machine.specs.Row.{RowEnd, Abends, Does, row}
 use Rattle.mc_model_machine.specs.Chain.{Chain, code_in, map_changed, write_of, chain_after_effect, depth_of, follows, row_turn, turn_of_fetch, frame_at, around, turn_of_chain, delegator_in, first_frame, chain_session}
 use Rattle.mc_model_card.specs.Items.{apps_after_items, write_items}
-use Rattle.mc_promise.specs.History.{Watch, Deed, with_event, is_first, row_event, fetched_event, event_if, turn_event}
-use Rattle.mc_promise.specs.Outline.{Entry, BySelection, ByDelegation, Outline, Shown, is_direct, FitsEntry, public_size, NextShown, DeedShown, RowShown, FetchShown}
+use Rattle.mc_promise.specs.History.{Deed, with_event, row_event, fetched_event, event_if, turn_event}
+use Rattle.mc_promise.specs.Outline.{Outline, IsShown, FitsEntry, public_size, NextShown, DeedShown, RowShown, FetchShown}
 use Rattle.mc_promise.proofs.RowTracks.{after_change, Tracked, RowTracks, row_tracks}
 use Rattle.mc_promise.specs.Kept.{IsLike, KeptIn}
 use Rattle.mc_promise.proofs.Chains.{NoneOf, entry_over, Runs, own_runs, own_waits, own_run, ThereKept, FoundKept, ChainKept, with_change, own_changed}
@@ -23,7 +23,7 @@ use Rattle.mc_promise.proofs.Turns.{FollowsKept, TurnKept, BelowKept, FoundBelow
 use Rattle.mc_promise.proofs.EachTurn.{other_fetched, own_exits}
 use Rattle.mc_model_device.proofs.MapLemmas.{same_name}
 
-module _ {E : Type 0} (o : Outline E) (shown : Shown o) (apdu : ApduParts) (before : List E) where
+module _ {E : Type 0} (o : Outline E) (shown : IsShown o) (apdu : ApduParts) (before : List E) where
   own_follows : (b : Bool) (h k : List E) (a : App) (ch : Chain) (d : Done) (next : Then) → ch.apdu ≡ apdu → public_size ≤ length d.effect.public → lookup (chain_after_effect ch d.effect).map o.watch.name ≡ Some a → IsLike o a → o.keeps k a.fixed
       → d.effect.frame.fixed ≡ a.fixed → NoneOf o.watch.name ch.below → bytes_eq d.effect.frame.name o.watch.name ≡ true → bytes_eq (first_frame d.effect.frame ch.below).name o.watch.name ≡ b
       → NextShown o (entry_over apdu before ch.below) k ch.frame d next
@@ -98,7 +98,6 @@ module _ {E : Type 0} (o : Outline E) (shown : Shown o) (apdu : ApduParts) (befo
   fits_over case (f ∷ fs) e = tt
 
   -- ---- a turn
-
 
   own_turn : (b : Bool) (h : List E) (ch : Chain) (found : Option App) → lookup ch.map o.watch.name ≡ found → FoundKept o apdu before h found ch.frame ch.below ch.public
       → bytes_eq ch.frame.name o.watch.name ≡ true → bytes_eq (first_frame ch.frame ch.below).name o.watch.name ≡ b → ChainKept o apdu before h ch

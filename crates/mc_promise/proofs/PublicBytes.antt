@@ -1,10 +1,10 @@
 -- Bytes of the public segment of a command: its INS, its length, and its status, which writes elsewhere leave.
-use Rattle.std.proofs.Common.{◌≡◌, ℕ, ◌+◌, ◌-◌, ◌*◌, ◌<◌, ◌≤◌, List, [], ◌∷◌, ◌++◌, length, take, drop, get_or, refl, sym, ap, subst, ◌∙◌, arith}
+use Rattle.std.proofs.Common.{◌≡◌, ℕ, ◌+◌, ◌-◌, ◌*◌, ◌<◌, ◌≤◌, List, [], ◌∷◌, ◌++◌, length, take, drop, get_or, sym, ap, ◌∙◌, arith}
 use Rattle.std.specs.Prelude.{unwrap_or}
 use Rattle.std.proofs.lemmas.List.{append_assoc, length-append, length-replicate, length-take-le, drop-drop, drop_at, take_at, get_or-drop, get_or_append_left, get_or-append_right}
 use Rattle.mc_model_device.specs.Bytes.{bytes2, zeros, splice}
 use Rattle.mc_model_machine.specs.Apdu.{ApduParts}
-use Rattle.mc_model_machine.specs.Frame.{new_public, with_sw, with_la, sw_of}
+use Rattle.mc_model_machine.specs.Frame.{new_public, with_la, sw_of}
 
 -- ---- a command's public segment
 

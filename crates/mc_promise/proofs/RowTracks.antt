@@ -8,15 +8,15 @@ use Rattle.mc_model_device.specs.Bytes.{num, bytes2}
 use Rattle.mc_model_device.specs.Pieces.{laid_pieces}
 use Rattle.mc_model_device.proofs.ListLemmas.{splice_longer}
 use Rattle.mc_model_machine.specs.Frame.{Frame, Effect, Place, Static, Dynamic, Public, static_written, stack_bytes, bytes_at, write_effect_at, where_is, write_effect, frame_after_pop, protect, static_bytes, pending_change, with_sw, with_la}
-use Rattle.mc_model_machine.specs.Primitives.{Around, Done, Primitive, CheckCase, LoadCcr, StoreCcr, Lookup, MemoryCompare, MemoryCopy, DelegateTo, DelegatorAid, Digest, CompareFixed, CopyFixed, SetProtection, Encipher, Decipher, Sign, BitByte, ShiftLeft, ShiftRight, BitWord, number_below_top, count_at, effect_flagged, frame_effect, lookup_effect, delegator_told, prim_effect, prim_done, primitive}
-use Rattle.mc_model_machine.specs.Row.{frame_after_jump, frame_after_call, without_target, effect, RowEnd, Abends, Does, row_end, causes, first_cause, row}
+use Rattle.mc_model_machine.specs.Primitives.{Around, Done, Primitive, Lookup, MemoryCopy, DelegatorAid, Digest, CopyFixed, SetProtection, Encipher, Decipher, Sign, number_below_top, count_at, effect_flagged, frame_effect, lookup_effect, delegator_told, prim_effect, prim_done, primitive}
+use Rattle.mc_model_machine.specs.Row.{frame_after_jump, frame_after_call, effect, RowEnd, Abends, Does, row_end, causes, first_cause, row}
 
 -- static bytes after a list of changes, if there is one
 abbrev pub after_change : List ℕ → Option (List (ℕ × List ℕ)) → List ℕ
 after_change fixed None = fixed
 after_change fixed (Some ps) = laid_pieces fixed ps
 
--- the frame's name, its static bytes with the change, and a public segment of at least so many bytes
+-- the frame's name, its static bytes with the change, and a public segment of at least this many bytes
 pub record Tracked (known bytes : List ℕ) (least : ℕ) (e : Effect) : Type 0 where
   pub name : e.frame.name ≡ known
   pub fixed : e.frame.fixed ≡ after_change bytes e.changes

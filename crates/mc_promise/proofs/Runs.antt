@@ -1,17 +1,17 @@
 -- A run keeps what the outline asks for, whole or cut in any device write, with the history that was counted up to there.
-use Rattle.std.proofs.Common.{◌≡◌, ℕ, zero, suc, ◌-◌, ◌≤◌, Bool, true, false, cond, List, [], ◌∷◌, ◌++◌, length, Option, Some, None, refl, sym, ap, subst, ◌∙◌}
-use Rattle.std.specs.Prelude.{⊤, bytes_eq, nat_le}
+use Rattle.std.proofs.Common.{◌≡◌, ℕ, zero, suc, ◌-◌, Bool, true, false, cond, List, [], ◌∷◌, ◌++◌, Option, Some, None, refl, sym, ap, subst, ◌∙◌}
+use Rattle.std.specs.Prelude.{bytes_eq, nat_le}
 use Rattle.mc_model_device.specs.Bytes.{lookup}
 use Rattle.mc_model_device.specs.Image.{Two}
 use Rattle.mc_model_device.specs.Stopped.{cost, stands}
 use Rattle.mc_model_device.specs.Card.{App}
 use Rattle.mc_model_machine.specs.Apdu.{ApduParts}
-use Rattle.mc_model_machine.specs.Chain.{Outcome, Write, Chain, Ran, Acted, Follows, Continues, Ends, turn_without_budget, turn_of_chain, run_after_turn, run_of_chain, first_frame, chain_session}
-use Rattle.mc_model_card.specs.Items.{Fixed, Item, Atomic, apps_after_change, apps_after_items, Stopped, with_item, in_flight, at_stop, write_items}
+use Rattle.mc_model_machine.specs.Chain.{Write, Chain, Ran, Acted, Follows, Continues, Ends, turn_of_chain, run_after_turn, run_of_chain, first_frame, chain_session}
+use Rattle.mc_model_card.specs.Items.{Fixed, Atomic, apps_after_change, apps_after_items, with_item, in_flight, at_stop, write_items}
 use Rattle.mc_model_machine.specs.declared.machine.Abend.TheVariants.{A07}
-use Rattle.mc_promise.specs.History.{Watch, CutAt, with_event, cut_after, last_turn, cut_turn, after_writes, after_follows, turn_event, after_run}
-use Rattle.mc_promise.specs.Outline.{Outline, Shown}
-use Rattle.mc_promise.specs.Kept.{IsLike, KeptIn}
+use Rattle.mc_promise.specs.History.{CutAt, with_event, cut_after, last_turn, cut_turn, after_writes, after_follows, turn_event, after_run}
+use Rattle.mc_promise.specs.Outline.{Outline, IsShown}
+use Rattle.mc_promise.specs.Kept.{KeptIn}
 use Rattle.mc_promise.proofs.Chains.{ChainKept, EndKept}
 use Rattle.mc_promise.proofs.Turns.{IsSingle, FollowsKept, TurnKept, chain_keeps, end_abended}
 use Rattle.mc_promise.proofs.OwnTurn.{turn_kept}
@@ -102,7 +102,7 @@ module _ {E : Type 0} (b : Bool) (o : Outline E) (apdu : ApduParts) (before : Li
       (next_cut (with_event ev h) (apps_after_items m (write_items (w ∷ []))) session f (cut_after w.words cut) new next again)
   cut_on (w ∷ v ∷ vs) h ev m session f cut single old new next again = absurd single
 
-module _ {E : Type 0} (o : Outline E) (shown : Shown o) (apdu : ApduParts) (before : List E) where
+module _ {E : Type 0} (o : Outline E) (shown : IsShown o) (apdu : ApduParts) (before : List E) where
   -- a run that no stop hits
   pub run_kept : (b : Bool) (n : ℕ) (h : List E) (ch : Chain) → bytes_eq (first_frame ch.frame ch.below).name o.watch.name ≡ b → ChainKept o apdu before h ch
       → RunKept b o apdu before ch.map (run_of_chain n ch) (after_run o.watch n ch None h)

@@ -1,6 +1,6 @@
 -- The manager neither creates nor deletes what is selected.
-use Rattle.std.proofs.Common.{◌≡◌, ℕ, Bool, true, false, cond, not, List, [], ◌∷◌, Option, Some, None, Result, Ok, Err, refl, sym, ap, subst, ◌∙◌}
-use Rattle.std.specs.Prelude.{⊤, ◌&&◌, ◌||◌, ◌==◌, bytes_eq, is_some, is_none, is_ok}
+use Rattle.std.proofs.Common.{◌≡◌, ℕ, Bool, true, false, cond, not, List, [], ◌∷◌, Option, Some, None, Result, Ok, Err, refl, sym, ap, ◌∙◌}
+use Rattle.std.specs.Prelude.{◌==◌, bytes_eq, is_some, is_none, is_ok}
 use Rattle.std.proofs.lemmas.Bool.{false_from_ne_true}
 use Rattle.mc_model_card.specs.declared.card.Part.{Part}
 use Rattle.mc_model_card.specs.declared.card.Part.TheVariants as part
@@ -10,7 +10,7 @@ use Rattle.mc_model_machine.specs.Apdu.{ApduParts}
 use Rattle.mc_model_card.specs.Units.{name_of}
 use Rattle.mc_model_device.specs.Card.{App, Card}
 use Rattle.mc_model_card.specs.Items.{card_done}
-use Rattle.mc_model_card.specs.Manager.{Selected, Open, Seat, Route, WrongLength, WrongClass, ToSelect, ToManager, ToApplication, route, Managed, Declines, Accepts, Accepted, answer_unless, first_status, is_empty, p1p2, load_done, load_part, load_refusals, open_done, open_load, open_refusals, can_create, dir_in, is_taken, create_done, create, create_refusals, is_selected, delete_done, delete, delete_refusals, manage, room_on}
+use Rattle.mc_model_card.specs.Manager.{Selected, Open, Seat, Route, WrongLength, WrongClass, ToSelect, ToManager, ToApplication, route, Managed, Declines, Accepted, answer_unless, first_status, is_empty, p1p2, load_done, load_refusals, open_done, open_refusals, can_create, dir_in, is_taken, create_done, create, create_refusals, is_selected, delete_done, delete, delete_refusals, manage, room_on}
 use Rattle.mc_model_card.specs.Commands.{Command, atomic_of, manager_command, by_route, command}
 use Rattle.mc_model_play.specs.Play.{is_done, command_with_rest, send}
 use Rattle.mc_family.proofs.OtherCommand.{IsManagers, AreManagers, Aside, command_aside}

@@ -1,27 +1,20 @@
 -- One turn of a chain, of the application or of another, leads to what holds of the next.
-use Rattle.std.proofs.Common.{◌≡◌, ℕ, ◌≤◌, Bool, true, false, cond, List, [], ◌∷◌, length, Option, Some, None, Result, Ok, Err, refl, sym, ap, subst, ◌∙◌, arith}
-use Rattle.std.specs.Prelude.{⊤, ◌||◌, bytes_eq, nat_lt, nat_le}
+use Rattle.std.proofs.Common.{◌≡◌, ℕ, ◌≤◌, Bool, true, false, List, [], ◌∷◌, length, Option, Some, None, refl, sym, ap, subst, ◌∙◌, arith}
+use Rattle.std.specs.Prelude.{⊤, ◌||◌, bytes_eq, nat_le}
 use Rattle.std.proofs.lemmas.Bool.{or_parts}
 use Rattle.mc_model_machine.specs.declared.instruction.Ins.{Ins}
-use Rattle.mc_model_machine.specs.declared.instruction.DecodeFault.{DecodeFault}
-use Rattle.mc_model_machine.specs.declared.instruction.DecodeFault.TheVariants.{Undefined, Past}
 use Rattle.mc_model_machine.specs.declared.machine.Abend.{Abend}
-use Rattle.mc_model_machine.specs.declared.machine.Abend.TheVariants.{A01, A02, A09}
 use Rattle.mc_model_device.specs.Bytes.{lookup, zeros, bytes2}
 use Rattle.mc_model_device.specs.Card.{App}
 use Rattle.mc_model_device.proofs.ListLemmas.{splice_longer}
-use Rattle.mc_model_machine.specs.Apdu.{ApduParts, apdu_case}
-use Rattle.mc_model_machine.specs.Code.{instruction_at}
-use Rattle.mc_model_machine.specs.Frame.{Frame, Effect, new_frame, session_of, with_sw, la_of, sw_of}
-use Rattle.mc_model_machine.specs.Primitives.{Around, Then, Goes, Exits, Delegates, Done}
-use Rattle.mc_model_machine.specs.Row.{RowEnd, Abends, Does, row}
-use Rattle.mc_model_machine.specs.Chain.{Outcome, Reply, Abended, Write, Chain, Acted, Follows, Continues, Ends, code_in, map_changed, write_of, chain_after_effect, is_active, depth_of, entered_app, called_app, chain_after_call, reply_of, after_exit, follows, abends_at, row_turn, turn_of_fetch, frame_at, around, turn_of_chain, first_frame, chain_session}
+use Rattle.mc_model_machine.specs.Apdu.{ApduParts}
+use Rattle.mc_model_machine.specs.Frame.{Frame, new_frame, session_of, with_sw}
+use Rattle.mc_model_machine.specs.Chain.{Abended, Write, Chain, Acted, Follows, Continues, Ends, map_changed, write_of, is_active, depth_of, called_app, chain_after_call, abends_at, first_frame, chain_session}
 use Rattle.mc_model_card.specs.Items.{apps_after_items, write_items}
-use Rattle.mc_promise.specs.History.{Watch, Deed, with_event, is_first, row_event, fetched_event, event_if, turn_event}
-use Rattle.mc_promise.specs.Outline.{Entry, BySelection, ByDelegation, Outline, Shown, is_direct, FitsEntry, public_size, ExitShown, NextShown, DeedShown, RowShown, FetchShown, first_frame_of}
-use Rattle.mc_promise.proofs.RowTracks.{after_change, Tracked, RowTracks, row_tracks}
+use Rattle.mc_promise.specs.History.{with_event, is_first}
+use Rattle.mc_promise.specs.Outline.{BySelection, ByDelegation, Outline, IsShown, is_direct, public_size, first_frame_of}
 use Rattle.mc_promise.specs.Kept.{IsLike, KeptIn}
-use Rattle.mc_promise.proofs.Chains.{NoneOf, inactive, entry_over, Waits, Runs, WaitsIf, AllWait, RunsIf, StackKept, none_waits, resumed, others_run, own_runs, own_waits, others_wait, others_wait_below, own_run, ThereKept, FoundKept, ChainKept, SessionIn, AnsweredBy, EndKept, beside_changed, with_change, own_changed}
+use Rattle.mc_promise.proofs.Chains.{NoneOf, inactive, entry_over, Waits, Runs, WaitsIf, AllWait, RunsIf, StackKept, resumed, others_run, own_runs, own_run, ThereKept, FoundKept, ChainKept, SessionIn, EndKept}
 use Rattle.mc_model_device.proofs.MapLemmas.{same_name}
 
 -- ---- what a turn leads to
@@ -75,7 +68,7 @@ pub direct_is : {E : Type 0} (apdu : ApduParts) (before : List E) (fs : List Fra
 direct_is apdu before [] = refl
 direct_is apdu before (f ∷ fs) = refl
 
-module _ {E : Type 0} (o : Outline E) (shown : Shown o) (apdu : ApduParts) (before : List E) where
+module _ {E : Type 0} (o : Outline E) (shown : IsShown o) (apdu : ApduParts) (before : List E) where
   -- ---- sessions
 
   -- a first frame that waits or runs holds its session
@@ -181,11 +174,11 @@ module _ {E : Type 0} (o : Outline E) (shown : Shown o) (apdu : ApduParts) (befo
       let longer : length s.public ≤ length (with_sw s.public sw) = splice_longer s.public 1039 (bytes2 sw) in
       record { kept = resume_found h (lookup s.map o.watch.name) s.frame s.below (with_sw s.public sw) (omega arith) w; command = command; whole = omega arith }
 
-  called_app_lem : (b : Bool) (h : List E) (s : Chain) (n : List ℕ) (a : App) (e : Bool) → s.apdu ≡ apdu → public_size ≤ length s.public → lookup s.map n ≡ Some a → (is_active n s.frame s.below || nat_le 4 (depth_of s)) ≡ e
+  called_app_kept : (b : Bool) (h : List E) (s : Chain) (n : List ℕ) (a : App) (e : Bool) → s.apdu ≡ apdu → public_size ≤ length s.public → lookup s.map n ≡ Some a → (is_active n s.frame s.below || nat_le 4 (depth_of s)) ≡ e
       → bytes_eq (first_frame s.frame s.below).name o.watch.name ≡ b
       → FoundBelow o apdu before h (lookup s.map o.watch.name) (s.frame ∷ s.below) → FollowsKept b o apdu before h s.map (chain_session s) (Continues (called_app e s n a))
-  called_app_lem b h s n a true command l is t first w = (with_status h s 0x6985 command l w, refl, first)
-  called_app_lem b h s n a false command l is t first w =
+  called_app_kept b h s n a true command l is t first w = (with_status h s 0x6985 command l w, refl, first)
+  called_app_kept b h s n a false command l is t first w =
       let active = (or_parts (is_active n s.frame s.below) (nat_le 4 (depth_of s)) t).0 in
       (record { kept = entered_by h s n a (bytes_eq n o.watch.name) refl is active l w; command = command; whole = l }, refl, first)
 
@@ -194,4 +187,4 @@ module _ {E : Type 0} (o : Outline E) (shown : Shown o) (apdu : ApduParts) (befo
       → bytes_eq (first_frame s.frame s.below).name o.watch.name ≡ b
       → FoundBelow o apdu before h (lookup s.map o.watch.name) (s.frame ∷ s.below) → FollowsKept b o apdu before h s.map (chain_session s) (Continues (chain_after_call s n found))
   called_chain b h s n None command l is first w = (with_status h s 0x6A82 command l w, refl, first)
-  called_chain b h s n (Some a) command l is first w = called_app_lem b h s n a (is_active n s.frame s.below || nat_le 4 (depth_of s)) command l is refl first w
+  called_chain b h s n (Some a) command l is first w = called_app_kept b h s n a (is_active n s.frame s.below || nat_le 4 (depth_of s)) command l is refl first w

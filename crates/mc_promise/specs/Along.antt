@@ -1,15 +1,15 @@
 -- What holds of one application along a play: after each line, and after each device write at which the line could be stopped.
-use Rattle.std.specs.Prelude.{◌≡◌, ℕ, Bool, true, false, List, [], ◌∷◌, bytes_eq, Option, Some, None, ⊤}
+use Rattle.std.specs.Prelude.{◌≡◌, ℕ, ◌≤◌, Bool, true, false, List, [], ◌∷◌, length, bytes_eq, Option, Some, None, ⊤}
 use Rattle.mc_model_device.specs.Bytes.{lookup}
 use Rattle.mc_model_device.specs.Card.{App}
 use Rattle.mc_model_device.specs.PowerUp.{Base, OnCard, AtFault}
 use Rattle.mc_model_machine.specs.Apdu.{ApduParts}
-use Rattle.mc_model_machine.specs.Chain.{Outcome, Reply, Abended}
-use Rattle.mc_model_card.specs.Items.{Change, Fixed, Created, Deleted, Item, Plain, Atomic}
-use Rattle.mc_model_card.specs.Manager.{Selected, Seat, Route, WrongLength, WrongClass, ToSelect, ToManager, ToApplication, route}
+use Rattle.mc_model_machine.specs.Chain.{Reply}
+use Rattle.mc_model_card.specs.Items.{Fixed, Created, Deleted, Item, Plain, Atomic}
+use Rattle.mc_model_card.specs.Manager.{Selected, Route, WrongLength, WrongClass, ToSelect, ToManager, ToApplication, route}
 use Rattle.mc_model_play.specs.DeckGrammar.{DeckLine}
 use Rattle.mc_model_play.specs.DeckGrammar as line
-use Rattle.mc_model_play.specs.Play.{Live, Running, Unpowered, Muted, Warm, State, Cold, Hot, LineResult, Answered, WornAt, Step, step}
+use Rattle.mc_model_play.specs.Play.{Live, Running, Unpowered, Muted, State, Cold, Hot, LineResult, Answered, WornAt, Step, step}
 use Rattle.mc_model_play.specs.Given.{apps_in}
 use Rattle.mc_promise.specs.History.{Watch, after_step}
 

@@ -1,5 +1,5 @@
 -- A counter that never falls, as an example of the rule: its text, its code, what is counted of it, and what it promises.
-use Rattle.std.specs.Prelude.{◌≡◌, ◌≢◌, ℕ, suc, ◌≤◌, List, [], ◌∷◌, ◌++◌, length, take, codes, Option, Some, None, ⊤}
+use Rattle.std.specs.Prelude.{◌≡◌, ◌≢◌, ℕ, suc, ◌+◌, ◌≤◌, Bool, true, ◌&&◌, ◌==◌, List, [], ◌∷◌, ◌++◌, length, codes, Option, Some, None, ⊤}
 use Rattle.mc_model_device.specs.Bytes.{num}
 use Rattle.mc_model_device.specs.Card.{App}
 use Rattle.mc_model_machine.specs.Apdu.{ApduParts}
@@ -45,29 +45,55 @@ counter_watch = record { name = counter_name; of_deed = count_of; of_selection =
 -- ---- what it promises
 
 -- the newest count, and 0 before there is one
-abbrev pub newest : List ℕ → ℕ
-newest [] = 0
-newest (v ∷ h) = v
+abbrev pub newest_count : List ℕ → ℕ
+newest_count [] = 0
+newest_count (v ∷ h) = v
 
 -- each count is one more than the one before it
 abbrev pub Rises : List ℕ → Type 0
 Rises [] = ⊤
-Rises (v ∷ h) = (v ≡ suc (newest h)) × Rises h
+Rises (v ∷ h) = (v ≡ suc (newest_count h)) × Rises h
 
 -- static bytes hold the newest count, which never fell
 pub record KeepsCount (h : List ℕ) (fixed : List ℕ) : Type 0 where
-  pub holds : num fixed ≡ newest h
+  pub holds : num fixed ≡ newest_count h
   pub rises : Rises h
 
--- A count that is answered with 9000 stands, and is one more; one that is answered with another status changes nothing. (Data of a
+-- A count that is answered with 9000 is durable, and is one more; one that is answered with another status changes nothing. (Data of a
 -- command of bytes are at most 1,024.)
 pub record AnswersCount (before after : List ℕ) (a : ApduParts) (sw : ℕ) : Type 0 where
-  pub stands : length a.body ≤ 1024 → a.ins ≡ 0x10 → sw ≡ 0x9000 → after ≡ suc (newest before) ∷ before
+  pub durable : length a.body ≤ 1024 → a.ins ≡ 0x10 → sw ≡ 0x9000 → after ≡ suc (newest_count before) ∷ before
   pub refused : length a.body ≤ 1024 → a.ins ≡ 0x10 → sw ≢ 0x9000 → after ≡ before
 
--- for every deck, every image and every list of refused writes, along the whole play
+-- for every deck, every image and every list of failed writes, along the whole play
 abbrev pub CounterLaw : Type 0
 CounterLaw =
     (ls : List (ℕ × DeckLine)) (m : List (List ℕ)) (ws : List (Option WornAt))
     → Along counter_watch counter_app (λ before t after. OnFixed counter_name (KeepsCount after) t.after × OnAnswer (AnswersCount before after) (command_for counter_name t.before t.line) t.result) []
     (plays (start m) ls ws)
+
+-- ---- computed plays
+
+-- each count is one more than the one before it
+abbrev pub is_rising : List ℕ → Bool
+is_rising [] = true
+is_rising (v ∷ h) = v == newest_count h + 1 && is_rising h
+
+-- what the counter keeps, as a test
+abbrev pub keeps_count : List ℕ → List ℕ → Bool
+keeps_count h fixed = num fixed == newest_count h && is_rising h
+
+-- a deck that loads an application with a text under the counter's name and selects it, and then has these lines
+abbrev pub counter_deck : List ℕ → List ℕ → List ℕ
+counter_deck text rest = codes "format\npower\napp counter A000000200\n" ++ text ++ codes "end\nload counter 2 0\nselect A000000200\n" ++ rest
+
+-- three counts, one of them cut before it is durable and one after it, and a reading
+abbrev pub three_counts : List ℕ
+three_counts =
+    codes "apdu 8010000002\ncut 3 FFFFFFFFFFFFFFFF\napdu 8010000002\npower\nselect A000000200\n"
+    ++ codes "cut 5 FFFFFFFFFFFFFFFF\napdu 8010000002\npower\nselect A000000200\napdu 8012000002\n"
+
+-- a counter that can be set back
+abbrev pub set_back : List ℕ
+set_back =
+    codes " CMPB PT[-12],0x10\n JUMP EQ,count\n SETW SB[0],0\n EXIT\ncount: INCN SB[0],2\n EXIT\n"

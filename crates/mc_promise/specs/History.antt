@@ -1,23 +1,23 @@
 -- What happened to one application in a play, as its writer counts it: the events of its turns, of selections and of the ends
 -- of sessions, since its creation. A history has the newest event first.
-use Rattle.std.specs.Prelude.{ℕ, zero, suc, ◌+◌, ◌-◌, Bool, true, false, cond, nat_le, List, [], ◌∷◌, length, bytes_eq, Option, Some, None, Result, Ok, Err}
+use Rattle.std.specs.Prelude.{ℕ, zero, suc, ◌-◌, Bool, true, false, nat_le, List, [], ◌∷◌, bytes_eq, Option, Some, None, Result, Ok, Err}
 use Rattle.mc_model_machine.specs.declared.instruction.Ins.{Ins}
 use Rattle.mc_model_machine.specs.declared.instruction.DecodeFault.{DecodeFault}
 use Rattle.mc_model_device.specs.Bytes.{lookup}
 use Rattle.mc_model_device.specs.Image.{Two}
 use Rattle.mc_model_device.specs.Stopped.{cost, stands}
-use Rattle.mc_model_device.specs.Card.{App, Card}
-use Rattle.mc_model_device.specs.PowerUp.{Base, OnCard, AtFault}
+use Rattle.mc_model_device.specs.Card.{Card}
+use Rattle.mc_model_device.specs.PowerUp.{Base, OnCard}
 use Rattle.mc_model_machine.specs.Apdu.{ApduParts}
 use Rattle.mc_model_machine.specs.Code.{instruction_at}
 use Rattle.mc_model_machine.specs.Frame.{Frame, Effect}
 use Rattle.mc_model_machine.specs.Row.{RowEnd, Abends, Does, row}
-use Rattle.mc_model_machine.specs.Chain.{Chain, Write, Acted, Follows, Continues, Ends, code_in, frame_at, around, turn_of_chain, depth_of, start}
-use Rattle.mc_model_card.specs.Items.{Change, Fixed, Created, Deleted, Item, Plain, Atomic, StopAt}
+use Rattle.mc_model_machine.specs.Chain.{Chain, Write, Follows, Continues, Ends, code_in, frame_at, around, turn_of_chain, depth_of, start}
+use Rattle.mc_model_card.specs.Items.{Fixed, Created, Deleted, Item, Plain, Atomic, StopAt}
 use Rattle.mc_model_card.specs.Manager.{Selected, Seat, Route, WrongLength, WrongClass, ToSelect, ToManager, ToApplication, route, Managed, Declines, Accepts, select}
 use Rattle.mc_model_play.specs.DeckGrammar.{DeckLine}
 use Rattle.mc_model_play.specs.DeckGrammar as line
-use Rattle.mc_model_play.specs.Play.{Live, Running, Unpowered, Muted, Warm, State, Cold, Hot, Step, select_bytes, delete_bytes}
+use Rattle.mc_model_play.specs.Play.{Live, Running, State, Cold, Hot, Step, select_bytes, delete_bytes}
 
 -- ---- events
 
@@ -84,7 +84,7 @@ abbrev pub cut_of : Option StopAt → Option CutAt
 cut_of None = None
 cut_of (Some s) = Some (record { at = s.at; left = s.left })
 
--- a cut behind an atomic write of so many words
+-- a cut that comes after an atomic write of this many words
 abbrev pub cut_after : ℕ → CutAt → CutAt
 cut_after words c = record c { at = c.at - cost Two words }
 
@@ -145,16 +145,16 @@ after_route w c seat budget (ToApplication a) cut h = after_passed w c seat.sele
 -- ---- a line
 
 -- a creation of the name begins its history anew
-abbrev pub anew : {E : Type 0} → Bool → List E → List E
-anew true h = []
-anew false h = h
+abbrev pub unless_created : {E : Type 0} → Bool → List E → List E
+unless_created true h = []
+unless_created false h = h
 
 -- the history after the items of a line that are whole
 abbrev pub after_items : {E : Type 0} → List ℕ → List Item → List E → List E
 after_items n [] h = h
 after_items n (Plain ∷ is) h = after_items n is h
 after_items n (Atomic w (Fixed m ps) ∷ is) h = after_items n is h
-after_items n (Atomic w (Created m a) ∷ is) h = after_items n is (anew (bytes_eq m n) h)
+after_items n (Atomic w (Created m a) ∷ is) h = after_items n is (unless_created (bytes_eq m n) h)
 after_items n (Atomic w (Deleted m) ∷ is) h = after_items n is h
 
 -- any stop ends the session

@@ -1,11 +1,11 @@
 -- The rule: what an outline says holds along every play, as long as no other application comes under its name.
 use Rattle.std.specs.Prelude.{◌≡◌, ℕ, Bool, true, false, List, [], length, bytes_eq, Option, Some, None, ⊤}
 use Rattle.mc_model_device.specs.Bytes.{lookup}
-use Rattle.mc_model_device.specs.Card.{App, Card}
+use Rattle.mc_model_device.specs.Card.{App}
 use Rattle.mc_model_device.specs.PowerUp.{Base, OnCard, AtFault}
-use Rattle.mc_model_card.specs.Manager.{Selected, Seat}
+use Rattle.mc_model_card.specs.Manager.{Selected}
 use Rattle.mc_model_play.specs.DeckGrammar.{DeckLine}
-use Rattle.mc_model_play.specs.Play.{Live, Running, Unpowered, Muted, Warm, State, Cold, Hot, WornAt, Step, plays, start}
+use Rattle.mc_model_play.specs.Play.{Live, Running, Unpowered, Muted, State, Cold, Hot, WornAt, Step, plays, start}
 use Rattle.mc_promise.specs.Along.{Along, OnAnswer, command_for}
 use Rattle.mc_promise.specs.Outline.{Outline}
 
@@ -55,6 +55,6 @@ StateKept o h (Hot s) = BaseKept o h s.base s.live
 abbrev pub LineKept : {E : Type 0} → Outline E → List E → Step → List E → Type 0
 LineKept o before t after = StateKept o after t.after × OnAnswer (λ a sw. o.answers a before after sw) (command_for o.watch.name t.before t.line) t.result
 
--- for every deck, every image and every list of refused writes, possible or not
+-- for every deck, every image and every list of failed writes, possible or not
 abbrev pub IsKept : {E : Type 0} → Outline E → Type 0
 IsKept o = (ls : List (ℕ × DeckLine)) (m : List (List ℕ)) (ws : List (Option WornAt)) → Along o.watch o.app (LineKept o) [] (plays (start m) ls ws)

@@ -3,3 +3,4 @@ pub mod Along
 pub mod Outline
 pub mod Kept
 pub mod Counter
+pub mod Computed

@@ -1,6 +1,6 @@
 -- Proof outlines: what an application's writer says of its static bytes, of its sessions and of each place of its code, and what is
 -- to be shown of it, one instruction at a time.
-use Rattle.std.specs.Prelude.{◌≡◌, ℕ, ◌≤◌, Bool, true, false, List, [], ◌∷◌, length, Option, Some, None, Result, Ok, Err, ⊤}
+use Rattle.std.specs.Prelude.{◌≡◌, ℕ, ◌≤◌, Bool, true, false, List, [], length, None, Result, Ok, Err, ⊤}
 use Rattle.mc_model_machine.specs.declared.instruction.Ins.{Ins}
 use Rattle.mc_model_machine.specs.declared.instruction.DecodeFault.{DecodeFault}
 use Rattle.mc_model_device.specs.Bytes.{zeros}
@@ -11,7 +11,7 @@ use Rattle.mc_model_machine.specs.Frame.{Frame, new_frame, new_public, session_o
 use Rattle.mc_model_machine.specs.Primitives.{Around, Then, Goes, Exits, Delegates, Done}
 use Rattle.mc_model_machine.specs.Row.{RowEnd, Abends, Does, row}
 use Rattle.mc_model_machine.specs.Chain.{frame_at}
-use Rattle.mc_promise.specs.History.{Watch, Deed, with_event}
+use Rattle.mc_promise.specs.History.{Watch, with_event}
 
 -- how a frame began: by a command to the selected application, with the history before it; or by a delegation
 pub data Entry (E : Type 0) : Type 0 where
@@ -43,7 +43,7 @@ abbrev pub FitsEntry : {E : Type 0} → Entry E → Around → Type 0
 FitsEntry (BySelection apdu before) x = (x.case ≡ apdu_case apdu) × (x.delegator ≡ None)
 FitsEntry ByDelegation x = ⊤
 
--- a whole public segment has so many bytes
+-- the number of bytes of a public segment
 abbrev pub public_size : ℕ
 public_size = 1041
 
@@ -81,7 +81,7 @@ abbrev pub first_frame_of : {E : Type 0} → Outline E → List ℕ → List ℕ
 first_frame_of o fixed session = new_frame o.watch.name (length o.app.code) o.app.deny fixed session
 
 -- each part is about one moment or one instruction
-pub record Shown {E : Type 0} (o : Outline E) : Type 0 where
+pub record IsShown {E : Type 0} (o : Outline E) : Type 0 where
   -- the bytes of a new application keep it, with an empty history
   pub created : o.keeps [] o.app.fixed
   -- so do its bytes after a new selection, and what holds of zero session bytes

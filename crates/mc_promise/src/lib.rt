@@ -3,6 +3,7 @@
 //! What an application itself promises, proved for every deck: histories of events, proof outlines, the rule that carries them,
 //! and a counter as an example.
 
+mod examples;
 mod rule;
 
 ghost use Rattle.std.specs.Prelude.{◌≡◌, ◌≤◌, ℕ, List, length, Ok, Some};
@@ -11,7 +12,8 @@ ghost use Rattle.mc_model_machine.specs.Apdu.{ApduParts, apdu_read};
 ghost use Rattle.mc_model_machine.specs.Assembly.{assembly_of};
 ghost use Rattle.mc_promise.specs.Counter.{CounterLaw, counter_code, counter_text};
 
-pub use rule::{keeps, Promise};
+pub use examples::{counter_play, set_back_falls};
+pub use rule::{Promise, keeps};
 
 /// A command of bytes carries at most 1,024 bytes of data; what an application promises of its answers asks for no more.
 pub fn data_are_few()
@@ -24,9 +26,9 @@ pub fn counter_is_assembled()
     ensures { assembly_of counter_text ≡ Ok counter_code }
 {}
 
-/// In every play, whatever was cut or refused and whoever else is on the card, the counter's static bytes hold the newest count,
-/// which is one more than the one before it; a count that was answered with 9000 stands, and one that was answered with another
-/// status changed nothing.
+/// In every play, whatever is cut, whichever writes fail and whatever else is on the card, the counter's static bytes hold the newest count,
+/// which is one more than the one before it; a count that was answered with 9000 is durable, and one that was answered with
+/// another status changed nothing.
 pub fn counter()
     ensures { CounterLaw }
 {}

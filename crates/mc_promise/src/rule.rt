@@ -1,4 +1,4 @@
-ghost use Rattle.mc_promise.specs.Outline.{Outline, Shown};
+ghost use Rattle.mc_promise.specs.Outline.{Outline, IsShown};
 ghost use Rattle.mc_promise.specs.Kept.{IsKept};
 
 /// An application whose writer has shown an outline of it.
@@ -10,7 +10,7 @@ pub trait Promise {
     ghost outline: { Outline Event };
 
     /// Each part of it, shown.
-    ghost shown: { Shown outline };
+    ghost shown: { IsShown outline };
 }
 
 /// What an outline says holds along every play.

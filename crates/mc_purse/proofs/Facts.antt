@@ -1,18 +1,17 @@
 -- What the instructions of the purse do to the facts of its places.
-use Rattle.std.proofs.Common.{◌≡◌, ℕ, zero, suc, ◌+◌, ◌-◌, ◌*◌, ◌/◌, ◌%◌, ◌^◌, ◌<◌, ◌≤◌, Bool, true, false, cond, not, List, [], ◌∷◌, ◌++◌, length, take, drop, Option, Some, None, refl, sym, ap, subst, ◌∙◌, arith, inl, inr}
-use Rattle.std.specs.Prelude.{⊤, ◌≢◌, ◌⊎◌, bytes_eq}
+use Rattle.std.proofs.Common.{◌≡◌, ℕ, zero, suc, ◌+◌, ◌-◌, ◌*◌, ◌/◌, ◌%◌, ◌^◌, ◌<◌, ◌≤◌, Bool, true, false, cond, not, List, [], ◌∷◌, ◌++◌, length, take, drop, Some, None, refl, sym, ap, subst, ◌∙◌, arith, inl, inr}
+use Rattle.std.specs.Prelude.{◌≢◌, bytes_eq}
 use Rattle.std.proofs.lemmas.Bool.{eqb-true, false_from_ne_true}
 use Rattle.mc_model_device.specs.Bytes.{bytes, bytes2, num, splice}
-use Rattle.mc_model_machine.specs.Apdu.{ApduParts}
 use Rattle.mc_model_machine.specs.Blocks.{sub_blocks, is_zero}
-use Rattle.mc_model_machine.specs.Frame.{Frame, new_public, session_of, sw_of, with_la}
+use Rattle.mc_model_machine.specs.Frame.{Frame, session_of, sw_of, with_la}
 use Rattle.mc_model_machine.specs.Primitives.{Done}
 use Rattle.mc_promise.specs.History.{with_event}
 use Rattle.mc_promise.specs.Outline.{Entry, BySelection, ByDelegation, is_direct, public_size, ExitShown, DeedShown}
 use Rattle.mc_promise.proofs.PublicBytes.{ins_byte, length_bytes, body_of_two, status_set, status_beside_la, status_beside_two, status_new}
-use Rattle.mc_purse.specs.Purse.{Event, Right, Wrong, Debited, Selected, Ended, comparison}
-use Rattle.mc_purse.specs.Laws.{RightLaw, wrong_since, AtMostThree, debited, debits, is_shown, KeepsSessions, AnswersDebit}
-use Rattle.mc_purse.proofs.Places.{PurseKept, PurseHolds, Cells, fixed_of, balance_of, less, one_more, IsFresh, IsZeroed, Sits, IsNoDebit, NoneStands, IsPaid, IsRight, IsOpen, HasTwo, Carries, Debits, purse_outline}
+use Rattle.mc_purse.specs.Purse.{Event, Debited, comparison}
+use Rattle.mc_purse.specs.Laws.{RightLaw, wrong_since, sum_of_debits, number_of_debits, is_shown}
+use Rattle.mc_purse.proofs.Places.{PurseKept, Cells, fixed_of, balance_of, less, one_more, IsFresh, IsZeroed, Sits, IsNoDebit, MadeNone, IsPaid, IsRight, IsOpen, HasTwo, Carries, Debits, purse_outline}
 use Rattle.mc_model_device.proofs.MapLemmas.{name_is_itself, same_name}
 
 -- ---- events
@@ -43,11 +42,11 @@ no_debit (BySelection a before) h p f z = λ small is.
     let set : (sub_blocks (take 1 (drop 1029 p)) (0x40 ∷ [])).z ≡ true = ap (λ (b : List ℕ). (sub_blocks b (0x40 ∷ [])).z) same in
     absurd (cc (sym set ∙ z))
 
-pub none_fresh : (e : Entry Event) (h : List Event) (p : List ℕ) → IsFresh e h p → NoneStands e h
+pub none_fresh : (e : Entry Event) (h : List Event) (p : List ℕ) → IsFresh e h p → MadeNone e h
 none_fresh ByDelegation h p f = tt
 none_fresh (BySelection a before) h p f = λ small is. f.0
 
-pub none_else : (e : Entry Event) (h : List Event) → IsNoDebit e → NoneStands e h
+pub none_else : (e : Entry Event) (h : List Event) → IsNoDebit e → MadeNone e h
 none_else ByDelegation h n = tt
 none_else (BySelection a before) h n = λ small is. absurd (n small is)
 
@@ -91,9 +90,10 @@ right_is : (p q x y : ℕ) → p < 256 → q < 256 → x < 256 → y < 256 → n
 right_is p q x y hp hq hx hy e = (omega (arith, e), omega (arith, e))
 
 pub right_law : RightLaw
-right_law p q x y hp hq hx hy =
-    (λ z. right_is p q x y hp hq hx hy (eqb-true (num (bytes 2 (65536 + num (p ∷ q ∷ []) - num (x ∷ y ∷ [])))) 0 z),
-    λ e g. same_right x y p q e g)
+right_law p q x y hp hq hx hy = (
+  λ z. right_is p q x y hp hq hx hy (eqb-true (num (bytes 2 (65536 + num (p ∷ q ∷ []) - num (x ∷ y ∷ [])))) 0 z),
+  λ e g. same_right x y p q e g,
+)
 
 pub kept_compared : (z q : Bool) (h : List Event) (v : Cells) → PurseKept h (fixed_of v) → v.t + suc (wrong_since h) ≤ 3 → PurseKept (comparison z q ∷ h) (fixed_of v)
 kept_compared true q h v k few = record { size = refl; few = (omega arith, k.few); tries = omega (arith, few); pin = k.pin; balance = k.balance; number = k.number; sessions = k.sessions }
@@ -177,7 +177,7 @@ pub money_moves : (h : List Event) (v : Cells) (x y : ℕ) → PurseKept h (fixe
     → bytes_eq (v.b0 ∷ v.b1 ∷ v.c0 ∷ v.c1 ∷ []) (take 2 (paid_cells v x y) ++ drop 5 (paid_cells v x y)) ≡ false
 money_moves h v x y k =
     let c : ℕ = num (v.c0 ∷ v.c1 ∷ []) in
-    let small : c < 65536 = let is : c ≡ debits h % 65536 = k.number in omega (arith, is) in
+    let small : c < 65536 = let is : c ≡ number_of_debits h % 65536 = k.number in omega (arith, is) in
     false_from_ne_true (bytes_eq (v.b0 ∷ v.b1 ∷ v.c0 ∷ v.c1 ∷ []) (take 2 (paid_cells v x y) ++ drop 5 (paid_cells v x y)))
     (λ e. more_differs c small (sym (ap (λ (l : List ℕ). num (drop 2 l)) (same_name (v.b0 ∷ v.b1 ∷ v.c0 ∷ v.c1 ∷ []) (take 2 (paid_cells v x y) ++ drop 5 (paid_cells v x y)) e))))
 
@@ -185,7 +185,7 @@ paid_direct : (h : List Event) (v : Cells) (x y : ℕ) → PurseKept h (fixed_of
 paid_direct h v x y k shown low =
     let b : ℕ = balance_of v in
     let a : ℕ = num (x ∷ y ∷ []) in
-    let sum : b + debited h ≡ 1000 = k.balance in
+    let sum : b + sum_of_debits h ≡ 1000 = k.balance in
     let small : b ≤ 1000 = omega arith in
     let rest : num (less v x y) + a ≡ b = less_is b a small low in
     record {
@@ -194,7 +194,7 @@ paid_direct h v x y k shown low =
       tries = k.tries;
       pin = k.pin;
       balance = omega (arith, rest, sum);
-      number = more_is (num (v.c0 ∷ v.c1 ∷ [])) (debits h) k.number;
+      number = more_is (num (v.c0 ∷ v.c1 ∷ [])) (number_of_debits h) k.number;
       sessions = (refl, shown, k.sessions);
     }
 
@@ -206,22 +206,22 @@ kept_paid (BySelection a before) h p v x y k d low =
 
 -- ---- exits
 
--- a status other than 9000, where no debit stands of the command
-pub refused_exit : (e : Entry Event) (h : List Event) (p : List ℕ) (f : Frame) (d : Done) (high low : ℕ) → Sits e h (session_of f) → NoneStands e h → d.effect.public ≡ splice p 1039 (high ∷ low ∷ []) → public_size ≤ length p → 256 * high + low ≢ 0x9000
+-- a status other than 9000, where the command made no debit
+pub refused_exit : (e : Entry Event) (h : List Event) (p : List ℕ) (f : Frame) (d : Done) (high low : ℕ) → Sits e h (session_of f) → MadeNone e h → d.effect.public ≡ splice p 1039 (high ∷ low ∷ []) → public_size ≤ length p → 256 * high + low ≢ 0x9000
     → ExitShown purse_outline e h f d
 refused_exit ByDelegation h p f d high low sit none is size other = tt
 refused_exit (BySelection a before) h p f d high low sit none is size other =
     let sw : sw_of d.effect.public ≡ 256 * high + low = ap sw_of is ∙ status_set p high low size in
-    (sit, record { stands = λ small ins done. absurd (other (sym sw ∙ done)); refused = λ small ins differs. none small ins })
+    (sit, record { durable = λ small ins done. absurd (other (sym sw ∙ done)); refused = λ small ins differs. none small ins })
 
--- 9000, where a debit stands if the command is one
+-- 9000, where the debit was made if the command is one
 pub paid_exit : (e : Entry Event) (h : List Event) (p : List ℕ) (f : Frame) (d : Done) → Sits e h (session_of f) → IsPaid e h p → d.effect.public ≡ with_la p 2 → public_size ≤ length p → ExitShown purse_outline e h f d
 paid_exit ByDelegation h p f d sit done is size = tt
 paid_exit (BySelection a before) h p f d sit done is size =
     let sw : sw_of d.effect.public ≡ sw_of p = ap sw_of is ∙ status_beside_la p 2 size in
-    (sit, record { stands = λ small ins good. (done small ins).1; refused = λ small ins differs. absurd (differs (sw ∙ (done small ins).0)) })
+    (sit, record { durable = λ small ins good. (done small ins).1; refused = λ small ins differs. absurd (differs (sw ∙ (done small ins).0)) })
 
 -- any status, where the command is no debit
 pub other_exit : (e : Entry Event) (h : List Event) (f : Frame) (d : Done) → Sits e h (session_of f) → IsNoDebit e → ExitShown purse_outline e h f d
 other_exit ByDelegation h f d sit n = tt
-other_exit (BySelection a before) h f d sit n = (sit, record { stands = λ small ins good. absurd (n small ins); refused = λ small ins differs. absurd (n small ins) })
+other_exit (BySelection a before) h f d sit n = (sit, record { durable = λ small ins good. absurd (n small ins); refused = λ small ins differs. absurd (n small ins) })

@@ -1,12 +1,11 @@
 -- What holds before the instruction at each place of the purse, and its proof outline.
-use Rattle.std.proofs.Common.{◌≡◌, ℕ, suc, ◌+◌, ◌-◌, ◌%◌, ◌<◌, ◌≤◌, Bool, true, false, List, [], ◌∷◌, length, take, drop}
+use Rattle.std.proofs.Common.{◌≡◌, ℕ, suc, ◌+◌, ◌-◌, ◌%◌, ◌≤◌, Bool, true, false, List, [], ◌∷◌, length, take, drop}
 use Rattle.std.specs.Prelude.{⊤, ◌≢◌, ◌⊎◌, slice_index}
 use Rattle.mc_model_device.specs.Bytes.{bytes, num}
-use Rattle.mc_model_machine.specs.Apdu.{ApduParts}
 use Rattle.mc_model_machine.specs.Frame.{Frame, new_public, session_of, sw_of}
 use Rattle.mc_promise.specs.Outline.{Entry, BySelection, ByDelegation, Outline}
-use Rattle.mc_purse.specs.Purse.{Event, Right, Wrong, Debited, Selected, Ended, purse_name, purse_app, purse_watch}
-use Rattle.mc_purse.specs.Laws.{wrong_since, AtMostThree, debited, debits, is_shown, KeepsSessions, AnswersDebit}
+use Rattle.mc_purse.specs.Purse.{Event, Debited, purse_name, purse_app, purse_watch}
+use Rattle.mc_purse.specs.Laws.{wrong_since, AtMostThree, sum_of_debits, number_of_debits, is_shown, KeepsSessions, AnswersDebit}
 
 -- ---- what keeps and what holds
 
@@ -16,8 +15,8 @@ pub record PurseKept (h : List Event) (fixed : List ℕ) : Type 0 where
   pub few : AtMostThree h
   pub tries : slice_index fixed 2 + wrong_since h ≤ 3
   pub pin : take 2 (drop 3 fixed) ≡ 0x12 ∷ 0x34 ∷ []
-  pub balance : num (take 2 fixed) + debited h ≡ 1000
-  pub number : num (take 2 (drop 5 fixed)) ≡ debits h % 65536
+  pub balance : num (take 2 fixed) + sum_of_debits h ≡ 1000
+  pub number : num (take 2 (drop 5 fixed)) ≡ number_of_debits h % 65536
   pub sessions : KeepsSessions h
 
 -- the session byte is 0, or it is 1 and the PIN was shown
@@ -95,12 +94,12 @@ abbrev pub IsNoDebit : Entry Event → Type 0
 IsNoDebit (BySelection a before) = length a.body ≤ 1024 → a.ins ≢ 0x40
 IsNoDebit ByDelegation = ⊤
 
--- no debit stands of this command
-abbrev pub NoneStands : Entry Event → List Event → Type 0
-NoneStands (BySelection a before) h = length a.body ≤ 1024 → a.ins ≡ 0x40 → h ≡ before
-NoneStands ByDelegation h = ⊤
+-- the command made no debit
+abbrev pub MadeNone : Entry Event → List Event → Type 0
+MadeNone (BySelection a before) h = length a.body ≤ 1024 → a.ins ≡ 0x40 → h ≡ before
+MadeNone ByDelegation h = ⊤
 
--- a debit stands, if the command is one, and the status is 9000
+-- the debit was made, if the command is one, and the status is 9000
 abbrev pub IsPaid : Entry Event → List Event → List ℕ → Type 0
 IsPaid (BySelection a before) h p = length a.body ≤ 1024 → a.ins ≡ 0x40 → (sw_of p ≡ 0x9000) × (h ≡ Debited true (num a.body) ∷ before)
 IsPaid ByDelegation h p = ⊤
@@ -175,11 +174,11 @@ pub data PurseAt (e : Entry Event) (h : List Event) (p : List ℕ) : Frame → T
   at115 : (v : Cells) (s x y : ℕ) (dyn : List ℕ) (c z : Bool) → Debits e h p x y → num (x ∷ y ∷ []) ≤ balance_of v → PurseAt e h p (waiting_at true ((0, less v x y) ∷ (5, one_more v) ∷ []) 115 v (s ∷ x ∷ y ∷ dyn) 0x8001 c z)
   at118 : (v : Cells) (s : ℕ) (dyn : List ℕ) (c z : Bool) → IsPaid e h p → PurseAt e h p (frame_at 118 v (s ∷ dyn) 0x8001 c z)
   -- refusals
-  at121 : (v : Cells) (s : ℕ) (dyn : List ℕ) (c z : Bool) → NoneStands e h → PurseAt e h p (frame_at 121 v (s ∷ dyn) 0x8003 c z)
-  at123 : (v : Cells) (s : ℕ) (dyn : List ℕ) (c z : Bool) → NoneStands e h → PurseAt e h p (frame_at 123 v (s ∷ dyn) 0x8001 c z)
-  at126 : (v : Cells) (s : ℕ) (dyn : List ℕ) (c z : Bool) → NoneStands e h → PurseAt e h p (frame_at 126 v (s ∷ dyn) 0x8001 c z)
-  at129 : (v : Cells) (s : ℕ) (dyn : List ℕ) (c z : Bool) → NoneStands e h → PurseAt e h p (frame_at 129 v (s ∷ dyn) 0x8001 c z)
-  at132 : (v : Cells) (s : ℕ) (dyn : List ℕ) (c z : Bool) → NoneStands e h → PurseAt e h p (frame_at 132 v (s ∷ dyn) 0x8001 c z)
+  at121 : (v : Cells) (s : ℕ) (dyn : List ℕ) (c z : Bool) → MadeNone e h → PurseAt e h p (frame_at 121 v (s ∷ dyn) 0x8003 c z)
+  at123 : (v : Cells) (s : ℕ) (dyn : List ℕ) (c z : Bool) → MadeNone e h → PurseAt e h p (frame_at 123 v (s ∷ dyn) 0x8001 c z)
+  at126 : (v : Cells) (s : ℕ) (dyn : List ℕ) (c z : Bool) → MadeNone e h → PurseAt e h p (frame_at 126 v (s ∷ dyn) 0x8001 c z)
+  at129 : (v : Cells) (s : ℕ) (dyn : List ℕ) (c z : Bool) → MadeNone e h → PurseAt e h p (frame_at 129 v (s ∷ dyn) 0x8001 c z)
+  at132 : (v : Cells) (s : ℕ) (dyn : List ℕ) (c z : Bool) → MadeNone e h → PurseAt e h p (frame_at 132 v (s ∷ dyn) 0x8001 c z)
 
 -- the outline
 abbrev pub purse_outline : Outline Event

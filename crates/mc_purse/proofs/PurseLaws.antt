@@ -1,13 +1,12 @@
 -- What the purse promises follows from its outline.
 use Rattle.std.proofs.Common.{List, []}
 use Rattle.mc_model_play.specs.Play.{Step, plays, start}
-use Rattle.mc_promise.specs.Along.{OnFixed, OnAnswer, command_for}
 use Rattle.mc_promise.specs.Kept.{LineKept}
 use Rattle.mc_promise.proofs.Lines.{kept_along}
 use Rattle.mc_promise.proofs.FromOutline.{along_from, fixed_from}
-use Rattle.mc_purse.specs.Purse.{Event, purse_name, purse_watch, purse_app}
-use Rattle.mc_purse.specs.Laws.{KeepsGuesses, KeepsBalance, AnswersDebit, KeepsSessions, InEveryPlay, GuessesLaw, BooksLaw, SessionsLaw}
-use Rattle.mc_purse.proofs.Places.{PurseKept, purse_outline}
+use Rattle.mc_purse.specs.Purse.{Event, purse_watch, purse_app}
+use Rattle.mc_purse.specs.Laws.{KeepsGuesses, KeepsBalance, KeepsSessions, InEveryPlay, SaysGuesses, SaysBooks, SaysSessions, GuessesLaw, BooksLaw, SessionsLaw}
+use Rattle.mc_purse.proofs.Places.{purse_outline}
 use Rattle.mc_purse.proofs.PurseOutline.{purse_shown}
 
 -- what follows of each line
@@ -15,22 +14,20 @@ from_outline : (says : List Event → Step → List Event → Type 0) → ((h : 
 from_outline says f ls m ws =
     along_from purse_watch purse_app (LineKept purse_outline) says f [] (plays (start m) ls ws) (kept_along purse_outline purse_shown ls m ws)
 
-guesses : (h : List Event) (t : Step) (k : List Event) → LineKept purse_outline h t k → OnFixed purse_name (KeepsGuesses k) t.after
+guesses : (h : List Event) (t : Step) (k : List Event) → LineKept purse_outline h t k → SaysGuesses h t k
 guesses h t k x = fixed_from purse_outline k (KeepsGuesses k) t.after (λ fixed kept. record { few = kept.few; tries = kept.tries; pin = kept.pin }) x.0
 
-books : (h : List Event) (t : Step) (k : List Event) → LineKept purse_outline h t k
-    → OnFixed purse_name (KeepsBalance k) t.after × OnAnswer (AnswersDebit h k) (command_for purse_name t.before t.line) t.result
+books : (h : List Event) (t : Step) (k : List Event) → LineKept purse_outline h t k → SaysBooks h t k
 books h t k x = (fixed_from purse_outline k (KeepsBalance k) t.after (λ fixed kept. record { balance = kept.balance; number = kept.number }) x.0, x.1)
 
-sessions : (h : List Event) (t : Step) (k : List Event) → LineKept purse_outline h t k → OnFixed purse_name (λ fixed. KeepsSessions k) t.after
+sessions : (h : List Event) (t : Step) (k : List Event) → LineKept purse_outline h t k → SaysSessions h t k
 sessions h t k x = fixed_from purse_outline k (λ fixed. KeepsSessions k) t.after (λ fixed kept. kept.sessions) x.0
 
 pub guesses_law : GuessesLaw
-guesses_law = from_outline (λ h t k. OnFixed purse_name (KeepsGuesses k) t.after) guesses
+guesses_law = from_outline SaysGuesses guesses
 
 pub books_law : BooksLaw
-books_law =
-    from_outline (λ h t k. OnFixed purse_name (KeepsBalance k) t.after × OnAnswer (AnswersDebit h k) (command_for purse_name t.before t.line) t.result) books
+books_law = from_outline SaysBooks books
 
 pub sessions_law : SessionsLaw
-sessions_law = from_outline (λ h t k. OnFixed purse_name (λ fixed. KeepsSessions k) t.after) sessions
+sessions_law = from_outline SaysSessions sessions

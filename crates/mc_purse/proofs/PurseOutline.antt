@@ -1,6 +1,5 @@
 -- Each instruction of the purse leads from its place to the next ones.
-use Rattle.std.proofs.Common.{◌≡◌, ℕ, zero, suc, ◌+◌, ◌-◌, ◌/◌, ◌%◌, ◌^◌, ◌≤◌, Bool, true, false, List, [], ◌∷◌, ◌++◌, length, take, drop, Option, Some, None, refl, sym, ap, subst, ◌∙◌, arith, inl, inr}
-use Rattle.std.specs.Prelude.{⊤}
+use Rattle.std.proofs.Common.{ℕ, suc, ◌+◌, ◌-◌, ◌/◌, ◌%◌, ◌^◌, ◌≤◌, true, false, List, [], ◌∷◌, ◌++◌, length, take, drop, refl, arith, inl}
 use Rattle.std.proofs.lemmas.Bool.{ltb-false}
 use Rattle.mc_model_device.specs.Bytes.{num}
 use Rattle.mc_model_device.specs.Pieces.{touched_words}
@@ -9,10 +8,10 @@ use Rattle.mc_model_machine.specs.Code.{instruction_at}
 use Rattle.mc_model_machine.specs.Frame.{Frame, bytes_at, write_effect, too_many, new_public, session_of}
 use Rattle.mc_model_machine.specs.Primitives.{Around, later_causes, prim_effect}
 use Rattle.mc_model_machine.specs.Row.{causes, effect, row}
-use Rattle.mc_promise.specs.Outline.{Entry, BySelection, ByDelegation, is_direct, Shown, FitsEntry, public_size, FetchShown, first_frame_of}
-use Rattle.mc_purse.specs.Purse.{Event, Selected, Ended, purse_code}
+use Rattle.mc_promise.specs.Outline.{Entry, BySelection, ByDelegation, is_direct, IsShown, FitsEntry, public_size, FetchShown, first_frame_of}
+use Rattle.mc_purse.specs.Purse.{Event, purse_code}
 use Rattle.mc_purse.specs.Laws.{wrong_since}
-use Rattle.mc_purse.proofs.Places.{PurseKept, PurseHolds, Cells, fixed_of, balance_of, less, one_more, IsFresh, IsZeroed, Sits, PurseAt, at0, at4, at7, at11, at14, at18, at21, at24, at28, at32, at35, at40, at43, at47, at50, at54, at58, at62, at64, at67, at71, at75, at76, at80, at83, at88, at91, at95, at99, at102, at105, at109, at111, at115, at118, at121, at123, at126, at129, at132, purse_outline}
+use Rattle.mc_purse.proofs.Places.{PurseKept, PurseHolds, Cells, balance_of, IsFresh, IsZeroed, Sits, PurseAt, at0, at4, at7, at11, at14, at18, at21, at24, at28, at32, at35, at40, at43, at47, at50, at54, at58, at62, at64, at67, at71, at75, at76, at80, at83, at88, at91, at95, at99, at102, at105, at109, at111, at115, at118, at121, at123, at126, at129, at132, purse_outline}
 use Rattle.mc_purse.proofs.Facts.{still, moved, shows, no_debit, none_fresh, none_else, paid_else, some_try, spent_try, spent, kept_try, kept_compared, sits_compared, right_compared, right_tries, sits_right, opened, two_bytes, carried, paid, sits_paid, stored, paid_cells, money_moves, kept_paid, refused_exit, paid_exit, other_exit}
 
 one_less : (t w : ℕ) → t + suc w ≤ 3 → t + w ≤ 3
@@ -106,7 +105,7 @@ began a h fixed (s ∷ r ∷ rs) kept holds = absurd holds
 few_now : (h : List Event) (fixed : List ℕ) → PurseKept h fixed → wrong_since h ≤ 3
 few_now h fixed kept = omega (arith, kept.tries)
 
-pub purse_shown : Shown purse_outline
+pub purse_shown : IsShown purse_outline
 purse_shown =
     record {
       created = record { size = refl; few = tt; tries = omega arith; pin = refl; balance = refl; number = refl; sessions = tt };

@@ -1,5 +1,5 @@
 -- The three promises of the purse. A history has its newest event first.
-use Rattle.std.specs.Prelude.{◌≡◌, ◌≢◌, ℕ, zero, suc, ◌+◌, ◌%◌, ◌<◌, ◌≤◌, Bool, true, false, List, [], ◌∷◌, length, take, drop, slice_index, Option, ⊤}
+use Rattle.std.specs.Prelude.{◌≡◌, ◌≢◌, ℕ, suc, ◌+◌, ◌%◌, ◌<◌, ◌≤◌, Bool, true, false, List, [], ◌∷◌, length, take, drop, slice_index, Option, ⊤}
 use Rattle.mc_model_device.specs.Bytes.{num}
 use Rattle.mc_model_machine.specs.Apdu.{ApduParts}
 use Rattle.mc_model_machine.specs.Blocks.{sub_blocks}
@@ -38,33 +38,33 @@ pub record KeepsGuesses (h : List Event) (fixed : List ℕ) : Type 0 where
 
 -- ---- books
 
--- the amounts of the debits that stand
-abbrev pub debited : List Event → ℕ
-debited [] = 0
-debited (Right direct ∷ h) = debited h
-debited (Wrong ∷ h) = debited h
-debited (Debited direct amount ∷ h) = amount + debited h
-debited (Selected ∷ h) = debited h
-debited (Ended ∷ h) = debited h
+-- the amounts of the durable debits
+abbrev pub sum_of_debits : List Event → ℕ
+sum_of_debits [] = 0
+sum_of_debits (Right direct ∷ h) = sum_of_debits h
+sum_of_debits (Wrong ∷ h) = sum_of_debits h
+sum_of_debits (Debited direct amount ∷ h) = amount + sum_of_debits h
+sum_of_debits (Selected ∷ h) = sum_of_debits h
+sum_of_debits (Ended ∷ h) = sum_of_debits h
 
--- the number of debits that stand
-abbrev pub debits : List Event → ℕ
-debits [] = 0
-debits (Right direct ∷ h) = debits h
-debits (Wrong ∷ h) = debits h
-debits (Debited direct amount ∷ h) = suc (debits h)
-debits (Selected ∷ h) = debits h
-debits (Ended ∷ h) = debits h
+-- the number of durable debits
+abbrev pub number_of_debits : List Event → ℕ
+number_of_debits [] = 0
+number_of_debits (Right direct ∷ h) = number_of_debits h
+number_of_debits (Wrong ∷ h) = number_of_debits h
+number_of_debits (Debited direct amount ∷ h) = suc (number_of_debits h)
+number_of_debits (Selected ∷ h) = number_of_debits h
+number_of_debits (Ended ∷ h) = number_of_debits h
 
--- the balance is 1,000 less the amounts of the debits that stand, and the number of debits is how many stand, modulo 65,536
+-- the balance is 1,000 less the amounts of the durable debits, and the number of debits is theirs, modulo 65,536
 pub record KeepsBalance (h : List Event) (fixed : List ℕ) : Type 0 where
-  pub balance : num (take 2 fixed) + debited h ≡ 1000
-  pub number : num (take 2 (drop 5 fixed)) ≡ debits h % 65536
+  pub balance : num (take 2 fixed) + sum_of_debits h ≡ 1000
+  pub number : num (take 2 (drop 5 fixed)) ≡ number_of_debits h % 65536
 
--- A debit that is answered with 9000 stands, with the amount of its data; one that is answered with another status does not. (Data of a
--- command of bytes are at most 1,024.)
+-- A debit that is answered with 9000 is durable, with the amount of its data; one that is answered with another status is not made. (Data
+-- of a command of bytes are at most 1,024.)
 pub record AnswersDebit (before after : List Event) (a : ApduParts) (sw : ℕ) : Type 0 where
-  pub stands : length a.body ≤ 1024 → a.ins ≡ 0x40 → sw ≡ 0x9000 → after ≡ Debited true (num a.body) ∷ before
+  pub durable : length a.body ≤ 1024 → a.ins ≡ 0x40 → sw ≡ 0x9000 → after ≡ Debited true (num a.body) ∷ before
   pub refused : length a.body ≤ 1024 → a.ins ≡ 0x40 → sw ≢ 0x9000 → after ≡ before
 
 -- ---- sessions
@@ -78,7 +78,7 @@ is_shown (Debited direct amount ∷ h) = is_shown h
 is_shown (Selected ∷ h) = false
 is_shown (Ended ∷ h) = false
 
--- no debit stands but in a session in which the PIN was shown before it, and none that a delegation made
+-- each durable debit was made in a session in which the PIN was shown before it, and none by delegation
 abbrev pub KeepsSessions : List Event → Type 0
 KeepsSessions [] = ⊤
 KeepsSessions (Right direct ∷ h) = KeepsSessions h
@@ -87,7 +87,7 @@ KeepsSessions (Debited direct amount ∷ h) = (direct ≡ true) × (is_shown h �
 KeepsSessions (Selected ∷ h) = KeepsSessions h
 KeepsSessions (Ended ∷ h) = KeepsSessions h
 
--- ---- the laws: for every deck, every image and every list of refused writes, along the whole play
+-- ---- the laws: for every deck, every image and every list of failed writes, along the whole play
 
 -- what holds along every play in which each application that comes under the purse's name is the purse
 abbrev pub InEveryPlay : (List Event → Step → List Event → Type 0) → Type 0
@@ -95,14 +95,26 @@ InEveryPlay says =
     (ls : List (ℕ × DeckLine)) (m : List (List ℕ)) (ws : List (Option WornAt)) → Along purse_watch purse_app says [] (plays (start m) ls ws)
 
 -- a PIN is guessed with at most three tries
-abbrev pub GuessesLaw : Type 0
-GuessesLaw = InEveryPlay (λ before t after. OnFixed purse_name (KeepsGuesses after) t.after)
+abbrev pub SaysGuesses : List Event → Step → List Event → Type 0
+SaysGuesses before t after = OnFixed purse_name (KeepsGuesses after) t.after
 
--- balance and number are those of the debits that stand, and the answers say which stand
-abbrev pub BooksLaw : Type 0
-BooksLaw =
-    InEveryPlay (λ before t after. OnFixed purse_name (KeepsBalance after) t.after × OnAnswer (AnswersDebit before after) (command_for purse_name t.before t.line) t.result)
+-- balance and number are those of the durable debits, and the answers say which are
+abbrev pub SaysBooks : List Event → Step → List Event → Type 0
+SaysBooks before t after =
+    OnFixed purse_name (KeepsBalance after) t.after × OnAnswer (AnswersDebit before after) (command_for purse_name t.before t.line) t.result
 
 -- no debit without the PIN, and none by delegation
+abbrev pub SaysSessions : List Event → Step → List Event → Type 0
+SaysSessions before t after = OnFixed purse_name (λ fixed. KeepsSessions after) t.after
+
+-- the three laws
+abbrev pub GuessesLaw : Type 0
+GuessesLaw = InEveryPlay SaysGuesses
+
+-- the law of balance and number
+abbrev pub BooksLaw : Type 0
+BooksLaw = InEveryPlay SaysBooks
+
+-- the law of sessions
 abbrev pub SessionsLaw : Type 0
-SessionsLaw = InEveryPlay (λ before t after. OnFixed purse_name (λ fixed. KeepsSessions after) t.after)
+SessionsLaw = InEveryPlay SaysSessions

@@ -1,26 +1,11 @@
--- Computed plays: for each line of a deck whether what the three promises say holds after it.
-use Rattle.std.specs.Prelude.{ℕ, zero, suc, ◌+◌, ◌%◌, Bool, true, false, cond, not, ◌&&◌, ◌||◌, nat_le, ◌==◌, List, [], ◌∷◌, ◌++◌, take, drop, map, slice_index, bytes_eq, codes, replicate, Option, Some, None, Result, Ok, Err}
-use Rattle.mc_model_play.specs.declared.deck.DeckCause.{DeckCause}
-use Rattle.mc_model_device.specs.Bytes.{zeros, num, lookup}
-use Rattle.mc_model_device.specs.Card.{App, blocks_from, apps_of}
-use Rattle.mc_model_device.specs.Pieces.{touched_words}
-use Rattle.mc_model_device.specs.Image.{targets_1, targets_2, pairs}
-use Rattle.mc_model_device.specs.Layout.{layout, step_of, bad_block, bad_record}
-use Rattle.mc_model_card.specs.Units.{name_of}
-use Rattle.mc_model_machine.specs.Apdu.{apdu_read}
-use Rattle.mc_model_machine.specs.Frame.{bytes_at, write_effect, too_many}
-use Rattle.mc_model_machine.specs.Primitives.{later_causes, prim_effect}
-use Rattle.mc_model_machine.specs.Row.{causes, effect, row}
-use Rattle.mc_model_machine.specs.Chain.{turn_of_chain, run_of_chain}
-use Rattle.mc_model_card.specs.Items.{Change, Fixed, Created, Deleted, Item, Plain, Atomic}
-use Rattle.mc_model_card.specs.Manager.{manage}
-use Rattle.mc_model_card.specs.Commands.{command}
-use Rattle.mc_model_play.specs.DeckGrammar.{DeckLine, deck_read}
-use Rattle.mc_model_play.specs.Given.{apps_in}
-use Rattle.mc_model_play.specs.Play.{Step, start, send, play_at_power, step, plays, moves_of, steady_worn}
-use Rattle.mc_promise.specs.History.{Watch, after_run, after_step}
-use Rattle.mc_purse.specs.Purse.{Event, Right, Wrong, Debited, Selected, Ended, purse_name, purse_app, purse_watch, purse_text}
-use Rattle.mc_purse.specs.Laws.{wrong_since, debited, debits, is_shown}
+-- The three promises as tests, and decks of the purse and of wrong purses, whose plays are computed.
+use Rattle.std.specs.Prelude.{ℕ, ◌+◌, ◌%◌, Bool, true, ◌&&◌, nat_le, ◌==◌, List, [], ◌∷◌, ◌++◌, take, drop, slice_index, codes, Result, Ok, Err}
+use Rattle.mc_model_device.specs.Bytes.{num}
+use Rattle.mc_model_machine.specs.declared.assembler.AsmCause.{AsmCause}
+use Rattle.mc_model_machine.specs.Assembly.{assembly_of}
+use Rattle.mc_model_device.specs.Card.{App}
+use Rattle.mc_purse.specs.Purse.{Event, Right, Wrong, Debited, Selected, Ended, purse_app, purse_text}
+use Rattle.mc_purse.specs.Laws.{wrong_since, sum_of_debits, number_of_debits, is_shown}
 
 -- ---- the promises as tests
 
@@ -35,7 +20,7 @@ keeps_guesses h fixed = is_at_most_three h && nat_le (slice_index fixed 2 + wron
 
 -- the promise on balance and number
 abbrev pub keeps_balance : List Event → List ℕ → Bool
-keeps_balance h fixed = num (take 2 fixed) + debited h == 1000 && num (take 2 (drop 5 fixed)) == debits h % 65536
+keeps_balance h fixed = num (take 2 fixed) + sum_of_debits h == 1000 && num (take 2 (drop 5 fixed)) == number_of_debits h % 65536
 
 -- the promise on sessions
 abbrev pub keeps_sessions : List Event → Bool
@@ -45,70 +30,6 @@ keeps_sessions (Wrong ∷ h) = keeps_sessions h
 keeps_sessions (Debited direct amount ∷ h) = direct && is_shown h && keeps_sessions h
 keeps_sessions (Selected ∷ h) = keeps_sessions h
 keeps_sessions (Ended ∷ h) = keeps_sessions h
-
--- an application as a test: code, static bytes, session bytes and access list are those of the purse
-abbrev pub is_purse : App → Bool
-is_purse a = bytes_eq a.code purse_app.code && bytes_eq a.fixed purse_app.fixed && a.session == purse_app.session && a.deny == purse_app.deny
-
--- among these items what is created under the purse's name is the purse
-abbrev pub creates_only : List Item → Bool
-creates_only [] = true
-creates_only (Plain ∷ is) = creates_only is
-creates_only (Atomic w (Fixed m ps) ∷ is) = creates_only is
-creates_only (Atomic w (Created m a) ∷ is) = (not (bytes_eq m purse_name) || is_purse a) && creates_only is
-creates_only (Atomic w (Deleted m) ∷ is) = creates_only is
-
--- each line of a play does
-abbrev pub all_create_only : List Step → Bool
-all_create_only [] = true
-all_create_only (t ∷ ts) = creates_only t.whole && all_create_only ts
-
--- ---- a computed play
-
--- a test of the purse's static bytes, where it is there
-abbrev pub on_app : (List ℕ → Bool) → Option App → Bool
-on_app test None = true
-on_app test (Some a) = test a.fixed
-
--- for each line whether the test holds of the history and the static bytes after it
-abbrev pub tests_along : (List Event → List ℕ → Bool) → List Event → List Step → List Bool
-tests_along test h [] = []
-tests_along test h (t ∷ ts) =
-    on_app (test (after_step purse_watch t h)) (lookup (apps_in t.after) purse_name) ∷ tests_along test (after_step purse_watch t h) ts
-
--- the first line, counted from 0, after which the test does not hold
-abbrev pub first_false : ℕ → List Bool → Option ℕ
-first_false n [] = None
-first_false n (b ∷ bs) = cond b (first_false (n + 1) bs) (Some n)
-
--- the words of a small device
-abbrev pub blank : List (List ℕ)
-blank = replicate 512 (zeros 8)
-
--- the steps of a deck that was read
-abbrev pub steps_of : Result (List (ℕ × DeckLine)) (ℕ × DeckCause) → List Step
-steps_of (Ok ls) = plays (start blank) ls (steady_worn (start blank) ls)
-steps_of (Err e) = []
-
--- the number of the first line of a deck, counted from 0, after which a test does not hold
-unfoldable pub broken_at : (List Event → List ℕ → Bool) → List ℕ → Option ℕ
-unfolding deck_read name_of apdu_read touched_words targets_1 targets_2 pairs blocks_from apps_of layout step_of bad_block bad_record bytes_at write_effect too_many later_causes prim_effect causes effect row turn_of_chain run_of_chain manage command send play_at_power step plays moves_of steady_worn after_run
-broken_at test deck = first_false 0 (tests_along test [] (steps_of (deck_read deck)))
-
--- the premise of the promises, of a deck
-unfoldable pub brings_only_purse : List ℕ → Bool
-unfolding deck_read name_of apdu_read touched_words targets_1 targets_2 pairs blocks_from apps_of layout step_of bad_block bad_record bytes_at write_effect too_many later_causes prim_effect causes effect row turn_of_chain run_of_chain manage command send play_at_power step plays moves_of steady_worn
-brings_only_purse deck = all_create_only (steps_of (deck_read deck))
-
--- the history after lines
-abbrev pub history_after : List Event → List Step → List Event
-history_after h [] = h
-history_after h (t ∷ ts) = history_after (after_step purse_watch t h) ts
-
--- the history after a deck
-unfoldable pub history_of : List ℕ → List Event
-unfolding deck_read name_of apdu_read touched_words targets_1 targets_2 pairs blocks_from apps_of layout step_of bad_block bad_record bytes_at write_effect too_many later_causes prim_effect causes effect row turn_of_chain run_of_chain manage command send play_at_power step plays moves_of steady_worn after_run
-history_of deck = history_after [] (steps_of (deck_read deck))
 
 -- ---- decks
 
@@ -159,8 +80,8 @@ early_session =
     ++ codes "show: TESTN SB[2],1\n JUMP EQ,denied\n DECN SB[2],1\n SETB DB[0],1\n LOAD PB[0],2\n CMPN SB[3],2\n POPN 2\n JUMP NE,denied\n SETB SB[2],3\n EXIT\n"
     ++ debit_text
 
--- The amount is read again after the comparison, over a delegation: what is called may change the public segment. Its name stands
--- behind the seven static bytes.
+-- The amount is read again after the comparison, over a delegation: what is called may change the public segment. Its name
+-- follows the seven static bytes.
 abbrev pub reads_again : List ℕ
 reads_again =
     head_text ++ show_text
@@ -182,3 +103,38 @@ own_deck =
     ++ codes "select A000000100\napdu 80200000020000\napdu 80200000021234\ncut 5 FFFFFFFFFFFFFFFF\napdu 8040000002006402\npower\n"
     ++ codes "select A000000100\napdu 80200000020000\ncut 2 FFFFFFFFFFFFFFFF\napdu 80200000020000\npower\nselect A000000100\napdu 80200000020000\n"
     )
+
+-- four wrong PINs, each cut off before its try is spent
+abbrev pub late_try_deck : List ℕ
+late_try_deck =
+    deck_with late_try (
+    codes "cut 1 FFFFFFFFFFFFFFFF\napdu 80200000020000\npower\nselect A000000100\ncut 1 FFFFFFFFFFFFFFFF\napdu 80200000020001\npower\nselect A000000100\n"
+    ++ codes "cut 1 FFFFFFFFFFFFFFFF\napdu 80200000020002\npower\nselect A000000100\ncut 1 FFFFFFFFFFFFFFFF\napdu 80200000020003\n"
+    )
+
+-- four wrong PINs
+abbrev pub early_reset_deck : List ℕ
+early_reset_deck = deck_with early_reset (codes "apdu 80200000020000\napdu 80200000020001\napdu 80200000020002\napdu 80200000020003\n")
+
+-- a debit that is cut between its two writes
+abbrev pub unprotected_deck : List ℕ
+unprotected_deck = deck_with unprotected (codes "apdu 80200000021234\ncut 8 FFFFFFFFFFFFFFFF\napdu 80400000020064\n")
+
+-- a wrong PIN and a debit
+abbrev pub early_session_deck : List ℕ
+early_session_deck = deck_with early_session (codes "apdu 80200000020000\napdu 80400000020064\n")
+
+-- ---- the applications of the texts
+
+-- the code of a text
+abbrev pub code_of : Result (List ℕ) (ℕ × AsmCause) → List ℕ
+code_of (Ok c) = c
+code_of (Err e) = []
+
+-- the purse with another code
+abbrev pub app_of : List ℕ → App
+app_of text = record purse_app { code = code_of (assembly_of text) }
+
+-- and with a name that follows its static bytes
+abbrev pub app_with_name : List ℕ → App
+app_with_name text = record purse_app { code = code_of (assembly_of text); fixed = purse_app.fixed ++ 0x05 ∷ 0xA0 ∷ 0 ∷ 0 ∷ 2 ∷ 0 ∷ [] }

@@ -2,7 +2,7 @@
 
 //! A purse with a PIN and a debit, and its three promises in every play.
 
-mod counter;
+mod applied;
 mod worked;
 
 ghost use Rattle.std.specs.Prelude.{◌≡◌, Ok};
@@ -10,10 +10,10 @@ ghost use Rattle.mc_model_machine.specs.Assembly.{assembly_of};
 ghost use Rattle.mc_purse.specs.Purse.{purse_code, purse_text};
 ghost use Rattle.mc_purse.specs.Laws.{BooksLaw, GuessesLaw, RightLaw, SessionsLaw};
 
-pub use counter::{counter_keeps, Counter};
+pub use applied::{Counter, counter_keeps};
 pub use worked::{
-    amount_read_again_is_raised, early_reset_is_guessed, early_session_is_open, late_try_is_guessed, own_history, own_play,
-    unprotected_is_torn,
+    amount_read_again_is_raised, early_reset_is_guessed, early_session_is_open,
+    late_try_is_guessed, own_history, own_play, unprotected_is_torn,
 };
 
 /// The text of the purse is assembled to its code.
@@ -27,21 +27,21 @@ pub fn right_is_equal()
     ensures { RightLaw }
 {}
 
-/// In every play, whatever was cut or refused and whoever else is on the card, at most three wrong PINs are compared between two
+/// In every play, whatever is cut, whichever writes fail and whatever else is on the card, at most three wrong PINs are compared between two
 /// right ones and before the first, and static byte 2 never has more tries than 3 less what was wrong since; the PIN stays 1234. Comparisons count in
 /// every frame of the purse, also in one that another application began by delegation, and in commands that were cut later.
 pub fn guesses()
     ensures { GuessesLaw }
 {}
 
-/// In every play the balance is 1,000 less the amounts of the debits that stand, and the number of debits is how many stand, modulo
-/// 65,536. A debit that was answered with 9000 stands, and one that was answered with another status does not; one that abended, was
-/// cut or met a refused write has both halves or none.
+/// In every play the balance is 1,000 less the amounts of the durable debits, and the number of debits is theirs, modulo 65,536. A debit
+/// that was answered with 9000 is durable, and one that was answered with another status was not made; one that abended, was cut or met
+/// a failed write has both halves or none.
 pub fn books()
     ensures { BooksLaw }
 {}
 
-/// In every play no debit stands but in a session in which the PIN was shown before it, and none that another application made by
+/// In every play each durable debit was made in a session in which the PIN was shown before it, and none by another application through
 /// delegation.
 pub fn sessions()
     ensures { SessionsLaw }

@@ -1,55 +1,53 @@
-#![tactic(auto, unfolding(crate::specs::Worked::broken_at, crate::specs::Worked::history_of, crate::specs::Worked::brings_only_purse))]
+#![tactic(auto, unfolding(mc_promise::specs::Computed::broken_at, mc_promise::specs::Computed::history_of, mc_promise::specs::Computed::brings_only))]
 
-ghost use Rattle.std.specs.Prelude.{◌≡◌, ◌++◌, [], ◌∷◌, codes, Some, None, true};
-ghost use Rattle.mc_purse.specs.Purse.{Ended, Debited, Right, Selected, Wrong};
-ghost use Rattle.mc_purse.specs.Worked.{brings_only_purse, broken_at, deck_with, early_reset, early_session, history_of, keeps_balance, keeps_guesses, keeps_sessions, late_try, own_deck, two_firms, unprotected};
+ghost use Rattle.std.specs.Prelude.{◌≡◌, [], ◌∷◌, Some, None, true};
+ghost use Rattle.mc_promise.specs.Computed.{IsBroken, brings_only, broken_at, history_of};
+ghost use Rattle.mc_purse.specs.Purse.{Debited, Ended, Right, Selected, Wrong, purse_app, purse_name, purse_watch};
+ghost use Rattle.mc_purse.specs.Laws.{SaysBooks, SaysGuesses, SaysSessions};
+ghost use Rattle.mc_purse.specs.Worked.{app_of, app_with_name, early_reset, early_reset_deck, early_session, early_session_deck, keeps_balance, keeps_guesses, keeps_sessions, late_try, late_try_deck, own_deck, reads_again, two_firms, unprotected, unprotected_deck};
 
 /// The purse's own play, with cuts in a showing and in debits, keeps what it promises after every line; what is created in it under
 /// the purse's name is the purse.
 pub fn own_play()
-    ensures premise { brings_only_purse own_deck ≡ true }
-    ensures guesses { broken_at keeps_guesses own_deck ≡ None }
-    ensures balance { broken_at keeps_balance own_deck ≡ None }
-    ensures sessions { broken_at (λ h fixed. keeps_sessions h) own_deck ≡ None }
+    ensures premise { brings_only purse_name purse_app own_deck ≡ true }
+    ensures guesses { broken_at purse_watch keeps_guesses own_deck ≡ None }
+    ensures balance { broken_at purse_watch keeps_balance own_deck ≡ None }
+    ensures sessions { broken_at purse_watch (λ h fixed. keeps_sessions h) own_deck ≡ None }
 {}
 
-/// What is counted of it: two debits stand, the one that was cut after its commit among them.
+/// What is counted of it: two debits are durable, the one that was cut after its commit among them.
 pub fn own_history()
-    ensures { history_of own_deck
+    ensures { history_of purse_watch own_deck
         ≡ Wrong ∷ Selected ∷ Ended ∷ Ended ∷ Wrong ∷ Selected ∷ Ended ∷ Ended ∷ Debited true 100 ∷ Right true ∷ Wrong ∷ Selected ∷ Ended ∷ Ended
         ∷ Debited true 100 ∷ Right true ∷ Selected ∷ [] }
 {}
 
 /// Where the try is counted after the comparison, four wrong PINs are compared, each cut off before its try is spent.
 pub fn late_try_is_guessed()
-    ensures { broken_at keeps_guesses (deck_with late_try (
-        codes "cut 1 FFFFFFFFFFFFFFFF\napdu 80200000020000\npower\nselect A000000100\ncut 1 FFFFFFFFFFFFFFFF\napdu 80200000020001\npower\nselect A000000100\n" ++
-        codes "cut 1 FFFFFFFFFFFFFFFF\napdu 80200000020002\npower\nselect A000000100\ncut 1 FFFFFFFFFFFFFFFF\napdu 80200000020003\n"
-        )) ≡ Some 6 }
+    ensures at { broken_at purse_watch keeps_guesses late_try_deck ≡ Some 6 }
+    ensures law { IsBroken purse_watch (app_of late_try) SaysGuesses late_try_deck }
 {}
 
 /// Where the tries are set back before the comparison, a fourth wrong PIN is compared.
 pub fn early_reset_is_guessed()
-    ensures { broken_at keeps_guesses (deck_with early_reset (
-        codes "apdu 80200000020000\napdu 80200000020001\napdu 80200000020002\napdu 80200000020003\n"
-        )) ≡ Some 5 }
+    ensures at { broken_at purse_watch keeps_guesses early_reset_deck ≡ Some 5 }
+    ensures law { IsBroken purse_watch (app_of early_reset) SaysGuesses early_reset_deck }
 {}
 
 /// Where balance and number are not written as one, a cut between the two leaves a balance without its debit.
 pub fn unprotected_is_torn()
-    ensures { broken_at keeps_balance (deck_with unprotected (
-        codes "apdu 80200000021234\ncut 8 FFFFFFFFFFFFFFFF\napdu 80400000020064\n"
-        )) ≡ Some 7 }
+    ensures at { broken_at purse_watch keeps_balance unprotected_deck ≡ Some 7 }
+    ensures law { IsBroken purse_watch (app_of unprotected) SaysBooks unprotected_deck }
 {}
 
-/// Where the session byte is set before the PIN is looked at, a debit stands after a wrong PIN.
+/// Where the session byte is set before the PIN is looked at, a debit is made after a wrong PIN.
 pub fn early_session_is_open()
-    ensures { broken_at (λ h fixed. keeps_sessions h) (deck_with early_session (
-        codes "apdu 80200000020000\napdu 80400000020064\n"
-        )) ≡ Some 6 }
+    ensures at { broken_at purse_watch (λ h fixed. keeps_sessions h) early_session_deck ≡ Some 6 }
+    ensures law { IsBroken purse_watch (app_of early_session) SaysSessions early_session_deck }
 {}
 
 /// Where the amount is read again after the comparison, over a delegation, what is called raises it above the balance.
 pub fn amount_read_again_is_raised()
-    ensures { broken_at keeps_balance two_firms ≡ Some 8 }
+    ensures at { broken_at purse_watch keeps_balance two_firms ≡ Some 8 }
+    ensures law { IsBroken purse_watch (app_with_name reads_again) SaysBooks two_firms }
 {}

@@ -1,4 +1,4 @@
--- The entries of a line account for it: after each the words stand for the play that was stopped there.
+-- The entries of a line account for it: after each of them the words hold the state of the play that was stopped there.
 use Rattle.std.proofs.Common.{◌≡◌, ℕ, zero, suc, ◌+◌, ◌≤◌, List, [], ◌∷◌, length, Option, Some, None, refl, ◌∙◌, ap, subst, arith}
 use Rattle.std.specs.Prelude.{slice_set}
 use Rattle.std.specs.List.{AllByRecursion}
@@ -14,7 +14,7 @@ use Rattle.mc_model_device.specs.PowerUp.{Base, OnCard, AtFault, base_of, pendin
 use Rattle.mc_model_play.specs.Play.{Warm, State, Hot, StandsForState, StandsForBase, StandsAtEach, state_after_stop}
 use Rattle.mc_store.specs.Power.{base_of_words, HoldsBase}
 
--- ---- words that stand for a state
+-- ---- words that hold a state
 
 pub base_card : (f : Option (Cause × ℕ)) (m : List (List ℕ)) (c : Card) → base_of f m ≡ OnCard c → (f ≡ None) × (means m ≡ c)
 base_card None m c h = (refl, cc)
@@ -36,7 +36,7 @@ stands_hot m w r = (base_stands w.base m w r.base r.owed, λ some. ap pending_jo
 
 -- ---- the entries of a list
 
--- wherever one of some writes stops, and whatever word it leaves, the words stand for the play that was stopped there
+-- wherever one of the writes stops, and whatever word it leaves, the words hold the state of the play that was stopped there
 abbrev pub StopsStand : List (List ℕ) → State → ℕ × DeckLine → ℕ → List (ℕ × List ℕ) → Type 0
 StopsStand m s l j ws = (k : ℕ) (x : List ℕ) → 1 ≤ k → k ≤ length ws → length x ≡ 8 → StandsForState (image_after_stop m ws k x) (state_after_stop s l (j + k) x)
 

@@ -1,4 +1,4 @@
--- What lists of writes make of a bench: its words, its tape, its counts, and which write a fuse stops.
+-- What a list of writes changes in a bench: its words, its tape, its counts, and the write that a fuse stops.
 use Rattle.std.proofs.Common.{◌≡◌, ℕ, zero, suc, ◌+◌, ◌-◌, ◌<◌, true, List, [], ◌∷◌, ◌++◌, length, take, Option, Some, None, Ok, Err, refl, sym, ◌∙◌, ap, subst, inl, inr, arith, append_assoc}
 use Rattle.std.specs.Prelude.{slice_index_or, slice_set}
 use Rattle.std.specs.List.{AllByRecursion}
@@ -14,7 +14,7 @@ use Rattle.mc_script.proofs.EntryLemmas.{stopped_entry, torn_behind, entries_beh
 use Rattle.mc_script.proofs.AccountLemmas.{SizesTo}
 use Rattle.mc_script.proofs.FuseLemmas.{after_writes, Past, falls_at, past_on, past_first, past_none, none_due, cut_due, worn_due}
 
--- ---- what comes of a list
+-- ---- the result of a list
 
 -- the calls of a bench, which no write changes
 pub record SameCalls (b c : BenchState) : Type 0 where
@@ -25,23 +25,24 @@ pub record SameCalls (b c : BenchState) : Type 0 where
   pub wears : c.wears ≡ b.wears
   pub steady : c.steady ≡ b.steady
 
--- n writes were done: the fuses came nearer by as many, and lie behind them
+-- n writes were done: each fuse is n writes nearer, and stops a write after these
 pub record Burnt (b : BenchState) (n : ℕ) (c : BenchState) : Type 0 where
   pub is : c ≡ record b { cut = after_writes n b.cut; worn = after_writes n b.worn }
   pub cut : Past n b.cut
   pub worn : Past n b.worn
 
--- one count rose, by the kind of a stop
+-- one count rose, according to the kind of a stop
 abbrev pub Raises : Stop → DeviceState → DeviceState → Type 0
 Raises Off d e = (e.cuts ≡ next_count d.cuts) × (e.faults ≡ d.faults)
 Raises Worn d e = (e.cuts ≡ d.cuts) × (e.faults ≡ next_count d.faults)
 
--- the fuse of a stop at write k: a cut is that of the cut fuse, and a refused write comes before it, and on a steady bench by the other
+-- the fuse that made a stop at write k: a cut is due to the cut fuse; a failed write comes before the cut, and on a steady bench is due
+-- to the other fuse
 abbrev pub FusedAt : Stop → BenchState → ℕ → List ℕ → Type 0
 FusedAt Off b k x = b.cut ≡ Some (record { writes = k; fill = x })
 FusedAt Worn b k x = Past k b.cut × (b.steady ≡ true → b.worn ≡ Some (record { writes = k; fill = x }))
 
--- a list that stopped at its write k, which left x
+-- a list of writes that stopped at its write k, which left the word x
 pub record HaltedList (d : DeviceState) (b : BenchState) (ws : List (ℕ × List ℕ)) (k : ℕ) (s : Stop) (x : List ℕ) (e : DeviceState) (c : BenchState) : Type 0 where
   pub size : length x ≡ 8
   pub words : e.words ≡ image_after_stop d.words ws k x
@@ -50,7 +51,7 @@ pub record HaltedList (d : DeviceState) (b : BenchState) (ws : List (ℕ × List
   pub fused : FusedAt s b k x
   pub calls : SameCalls b c
 
--- ---- a stop behind n writes
+-- ---- a stop after n writes
 
 module _ {D : Type 0} (wrote : D → ℕ → List ℕ → Answer → D → Type 0) where
   -- n writes of a list were done, and the next one stopped
@@ -95,13 +96,13 @@ module _ {D : Type 0} (wrote : D → ℕ → List ℕ → Answer → D → Type 
             (0, record { high = omega arith; middle = d; before = refl; stopped = subst (λ (t : Stop). wrote d p.0 p.1 (Err t) e) (same_stop stop.0 s (Err s) stop.2 refl) stop.1 })
       ]
 
-  -- a list of writes that stopped, stopped at one of them
+  -- a list of writes that stopped did so at one of its writes
   pub makes_stop : (ws : List (ℕ × List ℕ)) (d e : D) (s : Stop) → Makes wrote d ws (Err s) e → (k : ℕ) × StoppedAtWrite wrote d ws k s e
   makes_stop ws d e s made = let r = behind ws d e s made in (suc r.0, behind_at d e ws r.0 s r.1)
 
 -- ---- benches
 
--- after a write the bench's fuses are nearer, whatever came of it
+-- after a write the bench's fuses are nearer, whatever its result
 after_stop : (b c : BenchState) (s : Stop) → Burns b (Err s) c → SameCalls b c
 after_stop b c s h =
     elim h [
@@ -113,7 +114,7 @@ raises : (s : Stop) (d m e : DeviceState) → m.cuts ≡ d.cuts → m.faults ≡
 raises Off d m e cuts faults h = (h.0 ∙ ap next_count cuts, h.1 ∙ faults)
 raises Worn d m e cuts faults h = (h.0 ∙ cuts, h.1 ∙ ap next_count faults)
 
--- what a write left that stopped
+-- the device as a write that stopped left it
 pub record LeftBy (d : DeviceState) (at : ℕ) (s : Stop) (e : DeviceState) : Type 0 where
   pub left : List ℕ
   pub size : length left ≡ 8
@@ -175,7 +176,7 @@ module _ {D : Type 0} (state : D → DeviceState) (bench : D → BenchState) (wr
     (obeys : (d : D) (at : ℕ) (w : List ℕ) (a : Answer) (e : D) → (state d).on ≡ true → wrote d at w a e → Wrote (state d) at w a (state e))
     (burns : (d : D) (at : ℕ) (w : List ℕ) (a : Answer) (e : D) → (state d).on ≡ true → wrote d at w a e → BenchWrote (state d) (bench d) at a (state e) (bench e))
     (fits : (d : D) (at : ℕ) (w : List ℕ) (a : Answer) (e : D) → wrote d at w a e → (at < length (state d).words) × (length w ≡ 8)) where
-  -- a list that was done: no fuse fell
+  -- a list that was done: no fuse was due
   pub burnt : (ws : List (ℕ × List ℕ)) (d e : D) → (state d).on ≡ true → Makes wrote d ws (Ok tt) e → Burnt (bench d) (length ws) (bench e)
   burnt [] d e on made = record { is = ap bench made; cut = past_none (bench d).cut; worn = past_none (bench d).worn }
   burnt (p ∷ ws) d e on made =
@@ -227,7 +228,7 @@ module _ {D : Type 0} (state : D → DeviceState) (bench : D → BenchState) (wr
         },
       )
 
-  -- a list that stopped at its write k: what that write left, and the fuse that it was
+  -- a list that stopped at its write k: the word that this write left, and the fuse that was due
   pub halted : (ws : List (ℕ × List ℕ)) (d e : D) (k : ℕ) (s : Stop) → (state d).on ≡ true → StoppedAtWrite wrote d ws k s e → (x : List ℕ) × HaltedList (state d) (bench d) ws k s x (state e) (bench e)
   halted ws d e zero s on r = let low = r.low in absurd (omega (arith, low))
   halted ws d e (suc n) s on r = halted_behind ws d e n s on (at_behind wrote d e ws n s r)

@@ -1,4 +1,4 @@
--- A card over another device that means the same, and the words of a card that runs.
+-- A card over another device with the same state, and the words of a card that runs.
 use Rattle.std.proofs.Common.{◌≡◌, ℕ, true, ◌&&◌, Some, refl, sym, ◌∙◌, ap, subst}
 use Rattle.std.specs.Option.{ForSome}
 use Rattle.std.specs.Prelude.{is_none, ◌==◌, length}
@@ -31,7 +31,7 @@ going_parts d n h =
     and_parts d.on (is_closed (look d.words)) p2.0
 
 module _ {N : Type 0} (state : N → DeviceState) where
-  -- a card that runs has power, and owes nothing
+  -- a card that runs has power, and recovery has no write left to make
   pub ready_on : (c : Card N) → IsReadyCard state c → (state (device_in c)).on ≡ true
   ready_on c r = (going_parts (state (device_in c)) (count_of c.store) r.up.going).0
 
@@ -53,7 +53,7 @@ module _ {N : Type 0} (state : N → DeviceState) where
         idle = r.idle;
       }
 
-  -- a card over another device that means the same shows the same
+  -- a card over another device with the same state has the same session state
   pub seat_over : (c u : Card N) → u ≡ with_device c (device_in u) → state (device_in u) ≡ state (device_in c) → seat_in state u ≡ seat_in state c
   seat_over c u is same = ap (λ (x : Card N). seat_in state x) is ∙ seat_with c (device_in u) same
 

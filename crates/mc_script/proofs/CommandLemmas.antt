@@ -1,4 +1,4 @@
--- Commands on a card: answered, run and told, and one behind the other.
+-- Commands on a card: answered, run with their turns recorded, and one after the other.
 use Rattle.std.proofs.Common.{◌≡◌, ℕ, suc, true, false, List, [], ◌∷◌, ◌++◌, Option, Some, None, Result, Ok, Err, refl, sym, ap, subst, ◌∙◌}
 use Rattle.std.specs.Prelude.{option_map, OnOk, IsSome}
 use Rattle.mc_model_device.specs.declared.device.Stop.{Stop}
@@ -54,7 +54,7 @@ pub command_is : (c : model.Card) (seat : Seat) (bytes : List ℕ) (budget : ℕ
 unfolding command
 command_is c seat bytes budget a s routed is = passed_is c seat budget (route bytes) a s routed is
 
--- the session bytes of a run stay with the selection
+-- the session bytes of a run are kept with the selection
 session_stays : (seat : Seat) (s : Selected) (session : List ℕ) → seat.selected ≡ Some s → with_session session seat ≡ record seat { selected = Some (record { name = s.name; session = session }) }
 session_stays seat s session is = ap (λ (o : Option Selected). record seat { selected = option_map {T = Selected} (λ s. record s { session = session }) o }) is
 
@@ -62,7 +62,7 @@ module _ {N R : Type 0} (state : N → DeviceState) (wrote : N → ℕ → List 
     (obeys : (d : N) (at : ℕ) (w : List ℕ) (a : Answer) (e : N) → (state d).on ≡ true → wrote d at w a e → Wrote (state d) at w a (state e))
     (told : R → List Turn → R → Type 0) (silent : (r : R) → told r [] r)
     (onward : (q r s : R) (ts us : List Turn) → told q ts r → told r us s → told q (ts ++ us) s) where
-  -- what is told of a command without turns
+  -- nothing is recorded of a command without turns
   quiet_tells : (result : Result Outcome Stop) (c d : Card N) (r : Command) (h : Commanded state wrote c r result d) (q : R) → TellsTurns state wrote told c h.made.writes [] result d q q
   quiet_tells (Ok o) c d r h q = silent q
   quiet_tells (Err s) c d r h q =
@@ -113,17 +113,17 @@ module _ {N R : Type 0} (state : N → DeviceState) (wrote : N → ℕ → List 
       subst (λ (k : Command). RanAndTold state wrote told c k result d q r) (sym (command_is (card_in state c) (seat_in state c) bytes budget h.apdu h.selected h.routed h.is))
       (begun_by result c m d h.selected (run (card_in state c).apps (h.selected).name (h.selected).session h.apdu budget) q r h.device h.seat h.is ran)
 
-  -- what the rest of a run does and tells, the whole command does and tells
+  -- the rest of a run, whose writes and recorded turns make up those of the whole command
   pub record RunLeads (c : Card N) (bytes : List ℕ) (budget : ℕ) (q : R) (n : ℕ) (m : Card N) (p : R) : Type 0 where
     pub chain : Chain
     pub runs : RunsChain state m chain n
     pub rest : (result : Result Outcome Stop) (d : Card N) (r : R) → RunOf state wrote obeys told silent onward (run_of_chain n chain) m result d p r → RanAndTold state wrote told c (due state c bytes budget) result d q r
 
-  -- what a turn does, whatever chain it is
+  -- what a turn does, whichever its chain
   abbrev pub TurnDoes : Card N → Result CodeTurn Stop → Card N → Type 0
   TurnDoes m result d = (ch : Chain) (left : ℕ) → RunsChain state m ch left → ChainTurned state wrote m ch left (turn_of left ch) result d
 
-  -- what is told of a turn, whatever words it wrote
+  -- what the runner records of a turn, whatever number of words it wrote
   abbrev pub TellsTurn : R → CodeTurn → R → Type 0
   TellsTurn p turn r = (wrote : Option ℕ) → told p (turn_value turn wrote ∷ []) r
 
@@ -165,7 +165,7 @@ pub some_is : {A : Type 0} (o : Option A) → (o ≡ None → ⊥) → IsSome o
 some_is None h = absurd (h refl)
 some_is (Some x) h = refl
 
--- a command whose turns may all be told
+-- a command of which the runner may record every turn
 pub untold_ran : {N R : Type 0} (state : N → DeviceState) (wrote : N → ℕ → List ℕ → Answer → N → Type 0) (told : R → List Turn → R → Type 0) (result : Result Outcome Stop) (c d : Card N) (k : Command) (q r : R) → ((ts : List Turn) → told q ts r) → Commanded state wrote c k result d → RanAndTold state wrote told c k result d q r
 untold_ran state wrote told (Ok o) c d k q r any h = record { commanded = h; tells = any k.turns }
 untold_ran state wrote told (Err s) c d k q r any h =

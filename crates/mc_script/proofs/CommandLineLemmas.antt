@@ -49,7 +49,7 @@ module _ {N R : Type 0} (state : N → DeviceState) (bench : N → BenchState) (
     (obeys : (d : N) (at : ℕ) (w : List ℕ) (a : Ended) (e : N) → (state d).on ≡ true → wrote d at w a e → Wrote (state d) at w a (state e))
     (burns : (d : N) (at : ℕ) (w : List ℕ) (a : Ended) (e : N) → (state d).on ≡ true → wrote d at w a e → BenchWrote (state d) (bench d) at a (state e) (bench e))
     (fits : (d : N) (at : ℕ) (w : List ℕ) (a : Ended) (e : N) → wrote d at w a e → (at < length (state d).words) × (length w ≡ 8)) (told : R → List Turn → R → Type 0) where
-  -- what a line asks of a card in a play
+  -- the command that a line sends to a card in a play
   asked : Card N → Warm → CardLine → command.Command
   asked c w cmd = line_command (card_in state c) (seat_in state c) w.budget (deck_line_of cmd)
 
@@ -66,7 +66,7 @@ module _ {N R : Type 0} (state : N → DeviceState) (bench : N → BenchState) (
       moves_hot cmd w n ∙ ap (λ (v : Live). moves (card_line n (deck_line_of cmd) w v w.base None).items) on.live
       ∙ ap (λ (b : Base). moves (card_line n (deck_line_of cmd) w (Running (seat_in state c)) b None).items) on.base
 
-  -- wherever a write of the line stops, the words stand for the play
+  -- wherever a write of the line stops, the words hold the state of the play
   command_stands : (c : Card N) (w : Warm) (n : ℕ) (cmd : CardLine) (ws : List (ℕ × List ℕ)) → IsCardOfPlay state c w.base w.live → StopsAtEach (card_in state c) (asked c w cmd).items (state (device_in c)).words ws
       → StopsStand (state (device_in c)).words (Hot w) (n, deck_line_of cmd) 0 ws
   command_stands c w n cmd ws on stops k x low high size =
@@ -79,7 +79,7 @@ module _ {N R : Type 0} (state : N → DeviceState) (bench : N → BenchState) (
       subst (λ (i : ℕ). StandsForState m (state_after_stop (Hot w) (n, deck_line_of cmd) i x)) (sym zero_on)
       (subst (λ (u : Step). StandsForState m u.after) (sym (step_is c w n cmd (Some (record { at = k; left = x })) on)) here)
 
-  -- the card that is armed is asked the same
+  -- the card with the armed device gets the same command
   asked_over : (c u : Card N) (k : ℕ) (w : Warm) (cmd : CardLine) (result : _) (e : Card N) (before after : R) → u ≡ with_device c (device_in u) → state (device_in u) ≡ state (device_in c) → k ≡ w.budget
       → RanAndTold state wrote told u (line_command (card_in state u) (seat_in state u) k (deck_line_of cmd)) result e before after → RanAndTold state wrote told u (asked c w cmd) result e before after
   unfolding asked
@@ -200,7 +200,7 @@ module _ {N R : Type 0} (state : N → DeviceState) (bench : N → BenchState) (
       let step_on : step (Hot w) (n, l) (worn_entry i x (Some how)) ≡ command_step n l w card r (Some t) = step_is c w n cmd (worn_entry i x (Some how)) on ∙ ap (λ (y : Option StopAt). command_step n l w card r y) by.hit in
       (worn_entry i x (Some how), lined state bench told p q (Hot w) (n, l) (worn_entry i x (Some how)) (command_step n l w card r (Some t)) (Some ans) before after step_on stepped tells.2)
 
-  -- the same, of the power and the answer that are these
+  -- a command that was stopped, with the power and the answer that follow from the stop
   pub command_stopped_as : (p : Player N) (u e f : Card N) (cmd : CardLine) (o : Outcome) (how : Stop) (pw : Power) (ans : Answer) (before after : R) → p.power ≡ power.On → IsReadyCard state p.card → state (device_in u) ≡ state (device_of p)
       → bench (device_in u) ≡ armed_bench p.armed (bench (device_of p)) → u ≡ with_device p.card (device_in u)
       → RanAndTold state wrote told u (line_command (card_in state u) (seat_in state u) p.budget (deck_line_of cmd)) (Err how) e before after

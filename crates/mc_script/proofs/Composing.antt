@@ -1,4 +1,4 @@
--- Plays of lines put together, for those who play decks line by line: what a play led to, one more line, and the whole play with its laws.
+-- Composition of plays, for code that plays decks line by line: the result of a play, one more line, and the whole play with its laws.
 use Rattle.std.proofs.Common.{◌≡◌, ℕ, List, [], ◌∷◌, ◌++◌, length, Option, refl, arith, sym, ap, subst, ◌∙◌, append_assoc, append-nil, length-append}
 use Rattle.mc_model_device.specs.Device.{DeviceState, BenchState}
 use Rattle.mc_model_machine.specs.Chain.{Turn}
@@ -16,12 +16,12 @@ use Rattle.mc_script.proofs.LinedLemmas.{at_stands}
 
 -- ---- steps
 
--- the state behind lines, and behind more of them
+-- the state after lines, and after more of them
 pub last_append : (s : State) (ts us : List Step) → last_state s (ts ++ us) ≡ last_state (last_state s ts) us
 last_append s [] us = refl
 last_append s (t ∷ ts) us = last_append t.after ts us
 
--- the steps of lines, and of those behind them
+-- the steps of lines, and of the lines after them
 pub plays_append : (s : State) (ls ks : List (ℕ × DeckLine)) (ws vs : List (Option WornAt)) → length ws ≡ length ls → plays s (ls ++ ks) (ws ++ vs) ≡ plays s ls ws ++ plays (last_state s (plays s ls ws)) ks vs
 plays_append s [] ks [] vs many =
     ap (λ (ts : List Step). ts ++ plays (last_state s ts) ks vs) (sym (plays_none s))
@@ -35,7 +35,7 @@ plays_append s (l ∷ ls) ks (w ∷ ws) vs many =
     ∙ ap (λ (ts : List Step). t ∷ ts) rest
     ∙ ap (λ (ts : List Step). ts ++ plays (last_state s ts) ks vs) (sym first)
 
--- ---- what a play leads to
+-- ---- the state that a play leads to
 
 -- no line was played
 pub leads_none : (s : State) (a : Bench) → LeadsTo s [] [] a s a
@@ -61,7 +61,7 @@ leads_on s ls ws a u b l w c h line =
           (subst (λ (v : List (Option WornAt)). Played s (ls ++ l ∷ ks) v a d) (sym (append_assoc ws (w ∷ []) vs)) (h.rest (l ∷ ks) (w ∷ vs) d (played_on u l w ks vs b c d line played)));
     }
 
--- lines were played behind lines
+-- lines were played after lines
 pub leads_then : (s : State) (ls : List (ℕ × DeckLine)) (ws : List (Option WornAt)) (a : Bench) (u : State) (b : Bench) (ks : List (ℕ × DeckLine)) (vs : List (Option WornAt)) (t : State) (c : Bench)
     → LeadsTo s ls ws a u b → LeadsTo u ks vs b t c → LeadsTo s (ls ++ ks) (ws ++ vs) a t c
 leads_then s ls ws a u b ks vs t c h k =
@@ -92,7 +92,7 @@ pub played_laws : (m : List (List ℕ)) (ls : List (ℕ × DeckLine)) (ws : List
 played_laws m ls ws a b h = play_law ls m ws h.possible
 
 module _ {N : Type 0} (state : N → DeviceState) (bench : N → BenchState) where
-  -- the same of a player that stands for the state that was reached
+  -- the lines that were played so far are a play, if the player is at the state that was reached
   pub player_played : (s : State) (ls : List (ℕ × DeckLine)) (ws : List (Option WornAt)) (a : Bench) (u : State) (p : Player N) → LeadsTo s ls ws a u (bench_of state bench p) → IsPlayerAt state bench p u
       → Played s ls ws a (bench_of state bench p)
   player_played s ls ws a u p h at = leads_played s ls ws a u (bench_of state bench p) h (at_stands state bench p u at) at.unfused
@@ -108,7 +108,7 @@ module _ {N : Type 0} (state : N → DeviceState) (bench : N → BenchState) whe
 
   -- ---- the loop over the lines of a deck
 
-  -- a player that has played the lines before these, from a state
+  -- a player that has played, from a state, the lines before those that are left
   pub record Between (s : State) (ls : List (ℕ × DeckLine)) (a : Bench) (left : List (ℕ × DeckLine)) (p : Player N) : Type 0 where
     pub front : List (ℕ × DeckLine)
     pub worn : List (Option WornAt)

@@ -21,7 +21,7 @@ use Rattle.mc_script.proofs.PlayLemmas.{from_on, from_cut, from_none}
 use Rattle.mc_script.proofs.LinedLemmas.{at_stands}
 
 module _ {N : Type 0} (state : N → DeviceState) (bench : N → BenchState) where
-  -- a player at a state of a play, with these lines left: whatever they play from there, all lines play from the start
+  -- a player at a state of a play, with the given lines left: a play of these from here makes the play of all lines from the start
   pub record PlayReached (f : Step → List ℕ) (s : State) (ls : List (ℕ × DeckLine)) (a : Bench) (x : Sunk) (left : List (ℕ × DeckLine)) (p : Player N) (y : Sunk) : Type 0 where
     pub here : State
     pub at : IsPlayerAt state bench p here
@@ -36,7 +36,7 @@ module _ {N : Type 0} (state : N → DeviceState) (bench : N → BenchState) whe
   reached_end f s ls a x y p h = h.rest (Ok tt) (bench_of state bench p) y (from_none f h.here (bench_of state bench p) y (at_stands state bench p h.here h.at) h.at.unfused)
 
   module _ {R : Type 0} (told : R → List Turn → R → Type 0) (text : List Turn → List ℕ) where
-    -- what is written of a line, whatever turns were told in it
+    -- the text that is written of a line, whatever turns its runner recorded
     abbrev pub TellsLine : Player N → R → R → ℕ → Option Answer → Sunk → Result (Unit {0}) WriteFault → Sunk → Type 0
     TellsLine q before after n answer y r z = (ts : List Turn) → told before ts after → Puts y (text ts ++ line_text n (option_map (answer_value state q) answer)) r z
 
@@ -61,7 +61,7 @@ module _ {N : Type 0} (state : N → DeviceState) (bench : N → BenchState) whe
               h.rest r c u (from_on (text_by text) h.here (n, l) line.0 left (bench_of state bench p) (bench_of state bench q) c y z u r line.1.stepped.played puts rest);
         }
 
-    -- a line whose text failed
+    -- a line whose text was not wholly written
     pub reached_cut : (s : State) (ls : List (ℕ × DeckLine)) (a : Bench) (x y z : Sunk) (left : List (ℕ × DeckLine)) (n : ℕ) (l : DeckLine) (p q : Player N) (before after : R) (answer : Option Answer) (e : WriteFault)
         → PlayReached (text_by text) s ls a x ((n, l) ∷ left) p y → LineDone state bench told p l before after answer q → TellsLine q before after n answer y (Err e) z → PlaysFrom (text_by text) s ls a x (Err e) (bench_of state bench q) z
     reached_cut s ls a x y z left n l p q before after answer e h done tells =
@@ -71,13 +71,13 @@ module _ {N : Type 0} (state : N → DeviceState) (bench : N → BenchState) whe
         h.rest (Err e) (bench_of state bench q) z
         (from_cut (text_by text) h.here (n, l) line.0 left (bench_of state bench p) (bench_of state bench q) y z e end.played (at_stands state bench q (step h.here (n, l) line.0).after end.at) end.at.unfused puts)
 
-    -- a line whose text failed, by what the script says
+    -- a line whose text was not wholly written, by the result of the writer
     pub reached_failed : (s : State) (ls : List (ℕ × DeckLine)) (a : Bench) (x y z : Sunk) (left : List (ℕ × DeckLine)) (n : ℕ) (l : DeckLine) (p q : Player N) (before after : R) (answer : Option Answer) (r : Result (Unit {0}) WriteFault)
         → is_err r ≡ true → PlayReached (text_by text) s ls a x ((n, l) ∷ left) p y → LineDone state bench told p l before after answer q → TellsLine q before after n answer y r z → PlaysFrom (text_by text) s ls a x r (bench_of state bench q) z
     reached_failed s ls a x y z left n l p q before after answer (Ok u) failed h done tells = absurd (cc failed)
     reached_failed s ls a x y z left n l p q before after answer (Err e) failed h done tells = reached_cut s ls a x y z left n l p q before after answer e h done tells
 
-    -- a line whose text was written, by what the script says
+    -- a line whose text was written, by the result of the writer
     pub reached_written : (s : State) (ls : List (ℕ × DeckLine)) (a : Bench) (x y z : Sunk) (left : List (ℕ × DeckLine)) (n : ℕ) (l : DeckLine) (p q : Player N) (before after : R) (answer : Option Answer) (r : Result (Unit {0}) WriteFault)
         → is_err r ≡ false → PlayReached (text_by text) s ls a x ((n, l) ∷ left) p y → LineDone state bench told p l before after answer q → TellsLine q before after n answer y r z → PlayReached (text_by text) s ls a x left q z
     reached_written s ls a x y z left n l p q before after answer (Ok u) written h done tells = reached_on s ls a x y z left n l p q before after answer h done tells
@@ -85,7 +85,7 @@ module _ {N : Type 0} (state : N → DeviceState) (bench : N → BenchState) whe
 
 -- ---- places of a deck
 
--- the line at a place, and those behind it
+-- the line at a place, and those after it
 pub next_line : (ls : List (ℕ × DeckLine)) (i n : ℕ) (l : DeckLine) → slice_get ls i ≡ Some (n, l) → drop i ls ≡ (n, l) ∷ drop (i + 1) ls
 next_line [] i n l e = absurd (cc e)
 next_line (k ∷ ls) zero n l e = let same : k ≡ (n, l) = cc e in ap (λ (k : ℕ × DeckLine). k ∷ ls) same
@@ -93,11 +93,11 @@ next_line (k ∷ ls) (suc i) n l e =
     let one : suc i + 1 ≡ suc (i + 1) = omega arith in
     next_line ls i n l e ∙ ap (λ j. (n, l) ∷ drop j (k ∷ ls)) (sym one)
 
--- behind the last line there is none
+-- after the last line there is none
 pub no_line : (ls : List (ℕ × DeckLine)) (i : ℕ) → length ls ≤ i → drop i ls ≡ []
 no_line ls i h = drop_of_length-le ls h
 
--- a script that ended well had no fault
+-- a writer that ended without an error had no fault
 pub no_fault : (f : Option WriteFault) → is_err (write_result f) ≡ false → f ≡ None
 no_fault None h = refl
 no_fault (Some f) h = absurd (cc h)

@@ -1,4 +1,4 @@
--- The entries that a list of writes leaves on a tape, and the words that they make.
+-- The entries that a list of writes leaves on a tape, and the words that follow from them.
 use Rattle.std.proofs.Common.{◌≡◌, ℕ, zero, suc, ◌+◌, ◌<◌, List, [], ◌∷◌, ◌++◌, length, take, Some, None, refl, ◌∙◌, ap, arith}
 use Rattle.std.specs.Prelude.{slice_index_or, slice_set}
 use Rattle.mc_model_device.specs.declared.device.Stop.{Stop}
@@ -7,7 +7,7 @@ use Rattle.mc_model_device.specs.Image.{image_with}
 use Rattle.mc_model_device.specs.Stopped.{image_after_stop}
 use Rattle.mc_model_play.specs.Play.{EndsAs, worn_in, worn_entry, laid_entries}
 
--- ---- a list that stopped behind n writes
+-- ---- a list that stopped after n writes
 
 -- the entry of the write that stopped
 abbrev pub stopped_entry : List (ℕ × List ℕ) → ℕ → List ℕ → Stop → Entry

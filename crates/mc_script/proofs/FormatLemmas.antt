@@ -59,7 +59,7 @@ module _ {N : Type 0} (state : N → DeviceState) (bench : N → BenchState) whe
         };
       }
 
-  -- a player that has begun stands for no state before
+  -- a player before its first power line is at no state of a play after it
   begun : (p : Player N) (w : Warm) → p.power ≡ power.Cold → IsPlayerAt state bench p (Hot w) → ⊥
   begun p w cold at = subst (λ (x : Power). LiveIs state x p.card w.base w.live) cold at.stands.0
 

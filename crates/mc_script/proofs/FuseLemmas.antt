@@ -1,15 +1,15 @@
--- How writes spend a fuse, and what the fuses of a bench make of the next write.
+-- How writes bring a fuse nearer, and the result of the next write under the fuses of a bench.
 use Rattle.std.proofs.Common.{◌≡◌, ℕ, zero, suc, ◌+◌, ◌<◌, ◌≤◌, Bool, true, false, List, Option, Some, None, Ok, Err, refl, ◌∙◌, ap, arith}
 use Rattle.std.specs.Prelude.{slice_set}
 use Rattle.mc_model_device.specs.declared.device.Stop.TheVariants.{Off, Worn}
 use Rattle.mc_model_device.specs.Device.{DeviceState, Fuse, nearer, fuse_after_write, fill_at, next_fill, due, NextWriteEnds}
 
--- a fuse after so many writes
+-- a fuse after n writes
 abbrev pub after_writes : ℕ → Option Fuse → Option Fuse
 after_writes zero f = f
 after_writes (suc n) f = after_writes n (fuse_after_write f)
 
--- the write of a fuse lies behind so many writes
+-- the write that a fuse stops comes after the first n writes
 abbrev pub Past : ℕ → Option Fuse → Type 0
 Past n None = Unit {0}
 Past n (Some f) = 1 ≤ f.writes → n < f.writes
@@ -23,7 +23,7 @@ spent_none (suc n) = spent_none n
 none_falls : (n : ℕ) (y : List ℕ) → next_fill (after_writes n None) ≡ Some y → ⊥
 none_falls n y h = let e : after_writes n None ≡ None = spent_none n in absurd (cc (rw e at h))
 
--- a fuse that falls after n writes had the number n + 1, and leaves its own fill
+-- a fuse that is due after n writes had the number n + 1, and leaves its own fill
 falls_here : (n k : ℕ) (x y : List ℕ) → next_fill (after_writes n (Some (record { writes = k; fill = x }))) ≡ Some y → (k ≡ n + 1) × (x ≡ y)
 falls_here zero zero x y h = absurd (cc h)
 falls_here zero (suc zero) x y h = (refl, cc)
@@ -41,7 +41,7 @@ pub falls_at : (n : ℕ) (f : Option Fuse) (y : List ℕ) → next_fill (after_w
 falls_at n None y h = absurd (none_falls n y h)
 falls_at n (Some f) y h = let e : f ≡ record { writes = n + 1; fill = y } = fuse_falls n f y h in cc
 
--- a fuse that does not fall after n writes lies behind one more
+-- a fuse that is not due after n writes stops a later write than the next
 lies_on : (n k : ℕ) (x : List ℕ) → next_fill (after_writes n (Some (record { writes = k; fill = x }))) ≡ None → n < k → n + 1 < k
 lies_on zero zero x h low = absurd (omega arith)
 lies_on zero (suc zero) x h low = absurd (cc h)
@@ -54,7 +54,7 @@ pub past_on : (n : ℕ) (f : Option Fuse) → next_fill (after_writes n f) ≡ N
 past_on n None h past = tt
 past_on n (Some f) h past = λ low. lies_on n f.writes f.fill h (past low)
 
--- a fuse that does not fall on the first of some writes
+-- a fuse that is not due at the first of a list of writes
 past_next : (n k : ℕ) (x : List ℕ) → fill_at k x ≡ None → Past n (nearer k x) → 1 ≤ k → suc n < k
 past_next n zero x h past low = absurd (omega arith)
 past_next n (suc zero) x h past low = absurd (cc h)
@@ -85,7 +85,7 @@ cut_due None (Some x) false d at e h = absurd (cc h)
 cut_due None None true d at e h = absurd (cc h)
 cut_due None None false d at e h = absurd (h refl)
 
--- a write that was refused was not due to the cut fuse, and on a steady bench it was due to the other
+-- a failed write was not due to the cut fuse, and on a steady bench it was due to the other
 pub worn_due : (c w : Option (List ℕ)) (steady : Bool) (d : DeviceState) (at : ℕ) (e : DeviceState) → NextWriteEnds (due c w) steady d at (Err Worn) e
     → (c ≡ None) × (steady ≡ true → (x : List ℕ) × (w ≡ Some x) × (e.words ≡ slice_set d.words at x))
 worn_due (Some x) w steady d at e h = absurd (cc h.0)

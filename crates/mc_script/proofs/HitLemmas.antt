@@ -1,4 +1,4 @@
--- The stop that hits a line, by the fuse that was handed to the bench.
+-- The stop that hits a line, by the fuse that was passed to the bench.
 use Rattle.std.proofs.Common.{◌≡◌, ℕ, ◌<◌, ◌≤◌, ◌+◌, Bool, true, false, cond, ◌&&◌, List, Option, Some, None, refl, sym, ◌∙◌, ap, subst, arith}
 use Rattle.std.specs.Prelude.{nat_le}
 use Rattle.std.proofs.lemmas.Bool.{le-leb, lt-leb}
@@ -21,7 +21,7 @@ use Rattle.std.proofs.lemmas.Option.{same_Some, none-some}
 
 -- ---- no stop
 
--- so many device writes reach no armed stop
+-- m device writes reach no armed stop
 pub record NotHit (a : play.Armed) (m : ℕ) : Type 0 where
   pub hit : hit_of a m None ≡ None
   pub steady : (l : DeckLine) → None ≡ steady_at a l m
@@ -41,7 +41,7 @@ not_hit (armed.Fail k) b m can cut worn =
 
 -- ---- a stop
 
--- a stop at write k, which left x, is the stop that hits a card line of so many device writes
+-- a stop at write k, which left the word x, is the stop that hits a card line of m device writes
 pub record HitBy (a : play.Armed) (m : ℕ) (t : Bool) (s : Stop) (k : ℕ) (x : List ℕ) (w : Option WornAt) : Type 0 where
   pub hit : hit_of a m w ≡ Some (record { kind = s; at = k; left = x })
   pub first : s ≡ Worn → IsBeforeCut a k
@@ -94,7 +94,7 @@ hit_by (armed.Fail j) b m Worn k x can free fused high =
           (worn_hits (is_card_line l) (nat_le k m) here card (le-leb k m high)));
     }
 
--- a cut at write k is told by its number
+-- the answer after a cut at write k has the number k
 pub place_is : (a : Armed) (b : BenchState) (k : ℕ) (x : List ℕ) → IsUnfused b → (armed_bench a b).cut ≡ Some (record { writes = k; fill = x }) → cut_place a ≡ k
 place_is armed.Not b k x free h = absurd (uncut b (record { writes = k; fill = x }) free h)
 place_is (armed.Cut j fill) b k x free h = (same_fuse k j x fill h).0
@@ -102,7 +102,7 @@ place_is (armed.Fail j) b k x free h = absurd (uncut b (record { writes = k; fil
 
 -- ---- calls
 
--- the calls of a line: so many of `power`, and the fuse of the armed stop
+-- the calls of a line: n of `power`, and the fuse of the armed stop
 pub record CallsOf (b : BenchState) (n : ℕ) (a : play.Armed) (c : BenchState) : Type 0 where
   pub powers : c.powers ≡ count_after_rises b.powers n
   pub pokes : c.pokes ≡ b.pokes

@@ -7,7 +7,7 @@ use Rattle.mc_model_device.specs.PowerUp.{Base, OnCard, AtFault}
 use Rattle.mc_model_play.specs.ReadyAgain.{is_cold}
 use Rattle.mc_script.specs.Counting.{line_powers, line_pokes, total}
 
--- a line pokes no word, and the play behind it has begun
+-- a line pokes no word, and the play after it is past the first power line
 record PlayBegun (t : Step) : Type 0 where
   pokes : line_pokes t.before t.line ≡ 0
   after : is_cold t.after ≡ false
@@ -18,7 +18,7 @@ card_begun n l s (Running seat) (AtFault cause p) w = record { pokes = refl; aft
 card_begun n l s Unpowered base w = record { pokes = refl; after = refl }
 card_begun n l s Muted base w = record { pokes = refl; after = refl }
 
--- so does every line from the first power line on
+-- every line from the first power line on pokes no word
 begun : (s : State) (l : ℕ × DeckLine) (w : Option WornAt) → is_cold s ≡ false → PlayBegun (step s l w)
 unfolding step
 begun (Cold m b a) l w hot = absurd (cc hot)
@@ -35,7 +35,7 @@ begun (Hot s) (n, line.Select x) w hot = card_begun n (line.Select x) s s.live s
 begun (Hot s) (n, line.Delete x) w hot = card_begun n (line.Delete x) s s.live s.base w
 begun (Hot s) (n, line.Apdu x) w hot = card_begun n (line.Apdu x) s s.live s.base w
 
--- and every play
+-- every play from the first power line on pokes no word
 none_poked : (s : State) (ls : List (ℕ × DeckLine)) (ws : List (Option WornAt)) → is_cold s ≡ false → total (λ t. line_pokes t.before t.line) (plays s ls ws) ≡ 0
 unfolding plays
 none_poked s [] ws hot = refl
@@ -45,7 +45,7 @@ none_poked s (l ∷ ls) ws hot =
     let one = first.pokes in
     omega (arith, one, rest)
 
--- power does not come in a line, or the play behind it has begun
+-- either power does not come in a line, or the play after it is past the first power line
 powers_first : (s : State) (l : ℕ × DeckLine) (w : Option WornAt) → (line_powers (step s l w).line ≡ 0) ⊎ (is_cold (step s l w).after ≡ false)
 unfolding step
 powers_first (Cold m b a) (n, line.Format) w = inl refl
@@ -62,11 +62,11 @@ powers_first (Cold m b a) (n, line.Delete x) w = inl refl
 powers_first (Cold m b a) (n, line.Apdu x) w = inl refl
 powers_first (Hot s) l w = inr (begun (Hot s) l w refl).after
 
--- power does not come in a line, or no word is poked behind it
+-- either power does not come in a line, or no word is poked after it
 abbrev pub PokesFirst : Step → List Step → Type 0
 PokesFirst t ts = (line_powers t.line ≡ 0) ⊎ (total (λ u. line_pokes u.before u.line) ts ≡ 0)
 
--- so it is in every play
+-- in every play no word is poked after power came
 pub pokes_first : (s : State) (l : ℕ × DeckLine) (w : Option WornAt) (ls : List (ℕ × DeckLine)) (ws : List (Option WornAt)) → PokesFirst (step s l w) (plays (step s l w).after ls ws)
 pokes_first s l w ls ws =
     elim (powers_first s l w) [

@@ -13,12 +13,12 @@ use Rattle.mc_text.specs.Texts.{Sunk}
 use Rattle.mc_script.specs.Plays.{Bench, PlaysFrom, PlaysDeck, SumsDeck}
 use Rattle.mc_script.specs.Sums.{SumsFrom}
 
--- the first of some lines carry bytes where all of them do
+-- the first lines of a list carry bytes if all of them do
 front_bytes : (ls ks : List (ℕ × DeckLine)) → AllByRecursion (λ l. IsLine l.1) (ls ++ ks) → AllByRecursion (λ l. IsLine l.1) ls
 front_bytes [] ks h = tt
 front_bytes (l ∷ ls) ks h = (h.0, front_bytes ls ks h.1)
 
--- a deck that was played from the words of a device, and what is left of the device and of the sink
+-- a deck that was played from the words of a device, and the device and the sink as it left them
 pub play_deck : (f : Step → List ℕ) (ls : List (ℕ × DeckLine)) (a : Bench) (x : Sunk) (r s : Result (Unit {0}) WriteFault) (b c : Bench) (y z : Sunk) → PlaysFrom f (start a.device.words) ls a x r b y
     → IsImage a.device.words → AllByRecursion (λ l. IsLine l.1) ls → b.device ≡ c.device → b.bench ≡ c.bench → y.taken ≡ z.taken → y.faults ≡ z.faults → r ≡ s → PlaysDeck f ls a x s c z
 play_deck f ls a x r s b c y z h image bytes device bench taken faults result =

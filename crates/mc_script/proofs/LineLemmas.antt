@@ -30,7 +30,7 @@ statics_on state power.On c aid fixed h = let f = found (lookup (card_in state c
     found None h = absurd (cc h)
     found (Some a) h = (a, refl, cc)
 
--- what a `dump` line tells of static bytes that are shown
+-- the result of a `dump` line for static bytes that are shown
 pub statics_told : {N : Type 0} (state : N → DeviceState) (p : Player N) (aid fixed : List ℕ) → statics_in state p aid ≡ Some fixed → answer_value state p (answer.Dump aid) ≡ Static fixed
 statics_told state p aid fixed h =
     let on = statics_on state p.power p.card aid fixed h in

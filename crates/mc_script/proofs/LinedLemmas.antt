@@ -1,4 +1,4 @@
--- A line by the step that its play takes, with what is told of its turns.
+-- A line by the step that its play takes, with its recorded turns.
 use Rattle.std.proofs.Common.{◌≡◌, ℕ, List, [], Option, Some, refl, sym, subst}
 use Rattle.mc_model_device.specs.Device.{DeviceState, BenchState}
 use Rattle.mc_model_play.specs.DeckGrammar.{DeckLine}
@@ -11,7 +11,7 @@ use Rattle.mc_script.specs.Players.{device_of, IsPlayerAt}
 use Rattle.mc_script.specs.Lines.{Stepped, SilentDone, Lined, LineDone}
 use Rattle.mc_script.proofs.AccountLemmas.{stands_hot}
 
--- the words of a player stand for the state of its play
+-- the words of a player hold the state of its play
 pub at_stands : {N : Type 0} (state : N → DeviceState) (bench : N → BenchState) (p : Player N) (s : State) → IsPlayerAt state bench p s → StandsForState (state (device_of p)).words s
 at_stands state bench p (Cold m b a) at = at.stands.1
 at_stands state bench p (Hot w) at = stands_hot (state (device_of p)).words w at.stands.1
@@ -24,7 +24,7 @@ module _ {N R : Type 0} (state : N → DeviceState) (bench : N → BenchState) (
       let h : Stepped state bench p s l w (step s l w) r q = subst (λ (u : Step). Stepped state bench p s l w u r q) (sym is) stepped in
       record { stepped = h; tells = subst (λ (u : Step). told before (shown_turns u.turns u.stop) after) (sym is) tells }
 
-  -- a line without turns, of which nothing is told
+  -- a line without turns, of which nothing is recorded
   pub silent_line : ((r : R) → told r [] r) → (p q : Player N) (l : DeckLine) (x : Option Answer) (r : R) → SilentDone state bench p l x q → LineDone state bench told p l r r x q
   silent_line silent p q l x r done s n at =
       let h = done s n at in
@@ -35,7 +35,7 @@ module _ {N R : Type 0} (state : N → DeviceState) (bench : N → BenchState) (
   pub given_line : (p q : Player N) (l k : DeckLine) (x : Option Answer) (before after : R) → l ≡ k → LineDone state bench told p k before after x q → LineDone state bench told p l before after x q
   given_line p q l k x before after is done = subst (λ (y : DeckLine). LineDone state bench told p y before after x q) (sym is) done
 
-  -- a line of a player that is left as it was but for one step, and its answer
+  -- a line, with another expression for its player and its answer
   pub same_line : (p q e : Player N) (l : DeckLine) (x y : Answer) (before after : R) → LineDone state bench told p l before after (Some x) q → e ≡ q → y ≡ x → LineDone state bench told p l before after (Some y) e
   same_line p q e l x y before after done same says =
       subst (λ (z : Player N). LineDone state bench told p l before after (Some y) z) (sym same) (subst (λ (z : Answer). LineDone state bench told p l before after (Some z) q) (sym says) done)

@@ -7,12 +7,12 @@ use Rattle.std.proofs.Math.Seq.{drop-length}
 use Rattle.mc_model_device.specs.Bytes.{bytes2}
 use Rattle.mc_model_play.specs.Play.{piece_commands}
 
--- nothing is sent of nothing
+-- no command is sent for an empty section
 pub pieces_none : (n ins at : ℕ) → piece_commands n ins at [] ≡ []
 pieces_none zero ins at = refl
 pieces_none (suc n) ins at = refl
 
--- some bytes are not none
+-- a list with a first byte is not empty
 some_bytes : (x : ℕ) (b : List ℕ) → (length (x ∷ b) == 0) ≡ false
 some_bytes x b = grind (arith, nat_tests)
 
@@ -22,7 +22,7 @@ piece_first n ins at x b =
     let rest = (0xBE ∷ ins ∷ (bytes2 at ++ length (take 248 (x ∷ b)) ∷ take 248 (x ∷ b))) ∷ piece_commands n ins (at + 248) (drop 248 (x ∷ b)) in
     ap (λ (k : Bool). cond k [] rest) (some_bytes x b)
 
--- more fuel sends no more
+-- more fuel makes no more commands
 pub pieces_fuel : (n m ins at : ℕ) (b : List ℕ) → length b ≤ n → length b ≤ m → piece_commands n ins at b ≡ piece_commands m ins at b
 pieces_fuel n m ins at [] hn hm = pieces_none n ins at ∙ sym (pieces_none m ins at)
 pieces_fuel zero m ins at (x ∷ b) hn hm = absurd (omega (arith, hn))
@@ -33,7 +33,7 @@ pieces_fuel (suc n) (suc m) ins at (x ∷ b) hn hm =
     ∙ ap (λ (cs : List (List ℕ)). (0xBE ∷ ins ∷ (bytes2 at ++ length (take 248 (x ∷ b)) ∷ take 248 (x ∷ b))) ∷ cs) (pieces_fuel n m ins (at + 248) (drop 248 (x ∷ b)) (omega (arith, left, hn)) (omega (arith, left, hm)))
     ∙ sym (piece_first m ins at x b)
 
--- one piece of a section, and the pieces behind it, by its size
+-- one piece of a section, and the pieces after it, by its size
 piece_by : (ins at m : ℕ) (b p q : List ℕ) → length b ≢ 0 → (248 ≤ length b) ⊎ (length b ≤ 248) → m ≡ min (length b) 248 → p ≡ take m b → q ≡ drop m b
     → piece_commands (length b) ins at b ≡ (0xBE ∷ ins ∷ (bytes2 at ++ length p ∷ p)) ∷ piece_commands (length q) ins (at + length p) q
 piece_by ins at m [] p q some h size front back = absurd (some refl)
@@ -59,7 +59,7 @@ piece_by ins at m (x ∷ xs) p q some (inr short) size front back =
     let more : piece_commands (length xs) ins (at + 248) (drop 248 b) ≡ [] = ap (λ (c : List ℕ). piece_commands (length xs) ins (at + 248) c) gone ∙ pieces_none (length xs) ins (at + 248) in
     rw (whole, rest) (piece_first (length xs) ins at x xs ∙ ap (λ (c : List ℕ). c ∷ piece_commands (length xs) ins (at + 248) (drop 248 b)) head ∙ ap (λ (cs : List (List ℕ)). (0xBE ∷ ins ∷ (bytes2 at ++ length b ∷ b)) ∷ cs) more)
 
--- one piece of a section, and the pieces behind it
+-- one piece of a section, and the pieces after it
 pub pieces_next : (ins at m : ℕ) (b p q command : List ℕ) → length b ≢ 0 → m ≡ min (length b) 248 → p ≡ take m b → q ≡ drop m b → command ≡ 0xBE ∷ ins ∷ (bytes2 at ++ length p ∷ p)
     → piece_commands (length b) ins at b ≡ command ∷ piece_commands (length q) ins (at + length p) q
 pieces_next ins at m b p q command some size front back is =

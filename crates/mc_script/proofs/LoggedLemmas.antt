@@ -13,7 +13,7 @@ use Rattle.mc_script.specs.declared.writer.Telling.TheVariants.{Results, Turns}
 use Rattle.mc_script.specs.declared.writer.Writer.{Writer}
 use Rattle.mc_script.specs.Writers.{write_result, told_turns, turns_text, log_in, WriterKeeps}
 
--- no line is written of turns where only results are told
+-- no line is written of turns if only results are written
 none_told : (t : Telling) (ts : List Turn) → t ≡ Results → [] ≡ told_turns t ts
 none_told Results ts is = refl
 none_told Turns ts is = absurd (cc is)
@@ -23,12 +23,12 @@ keeps_untold taken faults w ts is =
     let log = log_in taken faults w in
     record { lines = subst (λ (us : List Turn). Logged log us log) (none_told w.telling ts is) (logged_none log); telling = refl; same = refl }
 
--- a line behind the turns of a log that had no fault
+-- a line after the turns of a log that had no fault
 pub line_behind : (f g : Option WriteFault) (a b c : Sunk) (ts : List Turn) (line : List ℕ) (r : Result (Unit {0}) WriteFault) → f ≡ None → g ≡ None → LoggedBy f a ts (record { out = b; fault = g }) → Puts b line r c → Puts a (turn_lines ts ++ line) r c
 line_behind f g a b c ts line r before after logged puts =
     puts_then c line r (subst (λ (h : Option WriteFault). LoggedBy None a ts (record { out = b; fault = h })) after (subst (λ (h : Option WriteFault). LoggedBy h a ts (record { out = b; fault = g })) before logged)) puts
 
--- what is written of turns, by what is told at the start
+-- the text of turns, for two writers that write the same of turns
 pub told_as : (t u : Telling) (ts : List Turn) (a : Sunk) (line : List ℕ) (r : Result (Unit {0}) WriteFault) (b : Sunk) → t ≡ u → Puts a (turns_text t ts ++ line) r b → Puts a (turns_text u ts ++ line) r b
 told_as t u ts a line r b same h = subst (λ (v : Telling). Puts a (turns_text v ts ++ line) r b) same h
 

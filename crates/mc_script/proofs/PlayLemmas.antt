@@ -1,4 +1,4 @@
--- A play of one line and a play of the lines behind it are one play.
+-- A play of one line and a play of the lines after it are one play.
 use Rattle.std.proofs.Common.{◌≡◌, ◌⊎◌, ℕ, zero, suc, ◌+◌, List, [], ◌∷◌, ◌++◌, Option, Some, None, Result, Ok, Err, refl, arith, sym, ap, subst, ◌∙◌, append_assoc, inl, inr}
 use Rattle.std.proofs.lemmas.List.{append-nil}
 use Rattle.mc_model_device.specs.Device.{DeviceState, BenchState, Entry, next_count}
@@ -24,7 +24,8 @@ pub raised_add : (n a b : ℕ) → count_after_rises n (a + b) ≡ count_after_r
 raised_add n zero b = let e : 0 + b ≡ b = omega arith in ap (λ k. count_after_rises n k) e
 raised_add n (suc a) b = let e : suc a + b ≡ suc (a + b) = omega arith in ap (λ k. count_after_rises n k) e ∙ raised_add (next_count n) a b
 
--- how often power had come when the last word was poked by some lines and those behind them: where power came, no word was poked behind it
+-- the number of times that power had come when the last word was poked, over lines and those after them: if power came, no word was poked
+-- after it
 poked_on : (b c : BenchState) (p q q' : ℕ) → c.powers ≡ count_after_rises b.powers p → c.poked ≡ when_poked b q → (p ≡ 0) ⊎ (q' ≡ 0) → when_poked c q' ≡ when_poked b (q + q')
 poked_on b c p q zero powers poked apart = let e : q ≡ q + 0 = omega arith in poked ∙ ap (λ n. when_poked b n) e
 poked_on b c p q (suc k) powers poked apart =
@@ -33,7 +34,7 @@ poked_on b c p q (suc k) powers poked apart =
       | inr none ↦ absurd (cc none)
     ]
 
--- the counts of lines, and of those behind them
+-- the counts of lines, and of the lines after them
 counts_on : (b c e : BenchState) (d f g : DeviceState) (p q k m p' q' k' m' : ℕ) → CountsCalls b d p q k m c f → CountsCalls c f p' q' k' m' e g → (p ≡ 0) ⊎ (q' ≡ 0) → CountsCalls b d (p + p') (q + q') (k + k') (m + m') e g
 counts_on b c e d f g p q k m p' q' k' m' one rest apart =
     record {
@@ -45,7 +46,7 @@ counts_on b c e d f g p q k m p' q' k' m' one rest apart =
       steady = rest.steady ∙ one.steady;
     }
 
--- the counts of a line, and of the lines behind it
+-- the counts of a line, and of the lines after it
 play_counts_on : (a b c : Bench) (t : Step) (ts : List Step) → LineCounts a.bench a.device t b.bench b.device → PlayCounts b.bench b.device (armed_stop_in t.after) ts c.bench c.device → PokesFirst t ts
     → PlayCounts a.bench a.device (armed_stop_in t.before) (t ∷ ts) c.bench c.device
 play_counts_on a b c t ts one rest first =
@@ -64,7 +65,7 @@ counts_none a due =
       wears = omega arith;
     }
 
--- ---- a line, and the lines behind it
+-- ---- a line, and the lines after it
 
 -- a play begins with its first line
 pub plays_on : (s : State) (l : ℕ × DeckLine) (w : Option WornAt) (ls : List (ℕ × DeckLine)) (ws : List (Option WornAt)) → plays s (l ∷ ls) (w ∷ ws) ≡ step s l w ∷ plays (step s l w).after ls ws
@@ -76,7 +77,7 @@ pub plays_none : (s : State) → plays s [] [] ≡ []
 unfolding plays
 plays_none s = refl
 
--- the worn stops of a steady bench
+-- the failed writes of a steady bench
 steady_on : (s : State) (l : ℕ × DeckLine) (w : Option WornAt) (ls : List (ℕ × DeckLine)) (ws : List (Option WornAt)) → w ≡ steady_at (armed_stop_in s) l.1 (moves_of s l) → ws ≡ steady_worn (step s l w).after ls → w ∷ ws ≡ steady_worn s (l ∷ ls)
 unfolding steady_worn
 steady_on s l w ls ws first rest = rw (← first, rest) refl
@@ -87,7 +88,7 @@ counts_from : (s : State) (l : ℕ × DeckLine) (w : Option WornAt) (ts : List S
 counts_from s l w ts a b c one rest first =
     subst (λ (u : State). PlayCounts a.bench a.device (armed_stop_in u) (step s l w ∷ ts) c.bench c.device) (step_is s l w).before (play_counts_on a b c (step s l w) ts one rest first)
 
--- a play of a line and of the lines behind it
+-- a play of a line and of the lines after it
 pub played_on : (s : State) (l : ℕ × DeckLine) (w : Option WornAt) (ls : List (ℕ × DeckLine)) (ws : List (Option WornAt)) (a b c : Bench) → PlayedLine s l w (step s l w) a b → Played (step s l w).after ls ws b c → Played s (l ∷ ls) (w ∷ ws) a c
 played_on s l w ls ws a b c did rest =
     let e = plays_on s l w ls ws in
@@ -100,7 +101,7 @@ played_on s l w ls ws a b c did rest =
       unfused = rest.unfused;
     }
 
--- the worn stops of no line
+-- the failed writes of no line
 steady_none : (s : State) → [] ≡ steady_worn s []
 unfolding steady_worn
 steady_none s = refl
@@ -128,7 +129,7 @@ played_none s a stands unfused =
 
 -- ---- texts
 
--- the texts of a line that was written, and of a play behind it
+-- the texts of a line that was written, and of a play after it
 pub ends_on : (f : Step → List ℕ) (x y z : Sunk) (rest : List (ℕ × DeckLine)) (t : Step) (ts : List Step) (r : Result (Unit {0}) WriteFault) → Writes x (f t) y → PlayEnds f y rest ts r z → PlayEnds f x rest (t ∷ ts) r z
 ends_on f x y z rest t ts (Ok u) first h = (h.0, grew_append x.taken y.taken z.taken (f t) (texts f ts) first.whole h.1)
 ends_on f x y z rest t ts (Err e) first h =
@@ -146,7 +147,7 @@ ends_on f x y z rest t ts (Err e) first h =
       cause = rose_later x.faults y.faults z.faults first.counted h.cause;
     }
 
--- the text of a line that failed
+-- the text of a line that was not wholly written
 pub ends_cut : (f : Step → List ℕ) (x y : Sunk) (rest : List (ℕ × DeckLine)) (t : Step) (e : WriteFault) → Fails x (f t) y → PlayEnds f x rest (t ∷ []) (Err e) y
 ends_cut f x y rest t e h =
     record {
@@ -163,7 +164,7 @@ ends_cut f x y rest t e h =
 
 -- ---- plays
 
--- a line that was played and written, and the play of the lines behind it
+-- a line that was played and written, and the play of the lines after it
 pub from_on : (f : Step → List ℕ) (s : State) (l : ℕ × DeckLine) (w : Option WornAt) (ls : List (ℕ × DeckLine)) (a b c : Bench) (x y z : Sunk) (r : Result (Unit {0}) WriteFault) → PlayedLine s l w (step s l w) a b → Writes x (f (step s l w)) y → PlaysFrom f (step s l w).after ls b y r c z → PlaysFrom f s (l ∷ ls) a x r c z
 from_on f s l w ls a b c x y z r did wrote h =
     record {
@@ -175,7 +176,7 @@ from_on f s l w ls a b c x y z r did wrote h =
       text = subst (λ (ts : List Step). PlayEnds f x h.rest ts r z) (sym (plays_on s l w h.lines h.worn)) (ends_on f x y z h.rest (step s l w) _ r wrote h.text);
     }
 
--- a line that was played, and whose text failed
+-- a line that was played, and whose text was not wholly written
 pub from_cut : (f : Step → List ℕ) (s : State) (l : ℕ × DeckLine) (w : Option WornAt) (ls : List (ℕ × DeckLine)) (a b : Bench) (x y : Sunk) (e : WriteFault) → PlayedLine s l w (step s l w) a b → StandsForState b.device.words (step s l w).after → IsUnfused b.bench → Fails x (f (step s l w)) y → PlaysFrom f s (l ∷ ls) a x (Err e) b y
 from_cut f s l w ls a b x y e did stands unfused failed =
     let steps = plays_on s l w [] [] ∙ ap (λ (ts : List Step). step s l w ∷ ts) (plays_none (step s l w).after) in

@@ -9,19 +9,19 @@ use Rattle.mc_script.specs.Counting.{count_after_rises, when_poked}
 
 -- ---- what a bench keeps of pokes
 
--- a poke more, where power does not come between
+-- one more poke, if power does not come between
 when_again : (k : ℕ) (b : BenchState) → when_poked (bench_after_poke b) k ≡ b.powers
 when_again zero b = refl
 when_again (suc k) b = refl
 
--- so many pokes are counted, and the last of them is kept
+-- k pokes are counted, and the last of them is recorded
 pub poked_are : (k : ℕ) (b : BenchState) → bench_after_pokes k b ≡ record b { pokes = count_after_rises b.pokes k; poked = when_poked b k }
 poked_are zero b = refl
 poked_are (suc k) b = poked_are k (bench_after_poke b) ∙ ap (λ (n : ℕ). record b { pokes = count_after_rises b.pokes (suc k); poked = n }) (when_again k b)
 
 -- ---- a list of pokes
 
--- a device on the way: what is left leads where the whole list leads from the start
+-- a device on the way: the pokes that are left lead to the result of the whole list from the start
 pub record Pokes (d : DeviceState) (b : BenchState) (list : List (ℕ × List ℕ)) (e : DeviceState) (c : BenchState) (left : List (ℕ × List ℕ)) : Type 0 where
   pub device : record e { words = image_with e.words left } ≡ record d { words = image_with d.words list }
   pub calls : bench_after_pokes (length left) c ≡ bench_after_pokes (length list) b

@@ -64,7 +64,7 @@ unfolding warm_of play_at_power
 warm_budget (Cold m b a) = refl
 warm_budget (Hot w) = refl
 
--- what owes is open alone
+-- if recovery still has to make writes, they are those of the pending journal alone
 only_owing : (m : List (List ℕ)) (i : Which) → debt (look_at m i) ≢ 0 → i ≡ Only (pending_journal i)
 only_owing m Both h = absurd (h refl)
 only_owing m (Only j) h = refl
@@ -113,7 +113,7 @@ halted_by m w t n false r low h is =
 halted_base : (m : List (List ℕ)) (w : Warm) (t : StopAt) (n : List (List ℕ)) → HoldsBase w.base w.owed w.by m → 1 ≤ t.at → IsHalted m t.at t.left n → let v = power_after w (Some t) in HoldsBase v.base v.owed v.by n
 halted_base m w t n r low h = halted_by m w t n (nat_le t.at w.owed) r low h refl
 
--- wherever a write of a power line stops, the words stand for the play
+-- wherever a write of a power line stops, the words hold the state of the play
 power_stands : (m : List (List ℕ)) (s : State) (n : ℕ) → IsImage m → let w = warm_of s in HoldsBase w.base w.owed w.by m → StopsStand m s (n, line.Power) 0 (power_writes m)
 power_stands m s n image r k x low high size =
     let w = warm_of s in
@@ -146,7 +146,7 @@ module _ {N : Type 0} (state : N → DeviceState) (bench : N → BenchState) (wr
         silent = subst (λ (u : Step). shown_turns u.turns u.stop ≡ []) (sym is) none;
       }
 
-  -- ---- a power line that no stop hit
+  -- ---- a power line without a stop
 
   no_stop : (p q : Player N) (s : State) (n : ℕ) (u e : N) (r : Answer) → IsPlayerAt state bench p s → IsImage (state (device_of p)).words
       → Handed (state (device_of p)) (bench (device_of p)) 1 p.armed (state u) (bench u) → Makes wrote u (power_writes (state u).words) (Ok tt) e

@@ -25,7 +25,7 @@ use Rattle.mc_script.proofs.CardLemmas.{seat_over, ready_over}
 use Rattle.mc_script.proofs.TriedLemmas.{Handed}
 use Rattle.mc_script.proofs.PowerLineLemmas.{runs_done, unusable_done, stop_done}
 
--- power was turned on, and the armed stop handed to the device
+-- power was turned on, and the armed stop passed to the device
 pub handed_power : (a : Armed) (d p u : DeviceState) (b c e : BenchState) → p ≡ record d { on = true } → c ≡ record b { powers = next_count b.powers } → u ≡ p → e ≡ armed_bench a c → Handed d b 1 a u e
 handed_power a d p u b c e hp hc hu he =
     let is : u ≡ record d { on = true } = hu ∙ hp in
@@ -62,7 +62,7 @@ module _ {N : Type 0} (state : N → DeviceState) (bench : N → BenchState) (wr
       let stop = makes_stop wrote (power_writes (state u).words) u (device_in c) how made in
       stop_done state bench wrote obeys burns fits p s n u (device_in c) e stop.0 how at image handed stop.1 (record { state = same; bench = free })
 
-  -- the same, by what the restart of the card answered
+  -- a power line whose card runs, by the result of the card's restart
   pub restart_ready : (p : Player N) (u : N) (c e : Card N) (r : Result ℕ Up) (writes : ℕ) → r ≡ Ok writes → IsImage (state (device_of p)).words → Handed (state (device_of p)) (bench (device_of p)) 1 p.armed (state u) (bench u)
       → Makes wrote u (power_writes (state u).words) (power_answer (restart_end c r)) (device_in c) → PowersUp (state u) (restart_end c r) (state (device_in c)) → IfOk r (λ n. IsReadyCard state c) → IfOk r (λ n. seat_in state c ≡ empty_seat)
       → state (device_in e) ≡ state (device_in c) → bench (device_in e) ≡ record (bench (device_in c)) { cut = None; worn = None } → e ≡ with_device c (device_in e)

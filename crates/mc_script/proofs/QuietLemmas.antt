@@ -29,7 +29,7 @@ use Rattle.mc_script.proofs.FuseLemmas.{past_none}
 use Rattle.mc_script.proofs.HitLemmas.{NotHit, not_hit}
 use Rattle.mc_script.proofs.CommandStepLemmas.{hot_is, cold_is, no_powers, no_pokes, no_cuts, no_fails, moves_hot, moves_cold}
 
--- ---- stops that are handed to no device
+-- ---- stops that are passed to no device
 
 pub arms_same : (b : BenchState) (a : play.Armed) → Arms b a 0 0 b a
 arms_same b a = record { arms = omega arith; wears = omega arith }
@@ -158,7 +158,7 @@ module _ {N : Type 0} (state : N → DeviceState) (bench : N → BenchState) whe
 
   -- ---- lines from the first power line on, which leave their player as it is
 
-  -- a line that is quiet in a play that has begun
+  -- a line that changes nothing in a play past its first power line
   pub still : (p : Player N) (w : Warm) (n : ℕ) (l : DeckLine) (result : Option LineResult) (r : Option Answer) → IsPlayerAt state bench p (Hot w) → option_map (answer_value state p) r ≡ result → line_powers l ≡ 0
       → line_pokes (Hot w) l ≡ 0 → line_cuts l ≡ 0 → line_fails l ≡ 0 → is_card_line l ≡ false → Stepped state bench p (Hot w) (n, l) None (quiet n l (Hot w) result (Hot w)) r p
   still p w n l result r at answers powers pokes cuts fails card =
@@ -169,7 +169,7 @@ module _ {N : Type 0} (state : N → DeviceState) (bench : N → BenchState) whe
 
   -- ---- dumps
 
-  -- what a player tells of a name is what the play does, from the first power line on
+  -- the result of a `dump` line of a player is that of the play, from the first power line on
   dump_live : (pw : Power) (c : Card N) (w : Warm) (aid : List ℕ) → LiveIs state pw c w.base w.live → dump_value state pw c aid ≡ dump_result w.live w.base aid
   dump_live power.Cold c w aid h = absurd h
   dump_live power.Off c w aid h = ap (λ (v : Live). dump_result v w.base aid) (sym h)
@@ -191,7 +191,7 @@ module _ {N : Type 0} (state : N → DeviceState) (bench : N → BenchState) whe
       let is : dump_value state p.power p.card aid ≡ dump_result w.live w.base aid = dump_live p.power p.card w aid at.stands.0 in
       (None, record { stepped = still p w n (line.Dump aid) (Some (dump_result w.live w.base aid)) (Some (answer.Dump aid)) at (ap (λ (x : LineResult). Some x) is) refl refl refl refl refl; silent = refl })
 
-  -- what a dump answers, whatever worn stop is given
+  -- the result of a `dump` line, whatever failed write the play is given
   same_dump : (s : State) (n : ℕ) (aid : List ℕ) (w : Option WornAt) → (step s (n, line.Dump aid) None).result ≡ (step s (n, line.Dump aid) w).result
   unfolding step
   same_dump (Cold m b r) n aid w = refl
@@ -229,7 +229,7 @@ module _ {N : Type 0} (state : N → DeviceState) (bench : N → BenchState) whe
             (no_steady p.armed (bench d) r l (moves_of (Cold m b r) (n, l)) at.can_arm at.armed (moves_cold c m b r n)) at.stands.1),
       )
 
-  -- a line of commands in a play that has begun, where no card runs
+  -- a line of commands in a play past its first power line, if no card runs
   none_hot : (p q : Player N) (w : Warm) (n : ℕ) (c : CardLine) (v : Live) (result : LineResult) (r : Answer) → device_of q ≡ device_of p → IsPlayerAt state bench p (Hot w) → IsPlayerAt state bench q (Hot (record w { armed = Unarmed }))
       → w.live ≡ v → card_line n (deck_line_of c) w v w.base None ≡ quiet n (deck_line_of c) (Hot w) (Some result) (Hot (record w { armed = Unarmed })) → answer_value state q r ≡ result
       → SilentLine state bench p (Hot w) (n, deck_line_of c) None (Some r) q

@@ -1,4 +1,4 @@
--- A command by the turns of its run: its items, where its writes stop, and what is told of it.
+-- A command by the turns of its run: its items, the write at which it stops, and its recorded turns.
 use Rattle.std.proofs.Common.{◌≡◌, ℕ, zero, suc, ◌+◌, ◌-◌, ◌≤◌, true, List, [], ◌∷◌, ◌++◌, length, Option, Some, None, Result, Ok, Err, refl, arith, sym, ap, subst, ◌∙◌}
 use Rattle.std.specs.Prelude.{option_map, IfOk, OnOk}
 use Rattle.std.proofs.lemmas.List.{append-nil, map-append}
@@ -64,11 +64,11 @@ begins : (n : ℕ) (ch : Chain) → RunBegins n ch
 begins zero ch = begins_ends zero ch (Abended A07) refl
 begins (suc n) ch = begins_by n ch (turn_of_chain ch).follows refl
 
--- the items of writes behind writes
+-- the items of writes after writes
 items_append : (ws vs : List Write) → write_items (ws ++ vs) ≡ write_items ws ++ write_items vs
 items_append ws vs = map-append (λ (w : Write). Atomic w.words (Fixed w.name w.pieces)) ws vs
 
--- what a turn's end says of what follows it
+-- the successor of a turn, by the turn's end
 end_ends : (f : Follows) (o : ModelOutcome) → end_of f ≡ Some o → f ≡ Ends o
 end_ends (Continues ch) o e = absurd (cc e)
 end_ends (Ends p) o e = let same : p ≡ o = cc e in ap (λ (o : ModelOutcome). Ends o) same
@@ -83,7 +83,7 @@ module _ {N : Type 0} (state : N → DeviceState) (wrote : N → ℕ → List �
 
   module _ {R : Type 0} (told : R → List Turn → R → Type 0) (silent : (r : R) → told r [] r)
       (onward : (q r s : R) (ts us : List Turn) → told q ts r → told r us s → told q (ts ++ us) s) where
-    -- a run on a card, and what was told of it
+    -- a run on a card, and its recorded turns
     pub record RunOf (run : Ran) (c : CardOf N) (result : Result Outcome Stop) (d : CardOf N) (q r : R) : Type 0 where
       pub writes : List (ℕ × List ℕ)
       pub made : MadeBy state wrote obeys (card_in state c) (write_items run.writes) (device_in c) (answer_of result) (device_in d) writes
@@ -92,7 +92,7 @@ module _ {N : Type 0} (state : N → DeviceState) (wrote : N → ℕ → List �
       pub ready : OnOk result (IsReadyCard state d)
       pub tells : TellsTurns state wrote told c writes run.turns result d q r
 
-    -- the end of a turn, in the definition's words
+    -- the end of a turn of the code, as an end of the definitions
     end_told : (t : Acted) (turn : CodeTurn) → t.turn ≡ turn_value turn t.turn.wrote → t.turn.end ≡ end_of t.follows → end_of t.follows ≡ option_map outcome_value turn.end
     end_told t turn is end = sym end ∙ ap (λ (u : Turn). u.end) is
 
@@ -136,7 +136,7 @@ module _ {N : Type 0} (state : N → DeviceState) (wrote : N → ℕ → List �
           tells = (suc at.0, at_number wrote ws (device_in c) (device_in d) at.0 s at.1, subst (λ (ts : List Turn). told q ts q) (sym none) (silent q));
         }
 
-    -- what follows a turn that does not end its chain
+    -- a turn that does not end its chain: the next chain runs with one instruction less, and the session state is unchanged
     pub record Goes (c : CardOf N) (ch : Chain) (n : ℕ) (d : CardOf N) : Type 0 where
       pub left : ℕ
       pub is : n ≡ suc left
@@ -159,7 +159,7 @@ module _ {N : Type 0} (state : N → DeviceState) (wrote : N → ℕ → List �
     seat_on (Ok o) c m d session same h = h ∙ ap (λ seat. with_session session seat) same
     seat_on (Err s) c m d session same h = tt
 
-    -- what is told of turns behind a turn
+    -- the recorded turns after a turn
     tells_on : (result : Result Outcome Stop) (c m d : CardOf N) (t : Turn) (ts : List Turn) (ws vs : List (ℕ × List ℕ)) (p q r : R) → Makes wrote (device_in c) ws (Ok tt) (device_in m) → length ws ≡ turn_moves t.wrote
         → told p (t ∷ []) q → TellsTurns state wrote told m vs ts result d q r → TellsTurns state wrote told c (ws ++ vs) (t ∷ ts) result d p r
     tells_on (Ok o) c m d t ts ws vs p q r makes size first rest = onward p q r (t ∷ []) ts first rest
@@ -168,7 +168,7 @@ module _ {N : Type 0} (state : N → DeviceState) (wrote : N → ℕ → List �
         let is : before_stop (t ∷ ts) (length ws + k) ≡ t ∷ before_stop ts k = before_later t ts (length ws + k) k rest.1.low (omega (arith, size)) in
         (length ws + k, number_done wrote ws vs (device_in c) (device_in m) (device_in d) k s makes rest.1, subst (λ (us : List Turn). told p us r) (sym is) (onward p q r (t ∷ []) (before_stop ts k) first rest.2))
 
-    -- a turn, and the run behind it
+    -- a turn, and the run after it
     pub run_on : (c m d : CardOf N) (ch : Chain) (n : ℕ) (turn : CodeTurn) (result : Result Outcome Stop) (p q r : R) (goes : Goes c ch n m) → (state (device_in c)).on ≡ true → ChainTurned state wrote c ch n (turn_of n ch) (Ok turn) m
         → told p (turn_value turn (turn_of n ch).turn.wrote ∷ []) q → RunOf (run_of_chain goes.left goes.next) m result d q r → RunOf (run_of_chain n ch) c result d p r
     run_on c m d ch n turn result p q r goes on turned tells rest =

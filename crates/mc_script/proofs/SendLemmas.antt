@@ -1,4 +1,4 @@
--- Commands for the card manager, one behind the other.
+-- Commands for the card manager, one after the other.
 use Rattle.std.proofs.Common.{◌≡◌, ℕ, zero, suc, ◌+◌, Bool, true, false, cond, ◌==◌, List, [], ◌∷◌, ◌++◌, length, take, drop, Option, Some, None, Result, Ok, Err, refl, arith, sym, ap, subst, ◌∙◌}
 use Rattle.std.specs.Prelude.{option_map}
 use Rattle.std.specs.List.{AllByRecursion}
@@ -59,7 +59,7 @@ send_turns c seat budget (b ∷ bs) all =
     let r = command c seat b budget in
     sent_turns (is_done r.outcome) r (send (card_done c r.items) r.seat budget bs) (managed_turns c seat b budget all.0) (send_turns (card_done c r.items) r.seat budget bs all.1)
 
--- ---- one command, and those behind it
+-- ---- one command, and those after it
 
 pub send_first : (c : model.Card) (seat : Seat) (budget : ℕ) (b : List ℕ) (bs : List (List ℕ)) → send c seat budget (b ∷ bs) ≡ command_with_rest (is_done (command c seat b budget).outcome) (command c seat b budget) (send (card_done c (command c seat b budget).items) (command c seat b budget).seat budget bs)
 unfolding send
@@ -73,12 +73,12 @@ module _ {N R : Type 0} (state : N → DeviceState) (wrote : N → ℕ → List 
     (obeys : (d : N) (at : ℕ) (w : List ℕ) (a : Answer) (e : N) → (state d).on ≡ true → wrote d at w a e → Wrote (state d) at w a (state e))
     (told : R → List Turn → R → Type 0) (silent : (r : R) → told r [] r)
     (onward : (q r s : R) (ts us : List Turn) → told q ts r → told r us s → told q (ts ++ us) s) where
-  -- nothing is told of commands without turns
+  -- nothing is recorded of commands without turns
   untold : (result : Result Outcome Stop) (c d : Card N) (ws : List (ℕ × List ℕ)) (ts : List Turn) (q r : R) → ts ≡ [] → TellsTurns state wrote told c ws ts result d q r → told q [] r
   untold (Ok o) c d ws ts q r none h = subst (λ (us : List Turn). told q us r) none h
   untold (Err s) c d ws ts q r none h = subst (λ (us : List Turn). told q (before_stop us h.0) r) none h.2
 
-  -- what is told of commands without turns behind such a command
+  -- what is recorded of commands without turns after such a command
   tells_behind : (result : Result Outcome Stop) (c m d : Card N) (ws vs : List (ℕ × List ℕ)) (ts us : List Turn) (p q r : R) → Makes wrote (device_in c) ws (Ok tt) (device_in m) → ts ≡ [] → us ≡ [] → told p [] q
       → TellsTurns state wrote told m vs us result d q r → TellsTurns state wrote told c (ws ++ vs) ts result d p r
   tells_behind (Ok o) c m d ws vs ts us p q r makes none also first rest =
@@ -89,7 +89,7 @@ module _ {N R : Type 0} (state : N → DeviceState) (wrote : N → ℕ → List 
     subst (λ (ts : List Turn). told p (before_stop ts (length ws + rest.0)) r) (sym none) (onward p q r [] [] first (subst (λ (us : List Turn). told q (before_stop us rest.0) r) also rest.2)),
   )
 
-  -- a command that was done, and those behind it
+  -- a command that was done, and those after it
   both_ran : (c m d : Card N) (k l : Command) (o : Outcome) (result : Result Outcome Stop) (p q r : R) → (state (device_in c)).on ≡ true → k.turns ≡ [] → l.turns ≡ []
       → RanAndTold state wrote told c k (Ok o) m p q → RanAndTold state wrote told m l result d q r → RanAndTold state wrote told c (with_items k l) result d p r
   both_ran c m d k l o result p q r on none also first rest =
@@ -110,7 +110,7 @@ module _ {N R : Type 0} (state : N → DeviceState) (wrote : N → ℕ → List 
         tells = tells_behind result c m d ws vs (k.turns ++ l.turns) l.turns p q r one.makes (ap (λ ts. ts ++ l.turns) none ∙ also) also (untold (Ok o) c m ws k.turns p q none first.tells) rest.tells;
       }
 
-  -- a command that was stopped, whatever was to come behind it
+  -- a command that was stopped, whatever was to come after it
   first_ran : (b : Bool) (c d : Card N) (k l : Command) (s : Stop) (p r : R) → k.turns ≡ [] → l.turns ≡ [] → RanAndTold state wrote told c k (Err s) d p r → RanAndTold state wrote told c (command_with_rest b k l) (Err s) d p r
   first_ran false c d k l s p r none also h = h
   first_ran true c d k l s p r none also h =
@@ -122,7 +122,7 @@ module _ {N R : Type 0} (state : N → DeviceState) (wrote : N → ℕ → List 
         tells = (h.tells.0, h.tells.1, subst (λ (ts : List Turn). told p (before_stop ts h.tells.0) r) turns h.tells.2);
       }
 
-  -- commands that are still to be sent: what they do and tell from here, all do and tell from the start
+  -- commands that are still to be sent: their writes and recorded turns from here make up those of all commands from the start
   pub record Sends (c : Card N) (budget : ℕ) (all : List (List ℕ)) (q : R) (left : List (List ℕ)) (m : Card N) (p : R) : Type 0 where
     pub ready : IsReadyCard state m
     pub managed : AllByRecursion IsManaged left

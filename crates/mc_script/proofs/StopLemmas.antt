@@ -1,4 +1,4 @@
--- Where lists of writes stop.
+-- The places at which lists of writes stop.
 use Rattle.std.proofs.Common.{◌≡◌, ℕ, suc, ◌+◌, ◌-◌, ◌<◌, List, [], ◌∷◌, ◌++◌, length, take, Ok, Err, refl, arith, subst, inl, inr}
 use Rattle.std.specs.Prelude.{slice_index_or}
 use Rattle.mc_model_device.specs.declared.device.Stop.{Stop}
@@ -23,7 +23,7 @@ module _ {D : Type 0} (wrote : D → ℕ → List ℕ → Answer → D → Type 
   same_stop : (s t : Stop) → ◌≡◌ {A = Answer} (Err s) (Err t) → t ≡ s
   same_stop s t e = cc e
 
-  -- writes that stopped, stopped at one of them
+  -- a list of writes that stopped did so at one of them
   pub stopped_in : (ws : List (ℕ × List ℕ)) (d e : D) (s : Stop) → Makes wrote d ws (Err s) e → (j : ℕ) × StoppedAtPlace d ws j s e
   stopped_in [] d e s made = absurd made
   stopped_in (p ∷ ws) d e s made =
@@ -32,7 +32,7 @@ module _ {D : Type 0} (wrote : D → ℕ → List ℕ → Answer → D → Type 
         | inr stop ↦ (0, first_stops d e p ws s (subst (λ (t : Stop). wrote d p.0 p.1 (Err t) e) (same_stop s stop.0 stop.2) stop.1))
       ]
 
-  -- writes that stopped behind writes that were done
+  -- writes that stopped after writes that were done
   pub behind_done : (ws vs : List (ℕ × List ℕ)) (d m e : D) (j : ℕ) (s : Stop) → Makes wrote d ws (Ok tt) m → StoppedAtPlace m vs j s e → StoppedAtPlace d (ws ++ vs) (length ws + j) s e
   behind_done [] vs d m e j s done b =
       let none : j ≡ 0 + j = omega arith in
@@ -45,7 +45,7 @@ module _ {D : Type 0} (wrote : D → ℕ → List ℕ → Answer → D → Type 
         | inr stop ↦ absurd (cc stop.2)
       ]
 
-  -- the same by the number of the write, from 1 on
+  -- a list that stopped, by the number of the write from 1 on
   pub at_number : (ws : List (ℕ × List ℕ)) (d e : D) (j : ℕ) (s : Stop) → StoppedAtPlace d ws j s e → StoppedAtWrite wrote d ws (suc j) s e
   at_number ws d e j s b =
       let is : j ≡ suc j - 1 = omega arith in
@@ -60,7 +60,7 @@ module _ {D : Type 0} (wrote : D → ℕ → List ℕ → Answer → D → Type 
   pub at_place : (ws : List (ℕ × List ℕ)) (d e : D) (k : ℕ) (s : Stop) → StoppedAtWrite wrote d ws k s e → StoppedAtPlace d ws (k - 1) s e
   at_place ws d e k s h = record { low = omega (arith, h.low, h.high); middle = h.middle; before = h.before; stopped = h.stopped }
 
-  -- writes that stopped behind writes that were done, by their numbers
+  -- writes that stopped after writes that were done, by their numbers
   pub number_done : (ws vs : List (ℕ × List ℕ)) (d m e : D) (k : ℕ) (s : Stop) → Makes wrote d ws (Ok tt) m → StoppedAtWrite wrote m vs k s e → StoppedAtWrite wrote d (ws ++ vs) (length ws + k) s e
   number_done ws vs d m e k s done h =
       let is : suc (length ws + (k - 1)) ≡ length ws + k = omega (arith, h.low) in

@@ -79,7 +79,7 @@ dump_by t ts true e =
     rw e (ap (λ (rs : List LineResult). flat_map (λ r. text_of_result r ++ codes "\n") rs) (results_cons t (filter (λ t. is_dump t.line) ts)) ∙ lines_by t.result (results (filter (λ t. is_dump t.line) ts)))
 dump_by t ts false e = rw e refl
 
--- a dump line changes nothing, and its result is that of any dump line of this name
+-- a dump line changes nothing, and its result is that of any dump line with this name
 dump_after : (s : State) (n : ℕ) (a : List ℕ) (w : Option WornAt) → (step s (n, line.Dump a) w).after ≡ s
 unfolding step
 dump_after (Cold m b x) n a w = refl
@@ -156,7 +156,8 @@ summary_is s ls ws last = ap (λ (x : List ℕ). count_line (results (plays s ls
 -- ---- the loop that counts
 
 module _ {N : Type 0} (state : N → DeviceState) (bench : N → BenchState) where
-  -- a player at a state of a play, with these lines left, and what was counted: whatever they play from there, all lines play from the start
+  -- a player at a state of a play, with the given lines left, and the counts so far: a play of these from here makes the play of all
+  -- lines from the start
   pub record Counting (s : State) (ls : List (ℕ × DeckLine)) (a : Bench) (left : List (ℕ × DeckLine)) (p : Player N) (c : Counts) (i : ℕ) : Type 0 where
     pub here : State
     pub at : IsPlayerAt state bench p here

@@ -1,4 +1,4 @@
--- The entries of a line at the front of a tape, and what a told tape says of a line and of the lines behind it.
+-- The entries of a line at the front of a tape, and what a recorded tape shows of a line and of the lines after it.
 use Rattle.std.proofs.Common.{◌≡◌, ℕ, zero, suc, ◌+◌, ◌≤◌, Bool, true, false, cond, nat_le, List, [], ◌∷◌, ◌++◌, length, Option, Some, None, refl, arith, sym, ap, subst, ◌∙◌, append_assoc}
 use Rattle.std.proofs.lemmas.Bool.Decides.{nat_tests}
 use Rattle.mc_model_device.specs.declared.device.Stop.{Stop}
@@ -10,19 +10,19 @@ use Rattle.mc_model_play.specs.Play.{Armed, Unarmed, ArmedCut, ArmedFail, Live, 
 use Rattle.mc_model_device.specs.PowerUp.{Base, OnCard, AtFault}
 use Rattle.mc_script.specs.Plays.{TapeTells, TapeIs}
 
--- ---- how many entries a line has
+-- ---- the number of entries of a line
 
--- the write of a stop is one of so many
+-- the write of a stop is one of the first m
 abbrev pub Reaches : ℕ → Option StopAt → Type 0
 Reaches m None = Unit {0}
 Reaches m (Some t) = t.at ≤ m
 
--- a worn stop is at one of so many writes
+-- a failed write is one of the first m
 abbrev pub MayReach : ℕ → Option WornAt → Type 0
 MayReach m None = Unit {0}
 MayReach m (Some w) = w.at ≤ m
 
--- a line of so many device writes makes all of them, or those up to its stop
+-- a line of m device writes makes all of them, or those up to its stop
 pub record Moved (m : ℕ) (t : Step) : Type 0 where
   pub moves : t.moves ≡ moves_with m t.stop
   pub reaches : Reaches m t.stop
@@ -32,19 +32,19 @@ cut_reaches : (b : Bool) (k m : ℕ) (x : List ℕ) → nat_le k m ≡ b → Rea
 cut_reaches true k m x e = grind (arith, nat_tests, e)
 cut_reaches false k m x e = tt
 
--- and so is any stop that hits it
+-- any stop that hits a line is at one of its writes
 hit_reaches : (a : Armed) (m : ℕ) (w : Option WornAt) → MayReach m w → Reaches m (hit_of a m w)
 hit_reaches a m (Some w) h = h
 hit_reaches (ArmedCut k x) m None h = cut_reaches (nat_le k m) k m x refl
 hit_reaches Unarmed m None h = tt
 hit_reaches (ArmedFail k) m None h = tt
 
--- a worn stop that may hit a line is at one of its writes
+-- a failed write that may hit a line is one of its writes
 may_reach : (s : State) (l : ℕ × DeckLine) (w : Option WornAt) → MayHit s l w → MayReach (moves_of s l) w
 may_reach s l None may = tt
 may_reach s l (Some w) may = may.high
 
--- a line of a running card, and one where none runs
+-- a line to a running card, and one when no card runs
 card_moved : (n : ℕ) (l : DeckLine) (s : Warm) (live : Live) (base : Base) (w : Option WornAt) → MayReach (moves (card_line n l s live base None).items) w → Moved (moves (card_line n l s live base None).items) (card_line n l s live base w)
 card_moved n l s (Running seat) (OnCard c) w h = record { moves = refl; reaches = hit_reaches s.armed (moves (line_command c seat s.budget l).items) w h }
 card_moved n l s (Running seat) (AtFault cause p) w h = record { moves = refl; reaches = tt }
@@ -55,7 +55,7 @@ card_moved n l s Muted base w h = record { moves = refl; reaches = tt }
 nothing : (m : ℕ) → 0 + m ≡ m
 nothing m = omega arith
 
--- the same in another way
+-- a line of m device writes, with another expression for m
 moved_as : (m n : ℕ) (t : Step) → m ≡ n → Moved n t → Moved m t
 moved_as m n t e h = subst (λ k. Moved k t) (sym e) h
 
@@ -123,7 +123,7 @@ line_chunk m s l w es rest may told =
 
 -- ---- a tape
 
--- the worn stops that a tape tells, by the entries of its first line
+-- the failed writes that a tape records, by the entries of its first line
 worn_by_chunk : (s : State) (l : ℕ × DeckLine) (ls : List (ℕ × DeckLine)) (w : Option WornAt) (ws : List (Option WornAt)) (t es rest : List Entry) → chunk (moves_of s l) t ≡ (es, rest) → worn_in 0 es ≡ w → ws ≡ tape_worn (step s l w).after ls rest → w ∷ ws ≡ tape_worn s (l ∷ ls) t
 unfolding tape_worn
 worn_by_chunk s l ls w ws t es rest is worn h = rw (is, worn, h) refl
@@ -134,7 +134,7 @@ accounts_by_chunk m n s l ls w ws t es rest is left line h =
     subst (λ (c : List Entry × List Entry). AccountsForLine m s l (step s l w) c.0 × Accounts (words_left m c.0 (step s l w).after) (step s l w).after ls ws c.1) (sym is)
     (line, subst (λ (k : List (List ℕ)). Accounts k (step s l w).after ls ws rest) (sym left) h)
 
--- a told tape of a line and of the lines behind it
+-- a recorded tape of a line and of the lines after it
 pub tells_on : (m n : List (List ℕ)) (s : State) (l : ℕ × DeckLine) (ls : List (ℕ × DeckLine)) (w : Option WornAt) (ws : List (Option WornAt)) (es rest : List Entry) → MayHit s l w → AccountsForLine m s l (step s l w) es → worn_in 0 es ≡ w → words_left m es (step s l w).after ≡ n → TapeTells n (step s l w).after ls ws rest → TapeTells m s (l ∷ ls) (w ∷ ws) (es ++ rest)
 tells_on m n s l ls w ws es rest may line worn left tells =
     let is = line_chunk m s l w es rest may line in
@@ -143,7 +143,7 @@ tells_on m n s l ls w ws es rest may line worn left tells =
       accounts = accounts_by_chunk m n s l ls w ws (es ++ rest) es rest is left line tells.accounts;
     }
 
--- the tape of a line and of the lines behind it, told or not
+-- the tape of a line and of the lines after it, recorded or not
 pub tape_on : (m n : List (List ℕ)) (s : State) (l : ℕ × DeckLine) (ls : List (ℕ × DeckLine)) (w : Option WornAt) (ws : List (Option WornAt)) (es : List Entry) (a b c : Option (List Entry)) → MayHit s l w → AccountsForLine m s l (step s l w) es → worn_in 0 es ≡ w → words_left m es (step s l w).after ≡ n → GrowsBy a es b → TapeIs n (step s l w).after ls ws b c → TapeIs m s (l ∷ ls) (w ∷ ws) a c
 tape_on m n s l ls w ws es a b None may line worn left grows tape = tt
 tape_on m n s l ls w ws es a None (Some z) may line worn left grows tape = absurd tape

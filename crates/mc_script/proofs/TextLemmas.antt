@@ -11,18 +11,18 @@ use Rattle.mc_model_machine.specs.Listing.{hex_text}
 use Rattle.mc_model_play.specs.Transcript.{static_text}
 use Rattle.mc_model_device.proofs.ListLemmas.{drop_none}
 
--- the text of static bytes, where there are some
+-- the text of static bytes, if there are any
 pub static_some : (bs : List ℕ) → length bs ≢ 0 → codes "static " ++ hex_text bs ≡ static_text bs
 static_some [] some = absurd (some refl)
 static_some (b ∷ bs) some = refl
 
--- what is left behind a front of what is left
+-- the rest of a list after two fronts of it
 pub left_behind : (at c : ℕ) (f : List ℕ) → drop c (drop at f) ≡ drop (at + c) f
 left_behind zero c f = let e : zero + c ≡ c = omega arith in ap (λ (k : ℕ). drop k f) (sym e)
 left_behind (suc at) c [] = drop_none c ∙ sym (drop_none (suc at + c))
 left_behind (suc at) c (x ∷ f) = let e : suc at + c ≡ suc (at + c) = omega arith in left_behind at c f ∙ ap (λ (k : ℕ). drop k (x ∷ f)) (sym e)
 
--- a piece of static bytes, behind those before it
+-- a piece of static bytes, after those before it
 pub hex_piece_on : (t a f p : List ℕ) (at c : ℕ) → p ≡ take c (drop at f) → drop c (drop at f) ≡ drop (at + c) f → t ++ hex_text (drop at f) ≡ a → (t ++ hex_text p) ++ hex_text (drop (at + c) f) ≡ a
 hex_piece_on t a f p at c is behind h =
     append_assoc t (hex_text p) (hex_text (drop (at + c) f))
@@ -39,7 +39,7 @@ cause_short BadBlock = omega arith
 cause_short BadRecord = omega arith
 cause_short BadChain = omega arith
 
--- what a `dump` line tells is no reply, no abend, no cut and no power-up
+-- the result of a `dump` line is no reply, no abend, no cut and no power-up
 pub dump_no_reply : (o : Option App) → is_reply (static_of o) ≡ false
 dump_no_reply None = refl
 dump_no_reply (Some a) = refl

@@ -29,11 +29,11 @@ use Rattle.mc_script.proofs.HitLemmas.{NotHit, not_hit, HitBy, hit_by, place_is,
 
 -- ---- a line
 
--- a bench on which `power` was called so often
+-- a bench on which `power` was called n times
 abbrev pub called : ℕ → BenchState → BenchState
 called n b = record b { powers = count_after_rises b.powers n }
 
--- the armed stop of a line was handed to its device, on which `power` was called so often
+-- the armed stop of a line was passed to its device, on which `power` was called n times
 pub record Handed (d : DeviceState) (b : BenchState) (n : ℕ) (a : Armed) (e : DeviceState) (c : BenchState) : Type 0 where
   pub words : e.words ≡ d.words
   pub tape : e.tape ≡ d.tape
@@ -47,7 +47,7 @@ pub record Freed (d : DeviceState) (b : BenchState) (e : DeviceState) (c : Bench
   pub state : e ≡ d
   pub bench : c ≡ record b { cut = None; worn = None }
 
--- a card line that is worth so many calls of `power`
+-- a card line that makes n calls of `power`
 pub record Worth (s : State) (l : DeckLine) (n : ℕ) : Type 0 where
   pub card : is_card_line l ≡ true
   pub powers : line_powers l ≡ n
@@ -55,7 +55,7 @@ pub record Worth (s : State) (l : DeckLine) (n : ℕ) : Type 0 where
   pub cuts : line_cuts l ≡ 0
   pub fails : line_fails l ≡ 0
 
--- the step of a line with a stop, if one hit it, from its first power line on
+-- the step of a line from the first power line on, with a stop if one hit it
 abbrev pub stopped_step : ℕ → DeckLine → State → LineResult → List Item → List Item → Option StopAt → ℕ → List (List ℕ × List ℕ) → List Turn → Warm → Step
 stopped_step n l s result items whole stop m pairs turns w =
     record { number = n; line = l; before = s; result = Some result; items = items; whole = whole; stop = stop; moves = m; pairs = pairs; turns = turns; after = Hot w }
@@ -108,7 +108,7 @@ record HitEntries (p : DeviceState) (s : State) (l : ℕ × DeckLine) (ws : List
   worn : worn_in 0 (torn_entries ws k x how) ≡ worn_entry k x (Some how)
   left : play.laid_entries p.words (torn_entries ws k x how) ≡ image_after_stop p.words ws k x
 
--- ---- the worn stop of a line
+-- ---- the failed write of a line
 
 may_hit : (s : Stop) (state : State) (n : ℕ) (l : DeckLine) (k : ℕ) (x : List ℕ) → is_card_line l ≡ true → 1 ≤ k → k ≤ moves_of state (n, l) → (s ≡ Worn → play.IsBeforeCut (armed_stop_in state) k)
     → MayHit state (n, l) (worn_entry k x (Some s))
@@ -121,7 +121,7 @@ module _ {N : Type 0} (state : N → DeviceState) (bench : N → BenchState) (wr
     (fits : (d : N) (at : ℕ) (w : List ℕ) (a : Ended) (e : N) → wrote d at w a e → (at < length (state d).words) × (length w ≡ 8)) where
   -- ---- all writes were made
 
-  -- what comes of writes that were all made: no stop hits the line
+  -- the result of writes that were all made: no stop hits the line
   pub record Went (d f : N) (a : Armed) (n : ℕ) (ws : List (ℕ × List ℕ)) : Type 0 where
     pub words : (state f).words ≡ image_with (state d).words ws
     pub tape : GrowsBy (state d).tape (done_entries ws) (state f).tape
@@ -180,7 +180,7 @@ module _ {N : Type 0} (state : N → DeviceState) (bench : N → BenchState) (wr
 
   -- ---- one of the writes stopped
 
-  -- what comes of writes of which the one with this number stopped and left x: the stop that hits the line
+  -- the result of writes of which write k stopped and left x: the stop that hits the line
   pub record Hit (d f : N) (a : Armed) (n : ℕ) (ws : List (ℕ × List ℕ)) (k : ℕ) (s : Stop) (x : List ℕ) : Type 0 where
     pub low : 1 ≤ k
     pub high : k ≤ length ws

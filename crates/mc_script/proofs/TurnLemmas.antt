@@ -19,13 +19,13 @@ abbrev pub turn_moves : Option ℕ → ℕ
 turn_moves None = 0
 turn_moves (Some w) = cost Two w
 
--- ---- what a turn tells of its writes and of its end
+-- ---- the writes and the end in the record of a turn
 
 write_moves : (n : List ℕ) (changes : Option (List (ℕ × List ℕ))) → moves (write_items (write_of n changes)) ≡ turn_moves (words_of_write changes)
 write_moves n None = refl
 write_moves n (Some ps) = let e : cost Two (length (touched_words ps)) + 0 ≡ cost Two (length (touched_words ps)) = omega arith in e
 
--- what is true of a turn
+-- the record of a turn has the number of its device writes and its end
 pub record TurnIsTold (t : Acted) : Type 0 where
   pub moves : moves (write_items t.writes) ≡ turn_moves t.turn.wrote
   pub end : t.turn.end ≡ end_of t.follows
@@ -71,7 +71,7 @@ stop_first (Some w) t ts k is low high = rw (is, le-leb k (cost Two w) high) ref
 pub before_first : (t : Turn) (ts : List Turn) (k : ℕ) → 1 ≤ k → k ≤ turn_moves t.wrote → before_stop (t ∷ ts) k ≡ []
 before_first t ts k low high = stop_first t.wrote t ts k refl low high
 
--- a stop behind the first turn
+-- a stop after the first turn
 stop_later : (w : Option ℕ) (t : Turn) (ts : List Turn) (k j : ℕ) → t.wrote ≡ w → 1 ≤ j → k ≡ turn_moves w + j → before_stop (t ∷ ts) k ≡ t ∷ before_stop ts j
 stop_later None t ts k j is low e = let same : k ≡ j = omega (arith, e) in rw (is, same) refl
 stop_later (Some w) t ts k j is low e =
@@ -81,7 +81,7 @@ stop_later (Some w) t ts k j is low e =
 pub before_later : (t : Turn) (ts : List Turn) (k j : ℕ) → 1 ≤ j → k ≡ turn_moves t.wrote + j → before_stop (t ∷ ts) k ≡ t ∷ before_stop ts j
 before_later t ts k j low e = stop_later t.wrote t ts k j refl low e
 
--- a stop behind turns that are all before it
+-- a stop after turns that are all before it
 pub moves_of_turns : List Turn → ℕ
 moves_of_turns [] = 0
 moves_of_turns (t ∷ ts) = turn_moves t.wrote + moves_of_turns ts

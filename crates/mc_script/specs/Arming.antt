@@ -1,4 +1,4 @@
--- An armed stop handed to a bench.
+-- An armed stop that is passed to a bench.
 use Rattle.std.specs.Prelude.{Some}
 use Rattle.mc_model_device.specs.declared.device.Stop.{Stop}
 use Rattle.mc_model_device.specs.declared.device.Stop.TheVariants.{Off, Worn}
@@ -14,28 +14,28 @@ use Rattle.mc_script.specs.declared.player.Power.TheVariants as power
 use Rattle.mc_script.specs.declared.armed.Armed.{Armed}
 use Rattle.mc_script.specs.declared.armed.Armed.TheVariants as armed
 
--- a bench with the fuse of an armed stop; a write that is refused leaves eight zero bytes
+-- a bench with the fuse of an armed stop; a failed write leaves eight zero bytes
 abbrev pub armed_bench : Armed → BenchState → BenchState
 armed_bench armed.Not b = b
 armed_bench (armed.Cut k fill) b = record b { cut = Some (record { writes = k; fill = fill }); arms = next_count b.arms }
 armed_bench (armed.Fail k) b = record b { worn = Some (record { writes = k; fill = zeros 8 }); wears = next_count b.wears }
 
--- the power after a stop: no card runs, and after a refused write it is mute
+-- the power after a stop: no card runs, and after a failed write it is mute
 abbrev pub power_after_stop : Stop → Power
 power_after_stop Off = power.Off
 power_after_stop Worn = power.Mute
 
--- what a line answers that a stop hit
+-- the answer of a line that a stop hit
 abbrev pub answer_after_stop : Stop → Armed → Answer
 answer_after_stop Off a = answer.OffAt (cut_place a)
 answer_after_stop Worn a = answer.Worn
 
--- the power after a power line that gave no card
+-- the power after a power line that found no card
 abbrev pub power_after_failure : Up → Power
 power_after_failure (up.Stop s) = power_after_stop s
 power_after_failure (up.Unusable u) = power.Off
 
--- what a power line answers that gave no card
+-- the answer of a power line that found no card
 abbrev pub answer_after_failure : Up → Armed → Answer
 answer_after_failure (up.Stop s) a = answer_after_stop s a
 answer_after_failure (up.Unusable u) a = answer.Unusable u

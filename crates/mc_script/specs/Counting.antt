@@ -1,4 +1,4 @@
--- How often a play calls its bench, and how its counts of stops rise.
+-- The number of calls that a play makes of its bench, and how its counts of stops rise.
 use Rattle.std.specs.Prelude.{◌≡◌, ℕ, zero, suc, ◌+◌, ◌≤◌, cond, nat_lt, List, [], ◌∷◌, length, Option, Some, None}
 use Rattle.mc_model_device.specs.declared.device.Stop.{Stop}
 use Rattle.mc_model_device.specs.declared.device.Stop.TheVariants as stop
@@ -8,7 +8,7 @@ use Rattle.mc_model_play.specs.Play.{Armed, Unarmed, ArmedCut, ArmedFail, State,
 use Rattle.mc_model_play.specs.DeckGrammar.{DeckLine}
 use Rattle.mc_model_play.specs.DeckGrammar as line
 
--- a count that rose so often; at its last value it stays
+-- a count that rose n times; it saturates at its last value
 abbrev pub count_after_rises : ℕ → ℕ → ℕ
 count_after_rises n zero = n
 count_after_rises n (suc k) = count_after_rises (next_count n) k
@@ -18,69 +18,69 @@ abbrev pub total : (Step → ℕ) → List Step → ℕ
 total f [] = 0
 total f (t ∷ ts) = f t + total f ts
 
--- ---- the calls that a line is worth
+-- ---- the calls that a line makes
 
--- `power`: one for a power line
+-- calls of `power`: one for a power line
 abbrev pub line_powers : DeckLine → ℕ
 line_powers line.Power = 1
 line_powers _ = 0
 
--- `poke`: five for a `format` line, and one for a `poke` line whose place the device has, before the first power line
+-- calls of `poke`: five for a `format` line, and one for a `poke` line whose place the device has, before the first power line
 abbrev pub line_pokes : State → DeckLine → ℕ
 line_pokes (Cold m b a) line.Format = 5
 line_pokes (Cold m b a) (line.Poke at fill) = cond (nat_lt at (length m)) 1 0
 line_pokes _ l = 0
 
--- `arm`: at most one for a `cut` line
+-- calls of `arm`: at most one for a `cut` line
 abbrev pub line_cuts : DeckLine → ℕ
 line_cuts (line.Cut k fill) = 1
 line_cuts _ = 0
 
--- `wear`: at most one for a `fail` line
+-- calls of `wear`: at most one for a `fail` line
 abbrev pub line_fails : DeckLine → ℕ
 line_fails (line.Fail k) = 1
 line_fails _ = 0
 
--- a cut is armed that was not handed to the device yet, and so with a write that is to be refused
+-- the number of armed cuts that were not passed to the device yet, 0 or 1
 abbrev pub cuts_due : Armed → ℕ
 cuts_due Unarmed = 0
 cuts_due (ArmedCut k fill) = 1
 cuts_due (ArmedFail k) = 0
 
--- a write that is to be refused was not handed to the device yet
+-- the number of armed failed writes that were not passed to the device yet, 0 or 1
 abbrev pub fails_due : Armed → ℕ
 fails_due Unarmed = 0
 fails_due (ArmedCut k fill) = 0
 fails_due (ArmedFail k) = 1
 
--- a stop that is a cut
+-- 1 if a stop is a cut, else 0
 abbrev pub cut_kind : Stop → ℕ
 cut_kind stop.Off = 1
 cut_kind stop.Worn = 0
 
--- a line that a cut hit
+-- 1 if a cut hit a line, else 0
 abbrev pub count_of_cuts : Option StopAt → ℕ
 count_of_cuts None = 0
 count_of_cuts (Some t) = cut_kind t.kind
 
--- a stop that is a refused write
+-- 1 if a stop is a failed write, else 0
 abbrev pub worn_kind : Stop → ℕ
 worn_kind stop.Off = 0
 worn_kind stop.Worn = 1
 
--- a line that a worn stop hit
+-- 1 if a failed write hit a line, else 0
 abbrev pub worn_by : Option StopAt → ℕ
 worn_by None = 0
 worn_by (Some t) = worn_kind t.kind
 
 -- ---- the counts
 
--- how often power had come when the last word was poked, after so many pokes that power did not come before
+-- the number of times that power had come when the last word was poked, after k pokes without power between
 abbrev pub when_poked : BenchState → ℕ → ℕ
 when_poked b zero = b.poked
 when_poked b (suc k) = b.powers
 
--- the counts of a bench before and after lines that are worth so many calls and stops, whose pokes all come before power does
+-- the counts of a bench before and after lines that make the given numbers of calls and stops, and whose pokes all come before power does
 pub record CountsCalls (b : BenchState) (d : DeviceState) (power_calls poke_calls cut worn : ℕ) (c : BenchState) (e : DeviceState) : Type 0 where
   pub powers : c.powers ≡ count_after_rises b.powers power_calls
   pub pokes : c.pokes ≡ count_after_rises b.pokes poke_calls
@@ -89,7 +89,7 @@ pub record CountsCalls (b : BenchState) (d : DeviceState) (power_calls poke_call
   pub faults : e.faults ≡ count_after_rises d.faults worn
   pub steady : c.steady ≡ b.steady
 
--- the calls that arm a stop, between two states with stops that are still to be handed to the device
+-- the calls that arm a stop, between two states with stops that are still to be passed to the device
 pub record Arms (b : BenchState) (due : Armed) (cuts fails : ℕ) (c : BenchState) (left : Armed) : Type 0 where
   pub arms : c.arms + cuts_due left ≤ b.arms + cuts_due due + cuts
   pub wears : c.wears + fails_due left ≤ b.wears + fails_due due + fails
@@ -99,7 +99,7 @@ pub record LineCounts (b : BenchState) (d : DeviceState) (t : Step) (c : BenchSt
   pub counts : CountsCalls b d (line_powers t.line) (line_pokes t.before t.line) (count_of_cuts t.stop) (worn_by t.stop) c e
   pub arms : Arms b (armed_stop_in t.before) (line_cuts t.line) (line_fails t.line) c (armed_stop_in t.after)
 
--- the counts of a play that began with such a stop still to be handed to the device
+-- the counts of a play that began with a stop still to be passed to the device
 pub record PlayCounts (b : BenchState) (d : DeviceState) (due : Armed) (ts : List Step) (c : BenchState) (e : DeviceState) : Type 0 where
   pub counts : CountsCalls b d (total (λ t. line_powers t.line) ts) (total (λ t. line_pokes t.before t.line) ts) (total (λ t. count_of_cuts t.stop) ts) (total (λ t. worn_by t.stop) ts) c e
   pub arms : c.arms ≤ b.arms + cuts_due due + total (λ t. line_cuts t.line) ts

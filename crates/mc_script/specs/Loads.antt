@@ -4,15 +4,15 @@ use Rattle.mc_model_play.specs.Play.{piece_commands}
 use Rattle.mc_script.specs.declared.loading.LoadCommands.TheInside.{Inside as LoadFields}
 use Rattle.mc_script.specs.declared.loading.Section.TheInside.{Inside as SectionFields}
 
--- those of a section: pieces of what is left of it
+-- the commands of a section that are still to be sent: pieces of what is left of it
 abbrev pub pieces_left : SectionFields → List (List ℕ)
 pieces_left s = piece_commands (length s.rest.now) s.ins s.at s.rest.now
 
--- a command that may be sent already
+-- the command that is still to be sent, if it was not sent already
 abbrev pub command_left : Option (List ℕ) → List (List ℕ)
 command_left None = []
 command_left (Some b) = b ∷ []
 
--- those of a load
+-- the commands of a load that are still to be sent
 abbrev pub commands_left : LoadFields → List (List ℕ)
 commands_left c = command_left c.open ++ (c.code ++ c.data ++ c.dir ++ c.fci ++ command_left c.create)

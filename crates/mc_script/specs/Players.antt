@@ -1,4 +1,4 @@
--- What a player holds between two lines, and when it stands for a state of a play.
+-- The values of a player between two lines, and when it is at a state of a play.
 use Rattle.std.specs.Prelude.{◌≡◌, ℕ, ◌≤◌, List, length, Option, None, option_map}
 use Rattle.mc_model_device.specs.Device.{DeviceState, BenchState}
 use Rattle.mc_model_play.specs.Play as play
@@ -20,13 +20,13 @@ use Rattle.mc_model_device.specs.Bytes.{lookup}
 
 -- ---- values
 
--- the stop that is armed, in the play's words
+-- the armed stop of the play that an armed stop of the code is
 abbrev pub armed_value : Armed → play.Armed
 armed_value armed.Not = Unarmed
 armed_value (armed.Cut k fill) = ArmedCut k fill
 armed_value (armed.Fail k) = ArmedFail k
 
--- the write at which power goes, and 0 where no cut is armed
+-- the number of the write at which power is cut, and 0 if no cut is armed
 abbrev pub cut_place : Armed → ℕ
 cut_place armed.Not = 0
 cut_place (armed.Cut k fill) = k
@@ -50,25 +50,25 @@ pub record IsUnfused (b : BenchState) : Type 0 where
 module _ {N : Type 0} (state : N → DeviceState) where
   -- ---- results
 
-  -- what a `dump` line tells of a name, by the power of a card
+  -- the result of a `dump` line for a name, by the power of a card
   abbrev pub dump_value : Power → Card N → List ℕ → LineResult
   dump_value power.Cold c aid = NoCard
   dump_value power.Off c aid = NoCard
   dump_value power.Mute c aid = Silenced
   dump_value power.On c aid = static_of (lookup (card_in state c).apps aid)
 
-  -- the static bytes of an application on a card with this power, where it runs and has the application
+  -- the static bytes of an application on a card with this power, if the card runs and has the application
   abbrev pub statics_by : Power → Card N → List ℕ → Option (List ℕ)
   statics_by power.Cold c aid = None
   statics_by power.Off c aid = None
   statics_by power.Mute c aid = None
   statics_by power.On c aid = option_map (λ a. a.fixed) (lookup (card_in state c).apps aid)
 
-  -- the same of a player
+  -- the static bytes of an application on a player's card, if it runs and has the application
   abbrev pub statics_in : Player N → List ℕ → Option (List ℕ)
   statics_in p aid = statics_by p.power p.card aid
 
-  -- a result in the play's words, by the player that gave it
+  -- the result of the play that an answer is, for the player that returned it
   abbrev pub answer_value : Player N → Answer → LineResult
   answer_value p answer.Formatted = Formatted
   answer_value p (answer.Ready n) = Ready n
@@ -82,13 +82,13 @@ module _ {N : Type 0} (state : N → DeviceState) where
 
   -- ---- states
 
-  -- a card runs as the play says
+  -- a card that runs is that of the play
   pub record IsCardOfPlay (c : Card N) (b : Base) (l : Live) : Type 0 where
     pub ready : IsReadyCard state c
     pub base : b ≡ OnCard (card_in state c)
     pub live : l ≡ Running (seat_in state c)
 
-  -- the power is as the play says, from the first power line on
+  -- the power is that of the play, from the first power line on
   abbrev pub LiveIs : Power → Card N → Base → Live → Type 0
   LiveIs power.Cold c base live = ⊥
   LiveIs power.Off c base live = live ≡ Unpowered
@@ -101,7 +101,8 @@ module _ {N : Type 0} (state : N → DeviceState) where
   StateIs p c (Hot w) = LiveIs p c w.base w.live × HoldsBase w.base w.owed w.by (state (device_in c)).words
 
 module _ {N : Type 0} (state : N → DeviceState) (bench : N → BenchState) where
-  -- A player stands for a state of a play. Between two lines its device has no fuse.
+  -- A player is at a state of a play: its power, words, budget and armed stop are those of the state. Between two lines its device has no
+  -- fuse.
   pub record IsPlayerAt (p : Player N) (s : State) : Type 0 where
     pub stands : StateIs state p.power p.card s
     pub budget : p.budget ≡ budget_in s
@@ -111,6 +112,6 @@ module _ {N : Type 0} (state : N → DeviceState) (bench : N → BenchState) whe
     pub can_arm : CanArm p.armed
     pub unfused : IsUnfused (bench (device_of p))
 
-  -- a player stands for some state of a play
+  -- a player is at some state of a play
   abbrev pub IsPlaying : Player N → Type 0
   IsPlaying p = (s : State) × IsPlayerAt p s

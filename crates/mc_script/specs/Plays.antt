@@ -1,4 +1,5 @@
--- A deck played on a device from the words that it holds: its text, the words and counts that it leaves, and the worn stops that account for all of it.
+-- A deck played on a device from the words that it holds: its text, the words and counts that it leaves, and the failed writes that
+-- account for all of it.
 use Rattle.std.specs.Prelude.{◌≡◌, ℕ, ◌<◌, true, false, List, [], ◌∷◌, ◌++◌, length, Option, Some, None, Result, Ok, Err}
 use Rattle.mc_model_device.specs.Counts.{Rose}
 use Rattle.mc_model_device.specs.Device.{DeviceState, BenchState, Entry, GrowsBy}
@@ -14,14 +15,15 @@ use Rattle.mc_script.specs.Counting.{LineCounts, PlayCounts}
 use Rattle.mc_script.specs.Players.{IsUnfused}
 use Rattle.mc_text.specs.Texts.{Sunk, Puts}
 
--- a bench at one moment
+-- a device and its bench at one moment
 pub record Bench : Type 0 where
   pub device : DeviceState
   pub bench : BenchState
 
 -- ---- one line that was played
 
--- the tape of a line with this step: its entries account for it, tell its worn stop, and leave the words, whether the device tells them or not
+-- the tape of a line with this step: its entries account for it, record its failed write, and leave the words, whether the device records
+-- them or not
 pub record StepTape (s : State) (l : ℕ × DeckLine) (w : Option WornAt) (t : Step) (d e : DeviceState) : Type 0 where
   pub entries : List Entry
   pub grows : GrowsBy d.tape entries e.tape
@@ -29,7 +31,7 @@ pub record StepTape (s : State) (l : ℕ × DeckLine) (w : Option WornAt) (t : S
   pub worn : worn_in 0 entries ≡ w
   pub left : words_left d.words entries t.after ≡ e.words
 
--- A line was played on a bench as this step, with this worn stop, if it had one.
+-- A line was played on a bench as this step, with this failed write, if it had one.
 pub record PlayedLine (s : State) (l : ℕ × DeckLine) (w : Option WornAt) (t : Step) (a b : Bench) : Type 0 where
   pub may : MayHit s l w
   pub counts : LineCounts a.bench a.device t b.bench b.device
@@ -38,19 +40,19 @@ pub record PlayedLine (s : State) (l : ℕ × DeckLine) (w : Option WornAt) (t :
 
 -- ---- lines that were played
 
--- what a told tape says of lines: its new entries account for each of them, and tell the worn stops
+-- the tape of lines, if it is recorded: its new entries account for each of them, and record the failed writes
 pub record TapeTells (m : List (List ℕ)) (s : State) (ls : List (ℕ × DeckLine)) (ws : List (Option WornAt)) (entries : List Entry) : Type 0 where
   pub worn : ws ≡ tape_worn s ls entries
   pub accounts : Accounts m s ls ws entries
 
--- where the tape is told at the end, it was told at the start, and its new entries tell the lines
+-- if the tape is recorded at the end, it was recorded at the start, and its new entries record the lines
 abbrev pub TapeIs : List (List ℕ) → State → List (ℕ × DeckLine) → List (Option WornAt) → Option (List Entry) → Option (List Entry) → Type 0
 TapeIs m s ls ws old None = Unit {0}
 TapeIs m s ls ws None (Some new) = ⊥
 TapeIs m s ls ws (Some old) (Some new) = (entries : List Entry) × (new ≡ old ++ entries) × TapeTells m s ls ws entries
 
--- Lines played from a state with these worn stops: one list of them accounts for the words, the counts and the tape together. A stop
--- that was armed and hit no line goes with the player, and no fuse is left to the device.
+-- Lines played from a state with the given failed writes: one list of them accounts for the words, the counts and the tape together. A
+-- stop that was armed and hit no line remains with the player, and no fuse is left to the device.
 pub record Played (s : State) (ls : List (ℕ × DeckLine)) (ws : List (Option WornAt)) (a b : Bench) : Type 0 where
   pub possible : Possible s ls ws
   pub words : StandsForState b.device.words (last_state s (plays s ls ws))
@@ -59,8 +61,8 @@ pub record Played (s : State) (ls : List (ℕ × DeckLine)) (ws : List (Option W
   pub tape : TapeIs a.device.words s ls ws a.device.tape b.device.tape
   pub unfused : IsUnfused b.bench
 
--- Lines were played from a state with these worn stops, up to another state: whatever is played from there, is played from the first
--- state behind these lines.
+-- Lines were played from a state with the given failed writes, up to another state: a play of more lines from there is, with these lines
+-- before it, a play from the first state.
 pub record LeadsTo (s : State) (ls : List (ℕ × DeckLine)) (ws : List (Option WornAt)) (a : Bench) (u : State) (b : Bench) : Type 0 where
   pub many : length ws ≡ length ls
   pub last : u ≡ last_state s (plays s ls ws)
@@ -68,7 +70,7 @@ pub record LeadsTo (s : State) (ls : List (ℕ × DeckLine)) (ws : List (Option 
 
 -- ---- their text
 
--- The last of some lines is the first whose text is not wholly written: the texts before it were, and a front of its own.
+-- The last line is the first whose text is not wholly written: the texts before it were, and a front of its own.
 pub record CutText (f : Step → List ℕ) (a : Sunk) (ts : List Step) (b : Sunk) : Type 0 where
   pub before : List Step
   pub last : Step
@@ -96,16 +98,16 @@ pub record PlaysFrom (f : Step → List ℕ) (s : State) (ls : List (ℕ × Deck
   pub played : Played s lines worn a b
   pub text : PlayEnds f x rest (plays s lines worn) result y
 
--- A deck played on a device, with its text. Every closed family of applications is told and holds what it is told and holds on a card of
--- its own, each line leaves the card with its whole items, and no new application has a stale byte. Each item fits a journal, and a card that
--- was found or formatted is found by every later power line that no stop hits.
+-- A deck played on a device, with its text. Every closed family of applications gets the same answers and holds the same bytes as on a
+-- card of its own, each line leaves the card with its whole items, and no new application has a stale byte. Each item fits a journal, and
+-- a card that was found or formatted is found by every later power line that no stop hits.
 pub record PlaysDeck (f : Step → List ℕ) (ls : List (ℕ × DeckLine)) (a : Bench) (x : Sunk) (result : Result (Unit {0}) WriteFault) (b : Bench) (y : Sunk) : Type 0 where
   pub from : PlaysFrom f (start a.device.words) ls a x result b y
   pub laws : HoldsOf a.device.words (plays (start a.device.words) from.lines from.worn)
   pub few : AllFitJournal (plays (start a.device.words) from.lines from.worn)
   pub ready : ReadyAgain false (plays (start a.device.words) from.lines from.worn)
 
--- A deck played on a device, and a text of the whole play, with the same laws.
+-- A deck played on a device, and a text of the whole play, with the laws of a played deck.
 pub record SumsDeck (f : List Step → List ℕ) (ls : List (ℕ × DeckLine)) (a : Bench) (x : Sunk) (result : Result (Unit {0}) WriteFault) (b : Bench) (y : Sunk) : Type 0 where
   pub worn : List (Option WornAt)
   pub played : Played (start a.device.words) ls worn a b

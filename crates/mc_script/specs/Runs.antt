@@ -1,4 +1,4 @@
--- What a command did on a card, where its writes stopped, and what was told of its turns.
+-- The result of a command on a card, the write at which it stopped, and its recorded turns.
 use Rattle.std.specs.Prelude.{ℕ, ◌-◌, ◌≤◌, List, [], length, take, slice_index_or, Result, Ok, Err}
 use Rattle.mc_model_device.specs.declared.device.Stop.{Stop}
 use Rattle.mc_model_device.specs.Orders.{Answer}
@@ -20,12 +20,12 @@ pub record StoppedAtWrite {D : Type 0} (wrote : D → ℕ → List ℕ → Answe
   pub stopped : wrote middle (slice_index_or ws (k - 1) (0, [])).0 (slice_index_or ws (k - 1) (0, [])).1 (Err s) e
 
 module _ {N R : Type 0} (state : N → DeviceState) (wrote : N → ℕ → List ℕ → Answer → N → Type 0) (told : R → List Turn → R → Type 0) where
-  -- the turns of a command that are told: all, or those before the write that stopped
+  -- the turns of a command that the runner records: all, or those before the write that stopped
   abbrev pub TellsTurns : Card N → List (ℕ × List ℕ) → List Turn → Result Outcome Stop → Card N → R → R → Type 0
   TellsTurns c ws ts (Ok o) d q r = told q ts r
   TellsTurns c ws ts (Err s) d q r = (k : ℕ) × StoppedAtWrite wrote (device_in c) ws k s (device_in d) × told q (before_stop ts k) r
 
-  -- a command that was run, and told
+  -- a command that was run, and whose turns were recorded
   pub record RanAndTold (c : Card N) (r : Command) (result : Result Outcome Stop) (d : Card N) (before after : R) : Type 0 where
     pub commanded : Commanded state wrote c r result d
     pub tells : TellsTurns c commanded.made.writes r.turns result d before after

@@ -1,4 +1,4 @@
--- The summary of a play: what it counts, and the results of the dump lines that stand last.
+-- The summary of a play: its counts, and the results of the dump lines, which are last.
 use Rattle.std.specs.Prelude.{◌≡◌, ℕ, true, List, [], ◌∷◌, ◌++◌, length, codes, Option, Some, None, Result}
 use Rattle.std.specs.List.{AllByRecursion}
 use Rattle.mc_model_play.specs.DeckGrammar.{DeckLine}
@@ -17,7 +17,7 @@ use Rattle.mc_script.specs.Lines.{bench_of}
 
 -- ---- counts
 
--- the counts of some results
+-- the counts of a list of results
 pub record Counted (c : Counts) (rs : List LineResult) : Type 0 where
   pub lines : c.lines ≡ length rs
   pub replies : c.replies ≡ count is_reply rs
@@ -26,29 +26,29 @@ pub record Counted (c : Counts) (rs : List LineResult) : Type 0 where
   pub offs : c.offs ≡ count is_off rs
   pub readies : c.readies ≡ count is_ready rs
 
--- a result, where there is one
+-- the list of a result, empty if there is none
 abbrev pub result_list : Option LineResult → List LineResult
 result_list None = []
 result_list (Some r) = r ∷ []
 
 -- ---- dump lines
 
--- behind a dump line there are only dump lines
+-- after a dump line there are only dump lines
 abbrev pub DumpsLast : List (ℕ × DeckLine) → Type 0
 DumpsLast [] = Unit {0}
 DumpsLast (l ∷ ls) = (is_dump l.1 ≡ true → AllByRecursion (λ k. is_dump k.1 ≡ true) ls) × DumpsLast ls
 
--- a result on a line of its own
+-- the text of a result on a line of its own
 abbrev pub result_line : Option LineResult → List ℕ
 result_line None = []
 result_line (Some r) = text_of_result r ++ codes "\n"
 
--- the result of a dump line in a state, on a line of its own
+-- the text of the result of a dump line in a state, on a line of its own
 abbrev pub dump_text : State → DeckLine → List ℕ
 dump_text s (line.Dump aid) = result_line (step s (0, line.Dump aid) None).result
 dump_text s _ = []
 
--- the same of all dump lines
+-- the text of the results of all dump lines
 abbrev pub dumps_text : State → List (ℕ × DeckLine) → List ℕ
 dumps_text s [] = []
 dumps_text s (l ∷ ls) = dump_text s l.1 ++ dumps_text s ls

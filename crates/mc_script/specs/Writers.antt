@@ -1,4 +1,4 @@
--- What is written of a play, line by line, and how it ended.
+-- The text of a play, line by line, and the result of writing it.
 use Rattle.std.specs.Prelude.{◌≡◌, ℕ, List, [], ◌++◌, Option, Some, None, Result, Ok, Err, refl}
 use Rattle.std.proofs.Common.{◌∙◌, subst}
 use Rattle.mc_model_machine.specs.Chain.{Turn}
@@ -17,7 +17,7 @@ use Rattle.mc_script.specs.declared.writer.Writer.{Writer}
 
 -- ---- texts
 
--- by the fault that its sink had
+-- the result of a writer, by the fault that its sink had
 abbrev pub write_result : Option WriteFault → Result (Unit {0}) WriteFault
 write_result None = Ok tt
 write_result (Some f) = Err f
@@ -31,17 +31,17 @@ told_turns Turns ts = ts
 abbrev pub turns_text : Telling → List Turn → List ℕ
 turns_text t ts = turn_lines (told_turns t ts)
 
--- the text of a line, by that of its turns
+-- the text of a line, by the text of its turns
 abbrev pub text_by : (List Turn → List ℕ) → Step → List ℕ
 text_by f t = f (shown_turns t.turns t.stop) ++ line_text t.number t.result
 
 -- ---- writers
 
--- a writer by what its sink tells
+-- the log of a writer, by what its sink took
 abbrev pub log_in : {T : Type 0} → (T → Option (List ℕ)) → (T → ℕ) → Writer T → text.Log
 log_in taken faults w = record { out = sunk_in taken faults w.out.now; fault = w.fault }
 
--- turns that a writer was told of: it is the same writer over the same sink, with the lines of those that it tells
+-- turns that a writer recorded: it has the same sink as before, with the lines of those turns that it writes
 pub record WriterKeeps {T : Type 0} (taken : T → Option (List ℕ)) (faults : T → ℕ) (w : Writer T) (ts : List Turn) (x : Writer T) : Type 0 where
   pub lines : Logged (log_in taken faults w) (told_turns w.telling ts) (log_in taken faults x)
   pub telling : x.telling ≡ w.telling
@@ -49,24 +49,24 @@ pub record WriterKeeps {T : Type 0} (taken : T → Option (List ℕ)) (faults : 
 
 -- ---- their laws
 
--- no turns are none that are told
+-- of no turns no line is written
 pub told_none : (t : Telling) → [] ≡ told_turns t []
 told_none Results = refl
 told_none Turns = refl
 
--- turns behind turns are told so
+-- the lines of turns after turns are written after theirs
 pub told_behind : (t : Telling) (ts us : List Turn) → told_turns t ts ++ told_turns t us ≡ told_turns t (ts ++ us)
 told_behind Results ts us = refl
 told_behind Turns ts us = refl
 
 module _ {T : Type 0} (taken : T → Option (List ℕ)) (faults : T → ℕ) where
-  -- a writer that was told nothing stays as it is
+  -- a writer that recorded no turn is unchanged
   pub keeps_none : (w : Writer T) → WriterKeeps taken faults w [] w
   keeps_none w =
       let log = log_in taken faults w in
       record { lines = subst (λ (ts : List Turn). Logged log ts log) (told_none w.telling) (logged_none log); telling = refl; same = refl }
 
-  -- turns are told behind turns
+  -- turns are recorded after turns
   pub keeps_on : (w x y : Writer T) (ts us : List Turn) → WriterKeeps taken faults w ts x → WriterKeeps taken faults x us y → WriterKeeps taken faults w (ts ++ us) y
   keeps_on w x y ts us first rest =
       let a = log_in taken faults w in

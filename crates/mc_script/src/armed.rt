@@ -4,8 +4,8 @@ ghost use Rattle.mc_script.specs.Players.{cut_place};
 
 use mc_base::Word;
 
-/// The stop that is armed for the next card line: the number of the device write that it hits, counted from 1, and for a cut the word
-/// that it leaves. A write that is refused leaves eight zero bytes.
+/// The stop that is armed for the next card line: the number of the device write that it hits, counted from
+/// 1, and for a cut the word that it leaves. A failed write leaves eight zero bytes.
 #[derive(Clone, Copy, Debug)]
 pub enum Armed {
     Not,
@@ -14,7 +14,7 @@ pub enum Armed {
 }
 
 impl Armed {
-    /// The write at which power goes, and 0 where no cut is armed.
+    /// Returns the number of the write at which power is cut, and 0 if no cut is armed.
     pub fn cut_place(&self) -> u32
         ensures { result ≡ cut_place self.now }
     {

@@ -30,7 +30,7 @@ pub enum CardLine<'a> {
     },
 }
 
-// A command with a name as its data.
+// Returns a command with a name as its data.
 fn with_name(header: [u8; 4], aid: &Aid) -> ArrayVec<u8, 21>
     ensures { result.items ≡ header ++ length aid.now ∷ aid.now }
 {
@@ -41,7 +41,7 @@ fn with_name(header: [u8; 4], aid: &Aid) -> ArrayVec<u8, 21>
     bytes
 }
 
-/// Runs the command or the commands of a line on a card, whose outcome is put in place of another.
+/// Runs the command or the commands of a line on a card, and writes the last outcome to `into`.
 pub fn run_line<N: Nvm, R: Runner, L: Ledger>(
     card: &mut Card<N>,
     command: &CardLine<'_>,

@@ -1,4 +1,4 @@
-// All lines of a deck, of which nothing is told.
+// All lines of a deck, of which nothing is written.
 ghost use Rattle.std.specs.Prelude.{◌≡◌};
 ghost use Rattle.mc_model_play.specs.Play.{State};
 ghost use Rattle.mc_script.specs.Players.{device_of, IsPlayerAt, IsPlaying};
@@ -12,7 +12,7 @@ use mc_nvm::Bench;
 use std::sync::ledger::Ledger;
 
 impl<N: Bench> Player<N> {
-    /// Plays all lines of a deck, and tells nothing of them.
+    /// Plays all lines of a deck, and writes nothing.
     pub fn deck<L: Ledger>(&mut self, deck: &Deck, steps: &mut Steps<L>)
         requires playing { IsPlaying N.state N.bench self.old }
         ensures done { (s : State) → IsPlayerAt N.state N.bench self.old s

@@ -14,10 +14,10 @@ use mc_nvm::Bench;
 use std::sync::ledger::Ledger;
 
 impl<N: Bench> Player<N> {
-    /// Plays one line of a deck, and gives its result where it has one.
+    /// Plays one line of a deck, and returns its result, or `None` if it has none.
     ///
-    /// The line meets the stop that is armed, if it is a line to the card, and the runner is told the turns that the line shows. The
-    /// result is that of the player as the line leaves it.
+    /// A line to the card meets the stop that is armed, and `runner` records the turns that the line shows.
+    /// The result is that of the player as the line leaves it.
     pub fn line<R: Runner, L: Ledger>(
         &mut self,
         line: &Line<'_>,

@@ -1,4 +1,4 @@
-// The commands of a load, one behind the other.
+// The commands of a load, one after the other.
 ghost use Rattle.std.specs.List.{AllByRecursion};
 ghost use Rattle.std.specs.Prelude.{◌≡◌, ◌+◌, ◌++◌, ◌∷◌, [], ◌≤◌, length, IfSome, IfNone};
 ghost use Rattle.mc_model_device.specs.Limits.{most_code};
@@ -22,13 +22,14 @@ use mc_unit::Unit;
 use std::marker::Model;
 use std::sync::ledger::Ledger;
 
-/// How many bytes of a section one command sends at the most.
+/// The most bytes of a section that one command sends.
 const PIECE: usize = 248;
 
 /// The command CREATE.
 const CREATE: [u8; 4] = [0xBE, 0x16, 0x00, 0x00];
 
-/// The commands of a load that are still to be sent: OPEN, the pieces of code, data, DIR and FCI, and CREATE. It is seen as their list.
+/// The commands of a load that are still to be sent: OPEN, the pieces of code, data, DIR and FCI, and CREATE.
+/// Its view in contracts is their list.
 #[derive(Debug, Drop)]
 pub struct LoadCommands<'a> {
     open: Option<[u8; 17]>,
@@ -51,7 +52,7 @@ impl<'a> Model for LoadCommands<'a> {
 }
 
 impl<'a> LoadCommands<'a> {
-    /// All commands of a load.
+    /// Returns all commands of a load.
     pub fn new(unit: &Unit<'a>, fixed: u16, session: u16) -> LoadCommands<'a>
         requires { FitsUnit unit.now.code.now unit.now.init.now unit.now.dir.now unit.now.fci.now }
         ensures commands { result ≡ load_commands (parts_of unit.now) fixed session }
@@ -67,7 +68,7 @@ impl<'a> LoadCommands<'a> {
         }
     }
 
-    /// The next command, and `None` where none is left.
+    /// Returns the next command, or `None` if none is left.
     pub fn next(&mut self) -> Option<ArrayVec<u8, 253>>
         ensures command { IfSome result (λ bytes. self.old ≡ bytes.items ∷ self.new) }
         ensures none { IfNone result (self.old ≡ []) }
@@ -92,7 +93,8 @@ impl<'a> LoadCommands<'a> {
     }
 }
 
-// The command OPEN: the lengths of the code, of the static segment, of the data, of the session, of DIR and of FCI.
+// Returns the command OPEN: the lengths of the code, of the static segment, of the data, of the session, of
+// DIR and of FCI.
 fn open_command(unit: &Unit<'_>, fixed: u16, session: u16) -> [u8; 17]
     requires { FitsUnit unit.now.code.now unit.now.init.now unit.now.dir.now unit.now.fci.now }
     ensures { result ≡ 0xBE ∷ 0x12 ∷ 0x00 ∷ 0x00 ∷ 12
@@ -126,7 +128,7 @@ fn open_command(unit: &Unit<'_>, fixed: u16, session: u16) -> [u8; 17]
     ]
 }
 
-// A command of fixed bytes.
+// Returns a command of fixed bytes.
 fn copied(bytes: &[u8]) -> ArrayVec<u8, 253>
     requires { length bytes.now ≤ 253 }
     ensures { result.items ≡ bytes.now }
@@ -159,7 +161,7 @@ impl<'a> Model for Section<'a> {
 }
 
 impl<'a> Section<'a> {
-    // All commands of a section.
+    // Returns all commands of a section.
     fn new(ins: u8, bytes: &'a [u8]) -> Section<'a>
         requires { length bytes.now ≤ most_code }
         ensures { result ≡ section_commands ins bytes.now }
@@ -171,7 +173,7 @@ impl<'a> Section<'a> {
         }
     }
 
-    // The next command.
+    // Returns the next command, or `None` if none is left.
     fn next(&mut self) -> Option<ArrayVec<u8, 253>>
         ensures command { IfSome result (λ bytes. self.old ≡ bytes.items ∷ self.new) }
         ensures none { IfNone result (self.old ≡ []) }
@@ -188,7 +190,7 @@ impl<'a> Section<'a> {
     }
 }
 
-// The command that sends a piece of a section, at its place.
+// Returns the command that sends a piece of a section, at its place.
 fn piece_command(ins: u8, at: u16, piece: &[u8]) -> ArrayVec<u8, 253>
     requires { length piece.now ≤ 248 }
     ensures { result.items ≡ 0xBE ∷ ins ∷ (bytes2 at ++ length piece.now ∷ piece.now) }
@@ -206,7 +208,7 @@ fn piece_command(ins: u8, at: u16, piece: &[u8]) -> ArrayVec<u8, 253>
     bytes
 }
 
-// Whether a command was answered by 9000 alone.
+// Returns whether a command was answered by 9000 alone.
 fn is_done(outcome: &Outcome) -> bool
     ensures { result ≡ is_done (outcome_value outcome.now) }
 {
@@ -216,8 +218,8 @@ fn is_done(outcome: &Outcome) -> bool
     }
 }
 
-/// Sends commands of class BE to a card in turn, up to the first that is not answered by 9000 alone. Its outcome is put in place of
-/// another.
+/// Sends commands of class BE to a card in turn, up to the first that is not answered by 9000 alone, and
+/// writes the last outcome to `into`.
 pub fn send<N: Nvm, R: Runner, L: Ledger>(
     card: &mut Card<N>,
     commands: &mut LoadCommands<'_>,

@@ -10,8 +10,8 @@ use mc_nvm::Bench;
 /// The budget of a command before the first `budget` line.
 const FIRST_BUDGET: u32 = 10_000;
 
-/// What the device of a play is: before its first power line, without power or without a card, mute after a refused write, or a card that
-/// runs.
+/// The power of a play's device: before its first power line, without power or without a card, mute after a
+/// failed write, or with a card that runs.
 #[derive(Clone, Copy, Debug, PartialEq, Eq)]
 pub enum Power {
     Cold,
@@ -20,9 +20,9 @@ pub enum Power {
     On,
 }
 
-/// A play between two lines: its card, which is good for its device alone where none runs, the budget of the commands to come, the stop
-/// that is armed for the next card line, and how the last command ended (9000 before the first). The device itself has no fuse then: a
-/// stop is handed to it with its line.
+/// A play between two lines: its card, of which only the device is valid if no card runs, the budget of the
+/// commands to come, the stop that is armed for the next card line, and how the last command ended (9000
+/// before the first). The device itself has no fuse then: a stop is passed to it with its line.
 #[derive(Drop)]
 pub struct Player<N: Bench> {
     pub(crate) card: Card<N>,
@@ -33,7 +33,7 @@ pub struct Player<N: Bench> {
 }
 
 impl<N: Bench> Player<N> {
-    /// A play before its first line, on a device without a fuse.
+    /// Returns a play before its first line, on a device without a fuse.
     pub fn new(device: N) -> Player<N>
         requires { IsUnfused (N.bench device) }
         ensures at { IsPlayerAt N.state N.bench result (start (N.state device).words) }
@@ -48,14 +48,15 @@ impl<N: Bench> Player<N> {
         }
     }
 
-    /// How the last command ended: what an `Outcome` among the results tells, until the next line is played.
+    /// Returns how the last command ended, which is the value of an `Outcome` among the results until the
+    /// next line is played.
     pub fn outcome(&self) -> &Outcome
         ensures { result.now ≡ self.now.outcome }
     {
         &self.outcome
     }
 
-    /// The device.
+    /// Returns the device.
     pub fn into_dev(self) -> N
         ensures { result ≡ device_of self }
     {

@@ -52,7 +52,12 @@ fn play_lines<N: Bench, T: Sink, L: Ledger>(
 
 /// Plays a deck on a device and writes its transcript: for each line that answers its number, a blank, its result and a line feed.
 ///
-/// The device is handed in without a fuse. Where the sink fails, the line whose text it was is played whole, and no later line is.
+/// The device has no fuse at the start. If the sink fails, the line whose text it was is played whole, and no
+/// later line is.
+///
+/// # Errors
+///
+/// Returns the fault of the sink.
 pub fn play<N: Bench, T: Sink, L: Ledger>(
     deck: &Deck,
     dev: &mut N,
@@ -72,7 +77,12 @@ pub fn play<N: Bench, T: Sink, L: Ledger>(
 
 /// Plays a deck on a device and writes the transcript with a line before each result for each executed instruction.
 ///
-/// The device is handed in without a fuse. Where the sink fails, the line whose text it was is played whole, and no later line is.
+/// The device has no fuse at the start. If the sink fails, the line whose text it was is played whole, and no
+/// later line is.
+///
+/// # Errors
+///
+/// Returns the fault of the sink.
 pub fn trace<N: Bench, T: Sink, L: Ledger>(
     deck: &Deck,
     dev: &mut N,
@@ -90,10 +100,15 @@ pub fn trace<N: Bench, T: Sink, L: Ledger>(
     writer.ended()
 }
 
-/// Plays a deck on a device and writes its summary: how many lines answered, and how; then the results of its `dump` lines.
+/// Plays a deck on a device and writes its summary: the number of lines that answered, by how they did; then
+/// the results of its `dump` lines.
 ///
-/// The device is handed in without a fuse, and only `dump` lines stand behind the deck's first `dump` line. All lines are played before
-/// the first byte is written.
+/// The device has no fuse at the start, and only `dump` lines come after the deck's first `dump` line. All
+/// lines are played before the first byte is written.
+///
+/// # Errors
+///
+/// Returns the fault of the sink.
 pub fn summarise<N: Bench, T: Sink, L: Ledger>(
     deck: &Deck,
     dev: &mut N,

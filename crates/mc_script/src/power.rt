@@ -20,10 +20,10 @@ use mc_card::{Card, Up};
 use mc_nvm::Bench;
 use std::sync::ledger::Ledger;
 
-/// The word that a refused write leaves.
+/// The word that a failed write leaves.
 const WORN: [u8; 8] = [0; 8];
 
-// Hands the armed stop to the device of a card.
+// Passes the armed stop to the device of a card.
 fn arm<N: Bench>(card: &mut Card<N>, armed: Armed)
     requires { CanArm armed }
     ensures state { N.state (device_in card.new) ≡ N.state (device_in card.old) }
@@ -38,7 +38,7 @@ fn arm<N: Bench>(card: &mut Card<N>, armed: Armed)
     }
 }
 
-// The power after a stop: no card runs, and after a refused write it is mute.
+// Returns the power after a stop: no card runs, and after a failed write it is mute.
 fn power_after_stop(stop: Stop) -> Power
     ensures { result ≡ power_after_stop stop }
 {
@@ -48,7 +48,7 @@ fn power_after_stop(stop: Stop) -> Power
     }
 }
 
-// What a line answers that a stop hit.
+// Returns the answer of a line that a stop hit.
 fn answer_after_stop(stop: Stop, armed: Armed) -> Answer
     ensures { result ≡ answer_after_stop stop armed }
 {
@@ -58,7 +58,7 @@ fn answer_after_stop(stop: Stop, armed: Armed) -> Answer
     }
 }
 
-// The power after a power line that gave no card.
+// Returns the power after a power line that found no card.
 fn power_after_failure(up: Up) -> Power
     ensures { result ≡ power_after_failure up }
 {
@@ -68,7 +68,7 @@ fn power_after_failure(up: Up) -> Power
     }
 }
 
-// What a power line answers that gave no card.
+// Returns the answer of a power line that found no card.
 fn answer_after_failure(up: Up, armed: Armed) -> Answer
     ensures { result ≡ answer_after_failure up armed }
 {
@@ -79,7 +79,7 @@ fn answer_after_failure(up: Up, armed: Armed) -> Answer
 }
 
 impl<N: Bench> Player<N> {
-    /// A `power` line: it turns power on and looks for the card, under the armed stop.
+    /// Plays a `power` line: turns power on and looks for the card, under the armed stop.
     pub(crate) fn power_line(&mut self) -> Answer
         requires { IsPlaying N.state N.bench self.old }
         ensures done { SilentDone N.state N.bench self.old line.Power (Some result) self.new }
@@ -104,7 +104,7 @@ impl<N: Bench> Player<N> {
         }
     }
 
-    /// A line of commands, which wants a card that runs. The armed stop goes with it.
+    /// Plays a line of commands, which needs a card that runs. The armed stop is used up with it.
     pub(crate) fn card_line<R: Runner, L: Ledger>(
         &mut self,
         command: &CardLine<'_>,
@@ -125,7 +125,7 @@ impl<N: Bench> Player<N> {
         }
     }
 
-    // A line of commands where no card runs.
+    // Plays a line of commands when no card runs.
     fn refuse(&mut self, answer: Answer) -> Answer
         ensures player { self.new ≡ record self.old { armed = armed.Not } }
         ensures answer { result ≡ answer }
@@ -134,7 +134,7 @@ impl<N: Bench> Player<N> {
         answer
     }
 
-    // A line of commands to a card that runs, under the armed stop.
+    // Plays a line of commands to a card that runs, under the armed stop.
     fn run_on<R: Runner, L: Ledger>(
         &mut self,
         command: &CardLine<'_>,

@@ -41,7 +41,7 @@ fn format<N: Bench>(card: &mut Card<N>)
     poke_all(card, &words);
 }
 
-// Sets one word of a device, where it has the place.
+// Sets one word of a device, if it has the place.
 fn poke<N: Bench>(card: &mut Card<N>, at: u16, fill: Word)
     ensures state { N.state (device_in card.new)
         ≡ record (N.state (device_in card.old)) { words = slice_set (N.state (device_in card.old)).words at fill } }
@@ -56,7 +56,7 @@ fn poke<N: Bench>(card: &mut Card<N>, at: u16, fill: Word)
 }
 
 impl<N: Bench> Player<N> {
-    /// A `budget` line.
+    /// Plays a `budget` line.
     pub(crate) fn set_budget(&mut self, budget: u32)
         requires some { 1 ≤ budget }
         requires most { budget ≤ 65536 }
@@ -66,7 +66,7 @@ impl<N: Bench> Player<N> {
         self.budget = budget;
     }
 
-    /// A `cut` line.
+    /// Plays a `cut` line.
     pub(crate) fn arm_cut(&mut self, k: u32, fill: Word)
         requires { 1 ≤ k }
         ensures done { SilentDone N.state N.bench self.old (line.Cut k fill) None self.new }
@@ -75,7 +75,7 @@ impl<N: Bench> Player<N> {
         self.armed = Armed::Cut { k, fill };
     }
 
-    /// A `fail` line.
+    /// Plays a `fail` line.
     pub(crate) fn arm_fail(&mut self, k: u32)
         requires { 1 ≤ k }
         ensures done { SilentDone N.state N.bench self.old (line.Fail k) None self.new }
@@ -84,7 +84,7 @@ impl<N: Bench> Player<N> {
         self.armed = Armed::Fail(k);
     }
 
-    /// A `format` line, which does nothing after the first power line.
+    /// Plays a `format` line, which does nothing after the first power line.
     pub(crate) fn format(&mut self) -> Option<Answer>
         ensures done { SilentDone N.state N.bench self.old line.Format result self.new }
         ensures lent { N.same (device_of self.old) (device_of self.new) }
@@ -98,7 +98,7 @@ impl<N: Bench> Player<N> {
         }
     }
 
-    /// A `poke` line, which does nothing after the first power line.
+    /// Plays a `poke` line, which does nothing after the first power line.
     pub(crate) fn poke(&mut self, at: u16, fill: Word)
         ensures done { SilentDone N.state N.bench self.old (line.Poke at fill) None self.new }
         ensures lent { N.same (device_of self.old) (device_of self.new) }

@@ -1,4 +1,4 @@
-// Who runs the commands of a play, and what is told of their turns.
+// Runners, which run the commands of a play, and may record their turns.
 ghost use Rattle.std.specs.Prelude.{◌≡◌, ◌≤◌, ◌++◌, List, []};
 ghost use Rattle.mc_model_machine.specs.Chain.{Turn as ModelTurn};
 ghost use Rattle.mc_card.specs.Parts.{device_in, due, IsReadyCard};
@@ -11,13 +11,18 @@ use mc_machine::Outcome;
 use mc_nvm::Nvm;
 use std::sync::ledger::Ledger;
 
-/// Runs the commands of a play, and may tell their turns.
+/// Runs the commands of a play, and may record their turns.
 pub trait Runner {
-    /// What it has told before, the turns in order, and what it has told afterwards.
+    /// The runner before and after it recorded some turns, in order.
     ghost told: { Self → List ModelTurn → Self → Type 0 };
 
-    /// One command on a card, whose outcome is put in place of another, with a budget of 1 to 65,536 instructions. The turns that are
-    /// told are those of its run, and where a write stopped those before the turn whose write it was.
+    /// Runs one command on a card, with a budget of 1 to 65,536 instructions, and writes its outcome to
+    /// `into`. The turns that are recorded are those of its run; if a write stopped, those before the turn
+    /// whose write it was.
+    ///
+    /// # Errors
+    ///
+    /// Returns the `Stop` of the write that stopped.
     fn run<N: Nvm, L: Ledger>(
         &mut self,
         card: &mut Card<N>,
@@ -33,14 +38,14 @@ pub trait Runner {
             (outcome_or_stop result into.new) card.new self.old self.new }
         ensures lent { N.same (device_in card.old) (device_in card.new) };
 
-    /// Where there are no turns, nothing is told.
+    /// Without turns nothing is recorded.
     ghost silent: { (r : Self) → told r [] r };
 
-    /// Turns are told behind those before them.
+    /// Turns are recorded after those before them.
     ghost onward: { (q r s : Self) (ts us : List ModelTurn) → told q ts r → told r us s → told q (ts ++ us) s };
 }
 
-/// Runs commands, and tells nothing of their turns.
+/// Runs commands, and records nothing of their turns.
 #[derive(Clone, Copy, Debug)]
 pub struct Silent;
 

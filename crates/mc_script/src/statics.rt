@@ -7,8 +7,8 @@ use mc_base::Aid;
 use mc_nvm::Bench;
 
 impl<N: Bench> Player<N> {
-    /// The length in bytes of the static segment of an application, or `None` exactly where a `dump` line of that name tells no bytes:
-    /// where no card runs, and where the name is not on the card.
+    /// Returns the length in bytes of the static segment of an application, or `None` exactly when a `dump`
+    /// line of that name shows no bytes: if no card runs, or if the name is not on the card.
     pub fn static_len(&self, aid: &Aid) -> Option<u16>
         requires playing { IsPlaying N.state N.bench self.now }
         ensures value { result ≡ option_map length (statics_in N.state self.now aid.now) }
@@ -20,7 +20,8 @@ impl<N: Bench> Player<N> {
         }
     }
 
-    /// Copies static bytes of an application that `static_len` knows, from a place on; they lie in its segment.
+    /// Copies static bytes of an application for which `static_len` returns a length, from place `at` on,
+    /// into `into`; they lie in its segment.
     pub fn static_of(&self, aid: &Aid, at: u16, into: &mut [u8])
         requires playing { IsPlaying N.state N.bench self.now }
         requires range { (fixed : List ℕ) × (statics_in N.state self.now aid.now ≡ Some fixed)

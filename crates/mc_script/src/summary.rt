@@ -16,8 +16,8 @@ use mc_machine::Outcome;
 use mc_nvm::Bench;
 use mc_text::put;
 
-/// How many lines of a play answered, how many of them by a reply or a refused write, by an abend, by a cut, without a card, and by a
-/// power-up that was ready.
+/// The number of lines of a play that answered, and the numbers of those that did so by a reply or a failed
+/// write, by an abend, by a cut, without a card, and by a power-up that was ready.
 #[derive(Clone, Copy, Debug, PartialEq, Eq)]
 pub struct Counts {
     pub lines: u64,
@@ -31,7 +31,7 @@ pub struct Counts {
 type Line = ArrayVec<u8, 192>;
 
 impl Counts {
-    /// The counts of no line.
+    /// Returns the counts of no line.
     pub fn new() -> Counts
         ensures { Counted result [] }
     {
@@ -45,7 +45,7 @@ impl Counts {
         }
     }
 
-    /// The counts of a play with one more answer of its player. No count is at its last value.
+    /// Returns the counts of a play with one more answer of its player. No count is at its last value.
     pub fn with<N: Bench>(self, player: &Player<N>, answer: &Answer) -> Counts
         requires lines { self.lines < 18446744073709551615 }
         requires replies { self.replies < 18446744073709551615 }
@@ -74,14 +74,14 @@ impl Counts {
     }
 }
 
-// A line that counts, or one that does not.
+// Returns 1 for a line that counts, and 0 for one that does not.
 fn one_if(counts: bool) -> u64
     ensures { result ≡ cond counts 1 0 }
 {
     if counts { 1 } else { 0 }
 }
 
-// Whether a line was answered by a reply, or by a refused write, whose status it is.
+// Returns whether a line was answered by a reply, or by a failed write, whose status it is.
 fn is_reply<N: Bench>(player: &Player<N>, answer: &Answer) -> bool
     ensures { result ≡ is_reply (answer_value N.state player.now answer.now) }
 {
@@ -92,21 +92,21 @@ fn is_reply<N: Bench>(player: &Player<N>, answer: &Answer) -> bool
     }
 }
 
-// Whether the application of a line abended.
+// Returns whether the application of a line abended.
 fn is_abend<N: Bench>(player: &Player<N>, answer: &Answer) -> bool
     ensures { result ≡ is_abend (answer_value N.state player.now answer.now) }
 {
     matches!(answer, Answer::Outcome) && matches!(player.outcome, Outcome::Abend(_))
 }
 
-// Whether a cut hit a line.
+// Returns whether a cut hit a line.
 fn is_cut<N: Bench>(player: &Player<N>, answer: &Answer) -> bool
     ensures { result ≡ is_cut (answer_value N.state player.now answer.now) }
 {
     matches!(answer, Answer::OffAt(_))
 }
 
-// Whether a line wanted a card where the power is off.
+// Returns whether a line needed a card while the power was off.
 fn is_off<N: Bench>(player: &Player<N>, answer: &Answer) -> bool
     ensures { result ≡ is_off (answer_value N.state player.now answer.now) }
 {
@@ -117,14 +117,14 @@ fn is_off<N: Bench>(player: &Player<N>, answer: &Answer) -> bool
     }
 }
 
-// Whether a power line gave a card.
+// Returns whether a power line found a card.
 fn is_ready<N: Bench>(player: &Player<N>, answer: &Answer) -> bool
     ensures { result ≡ is_ready (answer_value N.state player.now answer.now) }
 {
     matches!(answer, Answer::Ready(_))
 }
 
-/// The counts with those of a line, where it answers.
+/// Returns the counts with one more line, if it answers.
 pub fn counted<N: Bench>(counts: Counts, player: &Player<N>, answer: &Option<Answer>) -> Counts
     requires { (rs : List LineResult) × Counted counts rs × (length rs < 18446744073709551615) }
     ensures { (rs : List LineResult) → Counted counts rs
@@ -136,7 +136,7 @@ pub fn counted<N: Bench>(counts: Counts, player: &Player<N>, answer: &Option<Ans
     }
 }
 
-// Text behind what the line has.
+// Appends a text to a line.
 fn add(line: &mut Line, text: &[u8])
     requires { array_vec_len line.old + length text.now ≤ 192 }
     ensures { line.new.items ≡ line.old.items ++ text.now }
@@ -144,7 +144,7 @@ fn add(line: &mut Line, text: &[u8])
     line.try_extend_from_slice(text).unwrap()
 }
 
-// A count behind its word.
+// Appends a word and its count to a line.
 fn add_count(line: &mut Line, word: &[u8], count: u64)
     requires { array_vec_len line.old + length word.now + 20 ≤ 192 }
     ensures text { line.new.items ≡ line.old.items ++ word.now ++ decimal count }

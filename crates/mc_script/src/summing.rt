@@ -80,7 +80,7 @@ fn put_dumps<N: Bench, T: Sink>(
     Ok(())
 }
 
-// Writes the counts, and the results of the dump lines behind them.
+// Writes the counts, and the results of the dump lines after them.
 fn put_summary<N: Bench, T: Sink>(
     out: &mut T,
     text: &mut Text,

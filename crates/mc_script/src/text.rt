@@ -25,7 +25,7 @@ use mc_model_machine::Abend;
 use mc_nvm::{Bench, Nvm};
 use mc_text::{add, add_decimal, add_hex, put};
 
-/// How many static bytes are read at a time.
+/// The number of static bytes that are read at a time.
 const PIECE: usize = 256;
 
 /// The text of a line, which is gathered before it is written. It has room for a number of ten digits, a blank, `static`, a blank and 4,096
@@ -80,7 +80,7 @@ fn add_outcome(text: &mut Text, outcome: &Outcome)
     }
 }
 
-// Adds some static bytes of an application in hexadecimal, from a place on.
+// Adds `count` static bytes of an application in hexadecimal, from place `at` on.
 fn add_piece<N: Nvm>(text: &mut Text, card: &Card<N>, aid: &Aid, at: u16, count: usize)
     requires up { IsUp N.state card.now }
     requires there { IsSome (lookup (card_in N.state card.now).apps aid.now) }
@@ -116,7 +116,7 @@ fn add_bytes<N: Nvm>(text: &mut Text, card: &Card<N>, aid: &Aid, len: u16)
     }
 }
 
-// Adds what a `dump` line tells of a name on a card that runs.
+// Adds the result of a `dump` line for a name on a card that runs.
 fn add_static<N: Nvm>(text: &mut Text, card: &Card<N>, aid: &Aid)
     requires up { IsUp N.state card.now }
     requires room { array_vec_len text.old ≤ 11 }
@@ -134,7 +134,7 @@ fn add_static<N: Nvm>(text: &mut Text, card: &Card<N>, aid: &Aid)
     }
 }
 
-// Adds what a `dump` line tells of a name.
+// Adds the result of a `dump` line for a name.
 fn add_dump<N: Bench>(text: &mut Text, player: &Player<N>, aid: &Aid)
     requires playing { IsPlaying N.state N.bench player.now }
     requires room { array_vec_len text.old ≤ 11 }
@@ -150,7 +150,7 @@ fn add_dump<N: Bench>(text: &mut Text, player: &Player<N>, aid: &Aid)
     }
 }
 
-/// Adds a result of a player, as it stands in a transcript behind its number and a blank.
+/// Adds a result of a player, as a transcript has it after its number and a blank.
 pub fn add_result<N: Bench>(text: &mut Text, player: &Player<N>, answer: &Answer)
     requires playing { IsPlaying N.state N.bench player.now }
     requires room { array_vec_len text.old ≤ 11 }
@@ -170,7 +170,7 @@ pub fn add_result<N: Bench>(text: &mut Text, player: &Player<N>, answer: &Answer
     }
 }
 
-// A number behind a word.
+// Adds a word and a number.
 fn add_number(text: &mut Text, word: &[u8], number: u32)
     requires room { array_vec_len text.old ≤ 11 }
     requires small { length word.now ≤ 20 }
@@ -193,7 +193,7 @@ fn gather<N: Bench>(text: &mut Text, number: u32, player: &Player<N>, answer: &A
     add(text, b"\n");
 }
 
-/// Writes the line of a result where there is one, at once.
+/// Writes the line of a result, if there is one, by one `put`.
 pub fn put_answer<N: Bench, T: Sink>(
     out: &mut T,
     text: &mut Text,

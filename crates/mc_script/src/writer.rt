@@ -1,4 +1,4 @@
-// What is written of a play, line by line.
+// The text of a play, written line by line.
 ghost use Rattle.std.specs.Prelude.{◌≡◌, ◌≤◌, ◌++◌, ◌∷◌, [], ℕ, List, Option, None, IfSome, option_map};
 ghost use Rattle.mc_model_machine.specs.Chain.{Turn as ModelTurn};
 ghost use Rattle.mc_model_machine.specs.Code.{Shaped};
@@ -25,7 +25,7 @@ use mc_text::put;
 use mc_trace::line_of;
 use std::sync::ledger::Ledger;
 
-/// What is written of each line of a play: its result, or the lines of its turns and its result.
+/// The text of each line of a play: its result, or the lines of its turns and its result.
 #[derive(Clone, Copy, Debug)]
 pub enum Telling {
     Results,
@@ -42,7 +42,7 @@ pub struct Writer<'a, T: Sink> {
 }
 
 impl<'a, T: Sink> Writer<'a, T> {
-    /// A writer that has written nothing.
+    /// Returns a writer that has written nothing.
     pub fn new(out: &'a mut T, telling: Telling) -> Writer<'a, T>
         ensures out { result.out.now ≡ out.old }
         ensures same { result.out.ghost_name ≡ out.entry.ghost_name }
@@ -57,7 +57,8 @@ impl<'a, T: Sink> Writer<'a, T> {
         }
     }
 
-    /// Writes the result of a line behind the text of the turns that were told in it, unless its sink failed before.
+    /// Writes the result of a line after the text of the turns that were recorded in it, unless its sink
+    /// failed before.
     pub fn tell<N: Bench>(&mut self, number: u32, player: &Player<N>, answer: &Option<Answer>)
         requires playing { IsPlaying N.state N.bench player.now }
         ensures tells { (before : Writer T) (ts : List ModelTurn) → before.fault ≡ None
@@ -73,7 +74,7 @@ impl<'a, T: Sink> Writer<'a, T> {
         }
     }
 
-    /// Whether all was written.
+    /// Returns `Ok` if all was written, or else the fault of the sink.
     pub fn ended(&self) -> Result<(), WriteFault>
         ensures { result ≡ write_result self.now.fault }
     {

@@ -1,4 +1,4 @@
--- no call stands before the place
+-- there is no call before the place
 use Rattle.mc_check.specs.Judging.{HasNoCall}
 use Rattle.mc_check.proofs.judging.has_call.Given as goal
 

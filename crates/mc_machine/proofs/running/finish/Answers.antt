@@ -1,4 +1,4 @@
--- Each turn leads on, and each end is that of the whole run.
+-- Each turn keeps the invariant, and each end is that of the whole run.
 use Rattle.std.proofs.Common.{◌∙◌, refl}
 use Rattle.std.proofs.lemmas.Result.{err_from_is_err_and}
 use Rattle.mc_model_machine.specs.Chain.{run_of_chain}

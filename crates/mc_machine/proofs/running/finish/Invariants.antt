@@ -4,7 +4,7 @@ use Rattle.mc_machine.specs.Chains.{RunsAs}
 use Rattle.mc_machine.proofs.RunLemmas.{Underway}
 use Rattle.mc_machine.proofs.running.finish.Given as goal
 
--- what is left to run leads where the whole run leads, and the session bytes of the selection are as they were
+-- the rest of the run has the result of the whole run, and the session bytes of the selection are unchanged
 abbrev pub invariant-loop-turn : goal.invariant-loop-turn
 invariant-loop-turn g l =
     record {

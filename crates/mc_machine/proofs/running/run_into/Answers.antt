@@ -1,4 +1,4 @@
--- Each promise of a run is a part of what its turns do.
+-- Each clause of a run follows from the contract of its turns.
 use Rattle.mc_machine.specs.Chains.{run_of_command}
 use Rattle.mc_machine.proofs.RunLemmas.{ran_writes, ran_few, ran_outcome, ran_session, ran_ticks, ran_most, ran_going, ran_unchanged}
 use Rattle.mc_machine.proofs.running.run_into.Goals as goal

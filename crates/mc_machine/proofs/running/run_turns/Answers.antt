@@ -1,4 +1,4 @@
--- Each turn leads on, and each end is that of the whole run.
+-- Each turn keeps the invariant, and each end is that of the whole run.
 use Rattle.std.proofs.Common.{ℕ, List, Option, ◌+◌, ◌-◌, ◌∙◌, Ok, refl, subst, arith}
 use Rattle.std.proofs.lemmas.Result.{err_from_is_err_and}
 use Rattle.mc_model_machine.specs.Chain.{start, turn_of}

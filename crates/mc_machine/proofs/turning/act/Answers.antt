@@ -233,7 +233,7 @@ returns-in-Err-clause-done g c ch r =
     )
     )
 
--- ---- how much the turn writes
+-- ---- the number of words that the turn writes
 
 pub returns-in-Err-Undefined-clause-few : goal.returns-in-Err-Undefined-clause-few
 returns-in-Err-Undefined-clause-few g c ch r apps =

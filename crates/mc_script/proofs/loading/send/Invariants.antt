@@ -3,7 +3,7 @@ use Rattle.mc_card.specs.Parts.{device_in}
 use Rattle.mc_script.proofs.SendLemmas.{Sends}
 use Rattle.mc_script.proofs.loading.send.Given as goal
 
--- what the commands that are left do from here, all do from the start
+-- the commands that are left, sent from here, make up all commands sent from the start
 abbrev pub invariant-loop-bytes : goal.invariant-loop-bytes
 invariant-loop-bytes g l =
     record {

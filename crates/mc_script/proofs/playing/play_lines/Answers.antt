@@ -12,7 +12,7 @@ use Rattle.mc_script.proofs.DeckLemmas.{PlayReached, reached_end, reached_failed
 use Rattle.mc_script.proofs.LoggedLemmas.{told_as}
 use Rattle.mc_script.proofs.playing.play_lines.Goals as goal
 
--- the writer is the same over its sink behind a line
+-- after a line the writer has the same sink
 pub returns-then-is_err-clause-same : goal.returns-then-is_err-clause-same
 returns-then-is_err-clause-same g c =
     let line = c.line-answer.ensures.done c.loop-i.invariant.reached.here 0 c.loop-i.invariant.reached.at in

@@ -6,7 +6,7 @@ use Rattle.mc_script.specs.Writers.{text_by, turns_text}
 use Rattle.mc_script.proofs.DeckLemmas.{PlayReached}
 use Rattle.mc_script.proofs.playing.play_lines.Given as goal
 
--- whatever a play of the lines that are left is from here, the play of the whole deck is from the start
+-- a play of the lines that are left from here makes the play of the whole deck from the start
 abbrev pub invariant-loop-i : goal.invariant-loop-i
 invariant-loop-i g l =
     let out = sunk_in g.T.Sink.taken g.T.Sink.faults in

@@ -5,7 +5,7 @@ use Rattle.mc_script.specs.Lines.{bench_of}
 use Rattle.mc_script.proofs.SumLemmas.{Counting}
 use Rattle.mc_script.proofs.summing.tally.Given as goal
 
--- whatever the lines that are left play from here, the whole deck plays from the start
+-- a play of the lines that are left from here makes the play of the whole deck from the start
 abbrev pub invariant-loop-i : goal.invariant-loop-i
 invariant-loop-i g l =
     let state = g.N.Nvm.state in

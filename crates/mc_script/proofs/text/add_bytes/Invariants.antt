@@ -4,7 +4,7 @@ use Rattle.mc_bank.specs.Bank.{app_of}
 use Rattle.mc_card.specs.Parts.{card_in}
 use Rattle.mc_script.proofs.text.add_bytes.Given as goal
 
--- the digits so far and those of what is left are those of all, behind what the text had
+-- the digits so far and those of the bytes that are left are those of all bytes, after the text that was there
 abbrev pub invariant-loop-at : goal.invariant-loop-at
 invariant-loop-at g l =
     let fixed = (app_of (card_in g.N.Nvm.state l.card).apps (Some l.aid)).fixed in

@@ -2,7 +2,7 @@ use Rattle.mc_check.specs.Closing.{tables_of, IsFit, AddsFacts}
 use Rattle.mc_check.proofs.ClosingBack.{BackBelow}
 use Rattle.mc_check.proofs.closing.Closing.come_back_all.Given as goal
 
--- the CALLs below the place are followed, whatever came in
+-- the CALLs below the place are followed, whatever facts were added
 abbrev pub invariant-loop-place : goal.invariant-loop-place
 invariant-loop-place l = record {
   fit : IsFit l.code (tables_of l.self);

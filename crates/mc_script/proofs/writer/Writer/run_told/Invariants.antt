@@ -5,7 +5,7 @@ use Rattle.mc_script.specs.declared.writer.Telling.TheVariants as telling
 use Rattle.mc_script.proofs.CommandLemmas.{RunLeads}
 use Rattle.mc_script.proofs.writer.Writer.run_told.Given as goal
 
--- what is done with the budget that is left is what is done with all of it
+-- a run with the budget that is left makes the run with the whole budget
 abbrev pub invariant-loop-turn : goal.invariant-loop-turn
 invariant-loop-turn g l =
     let taken = g.T.Sink.taken in

@@ -2,7 +2,7 @@ ghost use Rattle.std.specs.Prelude.{ℕ};
 ghost use Rattle.mc_promise.specs.Kept.{IsKept};
 ghost use Rattle.mc_promise.proofs.CounterOutline.{counter_outline, counter_shown};
 
-use mc_promise::{keeps, Promise};
+use mc_promise::{Promise, keeps};
 
 /// The counter, under the rule.
 pub struct Counter;

@@ -1,0 +1,6 @@
+pub mod PartLemmas
+pub mod NameLemmas
+pub mod TextLemmas
+pub mod PushLemmas
+pub mod WordLemmas
+pub mod ToldLemmas

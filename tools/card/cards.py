@@ -1,0 +1,105 @@
+"""A card under power, as a test sees it."""
+
+from __future__ import annotations
+
+import subprocess
+from types import TracebackType
+from typing import Optional, Type
+
+from .readers import ATR, BUDGET, CUT, DONE, FAIL, POWER_OFF, RESET, Path, Reader, ReaderEnded, opened, program_path
+
+
+class Card:
+    """A card under power, on which the deck was played: a path, or none for a blank card. `record` names a file that has the session's
+    deck after every command.
+
+    # Errors
+
+    OSError, if there is no such deck or program; `ReaderEnded`, if the deck is refused.
+    """
+
+    def __init__(self, deck: Optional[Path] = None, program: Optional[Path] = None, record: Optional[Path] = None) -> None:
+        self.reader = Reader(deck, program, record)
+        try:
+            self.atr()
+            self.reset()
+        except ReaderEnded:
+            self.reader.close()
+            raise
+
+    def atr(self) -> bytes:
+        """The answer to reset."""
+        return self.reader.ask(ATR)
+
+    def reset(self) -> None:
+        """Powers the card up: what a cut left is recovered, and nothing is selected."""
+        self.reader.send(RESET)
+
+    def off(self) -> None:
+        """Takes power away, until the next `reset`."""
+        self.reader.send(POWER_OFF)
+
+    def transmit(self, command: bytes) -> bytes:
+        """The reply to a command: its data and its two status bytes; no bytes where the card gives no answer, since power was cut, no
+        card runs or it is mute."""
+        if len(command) < 2:
+            raise ValueError("a command has two bytes at least")
+        return self.reader.ask(bytes(command))
+
+    def cut(self, k: int, fill: bytes = bytes(8)) -> None:
+        """Cuts power in the `k`-th device write of the next command or reset, and leaves `fill`, 8 bytes, in its word."""
+        self._arm(CUT, k.to_bytes(4, "big") + bytes(fill))
+
+    def fail(self, k: int) -> None:
+        """Lets the device refuse the `k`-th write of the next command or reset."""
+        self._arm(FAIL, k.to_bytes(4, "big"))
+
+    def budget(self, n: int) -> None:
+        """Lets commands from here on run `n` instructions, 1 to 65,536."""
+        self._arm(BUDGET, n.to_bytes(4, "big"))
+
+    def dump(self, aid: str) -> Optional[bytes]:
+        """The static bytes of an application, by its name in hexadecimal, or None if it is absent. `melcard` plays the session so far
+        and a line `dump`; the card itself is not asked.
+
+        # Errors
+
+        ValueError, if no card runs: `reset` it first."""
+        return dumped(self.session(), aid)
+
+    def session(self) -> str:
+        """The session so far as a deck, with its answers as expectations: `mellab expect` holds of it."""
+        return self.reader.session.text()
+
+    def keep(self, path: Path) -> None:
+        """Writes the session so far to a file."""
+        with opened(path, "w") as file:
+            file.write(self.session())
+
+    def close(self) -> int:
+        """Ends the reader, and the card with it. Gives the status of the program."""
+        return self.reader.close()
+
+    def _arm(self, command: bytes, value: bytes) -> None:
+        status = self.reader.ask(command + b"\0\0" + bytes([len(value)]) + value)
+        if status != DONE:
+            raise ValueError(f"the reader refused {command.hex()} {value.hex()}: {status.hex()}")
+
+    def __enter__(self) -> Card:
+        return self
+
+    def __exit__(self, kind: Optional[Type[BaseException]], value: Optional[BaseException], trace: Optional[TracebackType]) -> None:
+        self.close()
+
+
+def dumped(deck: str, aid: str) -> Optional[bytes]:
+    """What a line `dump AID` behind a deck tells."""
+    text = f"{deck}dump {aid}\n".encode("utf-8", "surrogateescape")
+    played = subprocess.run([program_path("melcard"), "play"], input=text, stdout=subprocess.PIPE, check=False)
+    last = played.stdout.decode(errors="replace").splitlines()[-1:] or ["nothing"]
+    fields = last[0].split()
+    if played.returncode == 0 and fields[1:2] == ["static"]:
+        return bytes.fromhex("".join(fields[2:]))
+    if played.returncode == 0 and fields[1:] == ["absent"]:
+        return None
+    raise ValueError(f"a dump of {aid} tells no bytes: {' '.join(fields[1:]) or last[0]}")

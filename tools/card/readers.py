@@ -1,0 +1,152 @@
+"""`melreader` as a program that runs: frames go in and out."""
+
+from __future__ import annotations
+
+import os
+import pathlib
+import shutil
+import subprocess
+from types import TracebackType
+from typing import IO, List, Optional, Type, Union
+
+from .sessions import Session
+
+Path = Union[str, "os.PathLike[str]"]
+
+POWER_OFF = b"\x00"
+RESET = b"\x02"
+ATR = b"\x04"
+
+# Classes and instructions of the commands to the reader itself.
+CUT = b"\xff\xc0"
+FAIL = b"\xff\xc1"
+BUDGET = b"\xff\xc2"
+
+DONE = b"\x90\x00"
+
+TOP = pathlib.Path(__file__).resolve().parent.parent.parent
+
+
+class ReaderEnded(Exception):
+    """`melreader` has ended. The message is what it wrote, such as the line of a refused deck."""
+
+    def __init__(self, status: int, message: str) -> None:
+        super().__init__(f"melreader ended with {status}: {message}")
+        self.status = status
+
+
+def program_path(name: str = "melreader") -> str:
+    """A program: what the environment names (`MELREADER`), else what the repository built, by the gate or by tools/build, or what was
+    installed with this package, else what is on the path.
+
+    # Errors
+
+    FileNotFoundError, if there is none.
+    """
+    built = [TOP / "crates" / name / "out" / name, TOP / "build" / "bin" / name, *([TOP.parent / "bin" / name] if TOP.name == "share" else [])]
+    named = os.environ.get(name.upper()) or next((os.fspath(it) for it in built if it.is_file()), None) or shutil.which(name)
+    if named is None:
+        raise FileNotFoundError(f"there is no {name}: build it by tools/build, or name it by {name.upper()}")
+    return named
+
+
+def framed(content: bytes) -> bytes:
+    """A frame: the length in two bytes, and the content."""
+    return len(content).to_bytes(2, "big") + content
+
+
+def is_answered(content: bytes) -> bool:
+    """Whether the reader answers such a frame: every command, and the wish for an ATR."""
+    return len(content) >= 2 or content == ATR
+
+
+def opened(path: Path, mode: str) -> IO[str]:
+    """A file of a deck: whatever bytes stand in it stay as they are."""
+    return open(path, mode, encoding="utf-8", errors="surrogateescape", newline="")
+
+
+def deck_of(path: Path) -> str:
+    """The text of a deck."""
+    with opened(path, "r") as file:
+        return file.read()
+
+
+class Reader:
+    """A `melreader` that runs. Frames go in and out; each of them is kept as a line of the session, and `record` names a file that has
+    the session's deck after every frame.
+
+    # Errors
+
+    OSError, if there is no such deck or program, or the record cannot be written; `ReaderEnded`, once the program has ended.
+    """
+
+    def __init__(self, deck: Optional[Path] = None, program: Optional[Path] = None, record: Optional[Path] = None) -> None:
+        self.session = Session(None if deck is None else deck_of(deck))
+        self._record: Optional[IO[str]] = None
+        if record is not None:
+            self._record = opened(record, "w")
+            self._keep(self.session.lines)
+        words = [os.fspath(program or program_path()), *([] if deck is None else [os.fspath(deck)])]
+        process = subprocess.Popen(words, stdin=subprocess.PIPE, stdout=subprocess.PIPE, stderr=subprocess.PIPE)
+        assert process.stdin is not None and process.stdout is not None and process.stderr is not None
+        self.process, self._input, self._output, self._errors = process, process.stdin, process.stdout, process.stderr
+        self._asked: Optional[bytes] = None
+
+    def send(self, content: bytes) -> None:
+        """Sends a frame."""
+        try:
+            self._input.write(framed(content))
+            self._input.flush()
+        except BrokenPipeError:
+            raise self._ended() from None
+        self._asked = content if is_answered(content) else None
+        if self._asked is None:
+            self._keep(self.session.told(content, None))
+
+    def receive(self) -> bytes:
+        """The content of the next answer."""
+        answer = self._read(int.from_bytes(self._read(2), "big"))
+        if self._asked is not None:
+            self._keep(self.session.told(self._asked, answer))
+            self._asked = None
+        return answer
+
+    def ask(self, content: bytes) -> bytes:
+        """Sends a frame and gives the content of its answer."""
+        self.send(content)
+        return self.receive()
+
+    def close(self) -> int:
+        """Ends the program: its input ends, and the card with it. Gives its status."""
+        try:
+            self._input.close()
+        except BrokenPipeError:
+            pass
+        status = self.process.wait()
+        self._output.close()
+        self._errors.close()
+        if self._record is not None:
+            self._record.close()
+        return status
+
+    def _keep(self, lines: List[str]) -> None:
+        """Writes lines of the session to the record, if there is one."""
+        if self._record is not None and lines:
+            self._record.write("".join(f"{line}\n" for line in lines))
+            self._record.flush()
+
+    def _read(self, count: int) -> bytes:
+        content = self._output.read(count)
+        if len(content) < count:
+            raise self._ended()
+        return content
+
+    def _ended(self) -> ReaderEnded:
+        message = self._errors.read().decode(errors="replace").strip()
+        return ReaderEnded(self.process.wait(), message)
+
+    def __enter__(self) -> Reader:
+        return self
+
+    def __exit__(self, kind: Optional[Type[BaseException]], value: Optional[BaseException], trace: Optional[TracebackType]) -> None:
+        self.close()

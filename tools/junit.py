@@ -1,0 +1,140 @@
+#!/usr/bin/env python3
+"""Writes what `mellab` wrote as JUnit XML, a case for each line of a deck that is tested, for services that show tests.
+
+    tools/junit.py [--no-between] TEXT [DECK]        one text, of `mellab expect`, `sweep` or `explore`; - is the standard input
+    tools/junit.py [--no-between] --campaign FOLDER  a folder of texts and statuses, as docs/CAMPAIGNS.md fills it; its decks are looked
+                                                     for from the working folder on, or from --decks
+
+The cases of `expect` are the expectations of the deck, those of `sweep` the swept lines, those of `explore` the rules that spend; of a
+refused deck it is its refused line. Where no deck is given, there is a case for each line of the text alone. A swept line fails where it is
+torn, and with --no-between also where it is between.
+
+It needs Python 3.9. It ends with 1 where a case failed, and with 2 where it cannot read what it is given.
+"""
+
+import argparse
+import re
+import sys
+import xml.etree.ElementTree as xml
+from pathlib import Path
+from typing import Iterator, List, Optional, Tuple
+
+import labtexts
+from labtexts import BadText, Text
+
+# A case: its name, the kind of its fault (`failure`, `error` or none), and what is said of that.
+Case = Tuple[str, Optional[str], str]
+NO_CHARACTERS = re.compile("[^\t\n\r\x20-\ud7ff\ue000-\ufffd\U00010000-\U0010ffff]")
+
+
+def named(number: int, statement: str) -> str:
+    """The name of the case of a line."""
+    return f"line {number}: {' '.join(statement.split())}" if statement else f"line {number}"
+
+
+def statement_of(lines: List[str], number: int) -> str:
+    """A line of the deck, or nothing where there is no deck."""
+    return lines[number - 1] if 0 < number <= len(lines) else ""
+
+
+def expected(text: Text, lines: List[str]) -> Iterator[Case]:
+    """The cases of expectations."""
+    numbers = [it.number for it in labtexts.remarks_of(lines) if it.mark == "#>"] or sorted(text.differing)
+    for number in numbers:
+        wanted, was = text.differing.get(number, ("", ""))
+        fault = "failure" if number in text.differing else None
+        yield named(number, statement_of(lines, number)), fault, f"expected {wanted} was {was}" if fault else ""
+    if not numbers:
+        yield "the expectations", None, text.last
+
+
+def swept(text: Text, lines: List[str], no_between: bool) -> Iterator[Case]:
+    """The cases of swept lines."""
+    for it in text.swept:
+        is_bad = it.has("torn") or no_between and it.has("between")
+        runs = " ".join(f"{word} {first}-{last}" for word, first, last in it.runs)
+        yield named(it.number, statement_of(lines, it.number)), "failure" if is_bad else None, f"writes {it.writes}: {runs}"
+
+
+def explored(text: Text, lines: List[str]) -> Iterator[Case]:
+    """The cases of rules that spend an allowance."""
+    rules = [it for it in labtexts.remarks_of(lines) if it.mark == "#@" and " spend " in f" {it.text} "]
+    told = "\n".join(text.path)
+    for it in rules:
+        is_broken = it.text.split()[-2:-1] == [text.broken]
+        yield named(it.number, statement_of(lines, it.number)), "failure" if is_broken else None, told if is_broken else text.last
+    if not rules:
+        yield "explored", "failure" if text.broken else None, told or text.last
+
+
+def cases(text: Text, lines: List[str], status: Optional[int], no_between: bool) -> Iterator[Case]:
+    """The cases of a text, and one more where the job did not end well."""
+    if text.refused is not None:
+        number, cause = text.refused
+        yield named(number, statement_of(lines, number)), "error", cause
+    elif text.kind == "expect":
+        yield from expected(text, lines)
+    elif text.kind == "sweep":
+        yield from swept(text, lines, no_between)
+    elif text.kind == "explore":
+        yield from explored(text, lines)
+    if status is not None and status > 1:
+        yield "the job", "error", f"status {status}: {labtexts.MEANINGS.get(status, 'ended by a signal')}"
+    elif text.refused is None and not text.is_whole:
+        yield "the job", "error", "its text has no end"
+
+
+def clean(text: str) -> str:
+    """A text without what XML cannot hold."""
+    return NO_CHARACTERS.sub("\ufffd", text)
+
+
+def suite(name: str, found: List[Case]) -> xml.Element:
+    """A suite of cases."""
+    counts = {kind: sum(fault == kind for _, fault, _ in found) for kind in ("failure", "error")}
+    made = xml.Element("testsuite", name=clean(name), tests=str(len(found)), failures=str(counts["failure"]), errors=str(counts["error"]))
+    for case, fault, told in found:
+        element = xml.SubElement(made, "testcase", classname=clean(name), name=clean(case))
+        if fault is not None:
+            xml.SubElement(element, fault, message=clean(told.partition("\n")[0])).text = clean(told)
+        elif told:
+            xml.SubElement(element, "system-out").text = clean(told)
+    return made
+
+
+def suites_of(given: argparse.Namespace) -> List[xml.Element]:
+    """The suites of what is asked for."""
+    if given.campaign is not None:
+        jobs = labtexts.jobs_of(Path(given.campaign), Path(given.decks))
+        return [suite(f"{it.stem}.{it.name}", list(cases(it.text, it.lines, it.status, given.no_between))) for it in jobs]
+    text = labtexts.read_text(sys.stdin.read() if given.text == "-" else labtexts.read(given.text))
+    lines = [] if given.deck is None else labtexts.lines_of(labtexts.read(given.deck))
+    name = Path(given.deck or given.text).stem
+    return [suite(f"{name}.{text.kind or 'empty'}", list(cases(text, lines, None, given.no_between)))]
+
+
+def main() -> int:
+    words = argparse.ArgumentParser(description="Writes what mellab wrote as JUnit XML.")
+    words.add_argument("text", nargs="?", help="what mellab wrote; - is the standard input")
+    words.add_argument("deck", nargs="?", help="the deck that it is of")
+    words.add_argument("--campaign", metavar="FOLDER", help="a folder of texts and statuses")
+    words.add_argument("--decks", default=".", help="the folder from which a campaign's decks are named (the working folder)")
+    words.add_argument("--no-between", action="store_true", help="a swept line that is between fails too")
+    given = words.parse_args()
+    if (given.text is None) == (given.campaign is None):
+        words.error("give a text, or a campaign's folder")
+    try:
+        found = suites_of(given)
+    except (OSError, BadText) as error:
+        print(f"junit.py: {error}", file=sys.stderr)
+        return 2
+    made = xml.Element("testsuites")
+    made.extend(found)
+    xml.indent(made)
+    print('<?xml version="1.0" encoding="UTF-8"?>')
+    print(xml.tostring(made, encoding="unicode"))
+    return 1 if any(it.get("failures") != "0" or it.get("errors") != "0" for it in found) else 0
+
+
+if __name__ == "__main__":
+    sys.exit(main())

@@ -1,0 +1,189 @@
+#!/usr/bin/env python3
+"""Makes one HTML page of a campaign: verdicts, failed expectations, sweeps as pictures, explored states, and links to coverage.
+
+    tools/report.py FOLDER [--decks FOLDER] [--title TEXT] > REPORT.html
+
+FOLDER is a campaign as docs/CAMPAIGNS.md makes it: `JOB.verdicts` with a line `STATUS DECK` for each run, and what that run wrote at
+`DECK.JOB`, where JOB is expect, sweep or explore. Decks are looked for from the working folder on, or from --decks. Coverage is linked where
+it lies in FOLDER: `coverage/index.html`, and LCOV records `DECK.cover` or `DECK.info`. The page stands alone: it has no script, and loads
+nothing.
+
+It needs Python 3.9. It ends with 1 where a job did not hold, and with 2 where it cannot read what it is given.
+"""
+
+import argparse
+import sys
+from html import escape
+from pathlib import Path
+from typing import Dict, Iterator, List, Tuple
+
+import labtexts
+import sweep_svg
+from labtexts import BadText, Job
+
+JOBS = ("expect", "sweep", "explore")
+STYLE = """
+:root { color-scheme: light; }
+body { font: 15px/1.5 system-ui, sans-serif; color: #222; background: #fff; max-width: 1180px; margin: 0 auto; padding: 16px; }
+h1 { font-size: 1.5em; } h2 { font-size: 1.2em; border-bottom: 1px solid #ddd; margin-top: 2em; } h3 { font-size: 1em; margin: 1em 0 .3em; } p { margin: .2em 0; }
+.wide { overflow-x: auto; }
+table { border-collapse: collapse; } th, td { text-align: left; padding: 4px 12px; border-bottom: 1px solid #e5e5e5; vertical-align: top; }
+code, pre, td.text { font: 13px/1.4 monospace; } pre { background: #f6f6f6; padding: 8px; overflow-x: auto; }
+.good { color: #1d6b2a; } .bad { color: #a01b1b; font-weight: 600; } .look { color: #8a5200; }
+.sums { display: flex; flex-wrap: wrap; gap: 8px 32px; padding: 0; list-style: none; } .sums b { font-size: 1.4em; margin-right: .3em; }
+svg { display: block; }
+"""
+GOOD, LOOK, BAD = "good", "look", "bad"
+
+
+def verdict(job: Job) -> Tuple[str, str]:
+    """What is said of a job in a few words, and whether it is good."""
+    text = job.text
+    if text.refused is not None:
+        return f"refused: line {text.refused[0]} {text.refused[1]}", BAD
+    if job.status > 1 or text.kind == "" or not text.is_whole:
+        meaning = labtexts.MEANINGS.get(job.status, "ended by a signal")
+        return f"status {job.status}: {meaning}" if job.status > 1 else "its text has no end", BAD
+    if text.kind == "expect":
+        count = text.last.split()[1]
+        return (f"{len(text.differing)} of {count} failed", BAD) if text.differing else (f"{count} held", GOOD)
+    if text.kind == "explore":
+        return (f"broken: {text.broken}", BAD) if text.broken else (text.last.partition(" ")[2], GOOD)
+    torn, between = (sum(it.has(word) for it in text.swept) for word in ("torn", "between"))
+    if torn:
+        return f"{torn} lines torn", BAD
+    lines = f"{len(text.swept)} lines, {sum(it.writes for it in text.swept)} writes"
+    return (f"{lines}, {between} between", LOOK) if between else (lines, GOOD)
+
+
+def coverage_of(folder: Path, stem: str) -> str:
+    """A link to the coverage of a deck, with its sums, or nothing."""
+    found = next((it for it in (folder / f"{stem}.cover", folder / f"{stem}.info") if it.is_file()), None)
+    if found is None:
+        return ""
+    hits = [line[3:].split(",")[1] for line in found.read_text(encoding="utf-8").splitlines() if line.startswith("DA:")]
+    return f'<a href="{escape(found.name)}">{sum(hit != "0" for hit in hits)} of {len(hits)} lines</a>'
+
+
+def table(jobs: List[Job], folder: Path) -> Iterator[str]:
+    """The verdicts, a row for each deck."""
+    by_deck: Dict[str, Dict[str, Job]] = {}
+    for job in jobs:
+        by_deck.setdefault(job.deck, {})[job.name] = job
+    names = [name for name in JOBS if any(job.name == name for job in jobs)]
+    covers = {deck: coverage_of(folder, Path(deck).stem) for deck in by_deck}
+    heads = ["deck", *names, *(["coverage"] if any(covers.values()) else [])]
+    yield '<div class="wide"><table><tr>' + "".join(f"<th>{escape(head)}</th>" for head in heads) + "</tr>"
+    for deck, found in by_deck.items():
+        yield f"<tr><td><code>{escape(deck)}</code></td>"
+        for name in names:
+            said, kind = verdict(found[name]) if name in found else ("", GOOD)
+            link = f'<a class="{kind}" href="#{escape(found[name].stem)}.{name}">{escape(said)}</a>' if name in found else ""
+            yield f"<td>{link}</td>"
+        yield (f"<td>{covers[deck]}</td>" if any(covers.values()) else "") + "</tr>"
+    yield "</table></div>"
+
+
+def head_of(job: Job) -> str:
+    """The head of what is said of a job."""
+    said, kind = verdict(job)
+    # What holds has nothing more to show than a line, but for a picture.
+    tag = "p" if kind == GOOD and job.name == "expect" else "h3"
+    return f'<{tag} id="{escape(job.stem)}.{job.name}"><code>{escape(job.deck)}</code>: <span class="{kind}">{escape(said)}</span></{tag}>'
+
+
+def statement(job: Job, number: int) -> str:
+    """The statement that an expectation is of: the last line above it that is no comment and has a field."""
+    above = (line for line in reversed(job.lines[: number - 1]) if line.strip() and not line.strip().startswith("#"))
+    return next(above, "")
+
+
+def expectations(job: Job) -> Iterator[str]:
+    """The failed expectations of a deck."""
+    if job.text.differing:
+        yield '<div class="wide"><table><tr><th>line</th><th>statement</th><th>expected</th><th>was</th></tr>'
+        for number, (wanted, was) in sorted(job.text.differing.items()):
+            cells = "".join(f'<td class="text">{escape(it)}</td>' for it in (statement(job, number), wanted, was))
+            yield f"<tr><td>{number}</td>{cells}</tr>"
+        yield "</table></div>"
+
+
+def sweeps(job: Job) -> Iterator[str]:
+    """The picture of a sweep."""
+    if job.text.swept:
+        yield '<div class="wide">'
+        yield from sweep_svg.picture(job.text.swept, job.text.last if job.text.is_whole else None, job.lines)
+        yield "</div>"
+
+
+def states(depths: List[Tuple[int, int]]) -> Iterator[str]:
+    """The new states of each depth, as a picture."""
+    most, step, height = max(count for _, count in depths), 34, 120
+    width = 20 + step * len(depths)
+    yield (f'<div class="wide"><svg width="{width}" height="{height + 40}" viewBox="0 0 {width} {height + 40}" font-family="monospace" '
+           'font-size="11">')
+    for place, (depth, count) in enumerate(depths):
+        x, tall = 10 + step * place, round(height * count / max(most, 1))
+        yield (f'<rect x="{x}" y="{16 + height - tall}" width="{step - 8}" height="{tall}" fill="#4c78a8">'
+               f"<title>depth {depth}: {count} new states</title></rect>")
+        yield f'<text x="{x + (step - 8) // 2}" y="{12 + height - tall}" text-anchor="middle">{count}</text>'
+        yield f'<text x="{x + (step - 8) // 2}" y="{height + 32}" text-anchor="middle" fill="#777">{depth}</text>'
+    yield "</svg></div>"
+
+
+def explored(job: Job) -> Iterator[str]:
+    """The states that were explored, and the lines that break a rule."""
+    if job.text.depths:
+        yield "<p>New states at each depth.</p>"
+        yield from states(job.text.depths)
+    if job.text.path:
+        yield "<p>These lines behind the deck break it.</p>"
+        yield "<pre>" + escape("\n".join(job.text.path)) + "</pre>"
+
+
+SECTIONS = {"expect": ("Expectations", expectations), "sweep": ("Sweeps", sweeps), "explore": ("Explored", explored)}
+
+
+def page(title: str, jobs: List[Job], folder: Path) -> Iterator[str]:
+    """The whole page."""
+    kinds = [verdict(job)[1] for job in jobs]
+    yield f'<!DOCTYPE html>\n<html lang="en"><head><meta charset="utf-8"><title>{escape(title)}</title>'
+    yield f'<meta name="viewport" content="width=device-width, initial-scale=1"><style>{STYLE}</style></head><body>'
+    yield f"<h1>{escape(title)}</h1>"
+    writes = sum(it.writes for job in jobs for it in job.text.swept)
+    sums = [(len({job.deck for job in jobs}), "decks", ""), (len(jobs), "runs", ""), (writes, "writes swept", ""),
+            (kinds.count(BAD), "did not hold", BAD if BAD in kinds else GOOD)]
+    yield '<ul class="sums">' + "".join(f'<li class="{kind}"><b>{count:,}</b>{what}</li>' for count, what, kind in sums) + "</ul>"
+    if (folder / "coverage" / "index.html").is_file():
+        yield '<p><a href="coverage/index.html">Coverage of all decks</a></p>'
+    yield from table(jobs, folder)
+    for name, (head, told) in SECTIONS.items():
+        found = [job for job in jobs if job.name == name]
+        if found:
+            yield f"<h2>{head}</h2>"
+            for job in sorted(found, key=lambda job: verdict(job)[1] != BAD):
+                yield head_of(job)
+                yield from told(job)
+    yield "</body></html>"
+
+
+def main() -> int:
+    words = argparse.ArgumentParser(description="Makes one HTML page of a campaign.")
+    words.add_argument("folder", help="the campaign")
+    words.add_argument("--decks", default=".", help="the folder from which decks are named (the working folder)")
+    words.add_argument("--title", help="the title of the page")
+    given = words.parse_args()
+    folder = Path(given.folder)
+    try:
+        jobs = labtexts.jobs_of(folder, Path(given.decks))
+        if not jobs:
+            raise BadText(f"{folder} has no verdicts: docs/CAMPAIGNS.md shows how a campaign is made")
+    except (OSError, BadText) as error:
+        print(f"report.py: {error}", file=sys.stderr)
+        return 2
+    print("\n".join(page(given.title or f"Campaign {folder.resolve().name}", jobs, folder)))
+    return 1 if any(verdict(job)[1] == BAD for job in jobs) else 0
+
+
+if __name__ == "__main__":
+    sys.exit(main())
