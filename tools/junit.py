@@ -6,10 +6,10 @@
                                                      for from the working folder on, or from --decks
 
 The cases of `expect` are the expectations of the deck, those of `sweep` the swept lines, those of `explore` the rules that spend; of a
-refused deck it is its refused line. Where no deck is given, there is a case for each line of the text alone. A swept line fails where it is
-torn, and with --no-between also where it is between.
+refused deck it is its refused line. If no deck is given, there is a case for each line of the text alone. A swept line fails if it is
+torn, and with --no-between also if it is between.
 
-It needs Python 3.9. It ends with 1 where a case failed, and with 2 where it cannot read what it is given.
+It needs Python 3.9. It ends with 1 if a case failed, and with 2 if it cannot read what it is given.
 """
 
 import argparse
@@ -33,7 +33,7 @@ def named(number: int, statement: str) -> str:
 
 
 def statement_of(lines: List[str], number: int) -> str:
-    """A line of the deck, or nothing where there is no deck."""
+    """A line of the deck, or nothing if there is no deck."""
     return lines[number - 1] if 0 < number <= len(lines) else ""
 
 
@@ -59,16 +59,16 @@ def swept(text: Text, lines: List[str], no_between: bool) -> Iterator[Case]:
 def explored(text: Text, lines: List[str]) -> Iterator[Case]:
     """The cases of rules that spend an allowance."""
     rules = [it for it in labtexts.remarks_of(lines) if it.mark == "#@" and " spend " in f" {it.text} "]
-    told = "\n".join(text.path)
+    remark = "\n".join(text.path)
     for it in rules:
         is_broken = it.text.split()[-2:-1] == [text.broken]
-        yield named(it.number, statement_of(lines, it.number)), "failure" if is_broken else None, told if is_broken else text.last
+        yield named(it.number, statement_of(lines, it.number)), "failure" if is_broken else None, remark if is_broken else text.last
     if not rules:
-        yield "explored", "failure" if text.broken else None, told or text.last
+        yield "explored", "failure" if text.broken else None, remark or text.last
 
 
 def cases(text: Text, lines: List[str], status: Optional[int], no_between: bool) -> Iterator[Case]:
-    """The cases of a text, and one more where the job did not end well."""
+    """The cases of a text, and one more if the job did not end well."""
     if text.refused is not None:
         number, cause = text.refused
         yield named(number, statement_of(lines, number)), "error", cause
@@ -93,12 +93,12 @@ def suite(name: str, found: List[Case]) -> xml.Element:
     """A suite of cases."""
     counts = {kind: sum(fault == kind for _, fault, _ in found) for kind in ("failure", "error")}
     made = xml.Element("testsuite", name=clean(name), tests=str(len(found)), failures=str(counts["failure"]), errors=str(counts["error"]))
-    for case, fault, told in found:
+    for case, fault, remark in found:
         element = xml.SubElement(made, "testcase", classname=clean(name), name=clean(case))
         if fault is not None:
-            xml.SubElement(element, fault, message=clean(told.partition("\n")[0])).text = clean(told)
-        elif told:
-            xml.SubElement(element, "system-out").text = clean(told)
+            xml.SubElement(element, fault, message=clean(remark.partition("\n")[0])).text = clean(remark)
+        elif remark:
+            xml.SubElement(element, "system-out").text = clean(remark)
     return made
 
 
@@ -128,6 +128,7 @@ def main() -> int:
     except (OSError, BadText) as error:
         print(f"junit.py: {error}", file=sys.stderr)
         return 2
+    labtexts.end_with_reader()
     made = xml.Element("testsuites")
     made.extend(found)
     xml.indent(made)

@@ -4,6 +4,7 @@ Python 3.9 and its standard library alone.
 """
 
 import re
+import signal
 from dataclasses import dataclass, field
 from pathlib import Path
 from typing import Dict, List, Optional, Tuple
@@ -25,6 +26,12 @@ REFUSAL = re.compile(r"line (\d+) ([A-Z]\w*)$")
 
 class BadText(Exception):
     """A line that `mellab` does not write."""
+
+
+def end_with_reader() -> None:
+    """Lets the program end when the one that reads it does, as other filters do."""
+    if hasattr(signal, "SIGPIPE"):
+        signal.signal(signal.SIGPIPE, signal.SIG_DFL)
 
 
 # ---- decks
@@ -49,7 +56,7 @@ def fields_of(line: str) -> List[str]:
 
 @dataclass
 class Remark:
-    """A comment of a deck that `mellab` reads: its number, the mark that it begins with, and what stands behind it."""
+    """A comment of a deck that `mellab` reads: its number, the mark that it begins with, and what follows it."""
 
     number: int
     mark: str
@@ -57,7 +64,7 @@ class Remark:
 
 
 def remarks_of(lines: List[str]) -> List[Remark]:
-    """The expectations (`#>`) and the rules (`#@`) of a deck, none of which stands in a section of assembly."""
+    """The expectations (`#>`) and the rules (`#@`) of a deck, none of which is in a section of assembly."""
     found, is_section = [], False
     for number, line in enumerate(lines, 1):
         fields = fields_of(line)
@@ -88,7 +95,7 @@ class Swept:
 
 @dataclass
 class Text:
-    """What a job wrote of a deck; `kind` is `expect`, `sweep`, `explore` or `refused`, or empty where nothing was written."""
+    """What a job wrote of a deck; `kind` is `expect`, `sweep`, `explore` or `refused`, or empty if nothing was written."""
 
     kind: str = ""
     is_whole: bool = False

@@ -4,11 +4,11 @@
     tools/report.py FOLDER [--decks FOLDER] [--title TEXT] > REPORT.html
 
 FOLDER is a campaign as docs/CAMPAIGNS.md makes it: `JOB.verdicts` with a line `STATUS DECK` for each run, and what that run wrote at
-`DECK.JOB`, where JOB is expect, sweep or explore. Decks are looked for from the working folder on, or from --decks. Coverage is linked where
+`DECK.JOB`, where JOB is expect, sweep or explore. Decks are looked for from the working folder on, or from --decks. Coverage is linked if
 it lies in FOLDER: `coverage/index.html`, and LCOV records `DECK.cover` or `DECK.info`. The page stands alone: it has no script, and loads
 nothing.
 
-It needs Python 3.9. It ends with 1 where a job did not hold, and with 2 where it cannot read what it is given.
+It needs Python 3.9. It ends with 1 if a job did not hold, and with 2 if it cannot read what it is given.
 """
 
 import argparse
@@ -157,13 +157,13 @@ def page(title: str, jobs: List[Job], folder: Path) -> Iterator[str]:
     if (folder / "coverage" / "index.html").is_file():
         yield '<p><a href="coverage/index.html">Coverage of all decks</a></p>'
     yield from table(jobs, folder)
-    for name, (head, told) in SECTIONS.items():
+    for name, (head, section) in SECTIONS.items():
         found = [job for job in jobs if job.name == name]
         if found:
             yield f"<h2>{head}</h2>"
             for job in sorted(found, key=lambda job: verdict(job)[1] != BAD):
                 yield head_of(job)
-                yield from told(job)
+                yield from section(job)
     yield "</body></html>"
 
 
@@ -181,6 +181,7 @@ def main() -> int:
     except (OSError, BadText) as error:
         print(f"report.py: {error}", file=sys.stderr)
         return 2
+    labtexts.end_with_reader()
     print("\n".join(page(given.title or f"Campaign {folder.resolve().name}", jobs, folder)))
     return 1 if any(verdict(job)[1] == BAD for job in jobs) else 0
 

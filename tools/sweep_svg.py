@@ -3,11 +3,11 @@
 
     tools/sweep_svg.py SWEEP [DECK] > PICTURE.svg
 
-SWEEP is the text that `mellab sweep` wrote, or - for the standard input. Where the deck is given too, the statement of each line stands
+SWEEP is the text that `mellab sweep` wrote, or - for the standard input. If the deck is given too, the statement of each line is
 beside its bar. Each write is as wide as each other, 64 in a row: a long load takes more rows, and those of them that are of one word alone
 are drawn as one.
 
-It needs Python 3.9. It ends with 2 where it cannot read what it is given.
+It needs Python 3.9. It ends with 2 if it cannot read what it is given.
 """
 
 import argparse
@@ -35,7 +35,7 @@ Row = Tuple[int, int, List[Tuple[str, int, int]]]
 
 
 def rows_of(line: Swept) -> List[Row]:
-    """The rows of a swept line's bar, where rows of one word alone are joined; the first and the last stay by themselves."""
+    """The rows of a swept line's bar; rows of one word alone are joined, and the first and the last stay by themselves."""
     rows: List[Row] = []
     for first in range(1, line.writes + 1, PER_ROW):
         last = min(first + PER_ROW - 1, line.writes)
@@ -50,7 +50,7 @@ def rows_of(line: Swept) -> List[Row]:
 
 
 def beside(statement: str) -> str:
-    """A statement as it stands beside its bar, shortened."""
+    """A statement as it is written beside its bar, shortened."""
     words = " ".join(statement.split())
     return words if len(words) <= MOST_CHARACTERS else words[: MOST_CHARACTERS - 1] + "…"
 
@@ -121,6 +121,7 @@ def main() -> int:
     except (OSError, BadText) as error:
         print(f"sweep_svg.py: {error}", file=sys.stderr)
         return 2
+    labtexts.end_with_reader()
     print("\n".join(picture(text.swept, text.last if text.is_whole else None, statements)))
     return 0
 

@@ -8,8 +8,8 @@ its word (zeros if none are given). Behind each of the three plays a whole `powe
 deck names are compared: those of its load, select, delete and dump lines, and of --aid. Then the lines that play the cut; with --deck the
 whole deck is written to a file, with what was seen as expectations.
 
-It needs Python 3.9 and `melcard`, built by tools/build or by `rt ci`. It ends with 0, with 1 where the deck is refused or the line has no
-such write, and with 2 where it is called wrongly.
+It needs Python 3.9 and `melcard`, built by tools/build or by `rt ci`. It ends with 0, with 1 if the deck is refused or the line has no
+such write, and with 2 if it is called wrongly.
 """
 
 import argparse
@@ -20,7 +20,7 @@ from typing import Dict, Iterator, List, Optional, Tuple
 
 from card import program_path
 from card.sessions import CARD_LINES, armed_in
-from labtexts import fields_of, lines_of, read
+from labtexts import end_with_reader, fields_of, lines_of, read
 
 ABSENT = "absent"
 
@@ -77,21 +77,21 @@ def results(deck: List[str]) -> List[str]:
     """The results of a play, as the transcript has them."""
     text = "".join(f"{line}\n" for line in deck).encode()
     played = subprocess.run([program_path("melcard"), "play"], input=text, stdout=subprocess.PIPE, check=False)
-    told = played.stdout.decode(errors="replace").splitlines()
+    transcript = played.stdout.decode(errors="replace").splitlines()
     if played.returncode:
-        raise NotDone(f"melcard ended with {played.returncode}: {' '.join(told)}")
-    return [line.partition(" ")[2] for line in told]
+        raise NotDone(f"melcard ended with {played.returncode}: {' '.join(transcript)}")
+    return [line.partition(" ")[2] for line in transcript]
 
 
 def state(deck: List[str], names: List[str]) -> Tuple[List[str], Dict[str, str]]:
     """The results of a deck, a whole `power` and a `dump` of each name: those of the deck, and those of the dumps by name."""
-    told = results([*deck, "power", *(f"dump {name}" for name in names)])
-    split = len(told) - len(names)
-    return told[:split - 1], dict(zip(names, told[split:]))
+    found = results([*deck, "power", *(f"dump {name}" for name in names)])
+    split = len(found) - len(names)
+    return found[:split - 1], dict(zip(names, found[split:]))
 
 
 def bytes_of(dump: str) -> Optional[bytes]:
-    """The static bytes that a dump tells, or None if it tells none."""
+    """The static bytes of a dump, or None if it has none."""
     word, _, digits = dump.partition(" ")
     return bytes.fromhex(digits) if word == "static" else None
 
@@ -120,7 +120,7 @@ def table(names: List[str], before: Dict[str, str], after: Dict[str, str], cut: 
             continue
         values = [bytes_of(it) for it in dumps]
         for start, end in differing(values):
-            yield [name, f"{start:04X}", *(told if it is None else it[start:end].hex().upper() for told, it in zip(dumps, values))]
+            yield [name, f"{start:04X}", *(dump if it is None else it[start:end].hex().upper() for dump, it in zip(dumps, values))]
         if not any(values):
             yield [name, "", *dumps]
 
@@ -128,7 +128,7 @@ def table(names: List[str], before: Dict[str, str], after: Dict[str, str], cut: 
 def verdict(before: Dict[str, str], after: Dict[str, str], cut: Dict[str, str]) -> str:
     """What the cut left, in the word of a sweep."""
     if before == after == cut:
-        return "same: the line changes nothing that is told"
+        return "same: the line changes no byte that is compared"
     if cut in (before, after):
         return "before: the card is as it was before the line" if cut == before else "after: the card is as after the whole line"
     return "between: neither"
@@ -155,9 +155,10 @@ def tear(given: argparse.Namespace) -> List[str]:
     names = list(dict.fromkeys([*names_of(lines), *(it.upper() for it in given.aid)]))
     _, before = state(front, names)
     _, after = state([*front, line], names)
-    told, cut = state([*front, f"cut {given.write} {given.fill}", line], names)
-    if told[-1] != f"off at write {given.write}":
-        raise NotDone(f"line {given.line} makes fewer than {given.write} writes: its result is {told[-1]}")
+    shown, cut = state([*front, f"cut {given.write} {given.fill}", line], names)
+    if shown[-1] != f"off at write {given.write}":
+        raise NotDone(f"line {given.line} makes fewer than {given.write} writes: its result is {shown[-1]}")
+    end_with_reader()
     print(f"line {given.line}: {line.strip()}\ncut in write {given.write}, {given.fill} left in its word\n{verdict(before, after, cut)}\n")
     rows = list(table(names, before, after, cut))
     if rows:

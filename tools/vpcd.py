@@ -7,7 +7,7 @@ Every PC/SC program then finds a card in the reader `Virtual PCD`. It says on st
 is in. It runs until it is ended by a signal or `melreader` ends, and ends `melreader` with itself. With --record the session is kept as the
 deck that it is, with the card's answers as expectations: `mellab expect < FILE` holds.
 
-Where the card gives no answer the connection is closed and opened again: for the host the card was pulled and put back.
+If the card gives no answer, the connection is closed and opened again: for the host the card was pulled and put back.
 
 It needs Python 3.9, the package `card` beside it, and `melreader`.
 """
@@ -23,7 +23,7 @@ from card import ATR, POWER_OFF, Reader, ReaderEnded, framed, is_answered
 # How long to wait for a driver that does not listen yet, in seconds.
 RETRY = 0.2
 # The driver sends the length and the content of a frame apart, and holds the second back until the first is acknowledged, which Linux puts
-# off by 40 milliseconds where it is not asked to do it at once. It takes the wish back by itself, so it is asked before each read.
+# off by 40 milliseconds if it is not asked to do it at once. It takes the wish back by itself, so it is asked before each read.
 QUICK = getattr(socket, "TCP_QUICKACK", None)
 
 
@@ -43,7 +43,7 @@ def connected(address, say):
 
 
 def received(driver, count):
-    """`count` bytes of the driver, or None where it has left."""
+    """`count` bytes of the driver, or None if it has left."""
     content = b""
     while len(content) < count:
         try:
@@ -59,13 +59,13 @@ def received(driver, count):
 
 
 def frame_of(driver):
-    """The content of the driver's next frame, or None where it has left."""
+    """The content of the driver's next frame, or None if it has left."""
     size = received(driver, 2)
     return None if size is None else received(driver, int.from_bytes(size, "big"))
 
 
 def pass_frames(driver, reader):
-    """Passes frames both ways, until the driver leaves or the card gives no answer. Gives whether the driver left."""
+    """Passes frames both ways, until the driver leaves or the card gives no answer. Returns whether the driver left."""
     while (content := frame_of(driver)) is not None:
         reader.send(content)
         if is_answered(content):

@@ -1,8 +1,12 @@
-"""Gives the tests of this folder the fixture `card`: run them by `pytest examples/host` at the top of a checkout."""
+"""Gives the tests of this folder the fixture `card`: run them by `pytest examples/host` at the top of a checkout, or by `pytest host` where
+tools/install put the examples."""
 
 import pathlib
 import sys
 
-sys.path.insert(0, str(pathlib.Path(__file__).resolve().parent.parent.parent / "tools"))
+ABOVE = list(pathlib.Path(__file__).resolve().parents)
+PLACES = [ABOVE[2] / "tools", *(folder / "melcard" for folder in ABOVE[4:5])]
+
+sys.path[:0] = [str(folder) for folder in PLACES if (folder / "card").is_dir()]
 
 pytest_plugins = ["card.fixture"]

@@ -59,8 +59,8 @@ def test_a_session_is_a_deck_whose_expectations_hold(card, tmp_path):
         till.pay()
     assert till.balance == 100 - len(WRITES)
     with open(record, "rb") as deck:
-        told = subprocess.run([program_path("mellab"), "expect"], stdin=deck, stdout=subprocess.PIPE, check=False)
-    assert told.returncode == 0, told.stdout.decode()
+        done = subprocess.run([program_path("mellab"), "expect"], stdin=deck, stdout=subprocess.PIPE, check=False)
+    assert done.returncode == 0, done.stdout.decode()
 
 
 class Pulled:

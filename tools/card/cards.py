@@ -40,7 +40,7 @@ class Card:
         self.reader.send(POWER_OFF)
 
     def transmit(self, command: bytes) -> bytes:
-        """The reply to a command: its data and its two status bytes; no bytes where the card gives no answer, since power was cut, no
+        """The reply to a command: its data and its two status bytes; no bytes if the card gives no answer, since power was cut, no
         card runs or it is mute."""
         if len(command) < 2:
             raise ValueError("a command has two bytes at least")
@@ -93,7 +93,7 @@ class Card:
 
 
 def dumped(deck: str, aid: str) -> Optional[bytes]:
-    """What a line `dump AID` behind a deck tells."""
+    """The result of a line `dump AID` at the end of a deck, as bytes, or None if the application is absent."""
     text = f"{deck}dump {aid}\n".encode("utf-8", "surrogateescape")
     played = subprocess.run([program_path("melcard"), "play"], input=text, stdout=subprocess.PIPE, check=False)
     last = played.stdout.decode(errors="replace").splitlines()[-1:] or ["nothing"]
@@ -102,4 +102,4 @@ def dumped(deck: str, aid: str) -> Optional[bytes]:
         return bytes.fromhex("".join(fields[2:]))
     if played.returncode == 0 and fields[1:] == ["absent"]:
         return None
-    raise ValueError(f"a dump of {aid} tells no bytes: {' '.join(fields[1:]) or last[0]}")
+    raise ValueError(f"a dump of {aid} has no bytes: {' '.join(fields[1:]) or last[0]}")

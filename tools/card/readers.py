@@ -101,13 +101,13 @@ class Reader:
             raise self._ended() from None
         self._asked = content if is_answered(content) else None
         if self._asked is None:
-            self._keep(self.session.told(content, None))
+            self._keep(self.session.add(content, None))
 
     def receive(self) -> bytes:
         """The content of the next answer."""
         answer = self._read(int.from_bytes(self._read(2), "big"))
         if self._asked is not None:
-            self._keep(self.session.told(self._asked, answer))
+            self._keep(self.session.add(self._asked, answer))
             self._asked = None
         return answer
 

@@ -34,7 +34,7 @@ def armed_in(lines: List[str]) -> Optional[Tuple[str, int]]:
 
 
 class Session:
-    """The lines of a session so far. What the card answers stands behind its line as an expectation.
+    """The lines of a session so far. Each answer of the card is an expectation behind its line.
 
     A session is at most a deck: 20,000 lines and 1,048,576 bytes, of which nothing is tested here.
     """
@@ -43,7 +43,7 @@ class Session:
         self.lines = ["format"] if deck is None else lines_of(deck)
         self._armed = armed_in(self.lines)
         self._has_power = False
-        # Whether a card runs (None: it is not known), and what a line answers where none does.
+        # Whether a card runs (None: it is not known), and what a line answers if none does.
         self._runs: Optional[bool] = False
         self._silence = "off"
 
@@ -51,8 +51,8 @@ class Session:
         """The deck."""
         return "".join(f"{line}\n" for line in self.lines)
 
-    def told(self, content: bytes, answer: Optional[bytes]) -> List[str]:
-        """Takes in a frame of the host and its answer, None where a frame has none, and gives the lines that came of it."""
+    def add(self, content: bytes, answer: Optional[bytes]) -> List[str]:
+        """Takes in a frame of the host and its answer, None if the frame has none, and returns the lines that came of it."""
         if content in (b"\1", b"\2"):
             found = self._power()
         elif content == b"\0":
@@ -69,13 +69,14 @@ class Session:
     def _power(self) -> List[str]:
         """Power on and a reset are a line `power`, whose result no frame answers."""
         self._has_power = True
-        self._runs, self._silence = (True if self._armed is None else None), self._silence_of_stop()
+        # The words may be no card, or a stop may come: it is known with the next answer.
+        self._runs, self._silence = None, self._silence_of_stop()
         self._armed = None
         return ["power"]
 
     def _silence_of_stop(self) -> str:
-        """What later lines answer if the armed stop comes, or the words are no card."""
-        return "mute" if self._armed is not None and self._armed[0] == "fail" else "off"
+        """What later lines answer if the armed stop comes, or the words are no card: `mute` or `off`, if a write may be refused."""
+        return "*" if self._armed is not None and self._armed[0] == "fail" else "off"
 
     def _statement(self, content: bytes, answer: bytes) -> List[str]:
         """A command to the reader is its statement, if the reader took it."""
@@ -96,12 +97,13 @@ class Session:
     def _result(self, armed: Optional[Tuple[str, int]], answer: bytes) -> str:
         """A pattern for the result of a line that was answered so. 6F CC is an abend, or the reply of an application."""
         if answer:
-            is_stopped = answer == REFUSED_WRITE and armed is not None and armed[0] == "fail"
-            self._runs, self._silence = not is_stopped, "mute" if is_stopped else "off"
+            # 65 81 is the refused write, or the reply of an application.
+            may_be_mute = answer == REFUSED_WRITE and armed is not None and armed[0] == "fail"
+            self._runs, self._silence = None if may_be_mute else True, "mute" if may_be_mute else "off"
             is_abend = len(answer) == 2 and answer[0] == 0x6F
             return f"*{answer[1]:02X}" if is_abend else answer.hex().upper()
-        was_running, self._runs = self._runs, False
-        if armed is None or armed[0] != "cut" or was_running is False:
-            return self._silence
-        self._silence = "off"
-        return f"off at write {armed[1]}" if was_running else "off*"
+        did_run, was_silence, self._runs = self._runs, self._silence, False
+        if armed is None or armed[0] != "cut" or did_run is False:
+            return was_silence
+        self._silence = "off" if did_run or was_silence == "off" else "*"
+        return f"off at write {armed[1]}" if did_run else f"{self._silence.rstrip('*')}*"

@@ -52,9 +52,11 @@ nothing_declared = record { names = header_names; fixed = 0; session = 0; data_b
 abbrev pub most_static : ℕ
 most_static = 4096
 
+-- the most session bytes of an application
 abbrev pub most_session : ℕ
 most_session = 256
 
+-- the most public bytes
 abbrev pub most_public : ℕ
 most_public = 1041
 
@@ -98,6 +100,7 @@ pub data DeclarationWord : Type 0 where
   PublicWord : DeclarationWord
   ConstWord : DeclarationWord
 
+-- the words that begin a declaration
 abbrev pub declaration_words : List (List ℕ × DeclarationWord)
 declaration_words =
     (codes "STATIC", StaticWord) ∷

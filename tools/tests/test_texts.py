@@ -1,0 +1,101 @@
+"""The tools that read what `mellab` writes, over the examples.
+
+It needs pytest, and the programs, built by tools/build or by `rt ci`.
+"""
+
+import pathlib
+import subprocess
+import sys
+import xml.etree.ElementTree as xml
+
+import labtexts
+import pytest
+import sweep_svg
+from card import program_path
+
+TOP = pathlib.Path(__file__).resolve().parent.parent.parent
+TOOLS = TOP / "tools"
+
+
+def lab(job, deck):
+    """What `mellab` writes of a deck."""
+    return subprocess.run([program_path("mellab"), job], input=deck.encode(), stdout=subprocess.PIPE, check=False).stdout.decode()
+
+
+def tool(name, *words, text=""):
+    """What a tool does."""
+    return subprocess.run([sys.executable, str(TOOLS / name), *map(str, words)], input=text, stdout=subprocess.PIPE, stderr=subprocess.PIPE,
+                          text=True, check=False)
+
+
+def example(name):
+    """The text of an example deck."""
+    return (TOP / "examples" / f"{name}.deck").read_text(encoding="utf-8")
+
+
+@pytest.mark.parametrize("name", ["purse", "cut", "two_counters"])
+def test_a_tear_is_what_the_sweep_says_of_it(name):
+    for line in labtexts.read_text(lab("sweep", example(name))).swept:
+        for word, first, last in line.runs:
+            for k in {first, last}:
+                shown = tool("tear.py", TOP / "examples" / f"{name}.deck", line.number, k)
+                assert shown.stdout.splitlines()[2].partition(":")[0] == word, (line, k)
+
+
+def test_a_tear_writes_the_deck_that_plays_it(tmp_path):
+    deck = tmp_path / "torn.deck"
+    assert tool("tear.py", TOP / "examples/wallet.deck", 138, 10, "FF" * 8, "--deck", deck).returncode == 0
+    assert lab("expect", deck.read_text(encoding="utf-8")).endswith("failed 0\n")
+
+
+def test_a_write_that_a_line_does_not_make_is_none():
+    shown = tool("tear.py", TOP / "examples/purse.deck", 21, 7)
+    assert (shown.returncode, "fewer than 7 writes" in shown.stderr) == (1, True)
+
+
+def test_failed_expectations_are_failed_cases(tmp_path):
+    deck = tmp_path / "wrong.deck"
+    deck.write_text(example("counter").replace("0001 9000", "0002 9000"), encoding="utf-8")
+    written = tool("junit.py", "-", deck, text=lab("expect", deck.read_text(encoding="utf-8")))
+    suite = xml.fromstring(written.stdout.split("\n", 1)[1])[0]
+    assert written.returncode == 1
+    assert (suite.get("tests"), suite.get("failures"), suite.get("errors")) == ("6", "1", "0")
+    assert [case.get("name") for case in suite if case.find("failure") is not None] == ["line 11: #> 0002 9000"]
+
+
+def test_a_rule_that_is_broken_is_a_failed_case(tmp_path):
+    deck = tmp_path / "rules.deck"
+    deck.write_text("format\npower\n#@ move power\n#@ allow a 1\n#@ allow b 1\n#@ on power gives * spend a 1\n#@ on power gives off* spend b 1\n",
+                    encoding="utf-8")
+    text = "depth 1 states 1\nbroken a after 2 lines\npower\npower\n"
+    suite = xml.fromstring(tool("junit.py", "-", deck, text=text).stdout.split("\n", 1)[1])[0]
+    assert [case.find("failure") is not None for case in suite] == [True, False]
+    assert suite[0].find("failure").text == "power\npower"
+
+
+def test_a_text_without_an_end_is_an_error():
+    assert tool("junit.py", "-", text="line 4 writes 21: before 1-17 after 18-21\n").returncode == 1
+
+
+def test_a_long_line_takes_rows_and_rows_of_one_word_are_one():
+    line = labtexts.Swept(1, 700, [("before", 1, 600), ("after", 601, 700)])
+    rows = sweep_svg.rows_of(line)
+    assert [(first, last) for first, last, _ in rows] == [(1, 64), (65, 576), (577, 640), (641, 700)]
+    assert rows[2][2] == [("before", 577, 600), ("after", 601, 640)]
+
+
+def test_a_carriage_return_inside_a_line_ends_none():
+    assert labtexts.lines_of("a\rb\r\nc\x0bd\n\n") == ["a\rb", "c\x0bd", ""]
+
+
+def test_a_campaign_is_a_page_and_cases(tmp_path):
+    for job in ("expect", "sweep"):
+        verdicts = []
+        for name in ("counter", "purse", "refused"):
+            (tmp_path / f"{name}.{job}").write_text(lab(job, example(name)), encoding="utf-8")
+            verdicts.append(f"{int(name == 'refused')} examples/{name}.deck\n")
+        (tmp_path / f"{job}.verdicts").write_text("".join(verdicts), encoding="utf-8")
+    page = tool("report.py", tmp_path, "--decks", TOP)
+    assert page.returncode == 1 and "refused: line 4 BadLine" in page.stdout and page.stdout.rstrip().endswith("</html>")
+    suites = xml.fromstring(tool("junit.py", "--campaign", tmp_path, "--decks", TOP).stdout.split("\n", 1)[1])
+    assert [it.get("errors") for it in suites] == ["0", "0", "0", "0", "1", "1"]
