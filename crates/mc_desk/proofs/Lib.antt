@@ -4,3 +4,5 @@ pub mod TextLemmas
 pub mod PushLemmas
 pub mod WordLemmas
 pub mod ToldLemmas
+pub mod HexLemmas
+pub mod StatementLemmas

@@ -1,5 +1,5 @@
 -- A deck that grows by texts that may be refused.
-use Rattle.std.proofs.Common.{◌≡◌, ℕ, Bool, true, false, List, [], ◌∷◌, ◌++◌, length, drop, Option, Some, None, Result, Ok, Err, refl, sym, ap, subst, ◌∙◌, append_assoc, append-nil, arith}
+use Rattle.std.proofs.Common.{◌≡◌, ℕ, Bool, true, false, List, [], ◌∷◌, ◌++◌, length, drop, Option, Some, None, Result, Ok, Err, refl, sym, ap, subst, ◌∙◌, append_assoc, arith}
 use Rattle.std.specs.Prelude.{◌==◌, ◌&&◌}
 use Rattle.mc_model_device.specs.Bytes.{has_name}
 use Rattle.mc_model_machine.specs.Text.{◌>>=◌, ok_as, first_cut, pieces}
@@ -7,7 +7,7 @@ use Rattle.mc_model_play.specs.declared.deck.DeckCause.{DeckCause}
 use Rattle.mc_text.proofs.ReadingLemmas.{pieces_at, pieces_cut}
 use Rattle.mc_desk.specs.Declarations.{NameMeaning}
 use Rattle.mc_desk.specs.Operands.{operand_text, piece_text, later_text, pieces_text, operands_text, after_text, body_text, labelled_text, instruction_text, jump_words, sized_words}
-use Rattle.mc_desk.specs.Parts.{Framed, framed, refilled, before_rest, first_word, after_word, without_comment}
+use Rattle.mc_desk.specs.Parts.{framed, refilled, before_rest, first_word, after_word, without_comment}
 use Rattle.mc_desk.specs.declared.refusal.Fault.{Fault}
 use Rattle.mc_desk.specs.declared.refusal.Fault.TheVariants as fault
 use Rattle.mc_desk.specs.Views.{Faulty, Pushes}
@@ -105,7 +105,7 @@ joined d n x (Err e) h = refl
 joined d n x (Ok y) h = ap Ok (ap (λ m. m ++ y) (sym h) ∙ append_assoc d x y)
 
 -- a text was added, and its rest is left
-pushed_then : (d n : List ℕ) (p r : Text) → ok_as (λ t. d ++ t) p ≡ Ok n → ok_as (λ t. n ++ t) r ≡ ok_as (λ t. d ++ t) (p >>= λ x. ok_as (λ rest. x ++ rest) r)
+pub pushed_then : (d n : List ℕ) (p r : Text) → ok_as (λ t. d ++ t) p ≡ Ok n → ok_as (λ t. n ++ t) r ≡ ok_as (λ t. d ++ t) (p >>= λ x. ok_as (λ rest. x ++ rest) r)
 pushed_then d n (Ok x) r h = joined d n x r (ok_is (d ++ x) n (Ok (d ++ x)) refl h)
 pushed_then d n (Err e) r h = absurd (cc h)
 

@@ -1,5 +1,5 @@
 -- Zero bytes in hexadecimal.
-use Rattle.std.proofs.Common.{◌≡◌, ℕ, suc, ◌+◌, ◌-◌, ◌<◌, List, [], ◌∷◌, ◌++◌, arith, refl, subst, sym, ap, ◌∙◌, append_assoc}
+use Rattle.std.proofs.Common.{◌≡◌, ℕ, suc, ◌+◌, ◌-◌, ◌<◌, List, [], ◌∷◌, ◌++◌, arith, subst, ◌∙◌, append_assoc}
 use Rattle.mc_model_device.specs.Bytes.{zeros}
 use Rattle.mc_model_machine.specs.Listing.{hex_text}
 

@@ -1,16 +1,16 @@
 -- The turns of a line with what surrounds them, and those of its step.
-use Rattle.std.proofs.Common.{◌≡◌, ℕ, zero, suc, Bool, true, false, List, [], ◌∷◌, ◌++◌, Option, Some, None, refl, sym, ap, ◌∙◌}
+use Rattle.std.proofs.Common.{◌≡◌, ℕ, zero, suc, Bool, true, false, List, [], ◌∷◌, ◌++◌, Option, Some, None, refl, ap, ◌∙◌}
 use Rattle.std.specs.Prelude.{map}
 use Rattle.mc_model_device.specs.Card.{Card}
 use Rattle.mc_model_device.specs.PowerUp.{Base, OnCard, AtFault}
 use Rattle.mc_model_machine.specs.Apdu.{ApduParts}
-use Rattle.mc_model_machine.specs.Chain.{Turn, Chain, Acted, Follows, Continues, Ends, Ran, turn_of_chain, run_of_chain, run_after_turn, chain_session, start}
+use Rattle.mc_model_machine.specs.Chain.{Turn, Chain, Acted, Follows, Continues, Ends, turn_of_chain, run_of_chain, run_after_turn, chain_session, start}
 use Rattle.mc_model_card.specs.Commands.{Command, manager_command, application_command, by_route, command}
 use Rattle.mc_model_card.specs.Items.{card_done}
 use Rattle.mc_model_card.specs.Manager.{Selected, Seat, Route, WrongLength, WrongClass, ToSelect, ToManager, ToApplication, route, Managed, Declines, Accepts, select, manage, room_on}
 use Rattle.mc_model_play.specs.DeckGrammar.{DeckLine}
 use Rattle.mc_model_play.specs.DeckGrammar as line
-use Rattle.mc_model_play.specs.Play.{State, Cold, Hot, Live, Running, Unpowered, Muted, Warm, WornAt, Armed, Step, send, command_with_rest, line_command, select_bytes, delete_bytes, load_commands, is_done, card_line, hot_step, cold_step, step}
+use Rattle.mc_model_play.specs.Play.{State, Cold, Hot, Live, Running, Unpowered, Muted, Warm, WornAt, Armed, send, command_with_rest, line_command, select_bytes, delete_bytes, load_commands, is_done, card_line, hot_step, cold_step, step}
 use Rattle.mc_desk.specs.Told.{Told, told, told_on, told_run, told_passed, told_route, told_command, told_sent, told_send, told_line, told_live, told_of}
 
 -- the turns alone

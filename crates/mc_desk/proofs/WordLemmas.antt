@@ -1,5 +1,5 @@
 -- The words whose second operand is a length, and operands that are alone.
-use Rattle.std.proofs.Common.{◌≡◌, ℕ, suc, Bool, true, false, List, [], ◌∷◌, ◌++◌, length, Option, Some, None, refl, ap, sym, ◌∙◌, arith}
+use Rattle.std.proofs.Common.{◌≡◌, ℕ, Bool, true, false, List, [], ◌∷◌, ◌++◌, length, Option, Some, None, refl, ap, sym, ◌∙◌, arith}
 use Rattle.std.specs.Prelude.{◌||◌, ◌==◌, bytes_eq, is_none}
 use Rattle.mc_model_device.specs.Bytes.{has_name}
 use Rattle.mc_model_machine.specs.Text.{first_cut, pieces}

@@ -1,5 +1,5 @@
 -- What a draft makes on a blank device, for rows that compute it.
-use Rattle.std.specs.Prelude.{ℕ, List, map, Result, Ok, Err}
+use Rattle.std.specs.Prelude.{ℕ, List, Result}
 use Rattle.std.specs.Fmt.{digits}
 use Rattle.sha1.specs.Sha1.{sha1, digest_bytes, hash_after, compress, rounds, schedule, first_words}
 use Rattle.mc_model_device.specs.Device.{blank_words, device_words}
@@ -21,13 +21,11 @@ use Rattle.mc_model_card.specs.Manager.{manage}
 use Rattle.mc_model_card.specs.Commands.{command}
 use Rattle.mc_model_play.specs.Play.{Step, start, send, play_at_power, step, plays, moves_of, steady_worn}
 use Rattle.mc_model_play.specs.DeckGrammar.{DeckLine}
-use Rattle.mc_model_play.specs.TraceText
 use Rattle.mc_model_play.specs.declared.deck.DeckCause.{DeckCause}
 use Rattle.mc_desk.specs.Drafts.{deck_of}
-use Rattle.mc_desk.specs.Listings.{Desk, desk_read, listed}
+use Rattle.mc_desk.specs.Listings.{desk_read, listed}
 use Rattle.mc_desk.specs.Verdicts
 use Rattle.mc_desk.specs.Verdicts.{CodeVerdict}
-use Rattle.mc_desk.specs.Told.{told_run, told_send, told_of, told_step}
 use Rattle.mc_desk.specs.Traces.{traced}
 use Rattle.mc_desk.specs.Coverage.{covered}
 

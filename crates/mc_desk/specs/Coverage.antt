@@ -1,5 +1,5 @@
 -- How often each line of code ran and each branch went each way, as a record of LCOV (geninfo, "tracefile").
-use Rattle.std.specs.Prelude.{ℕ, zero, suc, ◌-◌, Bool, true, false, cond, not, ◌&&◌, nat_lt, ◌==◌, List, [], ◌∷◌, ◌++◌, map, filter, flat_map, length, codes, decimal, Option, Some, None, Result, Ok, Err}
+use Rattle.std.specs.Prelude.{ℕ, ◌-◌, Bool, true, false, cond, not, ◌&&◌, nat_lt, ◌==◌, List, [], ◌∷◌, ◌++◌, map, filter, flat_map, length, codes, decimal, Option, Some, None, Result, Ok, Err}
 use Rattle.mc_model_machine.specs.declared.instruction.Ins.{Ins}
 use Rattle.mc_model_machine.specs.declared.instruction.Ins.TheVariants as ins
 use Rattle.mc_model_machine.specs.declared.instruction.DecodeFault.{DecodeFault}
@@ -40,7 +40,7 @@ abbrev pub is_decoded : Option Ins → Bool
 is_decoded None = false
 is_decoded (Some i) = true
 
--- the turns that run one of the sections and decoded an instruction, each with the first section that it runs, by its place among them
+-- whether a turn decoded the instruction at a place
 abbrev pub is_decoded_at : ℕ → Told → Bool
 is_decoded_at place t = is_decoded t.turn.ins && (t.turn.at == place)
 

@@ -4,7 +4,7 @@ use Rattle.mc_model_device.specs.Bytes.{lookup, has_name, zeros}
 use Rattle.mc_model_machine.specs.Text.{◌>>=◌, ok_as, only_if, begins, fields, decimal_number, hex_bytes}
 use Rattle.mc_model_machine.specs.Listing.{condition_names, register_names, hex_text}
 use Rattle.mc_model_machine.specs.Assembly.{is_label, signed_number}
-use Rattle.mc_model_play.specs.DeckGrammar.{number_field, hex_field, is_data, is_end}
+use Rattle.mc_model_play.specs.DeckGrammar.{number_field, hex_field, is_end}
 use Rattle.mc_model_play.specs.declared.deck.DeckCause.{DeckCause}
 use Rattle.mc_model_play.specs.declared.deck.DeckCause.TheVariants.{BadLine, BadName, BadNumber, OutOfRange, NameTwice}
 use Rattle.mc_desk.specs.Parts.{without_comment}

@@ -1,5 +1,5 @@
 -- Drafts line by line: the deck of a draft, and its sections, or the first refusal.
-use Rattle.std.specs.Prelude.{ℕ, ◌-◌, Bool, true, false, cond, nat_lt, List, [], ◌∷◌, ◌++◌, map, bytes_eq, codes, unwrap_or, Option, Some, None, option_map, Result, Ok, Err}
+use Rattle.std.specs.Prelude.{ℕ, ◌-◌, Bool, true, false, cond, nat_lt, List, [], ◌∷◌, ◌++◌, map, bytes_eq, codes, unwrap_or, Option, Some, None, Result, Ok}
 use Rattle.mc_model_machine.specs.Text.{◌>>=◌, ok_as, err_as, with_numbers, fields}
 use Rattle.mc_model_play.specs.DeckGrammar.{is_data, is_end}
 use Rattle.mc_model_play.specs.declared.deck.DeckCause.{DeckCause}

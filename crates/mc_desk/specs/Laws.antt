@@ -1,5 +1,5 @@
 -- The laws of drafts, their decks and their plays.
-use Rattle.std.specs.Prelude.{◌≡◌, ℕ, ◌==◌, List, map, flat_map, length, Option, Result, Ok}
+use Rattle.std.specs.Prelude.{◌≡◌, ℕ, ◌==◌, List, map, flat_map, length, Option, Ok}
 use Rattle.mc_model_machine.specs.Text.{pieces}
 use Rattle.mc_model_machine.specs.Assembly.{assembled_lines}
 use Rattle.mc_model_play.specs.DeckGrammar.{DeckLine, deck_read}

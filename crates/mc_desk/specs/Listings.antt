@@ -1,5 +1,5 @@
 -- The code of the sections of a draft line by line, and the listing of a draft.
-use Rattle.std.specs.Prelude.{ℕ, ◌+◌, Bool, cond, not, ◌&&◌, nat_lt, nat_le, ◌==◌, List, [], ◌∷◌, ◌++◌, map, filter, flat_map, length, bytes_eq, codes, decimal, Option, Some, None, unwrap_or, Result, Ok, Err}
+use Rattle.std.specs.Prelude.{ℕ, ◌+◌, cond, not, ◌&&◌, nat_lt, nat_le, ◌==◌, List, [], ◌∷◌, ◌++◌, map, filter, flat_map, length, codes, decimal, Option, Some, None, Result, Ok, Err}
 use Rattle.mc_model_device.specs.Bytes.{bytes2}
 use Rattle.mc_model_machine.specs.declared.assembler.AsmCause.{AsmCause}
 use Rattle.mc_model_machine.specs.Text.{◌>>=◌, ok_as, is_empty, trim}

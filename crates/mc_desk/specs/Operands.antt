@@ -1,5 +1,5 @@
 -- An instruction of a draft and what it becomes in the deck: each operand that is a name, with the rest of the line as it was.
-use Rattle.std.specs.Prelude.{ℕ, ◌-◌, ℤ, pos, ◌+ℤ◌, Bool, true, false, cond, ◌&&◌, nat_lt, ◌==◌, List, [], ◌∷◌, ◌++◌, length, take, drop, bytes_eq, codes, decimal, Option, Some, None, Result, Ok}
+use Rattle.std.specs.Prelude.{ℕ, ◌-◌, ℤ, pos, ◌+ℤ◌, Bool, true, false, cond, ◌&&◌, nat_lt, ◌==◌, List, [], ◌∷◌, ◌++◌, length, drop, bytes_eq, codes, decimal, Option, Some, None, Result, Ok}
 use Rattle.mc_model_device.specs.Bytes.{lookup, has_name}
 use Rattle.mc_model_machine.specs.Text.{◌>>=◌, ok_as, only_if, pieces, first_cut, decimal_number}
 use Rattle.mc_model_machine.specs.Listing.{address_text}

@@ -1,7 +1,7 @@
 -- A statement of a draft between its sections, and what it becomes in the deck.
-use Rattle.std.specs.Prelude.{ℕ, ◌-◌, Bool, true, false, cond, not, ◌&&◌, ◌||◌, nat_lt, nat_le, ◌==◌, List, [], ◌∷◌, ◌++◌, length, take, drop, slice_index, unwrap_or, bytes_eq, codes, decimal, is_none, Option, Some, None, ok_or, Result, Ok, Err}
+use Rattle.std.specs.Prelude.{ℕ, ◌-◌, Bool, cond, nat_le, ◌==◌, List, [], ◌∷◌, ◌++◌, length, take, slice_index, unwrap_or, bytes_eq, codes, decimal, Option, Some, None, ok_or, Result, Ok, Err}
 use Rattle.mc_model_device.specs.Bytes.{lookup, has_name}
-use Rattle.mc_model_machine.specs.Text.{◌>>=◌, ok_as, only_if, begins, is_empty, is_within, fields, hex_bytes}
+use Rattle.mc_model_machine.specs.Text.{◌>>=◌, ok_as, only_if, is_within, fields, hex_bytes}
 use Rattle.mc_model_machine.specs.Listing.{hex_text}
 use Rattle.mc_model_play.specs.declared.deck.DeckCause.{DeckCause}
 use Rattle.mc_model_play.specs.declared.deck.DeckCause.TheVariants.{BadHex, OutOfRange, UnknownName}
@@ -26,17 +26,23 @@ abbrev pub plain_hex : List ℕ → Option (List ℕ) → Result (List ℕ) Deck
 plain_hex t None = Err BadHex
 plain_hex t (Some bytes) = Ok t
 
--- whether a field stands in round brackets
-abbrev pub is_bracketed : List ℕ → Bool
-is_bracketed t = begins 40 t && (slice_index t (length t - 1) == 41)
+-- what stands after an opening bracket, if it begins a text
+abbrev pub after_open : List ℕ → Option (List ℕ)
+after_open [] = None
+after_open (c ∷ t) = cond (c == 40) (Some t) None
 
--- a field without its first and its last character
-abbrev pub inner : List ℕ → List ℕ
-inner t = drop 1 (take (length t - 1) t)
+-- what stands in round brackets, if they are around a field
+abbrev pub bracketed : List ℕ → Option (List ℕ)
+bracketed t = cond (slice_index t (length t - 1) == 41) (after_open (take (length t - 1) t)) None
+
+-- a field of a command in brackets, or without
+abbrev pub field_by : List ℕ → Option (List ℕ) → Result (List ℕ) DeckCause
+field_by t None = plain_hex t (hex_bytes t)
+field_by t (Some inner) = counted_hex inner (hex_bytes inner)
 
 -- what a field of a command becomes
 abbrev pub command_field : List ℕ → Result (List ℕ) DeckCause
-command_field t = cond (is_bracketed t) (counted_hex (inner t) (hex_bytes (inner t))) (plain_hex t (hex_bytes t))
+command_field t = field_by t (bracketed t)
 
 -- the fields of a command, joined
 abbrev pub command_text : List (List ℕ) → Result (List ℕ) DeckCause
@@ -64,21 +70,36 @@ abbrev pub aid_text : List ℕ → Option Loadable → List ℕ
 aid_text t None = t
 aid_text t (Some s) = s.aid
 
--- what the part of a statement after its word becomes, by the word and the fields after it
-abbrev pub stated_text : List (List ℕ × Loadable) → List ℕ → List (List ℕ) → List ℕ → Result (List ℕ) DeckCause
-stated_text sections word [] rest = Ok rest
-stated_text sections word (t ∷ []) rest =
-    cond (bytes_eq word (codes "load")) (ok_as (load_text t) (ok_or (lookup sections t) UnknownName)) (
-    cond (has_name word naming_words && not (is_aid t)) (Ok (aid_text t (lookup sections t))) (
-    cond (bytes_eq word (codes "apdu")) (command_text (t ∷ [])) (Ok rest)
-    ))
-stated_text sections word (t ∷ u ∷ ts) rest = cond (bytes_eq word (codes "apdu")) (command_text (t ∷ u ∷ ts)) (Ok rest)
+-- what a field becomes that is an AID, or a section's name, or neither
+abbrev pub aid_or_name : List (List ℕ × Loadable) → List ℕ → List ℕ
+aid_or_name sections t = cond (is_aid t) t (aid_text t (lookup sections t))
 
--- what a statement becomes, by the fields of its line; a line without a field stays as it is
-abbrev pub fields_text : List (List ℕ × Loadable) → List (List ℕ) → List ℕ → Result (List ℕ) DeckCause
-fields_text sections [] l = Ok l
-fields_text sections (word ∷ rest) l = let f = framed_in l (after_word l) in ok_as (refilled f) (stated_text sections word rest f.core)
+-- what the one field of a statement becomes, by its word
+abbrev pub one_field_text : List (List ℕ × Loadable) → List ℕ → List ℕ → Result (List ℕ) DeckCause
+one_field_text sections word t =
+    cond (bytes_eq word (codes "load")) (ok_as (load_text t) (ok_or (lookup sections t) UnknownName)) (
+    cond (has_name word naming_words) (Ok (aid_or_name sections t)) (Ok t)
+    )
+
+-- the one field of a list that has one
+abbrev pub only_of : List (List ℕ) → Option (List ℕ)
+only_of (t ∷ []) = Some t
+only_of fields = None
+
+-- what stands after the word of a statement other than `apdu` becomes, by its one field
+abbrev pub only_text : List (List ℕ × Loadable) → List ℕ → List ℕ → Option (List ℕ) → Result (List ℕ) DeckCause
+only_text sections word rest None = Ok rest
+only_text sections word rest (Some t) = one_field_text sections word t
+
+-- what stands after the word of a statement other than `apdu` becomes, by its fields
+abbrev pub named_text : List (List ℕ × Loadable) → List ℕ → List (List ℕ) → List ℕ → Result (List ℕ) DeckCause
+named_text sections word fields rest = only_text sections word rest (only_of fields)
+
+-- what stands after the word of a statement becomes, by its fields
+abbrev pub stated_text : List (List ℕ × Loadable) → List (List ℕ) → List ℕ → Result (List ℕ) DeckCause
+stated_text sections [] rest = Ok rest
+stated_text sections (word ∷ fs) rest = cond (bytes_eq word (codes "apdu")) (command_text (fields rest)) (named_text sections word fs rest)
 
 -- the deck's line of a statement, where these sections stand before it
 unfoldable pub statement_text : List (List ℕ × Loadable) → List ℕ → Result (List ℕ) DeckCause
-statement_text sections l = fields_text sections (fields l) l
+statement_text sections l = let f = framed_in l (after_word l) in ok_as (refilled f) (stated_text sections (fields l) f.core)

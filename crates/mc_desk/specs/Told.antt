@@ -1,5 +1,5 @@
 -- The turns of a run with what surrounds each: the code that runs, the frame after it, and the bytes of its operand.
-use Rattle.std.specs.Prelude.{ℕ, zero, suc, ◌+◌, ◌-◌, ℤ, Bool, true, false, cond, ◌==◌, List, [], ◌∷◌, ◌++◌, length, take, drop, Option, Some, None, option_and_then, Result, Ok, Err}
+use Rattle.std.specs.Prelude.{ℕ, zero, suc, ◌-◌, ℤ, Bool, true, false, cond, ◌==◌, List, [], ◌∷◌, ◌++◌, length, take, drop, Option, Some, None, option_and_then, Result, Ok, Err}
 use Rattle.mc_model_machine.specs.declared.instruction.Ins.{Ins}
 use Rattle.mc_model_machine.specs.declared.instruction.Ins.TheVariants as ins
 use Rattle.mc_model_machine.specs.declared.instruction.DecodeFault.{DecodeFault}
@@ -10,7 +10,7 @@ use Rattle.mc_model_machine.specs.Apdu.{ApduParts}
 use Rattle.mc_model_machine.specs.Code.{instruction_at}
 use Rattle.mc_model_machine.specs.Frame.{Frame, Effect, resolve, where_is, bytes_in, floor}
 use Rattle.mc_model_machine.specs.Row.{RowEnd, Abends, Does, row}
-use Rattle.mc_model_machine.specs.Chain.{Turn, Chain, Acted, Follows, Continues, Ends, around, code_in, frame_at, chain_after_effect, follows, told_frame, turn_of_chain, turn_without_budget, start}
+use Rattle.mc_model_machine.specs.Chain.{Turn, Chain, Follows, Continues, Ends, around, code_in, frame_at, chain_after_effect, follows, told_frame, turn_of_chain, turn_without_budget, start}
 use Rattle.mc_model_card.specs.Commands.{command}
 use Rattle.mc_model_card.specs.Items.{card_done}
 use Rattle.mc_model_card.specs.Manager.{Selected, Seat, Route, WrongLength, WrongClass, ToSelect, ToManager, ToApplication, route}

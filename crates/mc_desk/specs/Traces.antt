@@ -5,7 +5,7 @@ use Rattle.mc_model_machine.specs.Listing.{hex_text}
 use Rattle.mc_model_machine.specs.TurnText.{turn_line}
 use Rattle.mc_model_play.specs.Play.{Step}
 use Rattle.mc_model_play.specs.Transcript.{plain_text, texts}
-use Rattle.mc_desk.specs.Listings.{CodeLine, Source, line_at}
+use Rattle.mc_desk.specs.Listings.{CodeLine, Source}
 use Rattle.mc_desk.specs.Verdicts.{source_part, source_line}
 use Rattle.mc_desk.specs.Told.{Told, told_step, stack_of, last_bytes}
 

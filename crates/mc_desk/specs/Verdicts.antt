@@ -1,6 +1,5 @@
 -- The verdicts of the stack checker on a draft, with the source line of each place that is refused.
 use Rattle.std.specs.Prelude.{ℕ, ◌==◌, cond, List, [], ◌∷◌, ◌++◌, bytes_eq, codes, decimal, Option, Some, None, option_and_then, Result, Ok, Err}
-use Rattle.mc_model_device.specs.Bytes.{lookup}
 use Rattle.mc_model_machine.specs.declared.checker.CheckCause.{CheckCause}
 use Rattle.mc_model_machine.specs.Words.{check_word}
 use Rattle.mc_model_machine.specs.Text.{lines, with_numbers, fields}

@@ -1,12 +1,12 @@
 -- What the code has of a draft, and what it stands for in the definitions.
-use Rattle.std.specs.Prelude.{◌≡◌, ℕ, List, [], ◌∷◌, ◌++◌, codes, decimal, map, option_map, Option, Some, None, Result, Ok, Err, ⊤}
+use Rattle.std.specs.Prelude.{◌≡◌, ℕ, Bool, true, false, cond, List, [], ◌++◌, codes, decimal, option_map, Option, Some, None, Result, Ok, Err, ⊤}
 use Rattle.std.specs.Ordering.{nat_cmp}
 use Rattle.std.specs.Cmp.Lexicographic.{slice_cmp}
 use Rattle.std.specs.BTreeMap
 use Rattle.std.specs.BTreeMap.{BTreeMap}
 use denote.Ref.{Bor}
 use Rattle.mc_model_device.specs.Bytes.{lookup, or_else}
-use Rattle.mc_model_machine.specs.Text.{ok_as}
+use Rattle.mc_model_machine.specs.Text.{ok_as, hex_value, is_empty}
 use Rattle.mc_model_machine.specs.Listing.{address_text}
 use Rattle.mc_model_play.specs.declared.deck.DeckCause.{DeckCause}
 use Rattle.mc_desk.specs.declared.refusal.Fault.{Fault}
@@ -18,10 +18,11 @@ use Rattle.mc_desk.specs.declared.meaning.Meaning.TheVariants as meaning
 use Rattle.mc_desk.specs.declared.operand.Operand.{Operand}
 use Rattle.mc_desk.specs.declared.operand.Operand.TheVariants as operand
 use Rattle.mc_desk.specs.declared.part.Framed.{Framed}
+use Rattle.mc_desk.specs.declared.statement.Sizes.{Sizes}
+use Rattle.mc_desk.specs.Statements.{Loadable, command_field}
 use Rattle.mc_desk.specs.Parts
 use Rattle.mc_desk.specs.Declarations
 use Rattle.mc_desk.specs.Declarations.{header_names}
-use Rattle.mc_desk.specs.Operands.{bytes_text}
 
 -- a part with what stands around it
 abbrev pub frame_of : Framed → Parts.Framed
@@ -65,3 +66,28 @@ Faulty r fault.NoMemory = ⊤
 abbrev pub Pushes : List ℕ → Result (List ℕ) DeckCause → Result (Unit {0}) Fault → List ℕ → Type 0
 Pushes old text (Ok u) new = ok_as (λ t. old ++ t) text ≡ Ok new
 Pushes old text (Err e) new = Faulty text e
+
+-- ---- hexadecimal digits
+
+-- whether there is a value
+abbrev pub is_there : Option ℕ → Bool
+is_there None = false
+is_there (Some n) = true
+
+-- a hexadecimal digit
+abbrev pub is_hex : ℕ → Bool
+is_hex c = is_there (hex_value c)
+
+-- ---- statements
+
+-- what a statement needs of a section
+abbrev pub loadable_of : Sizes → Loadable
+loadable_of s = record { aid = s.aid.now; fixed = s.fixed; session = s.session }
+
+-- the map has the sections by their names
+abbrev pub AreSections : BTreeMap (Bor (List ℕ)) Sizes → List (List ℕ × Loadable) → Type 0
+AreSections m l = (q : Bor (List ℕ)) → option_map loadable_of (BTreeMap.get (λ x y. slice_cmp nat_cmp x.now y.now) m q) ≡ lookup l q.now
+
+-- what a part of a command between blanks becomes: nothing where it is empty
+abbrev pub part_text : List ℕ → Result (List ℕ) DeckCause
+part_text t = cond (is_empty t) (Ok []) (command_field t)

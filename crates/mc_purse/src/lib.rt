@@ -12,8 +12,8 @@ ghost use Rattle.mc_purse.specs.Laws.{BooksLaw, GuessesLaw, RightLaw, SessionsLa
 
 pub use applied::{Counter, counter_keeps};
 pub use worked::{
-    amount_read_again_is_raised, early_reset_is_guessed, early_session_is_open,
-    late_try_is_guessed, own_history, own_play, unprotected_is_torn,
+    a_fourth_guess_is_compared, amount_read_again_is_raised, early_reset_is_guessed,
+    early_session_is_open, late_try_is_guessed, own_history, own_play, unprotected_is_torn,
 };
 
 /// The text of the purse is assembled to its code.

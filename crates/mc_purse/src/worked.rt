@@ -4,7 +4,7 @@ ghost use Rattle.std.specs.Prelude.{◌≡◌, [], ◌∷◌, Some, None, true};
 ghost use Rattle.mc_promise.specs.Computed.{IsBroken, brings_only, broken_at, history_of};
 ghost use Rattle.mc_purse.specs.Purse.{Debited, Ended, Right, Selected, Wrong, purse_app, purse_name, purse_watch};
 ghost use Rattle.mc_purse.specs.Laws.{SaysBooks, SaysGuesses, SaysSessions};
-ghost use Rattle.mc_purse.specs.Worked.{app_of, app_with_name, early_reset, early_reset_deck, early_session, early_session_deck, keeps_balance, keeps_guesses, keeps_sessions, late_try, late_try_deck, own_deck, reads_again, two_firms, unprotected, unprotected_deck};
+ghost use Rattle.mc_purse.specs.Worked.{app_of, app_with_name, early_reset, early_reset_deck, early_session, early_session_deck, is_at_most_three, keeps_balance, keeps_guesses, keeps_sessions, late_try, late_try_deck, own_deck, reads_again, two_firms, unprotected, unprotected_deck};
 
 /// The purse's own play, with cuts in a showing and in debits, keeps what it promises after every line; what is created in it under
 /// the purse's name is the purse.
@@ -32,6 +32,12 @@ pub fn late_try_is_guessed()
 pub fn early_reset_is_guessed()
     ensures at { broken_at purse_watch keeps_guesses early_reset_deck ≡ Some 5 }
     ensures law { IsBroken purse_watch (app_of early_reset) SaysGuesses early_reset_deck }
+{}
+
+/// In the first of these plays a fourth wrong PIN is compared after 18 lines, in the second after 8, with no right one between.
+pub fn a_fourth_guess_is_compared()
+    ensures late_try { broken_at purse_watch (λ h fixed. is_at_most_three h) late_try_deck ≡ Some 18 }
+    ensures early_reset { broken_at purse_watch (λ h fixed. is_at_most_three h) early_reset_deck ≡ Some 8 }
 {}
 
 /// Where balance and number are not written as one, a cut between the two leaves a balance without its debit.

@@ -7,7 +7,8 @@ ghost use Rattle.mc_desk.specs.Computed.{deck};
 pub fn whole_draft()
     ensures { deck (
         codes "format\npower\napp purse A000000100\nSTATIC balance 2 03E8\nSTATIC tries 1\nSTATIC pin 2 1234\n" ++
-        codes "STATIC log 4\nSESSION shown 1        ; 1 once the PIN was shown\nPUBLIC amount 0 2\nCONST poor 0x6985\n" ++
+        codes "STATIC log 4\nSESSION shown 1        ; 1 once the PIN was shown\nPUBLIC amount 0 2\n" ++
+        codes "CONST poor 0x6985\n" ++
         codes "balance: CMPB INS,0x40\n LOAD balance\n CMPN pin\n SETB shown,3\n LOAD amount+1\n" ++
         codes " STORE PB[0],balance.size\n EXITSW poor\nend\nload purse\nselect purse\napdu 80 40 0000 (0064) 02\n")
         ≡ Ok (
@@ -35,13 +36,15 @@ pub fn places()
         codes " LOAD x\n LOAD y\n LOAD s\n LOAD t\n LOAD p\n LOAD q\nend\nload a\n")
         ≡ Ok (
         codes "app a A000000100\n\n\n\n\n\n\n" ++
-        codes " LOAD SB[0],2\n LOAD SB[2],4\n LOAD DB[0],3\n LOAD DB[3],1\n LOAD PB[7],2\n LOAD PB[7],1\nend\nload a 6 4\n") }
+        codes " LOAD SB[0],2\n LOAD SB[2],4\n LOAD DB[0],3\n LOAD DB[3],1\n LOAD PB[7],2\n LOAD PB[7],1\nend\n" ++
+        codes "load a 6 4\n") }
 {}
 
 /// A number stays as it was written, in each form.
 pub fn numbers()
     ensures { deck (
-        codes "app a A000000100\nCONST low -32768\nCONST high 0xFFFF\nCONST seven 007\nCONST none -0\nCONST six 0xa\n" ++
+        codes "app a A000000100\nCONST low -32768\nCONST high 0xFFFF\nCONST seven 007\nCONST none -0\n" ++
+        codes "CONST six 0xa\n" ++
         codes " PUSHW low\n PUSHW high\n PUSHB seven\n PUSHB none\n PRIM six,seven\nend\n")
         ≡ Ok (
         codes "app a A000000100\n\n\n\n\n\n" ++
@@ -51,9 +54,11 @@ pub fn numbers()
 /// The nine names of the command's header are there in every section.
 pub fn header()
     ensures { deck (
-        codes "app a A000000100\n LOAD CLA\n LOAD INS\n LOAD P1\n LOAD P2\n LOAD P3\n LOAD Lc\n LOAD Le\n LOAD La\n LOAD SW\nend\n")
+        codes "app a A000000100\n LOAD CLA\n LOAD INS\n LOAD P1\n LOAD P2\n LOAD P3\n LOAD Lc\n LOAD Le\n" ++
+        codes " LOAD La\n LOAD SW\nend\n")
         ≡ Ok (
-        codes "app a A000000100\n LOAD PT[-13],1\n LOAD PT[-12],1\n LOAD PT[-11],1\n LOAD PT[-10],1\n LOAD PT[-9],1\n" ++
+        codes "app a A000000100\n LOAD PT[-13],1\n LOAD PT[-12],1\n LOAD PT[-11],1\n LOAD PT[-10],1\n" ++
+        codes " LOAD PT[-9],1\n" ++
         codes " LOAD PT[-8],2\n LOAD PT[-6],2\n LOAD PT[-4],2\n LOAD PT[-2],2\nend\n") }
 {}
 
@@ -71,10 +76,13 @@ pub fn in_force()
 pub fn forms()
     ensures blanks { deck (codes "app a A000000100\n\tSTATIC \t x  1;c\n LOAD x\nend\n")
         ≡ Ok (codes "app a A000000100\n\n LOAD SB[0],1\nend\n") }
-    ensures given { deck (codes "app a A000000100\n  STATIC x 1 0a ; c\nend\n") ≡ Ok (codes "app a A000000100\nDATA 0a\nend\n") }
+    ensures given { deck (codes "app a A000000100\n  STATIC x 1 0a ; c\nend\n")
+        ≡ Ok (codes "app a A000000100\nDATA 0a\nend\n") }
     ensures label { deck (codes "app a A000000100\nSTATIC: NOP\nCONST : NOP\nSESSION :NOP\nPUBLIC\t: \nend\n")
         ≡ Ok (codes "app a A000000100\nSTATIC: NOP\nCONST : NOP\nSESSION :NOP\nPUBLIC\t: \nend\n") }
-    ensures lower { deck (codes "app a A000000100\nstatic x 1\nend\n") ≡ Ok (codes "app a A000000100\nstatic x 1\nend\n") }
+    ensures lower { deck (codes "app a A000000100\nstatic x 1\nend\n")
+        ≡ Ok (codes "app a A000000100\nstatic x 1\nend\n") }
     ensures outside { deck (codes "STATIC x 1\n LOAD CLA\n") ≡ Ok (codes "STATIC x 1\n LOAD CLA\n") }
-    ensures open { deck (codes "app a A000000100\nSTATIC x 1 01\nSESSION y 1") ≡ Ok (codes "app a A000000100\nDATA 01\n") }
+    ensures open { deck (codes "app a A000000100\nSTATIC x 1 01\nSESSION y 1")
+        ≡ Ok (codes "app a A000000100\nDATA 01\n") }
 {}

@@ -5,16 +5,20 @@ ghost use Rattle.mc_desk.specs.Computed.{deck};
 
 /// A `load` of a section's name has the sums of its lines, session bytes apart.
 pub fn loads()
-    ensures static_bytes { deck (codes "app a A000000100\nSTATIC x 3\nSESSION y 5\nSTATIC z 4 00000000\nend\nload a\n")
+    ensures static_bytes { deck (codes "app a A000000100\nSTATIC x 3\nSESSION y 5\nSTATIC z 4 00000000\nend\n" ++
+        codes "load a\n")
         ≡ Ok (codes "app a A000000100\nDATA 000000\n\nDATA 00000000\nend\nload a 7 5\n") }
     ensures data_bytes { deck (codes "app a A000000100\nDATA 0001\nNOP\nDATA 02\nend\nload a\n")
         ≡ Ok (codes "app a A000000100\nDATA 0001\nNOP\nDATA 02\nend\nload a 3 0\n") }
-    ensures none { deck (codes "app a A000000100\nNOP\nend\nload a\n") ≡ Ok (codes "app a A000000100\nNOP\nend\nload a 0 0\n") }
-    ensures each { deck (codes "app a A000000100\nSTATIC x 3\nend\napp b A000000101\nSTATIC x 4\nend\nload b\nload a\n")
+    ensures none { deck (codes "app a A000000100\nNOP\nend\nload a\n")
+        ≡ Ok (codes "app a A000000100\nNOP\nend\nload a 0 0\n") }
+    ensures each { deck (codes "app a A000000100\nSTATIC x 3\nend\napp b A000000101\nSTATIC x 4\nend\nload b\n" ++
+        codes "load a\n")
         ≡ Ok (codes "app a A000000100\n\nend\napp b A000000101\n\nend\nload b 4 0\nload a 3 0\n") }
     ensures as_they_are { deck (codes "app a A000000100\nSTATIC x 3\nend\nload a 10 0\nload a 10\nload\n")
         ≡ Ok (codes "app a A000000100\n\nend\nload a 10 0\nload a 10\nload\n") }
-    ensures blanks { deck (codes "app a A000000100\nend\n\t load \t a  \n") ≡ Ok (codes "app a A000000100\nend\n\t load \t a 0 0  \n") }
+    ensures blanks { deck (codes "app a A000000100\nend\n\t load \t a  \n")
+        ≡ Ok (codes "app a A000000100\nend\n\t load \t a 0 0  \n") }
 {}
 
 /// A section's name stands for its AID as it was written; what is an AID already stays, and so does what is no name.
@@ -27,8 +31,10 @@ pub fn names_of_sections()
         ≡ Ok (codes "app BADCAFE1 A000000100\nend\nselect A000000100\n") }
     ensures no_name { deck (codes "app a A000000100\nend\nselect b\nselect A\nselect a a\nselect\nbudget a\n")
         ≡ Ok (codes "app a A000000100\nend\nselect b\nselect A\nselect a a\nselect\nbudget a\n") }
-    ensures later { deck (codes "select a\napp a A000000100\nend\n") ≡ Ok (codes "select a\napp a A000000100\nend\n") }
-    ensures blanks { deck (codes "app a A000000100\nend\n  dump\t a \t\n") ≡ Ok (codes "app a A000000100\nend\n  dump\t A000000100 \t\n") }
+    ensures later { deck (codes "select a\napp a A000000100\nend\n")
+        ≡ Ok (codes "select a\napp a A000000100\nend\n") }
+    ensures blanks { deck (codes "app a A000000100\nend\n  dump\t a \t\n")
+        ≡ Ok (codes "app a A000000100\nend\n  dump\t A000000100 \t\n") }
     ensures first { deck (codes "app a A000000100\nend\napp a A000000101\nend\nselect a\n")
         ≡ Ok (codes "app a A000000100\nend\napp a A000000101\nend\nselect A000000100\n") }
 {}
@@ -44,6 +50,8 @@ pub fn commands()
 
 /// Comments, empty lines and all other statements stay, and so does what has the form of no statement.
 pub fn other_lines()
-    ensures { deck (codes "#load a\n # apdu 8 (\n\n \t\nformat\nbudget 5\n load\nunit a 00\ncut 1 0000000000000000\nLOAD a\napp a\nSTATIC\nend\n")
-        ≡ Ok (codes "#load a\n # apdu 8 (\n\n \t\nformat\nbudget 5\n load\nunit a 00\ncut 1 0000000000000000\nLOAD a\napp a\nSTATIC\nend\n") }
+    ensures { deck (codes "#load a\n # apdu 8 (\n\n \t\nformat\nbudget 5\n load\nunit a 00\n" ++
+        codes "cut 1 0000000000000000\nLOAD a\napp a\nSTATIC\nend\n")
+        ≡ Ok (codes "#load a\n # apdu 8 (\n\n \t\nformat\nbudget 5\n load\nunit a 00\ncut 1 0000000000000000\n" ++
+        codes "LOAD a\napp a\nSTATIC\nend\n") }
 {}

@@ -1,5 +1,5 @@
-use Rattle.std.proofs.Common.{Option, List, ℕ, Bor, ap, sym, subst, ◌∙◌, ◌≡◌}
-use Rattle.std.specs.Prelude.{option_map, is_none, ◌==◌}
+use Rattle.std.proofs.Common.{Option, List, ℕ, Bor, subst, ◌≡◌}
+use Rattle.std.specs.Prelude.{option_map, ◌==◌}
 use Rattle.mc_model_machine.specs.Text.{first_cut}
 use Rattle.mc_desk.proofs.WordLemmas.{one_piece}
 use Rattle.mc_desk.proofs.instruction.is_one.Goals as goal
