@@ -99,7 +99,8 @@ fn header_meaning<'a>(name: &[u8]) -> Option<Meaning<'a>>
 
 /// Returns what a name stands for, or `None` if the section has no such name.
 pub fn look_up<'a>(names: &Names<'a>, name: &'a [u8]) -> Option<Meaning<'a>>
-    ensures { (l : List (List ℕ × NameMeaning)) → AreNames names.now l → option_map meaning_of result ≡ lookup l name.now }
+    ensures { (l : List (List ℕ × NameMeaning)) → AreNames names.now l
+        → option_map meaning_of result ≡ lookup l name.now }
 {
     match names.get(&name).copied() {
         Some(meaning) => Some(meaning),

@@ -131,7 +131,8 @@ fn push_command(deck: &mut Vec<u8>, text: &[u8]) -> Result<(), Fault>
 
 // The sizes of the section with a name.
 fn sizes_of<'a>(sections: &Sections<'a>, name: &'a [u8]) -> Option<Sizes<'a>>
-    ensures { (l : List (List ℕ × Loadable)) → AreSections sections.now l → option_map loadable_of result ≡ lookup l name.now }
+    ensures { (l : List (List ℕ × Loadable)) → AreSections sections.now l
+        → option_map loadable_of result ≡ lookup l name.now }
 {
     sections.get(&name).copied()
 }
@@ -185,7 +186,8 @@ fn is_aid(field: &[u8]) -> bool
 // The AID of the section that a field names, and else the field.
 #[tactic(auto, using(crate::proofs::StatementLemmas::aid_stays, crate::proofs::StatementLemmas::aid_named, crate::proofs::StatementLemmas::aid_unnamed))]
 fn aid_of<'a>(sections: &Sections<'a>, field: &'a [u8]) -> &'a [u8]
-    ensures { (l : List (List ℕ × Loadable)) → AreSections sections.now l → result.now ≡ aid_or_name l field.now }
+    ensures { (l : List (List ℕ × Loadable)) → AreSections sections.now l
+        → result.now ≡ aid_or_name l field.now }
 {
     if is_aid(field) {
         return field;
