@@ -1,0 +1,11 @@
+mod AtomicWear
+mod Spans
+mod Headers
+mod Pays
+mod Runs
+mod Pieces
+mod Atoms
+mod Commands
+mod Loads
+mod Lines
+mod Plays

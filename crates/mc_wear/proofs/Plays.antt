@@ -1,0 +1,273 @@
+-- No line of a play makes more device writes than its row of the table says.
+use Rattle.std.proofs.Common.{◌≡◌, ℕ, zero, suc, ◌+◌, ◌-◌, ◌<◌, ◌≤◌, Bool, true, false, cond, List, [], ◌∷◌, take, length, Option, Some, None, refl, sym, subst, arith}
+use Rattle.std.specs.Prelude.{⊤, ◌==◌, nat_le, slice_set}
+use Rattle.std.specs.List.{AllByRecursion}
+use Rattle.std.proofs.lemmas.Bool.{leb-true}
+use Rattle.mc_model_device.specs.declared.cause.Cause.{Cause}
+use Rattle.mc_model_device.specs.declared.device.Stop.{Stop}
+use Rattle.mc_model_device.specs.declared.device.Stop.TheVariants as stop
+use Rattle.mc_model_device.specs.Bytes.{zeros}
+use Rattle.mc_model_device.specs.Device.{IsImage}
+use Rattle.mc_model_device.specs.Image.{Journal, One, Two, shut_word}
+use Rattle.mc_model_device.specs.Stopped.{cost, stands}
+use Rattle.mc_model_device.specs.Card.{App, Card, heap_start}
+use Rattle.mc_model_device.specs.Layout.{root, hole_header, fault}
+use Rattle.mc_model_device.specs.PowerUp.{Base, OnCard, AtFault, migration, base_after_migration, base_of}
+use Rattle.mc_model_card.specs.Items.{Item, Plain, Atomic, moves, apps_after_items, StopAt, Stopped, at_stop, in_flight, with_item}
+use Rattle.mc_model_card.specs.Commands.{Command}
+use Rattle.mc_model_play.specs.DeckGrammar.{DeckLine}
+use Rattle.mc_model_play.specs.DeckGrammar as line
+use Rattle.mc_model_play.specs.Play.{Armed, Unarmed, ArmedCut, ArmedFail, Live, Running, Unpowered, Muted, Warm, State, BeforePower, AfterPower, Step, line_command, hit_of, moves_with, FailedWrite, live_after, power_live, power_after, stopped_power, power_moves, power_step, line_after, card_line, after_power_step, before_power_step, step, play_at_power, plays, start, formatted_image, moves_of, MayHit, Possible}
+use Rattle.mc_model_play.specs.Given.{budget_in}
+use Rattle.mc_model_play.specs.ReadyAgain.{FitsJournal, IsLine, AreLines}
+use Rattle.mc_model_play.proofs.PlayLemmas.{step_is}
+use Rattle.mc_model_device.proofs.BoolLemmas.{cond_most}
+use Rattle.mc_model_device.proofs.LookLemmas.{IsFull}
+use Rattle.mc_model_device.proofs.ImageBytes.{image_set, shut_full}
+use Rattle.mc_family.proofs.CardFacts.{AreOnCard, done_stands, whole_stand, means_on_card}
+use Rattle.mc_family.proofs.FewItems.{SessionStateStands, CommandStands}
+use Rattle.mc_family.proofs.AfterPowerLines.{past_power}
+use Rattle.mc_family.proofs.PlaySizes.{BaseFits, StateFits, step_fits}
+use Rattle.mc_family.proofs.ReadyLines.{owed_most, migration_most}
+use Rattle.mc_wear.specs.Most.{most_atomic, most_writes}
+use Rattle.mc_wear.specs.Laws.{atomic_writes, instructions, WritesFew, EachWritesFew, writes_of_play, most_of_play, WearLaw}
+use Rattle.mc_wear.proofs.Loads.{Good}
+use Rattle.mc_wear.proofs.Lines.{line_stands, line_wears, line_atomic, most_more}
+
+-- ---- the writes that recovery may have to make
+
+owed_cond : (b : Bool) (s t : Stopped) → s.owed ≤ 65 → t.owed ≤ 65 → (cond b s t).owed ≤ 65
+owed_cond true s t h k = h
+owed_cond false s t h k = k
+
+-- a stop leaves at most 65 writes for recovery
+at_stop_owed : (is : List Item) (k : ℕ) (x : List ℕ) → AllByRecursion FitsJournal is → (at_stop is k x).owed ≤ 65
+at_stop_owed [] k x a = omega arith
+at_stop_owed (Plain ∷ is) k x a = owed_cond (k == 1) (record { whole = []; owed = 0 }) (with_item Plain (at_stop is (k - 1) x)) (omega arith) (at_stop_owed is (k - 1) x a.1)
+at_stop_owed (Atomic w c ∷ is) k x a =
+    let few : w ≤ 64 = a.0 in
+    owed_cond (nat_le k (cost Two w)) (in_flight w c k x) (with_item (Atomic w c) (at_stop is (k - cost Two w) x)) (cond_most _ (w + 1) 0 65 (omega arith) (omega arith)) (at_stop_owed is (k - cost Two w) x a.1)
+
+root_full : (v size first : ℕ) → v < 256 → IsFull (root v size first)
+root_full v size first h = (refl, (omega arith, (omega arith, (omega arith, (h, (omega arith, (omega arith, (omega arith, (omega arith, tt)))))))))
+
+hole_full : (n link : ℕ) → IsFull (hole_header n link)
+hole_full n link = (refl, (omega arith, (omega arith, (omega arith, (omega arith, (omega arith, (omega arith, (omega arith, (omega arith, tt)))))))))
+
+formatted_kept : (m : List (List ℕ)) → IsImage m → IsImage (formatted_image m)
+formatted_kept m image =
+    let size : ℕ = length m in
+    let a = slice_set m 0 (root 2 size heap_start) in
+    let b = slice_set a 1 shut_word in
+    let c = slice_set b 2 (zeros 8) in
+    let d = slice_set c 130 shut_word in
+    let zero-full : IsFull (zeros 8) = (refl, (omega arith, (omega arith, (omega arith, (omega arith, (omega arith, (omega arith, (omega arith, (omega arith, tt))))))))) in
+    image_set d heap_start (hole_header (size - heap_start) 0)
+    (image_set c 130 shut_word (image_set b 2 (zeros 8) (image_set a 1 shut_word (image_set m 0 (root 2 size heap_start) image (root_full 2 size heap_start (omega arith))) shut_full) zero-full) shut_full)
+    (hole_full (size - heap_start) 0)
+
+-- ---- what is kept from line to line
+
+abbrev LiveStands : List (List ℕ × App) → Live → Type 0
+LiveStands m (Running session_state) = SessionStateStands m session_state
+LiveStands m Unpowered = ⊤
+LiveStands m Muted = ⊤
+
+abbrev BaseStands : Base → Live → Type 0
+BaseStands (OnCard c) v = AreOnCard c.apps × LiveStands c.apps v
+BaseStands (AtFault cause p) v = ⊤
+
+-- recovery has to make few writes, and the applications are those of a card
+abbrev StateGood : State → Type 0
+StateGood (BeforePower m b a) = IsImage m
+StateGood (AfterPower s) = (s.owed ≤ 65) × BaseStands s.base s.live
+
+after_stop : (m : List (List ℕ × App)) (k : Stop) → LiveStands m (live_after k)
+after_stop m stop.Off = tt
+after_stop m stop.Worn = tt
+
+-- ---- stops
+
+-- a failed write of a line of this many device writes
+abbrev IsWithin : Option FailedWrite → ℕ → Type 0
+IsWithin None m = ⊤
+IsWithin (Some w) m = w.at ≤ m
+
+cut_within : (k m : ℕ) (x : List ℕ) (b : Bool) → nat_le k m ≡ b → moves_with m (cond b (Some (record { kind = stop.Off; at = k; left = x })) None) ≤ m
+cut_within k m x true e = leb-true k m e
+cut_within k m x false e = omega arith
+
+hit_within : (a : Armed) (m : ℕ) (w : Option FailedWrite) → IsWithin w m → moves_with m (hit_of a m w) ≤ m
+hit_within a m (Some w) h = h
+hit_within (ArmedCut k x) m None h = cut_within k m x (nat_le k m) refl
+hit_within Unarmed m None h = omega arith
+hit_within (ArmedFail k) m None h = omega arith
+
+possible_within : (z : State) (l : ℕ × DeckLine) (w : Option FailedWrite) (m : ℕ) → moves_of z l ≤ m → MayHit z l w → IsWithin w m
+possible_within z l None m h k = tt
+possible_within z l (Some w) m h k = let high = k.high in omega (arith, h, high)
+
+-- what a line writes, runs and leaves
+record LineWears (z : State) (l : ℕ × DeckLine) (w : Option FailedWrite) (u : Step) : Type 0 where
+  few : MayHit z l w → u.moves ≤ most_writes (instructions u.turns) l.1
+  atomic : atomic_writes u.items ≤ most_atomic (instructions u.turns) l.1
+  count : instructions u.turns ≤ budget_in z
+  next : StateGood u.after
+
+-- ---- power lines
+
+base_on_card : (b : Base) (v : Live) → BaseStands b v → BaseStands b Unpowered
+base_on_card (OnCard c) v h = (h.0, tt)
+base_on_card (AtFault cause p) v h = tt
+
+base_stopped : (b : Base) (k : Stop) → BaseStands b Unpowered → BaseStands b (live_after k)
+base_stopped (OnCard c) k h = (h.0, after_stop c.apps k)
+base_stopped (AtFault cause p) k h = tt
+
+base_powered : (b : Base) → BaseStands b Unpowered → BaseStands (base_after_migration b) (power_live b)
+base_powered (OnCard c) h = (h.0, record { selected = tt; load = tt })
+base_powered (AtFault cause p) h = tt
+
+base_migrated : (b : Base) (v : Live) → BaseStands b v → BaseStands (base_after_migration b) v
+base_migrated (OnCard c) v h = h
+base_migrated (AtFault cause p) v h = h
+
+base_cond : (t : Bool) (b : Base) (v : Live) → BaseStands b v → BaseStands (cond t (base_after_migration b) b) v
+base_cond true b v h = base_migrated b v h
+base_cond false b v h = h
+
+stopped_good : (s : Warm) (t : StopAt) (b : Bool) → s.owed ≤ 65 → BaseStands s.base Unpowered → StateGood (AfterPower (stopped_power s t b))
+stopped_good s t true few h = (cond_most _ (s.owed - 1 + 1) 0 65 (omega (arith, few)) (omega arith), base_stopped s.base t.kind h)
+stopped_good s t false few h = (cond_most _ 2 0 65 (omega arith) (omega arith), base_cond (stands One 1 (t.at - s.owed) t.left) s.base (live_after t.kind) (base_stopped s.base t.kind h))
+
+power_good : (s : Warm) (t : Option StopAt) → s.owed ≤ 65 → BaseStands s.base Unpowered → StateGood (AfterPower (power_after s t))
+power_good s None few h = (omega arith, base_powered s.base h)
+power_good s (Some t) few h = stopped_good s t (nat_le t.at s.owed) few h
+
+power_few : (s : Warm) → s.owed ≤ 65 → power_moves s ≤ 71
+power_few s few = let more : migration s.base ≤ 6 = migration_most s.base in omega (arith, few, more)
+
+power_wears : (n : ℕ) (z : State) (s : Warm) (a : Armed) (w : Option FailedWrite) → moves_of z (n, line.Power) ≤ power_moves s → s.owed ≤ 65 → BaseStands s.base Unpowered
+    → LineWears z (n, line.Power) w (power_step n z s (hit_of a (power_moves s) w))
+power_wears n z s a w all few h =
+    let t = hit_of a (power_moves s) w in
+    let most : power_moves s ≤ 71 = power_few s few in
+    record {
+      few = λ may. let within : moves_with (power_moves s) t ≤ power_moves s = hit_within a (power_moves s) w (possible_within z (n, line.Power) w (power_moves s) all may) in omega (arith, within, most);
+      atomic = omega arith;
+      count = omega arith;
+      next = power_good s t few h;
+    }
+
+-- ---- lines of a running card
+
+after_good : (s : Warm) (c : Card) (r : Command) (t : Option StopAt) → s.owed ≤ 65 → AreOnCard c.apps → CommandStands c.apps r → StateGood (AfterPower (line_after s c r t))
+after_good s c r None few on k = (few, (done_stands r.items c.apps on k.items, k.session_state))
+after_good s c r (Some t) few on k =
+    let whole = (at_stop r.items t.at t.left).whole in
+    (at_stop_owed r.items t.at t.left k.few, (done_stands whole c.apps on (whole_stand r.items c.apps t.at t.left k.items), after_stop (apps_after_items c.apps whole) t.kind))
+
+-- what a card line writes, runs and leaves
+record CardLineWears (l : DeckLine) (g : ℕ) (w : Option FailedWrite) (none u : Step) : Type 0 where
+  few : IsWithin w (moves none.items) → u.moves ≤ most_writes (instructions u.turns) l
+  atomic : atomic_writes u.items ≤ most_atomic (instructions u.turns) l
+  count : instructions u.turns ≤ g
+  next : StateGood u.after
+
+card_wears : (n : ℕ) (l : DeckLine) (b : Base) (o : ℕ) (j : Journal) (v : Live) (g : ℕ) (a : Armed) (w : Option FailedWrite) → IsLine l → BaseFits b v → o ≤ 65 → BaseStands b v
+    → let s = past_power b o j v g a in CardLineWears l g w (card_line n l s v b None) (card_line n l s v b w)
+card_wears n l (OnCard c) o j (Running session_state) g a w is f few h =
+    let r = line_command c session_state g l in
+    let good : Good c session_state = record { limited = f.0; fits = f.1; on = h.0; stands = h.1 } in
+    let k : CommandStands c.apps r = line_stands c session_state g l is good in
+    let wears = line_wears c session_state g l is good in
+    let writes = wears.writes in
+    record {
+      few = λ within. let hit = hit_within a (moves r.items) w within in omega (arith, hit, writes);
+      atomic = line_atomic c session_state g l good;
+      count = wears.count;
+      next = after_good (past_power (OnCard c) o j (Running session_state) g a) c r (hit_of a (moves r.items) w) few h.0 k;
+    }
+card_wears n l (AtFault cause p) o j (Running session_state) g a w is f few h = record { few = λ within. omega arith; atomic = omega arith; count = omega arith; next = (few, tt) }
+card_wears n l b o j Unpowered g a w is f few h = record { few = λ within. omega arith; atomic = omega arith; count = omega arith; next = (few, h) }
+card_wears n l b o j Muted g a w is f few h = record { few = λ within. omega arith; atomic = omega arith; count = omega arith; next = (few, h) }
+
+after_power_wears : (n : ℕ) (l : DeckLine) (s : Warm) (w : Option FailedWrite) → IsLine l → BaseFits s.base s.live → StateGood (AfterPower s) → LineWears (AfterPower s) (n, l) w (after_power_step n l s w)
+unfolding moves_of step
+after_power_wears n line.Power s w is f h = power_wears n (AfterPower s) s s.armed w (omega arith) h.0 (base_on_card s.base s.live h.1)
+after_power_wears n (line.Load u fixed session) s w is f h =
+    let l = line.Load u fixed session in
+    let k = card_wears n l s.base s.owed s.by s.live s.budget s.armed w is f h.0 h.1 in
+    record { few = λ may. k.few (possible_within (AfterPower s) (n, l) w (moves (card_line n l s s.live s.base None).items) (omega arith) may); atomic = k.atomic; count = k.count; next = k.next }
+after_power_wears n (line.Select x) s w is f h =
+    let l = line.Select x in
+    let k = card_wears n l s.base s.owed s.by s.live s.budget s.armed w is f h.0 h.1 in
+    record { few = λ may. k.few (possible_within (AfterPower s) (n, l) w (moves (card_line n l s s.live s.base None).items) (omega arith) may); atomic = k.atomic; count = k.count; next = k.next }
+after_power_wears n (line.Delete x) s w is f h =
+    let l = line.Delete x in
+    let k = card_wears n l s.base s.owed s.by s.live s.budget s.armed w is f h.0 h.1 in
+    record { few = λ may. k.few (possible_within (AfterPower s) (n, l) w (moves (card_line n l s s.live s.base None).items) (omega arith) may); atomic = k.atomic; count = k.count; next = k.next }
+after_power_wears n (line.Apdu x) s w is f h =
+    let l = line.Apdu x in
+    let k = card_wears n l s.base s.owed s.by s.live s.budget s.armed w is f h.0 h.1 in
+    record { few = λ may. k.few (possible_within (AfterPower s) (n, l) w (moves (card_line n l s s.live s.base None).items) (omega arith) may); atomic = k.atomic; count = k.count; next = k.next }
+after_power_wears n _ s w is f h = record { few = λ may. omega arith; atomic = omega arith; count = omega arith; next = h }
+
+-- ---- lines up to the first power line
+
+found_stands : (m : List (List ℕ)) (f : Option (Cause × ℕ)) → IsImage m → fault m ≡ f → BaseStands (base_of f m) Unpowered
+found_stands m None image h = (means_on_card m image h, tt)
+found_stands m (Some f) image h = tt
+
+warmed_stands : (m : List (List ℕ)) (b : ℕ) (a : Armed) → IsImage m → BaseStands (play_at_power m b a).base Unpowered
+unfolding play_at_power
+warmed_stands m b a image = found_stands m (fault m) image refl
+
+warmed_owed : (m : List (List ℕ)) (b : ℕ) (a : Armed) → (play_at_power m b a).owed ≤ 65
+unfolding play_at_power
+warmed_owed m b a = owed_most m
+
+before_power_wears : (n : ℕ) (l : DeckLine) (m : List (List ℕ)) (b : ℕ) (a : Armed) (w : Option FailedWrite) → IsLine l → IsImage m → LineWears (BeforePower m b a) (n, l) w (before_power_step n l m b a w)
+unfolding moves_of step
+before_power_wears n line.Format m b a w is h = record { few = λ may. omega arith; atomic = omega arith; count = omega arith; next = formatted_kept m h }
+before_power_wears n (line.Poke at x) m b a w is h = record { few = λ may. omega arith; atomic = omega arith; count = omega arith; next = image_set m at x h (is.1, is.0) }
+before_power_wears n line.Power m b a w is h = power_wears n (BeforePower m b a) (play_at_power m b a) a w (omega arith) (warmed_owed m b a) (warmed_stands m b a h)
+before_power_wears n _ m b a w is h = record { few = λ may. omega arith; atomic = omega arith; count = omega arith; next = h }
+
+-- ---- plays
+
+step_wears : (z : State) (l : ℕ × DeckLine) (w : Option FailedWrite) → IsLine l.1 → StateFits z → StateGood z → LineWears z l w (step z l w)
+unfolding step
+step_wears (BeforePower m b a) l w is f h = before_power_wears l.0 l.1 m b a w is h
+step_wears (AfterPower s) l w is f h = after_power_wears l.0 l.1 s w is f h
+
+line_few : (z : State) (l : ℕ × DeckLine) (w : Option FailedWrite) → MayHit z l w → LineWears z l w (step z l w) → WritesFew (step z l w)
+line_few z l w may h =
+    let u = step z l w in
+    let is = step_is z l w in
+    let line : u.line ≡ l.1 = is.line in
+    let few : u.moves ≤ most_writes (instructions u.turns) u.line = subst (λ (k : DeckLine). u.moves ≤ most_writes (instructions u.turns) k) (sym line) (h.few may) in
+    let count : instructions u.turns ≤ budget_in u.before = subst (λ (y : State). instructions u.turns ≤ budget_in y) (sym is.before) h.count in
+    let atomic : atomic_writes u.items ≤ most_atomic (instructions u.turns) u.line = subst (λ (k : DeckLine). atomic_writes u.items ≤ most_atomic (instructions u.turns) k) (sym line) h.atomic in
+    let more : most_writes (instructions u.turns) u.line ≤ most_writes (budget_in u.before) u.line = most_more (instructions u.turns) (budget_in u.before) u.line count in
+    record { writes = few; count = count; atomic = atomic; within = omega (arith, few, more) }
+
+each_from : (n : ℕ) (z : State) (ls : List (ℕ × DeckLine)) (ws : List (Option FailedWrite)) → StateFits z → StateGood z → Possible z ls ws → AreLines (take n (plays z ls ws)) → EachWritesFew (take n (plays z ls ws))
+unfolding plays
+each_from zero z ls ws f h may are = tt
+each_from (suc n) z [] ws f h may are = tt
+each_from (suc n) z (l ∷ ls) [] f h may are = absurd may
+each_from (suc n) z (l ∷ ls) (w ∷ ws) f h may are =
+    let u : Step = step z l w in
+    let is : IsLine l.1 = subst IsLine (step_is z l w).line are.0 in
+    let k : LineWears z l w u = step_wears z l w is f h in
+    (line_few z l w may.0 k, each_from n u.after ls ws (step_fits z l w f).next k.next may.1 are.1)
+
+summed : (ts : List Step) → EachWritesFew ts → writes_of_play ts ≤ most_of_play ts
+summed [] h = omega arith
+summed (t ∷ ts) h = let first = h.0.within in let rest = summed ts h.1 in omega (arith, first, rest)
+
+pub wear_law : WearLaw
+wear_law ls m ws may image n are =
+    let each = each_from n (start m) ls ws tt image may are in
+    record { each = each; all = summed (take n (plays (start m) ls ws)) each }

@@ -1,0 +1,4 @@
+pub mod Most
+pub mod Laws
+pub mod Computed
+pub mod Decks
