@@ -1,0 +1,3 @@
+mod Rule
+mod Chains
+mod Sweeps
