@@ -1,4 +1,5 @@
--- What holds of a chain while an application with an outline may be among its frames: its own frame runs, or waits below, or there is none.
+-- What holds of a chain while an application with an outline may be among its frames: its own frame runs, or waits
+-- below, or there is none.
 use Rattle.std.proofs.Common.{◌≡◌, ℕ, ◌≤◌, Bool, true, false, List, [], ◌∷◌, length, Option, Some, None, refl, sym, ap, subst, ◌∙◌}
 use Rattle.std.specs.Prelude.{⊤, bytes_eq}
 use Rattle.std.proofs.lemmas.Bool.{or_parts}

@@ -8,12 +8,12 @@ use Rattle.mc_model_machine.specs.Apdu.{ApduParts}
 use Rattle.mc_model_machine.specs.Frame.{Frame, new_frame, new_public}
 use Rattle.mc_model_machine.specs.Chain.{Outcome, Reply, start_app, start, no_app, run}
 use Rattle.mc_model_card.specs.Items.{apps_after_items, at_stop, write_items}
-use Rattle.mc_model_card.specs.Manager.{Selected, Seat, Route, WrongLength, WrongClass, ToSelect, ToManager, ToApplication, answer_unless, first_status, is_empty, select_done, is_selected}
+use Rattle.mc_model_card.specs.Manager.{Selected, SessionState, Route, WrongLength, WrongClass, ToSelect, ToManager, ToApplication, answer_unless, first_status, is_empty, select_done, is_selected}
 use Rattle.mc_model_card.specs.Commands.{Command, manager_command, application_command, by_route}
 use Rattle.mc_machine_laws.proofs.RunSizes.{RanFits, run_fits}
 use Rattle.mc_family.proofs.Stops.{whole_others}
 use Rattle.mc_family.proofs.OtherCommand.{IsManagers, Aside, routed_aside}
-use Rattle.mc_promise.specs.History.{CutAt, with_event, after_run, selection_event, after_select, after_passed, after_route, after_items}
+use Rattle.mc_promise.specs.History.{CutAt, with_event, after_run, selection_event, after_select, command_event, after_passed, after_route, after_items}
 use Rattle.mc_promise.specs.Along.{CreatesOnly, own_parts, parts_for}
 use Rattle.mc_promise.specs.Outline.{BySelection, Outline, IsShown, public_size, first_frame_of}
 use Rattle.mc_promise.specs.Kept.{IsLike, KeptIn, SessionKept, SessionIf, SelectedKept}
@@ -36,10 +36,10 @@ OnParts o None before after outcome = ⊤
 OnParts o (Some a) before after outcome = AnsweredBy o a before after outcome
 
 -- what a command that no stop hits leaves, with this history
-pub record CommandKept {E : Type 0} (o : Outline E) (h : List E) (c : Card) (seat : Seat) (rt : Route) (r : Command) (k : List E) : Type 0 where
+pub record CommandKept {E : Type 0} (o : Outline E) (h : List E) (c : Card) (session_state : SessionState) (rt : Route) (r : Command) (k : List E) : Type 0 where
   pub after : KeptIn o k (lookup (apps_after_items c.apps r.items) o.watch.name)
-  pub selected : SelectedKept o k (apps_after_items c.apps r.items) r.seat.selected
-  pub answer : OnParts o (parts_for o.watch.name seat.selected rt) h k r.outcome
+  pub selected : SelectedKept o k (apps_after_items c.apps r.items) r.session_state.selected
+  pub answer : OnParts o (parts_for o.watch.name session_state.selected rt) h k r.outcome
 
 module _ {E : Type 0} (o : Outline E) (shown : IsShown o) where
   -- ---- a run begins
@@ -54,25 +54,26 @@ module _ {E : Type 0} (o : Outline E) (shown : IsShown o) where
       ∙ ap (λ (d : ℕ). new_frame n (length a.code) d fixed session) (sym like.deny))
 
   own_start : (h : List E) (m : List (List ℕ × App)) (n session : List ℕ) (apdu : ApduParts) (found : Option App) → lookup m o.watch.name ≡ found → bytes_eq n o.watch.name ≡ true → KeptIn o h found → SessionKept o h found session
-      → ChainKept o apdu h h (start m n session apdu)
+      → ChainKept o apdu h (with_event (o.watch.of_command apdu) h) (start m n session apdu)
   own_start h m n session apdu None is e kept holds = absurd holds
   own_start h m n session apdu (Some a) is e kept holds =
       let same : n ≡ o.watch.name = same_name n o.watch.name e in
       let there : lookup m n ≡ Some a = subst (λ (z : List ℕ). lookup m z ≡ Some a) (sym same) is in
       let f = new_frame n (length a.code) a.deny a.fixed session in
       let p = new_public apdu in
-      let at = shown.begins apdu h a.fixed session kept.1 holds.0 holds.1 in
-      let r : Runs o apdu h h a.fixed f [] p = record { same = refl; at = subst (λ z. o.at (BySelection apdu h) h z p) (own_frame n a.fixed session a kept.0 same) at; none = tt } in
-      let t : ThereKept o apdu h h a f [] p = record { like = kept.0; keeps = kept.1; stack = own_runs o apdu h h a.fixed f [] p e r; whole = begun_whole apdu } in
-      subst (ChainKept o apdu h h) (start_is m n session a apdu there)
-      (record { kept = subst (λ (z : Option App). FoundKept o apdu h h z f [] p) (sym is) t; command = refl; whole = begun_whole apdu })
+      let k : List E = with_event (o.watch.of_command apdu) h in
+      let begun = shown.begins apdu h a.fixed session kept.1 holds.0 holds.1 in
+      let r : Runs o apdu h k a.fixed f [] p = record { same = refl; at = subst (λ z. o.at (BySelection apdu h) k z p) (own_frame n a.fixed session a kept.0 same) begun.1; none = tt } in
+      let t : ThereKept o apdu h k a f [] p = record { like = kept.0; keeps = begun.0; stack = own_runs o apdu h k a.fixed f [] p e r; whole = begun_whole apdu } in
+      subst (ChainKept o apdu h k) (start_is m n session a apdu there)
+      (record { kept = subst (λ (z : Option App). FoundKept o apdu h k z f [] p) (sym is) t; command = refl; whole = begun_whole apdu })
 
   other_found : (h : List E) (found : Option App) (f : Frame) (apdu : ApduParts) (p : List ℕ) → public_size ≤ length p → bytes_eq f.name o.watch.name ≡ false → KeptIn o h found → FoundKept o apdu h h found f [] p
   other_found h None f apdu p l e kept = (e, tt)
   other_found h (Some a) f apdu p l e kept = record { like = kept.0; keeps = kept.1; stack = others_run o apdu h h a.fixed f [] p e tt; whole = l }
 
   start_kept : (b : Bool) (h : List E) (m : List (List ℕ × App)) (n session : List ℕ) (apdu : ApduParts) → bytes_eq n o.watch.name ≡ b → KeptIn o h (lookup m o.watch.name) → SessionIf b o h (lookup m o.watch.name) session
-      → ChainKept o apdu h h (start m n session apdu)
+      → ChainKept o apdu h (with_event (command_event o.watch b apdu) h) (start m n session apdu)
   start_kept true h m n session apdu e kept holds = own_start h m n session apdu (lookup m o.watch.name) refl e kept holds
   start_kept false h m n session apdu e kept holds =
       record { kept = other_found h (lookup m o.watch.name) (start m n session apdu).frame apdu (new_public apdu) (begun_whole apdu) e kept; command = refl; whole = begun_whole apdu }
@@ -95,48 +96,48 @@ module _ {E : Type 0} (o : Outline E) (shown : IsShown o) where
   ended_answer false h k new last apdu outcome x = tt
   ended_answer true h k new last apdu outcome x = x.1
 
-  run_passed : (h : List E) (c : Card) (seat : Seat) (s : Selected) (a : ApduParts) (budget : ℕ) (b : Bool) → bytes_eq s.name o.watch.name ≡ b → KeptIn o h (lookup c.apps o.watch.name) → SessionIf b o h (lookup c.apps o.watch.name) s.session
-      → RunKept b o a h c.apps (run c.apps s.name s.session a budget) (after_run o.watch budget (start c.apps s.name s.session a) None h)
-  run_passed h c seat s a budget b e kept holds = run_kept o shown a h b budget h (start c.apps s.name s.session a) e (start_kept b h c.apps s.name s.session a e kept holds)
+  run_passed : (h : List E) (c : Card) (session_state : SessionState) (s : Selected) (a : ApduParts) (budget : ℕ) (b : Bool) → bytes_eq s.name o.watch.name ≡ b → KeptIn o h (lookup c.apps o.watch.name) → SessionIf b o h (lookup c.apps o.watch.name) s.session
+      → RunKept b o a h c.apps (run c.apps s.name s.session a budget) (after_run o.watch budget (start c.apps s.name s.session a) None (with_event (command_event o.watch b a) h))
+  run_passed h c session_state s a budget b e kept holds = run_kept o shown a h b budget (with_event (command_event o.watch b a) h) (start c.apps s.name s.session a) e (start_kept b h c.apps s.name s.session a e kept holds)
 
-  passed_by : (h : List E) (c : Card) (seat : Seat) (s : Selected) (a : ApduParts) (budget : ℕ) (b : Bool) → bytes_eq s.name o.watch.name ≡ b → KeptIn o h (lookup c.apps o.watch.name) → SessionIf b o h (lookup c.apps o.watch.name) s.session
+  passed_by : (h : List E) (c : Card) (session_state : SessionState) (s : Selected) (a : ApduParts) (budget : ℕ) (b : Bool) → bytes_eq s.name o.watch.name ≡ b → KeptIn o h (lookup c.apps o.watch.name) → SessionIf b o h (lookup c.apps o.watch.name) s.session
       → let r = run c.apps s.name s.session a budget in
-      let k = after_run o.watch budget (start c.apps s.name s.session a) None h in
+      let k = after_run o.watch budget (start c.apps s.name s.session a) None (with_event (command_event o.watch b a) h) in
       KeptIn o k (lookup (apps_after_items c.apps (write_items r.writes)) o.watch.name) × SessionIf b o k (lookup (apps_after_items c.apps (write_items r.writes)) o.watch.name) r.session × OnParts o (own_parts b a) h k r.outcome
-  passed_by h c seat s a budget b e kept holds =
+  passed_by h c session_state s a budget b e kept holds =
       let r = run c.apps s.name s.session a budget in
-      let k = after_run o.watch budget (start c.apps s.name s.session a) None h in
-      let d : RunKept b o a h c.apps r k = run_passed h c seat s a budget b e kept holds in
+      let k = after_run o.watch budget (start c.apps s.name s.session a) None (with_event (command_event o.watch b a) h) in
+      let d : RunKept b o a h c.apps r k = run_passed h c session_state s a budget b e kept holds in
       let fits : RanFits c.apps (length s.session) r = run_fits c.apps s.name s.session a budget in (
         d.after,
         ended_session b h k (lookup c.apps o.watch.name) (lookup (apps_after_items c.apps (write_items r.writes)) o.watch.name) s.session r.session a r.outcome fits.session holds d.ended,
         ended_answer b h k (lookup (apps_after_items c.apps (write_items r.writes)) o.watch.name) r.session a r.outcome d.ended,
       )
 
-  passed_kept : (h : List E) (c : Card) (seat : Seat) (found : Option Selected) (a : ApduParts) (budget : ℕ) → seat.selected ≡ found → KeptIn o h (lookup c.apps o.watch.name) → SelectedKept o h c.apps found
-      → CommandKept o h c seat (ToApplication a) (application_command c seat found a budget) (after_passed o.watch c found a budget None (after_items o.watch.name (application_command c seat found a budget).items h))
-  passed_kept h c seat None a budget is kept holds =
+  passed_kept : (h : List E) (c : Card) (session_state : SessionState) (found : Option Selected) (a : ApduParts) (budget : ℕ) → session_state.selected ≡ found → KeptIn o h (lookup c.apps o.watch.name) → SelectedKept o h c.apps found
+      → CommandKept o h c session_state (ToApplication a) (application_command c session_state found a budget) (after_passed o.watch c found a budget None (after_items o.watch.name (application_command c session_state found a budget).items h))
+  passed_kept h c session_state None a budget is kept holds =
       record { after = kept; selected = subst (SelectedKept o h c.apps) (sym is) tt; answer = subst (λ (z : Option Selected). OnParts o (parts_for o.watch.name z (ToApplication a)) h h (Reply [] 0x6985)) (sym is) tt }
-  passed_kept h c seat (Some s) a budget is kept holds =
+  passed_kept h c session_state (Some s) a budget is kept holds =
       let r = run c.apps s.name s.session a budget in
-      let go : List E → List E = λ q. after_run o.watch budget (start c.apps s.name s.session a) None q in
+      let go : List E → List E = λ q. after_run o.watch budget (start c.apps s.name s.session a) None (with_event (command_event o.watch (bytes_eq s.name o.watch.name) a) q) in
       let same : h ≡ after_items o.watch.name (write_items r.writes) h = sym (fixed_history o.watch.name (write_items r.writes) h (writes_fixed r.writes)) in
-      let p = passed_by h c seat s a budget (bytes_eq s.name o.watch.name) refl kept holds in
-      subst (λ (q : List E). CommandKept o h c seat (ToApplication a) (application_command c seat (Some s) a budget) (go q)) same
+      let p = passed_by h c session_state s a budget (bytes_eq s.name o.watch.name) refl kept holds in
+      subst (λ (q : List E). CommandKept o h c session_state (ToApplication a) (application_command c session_state (Some s) a budget) (go q)) same
       (record { after = p.0; selected = p.1; answer = subst (λ (z : Option Selected). OnParts o (parts_for o.watch.name z (ToApplication a)) h (go h) r.outcome) (sym is) p.2 })
 
   -- the same up to a stop
-  passed_cut : (h : List E) (c : Card) (seat : Seat) (found : Option Selected) (a : ApduParts) (budget : ℕ) (cut : CutAt) → KeptIn o h (lookup c.apps o.watch.name) → SelectedKept o h c.apps found
-      → let whole = (at_stop (application_command c seat found a budget).items cut.at cut.left).whole in
+  passed_cut : (h : List E) (c : Card) (session_state : SessionState) (found : Option Selected) (a : ApduParts) (budget : ℕ) (cut : CutAt) → KeptIn o h (lookup c.apps o.watch.name) → SelectedKept o h c.apps found
+      → let whole = (at_stop (application_command c session_state found a budget).items cut.at cut.left).whole in
       KeptIn o (after_passed o.watch c found a budget (Some cut) (after_items o.watch.name whole h)) (lookup (apps_after_items c.apps whole) o.watch.name)
-  passed_cut h c seat None a budget cut kept holds = kept
-  passed_cut h c seat (Some s) a budget cut kept holds =
+  passed_cut h c session_state None a budget cut kept holds = kept
+  passed_cut h c session_state (Some s) a budget cut kept holds =
       let r = run c.apps s.name s.session a budget in
       let whole = (at_stop (write_items r.writes) cut.at cut.left).whole in
       let b = bytes_eq s.name o.watch.name in
       let same : h ≡ after_items o.watch.name whole h = sym (fixed_history o.watch.name whole h (whole_fixed (write_items r.writes) cut.at cut.left (writes_fixed r.writes))) in
-      subst (λ (q : List E). KeptIn o (after_run o.watch budget (start c.apps s.name s.session a) (Some cut) q) (lookup (apps_after_items c.apps whole) o.watch.name)) same
-      (cut_kept o shown a h b budget h (start c.apps s.name s.session a) cut refl (start_kept b h c.apps s.name s.session a refl kept holds))
+      subst (λ (q : List E). KeptIn o (after_run o.watch budget (start c.apps s.name s.session a) (Some cut) (with_event (command_event o.watch b a) q)) (lookup (apps_after_items c.apps whole) o.watch.name)) same
+      (cut_kept o shown a h b budget (with_event (command_event o.watch b a) h) (start c.apps s.name s.session a) cut refl (start_kept b h c.apps s.name s.session a refl kept holds))
 
   -- ---- a selection
 
@@ -160,25 +161,25 @@ module _ {E : Type 0} (o : Outline E) (shown : IsShown o) where
         subst (λ (z : Option App). SessionKept o k z (zeros a.session)) (sym there) (subst (λ (z : ℕ). o.holds k a.fixed (zeros z)) (sym old.0.session) new.1, size),
       )
 
-  select_by : (h : List E) (c : Card) (seat : Seat) (a : ApduParts) (x y : Bool) (found : Option App) → lookup c.apps a.body ≡ found → KeptIn o h (lookup c.apps o.watch.name) → SelectedKept o h c.apps seat.selected
-      → let d = answer_unless (first_status ((0x6A86, x) ∷ (0x6700, y) ∷ (0x6A82, is_none found) ∷ [])) (select_done seat a found) in
-      let r = manager_command c seat d in
+  select_by : (h : List E) (c : Card) (session_state : SessionState) (a : ApduParts) (x y : Bool) (found : Option App) → lookup c.apps a.body ≡ found → KeptIn o h (lookup c.apps o.watch.name) → SelectedKept o h c.apps session_state.selected
+      → let d = answer_unless (first_status ((0x6A86, x) ∷ (0x6700, y) ∷ (0x6A82, is_none found) ∷ [])) (select_done session_state a found) in
+      let r = manager_command c session_state d in
       let k = after_select o.watch a.body d (after_items o.watch.name r.items h) in
-      KeptIn o k (lookup (apps_after_items c.apps r.items) o.watch.name) × SelectedKept o k (apps_after_items c.apps r.items) r.seat.selected
-  select_by h c seat a true y found is kept holds = (kept, holds)
-  select_by h c seat a false true found is kept holds = (kept, holds)
-  select_by h c seat a false false None is kept holds = (kept, holds)
-  select_by h c seat a false false (Some b) is kept holds = selection_kept (bytes_eq a.body o.watch.name) h c.apps a.body b refl is kept
+      KeptIn o k (lookup (apps_after_items c.apps r.items) o.watch.name) × SelectedKept o k (apps_after_items c.apps r.items) r.session_state.selected
+  select_by h c session_state a true y found is kept holds = (kept, holds)
+  select_by h c session_state a false true found is kept holds = (kept, holds)
+  select_by h c session_state a false false None is kept holds = (kept, holds)
+  select_by h c session_state a false false (Some b) is kept holds = selection_kept (bytes_eq a.body o.watch.name) h c.apps a.body b refl is kept
 
   -- a stop in a command that makes no write
-  select_cut : (h : List E) (c : Card) (seat : Seat) (a : ApduParts) (x y : Bool) (found : Option App) → lookup c.apps a.body ≡ found → KeptIn o h (lookup c.apps o.watch.name) → SelectedKept o h c.apps seat.selected
-      → (cut : CutAt) → let d = answer_unless (first_status ((0x6A86, x) ∷ (0x6700, y) ∷ (0x6A82, is_none found) ∷ [])) (select_done seat a found) in
-      let whole = (at_stop (manager_command c seat d).items cut.at cut.left).whole in
+  select_cut : (h : List E) (c : Card) (session_state : SessionState) (a : ApduParts) (x y : Bool) (found : Option App) → lookup c.apps a.body ≡ found → KeptIn o h (lookup c.apps o.watch.name) → SelectedKept o h c.apps session_state.selected
+      → (cut : CutAt) → let d = answer_unless (first_status ((0x6A86, x) ∷ (0x6700, y) ∷ (0x6A82, is_none found) ∷ [])) (select_done session_state a found) in
+      let whole = (at_stop (manager_command c session_state d).items cut.at cut.left).whole in
       KeptIn o (after_select o.watch a.body d (after_items o.watch.name whole h)) (lookup (apps_after_items c.apps whole) o.watch.name)
-  select_cut h c seat a true y found is kept holds cut = kept
-  select_cut h c seat a false true found is kept holds cut = kept
-  select_cut h c seat a false false None is kept holds cut = kept
-  select_cut h c seat a false false (Some b) is kept holds cut = (selection_kept (bytes_eq a.body o.watch.name) h c.apps a.body b refl is kept).0
+  select_cut h c session_state a true y found is kept holds cut = kept
+  select_cut h c session_state a false true found is kept holds cut = kept
+  select_cut h c session_state a false false None is kept holds cut = kept
+  select_cut h c session_state a false false (Some b) is kept holds cut = (selection_kept (bytes_eq a.body o.watch.name) h c.apps a.body b refl is kept).0
 
   no_parts : (r : Route) (found : Option Selected) (h k : List E) (outcome : Outcome) → ((a : ApduParts) → r ≡ ToApplication a → ⊥) → OnParts o (parts_for o.watch.name found r) h k outcome
   no_parts r None h k outcome n = tt
@@ -191,65 +192,65 @@ module _ {E : Type 0} (o : Outline E) (shown : IsShown o) where
   -- ---- the manager
 
   -- where it is selected, it is there, and no item touches it; else nothing is asked for
-  manager_selected : (h : List E) (c : Card) (seat : Seat) (budget : ℕ) (r : Route) (found : Option Selected) → IsManagers r → seat.selected ≡ found → SelectedKept o h c.apps found
-      → SelectedKept o (after_items o.watch.name (by_route c seat budget r).items h) (apps_after_items c.apps (by_route c seat budget r).items) found
-  manager_selected h c seat budget r None m is holds = tt
-  manager_selected h c seat budget r (Some s) m is holds = by (bytes_eq s.name o.watch.name) refl holds
+  manager_selected : (h : List E) (c : Card) (session_state : SessionState) (budget : ℕ) (r : Route) (found : Option Selected) → IsManagers r → session_state.selected ≡ found → SelectedKept o h c.apps found
+      → SelectedKept o (after_items o.watch.name (by_route c session_state budget r).items h) (apps_after_items c.apps (by_route c session_state budget r).items) found
+  manager_selected h c session_state budget r None m is holds = tt
+  manager_selected h c session_state budget r (Some s) m is holds = by (bytes_eq s.name o.watch.name) refl holds
     where
       some_there : (found : Option App) → SessionKept o h found s.session → is_some found ≡ true
       some_there None x = absurd x
       some_there (Some a) x = refl
 
       by : (b : Bool) → bytes_eq s.name o.watch.name ≡ b → SessionIf b o h (lookup c.apps o.watch.name) s.session
-          → SessionIf b o (after_items o.watch.name (by_route c seat budget r).items h) (lookup (apps_after_items c.apps (by_route c seat budget r).items) o.watch.name) s.session
+          → SessionIf b o (after_items o.watch.name (by_route c session_state budget r).items h) (lookup (apps_after_items c.apps (by_route c session_state budget r).items) o.watch.name) s.session
       by false e x = tt
       by true e x =
-          let items = (by_route c seat budget r).items in
-          let selected : is_selected seat.selected o.watch.name ≡ true = ap (λ (z : Option Selected). is_selected z o.watch.name) is ∙ e in
-          let a : AllAvoid o.watch.name items = manager_avoids c seat o.watch.name (some_there (lookup c.apps o.watch.name) x) selected budget r m in
+          let items = (by_route c session_state budget r).items in
+          let selected : is_selected session_state.selected o.watch.name ≡ true = ap (λ (z : Option Selected). is_selected z o.watch.name) is ∙ e in
+          let a : AllAvoid o.watch.name items = manager_avoids c session_state o.watch.name (some_there (lookup c.apps o.watch.name) x) selected budget r m in
           let same : lookup c.apps o.watch.name ≡ lookup (apps_after_items c.apps items) o.watch.name = sym (avoid_lookup o.watch.name items c.apps a) in
           let history : h ≡ after_items o.watch.name items h = sym (avoid_history o.watch.name items h a) in
           subst (λ (q : List E). SessionKept o q (lookup (apps_after_items c.apps items) o.watch.name) s.session) history (subst (λ (z : Option App). SessionKept o h z s.session) same x)
 
-  manager_kept : (h : List E) (c : Card) (seat : Seat) (budget : ℕ) (r : Route) → IsManagers r → CreatesOnly o.watch.name o.app (by_route c seat budget r).items → KeptIn o h (lookup c.apps o.watch.name) → SelectedKept o h c.apps seat.selected
-      → let k = after_items o.watch.name (by_route c seat budget r).items h in
-      KeptIn o k (lookup (apps_after_items c.apps (by_route c seat budget r).items) o.watch.name) × SelectedKept o k (apps_after_items c.apps (by_route c seat budget r).items) (by_route c seat budget r).seat.selected
-  manager_kept h c seat budget r m only kept holds =
-      let items = (by_route c seat budget r).items in
-      let aside : Aside (o.watch.name ∷ []) seat (by_route c seat budget r) = routed_aside (o.watch.name ∷ []) c seat budget r m in
+  manager_kept : (h : List E) (c : Card) (session_state : SessionState) (budget : ℕ) (r : Route) → IsManagers r → CreatesOnly o.watch.name o.app (by_route c session_state budget r).items → KeptIn o h (lookup c.apps o.watch.name) → SelectedKept o h c.apps session_state.selected
+      → let k = after_items o.watch.name (by_route c session_state budget r).items h in
+      KeptIn o k (lookup (apps_after_items c.apps (by_route c session_state budget r).items) o.watch.name) × SelectedKept o k (apps_after_items c.apps (by_route c session_state budget r).items) (by_route c session_state budget r).session_state.selected
+  manager_kept h c session_state budget r m only kept holds =
+      let items = (by_route c session_state budget r).items in
+      let aside : Aside (o.watch.name ∷ []) session_state (by_route c session_state budget r) = routed_aside (o.watch.name ∷ []) c session_state budget r m in
       let k = after_items o.watch.name items h in (
         items_kept o shown items h c.apps aside.others only kept,
-        subst (SelectedKept o k (apps_after_items c.apps items)) (sym aside.selected) (manager_selected h c seat budget r seat.selected m refl holds),
+        subst (SelectedKept o k (apps_after_items c.apps items)) (sym aside.selected) (manager_selected h c session_state budget r session_state.selected m refl holds),
       )
 
-  manager_cut : (h : List E) (c : Card) (seat : Seat) (budget : ℕ) (r : Route) (cut : CutAt) → IsManagers r
-      → let whole = (at_stop (by_route c seat budget r).items cut.at cut.left).whole in
+  manager_cut : (h : List E) (c : Card) (session_state : SessionState) (budget : ℕ) (r : Route) (cut : CutAt) → IsManagers r
+      → let whole = (at_stop (by_route c session_state budget r).items cut.at cut.left).whole in
       CreatesOnly o.watch.name o.app whole → KeptIn o h (lookup c.apps o.watch.name) → KeptIn o (after_items o.watch.name whole h) (lookup (apps_after_items c.apps whole) o.watch.name)
-  manager_cut h c seat budget r cut m only kept =
-      let items = (by_route c seat budget r).items in
-      let aside : Aside (o.watch.name ∷ []) seat (by_route c seat budget r) = routed_aside (o.watch.name ∷ []) c seat budget r m in
+  manager_cut h c session_state budget r cut m only kept =
+      let items = (by_route c session_state budget r).items in
+      let aside : Aside (o.watch.name ∷ []) session_state (by_route c session_state budget r) = routed_aside (o.watch.name ∷ []) c session_state budget r m in
       items_kept o shown (at_stop items cut.at cut.left).whole h c.apps (whole_others (o.watch.name ∷ []) items cut.at cut.left aside.others) only kept
 
   -- ---- a command by its route
 
-  pub route_kept : (h : List E) (c : Card) (seat : Seat) (budget : ℕ) (r : Route) → CreatesOnly o.watch.name o.app (by_route c seat budget r).items → KeptIn o h (lookup c.apps o.watch.name) → SelectedKept o h c.apps seat.selected
-      → CommandKept o h c seat r (by_route c seat budget r) (after_route o.watch c seat budget r None (after_items o.watch.name (by_route c seat budget r).items h))
-  route_kept h c seat budget WrongLength only kept holds = record { after = kept; selected = holds; answer = no_parts WrongLength seat.selected h h _ (λ a e. cc e) }
-  route_kept h c seat budget WrongClass only kept holds = record { after = kept; selected = holds; answer = no_parts WrongClass seat.selected h h _ (λ a e. cc e) }
-  route_kept h c seat budget (ToSelect a) only kept holds =
-      let p = select_by h c seat a (not (a.p2 == 0 || a.p2 == 0x0C)) (is_empty a.body) (lookup c.apps a.body) refl kept holds in
-      record { after = p.0; selected = p.1; answer = no_parts (ToSelect a) seat.selected h _ _ (λ a e. cc e) }
-  route_kept h c seat budget (ToManager a) only kept holds =
-      let p = manager_kept h c seat budget (ToManager a) tt only kept holds in
-      record { after = p.0; selected = p.1; answer = no_parts (ToManager a) seat.selected h _ _ (λ a e. cc e) }
-  route_kept h c seat budget (ToApplication a) only kept holds = passed_kept h c seat seat.selected a budget refl kept holds
+  pub route_kept : (h : List E) (c : Card) (session_state : SessionState) (budget : ℕ) (r : Route) → CreatesOnly o.watch.name o.app (by_route c session_state budget r).items → KeptIn o h (lookup c.apps o.watch.name) → SelectedKept o h c.apps session_state.selected
+      → CommandKept o h c session_state r (by_route c session_state budget r) (after_route o.watch c session_state budget r None (after_items o.watch.name (by_route c session_state budget r).items h))
+  route_kept h c session_state budget WrongLength only kept holds = record { after = kept; selected = holds; answer = no_parts WrongLength session_state.selected h h _ (λ a e. cc e) }
+  route_kept h c session_state budget WrongClass only kept holds = record { after = kept; selected = holds; answer = no_parts WrongClass session_state.selected h h _ (λ a e. cc e) }
+  route_kept h c session_state budget (ToSelect a) only kept holds =
+      let p = select_by h c session_state a (not (a.p2 == 0 || a.p2 == 0x0C)) (is_empty a.body) (lookup c.apps a.body) refl kept holds in
+      record { after = p.0; selected = p.1; answer = no_parts (ToSelect a) session_state.selected h _ _ (λ a e. cc e) }
+  route_kept h c session_state budget (ToManager a) only kept holds =
+      let p = manager_kept h c session_state budget (ToManager a) tt only kept holds in
+      record { after = p.0; selected = p.1; answer = no_parts (ToManager a) session_state.selected h _ _ (λ a e. cc e) }
+  route_kept h c session_state budget (ToApplication a) only kept holds = passed_kept h c session_state session_state.selected a budget refl kept holds
 
-  pub route_cut : (h : List E) (c : Card) (seat : Seat) (budget : ℕ) (r : Route) (cut : CutAt)
-      → let whole = (at_stop (by_route c seat budget r).items cut.at cut.left).whole in
-      CreatesOnly o.watch.name o.app whole → KeptIn o h (lookup c.apps o.watch.name) → SelectedKept o h c.apps seat.selected
-      → KeptIn o (after_route o.watch c seat budget r (Some cut) (after_items o.watch.name whole h)) (lookup (apps_after_items c.apps whole) o.watch.name)
-  route_cut h c seat budget WrongLength cut only kept holds = kept
-  route_cut h c seat budget WrongClass cut only kept holds = kept
-  route_cut h c seat budget (ToSelect a) cut only kept holds = select_cut h c seat a (not (a.p2 == 0 || a.p2 == 0x0C)) (is_empty a.body) (lookup c.apps a.body) refl kept holds cut
-  route_cut h c seat budget (ToManager a) cut only kept holds = manager_cut h c seat budget (ToManager a) cut tt only kept
-  route_cut h c seat budget (ToApplication a) cut only kept holds = passed_cut h c seat seat.selected a budget cut kept holds
+  pub route_cut : (h : List E) (c : Card) (session_state : SessionState) (budget : ℕ) (r : Route) (cut : CutAt)
+      → let whole = (at_stop (by_route c session_state budget r).items cut.at cut.left).whole in
+      CreatesOnly o.watch.name o.app whole → KeptIn o h (lookup c.apps o.watch.name) → SelectedKept o h c.apps session_state.selected
+      → KeptIn o (after_route o.watch c session_state budget r (Some cut) (after_items o.watch.name whole h)) (lookup (apps_after_items c.apps whole) o.watch.name)
+  route_cut h c session_state budget WrongLength cut only kept holds = kept
+  route_cut h c session_state budget WrongClass cut only kept holds = kept
+  route_cut h c session_state budget (ToSelect a) cut only kept holds = select_cut h c session_state a (not (a.p2 == 0 || a.p2 == 0x0C)) (is_empty a.body) (lookup c.apps a.body) refl kept holds cut
+  route_cut h c session_state budget (ToManager a) cut only kept holds = manager_cut h c session_state budget (ToManager a) cut tt only kept
+  route_cut h c session_state budget (ToApplication a) cut only kept holds = passed_cut h c session_state session_state.selected a budget cut kept holds

@@ -11,7 +11,7 @@ use Rattle.mc_model_machine.specs.Primitives.{Around, Done}
 use Rattle.mc_model_machine.specs.Row.{causes, effect, row}
 use Rattle.mc_promise.specs.Outline.{Entry, BySelection, ByDelegation, Outline, IsShown, FitsEntry, public_size, ExitShown, FetchShown, first_frame_of}
 use Rattle.mc_promise.specs.Counter.{counter_name, counter_code, counter_app, counter_watch, newest_count, Rises, AnswersCount}
-use Rattle.mc_promise.proofs.PublicBytes.{ins_byte, status_set, status_beside_la, status_beside_two, status_new}
+use Rattle.mc_promise.proofs.PublicBytes.{other_ins, status_set, status_beside_la, status_beside_two, status_new}
 
 -- ---- what keeps
 
@@ -88,10 +88,7 @@ counter_outline =
 
 no_count : (e : Entry ℕ) (h p : List ℕ) → IsFresh e h p → (sub_blocks (take 1 (drop 1029 p)) (0x10 ∷ [])).z ≡ false → IsNoCount e
 no_count ByDelegation h p f z = tt
-no_count (BySelection a before) h p f z = λ small is.
-    let same : take 1 (drop 1029 p) ≡ 0x10 ∷ [] = ap (λ (q : List ℕ). take 1 (drop 1029 q)) f.1 ∙ (ins_byte a small ∙ ap (λ (i : ℕ). i ∷ []) is) in
-    let set : (sub_blocks (take 1 (drop 1029 p)) (0x10 ∷ [])).z ≡ true = ap (λ (b : List ℕ). (sub_blocks b (0x10 ∷ [])).z) same in
-    absurd (cc (sym set ∙ z))
+no_count (BySelection a before) h p f z = λ small. other_ins a 0x10 p f.1 small z
 
 not_full : (x y : ℕ) → (sub_blocks (x ∷ y ∷ []) (0xFF ∷ 0xFF ∷ [])).z ≡ false → num (x ∷ y ∷ []) ≢ 65535
 not_full x y z is =
@@ -180,9 +177,11 @@ counter_shown =
       created = record { size = refl; holds = refl; small = omega arith; rises = tt };
       selected = λ h fixed kept. (kept, tt);
       ended = λ h fixed kept. kept;
-      begins = λ a h fixed session kept holds size.
-          subst (λ (s : List ℕ). CounterAt (BySelection a h) h (new_public a) (first_frame_of counter_outline fixed s)) (sym (no_session session size))
-          (first_place (BySelection a h) h (new_public a) fixed (refl, refl) kept);
+      begins = λ a h fixed session kept holds size. (
+        kept,
+        subst (λ (s : List ℕ). CounterAt (BySelection a h) h (new_public a) (first_frame_of counter_outline fixed s)) (sym (no_session session size))
+            (first_place (BySelection a h) h (new_public a) fixed (refl, refl) kept),
+      );
       entered = λ h fixed public kept size. first_place ByDelegation h public fixed tt kept;
       turn = turn;
       abends = λ a before h f public at kept. tt;

@@ -1,4 +1,4 @@
--- A command of bytes carries at most 1,024 bytes of data.
+-- A command of bytes carries at most 1,024 bytes of data, and its INS is a byte.
 use Rattle.std.proofs.Common.{◌≡◌, ℕ, ◌+◌, ◌*◌, ◌<◌, ◌≤◌, Bool, true, false, cond, List, [], ◌∷◌, length, take, Option, Some, None, refl, subst, arith}
 use Rattle.std.specs.Prelude.{⊤, ◌==◌, ◌&&◌, nat_le, option_map}
 use Rattle.std.proofs.lemmas.Bool.{and_parts, leb-true, eqb-true}
@@ -40,11 +40,11 @@ rest_few (p ∷ x ∷ xs) h = rest_by (p == 0) p x xs h.0
 
 abbrev AreFew : Option ApduParts → Type 0
 AreFew None = ⊤
-AreFew (Some a) = length a.body ≤ 1024
+AreFew (Some a) = (length a.body ≤ 1024) × (a.ins < 256)
 
-parts_few : (cla ins p1 p2 : ℕ) (r : Option Rest) → IsFew r → AreFew (option_map (λ (r : Rest). record { cla = cla; ins = ins; p1 = p1; p2 = p2; p3 = r.p3; body = r.body; le = r.le }) r)
-parts_few cla ins p1 p2 None h = tt
-parts_few cla ins p1 p2 (Some r) h = h
+parts_few : (cla ins p1 p2 : ℕ) (r : Option Rest) → ins < 256 → IsFew r → AreFew (option_map (λ (r : Rest). record { cla = cla; ins = ins; p1 = p1; p2 = p2; p3 = r.p3; body = r.body; le = r.le }) r)
+parts_few cla ins p1 p2 None byte h = tt
+parts_few cla ins p1 p2 (Some r) byte h = (h, byte)
 
 read_few : (b : List ℕ) → AreBytes b → AreFew (apdu_read b)
 unfolding apdu_read
@@ -52,7 +52,7 @@ read_few [] h = tt
 read_few (x ∷ []) h = tt
 read_few (x ∷ y ∷ []) h = tt
 read_few (x ∷ y ∷ z ∷ []) h = tt
-read_few (cla ∷ ins ∷ p1 ∷ p2 ∷ b) h = parts_few cla ins p1 p2 (rest_read b) (rest_few b h.1.1.1.1)
+read_few (cla ∷ ins ∷ p1 ∷ p2 ∷ b) h = parts_few cla ins p1 p2 (rest_read b) h.1.0 (rest_few b h.1.1.1.1)
 
-pub few_data : (b : List ℕ) (a : ApduParts) → AreBytes b → apdu_read b ≡ Some a → length a.body ≤ 1024
+pub few_data : (b : List ℕ) (a : ApduParts) → AreBytes b → apdu_read b ≡ Some a → (length a.body ≤ 1024) × (a.ins < 256)
 few_data b a h e = subst AreFew e (read_few b h)

@@ -3,7 +3,7 @@ use Rattle.std.proofs.Common.{◌≡◌, ℕ, List, [], ◌∷◌, Option, Some,
 use Rattle.mc_model_device.specs.Bytes.{lookup}
 use Rattle.mc_model_device.specs.Card.{App}
 use Rattle.mc_model_device.specs.PowerUp.{Base, OnCard, AtFault}
-use Rattle.mc_model_play.specs.Play.{State, Cold, Hot, Warm, Live, Step}
+use Rattle.mc_model_play.specs.Play.{State, BeforePower, AfterPower, Warm, Live, Step}
 use Rattle.mc_promise.specs.History.{Watch, after_step}
 use Rattle.mc_promise.specs.Along.{stopped_step, Along, OnApp, OnFixed}
 use Rattle.mc_promise.specs.Outline.{Outline}
@@ -23,11 +23,11 @@ module _ {E : Type 0} (o : Outline E) (h : List E) (holds : List ℕ → Type 0)
   app_from None f x = tt
   app_from (Some a) f x = f a.fixed x.1
 
-  base_from : (b : Base) (v : Live) (s : Warm) → s.base ≡ b → ((fixed : List ℕ) → o.keeps h fixed → holds fixed) → BaseKept o h b v → OnFixed o.watch.name holds (Hot (record s { base = b }))
+  base_from : (b : Base) (v : Live) (s : Warm) → s.base ≡ b → ((fixed : List ℕ) → o.keeps h fixed → holds fixed) → BaseKept o h b v → OnFixed o.watch.name holds (AfterPower (record s { base = b }))
   base_from (OnCard c) v s e f x = app_from (lookup c.apps o.watch.name) f x.0
   base_from (AtFault cause p) v s e f x = tt
 
   -- what follows of what keeps holds of the static bytes in a state
   pub fixed_from : (z : State) → ((fixed : List ℕ) → o.keeps h fixed → holds fixed) → StateKept o h z → OnFixed o.watch.name holds z
-  fixed_from (Cold m b a) f x = tt
-  fixed_from (Hot s) f x = base_from s.base s.live s refl f x
+  fixed_from (BeforePower m b a) f x = tt
+  fixed_from (AfterPower s) f x = base_from s.base s.live s refl f x

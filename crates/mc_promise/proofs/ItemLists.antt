@@ -1,4 +1,5 @@
--- Lists of items and one name: those that do not touch it, those that change other static bytes alone, and what keeps over them.
+-- Lists of items and one name: those that do not touch it, those that change other static bytes alone, and what keeps
+-- over them.
 use Rattle.std.proofs.Common.{◌≡◌, ℕ, ◌-◌, Bool, true, false, cond, List, [], ◌∷◌, ◌++◌, Some, None, refl, sym, ap, subst, ◌∙◌}
 use Rattle.std.specs.Prelude.{⊤, ◌==◌, bytes_eq, nat_le, map}
 use Rattle.std.proofs.lemmas.Bool.{or_parts, false_from_ne_true}

@@ -13,4 +13,5 @@ pub mod CounterOutline
 pub mod FromOutline
 pub mod CounterLaw
 pub mod FewData
+pub mod FormattedNone
 pub mod Tested

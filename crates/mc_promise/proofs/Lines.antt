@@ -10,16 +10,16 @@ use Rattle.mc_model_device.specs.PowerUp.{Base, OnCard, AtFault, base_after_migr
 use Rattle.mc_model_machine.specs.Apdu.{ApduParts}
 use Rattle.mc_model_machine.specs.Chain.{Outcome, Reply, Abended}
 use Rattle.mc_model_card.specs.Items.{apps_after_items, moves, StopAt, at_stop}
-use Rattle.mc_model_card.specs.Manager.{Selected, Seat, route, is_selected}
+use Rattle.mc_model_card.specs.Manager.{Selected, SessionState, route, is_selected}
 use Rattle.mc_model_card.specs.Commands.{Command, command}
 use Rattle.mc_model_play.specs.DeckGrammar.{DeckLine}
 use Rattle.mc_model_play.specs.DeckGrammar as line
 use Rattle.mc_model_play.specs.Given.{apps_in}
-use Rattle.mc_model_play.specs.Play.{Armed, Unarmed, Live, Running, Unpowered, Muted, Warm, State, Cold, Hot, Answered, WornAt, Step, select_bytes, delete_bytes, load_commands, send, hit_of, live_after, result_of_stop, power_live, power_moves, stopped_power, power_after, command_step, line_says, whole_items, card_line, hot_step, cold_step, play_at_power, step, plays, first_worn, start}
+use Rattle.mc_model_play.specs.Play.{Armed, Unarmed, Live, Running, Unpowered, Muted, Warm, State, BeforePower, AfterPower, Answered, FailedWrite, Step, select_bytes, delete_bytes, load_commands, send, hit_of, live_after, result_of_stop, power_live, power_moves, stopped_power, power_after, command_step, line_says, whole_items, card_line, after_power_step, before_power_step, play_at_power, step, plays, first_failure, start}
 use Rattle.mc_family.proofs.Stops.{whole_others}
 use Rattle.mc_family.proofs.OtherCommand.{AreManagers, Aside, send_aside}
 use Rattle.mc_family.proofs.LoadCommands.{load_managers}
-use Rattle.mc_family.proofs.HotLines.{hot}
+use Rattle.mc_family.proofs.AfterPowerLines.{past_power}
 use Rattle.mc_promise.specs.History.{CutAt, cut_of, with_event, after_route, after_items, after_stop, after_step}
 use Rattle.mc_promise.specs.Along.{CreatesOnly, BringsOnly, stopped_step, Along, parts_for, command_for, OnAnswer}
 use Rattle.mc_promise.specs.Outline.{Outline, IsShown}
@@ -47,30 +47,30 @@ IsCommandLine _ = ⊥
 abbrev IsStepOf : State → ℕ × DeckLine → Step → Type 0
 IsStepOf z l t = (t.before ≡ z) × (t.number ≡ l.0) × (t.line ≡ l.1)
 
-card_origin : (n : ℕ) (l : DeckLine) (s : Warm) (v : Live) (b : Base) (w : Option WornAt) → IsStepOf (Hot s) (n, l) (card_line n l s v b w)
-card_origin n l s (Running seat) (OnCard c) w = (refl, refl, refl)
-card_origin n l s (Running seat) (AtFault cause p) w = (refl, refl, refl)
+card_origin : (n : ℕ) (l : DeckLine) (s : Warm) (v : Live) (b : Base) (w : Option FailedWrite) → IsStepOf (AfterPower s) (n, l) (card_line n l s v b w)
+card_origin n l s (Running session_state) (OnCard c) w = (refl, refl, refl)
+card_origin n l s (Running session_state) (AtFault cause p) w = (refl, refl, refl)
 card_origin n l s Unpowered b w = (refl, refl, refl)
 card_origin n l s Muted b w = (refl, refl, refl)
 
-hot_origin : (n : ℕ) (l : DeckLine) (s : Warm) (w : Option WornAt) → IsStepOf (Hot s) (n, l) (hot_step n l s w)
-hot_origin n (line.Load u fixed session) s w = card_origin n (line.Load u fixed session) s s.live s.base w
-hot_origin n (line.Select x) s w = card_origin n (line.Select x) s s.live s.base w
-hot_origin n (line.Delete x) s w = card_origin n (line.Delete x) s s.live s.base w
-hot_origin n (line.Apdu x) s w = card_origin n (line.Apdu x) s s.live s.base w
-hot_origin n _ s w = (refl, refl, refl)
+after_power_origin : (n : ℕ) (l : DeckLine) (s : Warm) (w : Option FailedWrite) → IsStepOf (AfterPower s) (n, l) (after_power_step n l s w)
+after_power_origin n (line.Load u fixed session) s w = card_origin n (line.Load u fixed session) s s.live s.base w
+after_power_origin n (line.Select x) s w = card_origin n (line.Select x) s s.live s.base w
+after_power_origin n (line.Delete x) s w = card_origin n (line.Delete x) s s.live s.base w
+after_power_origin n (line.Apdu x) s w = card_origin n (line.Apdu x) s s.live s.base w
+after_power_origin n _ s w = (refl, refl, refl)
 
-cold_origin : (n : ℕ) (l : DeckLine) (m : List (List ℕ)) (b : ℕ) (a : Armed) (w : Option WornAt) → IsStepOf (Cold m b a) (n, l) (cold_step n l m b a w)
-cold_origin n line.Power m b a w = (refl, refl, refl)
-cold_origin n _ m b a w = (refl, refl, refl)
+before_power_origin : (n : ℕ) (l : DeckLine) (m : List (List ℕ)) (b : ℕ) (a : Armed) (w : Option FailedWrite) → IsStepOf (BeforePower m b a) (n, l) (before_power_step n l m b a w)
+before_power_origin n line.Power m b a w = (refl, refl, refl)
+before_power_origin n _ m b a w = (refl, refl, refl)
 
-step_origin : (z : State) (l : ℕ × DeckLine) (w : Option WornAt) → IsStepOf z l (step z l w)
+step_origin : (z : State) (l : ℕ × DeckLine) (w : Option FailedWrite) → IsStepOf z l (step z l w)
 unfolding step
-step_origin (Cold m b a) l w = cold_origin l.0 l.1 m b a w
-step_origin (Hot s) l w = hot_origin l.0 l.1 s w
+step_origin (BeforePower m b a) l w = before_power_origin l.0 l.1 m b a w
+step_origin (AfterPower s) l w = after_power_origin l.0 l.1 s w
 
 -- the line as it is stopped elsewhere
-stopped_is : (z : State) (l : ℕ × DeckLine) (w : Option WornAt) (c : WornAt) → step z l (Some c) ≡ stopped_step (step z l w) c
+stopped_is : (z : State) (l : ℕ × DeckLine) (w : Option FailedWrite) (c : FailedWrite) → step z l (Some c) ≡ stopped_step (step z l w) c
 stopped_is z l w c =
     let e = step_origin z l w in
     ap (λ (q : State). step q l (Some c)) (sym e.0)
@@ -122,11 +122,11 @@ module _ {E : Type 0} (o : Outline E) (shown : IsShown o) where
   pulled_cond true h (AtFault cause p) kind x = tt
   pulled_cond false h b kind x = pulled h b kind x
 
-  stopped_powered : (x : Bool) (h : List E) (s : Warm) (t : StopAt) → OnBase h s.base → StateKept o h (Hot (stopped_power s t x))
+  stopped_powered : (x : Bool) (h : List E) (s : Warm) (t : StopAt) → OnBase h s.base → StateKept o h (AfterPower (stopped_power s t x))
   stopped_powered true h s t x = pulled h s.base t.kind x
   stopped_powered false h s t x = pulled_cond _ h s.base t.kind x
 
-  after_power : (h : List E) (s : Warm) (t : Option StopAt) → OnBase h s.base → StateKept o h (Hot (power_after s t))
+  after_power : (h : List E) (s : Warm) (t : Option StopAt) → OnBase h s.base → StateKept o h (AfterPower (power_after s t))
   after_power h s None x = powered h s.base x
   after_power h s (Some t) x = stopped_powered (nat_le t.at s.owed) h s t x
 
@@ -137,17 +137,17 @@ module _ {E : Type 0} (o : Outline E) (shown : IsShown o) where
   base_ended h (AtFault cause p) v x = tt
 
   -- the first card has none of the name
-  none_migrated : (x : Bool) (h : List E) (b : Base) → lookup (apps_in (Hot (hot (cond x (base_after_migration b) b) 0 One Unpowered 0 Unarmed))) o.watch.name ≡ None → OnBase h b
+  none_migrated : (x : Bool) (h : List E) (b : Base) → lookup (apps_in (AfterPower (past_power (cond x (base_after_migration b) b) 0 One Unpowered 0 Unarmed))) o.watch.name ≡ None → OnBase h b
   unfolding OnBase
   none_migrated true h (OnCard c) e = subst (KeptIn o h) (sym e) tt
   none_migrated false h (OnCard c) e = subst (KeptIn o h) (sym e) tt
   none_migrated x h (AtFault cause p) e = tt
 
-  none_stopped : (x : Bool) (h : List E) (s : Warm) (t : StopAt) → lookup (apps_in (Hot (stopped_power s t x))) o.watch.name ≡ None → OnBase h s.base
+  none_stopped : (x : Bool) (h : List E) (s : Warm) (t : StopAt) → lookup (apps_in (AfterPower (stopped_power s t x))) o.watch.name ≡ None → OnBase h s.base
   none_stopped true h s t e = none_migrated false h s.base e
   none_stopped false h s t e = none_migrated _ h s.base e
 
-  none_found : (h : List E) (s : Warm) (t : Option StopAt) → lookup (apps_in (Hot (power_after s t))) o.watch.name ≡ None → OnBase h s.base
+  none_found : (h : List E) (s : Warm) (t : Option StopAt) → lookup (apps_in (AfterPower (power_after s t))) o.watch.name ≡ None → OnBase h s.base
   none_found h s None e = none_migrated true h s.base e
   none_found h s (Some t) e = none_stopped (nat_le t.at s.owed) h s t e
 
@@ -156,68 +156,68 @@ module _ {E : Type 0} (o : Outline E) (shown : IsShown o) where
   -- the state after a line of a running card, and its answer
   AfterCommand : List E → List E → Card → Command → Option ApduParts → Option StopAt → Type 0
   AfterCommand h k c r found None =
-      KeptIn o k (lookup (apps_after_items c.apps r.items) o.watch.name) × SelectedKept o k (apps_after_items c.apps r.items) r.seat.selected × OnAnswer (λ a sw. o.answers a h k sw) found (Some (line_says r None))
+      KeptIn o k (lookup (apps_after_items c.apps r.items) o.watch.name) × SelectedKept o k (apps_after_items c.apps r.items) r.session_state.selected × OnAnswer (λ a sw. o.answers a h k sw) found (Some (line_says r None))
   AfterCommand h k c r found (Some t) =
       KeptIn o k (lookup (apps_after_items c.apps (at_stop r.items t.at t.left).whole) o.watch.name) × OnAnswer (λ a sw. o.answers a h k sw) found (Some (line_says r (Some t)))
 
-  command_line_kept : (h k : List E) (n : ℕ) (l : DeckLine) (s : Warm) (c : Card) (r : Command) (found : Option ApduParts) (t : Option StopAt) → command_for o.watch.name (Hot s) l ≡ found → AfterCommand h k c r found t
+  command_line_kept : (h k : List E) (n : ℕ) (l : DeckLine) (s : Warm) (c : Card) (r : Command) (found : Option ApduParts) (t : Option StopAt) → command_for o.watch.name (AfterPower s) l ≡ found → AfterCommand h k c r found t
       → LineKept o h (command_step n l s c r t) k
   unfolding AfterCommand
   command_line_kept h k n l s c r found None e x = ((x.0, x.1), subst (λ (z : Option ApduParts). OnAnswer (λ a sw. o.answers a h k sw) z (Some (line_says r None))) (sym e) x.2)
   command_line_kept h k n l s c r found (Some t) e x = ((x.0, dead k _ t.kind), subst (λ (z : Option ApduParts). OnAnswer (λ a sw. o.answers a h k sw) z (Some (line_says r (Some t)))) (sym e) x.1)
 
   -- whether its answer is one to the application as the selected one, or is not looked at
-  one_command : (h : List E) (c : Card) (seat : Seat) (g : ℕ) (b : List ℕ) (looked : Bool) (t : Option StopAt) → KeptIn o h (lookup c.apps o.watch.name) → SelectedKept o h c.apps seat.selected
-      → CreatesOnly o.watch.name o.app (whole_items (command c seat b g) t)
-      → AfterCommand h (after_stop o.watch t (after_route o.watch c seat g (route b) (cut_of t) (after_items o.watch.name (whole_items (command c seat b g) t) h))) c (command c seat b g)
-      (parts_if looked (parts_for o.watch.name seat.selected (route b))) t
+  one_command : (h : List E) (c : Card) (session_state : SessionState) (g : ℕ) (b : List ℕ) (looked : Bool) (t : Option StopAt) → KeptIn o h (lookup c.apps o.watch.name) → SelectedKept o h c.apps session_state.selected
+      → CreatesOnly o.watch.name o.app (whole_items (command c session_state b g) t)
+      → AfterCommand h (after_stop o.watch t (after_route o.watch c session_state g (route b) (cut_of t) (after_items o.watch.name (whole_items (command c session_state b g) t) h))) c (command c session_state b g)
+      (parts_if looked (parts_for o.watch.name session_state.selected (route b))) t
   unfolding AfterCommand command
-  one_command h c seat g b looked None kept holds only =
-      let k : List E = after_route o.watch c seat g (route b) None (after_items o.watch.name (command c seat b g).items h) in
-      let x : CommandKept o h c seat (route b) (command c seat b g) k = route_kept o shown h c seat g (route b) only kept holds in
-      let found = parts_for o.watch.name seat.selected (route b) in
-      (x.after, x.selected, answered (parts_if looked found) h k (command c seat b g).outcome (looked_at looked found h k (command c seat b g).outcome x.answer))
-  one_command h c seat g b looked (Some t) kept holds only =
+  one_command h c session_state g b looked None kept holds only =
+      let k : List E = after_route o.watch c session_state g (route b) None (after_items o.watch.name (command c session_state b g).items h) in
+      let x : CommandKept o h c session_state (route b) (command c session_state b g) k = route_kept o shown h c session_state g (route b) only kept holds in
+      let found = parts_for o.watch.name session_state.selected (route b) in
+      (x.after, x.selected, answered (parts_if looked found) h k (command c session_state b g).outcome (looked_at looked found h k (command c session_state b g).outcome x.answer))
+  one_command h c session_state g b looked (Some t) kept holds only =
       let cut : CutAt = record { at = t.at; left = t.left } in
-      let whole = (at_stop (command c seat b g).items t.at t.left).whole in
-      let k : List E = after_route o.watch c seat g (route b) (Some cut) (after_items o.watch.name whole h) in
-      (end_kept o shown k (apps_after_items c.apps whole) (route_cut o shown h c seat g (route b) cut only kept holds), stopped_answer (parts_if looked (parts_for o.watch.name seat.selected (route b))) h (with_event o.watch.of_end k) t t.kind)
+      let whole = (at_stop (command c session_state b g).items t.at t.left).whole in
+      let k : List E = after_route o.watch c session_state g (route b) (Some cut) (after_items o.watch.name whole h) in
+      (end_kept o shown k (apps_after_items c.apps whole) (route_cut o shown h c session_state g (route b) cut only kept holds), stopped_answer (parts_if looked (parts_for o.watch.name session_state.selected (route b))) h (with_event o.watch.of_end k) t t.kind)
 
   -- ---- a load
 
-  load_selected : (h : List E) (c : Card) (seat : Seat) (g : ℕ) (bs : List (List ℕ)) (found : Option Selected) → AreManagers bs → seat.selected ≡ found → SelectedKept o h c.apps found
-      → let items = (send c seat g bs).items in SelectedKept o (after_items o.watch.name items h) (apps_after_items c.apps items) found
-  load_selected h c seat g bs None m is holds = tt
-  load_selected h c seat g bs (Some s) m is holds = by (bytes_eq s.name o.watch.name) refl holds
+  load_selected : (h : List E) (c : Card) (session_state : SessionState) (g : ℕ) (bs : List (List ℕ)) (found : Option Selected) → AreManagers bs → session_state.selected ≡ found → SelectedKept o h c.apps found
+      → let items = (send c session_state g bs).items in SelectedKept o (after_items o.watch.name items h) (apps_after_items c.apps items) found
+  load_selected h c session_state g bs None m is holds = tt
+  load_selected h c session_state g bs (Some s) m is holds = by (bytes_eq s.name o.watch.name) refl holds
     where
       some_there : (found : Option App) → SessionKept o h found s.session → is_some found ≡ true
       some_there None x = absurd x
       some_there (Some a) x = refl
 
       by : (b : Bool) → bytes_eq s.name o.watch.name ≡ b → SessionIf b o h (lookup c.apps o.watch.name) s.session
-          → SessionIf b o (after_items o.watch.name (send c seat g bs).items h) (lookup (apps_after_items c.apps (send c seat g bs).items) o.watch.name) s.session
+          → SessionIf b o (after_items o.watch.name (send c session_state g bs).items h) (lookup (apps_after_items c.apps (send c session_state g bs).items) o.watch.name) s.session
       by false e x = tt
       by true e x =
-          let items = (send c seat g bs).items in
-          let selected : is_selected seat.selected o.watch.name ≡ true = ap (λ (z : Option Selected). is_selected z o.watch.name) is ∙ e in
-          let a : AllAvoid o.watch.name items = send_avoids c seat o.watch.name g bs (some_there (lookup c.apps o.watch.name) x) selected m in
+          let items = (send c session_state g bs).items in
+          let selected : is_selected session_state.selected o.watch.name ≡ true = ap (λ (z : Option Selected). is_selected z o.watch.name) is ∙ e in
+          let a : AllAvoid o.watch.name items = send_avoids c session_state o.watch.name g bs (some_there (lookup c.apps o.watch.name) x) selected m in
           let same : lookup c.apps o.watch.name ≡ lookup (apps_after_items c.apps items) o.watch.name = sym (avoid_lookup o.watch.name items c.apps a) in
           let history : h ≡ after_items o.watch.name items h = sym (avoid_history o.watch.name items h a) in
           subst (λ (q : List E). SessionKept o q (lookup (apps_after_items c.apps items) o.watch.name) s.session) history (subst (λ (z : Option App). SessionKept o h z s.session) same x)
 
-  a_load : (h : List E) (c : Card) (seat : Seat) (g : ℕ) (bs : List (List ℕ)) (t : Option StopAt) → AreManagers bs → KeptIn o h (lookup c.apps o.watch.name) → SelectedKept o h c.apps seat.selected
-      → CreatesOnly o.watch.name o.app (whole_items (send c seat g bs) t)
-      → AfterCommand h (after_stop o.watch t (after_items o.watch.name (whole_items (send c seat g bs) t) h)) c (send c seat g bs) None t
+  a_load : (h : List E) (c : Card) (session_state : SessionState) (g : ℕ) (bs : List (List ℕ)) (t : Option StopAt) → AreManagers bs → KeptIn o h (lookup c.apps o.watch.name) → SelectedKept o h c.apps session_state.selected
+      → CreatesOnly o.watch.name o.app (whole_items (send c session_state g bs) t)
+      → AfterCommand h (after_stop o.watch t (after_items o.watch.name (whole_items (send c session_state g bs) t) h)) c (send c session_state g bs) None t
   unfolding AfterCommand
-  a_load h c seat g bs None m kept holds only =
-      let r = send c seat g bs in
+  a_load h c session_state g bs None m kept holds only =
+      let r = send c session_state g bs in
       let k : List E = after_items o.watch.name r.items h in
-      let aside : Aside (o.watch.name ∷ []) seat r = send_aside (o.watch.name ∷ []) c seat g bs m in
-      (items_kept o shown r.items h c.apps aside.others only kept, subst (SelectedKept o k (apps_after_items c.apps r.items)) (sym aside.selected) (load_selected h c seat g bs seat.selected m refl holds), tt)
-  a_load h c seat g bs (Some t) m kept holds only =
-      let r = send c seat g bs in
+      let aside : Aside (o.watch.name ∷ []) session_state r = send_aside (o.watch.name ∷ []) c session_state g bs m in
+      (items_kept o shown r.items h c.apps aside.others only kept, subst (SelectedKept o k (apps_after_items c.apps r.items)) (sym aside.selected) (load_selected h c session_state g bs session_state.selected m refl holds), tt)
+  a_load h c session_state g bs (Some t) m kept holds only =
+      let r = send c session_state g bs in
       let whole = (at_stop r.items t.at t.left).whole in
-      let aside : Aside (o.watch.name ∷ []) seat r = send_aside (o.watch.name ∷ []) c seat g bs m in
+      let aside : Aside (o.watch.name ∷ []) session_state r = send_aside (o.watch.name ∷ []) c session_state g bs m in
       (end_kept o shown (after_items o.watch.name whole h) (apps_after_items c.apps whole) (items_kept o shown whole h c.apps (whole_others (o.watch.name ∷ []) r.items t.at t.left aside.others) only kept), tt)
 
   -- ---- lines
@@ -227,28 +227,28 @@ module _ {E : Type 0} (o : Outline E) (shown : IsShown o) where
   Keeps h t = BringsOnly o.watch.name o.app t → LineKept o h t (after_step o.watch t h)
 
   -- a line that finds no card
-  card_kept : (h : List E) (n : ℕ) (l : DeckLine) (b : Base) (q : ℕ) (j : Journal) (v : Live) (g : ℕ) (a : Armed) (w : Option WornAt) → IsCommandLine l → BaseKept o h b v → Keeps h (card_line n l (hot b q j v g a) v b w)
+  card_kept : (h : List E) (n : ℕ) (l : DeckLine) (b : Base) (q : ℕ) (j : Journal) (v : Live) (g : ℕ) (a : Armed) (w : Option FailedWrite) → IsCommandLine l → BaseKept o h b v → Keeps h (card_line n l (past_power b q j v g a) v b w)
   unfolding Keeps
-  card_kept h n (line.Select x) (OnCard c) q j (Running seat) g a w i kept brings =
-      let r = command c seat (select_bytes x) g in
+  card_kept h n (line.Select x) (OnCard c) q j (Running session_state) g a w i kept brings =
+      let r = command c session_state (select_bytes x) g in
       let t = hit_of a (moves r.items) w in
-      command_line_kept h _ n (line.Select x) (hot (OnCard c) q j (Running seat) g a) c r None t refl (one_command h c seat g (select_bytes x) false t kept.0 kept.1 brings.creates)
-  card_kept h n (line.Delete x) (OnCard c) q j (Running seat) g a w i kept brings =
-      let r = command c seat (delete_bytes x) g in
+      command_line_kept h _ n (line.Select x) (past_power (OnCard c) q j (Running session_state) g a) c r None t refl (one_command h c session_state g (select_bytes x) false t kept.0 kept.1 brings.creates)
+  card_kept h n (line.Delete x) (OnCard c) q j (Running session_state) g a w i kept brings =
+      let r = command c session_state (delete_bytes x) g in
       let t = hit_of a (moves r.items) w in
-      command_line_kept h _ n (line.Delete x) (hot (OnCard c) q j (Running seat) g a) c r None t refl (one_command h c seat g (delete_bytes x) false t kept.0 kept.1 brings.creates)
-  card_kept h n (line.Apdu x) (OnCard c) q j (Running seat) g a w i kept brings =
-      let r = command c seat x g in
+      command_line_kept h _ n (line.Delete x) (past_power (OnCard c) q j (Running session_state) g a) c r None t refl (one_command h c session_state g (delete_bytes x) false t kept.0 kept.1 brings.creates)
+  card_kept h n (line.Apdu x) (OnCard c) q j (Running session_state) g a w i kept brings =
+      let r = command c session_state x g in
       let t = hit_of a (moves r.items) w in
-      command_line_kept h _ n (line.Apdu x) (hot (OnCard c) q j (Running seat) g a) c r (parts_for o.watch.name seat.selected (route x)) t refl (one_command h c seat g x true t kept.0 kept.1 brings.creates)
-  card_kept h n (line.Load u fixed session) (OnCard c) q j (Running seat) g a w i kept brings =
-      let r = send c seat g (load_commands u fixed session) in
+      command_line_kept h _ n (line.Apdu x) (past_power (OnCard c) q j (Running session_state) g a) c r (parts_for o.watch.name session_state.selected (route x)) t refl (one_command h c session_state g x true t kept.0 kept.1 brings.creates)
+  card_kept h n (line.Load u fixed session) (OnCard c) q j (Running session_state) g a w i kept brings =
+      let r = send c session_state g (load_commands u fixed session) in
       let t = hit_of a (moves r.items) w in
-      command_line_kept h _ n (line.Load u fixed session) (hot (OnCard c) q j (Running seat) g a) c r None t refl (a_load h c seat g (load_commands u fixed session) t (load_managers u fixed session) kept.0 kept.1 brings.creates)
-  card_kept h n (line.Select x) (AtFault cause p) q j (Running seat) g a w i kept brings = (tt, tt)
-  card_kept h n (line.Delete x) (AtFault cause p) q j (Running seat) g a w i kept brings = (tt, tt)
-  card_kept h n (line.Apdu x) (AtFault cause p) q j (Running seat) g a w i kept brings = (tt, tt)
-  card_kept h n (line.Load u fixed session) (AtFault cause p) q j (Running seat) g a w i kept brings = (tt, tt)
+      command_line_kept h _ n (line.Load u fixed session) (past_power (OnCard c) q j (Running session_state) g a) c r None t refl (a_load h c session_state g (load_commands u fixed session) t (load_managers u fixed session) kept.0 kept.1 brings.creates)
+  card_kept h n (line.Select x) (AtFault cause p) q j (Running session_state) g a w i kept brings = (tt, tt)
+  card_kept h n (line.Delete x) (AtFault cause p) q j (Running session_state) g a w i kept brings = (tt, tt)
+  card_kept h n (line.Apdu x) (AtFault cause p) q j (Running session_state) g a w i kept brings = (tt, tt)
+  card_kept h n (line.Load u fixed session) (AtFault cause p) q j (Running session_state) g a w i kept brings = (tt, tt)
   card_kept h n (line.Select x) b q j Unpowered g a w i kept brings = (kept, tt)
   card_kept h n (line.Delete x) b q j Unpowered g a w i kept brings = (kept, tt)
   card_kept h n (line.Apdu x) b q j Unpowered g a w i kept brings = (kept, tt)
@@ -266,55 +266,55 @@ module _ {E : Type 0} (o : Outline E) (shown : IsShown o) where
   card_kept h n (line.Fail k) b q j v g a w i kept brings = absurd i
   card_kept h n (line.Poke k x) b q j v g a w i kept brings = absurd i
 
-  hot_kept : (h : List E) (n : ℕ) (l : DeckLine) (s : Warm) (w : Option WornAt) → BaseKept o h s.base s.live → Keeps h (hot_step n l s w)
+  after_power_kept : (h : List E) (n : ℕ) (l : DeckLine) (s : Warm) (w : Option FailedWrite) → BaseKept o h s.base s.live → Keeps h (after_power_step n l s w)
   unfolding Keeps
-  hot_kept h n line.Power s w kept brings = (after_power (with_event o.watch.of_end h) s (hit_of s.armed (power_moves s) w) (base_ended h s.base s.live kept), tt)
-  hot_kept h n (line.Load u fixed session) s w kept brings = card_kept h n (line.Load u fixed session) s.base s.owed s.by s.live s.budget s.armed w tt kept brings
-  hot_kept h n (line.Select x) s w kept brings = card_kept h n (line.Select x) s.base s.owed s.by s.live s.budget s.armed w tt kept brings
-  hot_kept h n (line.Delete x) s w kept brings = card_kept h n (line.Delete x) s.base s.owed s.by s.live s.budget s.armed w tt kept brings
-  hot_kept h n (line.Apdu x) s w kept brings = card_kept h n (line.Apdu x) s.base s.owed s.by s.live s.budget s.armed w tt kept brings
-  hot_kept h n line.Format s w kept brings = (kept, tt)
-  hot_kept h n line.Named s w kept brings = (kept, tt)
-  hot_kept h n (line.Dump x) s w kept brings = (kept, tt)
-  hot_kept h n (line.Budget x) s w kept brings = (kept, tt)
-  hot_kept h n (line.Cut k x) s w kept brings = (kept, tt)
-  hot_kept h n (line.Fail k) s w kept brings = (kept, tt)
-  hot_kept h n (line.Poke k x) s w kept brings = (kept, tt)
+  after_power_kept h n line.Power s w kept brings = (after_power (with_event o.watch.of_end h) s (hit_of s.armed (power_moves s) w) (base_ended h s.base s.live kept), tt)
+  after_power_kept h n (line.Load u fixed session) s w kept brings = card_kept h n (line.Load u fixed session) s.base s.owed s.by s.live s.budget s.armed w tt kept brings
+  after_power_kept h n (line.Select x) s w kept brings = card_kept h n (line.Select x) s.base s.owed s.by s.live s.budget s.armed w tt kept brings
+  after_power_kept h n (line.Delete x) s w kept brings = card_kept h n (line.Delete x) s.base s.owed s.by s.live s.budget s.armed w tt kept brings
+  after_power_kept h n (line.Apdu x) s w kept brings = card_kept h n (line.Apdu x) s.base s.owed s.by s.live s.budget s.armed w tt kept brings
+  after_power_kept h n line.Format s w kept brings = (kept, tt)
+  after_power_kept h n line.Named s w kept brings = (kept, tt)
+  after_power_kept h n (line.Dump x) s w kept brings = (kept, tt)
+  after_power_kept h n (line.Budget x) s w kept brings = (kept, tt)
+  after_power_kept h n (line.Cut k x) s w kept brings = (kept, tt)
+  after_power_kept h n (line.Fail k) s w kept brings = (kept, tt)
+  after_power_kept h n (line.Poke k x) s w kept brings = (kept, tt)
 
-  cold_kept : (h : List E) (n : ℕ) (l : DeckLine) (m : List (List ℕ)) (b : ℕ) (a : Armed) (w : Option WornAt) → Keeps h (cold_step n l m b a w)
+  before_power_kept : (h : List E) (n : ℕ) (l : DeckLine) (m : List (List ℕ)) (b : ℕ) (a : Armed) (w : Option FailedWrite) → Keeps h (before_power_step n l m b a w)
   unfolding Keeps
-  cold_kept h n line.Power m b a w brings =
+  before_power_kept h n line.Power m b a w brings =
       let s = play_at_power m b a in
       let t = hit_of a (power_moves s) w in
       (after_power (with_event o.watch.of_end h) s t (none_found (with_event o.watch.of_end h) s t brings.finds), tt)
-  cold_kept h n line.Format m b a w brings = (tt, tt)
-  cold_kept h n line.Named m b a w brings = (tt, tt)
-  cold_kept h n (line.Load u fixed session) m b a w brings = (tt, tt)
-  cold_kept h n (line.Select x) m b a w brings = (tt, tt)
-  cold_kept h n (line.Delete x) m b a w brings = (tt, tt)
-  cold_kept h n (line.Apdu x) m b a w brings = (tt, tt)
-  cold_kept h n (line.Dump x) m b a w brings = (tt, tt)
-  cold_kept h n (line.Budget x) m b a w brings = (tt, tt)
-  cold_kept h n (line.Cut k x) m b a w brings = (tt, tt)
-  cold_kept h n (line.Fail k) m b a w brings = (tt, tt)
-  cold_kept h n (line.Poke k x) m b a w brings = (tt, tt)
+  before_power_kept h n line.Format m b a w brings = (tt, tt)
+  before_power_kept h n line.Named m b a w brings = (tt, tt)
+  before_power_kept h n (line.Load u fixed session) m b a w brings = (tt, tt)
+  before_power_kept h n (line.Select x) m b a w brings = (tt, tt)
+  before_power_kept h n (line.Delete x) m b a w brings = (tt, tt)
+  before_power_kept h n (line.Apdu x) m b a w brings = (tt, tt)
+  before_power_kept h n (line.Dump x) m b a w brings = (tt, tt)
+  before_power_kept h n (line.Budget x) m b a w brings = (tt, tt)
+  before_power_kept h n (line.Cut k x) m b a w brings = (tt, tt)
+  before_power_kept h n (line.Fail k) m b a w brings = (tt, tt)
+  before_power_kept h n (line.Poke k x) m b a w brings = (tt, tt)
 
   -- one line
-  pub step_kept : (h : List E) (z : State) (l : ℕ × DeckLine) (w : Option WornAt) → StateKept o h z → BringsOnly o.watch.name o.app (step z l w) → LineKept o h (step z l w) (after_step o.watch (step z l w) h)
+  pub step_kept : (h : List E) (z : State) (l : ℕ × DeckLine) (w : Option FailedWrite) → StateKept o h z → BringsOnly o.watch.name o.app (step z l w) → LineKept o h (step z l w) (after_step o.watch (step z l w) h)
   unfolding step Keeps
-  step_kept h (Cold m b a) l w kept = cold_kept h l.0 l.1 m b a w
-  step_kept h (Hot s) l w kept = hot_kept h l.0 l.1 s w kept
+  step_kept h (BeforePower m b a) l w kept = before_power_kept h l.0 l.1 m b a w
+  step_kept h (AfterPower s) l w kept = after_power_kept h l.0 l.1 s w kept
 
   -- ---- plays
 
-  along_kept : (ls : List (ℕ × DeckLine)) (ws : List (Option WornAt)) (h : List E) (z : State) → StateKept o h z → Along o.watch o.app (LineKept o) h (plays z ls ws)
+  along_kept : (ls : List (ℕ × DeckLine)) (ws : List (Option FailedWrite)) (h : List E) (z : State) → StateKept o h z → Along o.watch o.app (LineKept o) h (plays z ls ws)
   unfolding plays
   along_kept [] ws h z kept = tt
   along_kept (l ∷ ls) ws h z kept =
-      let t : Step = step z l (first_worn ws) in
+      let t : Step = step z l (first_failure ws) in
       let k : List E = after_step o.watch t h in (
-        λ brings. let line = step_kept h z l (first_worn ws) kept brings in (line, along_kept ls (drop 1 ws) k t.after line.0),
-        λ c. subst (λ (u : Step). BringsOnly o.watch.name o.app u → LineKept o h u (after_step o.watch u h)) (stopped_is z l (first_worn ws) c) (step_kept h z l (Some c) kept),
+        λ brings. let line = step_kept h z l (first_failure ws) kept brings in (line, along_kept ls (drop 1 ws) k t.after line.0),
+        λ c. subst (λ (u : Step). BringsOnly o.watch.name o.app u → LineKept o h u (after_step o.watch u h)) (stopped_is z l (first_failure ws) c) (step_kept h z l (Some c) kept),
       )
 
   -- an outline holds along every play

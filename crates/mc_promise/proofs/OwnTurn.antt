@@ -1,4 +1,5 @@
--- A turn in the application's own frame leads where its outline says; and so each turn of a chain keeps what the outline asks for.
+-- A turn in the application's own frame leads where its outline says; and so each turn of a chain keeps what the
+-- outline asks for.
 use Rattle.std.proofs.Common.{◌≡◌, ℕ, ◌≤◌, Bool, true, false, List, [], ◌∷◌, length, Option, Some, None, Result, Ok, Err, refl, sym, ap, subst, ◌∙◌, arith}
 use Rattle.std.specs.Prelude.{bytes_eq}
 use Rattle.mc_model_machine.specs.declared.instruction.Ins.{Ins}

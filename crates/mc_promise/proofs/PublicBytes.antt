@@ -1,9 +1,10 @@
 -- Bytes of the public segment of a command: its INS, its length, and its status, which writes elsewhere leave.
 use Rattle.std.proofs.Common.{◌≡◌, ℕ, ◌+◌, ◌-◌, ◌*◌, ◌<◌, ◌≤◌, List, [], ◌∷◌, ◌++◌, length, take, drop, get_or, sym, ap, ◌∙◌, arith}
-use Rattle.std.specs.Prelude.{unwrap_or}
+use Rattle.std.specs.Prelude.{◌≢◌, true, false, unwrap_or}
 use Rattle.std.proofs.lemmas.List.{append_assoc, length-append, length-replicate, length-take-le, drop-drop, drop_at, take_at, get_or-drop, get_or_append_left, get_or-append_right}
-use Rattle.mc_model_device.specs.Bytes.{bytes2, zeros, splice}
+use Rattle.mc_model_device.specs.Bytes.{bytes, bytes2, num, zeros, splice}
 use Rattle.mc_model_machine.specs.Apdu.{ApduParts}
+use Rattle.mc_model_machine.specs.Blocks.{sub_blocks, is_zero}
 use Rattle.mc_model_machine.specs.Frame.{new_public, with_la, sw_of}
 
 -- ---- a command's public segment
@@ -18,11 +19,21 @@ front_of a = a.body ++ zeros (1028 - length a.body)
 pub front_size : (a : ApduParts) → length a.body ≤ 1024 → length (front_of a) ≡ 1028
 front_size a h = omega (arith, length-append a.body (zeros (1028 - length a.body)), length-replicate {A = ℕ} (1028 - length a.body) 0)
 
+equal_is : (n : ℕ) → (sub_blocks (n ∷ []) (n ∷ [])).z ≡ true
+equal_is n = let same : 256 + num (n ∷ []) - num (n ∷ []) ≡ 256 = omega arith in ap (λ (k : ℕ). is_zero (bytes 1 k)) same
+
 words_behind : (a : ApduParts) → length a.body ≤ 1024 → drop 1028 (new_public a) ≡ words_of a
 words_behind a h = drop_at (front_of a) (words_of a) 1028 (front_size a h)
 
 pub ins_byte : (a : ApduParts) → length a.body ≤ 1024 → take 1 (drop 1029 (new_public a)) ≡ a.ins ∷ []
 ins_byte a h = ap (λ (l : List ℕ). take 1 l) (sym (drop-drop 1 1028 (new_public a)) ∙ ap (λ (l : List ℕ). drop 1 l) (words_behind a h))
+
+-- a comparison of the INS that clears Z: the command has another
+pub other_ins : (a : ApduParts) (n : ℕ) (p : List ℕ) → p ≡ new_public a → length a.body ≤ 1024 → (sub_blocks (take 1 (drop 1029 p)) (n ∷ [])).z ≡ false → a.ins ≢ n
+other_ins a n p is small z same =
+    let byte : take 1 (drop 1029 p) ≡ n ∷ [] = ap (λ (q : List ℕ). take 1 (drop 1029 q)) is ∙ (ins_byte a small ∙ ap (λ (i : ℕ). i ∷ []) same) in
+    let set : (sub_blocks (take 1 (drop 1029 p)) (n ∷ [])).z ≡ true = ap (λ (b : List ℕ). (sub_blocks b (n ∷ [])).z) byte ∙ equal_is n in
+    absurd (cc (sym set ∙ z))
 
 pub length_bytes : (a : ApduParts) → length a.body ≤ 1024 → take 2 (drop 1033 (new_public a)) ≡ bytes2 (length a.body)
 length_bytes a h = ap (λ (l : List ℕ). take 2 l) (sym (drop-drop 5 1028 (new_public a)) ∙ ap (λ (l : List ℕ). drop 5 l) (words_behind a h))
@@ -54,7 +65,8 @@ status_set p high low h =
     ap (λ (x : ℕ). 256 * x + get_or (splice p 1039 (high ∷ low ∷ [])) 1040 0) (index_within p 1039 (high ∷ low ∷ []) 0 fits (omega arith))
     ∙ ap (λ (x : ℕ). 256 * high + x) (index_within p 1039 (high ∷ low ∷ []) 1 fits (omega arith))
 
-status_kept : (p : List ℕ) (at : ℕ) (b : List ℕ) → at ≤ length p → at + length b ≤ 1039 → sw_of (splice p at b) ≡ sw_of p
+-- a write beside the status leaves it
+pub status_kept : (p : List ℕ) (at : ℕ) (b : List ℕ) → at ≤ length p → at + length b ≤ 1039 → sw_of (splice p at b) ≡ sw_of p
 status_kept p at b fits h =
     ap (λ (x : ℕ). 256 * x + get_or (splice p at b) 1040 0) (index_after p at b 1039 fits h)
     ∙ ap (λ (x : ℕ). 256 * get_or p 1039 0 + x) (index_after p at b 1040 fits (omega arith))

@@ -1,4 +1,5 @@
--- A row leaves the name of its frame, changes static bytes just as its list of changes says, and makes the public segment no shorter.
+-- A row leaves the name of its frame, changes static bytes just as its list of changes says, and makes the public
+-- segment no shorter.
 use Rattle.std.specs.Prelude.{ℕ, ◌≤◌, Bool, true, false, cond, ◌+◌, ◌||◌, nat_le, ◌==◌, List, [], ◌∷◌, length, slice_index, position, Option, Some, None, ⊤}
 use Rattle.std.proofs.Common.{◌≡◌, refl, arith}
 use Rattle.mc_model_machine.specs.declared.instruction.Ins.{Ins}
@@ -8,7 +9,7 @@ use Rattle.mc_model_device.specs.Bytes.{num, bytes2}
 use Rattle.mc_model_device.specs.Pieces.{laid_pieces}
 use Rattle.mc_model_device.proofs.ListLemmas.{splice_longer}
 use Rattle.mc_model_machine.specs.Frame.{Frame, Effect, Place, Static, Dynamic, Public, static_written, stack_bytes, bytes_at, write_effect_at, where_is, write_effect, frame_after_pop, protect, static_bytes, pending_change, with_sw, with_la}
-use Rattle.mc_model_machine.specs.Primitives.{Around, Done, Primitive, Lookup, MemoryCopy, DelegatorAid, Digest, CopyFixed, SetProtection, Encipher, Decipher, Sign, number_below_top, count_at, effect_flagged, frame_effect, lookup_effect, delegator_told, prim_effect, prim_done, primitive}
+use Rattle.mc_model_machine.specs.Primitives.{Around, Done, Primitive, Lookup, MemoryCopy, DelegatorAid, Digest, CopyFixed, SetProtection, Encipher, Decipher, Sign, number_below_top, count_at, effect_flagged, frame_effect, lookup_effect, delegator_reported, prim_effect, prim_done, primitive}
 use Rattle.mc_model_machine.specs.Row.{frame_after_jump, frame_after_call, effect, RowEnd, Abends, Does, row_end, causes, first_cause, row}
 
 -- static bytes after a list of changes, if there is one
@@ -81,9 +82,9 @@ looked_up_tracks : (f : Frame) (public : List ℕ) (o : Option ℕ) → Tracks f
 looked_up_tracks f public (Some i) = record { name = refl; fixed = refl; public = omega arith }
 looked_up_tracks f public None = record { name = refl; fixed = refl; public = omega arith }
 
-delegator_told_tracks : (f : Frame) (public : List ℕ) (a : ℕ) (o : Option (List ℕ)) → Tracks f public (delegator_told f public a o)
-delegator_told_tracks f public a None = record { name = refl; fixed = refl; public = omega arith }
-delegator_told_tracks f public a (Some n) = becomes_tracks f public a _ f.c false
+delegator_reported_tracks : (f : Frame) (public : List ℕ) (a : ℕ) (o : Option (List ℕ)) → Tracks f public (delegator_reported f public a o)
+delegator_reported_tracks f public a None = record { name = refl; fixed = refl; public = omega arith }
+delegator_reported_tracks f public a (Some n) = becomes_tracks f public a _ f.c false
 
 both_longer : (public : List ℕ) (sw la : ℕ) → length public ≤ length (with_la (with_sw public sw) la)
 both_longer public sw la = omega (arith, splice_longer public 1039 (bytes2 sw), splice_longer (with_sw public sw) 1037 (bytes2 la))
@@ -94,7 +95,7 @@ prim_effect_tracks : (p : Primitive) (args : List ℕ) (f : Frame) (public : Lis
 unfolding prim_effect
 prim_effect_tracks Lookup args f public x = looked_up_tracks (frame_after_pop f 3) public (position (λ b. b == num (stack_bytes f 3 1)) (bytes_at (frame_after_pop f 3) public (number_below_top f 2 + 1) (count_at (frame_after_pop f 3) public (number_below_top f 2))))
 prim_effect_tracks MemoryCopy args f public x = written_tracks (frame_after_pop f 6) public _ _
-prim_effect_tracks DelegatorAid args f public x = delegator_told_tracks (frame_after_pop f 2) public (number_below_top f 2) x.delegator
+prim_effect_tracks DelegatorAid args f public x = delegator_reported_tracks (frame_after_pop f 2) public (number_below_top f 2) x.delegator
 prim_effect_tracks Digest args f public x = written_tracks (frame_after_pop f 6) public _ _
 prim_effect_tracks CopyFixed args f public x = written_tracks (frame_after_pop f 4) public _ _
 prim_effect_tracks SetProtection args f public x = protect_tracks f public (slice_index args 0)

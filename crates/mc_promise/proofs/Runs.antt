@@ -1,4 +1,5 @@
--- A run keeps what the outline asks for, whole or cut in any device write, with the history that was counted up to there.
+-- A run keeps what the outline asks for, whole or cut in any device write, with the history that was counted up to
+-- there.
 use Rattle.std.proofs.Common.{◌≡◌, ℕ, zero, suc, ◌-◌, Bool, true, false, cond, List, [], ◌∷◌, ◌++◌, Option, Some, None, refl, sym, ap, subst, ◌∙◌}
 use Rattle.std.specs.Prelude.{bytes_eq, nat_le}
 use Rattle.mc_model_device.specs.Bytes.{lookup}

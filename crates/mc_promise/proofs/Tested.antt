@@ -1,6 +1,6 @@
 -- What holds along a play passes its tests; so where a test fails, it does not hold.
 use Rattle.std.proofs.Common.{◌≡◌, ℕ, Bool, true, false, not, List, [], ◌∷◌, Option, Some, None, refl, sym, ◌∙◌}
-use Rattle.std.specs.Prelude.{⊤, ◌&&◌, ◌||◌, ◌==◌, bytes_eq, is_none}
+use Rattle.std.specs.Prelude.{◌&&◌, ◌||◌, ◌==◌, bytes_eq, is_none}
 use Rattle.std.proofs.lemmas.Bool.{and_parts, and_from, eqb-true}
 use Rattle.mc_model_device.specs.Bytes.{lookup}
 use Rattle.mc_model_device.specs.Card.{App}
@@ -8,7 +8,7 @@ use Rattle.mc_model_card.specs.Items.{Fixed, Created, Deleted, Item, Plain, Atom
 use Rattle.mc_model_play.specs.DeckGrammar.{DeckLine}
 use Rattle.mc_model_play.specs.DeckGrammar as line
 use Rattle.mc_model_play.specs.Given.{apps_in}
-use Rattle.mc_model_play.specs.Play.{State, Cold, Hot, Step}
+use Rattle.mc_model_play.specs.Play.{State, BeforePower, AfterPower, Step}
 use Rattle.mc_promise.specs.History.{Watch, after_step}
 use Rattle.mc_promise.specs.Along.{IsApp, IsAppIf, CreatesOnly, FindsNone, BringsOnly, Along}
 use Rattle.mc_promise.specs.Computed.{on_app, tests_along, is_app, creates_only, finds_none, all_bring_only}
@@ -42,19 +42,19 @@ none_is None h = refl
 none_is (Some a) h = absurd (cc h)
 
 finds_from : (n : List ℕ) (z : State) (l : DeckLine) (after : State) → finds_none n z l after ≡ true → FindsNone n z l after
-finds_from n (Cold m b a) line.Power after h = none_is (lookup (apps_in after) n) h
-finds_from n (Cold m b a) line.Format after h = tt
-finds_from n (Cold m b a) line.Named after h = tt
-finds_from n (Cold m b a) (line.Load u fixed session) after h = tt
-finds_from n (Cold m b a) (line.Select x) after h = tt
-finds_from n (Cold m b a) (line.Delete x) after h = tt
-finds_from n (Cold m b a) (line.Apdu x) after h = tt
-finds_from n (Cold m b a) (line.Dump x) after h = tt
-finds_from n (Cold m b a) (line.Budget x) after h = tt
-finds_from n (Cold m b a) (line.Cut k x) after h = tt
-finds_from n (Cold m b a) (line.Fail k) after h = tt
-finds_from n (Cold m b a) (line.Poke k x) after h = tt
-finds_from n (Hot s) l after h = tt
+finds_from n (BeforePower m b a) line.Power after h = none_is (lookup (apps_in after) n) h
+finds_from n (BeforePower m b a) line.Format after h = tt
+finds_from n (BeforePower m b a) line.Named after h = tt
+finds_from n (BeforePower m b a) (line.Load u fixed session) after h = tt
+finds_from n (BeforePower m b a) (line.Select x) after h = tt
+finds_from n (BeforePower m b a) (line.Delete x) after h = tt
+finds_from n (BeforePower m b a) (line.Apdu x) after h = tt
+finds_from n (BeforePower m b a) (line.Dump x) after h = tt
+finds_from n (BeforePower m b a) (line.Budget x) after h = tt
+finds_from n (BeforePower m b a) (line.Cut k x) after h = tt
+finds_from n (BeforePower m b a) (line.Fail k) after h = tt
+finds_from n (BeforePower m b a) (line.Poke k x) after h = tt
+finds_from n (AfterPower s) l after h = tt
 
 -- ---- along a play
 

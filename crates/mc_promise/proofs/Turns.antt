@@ -25,7 +25,8 @@ IsSingle [] = ⊤
 IsSingle (w ∷ []) = ⊤
 IsSingle (w ∷ v ∷ vs) = ⊥
 
--- what follows a turn: the end of the command, or a chain on the map that the turn left, with the first frame of the same name
+-- what follows a turn: the end of the command, or a chain on the map that the turn left, with the first frame of the
+-- same name
 abbrev pub FollowsKept : {E : Type 0} → Bool → Outline E → ApduParts → List E → List E → List (List ℕ × App) → List ℕ → Follows → Type 0
 FollowsKept b o apdu before k m session (Ends outcome) = EndKept b o apdu before k (lookup m o.watch.name) session outcome
 FollowsKept b o apdu before k m session (Continues c) =

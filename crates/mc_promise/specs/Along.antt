@@ -1,4 +1,5 @@
--- What holds of one application along a play: after each line, and after each device write at which the line could be stopped.
+-- What holds of one application along a play: after each line, and after each device write at which the line could be
+-- stopped.
 use Rattle.std.specs.Prelude.{◌≡◌, ℕ, ◌≤◌, Bool, true, false, List, [], ◌∷◌, length, bytes_eq, Option, Some, None, ⊤}
 use Rattle.mc_model_device.specs.Bytes.{lookup}
 use Rattle.mc_model_device.specs.Card.{App}
@@ -9,7 +10,7 @@ use Rattle.mc_model_card.specs.Items.{Fixed, Created, Deleted, Item, Plain, Atom
 use Rattle.mc_model_card.specs.Manager.{Selected, Route, WrongLength, WrongClass, ToSelect, ToManager, ToApplication, route}
 use Rattle.mc_model_play.specs.DeckGrammar.{DeckLine}
 use Rattle.mc_model_play.specs.DeckGrammar as line
-use Rattle.mc_model_play.specs.Play.{Live, Running, Unpowered, Muted, State, Cold, Hot, LineResult, Answered, WornAt, Step, step}
+use Rattle.mc_model_play.specs.Play.{Armed, Live, Running, Unpowered, Muted, State, BeforePower, AfterPower, LineResult, Answered, FailedWrite, Step, formatted_image, step}
 use Rattle.mc_model_play.specs.Given.{apps_in}
 use Rattle.mc_promise.specs.History.{Watch, after_step}
 
@@ -37,28 +38,34 @@ CreatesOnly n app (Atomic w (Deleted m) ∷ is) = CreatesOnly n app is
 
 -- the card that the first power line finds has none of the name
 abbrev pub FindsNone : List ℕ → State → DeckLine → State → Type 0
-FindsNone n (Cold m b a) line.Power after = lookup (apps_in after) n ≡ None
-FindsNone n (Cold m b a) _ after = ⊤
-FindsNone n (Hot s) l after = ⊤
+FindsNone n (BeforePower m b a) line.Power after = lookup (apps_in after) n ≡ None
+FindsNone n (BeforePower m b a) _ after = ⊤
+FindsNone n (AfterPower s) l after = ⊤
 
 -- a line brings no other application under the name onto the card
 pub record BringsOnly (n : List ℕ) (app : App) (t : Step) : Type 0 where
   pub creates : CreatesOnly n app t.whole
   pub finds : FindsNone n t.before t.line t.after
 
+-- a card that was formatted just before the first power line has none of any name
+abbrev pub FormattedLaw : Type 0
+FormattedLaw =
+    (m : List (List ℕ)) (budget number : ℕ) (armed : Armed) (w : Option FailedWrite) (n : List ℕ) → 256 ≤ length m → length m ≤ 16384
+    → let t = step (BeforePower (formatted_image m) budget armed) (number, line.Power) w in FindsNone n t.before t.line t.after
+
 -- ---- along a play
 
 -- what a line could have been: stopped at this device write, which left that word
-abbrev pub stopped_step : Step → WornAt → Step
+abbrev pub stopped_step : Step → FailedWrite → Step
 stopped_step t w = step t.before (t.number, t.line) (Some w)
 
--- After each line of a play, and after each device write at which it could be stopped, as long as no other application came under
--- the name: `says` holds of the history before the line, of the line, and of the history after it.
+-- After each line of a play, and after each device write at which it could be stopped, as long as no other application
+-- came under the name: `says` holds of the history before the line, of the line, and of the history after it.
 abbrev pub Along : {E : Type 0} → Watch E → App → (List E → Step → List E → Type 0) → List E → List Step → Type 0
 Along w app says h [] = ⊤
 Along w app says h (t ∷ ts) =
     (BringsOnly w.name app t → says h t (after_step w t h) × Along w app says (after_step w t h) ts)
-    × ((c : WornAt) → BringsOnly w.name app (stopped_step t c) → says h (stopped_step t c) (after_step w (stopped_step t c) h))
+    × ((c : FailedWrite) → BringsOnly w.name app (stopped_step t c) → says h (stopped_step t c) (after_step w (stopped_step t c) h))
 
 -- ---- what a line shows of the application
 
@@ -87,14 +94,14 @@ parts_for n (Some s) (ToManager a) = None
 
 -- a command on a running card
 abbrev pub live_parts : List ℕ → Live → Base → List ℕ → Option ApduParts
-live_parts n (Running seat) (OnCard c) b = parts_for n seat.selected (route b)
-live_parts n (Running seat) (AtFault cause p) b = None
+live_parts n (Running session_state) (OnCard c) b = parts_for n session_state.selected (route b)
+live_parts n (Running session_state) (AtFault cause p) b = None
 live_parts n Unpowered base b = None
 live_parts n Muted base b = None
 
 -- the command of a line that reaches the application as the selected one, if it does
 abbrev pub command_for : List ℕ → State → DeckLine → Option ApduParts
-command_for n (Hot s) (line.Apdu b) = live_parts n s.live s.base b
+command_for n (AfterPower s) (line.Apdu b) = live_parts n s.live s.base b
 command_for n z l = None
 
 -- what holds of a command and of the status that it was answered with, where a line is one and was answered with one

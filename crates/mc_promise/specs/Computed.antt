@@ -18,7 +18,7 @@ use Rattle.mc_model_card.specs.Commands.{command}
 use Rattle.mc_model_play.specs.DeckGrammar.{DeckLine, deck_read}
 use Rattle.mc_model_play.specs.DeckGrammar as line
 use Rattle.mc_model_play.specs.Given.{apps_in}
-use Rattle.mc_model_play.specs.Play.{State, Cold, Hot, Step, start, send, play_at_power, step, plays, moves_of, steady_worn}
+use Rattle.mc_model_play.specs.Play.{State, BeforePower, AfterPower, Step, start, send, play_at_power, step, plays, moves_of, steady_failures}
 use Rattle.mc_promise.specs.Along.{Along}
 use Rattle.mc_promise.specs.History.{Watch, after_run, after_step, after_steps}
 
@@ -28,7 +28,7 @@ blank = replicate 512 (zeros 8)
 
 -- the steps of a deck that was read
 abbrev pub steps_of : Result (List (ℕ × DeckLine)) (ℕ × DeckCause) → List Step
-steps_of (Ok ls) = plays (start blank) ls (steady_worn (start blank) ls)
+steps_of (Ok ls) = plays (start blank) ls (steady_failures (start blank) ls)
 steps_of (Err e) = []
 
 -- a test of the application's static bytes, where it is there
@@ -48,12 +48,12 @@ first_false n (b ∷ bs) = cond b (first_false (n + 1) bs) (Some n)
 
 -- the first line of a deck, counted from 0, after which a test does not hold
 unfoldable pub broken_at : {E : Type 0} → Watch E → (List E → List ℕ → Bool) → List ℕ → Option ℕ
-unfolding deck_read name_of apdu_read touched_words targets_1 targets_2 pairs blocks_from apps_of layout step_of bad_block bad_record bytes_at write_effect too_many later_causes prim_effect causes effect row turn_of_chain run_of_chain manage command send play_at_power step plays moves_of steady_worn after_run
+unfolding deck_read name_of apdu_read touched_words targets_1 targets_2 pairs blocks_from apps_of layout step_of bad_block bad_record bytes_at write_effect too_many later_causes prim_effect causes effect row turn_of_chain run_of_chain manage command send play_at_power step plays moves_of steady_failures after_run
 broken_at w test deck = first_false 0 (tests_along w test [] (steps_of (deck_read deck)))
 
 -- the history after a deck
 unfoldable pub history_of : {E : Type 0} → Watch E → List ℕ → List E
-unfolding deck_read name_of apdu_read touched_words targets_1 targets_2 pairs blocks_from apps_of layout step_of bad_block bad_record bytes_at write_effect too_many later_causes prim_effect causes effect row turn_of_chain run_of_chain manage command send play_at_power step plays moves_of steady_worn after_run
+unfolding deck_read name_of apdu_read touched_words targets_1 targets_2 pairs blocks_from apps_of layout step_of bad_block bad_record bytes_at write_effect too_many later_causes prim_effect causes effect row turn_of_chain run_of_chain manage command send play_at_power step plays moves_of steady_failures after_run
 history_of w deck = after_steps w (steps_of (deck_read deck)) []
 
 -- ---- the premise as a test
@@ -72,9 +72,9 @@ creates_only n app (Atomic w (Deleted m) ∷ is) = creates_only n app is
 
 -- the card that the first power line finds has none of the name
 abbrev pub finds_none : List ℕ → State → DeckLine → State → Bool
-finds_none n (Cold m b a) line.Power after = is_none (lookup (apps_in after) n)
-finds_none n (Cold m b a) _ after = true
-finds_none n (Hot s) l after = true
+finds_none n (BeforePower m b a) line.Power after = is_none (lookup (apps_in after) n)
+finds_none n (BeforePower m b a) _ after = true
+finds_none n (AfterPower s) l after = true
 
 -- each line of a play brings no other application under the name
 abbrev pub all_bring_only : List ℕ → App → List Step → Bool
@@ -83,7 +83,7 @@ all_bring_only n app (t ∷ ts) = creates_only n app t.whole && finds_none n t.b
 
 -- so does each line of a deck
 unfoldable pub brings_only : List ℕ → App → List ℕ → Bool
-unfolding deck_read name_of apdu_read touched_words targets_1 targets_2 pairs blocks_from apps_of layout step_of bad_block bad_record bytes_at write_effect too_many later_causes prim_effect causes effect row turn_of_chain run_of_chain manage command send play_at_power step plays moves_of steady_worn
+unfolding deck_read name_of apdu_read touched_words targets_1 targets_2 pairs blocks_from apps_of layout step_of bad_block bad_record bytes_at write_effect too_many later_causes prim_effect causes effect row turn_of_chain run_of_chain manage command send play_at_power step plays moves_of steady_failures
 brings_only n app deck = all_bring_only n app (steps_of (deck_read deck))
 
 -- ---- a promise that is broken

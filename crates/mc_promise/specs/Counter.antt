@@ -1,10 +1,11 @@
--- A counter that never falls, as an example of the rule: its text, its code, what is counted of it, and what it promises.
+-- A counter that never falls, as an example of the rule: its text, its code, what is counted of it, and what it
+-- promises.
 use Rattle.std.specs.Prelude.{◌≡◌, ◌≢◌, ℕ, suc, ◌+◌, ◌≤◌, Bool, true, ◌&&◌, ◌==◌, List, [], ◌∷◌, ◌++◌, length, codes, Option, Some, None, ⊤}
 use Rattle.mc_model_device.specs.Bytes.{num}
 use Rattle.mc_model_device.specs.Card.{App}
 use Rattle.mc_model_machine.specs.Apdu.{ApduParts}
 use Rattle.mc_model_play.specs.DeckGrammar.{DeckLine}
-use Rattle.mc_model_play.specs.Play.{WornAt, plays, start}
+use Rattle.mc_model_play.specs.Play.{FailedWrite, plays, start}
 use Rattle.mc_promise.specs.History.{Deed, Watch}
 use Rattle.mc_promise.specs.Along.{Along, OnFixed, OnAnswer, command_for}
 
@@ -40,7 +41,7 @@ count_of d = written_count d.effect.changes d.effect.frame.fixed
 
 -- what is counted of the counter
 abbrev pub counter_watch : Watch ℕ
-counter_watch = record { name = counter_name; of_deed = count_of; of_selection = None; of_end = None }
+counter_watch = record { name = counter_name; of_deed = count_of; of_command = λ a. None; of_selection = None; of_end = None }
 
 -- ---- what it promises
 
@@ -59,8 +60,8 @@ pub record KeepsCount (h : List ℕ) (fixed : List ℕ) : Type 0 where
   pub holds : num fixed ≡ newest_count h
   pub rises : Rises h
 
--- A count that is answered with 9000 is durable, and is one more; one that is answered with another status changes nothing. (Data of a
--- command of bytes are at most 1,024.)
+-- A count that is answered with 9000 is durable, and is one more; one that is answered with another status changes
+-- nothing. (Data of a command of bytes are at most 1,024.)
 pub record AnswersCount (before after : List ℕ) (a : ApduParts) (sw : ℕ) : Type 0 where
   pub durable : length a.body ≤ 1024 → a.ins ≡ 0x10 → sw ≡ 0x9000 → after ≡ suc (newest_count before) ∷ before
   pub refused : length a.body ≤ 1024 → a.ins ≡ 0x10 → sw ≢ 0x9000 → after ≡ before
@@ -68,7 +69,7 @@ pub record AnswersCount (before after : List ℕ) (a : ApduParts) (sw : ℕ) : T
 -- for every deck, every image and every list of failed writes, along the whole play
 abbrev pub CounterLaw : Type 0
 CounterLaw =
-    (ls : List (ℕ × DeckLine)) (m : List (List ℕ)) (ws : List (Option WornAt))
+    (ls : List (ℕ × DeckLine)) (m : List (List ℕ)) (ws : List (Option FailedWrite))
     → Along counter_watch counter_app (λ before t after. OnFixed counter_name (KeepsCount after) t.after × OnAnswer (AnswersCount before after) (command_for counter_name t.before t.line) t.result) []
     (plays (start m) ls ws)
 

@@ -1,5 +1,5 @@
--- What happened to one application in a play, as its writer counts it: the events of its turns, of selections and of the ends
--- of sessions, since its creation. A history has the newest event first.
+-- What happened to one application in a play, as its writer counts it: the events of its turns, of commands to it, of
+-- selections and of the ends of sessions, since its creation. A history has the newest event first.
 use Rattle.std.specs.Prelude.{ℕ, zero, suc, ◌-◌, Bool, true, false, nat_le, List, [], ◌∷◌, bytes_eq, Option, Some, None, Result, Ok, Err}
 use Rattle.mc_model_machine.specs.declared.instruction.Ins.{Ins}
 use Rattle.mc_model_machine.specs.declared.instruction.DecodeFault.{DecodeFault}
@@ -14,16 +14,16 @@ use Rattle.mc_model_machine.specs.Frame.{Frame, Effect}
 use Rattle.mc_model_machine.specs.Row.{RowEnd, Abends, Does, row}
 use Rattle.mc_model_machine.specs.Chain.{Chain, Write, Follows, Continues, Ends, code_in, frame_at, around, turn_of_chain, depth_of, start}
 use Rattle.mc_model_card.specs.Items.{Fixed, Created, Deleted, Item, Plain, Atomic, StopAt}
-use Rattle.mc_model_card.specs.Manager.{Selected, Seat, Route, WrongLength, WrongClass, ToSelect, ToManager, ToApplication, route, Managed, Declines, Accepts, select}
+use Rattle.mc_model_card.specs.Manager.{Selected, SessionState, Route, WrongLength, WrongClass, ToSelect, ToManager, ToApplication, route, Managed, Declines, Accepts, select}
 use Rattle.mc_model_play.specs.DeckGrammar.{DeckLine}
 use Rattle.mc_model_play.specs.DeckGrammar as line
-use Rattle.mc_model_play.specs.Play.{Live, Running, State, Cold, Hot, Step, select_bytes, delete_bytes}
+use Rattle.mc_model_play.specs.Play.{Live, Running, State, BeforePower, AfterPower, Step, select_bytes, delete_bytes}
 
 -- ---- events
 
--- An instruction that was done in a frame of the application: the frame before it (its code address is the instruction's place),
--- the public segment before it, whether a selection began the frame (else a delegation), the number of frames, the instruction,
--- and what it changed.
+-- An instruction that was done in a frame of the application: the frame before it (its code address is the
+-- instruction's place), the public segment before it, whether a selection began the frame (else a delegation), the
+-- number of frames, the instruction, and what it changed.
 pub record Deed : Type 0 where
   pub frame : Frame
   pub public : List ℕ
@@ -32,11 +32,12 @@ pub record Deed : Type 0 where
   pub ins : Ins
   pub effect : Effect
 
--- what the writer of an application counts: the event of an instruction that was done, if it is one, that of a new selection of
--- the application, and that of the end of a session
+-- what the writer of an application counts: the event of an instruction that was done, if it is one, that of a command
+-- that reaches the application as the selected one, that of a new selection of it, and that of the end of a session
 pub record Watch (E : Type 0) : Type 0 where
   pub name : List ℕ
   pub of_deed : Deed → Option E
+  pub of_command : ApduParts → Option E
   pub of_selection : Option E
   pub of_end : Option E
 
@@ -109,8 +110,8 @@ abbrev pub after_follows : {E : Type 0} → Follows → (Chain → Option CutAt 
 after_follows (Ends o) rest c h = h
 after_follows (Continues ch) rest c h = rest ch c h
 
--- The history after a chain was run with this budget, up to its cut, if it has one: the turns before the device write that was cut,
--- and the turn of that write exactly where it is whole.
+-- The history after a chain was run with this budget, up to its cut, if it has one: the turns before the device write
+-- that was cut, and the turn of that write exactly where it is whole.
 unfoldable pub after_run : {E : Type 0} → Watch E → ℕ → Chain → Option CutAt → List E → List E
 after_run w zero ch c h = h
 after_run w (suc n) ch c h =
@@ -129,18 +130,24 @@ abbrev pub after_select : {E : Type 0} → Watch E → List ℕ → Managed → 
 after_select w n (Declines sw) h = h
 after_select w n (Accepts a) h = with_event (selection_event w (bytes_eq n w.name)) h
 
+-- a command to the selected application: this one, or another
+abbrev pub command_event : {E : Type 0} → Watch E → Bool → ApduParts → Option E
+command_event w true a = w.of_command a
+command_event w false a = None
+
 -- a command that is passed to the selected application
 abbrev pub after_passed : {E : Type 0} → Watch E → Card → Option Selected → ApduParts → ℕ → Option CutAt → List E → List E
 after_passed w c None a budget cut h = h
-after_passed w c (Some s) a budget cut h = after_run w budget (start c.apps s.name s.session a) cut h
+after_passed w c (Some s) a budget cut h =
+    after_run w budget (start c.apps s.name s.session a) cut (with_event (command_event w (bytes_eq s.name w.name) a) h)
 
 -- a command by its route
-abbrev pub after_route : {E : Type 0} → Watch E → Card → Seat → ℕ → Route → Option CutAt → List E → List E
-after_route w c seat budget WrongLength cut h = h
-after_route w c seat budget WrongClass cut h = h
-after_route w c seat budget (ToManager a) cut h = h
-after_route w c seat budget (ToSelect a) cut h = after_select w a.body (select c.apps seat a) h
-after_route w c seat budget (ToApplication a) cut h = after_passed w c seat.selected a budget cut h
+abbrev pub after_route : {E : Type 0} → Watch E → Card → SessionState → ℕ → Route → Option CutAt → List E → List E
+after_route w c session_state budget WrongLength cut h = h
+after_route w c session_state budget WrongClass cut h = h
+after_route w c session_state budget (ToManager a) cut h = h
+after_route w c session_state budget (ToSelect a) cut h = after_select w a.body (select c.apps session_state a) h
+after_route w c session_state budget (ToApplication a) cut h = after_passed w c session_state.selected a budget cut h
 
 -- ---- a line
 
@@ -170,25 +177,25 @@ command_in (line.Apdu b) = Some b
 command_in _ = None
 
 -- what a line's command does
-abbrev pub after_command : {E : Type 0} → Watch E → Card → Seat → ℕ → Option (List ℕ) → Option CutAt → List E → List E
-after_command w c seat budget None cut h = h
-after_command w c seat budget (Some b) cut h = after_route w c seat budget (route b) cut h
+abbrev pub after_command : {E : Type 0} → Watch E → Card → SessionState → ℕ → Option (List ℕ) → Option CutAt → List E → List E
+after_command w c session_state budget None cut h = h
+after_command w c session_state budget (Some b) cut h = after_route w c session_state budget (route b) cut h
 
 -- a card line other than power, on a running card or on none
 abbrev pub after_taken : {E : Type 0} → Watch E → Live → Base → ℕ → Step → List E → List E
-after_taken w (Running seat) (OnCard c) budget t h =
-    after_stop w t.stop (after_command w c seat budget (command_in t.line) (cut_of t.stop) (after_items w.name t.whole h))
+after_taken w (Running session_state) (OnCard c) budget t h =
+    after_stop w t.stop (after_command w c session_state budget (command_in t.line) (cut_of t.stop) (after_items w.name t.whole h))
 after_taken w live base budget t h = h
 
 -- a line from a state
 abbrev pub after_line : {E : Type 0} → Watch E → State → Step → DeckLine → List E → List E
 after_line w z t line.Power h = with_event w.of_end h
-after_line w (Cold m b a) t _ h = h
-after_line w (Hot s) t (line.Load u fixed session) h = after_taken w s.live s.base s.budget t h
-after_line w (Hot s) t (line.Select n) h = after_taken w s.live s.base s.budget t h
-after_line w (Hot s) t (line.Delete n) h = after_taken w s.live s.base s.budget t h
-after_line w (Hot s) t (line.Apdu b) h = after_taken w s.live s.base s.budget t h
-after_line w (Hot s) t _ h = h
+after_line w (BeforePower m b a) t _ h = h
+after_line w (AfterPower s) t (line.Load u fixed session) h = after_taken w s.live s.base s.budget t h
+after_line w (AfterPower s) t (line.Select n) h = after_taken w s.live s.base s.budget t h
+after_line w (AfterPower s) t (line.Delete n) h = after_taken w s.live s.base s.budget t h
+after_line w (AfterPower s) t (line.Apdu b) h = after_taken w s.live s.base s.budget t h
+after_line w (AfterPower s) t _ h = h
 
 -- the history after a line that was played
 abbrev pub after_step : {E : Type 0} → Watch E → Step → List E → List E

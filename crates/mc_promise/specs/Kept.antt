@@ -5,7 +5,7 @@ use Rattle.mc_model_device.specs.Card.{App}
 use Rattle.mc_model_device.specs.PowerUp.{Base, OnCard, AtFault}
 use Rattle.mc_model_card.specs.Manager.{Selected}
 use Rattle.mc_model_play.specs.DeckGrammar.{DeckLine}
-use Rattle.mc_model_play.specs.Play.{Live, Running, Unpowered, Muted, State, Cold, Hot, WornAt, Step, plays, start}
+use Rattle.mc_model_play.specs.Play.{Live, Running, Unpowered, Muted, State, BeforePower, AfterPower, FailedWrite, Step, plays, start}
 use Rattle.mc_promise.specs.Along.{Along, OnAnswer, command_for}
 use Rattle.mc_promise.specs.Outline.{Outline}
 
@@ -37,7 +37,7 @@ SelectedKept o h m (Some s) = SessionIf (bytes_eq s.name o.watch.name) o h (look
 
 -- of a card that runs or not
 abbrev pub LiveKept : {E : Type 0} → Outline E → List E → List (List ℕ × App) → Live → Type 0
-LiveKept o h m (Running seat) = SelectedKept o h m seat.selected
+LiveKept o h m (Running session_state) = SelectedKept o h m session_state.selected
 LiveKept o h m Unpowered = ⊤
 LiveKept o h m Muted = ⊤
 
@@ -48,8 +48,8 @@ BaseKept o h (AtFault cause p) v = ⊤
 
 -- of a state of a play
 abbrev pub StateKept : {E : Type 0} → Outline E → List E → State → Type 0
-StateKept o h (Cold m b a) = ⊤
-StateKept o h (Hot s) = BaseKept o h s.base s.live
+StateKept o h (BeforePower m b a) = ⊤
+StateKept o h (AfterPower s) = BaseKept o h s.base s.live
 
 -- what an outline says of a line: of the state after it, and of the answer to a command of the selected application
 abbrev pub LineKept : {E : Type 0} → Outline E → List E → Step → List E → Type 0
@@ -57,4 +57,4 @@ LineKept o before t after = StateKept o after t.after × OnAnswer (λ a sw. o.an
 
 -- for every deck, every image and every list of failed writes, possible or not
 abbrev pub IsKept : {E : Type 0} → Outline E → Type 0
-IsKept o = (ls : List (ℕ × DeckLine)) (m : List (List ℕ)) (ws : List (Option WornAt)) → Along o.watch o.app (LineKept o) [] (plays (start m) ls ws)
+IsKept o = (ls : List (ℕ × DeckLine)) (m : List (List ℕ)) (ws : List (Option FailedWrite)) → Along o.watch o.app (LineKept o) [] (plays (start m) ls ws)

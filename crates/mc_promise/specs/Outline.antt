@@ -1,5 +1,5 @@
--- Proof outlines: what an application's writer says of its static bytes, of its sessions and of each place of its code, and what is
--- to be shown of it, one instruction at a time.
+-- Proof outlines: what an application's writer says of its static bytes, of its sessions and of each place of its code,
+-- and what is to be shown of it, one instruction at a time.
 use Rattle.std.specs.Prelude.{◌≡◌, ℕ, ◌≤◌, Bool, true, false, List, [], length, None, Result, Ok, Err, ⊤}
 use Rattle.mc_model_machine.specs.declared.instruction.Ins.{Ins}
 use Rattle.mc_model_machine.specs.declared.instruction.DecodeFault.{DecodeFault}
@@ -47,12 +47,14 @@ FitsEntry ByDelegation x = ⊤
 abbrev pub public_size : ℕ
 public_size = 1041
 
--- the exit of a frame: one that the selection began ends its command, whose session bytes are those before the instruction
+-- the exit of a frame: one that the selection began ends its command, whose session bytes are those before the
+-- instruction
 abbrev pub ExitShown : {E : Type 0} → Outline E → Entry E → List E → Frame → Done → Type 0
 ExitShown o (BySelection apdu before) k f d = o.holds k d.effect.frame.fixed (session_of f) × o.answers apdu before k (sw_of d.effect.public)
 ExitShown o ByDelegation k f d = ⊤
 
--- what an instruction leads to: the next place; after a delegation the next place with whatever public segment comes back; or an exit
+-- what an instruction leads to: the next place; after a delegation the next place with whatever public segment comes
+-- back; or an exit
 abbrev pub NextShown : {E : Type 0} → Outline E → Entry E → List E → Frame → Done → Then → Type 0
 NextShown o e k f d Goes = o.at e k d.effect.frame d.effect.public
 NextShown o e k f d Exits = ExitShown o e k f d
@@ -89,9 +91,9 @@ pub record IsShown {E : Type 0} (o : Outline E) : Type 0 where
       → o.keeps (with_event o.watch.of_selection h) fixed × o.holds (with_event o.watch.of_selection h) fixed (zeros o.app.session)
   -- and at the end of a session
   pub ended : (h : List E) (fixed : List ℕ) → o.keeps h fixed → o.keeps (with_event o.watch.of_end h) fixed
-  -- a command begins with what keeps and what holds
+  -- a command begins with what keeps and what holds; with its event, its bytes keep it
   pub begins : (apdu : ApduParts) (h : List E) (fixed session : List ℕ) → o.keeps h fixed → o.holds h fixed session → length session ≡ o.app.session
-      → o.at (BySelection apdu h) h (first_frame_of o fixed session) (new_public apdu)
+      → o.keeps (with_event (o.watch.of_command apdu) h) fixed × o.at (BySelection apdu h) (with_event (o.watch.of_command apdu) h) (first_frame_of o fixed session) (new_public apdu)
   -- a delegation begins with zero session bytes and any public segment
   pub entered : (h : List E) (fixed public : List ℕ) → o.keeps h fixed → public_size ≤ length public
       → o.at ByDelegation h (first_frame_of o fixed (zeros o.app.session)) public

@@ -4,8 +4,8 @@ ghost use Rattle.std.specs.Prelude.{◌≡◌, ◌++◌, [], ◌∷◌, codes, S
 ghost use Rattle.mc_promise.specs.Computed.{brings_only, broken_at, history_of};
 ghost use Rattle.mc_promise.specs.Counter.{counter_app, counter_deck, counter_name, counter_text, counter_watch, keeps_count, set_back, three_counts};
 
-/// The counter's own play keeps its promise after every line; what is created in it under the counter's name is the counter, and two
-/// counts are durable.
+/// The counter's own play keeps its promise after every line; what is created in it under the counter's name is the
+/// counter, and two counts are durable.
 pub fn counter_play()
     ensures premise { brings_only counter_name counter_app (counter_deck counter_text three_counts) ≡ true }
     ensures keeps { broken_at counter_watch keeps_count (counter_deck counter_text three_counts) ≡ None }
@@ -14,5 +14,6 @@ pub fn counter_play()
 
 /// A counter that can be set back falls.
 pub fn set_back_falls()
-    ensures { broken_at counter_watch keeps_count (counter_deck set_back (codes "apdu 8010000000\napdu 8014000000\n")) ≡ Some 6 }
+    ensures { broken_at counter_watch keeps_count (counter_deck set_back (codes "apdu 8010000000\napdu 8014000000\n"))
+        ≡ Some 6 }
 {}

@@ -1,30 +1,44 @@
 -- What the instructions of the purse do to the facts of its places.
 use Rattle.std.proofs.Common.{◌≡◌, ℕ, zero, suc, ◌+◌, ◌-◌, ◌*◌, ◌/◌, ◌%◌, ◌^◌, ◌<◌, ◌≤◌, Bool, true, false, cond, not, List, [], ◌∷◌, ◌++◌, length, take, drop, Some, None, refl, sym, ap, subst, ◌∙◌, arith, inl, inr}
-use Rattle.std.specs.Prelude.{◌≢◌, bytes_eq}
-use Rattle.std.proofs.lemmas.Bool.{eqb-true, false_from_ne_true}
+use Rattle.std.specs.Prelude.{◌≢◌, ◌⊎◌, ◌==◌, bytes_eq, Option}
+use Rattle.std.proofs.lemmas.Bool.{eqb-true, eq-eqb, false_from_ne_true}
 use Rattle.mc_model_device.specs.Bytes.{bytes, bytes2, num, splice}
+use Rattle.mc_model_machine.specs.Apdu.{ApduParts}
 use Rattle.mc_model_machine.specs.Blocks.{sub_blocks, is_zero}
 use Rattle.mc_model_machine.specs.Frame.{Frame, session_of, sw_of, with_la}
 use Rattle.mc_model_machine.specs.Primitives.{Done}
 use Rattle.mc_promise.specs.History.{with_event}
 use Rattle.mc_promise.specs.Outline.{Entry, BySelection, ByDelegation, is_direct, public_size, ExitShown, DeedShown}
-use Rattle.mc_promise.proofs.PublicBytes.{ins_byte, length_bytes, body_of_two, status_set, status_beside_la, status_beside_two, status_new}
-use Rattle.mc_purse.specs.Purse.{Event, Debited, comparison}
-use Rattle.mc_purse.specs.Laws.{RightLaw, wrong_since, sum_of_debits, number_of_debits, is_shown}
-use Rattle.mc_purse.proofs.Places.{PurseKept, Cells, fixed_of, balance_of, less, one_more, IsFresh, IsZeroed, Sits, IsNoDebit, MadeNone, IsPaid, IsRight, IsOpen, HasTwo, Carries, Debits, purse_outline}
+use Rattle.mc_promise.proofs.PublicBytes.{ins_byte, other_ins, length_bytes, body_of_two, status_set, status_beside_la, status_beside_two, status_new}
+use Rattle.mc_purse.specs.Purse.{Event, Commanded, Tries, Debited, comparison}
+use Rattle.mc_purse.specs.Laws.{RightLaw, wrong_since, tries_left, JustRight, sum_of_debits, number_of_debits, JustOrdered, is_shown}
+use Rattle.mc_purse.proofs.Places.{PurseKept, Cells, fixed_of, balance_of, less, one_more, IsFresh, IsZeroed, Sits, IsNoDebit, IsDebit, MadeNone, IsPaid, IsSpent, IsOpenIf, IsRight, IsOpen, HasTwo, Carries, Debits, purse_outline}
 use Rattle.mc_model_device.proofs.MapLemmas.{name_is_itself, same_name}
 
 -- ---- events
 
--- an instruction that moves no money counts nothing
-pub still : (e : Entry Event) (h : List Event) (f : Frame) (d : Done) (l : List ℕ) (q : Bool) (a : ℕ) → DeedShown purse_outline e h f d
-    → DeedShown purse_outline e (with_event (cond (not (bytes_eq l l)) (Some (Debited q a)) None) h) f d
-still e h f d l q a x = subst (λ (b : Bool). DeedShown purse_outline e (with_event (cond (not b) (Some (Debited q a)) None) h) f d) (sym (name_is_itself l)) x
+-- the event of an instruction that is no comparison, from the money and the tries before and after it
+abbrev change_event : List ℕ → List ℕ → Bool → ℕ → ℕ → ℕ → Option Event
+change_event l r q a t u = cond (not (bytes_eq l r)) (Some (Debited q a)) (cond (not (t == u)) (Some (Tries u)) None)
 
--- one that moves it is a debit
-pub moved : (e : Entry Event) (h : List Event) (f : Frame) (d : Done) (l r : List ℕ) (q : Bool) (a : ℕ) → bytes_eq l r ≡ false → DeedShown purse_outline e (Debited q a ∷ h) f d
-    → DeedShown purse_outline e (with_event (cond (not (bytes_eq l r)) (Some (Debited q a)) None) h) f d
-moved e h f d l r q a differ x = subst (λ (b : Bool). DeedShown purse_outline e (with_event (cond (not b) (Some (Debited q a)) None) h) f d) (sym differ) x
+-- an instruction that changes neither is no event
+pub still : (e : Entry Event) (h : List Event) (f : Frame) (d : Done) (l : List ℕ) (q : Bool) (a t : ℕ) → DeedShown purse_outline e h f d
+    → DeedShown purse_outline e (with_event (change_event l l q a t t) h) f d
+still e h f d l q a t x =
+    subst (λ (b : Bool). DeedShown purse_outline e (with_event (cond (not b) (Some (Debited q a)) (cond (not (t == t)) (Some (Tries t)) None)) h) f d) (sym (name_is_itself l))
+    (subst (λ (b : Bool). DeedShown purse_outline e (with_event (cond (not b) (Some (Tries t)) None) h) f d) (sym (eq-eqb t t refl)) x)
+
+-- one that changes the tries alone
+pub tried : (e : Entry Event) (h : List Event) (f : Frame) (d : Done) (l : List ℕ) (q : Bool) (a t u : ℕ) → (t == u) ≡ false → DeedShown purse_outline e (Tries u ∷ h) f d
+    → DeedShown purse_outline e (with_event (change_event l l q a t u) h) f d
+tried e h f d l q a t u differ x =
+    subst (λ (b : Bool). DeedShown purse_outline e (with_event (cond (not b) (Some (Debited q a)) (cond (not (t == u)) (Some (Tries u)) None)) h) f d) (sym (name_is_itself l))
+    (subst (λ (b : Bool). DeedShown purse_outline e (with_event (cond (not b) (Some (Tries u)) None) h) f d) (sym differ) x)
+
+-- one that moves money is a debit
+pub moved : (e : Entry Event) (h : List Event) (f : Frame) (d : Done) (l r : List ℕ) (q : Bool) (a : ℕ) (other : Option Event) → bytes_eq l r ≡ false → DeedShown purse_outline e (Debited q a ∷ h) f d
+    → DeedShown purse_outline e (with_event (cond (not (bytes_eq l r)) (Some (Debited q a)) other) h) f d
+moved e h f d l r q a other differ x = subst (λ (b : Bool). DeedShown purse_outline e (with_event (cond (not b) (Some (Debited q a)) other) h) f d) (sym differ) x
 
 -- ---- which command
 
@@ -37,10 +51,18 @@ shows (BySelection a before) h p f z = λ small is.
 
 pub no_debit : (e : Entry Event) (h : List Event) (p : List ℕ) → IsFresh e h p → (sub_blocks (take 1 (drop 1029 p)) (0x40 ∷ [])).z ≡ false → IsNoDebit e
 no_debit ByDelegation h p f z = tt
-no_debit (BySelection a before) h p f z = λ small is.
-    let same : take 1 (drop 1029 p) ≡ 0x40 ∷ [] = ap (λ (q : List ℕ). take 1 (drop 1029 q)) f.1 ∙ (ins_byte a small ∙ ap (λ (i : ℕ). i ∷ []) is) in
-    let set : (sub_blocks (take 1 (drop 1029 p)) (0x40 ∷ [])).z ≡ true = ap (λ (b : List ℕ). (sub_blocks b (0x40 ∷ [])).z) same in
-    absurd (cc (sym set ∙ z))
+no_debit (BySelection a before) h p f z = λ small. other_ins a 0x40 p f.1 small z
+
+one_by : (n : ℕ) → n < 256 → is_zero (bytes 1 (256 + num (n ∷ []) - 64)) ≡ true → n ≡ 64
+one_by n small z =
+    let none : num (bytes 1 (256 + num (n ∷ []) - 64)) ≡ 0 = eqb-true (num (bytes 1 (256 + num (n ∷ []) - 64))) 0 z in
+    omega (arith, none)
+
+pub is_debit : (e : Entry Event) (h : List Event) (p : List ℕ) → IsFresh e h p → (sub_blocks (take 1 (drop 1029 p)) (0x40 ∷ [])).z ≡ true → IsDebit e
+is_debit ByDelegation h p f z = tt
+is_debit (BySelection a before) h p f z = λ small byte.
+    let same : take 1 (drop 1029 p) ≡ a.ins ∷ [] = ap (λ (q : List ℕ). take 1 (drop 1029 q)) f.1 ∙ ins_byte a small in
+    one_by a.ins byte (sym (ap (λ (b : List ℕ). (sub_blocks b (0x40 ∷ [])).z) same) ∙ z)
 
 pub none_fresh : (e : Entry Event) (h : List Event) (p : List ℕ) → IsFresh e h p → MadeNone e h
 none_fresh ByDelegation h p f = tt
@@ -70,8 +92,43 @@ spent (suc (suc zero)) w some few = omega (arith, few)
 spent (suc (suc (suc zero))) w some few = omega (arith, few)
 spent (suc (suc (suc (suc t)))) w some few = absurd (omega (arith, few))
 
-pub kept_try : (h : List Event) (v : Cells) (t : ℕ) → PurseKept h (fixed_of v) → t + wrong_since h ≤ 3 → PurseKept h (fixed_of (record v { t = t }))
-kept_try h v t k few = record { size = refl; few = k.few; tries = few; pin = k.pin; balance = k.balance; number = k.number; sessions = k.sessions }
+pub spent_is : (t : ℕ) → t ≢ 0 → t ≤ 3 → suc (spent_try t) ≡ t
+spent_is zero some few = absurd (some refl)
+spent_is (suc zero) some few = refl
+spent_is (suc (suc zero)) some few = refl
+spent_is (suc (suc (suc zero))) some few = refl
+spent_is (suc (suc (suc (suc t)))) some few = absurd (omega (arith, few))
+
+-- so it is another number
+pub other_try : (t u : ℕ) → suc u ≡ t → (t == u) ≡ false
+other_try t u is = false_from_ne_true (t == u) (λ e. let same : t ≡ u = eqb-true t u e in omega (arith, same, is))
+
+pub other_than_three : (t : ℕ) → t < 3 → (t == 3) ≡ false
+other_than_three t low = false_from_ne_true (t == 3) (λ e. let same : t ≡ 3 = eqb-true t 3 e in omega (arith, same, low))
+
+pub kept_try : (h : List Event) (v : Cells) (t : ℕ) → PurseKept h (fixed_of v) → t + wrong_since h ≤ 3 → (suc t ≡ tries_left h) ⊎ ((t ≡ 3) × JustRight h)
+    → PurseKept (Tries t ∷ h) (fixed_of (record v { t = t }))
+kept_try h v t k few why =
+    record {
+      size = refl;
+      few = (omega (arith, few), k.few);
+      left = refl;
+      costs = (why, k.costs);
+      tries = few;
+      pin = k.pin;
+      balance = k.balance;
+      number = k.number;
+      ordered = k.ordered;
+      sessions = k.sessions;
+    }
+
+pub sits_tried : (e : Entry Event) (h : List Event) (t s : ℕ) → Sits e h (s ∷ []) → Sits e (Tries t ∷ h) (s ∷ [])
+sits_tried ByDelegation h t s x = tt
+sits_tried (BySelection a before) h t s x = x
+
+pub open_tried : (e : Entry Event) (h : List Event) (t : ℕ) → IsOpenIf e h → IsOpenIf e (Tries t ∷ h)
+open_tried ByDelegation h t x = tt
+open_tried (BySelection a before) h t x = x
 
 -- ---- a comparison
 
@@ -95,9 +152,35 @@ right_law p q x y hp hq hx hy = (
   λ e g. same_right x y p q e g,
 )
 
-pub kept_compared : (z q : Bool) (h : List Event) (v : Cells) → PurseKept h (fixed_of v) → v.t + suc (wrong_since h) ≤ 3 → PurseKept (comparison z q ∷ h) (fixed_of v)
-kept_compared true q h v k few = record { size = refl; few = (omega arith, k.few); tries = omega (arith, few); pin = k.pin; balance = k.balance; number = k.number; sessions = k.sessions }
-kept_compared false q h v k few = record { size = refl; few = (omega (arith, few), k.few); tries = few; pin = k.pin; balance = k.balance; number = k.number; sessions = k.sessions }
+pub kept_compared : (z q : Bool) (h : List Event) (v : Cells) → PurseKept h (fixed_of v) → IsSpent h v → PurseKept (comparison z q ∷ h) (fixed_of v)
+kept_compared true q h v k x =
+    let tries : v.t + suc (wrong_since h) ≤ 3 = x.room in
+    record {
+      size = refl;
+      few = (omega arith, k.few);
+      left = k.left;
+      costs = (x.took, k.costs);
+      tries = omega (arith, tries);
+      pin = k.pin;
+      balance = k.balance;
+      number = k.number;
+      ordered = k.ordered;
+      sessions = k.sessions;
+    }
+kept_compared false q h v k x =
+    let tries : v.t + suc (wrong_since h) ≤ 3 = x.room in
+    record {
+      size = refl;
+      few = (omega (arith, tries), k.few);
+      left = k.left;
+      costs = (x.took, k.costs);
+      tries = tries;
+      pin = k.pin;
+      balance = k.balance;
+      number = k.number;
+      ordered = k.ordered;
+      sessions = k.sessions;
+    }
 
 pub sits_compared : (e : Entry Event) (z : Bool) (h : List Event) (s : ℕ) → Sits e h (s ∷ []) → Sits e (comparison z (is_direct e) ∷ h) (s ∷ [])
 sits_compared ByDelegation z h s x = tt
@@ -105,18 +188,17 @@ sits_compared (BySelection a before) true h s (inl is) = inl is
 sits_compared (BySelection a before) true h s (inr is) = inr (is.0, refl)
 sits_compared (BySelection a before) false h s x = x
 
-pub right_compared : (e : Entry Event) (z : Bool) (h : List Event) → z ≡ true → IsRight e (comparison z (is_direct e) ∷ h)
-right_compared ByDelegation true h is = refl
-right_compared (BySelection a before) true h is = (refl, refl)
-right_compared e false h is = absurd (cc is)
+pub right_compared : (e : Entry Event) (z : Bool) (h : List Event) (v : Cells) → IsSpent h v → z ≡ true → IsRight e (comparison z (is_direct e) ∷ h) v
+right_compared ByDelegation true h v x is = let room : v.t + suc (wrong_since h) ≤ 3 = x.room in record { just = tt; none_wrong = refl; low = omega (arith, room); shown = tt }
+right_compared (BySelection a before) true h v x is = let room : v.t + suc (wrong_since h) ≤ 3 = x.room in record { just = tt; none_wrong = refl; low = omega (arith, room); shown = refl }
+right_compared e false h v x is = absurd (cc is)
 
-pub right_tries : (e : Entry Event) (h : List Event) → IsRight e h → 3 + wrong_since h ≤ 3
-right_tries ByDelegation h r = omega (arith, r)
-right_tries (BySelection a before) h r = let none : wrong_since h ≡ 0 = r.0 in omega arith
+pub right_tries : (h : List Event) → wrong_since h ≡ 0 → 3 + wrong_since h ≤ 3
+right_tries h none = omega (arith, none)
 
-pub sits_right : (e : Entry Event) (h : List Event) → IsRight e h → Sits e h (1 ∷ [])
-sits_right ByDelegation h r = tt
-sits_right (BySelection a before) h r = inr (refl, r.1)
+pub sits_right : (e : Entry Event) (h : List Event) → IsOpenIf e h → Sits e h (1 ∷ [])
+sits_right ByDelegation h x = tt
+sits_right (BySelection a before) h x = inr (refl, x)
 
 -- ---- a debit
 
@@ -149,7 +231,7 @@ pub paid : (e : Entry Event) (h : List Event) (p : List ℕ) (x y : ℕ) → Deb
 paid ByDelegation h p x y d = tt
 paid (BySelection a before) h p x y d = λ small ins.
     let amount : num (take 2 p) ≡ num a.body = ap num (d.amount ∙ sym (d.carries small)) in
-    (ap sw_of d.fresh.1 ∙ status_new a small, ap (λ (n : ℕ). Debited true n ∷ h) amount ∙ ap (λ (k : List Event). Debited true (num a.body) ∷ k) d.fresh.0)
+    (ap sw_of d.begun.fresh.1 ∙ status_new a small, ap (λ (n : ℕ). Debited true n ∷ h) amount ∙ ap (λ (k : List Event). Debited true (num a.body) ∷ k) d.begun.fresh.0)
 
 pub sits_paid : (e : Entry Event) (h : List Event) (q : Bool) (a s : ℕ) → Sits e h (s ∷ []) → Sits e (Debited q a ∷ h) (s ∷ [])
 sits_paid ByDelegation h q a s x = tt
@@ -181,8 +263,9 @@ money_moves h v x y k =
     false_from_ne_true (bytes_eq (v.b0 ∷ v.b1 ∷ v.c0 ∷ v.c1 ∷ []) (take 2 (paid_cells v x y) ++ drop 5 (paid_cells v x y)))
     (λ e. more_differs c small (sym (ap (λ (l : List ℕ). num (drop 2 l)) (same_name (v.b0 ∷ v.b1 ∷ v.c0 ∷ v.c1 ∷ []) (take 2 (paid_cells v x y) ++ drop 5 (paid_cells v x y)) e))))
 
-paid_direct : (h : List Event) (v : Cells) (x y : ℕ) → PurseKept h (fixed_of v) → is_shown h ≡ true → num (x ∷ y ∷ []) ≤ balance_of v → PurseKept (Debited true (num (x ∷ y ∷ [])) ∷ h) (paid_cells v x y)
-paid_direct h v x y k shown low =
+paid_direct : (h : List Event) (v : Cells) (x y : ℕ) → PurseKept h (fixed_of v) → is_shown h ≡ true → JustOrdered (num (x ∷ y ∷ [])) h → num (x ∷ y ∷ []) ≤ balance_of v
+    → PurseKept (Debited true (num (x ∷ y ∷ [])) ∷ h) (paid_cells v x y)
+paid_direct h v x y k shown ordered low =
     let b : ℕ = balance_of v in
     let a : ℕ = num (x ∷ y ∷ []) in
     let sum : b + sum_of_debits h ≡ 1000 = k.balance in
@@ -191,18 +274,28 @@ paid_direct h v x y k shown low =
     record {
       size = refl;
       few = (omega (arith, k.tries), k.few);
+      left = k.left;
+      costs = k.costs;
       tries = k.tries;
       pin = k.pin;
       balance = omega (arith, rest, sum);
       number = more_is (num (v.c0 ∷ v.c1 ∷ [])) (number_of_debits h) k.number;
+      ordered = (ordered, k.ordered);
       sessions = (refl, shown, k.sessions);
     }
+
+-- the command orders the debit that is made
+just_ordered : (a : ApduParts) (before h : List Event) (p : List ℕ) (x y : ℕ) → Debits (BySelection a before) h p x y → JustOrdered (num (x ∷ y ∷ [])) h
+just_ordered a before h p x y d =
+    subst (JustOrdered (num (x ∷ y ∷ []))) (sym d.begun.fresh.0)
+    (λ small byte. record { is_debit = d.begun.debit small byte; has_two = ap length (d.carries small); pays = ap num (d.carries small) })
 
 pub kept_paid : (e : Entry Event) (h : List Event) (p : List ℕ) (v : Cells) (x y : ℕ) → PurseKept h (fixed_of v) → Debits e h p x y → num (x ∷ y ∷ []) ≤ balance_of v
     → PurseKept (Debited (is_direct e) (num (take 2 p)) ∷ h) (paid_cells v x y)
 kept_paid ByDelegation h p v x y k d low = absurd d.open_session
 kept_paid (BySelection a before) h p v x y k d low =
-    subst (λ (l : List ℕ). PurseKept (Debited true (num l) ∷ h) (paid_cells v x y)) (sym d.amount) (paid_direct h v x y k d.open_session low)
+    subst (λ (l : List ℕ). PurseKept (Debited true (num l) ∷ h) (paid_cells v x y)) (sym d.amount)
+    (paid_direct h v x y k d.open_session (just_ordered a before h p x y d) low)
 
 -- ---- exits
 

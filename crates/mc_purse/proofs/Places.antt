@@ -1,11 +1,11 @@
 -- What holds before the instruction at each place of the purse, and its proof outline.
-use Rattle.std.proofs.Common.{◌≡◌, ℕ, suc, ◌+◌, ◌-◌, ◌%◌, ◌≤◌, Bool, true, false, List, [], ◌∷◌, length, take, drop}
+use Rattle.std.proofs.Common.{◌≡◌, ℕ, suc, ◌+◌, ◌-◌, ◌%◌, ◌<◌, ◌≤◌, Bool, true, false, List, [], ◌∷◌, length, take, drop}
 use Rattle.std.specs.Prelude.{⊤, ◌≢◌, ◌⊎◌, slice_index}
 use Rattle.mc_model_device.specs.Bytes.{bytes, num}
 use Rattle.mc_model_machine.specs.Frame.{Frame, new_public, session_of, sw_of}
 use Rattle.mc_promise.specs.Outline.{Entry, BySelection, ByDelegation, Outline}
-use Rattle.mc_purse.specs.Purse.{Event, Debited, purse_name, purse_app, purse_watch}
-use Rattle.mc_purse.specs.Laws.{wrong_since, AtMostThree, sum_of_debits, number_of_debits, is_shown, KeepsSessions, AnswersDebit}
+use Rattle.mc_purse.specs.Purse.{Event, Commanded, Debited, purse_name, purse_app, purse_watch}
+use Rattle.mc_purse.specs.Laws.{wrong_since, AtMostThree, tries_left, JustTook, JustRight, EachCostsATry, sum_of_debits, number_of_debits, EachIsOrdered, is_shown, KeepsSessions, AnswersDebit}
 
 -- ---- what keeps and what holds
 
@@ -13,10 +13,13 @@ use Rattle.mc_purse.specs.Laws.{wrong_since, AtMostThree, sum_of_debits, number_
 pub record PurseKept (h : List Event) (fixed : List ℕ) : Type 0 where
   pub size : length fixed ≡ 7
   pub few : AtMostThree h
+  pub left : slice_index fixed 2 ≡ tries_left h
+  pub costs : EachCostsATry h
   pub tries : slice_index fixed 2 + wrong_since h ≤ 3
   pub pin : take 2 (drop 3 fixed) ≡ 0x12 ∷ 0x34 ∷ []
   pub balance : num (take 2 fixed) + sum_of_debits h ≡ 1000
   pub number : num (take 2 (drop 5 fixed)) ≡ number_of_debits h % 65536
+  pub ordered : EachIsOrdered h
   pub sessions : KeepsSessions h
 
 -- the session byte is 0, or it is 1 and the PIN was shown
@@ -74,9 +77,9 @@ one_more v = bytes 2 (num (v.c0 ∷ v.c1 ∷ []) + 1)
 
 -- ---- facts
 
--- nothing was counted yet, and the public segment is the command's, where the selection began the frame
+-- only the command was counted yet, and the public segment is the command's, if the selection began the frame
 abbrev pub IsFresh : Entry Event → List Event → List ℕ → Type 0
-IsFresh (BySelection a before) h p = (h ≡ before) × (p ≡ new_public a)
+IsFresh (BySelection a before) h p = (h ≡ Commanded a.ins a.body ∷ before) × (p ≡ new_public a)
 IsFresh ByDelegation h p = ⊤
 
 -- a delegation began with a session byte of 0
@@ -94,20 +97,42 @@ abbrev pub IsNoDebit : Entry Event → Type 0
 IsNoDebit (BySelection a before) = length a.body ≤ 1024 → a.ins ≢ 0x40
 IsNoDebit ByDelegation = ⊤
 
+-- the command is a debit
+abbrev pub IsDebit : Entry Event → Type 0
+IsDebit (BySelection a before) = length a.body ≤ 1024 → a.ins < 256 → a.ins ≡ 0x40
+IsDebit ByDelegation = ⊤
+
+-- a debit of which only the command was counted yet
+pub record IsBegun (e : Entry Event) (h : List Event) (p : List ℕ) : Type 0 where
+  pub fresh : IsFresh e h p
+  pub debit : IsDebit e
+
 -- the command made no debit
 abbrev pub MadeNone : Entry Event → List Event → Type 0
-MadeNone (BySelection a before) h = length a.body ≤ 1024 → a.ins ≡ 0x40 → h ≡ before
+MadeNone (BySelection a before) h = length a.body ≤ 1024 → a.ins ≡ 0x40 → h ≡ Commanded a.ins a.body ∷ before
 MadeNone ByDelegation h = ⊤
 
 -- the debit was made, if the command is one, and the status is 9000
 abbrev pub IsPaid : Entry Event → List Event → List ℕ → Type 0
-IsPaid (BySelection a before) h p = length a.body ≤ 1024 → a.ins ≡ 0x40 → (sw_of p ≡ 0x9000) × (h ≡ Debited true (num a.body) ∷ before)
+IsPaid (BySelection a before) h p = length a.body ≤ 1024 → a.ins ≡ 0x40 → (sw_of p ≡ 0x9000) × (h ≡ Debited true (num a.body) ∷ Commanded a.ins a.body ∷ before)
 IsPaid ByDelegation h p = ⊤
 
--- the PIN was just shown
-abbrev pub IsRight : Entry Event → List Event → Type 0
-IsRight (BySelection a before) h = (wrong_since h ≡ 0) × (is_shown h ≡ true)
-IsRight ByDelegation h = wrong_since h ≡ 0
+-- a try was just taken, and one wrong comparison more is within the bound
+pub record IsSpent (h : List Event) (v : Cells) : Type 0 where
+  pub took : JustTook h
+  pub room : v.t + suc (wrong_since h) ≤ 3
+
+-- the PIN was shown in this session, if the selection began the frame
+abbrev pub IsOpenIf : Entry Event → List Event → Type 0
+IsOpenIf (BySelection a before) h = is_shown h ≡ true
+IsOpenIf ByDelegation h = ⊤
+
+-- the PIN was just compared, and was right, at the cost of a try
+pub record IsRight (e : Entry Event) (h : List Event) (v : Cells) : Type 0 where
+  pub just : JustRight h
+  pub none_wrong : wrong_since h ≡ 0
+  pub low : v.t < 3
+  pub shown : IsOpenIf e h
 
 -- the PIN was shown in this session; no delegation comes here
 abbrev pub IsOpen : Entry Event → List Event → Type 0
@@ -126,7 +151,7 @@ Carries ByDelegation x y = ⊤
 
 -- a debit of the amount that the public segment has in front
 pub record Debits (e : Entry Event) (h : List Event) (p : List ℕ) (x y : ℕ) : Type 0 where
-  pub fresh : IsFresh e h p
+  pub begun : IsBegun e h p
   pub open_session : IsOpen e h
   pub carries : Carries e x y
   pub amount : take 2 p ≡ x ∷ y ∷ []
@@ -138,7 +163,7 @@ pub data PurseAt (e : Entry Event) (h : List Event) (p : List ℕ) : Frame → T
   at0 : (v : Cells) (s : ℕ) (dyn : List ℕ) → IsFresh e h p → IsZeroed e s → PurseAt e h p (frame_at 0 v (s ∷ dyn) 0x8001 false false)
   at4 : (v : Cells) (s : ℕ) (dyn : List ℕ) (c z : Bool) → IsFresh e h p → IsZeroed e s → (z ≡ true → IsNoDebit e) → PurseAt e h p (frame_at 4 v (s ∷ dyn) 0x8001 c z)
   at7 : (v : Cells) (s : ℕ) (dyn : List ℕ) (c z : Bool) → IsFresh e h p → IsZeroed e s → PurseAt e h p (frame_at 7 v (s ∷ dyn) 0x8001 c z)
-  at11 : (v : Cells) (s : ℕ) (dyn : List ℕ) (c z : Bool) → IsFresh e h p → IsZeroed e s → (z ≡ false → IsNoDebit e) → PurseAt e h p (frame_at 11 v (s ∷ dyn) 0x8001 c z)
+  at11 : (v : Cells) (s : ℕ) (dyn : List ℕ) (c z : Bool) → IsFresh e h p → IsZeroed e s → (z ≡ false → IsNoDebit e) → (z ≡ true → IsDebit e) → PurseAt e h p (frame_at 11 v (s ∷ dyn) 0x8001 c z)
   at14 : (v : Cells) (s : ℕ) (dyn : List ℕ) (c z : Bool) → IsNoDebit e → PurseAt e h p (frame_at 14 v (s ∷ dyn) 0x8001 c z)
   at18 : (v : Cells) (s : ℕ) (dyn : List ℕ) (c z : Bool) → IsNoDebit e → PurseAt e h p (frame_at 18 v (s ∷ dyn) 0x8001 c z)
   at21 : (v : Cells) (s : ℕ) (dyn : List ℕ) (c z : Bool) → IsNoDebit e → PurseAt e h p (frame_at 21 v (s ∷ dyn) 0x8001 c z)
@@ -152,19 +177,19 @@ pub data PurseAt (e : Entry Event) (h : List Event) (p : List ℕ) : Frame → T
   at43 : (v : Cells) (s : ℕ) (dyn : List ℕ) (c z : Bool) → IsNoDebit e → PurseAt e h p (frame_at 43 v (s ∷ dyn) 0x8001 c z)
   at47 : (v : Cells) (s : ℕ) (dyn : List ℕ) (c z : Bool) → IsNoDebit e → (z ≡ false → v.t ≢ 0) → PurseAt e h p (frame_at 47 v (s ∷ dyn) 0x8001 c z)
   at50 : (v : Cells) (s : ℕ) (dyn : List ℕ) (c z : Bool) → IsNoDebit e → v.t ≢ 0 → PurseAt e h p (frame_at 50 v (s ∷ dyn) 0x8001 c z)
-  at54 : (v : Cells) (s : ℕ) (dyn : List ℕ) (c z : Bool) → IsNoDebit e → v.t + suc (wrong_since h) ≤ 3 → PurseAt e h p (frame_at 54 v (s ∷ dyn) 0x8001 c z)
-  at58 : (v : Cells) (s x y : ℕ) (dyn : List ℕ) (c z : Bool) → IsNoDebit e → v.t + suc (wrong_since h) ≤ 3 → PurseAt e h p (frame_at 58 v (s ∷ x ∷ y ∷ dyn) 0x8003 c z)
-  at62 : (v : Cells) (s : ℕ) (dyn : List ℕ) (c z : Bool) → IsNoDebit e → (z ≡ true → IsRight e h) → PurseAt e h p (frame_at 62 v (s ∷ dyn) 0x8003 c z)
-  at64 : (v : Cells) (s : ℕ) (dyn : List ℕ) (c z : Bool) → IsNoDebit e → (z ≡ true → IsRight e h) → PurseAt e h p (frame_at 64 v (s ∷ dyn) 0x8001 c z)
-  at67 : (v : Cells) (s : ℕ) (dyn : List ℕ) (c z : Bool) → IsNoDebit e → IsRight e h → PurseAt e h p (frame_at 67 v (s ∷ dyn) 0x8001 c z)
-  at71 : (v : Cells) (s : ℕ) (dyn : List ℕ) (c z : Bool) → IsNoDebit e → IsRight e h → PurseAt e h p (frame_at 71 v (s ∷ dyn) 0x8001 c z)
+  at54 : (v : Cells) (s : ℕ) (dyn : List ℕ) (c z : Bool) → IsNoDebit e → IsSpent h v → PurseAt e h p (frame_at 54 v (s ∷ dyn) 0x8001 c z)
+  at58 : (v : Cells) (s x y : ℕ) (dyn : List ℕ) (c z : Bool) → IsNoDebit e → IsSpent h v → PurseAt e h p (frame_at 58 v (s ∷ x ∷ y ∷ dyn) 0x8003 c z)
+  at62 : (v : Cells) (s : ℕ) (dyn : List ℕ) (c z : Bool) → IsNoDebit e → (z ≡ true → IsRight e h v) → PurseAt e h p (frame_at 62 v (s ∷ dyn) 0x8003 c z)
+  at64 : (v : Cells) (s : ℕ) (dyn : List ℕ) (c z : Bool) → IsNoDebit e → (z ≡ true → IsRight e h v) → PurseAt e h p (frame_at 64 v (s ∷ dyn) 0x8001 c z)
+  at67 : (v : Cells) (s : ℕ) (dyn : List ℕ) (c z : Bool) → IsNoDebit e → IsRight e h v → PurseAt e h p (frame_at 67 v (s ∷ dyn) 0x8001 c z)
+  at71 : (v : Cells) (s : ℕ) (dyn : List ℕ) (c z : Bool) → IsNoDebit e → IsOpenIf e h → PurseAt e h p (frame_at 71 v (s ∷ dyn) 0x8001 c z)
   at75 : (v : Cells) (s : ℕ) (dyn : List ℕ) (c z : Bool) → IsNoDebit e → PurseAt e h p (frame_at 75 v (s ∷ dyn) 0x8001 c z)
   -- debit
-  at76 : (v : Cells) (s : ℕ) (dyn : List ℕ) (c z : Bool) → IsFresh e h p → IsZeroed e s → PurseAt e h p (frame_at 76 v (s ∷ dyn) 0x8001 c z)
-  at80 : (v : Cells) (s : ℕ) (dyn : List ℕ) (c z : Bool) → IsFresh e h p → (z ≡ true → IsOpen e h) → PurseAt e h p (frame_at 80 v (s ∷ dyn) 0x8001 c z)
-  at83 : (v : Cells) (s : ℕ) (dyn : List ℕ) (c z : Bool) → IsFresh e h p → IsOpen e h → PurseAt e h p (frame_at 83 v (s ∷ dyn) 0x8001 c z)
-  at88 : (v : Cells) (s : ℕ) (dyn : List ℕ) (c z : Bool) → IsFresh e h p → IsOpen e h → (z ≡ true → HasTwo e) → PurseAt e h p (frame_at 88 v (s ∷ dyn) 0x8001 c z)
-  at91 : (v : Cells) (s : ℕ) (dyn : List ℕ) (c z : Bool) → IsFresh e h p → IsOpen e h → HasTwo e → PurseAt e h p (frame_at 91 v (s ∷ dyn) 0x8001 c z)
+  at76 : (v : Cells) (s : ℕ) (dyn : List ℕ) (c z : Bool) → IsBegun e h p → IsZeroed e s → PurseAt e h p (frame_at 76 v (s ∷ dyn) 0x8001 c z)
+  at80 : (v : Cells) (s : ℕ) (dyn : List ℕ) (c z : Bool) → IsBegun e h p → (z ≡ true → IsOpen e h) → PurseAt e h p (frame_at 80 v (s ∷ dyn) 0x8001 c z)
+  at83 : (v : Cells) (s : ℕ) (dyn : List ℕ) (c z : Bool) → IsBegun e h p → IsOpen e h → PurseAt e h p (frame_at 83 v (s ∷ dyn) 0x8001 c z)
+  at88 : (v : Cells) (s : ℕ) (dyn : List ℕ) (c z : Bool) → IsBegun e h p → IsOpen e h → (z ≡ true → HasTwo e) → PurseAt e h p (frame_at 88 v (s ∷ dyn) 0x8001 c z)
+  at91 : (v : Cells) (s : ℕ) (dyn : List ℕ) (c z : Bool) → IsBegun e h p → IsOpen e h → HasTwo e → PurseAt e h p (frame_at 91 v (s ∷ dyn) 0x8001 c z)
   at95 : (v : Cells) (s x y : ℕ) (dyn : List ℕ) (c z : Bool) → Debits e h p x y → PurseAt e h p (frame_at 95 v (s ∷ x ∷ y ∷ dyn) 0x8003 c z)
   at99 : (v : Cells) (s x y : ℕ) (dyn : List ℕ) (c z : Bool) → Debits e h p x y → (c ≡ false → num (x ∷ y ∷ []) ≤ balance_of v) → PurseAt e h p (frame_at 99 v (s ∷ x ∷ y ∷ dyn) 0x8003 c z)
   at102 : (v : Cells) (s x y : ℕ) (dyn : List ℕ) (c z : Bool) → Debits e h p x y → num (x ∷ y ∷ []) ≤ balance_of v → PurseAt e h p (frame_at 102 v (s ∷ x ∷ y ∷ dyn) 0x8003 c z)

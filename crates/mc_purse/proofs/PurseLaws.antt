@@ -5,7 +5,7 @@ use Rattle.mc_promise.specs.Kept.{LineKept}
 use Rattle.mc_promise.proofs.Lines.{kept_along}
 use Rattle.mc_promise.proofs.FromOutline.{along_from, fixed_from}
 use Rattle.mc_purse.specs.Purse.{Event, purse_watch, purse_app}
-use Rattle.mc_purse.specs.Laws.{KeepsGuesses, KeepsBalance, KeepsSessions, InEveryPlay, SaysGuesses, SaysBooks, SaysSessions, GuessesLaw, BooksLaw, SessionsLaw}
+use Rattle.mc_purse.specs.Laws.{KeepsGuesses, KeepsBooks, KeepsSessions, InEveryPlay, SaysGuesses, SaysBooks, SaysSessions, GuessesLaw, BooksLaw, SessionsLaw}
 use Rattle.mc_purse.proofs.Places.{purse_outline}
 use Rattle.mc_purse.proofs.PurseOutline.{purse_shown}
 
@@ -15,10 +15,10 @@ from_outline says f ls m ws =
     along_from purse_watch purse_app (LineKept purse_outline) says f [] (plays (start m) ls ws) (kept_along purse_outline purse_shown ls m ws)
 
 guesses : (h : List Event) (t : Step) (k : List Event) → LineKept purse_outline h t k → SaysGuesses h t k
-guesses h t k x = fixed_from purse_outline k (KeepsGuesses k) t.after (λ fixed kept. record { few = kept.few; tries = kept.tries; pin = kept.pin }) x.0
+guesses h t k x = fixed_from purse_outline k (KeepsGuesses k) t.after (λ fixed kept. record { few = kept.few; left = kept.left; costs = kept.costs; tries = kept.tries; pin = kept.pin }) x.0
 
 books : (h : List Event) (t : Step) (k : List Event) → LineKept purse_outline h t k → SaysBooks h t k
-books h t k x = (fixed_from purse_outline k (KeepsBalance k) t.after (λ fixed kept. record { balance = kept.balance; number = kept.number }) x.0, x.1)
+books h t k x = (fixed_from purse_outline k (KeepsBooks k) t.after (λ fixed kept. record { balance = kept.balance; number = kept.number; ordered = kept.ordered }) x.0, x.1)
 
 sessions : (h : List Event) (t : Step) (k : List Event) → LineKept purse_outline h t k → SaysSessions h t k
 sessions h t k x = fixed_from purse_outline k (λ fixed. KeepsSessions k) t.after (λ fixed kept. kept.sessions) x.0

@@ -1,11 +1,11 @@
 -- The three promises as tests, and decks of the purse and of wrong purses, whose plays are computed.
-use Rattle.std.specs.Prelude.{ℕ, ◌+◌, ◌%◌, Bool, true, ◌&&◌, nat_le, ◌==◌, List, [], ◌∷◌, ◌++◌, take, drop, slice_index, codes, Result, Ok, Err}
+use Rattle.std.specs.Prelude.{ℕ, ◌+◌, ◌%◌, Bool, true, false, ◌&&◌, ◌||◌, nat_le, ◌==◌, List, [], ◌∷◌, ◌++◌, length, take, drop, slice_index, codes, Result, Ok, Err}
 use Rattle.mc_model_device.specs.Bytes.{num}
 use Rattle.mc_model_machine.specs.declared.assembler.AsmCause.{AsmCause}
 use Rattle.mc_model_machine.specs.Assembly.{assembly_of}
 use Rattle.mc_model_device.specs.Card.{App}
-use Rattle.mc_purse.specs.Purse.{Event, Right, Wrong, Debited, Selected, Ended, purse_app, purse_text}
-use Rattle.mc_purse.specs.Laws.{wrong_since, sum_of_debits, number_of_debits, is_shown}
+use Rattle.mc_purse.specs.Purse.{Event, Commanded, Right, Wrong, Tries, Debited, purse_app, purse_text}
+use Rattle.mc_purse.specs.Laws.{wrong_since, tries_left, sum_of_debits, number_of_debits, is_shown}
 
 -- ---- the promises as tests
 
@@ -18,6 +18,35 @@ is_at_most_three (e ∷ h) = nat_le (wrong_since (e ∷ h)) 3 && is_at_most_thre
 abbrev pub keeps_guesses : List Event → List ℕ → Bool
 keeps_guesses h fixed = is_at_most_three h && nat_le (slice_index fixed 2 + wrong_since h) 3
 
+-- a try was just taken
+abbrev pub takes_a_try : List Event → Bool
+takes_a_try (Tries left ∷ h) = left + 1 == tries_left h
+takes_a_try _ = false
+
+-- the PIN was just compared, and was right
+abbrev pub is_just_right : List Event → Bool
+is_just_right (Right direct ∷ h) = true
+is_just_right _ = false
+
+-- each comparison costs a try
+abbrev pub costs_tries : List Event → Bool
+costs_tries [] = true
+costs_tries (Right direct ∷ h) = takes_a_try h && costs_tries h
+costs_tries (Wrong ∷ h) = takes_a_try h && costs_tries h
+costs_tries (Tries left ∷ h) = (left + 1 == tries_left h || left == 3 && is_just_right h) && costs_tries h
+costs_tries (_ ∷ h) = costs_tries h
+
+-- the newest event is a command that orders a debit of this amount
+abbrev pub is_just_ordered : ℕ → List Event → Bool
+is_just_ordered amount (Commanded ins body ∷ h) = ins == 0x40 && length body == 2 && num body == amount
+is_just_ordered amount _ = false
+
+-- each debit is the one that its command orders
+abbrev pub are_ordered : List Event → Bool
+are_ordered [] = true
+are_ordered (Debited direct amount ∷ h) = is_just_ordered amount h && are_ordered h
+are_ordered (_ ∷ h) = are_ordered h
+
 -- the promise on balance and number
 abbrev pub keeps_balance : List Event → List ℕ → Bool
 keeps_balance h fixed = num (take 2 fixed) + sum_of_debits h == 1000 && num (take 2 (drop 5 fixed)) == number_of_debits h % 65536
@@ -25,11 +54,8 @@ keeps_balance h fixed = num (take 2 fixed) + sum_of_debits h == 1000 && num (tak
 -- the promise on sessions
 abbrev pub keeps_sessions : List Event → Bool
 keeps_sessions [] = true
-keeps_sessions (Right direct ∷ h) = keeps_sessions h
-keeps_sessions (Wrong ∷ h) = keeps_sessions h
 keeps_sessions (Debited direct amount ∷ h) = direct && is_shown h && keeps_sessions h
-keeps_sessions (Selected ∷ h) = keeps_sessions h
-keeps_sessions (Ended ∷ h) = keeps_sessions h
+keeps_sessions (_ ∷ h) = keeps_sessions h
 
 -- ---- decks
 
@@ -80,8 +106,8 @@ early_session =
     ++ codes "show: TESTN SB[2],1\n JUMP EQ,denied\n DECN SB[2],1\n SETB DB[0],1\n LOAD PB[0],2\n CMPN SB[3],2\n POPN 2\n JUMP NE,denied\n SETB SB[2],3\n EXIT\n"
     ++ debit_text
 
--- The amount is read again after the comparison, over a delegation: what is called may change the public segment. Its name
--- follows the seven static bytes.
+-- The amount is read again after the comparison, over a delegation: what is called may change the public segment. Its
+-- name follows the seven static bytes.
 abbrev pub reads_again : List ℕ
 reads_again =
     head_text ++ show_text

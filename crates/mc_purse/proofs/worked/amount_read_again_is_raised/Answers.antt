@@ -5,4 +5,4 @@ use Rattle.mc_purse.proofs.worked.amount_read_again_is_raised.Goals as goal
 
 pub returns : goal.returns
 unfolding broken_at
-returns c = record { at = refl; law = reads_again_broken }
+returns c = record { at = refl; ordered = refl; law = reads_again_broken }

@@ -5,4 +5,4 @@ use Rattle.mc_purse.proofs.worked.early_reset_is_guessed.Goals as goal
 
 pub returns : goal.returns
 unfolding broken_at
-returns c = record { at = refl; law = early_reset_broken }
+returns c = record { at = refl; costs = refl; law = early_reset_broken }

@@ -5,4 +5,4 @@ use Rattle.mc_purse.proofs.worked.late_try_is_guessed.Goals as goal
 
 pub returns : goal.returns
 unfolding broken_at
-returns c = record { at = refl; law = late_try_broken }
+returns c = record { at = refl; costs = refl; law = late_try_broken }
