@@ -248,7 +248,8 @@ fn addressed(operands: &[&[u8]]) -> Result<Ins, AsmCause>
 
 // An address, or none for the top of the stack, and a byte.
 fn addressed_byte(name: AddressedByteWord, operands: &[&[u8]]) -> Result<Ins, AsmCause>
-    ensures value { ok_as (λ i. Plain i) result ≡ item_of_word (AddressedByte (addressed_byte name)) (texts operands.now) }
+    ensures value { ok_as (λ i. Plain i) result ≡ item_of_word (AddressedByte (addressed_byte name))
+        (texts operands.now) }
     ensures shaped { IfOk result Shaped }
 {
     match operands {
@@ -263,7 +264,8 @@ fn addressed_byte(name: AddressedByteWord, operands: &[&[u8]]) -> Result<Ins, As
 
 // An address, or none for the top of the stack, and a word.
 fn addressed_word(name: AddressedWordWord, operands: &[&[u8]]) -> Result<Ins, AsmCause>
-    ensures value { ok_as (λ i. Plain i) result ≡ item_of_word (AddressedWord (addressed_word name)) (texts operands.now) }
+    ensures value { ok_as (λ i. Plain i) result ≡ item_of_word (AddressedWord (addressed_word name))
+        (texts operands.now) }
     ensures shaped { IfOk result Shaped }
 {
     match operands {

@@ -3,7 +3,7 @@ ghost use Rattle.std.specs.Prelude.{◌≡◌, ◌+◌, ◌≤◌, ℕ, List, []
 ghost use Rattle.mc_model_device.specs.Limits.{most_code};
 ghost use Rattle.mc_model_device.specs.Bytes.{lookup};
 ghost use Rattle.mc_model_machine.specs.Text.{ok_as, only_if};
-ghost use Rattle.mc_model_machine.specs.Assembly.{is_new, line_laid, size, with_label};
+ghost use Rattle.mc_model_machine.specs.Assembly.{is_new, line_laid, line_read, size, with_label};
 ghost use Rattle.mc_model_machine.specs.declared.assembler.AsmCause.TheVariants.{TooLong};
 ghost use Rattle.mc_asm.specs.Items.{item_of, Ready};
 ghost use Rattle.mc_asm.specs.declared.refusal.AsmRefusal.TheVariants.{NoMemory};
@@ -70,6 +70,19 @@ fn size(item: &Item<'_>) -> u16
         Item::ToPlace(..) => 3,
         Item::ToDistance(..) => 2,
     }
+}
+
+/// Returns the number of bytes of a line's code, 0 to 6.
+///
+/// # Errors
+///
+/// Returns the cause why the line is refused by itself, whatever labels there are.
+pub fn size_of_line(line: &[u8]) -> Result<u16, AsmCause>
+    ensures value { result ≡ ok_as (λ l. size l.item) (line_read line.now) }
+    ensures bound { IfOk result (λ n. n ≤ 6) }
+{
+    let read = read_line(line)?;
+    Ok(size(&read.item))
 }
 
 /// Returns the place after an item at a place.

@@ -14,8 +14,11 @@ mod refusal;
 mod words;
 
 pub use coding::{assemble, assemble_lines};
+pub use labels::size_of_line;
 pub use laws::a_listing_is_assembled;
 pub use line::NumberedLine;
 pub use listing::list;
 pub use mc_model_machine::{AsmCause, DecodeFault};
+pub use number::natural;
+pub use operand::is_label;
 pub use refusal::{AsmRefusal, ListRefusal};

@@ -22,8 +22,9 @@ fn hex_number(digits: &[u8]) -> Option<u32>
     Some(number)
 }
 
-// A number without a sign.
-fn natural(text: &[u8]) -> Option<u64>
+/// Returns the number of a text without a sign, which is decimal digits, or `0x` and 1 to 4 hexadecimal ones;
+/// 4,294,967,296 if it is greater. Returns `None` if the text has neither form.
+pub fn natural(text: &[u8]) -> Option<u64>
     ensures { result ≡ option_map capped_number (natural text.now) }
 {
     match text {

@@ -1,4 +1,4 @@
-use crate::line::{Line, OwnedLine, lent_line};
+use crate::line::{Line, OwnedLine, borrowed_line};
 use crate::unit::OwnedUnit;
 use std::marker::Model;
 
@@ -48,6 +48,6 @@ impl Deck {
         ensures deck { AreDeck self.now }
     {
         let (number, line) = &self.lines[i];
-        (*number, lent_line(self.units.as_slice(), line))
+        (*number, borrowed_line(self.units.as_slice(), line))
     }
 }

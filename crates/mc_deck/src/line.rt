@@ -4,7 +4,7 @@ ghost use Rattle.mc_unit.specs.Parts.{parts_of};
 ghost use Rattle.mc_deck.specs.Lines.{line_of, grammar_line, unit_at, UnitWithin};
 
 use crate::bytes::{Bytes, ShortBytes};
-use crate::unit::{OwnedUnit, lent};
+use crate::unit::{OwnedUnit, keeps_device};
 use mc_base::{Aid, Word};
 use mc_unit::Unit;
 
@@ -66,16 +66,16 @@ pub enum OwnedLine {
 }
 
 // Borrows the unit at a place.
-fn lent_unit(units: &[OwnedUnit], place: usize) -> Unit<'_>
+fn borrowed_unit(units: &[OwnedUnit], place: usize) -> Unit<'_>
     requires { place < length units.now }
     ensures { parts_of result ≡ unit_at units.now place }
 {
-    lent(&units[place])
+    keeps_device(&units[place])
 }
 
 /// Borrows the line.
 #[inline(always)]
-pub fn lent_line<'a>(units: &'a [OwnedUnit], line: &'a OwnedLine) -> Line<'a>
+pub fn borrowed_line<'a>(units: &'a [OwnedUnit], line: &'a OwnedLine) -> Line<'a>
     requires { UnitWithin (length units.now) line.now }
     ensures { line_of result ≡ grammar_line units.now line.now }
 {
@@ -88,7 +88,7 @@ pub fn lent_line<'a>(units: &'a [OwnedUnit], line: &'a OwnedLine) -> Line<'a>
             fixed,
             session,
         } => Line::Load {
-            unit: lent_unit(units, *unit),
+            unit: borrowed_unit(units, *unit),
             fixed: *fixed,
             session: *session,
         },

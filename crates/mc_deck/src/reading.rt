@@ -91,7 +91,8 @@ fn statement_of<'a>(
     requires { AllByRecursion (λ t. 0 < length t.now) fields.now }
     ensures value { (c : Context) → InContext names.now powered c
         → MatchResult result
-        (λ o. line_stated c number (texts fields.now) ≡ Ok (option_map (grammar_statement names.now.units.items c number) o))
+        (λ o. line_stated c number (texts fields.now)
+        ≡ Ok (option_map (grammar_statement names.now.units.items c number) o))
         (λ e. DeckRefuses (line_stated c number (texts fields.now)) e) }
     ensures fits { (c : Context) → InContext names.now powered c
         → IfOk result (λ o. MatchOption o ⊤ (StatementFits (length names.now.units.items) powered)) }
@@ -113,7 +114,8 @@ fn read_line<'a>(
 ) -> Result<Option<Statement<'a>>, DeckRefusal>
     ensures value { (c : Context) → InContext names.now powered c
         → MatchResult result
-        (λ o. line_stated c number (fields text.now) ≡ Ok (option_map (grammar_statement names.now.units.items c number) o))
+        (λ o. line_stated c number (fields text.now)
+        ≡ Ok (option_map (grammar_statement names.now.units.items c number) o))
         (λ e. DeckRefuses (line_stated c number (fields text.now)) e) }
     ensures fits { (c : Context) → InContext names.now powered c
         → IfOk result (λ o. MatchOption o ⊤ (StatementFits (length names.now.units.items) powered)) }
@@ -292,8 +294,9 @@ fn deck_of(reader: Reader<'_>) -> Deck
 }
 
 /// Reads a deck: statements line by line, as `format`, `power`, `unit NAME HEX`, `app NAME AID` with the lines of its
-/// assembly text up to `end`, `load NAME STATIC SESSION`, `select AID`, `apdu HEX` and others. A line ends with a line feed,
-/// which the last may lack; an empty line and one that begins with `#` are skipped. The grammar is this project's own.
+/// assembly text up to `end`, `load NAME STATIC SESSION`, `select AID`, `apdu HEX` and others. A line ends with a line
+/// feed, which the last may lack; an empty line and one that begins with `#` are skipped. The grammar is this project's
+/// own.
 ///
 /// # Errors
 ///

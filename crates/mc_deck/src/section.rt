@@ -57,9 +57,9 @@ pub fn ends_section(line: &[u8]) -> bool
     is_end(fields(line).as_slice())
 }
 
-// Returns whether a line of a section is a DATA line.
+/// Returns whether a line of a section is a DATA line.
 #[tactic(auto, using(crate::proofs::SectionLemmas::data_five))]
-fn has_data(line: &[u8]) -> bool
+pub fn has_data(line: &[u8]) -> bool
     ensures { result ≡ is_data (fields line.now) }
 {
     is_data(fields(line).as_slice())

@@ -138,7 +138,8 @@ fn unit_line<'a>(
 ) -> Result<Statement<'a>, Fault>
     ensures value { (us : List OwnedUnit) (c : Context) (n : ℕ)
         → AreNames names.now.places names.now.units.items c.units
-        → MatchResult result (λ s. statement_of c n UnitWord (name.now ∷ hex.now ∷ []) ≡ Ok (grammar_statement us c n s))
+        → MatchResult result (λ s. statement_of c n UnitWord (name.now ∷ hex.now ∷ [])
+        ≡ Ok (grammar_statement us c n s))
         (λ e. Faulty (statement_of c n UnitWord (name.now ∷ hex.now ∷ [])) e) }
     ensures fits { (m : ℕ) (powered : Bool) → IfOk result (StatementFits m powered) }
 {
@@ -392,7 +393,8 @@ pub fn read_statement<'a>(
     requires { AllByRecursion (λ t. 0 < length t.now) fields.now }
     ensures value { (c : Context) (n : ℕ) → InContext names.now powered c
         → MatchResult result
-        (λ s. statement_of c n (keyword_of keyword) (texts fields.now) ≡ Ok (grammar_statement names.now.units.items c n s))
+        (λ s. statement_of c n (keyword_of keyword) (texts fields.now)
+        ≡ Ok (grammar_statement names.now.units.items c n s))
         (λ e. Faulty (statement_of c n (keyword_of keyword) (texts fields.now)) e) }
     ensures fits { (c : Context) → InContext names.now powered c
         → IfOk result (StatementFits (length names.now.units.items) powered) }

@@ -66,7 +66,7 @@ pub fn made(alloc: Global, aid: &Aid, code: Vec<u8>, init: Vec<u8>) -> Result<Ow
 }
 
 /// Borrows the unit.
-pub fn lent(unit: &OwnedUnit) -> Unit<'_>
+pub fn keeps_device(unit: &OwnedUnit) -> Unit<'_>
     ensures { parts_of result ≡ owned_parts unit.now }
 {
     Unit {

@@ -1,8 +1,11 @@
 pub mod PartLemmas
+pub mod SourceLemmas
+pub mod FlatLemmas
+pub mod StayLemmas
 pub mod NameLemmas
 pub mod TextLemmas
 pub mod PushLemmas
 pub mod WordLemmas
-pub mod ToldLemmas
+pub mod TurnLemmas
 pub mod HexLemmas
 pub mod StatementLemmas

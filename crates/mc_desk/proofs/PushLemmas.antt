@@ -7,10 +7,11 @@ use Rattle.mc_model_play.specs.declared.deck.DeckCause.{DeckCause}
 use Rattle.mc_text.proofs.ReadingLemmas.{pieces_at, pieces_cut}
 use Rattle.mc_desk.specs.Declarations.{NameMeaning}
 use Rattle.mc_desk.specs.Operands.{operand_text, piece_text, later_text, pieces_text, operands_text, after_text, body_text, labelled_text, instruction_text, jump_words, sized_words}
-use Rattle.mc_desk.specs.Parts.{framed, refilled, before_rest, first_word, after_word, without_comment}
-use Rattle.mc_desk.specs.declared.refusal.Fault.{Fault}
-use Rattle.mc_desk.specs.declared.refusal.Fault.TheVariants as fault
-use Rattle.mc_desk.specs.Views.{Faulty, Pushes}
+use Rattle.mc_desk.specs.Parts.{part_of, with_core, before_rest, first_word, after_word, without_comment}
+use Rattle.mc_deck.specs.declared.refusal.Fault.{Fault}
+use Rattle.mc_deck.specs.declared.refusal.Fault.TheVariants as fault
+use Rattle.mc_deck.specs.Refused.{Faulty}
+use Rattle.mc_desk.specs.Views.{Pushes}
 
 abbrev pub Text : Type 0
 Text = Result (List ℕ) DeckCause
@@ -61,17 +62,17 @@ pushed_before d m a (Err e) h = absurd (cc h)
 
 -- ---- one operand
 
--- a part in its frame
-pub piece_pushed : (names : Names) (sized : Bool) (p t d m n o : List ℕ) → Ok t ≡ operand_text names sized (framed p).core → m ≡ d ++ (framed p).before → n ≡ m ++ t → o ≡ n ++ (framed p).after
+-- a part with the blanks around it
+pub piece_pushed : (names : Names) (sized : Bool) (p t d m n o : List ℕ) → Ok t ≡ operand_text names sized (part_of p).core → m ≡ d ++ (part_of p).before → n ≡ m ++ t → o ≡ n ++ (part_of p).after
     → ok_as (λ x. d ++ x) (piece_text names sized p) ≡ Ok o
 piece_pushed names sized p t d m n o h i j k =
-    let f = framed p in
+    let f = part_of p in
     let e : ((d ++ f.before) ++ t) ++ f.after ≡ o = ap (λ x. (x ++ t) ++ f.after) (sym i) ∙ ap (λ x. x ++ f.after) (sym j) ∙ sym k in
-    subst (λ (r : Text). ok_as (λ x. d ++ x) (ok_as (refilled f) r) ≡ Ok o) h
+    subst (λ (r : Text). ok_as (λ x. d ++ x) (ok_as (with_core f) r) ≡ Ok o) h
     (ap Ok (sym (append_assoc d (f.before ++ t) f.after) ∙ ap (λ x. x ++ f.after) (sym (append_assoc d f.before t)) ∙ e))
 
-pub piece_faulty : (names : Names) (sized : Bool) (p : List ℕ) (c : DeckCause) → Err c ≡ operand_text names sized (framed p).core → piece_text names sized p ≡ Err c
-piece_faulty names sized p c h = subst (λ (r : Text). ok_as (refilled (framed p)) r ≡ Err c) h refl
+pub piece_faulty : (names : Names) (sized : Bool) (p : List ℕ) (c : DeckCause) → Err c ≡ operand_text names sized (part_of p).core → piece_text names sized p ≡ Err c
+piece_faulty names sized p c h = subst (λ (r : Text). ok_as (with_core (part_of p)) r ≡ Err c) h refl
 
 -- ---- pieces
 

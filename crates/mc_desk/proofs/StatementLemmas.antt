@@ -6,10 +6,11 @@ use Rattle.mc_model_machine.specs.Text.{◌>>=◌, ok_as, fields, first_cut, hex
 use Rattle.mc_model_machine.specs.Listing.{hex_text}
 use Rattle.mc_model_play.specs.declared.deck.DeckCause.TheVariants.{BadHex, OutOfRange, UnknownName}
 use Rattle.mc_deck.proofs.FieldLemmas.{fields_left, field_more, field_none}
-use Rattle.mc_desk.specs.Parts.{Framed, framed_in, refilled, after_word}
+use Rattle.mc_desk.specs.Parts.{Part, part_in, with_core, after_word}
 use Rattle.mc_desk.specs.Statements.{Loadable, aid_or_name, aid_text, command_text, counted_hex, is_aid, load_text, named_text, naming_words, one_field_text, only_of, only_text, plain_hex, stated_text, statement_text}
-use Rattle.mc_desk.specs.declared.refusal.Fault.{Fault}
-use Rattle.mc_desk.specs.Views.{Faulty, Pushes, part_text}
+use Rattle.mc_deck.specs.declared.refusal.Fault.{Fault}
+use Rattle.mc_deck.specs.Refused.{Faulty}
+use Rattle.mc_desk.specs.Views.{Pushes, part_text}
 use Rattle.mc_desk.proofs.PushLemmas.{Text, faulty_as, faulty_of, faulty_then, pushed_then}
 
 -- ---- fields of a command
@@ -125,25 +126,25 @@ stated_five l (a ∷ []) rest = refl
 stated_five l (a ∷ b ∷ []) rest = refl
 stated_five l (a ∷ b ∷ c ∷ fs) rest = refl
 
--- the whole line, by its frame
-framed_by : (d b x n o : List ℕ) (r : Text) → ok_as (λ y. (d ++ b) ++ y) r ≡ Ok n → o ≡ n ++ x → ok_as (λ y. d ++ y) (ok_as (λ y. b ++ y ++ x) r) ≡ Ok o
-framed_by d b x n o (Err e) h i = absurd (cc h)
-framed_by d b x n o (Ok t) h i =
+-- the whole line, by its part between blanks
+between_blanks : (d b x n o : List ℕ) (r : Text) → ok_as (λ y. (d ++ b) ++ y) r ≡ Ok n → o ≡ n ++ x → ok_as (λ y. d ++ y) (ok_as (λ y. b ++ y ++ x) r) ≡ Ok o
+between_blanks d b x n o (Err e) h i = absurd (cc h)
+between_blanks d b x n o (Ok t) h i =
     let k : (d ++ b) ++ t ≡ n = grind (arith, h) in
     ap Ok (sym (append_assoc d (b ++ t) x) ∙ ap (λ y. y ++ x) (sym (append_assoc d b t) ∙ k) ∙ sym i)
 
-pub statement_pushed : (l : List (List ℕ × Loadable)) (line after d m n o : List ℕ) (fr : Framed) → after ≡ after_word line → fr ≡ framed_in line after
+pub statement_pushed : (l : List (List ℕ × Loadable)) (line after d m n o : List ℕ) (fr : Part) → after ≡ after_word line → fr ≡ part_in line after
     → m ≡ d ++ fr.before → ok_as (λ x. m ++ x) (stated_text l (fields line) fr.core) ≡ Ok n → o ≡ n ++ fr.after → ok_as (λ x. d ++ x) (statement_text l line) ≡ Ok o
 unfolding statement_text
 statement_pushed l line after d m n o fr e f g h i =
-    let a : ok_as (λ x. d ++ x) (ok_as (refilled fr) (stated_text l (fields line) fr.core)) ≡ Ok o =
-    framed_by d fr.before fr.after n o (stated_text l (fields line) fr.core) (subst (λ (x : List ℕ). ok_as (λ y. x ++ y) (stated_text l (fields line) fr.core) ≡ Ok n) g h) i in
-    subst (λ (x : Framed). ok_as (λ y. d ++ y) (ok_as (refilled x) (stated_text l (fields line) x.core)) ≡ Ok o) (f ∙ ap (framed_in line) e) a
+    let a : ok_as (λ x. d ++ x) (ok_as (with_core fr) (stated_text l (fields line) fr.core)) ≡ Ok o =
+    between_blanks d fr.before fr.after n o (stated_text l (fields line) fr.core) (subst (λ (x : List ℕ). ok_as (λ y. x ++ y) (stated_text l (fields line) fr.core) ≡ Ok n) g h) i in
+    subst (λ (x : Part). ok_as (λ y. d ++ y) (ok_as (with_core x) (stated_text l (fields line) x.core)) ≡ Ok o) (f ∙ ap (part_in line) e) a
 
-pub statement_faulty : (l : List (List ℕ × Loadable)) (line after : List ℕ) (fr : Framed) (x : Fault) → after ≡ after_word line → fr ≡ framed_in line after → Faulty (stated_text l (fields line) fr.core) x → Faulty (statement_text l line) x
+pub statement_faulty : (l : List (List ℕ × Loadable)) (line after : List ℕ) (fr : Part) (x : Fault) → after ≡ after_word line → fr ≡ part_in line after → Faulty (stated_text l (fields line) fr.core) x → Faulty (statement_text l line) x
 unfolding statement_text
 statement_faulty l line after fr x e f h =
-    subst (λ (y : Framed). Faulty (ok_as (refilled y) (stated_text l (fields line) y.core)) x) (f ∙ ap (framed_in line) e) (faulty_as (refilled fr) (stated_text l (fields line) fr.core) x h)
+    subst (λ (y : Part). Faulty (ok_as (with_core y) (stated_text l (fields line) y.core)) x) (f ∙ ap (part_in line) e) (faulty_as (with_core fr) (stated_text l (fields line) fr.core) x h)
 
 -- ---- one field
 

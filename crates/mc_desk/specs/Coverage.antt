@@ -8,12 +8,13 @@ use Rattle.mc_model_machine.specs.Code.{front}
 use Rattle.mc_model_machine.specs.Row.{holds}
 use Rattle.mc_model_play.specs.Play.{Step}
 use Rattle.mc_desk.specs.Listings.{CodeLine, Source}
-use Rattle.mc_desk.specs.Told.{Told, told_step}
+use Rattle.mc_desk.specs.FullTurns.{FullTurn, turns_of_step}
 use Rattle.mc_desk.specs.Traces.{is_turn_of}
 
 -- ---- branches
 
--- the condition of an instruction that goes elsewhere where it holds, none of one that always does or takes its target from the stack
+-- the condition of an instruction that goes elsewhere where it holds, none of one that always does or takes its target
+-- from the stack
 abbrev pub condition_in : ℕ → Option ℕ
 condition_in k = cond (is_within 1 6 k) (Some k) None
 
@@ -41,26 +42,26 @@ is_decoded None = false
 is_decoded (Some i) = true
 
 -- whether a turn decoded the instruction at a place
-abbrev pub is_decoded_at : ℕ → Told → Bool
+abbrev pub is_decoded_at : ℕ → FullTurn → Bool
 is_decoded_at place t = is_decoded t.turn.ins && (t.turn.at == place)
 
 -- a line of code with its turns
 pub record CoveredLine : Type 0 where
   pub line : CodeLine
-  pub turns : List Told
+  pub turns : List FullTurn
 
 -- a line of code with those of its section's turns that decoded the instruction at its place
-abbrev pub covered_line : List Told → CodeLine → CoveredLine
+abbrev pub covered_line : List FullTurn → CodeLine → CoveredLine
 covered_line ts l = record { line = l; turns = filter (is_decoded_at l.place) ts }
 
 -- the lines of sections in order; a turn is of the first section that it runs
-abbrev pub covered_lines : List Source → List Told → List CoveredLine
+abbrev pub covered_lines : List Source → List FullTurn → List CoveredLine
 covered_lines [] ts = []
 covered_lines (s ∷ ss) ts =
     map (covered_line (filter (λ t. is_turn_of t s) ts)) s.lines ++ covered_lines ss (filter (λ t. not (is_turn_of t s)) ts)
 
 -- how many of some turns found the condition of their branch to hold, which leaves the flags as they are
-abbrev pub count_taken : ℕ → List Told → ℕ
+abbrev pub count_taken : ℕ → List FullTurn → ℕ
 count_taken k ts = length (filter (λ t. holds k t.frame) ts)
 
 -- a branch of a line: its line, whether its line ran, and how often it went this way
@@ -110,8 +111,8 @@ record_of name ls bs =
     ++ codes "end_of_record\n"
 
 -- the record of a play of a draft's deck, under the name of its file
-unfoldable pub covered : List ℕ → List Source → List Step → List ℕ
-unfolding told_step
-covered name ss ts =
-    let ls = covered_lines ss (flat_map told_step ts) in
+unfoldable pub coverage : List ℕ → List Source → List Step → List ℕ
+unfolding turns_of_step
+coverage name ss ts =
+    let ls = covered_lines ss (flat_map turns_of_step ts) in
     record_of name ls (flat_map branches_of ls)

@@ -35,16 +35,17 @@ header_words =
 abbrev pub header_names : List (List ℕ × NameMeaning)
 header_names = header_bytes ++ header_words
 
--- what stands in a section before a line: its names, its static and session bytes, and the number of its DATA bytes, if it has a DATA line
-pub record Declared : Type 0 where
+-- what stands in a section before a line: its names, its static and session bytes, and the number of its DATA bytes, if
+-- it has a DATA line
+pub record Scope : Type 0 where
   pub names : List (List ℕ × NameMeaning)
   pub fixed : ℕ
   pub session : ℕ
   pub data_bytes : Option ℕ
 
 -- a section before its first line
-abbrev pub nothing_declared : Declared
-nothing_declared = record { names = header_names; fixed = 0; session = 0; data_bytes = None }
+abbrev pub empty_scope : Scope
+empty_scope = record { names = header_names; fixed = 0; session = 0; data_bytes = None }
 
 -- ---- fields
 
@@ -61,8 +62,8 @@ abbrev pub most_public : ℕ
 most_public = 1041
 
 -- a name has the form of a label, and is no register and no condition
-abbrev pub declared_name : List ℕ → Result (List ℕ) DeckCause
-declared_name t = only_if (is_label t && not (has_name t register_names) && not (has_name t condition_names)) BadName t
+abbrev pub label_name : List ℕ → Result (List ℕ) DeckCause
+label_name t = only_if (is_label t && not (has_name t register_names) && not (has_name t condition_names)) BadName t
 
 -- a decimal number of any size
 abbrev pub decimal_field : List ℕ → Result ℕ DeckCause
@@ -86,10 +87,6 @@ constant t = ok_or (signed_number t) BadNumber >>= λ z. only_if (fits_word z) O
 abbrev pub is_size_of : ℕ → Option (List ℕ) → Bool
 is_size_of size None = true
 is_size_of size (Some bytes) = length bytes == size
-
--- a name that the section does not have
-abbrev pub new_name : Declared → List ℕ → Result (List ℕ) DeckCause
-new_name d name = only_if (is_none (lookup d.names name)) NameTwice name
 
 -- ---- declarations
 
@@ -122,55 +119,61 @@ declaration_of (word ∷ rest) = cond (is_labelled rest) None (option_map (λ w.
 abbrev pub declaration_in : List ℕ → Option (DeclarationWord × List (List ℕ))
 declaration_in l = declaration_of (fields (without_comment l))
 
--- a section with one more name
-abbrev pub with_name : Declared → List ℕ → NameMeaning → Declared
-with_name d name m = record d { names = (name, m) ∷ d.names }
-
--- the next static bytes
-abbrev pub static_declared : Declared → List ℕ → List ℕ → Option (List ℕ) → Result Declared DeckCause
-static_declared d name size hex = do
-  d ← only_if (is_none d.data_bytes) BadLine d
-  name ← declared_name name
+-- the number of bytes of a STATIC line after as many static bytes, which is that of its HEX where it has one
+abbrev pub static_count : ℕ → List ℕ → Option (List ℕ) → Result ℕ DeckCause
+static_count fixed size hex = do
   bytes ← optional_hex hex
-  n ← number_field 1 (most_static - d.fixed) size
-  n ← only_if (is_size_of n bytes) OutOfRange n
-  name ← new_name d name
-  Ok (record (with_name d name (Bytes 1 (pos d.fixed) n)) { fixed = d.fixed + n })
+  n ← number_field 1 (most_static - fixed) size
+  only_if (is_size_of n bytes) OutOfRange n
 
--- the next session bytes
-abbrev pub session_declared : Declared → List ℕ → List ℕ → Result Declared DeckCause
-session_declared d name size = do
-  name ← declared_name name
-  n ← number_field 1 (most_session - d.session) size
-  name ← new_name d name
-  Ok (record (with_name d name (Bytes 3 (pos d.session) n)) { session = d.session + n })
-
--- the public bytes from a place on
-abbrev pub public_declared : Declared → List ℕ → List ℕ → List ℕ → Result Declared DeckCause
-public_declared d name at size = do
-  name ← declared_name name
+-- the place and the number of bytes of a PUBLIC line
+abbrev pub public_span : List ℕ → List ℕ → Result (ℕ × ℕ) DeckCause
+public_span at size = do
   at ← decimal_field at
   n ← number_field 1 most_public size
-  n ← only_if (nat_le (at + n) most_public) OutOfRange n
-  name ← new_name d name
-  Ok (with_name d name (Bytes 6 (pos at) n))
+  only_if (nat_le (at + n) most_public) OutOfRange (at, n)
+
+-- a section with one more name, which it did not have
+abbrev pub with_name : Scope → List ℕ → NameMeaning → Result Scope DeckCause
+with_name d name m = only_if (is_none (lookup d.names name)) NameTwice (record d { names = (name, m) ∷ d.names })
+
+-- the next static bytes
+abbrev pub static_scope : Scope → List ℕ → List ℕ → Option (List ℕ) → Result Scope DeckCause
+static_scope d name size hex = do
+  d ← only_if (is_none d.data_bytes) BadLine d
+  name ← label_name name
+  n ← static_count d.fixed size hex
+  ok_as (λ (e : Scope). record e { fixed = d.fixed + n }) (with_name d name (Bytes 1 (pos d.fixed) n))
+
+-- the next session bytes
+abbrev pub session_scope : Scope → List ℕ → List ℕ → Result Scope DeckCause
+session_scope d name size = do
+  name ← label_name name
+  n ← number_field 1 (most_session - d.session) size
+  ok_as (λ (e : Scope). record e { session = d.session + n }) (with_name d name (Bytes 3 (pos d.session) n))
+
+-- the public bytes from a place on
+abbrev pub public_scope : Scope → List ℕ → List ℕ → List ℕ → Result Scope DeckCause
+public_scope d name at size = do
+  name ← label_name name
+  p ← public_span at size
+  with_name d name (Bytes 6 (pos p.0) p.1)
 
 -- a number with a name
-abbrev pub constant_declared : Declared → List ℕ → List ℕ → Result Declared DeckCause
-constant_declared d name number = do
-  name ← declared_name name
+abbrev pub const_scope : Scope → List ℕ → List ℕ → Result Scope DeckCause
+const_scope d name number = do
+  name ← label_name name
   number ← constant number
-  name ← new_name d name
-  Ok (with_name d name (Number number))
+  with_name d name (Number number)
 
 -- a section after a declaration, by its word and its fields
-unfoldable pub declared : Declared → DeclarationWord → List (List ℕ) → Result Declared DeckCause
-declared d StaticWord (name ∷ size ∷ []) = static_declared d name size None
-declared d StaticWord (name ∷ size ∷ hex ∷ []) = static_declared d name size (Some hex)
-declared d SessionWord (name ∷ size ∷ []) = session_declared d name size
-declared d PublicWord (name ∷ at ∷ size ∷ []) = public_declared d name at size
-declared d ConstWord (name ∷ number ∷ []) = constant_declared d name number
-declared d word fields = Err BadLine
+abbrev pub scope_after : Scope → DeclarationWord → List (List ℕ) → Result Scope DeckCause
+scope_after d StaticWord (name ∷ size ∷ []) = static_scope d name size None
+scope_after d StaticWord (name ∷ size ∷ hex ∷ []) = static_scope d name size (Some hex)
+scope_after d SessionWord (name ∷ size ∷ []) = session_scope d name size
+scope_after d PublicWord (name ∷ at ∷ size ∷ []) = public_scope d name at size
+scope_after d ConstWord (name ∷ number ∷ []) = const_scope d name number
+scope_after d word fields = Err BadLine
 
 -- the number of bytes of a field, none where it is no hexadecimal
 abbrev pub byte_count : List ℕ → ℕ
@@ -181,16 +184,17 @@ abbrev pub data_count : List (List ℕ) → ℕ
 data_count (word ∷ hex ∷ []) = byte_count hex
 data_count fields = 0
 
--- a section after a DATA line with these fields, of which it may have one where it has no STATIC line; the deck's reader judges the rest
-abbrev pub data_declared : Declared → List (List ℕ) → Result Declared DeckCause
-data_declared d fields = only_if (d.fixed == 0) BadLine (record d { data_bytes = Some (unwrap_or d.data_bytes 0 + data_count fields) })
+-- a section after a DATA line with these fields, of which it may have one where it has no STATIC line; the deck's
+-- reader judges the rest
+abbrev pub data_scope : Scope → List (List ℕ) → Result Scope DeckCause
+data_scope d fields = only_if (d.fixed == 0) BadLine (record d { data_bytes = Some (unwrap_or d.data_bytes 0 + data_count fields) })
 
 -- ---- the deck's line
 
 -- the deck's line of a declaration that adds n static bytes; `later` is whether a STATIC line after it gives bytes
 abbrev pub declaration_text : Bool → ℕ → DeclarationWord → List (List ℕ) → List ℕ
 declaration_text later n StaticWord (name ∷ size ∷ hex ∷ []) = codes "DATA " ++ hex
-declaration_text true n StaticWord (name ∷ size ∷ []) = codes "DATA " ++ hex_text (zeros n)
+declaration_text later n StaticWord (name ∷ size ∷ []) = cond later (codes "DATA " ++ hex_text (zeros n)) []
 declaration_text later n word fields = []
 
 -- whether a declaration is a STATIC line that gives bytes

@@ -4,7 +4,7 @@ use Rattle.mc_model_machine.specs.Text.{◌>>=◌, ok_as, err_as, with_numbers, 
 use Rattle.mc_model_play.specs.DeckGrammar.{is_data, is_end}
 use Rattle.mc_model_play.specs.declared.deck.DeckCause.{DeckCause}
 use Rattle.mc_desk.specs.Parts.{EndedLine, ended_lines}
-use Rattle.mc_desk.specs.Declarations.{Declared, DeclarationWord, nothing_declared, declared, data_declared, declaration_in, declaration_text, gives_later}
+use Rattle.mc_desk.specs.Declarations.{Scope, DeclarationWord, empty_scope, scope_after, data_scope, declaration_in, declaration_text, gives_later}
 use Rattle.mc_desk.specs.Operands.{instruction_text}
 use Rattle.mc_desk.specs.Statements.{Loadable, statement_text}
 
@@ -14,17 +14,23 @@ pub record SourceLine : Type 0 where
   pub draft : List ℕ
   pub deck : List ℕ
 
--- a section: its name, its AID as it was written, what it declares, and its lines between the first and its `end`
+-- a section: its name, what a `load` of it stands for, and its lines between the first and its `end`
 pub record Section : Type 0 where
   pub name : List ℕ
+  pub sizes : Loadable
+  pub lines : List SourceLine
+
+-- a section that is open: its name, its AID as it was written, what it declares, and its lines so far
+pub record OpenSection : Type 0 where
+  pub name : List ℕ
   pub aid : List ℕ
-  pub declared : Declared
+  pub scope : Scope
   pub lines : List SourceLine
 
 -- between statements, or in a section that is open
 pub data Mode : Type 0 where
   Between : Mode
-  Within : Section → Mode
+  Within : OpenSection → Mode
 
 -- what stands before a line: the sections that have ended, in order, and whether one is open
 pub record Before : Type 0 where
@@ -44,49 +50,58 @@ pub record Draft : Type 0 where
 -- ---- sizes
 
 -- the static bytes of a section: those of its STATIC lines, and of its DATA lines where it has none
-abbrev pub static_size : Declared → ℕ
+abbrev pub static_size : Scope → ℕ
 static_size d = cond (nat_lt 0 d.fixed) d.fixed (unwrap_or d.data_bytes 0)
 
 -- what a `load` of a section's name stands for
-abbrev pub loadable : Section → Loadable
-loadable s = record { aid = s.aid; fixed = static_size s.declared; session = s.declared.session }
+abbrev pub sizes_of : OpenSection → Loadable
+sizes_of s = record { aid = s.aid; fixed = static_size s.scope; session = s.scope.session }
+
+-- a section at its end
+abbrev pub closed_section : OpenSection → Section
+closed_section s = record { name = s.name; sizes = sizes_of s; lines = s.lines }
 
 -- the sections by their names
 abbrev pub by_name : List Section → List (List ℕ × Loadable)
-by_name ss = map (λ s. (s.name, loadable s)) ss
+by_name ss = map (λ s. (s.name, s.sizes)) ss
 
 -- ---- a line of a section
 
--- a line that the section has, with what it declares then
-abbrev pub kept_line : Before → Section → ℕ → List ℕ → List ℕ → Declared → DraftTurn
-kept_line b s n l deck d =
-    record { text = deck; before = record b { mode = Within (record s { declared = d; lines = s.lines ++ record { number = n; draft = l; deck = deck } ∷ [] }) } }
+-- after a line of a section: its text in the deck, and what the section declares then
+pub record ScopeTurn : Type 0 where
+  pub text : List ℕ
+  pub scope : Scope
 
 -- a line that is no DATA line and no end: a declaration or an instruction
-abbrev pub coded_line : Before → Section → ℕ → List ℕ → Bool → Option (DeclarationWord × List (List ℕ)) → Result DraftTurn DeckCause
-coded_line b s n l later None = ok_as (λ deck. kept_line b s n l deck s.declared) (instruction_text s.declared.names l)
-coded_line b s n l later (Some d) =
-    ok_as (λ new. kept_line b s n l (declaration_text later (new.fixed - s.declared.fixed) d.0 d.1) new) (declared s.declared d.0 d.1)
+abbrev pub coded_turn : Scope → List ℕ → Bool → Option (DeclarationWord × List (List ℕ)) → Result ScopeTurn DeckCause
+coded_turn d l later None = ok_as (λ t. record { text = t; scope = d }) (instruction_text d.names l)
+coded_turn d l later (Some p) =
+    ok_as (λ e. record { text = declaration_text later (e.fixed - d.fixed) p.0 p.1; scope = e }) (scope_after d p.0 p.1)
 
--- a line of a section, which is a DATA line or none
-abbrev pub data_line : Bool → Before → Section → ℕ → List ℕ → Bool → Result DraftTurn DeckCause
-data_line true b s n l later = ok_as (kept_line b s n l l) (data_declared s.declared (fields l))
-data_line false b s n l later = coded_line b s n l later (declaration_in l)
+-- a line of a section that does not end it, which is a DATA line or none
+abbrev pub scope_turn : Bool → Scope → List ℕ → Bool → Result ScopeTurn DeckCause
+scope_turn true d l later = ok_as (λ e. record { text = l; scope = e }) (data_scope d (fields l))
+scope_turn false d l later = coded_turn d l later (declaration_in l)
+
+-- a line that a section keeps
+abbrev pub kept_line : Before → OpenSection → ℕ → List ℕ → ScopeTurn → DraftTurn
+kept_line b s n l t =
+    record { text = t.text; before = record b { mode = Within (record s { scope = t.scope; lines = s.lines ++ record { number = n; draft = l; deck = t.text } ∷ [] }) } }
 
 -- a line of a section, which ends it or goes on
-abbrev pub section_line : Bool → Before → Section → ℕ → List ℕ → Bool → Result DraftTurn DeckCause
-section_line true b s n l later = Ok (record { text = l; before = record { sections = b.sections ++ s ∷ []; mode = Between } })
-section_line false b s n l later = data_line (is_data (fields l)) b s n l later
+abbrev pub section_line : Bool → Before → OpenSection → ℕ → List ℕ → Bool → Result DraftTurn DeckCause
+section_line true b s n l later = Ok (record { text = l; before = record { sections = b.sections ++ closed_section s ∷ []; mode = Between } })
+section_line false b s n l later = ok_as (kept_line b s n l) (scope_turn (is_data (fields l)) s.scope l later)
 
 -- ---- a line between sections
 
 -- the section that a line with these fields opens
-abbrev pub opened : List (List ℕ) → Option Section
-opened (word ∷ name ∷ aid ∷ []) = cond (bytes_eq word (codes "app")) (Some (record { name = name; aid = aid; declared = nothing_declared; lines = [] })) None
-opened fields = None
+abbrev pub new_section : List (List ℕ) → Option OpenSection
+new_section (word ∷ name ∷ aid ∷ []) = cond (bytes_eq word (codes "app")) (Some (record { name = name; aid = aid; scope = empty_scope; lines = [] })) None
+new_section fields = None
 
 -- a line that opens a section, or a statement
-abbrev pub opening_line : Option Section → Before → List ℕ → Result DraftTurn DeckCause
+abbrev pub opening_line : Option OpenSection → Before → List ℕ → Result DraftTurn DeckCause
 opening_line (Some s) b l = Ok (record { text = l; before = record b { mode = Within s } })
 opening_line None b l = ok_as (λ deck. record { text = deck; before = b }) (statement_text (by_name b.sections) l)
 
@@ -94,7 +109,7 @@ opening_line None b l = ok_as (λ deck. record { text = deck; before = b }) (sta
 
 -- a line; `later` is whether a STATIC line after it gives bytes before the section's end
 abbrev pub draft_turn : Mode → Before → ℕ → List ℕ → Bool → Result DraftTurn DeckCause
-draft_turn Between b n l later = opening_line (opened (fields l)) b l
+draft_turn Between b n l later = opening_line (new_section (fields l)) b l
 draft_turn (Within s) b n l later = section_line (is_end (fields l)) b s n l later
 
 -- a line of the deck before the others
@@ -102,12 +117,12 @@ abbrev pub with_line : List ℕ → List ℕ → Draft → Draft
 with_line text ending d = record d { deck = text ++ ending ++ d.deck }
 
 -- numbered lines, or the first refusal
-unfoldable pub drafted : Before → List (ℕ × EndedLine) → Result Draft (ℕ × DeckCause)
-unfolding declared instruction_text statement_text
-drafted b [] = Ok (record { deck = []; sections = b.sections })
-drafted b (l ∷ ls) = do
+unfoldable pub draft_of_lines : Before → List (ℕ × EndedLine) → Result Draft (ℕ × DeckCause)
+unfolding instruction_text statement_text
+draft_of_lines b [] = Ok (record { deck = []; sections = b.sections })
+draft_of_lines b (l ∷ ls) = do
   t ← err_as (λ c. (l.0, c)) (draft_turn b.mode b l.0 (l.1).text (gives_later (map (λ m. (m.1).text) ls)))
-  ok_as (with_line t.text (l.1).ending) (drafted t.before ls)
+  ok_as (with_line t.text (l.1).ending) (draft_of_lines t.before ls)
 
 -- a draft before its first line
 abbrev pub nothing_before : Before
@@ -115,8 +130,8 @@ nothing_before = record { sections = []; mode = Between }
 
 -- a draft that is read: its deck and its sections, or its first refused line and the cause
 unfoldable pub draft_read : List ℕ → Result Draft (ℕ × DeckCause)
-unfolding drafted
-draft_read t = drafted nothing_before (with_numbers 1 (ended_lines t))
+unfolding draft_of_lines
+draft_read t = draft_of_lines nothing_before (with_numbers 1 (ended_lines t))
 
 -- the deck of a draft, or the first refusal
 unfoldable pub deck_of : List ℕ → Result (List ℕ) (ℕ × DeckCause)

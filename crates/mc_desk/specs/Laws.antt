@@ -3,10 +3,10 @@ use Rattle.std.specs.Prelude.{◌≡◌, ℕ, ◌==◌, List, map, flat_map, len
 use Rattle.mc_model_machine.specs.Text.{pieces}
 use Rattle.mc_model_machine.specs.Assembly.{assembled_lines}
 use Rattle.mc_model_play.specs.DeckGrammar.{DeckLine, deck_read}
-use Rattle.mc_model_play.specs.Play.{State, WornAt, step}
+use Rattle.mc_model_play.specs.Play.{State, FailedWrite, step}
 use Rattle.mc_desk.specs.Drafts.{Section, deck_of}
 use Rattle.mc_desk.specs.Listings.{source_of, program_of}
-use Rattle.mc_desk.specs.Told.{told_of}
+use Rattle.mc_desk.specs.FullTurns.{turns_of_line_in}
 
 -- a deck that is read is a draft, and makes itself, byte for byte
 abbrev pub DeckMakesItself : Type 0
@@ -21,5 +21,5 @@ abbrev pub CodeIsOfLines : Type 0
 CodeIsOfLines = (s : Section) (code : List ℕ) → assembled_lines (program_of s) ≡ Ok code → flat_map (λ l. l.bytes) (source_of s).lines ≡ code
 
 -- without what surrounds them, the turns of a line are those of its step
-abbrev pub TurnsAreTold : Type 0
-TurnsAreTold = (s : State) (l : ℕ × DeckLine) (w : Option WornAt) → map (λ t. t.turn) (told_of s l.1) ≡ (step s l w).turns
+abbrev pub TurnsAreOfSteps : Type 0
+TurnsAreOfSteps = (s : State) (l : ℕ × DeckLine) (w : Option FailedWrite) → map (λ t. t.turn) (turns_of_line_in s l.1) ≡ (step s l w).turns

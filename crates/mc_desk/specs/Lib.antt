@@ -5,7 +5,7 @@ pub mod Statements
 pub mod Drafts
 pub mod Listings
 pub mod Verdicts
-pub mod Told
+pub mod FullTurns
 pub mod Traces
 pub mod Coverage
 pub mod Views

@@ -4,21 +4,23 @@ use Rattle.mc_model_device.specs.Bytes.{bytes2}
 use Rattle.mc_model_machine.specs.declared.assembler.AsmCause.{AsmCause}
 use Rattle.mc_model_machine.specs.Text.{◌>>=◌, ok_as, is_empty, trim}
 use Rattle.mc_model_machine.specs.Listing.{hex_text}
-use Rattle.mc_model_machine.specs.Assembly.{Laid, Placed, laid_lines, bytes_of_item, assembled_lines}
+use Rattle.mc_model_machine.specs.Assembly.{Laid, Placed, laid_lines, joined_code, bytes_of_item}
 use Rattle.mc_model_play.specs.DeckGrammar.{DeckLine, section_program, deck_read}
 use Rattle.mc_model_play.specs.declared.deck.DeckCause.{DeckCause}
 use Rattle.mc_desk.specs.Parts.{without_comment}
 use Rattle.mc_desk.specs.Statements.{Loadable}
-use Rattle.mc_desk.specs.Drafts.{SourceLine, Section, Draft, loadable, draft_read}
+use Rattle.mc_desk.specs.Drafts.{SourceLine, Section, Draft, draft_read}
 
--- a line of a section that has code: its number, the place of its code, the code, and its text without comment and blanks
+-- a line of a section that has code: its number, the place of its code, the code, and its text without comment and
+-- blanks
 pub record CodeLine : Type 0 where
   pub number : ℕ
   pub place : ℕ
   pub bytes : List ℕ
   pub text : List ℕ
 
--- a section with its code: its name, what a `load` of it stands for, the code, and the lines that have some of it, in order
+-- a section with its code: its name, what a `load` of it stands for, the code, and the lines that have some of it, in
+-- order
 pub record Source : Type 0 where
   pub name : List ℕ
   pub sizes : Loadable
@@ -42,24 +44,27 @@ abbrev pub code_line : List (List ℕ × ℕ) → List SourceLine → Placed →
 code_line labels ls p = record { number = p.number; place = p.place; bytes = value_or_nothing (bytes_of_item labels p.place p.item); text = source_text ls p.number }
 
 -- the lines that have code
-abbrev pub code_lines : List SourceLine → Result Laid (ℕ × AsmCause) → List CodeLine
-code_lines ls (Ok laid) = filter (λ c. not (is_empty c.bytes)) (map (code_line laid.labels ls) laid.placed)
-code_lines ls (Err e) = []
+abbrev pub code_lines : List SourceLine → Laid → List CodeLine
+code_lines ls laid = filter (λ c. not (is_empty c.bytes)) (map (code_line laid.labels ls) laid.placed)
 
 -- the lines of a section that go to the assembler, as the deck has them
 abbrev pub program_of : Section → List (ℕ × List ℕ)
 program_of s = section_program (map (λ l. (l.number, l.deck)) s.lines)
 
+-- the lines of a program in their places, with its code, or the first refusal
+unfoldable pub laid_code : List (ℕ × List ℕ) → Result (Laid × List ℕ) (ℕ × AsmCause)
+unfolding laid_lines joined_code
+laid_code ls = laid_lines [] 0 ls >>= λ laid. ok_as (λ code. (laid, code)) (joined_code laid.labels laid.placed)
+
+-- a section with its code, none where the assembler refuses it
+abbrev pub source_with : Section → Result (Laid × List ℕ) (ℕ × AsmCause) → Source
+source_with s (Ok (laid, code)) = record { name = s.name; sizes = s.sizes; code = code; lines = code_lines s.lines laid }
+source_with s (Err e) = record { name = s.name; sizes = s.sizes; code = []; lines = [] }
+
 -- a section with its code, which is what the assembler makes of its lines
 unfoldable pub source_of : Section → Source
-unfolding laid_lines assembled_lines
-source_of s =
-    record {
-      name = s.name;
-      sizes = loadable s;
-      code = value_or_nothing (assembled_lines (program_of s));
-      lines = code_lines s.lines (laid_lines [] 0 (program_of s));
-    }
+unfolding laid_code
+source_of s = source_with s (laid_code (program_of s))
 
 -- the sections of a draft with their code
 abbrev pub sources_of : Draft → List Source
@@ -103,6 +108,6 @@ desk_read t = do
   Ok (record { deck = d.deck; sources = sources_of d; lines = ls })
 
 -- the listing of a draft, or its first refused line and the cause
-unfoldable pub listed : List ℕ → Result (List ℕ) (ℕ × DeckCause)
+unfoldable pub draft_listing : List ℕ → Result (List ℕ) (ℕ × DeckCause)
 unfolding desk_read
-listed t = ok_as (λ d. listing_of d.sources) (desk_read t)
+draft_listing t = ok_as (λ d. listing_of d.sources) (desk_read t)

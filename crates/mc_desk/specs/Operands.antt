@@ -1,11 +1,12 @@
--- An instruction of a draft and what it becomes in the deck: each operand that is a name, with the rest of the line as it was.
+-- An instruction of a draft and what it becomes in the deck: each operand that is a name, with the rest of the line as
+-- it was.
 use Rattle.std.specs.Prelude.{ℕ, ◌-◌, ℤ, pos, ◌+ℤ◌, Bool, true, false, cond, ◌&&◌, nat_lt, ◌==◌, List, [], ◌∷◌, ◌++◌, length, drop, bytes_eq, codes, decimal, Option, Some, None, Result, Ok}
 use Rattle.mc_model_device.specs.Bytes.{lookup, has_name}
 use Rattle.mc_model_machine.specs.Text.{◌>>=◌, ok_as, only_if, pieces, first_cut, decimal_number}
 use Rattle.mc_model_machine.specs.Listing.{address_text}
 use Rattle.mc_model_play.specs.declared.deck.DeckCause.{DeckCause}
 use Rattle.mc_model_play.specs.declared.deck.DeckCause.TheVariants.{OutOfRange}
-use Rattle.mc_desk.specs.Parts.{framed, refilled, before_rest, first_word, after_word, without_comment}
+use Rattle.mc_desk.specs.Parts.{part_of, with_core, before_rest, first_word, after_word, without_comment}
 use Rattle.mc_desk.specs.Declarations.{NameMeaning, Bytes, Number}
 
 -- the words that go to a place of the code, whose operands name conditions and labels
@@ -69,7 +70,7 @@ operand_text names sized t = operand_by_parts names sized t (first_cut (λ c. c 
 
 -- what a piece between two commas becomes: its operand, with its blanks
 abbrev pub piece_text : List (List ℕ × NameMeaning) → Bool → List ℕ → Result (List ℕ) DeckCause
-piece_text names sized p = let f = framed p in ok_as (refilled f) (operand_text names sized f.core)
+piece_text names sized p = let f = part_of p in ok_as (with_core f) (operand_text names sized f.core)
 
 -- what the pieces after commas become, each with its comma
 abbrev pub later_text : List (List ℕ × NameMeaning) → Bool → List (List ℕ) → Result (List ℕ) DeckCause

@@ -3,8 +3,8 @@ use Rattle.std.specs.Prelude.{ℕ, ◌-◌, ◌==◌, List, [], ◌∷◌, ◌++
 use Rattle.mc_model_machine.specs.Text.{pieces, first_cut, trim, trim_front, is_blank}
 use Rattle.mc_text.specs.Reading.{without_return}
 
--- a line of a text, and the bytes that end it: a line feed, with the carriage return right before it where there is one;
--- nothing ends the last line
+-- a line of a text, and the bytes that end it: a line feed, with the carriage return right before it where there is
+-- one; nothing ends the last line
 pub record EndedLine : Type 0 where
   pub text : List ℕ
   pub ending : List ℕ
@@ -24,7 +24,7 @@ abbrev pub ended_lines : List ℕ → List EndedLine
 ended_lines t = ended_pieces (pieces (λ c. c == 10) t)
 
 -- a part of a text, with what stands before it and after it
-pub record Framed : Type 0 where
+pub record Part : Type 0 where
   pub before : List ℕ
   pub core : List ℕ
   pub after : List ℕ
@@ -34,16 +34,16 @@ abbrev pub before_rest : List ℕ → List ℕ → List ℕ
 before_rest t rest = take (length t - length rest) t
 
 -- the part of a text that its rest is without the blanks around it
-abbrev pub framed_in : List ℕ → List ℕ → Framed
-framed_in t rest = record { before = before_rest t (trim_front rest); core = trim rest; after = drop (length (trim rest)) (trim_front rest) }
+abbrev pub part_in : List ℕ → List ℕ → Part
+part_in t rest = record { before = before_rest t (trim_front rest); core = trim rest; after = drop (length (trim rest)) (trim_front rest) }
 
 -- a text without the blanks around it, between them
-abbrev pub framed : List ℕ → Framed
-framed t = framed_in t t
+abbrev pub part_of : List ℕ → Part
+part_of t = part_in t t
 
 -- a frame around another part
-abbrev pub refilled : Framed → List ℕ → List ℕ
-refilled f core = f.before ++ core ++ f.after
+abbrev pub with_core : Part → List ℕ → List ℕ
+with_core f core = f.before ++ core ++ f.after
 
 -- the first word of a text
 abbrev pub first_word : List ℕ → List ℕ

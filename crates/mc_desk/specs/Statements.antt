@@ -5,7 +5,7 @@ use Rattle.mc_model_machine.specs.Text.{◌>>=◌, ok_as, only_if, is_within, fi
 use Rattle.mc_model_machine.specs.Listing.{hex_text}
 use Rattle.mc_model_play.specs.declared.deck.DeckCause.{DeckCause}
 use Rattle.mc_model_play.specs.declared.deck.DeckCause.TheVariants.{BadHex, OutOfRange, UnknownName}
-use Rattle.mc_desk.specs.Parts.{framed_in, after_word, refilled}
+use Rattle.mc_desk.specs.Parts.{part_in, after_word, with_core}
 
 -- what a statement needs of a section: its AID as it was written, and the sizes of its static bytes and of its session
 pub record Loadable : Type 0 where
@@ -32,8 +32,8 @@ after_open [] = None
 after_open (c ∷ t) = cond (c == 40) (Some t) None
 
 -- what stands in round brackets, if they are around a field
-abbrev pub bracketed : List ℕ → Option (List ℕ)
-bracketed t = cond (slice_index t (length t - 1) == 41) (after_open (take (length t - 1) t)) None
+abbrev pub text_in_brackets : List ℕ → Option (List ℕ)
+text_in_brackets t = cond (slice_index t (length t - 1) == 41) (after_open (take (length t - 1) t)) None
 
 -- a field of a command in brackets, or without
 abbrev pub field_by : List ℕ → Option (List ℕ) → Result (List ℕ) DeckCause
@@ -42,7 +42,7 @@ field_by t (Some inner) = counted_hex inner (hex_bytes inner)
 
 -- what a field of a command becomes
 abbrev pub command_field : List ℕ → Result (List ℕ) DeckCause
-command_field t = field_by t (bracketed t)
+command_field t = field_by t (text_in_brackets t)
 
 -- the fields of a command, joined
 abbrev pub command_text : List (List ℕ) → Result (List ℕ) DeckCause
@@ -102,4 +102,4 @@ stated_text sections (word ∷ fs) rest = cond (bytes_eq word (codes "apdu")) (c
 
 -- the deck's line of a statement, where these sections stand before it
 unfoldable pub statement_text : List (List ℕ × Loadable) → List ℕ → Result (List ℕ) DeckCause
-statement_text sections l = let f = framed_in l (after_word l) in ok_as (refilled f) (stated_text sections (fields l) f.core)
+statement_text sections l = let f = part_in l (after_word l) in ok_as (with_core f) (stated_text sections (fields l) f.core)

@@ -49,6 +49,6 @@ abbrev pub verdict_line : Desk → ℕ × CodeVerdict → List ℕ
 verdict_line d v = decimal v.0 ++ codes " " ++ verdict_text d v.0 v.1 ++ codes "\n"
 
 -- the lines of verdicts, each with the number of its `load` line
-abbrev pub checked : Desk → List (ℕ × CodeVerdict) → List ℕ
-checked d [] = []
-checked d (v ∷ vs) = verdict_line d v ++ checked d vs
+abbrev pub verdict_lines : Desk → List (ℕ × CodeVerdict) → List ℕ
+verdict_lines d [] = []
+verdict_lines d (v ∷ vs) = verdict_line d v ++ verdict_lines d vs

@@ -1,5 +1,5 @@
 -- What the code has of a draft, and what it stands for in the definitions.
-use Rattle.std.specs.Prelude.{◌≡◌, ℕ, Bool, true, false, cond, List, [], ◌++◌, codes, decimal, option_map, Option, Some, None, Result, Ok, Err, ⊤}
+use Rattle.std.specs.Prelude.{◌≡◌, ℕ, Bool, true, false, cond, List, [], ◌++◌, codes, decimal, option_map, Option, Some, None, Result, Ok, Err}
 use Rattle.std.specs.Ordering.{nat_cmp}
 use Rattle.std.specs.Cmp.Lexicographic.{slice_cmp}
 use Rattle.std.specs.BTreeMap
@@ -9,15 +9,15 @@ use Rattle.mc_model_device.specs.Bytes.{lookup, or_else}
 use Rattle.mc_model_machine.specs.Text.{ok_as, hex_value, is_empty}
 use Rattle.mc_model_machine.specs.Listing.{address_text}
 use Rattle.mc_model_play.specs.declared.deck.DeckCause.{DeckCause}
-use Rattle.mc_desk.specs.declared.refusal.Fault.{Fault}
-use Rattle.mc_desk.specs.declared.refusal.Fault.TheVariants as fault
+use Rattle.mc_deck.specs.declared.refusal.Fault.{Fault}
+use Rattle.mc_deck.specs.Refused.{Faulty}
 use Rattle.mc_desk.specs.declared.meaning.Register.{Register}
 use Rattle.mc_desk.specs.declared.meaning.Register.TheVariants as register
 use Rattle.mc_desk.specs.declared.meaning.Meaning.{Meaning}
 use Rattle.mc_desk.specs.declared.meaning.Meaning.TheVariants as meaning
 use Rattle.mc_desk.specs.declared.operand.Operand.{Operand}
 use Rattle.mc_desk.specs.declared.operand.Operand.TheVariants as operand
-use Rattle.mc_desk.specs.declared.part.Framed.{Framed}
+use Rattle.mc_desk.specs.declared.part.Part.{Part}
 use Rattle.mc_desk.specs.declared.statement.Sizes.{Sizes}
 use Rattle.mc_desk.specs.Statements.{Loadable, command_field}
 use Rattle.mc_desk.specs.Parts
@@ -25,8 +25,8 @@ use Rattle.mc_desk.specs.Declarations
 use Rattle.mc_desk.specs.Declarations.{header_names}
 
 -- a part with what stands around it
-abbrev pub frame_of : Framed → Parts.Framed
-frame_of f = record { before = f.before.now; core = f.core.now; after = f.after.now }
+abbrev pub part_value : Part → Parts.Part
+part_value f = record { before = f.before.now; core = f.core.now; after = f.after.now }
 
 -- ---- names
 
@@ -56,11 +56,6 @@ text_of_operand (operand.Sized r at size) = address_text (register_tag r) at ++ 
 text_of_operand (operand.Size size) = decimal size
 
 -- ---- a deck that grows
-
--- the fault is the refusal, or there was no memory
-abbrev pub Faulty : {A : Type 0} → Result A DeckCause → Fault → Type 0
-Faulty r (fault.Cause c) = r ≡ Err c
-Faulty r fault.NoMemory = ⊤
 
 -- a deck grew by a text, or the text was refused
 abbrev pub Pushes : List ℕ → Result (List ℕ) DeckCause → Result (Unit {0}) Fault → List ℕ → Type 0

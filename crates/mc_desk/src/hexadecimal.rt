@@ -12,8 +12,8 @@ fn is_hex(character: u8) -> bool
     hex_value(character).is_some()
 }
 
-// Whether a text has hexadecimal digits alone.
-fn has_digits(text: &[u8]) -> bool
+/// Whether a text has hexadecimal digits alone.
+pub fn has_digits(text: &[u8]) -> bool
     ensures { result ≡ every is_hex text.now }
 {
     for character in text {

@@ -8,9 +8,9 @@ ghost use Rattle.mc_desk.specs.Views.{AreNames, Pushes};
 
 use crate::meaning::Names;
 use crate::operand::{operand_of, push_operand};
-use crate::part::{after_front, after_word, before_rest, first_word, frame, without_comment};
-use crate::refusal::Fault;
+use crate::part::{after_front, after_word, before_rest, first_word, part_of, without_comment};
 use crate::text::push;
+use mc_deck::Fault;
 use mc_text::cut;
 
 // Whether a word goes to a place of the code.
@@ -82,7 +82,7 @@ fn push_piece<'a>(
     ensures { (l : List (List ℕ × NameMeaning)) → AreNames names.now l
         → Pushes deck.old.items (piece_text l sized piece.now) result deck.new.items }
 {
-    let part = frame(piece);
+    let part = part_of(piece);
     let operand = operand_of(names, sized, part.core)?;
     push(deck, part.before)?;
     push_operand(deck, &operand)?;

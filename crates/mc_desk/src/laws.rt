@@ -1,7 +1,17 @@
 // Laws of drafts, over the definitions alone.
-ghost use Rattle.mc_desk.specs.Laws.{TurnsAreTold};
+ghost use Rattle.mc_desk.specs.Laws.{CodeIsOfLines, LinesStay, TurnsAreOfSteps};
 
-/// The turns that are told of a line are those of its step, with what surrounds them.
-pub fn turns_are_told()
-    ensures { TurnsAreTold }
+/// A draft and its deck have as many lines.
+pub fn lines_stay()
+    ensures { LinesStay }
+{}
+
+/// The code of a section is that of its lines, one after the other.
+pub fn code_is_of_lines()
+    ensures { CodeIsOfLines }
+{}
+
+/// The turns that are traced of a line are those of its step, with what surrounds them.
+pub fn turns_are_of_steps()
+    ensures { TurnsAreOfSteps }
 {}

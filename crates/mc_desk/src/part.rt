@@ -1,13 +1,13 @@
 // Parts of a line, with the blanks around them.
 ghost use Rattle.std.specs.Prelude.{◌≡◌, ◌≤◌, drop, length};
-ghost use Rattle.mc_desk.specs.Parts.{after_word, before_rest, first_word, framed, framed_in, without_comment};
-ghost use Rattle.mc_desk.specs.Views.{frame_of};
+ghost use Rattle.mc_desk.specs.Parts.{after_word, before_rest, first_word, part_of, part_in, without_comment};
+ghost use Rattle.mc_desk.specs.Views.{part_value};
 
 use mc_text::{cut, cut_blank, trim, trim_front};
 
 /// A part of a text, with what stands before it and after it.
 #[derive(Clone, Copy)]
-pub struct Framed<'a> {
+pub struct Part<'a> {
     pub before: &'a [u8],
     pub core: &'a [u8],
     pub after: &'a [u8],
@@ -31,13 +31,13 @@ pub fn after_front<'a>(text: &'a [u8], front: &[u8]) -> &'a [u8]
 
 /// Returns the part of a text that its rest is without the blanks around it.
 #[tactic(auto, using(crate::proofs::PartLemmas::begun_short, crate::proofs::PartLemmas::core_short))]
-pub fn framed_in<'a>(text: &'a [u8], rest: &'a [u8]) -> Framed<'a>
+pub fn part_in<'a>(text: &'a [u8], rest: &'a [u8]) -> Part<'a>
     requires { length rest.now ≤ length text.now }
-    ensures { frame_of result ≡ framed_in text.now rest.now }
+    ensures { part_value result ≡ part_in text.now rest.now }
 {
     let begun = trim_front(rest);
     let core = trim(rest);
-    Framed {
+    Part {
         before: before_rest(text, begun),
         core,
         after: begun.split_at(core.len()).1,
@@ -45,10 +45,10 @@ pub fn framed_in<'a>(text: &'a [u8], rest: &'a [u8]) -> Framed<'a>
 }
 
 /// Returns a text without the blanks around it, between them.
-pub fn frame(text: &[u8]) -> Framed<'_>
-    ensures { frame_of result ≡ framed text.now }
+pub fn part_of(text: &[u8]) -> Part<'_>
+    ensures { part_value result ≡ part_of text.now }
 {
-    framed_in(text, text)
+    part_in(text, text)
 }
 
 /// Returns the first word of a text, which is empty in a text of blanks.

@@ -5,20 +5,20 @@ ghost use Rattle.mc_model_machine.specs.Text.{fields, hex_bytes, is_within, ok_a
 ghost use Rattle.mc_model_machine.specs.Listing.{hex_text};
 ghost use Rattle.mc_model_play.specs.declared.deck.DeckCause.TheVariants.{UnknownName};
 ghost use Rattle.mc_asm.specs.Items.{texts};
-ghost use Rattle.mc_desk.specs.Statements.{after_open, aid_or_name, bracketed, command_field, command_text, counted_hex, is_aid, load_text, named_text, naming_words, one_field_text, only_of, plain_hex, stated_text, statement_text, Loadable};
+ghost use Rattle.mc_desk.specs.Statements.{after_open, aid_or_name, text_in_brackets, command_field, command_text, counted_hex, is_aid, load_text, named_text, naming_words, one_field_text, only_of, plain_hex, stated_text, statement_text, Loadable};
 ghost use Rattle.mc_desk.specs.Views.{loadable_of, part_text, AreSections, Pushes};
 
-use crate::field::fields;
 use crate::hexadecimal::byte_count;
-use crate::part::{after_word, framed_in};
-use crate::refusal::Fault;
+use crate::part::{after_word, part_in};
 use crate::text::{push, push_byte, push_decimal};
+use mc_deck::{Fault, fields};
 use mc_model_play::DeckCause;
 use mc_text::cut_blank;
 use std::alloc::AllocError;
 use std::collections::BTreeMap;
 
-/// What a statement needs of a section: its AID as it was written, and the sizes of its static bytes and of its session.
+/// What a statement needs of a section: its AID as it was written, and the sizes of its static bytes and of its
+/// session.
 #[derive(Clone, Copy)]
 pub struct Sizes<'a> {
     pub aid: &'a [u8],
@@ -67,8 +67,8 @@ fn after_open(text: &[u8]) -> Option<&[u8]>
 }
 
 // What stands in round brackets.
-fn bracketed(field: &[u8]) -> Option<&[u8]>
-    ensures { option_map (λ t. t.now) result ≡ bracketed field.now }
+fn text_in_brackets(field: &[u8]) -> Option<&[u8]>
+    ensures { option_map (λ t. t.now) result ≡ text_in_brackets field.now }
 {
     match field {
         [front @ .., b')'] => after_open(front),
@@ -100,7 +100,7 @@ fn push_plain(deck: &mut Vec<u8>, field: &[u8]) -> Result<(), Fault>
 fn push_field(deck: &mut Vec<u8>, field: &[u8]) -> Result<(), Fault>
     ensures { Pushes deck.old.items (command_field field.now) result deck.new.items }
 {
-    match bracketed(field) {
+    match text_in_brackets(field) {
         Some(inner) => push_counted(deck, inner),
         None => push_plain(deck, field),
     }
@@ -129,8 +129,8 @@ fn push_command(deck: &mut Vec<u8>, text: &[u8]) -> Result<(), Fault>
     Ok(())
 }
 
-// The sizes of the section with a name.
-fn sizes_of<'a>(sections: &Sections<'a>, name: &'a [u8]) -> Option<Sizes<'a>>
+/// Returns the sizes of the section with a name, or `None` if no section has it.
+pub fn sizes_of<'a>(sections: &Sections<'a>, name: &'a [u8]) -> Option<Sizes<'a>>
     ensures { (l : List (List ℕ × Loadable)) → AreSections sections.now l
         → option_map loadable_of result ≡ lookup l name.now }
 {
@@ -315,8 +315,8 @@ fn push_rest<'a>(
 ///
 /// # Errors
 ///
-/// `UnknownName` for a `load` of one field that no section has as its name; of an `apdu`, `BadHex` for a field that is empty or
-/// no whole bytes, and `OutOfRange` for more than 255 bytes in brackets.
+/// `UnknownName` for a `load` of one field that no section has as its name; of an `apdu`, `BadHex` for a field that is
+/// empty or no whole bytes, and `OutOfRange` for more than 255 bytes in brackets.
 pub fn push_statement<'a>(
     deck: &mut Vec<u8>,
     sections: &Sections<'a>,
@@ -325,7 +325,7 @@ pub fn push_statement<'a>(
     ensures { (l : List (List ℕ × Loadable)) → AreSections sections.now l
         → Pushes deck.old.items (statement_text l line.now) result deck.new.items }
 {
-    let part = framed_in(line, after_word(line));
+    let part = part_in(line, after_word(line));
     push(deck, part.before)?;
     push_rest(deck, sections, line, part.core)?;
     push(deck, part.after)?;

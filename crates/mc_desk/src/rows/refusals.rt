@@ -55,7 +55,8 @@ pub fn bad_bytes_and_numbers()
     ensures name { deck (codes "app a A000000100\nCONST y 1\nCONST x y\nend\n") ≡ Err (3, BadNumber) }
 {}
 
-/// Sizes of 0, sums above what a segment has, bytes that are not as many as the size says, and numbers beyond two bytes.
+/// Sizes of 0, sums above what a segment has, bytes that are not as many as the size says, and numbers beyond two
+/// bytes.
 pub fn out_of_range()
     ensures static_none { deck (codes "app a A000000100\nSTATIC x 0\nend\n") ≡ Err (2, OutOfRange) }
     ensures static_most { deck (codes "app a A000000100\nSTATIC x 4095\nSTATIC y 1\nend\nload a")

@@ -9,4 +9,4 @@ returns-clause-good c =
     let us = c.self.inside.units.items in
     let lt = subst (λ (v : List (ℕ × DeckLine)). c.args.i < length v) (sym c.self.view_is) c.requires in
     let good = good_in us c.self.inside.lines.items c.args.i c.index.result.now lt c.self.invariant.deck.ranges in
-    subst GoodLine (sym (c.lent_line.ensures ∙ ap (λ u. grammar_line u c.index.result.now.1) c.as_slice.ensures.value ∙ ap (λ (l : _). grammar_line us l.1) c.index.ensures)) good
+    subst GoodLine (sym (c.borrowed_line.ensures ∙ ap (λ u. grammar_line u c.index.result.now.1) c.as_slice.ensures.value ∙ ap (λ (l : _). grammar_line us l.1) c.index.ensures)) good

@@ -10,18 +10,19 @@ use Rattle.mc_model_machine.specs.Apdu.{ApduParts}
 use Rattle.mc_model_machine.specs.Code.{instruction_at}
 use Rattle.mc_model_machine.specs.Frame.{Frame, Effect, resolve, where_is, bytes_in, floor}
 use Rattle.mc_model_machine.specs.Row.{RowEnd, Abends, Does, row}
-use Rattle.mc_model_machine.specs.Chain.{Turn, Chain, Follows, Continues, Ends, around, code_in, frame_at, chain_after_effect, follows, told_frame, turn_of_chain, turn_without_budget, start}
+use Rattle.mc_model_machine.specs.Chain.{Turn, Chain, Follows, Continues, Ends, around, code_in, frame_at, chain_after_effect, follows, reported_frame, turn_of_chain, turn_without_budget, start}
 use Rattle.mc_model_card.specs.Commands.{command}
 use Rattle.mc_model_card.specs.Items.{card_done}
-use Rattle.mc_model_card.specs.Manager.{Selected, Seat, Route, WrongLength, WrongClass, ToSelect, ToManager, ToApplication, route}
+use Rattle.mc_model_card.specs.Manager.{Selected, SessionState, Route, WrongLength, WrongClass, ToSelect, ToManager, ToApplication, route}
 use Rattle.mc_model_play.specs.DeckGrammar.{DeckLine}
 use Rattle.mc_model_play.specs.DeckGrammar as line
-use Rattle.mc_model_play.specs.Play.{State, Cold, Hot, Live, Running, Unpowered, Muted, Step, select_bytes, delete_bytes, load_commands, is_done}
+use Rattle.mc_model_play.specs.Play.{State, BeforePower, AfterPower, Live, Running, Unpowered, Muted, Step, select_bytes, delete_bytes, load_commands, is_done}
 use Rattle.mc_model_play.specs.TraceText.{shown_turns}
 
--- a turn, the code of its application, its frame after the turn (before it where the chain ends with an abend), and the bytes that its
--- operand `REG[offset]` names, as they are after the turn; none where it has no such operand, or ends with an abend
-pub record Told : Type 0 where
+-- a turn, the code of its application, its frame after the turn (before it where the chain ends with an abend), and the
+-- bytes that its operand `REG[offset]` names, as they are after the turn; none where it has no such operand, or ends
+-- with an abend
+pub record FullTurn : Type 0 where
   pub turn : Turn
   pub code : List ℕ
   pub frame : Frame
@@ -39,7 +40,8 @@ pub record Span : Type 0 where
 abbrev pub span : ℕ → ℤ → ℕ → Option Span
 span tag off n = cond (tag == 0) None (Some (record { tag = tag; offset = off; size = n }))
 
--- the bytes that an instruction's operand names: those of a pointer, of a word or a byte with an immediate, else its length
+-- the bytes that an instruction's operand names: those of a pointer, of a word or a byte with an immediate, else its
+-- length
 abbrev pub span_of : Ins → Option Span
 span_of (ins.Load tag off n) = span tag off n
 span_of (ins.Store tag off n) = span tag off n
@@ -77,7 +79,7 @@ operand_after before e (Some s) = bytes_in e.frame e.public s.size (option_and_t
 abbrev pub after_row : Chain → Ins → RowEnd → Frame × List ℕ
 after_row ch i (Abends cause) = (ch.frame, [])
 after_row ch i (Does d) =
-    (told_frame ch.frame d.effect.frame (follows (chain_after_effect ch d.effect) d.next), operand_after ch.frame d.effect (span_of i))
+    (reported_frame ch.frame d.effect.frame (follows (chain_after_effect ch d.effect) d.next), operand_after ch.frame d.effect (span_of i))
 
 -- the frame and the operand after a fetch
 abbrev pub after_fetch : Chain → Result (Ins × ℕ) DecodeFault → Frame × List ℕ
@@ -89,85 +91,85 @@ abbrev pub running_code : Chain → List ℕ
 running_code ch = code_in (lookup ch.map ch.frame.name)
 
 -- a turn of a chain with what surrounds it, by the frame and the operand after it
-abbrev pub surrounded : Chain → Turn → Frame × List ℕ → Told
+abbrev pub surrounded : Chain → Turn → Frame × List ℕ → FullTurn
 surrounded ch t after = record { turn = t; code = running_code ch; frame = after.0; operand = after.1 }
 
 -- the turn of a chain whose budget is not spent
-unfoldable pub told : Chain → Turn → Told
+unfoldable pub full_turn : Chain → Turn → FullTurn
 unfolding row
-told ch t = surrounded ch t (after_fetch ch (instruction_at (running_code ch) ch.frame.at))
+full_turn ch t = surrounded ch t (after_fetch ch (instruction_at (running_code ch) ch.frame.at))
 
 -- ---- runs
 
 -- a turn, and the rest where the chain goes on
-abbrev pub told_on : Told → Follows → (Chain → List Told) → List Told
-told_on t (Ends o) rest = t ∷ []
-told_on t (Continues ch) rest = t ∷ rest ch
+abbrev pub turns_on : FullTurn → Follows → (Chain → List FullTurn) → List FullTurn
+turns_on t (Ends o) rest = t ∷ []
+turns_on t (Continues ch) rest = t ∷ rest ch
 
 -- the turns of a chain with this budget
-unfoldable pub told_run : ℕ → Chain → List Told
-unfolding turn_of_chain told
-told_run zero ch = surrounded ch (turn_without_budget ch).turn (ch.frame, []) ∷ []
-told_run (suc n) ch = let t = turn_of_chain ch in told_on (told ch t.turn) t.follows (λ c. told_run n c)
+unfoldable pub turns_of_run : ℕ → Chain → List FullTurn
+unfolding turn_of_chain full_turn
+turns_of_run zero ch = surrounded ch (turn_without_budget ch).turn (ch.frame, []) ∷ []
+turns_of_run (suc n) ch = let t = turn_of_chain ch in turns_on (full_turn ch t.turn) t.follows (λ c. turns_of_run n c)
 
 -- ---- plays
 
 -- the turns of a command for the selected application
-abbrev pub told_passed : Card → Option Selected → ApduParts → ℕ → List Told
-told_passed c None a budget = []
-told_passed c (Some s) a budget = told_run budget (start c.apps s.name s.session a)
+abbrev pub turns_of_application : Card → Option Selected → ApduParts → ℕ → List FullTurn
+turns_of_application c None a budget = []
+turns_of_application c (Some s) a budget = turns_of_run budget (start c.apps s.name s.session a)
 
 -- the turns of a command by its route
-abbrev pub told_route : Card → Seat → ℕ → Route → List Told
-told_route c seat budget WrongLength = []
-told_route c seat budget WrongClass = []
-told_route c seat budget (ToSelect a) = []
-told_route c seat budget (ToManager a) = []
-told_route c seat budget (ToApplication a) = told_passed c seat.selected a budget
+abbrev pub turns_of_route : Card → SessionState → ℕ → Route → List FullTurn
+turns_of_route c session_state budget WrongLength = []
+turns_of_route c session_state budget WrongClass = []
+turns_of_route c session_state budget (ToSelect a) = []
+turns_of_route c session_state budget (ToManager a) = []
+turns_of_route c session_state budget (ToApplication a) = turns_of_application c session_state.selected a budget
 
 -- the turns of one command on a running card
-abbrev pub told_command : Card → Seat → List ℕ → ℕ → List Told
-told_command c seat bytes budget = told_route c seat budget (route bytes)
+abbrev pub turns_of_command : Card → SessionState → List ℕ → ℕ → List FullTurn
+turns_of_command c session_state bytes budget = turns_of_route c session_state budget (route bytes)
 
 -- turns, and those after them where the command was answered by 9000 alone
-abbrev pub told_sent : Bool → List Told → List Told → List Told
-told_sent true first rest = first ++ rest
-told_sent false first rest = first
+abbrev pub turns_of_sent : Bool → List FullTurn → List FullTurn → List FullTurn
+turns_of_sent true first rest = first ++ rest
+turns_of_sent false first rest = first
 
 -- the turns of commands in turn, up to the first that is not answered by 9000 alone
-unfoldable pub told_send : Card → Seat → ℕ → List (List ℕ) → List Told
-unfolding command told_run
-told_send c seat budget [] = []
-told_send c seat budget (b ∷ bs) =
-    let r = command c seat b budget in
-    let rest = told_send (card_done c r.items) r.seat budget bs in
-    told_sent (is_done r.outcome) (told_command c seat b budget) rest
+unfoldable pub turns_of_commands : Card → SessionState → ℕ → List (List ℕ) → List FullTurn
+unfolding command turns_of_run
+turns_of_commands c session_state budget [] = []
+turns_of_commands c session_state budget (b ∷ bs) =
+    let r = command c session_state b budget in
+    let rest = turns_of_commands (card_done c r.items) r.session_state budget bs in
+    turns_of_sent (is_done r.outcome) (turns_of_command c session_state b budget) rest
 
 -- the turns of a line of a running card
-abbrev pub told_line : Card → Seat → ℕ → DeckLine → List Told
-told_line c seat budget (line.Select n) = told_command c seat (select_bytes n) budget
-told_line c seat budget (line.Delete n) = told_command c seat (delete_bytes n) budget
-told_line c seat budget (line.Apdu b) = told_command c seat b budget
-told_line c seat budget (line.Load u fixed session) = told_send c seat budget (load_commands u fixed session)
-told_line c seat budget _ = []
+abbrev pub turns_of_line : Card → SessionState → ℕ → DeckLine → List FullTurn
+turns_of_line c session_state budget (line.Select n) = turns_of_command c session_state (select_bytes n) budget
+turns_of_line c session_state budget (line.Delete n) = turns_of_command c session_state (delete_bytes n) budget
+turns_of_line c session_state budget (line.Apdu b) = turns_of_command c session_state b budget
+turns_of_line c session_state budget (line.Load u fixed session) = turns_of_commands c session_state budget (load_commands u fixed session)
+turns_of_line c session_state budget _ = []
 
 -- the turns of a line where a card runs
-abbrev pub told_live : Live → Base → ℕ → DeckLine → List Told
-told_live (Running seat) (OnCard c) budget l = told_line c seat budget l
-told_live (Running seat) (AtFault cause p) budget l = []
-told_live Unpowered base budget l = []
-told_live Muted base budget l = []
+abbrev pub turns_of_live : Live → Base → ℕ → DeckLine → List FullTurn
+turns_of_live (Running session_state) (OnCard c) budget l = turns_of_line c session_state budget l
+turns_of_live (Running session_state) (AtFault cause p) budget l = []
+turns_of_live Unpowered base budget l = []
+turns_of_live Muted base budget l = []
 
 -- the turns of a line in a state
-unfoldable pub told_of : State → DeckLine → List Told
-unfolding told_run told_send
-told_of (Cold m b a) l = []
-told_of (Hot s) l = told_live s.live s.base s.budget l
+unfoldable pub turns_of_line_in : State → DeckLine → List FullTurn
+unfolding turns_of_run turns_of_commands
+turns_of_line_in (BeforePower m b a) l = []
+turns_of_line_in (AfterPower s) l = turns_of_live s.live s.base s.budget l
 
 -- the turns of a line that was played, up to the one in which a stop hit it
-unfoldable pub told_step : Step → List Told
-unfolding told_of
-told_step t = take (length (shown_turns t.turns t.stop)) (told_of t.before t.line)
+unfoldable pub turns_of_step : Step → List FullTurn
+unfolding turns_of_line_in
+turns_of_step t = take (length (shown_turns t.turns t.stop)) (turns_of_line_in t.before t.line)
 
 -- ---- the stack
 
