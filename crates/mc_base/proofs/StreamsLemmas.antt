@@ -1,10 +1,11 @@
 -- How takes and puts compose.
-use Rattle.std.proofs.Common.{◌≡◌, ℕ, ◌+◌, ◌-◌, ◌<◌, ◌≤◌, List, [], ◌++◌, length, take, drop, Option, Some, None, refl, arith, sym, ◌∙◌, ap, subst, append_assoc, length-drop, inl, inr, ◌⊎◌}
+use Rattle.std.proofs.Common.{◌≡◌, ℕ, zero, suc, ◌+◌, ◌-◌, ◌<◌, ◌≤◌, List, [], ◌++◌, length, take, drop, Option, Some, None, refl, arith, sym, ◌∙◌, ap, subst, append_assoc, length-drop, inl, inr, ◌⊎◌}
 use Rattle.std.proofs.Common.{length-append, length-take}
 use Rattle.std.proofs.lemmas.List.{append-nil, take_rest, take_at, drop-drop, take-append-drop}
+use Rattle.std.proofs.Math.Nat.{min-le_left}
 use Rattle.std.proofs.Math.Seq.{take-add}
 use Rattle.mc_model_device.specs.Counts.{Rose, last_count}
-use Rattle.mc_base.specs.Streams.{Took, AtEnd, Grew, Stays, TookAtMost, TookMore, GrewByPart}
+use Rattle.mc_base.specs.Streams.{one_more, without_last, Took, AtEnd, Grew, Stays, TookAtMost, TookMore, GrewByPart}
 
 -- a take after a take
 pub took_append : (a b c : Option (List ℕ)) (xs ys : List ℕ) → Took a b xs → Took b c ys → Took a c (xs ++ ys)
@@ -51,6 +52,25 @@ grew_none (Some l) = sym (append-nil l)
 -- a count that rose later rose
 pub rose_later : (a b c : ℕ) → a ≤ b → Rose b c → Rose a c
 rose_later a b c h r = elim r [ inl more ↦ inl (omega arith) | inr last ↦ inr last ]
+
+-- a count plus one is at most one more
+pub one_more_most : (n : ℕ) → one_more n ≤ n + 1
+one_more_most n = min-le_left (n + 1) last_count
+
+-- a call more, which took n bytes, after at most as many calls as bytes
+pub counted_call : (a b c d n : ℕ) → b ≤ a + d → c ≡ one_more b → 0 < n → c ≤ a + (d + n)
+counted_call a b c d n most is some = let more = one_more_most b in rw is (omega (arith, most, more, some))
+
+-- calls that each took their whole piece are one call: none went before the one that took the last bytes
+pub whole_call : {S : Type 0} (calls : S → ℕ) (IsWhole : S → Type 0) (a b c : S) (size done n : ℕ) → done < size → (done ≡ 0 → b ≡ a)
+    → (IsWhole b → 0 < done → (calls b ≡ one_more (calls a)) × (done ≡ size)) → calls c ≡ one_more (calls b)
+    → (IsWhole c → IsWhole b × (n ≡ size - done)) → IsWhole c → (calls c ≡ one_more (calls a)) × (done + n ≡ size)
+whole_call {S} calls IsWhole a b c size zero n less none one is parts whole =
+    let rest : n ≡ size - 0 = (parts whole).1 in
+    (is ∙ ap (λ s. one_more (calls s)) (none refl), omega (arith, rest))
+whole_call {S} calls IsWhole a b c size (suc d) n less none one is parts whole =
+    let all = (one (parts whole).0 (omega arith)).1 in
+    absurd (omega (arith, less, all))
 
 -- a put of the next bytes of a piece
 pub put_more : (a b c : Option (List ℕ)) (piece : List ℕ) (i n : ℕ) → Grew a b (take i piece) → Grew b c (take n (take (length piece - i) (drop i piece))) → Grew a c (take (i + n) piece)

@@ -1,27 +1,26 @@
 -- The calls of a source and a sink over memory, exactly.
-use Rattle.std.specs.Prelude.{ℕ, ◌+◌, ◌-◌, ◌==◌, min, Bool, true, false, ◌||◌, ◌&&◌, not, cond, List, [], ◌∷◌, ◌++◌, length, take, drop, Result, Ok, Err}
+use Rattle.std.specs.Prelude.{ℕ, ◌+◌, ◌-◌, ◌==◌, min, nat_le, Bool, true, false, ◌||◌, ◌&&◌, not, cond, List, [], ◌∷◌, ◌++◌, length, take, drop, Result, Ok, Err}
 use Rattle.std.specs.List.{list_any}
-use Rattle.mc_model_device.specs.Counts.{last_count}
+use Rattle.mc_base.specs.Streams.{one_more}
 use Rattle.mc_base.specs.declared.refusals.Failed.{Failed}
 
--- the state of a source over bytes: what is left, the numbers of the calls that fail, and the counts of calls and of failed ones
+-- the state of a source over bytes: what is left, the numbers of the calls that fail, and the counts of calls and of
+-- failed ones
 pub record SourceLeft : Type 0 where
   pub bytes : List ℕ
   pub fail_at : List ℕ
   pub calls : ℕ
   pub faults : ℕ
 
--- the state of a sink into memory: what it took, the number of bytes that still fit, the numbers of the calls that fail, and the counts
+-- the state of a sink into memory: what it took, the number of bytes that still fit, the numbers of the calls that
+-- fail, the counts, and whether each call so far took its whole piece
 pub record SinkTaken : Type 0 where
   pub bytes : List ℕ
   pub room : ℕ
   pub fail_at : List ℕ
   pub calls : ℕ
   pub faults : ℕ
-
--- a count plus one, up to the last value of a count
-abbrev pub one_more : ℕ → ℕ
-one_more n = min (n + 1) last_count
+  pub whole : Bool
 
 -- whether the next call of this source fails
 abbrev pub take_fails : SourceLeft → Bool
@@ -40,4 +39,9 @@ put_fails t piece = list_any (λ number. number == one_more t.calls) t.fail_at |
 abbrev pub sink_after_put : SinkTaken → Bool → List ℕ → SinkTaken
 sink_after_put t true piece = record t { calls = one_more t.calls; faults = one_more t.faults }
 sink_after_put t false piece =
-    record t { bytes = t.bytes ++ take (min (length piece) t.room) piece; room = t.room - length piece; calls = one_more t.calls }
+    record t {
+      bytes = t.bytes ++ take (min (length piece) t.room) piece;
+      room = t.room - length piece;
+      calls = one_more t.calls;
+      whole = t.whole && nat_le (length piece) t.room;
+    }

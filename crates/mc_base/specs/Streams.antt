@@ -1,6 +1,16 @@
--- What calls do to the bytes that a source has left and a sink has taken, if it states them: `Some` of the bytes. For a stream
--- that does not, `None`, nothing is claimed here, and one that does goes on stating them.
-use Rattle.std.specs.Prelude.{◌≡◌, ℕ, ◌<◌, ◌≤◌, List, [], ◌++◌, length, Option, Some, None, ⊤}
+-- What calls do to the bytes that a source has left and a sink has taken, if it states them: `Some` of the bytes. For a
+-- stream that does not, `None`, nothing is claimed here, and one that does goes on stating them.
+use Rattle.std.specs.Prelude.{◌≡◌, ℕ, zero, suc, ◌+◌, ◌-◌, ◌<◌, ◌≤◌, min, List, [], ◌++◌, length, take, Option, Some, None, option_map, ⊤}
+use Rattle.mc_model_device.specs.Counts.{last_count}
+
+-- a count plus one, up to the last value of a count
+abbrev pub one_more : ℕ → ℕ
+one_more n = min (n + 1) last_count
+
+-- the bytes that a writer holds without the last n of them, which it could not pass on
+abbrev pub without_last : ℕ → Option (List ℕ) → Option (List ℕ)
+without_last zero held = held
+without_last (suc n) held = option_map (λ xs. take (length xs - suc n) xs) held
 
 -- these bytes came from the front of what was left
 abbrev pub Took : Option (List ℕ) → Option (List ℕ) → List ℕ → Type 0

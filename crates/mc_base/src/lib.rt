@@ -11,6 +11,8 @@ mod outside;
 mod refusals;
 mod sink;
 mod source;
+#[cfg(test)]
+mod tests;
 
 pub use aid::Aid;
 pub use ledger::Steps;

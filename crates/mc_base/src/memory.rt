@@ -56,14 +56,16 @@ impl MemSource {
 }
 
 impl Source for MemSource {
-    ghost use Rattle.std.specs.Prelude.{◌≡◌, ℕ, ◌+◌, ◌<◌, ◌≤◌, min, List, length, take, Option, Some, is_err, IfOk, OnErr};
+    ghost use Rattle.std.specs.Prelude.{◌≡◌, ℕ, ◌+◌, ◌<◌, ◌≤◌, min, List, length, take, Option, Some, is_err, IfOk, OnOk, OnErr};
     ghost use Rattle.mc_model_device.specs.Counts.{Rose};
-    ghost use Rattle.mc_base.specs.Streams.{Took, AtEnd, Stays};
+    ghost use Rattle.mc_base.specs.Streams.{one_more, Took, AtEnd, Stays};
     ghost use Rattle.mc_base.specs.MemoryStreams.{take_fails, source_after_call};
 
     ghost left = { λ s. Some s.bytes };
 
     ghost faults = { λ s. s.faults };
+
+    ghost calls = { λ s. s.calls };
 
     fn take(&mut self, into: &mut [u8]) -> Result<usize, Failed>
         ensures bound { IfOk result (λ n. n ≤ length into.new) }
@@ -72,9 +74,13 @@ impl Source for MemSource {
         ensures failed { OnErr result (Rose self.old.faults self.new.faults) }
         ensures kept { OnErr result (Stays (Some self.old.bytes) (Some self.new.bytes)) }
         ensures counted { self.old.faults ≤ self.new.faults }
+        ensures quiet { OnOk result (self.new.faults ≡ self.old.faults) }
+        ensures once { OnErr result (self.new.faults ≡ one_more self.old.faults) }
+        ensures calls { self.new.calls ≡ one_more self.old.calls }
         ensures fails { is_err result ≡ take_fails self.old }
         ensures count { IfOk result (λ n. n ≡ min (length into.old) (length self.old.bytes)) }
-        ensures after { self.new ≡ source_after_call self.old (is_err result) (min (length into.old) (length self.old.bytes)) }
+        ensures after { self.new
+            ≡ source_after_call self.old (is_err result) (min (length into.old) (length self.old.bytes)) }
     {
         self.calls = self.calls.saturating_add(1);
         if has_call(self.fail_at.as_slice(), self.calls) {
@@ -106,7 +112,7 @@ fn is_refused(numbers: &[u32], call: u64, room: usize, piece: &[u8]) -> bool
     room == 0 && !piece.is_empty()
 }
 
-/// A sink into memory, for tests. Contracts see the bytes that it took.
+/// A sink into memory, for tests, which has no buffer before that memory. Contracts see the bytes that it took.
 #[derive(Drop)]
 pub struct MemSink {
     bytes: Vec<u8>,
@@ -114,6 +120,7 @@ pub struct MemSink {
     fail_at: Vec<u32>,
     calls: u64,
     faults: u64,
+    is_whole: bool,
 }
 
 impl Model for MemSink {
@@ -128,13 +135,14 @@ impl Model for MemSink {
       fail_at = t.fail_at.items;
       calls = t.calls;
       faults = t.faults;
+      whole = t.is_whole;
     } };
 
     ghost invariant = { λ t. vec_len t.bytes + t.room ≤ vec_capacity t.bytes };
 }
 
 impl MemSink {
-    ghost use Rattle.std.specs.Prelude.{◌≡◌, [], IfOk};
+    ghost use Rattle.std.specs.Prelude.{◌≡◌, true, [], IfOk};
 
     /// Creates a sink with room for `room` bytes, which is allocated at once. Its calls are numbered from 1. A call
     /// fails if its number is in `fail_at`, and if its piece is not empty and no room is left.
@@ -149,6 +157,7 @@ impl MemSink {
           fail_at = fail_at.now;
           calls = 0;
           faults = 0;
+          whole = true;
         }) }
     {
         Ok(MemSink {
@@ -157,6 +166,7 @@ impl MemSink {
             fail_at: Vec::from_slice(alloc, fail_at)?,
             calls: 0,
             faults: 0,
+            is_whole: true,
         })
     }
 
@@ -169,14 +179,20 @@ impl MemSink {
 }
 
 impl Sink for MemSink {
-    ghost use Rattle.std.specs.Prelude.{◌≡◌, ℕ, ◌+◌, ◌<◌, ◌≤◌, min, List, length, take, Option, Some, is_err, IfOk, OnErr};
+    ghost use Rattle.std.specs.Prelude.{◌≡◌, ℕ, ◌+◌, ◌<◌, ◌≤◌, ◌↔◌, min, true, List, length, take, Option, Some, is_err, IfOk, OnOk, OnErr};
     ghost use Rattle.mc_model_device.specs.Counts.{Rose};
-    ghost use Rattle.mc_base.specs.Streams.{Grew, Stays};
+    ghost use Rattle.mc_base.specs.Streams.{one_more, Grew, Stays};
     ghost use Rattle.mc_base.specs.MemoryStreams.{put_fails, sink_after_put};
 
     ghost taken = { λ t. Some t.bytes };
 
     ghost faults = { λ t. t.faults };
+
+    ghost calls = { λ t. t.calls };
+
+    ghost is_whole = { λ t. t.whole };
+
+    ghost is_flushed = { λ t. true };
 
     fn put(&mut self, piece: &[u8]) -> Result<usize, Failed>
         ensures bound { IfOk result (λ n. n ≤ length piece.now) }
@@ -185,6 +201,12 @@ impl Sink for MemSink {
         ensures failed { OnErr result (Rose self.old.faults self.new.faults) }
         ensures kept { OnErr result (Stays (Some self.old.bytes) (Some self.new.bytes)) }
         ensures counted { self.old.faults ≤ self.new.faults }
+        ensures quiet { OnOk result (self.new.faults ≡ self.old.faults) }
+        ensures once { OnErr result (self.new.faults ≡ one_more self.old.faults) }
+        ensures calls { self.new.calls ≡ one_more self.old.calls }
+        ensures whole { IfOk result (λ n. self.new.whole ≡ true ↔ ((self.old.whole ≡ true)
+            × (n ≡ length piece.now))) }
+        ensures flushed { IfOk result (λ n. 0 < n → true ≡ true) }
         ensures fails { is_err result ≡ put_fails self.old piece.now }
         ensures count { IfOk result (λ n. n ≡ min (length piece.now) self.old.room) }
         ensures after { self.new ≡ sink_after_put self.old (is_err result) piece.now }
@@ -197,6 +219,7 @@ impl Sink for MemSink {
         let count = piece.len().min(self.room);
         self.bytes.extend_from_slice(&piece[..count]).unwrap();
         self.room -= count;
+        self.is_whole = self.is_whole && count == piece.len();
         Ok(count)
     }
 }

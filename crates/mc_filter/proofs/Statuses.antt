@@ -1,5 +1,5 @@
 -- The text that a filter's job writes, and the number of its status.
-use Rattle.std.proofs.Common.{◌≡◌, ◌≤◌, ℕ, cond, nat_eq, List, Result, Ok, Err, OnErr, OnOk, refl, ap, sym, subst, ◌∙◌}
+use Rattle.std.proofs.Common.{◌≡◌, ℕ, cond, nat_eq, List, Result, Ok, Err, OnErr, OnOk, refl, ap, sym, subst, ◌∙◌}
 use Rattle.mc_model_device.specs.Counts.{Rose}
 use Rattle.mc_base.specs.Streams.{Grew, GrewByPart}
 use Rattle.mc_base.specs.declared.refusals.WriteFault.{WriteFault as Fault}
@@ -10,9 +10,9 @@ use Rattle.mc_filter.specs.Statuses.{status_after_writing, number_of}
 
 -- a text was put, from the contract of the call that wrote an equal one
 pub puts_by : (a b : Sunk) (piece text : List ℕ) (r : Result (Unit {0}) Fault) → piece ≡ text → OnOk r (Grew a.taken b.taken piece)
-    → OnErr r (Rose a.faults b.faults) → OnErr r (GrewByPart a.taken b.taken piece) → a.faults ≤ b.faults → Puts a text r b
-puts_by a b piece text (Ok u) is grew rose part counted = record { whole = subst (λ (t : List ℕ). Grew a.taken b.taken t) is grew; counted = counted }
-puts_by a b piece text (Err f) is grew rose part counted = record { part = subst (λ (t : List ℕ). GrewByPart a.taken b.taken t) is part; cause = rose }
+    → OnErr r (Rose a.faults b.faults) → OnErr r (GrewByPart a.taken b.taken piece) → OnOk r (b.faults ≡ a.faults) → Puts a text r b
+puts_by a b piece text (Ok u) is grew rose part quiet = record { whole = subst (λ (t : List ℕ). Grew a.taken b.taken t) is grew; counted = quiet }
+puts_by a b piece text (Err f) is grew rose part quiet = record { part = subst (λ (t : List ℕ). GrewByPart a.taken b.taken t) is part; cause = rose }
 
 -- if the sink did not fail, a text was written whole
 pub written_whole : (a b : Sunk) (text : List ℕ) (good s : Status) (r : Result (Unit {0}) Fault) → (Rose a.faults b.faults → ⊥)

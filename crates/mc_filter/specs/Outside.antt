@@ -1,6 +1,6 @@
--- The source and the sink of a program, and its promises about them at each of its statuses. The type V is that of a program's verdicts
--- on an input, of which a refusal by a line is one; the program supplies which verdicts an input has, which is due, and when a verdict is
--- done.
+-- The source and the sink of a program, and its promises about them at each of its statuses. The type V is that of a
+-- program's verdicts on an input, of which a refusal by a line is one; the program supplies which verdicts an input
+-- has, which is due, and when a verdict is done.
 use Rattle.std.specs.Prelude.{◌≡◌, ℕ, ◌≤◌, ◌<◌, ◌⊎◌, List, length, Option, Some, None}
 use Rattle.mc_model_device.specs.Counts.{Rose}
 use Rattle.mc_base.specs.Streams.{TookMore}
@@ -93,8 +93,8 @@ pub record SaysNoForm (usage : List ℕ) (s : Status) (a : Outside) : Type 0 whe
   pub source : Untouched a
   pub written : IsWritten NoForm usage s a.out_old a.out
 
--- the promise at each status of a job: it was done with this status, the source failed, or out of memory; a status that never comes has
--- the empty promise
+-- the promise at each status of a job: it was done with this status, the source failed, or out of memory; a status that
+-- never comes has the empty promise
 abbrev pub JobSays : (Status → Type 0) → Type 0 → Type 0 → Status → Type 0
 JobSays Did Fault Short ReadFault = Fault
 JobSays Did Fault Short NoMemory = Short

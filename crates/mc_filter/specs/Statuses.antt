@@ -27,7 +27,8 @@ pub record IsWritten (good : Status) (text : List ℕ) (s : Status) (before afte
   pub status : s ≡ status_after_writing good result
   pub written : Puts before text result after
 
--- the end of a job that is rejected: the line of a refusal is written, and nothing at a fault of the source or out of memory
+-- the end of a job that is rejected: the line of a refusal is written, and nothing at a fault of the source or out of
+-- memory
 abbrev pub RejectionEnds : Rejection → Sunk → Status → Sunk → Type 0
 RejectionEnds (rejection.Refusal line) before s after = IsWritten Failed line.items s before after
 RejectionEnds rejection.ReadFault before s after = (s ≡ ReadFault) × (after ≡ before)

@@ -9,7 +9,7 @@ use Rattle.mc_text.specs.Texts.{Sunk, Writes, Fails, Puts}
 -- a text that was written after one that was written
 pub writes_then : {a b c : Sunk} {x y : List ℕ} → Writes a x b → Writes b y c → Writes a (x ++ y) c
 writes_then {a} {b} {c} {x} {y} first second =
-    record { whole = grew_append a.taken b.taken c.taken x y first.whole second.whole; counted = omega (arith, first.counted, second.counted) }
+    record { whole = grew_append a.taken b.taken c.taken x y first.whole second.whole; counted = second.counted ∙ first.counted }
 
 -- a text that failed after one that was written
 pub fails_then : {a b c : Sunk} {x y : List ℕ} → Writes a x b → Fails b y c → Fails a (x ++ y) c
@@ -23,7 +23,7 @@ fails_then {a} {b} {c} {x} {y} first second =
             some_left = second.part.some_left;
             grew = grew_append a.taken b.taken c.taken x second.part.front first.whole second.part.grew;
           };
-      cause = rose_later a.faults b.faults c.faults first.counted second.cause;
+      cause = rose_later a.faults b.faults c.faults (omega (arith, first.counted)) second.cause;
     }
 
 -- a text that was written or failed after one that was written
@@ -53,7 +53,7 @@ puts_failed (Err w) is f = f
 
 -- the empty text is written without a call
 pub writes_none : (a : Sunk) → Writes a [] a
-writes_none a = record { whole = grew_none a.taken; counted = omega arith }
+writes_none a = record { whole = grew_none a.taken; counted = refl }
 
 -- an equal text is put with the same result
 pub puts_as : (a b : Sunk) {t u : List ℕ} (r : Result (Unit {0}) WriteFault) → t ≡ u → Puts a t r b → Puts a u r b

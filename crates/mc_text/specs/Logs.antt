@@ -10,7 +10,8 @@ pub record Log : Type 0 where
   pub out : Sunk
   pub fault : Option WriteFault
 
--- the lines of turns in a log that had no fault before: all of them, or a proper prefix of their text if the sink failed
+-- the lines of turns in a log that had no fault before: all of them, or a proper prefix of their text if the sink
+-- failed
 abbrev pub LoggedAs : Option WriteFault → Sunk → List Turn → Sunk → Type 0
 LoggedAs None a ts b = Writes a (turn_lines ts) b
 LoggedAs (Some f) a ts b = Fails a (turn_lines ts) b

@@ -1,5 +1,5 @@
 -- A text written to a sink: whole, or a proper prefix of it if the sink failed.
-use Rattle.std.specs.Prelude.{ℕ, ◌≤◌, List, Option, Result, Ok, Err}
+use Rattle.std.specs.Prelude.{◌≡◌, ℕ, List, Option, Result, Ok, Err}
 use Rattle.mc_model_device.specs.Counts.{Rose}
 use Rattle.mc_base.specs.Streams.{Grew, GrewByPart}
 use Rattle.mc_base.specs.declared.refusals.WriteFault.{WriteFault}
@@ -13,10 +13,10 @@ pub record Sunk : Type 0 where
 abbrev pub sunk_in : {T : Type 0} → (T → Option (List ℕ)) → (T → ℕ) → T → Sunk
 sunk_in taken faults out = record { taken = taken out; faults = faults out }
 
--- a text was written whole from state a to state b
+-- a text was written whole from state a to state b, and no call of the sink failed
 pub record Writes (a : Sunk) (text : List ℕ) (b : Sunk) : Type 0 where
   pub whole : Grew a.taken b.taken text
-  pub counted : a.faults ≤ b.faults
+  pub counted : b.faults ≡ a.faults
 
 -- a proper prefix of a text was written, and the sink failed
 pub record Fails (a : Sunk) (text : List ℕ) (b : Sunk) : Type 0 where

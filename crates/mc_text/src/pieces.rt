@@ -9,7 +9,11 @@ use mc_base::{Sink, WriteFault, put_all};
 // The upper case hexadecimal digits.
 const DIGITS: [u8; 16] = *b"0123456789ABCDEF";
 
-/// Writes a piece.
+/// Writes a piece, by one call if the sink takes it whole.
+///
+/// # Errors
+///
+/// Returns the fault of the sink if it failed; a proper prefix of the piece was written then.
 pub fn put<T: Sink>(out: &mut T, text: &[u8]) -> Result<(), WriteFault>
     ensures { Puts (sunk_in T.taken T.faults out.old) text.now result (sunk_in T.taken T.faults out.new) }
 {

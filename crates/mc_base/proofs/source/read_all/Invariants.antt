@@ -1,4 +1,4 @@
-use Rattle.std.proofs.Common.{◌≤◌, vec_len}
+use Rattle.std.proofs.Common.{◌≡◌, ◌+◌, ◌≤◌, vec_len}
 use Rattle.mc_base.specs.Streams.{Took}
 use Rattle.mc_base.proofs.source.read_all.Given as goal
 
@@ -9,5 +9,7 @@ invariant-loop-turn g l =
     record {
       fits : vec_len l.bytes ≤ l.limit;
       took : Took (left l.fn.source) (left l.source) l.bytes.items;
+      quiet : faults l.source ≡ faults l.fn.source;
+      calls : g.S.Source.calls l.source ≤ g.S.Source.calls l.fn.source + vec_len l.bytes;
       counted : faults l.fn.source ≤ faults l.source;
     }

@@ -10,5 +10,5 @@ returns-in-Refusal g c =
     let before = sunk_in g.T.Sink.taken g.T.Sink.faults c.args.out.now in
     let after = sunk_in g.T.Sink.taken g.T.Sink.faults c.put_all.new.sink in
     let said = c.put_all.ensures in
-    let put = puts_by before after c.as_slice.result.now c.in-Refusal.line.items c.put_all.result c.as_slice.ensures.value said.bytes said.fault said.part said.counted in
+    let put = puts_by before after c.as_slice.result.now c.in-Refusal.line.items c.put_all.result c.as_slice.ensures.value said.bytes said.fault said.part said.quiet in
     subst (λ (e : Rejection). RejectionEnds e before c.ended.result after) (sym c.in-Refusal.is) (record { result = c.put_all.result; status = c.ended.ensures; written = put })
