@@ -8,7 +8,7 @@ use Rattle.mc_model_device.specs.Device.{DeviceState, IsSized, Wrote as DeviceWr
 use Rattle.mc_model_device.specs.Card.{App, Card as ModelCard}
 use Rattle.mc_model_card.specs.Items.{BankItem, write_items}
 use Rattle.mc_model_machine.specs.Chain.{Chain, Ran, start, run}
-use Rattle.mc_model_card.specs.Manager.{Selected, Seat, Route, WrongClass, ToSelect, ToManager, ToApplication, route_of_parts, route}
+use Rattle.mc_model_card.specs.Manager.{Selected, SessionState, Route, WrongClass, ToSelect, ToManager, ToApplication, route_of_parts, route}
 use Rattle.mc_model_card.specs.Commands.{Command, command, status, ran_command, application_command, by_route}
 use Rattle.mc_apdu.specs.declared.reply.Reply.{Reply}
 use Rattle.mc_bank.specs.Bank.{BankState, app_of, name_or}
@@ -23,7 +23,7 @@ use Rattle.mc_store.specs.Store.{apps_in, store_state, store_named}
 use Rattle.mc_store.specs.StoreItems.{store_did}
 use Rattle.mc_store.specs.GoingLaws.{going_is}
 use Rattle.mc_card.specs.declared.card.Card.{Card}
-use Rattle.mc_card.specs.Parts.{device_in, card_in, seat_in, view_in, due, IsReadyCard}
+use Rattle.mc_card.specs.Parts.{device_in, card_in, session_state_in, view_in, due, IsReadyCard}
 use Rattle.mc_card.specs.Ends.{RunSteps, PassedSteps, RouteSteps, is_passed, most_weight, outcome_or_stop, Commanded, PassedToChain, Answered}
 use Rattle.mc_card.specs.ItemWrites.{ItemsMade, MadeWithin}
 use Rattle.mc_card.specs.Managing.{IsAnswered, IsPassed}
@@ -32,7 +32,8 @@ use Rattle.mc_card.proofs.ManagerLemmas.{going_base}
 use Rattle.mc_card.proofs.MadeLemmas.{made_none}
 use Rattle.mc_card.proofs.FewLemmas.{AllWithin, within_made, writes_within, route_within, going_few}
 use Rattle.mc_machine.proofs.SoundRuns.{RunSound, run_sound, start_sound}
-use Rattle.mc_card.proofs.AfterLemmas.{card_made, still_up, seat_after}
+use Rattle.mc_card.proofs.AfterLemmas.{card_made, still_up, session_state_after}
+use Rattle.mc_card.proofs.StoreBank.{store_bank}
 
 -- ---- steps
 
@@ -55,13 +56,13 @@ passed_quiet a old new n is low high = by_tests (a.cla == 0xFF) (a.cla == 0 && a
 
 -- ---- a command by its bytes
 
-pub due_route : (c : ModelCard) (seat : Seat) (bytes : List ℕ) (budget : ℕ) (o : Option ApduParts) → apdu_read bytes ≡ o → command c seat bytes budget ≡ by_route c seat budget (route_of_parts o)
+pub due_route : (c : ModelCard) (session_state : SessionState) (bytes : List ℕ) (budget : ℕ) (o : Option ApduParts) → apdu_read bytes ≡ o → command c session_state bytes budget ≡ by_route c session_state budget (route_of_parts o)
 unfolding command
-due_route c seat bytes budget o is = ap (λ (x : Option ApduParts). by_route c seat budget (route_of_parts x)) is
+due_route c session_state bytes budget o is = ap (λ (x : Option ApduParts). by_route c session_state budget (route_of_parts x)) is
 
-due_within : (c : ModelCard) (seat : Seat) (bytes : List ℕ) (budget : ℕ) → length c.apps ≤ 32 → is_passed (route bytes) seat.selected ≡ false → AllWithin (most_weight (route bytes)) (command c seat bytes budget).items
+due_within : (c : ModelCard) (session_state : SessionState) (bytes : List ℕ) (budget : ℕ) → length c.apps ≤ 32 → is_passed (route bytes) session_state.selected ≡ false → AllWithin (most_weight (route bytes)) (command c session_state bytes budget).items
 unfolding command
-due_within c seat bytes budget few stays = route_within c seat budget (route bytes) few stays
+due_within c session_state bytes budget few stays = route_within c session_state budget (route bytes) few stays
 
 module _ {N : Type 0} (state : N → DeviceState) (wrote : N → ℕ → List ℕ → Answer → N → Type 0)
     (obeys : (d : N) (at : ℕ) (w : List ℕ) (a : Answer) (e : N) → (state d).on ≡ true → wrote d at w a e → DeviceWrote (state d) at w a (state e)) where
@@ -74,19 +75,19 @@ module _ {N : Type 0} (state : N → DeviceState) (wrote : N → ℕ → List �
   -- a command of a wrong length
   pub wrong_done : (c : Card N) (bytes : List ℕ) (budget : ℕ) (o : Outcome) → IsReadyCard state c → apdu_read bytes ≡ None → outcome_value o ≡ status 0x6700 → Commanded state wrote c (due state c bytes budget) (Ok o) c
   wrong_done c bytes budget o ready wrong is =
-      subst (λ (r : Command). Commanded state wrote c r (Ok o) c) (sym (due_route (card_in state c) (seat_in state c) bytes budget None wrong))
-      (record { made = made_none state wrote obeys (card_in state c) c.store.device (going_base (state c.store.device) c.store.count ready.up.going); outcome = is; seat = refl; ready = ready })
+      subst (λ (r : Command). Commanded state wrote c r (Ok o) c) (sym (due_route (card_in state c) (session_state_in state c) bytes budget None wrong))
+      (record { made = made_none state wrote obeys (card_in state c) c.store.device (going_base (state c.store.device) c.store.count ready.up.going); outcome = is; session_state = refl; ready = ready })
 
   pub wrong_begun : (c : Card N) (bytes : List ℕ) (budget : ℕ) (o : Outcome) → IsReadyCard state c → apdu_read bytes ≡ None → outcome_value o ≡ status 0x6700 → Answered state wrote c bytes budget (Ok o) c
   wrong_begun c bytes budget o ready wrong is =
-      record { stays = ap (λ (x : Option ApduParts). is_passed (route_of_parts x) (seat_in state c).selected) wrong; commanded = wrong_done c bytes budget o ready wrong is }
+      record { stays = ap (λ (x : Option ApduParts). is_passed (route_of_parts x) (session_state_in state c).selected) wrong; commanded = wrong_done c bytes budget o ready wrong is }
 
   -- a command that the manager answers
   pub answered_begun : (a : ApduParts) (c d : Card N) (bytes : List ℕ) (budget : ℕ) (result : Result Outcome Stop) → apdu_read bytes ≡ Some a → IsAnswered state wrote c a result d → Answered state wrote c bytes budget result d
   answered_begun a c d bytes budget result is h =
       record {
-        stays = ap (λ (x : Option ApduParts). is_passed (route_of_parts x) (seat_in state c).selected) is ∙ h.stays;
-        commanded = subst (λ (r : Command). Commanded state wrote c r result d) (sym (due_route (card_in state c) (seat_in state c) bytes budget (Some a) is)) (h.commanded budget);
+        stays = ap (λ (x : Option ApduParts). is_passed (route_of_parts x) (session_state_in state c).selected) is ∙ h.stays;
+        commanded = subst (λ (r : Command). Commanded state wrote c r result d) (sym (due_route (card_in state c) (session_state_in state c) bytes budget (Some a) is)) (h.commanded budget);
       }
 
   -- each item of a command that the manager answers makes at most 84 writes
@@ -95,19 +96,19 @@ module _ {N : Type 0} (state : N → DeviceState) (wrote : N → ℕ → List �
   answered_within c d bytes budget result ready image h =
       let few : length (card_in state c).apps ≤ 32 = going_few (state c.store.device) c.store.count image ready.up.going in
       within_made state wrote (most_weight (route bytes)) (card_in state c) (due state c bytes budget).items c.store.device (answer_of result) d.store.device h.commanded.made
-      (due_within (card_in state c) (seat_in state c) bytes budget few h.stays)
+      (due_within (card_in state c) (session_state_in state c) bytes budget few h.stays)
 
   -- ---- a command that the selected application runs
 
   -- the end of a run on a card, with its run
   pub record RunDid (c : Card N) (r : Ran) (result : Result Outcome Stop) (e : Store N) (bytes : List ℕ) : Type 0 where
-    pub writes : InOrder (ChainWrote did bank_state) c.store r.writes (answer_of result) e
+    pub writes : InOrder (ChainWrote (store_bank state wrote)) c.store r.writes (answer_of result) e
     pub outcome : IfOk result (λ o. outcome_value o ≡ r.outcome)
     pub session : OnOk result (bytes ≡ r.session)
     pub going : OnOk result ((bank_state e).stopped ≡ false)
 
   -- a run on a card, from its result and the reply that was written to a place
-  pub run_did : (c : Card N) (r : Ran) (x : Result End Stop) (reply : Reply) (e : Store N) (bytes : List ℕ) → InOrder (ChainWrote did bank_state) c.store r.writes (answer_of x) e
+  pub run_did : (c : Card N) (r : Ran) (x : Result End Stop) (reply : Reply) (e : Store N) (bytes : List ℕ) → InOrder (ChainWrote (store_bank state wrote)) c.store r.writes (answer_of x) e
       → IfOk x (λ o. outcome_value (outcome_by o reply) ≡ r.outcome) → OnOk x (bytes ≡ r.session) → OnOk x ((bank_state e).stopped ≡ false) → RunDid c r (reply_or_stop x reply) e bytes
   run_did c r (Ok o) reply e bytes writes outcome session going = record { writes = writes; outcome = outcome; session = session; going = going }
   run_did c r (Err s) reply e bytes writes outcome session going = record { writes = writes; outcome = tt; session = tt; going = tt }
@@ -141,22 +142,22 @@ module _ {N : Type 0} (state : N → DeviceState) (wrote : N → ℕ → List �
     name_own : (slot : ℕ) → t.slot ≡ slot → name_or (store_named (state c.store.device) slot) ≡ t.aid
     name_own slot at = ap name_or (ap (λ (k : ℕ). store_named (state c.store.device) k) (sym at) ∙ named_own)
 
-    seat_own : (seat_in state c).selected ≡ Some (record { name = t.aid; session = c.session })
-    seat_own = ap (λ (o : Option Selection). option_map {T = Selection} {U = Selected} (λ s. record { name = s.aid; session = c.session }) o) is
+    session_state_own : (session_state_in state c).selected ≡ Some (record { name = t.aid; session = c.session })
+    session_state_own = ap (λ (o : Option Selection). option_map {T = Selection} {U = Selected} (λ s. record { name = s.aid; session = c.session }) o) is
 
     sound : (a : ApduParts) (budget : ℕ) → RunSound (start (card_in state c).apps t.aid c.session a) (run (card_in state c).apps t.aid c.session a budget)
     sound a budget = run_sound budget (start (card_in state c).apps t.aid c.session a) (start_sound (card_in state c).apps t.aid c.session a (ready.up.session t is))
 
-    seat_with : (x : Option Selected) (s : List ℕ) → x ≡ Some (record { name = t.aid; session = c.session }) → option_map {T = Selected} (λ u. record u { session = s }) x ≡ Some (record { name = t.aid; session = s })
-    seat_with x s e = ap (λ (o : Option Selected). option_map {T = Selected} (λ u. record u { session = s }) o) e
+    session_state_with : (x : Option Selected) (s : List ℕ) → x ≡ Some (record { name = t.aid; session = c.session }) → option_map {T = Selected} (λ u. record u { session = s }) x ≡ Some (record { name = t.aid; session = s })
+    session_state_with x s e = ap (λ (o : Option Selected). option_map {T = Selected} (λ u. record u { session = s }) o) e
 
     ran_commanded : (a : ApduParts) (budget : ℕ) (result : Result Outcome Stop) (e : Store N) (session : List ℕ) → RunDid c (run (card_in state c).apps t.aid c.session a budget) result e session
-        → Commanded state wrote c (ran_command (seat_in state c) t.aid (run (card_in state c).apps t.aid c.session a budget)) result (record c { store = e; session = session })
+        → Commanded state wrote c (ran_command (session_state_in state c) t.aid (run (card_in state c).apps t.aid c.session a budget)) result (record c { store = e; session = session })
     ran_commanded a budget (Err s) e session h =
         record {
           made = card_made state wrote obeys c ready.up (run (card_in state c).apps t.aid c.session a budget).writes (sound a budget).writes e (Err s) h.writes;
           outcome = tt;
-          seat = tt;
+          session_state = tt;
           ready = tt;
         }
     ran_commanded a budget (Ok o) e session h =
@@ -165,8 +166,8 @@ module _ {N : Type 0} (state : N → DeviceState) (wrote : N → ℕ → List �
         record {
           made = card_made state wrote obeys c ready.up r.writes ws e (Ok tt) h.writes;
           outcome = h.outcome;
-          seat = seat_after state wrote obeys c ready.up r.writes ws e h.writes session
-              ∙ ap (λ (x : Option Selected). record (seat_in state c) { selected = x }) (seat_with (seat_in state c).selected session seat_own ∙ ap (λ (s : List ℕ). Some (record { name = t.aid; session = s })) h.session);
+          session_state = session_state_after state wrote obeys c ready.up r.writes ws e h.writes session
+              ∙ ap (λ (x : Option Selected). record (session_state_in state c) { selected = x }) (session_state_with (session_state_in state c).selected session session_state_own ∙ ap (λ (s : List ℕ). Some (record { name = t.aid; session = s })) h.session);
           ready = record {
             up = still_up state wrote obeys c ready.up r.writes ws e h.writes session c.chain h.going (λ s own.
                 let same : t ≡ s = cc (is, own) in
@@ -176,10 +177,10 @@ module _ {N : Type 0} (state : N → DeviceState) (wrote : N → ℕ → List �
         }
 
     due_ran : (a : ApduParts) (budget : ℕ) (bytes : List ℕ) → apdu_read bytes ≡ Some a → route_of_parts (Some a) ≡ ToApplication a
-        → due state c bytes budget ≡ ran_command (seat_in state c) t.aid (run (card_in state c).apps t.aid c.session a budget)
+        → due state c bytes budget ≡ ran_command (session_state_in state c) t.aid (run (card_in state c).apps t.aid c.session a budget)
     due_ran a budget bytes read to =
-        due_route (card_in state c) (seat_in state c) bytes budget (Some a) read ∙ ap (λ (r : Route). by_route (card_in state c) (seat_in state c) budget r) to
-        ∙ ap (λ (x : Option Selected). application_command (card_in state c) (seat_in state c) x a budget) seat_own
+        due_route (card_in state c) (session_state_in state c) bytes budget (Some a) read ∙ ap (λ (r : Route). by_route (card_in state c) (session_state_in state c) budget r) to
+        ∙ ap (λ (x : Option Selected). application_command (card_in state c) (session_state_in state c) x a budget) session_state_own
 
     run_same : (a : ApduParts) (budget slot : ℕ) → t.slot ≡ slot → run_of c slot a budget ≡ run (card_in state c).apps t.aid c.session a budget
     run_same a budget slot at =
@@ -199,7 +200,7 @@ module _ {N : Type 0} (state : N → DeviceState) (wrote : N → ℕ → List �
         → MadeWithin wrote (most_weight (route bytes)) (due state c bytes budget).items c.store.device (answer_of result) e.device
     ran_within a budget slot bytes result e session at read to h =
         let r = run (card_in state c).apps t.aid c.session a budget in
-        let writes : InOrder (ChainWrote did bank_state) c.store r.writes (answer_of result) e = subst (λ (x : Ran). InOrder (ChainWrote did bank_state) c.store x.writes (answer_of result) e) (run_same a budget slot at) h.writes in
+        let writes : InOrder (ChainWrote (store_bank state wrote)) c.store r.writes (answer_of result) e = subst (λ (x : Ran). InOrder (ChainWrote (store_bank state wrote)) c.store x.writes (answer_of result) e) (run_same a budget slot at) h.writes in
         let within : MadeWithin wrote 147 (write_items r.writes) c.store.device (answer_of result) e.device =
         writes_within state wrote obeys r.writes c.store e (answer_of result) (going_is (state c.store.device) c.store.count ready.up.going) (sound a budget).writes writes in
         subst (λ (x : Command). MadeWithin wrote (most_weight (route bytes)) x.items c.store.device (answer_of result) e.device) (sym (due_ran a budget bytes read to))
@@ -212,10 +213,10 @@ module _ {N : Type 0} (state : N → DeviceState) (wrote : N → ℕ → List �
     pub ran_steps : (a : ApduParts) (budget slot : ℕ) (bytes : List ℕ) (result : Result Outcome Stop) (old new : ℕ) → t.slot ≡ slot → apdu_read bytes ≡ Some a → route_of_parts (Some a) ≡ ToApplication a
         → OnOk result (new ≡ old + (run_of c slot a budget).count)
         → OnErr result (new ≤ old + (run_of c slot a budget).count)
-        → RouteSteps (card_in state c) (seat_in state c).selected budget (route bytes) (answer_of result) old new
+        → RouteSteps (card_in state c) (session_state_in state c).selected budget (route bytes) (answer_of result) old new
     ran_steps a budget slot bytes result old new at read to done most =
-        subst (λ (r : Route). RouteSteps (card_in state c) (seat_in state c).selected budget r (answer_of result) old new) (sym (ap (λ (o : Option ApduParts). route_of_parts o) read ∙ to))
-        (subst (λ (x : Option Selected). PassedSteps (card_in state c) x a budget (answer_of result) old new) (sym seat_own)
+        subst (λ (r : Route). RouteSteps (card_in state c) (session_state_in state c).selected budget r (answer_of result) old new) (sym (ap (λ (o : Option ApduParts). route_of_parts o) read ∙ to))
+        (subst (λ (x : Option Selected). PassedSteps (card_in state c) x a budget (answer_of result) old new) (sym session_state_own)
         (subst (λ (r : Ran). RunSteps r (answer_of result) old new) (run_same a budget slot at)
         (steps_by (run_of c slot a budget) result old new done most)))
 
@@ -229,9 +230,9 @@ module _ {N : Type 0} (state : N → DeviceState) (wrote : N → ℕ → List �
           apdu = a;
           routed = ap (λ (o : Option ApduParts). route_of_parts o) read ∙ to;
           selected = record { name = t.aid; session = c.session };
-          is = seat_own;
+          is = session_state_own;
           device = refl;
-          seat = refl;
+          session_state = refl;
           runs = record {
             up = record { going = ready.up.going; fits = ready.up.fits; session = ready.up.session };
             chained = k;
@@ -262,7 +263,7 @@ module _ {N : Type 0} (state : N → DeviceState) (wrote : N → ℕ → List �
       subst (λ (x : Card N). length x.session ≡ (app_of (apps_in (state x.store.device).words) (store_named (state x.store.device) slot)).session) (sym p.unchanged) (slot_session c ready p.selected p.is slot p.slot_is)
 
   pub passed_steps : (c d : Card N) (a : ApduParts) (slot budget : ℕ) (bytes : List ℕ) (result : Result Outcome Stop) (old mid new n : ℕ) → IsReadyCard state c → IsPassed state wrote c a slot d → apdu_read bytes ≡ Some a → old ≤ mid → mid ≤ old + most_ticks a n
-      → OnOk result (new ≡ mid + (run_of d slot a budget).count) → OnErr result (new ≤ mid + (run_of d slot a budget).count) → RouteSteps (card_in state c) (seat_in state c).selected budget (route bytes) (answer_of result) old new
+      → OnOk result (new ≡ mid + (run_of d slot a budget).count) → OnErr result (new ≤ mid + (run_of d slot a budget).count) → RouteSteps (card_in state c) (session_state_in state c).selected budget (route bytes) (answer_of result) old new
   passed_steps c d a slot budget bytes result old mid new n ready p read low high done most =
       let same : mid ≡ old = passed_quiet a old mid n p.route low high in
       ran_steps c ready p.selected p.is a budget slot bytes result old new p.slot_is read p.route
@@ -279,7 +280,7 @@ module _ {N : Type 0} (state : N → DeviceState) (wrote : N → ℕ → List �
 -- ---- a command whose outcome was written to a place
 
 pub commanded_into : {N : Type 0} (state : N → DeviceState) (wrote : N → ℕ → List ℕ → Answer → N → Type 0) (c d : Card N) (r : Command) (x : Result (Unit {0}) Stop) (o : Outcome)
-    → ItemsMade state wrote (card_in state c) r.items (device_in c) (answer_of x) (device_in d) → OnOk x (outcome_value o ≡ r.outcome) → OnOk x (seat_in state d ≡ r.seat) → OnOk x (IsReadyCard state d)
+    → ItemsMade state wrote (card_in state c) r.items (device_in c) (answer_of x) (device_in d) → OnOk x (outcome_value o ≡ r.outcome) → OnOk x (session_state_in state d ≡ r.session_state) → OnOk x (IsReadyCard state d)
     → Commanded state wrote c r (outcome_or_stop x o) d
-commanded_into state wrote c d r (Ok u) o made outcome seat ready = record { made = made; outcome = outcome; seat = seat; ready = ready }
-commanded_into state wrote c d r (Err s) o made outcome seat ready = record { made = made; outcome = tt; seat = tt; ready = tt }
+commanded_into state wrote c d r (Ok u) o made outcome session_state ready = record { made = made; outcome = outcome; session_state = session_state; ready = ready }
+commanded_into state wrote c d r (Err s) o made outcome session_state ready = record { made = made; outcome = tt; session_state = tt; ready = tt }

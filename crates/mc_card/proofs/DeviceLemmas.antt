@@ -14,7 +14,7 @@ use Rattle.mc_machine.specs.declared.outcome.Outcome.{Outcome}
 use Rattle.mc_store.specs.GoingLaws.{going_is}
 use Rattle.mc_card.specs.declared.card.Card.{Card as CardOf}
 use Rattle.mc_card.specs.ItemWrites.{ItemsMade}
-use Rattle.mc_card.specs.Parts.{device_in, card_in, seat_in, IsUp, IsReadyCard}
+use Rattle.mc_card.specs.Parts.{device_in, card_in, session_state_in, IsUp, IsReadyCard}
 use Rattle.mc_card.specs.Ends.{Commanded}
 use Rattle.mc_card.specs.Managing.{IsAnswered}
 
@@ -27,7 +27,7 @@ module _ {D : Type 0} (state : D → DeviceState) (wrote : D → ℕ → List �
   commanded_same r c d result h = made_same (card_in state c) r.items (device_in c) (device_in d) (answer_of result) h.made
 
   pub answered_same : (a : ApduParts) (c d : CardOf D) (result : Result Outcome Stop) → IsAnswered state wrote c a result d → same (device_in c) (device_in d)
-  answered_same a c d result h = commanded_same (by_route (card_in state c) (seat_in state c) 1 (route_of_parts (Some a))) c d result (h.commanded 1)
+  answered_same a c d result h = commanded_same (by_route (card_in state c) (session_state_in state c) 1 (route_of_parts (Some a))) c d result (h.commanded 1)
 
 module _ {D : Type 0} (state : D → DeviceState) (wrote : D → ℕ → List ℕ → Answer → D → Type 0)
     (obeys : (d : D) (at : ℕ) (w : List ℕ) (a : Answer) (e : D) → (state d).on ≡ true → wrote d at w a e → Wrote (state d) at w a (state e)) where

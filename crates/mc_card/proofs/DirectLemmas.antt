@@ -14,7 +14,7 @@ use Rattle.mc_model_device.specs.Device.{DeviceState, Wrote}
 use Rattle.mc_model_device.specs.Card.{App, Card as ModelCard}
 use Rattle.mc_model_card.specs.Units.{name_of}
 use Rattle.mc_model_card.specs.Items.{BankItem}
-use Rattle.mc_model_card.specs.Manager.{Selected, Seat, Open, Managed, Declines, Accepts, Accepted, Route, WrongLength, WrongClass, ToSelect, ToManager, ToApplication, route_of_parts, fresh, first_status, answer_unless, select_refusals, select_done, select, open_refusals, open_done, load_refusals, load_done, load_part, create_refusals, create_done, create, dir_in, is_taken, delete_refusals, delete_done, delete, is_selected, manage, room_on}
+use Rattle.mc_model_card.specs.Manager.{Selected, SessionState, Open, Managed, Declines, Accepts, Accepted, Route, WrongLength, WrongClass, ToSelect, ToManager, ToApplication, route_of_parts, fresh, first_status, answer_unless, select_refusals, select_done, select, open_refusals, open_done, load_refusals, load_done, load_part, create_refusals, create_done, create, dir_in, is_taken, delete_refusals, delete_done, delete, is_selected, manage, room_on}
 use Rattle.mc_model_machine.specs.Chain.{Reply}
 use Rattle.mc_model_card.specs.Commands.{Command, manager_command, application_command, by_route}
 use Rattle.mc_bank.specs.Bank.{no_app, app_of}
@@ -24,17 +24,17 @@ use Rattle.mc_apdu.specs.declared.reply.Reply.{Reply as CardReply}
 use Rattle.mc_manager.specs.declared.selection.Selection.{Selection}
 use Rattle.mc_manager.specs.declared.routed.Routed.{Routed}
 use Rattle.mc_manager.specs.declared.routed.Routed.TheVariants.{Answer as Answers, Fresh, Pass}
-use Rattle.mc_manager.specs.ManagerState.{BankView, ManagerState, seat_of, ManagerFits}
+use Rattle.mc_manager.specs.ManagerState.{BankView, ManagerState, session_state_of, ManagerFits}
 use Rattle.mc_manager.specs.CommandDue.{CommandDue, Refuses, Selects, Does, Passes, due_select, due_manager, due_application, due_on, due, items_of, apps_after, CommandLeaves}
 use Rattle.mc_manager.specs.Ends.{CommandEnds}
 use Rattle.mc_machine.specs.declared.outcome.Outcome.TheVariants as outcome
 use Rattle.mc_machine.specs.Turns.{outcome_value}
 use Rattle.mc_store.specs.declared.store.Store.{Store}
-use Rattle.mc_store.specs.Store.{apps_in, is_going, place_named, store_named, store_standing}
+use Rattle.mc_store.specs.Store.{apps_in, is_going, place_named, store_named, store_site_bytes}
 use Rattle.mc_store.specs.StoreItems.{store_did, named_there}
 use Rattle.mc_store.proofs.BankLemmas.{running}
 use Rattle.mc_card.specs.declared.card.Card.{Card}
-use Rattle.mc_card.specs.Parts.{card_in, seat_in, view_in, IsReadyCard}
+use Rattle.mc_card.specs.Parts.{card_in, session_state_in, view_in, IsReadyCard}
 use Rattle.mc_card.specs.Ends.{is_passed}
 use Rattle.mc_card.specs.Managing.{IsAnswered, IsPassed}
 use Rattle.mc_card.proofs.StaticLemmas.{going_apps}
@@ -45,31 +45,31 @@ use Rattle.mc_model_device.proofs.BoolLemmas.{no_value}
 -- ---- the verdict on a command, and what it does
 
 -- the outcome and the session state of a command are those of the verdict on it
-abbrev Matches : CommandDue → Seat → Command → Type 0
-Matches (Refuses sw) seat r = (r.outcome ≡ Reply [] sw) × (r.seat ≡ seat)
-Matches (Selects d) seat r = (r.outcome ≡ Reply d.body 0x9000) × (r.seat ≡ d.seat)
-Matches (Does d) seat r = (r.outcome ≡ Reply d.body 0x9000) × (r.seat ≡ d.seat)
-Matches Passes seat r = Unit {0}
+abbrev Matches : CommandDue → SessionState → Command → Type 0
+Matches (Refuses sw) session_state r = (r.outcome ≡ Reply [] sw) × (r.session_state ≡ session_state)
+Matches (Selects d) session_state r = (r.outcome ≡ Reply d.body 0x9000) × (r.session_state ≡ d.session_state)
+Matches (Does d) session_state r = (r.outcome ≡ Reply d.body 0x9000) × (r.session_state ≡ d.session_state)
+Matches Passes session_state r = Unit {0}
 
-select_matches : (c : ModelCard) (seat : Seat) (x : Managed) → Matches (due_select x) seat (manager_command c seat x)
-select_matches c seat (Declines sw) = (refl, refl)
-select_matches c seat (Accepts d) = (refl, refl)
+select_matches : (c : ModelCard) (session_state : SessionState) (x : Managed) → Matches (due_select x) session_state (manager_command c session_state x)
+select_matches c session_state (Declines sw) = (refl, refl)
+select_matches c session_state (Accepts d) = (refl, refl)
 
-manager_matches : (c : ModelCard) (seat : Seat) (x : Managed) → Matches (due_manager x) seat (manager_command c seat x)
-manager_matches c seat (Declines sw) = (refl, refl)
-manager_matches c seat (Accepts d) = (refl, refl)
+manager_matches : (c : ModelCard) (session_state : SessionState) (x : Managed) → Matches (due_manager x) session_state (manager_command c session_state x)
+manager_matches c session_state (Declines sw) = (refl, refl)
+manager_matches c session_state (Accepts d) = (refl, refl)
 
-application_matches : (c : ModelCard) (seat : Seat) (x : Option Selected) (a : ApduParts) (budget : ℕ) → Matches (due_application x) seat (application_command c seat x a budget)
-application_matches c seat None a budget = (refl, refl)
-application_matches c seat (Some s) a budget = tt
+application_matches : (c : ModelCard) (session_state : SessionState) (x : Option Selected) (a : ApduParts) (budget : ℕ) → Matches (due_application x) session_state (application_command c session_state x a budget)
+application_matches c session_state None a budget = (refl, refl)
+application_matches c session_state (Some s) a budget = tt
 
 -- a command that is not passed to the application has another verdict
-pub passed_not : (v : BankView) (seat : Seat) (r : Route) → (due_on v seat r ≡ Passes → ⊥) → is_passed r seat.selected ≡ false
-passed_not v seat WrongLength h = refl
-passed_not v seat WrongClass h = refl
-passed_not v seat (ToSelect a) h = refl
-passed_not v seat (ToManager a) h = refl
-passed_not v seat (ToApplication a) h = by_selected seat.selected h
+pub passed_not : (v : BankView) (session_state : SessionState) (r : Route) → (due_on v session_state r ≡ Passes → ⊥) → is_passed r session_state.selected ≡ false
+passed_not v session_state WrongLength h = refl
+passed_not v session_state WrongClass h = refl
+passed_not v session_state (ToSelect a) h = refl
+passed_not v session_state (ToManager a) h = refl
+passed_not v session_state (ToApplication a) h = by_selected session_state.selected h
   where
     by_selected : (x : Option Selected) → (due_application x ≡ Passes → ⊥) → is_passed (ToApplication a) x ≡ false
     by_selected None h = refl
@@ -93,31 +93,31 @@ module _ (apps : List (List ℕ × App)) (n : List ℕ) (there : is_some (lookup
       by_test true e = absurd (cc (ap (λ (t : List ℕ). is_some (lookup apps t)) (sym (same_name k n e)), ap is_some none, there))
       by_test false e = lookup_beside apps k x n e
 
-  load_spares : (p : Part) (seat : Seat) (a : ApduParts) → CommandSpares (due_manager (load_part p seat a))
-  load_spares p seat a = by_refusal (first_status (load_refusals seat.load p a)) (load_done seat seat.load p a) (λ e. by_load seat.load)
+  load_spares : (p : Part) (session_state : SessionState) (a : ApduParts) → CommandSpares (due_manager (load_part p session_state a))
+  load_spares p session_state a = by_refusal (first_status (load_refusals session_state.load p a)) (load_done session_state session_state.load p a) (λ e. by_load session_state.load)
     where
-      by_load : (x : Option Open) → CommandSpares (Does (load_done seat x p a))
+      by_load : (x : Option Open) → CommandSpares (Does (load_done session_state x p a))
       by_load None = refl
       by_load (Some o) = refl
 
-  create_spares : (seat : Seat) (a : ApduParts) → CommandSpares (due_manager (create apps seat a))
-  create_spares seat a =
-      by_refusal (first_status (create_refusals apps seat.load a)) (create_done seat seat.load (name_of (dir_in seat.load))) (λ e.
+  create_spares : (session_state : SessionState) (a : ApduParts) → CommandSpares (due_manager (create apps session_state a))
+  create_spares session_state a =
+      by_refusal (first_status (create_refusals apps session_state.load a)) (create_done session_state session_state.load (name_of (dir_in session_state.load))) (λ e.
       let one = none_of _ 0x6A86 _ e in
       let two = none_of _ 0x6700 _ one.1 in
       let three = none_of _ 0x6985 _ two.1 in
       let four = none_of _ 0x6A80 _ three.1 in
       let five = none_of _ 0x6A89 _ four.1 in
-      by_load seat.load (name_of (dir_in seat.load)) five.0)
+      by_load session_state.load (name_of (dir_in session_state.load)) five.0)
     where
-      by_load : (x : Option Open) (k : Result (List ℕ) AidFault) → is_taken apps k ≡ false → CommandSpares (Does (create_done seat x k))
+      by_load : (x : Option Open) (k : Result (List ℕ) AidFault) → is_taken apps k ≡ false → CommandSpares (Does (create_done session_state x k))
       by_load None k h = refl
       by_load (Some o) (Err f) h = refl
       by_load (Some o) (Ok k) h = inserted_spares k (fresh o) (no_value (lookup apps k) h)
 
-  delete_spares : (seat : Seat) (a : ApduParts) → (is_selected seat.selected a.body ≡ false → bytes_eq a.body n ≡ false) → CommandSpares (due_manager (delete apps seat a))
-  delete_spares seat a other =
-      by_refusal (first_status (delete_refusals apps seat a)) (delete_done seat a) (λ e.
+  delete_spares : (session_state : SessionState) (a : ApduParts) → (is_selected session_state.selected a.body ≡ false → bytes_eq a.body n ≡ false) → CommandSpares (due_manager (delete apps session_state a))
+  delete_spares session_state a other =
+      by_refusal (first_status (delete_refusals apps session_state a)) (delete_done session_state a) (λ e.
       let one = none_of _ 0x6A86 _ e in
       let two = none_of _ 0x6700 _ one.1 in
       let three = none_of _ 0x6A82 _ two.1 in
@@ -128,26 +128,26 @@ module _ (apps : List (List ℕ × App)) (n : List ℕ) (there : is_some (lookup
   by_test x y h k true = h
   by_test x y h k false = k
 
-  manage_spares : (room : Sizes → Option ℕ) (seat : Seat) (a : ApduParts) → (is_selected seat.selected a.body ≡ false → bytes_eq a.body n ≡ false) → CommandSpares (due_manager (manage room apps seat a))
+  manage_spares : (room : Sizes → Option ℕ) (session_state : SessionState) (a : ApduParts) → (is_selected session_state.selected a.body ≡ false → bytes_eq a.body n ≡ false) → CommandSpares (due_manager (manage room apps session_state a))
   unfolding manage
-  manage_spares room seat a other =
-      by_test _ _ (by_refusal (first_status (open_refusals room apps a)) (open_done room seat a) (λ e. refl)) (by_test _ _ (load_spares part.Code seat a) (by_test _ _ (load_spares part.Data seat a)
-      (by_test _ _ (load_spares part.Dir seat a) (by_test _ _ (load_spares part.Fci seat a)
-      (by_test _ _ (create_spares seat a) (by_test _ _ (delete_spares seat a other) refl (a.ins == 0x18)) (a.ins == 0x16)) (a.ins == 0x22)) (a.ins == 0x20)) (a.ins == 0x26)) (a.ins == 0x24)) (a.ins == 0x12)
+  manage_spares room session_state a other =
+      by_test _ _ (by_refusal (first_status (open_refusals room apps a)) (open_done room session_state a) (λ e. refl)) (by_test _ _ (load_spares part.Code session_state a) (by_test _ _ (load_spares part.Data session_state a)
+      (by_test _ _ (load_spares part.Dir session_state a) (by_test _ _ (load_spares part.Fci session_state a)
+      (by_test _ _ (create_spares session_state a) (by_test _ _ (delete_spares session_state a other) refl (a.ins == 0x18)) (a.ins == 0x16)) (a.ins == 0x22)) (a.ins == 0x20)) (a.ins == 0x26)) (a.ins == 0x24)) (a.ins == 0x12)
 
 -- the selected application is unchanged by a command
 due_spares : (v : BankView) (s : List ℕ) (m : ManagerState) (t : Selection) (r : Route) → m.selected ≡ Some t → is_some (lookup v.state.apps t.aid) ≡ true
-    → lookup (apps_after (due_on v (seat_of v.standing s m) r) v.state.apps) t.aid ≡ lookup v.state.apps t.aid
+    → lookup (apps_after (due_on v (session_state_of v.site_bytes s m) r) v.state.apps) t.aid ≡ lookup v.state.apps t.aid
 due_spares v s m t WrongLength is there = refl
 due_spares v s m t WrongClass is there = refl
 due_spares v s m t (ToSelect a) is there = by_refusal_select (first_status (select_refusals v.state.apps a)) (lookup v.state.apps a.body)
   where
-    by_refusal_select : (o : Option ℕ) (x : Option App) → lookup (apps_after (due_select (answer_unless o (select_done (seat_of v.standing s m) a x))) v.state.apps) t.aid ≡ lookup v.state.apps t.aid
+    by_refusal_select : (o : Option ℕ) (x : Option App) → lookup (apps_after (due_select (answer_unless o (select_done (session_state_of v.site_bytes s m) a x))) v.state.apps) t.aid ≡ lookup v.state.apps t.aid
     by_refusal_select (Some sw) x = refl
     by_refusal_select None None = refl
     by_refusal_select None (Some app) = refl
 due_spares v s m t (ToManager a) is there =
-    manage_spares v.state.apps t.aid there v.room (seat_of v.standing s m) a (by_selected m.selected is)
+    manage_spares v.state.apps t.aid there v.room (session_state_of v.site_bytes s m) a (by_selected m.selected is)
   where
     by_selected : (x : Option Selection) → x ≡ Some t → is_selected (option_map {T = Selection} {U = Selected} (λ u. record { name = u.aid; session = s }) x) a.body ≡ false → bytes_eq a.body t.aid ≡ false
     by_selected None e h = absurd (cc e)
@@ -160,11 +160,11 @@ due_spares v s m t (ToApplication a) is there = by_selected m.selected
 
 -- ---- the answer
 
-outcome_of : (x : CommandDue) (seat : Seat) (r : Command) (reply : CardReply) (s : List ℕ) (v w : BankView) (m n : ManagerState) → Matches x seat r → CommandLeaves x s v m (Answers reply) w n → outcome_value (outcome.Reply reply) ≡ r.outcome
-outcome_of (Refuses sw) seat r reply s v w m n match leaves = ap (λ (b : List ℕ). Reply b reply.sw) leaves.reply.body ∙ ap (λ (k : ℕ). Reply [] k) leaves.reply.sw ∙ sym match.0
-outcome_of (Selects d) seat r reply s v w m n match leaves = absurd leaves
-outcome_of (Does d) seat r reply s v w m n match leaves = ap (λ (b : List ℕ). Reply b reply.sw) leaves.reply.body ∙ ap (λ (k : ℕ). Reply d.body k) leaves.reply.sw ∙ sym match.0
-outcome_of Passes seat r reply s v w m n match leaves = absurd leaves
+outcome_of : (x : CommandDue) (session_state : SessionState) (r : Command) (reply : CardReply) (s : List ℕ) (v w : BankView) (m n : ManagerState) → Matches x session_state r → CommandLeaves x s v m (Answers reply) w n → outcome_value (outcome.Reply reply) ≡ r.outcome
+outcome_of (Refuses sw) session_state r reply s v w m n match leaves = ap (λ (b : List ℕ). Reply b reply.sw) leaves.reply.body ∙ ap (λ (k : ℕ). Reply [] k) leaves.reply.sw ∙ sym match.0
+outcome_of (Selects d) session_state r reply s v w m n match leaves = absurd leaves
+outcome_of (Does d) session_state r reply s v w m n match leaves = ap (λ (b : List ℕ). Reply b reply.sw) leaves.reply.body ∙ ap (λ (k : ℕ). Reply d.body k) leaves.reply.sw ∙ sym match.0
+outcome_of Passes session_state r reply s v w m n match leaves = absurd leaves
 
 selected_of : (x : CommandDue) (reply : CardReply) (s : List ℕ) (v w : BankView) (m n : ManagerState) → CommandLeaves x s v m (Answers reply) w n → n.selected ≡ m.selected
 selected_of (Refuses sw) reply s v w m n leaves = ap (λ (h : ManagerState). h.selected) leaves.unchanged
@@ -173,21 +173,21 @@ selected_of (Does d) reply s v w m n leaves = leaves.selected
 selected_of Passes reply s v w m n leaves = absurd leaves
 
 -- only a SELECT makes a new selection, and it makes no items
-quiet_select : (v : BankView) (seat : Seat) (r : Route) (d : Accepted) → due_on v seat r ≡ Selects d → d.items ≡ []
-quiet_select v seat WrongLength d h = absurd (cc h)
-quiet_select v seat WrongClass d h = absurd (cc h)
-quiet_select v seat (ToSelect a) d h = by_refusal_select (first_status (select_refusals v.state.apps a)) (lookup v.state.apps a.body) h
+quiet_select : (v : BankView) (session_state : SessionState) (r : Route) (d : Accepted) → due_on v session_state r ≡ Selects d → d.items ≡ []
+quiet_select v session_state WrongLength d h = absurd (cc h)
+quiet_select v session_state WrongClass d h = absurd (cc h)
+quiet_select v session_state (ToSelect a) d h = by_refusal_select (first_status (select_refusals v.state.apps a)) (lookup v.state.apps a.body) h
   where
-    by_refusal_select : (o : Option ℕ) (x : Option App) → due_select (answer_unless o (select_done seat a x)) ≡ Selects d → d.items ≡ []
+    by_refusal_select : (o : Option ℕ) (x : Option App) → due_select (answer_unless o (select_done session_state a x)) ≡ Selects d → d.items ≡ []
     by_refusal_select (Some sw) x e = absurd (cc e)
-    by_refusal_select None None e = let same : select_done seat a None ≡ d = cc e in sym (ap (λ (k : Accepted). k.items) same)
-    by_refusal_select None (Some app) e = let same : select_done seat a (Some app) ≡ d = cc e in sym (ap (λ (k : Accepted). k.items) same)
-quiet_select v seat (ToManager a) d h = by_answer (manage v.room v.state.apps seat a) h
+    by_refusal_select None None e = let same : select_done session_state a None ≡ d = cc e in sym (ap (λ (k : Accepted). k.items) same)
+    by_refusal_select None (Some app) e = let same : select_done session_state a (Some app) ≡ d = cc e in sym (ap (λ (k : Accepted). k.items) same)
+quiet_select v session_state (ToManager a) d h = by_answer (manage v.room v.state.apps session_state a) h
   where
     by_answer : (x : Managed) → due_manager x ≡ Selects d → d.items ≡ []
     by_answer (Declines sw) e = absurd (cc e)
     by_answer (Accepts k) e = absurd (cc e)
-quiet_select v seat (ToApplication a) d h = by_selected seat.selected h
+quiet_select v session_state (ToApplication a) d h = by_selected session_state.selected h
   where
     by_selected : (x : Option Selected) → due_application x ≡ Selects d → d.items ≡ []
     by_selected None e = absurd (cc e)
@@ -204,20 +204,20 @@ routed_apdu a x h = by_tests (a.cla == 0xFF) (a.cla == 0 && a.ins == 0xA4 && a.p
     by_tests false false true e = absurd (cc e)
     by_tests false false false e = sym (cc e)
 
-passed_route : (v w : BankView) (seat : Seat) (r : Route) (s : List ℕ) (k : ℕ) (m n : ManagerState) → CommandLeaves (due_on v seat r) s v m (Pass k) w n → (x : ApduParts) × (r ≡ ToApplication x)
-passed_route v w seat WrongLength s k m n h = absurd h
-passed_route v w seat WrongClass s k m n h = absurd h
-passed_route v w seat (ToSelect a) s k m n h = by_answer (select v.state.apps seat a) h
+passed_route : (v w : BankView) (session_state : SessionState) (r : Route) (s : List ℕ) (k : ℕ) (m n : ManagerState) → CommandLeaves (due_on v session_state r) s v m (Pass k) w n → (x : ApduParts) × (r ≡ ToApplication x)
+passed_route v w session_state WrongLength s k m n h = absurd h
+passed_route v w session_state WrongClass s k m n h = absurd h
+passed_route v w session_state (ToSelect a) s k m n h = by_answer (select v.state.apps session_state a) h
   where
     by_answer : (y : Managed) → CommandLeaves (due_select y) s v m (Pass k) w n → (x : ApduParts) × (ToSelect a ≡ ToApplication x)
     by_answer (Declines sw) e = absurd e
     by_answer (Accepts d) e = absurd e
-passed_route v w seat (ToManager a) s k m n h = by_answer (manage v.room v.state.apps seat a) h
+passed_route v w session_state (ToManager a) s k m n h = by_answer (manage v.room v.state.apps session_state a) h
   where
     by_answer : (y : Managed) → CommandLeaves (due_manager y) s v m (Pass k) w n → (x : ApduParts) × (ToManager a ≡ ToApplication x)
     by_answer (Declines sw) e = absurd e
     by_answer (Accepts d) e = absurd e
-passed_route v w seat (ToApplication a) s k m n h = (a, refl)
+passed_route v w session_state (ToApplication a) s k m n h = (a, refl)
 
 card_same : {N : Type 0} (c d : Card N) → d.store ≡ c.store → d.manager ≡ c.manager → d.session ≡ c.session → d.chain ≡ c.chain → d ≡ c
 card_same c d store manager session chain =
@@ -234,27 +234,27 @@ DirectEnds state wrote c a result d =
 module _ {N : Type 0} (state : N → DeviceState) (wrote : N → ℕ → List ℕ → Answer → N → Type 0)
     (obeys : (d : N) (at : ℕ) (w : List ℕ) (a : Answer) (e : N) → (state d).on ≡ true → wrote d at w a e → Wrote (state d) at w a (state e)) where
   -- the outcome and the session state of a command are those of the verdict on it
-  matches : (c : Card N) (budget : ℕ) (r : Route) → is_going (state c.store.device) c.store.count ≡ true → Matches (due_on (view_in state c) (seat_in state c) r) (seat_in state c) (by_route (card_in state c) (seat_in state c) budget r)
+  matches : (c : Card N) (budget : ℕ) (r : Route) → is_going (state c.store.device) c.store.count ≡ true → Matches (due_on (view_in state c) (session_state_in state c) r) (session_state_in state c) (by_route (card_in state c) (session_state_in state c) budget r)
   matches c budget WrongLength going = (refl, refl)
   matches c budget WrongClass going = (refl, refl)
   matches c budget (ToSelect a) going =
-      subst (λ (apps : List (List ℕ × App)). Matches (due_select (select apps (seat_in state c) a)) (seat_in state c) (manager_command (card_in state c) (seat_in state c) (select (card_in state c).apps (seat_in state c) a)))
-      (sym (going_apps (state c.store.device) c.store.count going)) (select_matches (card_in state c) (seat_in state c) (select (card_in state c).apps (seat_in state c) a))
+      subst (λ (apps : List (List ℕ × App)). Matches (due_select (select apps (session_state_in state c) a)) (session_state_in state c) (manager_command (card_in state c) (session_state_in state c) (select (card_in state c).apps (session_state_in state c) a)))
+      (sym (going_apps (state c.store.device) c.store.count going)) (select_matches (card_in state c) (session_state_in state c) (select (card_in state c).apps (session_state_in state c) a))
   matches c budget (ToManager a) going =
-      subst (λ (apps : List (List ℕ × App)). Matches (due_manager (manage (room_on (card_in state c)) apps (seat_in state c) a)) (seat_in state c) (manager_command (card_in state c) (seat_in state c) (manage (room_on (card_in state c)) (card_in state c).apps (seat_in state c) a)))
-      (sym (going_apps (state c.store.device) c.store.count going)) (manager_matches (card_in state c) (seat_in state c) (manage (room_on (card_in state c)) (card_in state c).apps (seat_in state c) a))
-  matches c budget (ToApplication a) going = application_matches (card_in state c) (seat_in state c) (seat_in state c).selected a budget
+      subst (λ (apps : List (List ℕ × App)). Matches (due_manager (manage (room_on (card_in state c)) apps (session_state_in state c) a)) (session_state_in state c) (manager_command (card_in state c) (session_state_in state c) (manage (room_on (card_in state c)) (card_in state c).apps (session_state_in state c) a)))
+      (sym (going_apps (state c.store.device) c.store.count going)) (manager_matches (card_in state c) (session_state_in state c) (manage (room_on (card_in state c)) (card_in state c).apps (session_state_in state c) a))
+  matches c budget (ToApplication a) going = application_matches (card_in state c) (session_state_in state c) (session_state_in state c).selected a budget
 
   -- the session state after an answer
-  seat_of_answer : (x : CommandDue) (c d : Card N) (r : Command) (reply : CardReply) → d.session ≡ c.session → Matches x (seat_in state c) r → InOrder (store_did state wrote) c.store (items_of x) (Ok tt) d.store
-      → CommandLeaves x c.session (view_in state c) c.manager (Answers reply) (view_in state d) d.manager → seat_in state d ≡ r.seat
-  seat_of_answer (Refuses sw) c d r reply session match items leaves =
-      ap (λ (s : Store N). seat_of (store_standing (state s.device)) d.session d.manager) items
-      ∙ ap (λ (m : ManagerState). seat_of (store_standing (state c.store.device)) d.session m) leaves.unchanged
-      ∙ ap (λ (s : List ℕ). seat_of (store_standing (state c.store.device)) s c.manager) session ∙ sym match.1
-  seat_of_answer (Selects q) c d r reply session match items leaves = absurd leaves
-  seat_of_answer (Does q) c d r reply session match items leaves = ap (λ (s : List ℕ). seat_of (store_standing (state d.store.device)) s d.manager) session ∙ leaves.seat ∙ sym match.1
-  seat_of_answer Passes c d r reply session match items leaves = absurd leaves
+  session_state_of_answer : (x : CommandDue) (c d : Card N) (r : Command) (reply : CardReply) → d.session ≡ c.session → Matches x (session_state_in state c) r → InOrder (store_did state wrote) c.store (items_of x) (Ok tt) d.store
+      → CommandLeaves x c.session (view_in state c) c.manager (Answers reply) (view_in state d) d.manager → session_state_in state d ≡ r.session_state
+  session_state_of_answer (Refuses sw) c d r reply session match items leaves =
+      ap (λ (s : Store N). session_state_of (store_site_bytes (state s.device)) d.session d.manager) items
+      ∙ ap (λ (m : ManagerState). session_state_of (store_site_bytes (state c.store.device)) d.session m) leaves.unchanged
+      ∙ ap (λ (s : List ℕ). session_state_of (store_site_bytes (state c.store.device)) s c.manager) session ∙ sym match.1
+  session_state_of_answer (Selects q) c d r reply session match items leaves = absurd leaves
+  session_state_of_answer (Does q) c d r reply session match items leaves = ap (λ (s : List ℕ). session_state_of (store_site_bytes (state d.store.device)) s d.manager) session ∙ leaves.session_state ∙ sym match.1
+  session_state_of_answer Passes c d r reply session match items leaves = absurd leaves
 
   -- the number of session bytes of the selected application is unchanged
   session_stays : (c d : Card N) (t : Selection) (after : List (List ℕ × App)) → is_going (state c.store.device) c.store.count ≡ true → is_going (state d.store.device) d.store.count ≡ true → apps_in (state d.store.device).words ≡ after
@@ -277,16 +277,16 @@ module _ {N : Type 0} (state : N → DeviceState) (wrote : N → ℕ → List �
   answered_done a c d reply ready session chain ends =
       let going : is_going (state c.store.device) c.store.count ≡ true = ready.up.going in
       let r = route_of_parts (Some a) in
-      let x = due_on (view_in state c) (seat_in state c) r in
+      let x = due_on (view_in state c) (session_state_in state c) r in
       let leaves : CommandLeaves x c.session (view_in state c) c.manager (Answers reply) (view_in state d) d.manager = ends.leaves c.session in
       let other : x ≡ Passes → ⊥ = λ e. subst (λ (y : CommandDue). CommandLeaves y c.session (view_in state c) c.manager (Answers reply) (view_in state d) d.manager) e leaves in
       let now : is_going (state d.store.device) d.store.count ≡ true = running (state d.store.device) d.store.count ends.going in
       record {
-        stays = passed_not (view_in state c) (seat_in state c) r other;
+        stays = passed_not (view_in state c) (session_state_in state c) r other;
         commanded = λ budget. record {
           made = due_made state wrote obeys c.store c.session c.manager going ready.up.fits budget r d.store (Ok tt) other (ends.items c.session);
-          outcome = outcome_of x (seat_in state c) (by_route (card_in state c) (seat_in state c) budget r) reply c.session (view_in state c) (view_in state d) c.manager d.manager (matches c budget r going) leaves;
-          seat = seat_of_answer x c d (by_route (card_in state c) (seat_in state c) budget r) reply session (matches c budget r going) (ends.items c.session) leaves;
+          outcome = outcome_of x (session_state_in state c) (by_route (card_in state c) (session_state_in state c) budget r) reply c.session (view_in state c) (view_in state d) c.manager d.manager (matches c budget r going) leaves;
+          session_state = session_state_of_answer x c d (by_route (card_in state c) (session_state_in state c) budget r) reply session (matches c budget r going) (ends.items c.session) leaves;
           ready = record {
             up = record {
               going = now;
@@ -311,14 +311,14 @@ module _ {N : Type 0} (state : N → DeviceState) (wrote : N → ℕ → List �
   pub stopped_done : (a : ApduParts) (c d : Card N) (t : Stop) → IsReadyCard state c → DirectEnds state wrote c a (Err t) d → IsAnswered state wrote c a (Err t) d
   stopped_done a c d t ready ends =
       let r = route_of_parts (Some a) in
-      let x = due_on (view_in state c) (seat_in state c) r in
+      let x = due_on (view_in state c) (session_state_in state c) r in
       let other : x ≡ Passes → ⊥ = λ e. stops_not x c d t e (ends.items c.session) in
       record {
-        stays = passed_not (view_in state c) (seat_in state c) r other;
+        stays = passed_not (view_in state c) (session_state_in state c) r other;
         commanded = λ budget. record {
           made = due_made state wrote obeys c.store c.session c.manager ready.up.going ready.up.fits budget r d.store (Err t) other (ends.items c.session);
           outcome = tt;
-          seat = tt;
+          session_state = tt;
           ready = tt;
         };
       }
@@ -332,22 +332,22 @@ module _ {N : Type 0} (state : N → DeviceState) (wrote : N → ℕ → List �
     is : d.manager.selected ≡ Some selected
     slot_is : selected.slot ≡ slot
     outcome : outcome_value (outcome.Reply reply) ≡ r.outcome
-    seat : seat_of (store_standing (state c.store.device)) (zeros (app_of (apps_in (state c.store.device).words) (Some selected.aid)).session) d.manager ≡ r.seat
+    session_state : session_state_of (store_site_bytes (state c.store.device)) (zeros (app_of (apps_in (state c.store.device).words) (Some selected.aid)).session) d.manager ≡ r.session_state
 
-  newly : (x : CommandDue) (c d : Card N) (a : ApduParts) (r : Command) (slot : ℕ) (reply : CardReply) → due_on (view_in state c) (seat_in state c) (route_of_parts (Some a)) ≡ x → Matches x (seat_in state c) r → InOrder (store_did state wrote) c.store (items_of x) (Ok tt) d.store
+  newly : (x : CommandDue) (c d : Card N) (a : ApduParts) (r : Command) (slot : ℕ) (reply : CardReply) → due_on (view_in state c) (session_state_in state c) (route_of_parts (Some a)) ≡ x → Matches x (session_state_in state c) r → InOrder (store_did state wrote) c.store (items_of x) (Ok tt) d.store
       → CommandLeaves x c.session (view_in state c) c.manager (Fresh slot reply) (view_in state d) d.manager → NewlySelected c d r slot reply
   newly (Refuses sw) c d a r slot reply is match items leaves = absurd leaves
   newly (Does q) c d a r slot reply is match items leaves = absurd leaves
   newly Passes c d a r slot reply is match items leaves = absurd leaves
   newly (Selects q) c d a r slot reply is match items leaves =
-      let none : q.items ≡ [] = quiet_select (view_in state c) (seat_in state c) (route_of_parts (Some a)) q is in
+      let none : q.items ≡ [] = quiet_select (view_in state c) (session_state_in state c) (route_of_parts (Some a)) q is in
       record {
         store = subst (λ (l : List BankItem). InOrder (store_did state wrote) c.store l (Ok tt) d.store) none items;
         selected = leaves.selected;
         is = leaves.now;
         slot_is = leaves.slot;
         outcome = ap (λ (b : List ℕ). Reply b reply.sw) leaves.reply.body ∙ ap (λ (k : ℕ). Reply q.body k) leaves.reply.sw ∙ sym match.0;
-        seat = leaves.seat ∙ sym match.1;
+        session_state = leaves.session_state ∙ sym match.1;
       }
 
   -- the session bytes of a new selection are zeros
@@ -356,21 +356,21 @@ module _ {N : Type 0} (state : N → DeviceState) (wrote : N → ℕ → List �
   selected_done a c d slot reply ready session chain ends =
       let going : is_going (state c.store.device) c.store.count ≡ true = ready.up.going in
       let r = route_of_parts (Some a) in
-      let x = due_on (view_in state c) (seat_in state c) r in
+      let x = due_on (view_in state c) (session_state_in state c) r in
       let leaves : CommandLeaves x c.session (view_in state c) c.manager (Fresh slot reply) (view_in state d) d.manager = ends.leaves c.session in
       let other : x ≡ Passes → ⊥ = λ e. subst (λ (y : CommandDue). CommandLeaves y c.session (view_in state c) c.manager (Fresh slot reply) (view_in state d) d.manager) e leaves in
       let now : is_going (state d.store.device) d.store.count ≡ true = running (state d.store.device) d.store.count ends.going in
       record {
-        stays = passed_not (view_in state c) (seat_in state c) r other;
+        stays = passed_not (view_in state c) (session_state_in state c) r other;
         commanded = λ budget.
-            let q : NewlySelected c d (by_route (card_in state c) (seat_in state c) budget r) slot reply = newly x c d a (by_route (card_in state c) (seat_in state c) budget r) slot reply refl (matches c budget r going) (ends.items c.session) leaves in
+            let q : NewlySelected c d (by_route (card_in state c) (session_state_in state c) budget r) slot reply = newly x c d a (by_route (card_in state c) (session_state_in state c) budget r) slot reply refl (matches c budget r going) (ends.items c.session) leaves in
             let named : store_named (state d.store.device) slot ≡ Some q.selected.aid = ap (λ (k : ℕ). store_named (state d.store.device) k) (sym q.slot_is) ∙ ends.fits.selected q.selected q.is in
             let size : d.session ≡ zeros (app_of (apps_in (state d.store.device).words) (Some q.selected.aid)).session = session ∙ ap (λ (o : Option (List ℕ)). zeros (app_of (apps_in (state d.store.device).words) o).session) named in
             record {
               made = due_made state wrote obeys c.store c.session c.manager going ready.up.fits budget r d.store (Ok tt) other (ends.items c.session);
               outcome = q.outcome;
-              seat = ap (λ (s : List ℕ). seat_of (store_standing (state d.store.device)) s d.manager) size
-                  ∙ ap (λ (s : Store N). seat_of (store_standing (state s.device)) (zeros (app_of (apps_in (state s.device).words) (Some q.selected.aid)).session) d.manager) q.store ∙ q.seat;
+              session_state = ap (λ (s : List ℕ). session_state_of (store_site_bytes (state d.store.device)) s d.manager) size
+                  ∙ ap (λ (s : Store N). session_state_of (store_site_bytes (state s.device)) (zeros (app_of (apps_in (state s.device).words) (Some q.selected.aid)).session) d.manager) q.store ∙ q.session_state;
               ready = record {
                 up = record {
                   going = now;
@@ -390,8 +390,8 @@ module _ {N : Type 0} (state : N → DeviceState) (wrote : N → ℕ → List �
   pub fresh_slot : (a : ApduParts) (c d : Card N) (slot : ℕ) (reply : CardReply) → IsReadyCard state c → DirectEnds state wrote c a (Ok (Fresh slot reply)) d → IsSome (store_named (state d.store.device) slot)
   fresh_slot a c d slot reply ready ends =
       let r = route_of_parts (Some a) in
-      let one : NewlySelected c d (by_route (card_in state c) (seat_in state c) 1 r) slot reply =
-      newly (due_on (view_in state c) (seat_in state c) r) c d a (by_route (card_in state c) (seat_in state c) 1 r) slot reply refl (matches c 1 r ready.up.going) (ends.items c.session) (ends.leaves c.session) in
+      let one : NewlySelected c d (by_route (card_in state c) (session_state_in state c) 1 r) slot reply =
+      newly (due_on (view_in state c) (session_state_in state c) r) c d a (by_route (card_in state c) (session_state_in state c) 1 r) slot reply refl (matches c 1 r ready.up.going) (ends.items c.session) (ends.leaves c.session) in
       ap is_some (ap (λ (k : ℕ). store_named (state d.store.device) k) (sym one.slot_is) ∙ ends.fits.selected one.selected one.is)
 
   -- ---- a command that is passed to the application
@@ -407,14 +407,14 @@ module _ {N : Type 0} (state : N → DeviceState) (wrote : N → ℕ → List �
 
   pub passed_done : (a : ApduParts) (c d : Card N) (slot : ℕ) → d.session ≡ c.session → d.chain ≡ c.chain → DirectEnds state wrote c a (Ok (Pass slot)) d → IsPassed state wrote c a slot d
   passed_done a c d slot session chain ends =
-      let found = passed_route (view_in state c) (view_in state d) (seat_in state c) (route_of_parts (Some a)) c.session slot c.manager d.manager (ends.leaves c.session) in
+      let found = passed_route (view_in state c) (view_in state d) (session_state_in state c) (route_of_parts (Some a)) c.session slot c.manager d.manager (ends.leaves c.session) in
       let same : found.0 ≡ a = routed_apdu a found.0 found.1 in
       let route : route_of_parts (Some a) ≡ ToApplication a = found.1 ∙ ap (λ (x : ApduParts). ToApplication x) same in
-      let leaves : CommandLeaves (due_application (seat_in state c).selected) c.session (view_in state c) c.manager (Pass slot) (view_in state d) d.manager =
-      subst (λ (r : Route). CommandLeaves (due_on (view_in state c) (seat_in state c) r) c.session (view_in state c) c.manager (Pass slot) (view_in state d) d.manager) route (ends.leaves c.session) in
-      let items : InOrder (store_did state wrote) c.store (items_of (due_application (seat_in state c).selected)) (Ok tt) d.store =
-      subst (λ (r : Route). InOrder (store_did state wrote) c.store (items_of (due_on (view_in state c) (seat_in state c) r)) (Ok tt) d.store) route (ends.items c.session) in
-      let is = pass_is c.manager c.session (view_in state c) (view_in state d) d.manager slot c.store d.store (seat_in state c).selected items leaves in
+      let leaves : CommandLeaves (due_application (session_state_in state c).selected) c.session (view_in state c) c.manager (Pass slot) (view_in state d) d.manager =
+      subst (λ (r : Route). CommandLeaves (due_on (view_in state c) (session_state_in state c) r) c.session (view_in state c) c.manager (Pass slot) (view_in state d) d.manager) route (ends.leaves c.session) in
+      let items : InOrder (store_did state wrote) c.store (items_of (due_application (session_state_in state c).selected)) (Ok tt) d.store =
+      subst (λ (r : Route). InOrder (store_did state wrote) c.store (items_of (due_on (view_in state c) (session_state_in state c) r)) (Ok tt) d.store) route (ends.items c.session) in
+      let is = pass_is c.manager c.session (view_in state c) (view_in state d) d.manager slot c.store d.store (session_state_in state c).selected items leaves in
       let sel = slot_of c.manager.selected slot is.2 in
       record {
         route = route;

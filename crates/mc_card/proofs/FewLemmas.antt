@@ -15,7 +15,7 @@ use Rattle.mc_model_device.specs.Device.{DeviceState, IsSized, Wrote as DeviceWr
 use Rattle.mc_model_device.specs.Card.{App, Card, means}
 use Rattle.mc_model_machine.specs.Chain.{Write, no_app}
 use Rattle.mc_model_card.specs.Items.{Change, Fixed, Created, Deleted, Item, Plain, Atomic, weight, moves, card_done, BankItem, Piece, Blank, Note, Commit, Enter, Remove, write_items}
-use Rattle.mc_model_card.specs.Manager.{Seat, Selected, Route, WrongLength, WrongClass, ToSelect, ToManager, ToApplication, Open, Accepted, Managed, Declines, Accepts, answer_unless, select, select_done, manage, open_load, open_refusals, open_done, delete, delete_refusals, delete_done, load_part, load_done, load_refusals, create, create_done, create_refusals, first_status, dir_in, room_on}
+use Rattle.mc_model_card.specs.Manager.{SessionState, Selected, Route, WrongLength, WrongClass, ToSelect, ToManager, ToApplication, Open, Accepted, Managed, Declines, Accepts, answer_unless, select, select_done, manage, open_load, open_refusals, open_done, delete, delete_refusals, delete_done, load_part, load_done, load_refusals, create, create_done, create_refusals, first_status, dir_in, room_on}
 use Rattle.mc_model_card.specs.Units.{name_of}
 use Rattle.mc_model_card.specs.Commands.{item_of, atomic_of, manager_command, by_route}
 use Rattle.mc_model_device.proofs.OrdersLemmas.{in_order_append}
@@ -35,6 +35,7 @@ use Rattle.mc_card.proofs.StaticLemmas.{going_apps}
 use Rattle.mc_card.proofs.MadeLemmas.{card_found}
 use Rattle.mc_card.proofs.WriteLemmas.{write_made, goes_on}
 use Rattle.mc_model_card.proofs.ItemLemmas.{moves_append}
+use Rattle.mc_card.proofs.StoreBank.{store_bank}
 
 -- ---- items that were begun
 
@@ -116,11 +117,11 @@ module _ {N : Type 0} (state : N → DeviceState) (wrote : N → ℕ → List �
   words_of s = (state s.device).words
 
   -- one atomic write
-  one_within : (s e : Store N) (w : Write) (a : Answer) → ItemsMade state wrote (means (words_of s)) (item w ∷ []) s.device a e.device → ChainWrote did bank_state s w a e → MadeWithin wrote 147 (item w ∷ []) s.device a e.device
+  one_within : (s e : Store N) (w : Write) (a : Answer) → ItemsMade state wrote (means (words_of s)) (item w ∷ []) s.device a e.device → ChainWrote (store_bank state wrote) s w a e → MadeWithin wrote 147 (item w ∷ []) s.device a e.device
   one_within s e w a made h = within_made state wrote 147 (means (words_of s)) (item w ∷ []) s.device a e.device made (((few_writes_law w.words).1 h.3).two, tt)
 
   -- all atomic writes that were begun
-  pub writes_within : (ws : List Write) (s e : Store N) (a : Answer) → Going (state s.device) s.count → AreSound (means (words_of s)).apps ws → InOrder (ChainWrote did bank_state) s ws a e → MadeWithin wrote 147 (write_items ws) s.device a e.device
+  pub writes_within : (ws : List Write) (s e : Store N) (a : Answer) → Going (state s.device) s.count → AreSound (means (words_of s)).apps ws → InOrder (ChainWrote (store_bank state wrote)) s ws a e → MadeWithin wrote 147 (write_items ws) s.device a e.device
   writes_within [] s e (Ok u) g sound h = record { writes = []; makes = ap (λ (t : Store N). t.device) h; number = refl; few = tt }
   writes_within [] s e (Err x) g sound h = absurd h
   writes_within (w ∷ ws) s e a g sound h =
@@ -154,46 +155,46 @@ by_status : (o : Option ℕ) (a : Accepted) → OfHeaders a.change → OnlyHeade
 by_status (Some sw) a h = tt
 by_status None a h = h
 
-select_headers : (seat : Seat) (a : ApduParts) (o : Option App) → OfHeaders (select_done seat a o).change
-select_headers seat a None = tt
-select_headers seat a (Some app) = tt
+select_headers : (session_state : SessionState) (a : ApduParts) (o : Option App) → OfHeaders (select_done session_state a o).change
+select_headers session_state a None = tt
+select_headers session_state a (Some app) = tt
 
-load_headers : (seat : Seat) (o : Option Open) (p : Part) (a : ApduParts) → OfHeaders (load_done seat o p a).change
-load_headers seat None p a = tt
-load_headers seat (Some o) p a = tt
+load_headers : (session_state : SessionState) (o : Option Open) (p : Part) (a : ApduParts) → OfHeaders (load_done session_state o p a).change
+load_headers session_state None p a = tt
+load_headers session_state (Some o) p a = tt
 
-create_headers : (seat : Seat) (o : Option Open) (n : Result (List ℕ) AidFault) → OfHeaders (create_done seat o n).change
-create_headers seat None n = tt
-create_headers seat (Some o) (Err e) = tt
-create_headers seat (Some o) (Ok n) = tt
+create_headers : (session_state : SessionState) (o : Option Open) (n : Result (List ℕ) AidFault) → OfHeaders (create_done session_state o n).change
+create_headers session_state None n = tt
+create_headers session_state (Some o) (Err e) = tt
+create_headers session_state (Some o) (Ok n) = tt
 
 either : (b : Bool) (x y : Managed) → OnlyHeaders x → OnlyHeaders y → OnlyHeaders (cond b x y)
 either true x y h k = h
 either false x y h k = k
 
-part_headers : (seat : Seat) (p : Part) (a : ApduParts) → OnlyHeaders (load_part p seat a)
-part_headers seat p a = by_status (first_status (load_refusals seat.load p a)) (load_done seat seat.load p a) (load_headers seat seat.load p a)
+part_headers : (session_state : SessionState) (p : Part) (a : ApduParts) → OnlyHeaders (load_part p session_state a)
+part_headers session_state p a = by_status (first_status (load_refusals session_state.load p a)) (load_done session_state session_state.load p a) (load_headers session_state session_state.load p a)
 
-create_only : (map : List (List ℕ × App)) (seat : Seat) (a : ApduParts) → OnlyHeaders (create map seat a)
-create_only map seat a = by_status (first_status (create_refusals map seat.load a)) (create_done seat seat.load (name_of (dir_in seat.load))) (create_headers seat seat.load (name_of (dir_in seat.load)))
+create_only : (map : List (List ℕ × App)) (session_state : SessionState) (a : ApduParts) → OnlyHeaders (create map session_state a)
+create_only map session_state a = by_status (first_status (create_refusals map session_state.load a)) (create_done session_state session_state.load (name_of (dir_in session_state.load))) (create_headers session_state session_state.load (name_of (dir_in session_state.load)))
 
-manage_headers : (c : Card) (seat : Seat) (a : ApduParts) → OnlyHeaders (manage (room_on c) c.apps seat a)
+manage_headers : (c : Card) (session_state : SessionState) (a : ApduParts) → OnlyHeaders (manage (room_on c) c.apps session_state a)
 unfolding manage
-manage_headers c seat a =
+manage_headers c session_state a =
     let map = c.apps in
-    let deletes = cond (a.ins == 0x18) (delete map seat a) (Declines 0x6D00) in
-    let creates = cond (a.ins == 0x16) (create map seat a) deletes in
-    let fci = cond (a.ins == 0x22) (load_part part.Fci seat a) creates in
-    let dir = cond (a.ins == 0x20) (load_part part.Dir seat a) fci in
-    let init = cond (a.ins == 0x26) (load_part part.Data seat a) dir in
-    let code = cond (a.ins == 0x24) (load_part part.Code seat a) init in
-    let none : OnlyHeaders deletes = either (a.ins == 0x18) (delete map seat a) (Declines 0x6D00) (by_status (first_status (delete_refusals map seat a)) (delete_done seat a) tt) tt in
-    let one : OnlyHeaders creates = either (a.ins == 0x16) (create map seat a) deletes (create_only map seat a) none in
-    let two : OnlyHeaders fci = either (a.ins == 0x22) (load_part part.Fci seat a) creates (part_headers seat part.Fci a) one in
-    let three : OnlyHeaders dir = either (a.ins == 0x20) (load_part part.Dir seat a) fci (part_headers seat part.Dir a) two in
-    let four : OnlyHeaders init = either (a.ins == 0x26) (load_part part.Data seat a) dir (part_headers seat part.Data a) three in
-    let five : OnlyHeaders code = either (a.ins == 0x24) (load_part part.Code seat a) init (part_headers seat part.Code a) four in
-    either (a.ins == 0x12) (open_load (room_on c) map seat a) code (by_status (first_status (open_refusals (room_on c) map a)) (open_done (room_on c) seat a) tt) five
+    let deletes = cond (a.ins == 0x18) (delete map session_state a) (Declines 0x6D00) in
+    let creates = cond (a.ins == 0x16) (create map session_state a) deletes in
+    let fci = cond (a.ins == 0x22) (load_part part.Fci session_state a) creates in
+    let dir = cond (a.ins == 0x20) (load_part part.Dir session_state a) fci in
+    let init = cond (a.ins == 0x26) (load_part part.Data session_state a) dir in
+    let code = cond (a.ins == 0x24) (load_part part.Code session_state a) init in
+    let none : OnlyHeaders deletes = either (a.ins == 0x18) (delete map session_state a) (Declines 0x6D00) (by_status (first_status (delete_refusals map session_state a)) (delete_done session_state a) tt) tt in
+    let one : OnlyHeaders creates = either (a.ins == 0x16) (create map session_state a) deletes (create_only map session_state a) none in
+    let two : OnlyHeaders fci = either (a.ins == 0x22) (load_part part.Fci session_state a) creates (part_headers session_state part.Fci a) one in
+    let three : OnlyHeaders dir = either (a.ins == 0x20) (load_part part.Dir session_state a) fci (part_headers session_state part.Dir a) two in
+    let four : OnlyHeaders init = either (a.ins == 0x26) (load_part part.Data session_state a) dir (part_headers session_state part.Data a) three in
+    let five : OnlyHeaders code = either (a.ins == 0x24) (load_part part.Code session_state a) init (part_headers session_state part.Code a) four in
+    either (a.ins == 0x12) (open_load (room_on c) map session_state a) code (by_status (first_status (open_refusals (room_on c) map a)) (open_done (room_on c) session_state a) tt) five
 
 -- the device writes of a change of headers
 header_cost : (w n : ℕ) → n ≤ 32 → w ≤ n + 4 → cost Two w ≤ 84
@@ -217,21 +218,21 @@ items_within : (whole : Item) (is : List BankItem) → weight whole ≤ 84 → A
 items_within whole [] h = tt
 items_within whole (i ∷ is) h = (item_weight whole i h, items_within whole is h)
 
-managed_within : (c : Card) (seat : Seat) (m : Managed) → length c.apps ≤ 32 → OnlyHeaders m → AllWithin 84 (manager_command c seat m).items
-managed_within c seat (Declines sw) few h = tt
-managed_within c seat (Accepts a) few h = items_within (atomic_of c a.change) a.items (header_weight c a.change few h)
+managed_within : (c : Card) (session_state : SessionState) (m : Managed) → length c.apps ≤ 32 → OnlyHeaders m → AllWithin 84 (manager_command c session_state m).items
+managed_within c session_state (Declines sw) few h = tt
+managed_within c session_state (Accepts a) few h = items_within (atomic_of c a.change) a.items (header_weight c a.change few h)
 
-no_application : (c : Card) (seat : Seat) (budget : ℕ) (a : ApduParts) (o : Option Selected) → seat.selected ≡ o → is_passed (ToApplication a) o ≡ false → AllWithin 147 (by_route c seat budget (ToApplication a)).items
-no_application c seat budget a None is stays = rw is tt
-no_application c seat budget a (Some s) is stays = absurd (cc stays)
+no_application : (c : Card) (session_state : SessionState) (budget : ℕ) (a : ApduParts) (o : Option Selected) → session_state.selected ≡ o → is_passed (ToApplication a) o ≡ false → AllWithin 147 (by_route c session_state budget (ToApplication a)).items
+no_application c session_state budget a None is stays = rw is tt
+no_application c session_state budget a (Some s) is stays = absurd (cc stays)
 
 -- a command that is not passed to the application
-pub route_within : (c : Card) (seat : Seat) (budget : ℕ) (r : Route) → length c.apps ≤ 32 → is_passed r seat.selected ≡ false → AllWithin (most_weight r) (by_route c seat budget r).items
-route_within c seat budget WrongLength few stays = tt
-route_within c seat budget WrongClass few stays = tt
-route_within c seat budget (ToSelect a) few stays = managed_within c seat (select c.apps seat a) few (by_status _ (select_done seat a (lookup c.apps a.body)) (select_headers seat a (lookup c.apps a.body)))
-route_within c seat budget (ToManager a) few stays = managed_within c seat (manage (room_on c) c.apps seat a) few (manage_headers c seat a)
-route_within c seat budget (ToApplication a) few stays = no_application c seat budget a seat.selected refl stays
+pub route_within : (c : Card) (session_state : SessionState) (budget : ℕ) (r : Route) → length c.apps ≤ 32 → is_passed r session_state.selected ≡ false → AllWithin (most_weight r) (by_route c session_state budget r).items
+route_within c session_state budget WrongLength few stays = tt
+route_within c session_state budget WrongClass few stays = tt
+route_within c session_state budget (ToSelect a) few stays = managed_within c session_state (select c.apps session_state a) few (by_status _ (select_done session_state a (lookup c.apps a.body)) (select_headers session_state a (lookup c.apps a.body)))
+route_within c session_state budget (ToManager a) few stays = managed_within c session_state (manage (room_on c) c.apps session_state a) few (manage_headers c session_state a)
+route_within c session_state budget (ToApplication a) few stays = no_application c session_state budget a session_state.selected refl stays
 
 -- a card that runs has at most 32 applications
 pub going_entries : (d : DeviceState) (count : ℕ) → IsSized d.words → is_going d count ≡ true → AreApps (apps_in d.words)

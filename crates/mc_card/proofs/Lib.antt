@@ -3,6 +3,7 @@ pub mod ManagerLemmas
 pub mod StaticLemmas
 pub mod DirectLemmas
 pub mod DeviceLemmas
+pub mod StoreBank
 pub mod WriteLemmas
 pub mod AfterLemmas
 pub mod TurnLemmas

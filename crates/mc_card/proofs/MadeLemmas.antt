@@ -20,14 +20,14 @@ use Rattle.mc_model_device.proofs.DeviceLemmas.{DoneAll, makes_done}
 use Rattle.mc_model_device.proofs.StoppedLemmas.{torn_within, torn_past}
 use Rattle.mc_model_device.proofs.CallLemmas.{length_writes}
 use Rattle.mc_bank.specs.Bank.{no_app, app_of, CanCommit, item_done}
-use Rattle.mc_store.specs.Store.{apps_in, part_in, static_writes, card_with, card_without, item_writes, store_standing, Allows, StoreDid}
+use Rattle.mc_store.specs.Store.{apps_in, part_in, static_writes, card_with, card_without, item_writes, store_site_bytes, Allows, StoreDid}
 use Rattle.mc_store.specs.Power.{HoldsBase}
 use Rattle.mc_store.specs.GoingLaws.{Going, going_is}
 use Rattle.mc_store.specs.Stops.{card_after, IsStoppedAt}
 use Rattle.mc_store.specs.CommitLaws.{CommittedCard, commits}
 use Rattle.mc_store.specs.CreationLaws.{creates_plan}
 use Rattle.mc_store.specs.DeletionLaws.{deletes_plan}
-use Rattle.mc_store.specs.TurnLaws.{CardChanged, Standing, standing_of, turns}
+use Rattle.mc_store.specs.TurnLaws.{CardChanged, SiteBytes, site_bytes_of, turns}
 use Rattle.mc_store.proofs.StopLemmas.{item_stops}
 use Rattle.mc_card.specs.ItemWrites.{IsCardAfterStop, CountsWrites, IsCardAfter, ItemsMade, StopsAtEach}
 use Rattle.mc_model_device.proofs.LayoutLemmas.{closed_fault, closed_means}
@@ -252,9 +252,9 @@ module _ {D : Type 0} (state : D → DeviceState) (wrote : D → ℕ → List �
   done_is d e c k i j (Ok tt) card did =
       let m = (state d).words in
       let g : Going (state d) c = going_is (state d) c did.going in
-      let s : Standing m = standing_of (state d) c g in
-      let t : CardChanged (state d) (item_done (store_standing (state d)) i (apps_in m)) (state e) k = turns state wrote obeys i d e c k (Ok tt) did in
-      let own : item_done (store_standing (state d)) i (apps_in m) ≡ item_done (part_in m) i (means m).apps =
+      let s : SiteBytes m = site_bytes_of (state d) c g in
+      let t : CardChanged (state d) (item_done (store_site_bytes (state d)) i (apps_in m)) (state e) k = turns state wrote obeys i d e c k (Ok tt) did in
+      let own : item_done (store_site_bytes (state d)) i (apps_in m) ≡ item_done (part_in m) i (means m).apps =
       ap (λ (w : List (List ℕ)). item_done (part_in w) i (apps_in m)) s.self ∙ ap (λ (apps : List (List ℕ × App)). item_done (part_in m) i apps) (s.map ∙ sym s.apps) in
       closed_base (state e).words (card_done (means m) (j ∷ [])) t.closed t.good
       (t.card ∙ ap (λ (apps : List (List ℕ × App)). record (card_of m) { apps = apps }) own

@@ -18,17 +18,17 @@ use Rattle.mc_model_device.specs.Card.{App, Card, means}
 use Rattle.mc_model_device.specs.Layout.{step_of}
 use Rattle.mc_model_card.specs.Units.{name_of}
 use Rattle.mc_model_card.specs.Items.{Created, Deleted, Item, Plain, Atomic, card_done, Site, BankItem, Piece, Blank, Note, Commit, Enter, Remove}
-use Rattle.mc_model_card.specs.Manager.{Seat, Open, got_of, select_body, Managed, Declines, Accepts, Accepted, Route, WrongLength, WrongClass, ToSelect, ToManager, ToApplication, can_create, first_status, answer_unless, select_refusals, select_done, select, open_refusals, open_done, open_load, load_refusals, load_done, load_part, create_refusals, create_done, create_items, create, dir_in, fresh, delete_refusals, delete_done, delete, manage, word_parts, room_on}
+use Rattle.mc_model_card.specs.Manager.{SessionState, Open, got_of, select_body, Managed, Declines, Accepts, Accepted, Route, WrongLength, WrongClass, ToSelect, ToManager, ToApplication, can_create, first_status, answer_unless, select_refusals, select_done, select, open_refusals, open_done, open_load, load_refusals, load_done, load_part, create_refusals, create_done, create_items, create, dir_in, fresh, delete_refusals, delete_done, delete, manage, word_parts, room_on}
 use Rattle.mc_model_device.specs.PowerUp.{OnCard}
 use Rattle.mc_model_card.specs.Commands.{item_of, atomic_of, manager_command, application_command, by_route}
 use Rattle.mc_bank.specs.Bank.{app_of_site}
-use Rattle.mc_manager.specs.ManagerState.{BankView, Loaded, ManagerState, open_of, seat_of, ManagerFits, FitsLoad}
+use Rattle.mc_manager.specs.ManagerState.{BankView, Loaded, ManagerState, open_of, session_state_of, ManagerFits, FitsLoad}
 use Rattle.mc_manager.specs.declared.selection.Selection.{Selection}
 use Rattle.mc_manager.specs.Load.{is_full}
 use Rattle.mc_manager.specs.CommandDue.{Passes, due_select, due_manager, due_application, due_on, items_of}
 use Rattle.mc_manager.proofs.LoadLemmas.{complete_full, fresh_entered}
 use Rattle.mc_store.specs.declared.store.Store.{Store}
-use Rattle.mc_store.specs.Store.{part_in, is_going, store_state, store_named, store_room, store_standing}
+use Rattle.mc_store.specs.Store.{part_in, is_going, store_state, store_named, store_room, store_site_bytes}
 use Rattle.mc_store.specs.Power.{HoldsBase, device_of, count_of}
 use Rattle.mc_store.specs.GoingLaws.{Going, going_is}
 use Rattle.mc_store.specs.StoreItems.{store_did}
@@ -118,7 +118,7 @@ module _ {N : Type 0} (state : N → DeviceState) (wrote : N → ℕ → List �
   abbrev pub view : Store N → BankView
   view s =
       let d = state (device_of s) in
-      record { state = store_state d (count_of s); named = store_named d; room = store_room d; standing = store_standing d }
+      record { state = store_state d (count_of s); named = store_named d; room = store_room d; site_bytes = store_site_bytes d }
 
   -- items that leave the card unchanged
   pub plain_made : (whole : Item) (is : List BankItem) (s e : Store N) (a : Answer) → is_going (state s.device) s.count ≡ true → AllByRecursion IsPlain is → InOrder (store_did state wrote) s is a e
@@ -141,7 +141,7 @@ module _ {N : Type 0} (state : N → DeviceState) (wrote : N → ℕ → List �
         apps = ap (λ (x : App). insert (means w).apps n x) (sym app);
       }
 
-  pub create_made : (s e : Store N) (a : Answer) (t : Site) (n : List ℕ) (o : Open) → is_going (state s.device) s.count ≡ true → app_of_site t (store_standing (state s.device) t) ≡ fresh o → InOrder (store_did state wrote) s (create_items t n) a e
+  pub create_made : (s e : Store N) (a : Answer) (t : Site) (n : List ℕ) (o : Open) → is_going (state s.device) s.count ≡ true → app_of_site t (store_site_bytes (state s.device) t) ≡ fresh o → InOrder (store_did state wrote) s (create_items t n) a e
       → ItemsMade state wrote (card_of_store s) (map (item_of (atomic_of (card_of_store s) (Some (Created n (fresh o))))) (create_items t n)) s.device a e.device
   create_made s e a t n o going app h =
       let c = card_of_store s in
@@ -157,9 +157,9 @@ module _ {N : Type 0} (state : N → DeviceState) (wrote : N → ℕ → List �
             let first : ItemsMade state wrote c (map (item_of whole) is) s.device (Ok tt) m.device = plain_made whole is s m (Ok tt) going plain all.1 in
             let kept : CardKept state wrote obeys s m = all_kept state wrote obeys is s m (Ok tt) plain all.1 in
             let did : store_did state wrote m (Enter t n) a e = in_order_one (store_did state wrote) (Enter t n) m e a all.2 in
-            let standing : (p : Part) → part_in (state m.device).words t p ≡ store_standing (state s.device) t p =
+            let site_bytes : (p : Part) → part_in (state m.device).words t p ≡ store_site_bytes (state s.device) t p =
             λ p. sym (stands_now state wrote obeys m t p did.going) ∙ all_stand state wrote obeys is s m t p quiet all.1 in
-            let same : app_of_site t (part_in (state m.device).words t) ≡ fresh o = entered-same t (part_in (state m.device).words t) (store_standing (state s.device) t) standing ∙ app in
+            let same : app_of_site t (part_in (state m.device).words t) ≡ fresh o = entered-same t (part_in (state m.device).words t) (store_site_bytes (state s.device) t) site_bytes ∙ app in
             let now : card_done c (map (item_of whole) is) ≡ means (state m.device).words = card_found (card_done c (map (item_of whole) is)) 0 (state m.device).words first.done in
             let last : ItemsMade state wrote (means (state m.device).words) (whole ∷ []) m.device a e.device =
             made_one state wrote obeys m.device e.device m.count e.count (Enter t n) whole a (enter_as s m t n o kept.card same) did in
@@ -178,70 +178,70 @@ module _ {N : Type 0} (state : N → DeviceState) (wrote : N → ℕ → List �
   -- ---- a command by its answer
 
   -- the bank's items of an answer make its items of the definition
-  abbrev MakesAll : Store N → Seat → Managed → Type 0
-  MakesAll s seat x = (e : Store N) (a : Answer) → InOrder (store_did state wrote) s (items_in x) a e → ItemsMade state wrote (card_of_store s) (manager_command (card_of_store s) seat x).items s.device a e.device
+  abbrev MakesAll : Store N → SessionState → Managed → Type 0
+  MakesAll s session_state x = (e : Store N) (a : Answer) → InOrder (store_did state wrote) s (items_in x) a e → ItemsMade state wrote (card_of_store s) (manager_command (card_of_store s) session_state x).items s.device a e.device
 
-  module _ (s : Store N) (seat : Seat) (going : is_going (state s.device) s.count ≡ true) where
-    no_items : (sw : ℕ) → MakesAll s seat (Declines sw)
+  module _ (s : Store N) (session_state : SessionState) (going : is_going (state s.device) s.count ≡ true) where
+    no_items : (sw : ℕ) → MakesAll s session_state (Declines sw)
     no_items sw e a h = plain_made Plain [] s e a going tt h
 
-    quiet_items : (body : List ℕ) (next : Seat) → MakesAll s seat (Accepts (record { body = body; seat = next; items = []; change = None }))
+    quiet_items : (body : List ℕ) (next : SessionState) → MakesAll s session_state (Accepts (record { body = body; session_state = next; items = []; change = None }))
     quiet_items body next e a h = plain_made Plain [] s e a going tt h
 
-    by_refusal : (o : Option ℕ) (d : Accepted) → (o ≡ None → MakesAll s seat (Accepts d)) → MakesAll s seat (answer_unless o d)
+    by_refusal : (o : Option ℕ) (d : Accepted) → (o ≡ None → MakesAll s session_state (Accepts d)) → MakesAll s session_state (answer_unless o d)
     by_refusal None d h = h refl
     by_refusal (Some sw) d h = no_items sw
 
-    select_made : (apps : List (List ℕ × App)) (a : ApduParts) → MakesAll s seat (select apps seat a)
-    select_made apps a = by_refusal (first_status (select_refusals apps a)) (select_done seat a (lookup apps a.body)) (λ e. by_app (lookup apps a.body))
+    select_made : (apps : List (List ℕ × App)) (a : ApduParts) → MakesAll s session_state (select apps session_state a)
+    select_made apps a = by_refusal (first_status (select_refusals apps a)) (select_done session_state a (lookup apps a.body)) (λ e. by_app (lookup apps a.body))
       where
-        by_app : (x : Option App) → MakesAll s seat (Accepts (select_done seat a x))
-        by_app None = quiet_items [] seat
-        by_app (Some app) = quiet_items (select_body a app) (select_done seat a (Some app)).seat
+        by_app : (x : Option App) → MakesAll s session_state (Accepts (select_done session_state a x))
+        by_app None = quiet_items [] session_state
+        by_app (Some app) = quiet_items (select_body a app) (select_done session_state a (Some app)).session_state
 
-    open_made : (room : Sizes → Option ℕ) (apps : List (List ℕ × App)) (a : ApduParts) → MakesAll s seat (open_load room apps seat a)
-    open_made room apps a = by_refusal (first_status (open_refusals room apps a)) (open_done room seat a) (λ e. quiet_items [] (open_done room seat a).seat)
+    open_made : (room : Sizes → Option ℕ) (apps : List (List ℕ × App)) (a : ApduParts) → MakesAll s session_state (open_load room apps session_state a)
+    open_made room apps a = by_refusal (first_status (open_refusals room apps a)) (open_done room session_state a) (λ e. quiet_items [] (open_done room session_state a).session_state)
 
-    load_made : (p : Part) (a : ApduParts) → MakesAll s seat (load_part p seat a)
-    load_made p a = by_refusal (first_status (load_refusals seat.load p a)) (load_done seat seat.load p a) (λ e. by_load seat.load)
+    load_made : (p : Part) (a : ApduParts) → MakesAll s session_state (load_part p session_state a)
+    load_made p a = by_refusal (first_status (load_refusals session_state.load p a)) (load_done session_state session_state.load p a) (λ e. by_load session_state.load)
       where
-        by_load : (x : Option Open) → MakesAll s seat (Accepts (load_done seat x p a))
-        by_load None = quiet_items [] seat
+        by_load : (x : Option Open) → MakesAll s session_state (Accepts (load_done session_state x p a))
+        by_load None = quiet_items [] session_state
         by_load (Some o) = λ e b h. plain_made Plain (map (λ c. Piece o.site p c.0 c.1) (word_parts (length (got_of p o.got)) a.body)) s e b going (pieces_plain o.site p (word_parts (length (got_of p o.got)) a.body)) h
 
-    create_by : (l : Option Loaded) (apps : List (List ℕ × App)) (a : ApduParts) (n : Result (List ℕ) AidFault) → ForSome l (FitsLoad (view s)) → first_status (create_refusals apps (option_map (open_of (view s).standing) l) a) ≡ None
-        → MakesAll s seat (Accepts (create_done seat (option_map (open_of (view s).standing) l) n))
-    create_by None apps a n fits clear = quiet_items [] seat
-    create_by (Some l) apps a (Err e) fits clear = quiet_items [] seat
+    create_by : (l : Option Loaded) (apps : List (List ℕ × App)) (a : ApduParts) (n : Result (List ℕ) AidFault) → ForSome l (FitsLoad (view s)) → first_status (create_refusals apps (option_map (open_of (view s).site_bytes) l) a) ≡ None
+        → MakesAll s session_state (Accepts (create_done session_state (option_map (open_of (view s).site_bytes) l) n))
+    create_by None apps a n fits clear = quiet_items [] session_state
+    create_by (Some l) apps a (Err e) fits clear = quiet_items [] session_state
     create_by (Some l) apps a (Ok n) fits clear =
         let here : FitsLoad (view s) l = fits l refl in
-        let full : is_full l ≡ true = sym (complete_full (view s) l here) ∙ unrefused_can_create apps (Some (open_of (view s).standing l)) a clear in
-        λ e b h. create_made s e b l.site n (open_of (view s).standing l) going (sym (fresh_entered (view s) l here full)) h
+        let full : is_full l ≡ true = sym (complete_full (view s) l here) ∙ unrefused_can_create apps (Some (open_of (view s).site_bytes l)) a clear in
+        λ e b h. create_made s e b l.site n (open_of (view s).site_bytes l) going (sym (fresh_entered (view s) l here full)) h
 
-    delete_done_makes : (apps : List (List ℕ × App)) (a : ApduParts) → MakesAll s seat (delete apps seat a)
-    delete_done_makes apps a = by_refusal (first_status (delete_refusals apps seat a)) (delete_done seat a) (λ e. λ x b h. delete_made s x b a.body h)
+    delete_done_makes : (apps : List (List ℕ × App)) (a : ApduParts) → MakesAll s session_state (delete apps session_state a)
+    delete_done_makes apps a = by_refusal (first_status (delete_refusals apps session_state a)) (delete_done session_state a) (λ e. λ x b h. delete_made s x b a.body h)
 
-    by_test : (x y : Managed) → MakesAll s seat x → MakesAll s seat y → (b : Bool) → MakesAll s seat (cond b x y)
+    by_test : (x y : Managed) → MakesAll s session_state x → MakesAll s session_state y → (b : Bool) → MakesAll s session_state (cond b x y)
     by_test x y h k true = h
     by_test x y h k false = k
 
   module _ (s : Store N) (session : List ℕ) (m : ManagerState) (going : is_going (state s.device) s.count ≡ true) (fits : ManagerFits (view s) m) where
     -- the session state of a manager over a store
-    abbrev seat_on : Seat
-    seat_on = seat_of (view s).standing session m
+    abbrev session_state_on : SessionState
+    session_state_on = session_state_of (view s).site_bytes session m
 
-    create_done_makes : (apps : List (List ℕ × App)) (a : ApduParts) → MakesAll s seat_on (create apps seat_on a)
+    create_done_makes : (apps : List (List ℕ × App)) (a : ApduParts) → MakesAll s session_state_on (create apps session_state_on a)
     create_done_makes apps a =
-        by_refusal s seat_on going (first_status (create_refusals apps seat_on.load a)) (create_done seat_on seat_on.load (name_of (dir_in seat_on.load)))
-        (create_by s seat_on going m.load apps a (name_of (dir_in seat_on.load)) fits.load)
+        by_refusal s session_state_on going (first_status (create_refusals apps session_state_on.load a)) (create_done session_state_on session_state_on.load (name_of (dir_in session_state_on.load)))
+        (create_by s session_state_on going m.load apps a (name_of (dir_in session_state_on.load)) fits.load)
 
-    manage_made : (room : Sizes → Option ℕ) (apps : List (List ℕ × App)) (a : ApduParts) → MakesAll s seat_on (manage room apps seat_on a)
+    manage_made : (room : Sizes → Option ℕ) (apps : List (List ℕ × App)) (a : ApduParts) → MakesAll s session_state_on (manage room apps session_state_on a)
     unfolding manage
     manage_made room apps a =
-        let load = load_made s seat_on going in
-        let test = by_test s seat_on going in
-        test _ _ (open_made s seat_on going room apps a) (test _ _ (load part.Code a) (test _ _ (load part.Data a) (test _ _ (load part.Dir a) (test _ _ (load part.Fci a)
-        (test _ _ (create_done_makes apps a) (test _ _ (delete_done_makes s seat_on going apps a) (no_items s seat_on going 0x6D00) (a.ins == 0x18)) (a.ins == 0x16)) (a.ins == 0x22)) (a.ins == 0x20)) (a.ins == 0x26)) (a.ins == 0x24)) (a.ins == 0x12)
+        let load = load_made s session_state_on going in
+        let test = by_test s session_state_on going in
+        test _ _ (open_made s session_state_on going room apps a) (test _ _ (load part.Code a) (test _ _ (load part.Data a) (test _ _ (load part.Dir a) (test _ _ (load part.Fci a)
+        (test _ _ (create_done_makes apps a) (test _ _ (delete_done_makes s session_state_on going apps a) (no_items s session_state_on going 0x6D00) (a.ins == 0x18)) (a.ins == 0x16)) (a.ins == 0x22)) (a.ins == 0x20)) (a.ins == 0x26)) (a.ins == 0x24)) (a.ins == 0x12)
 
     -- ---- a command by its route
 
@@ -254,22 +254,22 @@ module _ {N : Type 0} (state : N → DeviceState) (wrote : N → ℕ → List �
     manager_items (Accepts d) = refl
 
     -- the items of a command that is not passed to the application
-    pub due_made : (budget : ℕ) (r : Route) (e : Store N) (b : Answer) → (due_on (view s) seat_on r ≡ Passes → ⊥) → InOrder (store_did state wrote) s (items_of (due_on (view s) seat_on r)) b e
-        → ItemsMade state wrote (card_of_store s) (by_route (card_of_store s) seat_on budget r).items s.device b e.device
-    due_made budget WrongLength e b other h = no_items s seat_on going 0x6700 e b h
-    due_made budget WrongClass e b other h = no_items s seat_on going 0x6E00 e b h
+    pub due_made : (budget : ℕ) (r : Route) (e : Store N) (b : Answer) → (due_on (view s) session_state_on r ≡ Passes → ⊥) → InOrder (store_did state wrote) s (items_of (due_on (view s) session_state_on r)) b e
+        → ItemsMade state wrote (card_of_store s) (by_route (card_of_store s) session_state_on budget r).items s.device b e.device
+    due_made budget WrongLength e b other h = no_items s session_state_on going 0x6700 e b h
+    due_made budget WrongClass e b other h = no_items s session_state_on going 0x6E00 e b h
     due_made budget (ToSelect a) e b other h =
-        select_made s seat_on going (card_of_store s).apps a e b
-        (subst (λ (is : List BankItem). InOrder (store_did state wrote) s is b e) (select_items (select (card_of_store s).apps seat_on a))
-        (subst (λ (apps : List (List ℕ × App)). InOrder (store_did state wrote) s (items_of (due_select (select apps seat_on a))) b e) (going_apps (state s.device) s.count going) h))
+        select_made s session_state_on going (card_of_store s).apps a e b
+        (subst (λ (is : List BankItem). InOrder (store_did state wrote) s is b e) (select_items (select (card_of_store s).apps session_state_on a))
+        (subst (λ (apps : List (List ℕ × App)). InOrder (store_did state wrote) s (items_of (due_select (select apps session_state_on a))) b e) (going_apps (state s.device) s.count going) h))
     due_made budget (ToManager a) e b other h =
         manage_made (room_on (card_of_store s)) (card_of_store s).apps a e b
-        (subst (λ (is : List BankItem). InOrder (store_did state wrote) s is b e) (manager_items (manage (room_on (card_of_store s)) (card_of_store s).apps seat_on a))
-        (subst (λ (apps : List (List ℕ × App)). InOrder (store_did state wrote) s (items_of (due_manager (manage (room_on (card_of_store s)) apps seat_on a))) b e) (going_apps (state s.device) s.count going) h))
+        (subst (λ (is : List BankItem). InOrder (store_did state wrote) s is b e) (manager_items (manage (room_on (card_of_store s)) (card_of_store s).apps session_state_on a))
+        (subst (λ (apps : List (List ℕ × App)). InOrder (store_did state wrote) s (items_of (due_manager (manage (room_on (card_of_store s)) apps session_state_on a))) b e) (going_apps (state s.device) s.count going) h))
     due_made budget (ToApplication a) e b other h = by_selected m.selected other h
       where
         by_selected : (x : Option Selection) → (due_application (option_map (λ s. record { name = s.aid; session = session }) x) ≡ Passes → ⊥)
             → InOrder (store_did state wrote) s (items_of (due_application (option_map (λ s. record { name = s.aid; session = session }) x))) b e
-            → ItemsMade state wrote (card_of_store s) (application_command (card_of_store s) seat_on (option_map (λ s. record { name = s.aid; session = session }) x) a budget).items s.device b e.device
-        by_selected None other h = no_items s seat_on going 0x6985 e b h
+            → ItemsMade state wrote (card_of_store s) (application_command (card_of_store s) session_state_on (option_map (λ s. record { name = s.aid; session = session }) x) a budget).items s.device b e.device
+        by_selected None other h = no_items s session_state_on going 0x6985 e b h
         by_selected (Some x) other h = absurd (other refl)

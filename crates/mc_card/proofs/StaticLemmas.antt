@@ -8,12 +8,12 @@ use Rattle.mc_model_card.specs.declared.card.Sizes.{Sizes}
 use Rattle.mc_bank.specs.Bank.{no_app, app_of, sizes_of}
 use Rattle.mc_store.specs.Store.{apps_in, is_going, store_named}
 use Rattle.mc_store.specs.GoingLaws.{going_is}
-use Rattle.mc_store.specs.TurnLaws.{Standing, standing_of}
+use Rattle.mc_store.specs.TurnLaws.{SiteBytes, site_bytes_of}
 use Rattle.mc_model_device.proofs.BoolLemmas.{no_value}
 
 -- the applications of a bank that has not stopped are those of the card
 pub going_apps : (d : DeviceState) (c : ℕ) → is_going d c ≡ true → apps_in d.words ≡ (means d.words).apps
-going_apps d c h = let t : Standing d.words = standing_of d c (going_is d c h) in t.map ∙ sym t.apps
+going_apps d c h = let t : SiteBytes d.words = site_bytes_of d c (going_is d c h) in t.map ∙ sym t.apps
 
 -- the application in a slot
 pub slot_app : (d : DeviceState) (c k : ℕ) (n : List ℕ) → is_going d c ≡ true → store_named d k ≡ Some n → app_of (apps_in d.words) (store_named d k) ≡ app_of (means d.words).apps (Some n)

@@ -20,13 +20,14 @@ use Rattle.mc_machine.specs.Chains.{Chained, RunsAs, ChainWrote, session_in}
 use Rattle.mc_machine.specs.Turns.{Follow, TurnActs, TurnDone, WritesFew, outcome_value}
 use Rattle.mc_card.specs.Ends.{TurnGoesOn, ChainTurned}
 use Rattle.mc_card.specs.ItemWrites.{ItemsMade}
-use Rattle.mc_card.specs.Parts.{card_in, seat_in, with_session, RunsChain}
+use Rattle.mc_card.specs.Parts.{card_in, session_state_in, with_session, RunsChain}
 use Rattle.mc_machine.proofs.SoundChains.{AreSound, TurnSound, FollowsSound, first_in, session_size, turn_sound}
 use Rattle.mc_machine.proofs.SoundRuns.{turn_end}
 use Rattle.mc_card.proofs.StaticLemmas.{going_apps}
 use Rattle.mc_card.proofs.FewLemmas.{going_entries}
-use Rattle.mc_card.proofs.AfterLemmas.{card_made, still_up, same_seat, seat_after}
+use Rattle.mc_card.proofs.AfterLemmas.{card_made, still_up, same_session_state, session_state_after}
 use Rattle.std.proofs.lemmas.Option.{same_Some}
+use Rattle.mc_card.proofs.StoreBank.{store_bank}
 
 -- the card with these parts
 abbrev pub card_of : {N : Type 0} → Store N → ManagerState → List ℕ → Option Chained → Card N
@@ -61,7 +62,7 @@ module _ {N : Type 0} (state : N → DeviceState) (wrote : N → ℕ → List �
     writes_sound = subst (λ (m : List (List ℕ × App)). AreSound m t.writes) own_map sound.writes
 
     -- the turn's writes, as items of the definition
-    pub turn_made : (e : Store N) (a : Answer) → InOrder (ChainWrote did bank_state) c.store t.writes a e → ItemsMade state wrote (card_in state c) (write_items t.writes) c.store.device a e.device
+    pub turn_made : (e : Store N) (a : Answer) → InOrder (ChainWrote (store_bank state wrote)) c.store t.writes a e → ItemsMade state wrote (card_in state c) (write_items t.writes) c.store.device a e.device
     turn_made = card_made state wrote obeys c r.up t.writes writes_sound
 
     -- the first frame has as many session bytes as the selected application
@@ -70,7 +71,7 @@ module _ {N : Type 0} (state : N → DeviceState) (wrote : N → ℕ → List �
         let name : s.aid ≡ (first_in ch).name = same_Some s.aid (first_in ch).name (sym (ap (λ (o : Option Selection). option_map (λ s. s.aid) o) is) ∙ r.own) in
         session_size ch r.sound ∙ ap (λ (m : List (List ℕ × App)). (app_of m (Some (first_in ch).name)).session) own_map ∙ ap (λ (n : List ℕ). (app_of apps (Some n)).session) (sym name)
 
-    module _ (e : Store N) (d : Chained) (acts : TurnActs did bank_state named c.store e r.chained d ch t) where
+    module _ (e : Store N) (d : Chained) (acts : TurnActs (store_bank state wrote) c.store e r.chained d ch t) where
       -- the chain continues
       goes : (next : Chain) → t.follows ≡ Continues next → TurnGoesOn state wrote c ch (left - t.count) (Continues next) (record { store = e; manager = c.manager; session = c.session; chain = Some d })
       goes next is =
@@ -86,7 +87,7 @@ module _ {N : Type 0} (state : N → DeviceState) (wrote : N → ℕ → List �
               own = r.own ∙ ap (λ (n : List ℕ). Some n) (sym s.first);
               sound = s.sound;
             },
-            same_seat state wrote obeys c r.up t.writes writes_sound e acts.writes,
+            same_session_state state wrote obeys c r.up t.writes writes_sound e acts.writes,
           )
 
       -- the chain has ended
@@ -94,7 +95,7 @@ module _ {N : Type 0} (state : N → DeviceState) (wrote : N → ℕ → List �
       ends o is =
           let bytes : session_in d ≡ chain_session ch = subst (λ (f : Follows). Follow (bank_state e) (store_named (state e.device)) d ch f) is acts.follows in (
             record { up = still_up state wrote obeys c r.up t.writes writes_sound e acts.writes (session_in d) None acts.going (λ s sel. ap length bytes ∙ first_size s sel); idle = refl },
-            seat_after state wrote obeys c r.up t.writes writes_sound e acts.writes (session_in d) ∙ ap (λ (b : List ℕ). with_session b (seat_in state c)) bytes,
+            session_state_after state wrote obeys c r.up t.writes writes_sound e acts.writes (session_in d) ∙ ap (λ (b : List ℕ). with_session b (session_state_in state c)) bytes,
           )
 
       goes_by : (f : Follows) → t.follows ≡ f → end_of f ≡ None → TurnGoesOn state wrote c ch (left - t.count) f (record { store = e; manager = c.manager; session = c.session; chain = Some d })
@@ -125,7 +126,7 @@ module _ {N : Type 0} (state : N → DeviceState) (wrote : N → ℕ → List �
 
     -- the clauses of the turn of the machine
     abbrev Does : Result Turn Stop → Type 0
-    Does result = (ch : Chain) → RunsAs (bank_state c.store) (named c.store) k ch → TurnDone did bank_state named c.store e k d ch (turn_of k.left ch) result
+    Does result = (ch : Chain) → RunsAs (bank_state c.store) (named c.store) k ch → TurnDone (store_bank state wrote) c.store e k d ch (turn_of k.left ch) result
 
     own_chain : (ch : Chain) (left : ℕ) (r : RunsChain state c ch left) → r.chained ≡ k
     own_chain ch left r = same_Some r.chained k (sym r.is ∙ is)
@@ -137,17 +138,17 @@ module _ {N : Type 0} (state : N → DeviceState) (wrote : N → ℕ → List �
     pub left_own : (ch : Chain) (left : ℕ) → RunsChain state c ch left → k.left ≡ left
     left_own ch left r = ap (λ (x : Chained). x.left) (sym (own_chain ch left r)) ∙ r.left
 
-    done_own : (result : Result Turn Stop) → Does result → (ch : Chain) (left : ℕ) (r : RunsChain state c ch left) → TurnDone did bank_state named c.store e r.chained d ch (turn_of left ch) result
+    done_own : (result : Result Turn Stop) → Does result → (ch : Chain) (left : ℕ) (r : RunsChain state c ch left) → TurnDone (store_bank state wrote) c.store e r.chained d ch (turn_of left ch) result
     done_own result does ch left r =
-        subst (λ (x : Chained). TurnDone did bank_state named c.store e x d ch (turn_of left ch) result) (sym (own_chain ch left r))
-        (subst (λ (n : ℕ). TurnDone did bank_state named c.store e k d ch (turn_of n ch) result) (left_own ch left r) (does ch (runs_own ch left r)))
+        subst (λ (x : Chained). TurnDone (store_bank state wrote) c.store e x d ch (turn_of left ch) result) (sym (own_chain ch left r))
+        (subst (λ (n : ℕ). TurnDone (store_bank state wrote) c.store e k d ch (turn_of n ch) result) (left_own ch left r) (does ch (runs_own ch left r)))
 
     -- the device writes that were tried, with a stop or without
     pub done_made : (result : Result Turn Stop) → Does result → (ch : Chain) (left : ℕ) → RunsChain state c ch left → ItemsMade state wrote (card_in state c) (write_items (turn_of left ch).writes) c.store.device (answer_of result) e.device
     done_made result does ch left r = made_by result (done_own result does ch left r)
       where
-        made_by : (result : Result Turn Stop) → TurnDone did bank_state named c.store e r.chained d ch (turn_of left ch) result → ItemsMade state wrote (card_in state c) (write_items (turn_of left ch).writes) c.store.device (answer_of result) e.device
-        made_by (Ok told) own = turn_made c ch left r e (Ok tt) own.0.writes
+        made_by : (result : Result Turn Stop) → TurnDone (store_bank state wrote) c.store e r.chained d ch (turn_of left ch) result → ItemsMade state wrote (card_in state c) (write_items (turn_of left ch).writes) c.store.device (answer_of result) e.device
+        made_by (Ok reported) own = turn_made c ch left r e (Ok tt) own.0.writes
         made_by (Err s) own = turn_made c ch left r e (Err s) own
 
     -- a turn that stopped
@@ -155,13 +156,13 @@ module _ {N : Type 0} (state : N → DeviceState) (wrote : N → ℕ → List �
     turned_stop s does ch left r = record { made = done_made (Err s) does ch left r; turn = tt; follows = tt }
 
     -- a turn of the code after which the command continues
-    pub turned_on : (told : Turn) → is_some told.end ≡ false → Does (Ok told) → (ch : Chain) (left : ℕ) → RunsChain state c ch left → ChainTurned state wrote c ch left (turn_of left ch) (Ok told) card_on
-    turned_on told none does ch left r =
-        let own = done_own (Ok told) does ch left r in
+    pub turned_on : (reported : Turn) → is_some reported.end ≡ false → Does (Ok reported) → (ch : Chain) (left : ℕ) → RunsChain state c ch left → ChainTurned state wrote c ch left (turn_of left ch) (Ok reported) card_on
+    turned_on reported none does ch left r =
+        let own = done_own (Ok reported) does ch left r in
         record {
-          made = done_made (Ok told) does ch left r;
+          made = done_made (Ok reported) does ch left r;
           turn = own.1;
-          follows = turn_goes c ch left r e d own.0 (ap (λ (t : ModelTurn). t.end) own.1 ∙ no_end told.end none);
+          follows = turn_goes c ch left r e d own.0 (ap (λ (t : ModelTurn). t.end) own.1 ∙ no_end reported.end none);
         }
       where
         no_end : (o : Option Outcome) → is_some o ≡ false → option_map outcome_value o ≡ None
@@ -169,12 +170,12 @@ module _ {N : Type 0} (state : N → DeviceState) (wrote : N → ℕ → List �
         no_end (Some x) h = absurd (cc h)
 
     -- a turn of the code that ends the command
-    pub turned_off : (told : Turn) → is_some told.end ≡ true → Does (Ok told) → (ch : Chain) (left : ℕ) → RunsChain state c ch left → ChainTurned state wrote c ch left (turn_of left ch) (Ok told) card_off
-    turned_off told some does ch left r =
-        let own = done_own (Ok told) does ch left r in
-        let end = some_end told.end some in
+    pub turned_off : (reported : Turn) → is_some reported.end ≡ true → Does (Ok reported) → (ch : Chain) (left : ℕ) → RunsChain state c ch left → ChainTurned state wrote c ch left (turn_of left ch) (Ok reported) card_off
+    turned_off reported some does ch left r =
+        let own = done_own (Ok reported) does ch left r in
+        let end = some_end reported.end some in
         record {
-          made = done_made (Ok told) does ch left r;
+          made = done_made (Ok reported) does ch left r;
           turn = own.1;
           follows = turn_ends c ch left r e d own.0 end.0 (ap (λ (t : ModelTurn). t.end) own.1 ∙ end.1);
         }

@@ -13,7 +13,7 @@ use Rattle.mc_trans.proofs.Holding.{words_laid}
 use Rattle.mc_bank.specs.Bank.{BankState, no_app, app_of, with_words as app_with, apps_after_commit, item_done, Changes}
 use Rattle.mc_bank.proofs.Commits.{Words, commits}
 use Rattle.mc_store.specs.declared.store.Store.{Store}
-use Rattle.mc_store.specs.Store.{apps_in, is_going, store_state, store_standing}
+use Rattle.mc_store.specs.Store.{apps_in, is_going, store_state, store_site_bytes}
 use Rattle.mc_store.specs.Laws.{store_obeys}
 use Rattle.mc_store.specs.StoreItems.{store_did}
 use Rattle.mc_store.specs.GoingLaws.{Going, going_is}
@@ -28,6 +28,8 @@ use Rattle.mc_model_device.proofs.PieceLemmas.{held_same}
 use Rattle.mc_model_device.proofs.ListLemmas.{splice_none}
 use Rattle.std.proofs.lemmas.Bool.{not-false}
 use Rattle.mc_model_device.proofs.BoolLemmas.{some_is}
+use Rattle.mc_card.proofs.StoreBank.{store_bank}
+use Rattle.mc_bank.specs.declared.bank.Bank.{Ghosts}
 
 -- ---- words that hold pieces
 
@@ -86,13 +88,13 @@ committed_is apps n ps ws a there within held =
 
 -- ---- writes as commits
 
-module _ {B : Type 0} (did : B → BankItem → Answer → B → Type 0) (state : B → BankState) where
+module _ {B : Type 0} (ghosts : Ghosts B) where
   -- the writes of a chain, as commits of these words
   pub record AsCommits (b : B) (a : Answer) (e : B) : Type 0 where
     pub words : List Words
-    pub commits : InOrder did b (commits words) a e
+    pub commits : InOrder ghosts.did b (commits words) a e
 
-  pub as_commits : (ws : List Write) (b e : B) (a : Answer) → InOrder (ChainWrote did state) b ws a e → AsCommits b a e
+  pub as_commits : (ws : List Write) (b e : B) (a : Answer) → InOrder (ChainWrote ghosts) b ws a e → AsCommits b a e
   as_commits [] b e (Ok u) h = record { words = []; commits = h }
   as_commits [] b e (Err s) h = absurd h
   as_commits (w ∷ ws) b e a h =
@@ -135,20 +137,20 @@ module _ {N : Type 0} (state : N → DeviceState) (wrote : N → ℕ → List �
         apps = committed_is (means m).apps w.name w.pieces ws there.0 there.1 sound.within here;
       }
 
-  pub write_made : (s e : Store N) (w : Write) (a : Answer) → IsSoundWrite (means (words_of s)).apps w → ChainWrote did bank_state s w a e → ItemsMade state wrote (means (words_of s)) (item_of w ∷ []) s.device a e.device
+  pub write_made : (s e : Store N) (w : Write) (a : Answer) → IsSoundWrite (means (words_of s)).apps w → ChainWrote (store_bank state wrote) s w a e → ItemsMade state wrote (means (words_of s)) (item_of w ∷ []) s.device a e.device
   write_made s e w a sound h = made_one state wrote obeys s.device e.device s.count e.count (Commit w.name h.0) (item_of w) a (write_as s e w h.0 a sound h.1 h.2) h.2
 
   -- a store that made a write has not stopped
-  pub goes_on : (s e : Store N) (w : Write) → ChainWrote did bank_state s w (Ok tt) e → Going (state e.device) e.count
+  pub goes_on : (s e : Store N) (w : Write) → ChainWrote (store_bank state wrote) s w (Ok tt) e → Going (state e.device) e.count
   goes_on s e w h =
-      let t : Changes (bank_state s) (item_done (store_standing (state s.device)) (Commit w.name h.0) (bank_state s).apps) (Ok tt) (bank_state e) =
+      let t : Changes (bank_state s) (item_done (store_site_bytes (state s.device)) (Commit w.name h.0) (bank_state s).apps) (Ok tt) (bank_state e) =
       store_obeys state wrote obeys s.device e.device s.count e.count (Commit w.name h.0) (Ok tt) h.2 in
       going_is (state e.device) e.count (not-false (is_going (state e.device) e.count) t.going)
 
   -- ---- writes in sequence
 
   -- the writes of a chain on a store that has not stopped
-  pub writes_made : (ws : List Write) (s e : Store N) (a : Answer) → Going (state s.device) s.count → AreSound (means (words_of s)).apps ws → InOrder (ChainWrote did bank_state) s ws a e
+  pub writes_made : (ws : List Write) (s e : Store N) (a : Answer) → Going (state s.device) s.count → AreSound (means (words_of s)).apps ws → InOrder (ChainWrote (store_bank state wrote)) s ws a e
       → ItemsMade state wrote (means (words_of s)) (write_items ws) s.device a e.device
   writes_made [] s e (Ok u) g sound h =
       let m = words_of s in

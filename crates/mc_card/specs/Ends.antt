@@ -17,7 +17,7 @@ use Rattle.mc_manager.specs.CommandDue.{most_ticks}
 use Rattle.mc_store.specs.declared.power.Up.{Up}
 use Rattle.mc_store.specs.Power.{Powered, Runs as Runs_with, failure_end, count_of}
 use Rattle.mc_card.specs.declared.card.Card.{Card}
-use Rattle.mc_card.specs.Parts.{device_in, card_in, seat_in, due, with_session, IsReadyCard, RunsChain}
+use Rattle.mc_card.specs.Parts.{device_in, card_in, session_state_in, due, with_session, IsReadyCard, RunsChain}
 use Rattle.mc_card.specs.ItemWrites.{ItemsMade}
 
 -- ---- steps
@@ -32,7 +32,8 @@ abbrev pub PassedSteps : model.Card → Option Selected → ApduParts → ℕ �
 PassedSteps c None a budget answer old new = new ≡ old
 PassedSteps c (Some s) a budget answer old new = RunSteps (run c.apps s.name s.session a budget) answer old new
 
--- the steps of a command by its route: an OPEN makes at most two more than there are gaps, and no other command of the manager makes any
+-- the steps of a command by its route: an OPEN makes at most two more than there are gaps, and no other command of the
+-- manager makes any
 abbrev pub RouteSteps : model.Card → Option Selected → ℕ → Route → Answer → ℕ → ℕ → Type 0
 RouteSteps c selected budget WrongLength answer old new = new ≡ old
 RouteSteps c selected budget WrongClass answer old new = new ≡ old
@@ -40,7 +41,8 @@ RouteSteps c selected budget (ToSelect a) answer old new = new ≡ old
 RouteSteps c selected budget (ToManager a) answer old new = (old ≤ new) × (new ≤ old + most_ticks a (2 + length (gaps c)))
 RouteSteps c selected budget (ToApplication a) answer old new = PassedSteps c selected a budget answer old new
 
--- the steps of the beginning of a command: those of a command that is answered, and none if it is passed to the application
+-- the steps of the beginning of a command: those of a command that is answered, and none if it is passed to the
+-- application
 abbrev pub BeginSteps : model.Card → Route → ℕ → ℕ → Type 0
 BeginSteps c WrongLength old new = new ≡ old
 BeginSteps c WrongClass old new = new ≡ old
@@ -48,8 +50,8 @@ BeginSteps c (ToSelect a) old new = new ≡ old
 BeginSteps c (ToManager a) old new = (old ≤ new) × (new ≤ old + most_ticks a (2 + length (gaps c)))
 BeginSteps c (ToApplication a) old new = new ≡ old
 
--- The most device writes of one item of a command: 147 of an application's, which touches at most 64 words, and 84 of the manager's, which
--- touches at most 36. A card that runs has layout 2.
+-- The most device writes of one item of a command: 147 of an application's, which touches at most 64 words, and 84 of
+-- the manager's, which touches at most 36. A card that runs has layout 2.
 abbrev pub most_weight : Route → ℕ
 most_weight (ToApplication a) = 147
 most_weight _ = 84
@@ -88,7 +90,7 @@ module _ {N : Type 0} (state : N → DeviceState) (wrote : N → ℕ → List �
   pub record Commanded (c : Card N) (r : Command) (result : Result Outcome Stop) (d : Card N) : Type 0 where
     pub made : ItemsMade state wrote (card_in state c) r.items (device_in c) (answer_of result) (device_in d)
     pub outcome : IfOk result (λ o. outcome_value o ≡ r.outcome)
-    pub seat : OnOk result (seat_in state d ≡ r.seat)
+    pub session_state : OnOk result (session_state_in state d ≡ r.session_state)
     pub ready : OnOk result (IsReadyCard state d)
 
   -- a command that is passed to the selected application: its chain is ready to run, and nothing else has changed
@@ -96,14 +98,14 @@ module _ {N : Type 0} (state : N → DeviceState) (wrote : N → ℕ → List �
     pub apdu : ApduParts
     pub routed : route bytes ≡ ToApplication apdu
     pub selected : Selected
-    pub is : (seat_in state c).selected ≡ Some selected
+    pub is : (session_state_in state c).selected ≡ Some selected
     pub device : device_in d ≡ device_in c
-    pub seat : seat_in state d ≡ seat_in state c
+    pub session_state : session_state_in state d ≡ session_state_in state c
     pub runs : RunsChain state d (start (card_in state c).apps selected.name selected.session apdu) budget
 
   -- a command that is not passed to the application
   pub record Answered (c : Card N) (bytes : List ℕ) (budget : ℕ) (result : Result Outcome Stop) (d : Card N) : Type 0 where
-    pub stays : is_passed (route bytes) (seat_in state c).selected ≡ false
+    pub stays : is_passed (route bytes) (session_state_in state c).selected ≡ false
     pub commanded : Commanded c (due state c bytes budget) result d
 
   -- the beginning of a command, by its result
@@ -114,14 +116,14 @@ module _ {N : Type 0} (state : N → DeviceState) (wrote : N → ℕ → List �
 
   -- ---- a turn
 
-  -- what follows a turn: the chain continues with the rest of the budget, or it has ended and its session bytes are those of the
-  -- selection
+  -- what follows a turn: the chain continues with the rest of the budget, or it has ended and its session bytes are
+  -- those of the selection
   abbrev pub TurnGoesOn : Card N → Chain → ℕ → Follows → Card N → Type 0
-  TurnGoesOn c ch left (Continues next) d = RunsChain state d next left × (seat_in state d ≡ seat_in state c)
-  TurnGoesOn c ch left (Ends o) d = IsReadyCard state d × (seat_in state d ≡ with_session (chain_session ch) (seat_in state c))
+  TurnGoesOn c ch left (Continues next) d = RunsChain state d next left × (session_state_in state d ≡ session_state_in state c)
+  TurnGoesOn c ch left (Ends o) d = IsReadyCard state d × (session_state_in state d ≡ with_session (chain_session ch) (session_state_in state c))
 
   -- a turn of a chain: its items, what it reports, and without a stop what follows
   pub record ChainTurned (c : Card N) (ch : Chain) (left : ℕ) (t : Acted) (result : Result Turn Stop) (d : Card N) : Type 0 where
     pub made : ItemsMade state wrote (card_in state c) (write_items t.writes) (device_in c) (answer_of result) (device_in d)
-    pub turn : IfOk result (λ told. t.turn ≡ turn_value told t.turn.wrote)
+    pub turn : IfOk result (λ reported. t.turn ≡ turn_value reported t.turn.wrote)
     pub follows : OnOk result (TurnGoesOn c ch (left - t.count) t.follows d)

@@ -14,7 +14,8 @@ use Rattle.mc_store.specs.Power.{HoldsBase}
 abbrev pub IsCardAfterStop : Card → Stopped → List (List ℕ) → Type 0
 IsCardAfterStop c s m = HoldsBase (OnCard (card_done c s.whole)) s.owed Two m
 
--- at every one of these writes a stop, whatever word it leaves, leaves words that hold the card after the items that are complete then
+-- at every one of these writes a stop, whatever word it leaves, leaves words that hold the card after the items that
+-- are complete then
 abbrev pub StopsAtEach : Card → List Item → List (List ℕ) → List (ℕ × List ℕ) → Type 0
 StopsAtEach c is m ws = (k : ℕ) (x : List ℕ) → 1 ≤ k → k ≤ length ws → length x ≡ 8 → IsCardAfterStop c (at_stop is k x) (image_after_stop m ws k x)
 

@@ -13,14 +13,14 @@ use Rattle.mc_manager.specs.declared.selection.Selection.{Selection}
 use Rattle.mc_card.specs.declared.card.Card.{Card}
 use Rattle.mc_card.specs.declared.managing.Directed.{Directed}
 use Rattle.mc_card.specs.declared.managing.Directed.TheVariants.{Answered, Passed}
-use Rattle.mc_card.specs.Parts.{card_in, seat_in}
+use Rattle.mc_card.specs.Parts.{card_in, session_state_in}
 use Rattle.mc_card.specs.Ends.{is_passed, Commanded}
 
 module _ {N : Type 0} (state : N → DeviceState) (wrote : N → ℕ → List ℕ → Answer → N → Type 0) where
   -- a command that the manager answers
   pub record IsAnswered (c : Card N) (a : ApduParts) (result : Result Outcome Stop) (d : Card N) : Type 0 where
-    pub stays : is_passed (route_of_parts (Some a)) (seat_in state c).selected ≡ false
-    pub commanded : (budget : ℕ) → Commanded state wrote c (by_route (card_in state c) (seat_in state c) budget (route_of_parts (Some a))) result d
+    pub stays : is_passed (route_of_parts (Some a)) (session_state_in state c).selected ≡ false
+    pub commanded : (budget : ℕ) → Commanded state wrote c (by_route (card_in state c) (session_state_in state c) budget (route_of_parts (Some a))) result d
 
   -- a command that the application in this slot is to run; nothing has changed
   pub record IsPassed (c : Card N) (a : ApduParts) (slot : ℕ) (d : Card N) : Type 0 where

@@ -21,7 +21,7 @@ impl<N: Bench> Card<N> {
         ensures state { N.state (device_in self.new) ≡ record (N.state (device_in self.old)) { on = true } }
         ensures bench { N.bench (device_in self.new)
             ≡ record (N.bench (device_in self.old)) { powers = next_count (N.bench (device_in self.old)).powers } }
-        ensures lent { N.same (device_in self.old) (device_in self.new) }
+        ensures keeps_device { N.same (device_in self.old) (device_in self.new) }
     {
         self.store.device_mut().power();
     }
@@ -34,7 +34,7 @@ impl<N: Bench> Card<N> {
             ≡ record (N.state (device_in self.old)) { words = slice_set (N.state (device_in self.old)).words at word } }
         ensures bench { N.bench (device_in self.new)
             ≡ bench_after_poke (N.bench (device_in self.old)) }
-        ensures lent { N.same (device_in self.old) (device_in self.new) }
+        ensures keeps_device { N.same (device_in self.old) (device_in self.new) }
     {
         self.store.device_mut().poke(at, word);
     }
@@ -50,7 +50,7 @@ impl<N: Bench> Card<N> {
               arms = next_count (N.bench (device_in self.old)).arms;
             } }
         ensures rest { self.new ≡ with_device self.old (device_in self.new) }
-        ensures lent { N.same (device_in self.old) (device_in self.new) }
+        ensures keeps_device { N.same (device_in self.old) (device_in self.new) }
     {
         self.store.device_mut().arm(k, fill);
     }
@@ -66,7 +66,7 @@ impl<N: Bench> Card<N> {
               wears = next_count (N.bench (device_in self.old)).wears;
             } }
         ensures rest { self.new ≡ with_device self.old (device_in self.new) }
-        ensures lent { N.same (device_in self.old) (device_in self.new) }
+        ensures keeps_device { N.same (device_in self.old) (device_in self.new) }
     {
         self.store.device_mut().wear(k, fill);
     }
@@ -77,7 +77,7 @@ impl<N: Bench> Card<N> {
         ensures bench { N.bench (device_in self.new)
             ≡ record (N.bench (device_in self.old)) { cut = None; worn = None } }
         ensures rest { self.new ≡ with_device self.old (device_in self.new) }
-        ensures lent { N.same (device_in self.old) (device_in self.new) }
+        ensures keeps_device { N.same (device_in self.old) (device_in self.new) }
     {
         self.store.device_mut().disarm();
     }

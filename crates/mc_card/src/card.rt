@@ -3,14 +3,14 @@ ghost use Rattle.mc_model_device.specs.Bytes.{lookup};
 ghost use Rattle.mc_model_device.specs.Orders.{answer_of};
 ghost use Rattle.mc_model_device.specs.Device.{Makes, Ended, IsSized};
 ghost use Rattle.mc_model_machine.specs.Chain.{Chain as ModelChain, turn_of};
-ghost use Rattle.mc_model_card.specs.Manager.{empty_seat, route};
+ghost use Rattle.mc_model_card.specs.Manager.{empty_session_state, route};
 ghost use Rattle.mc_model_machine.specs.Code.{Shaped};
 ghost use Rattle.mc_model_card.specs.Commands.{status};
 ghost use Rattle.mc_bank.specs.Bank.{app_of};
 ghost use Rattle.mc_machine.specs.declared.outcome.Outcome.TheVariants as outcome;
 ghost use Rattle.mc_machine.specs.Turns.{outcome_value, run_outcome, reply_or_stop, IsReply, WritesFew};
 ghost use Rattle.mc_store.specs.Power.{power_writes, power_answer, PowersUp};
-ghost use Rattle.mc_card.specs.Parts.{device_in, card_in, seat_in, due, IsUp, IsReadyCard, RunsChain, IsRunning};
+ghost use Rattle.mc_card.specs.Parts.{device_in, card_in, session_state_in, due, IsUp, IsReadyCard, RunsChain, IsRunning};
 ghost use Rattle.mc_card.specs.Ends.{power_up_end, restart_end, device_after, Commanded, Begun, ChainTurned, RouteSteps};
 ghost use Rattle.mc_card.specs.Ends.{BeginSteps, most_weight};
 ghost use Rattle.mc_card.specs.ItemWrites.{ItemsMade, MadeWithin};
@@ -27,8 +27,8 @@ use mc_segs::{Abend, Session};
 use mc_store::{Store, Up};
 use std::sync::ledger::Ledger;
 
-/// A card that runs: its applications in the words of a device, the manager with the selection and the open load, the session bytes of
-/// the selected application, and the chain of a command that is run turn by turn.
+/// A card that runs: its applications in the words of a device, the manager with the selection and the open load, the
+/// session bytes of the selected application, and the chain of a command that is run turn by turn.
 #[derive(Drop)]
 pub struct Card<N: Nvm> {
     pub(crate) store: Store<N>,
@@ -38,18 +38,19 @@ pub struct Card<N: Nvm> {
 }
 
 impl<N: Nvm> Card<N> {
-    /// Returns the card in `dev`, whose power is on, and the number of device writes that recovery and migration made (at most 71).
-    /// Nothing is selected and no load is open.
+    /// Returns the card in `dev`, whose power is on, and the number of device writes that recovery and migration made
+    /// (at most 71). Nothing is selected and no load is open.
     ///
     /// It is `restart` of a card that is `asleep` over `dev`.
     ///
     /// # Errors
     ///
-    /// Returns the device with `Up::Stop` if it cut or refused a write, and with `Up::Unusable`, the first fault and its place, if the
-    /// words are no card.
+    /// Returns the device with `Up::Stop` if it cut or refused a write, and with `Up::Unusable`, the first fault and
+    /// its place, if the words are no card.
     pub fn power_up(dev: N) -> Result<(Card<N>, u16), (N, Up)>
         requires power { (N.state dev).on ≡ true }
-        // Up to the first one that stops it makes the writes that recovery still has to make and then those of the migration.
+        // Up to the first one that stops it makes the writes that recovery still has to make and then those of the
+        // migration.
         ensures makes { Makes N.wrote dev (power_writes (N.state dev).words) (power_answer (power_up_end result))
             (device_after result) }
         // The applications are those that the words mean before the power-up; after a fault or a stop the
@@ -58,9 +59,9 @@ impl<N: Nvm> Card<N> {
         // The card runs, and no command does.
         ensures ready { IfOk result (λ p. IsReadyCard N.state p.0) }
         // Nothing is selected, and no load is open.
-        ensures seat { IfOk result (λ p. seat_in N.state p.0 ≡ empty_seat) }
+        ensures session_state { IfOk result (λ p. session_state_in N.state p.0 ≡ empty_session_state) }
         // The device is the one that came in.
-        ensures lent { N.same dev (device_after result) }
+        ensures keeps_device { N.same dev (device_after result) }
     {
         let mut card = Card::asleep(dev);
         match card.restart() {
@@ -82,16 +83,17 @@ impl<N: Nvm> Card<N> {
         }
     }
 
-    /// Looks for the card in its device, whose power was turned on, and returns the number of device writes that recovery and migration
-    /// made (at most 71). Nothing is selected and no load is open then, and no command runs.
+    /// Looks for the card in its device, whose power was turned on, and returns the number of device writes that
+    /// recovery and migration made (at most 71). Nothing is selected and no load is open then, and no command runs.
     ///
     /// # Errors
     ///
-    /// Returns `Up::Stop` if the device cut or refused a write, and `Up::Unusable`, the first fault and its place, if the words are no
-    /// card. After either only `into_dev` and `restart` may be called.
+    /// Returns `Up::Stop` if the device cut or refused a write, and `Up::Unusable`, the first fault and its place, if
+    /// the words are no card. After either only `into_dev` and `restart` may be called.
     pub fn restart(&mut self) -> Result<u16, Up>
         requires power { (N.state (device_in self.old)).on ≡ true }
-        // Up to the first one that stops it makes the writes that recovery still has to make and then those of the migration.
+        // Up to the first one that stops it makes the writes that recovery still has to make and then those of the
+        // migration.
         ensures makes { Makes N.wrote (device_in self.old) (power_writes (N.state (device_in self.old)).words)
             (power_answer (restart_end self.new result)) (device_in self.new) }
         // The applications are those that the words mean before the power-up; after a fault or a stop the
@@ -101,9 +103,9 @@ impl<N: Nvm> Card<N> {
         // The card runs, and no command does.
         ensures ready { IfOk result (λ n. IsReadyCard N.state self.new) }
         // Nothing is selected, and no load is open.
-        ensures seat { IfOk result (λ n. seat_in N.state self.new ≡ empty_seat) }
+        ensures session_state { IfOk result (λ n. session_state_in N.state self.new ≡ empty_session_state) }
         // The device is the same one.
-        ensures lent { N.same (device_in self.old) (device_in self.new) }
+        ensures keeps_device { N.same (device_in self.old) (device_in self.new) }
     {
         let writes = self.store.restart()?;
         self.manager = Manager::new();
@@ -124,8 +126,9 @@ impl<N: Nvm> Card<N> {
         self.chain = None;
     }
 
-    /// Runs one command, `bytes` as they come (ISO/IEC 7816-4), and returns its outcome: a reply, or the abend of the application that
-    /// ran it. `budget` is 1 to 65,536 instructions for that application. A command of a wrong length is answered 6700.
+    /// Runs one command, `bytes` as they come (ISO/IEC 7816-4), and returns its outcome: a reply, or the abend of the
+    /// application that ran it. `budget` is 1 to 65,536 instructions for that application. A command of a wrong length
+    /// is answered 6700.
     ///
     /// It is `command_into` with an outcome of its own.
     ///
@@ -149,33 +152,36 @@ impl<N: Nvm> Card<N> {
         // The outcome is that of its row.
         ensures outcome { IfOk result (λ o. outcome_value o ≡ (due N.state self.old bytes.now budget).outcome) }
         // The session state after it is that of its row.
-        ensures seat { OnOk result (seat_in N.state self.new ≡ (due N.state self.old bytes.now budget).seat) }
+        ensures session_state { OnOk result (session_state_in N.state self.new
+            ≡ (due N.state self.old bytes.now budget).session_state) }
         // The card is ready for the next command.
         ensures on { OnOk result (IsReadyCard N.state self.new) }
         // Each instruction of an application is one step, and of the other commands OPEN alone makes any.
-        ensures steps { RouteSteps (card_in N.state self.old) (seat_in N.state self.old).selected budget
+        ensures steps { RouteSteps (card_in N.state self.old) (session_state_in N.state self.old).selected budget
             (route bytes.now) (answer_of result) steps.old steps.new }
-        // Each item that was begun makes at most 147 device writes if an application runs, and 84 if the manager answers.
+        // Each item that was begun makes at most 147 device writes if an application runs, and 84 if the manager
+        // answers.
         ensures few { IsSized (N.state (device_in self.old)).words → MadeWithin N.wrote (most_weight (route bytes.now))
             (due N.state self.old bytes.now budget).items (device_in self.old) (answer_of result)
             (device_in self.new) }
         // A stop comes only if the device's count of cuts or faults rose.
         ensures ended { Ended (answer_of result) (N.state (device_in self.old)) (N.state (device_in self.new)) }
         // The device is the same one.
-        ensures lent { N.same (device_in self.old) (device_in self.new) }
+        ensures keeps_device { N.same (device_in self.old) (device_in self.new) }
     {
         let mut outcome = Outcome::done();
         self.command_into(bytes, budget, &mut outcome, steps)?;
         Ok(outcome)
     }
 
-    /// Runs one command, `bytes` as they come (ISO/IEC 7816-4), and writes its outcome to `into`, in place to avoid copying it: a reply,
-    /// or the abend of the application that ran it. `budget` is 1 to 65,536 instructions for that application. A command of a wrong
-    /// length is answered 6700.
+    /// Runs one command, `bytes` as they come (ISO/IEC 7816-4), and writes its outcome to `into`, in place to avoid
+    /// copying it: a reply, or the abend of the application that ran it. `budget` is 1 to 65,536 instructions for that
+    /// application. A command of a wrong length is answered 6700.
     ///
     /// # Errors
     ///
-    /// Returns the `Stop` of the device. The contents of `into` are unspecified then, and only `into_dev` and `restart` may be called.
+    /// Returns the `Stop` of the device. The contents of `into` are unspecified then, and only `into_dev` and `restart`
+    /// may be called.
     pub fn command_into<L: Ledger>(
         &mut self,
         bytes: &[u8],
@@ -194,20 +200,22 @@ impl<N: Nvm> Card<N> {
         // The outcome is that of its row.
         ensures outcome { OnOk result (outcome_value into.new ≡ (due N.state self.old bytes.now budget).outcome) }
         // The session state after it is that of its row.
-        ensures seat { OnOk result (seat_in N.state self.new ≡ (due N.state self.old bytes.now budget).seat) }
+        ensures session_state { OnOk result (session_state_in N.state self.new
+            ≡ (due N.state self.old bytes.now budget).session_state) }
         // The card is ready for the next command.
         ensures on { OnOk result (IsReadyCard N.state self.new) }
         // Each instruction of an application is one step, and of the other commands OPEN alone makes any.
-        ensures steps { RouteSteps (card_in N.state self.old) (seat_in N.state self.old).selected budget
+        ensures steps { RouteSteps (card_in N.state self.old) (session_state_in N.state self.old).selected budget
             (route bytes.now) (answer_of result) steps.old steps.new }
-        // Each item that was begun makes at most 147 device writes if an application runs, and 84 if the manager answers.
+        // Each item that was begun makes at most 147 device writes if an application runs, and 84 if the manager
+        // answers.
         ensures few { IsSized (N.state (device_in self.old)).words → MadeWithin N.wrote (most_weight (route bytes.now))
             (due N.state self.old bytes.now budget).items (device_in self.old) (answer_of result)
             (device_in self.new) }
         // A stop comes only if the device's count of cuts or faults rose.
         ensures ended { Ended (answer_of result) (N.state (device_in self.old)) (N.state (device_in self.new)) }
         // The device is the same one.
-        ensures lent { N.same (device_in self.old) (device_in self.new) }
+        ensures keeps_device { N.same (device_in self.old) (device_in self.new) }
     {
         make_reply(into);
         match self.perform_in(bytes, budget, into, steps)? {
@@ -233,7 +241,7 @@ impl<N: Nvm> Card<N> {
         requires place { IsReply into.old }
         ensures done { Commanded N.state N.wrote self.old (due N.state self.old bytes.now budget)
             (run_outcome result into.new) self.new }
-        ensures steps { RouteSteps (card_in N.state self.old) (seat_in N.state self.old).selected budget
+        ensures steps { RouteSteps (card_in N.state self.old) (session_state_in N.state self.old).selected budget
             (route bytes.now) (answer_of (run_outcome result into.new)) steps.old steps.new }
         ensures few { IsSized (N.state (device_in self.old)).words → MadeWithin N.wrote (most_weight (route bytes.now))
             (due N.state self.old bytes.now budget).items (device_in self.old) (answer_of (run_outcome result into.new))
@@ -258,10 +266,11 @@ impl<N: Nvm> Card<N> {
         requires budget { budget ≤ 65536 }
         ensures done { Commanded N.state N.wrote self.old (due N.state self.old bytes.now budget)
             (reply_or_stop result reply.new) self.new }
-        ensures steps { RouteSteps (card_in N.state self.old) (seat_in N.state self.old).selected budget
+        ensures steps { RouteSteps (card_in N.state self.old) (session_state_in N.state self.old).selected budget
             (route bytes.now) (answer_of (reply_or_stop result reply.new)) steps.old steps.new }
         ensures few { IsSized (N.state (device_in self.old)).words → MadeWithin N.wrote (most_weight (route bytes.now))
-            (due N.state self.old bytes.now budget).items (device_in self.old) (answer_of (reply_or_stop result reply.new))
+            (due N.state self.old bytes.now budget).items (device_in self.old)
+            (answer_of (reply_or_stop result reply.new))
             (device_in self.new) }
     {
         let Ok(apdu) = parse(bytes) else {
@@ -300,7 +309,7 @@ impl<N: Nvm> Card<N> {
         ensures done { Begun N.state N.wrote self.old bytes.now budget result self.new }
         ensures steps { BeginSteps (card_in N.state self.old) (route bytes.now) steps.old steps.new }
         ensures ended { Ended (answer_of result) (N.state (device_in self.old)) (N.state (device_in self.new)) }
-        ensures lent { N.same (device_in self.old) (device_in self.new) }
+        ensures keeps_device { N.same (device_in self.old) (device_in self.new) }
     {
         let mut reply = Reply {
             body: ArrayVec::new(),
@@ -338,15 +347,15 @@ impl<N: Nvm> Card<N> {
         ensures few { IsSized (N.state (device_in self.old)).words → (ch : ModelChain) (left : ℕ)
             → RunsChain N.state self.old ch left → WritesFew (turn_of left ch) }
         ensures ended { Ended (answer_of result) (N.state (device_in self.old)) (N.state (device_in self.new)) }
-        ensures lent { N.same (device_in self.old) (device_in self.new) }
+        ensures keeps_device { N.same (device_in self.old) (device_in self.new) }
     {
         let chain = self.chain.as_mut().unwrap();
-        let told = turn(chain, &mut self.store, steps)?;
-        if told.end.is_some() {
+        let reported = turn(&mut self.store, chain, steps)?;
+        if reported.end.is_some() {
             self.session = chain.session();
             self.chain = None;
         }
-        Ok(told)
+        Ok(reported)
     }
 
     /// Returns the length in bytes of the static segment of an application, or `None` exactly if the name is

@@ -47,7 +47,7 @@ impl<N: Nvm> Card<N> {
         ensures rises { steps.old ≤ steps.new }
         ensures ticks { steps.new ≤ steps.old
             + most_ticks (parts_of apdu.now) (2 + length (gaps (card_in N.state self.old))) }
-        ensures lent { N.same (device_in self.old) (device_in self.new) }
+        ensures keeps_device { N.same (device_in self.old) (device_in self.new) }
     {
         match self.manager.rule(&mut self.store, apdu, reply, steps)? {
             Ruling::Answer => Ok(Directed::Answered),

@@ -7,7 +7,7 @@ use Rattle.mc_model_machine.specs.declared.machine.Abend.{Abend}
 use Rattle.mc_model_machine.specs.declared.machine.Abend.TheVariants.{A02, A03, A04, A05, A06, A08, A0A}
 use Rattle.mc_model_device.specs.Bytes.{num}
 use Rattle.mc_model_machine.specs.Frame.{Frame, address_at, is_outside, no_access, is_under, is_over, frame_after_pop, top}
-use Rattle.mc_model_machine.specs.Primitives.{Around, Primitive, CheckCase, LoadCcr, StoreCcr, Lookup, MemoryCompare, MemoryCopy, DelegateTo, DelegatorAid, Digest, CompareFixed, CopyFixed, SetProtection, Encipher, Decipher, Sign, BitByte, ShiftLeft, ShiftRight, BitWord, Cipher, primitive, prim_causes, later_causes, told_causes, cipher_causes, number_below_top, has_bad_argument, is_denied, block_len}
+use Rattle.mc_model_machine.specs.Primitives.{Around, Primitive, CheckCase, LoadCcr, StoreCcr, Lookup, MemoryCompare, MemoryCopy, DelegateTo, DelegatorAid, Digest, CompareFixed, CopyFixed, SetProtection, Encipher, Decipher, Sign, BitByte, ShiftLeft, ShiftRight, BitWord, Cipher, primitive, prim_causes, later_causes, reported_causes, cipher_causes, number_below_top, has_bad_argument, is_denied, block_len}
 use Rattle.mc_model_machine.specs.Row.{causes, holds, no_place, address_or_zero, operand, on_stack, writes, immediate_writes, pair_writes}
 use Rattle.mc_machine.proofs.AlikeBytes.{SamePieces, with_pieces, bytes_same, too_many_same}
 
@@ -19,9 +19,9 @@ HasSamePieces f qs = SamePieces f.fixed f.pieces qs
 
 -- ---- primitives
 
-told_same : (f : Frame) (qs : Pieces) (a : ℕ) (o : Option (List ℕ)) → HasSamePieces f qs → told_causes (with_pieces qs f) a o ≡ told_causes f a o
-told_same f qs a None s = refl
-told_same f qs a (Some name) s = ap (λ (b : Bool). (A03, is_outside f a (1 + length name)) ∷ (A08, b) ∷ []) (too_many_same f qs a (1 + length name) s)
+reported_same : (f : Frame) (qs : Pieces) (a : ℕ) (o : Option (List ℕ)) → HasSamePieces f qs → reported_causes (with_pieces qs f) a o ≡ reported_causes f a o
+reported_same f qs a None s = refl
+reported_same f qs a (Some name) s = ap (λ (b : Bool). (A03, is_outside f a (1 + length name)) ∷ (A08, b) ∷ []) (too_many_same f qs a (1 + length name) s)
 
 cipher_same : (c : Cipher) (n : ℕ) (f : Frame) (qs : Pieces) → HasSamePieces f qs → cipher_causes c n (with_pieces qs f) ≡ cipher_causes c n f
 cipher_same c n f qs s = rw (too_many_same (frame_after_pop f 6) qs (number_below_top f 4) n s) refl
@@ -35,7 +35,7 @@ later_same Lookup args f qs public x s = rw (bytes_same (frame_after_pop f 3) qs
 later_same MemoryCompare args f qs public x s = refl
 later_same MemoryCopy args f qs public x s = rw (too_many_same (frame_after_pop f 6) qs (number_below_top f 4) (number_below_top f 6) s) refl
 later_same DelegateTo args f qs public x s = rw (bytes_same (frame_after_pop f 2) qs public (number_below_top f 2) 1 s) refl
-later_same DelegatorAid args f qs public x s = ap (λ (l : List (Abend × Bool)). (A04, is_under f 2) ∷ l) (told_same (frame_after_pop f 2) qs (number_below_top f 2) x.delegator s)
+later_same DelegatorAid args f qs public x s = ap (λ (l : List (Abend × Bool)). (A04, is_under f 2) ∷ l) (reported_same (frame_after_pop f 2) qs (number_below_top f 2) x.delegator s)
 later_same Digest args f qs public x s = rw (too_many_same (frame_after_pop f 6) qs (number_below_top f 2) 20 s) refl
 later_same CompareFixed args f qs public x s = refl
 later_same CopyFixed args f qs public x s = rw (too_many_same (frame_after_pop f 4) qs (number_below_top f 4) (slice_index args 0) s) refl

@@ -8,7 +8,7 @@ use Rattle.mc_model_machine.specs.Blocks.{Worked, is_zero}
 use Rattle.mc_model_machine.specs.Modes.{ecb}
 use Rattle.mc_model_device.specs.Pieces.{laid_pieces, touched_words}
 use Rattle.mc_model_machine.specs.Frame.{Frame, Effect, Place, Static, Dynamic, Public, where_is, static_written, write_effect_at, write_effect, bytes_at, address_at, frame_after_push, frame_after_pop, stack_bytes, top, frame_with_flags, frame_after_entry, come_back, pending_change, protect}
-use Rattle.mc_model_machine.specs.Primitives.{Around, effect_and_next, frame_effect, effect_flagged, Primitive, CheckCase, LoadCcr, StoreCcr, Lookup, MemoryCompare, MemoryCopy, DelegateTo, DelegatorAid, Digest, CompareFixed, CopyFixed, SetProtection, Encipher, Decipher, Sign, BitByte, ShiftLeft, ShiftRight, BitWord, Cipher, primitive, prim_done, prim_effect, number_below_top, count_at, block_len, key_len, encipherment, decipherment, lookup_effect, delegator_told, cipher_done}
+use Rattle.mc_model_machine.specs.Primitives.{Around, effect_and_next, frame_effect, effect_flagged, Primitive, CheckCase, LoadCcr, StoreCcr, Lookup, MemoryCompare, MemoryCopy, DelegateTo, DelegatorAid, Digest, CompareFixed, CopyFixed, SetProtection, Encipher, Decipher, Sign, BitByte, ShiftLeft, ShiftRight, BitWord, Cipher, primitive, prim_done, prim_effect, number_below_top, count_at, block_len, key_len, encipherment, decipherment, lookup_effect, delegator_reported, cipher_done}
 use Rattle.mc_model_machine.specs.Row.{effect, exit_with, address_or_zero, on_stack, indexed_address, holds, frame_after_jump, frame_after_call, target, place_of, value_of, becomes, becomes_bits}
 use Rattle.mc_segs.specs.HeldFrames.{Seen, frame_reading, no_pieces}
 use Rattle.mc_machine.specs.Alike.{seen_change, IsGuarded, SameEffect, SameDone}
@@ -91,9 +91,9 @@ looked_same : (f : Frame) (qs : Pieces) (public : List ℕ) (o : Option ℕ) →
 looked_same f qs public (Some i) s = framed_same (frame_with_flags (frame_after_push f (i ∷ [])) f.c true) qs public s
 looked_same f qs public None s = framed_same (frame_with_flags (frame_after_push f (0 ∷ [])) f.c false) qs public s
 
-told_same : (f : Frame) (qs : Pieces) (public : List ℕ) (a : ℕ) (o : Option (List ℕ)) → HasSamePieces f qs → IsGuarded f → SameEffect f.fixed (delegator_told (with_pieces qs f) public a o) (delegator_told f public a o)
-told_same f qs public a None s guard = framed_same (frame_with_flags f f.c true) qs public s
-told_same f qs public a (Some name) s guard =
+reported_same : (f : Frame) (qs : Pieces) (public : List ℕ) (a : ℕ) (o : Option (List ℕ)) → HasSamePieces f qs → IsGuarded f → SameEffect f.fixed (delegator_reported (with_pieces qs f) public a o) (delegator_reported f public a o)
+reported_same f qs public a None s guard = framed_same (frame_with_flags f f.c true) qs public s
+reported_same f qs public a (Some name) s guard =
     flagged_same f.fixed (write_effect (with_pieces qs f) public a (length name ∷ name)) (write_effect f public a (length name ∷ name)) f.c false (written_same f qs public a (length name ∷ name) s guard)
 
 cipher_same : (cipher : List ℕ → List ℕ → List ℕ) (c : Cipher) (n : ℕ) (f : Frame) (qs : Pieces) (public : List ℕ) → HasSamePieces f qs → IsGuarded f → SameEffect f.fixed (cipher_done cipher c n (with_pieces qs f) public) (cipher_done cipher c n f public)
@@ -121,7 +121,7 @@ prim_effect_same DelegateTo args f qs public x s guard =
     let g = frame_after_pop f 2 in
     let a = number_below_top f 2 in
     rw (bytes_same g qs public a 1 s, bytes_same g qs public (a + 1) (count_at g public a) s) (record { effect = framed_same g qs public s; next = refl })
-prim_effect_same DelegatorAid args f qs public x s guard = goes (told_same (frame_after_pop f 2) qs public (number_below_top f 2) x.delegator s guard)
+prim_effect_same DelegatorAid args f qs public x s guard = goes (reported_same (frame_after_pop f 2) qs public (number_below_top f 2) x.delegator s guard)
 prim_effect_same Digest args f qs public x s guard =
     let g = frame_after_pop f 6 in
     rw (bytes_same g qs public (number_below_top f 4) (number_below_top f 6) s) (goes (written_same g qs public (number_below_top f 2) _ s guard))

@@ -1,5 +1,6 @@
--- An instruction has at most five bytes of operands. So the instruction at the front of a window of six bytes, whose first bytes are the
--- code that is left, is the instruction at the front of that code, unless it is longer than what is left.
+-- An instruction has at most five bytes of operands. So the instruction at the front of a window of six bytes, whose
+-- first bytes are the code that is left, is the instruction at the front of that code, unless it is longer than what is
+-- left.
 use Rattle.std.proofs.Common.{◌≡◌, ℕ, zero, suc, ◌+◌, ◌<◌, ◌≤◌, Bool, true, false, cond, List, [], ◌∷◌, length, take, drop, Option, Some, None, Result, Ok, Err, arith, refl, sym, ap, subst, inl, inr, ◌∙◌}
 use Rattle.std.specs.Prelude.{min, nat_eq, replicate, slice_index, option_map}
 use Rattle.mc_model_machine.specs.declared.instruction.DecodeFault.{DecodeFault}

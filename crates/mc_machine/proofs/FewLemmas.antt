@@ -1,5 +1,5 @@
--- The number of words that a turn writes: at most one atomic write, of no more words than its instruction changes, and no write with an
--- exit.
+-- The number of words that a turn writes: at most one atomic write, of no more words than its instruction changes, and
+-- no write with an exit.
 use Rattle.std.proofs.Common.{◌≡◌, ℕ, ◌≤◌, Bool, true, false, cond, List, [], ◌∷◌, length, Option, Some, None, Result, Ok, Err, refl, sym, ap, subst, ◌∙◌, inl, inr, arith}
 use Rattle.std.specs.Prelude.{⊤, bytes_eq, IfSome}
 use Rattle.std.specs.List.{AllByRecursion}
@@ -16,8 +16,8 @@ use Rattle.mc_model_machine.specs.Frame.{Frame}
 use Rattle.mc_model_machine.specs.Primitives.{Around}
 use Rattle.mc_model_machine.specs.Row.{RowEnd, Abends, Does, causes, effect, first_cause, row_end, row}
 use Rattle.mc_model_machine.specs.Chain.{Chain, Write, abends_at, delegator_in, around, write_of, row_turn, frame_at}
-use Rattle.mc_machine_laws.specs.FewWords.{words_in, most_words, EndsWithin, IsToldName}
-use Rattle.mc_machine_laws.proofs.RowWords.{row_words, told_any, most_is}
+use Rattle.mc_machine_laws.specs.FewWords.{words_in, most_words, EndsWithin, IsReportedName}
+use Rattle.mc_machine_laws.proofs.RowWords.{row_words, reported_any, most_is}
 use Rattle.mc_bank.specs.Bank.{BankState, IsApplication, AreApps}
 use Rattle.mc_segs.specs.HeldFrames.{Held}
 use Rattle.mc_machine.specs.Chains.{Chained, ReadAll, RunsAs, ChainWrote}
@@ -25,6 +25,7 @@ use Rattle.mc_machine.specs.Turns.{ActDone, WritesFew, is_exit}
 use Rattle.mc_machine.specs.declared.outcome.Step.{Step}
 use Rattle.mc_machine.proofs.ReadsLemmas.{app_is}
 use Rattle.mc_model_device.proofs.MapLemmas.{same_name}
+use Rattle.mc_bank.specs.declared.bank.Bank.{Ghosts}
 
 -- ---- exits
 
@@ -90,34 +91,34 @@ delegator_short s named (h ∷ hs) (f ∷ fs) apps r = short_name s.apps f.name 
 
 -- ---- turns
 
-module _ {B : Type 0} (did : B → BankItem → Answer → B → Type 0) (state : B → BankState) (named : B → ℕ → Option (List ℕ)) where
-  begun_words : (b : B) (n : List ℕ) (o : Option (List (ℕ × List ℕ))) (a : Answer) (e : B) → InOrder (ChainWrote did state) b (write_of n o) a e → words_in o ≤ 64
+module _ {B : Type 0} (ghosts : Ghosts B) where
+  begun_words : (b : B) (n : List ℕ) (o : Option (List (ℕ × List ℕ))) (a : Answer) (e : B) → InOrder (ChainWrote ghosts) b (write_of n o) a e → words_in o ≤ 64
   begun_words b n None a e h = omega arith
   begun_words b n (Some ps) a e h = elim h [ inl done ↦ (done.1).3 | inr stop ↦ (stop.1).3 ]
 
-  begun_row : (b : B) (ch : Chain) (i : Ins) (y : RowEnd) (a : Answer) (e : B) → InOrder (ChainWrote did state) b (row_turn ch i y).writes a e → EndsWithin 64 y
+  begun_row : (b : B) (ch : Chain) (i : Ins) (y : RowEnd) (a : Answer) (e : B) → InOrder (ChainWrote ghosts) b (row_turn ch i y).writes a e → EndsWithin 64 y
   begun_row b ch i (Abends c) a e h = tt
   begun_row b ch i (Does d) a e h = begun_words b ch.frame.name d.effect.changes a e h
 
   -- a turn whose writes were begun
-  turn_writes : (b : B) (c : Chained) (ch : Chain) (i : Ins) (next : ℕ) (a : Answer) (e : B) → RunsAs (state b) (named b) c ch → AreApps (state b).apps → Shaped i
-      → InOrder (ChainWrote did state) b (row_turn ch i (row i (frame_at ch.frame next) ch.public (around ch))).writes a e
+  turn_writes : (b : B) (c : Chained) (ch : Chain) (i : Ins) (next : ℕ) (a : Answer) (e : B) → RunsAs (ghosts.state b) (ghosts.named b) c ch → AreApps (ghosts.state b).apps → Shaped i
+      → InOrder (ChainWrote ghosts) b (row_turn ch i (row i (frame_at ch.frame next) ch.public (around ch))).writes a e
       → WritesFew (row_turn ch i (row i (frame_at ch.frame next) ch.public (around ch)))
   turn_writes b c ch i next a e r apps shaped done =
       let f = frame_at ch.frame next in
       let x = around ch in
       let y = row i f ch.public x in
-      let told : IsToldName i x.delegator = told_any i x.delegator (delegator_short (state b) (named b) c.below ch.below apps r.below) in
+      let reported : IsReportedName i x.delegator = reported_any i x.delegator (delegator_short (ghosts.state b) (ghosts.named b) c.below ch.below apps r.below) in
       row_writes ch i y (quiet_exit i f ch.public x) (
       elim (most_is i) [
         | inl most ↦ subst (λ (n : ℕ). EndsWithin n y) (sym most) (begun_row b ch i y a e done)
-        | inr most ↦ row_words i f ch.public x shaped told (λ more. absurd (cc (sym most ∙ more)))
+        | inr most ↦ row_words i f ch.public x shaped reported (λ more. absurd (cc (sym most ∙ more)))
       ]
       )
 
   -- a turn by its result
-  pub act_writes : (b e : B) (c d : Chained) (ch : Chain) (i : Ins) (next : ℕ) (result : Result Step Stop) → RunsAs (state b) (named b) c ch → AreApps (state b).apps → Shaped i
-      → ActDone did state named b e c d ch (row_turn ch i (row i (frame_at ch.frame next) ch.public (around ch))) result
+  pub act_writes : (b e : B) (c d : Chained) (ch : Chain) (i : Ins) (next : ℕ) (result : Result Step Stop) → RunsAs (ghosts.state b) (ghosts.named b) c ch → AreApps (ghosts.state b).apps → Shaped i
+      → ActDone ghosts b e c d ch (row_turn ch i (row i (frame_at ch.frame next) ch.public (around ch))) result
       → WritesFew (row_turn ch i (row i (frame_at ch.frame next) ch.public (around ch)))
   act_writes b e c d ch i next (Ok step) r apps shaped done = turn_writes b c ch i next (Ok tt) e r apps shaped done.0.writes
   act_writes b e c d ch i next (Err stop) r apps shaped done = turn_writes b c ch i next (Err stop) e r apps shaped done
@@ -125,6 +126,6 @@ module _ {B : Type 0} (did : B → BankItem → Answer → B → Type 0) (state 
 -- ---- runs
 
 -- the writes of a run that was done
-pub all_few : {B : Type 0} (did : B → BankItem → Answer → B → Type 0) (state : B → BankState) (ws : List Write) (b e : B) → InOrder (ChainWrote did state) b ws (Ok tt) e → AllByRecursion (λ (w : Write). w.words ≤ 64) ws
-all_few did state [] b e h = tt
-all_few did state (w ∷ ws) b e h = elim h [ inl done ↦ ((done.1).3, all_few did state ws done.0 e done.2) | inr stop ↦ absurd (cc stop.2) ]
+pub all_few : {B : Type 0} (ghosts : Ghosts B) (ws : List Write) (b e : B) → InOrder (ChainWrote ghosts) b ws (Ok tt) e → AllByRecursion (λ (w : Write). w.words ≤ 64) ws
+all_few ghosts [] b e h = tt
+all_few ghosts (w ∷ ws) b e h = elim h [ inl done ↦ ((done.1).3, all_few ghosts ws done.0 e done.2) | inr stop ↦ absurd (cc stop.2) ]

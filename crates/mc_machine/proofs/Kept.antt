@@ -1,4 +1,5 @@
--- What a row keeps: the application of its frame, that bytes are pending only while protection is on, and the length of the public segment.
+-- What a row keeps: the application of its frame, that bytes are pending only while protection is on, and the length of
+-- the public segment.
 use Rattle.std.proofs.Common.{◌≡◌, ℕ, ◌+◌, ◌-◌, ◌≤◌, Bool, true, false, cond, List, [], ◌∷◌, length, Option, Some, None, refl, ap, subst, ◌∙◌, arith}
 use Rattle.std.specs.Prelude.{◌==◌, ◌&&◌, ◌||◌, nat_le, slice_index}
 use Rattle.std.proofs.lemmas.Bool.Decides.{nat_tests}
@@ -8,7 +9,7 @@ use Rattle.mc_model_machine.specs.declared.machine.Abend.{Abend}
 use Rattle.mc_model_device.specs.Bytes.{bytes2}
 use Rattle.mc_model_device.specs.Pieces.{laid_pieces}
 use Rattle.mc_model_machine.specs.Frame.{Frame, static_bytes, pending_change, Effect, Place, Static, Dynamic, Public, where_is, public_base, public_end, static_written, write_effect_at, write_effect, frame_after_pop, frame_with_flags, protect, with_sw, with_la}
-use Rattle.mc_model_machine.specs.Primitives.{Around, Done, frame_effect, effect_flagged, Primitive, CheckCase, LoadCcr, StoreCcr, Lookup, MemoryCompare, MemoryCopy, DelegateTo, DelegatorAid, Digest, CompareFixed, CopyFixed, SetProtection, Encipher, Decipher, Sign, BitByte, ShiftLeft, ShiftRight, BitWord, primitive, prim_done, prim_effect, lookup_effect, delegator_told}
+use Rattle.mc_model_machine.specs.Primitives.{Around, Done, frame_effect, effect_flagged, Primitive, CheckCase, LoadCcr, StoreCcr, Lookup, MemoryCompare, MemoryCopy, DelegateTo, DelegatorAid, Digest, CompareFixed, CopyFixed, SetProtection, Encipher, Decipher, Sign, BitByte, ShiftLeft, ShiftRight, BitWord, primitive, prim_done, prim_effect, lookup_effect, delegator_reported}
 use Rattle.mc_model_machine.specs.Row.{effect, holds, frame_after_jump, frame_after_call, target, causes, first_cause, row_end, row, RowEnd, Does}
 use Rattle.mc_segs.specs.Ends.{changed_bytes}
 use Rattle.mc_model_device.proofs.ListLemmas.{length_splice}
@@ -92,9 +93,9 @@ looked_kept : (f : Frame) (public : List ℕ) (o : Option ℕ) → KeepsFactsOf 
 looked_kept f public (Some i) = record { app_kept = refl; guard_kept = λ g. g; fixed_kept = refl; public_kept = λ e. e }
 looked_kept f public None = record { app_kept = refl; guard_kept = λ g. g; fixed_kept = refl; public_kept = λ e. e }
 
-told_kept : (f : Frame) (public : List ℕ) (a : ℕ) (o : Option (List ℕ)) → KeepsFactsOf f public (delegator_told f public a o)
-told_kept f public a None = record { app_kept = refl; guard_kept = λ g. g; fixed_kept = refl; public_kept = λ e. e }
-told_kept f public a (Some name) = flagged_kept (facts f) (IsGuarded f) f.fixed public (write_effect f public a (length name ∷ name)) f.c false (written_kept f public a (length name ∷ name))
+reported_kept : (f : Frame) (public : List ℕ) (a : ℕ) (o : Option (List ℕ)) → KeepsFactsOf f public (delegator_reported f public a o)
+reported_kept f public a None = record { app_kept = refl; guard_kept = λ g. g; fixed_kept = refl; public_kept = λ e. e }
+reported_kept f public a (Some name) = flagged_kept (facts f) (IsGuarded f) f.fixed public (write_effect f public a (length name ∷ name)) f.c false (written_kept f public a (length name ∷ name))
 
 prim_effect_kept : (p : Primitive) (args : List ℕ) (f : Frame) (public : List ℕ) (x : Around) → KeepsFactsOf f public (prim_effect p args f public x).effect
 unfolding prim_effect
@@ -105,7 +106,7 @@ prim_effect_kept Lookup args f public x = looked_kept (frame_after_pop f 3) publ
 prim_effect_kept MemoryCompare args f public x = moved_kept f public _ refl refl (λ g. g)
 prim_effect_kept MemoryCopy args f public x = written_kept (frame_after_pop f 6) public _ _
 prim_effect_kept DelegateTo args f public x = moved_kept f public _ refl refl (λ g. g)
-prim_effect_kept DelegatorAid args f public x = told_kept (frame_after_pop f 2) public _ x.delegator
+prim_effect_kept DelegatorAid args f public x = reported_kept (frame_after_pop f 2) public _ x.delegator
 prim_effect_kept Digest args f public x = written_kept (frame_after_pop f 6) public _ _
 prim_effect_kept CompareFixed args f public x = moved_kept f public _ refl refl (λ g. g)
 prim_effect_kept CopyFixed args f public x = written_kept (frame_after_pop f 4) public _ _

@@ -28,6 +28,7 @@ use Rattle.mc_machine.specs.declared.outcome.Step.{Step}
 use Rattle.mc_machine.proofs.RowFacts.{ExitKeeps}
 use Rattle.mc_machine.proofs.TurnLemmas.{BankLaws, writes_of, committed_of}
 use Rattle.mc_machine.proofs.ActLemmas.{one_less, own_fixed, mid_runs, performed_done, performed_halts}
+use Rattle.mc_bank.specs.declared.bank.Bank.{Ghosts}
 
 -- ---- the exit of a frame that no frame waits for
 
@@ -61,16 +62,16 @@ module _ (s : BankState) (named : ℕ → Option (List ℕ)) (old h : Held) (pub
 
 -- ---- turns
 
-module _ {B : Type 0} (did : B → BankItem → Answer → B → Type 0) (state : B → BankState) (named : B → ℕ → Option (List ℕ)) where
+module _ {B : Type 0} (ghosts : Ghosts B) where
   -- the end in the record of a turn
-  pub ended : (b e : B) (c d : Chained) (ch : Chain) (t : Acted) (step : Step) (o : Option End) → step.end ≡ o → ActDone did state named b e c d ch t (Ok step) → EndDone did state named b e c d ch t o
+  pub ended : (b e : B) (c d : Chained) (ch : Chain) (t : Acted) (step : Step) (o : Option End) → step.end ≡ o → ActDone ghosts b e c d ch t (Ok step) → EndDone ghosts b e c d ch t o
   ended b e c d ch t step o is done = (done.0, ap (λ (u : Turn). u.end) done.1 ∙ ap (option_map (end_value d.public d.le)) is)
 
   -- a turn that ends by an abend
-  pub lone_abends : (b e : B) (c d : Chained) (ch : Chain) (t : Acted) (h : Held) (i : Option Ins) (a : Abend) → ActDone did state named b e c d ch t (Ok (step_of_frame h i (Some (end.Abend a)))) → EndDone did state named b e c d ch t (Some (end.Abend a))
+  pub lone_abends : (b e : B) (c d : Chained) (ch : Chain) (t : Acted) (h : Held) (i : Option Ins) (a : Abend) → ActDone ghosts b e c d ch t (Ok (step_of_frame h i (Some (end.Abend a)))) → EndDone ghosts b e c d ch t (Some (end.Abend a))
   lone_abends b e c d ch t h i a done = ended b e c d ch t (step_of_frame h i (Some (end.Abend a))) (Some (end.Abend a)) refl done
 
-  module _ (laws : BankLaws did state named) (b e : B) (old h : Held) (public segment : List ℕ) (case le left : ℕ) (ch : Chain) (next : ℕ) (i : Ins) (r : RunsAs (state b) (named b) (lone_chain old public case le left) ch) where
+  module _ (laws : BankLaws ghosts) (b e : B) (old h : Held) (public segment : List ℕ) (case le left : ℕ) (ch : Chain) (next : ℕ) (i : Ins) (r : RunsAs (ghosts.state b) (ghosts.named b) (lone_chain old public case le left) ch) where
     abbrev from : Chained
     from = lone_chain old public case le left
 
@@ -78,56 +79,56 @@ module _ {B : Type 0} (did : B → BankItem → Answer → B → Type 0) (state 
     mid = lone_chain h segment case le (left - 1)
 
     -- the next instruction follows
-    pub lone_goes : (x y : RowEnd) → left ≢ 0 → SameRowEnd (app_under (state b) (named b) old).fixed x y → KeepsRow (frame_at ch.frame next) ch.public y → ExitKeeps (frame_at ch.frame next) y
-        → CallActs did state named (scene b e (chain_at_next from next).running h public segment) x (Ok go.Go) → EndDone did state named b e from mid ch (row_turn ch i y) None
+    pub lone_goes : (x y : RowEnd) → left ≢ 0 → SameRowEnd (app_under (ghosts.state b) (ghosts.named b) old).fixed x y → KeepsRow (frame_at ch.frame next) ch.public y → ExitKeeps (frame_at ch.frame next) y
+        → CallActs ghosts (scene b e (chain_at_next from next).running h public segment) x (Ok go.Go) → EndDone ghosts b e from mid ch (row_turn ch i y) None
     lone_goes x y some same keeps exits acts =
         let step = step_of_frame h (Some i) None in
         ended b e from mid ch (row_turn ch i y) step None refl (
-        performed_done did state named laws b e from mid ch next i r refl mid step go.Go x y some refl refl same keeps exits acts (λ k runs. (runs, refl))
+        performed_done ghosts laws b e from mid ch next i r refl mid step go.Go x y some refl refl same keeps exits acts (λ k runs. (runs, refl))
         )
 
     -- the frame exits
-    pub lone_exits : (x y : RowEnd) → left ≢ 0 → SameRowEnd (app_under (state b) (named b) old).fixed x y → KeepsRow (frame_at ch.frame next) ch.public y → ExitKeeps (frame_at ch.frame next) y
-        → CallActs did state named (scene b e (chain_at_next from next).running h public segment) x (Ok go.Exit) → EndDone did state named b e from mid ch (row_turn ch i y) (Some (last_end segment))
+    pub lone_exits : (x y : RowEnd) → left ≢ 0 → SameRowEnd (app_under (ghosts.state b) (ghosts.named b) old).fixed x y → KeepsRow (frame_at ch.frame next) ch.public y → ExitKeeps (frame_at ch.frame next) y
+        → CallActs ghosts (scene b e (chain_at_next from next).running h public segment) x (Ok go.Exit) → EndDone ghosts b e from mid ch (row_turn ch i y) (Some (last_end segment))
     lone_exits x y some same keeps exits acts =
         let step = exit_step old h i (last_end segment) in
         ended b e from mid ch (row_turn ch i y) step (Some (last_end segment)) (exit_end old h i (last_end segment)) (
-        performed_done did state named laws b e from mid ch next i r refl mid step go.Exit x y some refl refl same keeps exits acts
-        (λ k runs. exit_follows (state e) (named e) old h segment case le (left - 1) k i runs)
+        performed_done ghosts laws b e from mid ch next i r refl mid step go.Exit x y some refl refl same keeps exits acts
+        (λ k runs. exit_follows (ghosts.state e) (ghosts.named e) old h segment case le (left - 1) k i runs)
         )
 
     -- the frame delegates
-    pub lone_delegates : (name : List ℕ) (x y : RowEnd) → left ≢ 0 → SameRowEnd (app_under (state b) (named b) old).fixed x y → KeepsRow (frame_at ch.frame next) ch.public y
-        → CallActs did state named (scene b e (chain_at_next from next).running h public segment) x (Ok (go.Delegate name)) → Delegated did state named b e from mid (row_turn ch i y) name
+    pub lone_delegates : (name : List ℕ) (x y : RowEnd) → left ≢ 0 → SameRowEnd (app_under (ghosts.state b) (ghosts.named b) old).fixed x y → KeepsRow (frame_at ch.frame next) ch.public y
+        → CallActs ghosts (scene b e (chain_at_next from next).running h public segment) x (Ok (go.Delegate name)) → Delegated ghosts b e from mid (row_turn ch i y) name
     lone_delegates name (Abends p) (Abends q) some same keeps acts = absurd acts
     lone_delegates name (Abends p) (Does k) some same keeps acts = absurd same
     lone_delegates name (Does j) (Abends q) some same keeps acts = absurd same
     lone_delegates name (Does j) (Does k) some same keeps acts = record {
       chain = chain_after_effect ch k.effect;
-      runs = mid_runs did state named laws b e from mid ch next i r refl j.effect k.effect same.effect keeps acts.1;
-      writes = writes_of did state ch.frame.name (app_under (state b) (named b) old).fixed k.effect.changes b (Ok tt) e (own_fixed did state named b from ch r) (committed_of did state named laws b e from ch j.effect k.effect (Ok tt) r same.effect acts.1.commits);
+      runs = mid_runs ghosts laws b e from mid ch next i r refl j.effect k.effect same.effect keeps acts.1;
+      writes = writes_of ghosts ch.frame.name (app_under (ghosts.state b) (ghosts.named b) old).fixed k.effect.changes b (Ok tt) e (own_fixed ghosts b from ch r) (committed_of ghosts laws b e from ch j.effect k.effect (Ok tt) r same.effect acts.1.commits);
       going = acts.1.going;
       left = one_less left some;
       follows = ap (λ (th : Then). follows (chain_after_effect ch k.effect) th) (sym (acts.0 ∙ same.next));
     }
 
-    -- an instruction, whatever it did
-    pub lone_does : (o : Result Next Halt) (callee : Option (List ℕ)) (x y : RowEnd) → (state b).stopped ≡ false → left ≢ 0 → SameRowEnd (app_under (state b) (named b) old).fixed x y → KeepsRow (frame_at ch.frame next) ch.public y → ExitKeeps (frame_at ch.frame next) y
-        → CallActs did state named (scene b e (chain_at_next from next).running h public segment) x o → NameIsCalled o callee → LoneDone did state named b e from (lone_chain h segment case le) ch (row_turn ch i y) (lone_of o segment) callee
+    -- an instruction, whatever it ghosts.did
+    pub lone_does : (o : Result Next Halt) (callee : Option (List ℕ)) (x y : RowEnd) → (ghosts.state b).stopped ≡ false → left ≢ 0 → SameRowEnd (app_under (ghosts.state b) (ghosts.named b) old).fixed x y → KeepsRow (frame_at ch.frame next) ch.public y → ExitKeeps (frame_at ch.frame next) y
+        → CallActs ghosts (scene b e (chain_at_next from next).running h public segment) x o → NameIsCalled o callee → LoneDone ghosts b e from (lone_chain h segment case le) ch (row_turn ch i y) (lone_of o segment) callee
     lone_does (Ok go.Go) callee x y going some same keeps exits acts called = (left - 1, lone_goes x y some same keeps exits acts)
     lone_does (Ok go.Exit) callee x y going some same keeps exits acts called = (left - 1, lone_exits x y some same keeps exits acts)
     lone_does (Ok (go.Delegate name)) callee x y going some same keeps exits acts called =
-        subst (λ (n : Option (List ℕ)). LoneDone did state named b e from (lone_chain h segment case le) ch (row_turn ch i y) (Ok Delegates) n) (sym called) (lone_delegates name x y some same keeps acts)
+        subst (λ (n : Option (List ℕ)). LoneDone ghosts b e from (lone_chain h segment case le) ch (row_turn ch i y) (Ok Delegates) n) (sym called) (lone_delegates name x y some same keeps acts)
     lone_does (Err (halt.Abend a)) callee x y going some same keeps exits acts called = (
       left - 1,
       lone_abends b e from mid ch (row_turn ch i y) old (Some i) a (
-          performed_halts did state named laws b e from mid ch next i r refl going some (step_of_frame old (Some i) None) refl (halt.Abend a) x y same acts
+          performed_halts ghosts laws b e from mid ch next i r refl going some (step_of_frame old (Some i) None) refl (halt.Abend a) x y same acts
           ),
     )
     lone_does (Err (halt.Stop stop)) callee x y going some same keeps exits acts called =
-        performed_halts did state named laws b e from mid ch next i r refl going some (step_of_frame old (Some i) None) refl (halt.Stop stop) x y same acts
+        performed_halts ghosts laws b e from mid ch next i r refl going some (step_of_frame old (Some i) None) refl (halt.Stop stop) x y same acts
 
   -- a turn that delegates has called a name
-  pub name_called : (b e : B) (c : Chained) (d : ℕ → Chained) (ch : Chain) (t : Acted) (callee : Option (List ℕ)) → LoneDone did state named b e c d ch t (Ok Delegates) callee → IsSome callee
+  pub name_called : (b e : B) (c : Chained) (d : ℕ → Chained) (ch : Chain) (t : Acted) (callee : Option (List ℕ)) → LoneDone ghosts b e c d ch t (Ok Delegates) callee → IsSome callee
   name_called b e c d ch t (Some name) done = refl
   name_called b e c d ch t None done = absurd done

@@ -1,5 +1,5 @@
--- What a turn keeps of a sound chain: its frames match their applications, the sizes of the applications do not change, and its writes
--- lie in their static segments.
+-- What a turn keeps of a sound chain: its frames match their applications, the sizes of the applications do not change,
+-- and its writes lie in their static segments.
 use Rattle.std.proofs.Common.{◌≡◌, ℕ, zero, suc, ◌-◌, Bool, true, false, cond, List, [], ◌∷◌, length, Option, Some, None, Result, Ok, Err, refl, sym, ap, subst, ◌∙◌, arith}
 use Rattle.std.specs.Prelude.{unwrap_or, bytes_eq, ◌||◌, nat_lt, nat_le}
 use Rattle.std.specs.List.{AllByRecursion}
@@ -141,7 +141,8 @@ first_name f g (h ∷ fs) same = refl
 
 -- ---- what follows
 
--- a chain that goes on is sound, its frames match the applications after the writes, and its first frame has the same name as before
+-- a chain that goes on is sound, its frames match the applications after the writes, and its first frame has the same
+-- name as before
 pub record GoesSound (ch : Chain) (apps : List (List ℕ × App)) (next : Chain) : Type 0 where
   pub sound : IsSoundChain next
   pub map : next.map ≡ apps

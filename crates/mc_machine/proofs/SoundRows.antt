@@ -1,5 +1,5 @@
--- What a row keeps of its frame: its name and the number of its session bytes, which its dynamic bytes hold; its static change and its
--- pending bytes lie in its static segment.
+-- What a row keeps of its frame: its name and the number of its session bytes, which its dynamic bytes hold; its static
+-- change and its pending bytes lie in its static segment.
 use Rattle.std.proofs.Common.{◌≡◌, ℕ, ◌+◌, ◌-◌, ◌≤◌, Bool, true, false, cond, List, [], ◌∷◌, ◌++◌, length, Option, Some, None, refl, sym, ap, subst, ◌∙◌, arith}
 use Rattle.std.specs.Prelude.{◌==◌, ◌||◌, nat_le, slice_index}
 use Rattle.std.proofs.lemmas.Bool.Decides.{nat_tests}
@@ -9,7 +9,7 @@ use Rattle.mc_model_machine.specs.declared.machine.Abend.{Abend}
 use Rattle.mc_model_device.specs.Bytes.{bytes2, splice}
 use Rattle.mc_model_device.specs.Pieces.{laid_pieces}
 use Rattle.mc_model_machine.specs.Frame.{Frame, static_bytes, pending_change, Effect, Place, Static, Dynamic, Public, where_is, dynamic_base, static_written, write_effect_at, write_effect, frame_after_push, frame_after_pop, top, frame_with_top, frame_with_flags, protect, come_back}
-use Rattle.mc_model_machine.specs.Primitives.{Around, Done, frame_effect, effect_flagged, Primitive, CheckCase, LoadCcr, StoreCcr, Lookup, MemoryCompare, MemoryCopy, DelegateTo, DelegatorAid, Digest, CompareFixed, CopyFixed, SetProtection, Encipher, Decipher, Sign, BitByte, ShiftLeft, ShiftRight, BitWord, primitive, prim_done, prim_effect, lookup_effect, delegator_told}
+use Rattle.mc_model_machine.specs.Primitives.{Around, Done, frame_effect, effect_flagged, Primitive, CheckCase, LoadCcr, StoreCcr, Lookup, MemoryCompare, MemoryCopy, DelegateTo, DelegatorAid, Digest, CompareFixed, CopyFixed, SetProtection, Encipher, Decipher, Sign, BitByte, ShiftLeft, ShiftRight, BitWord, primitive, prim_done, prim_effect, lookup_effect, delegator_reported}
 use Rattle.mc_model_machine.specs.Row.{effect, holds, frame_after_jump, frame_after_call, target, causes, first_cause, row_end, row, RowEnd, Abends, Does}
 use Rattle.mc_model_device.proofs.ListLemmas.{length_splice, splice_longer as longer}
 use Rattle.mc_machine_laws.specs.FewWords.{PiecesWithin}
@@ -114,9 +114,9 @@ looked_kept : (f : Frame) (public : List ℕ) (o : Option ℕ) → KeepsPartsOf 
 looked_kept f public (Some i) = still f public _ refl refl refl refl (longer f.dyn (f.dt - dynamic_base) (i ∷ []))
 looked_kept f public None = still f public _ refl refl refl refl (longer f.dyn (f.dt - dynamic_base) (0 ∷ []))
 
-told_kept : (f : Frame) (public : List ℕ) (a : ℕ) (o : Option (List ℕ)) → KeepsPartsOf f (delegator_told f public a o)
-told_kept f public a None = still f public _ refl refl refl refl (omega arith)
-told_kept f public a (Some name) = flagged_kept f (write_effect f public a (length name ∷ name)) f.c false (written_kept f public a (length name ∷ name))
+reported_kept : (f : Frame) (public : List ℕ) (a : ℕ) (o : Option (List ℕ)) → KeepsPartsOf f (delegator_reported f public a o)
+reported_kept f public a None = still f public _ refl refl refl refl (omega arith)
+reported_kept f public a (Some name) = flagged_kept f (write_effect f public a (length name ∷ name)) f.c false (written_kept f public a (length name ∷ name))
 
 -- the top bytes are replaced
 topped_kept : (f : Frame) (public b : List ℕ) (c z : Bool) → KeepsPartsOf f (frame_effect (frame_with_flags (frame_with_top f b) c z) public)
@@ -131,7 +131,7 @@ prim_effect_kept Lookup args f public x = looked_kept (frame_after_pop f 3) publ
 prim_effect_kept MemoryCompare args f public x = still f public _ refl refl refl refl (omega arith)
 prim_effect_kept MemoryCopy args f public x = written_kept (frame_after_pop f 6) public _ _
 prim_effect_kept DelegateTo args f public x = still f public _ refl refl refl refl (omega arith)
-prim_effect_kept DelegatorAid args f public x = told_kept (frame_after_pop f 2) public _ x.delegator
+prim_effect_kept DelegatorAid args f public x = reported_kept (frame_after_pop f 2) public _ x.delegator
 prim_effect_kept Digest args f public x = written_kept (frame_after_pop f 6) public _ _
 prim_effect_kept CompareFixed args f public x = still f public _ refl refl refl refl (omega arith)
 prim_effect_kept CopyFixed args f public x = written_kept (frame_after_pop f 4) public _ _

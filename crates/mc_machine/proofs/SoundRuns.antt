@@ -1,4 +1,5 @@
--- A run by its turns: its writes lie in the static segments of their applications, and the number of session bytes that it leaves.
+-- A run by its turns: its writes lie in the static segments of their applications, and the number of session bytes that
+-- it leaves.
 use Rattle.std.proofs.Common.{◌≡◌, ℕ, zero, suc, List, [], ◌∷◌, ◌++◌, length, Some, Result, Ok, Err, refl, ap, subst, ◌∙◌}
 use Rattle.mc_model_machine.specs.declared.instruction.Ins.{Ins}
 use Rattle.mc_model_machine.specs.declared.instruction.DecodeFault.{DecodeFault}
@@ -20,7 +21,8 @@ sound_append : (xs ys : List Write) (apps : List (List ℕ × App)) → AreSound
 sound_append [] ys apps first second = second
 sound_append (x ∷ xs) ys apps first second = (first.0, sound_append xs ys (map_changed apps x.name (Some x.pieces)) first.1 second)
 
--- what a run keeps of a sound chain: its writes are sound, and it leaves the number of session bytes of the first application
+-- what a run keeps of a sound chain: its writes are sound, and it leaves the number of session bytes of the first
+-- application
 pub record RunSound (ch : Chain) (r : Ran) : Type 0 where
   pub writes : AreSound ch.map r.writes
   pub session : length r.session ≡ (app_of ch.map (Some (first_in ch).name)).session

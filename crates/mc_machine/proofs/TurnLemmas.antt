@@ -18,16 +18,17 @@ use Rattle.mc_machine.specs.Chains.{Chained, ReadAll, RunsAs, ChainWrote}
 use Rattle.mc_machine.proofs.Alike.{committed_seen, changed_seen}
 use Rattle.mc_machine.proofs.ReadsLemmas.{name_is, app_is, moved_reads}
 use Rattle.mc_model_device.proofs.MapLemmas.{lookup_inserted_lem, lookup_beside}
+use Rattle.mc_bank.specs.declared.bank.Bank.{Ghosts}
 
 -- the properties of a bank that the lemmas use: the effect of a commit on the applications and on the slots
-pub record BankLaws {B : Type 0} (did : B → BankItem → Answer → B → Type 0) (state : B → BankState) (named : B → ℕ → Option (List ℕ)) : Type 0 where
-  pub obeys : (b : B) (n : List ℕ) (ws : List (ℕ × List ℕ)) (a : Answer) (e : B) → did b (Commit n ws) a e → Changes (state b) (apps_after_commit (state b).apps n ws) a (state e)
-  pub keeps : (b : B) (n : List ℕ) (ws : List (ℕ × List ℕ)) (a : Answer) (e : B) → did b (Commit n ws) a e → (k : ℕ) (m : List ℕ) → named b k ≡ Some m → named e k ≡ Some m
+pub record BankLaws {B : Type 0} (ghosts : Ghosts B) : Type 0 where
+  pub obeys : (b : B) (n : List ℕ) (ws : List (ℕ × List ℕ)) (a : Answer) (e : B) → ghosts.did b (Commit n ws) a e → Changes (ghosts.state b) (apps_after_commit (ghosts.state b).apps n ws) a (ghosts.state e)
+  pub keeps : (b : B) (n : List ℕ) (ws : List (ℕ × List ℕ)) (a : Answer) (e : B) → ghosts.did b (Commit n ws) a e → (k : ℕ) (m : List ℕ) → ghosts.named b k ≡ Some m → ghosts.named e k ≡ Some m
 
 -- ---- atomic writes
 
-module _ {B : Type 0} (did : B → BankItem → Answer → B → Type 0) (state : B → BankState) where
-  none_wrote : (b : B) (a : Answer) (e : B) → InOrder did b [] a e → InOrder (ChainWrote did state) b [] a e
+module _ {B : Type 0} (ghosts : Ghosts B) where
+  none_wrote : (b : B) (a : Answer) (e : B) → InOrder ghosts.did b [] a e → InOrder (ChainWrote ghosts) b [] a e
   none_wrote b (Ok u) e done = done
   none_wrote b (Err s) e done = absurd done
 
@@ -35,11 +36,11 @@ module _ {B : Type 0} (did : B → BankItem → Answer → B → Type 0) (state 
   few_touched : (l : List ℕ) (ps ws : List (ℕ × List ℕ)) → HoldPieces l ps ws → length ws ≤ 64 → length (touched_words ps) ≤ 64
   few_touched l ps ws held few = let same = ap (λ (ns : List ℕ). length ns) held.touched_words in omega (arith, length-map ws (λ w. w.0), same, few)
 
-  pub writes_of : (name fixed : List ℕ) (changes : Option (List (ℕ × List ℕ))) (b : B) (a : Answer) (e : B) → fixed ≡ (app_of (state b).apps (Some name)).fixed → IsOneCommit did name fixed changes b a e
-      → InOrder (ChainWrote did state) b (write_of name changes) a e
+  pub writes_of : (name fixed : List ℕ) (changes : Option (List (ℕ × List ℕ))) (b : B) (a : Answer) (e : B) → fixed ≡ (app_of (ghosts.state b).apps (Some name)).fixed → IsOneCommit ghosts.did name fixed changes b a e
+      → InOrder (ChainWrote ghosts) b (write_of name changes) a e
   writes_of name fixed None b a e is done = none_wrote b a e done
   writes_of name fixed (Some ps) b a e is done =
-      let held : HoldPieces (app_of (state b).apps (Some name)).fixed ps done.0 = subst (λ (l : List ℕ). HoldPieces l ps done.0) is done.1 in
+      let held : HoldPieces (app_of (ghosts.state b).apps (Some name)).fixed ps done.0 = subst (λ (l : List ℕ). HoldPieces l ps done.0) is done.1 in
       let few = few_touched fixed ps done.0 done.1 done.3 in
       elim done.2 [
         | inl whole ↦ inl (whole.0, (done.0, held, whole.1, few), none_wrote whole.0 a e whole.2)
@@ -48,77 +49,77 @@ module _ {B : Type 0} (did : B → BankItem → Answer → B → Type 0) (state 
 
 -- ---- the bank after a change
 
-module _ {B : Type 0} (did : B → BankItem → Answer → B → Type 0) (state : B → BankState) (named : B → ℕ → Option (List ℕ)) (laws : BankLaws did state named) where
-  slots_stay : (name fixed : List ℕ) (changes : Option (List (ℕ × List ℕ))) (b e : B) → IsOneCommit did name fixed changes b (Ok tt) e → (k : ℕ) (m : List ℕ) → named b k ≡ Some m → named e k ≡ Some m
-  slots_stay name fixed None b e done k m is = subst (λ (x : B). named x k ≡ Some m) (sym done) is
+module _ {B : Type 0} (ghosts : Ghosts B) (laws : BankLaws ghosts) where
+  slots_stay : (name fixed : List ℕ) (changes : Option (List (ℕ × List ℕ))) (b e : B) → IsOneCommit ghosts.did name fixed changes b (Ok tt) e → (k : ℕ) (m : List ℕ) → ghosts.named b k ≡ Some m → ghosts.named e k ≡ Some m
+  slots_stay name fixed None b e done k m is = subst (λ (x : B). ghosts.named x k ≡ Some m) (sym done) is
   slots_stay name fixed (Some ps) b e done k m is =
       elim done.2 [
-        | inl whole ↦ subst (λ (x : B). named x k ≡ Some m) (sym whole.2) (laws.keeps b name done.0 (Ok tt) whole.0 whole.1 k m is)
+        | inl whole ↦ subst (λ (x : B). ghosts.named x k ≡ Some m) (sym whole.2) (laws.keeps b name done.0 (Ok tt) whole.0 whole.1 k m is)
         | inr stop ↦ absurd (cc stop.2)
       ]
 
   -- the applications after it
-  apps_after : (name fixed : List ℕ) (ps : List (ℕ × List ℕ)) (b e : B) (done : IsOneCommit did name fixed (Some ps) b (Ok tt) e) → (state e).apps ≡ apps_after_commit (state b).apps name done.0
+  apps_after : (name fixed : List ℕ) (ps : List (ℕ × List ℕ)) (b e : B) (done : IsOneCommit ghosts.did name fixed (Some ps) b (Ok tt) e) → (ghosts.state e).apps ≡ apps_after_commit (ghosts.state b).apps name done.0
   apps_after name fixed ps b e done =
       elim done.2 [
-        | inl whole ↦ ap (λ (x : B). (state x).apps) whole.2 ∙ (laws.obeys b name done.0 (Ok tt) whole.0 whole.1).apps
+        | inl whole ↦ ap (λ (x : B). (ghosts.state x).apps) whole.2 ∙ (laws.obeys b name done.0 (Ok tt) whole.0 whole.1).apps
         | inr stop ↦ absurd (cc stop.2)
       ]
 
   -- other applications do not change
-  others_stay : (name fixed : List ℕ) (changes : Option (List (ℕ × List ℕ))) (b e : B) → IsOneCommit did name fixed changes b (Ok tt) e → (m : List ℕ) → bytes_eq name m ≡ false → lookup (state e).apps m ≡ lookup (state b).apps m
-  others_stay name fixed None b e done m other = ap (λ (x : B). lookup (state x).apps m) done
+  others_stay : (name fixed : List ℕ) (changes : Option (List (ℕ × List ℕ))) (b e : B) → IsOneCommit ghosts.did name fixed changes b (Ok tt) e → (m : List ℕ) → bytes_eq name m ≡ false → lookup (ghosts.state e).apps m ≡ lookup (ghosts.state b).apps m
+  others_stay name fixed None b e done m other = ap (λ (x : B). lookup (ghosts.state x).apps m) done
   others_stay name fixed (Some ps) b e done m other =
       ap (λ (apps : List (List ℕ × App)). lookup apps m) (apps_after name fixed ps b e done)
-      ∙ lookup_beside (state b).apps name (with_words done.0 (app_of (state b).apps (Some name))) m other
+      ∙ lookup_beside (ghosts.state b).apps name (with_words done.0 (app_of (ghosts.state b).apps (Some name))) m other
 
   -- the map of the definitions after it, by the static bytes that the application has then
-  map_after : (name : List ℕ) (a : App) (changes : Option (List (ℕ × List ℕ))) (b e : B) → lookup (state b).apps name ≡ Some a → IsOneCommit did name a.fixed changes b (Ok tt) e
-      → (app_of (state e).apps (Some name)).fixed ≡ changed_bytes a.fixed changes → map_changed (state b).apps name changes ≡ (state e).apps
-  map_after name a None b e there done bytes = ap (λ (x : B). (state x).apps) (sym done)
+  map_after : (name : List ℕ) (a : App) (changes : Option (List (ℕ × List ℕ))) (b e : B) → lookup (ghosts.state b).apps name ≡ Some a → IsOneCommit ghosts.did name a.fixed changes b (Ok tt) e
+      → (app_of (ghosts.state e).apps (Some name)).fixed ≡ changed_bytes a.fixed changes → map_changed (ghosts.state b).apps name changes ≡ (ghosts.state e).apps
+  map_after name a None b e there done bytes = ap (λ (x : B). (ghosts.state x).apps) (sym done)
   map_after name a (Some ps) b e there done bytes =
-      let apps = (state b).apps in
+      let apps = (ghosts.state b).apps in
       let ws = done.0 in
       let old : app_of apps (Some name) ≡ a = ap (λ (l : Option App). unwrap_or l no_app) there in
-      let now : (state e).apps ≡ insert apps name (with_words ws a) = apps_after name a.fixed ps b e done ∙ ap (λ (x : App). insert apps name (with_words ws x)) old in
-      let new : app_of (state e).apps (Some name) ≡ with_words ws a =
+      let now : (ghosts.state e).apps ≡ insert apps name (with_words ws a) = apps_after name a.fixed ps b e done ∙ ap (λ (x : App). insert apps name (with_words ws x)) old in
+      let new : app_of (ghosts.state e).apps (Some name) ≡ with_words ws a =
       ap (λ (m : List (List ℕ × App)). app_of m (Some name)) now ∙ ap (λ (l : Option App). unwrap_or l no_app) (lookup_inserted_lem apps name (with_words ws a)) in
       let same : laid_pieces a.fixed ps ≡ laid_words a.fixed ws = sym bytes ∙ ap (λ (x : App). x.fixed) new in
       ap (λ (l : Option App). changed_app apps name ps l) there ∙ ap (λ (l : List ℕ). insert apps name (record a { fixed = l })) same ∙ sym now
 
-  below_stay : (name fixed : List ℕ) (changes : Option (List (ℕ × List ℕ))) (b e : B) → IsOneCommit did name fixed changes b (Ok tt) e → (hs : List Held) (fs : List Frame)
-      → AllByRecursion (λ (g : Frame). bytes_eq name g.name ≡ false) fs → ReadAll (state b) (named b) hs fs → ReadAll (state e) (named e) hs fs
+  below_stay : (name fixed : List ℕ) (changes : Option (List (ℕ × List ℕ))) (b e : B) → IsOneCommit ghosts.did name fixed changes b (Ok tt) e → (hs : List Held) (fs : List Frame)
+      → AllByRecursion (λ (g : Frame). bytes_eq name g.name ≡ false) fs → ReadAll (ghosts.state b) (ghosts.named b) hs fs → ReadAll (ghosts.state e) (ghosts.named e) hs fs
   below_stay name fixed changes b e done [] [] apart reads = tt
   below_stay name fixed changes b e done [] (f ∷ fs) apart reads = absurd reads
   below_stay name fixed changes b e done (h ∷ hs) [] apart reads = absurd reads
   below_stay name fixed changes b e done (h ∷ hs) (f ∷ fs) apart reads = (
-    moved_reads (state b) (named b) (state e) (named e) h f (slots_stay name fixed changes b e done h.slot f.name (name_is (state b) (named b) h f reads.0)) (others_stay name fixed changes b e done f.name apart.0) reads.0,
+    moved_reads (ghosts.state b) (ghosts.named b) (ghosts.state e) (ghosts.named e) h f (slots_stay name fixed changes b e done h.slot f.name (name_is (ghosts.state b) (ghosts.named b) h f reads.0)) (others_stay name fixed changes b e done f.name apart.0) reads.0,
     below_stay name fixed changes b e done hs fs apart.1 reads.1,
   )
 
   -- ---- a settled chain
 
   -- the commit of the changed bytes, for the frame of the definitions
-  pub committed_of : (b e : B) (c : Chained) (ch : Chain) (d x : Effect) (a : Answer) → RunsAs (state b) (named b) c ch → SameEffect (app_under (state b) (named b) c.running).fixed d x
-      → IsOneCommit did (name_or (named b c.running.slot)) (app_under (state b) (named b) c.running).fixed d.changes b a e
-      → IsOneCommit did ch.frame.name (app_under (state b) (named b) c.running).fixed x.changes b a e
+  pub committed_of : (b e : B) (c : Chained) (ch : Chain) (d x : Effect) (a : Answer) → RunsAs (ghosts.state b) (ghosts.named b) c ch → SameEffect (app_under (ghosts.state b) (ghosts.named b) c.running).fixed d x
+      → IsOneCommit ghosts.did (name_or (ghosts.named b c.running.slot)) (app_under (ghosts.state b) (ghosts.named b) c.running).fixed d.changes b a e
+      → IsOneCommit ghosts.did ch.frame.name (app_under (ghosts.state b) (ghosts.named b) c.running).fixed x.changes b a e
   committed_of b e c ch d x a r same done =
-      let fixed = (app_under (state b) (named b) c.running).fixed in
-      let named_so : name_or (named b c.running.slot) ≡ ch.frame.name = ap (λ (t : Seen). t.name) r.running.same in
-      committed_seen did ch.frame.name fixed d.changes x.changes b a e same.changes (subst (λ (n : List ℕ). IsOneCommit did n fixed d.changes b a e) named_so done)
+      let fixed = (app_under (ghosts.state b) (ghosts.named b) c.running).fixed in
+      let named_so : name_or (ghosts.named b c.running.slot) ≡ ch.frame.name = ap (λ (t : Seen). t.name) r.running.same in
+      committed_seen ghosts.did ch.frame.name fixed d.changes x.changes b a e same.changes (subst (λ (n : List ℕ). IsOneCommit ghosts.did n fixed d.changes b a e) named_so done)
 
-  pub settled_runs : (b e : B) (c : Chained) (ch : Chain) (h : Held) (public : List ℕ) (d x : Effect) → RunsAs (state b) (named b) c ch → SameEffect (app_under (state b) (named b) c.running).fixed d x
-      → KeepsEffect ch.frame ch.public x → EffectDone did state named (scene b e c.running h c.public public) d → RunsAs (state e) (named e) (record c { running = h; public = public }) (chain_after_effect ch x)
+  pub settled_runs : (b e : B) (c : Chained) (ch : Chain) (h : Held) (public : List ℕ) (d x : Effect) → RunsAs (ghosts.state b) (ghosts.named b) c ch → SameEffect (app_under (ghosts.state b) (ghosts.named b) c.running).fixed d x
+      → KeepsEffect ch.frame ch.public x → EffectDone ghosts (scene b e c.running h c.public public) d → RunsAs (ghosts.state e) (ghosts.named e) (record c { running = h; public = public }) (chain_after_effect ch x)
   settled_runs b e c ch h public d x r same keeps left =
-      let app = app_under (state b) (named b) c.running in
+      let app = app_under (ghosts.state b) (ghosts.named b) c.running in
       let done = committed_of b e c ch d x (Ok tt) r same left.commits in
-      let slot : named e h.slot ≡ Some ch.frame.name =
-      ap (λ (k : ℕ). named e k) left.slot ∙ slots_stay ch.frame.name app.fixed x.changes b e done c.running.slot ch.frame.name (name_is (state b) (named b) c.running ch.frame r.running) in
-      let bytes : (app_of (state e).apps (Some ch.frame.name)).fixed ≡ changed_bytes app.fixed x.changes =
-      ap (λ (o : Option (List ℕ)). (app_of (state e).apps o).fixed) (sym slot) ∙ left.bytes ∙ changed_seen app.fixed d.changes x.changes same.changes in
+      let slot : ghosts.named e h.slot ≡ Some ch.frame.name =
+      ap (λ (k : ℕ). ghosts.named e k) left.slot ∙ slots_stay ch.frame.name app.fixed x.changes b e done c.running.slot ch.frame.name (name_is (ghosts.state b) (ghosts.named b) c.running ch.frame r.running) in
+      let bytes : (app_of (ghosts.state e).apps (Some ch.frame.name)).fixed ≡ changed_bytes app.fixed x.changes =
+      ap (λ (o : Option (List ℕ)). (app_of (ghosts.state e).apps o).fixed) (sym slot) ∙ left.bytes ∙ changed_seen app.fixed d.changes x.changes same.changes in
       record {
         map = ap (λ (m : List (List ℕ × App)). map_changed m ch.frame.name x.changes) r.map
-            ∙ map_after ch.frame.name app x.changes b e (app_is (state b) (named b) c.running ch.frame r.running) done bytes;
+            ∙ map_after ch.frame.name app x.changes b e (app_is (ghosts.state b) (ghosts.named b) c.running ch.frame r.running) done bytes;
         running = record { fits = left.fits; same = left.frame ∙ same.frame; guarded = keeps.guarded r.running.guarded };
         below = below_stay ch.frame.name app.fixed x.changes b e done c.below ch.below r.apart.0 r.below;
         public = left.public ∙ same.public;

@@ -1,4 +1,5 @@
--- The reading of a frame, which is all that a row depends on: its pending bytes, and not the pieces that they come from.
+-- The reading of a frame, which is all that a row depends on: its pending bytes, and not the pieces that they come
+-- from.
 use Rattle.std.specs.Prelude.{◌≡◌, ℕ, true, false, List, length, option_map, Option}
 use Rattle.mc_model_machine.specs.declared.machine.Abend.{Abend}
 use Rattle.mc_model_device.specs.Pieces.{laid_pieces, touched_words}
@@ -51,7 +52,8 @@ pub record SameApp (f g : Frame) : Type 0 where
   pub session : f.session ≡ g.session
   pub deny : f.deny ≡ g.deny
 
--- what an effect keeps of the frame and of the public segment that it began with; its static bytes are those of before with its change
+-- what an effect keeps of the frame and of the public segment that it began with; its static bytes are those of before
+-- with its change
 pub record KeepsEffect (f : Frame) (segment : List ℕ) (e : Effect) : Type 0 where
   pub app : SameApp e.frame f
   pub guarded : IsGuarded f → IsGuarded e.frame

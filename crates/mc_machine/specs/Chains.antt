@@ -12,11 +12,13 @@ use Rattle.mc_model_device.specs.Bytes.{lookup}
 use Rattle.mc_model_device.specs.Card.{App}
 use Rattle.mc_apdu.specs.declared.command.Apdu.{Apdu}
 use Rattle.mc_apdu.specs.Command.{parts_of}
-use Rattle.mc_segs.specs.HeldFrames.{Held, FitsBank, frame_on_bank, frame_reading}
+use Rattle.mc_segs.specs.HeldFrames.{Held, FitsBank, frame_with, frame_reading}
 use Rattle.mc_machine.specs.Alike.{IsGuarded}
+use Rattle.mc_bank.specs.declared.bank.Bank.{Ghosts}
 
--- a chain of the code: the running frame, the frames below it with the one that delegated to it first, the public segment, the case of
--- the command, its Le, which is 0 if it has none, and the number of instructions left in the budget
+-- a chain of the code: the running frame, the frames below it with the one that delegated to it first, the public
+-- segment, the case of the command, its Le, which is 0 if it has none, and the number of instructions left in the
+-- budget
 pub record Chained : Type 0 where
   pub running : Held
   pub below : List Held
@@ -27,11 +29,11 @@ pub record Chained : Type 0 where
 
 -- ---- the chain of the definitions
 
--- a frame of the code fits the bank, and its reading there is a frame of the definitions, which has pending bytes only while protection
--- is on
+-- a frame of the code fits the bank, and its reading there is a frame of the definitions, which has pending bytes only
+-- while protection is on
 pub record FrameReadsAs (s : BankState) (named : ℕ → Option (List ℕ)) (h : Held) (f : Frame) : Type 0 where
   pub fits : FitsBank s named h
-  pub same : frame_reading (frame_on_bank s named h) ≡ frame_reading f
+  pub same : frame_reading (frame_with s named h) ≡ frame_reading f
   pub guarded : IsGuarded f
 
 -- each frame of a list reads as the one at its place in a list of frames of the definitions
@@ -58,8 +60,8 @@ pub record RunsAs (s : BankState) (named : ℕ → Option (List ℕ)) (c : Chain
   pub apart : NamesApart (ch.frame ∷ ch.below)
 
 -- the frames of a chain fit the bank
-abbrev pub FitsChain : BankState → (ℕ → Option (List ℕ)) → Chained → Type 0
-FitsChain s named c = (ch : Chain) × RunsAs s named c ch
+abbrev pub FitsChain : {B : Type 0} → Ghosts B → B → Chained → Type 0
+FitsChain ghosts bank c = (ch : Chain) × RunsAs (ghosts.state bank) (ghosts.named bank) c ch
 
 -- the first frame
 abbrev pub first_held : Held → List Held → Held
@@ -73,8 +75,8 @@ session_in c = session_of (first_held c.running c.below).frame
 -- ---- atomic writes
 
 -- an atomic write of a chain, of at most 64 words, is a commit of words that hold its pieces over the static bytes
-abbrev pub ChainWrote : {B : Type 0} → (B → BankItem → Answer → B → Type 0) → (B → BankState) → B → Write → Answer → B → Type 0
-ChainWrote did state b w a e = (ws : List (ℕ × List ℕ)) × HoldPieces (app_of (state b).apps (Some w.name)).fixed w.pieces ws × did b (Commit w.name ws) a e × (w.words ≤ 64)
+abbrev pub ChainWrote : {B : Type 0} → Ghosts B → B → Write → Answer → B → Type 0
+ChainWrote ghosts b w a e = (ws : List (ℕ × List ℕ)) × HoldPieces (app_of (ghosts.state b).apps (Some w.name)).fixed w.pieces ws × ghosts.did b (Commit w.name ws) a e × (w.words ≤ 64)
 
 -- ---- runs
 

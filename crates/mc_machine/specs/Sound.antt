@@ -7,8 +7,8 @@ use Rattle.mc_model_machine.specs.Chain.{Chain}
 use Rattle.mc_bank.specs.Bank.{app_of}
 use Rattle.mc_machine_laws.specs.FewWords.{PiecesWithin}
 
--- A frame of one of the given applications: its static segment is as long as the application's, its pending pieces lie in it, and it has
--- the number of session bytes of the application.
+-- A frame of one of the given applications: its static segment is as long as the application's, its pending pieces lie
+-- in it, and it has the number of session bytes of the application.
 pub record IsSoundFrame (apps : List (List ℕ × App)) (f : Frame) : Type 0 where
   pub fixed : length f.fixed ≡ length (app_of apps (Some f.name)).fixed
   pub pieces : PiecesWithin (length f.fixed) f.pieces

@@ -23,6 +23,7 @@ use Rattle.mc_machine.specs.declared.outcome.End.{End}
 use Rattle.mc_machine.specs.declared.outcome.End.TheVariants as end
 use Rattle.mc_machine.specs.declared.outcome.Step.{Step}
 use Rattle.mc_machine.specs.declared.outcome.Turn.{Turn}
+use Rattle.mc_bank.specs.declared.bank.Bank.{Ghosts}
 
 -- ---- ends
 
@@ -66,38 +67,40 @@ EndFits public (end.Abend a) = Unit {0}
 
 -- ---- turns
 
--- the turn of the definitions that a turn of the code is, with the number of words that it wrote, which the code's turn does not have
+-- the turn of the definitions that a turn of the code is, with the number of words that it wrote, which the code's turn
+-- does not have
 abbrev pub turn_value : Turn → Option ℕ → ModelTurn
 turn_value t wrote =
     record { depth = t.depth; at = t.at; ins = t.ins; dt = t.dt; c = t.flags.c; z = t.flags.z; end = option_map outcome_value t.end; wrote = wrote }
 
--- the turn of the definitions that a record without its place is, with the depth and place of its frame, the public bytes and Le of its
--- end, and the number of words that it wrote
+-- the turn of the definitions that a record without its place is, with the depth and place of its frame, the public
+-- bytes and Le of its end, and the number of words that it wrote
 abbrev pub step_value : ℕ → ℕ → List ℕ → ℕ → Step → Option ℕ → ModelTurn
 step_value depth at public le t wrote =
     record { depth = depth; at = at; ins = t.ins; dt = t.dt; c = t.flags.c; z = t.flags.z; end = option_map (end_value public le) t.end; wrote = wrote }
 
--- what follows a turn: the chain goes on as that of the definitions does, or it has ended, with the session bytes that it had
+-- what follows a turn: the chain goes on as that of the definitions does, or it has ended, with the session bytes that
+-- it had
 abbrev pub Follow : BankState → (ℕ → Option (List ℕ)) → Chained → Chain → Follows → Type 0
 Follow s named c ch (Continues next) = RunsAs s named c next
 Follow s named c ch (Ends o) = session_in c ≡ chain_session ch
 
 -- a turn without a `Stop`: its atomic writes were done, the bank goes on, the budget is counted
-pub record TurnActs {B : Type 0} (did : B → BankItem → Answer → B → Type 0) (state : B → BankState) (named : B → ℕ → Option (List ℕ)) (b e : B) (c d : Chained) (ch : Chain) (t : Acted) : Type 0 where
-  pub writes : InOrder (ChainWrote did state) b t.writes (Ok tt) e
-  pub going : (state e).stopped ≡ false
+pub record TurnActs {B : Type 0} (ghosts : Ghosts B) (b e : B) (c d : Chained) (ch : Chain) (t : Acted) : Type 0 where
+  pub writes : InOrder (ChainWrote ghosts) b t.writes (Ok tt) e
+  pub going : (ghosts.state e).stopped ≡ false
   pub left : d.left + t.count ≡ c.left
-  pub follows : Follow (state e) (named e) d ch t.follows
+  pub follows : Follow (ghosts.state e) (ghosts.named e) d ch t.follows
 
 -- a turn by its result: it was done, and its record is that of the definitions; or a `Stop` ended its write
-abbrev pub ActDone : {B : Type 0} → (B → BankItem → Answer → B → Type 0) → (B → BankState) → (B → ℕ → Option (List ℕ)) → B → B → Chained → Chained → Chain → Acted → Result Step Stop → Type 0
-ActDone did state named b e c d ch t (Ok step) = TurnActs did state named b e c d ch t × (t.turn ≡ step_value (length c.below + 1) c.running.frame.at d.public d.le step t.turn.wrote)
-ActDone did state named b e c d ch t (Err stop) = InOrder (ChainWrote did state) b t.writes (Err stop) e
+abbrev pub ActDone : {B : Type 0} → Ghosts B → B → B → Chained → Chained → Chain → Acted → Result Step Stop → Type 0
+ActDone ghosts b e c d ch t (Ok step) = TurnActs ghosts b e c d ch t × (t.turn ≡ step_value (length c.below + 1) c.running.frame.at d.public d.le step t.turn.wrote)
+ActDone ghosts b e c d ch t (Err stop) = InOrder (ChainWrote ghosts) b t.writes (Err stop) e
 
 -- a turn with its place by its result: it was done, and is that of the definitions; or a `Stop` ended its write
-abbrev pub TurnDone : {B : Type 0} → (B → BankItem → Answer → B → Type 0) → (B → BankState) → (B → ℕ → Option (List ℕ)) → B → B → Chained → Chained → Chain → Acted → Result Turn Stop → Type 0
-TurnDone did state named b e c d ch t (Ok turn) = TurnActs did state named b e c d ch t × (t.turn ≡ turn_value turn t.turn.wrote)
-TurnDone did state named b e c d ch t (Err stop) = InOrder (ChainWrote did state) b t.writes (Err stop) e
+abbrev pub TurnDone : {B : Type 0} → Ghosts B → B → B → Chained → Chained → Chain → Acted → Result Turn Stop → Type 0
+TurnDone ghosts b e c d ch t (Ok turn) = TurnActs ghosts b e c d ch t × (t.turn ≡ turn_value turn t.turn.wrote)
+TurnDone ghosts b e c d ch t (Err stop) = InOrder (ChainWrote ghosts) b t.writes (Err stop) e
 
 -- ---- the number of words that a turn writes
 
@@ -110,19 +113,20 @@ is_exit (ins.Exitswla sw la) = true
 is_exit _ = false
 
 -- the most words that the instruction of a turn changes: 64 if it may commit, else 33; none if there is no instruction
-abbrev pub most_told : Option Ins → ℕ
-most_told None = 0
-most_told (Some i) = most_words i
+abbrev pub most_reported : Option Ins → ℕ
+most_reported None = 0
+most_reported (Some i) = most_words i
 
 -- a turn makes at most one atomic write, of no more words than its instruction changes, and none if that is an exit
 pub record WritesFew (t : Acted) : Type 0 where
   pub one : length t.writes ≤ 1
-  pub words : AllByRecursion (λ w. w.words ≤ most_told t.turn.ins) t.writes
+  pub words : AllByRecursion (λ w. w.words ≤ most_reported t.turn.ins) t.writes
   pub exit : IfSome t.turn.ins (λ i. is_exit i ≡ true → t.writes ≡ [])
 
 -- ---- parts of a turn
 
--- the name that a primitive reads besides the running frame: that of the application that delegated to it, if there is one
+-- the name that a primitive reads besides the running frame: that of the application that delegated to it, if there is
+-- one
 abbrev pub delegator_of : (ℕ → Option (List ℕ)) → List Held → Option (List ℕ)
 delegator_of named [] = None
 delegator_of named (h ∷ hs) = named h.slot
@@ -153,8 +157,8 @@ abbrev pub FrameExits : Chained → Chained → Option End → List Held → Typ
 FrameExits c d result [] = (d ≡ c) × (result ≡ Some (last_end c.public))
 FrameExits c d result (h ∷ hs) = (d ≡ record c { running = h; below = hs }) × (result ≡ None)
 
--- what follows an instruction of a settled chain, and the record of the turn: after an abend it has the registers from before the
--- instruction
+-- what follows an instruction of a settled chain, and the record of the turn: after an abend it has the registers from
+-- before the instruction
 abbrev pub Followed : BankState → (ℕ → Option (List ℕ)) → Chained → Chained → Ins → Step → Step → Follows → Type 0
 Followed s named c d i before step (Continues next) = RunsAs s named d next × (step ≡ step_of_frame c.running (Some i) None)
 Followed s named c d i before step (Ends (model.Reply body sw)) =

@@ -13,8 +13,8 @@ pub fn rows_see()
         → seen_end f.fixed (row i f public x) ≡ seen_end g.fixed (row i g public x) }
 {}
 
-/// A row that is done keeps its frame's application and sizes, that bytes are pending only while protection is on, and the length of the
-/// public segment; its frame's static bytes are those of before with its change.
+/// A row that is done keeps its frame's application and sizes, that bytes are pending only while protection is on, and
+/// the length of the public segment; its frame's static bytes are those of before with its change.
 pub fn rows_keep()
     ensures { (i : Ins) (f : Frame) (public : List ℕ) (x : Around) → KeepsRow f public (row i f public x) }
 {}

@@ -35,18 +35,18 @@ pub enum Lone {
 /// `callee`. A `Stop` is that of the bank in the instruction's change.
 #[inline(always)]
 pub fn lone_turn<B: Bank, L: Ledger>(
+    bank: &mut B,
     frame: &mut Frame,
     public: &mut Public,
     case: u8,
     callee: &mut Option<Aid>,
-    bank: &mut B,
     steps: &mut Steps<L>,
 ) -> Result<Lone, Stop>
     requires going { (B.state bank.old).stopped ≡ false }
     requires fits { FitsBank (B.state bank.old) (B.named bank.old) frame.old }
     ensures done { (ch : ModelChain) (le left : ℕ) → left ≢ 0
         → RunsAs (B.state bank.old) (B.named bank.old) (lone_chain frame.old public.old case le left) ch
-        → LoneDone B.did B.state B.named bank.old bank.new (lone_chain frame.old public.old case le left)
+        → LoneDone B.Bank bank.old bank.new (lone_chain frame.old public.old case le left)
         (lone_chain frame.new public.new case le) ch (turn_of left ch) result callee.new }
     ensures ticks { (ch : ModelChain) (le left : ℕ) → left ≢ 0
         → RunsAs (B.state bank.old) (B.named bank.old) (lone_chain frame.old public.old case le left) ch
@@ -60,32 +60,32 @@ pub fn lone_turn<B: Bank, L: Ledger>(
     };
     steps.tick();
     frame.go(next);
-    perform_lone(&ins, frame, public, case, callee, bank)
+    perform_lone(bank, frame, public, &ins, case, callee)
 }
 
 // Executes an instruction of an application that nobody delegated to, whose code address is already after it.
 #[inline(always)]
 fn perform_lone<B: Bank>(
-    ins: &Ins,
+    bank: &mut B,
     frame: &mut Frame,
     public: &mut Public,
+    ins: &Ins,
     case: u8,
     callee: &mut Option<Aid>,
-    bank: &mut B,
 ) -> Result<Lone, Stop>
     requires going { (B.state bank.old).stopped ≡ false }
     requires fits { FitsBank (B.state bank.old) (B.named bank.old) frame.old }
     requires shaped { Shaped ins.now }
-    ensures acts { LoneActs B.did B.state B.named
+    ensures acts { LoneActs B.Bank
         (scene bank.old bank.new frame.old frame.new public.old public.new) ins.now
         (record { case = case; delegator = None }) result callee.new }
     ensures fits { LoneFits public.new result }
 {
     match *ins {
         Ins::Prim { set, number, args } => {
-            primitive(set, number, args, frame, public, case, callee, bank)
+            primitive(bank, frame, public, set, number, args, case, callee)
         }
-        _ => after_row(step(ins, frame, public, bank), public),
+        _ => after_row(step(bank, frame, public, ins), public),
     }
 }
 
@@ -93,18 +93,18 @@ fn perform_lone<B: Bank>(
 // makes room for what it takes.
 #[inline(never)]
 fn primitive<B: Bank>(
+    bank: &mut B,
+    frame: &mut Frame,
+    public: &mut Public,
     set: u8,
     number: u8,
     args: [u8; 3],
-    frame: &mut Frame,
-    public: &mut Public,
     case: u8,
     callee: &mut Option<Aid>,
-    bank: &mut B,
 ) -> Result<Lone, Stop>
     requires going { (B.state bank.old).stopped ≡ false }
     requires fits { FitsBank (B.state bank.old) (B.named bank.old) frame.old }
-    ensures acts { LoneActs B.did B.state B.named
+    ensures acts { LoneActs B.Bank
         (scene bank.old bank.new frame.old frame.new public.old public.new) (Prim set number args)
         (record { case = case; delegator = None }) result callee.new }
     ensures fits { LoneFits public.new result }
@@ -113,7 +113,7 @@ fn primitive<B: Bank>(
         case,
         delegator: None,
     };
-    let done = prim(set, number, &args, &around, frame, public, bank);
+    let done = prim(bank, frame, public, set, number, &args, &around);
     after_primitive(done, public, callee)
 }
 

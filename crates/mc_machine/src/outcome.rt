@@ -104,7 +104,7 @@ impl Step {
 }
 
 /// Returns the record of a turn with the present registers of a frame.
-pub fn told(frame: &Frame, ins: Option<Ins>, end: Option<End>) -> Step
+pub fn reported(frame: &Frame, ins: Option<Ins>, end: Option<End>) -> Step
     ensures { result ≡ record {
       ins = ins;
       dt = frame.now.frame.dt;

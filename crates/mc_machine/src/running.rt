@@ -21,17 +21,18 @@ use mc_base::{Aid, Steps, Stop};
 use mc_segs::{Abend, Frame, Public, Session};
 use std::sync::ledger::Ledger;
 
-/// Runs a command for the application of slot `first`, from its first turn to its end, and returns its outcome: a reply of
-/// ISO/IEC 7816-4 or an abend.
+/// Runs a command for the application of slot `first`, from its first turn to its end, and returns its outcome: a reply
+/// of ISO/IEC 7816-4 or an abend.
 ///
-/// `session` is the session bytes of the selection, which the run changes. `budget` is 1 to 65,536 instructions. Each change of static
-/// bytes is one atomic write of at most 64 words.
+/// `session` is the session bytes of the selection, which the run changes. `budget` is 1 to 65,536 instructions. Each
+/// change of static bytes is one atomic write of at most 64 words.
 ///
 /// It is `run_into` with a reply of its own.
 ///
 /// # Errors
 ///
-/// Returns the `Stop` of the bank in a change of static bytes. The changes before it are kept, and `session` is unchanged.
+/// Returns the `Stop` of the bank in a change of static bytes. The changes before it are kept, and `session` is
+/// unchanged.
 pub fn run<B: Bank, L: Ledger>(
     bank: &mut B,
     first: Slot,
@@ -47,7 +48,7 @@ pub fn run<B: Bank, L: Ledger>(
     requires budget { budget ≤ 65536 }
     requires data { length apdu.now.body.now ≤ 1024 }
     // The atomic writes of the run are made in its order, up to the first that stops.
-    ensures writes { InOrder (ChainWrote B.did B.state) bank.old
+    ensures writes { InOrder (ChainWrote B.Bank) bank.old
         (run_of_command (B.state bank.old) (B.named bank.old) first session.old apdu.now budget).writes
         (answer_of result) bank.new }
     // Each of them touches at most 64 words.
@@ -80,16 +81,17 @@ pub fn run<B: Bank, L: Ledger>(
     }
 }
 
-/// Runs a command for the application of slot `first`, from its first turn to its end, and returns how it ends. A reply is written to
-/// `reply`, in place to avoid copying it.
+/// Runs a command for the application of slot `first`, from its first turn to its end, and returns how it ends. A reply
+/// is written to `reply`, in place to avoid copying it.
 ///
-/// `session` is the session bytes of the selection, which the run changes. `budget` is 1 to 65,536 instructions. Each change of static
-/// bytes is one atomic write of at most 64 words. After an abend the contents of `reply` are unspecified.
+/// `session` is the session bytes of the selection, which the run changes. `budget` is 1 to 65,536 instructions. Each
+/// change of static bytes is one atomic write of at most 64 words. After an abend the contents of `reply` are
+/// unspecified.
 ///
 /// # Errors
 ///
-/// Returns the `Stop` of the bank in a change of static bytes. The changes before it are kept, `session` is unchanged, and the contents of
-/// `reply` are unspecified.
+/// Returns the `Stop` of the bank in a change of static bytes. The changes before it are kept, `session` is unchanged,
+/// and the contents of `reply` are unspecified.
 pub fn run_into<B: Bank, L: Ledger>(
     bank: &mut B,
     first: Slot,
@@ -106,7 +108,7 @@ pub fn run_into<B: Bank, L: Ledger>(
     requires budget { budget ≤ 65536 }
     requires data { length apdu.now.body.now ≤ 1024 }
     // The atomic writes of the run are made in its order, up to the first that stops.
-    ensures writes { InOrder (ChainWrote B.did B.state) bank.old
+    ensures writes { InOrder (ChainWrote B.Bank) bank.old
         (run_of_command (B.state bank.old) (B.named bank.old) first session.old apdu.now budget).writes
         (answer_of result) bank.new }
     // Each of them touches at most 64 words.
@@ -150,11 +152,12 @@ fn run_turns<B: Bank, L: Ledger>(
     requires some { 1 ≤ budget }
     requires budget { budget ≤ 65536 }
     requires data { length apdu.now.body.now ≤ 1024 }
-    ensures { RanDone B.did B.state bank.old bank.new session.old session.new steps.old steps.new
-        (run_of_command (B.state bank.old) (B.named bank.old) first session.old apdu.now budget) (reply_or_stop result reply.new) }
+    ensures { RanDone B.Bank bank.old bank.new session.old session.new steps.old steps.new
+        (run_of_command (B.state bank.old) (B.named bank.old) first session.old apdu.now budget)
+        (reply_or_stop result reply.new) }
 {
-    // Until it delegates, an application runs without a chain: a chain has room for three more frames, and making it takes longer
-    // than a short command.
+    // Until it delegates, an application runs without a chain: a chain has room for three more frames, and making it
+    // takes longer than a short command.
     let mut frame = first_frame(bank, first, session);
     let mut public = Public::blank();
     public.open(apdu);
@@ -162,7 +165,7 @@ fn run_turns<B: Bank, L: Ledger>(
     let le = apdu.le.unwrap_or(0);
     let mut callee = None;
     for turn in 0..budget {
-        match lone_turn(&mut frame, &mut public, case, &mut callee, bank, steps)? {
+        match lone_turn(bank, &mut frame, &mut public, case, &mut callee, steps)? {
             Lone::Goes => {}
             Lone::Ends(end) => {
                 frame.keep_session(session);
@@ -173,7 +176,7 @@ fn run_turns<B: Bank, L: Ledger>(
                 let left = budget - turn - 1;
                 let aid = callee.unwrap();
                 return run_chain(
-                    frame, public, case, le, left, &aid, bank, session, reply, steps,
+                    bank, frame, public, case, le, left, &aid, session, reply, steps,
                 );
             }
         }
@@ -186,22 +189,22 @@ fn run_turns<B: Bank, L: Ledger>(
 #[cold]
 #[inline(never)]
 fn run_chain<B: Bank, L: Ledger>(
+    bank: &mut B,
     frame: Frame,
     public: Public,
     case: u8,
     le: u16,
     left: u32,
     aid: &Aid,
-    bank: &mut B,
     session: &mut Session,
     reply: &mut Reply,
     steps: &mut Steps<L>,
 ) -> Result<End, Stop>
     requires going { (B.state bank.old).stopped ≡ false }
-    requires fits { FitsChain (B.state bank.old) (B.named bank.old) (lone_chain frame public case le left) }
+    requires fits { FitsChain B.Bank bank.old (lone_chain frame public case le left) }
     requires left { left ≤ 65536 }
     ensures { (ch : ModelChain) → RunsAs (B.state bank.old) (B.named bank.old) (lone_chain frame public case le left) ch
-        → RanDone B.did B.state bank.old bank.new session.old session.new steps.old steps.new
+        → RanDone B.Bank bank.old bank.new session.old session.new steps.old steps.new
         (run_of_chain left (chain_after_call ch aid.now (lookup ch.map aid.now))) (reply_or_stop result reply.new) }
 {
     let mut chain = Chain {
@@ -213,27 +216,27 @@ fn run_chain<B: Bank, L: Ledger>(
         left,
     };
     chain.call(bank, aid);
-    finish(&mut chain, left, bank, session, reply, steps)
+    finish(bank, &mut chain, left, session, reply, steps)
 }
 
 // Runs the turns of a chain to its end.
 fn finish<B: Bank, L: Ledger>(
+    bank: &mut B,
     chain: &mut Chain,
     left: u32,
-    bank: &mut B,
     session: &mut Session,
     reply: &mut Reply,
     steps: &mut Steps<L>,
 ) -> Result<End, Stop>
     requires going { (B.state bank.old).stopped ≡ false }
-    requires fits { FitsChain (B.state bank.old) (B.named bank.old) chain.old }
+    requires fits { FitsChain B.Bank bank.old chain.old }
     requires left { chain.old.left ≡ left }
     ensures { (ch : ModelChain) → RunsAs (B.state bank.old) (B.named bank.old) chain.old ch
-        → RanDone B.did B.state bank.old bank.new session.old session.new steps.old steps.new (run_of_chain left ch)
+        → RanDone B.Bank bank.old bank.new session.old session.new steps.old steps.new (run_of_chain left ch)
         (reply_or_stop result reply.new) }
 {
     for _turn in 0..left {
-        if let Some(end) = act(chain, bank, steps)?.end {
+        if let Some(end) = act(bank, chain, steps)?.end {
             *session = chain.session();
             chain.put_end(end, reply);
             return Ok(end);

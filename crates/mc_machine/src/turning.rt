@@ -14,7 +14,7 @@ ghost use Rattle.mc_machine.specs.Turns.{delegator_of, has_frame, AllFitBank, ou
 
 use crate::chain::Chain;
 use crate::fetch::fetch;
-use crate::outcome::{End, Outcome, Step, Turn, last_exit, told};
+use crate::outcome::{End, Outcome, Step, Turn, last_exit, reported};
 use crate::waiting::Waiting;
 use mc_bank::Bank;
 use mc_base::{Aid, Steps, Stop};
@@ -42,14 +42,14 @@ const NOT_ALLOWED: u16 = 0x6985;
 ///
 /// Returns the `Stop` of the bank in that change.
 pub fn turn<B: Bank, L: Ledger>(
-    chain: &mut Chain,
     bank: &mut B,
+    chain: &mut Chain,
     steps: &mut Steps<L>,
 ) -> Result<Turn, Stop>
     requires going { (B.state bank.old).stopped ≡ false }
-    requires fits { FitsChain (B.state bank.old) (B.named bank.old) chain.old }
+    requires fits { FitsChain B.Bank bank.old chain.old }
     ensures done { (ch : ModelChain) → RunsAs (B.state bank.old) (B.named bank.old) chain.old ch
-        → TurnDone B.did B.state B.named bank.old bank.new chain.old chain.new ch (turn_of chain.old.left ch) result }
+        → TurnDone B.Bank bank.old bank.new chain.old chain.new ch (turn_of chain.old.left ch) result }
     ensures ticks { (ch : ModelChain) → RunsAs (B.state bank.old) (B.named bank.old) chain.old ch
         → steps.new ≡ steps.old + (turn_of chain.old.left ch).count }
     ensures few { (ch : ModelChain) → RunsAs (B.state bank.old) (B.named bank.old) chain.old ch
@@ -65,7 +65,7 @@ pub fn turn<B: Bank, L: Ledger>(
         dt,
         flags,
         end,
-    } = act(chain, bank, steps)?;
+    } = act(bank, chain, steps)?;
     let end = chain.outcome_of(end);
     Ok(Turn {
         depth,
@@ -79,14 +79,14 @@ pub fn turn<B: Bank, L: Ledger>(
 
 /// Runs one turn as `turn` does, and returns its record without its place, which has fewer bytes.
 pub fn act<B: Bank, L: Ledger>(
-    chain: &mut Chain,
     bank: &mut B,
+    chain: &mut Chain,
     steps: &mut Steps<L>,
 ) -> Result<Step, Stop>
     requires going { (B.state bank.old).stopped ≡ false }
-    requires fits { FitsChain (B.state bank.old) (B.named bank.old) chain.old }
+    requires fits { FitsChain B.Bank bank.old chain.old }
     ensures done { (ch : ModelChain) → RunsAs (B.state bank.old) (B.named bank.old) chain.old ch
-        → ActDone B.did B.state B.named bank.old bank.new chain.old chain.new ch (turn_of chain.old.left ch) result }
+        → ActDone B.Bank bank.old bank.new chain.old chain.new ch (turn_of chain.old.left ch) result }
     ensures ticks { (ch : ModelChain) → RunsAs (B.state bank.old) (B.named bank.old) chain.old ch
         → steps.new ≡ steps.old + (turn_of chain.old.left ch).count }
     ensures few { (ch : ModelChain) → RunsAs (B.state bank.old) (B.named bank.old) chain.old ch
@@ -94,7 +94,7 @@ pub fn act<B: Bank, L: Ledger>(
     ensures ends { IfOk result (λ step. IfSome step.end (λ end. EndFits chain.new.public end)) }
     ensures shaped { IfOk result (λ step. IfSome step.ins Shaped) }
 {
-    let before = told(&chain.running, None, None);
+    let before = reported(&chain.running, None, None);
     if chain.left == 0 {
         return Ok(before.abends(Abend::A07));
     }
@@ -109,8 +109,8 @@ pub fn act<B: Bank, L: Ledger>(
         ins: Some(ins),
         ..before
     };
-    match perform(&ins, chain, bank) {
-        Ok(next) => Ok(follow(next, ins, before, chain, bank)),
+    match perform(bank, &ins, chain) {
+        Ok(next) => Ok(follow(bank, next, ins, before, chain)),
         Err(halt) => before.halts(halt),
     }
 }
@@ -131,12 +131,12 @@ impl Step {
 }
 
 // Executes an instruction of the running frame, whose code address is already after it.
-fn perform<B: Bank>(ins: &Ins, chain: &mut Chain, bank: &mut B) -> Result<Next, Halt>
+fn perform<B: Bank>(bank: &mut B, ins: &Ins, chain: &mut Chain) -> Result<Next, Halt>
     requires going { (B.state bank.old).stopped ≡ false }
     requires fits { FitsBank (B.state bank.old) (B.named bank.old) chain.old.running }
     requires waiting { AllFitBank (B.state bank.old) (B.named bank.old) chain.old.below }
     requires shaped { Shaped ins.now }
-    ensures acts { RowActs B.did B.state B.named
+    ensures acts { RowActs B.Bank
         (scene bank.old bank.new chain.old.running chain.new.running chain.old.public chain.new.public) ins.now
         (record { case = chain.old.case; delegator = delegator_of (B.named bank.old) chain.old.below }) result }
     ensures others { chain.new ≡ record chain.old { running = chain.new.running; public = chain.new.public } }
@@ -148,16 +148,16 @@ fn perform<B: Bank>(ins: &Ins, chain: &mut Chain, bank: &mut B) -> Result<Next, 
                 delegator: chain.delegator(bank),
             };
             prim(
+                bank,
+                &mut chain.running,
+                &mut chain.public,
                 *set,
                 *number,
                 args,
                 &around,
-                &mut chain.running,
-                &mut chain.public,
-                bank,
             )
         }
-        _ => next_of(step(ins, &mut chain.running, &mut chain.public, bank)),
+        _ => next_of(step(bank, &mut chain.running, &mut chain.public, ins)),
     }
 }
 
@@ -174,9 +174,9 @@ fn next_of(done: Result<Flow, Halt>) -> Result<Next, Halt>
 
 // Does what follows an instruction that was done, and returns the record of the turn: if the chain ends by an
 // abend, it has the registers from before the instruction.
-fn follow<B: Bank>(next: Next, ins: Ins, before: Step, chain: &mut Chain, bank: &B) -> Step
+fn follow<B: Bank>(bank: &B, next: Next, ins: Ins, before: Step, chain: &mut Chain) -> Step
     requires going { (B.state bank.now).stopped ≡ false }
-    requires fits { FitsChain (B.state bank.now) (B.named bank.now) chain.old }
+    requires fits { FitsChain B.Bank bank.now chain.old }
     ensures follows { (ch : ModelChain) → RunsAs (B.state bank.now) (B.named bank.now) chain.old ch
         → Followed (B.state bank.now) (B.named bank.now) chain.old chain.new ins before result
         (follows ch (then_of next)) }
@@ -185,7 +185,7 @@ fn follow<B: Bank>(next: Next, ins: Ins, before: Step, chain: &mut Chain, bank: 
     ensures ends { IfSome result.end (λ end. EndFits chain.new.public end) }
     ensures shaped { Shaped ins → IfSome before.ins Shaped → IfSome result.ins Shaped }
 {
-    let after = told(&chain.running, Some(ins), None);
+    let after = reported(&chain.running, Some(ins), None);
     match next {
         Next::Go => after,
         Next::Exit => match chain.leave() {
@@ -275,9 +275,10 @@ impl Chain {
     // full; else its application runs on top, with zero session bytes.
     pub(crate) fn call<B: Bank>(&mut self, bank: &B, aid: &Aid)
         requires going { (B.state bank.now).stopped ≡ false }
-        requires fits { FitsChain (B.state bank.now) (B.named bank.now) self.old }
+        requires fits { FitsChain B.Bank bank.now self.old }
         ensures runs { (ch : ModelChain) → RunsAs (B.state bank.now) (B.named bank.now) self.old ch
-            → RunsAs (B.state bank.now) (B.named bank.now) self.new (chain_after_call ch aid.now (lookup ch.map aid.now)) }
+            → RunsAs (B.state bank.now) (B.named bank.now) self.new
+            (chain_after_call ch aid.now (lookup ch.map aid.now)) }
         ensures left { self.new.left ≡ self.old.left }
         ensures le { self.new.le ≡ self.old.le }
     {

@@ -7,12 +7,12 @@ use Rattle.mc_model_card.specs.declared.card.Part.TheVariants.{Code, Data, Dir, 
 use Rattle.mc_model_card.specs.Items.{Site}
 use Rattle.mc_model_card.specs.Manager.{Open}
 use Rattle.mc_bank.specs.Bank.{IsGoodSite}
-use Rattle.mc_manager.specs.ManagerState.{BankView, Loaded, ManagerState, open_of, seat_of, FitsLoad, ManagerFits}
+use Rattle.mc_manager.specs.ManagerState.{BankView, Loaded, ManagerState, open_of, session_state_of, FitsLoad, ManagerFits}
 
 -- every slot keeps its name, and every good site is good and keeps its bytes
 pub record KeepsSlotsAndSites (v w : BankView) : Type 0 where
   pub slots : (k : ℕ) (n : List ℕ) → v.named k ≡ Some n → w.named k ≡ Some n
-  pub sites : (s : Site) → IsGoodSite v.state.apps v.room s → IsGoodSite w.state.apps w.room s × ((p : Part) → w.standing s p ≡ v.standing s p)
+  pub sites : (s : Site) → IsGoodSite v.state.apps v.room s → IsGoodSite w.state.apps w.room s × ((p : Part) → w.site_bytes s p ≡ v.site_bytes s p)
 
 load_kept : (v w : BankView) (l : Loaded) → KeepsSlotsAndSites v w → FitsLoad v l → FitsLoad w l
 load_kept v w l h fits =
@@ -27,7 +27,7 @@ load_kept v w l h fits =
 pub fits_kept : (v w : BankView) (m : ManagerState) → KeepsSlotsAndSites v w → ManagerFits v m → ManagerFits w m
 fits_kept v w m h fits = record { selected = λ s is. h.slots s.slot s.aid (fits.selected s is); load = λ l is. load_kept v w l h (fits.load l is) }
 
-open_kept : (v w : BankView) (l : Loaded) → KeepsSlotsAndSites v w → FitsLoad v l → open_of w.standing l ≡ open_of v.standing l
+open_kept : (v w : BankView) (l : Loaded) → KeepsSlotsAndSites v w → FitsLoad v l → open_of w.site_bytes l ≡ open_of v.site_bytes l
 open_kept v w l h fits =
     let site = h.sites l.site fits.good in
     let code = site.1 Code in
@@ -36,9 +36,9 @@ open_kept v w l h fits =
     let fci = site.1 Fci in
     cc
 
-pub seat_kept : (v w : BankView) (m : ManagerState) → KeepsSlotsAndSites v w → ManagerFits v m → (s : List ℕ) → seat_of w.standing s m ≡ seat_of v.standing s m
-seat_kept v w m h fits s = ap (λ (x : Option Open). record (seat_of v.standing s m) { load = x }) (by_load m.load fits.load)
+pub session_state_kept : (v w : BankView) (m : ManagerState) → KeepsSlotsAndSites v w → ManagerFits v m → (s : List ℕ) → session_state_of w.site_bytes s m ≡ session_state_of v.site_bytes s m
+session_state_kept v w m h fits s = ap (λ (x : Option Open). record (session_state_of v.site_bytes s m) { load = x }) (by_load m.load fits.load)
   where
-    by_load : (x : Option Loaded) → ForSome x (FitsLoad v) → option_map (open_of w.standing) x ≡ option_map (open_of v.standing) x
+    by_load : (x : Option Loaded) → ForSome x (FitsLoad v) → option_map (open_of w.site_bytes) x ≡ option_map (open_of v.site_bytes) x
     by_load None f = refl
     by_load (Some l) f = ap (λ (o : Open). Some o) (open_kept v w l h (f l refl))

@@ -50,16 +50,16 @@ four_equal a b c d e f g k h = by_tests (a == b) (c == d) (e == f) (g == k) refl
 
 -- ---- the bytes that a section has received
 
-pub length_front : (v : BankView) (l : Loaded) (p : Part) → FitsLoad v l → length (got_at v.standing l p) ≡ got_len p l
-length_front v l p h = length-take-le (got_len p l) (v.standing l.site p) (subst (λ (n : ℕ). got_len p l ≤ n) (sym (h.parts p)) (h.within p))
+pub length_front : (v : BankView) (l : Loaded) (p : Part) → FitsLoad v l → length (got_at v.site_bytes l p) ≡ got_len p l
+length_front v l p h = length-take-le (got_len p l) (v.site_bytes l.site p) (subst (λ (n : ℕ). got_len p l ≤ n) (sym (h.parts p)) (h.within p))
 
-pub got_is : (v : BankView) (l : Loaded) (p : Part) → got_of p (open_of v.standing l).got ≡ got_at v.standing l p
+pub got_is : (v : BankView) (l : Loaded) (p : Part) → got_of p (open_of v.site_bytes l).got ≡ got_at v.site_bytes l p
 got_is v l Code = refl
 got_is v l Data = refl
 got_is v l Dir = refl
 got_is v l Fci = refl
 
-pub length_got : (v : BankView) (l : Loaded) (p : Part) → FitsLoad v l → length (got_of p (open_of v.standing l).got) ≡ got_len p l
+pub length_got : (v : BankView) (l : Loaded) (p : Part) → FitsLoad v l → length (got_of p (open_of v.site_bytes l).got) ≡ got_len p l
 length_got v l p h = ap length (got_is v l p) ∙ length_front v l p h
 
 pub same_size : (p : Part) (s : Sizes) → size_of p s ≡ part_len p s
@@ -109,21 +109,21 @@ more_site Fci b l = refl
 pub record IsFilled (v w : BankView) (l : Loaded) (p : Part) (b : List ℕ) : Type 0 where
   pub fits : FitsLoad v l
   pub room : got_len p l + length b ≤ part_len p l.site.sizes
-  pub piece : w.standing l.site p ≡ splice (v.standing l.site p) (got_len p l) b
-  pub others : (q : Part) → q ≢ p → w.standing l.site q ≡ v.standing l.site q
+  pub piece : w.site_bytes l.site p ≡ splice (v.site_bytes l.site p) (got_len p l) b
+  pub others : (q : Part) → q ≢ p → w.site_bytes l.site q ≡ v.site_bytes l.site q
   pub good : StayGood v.state.apps v.room w.state.apps w.room
 
-got_filled : (v w : BankView) (l : Loaded) (p : Part) (b : List ℕ) → IsFilled v w l p b → take (got_len p l + length b) (w.standing l.site p) ≡ got_at v.standing l p ++ b
+got_filled : (v w : BankView) (l : Loaded) (p : Part) (b : List ℕ) → IsFilled v w l p b → take (got_len p l + length b) (w.site_bytes l.site p) ≡ got_at v.site_bytes l p ++ b
 got_filled v w l p b h =
     let room = h.room in
     let parts = h.fits.parts p in
-    ap (take (got_len p l + length b)) h.piece ∙ front_filled (v.standing l.site p) (got_len p l) b (omega (arith, room, parts))
+    ap (take (got_len p l + length b)) h.piece ∙ front_filled (v.site_bytes l.site p) (got_len p l) b (omega (arith, room, parts))
 
 pub open_filled : (v w : BankView) (l : Loaded) (p : Part) (b : List ℕ) → IsFilled v w l p b
-    → open_of w.standing (with_more p b l) ≡ record (open_of v.standing l) { got = with_got p b (open_of v.standing l).got }
+    → open_of w.site_bytes (with_more p b l) ≡ record (open_of v.site_bytes l) { got = with_got p b (open_of v.site_bytes l).got }
 open_filled v w l p b h = by_part p h
   where
-    by_part : (p : Part) → IsFilled v w l p b → open_of w.standing (with_more p b l) ≡ record (open_of v.standing l) { got = with_got p b (open_of v.standing l).got }
+    by_part : (p : Part) → IsFilled v w l p b → open_of w.site_bytes (with_more p b l) ≡ record (open_of v.site_bytes l) { got = with_got p b (open_of v.site_bytes l).got }
     by_part Code h =
         let own = got_filled v w l Code b h in
         let init = h.others Data (λ e. cc e) in
@@ -137,7 +137,7 @@ open_filled v w l p b h = by_part p h
         let fci = h.others Fci (λ e. cc e) in
         cc
     by_part Dir h =
-        let own : take (length (l.dir ++ b)) (w.standing l.site Dir) ≡ got_at v.standing l Dir ++ b = ap (λ (k : ℕ). take k (w.standing l.site Dir)) (length-append l.dir b) ∙ got_filled v w l Dir b h in
+        let own : take (length (l.dir ++ b)) (w.site_bytes l.site Dir) ≡ got_at v.site_bytes l Dir ++ b = ap (λ (k : ℕ). take k (w.site_bytes l.site Dir)) (length-append l.dir b) ∙ got_filled v w l Dir b h in
         let code = h.others Code (λ e. cc e) in
         let init = h.others Data (λ e. cc e) in
         let fci = h.others Fci (λ e. cc e) in
@@ -153,7 +153,7 @@ pub fits_filled : (v w : BankView) (l : Loaded) (p : Part) (b : List ℕ) → Is
 fits_filled v w l p b h =
     record {
       good = subst (λ (s : Site). IsGoodSite w.state.apps w.room s) (sym (more_site p b l)) (h.good l.site h.fits.good);
-      parts = λ q. by_site (λ s. length (w.standing s q) ≡ part_len q s.sizes) (len q);
+      parts = λ q. by_site (λ s. length (w.site_bytes s q) ≡ part_len q s.sizes) (len q);
       within = λ q. by_site (λ s. got_len q (with_more p b l) ≤ part_len q s.sizes) (in_size q);
       dir = dir_same p h;
     }
@@ -161,14 +161,14 @@ fits_filled v w l p b h =
     by_site : (P : Site → Type 0) → P l.site → P (with_more p b l).site
     by_site P x = subst P (sym (more_site p b l)) x
 
-    len : (q : Part) → length (w.standing l.site q) ≡ part_len q l.site.sizes
+    len : (q : Part) → length (w.site_bytes l.site q) ≡ part_len q l.site.sizes
     len q =
         elim (same_part q p) [
           | yes is ↦
-              subst (λ (r : Part). length (w.standing l.site r) ≡ part_len r l.site.sizes) (sym is)
+              subst (λ (r : Part). length (w.site_bytes l.site r) ≡ part_len r l.site.sizes) (sym is)
               (let room = h.room in
               let parts = h.fits.parts p in
-              ap length h.piece ∙ length_splice (v.standing l.site p) (got_len p l) b (omega (arith, room, parts)) ∙ parts)
+              ap length h.piece ∙ length_splice (v.site_bytes l.site p) (got_len p l) b (omega (arith, room, parts)) ∙ parts)
           | no other ↦ ap length (h.others q other) ∙ h.fits.parts q
         ]
 
@@ -179,16 +179,16 @@ fits_filled v w l p b h =
           | no other ↦ let old = h.fits.within q in let len = more_beside p q b l other in omega (arith, old, len)
         ]
 
-    dir_same : (p : Part) → IsFilled v w l p b → got_at w.standing (with_more p b l) Dir ≡ (with_more p b l).dir
+    dir_same : (p : Part) → IsFilled v w l p b → got_at w.site_bytes (with_more p b l) Dir ≡ (with_more p b l).dir
     dir_same Code h = ap (take (length l.dir)) (h.others Dir (λ e. cc e)) ∙ h.fits.dir
     dir_same Data h = ap (take (length l.dir)) (h.others Dir (λ e. cc e)) ∙ h.fits.dir
     dir_same Dir h =
-        ap (λ (k : ℕ). take k (w.standing l.site Dir)) (length-append l.dir b) ∙ got_filled v w l Dir b h ∙ ap (λ (d : List ℕ). d ++ b) h.fits.dir
+        ap (λ (k : ℕ). take k (w.site_bytes l.site Dir)) (length-append l.dir b) ∙ got_filled v w l Dir b h ∙ ap (λ (d : List ℕ). d ++ b) h.fits.dir
     dir_same Fci h = ap (take (length l.dir)) (h.others Dir (λ e. cc e)) ∙ h.fits.dir
 
 -- ---- a creation
 
-pub complete_full : (v : BankView) (l : Loaded) → FitsLoad v l → is_complete (open_of v.standing l) ≡ is_full l
+pub complete_full : (v : BankView) (l : Loaded) → FitsLoad v l → is_complete (open_of v.site_bytes l) ≡ is_full l
 complete_full v l h =
     let code = length_front v l Code h in
     let init = length_front v l Data h in
@@ -196,10 +196,10 @@ complete_full v l h =
     let fci = length_front v l Fci h in
     cc
 
-full_part : (v : BankView) (l : Loaded) (p : Part) → FitsLoad v l → got_len p l ≡ part_len p l.site.sizes → got_at v.standing l p ≡ v.standing l.site p
-full_part v l p h is = take_all (got_len p l) (v.standing l.site p) (let parts = h.parts p in omega (arith, is, parts))
+full_part : (v : BankView) (l : Loaded) (p : Part) → FitsLoad v l → got_len p l ≡ part_len p l.site.sizes → got_at v.site_bytes l p ≡ v.site_bytes l.site p
+full_part v l p h is = take_all (got_len p l) (v.site_bytes l.site p) (let parts = h.parts p in omega (arith, is, parts))
 
-pub fresh_entered : (v : BankView) (l : Loaded) → FitsLoad v l → is_full l ≡ true → fresh (open_of v.standing l) ≡ app_of_site l.site (v.standing l.site)
+pub fresh_entered : (v : BankView) (l : Loaded) → FitsLoad v l → is_full l ≡ true → fresh (open_of v.site_bytes l) ≡ app_of_site l.site (v.site_bytes l.site)
 fresh_entered v l h full =
     let sizes : (l.code ≡ l.site.sizes.code) × (l.init ≡ l.site.sizes.init) × (length l.dir ≡ l.site.sizes.dir) × (l.fci ≡ l.site.sizes.fci) = four_equal l.code l.site.sizes.code l.init l.site.sizes.init (length l.dir) l.site.sizes.dir l.fci l.site.sizes.fci full in
     let code = full_part v l Code h sizes.0 in
@@ -208,5 +208,5 @@ fresh_entered v l h full =
     let fci = full_part v l Fci h sizes.3 in
     cc
 
-pub cannot_create : (v : BankView) (load : Option Loaded) (l : Loaded) → load ≡ Some l → FitsLoad v l → is_full l ≡ false → can_create (option_map (open_of v.standing) load) ≡ false
-cannot_create v load l is h full = ap (λ (o : Option Loaded). can_create (option_map (open_of v.standing) o)) is ∙ complete_full v l h ∙ full
+pub cannot_create : (v : BankView) (load : Option Loaded) (l : Loaded) → load ≡ Some l → FitsLoad v l → is_full l ≡ false → can_create (option_map (open_of v.site_bytes) load) ≡ false
+cannot_create v load l is h full = ap (λ (o : Option Loaded). can_create (option_map (open_of v.site_bytes) o)) is ∙ complete_full v l h ∙ full

@@ -22,7 +22,7 @@ pub record CanOpen (v : BankView) (a : ApduParts) (l : Loaded) : Type 0 where
 
 -- the conditions for a CREATE to make the application of an open load under this name
 pub record CanCreate (v : BankView) (load : Option Loaded) (a : ApduParts) (n : List ℕ) : Type 0 where
-  pub clear : first_status (create_refusals v.state.apps (option_map (open_of v.standing) load) a) ≡ None
+  pub clear : first_status (create_refusals v.state.apps (option_map (open_of v.site_bytes) load) a) ≡ None
   pub loaded : Loaded
   pub is : load ≡ Some loaded
   pub full : is_full loaded ≡ true

@@ -1,18 +1,20 @@
--- The verdict on a command by the routing and the manager's table, and its reply. Status words are those of ISO/IEC 7816-4.
+-- The verdict on a command by the routing and the manager's table, and its reply. Status words are those of ISO/IEC
+-- 7816-4.
 use Rattle.std.specs.Prelude.{◌≡◌, ◌⊎◌, ℕ, Bool, cond, ◌&&◌, ◌==◌, List, [], option_map, Option, Some, None}
 use Rattle.mc_model_machine.specs.Apdu.{ApduParts}
 use Rattle.mc_model_device.specs.Bytes.{zeros, lookup}
 use Rattle.mc_model_device.specs.Card.{App}
 use Rattle.mc_model_card.specs.Items.{Change, apps_after_change, BankItem}
-use Rattle.mc_model_card.specs.Manager.{Selected, Seat, Route, WrongLength, WrongClass, ToSelect, ToManager, ToApplication, route_of_parts, Managed, Declines, Accepts, Accepted, Open, fresh, select, manage}
+use Rattle.mc_model_card.specs.Manager.{Selected, SessionState, Route, WrongLength, WrongClass, ToSelect, ToManager, ToApplication, route_of_parts, Managed, Declines, Accepts, Accepted, Open, fresh, select, manage}
 use Rattle.mc_apdu.specs.declared.reply.Reply.{Reply}
 use Rattle.mc_bank.specs.Bank.{app_of}
 use Rattle.mc_manager.specs.declared.selection.Selection.{Selection}
 use Rattle.mc_manager.specs.declared.routed.Routed.{Routed}
 use Rattle.mc_manager.specs.declared.routed.Routed.TheVariants.{Answer, Fresh, Pass}
-use Rattle.mc_manager.specs.ManagerState.{BankView, ManagerState, seat_of}
+use Rattle.mc_manager.specs.ManagerState.{BankView, ManagerState, session_state_of}
 
--- the verdict on a command: it is refused with a status word, selects an application, is done, or is passed to the selected application
+-- the verdict on a command: it is refused with a status word, selects an application, is done, or is passed to the
+-- selected application
 pub data CommandDue : Type 0 where
   Refuses : (sw : ℕ) → CommandDue
   Selects : (done : Accepted) → CommandDue
@@ -35,16 +37,16 @@ due_application None = Refuses 0x6985
 due_application (Some s) = Passes
 
 -- the verdict on a command by its route
-abbrev pub due_on : BankView → Seat → Route → CommandDue
-due_on v seat WrongLength = Refuses 0x6700
-due_on v seat WrongClass = Refuses 0x6E00
-due_on v seat (ToSelect a) = due_select (select v.state.apps seat a)
-due_on v seat (ToManager a) = due_manager (manage v.room v.state.apps seat a)
-due_on v seat (ToApplication a) = due_application seat.selected
+abbrev pub due_on : BankView → SessionState → Route → CommandDue
+due_on v session_state WrongLength = Refuses 0x6700
+due_on v session_state WrongClass = Refuses 0x6E00
+due_on v session_state (ToSelect a) = due_select (select v.state.apps session_state a)
+due_on v session_state (ToManager a) = due_manager (manage v.room v.state.apps session_state a)
+due_on v session_state (ToApplication a) = due_application session_state.selected
 
 -- the verdict on a command, by a manager over a bank and the session bytes of the selection
 abbrev pub due : BankView → List ℕ → ManagerState → ApduParts → CommandDue
-due v session m a = due_on v (seat_of v.standing session m) (route_of_parts (Some a))
+due v session m a = due_on v (session_state_of v.site_bytes session m) (route_of_parts (Some a))
 
 -- ---- the bank
 
@@ -86,13 +88,13 @@ pub record Chosen (d : Accepted) (v : BankView) (m : ManagerState) (k : ℕ) (r 
   pub now : m'.selected ≡ Some selected
   pub slot : selected.slot ≡ k
   pub load : m'.load ≡ m.load
-  pub seat : seat_of v.standing (zeros (app_of v.state.apps (Some selected.aid)).session) m' ≡ d.seat
+  pub session_state : session_state_of v.site_bytes (zeros (app_of v.state.apps (Some selected.aid)).session) m' ≡ d.session_state
 
 -- a command of class BE that is done; the selection and its session bytes are unchanged
 pub record CommandDone (d : Accepted) (session : List ℕ) (m : ManagerState) (r : Reply) (v' : BankView) (m' : ManagerState) : Type 0 where
   pub reply : RepliesWith d.body 0x9000 r
   pub selected : m'.selected ≡ m.selected
-  pub seat : seat_of v'.standing session m' ≡ d.seat
+  pub session_state : session_state_of v'.site_bytes session m' ≡ d.session_state
 
 -- a command that is passed to the application in this slot
 pub record CommandPassed (m : ManagerState) (k : ℕ) (m' : ManagerState) : Type 0 where
@@ -119,7 +121,7 @@ most_ticks a ticks = cond (is_open a) ticks 0
 
 -- ---- stale bytes
 
--- every application after a command was there before it, or is that of the open load: its code, DIR and FCI as they were sent, its data
--- as they were sent and filled with zeros, its sizes and access list those of the OPEN
+-- every application after a command was there before it, or is that of the open load: its code, DIR and FCI as they
+-- were sent, its data as they were sent and filled with zeros, its sizes and access list those of the OPEN
 abbrev pub NoneStale : Option Open → List (List ℕ × App) → List (List ℕ × App) → Type 0
 NoneStale load before after = (n : List ℕ) → (a : App) → lookup after n ≡ Some a → (lookup before n ≡ Some a) ⊎ ((o : Open) × (load ≡ Some o) × (a ≡ fresh o))

@@ -8,8 +8,9 @@ use Rattle.mc_manager.specs.declared.routed.Routed.{Routed}
 use Rattle.mc_manager.specs.ManagerState.{BankView, ManagerState, ManagerFits}
 use Rattle.mc_manager.specs.CommandDue.{CommandDue, items_of, apps_after, CommandLeaves}
 
--- The end of a command whose verdict may depend on the session bytes, which the manager does not know: its items are done in order and
--- change the applications; without a stop it is answered, the manager fits the bank again, and the bank has not stopped.
+-- The end of a command whose verdict may depend on the session bytes, which the manager does not know: its items are
+-- done in order and change the applications; without a stop it is answered, the manager fits the bank again, and the
+-- bank has not stopped.
 pub record CommandEnds {B : Type 0} (did : B → BankItem → Answer → B → Type 0) (of : List ℕ → CommandDue) (v : BankView) (m : ManagerState) (b : B) (result : Result Routed Stop) (v' : BankView) (m' : ManagerState) (b' : B) : Type 0 where
   pub items : (s : List ℕ) → InOrder did b (items_of (of s)) (answer_of result) b'
   pub apps : (s : List ℕ) → Changes v.state (apps_after (of s) v.state.apps) (answer_of result) v'.state

@@ -26,11 +26,11 @@ use mc_unit::aid_of;
 #[tactic(auto, using(crate::proofs::LoadLemmas::complete_full))]
 pub fn creation<B: Bank>(load: &Option<Load>, bank: &B, apdu: &Apdu) -> Result<Aid, Status>
     requires going { (B.state bank.now).stopped ≡ false }
-    requires fits { ForSome load.now (FitsLoad (view_of B.state B.named B.room B.standing bank.now)) }
-    ensures created { IfOk result (λ aid. CanCreate (view_of B.state B.named B.room B.standing bank.now) load.now
+    requires fits { ForSome load.now (FitsLoad (view_of B.Bank bank.now)) }
+    ensures created { IfOk result (λ aid. CanCreate (view_of B.Bank bank.now) load.now
         (parts_of apdu.now) aid) }
     ensures refused { IfErr result (λ e. first_status
-        (create_refusals (B.state bank.now).apps (option_map (open_of (B.standing bank.now)) load.now)
+        (create_refusals (B.state bank.now).apps (option_map (open_of (B.site_bytes bank.now)) load.now)
         (parts_of apdu.now)) ≡ Some (word_of e)) }
 {
     if parameters(apdu) != 0 {

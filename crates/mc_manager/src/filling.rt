@@ -20,7 +20,7 @@ use mc_base::Stop;
 #[tactic(auto, using(crate::proofs::LoadLemmas::length_got, crate::proofs::LoadLemmas::same_size))]
 pub fn load_refusal(load: &Option<Load>, part: Part, apdu: &Apdu) -> Option<Status>
     ensures { (v : BankView) → ForSome load.now (FitsLoad v)
-        → first_status (load_refusals (option_map (open_of v.standing) load.now) part (parts_of apdu.now))
+        → first_status (load_refusals (option_map (open_of v.site_bytes) load.now) part (parts_of apdu.now))
         ≡ option_map word_of result }
 {
     if apdu.body.is_empty() {
@@ -47,19 +47,19 @@ pub fn load_refusal(load: &Option<Load>, part: Part, apdu: &Apdu) -> Option<Stat
 #[tactic(auto, using(crate::proofs::LoadLemmas::fits_filled, crate::proofs::LoadLemmas::open_filled))]
 pub fn fill<B: Bank>(load: &mut Load, bank: &mut B, part: Part, piece: &[u8]) -> Result<(), Stop>
     requires going { (B.state bank.old).stopped ≡ false }
-    requires fits { FitsLoad (view_of B.state B.named B.room B.standing bank.old) load.old }
+    requires fits { FitsLoad (view_of B.Bank bank.old) load.old }
     requires room { got_len part load.old + length piece.now ≤ part_len part load.old.site.sizes }
     ensures items { InOrder B.did bank.old (map
         (λ c. Piece load.old.site part c.0 c.1) (word_parts (got_len part load.old) piece.now))
         (answer_of result) bank.new }
     ensures apps { Changes (B.state bank.old) (B.state bank.old).apps (answer_of result) (B.state bank.new) }
     ensures slots { (k : ℕ) → B.named bank.new k ≡ B.named bank.old k }
-    ensures open { OnOk result (open_of (B.standing bank.new) load.new
-        ≡ record (open_of (B.standing bank.old) load.old) {
+    ensures open { OnOk result (open_of (B.site_bytes bank.new) load.new
+        ≡ record (open_of (B.site_bytes bank.old) load.old) {
           got = with_got part piece.now
-              (open_of (B.standing bank.old) load.old).got;
+              (open_of (B.site_bytes bank.old) load.old).got;
         }) }
-    ensures fits { OnOk result (FitsLoad (view_of B.state B.named B.room B.standing bank.new) load.new) }
+    ensures fits { OnOk result (FitsLoad (view_of B.Bank bank.new) load.new) }
 {
     bank.fill(load.site(), part, load.got(part), piece)?;
     load.add(part, piece);

@@ -1,7 +1,7 @@
 ghost use Rattle.std.specs.Prelude.{◌≡◌, ℕ, List};
 ghost use Rattle.mc_model_device.specs.Orders.{Answer, InOrder};
 ghost use Rattle.mc_bank.proofs.Commits.{Words, commits};
-ghost use Rattle.mc_manager.specs.ManagerState.{view_of, ManagerState, ManagerFits, seat_of};
+ghost use Rattle.mc_manager.specs.ManagerState.{view_of, ManagerState, ManagerFits, session_state_of};
 
 use mc_bank::Bank;
 
@@ -9,9 +9,9 @@ use mc_bank::Bank;
 /// afterwards, and has the same selection and the same load.
 pub fn fits_through_commits<B: Bank>()
     ensures fits { (m : ManagerState) → (cs : List Words) → (b : B) → (a : Answer) → (e : B)
-        → InOrder B.did b (commits cs) a e → ManagerFits (view_of B.state B.named B.room B.standing b) m
-        → ManagerFits (view_of B.state B.named B.room B.standing e) m }
-    ensures seat { (m : ManagerState) → (cs : List Words) → (b : B) → (a : Answer) → (e : B)
-        → InOrder B.did b (commits cs) a e → ManagerFits (view_of B.state B.named B.room B.standing b) m → (s : List ℕ)
-        → seat_of (B.standing e) s m ≡ seat_of (B.standing b) s m }
+        → InOrder B.did b (commits cs) a e → ManagerFits (view_of B.Bank b) m
+        → ManagerFits (view_of B.Bank e) m }
+    ensures session_state { (m : ManagerState) → (cs : List Words) → (b : B) → (a : Answer) → (e : B)
+        → InOrder B.did b (commits cs) a e → ManagerFits (view_of B.Bank b) m → (s : List ℕ)
+        → session_state_of (B.site_bytes e) s m ≡ session_state_of (B.site_bytes b) s m }
 {}

@@ -3,7 +3,7 @@ ghost use Rattle.mc_model_device.specs.Orders.{InOrder, answer_of};
 ghost use Rattle.mc_model_card.specs.Manager.{select, open_load, load_part, create, delete, manage};
 ghost use Rattle.mc_apdu.specs.Command.{parts_of};
 ghost use Rattle.mc_bank.specs.Bank.{Changes};
-ghost use Rattle.mc_manager.specs.ManagerState.{BankView, view_of, selected_of, seat_of, load_of, ManagerFits};
+ghost use Rattle.mc_manager.specs.ManagerState.{BankView, view_of, selected_of, session_state_of, load_of, ManagerFits};
 ghost use Rattle.mc_manager.specs.CommandDue.{due, due_application, due_select, due_manager, CommandLeaves, most_ticks};
 ghost use Rattle.mc_manager.specs.CommandDue.{items_of, apps_after, NoneStale};
 ghost use Rattle.mc_manager.specs.Ends.{CommandEnds};
@@ -25,8 +25,8 @@ use mc_base::{Steps, Stop};
 use std::marker::Model;
 use std::sync::ledger::Ledger;
 
-/// The card manager: the selected application and the open load. The session bytes of the selection are kept by whoever runs
-/// the application.
+/// The card manager: the selected application and the open load. The session bytes of the selection are kept by whoever
+/// runs the application.
 #[derive(Debug, Drop)]
 pub struct Manager {
     selected: Option<Selection>,
@@ -53,11 +53,12 @@ impl Manager {
         }
     }
 
-    /// Runs one command and returns its answer: `Answer` with its reply, `Fresh` with the new selection and its reply, or `Pass` if the
-    /// selected application is to run it.
+    /// Runs one command and returns its answer: `Answer` with its reply, `Fresh` with the new selection and its reply,
+    /// or `Pass` if the selected application is to run it.
     ///
-    /// The class FF is refused; SELECT (00 A4 04 of ISO/IEC 7816-4) and the commands of class BE are the manager's; all else is for the
-    /// selected application. Each command is answered by the first refusal of its row, and a refusal changes nothing.
+    /// The class FF is refused; SELECT (00 A4 04 of ISO/IEC 7816-4) and the commands of class BE are the manager's; all
+    /// else is for the selected application. Each command is answered by the first refusal of its row, and a refusal
+    /// changes nothing.
     ///
     /// It is `rule` with a reply of its own.
     ///
@@ -72,28 +73,28 @@ impl Manager {
         steps: &mut Steps<L>,
     ) -> Result<Routed, Stop>
         requires going { (B.state bank.old).stopped ≡ false }
-        requires fits { ManagerFits (view_of B.state B.named B.room B.standing bank.old) self.old }
+        requires fits { ManagerFits (view_of B.Bank bank.old) self.old }
         // Its items are made on the bank in order, up to the first that stops.
         ensures items { (s : List ℕ) → InOrder B.did bank.old
-            (items_of (due (view_of B.state B.named B.room B.standing bank.old) s self.old (parts_of apdu.now)))
+            (items_of (due (view_of B.Bank bank.old) s self.old (parts_of apdu.now)))
             (answer_of result) bank.new }
         // The applications change as the row of the command has it; after a stop they are the old or the new
         // ones.
         ensures apps { (s : List ℕ) → Changes (B.state bank.old)
-            (apps_after (due (view_of B.state B.named B.room B.standing bank.old) s self.old (parts_of apdu.now))
+            (apps_after (due (view_of B.Bank bank.old) s self.old (parts_of apdu.now))
             (B.state bank.old).apps) (answer_of result) (B.state bank.new) }
         // It is answered as its row has it, or passed to the selected application: the first refusal changes
         // nothing.
         ensures leaves { (s : List ℕ) → IfOk result (λ r. CommandLeaves
-            (due (view_of B.state B.named B.room B.standing bank.old) s self.old (parts_of apdu.now)) s
-            (view_of B.state B.named B.room B.standing bank.old) self.old r
-            (view_of B.state B.named B.room B.standing bank.new) self.new) }
+            (due (view_of B.Bank bank.old) s self.old (parts_of apdu.now)) s
+            (view_of B.Bank bank.old) self.old r
+            (view_of B.Bank bank.new) self.new) }
         // The manager fits the bank again.
-        ensures fits { OnOk result (ManagerFits (view_of B.state B.named B.room B.standing bank.new) self.new) }
+        ensures fits { OnOk result (ManagerFits (view_of B.Bank bank.new) self.new) }
         // The bank has not stopped.
         ensures going { OnOk result ((B.state bank.new).stopped ≡ false) }
         // An application that is on the card now was there before, or consists of what its own load sent.
-        ensures no_stale_byte { NoneStale (load_of (B.standing bank.old) self.old) (B.state bank.old).apps
+        ensures no_stale_byte { NoneStale (load_of (B.site_bytes bank.old) self.old) (B.state bank.old).apps
             (B.state bank.new).apps }
         // The number of steps never falls.
         ensures rises { steps.old ≤ steps.new }
@@ -111,11 +112,13 @@ impl Manager {
         }
     }
 
-    /// Runs one command and returns how it is dealt with: `Answer` or `Fresh`, with the reply written to `reply`, or `Pass` if the selected
-    /// application is to run it. The reply is written in place to avoid copying it; its contents are unspecified after `Pass`.
+    /// Runs one command and returns how it is dealt with: `Answer` or `Fresh`, with the reply written to `reply`, or
+    /// `Pass` if the selected application is to run it. The reply is written in place to avoid copying it; its contents
+    /// are unspecified after `Pass`.
     ///
-    /// The class FF is refused; SELECT (00 A4 04 of ISO/IEC 7816-4) and the commands of class BE are the manager's; all else is for the
-    /// selected application. Each command is answered by the first refusal of its row, and a refusal changes nothing.
+    /// The class FF is refused; SELECT (00 A4 04 of ISO/IEC 7816-4) and the commands of class BE are the manager's; all
+    /// else is for the selected application. Each command is answered by the first refusal of its row, and a refusal
+    /// changes nothing.
     ///
     /// # Errors
     ///
@@ -129,28 +132,28 @@ impl Manager {
         steps: &mut Steps<L>,
     ) -> Result<Ruling, Stop>
         requires going { (B.state bank.old).stopped ≡ false }
-        requires fits { ManagerFits (view_of B.state B.named B.room B.standing bank.old) self.old }
+        requires fits { ManagerFits (view_of B.Bank bank.old) self.old }
         // Its items are made on the bank in order, up to the first that stops.
         ensures items { (s : List ℕ) → InOrder B.did bank.old
-            (items_of (due (view_of B.state B.named B.room B.standing bank.old) s self.old (parts_of apdu.now)))
+            (items_of (due (view_of B.Bank bank.old) s self.old (parts_of apdu.now)))
             (answer_of result) bank.new }
         // The applications change as the row of the command has it; after a stop they are the old or the new
         // ones.
         ensures apps { (s : List ℕ) → Changes (B.state bank.old)
-            (apps_after (due (view_of B.state B.named B.room B.standing bank.old) s self.old (parts_of apdu.now))
+            (apps_after (due (view_of B.Bank bank.old) s self.old (parts_of apdu.now))
             (B.state bank.old).apps) (answer_of result) (B.state bank.new) }
         // It is answered as its row has it, or passed to the selected application: the first refusal changes
         // nothing.
         ensures leaves { (s : List ℕ) → IfOk result (λ r. CommandLeaves
-            (due (view_of B.state B.named B.room B.standing bank.old) s self.old (parts_of apdu.now)) s
-            (view_of B.state B.named B.room B.standing bank.old) self.old (ruling_with_reply r reply.new)
-            (view_of B.state B.named B.room B.standing bank.new) self.new) }
+            (due (view_of B.Bank bank.old) s self.old (parts_of apdu.now)) s
+            (view_of B.Bank bank.old) self.old (ruling_with_reply r reply.new)
+            (view_of B.Bank bank.new) self.new) }
         // The manager fits the bank again.
-        ensures fits { OnOk result (ManagerFits (view_of B.state B.named B.room B.standing bank.new) self.new) }
+        ensures fits { OnOk result (ManagerFits (view_of B.Bank bank.new) self.new) }
         // The bank has not stopped.
         ensures going { OnOk result ((B.state bank.new).stopped ≡ false) }
         // An application that is on the card now was there before, or consists of what its own load sent.
-        ensures no_stale_byte { NoneStale (load_of (B.standing bank.old) self.old) (B.state bank.old).apps
+        ensures no_stale_byte { NoneStale (load_of (B.site_bytes bank.old) self.old) (B.state bank.old).apps
             (B.state bank.new).apps }
         // The number of steps never falls.
         ensures rises { steps.old ≤ steps.new }
@@ -170,11 +173,11 @@ impl Manager {
         steps: &mut Steps<L>,
     ) -> Result<Ruling, Stop>
         requires going { (B.state bank.old).stopped ≡ false }
-        requires fits { ManagerFits (view_of B.state B.named B.room B.standing bank.old) self.old }
-        ensures ends { CommandEnds B.did (λ s. due (view_of B.state B.named B.room B.standing bank.old) s self.old
-            (parts_of apdu.now)) (view_of B.state B.named B.room B.standing bank.old) self.old bank.old
-            (ruling_or_stop result reply.new) (view_of B.state B.named B.room B.standing bank.new) self.new bank.new }
-        ensures no_stale_byte { NoneStale (load_of (B.standing bank.old) self.old) (B.state bank.old).apps
+        requires fits { ManagerFits (view_of B.Bank bank.old) self.old }
+        ensures ends { CommandEnds B.did (λ s. due (view_of B.Bank bank.old) s self.old
+            (parts_of apdu.now)) (view_of B.Bank bank.old) self.old bank.old
+            (ruling_or_stop result reply.new) (view_of B.Bank bank.new) self.new bank.new }
+        ensures no_stale_byte { NoneStale (load_of (B.site_bytes bank.old) self.old) (B.state bank.old).apps
             (B.state bank.new).apps }
         ensures rises { steps.old ≤ steps.new }
         ensures ticks { steps.new ≤ steps.old + most_ticks (parts_of apdu.now) (B.state bank.old).ticks }
@@ -202,11 +205,11 @@ impl Manager {
         steps: &mut Steps<L>,
     ) -> Result<Ruling, Stop>
         requires going { (B.state bank.old).stopped ≡ false }
-        requires fits { ManagerFits (view_of B.state B.named B.room B.standing bank.old) self.old }
+        requires fits { ManagerFits (view_of B.Bank bank.old) self.old }
         ensures ends { CommandEnds B.did (λ s. due_manager
-            (manage (B.room bank.old) (B.state bank.old).apps (seat_of (B.standing bank.old) s self.old)
-            (parts_of apdu.now))) (view_of B.state B.named B.room B.standing bank.old) self.old bank.old
-            (ruling_or_stop result reply.new) (view_of B.state B.named B.room B.standing bank.new) self.new bank.new }
+            (manage (B.room bank.old) (B.state bank.old).apps (session_state_of (B.site_bytes bank.old) s self.old)
+            (parts_of apdu.now))) (view_of B.Bank bank.old) self.old bank.old
+            (ruling_or_stop result reply.new) (view_of B.Bank bank.new) self.new bank.new }
         ensures rises { steps.old ≤ steps.new }
         ensures ticks { steps.new ≤ steps.old + cond (apdu.now.ins == 0x12) (B.state bank.old).ticks 0 }
     {
@@ -243,11 +246,12 @@ impl Manager {
     // SELECT: 00 A4 04.
     fn select<B: Bank>(&mut self, bank: &B, apdu: &Apdu, reply: &mut Reply) -> Ruling
         requires going { (B.state bank.now).stopped ≡ false }
-        requires fits { ManagerFits (view_of B.state B.named B.room B.standing bank.now) self.old }
+        requires fits { ManagerFits (view_of B.Bank bank.now) self.old }
         ensures { CommandEnds B.did (λ s. due_select
-            (select (B.state bank.now).apps (seat_of (B.standing bank.now) s self.old) (parts_of apdu.now)))
-            (view_of B.state B.named B.room B.standing bank.now) self.old bank.now (Ok (ruling_with_reply result reply.new))
-            (view_of B.state B.named B.room B.standing bank.now) self.new bank.now }
+            (select (B.state bank.now).apps (session_state_of (B.site_bytes bank.now) s self.old) (parts_of apdu.now)))
+            (view_of B.Bank bank.now) self.old bank.now
+            (Ok (ruling_with_reply result reply.new))
+            (view_of B.Bank bank.now) self.new bank.now }
     {
         let selection = match selection(bank, apdu) {
             Err(refusal) => {
@@ -271,11 +275,12 @@ impl Manager {
         steps: &mut Steps<L>,
     ) -> Ruling
         requires going { (B.state bank.now).stopped ≡ false }
-        requires fits { ManagerFits (view_of B.state B.named B.room B.standing bank.now) self.old }
+        requires fits { ManagerFits (view_of B.Bank bank.now) self.old }
         ensures ends { CommandEnds B.did (λ s. due_manager
-            (open_load (B.room bank.now) (B.state bank.now).apps (seat_of (B.standing bank.now) s self.old)
-            (parts_of apdu.now))) (view_of B.state B.named B.room B.standing bank.now) self.old bank.now
-            (Ok (ruling_with_reply result reply.new)) (view_of B.state B.named B.room B.standing bank.now) self.new bank.now }
+            (open_load (B.room bank.now) (B.state bank.now).apps (session_state_of (B.site_bytes bank.now) s self.old)
+            (parts_of apdu.now))) (view_of B.Bank bank.now) self.old bank.now
+            (Ok (ruling_with_reply result reply.new))
+            (view_of B.Bank bank.now) self.new bank.now }
         ensures rises { steps.old ≤ steps.new }
         ensures ticks { steps.new ≤ steps.old + (B.state bank.now).ticks }
     {
@@ -301,11 +306,11 @@ impl Manager {
         reply: &mut Reply,
     ) -> Result<Ruling, Stop>
         requires going { (B.state bank.old).stopped ≡ false }
-        requires fits { ManagerFits (view_of B.state B.named B.room B.standing bank.old) self.old }
+        requires fits { ManagerFits (view_of B.Bank bank.old) self.old }
         ensures { CommandEnds B.did (λ s. due_manager
-            (load_part part (seat_of (B.standing bank.old) s self.old) (parts_of apdu.now)))
-            (view_of B.state B.named B.room B.standing bank.old) self.old bank.old (ruling_or_stop result reply.new)
-            (view_of B.state B.named B.room B.standing bank.new) self.new bank.new }
+            (load_part part (session_state_of (B.site_bytes bank.old) s self.old) (parts_of apdu.now)))
+            (view_of B.Bank bank.old) self.old bank.old (ruling_or_stop result reply.new)
+            (view_of B.Bank bank.new) self.new bank.new }
     {
         if let Some(refusal) = load_refusal(&self.load, part, apdu) {
             refusal.say(reply);
@@ -328,11 +333,11 @@ impl Manager {
         reply: &mut Reply,
     ) -> Result<Ruling, Stop>
         requires going { (B.state bank.old).stopped ≡ false }
-        requires fits { ManagerFits (view_of B.state B.named B.room B.standing bank.old) self.old }
+        requires fits { ManagerFits (view_of B.Bank bank.old) self.old }
         ensures { CommandEnds B.did (λ s. due_manager
-            (create (B.state bank.old).apps (seat_of (B.standing bank.old) s self.old) (parts_of apdu.now)))
-            (view_of B.state B.named B.room B.standing bank.old) self.old bank.old (ruling_or_stop result reply.new)
-            (view_of B.state B.named B.room B.standing bank.new) self.new bank.new }
+            (create (B.state bank.old).apps (session_state_of (B.site_bytes bank.old) s self.old) (parts_of apdu.now)))
+            (view_of B.Bank bank.old) self.old bank.old (ruling_or_stop result reply.new)
+            (view_of B.Bank bank.new) self.new bank.new }
     {
         let aid = match creation(&self.load, bank, apdu) {
             Err(refusal) => {
@@ -359,11 +364,11 @@ impl Manager {
         reply: &mut Reply,
     ) -> Result<Ruling, Stop>
         requires going { (B.state bank.old).stopped ≡ false }
-        requires fits { ManagerFits (view_of B.state B.named B.room B.standing bank.old) self.old }
+        requires fits { ManagerFits (view_of B.Bank bank.old) self.old }
         ensures { CommandEnds B.did (λ s. due_manager
-            (delete (B.state bank.old).apps (seat_of (B.standing bank.old) s self.old) (parts_of apdu.now)))
-            (view_of B.state B.named B.room B.standing bank.old) self.old bank.old (ruling_or_stop result reply.new)
-            (view_of B.state B.named B.room B.standing bank.new) self.new bank.new }
+            (delete (B.state bank.old).apps (session_state_of (B.site_bytes bank.old) s self.old) (parts_of apdu.now)))
+            (view_of B.Bank bank.old) self.old bank.old (ruling_or_stop result reply.new)
+            (view_of B.Bank bank.new) self.new bank.new }
     {
         let slot = match deletion(&self.selected, bank, apdu) {
             Err(refusal) => {

@@ -23,7 +23,7 @@ const ACCESS_LIST: u16 = 0x000F;
 /// Returns the status of its first refusal.
 pub fn open<B: Bank, L: Ledger>(bank: &B, apdu: &Apdu, steps: &mut Steps<L>) -> Result<Load, Status>
     requires going { (B.state bank.now).stopped ≡ false }
-    ensures opened { IfOk result (λ load. CanOpen (view_of B.state B.named B.room B.standing bank.now)
+    ensures opened { IfOk result (λ load. CanOpen (view_of B.Bank bank.now)
         (parts_of apdu.now) load) }
     ensures refused { IfErr result (λ e. first_status
         (open_refusals (B.room bank.now) (B.state bank.now).apps (parts_of apdu.now)) ≡ Some (word_of e)) }

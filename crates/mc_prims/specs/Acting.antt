@@ -13,23 +13,24 @@ use Rattle.mc_segs.specs.HeldFrames.{Held}
 use Rattle.mc_segs.specs.Ends.{Scene, before, EndActs}
 use Rattle.mc_segs.specs.declared.ends.Halt.{Halt}
 use Rattle.mc_segs.specs.declared.ends.Next.{Next}
+use Rattle.mc_bank.specs.declared.bank.Bank.{Ghosts}
 
 -- some surroundings, for primitives that do not depend on them
 abbrev pub alone : Around
 alone = record { case = 0; delegator = None }
 
 -- the result of a call is the abend of the first cause that holds, and else the effect `done`
-abbrev pub CausesAct : {B : Type 0} → (B → BankItem → Answer → B → Type 0) → (B → BankState) → (B → ℕ → Option (List ℕ)) → Scene B → List (Abend × Bool) → Done → Result Next Halt → Type 0
-CausesAct did state named s causes done r = EndActs did state named s (row_end (first_cause causes) done) r
+abbrev pub CausesAct : {B : Type 0} → Ghosts B → Scene B → List (Abend × Bool) → Done → Result Next Halt → Type 0
+CausesAct ghosts s causes done r = EndActs ghosts s (row_end (first_cause causes) done) r
 
 -- the result of a call is that of a primitive whose argument bytes are good and which is not denied
-abbrev pub PrimActs : {B : Type 0} → (B → BankItem → Answer → B → Type 0) → (B → BankState) → (B → ℕ → Option (List ℕ)) → Scene B → Primitive → List ℕ → Around → Result Next Halt → Type 0
-PrimActs did state named s p args x r =
-    let f = before state named s in
-    CausesAct did state named s (later_causes p args f s.public x) (prim_effect p args f s.public x) r
+abbrev pub PrimActs : {B : Type 0} → Ghosts B → Scene B → Primitive → List ℕ → Around → Result Next Halt → Type 0
+PrimActs ghosts s p args x r =
+    let f = before ghosts s in
+    CausesAct ghosts s (later_causes p args f s.public x) (prim_effect p args f s.public x) r
 
--- the top n bytes were popped and have this value, and n bytes have room on the stack again; abend 04 if the stack has fewer, and then
--- only registers have changed
+-- the top n bytes were popped and have this value, and n bytes have room on the stack again; abend 04 if the stack has
+-- fewer, and then only registers have changed
 abbrev pub Pops : {A : Type 0} → Result A Abend → A → ℕ → Held → Held → Type 0
 Pops (Ok v) value n h k = (is_under h.frame n ≡ false) × (v ≡ value) × (k ≡ record h { frame = frame_after_pop h.frame n }) × (k.frame.dt + n ≤ 0x8200)
 Pops (Err a) value n h k = (is_under h.frame n ≡ true) × (a ≡ A04) × (k.frame.dyn ≡ h.frame.dyn) × (k.frame.session ≡ h.frame.session)

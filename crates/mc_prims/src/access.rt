@@ -43,8 +43,8 @@ impl Block {
         at: u16,
         len: u8,
     ) -> Result<Block, Abend>
-        requires runs { CanRun (B.state bank.now) (B.named bank.now) frame.now }
-        ensures { ReadsBytes result (frame_on_bank (B.state bank.now) (B.named bank.now) frame.now) public.now at len }
+        requires runs { CanRun B.Bank bank.now frame.now }
+        ensures { ReadsBytes result (frame_on_bank B.Bank bank.now frame.now) public.now at len }
     {
         let mut bytes = [0; 255];
         load(bank, frame, public, at, &mut bytes[..len as usize])?;
@@ -111,8 +111,8 @@ pub fn reach<B: Bank>(
     at: u16,
     len: u8,
 ) -> Result<(), Abend>
-    requires runs { CanRun (B.state bank.now) (B.named bank.now) frame.now }
-    ensures { IfDue result (is_outside (frame_on_bank (B.state bank.now) (B.named bank.now) frame.now) at len) Abend.A03 }
+    requires runs { CanRun B.Bank bank.now frame.now }
+    ensures { IfDue result (is_outside (frame_on_bank B.Bank bank.now frame.now) at len) Abend.A03 }
 {
     Block::read(bank, frame, public, at, len)?;
     Ok(())
@@ -130,9 +130,9 @@ pub fn read_count<B: Bank>(
     public: &Public,
     at: u16,
 ) -> Result<(u8, u16), Abend>
-    requires runs { CanRun (B.state bank.now) (B.named bank.now) frame.now }
+    requires runs { CanRun B.Bank bank.now frame.now }
     requires room { length frame.now.frame.fixed ≤ 4096 }
-    ensures { ReadsCount result (frame_on_bank (B.state bank.now) (B.named bank.now) frame.now) public.now at }
+    ensures { ReadsCount result (frame_on_bank B.Bank bank.now frame.now) public.now at }
 {
     // No segment holds the address FFFF: the static segment ends at 1000, and DT is at most 8200.
     let _top = frame.dt();

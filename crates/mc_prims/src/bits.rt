@@ -25,21 +25,21 @@ pub enum Side {
 /// them, 3 only tests them. Sets Z to whether the result is zero.
 #[tactic(auto, using(crate::proofs::FrameLemmas::pushed_popped))]
 pub fn manipulate_top<B: Bank, const N: usize>(
-    op: u8,
-    mask: &[u8; N],
+    bank: &mut B,
     frame: &mut Frame,
     public: &mut Public,
-    bank: &mut B,
+    op: u8,
+    mask: &[u8; N],
 ) -> Result<Next, Halt>
-    requires runs { CanRun (B.state bank.old) (B.named bank.old) frame.old }
+    requires runs { CanRun B.Bank bank.old frame.old }
     requires op { op ≤ 3 }
     requires low { 1 ≤ N }
     requires high { N ≤ 255 }
-    ensures { CausesAct B.did B.state B.named (scene bank.old bank.new frame.old frame.new public.old public.new)
-        ((A04, is_under (frame_on_bank (B.state bank.old) (B.named bank.old) frame.old) N)
+    ensures { CausesAct B.Bank (scene bank.old bank.new frame.old frame.new public.old public.new)
+        ((A04, is_under (frame_on_bank B.Bank bank.old frame.old) N)
         ∷ []) (model.effect_and_next
-        (model.bits_done (frame_on_bank (B.state bank.old) (B.named bank.old) frame.old) public.old op
-        (top (frame_on_bank (B.state bank.old) (B.named bank.old) frame.old) N) mask.now)) result }
+        (model.bits_done (frame_on_bank B.Bank bank.old frame.old) public.old op
+        (top (frame_on_bank B.Bank bank.old frame.old) N) mask.now)) result }
 {
     let mut value = [0; N];
     pop_into(frame, &mut value)?;
@@ -76,23 +76,23 @@ fn manipulate<const N: usize>(op: u8, value: &mut [u8; N], mask: &[u8; N]) -> bo
 /// Shifts the top `len` bytes of the stack by `by` bits, and sets both flags.
 #[tactic(auto, using(crate::proofs::FrameLemmas::pushed_popped))]
 pub fn shift_top<B: Bank>(
+    bank: &mut B,
+    frame: &mut Frame,
+    public: &mut Public,
     side: Side,
     len: u8,
     by: u8,
-    frame: &mut Frame,
-    public: &mut Public,
-    bank: &mut B,
 ) -> Result<Next, Halt>
-    requires runs { CanRun (B.state bank.old) (B.named bank.old) frame.old }
+    requires runs { CanRun B.Bank bank.old frame.old }
     requires low { 1 ≤ len }
     requires high { len ≤ 16 }
     requires some { 1 ≤ by }
     requires inside { by < 8 * len }
-    ensures { CausesAct B.did B.state B.named (scene bank.old bank.new frame.old frame.new public.old public.new)
-        ((A04, is_under (frame_on_bank (B.state bank.old) (B.named bank.old) frame.old) len)
+    ensures { CausesAct B.Bank (scene bank.old bank.new frame.old frame.new public.old public.new)
+        ((A04, is_under (frame_on_bank B.Bank bank.old frame.old) len)
         ∷ []) (model.effect_and_next
-        (model.shift_effect (frame_on_bank (B.state bank.old) (B.named bank.old) frame.old) public.old
-        (shift_block side (top (frame_on_bank (B.state bank.old) (B.named bank.old) frame.old) len) by))) result }
+        (model.shift_effect (frame_on_bank B.Bank bank.old frame.old) public.old
+        (shift_block side (top (frame_on_bank B.Bank bank.old frame.old) len) by))) result }
 {
     let mut bytes = [0; 16];
     let value = &mut bytes[..len as usize];

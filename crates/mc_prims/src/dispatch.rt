@@ -11,7 +11,7 @@ use crate::bits::{Side, manipulate_top, shift_top};
 use crate::ciphers::Way;
 use crate::memory::{compare_fixed, compare_memory, copy_fixed, copy_memory, digest, look_up};
 use crate::messages::{sign_message, turn_message};
-use crate::names::{delegate, tell_delegator};
+use crate::names::{delegate, report_delegator};
 use crate::registers::{check_case, load_flags, set_protection, store_flags};
 use crate::table::Primitive;
 use mc_bank::Bank;
@@ -39,16 +39,16 @@ pub struct Around {
 /// change of static bytes.
 #[tactic(auto, unfolding(mc_model_machine::specs::Row::row, mc_model_machine::specs::Row::causes, mc_model_machine::specs::Row::effect))]
 pub fn prim<B: Bank>(
+    bank: &mut B,
+    frame: &mut Frame,
+    public: &mut Public,
     set: u8,
     number: u8,
     args: &[u8; 3],
     around: &Around,
-    frame: &mut Frame,
-    public: &mut Public,
-    bank: &mut B,
 ) -> Result<Next, Halt>
-    requires runs { CanRun (B.state bank.old) (B.named bank.old) frame.old }
-    ensures { RowActs B.did B.state B.named (scene bank.old bank.new frame.old frame.new public.old public.new)
+    requires runs { CanRun B.Bank bank.old frame.old }
+    ensures { RowActs B.Bank (scene bank.old bank.new frame.old frame.new public.old public.new)
         (Prim set number args.now) (surroundings_of around.now) result }
 {
     let Some(primitive) = Primitive::of(set, number) else {
@@ -61,58 +61,58 @@ pub fn prim<B: Bank>(
     if primitive.is_denied(sizes.deny) {
         return Err(Halt::Abend(Abend::A0A));
     }
-    run(primitive, args, around, frame, public, bank)
+    run(bank, frame, public, primitive, args, around)
 }
 
 // Executes a primitive whose argument bytes are good and which is not denied.
 #[tactic(auto, unfolding(mc_model_machine::specs::Primitives::later_causes, mc_model_machine::specs::Primitives::prim_effect))]
 fn run<B: Bank>(
+    bank: &mut B,
+    frame: &mut Frame,
+    public: &mut Public,
     primitive: Primitive,
     args: &[u8; 3],
     around: &Around,
-    frame: &mut Frame,
-    public: &mut Public,
-    bank: &mut B,
 ) -> Result<Next, Halt>
-    requires runs { CanRun (B.state bank.old) (B.named bank.old) frame.old }
+    requires runs { CanRun B.Bank bank.old frame.old }
     requires args { model.has_bad_argument (primitive_of primitive) args.now ≡ false }
     requires room { length frame.old.frame.fixed ≤ 4096 }
-    ensures { PrimActs B.did B.state B.named (scene bank.old bank.new frame.old frame.new public.old public.new)
+    ensures { PrimActs B.Bank (scene bank.old bank.new frame.old frame.new public.old public.new)
         (primitive_of primitive) args.now (surroundings_of around.now) result }
 {
     match primitive {
-        Primitive::CheckCase => check_case(around.case, frame, public, bank),
-        Primitive::LoadCcr => load_flags(frame, public, bank),
-        Primitive::StoreCcr => store_flags(frame, public, bank),
-        Primitive::Lookup => look_up(frame, public, bank),
-        Primitive::MemoryCompare => compare_memory(frame, public, bank),
-        Primitive::MemoryCopy => copy_memory(frame, public, bank),
-        Primitive::Delegate => delegate(frame, public, bank),
-        Primitive::DelegatorAid => tell_delegator(around.delegator, frame, public, bank),
-        Primitive::Digest => digest(frame, public, bank),
-        Primitive::CompareFixed => compare_fixed(args, frame, public, bank),
-        Primitive::CopyFixed => copy_fixed(args, frame, public, bank),
-        Primitive::SetProtection => set_protection(args, frame, public, bank),
+        Primitive::CheckCase => check_case(bank, frame, public, around.case),
+        Primitive::LoadCcr => load_flags(bank, frame, public),
+        Primitive::StoreCcr => store_flags(bank, frame, public),
+        Primitive::Lookup => look_up(bank, frame, public),
+        Primitive::MemoryCompare => compare_memory(bank, frame, public),
+        Primitive::MemoryCopy => copy_memory(bank, frame, public),
+        Primitive::Delegate => delegate(bank, frame, public),
+        Primitive::DelegatorAid => report_delegator(bank, frame, public, around.delegator),
+        Primitive::Digest => digest(bank, frame, public),
+        Primitive::CompareFixed => compare_fixed(bank, frame, public, args),
+        Primitive::CopyFixed => copy_fixed(bank, frame, public, args),
+        Primitive::SetProtection => set_protection(bank, frame, public, args),
         Primitive::Encipher(cipher) => turn_message(
+            bank,
+            frame,
+            public,
             Way::Encipher,
             cipher,
             args[0],
-            frame,
-            public,
-            bank,
         ),
         Primitive::Decipher(cipher) => turn_message(
+            bank,
+            frame,
+            public,
             Way::Decipher,
             cipher,
             args[0],
-            frame,
-            public,
-            bank,
         ),
-        Primitive::Sign(cipher) => sign_message(cipher, args, frame, public, bank),
-        Primitive::BitByte => manipulate_top(args[0], &[args[1]], frame, public, bank),
-        Primitive::ShiftLeft => shift_top(Side::Left, args[0], args[1], frame, public, bank),
-        Primitive::ShiftRight => shift_top(Side::Right, args[0], args[1], frame, public, bank),
-        Primitive::BitWord => manipulate_top(args[0], &[args[1], args[2]], frame, public, bank),
+        Primitive::Sign(cipher) => sign_message(bank, frame, public, cipher, args),
+        Primitive::BitByte => manipulate_top(bank, frame, public, args[0], &[args[1]]),
+        Primitive::ShiftLeft => shift_top(bank, frame, public, Side::Left, args[0], args[1]),
+        Primitive::ShiftRight => shift_top(bank, frame, public, Side::Right, args[0], args[1]),
+        Primitive::BitWord => manipulate_top(bank, frame, public, args[0], &[args[1], args[2]]),
     }
 }

@@ -18,12 +18,12 @@ use sha1::Sha1;
 /// Executes Memory Copy: copies bytes. Their length and the addresses of target and source are on the stack.
 #[tactic(auto, unfolding(mc_model_machine::specs::Primitives::later_causes, mc_model_machine::specs::Primitives::prim_effect))]
 pub fn copy_memory<B: Bank>(
+    bank: &mut B,
     frame: &mut Frame,
     public: &mut Public,
-    bank: &mut B,
 ) -> Result<Next, Halt>
-    requires runs { CanRun (B.state bank.old) (B.named bank.old) frame.old }
-    ensures { PrimActs B.did B.state B.named
+    requires runs { CanRun B.Bank bank.old frame.old }
+    ensures { PrimActs B.Bank
         (scene bank.old bank.new frame.old frame.new public.old public.new) MemoryCopy [] alone result }
 {
     let (len, to, from) = pop_three(frame)?;
@@ -37,14 +37,14 @@ pub fn copy_memory<B: Bank>(
 /// target and source are on the stack.
 #[tactic(auto, unfolding(mc_model_machine::specs::Primitives::later_causes, mc_model_machine::specs::Primitives::prim_effect))]
 pub fn copy_fixed<B: Bank>(
-    args: &[u8; 3],
+    bank: &mut B,
     frame: &mut Frame,
     public: &mut Public,
-    bank: &mut B,
+    args: &[u8; 3],
 ) -> Result<Next, Halt>
-    requires runs { CanRun (B.state bank.old) (B.named bank.old) frame.old }
+    requires runs { CanRun B.Bank bank.old frame.old }
     requires args { model.has_bad_argument CopyFixed args.now ≡ false }
-    ensures { PrimActs B.did B.state B.named
+    ensures { PrimActs B.Bank
         (scene bank.old bank.new frame.old frame.new public.old public.new) CopyFixed args.now alone result }
 {
     let (to, from) = pop_two(frame)?;
@@ -57,51 +57,51 @@ pub fn copy_fixed<B: Bank>(
 /// addresses are on the stack.
 #[tactic(auto, unfolding(mc_model_machine::specs::Primitives::later_causes, mc_model_machine::specs::Primitives::prim_effect))]
 pub fn compare_memory<B: Bank>(
+    bank: &mut B,
     frame: &mut Frame,
     public: &mut Public,
-    bank: &mut B,
 ) -> Result<Next, Halt>
-    requires runs { CanRun (B.state bank.old) (B.named bank.old) frame.old }
-    ensures { PrimActs B.did B.state B.named
+    requires runs { CanRun B.Bank bank.old frame.old }
+    ensures { PrimActs B.Bank
         (scene bank.old bank.new frame.old frame.new public.old public.new) MemoryCompare [] alone result }
 {
     let (len, first, second) = pop_three(frame)?;
     let len = as_length(len)?;
-    compare_bytes(len, first, second, frame, public, bank)
+    compare_bytes(bank, frame, public, len, first, second)
 }
 
 /// Executes Memory Compare Fixed Length: sets the flags of the first block minus the second, of the length in
 /// the argument byte. Their addresses are on the stack.
 #[tactic(auto, unfolding(mc_model_machine::specs::Primitives::later_causes, mc_model_machine::specs::Primitives::prim_effect))]
 pub fn compare_fixed<B: Bank>(
-    args: &[u8; 3],
+    bank: &mut B,
     frame: &mut Frame,
     public: &mut Public,
-    bank: &mut B,
+    args: &[u8; 3],
 ) -> Result<Next, Halt>
-    requires runs { CanRun (B.state bank.old) (B.named bank.old) frame.old }
+    requires runs { CanRun B.Bank bank.old frame.old }
     requires args { model.has_bad_argument CompareFixed args.now ≡ false }
-    ensures { PrimActs B.did B.state B.named
+    ensures { PrimActs B.Bank
         (scene bank.old bank.new frame.old frame.new public.old public.new) CompareFixed args.now alone result }
 {
     let (first, second) = pop_two(frame)?;
-    compare_bytes(args[0], first, second, frame, public, bank)
+    compare_bytes(bank, frame, public, args[0], first, second)
 }
 
 // Sets the flags by the difference of bytes at two addresses.
 fn compare_bytes<B: Bank>(
+    bank: &mut B,
+    frame: &mut Frame,
+    public: &mut Public,
     len: u8,
     first: u16,
     second: u16,
-    frame: &mut Frame,
-    public: &mut Public,
-    bank: &mut B,
 ) -> Result<Next, Halt>
-    requires runs { CanRun (B.state bank.old) (B.named bank.old) frame.old }
+    requires runs { CanRun B.Bank bank.old frame.old }
     requires len { 1 ≤ len }
-    ensures { CausesAct B.did B.state B.named (scene bank.old bank.new frame.old frame.new public.old public.new)
-        (compare_causes (frame_on_bank (B.state bank.old) (B.named bank.old) frame.old) len first second)
-        (flags_compared (frame_on_bank (B.state bank.old) (B.named bank.old) frame.old) public.old len first second) result }
+    ensures { CausesAct B.Bank (scene bank.old bank.new frame.old frame.new public.old public.new)
+        (compare_causes (frame_on_bank B.Bank bank.old frame.old) len first second)
+        (flags_compared (frame_on_bank B.Bank bank.old frame.old) public.old len first second) result }
 {
     let first = Block::read(bank, frame, public, first, len)?;
     let second = Block::read(bank, frame, public, second, len)?;
@@ -113,9 +113,9 @@ fn compare_bytes<B: Bank>(
 /// Executes SHA-1 (FIPS 180-4): writes the digest of a message. The length of the message and the addresses
 /// of the message and the digest are on the stack.
 #[tactic(auto, unfolding(mc_model_machine::specs::Primitives::later_causes, mc_model_machine::specs::Primitives::prim_effect))]
-pub fn digest<B: Bank>(frame: &mut Frame, public: &mut Public, bank: &mut B) -> Result<Next, Halt>
-    requires runs { CanRun (B.state bank.old) (B.named bank.old) frame.old }
-    ensures { PrimActs B.did B.state B.named
+pub fn digest<B: Bank>(bank: &mut B, frame: &mut Frame, public: &mut Public) -> Result<Next, Halt>
+    requires runs { CanRun B.Bank bank.old frame.old }
+    ensures { PrimActs B.Bank
         (scene bank.old bank.new frame.old frame.new public.old public.new) Digest [] alone result }
 {
     let (len, from, to) = pop_three(frame)?;
@@ -130,26 +130,26 @@ pub fn digest<B: Bank>(frame: &mut Frame, public: &mut Public, bank: &mut B) -> 
 /// Executes Lookup: pushes the first index of a byte, or 0, and sets Z to whether it was found. The byte and
 /// an address are on the stack; at the address are a count and the bytes among which the byte is looked up.
 #[tactic(auto, unfolding(mc_model_machine::specs::Primitives::later_causes, mc_model_machine::specs::Primitives::prim_effect))]
-pub fn look_up<B: Bank>(frame: &mut Frame, public: &mut Public, bank: &mut B) -> Result<Next, Halt>
-    requires runs { CanRun (B.state bank.old) (B.named bank.old) frame.old }
+pub fn look_up<B: Bank>(bank: &mut B, frame: &mut Frame, public: &mut Public) -> Result<Next, Halt>
+    requires runs { CanRun B.Bank bank.old frame.old }
     requires room { length frame.old.frame.fixed ≤ 4096 }
-    ensures { PrimActs B.did B.state B.named
+    ensures { PrimActs B.Bank
         (scene bank.old bank.new frame.old frame.new public.old public.new) Lookup [] alone result }
 {
     let (value, at) = pop_byte_and_word(frame)?;
     let (count, behind) = read_count(bank, frame, public, at)?;
     let bytes = Block::read(bank, frame, public, behind, count)?;
     match first_place(bytes.bytes(), value) {
-        Some(place) => tell_place(place, true, frame),
-        None => tell_place(0, false, frame),
+        Some(place) => report_place(frame, place, true),
+        None => report_place(frame, 0, false),
     }
 }
 
 // Pushes an index, and sets Z to whether the byte was found.
-fn tell_place(place: u8, found: bool, frame: &mut Frame) -> Result<Next, Halt>
+fn report_place(frame: &mut Frame, place: u8, found: bool) -> Result<Next, Halt>
     requires room { frame.old.frame.dt + 1 ≤ 0x8200 }
     ensures done { result ≡ Ok Go }
-    ensures told { frame.new ≡ record frame.old {
+    ensures reported { frame.new ≡ record frame.old {
       frame = frame_with_flags
           (frame_after_push frame.old.frame (place ∷ [])) frame.old.frame.c found;
     } }

@@ -13,23 +13,24 @@ use crate::table::Cipher;
 use mc_bank::Bank;
 use mc_segs::{Frame, Halt, Next, Public, store};
 
-/// Enciphers or deciphers a message of so many bytes: its address, that of the result and that of the key are on the stack.
+/// Enciphers or deciphers a message of so many bytes: its address, that of the result and that of the key are on the
+/// stack.
 #[tactic(auto, using(std::proofs::lemmas::Bool::or_right, crate::proofs::FrameLemmas::message_some))]
 pub fn turn_message<B: Bank>(
+    bank: &mut B,
+    frame: &mut Frame,
+    public: &mut Public,
     way: Way,
     cipher: Cipher,
     len: u8,
-    frame: &mut Frame,
-    public: &mut Public,
-    bank: &mut B,
 ) -> Result<Next, Halt>
-    requires runs { CanRun (B.state bank.old) (B.named bank.old) frame.old }
+    requires runs { CanRun B.Bank bank.old frame.old }
     requires message { model.is_message (cipher_of cipher) len ≡ true }
-    ensures { CausesAct B.did B.state B.named (scene bank.old bank.new frame.old frame.new public.old public.new)
-        (model.cipher_causes (cipher_of cipher) len (frame_on_bank (B.state bank.old) (B.named bank.old) frame.old))
+    ensures { CausesAct B.Bank (scene bank.old bank.new frame.old frame.new public.old public.new)
+        (model.cipher_causes (cipher_of cipher) len (frame_on_bank B.Bank bank.old frame.old))
         (model.effect_and_next
         (model.cipher_done (block_under_key way (cipher_of cipher)) (cipher_of cipher) len
-        (frame_on_bank (B.state bank.old) (B.named bank.old) frame.old) public.old)) result }
+        (frame_on_bank B.Bank bank.old frame.old) public.old)) result }
 {
     let (from, to, key) = pop_three(frame)?;
     let mut message = Block::read(bank, frame, public, from, len)?;
@@ -42,15 +43,15 @@ pub fn turn_message<B: Bank>(
 /// Signs a message: the addresses of the start block, the message, the signature and the key are on the stack.
 #[tactic(auto, using(std::proofs::lemmas::Bool::or_right, crate::proofs::FrameLemmas::message_some), unfolding(mc_model_machine::specs::Primitives::later_causes, mc_model_machine::specs::Primitives::prim_effect))]
 pub fn sign_message<B: Bank>(
-    cipher: Cipher,
-    args: &[u8; 3],
+    bank: &mut B,
     frame: &mut Frame,
     public: &mut Public,
-    bank: &mut B,
+    cipher: Cipher,
+    args: &[u8; 3],
 ) -> Result<Next, Halt>
-    requires runs { CanRun (B.state bank.old) (B.named bank.old) frame.old }
+    requires runs { CanRun B.Bank bank.old frame.old }
     requires message { model.is_message (cipher_of cipher) (slice_index args.now 0) ≡ true }
-    ensures { PrimActs B.did B.state B.named (scene bank.old bank.new frame.old frame.new public.old public.new)
+    ensures { PrimActs B.Bank (scene bank.old bank.new frame.old frame.new public.old public.new)
         (model.Sign (cipher_of cipher)) args.now alone result }
 {
     let (start, from, to, key) = pop_four(frame)?;

@@ -16,10 +16,10 @@ use mc_segs::{Frame, Halt, Next, Public, store};
 /// Executes Delegate: returns the name of the application to run next. An address is on the stack; at the
 /// address are the name's length and the name.
 #[tactic(auto, unfolding(mc_model_machine::specs::Primitives::later_causes, mc_model_machine::specs::Primitives::prim_effect))]
-pub fn delegate<B: Bank>(frame: &mut Frame, public: &mut Public, bank: &mut B) -> Result<Next, Halt>
-    requires runs { CanRun (B.state bank.old) (B.named bank.old) frame.old }
+pub fn delegate<B: Bank>(bank: &mut B, frame: &mut Frame, public: &mut Public) -> Result<Next, Halt>
+    requires runs { CanRun B.Bank bank.old frame.old }
     requires room { length frame.old.frame.fixed ≤ 4096 }
-    ensures { PrimActs B.did B.state B.named
+    ensures { PrimActs B.Bank
         (scene bank.old bank.new frame.old frame.new public.old public.new) DelegateTo [] alone result }
 {
     let at = pop_word(frame)?;
@@ -37,14 +37,14 @@ pub fn delegate<B: Bank>(frame: &mut Frame, public: &mut Public, bank: &mut B) -
 /// Executes Get Delegator AID: writes the length and the name of the delegator to the address on the stack,
 /// and clears Z. Without a delegator sets Z, and does not test the address.
 #[tactic(auto, unfolding(mc_model_machine::specs::Primitives::later_causes, mc_model_machine::specs::Primitives::prim_effect))]
-pub fn tell_delegator<B: Bank>(
-    delegator: Option<Aid>,
+pub fn report_delegator<B: Bank>(
+    bank: &mut B,
     frame: &mut Frame,
     public: &mut Public,
-    bank: &mut B,
+    delegator: Option<Aid>,
 ) -> Result<Next, Halt>
-    requires runs { CanRun (B.state bank.old) (B.named bank.old) frame.old }
-    ensures { PrimActs B.did B.state B.named
+    requires runs { CanRun B.Bank bank.old frame.old }
+    ensures { PrimActs B.Bank
         (scene bank.old bank.new frame.old frame.new public.old public.new) DelegatorAid []
         (record alone { delegator = delegator }) result }
 {
@@ -54,8 +54,8 @@ pub fn tell_delegator<B: Bank>(
         frame.set_flags(c, true);
         return Ok(Next::Go);
     };
-    let told = Block::counted(name.bytes());
-    store(bank, frame, public, at, told.bytes())?;
+    let reported = Block::counted(name.bytes());
+    store(bank, frame, public, at, reported.bytes())?;
     frame.set_flags(c, false);
     Ok(Next::Go)
 }

@@ -15,13 +15,13 @@ use mc_segs::{Frame, Halt, Next, Public, protect, push};
 /// Executes Check Case: pops a case, 1 to 4, and sets Z to whether it is the command's.
 #[tactic(auto, unfolding(mc_model_machine::specs::Primitives::later_causes, mc_model_machine::specs::Primitives::prim_effect))]
 pub fn check_case<B: Bank>(
-    case: u8,
+    bank: &mut B,
     frame: &mut Frame,
     public: &mut Public,
-    bank: &mut B,
+    case: u8,
 ) -> Result<Next, Halt>
-    requires runs { CanRun (B.state bank.old) (B.named bank.old) frame.old }
-    ensures { PrimActs B.did B.state B.named
+    requires runs { CanRun B.Bank bank.old frame.old }
+    ensures { PrimActs B.Bank
         (scene bank.old bank.new frame.old frame.new public.old public.new) CheckCase []
         (record alone { case = case }) result }
 {
@@ -36,12 +36,12 @@ pub fn check_case<B: Bank>(
 /// Executes Load CCR: pushes the flags, C as 02 and Z as 01.
 #[tactic(auto, unfolding(mc_model_machine::specs::Primitives::later_causes, mc_model_machine::specs::Primitives::prim_effect))]
 pub fn load_flags<B: Bank>(
+    bank: &mut B,
     frame: &mut Frame,
     public: &mut Public,
-    bank: &mut B,
 ) -> Result<Next, Halt>
-    requires runs { CanRun (B.state bank.old) (B.named bank.old) frame.old }
-    ensures { PrimActs B.did B.state B.named
+    requires runs { CanRun B.Bank bank.old frame.old }
+    ensures { PrimActs B.Bank
         (scene bank.old bank.new frame.old frame.new public.old public.new) LoadCcr [] alone result }
 {
     push(frame, &[2 * frame.c() as u8 + frame.z() as u8])?;
@@ -51,12 +51,12 @@ pub fn load_flags<B: Bank>(
 /// Executes Store CCR: pops the flags, as Load CCR pushes them.
 #[tactic(auto, unfolding(mc_model_machine::specs::Primitives::later_causes, mc_model_machine::specs::Primitives::prim_effect))]
 pub fn store_flags<B: Bank>(
+    bank: &mut B,
     frame: &mut Frame,
     public: &mut Public,
-    bank: &mut B,
 ) -> Result<Next, Halt>
-    requires runs { CanRun (B.state bank.old) (B.named bank.old) frame.old }
-    ensures { PrimActs B.did B.state B.named
+    requires runs { CanRun B.Bank bank.old frame.old }
+    ensures { PrimActs B.Bank
         (scene bank.old bank.new frame.old frame.new public.old public.new) StoreCcr [] alone result }
 {
     let flags = pop_byte(frame)?;
@@ -68,14 +68,14 @@ pub fn store_flags<B: Bank>(
 /// byte.
 #[tactic(auto, unfolding(mc_model_machine::specs::Primitives::later_causes, mc_model_machine::specs::Primitives::prim_effect))]
 pub fn set_protection<B: Bank>(
-    args: &[u8; 3],
+    bank: &mut B,
     frame: &mut Frame,
     public: &mut Public,
-    bank: &mut B,
+    args: &[u8; 3],
 ) -> Result<Next, Halt>
-    requires runs { CanRun (B.state bank.old) (B.named bank.old) frame.old }
+    requires runs { CanRun B.Bank bank.old frame.old }
     requires args { model.has_bad_argument SetProtection args.now ≡ false }
-    ensures { PrimActs B.did B.state B.named
+    ensures { PrimActs B.Bank
         (scene bank.old bank.new frame.old frame.new public.old public.new) SetProtection args.now alone result }
 {
     protect(bank, frame, args[0])?;

@@ -31,8 +31,8 @@ FrameEnds h k name fixed public (Abends a) (Err b) = (b ≡ a) × (k.frame.dyn �
 FrameEnds h k name fixed public (Does d) (Ok u) = (d ≡ effect_and_next (frame_effect (on_app k name fixed) public)) × AreOfOneApp h k
 FrameEnds h k name fixed public (Does d) (Err b) = ⊥
 
--- The result of a call that changes its frame alone is that of the instruction's row, on every application with as many static bytes and
--- with every public segment.
+-- The result of a call that changes its frame alone is that of the instruction's row, on every application with as many
+-- static bytes and with every public segment.
 abbrev pub FrameActs : Ins → Held → Held → Result (Unit {0}) Abend → Type 0
 FrameActs i h k r =
     (name fixed public : List ℕ) → length fixed ≡ length h.frame.fixed → FrameEnds h k name fixed public (row i (on_app h name fixed) public alone) r
@@ -47,7 +47,8 @@ abbrev pub then_after : Flow → Then
 then_after flow.Go = Goes
 then_after flow.Exit = Exits
 
--- the result of a call that changes the public segment alone is that of the instruction's row, for every frame, and never an abend
+-- the result of a call that changes the public segment alone is that of the instruction's row, for every frame, and
+-- never an abend
 abbrev pub PublicActs : Ins → List ℕ → List ℕ → Flow → Type 0
 PublicActs i public public_after next =
     (f : Frame) → row i f public alone ≡ Does (record { effect = frame_effect f public_after; next = then_after next })

@@ -43,8 +43,8 @@ abbrev pub Led : Result ℕ Abend → Option ℕ → Type 0
 Led (Ok a) to = to ≡ Some a
 Led (Err b) to = (to ≡ None) × (b ≡ A02)
 
--- the address to which STOREI writes the top n bytes: 04 if the stack is too short, else 03 if the place that holds the address lies in
--- no segment
+-- the address to which STOREI writes the top n bytes: 04 if the stack is too short, else 03 if the place that holds the
+-- address lies in no segment
 abbrev pub AddressUnder : Result ℕ Abend → Frame → List ℕ → ℕ → ℤ → ℕ → Type 0
 AddressUnder (Ok a) f public tag off n =
     (is_under f (on_stack tag (n + 2) n) ≡ false) × (no_access f (operand f tag off (n + 2)) 2 ≡ false) × (a ≡ address_at f public (place_of f tag off (n + 2)))
@@ -52,8 +52,8 @@ AddressUnder (Err A04) f public tag off n = is_under f (on_stack tag (n + 2) n) 
 AddressUnder (Err A03) f public tag off n = (is_under f (on_stack tag (n + 2) n) ≡ false) × (no_access f (operand f tag off (n + 2)) 2 ≡ true)
 AddressUnder (Err _) f public tag off n = ⊥
 
--- the first of a pair of operands of n bytes: 04 if the stack is too short, else 03 if it lies in no segment, else its address and its
--- value
+-- the first of a pair of operands of n bytes: 04 if the stack is too short, else 03 if it lies in no segment, else its
+-- address and its value
 abbrev pub FirstRead : Result ℕ Abend → Frame → List ℕ → ℕ → ℤ → ℕ → List ℕ → Type 0
 FirstRead (Ok a) f public tag off n value =
     (is_under f (on_stack tag (2 * n) n) ≡ false) × (operand f tag off (2 * n) ≡ Some a) × (is_outside f a n ≡ false) × (value ≡ bytes_at f public a n)

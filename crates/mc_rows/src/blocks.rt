@@ -13,45 +13,46 @@ use mc_segs::{Frame, Halt, Public, load, store};
 
 /// Executes INCN, DECN or NOTN: replaces the operand by the result.
 pub fn change_block<B: Bank>(
+    bank: &mut B,
+    frame: &mut Frame,
+    public: &mut Public,
     kind: Unary,
     tag: u8,
     off: i16,
     n: u8,
-    frame: &mut Frame,
-    public: &mut Public,
-    bank: &mut B,
 ) -> Result<(), Halt>
-    requires runs { CanRun (B.state bank.old) (B.named bank.old) frame.old }
+    requires runs { CanRun B.Bank bank.old frame.old }
     requires tag { tag ≤ 7 }
-    ensures { EndActs B.did B.state B.named (scene bank.old bank.new frame.old frame.new public.old public.new)
-        (change_end kind (frame_on_bank (B.state bank.old) (B.named bank.old) frame.old) public.old tag off n) (onward result) }
+    ensures { EndActs B.Bank (scene bank.old bank.new frame.old frame.new public.old public.new)
+        (change_end kind (frame_on_bank B.Bank bank.old frame.old) public.old tag off n)
+        (onward result) }
 {
     check_unary(kind, n)?;
     let count = n as usize;
     match kind {
         Unary::Inc | Unary::Dec => {
-            change_in(&mut [0; 16][..count], kind, tag, off, frame, public, bank)
+            change_in(bank, frame, public, &mut [0; 16][..count], kind, tag, off)
         }
-        Unary::Not => change_in(&mut [0; 255][..count], kind, tag, off, frame, public, bank),
+        Unary::Not => change_in(bank, frame, public, &mut [0; 255][..count], kind, tag, off),
     }
 }
 
 // INCN, DECN and NOTN in a buffer of the operand's length, which is a good one.
 fn change_in<B: Bank>(
+    bank: &mut B,
+    frame: &mut Frame,
+    public: &mut Public,
     value: &mut [u8],
     kind: Unary,
     tag: u8,
     off: i16,
-    frame: &mut Frame,
-    public: &mut Public,
-    bank: &mut B,
 ) -> Result<(), Halt>
     requires low { 1 ≤ length value.old }
     requires high { length value.old ≤ most_unary kind }
-    requires runs { CanRun (B.state bank.old) (B.named bank.old) frame.old }
+    requires runs { CanRun B.Bank bank.old frame.old }
     requires tag { tag ≤ 7 }
-    ensures { EndActs B.did B.state B.named (scene bank.old bank.new frame.old frame.new public.old public.new)
-        (changed_end kind (frame_on_bank (B.state bank.old) (B.named bank.old) frame.old) public.old tag off
+    ensures { EndActs B.Bank (scene bank.old bank.new frame.old frame.new public.old public.new)
+        (changed_end kind (frame_on_bank B.Bank bank.old frame.old) public.old tag off
         (length value.old)) (onward result) }
 {
     let at = place(frame, tag, off, value.len() as u16)?;
@@ -65,16 +66,16 @@ fn change_in<B: Bank>(
 /// Executes CLEARN: sets the bytes at the operand's place to zero.
 #[tactic(auto, unfolding(mc_model_machine::specs::Row::row, mc_model_machine::specs::Row::causes, mc_model_machine::specs::Row::effect))]
 pub fn clear_block<B: Bank>(
+    bank: &mut B,
+    frame: &mut Frame,
+    public: &mut Public,
     tag: u8,
     off: i16,
     n: u8,
-    frame: &mut Frame,
-    public: &mut Public,
-    bank: &mut B,
 ) -> Result<(), Halt>
-    requires runs { CanRun (B.state bank.old) (B.named bank.old) frame.old }
+    requires runs { CanRun B.Bank bank.old frame.old }
     requires tag { tag ≤ 7 }
-    ensures { RowActs B.did B.state B.named (scene bank.old bank.new frame.old frame.new public.old public.new)
+    ensures { RowActs B.Bank (scene bank.old bank.new frame.old frame.new public.old public.new)
         (Clearn tag off n) alone (onward result) }
 {
     check_block(n)?;
@@ -88,16 +89,16 @@ pub fn clear_block<B: Bank>(
 /// Executes TESTN: sets Z to whether the operand is zero.
 #[tactic(auto, unfolding(mc_model_machine::specs::Row::row, mc_model_machine::specs::Row::causes, mc_model_machine::specs::Row::effect))]
 pub fn test_block<B: Bank>(
+    bank: &mut B,
+    frame: &mut Frame,
+    public: &mut Public,
     tag: u8,
     off: i16,
     n: u8,
-    frame: &mut Frame,
-    public: &mut Public,
-    bank: &mut B,
 ) -> Result<(), Halt>
-    requires runs { CanRun (B.state bank.old) (B.named bank.old) frame.old }
+    requires runs { CanRun B.Bank bank.old frame.old }
     requires tag { tag ≤ 7 }
-    ensures { RowActs B.did B.state B.named (scene bank.old bank.new frame.old frame.new public.old public.new)
+    ensures { RowActs B.Bank (scene bank.old bank.new frame.old frame.new public.old public.new)
         (Testn tag off n) alone (onward result) }
 {
     check_block(n)?;

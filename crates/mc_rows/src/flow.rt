@@ -12,7 +12,7 @@ use mc_segs::{Abend, Frame, come_back, enter, pop, return_address};
 
 /// Executes BRANCH: if the condition holds, goes to a place relative to the next instruction.
 #[tactic(auto, unfolding(mc_model_machine::specs::Row::row, mc_model_machine::specs::Row::causes, mc_model_machine::specs::Row::effect))]
-pub fn branch(cond: u8, d: i8, frame: &mut Frame) -> Result<(), Abend>
+pub fn branch(frame: &mut Frame, cond: u8, d: i8) -> Result<(), Abend>
     ensures { FrameActs (Branch cond d) frame.old frame.new result }
 {
     if holds(frame, cond) {
@@ -25,7 +25,7 @@ pub fn branch(cond: u8, d: i8, frame: &mut Frame) -> Result<(), Abend>
 
 /// Executes JUMP: goes to an address if the condition holds. Condition 0 always holds, and pops the address.
 #[tactic(auto, unfolding(mc_model_machine::specs::Row::row, mc_model_machine::specs::Row::causes, mc_model_machine::specs::Row::effect))]
-pub fn jump(cond: u8, to: u16, frame: &mut Frame) -> Result<(), Abend>
+pub fn jump(frame: &mut Frame, cond: u8, to: u16) -> Result<(), Abend>
     ensures { FrameActs (Jump cond to) frame.old frame.new result }
 {
     let to = target(frame, cond, to)?;
@@ -39,7 +39,7 @@ pub fn jump(cond: u8, to: u16, frame: &mut Frame) -> Result<(), Abend>
 /// Executes CALL: if the condition holds, pushes LB and the next place, and goes to an address. Condition 0
 /// always holds, and pops the address.
 #[tactic(auto, unfolding(mc_model_machine::specs::Row::row, mc_model_machine::specs::Row::causes, mc_model_machine::specs::Row::effect))]
-pub fn call(cond: u8, to: u16, frame: &mut Frame) -> Result<(), Abend>
+pub fn call(frame: &mut Frame, cond: u8, to: u16) -> Result<(), Abend>
     ensures { FrameActs (Call cond to) frame.old frame.new result }
 {
     let to = target(frame, cond, to)?;
@@ -53,7 +53,7 @@ pub fn call(cond: u8, to: u16, frame: &mut Frame) -> Result<(), Abend>
 /// Executes RETIO, and with no bytes RET, RETI or RETO: leaves a call, keeps its top `o` bytes, and drops the
 /// `i` bytes below it.
 #[tactic(auto, unfolding(mc_model_machine::specs::Row::row, mc_model_machine::specs::Row::causes, mc_model_machine::specs::Row::effect))]
-pub fn return_with(i: u8, o: u8, frame: &mut Frame) -> Result<(), Abend>
+pub fn return_with(frame: &mut Frame, i: u8, o: u8) -> Result<(), Abend>
     ensures { FrameActs (Retio i o) frame.old frame.new result }
 {
     let to = return_address(frame, i, o)?;

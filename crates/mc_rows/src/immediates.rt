@@ -12,19 +12,20 @@ use mc_segs::{Frame, Halt, Public, load, store};
 
 /// Executes SETB or SETW: sets the bytes at the operand's place to these, one or two.
 pub fn set<B: Bank>(
+    bank: &mut B,
+    frame: &mut Frame,
+    public: &mut Public,
     tag: u8,
     off: i16,
     bytes: &[u8],
-    frame: &mut Frame,
-    public: &mut Public,
-    bank: &mut B,
 ) -> Result<(), Halt>
-    requires runs { CanRun (B.state bank.old) (B.named bank.old) frame.old }
+    requires runs { CanRun B.Bank bank.old frame.old }
     requires tag { tag ≤ 7 }
     requires low { 1 ≤ length bytes.now }
     requires high { length bytes.now ≤ 2 }
-    ensures { EndActs B.did B.state B.named (scene bank.old bank.new frame.old frame.new public.old public.new)
-        (set_end (frame_on_bank (B.state bank.old) (B.named bank.old) frame.old) public.old tag off bytes.now) (onward result) }
+    ensures { EndActs B.Bank (scene bank.old bank.new frame.old frame.new public.old public.new)
+        (set_end (frame_on_bank B.Bank bank.old frame.old) public.old tag off bytes.now)
+        (onward result) }
 {
     let at = place(frame, tag, off, bytes.len() as u16)?;
     store(bank, frame, public, at, bytes)?;
@@ -33,19 +34,19 @@ pub fn set<B: Bank>(
 
 /// Executes CMPB or CMPW: sets the flags of the operand minus these bytes, one or two.
 pub fn compare_with<B: Bank>(
+    bank: &mut B,
+    frame: &mut Frame,
+    public: &mut Public,
     tag: u8,
     off: i16,
     bytes: &[u8],
-    frame: &mut Frame,
-    public: &mut Public,
-    bank: &mut B,
 ) -> Result<(), Halt>
-    requires runs { CanRun (B.state bank.old) (B.named bank.old) frame.old }
+    requires runs { CanRun B.Bank bank.old frame.old }
     requires tag { tag ≤ 7 }
     requires low { 1 ≤ length bytes.now }
     requires high { length bytes.now ≤ 2 }
-    ensures { EndActs B.did B.state B.named (scene bank.old bank.new frame.old frame.new public.old public.new)
-        (compare_end (frame_on_bank (B.state bank.old) (B.named bank.old) frame.old) public.old tag off bytes.now)
+    ensures { EndActs B.Bank (scene bank.old bank.new frame.old frame.new public.old public.new)
+        (compare_end (frame_on_bank B.Bank bank.old frame.old) public.old tag off bytes.now)
         (onward result) }
 {
     let mut buffer = [0; 2];
@@ -59,20 +60,20 @@ pub fn compare_with<B: Bank>(
 
 /// Executes ADDB, ADDW, SUBB or SUBW: replaces the operand by the result with these bytes, one or two.
 pub fn combine_with<B: Bank>(
+    bank: &mut B,
+    frame: &mut Frame,
+    public: &mut Public,
     kind: Binary,
     tag: u8,
     off: i16,
     bytes: &[u8],
-    frame: &mut Frame,
-    public: &mut Public,
-    bank: &mut B,
 ) -> Result<(), Halt>
-    requires runs { CanRun (B.state bank.old) (B.named bank.old) frame.old }
+    requires runs { CanRun B.Bank bank.old frame.old }
     requires tag { tag ≤ 7 }
     requires low { 1 ≤ length bytes.now }
     requires high { length bytes.now ≤ 2 }
-    ensures { EndActs B.did B.state B.named (scene bank.old bank.new frame.old frame.new public.old public.new)
-        (combine_end kind (frame_on_bank (B.state bank.old) (B.named bank.old) frame.old) public.old tag off bytes.now)
+    ensures { EndActs B.Bank (scene bank.old bank.new frame.old frame.new public.old public.new)
+        (combine_end kind (frame_on_bank B.Bank bank.old frame.old) public.old tag off bytes.now)
         (onward result) }
 {
     let mut buffer = [0; 2];

@@ -76,14 +76,14 @@ pub fn place(frame: &Frame, tag: u8, off: i16, count: u16) -> Result<u16, Abend>
 ///
 /// Returns abend 03 if they lie in no segment.
 pub fn read_address<B: Bank>(
-    at: u16,
+    bank: &B,
     frame: &Frame,
     public: &Public,
-    bank: &B,
+    at: u16,
 ) -> Result<u16, Abend>
-    requires runs { CanRun (B.state bank.now) (B.named bank.now) frame.now }
-    ensures { GivesOrAbends result (is_outside (frame_on_bank (B.state bank.now) (B.named bank.now) frame.now) at 2) Abend.A03
-        (address_at (frame_on_bank (B.state bank.now) (B.named bank.now) frame.now) public.now at) }
+    requires runs { CanRun B.Bank bank.now frame.now }
+    ensures { GivesOrAbends result (is_outside (frame_on_bank B.Bank bank.now frame.now) at 2) Abend.A03
+        (address_at (frame_on_bank B.Bank bank.now frame.now) public.now at) }
 {
     let mut address = [0; 2];
     load(bank, frame, public, at, &mut address)?;
@@ -98,18 +98,18 @@ pub fn read_address<B: Bank>(
 /// Returns abend 04 if the stack has too few bytes, and abend 03 if the first operand lies in no segment.
 #[inline(always)]
 pub fn read_first<B: Bank>(
+    bank: &B,
+    frame: &Frame,
+    public: &Public,
     tag: u8,
     off: i16,
     into: &mut [u8],
-    frame: &Frame,
-    public: &Public,
-    bank: &B,
 ) -> Result<u16, Abend>
-    requires runs { CanRun (B.state bank.now) (B.named bank.now) frame.now }
+    requires runs { CanRun B.Bank bank.now frame.now }
     requires tag { tag ≤ 7 }
     requires low { 1 ≤ length into.old }
     requires high { length into.old ≤ 255 }
-    ensures first { FirstRead result (frame_on_bank (B.state bank.now) (B.named bank.now) frame.now) public.now tag off
+    ensures first { FirstRead result (frame_on_bank B.Bank bank.now frame.now) public.now tag off
         (length into.old) into.new }
     ensures second { OnOk result (is_under frame.now.frame (length into.old) ≡ false) }
 {
@@ -130,7 +130,10 @@ pub fn indexed(frame: &mut Frame, tag: u8, off: i16, size: u8) -> Result<u16, Ab
     requires tag { tag ≤ 7 }
     ensures place { OperandPlaced result (is_under frame.old.frame (on_stack tag 3 1))
         (indexed_address frame.old.frame tag off size) }
-    ensures popped { OnOk result (frame.new ≡ record frame.old { frame = frame_after_pop frame.old.frame (on_stack tag 3 1) }) }
+    ensures popped { OnOk result (frame.new ≡ record frame.old {
+      frame = frame_after_pop frame.old.frame
+          (on_stack tag 3 1);
+    }) }
     ensures dynamic { frame.new.frame.dyn ≡ frame.old.frame.dyn }
     ensures session { frame.new.frame.session ≡ frame.old.frame.session }
 {

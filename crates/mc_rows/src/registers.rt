@@ -15,7 +15,7 @@ pub enum Flow {
 /// Executes NOP, SETSW, SETLA or SETSWLA, or the exit after one of them.
 #[tactic(auto, unfolding(mc_model_machine::specs::Row::row, mc_model_machine::specs::Row::causes, mc_model_machine::specs::Row::effect))]
 #[inline(always)]
-pub fn registers(ins: &Ins, public: &mut Public) -> Flow
+pub fn registers(public: &mut Public, ins: &Ins) -> Flow
     requires { IsRegisterRow ins.now }
     ensures { PublicActs ins.now public.old public.new result }
 {

@@ -9,7 +9,7 @@ use mc_segs::{Abend, Frame, discard, push};
 
 /// Executes PUSHZ: pushes n zero bytes.
 #[tactic(auto, unfolding(mc_model_machine::specs::Row::row, mc_model_machine::specs::Row::causes, mc_model_machine::specs::Row::effect))]
-pub fn push_zeros(n: u8, frame: &mut Frame) -> Result<(), Abend>
+pub fn push_zeros(frame: &mut Frame, n: u8) -> Result<(), Abend>
     ensures { FrameActs (Pushz n) frame.old frame.new result }
 {
     check_block(n)?;
@@ -18,7 +18,7 @@ pub fn push_zeros(n: u8, frame: &mut Frame) -> Result<(), Abend>
 
 /// Executes PUSHB: pushes one byte.
 #[tactic(auto, unfolding(mc_model_machine::specs::Row::row, mc_model_machine::specs::Row::causes, mc_model_machine::specs::Row::effect))]
-pub fn push_byte(b: u8, frame: &mut Frame) -> Result<(), Abend>
+pub fn push_byte(frame: &mut Frame, b: u8) -> Result<(), Abend>
     ensures { FrameActs (Pushb b) frame.old frame.new result }
 {
     push(frame, &[b])
@@ -26,7 +26,7 @@ pub fn push_byte(b: u8, frame: &mut Frame) -> Result<(), Abend>
 
 /// Executes PUSHW: pushes two bytes.
 #[tactic(auto, unfolding(mc_model_machine::specs::Row::row, mc_model_machine::specs::Row::causes, mc_model_machine::specs::Row::effect))]
-pub fn push_word(w: u16, frame: &mut Frame) -> Result<(), Abend>
+pub fn push_word(frame: &mut Frame, w: u16) -> Result<(), Abend>
     ensures { FrameActs (Pushw w) frame.old frame.new result }
 {
     push(frame, &bytes_of(w))
@@ -34,7 +34,7 @@ pub fn push_word(w: u16, frame: &mut Frame) -> Result<(), Abend>
 
 /// Executes POPN: pops n bytes.
 #[tactic(auto, unfolding(mc_model_machine::specs::Row::row, mc_model_machine::specs::Row::causes, mc_model_machine::specs::Row::effect))]
-pub fn pop_bytes(n: u8, frame: &mut Frame) -> Result<(), Abend>
+pub fn pop_bytes(frame: &mut Frame, n: u8) -> Result<(), Abend>
     ensures { FrameActs (Popn n) frame.old frame.new result }
 {
     check_block(n)?;

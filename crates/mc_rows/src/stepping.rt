@@ -32,15 +32,15 @@ use mc_segs::{Abend, Frame, Halt, Public};
 #[tactic(auto, unfolding(mc_model_machine::specs::Row::row, mc_model_machine::specs::Row::causes, mc_model_machine::specs::Row::effect))]
 #[inline(always)]
 pub fn step<B: Bank>(
-    ins: &Ins,
+    bank: &mut B,
     frame: &mut Frame,
     public: &mut Public,
-    bank: &mut B,
+    ins: &Ins,
 ) -> Result<Flow, Halt>
-    requires runs { CanRun (B.state bank.old) (B.named bank.old) frame.old }
+    requires runs { CanRun B.Bank bank.old frame.old }
     requires shaped { Shaped ins.now }
     requires row { IsNoPrimitive ins.now }
-    ensures { RowActs B.did B.state B.named
+    ensures { RowActs B.Bank
         (scene bank.old bank.new frame.old frame.new public.old public.new) ins.now alone (row_result result) }
 {
     match *ins {
@@ -51,7 +51,7 @@ pub fn step<B: Bank>(
         | Ins::Exit
         | Ins::Exitsw { .. }
         | Ins::Exitla { .. }
-        | Ins::Exitswla { .. } => Ok(registers(ins, public)),
+        | Ins::Exitswla { .. } => Ok(registers(public, ins)),
         Ins::Branch { .. }
         | Ins::Jump { .. }
         | Ins::Call { .. }
@@ -66,11 +66,11 @@ pub fn step<B: Bank>(
         | Ins::Popb
         | Ins::Popw
         | Ins::Loada { .. }
-        | Ins::Index { .. } => match step_frame(ins, frame) {
+        | Ins::Index { .. } => match step_frame(frame, ins) {
             Ok(()) => Ok(Flow::Go),
             Err(abend) => Err(Halt::Abend(abend)),
         },
-        _ => match step_operand(ins, frame, public, bank) {
+        _ => match step_operand(bank, frame, public, ins) {
             Ok(()) => Ok(Flow::Go),
             Err(halt) => Err(halt),
         },
@@ -80,63 +80,64 @@ pub fn step<B: Bank>(
 // The rows that depend on their frame alone.
 #[tactic(auto, unfolding(mc_model_machine::specs::Row::row, mc_model_machine::specs::Row::causes, mc_model_machine::specs::Row::effect))]
 #[inline(always)]
-fn step_frame(ins: &Ins, frame: &mut Frame) -> Result<(), Abend>
+fn step_frame(frame: &mut Frame, ins: &Ins) -> Result<(), Abend>
     requires shaped { Shaped ins.now }
     requires family { IsFrameRow ins.now }
     ensures { FrameActs ins.now frame.old frame.new result }
 {
     match *ins {
-        Ins::Branch { cond, d } => branch(cond, d, frame),
-        Ins::Jump { cond, to } => jump(cond, to, frame),
-        Ins::Call { cond, to } => call(cond, to, frame),
-        Ins::Ret => return_with(0, 0, frame),
-        Ins::Reti { i } => return_with(i, 0, frame),
-        Ins::Reto { o } => return_with(0, o, frame),
-        Ins::Retio { i, o } => return_with(i, o, frame),
-        Ins::Pushz { n } => push_zeros(n, frame),
-        Ins::Pushb { b } => push_byte(b, frame),
-        Ins::Pushw { w } => push_word(w, frame),
-        Ins::Popn { n } => pop_bytes(n, frame),
+        Ins::Branch { cond, d } => branch(frame, cond, d),
+        Ins::Jump { cond, to } => jump(frame, cond, to),
+        Ins::Call { cond, to } => call(frame, cond, to),
+        Ins::Ret => return_with(frame, 0, 0),
+        Ins::Reti { i } => return_with(frame, i, 0),
+        Ins::Reto { o } => return_with(frame, 0, o),
+        Ins::Retio { i, o } => return_with(frame, i, o),
+        Ins::Pushz { n } => push_zeros(frame, n),
+        Ins::Pushb { b } => push_byte(frame, b),
+        Ins::Pushw { w } => push_word(frame, w),
+        Ins::Popn { n } => pop_bytes(frame, n),
         Ins::Popb => pop_byte(frame),
         Ins::Popw => pop_word(frame),
-        Ins::Loada { tag, off } => load_address(tag, off, frame),
-        Ins::Index { tag, off, size } => index(tag, off, size, frame),
+        Ins::Loada { tag, off } => load_address(frame, tag, off),
+        Ins::Index { tag, off, size } => index(frame, tag, off, size),
         _ => unreachable!(),
     }
 }
 
-// The rows that read or write an operand with an address tag: those of blocks of n bytes, and then those of an immediate.
+// The rows that read or write an operand with an address tag: those of blocks of n bytes, and then those of an
+// immediate.
 #[tactic(auto, unfolding(mc_model_machine::specs::Row::row, mc_model_machine::specs::Row::causes, mc_model_machine::specs::Row::effect))]
 #[inline(always)]
 fn step_operand<B: Bank>(
-    ins: &Ins,
+    bank: &mut B,
     frame: &mut Frame,
     public: &mut Public,
-    bank: &mut B,
+    ins: &Ins,
 ) -> Result<(), Halt>
-    requires runs { CanRun (B.state bank.old) (B.named bank.old) frame.old }
+    requires runs { CanRun B.Bank bank.old frame.old }
     requires shaped { Shaped ins.now }
     requires family { HasOperand ins.now }
-    ensures { RowActs B.did B.state B.named
+    ensures { RowActs B.Bank
         (scene bank.old bank.new frame.old frame.new public.old public.new) ins.now alone (onward result) }
 {
     match *ins {
-        Ins::Load { tag, off, n } => load_block(tag, off, n, frame, public, bank),
-        Ins::Store { tag, off, n } => store_block(tag, off, n, frame, public, bank),
-        Ins::Loadi { tag, off, n } => load_indirect(tag, off, n, frame, public, bank),
-        Ins::Storei { tag, off, n } => store_indirect(tag, off, n, frame, public, bank),
-        Ins::Clearn { tag, off, n } => clear_block(tag, off, n, frame, public, bank),
-        Ins::Testn { tag, off, n } => test_block(tag, off, n, frame, public, bank),
-        Ins::Incn { tag, off, n } => change_block(Unary::Inc, tag, off, n, frame, public, bank),
-        Ins::Decn { tag, off, n } => change_block(Unary::Dec, tag, off, n, frame, public, bank),
-        Ins::Notn { tag, off, n } => change_block(Unary::Not, tag, off, n, frame, public, bank),
-        Ins::Cmpn { tag, off, n } => compare_pair(tag, off, n, frame, public, bank),
-        Ins::Addn { tag, off, n } => combine_pair(Binary::Add, tag, off, n, frame, public, bank),
-        Ins::Subn { tag, off, n } => combine_pair(Binary::Sub, tag, off, n, frame, public, bank),
-        Ins::Andn { tag, off, n } => combine_pair(Binary::And, tag, off, n, frame, public, bank),
-        Ins::Orn { tag, off, n } => combine_pair(Binary::Or, tag, off, n, frame, public, bank),
-        Ins::Xorn { tag, off, n } => combine_pair(Binary::Xor, tag, off, n, frame, public, bank),
-        _ => step_immediate(ins, frame, public, bank),
+        Ins::Load { tag, off, n } => load_block(bank, frame, public, tag, off, n),
+        Ins::Store { tag, off, n } => store_block(bank, frame, public, tag, off, n),
+        Ins::Loadi { tag, off, n } => load_indirect(bank, frame, public, tag, off, n),
+        Ins::Storei { tag, off, n } => store_indirect(bank, frame, public, tag, off, n),
+        Ins::Clearn { tag, off, n } => clear_block(bank, frame, public, tag, off, n),
+        Ins::Testn { tag, off, n } => test_block(bank, frame, public, tag, off, n),
+        Ins::Incn { tag, off, n } => change_block(bank, frame, public, Unary::Inc, tag, off, n),
+        Ins::Decn { tag, off, n } => change_block(bank, frame, public, Unary::Dec, tag, off, n),
+        Ins::Notn { tag, off, n } => change_block(bank, frame, public, Unary::Not, tag, off, n),
+        Ins::Cmpn { tag, off, n } => compare_pair(bank, frame, public, tag, off, n),
+        Ins::Addn { tag, off, n } => combine_pair(bank, frame, public, Binary::Add, tag, off, n),
+        Ins::Subn { tag, off, n } => combine_pair(bank, frame, public, Binary::Sub, tag, off, n),
+        Ins::Andn { tag, off, n } => combine_pair(bank, frame, public, Binary::And, tag, off, n),
+        Ins::Orn { tag, off, n } => combine_pair(bank, frame, public, Binary::Or, tag, off, n),
+        Ins::Xorn { tag, off, n } => combine_pair(bank, frame, public, Binary::Xor, tag, off, n),
+        _ => step_immediate(bank, frame, public, ins),
     }
 }
 
@@ -144,41 +145,41 @@ fn step_operand<B: Bank>(
 #[tactic(auto, unfolding(mc_model_machine::specs::Row::row, mc_model_machine::specs::Row::causes, mc_model_machine::specs::Row::effect))]
 #[inline(always)]
 fn step_immediate<B: Bank>(
-    ins: &Ins,
+    bank: &mut B,
     frame: &mut Frame,
     public: &mut Public,
-    bank: &mut B,
+    ins: &Ins,
 ) -> Result<(), Halt>
-    requires runs { CanRun (B.state bank.old) (B.named bank.old) frame.old }
+    requires runs { CanRun B.Bank bank.old frame.old }
     requires shaped { Shaped ins.now }
     requires family { IsImmediate ins.now }
-    ensures { RowActs B.did B.state B.named
+    ensures { RowActs B.Bank
         (scene bank.old bank.new frame.old frame.new public.old public.new) ins.now alone (onward result) }
 {
     match *ins {
-        Ins::Setb { tag, off, b } => set(tag, off, &[b], frame, public, bank),
-        Ins::Cmpb { tag, off, b } => compare_with(tag, off, &[b], frame, public, bank),
-        Ins::Addb { tag, off, b } => combine_with(Binary::Add, tag, off, &[b], frame, public, bank),
-        Ins::Subb { tag, off, b } => combine_with(Binary::Sub, tag, off, &[b], frame, public, bank),
-        Ins::Setw { tag, off, w } => set(tag, off, &bytes_of(w), frame, public, bank),
-        Ins::Cmpw { tag, off, w } => compare_with(tag, off, &bytes_of(w), frame, public, bank),
+        Ins::Setb { tag, off, b } => set(bank, frame, public, tag, off, &[b]),
+        Ins::Cmpb { tag, off, b } => compare_with(bank, frame, public, tag, off, &[b]),
+        Ins::Addb { tag, off, b } => combine_with(bank, frame, public, Binary::Add, tag, off, &[b]),
+        Ins::Subb { tag, off, b } => combine_with(bank, frame, public, Binary::Sub, tag, off, &[b]),
+        Ins::Setw { tag, off, w } => set(bank, frame, public, tag, off, &bytes_of(w)),
+        Ins::Cmpw { tag, off, w } => compare_with(bank, frame, public, tag, off, &bytes_of(w)),
         Ins::Addw { tag, off, w } => combine_with(
+            bank,
+            frame,
+            public,
             Binary::Add,
             tag,
             off,
             &bytes_of(w),
-            frame,
-            public,
-            bank,
         ),
         Ins::Subw { tag, off, w } => combine_with(
+            bank,
+            frame,
+            public,
             Binary::Sub,
             tag,
             off,
             &bytes_of(w),
-            frame,
-            public,
-            bank,
         ),
         _ => unreachable!(),
     }

@@ -15,16 +15,16 @@ use mc_segs::{Abend, Frame, Halt, Public, load, pop, push, store};
 /// Executes LOAD: pushes the n bytes of the operand.
 #[tactic(auto, unfolding(mc_model_machine::specs::Row::row, mc_model_machine::specs::Row::causes, mc_model_machine::specs::Row::effect))]
 pub fn load_block<B: Bank>(
+    bank: &mut B,
+    frame: &mut Frame,
+    public: &mut Public,
     tag: u8,
     off: i16,
     n: u8,
-    frame: &mut Frame,
-    public: &mut Public,
-    bank: &mut B,
 ) -> Result<(), Halt>
-    requires runs { CanRun (B.state bank.old) (B.named bank.old) frame.old }
+    requires runs { CanRun B.Bank bank.old frame.old }
     requires tag { tag ≤ 7 }
-    ensures { RowActs B.did B.state B.named (scene bank.old bank.new frame.old frame.new public.old public.new)
+    ensures { RowActs B.Bank (scene bank.old bank.new frame.old frame.new public.old public.new)
         (Load tag off n) alone (onward result) }
 {
     check_block(n)?;
@@ -39,16 +39,16 @@ pub fn load_block<B: Bank>(
 /// Executes STORE: pops n bytes, and writes them to the operand's place.
 #[tactic(auto, unfolding(mc_model_machine::specs::Row::row, mc_model_machine::specs::Row::causes, mc_model_machine::specs::Row::effect))]
 pub fn store_block<B: Bank>(
+    bank: &mut B,
+    frame: &mut Frame,
+    public: &mut Public,
     tag: u8,
     off: i16,
     n: u8,
-    frame: &mut Frame,
-    public: &mut Public,
-    bank: &mut B,
 ) -> Result<(), Halt>
-    requires runs { CanRun (B.state bank.old) (B.named bank.old) frame.old }
+    requires runs { CanRun B.Bank bank.old frame.old }
     requires tag { tag ≤ 7 }
-    ensures { RowActs B.did B.state B.named (scene bank.old bank.new frame.old frame.new public.old public.new)
+    ensures { RowActs B.Bank (scene bank.old bank.new frame.old frame.new public.old public.new)
         (Store tag off n) alone (onward result) }
 {
     check_block(n)?;
@@ -65,21 +65,21 @@ pub fn store_block<B: Bank>(
 /// Executes LOADI: pushes n bytes, of which the operand is the address.
 #[tactic(auto, unfolding(mc_model_machine::specs::Row::row, mc_model_machine::specs::Row::causes, mc_model_machine::specs::Row::effect))]
 pub fn load_indirect<B: Bank>(
+    bank: &mut B,
+    frame: &mut Frame,
+    public: &mut Public,
     tag: u8,
     off: i16,
     n: u8,
-    frame: &mut Frame,
-    public: &mut Public,
-    bank: &mut B,
 ) -> Result<(), Halt>
-    requires runs { CanRun (B.state bank.old) (B.named bank.old) frame.old }
+    requires runs { CanRun B.Bank bank.old frame.old }
     requires tag { tag ≤ 7 }
-    ensures { RowActs B.did B.state B.named (scene bank.old bank.new frame.old frame.new public.old public.new)
+    ensures { RowActs B.Bank (scene bank.old bank.new frame.old frame.new public.old public.new)
         (Loadi tag off n) alone (onward result) }
 {
     check_block(n)?;
     let at = place(frame, tag, off, 2)?;
-    let from = read_address(at, frame, public, bank)?;
+    let from = read_address(bank, frame, public, at)?;
     let mut buffer = [0; 255];
     let bytes = &mut buffer[..n as usize];
     load(bank, frame, public, from, bytes)?;
@@ -90,20 +90,20 @@ pub fn load_indirect<B: Bank>(
 /// Executes STOREI: pops n bytes, and writes them to the address that the operand was before.
 #[tactic(auto, unfolding(mc_model_machine::specs::Row::row, mc_model_machine::specs::Row::causes, mc_model_machine::specs::Row::effect))]
 pub fn store_indirect<B: Bank>(
+    bank: &mut B,
+    frame: &mut Frame,
+    public: &mut Public,
     tag: u8,
     off: i16,
     n: u8,
-    frame: &mut Frame,
-    public: &mut Public,
-    bank: &mut B,
 ) -> Result<(), Halt>
-    requires runs { CanRun (B.state bank.old) (B.named bank.old) frame.old }
+    requires runs { CanRun B.Bank bank.old frame.old }
     requires tag { tag ≤ 7 }
-    ensures { RowActs B.did B.state B.named (scene bank.old bank.new frame.old frame.new public.old public.new)
+    ensures { RowActs B.Bank (scene bank.old bank.new frame.old frame.new public.old public.new)
         (Storei tag off n) alone (onward result) }
 {
     check_block(n)?;
-    let to = address_under(n, tag, off, frame, public, bank)?;
+    let to = address_under(bank, frame, public, n, tag, off)?;
     let mut buffer = [0; 255];
     let bytes = &mut buffer[..n as usize];
     pop(frame, bytes)?;
@@ -113,7 +113,7 @@ pub fn store_indirect<B: Bank>(
 
 /// Executes LOADA: pushes the operand's address, if the tag is 0 that of the top of the stack.
 #[tactic(auto, unfolding(mc_model_machine::specs::Row::row, mc_model_machine::specs::Row::causes, mc_model_machine::specs::Row::effect))]
-pub fn load_address(tag: u8, off: i16, frame: &mut Frame) -> Result<(), Abend>
+pub fn load_address(frame: &mut Frame, tag: u8, off: i16) -> Result<(), Abend>
     requires { tag ≤ 7 }
     ensures { FrameActs (Loada tag off) frame.old frame.new result }
 {
@@ -124,7 +124,7 @@ pub fn load_address(tag: u8, off: i16, frame: &mut Frame) -> Result<(), Abend>
 /// Executes INDEX: pushes the address of an element of a table; pops its number, and if the tag is 0 the
 /// table's address too.
 #[tactic(auto, unfolding(mc_model_machine::specs::Row::row, mc_model_machine::specs::Row::causes, mc_model_machine::specs::Row::effect))]
-pub fn index(tag: u8, off: i16, size: u8, frame: &mut Frame) -> Result<(), Abend>
+pub fn index(frame: &mut Frame, tag: u8, off: i16, size: u8) -> Result<(), Abend>
     requires { tag ≤ 7 }
     ensures { FrameActs (Index tag off size) frame.old frame.new result }
 {
@@ -134,19 +134,19 @@ pub fn index(tag: u8, off: i16, size: u8, frame: &mut Frame) -> Result<(), Abend
 
 // The address to which STOREI writes the top n bytes of the stack.
 fn address_under<B: Bank>(
+    bank: &B,
+    frame: &Frame,
+    public: &Public,
     n: u8,
     tag: u8,
     off: i16,
-    frame: &Frame,
-    public: &Public,
-    bank: &B,
 ) -> Result<u16, Abend>
-    requires runs { CanRun (B.state bank.now) (B.named bank.now) frame.now }
+    requires runs { CanRun B.Bank bank.now frame.now }
     requires tag { tag ≤ 7 }
-    ensures { AddressUnder result (frame_on_bank (B.state bank.now) (B.named bank.now) frame.now) public.now tag off n }
+    ensures { AddressUnder result (frame_on_bank B.Bank bank.now frame.now) public.now tag off n }
 {
     let count = n as u16;
     need(frame, on_stack(tag, count + 2, count))?;
     let at = operand(frame, tag, off, count + 2)?;
-    read_address(at, frame, public, bank)
+    read_address(bank, frame, public, at)
 }

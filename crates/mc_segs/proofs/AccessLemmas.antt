@@ -10,7 +10,7 @@ use Rattle.mc_bank.specs.Bank.{BankState}
 use Rattle.mc_trans.proofs.Overlay.{length_laid, splice_before, splice_in, splice_behind, get_some}
 use Rattle.mc_model_device.proofs.ListLemmas.{length_splice}
 use Rattle.mc_segs.specs.Overlaid.{IsOverlaid}
-use Rattle.mc_segs.specs.HeldFrames.{Held, FitsBank, frame_on_bank, pieces_of, ArePendingIn}
+use Rattle.mc_segs.specs.HeldFrames.{Held, FitsBank, frame_with, pieces_of, ArePendingIn}
 use Rattle.mc_segs.specs.Inside.{frame_value, KeepsInside}
 use Rattle.mc_segs.specs.declared.frame.Frame.TheInside.{Inside}
 use Rattle.mc_segs.proofs.PendingLemmas.{read_byte, pieces_lie}
@@ -95,7 +95,7 @@ static_read l ps ws at n into pieces are range len bytes =
 -- ---- places
 
 -- an access lies in the same place of a frame whether or not it is completed from its bank
-pub where_shown : (s : BankState) (named : ℕ → Option (List ℕ)) (h : Held) (a n : ℕ) → FitsBank s named h → where_is (frame_on_bank s named h) a n ≡ where_is h.frame a n
+pub where_shown : (s : BankState) (named : ℕ → Option (List ℕ)) (h : Held) (a n : ℕ) → FitsBank s named h → where_is (frame_with s named h) a n ≡ where_is h.frame a n
 where_shown s named h a n fits = rw (sym fits.fixed) refl
 
 -- the bytes of an access of at least one byte
@@ -103,8 +103,8 @@ bytes_are : (f : Frame) (public : List ℕ) (a n : ℕ) (p : Option Place) → 0
 unfolding bytes_at
 bytes_are f public a n p some e = ap (λ (b : Bool). cond b [] (bytes_in f public n (where_is f a n))) (ne_eqb n 0 (λ none. omega arith)) ∙ ap (bytes_in f public n) e
 
-pub bytes_read : (s : BankState) (named : ℕ → Option (List ℕ)) (h : Held) (public : List ℕ) (a n : ℕ) (p : Option Place) → FitsBank s named h → 0 < n → p ≡ where_is h.frame a n → bytes_in (frame_on_bank s named h) public n p ≡ bytes_at (frame_on_bank s named h) public a n
-bytes_read s named h public a n p fits some e = sym (bytes_are (frame_on_bank s named h) public a n p some (where_shown s named h a n fits ∙ sym e))
+pub bytes_read : (s : BankState) (named : ℕ → Option (List ℕ)) (h : Held) (public : List ℕ) (a n : ℕ) (p : Option Place) → FitsBank s named h → 0 < n → p ≡ where_is h.frame a n → bytes_in (frame_with s named h) public n p ≡ bytes_at (frame_with s named h) public a n
+bytes_read s named h public a n p fits some e = sym (bytes_are (frame_with s named h) public a n p some (where_shown s named h a n fits ∙ sym e))
 
 pub no_bytes : (f : Frame) (public : List ℕ) (a : ℕ) (into : List ℕ) → nat_eq (length into) 0 ≡ true → into ≡ bytes_at f public a (length into)
 unfolding bytes_at

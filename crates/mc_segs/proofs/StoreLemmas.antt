@@ -22,6 +22,7 @@ use Rattle.mc_segs.specs.declared.frame.Frame.TheInside.{Inside}
 use Rattle.mc_segs.proofs.PendingLemmas.{pieces_held, pieces_lie}
 use Rattle.mc_segs.proofs.AccessLemmas.{HasWords}
 use Rattle.mc_model_device.proofs.MapLemmas.{lookup_inserted_lem}
+use Rattle.mc_bank.specs.declared.bank.Bank.{Ghosts}
 
 -- ---- counts
 
@@ -72,57 +73,57 @@ is_committed s s' named named' h ps ws fits lie held apps slots =
 -- ---- at once
 
 -- the static bytes of a frame on a bank
-abbrev pub fixed_under : {B : Type 0} → (B → BankState) → (B → ℕ → Option (List ℕ)) → B → Held → List ℕ
-fixed_under state named b h = (app_under (state b) (named b) h).fixed
+abbrev pub fixed_under : {B : Type 0} → Ghosts B → B → Held → List ℕ
+fixed_under ghosts b h = (app_under (ghosts.state b) (ghosts.named b) h).fixed
 
-module _ {B : Type 0} (did : B → BankItem → Answer → B → Type 0) (state : B → BankState) (named : B → ℕ → Option (List ℕ)) where
-  commit_items : (b e : B) (h : Held) (at : ℕ) (from : List ℕ) (ws : List (ℕ × List ℕ)) (a : Answer) → PutsBytes (fixed_under state named b h) [] at from ws → InOrder did b (Commit (name_or (named b h.slot)) ws ∷ []) a e
-      → IsOneCommit did (name_or (named b h.slot)) (fixed_under state named b h) (Some ((at, from) ∷ [])) b a e
-  commit_items b e h at from ws a puts items = (ws, puts.holds [] tt (none_held (fixed_under state named b h)), items, puts.pending.few)
+module _ {B : Type 0} (ghosts : Ghosts B) where
+  commit_items : (b e : B) (h : Held) (at : ℕ) (from : List ℕ) (ws : List (ℕ × List ℕ)) (a : Answer) → PutsBytes (fixed_under ghosts b h) [] at from ws → InOrder ghosts.did b (Commit (name_or (ghosts.named b h.slot)) ws ∷ []) a e
+      → IsOneCommit ghosts.did (name_or (ghosts.named b h.slot)) (fixed_under ghosts b h) (Some ((at, from) ∷ [])) b a e
+  commit_items b e h at from ws a puts items = (ws, puts.holds [] tt (none_held (fixed_under ghosts b h)), items, puts.pending.few)
 
-  committed_at_once : (b e : B) (h : Held) (at : ℕ) (from : List ℕ) (ws : List (ℕ × List ℕ)) → FitsBank (state b) (named b) h → 1 ≤ length from → at + length from ≤ length h.frame.fixed → PutsBytes (fixed_under state named b h) [] at from ws
-      → InOrder did b (Commit (name_or (named b h.slot)) ws ∷ []) (Ok tt) e → (state e).apps ≡ apps_after_commit (state b).apps (name_or (named b h.slot)) ws → ((k : ℕ) → named e k ≡ named b k) → (state e).stopped ≡ false
-      → EffectDone did state named (scene b e h h [] []) (static_written false (frame_on_bank (state b) (named b) h) [] at from)
+  committed_at_once : (b e : B) (h : Held) (at : ℕ) (from : List ℕ) (ws : List (ℕ × List ℕ)) → FitsBank (ghosts.state b) (ghosts.named b) h → 1 ≤ length from → at + length from ≤ length h.frame.fixed → PutsBytes (fixed_under ghosts b h) [] at from ws
+      → InOrder ghosts.did b (Commit (name_or (ghosts.named b h.slot)) ws ∷ []) (Ok tt) e → (ghosts.state e).apps ≡ apps_after_commit (ghosts.state b).apps (name_or (ghosts.named b h.slot)) ws → ((k : ℕ) → ghosts.named e k ≡ ghosts.named b k) → (ghosts.state e).stopped ≡ false
+      → EffectDone ghosts (scene b e h h [] []) (static_written false (frame_on_bank ghosts b h) [] at from)
   committed_at_once b e h at from ws fits some range puts items apps slots going =
-      let l = fixed_under state named b h in
+      let l = fixed_under ghosts b h in
       let held = puts.holds [] tt (none_held l) in
       let lie : LieIn (length l) ((at, from) ∷ []) = ((omega arith, omega (arith, fits.fixed)), tt) in
-      let now = is_committed (state b) (state e) (named b) (named e) h ((at, from) ∷ []) ws fits lie held apps slots in
+      let now = is_committed (ghosts.state b) (ghosts.state e) (ghosts.named b) (ghosts.named e) h ((at, from) ∷ []) ws fits lie held apps slots in
       record {
         commits = commit_items b e h at from ws (Ok tt) puts items;
         bytes = now.fixed;
-        frame = ap (λ (n : List ℕ). frame_reading (record h.frame { name = n; fixed = fixed_under state named e h })) now.name ∙ ap (λ (t : List ℕ). frame_reading (record h.frame { name = name_or (named b h.slot); fixed = t })) now.fixed;
+        frame = ap (λ (n : List ℕ). frame_reading (record h.frame { name = n; fixed = fixed_under ghosts e h })) now.name ∙ ap (λ (t : List ℕ). frame_reading (record h.frame { name = name_or (ghosts.named b h.slot); fixed = t })) now.fixed;
         public = refl;
         slot = refl;
         fits = now.fits;
         going = going;
       }
 
-  done_by_answer : (b e : B) (h : Held) (at : ℕ) (from : List ℕ) (ws : List (ℕ × List ℕ)) (a : Answer) → FitsBank (state b) (named b) h → 1 ≤ length from → at + length from ≤ length h.frame.fixed → PutsBytes (fixed_under state named b h) [] at from ws
-      → InOrder did b (Commit (name_or (named b h.slot)) ws ∷ []) a e → Changes (state b) (apps_after_commit (state b).apps (name_or (named b h.slot)) ws) a (state e) → ((k : ℕ) → named e k ≡ named b k)
-      → OnOk a (EffectDone did state named (scene b e h h [] []) (static_written false (frame_on_bank (state b) (named b) h) [] at from))
+  done_by_answer : (b e : B) (h : Held) (at : ℕ) (from : List ℕ) (ws : List (ℕ × List ℕ)) (a : Answer) → FitsBank (ghosts.state b) (ghosts.named b) h → 1 ≤ length from → at + length from ≤ length h.frame.fixed → PutsBytes (fixed_under ghosts b h) [] at from ws
+      → InOrder ghosts.did b (Commit (name_or (ghosts.named b h.slot)) ws ∷ []) a e → Changes (ghosts.state b) (apps_after_commit (ghosts.state b).apps (name_or (ghosts.named b h.slot)) ws) a (ghosts.state e) → ((k : ℕ) → ghosts.named e k ≡ ghosts.named b k)
+      → OnOk a (EffectDone ghosts (scene b e h h [] []) (static_written false (frame_on_bank ghosts b h) [] at from))
   done_by_answer b e h at from ws (Ok u) fits some range puts items changes slots = committed_at_once b e h at from ws fits some range puts items changes.apps slots changes.going
   done_by_answer b e h at from ws (Err s) fits some range puts items changes slots = tt
 
   -- the puts of a write at once, from the slot, the empty words and the list of the calls
-  put_at_once : (b : B) (h : Held) (k : ℕ) (at : ℕ) (from : List ℕ) (none ws : List (ℕ × List ℕ)) → k ≡ h.slot → none ≡ [] → PutsBytes (app_of (state b).apps (named b k)).fixed none at from ws → PutsBytes (fixed_under state named b h) [] at from ws
+  put_at_once : (b : B) (h : Held) (k : ℕ) (at : ℕ) (from : List ℕ) (none ws : List (ℕ × List ℕ)) → k ≡ h.slot → none ≡ [] → PutsBytes (app_of (ghosts.state b).apps (ghosts.named b k)).fixed none at from ws → PutsBytes (fixed_under ghosts b h) [] at from ws
   put_at_once b h k at from none ws same empty puts =
-      subst (λ (t : List (ℕ × List ℕ)). PutsBytes (fixed_under state named b h) t at from ws) empty (subst (λ (i : ℕ). PutsBytes (app_of (state b).apps (named b i)).fixed none at from ws) same puts)
+      subst (λ (t : List (ℕ × List ℕ)). PutsBytes (fixed_under ghosts b h) t at from ws) empty (subst (λ (i : ℕ). PutsBytes (app_of (ghosts.state b).apps (ghosts.named b i)).fixed none at from ws) same puts)
 
-  order_at_once : (b e : B) (h : Held) (k : ℕ) (ws list : List (ℕ × List ℕ)) (a : Answer) → k ≡ h.slot → list ≡ ws → InOrder did b (Commit (name_or (named b k)) list ∷ []) a e → InOrder did b (Commit (name_or (named b h.slot)) ws ∷ []) a e
+  order_at_once : (b e : B) (h : Held) (k : ℕ) (ws list : List (ℕ × List ℕ)) (a : Answer) → k ≡ h.slot → list ≡ ws → InOrder ghosts.did b (Commit (name_or (ghosts.named b k)) list ∷ []) a e → InOrder ghosts.did b (Commit (name_or (ghosts.named b h.slot)) ws ∷ []) a e
   order_at_once b e h k ws list a same is items =
-      subst (λ (t : List (ℕ × List ℕ)). InOrder did b (Commit (name_or (named b h.slot)) t ∷ []) a e) is (subst (λ (i : ℕ). InOrder did b (Commit (name_or (named b i)) list ∷ []) a e) same items)
+      subst (λ (t : List (ℕ × List ℕ)). InOrder ghosts.did b (Commit (name_or (ghosts.named b h.slot)) t ∷ []) a e) is (subst (λ (i : ℕ). InOrder ghosts.did b (Commit (name_or (ghosts.named b i)) list ∷ []) a e) same items)
 
-  pub items_at_once : (b e : B) (h : Held) (k : ℕ) (at : ℕ) (from : List ℕ) (none ws list : List (ℕ × List ℕ)) (a : Answer) → k ≡ h.slot → none ≡ [] → list ≡ ws → PutsBytes (app_of (state b).apps (named b k)).fixed none at from ws
-      → InOrder did b (Commit (name_or (named b k)) list ∷ []) a e → Commits did state named (scene b e h h [] []) (static_written false (frame_on_bank (state b) (named b) h) [] at from) a
+  pub items_at_once : (b e : B) (h : Held) (k : ℕ) (at : ℕ) (from : List ℕ) (none ws list : List (ℕ × List ℕ)) (a : Answer) → k ≡ h.slot → none ≡ [] → list ≡ ws → PutsBytes (app_of (ghosts.state b).apps (ghosts.named b k)).fixed none at from ws
+      → InOrder ghosts.did b (Commit (name_or (ghosts.named b k)) list ∷ []) a e → Commits ghosts (scene b e h h [] []) (static_written false (frame_on_bank ghosts b h) [] at from) a
   items_at_once b e h k at from none ws list a same empty is puts items = commit_items b e h at from ws a (put_at_once b h k at from none ws same empty puts) (order_at_once b e h k ws list a same is items)
 
-  pub done_at_once : (b e : B) (h : Held) (k : ℕ) (at : ℕ) (from : List ℕ) (none ws list : List (ℕ × List ℕ)) (a : Answer) → k ≡ h.slot → none ≡ [] → list ≡ ws → FitsBank (state b) (named b) h → 1 ≤ length from → at + length from ≤ length h.frame.fixed
-      → PutsBytes (app_of (state b).apps (named b k)).fixed none at from ws → InOrder did b (Commit (name_or (named b k)) list ∷ []) a e → Changes (state b) (apps_after_commit (state b).apps (name_or (named b k)) list) a (state e) → ((k : ℕ) → named e k ≡ named b k)
-      → OnOk a (EffectDone did state named (scene b e h h [] []) (static_written false (frame_on_bank (state b) (named b) h) [] at from))
+  pub done_at_once : (b e : B) (h : Held) (k : ℕ) (at : ℕ) (from : List ℕ) (none ws list : List (ℕ × List ℕ)) (a : Answer) → k ≡ h.slot → none ≡ [] → list ≡ ws → FitsBank (ghosts.state b) (ghosts.named b) h → 1 ≤ length from → at + length from ≤ length h.frame.fixed
+      → PutsBytes (app_of (ghosts.state b).apps (ghosts.named b k)).fixed none at from ws → InOrder ghosts.did b (Commit (name_or (ghosts.named b k)) list ∷ []) a e → Changes (ghosts.state b) (apps_after_commit (ghosts.state b).apps (name_or (ghosts.named b k)) list) a (ghosts.state e) → ((k : ℕ) → ghosts.named e k ≡ ghosts.named b k)
+      → OnOk a (EffectDone ghosts (scene b e h h [] []) (static_written false (frame_on_bank ghosts b h) [] at from))
   done_at_once b e h k at from none ws list a same empty is fits some range puts items changes slots =
       done_by_answer b e h at from ws a fits some range (put_at_once b h k at from none ws same empty puts) (order_at_once b e h k ws list a same is items)
-      (subst (λ (t : List (ℕ × List ℕ)). Changes (state b) (apps_after_commit (state b).apps (name_or (named b h.slot)) t) a (state e)) is (subst (λ (i : ℕ). Changes (state b) (apps_after_commit (state b).apps (name_or (named b i)) list) a (state e)) same changes))
+      (subst (λ (t : List (ℕ × List ℕ)). Changes (ghosts.state b) (apps_after_commit (ghosts.state b).apps (name_or (ghosts.named b h.slot)) t) a (ghosts.state e)) is (subst (λ (i : ℕ). Changes (ghosts.state b) (apps_after_commit (ghosts.state b).apps (name_or (ghosts.named b i)) list) a (ghosts.state e)) same changes))
       slots
 
 -- ---- later
@@ -159,12 +160,12 @@ limit_is m l ws at n pieces are some =
     words_counted l (pieces_of (length l) ws) ws at (zeros n) (pieces_held l ws are) (omega (arith, len)) ∙ ap (λ (k : ℕ). length ws + not_pending (at / 8) (words_under at k) ws) len in
     ap (λ (ps : List (ℕ × List ℕ)). nat_lt 64 (length (touched_words (ps ++ (at, zeros n) ∷ [])))) pieces ∙ ap (λ (k : ℕ). nat_lt 64 k) count
 
-module _ {B : Type 0} (did : B → BankItem → Answer → B → Type 0) (state : B → BankState) (named : B → ℕ → Option (List ℕ)) where
-  pub kept_later : (b : B) (f : Inside) (h : Held) (at : ℕ) (from : List ℕ) (ws : List (ℕ × List ℕ)) → frame_value f ≡ h → FitsBank (state b) (named b) h → HasWords (fixed_under state named b h) f.fixed_len f.pending h → (state b).stopped ≡ false
-      → 1 ≤ length from → at + length from ≤ length h.frame.fixed → PutsBytes (fixed_under state named b h) f.pending at from ws
-      → EffectDone did state named (scene b b h (frame_value (record f { pending = ws })) [] []) (static_written true (frame_on_bank (state b) (named b) h) [] at from)
+module _ {B : Type 0} (ghosts : Ghosts B) where
+  pub kept_later : (b : B) (f : Inside) (h : Held) (at : ℕ) (from : List ℕ) (ws : List (ℕ × List ℕ)) → frame_value f ≡ h → FitsBank (ghosts.state b) (ghosts.named b) h → HasWords (fixed_under ghosts b h) f.fixed_len f.pending h → (ghosts.state b).stopped ≡ false
+      → 1 ≤ length from → at + length from ≤ length h.frame.fixed → PutsBytes (fixed_under ghosts b h) f.pending at from ws
+      → EffectDone ghosts (scene b b h (frame_value (record f { pending = ws })) [] []) (static_written true (frame_on_bank ghosts b h) [] at from)
   kept_later b f h at from ws view fits has going some range puts =
-      let l = fixed_under state named b h in
+      let l = fixed_under ghosts b h in
       let n = length l in
       let ps = pieces_of n f.pending in
       let lie = pieces_lie n f.pending has.pending in
@@ -173,9 +174,9 @@ module _ {B : Type 0} (did : B → BankItem → Answer → B → Type 0) (state 
       let same = pieces_same l (pieces_of n ws) more ws (pieces_lie n ws puts.pending) lie_more (pieces_held l ws puts.pending) (puts.holds ps lie (pieces_held l f.pending has.pending)) in
       let now : frame_value (record f { pending = ws }) ≡ record h { frame = record h.frame { pieces = pieces_of n ws } } =
       ap (λ (t : Held). record t { frame = record t.frame { pieces = pieces_of f.fixed_len ws } }) view ∙ ap (λ (k : ℕ). record h { frame = record h.frame { pieces = pieces_of k ws } }) has.len in
-      let m = frame_on_bank (state b) (named b) h in
+      let m = frame_on_bank ghosts b h in
       let some_words : 1 ≤ length ws = some_put f.pending ws (at / 8) (words_under at (length from)) puts.count (omega arith) in
-      subst (λ (t : Held). EffectDone did state named (scene b b h t [] []) (static_written true m [] at from)) (sym now)
+      subst (λ (t : Held). EffectDone ghosts (scene b b h t [] []) (static_written true m [] at from)) (sym now)
       (record {
         commits = refl;
         bytes = refl;
@@ -202,30 +203,30 @@ some_changed : {B : Type 0} (did : B → BankItem → Answer → B → Type 0) (
 some_changed did b e name l m [] a some few held items = absurd (omega arith)
 some_changed did b e name l m (w ∷ ws) a some few held items = (w ∷ ws, held, items, few)
 
-module _ {B : Type 0} (did : B → BankItem → Answer → B → Type 0) (state : B → BankState) (named : B → ℕ → Option (List ℕ)) where
+module _ {B : Type 0} (ghosts : Ghosts B) where
   abbrev pub pending_changed : B → B → Held → Answer → Type 0
-  pending_changed b e h a = IsOneCommit did (name_or (named b h.slot)) (fixed_under state named b h) (changes_of (frame_on_bank (state b) (named b) h) h.frame.pieces) b a e
+  pending_changed b e h a = IsOneCommit ghosts.did (name_or (ghosts.named b h.slot)) (fixed_under ghosts b h) (changes_of (frame_on_bank ghosts b h) h.frame.pieces) b a e
 
   abbrev pub is_now : B → B → Held → Type 0
-  is_now b e h = IsCommitted (state b) (state e) (named b) (named e) h (static_bytes (frame_on_bank (state b) (named b) h))
+  is_now b e h = IsCommitted (ghosts.state b) (ghosts.state e) (ghosts.named b) (ghosts.named e) h (static_bytes (frame_on_bank ghosts b h))
 
-  pub all_words : (b e : B) (f : Inside) (h : Held) (k : ℕ) (list : List (ℕ × List ℕ)) (a : Answer) → k ≡ h.slot → list ≡ f.pending → HasWords (fixed_under state named b h) f.fixed_len f.pending h → 1 ≤ length list
-      → InOrder did b (Commit (name_or (named b k)) list ∷ []) a e → pending_changed b e h a
+  pub all_words : (b e : B) (f : Inside) (h : Held) (k : ℕ) (list : List (ℕ × List ℕ)) (a : Answer) → k ≡ h.slot → list ≡ f.pending → HasWords (fixed_under ghosts b h) f.fixed_len f.pending h → 1 ≤ length list
+      → InOrder ghosts.did b (Commit (name_or (ghosts.named b k)) list ∷ []) a e → pending_changed b e h a
   all_words b e f h k list a same is has some items =
-      let l = fixed_under state named b h in
-      let name = name_or (named b h.slot) in
-      let all : InOrder did b (Commit name f.pending ∷ []) a e = subst (λ (t : List (ℕ × List ℕ)). InOrder did b (Commit name t ∷ []) a e) is (subst (λ (i : ℕ). InOrder did b (Commit (name_or (named b i)) list ∷ []) a e) same items) in
+      let l = fixed_under ghosts b h in
+      let name = name_or (ghosts.named b h.slot) in
+      let all : InOrder ghosts.did b (Commit name f.pending ∷ []) a e = subst (λ (t : List (ℕ × List ℕ)). InOrder ghosts.did b (Commit name t ∷ []) a e) is (subst (λ (i : ℕ). InOrder ghosts.did b (Commit (name_or (ghosts.named b i)) list ∷ []) a e) same items) in
       let long = ap (λ (t : List (ℕ × List ℕ)). length t) is in
-      subst (λ (ps : List (ℕ × List ℕ)). IsOneCommit did name l (changes_of (frame_on_bank (state b) (named b) h) ps) b a e) (sym has.pieces)
-      (some_changed did b e name l (frame_on_bank (state b) (named b) h) f.pending a (omega arith) has.pending.few (pieces_held l f.pending has.pending) all)
+      subst (λ (ps : List (ℕ × List ℕ)). IsOneCommit ghosts.did name l (changes_of (frame_on_bank ghosts b h) ps) b a e) (sym has.pieces)
+      (some_changed ghosts.did b e name l (frame_on_bank ghosts b h) f.pending a (omega arith) has.pending.few (pieces_held l f.pending has.pending) all)
 
-  pub all_words_now : (b e : B) (f : Inside) (h : Held) (k : ℕ) (list : List (ℕ × List ℕ)) → k ≡ h.slot → list ≡ f.pending → FitsBank (state b) (named b) h → HasWords (fixed_under state named b h) f.fixed_len f.pending h
-      → (state e).apps ≡ apps_after_commit (state b).apps (name_or (named b k)) list → ((i : ℕ) → named e i ≡ named b i) → is_now b e h
+  pub all_words_now : (b e : B) (f : Inside) (h : Held) (k : ℕ) (list : List (ℕ × List ℕ)) → k ≡ h.slot → list ≡ f.pending → FitsBank (ghosts.state b) (ghosts.named b) h → HasWords (fixed_under ghosts b h) f.fixed_len f.pending h
+      → (ghosts.state e).apps ≡ apps_after_commit (ghosts.state b).apps (name_or (ghosts.named b k)) list → ((i : ℕ) → ghosts.named e i ≡ ghosts.named b i) → is_now b e h
   all_words_now b e f h k list same is fits has apps slots =
-      let l = fixed_under state named b h in
-      let now = is_committed (state b) (state e) (named b) (named e) h (pieces_of (length l) f.pending) f.pending fits (pieces_lie (length l) f.pending has.pending) (pieces_held l f.pending has.pending)
-      (apps ∙ ap (λ (i : ℕ). apps_after_commit (state b).apps (name_or (named b i)) list) same ∙ ap (λ (t : List (ℕ × List ℕ)). apps_after_commit (state b).apps (name_or (named b h.slot)) t) is) slots in
-      subst (λ (ps : List (ℕ × List ℕ)). IsCommitted (state b) (state e) (named b) (named e) h (laid_pieces l ps)) (sym has.pieces) now
+      let l = fixed_under ghosts b h in
+      let now = is_committed (ghosts.state b) (ghosts.state e) (ghosts.named b) (ghosts.named e) h (pieces_of (length l) f.pending) f.pending fits (pieces_lie (length l) f.pending has.pending) (pieces_held l f.pending has.pending)
+      (apps ∙ ap (λ (i : ℕ). apps_after_commit (ghosts.state b).apps (name_or (ghosts.named b i)) list) same ∙ ap (λ (t : List (ℕ × List ℕ)). apps_after_commit (ghosts.state b).apps (name_or (ghosts.named b h.slot)) t) is) slots in
+      subst (λ (ps : List (ℕ × List ℕ)). IsCommitted (ghosts.state b) (ghosts.state e) (ghosts.named b) (ghosts.named e) h (laid_pieces l ps)) (sym has.pieces) now
 
 pub some_words : (ws : List (ℕ × List ℕ)) → nat_eq (length ws) 0 ≡ false → 1 ≤ length ws
 some_words [] none = absurd (cc none)

@@ -16,6 +16,7 @@ use Rattle.mc_segs.specs.Ends.{EffectDone, Commits, CanWrite, Stores, scene}
 use Rattle.mc_segs.specs.declared.frame.Frame.TheInside.{Inside}
 use Rattle.mc_segs.specs.declared.ends.Halt.TheVariants as halt
 use Rattle.mc_segs.proofs.AccessLemmas.{where_shown}
+use Rattle.mc_bank.specs.declared.bank.Bank.{Ghosts}
 
 -- ---- when bytes can be written
 
@@ -47,66 +48,66 @@ written_is f public a b p is = sym (ap (λ (o : Option Place). write_effect_at f
 static_is : (f : Frame) (public : List ℕ) (a i : ℕ) (b : List ℕ) (on : Bool) → f.protected ≡ on → where_is f a (length b) ≡ Some (Static i) → static_written on f public i b ≡ write_effect f public a b
 static_is f public a i b on protected is = ap (λ (t : Bool). static_written t f public i b) (sym protected) ∙ written_is f public a b (Some (Static i)) is
 
-module _ {B : Type 0} (did : B → BankItem → Answer → B → Type 0) (state : B → BankState) (named : B → ℕ → Option (List ℕ)) where
+module _ {B : Type 0} (ghosts : Ghosts B) where
   -- a call that does not touch the public segment leaves it as it is
-  with_public : (b e : B) (h h' : Held) (f : Effect) (public : List ℕ) → EffectDone did state named (scene b e h h' [] []) f → EffectDone did state named (scene b e h h' public public) (record f { public = public })
+  with_public : (b e : B) (h h' : Held) (f : Effect) (public : List ℕ) → EffectDone ghosts (scene b e h h' [] []) f → EffectDone ghosts (scene b e h h' public public) (record f { public = public })
   with_public b e h h' f public left = record { commits = left.commits; bytes = left.bytes; frame = left.frame; public = refl; slot = left.slot; fits = left.fits; going = left.going }
 
   -- in the static segment, while protection is on
-  pub kept_stored : (b : B) (h h' : Held) (at i : ℕ) (from public : List ℕ) → FitsBank (state b) (named b) h → 1 ≤ length from → h.frame.protected ≡ true → Some (Static i) ≡ where_is h.frame at (length from)
-      → passes_limit true (frame_on_bank (state b) (named b) h) (Some (Static i)) (length from) ≡ false → EffectDone did state named (scene b b h h' [] []) (static_written true (frame_on_bank (state b) (named b) h) [] i from)
-      → Stores did state named (scene b b h h' public public) at (length from) (write_effect (frame_on_bank (state b) (named b) h) public at from) (Ok tt)
+  pub kept_stored : (b : B) (h h' : Held) (at i : ℕ) (from public : List ℕ) → FitsBank (ghosts.state b) (ghosts.named b) h → 1 ≤ length from → h.frame.protected ≡ true → Some (Static i) ≡ where_is h.frame at (length from)
+      → passes_limit true (frame_on_bank ghosts b h) (Some (Static i)) (length from) ≡ false → EffectDone ghosts (scene b b h h' [] []) (static_written true (frame_on_bank ghosts b h) [] i from)
+      → Stores ghosts (scene b b h h' public public) at (length from) (write_effect (frame_on_bank ghosts b h) public at from) (Ok tt)
   kept_stored b h h' at i from public fits some on place limit left =
-      let m = frame_on_bank (state b) (named b) h in
+      let m = frame_on_bank ghosts b h in
       let n = length from in
-      let is : where_is m at n ≡ Some (Static i) = where_shown (state b) (named b) h at n fits ∙ sym place in (
+      let is : where_is m at n ≡ Some (Static i) = where_shown (ghosts.state b) (ghosts.named b) h at n fits ∙ sym place in (
         can_write m at n (Static i) some is (ap (λ (t : Bool). passes_limit t m (Some (Static i)) n) on ∙ limit),
-        subst (λ (f : Effect). EffectDone did state named (scene b b h h' public public) f) (static_is m public at i from true on is) (with_public b b h h' (static_written true m [] i from) public left),
+        subst (λ (f : Effect). EffectDone ghosts (scene b b h h' public public) f) (static_is m public at i from true on is) (with_public b b h h' (static_written true m [] i from) public left),
       )
 
-  pub refused : (b : B) (h h' : Held) (at i : ℕ) (from public : List ℕ) (a : Abend) → FitsBank (state b) (named b) h → 1 ≤ length from → h.frame.protected ≡ true → Some (Static i) ≡ where_is h.frame at (length from)
-      → passes_limit true (frame_on_bank (state b) (named b) h) (Some (Static i)) (length from) ≡ true → a ≡ A08 → h' ≡ h
-      → Stores did state named (scene b b h h' public public) at (length from) (write_effect (frame_on_bank (state b) (named b) h) public at from) (Err (halt.Abend a))
+  pub refused : (b : B) (h h' : Held) (at i : ℕ) (from public : List ℕ) (a : Abend) → FitsBank (ghosts.state b) (ghosts.named b) h → 1 ≤ length from → h.frame.protected ≡ true → Some (Static i) ≡ where_is h.frame at (length from)
+      → passes_limit true (frame_on_bank ghosts b h) (Some (Static i)) (length from) ≡ true → a ≡ A08 → h' ≡ h
+      → Stores ghosts (scene b b h h' public public) at (length from) (write_effect (frame_on_bank ghosts b h) public at from) (Err (halt.Abend a))
   refused b h h' at i from public a fits some on place limit is_08 unchanged =
-      let m = frame_on_bank (state b) (named b) h in
+      let m = frame_on_bank ghosts b h in
       let n = length from in
-      let is : where_is m at n ≡ Some (Static i) = where_shown (state b) (named b) h at n fits ∙ sym place in
+      let is : where_is m at n ≡ Some (Static i) = where_shown (ghosts.state b) (ghosts.named b) h at n fits ∙ sym place in
       let due : too_many m at n ≡ true = limit_in m at n (Some (Static i)) is ∙ ap (λ (t : Bool). passes_limit t m (Some (Static i)) n) on ∙ limit in
       (inr (outside_is m at n (Some (Static i)) some is, due, is_08), refl, unchanged, refl)
 
   -- in the static segment, while protection is off
-  pub committed_stored : (b e : B) (h : Held) (at i : ℕ) (from public : List ℕ) → FitsBank (state b) (named b) h → 1 ≤ length from → h.frame.protected ≡ false → Some (Static i) ≡ where_is h.frame at (length from)
-      → EffectDone did state named (scene b e h h [] []) (static_written false (frame_on_bank (state b) (named b) h) [] i from)
-      → Stores did state named (scene b e h h public public) at (length from) (write_effect (frame_on_bank (state b) (named b) h) public at from) (Ok tt)
+  pub committed_stored : (b e : B) (h : Held) (at i : ℕ) (from public : List ℕ) → FitsBank (ghosts.state b) (ghosts.named b) h → 1 ≤ length from → h.frame.protected ≡ false → Some (Static i) ≡ where_is h.frame at (length from)
+      → EffectDone ghosts (scene b e h h [] []) (static_written false (frame_on_bank ghosts b h) [] i from)
+      → Stores ghosts (scene b e h h public public) at (length from) (write_effect (frame_on_bank ghosts b h) public at from) (Ok tt)
   committed_stored b e h at i from public fits some off place left =
-      let m = frame_on_bank (state b) (named b) h in
+      let m = frame_on_bank ghosts b h in
       let n = length from in
-      let is : where_is m at n ≡ Some (Static i) = where_shown (state b) (named b) h at n fits ∙ sym place in (
+      let is : where_is m at n ≡ Some (Static i) = where_shown (ghosts.state b) (ghosts.named b) h at n fits ∙ sym place in (
         can_write m at n (Static i) some is (ap (λ (t : Bool). passes_limit t m (Some (Static i)) n) off),
-        subst (λ (f : Effect). EffectDone did state named (scene b e h h public public) f) (static_is m public at i from false off is) (with_public b e h h (static_written false m [] i from) public left),
+        subst (λ (f : Effect). EffectDone ghosts (scene b e h h public public) f) (static_is m public at i from false off is) (with_public b e h h (static_written false m [] i from) public left),
       )
 
-  pub stopped_stored : (b e : B) (h : Held) (at i : ℕ) (from public : List ℕ) (s : Stop) → FitsBank (state b) (named b) h → 1 ≤ length from → h.frame.protected ≡ false → Some (Static i) ≡ where_is h.frame at (length from)
-      → Commits did state named (scene b e h h [] []) (static_written false (frame_on_bank (state b) (named b) h) [] i from) (Err s)
-      → Stores did state named (scene b e h h public public) at (length from) (write_effect (frame_on_bank (state b) (named b) h) public at from) (Err (halt.Stop s))
+  pub stopped_stored : (b e : B) (h : Held) (at i : ℕ) (from public : List ℕ) (s : Stop) → FitsBank (ghosts.state b) (ghosts.named b) h → 1 ≤ length from → h.frame.protected ≡ false → Some (Static i) ≡ where_is h.frame at (length from)
+      → Commits ghosts (scene b e h h [] []) (static_written false (frame_on_bank ghosts b h) [] i from) (Err s)
+      → Stores ghosts (scene b e h h public public) at (length from) (write_effect (frame_on_bank ghosts b h) public at from) (Err (halt.Stop s))
   stopped_stored b e h at i from public s fits some off place commits =
-      let m = frame_on_bank (state b) (named b) h in
+      let m = frame_on_bank ghosts b h in
       let n = length from in
-      let is : where_is m at n ≡ Some (Static i) = where_shown (state b) (named b) h at n fits ∙ sym place in (
+      let is : where_is m at n ≡ Some (Static i) = where_shown (ghosts.state b) (ghosts.named b) h at n fits ∙ sym place in (
         can_write m at n (Static i) some is (ap (λ (t : Bool). passes_limit t m (Some (Static i)) n) off),
-        subst (λ (f : Effect). Commits did state named (scene b e h h public public) f (Err s)) (static_is m public at i from false off is) commits,
+        subst (λ (f : Effect). Commits ghosts (scene b e h h public public) f (Err s)) (static_is m public at i from false off is) commits,
       )
 
   -- in the dynamic segment
-  pub dynamic_stored : (b : B) (f : Inside) (h : Held) (at i : ℕ) (from public dyn : List ℕ) → frame_value f ≡ h → FitsBank (state b) (named b) h → (state b).stopped ≡ false → 1 ≤ length from → Some (Dynamic i) ≡ where_is h.frame at (length from) → dyn ≡ splice f.dynamic i from
-      → Stores did state named (scene b b h (frame_value (record f { dynamic = dyn })) public public) at (length from) (write_effect (frame_on_bank (state b) (named b) h) public at from) (Ok tt)
+  pub dynamic_stored : (b : B) (f : Inside) (h : Held) (at i : ℕ) (from public dyn : List ℕ) → frame_value f ≡ h → FitsBank (ghosts.state b) (ghosts.named b) h → (ghosts.state b).stopped ≡ false → 1 ≤ length from → Some (Dynamic i) ≡ where_is h.frame at (length from) → dyn ≡ splice f.dynamic i from
+      → Stores ghosts (scene b b h (frame_value (record f { dynamic = dyn })) public public) at (length from) (write_effect (frame_on_bank ghosts b h) public at from) (Ok tt)
   dynamic_stored b f h at i from public dyn view fits going some place spliced =
-      let m = frame_on_bank (state b) (named b) h in
+      let m = frame_on_bank ghosts b h in
       let n = length from in
       let next : Held = record h { frame = record h.frame { dyn = splice h.frame.dyn i from } } in
       let now : frame_value (record f { dynamic = dyn }) ≡ next = ap (λ (t : List ℕ). frame_value (record f { dynamic = t })) spliced ∙ ap (λ (t : Held). record t { frame = record t.frame { dyn = splice t.frame.dyn i from } }) view in
-      let is : where_is m at n ≡ Some (Dynamic i) = where_shown (state b) (named b) h at n fits ∙ sym place in
-      let left : EffectDone did state named (scene b b h next public public) (write_effect_at m public from (Some (Dynamic i))) = record {
+      let is : where_is m at n ≡ Some (Dynamic i) = where_shown (ghosts.state b) (ghosts.named b) h at n fits ∙ sym place in
+      let left : EffectDone ghosts (scene b b h next public public) (write_effect_at m public from (Some (Dynamic i))) = record {
         commits = refl;
         bytes = refl;
         frame = refl;
@@ -116,15 +117,15 @@ module _ {B : Type 0} (did : B → BankItem → Answer → B → Type 0) (state 
         going = going;
       } in (
         can_write m at n (Dynamic i) some is (no_limit_dynamic m.protected m i n),
-        subst (λ (t : Held). EffectDone did state named (scene b b h t public public) (write_effect m public at from)) (sym now) (subst (λ (e : Effect). EffectDone did state named (scene b b h next public public) e) (written_is m public at from (Some (Dynamic i)) is) left),
+        subst (λ (t : Held). EffectDone ghosts (scene b b h t public public) (write_effect m public at from)) (sym now) (subst (λ (e : Effect). EffectDone ghosts (scene b b h next public public) e) (written_is m public at from (Some (Dynamic i)) is) left),
       )
 
   -- in the public segment
-  pub public_stored : (b : B) (h : Held) (at i : ℕ) (from public public_after : List ℕ) → FitsBank (state b) (named b) h → (state b).stopped ≡ false → 1 ≤ length from → Some (Public i) ≡ where_is h.frame at (length from) → public_after ≡ splice public i from
-      → Stores did state named (scene b b h h public public_after) at (length from) (write_effect (frame_on_bank (state b) (named b) h) public at from) (Ok tt)
+  pub public_stored : (b : B) (h : Held) (at i : ℕ) (from public public_after : List ℕ) → FitsBank (ghosts.state b) (ghosts.named b) h → (ghosts.state b).stopped ≡ false → 1 ≤ length from → Some (Public i) ≡ where_is h.frame at (length from) → public_after ≡ splice public i from
+      → Stores ghosts (scene b b h h public public_after) at (length from) (write_effect (frame_on_bank ghosts b h) public at from) (Ok tt)
   public_stored b h at i from public public_after fits going some place spliced =
-      let m = frame_on_bank (state b) (named b) h in
+      let m = frame_on_bank ghosts b h in
       let n = length from in
-      let is : where_is m at n ≡ Some (Public i) = where_shown (state b) (named b) h at n fits ∙ sym place in
-      let left : EffectDone did state named (scene b b h h public public_after) (write_effect_at m public from (Some (Public i))) = record { commits = refl; bytes = refl; frame = refl; public = spliced; slot = refl; fits = fits; going = going } in
-      (can_write m at n (Public i) some is (no_limit_public m.protected m i n), subst (λ (e : Effect). EffectDone did state named (scene b b h h public public_after) e) (written_is m public at from (Some (Public i)) is) left)
+      let is : where_is m at n ≡ Some (Public i) = where_shown (ghosts.state b) (ghosts.named b) h at n fits ∙ sym place in
+      let left : EffectDone ghosts (scene b b h h public public_after) (write_effect_at m public from (Some (Public i))) = record { commits = refl; bytes = refl; frame = refl; public = spliced; slot = refl; fits = fits; going = going } in
+      (can_write m at n (Public i) some is (no_limit_public m.protected m i n), subst (λ (e : Effect). EffectDone ghosts (scene b b h h public public_after) e) (written_is m public at from (Some (Public i)) is) left)

@@ -16,6 +16,7 @@ use Rattle.mc_segs.specs.declared.ends.Halt.{Halt}
 use Rattle.mc_segs.specs.declared.ends.Halt.TheVariants as halt
 use Rattle.mc_segs.specs.declared.ends.Next.{Next}
 use Rattle.mc_segs.specs.declared.ends.Next.TheVariants.{Go, Exit, Delegate}
+use Rattle.mc_bank.specs.declared.bank.Bank.{Ghosts}
 
 -- the abend `a` exactly if it is due
 abbrev pub IfDue : Result (Unit {0}) Abend → Bool → Abend → Type 0
@@ -58,26 +59,26 @@ pub record Scene (B : Type 0) : Type 0 where
 -- In what follows the first parameters are the bank's relation of items, its state and the names of its slots.
 
 -- the frame on the bank before a call
-abbrev pub before : {B : Type 0} → (B → BankState) → (B → ℕ → Option (List ℕ)) → Scene B → Frame
-before state named s = frame_on_bank (state s.bank) (named s.bank) s.held
+abbrev pub before : {B : Type 0} → Ghosts B → Scene B → Frame
+before ghosts s = frame_on_bank ghosts s.bank s.held
 
 -- the frame on the bank after a call
-abbrev pub after : {B : Type 0} → (B → BankState) → (B → ℕ → Option (List ℕ)) → Scene B → Frame
-after state named s = frame_on_bank (state s.bank_after) (named s.bank_after) s.held_after
+abbrev pub after : {B : Type 0} → Ghosts B → Scene B → Frame
+after ghosts s = frame_on_bank ghosts s.bank_after s.held_after
 
 -- the static change of an effect, as a commit of the bank with this result
-abbrev pub Commits : {B : Type 0} → (B → BankItem → Answer → B → Type 0) → (B → BankState) → (B → ℕ → Option (List ℕ)) → Scene B → Effect → Answer → Type 0
-Commits did state named s e a = IsOneCommit did (before state named s).name (before state named s).fixed e.changes s.bank a s.bank_after
+abbrev pub Commits : {B : Type 0} → Ghosts B → Scene B → Effect → Answer → Type 0
+Commits ghosts s e a = IsOneCommit ghosts.did (before ghosts s).name (before ghosts s).fixed e.changes s.bank a s.bank_after
 
 -- an effect that was done: the state after it is the effect's, the frame fits the bank, and the bank has not stopped
-pub record EffectDone {B : Type 0} (did : B → BankItem → Answer → B → Type 0) (state : B → BankState) (named : B → ℕ → Option (List ℕ)) (s : Scene B) (e : Effect) : Type 0 where
-  pub commits : Commits did state named s e (Ok tt)
-  pub bytes : (after state named s).fixed ≡ changed_bytes (before state named s).fixed e.changes
-  pub frame : frame_reading (after state named s) ≡ frame_reading e.frame
+pub record EffectDone {B : Type 0} (ghosts : Ghosts B) (s : Scene B) (e : Effect) : Type 0 where
+  pub commits : Commits ghosts s e (Ok tt)
+  pub bytes : (after ghosts s).fixed ≡ changed_bytes (before ghosts s).fixed e.changes
+  pub frame : frame_reading (after ghosts s) ≡ frame_reading e.frame
   pub public : s.public_after ≡ e.public
   pub slot : s.held_after.slot ≡ s.held.slot
-  pub fits : FitsBank (state s.bank_after) (named s.bank_after) s.held_after
-  pub going : (state s.bank_after).stopped ≡ false
+  pub fits : FitsBank (ghosts.state s.bank_after) (ghosts.named s.bank_after) s.held_after
+  pub going : (ghosts.state s.bank_after).stopped ≡ false
 
 -- after an abend no byte of a segment has changed; the registers may have
 pub record WroteNoByte {B : Type 0} (s : Scene B) : Type 0 where
@@ -97,17 +98,17 @@ abbrev pub scene : {B : Type 0} → B → B → Held → Held → List ℕ → L
 scene b c h k p q = record { bank = b; bank_after = c; held = h; held_after = k; public = p; public_after = q }
 
 -- the end of a row agrees with the result of the call
-abbrev pub EndActs : {B : Type 0} → (B → BankItem → Answer → B → Type 0) → (B → BankState) → (B → ℕ → Option (List ℕ)) → Scene B → RowEnd → Result Next Halt → Type 0
-EndActs did state named s (Abends a) (Ok next) = ⊥
-EndActs did state named s (Abends a) (Err (halt.Abend b)) = (b ≡ a) × WroteNoByte s
-EndActs did state named s (Abends a) (Err (halt.Stop stop)) = ⊥
-EndActs did state named s (Does d) (Ok next) = (then_of next ≡ d.next) × EffectDone did state named s d.effect
-EndActs did state named s (Does d) (Err (halt.Abend b)) = ⊥
-EndActs did state named s (Does d) (Err (halt.Stop stop)) = Commits did state named s d.effect (Err stop)
+abbrev pub EndActs : {B : Type 0} → Ghosts B → Scene B → RowEnd → Result Next Halt → Type 0
+EndActs ghosts s (Abends a) (Ok next) = ⊥
+EndActs ghosts s (Abends a) (Err (halt.Abend b)) = (b ≡ a) × WroteNoByte s
+EndActs ghosts s (Abends a) (Err (halt.Stop stop)) = ⊥
+EndActs ghosts s (Does d) (Ok next) = (then_of next ≡ d.next) × EffectDone ghosts s d.effect
+EndActs ghosts s (Does d) (Err (halt.Abend b)) = ⊥
+EndActs ghosts s (Does d) (Err (halt.Stop stop)) = Commits ghosts s d.effect (Err stop)
 
 -- the result and the state after the call are those of the row of the instruction
-abbrev pub RowActs : {B : Type 0} → (B → BankItem → Answer → B → Type 0) → (B → BankState) → (B → ℕ → Option (List ℕ)) → Scene B → Ins → Around → Result Next Halt → Type 0
-RowActs did state named s i x r = EndActs did state named s (row i (before state named s) s.public x) r
+abbrev pub RowActs : {B : Type 0} → Ghosts B → Scene B → Ins → Around → Result Next Halt → Type 0
+RowActs ghosts s i x r = EndActs ghosts s (row i (before ghosts s) s.public x) r
 
 -- why a write of n bytes abends: 03 if they lie in no segment, else 08 if too many words would be pending
 abbrev pub WriteAbends : Frame → ℕ → ℕ → Abend → Type 0
@@ -118,12 +119,12 @@ abbrev pub CanWrite : Frame → ℕ → ℕ → Type 0
 CanWrite f a n = (is_outside f a n ≡ false) × (too_many f a n ≡ false)
 
 -- a write of n bytes at an address: how its effect and the result of the call agree
-abbrev pub Stores : {B : Type 0} → (B → BankItem → Answer → B → Type 0) → (B → BankState) → (B → ℕ → Option (List ℕ)) → Scene B → ℕ → ℕ → Effect → Result (Unit {0}) Halt → Type 0
-Stores did state named s a n e (Ok u) = CanWrite (before state named s) a n × EffectDone did state named s e
-Stores did state named s a n e (Err (halt.Abend b)) = WriteAbends (before state named s) a n b × (s.bank_after ≡ s.bank) × (s.held_after ≡ s.held) × (s.public_after ≡ s.public)
-Stores did state named s a n e (Err (halt.Stop stop)) = CanWrite (before state named s) a n × Commits did state named s e (Err stop)
+abbrev pub Stores : {B : Type 0} → Ghosts B → Scene B → ℕ → ℕ → Effect → Result (Unit {0}) Halt → Type 0
+Stores ghosts s a n e (Ok u) = CanWrite (before ghosts s) a n × EffectDone ghosts s e
+Stores ghosts s a n e (Err (halt.Abend b)) = WriteAbends (before ghosts s) a n b × (s.bank_after ≡ s.bank) × (s.held_after ≡ s.held) × (s.public_after ≡ s.public)
+Stores ghosts s a n e (Err (halt.Stop stop)) = CanWrite (before ghosts s) a n × Commits ghosts s e (Err stop)
 
 -- a change of protection: how its effect and the result of the call agree
-abbrev pub Protects : {B : Type 0} → (B → BankItem → Answer → B → Type 0) → (B → BankState) → (B → ℕ → Option (List ℕ)) → Scene B → Effect → Result (Unit {0}) Stop → Type 0
-Protects did state named s e (Ok u) = EffectDone did state named s e
-Protects did state named s e (Err stop) = Commits did state named s e (Err stop)
+abbrev pub Protects : {B : Type 0} → Ghosts B → Scene B → Effect → Result (Unit {0}) Stop → Type 0
+Protects ghosts s e (Ok u) = EffectDone ghosts s e
+Protects ghosts s e (Err stop) = Commits ghosts s e (Err stop)

@@ -7,9 +7,10 @@ use Rattle.mc_model_device.specs.Card.{App}
 use Rattle.mc_model_device.specs.Pieces.{touched_words, ArePending}
 use Rattle.mc_model_machine.specs.Frame.{Frame, static_bytes, floor, dynamic_end, new_frame}
 use Rattle.mc_bank.specs.Bank.{BankState, app_of, name_or}
+use Rattle.mc_bank.specs.declared.bank.Bank.{Ghosts}
 
--- A frame without what the bank stores: the slot of its application, and a frame without a name, whose static segment has its length but
--- zeros for bytes, and whose pieces are its pending words.
+-- A frame without what the bank stores: the slot of its application, and a frame without a name, whose static segment
+-- has its length but zeros for bytes, and whose pieces are its pending words.
 pub record Held : Type 0 where
   pub slot : ℕ
   pub frame : Frame
@@ -24,7 +25,8 @@ pub record ArePendingIn (n : ℕ) (ws : List (ℕ × List ℕ)) : Type 0 where
   pub pending : ArePending ws
   pub within : AllByRecursion (λ w. 8 * w.0 < n) ws
 
--- the invariant of a frame: 512 dynamic bytes, DT between the floor and the end of the dynamic segment, at most 256 session bytes
+-- the invariant of a frame: 512 dynamic bytes, DT between the floor and the end of the dynamic segment, at most 256
+-- session bytes
 pub record KeepsFrame (f : Frame) : Type 0 where
   pub dyn : length f.dyn ≡ 512
   pub low : floor f ≤ f.dt
@@ -35,9 +37,10 @@ pub record KeepsFrame (f : Frame) : Type 0 where
 abbrev pub app_under : BankState → (ℕ → Option (List ℕ)) → Held → App
 app_under s named h = app_of s.apps (named h.slot)
 
--- the machine's frame: the held one with the name and the static bytes of its application on the bank
-abbrev pub frame_on_bank : BankState → (ℕ → Option (List ℕ)) → Held → Frame
-frame_on_bank s named h = record h.frame { name = name_or (named h.slot); fixed = (app_under s named h).fixed }
+-- the machine's frame: the held one with the name and the static bytes of its application, by the applications of a
+-- bank and the names of its slots
+abbrev pub frame_with : BankState → (ℕ → Option (List ℕ)) → Held → Frame
+frame_with s named h = record h.frame { name = name_or (named h.slot); fixed = (app_under s named h).fixed }
 
 -- a frame fits a bank: its application is there, with the sizes and the access list that the frame was made with
 pub record FitsBank (s : BankState) (named : ℕ → Option (List ℕ)) (h : Held) : Type 0 where
@@ -48,10 +51,14 @@ pub record FitsBank (s : BankState) (named : ℕ → Option (List ℕ)) (h : Hel
   pub deny : h.frame.deny ≡ (app_under s named h).deny
   pub session : h.frame.session ≡ (app_under s named h).session
 
+-- the machine's frame on a bank
+abbrev pub frame_on_bank : {B : Type 0} → Ghosts B → B → Held → Frame
+frame_on_bank ghosts bank h = frame_with (ghosts.state bank) (ghosts.named bank) h
+
 -- an instruction may run: the bank takes changes, and the frame fits it
-pub record CanRun (s : BankState) (named : ℕ → Option (List ℕ)) (h : Held) : Type 0 where
-  pub going : s.stopped ≡ false
-  pub fits : FitsBank s named h
+pub record CanRun {B : Type 0} (ghosts : Ghosts B) (bank : B) (h : Held) : Type 0 where
+  pub going : (ghosts.state bank).stopped ≡ false
+  pub fits : FitsBank (ghosts.state bank) (ghosts.named bank) h
 
 -- a new frame of an application with these sizes
 abbrev pub new_held : ℕ → Sizes → List ℕ → Held
@@ -64,8 +71,8 @@ abbrev pub no_pieces : List (ℕ × List ℕ) → Bool
 no_pieces [] = true
 no_pieces (p ∷ ps) = false
 
--- what a frame has whichever pieces its pending words come from: the static bytes as they read, the words that are pending, and whether
--- none are
+-- what a frame has whichever pieces its pending words come from: the static bytes as they read, the words that are
+-- pending, and whether none are
 pub record Seen : Type 0 where
   pub name : List ℕ
   pub code_len : ℕ

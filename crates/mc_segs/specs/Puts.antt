@@ -4,8 +4,8 @@ use Rattle.mc_model_device.specs.Bytes.{splice}
 use Rattle.mc_model_device.specs.Pieces.{pending_at, put_word, not_pending, HoldPieces, LieIn}
 use Rattle.mc_segs.specs.HeldFrames.{ArePendingIn}
 
--- Word n of a segment before bytes are put into it: the pending one, or else the segment's bytes. After the segment's end it may hold
--- anything.
+-- Word n of a segment before bytes are put into it: the pending one, or else the segment's bytes. After the segment's
+-- end it may hold anything.
 pub record IsWordOf (l : List ℕ) (ws : List (ℕ × List ℕ)) (n : ℕ) (word : List ℕ) : Type 0 where
   pub eight : length word ≡ 8
   pub there : IfSome (pending_at ws n) (λ b. word ≡ b)
@@ -21,7 +21,8 @@ pub record PutsPiece (l : List ℕ) (ws : List (ℕ × List ℕ)) (n at : ℕ) (
 abbrev pub words_under : ℕ → ℕ → ℕ
 words_under at len = (at + len - 1) / 8 + 1 - at / 8
 
--- the pending words after bytes are put into all the words that they lie in: if the words held some pieces, they hold these bytes too
+-- the pending words after bytes are put into all the words that they lie in: if the words held some pieces, they hold
+-- these bytes too
 pub record PutsBytes (l : List ℕ) (ws : List (ℕ × List ℕ)) (at : ℕ) (b : List ℕ) (after : List (ℕ × List ℕ)) : Type 0 where
   pub pending : ArePendingIn (length l) after
   pub count : length after ≡ length ws + not_pending (at / 8) (words_under at (length b)) ws

@@ -96,11 +96,12 @@ pub fn load<B: Bank>(
     at: u16,
     into: &mut [u8],
 ) -> Result<(), Abend>
-    requires runs { CanRun (B.state bank.now) (B.named bank.now) frame.now }
-    ensures abend { IfDue result (model.is_outside (frame_on_bank (B.state bank.now) (B.named bank.now) frame.now) at
+    requires runs { CanRun B.Bank bank.now frame.now }
+    ensures abend { IfDue result (model.is_outside (frame_on_bank B.Bank bank.now frame.now) at
         (length into.old)) Abend.A03 }
     ensures bytes { OnOk result (into.new
-        ≡ model.bytes_at (frame_on_bank (B.state bank.now) (B.named bank.now) frame.now) public.now at (length into.old)) }
+        ≡ model.bytes_at (frame_on_bank B.Bank bank.now frame.now) public.now at
+        (length into.old)) }
     ensures unchanged { OnErr result (into.new ≡ into.old) }
 {
     if into.is_empty() {
@@ -119,10 +120,10 @@ pub fn load<B: Bank>(
 // whose bytes are copied in place.
 #[inline(never)]
 fn read_static<B: Bank>(bank: &B, frame: &Frame, at: u16, into: &mut [u8])
-    requires runs { CanRun (B.state bank.now) (B.named bank.now) frame.now }
+    requires runs { CanRun B.Bank bank.now frame.now }
     requires range { at + length into.old ≤ length frame.now.frame.fixed }
     ensures { into.new ≡ take (length into.old)
-        (drop at (model.static_bytes (frame_on_bank (B.state bank.now) (B.named bank.now) frame.now))) }
+        (drop at (model.static_bytes (frame_on_bank B.Bank bank.now frame.now))) }
 {
     bank.fixed(frame.slot, at, into);
     for (number, word) in frame.pending.list() {
@@ -158,12 +159,12 @@ pub fn store<B: Bank>(
     at: u16,
     from: &[u8],
 ) -> Result<(), Halt>
-    requires runs { CanRun (B.state bank.old) (B.named bank.old) frame.old }
+    requires runs { CanRun B.Bank bank.old frame.old }
     requires low { 1 ≤ length from.now }
     requires high { length from.now ≤ 255 }
-    ensures { Stores B.did B.state B.named (scene bank.old bank.new frame.old frame.new public.old public.new) at
+    ensures { Stores B.Bank (scene bank.old bank.new frame.old frame.new public.old public.new) at
         (length from.now)
-        (model.write_effect (frame_on_bank (B.state bank.old) (B.named bank.old) frame.old) public.old at from.now) result }
+        (model.write_effect (frame_on_bank B.Bank bank.old frame.old) public.old at from.now) result }
 {
     match place_of(frame, at, from.len()) {
         Some(Place::Static(i)) if frame.protected => keep_static(bank, frame, i, from)?,

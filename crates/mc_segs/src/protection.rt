@@ -23,10 +23,10 @@ use mc_trans::Pending;
 ///
 /// Returns the `Stop` of the bank if the commit stopped.
 pub fn protect<B: Bank>(bank: &mut B, frame: &mut Frame, mode: u8) -> Result<(), Stop>
-    requires runs { CanRun (B.state bank.old) (B.named bank.old) frame.old }
+    requires runs { CanRun B.Bank bank.old frame.old }
     requires mode { mode ≤ 3 }
-    ensures { Protects B.did B.state B.named (scene bank.old bank.new frame.old frame.new [] [])
-        (model.protect (frame_on_bank (B.state bank.old) (B.named bank.old) frame.old) [] mode) result }
+    ensures { Protects B.Bank (scene bank.old bank.new frame.old frame.new [] [])
+        (model.protect (frame_on_bank B.Bank bank.old frame.old) [] mode) result }
 {
     if !commits(mode) {
         drop_pending(frame, mode >= 2);
@@ -54,11 +54,12 @@ fn drop_pending(frame: &mut Frame, protected: bool)
 
 // Commits the pending words, if there are some.
 fn commit_pending<B: Bank>(bank: &mut B, frame: &Frame) -> Result<(), Stop>
-    requires runs { CanRun (B.state bank.old) (B.named bank.old) frame.now }
-    ensures items { let m = frame_on_bank (B.state bank.old) (B.named bank.old) frame.now in
+    requires runs { CanRun B.Bank bank.old frame.now }
+    ensures items { let m = frame_on_bank B.Bank bank.old frame.now in
         IsOneCommit B.did m.name m.fixed (model.pending_change m m.pieces) bank.old result bank.new }
     ensures fixed { OnOk result (IsCommitted (B.state bank.old) (B.state bank.new) (B.named bank.old)
-        (B.named bank.new) frame.now (model.static_bytes (frame_on_bank (B.state bank.old) (B.named bank.old) frame.now))) }
+        (B.named bank.new) frame.now (model.static_bytes
+        (frame_on_bank B.Bank bank.old frame.now))) }
     ensures going { OnOk result ((B.state bank.new).stopped ≡ false) }
 {
     let words = frame.pending.list();
@@ -74,14 +75,14 @@ fn commit_pending<B: Bank>(bank: &mut B, frame: &Frame) -> Result<(), Stop>
 ///
 /// Returns the `Stop` of the bank if the commit stopped.
 pub fn commit_static<B: Bank>(bank: &mut B, frame: &Frame, at: u16, from: &[u8]) -> Result<(), Stop>
-    requires runs { CanRun (B.state bank.old) (B.named bank.old) frame.now }
+    requires runs { CanRun B.Bank bank.old frame.now }
     requires low { 1 ≤ length from.now }
     requires high { length from.now ≤ 255 }
     requires range { at + length from.now ≤ length frame.now.frame.fixed }
-    ensures items { Commits B.did B.state B.named (scene bank.old bank.new frame.now frame.now [] [])
-        (model.static_written false (frame_on_bank (B.state bank.old) (B.named bank.old) frame.now) [] at from.now) result }
-    ensures done { OnOk result (EffectDone B.did B.state B.named (scene bank.old bank.new frame.now frame.now [] [])
-        (model.static_written false (frame_on_bank (B.state bank.old) (B.named bank.old) frame.now) [] at from.now)) }
+    ensures items { Commits B.Bank (scene bank.old bank.new frame.now frame.now [] [])
+        (model.static_written false (frame_on_bank B.Bank bank.old frame.now) [] at from.now) result }
+    ensures done { OnOk result (EffectDone B.Bank (scene bank.old bank.new frame.now frame.now [] [])
+        (model.static_written false (frame_on_bank B.Bank bank.old frame.now) [] at from.now)) }
 {
     let mut words = Pending::new();
     put_bytes(bank, frame.slot, frame.fixed_len, &mut words, at, from);
@@ -94,14 +95,15 @@ pub fn commit_static<B: Bank>(bank: &mut B, frame: &Frame, at: u16, from: &[u8])
 ///
 /// Returns abend 08, and changes nothing, if more than 64 words would be pending.
 pub fn keep_static<B: Bank>(bank: &B, frame: &mut Frame, at: u16, from: &[u8]) -> Result<(), Abend>
-    requires runs { CanRun (B.state bank.now) (B.named bank.now) frame.old }
+    requires runs { CanRun B.Bank bank.now frame.old }
     requires low { 1 ≤ length from.now }
     requires high { length from.now ≤ 255 }
     requires range { at + length from.now ≤ length frame.old.frame.fixed }
-    ensures abend { IfDue result (model.passes_limit true (frame_on_bank (B.state bank.now) (B.named bank.now) frame.old)
+    ensures abend { IfDue result (model.passes_limit true
+        (frame_on_bank B.Bank bank.now frame.old)
         (Some (model.Static at)) (length from.now)) Abend.A08 }
-    ensures kept { OnOk result (EffectDone B.did B.state B.named (scene bank.now bank.now frame.old frame.new [] [])
-        (model.static_written true (frame_on_bank (B.state bank.now) (B.named bank.now) frame.old) [] at from.now)) }
+    ensures kept { OnOk result (EffectDone B.Bank (scene bank.now bank.now frame.old frame.new [] [])
+        (model.static_written true (frame_on_bank B.Bank bank.now frame.old) [] at from.now)) }
     ensures unchanged { OnErr result (frame.new ≡ frame.old) }
 {
     let count = (at % 8 + from.len() as u16 - 1) / 8 + 1;

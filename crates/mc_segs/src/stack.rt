@@ -15,7 +15,8 @@ use mc_model_machine::Abend;
 #[inline]
 pub fn push(frame: &mut Frame, bytes: &[u8]) -> Result<(), Abend>
     ensures abend { IfDue result (model.is_over frame.old.frame (length bytes.now)) Abend.A05 }
-    ensures pushed { OnOk result (frame.new ≡ record frame.old { frame = model.frame_after_push frame.old.frame bytes.now }) }
+    ensures pushed { OnOk result
+        (frame.new ≡ record frame.old { frame = model.frame_after_push frame.old.frame bytes.now }) }
     ensures unchanged { OnErr result (frame.new ≡ frame.old) }
 {
     let from = (frame.dt - DYNAMIC) as usize;
@@ -46,7 +47,8 @@ pub fn top(frame: &Frame, count: u8) -> &[u8]
 #[inline]
 pub fn discard(frame: &mut Frame, count: u8) -> Result<(), Abend>
     ensures abend { IfDue result (model.is_under frame.old.frame count) Abend.A04 }
-    ensures popped { OnOk result (frame.new ≡ record frame.old { frame = model.frame_after_pop frame.old.frame count }) }
+    ensures popped { OnOk result
+        (frame.new ≡ record frame.old { frame = model.frame_after_pop frame.old.frame count }) }
     ensures unchanged { OnErr result (frame.new ≡ frame.old) }
 {
     let count = count as u16;
@@ -87,7 +89,8 @@ pub fn pop(frame: &mut Frame, into: &mut [u8]) -> Result<(), Abend>
 /// Returns abend 05, and changes nothing, if the four bytes would pass the end of the stack.
 pub fn enter(frame: &mut Frame, to: u16) -> Result<(), Abend>
     ensures abend { IfDue result (model.is_over frame.old.frame 4) Abend.A05 }
-    ensures entered { OnOk result (frame.new ≡ record frame.old { frame = model.frame_after_entry frame.old.frame to }) }
+    ensures entered { OnOk result
+        (frame.new ≡ record frame.old { frame = model.frame_after_entry frame.old.frame to }) }
     ensures unchanged { OnErr result (frame.new ≡ frame.old) }
 {
     let saved = words(frame.lb, frame.at);
@@ -103,7 +106,8 @@ pub fn enter(frame: &mut Frame, to: u16) -> Result<(), Abend>
 ///
 /// Returns abend 04 if no such call lies on the stack.
 pub fn return_address(frame: &Frame, i: u8, o: u8) -> Result<u16, Abend>
-    ensures { GivesOrAbends result (model.no_return frame.now.frame i o) Abend.A04 (model.saved_address frame.now.frame 2) }
+    ensures { GivesOrAbends result (model.no_return frame.now.frame i o) Abend.A04
+        (model.saved_address frame.now.frame 2) }
 {
     if !returns(frame, i as u16, o as u16) {
         return Err(Abend::A04);

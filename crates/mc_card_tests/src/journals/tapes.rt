@@ -17,7 +17,7 @@ struct Refusals {
 // Devices that refuse writes by themselves follow the rule, and their tapes have exactly the writes of the
 // rule.
 #[test]
-fn worn_writes(rt: HostRuntime) -> Result<(), Fail> {
+fn failure_writes(rt: HostRuntime) -> Result<(), Fail> {
     for journal in [Journal::One, Journal::Two] {
         for w in [1, 2, 3, 64] {
             for first in 1..=journal.cost(w) {

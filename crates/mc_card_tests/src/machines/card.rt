@@ -26,7 +26,8 @@ pub enum Fault {
     Stopped,
 }
 
-/// An application: its code, the data that its static segment begins with, the size of that segment, and its access list.
+/// An application: its code, the data that its static segment begins with, the size of that segment, and its access
+/// list.
 #[derive(Clone, Copy, Debug)]
 pub struct Unit<'a> {
     pub code: &'a [u8],

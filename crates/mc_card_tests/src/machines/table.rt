@@ -26,7 +26,8 @@ fn ended(
 
 const CALL: &str = "80010000";
 
-// A command to a single application: its code, data and static size, the budget, the answer, and the static bytes that are left.
+// A command to a single application: its code, data and static size, the budget, the answer, and the static bytes that
+// are left.
 #[derive(Clone, Copy)]
 struct Case {
     title: &'static str,

@@ -42,12 +42,12 @@ pub fn loads<B: Bank, L: Ledger>(
     piece: usize,
 ) -> bool
     requires going { (B.state bank.old).stopped ≡ false }
-    requires fits { ManagerFits (view_of B.state B.named B.room B.standing bank.old) manager.old }
+    requires fits { ManagerFits (view_of B.Bank bank.old) manager.old }
     requires code { length code.now ≤ most_code }
     requires init { length init.now ≤ 8 }
     requires piece { 0 < piece }
     ensures going { result ≡ true → (B.state bank.new).stopped ≡ false }
-    ensures fits { result ≡ true → ManagerFits (view_of B.state B.named B.room B.standing bank.new) manager.new }
+    ensures fits { result ≡ true → ManagerFits (view_of B.Bank bank.new) manager.new }
 {
     let open = open(code.len() as u16, init.len() as u8);
     let dir = [0x61, 7, 0x4F, 5, 0xA0, 0, 0, 0, name];
@@ -70,11 +70,11 @@ fn fills<B: Bank, L: Ledger>(
     piece: usize,
 ) -> bool
     requires going { (B.state bank.old).stopped ≡ false }
-    requires fits { ManagerFits (view_of B.state B.named B.room B.standing bank.old) manager.old }
+    requires fits { ManagerFits (view_of B.Bank bank.old) manager.old }
     requires section { length section.now ≤ most_code }
     requires piece { 0 < piece }
     ensures going { result ≡ true → (B.state bank.new).stopped ≡ false }
-    ensures fits { result ≡ true → ManagerFits (view_of B.state B.named B.room B.standing bank.new) manager.new }
+    ensures fits { result ≡ true → ManagerFits (view_of B.Bank bank.new) manager.new }
 {
     let mut at = 0;
     for bytes in section.chunks(piece) {
@@ -100,7 +100,7 @@ pub fn is_full<B: Bank, L: Ledger>(
     steps: &mut Steps<L>,
 ) -> bool
     requires going { (B.state bank.old).stopped ≡ false }
-    requires fits { ManagerFits (view_of B.state B.named B.room B.standing bank.old) manager.old }
+    requires fits { ManagerFits (view_of B.Bank bank.old) manager.old }
 {
     let delete = command(0x18, 0, &[0xA0, 0, 0, 0, 9]);
     comes_to(

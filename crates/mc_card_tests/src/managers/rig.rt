@@ -31,9 +31,9 @@ pub fn comes_to<B: Bank, L: Ledger>(
     want: Want,
 ) -> bool
     requires going { (B.state bank.old).stopped ≡ false }
-    requires fits { ManagerFits (view_of B.state B.named B.room B.standing bank.old) manager.old }
+    requires fits { ManagerFits (view_of B.Bank bank.old) manager.old }
     ensures going { result ≡ true → (B.state bank.new).stopped ≡ false }
-    ensures fits { result ≡ true → ManagerFits (view_of B.state B.named B.room B.standing bank.new) manager.new }
+    ensures fits { result ≡ true → ManagerFits (view_of B.Bank bank.new) manager.new }
 {
     let Ok(apdu) = parse(command) else {
         return want == Want::WrongLength;
@@ -70,9 +70,9 @@ pub fn first_wrong<B: Bank, L: Ledger>(
     rows: &[(&'static str, Want)],
 ) -> Option<usize>
     requires going { (B.state bank.old).stopped ≡ false }
-    requires fits { ManagerFits (view_of B.state B.named B.room B.standing bank.old) manager.old }
+    requires fits { ManagerFits (view_of B.Bank bank.old) manager.old }
     ensures going { result ≡ None → (B.state bank.new).stopped ≡ false }
-    ensures fits { result ≡ None → ManagerFits (view_of B.state B.named B.room B.standing bank.new) manager.new }
+    ensures fits { result ≡ None → ManagerFits (view_of B.Bank bank.new) manager.new }
 {
     for (i, (text, want)) in rows.iter().enumerate() {
         let Ok(command) = decode(alloc, *text) else {

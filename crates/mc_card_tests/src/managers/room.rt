@@ -12,8 +12,8 @@ use std::marker::Brand;
 use std::sync::ledger::{Blank, Ledger};
 use std::test::Fail;
 
-// Three applications with the code of a counter. With static bytes of 400, 424 and 912 they need 61, 64 and 125 words, and
-// one more word with one more byte.
+// Three applications with the code of a counter. With static bytes of 400, 424 and 912 they need 61, 64 and 125 words,
+// and one more word with one more byte.
 const ROWS: &[(&str, Want)] = &[
     // The hole of an empty card has 125 words.
     ("BE1200000C000F03910000000000090009", Want::Status(0x6A84)),

@@ -1,5 +1,5 @@
--- The instruction at the front of the bytes that were read is the one at the code address, unless it is longer than the code that is
--- left; so it is the one that is decoded there.
+-- The instruction at the front of the bytes that were read is the one at the code address, unless it is longer than the
+-- code that is left; so it is the one that is decoded there.
 use Rattle.std.proofs.Common.{◌≡◌, ℕ, ◌+◌, ◌-◌, ◌<◌, arith, sym, subst, List, length, drop, take, Ok, Err}
 use Rattle.std.specs.Prelude.{min}
 use Rattle.std.proofs.lemmas.Result.{err_from_is_err_and}

@@ -25,7 +25,6 @@ use Rattle.mc_machine.proofs.lone.lone_turn.Goals as goal
 
 pub returns-in-Err-Undefined-clause-done : goal.returns-in-Err-Undefined-clause-done
 returns-in-Err-Undefined-clause-done g c ch le left some r =
-    let did = g.B.Bank.did in
     let state = g.B.Bank.state in
     let named = g.B.Bank.named in
     let b = c.args.bank.now in
@@ -35,14 +34,13 @@ returns-in-Err-Undefined-clause-done g c ch le left some r =
     let from = lone_chain old public case le left in
     let exact : Err Undefined ≡ instruction_at (app_under (state b) (named b) old).code old.frame.at =
     subst (λ (f : DecodeFault). Err f ≡ instruction_at (app_under (state b) (named b) old).code old.frame.at) c.in-Err-Undefined.field-0-is c.in-Err-Undefined.ensures.exact in
-    subst (λ (t : Acted). LoneDone did state named b b from (lone_chain old public case le) ch t (Ok (Ends (end.Abend A01))) c.args.callee.now) (sym (turned did state named b from ch (Err Undefined) r some exact)) (
+    subst (λ (t : Acted). LoneDone g.B.Bank b b from (lone_chain old public case le) ch t (Ok (Ends (end.Abend A01))) c.args.callee.now) (sym (turned g.B.Bank b from ch (Err Undefined) r some exact)) (
       left,
-      lone_abends did state named b b from from ch (abends_at ch None 0 A01) old None A01 (abends_done did state named b b from from ch None 0 A01 (step_of_frame old None (Some (end.Abend A01))) r c.requires.going refl refl (omega arith) refl),
+      lone_abends g.B.Bank b b from from ch (abends_at ch None 0 A01) old None A01 (abends_done g.B.Bank b b from from ch None 0 A01 (step_of_frame old None (Some (end.Abend A01))) r c.requires.going refl refl (omega arith) refl),
     )
 
 pub returns-in-Err-Undefined-clause-ticks : goal.returns-in-Err-Undefined-clause-ticks
 returns-in-Err-Undefined-clause-ticks g c ch le left some r =
-    let did = g.B.Bank.did in
     let state = g.B.Bank.state in
     let named = g.B.Bank.named in
     let b = c.args.bank.now in
@@ -52,12 +50,11 @@ returns-in-Err-Undefined-clause-ticks g c ch le left some r =
     let from = lone_chain old public case le left in
     let exact : Err Undefined ≡ instruction_at (app_under (state b) (named b) old).code old.frame.at =
     subst (λ (f : DecodeFault). Err f ≡ instruction_at (app_under (state b) (named b) old).code old.frame.at) c.in-Err-Undefined.field-0-is c.in-Err-Undefined.ensures.exact in
-    let none : (turn_of left ch).count ≡ 0 = ap (λ (t : Acted). t.count) (turned did state named b from ch (Err Undefined) r some exact) in
+    let none : (turn_of left ch).count ≡ 0 = ap (λ (t : Acted). t.count) (turned g.B.Bank b from ch (Err Undefined) r some exact) in
     omega (arith, none)
 
 pub returns-in-Err-Past-clause-done : goal.returns-in-Err-Past-clause-done
 returns-in-Err-Past-clause-done g c ch le left some r =
-    let did = g.B.Bank.did in
     let state = g.B.Bank.state in
     let named = g.B.Bank.named in
     let b = c.args.bank.now in
@@ -67,14 +64,13 @@ returns-in-Err-Past-clause-done g c ch le left some r =
     let from = lone_chain old public case le left in
     let exact : Err Past ≡ instruction_at (app_under (state b) (named b) old).code old.frame.at =
     subst (λ (f : DecodeFault). Err f ≡ instruction_at (app_under (state b) (named b) old).code old.frame.at) c.in-Err-Past.field-0-is c.in-Err-Past.ensures.exact in
-    subst (λ (t : Acted). LoneDone did state named b b from (lone_chain old public case le) ch t (Ok (Ends (end.Abend A02))) c.args.callee.now) (sym (turned did state named b from ch (Err Past) r some exact)) (
+    subst (λ (t : Acted). LoneDone g.B.Bank b b from (lone_chain old public case le) ch t (Ok (Ends (end.Abend A02))) c.args.callee.now) (sym (turned g.B.Bank b from ch (Err Past) r some exact)) (
       left,
-      lone_abends did state named b b from from ch (abends_at ch None 0 A02) old None A02 (abends_done did state named b b from from ch None 0 A02 (step_of_frame old None (Some (end.Abend A02))) r c.requires.going refl refl (omega arith) refl),
+      lone_abends g.B.Bank b b from from ch (abends_at ch None 0 A02) old None A02 (abends_done g.B.Bank b b from from ch None 0 A02 (step_of_frame old None (Some (end.Abend A02))) r c.requires.going refl refl (omega arith) refl),
     )
 
 pub returns-in-Err-Past-clause-ticks : goal.returns-in-Err-Past-clause-ticks
 returns-in-Err-Past-clause-ticks g c ch le left some r =
-    let did = g.B.Bank.did in
     let state = g.B.Bank.state in
     let named = g.B.Bank.named in
     let b = c.args.bank.now in
@@ -84,12 +80,11 @@ returns-in-Err-Past-clause-ticks g c ch le left some r =
     let from = lone_chain old public case le left in
     let exact : Err Past ≡ instruction_at (app_under (state b) (named b) old).code old.frame.at =
     subst (λ (f : DecodeFault). Err f ≡ instruction_at (app_under (state b) (named b) old).code old.frame.at) c.in-Err-Past.field-0-is c.in-Err-Past.ensures.exact in
-    let none : (turn_of left ch).count ≡ 0 = ap (λ (t : Acted). t.count) (turned did state named b from ch (Err Past) r some exact) in
+    let none : (turn_of left ch).count ≡ 0 = ap (λ (t : Acted). t.count) (turned g.B.Bank b from ch (Err Past) r some exact) in
     omega (arith, none)
 
 pub returns-clause-done : goal.returns-clause-done
 returns-clause-done g c ch le left some r =
-    let did = g.B.Bank.did in
     let state = g.B.Bank.state in
     let named = g.B.Bank.named in
     let b = c.args.bank.now in
@@ -104,26 +99,25 @@ returns-clause-done g c ch le left some r =
     let found = c.in-Ok.found in
     let i = found.0 in
     let next = found.1 in
-    let laws : BankLaws did state named =
+    let laws : BankLaws g.B.Bank =
     record { obeys = λ b n ws a e d. g.met.B.Bank.obeys b (Commit n ws) a e d; keeps = λ b n ws a e d k m is. g.met.B.Bank.keeps b (Commit n ws) a e d k m is tt } in
     let exact : Ok found ≡ instruction_at (app_under (state b) (named b) old).code old.frame.at = c.in-Ok.ensures.exact in
     let lone : Around = record { case = case; delegator = None } in
-    let x = row i (frame_on_bank (state b) (named b) (chain_at_next from next).running) public lone in
+    let x = row i (frame_on_bank g.B.Bank b (chain_at_next from next).running) public lone in
     let y = row i (frame_at ch.frame next) ch.public (around ch) in
-    let same = row_related did state named b from ch next i r in
+    let same = row_related g.B.Bank b from ch next i r in
     let done = c.perform_lone.ensures.acts in
-    let acts : RowActs did state named (scene b e (chain_at_next from next).running h public segment) i lone done.done =
-    subst (λ (k : Held). RowActs did state named (scene b e k h public segment) i lone done.done) c.go.ensures done.acts in
+    let acts : RowActs g.B.Bank (scene b e (chain_at_next from next).running h public segment) i lone done.done =
+    subst (λ (k : Held). RowActs g.B.Bank (scene b e k h public segment) i lone done.done) c.go.ensures done.acts in
     let keeps = row_keeps i (frame_at ch.frame next) ch.public (around ch) in
     let exits = row_exits i (frame_at ch.frame next) ch.public (around ch) in
-    subst (λ (t : Acted). LoneDone did state named b e from (lone_chain h segment case le) ch t c.perform_lone.result callee) (sym (turned did state named b from ch (Ok found) r some exact)) (
-    subst (λ (o : Result Lone Stop). LoneDone did state named b e from (lone_chain h segment case le) ch (row_turn ch i y) o callee) (sym done.value) (
-    lone_does did state named laws b e old h public segment case le left ch next i r done.done callee x y c.requires.going some same keeps exits acts done.called)
+    subst (λ (t : Acted). LoneDone g.B.Bank b e from (lone_chain h segment case le) ch t c.perform_lone.result callee) (sym (turned g.B.Bank b from ch (Ok found) r some exact)) (
+    subst (λ (o : Result Lone Stop). LoneDone g.B.Bank b e from (lone_chain h segment case le) ch (row_turn ch i y) o callee) (sym done.value) (
+    lone_does g.B.Bank laws b e old h public segment case le left ch next i r done.done callee x y c.requires.going some same keeps exits acts done.called)
     )
 
 pub returns-clause-ticks : goal.returns-clause-ticks
 returns-clause-ticks g c ch le left some r =
-    let did = g.B.Bank.did in
     let state = g.B.Bank.state in
     let named = g.B.Bank.named in
     let b = c.args.bank.now in
@@ -134,5 +128,5 @@ returns-clause-ticks g c ch le left some r =
     let found = c.in-Ok.found in
     let i = found.0 in
     let exact : Ok found ≡ instruction_at (app_under (state b) (named b) old).code old.frame.at = c.in-Ok.ensures.exact in
-    let one : (turn_of left ch).count ≡ 1 = ap (λ (t : Acted). t.count) (turned did state named b from ch (Ok found) r some exact) ∙ row_count ch i (row i (frame_at ch.frame found.1) ch.public (around ch)) in
+    let one : (turn_of left ch).count ≡ 1 = ap (λ (t : Acted). t.count) (turned g.B.Bank b from ch (Ok found) r some exact) ∙ row_count ch i (row i (frame_at ch.frame found.1) ch.public (around ch)) in
     c.tick.ensures ∙ ap (λ (n : ℕ). c.args.steps.now + n) (sym one)

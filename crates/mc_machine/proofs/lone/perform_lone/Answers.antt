@@ -13,9 +13,6 @@ step-requires-clause-row g c = no_primitive c.args.ins.now c.in_default.not-Prim
 
 pub returns-in_default-clause-acts : goal.returns-in_default-clause-acts
 returns-in_default-clause-acts g c =
-    let did = g.B.Bank.did in
-    let state = g.B.Bank.state in
-    let named = g.B.Bank.named in
     let b = c.args.bank.now in
     let now = c.args.frame.now in
     let i = c.args.ins.now in
@@ -24,7 +21,7 @@ returns-in_default-clause-acts g c =
     let o = row_result c.step.result in
     record {
       done = o;
-      acts = subst (λ (r : RowEnd). EndActs did state named sc r o) (sym (row_alone i (frame_on_bank (state b) (named b) now) c.args.public.now x (no_primitive i c.in_default.not-Prim))) c.step.ensures;
+      acts = subst (λ (r : RowEnd). EndActs g.B.Bank sc r o) (sym (row_alone i (frame_on_bank g.B.Bank b now) c.args.public.now x (no_primitive i c.in_default.not-Prim))) c.step.ensures;
       value = c.after_row.ensures.value;
       called = c.after_row.ensures.called c.args.callee.now;
     }

@@ -24,12 +24,11 @@ loop-turn-init g c =
     record { map = refl; running = c.first_frame-frame.ensures; below = tt; public = c.open.ensures; case = c.case-case.ensures; le = c.unwrap_or-le.ensures; few = omega arith; apart = (tt, tt) } in
     record {
       session = refl;
-      underway = underway g.B.Bank.did state named b here first c.args.budget c.args.steps.now c.requires.going runs (omega arith);
+      underway = underway g.B.Bank b here first c.args.budget c.args.steps.now c.requires.going runs (omega arith);
     }
 
 pub lone_turn-requires-clause-going : goal.lone_turn-requires-clause-going
 lone_turn-requires-clause-going g c =
-    let did = g.B.Bank.did in
     let state = g.B.Bank.state in
     let named = g.B.Bank.named in
     let start = c.args.bank.now in
@@ -46,7 +45,6 @@ lone_turn-requires-clause-going g c =
 
 pub lone_turn-requires-clause-fits : goal.lone_turn-requires-clause-fits
 lone_turn-requires-clause-fits g c =
-    let did = g.B.Bank.did in
     let state = g.B.Bank.state in
     let named = g.B.Bank.named in
     let start = c.args.bank.now in
@@ -63,7 +61,6 @@ lone_turn-requires-clause-fits g c =
 
 pub unwrap-aid-requires : goal.unwrap-aid-requires
 unwrap-aid-requires g c =
-    let did = g.B.Bank.did in
     let state = g.B.Bank.state in
     let named = g.B.Bank.named in
     let start = c.args.bank.now in
@@ -81,12 +78,11 @@ unwrap-aid-requires g c =
     let now = c.lone_turn.new.steps in
     let after : ℕ → Chained = λ n. lone_chain c.lone_turn.new.frame c.lone_turn.new.public case le n in
     let count = c.in_ok-lone_turn.ensures.ticks u.chain le left some u.runs in
-    let called = subst (λ (o : Lone). LoneDone did state named l.bank e here after u.chain (turn_of left u.chain) (Ok o) c.lone_turn.new.callee) c.in-Delegates.is (c.in_ok-lone_turn.ensures.done u.chain le left some u.runs) in
-    name_called did state named l.bank e here after u.chain (turn_of left u.chain) c.lone_turn.new.callee called
+    let called = subst (λ (o : Lone). LoneDone g.B.Bank l.bank e here after u.chain (turn_of left u.chain) (Ok o) c.lone_turn.new.callee) c.in-Delegates.is (c.in_ok-lone_turn.ensures.done u.chain le left some u.runs) in
+    name_called g.B.Bank l.bank e here after u.chain (turn_of left u.chain) c.lone_turn.new.callee called
 
 pub run_chain-requires-clause-going : goal.run_chain-requires-clause-going
 run_chain-requires-clause-going g c =
-    let did = g.B.Bank.did in
     let state = g.B.Bank.state in
     let named = g.B.Bank.named in
     let start = c.args.bank.now in
@@ -104,13 +100,12 @@ run_chain-requires-clause-going g c =
     let now = c.lone_turn.new.steps in
     let after : ℕ → Chained = λ n. lone_chain c.lone_turn.new.frame c.lone_turn.new.public case le n in
     let count = c.in_ok-lone_turn.ensures.ticks u.chain le left some u.runs in
-    let called = subst (λ (o : Lone). LoneDone did state named l.bank e here after u.chain (turn_of left u.chain) (Ok o) c.lone_turn.new.callee) c.in-Delegates.is (c.in_ok-lone_turn.ensures.done u.chain le left some u.runs) in
-    let done = subst (λ (n : Option (List ℕ)). LoneDone did state named l.bank e here after u.chain (turn_of left u.chain) (Ok Delegates) n) c.unwrap-aid.ensures called in
+    let called = subst (λ (o : Lone). LoneDone g.B.Bank l.bank e here after u.chain (turn_of left u.chain) (Ok o) c.lone_turn.new.callee) c.in-Delegates.is (c.in_ok-lone_turn.ensures.done u.chain le left some u.runs) in
+    let done = subst (λ (n : Option (List ℕ)). LoneDone g.B.Bank l.bank e here after u.chain (turn_of left u.chain) (Ok Delegates) n) c.unwrap-aid.ensures called in
     done.going
 
 pub run_chain-requires-clause-fits : goal.run_chain-requires-clause-fits
 run_chain-requires-clause-fits g c =
-    let did = g.B.Bank.did in
     let state = g.B.Bank.state in
     let named = g.B.Bank.named in
     let start = c.args.bank.now in
@@ -128,13 +123,12 @@ run_chain-requires-clause-fits g c =
     let now = c.lone_turn.new.steps in
     let after : ℕ → Chained = λ n. lone_chain c.lone_turn.new.frame c.lone_turn.new.public case le n in
     let count = c.in_ok-lone_turn.ensures.ticks u.chain le left some u.runs in
-    let called = subst (λ (o : Lone). LoneDone did state named l.bank e here after u.chain (turn_of left u.chain) (Ok o) c.lone_turn.new.callee) c.in-Delegates.is (c.in_ok-lone_turn.ensures.done u.chain le left some u.runs) in
-    let done = subst (λ (n : Option (List ℕ)). LoneDone did state named l.bank e here after u.chain (turn_of left u.chain) (Ok Delegates) n) c.unwrap-aid.ensures called in
+    let called = subst (λ (o : Lone). LoneDone g.B.Bank l.bank e here after u.chain (turn_of left u.chain) (Ok o) c.lone_turn.new.callee) c.in-Delegates.is (c.in_ok-lone_turn.ensures.done u.chain le left some u.runs) in
+    let done = subst (λ (n : Option (List ℕ)). LoneDone g.B.Bank l.bank e here after u.chain (turn_of left u.chain) (Ok Delegates) n) c.unwrap-aid.ensures called in
     (done.chain, done.runs)
 
 pub loop-turn-preserved : goal.loop-turn-preserved
 loop-turn-preserved g c =
-    let did = g.B.Bank.did in
     let state = g.B.Bank.state in
     let named = g.B.Bank.named in
     let start = c.args.bank.now in
@@ -152,17 +146,16 @@ loop-turn-preserved g c =
     let now = c.lone_turn.new.steps in
     let after : ℕ → Chained = λ n. lone_chain c.lone_turn.new.frame c.lone_turn.new.public case le n in
     let count = c.in_ok-lone_turn.ensures.ticks u.chain le left some u.runs in
-    let done = subst (λ (o : Lone). LoneDone did state named l.bank e here after u.chain (turn_of left u.chain) (Ok o) c.lone_turn.new.callee) c.in-Goes.is (c.in_ok-lone_turn.ensures.done u.chain le left some u.runs) in
-    let v = end_goes did state named start whole ticks budget l.turn l.bank e here (after done.0) l.steps now u done.1 count in
+    let done = subst (λ (o : Lone). LoneDone g.B.Bank l.bank e here after u.chain (turn_of left u.chain) (Ok o) c.lone_turn.new.callee) c.in-Goes.is (c.in_ok-lone_turn.ensures.done u.chain le left some u.runs) in
+    let v = end_goes g.B.Bank start whole ticks budget l.turn l.bank e here (after done.0) l.steps now u done.1 count in
     let total = v.left in
     record {
       session = l.invariant.session;
-      underway = subst (λ (m : ℕ). Underway did state named start whole ticks budget (l.turn + 1) e (after m) now) (lone_left done.0 (l.turn + 1) budget total) v;
+      underway = subst (λ (m : ℕ). Underway g.B.Bank start whole ticks budget (l.turn + 1) e (after m) now) (lone_left done.0 (l.turn + 1) budget total) v;
     }
 
 pub returns-in_err-lone_turn : goal.returns-in_err-lone_turn
 returns-in_err-lone_turn g c =
-    let did = g.B.Bank.did in
     let state = g.B.Bank.state in
     let named = g.B.Bank.named in
     let start = c.args.bank.now in
@@ -181,14 +174,13 @@ returns-in_err-lone_turn g c =
     let after : ℕ → Chained = λ n. lone_chain c.lone_turn.new.frame c.lone_turn.new.public case le n in
     let p = err_from_is_err_and c.from_residual.result c.from_residual.ensures.1 in
     rw (p.1, p.2) (record {
-      writes = underway_stops did state named start whole ticks budget l.turn l.bank e here l.steps u c.in_err-lone_turn.field-0.0 (c.in_err-lone_turn.ensures.done u.chain le left some u.runs);
-      count = underway_most did state named start whole ticks budget l.turn l.bank here l.steps now u (c.in_err-lone_turn.ensures.ticks u.chain le left some u.runs);
+      writes = underway_stops g.B.Bank start whole ticks budget l.turn l.bank e here l.steps u c.in_err-lone_turn.field-0.0 (c.in_err-lone_turn.ensures.done u.chain le left some u.runs);
+      count = underway_most g.B.Bank start whole ticks budget l.turn l.bank here l.steps now u (c.in_err-lone_turn.ensures.ticks u.chain le left some u.runs);
       session = l.invariant.session;
     })
 
 pub returns-in-Ends : goal.returns-in-Ends
 returns-in-Ends g c =
-    let did = g.B.Bank.did in
     let state = g.B.Bank.state in
     let named = g.B.Bank.named in
     let start = c.args.bank.now in
@@ -206,13 +198,12 @@ returns-in-Ends g c =
     let now = c.lone_turn.new.steps in
     let after : ℕ → Chained = λ n. lone_chain c.lone_turn.new.frame c.lone_turn.new.public case le n in
     let count = c.in_ok-lone_turn.ensures.ticks u.chain le left some u.runs in
-    let done = subst (λ (o : Lone). LoneDone did state named l.bank e here after u.chain (turn_of left u.chain) (Ok o) c.lone_turn.new.callee) c.in-Ends.is (c.in_ok-lone_turn.ensures.done u.chain le left some u.runs) in
-    let f = end_ends did state named start whole ticks budget l.turn l.bank e here (after done.0) l.steps now u c.in-Ends.end done.1 count in
+    let done = subst (λ (o : Lone). LoneDone g.B.Bank l.bank e here after u.chain (turn_of left u.chain) (Ok o) c.lone_turn.new.callee) c.in-Ends.is (c.in_ok-lone_turn.ensures.done u.chain le left some u.runs) in
+    let f = end_ends g.B.Bank start whole ticks budget l.turn l.bank e here (after done.0) l.steps now u c.in-Ends.end done.1 count in
     record { writes = f.writes; going = f.going; count = f.count; session = c.keep_session.ensures ∙ f.session; outcome = c.put_end.ensures ∙ f.outcome }
 
 pub returns-in-Delegates : goal.returns-in-Delegates
 returns-in-Delegates g c =
-    let did = g.B.Bank.did in
     let state = g.B.Bank.state in
     let named = g.B.Bank.named in
     let start = c.args.bank.now in
@@ -230,14 +221,13 @@ returns-in-Delegates g c =
     let now = c.lone_turn.new.steps in
     let after : ℕ → Chained = λ n. lone_chain c.lone_turn.new.frame c.lone_turn.new.public case le n in
     let count = c.in_ok-lone_turn.ensures.ticks u.chain le left some u.runs in
-    let called = subst (λ (o : Lone). LoneDone did state named l.bank e here after u.chain (turn_of left u.chain) (Ok o) c.lone_turn.new.callee) c.in-Delegates.is (c.in_ok-lone_turn.ensures.done u.chain le left some u.runs) in
-    let done = subst (λ (n : Option (List ℕ)). LoneDone did state named l.bank e here after u.chain (turn_of left u.chain) (Ok Delegates) n) c.unwrap-aid.ensures called in
-    subst (λ (x : List ℕ). RanDone did state start c.run_chain.new.bank x c.run_chain.new.session ticks c.run_chain.new.steps whole (reply_or_stop c.run_chain.result c.run_chain.new.reply)) l.invariant.session
-    (delegated_ends did state named start whole ticks budget l.turn l.bank e here (after (left - 1)) l.steps now u c.unwrap-aid.result done count c.run_chain.new.bank l.session c.run_chain.new.session c.run_chain.new.steps (reply_or_stop c.run_chain.result c.run_chain.new.reply) (c.run_chain.ensures done.chain done.runs))
+    let called = subst (λ (o : Lone). LoneDone g.B.Bank l.bank e here after u.chain (turn_of left u.chain) (Ok o) c.lone_turn.new.callee) c.in-Delegates.is (c.in_ok-lone_turn.ensures.done u.chain le left some u.runs) in
+    let done = subst (λ (n : Option (List ℕ)). LoneDone g.B.Bank l.bank e here after u.chain (turn_of left u.chain) (Ok Delegates) n) c.unwrap-aid.ensures called in
+    subst (λ (x : List ℕ). RanDone g.B.Bank start c.run_chain.new.bank x c.run_chain.new.session ticks c.run_chain.new.steps whole (reply_or_stop c.run_chain.result c.run_chain.new.reply)) l.invariant.session
+    (delegated_ends g.B.Bank start whole ticks budget l.turn l.bank e here (after (left - 1)) l.steps now u c.unwrap-aid.result done count c.run_chain.new.bank l.session c.run_chain.new.session c.run_chain.new.steps (reply_or_stop c.run_chain.result c.run_chain.new.reply) (c.run_chain.ensures done.chain done.runs))
 
 pub returns : goal.returns
 returns g c =
-    let did = g.B.Bank.did in
     let state = g.B.Bank.state in
     let named = g.B.Bank.named in
     let start = c.args.bank.now in
@@ -250,5 +240,5 @@ returns g c =
     let le = c.unwrap_or-le.result in
     let left = budget - l.turn in
     let here = lone_chain l.frame l.public case le left in
-    let f = underway_spent did state named start whole ticks budget l.turn l.bank here l.steps u c.loop-turn-test.false in
+    let f = underway_spent g.B.Bank start whole ticks budget l.turn l.bank here l.steps u c.loop-turn-test.false in
     record { writes = f.writes; going = f.going; count = f.count; session = c.keep_session-2.ensures ∙ f.session; outcome = f.outcome }

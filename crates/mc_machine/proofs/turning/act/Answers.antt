@@ -30,21 +30,17 @@ perform-requires-clause-waiting g c =
 
 pub returns-then-chain-eq0-clause-done : goal.returns-then-chain-eq0-clause-done
 returns-then-chain-eq0-clause-done g c ch r =
-    let did = g.B.Bank.did in
-    let state = g.B.Bank.state in
-    let named = g.B.Bank.named in
     let b = c.args.bank.now in
     let now = c.args.chain.now in
     let none : now.left ≡ 0 = subst (λ (k : Chained). k.left ≡ 0) c.chain.view_is c.if-chain-eq0.true in
     let step = c.abends.result in
-    let told : c.told-before.result ≡ step_of_frame now.running None None = subst (λ (k : Chained). c.told-before.result ≡ step_of_frame k.running None None) c.chain.view_is c.told-before.ensures in
-    subst (λ (n : ℕ). ActDone did state named b b now now ch (turn_of n ch) (Ok step)) (sym none) (
-    abends_done did state named b b now now ch None 0 A07 step r c.requires.going refl refl (omega arith) (c.abends.ensures ∙ ap (λ (x : Step). record x { end = Some (end.Abend A07) }) told)
+    let reported : c.reported-before.result ≡ step_of_frame now.running None None = subst (λ (k : Chained). c.reported-before.result ≡ step_of_frame k.running None None) c.chain.view_is c.reported-before.ensures in
+    subst (λ (n : ℕ). ActDone g.B.Bank b b now now ch (turn_of n ch) (Ok step)) (sym none) (
+    abends_done g.B.Bank b b now now ch None 0 A07 step r c.requires.going refl refl (omega arith) (c.abends.ensures ∙ ap (λ (x : Step). record x { end = Some (end.Abend A07) }) reported)
     )
 
 pub returns-in-Err-Undefined-clause-done : goal.returns-in-Err-Undefined-clause-done
 returns-in-Err-Undefined-clause-done g c ch r =
-    let did = g.B.Bank.did in
     let state = g.B.Bank.state in
     let named = g.B.Bank.named in
     let b = c.args.bank.now in
@@ -55,14 +51,13 @@ returns-in-Err-Undefined-clause-done g c ch r =
     subst (λ (f : DecodeFault). Err f ≡ instruction_at (app_under (state b) (named b) c.chain.inside.running).code c.chain.inside.running.frame.at) c.in-Err-Undefined.field-0-is c.in-Err-Undefined.ensures.exact
     ) in
     let step = c.abends-in-Err-Undefined.result in
-    let told : c.told-before.result ≡ step_of_frame now.running None None = subst (λ (k : Chained). c.told-before.result ≡ step_of_frame k.running None None) c.chain.view_is c.told-before.ensures in
-    subst (λ (t : Acted). ActDone did state named b b now now ch t (Ok step)) (sym (turned did state named b now ch (Err Undefined) r some exact)) (
-    abends_done did state named b b now now ch None 0 A01 step r c.requires.going refl refl (omega arith) (c.abends-in-Err-Undefined.ensures ∙ ap (λ (x : Step). record x { end = Some (end.Abend A01) }) told)
+    let reported : c.reported-before.result ≡ step_of_frame now.running None None = subst (λ (k : Chained). c.reported-before.result ≡ step_of_frame k.running None None) c.chain.view_is c.reported-before.ensures in
+    subst (λ (t : Acted). ActDone g.B.Bank b b now now ch t (Ok step)) (sym (turned g.B.Bank b now ch (Err Undefined) r some exact)) (
+    abends_done g.B.Bank b b now now ch None 0 A01 step r c.requires.going refl refl (omega arith) (c.abends-in-Err-Undefined.ensures ∙ ap (λ (x : Step). record x { end = Some (end.Abend A01) }) reported)
     )
 
 pub returns-in-Err-Undefined-clause-ticks : goal.returns-in-Err-Undefined-clause-ticks
 returns-in-Err-Undefined-clause-ticks g c ch r =
-    let did = g.B.Bank.did in
     let state = g.B.Bank.state in
     let named = g.B.Bank.named in
     let b = c.args.bank.now in
@@ -72,12 +67,11 @@ returns-in-Err-Undefined-clause-ticks g c ch r =
     subst (λ (k : Chained). Err Undefined ≡ instruction_at (app_under (state b) (named b) k.running).code k.running.frame.at) c.chain.view_is (
     subst (λ (f : DecodeFault). Err f ≡ instruction_at (app_under (state b) (named b) c.chain.inside.running).code c.chain.inside.running.frame.at) c.in-Err-Undefined.field-0-is c.in-Err-Undefined.ensures.exact
     ) in
-    let none : (turn_of now.left ch).count ≡ 0 = ap (λ (t : Acted). t.count) (turned did state named b now ch (Err Undefined) r some exact) in
+    let none : (turn_of now.left ch).count ≡ 0 = ap (λ (t : Acted). t.count) (turned g.B.Bank b now ch (Err Undefined) r some exact) in
     omega arith
 
 pub returns-in-Err-Past-clause-done : goal.returns-in-Err-Past-clause-done
 returns-in-Err-Past-clause-done g c ch r =
-    let did = g.B.Bank.did in
     let state = g.B.Bank.state in
     let named = g.B.Bank.named in
     let b = c.args.bank.now in
@@ -88,14 +82,13 @@ returns-in-Err-Past-clause-done g c ch r =
     subst (λ (f : DecodeFault). Err f ≡ instruction_at (app_under (state b) (named b) c.chain.inside.running).code c.chain.inside.running.frame.at) c.in-Err-Past.field-0-is c.in-Err-Past.ensures.exact
     ) in
     let step = c.abends-in-Err-Past.result in
-    let told : c.told-before.result ≡ step_of_frame now.running None None = subst (λ (k : Chained). c.told-before.result ≡ step_of_frame k.running None None) c.chain.view_is c.told-before.ensures in
-    subst (λ (t : Acted). ActDone did state named b b now now ch t (Ok step)) (sym (turned did state named b now ch (Err Past) r some exact)) (
-    abends_done did state named b b now now ch None 0 A02 step r c.requires.going refl refl (omega arith) (c.abends-in-Err-Past.ensures ∙ ap (λ (x : Step). record x { end = Some (end.Abend A02) }) told)
+    let reported : c.reported-before.result ≡ step_of_frame now.running None None = subst (λ (k : Chained). c.reported-before.result ≡ step_of_frame k.running None None) c.chain.view_is c.reported-before.ensures in
+    subst (λ (t : Acted). ActDone g.B.Bank b b now now ch t (Ok step)) (sym (turned g.B.Bank b now ch (Err Past) r some exact)) (
+    abends_done g.B.Bank b b now now ch None 0 A02 step r c.requires.going refl refl (omega arith) (c.abends-in-Err-Past.ensures ∙ ap (λ (x : Step). record x { end = Some (end.Abend A02) }) reported)
     )
 
 pub returns-in-Err-Past-clause-ticks : goal.returns-in-Err-Past-clause-ticks
 returns-in-Err-Past-clause-ticks g c ch r =
-    let did = g.B.Bank.did in
     let state = g.B.Bank.state in
     let named = g.B.Bank.named in
     let b = c.args.bank.now in
@@ -105,15 +98,13 @@ returns-in-Err-Past-clause-ticks g c ch r =
     subst (λ (k : Chained). Err Past ≡ instruction_at (app_under (state b) (named b) k.running).code k.running.frame.at) c.chain.view_is (
     subst (λ (f : DecodeFault). Err f ≡ instruction_at (app_under (state b) (named b) c.chain.inside.running).code c.chain.inside.running.frame.at) c.in-Err-Past.field-0-is c.in-Err-Past.ensures.exact
     ) in
-    let none : (turn_of now.left ch).count ≡ 0 = ap (λ (t : Acted). t.count) (turned did state named b now ch (Err Past) r some exact) in
+    let none : (turn_of now.left ch).count ≡ 0 = ap (λ (t : Acted). t.count) (turned g.B.Bank b now ch (Err Past) r some exact) in
     omega arith
 
 pub follow-requires-clause-fits : goal.follow-requires-clause-fits
 follow-requires-clause-fits g c =
     let ch = c.requires.fits.0 in
     let r = c.requires.fits.1 in
-    let did = g.B.Bank.did in
-    let state = g.B.Bank.state in
     let named = g.B.Bank.named in
     let b = c.args.bank.now in
     let now = c.args.chain.now in
@@ -123,21 +114,20 @@ follow-requires-clause-fits g c =
     let found = c.in-Ok.found in
     let i = found.0 in
     let next = found.1 in
-    let laws : BankLaws did state named =
+    let laws : BankLaws g.B.Bank =
     record { obeys = λ b n ws a e d. g.met.B.Bank.obeys b (Commit n ws) a e d; keeps = λ b n ws a e d k m is. g.met.B.Bank.keeps b (Commit n ws) a e d k m is tt } in
     let others : mid ≡ record (chain_at_next now next) { running = mid.running; public = mid.public } =
     c.perform.ensures.others ∙ ap (λ (k : Chained). record k { running = mid.running; public = mid.public }) c.advance.ensures in
-    let acts : RowActs did state named (scene b e (chain_at_next now next).running mid.running now.public mid.public) i (record { case = now.case; delegator = delegator_of (named b) now.below }) (Ok c.in-Ok-perform.next) =
-    subst (λ (k : Chained). RowActs did state named (scene b e k.running mid.running k.public mid.public) i (record { case = k.case; delegator = delegator_of (named b) k.below }) (Ok c.in-Ok-perform.next)) c.advance.ensures c.in-Ok-perform.ensures.acts in
-    let x = row i (frame_on_bank (state b) (named b) (chain_at_next now next).running) now.public (record { case = now.case; delegator = delegator_of (named b) now.below }) in
+    let acts : RowActs g.B.Bank (scene b e (chain_at_next now next).running mid.running now.public mid.public) i (record { case = now.case; delegator = delegator_of (named b) now.below }) (Ok c.in-Ok-perform.next) =
+    subst (λ (k : Chained). RowActs g.B.Bank (scene b e k.running mid.running k.public mid.public) i (record { case = k.case; delegator = delegator_of (named b) k.below }) (Ok c.in-Ok-perform.next)) c.advance.ensures c.in-Ok-perform.ensures.acts in
+    let x = row i (frame_on_bank g.B.Bank b (chain_at_next now next).running) now.public (record { case = now.case; delegator = delegator_of (named b) now.below }) in
     let y = row i (frame_at ch.frame next) ch.public (around ch) in
-    let same = row_related did state named b now ch next i r in
+    let same = row_related g.B.Bank b now ch next i r in
     let keeps = row_keeps i (frame_at ch.frame next) ch.public (around ch) in
-    performed_fits did state named laws b e now mid ch next i r others c.in-Ok-perform.next x y same keeps acts
+    performed_fits g.B.Bank laws b e now mid ch next i r others c.in-Ok-perform.next x y same keeps acts
 
 pub returns-in-Ok-perform-clause-done : goal.returns-in-Ok-perform-clause-done
 returns-in-Ok-perform-clause-done g c ch r =
-    let did = g.B.Bank.did in
     let state = g.B.Bank.state in
     let named = g.B.Bank.named in
     let b = c.args.bank.now in
@@ -148,30 +138,29 @@ returns-in-Ok-perform-clause-done g c ch r =
     let found = c.in-Ok.found in
     let i = found.0 in
     let next = found.1 in
-    let laws : BankLaws did state named =
+    let laws : BankLaws g.B.Bank =
     record { obeys = λ b n ws a e d. g.met.B.Bank.obeys b (Commit n ws) a e d; keeps = λ b n ws a e d k m is. g.met.B.Bank.keeps b (Commit n ws) a e d k m is tt } in
     let others : mid ≡ record (chain_at_next now next) { running = mid.running; public = mid.public } =
     c.perform.ensures.others ∙ ap (λ (k : Chained). record k { running = mid.running; public = mid.public }) c.advance.ensures in
     let exact : Ok found ≡ instruction_at (app_under (state b) (named b) now.running).code now.running.frame.at =
     subst (λ (k : Chained). Ok found ≡ instruction_at (app_under (state b) (named b) k.running).code k.running.frame.at) c.chain.view_is c.in-Ok.ensures.exact in
-    let acts : RowActs did state named (scene b e (chain_at_next now next).running mid.running now.public mid.public) i (record { case = now.case; delegator = delegator_of (named b) now.below }) (Ok c.in-Ok-perform.next) =
-    subst (λ (k : Chained). RowActs did state named (scene b e k.running mid.running k.public mid.public) i (record { case = k.case; delegator = delegator_of (named b) k.below }) (Ok c.in-Ok-perform.next)) c.advance.ensures c.in-Ok-perform.ensures.acts in
-    let x = row i (frame_on_bank (state b) (named b) (chain_at_next now next).running) now.public (record { case = now.case; delegator = delegator_of (named b) now.below }) in
+    let acts : RowActs g.B.Bank (scene b e (chain_at_next now next).running mid.running now.public mid.public) i (record { case = now.case; delegator = delegator_of (named b) now.below }) (Ok c.in-Ok-perform.next) =
+    subst (λ (k : Chained). RowActs g.B.Bank (scene b e k.running mid.running k.public mid.public) i (record { case = k.case; delegator = delegator_of (named b) k.below }) (Ok c.in-Ok-perform.next)) c.advance.ensures c.in-Ok-perform.ensures.acts in
+    let x = row i (frame_on_bank g.B.Bank b (chain_at_next now next).running) now.public (record { case = now.case; delegator = delegator_of (named b) now.below }) in
     let y = row i (frame_at ch.frame next) ch.public (around ch) in
-    let same = row_related did state named b now ch next i r in
+    let same = row_related g.B.Bank b now ch next i r in
     let keeps = row_keeps i (frame_at ch.frame next) ch.public (around ch) in
-    let told : c.told-before.result ≡ step_of_frame now.running None None = subst (λ (k : Chained). c.told-before.result ≡ step_of_frame k.running None None) c.chain.view_is c.told-before.ensures in
+    let reported : c.reported-before.result ≡ step_of_frame now.running None None = subst (λ (k : Chained). c.reported-before.result ≡ step_of_frame k.running None None) c.chain.view_is c.reported-before.ensures in
     let d = c.follow.new.chain in
     let step = c.follow.result in
     let nx = c.in-Ok-perform.next in
-    subst (λ (t : Acted). ActDone did state named b e now d ch t (Ok step)) (sym (turned did state named b now ch (Ok found) r some exact)) (
-    performed_done did state named laws b e now mid ch next i r others d step nx x y some c.follow.ensures.left c.follow.ensures.le same keeps (row_exits i (frame_at ch.frame next) ch.public (around ch)) acts
-    (λ k runs. subst (λ (s : Step). Followed (state e) (named e) mid d i s step (follows k (then_of nx))) (ap (λ (s : Step). record s { ins = Some i }) told) (c.follow.ensures.follows k runs))
+    subst (λ (t : Acted). ActDone g.B.Bank b e now d ch t (Ok step)) (sym (turned g.B.Bank b now ch (Ok found) r some exact)) (
+    performed_done g.B.Bank laws b e now mid ch next i r others d step nx x y some c.follow.ensures.left c.follow.ensures.le same keeps (row_exits i (frame_at ch.frame next) ch.public (around ch)) acts
+    (λ k runs. subst (λ (s : Step). Followed (state e) (named e) mid d i s step (follows k (then_of nx))) (ap (λ (s : Step). record s { ins = Some i }) reported) (c.follow.ensures.follows k runs))
     )
 
 pub returns-in-Ok-perform-clause-ticks : goal.returns-in-Ok-perform-clause-ticks
 returns-in-Ok-perform-clause-ticks g c ch r =
-    let did = g.B.Bank.did in
     let state = g.B.Bank.state in
     let named = g.B.Bank.named in
     let b = c.args.bank.now in
@@ -182,12 +171,11 @@ returns-in-Ok-perform-clause-ticks g c ch r =
     let next = found.1 in
     let exact : Ok found ≡ instruction_at (app_under (state b) (named b) now.running).code now.running.frame.at =
     subst (λ (k : Chained). Ok found ≡ instruction_at (app_under (state b) (named b) k.running).code k.running.frame.at) c.chain.view_is c.in-Ok.ensures.exact in
-    let one : (turn_of now.left ch).count ≡ 1 = ap (λ (t : Acted). t.count) (turned did state named b now ch (Ok found) r some exact) ∙ row_count ch i (row i (frame_at ch.frame next) ch.public (around ch)) in
+    let one : (turn_of now.left ch).count ≡ 1 = ap (λ (t : Acted). t.count) (turned g.B.Bank b now ch (Ok found) r some exact) ∙ row_count ch i (row i (frame_at ch.frame next) ch.public (around ch)) in
     c.tick.ensures ∙ ap (λ (n : ℕ). c.args.steps.now + n) (sym one)
 
 pub returns-in-Err-clause-ticks : goal.returns-in-Err-clause-ticks
 returns-in-Err-clause-ticks g c ch r =
-    let did = g.B.Bank.did in
     let state = g.B.Bank.state in
     let named = g.B.Bank.named in
     let b = c.args.bank.now in
@@ -198,12 +186,11 @@ returns-in-Err-clause-ticks g c ch r =
     let next = found.1 in
     let exact : Ok found ≡ instruction_at (app_under (state b) (named b) now.running).code now.running.frame.at =
     subst (λ (k : Chained). Ok found ≡ instruction_at (app_under (state b) (named b) k.running).code k.running.frame.at) c.chain.view_is c.in-Ok.ensures.exact in
-    let one : (turn_of now.left ch).count ≡ 1 = ap (λ (t : Acted). t.count) (turned did state named b now ch (Ok found) r some exact) ∙ row_count ch i (row i (frame_at ch.frame next) ch.public (around ch)) in
+    let one : (turn_of now.left ch).count ≡ 1 = ap (λ (t : Acted). t.count) (turned g.B.Bank b now ch (Ok found) r some exact) ∙ row_count ch i (row i (frame_at ch.frame next) ch.public (around ch)) in
     c.tick.ensures ∙ ap (λ (n : ℕ). c.args.steps.now + n) (sym one)
 
 pub returns-in-Err-clause-done : goal.returns-in-Err-clause-done
 returns-in-Err-clause-done g c ch r =
-    let did = g.B.Bank.did in
     let state = g.B.Bank.state in
     let named = g.B.Bank.named in
     let b = c.args.bank.now in
@@ -214,22 +201,22 @@ returns-in-Err-clause-done g c ch r =
     let found = c.in-Ok.found in
     let i = found.0 in
     let next = found.1 in
-    let laws : BankLaws did state named =
+    let laws : BankLaws g.B.Bank =
     record { obeys = λ b n ws a e d. g.met.B.Bank.obeys b (Commit n ws) a e d; keeps = λ b n ws a e d k m is. g.met.B.Bank.keeps b (Commit n ws) a e d k m is tt } in
     let others : mid ≡ record (chain_at_next now next) { running = mid.running; public = mid.public } =
     c.perform.ensures.others ∙ ap (λ (k : Chained). record k { running = mid.running; public = mid.public }) c.advance.ensures in
     let exact : Ok found ≡ instruction_at (app_under (state b) (named b) now.running).code now.running.frame.at =
     subst (λ (k : Chained). Ok found ≡ instruction_at (app_under (state b) (named b) k.running).code k.running.frame.at) c.chain.view_is c.in-Ok.ensures.exact in
-    let acts : RowActs did state named (scene b e (chain_at_next now next).running mid.running now.public mid.public) i (record { case = now.case; delegator = delegator_of (named b) now.below }) (Err c.in-Err.halt) =
-    subst (λ (k : Chained). RowActs did state named (scene b e k.running mid.running k.public mid.public) i (record { case = k.case; delegator = delegator_of (named b) k.below }) (Err c.in-Err.halt)) c.advance.ensures c.in-Err.ensures.acts in
-    let x = row i (frame_on_bank (state b) (named b) (chain_at_next now next).running) now.public (record { case = now.case; delegator = delegator_of (named b) now.below }) in
+    let acts : RowActs g.B.Bank (scene b e (chain_at_next now next).running mid.running now.public mid.public) i (record { case = now.case; delegator = delegator_of (named b) now.below }) (Err c.in-Err.halt) =
+    subst (λ (k : Chained). RowActs g.B.Bank (scene b e k.running mid.running k.public mid.public) i (record { case = k.case; delegator = delegator_of (named b) k.below }) (Err c.in-Err.halt)) c.advance.ensures c.in-Err.ensures.acts in
+    let x = row i (frame_on_bank g.B.Bank b (chain_at_next now next).running) now.public (record { case = now.case; delegator = delegator_of (named b) now.below }) in
     let y = row i (frame_at ch.frame next) ch.public (around ch) in
-    let same = row_related did state named b now ch next i r in
-    let told : c.told-before.result ≡ step_of_frame now.running None None = subst (λ (k : Chained). c.told-before.result ≡ step_of_frame k.running None None) c.chain.view_is c.told-before.ensures in
-    let before : Step = record c.told-before.result { ins = Some i } in
-    subst (λ (t : Acted). ActDone did state named b e now mid ch t c.halts.result) (sym (turned did state named b now ch (Ok found) r some exact)) (
-    subst (λ (res : Result Step Stop). ActDone did state named b e now mid ch (row_turn ch i y) res) (sym c.halts.ensures.value) (
-    performed_halts did state named laws b e now mid ch next i r others c.requires.going some before (ap (λ (s : Step). record s { ins = Some i }) told) c.in-Err.halt x y same acts
+    let same = row_related g.B.Bank b now ch next i r in
+    let reported : c.reported-before.result ≡ step_of_frame now.running None None = subst (λ (k : Chained). c.reported-before.result ≡ step_of_frame k.running None None) c.chain.view_is c.reported-before.ensures in
+    let before : Step = record c.reported-before.result { ins = Some i } in
+    subst (λ (t : Acted). ActDone g.B.Bank b e now mid ch t c.halts.result) (sym (turned g.B.Bank b now ch (Ok found) r some exact)) (
+    subst (λ (res : Result Step Stop). ActDone g.B.Bank b e now mid ch (row_turn ch i y) res) (sym c.halts.ensures.value) (
+    performed_halts g.B.Bank laws b e now mid ch next i r others c.requires.going some before (ap (λ (s : Step). record s { ins = Some i }) reported) c.in-Err.halt x y same acts
     )
     )
 
@@ -237,7 +224,6 @@ returns-in-Err-clause-done g c ch r =
 
 pub returns-in-Err-Undefined-clause-few : goal.returns-in-Err-Undefined-clause-few
 returns-in-Err-Undefined-clause-few g c ch r apps =
-    let did = g.B.Bank.did in
     let state = g.B.Bank.state in
     let named = g.B.Bank.named in
     let b = c.args.bank.now in
@@ -247,11 +233,10 @@ returns-in-Err-Undefined-clause-few g c ch r apps =
     subst (λ (k : Chained). Err Undefined ≡ instruction_at (app_under (state b) (named b) k.running).code k.running.frame.at) c.chain.view_is (
     subst (λ (f : DecodeFault). Err f ≡ instruction_at (app_under (state b) (named b) c.chain.inside.running).code c.chain.inside.running.frame.at) c.in-Err-Undefined.field-0-is c.in-Err-Undefined.ensures.exact
     ) in
-    subst (λ (t : Acted). WritesFew t) (sym (turned did state named b now ch (Err Undefined) r some exact)) (abend_writes ch A01)
+    subst (λ (t : Acted). WritesFew t) (sym (turned g.B.Bank b now ch (Err Undefined) r some exact)) (abend_writes ch A01)
 
 pub returns-in-Err-Past-clause-few : goal.returns-in-Err-Past-clause-few
 returns-in-Err-Past-clause-few g c ch r apps =
-    let did = g.B.Bank.did in
     let state = g.B.Bank.state in
     let named = g.B.Bank.named in
     let b = c.args.bank.now in
@@ -261,11 +246,10 @@ returns-in-Err-Past-clause-few g c ch r apps =
     subst (λ (k : Chained). Err Past ≡ instruction_at (app_under (state b) (named b) k.running).code k.running.frame.at) c.chain.view_is (
     subst (λ (f : DecodeFault). Err f ≡ instruction_at (app_under (state b) (named b) c.chain.inside.running).code c.chain.inside.running.frame.at) c.in-Err-Past.field-0-is c.in-Err-Past.ensures.exact
     ) in
-    subst (λ (t : Acted). WritesFew t) (sym (turned did state named b now ch (Err Past) r some exact)) (abend_writes ch A02)
+    subst (λ (t : Acted). WritesFew t) (sym (turned g.B.Bank b now ch (Err Past) r some exact)) (abend_writes ch A02)
 
 pub returns-in-Ok-perform-clause-few : goal.returns-in-Ok-perform-clause-few
 returns-in-Ok-perform-clause-few g c ch r apps =
-    let did = g.B.Bank.did in
     let state = g.B.Bank.state in
     let named = g.B.Bank.named in
     let b = c.args.bank.now in
@@ -274,17 +258,16 @@ returns-in-Ok-perform-clause-few g c ch r apps =
     let found = c.in-Ok.found in
     let exact : Ok found ≡ instruction_at (app_under (state b) (named b) now.running).code now.running.frame.at =
     subst (λ (k : Chained). Ok found ≡ instruction_at (app_under (state b) (named b) k.running).code k.running.frame.at) c.chain.view_is c.in-Ok.ensures.exact in
-    let is = turned did state named b now ch (Ok found) r some exact in
+    let is = turned g.B.Bank b now ch (Ok found) r some exact in
     let d = c.follow.new.chain in
     let step = c.follow.result in
     subst (λ (t : Acted). WritesFew t) (sym is) (
-    act_writes did state named b c.perform.new.bank now d ch found.0 found.1 (Ok step) r apps c.in-Ok.ensures.stands.shaped
-    (subst (λ (t : Acted). ActDone did state named b c.perform.new.bank now d ch t (Ok step)) is (returns-in-Ok-perform-clause-done g c ch r))
+    act_writes g.B.Bank b c.perform.new.bank now d ch found.0 found.1 (Ok step) r apps c.in-Ok.ensures.stands.shaped
+    (subst (λ (t : Acted). ActDone g.B.Bank b c.perform.new.bank now d ch t (Ok step)) is (returns-in-Ok-perform-clause-done g c ch r))
     )
 
 pub returns-in-Err-clause-few : goal.returns-in-Err-clause-few
 returns-in-Err-clause-few g c ch r apps =
-    let did = g.B.Bank.did in
     let state = g.B.Bank.state in
     let named = g.B.Bank.named in
     let b = c.args.bank.now in
@@ -293,9 +276,9 @@ returns-in-Err-clause-few g c ch r apps =
     let found = c.in-Ok.found in
     let exact : Ok found ≡ instruction_at (app_under (state b) (named b) now.running).code now.running.frame.at =
     subst (λ (k : Chained). Ok found ≡ instruction_at (app_under (state b) (named b) k.running).code k.running.frame.at) c.chain.view_is c.in-Ok.ensures.exact in
-    let is = turned did state named b now ch (Ok found) r some exact in
+    let is = turned g.B.Bank b now ch (Ok found) r some exact in
     let mid = c.perform.new.chain in
     subst (λ (t : Acted). WritesFew t) (sym is) (
-    act_writes did state named b c.perform.new.bank now mid ch found.0 found.1 c.halts.result r apps c.in-Ok.ensures.stands.shaped
-    (subst (λ (t : Acted). ActDone did state named b c.perform.new.bank now mid ch t c.halts.result) is (returns-in-Err-clause-done g c ch r))
+    act_writes g.B.Bank b c.perform.new.bank now mid ch found.0 found.1 c.halts.result r apps c.in-Ok.ensures.stands.shaped
+    (subst (λ (t : Acted). ActDone g.B.Bank b c.perform.new.bank now mid ch t c.halts.result) is (returns-in-Err-clause-done g c ch r))
     )

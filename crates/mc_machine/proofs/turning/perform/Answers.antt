@@ -17,8 +17,6 @@ step-requires-clause-row g c = no_primitive c.args.ins.now c.in_default.not-Prim
 
 pub returns-in_default : goal.returns-in_default
 returns-in_default g c =
-    let did = g.B.Bank.did in
-    let state = g.B.Bank.state in
     let named = g.B.Bank.named in
     let b = c.args.bank.now in
     let e = c.step.new.bank in
@@ -27,10 +25,10 @@ returns-in_default g c =
     let x : Around = record { case = now.case; delegator = delegator_of (named b) now.below } in
     let sc = scene b e now.running c.step.new.frame now.public c.step.new.public in
     let o = row_result c.step.result in
-    let acts : RowActs did state named sc i alone o =
-    subst (λ (k : Chained). RowActs did state named (scene b e k.running c.step.new.frame k.public c.step.new.public) i alone o) c.chain.view_is c.step.ensures in
-    let around = subst (λ (r : RowEnd). EndActs did state named sc r o) (sym (row_alone i (frame_on_bank (state b) (named b) now.running) now.public x (no_primitive i c.in_default.not-Prim))) acts in
+    let acts : RowActs g.B.Bank sc i alone o =
+    subst (λ (k : Chained). RowActs g.B.Bank (scene b e k.running c.step.new.frame k.public c.step.new.public) i alone o) c.chain.view_is c.step.ensures in
+    let around = subst (λ (r : RowEnd). EndActs g.B.Bank sc r o) (sym (row_alone i (frame_on_bank g.B.Bank b now.running) now.public x (no_primitive i c.in_default.not-Prim))) acts in
     record {
-      acts = subst (λ (a : Result Next Halt). EndActs did state named sc (row i (frame_on_bank (state b) (named b) now.running) now.public x) a) (sym c.next_of.ensures) around;
+      acts = subst (λ (a : Result Next Halt). EndActs g.B.Bank sc (row i (frame_on_bank g.B.Bank b now.running) now.public x) a) (sym c.next_of.ensures) around;
       others = ap (λ (k : Chained). record k { running = c.step.new.frame; public = c.step.new.public }) c.chain.view_is;
     }

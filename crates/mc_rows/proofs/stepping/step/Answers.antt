@@ -5,8 +5,8 @@ use Rattle.mc_rows.proofs.stepping.step.Goals as goal
 
 pub returns-in-Ok : goal.returns-in-Ok
 returns-in-Ok g c =
-    frame_acts g.B.Bank.did g.B.Bank.state g.B.Bank.named c.args.ins.now c.args.bank.now c.args.frame.now c.step_frame.new.frame c.args.public.now (Ok tt) c.requires.runs.going c.requires.runs.fits c.in-Ok.ensures
+    frame_acts g.B.Bank c.args.ins.now c.args.bank.now c.args.frame.now c.step_frame.new.frame c.args.public.now (Ok tt) c.requires.runs.going c.requires.runs.fits c.in-Ok.ensures
 
 pub returns-in-Err : goal.returns-in-Err
 returns-in-Err g c =
-    frame_acts g.B.Bank.did g.B.Bank.state g.B.Bank.named c.args.ins.now c.args.bank.now c.args.frame.now c.step_frame.new.frame c.args.public.now (Err c.in-Err.abend) c.requires.runs.going c.requires.runs.fits c.in-Err.ensures
+    frame_acts g.B.Bank c.args.ins.now c.args.bank.now c.args.frame.now c.step_frame.new.frame c.args.public.now (Err c.in-Err.abend) c.requires.runs.going c.requires.runs.fits c.in-Err.ensures

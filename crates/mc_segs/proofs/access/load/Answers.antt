@@ -7,7 +7,7 @@ use Rattle.mc_segs.proofs.access.load.Goals as goal
 
 pub returns-then-is_empty-clause-bytes : goal.returns-then-is_empty-clause-bytes
 returns-then-is_empty-clause-bytes g c =
-    no_bytes (frame_on_bank (g.B.Bank.state c.args.bank.now) (g.B.Bank.named c.args.bank.now) c.args.frame.now) c.args.public.now c.args.at c.args.into.now (sym c.is_empty.ensures ∙ c.if-is_empty.true)
+    no_bytes (frame_on_bank g.B.Bank c.args.bank.now c.args.frame.now) c.args.public.now c.args.at c.args.into.now (sym c.is_empty.ensures ∙ c.if-is_empty.true)
 
 pub returns-in-Some-Static-clause-bytes : goal.returns-in-Some-Static-clause-bytes
 returns-in-Some-Static-clause-bytes g c =

@@ -52,27 +52,27 @@ returns-in_err-rule-clause-done g c =
     subst (λ (r : Result Directed Stop). Directs g.N.Nvm.state g.N.Nvm.wrote old a r c.rule.new.reply new) (sym (p.1 ∙ ap (λ (s : Stop). Err s) p.2))
     (stopped_done g.N.Nvm.state g.N.Nvm.wrote g.met.N.Nvm.obeys a old new c.in_err-rule.field-0.0 c.requires.ready (record { items = c.in_err-rule.ensures.items; apps = c.in_err-rule.ensures.apps; leaves = c.in_err-rule.ensures.leaves; fits = c.in_err-rule.ensures.fits; going = c.in_err-rule.ensures.going }))
 
-pub returns-in_err-rule-clause-lent : goal.returns-in_err-rule-clause-lent
-returns-in_err-rule-clause-lent g c =
+pub returns-in_err-rule-clause-keeps_device : goal.returns-in_err-rule-clause-keeps_device
+returns-in_err-rule-clause-keeps_device g c =
     let old = c.args.self.now in
     let new = record old { store = c.rule.new.bank; manager = c.rule.new.self } in
     let a = parts_of c.args.apdu.now in
     answered_same g.N.Nvm.state g.N.Nvm.wrote g.N.Nvm.same g.met.N.Nvm.keeps g.met.N.Nvm.itself g.met.N.Nvm.onward a old new _
     (stopped_done g.N.Nvm.state g.N.Nvm.wrote g.met.N.Nvm.obeys a old new c.in_err-rule.field-0.0 c.requires.ready (record { items = c.in_err-rule.ensures.items; apps = c.in_err-rule.ensures.apps; leaves = c.in_err-rule.ensures.leaves; fits = c.in_err-rule.ensures.fits; going = c.in_err-rule.ensures.going }))
 
-pub returns-in-Answer-clause-lent : goal.returns-in-Answer-clause-lent
-returns-in-Answer-clause-lent g c =
+pub returns-in-Answer-clause-keeps_device : goal.returns-in-Answer-clause-keeps_device
+returns-in-Answer-clause-keeps_device g c =
     let old = c.args.self.now in
     let new = record old { store = c.rule.new.bank; manager = c.rule.new.self } in
     answered_same g.N.Nvm.state g.N.Nvm.wrote g.N.Nvm.same g.met.N.Nvm.keeps g.met.N.Nvm.itself g.met.N.Nvm.onward (parts_of c.args.apdu.now) old new _ (returns-in-Answer-clause-done g c)
 
-pub returns-in-Fresh-clause-lent : goal.returns-in-Fresh-clause-lent
-returns-in-Fresh-clause-lent g c =
+pub returns-in-Fresh-clause-keeps_device : goal.returns-in-Fresh-clause-keeps_device
+returns-in-Fresh-clause-keeps_device g c =
     let old = c.args.self.now in
     let new = record old { store = c.rule.new.bank; manager = c.rule.new.self; session = c.session_of-self.result } in
     answered_same g.N.Nvm.state g.N.Nvm.wrote g.N.Nvm.same g.met.N.Nvm.keeps g.met.N.Nvm.itself g.met.N.Nvm.onward (parts_of c.args.apdu.now) old new _ (returns-in-Fresh-clause-done g c)
 
-pub returns-in-Pass-clause-lent : goal.returns-in-Pass-clause-lent
-returns-in-Pass-clause-lent g c =
+pub returns-in-Pass-clause-keeps_device : goal.returns-in-Pass-clause-keeps_device
+returns-in-Pass-clause-keeps_device g c =
     let old = c.args.self.now in
     subst (λ (x : Card g.row.N.Denot). g.N.Nvm.same old.store.device x.store.device) (sym (returns-in-Pass-clause-done g c).unchanged) (g.met.N.Nvm.itself old.store.device)

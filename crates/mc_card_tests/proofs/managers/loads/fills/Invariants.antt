@@ -7,5 +7,5 @@ abbrev pub invariant-loop-bytes : goal.invariant-loop-bytes
 invariant-loop-bytes g l =
     record {
       going : (g.B.Bank.state l.bank).stopped ≡ false;
-      fits : ManagerFits (view_of g.B.Bank.state g.B.Bank.named g.B.Bank.room g.B.Bank.standing l.bank) l.manager;
+      fits : ManagerFits (view_of g.B.Bank l.bank) l.manager;
     }

@@ -6,8 +6,8 @@ use Rattle.mc_manager.proofs.manager.Manager.delete.Goals as goal
 
 pub returns : goal.returns
 returns g c =
-    let v = view_of g.B.Bank.state g.B.Bank.named g.B.Bank.room g.B.Bank.standing c.args.bank.now in
-    let w = view_of g.B.Bank.state g.B.Bank.named g.B.Bank.room g.B.Bank.standing c.delete.new.self in
+    let v = view_of g.B.Bank c.args.bank.now in
+    let w = view_of g.B.Bank c.delete.new.self in
     let selected = ap (λ (m : ManagerState). m.selected) c.self.view_is in
     ends_deleted g.B.Bank.did v c.args.self.now c.self.inside.selected (parts_of c.args.apdu.now) c.in-Ok.slot c.args.bank.now c.say-2.new.reply w _ c.delete.new.self selected c.in-Ok.ensures.deleted c.requires.fits
     c.in_ok-delete.ensures.items c.in_ok-delete.ensures.apps c.in_ok-delete.ensures.slots c.say-2.ensures selected refl

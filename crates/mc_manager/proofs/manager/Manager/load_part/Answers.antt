@@ -10,7 +10,7 @@ use Rattle.mc_manager.proofs.manager.Manager.load_part.Goals as goal
 
 pub returns-in-Some : goal.returns-in-Some
 returns-in-Some g c =
-    let v = view_of g.B.Bank.state g.B.Bank.named g.B.Bank.room g.B.Bank.standing c.args.bank.now in
+    let v = view_of g.B.Bank c.args.bank.now in
     let load = ap (λ (m : ManagerState). m.load) c.self.view_is in
     ends_refused g.B.Bank.did _ v c.args.self.now c.args.bank.now c.say.new.reply (word_of c.in-Some.refusal)
     (load_refused v c.args.self.now c.self.inside.load c.args.part _ (word_of c.in-Some.refusal) load
@@ -19,10 +19,10 @@ returns-in-Some g c =
 
 pub returns-in_default-load : goal.returns-in_default-load
 returns-in_default-load g c =
-    let v = view_of g.B.Bank.state g.B.Bank.named g.B.Bank.room g.B.Bank.standing c.args.bank.now in
+    let v = view_of g.B.Bank c.args.bank.now in
     let load = ap (λ (m : ManagerState). m.load) c.self.view_is in
     absurd (load_is_open c.args.part (parts_of c.args.apdu.now)
-    (ap (λ (x : Option Loaded). first_status (load_refusals (option_map (open_of v.standing) x) c.args.part (parts_of c.args.apdu.now))) (sym c.in_default-load.is)
+    (ap (λ (x : Option Loaded). first_status (load_refusals (option_map (open_of v.site_bytes) x) c.args.part (parts_of c.args.apdu.now))) (sym c.in_default-load.is)
     ∙ c.load_refusal.ensures v (λ l is. c.requires.fits.load l (sym load ∙ is))
     ∙ ap (option_map word_of) c.in_default.is))
 
@@ -33,15 +33,15 @@ fill-requires-clause-fits g c =
 
 pub fill-requires-clause-room : goal.fill-requires-clause-room
 fill-requires-clause-room g c =
-    let v = view_of g.B.Bank.state g.B.Bank.named g.B.Bank.room g.B.Bank.standing c.args.bank.now in
+    let v = view_of g.B.Bank c.args.bank.now in
     let can = can_load v c.args.self.now c.self.inside.load c.in-Some-load.load c.args.part (parts_of c.args.apdu.now) (ap (λ (m : ManagerState). m.load) c.self.view_is) c.in-Some-load.is c.requires.fits
     (λ fits. c.load_refusal.ensures v fits ∙ ap (option_map word_of) c.in_default.is) in
     has_room v c.in-Some-load.load c.args.part (parts_of c.args.apdu.now) can.fits can.clear
 
 pub returns-in_err-fill : goal.returns-in_err-fill
 returns-in_err-fill g c =
-    let v = view_of g.B.Bank.state g.B.Bank.named g.B.Bank.room g.B.Bank.standing c.args.bank.now in
-    let w = view_of g.B.Bank.state g.B.Bank.named g.B.Bank.room g.B.Bank.standing c.fill.new.bank in
+    let v = view_of g.B.Bank c.args.bank.now in
+    let w = view_of g.B.Bank c.fill.new.bank in
     let can = can_load v c.args.self.now c.self.inside.load c.in-Some-load.load c.args.part (parts_of c.args.apdu.now) (ap (λ (m : ManagerState). m.load) c.self.view_is) c.in-Some-load.is c.requires.fits
     (λ fits. c.load_refusal.ensures v fits ∙ ap (option_map word_of) c.in_default.is) in
     let p = err_from_is_err_and c.from_residual.result c.from_residual.ensures.1 in
@@ -50,8 +50,8 @@ returns-in_err-fill g c =
 
 pub returns : goal.returns
 returns g c =
-    let v = view_of g.B.Bank.state g.B.Bank.named g.B.Bank.room g.B.Bank.standing c.args.bank.now in
-    let w = view_of g.B.Bank.state g.B.Bank.named g.B.Bank.room g.B.Bank.standing c.fill.new.bank in
+    let v = view_of g.B.Bank c.args.bank.now in
+    let w = view_of g.B.Bank c.fill.new.bank in
     let can = can_load v c.args.self.now c.self.inside.load c.in-Some-load.load c.args.part (parts_of c.args.apdu.now) (ap (λ (m : ManagerState). m.load) c.self.view_is) c.in-Some-load.is c.requires.fits
     (λ fits. c.load_refusal.ensures v fits ∙ ap (option_map word_of) c.in_default.is) in
     let filled = c.in_ok-fill.ensures in

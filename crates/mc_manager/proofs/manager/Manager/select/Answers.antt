@@ -6,6 +6,6 @@ use Rattle.mc_manager.proofs.manager.Manager.select.Goals as goal
 
 pub returns : goal.returns
 returns g c =
-    let v = view_of g.B.Bank.state g.B.Bank.named g.B.Bank.room g.B.Bank.standing c.args.bank.now in
+    let v = view_of g.B.Bank c.args.bank.now in
     ends_selected g.B.Bank.did v c.args.self.now c.in-Ok.selection (parts_of c.args.apdu.now) c.args.bank.now c.say_selected.new.reply _ c.in-Ok.ensures.selected c.requires.fits c.requires.going c.say_selected.ensures
     refl (ap (λ (m : ManagerState). m.load) c.self.view_is)
