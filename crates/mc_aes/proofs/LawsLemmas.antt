@@ -490,7 +490,8 @@ first_back : (y : List ℕ) (ys : List (List ℕ)) (k t : List ℕ) → rounds_b
 first_back y [] k t = rounds_back_cons y k [] t
 first_back y (x ∷ ys) k t = rounds_back_cons y x (ys ++ (k ∷ [])) t
 
--- the rounds back under ys and k, and then the rounds under ys in reverse, cancel before the rounds under the other keys
+-- the rounds back under ys and k, and then the rounds under ys in reverse, cancel before the rounds under the other
+-- keys
 back_forth : (ys : List (List ℕ)) (k i : List ℕ) (ks : List (List ℕ)) (t : List ℕ) → AllBlocks ys → IsBlock 16 t
     → rounds (reverse ys ++ (i ∷ ks)) (bit_sum (rounds_back (ys ++ (k ∷ [])) t) k) ≡ rounds (i ∷ ks) t
 back_forth [] k i ks t all ok =

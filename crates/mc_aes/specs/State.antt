@@ -11,7 +11,8 @@ word w = (w / 2 ^ 24 % 256) ∷ (w / 2 ^ 16 % 256) ∷ (w / 2 ^ 8 % 256) ∷ (w 
 unfoldable pub state_bytes : State → List ℕ
 state_bytes s = word s.first ++ word s.second ++ word s.third ++ word s.fourth
 
--- the S-box values of the byte in row 0 of the first word, in row 1 of the second, and so on: a column after SubBytes and ShiftRows
+-- the S-box values of the byte in row 0 of the first word, in row 1 of the second, and so on: a column after SubBytes
+-- and ShiftRows
 abbrev pub substitutes_of : ℕ → ℕ → ℕ → ℕ → List ℕ
 substitutes_of a b c d = sub (a / 2 ^ 24 % 256) ∷ sub (b / 2 ^ 16 % 256) ∷ sub (c / 2 ^ 8 % 256) ∷ sub (d % 256) ∷ []
 

@@ -1,6 +1,7 @@
 use crate::{aes_decipher, aes_encipher, aes_signature};
 
-// Keys, blocks and enciphered blocks of FIPS 197 (appendices C.1 and B), NIST SP 800-38A (F.1.1) and NIST AESAVS (B.1 to E.1).
+// Keys, blocks and enciphered blocks of FIPS 197 (appendices C.1 and B), NIST SP 800-38A (F.1.1) and NIST AESAVS (B.1
+// to E.1).
 const ROWS: [(u128, u128, u128); 27] = [
     (
         0x0001_0203_0405_0607_0809_0A0B_0C0D_0E0F,

@@ -40,12 +40,12 @@ module _ {B : Type 0} (did : B → BankItem → Answer → B → Type 0) where
       (λ b n ws a e d k l h. keeps b (Commit n ws) a e d k l h tt)
 
   -- good sites stay good, and keep their bytes
-  pub sites_in_order : (state : B → BankState) (room : B → Sizes → Option ℕ) (standing : B → Site → Part → List ℕ)
+  pub sites_in_order : (state : B → BankState) (room : B → Sizes → Option ℕ) (site_bytes : B → Site → Part → List ℕ)
       → ((b : B) (n : List ℕ) (ws : List (ℕ × List ℕ)) (a : Answer) (e : B) → did b (Commit n ws) a e → StayGood (state b).apps (room b) (state e).apps (room e))
-      → ((b : B) (n : List ℕ) (ws : List (ℕ × List ℕ)) (a : Answer) (e : B) → did b (Commit n ws) a e → BytesStay (state b).apps (room b) (standing b) (standing e))
-      → (cs : List Words) (b : B) (a : Answer) (e : B) → InOrder did b (commits cs) a e → (s : Site) → IsGoodSite (state b).apps (room b) s → IsGoodSite (state e).apps (room e) s × ((p : Part) → standing e s p ≡ standing b s p)
-  sites_in_order state room standing spares leaves =
-      kept_in_order (λ b e. (s : Site) → IsGoodSite (state b).apps (room b) s → IsGoodSite (state e).apps (room e) s × ((p : Part) → standing e s p ≡ standing b s p))
+      → ((b : B) (n : List ℕ) (ws : List (ℕ × List ℕ)) (a : Answer) (e : B) → did b (Commit n ws) a e → BytesStay (state b).apps (room b) (site_bytes b) (site_bytes e))
+      → (cs : List Words) (b : B) (a : Answer) (e : B) → InOrder did b (commits cs) a e → (s : Site) → IsGoodSite (state b).apps (room b) s → IsGoodSite (state e).apps (room e) s × ((p : Part) → site_bytes e s p ≡ site_bytes b s p)
+  sites_in_order state room site_bytes spares leaves =
+      kept_in_order (λ b e. (s : Site) → IsGoodSite (state b).apps (room b) s → IsGoodSite (state e).apps (room e) s × ((p : Part) → site_bytes e s p ≡ site_bytes b s p))
       (λ b s good. (good, λ p. refl))
       (λ b m e first second s good.
       let one = first s good in
@@ -54,22 +54,22 @@ module _ {B : Type 0} (did : B → BankItem → Answer → B → Type 0) where
       (λ b n ws a e d s good. (spares b n ws a e d s good, leaves b n ws a e d s good))
 
   -- the bank goes on if none of them stopped
-  pub going_in_order : (state : B → BankState) (standing : B → Site → Part → List ℕ)
-      → ((b : B) (i : BankItem) (a : Answer) (e : B) → did b i a e → Changes (state b) (item_done (standing b) i (state b).apps) a (state e))
+  pub going_in_order : (state : B → BankState) (site_bytes : B → Site → Part → List ℕ)
+      → ((b : B) (i : BankItem) (a : Answer) (e : B) → did b i a e → Changes (state b) (item_done (site_bytes b) i (state b).apps) a (state e))
       → (cs : List Words) (b e : B) → InOrder did b (commits cs) (Ok tt) e → (state b).stopped ≡ false → (state e).stopped ≡ false
-  going_in_order state standing obeys [] b e h on = subst (λ (x : B). (state x).stopped ≡ false) (sym h) on
-  going_in_order state standing obeys (c ∷ cs) b e h on =
+  going_in_order state site_bytes obeys [] b e h on = subst (λ (x : B). (state x).stopped ≡ false) (sym h) on
+  going_in_order state site_bytes obeys (c ∷ cs) b e h on =
       elim h [
-        | inl done ↦ going_in_order state standing obeys cs done.0 e done.2 (obeys b (Commit c.name c.words) (Ok tt) done.0 done.1).going
+        | inl done ↦ going_in_order state site_bytes obeys cs done.0 e done.2 (obeys b (Commit c.name c.words) (Ok tt) done.0 done.1).going
         | inr stop ↦ absurd (cc stop.2)
       ]
 
   -- the applications are those after one commit after another
-  pub apps_in_order : (state : B → BankState) (standing : B → Site → Part → List ℕ)
-      → ((b : B) (i : BankItem) (a : Answer) (e : B) → did b i a e → Changes (state b) (item_done (standing b) i (state b).apps) a (state e))
+  pub apps_in_order : (state : B → BankState) (site_bytes : B → Site → Part → List ℕ)
+      → ((b : B) (i : BankItem) (a : Answer) (e : B) → did b i a e → Changes (state b) (item_done (site_bytes b) i (state b).apps) a (state e))
       → (c : Words) (cs : List Words) (b e : B) → InOrder did b (commits (c ∷ cs)) (Ok tt) e
       → (m : B) × ((state m).apps ≡ apps_after_commit (state b).apps c.name c.words) × InOrder did m (commits cs) (Ok tt) e
-  apps_in_order state standing obeys c cs b e h =
+  apps_in_order state site_bytes obeys c cs b e h =
       elim h [
         | inl done ↦ (done.0, (obeys b (Commit c.name c.words) (Ok tt) done.0 done.1).apps, done.2)
         | inr stop ↦ absurd (cc stop.2)

@@ -8,7 +8,7 @@ use Rattle.mc_model_card.specs.declared.card.OpenRefusal.TheVariants.{Apps}
 use Rattle.mc_model_card.specs.Items.{Site}
 use Rattle.mc_bank.specs.declared.entries.Entry.{Entry}
 use Rattle.mc_bank.specs.Bank.{FitsLimits, search_result, IsGoodSite, HasParts, part_len}
-use Rattle.mc_bank.specs.Memory.{facts_in, first_free, count_of_used, apps_from, memory_room, memory_standing, part_of, entry_at, IsMemory}
+use Rattle.mc_bank.specs.Memory.{facts_in, first_free, count_of_used, apps_from, memory_room, memory_site_bytes, part_of, entry_at, IsMemory}
 use Rattle.mc_bank.specs.EntryLaws.{length_apps}
 use Rattle.mc_bank.proofs.FillLemmas.{fill_fits}
 
@@ -33,5 +33,5 @@ pub site_good : (m d : List Entry) (s : Sizes) (p : ℕ) → FitsLimits s → d 
 site_good m d s p limits same place few =
     record { limits = limits; few = few; place = ap (λ (q : ℕ). Some q) (sym (place ∙ ap (λ (l : List Entry). first_free (facts_in l)) same)) }
 
-pub site_parts : (m : List Entry) (t : Site) → IsMemory m → IsGoodSite (apps_from 0 m) (memory_room m) t → HasParts t (memory_standing m t)
+pub site_parts : (m : List Entry) (t : Site) → IsMemory m → IsGoodSite (apps_from 0 m) (memory_room m) t → HasParts t (memory_site_bytes m t)
 site_parts m t h good p = length-take-le (part_len p t.sizes) (part_of p (entry_at m t.place)) (fill_fits m t p h good)

@@ -49,8 +49,8 @@ front n ys le at k h =
     let fits : at + k ≤ n = omega (arith, len, h) in
     (omega (arith, fits, le), sym (drop-take at k ys) ∙ ap (drop at) (sym (take-take (at + k) n ys fits)) ∙ drop-take at k (take n ys))
 
-tells : (m : List Entry) (j k : ℕ) (f : Facts) → k < length m → IsMemory m → (entry_at m k).facts ≡ Some f → name_of_entry (facts_in m) k ≡ Some f.aid → memory_named m j ≡ Some f.aid → app_at m j ≡ app_in k (entry_at m k) f.sizes → AreFactsOf m j f
-tells m j k f lt h stands named own app =
+reports : (m : List Entry) (j k : ℕ) (f : Facts) → k < length m → IsMemory m → (entry_at m k).facts ≡ Some f → name_of_entry (facts_in m) k ≡ Some f.aid → memory_named m j ≡ Some f.aid → app_at m j ≡ app_in k (entry_at m k) f.sizes → AreFactsOf m j f
+reports m j k f lt h stands named own app =
     let w = whole_at m k lt h.whole in
     let facts = subst AreFacts stands w.facts in
     record {
@@ -74,7 +74,7 @@ shows_by m j n h named own =
     let aid : Some n ≡ Some s.facts.aid = ap (λ (l : List ℕ). Some l) (sym here.name ∙ ap (λ (f : Facts). f.aid) (sym one)) in
     record {
       some = ap is_some s.stands;
-      facts = λ f e. subst (AreFactsOf m j) (cc (sym s.stands ∙ e)) (tells m j k s.facts here.within h s.stands (named ∙ aid) (own ∙ aid) app);
+      facts = λ f e. subst (AreFactsOf m j) (cc (sym s.stands ∙ e)) (reports m j k s.facts here.within h s.stands (named ∙ aid) (own ∙ aid) app);
       code = subst (λ (a : App). IsFront a.code x.code) (sym app) (front s.facts.sizes.code x.code (let c = limits.code in let l = w.code in omega (arith, c, l)));
       fixed = subst (λ (a : App). IsFront a.fixed x.fixed) (sym app) (front s.facts.sizes.fixed x.fixed (let c = limits.fixed in let l = w.fixed in omega (arith, c, l)));
       fci = subst (λ (a : App). IsFront a.fci x.fci) (sym app) (front s.facts.sizes.fci x.fci (let c = limits.fci in let l = w.fci in omega (arith, c, l)));

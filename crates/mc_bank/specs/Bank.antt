@@ -17,8 +17,8 @@ use Rattle.mc_model_device.specs.Card.{App}
 use Rattle.mc_model_card.specs.Items.{Site, BankItem, Piece, Blank, Note, Commit, Enter, Remove}
 use Rattle.mc_base.specs.Name.{IsName}
 
--- the state of a bank: the applications by their names, the counts of cuts and failed writes below it, whether it is stopped,
--- and the greatest number of ticks of `open`
+-- the state of a bank: the applications by their names, the counts of cuts and failed writes below it, whether it is
+-- stopped, and the greatest number of ticks of `open`
 pub record BankState : Type 0 where
   pub apps : List (List ℕ × App)
   pub cuts : ℕ
@@ -98,7 +98,7 @@ pub record IsGoodSite (apps : List (List ℕ × App)) (room : Sizes → Option �
 
 -- each section of a site has its length
 abbrev pub HasParts : Site → (Part → List ℕ) → Type 0
-HasParts s standing = (p : Part) → length (standing p) ≡ part_len p s.sizes
+HasParts s site_bytes = (p : Part) → length (site_bytes p) ≡ part_len p s.sizes
 
 -- good sites stay good
 abbrev pub StayGood : List (List ℕ × App) → (Sizes → Option ℕ) → List (List ℕ × App) → (Sizes → Option ℕ) → Type 0
@@ -106,7 +106,7 @@ StayGood apps room apps' room' = (s : Site) → IsGoodSite apps room s → IsGoo
 
 -- the bytes of good sites stay
 abbrev pub BytesStay : List (List ℕ × App) → (Sizes → Option ℕ) → (Site → Part → List ℕ) → (Site → Part → List ℕ) → Type 0
-BytesStay apps room standing standing' = (s : Site) → IsGoodSite apps room s → (p : Part) → standing' s p ≡ standing s p
+BytesStay apps room site_bytes standing' = (s : Site) → IsGoodSite apps room s → (p : Part) → standing' s p ≡ site_bytes s p
 
 -- ---- commits
 
@@ -129,25 +129,25 @@ apps_after_commit apps n ws = insert apps n (with_words ws (app_of apps (Some n)
 
 -- the application that is created of the bytes at a site: its static bytes are the data, followed by zeros
 abbrev pub app_of_site : Site → (Part → List ℕ) → App
-app_of_site s standing =
+app_of_site s site_bytes =
     record {
-      code = standing Code;
-      fixed = standing Data ++ zeros (s.sizes.fixed - s.sizes.init);
+      code = site_bytes Code;
+      fixed = site_bytes Data ++ zeros (s.sizes.fixed - s.sizes.init);
       session = s.sizes.session;
       deny = s.sizes.deny;
-      dir = standing Dir;
-      fci = standing Fci;
+      dir = site_bytes Dir;
+      fci = site_bytes Fci;
       place = s.place;
     }
 
--- the applications after an item that was done; `standing` has the bytes at the sites before it
+-- the applications after an item that was done; `site_bytes` has the bytes at the sites before it
 abbrev pub item_done : (Site → Part → List ℕ) → BankItem → List (List ℕ × App) → List (List ℕ × App)
-item_done standing (Piece s p at b) apps = apps
-item_done standing (Blank s at n) apps = apps
-item_done standing (Note s n i) apps = apps
-item_done standing (Commit n ws) apps = apps_after_commit apps n ws
-item_done standing (Enter s n) apps = insert apps n (app_of_site s (standing s))
-item_done standing (Remove n) apps = remove apps n
+item_done site_bytes (Piece s p at b) apps = apps
+item_done site_bytes (Blank s at n) apps = apps
+item_done site_bytes (Note s n i) apps = apps
+item_done site_bytes (Commit n ws) apps = apps_after_commit apps n ws
+item_done site_bytes (Enter s n) apps = insert apps n (app_of_site s (site_bytes s))
+item_done site_bytes (Remove n) apps = remove apps n
 
 -- an item leaves the application of a name on the card
 abbrev pub Spares : List ℕ → BankItem → Type 0

@@ -127,8 +127,8 @@ with_piece Dir at b e = record e { dir = splice e.dir at b }
 with_piece Fci at b e = record e { fci = splice e.fci at b }
 
 -- the bytes in a section of a site
-abbrev pub memory_standing : List Entry → Site → Part → List ℕ
-memory_standing m s p = take (part_len p s.sizes) (part_of p (entry_at m s.place))
+abbrev pub memory_site_bytes : List Entry → Site → Part → List ℕ
+memory_site_bytes m s p = take (part_len p s.sizes) (part_of p (entry_at m s.place))
 
 -- the facts of a new application: its data are all its static bytes
 abbrev pub new_facts : Sizes → List ℕ → Facts
@@ -204,7 +204,8 @@ pub record RemoveDone (m : List Entry) (n : List ℕ) (e : List Entry) : Type 0 
   pub apart : AreApart (facts_in m)
   pub after : e ≡ slice_set m slot (free_entry (entry_at m slot))
 
--- an item that is done at once: the creation sets the zeros after the data, and the plain writes before it change nothing
+-- an item that is done at once: the creation sets the zeros after the data, and the plain writes before it change
+-- nothing
 abbrev pub ItemDone : List Entry → BankItem → List Entry → Type 0
 ItemDone m (Piece s p at b) e = PieceDone m s p at b e
 ItemDone m (Blank s at n) e = e ≡ m

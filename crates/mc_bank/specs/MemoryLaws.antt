@@ -15,7 +15,7 @@ use Rattle.mc_model_card.specs.Items.{Site, BankItem, Piece, Blank, Note, Commit
 use Rattle.mc_bank.specs.declared.bank.Facts.{Facts}
 use Rattle.mc_bank.specs.declared.entries.Entry.{Entry}
 use Rattle.mc_bank.specs.Bank.{app_of, no_app, sizes_of, part_len, with_words, apps_after_commit, app_of_site, item_done, Spares, StayGood, BytesStay, Changes}
-use Rattle.mc_bank.specs.Memory.{facts_in, name_of_entry, memory_named, first_free, is_named, AreApart, app_in, apps_from, memory_state, memory_room, entry_at, part_of, with_piece, memory_standing, new_facts, with_app, with_list, free_entry, fixed_len, CommitDone, EnterDone, RemoveDone, ItemDone, MemoryDid}
+use Rattle.mc_bank.specs.Memory.{facts_in, name_of_entry, memory_named, first_free, is_named, AreApart, app_in, apps_from, memory_state, memory_room, entry_at, part_of, with_piece, memory_site_bytes, new_facts, with_app, with_list, free_entry, fixed_len, CommitDone, EnterDone, RemoveDone, ItemDone, MemoryDid}
 use Rattle.mc_bank.specs.Slots.{slot_place}
 use Rattle.mc_bank.specs.SlotLaws.{HasSizes, EntersNot, has_sizes, slot_named, item_sized}
 use Rattle.mc_bank.specs.EntryLaws.{facts_set, facts_kept, named_here, named_other, named_is, free_has_no_name, free_named, name_gone, not_named_freed, lookup_none, apps_free, apps_set}
@@ -138,7 +138,7 @@ remove_apps m n e d =
     let s = split m d.slot n d.named d.apart in
     ap (apps_from 0) d.after ∙ s.without ∙ sym (ap (λ (apps : List (List ℕ × App)). remove apps n) s.now ∙ remove_inserted s.rest n (app_in d.slot (entry_at m d.slot) s.facts.sizes) s.gone)
 
-enter_apps : (m : List Entry) (s : Site) (n : List ℕ) (e : List Entry) → EnterDone m s n e → apps_from 0 e ≡ insert (apps_from 0 m) n (app_of_site s (memory_standing m s))
+enter_apps : (m : List Entry) (s : Site) (n : List ℕ) (e : List Entry) → EnterDone m s n e → apps_from 0 e ≡ insert (apps_from 0 m) n (app_of_site s (memory_site_bytes m s))
 enter_apps m s n e d =
     let x = entry_at m s.place in
     let y = with_app s.sizes n x in
@@ -151,7 +151,7 @@ enter_apps m s n e d =
     ∙ ap (λ (l : List ℕ). take (s.sizes.init + length zs) (take s.sizes.init x.fixed ++ l ++ drop (s.sizes.init + length zs) x.fixed)) (sym (take-length zs))
     ∙ take-paste x.fixed s.sizes.init zs (length zs) (omega (arith, init, whole)) (omega arith)
     ∙ ap (λ (l : List ℕ). take s.sizes.init x.fixed ++ l) (take-length zs) in
-    let app : app_in s.place y (new_facts s.sizes n).sizes ≡ app_of_site s (memory_standing m s) = ap (λ (l : List ℕ). record (app_in s.place y (new_facts s.sizes n).sizes) { fixed = l }) fixed in
+    let app : app_in s.place y (new_facts s.sizes n).sizes ≡ app_of_site s (memory_site_bytes m s) = ap (λ (l : List ℕ). record (app_in s.place y (new_facts s.sizes n).sizes) { fixed = l }) fixed in
     ap (apps_from 0) d.after
     ∙ apps_set 0 m s.place y x (new_facts s.sizes n) d.place refl d.free (not_named_freed (facts_in m) s.place n d.fresh)
     ∙ ap (λ (i : ℕ). insert (apps_from 0 (slice_set m s.place x)) n (app_in i y (new_facts s.sizes n).sizes)) (omega arith)
@@ -164,7 +164,7 @@ piece_keeps_facts Data at b x = refl
 piece_keeps_facts Dir at b x = refl
 piece_keeps_facts Fci at b x = refl
 
-apps_done : (m : List Entry) (i : BankItem) (e : List Entry) → ItemDone m i e → apps_from 0 e ≡ item_done (memory_standing m) i (apps_from 0 m)
+apps_done : (m : List Entry) (i : BankItem) (e : List Entry) → ItemDone m i e → apps_from 0 e ≡ item_done (memory_site_bytes m) i (apps_from 0 m)
 apps_done m (Piece s p at b) e d = ap (apps_from 0) d.after ∙ apps_free 0 m s.place (with_piece p at b (entry_at m s.place)) d.free (piece_keeps_facts p at b (entry_at m s.place) ∙ d.free)
 apps_done m (Blank s at n) e d = ap (apps_from 0) d
 apps_done m (Note s n i) e d = ap (apps_from 0) d
@@ -173,9 +173,9 @@ apps_done m (Enter s n) e d = enter_apps m s n e d
 apps_done m (Remove n) e d = remove_apps m n e d
 
 -- an item changes the applications by its definition
-pub memory_obeys : (m : List Entry) (i : BankItem) (a : Answer) (e : List Entry) → MemoryDid m i a e → Changes (memory_state m) (item_done (memory_standing m) i (apps_from 0 m)) a (memory_state e)
+pub memory_obeys : (m : List Entry) (i : BankItem) (a : Answer) (e : List Entry) → MemoryDid m i a e → Changes (memory_state m) (item_done (memory_site_bytes m) i (apps_from 0 m)) a (memory_state e)
 memory_obeys m i a e d =
-    subst (λ (b : Answer). Changes (memory_state m) (item_done (memory_standing m) i (apps_from 0 m)) b (memory_state e)) (sym d.answer)
+    subst (λ (b : Answer). Changes (memory_state m) (item_done (memory_site_bytes m) i (apps_from 0 m)) b (memory_state e)) (sym d.answer)
     (record { apps = apps_done m i e d.done; cuts = refl; faults = refl; going = refl })
 
 names_done : (m : List Entry) (i : BankItem) (e : List Entry) → ItemDone m i e → (k : ℕ) (n : List ℕ) → name_of_entry (facts_in m) k ≡ Some n → Spares n i → name_of_entry (facts_in e) k ≡ Some n
@@ -206,7 +206,7 @@ enters_other m (Remove l) e d k n h = tt
 sizes_done : (m : List Entry) (i : BankItem) (e : List Entry) → ItemDone m i e → (k : ℕ) (n : List ℕ) → name_of_entry (facts_in m) k ≡ Some n → Spares n i → sizes_of (app_of (apps_from 0 e) (Some n)) ≡ sizes_of (app_of (apps_from 0 m) (Some n))
 sizes_done m i e d k n h q =
     ap (λ (es : List (List ℕ × App)). sizes_of (app_of es (Some n))) (apps_done m i e d)
-    ∙ item_sized (memory_standing m) i (apps_from 0 m) n q (enters_other m i e d k n h)
+    ∙ item_sized (memory_site_bytes m) i (apps_from 0 m) n q (enters_other m i e d k n h)
 
 -- an item keeps the slots of all applications but the one that it deletes
 pub memory_keeps : (m : List Entry) (i : BankItem) (a : Answer) (e : List Entry) → MemoryDid m i a e → (k : ℕ) (n : List ℕ) → memory_named m k ≡ Some n → Spares n i → memory_named e k ≡ Some n
@@ -237,10 +237,10 @@ memory_spares m n ws a e d s good =
     }
 
 -- a commit keeps the bytes of good sites
-pub memory_leaves : (m : List Entry) (n : List ℕ) (ws : List (ℕ × List ℕ)) (a : Answer) (e : List Entry) → MemoryDid m (Commit n ws) a e → BytesStay (apps_from 0 m) (memory_room m) (memory_standing m) (memory_standing e)
+pub memory_leaves : (m : List Entry) (n : List ℕ) (ws : List (ℕ × List ℕ)) (a : Answer) (e : List Entry) → MemoryDid m (Commit n ws) a e → BytesStay (apps_from 0 m) (memory_room m) (memory_site_bytes m) (memory_site_bytes e)
 memory_leaves m n ws a e d s good p =
     let done = d.done in
     let place : first_free (facts_in m) ≡ s.place = cc good.place in
     let other : done.slot ≢ s.place = λ q. cc (sym (free_has_no_name (facts_in m)) ∙ ap (name_of_entry (facts_in m)) (place ∙ sym q) ∙ done.named) in
-    ap (λ (l : List Entry). memory_standing l s p) done.after
+    ap (λ (l : List Entry). memory_site_bytes l s p) done.after
     ∙ ap (λ (x : Entry). take (part_len p s.sizes) (part_of p x)) (entry_beside m done.slot s.place (with_list ws (entry_at m done.slot)) other)

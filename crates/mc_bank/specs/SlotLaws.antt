@@ -151,10 +151,10 @@ EntersNot n (Commit m ws) = Unit {0}
 EntersNot n (Remove m) = Unit {0}
 
 -- an item that neither enters nor removes a name keeps the sizes of its application
-pub item_sized : (standing : Site → Part → List ℕ) (i : BankItem) (apps : List (List ℕ × App)) (n : List ℕ) → Spares n i → EntersNot n i → sizes_of (app_of (item_done standing i apps) (Some n)) ≡ sizes_of (app_of apps (Some n))
-item_sized standing (Piece s p at b) apps n spares other = refl
-item_sized standing (Blank s at c) apps n spares other = refl
-item_sized standing (Note s m i) apps n spares other = refl
-item_sized standing (Commit m ws) apps n spares other = commit_sized apps m ws n
-item_sized standing (Enter s m) apps n spares other = beside_sized apps m n (app_of_site s (standing s)) other
-item_sized standing (Remove m) apps n spares other = remove_sized apps m n (λ same. spares (sym same))
+pub item_sized : (site_bytes : Site → Part → List ℕ) (i : BankItem) (apps : List (List ℕ × App)) (n : List ℕ) → Spares n i → EntersNot n i → sizes_of (app_of (item_done site_bytes i apps) (Some n)) ≡ sizes_of (app_of apps (Some n))
+item_sized site_bytes (Piece s p at b) apps n spares other = refl
+item_sized site_bytes (Blank s at c) apps n spares other = refl
+item_sized site_bytes (Note s m i) apps n spares other = refl
+item_sized site_bytes (Commit m ws) apps n spares other = commit_sized apps m ws n
+item_sized site_bytes (Enter s m) apps n spares other = beside_sized apps m n (app_of_site s (site_bytes s)) other
+item_sized site_bytes (Remove m) apps n spares other = remove_sized apps m n (λ same. spares (sym same))

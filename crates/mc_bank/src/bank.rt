@@ -124,7 +124,7 @@ pub trait Bank {
     ghost room: { Self → Sizes → Option ℕ };
 
     /// The bytes in a section of a site.
-    ghost standing: { Self → SiteValue → Part → List ℕ };
+    ghost site_bytes: { Self → SiteValue → Part → List ℕ };
 
     /// One item: the bank before, the item, how it ended, the bank after.
     ghost did: { Self → BankItem → Answer → Self → Type 0 };
@@ -193,7 +193,7 @@ pub trait Bank {
             (apps_after_commit (state self.old).apps (name_or (named self.old slot)) list.now) result (state self.new) }
         ensures slots { (k : ℕ) → named self.new k ≡ named self.old k }
         ensures good { StayGood (state self.old).apps (room self.old) (state self.new).apps (room self.new) }
-        ensures bytes { BytesStay (state self.old).apps (room self.old) (standing self.old) (standing self.new) };
+        ensures bytes { BytesStay (state self.old).apps (room self.old) (site_bytes self.old) (site_bytes self.new) };
 
     /// Looks for room for a load of these sizes, which are within the limits, and returns its site.
     ///
@@ -206,7 +206,7 @@ pub trait Bank {
         ensures answer { result ≡ search_result sizes.now (nat_le 32 (length (state self.now).apps))
             (room self.now sizes.now) }
         ensures good { IfOk result (λ site. IsGoodSite (state self.now).apps (room self.now) site) }
-        ensures parts { IfOk result (λ site. HasParts site (standing self.now site)) }
+        ensures parts { IfOk result (λ site. HasParts site (site_bytes self.now site)) }
         ensures rises { steps.old ≤ steps.new }
         ensures ticks { steps.new ≤ steps.old + (state self.now).ticks }
         ensures full { 32 ≤ length (state self.now).apps → steps.new ≡ steps.old };
@@ -223,10 +223,10 @@ pub trait Bank {
         ensures items { InOrder did self.old (map
             (λ c. Piece site.now part c.0 c.1) (word_parts at piece.now)) result self.new }
         ensures apps { Changes (state self.old) (state self.old).apps result (state self.new) }
-        ensures piece { OnOk result (standing self.new site.now part
-            ≡ splice (standing self.old site.now part) at piece.now) }
+        ensures piece { OnOk result (site_bytes self.new site.now part
+            ≡ splice (site_bytes self.old site.now part) at piece.now) }
         ensures others { OnOk result ((p : Part) → p ≢ part
-            → standing self.new site.now p ≡ standing self.old site.now p) }
+            → site_bytes self.new site.now p ≡ site_bytes self.old site.now p) }
         ensures slots { (k : ℕ) → named self.new k ≡ named self.old k }
         ensures good { StayGood (state self.old).apps (room self.old) (state self.new).apps (room self.new) };
 
@@ -242,7 +242,7 @@ pub trait Bank {
         requires fresh { lookup (state self.old).apps aid.now ≡ None }
         ensures items { InOrder did self.old (create_items site.now aid.now) result self.new }
         ensures apps { Changes (state self.old)
-            (insert (state self.old).apps aid.now (app_of_site site.now (standing self.old site.now))) result
+            (insert (state self.old).apps aid.now (app_of_site site.now (site_bytes self.old site.now))) result
             (state self.new) }
         ensures slots { (k : ℕ) → IsSome (named self.old k) → named self.new k ≡ named self.old k };
 
@@ -262,7 +262,7 @@ pub trait Bank {
 
     /// An item by the relation changes the applications by its definition.
     ghost obeys: { (b : Self) (i : BankItem) (a : Answer) (e : Self) → did b i a e
-        → Changes (state b) (item_done (standing b) i (state b).apps) a (state e) };
+        → Changes (state b) (item_done (site_bytes b) i (state b).apps) a (state e) };
 
     /// An item keeps the slots of all applications but the one that it deletes.
     ghost keeps: { (b : Self) (i : BankItem) (a : Answer) (e : Self) → did b i a e → (k : ℕ) (n : List ℕ)
@@ -274,5 +274,5 @@ pub trait Bank {
 
     /// A commit keeps the bytes of good sites.
     ghost leaves: { (b : Self) (n : List ℕ) (ws : List (ℕ × List ℕ)) (a : Answer) (e : Self) → did b (Commit n ws) a e
-        → BytesStay (state b).apps (room b) (standing b) (standing e) };
+        → BytesStay (state b).apps (room b) (site_bytes b) (site_bytes e) };
 }

@@ -54,7 +54,7 @@ impl MemBank {
 }
 
 impl Bank for MemBank {
-    ghost use Rattle.mc_bank.specs.Memory.{memory_state, memory_named, memory_room, memory_standing, MemoryDid};
+    ghost use Rattle.mc_bank.specs.Memory.{memory_state, memory_named, memory_room, memory_site_bytes, MemoryDid};
     ghost use Rattle.mc_bank.specs.Memory.{facts_in, name_of_entry};
     ghost use Rattle.mc_bank.specs.Slots.{slot_place};
     ghost use Rattle.mc_bank.specs.SlotLaws.{slot_sized};
@@ -66,7 +66,7 @@ impl Bank for MemBank {
 
     ghost room = { memory_room };
 
-    ghost standing = { memory_standing };
+    ghost site_bytes = { memory_site_bytes };
 
     ghost did = { MemoryDid };
 

@@ -71,8 +71,8 @@ pub free_one : (n : List ℕ) (p : ℕ) (es : List (List ℕ × App)) → Free n
 free_one n p [] f = tt
 free_one n p (e ∷ es) f = (f.0 ∙ sym (ne_eqb (e.1).place p f.1), free_one n p es f.2)
 
--- an application that is found: it is at p or after it, a span begins at its place, and an application has its name exactly if it lies
--- there
+-- an application that is found: it is at p or after it, a span begins at its place, and an application has its name
+-- exactly if it lies there
 pub record ApplicationFound (m : List (List ℕ)) (n : List ℕ) (bs : List Block) (p : ℕ) (a : App) : Type 0 where
   pub low : p ≤ a.place
   pub span : has_span a.place (used_spans bs) ≡ true

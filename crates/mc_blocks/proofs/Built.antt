@@ -1,4 +1,5 @@
--- Words that hold the headers and records of adjacent blocks are well laid, and words that agree in all that is read hold the same card.
+-- Words that hold the headers and records of adjacent blocks are well laid, and words that agree in all that is read
+-- hold the same card.
 use Rattle.std.proofs.Common.{◌≡◌, ℕ, ◌+◌, ◌<◌, ◌≤◌, Bool, true, false, ◌&&◌, ◌||◌, List, [], ◌∷◌, length, take, Option, Some, None, refl, sym, ◌∙◌, ap, subst, arith, cond, not}
 use Rattle.std.specs.Prelude.{nat_lt, ◌==◌, slice_index, MatchBool}
 use Rattle.std.proofs.lemmas.Bool.{le-ltb, lt-ltb, le-leb, eq-eqb, and_from, and_parts, eqb-true}
@@ -195,7 +196,8 @@ pub root_good : (m : List (List ℕ)) (t : Bool) → cond {A = Option ℕ} t Non
 root_good m true h = refl
 root_good m false h = absurd (cc h)
 
--- words n are well laid and hold the applications of m, if both agree in all that is read of the blocks and the roots name the same hole
+-- words n are well laid and hold the applications of m, if both agree in all that is read of the blocks and the roots
+-- name the same hole
 pub record SameBlocks (m n : List (List ℕ)) : Type 0 where
   pub good : words_fault n ≡ None
   pub apps : apps_of n (blocks n) ≡ apps_of m (blocks m)

@@ -1,4 +1,5 @@
--- The card after a plan: written to the words of a well laid image, the plan leaves the card with the application or without it.
+-- The card after a plan: written to the words of a well laid image, the plan leaves the card with the application or
+-- without it.
 use Rattle.std.proofs.Common.{◌≡◌, ◌≢◌, ◌⊎◌, ℕ, ◌+◌, ◌<◌, ◌≤◌, Bool, true, false, List, [], ◌∷◌, ◌++◌, length, Some, None, refl, sym, ◌∙◌, ap, subst, inl, inr, arith, cond}
 use Rattle.std.specs.Prelude.{nat_lt, ◌==◌, slice_index, MatchBool}
 use Rattle.std.specs.List.{AllByRecursion, list_any}

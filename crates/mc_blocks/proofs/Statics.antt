@@ -1,4 +1,5 @@
--- The card after words of a static segment are written: the application has them over its static bytes, and all else is kept.
+-- The card after words of a static segment are written: the application has them over its static bytes, and all else is
+-- kept.
 use Rattle.std.proofs.Common.{◌≡◌, ◌⊎◌, ℕ, ◌+◌, ◌<◌, ◌≤◌, Bool, true, false, ◌&&◌, ◌||◌, List, [], ◌∷◌, length, Some, None, cond, not, refl, sym, ◌∙◌, ap, subst, inl, inr, arith}
 use Rattle.std.specs.Prelude.{◌==◌, nat_le, slice_index, bytes_eq, MatchBool}
 use Rattle.std.proofs.lemmas.Slice.Eq.{bytes_eq-Decides}

@@ -1,4 +1,5 @@
--- A plan that is written to the words makes the blocks afterwards stand: their headers are read, and root and holes name each other.
+-- A plan that is written to the words makes the blocks afterwards stand: their headers are read, and root and holes
+-- name each other.
 use Rattle.std.proofs.Common.{◌≡◌, ◌≢◌, ℕ, ◌+◌, ◌*◌, ◌/◌, ◌%◌, ◌<◌, ◌≤◌, Bool, true, false, ◌&&◌, ◌||◌, List, [], ◌∷◌, ◌++◌, length, take, Some, None, refl, sym, ◌∙◌, ap, subst, inl, inr, arith, cond, not}
 use Rattle.std.specs.Prelude.{nat_le, ◌==◌, slice_index, bytes_eq}
 use Rattle.std.specs.List.{AllByRecursion, list_any}

@@ -27,12 +27,14 @@ blocks_at m p = blocks_from (length m - p) m p
 abbrev pub bad_from : List (List ℕ) → ℕ → Bool → Option ℕ
 bad_from m p after_hole = bad_block (length m - p) m p after_hole
 
--- whether a used block is good after `used` others with these names: a good record, a new name, and fewer than 32 blocks before it
+-- whether a used block is good after `used` others with these names: a good record, a new name, and fewer than 32
+-- blocks before it
 abbrev pub is_admissible : List (List ℕ) → Block → List (List ℕ) → ℕ → Bool
 is_admissible m b names used =
     is_record (record_at m b.place) b.words && not (has_name (name_in (record_at m b.place)) names) && nat_lt used 32
 
--- the records of the blocks so far, before and after one more block: a good used block adds its record, a hole adds none
+-- the records of the blocks so far, before and after one more block: a good used block adds its record, a hole adds
+-- none
 abbrev pub Admits : List (List ℕ) → Block → List (List ℕ) → Bool → List (List ℕ) → Type 0
 Admits m b old true new =
     MatchBool b.used ((is_admissible m b (map name_in old) (length old) ≡ true) × (new ≡ old ++ record_at m b.place ∷ [])) (new ≡ old)

@@ -9,7 +9,8 @@ abbrev pub SpansAbove : ℕ → List (ℕ × ℕ) → Type 0
 SpansAbove p [] = Unit {0}
 SpansAbove p (e ∷ es) = (p ≤ e.0) × SpansAbove p es
 
--- gaps are a chain: they ascend, and the header of each has its number of words and the place of the next gap, or 0 if there is none
+-- gaps are a chain: they ascend, and the header of each has its number of words and the place of the next gap, or 0 if
+-- there is none
 abbrev pub IsChain : List (List ℕ) → List (ℕ × ℕ) → Type 0
 IsChain m [] = Unit {0}
 IsChain m (g ∷ gs) =

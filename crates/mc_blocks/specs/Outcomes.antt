@@ -16,7 +16,8 @@ pub record Planned (m n : List (List ℕ)) (ss : List (ℕ × ℕ)) : Type 0 whe
   pub root : AllByRecursion (λ e. e.0 ≢ 0) (plan (means m) ss) → word n 0 ≡ word m 0
   pub heap : OthersKept m n 131 (plan (means m) ss)
 
--- words n agree with m in the header of each of these blocks and in all words of those that are used, except the one at p
+-- words n agree with m in the header of each of these blocks and in all words of those that are used, except the one at
+-- p
 abbrev pub AgreeBut : List (List ℕ) → List (List ℕ) → ℕ → List Block → Type 0
 AgreeBut m n p [] = Unit {0}
 AgreeBut m n p (b ∷ bs) =

@@ -8,7 +8,8 @@ use Rattle.mc_model_device.specs.Layout.{gaps_from, first_place, root, hole_head
 abbrev pub changes : List (ℕ × List ℕ) → List (ℕ × List ℕ) → List (ℕ × List ℕ)
 changes old new = filter (λ e. not (list_any (same_pair e) old)) new
 
--- the layout of a card of this version and size whose applications have these spans: the root, and the headers of used blocks and gaps
+-- the layout of a card of this version and size whose applications have these spans: the root, and the headers of used
+-- blocks and gaps
 unfoldable pub layout_of : ℕ → ℕ → List (ℕ × ℕ) → List (ℕ × List ℕ)
 layout_of version size ss =
     (0, root version size (first_place (gaps_from heap_start ss size))) ∷ with_used ss (gap_headers (gaps_from heap_start ss size))
@@ -50,8 +51,8 @@ names_before next p = not (next == 0) && nat_lt next p
 abbrev pub link_word : ℕ → ℕ → ℕ × ℕ → ℕ → ℕ × List ℕ
 link_word version size g next = (g.0, cond (g.0 == 0) (root version size next) (hole_header g.1 next))
 
--- the writes by which `need` words are taken from the front of the hole at p, which names `next`: the link before it, the used header,
--- and the rest of the hole if there is one
+-- the writes by which `need` words are taken from the front of the hole at p, which names `next`: the link before it,
+-- the used header, and the rest of the hole if there is one
 abbrev pub take_front : ℕ → ℕ → ℕ × ℕ → ℕ → ℕ → ℕ → ℕ → List (ℕ × List ℕ)
 take_front version size before p words next need =
     cond (nat_lt need words)
@@ -77,8 +78,8 @@ joined_next p n (g ∷ gs) = cond (g.0 == p + n) (first_place gs) g.0
 abbrev pub touches : ℕ × ℕ → ℕ → Bool
 touches g p = not (g.0 == 0) && g.0 + g.1 == p
 
--- the writes by which a hole at p that names `next` is added: it is joined with the gap before it if they touch, else the link before it
--- names it
+-- the writes by which a hole at p that names `next` is added: it is joined with the gap before it if they touch, else
+-- the link before it names it
 abbrev pub put_hole : ℕ → ℕ → ℕ × ℕ → ℕ → ℕ → ℕ → List (ℕ × List ℕ)
 put_hole version size before p words next =
     cond (touches before p)

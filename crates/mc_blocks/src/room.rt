@@ -22,7 +22,8 @@ pub fn first_fit<N: Nvm, L: Ledger>(
     requires laid { IsWellLaid (N.state (device_of_probe device.now)).words }
     requires some { 1 ≤ need }
     ensures found { result ≡ first_fitting need (gaps (means (N.state (device_of_probe device.now)).words)) }
-    ensures ticks { steps.new ≡ steps.old + (1 + count_of_searched_gaps need (gaps (means (N.state (device_of_probe device.now)).words))) }
+    ensures ticks { steps.new ≡ steps.old + (1 + count_of_searched_gaps need
+        (gaps (means (N.state (device_of_probe device.now)).words))) }
 {
     // The contract of `len` states the size of the words, which the proof needs.
     let _size = device.len();

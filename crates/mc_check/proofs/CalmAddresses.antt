@@ -1,4 +1,5 @@
--- Written addresses that are plain touch no byte of the stack below LB; and the number of bytes that rows read and write.
+-- Written addresses that are plain touch no byte of the stack below LB; and the number of bytes that rows read and
+-- write.
 use Rattle.std.proofs.Common.{◌≡◌, ◌⊎◌, ℕ, zero, suc, ◌+◌, ◌-◌, ◌≤◌, ◌<◌, ℤ, pos, negsuc, Bool, true, false, cond, List, [], ◌∷◌, take, drop, length, Option, Some, None, refl, inl, inr, arith}
 use Rattle.std.specs.Prelude.{◌==◌, ◌&&◌, not, nat_lt, nat_le, is_none}
 use Rattle.std.proofs.lemmas.Bool.{and_parts, leb-true, ltb-true, eqb-true}

@@ -1,4 +1,5 @@
--- Calls of accepted code: the frame goes on at the routine, with the call among its open ones, or after a call that is not taken.
+-- Calls of accepted code: the frame goes on at the routine, with the call among its open ones, or after a call that is
+-- not taken.
 use Rattle.std.proofs.Common.{◌≡◌, ℕ, ◌+◌, ◌-◌, ◌≤◌, Bool, true, false, cond, List, ◌++◌, length, take, drop, Option, Some, None, refl, sym, ap, subst, ◌∙◌, inl, inr, arith}
 use Rattle.std.specs.Prelude.{◌⊎◌, ◌==◌, not}
 use Rattle.std.proofs.lemmas.Bool.{false_from_ne_true, eqb-true}

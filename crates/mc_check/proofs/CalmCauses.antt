@@ -8,7 +8,7 @@ use Rattle.mc_model_machine.specs.declared.machine.Abend.{Abend}
 use Rattle.mc_model_machine.specs.declared.machine.Abend.TheVariants.{A06}
 use Rattle.mc_model_device.specs.Bytes.{num}
 use Rattle.mc_model_machine.specs.Frame.{Frame, floor, dynamic_end, is_under, is_over, frame_after_pop, top}
-use Rattle.mc_model_machine.specs.Primitives.{Around, Primitive, CheckCase, LoadCcr, StoreCcr, Lookup, MemoryCompare, MemoryCopy, DelegateTo, DelegatorAid, Digest, CompareFixed, CopyFixed, SetProtection, Encipher, Decipher, Sign, BitByte, ShiftLeft, ShiftRight, BitWord, primitive, prim_causes, later_causes, told_causes}
+use Rattle.mc_model_machine.specs.Primitives.{Around, Primitive, CheckCase, LoadCcr, StoreCcr, Lookup, MemoryCompare, MemoryCopy, DelegateTo, DelegatorAid, Digest, CompareFixed, CopyFixed, SetProtection, Encipher, Decipher, Sign, BitByte, ShiftLeft, ShiftRight, BitWord, primitive, prim_causes, later_causes, reported_causes}
 use Rattle.mc_model_machine.specs.Chain.{frame_at}
 use Rattle.mc_model_machine.specs.Row.{causes, first_cause, holds, no_place, on_stack, immediate_reads, immediate_writes, pair_reads, pair_writes}
 use Rattle.mc_model_machine.specs.StackRows.{need, always_abends, prim_abends, height_after, pair_uses, prim_uses, row_uses, is_indirect, counts, call_target, is_inside, target_inside, call_inside, goes_on, jump_target, places_inside}
@@ -92,9 +92,9 @@ pair_write f h tag off n r few = (under f h (on_stack tag (2 * n) n) r few, (tt,
 
 -- ---- primitives
 
-told_calm : (g : Frame) (a : ℕ) (o : Option (List ℕ)) → AreCalm (told_causes g a o)
-told_calm g a None = tt
-told_calm g a (Some name) = (tt, (tt, tt))
+reported_calm : (g : Frame) (a : ℕ) (o : Option (List ℕ)) → AreCalm (reported_causes g a o)
+reported_calm g a None = tt
+reported_calm g a (Some name) = (tt, (tt, tt))
 
 later_calm : (p : Primitive) (args : List ℕ) (f : Frame) (h : ℕ) (public : List ℕ) (x : Around) → IsRoomy f h → (prim_uses p args).needs ≤ h
     → f.dt - (prim_uses p args).pops + (prim_uses p args).pushes ≤ dynamic_end → AreCalm (later_causes p args f public x)
@@ -106,7 +106,7 @@ later_calm Lookup args f h public x r few room = (under f h 3 r few, (tt, tt))
 later_calm MemoryCompare args f h public x r few room = (under f h 6 r few, (tt, (tt, tt)))
 later_calm MemoryCopy args f h public x r few room = (under f h 6 r few, (tt, (tt, (tt, tt))))
 later_calm DelegateTo args f h public x r few room = (under f h 2 r few, (tt, (tt, tt)))
-later_calm DelegatorAid args f h public x r few room = (under f h 2 r few, told_calm (frame_after_pop f 2) _ x.delegator)
+later_calm DelegatorAid args f h public x r few room = (under f h 2 r few, reported_calm (frame_after_pop f 2) _ x.delegator)
 later_calm Digest args f h public x r few room = (under f h 6 r few, (tt, (tt, (tt, tt))))
 later_calm CompareFixed args f h public x r few room = (under f h 4 r few, (tt, tt))
 later_calm CopyFixed args f h public x r few room = (under f h 4 r few, (tt, (tt, tt)))
@@ -126,7 +126,8 @@ prim_calm (Some p) args f h public x r few room = (tt, (tt, later_calm p args f 
 
 -- ---- all rows
 
--- the conditions under which an instruction runs: its bytes are there, its places are in the code, and there is room after it
+-- the conditions under which an instruction runs: its bytes are there, its places are in the code, and there is room
+-- after it
 pub record IsReadyToRun (len : ℕ) (i : Ins) (f : Frame) (h : ℕ) : Type 0 where
   pub roomy : IsRoomy f h
   pub code_len : f.code_len ≡ len

@@ -1,5 +1,5 @@
--- A turn of a chain whose frames of accepted code are at facts: it ends with no excluded abend, and the chain that follows is such a
--- chain.
+-- A turn of a chain whose frames of accepted code are at facts: it ends with no excluded abend, and the chain that
+-- follows is such a chain.
 use Rattle.std.proofs.Common.{◌≡◌, ℕ, ◌-◌, ◌≤◌, ◌<◌, Bool, true, false, cond, List, [], ◌∷◌, length, Option, Some, None, Result, Ok, Err, refl, sym, ap, subst, ◌∙◌, arith}
 use Rattle.std.specs.Prelude.{unwrap_or, bytes_eq, ◌||◌, nat_lt, nat_le}
 use Rattle.std.specs.List.{AllByRecursion}
@@ -13,7 +13,7 @@ use Rattle.mc_model_machine.specs.Code.{instruction_at}
 use Rattle.mc_model_machine.specs.Frame.{Frame, Effect, dynamic_base, public_base, public_end, new_frame, with_sw, la_of}
 use Rattle.mc_model_machine.specs.Primitives.{Around, Then, Goes, Exits, Delegates, Done}
 use Rattle.mc_model_machine.specs.Row.{RowEnd, Abends, Does, row}
-use Rattle.mc_model_machine.specs.Chain.{Chain, Outcome, Reply, Abended, Follows, Continues, Ends, code_in, around, with_pieces, changed_app, map_changed, chain_after_effect, chain_after_call, called_app, is_active, depth_of, after_exit, follows, end_of, told_frame, row_turn, frame_at, turn_of_fetch, turn_of_chain}
+use Rattle.mc_model_machine.specs.Chain.{Chain, Outcome, Reply, Abended, Follows, Continues, Ends, code_in, around, with_pieces, changed_app, map_changed, chain_after_effect, chain_after_call, called_app, is_active, depth_of, after_exit, follows, end_of, reported_frame, row_turn, frame_at, turn_of_fetch, turn_of_chain}
 use Rattle.mc_model_device.specs.Limits.{most_static, most_code}
 use Rattle.mc_model_machine.specs.StackShape.{Main, fact, begins, main, Accepts}
 use Rattle.mc_bank.specs.Bank.{no_app, app_of}
@@ -93,7 +93,8 @@ StandsIfRunning code session map f = HasCode code session map f.name → IsStand
 abbrev pub IsWholePublic : List ℕ → Type 0
 IsWholePublic public = public_end - public_base ≤ length public
 
--- each frame of a chain is at a fact, if it runs the code; its applications keep to the limit, and its public segment is whole
+-- each frame of a chain is at a fact, if it runs the code; its applications keep to the limit, and its public segment
+-- is whole
 pub record IsHeldChain (code : List ℕ) (session : ℕ) (ch : Chain) : Type 0 where
   pub limited : AreLimited ch.map
   pub whole : IsWholePublic ch.public
@@ -186,16 +187,16 @@ follows_calm ch Goes = refl
 follows_calm ch Exits = exited_calm ch ch.below
 follows_calm ch (Delegates n) = refl
 
-told_low : (session most : ℕ) (old new : Frame) (next : Follows) → IsLow session most old → IsLow session most new → IsLow session most (told_frame old new next)
-told_low session most old new (Continues ch) before after = after
-told_low session most old new (Ends (Reply b sw)) before after = after
-told_low session most old new (Ends (Abended cause)) before after = before
+reported_low : (session most : ℕ) (old new : Frame) (next : Follows) → IsLow session most old → IsLow session most new → IsLow session most (reported_frame old new next)
+reported_low session most old new (Continues ch) before after = after
+reported_low session most old new (Ends (Reply b sw)) before after = after
+reported_low session most old new (Ends (Abended cause)) before after = before
 
 row_turn_calm : (code : List ℕ) (session most : ℕ) (ch : Chain) (i : Ins) (r : RowEnd) → IsLow session most ch.frame → RowCalm code session most r → IsCalm session most (row_turn ch i r).turn
 row_turn_calm code session most ch i (Abends cause) low calm = record { end = calm; dt = low }
 row_turn_calm code session most ch i (Does d) low calm =
     let next = follows (chain_after_effect ch d.effect) d.next in
-    record { end = follows_calm (chain_after_effect ch d.effect) d.next; dt = told_low session most ch.frame d.effect.frame next low calm.dt }
+    record { end = follows_calm (chain_after_effect ch d.effect) d.next; dt = reported_low session most ch.frame d.effect.frame next low calm.dt }
 
 -- ---- turns
 

@@ -9,7 +9,7 @@ use Rattle.mc_model_device.specs.Bytes.{zeros}
 use Rattle.mc_model_machine.specs.Blocks.{and_blocks, or_blocks, xor_blocks, not_block}
 use Rattle.mc_model_machine.specs.Code.{IsAddress, Shaped}
 use Rattle.mc_model_machine.specs.Frame.{Frame, dynamic_end, public_base, public_end, moved_address, bytes_at, address_at, is_outside, no_access, write_effect, frame_after_push, frame_after_pop, top, frame_with_top, frame_with_flags}
-use Rattle.mc_model_machine.specs.Primitives.{Around, frame_effect, effect_flagged, Primitive, CheckCase, LoadCcr, StoreCcr, Lookup, MemoryCompare, MemoryCopy, DelegateTo, DelegatorAid, Digest, CompareFixed, CopyFixed, SetProtection, Encipher, Decipher, Sign, BitByte, ShiftLeft, ShiftRight, BitWord, primitive, prim_done, prim_effect, lookup_effect, delegator_told, masked_bytes}
+use Rattle.mc_model_machine.specs.Primitives.{Around, frame_effect, effect_flagged, Primitive, CheckCase, LoadCcr, StoreCcr, Lookup, MemoryCompare, MemoryCopy, DelegateTo, DelegatorAid, Digest, CompareFixed, CopyFixed, SetProtection, Encipher, Decipher, Sign, BitByte, ShiftLeft, ShiftRight, BitWord, primitive, prim_done, prim_effect, lookup_effect, delegator_reported, masked_bytes}
 use Rattle.mc_model_machine.specs.Row.{causes, first_cause, effect, holds, frame_after_jump, address_or_zero, on_stack, operand, place_of, value_of}
 use Rattle.mc_model_machine.specs.StackRows.{WritesAt, WritesAnywhere, height_after, pair_uses, prim_uses, row_uses, prim_writing, row_writing, is_indirect, counts, call_target}
 use Rattle.mc_machine_laws.proofs.RowWords.{none_holds}
@@ -120,9 +120,9 @@ module _ (len size base h : ℕ) (f : Frame) (public : List ℕ) (s : StandsAt l
   looked_kept k safe (Some i) few is room = flagged_kept f k f.at safe (frame_effect (frame_after_push (frame_after_pop f 3) (i ∷ [])) public) f.c true (longer 3 k (i ∷ []) safe few is room)
   looked_kept k safe None few is room = flagged_kept f k f.at safe (frame_effect (frame_after_push (frame_after_pop f 3) (0 ∷ [])) public) f.c false (longer 3 k (0 ∷ []) safe few is room)
 
-  told_kept : (k a : ℕ) (o : Option (List ℕ)) → 2 ≤ h → k ≡ h - 2 → KeepsCalls f k f.at (IsSafe size base h WritesAnywhere) (delegator_told (frame_after_pop f 2) public a o)
-  told_kept k a None few is = shorter 2 k (IsSafe size base h WritesAnywhere) f.c true few is
-  told_kept k a (Some name) few is =
+  reported_kept : (k a : ℕ) (o : Option (List ℕ)) → 2 ≤ h → k ≡ h - 2 → KeepsCalls f k f.at (IsSafe size base h WritesAnywhere) (delegator_reported (frame_after_pop f 2) public a o)
+  reported_kept k a None few is = shorter 2 k (IsSafe size base h WritesAnywhere) f.c true few is
+  reported_kept k a (Some name) few is =
       flagged_kept f k f.at (IsSafe size base h WritesAnywhere) (write_effect (frame_after_pop f 2) public a (length name ∷ name)) f.c false (anywhere 2 k a (length name ∷ name) few is)
 
   -- the top n bytes under a mask
@@ -140,7 +140,7 @@ module _ (len size base h : ℕ) (f : Frame) (public : List ℕ) (s : StandsAt l
   prim_effect_kept MemoryCompare args x few room = shorter 6 _ _ _ _ few (omega arith)
   prim_effect_kept MemoryCopy args x few room = anywhere 6 _ _ _ few (omega arith)
   prim_effect_kept DelegateTo args x few room = shorter 2 _ _ f.c f.z few (omega arith)
-  prim_effect_kept DelegatorAid args x few room = told_kept _ _ x.delegator few (omega arith)
+  prim_effect_kept DelegatorAid args x few room = reported_kept _ _ x.delegator few (omega arith)
   prim_effect_kept Digest args x few room = anywhere 6 _ _ _ few (omega arith)
   prim_effect_kept CompareFixed args x few room = shorter 4 _ _ _ _ few (omega arith)
   prim_effect_kept CopyFixed args x few room = anywhere 4 _ _ _ few (omega arith)

@@ -7,7 +7,7 @@ use Rattle.mc_model_machine.specs.declared.instruction.Ins.TheVariants as ins
 use Rattle.mc_model_machine.specs.Apdu.{ApduParts}
 use Rattle.mc_model_device.specs.Bytes.{bytes2, zeros}
 use Rattle.mc_model_machine.specs.Frame.{Frame, Effect, Place, Static, Dynamic, Public, where_is, public_base, public_end, static_bytes, static_written, write_effect_at, write_effect, pending_change, frame_after_pop, protect, with_sw, with_la, new_public}
-use Rattle.mc_model_machine.specs.Primitives.{Around, Primitive, Lookup, MemoryCopy, DelegatorAid, Digest, CopyFixed, SetProtection, Encipher, Decipher, Sign, primitive, prim_done, prim_effect, lookup_effect, delegator_told}
+use Rattle.mc_model_machine.specs.Primitives.{Around, Primitive, Lookup, MemoryCopy, DelegatorAid, Digest, CopyFixed, SetProtection, Encipher, Decipher, Sign, primitive, prim_done, prim_effect, lookup_effect, delegator_reported}
 use Rattle.mc_model_machine.specs.Row.{effect}
 use Rattle.mc_model_device.proofs.ListLemmas.{splice_longer}
 
@@ -51,15 +51,15 @@ looked_grows : (f : Frame) (public : List ℕ) (o : Option ℕ) → PublicGrows 
 looked_grows f public (Some i) = omega arith
 looked_grows f public None = omega arith
 
-told_grows : (f : Frame) (public : List ℕ) (a : ℕ) (o : Option (List ℕ)) → PublicGrows public (delegator_told f public a o)
-told_grows f public a None = omega arith
-told_grows f public a (Some name) = written_grows f public a (length name ∷ name)
+reported_grows : (f : Frame) (public : List ℕ) (a : ℕ) (o : Option (List ℕ)) → PublicGrows public (delegator_reported f public a o)
+reported_grows f public a None = omega arith
+reported_grows f public a (Some name) = written_grows f public a (length name ∷ name)
 
 prim_effect_grows : (p : Primitive) (args : List ℕ) (f : Frame) (public : List ℕ) (x : Around) → PublicGrows public (prim_effect p args f public x).effect
 unfolding prim_effect
 prim_effect_grows Lookup args f public x = looked_grows (frame_after_pop f 3) public _
 prim_effect_grows MemoryCopy args f public x = written_grows (frame_after_pop f 6) public _ _
-prim_effect_grows DelegatorAid args f public x = told_grows (frame_after_pop f 2) public _ x.delegator
+prim_effect_grows DelegatorAid args f public x = reported_grows (frame_after_pop f 2) public _ x.delegator
 prim_effect_grows Digest args f public x = written_grows (frame_after_pop f 6) public _ _
 prim_effect_grows CopyFixed args f public x = written_grows (frame_after_pop f 4) public _ _
 prim_effect_grows SetProtection args f public x = protect_grows f public (slice_index args 0)

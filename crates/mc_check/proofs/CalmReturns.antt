@@ -1,4 +1,5 @@
--- Returns of accepted code: none abends, and the frame goes on after the call that was open last, with the LB of its routine.
+-- Returns of accepted code: none abends, and the frame goes on after the call that was open last, with the LB of its
+-- routine.
 use Rattle.std.proofs.Common.{◌≡◌, ℕ, ◌+◌, ◌-◌, ◌≤◌, ◌<◌, Bool, true, false, List, length, take, drop, Option, Some, None, refl, sym, ap, subst, ◌∙◌, inl, inr, arith}
 use Rattle.std.specs.Prelude.{◌&&◌, ◌||◌, not, nat_lt, nat_le, is_some}
 use Rattle.std.proofs.lemmas.Bool.{and_parts, and_from, ltb-true, lt-ltb, le-leb, cases_lt, not_from_true}

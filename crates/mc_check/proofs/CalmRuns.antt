@@ -1,4 +1,5 @@
--- Accepted code never abends with 01, 02, 04 or 05: in every run on every card, at each turn in a frame of it, and DT never passes the deepest.
+-- Accepted code never abends with 01, 02, 04 or 05: in every run on every card, at each turn in a frame of it, and DT
+-- never passes the deepest.
 use Rattle.std.proofs.Common.{◌≡◌, ℕ, zero, suc, ◌≤◌, ◌<◌, List, length, Option, Some, None, refl, sym, ap, ◌∙◌}
 use Rattle.std.specs.Prelude.{unwrap_or}
 use Rattle.std.specs.List.{AllByRecursion}

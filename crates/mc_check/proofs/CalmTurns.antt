@@ -1,4 +1,5 @@
--- Each row that accepted code runs: it abends with none of the excluded causes, and leaves its frame at a fact, with DT within the deepest.
+-- Each row that accepted code runs: it abends with none of the excluded causes, and leaves its frame at a fact, with DT
+-- within the deepest.
 use Rattle.std.proofs.Common.{◌≡◌, ℕ, ◌+◌, ◌-◌, ◌≤◌, ◌<◌, Bool, true, false, List, length, take, drop, Option, Some, None, Result, Ok, refl, sym, ap, subst, ◌∙◌, inl, inr, arith}
 use Rattle.std.specs.Prelude.{◌⊎◌}
 use Rattle.std.specs.List.{AllByRecursion}

@@ -1,4 +1,5 @@
--- What a change of a frame leaves as it was: its name, its sizes, LB, and the bytes of the stack below LB, if no byte of them is written.
+-- What a change of a frame leaves as it was: its name, its sizes, LB, and the bytes of the stack below LB, if no byte
+-- of them is written.
 use Rattle.std.proofs.Common.{◌≡◌, ℕ, ◌+◌, ◌-◌, ◌≤◌, Bool, true, false, cond, List, [], ◌++◌, take, drop, length, Option, Some, None, refl, sym, ap, subst, ◌∙◌, arith, drop_at, drop-drop, take-take}
 use Rattle.std.specs.Prelude.{◌==◌, ◌&&◌, ◌||◌, nat_le}
 use Rattle.std.proofs.lemmas.Bool.{and_parts, leb-true}
@@ -61,8 +62,8 @@ popped_roomy f h n r few =
     let high : f.dt ≤ dynamic_end = r.high in
     record { dyn = r.dyn; low = r.low; top = omega arith; high = omega arith }
 
--- What an effect leaves of a frame with these parts: DT is `height` bytes above LB then, the code goes on at `place`, and the calls are
--- unchanged if the write is safe.
+-- What an effect leaves of a frame with these parts: DT is `height` bytes above LB then, the code goes on at `place`,
+-- and the calls are unchanged if the write is safe.
 pub record KeptParts (known : List ℕ) (size len base : ℕ) (opened : List ℕ) (height place : ℕ) (safe : Type 0) (e : Effect) : Type 0 where
   pub name : e.frame.name ≡ known
   pub session : e.frame.session ≡ size
@@ -100,7 +101,8 @@ flagged_kept f k place safe e c z s = record { name = s.name; session = s.sessio
 
 -- ---- written bytes
 
--- Bytes at a dynamic address that are none of those from the floor up to LB: session bytes, bytes from LB on, or any if LB is the floor.
+-- Bytes at a dynamic address that are none of those from the floor up to LB: session bytes, bytes from LB on, or any if
+-- LB is the floor.
 pub data MissesCalls (low base a n : ℕ) : Type 0 where
   session : a + n ≤ low → MissesCalls low base a n
   stack : base ≤ a → MissesCalls low base a n

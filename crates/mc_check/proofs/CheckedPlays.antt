@@ -7,18 +7,18 @@ use Rattle.mc_model_machine.specs.Apdu.{ApduParts}
 use Rattle.mc_model_device.specs.Card.{App, Card}
 use Rattle.mc_model_machine.specs.Chain.{Chain, Turn, Follows, Continues, Ends, turn_of_chain}
 use Rattle.mc_model_card.specs.Items.{card_done}
-use Rattle.mc_model_card.specs.Manager.{Selected, Seat, Route, WrongLength, WrongClass, ToSelect, ToManager, ToApplication, route}
+use Rattle.mc_model_card.specs.Manager.{Selected, SessionState, Route, WrongLength, WrongClass, ToSelect, ToManager, ToApplication, route}
 use Rattle.mc_model_play.specs.DeckGrammar.{DeckLine}
 use Rattle.mc_model_play.specs.Laws.{bytes_of}
-use Rattle.mc_model_play.specs.Play.{WornAt, Live, Running, Unpowered, Muted, State, Cold, Hot, is_done, first_worn, plays, start, step}
+use Rattle.mc_model_play.specs.Play.{FailedWrite, Live, Running, Unpowered, Muted, State, BeforePower, AfterPower, is_done, first_failure, plays, start, step}
 use Rattle.mc_model_device.specs.PowerUp.{Base, OnCard, AtFault}
 use Rattle.mc_model_card.specs.Commands.{command}
 use Rattle.mc_family.specs.Begins.{BehindDone, OnPassed, OnRouted, OnSent, OnTaken, OnLine, OnEachRun}
 use Rattle.mc_family.proofs.EachRun.{each_run}
 use Rattle.mc_check.specs.Checked.{RunsCode, IsCalm, OnFollows, RunsCalmly}
-use Rattle.mc_check.specs.Plays.{TellsCalmly, CheckedPlaysLaw}
+use Rattle.mc_check.specs.Plays.{ReportsCalmly, CheckedPlaysLaw}
 use Rattle.mc_check.specs.Turns.{turns_on, turns_from, turns_passed, turns_routed, turns_behind, turns_sent, turns_taken, turns_in}
-use Rattle.mc_check.proofs.TurnsTold.{line_tells}
+use Rattle.mc_check.proofs.TurnsReported.{line_reports}
 
 module _ (code : List ℕ) (session deepest : ℕ) where
   -- the property of a turn with its chain
@@ -45,44 +45,44 @@ module _ (code : List ℕ) (session deepest : ℕ) where
   passed_calm m budget None a h = tt
   passed_calm m budget (Some s) a h = run_calm budget _ h
 
-  routed_calm : (m : List (List ℕ × App)) (seat : Seat) (budget : ℕ) (r : Route) → OnRouted RunsChecked m seat budget r → AllByRecursion Calm (turns_routed m seat budget r)
-  routed_calm m seat budget (ToApplication a) h = passed_calm m budget seat.selected a h
-  routed_calm m seat budget WrongLength h = tt
-  routed_calm m seat budget WrongClass h = tt
-  routed_calm m seat budget (ToSelect a) h = tt
-  routed_calm m seat budget (ToManager a) h = tt
+  routed_calm : (m : List (List ℕ × App)) (session_state : SessionState) (budget : ℕ) (r : Route) → OnRouted RunsChecked m session_state budget r → AllByRecursion Calm (turns_routed m session_state budget r)
+  routed_calm m session_state budget (ToApplication a) h = passed_calm m budget session_state.selected a h
+  routed_calm m session_state budget WrongLength h = tt
+  routed_calm m session_state budget WrongClass h = tt
+  routed_calm m session_state budget (ToSelect a) h = tt
+  routed_calm m session_state budget (ToManager a) h = tt
 
   behind_calm : (d : Bool) (later : Type 0) (ts : List (Chain × Turn)) → (later → AllByRecursion Calm ts) → BehindDone d later → AllByRecursion Calm (turns_behind d ts)
   behind_calm true later ts more h = more h
   behind_calm false later ts more h = tt
 
-  sent_calm : (c : Card) (seat : Seat) (budget : ℕ) (bs : List (List ℕ)) → OnSent RunsChecked c seat budget bs → AllByRecursion Calm (turns_sent c seat budget bs)
-  sent_calm c seat budget [] h = tt
-  sent_calm c seat budget (b ∷ bs) h =
-      let r = command c seat b budget in
+  sent_calm : (c : Card) (session_state : SessionState) (budget : ℕ) (bs : List (List ℕ)) → OnSent RunsChecked c session_state budget bs → AllByRecursion Calm (turns_sent c session_state budget bs)
+  sent_calm c session_state budget [] h = tt
+  sent_calm c session_state budget (b ∷ bs) h =
+      let r = command c session_state b budget in
       let d = card_done c r.items in
-      let rest = turns_sent d r.seat budget bs in
-      all_append Calm (turns_routed c.apps seat budget (route b)) (turns_behind (is_done r.outcome) rest) (routed_calm c.apps seat budget (route b) h.0)
-      (behind_calm (is_done r.outcome) (OnSent RunsChecked d r.seat budget bs) rest (λ k. sent_calm d r.seat budget bs k) h.1)
+      let rest = turns_sent d r.session_state budget bs in
+      all_append Calm (turns_routed c.apps session_state budget (route b)) (turns_behind (is_done r.outcome) rest) (routed_calm c.apps session_state budget (route b) h.0)
+      (behind_calm (is_done r.outcome) (OnSent RunsChecked d r.session_state budget bs) rest (λ k. sent_calm d r.session_state budget bs k) h.1)
 
   -- ---- lines
 
   taken_calm : (v : Live) (b : Base) (budget : ℕ) (bs : List (List ℕ)) → OnTaken RunsChecked v b budget bs → AllByRecursion Calm (turns_taken v b budget bs)
-  taken_calm (Running seat) (OnCard c) budget bs h = sent_calm c seat budget bs h
-  taken_calm (Running seat) (AtFault cause p) budget bs h = tt
+  taken_calm (Running session_state) (OnCard c) budget bs h = sent_calm c session_state budget bs h
+  taken_calm (Running session_state) (AtFault cause p) budget bs h = tt
   taken_calm Unpowered b budget bs h = tt
   taken_calm Muted b budget bs h = tt
 
   line_calm : (s : State) (bs : List (List ℕ)) → OnLine RunsChecked s bs → AllByRecursion Calm (turns_in s bs)
-  line_calm (Cold m b a) bs h = tt
-  line_calm (Hot s) bs h = taken_calm s.live s.base s.budget bs h
+  line_calm (BeforePower m b a) bs h = tt
+  line_calm (AfterPower s) bs h = taken_calm s.live s.base s.budget bs h
 
-  plays_calm : (s : State) (ls : List (ℕ × DeckLine)) (ws : List (Option WornAt)) → OnEachRun RunsChecked (plays s ls ws) → AllByRecursion (TellsCalmly code session deepest) (plays s ls ws)
+  plays_calm : (s : State) (ls : List (ℕ × DeckLine)) (ws : List (Option FailedWrite)) → OnEachRun RunsChecked (plays s ls ws) → AllByRecursion (ReportsCalmly code session deepest) (plays s ls ws)
   unfolding plays
   plays_calm s [] ws h = tt
   plays_calm s (l ∷ ls) ws h =
-      let t = step s l (first_worn ws) in
-      (record { told = line_tells s l (first_worn ws); calm = line_calm t.before (bytes_of t.line) h.0 }, plays_calm t.after ls (drop 1 ws) h.1)
+      let t = step s l (first_failure ws) in
+      (record { reported = line_reports s l (first_failure ws); calm = line_calm t.before (bytes_of t.line) h.0 }, plays_calm t.after ls (drop 1 ws) h.1)
 
 pub checked_plays_law : CheckedPlaysLaw
 checked_plays_law ls m ws code session deepest keeps = plays_calm code session deepest (start m) ls ws (each_run (RunsCalmly code session deepest) keeps ls m ws)

@@ -1,5 +1,5 @@
--- The steps of the search: what a CALL and a plain instruction leave in the tables, the facts that they reach, and the refusals that are
--- due.
+-- The steps of the search: what a CALL and a plain instruction leave in the tables, the facts that they reach, and the
+-- refusals that are due.
 use Rattle.std.proofs.Common.{◌≡◌, ◌≢◌, ◌⊎◌, ◌<◌, ◌≤◌, ◌+◌, ◌-◌, ℕ, Bool, true, false, ◌&&◌, nat_eq, eq-eqb, List, slice_get, Option, Some, None, sym, ap, ap₂, ◌∙◌, subst, inl, inr, arith}
 use Rattle.std.proofs.lemmas.Bool.{cases_eq, true≢false, and_from}
 use Rattle.mc_model_machine.specs.declared.checker.CheckCause.TheVariants.{Returns, Under}

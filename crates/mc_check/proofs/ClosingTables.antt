@@ -1,4 +1,5 @@
--- The tables of the search: what stays true of them when facts come in, when a fact was followed, and when a routine gets its counts.
+-- The tables of the search: what stays true of them when facts come in, when a fact was followed, and when a routine
+-- gets its counts.
 use Rattle.std.proofs.Common.{◌≡◌, ◌⊎◌, ◌<◌, ℕ, List, [], ◌∷◌, ◌++◌, length, set, slice_get, Option, Some, None, refl, sym, ap, ◌∙◌, subst, inl, inr, arith, length-set, length-append}
 use Rattle.std.proofs.lemmas.Bool.{cases_eq, true≢false}
 use Rattle.mc_model_machine.specs.declared.instruction.Ins.{Ins}

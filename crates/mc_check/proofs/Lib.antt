@@ -21,8 +21,8 @@ pub mod VerdictKept
 pub mod ListPlaces
 pub mod CallLemmas
 pub mod CallList
-pub mod CallTelling
-pub mod ToldBases
+pub mod CallReporting
+pub mod ReportedBases
 pub mod SearchSteps
 pub mod Begins
 pub mod SearchFound
@@ -33,5 +33,5 @@ pub mod ClosingPlaces
 pub mod ClosingSteps
 pub mod ClosingTables
 pub mod ClosingWhole
-pub mod TurnsTold
+pub mod TurnsReported
 pub mod CheckedPlays

@@ -1,4 +1,5 @@
--- The open calls of a frame: they depend on the bytes below LB alone, and they are calls of the code. And lists that have bytes spliced in.
+-- The open calls of a frame: they depend on the bytes below LB alone, and they are calls of the code. And lists that
+-- have bytes spliced in.
 use Rattle.std.proofs.Common.{◌≡◌, ℕ, ◌+◌, ◌-◌, ◌≤◌, ◌<◌, true, List, ◌++◌, length, take, drop, Some, refl, sym, ap, ◌∙◌, arith}
 use Rattle.std.proofs.lemmas.List.{length-take-le, take-take, drop-take, drop-drop, take_at, drop_at, append_assoc}
 use Rattle.mc_model_machine.specs.declared.instruction.Ins.{Ins}

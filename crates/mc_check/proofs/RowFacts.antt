@@ -24,8 +24,8 @@ pub record RowStays (len size base h : ℕ) (i : Ins) (next : ℕ) (f : Frame) (
   pub calls : ((is_plain size h (writing i) ≡ true) ⊎ (base ≡ 0)) → calls_of d.effect.frame ≡ calls_of f
   pub place : GoesTo i next d.effect.frame.at d.next
 
--- The facts of every row: its causes and its frame, if the public segment that it may load from is whole; and no row makes that segment
--- shorter.
+-- The facts of every row: its causes and its frame, if the public segment that it may load from is whole; and no row
+-- makes that segment shorter.
 pub record RowsAreCalm : Type 0 where
   pub calm : (len size base h : ℕ) (i : Ins) (next : ℕ) (f : Frame) (public : List ℕ) (x : Around) (c : Abend) → Shaped i → StandsAt len size base h f
       → need i ≤ h → is_indirect i ≡ false → places_inside len i next ≡ true → counts i ≡ None

@@ -19,7 +19,7 @@ use Rattle.mc_check.specs.declared.bases.Progress.TheVariants as progress
 use Rattle.mc_check.specs.CallList.{IsCalled, AreClosed, AreCalls, IsBaseIn, AreBasesIn, IsRing}
 use Rattle.mc_check.specs.Searching.{is_unseen, IsSeen, StaySeen, Searches, base_of}
 use Rattle.mc_check.proofs.Begins.{none_there}
-use Rattle.mc_check.proofs.CallTelling.{called_is_inside}
+use Rattle.mc_check.proofs.CallReporting.{called_is_inside}
 use Rattle.mc_check.proofs.CallLemmas.{called_by, enters_of, is_base, no_recursion}
 
 -- ---- the start

@@ -1,4 +1,5 @@
--- One step of the search: the routine that was entered last is left with its base, or an unseen caller of it is entered.
+-- One step of the search: the routine that was entered last is left with its base, or an unseen caller of it is
+-- entered.
 use Rattle.std.proofs.Common.{◌≡◌, ℕ, ◌+◌, ◌-◌, ◌*◌, ◌<◌, ◌≤◌, ◌^◌, cond, List, [], ◌∷◌, ◌++◌, length, get_or, set, take, Some, refl, sym, ap, subst, inl, inr, ◌∙◌, arith}
 use Rattle.std.specs.Prelude.{slice_get}
 use Rattle.std.proofs.lemmas.Bool.{cases_eq}
@@ -15,10 +16,10 @@ use Rattle.mc_check.specs.declared.bases.Progress.TheVariants as progress
 use Rattle.mc_check.specs.declared.bases.Answer.TheVariants as answer
 use Rattle.mc_check.specs.CallList.{ListsCall, IsCalled, AreClosed, EntersIn, IsBaseIn, ClosesRing}
 use Rattle.mc_check.specs.CallList as list
-use Rattle.mc_check.specs.Searching.{CallTells, Answers, is_unseen, count_of_unseen, AreBelow, StaySeen, Searches, remaining_work}
+use Rattle.mc_check.specs.Searching.{CallReports, Answers, is_unseen, count_of_unseen, AreBelow, StaySeen, Searches, remaining_work}
 use Rattle.mc_check.proofs.ListPlaces.{get_set_same, get_set_other, get_push_before, get_push_last, get_push, before, last, get_take, take_get}
-use Rattle.mc_check.proofs.CallTelling.{called_is_inside, caller_is_inside}
-use Rattle.mc_check.proofs.ToldBases.{told_unseen, told_open, told_bound, base_found}
+use Rattle.mc_check.proofs.CallReporting.{called_is_inside, caller_is_inside}
+use Rattle.mc_check.proofs.ReportedBases.{reported_unseen, reported_open, reported_bound, base_found}
 use Rattle.mc_model_device.specs.Limits.{most_code}
 
 -- ---- one change of a state
@@ -95,17 +96,17 @@ module _ (states : List Progress) (l : List Call) (stack : List ℕ) (q : ℕ) (
       omega arith
 
   -- an unseen caller
-  module _ (p : ℕ) (tells : CallTells states l q (answer.Unseen p)) where
-    caller : tells.call.caller ≡ owner.At p
-    caller = (told_unseen states tells.call p tells.call.caller tells.tells).by
+  module _ (p : ℕ) (reports : CallReports states l q (answer.Unseen p)) where
+    caller : reports.call.caller ≡ owner.At p
+    caller = (reported_unseen states reports.call p reports.call.caller reports.reports).by
 
     pub caller_inside : p < length states
-    caller_inside = caller_is_inside (length states) l tells.at tells.call closed tells.there p caller
+    caller_inside = caller_is_inside (length states) l reports.at reports.call closed reports.there p caller
 
     unseen_there : slice_get states p ≡ Some progress.Unseen
     unseen_there =
         let there = slice_get-get_or states p progress.Unseen caller_inside in
-        there ∙ ap Some ((told_unseen states tells.call p tells.call.caller tells.tells).none (get_or states p progress.Unseen) there)
+        there ∙ ap Some ((reported_unseen states reports.call p reports.call.caller reports.reports).none (get_or states p progress.Unseen) there)
 
     fewer : count_of_unseen (set states p progress.Open) + 1 ≡ count_of_unseen states
     fewer = let less = unseen_set states p progress.Open progress.Unseen unseen_there in omega arith
@@ -117,7 +118,7 @@ module _ (states : List Progress) (l : List Call) (stack : List ℕ) (q : ℕ) (
     way : (i a : ℕ) → slice_get stack i ≡ Some a → EntersIn l (At p) (At a)
     way i a there =
         let inside = slice_get_within stack i a there in
-        let has : ListsCall l (At p) tells.call.height q = record { at = tells.at; call = tells.call; there = tells.there; caller = ap routine_of caller; height = refl; target = tells.target } in
+        let has : ListsCall l (At p) reports.call.height q = record { at = reports.at; call = reports.call; there = reports.there; caller = ap routine_of caller; height = refl; target = reports.target } in
         list.further has (so.enters i (length stack - 1) a q (omega arith) there top)
 
     enters_pushed : (i j a b : ℕ) → i ≤ j → slice_get (stack ++ p ∷ []) i ≡ Some a → slice_get (stack ++ p ∷ []) j ≡ Some b → EntersIn l (At b) (At a)
@@ -142,7 +143,7 @@ module _ (states : List Progress) (l : List Call) (stack : List ℕ) (q : ℕ) (
     entered = record {
       called = λ k r get. elim (get_push stack p k r get) [
         | before lt old ↦ so.called k r old
-        | last at is ↦ subst (λ (x : ℕ). IsCalled l x) is (closed.callers tells.at tells.call p tells.there caller)
+        | last at is ↦ subst (λ (x : ℕ). IsCalled l x) is (closed.callers reports.at reports.call p reports.there caller)
       ];
       enters = enters_pushed;
       on_stack = on_pushed;
@@ -164,14 +165,14 @@ module _ (states : List Progress) (l : List Call) (stack : List ℕ) (q : ℕ) (
     enters new now e f = step_as l states stack new (set states p progress.Open) now (stack ++ p ∷ []) e f (record { searches = entered; seen = stay_seen states p progress.Open caller_inside (λ same. cc); nearer = entered_nearer })
 
   -- an open caller
-  pub closes_ring : (place : ℕ) (tells : CallTells states l q (answer.Open place)) → ClosesRing l tells.call × (tells.call.place ≡ place)
-  closes_ring place tells =
-      let told = told_open states tells.call place tells.call.caller tells.tells in
-      let on = so.on_stack told.routine told.open_there in
-      let inside = slice_get_within stack on.0 told.routine on.1 in
-      let way = so.enters on.0 (length stack - 1) told.routine q (omega arith) on.1 top in
-      let from : EntersIn l (At tells.call.target) (At told.routine) = subst (λ (x : ℕ). EntersIn l (At x) (At told.routine)) (sym tells.target) way in
-      (record { at = tells.at; there = tells.there; enters = subst (λ (x : Owner). EntersIn l (At tells.call.target) (routine_of x)) (sym told.by) from }, told.at)
+  pub closes_ring : (place : ℕ) (reports : CallReports states l q (answer.Open place)) → ClosesRing l reports.call × (reports.call.place ≡ place)
+  closes_ring place reports =
+      let reported = reported_open states reports.call place reports.call.caller reports.reports in
+      let on = so.on_stack reported.routine reported.open_there in
+      let inside = slice_get_within stack on.0 reported.routine on.1 in
+      let way = so.enters on.0 (length stack - 1) reported.routine q (omega arith) on.1 top in
+      let from : EntersIn l (At reports.call.target) (At reported.routine) = subst (λ (x : ℕ). EntersIn l (At x) (At reported.routine)) (sym reports.target) way in
+      (record { at = reports.at; there = reports.there; enters = subst (λ (x : Owner). EntersIn l (At reports.call.target) (routine_of x)) (sym reported.by) from }, reported.at)
 
   -- a base
   module _ (b : ℕ) (answers : Answers states l q (answer.Base b)) where
@@ -208,7 +209,7 @@ module _ (states : List Progress) (l : List Call) (stack : List ℕ) (q : ℕ) (
       room = let len = length-set states q (progress.Done b) in let f = no_more in let m = one_less in let r = so.room in omega arith;
       bound = λ r d get. elim (written states q (progress.Done b) r (progress.Done d) last_inside get) [
         | this same is ↦
-            let low = told_bound states l q b (65539 * (length states - count_of_unseen states - length stack)) closed so.bound answers.0 in
+            let low = reported_bound states l q b (65539 * (length states - count_of_unseen states - length stack)) closed so.bound answers.0 in
             let equal : b ≡ d = cc is in
             left_bound (length states) (count_of_unseen states) (length stack) _ _ _ d (length-set states q (progress.Done b)) no_more one_less so.room (subst (λ (x : ℕ). x ≤ 65539 * (length states - count_of_unseen states - length stack) + 65539) equal low)
         | other ne old ↦ left_old_bound (length states) (count_of_unseen states) (length stack) _ _ _ d (length-set states q (progress.Done b)) no_more one_less so.room (so.bound r d old)

@@ -149,15 +149,15 @@ passes_more code session t bases calls n most e d there depth reached passes =
 -- ---- the end
 
 -- if some entry is a call, the flag is true
-told_true : (code : List ℕ) (t : List (Option Entry)) (calls : Bool) → MatchBool calls (HasCall code t) (HasNoCall code t (length t))
+reported_true : (code : List ℕ) (t : List (Option Entry)) (calls : Bool) → MatchBool calls (HasCall code t) (HasNoCall code t (length t))
     → (p : ℕ) → HasFactAt t p → calls_at (instruction_at code p) ≡ true → calls ≡ true
-told_true code t true told p kept called = refl
-told_true code t false told p kept called = absurd (cc (told p (kept_inside t p kept) kept, called))
+reported_true code t true reported p kept called = refl
+reported_true code t false reported p kept called = absurd (cc (reported p (kept_inside t p kept) kept, called))
 
 -- if the flag is true, some entry is a call
-told_call : (code : List ℕ) (t : List (Option Entry)) (calls : Bool) → MatchBool calls (HasCall code t) (HasNoCall code t (length t)) → calls ≡ true → HasCall code t
-told_call code t true told h = told
-told_call code t false told h = absurd (cc h)
+reported_call : (code : List ℕ) (t : List (Option Entry)) (calls : Bool) → MatchBool calls (HasCall code t) (HasNoCall code t (length t)) → calls ≡ true → HasCall code t
+reported_call code t true reported h = reported
+reported_call code t false reported h = absurd (cc h)
 
 and_both : (a b : Bool) → (a && not b) ≡ true → (a ≡ true) × (b ≡ false)
 and_both true true h = absurd (cc h)
@@ -168,7 +168,7 @@ and_both false b h = absurd (cc h)
 pub record Known (code : List ℕ) (t : List (Option Entry)) (bases : List ℕ) (calls : Bool) : Type 0 where
   pub whole : IsWholeTable code t
   pub based : AreBases code bases
-  pub told : MatchBool calls (HasCall code t) (HasNoCall code t (length t))
+  pub reported : MatchBool calls (HasCall code t) (HasNoCall code t (length t))
 
 module _ (code : List ℕ) (session : ℕ) (t : List (Option Entry)) (bases : List ℕ) (calls : Bool) (known : Known code t bases calls) where
   -- the instruction at a fact breaks no rule by the fact alone
@@ -203,11 +203,11 @@ module _ (code : List ℕ) (session : ℕ) (t : List (Option Entry)) (bases : Li
   no_recursion f reached r = known.based.sound f reached r
 
   -- a caller that is reached is a call of the table
-  calls_told : (caller : Fact) (i : Ins) (next : ℕ) → Reached code caller → instruction_at code caller.place ≡ Ok (i, next) → is_call i ≡ true → calls ≡ true
-  calls_told caller i next reached stands is =
+  calls_reported : (caller : Fact) (i : Ins) (next : ℕ) → Reached code caller → instruction_at code caller.place ≡ Ok (i, next) → is_call i ≡ true → calls ≡ true
+  calls_reported caller i next reached stands is =
       let kept = known.whole.all caller reached in
       let called : calls_at (instruction_at code caller.place) ≡ true = ap (λ (r : Result (Ins × ℕ) DecodeFault). calls_at r) stands ∙ is in
-      told_true code t calls known.told caller.place (kept.0, kept.1) called
+      reported_true code t calls known.reported caller.place (kept.0, kept.1) called
 
   -- ---- no entry broke a rule
 
@@ -222,7 +222,7 @@ module _ (code : List ℕ) (session : ℕ) (t : List (Option Entry)) (bases : Li
     no_wild : (f : Fact) → Reached code f → WritesWild code session f → ⊥
     no_wild f reached w =
         let a = at_fact f reached in
-        let called = calls_told w.caller w.call w.calls.0 w.reached w.calls.1 w.is_call in
+        let called = calls_reported w.caller w.call w.calls.0 w.reached w.calls.1 w.is_call in
         let plain : is_plain session a.0.height (writing w.writer) ≡ true =
         sym (ap (λ (r : Result (Ins × ℕ) DecodeFault). plain_at session a.0.height r) w.stands.1) ∙ a.3.plain called in
         let high : is_plain session f.height (writing w.writer) ≡ true = subst (λ (g : Fact). is_plain session g.height (writing w.writer) ≡ true) a.2 plain in
@@ -294,7 +294,7 @@ module _ (code : List ℕ) (session : ℕ) (t : List (Option Entry)) (bases : Li
   writes_wild : (p : ℕ) (e : Entry) → Reached code (fact_of p e) → (calls && not (plain_at session e.height (instruction_at code p))) ≡ true → Refuses code session p Wild
   writes_wild p e reached test =
       let both = and_both calls (plain_at session e.height (instruction_at code p)) test in
-      let caller = told_call code t calls known.told both.0 in
+      let caller = reported_call code t calls known.reported both.0 in
       let there = caller.1 in
       let call = call_of (instruction_at code caller.0) caller.2 in
       let writer = wild_of session e.height (instruction_at code p) both.1 in

@@ -46,7 +46,8 @@ RunsCalmly code session most zero ch = RunsCode code session ch → IsCalm sessi
 RunsCalmly code session most (suc n) ch =
     (RunsCode code session ch → IsCalm session most (turn_of (suc n) ch).turn) × OnFollows (turn_of (suc n) ch).follows (λ c. RunsCalmly code session most n c)
 
--- On every card, for every command with every session bytes, each turn in a frame of an application with this code is calm.
+-- On every card, for every command with every session bytes, each turn in a frame of an application with this code is
+-- calm.
 abbrev pub IsChecked : List ℕ → ℕ → ℕ → Type 0
 IsChecked code session most =
     (map : List (List ℕ × App)) (first body : List ℕ) (apdu : ApduParts) (budget : ℕ)

@@ -23,7 +23,8 @@ pub record IsFound (code : List ℕ) (found : Found) : Type 0 where
 
 -- ---- the tables
 
--- the tables of the search: the facts by their places, the counts of routines by theirs, and the places whose facts are not followed yet
+-- the tables of the search: the facts by their places, the counts of routines by theirs, and the places whose facts are
+-- not followed yet
 pub record Tables : Type 0 where
   pub table : List (Option Entry)
   pub counts : List (Option Pair)
@@ -70,7 +71,8 @@ pub record HasSuccessors (t : List (Option Entry)) (f : Fact) (i : Ins) (next : 
   pub calls : (q : ℕ) → call_target i ≡ Some q → IsIn t (fact (At q) q 0)
   pub passes : (q : ℕ) → call_target i ≡ Some q → is_conditional i ≡ true → IsIn t (fact f.routine next f.height)
 
--- the successor of a CALL whose routine has the counts: the bytes that are taken are there, and the fact after the CALL is in the table
+-- the successor of a CALL whose routine has the counts: the bytes that are taken are there, and the fact after the CALL
+-- is in the table
 pub record ComesBack (t : List (Option Entry)) (f : Fact) (next less more : ℕ) : Type 0 where
   pub enough : less ≤ f.height
   pub back : f.height ≤ 512 → IsIn t (fact f.routine next (f.height - less + more))

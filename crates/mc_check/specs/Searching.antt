@@ -12,7 +12,8 @@ use Rattle.mc_check.specs.declared.bases.Answer.TheVariants as answer
 
 -- ---- answers for a call
 
--- the base of a call's target by this call, from the search's progress with its caller at place p, or why there is none yet
+-- the base of a call's target by this call, from the search's progress with its caller at place p, or why there is none
+-- yet
 abbrev pub answer_by_progress : Call → ℕ → Option Progress → Answer
 answer_by_progress c p None = answer.Unseen p
 answer_by_progress c p (Some progress.Unseen) = answer.Unseen p
@@ -29,12 +30,12 @@ abbrev pub answer_of_call : List Progress → Call → Answer
 answer_of_call states c = answer_to_owner states c c.caller
 
 -- the answer is that for some call of the routine at q
-pub record CallTells (states : List Progress) (calls : List Call) (q : ℕ) (a : Answer) : Type 0 where
+pub record CallReports (states : List Progress) (calls : List Call) (q : ℕ) (a : Answer) : Type 0 where
   pub at : ℕ
   pub call : Call
   pub there : slice_get calls at ≡ Some call
   pub target : call.target ≡ q
-  pub tells : answer_of_call states call ≡ a
+  pub reports : answer_of_call states call ≡ a
 
 -- among the first n calls, each one of the routine at q has a base that is at most b
 abbrev pub AreAtMost : List Progress → List Call → ℕ → ℕ → ℕ → Type 0
@@ -43,9 +44,9 @@ AreAtMost states calls q n b =
 
 -- the greatest base by the calls of the routine at q, or a caller without a base
 abbrev pub Answers : List Progress → List Call → ℕ → Answer → Type 0
-Answers states calls q (answer.Base b) = CallTells states calls q (answer.Base b) × AreAtMost states calls q (length calls) b
-Answers states calls q (answer.Unseen p) = CallTells states calls q (answer.Unseen p)
-Answers states calls q (answer.Open p) = CallTells states calls q (answer.Open p)
+Answers states calls q (answer.Base b) = CallReports states calls q (answer.Base b) × AreAtMost states calls q (length calls) b
+Answers states calls q (answer.Unseen p) = CallReports states calls q (answer.Unseen p)
+Answers states calls q (answer.Open p) = CallReports states calls q (answer.Open p)
 
 -- ---- the state of the search
 
@@ -77,8 +78,8 @@ base_of progress.Unseen = 0
 base_of progress.Open = 0
 base_of (progress.Done b) = b
 
--- The open routines are called, each one reaches those before it, and no routine is open beside them; the bases that were found are
--- bases, and at most 65,539 for each routine that is neither unseen nor open.
+-- The open routines are called, each one reaches those before it, and no routine is open beside them; the bases that
+-- were found are bases, and at most 65,539 for each routine that is neither unseen nor open.
 pub record Searches (calls : List Call) (states : List Progress) (stack : List ℕ) : Type 0 where
   pub called : (k q : ℕ) → slice_get stack k ≡ Some q → IsCalled calls q
   pub enters : (i j p q : ℕ) → i ≤ j → slice_get stack i ≡ Some p → slice_get stack j ≡ Some q → EntersIn calls (At q) (At p)

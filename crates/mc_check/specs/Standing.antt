@@ -20,8 +20,8 @@ pub record StandsAt (len size base height : ℕ) (f : Frame) : Type 0 where
 abbrev pub calls_of : Frame → List ℕ
 calls_of f = take (f.lb - floor f) (drop f.session f.dyn)
 
--- The open calls of a routine, whose LB is the given number of bytes above the floor, in the bytes of the stack from the floor on: a CALL
--- of each routine, the first one of main, with the LB and the return address that it pushed.
+-- The open calls of a routine, whose LB is the given number of bytes above the floor, in the bytes of the stack from
+-- the floor on: a CALL of each routine, the first one of main, with the LB and the return address that it pushed.
 pub data OpenCalls (code : List ℕ) (session : ℕ) (bytes : List ℕ) : Routine → ℕ → Type 0 where
   none : OpenCalls code session bytes Main 0
   call : {r : Routine} {p h b q : ℕ} (i : Ins) (next : ℕ) → OpenCalls code session bytes r b → Reached code (fact r p h) → Gives code (fact r p h) i next

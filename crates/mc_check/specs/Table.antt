@@ -30,8 +30,8 @@ IsGoodFact code f = (i : Ins) × (next : ℕ) × (look code f ≡ Stands i next)
 abbrev pub IsSoundTable : List ℕ → List (Option Entry) → Type 0
 IsSoundTable code t = (f : Fact) → IsIn t f → Reached code f × IsGoodFact code f
 
--- The table of all facts: none breaks a rule by itself, no two have the same place, no two returns of a routine differ, and each CALL
--- finds the bytes that its routine takes.
+-- The table of all facts: none breaks a rule by itself, no two have the same place, no two returns of a routine differ,
+-- and each CALL finds the bytes that its routine takes.
 pub record IsWholeTable (code : List ℕ) (t : List (Option Entry)) : Type 0 where
   pub size : length t ≡ length code
   pub sound : IsSoundTable code t

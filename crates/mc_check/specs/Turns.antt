@@ -4,8 +4,8 @@ use Rattle.mc_model_machine.specs.Apdu.{ApduParts}
 use Rattle.mc_model_device.specs.Card.{App, Card}
 use Rattle.mc_model_machine.specs.Chain.{Chain, Turn, Follows, Continues, Ends, turn_of, start as begun}
 use Rattle.mc_model_card.specs.Items.{card_done}
-use Rattle.mc_model_card.specs.Manager.{Selected, Seat, Route, WrongLength, WrongClass, ToSelect, ToManager, ToApplication, route}
-use Rattle.mc_model_play.specs.Play.{Live, Running, Unpowered, Muted, State, Cold, Hot, Step, is_done}
+use Rattle.mc_model_card.specs.Manager.{Selected, SessionState, Route, WrongLength, WrongClass, ToSelect, ToManager, ToApplication, route}
+use Rattle.mc_model_play.specs.Play.{Live, Running, Unpowered, Muted, State, BeforePower, AfterPower, Step, is_done}
 use Rattle.mc_model_device.specs.PowerUp.{Base, OnCard, AtFault}
 use Rattle.mc_model_card.specs.Commands.{command}
 use Rattle.mc_model_play.specs.Laws.{bytes_of}
@@ -26,12 +26,12 @@ turns_passed map budget None a = []
 turns_passed map budget (Some s) a = turns_from budget (begun map s.name s.session a)
 
 -- the turns of a command by its route
-abbrev pub turns_routed : List (List ℕ × App) → Seat → ℕ → Route → List (Chain × Turn)
-turns_routed map seat budget (ToApplication a) = turns_passed map budget seat.selected a
-turns_routed map seat budget WrongLength = []
-turns_routed map seat budget WrongClass = []
-turns_routed map seat budget (ToSelect a) = []
-turns_routed map seat budget (ToManager a) = []
+abbrev pub turns_routed : List (List ℕ × App) → SessionState → ℕ → Route → List (Chain × Turn)
+turns_routed map session_state budget (ToApplication a) = turns_passed map budget session_state.selected a
+turns_routed map session_state budget WrongLength = []
+turns_routed map session_state budget WrongClass = []
+turns_routed map session_state budget (ToSelect a) = []
+turns_routed map session_state budget (ToManager a) = []
 
 -- the turns after a command, if it was answered by 9000 alone
 abbrev pub turns_behind : Bool → List (Chain × Turn) → List (Chain × Turn)
@@ -39,23 +39,23 @@ turns_behind true later = later
 turns_behind false later = []
 
 -- the turns of commands in order, up to the first that is not answered by 9000 alone
-abbrev pub turns_sent : Card → Seat → ℕ → List (List ℕ) → List (Chain × Turn)
-turns_sent c seat budget [] = []
-turns_sent c seat budget (b ∷ bs) =
-    let r = command c seat b budget in
-    turns_routed c.apps seat budget (route b) ++ turns_behind (is_done r.outcome) (turns_sent (card_done c r.items) r.seat budget bs)
+abbrev pub turns_sent : Card → SessionState → ℕ → List (List ℕ) → List (Chain × Turn)
+turns_sent c session_state budget [] = []
+turns_sent c session_state budget (b ∷ bs) =
+    let r = command c session_state b budget in
+    turns_routed c.apps session_state budget (route b) ++ turns_behind (is_done r.outcome) (turns_sent (card_done c r.items) r.session_state budget bs)
 
 -- the turns of the commands that a running card takes
 abbrev pub turns_taken : Live → Base → ℕ → List (List ℕ) → List (Chain × Turn)
-turns_taken (Running seat) (OnCard c) budget bs = turns_sent c seat budget bs
-turns_taken (Running seat) (AtFault cause p) budget bs = []
+turns_taken (Running session_state) (OnCard c) budget bs = turns_sent c session_state budget bs
+turns_taken (Running session_state) (AtFault cause p) budget bs = []
 turns_taken Unpowered base budget bs = []
 turns_taken Muted base budget bs = []
 
 -- the turns of the commands of a line in a state
 abbrev pub turns_in : State → List (List ℕ) → List (Chain × Turn)
-turns_in (Cold m b a) bs = []
-turns_in (Hot s) bs = turns_taken s.live s.base s.budget bs
+turns_in (BeforePower m b a) bs = []
+turns_in (AfterPower s) bs = turns_taken s.live s.base s.budget bs
 
 -- the turns of a line that was played
 abbrev pub turns_with : Step → List (Chain × Turn)

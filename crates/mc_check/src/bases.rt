@@ -1,4 +1,5 @@
-// The bases of routines, or a call by which a routine reaches itself: a search along the calls, from routines to their callers.
+// The bases of routines, or a call by which a routine reaches itself: a search along the calls, from routines to their
+// callers.
 ghost use Rattle.std.specs.Prelude.{◌≡◌, ◌<◌, ◌≤◌, ◌-◌, ◌^◌, ◌++◌, ◌∷◌, ℕ, [], length, replicate, map, take, slice_get, slice_set, Some, OnOk, IfOk, IfErr};
 ghost use Rattle.mc_model_device.specs.Limits.{most_code};
 ghost use Rattle.mc_check.specs.Table.{IsWholeTable, AreBases, IsFaultDue};

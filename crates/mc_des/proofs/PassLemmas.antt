@@ -1,5 +1,5 @@
--- A block through one cipher or several: after the initial permutation they are the rounds alone, since the permutations between two of
--- them are inverse.
+-- A block through one cipher or several: after the initial permutation they are the rounds alone, since the
+-- permutations between two of them are inverse.
 use Rattle.std.proofs.Common.{◌≡◌, ℕ, List, length, refl, sym, ap, ◌∙◌}
 use Rattle.std.specs.Int.{w64, to_be_bytes}
 use Rattle.mc_model_machine.specs.Des.{bits, bytes_of, pick, initial, final, with_keys, des_block}

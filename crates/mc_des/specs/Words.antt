@@ -7,7 +7,8 @@ use Rattle.mc_model_machine.specs.Des.{bits, box_at, boxes, rounds}
 abbrev pub alone : ℕ → ℕ → ℕ → List ℕ
 alone n place four = zeros (4 * place) ++ (bits 4 four ++ zeros (4 * (n - 1 - place)))
 
--- the 48 bits of a round key: each of its eight groups of six bits is in a byte of its own, in the order in which the S-boxes read them
+-- the 48 bits of a round key: each of its eight groups of six bits is in a byte of its own, in the order in which the
+-- S-boxes read them
 unfoldable pub key_bits : ℕ → List ℕ
 key_bits w =
     bits 6 (w / 2 ^ 32) ++ bits 6 w ++ bits 6 (w / 2 ^ 56) ++ bits 6 (w / 2 ^ 24)

@@ -8,12 +8,12 @@ use Rattle.mc_model_device.specs.Image.{Journal, Two}
 use Rattle.mc_model_device.specs.Card.{Card}
 use Rattle.mc_model_device.specs.PowerUp.{Base, OnCard, AtFault, migration, base_after_migration}
 use Rattle.mc_model_card.specs.Items.{Item, moves, StopAt, at_stop, card_done}
-use Rattle.mc_model_card.specs.Manager.{Seat}
+use Rattle.mc_model_card.specs.Manager.{SessionState}
 use Rattle.mc_model_card.specs.Commands.{Command}
 use Rattle.mc_model_card.specs.Units.{UnitParts}
 use Rattle.mc_model_play.specs.DeckGrammar.{DeckLine}
 use Rattle.mc_model_play.specs.DeckGrammar as line
-use Rattle.mc_model_play.specs.Play.{Armed, Unarmed, ArmedCut, Live, Running, Unpowered, Muted, Warm, State, Hot, Step, step, is_card_line, moves_of, power_result, power_live, power_after, power_step, card_line, command_step, line_command, stopped_line}
+use Rattle.mc_model_play.specs.Play.{Armed, Unarmed, ArmedCut, Live, Running, Unpowered, Muted, Warm, State, AfterPower, Step, step, is_card_line, moves_of, power_result, power_live, power_after, power_step, card_line, command_step, line_command, stopped_line}
 use Rattle.mc_model_play.specs.Family.{is_running}
 use Rattle.mc_explore.specs.Rules.{Move}
 use Rattle.mc_explore.specs.States.{CardState, play_of, state_in}
@@ -26,8 +26,8 @@ use Rattle.mc_explore.proofs.Fills.{OpenAlike, whole_same, fill_for, cuts_among}
 
 -- a card runs and is settled, or there is no card
 abbrev pub IsStarted : Live → Base → ℕ → Type 0
-IsStarted (Running seat) (OnCard c) owed = (owed ≡ 0) × (c.layout ≡ 2)
-IsStarted (Running seat) (AtFault cause place) owed = ⊥
+IsStarted (Running session_state) (OnCard c) owed = (owed ≡ 0) × (c.layout ≡ 2)
+IsStarted (Running session_state) (AtFault cause place) owed = ⊥
 IsStarted Unpowered (OnCard c) owed = ⊥
 IsStarted Unpowered (AtFault cause place) owed = ⊤
 IsStarted Muted (OnCard c) owed = ⊥
@@ -36,21 +36,21 @@ IsStarted Muted (AtFault cause place) owed = ⊤
 -- a play goes on as a state does
 pub record Agrees (s : State) (c : CardState) : Type 0 where
   pub warm : Warm
-  pub is : s ≡ Hot warm
+  pub is : s ≡ AfterPower warm
   pub base : warm.base ≡ c.base
   pub live : warm.live ≡ c.live
   pub budget : warm.budget ≡ c.budget
   pub unarmed : warm.armed ≡ Unarmed
   pub started : IsStarted c.live c.base warm.owed
 
-abbrev pub hot : Base → ℕ → Journal → Live → ℕ → Armed → Warm
-hot b o j v g a = record { base = b; owed = o; by = j; live = v; budget = g; armed = a }
+abbrev pub past_power : Base → ℕ → Journal → Live → ℕ → Armed → Warm
+past_power b o j v g a = record { base = b; owed = o; by = j; live = v; budget = g; armed = a }
 
 -- a play by the parts of its state
-pub warm_is : (s : Warm) (b : Base) (v : Live) (g : ℕ) → s.base ≡ b → s.live ≡ v → s.budget ≡ g → s.armed ≡ Unarmed → s ≡ hot b s.owed s.by v g Unarmed
+pub warm_is : (s : Warm) (b : Base) (v : Live) (g : ℕ) → s.base ≡ b → s.live ≡ v → s.budget ≡ g → s.armed ≡ Unarmed → s ≡ past_power b s.owed s.by v g Unarmed
 warm_is s b v g x y z u =
-    ap (λ (e : Base). hot e s.owed s.by s.live s.budget s.armed) x ∙ ap (λ (e : Live). hot b s.owed s.by e s.budget s.armed) y
-    ∙ ap (λ (e : ℕ). hot b s.owed s.by v e s.armed) z ∙ ap (λ (e : Armed). hot b s.owed s.by v g e) u
+    ap (λ (e : Base). past_power e s.owed s.by s.live s.budget s.armed) x ∙ ap (λ (e : Live). past_power b s.owed s.by e s.budget s.armed) y
+    ∙ ap (λ (e : ℕ). past_power b s.owed s.by v e s.armed) z ∙ ap (λ (e : Armed). past_power b s.owed s.by v g e) u
 
 -- ---- one action
 
@@ -67,8 +67,8 @@ abbrev pub FillsAlike : Manner → List ℕ → Type 0
 FillsAlike Whole y = ⊤
 FillsAlike (CutAt k x) y = OpenAlike x y
 
--- A move that is made in a play shows what it shows in the state, cut with a word that opens alike, and they agree afterwards, whatever
--- cuts there are in the power lines after it.
+-- A move that is made in a play shows what it shows in the state, cut with a word that opens alike, and they agree
+-- afterwards, whatever cuts there are in the power lines after it.
 pub record IsDone (s : State) (c : CardState) (m : Move) (w : Manner) (cs : List (ℕ × List ℕ)) (y : List ℕ) : Type 0 where
   pub shows : ShowsSame (step_of s m w) (step_of (play_of c) m (refilled w y))
   pub after : (a : List (List ℕ × ℕ)) → Agrees (recovery_with m.number w cs (step_of s m w).after) (state_in (recovery m.number (refilled w y) (step_of (play_of c) m (refilled w y)).after) a)
@@ -78,40 +78,40 @@ pub record IsDone (s : State) (c : CardState) (m : Move) (w : Manner) (cs : List
 module _ (n : ℕ) (t : List ℕ) (l : DeckLine) where
   -- a line other than power: it is the card's
   abbrev line_on : Base → ℕ → Journal → Live → ℕ → Armed → Step
-  line_on b o j v g a = card_line n l (hot b o j v g a) v b None
+  line_on b o j v g a = card_line n l (past_power b o j v g a) v b None
 
   whole_shows : (b : Base) (o : ℕ) (j : Journal) (v : Live) (g : ℕ) → ShowsSame (line_on b o j v g Unarmed) (line_on b 0 Two v g Unarmed)
-  whole_shows (OnCard c) o j (Running seat) g = record { result = refl; turns = refl }
-  whole_shows (AtFault cause place) o j (Running seat) g = record { result = refl; turns = refl }
+  whole_shows (OnCard c) o j (Running session_state) g = record { result = refl; turns = refl }
+  whole_shows (AtFault cause place) o j (Running session_state) g = record { result = refl; turns = refl }
   whole_shows b o j Unpowered g = record { result = refl; turns = refl }
   whole_shows b o j Muted g = record { result = refl; turns = refl }
 
   whole_after : (b : Base) (o : ℕ) (j : Journal) (v : Live) (g : ℕ) (a : List (List ℕ × ℕ)) → IsStarted v b o → Agrees (line_on b o j v g Unarmed).after (state_in (line_on b 0 Two v g Unarmed).after a)
-  whole_after (OnCard c) o j (Running seat) g a h =
-      let r = line_command c seat g l in
-      record { warm = hot (OnCard (card_done c r.items)) o j (Running r.seat) g Unarmed; is = refl; base = refl; live = refl; budget = refl; unarmed = refl; started = h }
-  whole_after (AtFault cause place) o j (Running seat) g a h = absurd h
+  whole_after (OnCard c) o j (Running session_state) g a h =
+      let r = line_command c session_state g l in
+      record { warm = past_power (OnCard (card_done c r.items)) o j (Running r.session_state) g Unarmed; is = refl; base = refl; live = refl; budget = refl; unarmed = refl; started = h }
+  whole_after (AtFault cause place) o j (Running session_state) g a h = absurd h
   whole_after (OnCard c) o j Unpowered g a h = absurd h
   whole_after (AtFault cause place) o j Unpowered g a h =
-      record { warm = hot (AtFault cause place) o j Unpowered g Unarmed; is = refl; base = refl; live = refl; budget = refl; unarmed = refl; started = tt }
+      record { warm = past_power (AtFault cause place) o j Unpowered g Unarmed; is = refl; base = refl; live = refl; budget = refl; unarmed = refl; started = tt }
   whole_after (OnCard c) o j Muted g a h = absurd h
   whole_after (AtFault cause place) o j Muted g a h =
-      record { warm = hot (AtFault cause place) o j Muted g Unarmed; is = refl; base = refl; live = refl; budget = refl; unarmed = refl; started = tt }
+      record { warm = past_power (AtFault cause place) o j Muted g Unarmed; is = refl; base = refl; live = refl; budget = refl; unarmed = refl; started = tt }
 
   -- a cut
-  module _ (c : Card) (seat : Seat) (g : ℕ) where
+  module _ (c : Card) (session_state : SessionState) (g : ℕ) where
     abbrev done : Command
-    done = line_command c seat g l
+    done = line_command c session_state g l
 
     abbrev cut_at : ℕ → List ℕ → StopAt
     cut_at k x = record { kind = stop.Off; at = k; left = x }
 
     abbrev cut_step : ℕ → Journal → ℕ → List ℕ → Step
-    cut_step o j k x = command_step n l (hot (OnCard c) o j (Running seat) g (ArmedCut k x)) c done (Some (cut_at k x))
+    cut_step o j k x = command_step n l (past_power (OnCard c) o j (Running session_state) g (ArmedCut k x)) c done (Some (cut_at k x))
 
-    cut_is : (o : ℕ) (j : Journal) (k : ℕ) (x : List ℕ) → k ≤ moves done.items → line_on (OnCard c) o j (Running seat) g (ArmedCut k x) ≡ cut_step o j k x
+    cut_is : (o : ℕ) (j : Journal) (k : ℕ) (x : List ℕ) → k ≤ moves done.items → line_on (OnCard c) o j (Running session_state) g (ArmedCut k x) ≡ cut_step o j k x
     cut_is o j k x high =
-        ap (λ (b : Bool). command_step n l (hot (OnCard c) o j (Running seat) g (ArmedCut k x)) c done (cond b (Some (cut_at k x)) None)) (le-leb k (moves done.items) high)
+        ap (λ (b : Bool). command_step n l (past_power (OnCard c) o j (Running session_state) g (ArmedCut k x)) c done (cond b (Some (cut_at k x)) None)) (le-leb k (moves done.items) high)
 
     cut_shows : (o : ℕ) (j i : Journal) (k : ℕ) (x y : List ℕ) → ShowsSame (cut_step o j k x) (cut_step 0 i k y)
     cut_shows o j i k x y = record { result = refl; turns = refl }
@@ -126,11 +126,11 @@ module _ (n : ℕ) (t : List ℕ) (l : DeckLine) where
     cut_after : (o : ℕ) (j : Journal) (k : ℕ) (x y : List ℕ) (cs : List (ℕ × List ℕ)) (a : List (List ℕ × ℕ)) → OpenAlike x y
         → Agrees (next (after_cuts n cs (cut_step o j k x).after) (n, line.Power)) (state_in (next (cut_step 0 Two k y).after (n, line.Power)) a)
     cut_after o j k x y cs a h =
-        let s = stopped_line (hot (OnCard c) o j (Running seat) g (ArmedCut k x)) c (cut_at k x) (at_stop done.items k x) in
-        let z = stopped_line (hot (OnCard c) 0 Two (Running seat) g (ArmedCut k y)) c (cut_at k y) (at_stop done.items k y) in
+        let s = stopped_line (past_power (OnCard c) o j (Running session_state) g (ArmedCut k x)) c (cut_at k x) (at_stop done.items k x) in
+        let z = stopped_line (past_power (OnCard c) 0 Two (Running session_state) g (ArmedCut k y)) c (cut_at k y) (at_stop done.items k y) in
         let q = cuts_heal n cs s refl in
         let is = whole_power n q.warm q.heals.unarmed in
-        subst (λ (e : State). Agrees (next (after_cuts n cs (Hot s)) (n, line.Power)) (state_in e a)) (sym (whole_power n z refl)) (record {
+        subst (λ (e : State). Agrees (next (after_cuts n cs (AfterPower s)) (n, line.Power)) (state_in e a)) (sym (whole_power n z refl)) (record {
           warm = power_after q.warm None;
           is = ap (λ (e : State). next e (n, line.Power)) q.is ∙ is;
           base = q.heals.base ∙ ap (λ (b : Base). base_after_migration b) (left_same k x y h);
@@ -144,8 +144,8 @@ module _ (n : ℕ) (t : List ℕ) (l : DeckLine) where
     cut_same : (o : ℕ) (j : Journal) (k : ℕ) (x y : List ℕ) (a : List (List ℕ × ℕ)) → OpenAlike x y
         → state_in (next (cut_step o j k x).after (n, line.Power)) a ≡ state_in (next (cut_step o j k y).after (n, line.Power)) a
     cut_same o j k x y a h =
-        let s = stopped_line (hot (OnCard c) o j (Running seat) g (ArmedCut k x)) c (cut_at k x) (at_stop done.items k x) in
-        let z = stopped_line (hot (OnCard c) o j (Running seat) g (ArmedCut k y)) c (cut_at k y) (at_stop done.items k y) in
+        let s = stopped_line (past_power (OnCard c) o j (Running session_state) g (ArmedCut k x)) c (cut_at k x) (at_stop done.items k x) in
+        let z = stopped_line (past_power (OnCard c) o j (Running session_state) g (ArmedCut k y)) c (cut_at k y) (at_stop done.items k y) in
         ap (λ (e : State). state_in e a) (whole_power n s refl)
         ∙ states_equal a _ _ _ _ _ _ (ap (λ (b : Base). base_after_migration b) (left_same k x y h)) refl refl
         ∙ sym (ap (λ (e : State). state_in e a) (whole_power n z refl))
@@ -153,9 +153,9 @@ module _ (n : ℕ) (t : List ℕ) (l : DeckLine) where
 -- ---- how the moves that are commands are played
 
 record IsCommand (n : ℕ) (t : List ℕ) (l : DeckLine) : Type 0 where
-  whole : (s : Warm) → step_of (Hot s) (move_by n t l) Whole ≡ card_line n l s s.live s.base None
-  cut : (s : Warm) (k : ℕ) (x : List ℕ) → step_of (Hot s) (move_by n t l) (CutAt k x) ≡ card_line n l (record s { armed = ArmedCut k x }) s.live s.base None
-  writes : (s : Warm) → writes_of (Hot s) (move_by n t l) ≡ moves (card_line n l s s.live s.base None).items
+  whole : (s : Warm) → step_of (AfterPower s) (move_by n t l) Whole ≡ card_line n l s s.live s.base None
+  cut : (s : Warm) (k : ℕ) (x : List ℕ) → step_of (AfterPower s) (move_by n t l) (CutAt k x) ≡ card_line n l (record s { armed = ArmedCut k x }) s.live s.base None
+  writes : (s : Warm) → writes_of (AfterPower s) (move_by n t l) ≡ moves (card_line n l s s.live s.base None).items
 
 load_command : (n : ℕ) (t : List ℕ) (u : UnitParts) (f e : ℕ) → IsCommand n t (line.Load u f e)
 unfolding step moves_of
@@ -192,76 +192,76 @@ module _ (n : ℕ) (t : List ℕ) (l : DeckLine) (cmd : IsCommand n t l) where
   m = move_by n t l
 
   whole_done : (b : Base) (o : ℕ) (j : Journal) (v : Live) (g : ℕ) (a : List (List ℕ × ℕ)) (cs : List (ℕ × List ℕ)) (y : List ℕ) → IsStarted v b o
-      → IsDone (Hot (hot b o j v g Unarmed)) (state_by b v g a) m Whole cs y
+      → IsDone (AfterPower (past_power b o j v g Unarmed)) (state_by b v g a) m Whole cs y
   whole_done b o j v g a cs y h =
-      done_by (Hot (hot b o j v g Unarmed)) (state_by b v g a) m Whole cs y (line_on n t l b o j v g Unarmed) (line_on n t l b 0 Two v g Unarmed)
-      (cmd.whole (hot b o j v g Unarmed)) (cmd.whole (hot b 0 Two v g Unarmed)) (whole_shows n t l b o j v g) (λ e. whole_after n t l b o j v g e h)
+      done_by (AfterPower (past_power b o j v g Unarmed)) (state_by b v g a) m Whole cs y (line_on n t l b o j v g Unarmed) (line_on n t l b 0 Two v g Unarmed)
+      (cmd.whole (past_power b o j v g Unarmed)) (cmd.whole (past_power b 0 Two v g Unarmed)) (whole_shows n t l b o j v g) (λ e. whole_after n t l b o j v g e h)
 
-  cut_done : (c : Card) (o : ℕ) (j : Journal) (seat : Seat) (g : ℕ) (a : List (List ℕ × ℕ)) (k : ℕ) (x : List ℕ) (cs : List (ℕ × List ℕ)) (y : List ℕ) → OpenAlike x y
-      → k ≤ writes_of (Hot (hot (OnCard c) o j (Running seat) g Unarmed)) m → IsDone (Hot (hot (OnCard c) o j (Running seat) g Unarmed)) (state_by (OnCard c) (Running seat) g a) m (CutAt k x) cs y
-  cut_done c o j seat g a k x cs y alike high =
-      let within : k ≤ moves (line_command c seat g l).items = subst (λ (i : ℕ). k ≤ i) (cmd.writes (hot (OnCard c) o j (Running seat) g Unarmed)) high in
-      done_by (Hot (hot (OnCard c) o j (Running seat) g Unarmed)) (state_by (OnCard c) (Running seat) g a) m (CutAt k x) cs y
-      (cut_step n t l c seat g o j k x) (cut_step n t l c seat g 0 Two k y)
-      (cmd.cut (hot (OnCard c) o j (Running seat) g Unarmed) k x ∙ cut_is n t l c seat g o j k x within)
-      (cmd.cut (hot (OnCard c) 0 Two (Running seat) g Unarmed) k y ∙ cut_is n t l c seat g 0 Two k y within)
-      (cut_shows n t l c seat g o j Two k x y)
-      (λ e. cut_after n t l c seat g o j k x y cs e alike)
+  cut_done : (c : Card) (o : ℕ) (j : Journal) (session_state : SessionState) (g : ℕ) (a : List (List ℕ × ℕ)) (k : ℕ) (x : List ℕ) (cs : List (ℕ × List ℕ)) (y : List ℕ) → OpenAlike x y
+      → k ≤ writes_of (AfterPower (past_power (OnCard c) o j (Running session_state) g Unarmed)) m → IsDone (AfterPower (past_power (OnCard c) o j (Running session_state) g Unarmed)) (state_by (OnCard c) (Running session_state) g a) m (CutAt k x) cs y
+  cut_done c o j session_state g a k x cs y alike high =
+      let within : k ≤ moves (line_command c session_state g l).items = subst (λ (i : ℕ). k ≤ i) (cmd.writes (past_power (OnCard c) o j (Running session_state) g Unarmed)) high in
+      done_by (AfterPower (past_power (OnCard c) o j (Running session_state) g Unarmed)) (state_by (OnCard c) (Running session_state) g a) m (CutAt k x) cs y
+      (cut_step n t l c session_state g o j k x) (cut_step n t l c session_state g 0 Two k y)
+      (cmd.cut (past_power (OnCard c) o j (Running session_state) g Unarmed) k x ∙ cut_is n t l c session_state g o j k x within)
+      (cmd.cut (past_power (OnCard c) 0 Two (Running session_state) g Unarmed) k y ∙ cut_is n t l c session_state g 0 Two k y within)
+      (cut_shows n t l c session_state g o j Two k x y)
+      (λ e. cut_after n t l c session_state g o j k x y cs e alike)
 
   command_done : (b : Base) (o : ℕ) (j : Journal) (v : Live) (g : ℕ) (a : List (List ℕ × ℕ)) (w : Manner) (cs : List (ℕ × List ℕ)) (y : List ℕ) → FillsAlike w y → IsStarted v b o
-      → CanMake (Hot (hot b o j v g Unarmed)) m w → IsDone (Hot (hot b o j v g Unarmed)) (state_by b v g a) m w cs y
+      → CanMake (AfterPower (past_power b o j v g Unarmed)) m w → IsDone (AfterPower (past_power b o j v g Unarmed)) (state_by b v g a) m w cs y
   command_done b o j v g a Whole cs y alike h can = whole_done b o j v g a cs y h
-  command_done (OnCard c) o j (Running seat) g a (CutAt k x) cs y alike h can = cut_done c o j seat g a k x cs y alike can.2
-  command_done (AtFault cause place) o j (Running seat) g a (CutAt k x) cs y alike h can = absurd h
+  command_done (OnCard c) o j (Running session_state) g a (CutAt k x) cs y alike h can = cut_done c o j session_state g a k x cs y alike can.2
+  command_done (AtFault cause place) o j (Running session_state) g a (CutAt k x) cs y alike h can = absurd h
   command_done b o j Unpowered g a (CutAt k x) cs y alike h can = absurd (cc can.0)
   command_done b o j Muted g a (CutAt k x) cs y alike h can = absurd (cc can.0)
 
   -- the writes of a move are those of the state
   items_same : (b : Base) (o : ℕ) (j : Journal) (v : Live) (g : ℕ) → (line_on n t l b o j v g Unarmed).items ≡ (line_on n t l b 0 Two v g Unarmed).items
-  items_same (OnCard c) o j (Running seat) g = refl
-  items_same (AtFault cause place) o j (Running seat) g = refl
+  items_same (OnCard c) o j (Running session_state) g = refl
+  items_same (AtFault cause place) o j (Running session_state) g = refl
   items_same b o j Unpowered g = refl
   items_same b o j Muted g = refl
 
-  command_can : (b : Base) (o : ℕ) (j : Journal) (v : Live) (g : ℕ) (w : Manner) → CanMake (Hot (hot b o j v g Unarmed)) m w → CanMake (Hot (hot b 0 Two v g Unarmed)) m w
+  command_can : (b : Base) (o : ℕ) (j : Journal) (v : Live) (g : ℕ) (w : Manner) → CanMake (AfterPower (past_power b o j v g Unarmed)) m w → CanMake (AfterPower (past_power b 0 Two v g Unarmed)) m w
   command_can b o j v g Whole can = tt
   command_can b o j v g (CutAt k x) can =
-      let same = cmd.writes (hot b o j v g Unarmed) ∙ ap (λ (is : List Item). moves is) (items_same b o j v g) ∙ sym (cmd.writes (hot b 0 Two v g Unarmed)) in
+      let same = cmd.writes (past_power b o j v g Unarmed) ∙ ap (λ (is : List Item). moves is) (items_same b o j v g) ∙ sym (cmd.writes (past_power b 0 Two v g Unarmed)) in
       (can.0, can.1, subst (λ (i : ℕ). k ≤ i) same can.2)
 
   -- a word that a cut leaves, and the fill that does the same
-  command_filled : (b : Base) (o : ℕ) (j : Journal) (v : Live) (g k : ℕ) (x : List ℕ) → IsSettled v b o → CanMake (Hot (hot b o j v g Unarmed)) m (CutAt k x)
-      → (y : List ℕ) × IsFill y × DoesSame (Hot (hot b o j v g Unarmed)) m k x y
-  command_filled (OnCard c) o j (Running seat) g k x h can =
+  command_filled : (b : Base) (o : ℕ) (j : Journal) (v : Live) (g k : ℕ) (x : List ℕ) → IsSettled v b o → CanMake (AfterPower (past_power b o j v g Unarmed)) m (CutAt k x)
+      → (y : List ℕ) × IsFill y × DoesSame (AfterPower (past_power b o j v g Unarmed)) m k x y
+  command_filled (OnCard c) o j (Running session_state) g k x h can =
       let f = fill_for x in
-      let r = line_command c seat g l in
-      let s = hot (OnCard c) o j (Running seat) g Unarmed in
+      let r = line_command c session_state g l in
+      let s = past_power (OnCard c) o j (Running session_state) g Unarmed in
       let within : k ≤ moves r.items = subst (λ (i : ℕ). k ≤ i) (cmd.writes s) can.2 in
-      let ex = cmd.cut s k x ∙ cut_is n t l c seat g o j k x within in
-      let ey = cmd.cut s k f.fill ∙ cut_is n t l c seat g o j k f.fill within in (
+      let ex = cmd.cut s k x ∙ cut_is n t l c session_state g o j k x within in
+      let ey = cmd.cut s k f.fill ∙ cut_is n t l c session_state g o j k f.fill within in (
         f.fill,
         f.is,
         record {
           shows =
-              subst (λ (e : Step). ShowsSame e (step_of (Hot s) m (CutAt k f.fill))) (sym ex)
-              (subst (λ (e : Step). ShowsSame (cut_step n t l c seat g o j k x) e) (sym ey) (record { result = refl; turns = refl }));
+              subst (λ (e : Step). ShowsSame e (step_of (AfterPower s) m (CutAt k f.fill))) (sym ex)
+              (subst (λ (e : Step). ShowsSame (cut_step n t l c session_state g o j k x) e) (sym ey) (record { result = refl; turns = refl }));
           after = λ a.
               ap (λ (e : Step). state_in (next e.after (n, line.Power)) a) ex
-              ∙ cut_same n t l c seat g o j k x f.fill a f.alike
+              ∙ cut_same n t l c session_state g o j k x f.fill a f.alike
               ∙ sym (ap (λ (e : Step). state_in (next e.after (n, line.Power)) a) ey);
         },
       )
-  command_filled (AtFault cause place) o j (Running seat) g k x h can = absurd h
+  command_filled (AtFault cause place) o j (Running session_state) g k x h can = absurd h
   command_filled b o j Unpowered g k x h can = absurd (cc can.0)
   command_filled b o j Muted g k x h can = absurd (cc can.0)
 
 -- ---- power lines
 
 power_shows : (n : ℕ) (before after : State) (b : Base) (o : ℕ) (j : Journal) (v : Live) (g : ℕ) → IsStarted v b o
-    → ShowsSame (power_step n before (hot b o j v g Unarmed) None) (power_step n after (hot b 0 Two v g Unarmed) None)
-power_shows n before after (OnCard c) o j (Running seat) g h =
+    → ShowsSame (power_step n before (past_power b o j v g Unarmed) None) (power_step n after (past_power b 0 Two v g Unarmed) None)
+power_shows n before after (OnCard c) o j (Running session_state) g h =
     record { result = ap (λ (i : ℕ). Some (power_result (i + migration (OnCard c)) (OnCard c))) h.0; turns = refl }
-power_shows n before after (AtFault cause place) o j (Running seat) g h = absurd h
+power_shows n before after (AtFault cause place) o j (Running session_state) g h = absurd h
 power_shows n before after (OnCard c) o j Unpowered g h = absurd h
 power_shows n before after (AtFault cause place) o j Unpowered g h = record { result = refl; turns = refl }
 power_shows n before after (OnCard c) o j Muted g h = absurd h
@@ -272,53 +272,53 @@ power_started (OnCard c) = (refl, refl)
 power_started (AtFault cause place) = tt
 
 power_whole_is : (n : ℕ) (t : List ℕ) (b : Base) (o : ℕ) (j : Journal) (v : Live) (g : ℕ)
-    → step_of (Hot (hot b o j v g Unarmed)) (move_by n t line.Power) Whole ≡ power_step n (Hot (hot b o j v g Unarmed)) (hot b o j v g Unarmed) None
+    → step_of (AfterPower (past_power b o j v g Unarmed)) (move_by n t line.Power) Whole ≡ power_step n (AfterPower (past_power b o j v g Unarmed)) (past_power b o j v g Unarmed) None
 unfolding step
 power_whole_is n t b o j v g = refl
 
-power_none : (n : ℕ) (t : List ℕ) (c : Card) (o : ℕ) (j : Journal) (seat : Seat) (g : ℕ) → (o ≡ 0) × (c.layout ≡ 2)
-    → writes_of (Hot (hot (OnCard c) o j (Running seat) g Unarmed)) (move_by n t line.Power) ≡ 0
+power_none : (n : ℕ) (t : List ℕ) (c : Card) (o : ℕ) (j : Journal) (session_state : SessionState) (g : ℕ) → (o ≡ 0) × (c.layout ≡ 2)
+    → writes_of (AfterPower (past_power (OnCard c) o j (Running session_state) g Unarmed)) (move_by n t line.Power) ≡ 0
 unfolding step moves_of
-power_none n t c o j seat g h =
+power_none n t c o j session_state g h =
     let none : migration (OnCard c) ≡ 0 = ap (λ (i : ℕ). cond (i == 1) 6 0) h.1 in
     let zero : o ≡ 0 = h.0 in
     omega (arith, none, zero)
 
 power_done : (n : ℕ) (t : List ℕ) (b : Base) (o : ℕ) (j : Journal) (v : Live) (g : ℕ) (a : List (List ℕ × ℕ)) (w : Manner) (cs : List (ℕ × List ℕ)) (y : List ℕ) → IsStarted v b o
-    → CanMake (Hot (hot b o j v g Unarmed)) (move_by n t line.Power) w → IsDone (Hot (hot b o j v g Unarmed)) (state_by b v g a) (move_by n t line.Power) w cs y
+    → CanMake (AfterPower (past_power b o j v g Unarmed)) (move_by n t line.Power) w → IsDone (AfterPower (past_power b o j v g Unarmed)) (state_by b v g a) (move_by n t line.Power) w cs y
 power_done n t b o j v g a Whole cs y h can =
-    let s = hot b o j v g Unarmed in
-    let p = hot b 0 Two v g Unarmed in
-    done_by (Hot s) (state_by b v g a) (move_by n t line.Power) Whole cs y (power_step n (Hot s) s None) (power_step n (Hot p) p None)
-    (power_whole_is n t b o j v g) (power_whole_is n t b 0 Two v g) (power_shows n (Hot s) (Hot p) b o j v g h)
+    let s = past_power b o j v g Unarmed in
+    let p = past_power b 0 Two v g Unarmed in
+    done_by (AfterPower s) (state_by b v g a) (move_by n t line.Power) Whole cs y (power_step n (AfterPower s) s None) (power_step n (AfterPower p) p None)
+    (power_whole_is n t b o j v g) (power_whole_is n t b 0 Two v g) (power_shows n (AfterPower s) (AfterPower p) b o j v g h)
     (λ e. record { warm = power_after s None; is = refl; base = refl; live = refl; budget = refl; unarmed = refl; started = power_started b })
-power_done n t (OnCard c) o j (Running seat) g a (CutAt k x) cs y h can =
-    absurd (let none = power_none n t c o j seat g h in let low : 1 ≤ k = can.1 in let high = can.2 in omega (arith, none, low, high))
-power_done n t (AtFault cause place) o j (Running seat) g a (CutAt k x) cs y h can = absurd h
+power_done n t (OnCard c) o j (Running session_state) g a (CutAt k x) cs y h can =
+    absurd (let none = power_none n t c o j session_state g h in let low : 1 ≤ k = can.1 in let high = can.2 in omega (arith, none, low, high))
+power_done n t (AtFault cause place) o j (Running session_state) g a (CutAt k x) cs y h can = absurd h
 power_done n t b o j Unpowered g a (CutAt k x) cs y h can = absurd (cc can.0)
 power_done n t b o j Muted g a (CutAt k x) cs y h can = absurd (cc can.0)
 
-power_can : (n : ℕ) (t : List ℕ) (b : Base) (o : ℕ) (j : Journal) (v : Live) (g : ℕ) (w : Manner) → IsStarted v b o → CanMake (Hot (hot b o j v g Unarmed)) (move_by n t line.Power) w
-    → CanMake (Hot (hot b 0 Two v g Unarmed)) (move_by n t line.Power) w
+power_can : (n : ℕ) (t : List ℕ) (b : Base) (o : ℕ) (j : Journal) (v : Live) (g : ℕ) (w : Manner) → IsStarted v b o → CanMake (AfterPower (past_power b o j v g Unarmed)) (move_by n t line.Power) w
+    → CanMake (AfterPower (past_power b 0 Two v g Unarmed)) (move_by n t line.Power) w
 power_can n t b o j v g Whole h can = tt
-power_can n t (OnCard c) o j (Running seat) g (CutAt k x) h can =
-    absurd (let none = power_none n t c o j seat g h in let low : 1 ≤ k = can.1 in let high = can.2 in omega (arith, none, low, high))
-power_can n t (AtFault cause place) o j (Running seat) g (CutAt k x) h can = absurd h
+power_can n t (OnCard c) o j (Running session_state) g (CutAt k x) h can =
+    absurd (let none = power_none n t c o j session_state g h in let low : 1 ≤ k = can.1 in let high = can.2 in omega (arith, none, low, high))
+power_can n t (AtFault cause place) o j (Running session_state) g (CutAt k x) h can = absurd h
 power_can n t b o j Unpowered g (CutAt k x) h can = absurd (cc can.0)
 power_can n t b o j Muted g (CutAt k x) h can = absurd (cc can.0)
 
 power_filled : (n : ℕ) (t : List ℕ) (b : Base) (o : ℕ) (j : Journal) (v : Live) (g k : ℕ) (x : List ℕ) → IsSettled v b o
-    → CanMake (Hot (hot b o j v g Unarmed)) (move_by n t line.Power) (CutAt k x) → (y : List ℕ) × IsFill y × DoesSame (Hot (hot b o j v g Unarmed)) (move_by n t line.Power) k x y
-power_filled n t (OnCard c) o j (Running seat) g k x h can =
-    absurd (let none = power_none n t c o j seat g h in let low : 1 ≤ k = can.1 in let high = can.2 in omega (arith, none, low, high))
-power_filled n t (AtFault cause place) o j (Running seat) g k x h can = absurd h
+    → CanMake (AfterPower (past_power b o j v g Unarmed)) (move_by n t line.Power) (CutAt k x) → (y : List ℕ) × IsFill y × DoesSame (AfterPower (past_power b o j v g Unarmed)) (move_by n t line.Power) k x y
+power_filled n t (OnCard c) o j (Running session_state) g k x h can =
+    absurd (let none = power_none n t c o j session_state g h in let low : 1 ≤ k = can.1 in let high = can.2 in omega (arith, none, low, high))
+power_filled n t (AtFault cause place) o j (Running session_state) g k x h can = absurd h
 power_filled n t b o j Unpowered g k x h can = absurd (cc can.0)
 power_filled n t b o j Muted g k x h can = absurd (cc can.0)
 
 -- ---- every move
 
 line_done : (n : ℕ) (t : List ℕ) (l : DeckLine) (b : Base) (o : ℕ) (j : Journal) (v : Live) (g : ℕ) (a : List (List ℕ × ℕ)) (w : Manner) (cs : List (ℕ × List ℕ)) (y : List ℕ) → is_card_line l ≡ true
-    → FillsAlike w y → IsStarted v b o → CanMake (Hot (hot b o j v g Unarmed)) (move_by n t l) w → IsDone (Hot (hot b o j v g Unarmed)) (state_by b v g a) (move_by n t l) w cs y
+    → FillsAlike w y → IsStarted v b o → CanMake (AfterPower (past_power b o j v g Unarmed)) (move_by n t l) w → IsDone (AfterPower (past_power b o j v g Unarmed)) (state_by b v g a) (move_by n t l) w cs y
 line_done n t line.Power b o j v g a w cs y is alike h can = power_done n t b o j v g a w cs y h can
 line_done n t (line.Load u f e) b o j v g a w cs y is alike h can = command_done n t (line.Load u f e) (load_command n t u f e) b o j v g a w cs y alike h can
 line_done n t (line.Select d) b o j v g a w cs y is alike h can = command_done n t (line.Select d) (select_command n t d) b o j v g a w cs y alike h can
@@ -327,7 +327,7 @@ line_done n t (line.Apdu d) b o j v g a w cs y is alike h can = command_done n t
 line_done n t _ b o j v g a w cs y is alike h can = absurd (cc is)
 
 line_can : (n : ℕ) (t : List ℕ) (l : DeckLine) (b : Base) (o : ℕ) (j : Journal) (v : Live) (g : ℕ) (w : Manner) → is_card_line l ≡ true → IsStarted v b o
-    → CanMake (Hot (hot b o j v g Unarmed)) (move_by n t l) w → CanMake (Hot (hot b 0 Two v g Unarmed)) (move_by n t l) w
+    → CanMake (AfterPower (past_power b o j v g Unarmed)) (move_by n t l) w → CanMake (AfterPower (past_power b 0 Two v g Unarmed)) (move_by n t l) w
 line_can n t line.Power b o j v g w is h can = power_can n t b o j v g w h can
 line_can n t (line.Load u f e) b o j v g w is h can = command_can n t (line.Load u f e) (load_command n t u f e) b o j v g w can
 line_can n t (line.Select d) b o j v g w is h can = command_can n t (line.Select d) (select_command n t d) b o j v g w can
@@ -336,26 +336,26 @@ line_can n t (line.Apdu d) b o j v g w is h can = command_can n t (line.Apdu d) 
 line_can n t _ b o j v g w is h can = absurd (cc is)
 
 -- the writes of a move on a running card are those of the state
-line_writes : (n : ℕ) (t : List ℕ) (l : DeckLine) (c : Card) (o : ℕ) (j : Journal) (seat : Seat) (g : ℕ) → is_card_line l ≡ true → (o ≡ 0) × (c.layout ≡ 2)
-    → writes_of (Hot (hot (OnCard c) o j (Running seat) g Unarmed)) (move_by n t l) ≡ writes_of (Hot (hot (OnCard c) 0 Two (Running seat) g Unarmed)) (move_by n t l)
-line_writes n t line.Power c o j seat g is h = power_none n t c o j seat g h ∙ sym (power_none n t c 0 Two seat g (refl, h.1))
-line_writes n t (line.Load u f e) c o j seat g is h = let cmd = load_command n t u f e in cmd.writes (hot (OnCard c) o j (Running seat) g Unarmed) ∙ sym (cmd.writes (hot (OnCard c) 0 Two (Running seat) g Unarmed))
-line_writes n t (line.Select d) c o j seat g is h = let cmd = select_command n t d in cmd.writes (hot (OnCard c) o j (Running seat) g Unarmed) ∙ sym (cmd.writes (hot (OnCard c) 0 Two (Running seat) g Unarmed))
-line_writes n t (line.Delete d) c o j seat g is h = let cmd = delete_command n t d in cmd.writes (hot (OnCard c) o j (Running seat) g Unarmed) ∙ sym (cmd.writes (hot (OnCard c) 0 Two (Running seat) g Unarmed))
-line_writes n t (line.Apdu d) c o j seat g is h = let cmd = apdu_command n t d in cmd.writes (hot (OnCard c) o j (Running seat) g Unarmed) ∙ sym (cmd.writes (hot (OnCard c) 0 Two (Running seat) g Unarmed))
-line_writes n t _ c o j seat g is h = absurd (cc is)
+line_writes : (n : ℕ) (t : List ℕ) (l : DeckLine) (c : Card) (o : ℕ) (j : Journal) (session_state : SessionState) (g : ℕ) → is_card_line l ≡ true → (o ≡ 0) × (c.layout ≡ 2)
+    → writes_of (AfterPower (past_power (OnCard c) o j (Running session_state) g Unarmed)) (move_by n t l) ≡ writes_of (AfterPower (past_power (OnCard c) 0 Two (Running session_state) g Unarmed)) (move_by n t l)
+line_writes n t line.Power c o j session_state g is h = power_none n t c o j session_state g h ∙ sym (power_none n t c 0 Two session_state g (refl, h.1))
+line_writes n t (line.Load u f e) c o j session_state g is h = let cmd = load_command n t u f e in cmd.writes (past_power (OnCard c) o j (Running session_state) g Unarmed) ∙ sym (cmd.writes (past_power (OnCard c) 0 Two (Running session_state) g Unarmed))
+line_writes n t (line.Select d) c o j session_state g is h = let cmd = select_command n t d in cmd.writes (past_power (OnCard c) o j (Running session_state) g Unarmed) ∙ sym (cmd.writes (past_power (OnCard c) 0 Two (Running session_state) g Unarmed))
+line_writes n t (line.Delete d) c o j session_state g is h = let cmd = delete_command n t d in cmd.writes (past_power (OnCard c) o j (Running session_state) g Unarmed) ∙ sym (cmd.writes (past_power (OnCard c) 0 Two (Running session_state) g Unarmed))
+line_writes n t (line.Apdu d) c o j session_state g is h = let cmd = apdu_command n t d in cmd.writes (past_power (OnCard c) o j (Running session_state) g Unarmed) ∙ sym (cmd.writes (past_power (OnCard c) 0 Two (Running session_state) g Unarmed))
+line_writes n t _ c o j session_state g is h = absurd (cc is)
 
 -- of a running card, started or not at all
 started_writes : (n : ℕ) (t : List ℕ) (l : DeckLine) (b : Base) (o : ℕ) (j : Journal) (v : Live) (g : ℕ) → is_card_line l ≡ true → is_running v ≡ true → IsStarted v b o
-    → writes_of (Hot (hot b o j v g Unarmed)) (move_by n t l) ≡ writes_of (Hot (hot b 0 Two v g Unarmed)) (move_by n t l)
-started_writes n t l (OnCard c) o j (Running seat) g is on h = line_writes n t l c o j seat g is h
-started_writes n t l (AtFault cause place) o j (Running seat) g is on h = absurd h
+    → writes_of (AfterPower (past_power b o j v g Unarmed)) (move_by n t l) ≡ writes_of (AfterPower (past_power b 0 Two v g Unarmed)) (move_by n t l)
+started_writes n t l (OnCard c) o j (Running session_state) g is on h = line_writes n t l c o j session_state g is h
+started_writes n t l (AtFault cause place) o j (Running session_state) g is on h = absurd h
 started_writes n t l b o j Unpowered g is on h = absurd (cc on)
 started_writes n t l b o j Muted g is on h = absurd (cc on)
 
 -- a play that agrees with a state, by the parts of the state
-agrees_is : (s : State) (c : CardState) (h : Agrees s c) → s ≡ Hot (hot c.base h.warm.owed h.warm.by c.live c.budget Unarmed)
-agrees_is s c h = h.is ∙ ap (λ (z : Warm). Hot z) (warm_is h.warm c.base c.live c.budget h.base h.live h.budget h.unarmed)
+agrees_is : (s : State) (c : CardState) (h : Agrees s c) → s ≡ AfterPower (past_power c.base h.warm.owed h.warm.by c.live c.budget Unarmed)
+agrees_is s c h = h.is ∙ ap (λ (z : Warm). AfterPower z) (warm_is h.warm c.base c.live c.budget h.base h.live h.budget h.unarmed)
 
 -- a move that is made in a play shows what it shows in the state that agrees with it
 pub move_done : (s : State) (c : CardState) (m : Move) (w : Manner) (cs : List (ℕ × List ℕ)) (y : List ℕ) → is_card_line m.line ≡ true → FillsAlike w y → Agrees s c → CanMake s m w → IsDone s c m w cs y
@@ -383,12 +383,12 @@ pub record IsTried (s : State) (c : CardState) (m : Move) (w : Manner) (cs : Lis
   pub done : IsDone s c m w cs fill
 
 whole_among : (v : Live) (n : ℕ) → Among Whole (manners v n)
-whole_among (Running seat) n = inl refl
+whole_among (Running session_state) n = inl refl
 whole_among Unpowered n = inl refl
 whole_among Muted n = inl refl
 
 cut_among : (v : Live) (n k : ℕ) (y : List ℕ) → is_running v ≡ true → IsFill y → 1 ≤ k → k ≤ n → Among (CutAt k y) (manners v n)
-cut_among (Running seat) n k y on is low high = inr (cuts_among n 1 k y is low (omega arith))
+cut_among (Running session_state) n k y on is low high = inr (cuts_among n 1 k y is low (omega arith))
 cut_among Unpowered n k y on is low high = absurd (cc on)
 cut_among Muted n k y on is low high = absurd (cc on)
 
@@ -406,7 +406,7 @@ action_tried s c m (CutAt k x) cs is h can =
     }
 
 line_filled : (n : ℕ) (t : List ℕ) (l : DeckLine) (b : Base) (o : ℕ) (j : Journal) (v : Live) (g k : ℕ) (x : List ℕ) → is_card_line l ≡ true → IsSettled v b o
-    → CanMake (Hot (hot b o j v g Unarmed)) (move_by n t l) (CutAt k x) → (y : List ℕ) × IsFill y × DoesSame (Hot (hot b o j v g Unarmed)) (move_by n t l) k x y
+    → CanMake (AfterPower (past_power b o j v g Unarmed)) (move_by n t l) (CutAt k x) → (y : List ℕ) × IsFill y × DoesSame (AfterPower (past_power b o j v g Unarmed)) (move_by n t l) k x y
 line_filled n t line.Power b o j v g k x is h can = power_filled n t b o j v g k x h can
 line_filled n t (line.Load u f e) b o j v g k x is h can = command_filled n t (line.Load u f e) (load_command n t u f e) b o j v g k x h can
 line_filled n t (line.Select d) b o j v g k x is h can = command_filled n t (line.Select d) (select_command n t d) b o j v g k x h can
@@ -416,6 +416,6 @@ line_filled n t _ b o j v g k x is h can = absurd (cc is)
 
 pub fill_law : FillLaw
 fill_law s m k x idle is =
-    let e : s ≡ hot s.base s.owed s.by s.live s.budget Unarmed = ap (λ (z : Armed). hot s.base s.owed s.by s.live s.budget z) idle.unarmed in
-    subst (λ (z : Warm). CanMake (Hot z) m (CutAt k x) → (y : List ℕ) × IsFill y × DoesSame (Hot z) m k x y) (sym e)
+    let e : s ≡ past_power s.base s.owed s.by s.live s.budget Unarmed = ap (λ (z : Armed). past_power s.base s.owed s.by s.live s.budget z) idle.unarmed in
+    subst (λ (z : Warm). CanMake (AfterPower z) m (CutAt k x) → (y : List ℕ) × IsFill y × DoesSame (AfterPower z) m k x y) (sym e)
     (line_filled m.number m.text m.line s.base s.owed s.by s.live s.budget k x is idle.settled)

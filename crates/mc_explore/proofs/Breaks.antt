@@ -5,7 +5,7 @@ use Rattle.std.proofs.Common.{arith, ap, sym, subst, inl, inr, ◌∙◌}
 use Rattle.std.proofs.lemmas.List.{append-nil, append_assoc, reverse-append}
 use Rattle.mc_model_device.proofs.ImageLemmas.{all_append, all_map}
 use Rattle.mc_model_machine.specs.Text.{◌>>=◌, ok_as}
-use Rattle.mc_model_play.specs.Play.{Live, Running, Unpowered, Muted, State, Hot, is_card_line}
+use Rattle.mc_model_play.specs.Play.{Live, Running, Unpowered, Muted, State, AfterPower, is_card_line}
 use Rattle.mc_model_play.specs.Family.{live_in, is_running}
 use Rattle.mc_explore.specs.Rules.{Move, Rules}
 use Rattle.mc_explore.specs.States.{CardState, play_of, is_known, first_play}
@@ -140,7 +140,7 @@ cut_can c m k (suc n) on low high =
     ((on, low, within), ((on, low, within), ((on, low, within), cut_can c m (k + 1) n on (omega arith) (omega (arith, high)))))
 
 manners_can : (c : CardState) (m : Move) (v : Live) → c.live ≡ v → AllByRecursion (λ w. CanMake (play_of c) m w) (manners v (writes_of (play_of c) m))
-manners_can c m (Running seat) e = (tt, cut_can c m 1 (writes_of (play_of c) m) (ap (λ (u : Live). is_running u) e) (omega arith) (omega arith))
+manners_can c m (Running session_state) e = (tt, cut_can c m 1 (writes_of (play_of c) m) (ap (λ (u : Live). is_running u) e) (omega arith) (omega arith))
 manners_can c m Unpowered e = (tt, tt)
 manners_can c m Muted e = (tt, tt)
 
@@ -242,7 +242,7 @@ pub broken_law : BrokenLaw
 unfolding first_state
 broken_law limit n name path text x read ends =
     let moves = moves_of_exploration text x read in
-    let start = Hot (first_play x.lines) in
+    let start = AfterPower (first_play x.lines) in
     let e = search_from n limit x.rules (first_state x) in
     let found = search_broken limit x.rules (first_state x) n name path (sym (ending_first limit n x) ∙ ends) in
     let many : length path ≡ 0 + length e.news + 1 = found.1 in

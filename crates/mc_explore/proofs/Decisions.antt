@@ -8,7 +8,7 @@ use Rattle.mc_model_device.specs.Layout.{fault}
 use Rattle.mc_model_device.specs.PowerUp.{Base, OnCard, AtFault, base_after_migration, base_of}
 use Rattle.mc_model_play.specs.DeckGrammar as line
 use Rattle.mc_model_play.specs.Family.{is_running}
-use Rattle.mc_model_play.specs.Play.{Unarmed, is_card_line, Live, Running, Unpowered, Muted, Warm, State, Cold, Hot, Step, step, play_at_power, power_live}
+use Rattle.mc_model_play.specs.Play.{Unarmed, is_card_line, Live, Running, Unpowered, Muted, Warm, State, BeforePower, AfterPower, Step, step, play_at_power, power_live}
 use Rattle.mc_explore.specs.Rules.{Move}
 use Rattle.mc_explore.specs.States.{CardState, play_of, warm_state, state_in}
 use Rattle.mc_explore.specs.Tries.{Manner, Whole, CutAt, writes_of, next, step_of, recovery}
@@ -59,8 +59,8 @@ pub state_of : (z : State) (c : CardState) → Agrees z c → state_in z c.allow
 state_of z c h = ap (λ (y : State). state_in y c.allowances) h.is ∙ states_equal c.allowances _ _ _ _ _ _ h.base h.live h.budget
 
 runs_started : (v : Live) (b : Base) (o : ℕ) → is_running v ≡ true → IsSettled v b o → IsStarted v b o
-runs_started (Running seat) (OnCard c) o on h = h
-runs_started (Running seat) (AtFault cause place) o on h = h
+runs_started (Running session_state) (OnCard c) o on h = h
+runs_started (Running session_state) (AtFault cause place) o on h = h
 runs_started Unpowered b o on h = absurd (cc on)
 runs_started Muted b o on h = absurd (cc on)
 
@@ -68,7 +68,7 @@ shows_turned : (x y z : Step) → ShowsSame x z → ShowsSame y z → ShowsSame 
 shows_turned x y z g h = record { result = g.result ∙ sym h.result; turns = g.turns ∙ sym h.turns }
 
 -- the same manner in the other play
-can_other : (s t : Warm) (m : Move) (w : Manner) → s.live ≡ t.live → writes_of (Hot s) m ≡ writes_of (Hot t) m → CanMake (Hot s) m w → CanMake (Hot t) m w
+can_other : (s t : Warm) (m : Move) (w : Manner) → s.live ≡ t.live → writes_of (AfterPower s) m ≡ writes_of (AfterPower t) m → CanMake (AfterPower s) m w → CanMake (AfterPower t) m w
 can_other s t m Whole e n can = tt
 can_other s t m (CutAt k x) e n can = (subst (λ (v : Live). is_running v ≡ true) e can.0, can.1, subst (λ (i : ℕ). k ≤ i) n can.2)
 
@@ -80,15 +80,15 @@ state_law s t m h is =
     let begun : IsStarted t.live t.base t.owed = runs_started t.live t.base t.owed on h.second.settled in
     let begun-there : IsStarted s.live s.base t.owed =
     subst (λ (v : Live). IsStarted v s.base t.owed) (sym h.live) (subst (λ (b : Base). IsStarted t.live b t.owed) (sym h.base) begun) in
-    let a : Agrees (Hot s) c = record { warm = s; is = refl; base = refl; live = refl; budget = refl; unarmed = h.first.unarmed; started = started } in
-    let b : Agrees (Hot t) c = record { warm = t; is = refl; base = sym h.base; live = sym h.live; budget = sym h.budget; unarmed = h.second.unarmed; started = begun-there } in
-    let writes : writes_of (Hot s) m ≡ writes_of (Hot t) m = move_writes (Hot s) c m is h.runs a ∙ sym (move_writes (Hot t) c m is h.runs b) in
+    let a : Agrees (AfterPower s) c = record { warm = s; is = refl; base = refl; live = refl; budget = refl; unarmed = h.first.unarmed; started = started } in
+    let b : Agrees (AfterPower t) c = record { warm = t; is = refl; base = sym h.base; live = sym h.live; budget = sym h.budget; unarmed = h.second.unarmed; started = begun-there } in
+    let writes : writes_of (AfterPower s) m ≡ writes_of (AfterPower t) m = move_writes (AfterPower s) c m is h.runs a ∙ sym (move_writes (AfterPower t) c m is h.runs b) in
     record {
       writes = writes;
-      shows = λ w can. shows_turned _ _ _ (done_same (Hot s) c m w is a can).shows (done_same (Hot t) c m w is b (can_other s t m w h.live writes can)).shows;
+      shows = λ w can. shows_turned _ _ _ (done_same (AfterPower s) c m w is a can).shows (done_same (AfterPower t) c m w is b (can_other s t m w h.live writes can)).shows;
       after = λ w can e.
-          state_of _ (state_in (recovery m.number w (step_of (play_of c) m w).after) e) ((done_same (Hot s) c m w is a can).after e)
-          ∙ sym (state_of _ (state_in (recovery m.number w (step_of (play_of c) m w).after) e) ((done_same (Hot t) c m w is b (can_other s t m w h.live writes can)).after e));
+          state_of _ (state_in (recovery m.number w (step_of (play_of c) m w).after) e) ((done_same (AfterPower s) c m w is a can).after e)
+          ∙ sym (state_of _ (state_in (recovery m.number w (step_of (play_of c) m w).after) e) ((done_same (AfterPower t) c m w is b (can_other s t m w h.live writes can)).after e));
     }
 
 -- ---- words
@@ -97,9 +97,9 @@ state_law s t m h is =
 abbrev powered_state : Base → ℕ → List (List ℕ × ℕ) → CardState
 powered_state b g a = record { base = base_after_migration b; live = power_live b; budget = g; allowances = a }
 
-cold_power : (i b : ℕ) (m : List (List ℕ)) (a : List (List ℕ × ℕ)) → state_in (next (Cold m b Unarmed) (i, line.Power)) a ≡ powered_state (base_of (fault m) m) b a
+before_power_power : (i b : ℕ) (m : List (List ℕ)) (a : List (List ℕ × ℕ)) → state_in (next (BeforePower m b Unarmed) (i, line.Power)) a ≡ powered_state (base_of (fault m) m) b a
 unfolding step play_at_power
-cold_power i b m a = refl
+before_power_power i b m a = refl
 
 bases_same : (f : Option (Cause × ℕ)) (m n : List (List ℕ)) → means m ≡ means n → base_of f m ≡ base_of f n
 bases_same None m n h = ap (λ (c : Card). OnCard c) h
@@ -107,7 +107,7 @@ bases_same (Some f) m n h = refl
 
 pub words_law : WordsLaw
 words_law i b m n a e h =
-    cold_power i b m a
+    before_power_power i b m a
     ∙ ap (λ (f : Option (Cause × ℕ)). powered_state (base_of f m) b a) e
     ∙ ap (λ (x : Base). powered_state x b a) (bases_same (fault n) m n h)
-    ∙ sym (cold_power i b n a)
+    ∙ sym (before_power_power i b n a)

@@ -6,7 +6,7 @@ use Rattle.mc_model_device.specs.Stopped.{stands}
 use Rattle.mc_model_device.specs.PowerUp.{Base, OnCard, AtFault, base_after_migration}
 use Rattle.mc_model_card.specs.Items.{StopAt}
 use Rattle.mc_model_play.specs.DeckGrammar as line
-use Rattle.mc_model_play.specs.Play.{Armed, Unarmed, ArmedCut, Live, Warm, State, Hot, step, hit_of, power_moves, power_live, power_after, stopped_power}
+use Rattle.mc_model_play.specs.Play.{Armed, Unarmed, ArmedCut, Live, Warm, State, AfterPower, step, hit_of, power_moves, power_live, power_after, stopped_power}
 use Rattle.mc_explore.specs.States.{CardState, state_in}
 use Rattle.mc_explore.specs.Tries.{next}
 use Rattle.mc_explore.specs.Safety.{after_cuts, RecoveryLaw}
@@ -66,19 +66,19 @@ joined s t u g h = record { base = g.base ∙ h.base; live = g.live ∙ h.live; 
 abbrev cut_once : Warm → ℕ → List ℕ → Warm
 cut_once s k x = power_after (record s { armed = ArmedCut k x }) (hit_of (ArmedCut k x) (power_moves s) None)
 
-cut_power : (n k : ℕ) (x : List ℕ) (s : Warm) → next (next (Hot s) (n, line.Cut k x)) (n, line.Power) ≡ Hot (cut_once s k x)
+cut_power : (n k : ℕ) (x : List ℕ) (s : Warm) → next (next (AfterPower s) (n, line.Cut k x)) (n, line.Power) ≡ AfterPower (cut_once s k x)
 unfolding step
 cut_power n k x s = refl
 
-pub whole_power : (n : ℕ) (s : Warm) → s.armed ≡ Unarmed → next (Hot s) (n, line.Power) ≡ Hot (power_after s None)
+pub whole_power : (n : ℕ) (s : Warm) → s.armed ≡ Unarmed → next (AfterPower s) (n, line.Power) ≡ AfterPower (power_after s None)
 unfolding step
-whole_power n s e = ap (λ (a : Armed). Hot (power_after s (hit_of a (power_moves s) None))) e
+whole_power n s e = ap (λ (a : Armed). AfterPower (power_after s (hit_of a (power_moves s) None))) e
 
 -- ---- several of them
 
 pub record CutTo (n : ℕ) (cs : List (ℕ × List ℕ)) (s : Warm) : Type 0 where
   pub warm : Warm
-  pub is : after_cuts n cs (Hot s) ≡ Hot warm
+  pub is : after_cuts n cs (AfterPower s) ≡ AfterPower warm
   pub heals : Heals warm s
 
 once_heals : (s : Warm) (k : ℕ) (x : List ℕ) → Heals (cut_once s k x) s
@@ -99,7 +99,7 @@ cuts_heal n (c ∷ cs) s e =
     }
 
 -- the state after a whole power line
-pub healed : (i : ℕ) (s t : Warm) (a : List (List ℕ × ℕ)) → Heals s t → t.armed ≡ Unarmed → state_in (next (Hot s) (i, line.Power)) a ≡ state_in (next (Hot t) (i, line.Power)) a
+pub healed : (i : ℕ) (s t : Warm) (a : List (List ℕ × ℕ)) → Heals s t → t.armed ≡ Unarmed → state_in (next (AfterPower s) (i, line.Power)) a ≡ state_in (next (AfterPower t) (i, line.Power)) a
 healed i s t a h e =
     ap (λ (z : State). state_in z a) (whole_power i s h.unarmed)
     ∙ states_equal a _ _ _ _ _ _ h.base h.live h.budget

@@ -2,7 +2,7 @@
 use Rattle.std.specs.Prelude.{◌≡◌, ℕ, true, List, [], ◌∷◌, ◌++◌, length, map, flat_map, Result, Ok, Err, refl}
 use Rattle.std.proofs.Common.{arith, ap, sym, subst, inl, inr, ◌∙◌}
 use Rattle.mc_model_machine.specs.Text.{ok_as}
-use Rattle.mc_model_play.specs.Play.{State, Hot, is_card_line}
+use Rattle.mc_model_play.specs.Play.{State, AfterPower, is_card_line}
 use Rattle.mc_explore.specs.Rules.{Move, OnRule, Rules, Exploration, exploration_read}
 use Rattle.mc_explore.specs.States.{CardState, play_of, state_in, first_play}
 use Rattle.mc_explore.specs.Tries.{Manner, Try, manners, writes_of, tries_with, tries_of, step_of, recovery, allowances_after, outcome}
@@ -90,7 +90,7 @@ keeps_from : (limit n : ℕ) (text : List ℕ) (x : Exploration) (e : Ending) �
     → Promises limit x.rules e 0 (length ts) → KeepsRulesIn x ts
 unfolding first_state
 keeps_from limit n text x e read ends ts promise =
-    safe_keeps limit x.rules (moves_of_exploration text x read) ts (Hot (first_play x.lines)) (first_state x) (first_agrees x)
+    safe_keeps limit x.rules (moves_of_exploration text x read) ts (AfterPower (first_play x.lines)) (first_state x) (first_agrees x)
     (search_safe limit x.rules (λ e d k. Promises limit x.rules e.ending d k) (promise_by_ending limit x.rules) n (first_state x) (length ts) (subst (λ (z : Ending). Promises limit x.rules z 0 (length ts)) (sym ends ∙ ending_first limit n x) promise))
 
 pub all_law : AllLaw

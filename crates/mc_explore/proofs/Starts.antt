@@ -1,4 +1,5 @@
--- Every play from a blank device has its running card settled, and so an exploration begins with a settled card or with none.
+-- Every play from a blank device has its running card settled, and so an exploration begins with a settled card or with
+-- none.
 use Rattle.std.specs.Prelude.{◌≡◌, ℕ, nat_le, Bool, true, false, List, [], ◌∷◌, drop, Option, Some, None, ⊤, refl}
 use Rattle.mc_model_device.specs.declared.device.Stop.{Stop}
 use Rattle.mc_model_device.specs.declared.device.Stop.TheVariants as stop
@@ -10,17 +11,17 @@ use Rattle.mc_model_card.specs.Items.{moves, StopAt}
 use Rattle.mc_model_card.specs.Commands.{Command}
 use Rattle.mc_model_play.specs.DeckGrammar.{DeckLine}
 use Rattle.mc_model_play.specs.DeckGrammar as line
-use Rattle.mc_model_play.specs.Play.{Armed, Unarmed, Live, Running, Unpowered, Muted, Warm, State, Cold, Hot, WornAt, step, hot_step, cold_step, card_line, command_step, line_command, hit_of, live_after, power_live, power_after, power_moves, stopped_power, play_at_power, start, plays, steady_worn, first_worn, last_state}
+use Rattle.mc_model_play.specs.Play.{Armed, Unarmed, Live, Running, Unpowered, Muted, Warm, State, BeforePower, AfterPower, FailedWrite, step, after_power_step, before_power_step, card_line, command_step, line_command, hit_of, live_after, power_live, power_after, power_moves, stopped_power, play_at_power, start, plays, steady_failures, first_failure, last_state}
 use Rattle.mc_explore.specs.Rules.{Exploration}
 use Rattle.mc_explore.specs.States.{warm_in, play_of_deck, first_warm, first_play}
 use Rattle.mc_explore.specs.Search.{first_state}
 use Rattle.mc_explore.specs.Safety.{IsSettled, FirstLaw}
-use Rattle.mc_explore.proofs.Actions.{IsStarted, Agrees, hot}
+use Rattle.mc_explore.proofs.Actions.{IsStarted, Agrees, past_power}
 
 -- the running card of a play is settled
 abbrev Settles : State → Type 0
-Settles (Cold m b a) = ⊤
-Settles (Hot s) = IsSettled s.live s.base s.owed
+Settles (BeforePower m b a) = ⊤
+Settles (AfterPower s) = IsSettled s.live s.base s.owed
 
 stopped_settles : (k : Stop) (b : Base) (o : ℕ) → IsSettled (live_after k) b o
 stopped_settles stop.Off b o = tt
@@ -30,77 +31,77 @@ powered_settles : (b : Base) → IsSettled (power_live b) (base_after_migration 
 powered_settles (OnCard c) = (refl, refl)
 powered_settles (AtFault cause place) = tt
 
-stopped_power_settles : (s : Warm) (t : StopAt) (b : Bool) → Settles (Hot (stopped_power s t b))
+stopped_power_settles : (s : Warm) (t : StopAt) (b : Bool) → Settles (AfterPower (stopped_power s t b))
 stopped_power_settles s t true = stopped_settles t.kind _ _
 stopped_power_settles s t false = stopped_settles t.kind _ _
 
-power_settles : (s : Warm) (t : Option StopAt) → Settles (Hot (power_after s t))
+power_settles : (s : Warm) (t : Option StopAt) → Settles (AfterPower (power_after s t))
 power_settles s None = powered_settles s.base
 power_settles s (Some t) = stopped_power_settles s t (nat_le t.at s.owed)
 
 command_settles : (n : ℕ) (l : DeckLine) (c : Card) (o : ℕ) (j : Journal) (v : Live) (g : ℕ) (a : Armed) (r : Command) (t : Option StopAt) → (o ≡ 0) × (c.layout ≡ 2)
-    → Settles (command_step n l (hot (OnCard c) o j v g a) c r t).after
+    → Settles (command_step n l (past_power (OnCard c) o j v g a) c r t).after
 command_settles n l c o j v g a r None h = h
 command_settles n l c o j v g a r (Some t) h = stopped_settles t.kind _ _
 
-card_line_settles : (n : ℕ) (l : DeckLine) (b : Base) (o : ℕ) (j : Journal) (v : Live) (g : ℕ) (a : Armed) (w : Option WornAt) → IsSettled v b o
-    → Settles (card_line n l (hot b o j v g a) v b w).after
-card_line_settles n l (OnCard c) o j (Running seat) g a w h =
-    let r = line_command c seat g l in
-    command_settles n l c o j (Running seat) g a r (hit_of a (moves r.items) w) h
-card_line_settles n l (AtFault cause place) o j (Running seat) g a w h = absurd h
+card_line_settles : (n : ℕ) (l : DeckLine) (b : Base) (o : ℕ) (j : Journal) (v : Live) (g : ℕ) (a : Armed) (w : Option FailedWrite) → IsSettled v b o
+    → Settles (card_line n l (past_power b o j v g a) v b w).after
+card_line_settles n l (OnCard c) o j (Running session_state) g a w h =
+    let r = line_command c session_state g l in
+    command_settles n l c o j (Running session_state) g a r (hit_of a (moves r.items) w) h
+card_line_settles n l (AtFault cause place) o j (Running session_state) g a w h = absurd h
 card_line_settles n l b o j Unpowered g a w h = tt
 card_line_settles n l b o j Muted g a w h = tt
 
-hot_settles : (n : ℕ) (l : DeckLine) (s : Warm) (w : Option WornAt) → Settles (Hot s) → Settles (hot_step n l s w).after
-hot_settles n line.Format s w h = h
-hot_settles n (line.Poke at x) s w h = h
-hot_settles n line.Named s w h = h
-hot_settles n (line.Budget b) s w h = h
-hot_settles n (line.Cut k x) s w h = h
-hot_settles n (line.Fail k) s w h = h
-hot_settles n (line.Dump a) s w h = h
-hot_settles n line.Power s w h = power_settles s (hit_of s.armed (power_moves s) w)
-hot_settles n (line.Load u f e) s w h = card_line_settles n (line.Load u f e) s.base s.owed s.by s.live s.budget s.armed w h
-hot_settles n (line.Select a) s w h = card_line_settles n (line.Select a) s.base s.owed s.by s.live s.budget s.armed w h
-hot_settles n (line.Delete a) s w h = card_line_settles n (line.Delete a) s.base s.owed s.by s.live s.budget s.armed w h
-hot_settles n (line.Apdu a) s w h = card_line_settles n (line.Apdu a) s.base s.owed s.by s.live s.budget s.armed w h
+after_power_settles : (n : ℕ) (l : DeckLine) (s : Warm) (w : Option FailedWrite) → Settles (AfterPower s) → Settles (after_power_step n l s w).after
+after_power_settles n line.Format s w h = h
+after_power_settles n (line.Poke at x) s w h = h
+after_power_settles n line.Named s w h = h
+after_power_settles n (line.Budget b) s w h = h
+after_power_settles n (line.Cut k x) s w h = h
+after_power_settles n (line.Fail k) s w h = h
+after_power_settles n (line.Dump a) s w h = h
+after_power_settles n line.Power s w h = power_settles s (hit_of s.armed (power_moves s) w)
+after_power_settles n (line.Load u f e) s w h = card_line_settles n (line.Load u f e) s.base s.owed s.by s.live s.budget s.armed w h
+after_power_settles n (line.Select a) s w h = card_line_settles n (line.Select a) s.base s.owed s.by s.live s.budget s.armed w h
+after_power_settles n (line.Delete a) s w h = card_line_settles n (line.Delete a) s.base s.owed s.by s.live s.budget s.armed w h
+after_power_settles n (line.Apdu a) s w h = card_line_settles n (line.Apdu a) s.base s.owed s.by s.live s.budget s.armed w h
 
-cold_settles : (n : ℕ) (l : DeckLine) (m : List (List ℕ)) (b : ℕ) (a : Armed) (w : Option WornAt) → Settles (cold_step n l m b a w).after
-cold_settles n line.Power m b a w = power_settles (play_at_power m b a) (hit_of a (power_moves (play_at_power m b a)) w)
-cold_settles n line.Format m b a w = tt
-cold_settles n (line.Poke at x) m b a w = tt
-cold_settles n line.Named m b a w = tt
-cold_settles n (line.Budget c) m b a w = tt
-cold_settles n (line.Cut k x) m b a w = tt
-cold_settles n (line.Fail k) m b a w = tt
-cold_settles n (line.Dump x) m b a w = tt
-cold_settles n (line.Load u f e) m b a w = tt
-cold_settles n (line.Select x) m b a w = tt
-cold_settles n (line.Delete x) m b a w = tt
-cold_settles n (line.Apdu x) m b a w = tt
+before_power_settles : (n : ℕ) (l : DeckLine) (m : List (List ℕ)) (b : ℕ) (a : Armed) (w : Option FailedWrite) → Settles (before_power_step n l m b a w).after
+before_power_settles n line.Power m b a w = power_settles (play_at_power m b a) (hit_of a (power_moves (play_at_power m b a)) w)
+before_power_settles n line.Format m b a w = tt
+before_power_settles n (line.Poke at x) m b a w = tt
+before_power_settles n line.Named m b a w = tt
+before_power_settles n (line.Budget c) m b a w = tt
+before_power_settles n (line.Cut k x) m b a w = tt
+before_power_settles n (line.Fail k) m b a w = tt
+before_power_settles n (line.Dump x) m b a w = tt
+before_power_settles n (line.Load u f e) m b a w = tt
+before_power_settles n (line.Select x) m b a w = tt
+before_power_settles n (line.Delete x) m b a w = tt
+before_power_settles n (line.Apdu x) m b a w = tt
 
-step_settles : (z : State) (l : ℕ × DeckLine) (w : Option WornAt) → Settles z → Settles (step z l w).after
+step_settles : (z : State) (l : ℕ × DeckLine) (w : Option FailedWrite) → Settles z → Settles (step z l w).after
 unfolding step
-step_settles (Cold m b a) l w h = cold_settles l.0 l.1 m b a w
-step_settles (Hot s) l w h = hot_settles l.0 l.1 s w h
+step_settles (BeforePower m b a) l w h = before_power_settles l.0 l.1 m b a w
+step_settles (AfterPower s) l w h = after_power_settles l.0 l.1 s w h
 
-play_settles : (z : State) (ls : List (ℕ × DeckLine)) (ws : List (Option WornAt)) → Settles z → Settles (last_state z (plays z ls ws))
+play_settles : (z : State) (ls : List (ℕ × DeckLine)) (ws : List (Option FailedWrite)) → Settles z → Settles (last_state z (plays z ls ws))
 unfolding plays
 play_settles z [] ws h = h
-play_settles z (l ∷ ls) ws h = play_settles (step z l (first_worn ws)).after ls (drop 1 ws) (step_settles z l (first_worn ws) h)
+play_settles z (l ∷ ls) ws h = play_settles (step z l (first_failure ws)).after ls (drop 1 ws) (step_settles z l (first_failure ws) h)
 
 deck_settles : (ls : List (ℕ × DeckLine)) → Settles (play_of_deck ls)
 unfolding play_of_deck
-deck_settles ls = play_settles (start (blank_words device_words)) ls (steady_worn (start (blank_words device_words)) ls) tt
+deck_settles ls = play_settles (start (blank_words device_words)) ls (steady_failures (start (blank_words device_words)) ls) tt
 
-warmed_settles : (m : List (List ℕ)) (b : ℕ) (a : Armed) → Settles (Hot (play_at_power m b a))
+warmed_settles : (m : List (List ℕ)) (b : ℕ) (a : Armed) → Settles (AfterPower (play_at_power m b a))
 unfolding play_at_power
 warmed_settles m b a = tt
 
-warm_settles : (z : State) → Settles z → Settles (Hot (warm_in z))
-warm_settles (Cold m b a) h = warmed_settles m b a
-warm_settles (Hot s) h = h
+warm_settles : (z : State) → Settles z → Settles (AfterPower (warm_in z))
+warm_settles (BeforePower m b a) h = warmed_settles m b a
+warm_settles (AfterPower s) h = h
 
 -- ---- the first play
 
@@ -108,9 +109,9 @@ record IsFirst (s : Warm) : Type 0 where
   unarmed : s.armed ≡ Unarmed
   started : IsStarted s.live s.base s.owed
 
-first_by : (b : Base) (o : ℕ) (j : Journal) (v : Live) (g : ℕ) (a : Armed) → IsSettled v b o → IsFirst (first_warm (hot b o j v g a))
-first_by (OnCard c) o j (Running seat) g a h = record { unarmed = refl; started = h }
-first_by (AtFault cause place) o j (Running seat) g a h = absurd h
+first_by : (b : Base) (o : ℕ) (j : Journal) (v : Live) (g : ℕ) (a : Armed) → IsSettled v b o → IsFirst (first_warm (past_power b o j v g a))
+first_by (OnCard c) o j (Running session_state) g a h = record { unarmed = refl; started = h }
+first_by (AtFault cause place) o j (Running session_state) g a h = absurd h
 first_by (OnCard c) o j Unpowered g a h = record { unarmed = refl; started = (refl, refl) }
 first_by (AtFault cause place) o j Unpowered g a h = record { unarmed = refl; started = tt }
 first_by (OnCard c) o j Muted g a h = record { unarmed = refl; started = (refl, refl) }
@@ -123,15 +124,15 @@ first_is ls =
     first_by s.base s.owed s.by s.live s.budget s.armed (warm_settles (play_of_deck ls) (deck_settles ls))
 
 -- the first play of a deck goes on as the first state does
-pub first_agrees : (x : Exploration) → Agrees (Hot (first_play x.lines)) (first_state x)
+pub first_agrees : (x : Exploration) → Agrees (AfterPower (first_play x.lines)) (first_state x)
 unfolding first_state
 first_agrees x =
     let f = first_is x.lines in
     record { warm = first_play x.lines; is = refl; base = refl; live = refl; budget = refl; unarmed = f.unarmed; started = f.started }
 
 started_settles : (v : Live) (b : Base) (o : ℕ) → IsStarted v b o → IsSettled v b o
-started_settles (Running seat) (OnCard c) o h = h
-started_settles (Running seat) (AtFault cause place) o h = h
+started_settles (Running session_state) (OnCard c) o h = h
+started_settles (Running session_state) (AtFault cause place) o h = h
 started_settles Unpowered b o h = tt
 started_settles Muted b o h = tt
 

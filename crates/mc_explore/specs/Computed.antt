@@ -18,7 +18,7 @@ use Rattle.mc_model_machine.specs.Chain.{turn_of_chain, run_of_chain}
 use Rattle.mc_model_machine.specs.TurnText.{turn_line}
 use Rattle.mc_model_card.specs.Manager.{manage}
 use Rattle.mc_model_card.specs.Commands.{command}
-use Rattle.mc_model_play.specs.Play.{send, play_at_power, step, plays, moves_of, steady_worn}
+use Rattle.mc_model_play.specs.Play.{send, play_at_power, step, plays, moves_of, steady_failures}
 use Rattle.mc_explore.specs.Matching.{fits}
 use Rattle.mc_explore.specs.Rules.{Exploration, exploration_read}
 use Rattle.mc_model_play.specs.DeckGrammar.{DeckLine, deck_read}
@@ -31,7 +31,7 @@ text_in limit n (Err e) = Err e
 
 -- the text of the exploration of a deck's text, n depths deep, with at most `limit` states
 unfoldable pub explored_within : ℕ → ℕ → List ℕ → Result (List ℕ) (ℕ × DeckCause)
-unfolding digits name_of apdu_read touched_words des_encipher des_decipher tdes_encipher tdes_decipher des_signature tdes_signature aes_encipher aes_decipher aes_signature sha1 digest_bytes hash_after compress rounds schedule first_words targets_1 targets_2 pairs blocks_from apps_of layout step_of bad_block bad_record bytes_at write_effect too_many later_causes prim_effect causes effect row turn_of_chain run_of_chain turn_line manage command send play_at_power step plays moves_of steady_worn fits exploration_read text_within
+unfolding digits name_of apdu_read touched_words des_encipher des_decipher tdes_encipher tdes_decipher des_signature tdes_signature aes_encipher aes_decipher aes_signature sha1 digest_bytes hash_after compress rounds schedule first_words targets_1 targets_2 pairs blocks_from apps_of layout step_of bad_block bad_record bytes_at write_effect too_many later_causes prim_effect causes effect row turn_of_chain run_of_chain turn_line manage command send play_at_power step plays moves_of steady_failures fits exploration_read text_within
 explored_within limit n text = text_in limit n (exploration_read text)
 
 -- the text of the exploration of a deck's text, n depths deep

@@ -1,5 +1,5 @@
--- A purse whose PIN is compared at most three times between two right guesses, and debits only after a right one; and one that counts
--- a guess after the comparison.
+-- A purse whose PIN is compared at most three times between two right guesses, and debits only after a right one; and
+-- one that counts a guess after the comparison.
 use Rattle.std.specs.Prelude.{ℕ, List, ◌++◌, codes}
 
 -- a purse that counts a guess before it compares it, and its rules
@@ -41,7 +41,8 @@ late_deck =
     codes "#@ on apdu 8020* turns *CMPN SB[3],2*1 allow debits 1000\n" ++
     codes "#@ on apdu 8040* gives ????9000 spend debits 1\n#@ on * gives off* allow debits 0\n"
 
--- an application of some lines of assembly, loaded with these numbers of static and session bytes, and selected, and a move of it
+-- an application of some lines of assembly, loaded with these numbers of static and session bytes, and selected, and a
+-- move of it
 abbrev pub app_deck : List ℕ → List ℕ → List ℕ
 app_deck program sizes =
     codes "format\npower\napp a A000000001\n" ++ program ++ codes "end\nload a " ++ sizes ++ codes "\nselect A000000001\n#@ move apdu 8001000000\n"

@@ -33,7 +33,8 @@ small c = cond (is_within 65 90 c) (c + 32) c
 abbrev pub plain : List ℕ → List ℕ
 plain t = map small (without_blanks t)
 
--- whether a pattern fits a text: blanks are left out of both, letters are in either case, and an empty pattern fits nothing
+-- whether a pattern fits a text: blanks are left out of both, letters are in either case, and an empty pattern fits
+-- nothing
 unfoldable pub fits : List ℕ → List ℕ → Bool
 unfolding matches
 fits pattern text =

@@ -1,5 +1,5 @@
--- The rules of a deck: its comments that begin with `#@`. They name the moves of a terminal, the allowances of an application, and
--- what a move does to an allowance.
+-- The rules of a deck: its comments that begin with `#@`. They name the moves of a terminal, the allowances of an
+-- application, and what a move does to an allowance.
 use Rattle.std.specs.Prelude.{ℕ, Bool, true, false, not, ◌&&◌, List, [], ◌∷◌, ◌++◌, bytes_eq, codes, is_none, is_some, ok_or, Option, Some, None, Result, Ok, Err}
 use Rattle.mc_model_device.specs.Bytes.{lookup}
 use Rattle.mc_model_machine.specs.Text.{◌>>=◌, ok_as, err_as, only_if, is_blank, is_empty, first_cut, trim, trim_front, lines, with_numbers, fields}

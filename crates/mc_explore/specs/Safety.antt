@@ -8,7 +8,7 @@ use Rattle.mc_model_device.specs.Layout.{fault}
 use Rattle.mc_model_device.specs.PowerUp.{Base, OnCard, AtFault}
 use Rattle.mc_model_play.specs.DeckGrammar.{DeckLine}
 use Rattle.mc_model_play.specs.DeckGrammar as line
-use Rattle.mc_model_play.specs.Play.{Armed, Unarmed, ArmedCut, ArmedFail, armed_stop_in, Live, Running, Unpowered, Muted, Warm, State, Cold, Hot, Step, is_card_line}
+use Rattle.mc_model_play.specs.Play.{Armed, Unarmed, ArmedCut, ArmedFail, armed_stop_in, Live, Running, Unpowered, Muted, Warm, State, BeforePower, AfterPower, Step, is_card_line}
 use Rattle.mc_model_play.specs.Family.{live_in, is_running}
 use Rattle.mc_model_play.specs.TraceText.{shown_turns}
 use Rattle.mc_model_play.specs.Patterns.{holds}
@@ -25,7 +25,8 @@ Among a (x ∷ xs) = (a ≡ x) ⊎ Among a xs
 
 -- ---- what a terminal and its power supply do
 
--- a move that is made, whole or cut, and the cuts of the power lines after it, before a whole one: for each its write and the word it leaves
+-- a move that is made, whole or cut, and the cuts of the power lines after it, before a whole one: for each its write
+-- and the word it leaves
 pub record Action : Type 0 where
   pub move : Move
   pub manner : Manner
@@ -68,7 +69,7 @@ KeepsRules r s a (t ∷ ts) = CanDo r.moves s t → (b : List (List ℕ × ℕ))
 
 -- so it is from the end of a deck
 abbrev pub KeepsRulesIn : Exploration → List Action → Type 0
-KeepsRulesIn x ts = KeepsRules x.rules (Hot (first_play x.lines)) x.rules.allowances ts
+KeepsRulesIn x ts = KeepsRules x.rules (AfterPower (first_play x.lines)) x.rules.allowances ts
 
 -- If a search says `all`, no list of actions, of any length, spends an allowance below zero.
 abbrev pub AllLaw : Type 0
@@ -93,7 +94,8 @@ DepthLaw =
     (limit n d : ℕ) (text : List ℕ) (x : Exploration) → exploration_read text ≡ Ok x → (search_of limit n x).ending ≡ AtDepth d
     → (ts : List Action) → length ts ≤ d → KeepsRulesIn x ts
 
--- a text that says `depth N`, with fewer states than the most: the lines of depths, and the line of the sums with this depth
+-- a text that says `depth N`, with fewer states than the most: the lines of depths, and the line of the sums with this
+-- depth
 pub record SaysDepth (text : List ℕ) (depth : ℕ) : Type 0 where
   pub news : List ℕ
   pub states : ℕ
@@ -119,7 +121,8 @@ LimitLaw =
 abbrev pub CanTry : List Move → State → Try → Type 0
 CanTry ms s t = Among t.move ms × CanMake s t.move t.manner
 
--- tries that are made in turn from a play, and one after them: they spend nothing below zero, and it spends this allowance below zero
+-- tries that are made in turn from a play, and one after them: they spend nothing below zero, and it spends this
+-- allowance below zero
 abbrev pub Breaks : Rules → State → List (List ℕ × ℕ) → List Try → Try → List ℕ → Type 0
 Breaks r s a [] t name = CanTry r.moves s t × (allowances_after r.ons t.move (step_of s t.move t.manner) a ≡ Err name)
 Breaks r s a (u ∷ us) t name =
@@ -132,7 +135,7 @@ pub record IsShortestBreak (x : Exploration) (name : List ℕ) (path : List Try)
   pub last : Try
   pub before : List Try
   pub are : path ≡ last ∷ before
-  pub breaks : Breaks x.rules (Hot (first_play x.lines)) x.rules.allowances (reverse before) last name
+  pub breaks : Breaks x.rules (AfterPower (first_play x.lines)) x.rules.allowances (reverse before) last name
   pub shortest : (ts : List Action) → length ts < length path → KeepsRulesIn x ts
 
 -- If a search says `broken`, its tries break that rule, and there is no shorter way.
@@ -158,13 +161,13 @@ CountsFromOne (ArmedFail k) = 1 ≤ k
 abbrev pub with_statements : List (ℕ × DeckLine) → ℕ → List Statement → List (ℕ × DeckLine)
 with_statements ls n ss = ls ++ map (λ l. (n, l.1)) ss
 
--- The statements that a broken rule is reported with, appended to the deck, play to where their tries lead from its first state, if a card
--- runs there.
+-- The statements that a broken rule is reported with, appended to the deck, play to where their tries lead from its
+-- first state, if a card runs there.
 abbrev pub StatementsLaw : Type 0
 StatementsLaw =
     (n : ℕ) (ls : List (ℕ × DeckLine)) (t : Try) (ts : List Try) → CountsFromOne (armed_stop_in (play_of_deck ls)) → is_running (first_play ls).live ≡ true
     → AllByRecursion (λ u. is_card_line u.move.line ≡ true) (t ∷ ts)
-    → play_of_deck (with_statements ls n (statements_to (play_of_deck ls) (t ∷ ts))) ≡ after_tries (Hot (first_play ls)) (t ∷ ts)
+    → play_of_deck (with_statements ls n (statements_to (play_of_deck ls) (t ∷ ts))) ≡ after_tries (AfterPower (first_play ls)) (t ∷ ts)
 
 -- ---- fills
 
@@ -177,7 +180,8 @@ pub record ShowsSame (t u : Step) : Type 0 where
   pub result : t.result ≡ u.result
   pub turns : shown_turns t.turns t.stop ≡ shown_turns u.turns u.stop
 
--- A fill does what another does to a move that is cut at a write: the move shows the same, and so is the state after a whole power line.
+-- A fill does what another does to a move that is cut at a write: the move shows the same, and so is the state after a
+-- whole power line.
 pub record DoesSame (s : State) (m : Move) (k : ℕ) (x y : List ℕ) : Type 0 where
   pub shows : ShowsSame (step_of s m (CutAt k x)) (step_of s m (CutAt k y))
   pub after : (a : List (List ℕ × ℕ))
@@ -185,8 +189,8 @@ pub record DoesSame (s : State) (m : Move) (k : ℕ) (x y : List ℕ) : Type 0 w
 
 -- A running card as every play from a blank device leaves it: it has layout 2, and nothing is owed.
 abbrev pub IsSettled : Live → Base → ℕ → Type 0
-IsSettled (Running seat) (OnCard c) owed = (owed ≡ 0) × (c.layout ≡ 2)
-IsSettled (Running seat) (AtFault cause place) owed = ⊥
+IsSettled (Running session_state) (OnCard c) owed = (owed ≡ 0) × (c.layout ≡ 2)
+IsSettled (Running session_state) (AtFault cause place) owed = ⊥
 IsSettled Unpowered b owed = ⊤
 IsSettled Muted b owed = ⊤
 
@@ -202,16 +206,17 @@ FirstLaw = (ls : List (ℕ × DeckLine)) → IsIdle (first_play ls)
 -- Every word that a cut leaves, in every write of every move, does what one of the three fills does.
 abbrev pub FillLaw : Type 0
 FillLaw =
-    (s : Warm) (m : Move) (k : ℕ) (x : List ℕ) → IsIdle s → is_card_line m.line ≡ true → CanMake (Hot s) m (CutAt k x)
-    → (y : List ℕ) × IsFill y × DoesSame (Hot s) m k x y
+    (s : Warm) (m : Move) (k : ℕ) (x : List ℕ) → IsIdle s → is_card_line m.line ≡ true → CanMake (AfterPower s) m (CutAt k x)
+    → (y : List ℕ) × IsFill y × DoesSame (AfterPower s) m k x y
 
 -- ---- recoveries
 
--- Whatever cuts there are in the power lines after a move, a whole one leads to the state that it leads to without them.
+-- Whatever cuts there are in the power lines after a move, a whole one leads to the state that it leads to without
+-- them.
 abbrev pub RecoveryLaw : Type 0
 RecoveryLaw =
     (n i : ℕ) (cs : List (ℕ × List ℕ)) (s : Warm) (a : List (List ℕ × ℕ)) → s.armed ≡ Unarmed
-    → state_in (next (after_cuts n cs (Hot s)) (i, line.Power)) a ≡ state_in (next (Hot s) (i, line.Power)) a
+    → state_in (next (after_cuts n cs (AfterPower s)) (i, line.Power)) a ≡ state_in (next (AfterPower s) (i, line.Power)) a
 
 -- ---- what decides an answer
 
@@ -226,21 +231,21 @@ pub record IsOneState (s t : Warm) : Type 0 where
 
 -- a move in two plays: as many device writes, and made in one manner it shows the same and leads to one state
 pub record AnswersSame (s t : Warm) (m : Move) : Type 0 where
-  pub writes : writes_of (Hot s) m ≡ writes_of (Hot t) m
-  pub shows : (w : Manner) → CanMake (Hot s) m w → ShowsSame (step_of (Hot s) m w) (step_of (Hot t) m w)
-  pub after : (w : Manner) → CanMake (Hot s) m w → (a : List (List ℕ × ℕ))
-      → state_in (recovery m.number w (step_of (Hot s) m w).after) a ≡ state_in (recovery m.number w (step_of (Hot t) m w).after) a
+  pub writes : writes_of (AfterPower s) m ≡ writes_of (AfterPower t) m
+  pub shows : (w : Manner) → CanMake (AfterPower s) m w → ShowsSame (step_of (AfterPower s) m w) (step_of (AfterPower t) m w)
+  pub after : (w : Manner) → CanMake (AfterPower s) m w → (a : List (List ℕ × ℕ))
+      → state_in (recovery m.number w (step_of (AfterPower s) m w).after) a ≡ state_in (recovery m.number w (step_of (AfterPower t) m w).after) a
 
 -- A state decides what every move answers, and the state after it.
 abbrev pub StateLaw : Type 0
 StateLaw = (s t : Warm) (m : Move) → IsOneState s t → is_card_line m.line ≡ true → AnswersSame s t m
 
--- Of the words of a device a power line makes one state wherever they mean one card, or have one fault: what free words hold, and a journal
--- that is closed, does not count.
+-- Of the words of a device a power line makes one state wherever they mean one card, or have one fault: what free words
+-- hold, and a journal that is closed, does not count.
 abbrev pub WordsLaw : Type 0
 WordsLaw =
     (i b : ℕ) (m n : List (List ℕ)) (a : List (List ℕ × ℕ)) → fault m ≡ fault n → means m ≡ means n
-    → state_in (next (Cold m b Unarmed) (i, line.Power)) a ≡ state_in (next (Cold n b Unarmed) (i, line.Power)) a
+    → state_in (next (BeforePower m b Unarmed) (i, line.Power)) a ≡ state_in (next (BeforePower n b Unarmed) (i, line.Power)) a
 
 -- ---- patterns
 

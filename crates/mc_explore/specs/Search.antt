@@ -17,14 +17,16 @@ pub record Node : Type 0 where
   pub state : CardState
   pub path : List Try
 
--- what was found so far: all states, those of this depth in the order in which they were found, the number of states and of tries
+-- what was found so far: all states, those of this depth in the order in which they were found, the number of states
+-- and of tries
 pub record Round : Type 0 where
   pub known : List CardState
   pub fresh : List Node
   pub count : ℕ
   pub tries : ℕ
 
--- what ends a search within a depth: an allowance that is spent below zero, by these tries, the last first; or one state too many
+-- what ends a search within a depth: an allowance that is spent below zero, by these tries, the last first; or one
+-- state too many
 pub data Halt : Type 0 where
   RuleBroken : (name : List ℕ) (path : List Try) → Halt
   Full : Halt
@@ -72,8 +74,8 @@ round_of_states limit rules (n ∷ ns) r = round_of_tries limit rules.ons n (tri
 
 -- ---- all depths
 
--- how a search ends: no new state is left; the last depth still had new states; an allowance was spent below zero; or there were too many
--- states, at this depth
+-- how a search ends: no new state is left; the last depth still had new states; an allowance was spent below zero; or
+-- there were too many states, at this depth
 pub data Ending : Type 0 where
   All : Ending
   AtDepth : (depth : ℕ) → Ending
@@ -176,10 +178,11 @@ drop_statements Unarmed = []
 drop_statements (ArmedCut k x) = idle_statement ∷ []
 drop_statements (ArmedFail k) = idle_statement ∷ []
 
--- the statements that lead from the end of a deck to the first state, by whether a cut takes the place of an armed stop next
+-- the statements that lead from the end of a deck to the first state, by whether a cut takes the place of an armed stop
+-- next
 abbrev pub lead_statements : Live → Base → Armed → Bool → List Statement
-lead_statements (Running seat) b a true = []
-lead_statements (Running seat) b a false = drop_statements a
+lead_statements (Running session_state) b a true = []
+lead_statements (Running session_state) b a false = drop_statements a
 lead_statements v (OnCard c) a cut = drop_statements a ++ power_statement ∷ []
 lead_statements v (AtFault cause place) a cut = drop_statements a
 

@@ -8,12 +8,12 @@ use Rattle.mc_model_device.specs.Words.{cause_text}
 use Rattle.mc_model_card.specs.declared.card.Sizes.{Sizes}
 use Rattle.mc_model_card.specs.Manager.{Selected, Got, Open}
 use Rattle.mc_model_play.specs.DeckGrammar.{DeckLine}
-use Rattle.mc_model_play.specs.Play.{Unarmed, Live, Running, Unpowered, Muted, Warm, State, Cold, Hot, start, plays, steady_worn, last_state, play_at_power, power_after}
+use Rattle.mc_model_play.specs.Play.{Unarmed, Live, Running, Unpowered, Muted, Warm, State, BeforePower, AfterPower, start, plays, steady_failures, last_state, play_at_power, power_after}
 
 -- ---- states
 
--- A card with the allowances: its applications with all their bytes and places, whether it runs, its selection with the session bytes,
--- its open load, and each allowance. The budget is the one of the deck's last `budget` line.
+-- A card with the allowances: its applications with all their bytes and places, whether it runs, its selection with the
+-- session bytes, its open load, and each allowance. The budget is the one of the deck's last `budget` line.
 pub record CardState : Type 0 where
   pub base : Base
   pub live : Live
@@ -22,7 +22,7 @@ pub record CardState : Type 0 where
 
 -- the play that goes on from a state: nothing is armed, and no write is owed
 abbrev pub play_of : CardState → State
-play_of c = Hot (record { base = c.base; owed = 0; by = Two; live = c.live; budget = c.budget; armed = Unarmed })
+play_of c = AfterPower (record { base = c.base; owed = 0; by = Two; live = c.live; budget = c.budget; armed = Unarmed })
 
 -- the state of a play with allowances
 abbrev pub warm_state : Warm → List (List ℕ × ℕ) → CardState
@@ -30,8 +30,8 @@ warm_state s a = record { base = s.base; live = s.live; budget = s.budget; allow
 
 -- a play from its first power line on; before it, the one that this line would find
 abbrev pub warm_in : State → Warm
-warm_in (Cold m b a) = play_at_power m b a
-warm_in (Hot s) = s
+warm_in (BeforePower m b a) = play_at_power m b a
+warm_in (AfterPower s) = s
 
 -- the state of a play with allowances
 abbrev pub state_in : State → List (List ℕ × ℕ) → CardState
@@ -43,11 +43,11 @@ state_in s a = warm_state (warm_in s) a
 unfoldable pub play_of_deck : List (ℕ × DeckLine) → State
 play_of_deck ls =
     let s = start (blank_words device_words) in
-    last_state s (plays s ls (steady_worn s ls))
+    last_state s (plays s ls (steady_failures s ls))
 
 -- a play with a card that runs: after one more power line if none does and that line is ready
 abbrev pub running_or_powered : Live → Base → Warm → Warm
-running_or_powered (Running seat) b s = s
+running_or_powered (Running session_state) b s = s
 running_or_powered v (OnCard c) s = power_after s None
 running_or_powered v (AtFault cause place) s = s
 

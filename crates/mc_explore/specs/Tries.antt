@@ -1,4 +1,5 @@
--- What is tried in a state: each move whole, and cut in each of its device writes; and what a try does to the card and the allowances.
+-- What is tried in a state: each move whole, and cut in each of its device writes; and what a try does to the card and
+-- the allowances.
 use Rattle.std.specs.Prelude.{ℕ, zero, suc, ◌+◌, ◌-◌, Bool, true, false, cond, nat_le, ◌==◌, List, [], ◌∷◌, length, drop, filter, map, flat_map, replicate, bytes_eq, unwrap_or, Option, Some, None, Result, Ok, Err}
 use Rattle.mc_model_device.specs.Bytes.{zeros, lookup}
 use Rattle.mc_model_device.specs.Image.{Two, opening}
@@ -59,7 +60,8 @@ abbrev pub effect_times : ℕ → Effect → List ℕ → ℕ → List (List ℕ
 effect_times zero e name k a = Ok a
 effect_times (suc n) e name k a = effect_once e name k a >>= λ b. effect_times n e name k b
 
--- the allowances after a move that was played, by the `on` lines in their order, or the name of the first that is broken
+-- the allowances after a move that was played, by the `on` lines in their order, or the name of the first that is
+-- broken
 unfoldable pub allowances_after : List OnRule → Move → Step → List (List ℕ × ℕ) → Result (List (List ℕ × ℕ)) (List ℕ)
 allowances_after [] m t a = Ok a
 allowances_after (r ∷ rs) m t a = effect_times (times r m t) r.effect r.name r.amount a >>= λ b. allowances_after rs m t b
@@ -80,15 +82,15 @@ pub record Try : Type 0 where
 abbrev pub ones : List ℕ
 ones = replicate 8 0xFF
 
--- each of n device writes from write k on, cut with each of three fills: eight bytes 00, eight bytes FF, and the word that opens the journal
--- of layout 2, which every card that runs has
+-- each of n device writes from write k on, cut with each of three fills: eight bytes 00, eight bytes FF, and the word
+-- that opens the journal of layout 2, which every card that runs has
 abbrev pub cuts_from : ℕ → ℕ → List Manner
 cuts_from k zero = []
 cuts_from k (suc n) = CutAt k (zeros 8) ∷ CutAt k ones ∷ CutAt k (opening Two) ∷ cuts_from (k + 1) n
 
 -- how a move of n device writes is tried: whole, and if a card runs cut in each of them
 abbrev pub manners : Live → ℕ → List Manner
-manners (Running seat) n = Whole ∷ cuts_from 1 n
+manners (Running session_state) n = Whole ∷ cuts_from 1 n
 manners Unpowered n = Whole ∷ []
 manners Muted n = Whole ∷ []
 

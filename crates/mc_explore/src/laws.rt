@@ -5,8 +5,8 @@ pub fn first_card_is_settled()
     ensures { FirstLaw }
 {}
 
-/// Whatever word a cut leaves, in whatever write of a move, does to the card and to what it answers what one of three words does:
-/// eight bytes 00, eight bytes FF, or the word that opens a journal.
+/// Whatever word a cut leaves, in whatever write of a move, does to the card and to what it answers what one of three
+/// words does: eight bytes 00, eight bytes FF, or the word that opens a journal.
 pub fn three_fills_are_all()
     ensures { FillLaw }
 {}
@@ -16,8 +16,8 @@ pub fn recoveries_lead_to_one_state()
     ensures { RecoveryLaw }
 {}
 
-/// If a search ends with no new state and nothing broken, no sequence of moves spends an allowance below zero: of any length, each
-/// move whole or cut at any write with any word left there, and with any cuts in the recoveries after it.
+/// If a search ends with no new state and nothing broken, no sequence of moves spends an allowance below zero: of any
+/// length, each move whole or cut at any write with any word left there, and with any cuts in the recoveries after it.
 pub fn all_is_safe()
     ensures { AllLaw }
 {}
@@ -42,18 +42,20 @@ pub fn limit_is_safe()
     ensures { LimitLaw }
 {}
 
-/// The state of a running card decides what every move answers, whole or cut at any write with any word left there, and the state after it.
+/// The state of a running card decides what every move answers, whole or cut at any write with any word left there, and
+/// the state after it.
 pub fn states_decide_answers()
     ensures { StateLaw }
 {}
 
-/// Words that mean one card, or have one fault, lead to one state: what free words hold does not count, nor what a closed journal holds.
+/// Words that mean one card, or have one fault, lead to one state: what free words hold does not count, nor what a
+/// closed journal holds.
 pub fn meanings_decide_states()
     ensures { WordsLaw }
 {}
 
-/// If a search says that a rule is broken, its tries are possible one after the other and the last of them breaks that rule; and no
-/// sequence of fewer moves breaks any, whatever is cut.
+/// If a search says that a rule is broken, its tries are possible one after the other and the last of them breaks that
+/// rule; and no sequence of fewer moves breaks any, whatever is cut.
 pub fn broken_is_shortest()
     ensures { BrokenLaw }
 {}
@@ -63,7 +65,8 @@ pub fn patterns_are_those_of_expectations()
     ensures { FitsLaw }
 {}
 
-/// The statements that a broken rule is reported with, appended to the deck, play to where its tries lead from the first state.
+/// The statements that a broken rule is reported with, appended to the deck, play to where its tries lead from the
+/// first state.
 pub fn statements_play_there()
     ensures { StatementsLaw }
 {}

@@ -1,4 +1,5 @@
-//! A model checker for card applications: what every sequence of a terminal's moves can reach, with power cut in any write.
+//! A model checker for card applications: what every sequence of a terminal's moves can reach, with power cut in any
+//! write.
 #![tactic(auto)]
 
 mod laws;

@@ -25,9 +25,11 @@ pub fn bad_lines()
     ensures allow_more { explored_deck 1 (codes "format\n#@ allow a 1 2\n") ≡ Err (2, BadLine) }
     ensures no_effect { explored_deck 1 (codes "format\n#@ allow a 1\n#@ on power gives *\n") ≡ Err (3, BadLine) }
     ensures no_occasion { explored_deck 1 (codes "format\n#@ allow a 1\n#@ on power * allow a 1\n") ≡ Err (3, BadLine) }
-    ensures no_pattern { explored_deck 1 (codes "format\n#@ allow a 1\n#@ on power gives allow a 1\n") ≡ Err (3, BadLine) }
+    ensures no_pattern { explored_deck 1 (codes "format\n#@ allow a 1\n#@ on power gives allow a 1\n")
+        ≡ Err (3, BadLine) }
     ensures no_moves { explored_deck 1 (codes "format\n#@ allow a 1\n#@ on gives * allow a 1\n") ≡ Err (3, BadLine) }
-    ensures no_amount { explored_deck 1 (codes "format\n#@ allow a 1\n#@ on power gives * allow a\n") ≡ Err (3, BadLine) }
+    ensures no_amount { explored_deck 1 (codes "format\n#@ allow a 1\n#@ on power gives * allow a\n")
+        ≡ Err (3, BadLine) }
 {}
 
 /// A statement's own causes.
@@ -43,10 +45,12 @@ pub fn bad_names()
     ensures number { explored_deck 1 (codes "format\n#@ allow a x\n") ≡ Err (2, BadNumber) }
     ensures range { explored_deck 1 (codes "format\n#@ allow a 4294967296\n") ≡ Err (2, OutOfRange) }
     ensures twice { explored_deck 1 (codes "format\n#@ allow a 1\n#@ allow a 1\n") ≡ Err (3, NameTwice) }
-    ensures unknown { explored_deck 1 (codes "format\n#@ on power gives * spend a 1\n#@ allow a 1\n") ≡ Err (2, UnknownName) }
+    ensures unknown { explored_deck 1 (codes "format\n#@ on power gives * spend a 1\n#@ allow a 1\n")
+        ≡ Err (2, UnknownName) }
     ensures on_name { explored_deck 1 (codes "format\n#@ on power turns * spend a-b 1\n") ≡ Err (2, BadName) }
     ensures on_number { explored_deck 1 (codes "format\n#@ on power turns * spend a -1\n") ≡ Err (2, BadNumber) }
-    ensures on_range { explored_deck 1 (codes "format\n#@ on power turns * spend a 4294967296\n") ≡ Err (2, OutOfRange) }
+    ensures on_range { explored_deck 1 (codes "format\n#@ on power turns * spend a 4294967296\n")
+        ≡ Err (2, OutOfRange) }
 {}
 
 /// The first line is refused first, and after all of the deck's own.
@@ -57,7 +61,8 @@ pub fn order()
 
 /// A mark that is no field of its own is a plain comment.
 pub fn comments()
-    ensures { explored_deck 1 (codes "format\n#@move\n# #@ move\n#>@ move\n") ≡ Ok (codes "depth 1 states 0\nexplored states 1 tries 0 all\n") }
+    ensures { explored_deck 1 (codes "format\n#@move\n# #@ move\n#>@ move\n")
+        ≡ Ok (codes "depth 1 states 0\nexplored states 1 tries 0 all\n") }
 {}
 
 /// After a section there are rules again, whatever blanks are around them.

@@ -73,9 +73,11 @@ pub fn allowances()
 
 /// What is spent and then allowed again must be there first.
 pub fn order_of_lines()
-    ensures spent_first { explored_deck 9 (idle_deck ++ codes "#@ allow x 0\n#@ on apdu* gives * spend x 1\n#@ on apdu* gives * allow x 1\n")
+    ensures spent_first { explored_deck 9 (idle_deck
+        ++ codes "#@ allow x 0\n#@ on apdu* gives * spend x 1\n#@ on apdu* gives * allow x 1\n")
         ≡ Ok (codes "broken x after 1 lines\napdu 8001000000\n") }
-    ensures allowed_first { explored_deck 9 (idle_deck ++ codes "#@ allow x 0\n#@ on apdu* gives * allow x 1\n#@ on apdu* gives * spend x 1\n")
+    ensures allowed_first { explored_deck 9 (idle_deck
+        ++ codes "#@ allow x 0\n#@ on apdu* gives * allow x 1\n#@ on apdu* gives * spend x 1\n")
         ≡ Ok (codes "depth 1 states 0\nexplored states 1 tries 1 all\n") }
 {}
 
@@ -113,24 +115,31 @@ pub fn limit()
 
 /// A stop that is armed at the end of a deck is dropped, and a card that does not run is powered first.
 pub fn first_state()
-    ensures armed { explored_deck 2 (idle_deck ++ codes "cut 1 0000000000000000\n#@ allow x 0\n#@ on * gives * spend x 1\n")
+    ensures armed { explored_deck 2
+        (idle_deck ++ codes "cut 1 0000000000000000\n#@ allow x 0\n#@ on * gives * spend x 1\n")
         ≡ Ok (codes "broken x after 2 lines\napdu 00\napdu 8001000000\n") }
-    ensures off { explored_deck 2 (counter_deck ++ codes "cut 1 0000000000000000\napdu 8001000000\n#@ allow x 0\n#@ on * gives * spend x 1\n")
+    ensures off { explored_deck 2
+        (counter_deck ++ codes "cut 1 0000000000000000\napdu 8001000000\n#@ allow x 0\n#@ on * gives * spend x 1\n")
         ≡ Ok (codes "broken x after 2 lines\npower\napdu 8001000000\n") }
-    ensures cold { explored_deck 2 (codes "format\n#@ move power\n#@ allow x 0\n#@ on * gives ready* spend x 1\n")
+    ensures before_power { explored_deck 2
+        (codes "format\n#@ move power\n#@ allow x 0\n#@ on * gives ready* spend x 1\n")
         ≡ Ok (codes "broken x after 2 lines\npower\npower\n") }
 {}
 
 /// A card that is unusable is not powered first; its moves are tried whole.
 pub fn unusable()
-    ensures off { explored_deck 5 (codes "format\npoke 0 0000000000000000\npower\n#@ move power\n#@ move select A000000001\n#@ allow x 0\n#@ on select* gives off spend x 1\n")
+    ensures off { explored_deck 5
+        (codes "format\npoke 0 0000000000000000\npower\n#@ move power\n#@ move select A000000001\n#@ allow x 0\n#@ on select* gives off spend x 1\n")
         ≡ Ok (codes "broken x after 1 lines\nselect A000000001\n") }
-    ensures all { explored_deck 5 (codes "format\npoke 0 0000000000000000\n#@ move power\n#@ move select A000000001\n#@ allow x 1\n#@ on power gives unusable* allow x 1\n")
+    ensures all { explored_deck 5
+        (codes "format\npoke 0 0000000000000000\n#@ move power\n#@ move select A000000001\n#@ allow x 1\n#@ on power gives unusable* allow x 1\n")
         ≡ Ok (codes "depth 1 states 0\nexplored states 1 tries 2 all\n") }
 {}
 
 /// The statements of a report are read as the lines that they are.
 pub fn statements()
-    ensures { statements_read (power_statement ∷ idle_statement ∷ cut_statement 7 ones ∷ cut_statement 4294967295 (opening Two) ∷ [])
-        ≡ Ok ((1, line.Format) ∷ (2, line.Power) ∷ (3, line.Apdu (0 ∷ [])) ∷ (4, line.Cut 7 ones) ∷ (5, line.Cut 4294967295 (opening Two)) ∷ []) }
+    ensures { statements_read (power_statement ∷ idle_statement ∷ cut_statement 7 ones
+        ∷ cut_statement 4294967295 (opening Two) ∷ [])
+        ≡ Ok ((1, line.Format) ∷ (2, line.Power) ∷ (3, line.Apdu (0 ∷ [])) ∷ (4, line.Cut 7 ones)
+        ∷ (5, line.Cut 4294967295 (opening Two)) ∷ []) }
 {}

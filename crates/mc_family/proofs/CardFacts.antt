@@ -1,4 +1,5 @@
--- What every application of a play is: its name has at most 16 bytes, its code is bytes, and there are at most 32 of them.
+-- What every application of a play is: its name has at most 16 bytes, its code is bytes, and there are at most 32 of
+-- them.
 use Rattle.std.proofs.Common.{◌≡◌, ℕ, zero, suc, ◌+◌, ◌-◌, ◌<◌, ◌≤◌, Bool, true, false, cond, not, List, [], ◌∷◌, ◌++◌, take, drop, length, Option, Some, None, refl, sym, subst, arith}
 use Rattle.std.specs.Prelude.{⊤, ◌==◌, ◌&&◌, nat_lt, nat_le, bytes_eq, slice_index, slice_index_or}
 use Rattle.std.specs.List.{AllByRecursion, concat}

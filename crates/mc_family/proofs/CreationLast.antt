@@ -13,7 +13,7 @@ use Rattle.mc_model_device.specs.Card.{App, Card}
 use Rattle.mc_model_machine.specs.Chain.{Write, map_changed, run}
 use Rattle.mc_model_card.specs.Items.{Change, Fixed, Created, Deleted, Item, Plain, Atomic, apps_after_items, Stopped, with_item, in_flight, at_stop, Site, BankItem, Piece, Blank, Note, Commit, Enter, Remove, write_items}
 use Rattle.mc_model_card.specs.Items as items
-use Rattle.mc_model_card.specs.Manager.{Selected, Open, Seat, Route, WrongLength, WrongClass, ToSelect, ToManager, ToApplication, route, Managed, Accepts, Accepted, answer_unless, first_status, select_done, select_refusals, open_refusals, open_done, load_refusals, load_done, load_part, dir_in, create_refusals, create_done, fresh, got_of, word_parts, delete_refusals, delete_done, manage, room_on}
+use Rattle.mc_model_card.specs.Manager.{Selected, Open, SessionState, Route, WrongLength, WrongClass, ToSelect, ToManager, ToApplication, route, Managed, Accepts, Accepted, answer_unless, first_status, select_done, select_refusals, open_refusals, open_done, load_refusals, load_done, load_part, dir_in, create_refusals, create_done, fresh, got_of, word_parts, delete_refusals, delete_done, manage, room_on}
 use Rattle.mc_model_card.specs.Commands.{Command, item_of, atomic_of, manager_command, application_command, by_route, command, refusal}
 use Rattle.mc_model_play.specs.Play.{is_done, send, command_with_rest}
 use Rattle.mc_model_play.specs.Laws.{Sent, creation_of_command, made_of, creations_among, without_places, AllAreIn}
@@ -97,9 +97,9 @@ blanks_last : (w : Item) (s : Site) (cs : List (ℕ × List ℕ)) (bs : List Ban
 blanks_last w s [] bs h = h
 blanks_last w s (c ∷ cs) bs h = blanks_last w s cs bs h
 
-module _ (c : Card) (seat : Seat) where
+module _ (c : Card) (session_state : SessionState) where
   IsLast : Managed → Type 0
-  IsLast m = LastCreates (manager_command c seat m).items
+  IsLast m = LastCreates (manager_command c session_state m).items
 
   cond_managed : (b : Bool) (m n : Managed) → IsLast m → IsLast n → IsLast (cond b m n)
   cond_managed true m n g h = g
@@ -110,53 +110,53 @@ module _ (c : Card) (seat : Seat) where
   answered_last (Some sw) d h = tt
   answered_last None d h = h
 
-  loaded_last : (s : Option ℕ) (o : Option Open) (p : Part) (a : ApduParts) → IsLast (answer_unless s (load_done seat o p a))
+  loaded_last : (s : Option ℕ) (o : Option Open) (p : Part) (a : ApduParts) → IsLast (answer_unless s (load_done session_state o p a))
   unfolding IsLast
-  loaded_last s None p a = answered_last s (load_done seat None p a) tt
-  loaded_last s (Some o) p a = answered_last s (load_done seat (Some o) p a) (plain_last (map (λ c. Piece o.site p c.0 c.1) (word_parts (length (got_of p o.got)) a.body)))
+  loaded_last s None p a = answered_last s (load_done session_state None p a) tt
+  loaded_last s (Some o) p a = answered_last s (load_done session_state (Some o) p a) (plain_last (map (λ c. Piece o.site p c.0 c.1) (word_parts (length (got_of p o.got)) a.body)))
 
-  created_last : (s : Option ℕ) (o : Option Open) (r : Result (List ℕ) AidFault) → IsLast (answer_unless s (create_done seat o r))
+  created_last : (s : Option ℕ) (o : Option Open) (r : Result (List ℕ) AidFault) → IsLast (answer_unless s (create_done session_state o r))
   unfolding IsLast
-  created_last s None r = answered_last s (create_done seat None r) tt
-  created_last s (Some o) (Err e) = answered_last s (create_done seat (Some o) (Err e)) tt
+  created_last s None r = answered_last s (create_done session_state None r) tt
+  created_last s (Some o) (Err e) = answered_last s (create_done session_state (Some o) (Err e)) tt
   created_last s (Some o) (Ok n) =
-      answered_last s (create_done seat (Some o) (Ok n))
+      answered_last s (create_done session_state (Some o) (Ok n))
       (blanks_last (atomic_of c (Some (Created n (fresh o)))) o.site (word_parts o.site.sizes.init (zeros (o.site.sizes.fixed - o.site.sizes.init)))
       (Note o.site n 0 ∷ Note o.site n 1 ∷ Note o.site n 2 ∷ Note o.site n 3 ∷ Enter o.site n ∷ []) refl)
 
-  load_last : (p : Part) (a : ApduParts) → IsLast (load_part p seat a)
-  load_last p a = loaded_last (first_status (load_refusals seat.load p a)) seat.load p a
+  load_last : (p : Part) (a : ApduParts) → IsLast (load_part p session_state a)
+  load_last p a = loaded_last (first_status (load_refusals session_state.load p a)) session_state.load p a
 
-  managed_last : (a : ApduParts) → IsLast (manage (room_on c) c.apps seat a)
+  managed_last : (a : ApduParts) → IsLast (manage (room_on c) c.apps session_state a)
   unfolding IsLast manage
   managed_last a =
-      cond_managed (a.ins == 0x12) _ _ (answered_last (first_status (open_refusals (room_on c) c.apps a)) (open_done (room_on c) seat a) tt) (
+      cond_managed (a.ins == 0x12) _ _ (answered_last (first_status (open_refusals (room_on c) c.apps a)) (open_done (room_on c) session_state a) tt) (
       cond_managed (a.ins == 0x24) _ _ (load_last part.Code a) (
       cond_managed (a.ins == 0x26) _ _ (load_last part.Data a) (
       cond_managed (a.ins == 0x20) _ _ (load_last part.Dir a) (
       cond_managed (a.ins == 0x22) _ _ (load_last part.Fci a) (
-      cond_managed (a.ins == 0x16) _ _ (created_last (first_status (create_refusals c.apps seat.load a)) seat.load (name_of (dir_in seat.load))) (
-      cond_managed (a.ins == 0x18) _ _ (answered_last (first_status (delete_refusals c.apps seat a)) (delete_done seat a) tt) tt
+      cond_managed (a.ins == 0x16) _ _ (created_last (first_status (create_refusals c.apps session_state.load a)) session_state.load (name_of (dir_in session_state.load))) (
+      cond_managed (a.ins == 0x18) _ _ (answered_last (first_status (delete_refusals c.apps session_state a)) (delete_done session_state a) tt) tt
       ))))))
 
-  selected_last : (s : Option ℕ) (a : ApduParts) (o : Option App) → IsLast (answer_unless s (select_done seat a o))
+  selected_last : (s : Option ℕ) (a : ApduParts) (o : Option App) → IsLast (answer_unless s (select_done session_state a o))
   unfolding IsLast
-  selected_last s a None = answered_last s (select_done seat a None) tt
-  selected_last s a (Some app) = answered_last s (select_done seat a (Some app)) tt
+  selected_last s a None = answered_last s (select_done session_state a None) tt
+  selected_last s a (Some app) = answered_last s (select_done session_state a (Some app)) tt
 
-  passed_last : (o : Option Selected) (a : ApduParts) (budget : ℕ) → LastCreates (application_command c seat o a budget).items
+  passed_last : (o : Option Selected) (a : ApduParts) (budget : ℕ) → LastCreates (application_command c session_state o a budget).items
   passed_last None a budget = tt
   passed_last (Some s) a budget = writes_last (run c.apps s.name s.session a budget).writes
 
-  routed_last : (budget : ℕ) (r : Route) → LastCreates (by_route c seat budget r).items
+  routed_last : (budget : ℕ) (r : Route) → LastCreates (by_route c session_state budget r).items
   unfolding IsLast
   routed_last budget WrongLength = tt
   routed_last budget WrongClass = tt
   routed_last budget (ToSelect a) = selected_last (first_status (select_refusals c.apps a)) a (lookup c.apps a.body)
   routed_last budget (ToManager a) = managed_last a
-  routed_last budget (ToApplication a) = passed_last seat.selected a budget
+  routed_last budget (ToApplication a) = passed_last session_state.selected a budget
 
-  pub command_last : (b : List ℕ) (budget : ℕ) → LastCreates (command c seat b budget).items
+  pub command_last : (b : List ℕ) (budget : ℕ) → LastCreates (command c session_state b budget).items
   unfolding command
   command_last b budget = routed_last budget (route b)
 
@@ -177,22 +177,22 @@ none_made : (b : Bool) (es : List (List ℕ × App)) → es ≡ [] → made_at b
 none_made true es h = h
 none_made false es h = refl
 
-filler_none : (c : Card) (seat : Seat) (b : List ℕ) (budget : ℕ) → IsFiller (route b) → creations_among (command c seat b budget).items ≡ []
-filler_none c seat b budget h =
-    none_without (creations_among (command c seat b budget).items) ((command_fresh c seat b budget).made ∙ none_made (is_done (command c seat b budget).outcome) (creation_of_command (load_sent seat.load) (route b)) (filler_made (load_sent seat.load) (route b) h))
+filler_none : (c : Card) (session_state : SessionState) (b : List ℕ) (budget : ℕ) → IsFiller (route b) → creations_among (command c session_state b budget).items ≡ []
+filler_none c session_state b budget h =
+    none_without (creations_among (command c session_state b budget).items) ((command_fresh c session_state b budget).made ∙ none_made (is_done (command c session_state b budget).outcome) (creation_of_command (load_sent session_state.load) (route b)) (filler_made (load_sent session_state.load) (route b) h))
 
 sent_last : (x : Bool) (r rest : Command) → creations_among r.items ≡ [] → LastCreates r.items → LastCreates rest.items → LastCreates (command_with_rest x r rest).items
 sent_last true r rest none h g = none_then_last r.items rest.items none g
 sent_last false r rest none h g = h
 
-end_last : (x : Bool) (r : Command) (seat : Seat) (sw : ℕ) → LastCreates r.items → LastCreates (command_with_rest x r (refusal seat sw)).items
-end_last true r seat sw h = last_then_none r.items h
-end_last false r seat sw h = h
+end_last : (x : Bool) (r : Command) (session_state : SessionState) (sw : ℕ) → LastCreates r.items → LastCreates (command_with_rest x r (refusal session_state sw)).items
+end_last true r session_state sw h = last_then_none r.items h
+end_last false r session_state sw h = h
 
-pub send_last : (c : Card) (seat : Seat) (budget : ℕ) (fs : List (List ℕ)) (b : List ℕ) → AreFillers fs → LastCreates (send c seat budget (fs ++ b ∷ [])).items
+pub send_last : (c : Card) (session_state : SessionState) (budget : ℕ) (fs : List (List ℕ)) (b : List ℕ) → AreFillers fs → LastCreates (send c session_state budget (fs ++ b ∷ [])).items
 unfolding send
-send_last c seat budget [] b h = let r = command c seat b budget in end_last (is_done r.outcome) r r.seat 0x9000 (command_last c seat b budget)
-send_last c seat budget (f ∷ fs) b h =
-    let r = command c seat f budget in
+send_last c session_state budget [] b h = let r = command c session_state b budget in end_last (is_done r.outcome) r r.session_state 0x9000 (command_last c session_state b budget)
+send_last c session_state budget (f ∷ fs) b h =
+    let r = command c session_state f budget in
     let d = items.card_done c r.items in
-    sent_last (is_done r.outcome) r (send d r.seat budget (fs ++ b ∷ [])) (filler_none c seat f budget h.0) (command_last c seat f budget) (send_last d r.seat budget fs b h.1)
+    sent_last (is_done r.outcome) r (send d r.session_state budget (fs ++ b ∷ [])) (filler_none c session_state f budget h.0) (command_last c session_state f budget) (send_last d r.session_state budget fs b h.1)

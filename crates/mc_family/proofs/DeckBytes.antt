@@ -14,7 +14,7 @@ use Rattle.mc_model_card.specs.Units.{UnitParts, unit_read}
 use Rattle.mc_model_machine.specs.Assembly.{assembled_lines}
 use Rattle.mc_model_play.specs.DeckGrammar.{DeckLine, hex_field, bytes_field, aid_field, fill_field, name_field, number_field, Context, Section, Stated, Says, Opens, Word, FormatWord, PowerWord, UnitWord, AppWord, LoadWord, SelectWord, DeleteWord, DumpWord, ApduWord, BudgetWord, CutWord, FailWord, PokeWord, deck_words, new_name, early, with_unit, statement_of, made_unit, unit_within, is_data, is_end, data_hex, data_of_line, section_data, section_program, section_unit, Mode, Between, Within, LineTurn, turn_of, between, within, turn_in, turn_at, lines_at_end, deck_lines, deck_read}
 use Rattle.mc_model_play.specs.DeckGrammar as line
-use Rattle.mc_model_play.specs.Play.{WornAt, State, step, plays, first_worn, start}
+use Rattle.mc_model_play.specs.Play.{FailedWrite, State, step, plays, first_failure, start}
 use Rattle.mc_model_play.specs.ReadyAgain.{AllFitJournal, IsLine, AreLines}
 use Rattle.mc_model_device.proofs.ImageLemmas.{all_append}
 use Rattle.mc_family.specs.ReadDecks.{ReadLinesLaw, ReadDecksLaw}
@@ -277,14 +277,14 @@ read_lines_law text ls e = subst (λ (r : Result (List (ℕ × DeckLine)) (ℕ �
 
 -- ---- its plays
 
-played_lines : (n : ℕ) (z : State) (ls : List (ℕ × DeckLine)) (ws : List (Option WornAt)) → LinesBytes ls → AreLines (take n (plays z ls ws))
+played_lines : (n : ℕ) (z : State) (ls : List (ℕ × DeckLine)) (ws : List (Option FailedWrite)) → LinesBytes ls → AreLines (take n (plays z ls ws))
 unfolding plays
 played_lines zero z ls ws h = tt
 played_lines (suc n) z [] ws h = tt
-played_lines (suc n) z (l ∷ ls) ws h = (subst IsLine (sym (step_is z l (first_worn ws)).line) h.0, played_lines n (step z l (first_worn ws)).after ls (drop 1 ws) h.1)
+played_lines (suc n) z (l ∷ ls) ws h = (subst IsLine (sym (step_is z l (first_failure ws)).line) h.0, played_lines n (step z l (first_failure ws)).after ls (drop 1 ws) h.1)
 
 -- the law of plays of lines that are bytes, whether they were read or not
-pub played_bytes : (z : State) (ls : List (ℕ × DeckLine)) (ws : List (Option WornAt)) → AllByRecursion (λ l. IsLine l.1) ls → AreLines (plays z ls ws)
+pub played_bytes : (z : State) (ls : List (ℕ × DeckLine)) (ws : List (Option FailedWrite)) → AllByRecursion (λ l. IsLine l.1) ls → AreLines (plays z ls ws)
 played_bytes z ls ws h = let steps = plays z ls ws in subst AreLines (take-length steps) (played_lines (length steps) z ls ws h)
 
 pub read_decks_law : ReadDecksLaw

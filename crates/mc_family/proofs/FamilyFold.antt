@@ -4,7 +4,7 @@ use Rattle.std.proofs.Common.{refl, ap, sym, subst, ◌∙◌, inl, inr}
 use Rattle.mc_model_device.specs.Bytes.{has_name, lookup}
 use Rattle.mc_model_device.specs.Card.{App, app_at_place}
 use Rattle.mc_model_card.specs.Items.{Item, StopAt}
-use Rattle.mc_model_play.specs.Play.{Armed, State, Cold, Hot, LineResult, Step, WornAt, MayHit, Possible, step, cold_step, hit_of, power_moves, power_after, play_at_power, plays, last_state, start}
+use Rattle.mc_model_play.specs.Play.{Armed, State, BeforePower, AfterPower, LineResult, Step, FailedWrite, MayHit, Possible, step, before_power_step, hit_of, power_moves, power_after, play_at_power, plays, last_state, start}
 use Rattle.mc_model_play.specs.Family.{ClosedPairs, Closed, is_own}
 use Rattle.mc_model_play.specs.Given.{Event, own_apps, apps_in, is_power, first_apps, events_of, events, given_of_play, dump_events}
 use Rattle.mc_model_play.specs.Solo.{Solo, Heard, silent, heard_before, hears_all, solo}
@@ -13,7 +13,7 @@ use Rattle.mc_model_play.specs.DeckGrammar.{DeckLine}
 use Rattle.mc_model_play.specs.DeckGrammar as line
 use Rattle.mc_family.proofs.Agreement.{bare, MapsAgree}
 use Rattle.mc_family.proofs.Sim.{Simulates, LineKeepsSimulation, hears_all_append, hears_none, rest_alike}
-use Rattle.mc_family.proofs.HotLines.{hot_kept, SameAfterPower, powered, power_keeps}
+use Rattle.mc_family.proofs.AfterPowerLines.{after_power_kept, SameAfterPower, powered, power_keeps}
 use Rattle.mc_model_device.proofs.MapLemmas.{same_name}
 use Rattle.mc_model_device.proofs.BoolLemmas.{and_false}
 
@@ -33,23 +33,23 @@ module _ (K : List (List ℕ)) where
       → (hears_all t (events_of K u u.line)).answer ≡ results_if (is_seen K u u.line) u.result → (hears_all t (events_of K u u.line)).work ≡ work_if (is_own K u) u
       → HearsAlike K (hears_all t (events_of K u u.line)).after u.after us → HearsAlike K t s (u ∷ us)
   unfolding events answers work
-  then_alike t s u us told worked r =
+  then_alike t s u us reported worked r =
       let h = hears_all t (events_of K u u.line) in
       let e : hears_all t (events_of K u u.line ++ events K us) ≡ heard_before h (hears_all h.after (events K us)) = hears_all_append t (events_of K u u.line) (events K us) in
       record {
-        answer = ap (λ (z : Heard). z.answer) e ∙ (ap (λ (z : List LineResult). z ++ (hears_all h.after (events K us)).answer) told ∙ ap (λ (z : List LineResult). results_if (is_seen K u u.line) u.result ++ z) r.answer);
+        answer = ap (λ (z : Heard). z.answer) e ∙ (ap (λ (z : List LineResult). z ++ (hears_all h.after (events K us)).answer) reported ∙ ap (λ (z : List LineResult). results_if (is_seen K u u.line) u.result ++ z) r.answer);
         work = ap (λ (z : Heard). z.work) e ∙ (ap (λ (z : List (List Item × Option StopAt)). z ++ (hears_all h.after (events K us)).work) worked ∙ ap (λ (z : List (List Item × Option StopAt)). work_if (is_own K u) u ++ z) r.work);
         map = subst (λ (z : Heard). MapsAgree K true (apps_in (last_state u.after us)) z.after.map) (sym e) r.map;
       }
 
   -- ---- from the first power line on
 
-  step_kept : (s : State) (t : Solo) (l : ℕ × DeckLine) (w : Option WornAt) → Simulates K s t → MayHit s l w → ClosedPairs K (step s l w).pairs → LineKeepsSimulation K t (step s l w)
+  step_kept : (s : State) (t : Solo) (l : ℕ × DeckLine) (w : Option FailedWrite) → Simulates K s t → MayHit s l w → ClosedPairs K (step s l w).pairs → LineKeepsSimulation K t (step s l w)
   unfolding step
-  step_kept (Cold m b a) t l w sim may closed = absurd sim.warm
-  step_kept (Hot s) t l w sim may closed = hot_kept K t l.0 s.owed s.by s.budget s.armed l.1 w s.base s.live sim may closed
+  step_kept (BeforePower m b a) t l w sim may closed = absurd sim.warm
+  step_kept (AfterPower s) t l w sim may closed = after_power_kept K t l.0 s.owed s.by s.budget s.armed l.1 w s.base s.live sim may closed
 
-  warm_alike : (n : ℕ) (ls : List (ℕ × DeckLine)) (ws : List (Option WornAt)) (s : State) (t : Solo) → Simulates K s t → Possible s ls ws → Closed K (take n (plays s ls ws)) → HearsAlike K t s (take n (plays s ls ws))
+  warm_alike : (n : ℕ) (ls : List (ℕ × DeckLine)) (ws : List (Option FailedWrite)) (s : State) (t : Solo) → Simulates K s t → Possible s ls ws → Closed K (take n (plays s ls ws)) → HearsAlike K t s (take n (plays s ls ws))
   unfolding plays
   warm_alike zero ls ws s t sim may closed = none_alike t s sim.map
   warm_alike (suc n) [] ws s t sim may closed = none_alike t s sim.map
@@ -61,9 +61,9 @@ module _ (K : List (List ℕ)) where
 
   -- ---- before it
 
-  abbrev IsCold : State → Type 0
-  IsCold (Cold m b a) = ⊤
-  IsCold (Hot s) = ⊥
+  abbrev IsBeforePower : State → Type 0
+  IsBeforePower (BeforePower m b a) = ⊤
+  IsBeforePower (AfterPower s) = ⊥
 
   -- a line without an event
   record GivesNoEvent (u : Step) : Type 0 where
@@ -71,7 +71,7 @@ module _ (K : List (List ℕ)) where
     none : events_of K u u.line ≡ []
     seen : is_seen K u u.line ≡ false
     own : is_own K u ≡ false
-    cold : IsCold u.after
+    before_power : IsBeforePower u.after
 
   -- the first power line, once the lone card has the family's applications that it finds
   record First (u : Step) : Type 0 where
@@ -82,22 +82,22 @@ module _ (K : List (List ℕ)) where
   no_dump true n = refl
   no_dump false n = refl
 
-  cold_line : (n : ℕ) (l : DeckLine) (m : List (List ℕ)) (b : ℕ) (a : Armed) (w : Option WornAt) → GivesNoEvent (cold_step n l m b a w) ⊎ First (cold_step n l m b a w)
-  cold_line n (line.Dump x) m b a w = inl (record { power = refl; none = no_dump (has_name x K) x; seen = and_false (has_name x K); own = refl; cold = tt })
-  cold_line n line.Power m b a w =
+  before_power_line : (n : ℕ) (l : DeckLine) (m : List (List ℕ)) (b : ℕ) (a : Armed) (w : Option FailedWrite) → GivesNoEvent (before_power_step n l m b a w) ⊎ First (before_power_step n l m b a w)
+  before_power_line n (line.Dump x) m b a w = inl (record { power = refl; none = no_dump (has_name x K) x; seen = and_false (has_name x K); own = refl; before_power = tt })
+  before_power_line n line.Power m b a w =
       let s = play_at_power m b a in
       let st = hit_of a (power_moves s) w in
       let p : SameAfterPower K s (power_after s st) = powered K s st in
       inr (record {
         power = refl;
-        kept = λ t h. power_keeps K t n (Cold m b a) s st refl (subst (λ (z : List (List ℕ × App)). MapsAgree K true z t.map) p.map h);
+        kept = λ t h. power_keeps K t n (BeforePower m b a) s st refl (subst (λ (z : List (List ℕ × App)). MapsAgree K true z t.map) p.map h);
       })
-  cold_line n _ m b a w = inl (record { power = refl; none = refl; seen = refl; own = refl; cold = tt })
+  before_power_line n _ m b a w = inl (record { power = refl; none = refl; seen = refl; own = refl; before_power = tt })
 
-  cold_step_first : (s : State) (l : ℕ × DeckLine) (w : Option WornAt) → IsCold s → GivesNoEvent (step s l w) ⊎ First (step s l w)
+  before_power_step_first : (s : State) (l : ℕ × DeckLine) (w : Option FailedWrite) → IsBeforePower s → GivesNoEvent (step s l w) ⊎ First (step s l w)
   unfolding step
-  cold_step_first (Cold m b a) l w c = cold_line l.0 l.1 m b a w
-  cold_step_first (Hot s) l w c = absurd c
+  before_power_step_first (BeforePower m b a) l w c = before_power_line l.0 l.1 m b a w
+  before_power_step_first (AfterPower s) l w c = absurd c
 
   -- ---- the family's applications on the first card
 
@@ -129,30 +129,30 @@ module _ (K : List (List ℕ)) where
       in
       subst (λ (b : Bool). HearsAlike K (record { map = own_apps K (cond b (apps_in u.after) (first_apps us)); selected = None }) s (u ∷ us)) (sym h.power) whole
 
-  cold_alike : (n : ℕ) (ls : List (ℕ × DeckLine)) (ws : List (Option WornAt)) (s : State) → IsCold s → Possible s ls ws → Closed K (take n (plays s ls ws)) → HearsAlike K (first_solo (take n (plays s ls ws))) s (take n (plays s ls ws))
+  before_power_alike : (n : ℕ) (ls : List (ℕ × DeckLine)) (ws : List (Option FailedWrite)) (s : State) → IsBeforePower s → Possible s ls ws → Closed K (take n (plays s ls ws)) → HearsAlike K (first_solo (take n (plays s ls ws))) s (take n (plays s ls ws))
   unfolding plays
-  cold_alike zero ls ws (Cold m b a) c may closed = none_alike (record { map = []; selected = None }) (Cold m b a) (λ k on. refl)
-  cold_alike (suc n) [] ws (Cold m b a) c may closed = none_alike (record { map = []; selected = None }) (Cold m b a) (λ k on. refl)
-  cold_alike (suc n) (l ∷ ls) [] (Cold m b a) c may closed = absurd may
-  cold_alike (suc n) (l ∷ ls) (w ∷ ws) (Cold m b a) c may closed =
-      let s = Cold m b a in
+  before_power_alike zero ls ws (BeforePower m b a) c may closed = none_alike (record { map = []; selected = None }) (BeforePower m b a) (λ k on. refl)
+  before_power_alike (suc n) [] ws (BeforePower m b a) c may closed = none_alike (record { map = []; selected = None }) (BeforePower m b a) (λ k on. refl)
+  before_power_alike (suc n) (l ∷ ls) [] (BeforePower m b a) c may closed = absurd may
+  before_power_alike (suc n) (l ∷ ls) (w ∷ ws) (BeforePower m b a) c may closed =
+      let s = BeforePower m b a in
       let u = step s l w in
       let us = take n (plays u.after ls ws) in
-      elim (cold_step_first s l w tt) [
-        | inl h ↦ silent_alike s u us h (cold_alike n ls ws u.after h.cold may.1 closed.1)
+      elim (before_power_step_first s l w tt) [
+        | inl h ↦ silent_alike s u us h (before_power_alike n ls ws u.after h.before_power may.1 closed.1)
         | inr h ↦
             let t : Solo = record { map = own_apps K (apps_in u.after); selected = None } in
             let k : LineKeepsSimulation K t u = h.kept t (own_apps_agree (apps_in u.after)) in
             let whole : HearsAlike K t s (u ∷ us) = then_alike t s u us k.answer k.work (warm_alike n ls ws u.after (hears_all t (events_of K u u.line)).after k.sim may.1 closed.1) in
             subst (λ (b : Bool). HearsAlike K (record { map = own_apps K (cond b (apps_in u.after) (first_apps us)); selected = None }) s (u ∷ us)) (sym h.power) whole
       ]
-  cold_alike n ls ws (Hot s) c may closed = absurd c
+  before_power_alike n ls ws (AfterPower s) c may closed = absurd c
 
   -- family isolation, with equal items and stops, for every front of a play
-  pub isolated : (n : ℕ) (ls : List (ℕ × DeckLine)) (m : List (List ℕ)) (ws : List (Option WornAt)) → Possible (start m) ls ws → Closed K (take n (plays (start m) ls ws)) → IsIsolated K (start m) (take n (plays (start m) ls ws))
+  pub isolated : (n : ℕ) (ls : List (ℕ × DeckLine)) (m : List (List ℕ)) (ws : List (Option FailedWrite)) → Possible (start m) ls ws → Closed K (take n (plays (start m) ls ws)) → IsIsolated K (start m) (take n (plays (start m) ls ws))
   isolated n ls m ws may closed =
       let us = take n (plays (start m) ls ws) in
-      let h : HearsAlike K (first_solo us) (start m) us = cold_alike n ls ws (start m) tt may closed in
+      let h : HearsAlike K (first_solo us) (start m) us = before_power_alike n ls ws (start m) tt may closed in
       record {
         view =
             ap (λ (z : List LineResult). record { answers = z; rest = rest_of K (apps_in (last_state (start m) us)) }) (sym h.answer)

@@ -13,7 +13,7 @@ use Rattle.mc_model_device.specs.Card.{App, Card}
 use Rattle.mc_model_device.specs.Layout.{step_of}
 use Rattle.mc_model_machine.specs.Chain.{Write, no_app, run}
 use Rattle.mc_model_card.specs.Items.{Change, Fixed, Created, Plain, Atomic, apps_after_change, apps_after_items, card_done, Site, Piece, Blank, write_items}
-use Rattle.mc_model_card.specs.Manager.{Selected, Open, Seat, Route, WrongLength, WrongClass, ToSelect, ToManager, ToApplication, route, route_of_parts, Accepted, Managed, Declines, Accepts, answer_unless, first_status, is_empty, p1p2, select_done, select_refusals, select, sizes_in, fits_limits, open_done, open_load, load_refusals, load_done, load_part, word_parts, got_of, with_got, Got, can_create, dir_in, is_taken, fresh, create_done, create, is_selected, delete_done, delete, manage, room_on}
+use Rattle.mc_model_card.specs.Manager.{Selected, Open, SessionState, Route, WrongLength, WrongClass, ToSelect, ToManager, ToApplication, route, route_of_parts, Accepted, Managed, Declines, Accepts, answer_unless, first_status, is_empty, p1p2, select_done, select_refusals, select, sizes_in, fits_limits, open_done, open_load, load_refusals, load_done, load_part, word_parts, got_of, with_got, Got, can_create, dir_in, is_taken, fresh, create_done, create, is_selected, delete_done, delete, manage, room_on}
 use Rattle.mc_model_card.specs.Commands.{Command, item_of, manager_command, application_command, by_route, command}
 use Rattle.mc_model_play.specs.Play.{is_done, command_with_rest, send}
 use Rattle.mc_model_play.specs.ReadyAgain.{FitsJournal}
@@ -22,7 +22,7 @@ use Rattle.mc_machine_laws.proofs.AppSizes.{Limited, limited_done}
 use Rattle.mc_family.proofs.CardFacts.{all_take, AreOnCard, are_coded, name_short, ChangeStands, ItemsStand, fixed_again, done_stands, stand_append}
 use Rattle.mc_machine_laws.proofs.FewHeaders.{few_headers_law}
 use Rattle.mc_machine_laws.proofs.FewRuns.{few_runs_law}
-use Rattle.mc_family.proofs.PlaySizes.{notes, SeatFits, CommandFits, command_fits}
+use Rattle.mc_family.proofs.PlaySizes.{notes, SessionStateFits, CommandFits, command_fits}
 use Rattle.mc_model_card.proofs.ItemLemmas.{done_append}
 
 -- ---- the bytes of a command
@@ -103,15 +103,15 @@ abbrev pub LoadStands : List (List ℕ × App) → Option Open → Type 0
 LoadStands m None = ⊤
 LoadStands m (Some o) = (length m ≤ 31) × AreBytes o.got.code
 
-pub record SeatStands (m : List (List ℕ × App)) (seat : Seat) : Type 0 where
-  pub selected : SelectedStands seat.selected
-  pub load : LoadStands m seat.load
+pub record SessionStateStands (m : List (List ℕ × App)) (session_state : SessionState) : Type 0 where
+  pub selected : SelectedStands session_state.selected
+  pub load : LoadStands m session_state.load
 
 -- what a command leaves, and that its items fit a journal
 pub record CommandStands (m : List (List ℕ × App)) (r : Command) : Type 0 where
   pub few : AllByRecursion FitsJournal r.items
   pub items : ItemsStand m r.items
-  pub seat : SeatStands (apps_after_items m r.items) r.seat
+  pub session_state : SessionStateStands (apps_after_items m r.items) r.session_state
 
 -- a load on a map of as many applications
 same_load : (m d : List (List ℕ × App)) (o : Option Open) → length d ≡ length m → LoadStands m o → LoadStands d o
@@ -163,30 +163,30 @@ with_code part.Data b g h k = k
 with_code part.Dir b g h k = k
 with_code part.Fci b g h k = k
 
-module _ (c : Card) (seat : Seat) (on : AreOnCard c.apps) (stands : SeatStands c.apps seat) where
+module _ (c : Card) (session_state : SessionState) (on : AreOnCard c.apps) (stands : SessionStateStands c.apps session_state) where
   ManagedStands : Managed → Type 0
-  ManagedStands m = CommandStands c.apps (manager_command c seat m)
+  ManagedStands m = CommandStands c.apps (manager_command c session_state m)
 
   declined : (sw : ℕ) → ManagedStands (Declines sw)
   unfolding ManagedStands
-  declined sw = record { few = tt; items = tt; seat = stands }
+  declined sw = record { few = tt; items = tt; session_state = stands }
 
   answered_stands : (o : Option ℕ) (d : Accepted) → (o ≡ None → ManagedStands (Accepts d)) → ManagedStands (answer_unless o d)
   answered_stands (Some sw) d h = declined sw
   answered_stands None d h = h refl
 
-  select_by : (a : ApduParts) (o : Option App) → lookup c.apps a.body ≡ o → ManagedStands (Accepts (select_done seat a o))
+  select_by : (a : ApduParts) (o : Option App) → lookup c.apps a.body ≡ o → ManagedStands (Accepts (select_done session_state a o))
   unfolding ManagedStands
-  select_by a None e = record { few = tt; items = tt; seat = stands }
-  select_by a (Some app) e = record { few = tt; items = tt; seat = record { selected = name_short c.apps a.body app on e; load = stands.load } }
+  select_by a None e = record { few = tt; items = tt; session_state = stands }
+  select_by a (Some app) e = record { few = tt; items = tt; session_state = record { selected = name_short c.apps a.body app on e; load = stands.load } }
 
-  select_stands : (a : ApduParts) → ManagedStands (select c.apps seat a)
-  select_stands a = answered_stands (first_status (select_refusals c.apps a)) (select_done seat a (lookup c.apps a.body)) (λ e. select_by a (lookup c.apps a.body) refl)
+  select_stands : (a : ApduParts) → ManagedStands (select c.apps session_state a)
+  select_stands a = answered_stands (first_status (select_refusals c.apps a)) (select_done session_state a (lookup c.apps a.body)) (λ e. select_by a (lookup c.apps a.body) refl)
 
   -- ---- OPEN
 
   opened_by : (a : ApduParts) (x y z v : Bool) → (nat_le 32 (length c.apps) || is_none (room_on c (sizes_in a))) ≡ v
-      → ManagedStands (answer_unless (cond x (Some 0x6A86) (cond y (Some 0x6700) (cond (not z) (Some 0x6A80) (cond v (Some 0x6A84) None)))) (open_done (room_on c) seat a))
+      → ManagedStands (answer_unless (cond x (Some 0x6A86) (cond y (Some 0x6700) (cond (not z) (Some 0x6A80) (cond v (Some 0x6A84) None)))) (open_done (room_on c) session_state a))
   unfolding ManagedStands
   opened_by a true y z v h = declined 0x6A86
   opened_by a false true z v h = declined 0x6700
@@ -194,16 +194,16 @@ module _ (c : Card) (seat : Seat) (on : AreOnCard c.apps) (stands : SeatStands c
   opened_by a false false true true h = declined 0x6A84
   opened_by a false false true false h =
       let below : nat_le 32 (length c.apps) ≡ false = or_false (nat_le 32 (length c.apps)) (is_none (room_on c (sizes_in a))) h in
-      record { few = tt; items = tt; seat = record { selected = stands.selected; load = (grind (arith, below), tt) } }
+      record { few = tt; items = tt; session_state = record { selected = stands.selected; load = (grind (arith, below), tt) } }
 
-  open_stands : (a : ApduParts) → ManagedStands (open_load (room_on c) c.apps seat a)
+  open_stands : (a : ApduParts) → ManagedStands (open_load (room_on c) c.apps session_state a)
   open_stands a = opened_by a (nat_lt 15 (p1p2 a)) (not (length a.body == 12)) (fits_limits (sizes_in a)) (nat_le 32 (length c.apps) || is_none (room_on c (sizes_in a))) refl
 
   -- ---- LOAD
 
-  loaded_by : (p : Part) (a : ApduParts) (o : Option Open) → AreBytes a.body → seat.load ≡ o → ManagedStands (Accepts (load_done seat o p a))
+  loaded_by : (p : Part) (a : ApduParts) (o : Option Open) → AreBytes a.body → session_state.load ≡ o → ManagedStands (Accepts (load_done session_state o p a))
   unfolding ManagedStands
-  loaded_by p a None bytes e = record { few = tt; items = tt; seat = stands }
+  loaded_by p a None bytes e = record { few = tt; items = tt; session_state = stands }
   loaded_by p a (Some o) bytes e =
       let cs = word_parts (length (got_of p o.got)) a.body in
       let now = pieces_stand c.apps o.site p cs in
@@ -211,16 +211,16 @@ module _ (c : Card) (seat : Seat) (on : AreOnCard c.apps) (stands : SeatStands c
       record {
         few = pieces_few o.site p cs;
         items = now.0;
-        seat = subst (λ (m : List (List ℕ × App)). SeatStands m (load_done seat (Some o) p a).seat) (sym now.1) (record { selected = stands.selected; load = (load.0, with_code p a.body o.got bytes load.1) });
+        session_state = subst (λ (m : List (List ℕ × App)). SessionStateStands m (load_done session_state (Some o) p a).session_state) (sym now.1) (record { selected = stands.selected; load = (load.0, with_code p a.body o.got bytes load.1) });
       }
 
-  load_stands : (p : Part) (a : ApduParts) → AreBytes a.body → ManagedStands (load_part p seat a)
-  load_stands p a bytes = answered_stands (first_status (load_refusals seat.load p a)) (load_done seat seat.load p a) (λ e. loaded_by p a seat.load bytes refl)
+  load_stands : (p : Part) (a : ApduParts) → AreBytes a.body → ManagedStands (load_part p session_state a)
+  load_stands p a bytes = answered_stands (first_status (load_refusals session_state.load p a)) (load_done session_state session_state.load p a) (λ e. loaded_by p a session_state.load bytes refl)
 
   -- ---- CREATE
 
-  created_by : (a : ApduParts) (o : Open) (r : Result (List ℕ) AidFault) (x y z v : Bool) → seat.load ≡ Some o → name_of o.got.dir ≡ r
-      → ManagedStands (answer_unless (cond x (Some 0x6A86) (cond y (Some 0x6700) (cond (not z) (Some 0x6985) (cond (not (is_ok r)) (Some 0x6A80) (cond v (Some 0x6A89) None))))) (create_done seat (Some o) r))
+  created_by : (a : ApduParts) (o : Open) (r : Result (List ℕ) AidFault) (x y z v : Bool) → session_state.load ≡ Some o → name_of o.got.dir ≡ r
+      → ManagedStands (answer_unless (cond x (Some 0x6A86) (cond y (Some 0x6700) (cond (not z) (Some 0x6985) (cond (not (is_ok r)) (Some 0x6A80) (cond v (Some 0x6A89) None))))) (create_done session_state (Some o) r))
   unfolding ManagedStands
   created_by a o r true y z v e k = declined 0x6A86
   created_by a o r false true z v e k = declined 0x6700
@@ -233,22 +233,22 @@ module _ (c : Card) (seat : Seat) (on : AreOnCard c.apps) (stands : SeatStands c
       let load : LoadStands c.apps (Some o) = subst (LoadStands c.apps) e stands.load in
       let room : length c.apps ≤ 31 = load.0 in
       let words : length (step_of c (record c { apps = insert c.apps n (fresh o) })) ≤ length c.apps + 4 = (few_headers_law c n (fresh o)).created in
-      let items : ItemsStand c.apps (manager_command c seat (Accepts (create_done seat (Some o) (Ok n)))).items = creation_stands c.apps _ ch o.site n cs (load.0, record { name = short_name o.got.dir n k; code = load.1 }) in
-      record { few = creation_few _ ch o.site n cs (omega (arith, words, room)); items = items; seat = record { selected = stands.selected; load = tt } }
+      let items : ItemsStand c.apps (manager_command c session_state (Accepts (create_done session_state (Some o) (Ok n)))).items = creation_stands c.apps _ ch o.site n cs (load.0, record { name = short_name o.got.dir n k; code = load.1 }) in
+      record { few = creation_few _ ch o.site n cs (omega (arith, words, room)); items = items; session_state = record { selected = stands.selected; load = tt } }
 
-  create_by : (a : ApduParts) (o : Option Open) (x y : Bool) → seat.load ≡ o
-      → ManagedStands (answer_unless (cond x (Some 0x6A86) (cond y (Some 0x6700) (cond (not (can_create o)) (Some 0x6985) (cond (not (is_ok (name_of (dir_in o)))) (Some 0x6A80) (cond (is_taken c.apps (name_of (dir_in o))) (Some 0x6A89) None))))) (create_done seat o (name_of (dir_in o))))
+  create_by : (a : ApduParts) (o : Option Open) (x y : Bool) → session_state.load ≡ o
+      → ManagedStands (answer_unless (cond x (Some 0x6A86) (cond y (Some 0x6700) (cond (not (can_create o)) (Some 0x6985) (cond (not (is_ok (name_of (dir_in o)))) (Some 0x6A80) (cond (is_taken c.apps (name_of (dir_in o))) (Some 0x6A89) None))))) (create_done session_state o (name_of (dir_in o))))
   create_by a None true y e = declined 0x6A86
   create_by a None false true e = declined 0x6700
   create_by a None false false e = declined 0x6985
   create_by a (Some o) x y e = created_by a o (name_of o.got.dir) x y (can_create (Some o)) (is_taken c.apps (name_of o.got.dir)) e refl
 
-  create_stands : (a : ApduParts) → ManagedStands (create c.apps seat a)
-  create_stands a = create_by a seat.load (not (p1p2 a == 0)) (not (is_empty a.body)) refl
+  create_stands : (a : ApduParts) → ManagedStands (create c.apps session_state a)
+  create_stands a = create_by a session_state.load (not (p1p2 a == 0)) (not (is_empty a.body)) refl
 
   -- ---- DELETE
 
-  deleted_by : (a : ApduParts) (x y z v : Bool) → ManagedStands (answer_unless (cond x (Some 0x6A86) (cond y (Some 0x6700) (cond z (Some 0x6A82) (cond v (Some 0x6985) None)))) (delete_done seat a))
+  deleted_by : (a : ApduParts) (x y z v : Bool) → ManagedStands (answer_unless (cond x (Some 0x6A86) (cond y (Some 0x6700) (cond z (Some 0x6A82) (cond v (Some 0x6985) None)))) (delete_done session_state a))
   unfolding ManagedStands
   deleted_by a true y z v = declined 0x6A86
   deleted_by a false true z v = declined 0x6700
@@ -257,16 +257,16 @@ module _ (c : Card) (seat : Seat) (on : AreOnCard c.apps) (stands : SeatStands c
   deleted_by a false false false false =
       let words : length (step_of c (record c { apps = remove c.apps a.body })) ≤ length c.apps + 4 = (few_headers_law c a.body no_app).deleted in
       let count : length c.apps ≤ 32 = on.count in
-      record { few = (omega (arith, words, count), tt); items = (tt, tt); seat = record { selected = stands.selected; load = tt } }
+      record { few = (omega (arith, words, count), tt); items = (tt, tt); session_state = record { selected = stands.selected; load = tt } }
 
-  delete_stands : (a : ApduParts) → ManagedStands (delete c.apps seat a)
-  delete_stands a = deleted_by a (not (p1p2 a == 0)) (is_empty a.body) (is_none (lookup c.apps a.body)) (is_selected seat.selected a.body)
+  delete_stands : (a : ApduParts) → ManagedStands (delete c.apps session_state a)
+  delete_stands a = deleted_by a (not (p1p2 a == 0)) (is_empty a.body) (is_none (lookup c.apps a.body)) (is_selected session_state.selected a.body)
 
   either : (b : Bool) (m n : Managed) → ManagedStands m → ManagedStands n → ManagedStands (cond b m n)
   either true m n h k = h
   either false m n h k = k
 
-  manage_stands : (a : ApduParts) → AreBytes a.body → ManagedStands (manage (room_on c) c.apps seat a)
+  manage_stands : (a : ApduParts) → AreBytes a.body → ManagedStands (manage (room_on c) c.apps session_state a)
   unfolding manage
   manage_stands a bytes =
       either (a.ins == 0x12) _ _ (open_stands a) (
@@ -290,31 +290,31 @@ writes_stand (w ∷ ws) m h =
     let rest = writes_stand ws d one.0 in
     ((tt, rest.0), rest.1 ∙ one.1)
 
-passed_stands : (c : Card) (seat : Seat) (o : Option Selected) (a : ApduParts) (budget : ℕ) → seat.selected ≡ o → Limited c.apps → AreOnCard c.apps → SeatStands c.apps seat → CommandStands c.apps (application_command c seat o a budget)
-passed_stands c seat None a budget e limited on h = record { few = tt; items = tt; seat = h }
-passed_stands c seat (Some s) a budget e limited on h =
+passed_stands : (c : Card) (session_state : SessionState) (o : Option Selected) (a : ApduParts) (budget : ℕ) → session_state.selected ≡ o → Limited c.apps → AreOnCard c.apps → SessionStateStands c.apps session_state → CommandStands c.apps (application_command c session_state o a budget)
+passed_stands c session_state None a budget e limited on h = record { few = tt; items = tt; session_state = h }
+passed_stands c session_state (Some s) a budget e limited on h =
     let r = run c.apps s.name s.session a budget in
     let short : length s.name ≤ 16 = subst SelectedStands e h.selected in
     let after = writes_stand r.writes c.apps on in
     record {
       few = writes_few r.writes (few_runs_law c.apps s.name s.session a budget (are_coded c.apps limited on) short);
       items = after.0;
-      seat = record { selected = short; load = same_load c.apps (apps_after_items c.apps (write_items r.writes)) seat.load after.1 h.load };
+      session_state = record { selected = short; load = same_load c.apps (apps_after_items c.apps (write_items r.writes)) session_state.load after.1 h.load };
     }
 
 -- ---- a command
 
-routed_stands : (c : Card) (seat : Seat) (budget : ℕ) (r : Route) → RouteBytes r → Limited c.apps → AreOnCard c.apps → SeatStands c.apps seat → CommandStands c.apps (by_route c seat budget r)
+routed_stands : (c : Card) (session_state : SessionState) (budget : ℕ) (r : Route) → RouteBytes r → Limited c.apps → AreOnCard c.apps → SessionStateStands c.apps session_state → CommandStands c.apps (by_route c session_state budget r)
 unfolding ManagedStands
-routed_stands c seat budget WrongLength bytes limited on h = record { few = tt; items = tt; seat = h }
-routed_stands c seat budget WrongClass bytes limited on h = record { few = tt; items = tt; seat = h }
-routed_stands c seat budget (ToSelect a) bytes limited on h = select_stands c seat on h a
-routed_stands c seat budget (ToManager a) bytes limited on h = manage_stands c seat on h a bytes
-routed_stands c seat budget (ToApplication a) bytes limited on h = passed_stands c seat seat.selected a budget refl limited on h
+routed_stands c session_state budget WrongLength bytes limited on h = record { few = tt; items = tt; session_state = h }
+routed_stands c session_state budget WrongClass bytes limited on h = record { few = tt; items = tt; session_state = h }
+routed_stands c session_state budget (ToSelect a) bytes limited on h = select_stands c session_state on h a
+routed_stands c session_state budget (ToManager a) bytes limited on h = manage_stands c session_state on h a bytes
+routed_stands c session_state budget (ToApplication a) bytes limited on h = passed_stands c session_state session_state.selected a budget refl limited on h
 
-pub command_stands : (c : Card) (seat : Seat) (b : List ℕ) (budget : ℕ) → IsSent b → Limited c.apps → AreOnCard c.apps → SeatStands c.apps seat → CommandStands c.apps (command c seat b budget)
+pub command_stands : (c : Card) (session_state : SessionState) (b : List ℕ) (budget : ℕ) → IsSent b → Limited c.apps → AreOnCard c.apps → SessionStateStands c.apps session_state → CommandStands c.apps (command c session_state b budget)
 unfolding command
-command_stands c seat b budget sent limited on h = routed_stands c seat budget (route b) (route_bytes b sent) limited on h
+command_stands c session_state b budget sent limited on h = routed_stands c session_state budget (route b) (route_bytes b sent) limited on h
 
 -- ---- the commands of a line
 
@@ -323,16 +323,16 @@ sent_on_stands m true r rest h k =
     record {
       few = all_append FitsJournal r.items rest.items h.few k.few;
       items = stand_append r.items rest.items m h.items k.items;
-      seat = subst (λ (d : List (List ℕ × App)). SeatStands d rest.seat) (sym (done_append r.items rest.items m)) k.seat;
+      session_state = subst (λ (d : List (List ℕ × App)). SessionStateStands d rest.session_state) (sym (done_append r.items rest.items m)) k.session_state;
     }
 sent_on_stands m false r rest h k = h
 
-pub send_stands : (c : Card) (seat : Seat) (budget : ℕ) (bs : List (List ℕ)) → AllByRecursion IsSent bs → Limited c.apps → SeatFits c.apps seat → AreOnCard c.apps → SeatStands c.apps seat → CommandStands c.apps (send c seat budget bs)
+pub send_stands : (c : Card) (session_state : SessionState) (budget : ℕ) (bs : List (List ℕ)) → AllByRecursion IsSent bs → Limited c.apps → SessionStateFits c.apps session_state → AreOnCard c.apps → SessionStateStands c.apps session_state → CommandStands c.apps (send c session_state budget bs)
 unfolding send
-send_stands c seat budget [] sent limited fits on h = record { few = tt; items = tt; seat = h }
-send_stands c seat budget (b ∷ bs) sent limited fits on h =
-    let r = command c seat b budget in
-    let f : CommandFits c.apps r = command_fits c seat b budget fits in
-    let k : CommandStands c.apps r = command_stands c seat b budget sent.0 limited on h in
-    sent_on_stands c.apps (is_done r.outcome) r (send (card_done c r.items) r.seat budget bs) k
-    (send_stands (card_done c r.items) r.seat budget bs sent.1 (limited_done r.items c.apps limited f.items) f.seat (done_stands r.items c.apps on k.items) k.seat)
+send_stands c session_state budget [] sent limited fits on h = record { few = tt; items = tt; session_state = h }
+send_stands c session_state budget (b ∷ bs) sent limited fits on h =
+    let r = command c session_state b budget in
+    let f : CommandFits c.apps r = command_fits c session_state b budget fits in
+    let k : CommandStands c.apps r = command_stands c session_state b budget sent.0 limited on h in
+    sent_on_stands c.apps (is_done r.outcome) r (send (card_done c r.items) r.session_state budget bs) k
+    (send_stands (card_done c r.items) r.session_state budget bs sent.1 (limited_done r.items c.apps limited f.items) f.session_state (done_stands r.items c.apps on k.items) k.session_state)

@@ -13,10 +13,10 @@ use Rattle.mc_model_device.specs.Stopped.{stands}
 use Rattle.mc_model_device.specs.Card.{App, Card, heap_start}
 use Rattle.mc_model_device.specs.Layout.{root, hole_header, fault}
 use Rattle.mc_model_card.specs.Items.{moves, apps_after_items, StopAt, at_stop}
-use Rattle.mc_model_card.specs.Manager.{Seat}
+use Rattle.mc_model_card.specs.Manager.{SessionState}
 use Rattle.mc_model_play.specs.DeckGrammar.{DeckLine}
 use Rattle.mc_model_play.specs.DeckGrammar as line
-use Rattle.mc_model_play.specs.Play.{Armed, Live, Running, Unpowered, Muted, Warm, State, Cold, Hot, Step, select_bytes, delete_bytes, piece_commands, section_commands, load_commands, line_command, hit_of, WornAt, live_after, power_live, power_after, stopped_power, power_moves, line_after, card_line, hot_step, cold_step, step, play_at_power, plays, first_worn, start, formatted_image}
+use Rattle.mc_model_play.specs.Play.{Armed, Live, Running, Unpowered, Muted, Warm, State, BeforePower, AfterPower, Step, select_bytes, delete_bytes, piece_commands, section_commands, load_commands, line_command, hit_of, FailedWrite, live_after, power_live, power_after, stopped_power, power_moves, line_after, card_line, after_power_step, before_power_step, step, play_at_power, plays, first_failure, start, formatted_image}
 use Rattle.mc_model_device.specs.PowerUp.{Base, OnCard, AtFault, base_after_migration, base_of}
 use Rattle.mc_model_card.specs.Commands.{Command}
 use Rattle.mc_model_play.specs.ReadyAgain.{FitsJournal, AllFitJournal, IsLine, AreLines}
@@ -25,10 +25,10 @@ use Rattle.mc_model_device.proofs.LookLemmas.{IsFull}
 use Rattle.mc_model_play.proofs.PlayLemmas.{step_is}
 use Rattle.mc_model_device.proofs.ImageBytes.{image_set, shut_full}
 use Rattle.mc_family.proofs.CardFacts.{all_take, all_drop, AreOnCard, done_stands, whole_stand, means_on_card}
-use Rattle.mc_family.proofs.FewItems.{IsSent, SeatStands, CommandStands, command_stands, send_stands}
+use Rattle.mc_family.proofs.FewItems.{IsSent, SessionStateStands, CommandStands, command_stands, send_stands}
 use Rattle.mc_machine_laws.proofs.AppSizes.{Limited}
-use Rattle.mc_family.proofs.HotLines.{hot}
-use Rattle.mc_family.proofs.PlaySizes.{SeatFits, BaseFits, StateFits, step_fits}
+use Rattle.mc_family.proofs.AfterPowerLines.{past_power}
+use Rattle.mc_family.proofs.PlaySizes.{SessionStateFits, BaseFits, StateFits, step_fits}
 use Rattle.mc_model_device.proofs.ListLemmas.{pair_bytes}
 
 -- ---- the commands of a line
@@ -67,13 +67,13 @@ load_sent u fixed session code init dir fci =
           (pieces_sent (length u.fci) 0x22 0 u.fci fci)) (tt, tt),
     )
 
-line_stands : (c : Card) (seat : Seat) (budget : ℕ) (l : DeckLine) → IsLine l → Limited c.apps → SeatFits c.apps seat → AreOnCard c.apps → SeatStands c.apps seat → CommandStands c.apps (line_command c seat budget l)
-line_stands c seat budget (line.Select n) is limited fits on h = command_stands c seat (select_bytes n) budget is limited on h
-line_stands c seat budget (line.Delete n) is limited fits on h = command_stands c seat (delete_bytes n) budget is limited on h
-line_stands c seat budget (line.Apdu b) is limited fits on h = command_stands c seat b budget (all_drop (λ x. x < 256) 5 b is) limited on h
-line_stands c seat budget (line.Load u fixed session) is limited fits on h =
-    send_stands c seat budget (load_commands u fixed session) (load_sent u fixed session is.0 is.1 is.2 is.3) limited fits on h
-line_stands c seat budget _ is limited fits on h = record { few = tt; items = tt; seat = h }
+line_stands : (c : Card) (session_state : SessionState) (budget : ℕ) (l : DeckLine) → IsLine l → Limited c.apps → SessionStateFits c.apps session_state → AreOnCard c.apps → SessionStateStands c.apps session_state → CommandStands c.apps (line_command c session_state budget l)
+line_stands c session_state budget (line.Select n) is limited fits on h = command_stands c session_state (select_bytes n) budget is limited on h
+line_stands c session_state budget (line.Delete n) is limited fits on h = command_stands c session_state (delete_bytes n) budget is limited on h
+line_stands c session_state budget (line.Apdu b) is limited fits on h = command_stands c session_state b budget (all_drop (λ x. x < 256) 5 b is) limited on h
+line_stands c session_state budget (line.Load u fixed session) is limited fits on h =
+    send_stands c session_state budget (load_commands u fixed session) (load_sent u fixed session is.0 is.1 is.2 is.3) limited fits on h
+line_stands c session_state budget _ is limited fits on h = record { few = tt; items = tt; session_state = h }
 
 -- ---- words that are set
 
@@ -98,7 +98,7 @@ formatted_image_lem m image =
 -- ---- what is kept from line to line
 
 abbrev LiveStands : List (List ℕ × App) → Live → Type 0
-LiveStands m (Running seat) = SeatStands m seat
+LiveStands m (Running session_state) = SessionStateStands m session_state
 LiveStands m Unpowered = ⊤
 LiveStands m Muted = ⊤
 
@@ -107,8 +107,8 @@ BaseStands (OnCard c) v = AreOnCard c.apps × LiveStands c.apps v
 BaseStands (AtFault cause p) v = ⊤
 
 abbrev StateStands : State → Type 0
-StateStands (Cold m b a) = IsImage m
-StateStands (Hot s) = BaseStands s.base s.live
+StateStands (BeforePower m b a) = IsImage m
+StateStands (AfterPower s) = BaseStands s.base s.live
 
 record LineStands (u : Step) : Type 0 where
   few : AllByRecursion FitsJournal u.items
@@ -140,38 +140,38 @@ base_cond : (t : Bool) (b : Base) (v : Live) → BaseStands b v → BaseStands (
 base_cond true b v h = base_migrated b v h
 base_cond false b v h = h
 
-stopped_stands : (s : Warm) (t : StopAt) (b : Bool) → BaseStands s.base Unpowered → StateStands (Hot (stopped_power s t b))
+stopped_stands : (s : Warm) (t : StopAt) (b : Bool) → BaseStands s.base Unpowered → StateStands (AfterPower (stopped_power s t b))
 stopped_stands s t true h = base_stopped s.base t.kind h
 stopped_stands s t false h = base_cond (stands One 1 (t.at - s.owed) t.left) s.base (live_after t.kind) (base_stopped s.base t.kind h)
 
-power_stands : (s : Warm) (t : Option StopAt) → BaseStands s.base Unpowered → StateStands (Hot (power_after s t))
+power_stands : (s : Warm) (t : Option StopAt) → BaseStands s.base Unpowered → StateStands (AfterPower (power_after s t))
 power_stands s None h = base_powered s.base h
 power_stands s (Some t) h = stopped_stands s t (nat_le t.at s.owed) h
 
 -- ---- lines of a running card
 
-after_stands : (s : Warm) (c : Card) (r : Command) (t : Option StopAt) → AreOnCard c.apps → CommandStands c.apps r → StateStands (Hot (line_after s c r t))
-after_stands s c r None on k = (done_stands r.items c.apps on k.items, k.seat)
+after_stands : (s : Warm) (c : Card) (r : Command) (t : Option StopAt) → AreOnCard c.apps → CommandStands c.apps r → StateStands (AfterPower (line_after s c r t))
+after_stands s c r None on k = (done_stands r.items c.apps on k.items, k.session_state)
 after_stands s c r (Some t) on k =
     let whole = (at_stop r.items t.at t.left).whole in
     (done_stands whole c.apps on (whole_stand r.items c.apps t.at t.left k.items), after_stop (apps_after_items c.apps whole) t.kind)
 
-card_stands : (n : ℕ) (l : DeckLine) (b : Base) (o : ℕ) (j : Journal) (v : Live) (g : ℕ) (a : Armed) (w : Option WornAt) → IsLine l → BaseFits b v → BaseStands b v → LineStands (card_line n l (hot b o j v g a) v b w)
-card_stands n l (OnCard c) o j (Running seat) g a w is f h =
-    let r = line_command c seat g l in
-    let k : CommandStands c.apps r = line_stands c seat g l is f.0 f.1 h.0 h.1 in
-    record { few = k.few; next = after_stands (hot (OnCard c) o j (Running seat) g a) c r (hit_of a (moves r.items) w) h.0 k }
-card_stands n l (AtFault cause p) o j (Running seat) g a w is f h = record { few = tt; next = tt }
+card_stands : (n : ℕ) (l : DeckLine) (b : Base) (o : ℕ) (j : Journal) (v : Live) (g : ℕ) (a : Armed) (w : Option FailedWrite) → IsLine l → BaseFits b v → BaseStands b v → LineStands (card_line n l (past_power b o j v g a) v b w)
+card_stands n l (OnCard c) o j (Running session_state) g a w is f h =
+    let r = line_command c session_state g l in
+    let k : CommandStands c.apps r = line_stands c session_state g l is f.0 f.1 h.0 h.1 in
+    record { few = k.few; next = after_stands (past_power (OnCard c) o j (Running session_state) g a) c r (hit_of a (moves r.items) w) h.0 k }
+card_stands n l (AtFault cause p) o j (Running session_state) g a w is f h = record { few = tt; next = tt }
 card_stands n l b o j Unpowered g a w is f h = record { few = tt; next = h }
 card_stands n l b o j Muted g a w is f h = record { few = tt; next = h }
 
-hot_stands : (n : ℕ) (l : DeckLine) (s : Warm) (w : Option WornAt) → IsLine l → BaseFits s.base s.live → BaseStands s.base s.live → LineStands (hot_step n l s w)
-hot_stands n line.Power s w is f h = record { few = tt; next = power_stands s (hit_of s.armed (power_moves s) w) (base_on_card s.base s.live h) }
-hot_stands n (line.Load u fixed session) s w is f h = card_stands n (line.Load u fixed session) s.base s.owed s.by s.live s.budget s.armed w is f h
-hot_stands n (line.Select x) s w is f h = card_stands n (line.Select x) s.base s.owed s.by s.live s.budget s.armed w is f h
-hot_stands n (line.Delete x) s w is f h = card_stands n (line.Delete x) s.base s.owed s.by s.live s.budget s.armed w is f h
-hot_stands n (line.Apdu x) s w is f h = card_stands n (line.Apdu x) s.base s.owed s.by s.live s.budget s.armed w is f h
-hot_stands n _ s w is f h = record { few = tt; next = h }
+after_power_stands : (n : ℕ) (l : DeckLine) (s : Warm) (w : Option FailedWrite) → IsLine l → BaseFits s.base s.live → BaseStands s.base s.live → LineStands (after_power_step n l s w)
+after_power_stands n line.Power s w is f h = record { few = tt; next = power_stands s (hit_of s.armed (power_moves s) w) (base_on_card s.base s.live h) }
+after_power_stands n (line.Load u fixed session) s w is f h = card_stands n (line.Load u fixed session) s.base s.owed s.by s.live s.budget s.armed w is f h
+after_power_stands n (line.Select x) s w is f h = card_stands n (line.Select x) s.base s.owed s.by s.live s.budget s.armed w is f h
+after_power_stands n (line.Delete x) s w is f h = card_stands n (line.Delete x) s.base s.owed s.by s.live s.budget s.armed w is f h
+after_power_stands n (line.Apdu x) s w is f h = card_stands n (line.Apdu x) s.base s.owed s.by s.live s.budget s.armed w is f h
+after_power_stands n _ s w is f h = record { few = tt; next = h }
 
 -- ---- lines up to the first power line
 
@@ -183,29 +183,29 @@ warmed_stands : (m : List (List ℕ)) (b : ℕ) (a : Armed) → IsImage m → Ba
 unfolding play_at_power
 warmed_stands m b a image = found_stands m (fault m) image refl
 
-cold_stands : (n : ℕ) (l : DeckLine) (m : List (List ℕ)) (b : ℕ) (a : Armed) (w : Option WornAt) → IsLine l → IsImage m → LineStands (cold_step n l m b a w)
-cold_stands n line.Format m b a w is h = record { few = tt; next = formatted_image_lem m h }
-cold_stands n (line.Poke at x) m b a w is h = record { few = tt; next = image_set m at x h (is.1, is.0) }
-cold_stands n line.Power m b a w is h = record { few = tt; next = power_stands (play_at_power m b a) (hit_of a (power_moves (play_at_power m b a)) w) (warmed_stands m b a h) }
-cold_stands n _ m b a w is h = record { few = tt; next = h }
+before_power_stands : (n : ℕ) (l : DeckLine) (m : List (List ℕ)) (b : ℕ) (a : Armed) (w : Option FailedWrite) → IsLine l → IsImage m → LineStands (before_power_step n l m b a w)
+before_power_stands n line.Format m b a w is h = record { few = tt; next = formatted_image_lem m h }
+before_power_stands n (line.Poke at x) m b a w is h = record { few = tt; next = image_set m at x h (is.1, is.0) }
+before_power_stands n line.Power m b a w is h = record { few = tt; next = power_stands (play_at_power m b a) (hit_of a (power_moves (play_at_power m b a)) w) (warmed_stands m b a h) }
+before_power_stands n _ m b a w is h = record { few = tt; next = h }
 
 -- ---- plays
 
-step_stands : (z : State) (l : ℕ × DeckLine) (w : Option WornAt) → IsLine l.1 → StateFits z → StateStands z → LineStands (step z l w)
+step_stands : (z : State) (l : ℕ × DeckLine) (w : Option FailedWrite) → IsLine l.1 → StateFits z → StateStands z → LineStands (step z l w)
 unfolding step
-step_stands (Cold m b a) l w is f h = cold_stands l.0 l.1 m b a w is h
-step_stands (Hot s) l w is f h = hot_stands l.0 l.1 s w is f h
+step_stands (BeforePower m b a) l w is f h = before_power_stands l.0 l.1 m b a w is h
+step_stands (AfterPower s) l w is f h = after_power_stands l.0 l.1 s w is f h
 
-few_from : (n : ℕ) (z : State) (ls : List (ℕ × DeckLine)) (ws : List (Option WornAt)) → StateFits z → StateStands z → AreLines (take n (plays z ls ws)) → AllFitJournal (take n (plays z ls ws))
+few_from : (n : ℕ) (z : State) (ls : List (ℕ × DeckLine)) (ws : List (Option FailedWrite)) → StateFits z → StateStands z → AreLines (take n (plays z ls ws)) → AllFitJournal (take n (plays z ls ws))
 unfolding plays
 few_from zero z ls ws f h are = tt
 few_from (suc n) z [] ws f h are = tt
 few_from (suc n) z (l ∷ ls) ws f h are =
-    let u : Step = step z l (first_worn ws) in
-    let is : IsLine l.1 = subst IsLine (step_is z l (first_worn ws)).line are.0 in
-    let k : LineStands u = step_stands z l (first_worn ws) is f h in
-    (k.few, few_from n u.after ls (drop 1 ws) (step_fits z l (first_worn ws) f).next k.next are.1)
+    let u : Step = step z l (first_failure ws) in
+    let is : IsLine l.1 = subst IsLine (step_is z l (first_failure ws)).line are.0 in
+    let k : LineStands u = step_stands z l (first_failure ws) is f h in
+    (k.few, few_from n u.after ls (drop 1 ws) (step_fits z l (first_failure ws) f).next k.next are.1)
 
 -- each item of a play from an image on fits a journal, for every front of it
-pub few_words : (n : ℕ) (m : List (List ℕ)) (ls : List (ℕ × DeckLine)) (ws : List (Option WornAt)) → IsImage m → AreLines (take n (plays (start m) ls ws)) → AllFitJournal (take n (plays (start m) ls ws))
+pub few_words : (n : ℕ) (m : List (List ℕ)) (ls : List (ℕ × DeckLine)) (ws : List (Option FailedWrite)) → IsImage m → AreLines (take n (plays (start m) ls ws)) → AllFitJournal (take n (plays (start m) ls ws))
 few_words n m ls ws image are = few_from n (start m) ls ws tt image are

@@ -11,7 +11,7 @@ use Rattle.mc_model_machine.specs.Words.{abend_code}
 use Rattle.mc_model_play.specs.Transcript.{outcome_text, static_text, text_of_result}
 use Rattle.mc_model_machine.specs.TurnText.{ins_text, bit_text}
 use Rattle.mc_model_machine.specs.Chain.{Outcome, Reply, Abended}
-use Rattle.mc_model_play.specs.Play.{LineResult, Formatted, Ready, Unusable, OffAt, WornStop, NoCard, Silenced, Answered, Static, Absent}
+use Rattle.mc_model_play.specs.Play.{LineResult, Formatted, Ready, Unusable, OffAt, FailureStop, NoCard, Silenced, Answered, Static, Absent}
 use Rattle.mc_model_device.specs.declared.cause.Cause.{Cause}
 use Rattle.mc_model_device.specs.declared.cause.Cause.TheVariants.{BadJournal, NoRoot, BadBlock, BadRecord, BadChain}
 use Rattle.mc_model_machine.specs.declared.instruction.Ins.{Ins}
@@ -206,7 +206,7 @@ flat_shown (Unusable cause place) =
     let front : List ℕ = codes "unusable " ++ cause_text cause in
     flat_append (front ++ codes " ") (decimal place) (flat_append front (codes " ") (flat_append (codes "unusable ") (cause_text cause) refl (flat_cause cause)) refl) (flat_decimal place)
 flat_shown (OffAt k) = flat_append (codes "off at write ") (decimal k) refl (flat_decimal k)
-flat_shown WornStop = refl
+flat_shown FailureStop = refl
 flat_shown NoCard = refl
 flat_shown Silenced = refl
 flat_shown (Answered outcome) = flat_outcome outcome

@@ -5,8 +5,8 @@ use Rattle.std.proofs.lemmas.Bool.{le-leb, le-ltb, eq-eqb, ne_eqb}
 use Rattle.std.proofs.lemmas.List.{length-set, get_or-set_same, get_or-set_other, get_or_past}
 use Rattle.std.proofs.lemmas.Slice.Eq.{bytes_eq-Decides}
 use Rattle.mc_model_device.specs.Bytes.{be2, zeros, or_else}
-use Rattle.mc_model_device.specs.Image.{One, Two, opening, shut_word, which_of, Closed, look, look_at, word_at}
-use Rattle.mc_model_device.specs.Card.{Block, word, header, heap_start, blocks_from, blocks, block_and}
+use Rattle.mc_model_device.specs.Image.{One, Two, opening, shut_word, which_of, Closed, look, look_at, word_at, image_after_replay}
+use Rattle.mc_model_device.specs.Card.{Block, word, header, heap_start, blocks_from, blocks, block_and, words_after, apps_of, card_of, means}
 use Rattle.mc_model_device.specs.Layout.{root, hole_header, no_root, bad_block, bad_record, bad_chain, by_cause, words_fault, fault, fault_of}
 use Rattle.mc_model_device.specs.declared.cause.Cause.TheVariants.{NoRoot, BadBlock, BadRecord, BadChain}
 use Rattle.mc_model_play.specs.Play.{formatted_image}
@@ -85,6 +85,14 @@ sound_words n w h low high =
 empty_sound : (n : ℕ) (w : List (List ℕ)) → IsEmptyCard n w → 256 ≤ n → n ≤ 16384 → fault w ≡ None
 empty_sound n w h low high = ap (λ l. fault_of l w) (closed n w h) ∙ sound_words n w h low high
 
+-- it has no application
+empty_apps : (n : ℕ) (w : List (List ℕ)) → IsEmptyCard n w → 256 ≤ n → n ≤ 16384 → (means w).apps ≡ []
+unfolding apps_of
+empty_apps n w h low high =
+    let s = two_less (length w) (omega (arith, h.size)) in
+    let all : blocks w ≡ hole_of n ∷ [] = ap (λ (k : ℕ). blocks_from k w heap_start) s.is ∙ one_block (suc s.rest) n w h low high in
+    ap (λ l. (card_of (words_after (image_after_replay w l) w)).apps) (closed n w h) ∙ ap (λ (bs : List Block). apps_of w bs) all
+
 -- ---- the formatted words
 
 abbrev W : Type 0
@@ -126,3 +134,7 @@ formatted_sound m low high = empty_sound (length m) (formatted_image m) (formatt
 
 pub formatted_size : (m : W) → 256 ≤ length m → length (formatted_image m) ≡ length m
 formatted_size m low = (formatted_card m low).size
+
+-- and no application
+pub formatted_empty : (m : W) → 256 ≤ length m → length m ≤ 16384 → (means (formatted_image m)).apps ≡ []
+formatted_empty m low high = empty_apps (length m) (formatted_image m) (formatted_card m low) low high

@@ -6,7 +6,7 @@ pub mod OwnCommand
 pub mod OtherCommand
 pub mod LoadCommands
 pub mod Lines
-pub mod HotLines
+pub mod AfterPowerLines
 pub mod FamilyFold
 pub mod WholeLines
 pub mod FreshCommands

@@ -6,8 +6,8 @@ use Rattle.mc_model_device.specs.declared.device.Stop.TheVariants as stop
 use Rattle.mc_model_device.specs.Image.{Journal}
 use Rattle.mc_model_device.specs.Card.{App, Card}
 use Rattle.mc_model_card.specs.Items.{moves, apps_after_items, card_done, StopAt, at_stop}
-use Rattle.mc_model_card.specs.Manager.{Selected, Seat, route}
-use Rattle.mc_model_play.specs.Play.{Armed, Running, Warm, Hot, Answered, command_step, hit_of, live_after, WornAt}
+use Rattle.mc_model_card.specs.Manager.{Selected, SessionState, route}
+use Rattle.mc_model_play.specs.Play.{Armed, Running, Warm, AfterPower, Answered, command_step, hit_of, live_after, FailedWrite}
 use Rattle.mc_model_device.specs.PowerUp.{Base, OnCard}
 use Rattle.mc_model_card.specs.Commands.{Command, command}
 use Rattle.mc_model_play.specs.Family.{ClosedPairs, routes_in, command_of}
@@ -16,7 +16,7 @@ use Rattle.mc_model_play.specs.Solo.{Solo, SoloCommand, Heard, silent, hears, he
 use Rattle.mc_model_play.specs.DeckGrammar.{DeckLine}
 use Rattle.mc_family.proofs.Agreement.{MapsAgree, agree_done}
 use Rattle.mc_family.proofs.Sim.{own_selected, IsRunnable, Simulates, KeepsSimulation, hears_all_append, hears_none, hears_leave}
-use Rattle.mc_family.proofs.Stops.{WornWithin, hits_given, whole_others, StillAgrees, told_alike}
+use Rattle.mc_family.proofs.Stops.{FailsWithin, hits_given, whole_others, StillAgrees, reported_alike}
 use Rattle.mc_family.proofs.OwnCommand.{alone, own_command}
 use Rattle.mc_family.proofs.OtherCommand.{unless, Other, other_command}
 
@@ -35,37 +35,37 @@ stopped_runs stop.Off b = tt
 stopped_runs stop.Worn b = tt
 
 -- a running card
-abbrev pub running : Card → ℕ → Journal → Seat → ℕ → Armed → Warm
-running c owed by seat budget armed = record { base = OnCard c; owed = owed; by = by; live = Running seat; budget = budget; armed = armed }
+abbrev pub running : Card → ℕ → Journal → SessionState → ℕ → Armed → Warm
+running c owed by session_state budget armed = record { base = OnCard c; owed = owed; by = by; live = Running session_state; budget = budget; armed = armed }
 
-module _ (K : List (List ℕ)) (c : Card) (owed : ℕ) (by : Journal) (seat : Seat) (budget : ℕ) (armed : Armed) (t : Solo) where
+module _ (K : List (List ℕ)) (c : Card) (owed : ℕ) (by : Journal) (session_state : SessionState) (budget : ℕ) (armed : Armed) (t : Solo) where
   -- what the lone card hears of a command that does what it does in the play, hit by this stop
   hit_keeps : (n : ℕ) (l : DeckLine) (r : Command) (s : Option StopAt) (es : List Event) → MapsAgree K true c.apps t.map
       → hears_all t es ≡ heard_before (solo_hit t (alone K r) s) (silent (solo_hit t (alone K r) s).after)
-      → KeepsSimulation K t (command_step n l (running c owed by seat budget armed) c r s) es true true
+      → KeepsSimulation K t (command_step n l (running c owed by session_state budget armed) c r s) es true true
   hit_keeps n l r None es agree e =
       record {
-        sim = subst (λ (h : Heard). Simulates K (command_step n l (running c owed by seat budget armed) c r None).after h.after) (sym e) (record { warm = tt; map = agree_done K true r.items c.apps t.map agree; selected = refl });
+        sim = subst (λ (h : Heard). Simulates K (command_step n l (running c owed by session_state budget armed) c r None).after h.after) (sym e) (record { warm = tt; map = agree_done K true r.items c.apps t.map agree; selected = refl });
         answer = ap (λ (h : Heard). h.answer) e;
         work = ap (λ (h : Heard). h.work) e;
       }
   hit_keeps n l r (Some s) es agree e =
       let whole = (at_stop r.items s.at s.left).whole in
       record {
-        sim = subst (λ (h : Heard). Simulates K (command_step n l (running c owed by seat budget armed) c r (Some s)).after h.after) (sym e)
+        sim = subst (λ (h : Heard). Simulates K (command_step n l (running c owed by session_state budget armed) c r (Some s)).after h.after) (sym e)
             (record { warm = stopped_runs s.kind (OnCard (card_done c whole)); map = agree_done K true whole c.apps t.map agree; selected = sym (no_selection K s.kind) });
         answer = ap (λ (h : Heard). h.answer) e;
         work = ap (λ (h : Heard). h.work) e;
       }
 
   -- the events of a line that is the family's
-  own_keeps : (n : ℕ) (l : DeckLine) (bytes : List ℕ) (w : Option WornAt) → let r = command c seat bytes budget in
-      Simulates K (Hot (running c owed by seat budget armed)) t → WornWithin (moves r.items) w → routes_in K seat (route bytes) ≡ true → ClosedPairs K r.pairs
-      → let s = hit_of armed (moves r.items) w in KeepsSimulation K t (command_step n l (running c owed by seat budget armed) c r s) (Commands bytes budget (given_stop armed s) ∷ []) true true
+  own_keeps : (n : ℕ) (l : DeckLine) (bytes : List ℕ) (w : Option FailedWrite) → let r = command c session_state bytes budget in
+      Simulates K (AfterPower (running c owed by session_state budget armed)) t → FailsWithin (moves r.items) w → routes_in K session_state (route bytes) ≡ true → ClosedPairs K r.pairs
+      → let s = hit_of armed (moves r.items) w in KeepsSimulation K t (command_step n l (running c owed by session_state budget armed) c r s) (Commands bytes budget (given_stop armed s) ∷ []) true true
   own_keeps n l bytes w sim within own closed =
-      let r = command c seat bytes budget in
+      let r = command c session_state bytes budget in
       let s = hit_of armed (moves r.items) w in
-      let same : solo_command t bytes budget ≡ alone K r = own_command K c seat t sim.selected bytes budget own sim.map closed in
+      let same : solo_command t bytes budget ≡ alone K r = own_command K c session_state t sim.selected bytes budget own sim.map closed in
       let hit : heard_command t (solo_command t bytes budget) (given_stop armed s) ≡ solo_hit t (alone K r) s =
       ap (λ (z : SoloCommand). heard_command t z (given_stop armed s)) same
       ∙ ap (λ (z : Option StopAt). solo_hit t (alone K r) z) (hits_given armed (moves r.items) w within)
@@ -79,50 +79,50 @@ module _ (K : List (List ℕ)) (c : Card) (owed : ℕ) (by : Journal) (seat : Se
   left_heard true s = hears_leave s
   left_heard false s = hears_none s
 
-  told_left : (m : List (List ℕ × App)) (es : List Event) (b : Bool) (r : StillAgrees K t m es) → hears_all t (es ++ leave_event_if b) ≡ silent (record { map = r.map; selected = unless b t.selected })
-  told_left m es b r =
+  reported_left : (m : List (List ℕ × App)) (es : List Event) (b : Bool) (r : StillAgrees K t m es) → hears_all t (es ++ leave_event_if b) ≡ silent (record { map = r.map; selected = unless b t.selected })
+  reported_left m es b r =
       hears_all_append t es (leave_event_if b)
       ∙ (ap (λ (h : Heard). heard_before h (hears_all h.after (leave_event_if b))) r.heard
       ∙ ap (λ (h : Heard). heard_before (silent (record t { map = r.map })) h) (left_heard b (record t { map = r.map })))
 
   -- a line that changes others' applications alone
-  pub other_keeps : (n : ℕ) (l : DeckLine) (r : Command) (s : Option StopAt) → Simulates K (Hot (running c owed by seat budget armed)) t
-      → Other K seat (is_foreign_select K (command_of l) && is_done_reply (Some (Answered r.outcome))) r
-      → let u = command_step n l (running c owed by seat budget armed) c r s in KeepsSimulation K t u (events_of_items K u.whole ++ leave_event_if (is_left K u)) false false
+  pub other_keeps : (n : ℕ) (l : DeckLine) (r : Command) (s : Option StopAt) → Simulates K (AfterPower (running c owed by session_state budget armed)) t
+      → Other K session_state (is_foreign_select K (command_of l) && is_done_reply (Some (Answered r.outcome))) r
+      → let u = command_step n l (running c owed by session_state budget armed) c r s in KeepsSimulation K t u (events_of_items K u.whole ++ leave_event_if (is_left K u)) false false
   other_keeps n l r None sim h =
-      let u = command_step n l (running c owed by seat budget armed) c r None in
-      let told_all : StillAgrees K t (apps_after_items c.apps r.items) (events_of_items K r.items) = told_alike K r.items t c.apps h.others sim.map in
+      let u = command_step n l (running c owed by session_state budget armed) c r None in
+      let reported_all : StillAgrees K t (apps_after_items c.apps r.items) (events_of_items K r.items) = reported_alike K r.items t c.apps h.others sim.map in
       let left = is_foreign_select K (command_of l) && is_done_reply (Some (Answered r.outcome)) in
-      let e : hears_all t (events_of_items K r.items ++ leave_event_if left) ≡ silent (record { map = told_all.map; selected = unless left t.selected }) = told_left (apps_after_items c.apps r.items) (events_of_items K r.items) left told_all in
+      let e : hears_all t (events_of_items K r.items ++ leave_event_if left) ≡ silent (record { map = reported_all.map; selected = unless left t.selected }) = reported_left (apps_after_items c.apps r.items) (events_of_items K r.items) left reported_all in
       record {
         sim = subst (λ (h : Heard). Simulates K u.after h.after) (sym e)
-            (record { warm = tt; map = told_all.agree; selected = ap (λ (o : Option Selected). unless left o) sim.selected ∙ sym h.selected });
+            (record { warm = tt; map = reported_all.agree; selected = ap (λ (o : Option Selected). unless left o) sim.selected ∙ sym h.selected });
         answer = ap (λ (h : Heard). h.answer) e;
         work = ap (λ (h : Heard). h.work) e;
       }
   other_keeps n l r (Some s) sim h =
-      let u = command_step n l (running c owed by seat budget armed) c r (Some s) in
+      let u = command_step n l (running c owed by session_state budget armed) c r (Some s) in
       let whole = (at_stop r.items s.at s.left).whole in
-      let told_all : StillAgrees K t (apps_after_items c.apps whole) (events_of_items K whole) = told_alike K whole t c.apps (whole_others K r.items s.at s.left h.others) sim.map in
-      let e : hears_all t (events_of_items K whole ++ leave_event_if true) ≡ silent (record { map = told_all.map; selected = None }) = told_left (apps_after_items c.apps whole) (events_of_items K whole) true told_all in
+      let reported_all : StillAgrees K t (apps_after_items c.apps whole) (events_of_items K whole) = reported_alike K whole t c.apps (whole_others K r.items s.at s.left h.others) sim.map in
+      let e : hears_all t (events_of_items K whole ++ leave_event_if true) ≡ silent (record { map = reported_all.map; selected = None }) = reported_left (apps_after_items c.apps whole) (events_of_items K whole) true reported_all in
       record {
         sim = subst (λ (h : Heard). Simulates K u.after h.after) (sym e)
-            (record { warm = stopped_runs s.kind (OnCard (card_done c whole)); map = told_all.agree; selected = sym (no_selection K s.kind) });
+            (record { warm = stopped_runs s.kind (OnCard (card_done c whole)); map = reported_all.agree; selected = sym (no_selection K s.kind) });
         answer = ap (λ (h : Heard). h.answer) e;
         work = ap (λ (h : Heard). h.work) e;
       }
 
   -- ---- one command, of the family or not
 
-  pub command_keeps : (n : ℕ) (l : DeckLine) (bytes : List ℕ) (w : Option WornAt) (own : Bool) → let r = command c seat bytes budget in
-      let u = command_step n l (running c owed by seat budget armed) c r (hit_of armed (moves r.items) w) in
-      command_of l ≡ Some bytes → Simulates K (Hot (running c owed by seat budget armed)) t → WornWithin (moves r.items) w → routes_in K seat (route bytes) ≡ own → ClosedPairs K r.pairs
+  pub command_keeps : (n : ℕ) (l : DeckLine) (bytes : List ℕ) (w : Option FailedWrite) (own : Bool) → let r = command c session_state bytes budget in
+      let u = command_step n l (running c owed by session_state budget armed) c r (hit_of armed (moves r.items) w) in
+      command_of l ≡ Some bytes → Simulates K (AfterPower (running c owed by session_state budget armed)) t → FailsWithin (moves r.items) w → routes_in K session_state (route bytes) ≡ own → ClosedPairs K r.pairs
       → KeepsSimulation K t u (line_events own K u) own own
   command_keeps n l bytes w true e sim within own closed =
-      let r = command c seat bytes budget in
-      let u = command_step n l (running c owed by seat budget armed) c r (hit_of armed (moves r.items) w) in
+      let r = command c session_state bytes budget in
+      let u = command_step n l (running c owed by session_state budget armed) c r (hit_of armed (moves r.items) w) in
       subst (λ (o : Option (List ℕ)). KeepsSimulation K t u (command_event u o) true true) (sym e) (own_keeps n l bytes w sim within own closed)
   command_keeps n l bytes w false e sim within own closed =
-      let r = command c seat bytes budget in
-      let h = subst (λ (o : Option (List ℕ)). Other K seat (is_foreign_select K o && is_done_reply (Some (Answered r.outcome))) r) (sym e) (other_command K c seat bytes budget own closed) in
+      let r = command c session_state bytes budget in
+      let h = subst (λ (o : Option (List ℕ)). Other K session_state (is_foreign_select K o && is_done_reply (Some (Answered r.outcome))) r) (sym e) (other_command K c session_state bytes budget own closed) in
       other_keeps n l r (hit_of armed (moves r.items) w) sim h

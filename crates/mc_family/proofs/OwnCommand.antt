@@ -5,7 +5,7 @@ use Rattle.mc_model_device.specs.Bytes.{zeros, has_name, lookup}
 use Rattle.mc_model_machine.specs.Apdu.{ApduParts}
 use Rattle.mc_model_device.specs.Card.{App, Card, app_at_place}
 use Rattle.mc_model_machine.specs.Chain.{Reply, Ran, run}
-use Rattle.mc_model_card.specs.Manager.{Selected, Seat, Route, WrongLength, WrongClass, ToSelect, ToManager, ToApplication, route, answer_unless, first_status, is_empty, select_body, select_done, select}
+use Rattle.mc_model_card.specs.Manager.{Selected, SessionState, Route, WrongLength, WrongClass, ToSelect, ToManager, ToApplication, route, answer_unless, first_status, is_empty, select_body, select_done, select}
 use Rattle.mc_model_card.specs.Commands.{Command, manager_command, application_command, by_route, command}
 use Rattle.mc_model_play.specs.Family.{ClosedPairs, routes_in, selects_in}
 use Rattle.mc_model_play.specs.Solo.{Solo, SoloCommand, solo_selected, solo_ran, solo_passed, solo_routed, solo_command}
@@ -15,7 +15,7 @@ use Rattle.mc_family.proofs.Sim.{own_of}
 
 -- a command of the play as the lone card sees it
 abbrev pub alone : List (List ℕ) → Command → SoloCommand
-alone K r = record { items = r.items; outcome = r.outcome; selected = own_of K r.seat.selected }
+alone K r = record { items = r.items; outcome = r.outcome; selected = own_of K r.session_state.selected }
 
 own_of_named : (K : List (List ℕ)) (s : Selected) → has_name s.name K ≡ true → own_of K (Some s) ≡ Some s
 own_of_named K s h = ap (λ (b : Bool). cond b (Some s) None) h
@@ -24,9 +24,9 @@ own_of_named K s h = ap (λ (b : Bool). cond b (Some s) None) h
 abbrev select_status : ApduParts → Bool → Option ℕ
 select_status a missing = first_status ((0x6A86, not (a.p2 == 0 || a.p2 == 0x0C)) ∷ (0x6700, is_empty a.body) ∷ (0x6A82, missing) ∷ [])
 
-module _ (K : List (List ℕ)) (c : Card) (seat : Seat) (t : Solo) (same : t.selected ≡ own_of K seat.selected) where
+module _ (K : List (List ℕ)) (c : Card) (session_state : SessionState) (t : Solo) (same : t.selected ≡ own_of K session_state.selected) where
   select_at : (a : ApduParts) (status : Option ℕ) (o p : Option App) → has_name a.body K ≡ true → bare o ≡ bare p
-      → solo_selected t (answer_unless status (select_done (record { selected = t.selected; load = None }) a p)) ≡ alone K (manager_command c seat (answer_unless status (select_done seat a o)))
+      → solo_selected t (answer_unless status (select_done (record { selected = t.selected; load = None }) a p)) ≡ alone K (manager_command c session_state (answer_unless status (select_done session_state a o)))
   select_at a (Some sw) o p h e = ap (λ (s : Option Selected). record { items = []; outcome = Reply [] sw; selected = s }) same
   select_at a None None None h e = ap (λ (s : Option Selected). record { items = []; outcome = Reply [] 0x9000; selected = s }) same
   select_at a None None (Some g) h e = absurd (cc e)
@@ -43,7 +43,7 @@ module _ (K : List (List ℕ)) (c : Card) (seat : Seat) (t : Solo) (same : t.sel
   missing_alike (Some f) (Some g) e = refl
 
   own_select : (a : ApduParts) → has_name a.body K ≡ true → MapsAgree K true c.apps t.map
-      → solo_selected t (select t.map (record { selected = t.selected; load = None }) a) ≡ alone K (manager_command c seat (select c.apps seat a))
+      → solo_selected t (select t.map (record { selected = t.selected; load = None }) a) ≡ alone K (manager_command c session_state (select c.apps session_state a))
   own_select a h agree =
       let o = lookup c.apps a.body in
       let p = lookup t.map a.body in
@@ -51,8 +51,8 @@ module _ (K : List (List ℕ)) (c : Card) (seat : Seat) (t : Solo) (same : t.sel
       ap (λ (b : Bool). solo_selected t (answer_unless (select_status a b) done)) (sym (missing_alike o p (agree a.body h)))
       ∙ select_at a (select_status a (is_none o)) o p h (agree a.body h)
 
-  own_passed : (a : ApduParts) (budget : ℕ) (o : Option Selected) → own_of K seat.selected ≡ own_of K o → selects_in K o ≡ true → MapsAgree K true c.apps t.map → ClosedPairs K (application_command c seat o a budget).pairs
-      → solo_passed t t.selected a budget ≡ alone K (application_command c seat o a budget)
+  own_passed : (a : ApduParts) (budget : ℕ) (o : Option Selected) → own_of K session_state.selected ≡ own_of K o → selects_in K o ≡ true → MapsAgree K true c.apps t.map → ClosedPairs K (application_command c session_state o a budget).pairs
+      → solo_passed t t.selected a budget ≡ alone K (application_command c session_state o a budget)
   own_passed a budget None e h agree closed = absurd (cc h)
   own_passed a budget (Some s) e h agree closed =
       let r : RunAlike K true (run c.apps s.name s.session a budget) (run t.map s.name s.session a budget) = run_alike K true c.apps t.map s.name s.session a budget closed agree h in
@@ -61,15 +61,15 @@ module _ (K : List (List ℕ)) (c : Card) (seat : Seat) (t : Solo) (same : t.sel
       ∙ ap (λ (o : Option Selected). record { items = (solo_ran s.name (run c.apps s.name s.session a budget)).items; outcome = (run c.apps s.name s.session a budget).outcome; selected = o })
       (sym (own_of_named K (record { name = s.name; session = (run c.apps s.name s.session a budget).session }) h)))
 
-  own_routed : (budget : ℕ) (r : Route) → routes_in K seat r ≡ true → MapsAgree K true c.apps t.map → ClosedPairs K (by_route c seat budget r).pairs
-      → solo_routed t budget r ≡ alone K (by_route c seat budget r)
+  own_routed : (budget : ℕ) (r : Route) → routes_in K session_state r ≡ true → MapsAgree K true c.apps t.map → ClosedPairs K (by_route c session_state budget r).pairs
+      → solo_routed t budget r ≡ alone K (by_route c session_state budget r)
   own_routed budget WrongLength h agree closed = absurd (cc h)
   own_routed budget WrongClass h agree closed = absurd (cc h)
   own_routed budget (ToSelect a) h agree closed = own_select a h agree
   own_routed budget (ToManager a) h agree closed = absurd (cc h)
-  own_routed budget (ToApplication a) h agree closed = own_passed a budget seat.selected refl h agree closed
+  own_routed budget (ToApplication a) h agree closed = own_passed a budget session_state.selected refl h agree closed
 
-  pub own_command : (bytes : List ℕ) (budget : ℕ) → routes_in K seat (route bytes) ≡ true → MapsAgree K true c.apps t.map → ClosedPairs K (command c seat bytes budget).pairs
-      → solo_command t bytes budget ≡ alone K (command c seat bytes budget)
+  pub own_command : (bytes : List ℕ) (budget : ℕ) → routes_in K session_state (route bytes) ≡ true → MapsAgree K true c.apps t.map → ClosedPairs K (command c session_state bytes budget).pairs
+      → solo_command t bytes budget ≡ alone K (command c session_state bytes budget)
   unfolding command solo_command
   own_command bytes budget h agree closed = own_routed budget (route bytes) h agree closed

@@ -3,7 +3,7 @@ use Rattle.std.specs.Prelude.{ℕ, List, length, Option}
 use Rattle.std.proofs.Common.{subst}
 use Rattle.std.proofs.Math.Seq.{take-length}
 use Rattle.mc_model_play.specs.DeckGrammar.{DeckLine}
-use Rattle.mc_model_play.specs.Play.{WornAt, Step, Possible, plays, start}
+use Rattle.mc_model_play.specs.Play.{FailedWrite, Step, Possible, plays, start}
 use Rattle.mc_model_play.specs.Laws.{HoldsOf, IsolationLaw}
 use Rattle.mc_family.proofs.FamilyFold.{isolated}
 use Rattle.mc_family.proofs.WholeLines.{whole_lines}
@@ -22,7 +22,7 @@ isolation_law ls m ws may n =
     }
 
 -- a whole play is its front of all its lines
-pub play_law : (ls : List (ℕ × DeckLine)) (m : List (List ℕ)) (ws : List (Option WornAt)) → Possible (start m) ls ws → HoldsOf m (plays (start m) ls ws)
+pub play_law : (ls : List (ℕ × DeckLine)) (m : List (List ℕ)) (ws : List (Option FailedWrite)) → Possible (start m) ls ws → HoldsOf m (plays (start m) ls ws)
 play_law ls m ws may =
     let steps = plays (start m) ls ws in
     subst (λ (us : List Step). HoldsOf m us) (take-length steps) (isolation_law ls m ws may (length steps))

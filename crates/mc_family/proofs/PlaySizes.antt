@@ -21,8 +21,8 @@ use Rattle.mc_model_device.specs.Layout.{is_record, no_root, bad_block, bad_reco
 use Rattle.mc_model_machine.specs.Chain.{Write, run}
 use Rattle.mc_model_card.specs.Items.{Change, Fixed, Created, Item, Plain, Atomic, moves, apps_after_change, apps_after_items, card_done, StopAt, at_stop, Site, BankItem, Piece, Blank, Note, Enter, write_items}
 use Rattle.mc_model_device.specs.Limits.{most_static, most_code, most_session, most_record}
-use Rattle.mc_model_card.specs.Manager.{Selected, Open, Seat, Route, WrongLength, WrongClass, ToSelect, ToManager, ToApplication, route, Accepted, Managed, Declines, Accepts, answer_unless, first_status, is_empty, p1p2, select_done, select_refusals, select, sizes_in, fits_limits, open_done, open_load, load_refusals, load_done, load_part, word_parts, is_complete, can_create, dir_in, is_taken, fresh, create_done, create, is_selected, delete_done, delete, manage, room_on}
-use Rattle.mc_model_play.specs.Play.{Armed, Live, Running, Unpowered, Muted, Warm, State, Cold, Hot, Step, is_done, command_with_rest, send, line_command, hit_of, WornAt, live_after, power_live, power_after, stopped_power, power_moves, line_after, card_line, hot_step, cold_step, step, play_at_power, plays, first_worn, start, select_bytes, delete_bytes, load_commands}
+use Rattle.mc_model_card.specs.Manager.{Selected, Open, SessionState, Route, WrongLength, WrongClass, ToSelect, ToManager, ToApplication, route, Accepted, Managed, Declines, Accepts, answer_unless, first_status, is_empty, p1p2, select_done, select_refusals, select, sizes_in, fits_limits, open_done, open_load, load_refusals, load_done, load_part, word_parts, is_complete, can_create, dir_in, is_taken, fresh, create_done, create, is_selected, delete_done, delete, manage, room_on}
+use Rattle.mc_model_play.specs.Play.{Armed, Live, Running, Unpowered, Muted, Warm, State, BeforePower, AfterPower, Step, is_done, command_with_rest, send, line_command, hit_of, FailedWrite, live_after, power_live, power_after, stopped_power, power_moves, line_after, card_line, after_power_step, before_power_step, step, play_at_power, plays, first_failure, start, select_bytes, delete_bytes, load_commands}
 use Rattle.mc_model_device.specs.PowerUp.{Base, OnCard, AtFault, base_after_migration, base_of}
 use Rattle.mc_model_card.specs.Commands.{Command, item_of, manager_command, application_command, by_route, command}
 use Rattle.mc_model_play.specs.Laws.{bytes_of}
@@ -32,7 +32,7 @@ use Rattle.mc_machine_laws.specs.Limited.{session_in}
 use Rattle.mc_family.specs.Begins.{PassedWell, RoutedWell, BehindDone, SentWell, TakenWell, LineWell, BeginWell, BeginsLaw}
 use Rattle.mc_machine_laws.proofs.AppSizes.{size_of, size_in, SameSizes, changed_sizes, WriteFits, moved_writes, Limited, are_limited, limited_inserted, ChangeFits, ItemsFit, limited_done, fit_whole, fit_append}
 use Rattle.mc_machine_laws.proofs.RunSizes.{RanFits, run_fits}
-use Rattle.mc_family.proofs.HotLines.{hot}
+use Rattle.mc_family.proofs.AfterPowerLines.{past_power}
 use Rattle.mc_model_device.proofs.MapLemmas.{same_name, name_is_itself, lookup_beside, lookup_left}
 use Rattle.mc_model_card.proofs.ItemLemmas.{done_append}
 use Rattle.mc_model_device.proofs.BoolLemmas.{or_else_none, no_value}
@@ -54,14 +54,14 @@ abbrev pub LoadFits : Option Open → Type 0
 LoadFits None = ⊤
 LoadFits (Some o) = (o.site.sizes.fixed ≤ most_static) × (o.site.sizes.init ≤ o.site.sizes.fixed)
 
-pub record SeatFits (m : List (List ℕ × App)) (seat : Seat) : Type 0 where
-  pub selected : SelectedFits m seat.selected
-  pub load : LoadFits seat.load
+pub record SessionStateFits (m : List (List ℕ × App)) (session_state : SessionState) : Type 0 where
+  pub selected : SelectedFits m session_state.selected
+  pub load : LoadFits session_state.load
 
 -- what a command leaves
 pub record CommandFits (m : List (List ℕ × App)) (r : Command) : Type 0 where
   pub items : ItemsFit m r.items
-  pub seat : SeatFits (apps_after_items m r.items) r.seat
+  pub session_state : SessionStateFits (apps_after_items m r.items) r.session_state
 
 -- the selection, if the application under its name is as before
 same_selected : (m d : List (List ℕ × App)) (s : Selected) → size_in d s.name ≡ size_in m s.name → SelectedFits m (Some s) → SelectedFits d (Some s)
@@ -90,30 +90,30 @@ blanks_done m w c s n (x ∷ cs) = blanks_done m w c s n cs
 
 -- ---- the manager
 
-module _ (c : Card) (seat : Seat) (fits : SeatFits c.apps seat) where
+module _ (c : Card) (session_state : SessionState) (fits : SessionStateFits c.apps session_state) where
   ManagedFits : Managed → Type 0
-  ManagedFits m = CommandFits c.apps (manager_command c seat m)
+  ManagedFits m = CommandFits c.apps (manager_command c session_state m)
 
   declined : (sw : ℕ) → ManagedFits (Declines sw)
   unfolding ManagedFits
-  declined sw = record { items = tt; seat = fits }
+  declined sw = record { items = tt; session_state = fits }
 
   answered_fits : (o : Option ℕ) (d : Accepted) → (o ≡ None → ManagedFits (Accepts d)) → ManagedFits (answer_unless o d)
   answered_fits (Some sw) d h = declined sw
   answered_fits None d h = h refl
 
-  select_by : (a : ApduParts) (o : Option App) → lookup c.apps a.body ≡ o → ManagedFits (Accepts (select_done seat a o))
+  select_by : (a : ApduParts) (o : Option App) → lookup c.apps a.body ≡ o → ManagedFits (Accepts (select_done session_state a o))
   unfolding ManagedFits
-  select_by a None e = record { items = tt; seat = fits }
+  select_by a None e = record { items = tt; session_state = fits }
   select_by a (Some app) e =
       let size : length (zeros app.session) ≡ app.session = length-replicate {A = ℕ} app.session 0 in
       record {
         items = tt;
-        seat = record { selected = subst (λ (o : Option App). AsManySession (size_of o) (length (zeros app.session))) (sym e) size; load = fits.load };
+        session_state = record { selected = subst (λ (o : Option App). AsManySession (size_of o) (length (zeros app.session))) (sym e) size; load = fits.load };
       }
 
-  select_fits : (a : ApduParts) → ManagedFits (select c.apps seat a)
-  select_fits a = answered_fits (first_status (select_refusals c.apps a)) (select_done seat a (lookup c.apps a.body)) (λ e. select_by a (lookup c.apps a.body) refl)
+  select_fits : (a : ApduParts) → ManagedFits (select c.apps session_state a)
+  select_fits a = answered_fits (first_status (select_refusals c.apps a)) (select_done session_state a (lookup c.apps a.body)) (λ e. select_by a (lookup c.apps a.body) refl)
 
   -- ---- OPEN
 
@@ -131,33 +131,33 @@ module _ (c : Card) (seat : Seat) (fits : SeatFits c.apps seat) where
       let to-a = and_parts a (nat_le s.fixed most_static) to-b.0 in
       (leb-true s.fixed most_static to-a.1, leb-true s.init s.fixed to-b.1)
 
-  opened_by : (a : ApduParts) (x y z v : Bool) → fits_limits (sizes_in a) ≡ z → ManagedFits (answer_unless (cond x (Some 0x6A86) (cond y (Some 0x6700) (cond (not z) (Some 0x6A80) (cond v (Some 0x6A84) None)))) (open_done (room_on c) seat a))
+  opened_by : (a : ApduParts) (x y z v : Bool) → fits_limits (sizes_in a) ≡ z → ManagedFits (answer_unless (cond x (Some 0x6A86) (cond y (Some 0x6700) (cond (not z) (Some 0x6A80) (cond v (Some 0x6A84) None)))) (open_done (room_on c) session_state a))
   unfolding ManagedFits
   opened_by a true y z v h = declined 0x6A86
   opened_by a false true z v h = declined 0x6700
   opened_by a false false false v h = declined 0x6A80
   opened_by a false false true true h = declined 0x6A84
-  opened_by a false false true false h = record { items = tt; seat = record { selected = fits.selected; load = limits_are (sizes_in a) h } }
+  opened_by a false false true false h = record { items = tt; session_state = record { selected = fits.selected; load = limits_are (sizes_in a) h } }
 
-  open_fits : (a : ApduParts) → ManagedFits (open_load (room_on c) c.apps seat a)
+  open_fits : (a : ApduParts) → ManagedFits (open_load (room_on c) c.apps session_state a)
   open_fits a =
       opened_by a (nat_lt 15 (p1p2 a)) (not (length a.body == 12)) (fits_limits (sizes_in a)) (nat_le 32 (length c.apps) || is_none (room_on c (sizes_in a))) refl
 
   -- ---- LOAD
 
-  loaded_by : (p : Part) (a : ApduParts) (o : Option Open) → seat.load ≡ o → ManagedFits (Accepts (load_done seat o p a))
+  loaded_by : (p : Part) (a : ApduParts) (o : Option Open) → session_state.load ≡ o → ManagedFits (Accepts (load_done session_state o p a))
   unfolding ManagedFits
-  loaded_by p a None e = record { items = tt; seat = fits }
+  loaded_by p a None e = record { items = tt; session_state = fits }
   loaded_by p a (Some o) e =
       let cs = word_parts _ a.body in
       record {
         items = plain_fit c.apps Plain o.site p cs;
-        seat = subst (λ (m : List (List ℕ × App)). SeatFits m (load_done seat (Some o) p a).seat) (sym (plain_done c.apps Plain o.site p cs))
+        session_state = subst (λ (m : List (List ℕ × App)). SessionStateFits m (load_done session_state (Some o) p a).session_state) (sym (plain_done c.apps Plain o.site p cs))
             (record { selected = fits.selected; load = subst LoadFits e fits.load });
       }
 
-  load_fits : (p : Part) (a : ApduParts) → ManagedFits (load_part p seat a)
-  load_fits p a = answered_fits (first_status (load_refusals seat.load p a)) (load_done seat seat.load p a) (λ e. loaded_by p a seat.load refl)
+  load_fits : (p : Part) (a : ApduParts) → ManagedFits (load_part p session_state a)
+  load_fits p a = answered_fits (first_status (load_refusals session_state.load p a)) (load_done session_state session_state.load p a) (λ e. loaded_by p a session_state.load refl)
 
   -- ---- CREATE
 
@@ -185,8 +185,8 @@ module _ (c : Card) (seat : Seat) (fits : SeatFits c.apps seat) where
           absurd (subst (λ (z : Option (ℕ × ℕ)). AsManySession z (length s.session)) gone h)
       by false is = same_selected c.apps (insert c.apps n a) s (ap size_of (lookup_beside c.apps n a s.name is)) h
 
-  created_by : (a : ApduParts) (o : Open) (r : Result (List ℕ) AidFault) (x y z v : Bool) → seat.load ≡ Some o → is_complete o ≡ z → is_taken c.apps r ≡ v
-      → ManagedFits (answer_unless (cond x (Some 0x6A86) (cond y (Some 0x6700) (cond (not z) (Some 0x6985) (cond (not (is_ok r)) (Some 0x6A80) (cond v (Some 0x6A89) None))))) (create_done seat (Some o) r))
+  created_by : (a : ApduParts) (o : Open) (r : Result (List ℕ) AidFault) (x y z v : Bool) → session_state.load ≡ Some o → is_complete o ≡ z → is_taken c.apps r ≡ v
+      → ManagedFits (answer_unless (cond x (Some 0x6A86) (cond y (Some 0x6700) (cond (not z) (Some 0x6985) (cond (not (is_ok r)) (Some 0x6A80) (cond v (Some 0x6A89) None))))) (create_done session_state (Some o) r))
   unfolding ManagedFits
   created_by a o r true y z v e h t = declined 0x6A86
   created_by a o r false true z v e h t = declined 0x6700
@@ -199,19 +199,19 @@ module _ (c : Card) (seat : Seat) (fits : SeatFits c.apps seat) where
       let small : length (fresh o).fixed ≤ most_static = fresh_small o h (subst LoadFits e fits.load) in
       record {
         items = blanks_fit c.apps _ ch o.site n cs small;
-        seat = subst (λ (m : List (List ℕ × App)). SeatFits m (record seat { load = None })) (sym (blanks_done c.apps _ ch o.site n cs))
-            (record { selected = beside_selected seat.selected n (fresh o) (no_value (lookup c.apps n) t) fits.selected; load = tt });
+        session_state = subst (λ (m : List (List ℕ × App)). SessionStateFits m (record session_state { load = None })) (sym (blanks_done c.apps _ ch o.site n cs))
+            (record { selected = beside_selected session_state.selected n (fresh o) (no_value (lookup c.apps n) t) fits.selected; load = tt });
       }
 
-  create_by : (a : ApduParts) (o : Option Open) (x y : Bool) → seat.load ≡ o
-      → ManagedFits (answer_unless (cond x (Some 0x6A86) (cond y (Some 0x6700) (cond (not (can_create o)) (Some 0x6985) (cond (not (is_ok (name_of (dir_in o)))) (Some 0x6A80) (cond (is_taken c.apps (name_of (dir_in o))) (Some 0x6A89) None))))) (create_done seat o (name_of (dir_in o))))
+  create_by : (a : ApduParts) (o : Option Open) (x y : Bool) → session_state.load ≡ o
+      → ManagedFits (answer_unless (cond x (Some 0x6A86) (cond y (Some 0x6700) (cond (not (can_create o)) (Some 0x6985) (cond (not (is_ok (name_of (dir_in o)))) (Some 0x6A80) (cond (is_taken c.apps (name_of (dir_in o))) (Some 0x6A89) None))))) (create_done session_state o (name_of (dir_in o))))
   create_by a None true y e = declined 0x6A86
   create_by a None false true e = declined 0x6700
   create_by a None false false e = declined 0x6985
   create_by a (Some o) x y e = created_by a o (name_of o.got.dir) x y (is_complete o) (is_taken c.apps (name_of o.got.dir)) e refl refl
 
-  create_fits : (a : ApduParts) → ManagedFits (create c.apps seat a)
-  create_fits a = create_by a seat.load (not (p1p2 a == 0)) (not (is_empty a.body)) refl
+  create_fits : (a : ApduParts) → ManagedFits (create c.apps session_state a)
+  create_fits a = create_by a session_state.load (not (p1p2 a == 0)) (not (is_empty a.body)) refl
 
   -- ---- DELETE
 
@@ -225,22 +225,22 @@ module _ (c : Card) (seat : Seat) (fits : SeatFits c.apps seat) where
           absurd (cc (sym same ∙ e))
       by false is = same_selected c.apps (remove c.apps n) s (ap size_of (lookup_left c.apps n s.name is)) h
 
-  deleted_by : (a : ApduParts) (x y z v : Bool) → is_selected seat.selected a.body ≡ v → ManagedFits (answer_unless (cond x (Some 0x6A86) (cond y (Some 0x6700) (cond z (Some 0x6A82) (cond v (Some 0x6985) None)))) (delete_done seat a))
+  deleted_by : (a : ApduParts) (x y z v : Bool) → is_selected session_state.selected a.body ≡ v → ManagedFits (answer_unless (cond x (Some 0x6A86) (cond y (Some 0x6700) (cond z (Some 0x6A82) (cond v (Some 0x6985) None)))) (delete_done session_state a))
   unfolding ManagedFits
   deleted_by a true y z v h = declined 0x6A86
   deleted_by a false true z v h = declined 0x6700
   deleted_by a false false true v h = declined 0x6A82
   deleted_by a false false false true h = declined 0x6985
-  deleted_by a false false false false h = record { items = (tt, tt); seat = record { selected = unselected seat.selected a.body h fits.selected; load = tt } }
+  deleted_by a false false false false h = record { items = (tt, tt); session_state = record { selected = unselected session_state.selected a.body h fits.selected; load = tt } }
 
-  delete_fits : (a : ApduParts) → ManagedFits (delete c.apps seat a)
-  delete_fits a = deleted_by a (not (p1p2 a == 0)) (is_empty a.body) (is_none (lookup c.apps a.body)) (is_selected seat.selected a.body) refl
+  delete_fits : (a : ApduParts) → ManagedFits (delete c.apps session_state a)
+  delete_fits a = deleted_by a (not (p1p2 a == 0)) (is_empty a.body) (is_none (lookup c.apps a.body)) (is_selected session_state.selected a.body) refl
 
   either : (b : Bool) (m n : Managed) → ManagedFits m → ManagedFits n → ManagedFits (cond b m n)
   either true m n h k = h
   either false m n h k = k
 
-  manage_fits : (a : ApduParts) → ManagedFits (manage (room_on c) c.apps seat a)
+  manage_fits : (a : ApduParts) → ManagedFits (manage (room_on c) c.apps session_state a)
   unfolding manage
   manage_fits a =
       either (a.ins == 0x12) _ _ (open_fits a) (
@@ -266,9 +266,9 @@ writes_same (w ∷ ws) m a =
     let rest : SameSizes d (apps_after_items d (write_items ws)) = writes_same ws d (moved_writes m d ws one a.1) in
     λ n. rest n ∙ one n
 
-passed_fits : (c : Card) (seat : Seat) (o : Option Selected) (a : ApduParts) (budget : ℕ) → seat.selected ≡ o → SeatFits c.apps seat → CommandFits c.apps (application_command c seat o a budget)
-passed_fits c seat None a budget e h = record { items = tt; seat = h }
-passed_fits c seat (Some s) a budget e h =
+passed_fits : (c : Card) (session_state : SessionState) (o : Option Selected) (a : ApduParts) (budget : ℕ) → session_state.selected ≡ o → SessionStateFits c.apps session_state → CommandFits c.apps (application_command c session_state o a budget)
+passed_fits c session_state None a budget e h = record { items = tt; session_state = h }
+passed_fits c session_state (Some s) a budget e h =
     let r = run c.apps s.name s.session a budget in
     let k : RanFits c.apps (length s.session) r = run_fits c.apps s.name s.session a budget in
     let same : SameSizes c.apps (apps_after_items c.apps (write_items r.writes)) = writes_same r.writes c.apps k.writes in
@@ -276,22 +276,22 @@ passed_fits c seat (Some s) a budget e h =
     let after : AsManySession (size_in (apps_after_items c.apps (write_items r.writes)) s.name) (length s.session) = subst (λ (z : Option (ℕ × ℕ)). AsManySession z (length s.session)) (sym (same s.name)) mine in
     record {
       items = writes_fit r.writes c.apps k.writes;
-      seat = record { selected = subst (AsManySession (size_in (apps_after_items c.apps (write_items r.writes)) s.name)) (sym k.session) after; load = h.load };
+      session_state = record { selected = subst (AsManySession (size_in (apps_after_items c.apps (write_items r.writes)) s.name)) (sym k.session) after; load = h.load };
     }
 
 -- ---- a command
 
-routed_fits : (c : Card) (seat : Seat) (budget : ℕ) (r : Route) → SeatFits c.apps seat → CommandFits c.apps (by_route c seat budget r)
+routed_fits : (c : Card) (session_state : SessionState) (budget : ℕ) (r : Route) → SessionStateFits c.apps session_state → CommandFits c.apps (by_route c session_state budget r)
 unfolding ManagedFits
-routed_fits c seat budget WrongLength h = record { items = tt; seat = h }
-routed_fits c seat budget WrongClass h = record { items = tt; seat = h }
-routed_fits c seat budget (ToSelect a) h = select_fits c seat h a
-routed_fits c seat budget (ToManager a) h = manage_fits c seat h a
-routed_fits c seat budget (ToApplication a) h = passed_fits c seat seat.selected a budget refl h
+routed_fits c session_state budget WrongLength h = record { items = tt; session_state = h }
+routed_fits c session_state budget WrongClass h = record { items = tt; session_state = h }
+routed_fits c session_state budget (ToSelect a) h = select_fits c session_state h a
+routed_fits c session_state budget (ToManager a) h = manage_fits c session_state h a
+routed_fits c session_state budget (ToApplication a) h = passed_fits c session_state session_state.selected a budget refl h
 
-pub command_fits : (c : Card) (seat : Seat) (b : List ℕ) (budget : ℕ) → SeatFits c.apps seat → CommandFits c.apps (command c seat b budget)
+pub command_fits : (c : Card) (session_state : SessionState) (b : List ℕ) (budget : ℕ) → SessionStateFits c.apps session_state → CommandFits c.apps (command c session_state b budget)
 unfolding command
-command_fits c seat b budget h = routed_fits c seat budget (route b) h
+command_fits c session_state b budget h = routed_fits c session_state budget (route b) h
 
 session_by : (o : Option App) (n : ℕ) → AsManySession (size_of o) n → n ≡ session_in o
 session_by None n h = absurd h
@@ -301,23 +301,23 @@ selected_well : (m : List (List ℕ × App)) (o : Option Selected) → Limited m
 selected_well m None l h = tt
 selected_well m (Some s) l h = record { limited = are_limited m l; session = session_by (lookup m s.name) (length s.session) h }
 
-route_well : (m : List (List ℕ × App)) (seat : Seat) (r : Route) → Limited m → SeatFits m seat → RoutedWell m seat r
-route_well m seat WrongLength l h = tt
-route_well m seat WrongClass l h = tt
-route_well m seat (ToSelect a) l h = tt
-route_well m seat (ToManager a) l h = tt
-route_well m seat (ToApplication a) l h = selected_well m seat.selected l h.selected
+route_well : (m : List (List ℕ × App)) (session_state : SessionState) (r : Route) → Limited m → SessionStateFits m session_state → RoutedWell m session_state r
+route_well m session_state WrongLength l h = tt
+route_well m session_state WrongClass l h = tt
+route_well m session_state (ToSelect a) l h = tt
+route_well m session_state (ToManager a) l h = tt
+route_well m session_state (ToApplication a) l h = selected_well m session_state.selected l h.selected
 
 behind : (b : Bool) (later : Type 0) → later → BehindDone b later
 behind true later h = h
 behind false later h = tt
 
-pub sent_well : (c : Card) (seat : Seat) (budget : ℕ) (bs : List (List ℕ)) → Limited c.apps → SeatFits c.apps seat → SentWell c seat budget bs
-sent_well c seat budget [] l h = tt
-sent_well c seat budget (b ∷ bs) l h =
-    let r = command c seat b budget in
-    let k : CommandFits c.apps r = command_fits c seat b budget h in
-    (route_well c.apps seat (route b) l h, behind (is_done r.outcome) (SentWell (card_done c r.items) r.seat budget bs) (sent_well (card_done c r.items) r.seat budget bs (limited_done r.items c.apps l k.items) k.seat))
+pub sent_well : (c : Card) (session_state : SessionState) (budget : ℕ) (bs : List (List ℕ)) → Limited c.apps → SessionStateFits c.apps session_state → SentWell c session_state budget bs
+sent_well c session_state budget [] l h = tt
+sent_well c session_state budget (b ∷ bs) l h =
+    let r = command c session_state b budget in
+    let k : CommandFits c.apps r = command_fits c session_state b budget h in
+    (route_well c.apps session_state (route b) l h, behind (is_done r.outcome) (SentWell (card_done c r.items) r.session_state budget bs) (sent_well (card_done c r.items) r.session_state budget bs (limited_done r.items c.apps l k.items) k.session_state))
 
 -- ---- the commands of a line
 
@@ -325,24 +325,24 @@ sent_on_fits : (m : List (List ℕ × App)) (b : Bool) (r rest : Command) → Co
 sent_on_fits m true r rest h k =
     record {
       items = fit_append r.items rest.items m h.items k.items;
-      seat = subst (λ (d : List (List ℕ × App)). SeatFits d rest.seat) (sym (done_append r.items rest.items m)) k.seat;
+      session_state = subst (λ (d : List (List ℕ × App)). SessionStateFits d rest.session_state) (sym (done_append r.items rest.items m)) k.session_state;
     }
 sent_on_fits m false r rest h k = h
 
-send_fits : (c : Card) (seat : Seat) (budget : ℕ) (bs : List (List ℕ)) → SeatFits c.apps seat → CommandFits c.apps (send c seat budget bs)
+send_fits : (c : Card) (session_state : SessionState) (budget : ℕ) (bs : List (List ℕ)) → SessionStateFits c.apps session_state → CommandFits c.apps (send c session_state budget bs)
 unfolding send
-send_fits c seat budget [] h = record { items = tt; seat = h }
-send_fits c seat budget (b ∷ bs) h =
-    let r = command c seat b budget in
-    let k : CommandFits c.apps r = command_fits c seat b budget h in
-    sent_on_fits c.apps (is_done r.outcome) r (send (card_done c r.items) r.seat budget bs) k (send_fits (card_done c r.items) r.seat budget bs k.seat)
+send_fits c session_state budget [] h = record { items = tt; session_state = h }
+send_fits c session_state budget (b ∷ bs) h =
+    let r = command c session_state b budget in
+    let k : CommandFits c.apps r = command_fits c session_state b budget h in
+    sent_on_fits c.apps (is_done r.outcome) r (send (card_done c r.items) r.session_state budget bs) k (send_fits (card_done c r.items) r.session_state budget bs k.session_state)
 
-line_fits : (c : Card) (seat : Seat) (budget : ℕ) (l : DeckLine) → SeatFits c.apps seat → CommandFits c.apps (line_command c seat budget l)
-line_fits c seat budget (line.Select n) h = command_fits c seat (select_bytes n) budget h
-line_fits c seat budget (line.Delete n) h = command_fits c seat (delete_bytes n) budget h
-line_fits c seat budget (line.Apdu b) h = command_fits c seat b budget h
-line_fits c seat budget (line.Load u fixed session) h = send_fits c seat budget (load_commands u fixed session) h
-line_fits c seat budget l h = record { items = tt; seat = h }
+line_fits : (c : Card) (session_state : SessionState) (budget : ℕ) (l : DeckLine) → SessionStateFits c.apps session_state → CommandFits c.apps (line_command c session_state budget l)
+line_fits c session_state budget (line.Select n) h = command_fits c session_state (select_bytes n) budget h
+line_fits c session_state budget (line.Delete n) h = command_fits c session_state (delete_bytes n) budget h
+line_fits c session_state budget (line.Apdu b) h = command_fits c session_state b budget h
+line_fits c session_state budget (line.Load u fixed session) h = send_fits c session_state budget (load_commands u fixed session) h
+line_fits c session_state budget l h = record { items = tt; session_state = h }
 
 -- ---- the card that the first power line finds
 
@@ -403,7 +403,7 @@ means_limited m h =
 -- ---- lines
 
 abbrev pub LiveFits : List (List ℕ × App) → Live → Type 0
-LiveFits m (Running seat) = SeatFits m seat
+LiveFits m (Running session_state) = SessionStateFits m session_state
 LiveFits m Unpowered = ⊤
 LiveFits m Muted = ⊤
 
@@ -412,8 +412,8 @@ BaseFits (OnCard c) v = Limited c.apps × LiveFits c.apps v
 BaseFits (AtFault cause p) v = ⊤
 
 abbrev pub StateFits : State → Type 0
-StateFits (Cold m b a) = ⊤
-StateFits (Hot s) = BaseFits s.base s.live
+StateFits (BeforePower m b a) = ⊤
+StateFits (AfterPower s) = BaseFits s.base s.live
 
 pub record LineFits (u : Step) : Type 0 where
   pub well : LineWell u.before (bytes_of u.line)
@@ -444,42 +444,42 @@ base_cond : (t : Bool) (b : Base) (v : Live) → BaseFits b v → BaseFits (cond
 base_cond true b v h = base_migrated b v h
 base_cond false b v h = h
 
-stopped_fits : (s : Warm) (t : StopAt) (b : Bool) → BaseFits s.base Unpowered → StateFits (Hot (stopped_power s t b))
+stopped_fits : (s : Warm) (t : StopAt) (b : Bool) → BaseFits s.base Unpowered → StateFits (AfterPower (stopped_power s t b))
 stopped_fits s t true h = base_stopped s.base t.kind h
 stopped_fits s t false h = base_cond _ s.base (live_after t.kind) (base_stopped s.base t.kind h)
 
-power_fits : (s : Warm) (t : Option StopAt) → BaseFits s.base Unpowered → StateFits (Hot (power_after s t))
+power_fits : (s : Warm) (t : Option StopAt) → BaseFits s.base Unpowered → StateFits (AfterPower (power_after s t))
 power_fits s None h = base_powered s.base h
 power_fits s (Some t) h = stopped_fits s t (nat_le t.at s.owed) h
 
 -- lines of a running card
-after_fits : (s : Warm) (c : Card) (r : Command) (t : Option StopAt) → Limited c.apps → CommandFits c.apps r → StateFits (Hot (line_after s c r t))
-after_fits s c r None l k = (limited_done r.items c.apps l k.items, k.seat)
+after_fits : (s : Warm) (c : Card) (r : Command) (t : Option StopAt) → Limited c.apps → CommandFits c.apps r → StateFits (AfterPower (line_after s c r t))
+after_fits s c r None l k = (limited_done r.items c.apps l k.items, k.session_state)
 after_fits s c r (Some t) l k = (limited_done (at_stop r.items t.at t.left).whole c.apps l (fit_whole r.items c.apps t.at t.left k.items), after_stop _ t.kind)
 
-card_fits : (n : ℕ) (l : DeckLine) (b : Base) (o : ℕ) (j : Journal) (v : Live) (g : ℕ) (a : Armed) (w : Option WornAt) → BaseFits b v → LineFits (card_line n l (hot b o j v g a) v b w)
-card_fits n l (OnCard c) o j (Running seat) g a w h =
-    let r = line_command c seat g l in
-    let s = hot (OnCard c) o j (Running seat) g a in
-    record { well = sent_well c seat g (bytes_of l) h.0 h.1; next = after_fits s c r (hit_of a (moves r.items) w) h.0 (line_fits c seat g l h.1) }
-card_fits n l (AtFault cause p) o j (Running seat) g a w h = record { well = tt; next = tt }
+card_fits : (n : ℕ) (l : DeckLine) (b : Base) (o : ℕ) (j : Journal) (v : Live) (g : ℕ) (a : Armed) (w : Option FailedWrite) → BaseFits b v → LineFits (card_line n l (past_power b o j v g a) v b w)
+card_fits n l (OnCard c) o j (Running session_state) g a w h =
+    let r = line_command c session_state g l in
+    let s = past_power (OnCard c) o j (Running session_state) g a in
+    record { well = sent_well c session_state g (bytes_of l) h.0 h.1; next = after_fits s c r (hit_of a (moves r.items) w) h.0 (line_fits c session_state g l h.1) }
+card_fits n l (AtFault cause p) o j (Running session_state) g a w h = record { well = tt; next = tt }
 card_fits n l b o j Unpowered g a w h = record { well = tt; next = h }
 card_fits n l b o j Muted g a w h = record { well = tt; next = h }
 
 -- a line that has no commands
 none_taken : (v : Live) (b : Base) (g : ℕ) → TakenWell v b g []
-none_taken (Running seat) (OnCard c) g = tt
-none_taken (Running seat) (AtFault cause p) g = tt
+none_taken (Running session_state) (OnCard c) g = tt
+none_taken (Running session_state) (AtFault cause p) g = tt
 none_taken Unpowered b g = tt
 none_taken Muted b g = tt
 
-hot_fits : (n : ℕ) (l : DeckLine) (s : Warm) (w : Option WornAt) → BaseFits s.base s.live → LineFits (hot_step n l s w)
-hot_fits n line.Power s w h = record { well = none_taken s.live s.base s.budget; next = power_fits s (hit_of s.armed (power_moves s) w) (base_limited s.base s.live h) }
-hot_fits n (line.Load u fixed session) s w h = card_fits n (line.Load u fixed session) s.base s.owed s.by s.live s.budget s.armed w h
-hot_fits n (line.Select x) s w h = card_fits n (line.Select x) s.base s.owed s.by s.live s.budget s.armed w h
-hot_fits n (line.Delete x) s w h = card_fits n (line.Delete x) s.base s.owed s.by s.live s.budget s.armed w h
-hot_fits n (line.Apdu x) s w h = card_fits n (line.Apdu x) s.base s.owed s.by s.live s.budget s.armed w h
-hot_fits n _ s w h = record { well = none_taken s.live s.base s.budget; next = h }
+after_power_fits : (n : ℕ) (l : DeckLine) (s : Warm) (w : Option FailedWrite) → BaseFits s.base s.live → LineFits (after_power_step n l s w)
+after_power_fits n line.Power s w h = record { well = none_taken s.live s.base s.budget; next = power_fits s (hit_of s.armed (power_moves s) w) (base_limited s.base s.live h) }
+after_power_fits n (line.Load u fixed session) s w h = card_fits n (line.Load u fixed session) s.base s.owed s.by s.live s.budget s.armed w h
+after_power_fits n (line.Select x) s w h = card_fits n (line.Select x) s.base s.owed s.by s.live s.budget s.armed w h
+after_power_fits n (line.Delete x) s w h = card_fits n (line.Delete x) s.base s.owed s.by s.live s.budget s.armed w h
+after_power_fits n (line.Apdu x) s w h = card_fits n (line.Apdu x) s.base s.owed s.by s.live s.budget s.armed w h
+after_power_fits n _ s w h = record { well = none_taken s.live s.base s.budget; next = h }
 
 found_fits : (m : List (List ℕ)) (f : Option (Cause × ℕ)) → fault m ≡ f → BaseFits (base_of f m) Unpowered
 found_fits m None h = (means_limited m h, tt)
@@ -489,21 +489,21 @@ warmed_fits : (m : List (List ℕ)) (b : ℕ) (a : Armed) → BaseFits (play_at_
 unfolding play_at_power
 warmed_fits m b a = found_fits m (fault m) refl
 
-cold_fits : (n : ℕ) (l : DeckLine) (m : List (List ℕ)) (b : ℕ) (a : Armed) (w : Option WornAt) → LineFits (cold_step n l m b a w)
-cold_fits n line.Power m b a w = record { well = tt; next = power_fits (play_at_power m b a) (hit_of a (power_moves (play_at_power m b a)) w) (warmed_fits m b a) }
-cold_fits n _ m b a w = record { well = tt; next = tt }
+before_power_fits : (n : ℕ) (l : DeckLine) (m : List (List ℕ)) (b : ℕ) (a : Armed) (w : Option FailedWrite) → LineFits (before_power_step n l m b a w)
+before_power_fits n line.Power m b a w = record { well = tt; next = power_fits (play_at_power m b a) (hit_of a (power_moves (play_at_power m b a)) w) (warmed_fits m b a) }
+before_power_fits n _ m b a w = record { well = tt; next = tt }
 
-pub step_fits : (z : State) (l : ℕ × DeckLine) (w : Option WornAt) → StateFits z → LineFits (step z l w)
+pub step_fits : (z : State) (l : ℕ × DeckLine) (w : Option FailedWrite) → StateFits z → LineFits (step z l w)
 unfolding step
-step_fits (Cold m b a) l w h = cold_fits l.0 l.1 m b a w
-step_fits (Hot s) l w h = hot_fits l.0 l.1 s w h
+step_fits (BeforePower m b a) l w h = before_power_fits l.0 l.1 m b a w
+step_fits (AfterPower s) l w h = after_power_fits l.0 l.1 s w h
 
-begin_from : (z : State) (ls : List (ℕ × DeckLine)) (ws : List (Option WornAt)) → StateFits z → BeginWell (plays z ls ws)
+begin_from : (z : State) (ls : List (ℕ × DeckLine)) (ws : List (Option FailedWrite)) → StateFits z → BeginWell (plays z ls ws)
 unfolding plays
 begin_from z [] ws h = tt
 begin_from z (l ∷ ls) ws h =
-    let u : Step = step z l (first_worn ws) in
-    let k : LineFits u = step_fits z l (first_worn ws) h in
+    let u : Step = step z l (first_failure ws) in
+    let k : LineFits u = step_fits z l (first_failure ws) h in
     (k.well, begin_from u.after ls (drop 1 ws) k.next)
 
 -- the law of every play

@@ -12,16 +12,16 @@ use Rattle.mc_model_device.specs.Stopped.{cost, stands}
 use Rattle.mc_model_device.specs.Card.{App, Card}
 use Rattle.mc_model_device.specs.Layout.{fault}
 use Rattle.mc_model_card.specs.Items.{Item, Plain, Atomic, weight, moves, StopAt, Stopped, at_stop, in_flight, with_item}
-use Rattle.mc_model_play.specs.Play.{Armed, Live, Running, Unpowered, Muted, Warm, State, Cold, Hot, LineResult, Step, command_step, line_command, line_after, line_says, hit_of, result_of_stop, WornAt, step, hot_step, cold_step, card_line, power_step, stopped_power, power_moves, play_at_power, plays, first_worn, start, static_of, dump_result, without_card, quiet, formatted_image}
+use Rattle.mc_model_play.specs.Play.{Armed, Live, Running, Unpowered, Muted, Warm, State, BeforePower, AfterPower, LineResult, Step, command_step, line_command, line_after, line_says, hit_of, result_of_stop, FailedWrite, step, after_power_step, before_power_step, card_line, power_step, stopped_power, power_moves, play_at_power, plays, first_failure, start, static_of, dump_result, without_card, quiet, formatted_image}
 use Rattle.mc_model_device.specs.PowerUp.{Base, OnCard, AtFault, base_after_migration, migration, base_of}
 use Rattle.mc_model_card.specs.Commands.{Command}
-use Rattle.mc_model_play.specs.ReadyAgain.{is_found, is_cold, is_poke, sure_after, PowerIsReady, ReadyLine, ReadyAgain, FitsJournal, AllFitJournal}
+use Rattle.mc_model_play.specs.ReadyAgain.{is_found, is_before_power, is_poke, sure_after, PowerIsReady, ReadyLine, ReadyAgain, FitsJournal, AllFitJournal}
 use Rattle.mc_model_play.specs.DeckGrammar.{DeckLine}
 use Rattle.mc_model_play.specs.DeckGrammar as line
 use Rattle.mc_model_device.proofs.LookLemmas.{owed_few}
 use Rattle.mc_model_device.specs.Device.{IsImage}
 use Rattle.mc_family.proofs.FormattedImage.{formatted_sound, formatted_size}
-use Rattle.mc_family.proofs.HotLines.{hot}
+use Rattle.mc_family.proofs.AfterPowerLines.{past_power}
 use Rattle.mc_model_device.proofs.BoolLemmas.{cond_most}
 
 -- ---- the writes that recovery may have to make
@@ -64,7 +64,7 @@ abbrev SureBase : Bool → Base → Type 0
 SureBase true b = IsCardBase b
 SureBase false b = ⊤
 
-record SureCold (sure : Bool) (m : List (List ℕ)) : Type 0 where
+record SureBeforePower (sure : Bool) (m : List (List ℕ)) : Type 0 where
   low : 256 ≤ length m
   high : length m ≤ 16384
   sound : SureImage sure m
@@ -74,8 +74,8 @@ record SureWarm (sure : Bool) (s : Warm) : Type 0 where
   base : SureBase sure s.base
 
 abbrev Sure : Bool → State → Type 0
-Sure sure (Cold m b a) = SureCold sure m
-Sure sure (Hot s) = SureWarm sure s
+Sure sure (BeforePower m b a) = SureBeforePower sure m
+Sure sure (AfterPower s) = SureWarm sure s
 
 record KeepsReady (sure : Bool) (t : Step) : Type 0 where
   says : ReadyLine sure t
@@ -89,8 +89,8 @@ says_ready false t h = tt
 still_sure : (found sure : Bool) (s : Warm) → found ≡ false → SureWarm sure s → SureWarm (found || sure) s
 still_sure found sure s e h = subst (λ (b : Bool). SureWarm (b || sure) s) (sym e) h
 
-still_cold : (found sure : Bool) (m : List (List ℕ)) → found ≡ false → SureCold sure m → SureCold (found || sure) m
-still_cold found sure m e h = subst (λ (b : Bool). SureCold (b || sure) m) (sym e) h
+still_before_power : (found sure : Bool) (m : List (List ℕ)) → found ≡ false → SureBeforePower sure m → SureBeforePower (found || sure) m
+still_before_power found sure m e h = subst (λ (b : Bool). SureBeforePower (b || sure) m) (sym e) h
 
 -- ---- power lines
 
@@ -116,9 +116,9 @@ migration_most (OnCard c) = cond_most (c.layout == 1) 6 0 6 (omega arith) (omega
 migration_most (AtFault cause p) = omega arith
 
 -- a power line that no stop hits
-power_none : (sure : Bool) (n : ℕ) (before : State) (b : Base) (o : ℕ) (j : Journal) (v : Live) (g : ℕ) (a : Armed) → SureWarm sure (hot b o j v g a) → KeepsReady sure (power_step n before (hot b o j v g a) None)
+power_none : (sure : Bool) (n : ℕ) (before : State) (b : Base) (o : ℕ) (j : Journal) (v : Live) (g : ℕ) (a : Armed) → SureWarm sure (past_power b o j v g a) → KeepsReady sure (power_step n before (past_power b o j v g a) None)
 power_none sure n before (OnCard c) o j v g a h =
-    let t = power_step n before (hot (OnCard c) o j v g a) None in
+    let t = power_step n before (past_power (OnCard c) o j v g a) None in
     let most : migration (OnCard c) ≤ 6 = migration_most (OnCard c) in
     let few : o ≤ 65 = h.owed in
     record { says = says_ready sure t (omega (arith, most, few)); next = record { owed = omega arith; base = tt } }
@@ -141,43 +141,43 @@ card_sure false c = tt
 
 -- a line other than power, whose result finds no card
 module _ (sure : Bool) (n : ℕ) (l : DeckLine) (other : (o : Option StopAt) (r : Option LineResult) → PowerIsReady l o r) (unpoked : is_poke l ≡ false) where
-  unspoiled : (before : State) → (not (is_poke l && is_cold before) && sure) ≡ sure
-  unspoiled before = ap (λ (b : Bool). not (b && is_cold before) && sure) unpoked
+  unspoiled : (before : State) → (not (is_poke l && is_before_power before) && sure) ≡ sure
+  unspoiled before = ap (λ (b : Bool). not (b && is_before_power before) && sure) unpoked
 
-  sure_still : (before : State) (found : Bool) → found ≡ false → (found || (not (is_poke l && is_cold before) && sure)) ≡ sure
-  sure_still before found e = ap (λ (b : Bool). b || (not (is_poke l && is_cold before) && sure)) e ∙ unspoiled before
+  sure_still : (before : State) (found : Bool) → found ≡ false → (found || (not (is_poke l && is_before_power before) && sure)) ≡ sure
+  sure_still before found e = ap (λ (b : Bool). b || (not (is_poke l && is_before_power before) && sure)) e ∙ unspoiled before
 
   command_sure : (s : Warm) (c : Card) (r : Command) (t : Option StopAt) → AllByRecursion FitsJournal r.items → SureWarm sure s → KeepsReady sure (command_step n l s c r t)
   command_sure s c r None fits h =
       record {
         says = says_ready sure (command_step n l s c r None) (other None (Some (line_says r None)));
-        next = subst (λ (b : Bool). SureWarm b (line_after s c r None)) (sym (sure_still (Hot s) false refl)) (record { owed = h.owed; base = card_sure sure _ });
+        next = subst (λ (b : Bool). SureWarm b (line_after s c r None)) (sym (sure_still (AfterPower s) false refl)) (record { owed = h.owed; base = card_sure sure _ });
       }
   command_sure s c r (Some t) fits h =
       record {
         says = says_ready sure (command_step n l s c r (Some t)) (other (Some t) (Some (line_says r (Some t))));
-        next = subst (λ (b : Bool). SureWarm b (line_after s c r (Some t))) (sym (sure_still (Hot s) (is_found (Some (result_of_stop t t.kind))) (stop_not_found t t.kind)))
+        next = subst (λ (b : Bool). SureWarm b (line_after s c r (Some t))) (sym (sure_still (AfterPower s) (is_found (Some (result_of_stop t t.kind))) (stop_not_found t t.kind)))
             (record { owed = at_stop_owed r.items t.at t.left fits; base = card_sure sure _ });
       }
 
   -- a line that changes neither the base nor the writes that recovery still has to make
-  quiet_sure : (s t : Warm) (r : Option LineResult) → is_found r ≡ false → t.base ≡ s.base → t.owed ≡ s.owed → SureWarm sure s → KeepsReady sure (quiet n l (Hot s) r (Hot t))
+  quiet_sure : (s t : Warm) (r : Option LineResult) → is_found r ≡ false → t.base ≡ s.base → t.owed ≡ s.owed → SureWarm sure s → KeepsReady sure (quiet n l (AfterPower s) r (AfterPower t))
   quiet_sure s t r e b o h =
       record {
-        says = says_ready sure (quiet n l (Hot s) r (Hot t)) (other None r);
-        next = subst (λ (b : Bool). SureWarm b t) (sym (sure_still (Hot s) (is_found r) e)) (record { owed = subst (λ (k : ℕ). k ≤ 65) (sym o) h.owed; base = subst (λ (x : Base). SureBase sure x) (sym b) h.base });
+        says = says_ready sure (quiet n l (AfterPower s) r (AfterPower t)) (other None r);
+        next = subst (λ (b : Bool). SureWarm b t) (sym (sure_still (AfterPower s) (is_found r) e)) (record { owed = subst (λ (k : ℕ). k ≤ 65) (sym o) h.owed; base = subst (λ (x : Base). SureBase sure x) (sym b) h.base });
       }
 
   -- a line before the first power line that leaves the image
-  cold_sure : (m : List (List ℕ)) (b c : ℕ) (a d : Armed) (r : Option LineResult) → is_found r ≡ false → SureCold sure m → KeepsReady sure (quiet n l (Cold m b a) r (Cold m c d))
-  cold_sure m b c a d r e h =
+  before_power_sure : (m : List (List ℕ)) (b c : ℕ) (a d : Armed) (r : Option LineResult) → is_found r ≡ false → SureBeforePower sure m → KeepsReady sure (quiet n l (BeforePower m b a) r (BeforePower m c d))
+  before_power_sure m b c a d r e h =
       record {
-        says = says_ready sure (quiet n l (Cold m b a) r (Cold m c d)) (other None r);
-        next = subst (λ (b : Bool). SureCold b m) (sym (sure_still (Cold m b a) (is_found r) e)) h;
+        says = says_ready sure (quiet n l (BeforePower m b a) r (BeforePower m c d)) (other None r);
+        next = subst (λ (b : Bool). SureBeforePower b m) (sym (sure_still (BeforePower m b a) (is_found r) e)) h;
       }
 
 without_not_found : (v : Live) → is_found (Some (without_card v)) ≡ false
-without_not_found (Running seat) = refl
+without_not_found (Running session_state) = refl
 without_not_found Unpowered = refl
 without_not_found Muted = refl
 
@@ -186,89 +186,89 @@ static_not_found None = refl
 static_not_found (Some a) = refl
 
 dumped_not_found : (v : Live) (b : Base) (x : List ℕ) → is_found (Some (dump_result v b x)) ≡ false
-dumped_not_found (Running seat) (OnCard c) x = static_not_found (lookup c.apps x)
-dumped_not_found (Running seat) (AtFault cause p) x = refl
+dumped_not_found (Running session_state) (OnCard c) x = static_not_found (lookup c.apps x)
+dumped_not_found (Running session_state) (AtFault cause p) x = refl
 dumped_not_found Unpowered b x = refl
 dumped_not_found Muted b x = refl
 
 card_line_sure : (sure : Bool) (n : ℕ) (l : DeckLine) → ((o : Option StopAt) (r : Option LineResult) → PowerIsReady l o r) → is_poke l ≡ false
-    → (b : Base) (o : ℕ) (j : Journal) (v : Live) (g : ℕ) (a : Armed) (w : Option WornAt) → let s = hot b o j v g a in AllByRecursion FitsJournal (card_line n l s v b w).items → SureWarm sure s → KeepsReady sure (card_line n l s v b w)
-card_line_sure sure n l other unpoked (OnCard c) o j (Running seat) g a w fits h =
-    let s = hot (OnCard c) o j (Running seat) g a in
-    let r = line_command c seat g l in
+    → (b : Base) (o : ℕ) (j : Journal) (v : Live) (g : ℕ) (a : Armed) (w : Option FailedWrite) → let s = past_power b o j v g a in AllByRecursion FitsJournal (card_line n l s v b w).items → SureWarm sure s → KeepsReady sure (card_line n l s v b w)
+card_line_sure sure n l other unpoked (OnCard c) o j (Running session_state) g a w fits h =
+    let s = past_power (OnCard c) o j (Running session_state) g a in
+    let r = line_command c session_state g l in
     command_sure sure n l other unpoked s c r (hit_of a (moves r.items) w) fits h
-card_line_sure sure n l other unpoked (AtFault cause p) o j (Running seat) g a w fits h =
-    quiet_sure sure n l other unpoked (hot (AtFault cause p) o j (Running seat) g a) _ (Some (without_card (Running seat))) refl refl refl h
+card_line_sure sure n l other unpoked (AtFault cause p) o j (Running session_state) g a w fits h =
+    quiet_sure sure n l other unpoked (past_power (AtFault cause p) o j (Running session_state) g a) _ (Some (without_card (Running session_state))) refl refl refl h
 card_line_sure sure n l other unpoked b o j Unpowered g a w fits h =
-    quiet_sure sure n l other unpoked (hot b o j Unpowered g a) _ (Some (without_card Unpowered)) refl refl refl h
+    quiet_sure sure n l other unpoked (past_power b o j Unpowered g a) _ (Some (without_card Unpowered)) refl refl refl h
 card_line_sure sure n l other unpoked b o j Muted g a w fits h =
-    quiet_sure sure n l other unpoked (hot b o j Muted g a) _ (Some (without_card Muted)) refl refl refl h
+    quiet_sure sure n l other unpoked (past_power b o j Muted g a) _ (Some (without_card Muted)) refl refl refl h
 
 -- ---- every line
 
-hot_sure : (sure : Bool) (n : ℕ) (l : DeckLine) (s : Warm) (w : Option WornAt) → AllByRecursion FitsJournal (hot_step n l s w).items → SureWarm sure s → KeepsReady sure (hot_step n l s w)
-hot_sure sure n line.Format s w fits h = quiet_sure sure n line.Format (λ o r. tt) refl s s None refl refl refl h
-hot_sure sure n (line.Poke at x) s w fits h = record { says = says_ready sure (quiet n (line.Poke at x) (Hot s) None (Hot s)) tt; next = h }
-hot_sure sure n line.Named s w fits h = quiet_sure sure n line.Named (λ o r. tt) refl s s None refl refl refl h
-hot_sure sure n (line.Budget b) s w fits h = quiet_sure sure n (line.Budget b) (λ o r. tt) refl s (record s { budget = b }) None refl refl refl h
-hot_sure sure n (line.Cut k x) s w fits h = quiet_sure sure n (line.Cut k x) (λ o r. tt) refl s _ None refl refl refl h
-hot_sure sure n (line.Fail k) s w fits h = quiet_sure sure n (line.Fail k) (λ o r. tt) refl s _ None refl refl refl h
-hot_sure sure n (line.Dump x) s w fits h = quiet_sure sure n (line.Dump x) (λ o r. tt) refl s s (Some (dump_result s.live s.base x)) (dumped_not_found s.live s.base x) refl refl h
-hot_sure sure n line.Power s w fits h = power_sure sure n (Hot s) s (hit_of s.armed (power_moves s) w) h
-hot_sure sure n (line.Load u fixed session) s w fits h = card_line_sure sure n (line.Load u fixed session) (λ o r. tt) refl s.base s.owed s.by s.live s.budget s.armed w fits h
-hot_sure sure n (line.Select x) s w fits h = card_line_sure sure n (line.Select x) (λ o r. tt) refl s.base s.owed s.by s.live s.budget s.armed w fits h
-hot_sure sure n (line.Delete x) s w fits h = card_line_sure sure n (line.Delete x) (λ o r. tt) refl s.base s.owed s.by s.live s.budget s.armed w fits h
-hot_sure sure n (line.Apdu x) s w fits h = card_line_sure sure n (line.Apdu x) (λ o r. tt) refl s.base s.owed s.by s.live s.budget s.armed w fits h
+after_power_sure : (sure : Bool) (n : ℕ) (l : DeckLine) (s : Warm) (w : Option FailedWrite) → AllByRecursion FitsJournal (after_power_step n l s w).items → SureWarm sure s → KeepsReady sure (after_power_step n l s w)
+after_power_sure sure n line.Format s w fits h = quiet_sure sure n line.Format (λ o r. tt) refl s s None refl refl refl h
+after_power_sure sure n (line.Poke at x) s w fits h = record { says = says_ready sure (quiet n (line.Poke at x) (AfterPower s) None (AfterPower s)) tt; next = h }
+after_power_sure sure n line.Named s w fits h = quiet_sure sure n line.Named (λ o r. tt) refl s s None refl refl refl h
+after_power_sure sure n (line.Budget b) s w fits h = quiet_sure sure n (line.Budget b) (λ o r. tt) refl s (record s { budget = b }) None refl refl refl h
+after_power_sure sure n (line.Cut k x) s w fits h = quiet_sure sure n (line.Cut k x) (λ o r. tt) refl s _ None refl refl refl h
+after_power_sure sure n (line.Fail k) s w fits h = quiet_sure sure n (line.Fail k) (λ o r. tt) refl s _ None refl refl refl h
+after_power_sure sure n (line.Dump x) s w fits h = quiet_sure sure n (line.Dump x) (λ o r. tt) refl s s (Some (dump_result s.live s.base x)) (dumped_not_found s.live s.base x) refl refl h
+after_power_sure sure n line.Power s w fits h = power_sure sure n (AfterPower s) s (hit_of s.armed (power_moves s) w) h
+after_power_sure sure n (line.Load u fixed session) s w fits h = card_line_sure sure n (line.Load u fixed session) (λ o r. tt) refl s.base s.owed s.by s.live s.budget s.armed w fits h
+after_power_sure sure n (line.Select x) s w fits h = card_line_sure sure n (line.Select x) (λ o r. tt) refl s.base s.owed s.by s.live s.budget s.armed w fits h
+after_power_sure sure n (line.Delete x) s w fits h = card_line_sure sure n (line.Delete x) (λ o r. tt) refl s.base s.owed s.by s.live s.budget s.armed w fits h
+after_power_sure sure n (line.Apdu x) s w fits h = card_line_sure sure n (line.Apdu x) (λ o r. tt) refl s.base s.owed s.by s.live s.budget s.armed w fits h
 
 -- what the first power line finds
 based_sure : (sure : Bool) (m : List (List ℕ)) → SureImage sure m → SureBase sure (base_of (fault m) m)
 based_sure true m h = subst (λ (f : Option (Cause × ℕ)). IsCardBase (base_of f m)) (sym h) tt
 based_sure false m h = tt
 
-warmed_sure : (sure : Bool) (m : List (List ℕ)) (b : ℕ) (a : Armed) → SureCold sure m → SureWarm sure (play_at_power m b a)
+warmed_sure : (sure : Bool) (m : List (List ℕ)) (b : ℕ) (a : Armed) → SureBeforePower sure m → SureWarm sure (play_at_power m b a)
 unfolding play_at_power
 warmed_sure sure m b a h = record { owed = owed_most m; base = based_sure sure m h.sound }
 
-poked_size : (m : List (List ℕ)) (at : ℕ) (x : List ℕ) (sure : Bool) → SureCold sure m → SureCold false (slice_set m at x)
+poked_size : (m : List (List ℕ)) (at : ℕ) (x : List ℕ) (sure : Bool) → SureBeforePower sure m → SureBeforePower false (slice_set m at x)
 poked_size m at x sure h =
     let same : length (slice_set m at x) ≡ length m = length-set m at x in
     record { low = subst (λ (k : ℕ). 256 ≤ k) (sym same) h.low; high = subst (λ (k : ℕ). k ≤ 16384) (sym same) h.high; sound = tt }
 
-formatted_sure : (m : List (List ℕ)) (sure : Bool) → SureCold sure m → SureCold true (formatted_image m)
+formatted_sure : (m : List (List ℕ)) (sure : Bool) → SureBeforePower sure m → SureBeforePower true (formatted_image m)
 formatted_sure m sure h =
     let same : length (formatted_image m) ≡ length m = formatted_size m h.low in
     record { low = subst (λ (k : ℕ). 256 ≤ k) (sym same) h.low; high = subst (λ (k : ℕ). k ≤ 16384) (sym same) h.high; sound = formatted_sound m h.low h.high }
 
-cold_line_sure : (sure : Bool) (n : ℕ) (l : DeckLine) (m : List (List ℕ)) (b : ℕ) (a : Armed) (w : Option WornAt) → SureCold sure m → KeepsReady sure (cold_step n l m b a w)
-cold_line_sure sure n line.Format m b a w h = record { says = says_ready sure (cold_step n line.Format m b a w) tt; next = formatted_sure m sure h }
-cold_line_sure sure n (line.Poke at x) m b a w h = record { says = says_ready sure (cold_step n (line.Poke at x) m b a w) tt; next = poked_size m at x sure h }
-cold_line_sure sure n line.Named m b a w h = cold_sure sure n line.Named (λ o r. tt) refl m b b a a None refl h
-cold_line_sure sure n (line.Budget c) m b a w h = cold_sure sure n (line.Budget c) (λ o r. tt) refl m b c a a None refl h
-cold_line_sure sure n (line.Cut k x) m b a w h = cold_sure sure n (line.Cut k x) (λ o r. tt) refl m b b a _ None refl h
-cold_line_sure sure n (line.Fail k) m b a w h = cold_sure sure n (line.Fail k) (λ o r. tt) refl m b b a _ None refl h
-cold_line_sure sure n (line.Dump x) m b a w h = cold_sure sure n (line.Dump x) (λ o r. tt) refl m b b a a _ refl h
-cold_line_sure sure n line.Power m b a w h = power_sure sure n (Cold m b a) (play_at_power m b a) (hit_of a (power_moves (play_at_power m b a)) w) (warmed_sure sure m b a h)
-cold_line_sure sure n (line.Load u fixed session) m b a w h = cold_sure sure n (line.Load u fixed session) (λ o r. tt) refl m b b a _ _ refl h
-cold_line_sure sure n (line.Select x) m b a w h = cold_sure sure n (line.Select x) (λ o r. tt) refl m b b a _ _ refl h
-cold_line_sure sure n (line.Delete x) m b a w h = cold_sure sure n (line.Delete x) (λ o r. tt) refl m b b a _ _ refl h
-cold_line_sure sure n (line.Apdu x) m b a w h = cold_sure sure n (line.Apdu x) (λ o r. tt) refl m b b a _ _ refl h
+before_power_line_sure : (sure : Bool) (n : ℕ) (l : DeckLine) (m : List (List ℕ)) (b : ℕ) (a : Armed) (w : Option FailedWrite) → SureBeforePower sure m → KeepsReady sure (before_power_step n l m b a w)
+before_power_line_sure sure n line.Format m b a w h = record { says = says_ready sure (before_power_step n line.Format m b a w) tt; next = formatted_sure m sure h }
+before_power_line_sure sure n (line.Poke at x) m b a w h = record { says = says_ready sure (before_power_step n (line.Poke at x) m b a w) tt; next = poked_size m at x sure h }
+before_power_line_sure sure n line.Named m b a w h = before_power_sure sure n line.Named (λ o r. tt) refl m b b a a None refl h
+before_power_line_sure sure n (line.Budget c) m b a w h = before_power_sure sure n (line.Budget c) (λ o r. tt) refl m b c a a None refl h
+before_power_line_sure sure n (line.Cut k x) m b a w h = before_power_sure sure n (line.Cut k x) (λ o r. tt) refl m b b a _ None refl h
+before_power_line_sure sure n (line.Fail k) m b a w h = before_power_sure sure n (line.Fail k) (λ o r. tt) refl m b b a _ None refl h
+before_power_line_sure sure n (line.Dump x) m b a w h = before_power_sure sure n (line.Dump x) (λ o r. tt) refl m b b a a _ refl h
+before_power_line_sure sure n line.Power m b a w h = power_sure sure n (BeforePower m b a) (play_at_power m b a) (hit_of a (power_moves (play_at_power m b a)) w) (warmed_sure sure m b a h)
+before_power_line_sure sure n (line.Load u fixed session) m b a w h = before_power_sure sure n (line.Load u fixed session) (λ o r. tt) refl m b b a _ _ refl h
+before_power_line_sure sure n (line.Select x) m b a w h = before_power_sure sure n (line.Select x) (λ o r. tt) refl m b b a _ _ refl h
+before_power_line_sure sure n (line.Delete x) m b a w h = before_power_sure sure n (line.Delete x) (λ o r. tt) refl m b b a _ _ refl h
+before_power_line_sure sure n (line.Apdu x) m b a w h = before_power_sure sure n (line.Apdu x) (λ o r. tt) refl m b b a _ _ refl h
 
-step_sure : (sure : Bool) (z : State) (l : ℕ × DeckLine) (w : Option WornAt) → AllByRecursion FitsJournal (step z l w).items → Sure sure z → KeepsReady sure (step z l w)
+step_sure : (sure : Bool) (z : State) (l : ℕ × DeckLine) (w : Option FailedWrite) → AllByRecursion FitsJournal (step z l w).items → Sure sure z → KeepsReady sure (step z l w)
 unfolding step
-step_sure sure (Cold m b a) l w fits h = cold_line_sure sure l.0 l.1 m b a w h
-step_sure sure (Hot s) l w fits h = hot_sure sure l.0 l.1 s w fits h
+step_sure sure (BeforePower m b a) l w fits h = before_power_line_sure sure l.0 l.1 m b a w h
+step_sure sure (AfterPower s) l w fits h = after_power_sure sure l.0 l.1 s w fits h
 
-ready_from : (n : ℕ) (sure : Bool) (z : State) (ls : List (ℕ × DeckLine)) (ws : List (Option WornAt)) → Sure sure z → AllFitJournal (take n (plays z ls ws)) → ReadyAgain sure (take n (plays z ls ws))
+ready_from : (n : ℕ) (sure : Bool) (z : State) (ls : List (ℕ × DeckLine)) (ws : List (Option FailedWrite)) → Sure sure z → AllFitJournal (take n (plays z ls ws)) → ReadyAgain sure (take n (plays z ls ws))
 unfolding plays
 ready_from zero sure z ls ws h fits = tt
 ready_from (suc n) sure z [] ws h fits = tt
 ready_from (suc n) sure z (l ∷ ls) ws h fits =
-    let u : Step = step z l (first_worn ws) in
-    let k : KeepsReady sure u = step_sure sure z l (first_worn ws) fits.0 h in
+    let u : Step = step z l (first_failure ws) in
+    let k : KeepsReady sure u = step_sure sure z l (first_failure ws) fits.0 h in
     (k.says, ready_from n (sure_after sure u) u.after ls (drop 1 ws) k.next fits.1)
 
 -- the law of a play from an image on, for every front of it
-pub ready_again : (n : ℕ) (m : List (List ℕ)) (ls : List (ℕ × DeckLine)) (ws : List (Option WornAt)) → IsImage m → AllFitJournal (take n (plays (start m) ls ws)) → ReadyAgain false (take n (plays (start m) ls ws))
+pub ready_again : (n : ℕ) (m : List (List ℕ)) (ls : List (ℕ × DeckLine)) (ws : List (Option FailedWrite)) → IsImage m → AllFitJournal (take n (plays (start m) ls ws)) → ReadyAgain false (take n (plays (start m) ls ws))
 ready_again n m ls ws image fits = ready_from n false (start m) ls ws (record { low = image.low; high = image.high; sound = tt }) fits
 
 -- ---- items whose device writes are few

@@ -1,4 +1,5 @@
--- The run of a chain reads and writes on one side of a closed family alone: over two maps that agree there, the runs are equal.
+-- The run of a chain reads and writes on one side of a closed family alone: over two maps that agree there, the runs
+-- are equal.
 use Rattle.std.specs.Prelude.{◌≡◌, ℕ, zero, suc, Bool, true, false, cond, ◌||◌, nat_lt, nat_le, List, [], ◌∷◌, ◌++◌, unwrap_or, Option, Some, None, Result, Ok, Err, ⊤}
 use Rattle.std.proofs.Common.{refl, ap, sym, subst, ◌∙◌}
 use Rattle.mc_model_machine.specs.declared.instruction.Ins.{Ins}
@@ -188,8 +189,8 @@ module _ (K : List (List ℕ)) (x : Bool) where
   found_alike (Some a) None e = absurd (cc e)
   found_alike (Some a) (Some c) e = cc e
 
-  -- The run lemma: on two maps that agree on one side of a closed family, from a first name of that side, there is one run,
-  -- all of whose writes belong to that side.
+  -- The run lemma: on two maps that agree on one side of a closed family, from a first name of that side, there is one
+  -- run, all of whose writes belong to that side.
   pub run_alike : (m d : List (List ℕ × App)) (first session : List ℕ) (a : ApduParts) (budget : ℕ) → ClosedPairs K (run m first session a budget).pairs → MapsAgree K x m d → has_name first K ≡ x → RunAlike K x (run m first session a budget) (run d first session a budget)
   run_alike m d first session a budget closed h is =
       let e = found_alike (lookup m first) (lookup d first) (h first is) in

@@ -6,7 +6,7 @@ use Rattle.mc_model_device.specs.Bytes.{has_name, lookup}
 use Rattle.mc_model_device.specs.Card.{App}
 use Rattle.mc_model_card.specs.Items.{Item, StopAt}
 use Rattle.mc_model_card.specs.Manager.{Selected}
-use Rattle.mc_model_play.specs.Play.{Live, Running, Unpowered, Muted, State, Cold, Hot, LineResult, Step, static_of}
+use Rattle.mc_model_play.specs.Play.{Live, Running, Unpowered, Muted, State, BeforePower, AfterPower, LineResult, Step, static_of}
 use Rattle.mc_model_device.specs.PowerUp.{Base, OnCard, AtFault}
 use Rattle.mc_model_play.specs.Family.{live_in, is_own}
 use Rattle.mc_model_play.specs.Given.{Event, Leaves, apps_in, events_of}
@@ -24,21 +24,21 @@ own_of K None = None
 own_of K (Some s) = cond (has_name s.name K) (Some s) None
 
 abbrev pub own_selected : List (List ℕ) → Live → Option Selected
-own_selected K (Running seat) = own_of K seat.selected
+own_selected K (Running session_state) = own_of K session_state.selected
 own_selected K Unpowered = None
 own_selected K Muted = None
 
 -- a card that runs is one
 abbrev pub IsRunnable : Live → Base → Type 0
-IsRunnable (Running seat) (OnCard c) = ⊤
-IsRunnable (Running seat) (AtFault cause p) = ⊥
+IsRunnable (Running session_state) (OnCard c) = ⊤
+IsRunnable (Running session_state) (AtFault cause p) = ⊥
 IsRunnable Unpowered base = ⊤
 IsRunnable Muted base = ⊤
 
 -- a play after its first power line
 abbrev pub IsWarm : State → Type 0
-IsWarm (Cold m b a) = ⊥
-IsWarm (Hot s) = IsRunnable s.live s.base
+IsWarm (BeforePower m b a) = ⊥
+IsWarm (AfterPower s) = IsRunnable s.live s.base
 
 -- The card of its own has the family's applications of the play's card, and the selection if it is the family's.
 pub record Simulates (K : List (List ℕ)) (s : State) (t : Solo) : Type 0 where

@@ -1,4 +1,5 @@
--- Stops and items: the stop that is given hits the lone card as it hit the play, and items of others touch no application of the family.
+-- Stops and items: the stop that is given hits the lone card as it hit the play, and items of others touch no
+-- application of the family.
 use Rattle.std.specs.Prelude.{◌≡◌, ℕ, ◌-◌, ◌≤◌, Bool, true, false, cond, nat_le, ◌==◌, List, [], ◌∷◌, ◌++◌, Option, Some, None, ⊤}
 use Rattle.std.proofs.Common.{refl, ap, ◌∙◌}
 use Rattle.std.proofs.lemmas.Bool.{le-leb}
@@ -10,7 +11,7 @@ use Rattle.mc_model_device.specs.Card.{App, app_at_place}
 use Rattle.mc_model_machine.specs.Chain.{Write, map_changed}
 use Rattle.mc_model_card.specs.Items.{Change, Fixed, Created, Deleted, Item, Plain, Atomic, apps_after_items, StopAt, Stopped, with_item, in_flight, at_stop, write_items}
 use Rattle.mc_model_card.specs.Manager.{Selected}
-use Rattle.mc_model_play.specs.Play.{Armed, Unarmed, ArmedCut, ArmedFail, WornAt, hit_of}
+use Rattle.mc_model_play.specs.Play.{Armed, Unarmed, ArmedCut, ArmedFail, FailedWrite, hit_of}
 use Rattle.mc_model_play.specs.Given.{Event, Arrives, Departs, given_stop, events_of_items}
 use Rattle.mc_model_play.specs.Solo.{Solo, Heard, silent, hears, heard_before, hears_all, hits}
 use Rattle.mc_family.proofs.Agreement.{MapsAgree, agree_inserted, agree_removed, agree_beside, agree_left, agree_changed_app, agree_joined}
@@ -20,9 +21,9 @@ use Rattle.mc_family.proofs.Sim.{hears_none}
 -- ---- the stop that is given
 
 -- a failed write falls within the writes that are made
-abbrev pub WornWithin : ℕ → Option WornAt → Type 0
-WornWithin m None = ⊤
-WornWithin m (Some w) = w.at ≤ m
+abbrev pub FailsWithin : ℕ → Option FailedWrite → Type 0
+FailsWithin m None = ⊤
+FailsWithin m (Some w) = w.at ≤ m
 
 hit_where : (b : Bool) (s : StopAt) (o : Option StopAt) → b ≡ true → cond b (Some s) o ≡ Some s
 hit_where b s o h = ap (λ (c : Bool). cond c (Some s) o) h
@@ -36,7 +37,7 @@ cut_given true m k x h = hit_where (nat_le k m) (record { kind = stop.Off; at = 
 cut_given false m k x h = no_hit_where (nat_le k m) (record { kind = stop.Off; at = k; left = x }) None h
 
 -- the lone card is hit by the very stop that hit the play
-pub hits_given : (armed : Armed) (m : ℕ) (w : Option WornAt) → WornWithin m w → hits m (given_stop armed (hit_of armed m w)) ≡ hit_of armed m w
+pub hits_given : (armed : Armed) (m : ℕ) (w : Option FailedWrite) → FailsWithin m w → hits m (given_stop armed (hit_of armed m w)) ≡ hit_of armed m w
 hits_given armed m (Some w) h = hit_where (nat_le w.at m) (record { kind = stop.Worn; at = w.at; left = w.left }) None (le-leb w.at m h)
 hits_given (ArmedCut k x) m None h = cut_given (nat_le k m) m k x refl
 hits_given Unarmed m None h = refl
@@ -104,35 +105,35 @@ unfolding hears
 hears_departure t n = refl
 
 -- one creation or deletion, of the family or not, and what is given after it
-then_told : (K : List (List ℕ)) (t : Solo) (s : Solo) (m : List (List ℕ × App)) (e : Event) (es : List Event) → hears t e ≡ silent s → s.selected ≡ t.selected → StillAgrees K s m es → StillAgrees K t m (e ∷ es)
-then_told K t s m e es f same r =
+then_reported : (K : List (List ℕ)) (t : Solo) (s : Solo) (m : List (List ℕ × App)) (e : Event) (es : List Event) → hears t e ≡ silent s → s.selected ≡ t.selected → StillAgrees K s m es → StillAgrees K t m (e ∷ es)
+then_reported K t s m e es f same r =
     record {
       map = r.map;
       heard = hears_first t s e es r.map f r.heard ∙ ap (λ (z : Option Selected). silent (record { map = r.map; selected = z })) same;
       agree = r.agree;
     }
 
-creation_told : (K : List (List ℕ)) (b : Bool) (t : Solo) (m : List (List ℕ × App)) (n : List ℕ) (a : App) (es : List Event) (last : List (List ℕ × App)) → has_name n K ≡ b → MapsAgree K true m t.map
+creation_reported : (K : List (List ℕ)) (b : Bool) (t : Solo) (m : List (List ℕ × App)) (n : List ℕ) (a : App) (es : List Event) (last : List (List ℕ × App)) → has_name n K ≡ b → MapsAgree K true m t.map
     → ((s : Solo) → MapsAgree K true (insert m n a) s.map → StillAgrees K s last es) → StillAgrees K t last (cond b (Arrives n (app_at_place 0 a) ∷ []) [] ++ es)
-creation_told K true t m n a es last is h again =
-    then_told K t (record t { map = insert t.map n (app_at_place 0 a) }) last (Arrives n (app_at_place 0 a)) es (hears_arrival t n (app_at_place 0 a)) refl
+creation_reported K true t m n a es last is h again =
+    then_reported K t (record t { map = insert t.map n (app_at_place 0 a) }) last (Arrives n (app_at_place 0 a)) es (hears_arrival t n (app_at_place 0 a)) refl
     (again (record t { map = insert t.map n (app_at_place 0 a) }) (agree_inserted K true m t.map n a (app_at_place 0 a) refl h))
-creation_told K false t m n a es last is h again = again t (agree_joined K true (insert m n a) m t.map (agree_beside K true m n a is) h)
+creation_reported K false t m n a es last is h again = again t (agree_joined K true (insert m n a) m t.map (agree_beside K true m n a is) h)
 
-deletion_told : (K : List (List ℕ)) (b : Bool) (t : Solo) (m : List (List ℕ × App)) (n : List ℕ) (es : List Event) (last : List (List ℕ × App)) → has_name n K ≡ b → MapsAgree K true m t.map
+deletion_reported : (K : List (List ℕ)) (b : Bool) (t : Solo) (m : List (List ℕ × App)) (n : List ℕ) (es : List Event) (last : List (List ℕ × App)) → has_name n K ≡ b → MapsAgree K true m t.map
     → ((s : Solo) → MapsAgree K true (remove m n) s.map → StillAgrees K s last es) → StillAgrees K t last (cond b (Departs n ∷ []) [] ++ es)
-deletion_told K true t m n es last is h again =
-    then_told K t (record t { map = remove t.map n }) last (Departs n) es (hears_departure t n) refl
+deletion_reported K true t m n es last is h again =
+    then_reported K t (record t { map = remove t.map n }) last (Departs n) es (hears_departure t n) refl
     (again (record t { map = remove t.map n }) (agree_removed K true m t.map n h))
-deletion_told K false t m n es last is h again = again t (agree_joined K true (remove m n) m t.map (agree_left K true m n is) h)
+deletion_reported K false t m n es last is h again = again t (agree_joined K true (remove m n) m t.map (agree_left K true m n is) h)
 
-pub told_alike : (K : List (List ℕ)) (is : List Item) (t : Solo) (m : List (List ℕ × App)) → AreOthers K is → MapsAgree K true m t.map → StillAgrees K t (apps_after_items m is) (events_of_items K is)
-told_alike K [] t m o h = record { map = t.map; heard = hears_none t; agree = h }
-told_alike K (Plain ∷ is) t m o h = told_alike K is t m o.1 h
-told_alike K (Atomic w (Fixed n ps) ∷ is) t m o h =
-    told_alike K is t (map_changed m n (Some ps)) o.1
+pub reported_alike : (K : List (List ℕ)) (is : List Item) (t : Solo) (m : List (List ℕ × App)) → AreOthers K is → MapsAgree K true m t.map → StillAgrees K t (apps_after_items m is) (events_of_items K is)
+reported_alike K [] t m o h = record { map = t.map; heard = hears_none t; agree = h }
+reported_alike K (Plain ∷ is) t m o h = reported_alike K is t m o.1 h
+reported_alike K (Atomic w (Fixed n ps) ∷ is) t m o h =
+    reported_alike K is t (map_changed m n (Some ps)) o.1
     (agree_joined K true (map_changed m n (Some ps)) m t.map (agree_changed_app K true m n ps (lookup m n) o.0) h)
-told_alike K (Atomic w (Created n a) ∷ is) t m o h =
-    creation_told K (has_name n K) t m n a (events_of_items K is) (apps_after_items (insert m n a) is) refl h (λ s g. told_alike K is s (insert m n a) o.1 g)
-told_alike K (Atomic w (Deleted n) ∷ is) t m o h =
-    deletion_told K (has_name n K) t m n (events_of_items K is) (apps_after_items (remove m n) is) refl h (λ s g. told_alike K is s (remove m n) o.1 g)
+reported_alike K (Atomic w (Created n a) ∷ is) t m o h =
+    creation_reported K (has_name n K) t m n a (events_of_items K is) (apps_after_items (insert m n a) is) refl h (λ s g. reported_alike K is s (insert m n a) o.1 g)
+reported_alike K (Atomic w (Deleted n) ∷ is) t m o h =
+    deletion_reported K (has_name n K) t m n (events_of_items K is) (apps_after_items (remove m n) is) refl h (λ s g. reported_alike K is s (remove m n) o.1 g)

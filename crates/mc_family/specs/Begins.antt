@@ -7,9 +7,9 @@ use Rattle.mc_model_device.specs.Card.{App, Card}
 use Rattle.mc_model_machine.specs.Chain.{Chain, start as begun}
 use Rattle.mc_model_card.specs.Items.{card_done}
 use Rattle.mc_model_device.specs.Limits.{most_static}
-use Rattle.mc_model_card.specs.Manager.{Selected, Seat, Route, WrongLength, WrongClass, ToSelect, ToManager, ToApplication, route}
+use Rattle.mc_model_card.specs.Manager.{Selected, SessionState, Route, WrongLength, WrongClass, ToSelect, ToManager, ToApplication, route}
 use Rattle.mc_model_play.specs.DeckGrammar.{DeckLine}
-use Rattle.mc_model_play.specs.Play.{WornAt, Live, Running, Unpowered, Muted, State, Cold, Hot, Step, is_done, plays, start}
+use Rattle.mc_model_play.specs.Play.{FailedWrite, Live, Running, Unpowered, Muted, State, BeforePower, AfterPower, Step, is_done, plays, start}
 use Rattle.mc_model_device.specs.PowerUp.{Base, OnCard, AtFault}
 use Rattle.mc_model_card.specs.Commands.{command}
 use Rattle.mc_model_play.specs.Laws.{bytes_of}
@@ -25,12 +25,12 @@ PassedWell map None = ⊤
 PassedWell map (Some s) = BeginsWell map s
 
 -- a command by its route begins so, if it is passed to the selected application
-abbrev pub RoutedWell : List (List ℕ × App) → Seat → Route → Type 0
-RoutedWell map seat (ToApplication a) = PassedWell map seat.selected
-RoutedWell map seat WrongLength = ⊤
-RoutedWell map seat WrongClass = ⊤
-RoutedWell map seat (ToSelect a) = ⊤
-RoutedWell map seat (ToManager a) = ⊤
+abbrev pub RoutedWell : List (List ℕ × App) → SessionState → Route → Type 0
+RoutedWell map session_state (ToApplication a) = PassedWell map session_state.selected
+RoutedWell map session_state WrongLength = ⊤
+RoutedWell map session_state WrongClass = ⊤
+RoutedWell map session_state (ToSelect a) = ⊤
+RoutedWell map session_state (ToManager a) = ⊤
 
 -- what holds of the commands after one that was answered by 9000 alone
 abbrev pub BehindDone : Bool → Type 0 → Type 0
@@ -38,23 +38,23 @@ BehindDone true later = later
 BehindDone false later = ⊤
 
 -- each of the commands of a line in turn begins so, up to the first that is not answered by 9000 alone
-abbrev pub SentWell : Card → Seat → ℕ → List (List ℕ) → Type 0
-SentWell c seat budget [] = ⊤
-SentWell c seat budget (b ∷ bs) =
-    let r = command c seat b budget in
-    RoutedWell c.apps seat (route b) × BehindDone (is_done r.outcome) (SentWell (card_done c r.items) r.seat budget bs)
+abbrev pub SentWell : Card → SessionState → ℕ → List (List ℕ) → Type 0
+SentWell c session_state budget [] = ⊤
+SentWell c session_state budget (b ∷ bs) =
+    let r = command c session_state b budget in
+    RoutedWell c.apps session_state (route b) × BehindDone (is_done r.outcome) (SentWell (card_done c r.items) r.session_state budget bs)
 
 -- each command that a running card takes begins so
 abbrev pub TakenWell : Live → Base → ℕ → List (List ℕ) → Type 0
-TakenWell (Running seat) (OnCard c) budget bs = SentWell c seat budget bs
-TakenWell (Running seat) (AtFault cause p) budget bs = ⊤
+TakenWell (Running session_state) (OnCard c) budget bs = SentWell c session_state budget bs
+TakenWell (Running session_state) (AtFault cause p) budget bs = ⊤
 TakenWell Unpowered base budget bs = ⊤
 TakenWell Muted base budget bs = ⊤
 
 -- each command of a line that was played begins so
 abbrev pub LineWell : State → List (List ℕ) → Type 0
-LineWell (Cold m b a) bs = ⊤
-LineWell (Hot s) bs = TakenWell s.live s.base s.budget bs
+LineWell (BeforePower m b a) bs = ⊤
+LineWell (AfterPower s) bs = TakenWell s.live s.base s.budget bs
 
 -- each run of a play begins so
 abbrev pub BeginWell : List Step → Type 0
@@ -63,7 +63,7 @@ BeginWell (t ∷ ts) = LineWell t.before (bytes_of t.line) × BeginWell ts
 
 -- each run of every play begins so, for every deck, image and list of failed writes, possible or not
 abbrev pub BeginsLaw : Type 0
-BeginsLaw = (ls : List (ℕ × DeckLine)) (m : List (List ℕ)) (ws : List (Option WornAt)) → BeginWell (plays (start m) ls ws)
+BeginsLaw = (ls : List (ℕ × DeckLine)) (m : List (List ℕ)) (ws : List (Option FailedWrite)) → BeginWell (plays (start m) ls ws)
 
 -- ---- what holds of each run
 
@@ -73,31 +73,31 @@ OnPassed holds map budget None a = ⊤
 OnPassed holds map budget (Some s) a = holds budget (begun map s.name s.session a)
 
 -- what holds of the run of a command by its route
-abbrev pub OnRouted : (ℕ → Chain → Type 0) → List (List ℕ × App) → Seat → ℕ → Route → Type 0
-OnRouted holds map seat budget (ToApplication a) = OnPassed holds map budget seat.selected a
-OnRouted holds map seat budget WrongLength = ⊤
-OnRouted holds map seat budget WrongClass = ⊤
-OnRouted holds map seat budget (ToSelect a) = ⊤
-OnRouted holds map seat budget (ToManager a) = ⊤
+abbrev pub OnRouted : (ℕ → Chain → Type 0) → List (List ℕ × App) → SessionState → ℕ → Route → Type 0
+OnRouted holds map session_state budget (ToApplication a) = OnPassed holds map budget session_state.selected a
+OnRouted holds map session_state budget WrongLength = ⊤
+OnRouted holds map session_state budget WrongClass = ⊤
+OnRouted holds map session_state budget (ToSelect a) = ⊤
+OnRouted holds map session_state budget (ToManager a) = ⊤
 
 -- what holds of the runs of the commands of a line in turn, up to the first that is not answered by 9000 alone
-abbrev pub OnSent : (ℕ → Chain → Type 0) → Card → Seat → ℕ → List (List ℕ) → Type 0
-OnSent holds c seat budget [] = ⊤
-OnSent holds c seat budget (b ∷ bs) =
-    let r = command c seat b budget in
-    OnRouted holds c.apps seat budget (route b) × BehindDone (is_done r.outcome) (OnSent holds (card_done c r.items) r.seat budget bs)
+abbrev pub OnSent : (ℕ → Chain → Type 0) → Card → SessionState → ℕ → List (List ℕ) → Type 0
+OnSent holds c session_state budget [] = ⊤
+OnSent holds c session_state budget (b ∷ bs) =
+    let r = command c session_state b budget in
+    OnRouted holds c.apps session_state budget (route b) × BehindDone (is_done r.outcome) (OnSent holds (card_done c r.items) r.session_state budget bs)
 
 -- what holds of the runs of the commands that a running card takes
 abbrev pub OnTaken : (ℕ → Chain → Type 0) → Live → Base → ℕ → List (List ℕ) → Type 0
-OnTaken holds (Running seat) (OnCard c) budget bs = OnSent holds c seat budget bs
-OnTaken holds (Running seat) (AtFault cause p) budget bs = ⊤
+OnTaken holds (Running session_state) (OnCard c) budget bs = OnSent holds c session_state budget bs
+OnTaken holds (Running session_state) (AtFault cause p) budget bs = ⊤
 OnTaken holds Unpowered base budget bs = ⊤
 OnTaken holds Muted base budget bs = ⊤
 
 -- what holds of the runs of a line that was played
 abbrev pub OnLine : (ℕ → Chain → Type 0) → State → List (List ℕ) → Type 0
-OnLine holds (Cold m b a) bs = ⊤
-OnLine holds (Hot s) bs = OnTaken holds s.live s.base s.budget bs
+OnLine holds (BeforePower m b a) bs = ⊤
+OnLine holds (AfterPower s) bs = OnTaken holds s.live s.base s.budget bs
 
 -- what holds of every run of a play
 abbrev pub OnEachRun : (ℕ → Chain → Type 0) → List Step → Type 0

@@ -12,7 +12,7 @@ use Rattle.mc_model_machine.specs.Primitives.{later_causes, prim_effect}
 use Rattle.mc_model_machine.specs.Row.{causes, effect, row}
 use Rattle.mc_model_machine.specs.Chain.{turn_of_chain, run_of_chain}
 use Rattle.mc_model_card.specs.Manager.{manage}
-use Rattle.mc_model_play.specs.Play.{Step, start, send, play_at_power, step, plays, moves_of, steady_worn}
+use Rattle.mc_model_play.specs.Play.{Step, start, send, play_at_power, step, plays, moves_of, steady_failures}
 use Rattle.mc_model_card.specs.Commands.{command}
 use Rattle.mc_model_play.specs.Given.{events, given_of_play}
 use Rattle.mc_model_play.specs.Solo.{solo_command, hears, hears_all}
@@ -61,8 +61,8 @@ blank = replicate 256 (zeros 8)
 
 -- the play, and the views of the family that has the first name alone
 unfoldable pub steps : List Step
-unfolding name_of apdu_read touched_words targets_1 targets_2 pairs blocks_from apps_of layout step_of bad_block bad_record bytes_at write_effect too_many later_causes prim_effect causes effect row turn_of_chain run_of_chain manage command send play_at_power step plays moves_of steady_worn
-steps = plays (start blank) lines (steady_worn (start blank) lines)
+unfolding name_of apdu_read touched_words targets_1 targets_2 pairs blocks_from apps_of layout step_of bad_block bad_record bytes_at write_effect too_many later_causes prim_effect causes effect row turn_of_chain run_of_chain manage command send play_at_power step plays moves_of steady_failures
+steps = plays (start blank) lines (steady_failures (start blank) lines)
 
 -- the view of the family in the play
 unfoldable pub view_in_play : View

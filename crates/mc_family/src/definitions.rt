@@ -39,8 +39,9 @@ pub fn runs_begin_well()
     ensures { BeginsLaw }
 {}
 
-/// What each line of a deck that was read carries is bytes; so in each of its plays from the words of a device each item touches
-/// at most 64 words, and a card that was found or formatted is found by every later power line that no stop hits.
+/// What each line of a deck that was read carries is bytes; so in each of its plays from the words of a device each
+/// item touches at most 64 words, and a card that was found or formatted is found by every later power line that no
+/// stop hits.
 pub fn read_decks_fit()
     ensures lines { ReadLinesLaw }
     ensures plays { ReadDecksLaw }

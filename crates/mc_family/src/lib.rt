@@ -15,10 +15,10 @@ pub use definitions::{
     traces_hold_transcripts,
 };
 
-/// The law of isolation. For every deck, image, possible list of failed writes and front of the play: what a closed family
-/// of applications observes and holds is what it observes and holds on a card of its own, each line leaves the card with
-/// its whole items, no new application has a stale byte, and no chain of cuts makes a card unusable. The law speaks of
-/// this project's definitions; no standard has one like it.
+/// The law of isolation. For every deck, image, possible list of failed writes and front of the play: what a closed
+/// family of applications observes and holds is what it observes and holds on a card of its own, each line leaves the
+/// card with its whole items, no new application has a stale byte, and no chain of cuts makes a card unusable. The law
+/// speaks of this project's definitions; no standard has one like it.
 pub fn isolation()
     ensures { IsolationLaw }
 {}

@@ -27,7 +27,7 @@ pub fn recover<J: Journal, N: Nvm>(device: &mut N) -> Result<u16, Recover>
         (outcome_answer (outcome_of result)) device.new }
     ensures ends { RecoverEnds (journal_of J.LAYOUT) (look_j (journal_of J.LAYOUT) (N.state device.old).words)
         (N.state device.old) (outcome_of result) (N.state device.new) }
-    ensures lent { N.same device.old device.new }
+    ensures keeps_device { N.same device.old device.new }
 {
     let found = look::<J, N>(device);
     make_replay(device, J::LAYOUT, found)

@@ -21,7 +21,7 @@ pub fn write_words<J: Journal, N: Nvm>(device: &mut N, list: &[(u16, Word)]) -> 
     requires gate { is_open (journal_of J.LAYOUT) (N.state device.old).words ≡ false }
     ensures makes { Makes N.wrote device.old (writes (journal_of J.LAYOUT) list.now) result device.new }
     ensures ends { WriteEnds (journal_of J.LAYOUT) (N.state device.old) list.now result (N.state device.new) }
-    ensures lent { N.same device.old device.new }
+    ensures keeps_device { N.same device.old device.new }
 {
     make_writes::<J, N>(device, list)
 }

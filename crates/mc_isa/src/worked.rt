@@ -182,7 +182,8 @@ pub fn code_that_ends_too_early()
 
 /// The listing of a counter's code, and the first place that begins no instruction.
 pub fn listings()
-    ensures counter { listing_of_code (0xB9 ∷ 0x02 ∷ 0x00 ∷ 0x00 ∷ 0x39 ∷ 0x02 ∷ 0x00 ∷ 0x00 ∷ 0x46 ∷ 0x02 ∷ 0x00 ∷ 0x00 ∷ 0x06
+    ensures counter { listing_of_code (0xB9 ∷ 0x02 ∷ 0x00 ∷ 0x00 ∷ 0x39 ∷ 0x02 ∷ 0x00 ∷ 0x00 ∷ 0x46 ∷ 0x02 ∷ 0x00 ∷ 0x00
+        ∷ 0x06
         ∷ 0x00 ∷ 0x02 ∷ []) ≡ Ok (codes "INCN SB[0],2\nLOAD SB[0],2\nSTORE PB[0],2\nEXITLA 0x0002\n") }
     ensures empty { listing_of_code [] ≡ Ok [] }
     ensures undefined { listing_of_code (0x00 ∷ 0x21 ∷ 0x05 ∷ 0x30 ∷ 0x00 ∷ []) ≡ Err (3, Undefined) }

@@ -41,7 +41,7 @@ pub fn write_words<N: Nvm>(device: &mut N, list: &[(u16, Word)]) -> Result<(), S
     requires gate { is_open One (N.state device.old).words ≡ false }
     ensures makes { Makes N.wrote device.old (writes One list.now) result device.new }
     ensures ends { WriteEnds One (N.state device.old) list.now result (N.state device.new) }
-    ensures lent { N.same device.old device.new }
+    ensures keeps_device { N.same device.old device.new }
 {
     mc_gate::write_words::<JournalV1, N>(device, list)
 }
@@ -60,7 +60,7 @@ pub fn recover<N: Nvm>(device: &mut N) -> Result<u16, Recover>
         (outcome_answer (outcome_of result)) device.new }
     ensures ends { RecoverEnds One (look_j One (N.state device.old).words) (N.state device.old) (outcome_of result)
         (N.state device.new) }
-    ensures lent { N.same device.old device.new }
+    ensures keeps_device { N.same device.old device.new }
 {
     mc_gate::recover::<JournalV1, N>(device)
 }

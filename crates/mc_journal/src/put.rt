@@ -31,7 +31,8 @@ fn put_pair<N: Nvm>(device: &mut N, i: usize, target: u16, word: Word) -> Result
     requires power { (N.state device.old).on ≡ true }
     requires size { 256 ≤ length (N.state device.old).words }
     requires few { i < 64 }
-    ensures makes { Makes N.wrote device.old ((3 + 2 * i, word_of_number target) ∷ (4 + 2 * i, word) ∷ []) result device.new }
+    ensures makes { Makes N.wrote device.old ((3 + 2 * i, word_of_number target) ∷ (4 + 2 * i, word)
+        ∷ []) result device.new }
     ensures on { OnOk result ((N.state device.new).on ≡ true) }
     ensures size { length (N.state device.new).words ≡ length (N.state device.old).words }
 {

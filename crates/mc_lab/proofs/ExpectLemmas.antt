@@ -47,24 +47,24 @@ left_on : (ts : List Step) (e : ℕ × List ℕ) (es all : List (ℕ × List ℕ
 left_on ts e es all = append_assoc (expectation_line (is_met ts e) e (result_above ts e.0)) (failed_lines ts es) (count_text (length all) (count_failed ts all))
 
 -- the line that was written of an expectation is the first part of the rest of the report
-pub told_on : (ts : List Step) (left : List (ℕ × List ℕ)) (e : ℕ × List ℕ) (es all : List (ℕ × List ℕ)) (text : List ℕ) (x y : Sunk) (r : Result (Unit {0}) WriteFault) (z : Sunk)
+pub reported_on : (ts : List Step) (left : List (ℕ × List ℕ)) (e : ℕ × List ℕ) (es all : List (ℕ × List ℕ)) (text : List ℕ) (x y : Sunk) (r : Result (Unit {0}) WriteFault) (z : Sunk)
     → left ≡ e ∷ es → text ≡ result_above ts e.0 → Writes x (expectation_line (holds e.1 text) e text) y → Puts y (text_left ts es all) r z → Puts x (text_left ts left all) r z
-told_on ts left e es all text x y r z i is wrote rest =
+reported_on ts left e es all text x y r z i is wrote rest =
     let here : expectation_line (holds e.1 text) e text ≡ expectation_line (is_met ts e) e (result_above ts e.0) = ap (λ t. expectation_line (holds e.1 t) e t) is in
     puts_as x z r (ap (λ t. t ++ text_left ts es all) here ∙ sym (left_on ts e es all) ∙ ap (λ l. text_left ts l all) (sym i)) (puts_then z (text_left ts es all) r wrote rest)
 
-pub told_fails : (ts : List Step) (left : List (ℕ × List ℕ)) (e : ℕ × List ℕ) (es all : List (ℕ × List ℕ)) (text : List ℕ) (x y : Sunk)
+pub reported_fails : (ts : List Step) (left : List (ℕ × List ℕ)) (e : ℕ × List ℕ) (es all : List (ℕ × List ℕ)) (text : List ℕ) (x y : Sunk)
     → left ≡ e ∷ es → text ≡ result_above ts e.0 → Fails x (expectation_line (holds e.1 text) e text) y → Fails x (text_left ts left all) y
-told_fails ts left e es all text x y i is failed =
+reported_fails ts left e es all text x y i is failed =
     let here : expectation_line (holds e.1 text) e text ≡ expectation_line (is_met ts e) e (result_above ts e.0) = ap (λ t. expectation_line (holds e.1 t) e t) is in
     subst (λ (t : List ℕ). Fails x t y) (ap (λ t. t ++ text_left ts es all) here ∙ sym (left_on ts e es all) ∙ ap (λ l. text_left ts l all) (sym i)) (fails_before (text_left ts es all) failed)
 
-pub told_start : (ts : List Step) (es : List (ℕ × List ℕ)) → text_left ts es es ≡ expect_text ts es
+pub reported_start : (ts : List Step) (es : List (ℕ × List ℕ)) → text_left ts es es ≡ expect_text ts es
 unfolding expect_text
-told_start ts es = refl
+reported_start ts es = refl
 
-pub told_end : (ts : List Step) (left all : List (ℕ × List ℕ)) → left ≡ [] → text_left ts left all ≡ count_text (length all) (count_failed ts all)
-told_end ts left all e = ap (λ l. text_left ts l all) e
+pub reported_end : (ts : List Step) (left all : List (ℕ × List ℕ)) → left ≡ [] → text_left ts left all ≡ count_text (length all) (count_failed ts all)
+reported_end ts left all e = ap (λ l. text_left ts l all) e
 
 pub numbered_length : (es : List NumberedLine) → length (numbered_lines es) ≡ length es
 numbered_length [] = refl
@@ -93,4 +93,4 @@ pub text_done : (ts : List Step) (left all : List (ℕ × List ℕ)) (n failed :
 text_done ts left all n failed i len h =
     let none : count_failed ts left ≡ 0 = ap (count_failed ts) i in
     let same : failed ≡ count_failed ts all = omega (arith, none, h) in
-    ap (λ k. count_text k failed) len ∙ ap (count_text (length all)) same ∙ sym (told_end ts left all i)
+    ap (λ k. count_text k failed) len ∙ ap (count_text (length all)) same ∙ sym (reported_end ts left all i)

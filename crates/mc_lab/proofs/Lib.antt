@@ -9,7 +9,7 @@ mod ExpectLemmas
 pub mod SweepPlays
 pub mod SweepChanges
 pub mod SweepRuns
-pub mod SweepTold
+pub mod SweepReported
 pub mod SweepLawLemmas
 pub mod SweepHits
 pub mod SweepTexts

@@ -4,7 +4,7 @@ use Rattle.std.specs.Prelude.{nat_lt, slice_get, option_map}
 use Rattle.mc_model_device.specs.Device.{DeviceState, BenchState}
 use Rattle.mc_model_machine.specs.Chain.{Turn}
 use Rattle.mc_model_play.specs.DeckGrammar.{DeckLine}
-use Rattle.mc_model_play.specs.Play.{State, Step, WornAt, armed_stop_in, moves_of, plays, start, steady_at, steady_worn, step}
+use Rattle.mc_model_play.specs.Play.{State, Step, FailedWrite, armed_stop_in, moves_of, plays, start, steady_at, steady_failures, step}
 use Rattle.mc_script.specs.declared.answer.Answer.{Answer}
 use Rattle.mc_script.specs.declared.player.Player.{Player}
 use Rattle.mc_script.specs.Players.{answer_value, device_of, IsPlayerAt, IsPlaying}
@@ -18,12 +18,12 @@ use Rattle.mc_lab.proofs.BelowLemmas.{drop_at, last_is}
 -- ---- steps
 
 -- the failed write of a line on a steady bench, if it has one
-abbrev worn_of : State → ℕ × DeckLine → Option WornAt
-worn_of s l = steady_at (armed_stop_in s) l.1 (moves_of s l)
+abbrev failure_of : State → ℕ × DeckLine → Option FailedWrite
+failure_of s l = steady_at (armed_stop_in s) l.1 (moves_of s l)
 
 -- the step of the first line, and the steps of the lines after it
-steady_on : (s : State) (l : ℕ × DeckLine) (ls : List (ℕ × DeckLine)) → steady_from s (l ∷ ls) ≡ step s l (worn_of s l) ∷ steady_from (step s l (worn_of s l)).after ls
-unfolding steady_from plays steady_worn
+steady_on : (s : State) (l : ℕ × DeckLine) (ls : List (ℕ × DeckLine)) → steady_from s (l ∷ ls) ≡ step s l (failure_of s l) ∷ steady_from (step s l (failure_of s l)).after ls
+unfolding steady_from plays steady_failures
 steady_on s l ls = refl
 
 steady_none : (s : State) → steady_from s [] ≡ []
@@ -38,8 +38,8 @@ number_in t = t.number
 steps_rise : (s : State) (m : ℕ) (ls : List (ℕ × DeckLine)) → Rising line_number m ls → Rising number_in m (steady_from s ls)
 steps_rise s m [] h = subst (λ (ts : List Step). Rising number_in m ts) (sym (steady_none s)) tt
 steps_rise s m (l ∷ ls) h =
-    let t = step s l (worn_of s l) in
-    let number : t.number ≡ l.0 = (step_is s l (worn_of s l)).number in
+    let t = step s l (failure_of s l) in
+    let number : t.number ≡ l.0 = (step_is s l (failure_of s l)).number in
     let rest : Rising number_in (suc l.0) (steady_from t.after ls) = steps_rise t.after (suc l.0) ls h.1 in
     let all : Rising number_in m (t ∷ steady_from t.after ls) = (subst (λ (n : ℕ). m ≤ n) (sym number) h.0, subst (λ (n : ℕ). Rising number_in (suc n) (steady_from t.after ls)) (sym number) rest) in
     subst (λ (ts : List Step). Rising number_in m ts) (sym (steady_on s l ls)) all
@@ -47,8 +47,8 @@ steps_rise s m (l ∷ ls) h =
 count_steps : (s : State) (n : ℕ) (ls : List (ℕ × DeckLine)) → count_below number_in n (steady_from s ls) ≡ count_below line_number n ls
 count_steps s n [] = ap (count_below number_in n) (steady_none s)
 count_steps s n (l ∷ ls) =
-    let t = step s l (worn_of s l) in
-    let number : t.number ≡ l.0 = (step_is s l (worn_of s l)).number in
+    let t = step s l (failure_of s l) in
+    let number : t.number ≡ l.0 = (step_is s l (failure_of s l)).number in
     ap (count_below number_in n) (steady_on s l ls)
     ∙ ap (λ k. cond (nat_lt k n) (suc (count_below number_in n (steady_from t.after ls))) 0) number
     ∙ ap (λ k. cond (nat_lt l.0 n) (suc k) 0) (count_steps t.after n ls)
@@ -87,9 +87,9 @@ module _ {N : Type 0} (state : N → DeviceState) (bench : N → BenchState) whe
       record { here = start (state d).words; at = at; steady = ap (λ (d : N). (bench d).steady) device ∙ steady; rest = refl; last = none }
 
   -- one more line was played
-  pub staged_on : {R : Type 0} (told : R → List Turn → R → Type 0) (whole : List Step) (ls : List (ℕ × DeckLine)) (p q : Player N) (i n : ℕ) (l : DeckLine) (text now : List ℕ) (before after : R) (answer : Option Answer)
-      → slice_get ls i ≡ Some (n, l) → LineDone state bench told p l before after answer q → now ≡ result_text (option_map (answer_value state q) answer) → Staged state bench whole ls p i text → Staged state bench whole ls q (i + 1) now
-  staged_on told whole ls p q i n l text now before after answer e done is h =
+  pub staged_on : {R : Type 0} (reported : R → List Turn → R → Type 0) (whole : List Step) (ls : List (ℕ × DeckLine)) (p q : Player N) (i n : ℕ) (l : DeckLine) (text now : List ℕ) (before after : R) (answer : Option Answer)
+      → slice_get ls i ≡ Some (n, l) → LineDone state bench reported p l before after answer q → now ≡ result_text (option_map (answer_value state q) answer) → Staged state bench whole ls p i text → Staged state bench whole ls q (i + 1) now
+  staged_on reported whole ls p q i n l text now before after answer e done is h =
       let d = done h.here n h.at in
       let stepped = d.1.stepped in
       let worn = stepped.played.steady h.steady in
@@ -103,7 +103,7 @@ module _ {N : Type 0} (state : N → DeviceState) (bench : N → BenchState) whe
       record { here = t.after; at = stepped.at; steady = stepped.played.counts.counts.steady ∙ h.steady; rest = next.behind; last = is ∙ text_is }
 
   -- a player that was playing continues
-  pub playing_on : {R : Type 0} (told : R → List Turn → R → Type 0) (p q : Player N) (n : ℕ) (l : DeckLine) (before after : R) (answer : Option Answer) → LineDone state bench told p l before after answer q → IsPlaying state bench p → IsPlaying state bench q
-  playing_on told p q n l before after answer done h =
+  pub playing_on : {R : Type 0} (reported : R → List Turn → R → Type 0) (p q : Player N) (n : ℕ) (l : DeckLine) (before after : R) (answer : Option Answer) → LineDone state bench reported p l before after answer q → IsPlaying state bench p → IsPlaying state bench q
+  playing_on reported p q n l before after answer done h =
       let d = done h.0 n h.1 in
       ((step h.0 (n, l) d.0).after, d.1.stepped.at)

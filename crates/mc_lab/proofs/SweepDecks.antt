@@ -5,7 +5,7 @@ use Rattle.std.proofs.lemmas.Bool.{le-leb, cases_lt, and_from, and_left, and_par
 use Rattle.std.proofs.lemmas.List.{append-nil}
 use Rattle.std.proofs.Math.ListN.{drop_of_length-le}
 use Rattle.mc_model_device.specs.Card.{Card}
-use Rattle.mc_model_play.specs.Play.{Live, Running, Unpowered, Muted, Warm, State, Cold, Hot, WornAt, step, card_line, line_command, hit_of, play_at_power, power_moves, power_after, stopped_power, line_after, armed_stop_in, is_card_line, plays, steady_worn}
+use Rattle.mc_model_play.specs.Play.{Live, Running, Unpowered, Muted, Warm, State, BeforePower, AfterPower, FailedWrite, step, card_line, line_command, hit_of, play_at_power, power_moves, power_after, stopped_power, line_after, armed_stop_in, is_card_line, plays, steady_failures}
 use Rattle.mc_model_device.specs.PowerUp.{Base, OnCard, AtFault}
 use Rattle.mc_model_card.specs.Commands.{Command}
 use Rattle.mc_model_card.specs.Items.{StopAt, moves}
@@ -42,25 +42,25 @@ command_free : (s : Warm) (c : Card) (r : Command) (t : Option StopAt) → is_un
 command_free s c r None = refl
 command_free s c r (Some t) = refl
 
-card_free : (n : ℕ) (l : DeckLine) (s : Warm) (live : Live) (base : Base) (w : Option WornAt) → is_unarmed (armed_stop_in (card_line n l s live base w).after) ≡ true
-card_free n l s (Running seat) (OnCard c) w = let r = line_command c seat s.budget l in command_free s c r (hit_of s.armed (moves r.items) w)
-card_free n l s (Running seat) (AtFault cause p) w = refl
+card_free : (n : ℕ) (l : DeckLine) (s : Warm) (live : Live) (base : Base) (w : Option FailedWrite) → is_unarmed (armed_stop_in (card_line n l s live base w).after) ≡ true
+card_free n l s (Running session_state) (OnCard c) w = let r = line_command c session_state s.budget l in command_free s c r (hit_of s.armed (moves r.items) w)
+card_free n l s (Running session_state) (AtFault cause p) w = refl
 card_free n l s Unpowered base w = refl
 card_free n l s Muted base w = refl
 
-free_step : (s : State) (n : ℕ) (l : DeckLine) (w : Option WornAt) → is_unarmed (armed_stop_in (step s (n, l) w).after) ≡ free_behind l (is_unarmed (armed_stop_in s))
+free_step : (s : State) (n : ℕ) (l : DeckLine) (w : Option FailedWrite) → is_unarmed (armed_stop_in (step s (n, l) w).after) ≡ free_behind l (is_unarmed (armed_stop_in s))
 unfolding step
-free_step (Cold m b a) n line.Power w = power_free (play_at_power m b a) (hit_of a (power_moves (play_at_power m b a)) w)
-free_step (Hot s) n line.Power w = power_free s (hit_of s.armed (power_moves s) w)
-free_step (Hot s) n (line.Load u fixed session) w = card_free n (line.Load u fixed session) s s.live s.base w
-free_step (Hot s) n (line.Select x) w = card_free n (line.Select x) s s.live s.base w
-free_step (Hot s) n (line.Delete x) w = card_free n (line.Delete x) s s.live s.base w
-free_step (Hot s) n (line.Apdu x) w = card_free n (line.Apdu x) s s.live s.base w
-free_step (Cold m b a) n _ w = refl
-free_step (Hot s) n _ w = refl
+free_step (BeforePower m b a) n line.Power w = power_free (play_at_power m b a) (hit_of a (power_moves (play_at_power m b a)) w)
+free_step (AfterPower s) n line.Power w = power_free s (hit_of s.armed (power_moves s) w)
+free_step (AfterPower s) n (line.Load u fixed session) w = card_free n (line.Load u fixed session) s s.live s.base w
+free_step (AfterPower s) n (line.Select x) w = card_free n (line.Select x) s s.live s.base w
+free_step (AfterPower s) n (line.Delete x) w = card_free n (line.Delete x) s s.live s.base w
+free_step (AfterPower s) n (line.Apdu x) w = card_free n (line.Apdu x) s s.live s.base w
+free_step (BeforePower m b a) n _ w = refl
+free_step (AfterPower s) n _ w = refl
 
 pub free_start : (ls : List (ℕ × DeckLine)) → true ≡ is_unarmed (armed_stop_in (state_on_blank (take 0 ls)))
-unfolding state_after_lines plays steady_worn
+unfolding state_after_lines plays steady_failures
 free_start ls = refl
 
 pub free_on : (ls : List (ℕ × DeckLine)) (i n : ℕ) (l : DeckLine) (free : Bool) → slice_get ls i ≡ Some (n, l) → free ≡ is_unarmed (armed_stop_in (state_on_blank (take i ls)))
@@ -208,12 +208,12 @@ texts_append : (xs ys : List Swept) → swept_texts (xs ++ ys) ≡ swept_texts x
 texts_append [] ys = refl
 texts_append (x ∷ xs) ys = ap (λ (t : List ℕ). swept_text x ++ t) (texts_append xs ys) ∙ sym (append_assoc (swept_text x) (swept_texts xs) (swept_texts ys))
 
-pub told_on : (all xs ys : List Swept) (a b c : Sunk) (r : Result (Unit {0}) WriteFault) → all ≡ xs ++ ys → Writes a (swept_texts xs) b → Puts b (swept_texts ys) r c → Puts a (swept_texts all) r c
-told_on all xs ys a b c r is first rest =
+pub reported_on : (all xs ys : List Swept) (a b c : Sunk) (r : Result (Unit {0}) WriteFault) → all ≡ xs ++ ys → Writes a (swept_texts xs) b → Puts b (swept_texts ys) r c → Puts a (swept_texts all) r c
+reported_on all xs ys a b c r is first rest =
     puts_as a c r (sym (texts_append xs ys) ∙ ap swept_texts (sym is)) (puts_then c (swept_texts ys) r first rest)
 
-pub told_fails : (all xs ys : List Swept) (a b : Sunk) → all ≡ xs ++ ys → Fails a (swept_texts xs) b → Fails a (swept_texts all) b
-told_fails all xs ys a b is f = subst (λ (t : List ℕ). Fails a t b) (sym (texts_append xs ys) ∙ ap swept_texts (sym is)) (fails_before (swept_texts ys) f)
+pub reported_fails : (all xs ys : List Swept) (a b : Sunk) → all ≡ xs ++ ys → Fails a (swept_texts xs) b → Fails a (swept_texts all) b
+reported_fails all xs ys a b is f = subst (λ (t : List ℕ). Fails a t b) (sym (texts_append xs ys) ∙ ap swept_texts (sym is)) (fails_before (swept_texts ys) f)
 
 -- ---- the whole text
 

@@ -6,7 +6,7 @@ use Rattle.mc_model_device.specs.declared.device.Stop.TheVariants as stop
 use Rattle.mc_model_device.specs.Image.{Journal}
 use Rattle.mc_model_device.specs.Card.{Card}
 use Rattle.mc_model_card.specs.Items.{moves, StopAt}
-use Rattle.mc_model_play.specs.Play.{Armed, Unarmed, ArmedCut, ArmedFail, Live, Running, Unpowered, Muted, Warm, State, Cold, Hot, step, moves_of, armed_stop_in, is_card_line, play_at_power, power_moves, power_step, power_result, card_line, command_step, line_command}
+use Rattle.mc_model_play.specs.Play.{Armed, Unarmed, ArmedCut, ArmedFail, Live, Running, Unpowered, Muted, Warm, State, BeforePower, AfterPower, step, moves_of, armed_stop_in, is_card_line, play_at_power, power_moves, power_step, power_result, card_line, command_step, line_command}
 use Rattle.mc_model_device.specs.PowerUp.{Base, OnCard, AtFault}
 use Rattle.mc_model_card.specs.Commands.{Command}
 use Rattle.mc_model_play.specs.DeckGrammar.{DeckLine}
@@ -18,8 +18,8 @@ use Rattle.mc_lab.proofs.SweepPlays.{next, played_one, warmed_moves}
 abbrev cut_at : ℕ → List ℕ → StopAt
 cut_at k x = record { kind = stop.Off; at = k; left = x }
 
-abbrev hot : Base → ℕ → Journal → Live → ℕ → Armed → Warm
-hot b o j v g a = record { base = b; owed = o; by = j; live = v; budget = g; armed = a }
+abbrev past_power : Base → ℕ → Journal → Live → ℕ → Armed → Warm
+past_power b o j v g a = record { base = b; owed = o; by = j; live = v; budget = g; armed = a }
 
 command_hit : (n : ℕ) (l : DeckLine) (s : Warm) (c : Card) (r : Command) (k : ℕ) (x : List ℕ) (b : Bool) → is_off (command_step n l s c r (cond b (Some (cut_at k x)) None)).result ≡ b
 command_hit n l s c r k x true = refl
@@ -29,11 +29,11 @@ no_writes : (k : ℕ) → 1 ≤ k → false ≡ nat_le k 0
 no_writes k low = sym (lt-leb k 0 low)
 
 card_hit : (n : ℕ) (l : DeckLine) (b : Base) (o : ℕ) (j : Journal) (v : Live) (g k : ℕ) (x : List ℕ) → 1 ≤ k
-    → is_off (card_line n l (hot b o j v g (ArmedCut k x)) v b None).result ≡ nat_le k (moves (card_line n l (hot b o j v g Unarmed) v b None).items)
-card_hit n l (OnCard c) o j (Running seat) g k x low =
-    let r = line_command c seat g l in
-    command_hit n l (hot (OnCard c) o j (Running seat) g (ArmedCut k x)) c r k x (nat_le k (moves r.items))
-card_hit n l (AtFault cause place) o j (Running seat) g k x low = no_writes k low
+    → is_off (card_line n l (past_power b o j v g (ArmedCut k x)) v b None).result ≡ nat_le k (moves (card_line n l (past_power b o j v g Unarmed) v b None).items)
+card_hit n l (OnCard c) o j (Running session_state) g k x low =
+    let r = line_command c session_state g l in
+    command_hit n l (past_power (OnCard c) o j (Running session_state) g (ArmedCut k x)) c r k x (nat_le k (moves r.items))
+card_hit n l (AtFault cause place) o j (Running session_state) g k x low = no_writes k low
 card_hit n l b o j Unpowered g k x low = no_writes k low
 card_hit n l b o j Muted g k x low = no_writes k low
 
@@ -48,43 +48,43 @@ power_hit n before w k x false = result_off (power_moves w) w.base
 with_none : (k m n : ℕ) → m ≡ n → nat_le k m ≡ nat_le k n
 with_none k m n e = ap (λ (i : ℕ). nat_le k i) e
 
-cold_hit : (n i : ℕ) (l : DeckLine) (m : List (List ℕ)) (b k : ℕ) (x : List ℕ) → is_card_line l ≡ true → 1 ≤ k
-    → is_off (steady_step (next (Cold m b Unarmed) (cut_statement i k x)) (n, l)).result ≡ nat_le k (moves_of (Cold m b Unarmed) (n, l))
+before_power_hit : (n i : ℕ) (l : DeckLine) (m : List (List ℕ)) (b k : ℕ) (x : List ℕ) → is_card_line l ≡ true → 1 ≤ k
+    → is_off (steady_step (next (BeforePower m b Unarmed) (cut_statement i k x)) (n, l)).result ≡ nat_le k (moves_of (BeforePower m b Unarmed) (n, l))
 unfolding step moves_of
-cold_hit n i line.Power m b k x is low =
+before_power_hit n i line.Power m b k x is low =
     let w = play_at_power m b (ArmedCut k x) in
-    power_hit n (Cold m b (ArmedCut k x)) w k x (nat_le k (power_moves w))
+    power_hit n (BeforePower m b (ArmedCut k x)) w k x (nat_le k (power_moves w))
     ∙ with_none k (power_moves w) (power_moves (play_at_power m b Unarmed) + 0) (let e : power_moves w ≡ power_moves (play_at_power m b Unarmed) = warmed_moves m b (ArmedCut k x) Unarmed in omega (arith, e))
-cold_hit n i (line.Load u fixed session) m b k x is low = no_writes k low
-cold_hit n i (line.Select a) m b k x is low = no_writes k low
-cold_hit n i (line.Delete a) m b k x is low = no_writes k low
-cold_hit n i (line.Apdu a) m b k x is low = no_writes k low
-cold_hit n i _ m b k x is low = absurd (cc is)
+before_power_hit n i (line.Load u fixed session) m b k x is low = no_writes k low
+before_power_hit n i (line.Select a) m b k x is low = no_writes k low
+before_power_hit n i (line.Delete a) m b k x is low = no_writes k low
+before_power_hit n i (line.Apdu a) m b k x is low = no_writes k low
+before_power_hit n i _ m b k x is low = absurd (cc is)
 
-hot_hit : (n i : ℕ) (l : DeckLine) (b : Base) (o : ℕ) (j : Journal) (v : Live) (g : ℕ) (k : ℕ) (x : List ℕ) → is_card_line l ≡ true → 1 ≤ k
-    → is_off (steady_step (next (Hot (hot b o j v g Unarmed)) (cut_statement i k x)) (n, l)).result ≡ nat_le k (moves_of (Hot (hot b o j v g Unarmed)) (n, l))
+after_power_hit : (n i : ℕ) (l : DeckLine) (b : Base) (o : ℕ) (j : Journal) (v : Live) (g : ℕ) (k : ℕ) (x : List ℕ) → is_card_line l ≡ true → 1 ≤ k
+    → is_off (steady_step (next (AfterPower (past_power b o j v g Unarmed)) (cut_statement i k x)) (n, l)).result ≡ nat_le k (moves_of (AfterPower (past_power b o j v g Unarmed)) (n, l))
 unfolding step moves_of
-hot_hit n i line.Power b o j v g k x is low =
-    let w = hot b o j v g (ArmedCut k x) in
-    power_hit n (Hot w) w k x (nat_le k (power_moves w)) ∙ with_none k (power_moves w) (power_moves w + 0) (omega arith)
-hot_hit n i (line.Load u fixed session) b o j v g k x is low = card_hit n (line.Load u fixed session) b o j v g k x low ∙ with_none k _ _ (omega arith)
-hot_hit n i (line.Select a) b o j v g k x is low = card_hit n (line.Select a) b o j v g k x low ∙ with_none k _ _ (omega arith)
-hot_hit n i (line.Delete a) b o j v g k x is low = card_hit n (line.Delete a) b o j v g k x low ∙ with_none k _ _ (omega arith)
-hot_hit n i (line.Apdu a) b o j v g k x is low = card_hit n (line.Apdu a) b o j v g k x low ∙ with_none k _ _ (omega arith)
-hot_hit n i _ b o j v g k x is low = absurd (cc is)
+after_power_hit n i line.Power b o j v g k x is low =
+    let w = past_power b o j v g (ArmedCut k x) in
+    power_hit n (AfterPower w) w k x (nat_le k (power_moves w)) ∙ with_none k (power_moves w) (power_moves w + 0) (omega arith)
+after_power_hit n i (line.Load u fixed session) b o j v g k x is low = card_hit n (line.Load u fixed session) b o j v g k x low ∙ with_none k _ _ (omega arith)
+after_power_hit n i (line.Select a) b o j v g k x is low = card_hit n (line.Select a) b o j v g k x low ∙ with_none k _ _ (omega arith)
+after_power_hit n i (line.Delete a) b o j v g k x is low = card_hit n (line.Delete a) b o j v g k x low ∙ with_none k _ _ (omega arith)
+after_power_hit n i (line.Apdu a) b o j v g k x is low = card_hit n (line.Apdu a) b o j v g k x low ∙ with_none k _ _ (omega arith)
+after_power_hit n i _ b o j v g k x is low = absurd (cc is)
 
 armed_hit : (n i : ℕ) (l : DeckLine) (b : Base) (o : ℕ) (j : Journal) (v : Live) (g : ℕ) (a : Armed) (k : ℕ) (x : List ℕ) → a ≡ Unarmed → is_card_line l ≡ true → 1 ≤ k
-    → is_off (steady_step (next (Hot (hot b o j v g a)) (cut_statement i k x)) (n, l)).result ≡ nat_le k (moves_of (Hot (hot b o j v g a)) (n, l))
-armed_hit n i l b o j v g Unarmed k x is card low = hot_hit n i l b o j v g k x card low
+    → is_off (steady_step (next (AfterPower (past_power b o j v g a)) (cut_statement i k x)) (n, l)).result ≡ nat_le k (moves_of (AfterPower (past_power b o j v g a)) (n, l))
+armed_hit n i l b o j v g Unarmed k x is card low = after_power_hit n i l b o j v g k x card low
 armed_hit n i l b o j v g (ArmedCut h y) k x is card low = absurd (cc is)
 armed_hit n i l b o j v g (ArmedFail h) k x is card low = absurd (cc is)
 
 pub line_hit : (s : State) (l : ℕ × DeckLine) (i k : ℕ) (x : List ℕ) → armed_stop_in s ≡ Unarmed → is_card_line l.1 ≡ true → 1 ≤ k
     → is_off (steady_step (next s (cut_statement i k x)) l).result ≡ nat_le k (moves_of s l)
-line_hit (Cold m b Unarmed) l i k x is card low = cold_hit l.0 i l.1 m b k x card low
-line_hit (Cold m b (ArmedCut h y)) l i k x is card low = absurd (cc is)
-line_hit (Cold m b (ArmedFail h)) l i k x is card low = absurd (cc is)
-line_hit (Hot s) l i k x is card low = armed_hit l.0 i l.1 s.base s.owed s.by s.live s.budget s.armed k x is card low
+line_hit (BeforePower m b Unarmed) l i k x is card low = before_power_hit l.0 i l.1 m b k x card low
+line_hit (BeforePower m b (ArmedCut h y)) l i k x is card low = absurd (cc is)
+line_hit (BeforePower m b (ArmedFail h)) l i k x is card low = absurd (cc is)
+line_hit (AfterPower s) l i k x is card low = armed_hit l.0 i l.1 s.base s.owed s.by s.live s.budget s.armed k x is card low
 
 -- a cut after other lines
 pub hits_within : HitsWithin

@@ -9,7 +9,7 @@ use Rattle.mc_lab.specs.declared.sweep_word.Word.{Word}
 use Rattle.mc_lab.specs.declared.sweep_word.Word.TheVariants.{Same, Between, Torn}
 use Rattle.mc_lab.specs.SweepLaws.{changing_behind, opening_behind, all_of, split_at, NotTorn, BetweenChanges, SplitsAtGate, StaysSame, EachSwept, NeverTorn, OfEach}
 use Rattle.mc_lab.proofs.SweepRuns.{words, all_runs, all_counted, runs_all, runs_split}
-use Rattle.mc_lab.proofs.SweepTold.{SweptAt, swept_at, word_told, word_none, splits_line}
+use Rattle.mc_lab.proofs.SweepReported.{SweptAt, swept_at, word_reported, word_none, splits_line}
 
 never_torn_word : (a b : Bool) → word_by a b ≢ Torn
 never_torn_word true true h = absurd (cc h)
@@ -27,7 +27,7 @@ module _ (names : List (List ℕ)) (front : List (ℕ × DeckLine)) (l : ℕ × 
   each_run P h = all_runs P 1 (map write (count_from 1 (writes_behind front l))) (all_counted (λ t. P t.word) write 1 (writes_behind front l) (λ k low high. h k low (omega arith)))
 
   not_torn : SweptAt front l → NotTorn (line_sweep names front l)
-  not_torn at = each_run (λ w. w ≢ Torn) (λ k low high e. never_torn_word _ _ (sym (word_told names front l at k low high) ∙ e))
+  not_torn at = each_run (λ w. w ≢ Torn) (λ k low high e. never_torn_word _ _ (sym (word_reported names front l at k low high) ∙ e))
 
   stays_same : SweptAt front l → StaysSame names front l
   unfolding line_sweep

@@ -3,9 +3,9 @@ use Rattle.std.specs.Prelude.{◌≡◌, ℕ, zero, suc, ◌+◌, ◌*◌, slice
 use Rattle.std.proofs.Common.{arith, ap, sym, ◌∙◌}
 use Rattle.std.proofs.lemmas.Bool.{leb-true}
 use Rattle.std.proofs.lemmas.Bool.Decides.{nat_tests}
-use Rattle.mc_model_play.specs.Play.{Unarmed, Hot, armed_stop_in}
+use Rattle.mc_model_play.specs.Play.{Unarmed, AfterPower, armed_stop_in}
 use Rattle.mc_model_device.proofs.ListLemmas.{length_map as map-length}
-use Rattle.mc_lab.specs.Sweeps.{Tried, plays_of, state_on_blank, ToldState, is_same, all_same, count_from, cut_statement, power, under_cut, ones, cut_write}
+use Rattle.mc_lab.specs.Sweeps.{Tried, plays_of, state_on_blank, ReportedState, is_same, all_same, count_from, cut_statement, power, under_cut, ones, cut_write}
 use Rattle.mc_model_device.specs.Bytes.{zeros}
 use Rattle.std.proofs.Common.{length-append}
 use Rattle.mc_lab.specs.declared.sweep_word.Word.{Word}
@@ -29,7 +29,7 @@ module _ (p : Place) (open_line : IsUnarmedLine p) where
   hit_again k fill j low high shuts first =
       let l = line_in p in
       let c = line_cut (state_on_blank (front_of p)) l l.0 k fill at_front open_line.card shuts low high in
-      let is : state_on_blank (under_cut (front_of p) l k fill) ≡ Hot c.warm = played_two (front_of p) (cut_statement l.0 k fill) l ∙ c.state in
+      let is : state_on_blank (under_cut (front_of p) l k fill) ≡ AfterPower c.warm = played_two (front_of p) (cut_statement l.0 k fill) l ∙ c.state in
       line_hit (state_on_blank (under_cut (front_of p) l k fill)) (power l.0) l.0 j fill (ap armed_stop_in is ∙ c.unarmed) refl first
 
 -- ---- counts
@@ -65,19 +65,19 @@ and_swap true false = refl
 and_swap false true = refl
 and_swap false false = refl
 
-pub same_append : (t : ToldState) (xs ys : List ToldState) → all_same t (xs ++ ys) ≡ (all_same t xs && all_same t ys)
+pub same_append : (t : ReportedState) (xs ys : List ReportedState) → all_same t (xs ++ ys) ≡ (all_same t xs && all_same t ys)
 same_append t [] ys = refl
 same_append t (x ∷ xs) ys = ap (λ (b : Bool). is_same x t && b) (same_append t xs ys) ∙ and_assoc (is_same x t) (all_same t xs) (all_same t ys)
 
 -- the states of the recoveries that were cut already
-pub record Recovering (p : Place) (k : ℕ) (fill : List ℕ) (first : ToldState) (made : ℕ) (same : Bool) : Type 0 where
+pub record Recovering (p : Place) (k : ℕ) (fill : List ℕ) (first : ReportedState) (made : ℕ) (same : Bool) : Type 0 where
   pub within : made ≤ again_in p k fill
   pub is : same ≡ all_same first (map (λ j. state_at_place p (behind.Twice k fill j)) (count_from 1 made))
 
-pub recovering_none : (p : Place) (k : ℕ) (fill : List ℕ) (first : ToldState) → Recovering p k fill first 0 true
+pub recovering_none : (p : Place) (k : ℕ) (fill : List ℕ) (first : ReportedState) → Recovering p k fill first 0 true
 recovering_none p k fill first = record { within = omega arith; is = refl }
 
-pub recovering_more : (p : Place) (k : ℕ) (fill : List ℕ) (first now : ToldState) (made : ℕ) (same now_same hit : Bool) → Recovering p k fill first made same
+pub recovering_more : (p : Place) (k : ℕ) (fill : List ℕ) (first now : ReportedState) (made : ℕ) (same now_same hit : Bool) → Recovering p k fill first made same
     → hit ≡ nat_le (made + 1) (again_in p k fill) → hit ≡ true → now ≡ state_at_place p (behind.Twice k fill (made + 1)) → now_same ≡ is_same now first
     → Recovering p k fill first (made + 1) (now_same && same)
 recovering_more p k fill first now made same now_same hit r test is_hit is test_same =
@@ -85,34 +85,34 @@ recovering_more p k fill first now made same now_same hit r test is_hit is test_
     record {
       within = leb-true (made + 1) (again_in p k fill) (sym test ∙ is_hit);
       is =
-          ap (λ (b : Bool). b && same) (test_same ∙ ap (λ (t : ToldState). is_same t first) is)
+          ap (λ (b : Bool). b && same) (test_same ∙ ap (λ (t : ReportedState). is_same t first) is)
           ∙ ap (λ (b : Bool). is_same (f (made + 1)) first && b) r.is
           ∙ and_swap (is_same (f (made + 1)) first) (all_same first (map f (count_from 1 made)))
           ∙ ap (λ (b : Bool). all_same first (map f (count_from 1 made)) && b) (sym (and_true (is_same (f (made + 1)) first)))
           ∙ sym (same_append first (map f (count_from 1 made)) (f (made + 1) ∷ []))
-          ∙ ap (λ (l : List ToldState). all_same first l) (sym (map_more f made));
+          ∙ ap (λ (l : List ReportedState). all_same first l) (sym (map_more f made));
     }
 
 -- the recoveries of a write after the cut that hit no more, or after the last number
-pub record Recovered (p : Place) (k : ℕ) (fill : List ℕ) (first : ToldState) (made : ℕ) (same : Bool) : Type 0 where
+pub record Recovered (p : Place) (k : ℕ) (fill : List ℕ) (first : ReportedState) (made : ℕ) (same : Bool) : Type 0 where
   pub same_as : same ≡ all_same first (recovery_states_at p k fill)
   pub count : made ≡ length (recovery_states_at p k fill)
 
-recovered_all : (p : Place) (k : ℕ) (fill : List ℕ) (first : ToldState) (made : ℕ) (same : Bool) → Recovering p k fill first made same → made ≡ again_in p k fill → Recovered p k fill first made same
+recovered_all : (p : Place) (k : ℕ) (fill : List ℕ) (first : ReportedState) (made : ℕ) (same : Bool) → Recovering p k fill first made same → made ≡ again_in p k fill → Recovered p k fill first made same
 recovered_all p k fill first made same r e =
     record {
       same_as = r.is ∙ ap (λ (n : ℕ). all_same first (map (λ j. state_at_place p (behind.Twice k fill j)) (count_from 1 n))) e;
       count = e ∙ sym (counted_length (λ j. state_at_place p (behind.Twice k fill j)) (again_in p k fill));
     }
 
-pub recovered_missed : (p : Place) (k : ℕ) (fill : List ℕ) (first : ToldState) (made : ℕ) (same hit : Bool) → Recovering p k fill first made same
+pub recovered_missed : (p : Place) (k : ℕ) (fill : List ℕ) (first : ReportedState) (made : ℕ) (same hit : Bool) → Recovering p k fill first made same
     → hit ≡ nat_le (made + 1) (again_in p k fill) → hit ≡ false → Recovered p k fill first made same
 recovered_missed p k fill first made same hit r test missed =
     let past : again_in p k fill < made + 1 = (let no : nat_le (made + 1) (again_in p k fill) ≡ false = sym test ∙ missed in grind (arith, nat_tests)) in
     let within = r.within in
     recovered_all p k fill first made same r (omega arith)
 
-pub recovered_last : (p : Place) (k : ℕ) (fill : List ℕ) (first : ToldState) (made : ℕ) (same : Bool) → Recovering p k fill first made same → made ≡ 65535 → again_in p k fill ≤ 65535 → Recovered p k fill first made same
+pub recovered_last : (p : Place) (k : ℕ) (fill : List ℕ) (first : ReportedState) (made : ℕ) (same : Bool) → Recovering p k fill first made same → made ≡ 65535 → again_in p k fill ≤ 65535 → Recovered p k fill first made same
 recovered_last p k fill first made same r last few =
     let within = r.within in
     recovered_all p k fill first made same r (omega arith)
@@ -124,7 +124,7 @@ pub record TriedAs (p : Place) (k : ℕ) (w : Word) (n : ℕ) : Type 0 where
   pub word : w ≡ (cut_write_at p k).word
   pub plays : n ≡ (cut_write_at p k).plays
 
-pub tried_as : (p : Place) (k : ℕ) (first before after now : ToldState) (zeros_same ones_first ones_same : Bool) (n m : ℕ)
+pub tried_as : (p : Place) (k : ℕ) (first before after now : ReportedState) (zeros_same ones_first ones_same : Bool) (n m : ℕ)
     → first ≡ state_at_place p (behind.Cut k (zeros 8)) → before ≡ state_at_place p behind.Nothing → after ≡ state_at_place p behind.Whole → now ≡ state_at_place p (behind.Cut k ones)
     → zeros_same ≡ all_same first (recovery_states_at p k (zeros 8)) → ones_first ≡ is_same now first → ones_same ≡ all_same first (recovery_states_at p k ones)
     → n ≡ length (recovery_states_at p k (zeros 8)) → m ≡ length (recovery_states_at p k ones)
@@ -143,10 +143,10 @@ tried_as p k first before after now zeros_same ones_first ones_same n m first_is
           ap (λ (c : Bool). word_with (c && (ones_first && ones_same)) (is_same first before) (is_same first after)) zs
           ∙ ap (λ (c : Bool). word_with (all_same first xs && (c && ones_same)) (is_same first before) (is_same first after)) o
           ∙ ap (λ (c : Bool). word_with (all_same first xs && (is_same now first && c)) (is_same first before) (is_same first after)) os
-          ∙ ap (λ (f : ToldState). word_with (all_same f xs && (is_same now f && all_same f ys)) (is_same f before) (is_same f after)) first_is
-          ∙ ap (λ (f : ToldState). word_with (all_same t xs && (is_same f t && all_same t ys)) (is_same t before) (is_same t after)) now_is
-          ∙ ap (λ (f : ToldState). word_with (all_same t xs && (is_same u t && all_same t ys)) (is_same t f) (is_same t after)) before_is
-          ∙ ap (λ (f : ToldState). word_with (all_same t xs && (is_same u t && all_same t ys)) (is_same t b) (is_same t f)) after_is
+          ∙ ap (λ (f : ReportedState). word_with (all_same f xs && (is_same now f && all_same f ys)) (is_same f before) (is_same f after)) first_is
+          ∙ ap (λ (f : ReportedState). word_with (all_same t xs && (is_same f t && all_same t ys)) (is_same t before) (is_same t after)) now_is
+          ∙ ap (λ (f : ReportedState). word_with (all_same t xs && (is_same u t && all_same t ys)) (is_same t f) (is_same t after)) before_is
+          ∙ ap (λ (f : ReportedState). word_with (all_same t xs && (is_same u t && all_same t ys)) (is_same t b) (is_same t f)) after_is
           ∙ ap (λ (c : Bool). word_with c (is_same t b) (is_same t a)) (sym (same_append t xs (u ∷ ys)));
       plays = (let e : 2 + n + m ≡ length xs + (1 + length ys) + 1 = omega (arith, zn, on) in e) ∙ ap (λ (i : ℕ). i + 1) (sym long);
     }

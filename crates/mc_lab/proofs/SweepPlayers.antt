@@ -7,7 +7,7 @@ use Rattle.mc_model_device.specs.Bytes.{lookup}
 use Rattle.mc_model_device.specs.Card.{App, heap_start}
 use Rattle.mc_model_machine.specs.Chain.{Turn}
 use Rattle.mc_model_device.specs.Device.{blank_words, device_words, DeviceState, BenchState, Entry}
-use Rattle.mc_model_play.specs.Play.{Armed, Live, Running, Unpowered, Muted, Warm, State, Cold, Hot, WornAt, LineResult, step, card_line, static_of, steady_at, moves_of, armed_stop_in, play_at_power, power_moves, laid_entries, words_left, start, formatted_image, plays, steady_worn}
+use Rattle.mc_model_play.specs.Play.{Armed, Live, Running, Unpowered, Muted, Warm, State, BeforePower, AfterPower, FailedWrite, LineResult, step, card_line, static_of, steady_at, moves_of, armed_stop_in, play_at_power, power_moves, laid_entries, words_left, start, formatted_image, plays, steady_failures}
 use Rattle.mc_model_device.specs.PowerUp.{Base, OnCard, AtFault}
 use Rattle.mc_model_play.specs.DeckGrammar.{DeckLine}
 use Rattle.mc_model_play.specs.DeckGrammar as line
@@ -47,34 +47,34 @@ got_or (y ∷ ys) (suc i) d x h = got_or ys i d x h
 
 -- ---- the number of words of a device
 
-hot_size : (m : List (List ℕ)) (es : List Entry) → length (laid_entries m es) ≡ length m
-hot_size m es = laid-size m (map (λ e. (e.at, e.left)) es)
+after_power_size : (m : List (List ℕ)) (es : List Entry) → length (laid_entries m es) ≡ length m
+after_power_size m es = laid-size m (map (λ e. (e.at, e.left)) es)
 
-card_size : (n : ℕ) (l : DeckLine) (s : Warm) (live : Live) (base : Base) (w : Option WornAt) (m : List (List ℕ)) (es : List Entry) → length (words_left m es (card_line n l s live base w).after) ≡ length m
-card_size n l s (Running seat) (OnCard c) w m es = hot_size m es
-card_size n l s (Running seat) (AtFault cause p) w m es = hot_size m es
-card_size n l s Unpowered base w m es = hot_size m es
-card_size n l s Muted base w m es = hot_size m es
+card_size : (n : ℕ) (l : DeckLine) (s : Warm) (live : Live) (base : Base) (w : Option FailedWrite) (m : List (List ℕ)) (es : List Entry) → length (words_left m es (card_line n l s live base w).after) ≡ length m
+card_size n l s (Running session_state) (OnCard c) w m es = after_power_size m es
+card_size n l s (Running session_state) (AtFault cause p) w m es = after_power_size m es
+card_size n l s Unpowered base w m es = after_power_size m es
+card_size n l s Muted base w m es = after_power_size m es
 
 -- before the first power line the words are the image
 abbrev WordsOf : List (List ℕ) → State → Type 0
-WordsOf m (Cold i b a) = m ≡ i
-WordsOf m (Hot s) = ⊤
+WordsOf m (BeforePower i b a) = m ≡ i
+WordsOf m (AfterPower s) = ⊤
 
 formatted_size : (m : List (List ℕ)) → length (formatted_image m) ≡ length m
 formatted_size m = length-set _ heap_start _ ∙ length-set _ 130 _ ∙ length-set _ 2 _ ∙ length-set _ 1 _ ∙ length-set m 0 _
 
-left_size : (s : State) (n : ℕ) (l : DeckLine) (w : Option WornAt) (m : List (List ℕ)) (es : List Entry) → WordsOf m s → length (words_left m es (step s (n, l) w).after) ≡ length m
+left_size : (s : State) (n : ℕ) (l : DeckLine) (w : Option FailedWrite) (m : List (List ℕ)) (es : List Entry) → WordsOf m s → length (words_left m es (step s (n, l) w).after) ≡ length m
 unfolding step
-left_size (Cold i b a) n line.Format w m es e = ap (λ (x : List (List ℕ)). length (formatted_image x)) (sym e) ∙ formatted_size m
-left_size (Cold i b a) n (line.Poke at x) w m es e = ap (λ (y : List (List ℕ)). length (slice_set y at x)) (sym e) ∙ length-set m at x
-left_size (Cold i b a) n line.Power w m es e = hot_size m es
-left_size (Hot s) n (line.Load u fixed session) w m es e = card_size n (line.Load u fixed session) s s.live s.base w m es
-left_size (Hot s) n (line.Select x) w m es e = card_size n (line.Select x) s s.live s.base w m es
-left_size (Hot s) n (line.Delete x) w m es e = card_size n (line.Delete x) s s.live s.base w m es
-left_size (Hot s) n (line.Apdu x) w m es e = card_size n (line.Apdu x) s s.live s.base w m es
-left_size (Cold i b a) n _ w m es e = ap length (sym e)
-left_size (Hot s) n _ w m es e = hot_size m es
+left_size (BeforePower i b a) n line.Format w m es e = ap (λ (x : List (List ℕ)). length (formatted_image x)) (sym e) ∙ formatted_size m
+left_size (BeforePower i b a) n (line.Poke at x) w m es e = ap (λ (y : List (List ℕ)). length (slice_set y at x)) (sym e) ∙ length-set m at x
+left_size (BeforePower i b a) n line.Power w m es e = after_power_size m es
+left_size (AfterPower s) n (line.Load u fixed session) w m es e = card_size n (line.Load u fixed session) s s.live s.base w m es
+left_size (AfterPower s) n (line.Select x) w m es e = card_size n (line.Select x) s s.live s.base w m es
+left_size (AfterPower s) n (line.Delete x) w m es e = card_size n (line.Delete x) s s.live s.base w m es
+left_size (AfterPower s) n (line.Apdu x) w m es e = card_size n (line.Apdu x) s s.live s.base w m es
+left_size (BeforePower i b a) n _ w m es e = ap length (sym e)
+left_size (AfterPower s) n _ w m es e = after_power_size m es
 
 -- ---- the writes of a recovery
 
@@ -97,25 +97,25 @@ static_on (Some a) = refl
 
 module _ {N : Type 0} (state : N → DeviceState) where
   dump_held : (p : Power) (c : Card N) (aid : List ℕ) (names : List (List ℕ)) (s : State) → state_by_result names (Some (dump_value state p c aid)) s ≡ Holds (static_bytes_under names (running_in s))
-  dump_held power.Cold c aid names s = refl
+  dump_held power.BeforePower c aid names s = refl
   dump_held power.Off c aid names s = refl
   dump_held power.Mute c aid names s = refl
   dump_held power.On c aid names s = static_held _ names s
 
-  told_answer : (p : Player N) (a : Option Answer) (names : List (List ℕ)) (s : State) → state_by_fault (fault_in a) (static_bytes_under names (running_in s)) ≡ state_by_result names (option_map (answer_value state p) a) s
-  told_answer p None names s = refl
-  told_answer p (Some answer.Formatted) names s = refl
-  told_answer p (Some (answer.Ready n)) names s = refl
-  told_answer p (Some (answer.Unusable u)) names s = refl
-  told_answer p (Some (answer.OffAt k)) names s = refl
-  told_answer p (Some answer.Worn) names s = refl
-  told_answer p (Some answer.NoCard) names s = refl
-  told_answer p (Some answer.Mute) names s = refl
-  told_answer p (Some answer.Outcome) names s = refl
-  told_answer p (Some (answer.Dump aid)) names s = sym (dump_held p.power p.card aid names s)
+  reported_answer : (p : Player N) (a : Option Answer) (names : List (List ℕ)) (s : State) → state_by_fault (fault_in a) (static_bytes_under names (running_in s)) ≡ state_by_result names (option_map (answer_value state p) a) s
+  reported_answer p None names s = refl
+  reported_answer p (Some answer.Formatted) names s = refl
+  reported_answer p (Some (answer.Ready n)) names s = refl
+  reported_answer p (Some (answer.Unusable u)) names s = refl
+  reported_answer p (Some (answer.OffAt k)) names s = refl
+  reported_answer p (Some answer.Worn) names s = refl
+  reported_answer p (Some answer.NoCard) names s = refl
+  reported_answer p (Some answer.Mute) names s = refl
+  reported_answer p (Some answer.Outcome) names s = refl
+  reported_answer p (Some (answer.Dump aid)) names s = sym (dump_held p.power p.card aid names s)
 
   dump_on : (p : Power) (c : Card N) (aid : List ℕ) → false ≡ is_off (Some (dump_value state p c aid))
-  dump_on power.Cold c aid = refl
+  dump_on power.BeforePower c aid = refl
   dump_on power.Off c aid = refl
   dump_on power.Mute c aid = refl
   dump_on power.On c aid = static_on _
@@ -134,19 +134,19 @@ module _ {N : Type 0} (state : N → DeviceState) where
 
   -- the static bytes that a player shows are those of the card that runs
   live_statics : (p : Power) (c : Card N) (b : Base) (v : Live) (n : List ℕ) → LiveIs state p c b v → statics_by state p c n ≡ option_map (λ a. a.fixed) (lookup (running_apps v b) n)
-  live_statics power.Cold c b v n h = absurd h
+  live_statics power.BeforePower c b v n h = absurd h
   live_statics power.Off c b v n h = ap (λ (u : Live). option_map (λ a. a.fixed) (lookup (running_apps u b) n)) (sym h)
   live_statics power.Mute c b v n h = ap (λ (u : Live). option_map (λ a. a.fixed) (lookup (running_apps u b) n)) (sym h)
   live_statics power.On c b v n h =
       ap (λ (u : Live). option_map (λ a. a.fixed) (lookup (running_apps u (OnCard (card_in state c))) n)) (sym h.live)
       ∙ ap (λ (x : Base). option_map (λ a. a.fixed) (lookup (running_apps v x) n)) (sym h.base)
 
-  cold_statics : (p : Power) (c : Card N) (n : List ℕ) → p ≡ power.Cold → statics_by state p c n ≡ None
-  cold_statics p c n h = ap (λ (q : Power). statics_by state q c n) h
+  before_power_statics : (p : Power) (c : Card N) (n : List ℕ) → p ≡ power.BeforePower → statics_by state p c n ≡ None
+  before_power_statics p c n h = ap (λ (q : Power). statics_by state q c n) h
 
   state_statics : (p : Power) (c : Card N) (s : State) (n : List ℕ) → StateIs state p c s → statics_by state p c n ≡ option_map (λ a. a.fixed) (lookup (running_in s) n)
-  state_statics p c (Cold m b a) n h = cold_statics p c n h.0
-  state_statics p c (Hot w) n h = live_statics p c w.base w.live n h.0
+  state_statics p c (BeforePower m b a) n h = before_power_statics p c n h.0
+  state_statics p c (AfterPower w) n h = live_statics p c w.base w.live n h.0
 
   all_statics : (p : Player N) (s : State) (names : List (List ℕ)) → StateIs state p.power p.card s → map (statics_in state p) names ≡ static_bytes_under names (running_in s)
   all_statics p s [] h = refl
@@ -157,29 +157,29 @@ module _ {N : Type 0} (state : N → DeviceState) where
 module _ {N : Type 0} (state : N → DeviceState) (bench : N → BenchState) where
   -- ---- a line
 
-  pub line_on : {R : Type 0} (told : R → List Turn → R → Type 0) (p q : Player N) (l : DeckLine) (before after : R) (a : Option Answer) → LineDone state bench told p l before after a q
+  pub line_on : {R : Type 0} (reported : R → List Turn → R → Type 0) (p q : Player N) (l : DeckLine) (before after : R) (a : Option Answer) → LineDone state bench reported p l before after a q
       → (s : State) (n : ℕ) → IsSteadyAt state bench p s → LineOn state bench s (n, l) a q
-  line_on told p q l before after a done s n h =
+  line_on reported p q l before after a done s n h =
       let d = done s n h.at in
       let st = d.1.stepped in
       let worn : d.0 ≡ steady_at (armed_stop_in s) l (moves_of s (n, l)) = st.played.steady h.steady in
       record {
-        at = record { at = subst (λ (w : Option WornAt). IsPlayerAt state bench q (step s (n, l) w).after) worn st.at; steady = st.played.counts.counts.steady ∙ h.steady };
-        answers = st.answers ∙ ap (λ (w : Option WornAt). (step s (n, l) w).result) worn;
+        at = record { at = subst (λ (w : Option FailedWrite). IsPlayerAt state bench q (step s (n, l) w).after) worn st.at; steady = st.played.counts.counts.steady ∙ h.steady };
+        answers = st.answers ∙ ap (λ (w : Option FailedWrite). (step s (n, l) w).result) worn;
       }
 
-  pub line_playing : {R : Type 0} (told : R → List Turn → R → Type 0) (p q : Player N) (l : DeckLine) (before after : R) (a : Option Answer) → LineDone state bench told p l before after a q → IsPlaying state bench p → IsPlaying state bench q
-  line_playing told p q l before after a done h =
+  pub line_playing : {R : Type 0} (reported : R → List Turn → R → Type 0) (p q : Player N) (l : DeckLine) (before after : R) (a : Option Answer) → LineDone state bench reported p l before after a q → IsPlaying state bench p → IsPlaying state bench q
+  line_playing reported p q l before after a done h =
       let d = done h.0 0 h.1 in
       ((step h.0 (0, l) d.0).after, d.1.stepped.at)
 
   words_of : (p : Power) (c : Card N) (s : State) → StateIs state p c s → WordsOf (state (device_in c)).words s
-  words_of p c (Cold m b a) h = h.1
-  words_of p c (Hot w) h = tt
+  words_of p c (BeforePower m b a) h = h.1
+  words_of p c (AfterPower w) h = tt
 
-  pub line_size : {R : Type 0} (told : R → List Turn → R → Type 0) (p q : Player N) (l : DeckLine) (before after : R) (a : Option Answer) → LineDone state bench told p l before after a q → IsPlaying state bench p
+  pub line_size : {R : Type 0} (reported : R → List Turn → R → Type 0) (p q : Player N) (l : DeckLine) (before after : R) (a : Option Answer) → LineDone state bench reported p l before after a q → IsPlaying state bench p
       → length (state (device_of q)).words ≡ length (state (device_of p)).words
-  line_size told p q l before after a done h =
+  line_size reported p q l before after a done h =
       let d = done h.0 0 h.1 in
       let tape = d.1.stepped.played.tape in
       sym (ap length tape.left) ∙ left_size h.0 0 l d.0 (state (device_of p)).words tape.entries (words_of p.power p.card h.0 h.1.stands)
@@ -187,7 +187,7 @@ module _ {N : Type 0} (state : N → DeviceState) (bench : N → BenchState) whe
   -- ---- the lines before a line
 
   pub front_start : (d : N) (p : Player N) → IsPlayerAt state bench p (start (state d).words) → device_of p ≡ d → (bench d).steady ≡ true → (state d).words ≡ blank_words device_words → (ls : List (ℕ × DeckLine)) → IsSteadyAt state bench p (state_on_blank (take 0 ls))
-  unfolding state_after_lines plays steady_worn
+  unfolding state_after_lines plays steady_failures
   front_start d p at device steady words ls =
       record {
         at = subst (λ (m : List (List ℕ)). IsPlayerAt state bench p (start m)) words at;
@@ -244,22 +244,22 @@ module _ {N : Type 0} (state : N → DeviceState) (bench : N → BenchState) whe
 
   -- ---- the observed state after a power line
 
-  pub told_on : (q : Player N) (ls : List (ℕ × DeckLine)) (names : List (List ℕ)) (a : Option Answer) (f : Option Unusable) (held : List (Option (List ℕ)))
+  pub reported_on : (q : Player N) (ls : List (ℕ × DeckLine)) (names : List (List ℕ)) (a : Option Answer) (f : Option Unusable) (held : List (Option (List ℕ)))
       → LineOn state bench (state_on_blank ls) (0, line.Power) a q → f ≡ fault_in a → held ≡ map (statics_in state q) names → state_by_fault f held ≡ state_after_power names ls
   unfolding state_after_power
-  told_on q ls names a f held on f_is held_is =
+  reported_on q ls names a f held on f_is held_is =
       let s = next (state_on_blank ls) (0, line.Power) in
       ap (λ (x : Option Unusable). state_by_fault x held) f_is
       ∙ ap (λ (h : List (Option (List ℕ))). state_by_fault (fault_in a) h) (held_is ∙ all_statics state q s names on.at.at.stands)
-      ∙ told_answer state q a names s
+      ∙ reported_answer state q a names s
       ∙ ap (λ (r : Option LineResult). state_by_result names r s) on.answers
 
   -- ---- the number of writes of a recovery
 
   power_few_by : (p : Power) (c : Card N) (s : State) (n : ℕ) → StateIs state p c s → moves_of s (n, line.Power) ≤ 65535
   unfolding moves_of step
-  power_few_by p c (Cold m b a) n h = let few = warmed_few m b a in omega (arith, few)
-  power_few_by p c (Hot w) n h =
+  power_few_by p c (BeforePower m b a) n h = let few = warmed_few m b a in omega (arith, few)
+  power_few_by p c (AfterPower w) n h =
       let few = owed_most (state (device_in c)).words in
       let is = h.1.owed in
       let most = migration_most w.base in
@@ -274,11 +274,11 @@ module _ {N : Type 0} (state : N → DeviceState) (bench : N → BenchState) whe
     line_is : x ≡ line_in p
     line_is = sym (got_or p.deck.now p.at (0, line.Named) x here)
 
-    pub trial_told : (q : Player N) (a : Option Answer) (f : Option Unusable) (held : List (Option (List ℕ))) → ((s : State) (n : ℕ) → IsSteadyAt state bench m s → LineOn state bench s (n, line.Power) a q)
+    pub trial_reported : (q : Player N) (a : Option Answer) (f : Option Unusable) (held : List (Option (List ℕ))) → ((s : State) (n : ℕ) → IsSteadyAt state bench m s → LineOn state bench s (n, line.Power) a q)
         → f ≡ fault_in a → held ≡ map (statics_in state q) (names_in p) → state_by_fault f held ≡ state_at_place p b
-    trial_told q a f held on f_is held_is =
+    trial_reported q a f held on f_is held_is =
         let ls = lines_behind (front_of p) x b in
-        told_on q ls (names_in p) a f held (on (state_on_blank ls) 0 behind_on.at) f_is held_is ∙ ap (λ (l : ℕ × DeckLine). state_after_power (names_in p) (lines_behind (front_of p) l b)) line_is
+        reported_on q ls (names_in p) a f held (on (state_on_blank ls) 0 behind_on.at) f_is held_is ∙ ap (λ (l : ℕ × DeckLine). state_after_power (names_in p) (lines_behind (front_of p) l b)) line_is
 
     pub trial_hit : hit ≡ hit_in p b
     trial_hit = behind_on.says ∙ ap (λ (l : ℕ × DeckLine). hits (front_of p) l b) line_is

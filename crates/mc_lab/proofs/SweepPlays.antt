@@ -9,12 +9,12 @@ use Rattle.mc_model_device.specs.Card.{Card}
 use Rattle.mc_model_card.specs.Items.{Item, Plain, Atomic, moves, at_stop, Stopped, StopAt, card_done}
 use Rattle.mc_model_device.specs.Bytes.{zeros}
 use Rattle.mc_model_play.specs.Given.{apps_in}
-use Rattle.mc_model_play.specs.Play.{Armed, Unarmed, ArmedCut, ArmedFail, Live, Running, Unpowered, Muted, Warm, State, Cold, Hot, step, plays, steady_worn, steady_at, moves_of, armed_stop_in, is_card_line, play_at_power, power_moves, power_step, power_after, stopped_power, hit_of, WornAt, card_line, command_step, stopped_line, line_command}
+use Rattle.mc_model_play.specs.Play.{Armed, Unarmed, ArmedCut, ArmedFail, Live, Running, Unpowered, Muted, Warm, State, BeforePower, AfterPower, step, plays, steady_failures, steady_at, moves_of, armed_stop_in, is_card_line, play_at_power, power_moves, power_step, power_after, stopped_power, hit_of, FailedWrite, card_line, command_step, stopped_line, line_command}
 use Rattle.mc_model_device.specs.PowerUp.{Base, OnCard, AtFault, base_after_migration}
 use Rattle.mc_model_card.specs.Commands.{Command}
 use Rattle.mc_model_play.specs.DeckGrammar.{DeckLine}
 use Rattle.mc_model_play.specs.DeckGrammar as line
-use Rattle.mc_lab.specs.Sweeps.{is_unarmed, steady_step, state_after_lines, state_on_blank, ToldState, Holds, NoCard, static_bytes_under, state_of_step, state_after_power, ones, cut_statement, power}
+use Rattle.mc_lab.specs.Sweeps.{is_unarmed, steady_step, state_after_lines, state_on_blank, ReportedState, Holds, NoCard, static_bytes_under, state_of_step, state_after_power, ones, cut_statement, power}
 use Rattle.mc_lab.specs.SweepBodies.{OpensNoGate}
 
 -- ---- plays, line by line
@@ -24,11 +24,11 @@ abbrev pub next : State → ℕ × DeckLine → State
 next s l = (steady_step s l).after
 
 pub played_line : (s : State) (l : ℕ × DeckLine) (ls : List (ℕ × DeckLine)) → state_after_lines s (l ∷ ls) ≡ state_after_lines (next s l) ls
-unfolding state_after_lines plays steady_worn
+unfolding state_after_lines plays steady_failures
 played_line s l ls = refl
 
 pub played_none : (s : State) → state_after_lines s [] ≡ s
-unfolding state_after_lines plays steady_worn
+unfolding state_after_lines plays steady_failures
 played_none s = refl
 
 pub played_append : (s : State) (xs ys : List (ℕ × DeckLine)) → state_after_lines s (xs ++ ys) ≡ state_after_lines (state_after_lines s xs) ys
@@ -46,11 +46,11 @@ played_two front k l = played_append _ front (k ∷ l ∷ []) ∙ played_line (s
 
 -- the base that a power line finds
 abbrev pub base_in : State → Base
-base_in (Cold m b a) = (play_at_power m b a).base
-base_in (Hot s) = s.base
+base_in (BeforePower m b a) = (play_at_power m b a).base
+base_in (AfterPower s) = s.base
 
 -- the observed state of a base
-abbrev pub shown : List (List ℕ) → Base → ToldState
+abbrev pub shown : List (List ℕ) → Base → ReportedState
 shown names (OnCard c) = Holds (static_bytes_under names c.apps)
 shown names (AtFault cause place) = NoCard cause place
 
@@ -58,27 +58,27 @@ pub shown_migrated : (names : List (List ℕ)) (b : Base) → shown names (base_
 shown_migrated names (OnCard c) = refl
 shown_migrated names (AtFault cause place) = refl
 
-told_base : (names : List (List ℕ)) (before : State) (b : Base) (o : ℕ) (j : Journal) (v : Live) (g : ℕ) (a : Armed)
+reported_base : (names : List (List ℕ)) (before : State) (b : Base) (o : ℕ) (j : Journal) (v : Live) (g : ℕ) (a : Armed)
     → state_of_step names (power_step 0 before (record { base = b; owed = o; by = j; live = v; budget = g; armed = a }) None) ≡ shown names b
-told_base names before (OnCard c) o j v g a = refl
-told_base names before (AtFault cause place) o j v g a = refl
+reported_base names before (OnCard c) o j v g a = refl
+reported_base names before (AtFault cause place) o j v g a = refl
 
-told_warm : (names : List (List ℕ)) (before : State) (s : Warm) (a : Armed) → a ≡ Unarmed → state_of_step names (power_step 0 before s (hit_of a (power_moves s) None)) ≡ shown names s.base
-told_warm names before s a is =
-    ap (λ (x : Armed). state_of_step names (power_step 0 before s (hit_of x (power_moves s) None))) is ∙ told_base names before s.base s.owed s.by s.live s.budget s.armed
+reported_warm : (names : List (List ℕ)) (before : State) (s : Warm) (a : Armed) → a ≡ Unarmed → state_of_step names (power_step 0 before s (hit_of a (power_moves s) None)) ≡ shown names s.base
+reported_warm names before s a is =
+    ap (λ (x : Armed). state_of_step names (power_step 0 before s (hit_of x (power_moves s) None))) is ∙ reported_base names before s.base s.owed s.by s.live s.budget s.armed
 
-pub told_state : (names : List (List ℕ)) (s : State) → armed_stop_in s ≡ Unarmed → state_of_step names (steady_step s (0, line.Power)) ≡ shown names (base_in s)
+pub reported_state : (names : List (List ℕ)) (s : State) → armed_stop_in s ≡ Unarmed → state_of_step names (steady_step s (0, line.Power)) ≡ shown names (base_in s)
 unfolding step
-told_state names (Cold m b Unarmed) is = told_warm names (Cold m b Unarmed) (play_at_power m b Unarmed) Unarmed refl
-told_state names (Cold m b (ArmedCut k x)) is = absurd (cc is)
-told_state names (Cold m b (ArmedFail k)) is = absurd (cc is)
-told_state names (Hot s) is =
-    ap (λ (w : Option WornAt). state_of_step names (power_step 0 (Hot s) s (hit_of s.armed (power_moves s) w))) (ap (λ (a : Armed). steady_at a line.Power (moves_of (Hot s) (0, line.Power))) is)
-    ∙ told_warm names (Hot s) s s.armed is
+reported_state names (BeforePower m b Unarmed) is = reported_warm names (BeforePower m b Unarmed) (play_at_power m b Unarmed) Unarmed refl
+reported_state names (BeforePower m b (ArmedCut k x)) is = absurd (cc is)
+reported_state names (BeforePower m b (ArmedFail k)) is = absurd (cc is)
+reported_state names (AfterPower s) is =
+    ap (λ (w : Option FailedWrite). state_of_step names (power_step 0 (AfterPower s) s (hit_of s.armed (power_moves s) w))) (ap (λ (a : Armed). steady_at a line.Power (moves_of (AfterPower s) (0, line.Power))) is)
+    ∙ reported_warm names (AfterPower s) s s.armed is
 
-pub told_lines : (names : List (List ℕ)) (ls : List (ℕ × DeckLine)) (s : State) → state_on_blank ls ≡ s → armed_stop_in s ≡ Unarmed → state_after_power names ls ≡ shown names (base_in s)
+pub reported_lines : (names : List (List ℕ)) (ls : List (ℕ × DeckLine)) (s : State) → state_on_blank ls ≡ s → armed_stop_in s ≡ Unarmed → state_after_power names ls ≡ shown names (base_in s)
 unfolding state_after_power
-told_lines names ls s is unarmed = ap (λ (t : State). state_of_step names (steady_step t (0, line.Power))) is ∙ told_state names s unarmed
+reported_lines names ls s is unarmed = ap (λ (t : State). state_of_step names (steady_step t (0, line.Power))) is ∙ reported_state names s unarmed
 
 -- ---- cuts
 
@@ -116,34 +116,34 @@ whole_same (Atomic w c ∷ is) k x y hx hy =
 -- the state after a cut in a line: no stop is armed, and the observed state is that of its complete items
 pub record CutTo (s : State) (is : List Item) (t : State) : Type 0 where
   pub warm : Warm
-  pub state : t ≡ Hot warm
+  pub state : t ≡ AfterPower warm
   pub unarmed : warm.armed ≡ Unarmed
-  pub told : (names : List (List ℕ)) → shown names warm.base ≡ shown names (base_done (base_in s) is)
+  pub reported : (names : List (List ℕ)) → shown names warm.base ≡ shown names (base_done (base_in s) is)
 
 abbrev cut_at : ℕ → List ℕ → StopAt
 cut_at k x = record { kind = stop.Off; at = k; left = x }
 
 -- a state after the first power line
-abbrev hot : Base → ℕ → Journal → Live → ℕ → Armed → Warm
-hot b o j v g a = record { base = b; owed = o; by = j; live = v; budget = g; armed = a }
+abbrev past_power : Base → ℕ → Journal → Live → ℕ → Armed → Warm
+past_power b o j v g a = record { base = b; owed = o; by = j; live = v; budget = g; armed = a }
 
 command_cut : (n : ℕ) (l : DeckLine) (c : Card) (o : ℕ) (j : Journal) (v : Live) (g k : ℕ) (x : List ℕ) (r : Command) → OpensNoGate x → (b : Bool) → b ≡ true
-    → CutTo (Hot (hot (OnCard c) o j v g Unarmed)) (at_stop r.items k (zeros 8)).whole (command_step n l (hot (OnCard c) o j v g (ArmedCut k x)) c r (cond b (Some (cut_at k x)) None)).after
+    → CutTo (AfterPower (past_power (OnCard c) o j v g Unarmed)) (at_stop r.items k (zeros 8)).whole (command_step n l (past_power (OnCard c) o j v g (ArmedCut k x)) c r (cond b (Some (cut_at k x)) None)).after
 command_cut n l c o j v g k x r shuts true is =
     record {
-      warm = stopped_line (hot (OnCard c) o j v g (ArmedCut k x)) c (cut_at k x) (at_stop r.items k x);
+      warm = stopped_line (past_power (OnCard c) o j v g (ArmedCut k x)) c (cut_at k x) (at_stop r.items k x);
       state = refl;
       unarmed = refl;
-      told = λ names. ap (λ (js : List Item). shown names (OnCard (card_done c js))) (whole_same r.items k x (zeros 8) shuts zeros_shut);
+      reported = λ names. ap (λ (js : List Item). shown names (OnCard (card_done c js))) (whole_same r.items k x (zeros 8) shuts zeros_shut);
     }
 command_cut n l c o j v g k x r shuts false is = absurd (cc is)
 
-card_cut : (n : ℕ) (l : DeckLine) (b : Base) (o : ℕ) (j : Journal) (v : Live) (g k : ℕ) (x : List ℕ) → OpensNoGate x → 1 ≤ k → k ≤ moves (card_line n l (hot b o j v g Unarmed) v b None).items
-    → CutTo (Hot (hot b o j v g Unarmed)) (at_stop (card_line n l (hot b o j v g Unarmed) v b None).items k (zeros 8)).whole (card_line n l (hot b o j v g (ArmedCut k x)) v b None).after
-card_cut n l (OnCard c) o j (Running seat) g k x shuts low high =
-    let r = line_command c seat g l in
-    command_cut n l c o j (Running seat) g k x r shuts (nat_le k (moves r.items)) (le-leb k (moves r.items) high)
-card_cut n l (AtFault cause place) o j (Running seat) g k x shuts low high = absurd (omega arith)
+card_cut : (n : ℕ) (l : DeckLine) (b : Base) (o : ℕ) (j : Journal) (v : Live) (g k : ℕ) (x : List ℕ) → OpensNoGate x → 1 ≤ k → k ≤ moves (card_line n l (past_power b o j v g Unarmed) v b None).items
+    → CutTo (AfterPower (past_power b o j v g Unarmed)) (at_stop (card_line n l (past_power b o j v g Unarmed) v b None).items k (zeros 8)).whole (card_line n l (past_power b o j v g (ArmedCut k x)) v b None).after
+card_cut n l (OnCard c) o j (Running session_state) g k x shuts low high =
+    let r = line_command c session_state g l in
+    command_cut n l c o j (Running session_state) g k x r shuts (nat_le k (moves r.items)) (le-leb k (moves r.items) high)
+card_cut n l (AtFault cause place) o j (Running session_state) g k x shuts low high = absurd (omega arith)
 card_cut n l b o j Unpowered g k x shuts low high = absurd (omega arith)
 card_cut n l b o j Muted g k x shuts low high = absurd (omega arith)
 
@@ -152,9 +152,9 @@ migrated_if : (names : List (List ℕ)) (t : Bool) (b : Base) → shown names (c
 migrated_if names true b = shown_migrated names b
 migrated_if names false b = refl
 
-stopped_told : (names : List (List ℕ)) (s : Warm) (t : StopAt) (b : Bool) → shown names (stopped_power s t b).base ≡ shown names s.base
-stopped_told names s t true = refl
-stopped_told names s t false = migrated_if names (stands One 1 (t.at - s.owed) t.left) s.base
+stopped_reported : (names : List (List ℕ)) (s : Warm) (t : StopAt) (b : Bool) → shown names (stopped_power s t b).base ≡ shown names s.base
+stopped_reported names s t true = refl
+stopped_reported names s t false = migrated_if names (stands One 1 (t.at - s.owed) t.left) s.base
 
 stopped_unarmed : (s : Warm) (t : StopAt) (b : Bool) → (stopped_power s t b).armed ≡ Unarmed
 stopped_unarmed s t true = refl
@@ -167,7 +167,7 @@ power_cut s w before n k x same true is =
       warm = stopped_power w t (nat_le k w.owed);
       state = refl;
       unarmed = stopped_unarmed w t (nat_le k w.owed);
-      told = λ names. stopped_told names w t (nat_le k w.owed) ∙ ap (λ (b : Base). shown names b) same ∙ sym (shown_none names (base_in s));
+      reported = λ names. stopped_reported names w t (nat_le k w.owed) ∙ ap (λ (b : Base). shown names b) same ∙ sym (shown_none names (base_in s));
     }
 power_cut s w before n k x same false is = absurd (cc is)
 
@@ -180,45 +180,45 @@ warmed_base : (m : List (List ℕ)) (b : ℕ) (a c : Armed) → (play_at_power m
 unfolding play_at_power
 warmed_base m b a c = refl
 
-cold_cut : (n i : ℕ) (l : DeckLine) (m : List (List ℕ)) (b k : ℕ) (x : List ℕ) → is_card_line l ≡ true → OpensNoGate x → 1 ≤ k → k ≤ moves_of (Cold m b Unarmed) (n, l)
-    → CutTo (Cold m b Unarmed) (at_stop (step (Cold m b Unarmed) (n, l) None).items k (zeros 8)).whole (next (next (Cold m b Unarmed) (cut_statement i k x)) (n, l))
+before_power_cut : (n i : ℕ) (l : DeckLine) (m : List (List ℕ)) (b k : ℕ) (x : List ℕ) → is_card_line l ≡ true → OpensNoGate x → 1 ≤ k → k ≤ moves_of (BeforePower m b Unarmed) (n, l)
+    → CutTo (BeforePower m b Unarmed) (at_stop (step (BeforePower m b Unarmed) (n, l) None).items k (zeros 8)).whole (next (next (BeforePower m b Unarmed) (cut_statement i k x)) (n, l))
 unfolding step moves_of
-cold_cut n i line.Power m b k x is shuts low high =
+before_power_cut n i line.Power m b k x is shuts low high =
     let w = play_at_power m b (ArmedCut k x) in
-    power_cut (Cold m b Unarmed) w (Cold m b (ArmedCut k x)) n k x (warmed_base m b (ArmedCut k x) Unarmed) (nat_le k (power_moves w))
+    power_cut (BeforePower m b Unarmed) w (BeforePower m b (ArmedCut k x)) n k x (warmed_base m b (ArmedCut k x) Unarmed) (nat_le k (power_moves w))
     (le-leb k (power_moves w) (let e : power_moves w ≡ power_moves (play_at_power m b Unarmed) = warmed_moves m b (ArmedCut k x) Unarmed in omega (arith, e)))
-cold_cut n i (line.Load u fixed session) m b k x is shuts low high = absurd (omega arith)
-cold_cut n i (line.Select a) m b k x is shuts low high = absurd (omega arith)
-cold_cut n i (line.Delete a) m b k x is shuts low high = absurd (omega arith)
-cold_cut n i (line.Apdu a) m b k x is shuts low high = absurd (omega arith)
-cold_cut n i _ m b k x is shuts low high = absurd (cc is)
+before_power_cut n i (line.Load u fixed session) m b k x is shuts low high = absurd (omega arith)
+before_power_cut n i (line.Select a) m b k x is shuts low high = absurd (omega arith)
+before_power_cut n i (line.Delete a) m b k x is shuts low high = absurd (omega arith)
+before_power_cut n i (line.Apdu a) m b k x is shuts low high = absurd (omega arith)
+before_power_cut n i _ m b k x is shuts low high = absurd (cc is)
 
 -- a line after the first power line
-hot_cut : (n i : ℕ) (l : DeckLine) (b : Base) (o : ℕ) (j : Journal) (v : Live) (g k : ℕ) (x : List ℕ) → is_card_line l ≡ true → OpensNoGate x → 1 ≤ k → k ≤ moves_of (Hot (hot b o j v g Unarmed)) (n, l)
-    → CutTo (Hot (hot b o j v g Unarmed)) (at_stop (step (Hot (hot b o j v g Unarmed)) (n, l) None).items k (zeros 8)).whole (next (next (Hot (hot b o j v g Unarmed)) (cut_statement i k x)) (n, l))
+after_power_cut : (n i : ℕ) (l : DeckLine) (b : Base) (o : ℕ) (j : Journal) (v : Live) (g k : ℕ) (x : List ℕ) → is_card_line l ≡ true → OpensNoGate x → 1 ≤ k → k ≤ moves_of (AfterPower (past_power b o j v g Unarmed)) (n, l)
+    → CutTo (AfterPower (past_power b o j v g Unarmed)) (at_stop (step (AfterPower (past_power b o j v g Unarmed)) (n, l) None).items k (zeros 8)).whole (next (next (AfterPower (past_power b o j v g Unarmed)) (cut_statement i k x)) (n, l))
 unfolding step moves_of
-hot_cut n i line.Power b o j v g k x is shuts low high =
-    let w = hot b o j v g (ArmedCut k x) in
-    power_cut (Hot (hot b o j v g Unarmed)) w (Hot w) n k x refl (nat_le k (power_moves w)) (le-leb k (power_moves w) (omega arith))
-hot_cut n i (line.Load u fixed session) b o j v g k x is shuts low high = card_cut n (line.Load u fixed session) b o j v g k x shuts low (omega arith)
-hot_cut n i (line.Select a) b o j v g k x is shuts low high = card_cut n (line.Select a) b o j v g k x shuts low (omega arith)
-hot_cut n i (line.Delete a) b o j v g k x is shuts low high = card_cut n (line.Delete a) b o j v g k x shuts low (omega arith)
-hot_cut n i (line.Apdu a) b o j v g k x is shuts low high = card_cut n (line.Apdu a) b o j v g k x shuts low (omega arith)
-hot_cut n i _ b o j v g k x is shuts low high = absurd (cc is)
+after_power_cut n i line.Power b o j v g k x is shuts low high =
+    let w = past_power b o j v g (ArmedCut k x) in
+    power_cut (AfterPower (past_power b o j v g Unarmed)) w (AfterPower w) n k x refl (nat_le k (power_moves w)) (le-leb k (power_moves w) (omega arith))
+after_power_cut n i (line.Load u fixed session) b o j v g k x is shuts low high = card_cut n (line.Load u fixed session) b o j v g k x shuts low (omega arith)
+after_power_cut n i (line.Select a) b o j v g k x is shuts low high = card_cut n (line.Select a) b o j v g k x shuts low (omega arith)
+after_power_cut n i (line.Delete a) b o j v g k x is shuts low high = card_cut n (line.Delete a) b o j v g k x shuts low (omega arith)
+after_power_cut n i (line.Apdu a) b o j v g k x is shuts low high = card_cut n (line.Apdu a) b o j v g k x shuts low (omega arith)
+after_power_cut n i _ b o j v g k x is shuts low high = absurd (cc is)
 
-armed_cut : (n i : ℕ) (l : DeckLine) (b : Base) (o : ℕ) (j : Journal) (v : Live) (g : ℕ) (a : Armed) (k : ℕ) (x : List ℕ) → a ≡ Unarmed → is_card_line l ≡ true → OpensNoGate x → 1 ≤ k → k ≤ moves_of (Hot (hot b o j v g a)) (n, l)
-    → CutTo (Hot (hot b o j v g a)) (at_stop (step (Hot (hot b o j v g a)) (n, l) None).items k (zeros 8)).whole (next (next (Hot (hot b o j v g a)) (cut_statement i k x)) (n, l))
-armed_cut n i l b o j v g Unarmed k x is card shuts low high = hot_cut n i l b o j v g k x card shuts low high
+armed_cut : (n i : ℕ) (l : DeckLine) (b : Base) (o : ℕ) (j : Journal) (v : Live) (g : ℕ) (a : Armed) (k : ℕ) (x : List ℕ) → a ≡ Unarmed → is_card_line l ≡ true → OpensNoGate x → 1 ≤ k → k ≤ moves_of (AfterPower (past_power b o j v g a)) (n, l)
+    → CutTo (AfterPower (past_power b o j v g a)) (at_stop (step (AfterPower (past_power b o j v g a)) (n, l) None).items k (zeros 8)).whole (next (next (AfterPower (past_power b o j v g a)) (cut_statement i k x)) (n, l))
+armed_cut n i l b o j v g Unarmed k x is card shuts low high = after_power_cut n i l b o j v g k x card shuts low high
 armed_cut n i l b o j v g (ArmedCut h y) k x is card shuts low high = absurd (cc is)
 armed_cut n i l b o j v g (ArmedFail h) k x is card shuts low high = absurd (cc is)
 
 -- any line for which no stop is armed, with its write `k` cut
 pub line_cut : (s : State) (l : ℕ × DeckLine) (i k : ℕ) (x : List ℕ) → armed_stop_in s ≡ Unarmed → is_card_line l.1 ≡ true → OpensNoGate x → 1 ≤ k → k ≤ moves_of s l
     → CutTo s (at_stop (step s l None).items k (zeros 8)).whole (next (next s (cut_statement i k x)) l)
-line_cut (Cold m b Unarmed) l i k x is card shuts low high = cold_cut l.0 i l.1 m b k x card shuts low high
-line_cut (Cold m b (ArmedCut h y)) l i k x is card shuts low high = absurd (cc is)
-line_cut (Cold m b (ArmedFail h)) l i k x is card shuts low high = absurd (cc is)
-line_cut (Hot s) l i k x is card shuts low high = armed_cut l.0 i l.1 s.base s.owed s.by s.live s.budget s.armed k x is card shuts low high
+line_cut (BeforePower m b Unarmed) l i k x is card shuts low high = before_power_cut l.0 i l.1 m b k x card shuts low high
+line_cut (BeforePower m b (ArmedCut h y)) l i k x is card shuts low high = absurd (cc is)
+line_cut (BeforePower m b (ArmedFail h)) l i k x is card shuts low high = absurd (cc is)
+line_cut (AfterPower s) l i k x is card shuts low high = armed_cut l.0 i l.1 s.base s.owed s.by s.live s.budget s.armed k x is card shuts low high
 
 -- ---- a line that was not cut
 
@@ -228,89 +228,90 @@ power_whole s w before n same =
       warm = power_after w None;
       state = refl;
       unarmed = refl;
-      told = λ names. shown_migrated names w.base ∙ ap (λ (b : Base). shown names b) same ∙ sym (shown_none names (base_in s));
+      reported = λ names. shown_migrated names w.base ∙ ap (λ (b : Base). shown names b) same ∙ sym (shown_none names (base_in s));
     }
 
-card_whole : (n : ℕ) (l : DeckLine) (b : Base) (o : ℕ) (j : Journal) (v : Live) (g : ℕ) → 1 ≤ moves (card_line n l (hot b o j v g Unarmed) v b None).items
-    → CutTo (Hot (hot b o j v g Unarmed)) (card_line n l (hot b o j v g Unarmed) v b None).items (card_line n l (hot b o j v g Unarmed) v b None).after
-card_whole n l (OnCard c) o j (Running seat) g some =
-    let r = line_command c seat g l in
-    record { warm = hot (OnCard (card_done c r.items)) o j (Running r.seat) g Unarmed; state = refl; unarmed = refl; told = λ names. refl }
-card_whole n l (AtFault cause place) o j (Running seat) g some = absurd (omega arith)
+card_whole : (n : ℕ) (l : DeckLine) (b : Base) (o : ℕ) (j : Journal) (v : Live) (g : ℕ) → 1 ≤ moves (card_line n l (past_power b o j v g Unarmed) v b None).items
+    → CutTo (AfterPower (past_power b o j v g Unarmed)) (card_line n l (past_power b o j v g Unarmed) v b None).items (card_line n l (past_power b o j v g Unarmed) v b None).after
+card_whole n l (OnCard c) o j (Running session_state) g some =
+    let r = line_command c session_state g l in
+    record { warm = past_power (OnCard (card_done c r.items)) o j (Running r.session_state) g Unarmed; state = refl; unarmed = refl; reported = λ names. refl }
+card_whole n l (AtFault cause place) o j (Running session_state) g some = absurd (omega arith)
 card_whole n l b o j Unpowered g some = absurd (omega arith)
 card_whole n l b o j Muted g some = absurd (omega arith)
 
-cold_whole : (n : ℕ) (l : DeckLine) (m : List (List ℕ)) (b : ℕ) → is_card_line l ≡ true → 1 ≤ moves_of (Cold m b Unarmed) (n, l)
-    → CutTo (Cold m b Unarmed) (step (Cold m b Unarmed) (n, l) None).items (next (Cold m b Unarmed) (n, l))
+before_power_whole : (n : ℕ) (l : DeckLine) (m : List (List ℕ)) (b : ℕ) → is_card_line l ≡ true → 1 ≤ moves_of (BeforePower m b Unarmed) (n, l)
+    → CutTo (BeforePower m b Unarmed) (step (BeforePower m b Unarmed) (n, l) None).items (next (BeforePower m b Unarmed) (n, l))
 unfolding step moves_of
-cold_whole n line.Power m b is some = power_whole (Cold m b Unarmed) (play_at_power m b Unarmed) (Cold m b Unarmed) n refl
-cold_whole n (line.Load u fixed session) m b is some = absurd (omega arith)
-cold_whole n (line.Select a) m b is some = absurd (omega arith)
-cold_whole n (line.Delete a) m b is some = absurd (omega arith)
-cold_whole n (line.Apdu a) m b is some = absurd (omega arith)
-cold_whole n _ m b is some = absurd (cc is)
+before_power_whole n line.Power m b is some = power_whole (BeforePower m b Unarmed) (play_at_power m b Unarmed) (BeforePower m b Unarmed) n refl
+before_power_whole n (line.Load u fixed session) m b is some = absurd (omega arith)
+before_power_whole n (line.Select a) m b is some = absurd (omega arith)
+before_power_whole n (line.Delete a) m b is some = absurd (omega arith)
+before_power_whole n (line.Apdu a) m b is some = absurd (omega arith)
+before_power_whole n _ m b is some = absurd (cc is)
 
-hot_whole : (n : ℕ) (l : DeckLine) (b : Base) (o : ℕ) (j : Journal) (v : Live) (g : ℕ) → is_card_line l ≡ true → 1 ≤ moves_of (Hot (hot b o j v g Unarmed)) (n, l)
-    → CutTo (Hot (hot b o j v g Unarmed)) (step (Hot (hot b o j v g Unarmed)) (n, l) None).items (next (Hot (hot b o j v g Unarmed)) (n, l))
+after_power_whole : (n : ℕ) (l : DeckLine) (b : Base) (o : ℕ) (j : Journal) (v : Live) (g : ℕ) → is_card_line l ≡ true → 1 ≤ moves_of (AfterPower (past_power b o j v g Unarmed)) (n, l)
+    → CutTo (AfterPower (past_power b o j v g Unarmed)) (step (AfterPower (past_power b o j v g Unarmed)) (n, l) None).items (next (AfterPower (past_power b o j v g Unarmed)) (n, l))
 unfolding step moves_of
-hot_whole n line.Power b o j v g is some = power_whole (Hot (hot b o j v g Unarmed)) (hot b o j v g Unarmed) (Hot (hot b o j v g Unarmed)) n refl
-hot_whole n (line.Load u fixed session) b o j v g is some = card_whole n (line.Load u fixed session) b o j v g (omega arith)
-hot_whole n (line.Select a) b o j v g is some = card_whole n (line.Select a) b o j v g (omega arith)
-hot_whole n (line.Delete a) b o j v g is some = card_whole n (line.Delete a) b o j v g (omega arith)
-hot_whole n (line.Apdu a) b o j v g is some = card_whole n (line.Apdu a) b o j v g (omega arith)
-hot_whole n _ b o j v g is some = absurd (cc is)
+after_power_whole n line.Power b o j v g is some = power_whole (AfterPower (past_power b o j v g Unarmed)) (past_power b o j v g Unarmed) (AfterPower (past_power b o j v g Unarmed)) n refl
+after_power_whole n (line.Load u fixed session) b o j v g is some = card_whole n (line.Load u fixed session) b o j v g (omega arith)
+after_power_whole n (line.Select a) b o j v g is some = card_whole n (line.Select a) b o j v g (omega arith)
+after_power_whole n (line.Delete a) b o j v g is some = card_whole n (line.Delete a) b o j v g (omega arith)
+after_power_whole n (line.Apdu a) b o j v g is some = card_whole n (line.Apdu a) b o j v g (omega arith)
+after_power_whole n _ b o j v g is some = absurd (cc is)
 
-armed_whole : (n : ℕ) (l : DeckLine) (b : Base) (o : ℕ) (j : Journal) (v : Live) (g : ℕ) (a : Armed) → a ≡ Unarmed → is_card_line l ≡ true → 1 ≤ moves_of (Hot (hot b o j v g a)) (n, l)
-    → CutTo (Hot (hot b o j v g a)) (step (Hot (hot b o j v g a)) (n, l) None).items (next (Hot (hot b o j v g a)) (n, l))
-armed_whole n l b o j v g Unarmed is card some = hot_whole n l b o j v g card some
+armed_whole : (n : ℕ) (l : DeckLine) (b : Base) (o : ℕ) (j : Journal) (v : Live) (g : ℕ) (a : Armed) → a ≡ Unarmed → is_card_line l ≡ true → 1 ≤ moves_of (AfterPower (past_power b o j v g a)) (n, l)
+    → CutTo (AfterPower (past_power b o j v g a)) (step (AfterPower (past_power b o j v g a)) (n, l) None).items (next (AfterPower (past_power b o j v g a)) (n, l))
+armed_whole n l b o j v g Unarmed is card some = after_power_whole n l b o j v g card some
 armed_whole n l b o j v g (ArmedCut h y) is card some = absurd (cc is)
 armed_whole n l b o j v g (ArmedFail h) is card some = absurd (cc is)
 
 -- any line for which no stop is armed
 pub line_whole : (s : State) (l : ℕ × DeckLine) → armed_stop_in s ≡ Unarmed → is_card_line l.1 ≡ true → 1 ≤ moves_of s l → CutTo s (step s l None).items (next s l)
-line_whole (Cold m b Unarmed) l is card some = cold_whole l.0 l.1 m b card some
-line_whole (Cold m b (ArmedCut h y)) l is card some = absurd (cc is)
-line_whole (Cold m b (ArmedFail h)) l is card some = absurd (cc is)
-line_whole (Hot s) l is card some = armed_whole l.0 l.1 s.base s.owed s.by s.live s.budget s.armed is card some
+line_whole (BeforePower m b Unarmed) l is card some = before_power_whole l.0 l.1 m b card some
+line_whole (BeforePower m b (ArmedCut h y)) l is card some = absurd (cc is)
+line_whole (BeforePower m b (ArmedFail h)) l is card some = absurd (cc is)
+line_whole (AfterPower s) l is card some = armed_whole l.0 l.1 s.base s.owed s.by s.live s.budget s.armed is card some
 
 -- ---- the items of a line, and the applications that they change
 
--- the items of a line: there are none, or they are done on a card with these applications and make the device writes of the line
+-- the items of a line: there are none, or they are done on a card with these applications and make the device writes of
+-- the line
 abbrev pub ItemsOn : State → ℕ × DeckLine → Type 0
 ItemsOn s l = ((step s l None).items ≡ []) ⊎ ((c : Card) × (base_in s ≡ OnCard c) × (apps_in s ≡ c.apps) × (moves_of s l ≡ moves (step s l None).items))
 
 card_items : (n : ℕ) (l : DeckLine) (b : Base) (o : ℕ) (j : Journal) (v : Live) (g : ℕ) (a : Armed)
-    → ((card_line n l (hot b o j v g a) v b None).items ≡ []) ⊎ ((c : Card) × (b ≡ OnCard c) × (apps_in (Hot (hot b o j v g a)) ≡ c.apps))
-card_items n l (OnCard c) o j (Running seat) g a = inr (c, refl, refl)
-card_items n l (AtFault cause place) o j (Running seat) g a = inl refl
+    → ((card_line n l (past_power b o j v g a) v b None).items ≡ []) ⊎ ((c : Card) × (b ≡ OnCard c) × (apps_in (AfterPower (past_power b o j v g a)) ≡ c.apps))
+card_items n l (OnCard c) o j (Running session_state) g a = inr (c, refl, refl)
+card_items n l (AtFault cause place) o j (Running session_state) g a = inl refl
 card_items n l b o j Unpowered g a = inl refl
 card_items n l b o j Muted g a = inl refl
 
 -- the items of a line on a running card
-card_on : (n : ℕ) (l : DeckLine) (s : Warm) (items : List Item) (m : ℕ) → m ≡ moves items → (items ≡ []) ⊎ ((c : Card) × (s.base ≡ OnCard c) × (apps_in (Hot s) ≡ c.apps))
-    → (items ≡ []) ⊎ ((c : Card) × (s.base ≡ OnCard c) × (apps_in (Hot s) ≡ c.apps) × (m ≡ moves items))
+card_on : (n : ℕ) (l : DeckLine) (s : Warm) (items : List Item) (m : ℕ) → m ≡ moves items → (items ≡ []) ⊎ ((c : Card) × (s.base ≡ OnCard c) × (apps_in (AfterPower s) ≡ c.apps))
+    → (items ≡ []) ⊎ ((c : Card) × (s.base ≡ OnCard c) × (apps_in (AfterPower s) ≡ c.apps) × (m ≡ moves items))
 card_on n l s items m e (inl none) = inl none
 card_on n l s items m e (inr some) = inr (some.0, some.1, some.2, e)
 
-cold_on : (n : ℕ) (l : DeckLine) (m : List (List ℕ)) (b : ℕ) (a : Armed) → ItemsOn (Cold m b a) (n, l)
+before_power_on : (n : ℕ) (l : DeckLine) (m : List (List ℕ)) (b : ℕ) (a : Armed) → ItemsOn (BeforePower m b a) (n, l)
 unfolding step moves_of
-cold_on n line.Power m b a = inl refl
-cold_on n _ m b a = inl refl
+before_power_on n line.Power m b a = inl refl
+before_power_on n _ m b a = inl refl
 
-hot_on : (n : ℕ) (l : DeckLine) (s : Warm) → ItemsOn (Hot s) (n, l)
+after_power_on : (n : ℕ) (l : DeckLine) (s : Warm) → ItemsOn (AfterPower s) (n, l)
 unfolding step moves_of
-hot_on n (line.Load u fixed session) s = card_on n (line.Load u fixed session) s _ _ (omega arith) (card_items n (line.Load u fixed session) s.base s.owed s.by s.live s.budget s.armed)
-hot_on n (line.Select x) s = card_on n (line.Select x) s _ _ (omega arith) (card_items n (line.Select x) s.base s.owed s.by s.live s.budget s.armed)
-hot_on n (line.Delete x) s = card_on n (line.Delete x) s _ _ (omega arith) (card_items n (line.Delete x) s.base s.owed s.by s.live s.budget s.armed)
-hot_on n (line.Apdu x) s = card_on n (line.Apdu x) s _ _ (omega arith) (card_items n (line.Apdu x) s.base s.owed s.by s.live s.budget s.armed)
-hot_on n _ s = inl refl
+after_power_on n (line.Load u fixed session) s = card_on n (line.Load u fixed session) s _ _ (omega arith) (card_items n (line.Load u fixed session) s.base s.owed s.by s.live s.budget s.armed)
+after_power_on n (line.Select x) s = card_on n (line.Select x) s _ _ (omega arith) (card_items n (line.Select x) s.base s.owed s.by s.live s.budget s.armed)
+after_power_on n (line.Delete x) s = card_on n (line.Delete x) s _ _ (omega arith) (card_items n (line.Delete x) s.base s.owed s.by s.live s.budget s.armed)
+after_power_on n (line.Apdu x) s = card_on n (line.Apdu x) s _ _ (omega arith) (card_items n (line.Apdu x) s.base s.owed s.by s.live s.budget s.armed)
+after_power_on n _ s = inl refl
 
 pub items_on : (s : State) (l : ℕ × DeckLine) → ItemsOn s l
-items_on (Cold m b a) l = cold_on l.0 l.1 m b a
-items_on (Hot s) l = hot_on l.0 l.1 s
+items_on (BeforePower m b a) l = before_power_on l.0 l.1 m b a
+items_on (AfterPower s) l = after_power_on l.0 l.1 s
 
 -- a power line has no items
-pub power_items : (s : Warm) (n : ℕ) → (step (Hot s) (power n) None).items ≡ []
+pub power_items : (s : Warm) (n : ℕ) → (step (AfterPower s) (power n) None).items ≡ []
 unfolding step
 power_items s n = refl
 

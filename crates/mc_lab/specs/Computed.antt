@@ -16,7 +16,7 @@ use Rattle.mc_model_machine.specs.Primitives.{later_causes, prim_effect}
 use Rattle.mc_model_machine.specs.Row.{causes, effect, row}
 use Rattle.mc_model_machine.specs.Chain.{turn_of_chain, run_of_chain}
 use Rattle.mc_model_card.specs.Manager.{manage}
-use Rattle.mc_model_play.specs.Play.{Step, send, play_at_power, step, plays, moves_of, steady_worn}
+use Rattle.mc_model_play.specs.Play.{Step, send, play_at_power, step, plays, moves_of, steady_failures}
 use Rattle.mc_model_card.specs.Commands.{command}
 use Rattle.mc_model_play.specs.DeckGrammar.{DeckLine, deck_read}
 use Rattle.mc_model_play.specs.Patterns.{matches}
@@ -24,7 +24,7 @@ use Rattle.mc_lab.specs.Expectations.{Trial, TrialFault, trial_read, expect_text
 
 -- the play of a deck on a blank device of the laboratory
 unfoldable pub blank_steps : List (ℕ × DeckLine) → List Step
-unfolding steady_from name_of apdu_read touched_words des_encipher des_decipher tdes_encipher tdes_decipher des_signature tdes_signature aes_encipher aes_decipher aes_signature sha1 digest_bytes hash_after compress rounds schedule first_words targets_1 targets_2 pairs blocks_from apps_of layout step_of bad_block bad_record bytes_at write_effect too_many later_causes prim_effect causes effect row turn_of_chain run_of_chain manage command send play_at_power step plays moves_of steady_worn
+unfolding steady_from name_of apdu_read touched_words des_encipher des_decipher tdes_encipher tdes_decipher des_signature tdes_signature aes_encipher aes_decipher aes_signature sha1 digest_bytes hash_after compress rounds schedule first_words targets_1 targets_2 pairs blocks_from apps_of layout step_of bad_block bad_record bytes_at write_effect too_many later_causes prim_effect causes effect row turn_of_chain run_of_chain manage command send play_at_power step plays moves_of steady_failures
 blank_steps ls = steady_steps (blank_words device_words) ls
 
 -- the report of the expectations of a deck

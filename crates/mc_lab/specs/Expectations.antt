@@ -4,7 +4,7 @@ use Rattle.mc_model_machine.specs.Text.{trim, trim_front, fields, first_cut, is_
 use Rattle.mc_model_play.specs.declared.deck.DeckCause.{DeckCause}
 use Rattle.mc_model_play.specs.DeckGrammar.{DeckLine, Mode, Between, Within, LineTurn, statement_of, within, turn_at, deck_read}
 use Rattle.mc_model_play.specs.DeckGrammar as line
-use Rattle.mc_model_play.specs.Play.{LineResult, State, Step, plays, start, steady_worn}
+use Rattle.mc_model_play.specs.Play.{LineResult, State, Step, plays, start, steady_failures}
 use Rattle.mc_model_play.specs.Transcript.{text_of_result}
 use Rattle.mc_model_play.specs.Patterns.{holds}
 
@@ -176,7 +176,7 @@ expect_text ts es = failed_lines ts es ++ count_text (length es) (count_failed t
 
 -- the play of lines from a state on a device whose only failed writes are those of `fail` lines
 unfoldable pub steady_from : State → List (ℕ × DeckLine) → List Step
-steady_from s ls = plays s ls (steady_worn s ls)
+steady_from s ls = plays s ls (steady_failures s ls)
 
 -- the play of lines from the words of a device, on such a device
 abbrev pub steady_steps : List (List ℕ) → List (ℕ × DeckLine) → List Step

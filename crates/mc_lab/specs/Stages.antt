@@ -9,7 +9,8 @@ use Rattle.mc_lab.specs.Rising.{last_of}
 use Rattle.mc_lab.specs.Expectations.{steady_from, step_text}
 
 module _ {N : Type 0} (state : N → DeviceState) (bench : N → BenchState) where
-  -- the first lines were played on a steady bench, as steps of the whole play; the text is the result of the last of them
+  -- the first lines were played on a steady bench, as steps of the whole play; the text is the result of the last of
+  -- them
   pub record Staged (whole : List Step) (ls : List (ℕ × DeckLine)) (p : Player N) (count : ℕ) (text : List ℕ) : Type 0 where
     pub here : State
     pub at : IsPlayerAt state bench p here

@@ -7,7 +7,7 @@ use Rattle.mc_model_play.specs.Play.{State, armed_stop_in, is_card_line}
 use Rattle.mc_model_play.specs.DeckGrammar.{DeckLine}
 use Rattle.mc_model_play.specs.DeckGrammar as line
 use Rattle.mc_lab.specs.declared.sweep_word.Word.{Word}
-use Rattle.mc_lab.specs.Sweeps.{word_if, word_by, recovery_states, state_after_power, Tried, cut_write, steady_step, state_on_blank, cut_statement, power, under_cut, under_cuts, writes_behind, is_unarmed, ToldState, Holds, NoCard}
+use Rattle.mc_lab.specs.Sweeps.{word_if, word_by, recovery_states, state_after_power, Tried, cut_write, steady_step, state_on_blank, cut_statement, power, under_cut, under_cuts, writes_behind, is_unarmed, ReportedState, Holds, NoCard}
 use Rattle.mc_lab.specs.SweepLaws.{is_off}
 use Rattle.mc_lab.specs.declared.sweep_account.Account.{Account}
 use Rattle.mc_lab.specs.declared.sweep_trial.Behind.{Behind}
@@ -23,12 +23,12 @@ abbrev pub held_value : Option (ArrayVec ℕ) → Option (List ℕ)
 held_value h = option_map (λ b. b.items) h
 
 -- the observed state, by the fault and by the static bytes
-abbrev pub state_by_fault : Option Unusable → List (Option (List ℕ)) → ToldState
+abbrev pub state_by_fault : Option Unusable → List (Option (List ℕ)) → ReportedState
 state_by_fault None h = Holds h
 state_by_fault (Some u) h = NoCard u.cause u.place
 
 -- the observed state of an account
-abbrev pub account_value : Account → ToldState
+abbrev pub account_value : Account → ReportedState
 account_value a = state_by_fault a.fault (map held_value a.held.items)
 
 -- ---- plays
@@ -81,7 +81,7 @@ abbrev pub IsPlace : Place → Type 0
 IsPlace p = p.at < length p.deck.now
 
 -- the observed state of a play of a place
-abbrev pub state_at_place : Place → Behind → ToldState
+abbrev pub state_at_place : Place → Behind → ReportedState
 state_at_place p b = state_after_power (names_in p) (lines_behind (front_of p) (line_in p) b)
 
 -- whether the last cut of a play of a place hit its line
@@ -104,7 +104,7 @@ IsFewBehind p (behind.Cut k fill) = again_in p k fill ≤ 65535
 IsFewBehind p (behind.Twice k fill again) = Unit {0}
 
 -- the observed states after a cut in which the recovery is cut too
-abbrev pub recovery_states_at : Place → ℕ → List ℕ → List ToldState
+abbrev pub recovery_states_at : Place → ℕ → List ℕ → List ReportedState
 recovery_states_at p k fill = recovery_states (names_in p) (front_of p) (line_in p) k fill
 
 -- the cut of one write of the line

@@ -70,7 +70,7 @@ pub record IsRoom (ls : List (ℕ × DeckLine)) (names : List (List ℕ)) (e : E
   pub few : words ≤ 4294967295
 
 -- the text was written, by the result of the call; without room nothing was
-abbrev pub TellsSweep : Sunk → List ℕ → Result (Unit {0}) SweepFault → Sunk → Type 0
-TellsSweep a text (Ok u) b = Writes a text b
-TellsSweep a text (Err fault.WriteFault) b = Fails a text b
-TellsSweep a text (Err fault.NoMemory) b = b ≡ a
+abbrev pub ReportsSweep : Sunk → List ℕ → Result (Unit {0}) SweepFault → Sunk → Type 0
+ReportsSweep a text (Ok u) b = Writes a text b
+ReportsSweep a text (Err fault.WriteFault) b = Fails a text b
+ReportsSweep a text (Err fault.NoMemory) b = b ≡ a

@@ -1,5 +1,5 @@
--- The laws of sweeps: no line is torn, a card is between two states only if two items change it, and one change splits its line where its
--- gate opens.
+-- The laws of sweeps: no line is torn, a card is between two states only if two items change it, and one change splits
+-- its line where its gate opens.
 use Rattle.std.specs.Prelude.{◌≡◌, ◌≢◌, ℕ, ◌+◌, ◌≤◌, Bool, true, false, cond, not, nat_le, List, [], ◌∷◌, ◌++◌, Option, Some, None, ⊤}
 use Rattle.std.specs.List.{AllByRecursion}
 use Rattle.mc_model_device.specs.Image.{Two}
@@ -70,7 +70,8 @@ BetweenChanges names front l = changing_behind names front l ≤ 1 → AllByRecu
 abbrev pub SplitsAtGate : List (List ℕ) → List (ℕ × DeckLine) → ℕ × DeckLine → Type 0
 SplitsAtGate names front l = changing_behind names front l ≡ 1 → runs 1 (line_sweep names front l).words ≡ split_at (opening_behind names front l) (writes_behind front l)
 
--- in a line without an item that changes the observed state, every cut leaves the state that holds both before and after
+-- in a line without an item that changes the observed state, every cut leaves the state that holds both before and
+-- after
 abbrev pub StaysSame : List (List ℕ) → List (ℕ × DeckLine) → ℕ × DeckLine → Type 0
 StaysSame names front l = changing_behind names front l ≡ 0 → runs 1 (line_sweep names front l).words ≡ all_of Same (writes_behind front l)
 
@@ -86,8 +87,8 @@ abbrev pub is_off : Option LineResult → Bool
 is_off (Some (OffAt k)) = true
 is_off r = false
 
--- a cut at write `k` hits a line to the card exactly if the line makes at least `k` writes, so that trial plays determine the numbers of
--- a sweep
+-- a cut at write `k` hits a line to the card exactly if the line makes at least `k` writes, so that trial plays
+-- determine the numbers of a sweep
 abbrev pub HitsWithin : Type 0
 HitsWithin =
     (front : List (ℕ × DeckLine)) (l : ℕ × DeckLine) (k : ℕ) (x : List ℕ) → is_card_line l.1 ≡ true → armed_stop_in (state_on_blank front) ≡ Unarmed → 1 ≤ k

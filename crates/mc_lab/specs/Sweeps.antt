@@ -1,11 +1,11 @@
--- Sweeps: power cut in every device write of every line of a deck, and in every write of the recovery after it, and the observed states
--- of the card.
+-- Sweeps: power cut in every device write of every line of a deck, and in every write of the recovery after it, and the
+-- observed states of the card.
 use Rattle.std.specs.Prelude.{ℕ, zero, suc, ◌+◌, Bool, true, false, cond, ◌&&◌, nat_le, ◌==◌, List, [], ◌∷◌, ◌++◌, length, map, replicate, bytes_eq, codes, decimal, Option, Some, None, option_map}
 use Rattle.mc_model_device.specs.declared.cause.Cause.{Cause}
 use Rattle.mc_model_device.specs.Bytes.{zeros, has_name, lookup}
 use Rattle.mc_model_device.specs.Device.{blank_words, device_words}
 use Rattle.mc_model_device.specs.Card.{App}
-use Rattle.mc_model_play.specs.Play.{Armed, Unarmed, ArmedCut, ArmedFail, Live, Running, State, Cold, Hot, Step, LineResult, Unusable, start, step, plays, steady_worn, steady_at, last_state, moves_of, armed_stop_in, is_card_line}
+use Rattle.mc_model_play.specs.Play.{Armed, Unarmed, ArmedCut, ArmedFail, Live, Running, State, BeforePower, AfterPower, Step, LineResult, Unusable, start, step, plays, steady_failures, steady_at, last_state, moves_of, armed_stop_in, is_card_line}
 use Rattle.mc_model_device.specs.PowerUp.{Base, OnCard}
 use Rattle.mc_model_device.specs.Words.{cause_text}
 use Rattle.mc_model_play.specs.DeckGrammar.{DeckLine}
@@ -21,7 +21,7 @@ steady_step s l = step s l (steady_at (armed_stop_in s) l.1 (moves_of s l))
 
 -- the state after lines that are played from a state
 unfoldable pub state_after_lines : State → List (ℕ × DeckLine) → State
-state_after_lines s ls = last_state s (plays s ls (steady_worn s ls))
+state_after_lines s ls = last_state s (plays s ls (steady_failures s ls))
 
 -- the state after lines that are played on a blank device
 abbrev pub state_on_blank : List (ℕ × DeckLine) → State
@@ -47,11 +47,11 @@ abbrev pub names_from : List (List ℕ) → List (ℕ × DeckLine) → List (Lis
 names_from names [] = names
 names_from names (l ∷ ls) = names_from (with_names names (names_in_line l.1)) ls
 
--- the observed state after a power line without a cut: the static bytes under each name, `None` if it is absent; or why the words are not
--- a card
-pub data ToldState : Type 0 where
-  Holds : (held : List (Option (List ℕ))) → ToldState
-  NoCard : (cause : Cause) (place : ℕ) → ToldState
+-- the observed state after a power line without a cut: the static bytes under each name, `None` if it is absent; or why
+-- the words are not a card
+pub data ReportedState : Type 0 where
+  Holds : (held : List (Option (List ℕ))) → ReportedState
+  NoCard : (cause : Cause) (place : ℕ) → ReportedState
 
 -- the static bytes under each name
 abbrev pub static_bytes_under : List (List ℕ) → List (List ℕ × App) → List (Option (List ℕ))
@@ -59,25 +59,25 @@ static_bytes_under names apps = map (λ n. option_map (λ a. a.fixed) (lookup ap
 
 -- the applications of a card that runs; none if no card runs
 abbrev pub running_apps : Live → Base → List (List ℕ × App)
-running_apps (Running seat) (OnCard c) = c.apps
+running_apps (Running session_state) (OnCard c) = c.apps
 running_apps live base = []
 
 -- the applications of a card that runs in a state of a play
 abbrev pub running_in : State → List (List ℕ × App)
-running_in (Cold m b a) = []
-running_in (Hot s) = running_apps s.live s.base
+running_in (BeforePower m b a) = []
+running_in (AfterPower s) = running_apps s.live s.base
 
 -- the observed state after a power line, by its result
-abbrev pub state_by_result : List (List ℕ) → Option LineResult → State → ToldState
+abbrev pub state_by_result : List (List ℕ) → Option LineResult → State → ReportedState
 state_by_result names (Some (Unusable cause place)) s = NoCard cause place
 state_by_result names r s = Holds (static_bytes_under names (running_in s))
 
 -- the observed state after the step of a power line
-abbrev pub state_of_step : List (List ℕ) → Step → ToldState
+abbrev pub state_of_step : List (List ℕ) → Step → ReportedState
 state_of_step names t = state_by_result names t.result t.after
 
 -- the observed state after lines and a power line without a cut
-unfoldable pub state_after_power : List (List ℕ) → List (ℕ × DeckLine) → ToldState
+unfoldable pub state_after_power : List (List ℕ) → List (ℕ × DeckLine) → ReportedState
 unfolding state_after_lines
 state_after_power names ls = state_of_step names (steady_step (state_on_blank ls) (0, line.Power))
 
@@ -96,7 +96,7 @@ are_same_held [] (y ∷ ys) = false
 are_same_held (x ∷ xs) [] = false
 
 -- equal observed states
-abbrev pub is_same : ToldState → ToldState → Bool
+abbrev pub is_same : ReportedState → ReportedState → Bool
 is_same (Holds a) (Holds b) = are_same_held a b
 is_same (NoCard c p) (NoCard d q) = bytes_eq (cause_text c) (cause_text d) && (p == q)
 is_same (Holds a) (NoCard d q) = false
@@ -112,7 +112,7 @@ word_by true true = Same
 word_by false false = Between
 
 -- whether all states are equal to the first
-abbrev pub all_same : ToldState → List ToldState → Bool
+abbrev pub all_same : ReportedState → List ReportedState → Bool
 all_same t [] = true
 all_same t (u ∷ us) = is_same u t && all_same t us
 
@@ -122,7 +122,7 @@ word_if true w = w
 word_if false w = Torn
 
 -- the word of a write, by the state before, the state after, its first state and its other states
-abbrev pub word_of : ToldState → ToldState → ToldState → List ToldState → Word
+abbrev pub word_of : ReportedState → ReportedState → ReportedState → List ReportedState → Word
 word_of before after t ts = word_if (all_same t ts) (word_by (is_same t before) (is_same t after))
 
 -- ---- the plays of a swept line
@@ -157,7 +157,7 @@ abbrev pub writes_behind : List (ℕ × DeckLine) → ℕ × DeckLine → ℕ
 writes_behind front l = moves_of (state_on_blank front) l
 
 -- the observed states after a cut if the recovery after it is cut too, in each of its writes
-abbrev pub recovery_states : List (List ℕ) → List (ℕ × DeckLine) → ℕ × DeckLine → ℕ → List ℕ → List ToldState
+abbrev pub recovery_states : List (List ℕ) → List (ℕ × DeckLine) → ℕ × DeckLine → ℕ → List ℕ → List ReportedState
 recovery_states names front l k fill =
     map (λ j. state_after_power names (under_cuts front l k fill j)) (count_from 1 (writes_behind (under_cut front l k fill) (power l.0)))
 
@@ -167,11 +167,11 @@ pub record Tried : Type 0 where
   pub plays : ℕ
 
 -- the cut of one write, by the state before, the state after, its first state and its other states
-abbrev pub cut_write_of : ToldState → ToldState → ToldState → List ToldState → Tried
+abbrev pub cut_write_of : ReportedState → ReportedState → ReportedState → List ReportedState → Tried
 cut_write_of before after t ts = record { word = word_of before after t ts; plays = length ts + 1 }
 
 -- the cut of one write of a line, with eight bytes 00 and with eight bytes FF
-unfoldable pub cut_write : List (List ℕ) → List (ℕ × DeckLine) → ℕ × DeckLine → ToldState → ToldState → ℕ → Tried
+unfoldable pub cut_write : List (List ℕ) → List (ℕ × DeckLine) → ℕ × DeckLine → ReportedState → ReportedState → ℕ → Tried
 unfolding state_after_power state_after_lines
 cut_write names front l before after k =
     cut_write_of before after (state_after_power names (under_cut front l k (zeros 8)))

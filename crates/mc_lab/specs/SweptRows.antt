@@ -14,7 +14,7 @@ use Rattle.mc_model_machine.specs.Row.{causes, effect, row}
 use Rattle.mc_model_machine.specs.Chain.{turn_of_chain, run_of_chain}
 use Rattle.mc_model_card.specs.Manager.{manage}
 use Rattle.mc_model_card.specs.Commands.{command}
-use Rattle.mc_model_play.specs.Play.{send, play_at_power, step, plays, moves_of, steady_worn}
+use Rattle.mc_model_play.specs.Play.{send, play_at_power, step, plays, moves_of, steady_failures}
 use Rattle.mc_model_play.specs.DeckGrammar.{DeckLine, deck_read}
 use Rattle.mc_lab.specs.Sweeps.{sweep_text}
 
@@ -25,7 +25,7 @@ sweep_of (Err e) = Err e
 
 -- the text of a sweep of a deck's text
 unfoldable pub swept_deck : List ℕ → Result (List ℕ) (ℕ × DeckCause)
-unfolding digits deck_read name_of apdu_read touched_words targets_1 targets_2 pairs blocks_from apps_of layout step_of bad_block bad_record bytes_at write_effect too_many later_causes prim_effect causes effect row turn_of_chain run_of_chain manage command send play_at_power step plays moves_of steady_worn sweep_text
+unfolding digits deck_read name_of apdu_read touched_words targets_1 targets_2 pairs blocks_from apps_of layout step_of bad_block bad_record bytes_at write_effect too_many later_causes prim_effect causes effect row turn_of_chain run_of_chain manage command send play_at_power step plays moves_of steady_failures sweep_text
 swept_deck text = sweep_of (deck_read text)
 
 -- a counter that is loaded and selected, and counts twice

@@ -4,8 +4,8 @@ use Rattle.mc_lab.specs.declared.matching.Walk.{Walk}
 use Rattle.mc_lab.specs.declared.matching.Walk.TheVariants as walk
 use Rattle.mc_model_play.specs.Patterns.{matches, some_rest, without_blanks}
 
--- a pattern and a text, without their blanks, were walked up to a `*`: the pattern matches here, or further on, exactly if the rest of it
--- does
+-- a pattern and a text, without their blanks, were walked up to a `*`: the pattern matches here, or further on, exactly
+-- if the rest of it does
 pub record Parts (p t ps ts : List ℕ) : Type 0 where
   pub here : matches p t ≡ some_rest (matches ps) ts
   pub later : some_rest (matches p) t ≡ some_rest (matches ps) ts

@@ -53,6 +53,7 @@ pub fn refused()
 
 /// Within a section a line that begins with `#` is assembly, and refused.
 pub fn sections()
-    ensures outside { expectation_report (codes "format\napp a A000000001\nEXIT\nend\npower\n#> ready 0\nload a 0 0\n#> 9000\n")
+    ensures outside { expectation_report
+        (codes "format\napp a A000000001\nEXIT\nend\npower\n#> ready 0\nload a 0 0\n#> 9000\n")
         ≡ Ok (codes "expected 2 failed 0\n") }
 {}

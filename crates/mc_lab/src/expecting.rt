@@ -41,7 +41,7 @@ pub fn expect<N: Bench + Drop, T: Sink, L: Ledger>(
     requires fuses { IsUnfused (N.bench device) }
     requires steady { (N.bench device).steady ≡ true }
     requires rising { IsRising trial.now }
-    ensures told { Puts (sunk_in T.taken T.faults out.old)
+    ensures reported { Puts (sunk_in T.taken T.faults out.old)
         (expect_text (steady_steps (N.state device).words (trial_value trial.now).lines)
         (trial_value trial.now).expected) (done_of result) (sunk_in T.taken T.faults out.new) }
     ensures failed { IfOk result (λ n. n ≡ count_failed

@@ -39,8 +39,9 @@ pub fn judge<T: Sink>(
     text: &[u8],
 ) -> Result<bool, WriteFault>
     ensures value { IfOk result (λ b. b ≡ holds expectation.now.text.now text.now) }
-    ensures told { Puts (sunk_in T.taken T.faults out.old)
-        (expectation_line (holds expectation.now.text.now text.now) (expectation_of expectation.now) text.now) (done_of result)
+    ensures reported { Puts (sunk_in T.taken T.faults out.old)
+        (expectation_line (holds expectation.now.text.now text.now) (expectation_of expectation.now) text.now)
+        (done_of result)
         (sunk_in T.taken T.faults out.new) }
 {
     if holds(expectation.text, text) {

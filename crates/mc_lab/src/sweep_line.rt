@@ -100,7 +100,7 @@ fn recoveries<D: Trials, L: Ledger>(
     let mut same = true;
     for made in 0..u16::MAX {
         let again = made as u32 + 1;
-        if !trials.tell(
+        if !trials.report(
             place,
             Behind::Twice { k, fill, again },
             &mut pair.now,
@@ -137,7 +137,7 @@ fn try_write<D: Trials, L: Ledger>(
     ensures first { AccountFits pair.new.first place.now }
     ensures now { AccountFits pair.new.now place.now }
 {
-    if !trials.tell(
+    if !trials.report(
         place,
         Behind::Cut { k, fill: ZEROS },
         &mut pair.first,
@@ -146,7 +146,7 @@ fn try_write<D: Trials, L: Ledger>(
         return None;
     }
     let (zeros_same, zeros) = recoveries(trials, place, k, ZEROS, pair, steps);
-    let _hit = trials.tell(place, Behind::Cut { k, fill: ONES }, &mut pair.now, steps);
+    let _hit = trials.report(place, Behind::Cut { k, fill: ONES }, &mut pair.now, steps);
     let ones_first = pair.now.is_same(&pair.first);
     let (ones_same, ones) = recoveries(trials, place, k, ONES, pair, steps);
     let is_one = both(zeros_same, both(ones_first, ones_same));
@@ -196,7 +196,7 @@ impl<D: Trials + Drop> Bench<D> {
                 k: made + 1,
                 fill: ZEROS,
             };
-            if !self.trials.tell(place, behind, &mut self.pair.now, steps) {
+            if !self.trials.report(place, behind, &mut self.pair.now, steps) {
                 return Some(made);
             }
         }
@@ -225,10 +225,10 @@ impl<D: Trials + Drop> Bench<D> {
     {
         let _hit = self
             .trials
-            .tell(place, Behind::Nothing, &mut self.ends.before, steps);
+            .report(place, Behind::Nothing, &mut self.ends.before, steps);
         let _hit = self
             .trials
-            .tell(place, Behind::Whole, &mut self.ends.after, steps);
+            .report(place, Behind::Whole, &mut self.ends.after, steps);
         let mut plays = 0;
         for writes in 0..words.len() {
             let k = writes as u32 + 1;

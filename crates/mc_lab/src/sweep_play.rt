@@ -70,7 +70,7 @@ fn play_line<N: Bench, L: Ledger>(
         → LineOn N.state N.bench s (n, line_of line.now) result player.new }
     ensures playing { IsPlaying N.state N.bench player.new }
     ensures size { length (N.state (device_of player.new)).words ≡ length (N.state (device_of player.old)).words }
-    ensures lent { N.same (device_of player.old) (device_of player.new) }
+    ensures keeps_device { N.same (device_of player.old) (device_of player.new) }
 {
     player.line(line, &mut Silent, steps)
 }
@@ -88,7 +88,7 @@ fn play_front<N: Bench, L: Ledger>(
     requires place { at ≤ length deck.now }
     ensures at { IsSteadyAt N.state N.bench result (state_on_blank (take at deck.now)) }
     ensures size { length (N.state (device_of result)).words ≡ length (N.state device).words }
-    ensures lent { N.same device (device_of result) }
+    ensures keeps_device { N.same device (device_of result) }
 {
     let mut player = Player::new(device);
     for i in 0..at {
@@ -113,7 +113,7 @@ fn play_cut<N: Bench, L: Ledger>(
         → CutOn N.state N.bench s (n, line_of line.now) i k fill result player.new }
     ensures playing { IsPlaying N.state N.bench player.new }
     ensures size { length (N.state (device_of player.new)).words ≡ length (N.state (device_of player.old)).words }
-    ensures lent { N.same (device_of player.old) (device_of player.new) }
+    ensures keeps_device { N.same (device_of player.old) (device_of player.new) }
 {
     let _armed = play_line(player, &Line::Cut { k, fill }, steps);
     let answer = play_line(player, line, steps);
@@ -137,7 +137,7 @@ fn play_twice<N: Bench, L: Ledger>(
     ensures on { (front : List (ℕ × DeckLine)) (n : ℕ) → IsSteadyAt N.state N.bench player.old (state_on_blank front)
         → BehindOn N.state N.bench front (n, line_of line.now) (behind.Twice k fill again) result player.new }
     ensures size { length (N.state (device_of player.new)).words ≡ length (N.state (device_of player.old)).words }
-    ensures lent { N.same (device_of player.old) (device_of player.new) }
+    ensures keeps_device { N.same (device_of player.old) (device_of player.new) }
 {
     let _hit = play_cut(player, line, k, fill, steps);
     play_cut(player, &Line::Power, again, fill, steps)
@@ -156,7 +156,7 @@ fn play_behind<N: Bench, L: Ledger>(
     ensures on { (front : List (ℕ × DeckLine)) (n : ℕ) → IsSteadyAt N.state N.bench player.old (state_on_blank front)
         → BehindOn N.state N.bench front (n, line_of line.now) behind result player.new }
     ensures size { length (N.state (device_of player.new)).words ≡ length (N.state (device_of player.old)).words }
-    ensures lent { N.same (device_of player.old) (device_of player.new) }
+    ensures keeps_device { N.same (device_of player.old) (device_of player.new) }
 {
     match behind {
         Behind::Nothing => true,
@@ -233,12 +233,12 @@ fn play_trial<N: Bench, L: Ledger>(
     requires at { IsPlace place.now }
     requires room { AccountFits into.old place.now }
     requires cuts { CanCut behind }
-    ensures told { account_value into.new ≡ state_at_place place.now behind }
+    ensures reported { account_value into.new ≡ state_at_place place.now behind }
     ensures hit { result.1 ≡ hit_in place.now behind }
     ensures few { IsFewBehind place.now behind }
     ensures room { AccountFits into.new place.now }
     ensures size { length (N.state result.0).words ≡ length (N.state device).words }
-    ensures lent { N.same device result.0 }
+    ensures keeps_device { N.same device result.0 }
 {
     let mut player = play_front(device, place.deck, place.at, steps);
     let (_number, line) = place.deck.line(place.at);
@@ -260,7 +260,7 @@ fn play_blank<L: Ledger>(
     requires at { IsPlace place.now }
     requires room { AccountFits into.old place.now }
     requires cuts { CanCut behind }
-    ensures told { account_value into.new ≡ state_at_place place.now behind }
+    ensures reported { account_value into.new ≡ state_at_place place.now behind }
     ensures hit { result ≡ hit_in place.now behind }
     ensures few { IsFewBehind place.now behind }
     ensures room { AccountFits into.new place.now }
@@ -285,7 +285,7 @@ impl Laboratory {
 }
 
 impl Trials for Laboratory {
-    fn tell<L: Ledger>(
+    fn report<L: Ledger>(
         &mut self,
         place: &Place<'_>,
         behind: Behind,

@@ -30,7 +30,7 @@ pub enum Behind {
 pub trait Trials {
     /// Plays the lines before a line, the lines of the trial from there on, and then a power line without a
     /// cut. Stores the observed state in `into`, and returns whether the last cut hit its line.
-    fn tell<L: Ledger>(
+    fn report<L: Ledger>(
         &mut self,
         place: &Place<'_>,
         behind: Behind,
@@ -40,7 +40,7 @@ pub trait Trials {
         requires at { IsPlace place.now }
         requires room { AccountFits into.old place.now }
         requires cuts { CanCut behind }
-        ensures told { account_value into.new ≡ state_at_place place.now behind }
+        ensures reported { account_value into.new ≡ state_at_place place.now behind }
         ensures hit { result ≡ hit_in place.now behind }
         ensures few { IsFewBehind place.now behind }
         ensures room { AccountFits into.new place.now };

@@ -7,7 +7,7 @@ ghost use Rattle.mc_lab.specs.Judged.{done_of};
 ghost use Rattle.mc_lab.specs.Sweeps.{is_unarmed, names_from, state_on_blank, sweep_text, swept_texts};
 ghost use Rattle.mc_lab.specs.SweepBodies.{line_at, writes_in, AccountsHaveRoom, IsUnarmedLine, IsPlace};
 ghost use Rattle.mc_lab.specs.SweepEnds.{free_behind, is_open_at, sweeps_from, sweeps_at, AddsSums, AtMost, IsRoom};
-ghost use Rattle.mc_lab.specs.SweepEnds.{IsSmall, TellsSweep};
+ghost use Rattle.mc_lab.specs.SweepEnds.{IsSmall, ReportsSweep};
 
 use crate::sweep_line::Bench;
 use crate::sweep_names::names_of;
@@ -152,7 +152,7 @@ fn sweep_place<D: Trials + Drop, T: Sink, L: Ledger>(
     requires most { length words.old ≤ 4294967295 }
     requires sums { IsSmall sums.old place.now.at }
     requires room { AccountsHaveRoom bench.old.ends bench.old.pair (length place.now.names.now) }
-    ensures told { Puts (sunk_in T.taken T.faults out.old) (swept_texts (sweeps_at place.now)) result
+    ensures reported { Puts (sunk_in T.taken T.faults out.old) (swept_texts (sweeps_at place.now)) result
         (sunk_in T.taken T.faults out.new) }
     ensures adds { OnOk result (AddsSums sums.old (sweeps_at place.now) sums.new) }
     ensures small { OnOk result (IsSmall sums.new (place.now.at + 1)) }
@@ -184,7 +184,7 @@ fn sweep_at<D: Trials + Drop, T: Sink, L: Ledger>(
     requires most { length words.old ≤ 4294967295 }
     requires sums { IsSmall sums.old place.now.at }
     requires room { AccountsHaveRoom bench.old.ends bench.old.pair (length place.now.names.now) }
-    ensures told { Puts (sunk_in T.taken T.faults out.old) (swept_texts (sweeps_at place.now)) result
+    ensures reported { Puts (sunk_in T.taken T.faults out.old) (swept_texts (sweeps_at place.now)) result
         (sunk_in T.taken T.faults out.new) }
     ensures adds { OnOk result (AddsSums sums.old (sweeps_at place.now) sums.new) }
     ensures small { OnOk result (IsSmall sums.new (place.now.at + 1)) }
@@ -225,7 +225,7 @@ fn sweep_lines<D: Trials + Drop, T: Sink, L: Ledger>(
     requires most { length words.old ≤ 4294967295 }
     requires sums { IsSmall sums.old 0 }
     requires room { AccountsHaveRoom bench.old.ends bench.old.pair (length names.now) }
-    ensures told { Puts (sunk_in T.taken T.faults out.old) (swept_texts (sweeps_from names.now deck.now 0)) result
+    ensures reported { Puts (sunk_in T.taken T.faults out.old) (swept_texts (sweeps_from names.now deck.now 0)) result
         (sunk_in T.taken T.faults out.new) }
     ensures adds { OnOk result (AddsSums sums.old (sweeps_from names.now deck.now 0) sums.new) }
 {
@@ -295,7 +295,7 @@ pub fn sweep<T: Sink, L: Ledger>(
     out: &mut T,
     steps: &mut Steps<L>,
 ) -> Result<(), SweepFault>
-    ensures { TellsSweep (sunk_in T.taken T.faults out.old) (sweep_text deck.now) result
+    ensures { ReportsSweep (sunk_in T.taken T.faults out.old) (sweep_text deck.now) result
         (sunk_in T.taken T.faults out.new) }
 {
     let mut room = match room_for(alloc, deck, steps) {

@@ -17,7 +17,7 @@ use Rattle.mc_model_machine.specs.Chain.{Outcome, Write, Chain, Ran, Acted, Foll
 use Rattle.mc_model_device.proofs.ImageLemmas.{all_append}
 use Rattle.mc_machine_laws.specs.FewWords.{HoldsFew, words_in, most_words}
 use Rattle.mc_machine_laws.specs.FewRuns.{AreCoded, FewRunsLaw}
-use Rattle.mc_machine_laws.proofs.RowWords.{none_holds, DoneRowFacts, row_few, held_after, told_any, delegates_short, most_64}
+use Rattle.mc_machine_laws.proofs.RowWords.{none_holds, DoneRowFacts, row_few, held_after, reported_any, delegates_short, most_64}
 use Rattle.mc_machine_laws.proofs.AppSizes.{SameSizes, Limited, limited_from, are_limited, limited_same}
 use Rattle.mc_machine_laws.proofs.RunSizes.{ChainFits, changed_by, NextFits, acted_fits, start_fits}
 use Rattle.mc_model_device.proofs.MapLemmas.{same_name, lookup_inserted_lem, lookup_beside}
@@ -88,16 +88,16 @@ exited_few : (s : Chain) (fs : List Frame) → FewChain s → AllFew fs → FewN
 exited_few s [] h a = cond_ends (nat_lt 1024 (la_of s.public)) _ _
 exited_few s (f ∷ fs) h a = record { frame = a.0; below = a.1; limited = h.limited; coded = h.coded }
 
-told_few : (s : Chain) (public : List ℕ) → FewChain s → FewChain (record s { public = public })
-told_few s public h = record { frame = h.frame; below = h.below; limited = h.limited; coded = h.coded }
+reported_few : (s : Chain) (public : List ℕ) → FewChain s → FewChain (record s { public = public })
+reported_few s public h = record { frame = h.frame; below = h.below; limited = h.limited; coded = h.coded }
 
 called_by : (s : Chain) (n : List ℕ) (b : Bool) (a : App) → lookup s.map n ≡ Some a → length n ≤ 16 → FewChain s → FewChain (called_app b s n a)
-called_by s n true a e short h = told_few s _ h
+called_by s n true a e short h = reported_few s _ h
 called_by s n false a e short h =
     record { frame = new_few n a (zeros a.session) short (are_limited s.map h.limited n a e); below = (h.frame, h.below); limited = h.limited; coded = h.coded }
 
 called_few : (s : Chain) (n : List ℕ) (o : Option App) → lookup s.map n ≡ o → length n ≤ 16 → FewChain s → FewChain (chain_after_call s n o)
-called_few s n None e short h = told_few s _ h
+called_few s n None e short h = reported_few s _ h
 called_few s n (Some a) e short h = called_by s n (is_active n s.frame s.below || nat_le 4 (depth_of s)) a e short h
 
 follows_few : (s : Chain) (t : Then) → ((n : List ℕ) → t ≡ Delegates n → length n ≤ 16) → FewChain s → FewNext (follows s t)
@@ -107,9 +107,9 @@ follows_few s (Delegates n) short h = called_few s n (lookup s.map n) refl (shor
 
 -- ---- turns
 
-told_by : (fs : List Frame) → AllFew fs → IfSome (delegator_in fs) (λ n. length n ≤ 16)
-told_by [] a = tt
-told_by (f ∷ fs) a = a.0.name
+reported_by : (fs : List Frame) → AllFew fs → IfSome (delegator_in fs) (λ n. length n ≤ 16)
+reported_by [] a = tt
+reported_by (f ∷ fs) a = a.0.name
 
 written_few : (n : List ℕ) (o : Option (List (ℕ × List ℕ))) → words_in o ≤ 64 → AllByRecursion FewOfWrite (write_of n o)
 written_few n None h = tt
@@ -147,7 +147,7 @@ judged_few ch i at None e fits h shaped =
     done_few ch i at fits h
     (record {
       shaped = shaped;
-      told = told_any i (around ch).delegator (told_by ch.below h.below);
+      reported = reported_any i (around ch).delegator (reported_by ch.below h.below);
       none = none_holds (causes i f ch.public (around ch)) e;
     })
 

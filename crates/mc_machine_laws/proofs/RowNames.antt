@@ -6,7 +6,7 @@ use Rattle.mc_model_machine.specs.declared.instruction.Ins.TheVariants as ins
 use Rattle.mc_model_machine.specs.declared.machine.Abend.{Abend}
 use Rattle.mc_model_device.specs.Bytes.{num}
 use Rattle.mc_model_machine.specs.Frame.{Frame, Effect, Place, Static, Dynamic, Public, static_written, stack_bytes, bytes_at, write_effect_at, where_is, write_effect, frame_after_pop, protect, static_bytes, pending_change}
-use Rattle.mc_model_machine.specs.Primitives.{Around, Done, Primitive, CheckCase, LoadCcr, StoreCcr, Lookup, MemoryCompare, MemoryCopy, DelegateTo, DelegatorAid, Digest, CompareFixed, CopyFixed, SetProtection, Encipher, Decipher, Sign, BitByte, ShiftLeft, ShiftRight, BitWord, number_below_top, count_at, lookup_effect, delegator_told, prim_effect, prim_done, primitive}
+use Rattle.mc_model_machine.specs.Primitives.{Around, Done, Primitive, CheckCase, LoadCcr, StoreCcr, Lookup, MemoryCompare, MemoryCopy, DelegateTo, DelegatorAid, Digest, CompareFixed, CopyFixed, SetProtection, Encipher, Decipher, Sign, BitByte, ShiftLeft, ShiftRight, BitWord, number_below_top, count_at, lookup_effect, delegator_reported, prim_effect, prim_done, primitive}
 use Rattle.mc_model_machine.specs.Row.{frame_after_jump, frame_after_call, without_target, effect, RowEnd, Abends, Does, row_end, causes, first_cause, row}
 
 -- ---- accesses
@@ -50,9 +50,9 @@ looked_up_name : (f : Frame) (public : List ℕ) (o : Option ℕ) → (lookup_ef
 looked_up_name f public (Some i) = refl
 looked_up_name f public None = refl
 
-delegator_told_name : (f : Frame) (public : List ℕ) (a : ℕ) (o : Option (List ℕ)) → (delegator_told f public a o).frame.name ≡ f.name
-delegator_told_name f public a None = refl
-delegator_told_name f public a (Some n) = written_name f public a _
+delegator_reported_name : (f : Frame) (public : List ℕ) (a : ℕ) (o : Option (List ℕ)) → (delegator_reported f public a o).frame.name ≡ f.name
+delegator_reported_name f public a None = refl
+delegator_reported_name f public a (Some n) = written_name f public a _
 
 -- ---- primitives
 
@@ -65,7 +65,7 @@ prim_effect_name Lookup args f public x = looked_up_name (frame_after_pop f 3) p
 prim_effect_name MemoryCompare args f public x = refl
 prim_effect_name MemoryCopy args f public x = written_name (frame_after_pop f 6) public _ _
 prim_effect_name DelegateTo args f public x = refl
-prim_effect_name DelegatorAid args f public x = delegator_told_name (frame_after_pop f 2) public (number_below_top f 2) x.delegator
+prim_effect_name DelegatorAid args f public x = delegator_reported_name (frame_after_pop f 2) public (number_below_top f 2) x.delegator
 prim_effect_name Digest args f public x = written_name (frame_after_pop f 6) public _ _
 prim_effect_name CompareFixed args f public x = refl
 prim_effect_name CopyFixed args f public x = written_name (frame_after_pop f 4) public _ _

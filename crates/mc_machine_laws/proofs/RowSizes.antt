@@ -5,7 +5,7 @@ use Rattle.std.proofs.lemmas.Bool.{and_parts, leb-true, ltb-false, eqb-true}
 use Rattle.mc_model_device.specs.Bytes.{zeros, splice}
 use Rattle.mc_model_device.specs.Pieces.{laid_pieces, touched_words}
 use Rattle.mc_model_machine.specs.Frame.{Frame, Effect, Place, Static, Dynamic, Public, where_is, dynamic_base, public_base, public_end, static_written, write_effect_at, write_effect, is_outside, passes_limit, too_many, frame_after_push, frame_with_top, frame_with_flags, protect, static_bytes, pending_change}
-use Rattle.mc_model_machine.specs.Primitives.{frame_effect, effect_flagged, lookup_effect, delegator_told}
+use Rattle.mc_model_machine.specs.Primitives.{frame_effect, effect_flagged, lookup_effect, delegator_reported}
 use Rattle.mc_model_device.proofs.ImageLemmas.{all_append}
 use Rattle.mc_model_device.proofs.ListLemmas.{length_splice, splice_longer}
 use Rattle.mc_machine_laws.specs.FewWords.{PiecesWithin, words_in}
@@ -26,8 +26,9 @@ length_laid (p ∷ ps) l a =
     let same : length (splice l p.0 p.1) ≡ length l = length_splice l p.0 p.1 a.0 in
     length_laid ps (splice l p.0 p.1) (subst (λ (n : ℕ). PiecesWithin n ps) (sym same) a.1) ∙ same
 
--- What an effect leaves of a frame with these parts: the sizes; pieces that lie inside, if those before did; and if P is known, the
--- number of words that it touches, for 64 only if no more were pending, and the number of words that stay pending.
+-- What an effect leaves of a frame with these parts: the sizes; pieces that lie inside, if those before did; and if P
+-- is known, the number of words that it touches, for 64 only if no more were pending, and the number of words that stay
+-- pending.
 pub record KeptSizes (known : List ℕ) (bytes size room : ℕ) (pieces : List (ℕ × List ℕ)) (P : Type 0) (most : ℕ) (e : Effect) : Type 0 where
   pub name : e.frame.name ≡ known
   pub session : e.frame.session ≡ bytes
@@ -226,6 +227,6 @@ module _ (f : Frame) (P : Type 0) where
   looks_few most dt public (Some i) = still _ public most refl refl refl refl (splice_longer f.dyn _ (i ∷ []))
   looks_few most dt public None = still _ public most refl refl refl refl (splice_longer f.dyn _ (0 ∷ []))
 
-  pub tells_few : (dt a : ℕ) (public : List ℕ) (o : Option (List ℕ)) → (P → IfSome o (λ name. WriteFacts (record f { dt = dt }) a (1 + length name) (length name ∷ name))) → KeepsSizes f P 33 (delegator_told (record f { dt = dt }) public a o)
-  tells_few dt a public None w = still _ public 33 refl refl refl refl (omega arith)
-  tells_few dt a public (Some name) w = flagged_few 33 _ f.c false (writes_few dt a (1 + length name) public (length name ∷ name) w)
+  pub reports_few : (dt a : ℕ) (public : List ℕ) (o : Option (List ℕ)) → (P → IfSome o (λ name. WriteFacts (record f { dt = dt }) a (1 + length name) (length name ∷ name))) → KeepsSizes f P 33 (delegator_reported (record f { dt = dt }) public a o)
+  reports_few dt a public None w = still _ public 33 refl refl refl refl (omega arith)
+  reports_few dt a public (Some name) w = flagged_few 33 _ f.c false (writes_few dt a (1 + length name) public (length name ∷ name) w)

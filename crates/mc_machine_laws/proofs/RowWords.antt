@@ -12,13 +12,13 @@ use Rattle.mc_model_machine.specs.Code.{Shaped}
 use Rattle.mc_model_machine.specs.Modes.{ecb}
 use Rattle.mc_model_device.specs.Pieces.{touched_words}
 use Rattle.mc_model_machine.specs.Frame.{Frame, Effect, bytes_at, address_at, is_outside, no_access, write_effect, frame_after_pop, frame_after_push, top, frame_with_flags, come_back, dynamic_base}
-use Rattle.mc_model_machine.specs.Primitives.{Around, Exits, Delegates, frame_effect, effect_flagged, Cipher, Des, TripleDes, Aes, block_len, key_len, Primitive, CheckCase, LoadCcr, StoreCcr, Lookup, MemoryCompare, MemoryCopy, DelegateTo, DelegatorAid, Digest, CompareFixed, CopyFixed, SetProtection, Encipher, Decipher, Sign, BitByte, ShiftLeft, ShiftRight, BitWord, primitive, in_range, number_below_top, count_at, told_causes, cipher_causes, later_causes, prim_causes, prim_effect, prim_done, masked_bytes, encipherment, decipherment}
+use Rattle.mc_model_machine.specs.Primitives.{Around, Exits, Delegates, frame_effect, effect_flagged, Cipher, Des, TripleDes, Aes, block_len, key_len, Primitive, CheckCase, LoadCcr, StoreCcr, Lookup, MemoryCompare, MemoryCopy, DelegateTo, DelegatorAid, Digest, CompareFixed, CopyFixed, SetProtection, Encipher, Decipher, Sign, BitByte, ShiftLeft, ShiftRight, BitWord, primitive, in_range, number_below_top, count_at, reported_causes, cipher_causes, later_causes, prim_causes, prim_effect, prim_done, masked_bytes, encipherment, decipherment}
 use Rattle.mc_model_machine.specs.Blocks.{shift_left_block, shift_right_block, add_blocks, sub_blocks, inc_block, dec_block, and_blocks, or_blocks, xor_blocks, not_block}
 use Rattle.mc_model_machine.specs.Row.{on_stack, indexed_address, holds, frame_after_jump, frame_after_call, target, operand, address_or_zero, writes, immediate_writes, pair_writes, place_of, value_of, first_of, causes, effect, first_cause, row_end, row}
 use Rattle.mc_model_device.proofs.ListLemmas.{splice_longer, zeros_short}
-use Rattle.mc_machine_laws.specs.FewWords.{PiecesWithin, HoldsFew, IsToldName, most_of, most_words, EndsFew, EndsWithin, FewWordsLaw, FewWritesLaw}
+use Rattle.mc_machine_laws.specs.FewWords.{PiecesWithin, HoldsFew, IsReportedName, most_of, most_words, EndsFew, EndsWithin, FewWordsLaw, FewWritesLaw}
 use Rattle.mc_machine_laws.proofs.BlockLengths.{worked_short, each_short, map_short, stacked_short, at_short, enciphered_message, deciphered_message, signature_short, length_sha1}
-use Rattle.mc_machine_laws.proofs.RowSizes.{KeepsSizes, WriteFacts, still, pushes_few, tops_few, writes_few, flagged_few, protects_few, looks_few, tells_few}
+use Rattle.mc_machine_laws.proofs.RowSizes.{KeepsSizes, WriteFacts, still, pushes_few, tops_few, writes_few, flagged_few, protects_few, looks_few, reports_few}
 
 -- ---- no cause holds
 
@@ -39,7 +39,7 @@ none_holds (c ∷ cs) e =
 -- what is known of a row that is done
 pub record DoneRowFacts (i : Ins) (f : Frame) (public : List ℕ) (x : Around) : Type 0 where
   pub shaped : Shaped i
-  pub told : IsToldName i x.delegator
+  pub reported : IsReportedName i x.delegator
   pub none : NoneHolds (causes i f public x)
 
 -- ---- tested writes
@@ -71,7 +71,7 @@ weaker f P Q most e g k =
 
 record PrimFacts (p : Primitive) (args : List ℕ) (f : Frame) (public : List ℕ) (x : Around) : Type 0 where
   bytes : AllByRecursion (λ b. b < 256) args
-  told : IfSome x.delegator (λ n. length n ≤ 16)
+  reported : IfSome x.delegator (λ n. length n ≤ 16)
   none : NoneHolds (later_causes p args f public x)
 
 block_most : (c : Cipher) → block_len c ≤ 256
@@ -79,9 +79,9 @@ block_most Des = omega arith
 block_most TripleDes = omega arith
 block_most Aes = omega arith
 
-told_facts : (g : Frame) (a : ℕ) (o : Option (List ℕ)) → IfSome o (λ n. length n ≤ 16) → NoneHolds (told_causes g a o) → IfSome o (λ name. WriteFacts g a (1 + length name) (length name ∷ name))
-told_facts g a None t h = tt
-told_facts g a (Some name) t h = record { short = omega arith; small = let few : length name ≤ 16 = t in omega arith; there = h.0; room = h.1.0 }
+reported_facts : (g : Frame) (a : ℕ) (o : Option (List ℕ)) → IfSome o (λ n. length n ≤ 16) → NoneHolds (reported_causes g a o) → IfSome o (λ name. WriteFacts g a (1 + length name) (length name ∷ name))
+reported_facts g a None t h = tt
+reported_facts g a (Some name) t h = record { short = omega arith; small = let few : length name ≤ 16 = t in omega arith; there = h.0; room = h.1.0 }
 
 copy_facts : (args : List ℕ) (f : Frame) (public : List ℕ) (x : Around) → PrimFacts MemoryCopy args f public x → WriteFacts (frame_after_pop f 6) (number_below_top f 4) (number_below_top f 6) (bytes_at (frame_after_pop f 6) public (number_below_top f 2) (number_below_top f 6))
 unfolding later_causes
@@ -157,9 +157,9 @@ sign_facts c args f public b x p short =
     let middle = or_parts (is_outside g (number_below_top f 8) m || is_outside g (number_below_top f 6) n) (is_outside g (number_below_top f 4) m) last.0 in
     record { short = short; small = block_most c; there = middle.1; room = p.none.1.1.0 }
 
-told_delegator : (args : List ℕ) (f : Frame) (public : List ℕ) (x : Around) → PrimFacts DelegatorAid args f public x → IfSome x.delegator (λ name. WriteFacts (frame_after_pop f 2) (number_below_top f 2) (1 + length name) (length name ∷ name))
+reported_delegator : (args : List ℕ) (f : Frame) (public : List ℕ) (x : Around) → PrimFacts DelegatorAid args f public x → IfSome x.delegator (λ name. WriteFacts (frame_after_pop f 2) (number_below_top f 2) (1 + length name) (length name ∷ name))
 unfolding later_causes
-told_delegator args f public x p = told_facts (frame_after_pop f 2) (number_below_top f 2) x.delegator p.told p.none.1
+reported_delegator args f public x p = reported_facts (frame_after_pop f 2) (number_below_top f 2) x.delegator p.reported p.none.1
 
 module _ (args : List ℕ) (f : Frame) (public : List ℕ) (x : Around) where
   prim_few : (p : Primitive) → KeepsSizes f (PrimFacts p args f public x) (most_of (Some p)) (prim_effect p args f public x).effect
@@ -171,7 +171,7 @@ module _ (args : List ℕ) (f : Frame) (public : List ℕ) (x : Around) where
   prim_few MemoryCompare = still f (PrimFacts MemoryCompare args f public x) _ public 33 refl refl refl refl (omega arith)
   prim_few MemoryCopy = writes_few f (PrimFacts MemoryCopy args f public x) (f.dt - 6) (number_below_top f 4) (number_below_top f 6) public _ (λ p. copy_facts args f public x p)
   prim_few DelegateTo = still f (PrimFacts DelegateTo args f public x) _ public 33 refl refl refl refl (omega arith)
-  prim_few DelegatorAid = tells_few f (PrimFacts DelegatorAid args f public x) (f.dt - 2) (number_below_top f 2) public x.delegator (λ p. told_delegator args f public x p)
+  prim_few DelegatorAid = reports_few f (PrimFacts DelegatorAid args f public x) (f.dt - 2) (number_below_top f 2) public x.delegator (λ p. reported_delegator args f public x p)
   prim_few Digest = writes_few f (PrimFacts Digest args f public x) (f.dt - 6) (number_below_top f 2) 20 public _ (λ p. digest_facts args f public x p)
   prim_few CompareFixed = still f (PrimFacts CompareFixed args f public x) _ public 33 refl refl refl refl (omega arith)
   prim_few CopyFixed = writes_few f (PrimFacts CopyFixed args f public x) (f.dt - 4) (number_below_top f 4) (slice_index args 0) public _ (λ p. fixed_facts args f public x p)
@@ -209,7 +209,7 @@ prim_facts : (set number : ℕ) (args : List ℕ) (f : Frame) (public : List ℕ
 unfolding causes
 prim_facts set number args f public x p is h =
     let none : NoneHolds (prim_causes (Some p) args f public x) = subst (λ (o : Option Primitive). NoneHolds (prim_causes o args f public x)) is h.none in
-    record { bytes = h.shaped.bytes; told = h.told; none = none.1.1 }
+    record { bytes = h.shaped.bytes; reported = h.reported; none = none.1.1 }
 
 module _ (f : Frame) (public : List ℕ) (x : Around) where
   -- rows that write nothing
@@ -358,25 +358,25 @@ held_after i f public x p held =
     }
 
 -- a name that every row may write
-pub told_any : (i : Ins) (o : Option (List ℕ)) → IfSome o (λ n. length n ≤ 16) → IsToldName i o
-told_any (ins.Prim set number args) o h = h
-told_any i o h = tt
+pub reported_any : (i : Ins) (o : Option (List ℕ)) → IfSome o (λ n. length n ≤ 16) → IsReportedName i o
+reported_any (ins.Prim set number args) o h = h
+reported_any i o h = tt
 
 -- the words that a row changes, whatever its frame is like: a row that may change more than 33 changes what is pending
-judged_words : (i : Ins) (f : Frame) (public : List ℕ) (x : Around) → Shaped i → IsToldName i x.delegator → (most_words i ≡ 64 → length (touched_words f.pieces) ≤ 64) → (o : Option Abend) → first_cause (causes i f public x) ≡ o
+judged_words : (i : Ins) (f : Frame) (public : List ℕ) (x : Around) → Shaped i → IsReportedName i x.delegator → (most_words i ≡ 64 → length (touched_words f.pieces) ≤ 64) → (o : Option Abend) → first_cause (causes i f public x) ≡ o
     → EndsWithin (most_words i) (row_end o (effect i f public x))
-judged_words i f public x shaped told few (Some a) e = tt
-judged_words i f public x shaped told few None e = (row_few f public x i).words (record { shaped = shaped; told = told; none = none_holds (causes i f public x) e }) few
+judged_words i f public x shaped reported few (Some a) e = tt
+judged_words i f public x shaped reported few None e = (row_few f public x i).words (record { shaped = shaped; reported = reported; none = none_holds (causes i f public x) e }) few
 
-pub row_words : (i : Ins) (f : Frame) (public : List ℕ) (x : Around) → Shaped i → IsToldName i x.delegator → (most_words i ≡ 64 → length (touched_words f.pieces) ≤ 64) → EndsWithin (most_words i) (row i f public x)
+pub row_words : (i : Ins) (f : Frame) (public : List ℕ) (x : Around) → Shaped i → IsReportedName i x.delegator → (most_words i ≡ 64 → length (touched_words f.pieces) ≤ 64) → EndsWithin (most_words i) (row i f public x)
 unfolding row
-row_words i f public x shaped told few = judged_words i f public x shaped told few (first_cause (causes i f public x)) refl
+row_words i f public x shaped reported few = judged_words i f public x shaped reported few (first_cause (causes i f public x)) refl
 
 judged_few : (i : Ins) (f : Frame) (public : List ℕ) (x : Around) → Shaped i → IfSome x.delegator (λ n. length n ≤ 16) → HoldsFew f → (o : Option Abend) → first_cause (causes i f public x) ≡ o
     → EndsFew (most_words i) (row_end o (effect i f public x))
-judged_few i f public x shaped told held (Some a) e = tt
-judged_few i f public x shaped told held None e =
-    let p : DoneRowFacts i f public x = record { shaped = shaped; told = told_any i x.delegator told; none = none_holds (causes i f public x) e } in
+judged_few i f public x shaped reported held (Some a) e = tt
+judged_few i f public x shaped reported held None e =
+    let p : DoneRowFacts i f public x = record { shaped = shaped; reported = reported_any i x.delegator reported; none = none_holds (causes i f public x) e } in
     record { words = (row_few f public x i).words p (λ e. held.few); frame = held_after i f public x p held; exit = exit_none i f public x }
 
 -- a name that a row delegates to has at most 16 bytes
@@ -420,7 +420,7 @@ most_is i = inr refl
 
 pub few_words_law : FewWordsLaw
 unfolding row
-few_words_law i f public x shaped told held = judged_few i f public x shaped told held (first_cause (causes i f public x)) refl
+few_words_law i f public x shaped reported held = judged_few i f public x shaped reported held (first_cause (causes i f public x)) refl
 
 pub few_writes_law : FewWritesLaw
 few_writes_law w = (λ h. record { two = omega arith; one = omega arith }, λ h. record { two = omega arith; one = omega arith })

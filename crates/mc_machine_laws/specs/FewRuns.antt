@@ -9,7 +9,8 @@ use Rattle.mc_model_device.specs.Card.{App}
 use Rattle.mc_model_machine.specs.Chain.{code_in, run}
 use Rattle.mc_machine_laws.specs.Limited.{AreLimited}
 
--- applications that keep to the most static bytes, and code of bytes: the operands of each instruction in it are in their ranges
+-- applications that keep to the most static bytes, and code of bytes: the operands of each instruction in it are in
+-- their ranges
 pub record AreCoded (map : List (List ℕ × App)) : Type 0 where
   pub limited : AreLimited map
   pub shaped : (name : List ℕ) (at : ℕ) (i : Ins) (next : ℕ) → instruction_at (code_in (lookup map name)) at ≡ Ok (i, next) → Shaped i

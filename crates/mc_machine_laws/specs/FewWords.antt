@@ -37,7 +37,8 @@ abbrev pub most_words : Ins → ℕ
 most_words (ins.Prim set number args) = most_of (primitive set number)
 most_words _ = 33
 
--- an instruction that is done changes at most `most` words, leaves a frame within the limits, and changes none if the frame exits
+-- an instruction that is done changes at most `most` words, leaves a frame within the limits, and changes none if the
+-- frame exits
 pub record DoesFew (most : ℕ) (d : Done) : Type 0 where
   pub words : words_in d.effect.changes ≤ most
   pub frame : HoldsFew d.effect.frame
@@ -49,17 +50,17 @@ EndsWithin most (Abends a) = ⊤
 EndsWithin most (Does d) = words_in d.effect.changes ≤ most
 
 -- the name that an instruction may write has at most 16 bytes: a primitive may write that of the delegator
-abbrev pub IsToldName : Ins → Option (List ℕ) → Type 0
-IsToldName (ins.Prim set number args) delegator = IfSome delegator (λ n. length n ≤ 16)
-IsToldName _ delegator = ⊤
+abbrev pub IsReportedName : Ins → Option (List ℕ) → Type 0
+IsReportedName (ins.Prim set number args) delegator = IfSome delegator (λ n. length n ≤ 16)
+IsReportedName _ delegator = ⊤
 
 -- a row that is done changes few words and leaves a frame within the limits
 abbrev pub EndsFew : ℕ → RowEnd → Type 0
 EndsFew most (Abends a) = ⊤
 EndsFew most (Does d) = DoesFew most d
 
--- the row of each instruction that bytes spell changes few words, in a frame within the limits whose delegator has a name of at most 16
--- bytes
+-- the row of each instruction that bytes spell changes few words, in a frame within the limits whose delegator has a
+-- name of at most 16 bytes
 abbrev pub FewWordsLaw : Type 0
 FewWordsLaw =
     (i : Ins) (f : Frame) (public : List ℕ) (x : Around)

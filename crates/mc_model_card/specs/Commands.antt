@@ -5,14 +5,14 @@ use Rattle.mc_model_device.specs.Card.{Card}
 use Rattle.mc_model_device.specs.Layout.{step_of}
 use Rattle.mc_model_machine.specs.Chain.{Outcome, Reply, Turn, Ran, run}
 use Rattle.mc_model_card.specs.Items.{Change, Item, Plain, Atomic, apps_after_change, BankItem, Piece, Blank, Note, Commit, Enter, Remove, write_items}
-use Rattle.mc_model_card.specs.Manager.{Selected, Seat, Route, WrongLength, WrongClass, ToSelect, ToManager, ToApplication, route, Managed, Declines, Accepts, select, manage, room_on}
+use Rattle.mc_model_card.specs.Manager.{Selected, SessionState, Route, WrongLength, WrongClass, ToSelect, ToManager, ToApplication, route, Managed, Declines, Accepts, select, manage, room_on}
 
--- what a command does if nothing stops it: its items, its outcome, the session state after it, the pairs of its delegations, and its
--- turns
+-- what a command does if nothing stops it: its items, its outcome, the session state after it, the pairs of its
+-- delegations, and its turns
 pub record Command : Type 0 where
   pub items : List Item
   pub outcome : Outcome
-  pub seat : Seat
+  pub session_state : SessionState
   pub pairs : List (List ℕ × List ℕ)
   pub turns : List Turn
 
@@ -21,8 +21,8 @@ abbrev pub status : ℕ → Outcome
 status sw = Reply [] sw
 
 -- a command that is refused with a status, and changes nothing
-abbrev pub refusal : Seat → ℕ → Command
-refusal seat sw = record { items = []; outcome = status sw; seat = seat; pairs = []; turns = [] }
+abbrev pub refusal : SessionState → ℕ → Command
+refusal session_state sw = record { items = []; outcome = status sw; session_state = session_state; pairs = []; turns = [] }
 
 -- an item of the bank without its contents; `whole` is the creation or the deletion
 abbrev pub item_of : Item → BankItem → Item
@@ -39,35 +39,35 @@ atomic_of c None = Plain
 atomic_of c (Some ch) = Atomic (length (step_of c (record c { apps = apps_after_change ch c.apps }))) ch
 
 -- the manager's answer as a command
-abbrev pub manager_command : Card → Seat → Managed → Command
-manager_command c seat (Declines sw) = refusal seat sw
-manager_command c seat (Accepts a) =
-    record { items = map (item_of (atomic_of c a.change)) a.items; outcome = Reply a.body 0x9000; seat = a.seat; pairs = []; turns = [] }
+abbrev pub manager_command : Card → SessionState → Managed → Command
+manager_command c session_state (Declines sw) = refusal session_state sw
+manager_command c session_state (Accepts a) =
+    record { items = map (item_of (atomic_of c a.change)) a.items; outcome = Reply a.body 0x9000; session_state = a.session_state; pairs = []; turns = [] }
 
 -- a run as a command: its session bytes stay with the selection
-abbrev pub ran_command : Seat → List ℕ → Ran → Command
-ran_command seat n r =
+abbrev pub ran_command : SessionState → List ℕ → Ran → Command
+ran_command session_state n r =
     record {
       items = write_items r.writes;
       outcome = r.outcome;
-      seat = record seat { selected = Some (record { name = n; session = r.session }) };
+      session_state = record session_state { selected = Some (record { name = n; session = r.session }) };
       pairs = r.pairs;
       turns = r.turns;
     }
 
 -- a command for the selected application: 6985 if none is selected
-abbrev pub application_command : Card → Seat → Option Selected → ApduParts → ℕ → Command
-application_command c seat None a budget = refusal seat 0x6985
-application_command c seat (Some s) a budget = ran_command seat s.name (run c.apps s.name s.session a budget)
+abbrev pub application_command : Card → SessionState → Option Selected → ApduParts → ℕ → Command
+application_command c session_state None a budget = refusal session_state 0x6985
+application_command c session_state (Some s) a budget = ran_command session_state s.name (run c.apps s.name s.session a budget)
 
 -- a command by its route
-abbrev pub by_route : Card → Seat → ℕ → Route → Command
-by_route c seat budget WrongLength = refusal seat 0x6700
-by_route c seat budget WrongClass = refusal seat 0x6E00
-by_route c seat budget (ToSelect a) = manager_command c seat (select c.apps seat a)
-by_route c seat budget (ToManager a) = manager_command c seat (manage (room_on c) c.apps seat a)
-by_route c seat budget (ToApplication a) = application_command c seat seat.selected a budget
+abbrev pub by_route : Card → SessionState → ℕ → Route → Command
+by_route c session_state budget WrongLength = refusal session_state 0x6700
+by_route c session_state budget WrongClass = refusal session_state 0x6E00
+by_route c session_state budget (ToSelect a) = manager_command c session_state (select c.apps session_state a)
+by_route c session_state budget (ToManager a) = manager_command c session_state (manage (room_on c) c.apps session_state a)
+by_route c session_state budget (ToApplication a) = application_command c session_state session_state.selected a budget
 
 -- one command on a running card
-unfoldable pub command : Card → Seat → List ℕ → ℕ → Command
-command c seat bytes budget = by_route c seat budget (route bytes)
+unfoldable pub command : Card → SessionState → List ℕ → ℕ → Command
+command c session_state bytes budget = by_route c session_state budget (route bytes)

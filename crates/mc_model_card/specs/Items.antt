@@ -86,8 +86,8 @@ pub record Site : Type 0 where
   pub sizes : Sizes
   pub place : ℕ
 
--- an item of a bank with its contents: bytes of one word of a section, zeros after the data in one word, a record word (0 to 3),
--- the words of a commit, a creation, a deletion
+-- an item of a bank with its contents: bytes of one word of a section, zeros after the data in one word, a record word
+-- (0 to 3), the words of a commit, a creation, a deletion
 pub data BankItem : Type 0 where
   Piece : (site : Site) (part : Part) (at : ℕ) (bytes : List ℕ) → BankItem
   Blank : (site : Site) (at : ℕ) (count : ℕ) → BankItem

@@ -1,5 +1,6 @@
--- The commands of the card manager: select, load, create, delete; and how a command is routed to it or to an application.
--- Headers, SELECT and status words are those of ISO/IEC 7816-4:2005 (5.1 and 7.1.1); the commands of class BE are this project's own.
+-- The commands of the card manager: select, load, create, delete; and how a command is routed to it or to an
+-- application. Headers, SELECT and status words are those of ISO/IEC 7816-4:2005 (5.1 and 7.1.1); the commands of class
+-- BE are this project's own.
 use Rattle.std.specs.Prelude.{ℕ, zero, suc, ◌+◌, ◌-◌, ◌*◌, ◌%◌, Bool, true, false, cond, not, ◌&&◌, ◌||◌, nat_lt, nat_le, ◌==◌, min, List, [], ◌∷◌, ◌++◌, length, take, drop, map, slice_index, bytes_eq, is_some, is_none, is_ok, unwrap_or, Option, Some, None, Result, Ok, Err}
 use Rattle.mc_model_card.specs.declared.card.Part.{Part}
 use Rattle.mc_model_card.specs.declared.card.Part.TheVariants as part
@@ -33,13 +34,13 @@ pub record Open : Type 0 where
   pub got : Got
 
 -- the session state: the selection and the open load
-pub record Seat : Type 0 where
+pub record SessionState : Type 0 where
   pub selected : Option Selected
   pub load : Option Open
 
 -- the session state after a power-up: nothing selected, and no load open
-abbrev pub empty_seat : Seat
-empty_seat = record { selected = None; load = None }
+abbrev pub empty_session_state : SessionState
+empty_session_state = record { selected = None; load = None }
 
 -- ---- routing
 
@@ -68,7 +69,7 @@ route bytes = route_of_parts (apdu_read bytes)
 -- a command that was done, with 9000: its data, the state after it, its items, and how they change the card
 pub record Accepted : Type 0 where
   pub body : List ℕ
-  pub seat : Seat
+  pub session_state : SessionState
   pub items : List BankItem
   pub change : Option Change
 
@@ -97,8 +98,8 @@ is_empty [] = true
 is_empty (b ∷ bs) = false
 
 -- a command without items
-abbrev pub changes_nothing : List ℕ → Seat → Accepted
-changes_nothing body seat = record { body = body; seat = seat; items = []; change = None }
+abbrev pub changes_nothing : List ℕ → SessionState → Accepted
+changes_nothing body session_state = record { body = body; session_state = session_state; items = []; change = None }
 
 -- ---- SELECT (00 A4 04): 6A86, 6700, 6A82
 
@@ -112,14 +113,14 @@ abbrev pub select_body : ApduParts → App → List ℕ
 select_body a app = cond (a.p2 == 0) (take (unwrap_or a.le 0) app.fci) []
 
 -- what a SELECT does
-abbrev pub select_done : Seat → ApduParts → Option App → Accepted
-select_done seat a None = changes_nothing [] seat
-select_done seat a (Some app) =
-    changes_nothing (select_body a app) (record seat { selected = Some (record { name = a.body; session = zeros app.session }) })
+abbrev pub select_done : SessionState → ApduParts → Option App → Accepted
+select_done session_state a None = changes_nothing [] session_state
+select_done session_state a (Some app) =
+    changes_nothing (select_body a app) (record session_state { selected = Some (record { name = a.body; session = zeros app.session }) })
 
 -- SELECT
-abbrev pub select : List (List ℕ × App) → Seat → ApduParts → Managed
-select map seat a = answer_unless (first_status (select_refusals map a)) (select_done seat a (lookup map a.body))
+abbrev pub select : List (List ℕ × App) → SessionState → ApduParts → Managed
+select map session_state a = answer_unless (first_status (select_refusals map a)) (select_done session_state a (lookup map a.body))
 
 -- ---- OPEN (BE 12): 6A86, 6700, 6A80, 6A84
 
@@ -154,15 +155,15 @@ open_refusals room map a =
     ∷ (0x6A84, nat_le 32 (length map) || is_none (room (sizes_in a))) ∷ []
 
 -- what an OPEN does: a load is open at the place that has room, and replaces an earlier one
-abbrev pub open_done : (Sizes → Option ℕ) → Seat → ApduParts → Accepted
-open_done room seat a =
-    changes_nothing [] (record seat {
+abbrev pub open_done : (Sizes → Option ℕ) → SessionState → ApduParts → Accepted
+open_done room session_state a =
+    changes_nothing [] (record session_state {
       load = Some (record { site = record { sizes = sizes_in a; place = unwrap_or (room (sizes_in a)) 0 }; got = record { code = []; init = []; dir = []; fci = [] } });
     })
 
 -- OPEN
-abbrev pub open_load : (Sizes → Option ℕ) → List (List ℕ × App) → Seat → ApduParts → Managed
-open_load room map seat a = answer_unless (first_status (open_refusals room map a)) (open_done room seat a)
+abbrev pub open_load : (Sizes → Option ℕ) → List (List ℕ × App) → SessionState → ApduParts → Managed
+open_load room map session_state a = answer_unless (first_status (open_refusals room map a)) (open_done room session_state a)
 
 -- ---- LOAD (BE 24 code, BE 26 data, BE 20 DIR, BE 22 FCI): 6700, 6985, 6A80
 
@@ -206,19 +207,19 @@ load_refusals (Some o) p a =
     (0x6700, is_empty a.body) ∷ (0x6985, not (p1p2 a == got)) ∷ (0x6A80, nat_lt (size_of p o.site.sizes) (got + length a.body)) ∷ []
 
 -- what a LOAD does: one item for each word that its piece touches
-abbrev pub load_done : Seat → Option Open → Part → ApduParts → Accepted
-load_done seat None p a = changes_nothing [] seat
-load_done seat (Some o) p a =
+abbrev pub load_done : SessionState → Option Open → Part → ApduParts → Accepted
+load_done session_state None p a = changes_nothing [] session_state
+load_done session_state (Some o) p a =
     record {
       body = [];
-      seat = record seat { load = Some (record o { got = with_got p a.body o.got }) };
+      session_state = record session_state { load = Some (record o { got = with_got p a.body o.got }) };
       items = map (λ c. Piece o.site p c.0 c.1) (word_parts (length (got_of p o.got)) a.body);
       change = None;
     }
 
 -- LOAD for a section
-abbrev pub load_part : Part → Seat → ApduParts → Managed
-load_part p seat a = answer_unless (first_status (load_refusals seat.load p a)) (load_done seat seat.load p a)
+abbrev pub load_part : Part → SessionState → ApduParts → Managed
+load_part p session_state a = answer_unless (first_status (load_refusals session_state.load p a)) (load_done session_state session_state.load p a)
 
 -- ---- CREATE (BE 16): 6A86, 6700, 6985, 6A80, 6A89
 
@@ -269,15 +270,15 @@ create_items s n =
     ++ Note s n 0 ∷ Note s n 1 ∷ Note s n 2 ∷ Note s n 3 ∷ Enter s n ∷ []
 
 -- what a CREATE does
-abbrev pub create_done : Seat → Option Open → Result (List ℕ) AidFault → Accepted
-create_done seat None n = changes_nothing [] seat
-create_done seat (Some o) (Err e) = changes_nothing [] seat
-create_done seat (Some o) (Ok n) =
-    record { body = []; seat = record seat { load = None }; items = create_items o.site n; change = Some (Created n (fresh o)) }
+abbrev pub create_done : SessionState → Option Open → Result (List ℕ) AidFault → Accepted
+create_done session_state None n = changes_nothing [] session_state
+create_done session_state (Some o) (Err e) = changes_nothing [] session_state
+create_done session_state (Some o) (Ok n) =
+    record { body = []; session_state = record session_state { load = None }; items = create_items o.site n; change = Some (Created n (fresh o)) }
 
 -- CREATE
-abbrev pub create : List (List ℕ × App) → Seat → ApduParts → Managed
-create map seat a = answer_unless (first_status (create_refusals map seat.load a)) (create_done seat seat.load (name_of (dir_in seat.load)))
+abbrev pub create : List (List ℕ × App) → SessionState → ApduParts → Managed
+create map session_state a = answer_unless (first_status (create_refusals map session_state.load a)) (create_done session_state session_state.load (name_of (dir_in session_state.load)))
 
 -- ---- DELETE (BE 18): 6A86, 6700, 6A82, 6985
 
@@ -287,29 +288,29 @@ is_selected None n = false
 is_selected (Some s) n = bytes_eq s.name n
 
 -- the refusals of a DELETE, in order
-abbrev pub delete_refusals : List (List ℕ × App) → Seat → ApduParts → List (ℕ × Bool)
-delete_refusals map seat a =
-    (0x6A86, not (p1p2 a == 0)) ∷ (0x6700, is_empty a.body) ∷ (0x6A82, is_none (lookup map a.body)) ∷ (0x6985, is_selected seat.selected a.body) ∷ []
+abbrev pub delete_refusals : List (List ℕ × App) → SessionState → ApduParts → List (ℕ × Bool)
+delete_refusals map session_state a =
+    (0x6A86, not (p1p2 a == 0)) ∷ (0x6700, is_empty a.body) ∷ (0x6A82, is_none (lookup map a.body)) ∷ (0x6985, is_selected session_state.selected a.body) ∷ []
 
 -- what a DELETE does
-abbrev pub delete_done : Seat → ApduParts → Accepted
-delete_done seat a = record { body = []; seat = record seat { load = None }; items = Remove a.body ∷ []; change = Some (Deleted a.body) }
+abbrev pub delete_done : SessionState → ApduParts → Accepted
+delete_done session_state a = record { body = []; session_state = record session_state { load = None }; items = Remove a.body ∷ []; change = Some (Deleted a.body) }
 
 -- DELETE
-abbrev pub delete : List (List ℕ × App) → Seat → ApduParts → Managed
-delete map seat a = answer_unless (first_status (delete_refusals map seat a)) (delete_done seat a)
+abbrev pub delete : List (List ℕ × App) → SessionState → ApduParts → Managed
+delete map session_state a = answer_unless (first_status (delete_refusals map session_state a)) (delete_done session_state a)
 
 -- ---- the table
 
 -- a command of class BE by its INS: 6D00 for any other
-unfoldable pub manage : (Sizes → Option ℕ) → List (List ℕ × App) → Seat → ApduParts → Managed
-manage room map seat a =
-    cond (a.ins == 0x12) (open_load room map seat a) (
-    cond (a.ins == 0x24) (load_part part.Code seat a) (
-    cond (a.ins == 0x26) (load_part part.Data seat a) (
-    cond (a.ins == 0x20) (load_part part.Dir seat a) (
-    cond (a.ins == 0x22) (load_part part.Fci seat a) (
-    cond (a.ins == 0x16) (create map seat a) (cond (a.ins == 0x18) (delete map seat a) (Declines 0x6D00))
+unfoldable pub manage : (Sizes → Option ℕ) → List (List ℕ × App) → SessionState → ApduParts → Managed
+manage room map session_state a =
+    cond (a.ins == 0x12) (open_load room map session_state a) (
+    cond (a.ins == 0x24) (load_part part.Code session_state a) (
+    cond (a.ins == 0x26) (load_part part.Data session_state a) (
+    cond (a.ins == 0x20) (load_part part.Dir session_state a) (
+    cond (a.ins == 0x22) (load_part part.Fci session_state a) (
+    cond (a.ins == 0x16) (create map session_state a) (cond (a.ins == 0x18) (delete map session_state a) (Declines 0x6D00))
     )
     )
     )

@@ -26,7 +26,8 @@ pub record Object : Type 0 where
   pub value : List ℕ
   pub rest : List ℕ
 
--- the number of bytes of the tag at the front: one, or if its low five bits are all set, all up to the first below 128 after it
+-- the number of bytes of the tag at the front: one, or if its low five bits are all set, all up to the first below 128
+-- after it
 abbrev pub tag_len : List ℕ → Option ℕ
 tag_len [] = None
 tag_len (b ∷ bs) = cond (b % 32 == 31) (option_map (λ i. i + 2) (position (λ b. nat_lt b 128) bs)) (Some 1)

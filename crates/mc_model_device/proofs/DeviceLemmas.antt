@@ -4,7 +4,7 @@ use Rattle.mc_model_device.specs.declared.device.Stop.{Stop}
 use Rattle.mc_model_device.specs.declared.device.Stop.TheVariants.{Off, Worn}
 use Rattle.mc_model_device.specs.Orders.{Answer}
 use Rattle.mc_model_device.specs.Counts.{Rose}
-use Rattle.mc_model_device.specs.Device.{Entry, DeviceState, Grows, GrowsBy, WriteDone, WriteCut, WriteWorn, Wrote, Makes, Ended, done_entries, torn_entries}
+use Rattle.mc_model_device.specs.Device.{Entry, DeviceState, Grows, GrowsBy, WriteDone, WriteCut, WriteFailure, Wrote, Makes, Ended, done_entries, torn_entries}
 use Rattle.mc_model_device.specs.Image.{image_with}
 use Rattle.mc_model_device.specs.Stopped.{image_after_stop}
 
@@ -81,7 +81,7 @@ module _ {D : Type 0} (state : D → DeviceState) (wrote : D → ℕ → List �
         tape = grows_one (state d).tape _ (state e).tape cut.tape;
       }
   stopped_first p l d e Worn on w =
-      let worn : WriteWorn (state d) p.0 (state e) = obeys d p.0 p.1 (Err Worn) e on w in
+      let worn : WriteFailure (state d) p.0 (state e) = obeys d p.0 p.1 (Err Worn) e on w in
       record {
         k = 1;
         x = worn.left;

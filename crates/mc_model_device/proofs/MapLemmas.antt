@@ -1,4 +1,5 @@
--- Names and the maps that they key: the order of names, what a map has under a name after an insertion or a removal, and maps whose names ascend.
+-- Names and the maps that they key: the order of names, what a map has under a name after an insertion or a removal,
+-- and maps whose names ascend.
 use Rattle.std.specs.Prelude.{◌≡◌, ℕ, Bool, true, false, cond, not, List, [], ◌∷◌, length, bytes_eq, Some, None}
 use Rattle.std.specs.List.{AllByRecursion}
 use Rattle.std.proofs.Common.{suc, refl, ap, sym, subst, ◌∙◌, arith}

@@ -1,4 +1,5 @@
--- Pieces of bytes that are laid over a list: pieces after others, the words that they touch, and the pending words that hold them.
+-- Pieces of bytes that are laid over a list: pieces after others, the words that they touch, and the pending words that
+-- hold them.
 use Rattle.std.proofs.Common.{◌≡◌, ℕ, ◌+◌, ◌*◌, ◌/◌, ◌<◌, ◌≤◌, List, [], ◌∷◌, ◌++◌, length, refl, ap, subst, ◌∙◌, arith}
 use Rattle.std.specs.Prelude.{IfSome, slice_index}
 use Rattle.std.proofs.lemmas.Bool.Decides.{nat_tests}

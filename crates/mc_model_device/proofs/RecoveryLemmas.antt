@@ -1,6 +1,5 @@
--- The recovery lemma (idempotent recovery): what a replay leaves, done or stopped at any of its writes, whatever word that left;
--- and one journal's look as that of the whole image.
--- and one journal's look as that of the whole image.
+-- The recovery lemma (idempotent recovery): what a replay leaves, done or stopped at any of its writes, whatever word
+-- that left; and one journal's look as that of the whole image. and one journal's look as that of the whole image.
 use Rattle.std.proofs.Common.{◌≡◌, ◌≢◌, ℕ, ◌+◌, ◌<◌, ◌≤◌, Bool, true, false, cond, ◌||◌, List, [], ◌∷◌, length, refl, sym, ◌∙◌, ap, subst, inl, inr, arith}
 use Rattle.std.specs.Prelude.{bytes_eq, slice_set}
 use Rattle.std.specs.List.{AllByRecursion}

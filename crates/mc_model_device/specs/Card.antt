@@ -1,10 +1,12 @@
--- The card that the words of a device hold: a map from names to applications, read from its used blocks by their lengths.
+-- The card that the words of a device hold: a map from names to applications, read from its used blocks by their
+-- lengths.
 use Rattle.std.specs.Prelude.{◌≡◌, ℕ, zero, suc, ◌+◌, ◌-◌, Bool, cond, ◌&&◌, ◌||◌, nat_le, ◌==◌, List, [], ◌∷◌, length, take, drop, slice_index, slice_index_or, Option, Some, None}
 use Rattle.std.specs.List.{concat}
 use Rattle.mc_model_device.specs.Bytes.{up, be2, insert}
 use Rattle.mc_model_device.specs.Image.{After, Words, NoWords, after}
 
--- an application: `fixed` is its static segment, `deny` its access list, `place` the number of the word in which its block begins
+-- an application: `fixed` is its static segment, `deny` its access list, `place` the number of the word in which its
+-- block begins
 pub record App : Type 0 where
   pub code : List ℕ
   pub fixed : List ℕ
@@ -24,7 +26,8 @@ pub record Card : Type 0 where
 abbrev pub app_at_place : ℕ → App → App
 app_at_place p a = record a { place = p }
 
--- the number of words of a block with sections of these lengths: header, record, and each section rounded up to whole words
+-- the number of words of a block with sections of these lengths: header, record, and each section rounded up to whole
+-- words
 abbrev pub words_of_lengths : ℕ → ℕ → ℕ → ℕ → ℕ
 words_of_lengths code fixed dir fci = 5 + up code 8 + up fixed 8 + up dir 8 + up fci 8
 
@@ -34,7 +37,8 @@ words_of_app a = words_of_lengths (length a.code) (length a.fixed) (length a.dir
 
 -- ---- blocks
 
--- a block of the heap: the place of its header, whether it is used or a hole, its number of words with the header, and its link
+-- a block of the heap: the place of its header, whether it is used or a hole, its number of words with the header, and
+-- its link
 pub record Block : Type 0 where
   pub place : ℕ
   pub used : Bool
@@ -69,7 +73,8 @@ abbrev pub block_and : ℕ → Option Block → (ℕ → List Block) → List Bl
 block_and size None rest = []
 block_and size (Some b) rest = cond (nat_le (b.place + b.words) size) (b ∷ rest (b.place + b.words)) []
 
--- at most n blocks from word p on, each right after the one before, up to the first word that heads no block within the device
+-- at most n blocks from word p on, each right after the one before, up to the first word that heads no block within the
+-- device
 unfoldable pub blocks_from : ℕ → List (List ℕ) → ℕ → List Block
 blocks_from zero m p = []
 blocks_from (suc n) m p = block_and (length m) (header p (word m p)) (λ q. blocks_from n m q)

@@ -1,4 +1,5 @@
--- A device that writes one word at a time, what a torn or failed write may leave, and the bench, a device that stops writes on demand.
+-- A device that writes one word at a time, what a torn or failed write may leave, and the bench, a device that stops
+-- writes on demand.
 use Rattle.std.specs.Prelude.{◌≡◌, ◌≢◌, ◌⊎◌, ℕ, zero, suc, ◌+◌, ◌<◌, ◌≤◌, Bool, true, false, min, List, [], ◌∷◌, ◌++◌, length, replicate, slice_index_or, slice_set, Option, Some, None, Ok, Err}
 use Rattle.mc_model_device.specs.declared.device.Stop.{Stop}
 use Rattle.mc_model_device.specs.declared.device.Stop.TheVariants.{Off, Worn}
@@ -6,13 +7,15 @@ use Rattle.mc_model_device.specs.Orders.{Answer, InOrder}
 use Rattle.mc_model_device.specs.Bytes.{AreBytes}
 use Rattle.mc_model_device.specs.Counts.{last_count, Rose}
 
--- an entry of a tape: the place of a write that was tried, the word that is there afterwards, and the stop if there was one
+-- an entry of a tape: the place of a write that was tried, the word that is there afterwards, and the stop if there was
+-- one
 pub record Entry : Type 0 where
   pub at : ℕ
   pub left : List ℕ
   pub end : Option Stop
 
--- the state of a device: its words, whether power is on, the counts of cuts and failed writes, and the tape of its writes, if one is recorded
+-- the state of a device: its words, whether power is on, the counts of cuts and failed writes, and the tape of its
+-- writes, if one is recorded
 pub record DeviceState : Type 0 where
   pub words : List (List ℕ)
   pub on : Bool
@@ -71,7 +74,7 @@ pub record WriteCut (d : DeviceState) (at : ℕ) (e : DeviceState) : Type 0 wher
   pub tape : Grows d.tape (record { at = at; left = left; end = Some Off }) e.tape
 
 -- a failed write: the device refused it, and its word may hold anything
-pub record WriteWorn (d : DeviceState) (at : ℕ) (e : DeviceState) : Type 0 where
+pub record WriteFailure (d : DeviceState) (at : ℕ) (e : DeviceState) : Type 0 where
   pub left : List ℕ
   pub size : length left ≡ 8
   pub words : e.words ≡ slice_set d.words at left
@@ -85,7 +88,7 @@ pub record WriteWorn (d : DeviceState) (at : ℕ) (e : DeviceState) : Type 0 whe
 abbrev pub Wrote : DeviceState → ℕ → List ℕ → Answer → DeviceState → Type 0
 Wrote d at w (Ok u) e = WriteDone d at w e
 Wrote d at w (Err Off) e = WriteCut d at e
-Wrote d at w (Err Worn) e = WriteWorn d at e
+Wrote d at w (Err Worn) e = WriteFailure d at e
 
 -- a list of writes, pairs of place and word, made in order up to a stop, by the relation of one write
 abbrev pub Makes : {D : Type 0} → (D → ℕ → List ℕ → Answer → D → Type 0) → D → List (ℕ × List ℕ) → Answer → D → Type 0
@@ -126,8 +129,8 @@ pub record Fuse : Type 0 where
   pub writes : ℕ
   pub fill : List ℕ
 
--- the state that a bench has besides that of a device: its fuses, the counts of calls, the count of power-ups before the last poke,
--- and whether no write fails but by a fuse
+-- the state that a bench has besides that of a device: its fuses, the counts of calls, the count of power-ups before
+-- the last poke, and whether no write fails but by a fuse
 pub record BenchState : Type 0 where
   pub cut : Option Fuse
   pub worn : Option Fuse
@@ -170,20 +173,20 @@ next_fill (Some f) = fill_at f.writes f.fill
 -- what the fuses do to the next write: power goes during it, it fails, or neither
 pub data Due : Type 0 where
   DueCut : List ℕ → Due
-  DueWorn : List ℕ → Due
+  DueFailure : List ℕ → Due
   DueNot : Due
 
 -- what the two fuses do to the next write: a cut goes before a failed write
 abbrev pub due : Option (List ℕ) → Option (List ℕ) → Due
 due (Some fill) worn = DueCut fill
-due None (Some fill) = DueWorn fill
+due None (Some fill) = DueFailure fill
 due None None = DueNot
 
 -- how the next write of a bench ends, and what it leaves; on a bench that is not steady a write may fail by itself
 abbrev pub NextWriteEnds : Due → Bool → DeviceState → ℕ → Answer → DeviceState → Type 0
 NextWriteEnds (DueCut fill) steady d at a e = (a ≡ Err Off) × (e.words ≡ slice_set d.words at fill)
-NextWriteEnds (DueWorn fill) true d at a e = (a ≡ Err Worn) × (e.words ≡ slice_set d.words at fill)
-NextWriteEnds (DueWorn fill) false d at a e = a ≡ Err Worn
+NextWriteEnds (DueFailure fill) true d at a e = (a ≡ Err Worn) × (e.words ≡ slice_set d.words at fill)
+NextWriteEnds (DueFailure fill) false d at a e = a ≡ Err Worn
 NextWriteEnds DueNot true d at a e = a ≡ Ok tt
 NextWriteEnds DueNot false d at a e = a ≢ Err Off
 
@@ -193,7 +196,8 @@ Counts d (Ok u) e = (e.cuts ≡ d.cuts) × (e.faults ≡ d.faults)
 Counts d (Err Off) e = (e.cuts ≡ next_count d.cuts) × (e.faults ≡ d.faults)
 Counts d (Err Worn) e = (e.cuts ≡ d.cuts) × (e.faults ≡ next_count d.faults)
 
--- the bench after a write: both fuses are nearer by one, after a stop the wear fuse may be dropped, and nothing else changes
+-- the bench after a write: both fuses are nearer by one, after a stop the wear fuse may be dropped, and nothing else
+-- changes
 abbrev pub Burns : BenchState → Answer → BenchState → Type 0
 Burns b (Ok u) c = c ≡ record b { cut = fuse_after_write b.cut; worn = fuse_after_write b.worn }
 Burns b (Err s) c = (c ≡ record b { cut = fuse_after_write b.cut; worn = fuse_after_write b.worn }) ⊎ (c ≡ record b { cut = fuse_after_write b.cut; worn = None })

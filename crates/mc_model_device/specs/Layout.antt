@@ -57,7 +57,8 @@ hole_header n link = hole_tag ∷ 0 ∷ (bytes2 n ++ bytes2 link ++ 0 ∷ 0 ∷ 
 abbrev pub used_header : ℕ → List ℕ
 used_header n = used_tag ∷ 0 ∷ (bytes2 n ++ zeros 4)
 
--- the root, word 0: `MEL`, the version of the layout, the size of the device in words, and the place of the first hole or 0
+-- the root, word 0: `MEL`, the version of the layout, the size of the device in words, and the place of the first hole
+-- or 0
 abbrev pub root : ℕ → ℕ → ℕ → List ℕ
 root version size first = 0x4D ∷ 0x45 ∷ 0x4C ∷ version ∷ (bytes2 size ++ bytes2 first)
 
@@ -116,7 +117,8 @@ bad_block (suc n) m p after_hole =
     cond (bad_header (length m) after_hole h) (Some p) (bad_block n m (next_block (length m) h) (is_hole h))
     )
 
--- whether a record is valid: its name, its limits and zeros, and its lengths, which make a block of this number of words
+-- whether a record is valid: its name, its limits and zeros, and its lengths, which make a block of this number of
+-- words
 abbrev pub is_record : List ℕ → ℕ → Bool
 is_record r words =
     let n = slice_index r 16 in

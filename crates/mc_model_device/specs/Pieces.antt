@@ -75,8 +75,8 @@ laid_words l ws = take (length l) (laid_pieces l (word_pieces ws))
 abbrev pub LieIn : ℕ → List (ℕ × List ℕ) → Type 0
 LieIn n ps = AllByRecursion (λ p. (0 < length p.1) × (p.0 + length p.1 ≤ n)) ps
 
--- Pending words hold the pieces over a list: they are the words that the pieces touch, and have the bytes of the list with the pieces laid
--- over it. Past the list's end a word may hold anything.
+-- Pending words hold the pieces over a list: they are the words that the pieces touch, and have the bytes of the list
+-- with the pieces laid over it. Past the list's end a word may hold anything.
 pub record HoldPieces (l : List ℕ) (ps ws : List (ℕ × List ℕ)) : Type 0 where
   pub pending : ArePending ws
   pub touched_words : numbers ws ≡ touched_words ps

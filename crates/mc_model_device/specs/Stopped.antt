@@ -17,7 +17,8 @@ abbrev pub opens_at : Journal → ℕ → ℕ
 opens_at One w = 2 * w + 2
 opens_at Two w = up w 4 + w + 2
 
--- whether an atomic write of w words that was stopped at its device write k, which left x, is durable: its commit record was written
+-- whether an atomic write of w words that was stopped at its device write k, which left x, is durable: its commit
+-- record was written
 abbrev pub stands : Journal → ℕ → ℕ → List ℕ → Bool
 stands j w k x = nat_lt (opens_at j w) k || ((k == opens_at j w) && bytes_eq x (opening j))
 
@@ -25,7 +26,8 @@ stands j w k x = nat_lt (opens_at j w) k || ((k == opens_at j w) && bytes_eq x (
 abbrev pub owes : Journal → ℕ → ℕ → List ℕ → ℕ
 owes j w k x = cond (stands j w k x && not ((k == cost j w) && not (bytes_eq x (opening j)))) (w + 1) 0
 
--- the number of writes that recovery still has to make after a recovery of w words was stopped at its write k, which left x
+-- the number of writes that recovery still has to make after a recovery of w words was stopped at its write k, which
+-- left x
 abbrev pub remains : Journal → ℕ → ℕ → List ℕ → ℕ
 remains j w k x = cond (nat_le k w || bytes_eq x (opening j)) (w + 1) 0
 
@@ -64,7 +66,8 @@ abbrev pub entries : Journal → List (ℕ × List ℕ) → List (ℕ × List �
 entries One list = entries_1 0 list
 entries Two list = target_words 0 (up (length list) 4) (map (λ p. p.0) list) ++ values_2 0 list
 
--- the writes of a recovery: the values at their targets, then the gate is shut. They are idempotent: recovery may begin them again
+-- the writes of a recovery: the values at their targets, then the gate is shut. They are idempotent: recovery may begin
+-- them again
 abbrev pub replay : Journal → List (ℕ × List ℕ) → List (ℕ × List ℕ)
 replay j list = list ++ (gate j, shut_word) ∷ []
 

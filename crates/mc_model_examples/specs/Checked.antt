@@ -1,5 +1,5 @@
--- The verdict on short code, computed by following all its facts, for worked rows of the definition of the stack's shape. No contract
--- rests on it.
+-- The verdict on short code, computed by following all its facts, for worked rows of the definition of the stack's
+-- shape. No contract rests on it.
 use Rattle.std.specs.Prelude.{ℕ, zero, suc, ◌+◌, ◌-◌, Bool, true, false, cond, not, ◌&&◌, ◌||◌, nat_lt, nat_le, ◌==◌, max, List, [], ◌∷◌, ◌++◌, map, filter, flat_map, Option, Some, None, Result, Ok, Err}
 use Rattle.std.specs.List.{list_any}
 use Rattle.mc_model_machine.specs.declared.instruction.Ins.{Ins}

@@ -17,7 +17,7 @@ use Rattle.mc_model_machine.specs.Primitives.{later_causes, prim_effect}
 use Rattle.mc_model_machine.specs.Row.{causes, effect, row}
 use Rattle.mc_model_machine.specs.Chain.{turn_of_chain, run_of_chain}
 use Rattle.mc_model_card.specs.Manager.{manage}
-use Rattle.mc_model_play.specs.Play.{State, Step, start, send, play_at_power, step, plays, moves_of, steady_worn, Cold, Hot, last_state}
+use Rattle.mc_model_play.specs.Play.{State, Step, start, send, play_at_power, step, plays, moves_of, steady_failures, BeforePower, AfterPower, last_state}
 use Rattle.mc_model_card.specs.Commands.{command}
 use Rattle.mc_model_device.specs.PowerUp.{Base, OnCard, AtFault}
 use Rattle.mc_model_machine.specs.Listing.{hex_text}
@@ -35,8 +35,8 @@ unit_line name aid code init =
 
 -- the play of numbered lines on some words, on a device whose only failed writes are those of `fail` lines
 unfoldable pub steps_on : List (List ℕ) → List (ℕ × DeckLine) → List Step
-unfolding name_of apdu_read touched_words des_encipher des_decipher tdes_encipher tdes_decipher des_signature tdes_signature aes_encipher aes_decipher aes_signature sha1 digest_bytes hash_after compress rounds schedule first_words targets_1 targets_2 pairs blocks_from apps_of layout step_of bad_block bad_record bytes_at write_effect too_many later_causes prim_effect causes effect row turn_of_chain run_of_chain manage command send play_at_power step plays moves_of steady_worn
-steps_on words ls = plays (start words) ls (steady_worn (start words) ls)
+unfolding name_of apdu_read touched_words des_encipher des_decipher tdes_encipher tdes_decipher des_signature tdes_signature aes_encipher aes_decipher aes_signature sha1 digest_bytes hash_after compress rounds schedule first_words targets_1 targets_2 pairs blocks_from apps_of layout step_of bad_block bad_record bytes_at write_effect too_many later_causes prim_effect causes effect row turn_of_chain run_of_chain manage command send play_at_power step plays moves_of steady_failures
+steps_on words ls = plays (start words) ls (steady_failures (start words) ls)
 
 -- the transcript of a deck that was read, or its refusal
 abbrev pub transcript_of : List (List ℕ) → Result (List (ℕ × DeckLine)) (ℕ × DeckCause) → Result (List ℕ) (ℕ × DeckCause)
@@ -80,8 +80,8 @@ card_at (AtFault cause p) = []
 
 -- the card of a state, if it has one
 abbrev pub card_in : State → List Card
-card_in (Cold m b a) = []
-card_in (Hot s) = card_at s.base
+card_in (BeforePower m b a) = []
+card_in (AfterPower s) = card_at s.base
 
 -- the card that a deck leaves, if there is one
 abbrev pub card_left : List (List ℕ) → Result (List (ℕ × DeckLine)) (ℕ × DeckCause) → List Card

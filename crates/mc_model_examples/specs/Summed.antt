@@ -1,11 +1,12 @@
--- The play of a generated deck in parts: the counts that the lines of a part add to the summary, and the state between two parts.
+-- The play of a generated deck in parts: the counts that the lines of a part add to the summary, and the state between
+-- two parts.
 use Rattle.std.specs.Prelude.{ℕ, ◌+◌, List, [], ◌∷◌, ◌++◌, length, codes, decimal, Option, Some, None}
 use Rattle.mc_model_device.specs.Device.{blank_words, device_words}
 use Rattle.mc_model_device.specs.Image.{Journal}
 use Rattle.mc_model_card.specs.Units.{UnitParts}
 use Rattle.mc_model_device.specs.Card.{App}
-use Rattle.mc_model_card.specs.Manager.{empty_seat}
-use Rattle.mc_model_play.specs.Play.{State, Hot, Running, Unarmed, Step, plays, start, last_state}
+use Rattle.mc_model_card.specs.Manager.{empty_session_state}
+use Rattle.mc_model_play.specs.Play.{State, AfterPower, Running, Unarmed, Step, plays, start, last_state}
 use Rattle.mc_model_device.specs.PowerUp.{OnCard}
 use Rattle.mc_model_play.specs.DeckGrammar.{DeckLine}
 use Rattle.mc_model_play.specs.Generator.{counter, purse, relay, counter_aid, purse_aid, relay_aid, deck_of_number, results, count, is_reply, is_abend, is_cut, is_off, is_ready, dump_lines}
@@ -79,11 +80,11 @@ abbrev pub purse_in : Option (List ℕ) → List (List ℕ × App)
 purse_in None = []
 purse_in (Some fixed) = (purse_aid, app_of purse fixed 143) ∷ []
 
--- the state right after a `power` line that found a card: the static bytes of the counter and of the purse, and the journal of the last
--- recovery
+-- the state right after a `power` line that found a card: the static bytes of the counter and of the purse, and the
+-- journal of the last recovery
 unfoldable pub between : List ℕ → Option (List ℕ) → Journal → State
 between fixed purse_fixed by =
-    Hot (record {
+    AfterPower (record {
       base = OnCard (record {
         size = 8192;
         layout = 2;
@@ -91,7 +92,7 @@ between fixed purse_fixed by =
       });
       owed = 0;
       by = by;
-      live = Running empty_seat;
+      live = Running empty_session_state;
       budget = 10000;
       armed = Unarmed;
     })

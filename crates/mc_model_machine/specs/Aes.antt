@@ -121,8 +121,8 @@ round_back k s = map sub_back (shift_rows_back (mix_columns_back (bit_sum s k)))
 
 -- ---- the key
 
--- the last word of a round key rotated left by a byte and substituted, with the round constant c added to its first byte: RotWord,
--- SubWord and Rcon (FIPS 197, 5.2)
+-- the last word of a round key rotated left by a byte and substituted, with the round constant c added to its first
+-- byte: RotWord, SubWord and Rcon (FIPS 197, 5.2)
 unfoldable pub next_key_word : ℕ → List ℕ → List ℕ
 unfolding sub
 next_key_word c w = bit_sum (map sub (drop 1 w ++ take 1 w)) (c ∷ [])

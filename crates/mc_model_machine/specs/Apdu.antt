@@ -3,7 +3,8 @@
 use Rattle.std.specs.Prelude.{◌≡◌, ◌≢◌, ◌⊎◌, ℕ, ◌+◌, ◌*◌, ◌≤◌, cond, ◌&&◌, nat_le, ◌==◌, List, [], ◌∷◌, length, take, drop, slice_index, Option, Some, None, option_map}
 use Rattle.mc_model_device.specs.Bytes.{be2}
 
--- a command APDU: its header, its fifth byte in the short cases that have one, its data, and the number of reply bytes that it expects
+-- a command APDU: its header, its fifth byte in the short cases that have one, its data, and the number of reply bytes
+-- that it expects
 pub record ApduParts : Type 0 where
   pub cla : ℕ
   pub ins : ℕ

@@ -100,7 +100,8 @@ all_bytes (t ∷ ts) = ok_as (λ p. p.0 ∷ p.1) (both (byte t) (all_bytes ts))
 
 -- ---- the table of words
 
--- what a line puts into the code: nothing, a raw byte, an instruction, one that takes the place of a label, one that takes the distance to it
+-- what a line puts into the code: nothing, a raw byte, an instruction, one that takes the place of a label, one that
+-- takes the distance to it
 pub data CodeItem : Type 0 where
   Nothing : CodeItem
   Raw : ℕ → CodeItem

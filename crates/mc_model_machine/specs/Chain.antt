@@ -25,8 +25,8 @@ pub record Write : Type 0 where
   pub pieces : List (ℕ × List ℕ)
   pub words : ℕ
 
--- One executed instruction, or a fetch that abends: the depth of its frame, the place, the instruction, DT and flags after it
--- (before it if the chain ends with an abend), the end, and the number of words of its atomic write.
+-- One executed instruction, or a fetch that abends: the depth of its frame, the place, the instruction, DT and flags
+-- after it (before it if the chain ends with an abend), the end, and the number of words of its atomic write.
 pub record Turn : Type 0 where
   pub depth : ℕ
   pub at : ℕ
@@ -45,8 +45,8 @@ pub record Chain : Type 0 where
   pub public : List ℕ
   pub apdu : ApduParts
 
--- what a chain did: its turns, the number of instructions that it decoded, its atomic writes, the pairs of every delegation that read a
--- name, the session bytes of the first frame at the end, and the outcome
+-- what a chain did: its turns, the number of instructions that it decoded, its atomic writes, the pairs of every
+-- delegation that read a name, the session bytes of the first frame at the end, and the outcome
 pub record Ran : Type 0 where
   pub turns : List Turn
   pub count : ℕ
@@ -194,15 +194,15 @@ abends_at ch i count cause =
     }
 
 -- the frame whose registers a turn records: if the chain ends with an abend, the one before it
-abbrev pub told_frame : Frame → Frame → Follows → Frame
-told_frame old new (Continues ch) = new
-told_frame old new (Ends (Reply b sw)) = new
-told_frame old new (Ends (Abended cause)) = old
+abbrev pub reported_frame : Frame → Frame → Follows → Frame
+reported_frame old new (Continues ch) = new
+reported_frame old new (Ends (Reply b sw)) = new
+reported_frame old new (Ends (Abended cause)) = old
 
 -- an instruction that was done
 abbrev pub done_turn : Chain → Ins → Effect → Follows → List (List ℕ × List ℕ) → Acted
 done_turn ch i e next pairs =
-    let f = told_frame ch.frame e.frame next in
+    let f = reported_frame ch.frame e.frame next in
     record {
       turn = record { depth = depth_of ch; at = ch.frame.at; ins = Some i; dt = f.dt; c = f.c; z = f.z; end = end_of next; wrote = words_of_write e.changes };
       count = 1;

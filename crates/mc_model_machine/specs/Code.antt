@@ -1,5 +1,6 @@
 -- Instructions as bytes: the table of instruction bytes, the spelling, and the instruction at a place of code.
--- An instruction byte is op * 8 + tag, its operands follow, and then two bytes of signed offset if an address has a tag other than 0.
+-- An instruction byte is op * 8 + tag, its operands follow, and then two bytes of signed offset if an address has a tag
+-- other than 0.
 use Rattle.std.specs.Prelude.{◌≡◌, ℕ, ◌+◌, ◌-◌, ◌*◌, ◌/◌, ◌%◌, ◌<◌, ◌≤◌, ◌⊎◌, Bool, true, false, cond, ◌==◌, nat_le, ℤ, pos, FitsSigned, List, [], ◌∷◌, ◌++◌, length, take, drop, replicate, slice_index, Option, Some, None, option_map, option_and_then, Result, Ok, Err}
 use Rattle.std.specs.List.{AllByRecursion}
 use Rattle.std.specs.Int.{w8, w16, cast_signed, cast_unsigned}
@@ -30,8 +31,8 @@ abbrev pub total : List Kind → ℕ
 total [] = 0
 total (k ∷ ks) = size k + total ks
 
--- a row: the operands after an instruction byte, in their order, and the instruction that they make; a number in front is the condition,
--- the set or the tag, by which an address or an offset follows or not
+-- a row: the operands after an instruction byte, in their order, and the instruction that they make; a number in front
+-- is the condition, the set or the tag, by which an address or an offset follows or not
 pub data Form : Type 0 where
   Plain : Ins → Form
   OneByte : (ℕ → Ins) → Form

@@ -4,8 +4,8 @@ use Rattle.mc_model_device.specs.Bytes.{be2, bytes2, num, zeros, splice}
 use Rattle.mc_model_device.specs.Pieces.{laid_pieces, touched_words}
 use Rattle.mc_model_machine.specs.Apdu.{ApduParts}
 
--- the frame of a running application: `fixed` is the static segment without the pending pieces, `dyn` the 512 dynamic bytes, `at` the
--- code address
+-- the frame of a running application: `fixed` is the static segment without the pending pieces, `dyn` the 512 dynamic
+-- bytes, `at` the code address
 pub record Frame : Type 0 where
   pub name : List ℕ
   pub code_len : ℕ
@@ -209,7 +209,8 @@ abbrev pub pending_change : Frame → List (ℕ × List ℕ) → Option (List (�
 pending_change f [] = None
 pending_change f (p ∷ ps) = Some (p ∷ ps)
 
--- the effect of a change of protection: mode 0 drops the pending pieces and turns it off; 1 commits, off; 2 drops, on; 3 commits, on
+-- the effect of a change of protection: mode 0 drops the pending pieces and turns it off; 1 commits, off; 2 drops, on;
+-- 3 commits, on
 abbrev pub protect : Frame → List ℕ → ℕ → Effect
 protect f public mode =
     let on = nat_le 2 mode in
@@ -242,7 +243,8 @@ new_frame name code_len deny fixed session =
 abbrev pub session_of : Frame → List ℕ
 session_of f = take f.session f.dyn
 
--- The public segment of a command: the data, then in its last 17 bytes four zeros, CLA, INS, P1, P2, P3, Lc (2), Le (2), La (2) and SW (2).
+-- The public segment of a command: the data, then in its last 17 bytes four zeros, CLA, INS, P1, P2, P3, Lc (2), Le
+-- (2), La (2) and SW (2).
 abbrev pub new_public : ApduParts → List ℕ
 new_public a =
     a.body ++ zeros (1028 - length a.body) ++ a.cla ∷ a.ins ∷ a.p1 ∷ a.p2 ∷ a.p3

@@ -1,5 +1,6 @@
 -- The text of one instruction, and the listing of code.
--- Bytes, lengths, offsets and displacements in decimal, words and addresses of code as 0x and four upper case hexadecimal digits.
+-- Bytes, lengths, offsets and displacements in decimal, words and addresses of code as 0x and four upper case
+-- hexadecimal digits.
 use Rattle.std.specs.Prelude.{ℕ, zero, suc, ◌+◌, ◌-◌, ◌/◌, ◌%◌, Bool, true, false, cond, ◌==◌, nat_lt, ℤ, List, [], ◌∷◌, ◌++◌, length, take, drop, Result, Ok, Err, codes, decimal, slice_index_or}
 use Rattle.std.specs.Fmt.{signed_decimal}
 use Rattle.mc_model_machine.specs.Code.{front}

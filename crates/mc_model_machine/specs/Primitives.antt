@@ -1,5 +1,6 @@
 -- What each primitive does, and the first cause for which it abends. A primitive is named by its set, which is the
--- number of its argument bytes, and its number. The ciphers are those of FIPS 46-3 and FIPS 197, the digest is SHA-1 (FIPS 180-4, 6.1).
+-- number of its argument bytes, and its number. The ciphers are those of FIPS 46-3 and FIPS 197, the digest is SHA-1
+-- (FIPS 180-4, 6.1).
 use Rattle.std.specs.Prelude.{ℕ, ◌+◌, ◌-◌, ◌*◌, ◌/◌, ◌%◌, Bool, true, false, cond, not, ◌&&◌, ◌||◌, nat_lt, nat_le, ◌==◌, List, [], ◌∷◌, ◌++◌, length, take, drop, slice_index, position, is_some, Option, Some, None}
 use Rattle.sha1.specs.Sha1.{sha1}
 use Rattle.mc_model_machine.specs.declared.machine.Abend.{Abend}
@@ -11,7 +12,8 @@ use Rattle.mc_model_machine.specs.Des.{des_encipher, des_decipher, tdes_encipher
 use Rattle.mc_model_machine.specs.Aes.{aes_encipher, aes_decipher, aes_signature}
 use Rattle.mc_model_machine.specs.Frame.{Frame, Effect, bytes_at, is_outside, write_effect, too_many, is_under, is_over, frame_after_push, frame_after_pop, stack_bytes, top, frame_with_top, frame_with_flags, protect}
 
--- what a row knows besides its frame: the case of the command (1 to 4), and the name of the frame that delegated to this one
+-- what a row knows besides its frame: the case of the command (1 to 4), and the name of the frame that delegated to
+-- this one
 pub record Around : Type 0 where
   pub case : ℕ
   pub delegator : Option (List ℕ)
@@ -167,9 +169,9 @@ has_bad_argument BitWord args = nat_lt 3 (slice_index args 0)
 has_bad_argument _ args = false
 
 -- the causes of writing the delegator's name, none if there is no delegator
-abbrev pub told_causes : Frame → ℕ → Option (List ℕ) → List (Abend × Bool)
-told_causes g a None = []
-told_causes g a (Some name) = (A03, is_outside g a (1 + length name)) ∷ (A08, too_many g a (1 + length name)) ∷ []
+abbrev pub reported_causes : Frame → ℕ → Option (List ℕ) → List (Abend × Bool)
+reported_causes g a None = []
+reported_causes g a (Some name) = (A03, is_outside g a (1 + length name)) ∷ (A08, too_many g a (1 + length name)) ∷ []
 
 -- the causes of a cipher: a message of n bytes, the place that it goes to, and a key
 abbrev pub cipher_causes : Cipher → ℕ → Frame → List (Abend × Bool)
@@ -199,7 +201,7 @@ later_causes DelegateTo args f public x =
     let a = number_below_top f 2 in
     let n = count_at g public a in
     (A04, is_under f 2) ∷ (A03, is_outside g a 1 || (in_range 5 16 n && is_outside g (a + 1) n)) ∷ (A06, not (in_range 5 16 n)) ∷ []
-later_causes DelegatorAid args f public x = (A04, is_under f 2) ∷ told_causes (frame_after_pop f 2) (number_below_top f 2) x.delegator
+later_causes DelegatorAid args f public x = (A04, is_under f 2) ∷ reported_causes (frame_after_pop f 2) (number_below_top f 2) x.delegator
 later_causes Digest args f public x =
     let g = frame_after_pop f 6 in
     let n = number_below_top f 6 in
@@ -241,10 +243,11 @@ lookup_effect f public None = frame_effect (frame_with_flags (frame_after_push f
 abbrev pub comparison_effect : Frame → List ℕ → Worked → Effect
 comparison_effect f public w = frame_effect (frame_with_flags f w.c w.z) public
 
--- the effect of writing the delegator's name after its length, with Z clear; if there is none, nothing is written and Z is set
-abbrev pub delegator_told : Frame → List ℕ → ℕ → Option (List ℕ) → Effect
-delegator_told f public a None = frame_effect (frame_with_flags f f.c true) public
-delegator_told f public a (Some name) = effect_flagged (write_effect f public a (length name ∷ name)) f.c false
+-- the effect of writing the delegator's name after its length, with Z clear; if there is none, nothing is written and Z
+-- is set
+abbrev pub delegator_reported : Frame → List ℕ → ℕ → Option (List ℕ) → Effect
+delegator_reported f public a None = frame_effect (frame_with_flags f f.c true) public
+delegator_reported f public a (Some name) = effect_flagged (write_effect f public a (length name ∷ name)) f.c false
 
 -- a value manipulated under a mask: op 0 clears the bits of the mask, 1 sets them, 2 inverts them, 3 leaves the value
 abbrev pub masked_bytes : ℕ → List ℕ → List ℕ → List ℕ
@@ -290,7 +293,7 @@ prim_effect DelegateTo args f public x =
     let g = frame_after_pop f 2 in
     let a = number_below_top f 2 in
     record { effect = frame_effect g public; next = Delegates (bytes_at g public (a + 1) (count_at g public a)) }
-prim_effect DelegatorAid args f public x = effect_and_next (delegator_told (frame_after_pop f 2) public (number_below_top f 2) x.delegator)
+prim_effect DelegatorAid args f public x = effect_and_next (delegator_reported (frame_after_pop f 2) public (number_below_top f 2) x.delegator)
 prim_effect Digest args f public x =
     let g = frame_after_pop f 6 in
     effect_and_next (write_effect g public (number_below_top f 2) (sha1 (bytes_at g public (number_below_top f 4) (number_below_top f 6))))

@@ -1,4 +1,5 @@
--- What each instruction does to the shape of the stack: the bytes that it needs, pops and pushes, where it writes, and where it goes.
+-- What each instruction does to the shape of the stack: the bytes that it needs, pops and pushes, where it writes, and
+-- where it goes.
 use Rattle.std.specs.Prelude.{ℕ, suc, ◌+◌, ◌-◌, ◌*◌, Bool, true, false, cond, not, ◌&&◌, ◌||◌, nat_lt, nat_le, ◌==◌, ℤ, pos, negsuc, List, slice_index, Option, Some, None, is_none}
 use Rattle.mc_model_machine.specs.declared.instruction.Ins.{Ins}
 use Rattle.mc_model_machine.specs.declared.instruction.Ins.TheVariants as ins
@@ -132,8 +133,8 @@ height_after i h = h - (row_uses i).pops + (row_uses i).pushes
 
 -- ---- where an instruction writes
 
--- where an instruction writes: nowhere, n bytes at an address by tag and offset, or at an address that comes from the stack or from
--- memory
+-- where an instruction writes: nowhere, n bytes at an address by tag and offset, or at an address that comes from the
+-- stack or from memory
 pub data Writing : Type 0 where
   WritesNothing : Writing
   WritesAt : (tag : ℕ) (off : ℤ) (n : ℕ) → Writing
@@ -176,8 +177,8 @@ row_writing _ = WritesNothing
 abbrev pub writing : Ins → Writing
 writing i = cond (always_abends i) WritesNothing (row_writing i)
 
--- whether n bytes written at a register plus k are plain, for the tags 1 SB, 2 ST, 3 DB, 4 LB, 5 DT, 6 PB, 7 PT; tag 0 is the top of the
--- stack
+-- whether n bytes written at a register plus k are plain, for the tags 1 SB, 2 ST, 3 DB, 4 LB, 5 DT, 6 PB, 7 PT; tag 0
+-- is the top of the stack
 abbrev pub is_plain_above : ℕ → ℕ → ℕ → ℕ → ℕ → Bool
 is_plain_above session h tag k n =
     cond (tag == 2) false

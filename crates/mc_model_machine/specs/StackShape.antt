@@ -66,9 +66,9 @@ pub record Gives (code : List ℕ) (f : Fact) (i : Ins) (next : ℕ) : Type 0 wh
 abbrev pub IsAt : List ℕ → ℕ → Ins → Type 0
 IsAt code p i = (next : ℕ) × (instruction_at code p ≡ Ok (i, next))
 
--- The facts, the least set under these rules: the code begins in main; an instruction that is no CALL goes on with its pops
--- and pushes; it goes to its target with the same height; a CALL begins its routine; a CALL under a condition may go on; and a CALL
--- of a routine that returns with the counts i and o goes on with i bytes less and o more.
+-- The facts, the least set under these rules: the code begins in main; an instruction that is no CALL goes on with its
+-- pops and pushes; it goes to its target with the same height; a CALL begins its routine; a CALL under a condition may
+-- go on; and a CALL of a routine that returns with the counts i and o goes on with i bytes less and o more.
 pub data Reached (code : List ℕ) : Fact → Type 0 where
   begins : Reached code (fact Main 0 0)
   goes : {r : Routine} {p h : ℕ} (i : Ins) (next : ℕ) → Reached code (fact r p h) → Gives code (fact r p h) i next → call_target i ≡ None → goes_on i ≡ true → Reached code (fact r next (height_after i h))

@@ -1,4 +1,5 @@
--- The words that are printed for the causes of the assembler, the decoder and the stack checker, and the numbers of abends.
+-- The words that are printed for the causes of the assembler, the decoder and the stack checker, and the numbers of
+-- abends.
 use Rattle.std.specs.Prelude.{ℕ, List, codes}
 use Rattle.mc_model_machine.specs.declared.assembler.AsmCause.{AsmCause}
 use Rattle.mc_model_machine.specs.declared.assembler.AsmCause.TheVariants as asm

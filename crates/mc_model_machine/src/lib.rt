@@ -1,6 +1,7 @@
 #![tactic(auto)]
 
-//! The machine: command APDUs, instructions and their texts, frames, rows, primitives, chains of applications, and what the stack checker asks.
+//! The machine: command APDUs, instructions and their texts, frames, rows, primitives, chains of applications, and what
+//! the stack checker asks.
 
 mod assembler;
 mod checker;

@@ -1,4 +1,5 @@
--- The text of a deck: its statements, the sections that assemble an application, and the lines of the deck or the first refusal.
+-- The text of a deck: its statements, the sections that assemble an application, and the lines of the deck or the first
+-- refusal.
 use Rattle.std.specs.Prelude.{ℕ, Bool, true, false, cond, not, nat_lt, nat_le, ◌==◌, filter, List, [], ◌∷◌, ◌++◌, length, bytes_eq, codes, is_none, ok_or, Result, Ok, Err}
 use Rattle.mc_model_play.specs.declared.deck.DeckCause.{DeckCause}
 use Rattle.mc_model_play.specs.declared.deck.DeckCause.TheVariants.{TooManyLines, BadLine, BadName, BadHex, BadNumber, OutOfRange, NameTwice, UnknownName, LateLine, NoEnd}

@@ -4,7 +4,7 @@ use Rattle.mc_model_device.specs.Bytes.{bytes, zeros}
 use Rattle.mc_model_card.specs.Units.{UnitParts}
 use Rattle.mc_model_machine.specs.Text.{with_numbers}
 use Rattle.mc_model_machine.specs.Chain.{Reply, Abended}
-use Rattle.mc_model_play.specs.Play.{Step, LineResult, Ready, OffAt, WornStop, NoCard, Answered}
+use Rattle.mc_model_play.specs.Play.{Step, LineResult, Ready, OffAt, FailureStop, NoCard, Answered}
 use Rattle.mc_model_play.specs.Transcript.{text_of_result}
 use Rattle.mc_model_play.specs.DeckGrammar.{DeckLine, Format, Power, Named, Load, Select, Delete, Dump, Apdu, Cut, made_unit}
 
@@ -116,7 +116,7 @@ deck_of_number n = with_numbers 1 (opening_lines ++ turns 4000 n ++ closing_line
 -- whether a result is a reply, or that of a failed write
 abbrev pub is_reply : LineResult → Bool
 is_reply (Answered (Reply body sw)) = true
-is_reply WornStop = true
+is_reply FailureStop = true
 is_reply _ = false
 
 -- whether a result is an abend

@@ -1,4 +1,5 @@
--- What a card that holds one family alone is given of a play: its applications at the start, and an event for each line that concerns it.
+-- What a card that holds one family alone is given of a play: its applications at the start, and an event for each line
+-- that concerns it.
 use Rattle.std.specs.Prelude.{ℕ, Bool, true, false, cond, not, ◌&&◌, ◌||◌, ◌==◌, List, [], ◌∷◌, ◌++◌, is_some, unwrap_or, Option, Some, None}
 use Rattle.mc_model_device.specs.declared.device.Stop.{Stop}
 use Rattle.mc_model_device.specs.declared.device.Stop.TheVariants as stop
@@ -7,13 +8,14 @@ use Rattle.mc_model_device.specs.Card.{App, app_at_place}
 use Rattle.mc_model_machine.specs.Chain.{Outcome, Reply, Abended}
 use Rattle.mc_model_card.specs.Items.{Change, Fixed, Created, Deleted, Item, Plain, Atomic, StopAt}
 use Rattle.mc_model_card.specs.Manager.{Route, WrongLength, WrongClass, ToSelect, ToManager, ToApplication, route}
-use Rattle.mc_model_play.specs.Play.{Armed, Unarmed, ArmedCut, ArmedFail, Live, Running, Unpowered, Muted, State, Cold, Hot, LineResult, Answered, Step, armed_stop_in}
+use Rattle.mc_model_play.specs.Play.{Armed, Unarmed, ArmedCut, ArmedFail, Live, Running, Unpowered, Muted, State, BeforePower, AfterPower, LineResult, Answered, Step, armed_stop_in}
 use Rattle.mc_model_device.specs.PowerUp.{Base, OnCard, AtFault}
 use Rattle.mc_model_play.specs.Family.{command_of, live_in, is_running, is_own}
 use Rattle.mc_model_play.specs.DeckGrammar.{DeckLine}
 use Rattle.mc_model_play.specs.DeckGrammar as line
 
--- an event: a creation or deletion that is durable, a command with its budget and its stop, a dump, or the loss of the selection
+-- an event: a creation or deletion that is durable, a command with its budget and its stop, a dump, or the loss of the
+-- selection
 pub data Event : Type 0 where
   Arrives : (name : List ℕ) (app : App) → Event
   Departs : (name : List ℕ) → Event
@@ -40,8 +42,8 @@ apps_on (AtFault cause p) = []
 
 -- the applications of a state
 abbrev pub apps_in : State → List (List ℕ × App)
-apps_in (Cold m b a) = []
-apps_in (Hot s) = apps_on s.base
+apps_in (BeforePower m b a) = []
+apps_in (AfterPower s) = apps_on s.base
 
 -- whether a line is a power line
 abbrev pub is_power : DeckLine → Bool
@@ -63,14 +65,14 @@ event_of (Atomic w (Created n a)) = Some (n, Arrives n (app_at_place 0 a))
 event_of (Atomic w (Deleted n)) = Some (n, Departs n)
 
 -- an event, if its name is of the family
-abbrev pub told_event : List (List ℕ) → Option (List ℕ × Event) → List Event
-told_event K None = []
-told_event K (Some e) = cond (has_name e.0 K) (e.1 ∷ []) []
+abbrev pub reported_event : List (List ℕ) → Option (List ℕ × Event) → List Event
+reported_event K None = []
+reported_event K (Some e) = cond (has_name e.0 K) (e.1 ∷ []) []
 
 -- the events of the family's creations and deletions among whole items
 abbrev pub events_of_items : List (List ℕ) → List Item → List Event
 events_of_items K [] = []
-events_of_items K (i ∷ is) = told_event K (event_of i) ++ events_of_items K is
+events_of_items K (i ∷ is) = reported_event K (event_of i) ++ events_of_items K is
 
 -- the stop of a cut that is armed, if one is
 abbrev pub armed_stop : Armed → Option StopAt
@@ -103,7 +105,8 @@ abbrev pub is_foreign_select : List (List ℕ) → Option (List ℕ) → Bool
 is_foreign_select K None = false
 is_foreign_select K (Some bytes) = selects_foreign K (route bytes)
 
--- whether the selection of the family is lost: by a stop, or by a SELECT of a name outside it that was answered with 9000
+-- whether the selection of the family is lost: by a stop, or by a SELECT of a name outside it that was answered with
+-- 9000
 abbrev pub is_left : List (List ℕ) → Step → Bool
 is_left K t = is_some t.stop || (is_running (live_in t.before) && is_foreign_select K (command_of t.line) && is_done_reply t.result)
 
@@ -114,16 +117,16 @@ leave_event_if false = []
 
 -- the budget in a state
 abbrev pub budget_in : State → ℕ
-budget_in (Cold m b a) = b
-budget_in (Hot s) = s.budget
+budget_in (BeforePower m b a) = b
+budget_in (AfterPower s) = s.budget
 
 -- the event of a command of the family
 abbrev pub command_event : Step → Option (List ℕ) → List Event
 command_event t None = []
 command_event t (Some bytes) = Commands bytes (budget_in t.before) (given_stop (armed_stop_in t.before) t.stop) ∷ []
 
--- the events of a line that is neither power nor dump: a command of the family, or else what is durable, and whether the selection was
--- lost
+-- the events of a line that is neither power nor dump: a command of the family, or else what is durable, and whether
+-- the selection was lost
 abbrev pub line_events : Bool → List (List ℕ) → Step → List Event
 line_events true K t = command_event t (command_of t.line)
 line_events false K t = events_of_items K t.whole ++ leave_event_if (is_left K t)

@@ -1,5 +1,5 @@
--- The laws of plays: isolation of closed families, every line whole or stopped, no stale byte in a new application, and no
--- chain of cuts that makes a card unusable.
+-- The laws of plays: isolation of closed families, every line whole or stopped, no stale byte in a new application, and
+-- no chain of cuts that makes a card unusable.
 use Rattle.std.specs.Prelude.{◌≡◌, ℕ, ◌-◌, Bool, true, false, cond, ◌==◌, List, [], ◌∷◌, ◌++◌, length, take, Option, Some, None, Result, Ok, Err, ⊤}
 use Rattle.mc_model_card.specs.declared.unit.AidFault.{AidFault}
 use Rattle.mc_model_card.specs.declared.card.Part.{Part}
@@ -10,8 +10,8 @@ use Rattle.mc_model_machine.specs.Apdu.{ApduParts}
 use Rattle.mc_model_card.specs.Units.{name_of}
 use Rattle.mc_model_device.specs.Card.{App, Card, app_at_place}
 use Rattle.mc_model_card.specs.Items.{Change, Fixed, Created, Deleted, Item, Plain, Atomic, apps_after_items, StopAt, Stopped, at_stop}
-use Rattle.mc_model_card.specs.Manager.{Seat, Route, WrongLength, WrongClass, ToSelect, ToManager, ToApplication, route, Got, got_of, with_got, sizes_in}
-use Rattle.mc_model_play.specs.Play.{Live, Running, Unpowered, Muted, Warm, State, Cold, Hot, Step, is_done, load_commands, plays, start, Possible, WornAt, select_bytes, delete_bytes}
+use Rattle.mc_model_card.specs.Manager.{SessionState, Route, WrongLength, WrongClass, ToSelect, ToManager, ToApplication, route, Got, got_of, with_got, sizes_in}
+use Rattle.mc_model_play.specs.Play.{Live, Running, Unpowered, Muted, Warm, State, BeforePower, AfterPower, Step, is_done, load_commands, plays, start, Possible, FailedWrite, select_bytes, delete_bytes}
 use Rattle.mc_model_device.specs.PowerUp.{Base, OnCard, AtFault}
 use Rattle.mc_model_card.specs.Commands.{Command, command}
 use Rattle.mc_model_card.specs.Items as items
@@ -32,8 +32,8 @@ whole_of is (Some s) = (at_stop is s.at s.left).whole
 
 -- the applications after a line are those before it with these items; before the first power line there is no card
 abbrev pub IsDoneFrom : State → List Item → State → Type 0
-IsDoneFrom (Cold m b a) is after = is ≡ []
-IsDoneFrom (Hot s) is after = apps_in after ≡ apps_after_items (apps_on s.base) is
+IsDoneFrom (BeforePower m b a) is after = is ≡ []
+IsDoneFrom (AfterPower s) is after = apps_in after ≡ apps_after_items (apps_on s.base) is
 
 -- a line has the whole items of its stop, and leaves the card with them
 pub record KeepsLine (t : Step) : Type 0 where
@@ -123,11 +123,11 @@ commands_with true b rest = b ∷ rest
 commands_with false b rest = []
 
 -- the commands in turn that are answered by 9000 alone, up to the first that is not
-unfoldable pub accepted_commands : Card → Seat → ℕ → List (List ℕ) → List (List ℕ)
-accepted_commands c seat budget [] = []
-accepted_commands c seat budget (b ∷ bs) =
-    let r = command c seat b budget in
-    let rest = accepted_commands (items.card_done c r.items) r.seat budget bs in
+unfoldable pub accepted_commands : Card → SessionState → ℕ → List (List ℕ) → List (List ℕ)
+accepted_commands c session_state budget [] = []
+accepted_commands c session_state budget (b ∷ bs) =
+    let r = command c session_state b budget in
+    let rest = accepted_commands (items.card_done c r.items) r.session_state budget bs in
     commands_with (is_done r.outcome) b rest
 
 -- the commands of a line
@@ -140,13 +140,13 @@ bytes_of _ = []
 
 -- the commands of a line that a running card takes
 abbrev pub accepted_commands_on : Live → Base → ℕ → DeckLine → List (List ℕ)
-accepted_commands_on (Running seat) (OnCard c) budget l = accepted_commands c seat budget (bytes_of l)
+accepted_commands_on (Running session_state) (OnCard c) budget l = accepted_commands c session_state budget (bytes_of l)
 accepted_commands_on live base budget l = []
 
 -- the commands of a line that are taken in a state
 abbrev pub accepted_commands_in : State → DeckLine → List (List ℕ)
-accepted_commands_in (Cold m b a) l = []
-accepted_commands_in (Hot s) l = accepted_commands_on s.live s.base s.budget l
+accepted_commands_in (BeforePower m b a) l = []
+accepted_commands_in (AfterPower s) l = accepted_commands_on s.live s.base s.budget l
 
 -- what of the commands sent so far counts after a line: the load is lost with power, and by any stop
 abbrev pub kept_sent : Bool → Option StopAt → Option Sent → Option Sent
@@ -199,11 +199,11 @@ pub record HoldsOf (m : List (List ℕ)) (steps : List Step) : Type 0 where
   pub few : IsImage m → AreLines steps → AllFitJournal steps
   pub ready : IsImage m → AreLines steps → ReadyAgain false steps
 
--- The law of isolation. For every deck, every image and every possible list of failed writes, and for every front of the play: what a
--- closed family observes and holds is what it observes and holds on a card of its own; each line leaves the card with its whole items; no
--- new application has a stale byte; and if the deck's lines are bytes, each item fits a journal, and a card that was found or formatted
--- is found by every later power line that no stop hits.
+-- The law of isolation. For every deck, every image and every possible list of failed writes, and for every front of
+-- the play: what a closed family observes and holds is what it observes and holds on a card of its own; each line
+-- leaves the card with its whole items; no new application has a stale byte; and if the deck's lines are bytes, each
+-- item fits a journal, and a card that was found or formatted is found by every later power line that no stop hits.
 abbrev pub IsolationLaw : Type 0
 IsolationLaw =
-    (ls : List (ℕ × DeckLine)) (m : List (List ℕ)) (ws : List (Option WornAt)) → Possible (start m) ls ws
+    (ls : List (ℕ × DeckLine)) (m : List (List ℕ)) (ws : List (Option FailedWrite)) → Possible (start m) ls ws
     → (n : ℕ) → HoldsOf m (take n (plays (start m) ls ws))

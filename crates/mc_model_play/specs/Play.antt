@@ -15,7 +15,7 @@ use Rattle.mc_model_device.specs.Card.{App, Card, means, heap_start}
 use Rattle.mc_model_device.specs.Layout.{root, hole_header, step_of, fault}
 use Rattle.mc_model_machine.specs.Chain.{Outcome, Reply, Write, Turn, Ran, run}
 use Rattle.mc_model_card.specs.Items.{Change, Fixed, Item, Plain, Atomic, moves, apps_after_change, card_done, StopAt, Stopped, at_stop, BankItem, Piece, Blank, Note, Commit, Enter, Remove}
-use Rattle.mc_model_card.specs.Manager.{Selected, Seat, empty_seat, Route, WrongLength, WrongClass, ToSelect, ToManager, ToApplication, route, Managed, Declines, Accepts, Accepted, select, manage, room_on}
+use Rattle.mc_model_card.specs.Manager.{Selected, SessionState, empty_session_state, Route, WrongLength, WrongClass, ToSelect, ToManager, ToApplication, route, Managed, Declines, Accepts, Accepted, select, manage, room_on}
 use Rattle.mc_model_play.specs.DeckGrammar.{DeckLine}
 use Rattle.mc_model_play.specs.DeckGrammar as line
 
@@ -29,12 +29,12 @@ pub data Armed : Type 0 where
 
 -- whether a card runs, with its session state; after a failed write it is mute
 pub data Live : Type 0 where
-  Running : (seat : Seat) → Live
+  Running : (session_state : SessionState) → Live
   Unpowered : Live
   Muted : Live
 
--- a play after its first power line: its base, the number of writes that recovery still has to make and the journal that holds them,
--- whether a card runs, the budget, and the stop that is armed
+-- a play after its first power line: its base, the number of writes that recovery still has to make and the journal
+-- that holds them, whether a card runs, the budget, and the stop that is armed
 pub record Warm : Type 0 where
   pub base : Base
   pub owed : ℕ
@@ -45,8 +45,8 @@ pub record Warm : Type 0 where
 
 -- a play before and after its first power line
 pub data State : Type 0 where
-  Cold : (image : List (List ℕ)) (budget : ℕ) (armed : Armed) → State
-  Hot : (warm : Warm) → State
+  BeforePower : (image : List (List ℕ)) (budget : ℕ) (armed : Armed) → State
+  AfterPower : (warm : Warm) → State
 
 -- the result of a line that has one
 pub data LineResult : Type 0 where
@@ -54,7 +54,7 @@ pub data LineResult : Type 0 where
   Ready : (writes : ℕ) → LineResult
   Unusable : (cause : Cause) (place : ℕ) → LineResult
   OffAt : (write : ℕ) → LineResult
-  WornStop : LineResult
+  FailureStop : LineResult
   NoCard : LineResult
   Silenced : LineResult
   Answered : (outcome : Outcome) → LineResult
@@ -62,12 +62,12 @@ pub data LineResult : Type 0 where
   Absent : LineResult
 
 -- a failed write of a line: its number, and the word that it left
-pub record WornAt : Type 0 where
+pub record FailedWrite : Type 0 where
   pub at : ℕ
   pub left : List ℕ
 
--- a line that was played: its number, the line, the state before and after, its result, its items and those that are whole,
--- the stop that hit it, its device writes, the pairs of its delegations, its turns
+-- a line that was played: its number, the line, the state before and after, its result, its items and those that are
+-- whole, the stop that hit it, its device writes, the pairs of its delegations, its turns
 pub record Step : Type 0 where
   pub number : ℕ
   pub line : DeckLine
@@ -127,11 +127,11 @@ command_with_rest true first rest = with_items first rest
 command_with_rest false first rest = first
 
 -- commands in turn, up to the first that is not answered by 9000 alone
-unfoldable pub send : Card → Seat → ℕ → List (List ℕ) → Command
-send c seat budget [] = refusal seat 0x9000
-send c seat budget (b ∷ bs) =
-    let r = command c seat b budget in
-    let rest = send (card_done c r.items) r.seat budget bs in
+unfoldable pub send : Card → SessionState → ℕ → List (List ℕ) → Command
+send c session_state budget [] = refusal session_state 0x9000
+send c session_state budget (b ∷ bs) =
+    let r = command c session_state b budget in
+    let rest = send (card_done c r.items) r.session_state budget bs in
     command_with_rest (is_done r.outcome) r rest
 
 -- ---- stops
@@ -146,7 +146,7 @@ is_card_line (line.Apdu b) = true
 is_card_line _ = false
 
 -- the stop that hits a card line of m device writes: a failed write, else the cut that is armed
-abbrev pub hit_of : Armed → ℕ → Option WornAt → Option StopAt
+abbrev pub hit_of : Armed → ℕ → Option FailedWrite → Option StopAt
 hit_of armed m (Some w) = Some (record { kind = stop.Worn; at = w.at; left = w.left })
 hit_of (ArmedCut k x) m None = cond (nat_le k m) (Some (record { kind = stop.Off; at = k; left = x })) None
 hit_of Unarmed m None = None
@@ -165,7 +165,7 @@ live_after stop.Worn = Muted
 -- the result of a stopped line
 abbrev pub result_of_stop : StopAt → Stop → LineResult
 result_of_stop s stop.Off = OffAt s.at
-result_of_stop s stop.Worn = WornStop
+result_of_stop s stop.Worn = FailureStop
 
 -- ---- power lines
 
@@ -180,7 +180,7 @@ power_result m (AtFault cause p) = Unusable cause p
 
 -- whether a card runs after a power line that no stop hit
 abbrev pub power_live : Base → Live
-power_live (OnCard c) = Running empty_seat
+power_live (OnCard c) = Running empty_session_state
 power_live (AtFault cause p) = Unpowered
 
 -- the play after a power-up that was stopped in its recovery, or in its migration
@@ -220,7 +220,7 @@ power_step n before s t =
       moves = moves_with (power_moves s) t;
       pairs = [];
       turns = [];
-      after = Hot (power_after s t);
+      after = AfterPower (power_after s t);
     }
 
 -- ---- lines on a running card
@@ -231,7 +231,7 @@ stopped_line s c t r = record s { base = OnCard (card_done c r.whole); owed = r.
 
 -- the play after a line of a running card
 abbrev pub line_after : Warm → Card → Command → Option StopAt → Warm
-line_after s c r None = record s { base = OnCard (card_done c r.items); live = Running r.seat; armed = Unarmed }
+line_after s c r None = record s { base = OnCard (card_done c r.items); live = Running r.session_state; armed = Unarmed }
 line_after s c r (Some t) = stopped_line s c t (at_stop r.items t.at t.left)
 
 -- the result of a line of a running card
@@ -250,7 +250,7 @@ command_step n l s c r t =
     record {
       number = n;
       line = l;
-      before = Hot s;
+      before = AfterPower s;
       result = Some (line_says r t);
       items = r.items;
       whole = whole_items r t;
@@ -258,7 +258,7 @@ command_step n l s c r t =
       moves = moves_with (moves r.items) t;
       pairs = r.pairs;
       turns = r.turns;
-      after = Hot (line_after s c r t);
+      after = AfterPower (line_after s c r t);
     }
 
 -- ---- lines that write nothing
@@ -287,14 +287,14 @@ static_of (Some a) = Static a.fixed
 
 -- the result of a line that wants a card, if none runs
 abbrev pub without_card : Live → LineResult
-without_card (Running seat) = NoCard
+without_card (Running session_state) = NoCard
 without_card Unpowered = NoCard
 without_card Muted = Silenced
 
 -- the result of a dump
 abbrev pub dump_result : Live → Base → List ℕ → LineResult
-dump_result (Running seat) (OnCard c) n = static_of (lookup c.apps n)
-dump_result (Running seat) (AtFault cause p) n = NoCard
+dump_result (Running session_state) (OnCard c) n = static_of (lookup c.apps n)
+dump_result (Running session_state) (AtFault cause p) n = NoCard
 dump_result Unpowered base n = NoCard
 dump_result Muted base n = Silenced
 
@@ -307,34 +307,34 @@ formatted_image m =
 -- ---- a line
 
 -- the commands of a line: select, delete, apdu and load
-abbrev pub line_command : Card → Seat → ℕ → DeckLine → Command
-line_command c seat budget (line.Select n) = command c seat (select_bytes n) budget
-line_command c seat budget (line.Delete n) = command c seat (delete_bytes n) budget
-line_command c seat budget (line.Apdu b) = command c seat b budget
-line_command c seat budget (line.Load u fixed session) = send c seat budget (load_commands u fixed session)
-line_command c seat budget _ = refusal seat 0x9000
+abbrev pub line_command : Card → SessionState → ℕ → DeckLine → Command
+line_command c session_state budget (line.Select n) = command c session_state (select_bytes n) budget
+line_command c session_state budget (line.Delete n) = command c session_state (delete_bytes n) budget
+line_command c session_state budget (line.Apdu b) = command c session_state b budget
+line_command c session_state budget (line.Load u fixed session) = send c session_state budget (load_commands u fixed session)
+line_command c session_state budget _ = refusal session_state 0x9000
 
 -- a card line other than power: its command if a card runs, else the result that none does
-abbrev pub card_line : ℕ → DeckLine → Warm → Live → Base → Option WornAt → Step
-card_line n l s (Running seat) (OnCard c) w =
-    let r = line_command c seat s.budget l in
+abbrev pub card_line : ℕ → DeckLine → Warm → Live → Base → Option FailedWrite → Step
+card_line n l s (Running session_state) (OnCard c) w =
+    let r = line_command c session_state s.budget l in
     command_step n l s c r (hit_of s.armed (moves r.items) w)
-card_line n l s live base w = quiet n l (Hot s) (Some (without_card live)) (Hot (record s { armed = Unarmed }))
+card_line n l s live base w = quiet n l (AfterPower s) (Some (without_card live)) (AfterPower (record s { armed = Unarmed }))
 
 -- a line after the first power line
-abbrev pub hot_step : ℕ → DeckLine → Warm → Option WornAt → Step
-hot_step n line.Format s w = quiet n line.Format (Hot s) None (Hot s)
-hot_step n (line.Poke at x) s w = quiet n (line.Poke at x) (Hot s) None (Hot s)
-hot_step n line.Named s w = quiet n line.Named (Hot s) None (Hot s)
-hot_step n (line.Budget b) s w = quiet n (line.Budget b) (Hot s) None (Hot (record s { budget = b }))
-hot_step n (line.Cut k x) s w = quiet n (line.Cut k x) (Hot s) None (Hot (record s { armed = ArmedCut k x }))
-hot_step n (line.Fail k) s w = quiet n (line.Fail k) (Hot s) None (Hot (record s { armed = ArmedFail k }))
-hot_step n (line.Dump a) s w = quiet n (line.Dump a) (Hot s) (Some (dump_result s.live s.base a)) (Hot s)
-hot_step n line.Power s w = power_step n (Hot s) s (hit_of s.armed (power_moves s) w)
-hot_step n (line.Load u fixed session) s w = card_line n (line.Load u fixed session) s s.live s.base w
-hot_step n (line.Select a) s w = card_line n (line.Select a) s s.live s.base w
-hot_step n (line.Delete a) s w = card_line n (line.Delete a) s s.live s.base w
-hot_step n (line.Apdu b) s w = card_line n (line.Apdu b) s s.live s.base w
+abbrev pub after_power_step : ℕ → DeckLine → Warm → Option FailedWrite → Step
+after_power_step n line.Format s w = quiet n line.Format (AfterPower s) None (AfterPower s)
+after_power_step n (line.Poke at x) s w = quiet n (line.Poke at x) (AfterPower s) None (AfterPower s)
+after_power_step n line.Named s w = quiet n line.Named (AfterPower s) None (AfterPower s)
+after_power_step n (line.Budget b) s w = quiet n (line.Budget b) (AfterPower s) None (AfterPower (record s { budget = b }))
+after_power_step n (line.Cut k x) s w = quiet n (line.Cut k x) (AfterPower s) None (AfterPower (record s { armed = ArmedCut k x }))
+after_power_step n (line.Fail k) s w = quiet n (line.Fail k) (AfterPower s) None (AfterPower (record s { armed = ArmedFail k }))
+after_power_step n (line.Dump a) s w = quiet n (line.Dump a) (AfterPower s) (Some (dump_result s.live s.base a)) (AfterPower s)
+after_power_step n line.Power s w = power_step n (AfterPower s) s (hit_of s.armed (power_moves s) w)
+after_power_step n (line.Load u fixed session) s w = card_line n (line.Load u fixed session) s s.live s.base w
+after_power_step n (line.Select a) s w = card_line n (line.Select a) s s.live s.base w
+after_power_step n (line.Delete a) s w = card_line n (line.Delete a) s s.live s.base w
+after_power_step n (line.Apdu b) s w = card_line n (line.Apdu b) s s.live s.base w
 
 -- the play that the first power line finds
 unfoldable pub play_at_power : List (List ℕ) → ℕ → Armed → Warm
@@ -342,46 +342,46 @@ play_at_power m budget armed =
     record { base = base_of (fault m) m; owed = count_of_recovery_writes m; by = pending_journal (which m); live = Unpowered; budget = budget; armed = armed }
 
 -- a line that wants a card before the first power line; a card line drops the armed stop
-abbrev pub cold_line : ℕ → DeckLine → List (List ℕ) → ℕ → Armed → Armed → Step
-cold_line n l m budget armed after = quiet n l (Cold m budget armed) (Some NoCard) (Cold m budget after)
+abbrev pub before_power_line : ℕ → DeckLine → List (List ℕ) → ℕ → Armed → Armed → Step
+before_power_line n l m budget armed after = quiet n l (BeforePower m budget armed) (Some NoCard) (BeforePower m budget after)
 
 -- a line before the first power line, or that line
-abbrev pub cold_step : ℕ → DeckLine → List (List ℕ) → ℕ → Armed → Option WornAt → Step
-cold_step n line.Format m b a w = quiet n line.Format (Cold m b a) (Some Formatted) (Cold (formatted_image m) b a)
-cold_step n (line.Poke at x) m b a w = quiet n (line.Poke at x) (Cold m b a) None (Cold (slice_set m at x) b a)
-cold_step n line.Named m b a w = quiet n line.Named (Cold m b a) None (Cold m b a)
-cold_step n (line.Budget c) m b a w = quiet n (line.Budget c) (Cold m b a) None (Cold m c a)
-cold_step n (line.Cut k x) m b a w = quiet n (line.Cut k x) (Cold m b a) None (Cold m b (ArmedCut k x))
-cold_step n (line.Fail k) m b a w = quiet n (line.Fail k) (Cold m b a) None (Cold m b (ArmedFail k))
-cold_step n (line.Dump x) m b a w = cold_line n (line.Dump x) m b a a
-cold_step n line.Power m b a w = let s = play_at_power m b a in power_step n (Cold m b a) s (hit_of a (power_moves s) w)
-cold_step n (line.Load u fixed session) m b a w = cold_line n (line.Load u fixed session) m b a Unarmed
-cold_step n (line.Select x) m b a w = cold_line n (line.Select x) m b a Unarmed
-cold_step n (line.Delete x) m b a w = cold_line n (line.Delete x) m b a Unarmed
-cold_step n (line.Apdu x) m b a w = cold_line n (line.Apdu x) m b a Unarmed
+abbrev pub before_power_step : ℕ → DeckLine → List (List ℕ) → ℕ → Armed → Option FailedWrite → Step
+before_power_step n line.Format m b a w = quiet n line.Format (BeforePower m b a) (Some Formatted) (BeforePower (formatted_image m) b a)
+before_power_step n (line.Poke at x) m b a w = quiet n (line.Poke at x) (BeforePower m b a) None (BeforePower (slice_set m at x) b a)
+before_power_step n line.Named m b a w = quiet n line.Named (BeforePower m b a) None (BeforePower m b a)
+before_power_step n (line.Budget c) m b a w = quiet n (line.Budget c) (BeforePower m b a) None (BeforePower m c a)
+before_power_step n (line.Cut k x) m b a w = quiet n (line.Cut k x) (BeforePower m b a) None (BeforePower m b (ArmedCut k x))
+before_power_step n (line.Fail k) m b a w = quiet n (line.Fail k) (BeforePower m b a) None (BeforePower m b (ArmedFail k))
+before_power_step n (line.Dump x) m b a w = before_power_line n (line.Dump x) m b a a
+before_power_step n line.Power m b a w = let s = play_at_power m b a in power_step n (BeforePower m b a) s (hit_of a (power_moves s) w)
+before_power_step n (line.Load u fixed session) m b a w = before_power_line n (line.Load u fixed session) m b a Unarmed
+before_power_step n (line.Select x) m b a w = before_power_line n (line.Select x) m b a Unarmed
+before_power_step n (line.Delete x) m b a w = before_power_line n (line.Delete x) m b a Unarmed
+before_power_step n (line.Apdu x) m b a w = before_power_line n (line.Apdu x) m b a Unarmed
 
 -- the step of one line from a state
-unfoldable pub step : State → ℕ × DeckLine → Option WornAt → Step
-step (Cold m b a) l w = cold_step l.0 l.1 m b a w
-step (Hot s) l w = hot_step l.0 l.1 s w
+unfoldable pub step : State → ℕ × DeckLine → Option FailedWrite → Step
+step (BeforePower m b a) l w = before_power_step l.0 l.1 m b a w
+step (AfterPower s) l w = after_power_step l.0 l.1 s w
 
 -- ---- a play
 
 -- the failed write of the first line, if it has one
-abbrev pub first_worn : List (Option WornAt) → Option WornAt
-first_worn [] = None
-first_worn (w ∷ ws) = w
+abbrev pub first_failure : List (Option FailedWrite) → Option FailedWrite
+first_failure [] = None
+first_failure (w ∷ ws) = w
 
 -- the lines of a deck played in order, with one entry of `worn` for each line
-unfoldable pub plays : State → List (ℕ × DeckLine) → List (Option WornAt) → List Step
+unfoldable pub plays : State → List (ℕ × DeckLine) → List (Option FailedWrite) → List Step
 plays s [] ws = []
 plays s (l ∷ ls) ws =
-    let t = step s l (first_worn ws) in
+    let t = step s l (first_failure ws) in
     t ∷ plays t.after ls (drop 1 ws)
 
 -- the state of a play before its first line
 abbrev pub start : List (List ℕ) → State
-start m = Cold m 10000 Unarmed
+start m = BeforePower m 10000 Unarmed
 
 -- the state after the last line
 abbrev pub last_state : State → List Step → State
@@ -392,10 +392,10 @@ last_state s (t ∷ ts) = last_state t.after ts
 
 -- the number of device writes of a power line: those that recovery still has to make, and those of the migration
 abbrev pub power_part : State → DeckLine → ℕ
-power_part (Cold m b a) line.Power = power_moves (play_at_power m b a)
-power_part (Hot s) line.Power = power_moves s
-power_part (Cold m b a) _ = 0
-power_part (Hot s) _ = 0
+power_part (BeforePower m b a) line.Power = power_moves (play_at_power m b a)
+power_part (AfterPower s) line.Power = power_moves s
+power_part (BeforePower m b a) _ = 0
+power_part (AfterPower s) _ = 0
 
 -- the number of device writes that a line makes if nothing stops it
 unfoldable pub moves_of : State → ℕ × DeckLine → ℕ
@@ -403,8 +403,8 @@ moves_of s l = power_part s l.1 + moves (step s l None).items
 
 -- the stop that is armed in a state
 abbrev pub armed_stop_in : State → Armed
-armed_stop_in (Cold m b a) = a
-armed_stop_in (Hot s) = s.armed
+armed_stop_in (BeforePower m b a) = a
+armed_stop_in (AfterPower s) = s.armed
 
 -- a failed write with this number comes before the cut that is armed
 abbrev pub IsBeforeCut : Armed → ℕ → Type 0
@@ -413,19 +413,19 @@ IsBeforeCut Unarmed j = ⊤
 IsBeforeCut (ArmedFail k) j = ⊤
 
 -- a failed write that a line may have: one of the device writes of a card line, before the cut that is armed
-pub record IsPossibleAt (s : State) (l : ℕ × DeckLine) (w : WornAt) : Type 0 where
+pub record IsPossibleAt (s : State) (l : ℕ × DeckLine) (w : FailedWrite) : Type 0 where
   pub card_line : is_card_line l.1 ≡ true
   pub low : 1 ≤ w.at
   pub high : w.at ≤ moves_of s l
   pub first : IsBeforeCut (armed_stop_in s) w.at
 
 -- the failed write of a line is possible, if it has one
-abbrev pub MayHit : State → ℕ × DeckLine → Option WornAt → Type 0
+abbrev pub MayHit : State → ℕ × DeckLine → Option FailedWrite → Type 0
 MayHit s l None = ⊤
 MayHit s l (Some w) = IsPossibleAt s l w
 
 -- one entry for each line, each possible at its line
-abbrev pub Possible : State → List (ℕ × DeckLine) → List (Option WornAt) → Type 0
+abbrev pub Possible : State → List (ℕ × DeckLine) → List (Option FailedWrite) → Type 0
 Possible s [] [] = ⊤
 Possible s [] (w ∷ ws) = ⊥
 Possible s (l ∷ ls) [] = ⊥
@@ -434,18 +434,18 @@ Possible s (l ∷ ls) (w ∷ ws) = MayHit s l w × Possible (step s l w).after l
 -- ---- where failed writes come from
 
 -- the failed write of a line on a steady bench: the one that a `fail` line armed and no other, and it leaves zeros
-abbrev pub steady_at : Armed → DeckLine → ℕ → Option WornAt
+abbrev pub steady_at : Armed → DeckLine → ℕ → Option FailedWrite
 steady_at (ArmedFail k) l m = cond (is_card_line l && nat_le k m) (Some (record { at = k; left = zeros 8 })) None
 steady_at Unarmed l m = None
 steady_at (ArmedCut k x) l m = None
 
 -- the failed writes of a play on a steady bench
-unfoldable pub steady_worn : State → List (ℕ × DeckLine) → List (Option WornAt)
-steady_worn s [] = []
-steady_worn s (l ∷ ls) =
+unfoldable pub steady_failures : State → List (ℕ × DeckLine) → List (Option FailedWrite)
+steady_failures s [] = []
+steady_failures s (l ∷ ls) =
     let m = moves_of s l in
     let w = steady_at (armed_stop_in s) l.1 m in
-    w ∷ steady_worn (step s l w).after ls
+    w ∷ steady_failures (step s l w).after ls
 
 -- whether an entry of a tape is a stop
 abbrev pub ends_tape : Option Stop → Bool
@@ -463,29 +463,29 @@ chunk (suc n) [] = ([], [])
 chunk (suc n) (e ∷ t) = cond (ends_tape e.«end») (e ∷ [], t) (with_entry e (chunk n t))
 
 -- the failed write of an entry with this number, if it is one
-abbrev pub worn_entry : ℕ → List ℕ → Option Stop → Option WornAt
-worn_entry k left None = None
-worn_entry k left (Some stop.Off) = None
-worn_entry k left (Some stop.Worn) = Some (record { at = k; left = left })
+abbrev pub failure_entry : ℕ → List ℕ → Option Stop → Option FailedWrite
+failure_entry k left None = None
+failure_entry k left (Some stop.Off) = None
+failure_entry k left (Some stop.Worn) = Some (record { at = k; left = left })
 
 -- the failed write of a line's entries, if the last one is one
-abbrev pub worn_in : ℕ → List Entry → Option WornAt
-worn_in k [] = None
-worn_in k (e ∷ []) = worn_entry (k + 1) e.left e.«end»
-worn_in k (e ∷ f ∷ es) = worn_in (k + 1) (f ∷ es)
+abbrev pub failures_in : ℕ → List Entry → Option FailedWrite
+failures_in k [] = None
+failures_in k (e ∷ []) = failure_entry (k + 1) e.left e.«end»
+failures_in k (e ∷ f ∷ es) = failures_in (k + 1) (f ∷ es)
 
 -- the failed writes of a play on a bench that records its tape: those of the tape
-unfoldable pub tape_worn : State → List (ℕ × DeckLine) → List Entry → List (Option WornAt)
-tape_worn s [] t = []
-tape_worn s (l ∷ ls) t =
+unfoldable pub failures_of_tape : State → List (ℕ × DeckLine) → List Entry → List (Option FailedWrite)
+failures_of_tape s [] t = []
+failures_of_tape s (l ∷ ls) t =
     let c = chunk (moves_of s l) t in
-    let w = worn_in 0 c.0 in
-    w ∷ tape_worn (step s l w).after ls c.1
+    let w = failures_in 0 c.0 in
+    w ∷ failures_of_tape (step s l w).after ls c.1
 
 -- ---- the words that a play leaves
 
--- the words fit a play whose base is a card: they have no fault, they hold the card, and recovery still has to make the writes of the
--- play
+-- the words fit a play whose base is a card: they have no fault, they hold the card, and recovery still has to make the
+-- writes of the play
 pub record StandsForCard (m : List (List ℕ)) (c : Card) (s : Warm) : Type 0 where
   pub sound : fault m ≡ None
   pub meaning : means m ≡ c
@@ -501,11 +501,11 @@ abbrev pub StandsForBase : List (List ℕ) → Base → Warm → Type 0
 StandsForBase m (OnCard c) s = StandsForCard m c s
 StandsForBase m (AtFault cause p) s = StandsForFault m cause p s
 
--- the words fit a state: before the first power line they are the image; after it they fit its base, and the journal whose writes
--- recovery still has to make is that of the play
+-- the words fit a state: before the first power line they are the image; after it they fit its base, and the journal
+-- whose writes recovery still has to make is that of the play
 abbrev pub StandsForState : List (List ℕ) → State → Type 0
-StandsForState m (Cold image b a) = m ≡ image
-StandsForState m (Hot s) = StandsForBase m s.base s × (s.owed ≢ 0 → pending_journal (which m) ≡ s.by)
+StandsForState m (BeforePower image b a) = m ≡ image
+StandsForState m (AfterPower s) = StandsForBase m s.base s × (s.owed ≢ 0 → pending_journal (which m) ≡ s.by)
 
 -- ---- every write accounted
 
@@ -515,8 +515,8 @@ laid_entries m es = image_with m (map (λ e. (e.at, e.left)) es)
 
 -- the words after a line
 abbrev pub words_left : List (List ℕ) → List Entry → State → List (List ℕ)
-words_left m es (Cold image b a) = image
-words_left m es (Hot s) = laid_entries m es
+words_left m es (BeforePower image b a) = image
+words_left m es (AfterPower s) = laid_entries m es
 
 -- the state after this line, had a stop at write k that leaves x hit it
 abbrev pub state_after_stop : State → ℕ × DeckLine → ℕ → List ℕ → State
@@ -533,7 +533,8 @@ abbrev pub kind_of : Option StopAt → Option Stop
 kind_of None = None
 kind_of (Some t) = Some t.kind
 
--- with the entries `es` of a line still to come, after words m: after each of them the words fit the play that was stopped there
+-- with the entries `es` of a line still to come, after words m: after each of them the words fit the play that was
+-- stopped there
 abbrev pub StandsAtEach : List (List ℕ) → State → ℕ × DeckLine → ℕ → List Entry → Type 0
 StandsAtEach m s l k [] = ⊤
 StandsAtEach m s l k (e ∷ es) =
@@ -547,9 +548,9 @@ pub record AccountsForLine (m : List (List ℕ)) (s : State) (l : ℕ × DeckLin
   pub ends : EndsAs (kind_of t.stop) es
 
 -- a recorded tape accounts for a play from the words m on
-abbrev pub Accounts : List (List ℕ) → State → List (ℕ × DeckLine) → List (Option WornAt) → List Entry → Type 0
+abbrev pub Accounts : List (List ℕ) → State → List (ℕ × DeckLine) → List (Option FailedWrite) → List Entry → Type 0
 Accounts m s [] ws t = t ≡ []
 Accounts m s (l ∷ ls) ws t =
-    let u = step s l (first_worn ws) in
+    let u = step s l (first_failure ws) in
     let c = chunk (moves_of s l) t in
     AccountsForLine m s l u c.0 × Accounts (words_left m c.0 u.after) u.after ls (drop 1 ws) c.1

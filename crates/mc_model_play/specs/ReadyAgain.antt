@@ -3,7 +3,7 @@ use Rattle.std.specs.Prelude.{◌≡◌, ℕ, ◌≤◌, Bool, true, false, ◌&
 use Rattle.std.specs.List.{AllByRecursion}
 use Rattle.mc_model_device.specs.Bytes.{AreBytes}
 use Rattle.mc_model_card.specs.Items.{Item, Plain, Atomic, StopAt}
-use Rattle.mc_model_play.specs.Play.{State, Cold, Hot, LineResult, Formatted, Ready, Step}
+use Rattle.mc_model_play.specs.Play.{State, BeforePower, AfterPower, LineResult, Formatted, Ready, Step}
 use Rattle.mc_model_play.specs.DeckGrammar.{DeckLine}
 use Rattle.mc_model_play.specs.DeckGrammar as line
 
@@ -16,9 +16,9 @@ is_found (Some Formatted) = true
 is_found _ = false
 
 -- whether a state is before the first power line
-abbrev pub is_cold : State → Bool
-is_cold (Cold m b a) = true
-is_cold (Hot s) = false
+abbrev pub is_before_power : State → Bool
+is_before_power (BeforePower m b a) = true
+is_before_power (AfterPower s) = false
 
 -- whether a line is a poke
 abbrev pub is_poke : DeckLine → Bool
@@ -27,7 +27,7 @@ is_poke _ = false
 
 -- whether a card is sure to be there after a line: it was found, or it was sure before and no poke could spoil it
 abbrev pub sure_after : Bool → Step → Bool
-sure_after sure t = is_found t.result || (not (is_poke t.line && is_cold t.before) && sure)
+sure_after sure t = is_found t.result || (not (is_poke t.line && is_before_power t.before) && sure)
 
 -- ---- the result of a power line then
 
@@ -50,7 +50,8 @@ abbrev pub ReadyLine : Bool → Step → Type 0
 ReadyLine true t = PowerIsReady t.line t.stop t.result
 ReadyLine false t = ⊤
 
--- each line of a play after the first that finds a card does so; `sure` is whether a card is sure to be there at its start
+-- each line of a play after the first that finds a card does so; `sure` is whether a card is sure to be there at its
+-- start
 abbrev pub ReadyAgain : Bool → List Step → Type 0
 ReadyAgain sure [] = ⊤
 ReadyAgain sure (t ∷ ts) = ReadyLine sure t × ReadyAgain (sure_after sure t) ts

@@ -5,7 +5,7 @@ use Rattle.mc_model_machine.specs.Apdu.{ApduParts}
 use Rattle.mc_model_device.specs.Card.{App}
 use Rattle.mc_model_machine.specs.Chain.{Outcome, Reply, Ran, run}
 use Rattle.mc_model_card.specs.Items.{Item, moves, apps_after_items, StopAt, Stopped, at_stop, write_items}
-use Rattle.mc_model_card.specs.Manager.{Selected, Seat, Route, WrongLength, WrongClass, ToSelect, ToManager, ToApplication, route, Managed, Declines, Accepts, select}
+use Rattle.mc_model_card.specs.Manager.{Selected, SessionState, Route, WrongLength, WrongClass, ToSelect, ToManager, ToApplication, route, Managed, Declines, Accepts, select}
 use Rattle.mc_model_play.specs.Play.{LineResult, Answered, static_of, result_of_stop}
 use Rattle.mc_model_play.specs.Given.{Event, Arrives, Departs, Commands, Dumps, Leaves, Given}
 
@@ -27,7 +27,7 @@ solo_refused t sw = record { items = []; outcome = Reply [] sw; selected = t.sel
 -- a SELECT on such a card
 abbrev pub solo_selected : Solo → Managed → SoloCommand
 solo_selected t (Declines sw) = solo_refused t sw
-solo_selected t (Accepts a) = record { items = []; outcome = Reply a.body 0x9000; selected = a.seat.selected }
+solo_selected t (Accepts a) = record { items = []; outcome = Reply a.body 0x9000; selected = a.session_state.selected }
 
 -- a run on such a card
 abbrev pub solo_ran : List ℕ → Ran → SoloCommand
@@ -61,8 +61,8 @@ pub record Heard : Type 0 where
   pub answer : List LineResult
   pub work : List (List Item × Option StopAt)
 
--- a command with the stop that hits it, if one does: its whole items are done and the selection is lost; the writes that recovery still
--- has to make are dropped
+-- a command with the stop that hits it, if one does: its whole items are done and the selection is lost; the writes
+-- that recovery still has to make are dropped
 abbrev pub solo_hit : Solo → SoloCommand → Option StopAt → Heard
 solo_hit t r None =
     record { after = record { map = apps_after_items t.map r.items; selected = r.selected }; answer = Answered r.outcome ∷ []; work = (r.items, None) ∷ [] }

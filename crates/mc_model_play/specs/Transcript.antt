@@ -6,7 +6,7 @@ use Rattle.mc_model_device.specs.Words.{cause_text}
 use Rattle.mc_model_device.specs.declared.cause.Cause.{Cause}
 use Rattle.mc_model_device.specs.Bytes.{bytes2}
 use Rattle.mc_model_machine.specs.Chain.{Outcome, Reply, Abended}
-use Rattle.mc_model_play.specs.Play.{LineResult, Formatted, Ready, Unusable, OffAt, WornStop, NoCard, Silenced, Answered, Static, Absent, Step}
+use Rattle.mc_model_play.specs.Play.{LineResult, Formatted, Ready, Unusable, OffAt, FailureStop, NoCard, Silenced, Answered, Static, Absent, Step}
 
 -- the text of an outcome
 abbrev pub outcome_text : Outcome → List ℕ
@@ -24,7 +24,7 @@ text_of_result Formatted = codes "formatted"
 text_of_result (Ready n) = codes "ready " ++ decimal n
 text_of_result (Unusable cause place) = codes "unusable " ++ cause_text cause ++ codes " " ++ decimal place
 text_of_result (OffAt k) = codes "off at write " ++ decimal k
-text_of_result WornStop = codes "6581"
+text_of_result FailureStop = codes "6581"
 text_of_result NoCard = codes "off"
 text_of_result Silenced = codes "mute"
 text_of_result (Answered outcome) = outcome_text outcome

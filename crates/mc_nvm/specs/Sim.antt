@@ -8,9 +8,9 @@ use Rattle.mc_model_device.specs.Orders.{Answer}
 use Rattle.mc_nvm.specs.declared.fuse.Fuse.{Fuse as Inside}
 use Rattle.mc_nvm.specs.declared.sim.SimNvm.TheInside.{Inside as Held}
 use Rattle.mc_nvm.specs.declared.fuse.Due.{Due as Found}
-use Rattle.mc_nvm.specs.declared.fuse.Due.TheVariants.{Cut as FoundCut, Worn as FoundWorn, Not as FoundNot}
+use Rattle.mc_nvm.specs.declared.fuse.Due.TheVariants.{Cut as FoundCut, Worn as FoundFailure, Not as FoundNot}
 use Rattle.mc_model_device.specs.Counts.{Rose, last_count}
-use Rattle.mc_model_device.specs.Device.{blank_words, DeviceState, BenchState, Fuse, Wrote, NextWriteEnds, fill_at, BenchWrote, Due, DueCut, DueWorn, DueNot, due, next_fill, fuse_after_write, next_count}
+use Rattle.mc_model_device.specs.Device.{blank_words, DeviceState, BenchState, Fuse, Wrote, NextWriteEnds, fill_at, BenchWrote, Due, DueCut, DueFailure, DueNot, due, next_fill, fuse_after_write, next_count}
 
 -- the state of a device in memory
 pub record Sim : Type 0 where
@@ -33,7 +33,7 @@ fuse_of f = record { writes = f.writes; fill = f.fill }
 -- what the fuses do to the next write, as the code found it
 abbrev pub due_of : Found → Due
 due_of (FoundCut fill) = DueCut fill
-due_of (FoundWorn fill) = DueWorn fill
+due_of (FoundFailure fill) = DueFailure fill
 due_of FoundNot = DueNot
 
 -- the state of a device in memory, from its fields
@@ -55,13 +55,13 @@ sim_bench s = record { cut = s.cut; worn = s.worn; powers = s.powers; pokes = s.
 -- the device after a write with this due, its fuses nearer by one
 abbrev pub after_write : Sim → ℕ → List ℕ → Due → Sim
 after_write s at w (DueCut fill) = record s { words = slice_set s.words at fill; on = false; cuts = next_count s.cuts; cut = fuse_after_write s.cut; worn = fuse_after_write s.worn }
-after_write s at w (DueWorn fill) = record s { words = slice_set s.words at fill; faults = next_count s.faults; cut = fuse_after_write s.cut; worn = fuse_after_write s.worn }
+after_write s at w (DueFailure fill) = record s { words = slice_set s.words at fill; faults = next_count s.faults; cut = fuse_after_write s.cut; worn = fuse_after_write s.worn }
 after_write s at w DueNot = record s { words = slice_set s.words at w; cut = fuse_after_write s.cut; worn = fuse_after_write s.worn }
 
 -- how a write with this due ends
 abbrev pub answer_to : Due → Answer
 answer_to (DueCut fill) = Err Off
-answer_to (DueWorn fill) = Err Worn
+answer_to (DueFailure fill) = Err Worn
 answer_to DueNot = Ok tt
 
 -- a fuse that leaves a word
@@ -73,8 +73,8 @@ Fills (Some f) = length f.fill ≡ 8
 abbrev pub own : Bool → Due → Due
 own false d = d
 own true (DueCut fill) = DueCut fill
-own true (DueWorn fill) = DueWorn (replicate 8 0)
-own true DueNot = DueWorn (replicate 8 0)
+own true (DueFailure fill) = DueFailure (replicate 8 0)
+own true DueNot = DueFailure (replicate 8 0)
 
 -- the due of the next write, by whether it fails by itself
 abbrev pub next_due : Bool → Sim → Due
@@ -137,7 +137,7 @@ sim_obeys s at w a e on r =
 burnt : (s : Sim) (at : ℕ) (w : List ℕ) (d : Due) → next_due false s ≡ d
     → BenchWrote (sim_state s) (sim_bench s) at (answer_to d) (sim_state (after_write s at w d)) (sim_bench (after_write s at w d))
 burnt s at w (DueCut fill) is = record { ends = subst (λ (t : Due). NextWriteEnds t true (sim_state s) at (Err Off) (sim_state (after_write s at w (DueCut fill)))) (sym is) (refl, refl); counts = (refl, refl); fuses = inl refl }
-burnt s at w (DueWorn fill) is = record { ends = subst (λ (t : Due). NextWriteEnds t true (sim_state s) at (Err Worn) (sim_state (after_write s at w (DueWorn fill)))) (sym is) (refl, refl); counts = (refl, refl); fuses = inl refl }
+burnt s at w (DueFailure fill) is = record { ends = subst (λ (t : Due). NextWriteEnds t true (sim_state s) at (Err Worn) (sim_state (after_write s at w (DueFailure fill)))) (sym is) (refl, refl); counts = (refl, refl); fuses = inl refl }
 burnt s at w DueNot is = record { ends = subst (λ (t : Due). NextWriteEnds t true (sim_state s) at (Ok tt) (sim_state (after_write s at w DueNot))) (sym is) refl; counts = (refl, refl); fuses = refl }
 
 -- a write of a device in memory is stopped by the fuses alone

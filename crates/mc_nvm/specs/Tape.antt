@@ -5,9 +5,9 @@ use Rattle.mc_nvm.specs.declared.tape.Entry.{Entry as Written}
 use Rattle.mc_nvm.specs.declared.tape.Tape.TheInside.{Inside as TapeInside}
 
 -- a tape: the number of entries that it has room for, and its entries, unless there were more
-pub record ToldTape : Type 0 where
+pub record ReportedTape : Type 0 where
   pub room : ℕ
-  pub told : Option (List Entry)
+  pub reported : Option (List Entry)
 
 -- an entry of the tape, from its fields
 abbrev pub entry_of : Written → Entry
@@ -19,8 +19,8 @@ unless true es = None
 unless false es = Some es
 
 -- a tape from its fields
-abbrev pub tape_view : TapeInside → ToldTape
-tape_view t = record { room = t.room; told = unless t.over (map entry_of t.entries.items) }
+abbrev pub tape_view : TapeInside → ReportedTape
+tape_view t = record { room = t.room; reported = unless t.over (map entry_of t.entries.items) }
 
 -- memory was allocated at once for all entries that a tape may hold
 pub record KeepsRoom (t : TapeInside) : Type 0 where

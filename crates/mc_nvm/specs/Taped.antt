@@ -4,15 +4,15 @@ use Rattle.std.proofs.Common.{subst, sym, inl}
 use Rattle.mc_model_device.specs.declared.device.Stop.{Stop}
 use Rattle.mc_model_device.specs.declared.device.Stop.TheVariants.{Off, Worn}
 use Rattle.mc_model_device.specs.Orders.{Answer}
-use Rattle.mc_model_device.specs.Device.{DeviceState, BenchState, Entry, Wrote, NextWriteEnds, Counts, Burns, Grows, BenchWrote, Due, DueCut, DueWorn, DueNot, due, next_fill, next_count}
+use Rattle.mc_model_device.specs.Device.{DeviceState, BenchState, Entry, Wrote, NextWriteEnds, Counts, Burns, Grows, BenchWrote, Due, DueCut, DueFailure, DueNot, due, next_fill, next_count}
 use Rattle.mc_nvm.specs.declared.tape_nvm.TapeNvm.TheInside.{Inside as Held}
 use Rattle.mc_nvm.specs.Sim.{Sim, sim_state, sim_bench, blank_sim, own, next_due, after_write, answer_to, Sound, falls_word, next_rose, next_not_less}
-use Rattle.mc_nvm.specs.Tape.{ToldTape, more, unless}
+use Rattle.mc_nvm.specs.Tape.{ReportedTape, more, unless}
 
 -- the state of a device with a tape
 pub record Taped : Type 0 where
   pub device : Sim
-  pub tape : ToldTape
+  pub tape : ReportedTape
   pub worn : List ℕ
   pub tried : ℕ
 
@@ -22,7 +22,7 @@ taped_inside d = record { device = d.device; tape = d.tape; worn = d.worn.items;
 
 -- a blank device with an empty tape
 abbrev pub blank_taped : ℕ → ℕ → List ℕ → Taped
-blank_taped n room worn = record { device = blank_sim n; tape = record { room = room; told = Some [] }; worn = worn; tried = 0 }
+blank_taped n room worn = record { device = blank_sim n; tape = record { room = room; reported = Some [] }; worn = worn; tried = 0 }
 
 -- whether a number is in a list
 abbrev pub is_listed : List ℕ → ℕ → Bool
@@ -36,7 +36,7 @@ no_entry (w ∷ ws) = false
 
 -- a device with a tape as a device
 abbrev pub taped_state : Taped → DeviceState
-taped_state t = record (sim_state t.device) { tape = t.tape.told }
+taped_state t = record (sim_state t.device) { tape = t.tape.reported }
 
 -- a device with a tape as a bench: it is steady if and only if its list is empty
 abbrev pub taped_bench : Taped → BenchState
@@ -45,13 +45,13 @@ taped_bench t = record (sim_bench t.device) { steady = no_entry t.worn }
 -- the word that a write with this due leaves
 abbrev pub word_after_write : Due → List ℕ → List ℕ
 word_after_write (DueCut fill) w = fill
-word_after_write (DueWorn fill) w = fill
+word_after_write (DueFailure fill) w = fill
 word_after_write DueNot w = w
 
 -- the stop of a write with this due, if it has one
 abbrev pub stop_of : Due → Option Stop
 stop_of (DueCut fill) = Some Off
-stop_of (DueWorn fill) = Some Worn
+stop_of (DueFailure fill) = Some Worn
 stop_of DueNot = None
 
 -- the due of the next write
@@ -64,7 +64,7 @@ after_taped t at w d =
     record t {
       device = after_write t.device at w d;
       tried = next_count t.tried;
-      tape = record t.tape { told = more t.tape.room t.tape.told (record { at = at; left = word_after_write d w; end = stop_of d }) };
+      tape = record t.tape { reported = more t.tape.room t.tape.reported (record { at = at; left = word_after_write d w; end = stop_of d }) };
     }
 
 -- one write on a device with a tape
@@ -89,14 +89,14 @@ grown room (Some es) e = grown_if (nat_le room (length es)) es e
 -- a due leaves a word of eight bytes
 DueFills : Due → Type 0
 DueFills (DueCut fill) = length fill ≡ 8
-DueFills (DueWorn fill) = length fill ≡ 8
+DueFills (DueFailure fill) = length fill ≡ 8
 DueFills DueNot = Unit {0}
 
 own_fills : (b : Bool) (d : Due) → DueFills d → DueFills (own b d)
 unfolding DueFills
 own_fills false d h = h
 own_fills true (DueCut fill) h = h
-own_fills true (DueWorn fill) h = refl
+own_fills true (DueFailure fill) h = refl
 own_fills true DueNot h = refl
 
 due_fills : (s : Sim) → Sound s → (c w : Option (List ℕ)) → next_fill s.cut ≡ c → next_fill s.worn ≡ w → DueFills (due c w)
@@ -109,10 +109,10 @@ rules : (t : Taped) (at : ℕ) (w : List ℕ) → t.device.on ≡ true → Sound
     → Wrote (taped_state t) at w (answer_to d) (taped_state (after_taped t at w d))
 unfolding DueFills
 rules t at w on sound (DueCut fill) h =
-    record { left = fill; size = h; words = refl; power = refl; cuts = next_rose t.device.cuts sound.cuts; falls_not = next_not_less t.device.cuts sound.cuts; faults = refl; tape = grown t.tape.room t.tape.told _ }
-rules t at w on sound (DueWorn fill) h =
-    record { left = fill; size = h; words = refl; power = on; cuts = refl; faults = next_rose t.device.faults sound.faults; falls_not = next_not_less t.device.faults sound.faults; tape = grown t.tape.room t.tape.told _ }
-rules t at w on sound DueNot h = record { words = refl; power = on; cuts = refl; faults = refl; tape = grown t.tape.room t.tape.told _ }
+    record { left = fill; size = h; words = refl; power = refl; cuts = next_rose t.device.cuts sound.cuts; falls_not = next_not_less t.device.cuts sound.cuts; faults = refl; tape = grown t.tape.room t.tape.reported _ }
+rules t at w on sound (DueFailure fill) h =
+    record { left = fill; size = h; words = refl; power = on; cuts = refl; faults = next_rose t.device.faults sound.faults; falls_not = next_not_less t.device.faults sound.faults; tape = grown t.tape.room t.tape.reported _ }
+rules t at w on sound DueNot h = record { words = refl; power = on; cuts = refl; faults = refl; tape = grown t.tape.room t.tape.reported _ }
 
 -- a write keeps the rules of devices
 pub taped_obeys : (t : Taped) (at : ℕ) (w : List ℕ) (a : Answer) (e : Taped) → (taped_state t).on ≡ true → TapedWrote t at w a e → Wrote (taped_state t) at w a (taped_state e)
@@ -126,10 +126,10 @@ ends : (s : Bool) (b : Bool) (x : DeviceState) (at : ℕ) (w : List ℕ) (d : Du
     → NextWriteEnds d s x at (answer_to (own b d)) e
 ends s false x at w (DueCut fill) e h words = (refl, words)
 ends s true x at w (DueCut fill) e h words = (refl, words)
-ends true false x at w (DueWorn fill) e h words = (refl, words)
-ends false false x at w (DueWorn fill) e h words = refl
-ends true true x at w (DueWorn fill) e h words = absurd (cc (h refl))
-ends false true x at w (DueWorn fill) e h words = refl
+ends true false x at w (DueFailure fill) e h words = (refl, words)
+ends false false x at w (DueFailure fill) e h words = refl
+ends true true x at w (DueFailure fill) e h words = absurd (cc (h refl))
+ends false true x at w (DueFailure fill) e h words = refl
 ends true false x at w DueNot e h words = refl
 ends false false x at w DueNot e h words = λ q. cc q
 ends true true x at w DueNot e h words = absurd (cc (h refl))
@@ -137,12 +137,12 @@ ends false true x at w DueNot e h words = λ q. cc q
 
 burnt : (t : Taped) (at : ℕ) (w : List ℕ) (d : Due) → Counts (taped_state t) (answer_to d) (taped_state (after_taped t at w d)) × Burns (taped_bench t) (answer_to d) (taped_bench (after_taped t at w d))
 burnt t at w (DueCut fill) = ((refl, refl), inl refl)
-burnt t at w (DueWorn fill) = ((refl, refl), inl refl)
+burnt t at w (DueFailure fill) = ((refl, refl), inl refl)
 burnt t at w DueNot = ((refl, refl), refl)
 
 words_left : (t : Taped) (at : ℕ) (w : List ℕ) (d : Due) → (taped_state (after_taped t at w d)).words ≡ slice_set t.device.words at (word_after_write d w)
 words_left t at w (DueCut fill) = refl
-words_left t at w (DueWorn fill) = refl
+words_left t at w (DueFailure fill) = refl
 words_left t at w DueNot = refl
 
 none_listed : (ws : List ℕ) (n : ℕ) → no_entry ws ≡ true → is_listed ws n ≡ false

@@ -38,7 +38,7 @@ pub trait Nvm {
         requires power { (state self.old).on ≡ true }
         ensures wrote { wrote self.old at word result self.new }
         ensures rules { Wrote (state self.old) at word result (state self.new) }
-        ensures lent { same self.old self.new };
+        ensures keeps_device { same self.old self.new };
 
     /// A write by the relation keeps the rules of devices.
     ghost obeys: { (d : Self) (at : ℕ) (w : List ℕ) (a : Answer) (e : Self) → (state d).on ≡ true → wrote d at w a e
@@ -71,19 +71,19 @@ pub trait Bench: Nvm {
           cut = Some (record { writes = k; fill = fill });
           arms = next_count (bench self.old).arms;
         } }
-        ensures lent { Self.same self.old self.new };
+        ensures keeps_device { Self.same self.old self.new };
 
     /// Takes both fuses away.
     fn disarm(&mut self)
         ensures state { Self.state self.new ≡ Self.state self.old }
         ensures bench { bench self.new ≡ record (bench self.old) { cut = None; worn = None } }
-        ensures lent { Self.same self.old self.new };
+        ensures keeps_device { Self.same self.old self.new };
 
     /// Turns power on.
     fn power(&mut self)
         ensures state { Self.state self.new ≡ record (Self.state self.old) { on = true } }
         ensures bench { bench self.new ≡ record (bench self.old) { powers = next_count (bench self.old).powers } }
-        ensures lent { Self.same self.old self.new };
+        ensures keeps_device { Self.same self.old self.new };
 
     /// Sets one word at a place below the length. It is no write and needs no power. The bench keeps the count of
     /// power-ups before it.
@@ -92,7 +92,7 @@ pub trait Bench: Nvm {
         ensures state { Self.state self.new
             ≡ record (Self.state self.old) { words = slice_set (Self.state self.old).words at word } }
         ensures bench { bench self.new ≡ bench_after_poke (bench self.old) }
-        ensures lent { Self.same self.old self.new };
+        ensures keeps_device { Self.same self.old self.new };
 
     /// Makes the k-th write from now fail and leave `fill` in its word, unless another stop comes before it or falls
     /// on it. It replaces an earlier wear fuse.
@@ -103,7 +103,7 @@ pub trait Bench: Nvm {
           worn = Some (record { writes = k; fill = fill });
           wears = next_count (bench self.old).wears;
         } }
-        ensures lent { Self.same self.old self.new };
+        ensures keeps_device { Self.same self.old self.new };
 
     /// A write by the relation is stopped by the fuses and by nothing else, or by a bench that is not steady.
     ghost burns: { (d : Self) (at : ℕ) (w : List ℕ) (a : Answer) (e : Self) → (Self.state d).on ≡ true

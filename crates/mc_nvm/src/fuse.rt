@@ -48,7 +48,8 @@ pub fn falls(fuse: Option<Fuse>) -> Option<Word>
 /// Returns what happens to the next write: a cut goes before a write that fails by itself (`refused`), and that before
 /// the wear fuse.
 pub fn next(cut: Option<Fuse>, worn: Option<Fuse>, refused: bool) -> Due
-    ensures { due_of result ≡ own refused (due (next_fill (option_map fuse_of cut)) (next_fill (option_map fuse_of worn))) }
+    ensures { due_of result ≡ own refused (due (next_fill (option_map fuse_of cut))
+        (next_fill (option_map fuse_of worn))) }
 {
     match (falls(cut), falls(worn)) {
         (Some(fill), _) => Due::Cut(fill),

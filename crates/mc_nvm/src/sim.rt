@@ -82,8 +82,8 @@ impl SimNvm {
         self.wears = 0;
     }
 
-    /// Writes one word. With `refused` the write fails by itself and leaves eight zero bytes, but the fuse of `arm` goes
-    /// before that, and that before the fuse of `wear`.
+    /// Writes one word. With `refused` the write fails by itself and leaves eight zero bytes, but the fuse of `arm`
+    /// goes before that, and that before the fuse of `wear`.
     ///
     /// # Errors
     ///

@@ -1,5 +1,5 @@
 ghost use Rattle.std.specs.Prelude.{◌≡◌, [], Some, None, MatchOption, IfOk, map};
-ghost use Rattle.mc_nvm.specs.Tape.{ToldTape, entry_of, more};
+ghost use Rattle.mc_nvm.specs.Tape.{ReportedTape, entry_of, more};
 
 use mc_base::{NoMemory, Stop, Word};
 use std::alloc::Global;
@@ -22,9 +22,9 @@ pub struct Tape {
 }
 
 impl Model for Tape {
-    ghost use Rattle.mc_nvm.specs.Tape.{ToldTape, tape_view, KeepsRoom};
+    ghost use Rattle.mc_nvm.specs.Tape.{ReportedTape, tape_view, KeepsRoom};
 
-    ghost Value = { ToldTape };
+    ghost Value = { ReportedTape };
 
     ghost view = { tape_view };
 
@@ -38,7 +38,7 @@ impl Tape {
     ///
     /// Returns `NoMemory` if the system is out of memory.
     pub fn new(alloc: Global, room: usize) -> Result<Tape, NoMemory>
-        ensures { IfOk result (λ tape. tape ≡ record { room = room; told = Some [] }) }
+        ensures { IfOk result (λ tape. tape ≡ record { room = room; reported = Some [] }) }
     {
         Ok(Tape {
             entries: Vec::with_capacity(alloc, room)?,
@@ -49,7 +49,7 @@ impl Tape {
 
     /// Adds an entry; if there is no room for it, the tape returns no entries from now on.
     pub fn add(&mut self, entry: Entry)
-        ensures { self.new ≡ record self.old { told = more self.old.room self.old.told (entry_of entry) } }
+        ensures { self.new ≡ record self.old { reported = more self.old.room self.old.reported (entry_of entry) } }
     {
         if self.over || self.entries.len() >= self.room {
             self.over = true;
@@ -60,8 +60,8 @@ impl Tape {
 
     /// Returns all entries in order, or `None` if there were more than there is room for.
     pub fn entries(&self) -> Option<&[Entry]>
-        ensures { MatchOption result (self.now.told ≡ None)
-            (λ entries. self.now.told ≡ Some (map entry_of entries.now)) }
+        ensures { MatchOption result (self.now.reported ≡ None)
+            (λ entries. self.now.reported ≡ Some (map entry_of entries.now)) }
     {
         if self.over {
             return None;

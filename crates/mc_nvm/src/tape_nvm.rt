@@ -52,8 +52,8 @@ impl TapeNvm {
 
     /// Returns all writes that were tried, or `None` if there were more than the tape has room for.
     pub fn tape(&self) -> Option<&[Entry]>
-        ensures { MatchOption result (self.now.tape.told ≡ None)
-            (λ entries. self.now.tape.told ≡ Some (map entry_of entries.now)) }
+        ensures { MatchOption result (self.now.tape.reported ≡ None)
+            (λ entries. self.now.tape.reported ≡ Some (map entry_of entries.now)) }
     {
         self.tape.entries()
     }

@@ -39,7 +39,7 @@ answer_is state p (Some answer.Mute) = refl
 answer_is state p (Some answer.Outcome) = refl
 answer_is state p (Some (answer.Dump aid)) =
     elim p.power as (λ on. result_bytes (Some (dump_value state on p.card aid)) ≡ []) [
-      | power.Cold ↦ refl
+      | power.BeforePower ↦ refl
       | power.Off ↦ refl
       | power.Mute ↦ refl
       | power.On ↦ static_bytes _

@@ -38,8 +38,8 @@ abbrev pub around : Start → Option (List ℕ) → ℕ → Sunk → Bench → A
 around v left reads out dev = record { left_old = v.left; left = left; reads_old = v.reads; reads = reads; out_old = v.out; out = out; dev_old = v.dev; dev = dev }
 
 module _ {N : Type 0} (state : N → DeviceState) (bench : N → BenchState) where
-  -- `count` frames were served, and the player represents a state of the play: whatever frames are served from here, they and those
-  -- before them are served from the start
+  -- `count` frames were served, and the player represents a state of the play: whatever frames are served from here,
+  -- they and those before them are served from the start
   pub record SessionReached (s : State) (n : ℕ) (v : Start) (count : ℕ) (p : Player N) (powered : Bool) (left : Option (List ℕ)) (reads : ℕ) (out : Sunk) : Type 0 where
     pub frames : List (List ℕ)
     pub answers : List (Option (List ℕ))
@@ -73,14 +73,14 @@ module _ {N : Type 0} (state : N → DeviceState) (bench : N → BenchState) whe
 
   -- frames that are served after one more are served from the start with those before them
   rest_on : (s : State) (n : ℕ) (v : Start) (count : ℕ) (p q : Player N) (powered : Bool) (left : Option (List ℕ)) (reads : ℕ) (out : Sunk)
-      (h : SessionReached s n v count p powered left reads out) (f : List ℕ) (u : State) (told : Option LineResult)
-      → Moves h.here h.number (line_in (meaning powered f)) (bench_of state bench p) told u (bench_of state bench q)
+      (h : SessionReached s n v count p powered left reads out) (f : List ℕ) (u : State) (reported : Option LineResult)
+      → Moves h.here h.number (line_in (meaning powered f)) (bench_of state bench p) reported u (bench_of state bench q)
       → (fs : List (List ℕ)) (os : List (Option (List ℕ))) (c : Bench)
       → ServedFrames u (number_after h.number (line_in (meaning powered f))) (power_after powered (meaning powered f)) fs (bench_of state bench q) os c
-      → ServedFrames s n false ((h.frames ++ f ∷ []) ++ fs) v.dev ((h.answers ++ answer_to (meaning powered f) told ∷ []) ++ os) c
-  rest_on s n v count p q powered left reads out h f u told moves fs os c served =
-      let o = answer_to (meaning powered f) told in
-      let whole = h.rest (f ∷ fs) (o ∷ os) c (frames_on h.here u h.number powered f fs (bench_of state bench p) (bench_of state bench q) c told os moves served) in
+      → ServedFrames s n false ((h.frames ++ f ∷ []) ++ fs) v.dev ((h.answers ++ answer_to (meaning powered f) reported ∷ []) ++ os) c
+  rest_on s n v count p q powered left reads out h f u reported moves fs os c served =
+      let o = answer_to (meaning powered f) reported in
+      let whole = h.rest (f ∷ fs) (o ∷ os) c (frames_on h.here u h.number powered f fs (bench_of state bench p) (bench_of state bench q) c reported os moves served) in
       subst (λ (gs : List (List ℕ)). ServedFrames s n false gs v.dev ((h.answers ++ o ∷ []) ++ os) c) (sym (append_assoc h.frames (f ∷ []) fs))
       (subst (λ (qs : List (Option (List ℕ))). ServedFrames s n false (h.frames ++ f ∷ fs) v.dev qs c) (sym (append_assoc h.answers (o ∷ []) os)) whole)
 
@@ -99,19 +99,19 @@ module _ {N : Type 0} (state : N → DeviceState) (bench : N → BenchState) whe
   reached_on s n v count p q powered on left next reads more out wrote h f fits took counted power served =
       record {
         frames = h.frames ++ f ∷ [];
-        answers = h.answers ++ answer_to (meaning powered f) served.told ∷ [];
+        answers = h.answers ++ answer_to (meaning powered f) served.reported ∷ [];
         here = served.after;
         number = number_after h.number (line_in (meaning powered f));
         at = served.at;
         rest =
             subst (λ (b : Bool). (fs : List (List ℕ)) (os : List (Option (List ℕ))) (c : Bench)
             → ServedFrames served.after (number_after h.number (line_in (meaning powered f))) b fs (bench_of state bench q) os c
-            → ServedFrames s n false ((h.frames ++ f ∷ []) ++ fs) v.dev ((h.answers ++ answer_to (meaning powered f) served.told ∷ []) ++ os) c) (sym power)
-            (rest_on s n v count p q powered left reads out h f served.after served.told served.moves);
+            → ServedFrames s n false ((h.frames ++ f ∷ []) ++ fs) v.dev ((h.answers ++ answer_to (meaning powered f) served.reported ∷ []) ++ os) c) (sym power)
+            (rest_on s n v count p q powered left reads out h f served.after served.reported served.moves);
         fit = fits_more h.frames f h.fit fits;
         took = took_on v h.frames f left next h.took took;
         counted = omega (arith, h.counted, counted);
-        written = written_more v.out out wrote h.answers (answer_to (meaning powered f) served.told) h.written served.puts;
+        written = written_more v.out out wrote h.answers (answer_to (meaning powered f) served.reported) h.written served.puts;
         many = many_on h.frames f count h.many;
       }
 
@@ -177,11 +177,11 @@ module _ {N : Type 0} (state : N → DeviceState) (bench : N → BenchState) whe
       → ServesFrame state bench p h.here h.number (meaning powered f) out (Err e) q wrote → ServedFrom s n (Err fault.WriteFault) (around v next more wrote (bench_of state bench q))
   served_cut s n v count p q powered left next reads more out wrote e h f fits took counted served =
       let b = bench_of state bench q in
-      let o = answer_to (meaning powered f) served.told in
+      let o = answer_to (meaning powered f) served.reported in
       let fs = h.frames ++ f ∷ [] in
       finish s n v fs (h.answers ++ o ∷ []) [] next more wrote b (Err fault.WriteFault)
       (took_append v.left next next (frames_bytes fs) [] (took_on v h.frames f left next h.took took) (took_none next))
       (fits_more h.frames f h.fit fits) refl (omega (arith, h.counted, counted))
-      (rest_on s n v count p q powered left reads out h f served.after served.told served.moves [] [] b
+      (rest_on s n v count p q powered left reads out h f served.after served.reported served.moves [] [] b
       (frames_none served.after (number_after h.number (line_in (meaning powered f))) (power_after powered (meaning powered f)) b (at_stands state bench q served.after served.at) served.at.unfused))
       (record { between = refl; written = written_cut v.out out wrote h.answers o h.written served.puts })

@@ -4,7 +4,7 @@ use Rattle.std.specs.Prelude.{option_map}
 use Rattle.mc_model_device.specs.Device.{DeviceState, BenchState}
 use Rattle.mc_model_play.specs.DeckGrammar.{DeckLine}
 use Rattle.mc_model_play.specs.DeckGrammar as line
-use Rattle.mc_model_play.specs.Play.{State, WornAt, Step, LineResult, StandsForState, step, plays}
+use Rattle.mc_model_play.specs.Play.{State, FailedWrite, Step, LineResult, StandsForState, step, plays}
 use Rattle.mc_base.specs.declared.refusals.WriteFault.{WriteFault}
 use Rattle.mc_text.specs.Texts.{Sunk, Puts}
 use Rattle.mc_script.specs.declared.answer.Answer.{Answer}
@@ -30,7 +30,7 @@ module _ {N : Type 0} (state : N → DeviceState) (bench : N → BenchState) whe
       record {
         after = s;
         at = subst (λ v. IsPlayerAt state bench v s) (sym same) at;
-        told = None;
+        reported = None;
         moves = subst (λ (o : Option DeckLine). Moves s n o (bench_of state bench p) None s (bench_of state bench q)) (sym none) (refl, ap (bench_of state bench) same);
         puts = puts;
       }
@@ -44,7 +44,7 @@ module _ {N : Type 0} (state : N → DeviceState) (bench : N → BenchState) whe
       record {
         after = t.after;
         at = done.1.at;
-        told = t.result;
+        reported = t.result;
         moves = subst (λ (o : Option DeckLine). Moves s n o (bench_of state bench p) t.result t.after (bench_of state bench q)) (sym some) (done.0, done.1.played, refl, refl);
         puts = subst (λ (o : Option LineResult). Puts x (answer_frame (answer_to m o)) r y) done.1.answers puts;
       }
@@ -71,28 +71,28 @@ frames_none s n powered a stands unfused = record { worn = []; played = played_n
 
 -- the lines of frames after one with a meaning, and the answers to it and to them
 record ServedBehind (s : State) (n : ℕ) (powered : Bool) (m : Meaning) (fs : List (List ℕ)) (a : Bench) (os : List (Option (List ℕ))) (c : Bench) : Type 0 where
-  worn : List (Option WornAt)
+  worn : List (Option FailedWrite)
   played : Played s (line_with_number n (line_in m) ++ lines_of (number_after n (line_in m)) (power_after powered m) fs) worn a c
   answers :
       let ts = plays s (line_with_number n (line_in m) ++ lines_of (number_after n (line_in m)) (power_after powered m) fs) worn in
       os ≡ answer_to m (first_result ts) ∷ answer_each (power_after powered m) fs (steps_behind (line_in m) ts)
 
 -- frames after a frame without a line
-behind_none : (s u : State) (n : ℕ) (q : Bool) (fs : List (List ℕ)) (a b c : Bench) (told : Option LineResult) (os : List (Option (List ℕ)))
-    → Moves s n None a told u b → ServedFrames u n q fs b os c → ServedFrames s n q fs a os c
-behind_none s u n q fs a b c told os m h =
+behind_none : (s u : State) (n : ℕ) (q : Bool) (fs : List (List ℕ)) (a b c : Bench) (reported : Option LineResult) (os : List (Option (List ℕ)))
+    → Moves s n None a reported u b → ServedFrames u n q fs b os c → ServedFrames s n q fs a os c
+behind_none s u n q fs a b c reported os m h =
     subst (λ (v : State). ServedFrames v n q fs a os c) m.0 (subst (λ (d : Bench). ServedFrames u n q fs d os c) m.1 h)
 
 -- frames after a line
-record BehindLine (s : State) (n : ℕ) (l : DeckLine) (q : Bool) (fs : List (List ℕ)) (a c : Bench) (told : Option LineResult) (os : List (Option (List ℕ))) : Type 0 where
-  worn : List (Option WornAt)
+record BehindLine (s : State) (n : ℕ) (l : DeckLine) (q : Bool) (fs : List (List ℕ)) (a c : Bench) (reported : Option LineResult) (os : List (Option (List ℕ))) : Type 0 where
+  worn : List (Option FailedWrite)
   played : Played s ((n + 1, l) ∷ lines_of (n + 1) q fs) worn a c
-  first : told ≡ first_result (plays s ((n + 1, l) ∷ lines_of (n + 1) q fs) worn)
+  first : reported ≡ first_result (plays s ((n + 1, l) ∷ lines_of (n + 1) q fs) worn)
   rest : os ≡ answer_each q fs (drop 1 (plays s ((n + 1, l) ∷ lines_of (n + 1) q fs) worn))
 
-behind_line : (s u : State) (n : ℕ) (l : DeckLine) (q : Bool) (fs : List (List ℕ)) (a b c : Bench) (told : Option LineResult) (os : List (Option (List ℕ)))
-    → Moves s n (Some l) a told u b → ServedFrames u (n + 1) q fs b os c → BehindLine s n l q fs a c told os
-behind_line s u n l q fs a b c told os m h =
+behind_line : (s u : State) (n : ℕ) (l : DeckLine) (q : Bool) (fs : List (List ℕ)) (a b c : Bench) (reported : Option LineResult) (os : List (Option (List ℕ)))
+    → Moves s n (Some l) a reported u b → ServedFrames u (n + 1) q fs b os c → BehindLine s n l q fs a c reported os
+behind_line s u n l q fs a b c reported os m h =
     let w = m.0 in
     let t = step s (n + 1, l) w in
     let rest : ServedFrames t.after (n + 1) q fs b os c = subst (λ (v : State). ServedFrames v (n + 1) q fs b os c) m.3 h in
@@ -104,43 +104,43 @@ behind_line s u n l q fs a b c told os m h =
       rest = rest.answers ∙ sym (ap (λ (ts : List Step). answer_each q fs (drop 1 ts)) e);
     }
 
-behind : (s u : State) (n : ℕ) (powered : Bool) (m : Meaning) (fs : List (List ℕ)) (a b c : Bench) (told : Option LineResult) (os : List (Option (List ℕ)))
-    → Moves s n (line_in m) a told u b → ServedFrames u (number_after n (line_in m)) (power_after powered m) fs b os c → ServedBehind s n powered m fs a (answer_to m told ∷ os) c
-behind s u n powered PowerOn fs a b c told os m h =
-    let r = behind_line s u n line.Power _ fs a b c told os m h in
+behind : (s u : State) (n : ℕ) (powered : Bool) (m : Meaning) (fs : List (List ℕ)) (a b c : Bench) (reported : Option LineResult) (os : List (Option (List ℕ)))
+    → Moves s n (line_in m) a reported u b → ServedFrames u (number_after n (line_in m)) (power_after powered m) fs b os c → ServedBehind s n powered m fs a (answer_to m reported ∷ os) c
+behind s u n powered PowerOn fs a b c reported os m h =
+    let r = behind_line s u n line.Power _ fs a b c reported os m h in
     record { worn = r.worn; played = r.played; answers = ap (λ (qs : List (Option (List ℕ))). None ∷ qs) r.rest }
-behind s u n powered PowerOff fs a b c told os m h =
-    let r = behind_none s u n _ fs a b c told os m h in
+behind s u n powered PowerOff fs a b c reported os m h =
+    let r = behind_none s u n _ fs a b c reported os m h in
     record { worn = r.worn; played = r.played; answers = ap (λ (qs : List (Option (List ℕ))). None ∷ qs) r.answers }
-behind s u n powered WantsAtr fs a b c told os m h =
-    let r = behind_none s u n _ fs a b c told os m h in
+behind s u n powered WantsAtr fs a b c reported os m h =
+    let r = behind_none s u n _ fs a b c reported os m h in
     record { worn = r.worn; played = r.played; answers = ap (λ (qs : List (Option (List ℕ))). answer_to WantsAtr None ∷ qs) r.answers }
-behind s u n powered Nothing fs a b c told os m h =
-    let r = behind_none s u n _ fs a b c told os m h in
+behind s u n powered Nothing fs a b c reported os m h =
+    let r = behind_none s u n _ fs a b c reported os m h in
     record { worn = r.worn; played = r.played; answers = ap (λ (qs : List (Option (List ℕ))). None ∷ qs) r.answers }
-behind s u n powered (Orders l) fs a b c told os m h =
-    let r = behind_line s u n l _ fs a b c told os m h in
+behind s u n powered (Orders l) fs a b c reported os m h =
+    let r = behind_line s u n l _ fs a b c reported os m h in
     record { worn = r.worn; played = r.played; answers = ap (λ (qs : List (Option (List ℕ))). answer_to (Orders l) None ∷ qs) r.rest }
-behind s u n powered (Refused w) fs a b c told os m h =
-    let r = behind_none s u n _ fs a b c told os m h in
+behind s u n powered (Refused w) fs a b c reported os m h =
+    let r = behind_none s u n _ fs a b c reported os m h in
     record { worn = r.worn; played = r.played; answers = ap (λ (qs : List (Option (List ℕ))). answer_to (Refused w) None ∷ qs) r.answers }
-behind s u n powered (ToCard f) fs a b c told os m h =
-    let r = behind_line s u n (line.Apdu f) _ fs a b c told os m h in
+behind s u n powered (ToCard f) fs a b c reported os m h =
+    let r = behind_line s u n (line.Apdu f) _ fs a b c reported os m h in
     let ts = plays s ((n + 1, line.Apdu f) ∷ lines_of (n + 1) powered fs) r.worn in
     record {
       worn = r.worn;
       played = r.played;
       answers = ap (λ (o : Option LineResult). Some (result_bytes o) ∷ os) r.first ∙ ap (λ (qs : List (Option (List ℕ))). Some (result_bytes (first_result ts)) ∷ qs) r.rest;
     }
-behind s u n powered Unheard fs a b c told os m h =
-    let r = behind_none s u n _ fs a b c told os m h in
+behind s u n powered Unheard fs a b c reported os m h =
+    let r = behind_none s u n _ fs a b c reported os m h in
     record { worn = r.worn; played = r.played; answers = ap (λ (qs : List (Option (List ℕ))). Some [] ∷ qs) r.answers }
 
 -- a frame that was served, and those after it
-pub frames_on : (s u : State) (n : ℕ) (powered : Bool) (f : List ℕ) (fs : List (List ℕ)) (a b c : Bench) (told : Option LineResult) (os : List (Option (List ℕ)))
-    → Moves s n (line_in (meaning powered f)) a told u b
+pub frames_on : (s u : State) (n : ℕ) (powered : Bool) (f : List ℕ) (fs : List (List ℕ)) (a b c : Bench) (reported : Option LineResult) (os : List (Option (List ℕ)))
+    → Moves s n (line_in (meaning powered f)) a reported u b
     → ServedFrames u (number_after n (line_in (meaning powered f))) (power_after powered (meaning powered f)) fs b os c
-    → ServedFrames s n powered (f ∷ fs) a (answer_to (meaning powered f) told ∷ os) c
-frames_on s u n powered f fs a b c told os m h =
-    let r = behind s u n powered (meaning powered f) fs a b c told os m h in
+    → ServedFrames s n powered (f ∷ fs) a (answer_to (meaning powered f) reported ∷ os) c
+frames_on s u n powered f fs a b c reported os m h =
+    let r = behind s u n powered (meaning powered f) fs a b c reported os m h in
     record { worn = r.worn; played = r.played; answers = r.answers }

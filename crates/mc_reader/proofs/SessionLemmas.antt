@@ -8,7 +8,7 @@ use Rattle.mc_model_device.specs.Device.{DeviceState, BenchState, IsImage}
 use Rattle.mc_model_play.specs.DeckGrammar.{DeckLine}
 use Rattle.mc_model_play.specs.DeckGrammar as line
 use Rattle.mc_model_play.specs.Laws.{HoldsOf}
-use Rattle.mc_model_play.specs.Play.{State, WornAt, Step, plays, start, step, first_worn, last_state}
+use Rattle.mc_model_play.specs.Play.{State, FailedWrite, Step, plays, start, step, first_failure, last_state}
 use Rattle.mc_model_play.specs.ReadyAgain.{IsLine, AreLines}
 use Rattle.mc_model_device.proofs.ImageLemmas.{all_append}
 use Rattle.mc_family.proofs.DeckBytes.{played_bytes}
@@ -24,13 +24,13 @@ use Rattle.mc_reader.specs.declared.serve_error.ServeError.{ServeError}
 use Rattle.mc_reader.specs.declared.serve_error.ServeError.TheVariants as fault
 
 -- each line has a step
-length_plays : (s : State) (ls : List (ℕ × DeckLine)) (ws : List (Option WornAt)) → length (plays s ls ws) ≡ length ls
+length_plays : (s : State) (ls : List (ℕ × DeckLine)) (ws : List (Option FailedWrite)) → length (plays s ls ws) ≡ length ls
 unfolding plays
 length_plays s [] ws = refl
-length_plays s (l ∷ ls) ws = ap suc (length_plays (step s l (first_worn ws)).after ls (drop 1 ws))
+length_plays s (l ∷ ls) ws = ap suc (length_plays (step s l (first_failure ws)).after ls (drop 1 ws))
 
 -- the steps of the frames' lines
-steps_behind_deck : (s u : State) (deck ls : List (ℕ × DeckLine)) (ws vs : List (Option WornAt)) → length ws ≡ length deck → u ≡ last_state s (plays s deck ws) → drop (length deck) (plays s (deck ++ ls) (ws ++ vs)) ≡ plays u ls vs
+steps_behind_deck : (s u : State) (deck ls : List (ℕ × DeckLine)) (ws vs : List (Option FailedWrite)) → length ws ≡ length deck → u ≡ last_state s (plays s deck ws) → drop (length deck) (plays s (deck ++ ls) (ws ++ vs)) ≡ plays u ls vs
 steps_behind_deck s u deck ls ws vs many last =
     ap (λ (ts : List Step). drop (length deck) ts) (plays_append s deck ls ws vs many)
     ∙ drop_at (plays s deck ws) (plays (last_state s (plays s deck ws)) ls vs) (length deck) (length_plays s deck ws)
@@ -116,7 +116,7 @@ frames_bytes n powered (f ∷ fs) all =
 -- ---- one play
 
 -- the deck and the frames are one play
-served_deck : (deck : List (ℕ × DeckLine)) (result : Result (Unit {0}) ServeError) (a : AroundSession) (b : Bench) (u : State) (worn : List (Option WornAt))
+served_deck : (deck : List (ℕ × DeckLine)) (result : Result (Unit {0}) ServeError) (a : AroundSession) (b : Bench) (u : State) (worn : List (Option FailedWrite))
     → IsImage a.dev_old.device.words → AllByRecursion (λ l. IsLine l.1) deck → LeadsTo (start a.dev_old.device.words) deck worn a.dev_old u b → ServedFrom u (last_number deck) result (record a { dev_old = b }) → Served deck result a
 served_deck deck result a b u worn image bytes leads h =
     let s = start a.dev_old.device.words in
@@ -160,7 +160,7 @@ bench_same x y device bench =
     first ∙ second
 
 -- a session on a device that its player borrows and returns
-pub served_session : (deck : List (ℕ × DeckLine)) (result : Result (Unit {0}) ServeError) (a : AroundSession) (d b c : Bench) (u : State) (worn : List (Option WornAt))
+pub served_session : (deck : List (ℕ × DeckLine)) (result : Result (Unit {0}) ServeError) (a : AroundSession) (d b c : Bench) (u : State) (worn : List (Option FailedWrite))
     → IsImage a.dev_old.device.words → AllByRecursion (λ l. IsLine l.1) deck → LeadsTo (start a.dev_old.device.words) deck worn d u b → ServedFrom u (last_number deck) result (record a { dev_old = b; dev = c })
     → d.device ≡ a.dev_old.device → d.bench ≡ a.dev_old.bench → c.device ≡ a.dev.device → c.bench ≡ a.dev.bench → Serves deck result a
 served_session deck result a d b c u worn image bytes leads h old old_bench new new_bench =

@@ -1,9 +1,10 @@
--- The answers to the frames of a session, by the steps of the play. ISO/IEC 7816-3 (the ATR); ISO/IEC 7816-4 (status bytes).
+-- The answers to the frames of a session, by the steps of the play. ISO/IEC 7816-3 (the ATR); ISO/IEC 7816-4 (status
+-- bytes).
 use Rattle.std.specs.Prelude.{ℕ, Bool, false, List, [], ◌∷◌, ◌++◌, length, drop, Option, Some, None}
 use Rattle.mc_model_device.specs.Bytes.{bytes2}
 use Rattle.mc_model_machine.specs.Chain.{Outcome, Reply, Abended}
 use Rattle.mc_model_play.specs.DeckGrammar.{DeckLine}
-use Rattle.mc_model_play.specs.Play.{LineResult, WornStop, Answered, Step}
+use Rattle.mc_model_play.specs.Play.{LineResult, FailureStop, Answered, Step}
 use Rattle.mc_model_machine.specs.Words.{abend_code}
 use Rattle.mc_reader.specs.Meanings.{Meaning, PowerOn, PowerOff, WantsAtr, Nothing, Orders, Refused, ToCard, Unheard, meaning, power_after}
 use Rattle.mc_reader.specs.Lines.{line_in}
@@ -20,7 +21,7 @@ outcome_bytes (Abended cause) = 0x6F ∷ abend_code cause ∷ []
 -- the bytes of the result of a command; if power was cut, no card runs or the card is mute, there are none
 abbrev pub result_bytes : Option LineResult → List ℕ
 result_bytes (Some (Answered o)) = outcome_bytes o
-result_bytes (Some WornStop) = bytes2 0x6581
+result_bytes (Some FailureStop) = bytes2 0x6581
 result_bytes _ = []
 
 -- the answer to a frame by the result of its line, `None` if it is not answered

@@ -1,5 +1,5 @@
--- The answers of a session on a blank device of 256 words, from the text of its deck and the bytes of its frames. For worked rows: no
--- contract rests on it.
+-- The answers of a session on a blank device of 256 words, from the text of its deck and the bytes of its frames. For
+-- worked rows: no contract rests on it.
 use Rattle.std.specs.Prelude.{ℕ, List, [], Result, Ok, Err}
 use Rattle.mc_model_play.specs.declared.deck.DeckCause.{DeckCause}
 use Rattle.mc_model_device.specs.Device.{blank_words}

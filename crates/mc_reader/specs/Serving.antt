@@ -4,7 +4,7 @@ use Rattle.std.specs.List.{AllByRecursion}
 use Rattle.mc_model_device.specs.Bytes.{AreBytes}
 use Rattle.mc_model_device.specs.Device.{DeviceState, BenchState}
 use Rattle.mc_model_play.specs.DeckGrammar.{DeckLine}
-use Rattle.mc_model_play.specs.Play.{State, WornAt, LineResult, step, plays}
+use Rattle.mc_model_play.specs.Play.{State, FailedWrite, LineResult, step, plays}
 use Rattle.mc_base.specs.Streams.{Took}
 use Rattle.mc_base.specs.declared.refusals.WriteFault.{WriteFault}
 use Rattle.mc_text.specs.Texts.{Sunk, Puts}
@@ -23,32 +23,33 @@ use Rattle.mc_reader.specs.declared.serve_error.ServeError.{ServeError}
 
 -- ---- one frame
 
--- the play of the line of a frame, if it has one, from a state and with the number after n: its result, and the state after it
+-- the play of the line of a frame, if it has one, from a state and with the number after n: its result, and the state
+-- after it
 abbrev pub Moves : State → ℕ → Option DeckLine → Bench → Option LineResult → State → Bench → Type 0
 Moves s n None a r u b = (u ≡ s) × (b ≡ a)
 Moves s n (Some l) a r u b =
-    (w : Option WornAt) × PlayedLine s (n + 1, l) w (step s (n + 1, l) w) a b × (r ≡ (step s (n + 1, l) w).result) × (u ≡ (step s (n + 1, l) w).after)
+    (w : Option FailedWrite) × PlayedLine s (n + 1, l) w (step s (n + 1, l) w) a b × (r ≡ (step s (n + 1, l) w).result) × (u ≡ (step s (n + 1, l) w).after)
 
 module _ {N : Type 0} (state : N → DeviceState) (bench : N → BenchState) where
   -- a line that may be missing was played, whatever its number; without a line nothing has changed
   abbrev pub PlaysLine : Player N → Option DeckLine → Option Answer → Player N → Type 0
   PlaysLine p None answer q = q ≡ p
-  PlaysLine p (Some l) answer q = (s : State) (n : ℕ) → IsPlayerAt state bench p s → (w : Option WornAt) × Stepped state bench p s (n, l) w (step s (n, l) w) answer q
+  PlaysLine p (Some l) answer q = (s : State) (n : ℕ) → IsPlayerAt state bench p s → (w : Option FailedWrite) × Stepped state bench p s (n, l) w (step s (n, l) w) answer q
 
   -- a frame with this meaning was served: its line was played, and its answer was written, completely or up to a fault
   pub record ServesFrame (p : Player N) (s : State) (n : ℕ) (m : Meaning) (x : Sunk) (result : Result (Unit {0}) WriteFault) (q : Player N) (y : Sunk) : Type 0 where
     pub after : State
     pub at : IsPlayerAt state bench q after
-    pub told : Option LineResult
-    pub moves : Moves s n (line_in m) (bench_of state bench p) told after (bench_of state bench q)
-    pub puts : Puts x (answer_frame (answer_to m told)) result y
+    pub reported : Option LineResult
+    pub moves : Moves s n (line_in m) (bench_of state bench p) reported after (bench_of state bench q)
+    pub puts : Puts x (answer_frame (answer_to m reported)) result y
 
 -- ---- frames
 
--- frames were served from a state of a play, by whether the card has power before them, their lines with numbers after n, and these are
--- their answers
+-- frames were served from a state of a play, by whether the card has power before them, their lines with numbers after
+-- n, and these are their answers
 pub record ServedFrames (s : State) (n : ℕ) (powered : Bool) (fs : List (List ℕ)) (a : Bench) (os : List (Option (List ℕ))) (b : Bench) : Type 0 where
-  pub worn : List (Option WornAt)
+  pub worn : List (Option FailedWrite)
   pub played : Played s (lines_of n powered fs) worn a b
   pub answers : os ≡ answer_each powered fs (plays s (lines_of n powered fs) worn)
 

@@ -1,8 +1,9 @@
--- A session: a deck is played, and then the frames of a host are served. It is one play of the deck's lines and of those of the frames.
+-- A session: a deck is played, and then the frames of a host are served. It is one play of the deck's lines and of
+-- those of the frames.
 use Rattle.std.specs.Prelude.{◌≡◌, ◌⊎◌, ℕ, ◌+◌, ◌<◌, ◌≤◌, false, List, [], ◌∷◌, ◌++◌, length, Option, Some, Result, Ok, Err}
 use Rattle.mc_model_device.specs.Counts.{last_count, Rose}
 use Rattle.mc_model_play.specs.DeckGrammar.{DeckLine}
-use Rattle.mc_model_play.specs.Play.{WornAt, Step, plays, start}
+use Rattle.mc_model_play.specs.Play.{FailedWrite, Step, plays, start}
 use Rattle.mc_model_play.specs.Laws.{HoldsOf}
 use Rattle.mc_model_play.specs.ReadyAgain.{AllFitJournal, ReadyAgain}
 use Rattle.mc_base.specs.Streams.{Took, AtEnd, Grew}
@@ -64,7 +65,8 @@ pub record EndsUnread (os : List (Option (List ℕ))) (a : AroundSession) : Type
   pub cause : Rose a.reads_old a.reads
   pub written : AnswersWritten a.out_old os a.out
 
--- the sink failed; the write of any answer may fail, so that at each of them the frames up to its own were taken and no byte after them
+-- the sink failed; the write of any answer may fail, so that at each of them the frames up to its own were taken and no
+-- byte after them
 pub record EndsUnwritten (part : List ℕ) (os : List (Option (List ℕ))) (a : AroundSession) : Type 0 where
   pub between : part ≡ []
   pub written : AnswersCut a.out_old os a.out
@@ -80,14 +82,14 @@ EndsBy fs part os (Err fault.NoMemory) a = ⊥
 -- ---- a session
 
 -- the steps of a session that served these frames, with these failed writes
-abbrev pub session_steps : List (ℕ × DeckLine) → List (List ℕ) → List (Option WornAt) → AroundSession → List Step
+abbrev pub session_steps : List (ℕ × DeckLine) → List (List ℕ) → List (Option FailedWrite) → AroundSession → List Step
 session_steps deck fs worn a = plays (start a.dev_old.device.words) (session_lines deck fs) worn
 
--- A session that served these frames: exactly their bytes, and the part of one that was not received completely, were taken from the
--- source. One list of failed writes accounts for the words, the counts and the tape of the device, and for all that was written. Every
--- closed family of applications has the same results and the same bytes as on a card of its own, each line leaves the card with its
--- complete items, and no new application has a stale byte. Each item fits a journal, and a card that was found or formatted is found by
--- every later power line that no stop hits.
+-- A session that served these frames: exactly their bytes, and the part of one that was not received completely, were
+-- taken from the source. One list of failed writes accounts for the words, the counts and the tape of the device, and
+-- for all that was written. Every closed family of applications has the same results and the same bytes as on a card of
+-- its own, each line leaves the card with its complete items, and no new application has a stale byte. Each item fits a
+-- journal, and a card that was found or formatted is found by every later power line that no stop hits.
 pub record Served (deck : List (ℕ × DeckLine)) (result : Result (Unit {0}) ServeError) (a : AroundSession) : Type 0 where
   pub frames : List (List ℕ)
   pub part : List ℕ
@@ -95,7 +97,7 @@ pub record Served (deck : List (ℕ × DeckLine)) (result : Result (Unit {0}) Se
   pub took : Took a.left_old a.left taken
   pub read : frames_read taken ≡ (frames, part)
   pub counted : a.reads_old ≤ a.reads
-  pub worn : List (Option WornAt)
+  pub worn : List (Option FailedWrite)
   pub played : Played (start a.dev_old.device.words) (session_lines deck frames) worn a.dev_old a.dev
   pub laws : HoldsOf a.dev_old.device.words (session_steps deck frames worn a)
   pub few : AllFitJournal (session_steps deck frames worn a)

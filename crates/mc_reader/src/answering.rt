@@ -27,7 +27,8 @@ const LONGEST: usize = 1026;
 // Writes an answer as one frame.
 fn put_frame<T: Sink>(out: &mut T, bytes: &[u8]) -> Result<(), WriteFault>
     requires { length bytes.now ≤ 1026 }
-    ensures { Puts (sunk_in T.taken T.faults out.old) (frame_bytes bytes.now) result (sunk_in T.taken T.faults out.new) }
+    ensures { Puts (sunk_in T.taken T.faults out.old) (frame_bytes bytes.now) result
+        (sunk_in T.taken T.faults out.new) }
 {
     let mut frame = ArrayVec::<u8, 1028>::new();
     frame.push((bytes.len() / 256) as u8);
@@ -89,7 +90,8 @@ pub fn put_answer<T: Sink>(
     outcome: &Outcome,
 ) -> Result<(), WriteFault>
     ensures { Puts (sunk_in T.taken T.faults out.old)
-        (answer_frame (reply_to_frame (meaning_of request.now) outcome.now answer.now)) result (sunk_in T.taken T.faults out.new) }
+        (answer_frame (reply_to_frame (meaning_of request.now) outcome.now answer.now)) result
+        (sunk_in T.taken T.faults out.new) }
 {
     match request {
         Request::Atr => put_frame(out, &ATR),

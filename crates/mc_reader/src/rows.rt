@@ -28,7 +28,8 @@ pub fn counts_and_a_reset()
 pub fn commands_without_power()
     ensures before { answers_to_input (codes "format\npower\n") (codes "0005 8001000002 0001 01 0005 8001000002")
         ≡ hex (codes "0000 0002 6985") }
-    ensures off { answers_to_input (codes "format\n") (codes "0001 01 0001 00 0005 8001000002 0001 04 0001 02 0005 8001000002")
+    ensures off { answers_to_input (codes "format\n")
+        (codes "0001 01 0001 00 0005 8001000002 0001 04 0001 02 0005 8001000002")
         ≡ hex (codes "0000 000C 3B878001 4D454C43415244 56 0002 6985") }
 {}
 
@@ -44,7 +45,8 @@ pub fn refusals()
         codes "0002 FFC0 0004 FFC00000 0005 FFC000000C 0006 FFC000000C00 0006 FFC300000000 " ++
         codes "0009 FFC000000400000001 0009 FFC101000400000001")
         ≡ hex (codes "0002 6700 0002 6700 0002 6700 0002 6700 0002 6700 0002 6700 0002 6A86") }
-    ensures instruction { answers_to_input (codes "format\n") (codes "0005 FFC3000000 0005 FFC3010000 0006 FF00000001AA")
+    ensures instruction { answers_to_input (codes "format\n")
+        (codes "0005 FFC3000000 0005 FFC3010000 0006 FF00000001AA")
         ≡ hex (codes "0002 6D00 0002 6D00 0002 6D00") }
     ensures parameters { answers_to_input (codes "format\n") (
         codes "0011 FFC001000C000000000000000000000000 0009 FFC100010400000000 0009 FFC201010400000000")

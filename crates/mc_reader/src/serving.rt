@@ -34,7 +34,7 @@ fn play_request<N: Bench, L: Ledger>(
     requires playing { IsPlaying N.state N.bench player.old }
     requires good { IsGoodRequest request.now }
     ensures plays { PlaysLine N.state N.bench player.old (line_in (meaning_of request.now)) result player.new }
-    ensures lent { N.same (device_of player.old) (device_of player.new) }
+    ensures keeps_device { N.same (device_of player.old) (device_of player.new) }
 {
     match request.line() {
         Some(line) => player.line(&line, &mut Silent, steps),
@@ -56,7 +56,7 @@ fn serve_frame<N: Bench, T: Sink, L: Ledger>(
         (sunk_in T.taken T.faults out.old) result player.new (sunk_in T.taken T.faults out.new) }
     ensures power { powered.new ≡ power_after powered.old (meaning powered.old frame.now) }
     ensures bytes { AreBytes frame.now }
-    ensures lent { N.same (device_of player.old) (device_of player.new) }
+    ensures keeps_device { N.same (device_of player.old) (device_of player.new) }
 {
     let request = Request::of(frame, *powered);
     let answer = play_request(player, &request, steps);
@@ -86,7 +86,7 @@ fn serve_frames<S: Source, T: Sink, N: Bench, L: Ledger>(
           dev_old = bench_of N.state N.bench player.old;
           dev = bench_of N.state N.bench player.new;
         }) }
-    ensures lent { N.same (device_of player.old) (device_of player.new) }
+    ensures keeps_device { N.same (device_of player.old) (device_of player.new) }
 {
     let mut powered = false;
     for before in 0..u64::MAX {

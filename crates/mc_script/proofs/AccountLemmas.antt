@@ -11,7 +11,7 @@ use Rattle.mc_model_device.specs.Card.{Card, means}
 use Rattle.mc_model_device.specs.Layout.{fault}
 use Rattle.mc_model_device.specs.Stopped.{image_after_stop}
 use Rattle.mc_model_device.specs.PowerUp.{Base, OnCard, AtFault, base_of, pending_journal}
-use Rattle.mc_model_play.specs.Play.{Warm, State, Hot, StandsForState, StandsForBase, StandsAtEach, state_after_stop}
+use Rattle.mc_model_play.specs.Play.{Warm, State, AfterPower, StandsForState, StandsForBase, StandsAtEach, state_after_stop}
 use Rattle.mc_store.specs.Power.{base_of_words, HoldsBase}
 
 -- ---- words that hold a state
@@ -31,12 +31,13 @@ base_stands : (b : Base) (m : List (List ℕ)) (w : Warm) → base_of_words m �
 base_stands (OnCard c) m w is n = let r = base_card (fault m) m c is in record { sound = r.0; meaning = r.1; owed = n }
 base_stands (AtFault cause p) m w is n = record { unsound = base_fault (fault m) m cause p is; owed = n }
 
-pub stands_hot : (m : List (List ℕ)) (w : Warm) → HoldsBase w.base w.owed w.by m → StandsForState m (Hot w)
-stands_hot m w r = (base_stands w.base m w r.base r.owed, λ some. ap pending_journal (r.by some))
+pub stands_after_power : (m : List (List ℕ)) (w : Warm) → HoldsBase w.base w.owed w.by m → StandsForState m (AfterPower w)
+stands_after_power m w r = (base_stands w.base m w r.base r.owed, λ some. ap pending_journal (r.by some))
 
 -- ---- the entries of a list
 
--- wherever one of the writes stops, and whatever word it leaves, the words hold the state of the play that was stopped there
+-- wherever one of the writes stops, and whatever word it leaves, the words hold the state of the play that was stopped
+-- there
 abbrev pub StopsStand : List (List ℕ) → State → ℕ × DeckLine → ℕ → List (ℕ × List ℕ) → Type 0
 StopsStand m s l j ws = (k : ℕ) (x : List ℕ) → 1 ≤ k → k ≤ length ws → length x ≡ 8 → StandsForState (image_after_stop m ws k x) (state_after_stop s l (j + k) x)
 

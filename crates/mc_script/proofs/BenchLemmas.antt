@@ -6,13 +6,13 @@ use Rattle.std.proofs.lemmas.List.{get_or-set_same, length-take-le}
 use Rattle.mc_model_device.specs.declared.device.Stop.{Stop}
 use Rattle.mc_model_device.specs.declared.device.Stop.TheVariants.{Off, Worn}
 use Rattle.mc_model_device.specs.Orders.{Answer}
-use Rattle.mc_model_device.specs.Device.{Entry, Grows, DeviceState, BenchState, fuse_after_write, next_fill, due, NextWriteEnds, Counts, Burns, BenchWrote, Wrote, WriteDone, WriteCut, WriteWorn, Makes, GrowsBy, done_entries, torn_entries, next_count}
+use Rattle.mc_model_device.specs.Device.{Entry, Grows, DeviceState, BenchState, fuse_after_write, next_fill, due, NextWriteEnds, Counts, Burns, BenchWrote, Wrote, WriteDone, WriteCut, WriteFailure, Makes, GrowsBy, done_entries, torn_entries, next_count}
 use Rattle.mc_model_device.specs.Stopped.{image_after_stop}
 use Rattle.mc_model_device.proofs.DeviceLemmas.{DoneAll, makes_done}
 use Rattle.mc_script.specs.Runs.{StoppedAtWrite}
 use Rattle.mc_script.proofs.EntryLemmas.{stopped_entry, torn_behind, entries_behind}
 use Rattle.mc_script.proofs.AccountLemmas.{SizesTo}
-use Rattle.mc_script.proofs.FuseLemmas.{after_writes, Past, falls_at, past_on, past_first, past_none, none_due, cut_due, worn_due}
+use Rattle.mc_script.proofs.FuseLemmas.{after_writes, Past, falls_at, past_on, past_first, past_none, none_due, cut_due, failure_due}
 
 -- ---- the result of a list
 
@@ -36,8 +36,8 @@ abbrev pub Raises : Stop → DeviceState → DeviceState → Type 0
 Raises Off d e = (e.cuts ≡ next_count d.cuts) × (e.faults ≡ d.faults)
 Raises Worn d e = (e.cuts ≡ d.cuts) × (e.faults ≡ next_count d.faults)
 
--- the fuse that made a stop at write k: a cut is due to the cut fuse; a failed write comes before the cut, and on a steady bench is due
--- to the other fuse
+-- the fuse that made a stop at write k: a cut is due to the cut fuse; a failed write comes before the cut, and on a
+-- steady bench is due to the other fuse
 abbrev pub FusedAt : Stop → BenchState → ℕ → List ℕ → Type 0
 FusedAt Off b k x = b.cut ≡ Some (record { writes = k; fill = x })
 FusedAt Worn b k x = Past k b.cut × (b.steady ≡ true → b.worn ≡ Some (record { writes = k; fill = x }))
@@ -139,7 +139,7 @@ fused Off b c n d e at x burnt ends low words =
     let one : n + 1 ≡ suc n = omega arith in
     subst (λ (k : ℕ). b.cut ≡ Some (record { writes = k; fill = x })) one (falls_at n b.cut x f)
 fused Worn b c n d e at x burnt ends low words =
-    let r = worn_due (next_fill c.cut) (next_fill c.worn) c.steady d at e ends in
+    let r = failure_due (next_fill c.cut) (next_fill c.worn) c.steady d at e ends in
     let one : n + 1 ≡ suc n = omega arith in
     let f : next_fill (after_writes n b.cut) ≡ None = ap (λ (t : BenchState). next_fill t.cut) (sym burnt.is) ∙ r.0 in (
       subst (λ (k : ℕ). Past k b.cut) one (past_on n b.cut f burnt.cut),
@@ -202,7 +202,7 @@ module _ {D : Type 0} (state : D → DeviceState) (bench : D → BenchState) (wr
       let r : WriteCut (state d) at (state e) = obeys d at w (Err Off) e on h in
       record { left = r.left; size = r.size; words = r.words; tape = r.tape }
   left_by Worn d e at w on h =
-      let r : WriteWorn (state d) at (state e) = obeys d at w (Err Worn) e on h in
+      let r : WriteFailure (state d) at (state e) = obeys d at w (Err Worn) e on h in
       record { left = r.left; size = r.size; words = r.words; tape = r.tape }
 
   halted_behind : (ws : List (ℕ × List ℕ)) (d e : D) (n : ℕ) (s : Stop) → (state d).on ≡ true → StoppedBehind wrote d ws n s e → (x : List ℕ) × HaltedList (state d) (bench d) ws (suc n) s x (state e) (bench e)

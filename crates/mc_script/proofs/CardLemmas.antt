@@ -7,12 +7,12 @@ use Rattle.mc_model_device.specs.Device.{DeviceState}
 use Rattle.mc_model_device.specs.Image.{Look, Refused, Closed, Pending, look, count_of_recovery_writes, debt}
 use Rattle.mc_model_device.specs.Layout.{words_fault}
 use Rattle.mc_model_device.specs.Card.{means}
-use Rattle.mc_store.specs.Store.{is_closed, is_going, store_state, store_named, store_room, store_standing}
+use Rattle.mc_store.specs.Store.{is_closed, is_going, store_state, store_named, store_room, store_site_bytes}
 use Rattle.mc_store.specs.Power.{count_of}
 use Rattle.mc_card.specs.declared.card.Card.{Card}
-use Rattle.mc_card.specs.Parts.{device_in, seat_in, with_device, IsReadyCard}
+use Rattle.mc_card.specs.Parts.{device_in, session_state_in, with_device, IsReadyCard}
 use Rattle.mc_bank.specs.Bank.{app_of}
-use Rattle.mc_manager.specs.ManagerState.{ManagerFits, seat_of}
+use Rattle.mc_manager.specs.ManagerState.{ManagerFits, session_state_of}
 
 closed_owes_none : (l : Look) → is_closed l ≡ true → debt l ≡ 0
 closed_owes_none (Refused p) h = refl
@@ -38,8 +38,8 @@ module _ {N : Type 0} (state : N → DeviceState) where
   pub ready_owes : (c : Card N) → IsReadyCard state c → count_of_recovery_writes (state (device_in c)).words ≡ 0
   ready_owes c r = closed_owes_none (look (state (device_in c)).words) (going_parts (state (device_in c)) (count_of c.store) r.up.going).1
 
-  seat_with : (c : Card N) (d : N) → state d ≡ state (device_in c) → seat_in state (with_device c d) ≡ seat_in state c
-  seat_with c d same = ap (λ (x : DeviceState). seat_of (store_standing x) c.session c.manager) same
+  session_state_with : (c : Card N) (d : N) → state d ≡ state (device_in c) → session_state_in state (with_device c d) ≡ session_state_in state c
+  session_state_with c d same = ap (λ (x : DeviceState). session_state_of (store_site_bytes x) c.session c.manager) same
 
   ready_with : (c : Card N) (d : N) → state d ≡ state (device_in c) → IsReadyCard state c → IsReadyCard state (with_device c d)
   ready_with c d same r =
@@ -47,15 +47,15 @@ module _ {N : Type 0} (state : N → DeviceState) where
       record {
         up = record {
           going = ap (λ (x : DeviceState). is_going x n) same ∙ r.up.going;
-          fits = subst (λ (x : DeviceState). ManagerFits (record { state = store_state x n; named = store_named x; room = store_room x; standing = store_standing x }) c.manager) (sym same) r.up.fits;
+          fits = subst (λ (x : DeviceState). ManagerFits (record { state = store_state x n; named = store_named x; room = store_room x; site_bytes = store_site_bytes x }) c.manager) (sym same) r.up.fits;
           session = subst (λ (x : DeviceState). ForSome c.manager.selected (λ s. length c.session ≡ (app_of (means x.words).apps (Some s.aid)).session)) (sym same) r.up.session;
         };
         idle = r.idle;
       }
 
   -- a card over another device with the same state has the same session state
-  pub seat_over : (c u : Card N) → u ≡ with_device c (device_in u) → state (device_in u) ≡ state (device_in c) → seat_in state u ≡ seat_in state c
-  seat_over c u is same = ap (λ (x : Card N). seat_in state x) is ∙ seat_with c (device_in u) same
+  pub session_state_over : (c u : Card N) → u ≡ with_device c (device_in u) → state (device_in u) ≡ state (device_in c) → session_state_in state u ≡ session_state_in state c
+  session_state_over c u is same = ap (λ (x : Card N). session_state_in state x) is ∙ session_state_with c (device_in u) same
 
   pub ready_over : (c u : Card N) → u ≡ with_device c (device_in u) → state (device_in u) ≡ state (device_in c) → IsReadyCard state c → IsReadyCard state u
   ready_over c u is same r = subst (λ (x : Card N). IsReadyCard state x) (sym is) (ready_with c (device_in u) same r)

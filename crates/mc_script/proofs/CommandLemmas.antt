@@ -8,7 +8,7 @@ use Rattle.mc_model_machine.specs.Apdu.{ApduParts}
 use Rattle.mc_model_device.specs.Card as model
 use Rattle.mc_model_device.specs.Card.{means}
 use Rattle.mc_model_machine.specs.Chain.{Chain, Turn, Ran as ModelRan, turn_of, run_of_chain, run, start}
-use Rattle.mc_model_card.specs.Manager.{Selected, Seat, Managed, Declines, Accepts, Route, WrongLength, WrongClass, ToSelect, ToManager, ToApplication, route, select, manage, room_on}
+use Rattle.mc_model_card.specs.Manager.{Selected, SessionState, Managed, Declines, Accepts, Route, WrongLength, WrongClass, ToSelect, ToManager, ToApplication, route, select, manage, room_on}
 use Rattle.mc_model_card.specs.Commands.{Command, command, manager_command, application_command, by_route, ran_command}
 use Rattle.mc_model_card.specs.Items.{write_items}
 use Rattle.mc_model_play.specs.TraceText.{before_stop}
@@ -16,9 +16,9 @@ use Rattle.mc_machine.specs.declared.outcome.Outcome.{Outcome}
 use Rattle.mc_machine.specs.declared.outcome.Turn.{Turn as CodeTurn}
 use Rattle.mc_machine.specs.Turns.{turn_value}
 use Rattle.mc_card.specs.declared.card.Card.{Card}
-use Rattle.mc_card.specs.Parts.{device_in, card_in, seat_in, due, with_session, RunsChain}
+use Rattle.mc_card.specs.Parts.{device_in, card_in, session_state_in, due, with_session, RunsChain}
 use Rattle.mc_card.specs.Ends.{is_passed, Commanded, PassedToChain, Answered, ChainTurned}
-use Rattle.mc_script.specs.Runs.{StoppedAtWrite, TellsTurns, RanAndTold}
+use Rattle.mc_script.specs.Runs.{StoppedAtWrite, ReportsTurns, RanAndReported}
 use Rattle.mc_script.proofs.StopLemmas.{stopped_in, at_number}
 use Rattle.mc_script.proofs.RanLemmas.{RunOf, run_ends, run_stops, run_goes, run_on}
 use Rattle.mc_script.proofs.UpLemmas.{up_on}
@@ -26,71 +26,71 @@ use Rattle.mc_card.proofs.MadeLemmas.{MadeBy}
 
 -- ---- commands without turns
 
-managed_turns : (c : model.Card) (seat : Seat) (m : Managed) → (manager_command c seat m).turns ≡ []
-managed_turns c seat (Declines sw) = refl
-managed_turns c seat (Accepts a) = refl
+managed_turns : (c : model.Card) (session_state : SessionState) (m : Managed) → (manager_command c session_state m).turns ≡ []
+managed_turns c session_state (Declines sw) = refl
+managed_turns c session_state (Accepts a) = refl
 
-passed_turns : (c : model.Card) (seat : Seat) (s : Option Selected) (a : ApduParts) (budget : ℕ) → is_passed (ToApplication a) s ≡ false → (application_command c seat s a budget).turns ≡ []
-passed_turns c seat None a budget e = refl
-passed_turns c seat (Some s) a budget e = absurd (cc e)
+passed_turns : (c : model.Card) (session_state : SessionState) (s : Option Selected) (a : ApduParts) (budget : ℕ) → is_passed (ToApplication a) s ≡ false → (application_command c session_state s a budget).turns ≡ []
+passed_turns c session_state None a budget e = refl
+passed_turns c session_state (Some s) a budget e = absurd (cc e)
 
-route_turns : (c : model.Card) (seat : Seat) (budget : ℕ) (r : Route) → is_passed r seat.selected ≡ false → (by_route c seat budget r).turns ≡ []
-route_turns c seat budget WrongLength e = refl
-route_turns c seat budget WrongClass e = refl
-route_turns c seat budget (ToSelect a) e = managed_turns c seat (select c.apps seat a)
-route_turns c seat budget (ToManager a) e = managed_turns c seat (manage (room_on c) c.apps seat a)
-route_turns c seat budget (ToApplication a) e = passed_turns c seat seat.selected a budget e
+route_turns : (c : model.Card) (session_state : SessionState) (budget : ℕ) (r : Route) → is_passed r session_state.selected ≡ false → (by_route c session_state budget r).turns ≡ []
+route_turns c session_state budget WrongLength e = refl
+route_turns c session_state budget WrongClass e = refl
+route_turns c session_state budget (ToSelect a) e = managed_turns c session_state (select c.apps session_state a)
+route_turns c session_state budget (ToManager a) e = managed_turns c session_state (manage (room_on c) c.apps session_state a)
+route_turns c session_state budget (ToApplication a) e = passed_turns c session_state session_state.selected a budget e
 
 -- a command that is not passed on has no turns
-pub command_turns : (c : model.Card) (seat : Seat) (bytes : List ℕ) (budget : ℕ) → is_passed (route bytes) seat.selected ≡ false → (command c seat bytes budget).turns ≡ []
+pub command_turns : (c : model.Card) (session_state : SessionState) (bytes : List ℕ) (budget : ℕ) → is_passed (route bytes) session_state.selected ≡ false → (command c session_state bytes budget).turns ≡ []
 unfolding command
-command_turns c seat bytes budget e = route_turns c seat budget (route bytes) e
+command_turns c session_state bytes budget e = route_turns c session_state budget (route bytes) e
 
 -- a command that is passed on is a run
-passed_is : (c : model.Card) (seat : Seat) (budget : ℕ) (r : Route) (a : ApduParts) (s : Selected) → r ≡ ToApplication a → seat.selected ≡ Some s → by_route c seat budget r ≡ ran_command seat s.name (run c.apps s.name s.session a budget)
-passed_is c seat budget r a s routed is = ap (λ (r : Route). by_route c seat budget r) routed ∙ ap (λ (o : Option Selected). application_command c seat o a budget) is
+passed_is : (c : model.Card) (session_state : SessionState) (budget : ℕ) (r : Route) (a : ApduParts) (s : Selected) → r ≡ ToApplication a → session_state.selected ≡ Some s → by_route c session_state budget r ≡ ran_command session_state s.name (run c.apps s.name s.session a budget)
+passed_is c session_state budget r a s routed is = ap (λ (r : Route). by_route c session_state budget r) routed ∙ ap (λ (o : Option Selected). application_command c session_state o a budget) is
 
-pub command_is : (c : model.Card) (seat : Seat) (bytes : List ℕ) (budget : ℕ) (a : ApduParts) (s : Selected) → route bytes ≡ ToApplication a → seat.selected ≡ Some s → command c seat bytes budget ≡ ran_command seat s.name (run c.apps s.name s.session a budget)
+pub command_is : (c : model.Card) (session_state : SessionState) (bytes : List ℕ) (budget : ℕ) (a : ApduParts) (s : Selected) → route bytes ≡ ToApplication a → session_state.selected ≡ Some s → command c session_state bytes budget ≡ ran_command session_state s.name (run c.apps s.name s.session a budget)
 unfolding command
-command_is c seat bytes budget a s routed is = passed_is c seat budget (route bytes) a s routed is
+command_is c session_state bytes budget a s routed is = passed_is c session_state budget (route bytes) a s routed is
 
 -- the session bytes of a run are kept with the selection
-session_stays : (seat : Seat) (s : Selected) (session : List ℕ) → seat.selected ≡ Some s → with_session session seat ≡ record seat { selected = Some (record { name = s.name; session = session }) }
-session_stays seat s session is = ap (λ (o : Option Selected). record seat { selected = option_map {T = Selected} (λ s. record s { session = session }) o }) is
+session_stays : (session_state : SessionState) (s : Selected) (session : List ℕ) → session_state.selected ≡ Some s → with_session session session_state ≡ record session_state { selected = Some (record { name = s.name; session = session }) }
+session_stays session_state s session is = ap (λ (o : Option Selected). record session_state { selected = option_map {T = Selected} (λ s. record s { session = session }) o }) is
 
 module _ {N R : Type 0} (state : N → DeviceState) (wrote : N → ℕ → List ℕ → Answer → N → Type 0)
     (obeys : (d : N) (at : ℕ) (w : List ℕ) (a : Answer) (e : N) → (state d).on ≡ true → wrote d at w a e → Wrote (state d) at w a (state e))
-    (told : R → List Turn → R → Type 0) (silent : (r : R) → told r [] r)
-    (onward : (q r s : R) (ts us : List Turn) → told q ts r → told r us s → told q (ts ++ us) s) where
+    (reported : R → List Turn → R → Type 0) (silent : (r : R) → reported r [] r)
+    (onward : (q r s : R) (ts us : List Turn) → reported q ts r → reported r us s → reported q (ts ++ us) s) where
   -- nothing is recorded of a command without turns
-  quiet_tells : (result : Result Outcome Stop) (c d : Card N) (r : Command) (h : Commanded state wrote c r result d) (q : R) → TellsTurns state wrote told c h.made.writes [] result d q q
-  quiet_tells (Ok o) c d r h q = silent q
-  quiet_tells (Err s) c d r h q =
+  quiet_reports : (result : Result Outcome Stop) (c d : Card N) (r : Command) (h : Commanded state wrote c r result d) (q : R) → ReportsTurns state wrote reported c h.made.writes [] result d q q
+  quiet_reports (Ok o) c d r h q = silent q
+  quiet_reports (Err s) c d r h q =
       let at = stopped_in wrote h.made.writes (device_in c) (device_in d) s h.made.makes in
       (suc at.0, at_number wrote h.made.writes (device_in c) (device_in d) at.0 s at.1, silent q)
 
   -- a command without turns
-  pub quiet_ran : (result : Result Outcome Stop) (c d : Card N) (r : Command) (q : R) → r.turns ≡ [] → Commanded state wrote c r result d → RanAndTold state wrote told c r result d q q
+  pub quiet_ran : (result : Result Outcome Stop) (c d : Card N) (r : Command) (q : R) → r.turns ≡ [] → Commanded state wrote c r result d → RanAndReported state wrote reported c r result d q q
   quiet_ran result c d r q none h =
-      record { commanded = h; tells = subst (λ (ts : List Turn). TellsTurns state wrote told c h.made.writes ts result d q q) (sym none) (quiet_tells result c d r h q) }
+      record { commanded = h; reports = subst (λ (ts : List Turn). ReportsTurns state wrote reported c h.made.writes ts result d q q) (sym none) (quiet_reports result c d r h q) }
 
   -- a command that is answered
-  pub answered_ran : (result : Result Outcome Stop) (c d : Card N) (bytes : List ℕ) (budget : ℕ) (q : R) → Answered state wrote c bytes budget result d → RanAndTold state wrote told c (due state c bytes budget) result d q q
+  pub answered_ran : (result : Result Outcome Stop) (c d : Card N) (bytes : List ℕ) (budget : ℕ) (q : R) → Answered state wrote c bytes budget result d → RanAndReported state wrote reported c (due state c bytes budget) result d q q
   answered_ran result c d bytes budget q h =
-      quiet_ran result c d (due state c bytes budget) q (command_turns (card_in state c) (seat_in state c) bytes budget h.stays) h.commanded
+      quiet_ran result c d (due state c bytes budget) q (command_turns (card_in state c) (session_state_in state c) bytes budget h.stays) h.commanded
 
-  seat_stays : (result : Result Outcome Stop) (c m d : Card N) (s : Selected) (run : ModelRan) → seat_in state m ≡ seat_in state c → (seat_in state c).selected ≡ Some s
-      → OnOk result (seat_in state d ≡ with_session run.session (seat_in state m)) → OnOk result (seat_in state d ≡ (ran_command (seat_in state c) s.name run).seat)
-  seat_stays (Ok o) c m d s run same is h = h ∙ ap (λ (seat : Seat). with_session run.session seat) same ∙ session_stays (seat_in state c) s run.session is
-  seat_stays (Err t) c m d s run same is h = tt
+  session_state_stays : (result : Result Outcome Stop) (c m d : Card N) (s : Selected) (run : ModelRan) → session_state_in state m ≡ session_state_in state c → (session_state_in state c).selected ≡ Some s
+      → OnOk result (session_state_in state d ≡ with_session run.session (session_state_in state m)) → OnOk result (session_state_in state d ≡ (ran_command (session_state_in state c) s.name run).session_state)
+  session_state_stays (Ok o) c m d s run same is h = h ∙ ap (λ (session_state : SessionState). with_session run.session session_state) same ∙ session_stays (session_state_in state c) s run.session is
+  session_state_stays (Err t) c m d s run same is h = tt
 
-  tells_as : (result : Result Outcome Stop) (c m d : Card N) (ws : List (ℕ × List ℕ)) (ts : List Turn) (q r : R) → device_in m ≡ device_in c → TellsTurns state wrote told m ws ts result d q r → TellsTurns state wrote told c ws ts result d q r
-  tells_as (Ok o) c m d ws ts q r same h = h
-  tells_as (Err s) c m d ws ts q r same h = (h.0, subst (λ (x : N). StoppedAtWrite wrote x ws h.0 s (device_in d)) same h.1, h.2)
+  reports_as : (result : Result Outcome Stop) (c m d : Card N) (ws : List (ℕ × List ℕ)) (ts : List Turn) (q r : R) → device_in m ≡ device_in c → ReportsTurns state wrote reported m ws ts result d q r → ReportsTurns state wrote reported c ws ts result d q r
+  reports_as (Ok o) c m d ws ts q r same h = h
+  reports_as (Err s) c m d ws ts q r same h = (h.0, subst (λ (x : N). StoppedAtWrite wrote x ws h.0 s (device_in d)) same h.1, h.2)
 
   -- a run, as the command that began it
-  begun_by : (result : Result Outcome Stop) (c m d : Card N) (s : Selected) (run : ModelRan) (q r : R) → device_in m ≡ device_in c → seat_in state m ≡ seat_in state c → (seat_in state c).selected ≡ Some s
-      → RunOf state wrote obeys told silent onward run m result d q r → RanAndTold state wrote told c (ran_command (seat_in state c) s.name run) result d q r
+  begun_by : (result : Result Outcome Stop) (c m d : Card N) (s : Selected) (run : ModelRan) (q r : R) → device_in m ≡ device_in c → session_state_in state m ≡ session_state_in state c → (session_state_in state c).selected ≡ Some s
+      → RunOf state wrote obeys reported silent onward run m result d q r → RanAndReported state wrote reported c (ran_command (session_state_in state c) s.name run) result d q r
   begun_by result c m d s run q r device same is h =
       let made : MadeBy state wrote obeys (card_in state c) (write_items run.writes) (device_in c) (answer_of result) (device_in d) h.writes =
       subst (λ (x : N). MadeBy state wrote obeys (means (state x).words) (write_items run.writes) x (answer_of result) (device_in d) h.writes) device h.made
@@ -100,32 +100,32 @@ module _ {N R : Type 0} (state : N → DeviceState) (wrote : N → ℕ → List 
             record {
               made = record { writes = h.writes; makes = made.makes; number = made.number; stops = made.stops; done = made.done };
               outcome = h.outcome;
-              seat = seat_stays result c m d s run same is h.seat;
+              session_state = session_state_stays result c m d s run same is h.session_state;
               ready = h.ready;
             };
-        tells = tells_as result c m d h.writes run.turns q r device h.tells;
+        reports = reports_as result c m d h.writes run.turns q r device h.reports;
       }
 
   -- a command that was passed on, and run to its end
   pub passed_ran : (result : Result Outcome Stop) (c m d : Card N) (bytes : List ℕ) (budget : ℕ) (q r : R) (h : PassedToChain state wrote c bytes budget m)
-      → RunOf state wrote obeys told silent onward (run (card_in state c).apps (h.selected).name (h.selected).session h.apdu budget) m result d q r → RanAndTold state wrote told c (due state c bytes budget) result d q r
+      → RunOf state wrote obeys reported silent onward (run (card_in state c).apps (h.selected).name (h.selected).session h.apdu budget) m result d q r → RanAndReported state wrote reported c (due state c bytes budget) result d q r
   passed_ran result c m d bytes budget q r h ran =
-      subst (λ (k : Command). RanAndTold state wrote told c k result d q r) (sym (command_is (card_in state c) (seat_in state c) bytes budget h.apdu h.selected h.routed h.is))
-      (begun_by result c m d h.selected (run (card_in state c).apps (h.selected).name (h.selected).session h.apdu budget) q r h.device h.seat h.is ran)
+      subst (λ (k : Command). RanAndReported state wrote reported c k result d q r) (sym (command_is (card_in state c) (session_state_in state c) bytes budget h.apdu h.selected h.routed h.is))
+      (begun_by result c m d h.selected (run (card_in state c).apps (h.selected).name (h.selected).session h.apdu budget) q r h.device h.session_state h.is ran)
 
   -- the rest of a run, whose writes and recorded turns make up those of the whole command
   pub record RunLeads (c : Card N) (bytes : List ℕ) (budget : ℕ) (q : R) (n : ℕ) (m : Card N) (p : R) : Type 0 where
     pub chain : Chain
     pub runs : RunsChain state m chain n
-    pub rest : (result : Result Outcome Stop) (d : Card N) (r : R) → RunOf state wrote obeys told silent onward (run_of_chain n chain) m result d p r → RanAndTold state wrote told c (due state c bytes budget) result d q r
+    pub rest : (result : Result Outcome Stop) (d : Card N) (r : R) → RunOf state wrote obeys reported silent onward (run_of_chain n chain) m result d p r → RanAndReported state wrote reported c (due state c bytes budget) result d q r
 
   -- what a turn does, whichever its chain
   abbrev pub TurnDoes : Card N → Result CodeTurn Stop → Card N → Type 0
   TurnDoes m result d = (ch : Chain) (left : ℕ) → RunsChain state m ch left → ChainTurned state wrote m ch left (turn_of left ch) result d
 
   -- what the runner records of a turn, whatever number of words it wrote
-  abbrev pub TellsTurn : R → CodeTurn → R → Type 0
-  TellsTurn p turn r = (wrote : Option ℕ) → told p (turn_value turn wrote ∷ []) r
+  abbrev pub ReportsTurn : R → CodeTurn → R → Type 0
+  ReportsTurn p turn r = (wrote : Option ℕ) → reported p (turn_value turn wrote ∷ []) r
 
   -- the beginning of a command that is passed on
   pub leads_begin : (c m : Card N) (bytes : List ℕ) (budget : ℕ) (q : R) → PassedToChain state wrote c bytes budget m → RunLeads c bytes budget q budget m q
@@ -137,26 +137,26 @@ module _ {N R : Type 0} (state : N → DeviceState) (wrote : N → ℕ → List 
       }
 
   -- a turn whose write stopped
-  pub leads_stop : (c m d : Card N) (bytes : List ℕ) (budget n : ℕ) (q p : R) (s : Stop) → RunLeads c bytes budget q n m p → TurnDoes m (Err s) d → RanAndTold state wrote told c (due state c bytes budget) (Err s) d q p
-  leads_stop c m d bytes budget n q p s h turns = h.rest (Err s) d p (run_stops state wrote obeys told silent onward m d h.chain n s p (turns h.chain n h.runs))
+  pub leads_stop : (c m d : Card N) (bytes : List ℕ) (budget n : ℕ) (q p : R) (s : Stop) → RunLeads c bytes budget q n m p → TurnDoes m (Err s) d → RanAndReported state wrote reported c (due state c bytes budget) (Err s) d q p
+  leads_stop c m d bytes budget n q p s h turns = h.rest (Err s) d p (run_stops state wrote obeys reported silent onward m d h.chain n s p (turns h.chain n h.runs))
 
   -- a turn that ends its chain
-  pub leads_end : (c m d : Card N) (bytes : List ℕ) (budget n : ℕ) (q p r : R) (turn : CodeTurn) (o : Outcome) → RunLeads c bytes budget q n m p → TurnDoes m (Ok turn) d → TellsTurn p turn r → turn.end ≡ Some o → RanAndTold state wrote told c (due state c bytes budget) (Ok o) d q r
-  leads_end c m d bytes budget n q p r turn o h turns tells end =
-      h.rest (Ok o) d r (run_ends state wrote obeys told silent onward m d h.chain n turn o p r (turns h.chain n h.runs) end (tells (turn_of n h.chain).turn.wrote))
+  pub leads_end : (c m d : Card N) (bytes : List ℕ) (budget n : ℕ) (q p r : R) (turn : CodeTurn) (o : Outcome) → RunLeads c bytes budget q n m p → TurnDoes m (Ok turn) d → ReportsTurn p turn r → turn.end ≡ Some o → RanAndReported state wrote reported c (due state c bytes budget) (Ok o) d q r
+  leads_end c m d bytes budget n q p r turn o h turns reports end =
+      h.rest (Ok o) d r (run_ends state wrote obeys reported silent onward m d h.chain n turn o p r (turns h.chain n h.runs) end (reports (turn_of n h.chain).turn.wrote))
 
   -- a turn that goes on
-  pub leads_on : (c m d : Card N) (bytes : List ℕ) (budget n : ℕ) (q p r : R) (turn : CodeTurn) → RunLeads c bytes budget q n m p → TurnDoes m (Ok turn) d → TellsTurn p turn r → turn.end ≡ None → (left : ℕ) × (n ≡ suc left) × RunLeads c bytes budget q left d r
-  leads_on c m d bytes budget n q p r turn h turns tells end =
+  pub leads_on : (c m d : Card N) (bytes : List ℕ) (budget n : ℕ) (q p r : R) (turn : CodeTurn) → RunLeads c bytes budget q n m p → TurnDoes m (Ok turn) d → ReportsTurn p turn r → turn.end ≡ None → (left : ℕ) × (n ≡ suc left) × RunLeads c bytes budget q left d r
+  leads_on c m d bytes budget n q p r turn h turns reports end =
       let turned = turns h.chain n h.runs in
-      let goes = run_goes state wrote obeys told silent onward m d h.chain n turn turned end in (
+      let goes = run_goes state wrote obeys reported silent onward m d h.chain n turn turned end in (
         goes.left,
         goes.is,
         record {
           chain = goes.next;
           runs = goes.runs;
           rest = λ result e s ran.
-              h.rest result e s (run_on state wrote obeys told silent onward m d e h.chain n turn result p r s goes (up_on state m h.runs.up) turned (tells (turn_of n h.chain).turn.wrote) ran);
+              h.rest result e s (run_on state wrote obeys reported silent onward m d e h.chain n turn result p r s goes (up_on state m h.runs.up) turned (reports (turn_of n h.chain).turn.wrote) ran);
         },
       )
 
@@ -166,8 +166,8 @@ some_is None h = absurd (h refl)
 some_is (Some x) h = refl
 
 -- a command of which the runner may record every turn
-pub untold_ran : {N R : Type 0} (state : N → DeviceState) (wrote : N → ℕ → List ℕ → Answer → N → Type 0) (told : R → List Turn → R → Type 0) (result : Result Outcome Stop) (c d : Card N) (k : Command) (q r : R) → ((ts : List Turn) → told q ts r) → Commanded state wrote c k result d → RanAndTold state wrote told c k result d q r
-untold_ran state wrote told (Ok o) c d k q r any h = record { commanded = h; tells = any k.turns }
-untold_ran state wrote told (Err s) c d k q r any h =
+pub untold_ran : {N R : Type 0} (state : N → DeviceState) (wrote : N → ℕ → List ℕ → Answer → N → Type 0) (reported : R → List Turn → R → Type 0) (result : Result Outcome Stop) (c d : Card N) (k : Command) (q r : R) → ((ts : List Turn) → reported q ts r) → Commanded state wrote c k result d → RanAndReported state wrote reported c k result d q r
+untold_ran state wrote reported (Ok o) c d k q r any h = record { commanded = h; reports = any k.turns }
+untold_ran state wrote reported (Err s) c d k q r any h =
     let at = stopped_in wrote h.made.writes (device_in c) (device_in d) s h.made.makes in
-    record { commanded = h; tells = (suc at.0, at_number wrote h.made.writes (device_in c) (device_in d) at.0 s at.1, any (before_stop k.turns (suc at.0))) }
+    record { commanded = h; reports = (suc at.0, at_number wrote h.made.writes (device_in c) (device_in d) at.0 s at.1, any (before_stop k.turns (suc at.0))) }

@@ -1,10 +1,11 @@
--- Composition of plays, for code that plays decks line by line: the result of a play, one more line, and the whole play with its laws.
+-- Composition of plays, for code that plays decks line by line: the result of a play, one more line, and the whole play
+-- with its laws.
 use Rattle.std.proofs.Common.{◌≡◌, ℕ, List, [], ◌∷◌, ◌++◌, length, Option, refl, arith, sym, ap, subst, ◌∙◌, append_assoc, append-nil, length-append}
 use Rattle.mc_model_device.specs.Device.{DeviceState, BenchState}
 use Rattle.mc_model_machine.specs.Chain.{Turn}
 use Rattle.mc_model_play.specs.DeckGrammar.{DeckLine}
 use Rattle.mc_model_play.specs.Laws.{HoldsOf}
-use Rattle.mc_model_play.specs.Play.{State, WornAt, Step, step, plays, start, last_state, StandsForState}
+use Rattle.mc_model_play.specs.Play.{State, FailedWrite, Step, step, plays, start, last_state, StandsForState}
 use Rattle.mc_family.proofs.PlayLaw.{play_law}
 use Rattle.mc_script.specs.declared.answer.Answer.{Answer}
 use Rattle.mc_script.specs.declared.player.Player.{Player}
@@ -22,7 +23,7 @@ last_append s [] us = refl
 last_append s (t ∷ ts) us = last_append t.after ts us
 
 -- the steps of lines, and of the lines after them
-pub plays_append : (s : State) (ls ks : List (ℕ × DeckLine)) (ws vs : List (Option WornAt)) → length ws ≡ length ls → plays s (ls ++ ks) (ws ++ vs) ≡ plays s ls ws ++ plays (last_state s (plays s ls ws)) ks vs
+pub plays_append : (s : State) (ls ks : List (ℕ × DeckLine)) (ws vs : List (Option FailedWrite)) → length ws ≡ length ls → plays s (ls ++ ks) (ws ++ vs) ≡ plays s ls ws ++ plays (last_state s (plays s ls ws)) ks vs
 plays_append s [] ks [] vs many =
     ap (λ (ts : List Step). ts ++ plays (last_state s ts) ks vs) (sym (plays_none s))
 plays_append s [] ks (w ∷ ws) vs many = absurd (cc many)
@@ -42,7 +43,7 @@ pub leads_none : (s : State) (a : Bench) → LeadsTo s [] [] a s a
 leads_none s a = record { many = refl; last = ap (λ (ts : List Step). last_state s ts) (sym (plays_none s)); rest = λ ks vs c h. h }
 
 -- one more line was played
-pub leads_on : (s : State) (ls : List (ℕ × DeckLine)) (ws : List (Option WornAt)) (a : Bench) (u : State) (b : Bench) (l : ℕ × DeckLine) (w : Option WornAt) (c : Bench) → LeadsTo s ls ws a u b
+pub leads_on : (s : State) (ls : List (ℕ × DeckLine)) (ws : List (Option FailedWrite)) (a : Bench) (u : State) (b : Bench) (l : ℕ × DeckLine) (w : Option FailedWrite) (c : Bench) → LeadsTo s ls ws a u b
     → PlayedLine u l w (step u l w) b c → LeadsTo s (ls ++ l ∷ []) (ws ++ w ∷ []) a (step u l w).after c
 leads_on s ls ws a u b l w c h line =
     let one : plays u (l ∷ []) (w ∷ []) ≡ step u l w ∷ [] = plays_on u l w [] [] ∙ ap (λ (ts : List Step). step u l w ∷ ts) (plays_none (step u l w).after) in
@@ -58,11 +59,11 @@ leads_on s ls ws a u b l w c h line =
           ∙ ap (λ (ts : List Step). last_state u ts) one);
       rest = λ ks vs d played.
           subst (λ (k : List (ℕ × DeckLine)). Played s k ((ws ++ w ∷ []) ++ vs) a d) (sym (append_assoc ls (l ∷ []) ks))
-          (subst (λ (v : List (Option WornAt)). Played s (ls ++ l ∷ ks) v a d) (sym (append_assoc ws (w ∷ []) vs)) (h.rest (l ∷ ks) (w ∷ vs) d (played_on u l w ks vs b c d line played)));
+          (subst (λ (v : List (Option FailedWrite)). Played s (ls ++ l ∷ ks) v a d) (sym (append_assoc ws (w ∷ []) vs)) (h.rest (l ∷ ks) (w ∷ vs) d (played_on u l w ks vs b c d line played)));
     }
 
 -- lines were played after lines
-pub leads_then : (s : State) (ls : List (ℕ × DeckLine)) (ws : List (Option WornAt)) (a : Bench) (u : State) (b : Bench) (ks : List (ℕ × DeckLine)) (vs : List (Option WornAt)) (t : State) (c : Bench)
+pub leads_then : (s : State) (ls : List (ℕ × DeckLine)) (ws : List (Option FailedWrite)) (a : Bench) (u : State) (b : Bench) (ks : List (ℕ × DeckLine)) (vs : List (Option FailedWrite)) (t : State) (c : Bench)
     → LeadsTo s ls ws a u b → LeadsTo u ks vs b t c → LeadsTo s (ls ++ ks) (ws ++ vs) a t c
 leads_then s ls ws a u b ks vs t c h k =
     let x = length-append ws vs in
@@ -78,29 +79,29 @@ leads_then s ls ws a u b ks vs t c h k =
           ∙ ap (λ (v : State). last_state v (plays v ks vs)) (sym h.last));
       rest = λ js us d played.
           subst (λ (i : List (ℕ × DeckLine)). Played s i ((ws ++ vs) ++ us) a d) (sym (append_assoc ls ks js))
-          (subst (λ (i : List (Option WornAt)). Played s (ls ++ (ks ++ js)) i a d) (sym (append_assoc ws vs us)) (h.rest (ks ++ js) (vs ++ us) d (k.rest js us d played)));
+          (subst (λ (i : List (Option FailedWrite)). Played s (ls ++ (ks ++ js)) i a d) (sym (append_assoc ws vs us)) (h.rest (ks ++ js) (vs ++ us) d (k.rest js us d played)));
     }
 
 -- the lines that were played so far are a play, with its words, its counts and its tape
-pub leads_played : (s : State) (ls : List (ℕ × DeckLine)) (ws : List (Option WornAt)) (a : Bench) (u : State) (b : Bench) → LeadsTo s ls ws a u b → StandsForState b.device.words u → IsUnfused b.bench → Played s ls ws a b
+pub leads_played : (s : State) (ls : List (ℕ × DeckLine)) (ws : List (Option FailedWrite)) (a : Bench) (u : State) (b : Bench) → LeadsTo s ls ws a u b → StandsForState b.device.words u → IsUnfused b.bench → Played s ls ws a b
 leads_played s ls ws a u b h stands unfused =
     subst (λ (k : List (ℕ × DeckLine)). Played s k ws a b) (append-nil ls)
-    (subst (λ (v : List (Option WornAt)). Played s (ls ++ []) v a b) (append-nil ws) (h.rest [] [] b (played_none u b stands unfused)))
+    (subst (λ (v : List (Option FailedWrite)). Played s (ls ++ []) v a b) (append-nil ws) (h.rest [] [] b (played_none u b stands unfused)))
 
 -- the laws of a play that begins on the words of a device
-pub played_laws : (m : List (List ℕ)) (ls : List (ℕ × DeckLine)) (ws : List (Option WornAt)) (a b : Bench) → Played (start m) ls ws a b → HoldsOf m (plays (start m) ls ws)
+pub played_laws : (m : List (List ℕ)) (ls : List (ℕ × DeckLine)) (ws : List (Option FailedWrite)) (a b : Bench) → Played (start m) ls ws a b → HoldsOf m (plays (start m) ls ws)
 played_laws m ls ws a b h = play_law ls m ws h.possible
 
 module _ {N : Type 0} (state : N → DeviceState) (bench : N → BenchState) where
   -- the lines that were played so far are a play, if the player is at the state that was reached
-  pub player_played : (s : State) (ls : List (ℕ × DeckLine)) (ws : List (Option WornAt)) (a : Bench) (u : State) (p : Player N) → LeadsTo s ls ws a u (bench_of state bench p) → IsPlayerAt state bench p u
+  pub player_played : (s : State) (ls : List (ℕ × DeckLine)) (ws : List (Option FailedWrite)) (a : Bench) (u : State) (p : Player N) → LeadsTo s ls ws a u (bench_of state bench p) → IsPlayerAt state bench p u
       → Played s ls ws a (bench_of state bench p)
   player_played s ls ws a u p h at = leads_played s ls ws a u (bench_of state bench p) h (at_stands state bench p u at) at.unfused
 
   -- one line of a player
-  pub line_leads : {R : Type 0} (told : R → List Turn → R → Type 0) (p q : Player N) (s : State) (n : ℕ) (l : DeckLine) (before after : R) (answer : Option Answer) → LineDone state bench told p l before after answer q
-      → IsPlayerAt state bench p s → (w : Option WornAt) × LeadsTo s ((n, l) ∷ []) (w ∷ []) (bench_of state bench p) (step s (n, l) w).after (bench_of state bench q) × IsPlayerAt state bench q (step s (n, l) w).after
-  line_leads told p q s n l before after answer done at =
+  pub line_leads : {R : Type 0} (reported : R → List Turn → R → Type 0) (p q : Player N) (s : State) (n : ℕ) (l : DeckLine) (before after : R) (answer : Option Answer) → LineDone state bench reported p l before after answer q
+      → IsPlayerAt state bench p s → (w : Option FailedWrite) × LeadsTo s ((n, l) ∷ []) (w ∷ []) (bench_of state bench p) (step s (n, l) w).after (bench_of state bench q) × IsPlayerAt state bench q (step s (n, l) w).after
+  line_leads reported p q s n l before after answer done at =
       let line = done s n at in
       let w = line.0 in
       let end = line.1.stepped in
@@ -111,7 +112,7 @@ module _ {N : Type 0} (state : N → DeviceState) (bench : N → BenchState) whe
   -- a player that has played, from a state, the lines before those that are left
   pub record Between (s : State) (ls : List (ℕ × DeckLine)) (a : Bench) (left : List (ℕ × DeckLine)) (p : Player N) : Type 0 where
     pub front : List (ℕ × DeckLine)
-    pub worn : List (Option WornAt)
+    pub worn : List (Option FailedWrite)
     pub here : State
     pub are : front ++ left ≡ ls
     pub at : IsPlayerAt state bench p here
@@ -120,9 +121,9 @@ module _ {N : Type 0} (state : N → DeviceState) (bench : N → BenchState) whe
   pub between_start : (s : State) (ls : List (ℕ × DeckLine)) (p : Player N) → IsPlayerAt state bench p s → Between s ls (bench_of state bench p) ls p
   between_start s ls p at = record { front = []; worn = []; here = s; are = refl; at = at; leads = leads_none s (bench_of state bench p) }
 
-  pub between_on : {R : Type 0} (told : R → List Turn → R → Type 0) (s : State) (ls : List (ℕ × DeckLine)) (a : Bench) (left : List (ℕ × DeckLine)) (n : ℕ) (l : DeckLine) (p q : Player N) (before after : R) (answer : Option Answer)
-      → Between s ls a ((n, l) ∷ left) p → LineDone state bench told p l before after answer q → Between s ls a left q
-  between_on told s ls a left n l p q before after answer h done =
+  pub between_on : {R : Type 0} (reported : R → List Turn → R → Type 0) (s : State) (ls : List (ℕ × DeckLine)) (a : Bench) (left : List (ℕ × DeckLine)) (n : ℕ) (l : DeckLine) (p q : Player N) (before after : R) (answer : Option Answer)
+      → Between s ls a ((n, l) ∷ left) p → LineDone state bench reported p l before after answer q → Between s ls a left q
+  between_on reported s ls a left n l p q before after answer h done =
       let line = done h.here n h.at in
       let w = line.0 in
       let end = line.1.stepped in

@@ -5,7 +5,7 @@ use Rattle.std.proofs.Math.ListN.{drop_of_length-le}
 use Rattle.mc_model_device.specs.Device.{DeviceState, BenchState}
 use Rattle.mc_model_machine.specs.Chain.{Turn}
 use Rattle.mc_model_play.specs.DeckGrammar.{DeckLine}
-use Rattle.mc_model_play.specs.Play.{State, WornAt, Step, step}
+use Rattle.mc_model_play.specs.Play.{State, FailedWrite, Step, step}
 use Rattle.mc_model_play.specs.Transcript.{line_text}
 use Rattle.mc_model_play.specs.TraceText.{shown_turns}
 use Rattle.mc_base.specs.declared.refusals.WriteFault.{WriteFault}
@@ -21,7 +21,8 @@ use Rattle.mc_script.proofs.PlayLemmas.{from_on, from_cut, from_none}
 use Rattle.mc_script.proofs.LinedLemmas.{at_stands}
 
 module _ {N : Type 0} (state : N → DeviceState) (bench : N → BenchState) where
-  -- a player at a state of a play, with the given lines left: a play of these from here makes the play of all lines from the start
+  -- a player at a state of a play, with the given lines left: a play of these from here makes the play of all lines
+  -- from the start
   pub record PlayReached (f : Step → List ℕ) (s : State) (ls : List (ℕ × DeckLine)) (a : Bench) (x : Sunk) (left : List (ℕ × DeckLine)) (p : Player N) (y : Sunk) : Type 0 where
     pub here : State
     pub at : IsPlayerAt state bench p here
@@ -35,25 +36,25 @@ module _ {N : Type 0} (state : N → DeviceState) (bench : N → BenchState) whe
   pub reached_end : (f : Step → List ℕ) (s : State) (ls : List (ℕ × DeckLine)) (a : Bench) (x y : Sunk) (p : Player N) → PlayReached f s ls a x [] p y → PlaysFrom f s ls a x (Ok tt) (bench_of state bench p) y
   reached_end f s ls a x y p h = h.rest (Ok tt) (bench_of state bench p) y (from_none f h.here (bench_of state bench p) y (at_stands state bench p h.here h.at) h.at.unfused)
 
-  module _ {R : Type 0} (told : R → List Turn → R → Type 0) (text : List Turn → List ℕ) where
+  module _ {R : Type 0} (reported : R → List Turn → R → Type 0) (text : List Turn → List ℕ) where
     -- the text that is written of a line, whatever turns its runner recorded
-    abbrev pub TellsLine : Player N → R → R → ℕ → Option Answer → Sunk → Result (Unit {0}) WriteFault → Sunk → Type 0
-    TellsLine q before after n answer y r z = (ts : List Turn) → told before ts after → Puts y (text ts ++ line_text n (option_map (answer_value state q) answer)) r z
+    abbrev pub ReportsLine : Player N → R → R → ℕ → Option Answer → Sunk → Result (Unit {0}) WriteFault → Sunk → Type 0
+    ReportsLine q before after n answer y r z = (ts : List Turn) → reported before ts after → Puts y (text ts ++ line_text n (option_map (answer_value state q) answer)) r z
 
     -- the text of a line is that of its step
-    line_puts : (p q : Player N) (s : State) (l : ℕ × DeckLine) (w : Option WornAt) (before after : R) (answer : Option Answer) (y z : Sunk) (r : Result (Unit {0}) WriteFault)
-        → Lined state bench told p s l w before after answer q → TellsLine q before after l.0 answer y r z → Puts y (text_by text (step s l w)) r z
-    line_puts p q s l w before after answer y z r lined tells =
+    line_puts : (p q : Player N) (s : State) (l : ℕ × DeckLine) (w : Option FailedWrite) (before after : R) (answer : Option Answer) (y z : Sunk) (r : Result (Unit {0}) WriteFault)
+        → Lined state bench reported p s l w before after answer q → ReportsLine q before after l.0 answer y r z → Puts y (text_by text (step s l w)) r z
+    line_puts p q s l w before after answer y z r lined reports =
         let t = step s l w in
         let is : line_text l.0 (option_map (answer_value state q) answer) ≡ line_text t.number t.result = ap (λ o. line_text l.0 o) lined.stepped.answers ∙ ap (λ n. line_text n t.result) (sym ((step_is s l w).number)) in
-        subst (λ (bs : List ℕ). Puts y (text (shown_turns t.turns t.stop) ++ bs) r z) is (tells (shown_turns t.turns t.stop) lined.tells)
+        subst (λ (bs : List ℕ). Puts y (text (shown_turns t.turns t.stop) ++ bs) r z) is (reports (shown_turns t.turns t.stop) lined.reports)
 
     -- a line whose text was written
     pub reached_on : (s : State) (ls : List (ℕ × DeckLine)) (a : Bench) (x y z : Sunk) (left : List (ℕ × DeckLine)) (n : ℕ) (l : DeckLine) (p q : Player N) (before after : R) (answer : Option Answer)
-        → PlayReached (text_by text) s ls a x ((n, l) ∷ left) p y → LineDone state bench told p l before after answer q → TellsLine q before after n answer y (Ok tt) z → PlayReached (text_by text) s ls a x left q z
-    reached_on s ls a x y z left n l p q before after answer h done tells =
+        → PlayReached (text_by text) s ls a x ((n, l) ∷ left) p y → LineDone state bench reported p l before after answer q → ReportsLine q before after n answer y (Ok tt) z → PlayReached (text_by text) s ls a x left q z
+    reached_on s ls a x y z left n l p q before after answer h done reports =
         let line = done h.here n h.at in
-        let puts = line_puts p q h.here (n, l) line.0 before after answer y z (Ok tt) line.1 tells in
+        let puts = line_puts p q h.here (n, l) line.0 before after answer y z (Ok tt) line.1 reports in
         record {
           here = (step h.here (n, l) line.0).after;
           at = line.1.stepped.at;
@@ -63,25 +64,25 @@ module _ {N : Type 0} (state : N → DeviceState) (bench : N → BenchState) whe
 
     -- a line whose text was not wholly written
     pub reached_cut : (s : State) (ls : List (ℕ × DeckLine)) (a : Bench) (x y z : Sunk) (left : List (ℕ × DeckLine)) (n : ℕ) (l : DeckLine) (p q : Player N) (before after : R) (answer : Option Answer) (e : WriteFault)
-        → PlayReached (text_by text) s ls a x ((n, l) ∷ left) p y → LineDone state bench told p l before after answer q → TellsLine q before after n answer y (Err e) z → PlaysFrom (text_by text) s ls a x (Err e) (bench_of state bench q) z
-    reached_cut s ls a x y z left n l p q before after answer e h done tells =
+        → PlayReached (text_by text) s ls a x ((n, l) ∷ left) p y → LineDone state bench reported p l before after answer q → ReportsLine q before after n answer y (Err e) z → PlaysFrom (text_by text) s ls a x (Err e) (bench_of state bench q) z
+    reached_cut s ls a x y z left n l p q before after answer e h done reports =
         let line = done h.here n h.at in
-        let puts = line_puts p q h.here (n, l) line.0 before after answer y z (Err e) line.1 tells in
+        let puts = line_puts p q h.here (n, l) line.0 before after answer y z (Err e) line.1 reports in
         let end = line.1.stepped in
         h.rest (Err e) (bench_of state bench q) z
         (from_cut (text_by text) h.here (n, l) line.0 left (bench_of state bench p) (bench_of state bench q) y z e end.played (at_stands state bench q (step h.here (n, l) line.0).after end.at) end.at.unfused puts)
 
     -- a line whose text was not wholly written, by the result of the writer
     pub reached_failed : (s : State) (ls : List (ℕ × DeckLine)) (a : Bench) (x y z : Sunk) (left : List (ℕ × DeckLine)) (n : ℕ) (l : DeckLine) (p q : Player N) (before after : R) (answer : Option Answer) (r : Result (Unit {0}) WriteFault)
-        → is_err r ≡ true → PlayReached (text_by text) s ls a x ((n, l) ∷ left) p y → LineDone state bench told p l before after answer q → TellsLine q before after n answer y r z → PlaysFrom (text_by text) s ls a x r (bench_of state bench q) z
-    reached_failed s ls a x y z left n l p q before after answer (Ok u) failed h done tells = absurd (cc failed)
-    reached_failed s ls a x y z left n l p q before after answer (Err e) failed h done tells = reached_cut s ls a x y z left n l p q before after answer e h done tells
+        → is_err r ≡ true → PlayReached (text_by text) s ls a x ((n, l) ∷ left) p y → LineDone state bench reported p l before after answer q → ReportsLine q before after n answer y r z → PlaysFrom (text_by text) s ls a x r (bench_of state bench q) z
+    reached_failed s ls a x y z left n l p q before after answer (Ok u) failed h done reports = absurd (cc failed)
+    reached_failed s ls a x y z left n l p q before after answer (Err e) failed h done reports = reached_cut s ls a x y z left n l p q before after answer e h done reports
 
     -- a line whose text was written, by the result of the writer
     pub reached_written : (s : State) (ls : List (ℕ × DeckLine)) (a : Bench) (x y z : Sunk) (left : List (ℕ × DeckLine)) (n : ℕ) (l : DeckLine) (p q : Player N) (before after : R) (answer : Option Answer) (r : Result (Unit {0}) WriteFault)
-        → is_err r ≡ false → PlayReached (text_by text) s ls a x ((n, l) ∷ left) p y → LineDone state bench told p l before after answer q → TellsLine q before after n answer y r z → PlayReached (text_by text) s ls a x left q z
-    reached_written s ls a x y z left n l p q before after answer (Ok u) written h done tells = reached_on s ls a x y z left n l p q before after answer h done tells
-    reached_written s ls a x y z left n l p q before after answer (Err e) written h done tells = absurd (cc written)
+        → is_err r ≡ false → PlayReached (text_by text) s ls a x ((n, l) ∷ left) p y → LineDone state bench reported p l before after answer q → ReportsLine q before after n answer y r z → PlayReached (text_by text) s ls a x left q z
+    reached_written s ls a x y z left n l p q before after answer (Ok u) written h done reports = reached_on s ls a x y z left n l p q before after answer h done reports
+    reached_written s ls a x y z left n l p q before after answer (Err e) written h done reports = absurd (cc written)
 
 -- ---- places of a deck
 

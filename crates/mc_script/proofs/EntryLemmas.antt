@@ -5,7 +5,7 @@ use Rattle.mc_model_device.specs.declared.device.Stop.{Stop}
 use Rattle.mc_model_device.specs.Device.{Entry, done_entries, torn_entries}
 use Rattle.mc_model_device.specs.Image.{image_with}
 use Rattle.mc_model_device.specs.Stopped.{image_after_stop}
-use Rattle.mc_model_play.specs.Play.{EndsAs, worn_in, worn_entry, laid_entries}
+use Rattle.mc_model_play.specs.Play.{EndsAs, failures_in, failure_entry, laid_entries}
 
 -- ---- a list that stopped after n writes
 
@@ -47,19 +47,19 @@ ends_torn (p ∷ []) (suc n) x s low = absurd (omega (arith, low))
 ends_torn (p ∷ q ∷ ws) (suc zero) x s low = (refl, refl)
 ends_torn (p ∷ q ∷ ws) (suc (suc n)) x s low = (refl, ends_torn (q ∷ ws) (suc n) x s (omega (arith, low)))
 
-pub worn_done : (j : ℕ) (ws : List (ℕ × List ℕ)) → worn_in j (done_entries ws) ≡ None
-worn_done j [] = refl
-worn_done j (p ∷ []) = refl
-worn_done j (p ∷ q ∷ ws) = worn_done (j + 1) (q ∷ ws)
+pub failure_done : (j : ℕ) (ws : List (ℕ × List ℕ)) → failures_in j (done_entries ws) ≡ None
+failure_done j [] = refl
+failure_done j (p ∷ []) = refl
+failure_done j (p ∷ q ∷ ws) = failure_done (j + 1) (q ∷ ws)
 
-pub worn_torn : (j : ℕ) (ws : List (ℕ × List ℕ)) (n : ℕ) (x : List ℕ) (s : Stop) → n < length ws → worn_in j (torn_entries ws (suc n) x s) ≡ worn_entry (j + suc n) x (Some s)
-worn_torn j [] n x s low = absurd (omega arith)
-worn_torn j (p ∷ ws) zero x s low = refl
-worn_torn j (p ∷ []) (suc n) x s low = absurd (omega (arith, low))
-worn_torn j (p ∷ q ∷ ws) (suc zero) x s low = let e : j + 1 + 1 ≡ j + suc (suc zero) = omega arith in ap (λ (k : ℕ). worn_entry k x (Some s)) e
-worn_torn j (p ∷ q ∷ ws) (suc (suc n)) x s low =
+pub failure_torn : (j : ℕ) (ws : List (ℕ × List ℕ)) (n : ℕ) (x : List ℕ) (s : Stop) → n < length ws → failures_in j (torn_entries ws (suc n) x s) ≡ failure_entry (j + suc n) x (Some s)
+failure_torn j [] n x s low = absurd (omega arith)
+failure_torn j (p ∷ ws) zero x s low = refl
+failure_torn j (p ∷ []) (suc n) x s low = absurd (omega (arith, low))
+failure_torn j (p ∷ q ∷ ws) (suc zero) x s low = let e : j + 1 + 1 ≡ j + suc (suc zero) = omega arith in ap (λ (k : ℕ). failure_entry k x (Some s)) e
+failure_torn j (p ∷ q ∷ ws) (suc (suc n)) x s low =
     let e : j + 1 + suc (suc n) ≡ j + suc (suc (suc n)) = omega arith in
-    worn_torn (j + 1) (q ∷ ws) (suc n) x s (omega (arith, low)) ∙ ap (λ (k : ℕ). worn_entry k x (Some s)) e
+    failure_torn (j + 1) (q ∷ ws) (suc n) x s (omega (arith, low)) ∙ ap (λ (k : ℕ). failure_entry k x (Some s)) e
 
 pub laid_done : (m : List (List ℕ)) (ws : List (ℕ × List ℕ)) → laid_entries m (done_entries ws) ≡ image_with m ws
 laid_done m [] = refl

@@ -5,7 +5,7 @@ use Rattle.mc_model_device.specs.Device.{DeviceState, BenchState, GrowsBy, bench
 use Rattle.mc_model_play.specs.DeckGrammar.{DeckLine}
 use Rattle.mc_model_play.specs.DeckGrammar as line
 use Rattle.mc_model_play.specs.Play as play
-use Rattle.mc_model_play.specs.Play.{LineResult, Formatted, Warm, Cold, Hot, step, quiet, is_card_line, moves_of, formatted_image}
+use Rattle.mc_model_play.specs.Play.{LineResult, Formatted, Warm, BeforePower, AfterPower, step, quiet, is_card_line, moves_of, formatted_image}
 use Rattle.mc_script.specs.declared.answer.Answer.{Answer}
 use Rattle.mc_script.specs.declared.answer.Answer.TheVariants as answer
 use Rattle.mc_script.specs.declared.player.Power.{Power}
@@ -30,11 +30,11 @@ module _ {N : Type 0} (state : N → DeviceState) (bench : N → BenchState) whe
 
   -- a line that pokes words
   poked : (p : Player N) (e : Card N) (m : List (List ℕ)) (b : ℕ) (r : play.Armed) (n : ℕ) (l : DeckLine) (result : Option LineResult) (x : Option Answer) (new : List (List ℕ)) (j : ℕ)
-      → Poked (device_of p) new j (device_in e) → line_pokes (Cold m b r) l ≡ j → line_powers l ≡ 0 → line_cuts l ≡ 0 → line_fails l ≡ 0 → is_card_line l ≡ false
-      → option_map (answer_value state (record p { card = e })) x ≡ result → IsPlayerAt state bench p (Cold m b r)
-      → Stepped state bench p (Cold m b r) (n, l) None (quiet n l (Cold m b r) result (Cold new b r)) x (record p { card = e })
+      → Poked (device_of p) new j (device_in e) → line_pokes (BeforePower m b r) l ≡ j → line_powers l ≡ 0 → line_cuts l ≡ 0 → line_fails l ≡ 0 → is_card_line l ≡ false
+      → option_map (answer_value state (record p { card = e })) x ≡ result → IsPlayerAt state bench p (BeforePower m b r)
+      → Stepped state bench p (BeforePower m b r) (n, l) None (quiet n l (BeforePower m b r) result (BeforePower new b r)) x (record p { card = e })
   poked p e m b r n l result x new j did pokes powers cuts fails card answers at =
-      let t = quiet n l (Cold m b r) result (Cold new b r) in
+      let t = quiet n l (BeforePower m b r) result (BeforePower new b r) in
       let d = device_of p in
       let c = bench d in
       let f : BenchState → Type 0 = λ y. LineCounts c (state d) t y (record (state d) { words = new }) in
@@ -48,7 +48,7 @@ module _ {N : Type 0} (state : N → DeviceState) (bench : N → BenchState) whe
                 counts = record { powers = ap (λ (i : ℕ). count_after_rises c.powers i) (sym powers); pokes = ap (λ (i : ℕ). count_after_rises c.pokes i) (sym pokes); poked = ap (λ (i : ℕ). when_poked c i) (sym pokes); cuts = refl; faults = refl; steady = refl };
                 arms = record { arms = rw cuts (omega arith); wears = rw fails (omega arith) };
               }));
-          steady = λ h. steady_none r l (moves_of (Cold m b r) (n, l)) card;
+          steady = λ h. steady_none r l (moves_of (BeforePower m b r) (n, l)) card;
           tape = record {
             entries = [];
             grows = subst (λ (y : DeviceState). GrowsBy (state d).tape [] y.tape) (sym did.device) (grows_none (state d).tape);
@@ -60,32 +60,32 @@ module _ {N : Type 0} (state : N → DeviceState) (bench : N → BenchState) whe
       }
 
   -- a player before its first power line is at no state of a play after it
-  begun : (p : Player N) (w : Warm) → p.power ≡ power.Cold → IsPlayerAt state bench p (Hot w) → ⊥
-  begun p w cold at = subst (λ (x : Power). LiveIs state x p.card w.base w.live) cold at.stands.0
+  begun : (p : Player N) (w : Warm) → p.power ≡ power.BeforePower → IsPlayerAt state bench p (AfterPower w) → ⊥
+  begun p w before_power at = subst (λ (x : Power). LiveIs state x p.card w.base w.live) before_power at.stands.0
 
   -- ---- format
 
-  pub format_cold : (p : Player N) (e : Card N) → p.power ≡ power.Cold → IsFormatted state bench (device_of p) (device_in e) → SilentDone state bench p line.Format (Some answer.Formatted) (record p { card = e })
+  pub format_before_power : (p : Player N) (e : Card N) → p.power ≡ power.BeforePower → IsFormatted state bench (device_of p) (device_in e) → SilentDone state bench p line.Format (Some answer.Formatted) (record p { card = e })
   unfolding step
-  format_cold p e cold did (Hot w) n at = absurd (begun p w cold at)
-  format_cold p e cold did (Cold m b r) n at =
+  format_before_power p e before_power did (AfterPower w) n at = absurd (begun p w before_power at)
+  format_before_power p e before_power did (BeforePower m b r) n at =
       let d = device_of p in
       let h : Poked d (formatted_image m) 5 (device_in e) = record { device = did.device ∙ ap (λ (y : List (List ℕ)). record (state d) { words = formatted_image y }) at.stands.1; calls = did.calls ∙ poked_are 5 (bench d) } in
       (None, record { stepped = poked p e m b r n line.Format (Some Formatted) (Some answer.Formatted) (formatted_image m) 5 h refl refl refl refl refl refl at; silent = refl })
 
   -- a `format` line of a play that has begun
-  pub format_hot : (p : Player N) → (p.power ≡ power.Cold → ⊥) → SilentDone state bench p line.Format None p
+  pub format_after_power : (p : Player N) → (p.power ≡ power.BeforePower → ⊥) → SilentDone state bench p line.Format None p
   unfolding step
-  format_hot p hot (Cold m b r) n at = absurd (hot at.stands.0)
-  format_hot p hot (Hot w) n at = (None, record { stepped = still state bench p w n line.Format None None at refl refl refl refl refl refl; silent = refl })
+  format_after_power p past_power (BeforePower m b r) n at = absurd (past_power at.stands.0)
+  format_after_power p past_power (AfterPower w) n at = (None, record { stepped = still state bench p w n line.Format None None at refl refl refl refl refl refl; silent = refl })
 
   -- ---- poke
 
-  pub poke_cold : (p : Player N) (e : Card N) (at : ℕ) (fill : List ℕ) → p.power ≡ power.Cold → IsPoked state bench (device_of p) at fill (device_in e)
+  pub poke_before_power : (p : Player N) (e : Card N) (at : ℕ) (fill : List ℕ) → p.power ≡ power.BeforePower → IsPoked state bench (device_of p) at fill (device_in e)
       → SilentDone state bench p (line.Poke at fill) None (record p { card = e })
   unfolding step
-  poke_cold p e at fill cold did (Hot w) n here = absurd (begun p w cold here)
-  poke_cold p e at fill cold did (Cold m b r) n here =
+  poke_before_power p e at fill before_power did (AfterPower w) n here = absurd (begun p w before_power here)
+  poke_before_power p e at fill before_power did (BeforePower m b r) n here =
       let d = device_of p in
       let new : (state d).words ≡ m = here.stands.1 in
       let j = cond (nat_lt at (length m)) 1 0 in
@@ -95,7 +95,7 @@ module _ {N : Type 0} (state : N → DeviceState) (bench : N → BenchState) whe
       } in
       (None, record { stepped = poked p e m b r n (line.Poke at fill) None None (slice_set m at fill) j h refl refl refl refl refl refl here; silent = refl })
 
-  pub poke_hot : (p : Player N) (at : ℕ) (fill : List ℕ) → (p.power ≡ power.Cold → ⊥) → SilentDone state bench p (line.Poke at fill) None p
+  pub poke_after_power : (p : Player N) (at : ℕ) (fill : List ℕ) → (p.power ≡ power.BeforePower → ⊥) → SilentDone state bench p (line.Poke at fill) None p
   unfolding step
-  poke_hot p at fill hot (Cold m b r) n here = absurd (hot here.stands.0)
-  poke_hot p at fill hot (Hot w) n here = (None, record { stepped = still state bench p w n (line.Poke at fill) None None here refl refl refl refl refl refl; silent = refl })
+  poke_after_power p at fill past_power (BeforePower m b r) n here = absurd (past_power here.stands.0)
+  poke_after_power p at fill past_power (AfterPower w) n here = (None, record { stepped = still state bench p w n (line.Poke at fill) None None here refl refl refl refl refl refl; silent = refl })

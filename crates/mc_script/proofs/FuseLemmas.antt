@@ -86,10 +86,10 @@ cut_due None None true d at e h = absurd (cc h)
 cut_due None None false d at e h = absurd (h refl)
 
 -- a failed write was not due to the cut fuse, and on a steady bench it was due to the other
-pub worn_due : (c w : Option (List ℕ)) (steady : Bool) (d : DeviceState) (at : ℕ) (e : DeviceState) → NextWriteEnds (due c w) steady d at (Err Worn) e
+pub failure_due : (c w : Option (List ℕ)) (steady : Bool) (d : DeviceState) (at : ℕ) (e : DeviceState) → NextWriteEnds (due c w) steady d at (Err Worn) e
     → (c ≡ None) × (steady ≡ true → (x : List ℕ) × (w ≡ Some x) × (e.words ≡ slice_set d.words at x))
-worn_due (Some x) w steady d at e h = absurd (cc h.0)
-worn_due None (Some x) true d at e h = (refl, λ s. (x, refl, h.1))
-worn_due None (Some x) false d at e h = (refl, λ s. absurd (cc s))
-worn_due None None true d at e h = absurd (cc h)
-worn_due None None false d at e h = (refl, λ s. absurd (cc s))
+failure_due (Some x) w steady d at e h = absurd (cc h.0)
+failure_due None (Some x) true d at e h = (refl, λ s. (x, refl, h.1))
+failure_due None (Some x) false d at e h = (refl, λ s. absurd (cc s))
+failure_due None None true d at e h = absurd (cc h)
+failure_due None None false d at e h = (refl, λ s. absurd (cc s))

@@ -9,7 +9,7 @@ use Rattle.mc_model_device.specs.Device.{BenchState, Fuse, next_count}
 use Rattle.mc_model_play.specs.DeckGrammar.{DeckLine}
 use Rattle.mc_model_card.specs.Items.{StopAt}
 use Rattle.mc_model_play.specs.Play as play
-use Rattle.mc_model_play.specs.Play.{ArmedCut, ArmedFail, WornAt, hit_of, steady_at, is_card_line, worn_entry, IsBeforeCut}
+use Rattle.mc_model_play.specs.Play.{ArmedCut, ArmedFail, FailedWrite, hit_of, steady_at, is_card_line, failure_entry, IsBeforeCut}
 use Rattle.mc_script.specs.declared.armed.Armed.{Armed}
 use Rattle.mc_script.specs.declared.armed.Armed.TheVariants as armed
 use Rattle.mc_script.specs.Players.{armed_value, cut_place, CanArm, IsUnfused}
@@ -29,20 +29,20 @@ pub record NotHit (a : play.Armed) (m : ℕ) : Type 0 where
 none_past : (k m : ℕ) (x : StopAt) → m < k → cond (nat_le k m) (Some x) None ≡ None
 none_past k m x h = ap (λ (b : Bool). cond b (Some x) None) (lt-leb k m h)
 
-worn_past : (b c : Bool) (x : WornAt) → c ≡ false → None ≡ cond (b && c) (Some x) None
-worn_past true c x h = ap (λ (t : Bool). cond t (Some x) None) (sym h)
-worn_past false c x h = refl
+failure_past : (b c : Bool) (x : FailedWrite) → c ≡ false → None ≡ cond (b && c) (Some x) None
+failure_past true c x h = ap (λ (t : Bool). cond t (Some x) None) (sym h)
+failure_past false c x h = refl
 
 pub not_hit : (a : Armed) (b : BenchState) (m : ℕ) → CanArm a → Past m (armed_bench a b).cut → Past m (armed_bench a b).worn → NotHit (armed_value a) m
 not_hit armed.Not b m can cut worn = record { hit = refl; steady = λ l. refl }
 not_hit (armed.Cut k fill) b m can cut worn = record { hit = none_past k m (record { kind = Off; at = k; left = fill }) (cut can.0); steady = λ l. refl }
 not_hit (armed.Fail k) b m can cut worn =
-    record { hit = refl; steady = λ l. worn_past (is_card_line l) (nat_le k m) (record { at = k; left = zeros 8 }) (lt-leb k m (worn can)) }
+    record { hit = refl; steady = λ l. failure_past (is_card_line l) (nat_le k m) (record { at = k; left = zeros 8 }) (lt-leb k m (worn can)) }
 
 -- ---- a stop
 
 -- a stop at write k, which left the word x, is the stop that hits a card line of m device writes
-pub record HitBy (a : play.Armed) (m : ℕ) (t : Bool) (s : Stop) (k : ℕ) (x : List ℕ) (w : Option WornAt) : Type 0 where
+pub record HitBy (a : play.Armed) (m : ℕ) (t : Bool) (s : Stop) (k : ℕ) (x : List ℕ) (w : Option FailedWrite) : Type 0 where
   pub hit : hit_of a m w ≡ Some (record { kind = s; at = k; left = x })
   pub first : s ≡ Worn → IsBeforeCut a k
   pub steady : (l : DeckLine) → is_card_line l ≡ true → t ≡ true → w ≡ steady_at a l m
@@ -56,10 +56,10 @@ unworn b f free h = none-some f (sym free.worn ∙ h)
 cut_hits : (k m : ℕ) (x : StopAt) → k ≤ m → cond (nat_le k m) (Some x) None ≡ Some x
 cut_hits k m x h = ap (λ (b : Bool). cond b (Some x) None) (le-leb k m h)
 
-worn_hits : (b c : Bool) (x : WornAt) → b ≡ true → c ≡ true → Some x ≡ cond (b && c) (Some x) None
-worn_hits true true x h g = refl
-worn_hits true false x h g = absurd (cc g)
-worn_hits false c x h g = absurd (cc h)
+failure_hits : (b c : Bool) (x : FailedWrite) → b ≡ true → c ≡ true → Some x ≡ cond (b && c) (Some x) None
+failure_hits true true x h g = refl
+failure_hits true false x h g = absurd (cc g)
+failure_hits false c x h g = absurd (cc h)
 
 same_fuse : (k j : ℕ) (x y : List ℕ) → ◌≡◌ {A = Option Fuse} (Some (record { writes = j; fill = y })) (Some (record { writes = k; fill = x })) → (j ≡ k) × (y ≡ x)
 same_fuse k j x y h =
@@ -67,7 +67,7 @@ same_fuse k j x y h =
     (ap (λ (f : Fuse). f.writes) e, ap (λ (f : Fuse). f.fill) e)
 
 pub hit_by : (a : Armed) (b : BenchState) (m : ℕ) (s : Stop) (k : ℕ) (x : List ℕ) → CanArm a → IsUnfused b → FusedAt s (armed_bench a b) k x → k ≤ m
-    → HitBy (armed_value a) m b.steady s k x (worn_entry k x (Some s))
+    → HitBy (armed_value a) m b.steady s k x (failure_entry k x (Some s))
 hit_by armed.Not b m Off k x can free fused high = absurd (uncut b (record { writes = k; fill = x }) free fused)
 hit_by (armed.Cut j fill) b m Off k x can free fused high =
     let same = same_fuse k j x fill fused in
@@ -88,10 +88,10 @@ hit_by (armed.Fail j) b m Worn k x can free fused high =
       first = λ e. tt;
       steady = λ l card steady.
           let same = same_fuse k j x (zeros 8) (fused.1 steady) in
-          let here : WornAt = record { at = k; left = x } in
+          let here : FailedWrite = record { at = k; left = x } in
           subst (λ (i : ℕ). Some here ≡ steady_at (ArmedFail i) l m) (sym same.0)
-          (subst (λ (y : List ℕ). let there : WornAt = record { at = k; left = y } in Some here ≡ cond (is_card_line l && nat_le k m) (Some there) None) (sym same.1)
-          (worn_hits (is_card_line l) (nat_le k m) here card (le-leb k m high)));
+          (subst (λ (y : List ℕ). let there : FailedWrite = record { at = k; left = y } in Some here ≡ cond (is_card_line l && nat_le k m) (Some there) None) (sym same.1)
+          (failure_hits (is_card_line l) (nat_le k m) here card (le-leb k m high)));
     }
 
 -- the answer after a cut at write k has the number k

@@ -10,7 +10,7 @@ pub mod LineLemmas
 pub mod DeckLemmas
 pub mod LoadLemmas
 pub mod TapeLemmas
-pub mod HotLemmas
+pub mod AfterPowerLemmas
 pub mod PlayLemmas
 pub mod LawLemmas
 pub mod Composing

@@ -3,7 +3,7 @@ use Rattle.std.specs.Prelude.{option_map}
 use Rattle.std.proofs.Common.{◌≡◌, ℕ, List, Option, Some, None, refl, sym, subst, ◌∙◌, ap}
 use Rattle.mc_model_device.specs.Device.{DeviceState, BenchState}
 use Rattle.mc_model_device.specs.Card.{App}
-use Rattle.mc_model_play.specs.Play.{State, Cold, Hot, static_of, Static}
+use Rattle.mc_model_play.specs.Play.{State, BeforePower, AfterPower, static_of, Static}
 use Rattle.mc_script.specs.declared.player.Player.{Player}
 use Rattle.mc_card.specs.Parts.{card_in, IsReadyCard}
 use Rattle.mc_script.specs.declared.player.Power.{Power}
@@ -15,13 +15,13 @@ use Rattle.mc_script.specs.Players.{answer_value, dump_value, statics_by, static
 
 -- the card of a player whose card runs
 pub player_ready : {N : Type 0} (state : N → DeviceState) (bench : N → BenchState) (p : Player N) (s : State) → IsPlayerAt state bench p s → p.power ≡ power.On → IsReadyCard state p.card
-player_ready state bench p (Cold m b a) at on = absurd (cc (sym at.stands.0 ∙ on))
-player_ready state bench p (Hot w) at on = (subst (λ (x : Power). LiveIs state x p.card w.base w.live) on at.stands.0).ready
+player_ready state bench p (BeforePower m b a) at on = absurd (cc (sym at.stands.0 ∙ on))
+player_ready state bench p (AfterPower w) at on = (subst (λ (x : Power). LiveIs state x p.card w.base w.live) on at.stands.0).ready
 
 -- a card whose static bytes are shown runs, and has the application
 pub statics_on : {N : Type 0} (state : N → DeviceState) (w : Power) (c : Card N) (aid fixed : List ℕ) → statics_by state w c aid ≡ Some fixed
     → (w ≡ power.On) × (a : App) × (lookup (card_in state c).apps aid ≡ Some a) × (a.fixed ≡ fixed)
-statics_on state power.Cold c aid fixed h = absurd (cc h)
+statics_on state power.BeforePower c aid fixed h = absurd (cc h)
 statics_on state power.Off c aid fixed h = absurd (cc h)
 statics_on state power.Mute c aid fixed h = absurd (cc h)
 statics_on state power.On c aid fixed h = let f = found (lookup (card_in state c).apps aid) h in (refl, f.0, f.1, f.2)
@@ -31,7 +31,7 @@ statics_on state power.On c aid fixed h = let f = found (lookup (card_in state c
     found (Some a) h = (a, refl, cc)
 
 -- the result of a `dump` line for static bytes that are shown
-pub statics_told : {N : Type 0} (state : N → DeviceState) (p : Player N) (aid fixed : List ℕ) → statics_in state p aid ≡ Some fixed → answer_value state p (answer.Dump aid) ≡ Static fixed
-statics_told state p aid fixed h =
+pub statics_reported : {N : Type 0} (state : N → DeviceState) (p : Player N) (aid fixed : List ℕ) → statics_in state p aid ≡ Some fixed → answer_value state p (answer.Dump aid) ≡ Static fixed
+statics_reported state p aid fixed h =
     let on = statics_on state p.power p.card aid fixed h in
     ap (λ (w : Power). dump_value state w p.card aid) on.0 ∙ ap static_of on.2 ∙ ap Static on.3

@@ -3,39 +3,39 @@ use Rattle.std.proofs.Common.{◌≡◌, ℕ, List, [], Option, Some, refl, sym,
 use Rattle.mc_model_device.specs.Device.{DeviceState, BenchState}
 use Rattle.mc_model_play.specs.DeckGrammar.{DeckLine}
 use Rattle.mc_model_machine.specs.Chain.{Turn}
-use Rattle.mc_model_play.specs.Play.{State, Cold, Hot, WornAt, Step, step, StandsForState}
+use Rattle.mc_model_play.specs.Play.{State, BeforePower, AfterPower, FailedWrite, Step, step, StandsForState}
 use Rattle.mc_model_play.specs.TraceText.{shown_turns}
 use Rattle.mc_script.specs.declared.answer.Answer.{Answer}
 use Rattle.mc_script.specs.declared.player.Player.{Player}
 use Rattle.mc_script.specs.Players.{device_of, IsPlayerAt}
 use Rattle.mc_script.specs.Lines.{Stepped, SilentDone, Lined, LineDone}
-use Rattle.mc_script.proofs.AccountLemmas.{stands_hot}
+use Rattle.mc_script.proofs.AccountLemmas.{stands_after_power}
 
 -- the words of a player hold the state of its play
 pub at_stands : {N : Type 0} (state : N → DeviceState) (bench : N → BenchState) (p : Player N) (s : State) → IsPlayerAt state bench p s → StandsForState (state (device_of p)).words s
-at_stands state bench p (Cold m b a) at = at.stands.1
-at_stands state bench p (Hot w) at = stands_hot (state (device_of p)).words w at.stands.1
+at_stands state bench p (BeforePower m b a) at = at.stands.1
+at_stands state bench p (AfterPower w) at = stands_after_power (state (device_of p)).words w at.stands.1
 
-module _ {N R : Type 0} (state : N → DeviceState) (bench : N → BenchState) (told : R → List Turn → R → Type 0) where
+module _ {N R : Type 0} (state : N → DeviceState) (bench : N → BenchState) (reported : R → List Turn → R → Type 0) where
   -- a line by the step that its play takes
-  pub lined : (p q : Player N) (s : State) (l : ℕ × DeckLine) (w : Option WornAt) (t : Step) (r : Option Answer) (before after : R) → step s l w ≡ t → Stepped state bench p s l w t r q
-      → told before (shown_turns t.turns t.stop) after → Lined state bench told p s l w before after r q
-  lined p q s l w t r before after is stepped tells =
+  pub lined : (p q : Player N) (s : State) (l : ℕ × DeckLine) (w : Option FailedWrite) (t : Step) (r : Option Answer) (before after : R) → step s l w ≡ t → Stepped state bench p s l w t r q
+      → reported before (shown_turns t.turns t.stop) after → Lined state bench reported p s l w before after r q
+  lined p q s l w t r before after is stepped reports =
       let h : Stepped state bench p s l w (step s l w) r q = subst (λ (u : Step). Stepped state bench p s l w u r q) (sym is) stepped in
-      record { stepped = h; tells = subst (λ (u : Step). told before (shown_turns u.turns u.stop) after) (sym is) tells }
+      record { stepped = h; reports = subst (λ (u : Step). reported before (shown_turns u.turns u.stop) after) (sym is) reports }
 
   -- a line without turns, of which nothing is recorded
-  pub silent_line : ((r : R) → told r [] r) → (p q : Player N) (l : DeckLine) (x : Option Answer) (r : R) → SilentDone state bench p l x q → LineDone state bench told p l r r x q
+  pub silent_line : ((r : R) → reported r [] r) → (p q : Player N) (l : DeckLine) (x : Option Answer) (r : R) → SilentDone state bench p l x q → LineDone state bench reported p l r r x q
   silent_line silent p q l x r done s n at =
       let h = done s n at in
       let t = step s (n, l) h.0 in
-      (h.0, lined p q s (n, l) h.0 t x r r refl (h.1).stepped (subst (λ (ts : List Turn). told r ts r) (sym (h.1).silent) (silent r)))
+      (h.0, lined p q s (n, l) h.0 t x r r refl (h.1).stepped (subst (λ (ts : List Turn). reported r ts r) (sym (h.1).silent) (silent r)))
 
   -- the line that is played is the one that was given
-  pub given_line : (p q : Player N) (l k : DeckLine) (x : Option Answer) (before after : R) → l ≡ k → LineDone state bench told p k before after x q → LineDone state bench told p l before after x q
-  given_line p q l k x before after is done = subst (λ (y : DeckLine). LineDone state bench told p y before after x q) (sym is) done
+  pub given_line : (p q : Player N) (l k : DeckLine) (x : Option Answer) (before after : R) → l ≡ k → LineDone state bench reported p k before after x q → LineDone state bench reported p l before after x q
+  given_line p q l k x before after is done = subst (λ (y : DeckLine). LineDone state bench reported p y before after x q) (sym is) done
 
   -- a line, with another expression for its player and its answer
-  pub same_line : (p q e : Player N) (l : DeckLine) (x y : Answer) (before after : R) → LineDone state bench told p l before after (Some x) q → e ≡ q → y ≡ x → LineDone state bench told p l before after (Some y) e
+  pub same_line : (p q e : Player N) (l : DeckLine) (x y : Answer) (before after : R) → LineDone state bench reported p l before after (Some x) q → e ≡ q → y ≡ x → LineDone state bench reported p l before after (Some y) e
   same_line p q e l x y before after done same says =
-      subst (λ (z : Player N). LineDone state bench told p l before after (Some y) z) (sym same) (subst (λ (z : Answer). LineDone state bench told p l before after (Some z) q) (sym says) done)
+      subst (λ (z : Player N). LineDone state bench reported p l before after (Some y) z) (sym same) (subst (λ (z : Answer). LineDone state bench reported p l before after (Some z) q) (sym says) done)

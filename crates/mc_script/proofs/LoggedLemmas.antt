@@ -8,20 +8,20 @@ use Rattle.mc_text.specs.Texts.{Sunk, Puts}
 use Rattle.mc_text.specs.Logs.{LoggedBy, Logged}
 use Rattle.mc_text.proofs.TextLemmas.{puts_then}
 use Rattle.mc_text.proofs.LogLemmas.{logged_none}
-use Rattle.mc_script.specs.declared.writer.Telling.{Telling}
-use Rattle.mc_script.specs.declared.writer.Telling.TheVariants.{Results, Turns}
+use Rattle.mc_script.specs.declared.writer.Reporting.{Reporting}
+use Rattle.mc_script.specs.declared.writer.Reporting.TheVariants.{Results, Turns}
 use Rattle.mc_script.specs.declared.writer.Writer.{Writer}
-use Rattle.mc_script.specs.Writers.{write_result, told_turns, turns_text, log_in, WriterKeeps}
+use Rattle.mc_script.specs.Writers.{write_result, reported_turns, turns_text, log_in, WriterKeeps}
 
 -- no line is written of turns if only results are written
-none_told : (t : Telling) (ts : List Turn) → t ≡ Results → [] ≡ told_turns t ts
-none_told Results ts is = refl
-none_told Turns ts is = absurd (cc is)
+none_reported : (t : Reporting) (ts : List Turn) → t ≡ Results → [] ≡ reported_turns t ts
+none_reported Results ts is = refl
+none_reported Turns ts is = absurd (cc is)
 
-pub keeps_untold : {T : Type 0} (taken : T → Option (List ℕ)) (faults : T → ℕ) (w : Writer T) (ts : List Turn) → w.telling ≡ Results → WriterKeeps taken faults w ts w
+pub keeps_untold : {T : Type 0} (taken : T → Option (List ℕ)) (faults : T → ℕ) (w : Writer T) (ts : List Turn) → w.reporting ≡ Results → WriterKeeps taken faults w ts w
 keeps_untold taken faults w ts is =
     let log = log_in taken faults w in
-    record { lines = subst (λ (us : List Turn). Logged log us log) (none_told w.telling ts is) (logged_none log); telling = refl; same = refl }
+    record { lines = subst (λ (us : List Turn). Logged log us log) (none_reported w.reporting ts is) (logged_none log); reporting = refl; same = refl }
 
 -- a line after the turns of a log that had no fault
 pub line_behind : (f g : Option WriteFault) (a b c : Sunk) (ts : List Turn) (line : List ℕ) (r : Result (Unit {0}) WriteFault) → f ≡ None → g ≡ None → LoggedBy f a ts (record { out = b; fault = g }) → Puts b line r c → Puts a (turn_lines ts ++ line) r c
@@ -29,8 +29,8 @@ line_behind f g a b c ts line r before after logged puts =
     puts_then c line r (subst (λ (h : Option WriteFault). LoggedBy None a ts (record { out = b; fault = h })) after (subst (λ (h : Option WriteFault). LoggedBy h a ts (record { out = b; fault = g })) before logged)) puts
 
 -- the text of turns, for two writers that write the same of turns
-pub told_as : (t u : Telling) (ts : List Turn) (a : Sunk) (line : List ℕ) (r : Result (Unit {0}) WriteFault) (b : Sunk) → t ≡ u → Puts a (turns_text t ts ++ line) r b → Puts a (turns_text u ts ++ line) r b
-told_as t u ts a line r b same h = subst (λ (v : Telling). Puts a (turns_text v ts ++ line) r b) same h
+pub reported_as : (t u : Reporting) (ts : List Turn) (a : Sunk) (line : List ℕ) (r : Result (Unit {0}) WriteFault) (b : Sunk) → t ≡ u → Puts a (turns_text t ts ++ line) r b → Puts a (turns_text u ts ++ line) r b
+reported_as t u ts a line r b same h = subst (λ (v : Reporting). Puts a (turns_text v ts ++ line) r b) same h
 
 -- the fault of a result, as the result
 pub ended_err : (r : Result (Unit {0}) WriteFault) → write_result (result_err r) ≡ r

@@ -4,7 +4,7 @@ use Rattle.std.proofs.lemmas.List.{append-nil}
 use Rattle.mc_model_device.specs.Device.{DeviceState, BenchState, Entry, next_count}
 use Rattle.mc_model_play.specs.DeckGrammar.{DeckLine}
 use Rattle.mc_model_play.specs.DeckGrammar as line
-use Rattle.mc_model_play.specs.Play.{Armed, Live, Running, Unpowered, Muted, Warm, State, Cold, Hot, WornAt, Step, plays, step, card_line, armed_stop_in, last_state, StandsForState, moves_of, steady_at, steady_worn, tape_worn}
+use Rattle.mc_model_play.specs.Play.{Armed, Live, Running, Unpowered, Muted, Warm, State, BeforePower, AfterPower, FailedWrite, Step, plays, step, card_line, armed_stop_in, last_state, StandsForState, moves_of, steady_at, steady_failures, failures_of_tape}
 use Rattle.mc_model_device.specs.PowerUp.{Base, OnCard, AtFault}
 use Rattle.mc_model_play.proofs.PlayLemmas.{step_is}
 use Rattle.mc_base.specs.Streams.{Grew}
@@ -12,9 +12,9 @@ use Rattle.mc_base.specs.declared.refusals.WriteFault.{WriteFault}
 use Rattle.mc_base.proofs.StreamsLemmas.{grew_append, grew_none, rose_later}
 use Rattle.mc_script.specs.Counting.{count_after_rises, when_poked, CountsCalls, LineCounts, PlayCounts}
 use Rattle.mc_script.specs.Players.{IsUnfused}
-use Rattle.mc_script.specs.Plays.{Bench, PlayedLine, TapeTells, TapeIs, Played, texts, PlayEnds, PlaysFrom}
+use Rattle.mc_script.specs.Plays.{Bench, PlayedLine, TapeReports, TapeIs, Played, texts, PlayEnds, PlaysFrom}
 use Rattle.mc_text.specs.Texts.{Sunk, Writes, Fails}
-use Rattle.mc_script.proofs.HotLemmas.{PokesFirst, pokes_first}
+use Rattle.mc_script.proofs.AfterPowerLemmas.{PokesFirst, pokes_first}
 use Rattle.mc_script.proofs.TapeLemmas.{tape_on}
 
 -- ---- counts
@@ -24,8 +24,8 @@ pub raised_add : (n a b : ℕ) → count_after_rises n (a + b) ≡ count_after_r
 raised_add n zero b = let e : 0 + b ≡ b = omega arith in ap (λ k. count_after_rises n k) e
 raised_add n (suc a) b = let e : suc a + b ≡ suc (a + b) = omega arith in ap (λ k. count_after_rises n k) e ∙ raised_add (next_count n) a b
 
--- the number of times that power had come when the last word was poked, over lines and those after them: if power came, no word was poked
--- after it
+-- the number of times that power had come when the last word was poked, over lines and those after them: if power came,
+-- no word was poked after it
 poked_on : (b c : BenchState) (p q q' : ℕ) → c.powers ≡ count_after_rises b.powers p → c.poked ≡ when_poked b q → (p ≡ 0) ⊎ (q' ≡ 0) → when_poked c q' ≡ when_poked b (q + q')
 poked_on b c p q zero powers poked apart = let e : q ≡ q + 0 = omega arith in poked ∙ ap (λ n. when_poked b n) e
 poked_on b c p q (suc k) powers poked apart =
@@ -68,7 +68,7 @@ counts_none a due =
 -- ---- a line, and the lines after it
 
 -- a play begins with its first line
-pub plays_on : (s : State) (l : ℕ × DeckLine) (w : Option WornAt) (ls : List (ℕ × DeckLine)) (ws : List (Option WornAt)) → plays s (l ∷ ls) (w ∷ ws) ≡ step s l w ∷ plays (step s l w).after ls ws
+pub plays_on : (s : State) (l : ℕ × DeckLine) (w : Option FailedWrite) (ls : List (ℕ × DeckLine)) (ws : List (Option FailedWrite)) → plays s (l ∷ ls) (w ∷ ws) ≡ step s l w ∷ plays (step s l w).after ls ws
 unfolding plays
 plays_on s l w ls ws = refl
 
@@ -78,18 +78,18 @@ unfolding plays
 plays_none s = refl
 
 -- the failed writes of a steady bench
-steady_on : (s : State) (l : ℕ × DeckLine) (w : Option WornAt) (ls : List (ℕ × DeckLine)) (ws : List (Option WornAt)) → w ≡ steady_at (armed_stop_in s) l.1 (moves_of s l) → ws ≡ steady_worn (step s l w).after ls → w ∷ ws ≡ steady_worn s (l ∷ ls)
-unfolding steady_worn
+steady_on : (s : State) (l : ℕ × DeckLine) (w : Option FailedWrite) (ls : List (ℕ × DeckLine)) (ws : List (Option FailedWrite)) → w ≡ steady_at (armed_stop_in s) l.1 (moves_of s l) → ws ≡ steady_failures (step s l w).after ls → w ∷ ws ≡ steady_failures s (l ∷ ls)
+unfolding steady_failures
 steady_on s l w ls ws first rest = rw (← first, rest) refl
 
 -- the counts of a play that begins with a line
-counts_from : (s : State) (l : ℕ × DeckLine) (w : Option WornAt) (ts : List Step) (a b c : Bench) → LineCounts a.bench a.device (step s l w) b.bench b.device → PlayCounts b.bench b.device (armed_stop_in (step s l w).after) ts c.bench c.device
+counts_from : (s : State) (l : ℕ × DeckLine) (w : Option FailedWrite) (ts : List Step) (a b c : Bench) → LineCounts a.bench a.device (step s l w) b.bench b.device → PlayCounts b.bench b.device (armed_stop_in (step s l w).after) ts c.bench c.device
     → PokesFirst (step s l w) ts → PlayCounts a.bench a.device (armed_stop_in s) (step s l w ∷ ts) c.bench c.device
 counts_from s l w ts a b c one rest first =
     subst (λ (u : State). PlayCounts a.bench a.device (armed_stop_in u) (step s l w ∷ ts) c.bench c.device) (step_is s l w).before (play_counts_on a b c (step s l w) ts one rest first)
 
 -- a play of a line and of the lines after it
-pub played_on : (s : State) (l : ℕ × DeckLine) (w : Option WornAt) (ls : List (ℕ × DeckLine)) (ws : List (Option WornAt)) (a b c : Bench) → PlayedLine s l w (step s l w) a b → Played (step s l w).after ls ws b c → Played s (l ∷ ls) (w ∷ ws) a c
+pub played_on : (s : State) (l : ℕ × DeckLine) (w : Option FailedWrite) (ls : List (ℕ × DeckLine)) (ws : List (Option FailedWrite)) (a b c : Bench) → PlayedLine s l w (step s l w) a b → Played (step s l w).after ls ws b c → Played s (l ∷ ls) (w ∷ ws) a c
 played_on s l w ls ws a b c did rest =
     let e = plays_on s l w ls ws in
     record {
@@ -102,18 +102,18 @@ played_on s l w ls ws a b c did rest =
     }
 
 -- the failed writes of no line
-steady_none : (s : State) → [] ≡ steady_worn s []
-unfolding steady_worn
+steady_none : (s : State) → [] ≡ steady_failures s []
+unfolding steady_failures
 steady_none s = refl
 
-tells_none : (m : List (List ℕ)) (s : State) → TapeTells m s [] [] []
-unfolding tape_worn
-tells_none m s = record { worn = refl; accounts = refl }
+reports_none : (m : List (List ℕ)) (s : State) → TapeReports m s [] [] []
+unfolding failures_of_tape
+reports_none m s = record { worn = refl; accounts = refl }
 
 -- the tape of no line
 tape_none : (m : List (List ℕ)) (s : State) (a : Option (List Entry)) → TapeIs m s [] [] a a
 tape_none m s None = tt
-tape_none m s (Some t) = ([], sym (append-nil t), tells_none m s)
+tape_none m s (Some t) = ([], sym (append-nil t), reports_none m s)
 
 -- a play of no line
 pub played_none : (s : State) (a : Bench) → StandsForState a.device.words s → IsUnfused a.bench → Played s [] [] a a
@@ -144,7 +144,7 @@ ends_on f x y z rest t ts (Err e) first h =
       written =
           subst (λ (bs : List ℕ). Grew x.taken z.taken bs) (sym (append_assoc (f t) (texts f h.before) h.front))
           (grew_append x.taken y.taken z.taken (f t) (texts f h.before ++ h.front) first.whole h.written);
-      cause = rose_later x.faults y.faults z.faults first.counted h.cause;
+      cause = rose_later x.faults y.faults z.faults (omega (arith, first.counted)) h.cause;
     }
 
 -- the text of a line that was not wholly written
@@ -165,7 +165,7 @@ ends_cut f x y rest t e h =
 -- ---- plays
 
 -- a line that was played and written, and the play of the lines after it
-pub from_on : (f : Step → List ℕ) (s : State) (l : ℕ × DeckLine) (w : Option WornAt) (ls : List (ℕ × DeckLine)) (a b c : Bench) (x y z : Sunk) (r : Result (Unit {0}) WriteFault) → PlayedLine s l w (step s l w) a b → Writes x (f (step s l w)) y → PlaysFrom f (step s l w).after ls b y r c z → PlaysFrom f s (l ∷ ls) a x r c z
+pub from_on : (f : Step → List ℕ) (s : State) (l : ℕ × DeckLine) (w : Option FailedWrite) (ls : List (ℕ × DeckLine)) (a b c : Bench) (x y z : Sunk) (r : Result (Unit {0}) WriteFault) → PlayedLine s l w (step s l w) a b → Writes x (f (step s l w)) y → PlaysFrom f (step s l w).after ls b y r c z → PlaysFrom f s (l ∷ ls) a x r c z
 from_on f s l w ls a b c x y z r did wrote h =
     record {
       lines = l ∷ h.lines;
@@ -177,7 +177,7 @@ from_on f s l w ls a b c x y z r did wrote h =
     }
 
 -- a line that was played, and whose text was not wholly written
-pub from_cut : (f : Step → List ℕ) (s : State) (l : ℕ × DeckLine) (w : Option WornAt) (ls : List (ℕ × DeckLine)) (a b : Bench) (x y : Sunk) (e : WriteFault) → PlayedLine s l w (step s l w) a b → StandsForState b.device.words (step s l w).after → IsUnfused b.bench → Fails x (f (step s l w)) y → PlaysFrom f s (l ∷ ls) a x (Err e) b y
+pub from_cut : (f : Step → List ℕ) (s : State) (l : ℕ × DeckLine) (w : Option FailedWrite) (ls : List (ℕ × DeckLine)) (a b : Bench) (x y : Sunk) (e : WriteFault) → PlayedLine s l w (step s l w) a b → StandsForState b.device.words (step s l w).after → IsUnfused b.bench → Fails x (f (step s l w)) y → PlaysFrom f s (l ∷ ls) a x (Err e) b y
 from_cut f s l w ls a b x y e did stands unfused failed =
     let steps = plays_on s l w [] [] ∙ ap (λ (ts : List Step). step s l w ∷ ts) (plays_none (step s l w).after) in
     record {

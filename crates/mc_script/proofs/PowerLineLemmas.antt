@@ -13,16 +13,16 @@ use Rattle.mc_model_device.specs.Stopped.{image_after_stop, stands, owes, remain
 use Rattle.mc_model_device.specs.Card.{Card as CardValue, means}
 use Rattle.mc_model_device.specs.Layout.{fault}
 use Rattle.mc_model_card.specs.Items.{StopAt}
-use Rattle.mc_model_card.specs.Manager.{empty_seat}
+use Rattle.mc_model_card.specs.Manager.{empty_session_state}
 use Rattle.mc_model_play.specs.Given.{budget_in}
 use Rattle.mc_model_play.specs.TraceText.{shown_turns}
 use Rattle.mc_model_play.specs.Play as play
-use Rattle.mc_model_play.specs.Play.{Unarmed, Live, Running, Warm, State, Cold, Hot, Ready, WornAt, Step, step, play_at_power, power_moves, power_result, power_live, power_after, power_says, power_step, stopped_power, live_after, result_of_stop, hit_of, worn_entry, moves_of, armed_stop_in, StandsForState, state_after_stop}
+use Rattle.mc_model_play.specs.Play.{Unarmed, Live, Running, Warm, State, BeforePower, AfterPower, Ready, FailedWrite, Step, step, play_at_power, power_moves, power_result, power_live, power_after, power_says, power_step, stopped_power, live_after, result_of_stop, hit_of, failure_entry, moves_of, armed_stop_in, StandsForState, state_after_stop}
 use Rattle.mc_model_device.specs.PowerUp.{Base, OnCard, AtFault, pending_journal, base_of, base_after_migration, migration}
 use Rattle.mc_store.specs.Power.{base_of_words, power_writes, power_count, HoldsBase, IsPowered, IsUnusable, IsHalted}
 use Rattle.mc_store.proofs.PowerLemmas.{count_writes, power_halted}
 use Rattle.mc_card.specs.declared.card.Card.{Card}
-use Rattle.mc_card.specs.Parts.{device_in, card_in, seat_in, IsReadyCard}
+use Rattle.mc_card.specs.Parts.{device_in, card_in, session_state_in, IsReadyCard}
 use Rattle.mc_blocks.specs.declared.image.Unusable.{Unusable}
 use Rattle.mc_script.specs.declared.answer.Answer.{Answer}
 use Rattle.mc_script.specs.declared.answer.Answer.TheVariants as answer
@@ -34,7 +34,7 @@ use Rattle.mc_script.specs.Players.{answer_value, armed_value, cut_place, device
 use Rattle.mc_script.specs.Arming.{power_after_stop, answer_after_stop}
 use Rattle.mc_script.specs.Lines.{Stepped, SilentLine}
 use Rattle.mc_script.specs.Runs.{StoppedAtWrite}
-use Rattle.mc_script.proofs.AccountLemmas.{base_card, stands_hot, StopsStand}
+use Rattle.mc_script.proofs.AccountLemmas.{base_card, stands_after_power, StopsStand}
 use Rattle.mc_script.proofs.HitLemmas.{HitBy}
 use Rattle.mc_script.proofs.TriedLemmas.{Handed, Freed, Worth, Went, went, went_stepped, Hit, hit, hit_stepped}
 
@@ -42,27 +42,27 @@ use Rattle.mc_script.proofs.TriedLemmas.{Handed, Freed, Worth, Went, went, went_
 
 -- the play that a power line finds
 pub warm_of : State → Warm
-warm_of (Cold m b a) = play_at_power m b a
-warm_of (Hot w) = w
+warm_of (BeforePower m b a) = play_at_power m b a
+warm_of (AfterPower w) = w
 
-power_is : (s : State) (n : ℕ) (x : Option WornAt) → step s (n, line.Power) x ≡ power_step n s (warm_of s) (hit_of (armed_stop_in s) (power_moves (warm_of s)) x)
+power_is : (s : State) (n : ℕ) (x : Option FailedWrite) → step s (n, line.Power) x ≡ power_step n s (warm_of s) (hit_of (armed_stop_in s) (power_moves (warm_of s)) x)
 unfolding step warm_of
-power_is (Cold m b a) n x = refl
-power_is (Hot w) n x = refl
+power_is (BeforePower m b a) n x = refl
+power_is (AfterPower w) n x = refl
 
 moves_power : (s : State) (n : ℕ) → moves_of s (n, line.Power) ≡ power_moves (warm_of s)
 unfolding step moves_of warm_of
-moves_power (Cold m b a) n = omega arith
-moves_power (Hot w) n = omega arith
+moves_power (BeforePower m b a) n = omega arith
+moves_power (AfterPower w) n = omega arith
 
 worth : (s : State) → Worth s line.Power 1
-worth (Cold m b a) = record { card = refl; powers = refl; pokes = refl; cuts = refl; fails = refl }
-worth (Hot w) = record { card = refl; powers = refl; pokes = refl; cuts = refl; fails = refl }
+worth (BeforePower m b a) = record { card = refl; powers = refl; pokes = refl; cuts = refl; fails = refl }
+worth (AfterPower w) = record { card = refl; powers = refl; pokes = refl; cuts = refl; fails = refl }
 
 warm_budget : (s : State) → (warm_of s).budget ≡ budget_in s
 unfolding warm_of play_at_power
-warm_budget (Cold m b a) = refl
-warm_budget (Hot w) = refl
+warm_budget (BeforePower m b a) = refl
+warm_budget (AfterPower w) = refl
 
 -- if recovery still has to make writes, they are those of the pending journal alone
 only_owing : (m : List (List ℕ)) (i : Which) → debt (look_at m i) ≢ 0 → i ≡ Only (pending_journal i)
@@ -121,7 +121,7 @@ power_stands m s n image r k x low high size =
     let many : length (power_writes m) ≡ power_count m = count_writes m image.low image.high in
     let halted : IsHalted m k x (image_after_stop m (power_writes m) k x) = power_halted m image.low image.high k x low (omega (arith, high, many)) in
     let b = halted_base m w t (image_after_stop m (power_writes m) k x) r low halted in
-    let here : StandsForState (image_after_stop m (power_writes m) k x) (Hot (power_after w (Some t))) = stands_hot (image_after_stop m (power_writes m) k x) (power_after w (Some t)) b in
+    let here : StandsForState (image_after_stop m (power_writes m) k x) (AfterPower (power_after w (Some t))) = stands_after_power (image_after_stop m (power_writes m) k x) (power_after w (Some t)) b in
     let zero_on : 0 + k ≡ k = omega arith in
     subst (λ (i : ℕ). StandsForState (image_after_stop m (power_writes m) k x) (state_after_stop s (n, line.Power) i x)) (sym zero_on)
     (subst (λ (u : Step). StandsForState (image_after_stop m (power_writes m) k x) u.after) (sym (power_is s n (Some (record { at = k; left = x })))) here)
@@ -133,11 +133,11 @@ module _ {N : Type 0} (state : N → DeviceState) (bench : N → BenchState) (wr
   -- the words of a player are those of the play that a power line finds
   base_at : (p : Player N) (s : State) → IsPlayerAt state bench p s → let w = warm_of s in HoldsBase w.base w.owed w.by (state (device_of p)).words
   unfolding warm_of
-  base_at p (Cold m b a) at = warmed_base m b a (state (device_of p)).words at.stands.1
-  base_at p (Hot w) at = at.stands.1
+  base_at p (BeforePower m b a) at = warmed_base m b a (state (device_of p)).words at.stands.1
+  base_at p (AfterPower w) at = at.stands.1
 
   -- the step of a power line is silent
-  silently : (p q : Player N) (s : State) (n : ℕ) (x : Option WornAt) (t : Option StopAt) (r : Option Answer) → hit_of (armed_stop_in s) (power_moves (warm_of s)) x ≡ t
+  silently : (p q : Player N) (s : State) (n : ℕ) (x : Option FailedWrite) (t : Option StopAt) (r : Option Answer) → hit_of (armed_stop_in s) (power_moves (warm_of s)) x ≡ t
       → Stepped state bench p s (n, line.Power) x (power_step n s (warm_of s) t) r q → shown_turns [] t ≡ [] → SilentLine state bench p s (n, line.Power) x r q
   silently p q s n x t r hits stepped none =
       let is : step s (n, line.Power) x ≡ power_step n s (warm_of s) t = power_is s n x ∙ ap (λ (y : Option StopAt). power_step n s (warm_of s) y) hits in
@@ -151,8 +151,8 @@ module _ {N : Type 0} (state : N → DeviceState) (bench : N → BenchState) (wr
   no_stop : (p q : Player N) (s : State) (n : ℕ) (u e : N) (r : Answer) → IsPlayerAt state bench p s → IsImage (state (device_of p)).words
       → Handed (state (device_of p)) (bench (device_of p)) 1 p.armed (state u) (bench u) → Makes wrote u (power_writes (state u).words) (Ok tt) e
       → Freed (state e) (bench e) (state (device_of q)) (bench (device_of q)) → q.budget ≡ p.budget → q.armed ≡ armed.Not
-      → (let w = warm_of s in StateIs state q.power q.card (Hot (power_after w None))) → answer_value state q r ≡ power_result (power_moves (warm_of s)) (warm_of s).base
-      → (x : Option WornAt) × SilentLine state bench p s (n, line.Power) x (Some r) q
+      → (let w = warm_of s in StateIs state q.power q.card (AfterPower (power_after w None))) → answer_value state q r ≡ power_result (power_moves (warm_of s)) (warm_of s).base
+      → (x : Option FailedWrite) × SilentLine state bench p s (n, line.Power) x (Some r) q
   no_stop p q s n u e r at image handed made freed budget free stands answers =
       let w = warm_of s in
       let d = device_of p in
@@ -163,7 +163,7 @@ module _ {N : Type 0} (state : N → DeviceState) (bench : N → BenchState) (wr
       let many : length (power_writes m) ≡ power_moves w = count_writes m image.low image.high ∙ count_is m w base in
       let misses : hit_of (armed_stop_in s) (power_moves w) None ≡ None =
       subst (λ (i : ℕ). hit_of (armed_stop_in s) i None ≡ None) many (subst (λ (y : play.Armed). hit_of y (length (power_writes m)) None ≡ None) at.armed did.missed.hit) in
-      let then : IsPlayerAt state bench q (Hot (power_after w None)) = record {
+      let then : IsPlayerAt state bench q (AfterPower (power_after w None)) = record {
         stands = stands;
         budget = budget ∙ at.budget ∙ sym (warm_budget s);
         armed = ap armed_value free;
@@ -177,7 +177,7 @@ module _ {N : Type 0} (state : N → DeviceState) (bench : N → BenchState) (wr
       (None, silently p q s n None None (Some r) misses stepped refl)
 
   -- the found card, migrated, is the card that runs
-  card_on : (m e : List (List ℕ)) (w : Warm) → base_of_words m ≡ w.base → fault m ≡ None → base_of_words e ≡ base_after_migration (base_of_words m) → (base_after_migration w.base ≡ OnCard (means e)) × (power_live w.base ≡ Running empty_seat) × ((n : ℕ) → Ready n ≡ power_result n w.base)
+  card_on : (m e : List (List ℕ)) (w : Warm) → base_of_words m ≡ w.base → fault m ≡ None → base_of_words e ≡ base_after_migration (base_of_words m) → (base_after_migration w.base ≡ OnCard (means e)) × (power_live w.base ≡ Running empty_session_state) × ((n : ℕ) → Ready n ≡ power_result n w.base)
   card_on m e w is sound then =
       let card : base_of_words m ≡ OnCard (means m) = ap (λ (f : Option (Cause × ℕ)). base_of f m) sound in
       let base : w.base ≡ OnCard (means m) = sym is ∙ card in
@@ -191,9 +191,9 @@ module _ {N : Type 0} (state : N → DeviceState) (bench : N → BenchState) (wr
   -- a card runs after it
   pub runs_done : (p : Player N) (s : State) (n : ℕ) (u e : N) (c : Card N) (number count : ℕ) → IsPlayerAt state bench p s → IsImage (state (device_of p)).words
       → Handed (state (device_of p)) (bench (device_of p)) 1 p.armed (state u) (bench u) → Makes wrote u (power_writes (state u).words) (Ok tt) e → IsPowered (state u) number count (state e)
-      → Freed (state e) (bench e) (state (device_in c)) (bench (device_in c)) → IsReadyCard state c → seat_in state c ≡ empty_seat
-      → (x : Option WornAt) × SilentLine state bench p s (n, line.Power) x (Some (answer.Ready number)) (record p { card = c; power = power.On; armed = armed.Not })
-  runs_done p s n u e c number count at image handed made powered freed ready seat =
+      → Freed (state e) (bench e) (state (device_in c)) (bench (device_in c)) → IsReadyCard state c → session_state_in state c ≡ empty_session_state
+      → (x : Option FailedWrite) × SilentLine state bench p s (n, line.Power) x (Some (answer.Ready number)) (record p { card = c; power = power.On; armed = armed.Not })
+  runs_done p s n u e c number count at image handed made powered freed ready session_state =
       let w = warm_of s in
       let m = (state (device_of p)).words in
       let q : Player N = record p { card = c; power = power.On; armed = armed.Not } in
@@ -208,7 +208,7 @@ module _ {N : Type 0} (state : N → DeviceState) (bench : N → BenchState) (wr
         owed = ap count_of_recovery_writes after ∙ left.owed;
         by = λ some. absurd (some refl);
       } in
-      let live : power_live w.base ≡ Running (seat_in state c) = on.1 ∙ ap Running (sym seat) in
+      let live : power_live w.base ≡ Running (session_state_in state c) = on.1 ∙ ap Running (sym session_state) in
       let card : base_after_migration w.base ≡ OnCard (card_in state c) = on.0 ∙ ap (λ (x : List (List ℕ)). OnCard (means x)) (sym after) in
       let many : number ≡ power_moves w = powered.number ∙ ap power_count same ∙ count_is m w base in
       no_stop p q s n u e (answer.Ready number) at image handed made freed refl refl (record { ready = ready; base = card; live = live }, is) (ap Ready many ∙ on.2 (power_moves w))
@@ -217,7 +217,7 @@ module _ {N : Type 0} (state : N → DeviceState) (bench : N → BenchState) (wr
   pub unusable_done : (p : Player N) (s : State) (n : ℕ) (u e : N) (c : Card N) (r : Unusable) → IsPlayerAt state bench p s → IsImage (state (device_of p)).words
       → Handed (state (device_of p)) (bench (device_of p)) 1 p.armed (state u) (bench u) → Makes wrote u (power_writes (state u).words) (Ok tt) e → IsUnusable (state u) r.cause r.place (state e)
       → Freed (state e) (bench e) (state (device_in c)) (bench (device_in c))
-      → (x : Option WornAt) × SilentLine state bench p s (n, line.Power) x (Some (answer.Unusable r)) (record p { card = c; power = power.Off; armed = armed.Not })
+      → (x : Option FailedWrite) × SilentLine state bench p s (n, line.Power) x (Some (answer.Unusable r)) (record p { card = c; power = power.Off; armed = armed.Not })
   unusable_done p s n u e c r at image handed made unusable freed =
       let w = warm_of s in
       let m = (state (device_of p)).words in
@@ -247,7 +247,7 @@ module _ {N : Type 0} (state : N → DeviceState) (bench : N → BenchState) (wr
 
   pub stop_done : (p : Player N) (s : State) (n : ℕ) (u e : N) (c : Card N) (k : ℕ) (how : Stop) → IsPlayerAt state bench p s → IsImage (state (device_of p)).words
       → Handed (state (device_of p)) (bench (device_of p)) 1 p.armed (state u) (bench u) → StoppedAtWrite wrote u (power_writes (state u).words) k how e → Freed (state e) (bench e) (state (device_in c)) (bench (device_in c))
-      → (x : Option WornAt) × SilentLine state bench p s (n, line.Power) x (Some (answer_after_stop how p.armed)) (record p { card = c; power = power_after_stop how; armed = armed.Not })
+      → (x : Option FailedWrite) × SilentLine state bench p s (n, line.Power) x (Some (answer_after_stop how p.armed)) (record p { card = c; power = power_after_stop how; armed = armed.Not })
   stop_done p s n u e c k how at image handed stop freed =
       let w = warm_of s in
       let d = device_of p in
@@ -262,15 +262,15 @@ module _ {N : Type 0} (state : N → DeviceState) (bench : N → BenchState) (wr
       let base : HoldsBase w.base w.owed w.by m = base_at p s at in
       let many : length (power_writes m) ≡ power_moves w = count_writes m image.low image.high ∙ count_is m w base in
       let high : k ≤ power_moves w = let h = did.high in omega (arith, h, many) in
-      let by : HitBy (armed_stop_in s) (power_moves w) (bench d).steady how k x (worn_entry k x (Some how)) =
-      subst (λ (y : play.Armed). HitBy y (power_moves w) (bench d).steady how k x (worn_entry k x (Some how))) at.armed (did.by (power_moves w) high) in
+      let by : HitBy (armed_stop_in s) (power_moves w) (bench d).steady how k x (failure_entry k x (Some how)) =
+      subst (λ (y : play.Armed). HitBy y (power_moves w) (bench d).steady how k x (failure_entry k x (Some how))) at.armed (did.by (power_moves w) high) in
       let v : Warm = power_after w (Some t) in
       let then : AfterStop w t v = after_stop w t (nat_le k w.owed) in
       let count : length (power_writes m) ≡ power_count m = count_writes m image.low image.high in
       let halted : IsHalted m k x (image_after_stop m (power_writes m) k x) = power_halted m image.low image.high k x did.low (let h = did.high in omega (arith, h, count)) in
       let torn_base : HoldsBase v.base v.owed v.by (image_after_stop m (power_writes m) k x) = halted_base m w t (image_after_stop m (power_writes m) k x) base did.low halted in
       let is : HoldsBase v.base v.owed v.by (state f).words = subst (λ (y : List (List ℕ)). HoldsBase v.base v.owed v.by y) (sym did.words) torn_base in
-      let at_end : IsPlayerAt state bench q (Hot v) = record {
+      let at_end : IsPlayerAt state bench q (AfterPower v) = record {
         stands = (live_stopped how c v.base v.live then.live, is);
         budget = at.budget ∙ sym (warm_budget s) ∙ sym then.budget;
         armed = sym then.armed;
@@ -281,4 +281,4 @@ module _ {N : Type 0} (state : N → DeviceState) (bench : N → BenchState) (wr
       } in
       let stepped = hit_stepped state bench wrote obeys burns fits p q s n 1 line.Power (power_says w (Some t)) [] [] [] [] v (answer_after_stop how p.armed) (power_writes m) (power_moves w) k how x at (worth s) then.armed did
       (omega (arith, many)) (moves_power s n) at_end (answer_stopped how p q t refl did.place) (power_stands m s n image base) in
-      (worn_entry k x (Some how), silently p q s n (worn_entry k x (Some how)) (Some t) (Some (answer_after_stop how p.armed)) by.hit stepped refl)
+      (failure_entry k x (Some how), silently p q s n (failure_entry k x (Some how)) (Some t) (Some (answer_after_stop how p.armed)) by.hit stepped refl)

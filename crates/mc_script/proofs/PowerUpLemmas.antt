@@ -2,14 +2,14 @@
 use Rattle.std.proofs.Common.{◌≡◌, ℕ, ◌<◌, true, List, length, Some, None, Result, Ok, Err, IfOk, sym, ◌∙◌, ap, subst}
 use Rattle.mc_model_device.specs.Orders.{Answer as Ended}
 use Rattle.mc_model_device.specs.Device.{DeviceState, BenchState, Wrote, BenchWrote, IsImage, Makes, next_count}
-use Rattle.mc_model_card.specs.Manager.{empty_seat}
+use Rattle.mc_model_card.specs.Manager.{empty_session_state}
 use Rattle.mc_model_play.specs.DeckGrammar as line
 use Rattle.mc_store.specs.Power.{power_writes, power_answer, failure_end, IsPowered, PowersUp}
 use Rattle.mc_store.specs.declared.power.Up.{Up}
 use Rattle.mc_store.specs.declared.power.Up.TheVariants as up
 use Rattle.mc_card.specs.declared.card.Card.{Card}
 use Rattle.mc_card.specs.Ends.{restart_end}
-use Rattle.mc_card.specs.Parts.{device_in, seat_in, with_device, IsReadyCard}
+use Rattle.mc_card.specs.Parts.{device_in, session_state_in, with_device, IsReadyCard}
 use Rattle.mc_script.specs.declared.answer.Answer.{Answer}
 use Rattle.mc_script.specs.declared.answer.Answer.TheVariants as answer
 use Rattle.mc_script.specs.declared.player.Power.{Power}
@@ -21,7 +21,7 @@ use Rattle.mc_script.specs.Players.{device_of}
 use Rattle.mc_script.specs.Arming.{armed_bench, power_after_failure, answer_after_failure}
 use Rattle.mc_script.specs.Lines.{SilentDone}
 use Rattle.mc_script.proofs.BenchLemmas.{makes_stop}
-use Rattle.mc_script.proofs.CardLemmas.{seat_over, ready_over}
+use Rattle.mc_script.proofs.CardLemmas.{session_state_over, ready_over}
 use Rattle.mc_script.proofs.TriedLemmas.{Handed}
 use Rattle.mc_script.proofs.PowerLineLemmas.{runs_done, unusable_done, stop_done}
 
@@ -44,12 +44,12 @@ module _ {N : Type 0} (state : N → DeviceState) (bench : N → BenchState) (wr
     (fits : (d : N) (at : ℕ) (w : List ℕ) (a : Ended) (e : N) → wrote d at w a e → (at < length (state d).words) × (length w ≡ 8)) where
   -- a card runs
   pub ready_power : (p : Player N) (u : N) (c e : Card N) (writes count : ℕ) → IsImage (state (device_of p)).words → Handed (state (device_of p)) (bench (device_of p)) 1 p.armed (state u) (bench u)
-      → Makes wrote u (power_writes (state u).words) (Ok tt) (device_in c) → IsPowered (state u) writes count (state (device_in c)) → IsReadyCard state c → seat_in state c ≡ empty_seat
+      → Makes wrote u (power_writes (state u).words) (Ok tt) (device_in c) → IsPowered (state u) writes count (state (device_in c)) → IsReadyCard state c → session_state_in state c ≡ empty_session_state
       → state (device_in e) ≡ state (device_in c) → bench (device_in e) ≡ record (bench (device_in c)) { cut = None; worn = None } → e ≡ with_device c (device_in e)
       → SilentDone state bench p line.Power (Some (answer.Ready writes)) (record p { card = e; power = power.On; armed = armed.Not })
-  ready_power p u c e writes count image handed made powered ready seat same free rest s n at =
+  ready_power p u c e writes count image handed made powered ready session_state same free rest s n at =
       runs_done state bench wrote obeys burns fits p s n u (device_in c) e writes count at image handed made powered (record { state = same; bench = free })
-      (ready_over state c e rest same ready) (seat_over state c e rest same ∙ seat)
+      (ready_over state c e rest same ready) (session_state_over state c e rest same ∙ session_state)
 
   -- no card runs
   pub no_power : (p : Player N) (u : N) (c e : Card N) (r : Up) → IsImage (state (device_of p)).words → Handed (state (device_of p)) (bench (device_of p)) 1 p.armed (state u) (bench u)
@@ -64,14 +64,14 @@ module _ {N : Type 0} (state : N → DeviceState) (bench : N → BenchState) (wr
 
   -- a power line whose card runs, by the result of the card's restart
   pub restart_ready : (p : Player N) (u : N) (c e : Card N) (r : Result ℕ Up) (writes : ℕ) → r ≡ Ok writes → IsImage (state (device_of p)).words → Handed (state (device_of p)) (bench (device_of p)) 1 p.armed (state u) (bench u)
-      → Makes wrote u (power_writes (state u).words) (power_answer (restart_end c r)) (device_in c) → PowersUp (state u) (restart_end c r) (state (device_in c)) → IfOk r (λ n. IsReadyCard state c) → IfOk r (λ n. seat_in state c ≡ empty_seat)
+      → Makes wrote u (power_writes (state u).words) (power_answer (restart_end c r)) (device_in c) → PowersUp (state u) (restart_end c r) (state (device_in c)) → IfOk r (λ n. IsReadyCard state c) → IfOk r (λ n. session_state_in state c ≡ empty_session_state)
       → state (device_in e) ≡ state (device_in c) → bench (device_in e) ≡ record (bench (device_in c)) { cut = None; worn = None } → e ≡ with_device c (device_in e)
       → SilentDone state bench p line.Power (Some (answer.Ready writes)) (record p { card = e; power = power.On; armed = armed.Not })
-  restart_ready p u c e (Err r) writes is image handed made ends ready seat same free rest = absurd (cc is)
-  restart_ready p u c e (Ok n) writes is image handed made ends ready seat kept free rest =
+  restart_ready p u c e (Err r) writes is image handed made ends ready session_state same free rest = absurd (cc is)
+  restart_ready p u c e (Ok n) writes is image handed made ends ready session_state kept free rest =
       let same : n ≡ writes = cc is in
       subst (λ (i : ℕ). SilentDone state bench p line.Power (Some (answer.Ready i)) (record p { card = e; power = power.On; armed = armed.Not })) same
-      (ready_power p u c e n _ image handed made ends ready seat kept free rest)
+      (ready_power p u c e n _ image handed made ends ready session_state kept free rest)
 
   pub restart_failed : (p : Player N) (u : N) (c e : Card N) (r : Result ℕ Up) (f : Up) (pw : Power) (ans : Answer) → r ≡ Err f → IsImage (state (device_of p)).words → Handed (state (device_of p)) (bench (device_of p)) 1 p.armed (state u) (bench u)
       → Makes wrote u (power_writes (state u).words) (power_answer (restart_end c r)) (device_in c) → PowersUp (state u) (restart_end c r) (state (device_in c))

@@ -14,12 +14,12 @@ use Rattle.mc_machine.specs.declared.outcome.Outcome.{Outcome}
 use Rattle.mc_machine.specs.declared.outcome.Turn.{Turn as CodeTurn}
 use Rattle.mc_machine.specs.Turns.{outcome_value, turn_value}
 use Rattle.mc_card.specs.declared.card.Card.{Card as CardOf}
-use Rattle.mc_card.specs.Parts.{device_in, card_in, seat_in, with_session, IsReadyCard, RunsChain}
+use Rattle.mc_card.specs.Parts.{device_in, card_in, session_state_in, with_session, IsReadyCard, RunsChain}
 use Rattle.mc_card.specs.Ends.{TurnGoesOn, ChainTurned}
 use Rattle.mc_card.proofs.MadeLemmas.{card_found, MadeBy, by_made, made_before, made_on}
-use Rattle.mc_script.specs.Runs.{TellsTurns}
+use Rattle.mc_script.specs.Runs.{ReportsTurns}
 use Rattle.mc_script.proofs.StopLemmas.{stopped_in, at_number, number_done}
-use Rattle.mc_script.proofs.TurnLemmas.{turn_moves, is_told, acted_counts, before_first, before_later}
+use Rattle.mc_script.proofs.TurnLemmas.{turn_moves, is_reported, acted_counts, before_first, before_later}
 
 -- ---- a run by its first turn
 
@@ -81,36 +81,36 @@ module _ {N : Type 0} (state : N → DeviceState) (wrote : N → ℕ → List �
     (obeys : (d : N) (at : ℕ) (w : List ℕ) (a : Answer) (e : N) → (state d).on ≡ true → wrote d at w a e → Wrote (state d) at w a (state e)) where
   -- ---- runs
 
-  module _ {R : Type 0} (told : R → List Turn → R → Type 0) (silent : (r : R) → told r [] r)
-      (onward : (q r s : R) (ts us : List Turn) → told q ts r → told r us s → told q (ts ++ us) s) where
+  module _ {R : Type 0} (reported : R → List Turn → R → Type 0) (silent : (r : R) → reported r [] r)
+      (onward : (q r s : R) (ts us : List Turn) → reported q ts r → reported r us s → reported q (ts ++ us) s) where
     -- a run on a card, and its recorded turns
     pub record RunOf (run : Ran) (c : CardOf N) (result : Result Outcome Stop) (d : CardOf N) (q r : R) : Type 0 where
       pub writes : List (ℕ × List ℕ)
       pub made : MadeBy state wrote obeys (card_in state c) (write_items run.writes) (device_in c) (answer_of result) (device_in d) writes
       pub outcome : IfOk result (λ o. outcome_value o ≡ run.outcome)
-      pub seat : OnOk result (seat_in state d ≡ with_session run.session (seat_in state c))
+      pub session_state : OnOk result (session_state_in state d ≡ with_session run.session (session_state_in state c))
       pub ready : OnOk result (IsReadyCard state d)
-      pub tells : TellsTurns state wrote told c writes run.turns result d q r
+      pub reports : ReportsTurns state wrote reported c writes run.turns result d q r
 
     -- the end of a turn of the code, as an end of the definitions
-    end_told : (t : Acted) (turn : CodeTurn) → t.turn ≡ turn_value turn t.turn.wrote → t.turn.end ≡ end_of t.follows → end_of t.follows ≡ option_map outcome_value turn.end
-    end_told t turn is end = sym end ∙ ap (λ (u : Turn). u.end) is
+    end_reported : (t : Acted) (turn : CodeTurn) → t.turn ≡ turn_value turn t.turn.wrote → t.turn.end ≡ end_of t.follows → end_of t.follows ≡ option_map outcome_value turn.end
+    end_reported t turn is end = sym end ∙ ap (λ (u : Turn). u.end) is
 
     -- a turn that ends its chain
     pub run_ends : (c d : CardOf N) (ch : Chain) (n : ℕ) (turn : CodeTurn) (o : Outcome) (q r : R) → ChainTurned state wrote c ch n (turn_of n ch) (Ok turn) d → turn.end ≡ Some o
-        → told q (turn_value turn (turn_of n ch).turn.wrote ∷ []) r → RunOf (run_of_chain n ch) c (Ok o) d q r
-    run_ends c d ch n turn o q r turned end tells =
+        → reported q (turn_value turn (turn_of n ch).turn.wrote ∷ []) r → RunOf (run_of_chain n ch) c (Ok o) d q r
+    run_ends c d ch n turn o q r turned end reports =
         let t = turn_of n ch in
-        let follows : t.follows ≡ Ends (outcome_value o) = end_ends t.follows (outcome_value o) (end_told t turn turned.turn (is_told n ch).end ∙ ap (λ (e : Option Outcome). option_map outcome_value e) end) in
+        let follows : t.follows ≡ Ends (outcome_value o) = end_ends t.follows (outcome_value o) (end_reported t turn turned.turn (is_reported n ch).end ∙ ap (λ (e : Option Outcome). option_map outcome_value e) end) in
         let ended : TurnGoesOn state wrote c ch (n - t.count) (Ends (outcome_value o)) d = subst (λ (f : Follows). TurnGoesOn state wrote c ch (n - t.count) f d) follows turned.follows in
         subst (λ (run : Ran). RunOf run c (Ok o) d q r) (sym (ran_ends n ch (outcome_value o) follows))
         (record {
           writes = turned.made.writes;
           made = by_made state wrote obeys (card_in state c) (write_items t.writes) (device_in c) (device_in d) (Ok tt) turned.made;
           outcome = refl;
-          seat = ended.1;
+          session_state = ended.1;
           ready = ended.0;
-          tells = subst (λ (u : Turn). told q (u ∷ []) r) (sym turned.turn) tells;
+          reports = subst (λ (u : Turn). reported q (u ∷ []) r) (sym turned.turn) reports;
         })
 
     -- a turn whose write stopped
@@ -122,7 +122,7 @@ module _ {N : Type 0} (state : N → DeviceState) (wrote : N → ℕ → List �
         let ws = turned.made.writes in
         let at = stopped_in wrote ws (device_in c) (device_in d) s made.makes in
         let few : length ws ≤ moves (write_items t.writes) = made.number in
-        let here : suc at.0 ≤ turn_moves t.turn.wrote = let told = (is_told n ch).moves in let low = at.1.low in omega (arith, few, told, low) in
+        let here : suc at.0 ≤ turn_moves t.turn.wrote = let reported = (is_reported n ch).moves in let low = at.1.low in omega (arith, few, reported, low) in
         let none : before_stop (run_of_chain n ch).turns (suc at.0) ≡ [] = ap (λ (ts : List Turn). before_stop ts (suc at.0)) all.all_turns ∙ before_first t.turn all.turns (suc at.0) (omega arith) here in
         record {
           writes = ws;
@@ -131,68 +131,69 @@ module _ {N : Type 0} (state : N → DeviceState) (wrote : N → ℕ → List �
               (sym (ap write_items all.all_writes ∙ items_append t.writes all.writes))
               (made_before state wrote obeys (card_in state c) (write_items t.writes) (write_items all.writes) (device_in c) (device_in d) s ws made);
           outcome = tt;
-          seat = tt;
+          session_state = tt;
           ready = tt;
-          tells = (suc at.0, at_number wrote ws (device_in c) (device_in d) at.0 s at.1, subst (λ (ts : List Turn). told q ts q) (sym none) (silent q));
+          reports = (suc at.0, at_number wrote ws (device_in c) (device_in d) at.0 s at.1, subst (λ (ts : List Turn). reported q ts q) (sym none) (silent q));
         }
 
-    -- a turn that does not end its chain: the next chain runs with one instruction less, and the session state is unchanged
+    -- a turn that does not end its chain: the next chain runs with one instruction less, and the session state is
+    -- unchanged
     pub record Goes (c : CardOf N) (ch : Chain) (n : ℕ) (d : CardOf N) : Type 0 where
       pub left : ℕ
       pub is : n ≡ suc left
       pub next : Chain
       pub follows : (turn_of_chain ch).follows ≡ Continues next
       pub runs : RunsChain state d next left
-      pub seat : seat_in state d ≡ seat_in state c
+      pub session_state : session_state_in state d ≡ session_state_in state c
 
     pub run_goes : (c d : CardOf N) (ch : Chain) (n : ℕ) (turn : CodeTurn) → ChainTurned state wrote c ch n (turn_of n ch) (Ok turn) d → turn.end ≡ None → Goes c ch n d
     run_goes c d ch zero turn turned end =
-        absurd (cc (end_told (turn_of zero ch) turn turned.turn (is_told zero ch).end ∙ ap (λ (e : Option Outcome). option_map outcome_value e) end))
+        absurd (cc (end_reported (turn_of zero ch) turn turned.turn (is_reported zero ch).end ∙ ap (λ (e : Option Outcome). option_map outcome_value e) end))
     run_goes c d ch (suc n) turn turned end =
         let t = turn_of_chain ch in
-        let next = end_goes t.follows (end_told t turn turned.turn (is_told (suc n) ch).end ∙ ap (λ (e : Option Outcome). option_map outcome_value e) end) in
+        let next = end_goes t.follows (end_reported t turn turned.turn (is_reported (suc n) ch).end ∙ ap (λ (e : Option Outcome). option_map outcome_value e) end) in
         let on : TurnGoesOn state wrote c ch (suc n - t.count) (Continues next.0) d = subst (λ (f : Follows). TurnGoesOn state wrote c ch (suc n - t.count) f d) next.1 turned.follows in
         let left : suc n - t.count ≡ n = let one = acted_counts ch next.0 next.1 in omega (arith, one) in
-        record { left = n; is = refl; next = next.0; follows = next.1; runs = subst (λ (k : ℕ). RunsChain state d next.0 k) left on.0; seat = on.1 }
+        record { left = n; is = refl; next = next.0; follows = next.1; runs = subst (λ (k : ℕ). RunsChain state d next.0 k) left on.0; session_state = on.1 }
 
-    seat_on : (result : Result Outcome Stop) (c m d : CardOf N) (session : List ℕ) → seat_in state m ≡ seat_in state c → OnOk result (seat_in state d ≡ with_session session (seat_in state m)) → OnOk result (seat_in state d ≡ with_session session (seat_in state c))
-    seat_on (Ok o) c m d session same h = h ∙ ap (λ seat. with_session session seat) same
-    seat_on (Err s) c m d session same h = tt
+    session_state_on : (result : Result Outcome Stop) (c m d : CardOf N) (session : List ℕ) → session_state_in state m ≡ session_state_in state c → OnOk result (session_state_in state d ≡ with_session session (session_state_in state m)) → OnOk result (session_state_in state d ≡ with_session session (session_state_in state c))
+    session_state_on (Ok o) c m d session same h = h ∙ ap (λ session_state. with_session session session_state) same
+    session_state_on (Err s) c m d session same h = tt
 
     -- the recorded turns after a turn
-    tells_on : (result : Result Outcome Stop) (c m d : CardOf N) (t : Turn) (ts : List Turn) (ws vs : List (ℕ × List ℕ)) (p q r : R) → Makes wrote (device_in c) ws (Ok tt) (device_in m) → length ws ≡ turn_moves t.wrote
-        → told p (t ∷ []) q → TellsTurns state wrote told m vs ts result d q r → TellsTurns state wrote told c (ws ++ vs) (t ∷ ts) result d p r
-    tells_on (Ok o) c m d t ts ws vs p q r makes size first rest = onward p q r (t ∷ []) ts first rest
-    tells_on (Err s) c m d t ts ws vs p q r makes size first rest =
+    reports_on : (result : Result Outcome Stop) (c m d : CardOf N) (t : Turn) (ts : List Turn) (ws vs : List (ℕ × List ℕ)) (p q r : R) → Makes wrote (device_in c) ws (Ok tt) (device_in m) → length ws ≡ turn_moves t.wrote
+        → reported p (t ∷ []) q → ReportsTurns state wrote reported m vs ts result d q r → ReportsTurns state wrote reported c (ws ++ vs) (t ∷ ts) result d p r
+    reports_on (Ok o) c m d t ts ws vs p q r makes size first rest = onward p q r (t ∷ []) ts first rest
+    reports_on (Err s) c m d t ts ws vs p q r makes size first rest =
         let k = rest.0 in
         let is : before_stop (t ∷ ts) (length ws + k) ≡ t ∷ before_stop ts k = before_later t ts (length ws + k) k rest.1.low (omega (arith, size)) in
-        (length ws + k, number_done wrote ws vs (device_in c) (device_in m) (device_in d) k s makes rest.1, subst (λ (us : List Turn). told p us r) (sym is) (onward p q r (t ∷ []) (before_stop ts k) first rest.2))
+        (length ws + k, number_done wrote ws vs (device_in c) (device_in m) (device_in d) k s makes rest.1, subst (λ (us : List Turn). reported p us r) (sym is) (onward p q r (t ∷ []) (before_stop ts k) first rest.2))
 
     -- a turn, and the run after it
     pub run_on : (c m d : CardOf N) (ch : Chain) (n : ℕ) (turn : CodeTurn) (result : Result Outcome Stop) (p q r : R) (goes : Goes c ch n m) → (state (device_in c)).on ≡ true → ChainTurned state wrote c ch n (turn_of n ch) (Ok turn) m
-        → told p (turn_value turn (turn_of n ch).turn.wrote ∷ []) q → RunOf (run_of_chain goes.left goes.next) m result d q r → RunOf (run_of_chain n ch) c result d p r
-    run_on c m d ch n turn result p q r goes on turned tells rest =
+        → reported p (turn_value turn (turn_of n ch).turn.wrote ∷ []) q → RunOf (run_of_chain goes.left goes.next) m result d q r → RunOf (run_of_chain n ch) c result d p r
+    run_on c m d ch n turn result p q r goes on turned reports rest =
         let one : run_of_chain (suc goes.left) ch ≡ goes_on (turn_of_chain ch) (run_of_chain goes.left goes.next) = ran_goes goes.left ch goes.next goes.follows in
         subst (λ (k : ℕ). RunOf (run_of_chain k ch) c result d p r) (sym goes.is)
         (subst (λ (run : Ran). RunOf run c result d p r) (sym one)
-        (turn_and_run c m d ch goes.left turn result p q r (run_of_chain goes.left goes.next) goes.seat on (subst (λ (k : ℕ). ChainTurned state wrote c ch k (turn_of k ch) (Ok turn) m) goes.is turned) (subst (λ (k : ℕ). told p (turn_value turn (turn_of k ch).turn.wrote ∷ []) q) goes.is tells) rest))
+        (turn_and_run c m d ch goes.left turn result p q r (run_of_chain goes.left goes.next) goes.session_state on (subst (λ (k : ℕ). ChainTurned state wrote c ch k (turn_of k ch) (Ok turn) m) goes.is turned) (subst (λ (k : ℕ). reported p (turn_value turn (turn_of k ch).turn.wrote ∷ []) q) goes.is reports) rest))
       where
-        turn_and_run : (c m d : CardOf N) (ch : Chain) (n : ℕ) (turn : CodeTurn) (result : Result Outcome Stop) (p q r : R) (run : Ran) → seat_in state m ≡ seat_in state c → (state (device_in c)).on ≡ true
-            → ChainTurned state wrote c ch (suc n) (turn_of_chain ch) (Ok turn) m → told p (turn_value turn (turn_of_chain ch).turn.wrote ∷ []) q → RunOf run m result d q r → RunOf (goes_on (turn_of_chain ch) run) c result d p r
-        turn_and_run c m d ch n turn result p q r run seat on turned tells rest =
+        turn_and_run : (c m d : CardOf N) (ch : Chain) (n : ℕ) (turn : CodeTurn) (result : Result Outcome Stop) (p q r : R) (run : Ran) → session_state_in state m ≡ session_state_in state c → (state (device_in c)).on ≡ true
+            → ChainTurned state wrote c ch (suc n) (turn_of_chain ch) (Ok turn) m → reported p (turn_value turn (turn_of_chain ch).turn.wrote ∷ []) q → RunOf run m result d q r → RunOf (goes_on (turn_of_chain ch) run) c result d p r
+        turn_and_run c m d ch n turn result p q r run session_state on turned reports rest =
             let t = turn_of_chain ch in
             let ws = turned.made.writes in
             let first = by_made state wrote obeys (card_in state c) (write_items t.writes) (device_in c) (device_in m) (Ok tt) turned.made in
             let now : card_done (card_in state c) (write_items t.writes) ≡ card_in state m = card_found (card_done (card_in state c) (write_items t.writes)) 0 (state (device_in m)).words first.done in
             let second = subst (λ (k : Card). MadeBy state wrote obeys k (write_items run.writes) (device_in m) (answer_of result) (device_in d) rest.writes) (sym now) rest.made in
-            let size : length ws ≡ turn_moves t.turn.wrote = first.number ∙ (is_told (suc n) ch).moves in
+            let size : length ws ≡ turn_moves t.turn.wrote = first.number ∙ (is_reported (suc n) ch).moves in
             record {
               writes = ws ++ rest.writes;
               made =
                   subst (λ (is : List Item). MadeBy state wrote obeys (card_in state c) is (device_in c) (answer_of result) (device_in d) (ws ++ rest.writes)) (sym (items_append t.writes run.writes))
                   (made_on state wrote obeys (card_in state c) (write_items t.writes) (write_items run.writes) (device_in c) (device_in m) (device_in d) (answer_of result) ws rest.writes on first second);
               outcome = rest.outcome;
-              seat = seat_on result c m d run.session seat rest.seat;
+              session_state = session_state_on result c m d run.session session_state rest.session_state;
               ready = rest.ready;
-              tells = tells_on result c m d t.turn run.turns ws rest.writes p q r first.makes size (subst (λ (u : Turn). told p (u ∷ []) q) (sym turned.turn) tells) rest.tells;
+              reports = reports_on result c m d t.turn run.turns ws rest.writes p q r first.makes size (subst (λ (u : Turn). reported p (u ∷ []) q) (sym turned.turn) reports) rest.reports;
             }

@@ -7,7 +7,7 @@ use Rattle.mc_model_device.specs.Device.{DeviceState, BenchState}
 use Rattle.mc_model_machine.specs.Chain.{Turn}
 use Rattle.mc_model_play.specs.DeckGrammar.{DeckLine}
 use Rattle.mc_model_play.specs.DeckGrammar as line
-use Rattle.mc_model_play.specs.Play.{State, Cold, Hot, WornAt, LineResult, Step, plays, step, first_worn, last_state}
+use Rattle.mc_model_play.specs.Play.{State, BeforePower, AfterPower, FailedWrite, LineResult, Step, plays, step, first_failure, last_state}
 use Rattle.mc_model_play.specs.Transcript.{text_of_result}
 use Rattle.mc_model_play.specs.Generator.{is_dump, results, count, dump_lines, count_line, summary, is_reply, is_abend, is_cut, is_off, is_ready}
 use Rattle.mc_model_play.proofs.PlayLemmas.{step_is}
@@ -80,15 +80,15 @@ dump_by t ts true e =
 dump_by t ts false e = rw e refl
 
 -- a dump line changes nothing, and its result is that of any dump line with this name
-dump_after : (s : State) (n : ℕ) (a : List ℕ) (w : Option WornAt) → (step s (n, line.Dump a) w).after ≡ s
+dump_after : (s : State) (n : ℕ) (a : List ℕ) (w : Option FailedWrite) → (step s (n, line.Dump a) w).after ≡ s
 unfolding step
-dump_after (Cold m b x) n a w = refl
-dump_after (Hot s) n a w = refl
+dump_after (BeforePower m b x) n a w = refl
+dump_after (AfterPower s) n a w = refl
 
-dump_result : (s : State) (n : ℕ) (a : List ℕ) (w : Option WornAt) → (step s (n, line.Dump a) w).result ≡ (step s (0, line.Dump a) None).result
+dump_result : (s : State) (n : ℕ) (a : List ℕ) (w : Option FailedWrite) → (step s (n, line.Dump a) w).result ≡ (step s (0, line.Dump a) None).result
 unfolding step
-dump_result (Cold m b x) n a w = refl
-dump_result (Hot s) n a w = refl
+dump_result (BeforePower m b x) n a w = refl
+dump_result (AfterPower s) n a w = refl
 
 -- a line that is a dump line, and one that is none
 as_dump : (l : DeckLine) → is_dump l ≡ true → (a : List ℕ) × (l ≡ line.Dump a)
@@ -99,32 +99,32 @@ no_dump : (s : State) (l : DeckLine) → is_dump l ≡ false → dump_text s l �
 no_dump s (line.Dump x) e = absurd (cc e)
 no_dump s _ e = refl
 
-after_dump : (s : State) (l : ℕ × DeckLine) (w : Option WornAt) → is_dump l.1 ≡ true → (step s l w).after ≡ s
+after_dump : (s : State) (l : ℕ × DeckLine) (w : Option FailedWrite) → is_dump l.1 ≡ true → (step s l w).after ≡ s
 after_dump s (n, l) w e = let d = as_dump l e in ap (λ (k : DeckLine). (step s (n, k) w).after) d.1 ∙ dump_after s n d.0 w
 
 -- dump lines change nothing
-plays_first : (s : State) (l : ℕ × DeckLine) (ls : List (ℕ × DeckLine)) (ws : List (Option WornAt)) → plays s (l ∷ ls) ws ≡ step s l (first_worn ws) ∷ plays (step s l (first_worn ws)).after ls (drop 1 ws)
+plays_first : (s : State) (l : ℕ × DeckLine) (ls : List (ℕ × DeckLine)) (ws : List (Option FailedWrite)) → plays s (l ∷ ls) ws ≡ step s l (first_failure ws) ∷ plays (step s l (first_failure ws)).after ls (drop 1 ws)
 unfolding plays
 plays_first s l ls ws = refl
 
-plays_nothing : (s : State) (ws : List (Option WornAt)) → plays s [] ws ≡ []
+plays_nothing : (s : State) (ws : List (Option FailedWrite)) → plays s [] ws ≡ []
 unfolding plays
 plays_nothing s ws = refl
 
-dumps_keep : (s : State) (ls : List (ℕ × DeckLine)) (ws : List (Option WornAt)) → AllByRecursion (λ k. is_dump k.1 ≡ true) ls → last_state s (plays s ls ws) ≡ s
+dumps_keep : (s : State) (ls : List (ℕ × DeckLine)) (ws : List (Option FailedWrite)) → AllByRecursion (λ k. is_dump k.1 ≡ true) ls → last_state s (plays s ls ws) ≡ s
 dumps_keep s [] ws all = ap (λ (ts : List Step). last_state s ts) (plays_nothing s ws)
 dumps_keep s (l ∷ ls) ws all =
-    let same = after_dump s l (first_worn ws) all.0 in
+    let same = after_dump s l (first_failure ws) all.0 in
     ap (λ (ts : List Step). last_state s ts) (plays_first s l ls ws)
     ∙ ap (λ (u : State). last_state u (plays u ls (drop 1 ws))) same
     ∙ dumps_keep s ls (drop 1 ws) all.1
 
 -- the result of a line, if it is a dump line, in the last state
-first_dump : (s : State) (l : ℕ × DeckLine) (ls : List (ℕ × DeckLine)) (ws : List (Option WornAt)) (b : Bool) → is_dump l.1 ≡ b → (is_dump l.1 ≡ true → AllByRecursion (λ k. is_dump k.1 ≡ true) ls)
-    → cond b (result_line (step s l (first_worn ws)).result) [] ≡ dump_text (last_state (step s l (first_worn ws)).after (plays (step s l (first_worn ws)).after ls (drop 1 ws))) l.1
-first_dump s l ls ws false e last = sym (no_dump (last_state (step s l (first_worn ws)).after (plays (step s l (first_worn ws)).after ls (drop 1 ws))) l.1 e)
+first_dump : (s : State) (l : ℕ × DeckLine) (ls : List (ℕ × DeckLine)) (ws : List (Option FailedWrite)) (b : Bool) → is_dump l.1 ≡ b → (is_dump l.1 ≡ true → AllByRecursion (λ k. is_dump k.1 ≡ true) ls)
+    → cond b (result_line (step s l (first_failure ws)).result) [] ≡ dump_text (last_state (step s l (first_failure ws)).after (plays (step s l (first_failure ws)).after ls (drop 1 ws))) l.1
+first_dump s l ls ws false e last = sym (no_dump (last_state (step s l (first_failure ws)).after (plays (step s l (first_failure ws)).after ls (drop 1 ws))) l.1 e)
 first_dump s (n, l) ls ws true e last =
-    let w = first_worn ws in
+    let w = first_failure ws in
     let d = as_dump l e in
     let same = after_dump s (n, l) w e in
     let kept : last_state (step s (n, l) w).after (plays (step s (n, l) w).after ls (drop 1 ws)) ≡ s = dumps_keep (step s (n, l) w).after ls (drop 1 ws) (last e) ∙ same in
@@ -134,13 +134,13 @@ first_dump s (n, l) ls ws true e last =
     ∙ ap (λ (u : State). dump_text u l) (sym kept)
 
 -- the dump lines of a play, by the state that it reaches
-pub dumps_are : (s : State) (ls : List (ℕ × DeckLine)) (ws : List (Option WornAt)) → DumpsLast ls → dump_lines (plays s ls ws) ≡ dumps_text (last_state s (plays s ls ws)) ls
+pub dumps_are : (s : State) (ls : List (ℕ × DeckLine)) (ws : List (Option FailedWrite)) → DumpsLast ls → dump_lines (plays s ls ws) ≡ dumps_text (last_state s (plays s ls ws)) ls
 dumps_are s [] ws last = ap dump_lines (plays_nothing s ws)
 dumps_are s (l ∷ ls) ws last =
-    let t = step s l (first_worn ws) in
+    let t = step s l (first_failure ws) in
     let ts = plays t.after ls (drop 1 ws) in
     let first : plays s (l ∷ ls) ws ≡ t ∷ ts = plays_first s l ls ws in
-    let is : is_dump t.line ≡ is_dump l.1 = ap is_dump (step_is s l (first_worn ws)).line in
+    let is : is_dump t.line ≡ is_dump l.1 = ap is_dump (step_is s l (first_failure ws)).line in
     let end : last_state s (plays s (l ∷ ls) ws) ≡ last_state t.after ts = ap (λ (us : List Step). last_state s us) first in
     ap dump_lines first
     ∙ dump_by t ts (is_dump l.1) is
@@ -149,23 +149,23 @@ dumps_are s (l ∷ ls) ws last =
     ∙ ap (λ (u : State). dump_text u l.1 ++ dumps_text u ls) (sym end)
 
 -- the summary of a play, by the state that it reaches
-pub summary_is : (s : State) (ls : List (ℕ × DeckLine)) (ws : List (Option WornAt)) → DumpsLast ls → count_line (results (plays s ls ws)) ++ dumps_text (last_state s (plays s ls ws)) ls ≡ summary (plays s ls ws)
+pub summary_is : (s : State) (ls : List (ℕ × DeckLine)) (ws : List (Option FailedWrite)) → DumpsLast ls → count_line (results (plays s ls ws)) ++ dumps_text (last_state s (plays s ls ws)) ls ≡ summary (plays s ls ws)
 unfolding summary
 summary_is s ls ws last = ap (λ (x : List ℕ). count_line (results (plays s ls ws)) ++ x) (sym (dumps_are s ls ws last))
 
 -- ---- the loop that counts
 
 module _ {N : Type 0} (state : N → DeviceState) (bench : N → BenchState) where
-  -- a player at a state of a play, with the given lines left, and the counts so far: a play of these from here makes the play of all
-  -- lines from the start
+  -- a player at a state of a play, with the given lines left, and the counts so far: a play of these from here makes
+  -- the play of all lines from the start
   pub record Counting (s : State) (ls : List (ℕ × DeckLine)) (a : Bench) (left : List (ℕ × DeckLine)) (p : Player N) (c : Counts) (i : ℕ) : Type 0 where
     pub here : State
     pub at : IsPlayerAt state bench p here
     pub done : List LineResult
     pub counted : Counted c done
     pub few : length done ≤ i
-    pub rest : (ws : List (Option WornAt)) (b : Bench) → Played here left ws (bench_of state bench p) b
-        → (vs : List (Option WornAt)) × Played s ls vs a b × (results (plays s ls vs) ≡ done ++ results (plays here left ws)) × (last_state s (plays s ls vs) ≡ last_state here (plays here left ws))
+    pub rest : (ws : List (Option FailedWrite)) (b : Bench) → Played here left ws (bench_of state bench p) b
+        → (vs : List (Option FailedWrite)) × Played s ls vs a b × (results (plays s ls vs) ≡ done ++ results (plays here left ws)) × (last_state s (plays s ls vs) ≡ last_state here (plays here left ws))
 
   pub counting_start : (s : State) (ls : List (ℕ × DeckLine)) (p : Player N) (c : Counts) → IsPlayerAt state bench p s → Counted c [] → Counting s ls (bench_of state bench p) ls p c 0
   counting_start s ls p c at counted = record { here = s; at = at; done = []; counted = counted; few = omega arith; rest = λ ws b h. (ws, h, refl, refl) }
@@ -182,9 +182,9 @@ module _ {N : Type 0} (state : N → DeviceState) (bench : N → BenchState) whe
   few_on None rs i h = let e : length (rs ++ []) ≡ length rs = ap length (append-nil rs) in omega (arith, h, e)
   few_on (Some r) rs i h = let e : length (rs ++ r ∷ []) ≡ length rs + 1 = length-append rs (r ∷ []) in omega (arith, h, e)
 
-  pub counting_on : {R : Type 0} (told : R → List Turn → R → Type 0) (s : State) (ls : List (ℕ × DeckLine)) (a : Bench) (left : List (ℕ × DeckLine)) (n : ℕ) (l : DeckLine) (p q : Player N) (c d : Counts) (i : ℕ) (before after : R) (answer : Option Answer)
-      → (h : Counting s ls a ((n, l) ∷ left) p c i) → LineDone state bench told p l before after answer q → Counted d (h.done ++ result_list (option_map (answer_value state q) answer)) → Counting s ls a left q d (i + 1)
-  counting_on told s ls a left n l p q c d i before after answer h done counted =
+  pub counting_on : {R : Type 0} (reported : R → List Turn → R → Type 0) (s : State) (ls : List (ℕ × DeckLine)) (a : Bench) (left : List (ℕ × DeckLine)) (n : ℕ) (l : DeckLine) (p q : Player N) (c d : Counts) (i : ℕ) (before after : R) (answer : Option Answer)
+      → (h : Counting s ls a ((n, l) ∷ left) p c i) → LineDone state bench reported p l before after answer q → Counted d (h.done ++ result_list (option_map (answer_value state q) answer)) → Counting s ls a left q d (i + 1)
+  counting_on reported s ls a left n l p q c d i before after answer h done counted =
       let line = done h.here n h.at in
       let w = line.0 in
       let t = step h.here (n, l) w in

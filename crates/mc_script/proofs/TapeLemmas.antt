@@ -6,9 +6,9 @@ use Rattle.mc_model_device.specs.Device.{Entry, GrowsBy}
 use Rattle.mc_model_card.specs.Items.{StopAt, moves}
 use Rattle.mc_model_play.specs.DeckGrammar.{DeckLine}
 use Rattle.mc_model_play.specs.DeckGrammar as line
-use Rattle.mc_model_play.specs.Play.{Armed, Unarmed, ArmedCut, ArmedFail, Live, Running, Unpowered, Muted, Warm, State, Cold, Hot, WornAt, Step, step, power_part, hit_of, moves_with, power_moves, play_at_power, line_command, card_line, moves_of, MayHit, tape_worn, Accounts, AccountsForLine, words_left, chunk, with_entry, ends_tape, worn_in, EndsAs, kind_of}
+use Rattle.mc_model_play.specs.Play.{Armed, Unarmed, ArmedCut, ArmedFail, Live, Running, Unpowered, Muted, Warm, State, BeforePower, AfterPower, FailedWrite, Step, step, power_part, hit_of, moves_with, power_moves, play_at_power, line_command, card_line, moves_of, MayHit, failures_of_tape, Accounts, AccountsForLine, words_left, chunk, with_entry, ends_tape, failures_in, EndsAs, kind_of}
 use Rattle.mc_model_device.specs.PowerUp.{Base, OnCard, AtFault}
-use Rattle.mc_script.specs.Plays.{TapeTells, TapeIs}
+use Rattle.mc_script.specs.Plays.{TapeReports, TapeIs}
 
 -- ---- the number of entries of a line
 
@@ -18,7 +18,7 @@ Reaches m None = Unit {0}
 Reaches m (Some t) = t.at ≤ m
 
 -- a failed write is one of the first m
-abbrev pub MayReach : ℕ → Option WornAt → Type 0
+abbrev pub MayReach : ℕ → Option FailedWrite → Type 0
 MayReach m None = Unit {0}
 MayReach m (Some w) = w.at ≤ m
 
@@ -33,21 +33,21 @@ cut_reaches true k m x e = grind (arith, nat_tests, e)
 cut_reaches false k m x e = tt
 
 -- any stop that hits a line is at one of its writes
-hit_reaches : (a : Armed) (m : ℕ) (w : Option WornAt) → MayReach m w → Reaches m (hit_of a m w)
+hit_reaches : (a : Armed) (m : ℕ) (w : Option FailedWrite) → MayReach m w → Reaches m (hit_of a m w)
 hit_reaches a m (Some w) h = h
 hit_reaches (ArmedCut k x) m None h = cut_reaches (nat_le k m) k m x refl
 hit_reaches Unarmed m None h = tt
 hit_reaches (ArmedFail k) m None h = tt
 
 -- a failed write that may hit a line is one of its writes
-may_reach : (s : State) (l : ℕ × DeckLine) (w : Option WornAt) → MayHit s l w → MayReach (moves_of s l) w
+may_reach : (s : State) (l : ℕ × DeckLine) (w : Option FailedWrite) → MayHit s l w → MayReach (moves_of s l) w
 may_reach s l None may = tt
 may_reach s l (Some w) may = may.high
 
 -- a line to a running card, and one when no card runs
-card_moved : (n : ℕ) (l : DeckLine) (s : Warm) (live : Live) (base : Base) (w : Option WornAt) → MayReach (moves (card_line n l s live base None).items) w → Moved (moves (card_line n l s live base None).items) (card_line n l s live base w)
-card_moved n l s (Running seat) (OnCard c) w h = record { moves = refl; reaches = hit_reaches s.armed (moves (line_command c seat s.budget l).items) w h }
-card_moved n l s (Running seat) (AtFault cause p) w h = record { moves = refl; reaches = tt }
+card_moved : (n : ℕ) (l : DeckLine) (s : Warm) (live : Live) (base : Base) (w : Option FailedWrite) → MayReach (moves (card_line n l s live base None).items) w → Moved (moves (card_line n l s live base None).items) (card_line n l s live base w)
+card_moved n l s (Running session_state) (OnCard c) w h = record { moves = refl; reaches = hit_reaches s.armed (moves (line_command c session_state s.budget l).items) w h }
+card_moved n l s (Running session_state) (AtFault cause p) w h = record { moves = refl; reaches = tt }
 card_moved n l s Unpowered base w h = record { moves = refl; reaches = tt }
 card_moved n l s Muted base w h = record { moves = refl; reaches = tt }
 
@@ -60,35 +60,35 @@ moved_as : (m n : ℕ) (t : Step) → m ≡ n → Moved n t → Moved m t
 moved_as m n t e h = subst (λ k. Moved k t) (sym e) h
 
 -- the device writes of a card line that is no power line
-moves_hot : (s : Warm) (l : ℕ × DeckLine) → power_part (Hot s) l.1 ≡ 0 → moves_of (Hot s) l ≡ moves (step (Hot s) l None).items
+moves_after_power : (s : Warm) (l : ℕ × DeckLine) → power_part (AfterPower s) l.1 ≡ 0 → moves_of (AfterPower s) l ≡ moves (step (AfterPower s) l None).items
 unfolding moves_of
-moves_hot s l e = ap (λ p. p + moves (step (Hot s) l None).items) e ∙ nothing (moves (step (Hot s) l None).items)
+moves_after_power s l e = ap (λ p. p + moves (step (AfterPower s) l None).items) e ∙ nothing (moves (step (AfterPower s) l None).items)
 
 -- the device writes of a line, and its stop
-pub line_moved : (s : State) (l : ℕ × DeckLine) (w : Option WornAt) → MayReach (moves_of s l) w → Moved (moves_of s l) (step s l w)
+pub line_moved : (s : State) (l : ℕ × DeckLine) (w : Option FailedWrite) → MayReach (moves_of s l) w → Moved (moves_of s l) (step s l w)
 unfolding moves_of step
-line_moved (Cold m b a) (n, line.Power) w h =
+line_moved (BeforePower m b a) (n, line.Power) w h =
     let p = power_moves (play_at_power m b a) in
     let e : p + 0 ≡ p = omega arith in
     moved_as (p + 0) p _ e (record { moves = refl; reaches = hit_reaches a p w (subst (λ k. MayReach k w) e h) })
-line_moved (Cold m b a) (n, _) w h = record { moves = refl; reaches = tt }
-line_moved (Hot s) (n, line.Power) w h =
+line_moved (BeforePower m b a) (n, _) w h = record { moves = refl; reaches = tt }
+line_moved (AfterPower s) (n, line.Power) w h =
     let p = power_moves s in
     let e : p + 0 ≡ p = omega arith in
     moved_as (p + 0) p _ e (record { moves = refl; reaches = hit_reaches s.armed p w (subst (λ k. MayReach k w) e h) })
-line_moved (Hot s) (n, line.Load u fixed session) w h =
+line_moved (AfterPower s) (n, line.Load u fixed session) w h =
     let k = moves (card_line n (line.Load u fixed session) s s.live s.base None).items in
     moved_as (0 + k) k _ (nothing k) (card_moved n (line.Load u fixed session) s s.live s.base w (subst (λ k. MayReach k w) (nothing k) h))
-line_moved (Hot s) (n, line.Select x) w h =
+line_moved (AfterPower s) (n, line.Select x) w h =
     let k = moves (card_line n (line.Select x) s s.live s.base None).items in
     moved_as (0 + k) k _ (nothing k) (card_moved n (line.Select x) s s.live s.base w (subst (λ k. MayReach k w) (nothing k) h))
-line_moved (Hot s) (n, line.Delete x) w h =
+line_moved (AfterPower s) (n, line.Delete x) w h =
     let k = moves (card_line n (line.Delete x) s s.live s.base None).items in
     moved_as (0 + k) k _ (nothing k) (card_moved n (line.Delete x) s s.live s.base w (subst (λ k. MayReach k w) (nothing k) h))
-line_moved (Hot s) (n, line.Apdu x) w h =
+line_moved (AfterPower s) (n, line.Apdu x) w h =
     let k = moves (card_line n (line.Apdu x) s s.live s.base None).items in
     moved_as (0 + k) k _ (nothing k) (card_moved n (line.Apdu x) s s.live s.base w (subst (λ k. MayReach k w) (nothing k) h))
-line_moved (Hot s) (n, _) w h = record { moves = refl; reaches = tt }
+line_moved (AfterPower s) (n, _) w h = record { moves = refl; reaches = tt }
 
 -- ---- the entries of a line at the front of a tape
 
@@ -116,37 +116,37 @@ chunk_by : (m : ℕ) (stop : Option StopAt) (es rest : List Entry) → Reaches m
 chunk_by m None es rest reach count ends = subst (λ k. chunk k (es ++ rest) ≡ (es, rest)) count (all_done es rest ends)
 chunk_by m (Some t) es rest reach count ends = up_to_stop m es rest t.kind (omega (arith, reach, count)) ends
 
-pub line_chunk : (m : List (List ℕ)) (s : State) (l : ℕ × DeckLine) (w : Option WornAt) (es rest : List Entry) → MayHit s l w → AccountsForLine m s l (step s l w) es → chunk (moves_of s l) (es ++ rest) ≡ (es, rest)
-line_chunk m s l w es rest may told =
+pub line_chunk : (m : List (List ℕ)) (s : State) (l : ℕ × DeckLine) (w : Option FailedWrite) (es rest : List Entry) → MayHit s l w → AccountsForLine m s l (step s l w) es → chunk (moves_of s l) (es ++ rest) ≡ (es, rest)
+line_chunk m s l w es rest may reported =
     let moved = line_moved s l w (may_reach s l w may) in
-    chunk_by (moves_of s l) (step s l w).stop es rest moved.reaches (told.count ∙ moved.moves) told.ends
+    chunk_by (moves_of s l) (step s l w).stop es rest moved.reaches (reported.count ∙ moved.moves) reported.ends
 
 -- ---- a tape
 
 -- the failed writes that a tape records, by the entries of its first line
-worn_by_chunk : (s : State) (l : ℕ × DeckLine) (ls : List (ℕ × DeckLine)) (w : Option WornAt) (ws : List (Option WornAt)) (t es rest : List Entry) → chunk (moves_of s l) t ≡ (es, rest) → worn_in 0 es ≡ w → ws ≡ tape_worn (step s l w).after ls rest → w ∷ ws ≡ tape_worn s (l ∷ ls) t
-unfolding tape_worn
-worn_by_chunk s l ls w ws t es rest is worn h = rw (is, worn, h) refl
+failure_by_chunk : (s : State) (l : ℕ × DeckLine) (ls : List (ℕ × DeckLine)) (w : Option FailedWrite) (ws : List (Option FailedWrite)) (t es rest : List Entry) → chunk (moves_of s l) t ≡ (es, rest) → failures_in 0 es ≡ w → ws ≡ failures_of_tape (step s l w).after ls rest → w ∷ ws ≡ failures_of_tape s (l ∷ ls) t
+unfolding failures_of_tape
+failure_by_chunk s l ls w ws t es rest is worn h = rw (is, worn, h) refl
 
 -- the account of a tape, by the entries of its first line
-accounts_by_chunk : (m n : List (List ℕ)) (s : State) (l : ℕ × DeckLine) (ls : List (ℕ × DeckLine)) (w : Option WornAt) (ws : List (Option WornAt)) (t es rest : List Entry) → chunk (moves_of s l) t ≡ (es, rest) → words_left m es (step s l w).after ≡ n → AccountsForLine m s l (step s l w) es → Accounts n (step s l w).after ls ws rest → Accounts m s (l ∷ ls) (w ∷ ws) t
+accounts_by_chunk : (m n : List (List ℕ)) (s : State) (l : ℕ × DeckLine) (ls : List (ℕ × DeckLine)) (w : Option FailedWrite) (ws : List (Option FailedWrite)) (t es rest : List Entry) → chunk (moves_of s l) t ≡ (es, rest) → words_left m es (step s l w).after ≡ n → AccountsForLine m s l (step s l w) es → Accounts n (step s l w).after ls ws rest → Accounts m s (l ∷ ls) (w ∷ ws) t
 accounts_by_chunk m n s l ls w ws t es rest is left line h =
     subst (λ (c : List Entry × List Entry). AccountsForLine m s l (step s l w) c.0 × Accounts (words_left m c.0 (step s l w).after) (step s l w).after ls ws c.1) (sym is)
     (line, subst (λ (k : List (List ℕ)). Accounts k (step s l w).after ls ws rest) (sym left) h)
 
 -- a recorded tape of a line and of the lines after it
-pub tells_on : (m n : List (List ℕ)) (s : State) (l : ℕ × DeckLine) (ls : List (ℕ × DeckLine)) (w : Option WornAt) (ws : List (Option WornAt)) (es rest : List Entry) → MayHit s l w → AccountsForLine m s l (step s l w) es → worn_in 0 es ≡ w → words_left m es (step s l w).after ≡ n → TapeTells n (step s l w).after ls ws rest → TapeTells m s (l ∷ ls) (w ∷ ws) (es ++ rest)
-tells_on m n s l ls w ws es rest may line worn left tells =
+pub reports_on : (m n : List (List ℕ)) (s : State) (l : ℕ × DeckLine) (ls : List (ℕ × DeckLine)) (w : Option FailedWrite) (ws : List (Option FailedWrite)) (es rest : List Entry) → MayHit s l w → AccountsForLine m s l (step s l w) es → failures_in 0 es ≡ w → words_left m es (step s l w).after ≡ n → TapeReports n (step s l w).after ls ws rest → TapeReports m s (l ∷ ls) (w ∷ ws) (es ++ rest)
+reports_on m n s l ls w ws es rest may line worn left reports =
     let is = line_chunk m s l w es rest may line in
     record {
-      worn = worn_by_chunk s l ls w ws (es ++ rest) es rest is worn tells.worn;
-      accounts = accounts_by_chunk m n s l ls w ws (es ++ rest) es rest is left line tells.accounts;
+      worn = failure_by_chunk s l ls w ws (es ++ rest) es rest is worn reports.worn;
+      accounts = accounts_by_chunk m n s l ls w ws (es ++ rest) es rest is left line reports.accounts;
     }
 
 -- the tape of a line and of the lines after it, recorded or not
-pub tape_on : (m n : List (List ℕ)) (s : State) (l : ℕ × DeckLine) (ls : List (ℕ × DeckLine)) (w : Option WornAt) (ws : List (Option WornAt)) (es : List Entry) (a b c : Option (List Entry)) → MayHit s l w → AccountsForLine m s l (step s l w) es → worn_in 0 es ≡ w → words_left m es (step s l w).after ≡ n → GrowsBy a es b → TapeIs n (step s l w).after ls ws b c → TapeIs m s (l ∷ ls) (w ∷ ws) a c
+pub tape_on : (m n : List (List ℕ)) (s : State) (l : ℕ × DeckLine) (ls : List (ℕ × DeckLine)) (w : Option FailedWrite) (ws : List (Option FailedWrite)) (es : List Entry) (a b c : Option (List Entry)) → MayHit s l w → AccountsForLine m s l (step s l w) es → failures_in 0 es ≡ w → words_left m es (step s l w).after ≡ n → GrowsBy a es b → TapeIs n (step s l w).after ls ws b c → TapeIs m s (l ∷ ls) (w ∷ ws) a c
 tape_on m n s l ls w ws es a b None may line worn left grows tape = tt
 tape_on m n s l ls w ws es a None (Some z) may line worn left grows tape = absurd tape
 tape_on m n s l ls w ws es None (Some y) (Some z) may line worn left grows tape = absurd grows
 tape_on m n s l ls w ws es (Some x) (Some y) (Some z) may line worn left grows tape =
-    (es ++ tape.0, tape.1 ∙ ap (λ (t : List Entry). t ++ tape.0) grows ∙ append_assoc x es tape.0, tells_on m n s l ls w ws es tape.0 may line worn left tape.2)
+    (es ++ tape.0, tape.1 ∙ ap (λ (t : List Entry). t ++ tape.0) grows ∙ append_assoc x es tape.0, reports_on m n s l ls w ws es tape.0 may line worn left tape.2)

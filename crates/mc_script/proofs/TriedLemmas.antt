@@ -11,18 +11,18 @@ use Rattle.mc_model_device.specs.Stopped.{image_after_stop}
 use Rattle.mc_model_card.specs.Items.{Item, StopAt}
 use Rattle.mc_model_machine.specs.Chain.{Turn}
 use Rattle.mc_model_play.specs.Play as play
-use Rattle.mc_model_play.specs.Play.{Unarmed, LineResult, State, Hot, Warm, Step, is_card_line, armed_stop_in, moves_of, worn_entry, MayHit, EndsAs, worn_in, StandsAtEach}
+use Rattle.mc_model_play.specs.Play.{Unarmed, LineResult, State, AfterPower, Warm, Step, is_card_line, armed_stop_in, moves_of, failure_entry, MayHit, EndsAs, failures_in, StandsAtEach}
 use Rattle.mc_model_device.proofs.DeviceLemmas.{DoneAll, makes_done}
 use Rattle.mc_script.specs.declared.answer.Answer.{Answer}
 use Rattle.mc_script.specs.declared.armed.Armed.{Armed}
 use Rattle.mc_script.specs.declared.player.Player.{Player}
 use Rattle.mc_script.specs.Players.{answer_value, armed_value, cut_place, device_of, CanArm, IsUnfused, IsPlayerAt}
-use Rattle.mc_script.specs.Counting.{count_after_rises, when_poked, cuts_due, fails_due, line_powers, line_pokes, line_cuts, line_fails, count_of_cuts, worn_by, LineCounts}
+use Rattle.mc_script.specs.Counting.{count_after_rises, when_poked, cuts_due, fails_due, line_powers, line_pokes, line_cuts, line_fails, count_of_cuts, failure_by, LineCounts}
 use Rattle.mc_script.specs.Arming.{armed_bench}
 use Rattle.mc_script.specs.Lines.{Stepped}
 use Rattle.mc_script.specs.Runs.{StoppedAtWrite}
 use Rattle.mc_script.proofs.FuseLemmas.{Past}
-use Rattle.mc_script.proofs.EntryLemmas.{length_done, length_torn, ends_done, ends_torn, worn_done, worn_torn, laid_done, laid_torn}
+use Rattle.mc_script.proofs.EntryLemmas.{length_done, length_torn, ends_done, ends_torn, failure_done, failure_torn, laid_done, laid_torn}
 use Rattle.mc_script.proofs.AccountLemmas.{StopsStand, SizesTo, each_done, each_torn}
 use Rattle.mc_script.proofs.BenchLemmas.{Burnt, SameCalls, Raises, FusedAt, HaltedList, burnt_calls, burnt, halted, words_written, sizes_before}
 use Rattle.mc_script.proofs.HitLemmas.{NotHit, not_hit, HitBy, hit_by, place_is, CallsOf, armed_calls}
@@ -58,7 +58,7 @@ pub record Worth (s : State) (l : DeckLine) (n : ℕ) : Type 0 where
 -- the step of a line from the first power line on, with a stop if one hit it
 abbrev pub stopped_step : ℕ → DeckLine → State → LineResult → List Item → List Item → Option StopAt → ℕ → List (List ℕ × List ℕ) → List Turn → Warm → Step
 stopped_step n l s result items whole stop m pairs turns w =
-    record { number = n; line = l; before = s; result = Some result; items = items; whole = whole; stop = stop; moves = m; pairs = pairs; turns = turns; after = Hot w }
+    record { number = n; line = l; before = s; result = Some result; items = items; whole = whole; stop = stop; moves = m; pairs = pairs; turns = turns; after = AfterPower w }
 
 -- ---- counts
 
@@ -68,7 +68,7 @@ calls_are b c e n a same is = armed_calls a (called n b) c e same is
 -- the counts of a line under an armed stop
 line_counts : (n : ℕ) (l : DeckLine) (s : State) (result : LineResult) (items whole : List Item) (stop : Option StopAt) (m : ℕ) (pairs : List (List ℕ × List ℕ)) (turns : List Turn) (w : Warm)
     (np : ℕ) (a : Armed) (b c : BenchState) (d e : DeviceState) → Worth s l np → armed_value a ≡ armed_stop_in s → w.armed ≡ Unarmed → CallsOf (called np b) 0 (armed_value a) c
-    → e.cuts ≡ count_after_rises d.cuts (count_of_cuts stop) → e.faults ≡ count_after_rises d.faults (worn_by stop) → LineCounts b d (stopped_step n l s result items whole stop m pairs turns w) c e
+    → e.cuts ≡ count_after_rises d.cuts (count_of_cuts stop) → e.faults ≡ count_after_rises d.faults (failure_by stop) → LineCounts b d (stopped_step n l s result items whole stop m pairs turns w) c e
 line_counts n l s result items whole stop m pairs turns w np a b c d e worth armed free calls cuts faults =
     record {
       counts = record {
@@ -91,7 +91,7 @@ line_counts n l s result items whole stop m pairs turns w np a b c d e worth arm
       };
     }
 
-raised_cut : (s : Stop) (d e : DeviceState) (k : ℕ) (x : List ℕ) → Raises s d e → let t : StopAt = record { kind = s; at = k; left = x } in (e.cuts ≡ count_after_rises d.cuts (count_of_cuts (Some t))) × (e.faults ≡ count_after_rises d.faults (worn_by (Some t)))
+raised_cut : (s : Stop) (d e : DeviceState) (k : ℕ) (x : List ℕ) → Raises s d e → let t : StopAt = record { kind = s; at = k; left = x } in (e.cuts ≡ count_after_rises d.cuts (count_of_cuts (Some t))) × (e.faults ≡ count_after_rises d.faults (failure_by (Some t)))
 raised_cut Off d e k x r = r
 raised_cut Worn d e k x r = r
 
@@ -105,13 +105,13 @@ record HitEntries (p : DeviceState) (s : State) (l : ℕ × DeckLine) (ws : List
   count : length (torn_entries ws k x how) ≡ k
   each : StandsAtEach p.words s l 0 (torn_entries ws k x how)
   ends : EndsAs (Some how) (torn_entries ws k x how)
-  worn : worn_in 0 (torn_entries ws k x how) ≡ worn_entry k x (Some how)
+  worn : failures_in 0 (torn_entries ws k x how) ≡ failure_entry k x (Some how)
   left : play.laid_entries p.words (torn_entries ws k x how) ≡ image_after_stop p.words ws k x
 
 -- ---- the failed write of a line
 
 may_hit : (s : Stop) (state : State) (n : ℕ) (l : DeckLine) (k : ℕ) (x : List ℕ) → is_card_line l ≡ true → 1 ≤ k → k ≤ moves_of state (n, l) → (s ≡ Worn → play.IsBeforeCut (armed_stop_in state) k)
-    → MayHit state (n, l) (worn_entry k x (Some s))
+    → MayHit state (n, l) (failure_entry k x (Some s))
 may_hit Off state n l k x card low high first = tt
 may_hit Worn state n l k x card low high first = record { card_line = card; low = low; high = high; first = first refl }
 
@@ -155,7 +155,7 @@ module _ {N : Type 0} (state : N → DeviceState) (bench : N → BenchState) (wr
 
   -- the line that made them, with the step that its play takes
   pub went_stepped : (p q : Player N) (s : State) (n np : ℕ) (l : DeckLine) (result : LineResult) (items whole : List Item) (pairs : List (List ℕ × List ℕ)) (turns : List Turn) (w : Warm) (r : Answer)
-      (ws : List (ℕ × List ℕ)) (m : ℕ) → IsPlayerAt state bench p s → Worth s l np → w.armed ≡ Unarmed → Went (device_of p) (device_of q) p.armed np ws → length ws ≡ m → moves_of s (n, l) ≡ m → IsPlayerAt state bench q (Hot w)
+      (ws : List (ℕ × List ℕ)) (m : ℕ) → IsPlayerAt state bench p s → Worth s l np → w.armed ≡ Unarmed → Went (device_of p) (device_of q) p.armed np ws → length ws ≡ m → moves_of s (n, l) ≡ m → IsPlayerAt state bench q (AfterPower w)
       → answer_value state q r ≡ result → StopsStand (state (device_of p)).words s (n, l) 0 ws
       → Stepped state bench p s (n, l) None (stopped_step n l s result items whole None m pairs turns w) (Some r) q
   went_stepped p q s n np l result items whole pairs turns w r ws m at worth free did number moves then answers stands =
@@ -172,7 +172,7 @@ module _ {N : Type 0} (state : N → DeviceState) (bench : N → BenchState) (wr
             entries = done_entries ws;
             grows = did.tape;
             accounts = record { count = length_done ws ∙ number; each = each_done (state d).words s (n, l) 0 ws stands did.sizes; ends = ends_done ws };
-            worn = worn_done 0 ws;
+            worn = failure_done 0 ws;
             left = laid_done (state d).words ws ∙ sym did.words;
           };
         };
@@ -190,7 +190,7 @@ module _ {N : Type 0} (state : N → DeviceState) (bench : N → BenchState) (wr
     pub raises : Raises s (state d) (state f)
     pub calls : CallsOf (called n (bench d)) 0 (armed_value a) (bench f)
     pub unfused : IsUnfused (bench f)
-    pub by : (m : ℕ) → k ≤ m → HitBy (armed_value a) m (bench d).steady s k x (worn_entry k x (Some s))
+    pub by : (m : ℕ) → k ≤ m → HitBy (armed_value a) m (bench d).steady s k x (failure_entry k x (Some s))
     pub place : s ≡ Off → cut_place a ≡ k
     pub sizes : (j : ℕ) → k ≡ suc j → SizesTo j ws
 
@@ -232,21 +232,21 @@ module _ {N : Type 0} (state : N → DeviceState) (bench : N → BenchState) (wr
         count = length_torn ws j x how below;
         each = each_torn p.words s l 0 ws j x how stands (sizes j refl) size;
         ends = ends_torn ws j x how below;
-        worn = worn_torn 0 ws j x how below ∙ ap (λ (i : ℕ). worn_entry i x (Some how)) (omega arith);
+        worn = failure_torn 0 ws j x how below ∙ ap (λ (i : ℕ). failure_entry i x (Some how)) (omega arith);
         left = laid_torn p.words ws j x how below;
       }
 
   -- the line that a stop hit, with the step that its play takes
   pub hit_stepped : (p q : Player N) (s : State) (n np : ℕ) (l : DeckLine) (result : LineResult) (items whole : List Item) (pairs : List (List ℕ × List ℕ)) (turns : List Turn) (w : Warm) (r : Answer)
       (ws : List (ℕ × List ℕ)) (m k : ℕ) (how : Stop) (x : List ℕ) → IsPlayerAt state bench p s → Worth s l np → w.armed ≡ Unarmed → Hit (device_of p) (device_of q) p.armed np ws k how x → length ws ≤ m → moves_of s (n, l) ≡ m
-      → IsPlayerAt state bench q (Hot w) → answer_value state q r ≡ result → StopsStand (state (device_of p)).words s (n, l) 0 ws
-      → Stepped state bench p s (n, l) (worn_entry k x (Some how)) (stopped_step n l s result items whole (Some (record { kind = how; at = k; left = x })) k pairs turns w) (Some r) q
+      → IsPlayerAt state bench q (AfterPower w) → answer_value state q r ≡ result → StopsStand (state (device_of p)).words s (n, l) 0 ws
+      → Stepped state bench p s (n, l) (failure_entry k x (Some how)) (stopped_step n l s result items whole (Some (record { kind = how; at = k; left = x })) k pairs turns w) (Some r) q
   hit_stepped p q s n np l result items whole pairs turns w r ws m k how x at worth free did number moves then answers stands =
       let d = device_of p in
       let f = device_of q in
       let t : StopAt = record { kind = how; at = k; left = x } in
       let high : k ≤ m = let h = did.high in omega (arith, h, number) in
-      let by : HitBy (armed_stop_in s) m (bench d).steady how k x (worn_entry k x (Some how)) = subst (λ (y : play.Armed). HitBy y m (bench d).steady how k x (worn_entry k x (Some how))) at.armed (did.by m high) in
+      let by : HitBy (armed_stop_in s) m (bench d).steady how k x (failure_entry k x (Some how)) = subst (λ (y : play.Armed). HitBy y m (bench d).steady how k x (failure_entry k x (Some how))) at.armed (did.by m high) in
       let rose = raised_cut how (state d) (state f) k x did.raises in
       let entries : HitEntries (state d) s (n, l) ws k how x = hit_entries (state d) s (n, l) ws k how x did.low did.high did.size did.sizes stands in
       record {
@@ -255,7 +255,7 @@ module _ {N : Type 0} (state : N → DeviceState) (bench : N → BenchState) (wr
         played = record {
           may = may_hit how s n l k x worth.card did.low (subst (λ (i : ℕ). k ≤ i) (sym moves) high) by.first;
           counts = line_counts n l s result items whole (Some t) k pairs turns w np p.armed (bench d) (bench f) (state d) (state f) worth at.armed free did.calls rose.0 rose.1;
-          steady = λ h. subst (λ (i : ℕ). worn_entry k x (Some how) ≡ play.steady_at (armed_stop_in s) l i) (sym moves) (by.steady l worth.card h);
+          steady = λ h. subst (λ (i : ℕ). failure_entry k x (Some how) ≡ play.steady_at (armed_stop_in s) l i) (sym moves) (by.steady l worth.card h);
           tape = record {
             entries = torn_entries ws k x how;
             grows = did.tape;

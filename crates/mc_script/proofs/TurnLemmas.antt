@@ -26,26 +26,26 @@ write_moves n None = refl
 write_moves n (Some ps) = let e : cost Two (length (touched_words ps)) + 0 ≡ cost Two (length (touched_words ps)) = omega arith in e
 
 -- the record of a turn has the number of its device writes and its end
-pub record TurnIsTold (t : Acted) : Type 0 where
+pub record TurnIsReported (t : Acted) : Type 0 where
   pub moves : moves (write_items t.writes) ≡ turn_moves t.turn.wrote
   pub end : t.turn.end ≡ end_of t.follows
 
-row_told : (ch : Chain) (i : Ins) (r : RowEnd) → TurnIsTold (row_turn ch i r)
-row_told ch i (Abends a) = record { moves = refl; end = refl }
-row_told ch i (Does d) = record { moves = write_moves ch.frame.name d.effect.changes; end = refl }
+row_reported : (ch : Chain) (i : Ins) (r : RowEnd) → TurnIsReported (row_turn ch i r)
+row_reported ch i (Abends a) = record { moves = refl; end = refl }
+row_reported ch i (Does d) = record { moves = write_moves ch.frame.name d.effect.changes; end = refl }
 
-fetched_told : (ch : Chain) (r : Result (Ins × ℕ) DecodeFault) → TurnIsTold (turn_of_fetch ch r)
-fetched_told ch (Err Undefined) = record { moves = refl; end = refl }
-fetched_told ch (Err Past) = record { moves = refl; end = refl }
-fetched_told ch (Ok i) = row_told ch i.0 (row i.0 (frame_at ch.frame i.1) ch.public (around ch))
+fetched_reported : (ch : Chain) (r : Result (Ins × ℕ) DecodeFault) → TurnIsReported (turn_of_fetch ch r)
+fetched_reported ch (Err Undefined) = record { moves = refl; end = refl }
+fetched_reported ch (Err Past) = record { moves = refl; end = refl }
+fetched_reported ch (Ok i) = row_reported ch i.0 (row i.0 (frame_at ch.frame i.1) ch.public (around ch))
 
-acted_told : (ch : Chain) → TurnIsTold (turn_of_chain ch)
+acted_reported : (ch : Chain) → TurnIsReported (turn_of_chain ch)
 unfolding turn_of_chain
-acted_told ch = fetched_told ch (instruction_at (code_in (lookup ch.map ch.frame.name)) ch.frame.at)
+acted_reported ch = fetched_reported ch (instruction_at (code_in (lookup ch.map ch.frame.name)) ch.frame.at)
 
-pub is_told : (n : ℕ) (ch : Chain) → TurnIsTold (turn_of n ch)
-is_told zero ch = record { moves = refl; end = refl }
-is_told (suc n) ch = acted_told ch
+pub is_reported : (n : ℕ) (ch : Chain) → TurnIsReported (turn_of n ch)
+is_reported zero ch = record { moves = refl; end = refl }
+is_reported (suc n) ch = acted_reported ch
 
 -- a turn that goes on is counted
 row_counts : (ch next : Chain) (i : Ins) (r : RowEnd) → (row_turn ch i r).follows ≡ Continues next → (row_turn ch i r).count ≡ 1

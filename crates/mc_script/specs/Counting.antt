@@ -4,7 +4,7 @@ use Rattle.mc_model_device.specs.declared.device.Stop.{Stop}
 use Rattle.mc_model_device.specs.declared.device.Stop.TheVariants as stop
 use Rattle.mc_model_device.specs.Device.{DeviceState, BenchState, next_count}
 use Rattle.mc_model_card.specs.Items.{StopAt}
-use Rattle.mc_model_play.specs.Play.{Armed, Unarmed, ArmedCut, ArmedFail, State, Cold, Step, armed_stop_in}
+use Rattle.mc_model_play.specs.Play.{Armed, Unarmed, ArmedCut, ArmedFail, State, BeforePower, Step, armed_stop_in}
 use Rattle.mc_model_play.specs.DeckGrammar.{DeckLine}
 use Rattle.mc_model_play.specs.DeckGrammar as line
 
@@ -25,10 +25,11 @@ abbrev pub line_powers : DeckLine → ℕ
 line_powers line.Power = 1
 line_powers _ = 0
 
--- calls of `poke`: five for a `format` line, and one for a `poke` line whose place the device has, before the first power line
+-- calls of `poke`: five for a `format` line, and one for a `poke` line whose place the device has, before the first
+-- power line
 abbrev pub line_pokes : State → DeckLine → ℕ
-line_pokes (Cold m b a) line.Format = 5
-line_pokes (Cold m b a) (line.Poke at fill) = cond (nat_lt at (length m)) 1 0
+line_pokes (BeforePower m b a) line.Format = 5
+line_pokes (BeforePower m b a) (line.Poke at fill) = cond (nat_lt at (length m)) 1 0
 line_pokes _ l = 0
 
 -- calls of `arm`: at most one for a `cut` line
@@ -64,14 +65,14 @@ count_of_cuts None = 0
 count_of_cuts (Some t) = cut_kind t.kind
 
 -- 1 if a stop is a failed write, else 0
-abbrev pub worn_kind : Stop → ℕ
-worn_kind stop.Off = 0
-worn_kind stop.Worn = 1
+abbrev pub failure_kind : Stop → ℕ
+failure_kind stop.Off = 0
+failure_kind stop.Worn = 1
 
 -- 1 if a failed write hit a line, else 0
-abbrev pub worn_by : Option StopAt → ℕ
-worn_by None = 0
-worn_by (Some t) = worn_kind t.kind
+abbrev pub failure_by : Option StopAt → ℕ
+failure_by None = 0
+failure_by (Some t) = failure_kind t.kind
 
 -- ---- the counts
 
@@ -80,7 +81,8 @@ abbrev pub when_poked : BenchState → ℕ → ℕ
 when_poked b zero = b.poked
 when_poked b (suc k) = b.powers
 
--- the counts of a bench before and after lines that make the given numbers of calls and stops, and whose pokes all come before power does
+-- the counts of a bench before and after lines that make the given numbers of calls and stops, and whose pokes all come
+-- before power does
 pub record CountsCalls (b : BenchState) (d : DeviceState) (power_calls poke_calls cut worn : ℕ) (c : BenchState) (e : DeviceState) : Type 0 where
   pub powers : c.powers ≡ count_after_rises b.powers power_calls
   pub pokes : c.pokes ≡ count_after_rises b.pokes poke_calls
@@ -96,11 +98,11 @@ pub record Arms (b : BenchState) (due : Armed) (cuts fails : ℕ) (c : BenchStat
 
 -- the counts of one line
 pub record LineCounts (b : BenchState) (d : DeviceState) (t : Step) (c : BenchState) (e : DeviceState) : Type 0 where
-  pub counts : CountsCalls b d (line_powers t.line) (line_pokes t.before t.line) (count_of_cuts t.stop) (worn_by t.stop) c e
+  pub counts : CountsCalls b d (line_powers t.line) (line_pokes t.before t.line) (count_of_cuts t.stop) (failure_by t.stop) c e
   pub arms : Arms b (armed_stop_in t.before) (line_cuts t.line) (line_fails t.line) c (armed_stop_in t.after)
 
 -- the counts of a play that began with a stop still to be passed to the device
 pub record PlayCounts (b : BenchState) (d : DeviceState) (due : Armed) (ts : List Step) (c : BenchState) (e : DeviceState) : Type 0 where
-  pub counts : CountsCalls b d (total (λ t. line_powers t.line) ts) (total (λ t. line_pokes t.before t.line) ts) (total (λ t. count_of_cuts t.stop) ts) (total (λ t. worn_by t.stop) ts) c e
+  pub counts : CountsCalls b d (total (λ t. line_powers t.line) ts) (total (λ t. line_pokes t.before t.line) ts) (total (λ t. count_of_cuts t.stop) ts) (total (λ t. failure_by t.stop) ts) c e
   pub arms : c.arms ≤ b.arms + cuts_due due + total (λ t. line_cuts t.line) ts
   pub wears : c.wears ≤ b.wears + fails_due due + total (λ t. line_fails t.line) ts

@@ -2,13 +2,13 @@
 use Rattle.std.specs.Prelude.{◌≡◌, ℕ, ◌≤◌, List, length, Option, None, option_map}
 use Rattle.mc_model_device.specs.Device.{DeviceState, BenchState}
 use Rattle.mc_model_play.specs.Play as play
-use Rattle.mc_model_play.specs.Play.{LineResult, Unarmed, ArmedCut, ArmedFail, Live, Running, Unpowered, Muted, State, Cold, Hot, Formatted, Ready, Unusable, OffAt, WornStop, NoCard, Silenced, Answered, static_of}
+use Rattle.mc_model_play.specs.Play.{LineResult, Unarmed, ArmedCut, ArmedFail, Live, Running, Unpowered, Muted, State, BeforePower, AfterPower, Formatted, Ready, Unusable, OffAt, FailureStop, NoCard, Silenced, Answered, static_of}
 use Rattle.mc_model_device.specs.PowerUp.{Base, OnCard}
 use Rattle.mc_model_play.specs.Given.{budget_in}
 use Rattle.mc_store.specs.Power.{HoldsBase}
 use Rattle.mc_machine.specs.Turns.{outcome_value}
 use Rattle.mc_card.specs.declared.card.Card.{Card}
-use Rattle.mc_card.specs.Parts.{device_in, card_in, seat_in, IsReadyCard}
+use Rattle.mc_card.specs.Parts.{device_in, card_in, session_state_in, IsReadyCard}
 use Rattle.mc_script.specs.declared.armed.Armed.{Armed}
 use Rattle.mc_script.specs.declared.armed.Armed.TheVariants as armed
 use Rattle.mc_script.specs.declared.answer.Answer.{Answer}
@@ -52,14 +52,14 @@ module _ {N : Type 0} (state : N → DeviceState) where
 
   -- the result of a `dump` line for a name, by the power of a card
   abbrev pub dump_value : Power → Card N → List ℕ → LineResult
-  dump_value power.Cold c aid = NoCard
+  dump_value power.BeforePower c aid = NoCard
   dump_value power.Off c aid = NoCard
   dump_value power.Mute c aid = Silenced
   dump_value power.On c aid = static_of (lookup (card_in state c).apps aid)
 
   -- the static bytes of an application on a card with this power, if the card runs and has the application
   abbrev pub statics_by : Power → Card N → List ℕ → Option (List ℕ)
-  statics_by power.Cold c aid = None
+  statics_by power.BeforePower c aid = None
   statics_by power.Off c aid = None
   statics_by power.Mute c aid = None
   statics_by power.On c aid = option_map (λ a. a.fixed) (lookup (card_in state c).apps aid)
@@ -74,7 +74,7 @@ module _ {N : Type 0} (state : N → DeviceState) where
   answer_value p (answer.Ready n) = Ready n
   answer_value p (answer.Unusable u) = Unusable u.cause u.place
   answer_value p (answer.OffAt k) = OffAt k
-  answer_value p answer.Worn = WornStop
+  answer_value p answer.Worn = FailureStop
   answer_value p answer.NoCard = NoCard
   answer_value p answer.Mute = Silenced
   answer_value p answer.Outcome = Answered (outcome_value p.outcome)
@@ -86,23 +86,23 @@ module _ {N : Type 0} (state : N → DeviceState) where
   pub record IsCardOfPlay (c : Card N) (b : Base) (l : Live) : Type 0 where
     pub ready : IsReadyCard state c
     pub base : b ≡ OnCard (card_in state c)
-    pub live : l ≡ Running (seat_in state c)
+    pub live : l ≡ Running (session_state_in state c)
 
   -- the power is that of the play, from the first power line on
   abbrev pub LiveIs : Power → Card N → Base → Live → Type 0
-  LiveIs power.Cold c base live = ⊥
+  LiveIs power.BeforePower c base live = ⊥
   LiveIs power.Off c base live = live ≡ Unpowered
   LiveIs power.Mute c base live = live ≡ Muted
   LiveIs power.On c base live = IsCardOfPlay c base live
 
   -- the words and the power of a player are those of a state of a play
   abbrev pub StateIs : Power → Card N → State → Type 0
-  StateIs p c (Cold m b a) = (p ≡ power.Cold) × ((state (device_in c)).words ≡ m)
-  StateIs p c (Hot w) = LiveIs p c w.base w.live × HoldsBase w.base w.owed w.by (state (device_in c)).words
+  StateIs p c (BeforePower m b a) = (p ≡ power.BeforePower) × ((state (device_in c)).words ≡ m)
+  StateIs p c (AfterPower w) = LiveIs p c w.base w.live × HoldsBase w.base w.owed w.by (state (device_in c)).words
 
 module _ {N : Type 0} (state : N → DeviceState) (bench : N → BenchState) where
-  -- A player is at a state of a play: its power, words, budget and armed stop are those of the state. Between two lines its device has no
-  -- fuse.
+  -- A player is at a state of a play: its power, words, budget and armed stop are those of the state. Between two lines
+  -- its device has no fuse.
   pub record IsPlayerAt (p : Player N) (s : State) : Type 0 where
     pub stands : StateIs state p.power p.card s
     pub budget : p.budget ≡ budget_in s

@@ -1,10 +1,10 @@
--- A deck played on a device from the words that it holds: its text, the words and counts that it leaves, and the failed writes that
--- account for all of it.
+-- A deck played on a device from the words that it holds: its text, the words and counts that it leaves, and the failed
+-- writes that account for all of it.
 use Rattle.std.specs.Prelude.{◌≡◌, ℕ, ◌<◌, true, false, List, [], ◌∷◌, ◌++◌, length, Option, Some, None, Result, Ok, Err}
 use Rattle.mc_model_device.specs.Counts.{Rose}
 use Rattle.mc_model_device.specs.Device.{DeviceState, BenchState, Entry, GrowsBy}
 use Rattle.mc_model_play.specs.DeckGrammar.{DeckLine}
-use Rattle.mc_model_play.specs.Play.{State, WornAt, Step, armed_stop_in, plays, start, last_state, Possible, StandsForState, steady_worn, tape_worn, Accounts, MayHit, moves_of, steady_at, worn_in, words_left, AccountsForLine}
+use Rattle.mc_model_play.specs.Play.{State, FailedWrite, Step, armed_stop_in, plays, start, last_state, Possible, StandsForState, steady_failures, failures_of_tape, Accounts, MayHit, moves_of, steady_at, failures_in, words_left, AccountsForLine}
 use Rattle.mc_model_play.specs.Laws.{HoldsOf}
 use Rattle.mc_model_play.specs.ReadyAgain.{AllFitJournal, ReadyAgain}
 pub use Rattle.mc_model_play.specs.Transcript.{plain_text, texts}
@@ -22,17 +22,17 @@ pub record Bench : Type 0 where
 
 -- ---- one line that was played
 
--- the tape of a line with this step: its entries account for it, record its failed write, and leave the words, whether the device records
--- them or not
-pub record StepTape (s : State) (l : ℕ × DeckLine) (w : Option WornAt) (t : Step) (d e : DeviceState) : Type 0 where
+-- the tape of a line with this step: its entries account for it, record its failed write, and leave the words, whether
+-- the device records them or not
+pub record StepTape (s : State) (l : ℕ × DeckLine) (w : Option FailedWrite) (t : Step) (d e : DeviceState) : Type 0 where
   pub entries : List Entry
   pub grows : GrowsBy d.tape entries e.tape
   pub accounts : AccountsForLine d.words s l t entries
-  pub worn : worn_in 0 entries ≡ w
+  pub worn : failures_in 0 entries ≡ w
   pub left : words_left d.words entries t.after ≡ e.words
 
 -- A line was played on a bench as this step, with this failed write, if it had one.
-pub record PlayedLine (s : State) (l : ℕ × DeckLine) (w : Option WornAt) (t : Step) (a b : Bench) : Type 0 where
+pub record PlayedLine (s : State) (l : ℕ × DeckLine) (w : Option FailedWrite) (t : Step) (a b : Bench) : Type 0 where
   pub may : MayHit s l w
   pub counts : LineCounts a.bench a.device t b.bench b.device
   pub steady : a.bench.steady ≡ true → w ≡ steady_at (armed_stop_in s) l.1 (moves_of s l)
@@ -41,32 +41,32 @@ pub record PlayedLine (s : State) (l : ℕ × DeckLine) (w : Option WornAt) (t :
 -- ---- lines that were played
 
 -- the tape of lines, if it is recorded: its new entries account for each of them, and record the failed writes
-pub record TapeTells (m : List (List ℕ)) (s : State) (ls : List (ℕ × DeckLine)) (ws : List (Option WornAt)) (entries : List Entry) : Type 0 where
-  pub worn : ws ≡ tape_worn s ls entries
+pub record TapeReports (m : List (List ℕ)) (s : State) (ls : List (ℕ × DeckLine)) (ws : List (Option FailedWrite)) (entries : List Entry) : Type 0 where
+  pub worn : ws ≡ failures_of_tape s ls entries
   pub accounts : Accounts m s ls ws entries
 
 -- if the tape is recorded at the end, it was recorded at the start, and its new entries record the lines
-abbrev pub TapeIs : List (List ℕ) → State → List (ℕ × DeckLine) → List (Option WornAt) → Option (List Entry) → Option (List Entry) → Type 0
+abbrev pub TapeIs : List (List ℕ) → State → List (ℕ × DeckLine) → List (Option FailedWrite) → Option (List Entry) → Option (List Entry) → Type 0
 TapeIs m s ls ws old None = Unit {0}
 TapeIs m s ls ws None (Some new) = ⊥
-TapeIs m s ls ws (Some old) (Some new) = (entries : List Entry) × (new ≡ old ++ entries) × TapeTells m s ls ws entries
+TapeIs m s ls ws (Some old) (Some new) = (entries : List Entry) × (new ≡ old ++ entries) × TapeReports m s ls ws entries
 
--- Lines played from a state with the given failed writes: one list of them accounts for the words, the counts and the tape together. A
--- stop that was armed and hit no line remains with the player, and no fuse is left to the device.
-pub record Played (s : State) (ls : List (ℕ × DeckLine)) (ws : List (Option WornAt)) (a b : Bench) : Type 0 where
+-- Lines played from a state with the given failed writes: one list of them accounts for the words, the counts and the
+-- tape together. A stop that was armed and hit no line remains with the player, and no fuse is left to the device.
+pub record Played (s : State) (ls : List (ℕ × DeckLine)) (ws : List (Option FailedWrite)) (a b : Bench) : Type 0 where
   pub possible : Possible s ls ws
   pub words : StandsForState b.device.words (last_state s (plays s ls ws))
   pub counts : PlayCounts a.bench a.device (armed_stop_in s) (plays s ls ws) b.bench b.device
-  pub steady : a.bench.steady ≡ true → ws ≡ steady_worn s ls
+  pub steady : a.bench.steady ≡ true → ws ≡ steady_failures s ls
   pub tape : TapeIs a.device.words s ls ws a.device.tape b.device.tape
   pub unfused : IsUnfused b.bench
 
--- Lines were played from a state with the given failed writes, up to another state: a play of more lines from there is, with these lines
--- before it, a play from the first state.
-pub record LeadsTo (s : State) (ls : List (ℕ × DeckLine)) (ws : List (Option WornAt)) (a : Bench) (u : State) (b : Bench) : Type 0 where
+-- Lines were played from a state with the given failed writes, up to another state: a play of more lines from there is,
+-- with these lines before it, a play from the first state.
+pub record LeadsTo (s : State) (ls : List (ℕ × DeckLine)) (ws : List (Option FailedWrite)) (a : Bench) (u : State) (b : Bench) : Type 0 where
   pub many : length ws ≡ length ls
   pub last : u ≡ last_state s (plays s ls ws)
-  pub rest : (ks : List (ℕ × DeckLine)) (vs : List (Option WornAt)) (c : Bench) → Played u ks vs b c → Played s (ls ++ ks) (ws ++ vs) a c
+  pub rest : (ks : List (ℕ × DeckLine)) (vs : List (Option FailedWrite)) (c : Bench) → Played u ks vs b c → Played s (ls ++ ks) (ws ++ vs) a c
 
 -- ---- their text
 
@@ -82,7 +82,8 @@ pub record CutText (f : Step → List ℕ) (a : Sunk) (ts : List Step) (b : Sunk
   pub written : Grew a.taken b.taken (texts f before ++ front)
   pub cause : Rose a.faults b.faults
 
--- the lines that were played, and what was written of their text: all lines, or those up to the first whose text is not wholly written
+-- the lines that were played, and what was written of their text: all lines, or those up to the first whose text is not
+-- wholly written
 abbrev pub PlayEnds : (Step → List ℕ) → Sunk → List (ℕ × DeckLine) → List Step → Result (Unit {0}) WriteFault → Sunk → Type 0
 PlayEnds f a rest ts (Ok u) b = (rest ≡ []) × Grew a.taken b.taken (texts f ts)
 PlayEnds f a rest ts (Err e) b = CutText f a ts b
@@ -94,13 +95,14 @@ pub record PlaysFrom (f : Step → List ℕ) (s : State) (ls : List (ℕ × Deck
   pub lines : List (ℕ × DeckLine)
   pub rest : List (ℕ × DeckLine)
   pub are : ls ≡ lines ++ rest
-  pub worn : List (Option WornAt)
+  pub worn : List (Option FailedWrite)
   pub played : Played s lines worn a b
   pub text : PlayEnds f x rest (plays s lines worn) result y
 
--- A deck played on a device, with its text. Every closed family of applications gets the same answers and holds the same bytes as on a
--- card of its own, each line leaves the card with its whole items, and no new application has a stale byte. Each item fits a journal, and
--- a card that was found or formatted is found by every later power line that no stop hits.
+-- A deck played on a device, with its text. Every closed family of applications gets the same answers and holds the
+-- same bytes as on a card of its own, each line leaves the card with its whole items, and no new application has a
+-- stale byte. Each item fits a journal, and a card that was found or formatted is found by every later power line that
+-- no stop hits.
 pub record PlaysDeck (f : Step → List ℕ) (ls : List (ℕ × DeckLine)) (a : Bench) (x : Sunk) (result : Result (Unit {0}) WriteFault) (b : Bench) (y : Sunk) : Type 0 where
   pub from : PlaysFrom f (start a.device.words) ls a x result b y
   pub laws : HoldsOf a.device.words (plays (start a.device.words) from.lines from.worn)
@@ -109,7 +111,7 @@ pub record PlaysDeck (f : Step → List ℕ) (ls : List (ℕ × DeckLine)) (a : 
 
 -- A deck played on a device, and a text of the whole play, with the laws of a played deck.
 pub record SumsDeck (f : List Step → List ℕ) (ls : List (ℕ × DeckLine)) (a : Bench) (x : Sunk) (result : Result (Unit {0}) WriteFault) (b : Bench) (y : Sunk) : Type 0 where
-  pub worn : List (Option WornAt)
+  pub worn : List (Option FailedWrite)
   pub played : Played (start a.device.words) ls worn a b
   pub laws : HoldsOf a.device.words (plays (start a.device.words) ls worn)
   pub few : AllFitJournal (plays (start a.device.words) ls worn)

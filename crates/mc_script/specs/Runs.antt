@@ -19,13 +19,13 @@ pub record StoppedAtWrite {D : Type 0} (wrote : D → ℕ → List ℕ → Answe
   pub before : Makes wrote d (take (k - 1) ws) (Ok tt) middle
   pub stopped : wrote middle (slice_index_or ws (k - 1) (0, [])).0 (slice_index_or ws (k - 1) (0, [])).1 (Err s) e
 
-module _ {N R : Type 0} (state : N → DeviceState) (wrote : N → ℕ → List ℕ → Answer → N → Type 0) (told : R → List Turn → R → Type 0) where
+module _ {N R : Type 0} (state : N → DeviceState) (wrote : N → ℕ → List ℕ → Answer → N → Type 0) (reported : R → List Turn → R → Type 0) where
   -- the turns of a command that the runner records: all, or those before the write that stopped
-  abbrev pub TellsTurns : Card N → List (ℕ × List ℕ) → List Turn → Result Outcome Stop → Card N → R → R → Type 0
-  TellsTurns c ws ts (Ok o) d q r = told q ts r
-  TellsTurns c ws ts (Err s) d q r = (k : ℕ) × StoppedAtWrite wrote (device_in c) ws k s (device_in d) × told q (before_stop ts k) r
+  abbrev pub ReportsTurns : Card N → List (ℕ × List ℕ) → List Turn → Result Outcome Stop → Card N → R → R → Type 0
+  ReportsTurns c ws ts (Ok o) d q r = reported q ts r
+  ReportsTurns c ws ts (Err s) d q r = (k : ℕ) × StoppedAtWrite wrote (device_in c) ws k s (device_in d) × reported q (before_stop ts k) r
 
   -- a command that was run, and whose turns were recorded
-  pub record RanAndTold (c : Card N) (r : Command) (result : Result Outcome Stop) (d : Card N) (before after : R) : Type 0 where
+  pub record RanAndReported (c : Card N) (r : Command) (result : Result Outcome Stop) (d : Card N) (before after : R) : Type 0 where
     pub commanded : Commanded state wrote c r result d
-    pub tells : TellsTurns c commanded.made.writes r.turns result d before after
+    pub reports : ReportsTurns c commanded.made.writes r.turns result d before after

@@ -3,7 +3,7 @@ use Rattle.std.specs.Prelude.{◌≡◌, ℕ, true, List, [], ◌∷◌, ◌++�
 use Rattle.std.specs.List.{AllByRecursion}
 use Rattle.mc_model_play.specs.DeckGrammar.{DeckLine}
 use Rattle.mc_model_play.specs.DeckGrammar as line
-use Rattle.mc_model_play.specs.Play.{State, WornAt, LineResult, Step, plays, last_state, step}
+use Rattle.mc_model_play.specs.Play.{State, FailedWrite, LineResult, Step, plays, last_state, step}
 use Rattle.mc_model_play.specs.Transcript.{text_of_result}
 use Rattle.mc_model_play.specs.Generator.{is_reply, is_abend, is_cut, is_off, is_ready, is_dump, results, count}
 use Rattle.mc_model_device.specs.Device.{DeviceState, BenchState}
@@ -58,13 +58,13 @@ dumps_text s (l ∷ ls) = dump_text s l.1 ++ dumps_text s ls
 module _ {N : Type 0} (state : N → DeviceState) (bench : N → BenchState) where
   -- all lines were played, and their results were counted
   pub record Tallied (s : State) (ls : List (ℕ × DeckLine)) (a : Bench) (p : Player N) (c : Counts) : Type 0 where
-    pub worn : List (Option WornAt)
+    pub worn : List (Option FailedWrite)
     pub played : Played s ls worn a (bench_of state bench p)
     pub at : IsPlayerAt state bench p (last_state s (plays s ls worn))
     pub counted : Counted c (results (plays s ls worn))
 
 -- lines were played from a state, and a text of the whole play was written
 pub record SumsFrom (f : List Step → List ℕ) (s : State) (ls : List (ℕ × DeckLine)) (a : Bench) (x : Sunk) (result : Result (Unit {0}) WriteFault) (b : Bench) (y : Sunk) : Type 0 where
-  pub worn : List (Option WornAt)
+  pub worn : List (Option FailedWrite)
   pub played : Played s ls worn a b
   pub text : Puts x (f (plays s ls worn)) result y

@@ -11,8 +11,8 @@ use Rattle.mc_text.specs.Texts.{sunk_in}
 use Rattle.mc_text.specs.Logs.{Logged}
 use Rattle.mc_text.specs.Logs as text
 use Rattle.mc_text.proofs.LogLemmas.{logged_none, logged_on}
-use Rattle.mc_script.specs.declared.writer.Telling.{Telling}
-use Rattle.mc_script.specs.declared.writer.Telling.TheVariants.{Results, Turns}
+use Rattle.mc_script.specs.declared.writer.Reporting.{Reporting}
+use Rattle.mc_script.specs.declared.writer.Reporting.TheVariants.{Results, Turns}
 use Rattle.mc_script.specs.declared.writer.Writer.{Writer}
 
 -- ---- texts
@@ -23,13 +23,13 @@ write_result None = Ok tt
 write_result (Some f) = Err f
 
 -- the turns of which a line is written
-abbrev pub told_turns : Telling → List Turn → List Turn
-told_turns Results ts = []
-told_turns Turns ts = ts
+abbrev pub reported_turns : Reporting → List Turn → List Turn
+reported_turns Results ts = []
+reported_turns Turns ts = ts
 
 -- the text of turns
-abbrev pub turns_text : Telling → List Turn → List ℕ
-turns_text t ts = turn_lines (told_turns t ts)
+abbrev pub turns_text : Reporting → List Turn → List ℕ
+turns_text t ts = turn_lines (reported_turns t ts)
 
 -- the text of a line, by the text of its turns
 abbrev pub text_by : (List Turn → List ℕ) → Step → List ℕ
@@ -43,28 +43,28 @@ log_in taken faults w = record { out = sunk_in taken faults w.out.now; fault = w
 
 -- turns that a writer recorded: it has the same sink as before, with the lines of those turns that it writes
 pub record WriterKeeps {T : Type 0} (taken : T → Option (List ℕ)) (faults : T → ℕ) (w : Writer T) (ts : List Turn) (x : Writer T) : Type 0 where
-  pub lines : Logged (log_in taken faults w) (told_turns w.telling ts) (log_in taken faults x)
-  pub telling : x.telling ≡ w.telling
+  pub lines : Logged (log_in taken faults w) (reported_turns w.reporting ts) (log_in taken faults x)
+  pub reporting : x.reporting ≡ w.reporting
   pub same : x.out.ghost_name ≡ w.out.ghost_name
 
 -- ---- their laws
 
 -- of no turns no line is written
-pub told_none : (t : Telling) → [] ≡ told_turns t []
-told_none Results = refl
-told_none Turns = refl
+pub reported_none : (t : Reporting) → [] ≡ reported_turns t []
+reported_none Results = refl
+reported_none Turns = refl
 
 -- the lines of turns after turns are written after theirs
-pub told_behind : (t : Telling) (ts us : List Turn) → told_turns t ts ++ told_turns t us ≡ told_turns t (ts ++ us)
-told_behind Results ts us = refl
-told_behind Turns ts us = refl
+pub reported_behind : (t : Reporting) (ts us : List Turn) → reported_turns t ts ++ reported_turns t us ≡ reported_turns t (ts ++ us)
+reported_behind Results ts us = refl
+reported_behind Turns ts us = refl
 
 module _ {T : Type 0} (taken : T → Option (List ℕ)) (faults : T → ℕ) where
   -- a writer that recorded no turn is unchanged
   pub keeps_none : (w : Writer T) → WriterKeeps taken faults w [] w
   keeps_none w =
       let log = log_in taken faults w in
-      record { lines = subst (λ (ts : List Turn). Logged log ts log) (told_none w.telling) (logged_none log); telling = refl; same = refl }
+      record { lines = subst (λ (ts : List Turn). Logged log ts log) (reported_none w.reporting) (logged_none log); reporting = refl; same = refl }
 
   -- turns are recorded after turns
   pub keeps_on : (w x y : Writer T) (ts us : List Turn) → WriterKeeps taken faults w ts x → WriterKeeps taken faults x us y → WriterKeeps taken faults w (ts ++ us) y
@@ -72,9 +72,9 @@ module _ {T : Type 0} (taken : T → Option (List ℕ)) (faults : T → ℕ) whe
       let a = log_in taken faults w in
       let b = log_in taken faults x in
       let c = log_in taken faults y in
-      let more = subst (λ (t : Telling). Logged b (told_turns t us) c) first.telling rest.lines in
+      let more = subst (λ (t : Reporting). Logged b (reported_turns t us) c) first.reporting rest.lines in
       record {
-        lines = subst (λ (vs : List Turn). Logged a vs c) (told_behind w.telling ts us) (logged_on a b c (told_turns w.telling ts) (told_turns w.telling us) first.lines more);
-        telling = rest.telling ∙ first.telling;
+        lines = subst (λ (vs : List Turn). Logged a vs c) (reported_behind w.reporting ts us) (logged_on a b c (reported_turns w.reporting ts) (reported_turns w.reporting us) first.lines more);
+        reporting = rest.reporting ∙ first.reporting;
         same = rest.same ∙ first.same;
       }

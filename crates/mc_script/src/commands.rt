@@ -2,9 +2,9 @@
 ghost use Rattle.std.specs.Prelude.{◌≡◌, ◌≤◌, ◌++◌, ◌∷◌, length};
 ghost use Rattle.mc_model_play.specs.Play.{line_command};
 ghost use Rattle.mc_deck.specs.Lines.{GoodLine};
-ghost use Rattle.mc_card.specs.Parts.{device_in, card_in, seat_in, IsReadyCard};
+ghost use Rattle.mc_card.specs.Parts.{device_in, card_in, session_state_in, IsReadyCard};
 ghost use Rattle.mc_script.specs.Commands.{deck_line_of};
-ghost use Rattle.mc_script.specs.Runs.{RanAndTold};
+ghost use Rattle.mc_script.specs.Runs.{RanAndReported};
 ghost use Rattle.mc_card.specs.Ends.{outcome_or_stop};
 
 use crate::loading::{LoadCommands, send};
@@ -54,10 +54,10 @@ pub fn run_line<N: Nvm, R: Runner, L: Ledger>(
     requires some { 1 ≤ budget }
     requires budget { budget ≤ 65536 }
     requires good { GoodLine (deck_line_of command.now) }
-    ensures done { RanAndTold N.state N.wrote R.told card.old
-        (line_command (card_in N.state card.old) (seat_in N.state card.old) budget (deck_line_of command.now))
+    ensures done { RanAndReported N.state N.wrote R.reported card.old
+        (line_command (card_in N.state card.old) (session_state_in N.state card.old) budget (deck_line_of command.now))
         (outcome_or_stop result into.new) card.new runner.old runner.new }
-    ensures lent { N.same (device_in card.old) (device_in card.new) }
+    ensures keeps_device { N.same (device_in card.old) (device_in card.new) }
 {
     match command {
         CardLine::Select(aid) => runner.run(

@@ -17,7 +17,7 @@ impl<N: Bench> Player<N> {
         requires playing { IsPlaying N.state N.bench self.old }
         ensures done { (s : State) → IsPlayerAt N.state N.bench self.old s
             → DeckPlayed N.state N.bench self.old s deck.now self.new }
-        ensures lent { N.same (device_of self.old) (device_of self.new) }
+        ensures keeps_device { N.same (device_of self.old) (device_of self.new) }
     {
         for i in 0..deck.len() {
             let (_number, line) = deck.line(i);

@@ -26,9 +26,9 @@ impl<N: Bench> Player<N> {
     ) -> Option<Answer>
         requires playing { IsPlaying N.state N.bench self.old }
         requires good { GoodLine (line_of line.now) }
-        ensures done { LineDone N.state N.bench R.told self.old
+        ensures done { LineDone N.state N.bench R.reported self.old
             (line_of line.now) runner.old runner.new result self.new }
-        ensures lent { N.same (device_of self.old) (device_of self.new) }
+        ensures keeps_device { N.same (device_of self.old) (device_of self.new) }
     {
         match line {
             Line::Format => self.format(),

@@ -7,9 +7,9 @@ ghost use Rattle.mc_model_card.specs.Units.{FitsUnit};
 ghost use Rattle.mc_model_play.specs.Play.{is_done, load_commands, section_commands, send};
 ghost use Rattle.mc_unit.specs.Parts.{parts_of};
 ghost use Rattle.mc_machine.specs.Turns.{outcome_value};
-ghost use Rattle.mc_card.specs.Parts.{device_in, card_in, seat_in, IsReadyCard};
+ghost use Rattle.mc_card.specs.Parts.{device_in, card_in, session_state_in, IsReadyCard};
 ghost use Rattle.mc_script.specs.Classes.{IsManaged};
-ghost use Rattle.mc_script.specs.Runs.{RanAndTold};
+ghost use Rattle.mc_script.specs.Runs.{RanAndReported};
 ghost use Rattle.mc_card.specs.Ends.{outcome_or_stop};
 
 use crate::runner::Runner;
@@ -232,10 +232,10 @@ pub fn send<N: Nvm, R: Runner, L: Ledger>(
     requires some { 1 ≤ budget }
     requires budget { budget ≤ 65536 }
     requires managed { AllByRecursion IsManaged commands.old }
-    ensures done { RanAndTold N.state N.wrote R.told card.old
-        (send (card_in N.state card.old) (seat_in N.state card.old) budget commands.old)
+    ensures done { RanAndReported N.state N.wrote R.reported card.old
+        (send (card_in N.state card.old) (session_state_in N.state card.old) budget commands.old)
         (outcome_or_stop result into.new) card.new runner.old runner.new }
-    ensures lent { N.same (device_in card.old) (device_in card.new) }
+    ensures keeps_device { N.same (device_in card.old) (device_in card.new) }
 {
     while let Some(bytes) = commands.next() {
         runner.run(card, bytes.as_slice(), budget, into, steps)?;

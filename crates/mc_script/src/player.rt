@@ -14,7 +14,7 @@ const FIRST_BUDGET: u32 = 10_000;
 /// failed write, or with a card that runs.
 #[derive(Clone, Copy, Debug, PartialEq, Eq)]
 pub enum Power {
-    Cold,
+    BeforePower,
     Off,
     Mute,
     On,
@@ -41,7 +41,7 @@ impl<N: Bench> Player<N> {
     {
         Player {
             card: Card::asleep(device),
-            power: Power::Cold,
+            power: Power::BeforePower,
             budget: FIRST_BUDGET,
             armed: Armed::Not,
             outcome: Outcome::done(),

@@ -13,7 +13,7 @@ ghost use Rattle.mc_script.specs.Plays.{plain_text, traced_text, PlaysFrom, Play
 
 use crate::player::Player;
 use crate::summing::sum_lines;
-use crate::writer::{Telling, Writer};
+use crate::writer::{Reporting, Writer};
 use mc_base::{Sink, Steps, WriteFault};
 use mc_deck::Deck;
 use mc_nvm::Bench;
@@ -28,13 +28,13 @@ fn play_lines<N: Bench, T: Sink, L: Ledger>(
 ) -> N
     requires fuses { IsUnfused (N.bench device) }
     requires fault { writer.old.fault ≡ None }
-    ensures plays { PlaysFrom (text_by (turns_text writer.old.telling)) (start (N.state device).words) deck.now
+    ensures plays { PlaysFrom (text_by (turns_text writer.old.reporting)) (start (N.state device).words) deck.now
         (record { device = N.state device; bench = N.bench device }) (sunk_in T.taken T.faults writer.old.out.now)
         (write_result writer.new.fault) (record { device = N.state result; bench = N.bench result })
         (sunk_in T.taken T.faults writer.new.out.now) }
     ensures image { IsImage (N.state device).words }
     ensures lines { AllByRecursion (λ l. IsLine l.1) deck.now }
-    ensures lent { N.same device result }
+    ensures keeps_device { N.same device result }
     ensures same { writer.new.out.ghost_name ≡ writer.old.out.ghost_name }
 {
     let _words = device.len();
@@ -42,7 +42,7 @@ fn play_lines<N: Bench, T: Sink, L: Ledger>(
     for i in 0..deck.len() {
         let (number, line) = deck.line(i);
         let answer = player.line(&line, writer, steps);
-        writer.tell(number, &player, &answer);
+        writer.report(number, &player, &answer);
         if writer.ended().is_err() {
             return player.into_dev();
         }
@@ -50,7 +50,8 @@ fn play_lines<N: Bench, T: Sink, L: Ledger>(
     player.into_dev()
 }
 
-/// Plays a deck on a device and writes its transcript: for each line that answers its number, a blank, its result and a line feed.
+/// Plays a deck on a device and writes its transcript: for each line that answers its number, a blank, its result and a
+/// line feed.
 ///
 /// The device has no fuse at the start. If the sink fails, the line whose text it was is played whole, and no
 /// later line is.
@@ -70,7 +71,7 @@ pub fn play<N: Bench, T: Sink, L: Ledger>(
         (record { device = N.state dev.new; bench = N.bench dev.new })
         (record { taken = T.taken out.new; faults = T.faults out.new }) }
 {
-    let mut writer = Writer::new(&mut *out, Telling::Results);
+    let mut writer = Writer::new(&mut *out, Reporting::Results);
     let _dev = play_lines(deck, &mut *dev, &mut writer, steps);
     writer.ended()
 }
@@ -95,7 +96,7 @@ pub fn trace<N: Bench, T: Sink, L: Ledger>(
         (record { device = N.state dev.new; bench = N.bench dev.new })
         (record { taken = T.taken out.new; faults = T.faults out.new }) }
 {
-    let mut writer = Writer::new(&mut *out, Telling::Turns);
+    let mut writer = Writer::new(&mut *out, Reporting::Turns);
     let _dev = play_lines(deck, &mut *dev, &mut writer, steps);
     writer.ended()
 }
@@ -122,7 +123,7 @@ pub fn summarise<N: Bench, T: Sink, L: Ledger>(
         (record { device = N.state dev.new; bench = N.bench dev.new })
         (record { taken = T.taken out.new; faults = T.faults out.new }) }
 {
-    let mut writer = Writer::new(&mut *out, Telling::Results);
+    let mut writer = Writer::new(&mut *out, Reporting::Results);
     let _dev = sum_lines(deck, &mut *dev, &mut writer, steps);
     writer.ended()
 }

@@ -29,7 +29,7 @@ fn arm<N: Bench>(card: &mut Card<N>, armed: Armed)
     ensures state { N.state (device_in card.new) ≡ N.state (device_in card.old) }
     ensures bench { N.bench (device_in card.new) ≡ armed_bench armed (N.bench (device_in card.old)) }
     ensures rest { card.new ≡ with_device card.old (device_in card.new) }
-    ensures lent { N.same (device_in card.old) (device_in card.new) }
+    ensures keeps_device { N.same (device_in card.old) (device_in card.new) }
 {
     match armed {
         Armed::Not => {}
@@ -83,7 +83,7 @@ impl<N: Bench> Player<N> {
     pub(crate) fn power_line(&mut self) -> Answer
         requires { IsPlaying N.state N.bench self.old }
         ensures done { SilentDone N.state N.bench self.old line.Power (Some result) self.new }
-        ensures lent { N.same (device_of self.old) (device_of self.new) }
+        ensures keeps_device { N.same (device_of self.old) (device_of self.new) }
     {
         let armed = self.armed;
         self.armed = Armed::Not;
@@ -113,12 +113,12 @@ impl<N: Bench> Player<N> {
     ) -> Answer
         requires playing { IsPlaying N.state N.bench self.old }
         requires good { GoodLine (deck_line_of command.now) }
-        ensures done { LineDone N.state N.bench R.told self.old (deck_line_of command.now) runner.old runner.new
+        ensures done { LineDone N.state N.bench R.reported self.old (deck_line_of command.now) runner.old runner.new
             (Some result) self.new }
-        ensures lent { N.same (device_of self.old) (device_of self.new) }
+        ensures keeps_device { N.same (device_of self.old) (device_of self.new) }
     {
         match self.power {
-            Power::Cold => self.refuse(Answer::NoCard),
+            Power::BeforePower => self.refuse(Answer::NoCard),
             Power::Off => self.refuse(Answer::NoCard),
             Power::Mute => self.refuse(Answer::Mute),
             Power::On => self.run_on(command, runner, steps),
@@ -147,9 +147,9 @@ impl<N: Bench> Player<N> {
         requires most { self.old.budget ≤ 65536 }
         requires can { CanArm self.old.armed }
         requires good { GoodLine (deck_line_of command.now) }
-        ensures done { LineDone N.state N.bench R.told self.old (deck_line_of command.now) runner.old runner.new
+        ensures done { LineDone N.state N.bench R.reported self.old (deck_line_of command.now) runner.old runner.new
             (Some result) self.new }
-        ensures lent { N.same (device_of self.old) (device_of self.new) }
+        ensures keeps_device { N.same (device_of self.old) (device_of self.new) }
     {
         let armed = self.armed;
         self.armed = Armed::Not;

@@ -23,7 +23,7 @@ fn poke_all<N: Bench>(card: &mut Card<N>, list: &[(u16, Word)])
     ensures state { N.state (device_in card.new)
         ≡ record (N.state (device_in card.old)) { words = image_with (N.state (device_in card.old)).words list.now } }
     ensures bench { N.bench (device_in card.new) ≡ bench_after_pokes (length list.now) (N.bench (device_in card.old)) }
-    ensures lent { N.same (device_in card.old) (device_in card.new) }
+    ensures keeps_device { N.same (device_in card.old) (device_in card.new) }
 {
     for (at, word) in list {
         card.poke(*at as u32, *word);
@@ -35,7 +35,7 @@ fn format<N: Bench>(card: &mut Card<N>)
     ensures state { N.state (device_in card.new)
         ≡ record (N.state (device_in card.old)) { words = formatted_image (N.state (device_in card.old)).words } }
     ensures bench { N.bench (device_in card.new) ≡ bench_after_pokes 5 (N.bench (device_in card.old)) }
-    ensures lent { N.same (device_in card.old) (device_in card.new) }
+    ensures keeps_device { N.same (device_in card.old) (device_in card.new) }
 {
     let words = format_words(card.len());
     poke_all(card, &words);
@@ -48,7 +48,7 @@ fn poke<N: Bench>(card: &mut Card<N>, at: u16, fill: Word)
     ensures bench { N.bench (device_in card.new)
         ≡ bench_after_pokes (cond (nat_lt at (length (N.state (device_in card.old)).words)) 1 0)
         (N.bench (device_in card.old)) }
-    ensures lent { N.same (device_in card.old) (device_in card.new) }
+    ensures keeps_device { N.same (device_in card.old) (device_in card.new) }
 {
     if (at as u32) < card.len() {
         card.poke(at as u32, fill);
@@ -87,10 +87,10 @@ impl<N: Bench> Player<N> {
     /// Plays a `format` line, which does nothing after the first power line.
     pub(crate) fn format(&mut self) -> Option<Answer>
         ensures done { SilentDone N.state N.bench self.old line.Format result self.new }
-        ensures lent { N.same (device_of self.old) (device_of self.new) }
+        ensures keeps_device { N.same (device_of self.old) (device_of self.new) }
     {
         match self.power {
-            Power::Cold => {
+            Power::BeforePower => {
                 format(&mut self.card);
                 Some(Answer::Formatted)
             }
@@ -101,10 +101,10 @@ impl<N: Bench> Player<N> {
     /// Plays a `poke` line, which does nothing after the first power line.
     pub(crate) fn poke(&mut self, at: u16, fill: Word)
         ensures done { SilentDone N.state N.bench self.old (line.Poke at fill) None self.new }
-        ensures lent { N.same (device_of self.old) (device_of self.new) }
+        ensures keeps_device { N.same (device_of self.old) (device_of self.new) }
     {
         match self.power {
-            Power::Cold => poke(&mut self.card, at, fill),
+            Power::BeforePower => poke(&mut self.card, at, fill),
             _ => {}
         }
     }

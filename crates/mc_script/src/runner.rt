@@ -2,7 +2,7 @@
 ghost use Rattle.std.specs.Prelude.{◌≡◌, ◌≤◌, ◌++◌, List, []};
 ghost use Rattle.mc_model_machine.specs.Chain.{Turn as ModelTurn};
 ghost use Rattle.mc_card.specs.Parts.{device_in, due, IsReadyCard};
-ghost use Rattle.mc_script.specs.Runs.{RanAndTold};
+ghost use Rattle.mc_script.specs.Runs.{RanAndReported};
 ghost use Rattle.mc_card.specs.Ends.{outcome_or_stop};
 
 use mc_base::{Steps, Stop};
@@ -14,7 +14,7 @@ use std::sync::ledger::Ledger;
 /// Runs the commands of a play, and may record their turns.
 pub trait Runner {
     /// The runner before and after it recorded some turns, in order.
-    ghost told: { Self → List ModelTurn → Self → Type 0 };
+    ghost reported: { Self → List ModelTurn → Self → Type 0 };
 
     /// Runs one command on a card, with a budget of 1 to 65,536 instructions, and writes its outcome to
     /// `into`. The turns that are recorded are those of its run; if a write stopped, those before the turn
@@ -34,15 +34,15 @@ pub trait Runner {
         requires ready { IsReadyCard N.state card.old }
         requires some { 1 ≤ budget }
         requires budget { budget ≤ 65536 }
-        ensures done { RanAndTold N.state N.wrote told card.old (due N.state card.old bytes.now budget)
+        ensures done { RanAndReported N.state N.wrote reported card.old (due N.state card.old bytes.now budget)
             (outcome_or_stop result into.new) card.new self.old self.new }
-        ensures lent { N.same (device_in card.old) (device_in card.new) };
+        ensures keeps_device { N.same (device_in card.old) (device_in card.new) };
 
     /// Without turns nothing is recorded.
-    ghost silent: { (r : Self) → told r [] r };
+    ghost silent: { (r : Self) → reported r [] r };
 
     /// Turns are recorded after those before them.
-    ghost onward: { (q r s : Self) (ts us : List ModelTurn) → told q ts r → told r us s → told q (ts ++ us) s };
+    ghost onward: { (q r s : Self) (ts us : List ModelTurn) → reported q ts r → reported r us s → reported q (ts ++ us) s };
 }
 
 /// Runs commands, and records nothing of their turns.
@@ -50,7 +50,7 @@ pub trait Runner {
 pub struct Silent;
 
 impl Runner for Silent {
-    ghost told = { λ q ts r. Unit {0} };
+    ghost reported = { λ q ts r. Unit {0} };
 
     ghost silent = { λ r. tt };
 

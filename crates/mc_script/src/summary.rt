@@ -112,7 +112,7 @@ fn is_off<N: Bench>(player: &Player<N>, answer: &Answer) -> bool
 {
     match answer {
         Answer::NoCard => true,
-        Answer::Dump(_) => matches!(player.power, Power::Cold | Power::Off),
+        Answer::Dump(_) => matches!(player.power, Power::BeforePower | Power::Off),
         _ => false,
     }
 }

@@ -29,7 +29,7 @@ fn tally<N: Bench, L: Ledger>(player: &mut Player<N>, deck: &Deck, steps: &mut S
     requires { IsPlaying N.state N.bench player.old }
     ensures tallied { (s : State) → IsPlayerAt N.state N.bench player.old s
         → Tallied N.state N.bench s deck.now (bench_of N.state N.bench player.old) player.new result }
-    ensures lent { N.same (device_of player.old) (device_of player.new) }
+    ensures keeps_device { N.same (device_of player.old) (device_of player.new) }
 {
     let mut counts = Counts::new();
     let mut runner = Silent;
@@ -112,7 +112,7 @@ pub fn sum_lines<N: Bench, T: Sink, L: Ledger>(
         (sunk_in T.taken T.faults writer.new.out.now) }
     ensures image { IsImage (N.state device).words }
     ensures lines { AllByRecursion (λ l. IsLine l.1) deck.now }
-    ensures lent { N.same device result }
+    ensures keeps_device { N.same device result }
     ensures same { writer.new.out.ghost_name ≡ writer.old.out.ghost_name }
 {
     let _words = device.len();

@@ -28,8 +28,8 @@ use mc_text::{add, add_decimal, add_hex, put};
 /// The number of static bytes that are read at a time.
 const PIECE: usize = 256;
 
-/// The text of a line, which is gathered before it is written. It has room for a number of ten digits, a blank, `static`, a blank and 4,096
-/// bytes in hexadecimal, and a line feed.
+/// The text of a line, which is gathered before it is written. It has room for a number of ten digits, a blank,
+/// `static`, a blank and 4,096 bytes in hexadecimal, and a line feed.
 pub type Text = ArrayVec<u8, 8211>;
 
 // Adds why an image is no card.
@@ -143,7 +143,7 @@ fn add_dump<N: Bench>(text: &mut Text, player: &Player<N>, aid: &Aid)
     ensures short { array_vec_len text.new ≤ 8210 }
 {
     match player.power {
-        Power::Cold => add(text, b"off"),
+        Power::BeforePower => add(text, b"off"),
         Power::Off => add(text, b"off"),
         Power::Mute => add(text, b"mute"),
         Power::On => add_static(text, &player.card, aid),

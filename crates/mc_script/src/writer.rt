@@ -8,9 +8,9 @@ ghost use Rattle.mc_card.specs.Parts.{device_in, due, IsReadyCard};
 ghost use Rattle.mc_card.specs.Ends.{outcome_or_stop};
 ghost use Rattle.mc_text.specs.Texts.{sunk_in, Puts};
 ghost use Rattle.mc_script.specs.Players.{answer_value, IsPlaying};
-ghost use Rattle.mc_script.specs.Runs.{RanAndTold};
+ghost use Rattle.mc_script.specs.Runs.{RanAndReported};
 ghost use Rattle.mc_script.specs.Writers.{write_result, turns_text, keeps_none, keeps_on, WriterKeeps};
-ghost use Rattle.mc_script.specs.declared.writer.Telling.TheVariants as telling;
+ghost use Rattle.mc_script.specs.declared.writer.Reporting.TheVariants as reporting;
 
 use crate::answer::Answer;
 use crate::player::Player;
@@ -27,7 +27,7 @@ use std::sync::ledger::Ledger;
 
 /// The text of each line of a play: its result, or the lines of its turns and its result.
 #[derive(Clone, Copy, Debug)]
-pub enum Telling {
+pub enum Reporting {
     Results,
     Turns,
 }
@@ -38,36 +38,36 @@ pub struct Writer<'a, T: Sink> {
     pub(crate) out: &'a mut T,
     pub(crate) fault: Option<WriteFault>,
     pub(crate) line: Text,
-    pub(crate) telling: Telling,
+    pub(crate) reporting: Reporting,
 }
 
 impl<'a, T: Sink> Writer<'a, T> {
     /// Returns a writer that has written nothing.
-    pub fn new(out: &'a mut T, telling: Telling) -> Writer<'a, T>
+    pub fn new(out: &'a mut T, reporting: Reporting) -> Writer<'a, T>
         ensures out { result.out.now ≡ out.old }
         ensures same { result.out.ghost_name ≡ out.entry.ghost_name }
         ensures fault { result.fault ≡ None }
-        ensures telling { result.telling ≡ telling }
+        ensures reporting { result.reporting ≡ reporting }
     {
         Writer {
             out,
             fault: None,
             line: ArrayVec::new(),
-            telling,
+            reporting,
         }
     }
 
     /// Writes the result of a line after the text of the turns that were recorded in it, unless its sink
     /// failed before.
-    pub fn tell<N: Bench>(&mut self, number: u32, player: &Player<N>, answer: &Option<Answer>)
+    pub fn report<N: Bench>(&mut self, number: u32, player: &Player<N>, answer: &Option<Answer>)
         requires playing { IsPlaying N.state N.bench player.now }
-        ensures tells { (before : Writer T) (ts : List ModelTurn) → before.fault ≡ None
+        ensures reports { (before : Writer T) (ts : List ModelTurn) → before.fault ≡ None
             → WriterKeeps T.taken T.faults before ts self.old
-            → Puts (sunk_in T.taken T.faults before.out.now) (turns_text before.telling ts
+            → Puts (sunk_in T.taken T.faults before.out.now) (turns_text before.reporting ts
             ++ line_text number (option_map (answer_value N.state player.now) answer.now)) (write_result self.new.fault)
             (sunk_in T.taken T.faults self.new.out.now) }
         ensures same { self.new.out.ghost_name ≡ self.old.out.ghost_name }
-        ensures telling { self.new.telling ≡ self.old.telling }
+        ensures reporting { self.new.reporting ≡ self.old.reporting }
     {
         if self.fault.is_none() {
             self.fault = put_answer(self.out, &mut self.line, number, player, answer).err();
@@ -85,12 +85,12 @@ impl<'a, T: Sink> Writer<'a, T> {
     }
 
     // Writes the line of a turn.
-    fn tell_turn(&mut self, turn: &Turn)
-        requires turns { self.old.telling ≡ telling.Turns }
+    fn report_turn(&mut self, turn: &Turn)
+        requires turns { self.old.reporting ≡ reporting.Turns }
         requires shaped { IfSome turn.now.ins Shaped }
         requires low { 1 ≤ turn.now.depth }
         requires high { turn.now.depth ≤ 4 }
-        ensures tells { (wrote : Option ℕ)
+        ensures reports { (wrote : Option ℕ)
             → WriterKeeps T.taken T.faults self.old (turn_value turn.now wrote ∷ []) self.new }
     {
         if self.fault.is_none() {
@@ -99,7 +99,7 @@ impl<'a, T: Sink> Writer<'a, T> {
     }
 
     // Runs a command turn by turn, and writes the line of each turn.
-    fn run_told<N: Nvm, L: Ledger>(
+    fn run_reported<N: Nvm, L: Ledger>(
         &mut self,
         card: &mut Card<N>,
         bytes: &[u8],
@@ -107,13 +107,13 @@ impl<'a, T: Sink> Writer<'a, T> {
         into: &mut Outcome,
         steps: &mut Steps<L>,
     ) -> Result<(), Stop>
-        requires turns { self.old.telling ≡ telling.Turns }
+        requires turns { self.old.reporting ≡ reporting.Turns }
         requires ready { IsReadyCard N.state card.old }
         requires some { 1 ≤ budget }
         requires budget { budget ≤ 65536 }
-        ensures done { RanAndTold N.state N.wrote (WriterKeeps T.taken T.faults) card.old
+        ensures done { RanAndReported N.state N.wrote (WriterKeeps T.taken T.faults) card.old
             (due N.state card.old bytes.now budget) (outcome_or_stop result into.new) card.new self.old self.new }
-        ensures lent { N.same (device_in card.old) (device_in card.new) }
+        ensures keeps_device { N.same (device_in card.old) (device_in card.new) }
     {
         if let Some(outcome) = card.begin(bytes, budget, steps)? {
             *into = outcome;
@@ -121,21 +121,21 @@ impl<'a, T: Sink> Writer<'a, T> {
         }
         for _turn in 0..budget {
             let turn = card.turn(steps)?;
-            self.tell_turn(&turn);
+            self.report_turn(&turn);
             if let Some(outcome) = turn.end {
                 *into = outcome;
                 return Ok(());
             }
         }
         let turn = card.turn(steps)?;
-        self.tell_turn(&turn);
+        self.report_turn(&turn);
         *into = turn.end.unwrap();
         Ok(())
     }
 }
 
 impl<'a, T: Sink> Runner for Writer<'a, T> {
-    ghost told = { WriterKeeps T.taken T.faults };
+    ghost reported = { WriterKeeps T.taken T.faults };
 
     ghost silent = { keeps_none T.taken T.faults };
 
@@ -149,9 +149,9 @@ impl<'a, T: Sink> Runner for Writer<'a, T> {
         into: &mut Outcome,
         steps: &mut Steps<L>,
     ) -> Result<(), Stop> {
-        match self.telling {
-            Telling::Results => card.command_into(bytes, budget, into, steps),
-            Telling::Turns => self.run_told(card, bytes, budget, into, steps),
+        match self.reporting {
+            Reporting::Results => card.command_into(bytes, budget, into, steps),
+            Reporting::Turns => self.run_reported(card, bytes, budget, into, steps),
         }
     }
 }

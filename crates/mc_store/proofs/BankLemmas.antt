@@ -12,10 +12,10 @@ use Rattle.mc_bank.specs.SlotLaws.{commit_sized, slot_stays}
 use Rattle.mc_blocks.proofs.Maps.{OneAt}
 use Rattle.mc_blocks.proofs.Applications.{found_application}
 use Rattle.mc_store.specs.declared.store.Store.{Store}
-use Rattle.mc_store.specs.Store.{apps_in, is_going, place_named, store_named, store_standing, name_of_place}
+use Rattle.mc_store.specs.Store.{apps_in, is_going, place_named, store_named, store_site_bytes, name_of_place}
 use Rattle.mc_store.specs.GoingLaws.{Going, going_is}
 use Rattle.mc_store.specs.PlaceLaws.{place_changed}
-use Rattle.mc_store.specs.TurnLaws.{Standing, standing_of}
+use Rattle.mc_store.specs.TurnLaws.{SiteBytes, site_bytes_of}
 use Rattle.mc_store.specs.Laws.{store_obeys, store_keeps}
 use Rattle.mc_store.specs.StoreItems.{store_did}
 use Rattle.mc_model_device.proofs.BoolLemmas.{some_is}
@@ -32,7 +32,7 @@ module _ {N : Type 0} (state : N → DeviceState) (wrote : N → ℕ → List �
     (obeys : (d : N) (at : ℕ) (w : List ℕ) (a : Answer) (e : N) → (state d).on ≡ true → wrote d at w a e → Wrote (state d) at w a (state e)) where
   -- the applications after an item are the old ones or the new ones
   map_either : (s e : Store N) (i : BankItem) (a : Answer) → store_did state wrote s i a e
-      → (apps_in (state e.device).words ≡ apps_in (state s.device).words) ⊎ (apps_in (state e.device).words ≡ item_done (store_standing (state s.device)) i (apps_in (state s.device).words))
+      → (apps_in (state e.device).words ≡ apps_in (state s.device).words) ⊎ (apps_in (state e.device).words ≡ item_done (store_site_bytes (state s.device)) i (apps_in (state s.device).words))
   map_either s e i (Ok tt) did = inr (store_obeys state wrote obeys s.device e.device s.count e.count i (Ok tt) did).apps
   map_either s e i (Err t) did = (store_obeys state wrote obeys s.device e.device s.count e.count i (Err t) did).apps
 
@@ -41,7 +41,7 @@ module _ {N : Type 0} (state : N → DeviceState) (wrote : N → ℕ → List �
   places_stay s n ws k image going there =
       let m = (state s.device).words in
       let g : Going (state s.device) s.count = going_is (state s.device) s.count going in
-      let t : Standing m = standing_of (state s.device) s.count g in
+      let t : SiteBytes m = site_bytes_of (state s.device) s.count g in
       let found = some_is (lookup (means m).apps n) there in
       let x = found.0 in
       let app : app_of (means m).apps (Some n) ≡ x = ap (λ (o : Option App). unwrap_or o no_app) found.1 in

@@ -20,7 +20,7 @@ use Rattle.mc_blocks.proofs.Sections.{length_section}
 use Rattle.mc_store.specs.DeletionLaws.{Deletes, deletes_plan, deletes_count}
 use Rattle.mc_blocks.proofs.Statics.{static_from, StaticIn, static_in}
 use Rattle.mc_store.specs.CommitLaws.{placed_words, CommittedCard, commits}
-use Rattle.mc_store.specs.TurnLaws.{Standing, standing_of}
+use Rattle.mc_store.specs.TurnLaws.{SiteBytes, site_bytes_of}
 use Rattle.mc_store.specs.StoreItems.{SlotIs, slot_is}
 use Rattle.mc_bank.specs.Slots.{slot_place, slot_sizes}
 use Rattle.mc_bank.specs.SlotLaws.{name_there, some_there}
@@ -50,7 +50,7 @@ pub delete_is : (d : DeviceState) (c p : ℕ) → IsSized d.words → is_going d
 delete_is d c p image going there =
     let m = d.words in
     let g : Going d c = going_is d c going in
-    let s : Standing m = standing_of d c g in
+    let s : SiteBytes m = site_bytes_of d c g in
     let named = some_is (place_named d p) there in
     let n = named.0 in
     let name : name_or (place_named d p) ≡ n = ap (λ (o : Option (List ℕ)). unwrap_or o []) named.1 in
@@ -112,7 +112,7 @@ pub commit_is : (d : DeviceState) (c p : ℕ) (ws : List (ℕ × List ℕ)) → 
 commit_is d c p ws image going there can =
     let m = d.words in
     let g : Going d c = going_is d c going in
-    let s : Standing m = standing_of d c g in
+    let s : SiteBytes m = site_bytes_of d c g in
     let named = some_is (place_named d p) there in
     let n = named.0 in
     let name : name_or (place_named d p) ≡ n = ap (λ (o : Option (List ℕ)). unwrap_or o []) named.1 in

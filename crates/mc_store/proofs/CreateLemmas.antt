@@ -19,7 +19,7 @@ use Rattle.mc_store.specs.Store.{is_going, words_of_sizes, part_from, record_byt
 use Rattle.mc_store.specs.GoingLaws.{Going, going_is}
 use Rattle.mc_store.specs.AlikeLaws.{gates}
 use Rattle.mc_store.specs.CreationLaws.{AtSite, at_site, Creates, creates_plan}
-use Rattle.mc_store.specs.TurnLaws.{Standing, standing_of, blanked}
+use Rattle.mc_store.specs.TurnLaws.{SiteBytes, site_bytes_of, blanked}
 use Rattle.mc_store.specs.StoreItems.{blank_items}
 use Rattle.mc_store.proofs.FillLemmas.{good_on, blank_on, note_on, parts_step}
 
@@ -86,7 +86,7 @@ pub enter_is : (d : DeviceState) (c : ℕ) (s : Site) (n : List ℕ) → IsSized
 enter_is d c s n image going ready =
     let m = d.words in
     let g : Going d c = going_is d c going in
-    let t : Standing m = standing_of d c g in
+    let t : SiteBytes m = site_bytes_of d c g in
     let site : AtSite m s = at_site m s image g.closed t.well ready.good in
     let p : Creates m s n = creates_plan m s n image g.closed t.well ready.good ready.fresh in
     let few : length (means m).apps < 32 = ready.good.few in
@@ -112,14 +112,14 @@ module _ {D : Type 0} (state : D → DeviceState) (wrote : D → ℕ → List �
 pub blank_word : (d : DeviceState) (c : ℕ) (s : Site) (at n : ℕ) → IsSized d.words → is_going d c ≡ true → IsGoodIn d.words s → IsInWord s.sizes.fixed at n → part_from Data s.sizes s.place + at / 8 < length d.words
 blank_word d c s at n image going good i =
     let g : Going d c = going_is d c going in
-    let site : AtSite d.words s = at_site d.words s image g.closed (standing_of d c g).well good in
+    let site : AtSite d.words s = at_site d.words s image g.closed (site_bytes_of d c g).well good in
     let lies = blanked s.sizes s.place at n i in
     omega (arith, site.ends, lies.1)
 
 pub note_word : (d : DeviceState) (c : ℕ) (s : Site) (i : ℕ) → IsSized d.words → is_going d c ≡ true → IsGoodIn d.words s → i < 4 → s.place + 1 + i < length d.words
 note_word d c s i image going good few =
     let g : Going d c = going_is d c going in
-    let site : AtSite d.words s = at_site d.words s image g.closed (standing_of d c g).well good in
+    let site : AtSite d.words s = at_site d.words s image g.closed (site_bytes_of d c g).well good in
     omega (arith, site.ends)
 
 pub zeros_front : (n k : ℕ) → n ≤ k → take n (zeros k) ≡ zeros n

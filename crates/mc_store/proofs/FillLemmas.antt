@@ -15,7 +15,7 @@ use Rattle.mc_bank.specs.Bank.{part_len}
 use Rattle.mc_store.specs.Store.{apps_in, is_going, words_of_sizes, part_from, IsGoodIn, IsInWord, StoreDid}
 use Rattle.mc_store.specs.GoingLaws.{Going, going_is, is_going_of}
 use Rattle.mc_store.specs.CreationLaws.{AtSite, at_site}
-use Rattle.mc_store.specs.TurnLaws.{CardChanged, Standing, standing_of, turns, parted}
+use Rattle.mc_store.specs.TurnLaws.{CardChanged, SiteBytes, site_bytes_of, turns, parted}
 use Rattle.mc_model_device.proofs.LayoutLemmas.{closed_means}
 use Rattle.mc_store.proofs.SiteLemmas.{no_words}
 
@@ -86,7 +86,7 @@ module _ {S : Type 0} (one : S → BankItem → Answer → S → Type 0) where
 pub site_word : (d : DeviceState) (c : ℕ) (s : Site) (p : Part) (at n : ℕ) → IsSized d.words → is_going d c ≡ true → IsGoodIn d.words s → IsInWord (part_len p s.sizes) at n → part_from p s.sizes s.place + at / 8 < length d.words
 site_word d c s p at n image going good i =
     let g : Going d c = going_is d c going in
-    let site : AtSite d.words s = at_site d.words s image g.closed (standing_of d c g).well good in
+    let site : AtSite d.words s = at_site d.words s image g.closed (site_bytes_of d c g).well good in
     let lies = parted p s.sizes s.place at n good.limits i in
     omega (arith, site.ends, lies.1)
 
@@ -103,7 +103,7 @@ pub record PlainOn (d e : DeviceState) (c : ℕ) : Type 0 where
 pub plain_on : (d e : DeviceState) (c : ℕ) → is_going d c ≡ true → CardChanged d (apps_in d.words) e c → PlainOn d e c
 plain_on d e c going t =
     let g : Going d c = going_is d c going in
-    let s : Standing d.words = standing_of d c g in
+    let s : SiteBytes d.words = site_bytes_of d c g in
     let same : card_of e.words ≡ card_of d.words = t.card ∙ ap (λ (es : List (List ℕ × App)). record (card_of d.words) { apps = es }) s.map in
     record {
       going = is_going_of e c (record { on = t.ended.0; closed = t.closed; laid = t.good; layout = ap (λ (x : Card). x.layout) same ∙ g.layout; count = g.count ∙ sym (ap (λ (x : Card). length x.apps) same) });

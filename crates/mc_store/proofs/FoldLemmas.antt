@@ -20,11 +20,11 @@ use Rattle.mc_model_device.proofs.ImageLemmas.{all_map}
 use Rattle.mc_bank.specs.Bank.{BankState, IsGoodSite, StayGood, app_of_site, item_done, part_len, IsChanged, IsStopped, StopRose, Changes}
 use Rattle.mc_store.specs.declared.store.Store.{Store}
 use Rattle.mc_bank.specs.Slots.{slot_place, name_of_slot}
-use Rattle.mc_store.specs.Store.{apps_in, is_going, store_state, store_named, store_room, store_standing, name_of_place, part_in, words_of_sizes, IsGoodIn, IsInWord, item_writes}
+use Rattle.mc_store.specs.Store.{apps_in, is_going, store_state, store_named, store_room, store_site_bytes, name_of_place, part_in, words_of_sizes, IsGoodIn, IsInWord, item_writes}
 use Rattle.mc_store.specs.GoingLaws.{Going, going_is, closed_settled, closed_apps, laid_apps}
 use Rattle.mc_store.specs.GapLaws.{just_one}
 use Rattle.mc_store.specs.CreationLaws.{at_site}
-use Rattle.mc_store.specs.TurnLaws.{ChangesCard, Standing, standing_of, turns}
+use Rattle.mc_store.specs.TurnLaws.{ChangesCard, SiteBytes, site_bytes_of, turns}
 use Rattle.mc_store.specs.Laws.{store_obeys, store_keeps}
 use Rattle.mc_store.specs.StoreItems.{store_did}
 use Rattle.mc_store.proofs.SiteLemmas.{piece_part, piece_other, blank_part, note_part, laid_parts, part_length}
@@ -49,13 +49,13 @@ change_after b m e after (Err t) first then =
 stopped_changes : (b e : BankState) (t : Stop) (after : List (List ℕ × App)) → IsStopped b b.apps t e → IsStopped b after t e
 stopped_changes b e t after h = record { apps = elim h.apps [ inl old ↦ inl old | inr new ↦ inl new ]; rose = h.rose }
 
-plain_done : (standing : Site → Part → List ℕ) (i : BankItem) (apps : List (List ℕ × App)) → IsPlain i → item_done standing i apps ≡ apps
-plain_done standing (Piece s p at b) apps h = refl
-plain_done standing (Blank s at n) apps h = refl
-plain_done standing (Note s n i) apps h = refl
-plain_done standing (Commit n ws) apps h = absurd h
-plain_done standing (Enter s n) apps h = absurd h
-plain_done standing (Remove n) apps h = absurd h
+plain_done : (site_bytes : Site → Part → List ℕ) (i : BankItem) (apps : List (List ℕ × App)) → IsPlain i → item_done site_bytes i apps ≡ apps
+plain_done site_bytes (Piece s p at b) apps h = refl
+plain_done site_bytes (Blank s at n) apps h = refl
+plain_done site_bytes (Note s n i) apps h = refl
+plain_done site_bytes (Commit n ws) apps h = absurd h
+plain_done site_bytes (Enter s n) apps h = absurd h
+plain_done site_bytes (Remove n) apps h = absurd h
 
 -- an item before a creation at a site: zeros after the data, or a word of the record
 abbrev pub IsQuiet : Site → BankItem → Type 0
@@ -116,12 +116,12 @@ module _ {N : Type 0} (state : N → DeviceState) (wrote : N → ℕ → List �
 
   plain_kept : (s e : Store N) (i : BankItem) (a : Answer) → IsPlain i → store_did state wrote s i a e → CardKept s e
   plain_kept s e i a plain did =
-      kept_by s e a (item_done (store_standing (state s.device)) i (apps_in (state s.device).words)) (going_is (state s.device) s.count did.going) (plain_done (store_standing (state s.device)) i (apps_in (state s.device).words) plain)
+      kept_by s e a (item_done (store_site_bytes (state s.device)) i (apps_in (state s.device).words)) (going_is (state s.device) s.count did.going) (plain_done (store_site_bytes (state s.device)) i (apps_in (state s.device).words) plain)
       (turns state wrote obeys i s.device e.device s.count e.count a did)
 
   plain_changes : (s e : Store N) (i : BankItem) (a : Answer) → IsPlain i → store_did state wrote s i a e → Changes (st s) (apps_in (state s.device).words) a (st e)
   plain_changes s e i a plain did =
-      subst (λ (es : List (List ℕ × App)). Changes (st s) es a (st e)) (plain_done (store_standing (state s.device)) i (apps_in (state s.device).words) plain)
+      subst (λ (es : List (List ℕ × App)). Changes (st s) es a (st e)) (plain_done (store_site_bytes (state s.device)) i (apps_in (state s.device).words) plain)
       (store_obeys state wrote obeys s.device e.device s.count e.count i a did)
 
   -- ---- plain items in order
@@ -173,7 +173,7 @@ module _ {N : Type 0} (state : N → DeviceState) (wrote : N → ℕ → List �
       one.words
 
   -- the bytes at a site of a store that runs are in its words
-  pub stands_now : (s : Store N) (t : Site) (p : Part) → is_going (state s.device) s.count ≡ true → store_standing (state s.device) t p ≡ part_in (state s.device).words t p
+  pub stands_now : (s : Store N) (t : Site) (p : Part) → is_going (state s.device) s.count ≡ true → store_site_bytes (state s.device) t p ≡ part_in (state s.device).words t p
   stands_now s t p h = ap (λ (x : List (List ℕ)). part_in x t p) (closed_settled (state s.device).words (going_is (state s.device) s.count h).closed)
 
   still_going : (s m : Store N) (i : BankItem) → store_did state wrote s i (Ok tt) m → is_going (state m.device) m.count ≡ true
@@ -186,33 +186,33 @@ module _ {N : Type 0} (state : N → DeviceState) (wrote : N → ℕ → List �
   pub site_ends : (s m : Store N) (i : BankItem) (a : Answer) (t : Site) → store_did state wrote s i a m → IsGoodIn (state s.device).words t → t.place + words_of_sizes t.sizes ≤ length (state s.device).words
   site_ends s m i a t did good =
       let g : Going (state s.device) s.count = going_is (state s.device) s.count did.going in
-      (at_site (state s.device).words t did.image g.closed (standing_of (state s.device) s.count g).well good).ends
+      (at_site (state s.device).words t did.image g.closed (site_bytes_of (state s.device) s.count g).well good).ends
 
   -- a write keeps or changes a section
   stands_after : (s m : Store N) (i : BankItem) (w : ℕ × List ℕ) (t : Site) (p : Part) (l : List ℕ) → store_did state wrote s i (Ok tt) m → item_writes (state s.device).words i ≡ w ∷ []
-      → part_in (slice_set (state s.device).words w.0 w.1) t p ≡ l → store_standing (state m.device) t p ≡ l
+      → part_in (slice_set (state s.device).words w.0 w.1) t p ≡ l → store_site_bytes (state m.device) t p ≡ l
   stands_after s m i w t p l did is after = stands_now m t p (still_going s m i did) ∙ ap (λ (x : List (List ℕ)). part_in x t p) (one_written s m i w did is) ∙ after
 
-  piece_stands : (s m : Store N) (t : Site) (p : Part) (at : ℕ) (b : List ℕ) → store_did state wrote s (Piece t p at b) (Ok tt) m → store_standing (state m.device) t p ≡ splice (store_standing (state s.device) t p) at b
+  piece_stands : (s m : Store N) (t : Site) (p : Part) (at : ℕ) (b : List ℕ) → store_did state wrote s (Piece t p at b) (Ok tt) m → store_site_bytes (state m.device) t p ≡ splice (store_site_bytes (state s.device) t p) at b
   piece_stands s m t p at b did =
       stands_after s m (Piece t p at b) _ t p _ did refl
       (piece_part (state s.device).words did.image t did.allowed.0.limits (site_ends s m (Piece t p at b) (Ok tt) t did did.allowed.0) p at b did.allowed.1)
       ∙ sym (ap (λ (l : List ℕ). splice l at b) (stands_now s t p did.going))
 
-  piece_beside : (s m : Store N) (t : Site) (p o : Part) (at : ℕ) (b : List ℕ) → o ≢ p → store_did state wrote s (Piece t p at b) (Ok tt) m → store_standing (state m.device) t o ≡ store_standing (state s.device) t o
+  piece_beside : (s m : Store N) (t : Site) (p o : Part) (at : ℕ) (b : List ℕ) → o ≢ p → store_did state wrote s (Piece t p at b) (Ok tt) m → store_site_bytes (state m.device) t o ≡ store_site_bytes (state s.device) t o
   piece_beside s m t p o at b ne did =
       stands_after s m (Piece t p at b) _ t o _ did refl
       (piece_other (state s.device).words did.image t did.allowed.0.limits (site_ends s m (Piece t p at b) (Ok tt) t did did.allowed.0) p o at b did.allowed.1 ne)
       ∙ sym (stands_now s t o did.going)
 
-  blank_stands : (s m : Store N) (t : Site) (at n : ℕ) (o : Part) → t.sizes.init ≤ at → store_did state wrote s (Blank t at n) (Ok tt) m → store_standing (state m.device) t o ≡ store_standing (state s.device) t o
+  blank_stands : (s m : Store N) (t : Site) (at n : ℕ) (o : Part) → t.sizes.init ≤ at → store_did state wrote s (Blank t at n) (Ok tt) m → store_site_bytes (state m.device) t o ≡ store_site_bytes (state s.device) t o
   blank_stands s m t at n o low did =
       stands_after s m (Blank t at n) _ t o _ did refl
       (blank_part (state s.device).words did.image t did.allowed.0.limits (site_ends s m (Blank t at n) (Ok tt) t did did.allowed.0) o at (zeros n) low
       (subst (λ (k : ℕ). IsInWord t.sizes.fixed at k) (sym (length-replicate n 0)) did.allowed.1))
       ∙ sym (stands_now s t o did.going)
 
-  note_stands : (s m : Store N) (t : Site) (n : List ℕ) (i : ℕ) (o : Part) → store_did state wrote s (Note t n i) (Ok tt) m → store_standing (state m.device) t o ≡ store_standing (state s.device) t o
+  note_stands : (s m : Store N) (t : Site) (n : List ℕ) (i : ℕ) (o : Part) → store_did state wrote s (Note t n i) (Ok tt) m → store_site_bytes (state m.device) t o ≡ store_site_bytes (state s.device) t o
   note_stands s m t n i o did =
       stands_after s m (Note t n i) _ t o _ did refl
       (note_part (state s.device).words did.image t did.allowed.0.limits (site_ends s m (Note t n i) (Ok tt) t did did.allowed.0) o i _ did.allowed.2)
@@ -222,17 +222,17 @@ module _ {N : Type 0} (state : N → DeviceState) (wrote : N → ℕ → List �
 
   -- the bytes of a section after its pieces, and those of the others
   pub record Filled (s e : Store N) (t : Site) (p : Part) (l : List ℕ) : Type 0 where
-    pub piece : store_standing (state e.device) t p ≡ l
-    pub others : (o : Part) → o ≢ p → store_standing (state e.device) t o ≡ store_standing (state s.device) t o
+    pub piece : store_site_bytes (state e.device) t p ≡ l
+    pub others : (o : Part) → o ≢ p → store_site_bytes (state e.device) t o ≡ store_site_bytes (state s.device) t o
 
   pub all_pieces : (cs : List (ℕ × List ℕ)) (s e : Store N) (t : Site) (p : Part) → InOrder (store_did state wrote) s (map (λ c. Piece t p c.0 c.1) cs) (Ok tt) e
-      → Filled s e t p (laid_pieces (store_standing (state s.device) t p) cs)
-  all_pieces [] s e t p h = subst (λ (x : Store N). Filled s x t p (store_standing (state s.device) t p)) (sym h) (record { piece = refl; others = λ o ne. refl })
+      → Filled s e t p (laid_pieces (store_site_bytes (state s.device) t p) cs)
+  all_pieces [] s e t p h = subst (λ (x : Store N). Filled s x t p (store_site_bytes (state s.device) t p)) (sym h) (record { piece = refl; others = λ o ne. refl })
   all_pieces (c ∷ cs) s e t p h =
       elim h [
         | inl done ↦
             let m = done.0 in
-            let rest : Filled m e t p (laid_pieces (store_standing (state m.device) t p) cs) = all_pieces cs m e t p done.2 in
+            let rest : Filled m e t p (laid_pieces (store_site_bytes (state m.device) t p) cs) = all_pieces cs m e t p done.2 in
             record {
               piece = rest.piece ∙ ap (λ (l : List ℕ). laid_pieces l cs) (piece_stands s m t p c.0 c.1 done.1);
               others = λ o ne. rest.others o ne ∙ piece_beside s m t p o c.0 c.1 ne done.1;
@@ -246,7 +246,7 @@ module _ {N : Type 0} (state : N → DeviceState) (wrote : N → ℕ → List �
 
   -- ---- a creation
 
-  pub quiet_stands : (s m : Store N) (i : BankItem) (t : Site) (o : Part) → IsQuiet t i → store_did state wrote s i (Ok tt) m → store_standing (state m.device) t o ≡ store_standing (state s.device) t o
+  pub quiet_stands : (s m : Store N) (i : BankItem) (t : Site) (o : Part) → IsQuiet t i → store_did state wrote s i (Ok tt) m → store_site_bytes (state m.device) t o ≡ store_site_bytes (state s.device) t o
   quiet_stands s m (Piece u p at b) t o h did = absurd h
   quiet_stands s m (Blank u at n) t o h did = blank_stands s m t at n o h.1 (subst (λ (v : Site). store_did state wrote s (Blank v at n) (Ok tt) m) h.0 did)
   quiet_stands s m (Note u n i) t o h did = note_stands s m t n i o (subst (λ (v : Site). store_did state wrote s (Note v n i) (Ok tt) m) h did)
@@ -255,8 +255,8 @@ module _ {N : Type 0} (state : N → DeviceState) (wrote : N → ℕ → List �
   quiet_stands s m (Remove n) t o h did = absurd h
 
   -- the bytes at a site after items before its creation
-  pub all_stand : (is : List BankItem) (s m : Store N) (t : Site) (o : Part) → AllByRecursion (IsQuiet t) is → InOrder (store_did state wrote) s is (Ok tt) m → store_standing (state m.device) t o ≡ store_standing (state s.device) t o
-  all_stand [] s m t o quiet h = ap (λ (x : Store N). store_standing (state x.device) t o) h
+  pub all_stand : (is : List BankItem) (s m : Store N) (t : Site) (o : Part) → AllByRecursion (IsQuiet t) is → InOrder (store_did state wrote) s is (Ok tt) m → store_site_bytes (state m.device) t o ≡ store_site_bytes (state s.device) t o
+  all_stand [] s m t o quiet h = ap (λ (x : Store N). store_site_bytes (state x.device) t o) h
   all_stand (i ∷ is) s m t o quiet h =
       elim h [
         | inl done ↦ all_stand is done.0 m t o quiet.1 done.2 ∙ quiet_stands s done.0 i t o quiet.0 done.1
@@ -265,7 +265,7 @@ module _ {N : Type 0} (state : N → DeviceState) (wrote : N → ℕ → List �
 
   -- the application is there or not, and all others keep their slots
   pub record ApplicationCreated (s e : Store N) (t : Site) (n : List ℕ) (a : Answer) : Type 0 where
-    pub apps : Changes (st s) (insert (apps_in (state s.device).words) n (app_of_site t (store_standing (state s.device) t))) a (st e)
+    pub apps : Changes (st s) (insert (apps_in (state s.device).words) n (app_of_site t (store_site_bytes (state s.device) t))) a (st e)
     pub slots : (k : ℕ) (l : List ℕ) → store_named (state s.device) k ≡ Some l → store_named (state e.device) k ≡ Some l
 
   enter_created : (s e : Store N) (t : Site) (n : List ℕ) (a : Answer) → InOrder (store_did state wrote) s (Enter t n ∷ []) a e → ApplicationCreated s e t n a
@@ -296,12 +296,12 @@ module _ {N : Type 0} (state : N → DeviceState) (wrote : N → ℕ → List �
             let first : IsChanged (st s) (apps_in (state s.device).words) (st m) = plain_changes s m i (Ok tt) plain done.1 in
             let kept : CardKept s m = plain_kept s m i (Ok tt) plain done.1 in
             let rest : ApplicationCreated m e t n a = all_created is m e t n a quiet.1 done.2 in
-            let same : app_of_site t (store_standing (state m.device) t) ≡ app_of_site t (store_standing (state s.device) t) =
-            same_entered t (store_standing (state m.device) t) (store_standing (state s.device) t) (λ o. quiet_stands s m i t o quiet.0 done.1) in
+            let same : app_of_site t (store_site_bytes (state m.device) t) ≡ app_of_site t (store_site_bytes (state s.device) t) =
+            same_entered t (store_site_bytes (state m.device) t) (store_site_bytes (state s.device) t) (λ o. quiet_stands s m i t o quiet.0 done.1) in
             record {
-              apps = change_after (st s) (st m) (st e) (insert (apps_in (state s.device).words) n (app_of_site t (store_standing (state s.device) t))) a first
+              apps = change_after (st s) (st m) (st e) (insert (apps_in (state s.device).words) n (app_of_site t (store_site_bytes (state s.device) t))) a first
                   (subst (λ (x : App). Changes (st m) (insert (apps_in (state s.device).words) n x) a (st e)) same
-                  (subst (λ (es : List (List ℕ × App)). Changes (st m) (insert es n (app_of_site t (store_standing (state m.device) t))) a (st e)) kept.apps rest.apps));
+                  (subst (λ (es : List (List ℕ × App)). Changes (st m) (insert es n (app_of_site t (store_site_bytes (state m.device) t))) a (st e)) kept.apps rest.apps));
               slots = λ k l is. rest.slots k l (kept_slots s m kept k ∙ is);
             }
         | inr stop ↦
@@ -309,7 +309,7 @@ module _ {N : Type 0} (state : N → DeviceState) (wrote : N → ℕ → List �
             let kept : CardKept s e = plain_kept s e i (Err stop.0) plain stop.1 in
             subst (λ (x : Answer). ApplicationCreated s e t n x) (sym stop.2)
             (record {
-              apps = stopped_changes (st s) (st e) stop.0 (insert (apps_in (state s.device).words) n (app_of_site t (store_standing (state s.device) t))) (plain_changes s e i (Err stop.0) plain stop.1);
+              apps = stopped_changes (st s) (st e) stop.0 (insert (apps_in (state s.device).words) n (app_of_site t (store_site_bytes (state s.device) t))) (plain_changes s e i (Err stop.0) plain stop.1);
               slots = λ k l is. kept_slots s e kept k ∙ is;
             })
       ]
@@ -350,33 +350,33 @@ module _ {N : Type 0} (state : N → DeviceState) (wrote : N → ℕ → List �
 
   -- a piece of a section, in its words
   piece_laid : (s e : Store N) (t : Site) (p : Part) (at : ℕ) (b : List ℕ) → at + length b ≤ part_len p t.sizes → InOrder (store_did state wrote) s (map (λ c. Piece t p c.0 c.1) (word_parts at b)) (Ok tt) e
-      → laid_pieces (store_standing (state s.device) t p) (word_parts at b) ≡ splice (store_standing (state s.device) t p) at b
-  piece_laid s e t p at [] range h = sym (splice_none (store_standing (state s.device) t p) at)
+      → laid_pieces (store_site_bytes (state s.device) t p) (word_parts at b) ≡ splice (store_site_bytes (state s.device) t p) at b
+  piece_laid s e t p at [] range h = sym (splice_none (store_site_bytes (state s.device) t p) at)
   piece_laid s e t p at (x ∷ xs) range h =
       elim h [
         | inl done ↦
-            let size : length (store_standing (state s.device) t p) ≡ part_len p t.sizes = site_size s done.0 t p at _ (Ok tt) done.1 in
-            laid_parts (store_standing (state s.device) t p) at (x ∷ xs) (omega (arith, size, range))
+            let size : length (store_site_bytes (state s.device) t p) ≡ part_len p t.sizes = site_size s done.0 t p at _ (Ok tt) done.1 in
+            laid_parts (store_site_bytes (state s.device) t p) at (x ∷ xs) (omega (arith, size, range))
         | inr stop ↦ absurd (cc stop.2)
       ]
     where
-      site_size : (u m : Store N) (q : Site) (o : Part) (i : ℕ) (c : List ℕ) (a : Answer) → store_did state wrote u (Piece q o i c) a m → length (store_standing (state u.device) q o) ≡ part_len o q.sizes
+      site_size : (u m : Store N) (q : Site) (o : Part) (i : ℕ) (c : List ℕ) (a : Answer) → store_did state wrote u (Piece q o i c) a m → length (store_site_bytes (state u.device) q o) ≡ part_len o q.sizes
       site_size u m q o i c a did =
           ap length (stands_now state wrote obeys u q o did.going)
           ∙ part_length (state u.device).words did.image q did.allowed.0.limits (site_ends state wrote obeys u m (Piece q o i c) a q did did.allowed.0) o
 
   pub filled : (s e : Store N) (t : Site) (p : Part) (at : ℕ) (b : List ℕ) → at + length b ≤ part_len p t.sizes → InOrder (store_did state wrote) s (map (λ c. Piece t p c.0 c.1) (word_parts at b)) (Ok tt) e
-      → Filled state wrote obeys s e t p (splice (store_standing (state s.device) t p) at b)
+      → Filled state wrote obeys s e t p (splice (store_site_bytes (state s.device) t p) at b)
   filled s e t p at b range h =
       subst (λ (l : List ℕ). Filled state wrote obeys s e t p l) (piece_laid s e t p at b range h) (all_pieces state wrote obeys (word_parts at b) s e t p h)
 
   pub fill_piece : (s e : Store N) (t : Site) (p : Part) (at : ℕ) (b : List ℕ) (a : Answer) → at + length b ≤ part_len p t.sizes → InOrder (store_did state wrote) s (map (λ c. Piece t p c.0 c.1) (word_parts at b)) a e
-      → OnOk a (store_standing (state e.device) t p ≡ splice (store_standing (state s.device) t p) at b)
+      → OnOk a (store_site_bytes (state e.device) t p ≡ splice (store_site_bytes (state s.device) t p) at b)
   fill_piece s e t p at b (Ok tt) range h = (filled s e t p at b range h).piece
   fill_piece s e t p at b (Err x) range h = tt
 
   pub fill_others : (s e : Store N) (t : Site) (p : Part) (at : ℕ) (b : List ℕ) (a : Answer) → at + length b ≤ part_len p t.sizes → InOrder (store_did state wrote) s (map (λ c. Piece t p c.0 c.1) (word_parts at b)) a e
-      → OnOk a ((o : Part) → o ≢ p → store_standing (state e.device) t o ≡ store_standing (state s.device) t o)
+      → OnOk a ((o : Part) → o ≢ p → store_site_bytes (state e.device) t o ≡ store_site_bytes (state s.device) t o)
   fill_others s e t p at b (Ok tt) range h = (filled s e t p at b range h).others
   fill_others s e t p at b (Err x) range h = tt
 
@@ -385,10 +385,10 @@ module _ {N : Type 0} (state : N → DeviceState) (wrote : N → ℕ → List �
 -- a site that is good by the bank is good in the words
 pub good_in : (d : DeviceState) (c : ℕ) (t : Site) → is_going d c ≡ true → IsGoodSite (apps_in d.words) (store_room d) t → IsGoodIn d.words t
 good_in d c t going good =
-    let s : Standing d.words = standing_of d c (going_is d c going) in
+    let s : SiteBytes d.words = site_bytes_of d c (going_is d c going) in
     record { limits = good.limits; few = subst (λ (n : ℕ). n < 32) (ap length (s.map ∙ sym s.apps)) good.few; place = good.place }
 
 pub fresh_in : (d : DeviceState) (c : ℕ) (n : List ℕ) → is_going d c ≡ true → lookup (apps_in d.words) n ≡ None → lookup (means d.words).apps n ≡ None
 fresh_in d c n going h =
-    let s : Standing d.words = standing_of d c (going_is d c going) in
+    let s : SiteBytes d.words = site_bytes_of d c (going_is d c going) in
     ap (λ (es : List (List ℕ × App)). lookup es n) (s.apps ∙ sym s.map) ∙ h

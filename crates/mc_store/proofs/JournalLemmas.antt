@@ -123,7 +123,8 @@ owes_open : (j : Journal) (m : List (List ℕ)) (b : Bool) → is_open j m ≡ b
 owes_open j m true e h = e
 owes_open j m false e h = absurd (h (ap debt (closed_look j m e)))
 
--- an image on which recovery still has to make writes of one journal, and whose replay leaves words like others but inside it
+-- an image on which recovery still has to make writes of one journal, and whose replay leaves words like others but
+-- inside it
 pub stays : (j : Journal) (m a b : List (List ℕ)) (n : ℕ) → is_open (other j) m ≡ false → owed_j j m ≡ n → after_j j m ≡ Words a → raw a ≡ raw b → HoldsBase (raw b) n j m
 stays j m a b n h o is same =
     let alone : look m ≡ look_j j m = look_alone j m h in

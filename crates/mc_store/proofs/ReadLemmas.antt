@@ -16,7 +16,7 @@ use Rattle.mc_bank.specs.Bank.{app_of, sizes_of, FitsLimits, AreApps, search_res
 use Rattle.mc_bank.specs.Slots.{slot_place, slot_sizes}
 use Rattle.mc_bank.specs.SlotLaws.{name_there, some_there, slot_sized, slot_named}
 use Rattle.mc_blocks.specs.Chains.{count_of_searched_gaps}
-use Rattle.mc_store.specs.Store.{apps_in, search_steps, is_going, place_named, store_named, store_room, store_standing, name_of_place, part_from, part_in, words_of_sizes}
+use Rattle.mc_store.specs.Store.{apps_in, search_steps, is_going, place_named, store_named, store_room, store_site_bytes, name_of_place, part_from, part_in, words_of_sizes}
 use Rattle.mc_store.specs.Slots.{first_named, record_sizes, IsUsedBlock, part_of_app, flat}
 use Rattle.mc_store.specs.GoingLaws.{Going, closed_settled}
 use Rattle.mc_blocks.proofs.Sections.{length_section}
@@ -124,14 +124,14 @@ finds_slot d c n (Some k) image h is sizes =
     record { there = is_there d c n (Some (slot_place k)) image h is; slot = is_slot d c n k image h is sizes }
 
 -- the facts of the application of a slot
-pub record SlotTold (d : DeviceState) (k : ℕ) (n : List ℕ) (z : Sizes) : Type 0 where
+pub record SlotReported (d : DeviceState) (k : ℕ) (n : List ℕ) (z : Sizes) : Type 0 where
   pub name : store_named d k ≡ Some n
   pub app : IsSome (lookup (apps_in d.words) n)
   pub sizes : z ≡ sizes_of (app_of (apps_in d.words) (store_named d k))
   pub limits : FitsLimits z
 
-pub told : (d : DeviceState) (c k : ℕ) (n : List ℕ) (z : Sizes) → IsSized d.words → not (is_going d c) ≡ false → IsSome (store_named d k) → n ≡ name_at d.words (slot_place k) → z ≡ slot_sizes k → SlotTold d k n z
-told d c k n z image h some named sized =
+pub reported : (d : DeviceState) (c k : ℕ) (n : List ℕ) (z : Sizes) → IsSized d.words → not (is_going d c) ≡ false → IsSome (store_named d k) → n ≡ name_at d.words (slot_place k) → z ≡ slot_sizes k → SlotReported d k n z
+reported d c k n z image h some named sized =
     let m = d.words in
     let s : OfSlot d k = of_slot d c k image h some in
     let known : z ≡ record_sizes (record_at m (slot_place k)) = sized ∙ s.sizes in
@@ -193,7 +193,7 @@ pub good_site : (apps : List (List ℕ × App)) (room : Sizes → Option ℕ) (s
 good_site apps room s r limits is = subst (λ (x : Result Site OpenRefusal). IfOk x (λ site. IsGoodSite apps room site)) (sym is) (site_by apps room s (nat_le 32 (length apps)) (room s) limits refl refl)
 
 -- the sections of a good site have their lengths
-site_parts : (d : DeviceState) (c : ℕ) (s : Site) → IsSized d.words → not (is_going d c) ≡ false → IsGoodSite (apps_in d.words) (store_room d) s → HasParts s (store_standing d s)
+site_parts : (d : DeviceState) (c : ℕ) (s : Site) → IsSized d.words → not (is_going d c) ≡ false → IsGoodSite (apps_in d.words) (store_room d) s → HasParts s (store_site_bytes d s)
 unfolding part_in
 site_parts d c s image h good p =
     let m = d.words in
@@ -209,6 +209,6 @@ site_parts d c s image h good p =
     by_part Dir l e = omega (arith, e)
     by_part Fci l e = omega (arith, e)
 
-pub open_parts : (d : DeviceState) (c : ℕ) (r : Result Site OpenRefusal) → IsSized d.words → not (is_going d c) ≡ false → IfOk r (λ site. IsGoodSite (apps_in d.words) (store_room d) site) → IfOk r (λ site. HasParts site (store_standing d site))
+pub open_parts : (d : DeviceState) (c : ℕ) (r : Result Site OpenRefusal) → IsSized d.words → not (is_going d c) ≡ false → IfOk r (λ site. IsGoodSite (apps_in d.words) (store_room d) site) → IfOk r (λ site. HasParts site (store_site_bytes d site))
 open_parts d c (Ok s) image h good = site_parts d c s image h good
 open_parts d c (Err e) image h good = tt

@@ -14,7 +14,7 @@ use Rattle.mc_store.specs.GoingLaws.{Going, going_is}
 use Rattle.mc_store.specs.GapLaws.{just_one}
 use Rattle.mc_blocks.proofs.Sections.{length_section, cells_more, same_section}
 use Rattle.mc_store.specs.CreationLaws.{AtSite, at_site}
-use Rattle.mc_store.specs.TurnLaws.{standing_of}
+use Rattle.mc_store.specs.TurnLaws.{site_bytes_of}
 use Rattle.mc_store.specs.StoreItems.{blank_items}
 use Rattle.mc_store.proofs.FillLemmas.{PlainOn, blank_on}
 use Rattle.mc_store.proofs.PieceLemmas.{section_write, splice_parts}
@@ -94,7 +94,7 @@ module _ {D S : Type 0} (dev : S → D) (cnt : S → ℕ) (state : D → DeviceS
   blank_left x y s at n did =
       let m = (state (dev x)).words in
       let g : Going (state (dev x)) (cnt x) = going_is (state (dev x)) (cnt x) did.going in
-      let site : AtSite m s = at_site m s did.image g.closed (standing_of (state (dev x)) (cnt x) g).well did.allowed.0 in
+      let site : AtSite m s = at_site m s did.image g.closed (site_bytes_of (state (dev x)) (cnt x) g).well did.allowed.0 in
       let done : WriteDone (state (dev x)) _ _ (state (dev y)) = obeys (dev x) _ _ (Ok tt) (dev y) g.on (just_one wrote (dev x) (dev y) _ _ (Ok tt) did.makes) in
       ap (λ (w : List (List ℕ)). static_of w s) done.words
       ∙ section_write m (part_from Data s.sizes s.place) s.sizes.fixed at (zeros n) did.image (omega (arith, site.ends)) (subst (λ (k : ℕ). IsInWord s.sizes.fixed at k) (sym (length-replicate {A = ℕ} n 0)) did.allowed.1)
@@ -123,7 +123,7 @@ module _ {D S : Type 0} (dev : S → D) (cnt : S → ℕ) (state : D → DeviceS
             blanks_left n z y s (at + j) (suc k - j) (omega (arith, few)) (subst (λ (q : ℕ). is_going (state (dev z)) q ≡ true) (sym did.count) on.going) (λ some. omega (arith, some, fits)) next in
             let m = (state (dev x)).words in
             let g : Going (state (dev x)) (cnt x) = going_is (state (dev x)) (cnt x) going in
-            let site : AtSite m s = at_site m s did.image g.closed (standing_of (state (dev x)) (cnt x) g).well did.allowed.0 in
+            let site : AtSite m s = at_site m s did.image g.closed (site_bytes_of (state (dev x)) (cnt x) g).well did.allowed.0 in
             let long : length (static_of m s) ≡ s.sizes.fixed = length_section m (part_from Data s.sizes s.place) s.sizes.fixed did.image (omega (arith, site.ends)) in
             rest ∙ ap (λ (l : List ℕ). splice (static_of (state (dev z)).words s) (at + j) l) (sym (zeros_behind j (suc k))) ∙ ap (λ (l : List ℕ). splice l (at + j) (drop j c)) one ∙ splice_parts (static_of m s) at j c (omega (arith, long, fits))
         | inr stop ↦ absurd (cc stop.2)
@@ -133,7 +133,7 @@ module _ {D S : Type 0} (dev : S → D) (cnt : S → ℕ) (state : D → DeviceS
   note_left x y s k i did =
       let m = (state (dev x)).words in
       let g : Going (state (dev x)) (cnt x) = going_is (state (dev x)) (cnt x) did.going in
-      let site : AtSite m s = at_site m s did.image g.closed (standing_of (state (dev x)) (cnt x) g).well did.allowed.0 in
+      let site : AtSite m s = at_site m s did.image g.closed (site_bytes_of (state (dev x)) (cnt x) g).well did.allowed.0 in
       let few : i < 4 = did.allowed.2 in
       let done : WriteDone (state (dev x)) _ _ (state (dev y)) = obeys (dev x) _ _ (Ok tt) (dev y) g.on (just_one wrote (dev x) (dev y) _ _ (Ok tt) did.makes) in
       subst (λ (w : List (List ℕ)). Noted m w s k i) (sym done.words)
@@ -188,7 +188,7 @@ module _ {D S : Type 0} (dev : S → D) (cnt : S → ℕ) (state : D → DeviceS
       let m = (state (dev x)).words in
       let q = part_from Data s.sizes s.place in
       let g : Going (state (dev x)) (cnt x) = going_is (state (dev x)) (cnt x) going in
-      let site : AtSite m s = at_site m s image g.closed (standing_of (state (dev x)) (cnt x) g).well good in
+      let site : AtSite m s = at_site m s image g.closed (site_bytes_of (state (dev x)) (cnt x) g).well good in
       let init : s.sizes.init ≤ s.sizes.fixed = good.limits.init in
       let long : length (static_of m s) ≡ s.sizes.fixed = length_section m q s.sizes.fixed image (omega (arith, site.ends)) in
       let size : length (zeros (s.sizes.fixed - s.sizes.init)) ≡ s.sizes.fixed - s.sizes.init = length-replicate {A = ℕ} (s.sizes.fixed - s.sizes.init) 0 in

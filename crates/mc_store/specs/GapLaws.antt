@@ -4,7 +4,7 @@ use Rattle.std.specs.Prelude.{bytes_eq, slice_set}
 use Rattle.std.proofs.lemmas.List.{get_or-set_other, length-set}
 use Rattle.mc_model_device.specs.declared.device.Stop.TheVariants.{Off, Worn}
 use Rattle.mc_model_device.specs.Orders.{Answer}
-use Rattle.mc_model_device.specs.Device.{DeviceState, IsSized, Wrote, WriteDone, WriteCut, WriteWorn, Makes, Ended}
+use Rattle.mc_model_device.specs.Device.{DeviceState, IsSized, Wrote, WriteDone, WriteCut, WriteFailure, Makes, Ended}
 use Rattle.mc_model_device.specs.Image.{One, Two, opening, look, Closed}
 use Rattle.mc_model_device.specs.Card.{Block, word, blocks, card_of}
 use Rattle.mc_model_device.specs.Layout.{gaps, words_fault}
@@ -104,7 +104,7 @@ one_write d at w (Err Off) e h =
     let cut : WriteCut d at e = h in
     record { besides = subst (λ (t : List (List ℕ)). Besides at t d.words) (sym cut.words) (besides_set d.words at cut.left); ended = (cut.power, cut.cuts, cut.falls_not, cut.faults) }
 one_write d at w (Err Worn) e h =
-    let worn : WriteWorn d at e = h in
+    let worn : WriteFailure d at e = h in
     record { besides = subst (λ (t : List (List ℕ)). Besides at t d.words) (sym worn.words) (besides_set d.words at worn.left); ended = (worn.power, worn.faults, worn.falls_not, worn.cuts) }
 
 -- a list of one write is that write

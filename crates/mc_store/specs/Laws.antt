@@ -20,7 +20,7 @@ use Rattle.mc_bank.specs.SlotLaws.{HasSizes, EntersNot, has_sizes, slot_named, i
 use Rattle.mc_blocks.specs.Plans.{has_room}
 use Rattle.mc_blocks.proofs.Maps.{OneAt}
 use Rattle.mc_blocks.proofs.Applications.{found_application}
-use Rattle.mc_store.specs.Store.{settled_words, apps_in, store_state, place_named, store_named, store_room, store_standing, words_of_sizes, part_from, part_in, static_writes, name_of_place, IsGoodIn, StoreDid}
+use Rattle.mc_store.specs.Store.{settled_words, apps_in, store_state, place_named, store_named, store_room, store_site_bytes, words_of_sizes, part_from, part_in, static_writes, name_of_place, IsGoodIn, StoreDid}
 use Rattle.mc_store.specs.GoingLaws.{Going, going_is, is_going_of, closed_settled, closed_apps, laid_apps}
 use Rattle.mc_store.specs.AlikeLaws.{HeapsAlike, means_after}
 use Rattle.mc_store.specs.AtomicLaws.{AtomicEnds, atomic_ends}
@@ -29,7 +29,7 @@ use Rattle.mc_store.specs.CreationLaws.{AtSite, at_site, Creates, creates_plan}
 use Rattle.mc_store.specs.CommitLaws.{CommittedCard, commits}
 use Rattle.mc_store.specs.PlaceLaws.{place_changed, place_new, place_removed}
 use Rattle.mc_store.specs.StoreItems.{named_there}
-use Rattle.mc_store.specs.TurnLaws.{ChangesCard, Standing, standing_of, turns}
+use Rattle.mc_store.specs.TurnLaws.{ChangesCard, SiteBytes, site_bytes_of, turns}
 use Rattle.mc_model_device.proofs.LayoutLemmas.{closed_means}
 use Rattle.mc_model_device.proofs.BoolLemmas.{some_is}
 
@@ -91,7 +91,7 @@ settled_alike d e list (Err s) t =
 module _ {D : Type 0} (state : D → DeviceState) (wrote : D → ℕ → List ℕ → Answer → D → Type 0)
     (obeys : (d : D) (at : ℕ) (w : List ℕ) (a : Answer) (e : D) → (state d).on ≡ true → wrote d at w a e → Wrote (state d) at w a (state e)) where
   -- an item changes the applications by its definition
-  pub store_obeys : (d e : D) (c k : ℕ) (i : BankItem) (a : Answer) → StoreDid state wrote d c i a e k → Changes (store_state (state d) c) (item_done (store_standing (state d)) i (apps_in (state d).words)) a (store_state (state e) k)
+  pub store_obeys : (d e : D) (c k : ℕ) (i : BankItem) (a : Answer) → StoreDid state wrote d c i a e k → Changes (store_state (state d) c) (item_done (store_site_bytes (state d)) i (apps_in (state d).words)) a (store_state (state e) k)
   store_obeys d e c k i a did = changes_of (state d) (state e) c k _ a (going_is (state d) c did.going) (turns state wrote obeys i d e c k a did)
 
   -- what a commit's words are
@@ -99,7 +99,7 @@ module _ {D : Type 0} (state : D → DeviceState) (wrote : D → ℕ → List �
   commit_of d e c k n ws a did =
       let m = (state d).words in
       let g : Going (state d) c = going_is (state d) c did.going in
-      let s : Standing m = standing_of (state d) c g in
+      let s : SiteBytes m = site_bytes_of (state d) c g in
       let found = some_is (lookup (means m).apps n) did.allowed.0 in
       let x = found.0 in
       let app : app_of (means m).apps (Some n) ≡ x = ap (λ (o : Option App). unwrap_or o no_app) found.1 in
@@ -107,7 +107,7 @@ module _ {D : Type 0} (state : D → DeviceState) (wrote : D → ℕ → List �
       (x, app, found.1, commits m n x ws did.image g.laid there (subst (λ (y : App). CanCommit y.fixed ws) app did.allowed.1))
 
   slots_by : (d e : D) (c k : ℕ) (i : BankItem) (a : Answer) (q : ℕ) (n : List ℕ) → StoreDid state wrote d c i a e k → place_named (state d) q ≡ Some n
-      → name_of_place (item_done (store_standing (state d)) i (apps_in (state d).words)) q ≡ Some n → place_named (state e) q ≡ Some n
+      → name_of_place (item_done (store_site_bytes (state d)) i (apps_in (state d).words)) q ≡ Some n → place_named (state e) q ≡ Some n
   slots_by d e c k i a q n did is new =
       elim (map_of (state d) (state e) c k _ a (going_is (state d) c did.going) (turns state wrote obeys i d e c k a did)) [
         | inl old ↦ ap (λ (es : List (List ℕ × App)). name_of_place es q) old ∙ is
@@ -126,7 +126,7 @@ module _ {D : Type 0} (state : D → DeviceState) (wrote : D → ℕ → List �
       place_of_commit d e c k n ws a did q =
           let m = (state d).words in
           let g : Going (state d) c = going_is (state d) c did.going in
-          let s : Standing m = standing_of (state d) c g in
+          let s : SiteBytes m = site_bytes_of (state d) c g in
           let t = commit_of d e c k n ws a did in
           let x = t.0 in
           let one : OneAt n x.place (means m).apps = (found_application m n x did.image g.closed s.well t.2).one in
@@ -138,12 +138,12 @@ module _ {D : Type 0} (state : D → DeviceState) (wrote : D → ℕ → List �
   places_keep d e c k (Enter s m) a did q n is spares =
       let w = (state d).words in
       let g : Going (state d) c = going_is (state d) c did.going in
-      let t : Standing w = standing_of (state d) c g in
+      let t : SiteBytes w = site_bytes_of (state d) c g in
       let p : Creates w s m = creates_plan w s m did.image g.closed t.well did.allowed.good did.allowed.fresh in
       let same : apps_in w ≡ (means w).apps = t.map ∙ sym t.apps in
       slots_by d e c k (Enter s m) a q n did is
-      (ap (λ (es : List (List ℕ × App)). name_of_place (insert es m (app_of_site s (store_standing (state d) s))) q) same
-      ∙ place_new (means w).apps m n s.place q (app_of_site s (store_standing (state d) s)) refl p.free (ap (λ (es : List (List ℕ × App)). name_of_place es q) (sym same) ∙ is))
+      (ap (λ (es : List (List ℕ × App)). name_of_place (insert es m (app_of_site s (store_site_bytes (state d) s))) q) same
+      ∙ place_new (means w).apps m n s.place q (app_of_site s (store_site_bytes (state d) s)) refl p.free (ap (λ (es : List (List ℕ × App)). name_of_place es q) (sym same) ∙ is))
   places_keep d e c k (Remove m) a did q n is spares = slots_by d e c k (Remove m) a q n did is (place_removed (apps_in (state d).words) m n q spares is)
 
   -- no item enters a name that is there
@@ -154,7 +154,7 @@ module _ {D : Type 0} (state : D → DeviceState) (wrote : D → ℕ → List �
   enters_other d e c k (Commit m ws) a did q n is = tt
   enters_other d e c k (Enter s m) a did q n is = λ same.
       let w = (state d).words in
-      let t : Standing w = standing_of (state d) c (going_is (state d) c did.going) in
+      let t : SiteBytes w = site_bytes_of (state d) c (going_is (state d) c did.going) in
       let there : IsSome (lookup (means w).apps n) = subst (λ (es : List (List ℕ × App)). IsSome (lookup es n)) (t.map ∙ sym t.apps) (named_there (apps_in w) q n is) in
       let fresh : lookup (means w).apps n ≡ None = subst (λ (x : List ℕ). lookup (means w).apps x ≡ None) same did.allowed.fresh in
       cc (sym (some_is (lookup (means w).apps n) there).1 ∙ fresh)
@@ -168,7 +168,7 @@ module _ {D : Type 0} (state : D → DeviceState) (wrote : D → ℕ → List �
         | inl old ↦ ap (λ (es : List (List ℕ × App)). sizes_of (app_of es (Some n))) old
         | inr later ↦
             ap (λ (es : List (List ℕ × App)). sizes_of (app_of es (Some n))) later
-            ∙ item_sized (store_standing (state d)) i (apps_in (state d).words) n spares (enters_other d e c k i a did q n is)
+            ∙ item_sized (store_site_bytes (state d)) i (apps_in (state d).words) n spares (enters_other d e c k i a did q n is)
       ]
 
   -- an item keeps the slots of all applications but the one that it deletes
@@ -184,7 +184,7 @@ module _ {D : Type 0} (state : D → DeviceState) (wrote : D → ℕ → List �
   holes_stay d e c k n ws a did =
       let m = (state d).words in
       let g : Going (state d) c = going_is (state d) c did.going in
-      let s : Standing m = standing_of (state d) c g in
+      let s : SiteBytes m = site_bytes_of (state d) c g in
       let t = commit_of d e c k n ws a did in
       let x = t.0 in
       let there : lookup (card_of m).apps n ≡ Some x = sym (ap (λ (es : List (List ℕ × App)). lookup es n) s.apps) ∙ t.2 in
@@ -212,11 +212,11 @@ module _ {D : Type 0} (state : D → DeviceState) (wrote : D → ℕ → List �
       }
 
   -- the bytes of good sites stay
-  pub store_leaves : (d e : D) (c k : ℕ) (n : List ℕ) (ws : List (ℕ × List ℕ)) (a : Answer) → StoreDid state wrote d c (Commit n ws) a e k → BytesStay (apps_in (state d).words) (store_room (state d)) (store_standing (state d)) (store_standing (state e))
+  pub store_leaves : (d e : D) (c k : ℕ) (n : List ℕ) (ws : List (ℕ × List ℕ)) (a : Answer) → StoreDid state wrote d c (Commit n ws) a e k → BytesStay (apps_in (state d).words) (store_room (state d)) (store_site_bytes (state d)) (store_site_bytes (state e))
   store_leaves d e c k n ws a did = λ s good p.
       let m = (state d).words in
       let g : Going (state d) c = going_is (state d) c did.going in
-      let stand : Standing m = standing_of (state d) c g in
+      let stand : SiteBytes m = site_bytes_of (state d) c g in
       let t = commit_of d e c k n ws a did in
       let x = t.0 in
       let list = static_writes x ws in

@@ -1,4 +1,5 @@
--- What a power-up does: recovery (the replay of the open journal), then the migration of a card of layout 1; and what a stop leaves.
+-- What a power-up does: recovery (the replay of the open journal), then the migration of a card of layout 1; and what a
+-- stop leaves.
 use Rattle.std.specs.Prelude.{◌≡◌, ◌≢◌, ℕ, ◌+◌, ◌-◌, ◌<◌, ◌≤◌, true, cond, ◌==◌, List, [], ◌∷◌, ◌++◌, length, slice_set, Some, None, Result, Ok, Err}
 use Rattle.mc_model_device.specs.declared.cause.Cause.{Cause}
 use Rattle.mc_model_device.specs.declared.cause.Cause.TheVariants.{BadJournal}
@@ -65,8 +66,8 @@ pub record IsUnusable (d : DeviceState) (c : Cause) (p : ℕ) (e : DeviceState) 
   pub ended : Ended (Ok tt) d e
   pub tape : GrowsBy d.tape (done_entries (power_writes d.words)) e.tape
 
--- what a stop at write k, which left x, makes of words m: in recovery the base is as before, in the migration it has the old or the new
--- root, and the writes that recovery still has to make are in journal 1
+-- what a stop at write k, which left x, makes of words m: in recovery the base is as before, in the migration it has
+-- the old or the new root, and the writes that recovery still has to make are in journal 1
 abbrev pub IsHalted : List (List ℕ) → ℕ → List ℕ → List (List ℕ) → Type 0
 IsHalted m k x n =
     (k ≤ count_of_recovery_writes m → HoldsBase (base_of_words m) (remains (pending_journal (which m)) (count_of_recovery_writes m - 1) k x) (pending_journal (which m)) n)

@@ -14,8 +14,8 @@ use Rattle.mc_store.specs.Power.{HoldsBase}
 abbrev pub card_after : List (List ℕ) → BankItem → Card
 card_after m i = record (means m) { apps = item_done (part_in m) i (means m).apps }
 
--- an atomic write of a list that was stopped at its write k, which left x: the new card if it is durable, and the writes that recovery
--- still has to make
+-- an atomic write of a list that was stopped at its write k, which left x: the new card if it is durable, and the
+-- writes that recovery still has to make
 abbrev pub IsTornAt : List (List ℕ) → BankItem → ℕ → ℕ → List ℕ → List (List ℕ) → Type 0
 IsTornAt m i w k x e = HoldsBase (OnCard (cond (stands Two w k x) (card_after m i) (means m))) (owes Two w k x) Two e
 

@@ -83,8 +83,8 @@ unfoldable pub part_in : List (List ℕ) → Site → Part → List ℕ
 part_in m s p = section m (part_from p s.sizes s.place) (part_len p s.sizes)
 
 -- the bytes at a site, once the open journal is replayed
-abbrev pub store_standing : DeviceState → Site → Part → List ℕ
-store_standing d s p = part_in (settled_words d.words) s p
+abbrev pub store_site_bytes : DeviceState → Site → Part → List ℕ
+store_site_bytes d s p = part_in (settled_words d.words) s p
 
 -- ---- records
 
@@ -159,7 +159,8 @@ count_after (Enter s n) (Ok u) c = c + 1
 count_after (Remove n) (Ok u) c = c - 1
 count_after _ a c = c
 
--- one item on a device with c applications, by the relation of one write: what is durable after a stop follows from the writes
+-- one item on a device with c applications, by the relation of one write: what is durable after a stop follows from the
+-- writes
 pub record StoreDid {D : Type 0} (state : D → DeviceState) (wrote : D → ℕ → List ℕ → Answer → D → Type 0) (d : D) (c : ℕ) (i : BankItem) (a : Answer) (e : D) (c' : ℕ) : Type 0 where
   pub going : is_going (state d) c ≡ true
   pub image : IsSized (state d).words

@@ -13,7 +13,7 @@ use Rattle.mc_blocks.proofs.Applications.{found_application}
 use Rattle.mc_store.specs.declared.store.Store.{Store}
 use Rattle.mc_store.specs.Store.{name_of_place, apps_in, StoreDid}
 use Rattle.mc_store.specs.GoingLaws.{Going}
-use Rattle.mc_store.specs.TurnLaws.{Standing, standing_of}
+use Rattle.mc_store.specs.TurnLaws.{SiteBytes, site_bytes_of}
 use Rattle.mc_model_device.proofs.MapLemmas.{name_is_itself}
 use Rattle.mc_model_device.proofs.BoolLemmas.{some_is}
 
@@ -61,7 +61,7 @@ pub record SlotIs (m : List (List ℕ)) (k : ℕ) (n : List ℕ) : Type 0 where
 pub slot_is : (d : DeviceState) (c k : ℕ) (n : List ℕ) → IsSized d.words → Going d c → name_of_place (apps_in d.words) k ≡ Some n → SlotIs d.words k n
 slot_is d c k n image g is =
     let m = d.words in
-    let s : Standing m = standing_of d c g in
+    let s : SiteBytes m = site_bytes_of d c g in
     let named : name_of_place (means m).apps k ≡ Some n = ap (λ (es : List (List ℕ × App)). name_of_place es k) (s.apps ∙ sym s.map) ∙ is in
     let found = some_is (lookup (means m).apps n) (named_there (means m).apps k n named) in
     let a = found.0 in

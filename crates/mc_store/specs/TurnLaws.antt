@@ -17,7 +17,7 @@ use Rattle.mc_bank.specs.Bank.{FitsLimits, CanCommit, part_len, no_app, app_of, 
 use Rattle.mc_blocks.specs.Plans.{has_room}
 use Rattle.mc_blocks.proofs.Built.{SameCard}
 use Rattle.mc_blocks.specs.Outcomes.{HoldsApplications}
-use Rattle.mc_store.specs.Store.{settled_words, apps_in, store_standing, words_of_sizes, part_from, part_in, item_writes, static_writes, card_with, card_without, IsGoodIn, IsInWord, IsReadySite, Allows, count_after, StoreDid}
+use Rattle.mc_store.specs.Store.{settled_words, apps_in, store_site_bytes, words_of_sizes, part_from, part_in, item_writes, static_writes, card_with, card_without, IsGoodIn, IsInWord, IsReadySite, Allows, count_after, StoreDid}
 use Rattle.mc_store.specs.GoingLaws.{Going, going_is, closed_settled, closed_apps}
 use Rattle.mc_store.specs.AlikeLaws.{HeapsAlike, alike_card, SettlesAlike, Means, means_after}
 use Rattle.mc_store.specs.AtomicLaws.{AtomicEnds, atomic_ends}
@@ -68,14 +68,14 @@ pub blanked : (z : Sizes) (q at n : ℕ) → IsInWord z.fixed at n → (q < part
 blanked z q at n i = let some = i.some in let ends = i.section in (omega arith, omega arith)
 
 -- the words of a store that runs
-pub record Standing (m : List (List ℕ)) : Type 0 where
+pub record SiteBytes (m : List (List ℕ)) : Type 0 where
   pub well : IsWellLaid m
   pub apps : (means m).apps ≡ (card_of m).apps
   pub map : apps_in m ≡ (card_of m).apps
   pub self : settled_words m ≡ m
 
-pub standing_of : (d : DeviceState) (c : ℕ) → Going d c → Standing d.words
-standing_of d c g = record { well = closed_fault d.words g.closed ∙ g.laid; apps = ap (λ (x : Card). x.apps) (closed_means d.words g.closed); map = closed_apps d.words g.closed g.laid; self = closed_settled d.words g.closed }
+pub site_bytes_of : (d : DeviceState) (c : ℕ) → Going d c → SiteBytes d.words
+site_bytes_of d c g = record { well = closed_fault d.words g.closed ∙ g.laid; apps = ap (λ (x : Card). x.apps) (closed_means d.words g.closed); map = closed_apps d.words g.closed g.laid; self = closed_settled d.words g.closed }
 
 module _ {D : Type 0} (state : D → DeviceState) (wrote : D → ℕ → List ℕ → Answer → D → Type 0)
     (obeys : (d : D) (at : ℕ) (w : List ℕ) (a : Answer) (e : D) → (state d).on ≡ true → wrote d at w a e → Wrote (state d) at w a (state e)) where
@@ -119,13 +119,13 @@ module _ {D : Type 0} (state : D → DeviceState) (wrote : D → ℕ → List �
   by_leaves m w apps closed l = record { good = l.laid; card = l.card ∙ ap (λ (x : Card). record x { apps = apps }) (closed_means m closed) }
 
   plain_item : (d e : D) (c k : ℕ) (a : Answer) → Going (state d) c → ChangesCard (state d) (card_of (state d).words).apps a (state e) k → ChangesCard (state d) (apps_in (state d).words) a (state e) k
-  plain_item d e c k a g t = subst (λ (es : List (List ℕ × App)). ChangesCard (state d) es a (state e) k) (sym (standing_of (state d) c g).map) t
+  plain_item d e c k a g t = subst (λ (es : List (List ℕ × App)). ChangesCard (state d) es a (state e) k) (sym (site_bytes_of (state d) c g).map) t
 
   pub commit_turns : (n : List ℕ) (ws : List (ℕ × List ℕ)) (d e : D) (c k : ℕ) (a : Answer) → IsSized (state d).words → Going (state d) c → Allows (state d).words (Commit n ws) → Makes wrote d (item_writes (state d).words (Commit n ws)) a e → k ≡ c
       → ChangesCard (state d) (apps_after_commit (apps_in (state d).words) n ws) a (state e) k
   commit_turns n ws d e c k a image going allowed made count =
       let m = (state d).words in
-      let s : Standing m = standing_of (state d) c going in
+      let s : SiteBytes m = site_bytes_of (state d) c going in
       let found = some_is (lookup (means m).apps n) allowed.0 in
       let x = found.0 in
       let app : app_of (means m).apps (Some n) ≡ x = ap (λ (o : Option App). unwrap_or o no_app) found.1 in
@@ -141,14 +141,14 @@ module _ {D : Type 0} (state : D → DeviceState) (wrote : D → ℕ → List �
       (λ ok. count ∙ going.count ∙ sym t.count))
 
   enter_turns : (s : Site) (n : List ℕ) (d e : D) (c k : ℕ) (a : Answer) → IsSized (state d).words → Going (state d) c → IsReadySite (state d).words s n → Makes wrote d (item_writes (state d).words (Enter s n)) a e → (a ≡ Ok tt → k ≡ c + 1)
-      → ChangesCard (state d) (insert (apps_in (state d).words) n (app_of_site s (store_standing (state d) s))) a (state e) k
+      → ChangesCard (state d) (insert (apps_in (state d).words) n (app_of_site s (store_site_bytes (state d) s))) a (state e) k
   enter_turns s n d e c k a image going ready made count =
       let m = (state d).words in
-      let t : Standing m = standing_of (state d) c going in
+      let t : SiteBytes m = site_bytes_of (state d) c going in
       let p : Creates m s n = creates_plan m s n image going.closed t.well ready.good ready.fresh in
       let apps = insert (means m).apps n (app_of_site s (part_in m s)) in
-      let same : insert (apps_in m) n (app_of_site s (store_standing (state d) s)) ≡ apps =
-      ap (λ (es : List (List ℕ × App)). insert es n (app_of_site s (store_standing (state d) s))) (t.map ∙ sym t.apps)
+      let same : insert (apps_in m) n (app_of_site s (store_site_bytes (state d) s)) ≡ apps =
+      ap (λ (es : List (List ℕ × App)). insert es n (app_of_site s (store_site_bytes (state d) s))) (t.map ∙ sym t.apps)
       ∙ ap (λ (x : List (List ℕ)). insert (means m).apps n (app_of_site s (part_in x s))) t.self in
       let more : length apps ≡ suc (length (means m).apps) = length_inserted (means m).apps n (app_of_site s (part_in m s)) ready.fresh in
       let old : c ≡ length (means m).apps = going.count ∙ sym (ap length t.apps) in
@@ -161,7 +161,7 @@ module _ {D : Type 0} (state : D → DeviceState) (wrote : D → ℕ → List �
       → ChangesCard (state d) (remove (apps_in (state d).words) n) a (state e) k
   remove_turns n d e c k a image going there made count =
       let m = (state d).words in
-      let t : Standing m = standing_of (state d) c going in
+      let t : SiteBytes m = site_bytes_of (state d) c going in
       let found = some_is (lookup (means m).apps n) there in
       let p : Deletes m n found.0 = deletes_plan m n found.0 image going.closed t.well found.1 in
       let apps = remove (means m).apps n in
@@ -177,7 +177,7 @@ module _ {D : Type 0} (state : D → DeviceState) (wrote : D → ℕ → List �
   counted i a c k n is to ok = is ∙ ap (λ (x : Answer). count_after i x c) ok ∙ to
 
   -- an item by the relation of a store
-  pub turns : (i : BankItem) (d e : D) (c k : ℕ) (a : Answer) → StoreDid state wrote d c i a e k → ChangesCard (state d) (item_done (store_standing (state d)) i (apps_in (state d).words)) a (state e) k
+  pub turns : (i : BankItem) (d e : D) (c k : ℕ) (a : Answer) → StoreDid state wrote d c i a e k → ChangesCard (state d) (item_done (store_site_bytes (state d)) i (apps_in (state d).words)) a (state e) k
   turns (Piece s p at b) d e c k a did =
       let g : Going (state d) c = going_is (state d) c did.going in
       let in-gap = parted p s.sizes s.place at (length b) did.allowed.0.limits did.allowed.1 in

@@ -45,7 +45,7 @@ pub fn prepare<N: Nvm>(device: &mut N) -> Result<Ready, Up>
     ensures makes { Makes N.wrote device.old (power_writes (N.state device.old).words)
         (power_answer (preparation_end result)) device.new }
     ensures ends { PowersUp (N.state device.old) (preparation_end result) (N.state device.new) }
-    ensures lent { N.same device.old device.new }
+    ensures keeps_device { N.same device.old device.new }
 {
     let _size = device.len();
     recover_and_finish(device)
@@ -57,7 +57,7 @@ fn recover_and_finish<N: Nvm>(device: &mut N) -> Result<Ready, Up>
     ensures makes { Makes N.wrote device.old (power_writes (N.state device.old).words)
         (power_answer (preparation_end result)) device.new }
     ensures follows { PowerFollows (N.state device.old).words (preparation_end result) }
-    ensures lent { N.same device.old device.new }
+    ensures keeps_device { N.same device.old device.new }
 {
     match recover(device) {
         Ok(owed) => finish(device, owed),
@@ -77,7 +77,7 @@ fn recover<N: Nvm>(device: &mut N) -> Result<u16, Up>
     ensures on { IfOk result (λ n. (N.state device.new).on ≡ true) }
     ensures few { IfOk result (λ n. n ≤ 65) }
     ensures low { 256 ≤ length (N.state device.old).words }
-    ensures lent { N.same device.old device.new }
+    ensures keeps_device { N.same device.old device.new }
 {
     let _size = device.len();
     replay_open(device)
@@ -90,7 +90,7 @@ fn replay_open<N: Nvm>(device: &mut N) -> Result<u16, Up>
         (power_answer (recovery_end result)) device.new }
     ensures follows { RecoverFollows (N.state device.old).words (recovery_end result) }
     ensures few { IfOk result (λ n. n ≤ 65) }
-    ensures lent { N.same device.old device.new }
+    ensures keeps_device { N.same device.old device.new }
 {
     let packed = is_gate_open(device, Layout::V2);
     let plain = is_gate_open(device, Layout::V1);
@@ -111,7 +111,7 @@ fn replay_alone<N: Nvm>(device: &mut N, layout: Layout) -> Result<u16, Up>
         (power_answer (recovery_end result)) device.new }
     ensures follows { RecoverFollows (N.state device.old).words (recovery_end result) }
     ensures few { IfOk result (λ n. n ≤ 65) }
-    ensures lent { N.same device.old device.new }
+    ensures keeps_device { N.same device.old device.new }
 {
     match replay(device, layout) {
         Ok(writes) => Ok(writes),
@@ -127,7 +127,7 @@ fn replay<N: Nvm>(device: &mut N, layout: Layout) -> Result<u16, Recover>
         (outcome_answer (outcome_of result)) device.new }
     ensures ends { RecoverEnds (journal_of layout) (look_j (journal_of layout) (N.state device.old).words)
         (N.state device.old) (outcome_of result) (N.state device.new) }
-    ensures lent { N.same device.old device.new }
+    ensures keeps_device { N.same device.old device.new }
 {
     match layout {
         Layout::V1 => mc_journal::recover(device),
@@ -150,10 +150,11 @@ fn finish<N: Nvm>(device: &mut N, owed: u16) -> Result<Ready, Up>
     requires power { (N.state device.old).on ≡ true }
     requires closed { look (N.state device.old).words ≡ Closed }
     requires few { owed ≤ 65 }
-    ensures makes { Makes N.wrote device.old (migration_writes (base_of_words (N.state device.old).words) (N.state device.old).words)
+    ensures makes { Makes N.wrote device.old (migration_writes (base_of_words (N.state device.old).words)
+        (N.state device.old).words)
         (power_answer (preparation_end result)) device.new }
     ensures follows { FinishFollows (N.state device.old).words owed (preparation_end result) }
-    ensures lent { N.same device.old device.new }
+    ensures keeps_device { N.same device.old device.new }
 {
     match walk(device) {
         Ok(shape) => upgrade(device, owed, &shape),
@@ -169,10 +170,11 @@ fn upgrade<N: Nvm>(device: &mut N, owed: u16, shape: &Shape) -> Result<Ready, Up
     requires used { shape.now.used ≡ length (means (N.state device.old).words).apps }
     requires layout { shape.now.layout ≡ (means (N.state device.old).words).layout }
     requires few { owed ≤ 65 }
-    ensures makes { Makes N.wrote device.old (migration_writes (base_of_words (N.state device.old).words) (N.state device.old).words)
+    ensures makes { Makes N.wrote device.old (migration_writes (base_of_words (N.state device.old).words)
+        (N.state device.old).words)
         (power_answer (preparation_end result)) device.new }
     ensures follows { FinishFollows (N.state device.old).words owed (preparation_end result) }
-    ensures lent { N.same device.old device.new }
+    ensures keeps_device { N.same device.old device.new }
 {
     match migrate(device, shape.layout) {
         Ok(moved) => Ok(Ready {
@@ -191,7 +193,7 @@ fn migrate<N: Nvm>(device: &mut N, layout: u8) -> Result<u16, Stop>
     ensures makes { Makes N.wrote device.old
         (cond (layout == 1) (writes One (new_root (N.state device.old).words)) []) (answer_of result) device.new }
     ensures count { IfOk result (λ n. n ≡ cond (layout == 1) 6 0) }
-    ensures lent { N.same device.old device.new }
+    ensures keeps_device { N.same device.old device.new }
 {
     if layout != 1 {
         return Ok(0);
@@ -216,7 +218,7 @@ fn write_root<N: Nvm>(device: &mut N, root: Word) -> Result<u16, Stop>
     requires gate { is_open One (N.state device.old).words ≡ false }
     ensures makes { Makes N.wrote device.old (writes One ((0, root) ∷ [])) (answer_of result) device.new }
     ensures count { IfOk result (λ n. n ≡ 6) }
-    ensures lent { N.same device.old device.new }
+    ensures keeps_device { N.same device.old device.new }
 {
     match mc_journal::write_words(device, &[(0, root)]) {
         Ok(()) => Ok(6),

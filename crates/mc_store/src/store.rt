@@ -23,8 +23,8 @@ pub struct Store<N: Nvm> {
 }
 
 impl<N: Nvm> Store<N> {
-    /// Returns the store of the card in `dev`, whose power is on, and the number of device writes that recovery and migration
-    /// made (at most 71).
+    /// Returns the store of the card in `dev`, whose power is on, and the number of device writes that recovery and
+    /// migration made (at most 71).
     ///
     /// It is `restart` of a store that is `asleep` over `dev`.
     ///
@@ -35,14 +35,15 @@ impl<N: Nvm> Store<N> {
     /// words are no card.
     pub fn power_up(dev: N) -> Result<(Store<N>, u16), (N, Up)>
         requires power { (N.state dev).on ≡ true }
-        // Up to the first one that stops it makes the writes that recovery still has to make and then those of the migration.
+        // Up to the first one that stops it makes the writes that recovery still has to make and then those of the
+        // migration.
         ensures makes { Makes N.wrote dev (power_writes (N.state dev).words) (power_answer (power_up_end result))
             (device_after result) }
         // The applications are those that the words held; after a fault or a stop the words are as in `IsUnusable` or
         // `IsTorn`.
         ensures ends { PowersUp (N.state dev) (power_up_end result) (N.state (device_after result)) }
         // The device is the one that came in.
-        ensures lent { N.same dev (device_after result) }
+        ensures keeps_device { N.same dev (device_after result) }
     {
         let mut store = Store::asleep(dev);
         match store.restart() {
@@ -51,8 +52,8 @@ impl<N: Nvm> Store<N> {
         }
     }
 
-    /// Returns a store over a device whose card is not looked for yet. Until a `restart` succeeds only `into_dev` and `restart` may be
-    /// called.
+    /// Returns a store over a device whose card is not looked for yet. Until a `restart` succeeds only `into_dev` and
+    /// `restart` may be called.
     pub fn asleep(dev: N) -> Store<N>
         ensures { device_of result ≡ dev }
     {
@@ -62,8 +63,8 @@ impl<N: Nvm> Store<N> {
         }
     }
 
-    /// Looks for the card in the device of the store, whose power was turned on, and returns the number of device writes that recovery
-    /// and migration made (at most 71).
+    /// Looks for the card in the device of the store, whose power was turned on, and returns the number of device
+    /// writes that recovery and migration made (at most 71).
     ///
     /// A journal that is open is finished first, and then a card of layout 1 is given layout 2, by six writes.
     ///
@@ -74,7 +75,8 @@ impl<N: Nvm> Store<N> {
     /// card. After either only `into_dev` and `restart` may be called.
     pub fn restart(&mut self) -> Result<u16, Up>
         requires power { (N.state (device_of self.old)).on ≡ true }
-        // Up to the first one that stops it makes the writes that recovery still has to make and then those of the migration.
+        // Up to the first one that stops it makes the writes that recovery still has to make and then those of the
+        // migration.
         ensures makes { Makes N.wrote (device_of self.old) (power_writes (N.state (device_of self.old)).words)
             (power_answer (restart_end self.new result)) (device_of self.new) }
         // The applications are those that the words held; after a fault or a stop the words are as in `IsUnusable` or
@@ -82,7 +84,7 @@ impl<N: Nvm> Store<N> {
         ensures ends { PowersUp (N.state (device_of self.old)) (restart_end self.new result)
             (N.state (device_of self.new)) }
         // The device is the one that was there.
-        ensures lent { N.same (device_of self.old) (device_of self.new) }
+        ensures keeps_device { N.same (device_of self.old) (device_of self.new) }
     {
         let Ready { writes, count } = prepare(&mut self.device)?;
         self.count = count;
@@ -118,7 +120,7 @@ impl<N: Nvm> Store<N> {
 impl<N: Nvm> Bank for Store<N> {
     ghost use Rattle.mc_bank.specs.Slots.{slot_place};
     ghost use Rattle.mc_bank.specs.SlotLaws.{slot_sized};
-    ghost use Rattle.mc_store.specs.Store.{apps_in, place_named, store_state, store_named, store_room, store_standing, StoreDid};
+    ghost use Rattle.mc_store.specs.Store.{apps_in, place_named, store_state, store_named, store_room, store_site_bytes, StoreDid};
     ghost use Rattle.mc_store.specs.Laws.{store_obeys, store_keeps, store_spares, store_leaves};
 
     ghost state = { λ s. store_state (N.state s.device) s.count };
@@ -127,7 +129,7 @@ impl<N: Nvm> Bank for Store<N> {
 
     ghost room = { λ s. store_room (N.state s.device) };
 
-    ghost standing = { λ s. store_standing (N.state s.device) };
+    ghost site_bytes = { λ s. store_site_bytes (N.state s.device) };
 
     ghost did = { λ s i a e. StoreDid N.state N.wrote s.device s.count i a e.device e.count };
 

@@ -23,7 +23,8 @@ mem_number m n (k ∷ ks) = grind (arith, nat_tests, mem_number m n ks)
 other_word : (m at i : ℕ) → i ≡ at → nat_eq (at / 8) m ≡ false → i / 8 ≢ m
 other_word m at i e here same = eqb-false (at / 8) m here (ap (λ (k : ℕ). k / 8) (sym e) ∙ same)
 
--- a number that is not among the numbers with those of a piece's words is not among the numbers, and no word of the piece has it
+-- a number that is not among the numbers with those of a piece's words is not among the numbers, and no word of the
+-- piece has it
 not_words : (m at : ℕ) (b ns : List ℕ) → mem m (with_words at b ns) ≡ false → (mem m ns ≡ false) × ((i : ℕ) → at ≤ i → i < at + length b → i / 8 ≢ m)
 not_words m at [] ns none = (none, λ i low high. absurd (omega arith))
 not_words m at (x ∷ b) ns none =

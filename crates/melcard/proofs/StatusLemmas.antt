@@ -12,7 +12,7 @@ use Rattle.mc_filter.proofs.Outside as filter
 use Rattle.melcard.specs.declared.job.Form.{Form}
 use Rattle.melcard.specs.declared.job.Job.{Job}
 use Rattle.melcard.specs.declared.job.Job.TheVariants as job
-use Rattle.melcard.specs.declared.job.Telling.{Telling}
+use Rattle.melcard.specs.declared.job.Reporting.{Reporting}
 use Rattle.mc_filter.specs.declared.rejection.Rejection.{Rejection}
 use Rattle.mc_filter.specs.declared.rejection.Rejection.TheVariants as rejection
 use Rattle.mc_filter.specs.declared.status.Status.{Status}
@@ -51,7 +51,7 @@ says_refused : (Kept : Type 0) (work : Job) (a : CardOutside) (r : Result (Unit 
 says_refused Kept work a r s e d = filter.says_refused (MelcardDone Kept work a) (MelcardReadFault Kept work a) (MelcardNoMemory Kept work a) r s e d
 
 -- the deck of an input was played
-pub says_played : (Kept : Type 0) (t : Telling) (s : Status) (a : CardOutside) → PlaysInput t s a → MelcardSays Kept s (Some (job.Play t)) a
+pub says_played : (Kept : Type 0) (t : Reporting) (s : Status) (a : CardOutside) → PlaysInput t s a → MelcardSays Kept s (Some (job.Play t)) a
 says_played Kept t s a p = says_done Kept (job.Play t) a p.played.result s p.played.status (record { verdict = Plays t p.lines; due = p.due; done = (p.played, tt) })
 
 -- a generated deck was played

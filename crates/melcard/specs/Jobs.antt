@@ -5,7 +5,7 @@ use Rattle.std.specs.declared.string.String.{String}
 use Rattle.mc_model_machine.specs.Text.{decimal_number}
 use Rattle.melcard.specs.declared.job.Job.{Job}
 use Rattle.melcard.specs.declared.job.Job.TheVariants as job
-use Rattle.melcard.specs.declared.job.Telling.TheVariants.{Transcript, Trace}
+use Rattle.melcard.specs.declared.job.Reporting.TheVariants.{Transcript, Trace}
 use Rattle.melcard.specs.declared.job.Form.TheVariants.{Code, Listing, Verdicts}
 
 -- the greatest number of a generated deck

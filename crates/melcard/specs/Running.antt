@@ -4,7 +4,7 @@ use Rattle.mc_model_device.specs.Counts.{Rose}
 use Rattle.mc_model_play.specs.DeckGrammar.{DeckLine}
 use Rattle.melcard.specs.declared.job.Job.{Job}
 use Rattle.melcard.specs.declared.job.Job.TheVariants as job
-use Rattle.melcard.specs.declared.job.Telling.{Telling}
+use Rattle.melcard.specs.declared.job.Reporting.{Reporting}
 use Rattle.melcard.specs.declared.job.Form.{Form}
 use Rattle.mc_filter.specs.declared.rejection.Rejection.{Rejection}
 use Rattle.mc_filter.specs.declared.rejection.Rejection.TheVariants as rejection
@@ -22,7 +22,7 @@ RejectsJob job a rejection.ReadFault = IsReading job × Rose a.reads_old a.reads
 RejectsJob job a rejection.NoMemory = TakesAtMost job a
 
 -- the deck that an input spells was played
-pub record PlaysInput (t : Telling) (s : Status) (a : CardOutside) : Type 0 where
+pub record PlaysInput (t : Reporting) (s : Status) (a : CardOutside) : Type 0 where
   pub lines : List (ℕ × DeckLine)
   pub due : IsDue (job.Play t) a.streams (Plays t lines)
   pub played : IsPlayed t lines s a.dev_old a.streams.out_old a.dev a.streams.out

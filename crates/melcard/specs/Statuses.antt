@@ -18,8 +18,8 @@ use Rattle.mc_filter.specs.Statuses.{status_after_writing, IsWritten}
 use Rattle.mc_filter.specs.Outside.{outside, AllStands, Completes, IsRead, IsWhole, JobSays, NoJobSays, Outside, SaysDone, SaysNoForm, SaysNoMemory, SaysReadFault, Untouched}
 use Rattle.melcard.specs.declared.job.Job.{Job}
 use Rattle.melcard.specs.declared.job.Job.TheVariants as job
-use Rattle.melcard.specs.declared.job.Telling.{Telling}
-use Rattle.melcard.specs.declared.job.Telling.TheVariants.{Transcript, Trace}
+use Rattle.melcard.specs.declared.job.Reporting.{Reporting}
+use Rattle.melcard.specs.declared.job.Reporting.TheVariants.{Transcript, Trace}
 use Rattle.melcard.specs.Jobs.{usage}
 use Rattle.melcard.specs.Verdicts.{JobVerdict, Whole, Refusal, Plays, Sums, StandsFor}
 
@@ -53,7 +53,8 @@ IsDue (job.Generate n) a v = Untouched a × (v ≡ Sums (deck_of_number n))
 IsDue (job.Play t) a v = IsRead Refusal (StandsFor (job.Play t)) a.left_old a.left v
 IsDue (job.Write f) a v = IsRead Refusal (StandsFor (job.Write f)) a.left_old a.left v
 
--- the bytes that a job takes from its source: none if it generates a deck, and else at most the limit and one byte after it
+-- the bytes that a job takes from its source: none if it generates a deck, and else at most the limit and one byte
+-- after it
 abbrev pub TakesAtMost : Job → Outside → Type 0
 TakesAtMost (job.Generate n) a = Untouched a
 TakesAtMost (job.Play t) a = TookLimited a.left_old a.left
@@ -62,12 +63,13 @@ TakesAtMost (job.Write f) a = TookLimited a.left_old a.left
 -- ---- what was done
 
 -- the output text of a step of a play
-abbrev pub text_of_step : Telling → Step → List ℕ
+abbrev pub text_of_step : Reporting → Step → List ℕ
 text_of_step Transcript = plain_text
 text_of_step Trace = traced_text
 
--- A deck was played and its output written, completely or up to a fault. Accepted code on its card keeps to its verdict.
-pub record IsPlayed (t : Telling) (lines : List (ℕ × DeckLine)) (s : Status) (dev_old : Bench) (out_old : Sunk) (dev : Bench) (out : Sunk) : Type 0 where
+-- A deck was played and its output written, completely or up to a fault. Accepted code on its card keeps to its
+-- verdict.
+pub record IsPlayed (t : Reporting) (lines : List (ℕ × DeckLine)) (s : Status) (dev_old : Bench) (out_old : Sunk) (dev : Bench) (out : Sunk) : Type 0 where
   pub result : Result (Unit {0}) Fault
   pub status : s ≡ status_after_writing Done result
   pub plays : PlaysDeck (text_of_step t) lines dev_old out_old result dev out
@@ -142,6 +144,7 @@ IsAllDue (job.Write f) a v = AllStands Refusal (StandsFor (job.Write f)) a.left_
 abbrev pub MelcardWhole : Job → CardOutside → Status → Type 0
 MelcardWhole job a s = IsWhole (IsAllDue job a.streams) status_of (λ (v : JobVerdict). IsDone v s a) s
 
--- if no call of source or sink fails, all that is due is done, or the call was out of memory before the first byte of output
+-- if no call of source or sink fails, all that is due is done, or the call was out of memory before the first byte of
+-- output
 abbrev pub MelcardCompletes : Status → Job → CardOutside → Type 0
 MelcardCompletes s job a = Completes (MelcardWhole job a s) s a.streams

@@ -15,16 +15,16 @@ use Rattle.mc_check.specs.Verdicts.{IsVerdictOf, KeepsTo}
 use Rattle.mc_filter.specs.Lines.{at_line, at_place, deck_line, too_long}
 use Rattle.melcard.specs.declared.job.Job.{Job}
 use Rattle.melcard.specs.declared.job.Job.TheVariants as job
-use Rattle.melcard.specs.declared.job.Telling.{Telling}
+use Rattle.melcard.specs.declared.job.Reporting.{Reporting}
 use Rattle.melcard.specs.declared.job.Form.{Form}
 use Rattle.melcard.specs.declared.job.Form.TheVariants as form
 
--- the verdict on an input: the complete text of a job, the line of a refusal, a deck whose play is written, or one whose play is
--- summarised
+-- the verdict on an input: the complete text of a job, the line of a refusal, a deck whose play is written, or one
+-- whose play is summarised
 pub data JobVerdict : Type 0 where
   Whole : (text : List ℕ) → JobVerdict
   Refusal : (line : List ℕ) → JobVerdict
-  Plays : (telling : Telling) (lines : List (ℕ × DeckLine)) → JobVerdict
+  Plays : (reporting : Reporting) (lines : List (ℕ × DeckLine)) → JobVerdict
   Sums : (lines : List (ℕ × DeckLine)) → JobVerdict
 
 -- ---- texts
@@ -48,7 +48,7 @@ of_code (Err TooLarge) = Refusal too_long
 -- ---- decks
 
 -- the verdict on a deck that is played
-abbrev pub of_deck : Telling → Result (List (ℕ × DeckLine)) (ℕ × DeckCause) → JobVerdict
+abbrev pub of_deck : Reporting → Result (List (ℕ × DeckLine)) (ℕ × DeckCause) → JobVerdict
 of_deck t (Ok lines) = Plays t lines
 of_deck t (Err e) = Refusal (deck_line e)
 
@@ -72,7 +72,8 @@ pub record IsJudged (number : ℕ) (code : List ℕ) (session : ℕ) (Rest : Lis
   pub rest : Rest behind
   pub parts : text ≡ verdict_line number verdict ++ behind
 
--- a text with a line for each load line, in order, each with a verdict that holds for its code and that its code keeps to
+-- a text with a line for each load line, in order, each with a verdict that holds for its code and that its code keeps
+-- to
 unfoldable pub AreVerdicts : List (ℕ × DeckLine) → List ℕ → Type 0
 AreVerdicts [] text = text ≡ []
 AreVerdicts ((n, line.Load u fixed session) ∷ ls) text = IsJudged n u.code session (AreVerdicts ls) text

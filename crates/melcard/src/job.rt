@@ -6,7 +6,7 @@ use mc_text::decimal_number;
 
 /// The output of a play.
 #[derive(Clone, Copy, Debug, PartialEq, Eq)]
-pub enum Telling {
+pub enum Reporting {
     /// The results of its lines.
     Transcript,
     /// The results of its lines, and a line for each executed instruction.
@@ -28,7 +28,7 @@ pub enum Form {
 #[derive(Clone, Copy, Debug, PartialEq, Eq)]
 pub enum Job {
     /// Plays a deck and writes the output of the play.
-    Play(Telling),
+    Play(Reporting),
     /// Plays the deck that a number up to 2,147,483,647 generates, and writes a summary of the play.
     Generate(u32),
     /// Writes a text made from the input.
@@ -57,8 +57,8 @@ fn job_named(word: &str) -> Option<Job>
     ensures fits { IfSome result JobFits }
 {
     match word {
-        "play" => Some(Job::Play(Telling::Transcript)),
-        "trace" => Some(Job::Play(Telling::Trace)),
+        "play" => Some(Job::Play(Reporting::Transcript)),
+        "trace" => Some(Job::Play(Reporting::Trace)),
         "asm" => Some(Job::Write(Form::Code)),
         "list" => Some(Job::Write(Form::Listing)),
         "check" => Some(Job::Write(Form::Verdicts)),

@@ -4,7 +4,7 @@ ghost use Rattle.mc_model_machine.specs.declared.checker.CheckCause.TheVariants.
 ghost use Rattle.mc_check.specs.declared.verdict.Verdict.TheVariants.{Accept, Refuse};
 ghost use Rattle.melcard.specs.declared.job.Form.TheVariants as form;
 ghost use Rattle.melcard.specs.declared.job.Job.TheVariants as job;
-ghost use Rattle.melcard.specs.declared.job.Telling.TheVariants.{Trace, Transcript};
+ghost use Rattle.melcard.specs.declared.job.Reporting.TheVariants.{Trace, Transcript};
 ghost use Rattle.melcard.specs.Jobs.{generated_number, job_named, job_numbered};
 ghost use Rattle.melcard.specs.Verdicts.{Plays, Refusal, Whole};
 ghost use Rattle.melcard.specs.Computed.{checked_line, code_verdict, deck_verdict, listing_verdict};

@@ -14,7 +14,7 @@ ghost use Rattle.melcard.specs.Statuses.{bench_of, card_outside, text_of_step, I
 ghost use Rattle.mc_script.specs.Plays.{PlaysDeck};
 
 use crate::form::text_of;
-use crate::job::{Form, Job, Telling, job_of};
+use crate::job::{Form, Job, Reporting, job_of};
 use mc_base::{Sink, Source, Steps, WriteFault, put_all};
 use mc_deck::{Deck, generate};
 use mc_filter::{Rejection, Status, deck_of, ended, number, read_input, reject};
@@ -25,43 +25,43 @@ use std::sync::ledger::Ledger;
 
 // Plays a deck and writes the output of the play.
 fn play_as<T: Sink, N: Bench, L: Ledger>(
-    telling: Telling,
+    reporting: Reporting,
     deck: &Deck,
     out: &mut T,
     dev: &mut N,
     steps: &mut Steps<L>,
 ) -> Result<(), WriteFault>
     requires { IsUnfused (N.bench dev.old) }
-    ensures { PlaysDeck (text_of_step telling) deck.now (bench_of N.state N.bench dev.old)
+    ensures { PlaysDeck (text_of_step reporting) deck.now (bench_of N.state N.bench dev.old)
         (sunk_in T.taken T.faults out.old) result (bench_of N.state N.bench dev.new)
         (sunk_in T.taken T.faults out.new) }
 {
-    match telling {
-        Telling::Transcript => play(deck, dev, out, steps),
-        Telling::Trace => trace(deck, dev, out, steps),
+    match reporting {
+        Reporting::Transcript => play(deck, dev, out, steps),
+        Reporting::Trace => trace(deck, dev, out, steps),
     }
 }
 
 // Plays the deck that an input spells, and writes the output of the play.
-fn tell<S: Source, T: Sink, N: Bench, L: Ledger>(
+fn report<S: Source, T: Sink, N: Bench, L: Ledger>(
     alloc: Global,
-    telling: Telling,
+    reporting: Reporting,
     input: &mut S,
     out: &mut T,
     dev: &mut N,
     steps: &mut Steps<L>,
 ) -> Result<Status, Rejection>
     requires { IsUnfused (N.bench dev.old) }
-    ensures done { IfOk result (λ s. PlaysInput telling s
+    ensures done { IfOk result (λ s. PlaysInput reporting s
         (card_outside S.Source T.Sink N.state N.bench input.old input.new out.old out.new dev.old dev.new)) }
     ensures rejected { IfErr result
-        (RejectsJob (job.Play telling) (outside S.Source T.Sink input.old input.new out.old out.new)) }
+        (RejectsJob (job.Play reporting) (outside S.Source T.Sink input.old input.new out.old out.new)) }
     ensures out { IfErr result (λ e. out.new ≡ out.old) }
     ensures device { IfErr result (λ e. dev.new ≡ dev.old) }
 {
     let text = read_input(alloc, input)?;
     let deck = deck_of(alloc, text.as_slice())?;
-    Ok(ended(Status::Done, play_as(telling, &deck, out, dev, steps)))
+    Ok(ended(Status::Done, play_as(reporting, &deck, out, dev, steps)))
 }
 
 // Plays the deck that a number generates, and writes a summary of the play.
@@ -118,7 +118,7 @@ fn run<S: Source, T: Sink, N: Bench, L: Ledger>(
         (card_outside S.Source T.Sink N.state N.bench input.old input.new out.old out.new dev.old dev.new) }
 {
     let done = match job {
-        Job::Play(telling) => tell(alloc, telling, input, out, dev, steps),
+        Job::Play(reporting) => report(alloc, reporting, input, out, dev, steps),
         Job::Generate(number) => sum(alloc, number, out, dev, steps),
         Job::Write(form) => write(alloc, form, input, out),
     };

@@ -270,7 +270,7 @@ fn refuses_alike(alloc: Global, change: &Change, k: u32) -> Result<Option<bool>,
 
 // Each write of each change, failed by the device itself.
 #[test]
-fn worn_writes(rt: HostRuntime) -> Result<(), Fail> {
+fn failure_writes(rt: HostRuntime) -> Result<(), Fail> {
     let alloc = rt.alloc();
     for change in &CHANGES {
         for k in 1..=64 {

@@ -9,12 +9,12 @@ use Rattle.mc_filter.specs.Outside.{IsWithoutFault, Outside, SaysNoMemory, SaysR
 use Rattle.mellab.specs.declared.job.Job.{Job}
 use Rattle.mc_filter.specs.declared.status.Status.{Status}
 use Rattle.mc_filter.specs.declared.status.Status.TheVariants.{Failed}
-use Rattle.mellab.specs.Verdicts.{LabVerdict, Tells, Refusal}
+use Rattle.mellab.specs.Verdicts.{LabVerdict, Reports, Refusal}
 use Rattle.mellab.specs.Statuses.{status_by, status_of, IsTextWritten, IsVerdictOfJob, MellabCompletes, MellabDone, MellabWhole, MellabSays}
 
 -- the text of the verdict was written completely
 done_whole : (v : LabVerdict) (s : Status) (a : Outside) → (Rose a.out_old.faults a.out.faults → ⊥) → IsTextWritten v s a → s ≡ status_of v
-done_whole (Tells text well) s a quiet d = written_whole a.out_old a.out text (status_by well) s d.result quiet d.status d.written
+done_whole (Reports text well) s a quiet d = written_whole a.out_old a.out text (status_by well) s d.result quiet d.status d.written
 done_whole (Refusal line) s a quiet d = written_whole a.out_old a.out line Failed s d.result quiet d.status d.written
 
 whole : (work : Job) (a : Outside) (s : Status) → IsWithoutFault a → MellabDone work a s → MellabWhole work a s

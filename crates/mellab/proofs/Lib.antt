@@ -1,3 +1,3 @@
 mod StatusLemmas
 mod Completeness
-mod ToldLemmas
+mod ReportedLemmas

@@ -12,7 +12,7 @@ use Rattle.mc_filter.specs.declared.rejection.Rejection.TheVariants as rejection
 use Rattle.mc_filter.specs.declared.status.Status.{Status}
 use Rattle.mc_filter.specs.declared.status.Status.TheVariants.{NoForm}
 use Rattle.mellab.specs.Jobs.{usage}
-use Rattle.mellab.specs.Verdicts.{LabVerdict, Tells, Refusal}
+use Rattle.mellab.specs.Verdicts.{LabVerdict, Reports, Refusal}
 use Rattle.mellab.specs.Running.{RejectsLabJob}
 use Rattle.mellab.specs.Statuses.{status_by, IsTextWritten, IsVerdictOfJob, MellabDone, MellabSays}
 
@@ -23,7 +23,7 @@ says_by work a true r s e d = filter.says_done (MellabDone work a) (SaysReadFaul
 says_by work a false r s e d = filter.says_refused (MellabDone work a) (SaysReadFault (TookLimited a.left_old a.left) a) (SaysNoMemory (TookLimited a.left_old a.left) a) r s e d
 
 says_verdict : (work : Job) (a : Outside) (v : LabVerdict) (s : Status) → IsRead Refusal (IsVerdictOfJob work) a.left_old a.left v → IsTextWritten v s a → MellabSays s (Some work) a
-says_verdict work a (Tells text well) s due d = says_by work a well d.result s d.status (record { verdict = Tells text well; due = due; done = d })
+says_verdict work a (Reports text well) s due d = says_by work a well d.result s d.status (record { verdict = Reports text well; due = due; done = d })
 says_verdict work a (Refusal line) s due d = says_by work a false d.result s d.status (record { verdict = Refusal line; due = due; done = d })
 
 -- a verdict whose text was written is the meaning of the status with which its writing ended

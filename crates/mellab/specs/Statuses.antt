@@ -8,7 +8,7 @@ use Rattle.mc_filter.specs.Statuses.{IsWritten}
 use Rattle.mc_filter.specs.Outside.{AllStands, Completes, IsRead, IsWhole, JobSays, NoJobSays, Outside, SaysDone, SaysNoForm, SaysNoMemory, SaysReadFault}
 use Rattle.mellab.specs.declared.job.Job.{Job}
 use Rattle.mellab.specs.Jobs.{usage}
-use Rattle.mellab.specs.Verdicts.{LabVerdict, Tells, Refusal, verdict_of}
+use Rattle.mellab.specs.Verdicts.{LabVerdict, Reports, Refusal, verdict_of}
 
 -- ---- what was read, and what was done
 
@@ -28,7 +28,7 @@ status_after (Err f) = WriteFault
 
 -- the text of the verdict on an input was written
 abbrev pub IsTextWritten : LabVerdict → Status → Outside → Type 0
-IsTextWritten (Tells text well) s a = IsWritten (status_by well) text s a.out_old a.out
+IsTextWritten (Reports text well) s a = IsWritten (status_by well) text s a.out_old a.out
 IsTextWritten (Refusal line) s a = IsWritten Failed line s a.out_old a.out
 
 -- a job was done, or its input was refused, or the sink failed
@@ -47,13 +47,14 @@ MellabSays s None a = NoJobSays (λ (t : Status). SaysNoForm usage t a) s
 
 -- the status if the text of a verdict is written completely
 abbrev pub status_of : LabVerdict → Status
-status_of (Tells text well) = status_by well
+status_of (Reports text well) = status_by well
 status_of (Refusal line) = Failed
 
 -- all that is due was written
 abbrev pub MellabWhole : Job → Outside → Status → Type 0
 MellabWhole job a s = IsWhole (AllStands Refusal (IsVerdictOfJob job) a.left_old) status_of (λ (v : LabVerdict). IsTextWritten v s a) s
 
--- if no call of source or sink fails, all that is due is written, or the call was out of memory before the first byte of output
+-- if no call of source or sink fails, all that is due is written, or the call was out of memory before the first byte
+-- of output
 abbrev pub MellabCompletes : Status → Job → Outside → Type 0
 MellabCompletes s job a = Completes (MellabWhole job a s) s a

@@ -1,4 +1,5 @@
--- The verdict on the input of a job: the text due, and whether all expectations hold, or the one line that refuses the input.
+-- The verdict on the input of a job: the text due, and whether all expectations hold, or the one line that refuses the
+-- input.
 use Rattle.std.specs.Prelude.{ℕ, Bool, true, ◌==◌, List, codes, Result, Ok, Err}
 use Rattle.mc_model_device.specs.Device.{blank_words, device_words}
 use Rattle.mc_model_play.specs.DeckGrammar.{DeckLine, deck_read}
@@ -11,7 +12,7 @@ use Rattle.mellab.specs.declared.job.Job.TheVariants as job
 
 -- a verdict: a text, and whether all expectations hold, or the line of a refusal
 pub data LabVerdict : Type 0 where
-  Tells : (text : List ℕ) (well : Bool) → LabVerdict
+  Reports : (text : List ℕ) (well : Bool) → LabVerdict
   Refusal : (line : List ℕ) → LabVerdict
 
 -- the line of a refusal: a refused line of a deck, or an expectation without a result
@@ -25,12 +26,12 @@ fault_line (NoAnswer n) = at_line n (codes "NoAnswer")
 abbrev pub expectation_verdict : Result Trial TrialFault → LabVerdict
 expectation_verdict (Ok t) =
     let ts = steady_steps (blank_words device_words) t.lines in
-    Tells (expect_text ts t.expected) (count_failed ts t.expected == 0)
+    Reports (expect_text ts t.expected) (count_failed ts t.expected == 0)
 expectation_verdict (Err e) = Refusal (fault_line e)
 
 -- the verdict on a sweep of a deck, which has no expectations
 abbrev pub sweep_verdict : Result (List (ℕ × DeckLine)) (ℕ × DeckCause) → LabVerdict
-sweep_verdict (Ok ls) = Tells (sweep_text ls) true
+sweep_verdict (Ok ls) = Reports (sweep_text ls) true
 sweep_verdict (Err e) = Refusal (deck_line e)
 
 -- the verdict on an input within the limit

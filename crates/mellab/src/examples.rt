@@ -4,7 +4,7 @@
 pub struct Example {
     pub name: &'static str,
     pub deck: &'static str,
-    pub told: &'static str,
+    pub reported: &'static str,
 }
 
 /// The decks.
@@ -38,7 +38,7 @@ select A000000003
 apdu 8001000002
 #> abend 03
 ",
-        told: "expected 11 failed 0\n",
+        reported: "expected 11 failed 0\n",
     },
     Example {
         name: "counter",
@@ -56,7 +56,7 @@ apdu 8001000002
 apdu 8001000002
 #> 0002 9000
 ",
-        told: "expected 6 failed 0\n",
+        reported: "expected 6 failed 0\n",
     },
     Example {
         name: "cut",
@@ -105,7 +105,7 @@ power
 dump A000000001
 #> static 0002
 ",
-        told: "expected 16 failed 0\n",
+        reported: "expected 16 failed 0\n",
     },
     Example {
         name: "delegation",
@@ -141,7 +141,7 @@ dump A000000001
 dump A000000003
 #> static 05A000000001
 ",
-        told: "expected 9 failed 0\n",
+        reported: "expected 9 failed 0\n",
     },
     Example {
         name: "denied",
@@ -191,7 +191,7 @@ apdu BE18000005A000000021
 dump A000000021
 #> absent
 ",
-        told: "expected 17 failed 0\n",
+        reported: "expected 17 failed 0\n",
     },
     Example {
         name: "diversified",
@@ -259,7 +259,7 @@ apdu 80880000200000000000000000000000000000104200112233445566778899AABBCCDDEEFF1
 apdu 80880000200000000000000000000000000000104300112233445566778899AABBCCDDEEFF10
 #> 6183C721F2DEE46DDDA156C5210470C3 9000
 ",
-        told: "expected 6 failed 0\n",
+        reported: "expected 6 failed 0\n",
     },
     Example {
         name: "file",
@@ -433,7 +433,7 @@ apdu 00B001FC08
 apdu 008800001000112233445566778899AABBCCDDEEFF10
 #> 69C4E0D86A7B0430D8CDB78070B4C55A 9000
 ",
-        told: "expected 19 failed 0\n",
+        reported: "expected 19 failed 0\n",
     },
     Example {
         name: "migration",
@@ -474,7 +474,7 @@ select A000000001
 apdu 8001000002
 #> 002B 9000
 ",
-        told: "expected 6 failed 0\n",
+        reported: "expected 6 failed 0\n",
     },
     Example {
         name: "purse",
@@ -512,7 +512,7 @@ power
 dump A000000002
 #> static 00030002
 ",
-        told: "expected 10 failed 0\n",
+        reported: "expected 10 failed 0\n",
     },
     Example {
         name: "two_counters",
@@ -552,7 +552,7 @@ select A000000001
 apdu 8001000002
 #> 0002 9000
 ",
-        told: "expected 16 failed 0\n",
+        reported: "expected 16 failed 0\n",
     },
     Example {
         name: "wallet",
@@ -736,6 +736,6 @@ apdu 802000000430303030
 apdu 802000000431323334
 #> 6983
 ",
-        told: "expected 23 failed 0\n",
+        reported: "expected 23 failed 0\n",
     },
 ];

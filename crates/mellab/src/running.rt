@@ -41,10 +41,10 @@ fn trial_of(alloc: Global, text: &[u8]) -> Result<Trial<'_>, Rejection>
 }
 
 // The status after a report of expectations, by the number that failed.
-fn status_after(told: Result<usize, WriteFault>) -> Status
-    ensures { result ≡ status_after told }
+fn status_after(reported: Result<usize, WriteFault>) -> Status
+    ensures { result ≡ status_after reported }
 {
-    match told {
+    match reported {
         Ok(0) => Status::Done,
         Ok(_) => Status::Failed,
         Err(WriteFault) => Status::WriteFault,

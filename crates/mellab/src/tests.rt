@@ -97,7 +97,7 @@ fn examples(rt: HostRuntime) -> Result<(), Fail> {
     let words = words(alloc, &["expect"])?;
     for example in &EXAMPLES {
         let end = ended(alloc, words.as_slice(), example.deck.as_bytes(), 400, &[])?;
-        assert!(rt; end.is(0, example.told.as_bytes()), "{}", example.name);
+        assert!(rt; end.is(0, example.reported.as_bytes()), "{}", example.name);
     }
     Ok(())
 }
@@ -138,7 +138,7 @@ fn refused(rt: HostRuntime) -> Result<(), Fail> {
     let alloc = rt.alloc();
     let words = words(alloc, &["expect"])?;
     let words = words.as_slice();
-    for (deck, told) in [
+    for (deck, reported) in [
         (
             b"#> formatted\nformat\nreboot\n" as &[u8],
             b"line 3 BadLine\n" as &[u8],
@@ -152,7 +152,7 @@ fn refused(rt: HostRuntime) -> Result<(), Fail> {
     ] {
         let end = ended(alloc, words, deck, 400, &[])?;
         assert!(rt;
-            end.is(1, told),
+            end.is(1, reported),
             "{}",
             str::from_utf8(end.text.as_slice()).unwrap_or("")
         );

@@ -1,4 +1,5 @@
--- The deck that a session begins with: the input that was read, and the lines that it spells or the line that refuses it.
+-- The deck that a session begins with: the input that was read, and the lines that it spells or the line that refuses
+-- it.
 use Rattle.std.specs.Prelude.{◌≡◌, ◌⊎◌, ℕ, List, [], ◌∷◌, Option, Some, None, Result, Ok, Err, ⊤}
 use Rattle.std.proofs.Common.{inl, inr}
 use Rattle.std.specs.Borrow.{MutBor}

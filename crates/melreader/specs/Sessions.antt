@@ -13,7 +13,8 @@ use Rattle.mc_filter.specs.declared.status.Status.{Status}
 use Rattle.mc_filter.specs.declared.status.Status.TheVariants.{Done, Failed, NoForm, ReadFault, WriteFault, NoMemory}
 use Rattle.melreader.specs.Decks.{Stream, IsDeck, DeckFails, DeckLimited}
 
--- the environment of the call: the deck's source, if there is one, the sink of refusals, and the environment of the session
+-- the environment of the call: the deck's source, if there is one, the sink of refusals, and the environment of the
+-- session
 pub record ReaderOutside : Type 0 where
   pub deck_old : Option Stream
   pub deck : Option Stream

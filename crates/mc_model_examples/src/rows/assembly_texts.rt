@@ -85,7 +85,8 @@ pub fn five_hexadecimal_digits()
 
 /// The lowest offset, and no line feed at the end.
 pub fn lowest_offset()
-    ensures { assembly_of (codes "TESTN ST[0],255\nRETI 1\nORN SB[-32768],8") ≡ Ok (hex (codes "B2FF00002D01F1088000")) }
+    ensures { assembly_of (codes "TESTN ST[0],255\nRETI 1\nORN SB[-32768],8")
+        ≡ Ok (hex (codes "B2FF00002D01F1088000")) }
 {}
 
 /// A carriage return at the end of the only line is a character of its operand.

@@ -7,7 +7,8 @@ ghost use Rattle.mc_model_examples.specs.Played.{deck_transcript, unit_line};
 pub fn delegation()
     ensures { deck_transcript (
         codes "format\npower\n" ++
-        unit_line (codes "a") (codes "A000000001") (codes "220000 2807 3F02FFFE 220006 2807 3F02FFFE 46040000 0790000004") (codes "05A00000000205A000000009") ++
+        unit_line (codes "a") (codes "A000000001")
+        (codes "220000 2807 3F02FFFE 220006 2807 3F02FFFE 46040000 0790000004") (codes "05A00000000205A000000009") ++
         unit_line (codes "b") (codes "A000000002") (codes "220000 2807 04") (codes "05A000000001") ++
         codes "load a 12 0\nload b 6 0\nselect A000000001\napdu 8001000004\n")
         ≡ Ok (codes "1 formatted\n2 ready 0\n5 9000\n6 9000\n7 9000\n8 69856A829000\n") }

@@ -20,7 +20,8 @@ pub fn first_draws()
 pub fn deck_of_one()
     ensures lines { length (deck_of_number 1) ≡ 4012 }
     ensures turns { take 3 (drop 8 (deck_of_number 1))
-        ≡ (9, Apdu (hex (codes "8001000002"))) ∷ (10, Select relay_aid) ∷ (11, Apdu (hex (codes "8040000004000015FB"))) ∷ [] }
+        ≡ (9, Apdu (hex (codes "8001000002"))) ∷ (10, Select relay_aid) ∷ (11, Apdu (hex (codes "8040000004000015FB")))
+        ∷ [] }
     ensures end { drop 4008 (deck_of_number 1)
         ≡ (4009, Power) ∷ (4010, Dump counter_aid) ∷ (4011, Dump purse_aid) ∷ (4012, Dump relay_aid) ∷ [] }
 {}

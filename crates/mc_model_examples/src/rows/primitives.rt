@@ -52,7 +52,8 @@ pub fn no_primitive()
 pub fn des()
     ensures { deck_transcript (
         codes "format\npower\n" ++
-        unit_line (codes "a") (codes "A000000001") (codes "22C000 22C000 220000 290408 060008") (codes "133457799BBCDFF1") ++
+        unit_line (codes "a") (codes "A000000001") (codes "22C000 22C000 220000 290408 060008")
+        (codes "133457799BBCDFF1") ++
         codes "load a 8 0\nselect A000000001\napdu 80010000080123456789ABCDEF08\n")
         ≡ Ok (codes "1 formatted\n2 ready 0\n4 9000\n5 9000\n6 85E813540F0AB4059000\n") }
 {}
@@ -61,7 +62,8 @@ pub fn des()
 pub fn des_of_seven_bytes()
     ensures { deck_transcript (
         codes "format\npower\n" ++
-        unit_line (codes "a") (codes "A000000001") (codes "22C000 22C000 220000 290407 060008") (codes "133457799BBCDFF1") ++
+        unit_line (codes "a") (codes "A000000001") (codes "22C000 22C000 220000 290407 060008")
+        (codes "133457799BBCDFF1") ++
         codes "load a 8 0\nselect A000000001\napdu 80010000080123456789ABCDEF08\n")
         ≡ Ok (codes "1 formatted\n2 ready 0\n4 9000\n5 9000\n6 abend 06\n") }
 {}
@@ -70,7 +72,8 @@ pub fn des_of_seven_bytes()
 pub fn aes()
     ensures { deck_transcript (
         codes "format\npower\n" ++
-        unit_line (codes "a") (codes "A000000001") (codes "22C000 22C000 220000 290A10 060010") (codes "000102030405060708090A0B0C0D0E0F") ++
+        unit_line (codes "a") (codes "A000000001") (codes "22C000 22C000 220000 290A10 060010")
+        (codes "000102030405060708090A0B0C0D0E0F") ++
         codes "load a 16 0\nselect A000000001\napdu 800100001000112233445566778899AABBCCDDEEFF10\n")
         ≡ Ok (codes "1 formatted\n2 ready 0\n4 9000\n5 9000\n6 69C4E0D86A7B0430D8CDB78070B4C55A9000\n") }
 {}
@@ -79,7 +82,8 @@ pub fn aes()
 pub fn aes_of_a_block_and_a_half()
     ensures { deck_transcript (
         codes "format\npower\n" ++
-        unit_line (codes "a") (codes "A000000001") (codes "22C000 22C000 220000 290A18 060010") (codes "000102030405060708090A0B0C0D0E0F") ++
+        unit_line (codes "a") (codes "A000000001") (codes "22C000 22C000 220000 290A18 060010")
+        (codes "000102030405060708090A0B0C0D0E0F") ++
         codes "load a 16 0\nselect A000000001\napdu 800100001000112233445566778899AABBCCDDEEFF10\n")
         ≡ Ok (codes "1 formatted\n2 ready 0\n4 9000\n5 9000\n6 abend 06\n") }
 {}

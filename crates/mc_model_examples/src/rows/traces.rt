@@ -31,7 +31,8 @@ pub fn undefined_byte()
 pub fn delegation()
     ensures { trace (
         codes "format\npower\n" ++
-        unit_line (codes "a") (codes "A000000001") (codes "220000 2807 3F02FFFE 220006 2807 3F02FFFE 46040000 0790000004") (codes "05A00000000205A000000009") ++
+        unit_line (codes "a") (codes "A000000001")
+        (codes "220000 2807 3F02FFFE 220006 2807 3F02FFFE 46040000 0790000004") (codes "05A00000000205A000000009") ++
         unit_line (codes "b") (codes "A000000002") (codes "220000 2807 04") (codes "05A000000001") ++
         codes "load a 12 0\nload b 6 0\nselect A000000001\napdu 8001000004\n")
         ≡ Ok (

@@ -5,7 +5,7 @@ use Rattle.mc_check.specs.declared.bases.Progress.{Progress}
 use Rattle.mc_check.specs.declared.bases.Progress.TheVariants as progress
 use Rattle.mc_check.specs.CallList.{AreClosed}
 use Rattle.mc_check.specs.Searching.{base_of}
-use Rattle.mc_check.proofs.CallTelling.{no_call, is_called}
+use Rattle.mc_check.proofs.CallReporting.{no_call, is_called}
 use Rattle.mc_check.proofs.SearchFound.{starts, seen_more, are_found}
 use Rattle.mc_check.proofs.bases.bases_by.Goals as goal
 

@@ -12,7 +12,7 @@ use Rattle.mc_check.proofs.judging.greatest_depth.Goals as goal
 use Rattle.mc_check.proofs.judging.greatest_depth.Goals.{After-has_call-has_calls, in-Some+in_ok-depth, in_default}
 
 known : (c : After-has_call-has_calls) → Known c.args.code.now c.args.table.now c.args.bases.now c.has_call-has_calls.result
-known c = record { whole = c.requires.whole; based = c.requires.based; told = c.has_call-has_calls.ensures }
+known c = record { whole = c.requires.whole; based = c.requires.based; reported = c.has_call-has_calls.ensures }
 
 -- a depth with the base that was read
 based : (code : List ℕ) (session : ℕ) (bases : List ℕ) (calls : Bool) (p : ℕ) (e : Entry) (base : ℕ) (r : Result ℕ Refusal) → base ≡ base_in bases (routine_of e.routine)
@@ -42,8 +42,8 @@ returns-in_err-depth-clause-refuses c =
     let p = err_from_is_err_and c.from_residual.result c.from_residual.ensures.1 in
     let there = read_kept t place e c.loop-place-test.true c.in-Some.is in
     let depth = based code session bases calls place e c.base_of-base.result (Err refusal) c.base_of-base.ensures c.in_err-depth.ensures in
-    let told = refuses code session t bases calls (known (goal.at.returns-in_err-depth-clause-refuses c).After-has_call-has_calls) place e refusal there depth in
-    rw (p.1, p.2) told
+    let reported = refuses code session t bases calls (known (goal.at.returns-in_err-depth-clause-refuses c).After-has_call-has_calls) place e refusal there depth in
+    rw (p.1, p.2) reported
 
 pub loop-place-preserved : goal.loop-place-preserved
 loop-place-preserved c =

@@ -10,7 +10,7 @@ returns-clause-ends g c =
     write_ends g.N.Nvm.state g.N.Nvm.wrote g.met.N.Nvm.obeys j c.args.list.now c.args.device.now c.make_writes.new.device c.make_writes.result
     c.make_writes.ensures.low c.make_writes.ensures.high c.requires.power c.requires.list c.requires.gate c.make_writes.ensures.makes
 
-pub returns-clause-lent : goal.returns-clause-lent
-returns-clause-lent g c =
+pub returns-clause-keeps_device : goal.returns-clause-keeps_device
+returns-clause-keeps_device g c =
     let j = journal_of g.J.Journal.LAYOUT in
     makes_same g.N.Nvm.wrote g.N.Nvm.same g.met.N.Nvm.keeps g.met.N.Nvm.itself g.met.N.Nvm.onward (writes j c.args.list.now) c.args.device.now c.make_writes.new.device c.make_writes.result c.make_writes.ensures.makes

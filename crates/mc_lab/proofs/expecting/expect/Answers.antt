@@ -11,7 +11,7 @@ use Rattle.mc_lab.specs.Expectations.{is_met, result_above, steady_steps, step_t
 use Rattle.mc_lab.specs.Judged.{done_of, expectation_of}
 use Rattle.mc_lab.proofs.TrialLemmas.{above_start, above_from, above_on}
 use Rattle.mc_lab.proofs.StageLemmas.{above_is, staged_start}
-use Rattle.mc_lab.proofs.ExpectLemmas.{count_left, expectation_at, expectation_none, fails_done, numbered_length, one_more, text_done, told_fails, told_on, told_start}
+use Rattle.mc_lab.proofs.ExpectLemmas.{count_left, expectation_at, expectation_none, fails_done, numbered_length, one_more, text_done, reported_fails, reported_on, reported_start}
 use Rattle.mc_lab.proofs.expecting.expect.Goals as goal
 
 -- the expectation at a place, and those after it
@@ -30,7 +30,7 @@ loop-expectation-init g c =
       staged = staged_start g.N.Nvm.state g.N.Bench.bench trial.deck c.args.device c.new-player.result c.new-text.result.items c.new-player.ensures.at c.new-player.ensures.device c.requires.steady c.new-text.ensures;
       left = zero-add _;
       few = omega arith;
-      told = λ r b h. puts_as _ _ r (told_start whole es) h;
+      reported = λ r b h. puts_as _ _ r (reported_start whole es) h;
     }
 
 pub count_above-above-requires : goal.count_above-above-requires
@@ -50,8 +50,8 @@ play_lines-requires-clause-order g c =
     let from = above_from c.args.trial.now.deck c.loop-expectation.count (drop i es) (expectation_of (slice_index_or given i no_line)) (drop (i + 1) es) next c.loop-expectation.invariant.above in
     omega (arith, from, c.count_above-above.ensures.count)
 
-pub returns-in_err-held-clause-told : goal.returns-in_err-held-clause-told
-returns-in_err-held-clause-told g c =
+pub returns-in_err-held-clause-reported : goal.returns-in_err-held-clause-reported
+returns-in_err-held-clause-reported g c =
     let trial = c.args.trial.now in
     let given = c.as_slice-expectations.result.now in
     let es = numbered_lines trial.expectations.items in
@@ -66,8 +66,8 @@ returns-in_err-held-clause-told g c =
     c.as_slice.ensures.value ∙ staged.last ∙ ap (λ k. step_text (last_of k whole)) c.count_above-above.ensures.count ∙ sym (above_is (start words) e.0 trial.deck c.requires.rising.lines) in
     let x = sunk_in g.T.Sink.taken g.T.Sink.faults c.loop-expectation.out in
     let y = sunk_in g.T.Sink.taken g.T.Sink.faults c.judge.new.out in
-    inv.told (done_of c.from_residual.result) y
-    (fails_done c.from_residual.result c.from_residual.ensures.0 (told_fails whole (drop i es) e (drop (i + 1) es) es c.as_slice.result.now x y next is c.in_err-held.ensures.told))
+    inv.reported (done_of c.from_residual.result) y
+    (fails_done c.from_residual.result c.from_residual.ensures.0 (reported_fails whole (drop i es) e (drop (i + 1) es) es c.as_slice.result.now x y next is c.in_err-held.ensures.reported))
 
 pub loop-expectation-preserved : goal.loop-expectation-preserved
 loop-expectation-preserved g c =
@@ -93,11 +93,11 @@ loop-expectation-preserved g c =
       staged = staged;
       left = omega (arith, count, c.counted-failed.ensures, inv.left);
       few = omega (arith, c.counted-failed.ensures, one_more held c.loop-expectation.failed i inv.few);
-      told = λ r b rest. inv.told r b (told_on whole (drop i es) e (drop (i + 1) es) es c.as_slice.result.now x y r b next is c.in_ok-held.ensures.told rest);
+      reported = λ r b rest. inv.reported r b (reported_on whole (drop i es) e (drop (i + 1) es) es c.as_slice.result.now x y r b next is c.in_ok-held.ensures.reported rest);
     }
 
-pub returns-clause-told : goal.returns-clause-told
-returns-clause-told g c =
+pub returns-clause-reported : goal.returns-clause-reported
+returns-clause-reported g c =
     let trial = c.args.trial.now in
     let given = c.as_slice-expectations.result.now in
     let value = c.as_slice-expectations.ensures.value in
@@ -110,4 +110,4 @@ returns-clause-told g c =
     let inv = c.loop-expectation.invariant in
     let x = sunk_in g.T.Sink.taken g.T.Sink.faults c.loop-expectation.out in
     let y = sunk_in g.T.Sink.taken g.T.Sink.faults c.put_counts.new.out in
-    inv.told (Ok tt) y (puts_as x y (Ok tt) (text_done whole (drop i es) es (length given) c.loop-expectation.failed none len inv.left) c.in_ok-put_counts.ensures)
+    inv.reported (Ok tt) y (puts_as x y (Ok tt) (text_done whole (drop i es) es (length given) c.loop-expectation.failed none len inv.left) c.in_ok-put_counts.ensures)

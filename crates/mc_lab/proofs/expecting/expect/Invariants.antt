@@ -22,5 +22,5 @@ invariant-loop-expectation g l =
       staged : Staged state bench whole l.trial.deck l.player l.count l.text.items;
       left : l.failed + count_failed whole (drop l.expectation-index es) ≡ count_failed whole es;
       few : l.failed ≤ l.expectation-index;
-      told : (r : Result (Unit {0}) WriteFault) (b : Sunk) → Puts (sunk_in taken faults l.out) (text_left whole (drop l.expectation-index es) es) r b → Puts (sunk_in taken faults l.fn.out) (expect_text whole es) r b;
+      reported : (r : Result (Unit {0}) WriteFault) (b : Sunk) → Puts (sunk_in taken faults l.out) (text_left whole (drop l.expectation-index es) es) r b → Puts (sunk_in taken faults l.fn.out) (expect_text whole es) r b;
     }

@@ -10,7 +10,7 @@ loop-i-init g c =
     record {
       at = front_start g.N.Nvm.state g.N.Bench.bench c.args.device p c.new-player.ensures.at device c.requires.steady c.requires.words c.args.deck.now;
       size = ap (λ (d : _). length (g.N.Nvm.state d).words) device;
-      lent = subst (λ (d : _). g.N.Nvm.same c.args.device d) (sym device) (g.met.N.Nvm.itself c.args.device);
+      keeps_device = subst (λ (d : _). g.N.Nvm.same c.args.device d) (sym device) (g.met.N.Nvm.itself c.args.device);
     }
 
 pub play_line-answer-requires-clause-playing : goal.play_line-answer-requires-clause-playing
@@ -24,5 +24,5 @@ loop-i-preserved g c =
     record {
       at = front_on g.N.Nvm.state g.N.Bench.bench c.loop-i.player l.new.player c.args.deck.now c.loop-i.i line.0 (line_of line.1) l.result c.line-number.ensures.line l.ensures.on i.at;
       size = l.ensures.size ∙ i.size;
-      lent = g.met.N.Nvm.onward _ _ _ i.lent l.ensures.lent;
+      keeps_device = g.met.N.Nvm.onward _ _ _ i.keeps_device l.ensures.keeps_device;
     }

@@ -10,5 +10,5 @@ invariant-loop-i g l =
     record {
       at : IsSteadyAt g.N.Nvm.state g.N.Bench.bench l.player (state_on_blank (take l.i l.deck));
       size : length (g.N.Nvm.state (device_of l.player)).words ≡ length (g.N.Nvm.state l.fn.device).words;
-      lent : g.N.Nvm.same l.fn.device (device_of l.player);
+      keeps_device : g.N.Nvm.same l.fn.device (device_of l.player);
     }

@@ -1,6 +1,6 @@
 use Rattle.mc_deck.specs.Lines.{line_of}
 use Rattle.mc_lab.specs.SweepBodies.{front_of}
-use Rattle.mc_lab.proofs.SweepPlayers.{trial_told, trial_hit, trial_few}
+use Rattle.mc_lab.proofs.SweepPlayers.{trial_reported, trial_hit, trial_few}
 use Rattle.mc_lab.proofs.sweep_play.play_trial.Goals as goal
 
 pub play_behind-hit-requires-clause-playing : goal.play_behind-hit-requires-clause-playing
@@ -11,11 +11,11 @@ play_line-answer-requires-clause-playing g c =
     let line = c.line-number.result in
     (_, (c.play_behind-hit.ensures.on (front_of c.args.place.now) line.0 c.play_front-player.ensures.at).at.at)
 
-pub returns-clause-told : goal.returns-clause-told
-returns-clause-told g c =
+pub returns-clause-reported : goal.returns-clause-reported
+returns-clause-reported g c =
     let line = c.line-number.result in
     let b = c.play_behind-hit in
-    trial_told g.N.Nvm.state g.N.Bench.bench c.args.place.now c.args.behind (line.0, line_of line.1) c.line-number.ensures.line b.result b.new.player (b.ensures.on (front_of c.args.place.now) line.0 c.play_front-player.ensures.at)
+    trial_reported g.N.Nvm.state g.N.Bench.bench c.args.place.now c.args.behind (line.0, line_of line.1) c.line-number.ensures.line b.result b.new.player (b.ensures.on (front_of c.args.place.now) line.0 c.play_front-player.ensures.at)
     c.play_line-answer.new.player c.play_line-answer.result c.take_down.new.into.fault _ c.play_line-answer.ensures.on c.take_down.ensures.fault c.take_down.ensures.held
 
 pub returns-clause-hit : goal.returns-clause-hit

@@ -12,5 +12,5 @@ returns-clause-on g c =
 pub returns-clause-size : goal.returns-clause-size
 returns-clause-size g c = c.play_cut.ensures.size ∙ c.play_cut-hit.ensures.size
 
-pub returns-clause-lent : goal.returns-clause-lent
-returns-clause-lent g c = g.met.N.Nvm.onward _ _ _ c.play_cut-hit.ensures.lent c.play_cut.ensures.lent
+pub returns-clause-keeps_device : goal.returns-clause-keeps_device
+returns-clause-keeps_device g c = g.met.N.Nvm.onward _ _ _ c.play_cut-hit.ensures.keeps_device c.play_cut.ensures.keeps_device

@@ -15,7 +15,7 @@ returns-in_err-sweep_lines g c =
     let b : Sunk = sunk_in g.T.Sink.taken g.T.Sink.faults c.sweep_lines.new.out in
     let e = text_whole ls names (c.as_slice.ensures.value ∙ c.requires.names_are) in
     puts_failed c.from_residual.result c.from_residual.ensures.0
-    (subst (λ (t : List ℕ). Fails a t b) e (fails_before (sums_text (length ss) (total (λ s. length s.words) ss) (total (λ s. s.plays) ss)) c.in_err-sweep_lines.ensures.told))
+    (subst (λ (t : List ℕ). Fails a t b) e (fails_before (sums_text (length ss) (total (λ s. length s.words) ss) (total (λ s. s.plays) ss)) c.in_err-sweep_lines.ensures.reported))
 
 pub returns : goal.returns
 returns g c =
@@ -26,4 +26,4 @@ returns g c =
     let b : Sunk = sunk_in g.T.Sink.taken g.T.Sink.faults c.put_sums.new.out in
     let none = c.no_sums-sums.ensures in
     let e = text_is ls names c.no_sums-sums.result sums (c.as_slice.ensures.value ∙ c.requires.names_are) none.lines none.writes none.plays c.in_ok-sweep_lines.ensures.adds in
-    puts_as a b c.put_sums.result e (puts_then b (sums_text sums.lines sums.writes sums.plays) c.put_sums.result c.in_ok-sweep_lines.ensures.told c.put_sums.ensures)
+    puts_as a b c.put_sums.result e (puts_then b (sums_text sums.lines sums.writes sums.plays) c.put_sums.result c.in_ok-sweep_lines.ensures.reported c.put_sums.ensures)

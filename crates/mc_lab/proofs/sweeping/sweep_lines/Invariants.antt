@@ -11,7 +11,7 @@ use Rattle.mc_lab.proofs.sweeping.sweep_lines.Given as goal
 abbrev pub invariant-loop-at : goal.invariant-loop-at
 invariant-loop-at g l =
     record {
-      told : (r : Result (Unit {0}) WriteFault) (b : Sunk) → Puts (sunk_in g.T.Sink.taken g.T.Sink.faults l.out) (swept_texts (sweeps_from l.names l.deck l.at)) r b
+      reported : (r : Result (Unit {0}) WriteFault) (b : Sunk) → Puts (sunk_in g.T.Sink.taken g.T.Sink.faults l.out) (swept_texts (sweeps_from l.names l.deck l.at)) r b
           → Puts (sunk_in g.T.Sink.taken g.T.Sink.faults l.fn.out) (swept_texts (sweeps_from l.names l.deck 0)) r b;
       adds : (b : Sums) → AddsSums l.sums (sweeps_from l.names l.deck l.at) b → AddsSums l.fn.sums (sweeps_from l.names l.deck 0) b;
       small : IsSmall l.sums l.at;

@@ -7,8 +7,8 @@ use Rattle.mc_lab.proofs.SweepLoops.{SweptAs}
 use Rattle.mc_lab.proofs.SweepDecks.{adds_none, none_swept, place_text, place_adds}
 use Rattle.mc_lab.proofs.sweeping.sweep_place.Goals as goal
 
-pub returns-then-swept-eq0-clause-told : goal.returns-then-swept-eq0-clause-told
-returns-then-swept-eq0-clause-told g c =
+pub returns-then-swept-eq0-clause-reported : goal.returns-then-swept-eq0-clause-reported
+returns-then-swept-eq0-clause-reported g c =
     let p = c.args.place.now in
     let s = c.sweep_line-swept in
     let zero_writes : s.result.writes ≡ 0 = search rules in
@@ -22,8 +22,8 @@ returns-then-swept-eq0-clause-adds g c =
     let zero_writes : s.result.writes ≡ 0 = search rules in
     adds_none c.args.sums.now (sweeps_at p) (none_swept p (sym s.ensures.writes ∙ zero_writes))
 
-pub returns-in_err-put_swept-clause-told : goal.returns-in_err-put_swept-clause-told
-returns-in_err-put_swept-clause-told g c =
+pub returns-in_err-put_swept-clause-reported : goal.returns-in_err-put_swept-clause-reported
+returns-in_err-put_swept-clause-reported g c =
     let p = c.args.place.now in
     let s = c.sweep_line-swept in
     let some : 1 ≤ s.result.writes = search rules in
@@ -33,8 +33,8 @@ returns-in_err-put_swept-clause-told g c =
     let b : Sunk = sunk_in g.T.Sink.taken g.T.Sink.faults c.put_swept.new.out in
     puts_failed c.from_residual.result c.from_residual.ensures.0 (subst (λ (t : List ℕ). Fails a t b) e c.in_err-put_swept.ensures)
 
-pub returns-clause-told : goal.returns-clause-told
-returns-clause-told g c =
+pub returns-clause-reported : goal.returns-clause-reported
+returns-clause-reported g c =
     let p = c.args.place.now in
     let s = c.sweep_line-swept in
     let some : 1 ≤ s.result.writes = search rules in

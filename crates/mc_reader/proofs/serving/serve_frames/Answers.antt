@@ -11,7 +11,7 @@ loop-before-init g c =
     record {
       reached = λ s n at. reached_start g.N.Nvm.state g.N.Bench.bench s n c.args.player.now (g.S.Source.left c.args.input.now) (g.S.Source.faults c.args.input.now) (out c.args.out.now) at;
       room = c.requires.room;
-      lent = g.met.N.Nvm.itself _;
+      keeps_device = g.met.N.Nvm.itself _;
     }
 
 pub serve_frame-requires : goal.serve_frame-requires
@@ -79,7 +79,7 @@ loop-before-preserved g c =
           reached_on state bench s n _ c.loop-before.before c.loop-before.player c.serve_frame.new.player c.loop-before.powered c.serve_frame.new.powered (left c.loop-before.input) (left c.read_frame.new.source) (faults c.loop-before.input) (faults c.read_frame.new.source) (out c.loop-before.out) (out c.serve_frame.new.out) h frame (short, c.serve_frame.ensures.bytes) took.took c.read_frame.ensures.counted c.serve_frame.ensures.power
           (c.in_ok-serve_frame.ensures.serves h.here h.number h.at);
       room = omega (arith, c.loop-before.invariant.room, c.read_frame.auto.room);
-      lent = g.met.N.Nvm.onward _ _ _ c.loop-before.invariant.lent c.serve_frame.ensures.lent;
+      keeps_device = g.met.N.Nvm.onward _ _ _ c.loop-before.invariant.keeps_device c.serve_frame.ensures.keeps_device;
     }
 
 pub returns-clause-served : goal.returns-clause-served

@@ -17,5 +17,5 @@ invariant-loop-before g l =
           (s : State) (n : ℕ) → IsPlayerAt state bench l.fn.player s
           → SessionReached state bench s n (record { left = g.S.Source.left l.fn.input; reads = g.S.Source.faults l.fn.input; out = out l.fn.out; dev = bench_of state bench l.fn.player }) l.before l.player l.powered (g.S.Source.left l.input) (g.S.Source.faults l.input) (out l.out);
       room : length l.room ≡ 65535;
-      lent : g.N.Nvm.same (device_of l.fn.player) (device_of l.player);
+      keeps_device : g.N.Nvm.same (device_of l.fn.player) (device_of l.player);
     }

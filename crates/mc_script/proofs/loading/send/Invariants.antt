@@ -7,8 +7,8 @@ use Rattle.mc_script.proofs.loading.send.Given as goal
 abbrev pub invariant-loop-bytes : goal.invariant-loop-bytes
 invariant-loop-bytes g l =
     record {
-      sends : Sends g.N.Nvm.state g.N.Nvm.wrote g.met.N.Nvm.obeys g.R.Runner.told g.met.R.Runner.silent g.met.R.Runner.onward l.fn.card l.budget l.fn.commands l.fn.runner l.commands l.card l.runner;
-      lent : g.N.Nvm.same (device_in l.fn.card) (device_in l.card);
+      sends : Sends g.N.Nvm.state g.N.Nvm.wrote g.met.N.Nvm.obeys g.R.Runner.reported g.met.R.Runner.silent g.met.R.Runner.onward l.fn.card l.budget l.fn.commands l.fn.runner l.commands l.card l.runner;
+      keeps_device : g.N.Nvm.same (device_in l.fn.card) (device_in l.card);
     }
 
 abbrev pub decreases-loop-bytes : goal.decreases-loop-bytes

@@ -4,5 +4,5 @@ use Rattle.mc_script.proofs.playing.play.Goals as goal
 
 pub returns : goal.returns
 returns g c =
-    let plays = rw (c.new-writer.ensures.telling, c.new-writer.ensures.out) at c.play_lines-dev.ensures.plays in
+    let plays = rw (c.new-writer.ensures.reporting, c.new-writer.ensures.out) at c.play_lines-dev.ensures.plays in
     record { plays = play_deck _ _ _ _ _ _ _ _ _ _ plays c.play_lines-dev.ensures.image c.play_lines-dev.ensures.lines (search rules) (search rules) (search rules) (search rules) (search rules) }

@@ -9,14 +9,14 @@ use Rattle.mc_text.specs.Texts.{sunk_in}
 use Rattle.mc_script.specs.Writers.{write_result, text_by, turns_text, WriterKeeps}
 use Rattle.mc_script.specs.Plays.{Bench, PlaysFrom}
 use Rattle.mc_script.proofs.DeckLemmas.{PlayReached, reached_end, reached_failed, reached_written, next_line, no_line, no_fault}
-use Rattle.mc_script.proofs.LoggedLemmas.{told_as}
+use Rattle.mc_script.proofs.LoggedLemmas.{reported_as}
 use Rattle.mc_script.proofs.playing.play_lines.Goals as goal
 
 -- after a line the writer has the same sink
 pub returns-then-is_err-clause-same : goal.returns-then-is_err-clause-same
 returns-then-is_err-clause-same g c =
     let line = c.line-answer.ensures.done c.loop-i.invariant.reached.here 0 c.loop-i.invariant.reached.at in
-    c.tell.ensures.same ∙ line.1.tells.same ∙ c.loop-i.invariant.same
+    c.report.ensures.same ∙ line.1.reports.same ∙ c.loop-i.invariant.same
 
 pub returns-then-is_err-clause-plays : goal.returns-then-is_err-clause-plays
 returns-then-is_err-clause-plays g c =
@@ -24,14 +24,14 @@ returns-then-is_err-clause-plays g c =
     let bench = g.N.Bench.bench in
     let a : Bench = record { device = state c.args.device; bench = bench c.args.device } in
     let out = sunk_in g.T.Sink.taken g.T.Sink.faults in
-    let text = turns_text c.args.writer.now.telling in
+    let text = turns_text c.args.writer.now.reporting in
     let deck = c.args.deck.now in
     let line = c.line-number.result in
     let here = next_line deck c.loop-i.i line.0 (line_of line.1) c.line-number.ensures.line in
     let reached = subst (λ (left : List (ℕ × DeckLine)). PlayReached state bench (text_by text) (start (state c.args.device).words) deck a (out c.args.writer.now.out.now) left c.loop-i.player (out c.loop-i.writer.out.now)) here c.loop-i.invariant.reached in
-    let failed : is_err (write_result c.tell.new.self.fault) ≡ true = search rules in
-    subst (λ d. PlaysFrom (text_by text) (start (state c.args.device).words) deck a (out c.args.writer.now.out.now) (write_result c.tell.new.self.fault) (record { device = state d; bench = bench d }) (out c.tell.new.self.out.now)) (sym c.into_dev.ensures)
-    (reached_failed state bench (WriterKeeps g.T.Sink.taken g.T.Sink.faults) text (start (state c.args.device).words) deck a (out c.args.writer.now.out.now) (out c.loop-i.writer.out.now) (out c.tell.new.self.out.now) (drop (c.loop-i.i + 1) deck) line.0 (line_of line.1) c.loop-i.player c.line-answer.new.self c.loop-i.writer c.line-answer.new.runner c.line-answer.result (write_result c.tell.new.self.fault) failed reached c.line-answer.ensures.done (λ ts told. told_as _ _ ts _ _ _ _ c.loop-i.invariant.telling (c.tell.ensures.tells c.loop-i.writer ts c.loop-i.invariant.fault told)))
+    let failed : is_err (write_result c.report.new.self.fault) ≡ true = search rules in
+    subst (λ d. PlaysFrom (text_by text) (start (state c.args.device).words) deck a (out c.args.writer.now.out.now) (write_result c.report.new.self.fault) (record { device = state d; bench = bench d }) (out c.report.new.self.out.now)) (sym c.into_dev.ensures)
+    (reached_failed state bench (WriterKeeps g.T.Sink.taken g.T.Sink.faults) text (start (state c.args.device).words) deck a (out c.args.writer.now.out.now) (out c.loop-i.writer.out.now) (out c.report.new.self.out.now) (drop (c.loop-i.i + 1) deck) line.0 (line_of line.1) c.loop-i.player c.line-answer.new.self c.loop-i.writer c.line-answer.new.runner c.line-answer.result (write_result c.report.new.self.fault) failed reached c.line-answer.ensures.done (λ ts reported. reported_as _ _ ts _ _ _ _ c.loop-i.invariant.reporting (c.report.ensures.reports c.loop-i.writer ts c.loop-i.invariant.fault reported)))
 
 pub loop-i-preserved : goal.loop-i-preserved
 loop-i-preserved g c =
@@ -39,20 +39,20 @@ loop-i-preserved g c =
     let bench = g.N.Bench.bench in
     let a : Bench = record { device = state c.args.device; bench = bench c.args.device } in
     let out = sunk_in g.T.Sink.taken g.T.Sink.faults in
-    let text = turns_text c.args.writer.now.telling in
+    let text = turns_text c.args.writer.now.reporting in
     let deck = c.args.deck.now in
     let line = c.line-number.result in
     let here = next_line deck c.loop-i.i line.0 (line_of line.1) c.line-number.ensures.line in
     let reached = subst (λ (left : List (ℕ × DeckLine)). PlayReached state bench (text_by text) (start (state c.args.device).words) deck a (out c.args.writer.now.out.now) left c.loop-i.player (out c.loop-i.writer.out.now)) here c.loop-i.invariant.reached in
-    let written : is_err (write_result c.tell.new.self.fault) ≡ false = search rules in
+    let written : is_err (write_result c.report.new.self.fault) ≡ false = search rules in
     let done = c.line-answer.ensures.done c.loop-i.invariant.reached.here 0 c.loop-i.invariant.reached.at in
     record {
       reached =
-          reached_written state bench (WriterKeeps g.T.Sink.taken g.T.Sink.faults) text (start (state c.args.device).words) deck a (out c.args.writer.now.out.now) (out c.loop-i.writer.out.now) (out c.tell.new.self.out.now) (drop (c.loop-i.i + 1) deck) line.0 (line_of line.1) c.loop-i.player c.line-answer.new.self c.loop-i.writer c.line-answer.new.runner c.line-answer.result (write_result c.tell.new.self.fault) written reached c.line-answer.ensures.done (λ ts told. told_as _ _ ts _ _ _ _ c.loop-i.invariant.telling (c.tell.ensures.tells c.loop-i.writer ts c.loop-i.invariant.fault told));
-      fault = no_fault c.tell.new.self.fault written;
-      lent = g.met.N.Nvm.onward _ _ _ c.loop-i.invariant.lent c.line-answer.ensures.lent;
-      telling = c.tell.ensures.telling ∙ done.1.tells.telling ∙ c.loop-i.invariant.telling;
-      same = c.tell.ensures.same ∙ done.1.tells.same ∙ c.loop-i.invariant.same;
+          reached_written state bench (WriterKeeps g.T.Sink.taken g.T.Sink.faults) text (start (state c.args.device).words) deck a (out c.args.writer.now.out.now) (out c.loop-i.writer.out.now) (out c.report.new.self.out.now) (drop (c.loop-i.i + 1) deck) line.0 (line_of line.1) c.loop-i.player c.line-answer.new.self c.loop-i.writer c.line-answer.new.runner c.line-answer.result (write_result c.report.new.self.fault) written reached c.line-answer.ensures.done (λ ts reported. reported_as _ _ ts _ _ _ _ c.loop-i.invariant.reporting (c.report.ensures.reports c.loop-i.writer ts c.loop-i.invariant.fault reported));
+      fault = no_fault c.report.new.self.fault written;
+      keeps_device = g.met.N.Nvm.onward _ _ _ c.loop-i.invariant.keeps_device c.line-answer.ensures.keeps_device;
+      reporting = c.report.ensures.reporting ∙ done.1.reports.reporting ∙ c.loop-i.invariant.reporting;
+      same = c.report.ensures.same ∙ done.1.reports.same ∙ c.loop-i.invariant.same;
     }
 
 pub returns-clause-plays : goal.returns-clause-plays
@@ -61,7 +61,7 @@ returns-clause-plays g c =
     let bench = g.N.Bench.bench in
     let a : Bench = record { device = state c.args.device; bench = bench c.args.device } in
     let out = sunk_in g.T.Sink.taken g.T.Sink.faults in
-    let text = turns_text c.args.writer.now.telling in
+    let text = turns_text c.args.writer.now.reporting in
     let deck = c.args.deck.now in
     let all : length deck ≤ c.loop-i.i = search rules in
     let reached = subst (λ (left : List (ℕ × DeckLine)). PlayReached state bench (text_by text) (start (state c.args.device).words) deck a (out c.args.writer.now.out.now) left c.loop-i.player (out c.loop-i.writer.out.now)) (no_line deck c.loop-i.i all) c.loop-i.invariant.reached in
@@ -73,7 +73,7 @@ returns-clause-plays g c =
 pub line-answer-requires-clause-playing : goal.line-answer-requires-clause-playing
 line-answer-requires-clause-playing g c = (c.loop-i.invariant.reached.here, c.loop-i.invariant.reached.at)
 
-pub tell-requires : goal.tell-requires
-tell-requires g c =
+pub report-requires : goal.report-requires
+report-requires g c =
     let line = c.line-answer.ensures.done c.loop-i.invariant.reached.here 0 c.loop-i.invariant.reached.at in
     record { playing = (_, line.1.stepped.at) }

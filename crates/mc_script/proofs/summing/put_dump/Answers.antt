@@ -17,5 +17,5 @@ returns g c s at =
     sym (ap (λ l. dump_text s (line_of l)) c.in-Dump.is ∙ ap result_line (dump_answer state g.N.Bench.bench p aid s 0 at)) in
     let empty : c.clear.new.self.items ≡ [] = search rules in
     let slice : c.as_slice.result.now ≡ c.add.new.text.items = search rules in
-    let told = text_of_result (answer_value state p (answer.Dump aid)) in
-    puts_as _ _ c.put.result (slice ∙ c.add.ensures.text ∙ ap (λ t. t ++ codes "\n") (c.add_result.ensures.text ∙ ap (λ t. t ++ told) empty) ∙ is) c.put.ensures
+    let reported = text_of_result (answer_value state p (answer.Dump aid)) in
+    puts_as _ _ c.put.result (slice ∙ c.add.ensures.text ∙ ap (λ t. t ++ codes "\n") (c.add_result.ensures.text ∙ ap (λ t. t ++ reported) empty) ∙ is) c.put.ensures

@@ -20,7 +20,7 @@ loop-i-preserved g c =
           let h = subst (λ (left : List (ℕ × DeckLine)). Counting state bench s deck a left c.loop-i.player c.loop-i.counts c.loop-i.i) here (c.loop-i.invariant.counting s at) in
           counting_on state bench _ s deck a (drop (c.loop-i.i + 1) deck) line.0 (line_of line.1) c.loop-i.player c.line-answer.new.self c.loop-i.counts c.counted-counts.result c.loop-i.i _ _ c.line-answer.result h c.line-answer.ensures.done
           (c.counted-counts.ensures h.done h.counted);
-      lent = g.met.N.Nvm.onward _ _ _ c.loop-i.invariant.lent c.line-answer.ensures.lent;
+      keeps_device = g.met.N.Nvm.onward _ _ _ c.loop-i.invariant.keeps_device c.line-answer.ensures.keeps_device;
     }
 
 pub returns-clause-tallied : goal.returns-clause-tallied

@@ -12,5 +12,5 @@ invariant-loop-i g l =
     let bench = g.N.Bench.bench in
     record {
       counting : (s : State) → IsPlayerAt state bench l.fn.player s → Counting state bench s l.deck (bench_of state bench l.fn.player) (drop l.i l.deck) l.player l.counts l.i;
-      lent : g.N.Nvm.same (device_of l.fn.player) (device_of l.player);
+      keeps_device : g.N.Nvm.same (device_of l.fn.player) (device_of l.player);
     }

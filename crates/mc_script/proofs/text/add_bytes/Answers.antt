@@ -12,7 +12,7 @@ loop-at-preserved g c =
     let count = c.min-count.result in
     let behind : drop count (drop at fixed) ≡ drop (at + count) fixed = left_behind at count fixed in
     record {
-      told = ap (λ (t : List ℕ). t ++ hex_text (drop (at + count) fixed)) c.add_piece.ensures.text ∙ hex_piece_on c.loop-at.text.items _ fixed (take count (drop at fixed)) at count refl behind c.loop-at.invariant.told;
+      reported = ap (λ (t : List ℕ). t ++ hex_text (drop (at + count) fixed)) c.add_piece.ensures.text ∙ hex_piece_on c.loop-at.text.items _ fixed (take count (drop at fixed)) at count refl behind c.loop-at.invariant.reported;
       place = search rules;
       room = search rules;
     }

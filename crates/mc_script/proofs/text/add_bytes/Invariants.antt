@@ -9,7 +9,7 @@ abbrev pub invariant-loop-at : goal.invariant-loop-at
 invariant-loop-at g l =
     let fixed = (app_of (card_in g.N.Nvm.state l.card).apps (Some l.aid)).fixed in
     record {
-      told : l.text.items ++ hex_text (drop l.at fixed) ≡ l.fn.text.items ++ hex_text fixed;
+      reported : l.text.items ++ hex_text (drop l.at fixed) ≡ l.fn.text.items ++ hex_text fixed;
       place : l.at ≤ l.len;
       room : length l.text.items ≡ length l.fn.text.items + 2 * l.at;
     }

@@ -21,8 +21,8 @@ returns-in-Ok g c =
     let s = c.in-Ok.status in
     elim c.match-job.branch [
       | in-Play w ↦
-          let t = w.in-Play.telling in
-          let did = w.tell-done in
+          let t = w.in-Play.reporting in
+          let did = w.report-done in
           let a : CardOutside = around source sink state bench input did.new.input out did.new.out dev did.new.dev in
           let played = ok_is all.done did.result s (λ (s : Status). PlaysInput t s a) c.in-Ok.is w.done-is did.ensures.done in
           says_at source sink state bench input all.input did.new.input out all.out did.new.out dev all.dev did.new.dev c.args.job (job.Play t) s w.input-is w.out-is w.dev-is w.in-Play.is
@@ -57,8 +57,8 @@ returns-in-Err g c =
     let end = c.reject in
     elim c.match-job.branch [
       | in-Play w ↦
-          let did = w.tell-done in
-          rejected_at source sink state bench input all.input did.new.input out all.out did.new.out end.new.out dev all.dev did.new.dev c.args.job (job.Play w.in-Play.telling) all.done did.result why end.result
+          let did = w.report-done in
+          rejected_at source sink state bench input all.input did.new.input out all.out did.new.out end.new.out dev all.dev did.new.dev c.args.job (job.Play w.in-Play.reporting) all.done did.result why end.result
           c.in-Err.is w.input-is w.out-is w.dev-is w.done-is w.in-Play.is did.ensures.rejected did.ensures.out did.ensures.device end.ensures
       | in-Generate w ↦
           let did = w.sum-done in

@@ -17,6 +17,6 @@ returns-clause-done g c =
       written = record {
         result = c.put_all.result;
         status = c.ended.ensures;
-        written = puts_by from to c.as_slice-2.result.now text c.put_all.result c.as_slice-2.ensures.value said.bytes said.fault said.part said.counted;
+        written = puts_by from to c.as_slice-2.result.now text c.put_all.result c.as_slice-2.ensures.value said.bytes said.fault said.part said.quiet;
       };
     }

@@ -19,5 +19,5 @@ pub returns-in_default-clause-says : goal.returns-in_default-clause-says
 returns-in_default-clause-says g c =
     let a : Outside = outside g.S.Source g.T.Sink c.args.input.now c.args.input.now c.args.out.now c.put_all.new.sink in
     let said = c.put_all.ensures in
-    let put = puts_by a.out_old a.out usage usage c.put_all.result refl said.bytes said.fault said.part said.counted in
+    let put = puts_by a.out_old a.out usage usage c.put_all.result refl said.bytes said.fault said.part said.quiet in
     (c.ended.result, c.number.ensures, says_no_form (job_of c.args.words.now) a c.put_all.result c.ended.result (sym c.job_of.ensures ∙ c.in_default.is) c.ended.ensures (record { left = refl; reads = refl }) put)

@@ -6,5 +6,5 @@ use Rattle.mc_bank.proofs.memory.MemBankBank.facts.Goals as goal
 pub returns : goal.returns
 returns c =
     let shows = subst (λ (m : List Entry). EntryShows m c.args.slot c.used_entry.result.now) (c.deref.ensures.value ∙ c.self.view_is) c.used_entry.ensures in
-    let told = shows.facts c.unwrap.result c.unwrap.ensures in
-    record { name = told.name; app = told.app; sizes = told.sizes; limits = told.limits }
+    let reported = shows.facts c.unwrap.result c.unwrap.ensures in
+    record { name = reported.name; app = reported.app; sizes = reported.sizes; limits = reported.limits }

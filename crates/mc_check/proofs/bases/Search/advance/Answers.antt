@@ -13,8 +13,8 @@ enter-requires c =
     let l = c.args.calls.now in
     let q = c.args.routine in
     let p = c.in-Unseen.caller in
-    let tells = subst (λ (states : List Progress). Answers states l q (answer.Unseen p)) c.as_slice.ensures.value c.in-Unseen.ensures in
-    caller_inside s.progress.items l s.stack.items q c.requires.closed c.requires.searches c.requires.last p tells
+    let reports = subst (λ (states : List Progress). Answers states l q (answer.Unseen p)) c.as_slice.ensures.value c.in-Unseen.ensures in
+    caller_inside s.progress.items l s.stack.items q c.requires.closed c.requires.searches c.requires.last p reports
 
 pub returns-in-Base : goal.returns-in-Base
 returns-in-Base c =
@@ -38,9 +38,9 @@ returns-in_ok-enter-in-Unseen c =
     let l = c.args.calls.now in
     let q = c.args.routine in
     let p = c.in-Unseen.caller in
-    let tells = subst (λ (states : List Progress). Answers states l q (answer.Unseen p)) c.as_slice.ensures.value c.in-Unseen.ensures in
+    let reports = subst (λ (states : List Progress). Answers states l q (answer.Unseen p)) c.as_slice.ensures.value c.in-Unseen.ensures in
     let changed = c.in_ok-enter-in-Unseen.ensures in
-    let step = enters s.progress.items l s.stack.items q c.requires.closed c.requires.searches c.requires.last p tells c.enter.new.self.progress.items c.enter.new.self.stack.items changed.progress changed.stack in
+    let step = enters s.progress.items l s.stack.items q c.requires.closed c.requires.searches c.requires.last p reports c.enter.new.self.progress.items c.enter.new.self.stack.items changed.progress changed.stack in
     record {
       len = ap length changed.progress ∙ length-set s.progress.items p progress.Open;
       searches = step.searches;
@@ -55,6 +55,6 @@ returns-in-Open-clause-ring c =
     let l = c.args.calls.now in
     let q = c.args.routine in
     let place = c.in-Open.place in
-    let tells = subst (λ (states : List Progress). Answers states l q (answer.Open place)) c.as_slice.ensures.value c.in-Open.ensures in
-    let ring = closes_ring s.progress.items l s.stack.items q c.requires.closed c.requires.searches c.requires.last place tells in
-    (tells.call, ring.0, sym ring.1, refl)
+    let reports = subst (λ (states : List Progress). Answers states l q (answer.Open place)) c.as_slice.ensures.value c.in-Open.ensures in
+    let ring = closes_ring s.progress.items l s.stack.items q c.requires.closed c.requires.searches c.requires.last place reports in
+    (reports.call, ring.0, sym ring.1, refl)

@@ -3,7 +3,7 @@ use Rattle.std.proofs.lemmas.List.{length-set}
 use Rattle.std.proofs.lemmas.Option.{slice_get_read}
 use Rattle.mc_check.specs.declared.bases.Progress.TheVariants as progress
 use Rattle.mc_check.specs.Searching.{Searches}
-use Rattle.mc_check.proofs.CallTelling.{called_is_inside}
+use Rattle.mc_check.proofs.CallReporting.{called_is_inside}
 use Rattle.mc_check.proofs.Begins.{begun, no_last}
 use Rattle.mc_check.proofs.bases.Search.find.Goals as goal
 

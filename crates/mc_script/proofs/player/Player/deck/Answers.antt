@@ -10,7 +10,7 @@ pub loop-i-init : goal.loop-i-init
 loop-i-init g c =
     record {
       between = λ s at. between_start g.N.Nvm.state g.N.Bench.bench s c.args.deck.now c.args.self.now at;
-      lent = g.met.N.Nvm.itself _;
+      keeps_device = g.met.N.Nvm.itself _;
     }
 
 pub loop-i-preserved : goal.loop-i-preserved
@@ -26,7 +26,7 @@ loop-i-preserved g c =
           λ s at.
           between_on state bench _ s deck a (drop (c.loop-i.i + 1) deck) line.0 (line_of line.1) c.loop-i.self c.line-answer.new.self _ _ c.line-answer.result
           (subst (λ (left : List (ℕ × DeckLine)). Between state bench s deck a left c.loop-i.self) here (c.loop-i.invariant.between s at)) c.line-answer.ensures.done;
-      lent = g.met.N.Nvm.onward _ _ _ c.loop-i.invariant.lent c.line-answer.ensures.lent;
+      keeps_device = g.met.N.Nvm.onward _ _ _ c.loop-i.invariant.keeps_device c.line-answer.ensures.keeps_device;
     }
 
 pub returns-clause-done : goal.returns-clause-done

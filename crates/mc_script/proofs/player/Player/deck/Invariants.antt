@@ -12,5 +12,5 @@ invariant-loop-i g l =
     let bench = g.N.Bench.bench in
     record {
       between : (s : State) → IsPlayerAt state bench l.fn.self s → Between state bench s l.deck (bench_of state bench l.fn.self) (drop l.i l.deck) l.self;
-      lent : g.N.Nvm.same (device_of l.fn.self) (device_of l.self);
+      keeps_device : g.N.Nvm.same (device_of l.fn.self) (device_of l.self);
     }

@@ -12,7 +12,7 @@ returns-in-Ok-clause-done g c =
     let u = device_in c.arm.new.card in
     restart_ready state bench g.N.Nvm.wrote g.met.N.Nvm.obeys g.met.N.Bench.burns g.met.N.Nvm.fits p u c.restart-up.new.self c.disarm.new.self c.restart-up.result c.in-Ok.writes c.in-Ok.is c.len-size.ensures.image
     (handed_power p.armed (state d) (state e) (state u) (bench d) (bench e) (bench u) c.power.ensures.state c.power.ensures.bench c.arm.ensures.state c.arm.ensures.bench)
-    c.restart-up.ensures.makes c.restart-up.ensures.ends c.restart-up.ensures.ready c.restart-up.ensures.seat c.disarm.ensures.state c.disarm.ensures.bench c.disarm.ensures.rest
+    c.restart-up.ensures.makes c.restart-up.ensures.ends c.restart-up.ensures.ready c.restart-up.ensures.session_state c.disarm.ensures.state c.disarm.ensures.bench c.disarm.ensures.rest
 
 pub returns-in-Err-clause-done : goal.returns-in-Err-clause-done
 returns-in-Err-clause-done g c =

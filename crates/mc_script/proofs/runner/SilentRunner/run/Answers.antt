@@ -7,4 +7,4 @@ pub returns-clause-done : goal.returns-clause-done
 returns-clause-done g c =
     let e = c.command_into.ensures in
     untold_ran g.N.Nvm.state g.N.Nvm.wrote _ (outcome_or_stop c.command_into.result c.command_into.new.into) c.args.card.now c.command_into.new.self _ _ _ (λ ts. tt)
-    (commanded_into g.N.Nvm.state g.N.Nvm.wrote c.args.card.now c.command_into.new.self _ c.command_into.result c.command_into.new.into e.made e.outcome e.seat e.on)
+    (commanded_into g.N.Nvm.state g.N.Nvm.wrote c.args.card.now c.command_into.new.self _ c.command_into.result c.command_into.new.into e.made e.outcome e.session_state e.on)

@@ -1,7 +1,7 @@
 use Rattle.std.proofs.Common.{ℕ, ap, subst, sym, ◌∙◌}
 use Rattle.mc_model_device.specs.Card.{name_at}
 use Rattle.mc_store.specs.Slots.{IsUsedBlock}
-use Rattle.mc_store.proofs.ReadLemmas.{of_slot, told}
+use Rattle.mc_store.proofs.ReadLemmas.{of_slot, reported}
 use Rattle.mc_model_device.specs.Device.{sized}
 use Rattle.mc_store.proofs.store.StoreBank.facts.Goals as goal
 
@@ -13,6 +13,6 @@ name_of_block-requires g c =
 pub returns : goal.returns
 returns g c =
     let d = g.N.Nvm.state c.args.self.now.device in
-    let t = told d c.args.self.now.count c.args.slot c.name_of_block.result c.sizes.result (sized c.len-size.ensures.image) c.requires.going c.requires.there
+    let t = reported d c.args.self.now.count c.args.slot c.name_of_block.result c.sizes.result (sized c.len-size.ensures.image) c.requires.going c.requires.there
     (c.name_of_block.ensures ∙ ap (λ (k : ℕ). name_at d.words k) c.index.ensures) c.sizes.ensures in
     record { name = t.name; app = t.app; sizes = t.sizes; limits = t.limits }

@@ -10,28 +10,28 @@ use Rattle.mc_model_device.specs.Card.{App, Card}
 use Rattle.mc_model_card.specs.Items.{Item, moves, apps_after_items, at_stop}
 use Rattle.mc_model_play.specs.Given.{apps_in}
 use Rattle.mc_model_device.specs.Words.{cause_text}
-use Rattle.mc_model_play.specs.Play.{Unarmed, State, Hot, moves_of, armed_stop_in, is_card_line}
+use Rattle.mc_model_play.specs.Play.{Unarmed, State, AfterPower, moves_of, armed_stop_in, is_card_line}
 use Rattle.mc_model_device.specs.PowerUp.{Base, OnCard}
 use Rattle.mc_model_play.specs.DeckGrammar.{DeckLine}
-use Rattle.mc_lab.specs.Sweeps.{state_on_blank, ToldState, Holds, NoCard, static_bytes_under, are_same_held, state_after_power, is_same, word_by, word_if, word_of, all_same, ones, cut_statement, power, under_cut, under_cuts, writes_behind, recovery_states, cut_write, is_unarmed, is_swept}
+use Rattle.mc_lab.specs.Sweeps.{state_on_blank, ReportedState, Holds, NoCard, static_bytes_under, are_same_held, state_after_power, is_same, word_by, word_if, word_of, all_same, ones, cut_statement, power, under_cut, under_cuts, writes_behind, recovery_states, cut_write, is_unarmed, is_swept}
 use Rattle.mc_lab.specs.declared.sweep_word.Word.{Word}
 use Rattle.mc_lab.specs.declared.sweep_word.Word.TheVariants.{Before, After, Same}
 use Rattle.mc_lab.specs.SweepLaws.{count_of_changes, opening_write, items_behind, changing_behind, opening_behind}
-use Rattle.mc_lab.proofs.SweepPlays.{next, played_one, played_two, base_in, shown, told_lines, base_done, shown_none, zeros_shut, ones_shut, CutTo, line_cut, line_whole, power_items, items_on, unarmed_is}
+use Rattle.mc_lab.proofs.SweepPlays.{next, played_one, played_two, base_in, shown, reported_lines, base_done, shown_none, zeros_shut, ones_shut, CutTo, line_cut, line_whole, power_items, items_on, unarmed_is}
 use Rattle.mc_lab.specs.SweepBodies.{OpensNoGate}
 use Rattle.mc_lab.proofs.SweepChanges.{all_held_itself, apart_turned, none_stopped, none_done, Splits, one_splits}
 use Rattle.mc_lab.proofs.SweepRuns.{all_counted}
 
 -- ---- equal observed states
 
-told_itself : (t : ToldState) → is_same t t ≡ true
-told_itself (Holds a) = all_held_itself a
-told_itself (NoCard c p) = both-true (bytes_eq (cause_text c) (cause_text c)) (p == p) ((bytes_eq-Decides (cause_text c) (cause_text c)).1 refl) (eq-eqb p p refl)
+reported_itself : (t : ReportedState) → is_same t t ≡ true
+reported_itself (Holds a) = all_held_itself a
+reported_itself (NoCard c p) = both-true (bytes_eq (cause_text c) (cause_text c)) (p == p) ((bytes_eq-Decides (cause_text c) (cause_text c)).1 refl) (eq-eqb p p refl)
 
-all_the_same : (t : ToldState) (ts : List ToldState) → AllByRecursion (λ u. u ≡ t) ts → all_same t ts ≡ true
+all_the_same : (t : ReportedState) (ts : List ReportedState) → AllByRecursion (λ u. u ≡ t) ts → all_same t ts ≡ true
 all_the_same t [] all = refl
 all_the_same t (u ∷ us) all =
-    both-true (is_same u t) (all_same t us) (subst (λ (x : ToldState). is_same x t ≡ true) (sym all.0) (told_itself t)) (all_the_same t us all.1)
+    both-true (is_same u t) (all_same t us) (subst (λ (x : ReportedState). is_same x t ≡ true) (sym all.0) (reported_itself t)) (all_the_same t us all.1)
 
 -- ---- a line that is swept
 
@@ -51,71 +51,71 @@ module _ (names : List (List ℕ)) (front : List (ℕ × DeckLine)) (l : ℕ × 
   state = state_on_blank front
 
   -- the observed state after these items
-  abbrev shown_with : List Item → ToldState
+  abbrev shown_with : List Item → ReportedState
   shown_with is = shown names (base_done (base_in state) is)
 
   -- the items that are complete after a cut
   abbrev whole_at : ℕ → List Item
   whole_at k = (at_stop (items_behind front l) k (zeros 8)).whole
 
-  before_told : state_after_power names front ≡ shown_with []
-  before_told = told_lines names front state refl at.unarmed ∙ sym (shown_none names (base_in state))
+  before_reported : state_after_power names front ≡ shown_with []
+  before_reported = reported_lines names front state refl at.unarmed ∙ sym (shown_none names (base_in state))
 
-  after_told : state_after_power names (front ++ l ∷ []) ≡ shown_with (items_behind front l)
-  after_told =
+  after_reported : state_after_power names (front ++ l ∷ []) ≡ shown_with (items_behind front l)
+  after_reported =
       let c = line_whole state l at.unarmed at.card at.some in
-      told_lines names (front ++ l ∷ []) (Hot c.warm) (played_one front l ∙ c.state) c.unarmed ∙ c.told names
+      reported_lines names (front ++ l ∷ []) (AfterPower c.warm) (played_one front l ∙ c.state) c.unarmed ∙ c.reported names
 
   module _ (k : ℕ) (low : 1 ≤ k) (high : k ≤ writes_behind front l) where
     cut_line : (x : List ℕ) → OpensNoGate x → CutTo state (whole_at k) (next (next state (cut_statement l.0 k x)) l)
     cut_line x shuts = line_cut state l l.0 k x at.unarmed at.card shuts low high
 
-    cut_state : (x : List ℕ) (shuts : OpensNoGate x) → state_on_blank (under_cut front l k x) ≡ Hot (cut_line x shuts).warm
+    cut_state : (x : List ℕ) (shuts : OpensNoGate x) → state_on_blank (under_cut front l k x) ≡ AfterPower (cut_line x shuts).warm
     cut_state x shuts = played_two front (cut_statement l.0 k x) l ∙ (cut_line x shuts).state
 
-    cut_told : (x : List ℕ) → OpensNoGate x → state_after_power names (under_cut front l k x) ≡ shown_with (whole_at k)
-    cut_told x shuts = let c = cut_line x shuts in told_lines names (under_cut front l k x) (Hot c.warm) (cut_state x shuts) c.unarmed ∙ c.told names
+    cut_reported : (x : List ℕ) → OpensNoGate x → state_after_power names (under_cut front l k x) ≡ shown_with (whole_at k)
+    cut_reported x shuts = let c = cut_line x shuts in reported_lines names (under_cut front l k x) (AfterPower c.warm) (cut_state x shuts) c.unarmed ∙ c.reported names
 
     -- the recovery is cut too
-    cuts_told : (x : List ℕ) → OpensNoGate x → (j : ℕ) → 1 ≤ j → j ≤ writes_behind (under_cut front l k x) (power l.0) → state_after_power names (under_cuts front l k x j) ≡ shown_with (whole_at k)
-    cuts_told x shuts j first last =
+    cuts_reported : (x : List ℕ) → OpensNoGate x → (j : ℕ) → 1 ≤ j → j ≤ writes_behind (under_cut front l k x) (power l.0) → state_after_power names (under_cuts front l k x j) ≡ shown_with (whole_at k)
+    cuts_reported x shuts j first last =
         let c = cut_line x shuts in
-        let d = line_cut (Hot c.warm) (power l.0) l.0 j x c.unarmed refl shuts first (subst (λ (s : State). j ≤ moves_of s (power l.0)) (cut_state x shuts) last) in
+        let d = line_cut (AfterPower c.warm) (power l.0) l.0 j x c.unarmed refl shuts first (subst (λ (s : State). j ≤ moves_of s (power l.0)) (cut_state x shuts) last) in
         let is = played_two (under_cut front l k x) (cut_statement l.0 j x) (power l.0) ∙ ap (λ (s : State). next (next s (cut_statement l.0 j x)) (power l.0)) (cut_state x shuts) ∙ d.state in
-        told_lines names (under_cuts front l k x j) (Hot d.warm) is d.unarmed
-        ∙ d.told names
+        reported_lines names (under_cuts front l k x j) (AfterPower d.warm) is d.unarmed
+        ∙ d.reported names
         ∙ ap (λ (is : List Item). shown names (base_done c.warm.base (at_stop is j (zeros 8)).whole)) (power_items c.warm l.0)
         ∙ shown_none names c.warm.base
-        ∙ c.told names
+        ∙ c.reported names
 
     recovered_all : (x : List ℕ) → OpensNoGate x → AllByRecursion (λ u. u ≡ shown_with (whole_at k)) (recovery_states names front l k x)
     recovered_all x shuts =
         all_counted (λ u. u ≡ shown_with (whole_at k)) (λ j. state_after_power names (under_cuts front l k x j)) 1 (writes_behind (under_cut front l k x) (power l.0))
-        (λ j first last. cuts_told x shuts j first (omega arith))
+        (λ j first last. cuts_reported x shuts j first (omega arith))
 
-    others : List ToldState
+    others : List ReportedState
     others = recovery_states names front l k (zeros 8) ++ state_after_power names (under_cut front l k ones) ∷ recovery_states names front l k ones
 
     others_all : AllByRecursion (λ u. u ≡ shown_with (whole_at k)) others
     unfolding others
     others_all =
         all_append (λ u. u ≡ shown_with (whole_at k)) (recovery_states names front l k (zeros 8)) (state_after_power names (under_cut front l k ones) ∷ recovery_states names front l k ones)
-        (recovered_all (zeros 8) zeros_shut) (cut_told ones ones_shut, recovered_all ones ones_shut)
+        (recovered_all (zeros 8) zeros_shut) (cut_reported ones ones_shut, recovered_all ones ones_shut)
 
     -- the states of one write are equal
-    word_same : (before after t u : ToldState) (ts : List ToldState) → t ≡ u → all_same u ts ≡ true → word_of before after t ts ≡ word_by (is_same u before) (is_same u after)
+    word_same : (before after t u : ReportedState) (ts : List ReportedState) → t ≡ u → all_same u ts ≡ true → word_of before after t ts ≡ word_by (is_same u before) (is_same u after)
     word_same before after t u ts e all =
-        ap (λ (x : ToldState). word_of before after x ts) e ∙ ap (λ (b : Bool). word_if b (word_by (is_same u before) (is_same u after))) all
+        ap (λ (x : ReportedState). word_of before after x ts) e ∙ ap (λ (b : Bool). word_if b (word_by (is_same u before) (is_same u after))) all
 
     -- the word of a write, by its complete items, the state before and the state after
-    pub word_told : (cut_write names front l (state_after_power names front) (state_after_power names (front ++ l ∷ [])) k).word
+    pub word_reported : (cut_write names front l (state_after_power names front) (state_after_power names (front ++ l ∷ [])) k).word
         ≡ word_by (is_same (shown_with (whole_at k)) (shown_with [])) (is_same (shown_with (whole_at k)) (shown_with (items_behind front l)))
     unfolding cut_write others
-    word_told =
+    word_reported =
         word_same (state_after_power names front) (state_after_power names (front ++ l ∷ [])) (state_after_power names (under_cut front l k (zeros 8))) (shown_with (whole_at k)) others
-        (cut_told (zeros 8) zeros_shut) (all_the_same (shown_with (whole_at k)) others others_all)
-        ∙ ap (λ (b : ToldState). word_by (is_same (shown_with (whole_at k)) b) (is_same (shown_with (whole_at k)) (state_after_power names (front ++ l ∷ [])))) before_told
-        ∙ ap (λ (a : ToldState). word_by (is_same (shown_with (whole_at k)) (shown_with [])) (is_same (shown_with (whole_at k)) a)) after_told
+        (cut_reported (zeros 8) zeros_shut) (all_the_same (shown_with (whole_at k)) others others_all)
+        ∙ ap (λ (b : ReportedState). word_by (is_same (shown_with (whole_at k)) b) (is_same (shown_with (whole_at k)) (state_after_power names (front ++ l ∷ [])))) before_reported
+        ∙ ap (λ (a : ReportedState). word_by (is_same (shown_with (whole_at k)) (shown_with [])) (is_same (shown_with (whole_at k)) a)) after_reported
 
   -- ---- by the items that change the observed state
 
@@ -127,7 +127,7 @@ module _ (names : List (List ℕ)) (front : List (ℕ × DeckLine)) (l : ℕ × 
       → word_by (is_same (shown_with (at_stop is k (zeros 8)).whole) (shown_with [])) (is_same (shown_with (at_stop is k (zeros 8)).whole) (shown_with is)) ≡ Same
   no_items k low high is none =
       subst (λ (js : List Item). word_by (is_same (shown_with (at_stop js k (zeros 8)).whole) (shown_with [])) (is_same (shown_with (at_stop js k (zeros 8)).whole) (shown_with js)) ≡ Same) (sym none)
-      (ap (λ (b : Bool). word_by b b) (told_itself (shown_with [])))
+      (ap (λ (b : Bool). word_by b b) (reported_itself (shown_with [])))
 
   no_changes : (is : List Item) (apps : List (List ℕ × App)) → is ≡ [] → count_of_changes names apps is ≡ 0
   no_changes is apps none = ap (λ (js : List Item). count_of_changes names apps js) none
@@ -149,10 +149,10 @@ module _ (names : List (List ℕ)) (front : List (ℕ × DeckLine)) (l : ℕ × 
     word_held : (k : ℕ) → 1 ≤ k → k ≤ writes_behind front l
         → word_at k ≡ word_by (are_same_held (held_with (whole_at k)) (held_with [])) (are_same_held (held_with (whole_at k)) (held_with (items_behind front l)))
     word_held k low high =
-        word_told k low high
-        ∙ ap (λ (t : ToldState). word_by (is_same t (shown_with [])) (is_same t (shown_with (items_behind front l)))) (on_card (whole_at k))
-        ∙ ap (λ (t : ToldState). word_by (is_same (Holds (held_with (whole_at k))) t) (is_same (Holds (held_with (whole_at k))) (shown_with (items_behind front l)))) (on_card [])
-        ∙ ap (λ (t : ToldState). word_by (are_same_held (held_with (whole_at k)) (held_with [])) (is_same (Holds (held_with (whole_at k))) t)) (on_card (items_behind front l))
+        word_reported k low high
+        ∙ ap (λ (t : ReportedState). word_by (is_same t (shown_with [])) (is_same t (shown_with (items_behind front l)))) (on_card (whole_at k))
+        ∙ ap (λ (t : ReportedState). word_by (is_same (Holds (held_with (whole_at k))) t) (is_same (Holds (held_with (whole_at k))) (shown_with (items_behind front l)))) (on_card [])
+        ∙ ap (λ (t : ReportedState). word_by (are_same_held (held_with (whole_at k)) (held_with [])) (is_same (Holds (held_with (whole_at k))) t)) (on_card (items_behind front l))
 
     -- no item changes the observed state
     card_same : (k : ℕ) → 1 ≤ k → k ≤ writes_behind front l → changing_behind names front l ≡ 0 → word_at k ≡ Same
@@ -201,7 +201,7 @@ module _ (names : List (List ℕ)) (front : List (ℕ × DeckLine)) (l : ℕ × 
 
   pub word_none : (k : ℕ) → 1 ≤ k → k ≤ writes_behind front l → changing_behind names front l ≡ 0 → word_at k ≡ Same
   word_none k low high none = elim (items_on state l) [
-    | inl empty ↦ word_told k low high ∙ no_items k low high (items_behind front l) empty
+    | inl empty ↦ word_reported k low high ∙ no_items k low high (items_behind front l) empty
     | inr card ↦ card_same card.0 card.1 card.2 card.3 k low high none
   ]
 

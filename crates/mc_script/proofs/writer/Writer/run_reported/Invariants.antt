@@ -1,9 +1,9 @@
 use Rattle.std.proofs.Common.{◌≡◌, ◌-◌}
 use Rattle.mc_card.specs.Parts.{device_in}
 use Rattle.mc_script.specs.Writers.{keeps_none, keeps_on, WriterKeeps}
-use Rattle.mc_script.specs.declared.writer.Telling.TheVariants as telling
+use Rattle.mc_script.specs.declared.writer.Reporting.TheVariants as reporting
 use Rattle.mc_script.proofs.CommandLemmas.{RunLeads}
-use Rattle.mc_script.proofs.writer.Writer.run_told.Given as goal
+use Rattle.mc_script.proofs.writer.Writer.run_reported.Given as goal
 
 -- a run with the budget that is left makes the run with the whole budget
 abbrev pub invariant-loop-turn : goal.invariant-loop-turn
@@ -11,7 +11,7 @@ invariant-loop-turn g l =
     let taken = g.T.Sink.taken in
     let faults = g.T.Sink.faults in
     record {
-      turns : l.self.telling ≡ telling.Turns;
+      turns : l.self.reporting ≡ reporting.Turns;
       leads : RunLeads g.N.Nvm.state g.N.Nvm.wrote g.met.N.Nvm.obeys (WriterKeeps taken faults) (keeps_none taken faults) (keeps_on taken faults) l.fn.card l.bytes l.budget l.fn.self (l.budget - l._turn) l.card l.self;
-      lent : g.N.Nvm.same (device_in l.fn.card) (device_in l.card);
+      keeps_device : g.N.Nvm.same (device_in l.fn.card) (device_in l.card);
     }

@@ -13,13 +13,13 @@ use Rattle.mc_filter.specs.Inputs.{ReadWhole}
 use Rattle.mellab.specs.declared.job.Job.TheVariants as job
 use Rattle.mc_filter.specs.declared.status.Status.{Status}
 use Rattle.mc_filter.specs.declared.status.Status.TheVariants.{Done}
-use Rattle.mellab.specs.Verdicts.{Tells, expectation_verdict, sweep_verdict}
+use Rattle.mellab.specs.Verdicts.{Reports, expectation_verdict, sweep_verdict}
 use Rattle.mc_filter.specs.Outside.{Outside}
 use Rattle.mellab.specs.Statuses.{status_after, status_by, MellabDone}
 
-told_status : (r : Result ℕ Fault) (n : ℕ) → ((k : ℕ) → r ≡ Ok k → k ≡ n) → status_after r ≡ status_after_writing (status_by (n == 0)) (done_of r)
-told_status (Ok k) n h = ap (λ m. status_by (m == 0)) (h k refl)
-told_status (Err f) n h = refl
+reported_status : (r : Result ℕ Fault) (n : ℕ) → ((k : ℕ) → r ≡ Ok k → k ≡ n) → status_after r ≡ status_after_writing (status_by (n == 0)) (done_of r)
+reported_status (Ok k) n h = ap (λ m. status_by (m == 0)) (h k refl)
+reported_status (Err f) n h = refl
 
 -- the report of a deck's expectations was written
 pub says_expected : (a : Outside) (input : List ℕ) (t : Trial) (words : List (List ℕ)) (r : Result ℕ Fault) (s : Status) → ReadWhole a.left_old a.left input → trial_read input ≡ Ok t → words ≡ blank_words device_words → s ≡ status_after r
@@ -28,9 +28,9 @@ says_expected a input t words r s read is blank status count put =
     let n = count_failed (steady_steps words t.lines) t.expected in
     let text = expect_text (steady_steps words t.lines) t.expected in
     record {
-      verdict = Tells text (n == 0);
-      due = inr (record { input = input; read = read; is = ap (λ (w : List (List ℕ)). Tells (expect_text (steady_steps w t.lines) t.expected) (count_failed (steady_steps w t.lines) t.expected == 0)) blank ∙ sym (ap expectation_verdict is) });
-      done = record { result = done_of r; status = status ∙ told_status r n count; written = put };
+      verdict = Reports text (n == 0);
+      due = inr (record { input = input; read = read; is = ap (λ (w : List (List ℕ)). Reports (expect_text (steady_steps w t.lines) t.expected) (count_failed (steady_steps w t.lines) t.expected == 0)) blank ∙ sym (ap expectation_verdict is) });
+      done = record { result = done_of r; status = status ∙ reported_status r n count; written = put };
     }
 
 -- a property of a result that is `Ok`
@@ -41,7 +41,7 @@ if_ok r P h k e = subst (λ r. IfOk r P) e h
 pub says_swept : (a : Outside) (input : List ℕ) (ls : List (ℕ × DeckLine)) (r : Result (Unit {0}) Fault) (s : Status) → ReadWhole a.left_old a.left input → deck_read input ≡ Ok ls → s ≡ status_after_writing Done r → Puts a.out_old (sweep_text ls) r a.out → MellabDone job.Sweep a s
 says_swept a input ls r s read is status put =
     record {
-      verdict = Tells (sweep_text ls) true;
+      verdict = Reports (sweep_text ls) true;
       due = inr (record { input = input; read = read; is = sym (ap sweep_verdict is) });
       done = record { result = r; status = status; written = put };
     }

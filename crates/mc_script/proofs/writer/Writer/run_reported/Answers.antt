@@ -4,7 +4,7 @@ use Rattle.mc_machine.specs.declared.outcome.Outcome.{Outcome}
 use Rattle.mc_card.specs.Ends.{Begun}
 use Rattle.mc_script.specs.Writers.{keeps_none, keeps_on, WriterKeeps}
 use Rattle.mc_script.proofs.CommandLemmas.{RunLeads, answered_ran, some_is, leads_begin, leads_stop, leads_end, leads_on}
-use Rattle.mc_script.proofs.writer.Writer.run_told.Goals as goal
+use Rattle.mc_script.proofs.writer.Writer.run_reported.Goals as goal
 
 pub returns-in_err-outcome-clause-done : goal.returns-in_err-outcome-clause-done
 returns-in_err-outcome-clause-done g c =
@@ -32,7 +32,7 @@ loop-turn-init g c =
           subst (λ (k : ℕ). RunLeads g.N.Nvm.state g.N.Nvm.wrote g.met.N.Nvm.obeys (WriterKeeps taken faults) (keeps_none taken faults) (keeps_on taken faults) c.args.card.now c.args.bytes.now c.args.budget c.args.self.now k c.begin.new.self c.args.self.now) all
           (leads_begin g.N.Nvm.state g.N.Nvm.wrote g.met.N.Nvm.obeys (WriterKeeps taken faults) (keeps_none taken faults) (keeps_on taken faults) c.args.card.now c.begin.new.self c.args.bytes.now c.args.budget c.args.self.now passed);
       turns = c.requires.turns;
-      lent = c.begin.ensures.lent;
+      keeps_device = c.begin.ensures.keeps_device;
     }
 
 pub turn-requires : goal.turn-requires
@@ -62,18 +62,18 @@ returns-in-Some-end-clause-done g c =
     let taken = g.T.Sink.taken in
     let faults = g.T.Sink.faults in
     rw c.in-Some-end.outcome-is
-    (leads_end g.N.Nvm.state g.N.Nvm.wrote g.met.N.Nvm.obeys (WriterKeeps taken faults) (keeps_none taken faults) (keeps_on taken faults) c.args.card.now c.loop-turn.card c.turn.new.self c.args.bytes.now c.args.budget (c.args.budget - c.loop-turn._turn) c.args.self.now c.loop-turn.self c.tell_turn.new.self c.in_ok-turn.turn c.in-Some-end.outcome c.loop-turn.invariant.leads c.in_ok-turn.ensures.done c.tell_turn.ensures.tells c.in-Some-end.is)
+    (leads_end g.N.Nvm.state g.N.Nvm.wrote g.met.N.Nvm.obeys (WriterKeeps taken faults) (keeps_none taken faults) (keeps_on taken faults) c.args.card.now c.loop-turn.card c.turn.new.self c.args.bytes.now c.args.budget (c.args.budget - c.loop-turn._turn) c.args.self.now c.loop-turn.self c.report_turn.new.self c.in_ok-turn.turn c.in-Some-end.outcome c.loop-turn.invariant.leads c.in_ok-turn.ensures.done c.report_turn.ensures.reports c.in-Some-end.is)
 
 pub loop-turn-preserved : goal.loop-turn-preserved
 loop-turn-preserved g c =
     let taken = g.T.Sink.taken in
     let faults = g.T.Sink.faults in
-    let on = leads_on g.N.Nvm.state g.N.Nvm.wrote g.met.N.Nvm.obeys (WriterKeeps taken faults) (keeps_none taken faults) (keeps_on taken faults) c.args.card.now c.loop-turn.card c.turn.new.self c.args.bytes.now c.args.budget (c.args.budget - c.loop-turn._turn) c.args.self.now c.loop-turn.self c.tell_turn.new.self c.in_ok-turn.turn c.loop-turn.invariant.leads c.in_ok-turn.ensures.done c.tell_turn.ensures.tells c.in_default-end.is in
+    let on = leads_on g.N.Nvm.state g.N.Nvm.wrote g.met.N.Nvm.obeys (WriterKeeps taken faults) (keeps_none taken faults) (keeps_on taken faults) c.args.card.now c.loop-turn.card c.turn.new.self c.args.bytes.now c.args.budget (c.args.budget - c.loop-turn._turn) c.args.self.now c.loop-turn.self c.report_turn.new.self c.in_ok-turn.turn c.loop-turn.invariant.leads c.in_ok-turn.ensures.done c.report_turn.ensures.reports c.in_default-end.is in
     let left : on.0 ≡ c.args.budget - (c.loop-turn._turn + 1) = let is = on.1 in omega (arith, is) in
     record {
-      leads = subst (λ (k : ℕ). RunLeads g.N.Nvm.state g.N.Nvm.wrote g.met.N.Nvm.obeys (WriterKeeps taken faults) (keeps_none taken faults) (keeps_on taken faults) c.args.card.now c.args.bytes.now c.args.budget c.args.self.now k c.turn.new.self c.tell_turn.new.self) left on.2;
-      turns = (c.tell_turn.ensures.tells None).telling ∙ c.loop-turn.invariant.turns;
-      lent = g.met.N.Nvm.onward _ _ _ c.loop-turn.invariant.lent c.turn.ensures.lent;
+      leads = subst (λ (k : ℕ). RunLeads g.N.Nvm.state g.N.Nvm.wrote g.met.N.Nvm.obeys (WriterKeeps taken faults) (keeps_none taken faults) (keeps_on taken faults) c.args.card.now c.args.bytes.now c.args.budget c.args.self.now k c.turn.new.self c.report_turn.new.self) left on.2;
+      turns = (c.report_turn.ensures.reports None).reporting ∙ c.loop-turn.invariant.turns;
+      keeps_device = g.met.N.Nvm.onward _ _ _ c.loop-turn.invariant.keeps_device c.turn.ensures.keeps_device;
     }
 
 pub unwrap-requires : goal.unwrap-requires
@@ -82,11 +82,11 @@ unwrap-requires g c =
     let faults = g.T.Sink.faults in
     let none : c.args.budget - c.loop-turn._turn ≡ 0 = omega arith in
     some_is c.in_ok-turn-2.turn.end (λ e.
-    let on = leads_on g.N.Nvm.state g.N.Nvm.wrote g.met.N.Nvm.obeys (WriterKeeps taken faults) (keeps_none taken faults) (keeps_on taken faults) c.args.card.now c.loop-turn.card c.turn-2.new.self c.args.bytes.now c.args.budget (c.args.budget - c.loop-turn._turn) c.args.self.now c.loop-turn.self c.tell_turn-2.new.self c.in_ok-turn-2.turn c.loop-turn.invariant.leads c.in_ok-turn-2.ensures.done c.tell_turn-2.ensures.tells e in
+    let on = leads_on g.N.Nvm.state g.N.Nvm.wrote g.met.N.Nvm.obeys (WriterKeeps taken faults) (keeps_none taken faults) (keeps_on taken faults) c.args.card.now c.loop-turn.card c.turn-2.new.self c.args.bytes.now c.args.budget (c.args.budget - c.loop-turn._turn) c.args.self.now c.loop-turn.self c.report_turn-2.new.self c.in_ok-turn-2.turn c.loop-turn.invariant.leads c.in_ok-turn-2.ensures.done c.report_turn-2.ensures.reports e in
     absurd (let is = on.1 in omega arith))
 
 pub returns-clause-done : goal.returns-clause-done
 returns-clause-done g c =
     let taken = g.T.Sink.taken in
     let faults = g.T.Sink.faults in
-    leads_end g.N.Nvm.state g.N.Nvm.wrote g.met.N.Nvm.obeys (WriterKeeps taken faults) (keeps_none taken faults) (keeps_on taken faults) c.args.card.now c.loop-turn.card c.turn-2.new.self c.args.bytes.now c.args.budget (c.args.budget - c.loop-turn._turn) c.args.self.now c.loop-turn.self c.tell_turn-2.new.self c.in_ok-turn-2.turn c.unwrap.result c.loop-turn.invariant.leads c.in_ok-turn-2.ensures.done c.tell_turn-2.ensures.tells c.unwrap.ensures
+    leads_end g.N.Nvm.state g.N.Nvm.wrote g.met.N.Nvm.obeys (WriterKeeps taken faults) (keeps_none taken faults) (keeps_on taken faults) c.args.card.now c.loop-turn.card c.turn-2.new.self c.args.bytes.now c.args.budget (c.args.budget - c.loop-turn._turn) c.args.self.now c.loop-turn.self c.report_turn-2.new.self c.in_ok-turn-2.turn c.unwrap.result c.loop-turn.invariant.leads c.in_ok-turn-2.ensures.done c.report_turn-2.ensures.reports c.unwrap.ensures

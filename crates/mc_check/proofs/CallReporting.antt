@@ -13,7 +13,7 @@ use Rattle.mc_check.specs.declared.bases.Progress.TheVariants as progress
 use Rattle.mc_check.specs.declared.bases.Answer.{Answer}
 use Rattle.mc_check.specs.declared.bases.Answer.TheVariants as answer
 use Rattle.mc_check.specs.CallList.{IsCalled, AreClosed}
-use Rattle.mc_check.specs.Searching.{answer_by_progress, answer_to_owner, answer_of_call, CallTells, AreAtMost, Answers}
+use Rattle.mc_check.specs.Searching.{answer_by_progress, answer_to_owner, answer_of_call, CallReports, AreAtMost, Answers}
 
 -- ---- places
 
@@ -53,17 +53,17 @@ greater_is g b = greater_by (ltb b g) (eqb b g) g b refl
 -- ---- along the calls
 
 -- the bases by the calls before a place, with the greatest one, or 0
-pub record TellsUpTo (states : List Progress) (l : List Call) (q n greatest : ℕ) : Type 0 where
-  pub some : (greatest ≡ 0) ⊎ CallTells states l q (answer.Base greatest)
+pub record ReportsUpTo (states : List Progress) (l : List Call) (q n greatest : ℕ) : Type 0 where
+  pub some : (greatest ≡ 0) ⊎ CallReports states l q (answer.Base greatest)
   pub each : AreAtMost states l q n greatest
 
-module _ (states : List Progress) (l : List Call) (q n g : ℕ) (so : TellsUpTo states l q n g) (c : Call) (there : slice_get l n ≡ Some c) where
+module _ (states : List Progress) (l : List Call) (q n g : ℕ) (so : ReportsUpTo states l q n g) (c : Call) (there : slice_get l n ≡ Some c) where
   call_at : (k : ℕ) (d : Call) → k ≡ n → slice_get l k ≡ Some d → c ≡ d
   call_at k d same here = same_Some c d (sym there ∙ subst (λ (m : ℕ). slice_get l m ≡ Some d) same here)
 
   -- the next call is of another routine
-  pub tells_other : (c.target ≡ q → ⊥) → TellsUpTo states l q (n + 1) g
-  tells_other other = record {
+  pub reports_other : (c.target ≡ q → ⊥) → ReportsUpTo states l q (n + 1) g
+  reports_other other = record {
     some = so.some;
     each = λ k d lt here target. elim (cases_eq k n) [
       | inl same ↦ absurd (other (ap (λ (x : Call). x.target) (call_at k d same here) ∙ target))
@@ -72,18 +72,18 @@ module _ (states : List Progress) (l : List Call) (q n g : ℕ) (so : TellsUpTo 
   }
 
   -- the next call has a base for the routine
-  pub tells_base : (b : ℕ) → c.target ≡ q → answer_of_call states c ≡ answer.Base b → TellsUpTo states l q (n + 1) (max g b)
-  tells_base b of tells = record {
+  pub reports_base : (b : ℕ) → c.target ≡ q → answer_of_call states c ≡ answer.Base b → ReportsUpTo states l q (n + 1) (max g b)
+  reports_base b of reports = record {
     some = elim (cases_lt g b) [
       | inl lt ↦
           let greatest : b ≡ max g b = omega arith in
-          inr (record { at = n; call = c; there = there; target = of; tells = tells ∙ ap answer.Base greatest })
+          inr (record { at = n; call = c; there = there; target = of; reports = reports ∙ ap answer.Base greatest })
       | inr le ↦
           let greatest : g ≡ max g b = omega arith in
-          subst (λ (m : ℕ). (m ≡ 0) ⊎ CallTells states l q (answer.Base m)) greatest so.some
+          subst (λ (m : ℕ). (m ≡ 0) ⊎ CallReports states l q (answer.Base m)) greatest so.some
     ];
     each = λ k d lt here target. elim (cases_eq k n) [
-      | inl same ↦ (b, ap (answer_of_call states) (sym (call_at k d same here)) ∙ tells, omega arith)
+      | inl same ↦ (b, ap (answer_of_call states) (sym (call_at k d same here)) ∙ reports, omega arith)
       | inr ne ↦
           let before = so.each k d (omega arith) here target in
           (before.0, before.1, omega (arith, before.2))
@@ -91,8 +91,8 @@ module _ (states : List Progress) (l : List Call) (q n g : ℕ) (so : TellsUpTo 
   }
 
 -- all calls were passed, and one is of the routine
-pub tells_all : (states : List Progress) (l : List Call) (q n g : ℕ) → TellsUpTo states l q n g → length l ≤ n → IsCalled l q → Answers states l q (answer.Base g)
-tells_all states l q n g so long called =
+pub reports_all : (states : List Progress) (l : List Call) (q n g : ℕ) → ReportsUpTo states l q n g → length l ≤ n → IsCalled l q → Answers states l q (answer.Base g)
+reports_all states l q n g so long called =
     let has = called.2 in
     let first = so.each has.at has.call (let inside = slice_get_within l has.at has.call has.there in omega arith) has.there has.target in
     let positive = of_positive states has.call first.0 has.call.caller first.1 in
@@ -103,10 +103,10 @@ tells_all states l q n g so long called =
     ]
 
 -- a call whose caller has no base yet
-pub tells_stop : (states : List Progress) (l : List Call) (q : ℕ) (a : Answer) → ((b : ℕ) → a ≡ answer.Base b → ⊥) → CallTells states l q a → Answers states l q a
-tells_stop states l q (answer.Base b) other is = absurd (other b refl)
-tells_stop states l q (answer.Unseen p) other is = is
-tells_stop states l q (answer.Open p) other is = is
+pub reports_stop : (states : List Progress) (l : List Call) (q : ℕ) (a : Answer) → ((b : ℕ) → a ≡ answer.Base b → ⊥) → CallReports states l q a → Answers states l q a
+reports_stop states l q (answer.Base b) other is = absurd (other b refl)
+reports_stop states l q (answer.Unseen p) other is = is
+reports_stop states l q (answer.Open p) other is = is
 
 -- the default element, for places after the end
 abbrev pub no_call : Call
