@@ -190,7 +190,7 @@ def main() -> int:
     except OSError as error:
         print(f"tear.py: {error}", file=sys.stderr)
         return 2
-    print(f"These lines play it, in place of line {given.line} and those behind it:\n")
+    print(f"These lines play it, in place of line {given.line} and those after it:\n")
     print("\n".join(deck[given.line - 1:]))
     return 0
 
