@@ -206,7 +206,7 @@ module _ (t : Pair → Bool) (last : ℕ) where
   FewNew : List Span → List Span → Type 0
   FewNew old now = count t (gap_headers now) + differs (first_place old) (first_place now) ≤ 2
 
-  -- behind the same gap
+  -- after the same gap
   same_gap : (p q : ℕ) (old now : List Span) → NonePass t (gap_headers (gap p q ++ old)) → (NonePass t (gap_headers old) → FewNew old now) → FewNew (gap p q ++ old) (gap p q ++ now)
   unfolding FewNew
   same_gap p q old now h rest = by (nat_lt p q) h

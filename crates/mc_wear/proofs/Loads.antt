@@ -56,7 +56,7 @@ sends_after true r rest k n h more =
     record { writes = omega (arith, moves_append r.items rest.items, first, later); none = ap (λ (ts : List _). ts ++ rest.turns) h.none ∙ (more refl).none }
 sends_after false r rest k n h more = let first = h.writes in record { writes = omega (arith, first); none = h.none }
 
--- a command, after which the open load has at most so many static bytes again
+-- a command, after which the open load has again at most this number of static bytes
 record Steps (fixed budget k : ℕ) (b : List ℕ) (c : Card) (session_state : SessionState) : Type 0 where
   first : Sends k (command c session_state b budget)
   keeps : is_done (command c session_state b budget).outcome ≡ true → fixed_in (command c session_state b budget).session_state.load ≤ fixed
