@@ -1,6 +1,6 @@
 -- Bytes put into the words of a static segment, word by word.
-use Rattle.std.proofs.Common.{◌≡◌, ℕ, zero, suc, ◌+◌, ◌-◌, ◌*◌, ◌/◌, ◌≤◌, ◌<◌, ◌⊎◌, Bool, true, false, cond, List, [], ◌∷◌, ◌++◌, length, take, drop, get_or, Option, Some, None, refl, sym, ap, subst, ◌∙◌, inl, inr, arith, append_assoc}
-use Rattle.std.specs.Prelude.{is_none, is_some, not, IfSome}
+use Rattle.std.proofs.Common.{◌≡◌, ℕ, zero, suc, ◌+◌, ◌-◌, ◌*◌, ◌/◌, ◌%◌, ◌≤◌, ◌<◌, ◌⊎◌, Bool, true, false, cond, List, [], ◌∷◌, ◌++◌, length, take, drop, get_or, Option, Some, None, refl, sym, ap, subst, ◌∙◌, inl, inr, arith, append_assoc}
+use Rattle.std.specs.Prelude.{is_none, is_some, not, slice_index, IfSome}
 use Rattle.std.specs.List.{AllByRecursion}
 use Rattle.std.proofs.Math.Seq.{take-add}
 use Rattle.std.proofs.lemmas.Bool.Decides.{nat_tests}
@@ -13,7 +13,7 @@ use Rattle.mc_trans.proofs.Touched.{untouched}
 use Rattle.mc_trans.proofs.Putting.{piece_put, pieces_joined}
 use Rattle.mc_model_device.proofs.ListLemmas.{length_splice}
 use Rattle.mc_segs.specs.HeldFrames.{ArePendingIn}
-use Rattle.mc_segs.specs.Puts.{IsWordOf, PutsPiece}
+use Rattle.mc_segs.specs.Puts.{words_under, IsWordOf, PutsBytes, PutsPiece}
 
 -- ---- counts
 
@@ -97,6 +97,26 @@ puts_next l begin ws after at n j a piece next done put some small place range f
       holds = λ ps lie held. next_held l ps ws at n j a piece put.word lie (done.holds ps lie held) put.is some small place range;
     } in
     subst (λ (t : List (ℕ × List ℕ)). PutsSome l begin at next t) (sym put.words) (subst (λ (t : List ℕ). PutsSome l begin at t (put_word n now ws)) is all)
+
+-- bytes that lie in one word, put into no pending words
+pub one_put : (l : List ℕ) (len at : ℕ) (from word : List ℕ) → len ≡ length l → length word ≡ 8 → ((k : ℕ) → k < 8 → 8 * (at / 8) + k < len → slice_index word k ≡ slice_index l (8 * (at / 8) + k)) → 1 ≤ length from → at % 8 + length from ≤ 8 → at + length from ≤ len
+    → PutsBytes l [] at from ((at / 8, splice word (at % 8) from) ∷ [])
+one_put l len at from word same eight fresh some one range =
+    let n = at / 8 in
+    let after : List (ℕ × List ℕ) = (n, splice word (at % 8) from) ∷ [] in
+    let is : IsWordOf l [] n word = record { eight = eight; there = tt; fresh = λ none k lt within. fresh k lt (subst (λ (m : ℕ). 8 * (at / 8) + k < m) (sym same) within) } in
+    let put : PutsPiece l [] n (at % 8) from after = record { word = word; is = is; words = refl } in
+    let none : PutsSome l [] at [] [] = record {
+      pending = record { few = omega arith; pending = record { ascending = tt; whole = tt }; within = tt };
+      holds = λ ps lie held. subst (λ (t : List (ℕ × List ℕ)). HoldPieces l t []) (sym (append-nil ps)) held;
+    } in
+    let next = puts_next l [] [] after at n (at % 8) [] from from none put (omega arith) one (omega arith) (omega arith) (omega arith) refl in
+    let words : words_under at (length from) ≡ 1 = omega arith in
+    record {
+      pending = next.pending;
+      count = sym (ap (λ (c : ℕ). 0 + not_pending n c []) words);
+      holds = λ ps lie held. subst (λ (t : List (ℕ × List ℕ)). HoldPieces l (ps ++ t) after) (some_piece_is at from (omega arith)) (next.holds ps lie held);
+    }
 
 -- the bytes up to the end of word n are those before it and those in it
 pub next_bytes : (from : List ℕ) (at n low high : ℕ) → low - at ≡ 8 * n - at → low ≤ high → high ≤ at + length from → ((high ≡ 8 * n + 8) ⊎ (high ≡ at + length from × (high ≤ 8 * n + 8))) → at ≤ low

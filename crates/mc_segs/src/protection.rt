@@ -1,5 +1,5 @@
 // Static writes: committed at once, or kept as pending words until a commit.
-ghost use Rattle.std.specs.Prelude.{◌≡◌, ℕ, ◌+◌, ◌*◌, ◌/◌, ◌≤◌, ◌<◌, length, slice_index, true, false, [], Some, None, IsSome, OnOk, OnErr, ◌==◌, ◌||◌};
+ghost use Rattle.std.specs.Prelude.{◌≡◌, ℕ, ◌+◌, ◌*◌, ◌/◌, ◌%◌, ◌≤◌, ◌<◌, length, slice_index, true, false, [], ◌∷◌, Some, None, IsSome, OnOk, OnErr, ◌==◌, ◌||◌};
 ghost use Rattle.mc_model_machine.specs.Frame as model;
 ghost use Rattle.mc_model_device.specs.Pieces.{not_pending, pending_at, put_word};
 ghost use Rattle.mc_bank.specs.Bank.{app_of};
@@ -84,9 +84,59 @@ pub fn commit_static<B: Bank>(bank: &mut B, frame: &Frame, at: u16, from: &[u8])
     ensures done { OnOk result (EffectDone B.Bank (scene bank.old bank.new frame.now frame.now [] [])
         (model.static_written false (frame_on_bank B.Bank bank.old frame.now) [] at from.now)) }
 {
+    if (at % 8) as usize + from.len() <= 8 {
+        commit_word(bank, frame, at, from)
+    } else {
+        commit_words(bank, frame, at, from)
+    }
+}
+
+// Writes static bytes that lie in one word, as most writes do: without a list of pending words.
+fn commit_word<B: Bank>(bank: &mut B, frame: &Frame, at: u16, from: &[u8]) -> Result<(), Stop>
+    requires runs { CanRun B.Bank bank.old frame.now }
+    requires low { 1 ≤ length from.now }
+    requires high { length from.now ≤ 255 }
+    requires range { at + length from.now ≤ length frame.now.frame.fixed }
+    requires one { at % 8 + length from.now ≤ 8 }
+    ensures items { Commits B.Bank (scene bank.old bank.new frame.now frame.now [] [])
+        (model.static_written false (frame_on_bank B.Bank bank.old frame.now) [] at from.now) result }
+    ensures done { OnOk result (EffectDone B.Bank (scene bank.old bank.new frame.now frame.now [] [])
+        (model.static_written false (frame_on_bank B.Bank bank.old frame.now) [] at from.now)) }
+{
+    let word = word_with(bank, frame.slot, frame.fixed_len, at, from);
+    bank.commit(frame.slot, &[(at / 8, word)])
+}
+
+// Writes static bytes that may lie in several words.
+fn commit_words<B: Bank>(bank: &mut B, frame: &Frame, at: u16, from: &[u8]) -> Result<(), Stop>
+    requires runs { CanRun B.Bank bank.old frame.now }
+    requires low { 1 ≤ length from.now }
+    requires high { length from.now ≤ 255 }
+    requires range { at + length from.now ≤ length frame.now.frame.fixed }
+    ensures items { Commits B.Bank (scene bank.old bank.new frame.now frame.now [] [])
+        (model.static_written false (frame_on_bank B.Bank bank.old frame.now) [] at from.now) result }
+    ensures done { OnOk result (EffectDone B.Bank (scene bank.old bank.new frame.now frame.now [] [])
+        (model.static_written false (frame_on_bank B.Bank bank.old frame.now) [] at from.now)) }
+{
     let mut words = Pending::new();
     put_bytes(bank, frame.slot, frame.fixed_len, &mut words, at, from);
     bank.commit(frame.slot, words.list())
+}
+
+// The one word of the static segment that bytes lie in, with them.
+fn word_with<B: Bank>(bank: &B, slot: Slot, len: u16, at: u16, from: &[u8]) -> Word
+    requires going { (B.state bank.now).stopped ≡ false }
+    requires there { IsSome (B.named bank.now slot) }
+    requires len { len ≡ length (app_of (B.state bank.now).apps (B.named bank.now slot)).fixed }
+    requires low { 1 ≤ length from.now }
+    requires range { at + length from.now ≤ len }
+    requires one { at % 8 + length from.now ≤ 8 }
+    ensures { PutsBytes (app_of (B.state bank.now).apps (B.named bank.now slot)).fixed [] at from.now
+        ((at / 8, result) ∷ []) }
+{
+    let mut word = fresh_word(bank, slot, len, at / 8);
+    write(&mut word, (at % 8) as usize, from);
+    word
 }
 
 /// Keeps static bytes as pending words.
@@ -187,6 +237,13 @@ fn put_piece<B: Bank>(
     ensures { PutsPiece (app_of (B.state bank.now).apps (B.named bank.now slot)).fixed words.old number at piece.now
         words.new }
 {
+    if piece.len() == 8 {
+        // Nothing of the old word is left, so the compiler drops the read.
+        let mut word = word_of(bank, slot, len, words, number);
+        write(&mut word, 0, piece);
+        put(words, number, word);
+        return;
+    }
     let mut word = word_of(bank, slot, len, words, number);
     write(&mut word, at, piece);
     put(words, number, word);
@@ -220,7 +277,8 @@ fn fresh_word<B: Bank>(bank: &B, slot: Slot, len: u16, number: u16) -> Word
     requires there { IsSome (B.named bank.now slot) }
     requires len { len ≡ length (app_of (B.state bank.now).apps (B.named bank.now slot)).fixed }
     requires range { 8 * number < len }
-    ensures { (k : ℕ) → k < 8 → 8 * number + k < len
+    ensures eight { length result ≡ 8 }
+    ensures bytes { (k : ℕ) → k < 8 → 8 * number + k < len
         → slice_index result k
         ≡ slice_index (app_of (B.state bank.now).apps (B.named bank.now slot)).fixed (8 * number + k) }
 {

@@ -3,7 +3,7 @@ use Rattle.mc_model_device.specs.Pieces.{not_pending}
 use Rattle.mc_segs.specs.HeldFrames.{Held}
 use Rattle.mc_segs.specs.Puts.{words_under}
 use Rattle.mc_segs.proofs.StoreLemmas.{few_words, done_at_once, items_at_once}
-use Rattle.mc_segs.proofs.protection.commit_static.Goals as goal
+use Rattle.mc_segs.proofs.protection.commit_words.Goals as goal
 
 pub put_bytes-requires-clause-room : goal.put_bytes-requires-clause-room
 put_bytes-requires-clause-room g c =
