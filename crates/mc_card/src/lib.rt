@@ -5,7 +5,10 @@
 mod bench;
 mod card;
 mod managing;
+mod session;
+mod watching;
 
 pub use card::Card;
-pub use mc_machine::{Outcome, Turn};
-pub use mc_store::{Unusable, Up};
+pub use mc_machine::{Chain, Outcome, Turn};
+pub use mc_manager::Load;
+pub use mc_store::{Store, Unusable, Up};

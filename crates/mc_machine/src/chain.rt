@@ -87,4 +87,18 @@ impl Chain {
             None => self.running.session(),
         }
     }
+
+    /// Returns the running frame.
+    pub fn running(&self) -> &Frame
+        ensures { result.now ≡ self.now.running }
+    {
+        &self.running
+    }
+
+    /// Returns the public segment.
+    pub fn public(&self) -> &Public
+        ensures { result.now ≡ self.now.public }
+    {
+        &self.public
+    }
 }

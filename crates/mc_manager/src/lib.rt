@@ -18,5 +18,7 @@ mod selection;
 mod status;
 
 pub use laws::fits_through_commits;
+pub use load::Load;
 pub use manager::Manager;
 pub use routed::{Routed, Ruling};
+pub use selection::Selection;

@@ -1,4 +1,4 @@
-ghost use Rattle.std.specs.Prelude.{◌≡◌, ◌+◌, ◌≤◌, ◌==◌, cond, ℕ, List, false, Ok, None, IfOk, OnOk};
+ghost use Rattle.std.specs.Prelude.{◌≡◌, ◌+◌, ◌≤◌, ◌==◌, cond, ℕ, List, false, option_map, Ok, None, IfOk, OnOk};
 ghost use Rattle.mc_model_device.specs.Orders.{InOrder, answer_of};
 ghost use Rattle.mc_model_card.specs.Manager.{select, open_load, load_part, create, delete, manage};
 ghost use Rattle.mc_apdu.specs.Command.{parts_of};
@@ -51,6 +51,20 @@ impl Manager {
             selected: None,
             load: None,
         }
+    }
+
+    /// Returns the selected application, or `None` if none is selected.
+    pub fn selected(&self) -> Option<Selection>
+        ensures { result ≡ self.now.selected }
+    {
+        self.selected
+    }
+
+    /// Returns the open load, or `None` if none is open.
+    pub fn load(&self) -> Option<&Load>
+        ensures { option_map (λ load. load.now) result ≡ self.now.load }
+    {
+        self.load.as_ref()
     }
 
     /// Runs one command and returns its answer: `Answer` with its reply, `Fresh` with the new selection and its reply,

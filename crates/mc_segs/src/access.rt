@@ -20,7 +20,7 @@ const PUBLIC: u16 = 0xC000;
 /// PT, the address after the last public byte.
 const PUBLIC_END: u16 = 0xC411;
 
-// A segment, and a place in it.
+/// A segment, and a place in it.
 #[derive(Clone, Copy, Debug, PartialEq, Eq)]
 pub enum Place {
     Static(u16),
@@ -116,10 +116,10 @@ pub fn load<B: Bank>(
     Ok(())
 }
 
-// Reads static bytes: those of the bank, and over them the pending words. Separate from the other segments,
-// whose bytes are copied in place.
+/// Reads static bytes: those of the bank, and over them the pending words. Separate from the other segments,
+/// whose bytes are copied in place.
 #[inline(never)]
-fn read_static<B: Bank>(bank: &B, frame: &Frame, at: u16, into: &mut [u8])
+pub fn read_static<B: Bank>(bank: &B, frame: &Frame, at: u16, into: &mut [u8])
     requires runs { CanRun B.Bank bank.now frame.now }
     requires range { at + length into.old ≤ length frame.now.frame.fixed }
     ensures { into.new ≡ take (length into.old)

@@ -6,14 +6,16 @@ mod access;
 mod bytes;
 mod ends;
 mod frame;
+mod looking;
 mod protection;
 mod public;
 mod session;
 mod stack;
 
-pub use access::{load, resolve, store};
+pub use access::{Place, load, place_of, resolve, store};
 pub use ends::{Halt, Next};
 pub use frame::Frame;
+pub use looking::look;
 pub use mc_model_machine::Abend;
 pub use protection::protect;
 pub use public::Public;
