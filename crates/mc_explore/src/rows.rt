@@ -55,7 +55,8 @@ pub fn session_bytes()
 
 /// Two states that differ in an open load alone.
 pub fn open_load()
-    ensures { explored_deck 2 (codes "format\npower\n#@ move apdu BE1200000C000100000000000000000000\n#@ move apdu BE1200000C000200000000000000000000\n")
+    ensures { explored_deck 2 (codes "format\npower\n#@ move apdu BE1200000C000100000000000000000000\n"
+        ++ codes "#@ move apdu BE1200000C000200000000000000000000\n")
         ≡ Ok (codes "depth 1 states 2\ndepth 2 states 0\nexplored states 3 tries 6 all\n") }
 {}
 

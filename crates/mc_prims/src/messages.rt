@@ -13,8 +13,8 @@ use crate::table::Cipher;
 use mc_bank::Bank;
 use mc_segs::{Frame, Halt, Next, Public, store};
 
-/// Enciphers or deciphers a message of so many bytes: its address, that of the result and that of the key are on the
-/// stack.
+/// Enciphers or deciphers a message of a given number of bytes: its address, that of the result and that of the key
+/// are on the stack.
 #[tactic(auto, using(std::proofs::lemmas::Bool::or_right, crate::proofs::FrameLemmas::message_some))]
 pub fn turn_message<B: Bank>(
     bank: &mut B,

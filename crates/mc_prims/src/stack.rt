@@ -41,7 +41,8 @@ pub fn pop_word(frame: &mut Frame) -> Result<u16, Abend>
 
 /// Pops a byte and a word, which lies above it.
 pub fn pop_byte_and_word(frame: &mut Frame) -> Result<(u8, u16), Abend>
-    ensures { Pops result (num (stack_bytes frame.old.frame 3 1), number_below_top frame.old.frame 2) 3 frame.old frame.new }
+    ensures { Pops result (num (stack_bytes frame.old.frame 3 1), number_below_top frame.old.frame 2) 3
+        frame.old frame.new }
 {
     let word = pop_word(frame)?;
     let byte = pop_byte(frame)?;
@@ -50,7 +51,8 @@ pub fn pop_byte_and_word(frame: &mut Frame) -> Result<(u8, u16), Abend>
 
 /// Pops two words; the first lies deeper.
 pub fn pop_two(frame: &mut Frame) -> Result<(u16, u16), Abend>
-    ensures { Pops result (number_below_top frame.old.frame 4, number_below_top frame.old.frame 2) 4 frame.old frame.new }
+    ensures { Pops result (number_below_top frame.old.frame 4, number_below_top frame.old.frame 2) 4
+        frame.old frame.new }
 {
     let second = pop_word(frame)?;
     let first = pop_word(frame)?;
@@ -59,8 +61,11 @@ pub fn pop_two(frame: &mut Frame) -> Result<(u16, u16), Abend>
 
 /// Pops three words; the first lies deepest.
 pub fn pop_three(frame: &mut Frame) -> Result<(u16, u16, u16), Abend>
-    ensures { Pops result (number_below_top frame.old.frame 6, number_below_top frame.old.frame 4, number_below_top frame.old.frame 2) 6 frame.old
-        frame.new }
+    ensures { Pops result (
+      number_below_top frame.old.frame 6,
+      number_below_top frame.old.frame 4,
+      number_below_top frame.old.frame 2,
+    ) 6 frame.old frame.new }
 {
     let (second, third) = pop_two(frame)?;
     let first = pop_word(frame)?;

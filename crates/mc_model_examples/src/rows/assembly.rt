@@ -112,7 +112,7 @@ pub fn operands()
     ensures number_for_an_address { assembly_of (codes "LOADA 5") ≡ Err (1, BadOperands) }
 {}
 
-/// An address has a register, one opening bracket right behind it, and one closing bracket at its end.
+/// An address has a register, one opening bracket right after it, and one closing bracket at its end.
 pub fn addresses()
     ensures register { assembly_of (codes "LOAD XX[0],1") ≡ Err (1, BadOperands) }
     ensures lower_case { assembly_of (codes "LOAD sb[0],1") ≡ Err (1, BadOperands) }
@@ -159,7 +159,7 @@ pub fn labels()
     ensures after_the_lines { assembly_of (codes "JUMP ALL,there\nFOO") ≡ Err (2, UnknownWord) }
 {}
 
-/// A branch reaches 127 bytes forward from the place behind it.
+/// A branch reaches 127 bytes forward from the place after it.
 pub fn branch_forward()
     ensures near { assembly_of (codes "BRANCH ALL,far\n" ++ times 127 (codes "NOP\n") ++ codes "far: EXIT\n")
         ≡ Ok (0x0F ∷ 0x7F ∷ replicate 127 0 ++ (0x04 ∷ [])) }
@@ -167,7 +167,7 @@ pub fn branch_forward()
         ≡ Err (1, FarBranch) }
 {}
 
-/// A branch reaches 128 bytes back from the place behind it.
+/// A branch reaches 128 bytes back from the place after it.
 pub fn branch_back()
     ensures near { assembly_of (codes "far: EXIT\n" ++ times 125 (codes "NOP\n") ++ codes "BRANCH ALL,far\n")
         ≡ Ok (0x04 ∷ replicate 125 0 ++ (0x0F ∷ 0x80 ∷ [])) }

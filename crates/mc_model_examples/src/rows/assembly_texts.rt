@@ -49,7 +49,7 @@ pub fn label_given_twice_under_returns()
         ≡ Err (17, LabelTwice) }
 {}
 
-/// A line far behind is refused at its own number.
+/// A line far down is refused at its own number.
 pub fn number_of_one_line_of_seventy()
     ensures { assembly_of (
         codes "CMPB PT[-12],1\r\nJUMP NE,no0\r\nPUSHW 0\r\nPRIM 7\r\nPUSHW 255\r\nPUSHW 0xC000\r\nPUSHW 49152\r\n" ++

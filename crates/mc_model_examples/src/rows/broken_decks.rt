@@ -5,7 +5,7 @@ ghost use Rattle.mc_model_play.specs.DeckGrammar.{deck_read};
 ghost use Rattle.mc_model_machine.specs.declared.assembler.AsmCause.TheVariants.{UnknownWord, BadNumber};
 ghost use Rattle.mc_model_play.specs.declared.deck.DeckCause.TheVariants.{BadLine, BadHex, NoEnd, Asm};
 
-/// A `fail` with a blank and no number behind it.
+/// A `fail` with a blank and no number after it.
 pub fn fail_without_a_number()
     ensures { deck_read (
         codes "budget 300\r\nformat\r\napp u0 A000000002\r\nCMPB PT[-12],1\r\nJUMP NE,no0\r\nINCN DB[0],1\r\n" ++

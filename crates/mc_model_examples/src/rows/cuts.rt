@@ -65,7 +65,7 @@ pub fn cut_in_a_recovery()
         codes "11 static 0001\n") }
 {}
 
-/// A cut behind the last write hits nothing, and is dropped.
+/// A cut after the last write hits nothing, and is dropped.
 pub fn no_cut()
     ensures { deck_transcript (
         codes "format\npower\n" ++
@@ -74,7 +74,7 @@ pub fn no_cut()
         ≡ Ok (codes "1 formatted\n2 ready 0\n4 9000\n5 9000\n7 00019000\n8 00029000\n") }
 {}
 
-/// Two words of one transaction, cut before and behind its gate.
+/// Two words of one transaction, cut before and after its gate.
 pub fn transaction_of_two_words()
     ensures { deck_transcript (
         codes "format\npower\n" ++
@@ -192,7 +192,7 @@ pub fn refused_write()
         ≡ Ok (codes "1 formatted\n2 ready 0\n4 9000\n5 9000\n7 6581\n8 mute\n9 ready 0\n10 static 0000\n") }
 {}
 
-/// A refused write behind the gate is owed.
+/// A refused write after the gate is owed.
 pub fn refused_target_write()
     ensures { deck_transcript (
         codes "format\npower\n" ++
@@ -211,7 +211,7 @@ pub fn refused_recovery()
         ≡ Ok (codes "1 formatted\n2 ready 0\n4 9000\n5 9000\n7 off at write 5\n9 6581\n10 mute\n11 ready 2\n") }
 {}
 
-/// A later `fail` takes the place of a cut, and behind the last write it hits nothing.
+/// A later `fail` takes the place of a cut, and after the last write it hits nothing.
 pub fn fail_behind_the_last_write()
     ensures { deck_transcript (
         codes "format\npower\n" ++

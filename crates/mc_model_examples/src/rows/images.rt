@@ -10,14 +10,14 @@ pub fn blank_device()
         ≡ Ok (codes "1 unusable NoRoot 0\n") }
 {}
 
-/// A hole whose link is no hole behind it.
+/// A hole whose link is no hole after it.
 pub fn link_to_no_hole()
     ensures { deck_transcript (
         codes "format\npoke 131 48001F7D00830000\npower\n")
         ≡ Ok (codes "1 formatted\n3 unusable BadChain 131\n") }
 {}
 
-/// A block that ends behind the device.
+/// A block that ends after the device.
 pub fn block_past_the_end()
     ensures { deck_transcript (
         codes "format\npoke 131 48001F7E00000000\npower\n")

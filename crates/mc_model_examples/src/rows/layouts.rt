@@ -16,12 +16,12 @@ pub fn full_device()
         ∷ (192, hex (codes "5500004000000000")) ∷ [] }
 {}
 
-/// Twenty applications of 12 words each, and the hole behind them.
+/// Twenty applications of 12 words each, and the hole after them.
 pub fn twenty_applications()
     ensures { room_left 8192 13 twenty_counters ≡ Some 371 ∷ [] }
 {}
 
-/// Two of them deleted leave two holes of 12 words; the room for 13 words lies behind.
+/// Two of them deleted leave two holes of 12 words; the room for 13 words lies after them.
 pub fn two_holes()
     ensures headers { headers_left 8192 (twenty_counters ++ codes "delete A000000102\ndelete A000000104\n")
         ≡ (0, hex (codes "4D454C022000008F")) ∷ (131, hex (codes "5500000C00000000"))

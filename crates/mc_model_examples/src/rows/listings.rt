@@ -41,7 +41,7 @@ pub fn each_form()
         codes "ADDB 3\nSETW SB[8],0x0102\nLOADA DB[4]\nLOADA\n") }
 {}
 
-/// No code, a byte that begins no instruction, and an instruction that ends behind the code.
+/// No code, a byte that begins no instruction, and an instruction that ends after the code.
 pub fn no_listing()
     ensures empty { listing [] ≡ Ok [] }
     ensures undefined { listing (hex (codes "30")) ≡ Err (0, Undefined) }
@@ -50,7 +50,7 @@ pub fn no_listing()
     ensures undefined_behind { listing (hex (codes "060002230000")) ≡ Err (3, Undefined) }
 {}
 
-/// An instruction that ends behind the code.
+/// An instruction that ends after the code.
 pub fn past_the_end()
     ensures digits { code_text_read (codes "93\r\n00017fffc18f566d605e6a")
         ≡ Ok (hex (codes "9300017FFFC18F566D605E6A")) }
@@ -98,7 +98,7 @@ pub fn five_instructions()
         ≡ Ok (codes "LOAD PB[-7],1\nBRANCH GE,25\nPOPB\nLOAD PT[-1],8\nEXITSW 0x8000\n") }
 {}
 
-/// An instruction that ends behind the code, in many lines of digits in upper case.
+/// An instruction that ends after the code, in many lines of digits in upper case.
 pub fn past_the_end_of_many_lines()
     ensures digits { code_text_read (
         codes "8608000221010044FF7FFF2EC\n9CF03FFFF0\r\n1FFFF6410FFEE2E10200\t8220001\n058000\r\nC3\n0080\r\n" ++
@@ -138,7 +138,7 @@ pub fn displacement_below_zero()
         ≡ Ok (codes "TESTN SB[10],8\nINDEX LB[32196],231\nBRANCH LE,-79\n") }
 {}
 
-/// An instruction that ends behind the code, in many lines of digits in lower case.
+/// An instruction that ends after the code, in many lines of digits in lower case.
 pub fn past_the_end_of_lower_case()
     ensures digits { code_text_read (
         codes "7910ffff2801c0\n10c81121b9b30\n30001b3110000241138082\n\ne08\n4f01\n\n00012\r\ne0\n\n32d010\n\n" ++

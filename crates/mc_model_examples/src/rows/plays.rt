@@ -43,7 +43,7 @@ pub fn no_stale_byte()
         ≡ Ok (codes "1 formatted\n2 ready 0\n5 9000\n6 9000\n7 9000\n8 static 0000000000000000\n") }
 {}
 
-/// A unit whose DIR has a label behind the name.
+/// A unit whose DIR has a label after the name.
 pub fn label_behind_the_name()
     ensures { deck_transcript (
         codes "format\npower\n" ++
@@ -130,7 +130,7 @@ pub fn call_and_return()
         ≡ Ok (codes "1 formatted\n2 ready 0\n4 9000\n5 9000\n6 089000\n") }
 {}
 
-/// The last byte of a segment is written, the one behind it is not.
+/// The last byte of a segment is written, the one after it is not.
 pub fn last_static_byte()
     ensures { deck_transcript (
         codes "format\npower\n" ++
@@ -178,7 +178,7 @@ pub fn undefined_tag()
         ≡ Ok (codes "1 formatted\n2 ready 0\n4 9000\n5 9000\n6 abend 01\n") }
 {}
 
-/// The public segment begins with the data of the command, and zeros behind them.
+/// The public segment begins with the data of the command, and zeros after them.
 pub fn public_bytes()
     ensures { deck_transcript (
         codes "format\npower\n" ++
