@@ -1,0 +1,9 @@
+mod Families
+mod SameGiven
+mod RowDenies
+mod OneRow
+mod Places
+mod Runs
+mod Commands
+mod Plays
+mod Callers

@@ -1,0 +1,4 @@
+pub mod Families
+pub mod Delegations
+pub mod Laws
+pub mod Computed
