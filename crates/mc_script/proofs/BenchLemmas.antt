@@ -9,6 +9,7 @@ use Rattle.mc_model_device.specs.Orders.{Answer}
 use Rattle.mc_model_device.specs.Device.{Entry, Grows, DeviceState, BenchState, fuse_after_write, next_fill, due, NextWriteEnds, Counts, Burns, BenchWrote, Wrote, WriteDone, WriteCut, WriteFailure, Makes, GrowsBy, done_entries, torn_entries, next_count}
 use Rattle.mc_model_device.specs.Stopped.{image_after_stop}
 use Rattle.mc_model_device.proofs.DeviceLemmas.{DoneAll, makes_done}
+use Rattle.mc_script.specs.Counting.{on_after_stop}
 use Rattle.mc_script.specs.Runs.{StoppedAtWrite}
 use Rattle.mc_script.proofs.EntryLemmas.{stopped_entry, torn_behind, entries_behind}
 use Rattle.mc_script.proofs.AccountLemmas.{SizesTo}
@@ -46,6 +47,7 @@ FusedAt Worn b k x = Past k b.cut × (b.steady ≡ true → b.worn ≡ Some (rec
 pub record HaltedList (d : DeviceState) (b : BenchState) (ws : List (ℕ × List ℕ)) (k : ℕ) (s : Stop) (x : List ℕ) (e : DeviceState) (c : BenchState) : Type 0 where
   pub size : length x ≡ 8
   pub words : e.words ≡ image_after_stop d.words ws k x
+  pub on : e.on ≡ on_after_stop s
   pub tape : GrowsBy d.tape (torn_entries ws k x s) e.tape
   pub raises : Raises s d e
   pub fused : FusedAt s b k x
@@ -119,6 +121,7 @@ pub record LeftBy (d : DeviceState) (at : ℕ) (s : Stop) (e : DeviceState) : Ty
   pub left : List ℕ
   pub size : length left ≡ 8
   pub words : e.words ≡ slice_set d.words at left
+  pub on : e.on ≡ on_after_stop s
   pub tape : Grows d.tape (record { at = at; left = left; «end» = Some s }) e.tape
 
 grows_last : (t : Option (List Entry)) (es : List Entry) (u : Option (List Entry)) (e : Entry) (v : Option (List Entry)) → GrowsBy t es u → Grows u e v → GrowsBy t (es ++ e ∷ []) v
@@ -200,10 +203,10 @@ module _ {D : Type 0} (state : D → DeviceState) (bench : D → BenchState) (wr
   left_by : (s : Stop) (d e : D) (at : ℕ) (w : List ℕ) → (state d).on ≡ true → wrote d at w (Err s) e → LeftBy (state d) at s (state e)
   left_by Off d e at w on h =
       let r : WriteCut (state d) at (state e) = obeys d at w (Err Off) e on h in
-      record { left = r.left; size = r.size; words = r.words; tape = r.tape }
+      record { left = r.left; size = r.size; words = r.words; on = r.power; tape = r.tape }
   left_by Worn d e at w on h =
       let r : WriteFailure (state d) at (state e) = obeys d at w (Err Worn) e on h in
-      record { left = r.left; size = r.size; words = r.words; tape = r.tape }
+      record { left = r.left; size = r.size; words = r.words; on = r.power; tape = r.tape }
 
   halted_behind : (ws : List (ℕ × List ℕ)) (d e : D) (n : ℕ) (s : Stop) → (state d).on ≡ true → StoppedBehind wrote d ws n s e → (x : List ℕ) × HaltedList (state d) (bench d) ws (suc n) s x (state e) (bench e)
   halted_behind ws d e n s on r =
@@ -220,6 +223,7 @@ module _ {D : Type 0} (state : D → DeviceState) (bench : D → BenchState) (wr
         record {
           size = left.size;
           words = left.words ∙ ap (λ (t : List (List ℕ)). slice_set t p.0 x) done.words ∙ sym (torn_behind (state d).words ws n x r.high);
+          on = left.on;
           tape = subst (λ (es : List Entry). GrowsBy (state d).tape es (state e).tape) (sym (entries_behind ws n x s r.high))
               (grows_last (state d).tape (done_entries (take n ws)) (state m).tape (stopped_entry ws n x s) (state e).tape done.tape left.tape);
           raises = raises s (state d) (state m) (state e) done.cuts done.faults last.counts;

@@ -39,6 +39,7 @@ use Rattle.mc_script.proofs.HitLemmas.{HitBy}
 use Rattle.mc_script.proofs.CardLemmas.{ready_on, ready_owes, session_state_over, ready_over}
 use Rattle.mc_script.proofs.CommandStepLemmas.{after_power_is, moves_after_power, is_card, no_powers, no_pokes, no_cuts, no_fails}
 use Rattle.mc_script.proofs.LinedLemmas.{lined}
+use Rattle.mc_script.proofs.QuietLemmas.{same_power}
 use Rattle.mc_script.proofs.TriedLemmas.{Handed, Worth, Went, went, went_stepped, Hit, hit, hit_stepped}
 use Rattle.mc_script.proofs.PowerLineLemmas.{live_stopped, answer_stopped}
 
@@ -145,7 +146,7 @@ module _ {N R : Type 0} (state : N → DeviceState) (bench : N → BenchState) (
         unfused = did.unfused;
       } in
       let stands : StopsStand (state (device_in c)).words (AfterPower w) (n, l) 0 ws = command_stands c w n cmd ws on (stops_over c u r.items ws same made.stops) in
-      let stepped = went_stepped state bench wrote obeys burns fits p q (AfterPower w) n 0 l (Answered r.outcome) r.items r.items r.pairs r.turns v answer.Outcome ws m at (worth cmd (AfterPower w)) refl did made.number (moves_are c w n cmd on) then
+      let stepped = went_stepped state bench wrote obeys burns fits p q (AfterPower w) n 0 l (Answered r.outcome) r.items r.items r.pairs r.turns v answer.Outcome ws m at (worth cmd (AfterPower w)) (sym (same_power l (state (device_in c)).on (no_powers cmd)) ∙ ready_on state c ready) refl did made.number (moves_are c w n cmd on) then
       (ap Answered done.commanded.outcome) stands in
       let misses : hit_of w.armed m None ≡ None = subst (λ (i : ℕ). hit_of w.armed i None ≡ None) made.number (subst (λ (y : play.Armed). hit_of y (length ws) None ≡ None) at.armed did.missed.hit) in
       let step_on : step (AfterPower w) (n, l) None ≡ command_step n l w card r None = step_is c w n cmd None on ∙ ap (λ (y : Option StopAt). command_step n l w card r y) misses in

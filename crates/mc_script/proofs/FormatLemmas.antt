@@ -17,7 +17,7 @@ use Rattle.mc_script.specs.Players.{answer_value, device_of, IsUnfused, LiveIs, 
 use Rattle.mc_script.specs.Counting.{count_after_rises, when_poked, line_pokes, line_powers, line_cuts, line_fails, LineCounts}
 use Rattle.mc_script.specs.Lines.{Stepped, SilentDone, IsFormatted, IsPoked}
 use Rattle.mc_script.proofs.PokeLemmas.{poked_are}
-use Rattle.mc_script.proofs.QuietLemmas.{steady_none, grows_none, still}
+use Rattle.mc_script.proofs.QuietLemmas.{steady_none, same_power, grows_none, still}
 
 module _ {N : Type 0} (state : N → DeviceState) (bench : N → BenchState) where
   -- words that were poked before the first power line
@@ -48,6 +48,7 @@ module _ {N : Type 0} (state : N → DeviceState) (bench : N → BenchState) whe
                 counts = record { powers = ap (λ (i : ℕ). count_after_rises c.powers i) (sym powers); pokes = ap (λ (i : ℕ). count_after_rises c.pokes i) (sym pokes); poked = ap (λ (i : ℕ). when_poked c i) (sym pokes); cuts = refl; faults = refl; steady = refl };
                 arms = record { arms = rw cuts (omega arith); wears = rw fails (omega arith) };
               }));
+          power = ap (λ (y : DeviceState). y.on) did.device ∙ same_power l (state d).on powers;
           steady = λ h. steady_none r l (moves_of (BeforePower m b r) (n, l)) card;
           tape = record {
             entries = [];

@@ -30,3 +30,8 @@ pub mod PowerUpLemmas
 pub mod CommandLineLemmas
 pub mod QuietLemmas
 pub mod FormatLemmas
+pub mod SessionLemmas
+pub mod StepLemmas
+pub mod StepRunLemmas
+pub mod StepPlayLemmas
+pub mod PowerAnswerLemmas

@@ -1,7 +1,6 @@
 -- A play of one line and a play of the lines after it are one play.
-use Rattle.std.proofs.Common.{◌≡◌, ◌⊎◌, ℕ, zero, suc, ◌+◌, List, [], ◌∷◌, ◌++◌, Option, Some, None, Result, Ok, Err, refl, arith, sym, ap, subst, ◌∙◌, append_assoc, inl, inr}
-use Rattle.std.proofs.lemmas.List.{append-nil}
-use Rattle.mc_model_device.specs.Device.{DeviceState, BenchState, Entry, next_count}
+use Rattle.std.proofs.Common.{◌≡◌, ◌⊎◌, ℕ, zero, suc, ◌+◌, Bool, List, [], ◌∷◌, ◌++◌, Option, Some, None, Result, Ok, Err, refl, arith, sym, ap, subst, ◌∙◌, append_assoc, inl, inr}
+use Rattle.mc_model_device.specs.Device.{DeviceState, BenchState, next_count}
 use Rattle.mc_model_play.specs.DeckGrammar.{DeckLine}
 use Rattle.mc_model_play.specs.DeckGrammar as line
 use Rattle.mc_model_play.specs.Play.{Armed, Live, Running, Unpowered, Muted, Warm, State, BeforePower, AfterPower, FailedWrite, Step, plays, step, card_line, armed_stop_in, last_state, StandsForState, moves_of, steady_at, steady_failures, failures_of_tape}
@@ -10,12 +9,15 @@ use Rattle.mc_model_play.proofs.PlayLemmas.{step_is}
 use Rattle.mc_base.specs.Streams.{Grew}
 use Rattle.mc_base.specs.declared.refusals.WriteFault.{WriteFault}
 use Rattle.mc_base.proofs.StreamsLemmas.{grew_append, grew_none, rose_later}
-use Rattle.mc_script.specs.Counting.{count_after_rises, when_poked, CountsCalls, LineCounts, PlayCounts}
+use Rattle.mc_script.specs.Counting.{count_after_rises, when_poked, on_at_end, CountsCalls, LineCounts, PlayCounts}
 use Rattle.mc_script.specs.Players.{IsUnfused}
-use Rattle.mc_script.specs.Plays.{Bench, PlayedLine, TapeReports, TapeIs, Played, texts, PlayEnds, PlaysFrom}
+use Rattle.mc_script.specs.Plays.{Bench, PlayedLine, PlayTape, Played, texts, PlayEnds}
+use Rattle.mc_script.specs.StepCounts.{PlaySteps, CountsFrom}
 use Rattle.mc_text.specs.Texts.{Sunk, Writes, Fails}
 use Rattle.mc_script.proofs.AfterPowerLemmas.{PokesFirst, pokes_first}
 use Rattle.mc_script.proofs.TapeLemmas.{tape_on}
+use Rattle.mc_script.proofs.QuietLemmas.{grows_none}
+use Rattle.mc_script.proofs.StepPlayLemmas.{steps_none, steps_then, steps_as}
 
 -- ---- counts
 
@@ -97,7 +99,9 @@ played_on s l w ls ws a b c did rest =
       words = subst (λ (ts : List Step). StandsForState c.device.words (last_state s ts)) (sym e) rest.words;
       counts = subst (λ (ts : List Step). PlayCounts a.bench a.device (armed_stop_in s) ts c.bench c.device) (sym e) (counts_from s l w _ a b c did.counts rest.counts (pokes_first s l w ls ws));
       steady = λ steady. steady_on s l w ls ws (did.steady steady) (rest.steady (did.counts.counts.steady ∙ steady));
-      tape = let t = did.tape in tape_on a.device.words b.device.words s l ls w ws t.entries a.device.tape b.device.tape c.device.tape did.may t.accounts t.worn t.left t.grows rest.tape;
+      power = rest.power ∙ ap (λ (on : Bool). on_at_end on (plays (step s l w).after ls ws)) did.power ∙ ap (λ (ts : List Step). on_at_end a.device.on ts) (sym e);
+      tape = tape_on s l ls w ws a.device b.device c.device did.may did.tape rest.tape;
+      in_turn = (b, did, rest.in_turn);
       unfused = rest.unfused;
     }
 
@@ -106,14 +110,10 @@ steady_none : (s : State) → [] ≡ steady_failures s []
 unfolding steady_failures
 steady_none s = refl
 
-reports_none : (m : List (List ℕ)) (s : State) → TapeReports m s [] [] []
-unfolding failures_of_tape
-reports_none m s = record { worn = refl; accounts = refl }
-
 -- the tape of no line
-tape_none : (m : List (List ℕ)) (s : State) (a : Option (List Entry)) → TapeIs m s [] [] a a
-tape_none m s None = tt
-tape_none m s (Some t) = ([], sym (append-nil t), reports_none m s)
+tape_none : (s : State) (d : DeviceState) → PlayTape s [] [] d d
+unfolding failures_of_tape
+tape_none s d = record { entries = []; grows = grows_none d.tape; worn = refl; accounts = refl; left = refl }
 
 -- a play of no line
 pub played_none : (s : State) (a : Bench) → StandsForState a.device.words s → IsUnfused a.bench → Played s [] [] a a
@@ -123,7 +123,9 @@ played_none s a stands unfused =
       words = subst (λ (ts : List Step). StandsForState a.device.words (last_state s ts)) (sym (plays_none s)) stands;
       counts = subst (λ (ts : List Step). PlayCounts a.bench a.device (armed_stop_in s) ts a.bench a.device) (sym (plays_none s)) (counts_none a (armed_stop_in s));
       steady = λ steady. steady_none s;
-      tape = tape_none a.device.words s a.device.tape;
+      power = ap (λ (ts : List Step). on_at_end a.device.on ts) (sym (plays_none s));
+      tape = tape_none s a.device;
+      in_turn = refl;
       unfused = unfused;
     }
 
@@ -165,38 +167,54 @@ ends_cut f x y rest t e h =
 -- ---- plays
 
 -- a line that was played and written, and the play of the lines after it
-pub from_on : (f : Step → List ℕ) (s : State) (l : ℕ × DeckLine) (w : Option FailedWrite) (ls : List (ℕ × DeckLine)) (a b c : Bench) (x y z : Sunk) (r : Result (Unit {0}) WriteFault) → PlayedLine s l w (step s l w) a b → Writes x (f (step s l w)) y → PlaysFrom f (step s l w).after ls b y r c z → PlaysFrom f s (l ∷ ls) a x r c z
-from_on f s l w ls a b c x y z r did wrote h =
+pub from_on : (f : Step → List ℕ) (s : State) (l : ℕ × DeckLine) (w : Option FailedWrite) (ls : List (ℕ × DeckLine)) (a b c : Bench) (x y z : Sunk) (r : Result (Unit {0}) WriteFault) (old mid new : ℕ) → PlayedLine s l w (step s l w) a b → PlaySteps (step s l w ∷ []) old mid → Writes x (f (step s l w)) y
+    → CountsFrom f (step s l w).after ls b y r c z mid new → CountsFrom f s (l ∷ ls) a x r c z old new
+from_on f s l w ls a b c x y z r old mid new did steps wrote h =
+    let k = h.from in
+    let one = plays_on s l w k.lines k.worn in
     record {
-      lines = l ∷ h.lines;
-      rest = h.rest;
-      are = ap (λ (ks : List (ℕ × DeckLine)). l ∷ ks) h.are;
-      worn = w ∷ h.worn;
-      played = played_on s l w h.lines h.worn a b c did h.played;
-      text = subst (λ (ts : List Step). PlayEnds f x h.rest ts r z) (sym (plays_on s l w h.lines h.worn)) (ends_on f x y z h.rest (step s l w) _ r wrote h.text);
+      from =
+          record {
+            lines = l ∷ k.lines;
+            rest = k.rest;
+            are = ap (λ (ks : List (ℕ × DeckLine)). l ∷ ks) k.are;
+            worn = w ∷ k.worn;
+            played = played_on s l w k.lines k.worn a b c did k.played;
+            text = subst (λ (ts : List Step). PlayEnds f x k.rest ts r z) (sym one) (ends_on f x y z k.rest (step s l w) _ r wrote k.text);
+          };
+      steps = steps_as (step s l w ∷ plays (step s l w).after k.lines k.worn) (plays s (l ∷ k.lines) (w ∷ k.worn)) old new (sym one) (steps_then (step s l w ∷ []) (plays (step s l w).after k.lines k.worn) old mid new steps h.steps);
     }
 
 -- a line that was played, and whose text was not wholly written
-pub from_cut : (f : Step → List ℕ) (s : State) (l : ℕ × DeckLine) (w : Option FailedWrite) (ls : List (ℕ × DeckLine)) (a b : Bench) (x y : Sunk) (e : WriteFault) → PlayedLine s l w (step s l w) a b → StandsForState b.device.words (step s l w).after → IsUnfused b.bench → Fails x (f (step s l w)) y → PlaysFrom f s (l ∷ ls) a x (Err e) b y
-from_cut f s l w ls a b x y e did stands unfused failed =
-    let steps = plays_on s l w [] [] ∙ ap (λ (ts : List Step). step s l w ∷ ts) (plays_none (step s l w).after) in
+pub from_cut : (f : Step → List ℕ) (s : State) (l : ℕ × DeckLine) (w : Option FailedWrite) (ls : List (ℕ × DeckLine)) (a b : Bench) (x y : Sunk) (e : WriteFault) (old new : ℕ) → PlayedLine s l w (step s l w) a b → PlaySteps (step s l w ∷ []) old new → StandsForState b.device.words (step s l w).after → IsUnfused b.bench
+    → Fails x (f (step s l w)) y → CountsFrom f s (l ∷ ls) a x (Err e) b y old new
+from_cut f s l w ls a b x y e old new did steps stands unfused failed =
+    let all = plays_on s l w [] [] ∙ ap (λ (ts : List Step). step s l w ∷ ts) (plays_none (step s l w).after) in
     record {
-      lines = l ∷ [];
-      rest = ls;
-      are = refl;
-      worn = w ∷ [];
-      played = played_on s l w [] [] a b b did (played_none (step s l w).after b stands unfused);
-      text = subst (λ (ts : List Step). PlayEnds f x ls ts (Err e) y) (sym steps) (ends_cut f x y ls (step s l w) e failed);
+      from =
+          record {
+            lines = l ∷ [];
+            rest = ls;
+            are = refl;
+            worn = w ∷ [];
+            played = played_on s l w [] [] a b b did (played_none (step s l w).after b stands unfused);
+            text = subst (λ (ts : List Step). PlayEnds f x ls ts (Err e) y) (sym all) (ends_cut f x y ls (step s l w) e failed);
+          };
+      steps = steps_as (step s l w ∷ []) (plays s (l ∷ []) (w ∷ [])) old new (sym all) steps;
     }
 
 -- no line is left
-pub from_none : (f : Step → List ℕ) (s : State) (a : Bench) (x : Sunk) → StandsForState a.device.words s → IsUnfused a.bench → PlaysFrom f s [] a x (Ok tt) a x
-from_none f s a x stands unfused =
+pub from_none : (f : Step → List ℕ) (s : State) (a : Bench) (x : Sunk) (old : ℕ) → StandsForState a.device.words s → IsUnfused a.bench → CountsFrom f s [] a x (Ok tt) a x old old
+from_none f s a x old stands unfused =
     record {
-      lines = [];
-      rest = [];
-      are = refl;
-      worn = [];
-      played = played_none s a stands unfused;
-      text = (refl, subst (λ (ts : List Step). Grew x.taken x.taken (texts f ts)) (sym (plays_none s)) (grew_none x.taken));
+      from =
+          record {
+            lines = [];
+            rest = [];
+            are = refl;
+            worn = [];
+            played = played_none s a stands unfused;
+            text = (refl, subst (λ (ts : List Step). Grew x.taken x.taken (texts f ts)) (sym (plays_none s)) (grew_none x.taken));
+          };
+      steps = steps_as [] (plays s [] []) old old (sym (plays_none s)) (steps_none old);
     }

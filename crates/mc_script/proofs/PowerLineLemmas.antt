@@ -172,7 +172,7 @@ module _ {N : Type 0} (state : N → DeviceState) (bench : N → BenchState) (wr
         can_arm = subst (λ (y : Armed). CanArm y) (sym free) tt;
         unfused = did.unfused;
       } in
-      let stepped = went_stepped state bench wrote obeys burns fits p q s n 1 line.Power (power_result (power_moves w) w.base) [] [] [] [] (power_after w None) r (power_writes m) (power_moves w) at (worth s) refl did many (moves_power s n) then answers
+      let stepped = went_stepped state bench wrote obeys burns fits p q s n 1 line.Power (power_result (power_moves w) w.base) [] [] [] [] (power_after w None) r (power_writes m) (power_moves w) at (worth s) refl refl did many (moves_power s n) then answers
       (power_stands m s n image base) in
       (None, silently p q s n None None (Some r) misses stepped refl)
 

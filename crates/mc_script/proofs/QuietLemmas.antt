@@ -1,5 +1,5 @@
 -- Lines that make no device write.
-use Rattle.std.proofs.Common.{◌≡◌, ℕ, ◌≤◌, false, List, [], Option, Some, None, refl, sym, ◌∙◌, ap, subst, arith, append-nil}
+use Rattle.std.proofs.Common.{◌≡◌, ℕ, ◌≤◌, Bool, false, List, [], Option, Some, None, refl, sym, ◌∙◌, ap, subst, arith, append-nil}
 use Rattle.std.specs.Prelude.{option_map, length}
 use Rattle.mc_model_device.specs.Device.{DeviceState, BenchState, Entry, GrowsBy}
 use Rattle.mc_model_play.specs.DeckGrammar.{DeckLine}
@@ -20,7 +20,7 @@ use Rattle.mc_script.specs.declared.player.Power.{Power}
 use Rattle.mc_script.specs.declared.player.Power.TheVariants as power
 use Rattle.mc_script.specs.declared.player.Player.{Player}
 use Rattle.mc_script.specs.Players.{answer_value, armed_value, dump_value, device_of, CanArm, LiveIs, IsPlayerAt}
-use Rattle.mc_script.specs.Counting.{count_after_rises, when_poked, line_powers, line_pokes, line_cuts, line_fails, Arms, LineCounts}
+use Rattle.mc_script.specs.Counting.{count_after_rises, when_poked, line_powers, line_pokes, line_cuts, line_fails, on_unstopped, Arms, LineCounts}
 use Rattle.mc_script.specs.Arming.{armed_bench}
 use Rattle.mc_script.specs.Commands.{deck_line_of}
 use Rattle.mc_script.specs.Plays.{StepTape}
@@ -47,6 +47,11 @@ pub steady_none : (a : play.Armed) (l : DeckLine) (m : ℕ) → is_card_line l �
 steady_none Unarmed l m h = refl
 steady_none (ArmedCut k x) l m h = refl
 steady_none (ArmedFail k) l m h = rw h refl
+
+-- a line that is no power line leaves the power as it is
+pub same_power : (l : DeckLine) (on : Bool) → line_powers l ≡ 0 → on ≡ on_unstopped on l
+same_power line.Power on h = absurd (cc h)
+same_power _ on h = refl
 
 pub grows_none : (t : Option (List Entry)) → GrowsBy t [] t
 grows_none None = tt
@@ -78,6 +83,7 @@ module _ {N : Type 0} (state : N → DeviceState) (bench : N → BenchState) whe
         played = record {
           may = tt;
           counts = subst (λ (e : N). LineCounts (bench d) (state d) t (bench e) (state e)) (sym same) (counts_same (bench d) (state d) s n l result after powers pokes arms);
+          power = ap (λ (e : N). (state e).on) same ∙ same_power l (state d).on powers;
           steady = λ h. steady;
           tape = subst (λ (e : N). StepTape s (n, l) None t (state d) (state e)) (sym same)
               (record { entries = []; grows = grows_none (state d).tape; accounts = record { count = refl; each = tt; ends = refl }; worn = refl; left = sym words });

@@ -69,7 +69,7 @@ items_append : (ws vs : List Write) → write_items (ws ++ vs) ≡ write_items w
 items_append ws vs = map-append (λ (w : Write). Atomic w.words (Fixed w.name w.pieces)) ws vs
 
 -- the successor of a turn, by the turn's end
-end_ends : (f : Follows) (o : ModelOutcome) → end_of f ≡ Some o → f ≡ Ends o
+pub end_ends : (f : Follows) (o : ModelOutcome) → end_of f ≡ Some o → f ≡ Ends o
 end_ends (Continues ch) o e = absurd (cc e)
 end_ends (Ends p) o e = let same : p ≡ o = cc e in ap (λ (o : ModelOutcome). Ends o) same
 

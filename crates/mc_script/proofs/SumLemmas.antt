@@ -17,9 +17,11 @@ use Rattle.mc_script.specs.declared.summary.Counts.{Counts}
 use Rattle.mc_script.specs.Players.{answer_value, IsPlayerAt}
 use Rattle.mc_script.specs.Lines.{bench_of, LineDone}
 use Rattle.mc_script.specs.Plays.{Bench, Played}
+use Rattle.mc_script.specs.StepCounts.{CountsLine, PlaySteps}
 use Rattle.mc_script.specs.Sums.{Counted, result_list, DumpsLast, result_line, dump_text, dumps_text, Tallied}
 use Rattle.mc_script.proofs.PlayLemmas.{plays_on, plays_none, played_on, played_none}
 use Rattle.mc_script.proofs.LinedLemmas.{at_stands}
+use Rattle.mc_script.proofs.StepPlayLemmas.{step_counts, steps_none, steps_then, steps_as}
 
 -- ---- counts
 
@@ -158,49 +160,59 @@ summary_is s ls ws last = ap (λ (x : List ℕ). count_line (results (plays s ls
 module _ {N : Type 0} (state : N → DeviceState) (bench : N → BenchState) where
   -- a player at a state of a play, with the given lines left, and the counts so far: a play of these from here makes
   -- the play of all lines from the start
-  pub record Counting (s : State) (ls : List (ℕ × DeckLine)) (a : Bench) (left : List (ℕ × DeckLine)) (p : Player N) (c : Counts) (i : ℕ) : Type 0 where
+  pub record Counting (s : State) (ls : List (ℕ × DeckLine)) (a : Bench) (old : ℕ) (left : List (ℕ × DeckLine)) (p : Player N) (c : Counts) (i now : ℕ) : Type 0 where
     pub here : State
     pub at : IsPlayerAt state bench p here
     pub done : List LineResult
     pub counted : Counted c done
     pub few : length done ≤ i
-    pub rest : (ws : List (Option FailedWrite)) (b : Bench) → Played here left ws (bench_of state bench p) b
-        → (vs : List (Option FailedWrite)) × Played s ls vs a b × (results (plays s ls vs) ≡ done ++ results (plays here left ws)) × (last_state s (plays s ls vs) ≡ last_state here (plays here left ws))
+    pub rest : (ws : List (Option FailedWrite)) (b : Bench) (new : ℕ) → Played here left ws (bench_of state bench p) b → PlaySteps (plays here left ws) now new
+        → (vs : List (Option FailedWrite)) × Played s ls vs a b × PlaySteps (plays s ls vs) old new × (results (plays s ls vs) ≡ done ++ results (plays here left ws)) × (last_state s (plays s ls vs) ≡ last_state here (plays here left ws))
 
-  pub counting_start : (s : State) (ls : List (ℕ × DeckLine)) (p : Player N) (c : Counts) → IsPlayerAt state bench p s → Counted c [] → Counting s ls (bench_of state bench p) ls p c 0
-  counting_start s ls p c at counted = record { here = s; at = at; done = []; counted = counted; few = omega arith; rest = λ ws b h. (ws, h, refl, refl) }
+  pub counting_start : (s : State) (ls : List (ℕ × DeckLine)) (p : Player N) (c : Counts) (old : ℕ) → IsPlayerAt state bench p s → Counted c [] → Counting s ls (bench_of state bench p) old ls p c 0 old
+  counting_start s ls p c old at counted = record { here = s; at = at; done = []; counted = counted; few = omega arith; rest = λ ws b new h k. (ws, h, k, refl, refl) }
 
-  pub counting_end : (s : State) (ls : List (ℕ × DeckLine)) (a : Bench) (p : Player N) (c : Counts) (i : ℕ) → Counting s ls a [] p c i → Tallied state bench s ls a p c
-  counting_end s ls a p c i h =
-      let all = h.rest [] (bench_of state bench p) (played_none h.here (bench_of state bench p) (at_stands state bench p h.here h.at) h.at.unfused) in
+  pub counting_end : (s : State) (ls : List (ℕ × DeckLine)) (a : Bench) (p : Player N) (c : Counts) (i old now : ℕ) → Counting s ls a old [] p c i now → Tallied state bench s ls a p c old now
+  counting_end s ls a p c i old now h =
       let none = plays_none h.here in
-      let are : results (plays s ls all.0) ≡ h.done = all.2 ∙ ap (λ (ts : List Step). h.done ++ results ts) none ∙ append-nil h.done in
-      let end : last_state s (plays s ls all.0) ≡ h.here = all.3 ∙ ap (λ (ts : List Step). last_state h.here ts) none in
-      record { worn = all.0; played = all.1; at = subst (λ (u : State). IsPlayerAt state bench p u) (sym end) h.at; counted = subst (λ (rs : List LineResult). Counted c rs) (sym are) h.counted }
+      let all = h.rest [] (bench_of state bench p) now (played_none h.here (bench_of state bench p) (at_stands state bench p h.here h.at) h.at.unfused) (steps_as [] (plays h.here [] []) now now (sym none) (steps_none now)) in
+      let are : results (plays s ls all.0) ≡ h.done = all.3 ∙ ap (λ (ts : List Step). h.done ++ results ts) none ∙ append-nil h.done in
+      let end : last_state s (plays s ls all.0) ≡ h.here = all.4 ∙ ap (λ (ts : List Step). last_state h.here ts) none in
+      record {
+        worn = all.0;
+        played = all.1;
+        at = subst (λ (u : State). IsPlayerAt state bench p u) (sym end) h.at;
+        counted = subst (λ (rs : List LineResult). Counted c rs) (sym are) h.counted;
+        steps = all.2;
+      }
 
   few_on : (o : Option LineResult) (rs : List LineResult) (i : ℕ) → length rs ≤ i → length (rs ++ result_list o) ≤ i + 1
   few_on None rs i h = let e : length (rs ++ []) ≡ length rs = ap length (append-nil rs) in omega (arith, h, e)
   few_on (Some r) rs i h = let e : length (rs ++ r ∷ []) ≡ length rs + 1 = length-append rs (r ∷ []) in omega (arith, h, e)
 
-  pub counting_on : {R : Type 0} (reported : R → List Turn → R → Type 0) (s : State) (ls : List (ℕ × DeckLine)) (a : Bench) (left : List (ℕ × DeckLine)) (n : ℕ) (l : DeckLine) (p q : Player N) (c d : Counts) (i : ℕ) (before after : R) (answer : Option Answer)
-      → (h : Counting s ls a ((n, l) ∷ left) p c i) → LineDone state bench reported p l before after answer q → Counted d (h.done ++ result_list (option_map (answer_value state q) answer)) → Counting s ls a left q d (i + 1)
-  counting_on reported s ls a left n l p q c d i before after answer h done counted =
+  pub counting_on : {R : Type 0} (reported : R → List Turn → R → Type 0) (s : State) (ls : List (ℕ × DeckLine)) (a : Bench) (left : List (ℕ × DeckLine)) (n : ℕ) (l : DeckLine) (p q : Player N) (c d : Counts) (i : ℕ) (before after : R) (answer : Option Answer) (old now new : ℕ)
+      → (h : Counting s ls a old ((n, l) ∷ left) p c i now) → LineDone state bench reported p l before after answer q → CountsLine state bench p l answer now new → Counted d (h.done ++ result_list (option_map (answer_value state q) answer))
+      → Counting s ls a old left q d (i + 1) new
+  counting_on reported s ls a left n l p q c d i before after answer old now new h done counts counted =
       let line = done h.here n h.at in
       let w = line.0 in
       let t = step h.here (n, l) w in
       let end = line.1.stepped in
+      let steps = step_counts state q h.here (n, l) w answer now new end.answers (counts h.here h.at) in
       record {
         here = t.after;
         at = end.at;
         done = h.done ++ result_list t.result;
         counted = subst (λ (o : Option LineResult). Counted d (h.done ++ result_list o)) end.answers counted;
         few = few_on t.result h.done i h.few;
-        rest = λ ws b played.
-            let all = h.rest (w ∷ ws) b (played_on h.here (n, l) w left ws (bench_of state bench p) (bench_of state bench q) b end.played played) in
-            let one = plays_on h.here (n, l) w left ws in (
+        rest = λ ws b last played rest.
+            let one = plays_on h.here (n, l) w left ws in
+            let both = steps_as (t ∷ plays t.after left ws) (plays h.here ((n, l) ∷ left) (w ∷ ws)) now last (sym one) (steps_then (t ∷ []) (plays t.after left ws) now new last steps rest) in
+            let all = h.rest (w ∷ ws) b last (played_on h.here (n, l) w left ws (bench_of state bench p) (bench_of state bench q) b end.played played) both in (
               all.0,
               all.1,
-              all.2 ∙ ap (λ (ts : List Step). h.done ++ results ts) one ∙ ap (λ (x : List LineResult). h.done ++ x) (results_cons t (plays t.after left ws)) ∙ sym (append_assoc h.done (result_list t.result) (results (plays t.after left ws))),
-              all.3 ∙ ap (λ (ts : List Step). last_state h.here ts) one,
+              all.2,
+              all.3 ∙ ap (λ (ts : List Step). h.done ++ results ts) one ∙ ap (λ (x : List LineResult). h.done ++ x) (results_cons t (plays t.after left ws)) ∙ sym (append_assoc h.done (result_list t.result) (results (plays t.after left ws))),
+              all.4 ∙ ap (λ (ts : List Step). last_state h.here ts) one,
             );
       }

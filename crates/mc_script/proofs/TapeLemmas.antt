@@ -2,13 +2,13 @@
 use Rattle.std.proofs.Common.{◌≡◌, ℕ, zero, suc, ◌+◌, ◌≤◌, Bool, true, false, cond, nat_le, List, [], ◌∷◌, ◌++◌, length, Option, Some, None, refl, arith, sym, ap, subst, ◌∙◌, append_assoc}
 use Rattle.std.proofs.lemmas.Bool.Decides.{nat_tests}
 use Rattle.mc_model_device.specs.declared.device.Stop.{Stop}
-use Rattle.mc_model_device.specs.Device.{Entry, GrowsBy}
+use Rattle.mc_model_device.specs.Device.{DeviceState, Entry, GrowsBy}
 use Rattle.mc_model_card.specs.Items.{StopAt, moves}
 use Rattle.mc_model_play.specs.DeckGrammar.{DeckLine}
 use Rattle.mc_model_play.specs.DeckGrammar as line
 use Rattle.mc_model_play.specs.Play.{Armed, Unarmed, ArmedCut, ArmedFail, Live, Running, Unpowered, Muted, Warm, State, BeforePower, AfterPower, FailedWrite, Step, step, power_part, hit_of, moves_with, power_moves, play_at_power, line_command, card_line, moves_of, MayHit, failures_of_tape, Accounts, AccountsForLine, words_left, chunk, with_entry, ends_tape, failures_in, EndsAs, kind_of}
 use Rattle.mc_model_device.specs.PowerUp.{Base, OnCard, AtFault}
-use Rattle.mc_script.specs.Plays.{TapeReports, TapeIs}
+use Rattle.mc_script.specs.Plays.{StepTape, PlayTape, words_after}
 
 -- ---- the number of entries of a line
 
@@ -134,19 +134,28 @@ accounts_by_chunk m n s l ls w ws t es rest is left line h =
     subst (λ (c : List Entry × List Entry). AccountsForLine m s l (step s l w) c.0 × Accounts (words_left m c.0 (step s l w).after) (step s l w).after ls ws c.1) (sym is)
     (line, subst (λ (k : List (List ℕ)). Accounts k (step s l w).after ls ws rest) (sym left) h)
 
--- a recorded tape of a line and of the lines after it
-pub reports_on : (m n : List (List ℕ)) (s : State) (l : ℕ × DeckLine) (ls : List (ℕ × DeckLine)) (w : Option FailedWrite) (ws : List (Option FailedWrite)) (es rest : List Entry) → MayHit s l w → AccountsForLine m s l (step s l w) es → failures_in 0 es ≡ w → words_left m es (step s l w).after ≡ n → TapeReports n (step s l w).after ls ws rest → TapeReports m s (l ∷ ls) (w ∷ ws) (es ++ rest)
-reports_on m n s l ls w ws es rest may line worn left reports =
-    let is = line_chunk m s l w es rest may line in
-    record {
-      worn = failure_by_chunk s l ls w ws (es ++ rest) es rest is worn reports.worn;
-      accounts = accounts_by_chunk m n s l ls w ws (es ++ rest) es rest is left line reports.accounts;
-    }
+-- the words that a tape leaves, by the entries of its first line
+left_by_chunk : (m n k : List (List ℕ)) (s : State) (l : ℕ × DeckLine) (ls : List (ℕ × DeckLine)) (w : Option FailedWrite) (ws : List (Option FailedWrite)) (t es rest : List Entry) → chunk (moves_of s l) t ≡ (es, rest) → words_left m es (step s l w).after ≡ n → words_after n (step s l w).after ls ws rest ≡ k → words_after m s (l ∷ ls) (w ∷ ws) t ≡ k
+left_by_chunk m n k s l ls w ws t es rest is left h =
+    ap (λ (c : List Entry × List Entry). words_after (words_left m c.0 (step s l w).after) (step s l w).after ls ws c.1) is ∙ ap (λ (x : List (List ℕ)). words_after x (step s l w).after ls ws rest) left ∙ h
 
--- the tape of a line and of the lines after it, recorded or not
-pub tape_on : (m n : List (List ℕ)) (s : State) (l : ℕ × DeckLine) (ls : List (ℕ × DeckLine)) (w : Option FailedWrite) (ws : List (Option FailedWrite)) (es : List Entry) (a b c : Option (List Entry)) → MayHit s l w → AccountsForLine m s l (step s l w) es → failures_in 0 es ≡ w → words_left m es (step s l w).after ≡ n → GrowsBy a es b → TapeIs n (step s l w).after ls ws b c → TapeIs m s (l ∷ ls) (w ∷ ws) a c
-tape_on m n s l ls w ws es a b None may line worn left grows tape = tt
-tape_on m n s l ls w ws es a None (Some z) may line worn left grows tape = absurd tape
-tape_on m n s l ls w ws es None (Some y) (Some z) may line worn left grows tape = absurd grows
-tape_on m n s l ls w ws es (Some x) (Some y) (Some z) may line worn left grows tape =
-    (es ++ tape.0, tape.1 ∙ ap (λ (t : List Entry). t ++ tape.0) grows ∙ append_assoc x es tape.0, reports_on m n s l ls w ws es tape.0 may line worn left tape.2)
+-- a tape that grew twice
+grows_then : (a b c : Option (List Entry)) (es fs : List Entry) → GrowsBy a es b → GrowsBy b fs c → GrowsBy a (es ++ fs) c
+grows_then a b None es fs g h = tt
+grows_then a None (Some z) es fs g h = absurd h
+grows_then None (Some y) (Some z) es fs g h = absurd g
+grows_then (Some x) (Some y) (Some z) es fs g h = h ∙ ap (λ (t : List Entry). t ++ fs) g ∙ append_assoc x es fs
+
+-- the tape of a line and of the lines after it
+pub tape_on : (s : State) (l : ℕ × DeckLine) (ls : List (ℕ × DeckLine)) (w : Option FailedWrite) (ws : List (Option FailedWrite)) (d m e : DeviceState) → MayHit s l w → StepTape s l w (step s l w) d m → PlayTape (step s l w).after ls ws m e → PlayTape s (l ∷ ls) (w ∷ ws) d e
+tape_on s l ls w ws d m e may line rest =
+    let es = line.entries in
+    let t = es ++ rest.entries in
+    let is = line_chunk d.words s l w es rest.entries may line.accounts in
+    record {
+      entries = t;
+      grows = grows_then d.tape m.tape e.tape es rest.entries line.grows rest.grows;
+      worn = failure_by_chunk s l ls w ws t es rest.entries is line.worn rest.worn;
+      accounts = accounts_by_chunk d.words m.words s l ls w ws t es rest.entries is line.left line.accounts rest.accounts;
+      left = left_by_chunk d.words m.words e.words s l ls w ws t es rest.entries is line.left rest.left;
+    }

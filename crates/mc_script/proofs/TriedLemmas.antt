@@ -17,7 +17,7 @@ use Rattle.mc_script.specs.declared.answer.Answer.{Answer}
 use Rattle.mc_script.specs.declared.armed.Armed.{Armed}
 use Rattle.mc_script.specs.declared.player.Player.{Player}
 use Rattle.mc_script.specs.Players.{answer_value, armed_value, cut_place, device_of, CanArm, IsUnfused, IsPlayerAt}
-use Rattle.mc_script.specs.Counting.{count_after_rises, when_poked, cuts_due, fails_due, line_powers, line_pokes, line_cuts, line_fails, count_of_cuts, failure_by, LineCounts}
+use Rattle.mc_script.specs.Counting.{count_after_rises, when_poked, cuts_due, fails_due, line_powers, line_pokes, line_cuts, line_fails, count_of_cuts, failure_by, on_after_stop, on_unstopped, LineCounts}
 use Rattle.mc_script.specs.Arming.{armed_bench}
 use Rattle.mc_script.specs.Lines.{Stepped}
 use Rattle.mc_script.specs.Runs.{StoppedAtWrite}
@@ -124,6 +124,7 @@ module _ {N : Type 0} (state : N → DeviceState) (bench : N → BenchState) (wr
   -- the result of writes that were all made: no stop hits the line
   pub record Went (d f : N) (a : Armed) (n : ℕ) (ws : List (ℕ × List ℕ)) : Type 0 where
     pub words : (state f).words ≡ image_with (state d).words ws
+    pub on : (state f).on ≡ true
     pub tape : GrowsBy (state d).tape (done_entries ws) (state f).tape
     pub cuts : (state f).cuts ≡ (state d).cuts
     pub faults : (state f).faults ≡ (state d).faults
@@ -144,6 +145,7 @@ module _ {N : Type 0} (state : N → DeviceState) (bench : N → BenchState) (wr
       let same : SameCalls (armed_bench a b) (bench e) = subst (λ (x : BenchState). SameCalls x (bench e)) handed.bench (burnt_calls (bench u) (bench e) (length ws) near) in
       record {
         words = ap (λ (x : DeviceState). x.words) freed.state ∙ done.words ∙ ap (λ (x : List (List ℕ)). image_with x ws) handed.words;
+        on = ap (λ (x : DeviceState). x.on) freed.state ∙ done.power;
         tape = subst (λ (x : DeviceState). GrowsBy (state d).tape (done_entries ws) x.tape) (sym freed.state) (subst (λ (x : Option (List Entry)). GrowsBy x (done_entries ws) (state e).tape) handed.tape done.tape);
         cuts = ap (λ (x : DeviceState). x.cuts) freed.state ∙ done.cuts ∙ handed.cuts;
         faults = ap (λ (x : DeviceState). x.faults) freed.state ∙ done.faults ∙ handed.faults;
@@ -155,10 +157,10 @@ module _ {N : Type 0} (state : N → DeviceState) (bench : N → BenchState) (wr
 
   -- the line that made them, with the step that its play takes
   pub went_stepped : (p q : Player N) (s : State) (n np : ℕ) (l : DeckLine) (result : LineResult) (items whole : List Item) (pairs : List (List ℕ × List ℕ)) (turns : List Turn) (w : Warm) (r : Answer)
-      (ws : List (ℕ × List ℕ)) (m : ℕ) → IsPlayerAt state bench p s → Worth s l np → w.armed ≡ Unarmed → Went (device_of p) (device_of q) p.armed np ws → length ws ≡ m → moves_of s (n, l) ≡ m → IsPlayerAt state bench q (AfterPower w)
+      (ws : List (ℕ × List ℕ)) (m : ℕ) → IsPlayerAt state bench p s → Worth s l np → on_unstopped (state (device_of p)).on l ≡ true → w.armed ≡ Unarmed → Went (device_of p) (device_of q) p.armed np ws → length ws ≡ m → moves_of s (n, l) ≡ m → IsPlayerAt state bench q (AfterPower w)
       → answer_value state q r ≡ result → StopsStand (state (device_of p)).words s (n, l) 0 ws
       → Stepped state bench p s (n, l) None (stopped_step n l s result items whole None m pairs turns w) (Some r) q
-  went_stepped p q s n np l result items whole pairs turns w r ws m at worth free did number moves then answers stands =
+  went_stepped p q s n np l result items whole pairs turns w r ws m at worth powered free did number moves then answers stands =
       let d = device_of p in
       let f = device_of q in
       record {
@@ -167,6 +169,7 @@ module _ {N : Type 0} (state : N → DeviceState) (bench : N → BenchState) (wr
         played = record {
           may = tt;
           counts = line_counts n l s result items whole None m pairs turns w np p.armed (bench d) (bench f) (state d) (state f) worth at.armed free did.calls did.cuts did.faults;
+          power = did.on ∙ sym powered;
           steady = λ h. subst (λ (i : ℕ). None ≡ play.steady_at (armed_stop_in s) l i) (number ∙ sym moves) (subst (λ (x : play.Armed). None ≡ play.steady_at x l (length ws)) at.armed (did.missed.steady l));
           tape = record {
             entries = done_entries ws;
@@ -186,6 +189,7 @@ module _ {N : Type 0} (state : N → DeviceState) (bench : N → BenchState) (wr
     pub high : k ≤ length ws
     pub size : length x ≡ 8
     pub words : (state f).words ≡ image_after_stop (state d).words ws k x
+    pub on : (state f).on ≡ on_after_stop s
     pub tape : GrowsBy (state d).tape (torn_entries ws k x s) (state f).tape
     pub raises : Raises s (state d) (state f)
     pub calls : CallsOf (called n (bench d)) 0 (armed_value a) (bench f)
@@ -213,6 +217,7 @@ module _ {N : Type 0} (state : N → DeviceState) (bench : N → BenchState) (wr
           high = stop.high;
           size = h.size;
           words = ap (λ (y : DeviceState). y.words) freed.state ∙ h.words ∙ ap (λ (y : List (List ℕ)). image_after_stop y ws k x) handed.words;
+          on = ap (λ (y : DeviceState). y.on) freed.state ∙ h.on;
           tape = subst (λ (y : DeviceState). GrowsBy (state d).tape (torn_entries ws k x s) y.tape) (sym freed.state) (subst (λ (y : Option (List Entry)). GrowsBy y (torn_entries ws k x s) (state e).tape) handed.tape h.tape);
           raises = raises_over s (state d) (state u) (state e) (state f) handed.cuts handed.faults freed.state h.raises;
           calls = calls_are (bench d) (bench e) (bench f) n a same freed.bench;
@@ -255,6 +260,7 @@ module _ {N : Type 0} (state : N → DeviceState) (bench : N → BenchState) (wr
         played = record {
           may = may_hit how s n l k x worth.card did.low (subst (λ (i : ℕ). k ≤ i) (sym moves) high) by.first;
           counts = line_counts n l s result items whole (Some t) k pairs turns w np p.armed (bench d) (bench f) (state d) (state f) worth at.armed free did.calls rose.0 rose.1;
+          power = did.on;
           steady = λ h. subst (λ (i : ℕ). failure_entry k x (Some how) ≡ play.steady_at (armed_stop_in s) l i) (sym moves) (by.steady l worth.card h);
           tape = record {
             entries = torn_entries ws k x how;

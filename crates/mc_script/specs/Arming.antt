@@ -1,11 +1,13 @@
 -- An armed stop that is passed to a bench.
-use Rattle.std.specs.Prelude.{Some}
+use Rattle.std.specs.Prelude.{Bool, true, false, Option, Some}
 use Rattle.mc_model_device.specs.declared.device.Stop.{Stop}
 use Rattle.mc_model_device.specs.declared.device.Stop.TheVariants.{Off, Worn}
 use Rattle.mc_model_device.specs.Bytes.{zeros}
 use Rattle.mc_model_device.specs.Device.{BenchState, next_count}
+use Rattle.mc_model_play.specs.DeckGrammar.{DeckLine}
 use Rattle.mc_store.specs.declared.power.Up.{Up}
 use Rattle.mc_store.specs.declared.power.Up.TheVariants as up
+use Rattle.mc_script.specs.Counting.{on_unstopped}
 use Rattle.mc_script.specs.Players.{cut_place}
 use Rattle.mc_script.specs.declared.answer.Answer.{Answer}
 use Rattle.mc_script.specs.declared.answer.Answer.TheVariants as answer
@@ -29,6 +31,13 @@ power_after_stop Worn = power.Mute
 abbrev pub answer_after_stop : Stop → Armed → Answer
 answer_after_stop Off a = answer.OffAt (cut_place a)
 answer_after_stop Worn a = answer.Worn
+
+-- whether the device has power after a line, by the line's answer: a cut takes it, a failed write does not, and else a
+-- power line turns it on
+abbrev pub on_after_answer : Bool → DeckLine → Option Answer → Bool
+on_after_answer on l (Some (answer.OffAt k)) = false
+on_after_answer on l (Some answer.Worn) = true
+on_after_answer on l _ = on_unstopped on l
 
 -- the power after a power line that found no card
 abbrev pub power_after_failure : Up → Power

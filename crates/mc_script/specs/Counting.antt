@@ -1,5 +1,5 @@
--- The number of calls that a play makes of its bench, and how its counts of stops rise.
-use Rattle.std.specs.Prelude.{◌≡◌, ℕ, zero, suc, ◌+◌, ◌≤◌, cond, nat_lt, List, [], ◌∷◌, length, Option, Some, None}
+-- The number of calls that a play makes of its bench, whether it leaves power on, and how its counts of stops rise.
+use Rattle.std.specs.Prelude.{◌≡◌, ℕ, zero, suc, ◌+◌, ◌≤◌, Bool, true, false, cond, nat_lt, List, [], ◌∷◌, length, Option, Some, None}
 use Rattle.mc_model_device.specs.declared.device.Stop.{Stop}
 use Rattle.mc_model_device.specs.declared.device.Stop.TheVariants as stop
 use Rattle.mc_model_device.specs.Device.{DeviceState, BenchState, next_count}
@@ -73,6 +73,28 @@ failure_kind stop.Worn = 1
 abbrev pub failure_by : Option StopAt → ℕ
 failure_by None = 0
 failure_by (Some t) = failure_kind t.kind
+
+-- ---- power
+
+-- whether power is on after a stop: a cut takes it, and a failed write does not
+abbrev pub on_after_stop : Stop → Bool
+on_after_stop stop.Off = false
+on_after_stop stop.Worn = true
+
+-- whether power is on after a line that no stop hit: a power line turns it on, and no other line changes it
+abbrev pub on_unstopped : Bool → DeckLine → Bool
+on_unstopped on line.Power = true
+on_unstopped on _ = on
+
+-- whether power is on after a line
+abbrev pub on_after : Bool → DeckLine → Option StopAt → Bool
+on_after on l None = on_unstopped on l
+on_after on l (Some t) = on_after_stop t.kind
+
+-- whether power is on after lines that were played
+abbrev pub on_at_end : Bool → List Step → Bool
+on_at_end on [] = on
+on_at_end on (t ∷ ts) = on_at_end (on_after on t.line t.stop) ts
 
 -- ---- the counts
 

@@ -12,4 +12,5 @@ pub mod Arming
 pub mod Commands
 pub mod Plays
 pub mod Lines
+pub mod StepCounts
 pub mod Sums

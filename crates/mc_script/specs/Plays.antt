@@ -1,17 +1,17 @@
 -- A deck played on a device from the words that it holds: its text, the words and counts that it leaves, and the failed
 -- writes that account for all of it.
-use Rattle.std.specs.Prelude.{◌≡◌, ℕ, ◌<◌, true, false, List, [], ◌∷◌, ◌++◌, length, Option, Some, None, Result, Ok, Err}
+use Rattle.std.specs.Prelude.{◌≡◌, ℕ, ◌<◌, true, false, List, [], ◌∷◌, ◌++◌, length, drop, Option, Some, None, Result, Ok, Err}
 use Rattle.mc_model_device.specs.Counts.{Rose}
 use Rattle.mc_model_device.specs.Device.{DeviceState, BenchState, Entry, GrowsBy}
 use Rattle.mc_model_play.specs.DeckGrammar.{DeckLine}
-use Rattle.mc_model_play.specs.Play.{State, FailedWrite, Step, armed_stop_in, plays, start, last_state, Possible, StandsForState, steady_failures, failures_of_tape, Accounts, MayHit, moves_of, steady_at, failures_in, words_left, AccountsForLine}
+use Rattle.mc_model_play.specs.Play.{State, FailedWrite, Step, armed_stop_in, step, plays, start, first_failure, last_state, Possible, StandsForState, steady_failures, chunk, failures_of_tape, Accounts, MayHit, moves_of, steady_at, failures_in, words_left, AccountsForLine}
 use Rattle.mc_model_play.specs.Laws.{HoldsOf}
 use Rattle.mc_model_play.specs.ReadyAgain.{AllFitJournal, ReadyAgain}
 pub use Rattle.mc_model_play.specs.Transcript.{plain_text, texts}
 pub use Rattle.mc_model_play.specs.TraceText.{traced_text}
 use Rattle.mc_base.specs.Streams.{Grew}
 use Rattle.mc_base.specs.declared.refusals.WriteFault.{WriteFault}
-use Rattle.mc_script.specs.Counting.{LineCounts, PlayCounts}
+use Rattle.mc_script.specs.Counting.{on_after, on_at_end, LineCounts, PlayCounts}
 use Rattle.mc_script.specs.Players.{IsUnfused}
 use Rattle.mc_text.specs.Texts.{Sunk, Puts}
 
@@ -31,34 +31,54 @@ pub record StepTape (s : State) (l : ℕ × DeckLine) (w : Option FailedWrite) (
   pub worn : failures_in 0 entries ≡ w
   pub left : words_left d.words entries t.after ≡ e.words
 
--- A line was played on a bench as this step, with this failed write, if it had one.
+-- A line was played on a bench as this step, with this failed write, if it had one: the calls of the bench, the power
+-- and the words after it are those of the line.
 pub record PlayedLine (s : State) (l : ℕ × DeckLine) (w : Option FailedWrite) (t : Step) (a b : Bench) : Type 0 where
   pub may : MayHit s l w
   pub counts : LineCounts a.bench a.device t b.bench b.device
+  pub power : b.device.on ≡ on_after a.device.on t.line t.stop
   pub steady : a.bench.steady ≡ true → w ≡ steady_at (armed_stop_in s) l.1 (moves_of s l)
   pub tape : StepTape s l w t a.device b.device
 
 -- ---- lines that were played
 
--- the tape of lines, if it is recorded: its new entries account for each of them, and record the failed writes
-pub record TapeReports (m : List (List ℕ)) (s : State) (ls : List (ℕ × DeckLine)) (ws : List (Option FailedWrite)) (entries : List Entry) : Type 0 where
+-- the words after lines that were played: those of the play after a line before the first power line, and from there on
+-- the words before a line with the line's entries laid over them
+abbrev pub words_after : List (List ℕ) → State → List (ℕ × DeckLine) → List (Option FailedWrite) → List Entry → List (List ℕ)
+words_after m s [] ws t = m
+words_after m s (l ∷ ls) ws t =
+    let u = step s l (first_failure ws) in
+    let c = chunk (moves_of s l) t in
+    words_after (words_left m c.0 u.after) u.after ls (drop 1 ws) c.1
+
+-- the tape of lines: its entries account for each of them, record the failed writes, and leave the words, whether the
+-- device records them or not
+pub record PlayTape (s : State) (ls : List (ℕ × DeckLine)) (ws : List (Option FailedWrite)) (d e : DeviceState) : Type 0 where
+  pub entries : List Entry
+  pub grows : GrowsBy d.tape entries e.tape
   pub worn : ws ≡ failures_of_tape s ls entries
-  pub accounts : Accounts m s ls ws entries
+  pub accounts : Accounts d.words s ls ws entries
+  pub left : words_after d.words s ls ws entries ≡ e.words
 
--- if the tape is recorded at the end, it was recorded at the start, and its new entries record the lines
-abbrev pub TapeIs : List (List ℕ) → State → List (ℕ × DeckLine) → List (Option FailedWrite) → Option (List Entry) → Option (List Entry) → Type 0
-TapeIs m s ls ws old None = Unit {0}
-TapeIs m s ls ws None (Some new) = ⊥
-TapeIs m s ls ws (Some old) (Some new) = (entries : List Entry) × (new ≡ old ++ entries) × TapeReports m s ls ws entries
+-- lines that were played one after the other, each on the bench as the line before it left it
+abbrev pub PlayedInTurn : State → List (ℕ × DeckLine) → List (Option FailedWrite) → Bench → Bench → Type 0
+PlayedInTurn s [] ws a b = a ≡ b
+PlayedInTurn s (l ∷ ls) ws a b =
+    let w = first_failure ws in
+    let t = step s l w in
+    (m : Bench) × PlayedLine s l w t a m × PlayedInTurn t.after ls (drop 1 ws) m b
 
--- Lines played from a state with the given failed writes: one list of them accounts for the words, the counts and the
--- tape together. A stop that was armed and hit no line remains with the player, and no fuse is left to the device.
+-- Lines played from a state with the given failed writes: one list of them accounts for the words, the counts, the
+-- power and the tape together, line by line and in sum. A stop that was armed and hit no line remains with the player,
+-- and no fuse is left to the device.
 pub record Played (s : State) (ls : List (ℕ × DeckLine)) (ws : List (Option FailedWrite)) (a b : Bench) : Type 0 where
   pub possible : Possible s ls ws
   pub words : StandsForState b.device.words (last_state s (plays s ls ws))
   pub counts : PlayCounts a.bench a.device (armed_stop_in s) (plays s ls ws) b.bench b.device
   pub steady : a.bench.steady ≡ true → ws ≡ steady_failures s ls
-  pub tape : TapeIs a.device.words s ls ws a.device.tape b.device.tape
+  pub power : b.device.on ≡ on_at_end a.device.on (plays s ls ws)
+  pub tape : PlayTape s ls ws a.device b.device
+  pub in_turn : PlayedInTurn s ls ws a b
   pub unfused : IsUnfused b.bench
 
 -- Lines were played from a state with the given failed writes, up to another state: a play of more lines from there is,

@@ -1,10 +1,11 @@
 // The lines that are commands to a card.
-ghost use Rattle.std.specs.Prelude.{◌≡◌, ◌≤◌, ◌++◌, ◌∷◌, length};
+ghost use Rattle.std.specs.Prelude.{◌≡◌, ◌≤◌, ◌++◌, ◌∷◌, length, is_err};
 ghost use Rattle.mc_model_play.specs.Play.{line_command};
 ghost use Rattle.mc_deck.specs.Lines.{GoodLine};
 ghost use Rattle.mc_card.specs.Parts.{device_in, card_in, session_state_in, IsReadyCard};
 ghost use Rattle.mc_script.specs.Commands.{deck_line_of};
 ghost use Rattle.mc_script.specs.Runs.{RanAndReported};
+ghost use Rattle.mc_script.specs.StepCounts.{instructions, line_search, StepsOf};
 ghost use Rattle.mc_card.specs.Ends.{outcome_or_stop};
 
 use crate::loading::{LoadCommands, send};
@@ -57,6 +58,10 @@ pub fn run_line<N: Nvm, R: Runner, L: Ledger>(
     ensures done { RanAndReported N.state N.wrote R.reported card.old
         (line_command (card_in N.state card.old) (session_state_in N.state card.old) budget (deck_line_of command.now))
         (outcome_or_stop result into.new) card.new runner.old runner.new }
+    ensures steps { StepsOf
+        (instructions (line_command (card_in N.state card.old) (session_state_in N.state card.old) budget
+        (deck_line_of command.now)).turns)
+        (line_search (card_in N.state card.old) (deck_line_of command.now)) (is_err result) steps.old steps.new }
     ensures keeps_device { N.same (device_in card.old) (device_in card.new) }
 {
     match command {

@@ -3,6 +3,7 @@ ghost use Rattle.std.specs.Prelude.{◌≡◌};
 ghost use Rattle.mc_model_play.specs.Play.{State};
 ghost use Rattle.mc_script.specs.Players.{device_of, IsPlayerAt, IsPlaying};
 ghost use Rattle.mc_script.specs.Lines.{DeckPlayed};
+ghost use Rattle.mc_script.specs.StepCounts.{CountsPlayed};
 
 use crate::player::Player;
 use crate::runner::Silent;
@@ -17,6 +18,8 @@ impl<N: Bench> Player<N> {
         requires playing { IsPlaying N.state N.bench self.old }
         ensures done { (s : State) → IsPlayerAt N.state N.bench self.old s
             → DeckPlayed N.state N.bench self.old s deck.now self.new }
+        ensures steps { (s : State) → IsPlayerAt N.state N.bench self.old s
+            → CountsPlayed N.state N.bench self.old s deck.now self.new steps.old steps.new }
         ensures keeps_device { N.same (device_of self.old) (device_of self.new) }
     {
         for i in 0..deck.len() {

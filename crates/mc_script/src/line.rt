@@ -2,7 +2,10 @@
 ghost use Rattle.std.specs.Prelude.{◌≡◌};
 ghost use Rattle.mc_deck.specs.Lines.{line_of, GoodLine};
 ghost use Rattle.mc_script.specs.Players.{device_of, IsPlaying};
+ghost use Rattle.mc_script.specs.Counting.{count_after_rises, line_powers};
+ghost use Rattle.mc_script.specs.Arming.{on_after_answer};
 ghost use Rattle.mc_script.specs.Lines.{LineDone};
+ghost use Rattle.mc_script.specs.StepCounts.{CountsLine};
 
 use crate::answer::Answer;
 use crate::commands::CardLine;
@@ -17,7 +20,8 @@ impl<N: Bench> Player<N> {
     /// Plays one line of a deck, and returns its result, or `None` if it has none.
     ///
     /// A line to the card meets the stop that is armed, and `runner` records the turns that the line shows.
-    /// The result is that of the player as the line leaves it.
+    /// The result is that of the player as the line leaves it. Each executed instruction is one step, and the search of
+    /// an OPEN for room takes at most two steps more than the card has gaps.
     pub fn line<R: Runner, L: Ledger>(
         &mut self,
         line: &Line<'_>,
@@ -26,8 +30,19 @@ impl<N: Bench> Player<N> {
     ) -> Option<Answer>
         requires playing { IsPlaying N.state N.bench self.old }
         requires good { GoodLine (line_of line.now) }
+        // The line is the step of the play from each state that the player is at: its words, its power, its calls of
+        // the bench, its tape, its turns and its result.
         ensures done { LineDone N.state N.bench R.reported self.old
             (line_of line.now) runner.old runner.new result self.new }
+        // A `power` line turns the power of the device on once, and no other line does.
+        ensures powers { (N.bench (device_of self.new)).powers
+            ≡ count_after_rises (N.bench (device_of self.old)).powers (line_powers (line_of line.now)) }
+        // A cut takes the power; else it is on after a `power` line, and after any other line as it was.
+        ensures power { (N.state (device_of self.new)).on
+            ≡ on_after_answer (N.state (device_of self.old)).on (line_of line.now) result }
+        // Its steps are those of its instructions and of its search for room; a line that a stop hits makes no more.
+        ensures steps { CountsLine N.state N.bench self.old (line_of line.now) result steps.old steps.new }
+        // The device is the same one.
         ensures keeps_device { N.same (device_of self.old) (device_of self.new) }
     {
         match line {

@@ -1,6 +1,6 @@
 // The commands of a load, one after the other.
 ghost use Rattle.std.specs.List.{AllByRecursion};
-ghost use Rattle.std.specs.Prelude.{◌≡◌, ◌+◌, ◌++◌, ◌∷◌, [], ◌≤◌, length, IfSome, IfNone};
+ghost use Rattle.std.specs.Prelude.{◌≡◌, ◌+◌, ◌++◌, ◌∷◌, [], ◌≤◌, length, is_err, IfSome, IfNone};
 ghost use Rattle.mc_model_device.specs.Limits.{most_code};
 ghost use Rattle.mc_model_device.specs.Bytes.{bytes2};
 ghost use Rattle.mc_model_card.specs.Units.{FitsUnit};
@@ -10,6 +10,7 @@ ghost use Rattle.mc_machine.specs.Turns.{outcome_value};
 ghost use Rattle.mc_card.specs.Parts.{device_in, card_in, session_state_in, IsReadyCard};
 ghost use Rattle.mc_script.specs.Classes.{IsManaged};
 ghost use Rattle.mc_script.specs.Runs.{RanAndReported};
+ghost use Rattle.mc_script.specs.StepCounts.{OnlyFirstOpens, first_search, instructions, StepsOf};
 ghost use Rattle.mc_card.specs.Ends.{outcome_or_stop};
 
 use crate::runner::Runner;
@@ -57,6 +58,7 @@ impl<'a> LoadCommands<'a> {
         requires { FitsUnit unit.now.code.now unit.now.init.now unit.now.dir.now unit.now.fci.now }
         ensures commands { result ≡ load_commands (parts_of unit.now) fixed session }
         ensures managed { AllByRecursion IsManaged result }
+        ensures opens { OnlyFirstOpens result }
     {
         LoadCommands {
             open: Some(open_command(unit, fixed, session)),
@@ -219,7 +221,7 @@ fn is_done(outcome: &Outcome) -> bool
 }
 
 /// Sends commands of class BE to a card in turn, up to the first that is not answered by 9000 alone, and
-/// writes the last outcome to `into`.
+/// writes the last outcome to `into`. None but the first of them is an OPEN.
 pub fn send<N: Nvm, R: Runner, L: Ledger>(
     card: &mut Card<N>,
     commands: &mut LoadCommands<'_>,
@@ -232,9 +234,13 @@ pub fn send<N: Nvm, R: Runner, L: Ledger>(
     requires some { 1 ≤ budget }
     requires budget { budget ≤ 65536 }
     requires managed { AllByRecursion IsManaged commands.old }
+    requires opens { OnlyFirstOpens commands.old }
     ensures done { RanAndReported N.state N.wrote R.reported card.old
         (send (card_in N.state card.old) (session_state_in N.state card.old) budget commands.old)
         (outcome_or_stop result into.new) card.new runner.old runner.new }
+    ensures steps { StepsOf
+        (instructions (send (card_in N.state card.old) (session_state_in N.state card.old) budget commands.old).turns)
+        (first_search (card_in N.state card.old) commands.old) (is_err result) steps.old steps.new }
     ensures keeps_device { N.same (device_in card.old) (device_in card.new) }
 {
     while let Some(bytes) = commands.next() {

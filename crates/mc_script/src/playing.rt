@@ -9,7 +9,8 @@ ghost use Rattle.mc_text.specs.Texts.{sunk_in};
 ghost use Rattle.mc_script.specs.Writers.{write_result, text_by, turns_text};
 ghost use Rattle.mc_model_play.specs.Generator.{summary};
 ghost use Rattle.mc_script.specs.Sums.{DumpsLast};
-ghost use Rattle.mc_script.specs.Plays.{plain_text, traced_text, PlaysFrom, PlaysDeck, SumsDeck};
+ghost use Rattle.mc_script.specs.Plays.{plain_text, traced_text, PlaysDeck, SumsDeck};
+ghost use Rattle.mc_script.specs.StepCounts.{CountsFrom, CountsDeck, CountsSum};
 
 use crate::player::Player;
 use crate::summing::sum_lines;
@@ -28,10 +29,10 @@ fn play_lines<N: Bench, T: Sink, L: Ledger>(
 ) -> N
     requires fuses { IsUnfused (N.bench device) }
     requires fault { writer.old.fault ≡ None }
-    ensures plays { PlaysFrom (text_by (turns_text writer.old.reporting)) (start (N.state device).words) deck.now
+    ensures plays { CountsFrom (text_by (turns_text writer.old.reporting)) (start (N.state device).words) deck.now
         (record { device = N.state device; bench = N.bench device }) (sunk_in T.taken T.faults writer.old.out.now)
         (write_result writer.new.fault) (record { device = N.state result; bench = N.bench result })
-        (sunk_in T.taken T.faults writer.new.out.now) }
+        (sunk_in T.taken T.faults writer.new.out.now) steps.old steps.new }
     ensures image { IsImage (N.state device).words }
     ensures lines { AllByRecursion (λ l. IsLine l.1) deck.now }
     ensures keeps_device { N.same device result }
@@ -66,10 +67,18 @@ pub fn play<N: Bench, T: Sink, L: Ledger>(
     steps: &mut Steps<L>,
 ) -> Result<(), WriteFault>
     requires { IsUnfused (N.bench dev.old) }
+    // The lines are played in order, up to the first whose text is not wholly written. The words, the power, the calls
+    // and the tape of the device are those of the lines, one by one and in sum, and what is written is their text.
     ensures plays { PlaysDeck plain_text deck.now (record { device = N.state dev.old; bench = N.bench dev.old })
         (record { taken = T.taken out.old; faults = T.faults out.old }) result
         (record { device = N.state dev.new; bench = N.bench dev.new })
         (record { taken = T.taken out.new; faults = T.faults out.new }) }
+    // Each executed instruction is one step, and the search of an OPEN for room takes at most two more than the card
+    // has gaps. A line that a stop hits makes no more steps than the whole line.
+    ensures steps { CountsDeck plain_text deck.now (record { device = N.state dev.old; bench = N.bench dev.old })
+        (record { taken = T.taken out.old; faults = T.faults out.old }) result
+        (record { device = N.state dev.new; bench = N.bench dev.new })
+        (record { taken = T.taken out.new; faults = T.faults out.new }) steps.old steps.new }
 {
     let mut writer = Writer::new(&mut *out, Reporting::Results);
     let _dev = play_lines(deck, &mut *dev, &mut writer, steps);
@@ -91,10 +100,18 @@ pub fn trace<N: Bench, T: Sink, L: Ledger>(
     steps: &mut Steps<L>,
 ) -> Result<(), WriteFault>
     requires { IsUnfused (N.bench dev.old) }
+    // The lines are played in order, up to the first whose text is not wholly written. The words, the power, the calls
+    // and the tape of the device are those of the lines, one by one and in sum, and what is written is their text.
     ensures plays { PlaysDeck traced_text deck.now (record { device = N.state dev.old; bench = N.bench dev.old })
         (record { taken = T.taken out.old; faults = T.faults out.old }) result
         (record { device = N.state dev.new; bench = N.bench dev.new })
         (record { taken = T.taken out.new; faults = T.faults out.new }) }
+    // Each executed instruction is one step, and the search of an OPEN for room takes at most two more than the card
+    // has gaps. A line that a stop hits makes no more steps than the whole line.
+    ensures steps { CountsDeck traced_text deck.now (record { device = N.state dev.old; bench = N.bench dev.old })
+        (record { taken = T.taken out.old; faults = T.faults out.old }) result
+        (record { device = N.state dev.new; bench = N.bench dev.new })
+        (record { taken = T.taken out.new; faults = T.faults out.new }) steps.old steps.new }
 {
     let mut writer = Writer::new(&mut *out, Reporting::Turns);
     let _dev = play_lines(deck, &mut *dev, &mut writer, steps);
@@ -118,10 +135,18 @@ pub fn summarise<N: Bench, T: Sink, L: Ledger>(
 ) -> Result<(), WriteFault>
     requires fuses { IsUnfused (N.bench dev.old) }
     requires dumps { DumpsLast deck.now }
+    // All lines are played in order. The words, the power, the calls and the tape of the device are those of the lines,
+    // one by one and in sum, and what is written is their summary.
     ensures sums { SumsDeck summary deck.now (record { device = N.state dev.old; bench = N.bench dev.old })
         (record { taken = T.taken out.old; faults = T.faults out.old }) result
         (record { device = N.state dev.new; bench = N.bench dev.new })
         (record { taken = T.taken out.new; faults = T.faults out.new }) }
+    // Each executed instruction is one step, and the search of an OPEN for room takes at most two more than the card
+    // has gaps. A line that a stop hits makes no more steps than the whole line.
+    ensures steps { CountsSum summary deck.now (record { device = N.state dev.old; bench = N.bench dev.old })
+        (record { taken = T.taken out.old; faults = T.faults out.old }) result
+        (record { device = N.state dev.new; bench = N.bench dev.new })
+        (record { taken = T.taken out.new; faults = T.faults out.new }) steps.old steps.new }
 {
     let mut writer = Writer::new(&mut *out, Reporting::Results);
     let _dev = sum_lines(deck, &mut *dev, &mut writer, steps);

@@ -9,6 +9,7 @@ ghost use Rattle.mc_script.specs.declared.armed.Armed.TheVariants as armed;
 ghost use Rattle.mc_script.specs.declared.player.Power.TheVariants as live;
 ghost use Rattle.mc_script.specs.Commands.{deck_line_of};
 ghost use Rattle.mc_script.specs.Lines.{SilentDone, LineDone};
+ghost use Rattle.mc_script.specs.StepCounts.{CountsLine};
 
 use crate::answer::Answer;
 use crate::armed::Armed;
@@ -115,6 +116,8 @@ impl<N: Bench> Player<N> {
         requires good { GoodLine (deck_line_of command.now) }
         ensures done { LineDone N.state N.bench R.reported self.old (deck_line_of command.now) runner.old runner.new
             (Some result) self.new }
+        ensures steps { CountsLine N.state N.bench self.old (deck_line_of command.now) (Some result) steps.old
+            steps.new }
         ensures keeps_device { N.same (device_of self.old) (device_of self.new) }
     {
         match self.power {
@@ -149,6 +152,8 @@ impl<N: Bench> Player<N> {
         requires good { GoodLine (deck_line_of command.now) }
         ensures done { LineDone N.state N.bench R.reported self.old (deck_line_of command.now) runner.old runner.new
             (Some result) self.new }
+        ensures steps { CountsLine N.state N.bench self.old (deck_line_of command.now) (Some result) steps.old
+            steps.new }
         ensures keeps_device { N.same (device_of self.old) (device_of self.new) }
     {
         let armed = self.armed;

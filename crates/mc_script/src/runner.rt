@@ -1,8 +1,9 @@
 // Runners, which run the commands of a play, and may record their turns.
-ghost use Rattle.std.specs.Prelude.{◌≡◌, ◌≤◌, ◌++◌, List, []};
+ghost use Rattle.std.specs.Prelude.{◌≡◌, ◌≤◌, ◌++◌, List, [], is_err};
 ghost use Rattle.mc_model_machine.specs.Chain.{Turn as ModelTurn};
-ghost use Rattle.mc_card.specs.Parts.{device_in, due, IsReadyCard};
+ghost use Rattle.mc_card.specs.Parts.{device_in, card_in, due, IsReadyCard};
 ghost use Rattle.mc_script.specs.Runs.{RanAndReported};
+ghost use Rattle.mc_script.specs.StepCounts.{instructions, command_search, StepsOf};
 ghost use Rattle.mc_card.specs.Ends.{outcome_or_stop};
 
 use mc_base::{Steps, Stop};
@@ -18,7 +19,8 @@ pub trait Runner {
 
     /// Runs one command on a card, with a budget of 1 to 65,536 instructions, and writes its outcome to
     /// `into`. The turns that are recorded are those of its run; if a write stopped, those before the turn
-    /// whose write it was.
+    /// whose write it was. Each executed instruction is one step, and an OPEN searches for room in at most two steps
+    /// more than the card has gaps.
     ///
     /// # Errors
     ///
@@ -36,6 +38,8 @@ pub trait Runner {
         requires budget { budget ≤ 65536 }
         ensures done { RanAndReported N.state N.wrote reported card.old (due N.state card.old bytes.now budget)
             (outcome_or_stop result into.new) card.new self.old self.new }
+        ensures steps { StepsOf (instructions (due N.state card.old bytes.now budget).turns)
+            (command_search (card_in N.state card.old) bytes.now) (is_err result) steps.old steps.new }
         ensures keeps_device { N.same (device_in card.old) (device_in card.new) };
 
     /// Without turns nothing is recorded.

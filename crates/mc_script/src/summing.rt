@@ -28,7 +28,8 @@ use std::sync::ledger::Ledger;
 fn tally<N: Bench, L: Ledger>(player: &mut Player<N>, deck: &Deck, steps: &mut Steps<L>) -> Counts
     requires { IsPlaying N.state N.bench player.old }
     ensures tallied { (s : State) → IsPlayerAt N.state N.bench player.old s
-        → Tallied N.state N.bench s deck.now (bench_of N.state N.bench player.old) player.new result }
+        → Tallied N.state N.bench s deck.now (bench_of N.state N.bench player.old) player.new result
+        steps.old steps.new }
     ensures keeps_device { N.same (device_of player.old) (device_of player.new) }
 {
     let mut counts = Counts::new();
@@ -109,7 +110,7 @@ pub fn sum_lines<N: Bench, T: Sink, L: Ledger>(
     ensures sums { SumsFrom summary (start (N.state device).words) deck.now
         (record { device = N.state device; bench = N.bench device }) (sunk_in T.taken T.faults writer.old.out.now)
         (write_result writer.new.fault) (record { device = N.state result; bench = N.bench result })
-        (sunk_in T.taken T.faults writer.new.out.now) }
+        (sunk_in T.taken T.faults writer.new.out.now) steps.old steps.new }
     ensures image { IsImage (N.state device).words }
     ensures lines { AllByRecursion (λ l. IsLine l.1) deck.now }
     ensures keeps_device { N.same device result }

@@ -1,14 +1,15 @@
 // The text of a play, written line by line.
-ghost use Rattle.std.specs.Prelude.{◌≡◌, ◌≤◌, ◌++◌, ◌∷◌, [], ℕ, List, Option, None, IfSome, option_map};
+ghost use Rattle.std.specs.Prelude.{◌≡◌, ◌≤◌, ◌++◌, ◌∷◌, [], ℕ, List, Option, None, IfSome, option_map, is_err};
 ghost use Rattle.mc_model_machine.specs.Chain.{Turn as ModelTurn};
 ghost use Rattle.mc_model_machine.specs.Code.{Shaped};
 ghost use Rattle.mc_model_play.specs.Transcript.{line_text};
 ghost use Rattle.mc_machine.specs.Turns.{turn_value};
-ghost use Rattle.mc_card.specs.Parts.{device_in, due, IsReadyCard};
+ghost use Rattle.mc_card.specs.Parts.{device_in, card_in, due, IsReadyCard};
 ghost use Rattle.mc_card.specs.Ends.{outcome_or_stop};
 ghost use Rattle.mc_text.specs.Texts.{sunk_in, Puts};
 ghost use Rattle.mc_script.specs.Players.{answer_value, IsPlaying};
 ghost use Rattle.mc_script.specs.Runs.{RanAndReported};
+ghost use Rattle.mc_script.specs.StepCounts.{instructions, command_search, StepsOf};
 ghost use Rattle.mc_script.specs.Writers.{write_result, turns_text, keeps_none, keeps_on, WriterKeeps};
 ghost use Rattle.mc_script.specs.declared.writer.Reporting.TheVariants as reporting;
 
@@ -113,6 +114,8 @@ impl<'a, T: Sink> Writer<'a, T> {
         requires budget { budget ≤ 65536 }
         ensures done { RanAndReported N.state N.wrote (WriterKeeps T.taken T.faults) card.old
             (due N.state card.old bytes.now budget) (outcome_or_stop result into.new) card.new self.old self.new }
+        ensures steps { StepsOf (instructions (due N.state card.old bytes.now budget).turns)
+            (command_search (card_in N.state card.old) bytes.now) (is_err result) steps.old steps.new }
         ensures keeps_device { N.same (device_in card.old) (device_in card.new) }
     {
         if let Some(outcome) = card.begin(bytes, budget, steps)? {

@@ -29,6 +29,7 @@ returns-clause-sums g c =
       played =
           subst (λ d. Played first deck t.worn a (record { device = state d; bench = bench d })) (sym c.into_dev.ensures)
           (subst (λ d. Played first deck t.worn (record { device = state d; bench = bench d }) (record { device = state (device_of c.tally-counts.new.player); bench = bench (device_of c.tally-counts.new.player) })) c.new-player.ensures.device t.played);
+      steps = t.steps;
       text = subst (λ (r : Result (Unit {0}) WriteFault). Puts before (summary steps) r after) is text;
     }
 

@@ -11,6 +11,6 @@ invariant-loop-i g l =
     let state = g.N.Nvm.state in
     let bench = g.N.Bench.bench in
     record {
-      counting : (s : State) → IsPlayerAt state bench l.fn.player s → Counting state bench s l.deck (bench_of state bench l.fn.player) (drop l.i l.deck) l.player l.counts l.i;
+      counting : (s : State) → IsPlayerAt state bench l.fn.player s → Counting state bench s l.deck (bench_of state bench l.fn.player) l.fn.steps (drop l.i l.deck) l.player l.counts l.i l.steps;
       keeps_device : g.N.Nvm.same (device_of l.fn.player) (device_of l.player);
     }

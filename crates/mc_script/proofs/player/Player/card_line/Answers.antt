@@ -1,9 +1,10 @@
-use Rattle.std.proofs.Common.{Some}
+use Rattle.std.proofs.Common.{Some, refl}
 use Rattle.mc_script.specs.declared.answer.Answer.TheVariants as answer
 use Rattle.mc_script.specs.declared.armed.Armed.TheVariants as armed
 use Rattle.mc_script.specs.Commands.{deck_line_of}
 use Rattle.mc_script.proofs.QuietLemmas.{none_before_power, none_off, none_mute}
 use Rattle.mc_script.proofs.LineLemmas.{player_ready}
+use Rattle.mc_script.proofs.StepRunLemmas.{before_power_steps, off_steps, mute_steps}
 use Rattle.mc_script.proofs.LinedLemmas.{silent_line, same_line}
 use Rattle.mc_script.proofs.player.Player.card_line.Goals as goal
 
@@ -45,3 +46,15 @@ returns-in-Mute-clause-done g c =
 
 pub run_on-requires-clause-ready : goal.run_on-requires-clause-ready
 run_on-requires-clause-ready g c = player_ready g.N.Nvm.state g.N.Bench.bench c.args.self.now c.requires.playing.0 c.requires.playing.1 c.in-On.is
+
+pub returns-in-BeforePower-clause-steps : goal.returns-in-BeforePower-clause-steps
+returns-in-BeforePower-clause-steps g c s at =
+    before_power_steps g.N.Nvm.state g.N.Bench.bench c.args.self.now s (deck_line_of c.args.command.now) (Some c.refuse.result) c.args.steps.now c.args.steps.now c.in-BeforePower.is at refl
+
+pub returns-in-Off-clause-steps : goal.returns-in-Off-clause-steps
+returns-in-Off-clause-steps g c s at =
+    off_steps g.N.Nvm.state g.N.Bench.bench c.args.self.now s (deck_line_of c.args.command.now) (Some c.refuse-in-Off.result) c.args.steps.now c.args.steps.now c.in-Off.is at refl
+
+pub returns-in-Mute-clause-steps : goal.returns-in-Mute-clause-steps
+returns-in-Mute-clause-steps g c s at =
+    mute_steps g.N.Nvm.state g.N.Bench.bench c.args.self.now s (deck_line_of c.args.command.now) (Some c.refuse-in-Mute.result) c.args.steps.now c.args.steps.now c.in-Mute.is at refl

@@ -1,10 +1,13 @@
 use Rattle.std.proofs.Common.{subst}
+use Rattle.std.specs.Prelude.{is_err}
 use Rattle.mc_model_play.specs.Play.{line_command}
 use Rattle.mc_card.specs.Parts.{card_in, session_state_in}
 use Rattle.mc_card.specs.Ends.{outcome_or_stop}
 use Rattle.mc_script.specs.Commands.{deck_line_of}
 use Rattle.mc_script.specs.Runs.{RanAndReported}
+use Rattle.mc_script.specs.StepCounts.{instructions, line_search, StepsOf}
 use Rattle.mc_script.proofs.CommandLineLemmas.{command_done, command_stopped_as}
+use Rattle.mc_script.proofs.StepRunLemmas.{done_steps, stop_steps}
 use Rattle.mc_script.proofs.player.Player.run_on.Goals as goal
 
 pub returns-in-Ok-clause-done : goal.returns-in-Ok-clause-done
@@ -30,3 +33,21 @@ returns-in-Err-clause-done g c =
     c.args.runner.now c.run_line-ended.new.runner c.requires.on c.requires.ready c.arm.ensures.state c.arm.ensures.bench c.arm.ensures.rest
     (subst (λ r. RanAndReported state g.N.Nvm.wrote g.R.Runner.reported u (line_command (card_in state u) (session_state_in state u) p.budget l) (outcome_or_stop r c.run_line-ended.new.into) e c.args.runner.now c.run_line-ended.new.runner) c.in-Err.is c.run_line-ended.ensures.done)
     c.disarm.ensures.state c.disarm.ensures.bench c.power_after_stop-self.ensures c.answer_after_stop.ensures
+
+pub returns-in-Ok-clause-steps : goal.returns-in-Ok-clause-steps
+returns-in-Ok-clause-steps g c s at =
+    let state = g.N.Nvm.state in
+    let p = c.args.self.now in
+    let u = c.arm.new.card in
+    let l = deck_line_of c.args.command.now in
+    done_steps state g.N.Bench.bench p u s l c.args.steps.now c.run_line-ended.new.steps at c.requires.on c.arm.ensures.state c.arm.ensures.rest
+    (subst (λ r. StepsOf (instructions (line_command (card_in state u) (session_state_in state u) p.budget l).turns) (line_search (card_in state u) l) (is_err r) c.args.steps.now c.run_line-ended.new.steps) c.in-Ok.is c.run_line-ended.ensures.steps)
+
+pub returns-in-Err-clause-steps : goal.returns-in-Err-clause-steps
+returns-in-Err-clause-steps g c s at =
+    let state = g.N.Nvm.state in
+    let p = c.args.self.now in
+    let u = c.arm.new.card in
+    let l = deck_line_of c.args.command.now in
+    stop_steps state g.N.Bench.bench p u s l c.in-Err.stop c.answer_after_stop.result c.args.steps.now c.run_line-ended.new.steps at c.requires.on c.arm.ensures.state c.arm.ensures.rest c.answer_after_stop.ensures
+    (subst (λ r. StepsOf (instructions (line_command (card_in state u) (session_state_in state u) p.budget l).turns) (line_search (card_in state u) l) (is_err r) c.args.steps.now c.run_line-ended.new.steps) c.in-Err.is c.run_line-ended.ensures.steps)

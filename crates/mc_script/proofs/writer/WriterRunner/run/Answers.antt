@@ -1,6 +1,8 @@
 use Rattle.mc_card.specs.Ends.{outcome_or_stop}
+use Rattle.mc_card.specs.Parts.{card_in, session_state_in}
 use Rattle.mc_card.proofs.CommandLemmas.{commanded_into}
 use Rattle.mc_script.proofs.CommandLemmas.{untold_ran}
+use Rattle.mc_script.proofs.StepLemmas.{command_steps}
 use Rattle.mc_script.proofs.LoggedLemmas.{keeps_untold}
 use Rattle.mc_script.proofs.writer.WriterRunner.run.Goals as goal
 
@@ -10,3 +12,7 @@ returns-in-Results-clause-done g c =
     untold_ran g.N.Nvm.state g.N.Nvm.wrote _ (outcome_or_stop c.command_into.result c.command_into.new.into) c.args.card.now c.command_into.new.self _ _ _
     (λ ts. keeps_untold g.T.Sink.taken g.T.Sink.faults c.args.self.now ts c.in-Results.is)
     (commanded_into g.N.Nvm.state g.N.Nvm.wrote c.args.card.now c.command_into.new.self _ c.command_into.result c.command_into.new.into e.made e.outcome e.session_state e.on)
+
+pub returns-in-Results-clause-steps : goal.returns-in-Results-clause-steps
+returns-in-Results-clause-steps g c =
+    command_steps (card_in g.N.Nvm.state c.args.card.now) (session_state_in g.N.Nvm.state c.args.card.now) c.args.bytes.now c.args.budget c.args.steps.now c.command_into.new.steps c.command_into.result c.command_into.ensures.steps

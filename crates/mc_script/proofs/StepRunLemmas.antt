@@ -1,0 +1,268 @@
+-- The steps of a run turn by turn, of the commands of a load, and of a line on a card that runs.
+use Rattle.std.proofs.Common.{◌≡◌, ◌⊎◌, ℕ, zero, suc, ◌+◌, ◌≤◌, Bool, true, false, cond, List, [], ◌∷◌, ◌++◌, Option, Some, None, Ok, refl, arith, sym, ap, subst, ◌∙◌, inl, inr}
+use Rattle.std.specs.Prelude.{option_map}
+use Rattle.std.specs.List.{AllByRecursion}
+use Rattle.mc_model_device.specs.declared.device.Stop.{Stop}
+use Rattle.mc_model_device.specs.declared.device.Stop.TheVariants.{Off, Worn}
+use Rattle.mc_model_device.specs.Orders.{Answer as Ended}
+use Rattle.mc_model_device.specs.Device.{DeviceState, BenchState, Wrote}
+use Rattle.mc_model_device.specs.Card as model
+use Rattle.mc_model_device.specs.Card.{means}
+use Rattle.mc_model_device.specs.PowerUp.{Base, OnCard, AtFault}
+use Rattle.mc_model_machine.specs.Chain.{Chain, Turn, Acted, Ran, Follows, Continues, Ends, turn_of_chain, turn_of, end_of, chain_session, run_after_turn, run_of_chain, run, start}
+use Rattle.mc_model_card.specs.Manager.{SessionState, route}
+use Rattle.mc_model_card.specs.Commands.{Command}
+use Rattle.mc_model_play.specs.DeckGrammar.{DeckLine}
+use Rattle.mc_model_play.specs.DeckGrammar as line
+use Rattle.mc_model_play.specs.Play.{Live, Running, Unpowered, Muted, State, BeforePower, AfterPower, line_command}
+use Rattle.mc_machine.specs.declared.outcome.Outcome.{Outcome}
+use Rattle.mc_machine.specs.declared.outcome.Turn.{Turn as CodeTurn}
+use Rattle.mc_machine.specs.Turns.{outcome_value, turn_value}
+use Rattle.mc_card.specs.declared.card.Card.{Card}
+use Rattle.mc_card.specs.Parts.{device_in, card_in, session_state_in, due, with_device, RunsChain}
+use Rattle.mc_card.specs.Ends.{PassedToChain, BeginSteps}
+use Rattle.mc_script.specs.declared.answer.Answer.{Answer}
+use Rattle.mc_script.specs.declared.answer.Answer.TheVariants as answer
+use Rattle.mc_script.specs.declared.armed.Armed.{Armed}
+use Rattle.mc_script.specs.declared.player.Power.{Power}
+use Rattle.mc_script.specs.declared.player.Power.TheVariants as power
+use Rattle.mc_script.specs.declared.player.Player.{Player}
+use Rattle.mc_script.specs.Players.{LiveIs, IsPlayerAt}
+use Rattle.mc_script.specs.Arming.{answer_after_stop}
+use Rattle.mc_script.specs.StepCounts.{instructions, is_open_command, most_search, command_search, OnlyFirstOpens, first_search, StepsOf, line_search, search_on, search_in, instructions_on, instructions_in, is_stopped, LineSteps}
+use Rattle.mc_script.proofs.TurnLemmas.{is_reported}
+use Rattle.mc_script.proofs.RanLemmas.{end_ends, run_goes}
+use Rattle.mc_script.proofs.CommandLemmas.{command_is, TurnDoes}
+use Rattle.mc_script.proofs.CardLemmas.{session_state_over}
+use Rattle.mc_script.proofs.StepLemmas.{NoneOpens, none, run_count, passed_begin}
+
+-- ---- the count of a run by its first turn
+
+end_count : (n : ℕ) (ch : Chain) (o : _) → (turn_of n ch).follows ≡ Ends o → (run_of_chain n ch).count ≡ (turn_of n ch).count
+unfolding run_of_chain
+end_count zero ch o e = refl
+end_count (suc n) ch o e = ap (λ (f : Follows). (run_after_turn (turn_of_chain ch) (chain_session ch) f (λ c. run_of_chain n c)).count) e
+
+goes_count : (n : ℕ) (ch next : Chain) → (turn_of_chain ch).follows ≡ Continues next → (run_of_chain (suc n) ch).count ≡ (turn_of_chain ch).count + (run_of_chain n next).count
+unfolding run_of_chain
+goes_count n ch next e = ap (λ (f : Follows). (run_after_turn (turn_of_chain ch) (chain_session ch) f (λ c. run_of_chain n c)).count) e
+
+goes_at : (n left : ℕ) (ch next : Chain) → n ≡ suc left → (turn_of_chain ch).follows ≡ Continues next → (run_of_chain n ch).count ≡ (turn_of n ch).count + (run_of_chain left next).count
+goes_at n left ch next is e = subst (λ (k : ℕ). (run_of_chain k ch).count ≡ (turn_of k ch).count + (run_of_chain left next).count) (sym is) (goes_count left ch next e)
+
+after_first : (t : Acted) (session : List ℕ) (f : Follows) (rest : Chain → Ran) → t.count ≤ (run_after_turn t session f rest).count
+after_first t session (Ends o) rest = omega arith
+after_first t session (Continues c) rest = omega arith
+
+first_count : (n : ℕ) (ch : Chain) → (turn_of n ch).count ≤ (run_of_chain n ch).count
+unfolding run_of_chain
+first_count zero ch = omega arith
+first_count (suc n) ch = after_first (turn_of_chain ch) (chain_session ch) (turn_of_chain ch).follows (λ c. run_of_chain n c)
+
+-- a turn that ends its chain
+ends_so : (t : Acted) (turn : CodeTurn) (o : Outcome) → t.turn ≡ turn_value turn t.turn.wrote → t.turn.end ≡ end_of t.follows → turn.end ≡ Some o → t.follows ≡ Ends (outcome_value o)
+ends_so t turn o is end e = end_ends t.follows (outcome_value o) (sym end ∙ ap (λ (u : Turn). u.end) is ∙ ap (λ (x : Option Outcome). option_map outcome_value x) e)
+
+-- ---- a run turn by turn
+
+module _ {N R : Type 0} (state : N → DeviceState) (wrote : N → ℕ → List ℕ → Ended → N → Type 0)
+    (obeys : (d : N) (at : ℕ) (w : List ℕ) (a : Ended) (e : N) → (state d).on ≡ true → wrote d at w a e → Wrote (state d) at w a (state e))
+    (reported : R → List Turn → R → Type 0) (silent : (r : R) → reported r [] r)
+    (onward : (q r s : R) (ts us : List Turn) → reported q ts r → reported r us s → reported q (ts ++ us) s) where
+  -- a run with the budget that is left brings the count of steps to the given bound
+  pub record StepsLead (bound n : ℕ) (m : Card N) (now : ℕ) : Type 0 where
+    pub chain : Chain
+    pub runs : RunsChain state m chain n
+    pub ahead : now + (run_of_chain n chain).count ≡ bound
+
+  -- the steps of a turn, whichever its chain
+  abbrev pub TurnSteps : Card N → ℕ → ℕ → Type 0
+  TurnSteps m now new = (ch : Chain) (left : ℕ) → RunsChain state m ch left → new ≡ now + (turn_of left ch).count
+
+  pub lead_begin : (c m : Card N) (bytes : List ℕ) (budget old now : ℕ) → PassedToChain state wrote c bytes budget m → BeginSteps (card_in state c) (route bytes) old now → StepsLead (old + instructions (due state c bytes budget).turns) budget m now
+  lead_begin c m bytes budget old now h begun =
+      let s = h.selected in
+      let ch = start (card_in state c).apps s.name s.session h.apdu in
+      let same : now ≡ old = passed_begin (card_in state c) bytes h.apdu old now h.routed begun in
+      let is : instructions (due state c bytes budget).turns ≡ (run_of_chain budget ch).count = ap (λ (k : Command). instructions k.turns) (command_is (card_in state c) (session_state_in state c) bytes budget h.apdu s h.routed h.is) ∙ run_count budget ch in
+      record { chain = ch; runs = h.runs; ahead = omega (arith, same, is) }
+
+  pub lead_stop : (m : Card N) (bound n now new : ℕ) → StepsLead bound n m now → TurnSteps m now new → new ≤ bound
+  lead_stop m bound n now new h steps =
+      let one = steps h.chain n h.runs in
+      let few = first_count n h.chain in
+      let all = h.ahead in
+      omega (arith, one, few, all)
+
+  pub lead_end : (m d : Card N) (bound n now new : ℕ) (turn : CodeTurn) (o : Outcome) → StepsLead bound n m now → TurnDoes state wrote obeys reported silent onward m (Ok turn) d → turn.end ≡ Some o → TurnSteps m now new → new ≡ bound
+  lead_end m d bound n now new turn o h turns end steps =
+      let ch = h.chain in
+      let turned = turns ch n h.runs in
+      let follows = ends_so (turn_of n ch) turn o turned.turn (is_reported n ch).end end in
+      let last = end_count n ch (outcome_value o) follows in
+      let one = steps ch n h.runs in
+      let all = h.ahead in
+      omega (arith, one, last, all)
+
+  pub lead_on : (m d : Card N) (bound n now new : ℕ) (turn : CodeTurn) → StepsLead bound n m now → TurnDoes state wrote obeys reported silent onward m (Ok turn) d → turn.end ≡ None → TurnSteps m now new → (left : ℕ) × (n ≡ suc left) × StepsLead bound left d new
+  lead_on m d bound n now new turn h turns end steps =
+      let ch = h.chain in
+      let goes = run_goes state wrote obeys reported silent onward m d ch n turn (turns ch n h.runs) end in
+      let next = goes_at n goes.left ch goes.next goes.is goes.follows in
+      let one = steps ch n h.runs in
+      let all = h.ahead in
+      (goes.left, goes.is, record { chain = goes.next; runs = goes.runs; ahead = omega (arith, one, next, all) })
+
+-- ---- the commands of a load
+
+closed_search : (c : model.Card) (bs : List (List ℕ)) → NoneOpens bs → first_search c bs ≡ 0
+closed_search c [] h = refl
+closed_search c (b ∷ bs) h = ap (λ (x : Bool). cond x (most_search c) 0) h.0
+
+closed_opens : (bs : List (List ℕ)) → NoneOpens bs → OnlyFirstOpens bs
+closed_opens [] h = tt
+closed_opens (b ∷ bs) h = h.1
+
+-- the commands that are left, after one that was done
+pub record SearchesLeft (c : model.Card) (left : List (List ℕ)) (old now bound : ℕ) : Type 0 where
+  pub opens : OnlyFirstOpens left
+  pub least : old ≤ now
+  pub most : now + first_search c left ≤ bound
+
+pub left_start : (c : model.Card) (bs : List (List ℕ)) (old : ℕ) → OnlyFirstOpens bs → SearchesLeft c bs old old (old + first_search c bs)
+left_start c bs old h = record { opens = h; least = omega arith; most = omega arith }
+
+pub left_on : (c d : model.Card) (b : List ℕ) (bs : List (List ℕ)) (n old now new bound : ℕ) → SearchesLeft c (b ∷ bs) old now bound → n ≡ 0 → StepsOf n (command_search c b) false now new → SearchesLeft d bs old new bound
+left_on c d b bs n old now new bound h idle steps =
+    let low = steps.least refl in
+    let high = steps.most in
+    let closed = closed_search d bs h.opens in
+    let first = h.least in
+    let all = h.most in
+    record { opens = closed_opens bs h.opens; least = omega (arith, low, first); most = omega (arith, high, all, idle, closed) }
+
+-- the steps of commands up to one that ended them, or that was stopped
+pub left_end : (c : model.Card) (b : List ℕ) (bs : List (List ℕ)) (n m k old now new : ℕ) (stopped : Bool) → SearchesLeft c (b ∷ bs) old now (old + k) → n ≡ 0 → m ≡ 0 → StepsOf n (command_search c b) stopped now new → StepsOf m k stopped old new
+left_end c b bs n m k old now new stopped h idle still steps =
+    let high = steps.most in
+    let first = h.least in
+    let all = h.most in
+    record { least = λ e. (let low = steps.least e in omega (arith, low, first, still)); most = omega (arith, high, all, idle) }
+
+-- the steps of all commands
+pub left_none : (c : model.Card) (m k old now : ℕ) (stopped : Bool) → SearchesLeft c [] old now (old + k) → m ≡ 0 → StepsOf m k stopped old now
+left_none c m k old now stopped h still =
+    let first = h.least in
+    let all = h.most in
+    record { least = λ e. omega (arith, first, still); most = omega (arith, all) }
+
+-- ---- lines
+
+-- whether a line sends commands to a card
+abbrev pub sends : DeckLine → Bool
+sends (line.Load u fixed session) = true
+sends (line.Select n) = true
+sends (line.Delete n) = true
+sends (line.Apdu b) = true
+sends _ = false
+
+-- what a line may count by its state: nothing
+record CountsNone (s : State) (l : DeckLine) : Type 0 where
+  executes : instructions_in s l ≡ 0
+  searches : search_in s l ≡ 0
+
+on_none : (live : Live) (base : Base) (budget : ℕ) (l : DeckLine) → sends l ≡ false → (instructions_on live base budget l ≡ 0) × (search_on live base l ≡ 0)
+on_none (Running session_state) (OnCard c) budget (line.Load u fixed session) h = absurd (cc h)
+on_none (Running session_state) (OnCard c) budget (line.Select n) h = absurd (cc h)
+on_none (Running session_state) (OnCard c) budget (line.Delete n) h = absurd (cc h)
+on_none (Running session_state) (OnCard c) budget (line.Apdu b) h = absurd (cc h)
+on_none (Running session_state) (OnCard c) budget _ h = (refl, refl)
+on_none (Running session_state) (AtFault cause p) budget l h = (refl, refl)
+on_none Unpowered base budget l h = (refl, refl)
+on_none Muted base budget l h = (refl, refl)
+
+quiet_none : (s : State) (l : DeckLine) → sends l ≡ false → CountsNone s l
+quiet_none (BeforePower m b a) l h = record { executes = refl; searches = refl }
+quiet_none (AfterPower w) l h = let r = on_none w.live w.base w.budget l h in record { executes = r.0; searches = r.1 }
+
+-- the steps of a line that makes none
+none_steps : (s : State) (l : DeckLine) (a : Option Answer) (old new : ℕ) → CountsNone s l → new ≡ old → LineSteps s l a old new
+none_steps s l a old new h same =
+    let e = h.executes in
+    let f = h.searches in
+    record { least = λ x. omega (arith, e, same); most = omega (arith, e, f, same) }
+
+pub quiet_steps : (s : State) (l : DeckLine) (a : Option Answer) (old new : ℕ) → sends l ≡ false → new ≡ old → LineSteps s l a old new
+quiet_steps s l a old new h same = none_steps s l a old new (quiet_none s l h) same
+
+-- the steps of the line that was given
+pub given_steps : (s : State) (l k : DeckLine) (a : Option Answer) (old new : ℕ) → l ≡ k → LineSteps s k a old new → LineSteps s l a old new
+given_steps s l k a old new is h = subst (λ (x : DeckLine). LineSteps s x a old new) (sym is) h
+
+-- the answer of a line that a stop hit
+stop_answers : (how : Stop) (a : Armed) → is_stopped (Some (answer_after_stop how a)) ≡ true
+stop_answers Off a = refl
+stop_answers Worn a = refl
+
+module _ {N : Type 0} (state : N → DeviceState) (bench : N → BenchState) where
+  -- a line when no card runs
+  none_live : (p : Player N) (s : State) (l : DeckLine) (w : Power) → IsPlayerAt state bench p s → p.power ≡ w → ((base : Base) (live : Live) → LiveIs state w p.card base live → (live ≡ Unpowered) ⊎ (live ≡ Muted)) → CountsNone s l
+  none_live p (BeforePower m b a) l w at is dead = record { executes = refl; searches = refl }
+  none_live p (AfterPower v) l w at is dead =
+      elim (dead v.base v.live (subst (λ (x : Power). LiveIs state x p.card v.base v.live) is at.stands.0)) [
+        | inl off ↦ record { executes = ap (λ (x : Live). instructions_on x v.base v.budget l) off; searches = ap (λ (x : Live). search_on x v.base l) off }
+        | inr mute ↦ record { executes = ap (λ (x : Live). instructions_on x v.base v.budget l) mute; searches = ap (λ (x : Live). search_on x v.base l) mute }
+      ]
+
+  pub before_power_steps : (p : Player N) (s : State) (l : DeckLine) (a : Option Answer) (old new : ℕ) → p.power ≡ power.BeforePower → IsPlayerAt state bench p s → new ≡ old → LineSteps s l a old new
+  before_power_steps p s l a old new is at same = none_steps s l a old new (none_live p s l power.BeforePower at is (λ base live h. absurd h)) same
+
+  pub off_steps : (p : Player N) (s : State) (l : DeckLine) (a : Option Answer) (old new : ℕ) → p.power ≡ power.Off → IsPlayerAt state bench p s → new ≡ old → LineSteps s l a old new
+  off_steps p s l a old new is at same = none_steps s l a old new (none_live p s l power.Off at is (λ base live h. inl h)) same
+
+  pub mute_steps : (p : Player N) (s : State) (l : DeckLine) (a : Option Answer) (old new : ℕ) → p.power ≡ power.Mute → IsPlayerAt state bench p s → new ≡ old → LineSteps s l a old new
+  mute_steps p s l a old new is at same = none_steps s l a old new (none_live p s l power.Mute at is (λ base live h. inr h)) same
+
+  -- a line on a card that runs
+  record CountsOn (p : Player N) (u : Card N) (s : State) (l : DeckLine) : Type 0 where
+    executes : instructions_in s l ≡ instructions (line_command (card_in state u) (session_state_in state u) p.budget l).turns
+    searches : search_in s l ≡ line_search (card_in state u) l
+
+  counts_on : (p : Player N) (u : Card N) (s : State) (l : DeckLine) → IsPlayerAt state bench p s → p.power ≡ power.On → state (device_in u) ≡ state (device_in p.card) → u ≡ with_device p.card (device_in u) → CountsOn p u s l
+  counts_on p u (BeforePower m b a) l at on same rest = absurd (cc (sym at.stands.0 ∙ on))
+  counts_on p u (AfterPower w) l at on same rest =
+      let c = p.card in
+      let is = subst (λ (x : Power). LiveIs state x c w.base w.live) on at.stands.0 in
+      let card : card_in state c ≡ card_in state u = sym (ap (λ (x : DeviceState). means x.words) same) in
+      let session_state : session_state_in state c ≡ session_state_in state u = sym (session_state_over state c u rest same) in
+      record {
+        executes =
+            ap (λ (x : Live). instructions_on x w.base w.budget l) is.live
+            ∙ ap (λ (x : Base). instructions_on (Running (session_state_in state c)) x w.budget l) is.base
+            ∙ ap (λ (x : model.Card). instructions (line_command x (session_state_in state c) w.budget l).turns) card
+            ∙ ap (λ (x : SessionState). instructions (line_command (card_in state u) x w.budget l).turns) session_state
+            ∙ ap (λ (k : ℕ). instructions (line_command (card_in state u) (session_state_in state u) k l).turns) (sym at.budget);
+        searches =
+            ap (λ (x : Live). search_on x w.base l) is.live
+            ∙ ap (λ (x : Base). search_on (Running (session_state_in state c)) x l) is.base
+            ∙ ap (λ (x : model.Card). line_search x l) card;
+      }
+
+  ran_steps : (p : Player N) (u : Card N) (s : State) (l : DeckLine) (a : Answer) (stopped : Bool) (old new : ℕ) → CountsOn p u s l → (is_stopped (Some a) ≡ false → stopped ≡ false)
+      → StepsOf (instructions (line_command (card_in state u) (session_state_in state u) p.budget l).turns) (line_search (card_in state u) l) stopped old new → LineSteps s l (Some a) old new
+  ran_steps p u s l a stopped old new on goes h =
+      let e = on.executes in
+      let f = on.searches in
+      let high = h.most in
+      record { least = λ x. (let low = h.least (goes x) in omega (arith, low, e)); most = omega (arith, high, e, f) }
+
+  -- a line that was answered
+  pub done_steps : (p : Player N) (u : Card N) (s : State) (l : DeckLine) (old new : ℕ) → IsPlayerAt state bench p s → p.power ≡ power.On → state (device_in u) ≡ state (device_in p.card) → u ≡ with_device p.card (device_in u)
+      → StepsOf (instructions (line_command (card_in state u) (session_state_in state u) p.budget l).turns) (line_search (card_in state u) l) false old new → LineSteps s l (Some answer.Outcome) old new
+  done_steps p u s l old new at on same rest h = ran_steps p u s l answer.Outcome false old new (counts_on p u s l at on same rest) (λ x. refl) h
+
+  -- a line that a stop hit
+  pub stop_steps : (p : Player N) (u : Card N) (s : State) (l : DeckLine) (how : Stop) (ans : Answer) (old new : ℕ) → IsPlayerAt state bench p s → p.power ≡ power.On → state (device_in u) ≡ state (device_in p.card) → u ≡ with_device p.card (device_in u)
+      → ans ≡ answer_after_stop how p.armed → StepsOf (instructions (line_command (card_in state u) (session_state_in state u) p.budget l).turns) (line_search (card_in state u) l) true old new → LineSteps s l (Some ans) old new
+  stop_steps p u s l how ans old new at on same rest is h =
+      ran_steps p u s l ans true old new (counts_on p u s l at on same rest) (λ x. absurd (cc (sym (ap (λ (y : Answer). is_stopped (Some y)) is ∙ stop_answers how p.armed) ∙ x))) h
