@@ -1,12 +1,14 @@
 -- The promises of a program at its status, and that a job is complete if no call of source or sink fails.
 use Rattle.std.proofs.Common.{◌≡◌, ◌⊎◌, ℕ, List, Option, Result, Ok, Err, refl, sym, subst, inl, inr}
 use Rattle.mc_model_device.specs.Counts.{Rose}
+use Rattle.mc_base.specs.Streams.{one_more}
 use Rattle.mc_base.specs.declared.refusals.WriteFault.{WriteFault as Fault}
 use Rattle.mc_filter.specs.declared.status.Status.{Status}
 use Rattle.mc_filter.specs.declared.status.Status.TheVariants.{Done, Failed, NoForm, ReadFault, WriteFault, NoMemory}
 use Rattle.mc_filter.specs.Statuses.{status_after_writing}
 use Rattle.mc_filter.specs.Outside.{long, short, AllStands, Completes, IsRead, IsWithoutFault, JobSays, NoJobSays, Outside}
-use Rattle.mc_filter.proofs.Inputs.{all_read, long_read}
+use Rattle.mc_filter.specs.Inputs.{Stream}
+use Rattle.mc_filter.proofs.Inputs.{all_read, long_read, rose_once}
 
 -- ---- statuses
 
@@ -28,18 +30,18 @@ says_no_job Wrote (Err f) s e d = subst (λ s. NoJobSays Wrote s) (sym e) (subst
 -- ---- completeness
 
 -- a verdict on what was read is one on all that was left
-pub all_stands : {V : Type 0} (refusal : List ℕ → V) (Stand : List ℕ → V → Type 0) (old new : Option (List ℕ)) (v : V) → IsRead refusal Stand old new v → AllStands refusal Stand old v
-all_stands {V} refusal Stand old new v (inl more) =
-    let all = long_read old new more.over in
-    subst (λ (v : V). AllStands refusal Stand old v) (sym more.is) (long all.input all.all all.over)
-all_stands {V} refusal Stand old new v (inr whole) = short whole.input v (all_read old new whole.input whole.read.bytes whole.read.end) whole.read.fits whole.is
+pub all_stands : {V : Type 0} (refusal : List ℕ → V) (Stand : List ℕ → V → Type 0) (a b : Stream) (v : V) → IsRead refusal Stand a b v → AllStands refusal Stand a.left v
+all_stands {V} refusal Stand a b v (inl more) =
+    let all = long_read a.left b.left more.over in
+    subst (λ (v : V). AllStands refusal Stand a.left v) (sym more.is) (long all.input all.all all.over)
+all_stands {V} refusal Stand a b v (inr whole) = short whole.input v (all_read a.left b.left whole.input whole.read.bytes whole.read.end) whole.read.fits whole.is
 
 -- a job with these promises is complete, if all that is done without a fault is done whole
-pub complete : (Did Whole : Status → Type 0) (Faulty Short : Type 0) (a : Outside) (s : Status) → ((t : Status) → IsWithoutFault a → Did t → Whole t) → (Faulty → Rose a.reads_old a.reads)
+pub complete : (Did Whole : Status → Type 0) (Faulty Short : Type 0) (a : Outside) (s : Status) → ((t : Status) → IsWithoutFault a → Did t → Whole t) → (Faulty → a.input.faults ≡ one_more a.input_old.faults)
     → JobSays Did Faulty Short s → Completes (Whole s) s a
 complete Did Whole Faulty Short a Done whole rose says quiet = inl (whole Done quiet says)
 complete Did Whole Faulty Short a Failed whole rose says quiet = inl (whole Failed quiet says)
 complete Did Whole Faulty Short a WriteFault whole rose says quiet = inl (whole WriteFault quiet says)
 complete Did Whole Faulty Short a NoForm whole rose says quiet = absurd says
-complete Did Whole Faulty Short a ReadFault whole rose says quiet = absurd (quiet.reads (rose says))
+complete Did Whole Faulty Short a ReadFault whole rose says quiet = absurd (quiet.reads (rose_once a.input_old.faults a.input.faults (rose says)))
 complete Did Whole Faulty Short a NoMemory whole rose says quiet = inr refl

@@ -1,5 +1,5 @@
 -- The text that a filter's job writes, and the number of its status.
-use Rattle.std.proofs.Common.{◌≡◌, ℕ, cond, nat_eq, List, Result, Ok, Err, OnErr, OnOk, refl, ap, sym, subst, ◌∙◌}
+use Rattle.std.proofs.Common.{◌≡◌, ◌≤◌, ℕ, cond, nat_eq, List, Result, Ok, Err, OnErr, OnOk, refl, ap, sym, subst, ◌∙◌}
 use Rattle.mc_model_device.specs.Counts.{Rose}
 use Rattle.mc_base.specs.Streams.{Grew, GrewByPart}
 use Rattle.mc_base.specs.declared.refusals.WriteFault.{WriteFault as Fault}

@@ -2,3 +2,4 @@ pub mod Lines
 pub mod Inputs
 pub mod Statuses
 pub mod Outside
+pub mod Words

@@ -3,24 +3,22 @@
 -- has, which is due, and when a verdict is done.
 use Rattle.std.specs.Prelude.{◌≡◌, ℕ, ◌≤◌, ◌<◌, ◌⊎◌, List, length, Option, Some, None}
 use Rattle.mc_model_device.specs.Counts.{Rose}
-use Rattle.mc_base.specs.Streams.{TookMore}
+use Rattle.mc_base.specs.Streams.{one_more, TookMore}
 use Rattle.mc_base.specs.declared.sink.Sink as sink
 use Rattle.mc_base.specs.declared.source.Source as source
 use Rattle.mc_text.specs.Texts.{sunk_in, Sunk}
 use Rattle.mc_filter.specs.declared.status.Status.{Status}
 use Rattle.mc_filter.specs.declared.status.Status.TheVariants.{Done, Failed, NoForm, ReadFault, WriteFault, NoMemory}
-use Rattle.mc_filter.specs.Inputs.{input_limit, IsAll, ReadWhole, TookLimited}
+use Rattle.mc_filter.specs.Inputs.{input_limit, stream, IsAll, ReadsLimited, ReadWhole, Stream}
 use Rattle.mc_filter.specs.Lines.{too_long}
 use Rattle.mc_filter.specs.Statuses.{IsWritten}
 
 -- ---- the outside
 
--- source and sink before and after the call: the bytes that are left, the counts of faults, and the state of the sink
+-- source and sink before and after the call
 pub record Outside : Type 0 where
-  pub left_old : Option (List ℕ)
-  pub left : Option (List ℕ)
-  pub reads_old : ℕ
-  pub reads : ℕ
+  pub input_old : Stream
+  pub input : Stream
   pub out_old : Sunk
   pub out : Sunk
 
@@ -28,41 +26,39 @@ pub record Outside : Type 0 where
 abbrev pub outside : {S T : Type 0} → source.Ghosts S → sink.Ghosts T → S → S → T → T → Outside
 outside s t in_old in_new out_old out_new =
     record {
-      left_old = s.left in_old;
-      left = s.left in_new;
-      reads_old = s.faults in_old;
-      reads = s.faults in_new;
+      input_old = stream s in_old;
+      input = stream s in_new;
       out_old = sunk_in t.taken t.faults out_old;
       out = sunk_in t.taken t.faults out_new;
     }
 
--- the source was not touched
-pub record Untouched (a : Outside) : Type 0 where
-  pub left : a.left ≡ a.left_old
-  pub reads : a.reads ≡ a.reads_old
+-- the source was not called
+abbrev pub Untouched : Outside → Type 0
+Untouched a = a.input ≡ a.input_old
 
 -- no call of source or sink failed
 pub record IsWithoutFault (a : Outside) : Type 0 where
-  pub reads : Rose a.reads_old a.reads → ⊥
+  pub reads : Rose a.input_old.faults a.input.faults → ⊥
   pub writes : Rose a.out_old.faults a.out.faults → ⊥
 
 -- ---- the verdict on an input
 
 -- the input was read to its end and has the verdict v
-pub record InputStands {V : Type 0} (Stand : List ℕ → V → Type 0) (old new : Option (List ℕ)) (v : V) : Type 0 where
+pub record InputStands {V : Type 0} (Stand : List ℕ → V → Type 0) (a b : Stream) (v : V) : Type 0 where
   pub input : List ℕ
-  pub read : ReadWhole old new input
+  pub read : ReadWhole a b input
   pub is : Stand input v
 
--- the input is too long: more was read than the limit, and at most one byte after it; the verdict is its refusal
-pub record IsTooLong {V : Type 0} (refusal : List ℕ → V) (old new : Option (List ℕ)) (v : V) : Type 0 where
-  pub over : TookMore old new input_limit
-  pub no_further : TookLimited old new
+-- the input is too long: more was read than the limit, and at most one byte after it, and no call failed; the verdict
+-- is its refusal
+pub record IsTooLong {V : Type 0} (refusal : List ℕ → V) (a b : Stream) (v : V) : Type 0 where
+  pub over : TookMore a.left b.left input_limit
+  pub no_further : ReadsLimited a b
   pub is : v ≡ refusal too_long
 
 -- the verdict v on what was read: too long, or a verdict of the input
-abbrev pub IsRead : {V : Type 0} → (List ℕ → V) → (List ℕ → V → Type 0) → Option (List ℕ) → Option (List ℕ) → V → Type 0
-IsRead refusal Stand old new v = IsTooLong refusal old new v ⊎ InputStands Stand old new v
+abbrev pub IsRead : {V : Type 0} → (List ℕ → V) → (List ℕ → V → Type 0) → Stream → Stream → V → Type 0
+IsRead refusal Stand a b v = IsTooLong refusal a b v ⊎ InputStands Stand a b v
 
 -- the verdict on all that a source had left
 pub data AllStands {V : Type 0} (refusal : List ℕ → V) (Stand : List ℕ → V → Type 0) (left : Option (List ℕ)) : V → Type 0 where
@@ -77,14 +73,17 @@ pub record SaysDone {V : Type 0} (Due Did : V → Type 0) : Type 0 where
   pub due : Due verdict
   pub done : Did verdict
 
--- at the status `ReadFault`: the source failed after no more was read than `Took` states, and nothing was written
+-- at the status `ReadFault`: one call of the source failed, after no more was read than `Took` states, and nothing was
+-- written
 pub record SaysReadFault (Took : Type 0) (a : Outside) : Type 0 where
-  pub cause : Rose a.reads_old a.reads
+  pub cause : a.input.faults ≡ one_more a.input_old.faults
   pub source : Took
   pub written : a.out ≡ a.out_old
 
--- at the status `NoMemory`: out of memory before the first byte was written, after no more was read than `Took` states
+-- at the status `NoMemory`: out of memory before the first byte was written, after no more was read than `Took` states;
+-- no call of the source failed
 pub record SaysNoMemory (Took : Type 0) (a : Outside) : Type 0 where
+  pub quiet : a.input.faults ≡ a.input_old.faults
   pub source : Took
   pub written : a.out ≡ a.out_old
 

@@ -1,6 +1,6 @@
 // The input, read whole.
 ghost use Rattle.std.specs.Prelude.{IfErr, IfOk};
-ghost use Rattle.mc_filter.specs.Inputs.{ReadWhole, RejectsRead};
+ghost use Rattle.mc_filter.specs.Inputs.{stream, ReadWhole, RejectsRead};
 
 use crate::lines::too_long;
 use crate::rejection::Rejection;
@@ -17,9 +17,8 @@ pub const INPUT_LIMIT: usize = 1_048_576;
 /// Returns the line `line 0 TooLong` as soon as one byte more than `INPUT_LIMIT` was read, `ReadFault` if the
 /// source failed, and `NoMemory` if out of memory.
 pub fn read_input<S: Source>(alloc: Global, input: &mut S) -> Result<Vec<u8>, Rejection>
-    ensures read { IfOk result (λ t. ReadWhole (S.left input.old) (S.left input.new) t.items) }
-    ensures rejected { IfErr result
-        (RejectsRead (S.left input.old) (S.left input.new) (S.faults input.old) (S.faults input.new)) }
+    ensures read { IfOk result (λ t. ReadWhole (stream S.Source input.old) (stream S.Source input.new) t.items) }
+    ensures rejected { IfErr result (RejectsRead (stream S.Source input.old) (stream S.Source input.new)) }
 {
     match read_all(alloc, input, INPUT_LIMIT) {
         Ok(text) => Ok(text),

@@ -23,8 +23,8 @@ use Rattle.melcard.specs.Statuses.{status_of, text_of_step, CardOutside, IsAllDu
 -- the verdict by the input that was read is the verdict by all bytes that were left
 all_due : (work : Job) (a : Outside) (v : JobVerdict) → IsDue work a v → IsAllDue work a v
 all_due (job.Generate n) a v due = due.1
-all_due (job.Play t) a v due = all_stands Refusal (StandsFor (job.Play t)) a.left_old a.left v due
-all_due (job.Write f) a v due = all_stands Refusal (StandsFor (job.Write f)) a.left_old a.left v due
+all_due (job.Play t) a v due = all_stands Refusal (StandsFor (job.Play t)) a.input_old a.input v due
+all_due (job.Write f) a v due = all_stands Refusal (StandsFor (job.Write f)) a.input_old a.input v due
 
 -- ---- the sink
 

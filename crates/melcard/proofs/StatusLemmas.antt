@@ -37,9 +37,9 @@ err_always (Ok x) p = tt
 err_always (Err e) p = p
 
 -- a job that is rejected only because it is out of memory
-pub memory_only : {X : Type 0} (work : Job) (a : Outside) (r : Result X Rejection) → TakesAtMost work a → IfErr r (λ e. e ≡ rejection.NoMemory) → IfErr r (RejectsJob work a)
-memory_only work a (Ok x) source only = tt
-memory_only work a (Err e) source only = subst (λ (e : Rejection). RejectsJob work a e) (sym only) source
+pub memory_only : {X : Type 0} (work : Job) (a : Outside) (r : Result X Rejection) → a.input.faults ≡ a.input_old.faults → TakesAtMost work a → IfErr r (λ e. e ≡ rejection.NoMemory) → IfErr r (RejectsJob work a)
+memory_only work a (Ok x) quiet source only = tt
+memory_only work a (Err e) quiet source only = subst (λ (e : Rejection). RejectsJob work a e) (sym only) (quiet, source)
 
 -- ---- what was done
 
@@ -66,12 +66,12 @@ says_written Kept f s a kept w = says_done Kept (job.Write f) a w.written.result
 
 -- the verdict depends on the source, and not on what is written afterwards
 due_still : (work : Job) (a : Outside) (x : Sunk) (v : JobVerdict) → IsDue work (record a { out = x }) v → IsDue work a v
-due_still (job.Generate n) a x v due = (record { left = (due.0).left; reads = (due.0).reads }, due.1)
+due_still (job.Generate n) a x v due = due
 due_still (job.Play t) a x v due = due
 due_still (job.Write f) a x v due = due
 
 takes_still : (work : Job) (a : Outside) (x : Sunk) → TakesAtMost work (record a { out = x }) → TakesAtMost work a
-takes_still (job.Generate n) a x takes = record { left = takes.left; reads = takes.reads }
+takes_still (job.Generate n) a x takes = takes
 takes_still (job.Play t) a x takes = takes
 takes_still (job.Write f) a x takes = takes
 
@@ -82,7 +82,7 @@ says_rejected Kept work a x (rejection.Refusal line) s kept why ends =
 says_rejected Kept work a x rejection.ReadFault s kept why ends =
     subst (λ s. MelcardSays Kept s (Some work) a) (sym ends.0) (why.0, record { cause = why.1; source = takes_still work a.streams x why.2; written = ends.1 }, kept)
 says_rejected Kept work a x rejection.NoMemory s kept why ends =
-    subst (λ s. MelcardSays Kept s (Some work) a) (sym ends.0) (record { source = takes_still work a.streams x why; written = ends.1 }, kept)
+    subst (λ s. MelcardSays Kept s (Some work) a) (sym ends.0) (record { quiet = why.0; source = takes_still work a.streams x why.1; written = ends.1 }, kept)
 
 -- the words select no job, and the usage line was written
 pub says_no_form : (Kept : Type 0) (form : Option Job) (a : CardOutside) (r : Result (Unit {0}) Fault) (s : Status) → form ≡ None → s ≡ status_after_writing NoForm r → Kept → Untouched a.streams → Puts a.streams.out_old usage r a.streams.out → MelcardSays Kept s form a

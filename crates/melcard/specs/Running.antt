@@ -1,6 +1,6 @@
 -- The parts of a job, and why a job is not done.
-use Rattle.std.specs.Prelude.{ℕ, List}
-use Rattle.mc_model_device.specs.Counts.{Rose}
+use Rattle.std.specs.Prelude.{◌≡◌, ℕ, List}
+use Rattle.mc_base.specs.Streams.{one_more}
 use Rattle.mc_model_play.specs.DeckGrammar.{DeckLine}
 use Rattle.melcard.specs.declared.job.Job.{Job}
 use Rattle.melcard.specs.declared.job.Job.TheVariants as job
@@ -15,11 +15,12 @@ use Rattle.mc_filter.specs.Statuses.{IsWritten}
 use Rattle.mc_filter.specs.Outside.{Outside}
 use Rattle.melcard.specs.Statuses.{CardOutside, IsDue, IsPlayed, IsReading, TakesAtMost}
 
--- why a job was not done
+-- why a job was not done: a line that refuses its input, one call of its source that failed, or out of memory, in which
+-- case none did
 abbrev pub RejectsJob : Job → Outside → Rejection → Type 0
 RejectsJob job a (rejection.Refusal line) = IsDue job a (Refusal line.items)
-RejectsJob job a rejection.ReadFault = IsReading job × Rose a.reads_old a.reads × TakesAtMost job a
-RejectsJob job a rejection.NoMemory = TakesAtMost job a
+RejectsJob job a rejection.ReadFault = IsReading job × (a.input.faults ≡ one_more a.input_old.faults) × TakesAtMost job a
+RejectsJob job a rejection.NoMemory = (a.input.faults ≡ a.input_old.faults) × TakesAtMost job a
 
 -- the deck that an input spells was played
 pub record PlaysInput (t : Reporting) (s : Status) (a : CardOutside) : Type 0 where

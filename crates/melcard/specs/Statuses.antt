@@ -50,15 +50,15 @@ card_outside s t state bench in_old in_new out_old out_new dev_old dev_new =
 -- the verdict that a job carries out: by its number, or by the input that was read
 abbrev pub IsDue : Job → Outside → JobVerdict → Type 0
 IsDue (job.Generate n) a v = Untouched a × (v ≡ Sums (deck_of_number n))
-IsDue (job.Play t) a v = IsRead Refusal (StandsFor (job.Play t)) a.left_old a.left v
-IsDue (job.Write f) a v = IsRead Refusal (StandsFor (job.Write f)) a.left_old a.left v
+IsDue (job.Play t) a v = IsRead Refusal (StandsFor (job.Play t)) a.input_old a.input v
+IsDue (job.Write f) a v = IsRead Refusal (StandsFor (job.Write f)) a.input_old a.input v
 
 -- the bytes that a job takes from its source: none if it generates a deck, and else at most the limit and one byte
 -- after it
 abbrev pub TakesAtMost : Job → Outside → Type 0
 TakesAtMost (job.Generate n) a = Untouched a
-TakesAtMost (job.Play t) a = TookLimited a.left_old a.left
-TakesAtMost (job.Write f) a = TookLimited a.left_old a.left
+TakesAtMost (job.Play t) a = TookLimited a.input_old a.input
+TakesAtMost (job.Write f) a = TookLimited a.input_old a.input
 
 -- ---- what was done
 
@@ -137,8 +137,8 @@ status_of (Sums lines) = Done
 -- the verdict that a job carries out: by its number, or by all bytes that were left in its source
 abbrev pub IsAllDue : Job → Outside → JobVerdict → Type 0
 IsAllDue (job.Generate n) a v = v ≡ Sums (deck_of_number n)
-IsAllDue (job.Play t) a v = AllStands Refusal (StandsFor (job.Play t)) a.left_old v
-IsAllDue (job.Write f) a v = AllStands Refusal (StandsFor (job.Write f)) a.left_old v
+IsAllDue (job.Play t) a v = AllStands Refusal (StandsFor (job.Play t)) a.input_old.left v
+IsAllDue (job.Write f) a v = AllStands Refusal (StandsFor (job.Write f)) a.input_old.left v
 
 -- all that is due was done
 abbrev pub MelcardWhole : Job → CardOutside → Status → Type 0

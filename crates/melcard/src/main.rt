@@ -26,7 +26,7 @@ ghost use Rattle.std.specs.Prelude.{◌≡◌, ◌<◌};
 
 use crate::running::melcard;
 use mc_base::{StdSink, StdSource, Steps};
-use mc_filter::{Status, blank_device, command_words, number};
+use mc_filter::{Status, blank_device, command_words, job_words, number};
 use std::marker::Brand;
 use std::process::ExitCode;
 use std::sync::ledger::{Blank, Ledger};
@@ -42,8 +42,7 @@ fn program<L: Ledger>(rt: &HostRuntime, blank: Blank) -> u8
     let Ok(words) = command_words(rt) else {
         return number(Status::NoMemory);
     };
-    // Arguments that are not UTF-8 select no job.
-    let words = words.unwrap_or_else(|| Vec::new(alloc));
+    let words = job_words(alloc, words);
     let Ok(mut device) = blank_device(alloc) else {
         return number(Status::NoMemory);
     };

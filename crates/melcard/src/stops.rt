@@ -92,10 +92,10 @@ fn stopped_deck(
     format!(in alloc; "{NAMES}{before}{stop}{line}\n{recovery}power\ndump {name}\n")
 }
 
-// The outcome of a change: whether its line was stopped, and whether the card has it.
+// The outcome of a change: the number of its lines that were stopped, and whether the card has the change.
 #[derive(Clone, Copy, Debug, PartialEq, Eq)]
 struct Outcome {
-    is_stopped: bool,
+    stops: usize,
     is_new: bool,
 }
 
@@ -112,25 +112,39 @@ fn outcome_of(
     let text = str::from_utf8(end.text.as_slice()).unwrap_or("");
     let is_new = end.text.as_slice().ends_with(change.new);
     let is_old = end.text.as_slice().ends_with(change.old);
-    let is_stopped = text.contains("off at write") || text.contains(" 6581\n");
+    let stops = text
+        .lines()
+        .filter(|line| line.contains("off at write") || line.ends_with(" 6581"))
+        .count();
     let is_whole = end.status == 0 && is_new != is_old;
-    Ok(is_whole.then_some(Outcome { is_stopped, is_new }))
+    Ok(is_whole.then_some(Outcome { stops, is_new }))
 }
 
-// Whether the outcome of the change is the same wherever the recovery after it is cut: none of these
-// recoveries has 12 writes.
-fn is_kept(alloc: Global, change: &Change, stop: &str, is_new: bool) -> Result<bool, NoMemory> {
+// The number of writes at which the recovery after a stopped change was cut, if the outcome is the same after each
+// of them: none of these recoveries has 12 writes.
+fn recovery_cuts(
+    alloc: Global,
+    change: &Change,
+    stop: &str,
+    plain: Outcome,
+) -> Result<Option<usize>, NoMemory> {
+    let mut cuts = 0;
     for cut in 1..=12 {
-        let end = outcome_of(alloc, change, stop, cut)?;
-        if end.map(|it| it.is_new) != Some(is_new) {
-            return Ok(false);
+        match outcome_of(alloc, change, stop, cut)? {
+            Some(outcome) if outcome.is_new == plain.is_new => {
+                if outcome.stops > plain.stops {
+                    cuts = usize::saturating_add(cuts, 1);
+                }
+            }
+            _ => return Ok(None),
         }
     }
-    Ok(true)
+    Ok(Some(cuts))
 }
 
-// Each change, stopped at each of its writes, with recoveries that are cut at each of theirs: it is atomic,
-// and if it is durable at a write it is durable at each later one.
+// Each change, stopped at each of its writes, with recoveries that are cut at each of theirs: it is atomic, its first
+// write alone does not make it durable, and if it is durable at a write it is durable at each later one. Some recovery
+// of each change was cut.
 #[test]
 fn stopped_changes(rt: HostRuntime) -> Result<(), Fail> {
     let alloc = rt.alloc();
@@ -141,24 +155,30 @@ fn stopped_changes(rt: HostRuntime) -> Result<(), Fail> {
             Arming::Fail,
         ] {
             let mut last = Outcome {
-                is_stopped: true,
+                stops: 1,
                 is_new: false,
             };
+            let mut stopped = 0;
+            let mut cuts = 0;
             for k in 1..=32 {
                 let stop = armed(alloc, arming, k)?;
-                let plain = outcome_of(alloc, change, stop.as_str(), 0)?;
-                assert!(rt; plain.is_some(), "{} {k}", change.line);
-                if let Some(plain) = plain {
-                    assert!(rt; plain.is_new || !last.is_new, "{} {k}", change.line);
-                    let is_kept = is_kept(alloc, change, stop.as_str(), plain.is_new)?;
-                    assert!(rt; is_kept, "{} {k}", change.line);
-                    last = plain;
-                }
-                if !last.is_stopped {
+                let Some(plain) = outcome_of(alloc, change, stop.as_str(), 0)? else {
+                    return Err(Fail::new("a change that is not atomic"));
+                };
+                assert!(rt; plain.is_new || !last.is_new, "{} {k}", change.line);
+                assert!(rt; k > 1 || !plain.is_new, "{} {k}", change.line);
+                let Some(count) = recovery_cuts(alloc, change, stop.as_str(), plain)? else {
+                    return Err(Fail::new("a recovery that changes what is durable"));
+                };
+                cuts = usize::saturating_add(cuts, count);
+                stopped = usize::saturating_add(stopped, plain.stops);
+                last = plain;
+                if last.stops == 0 {
                     break;
                 }
             }
-            assert!(rt; last.is_new && !last.is_stopped, "{}", change.line);
+            assert!(rt; last.is_new && last.stops == 0, "{}", change.line);
+            assert!(rt; stopped > 1 && cuts > 0, "{}", change.line);
         }
     }
     Ok(())
@@ -240,10 +260,10 @@ fn refused_writes(rt: HostRuntime) -> Result<(), Fail> {
             "at {n}"
         );
         assert!(rt; text.contains(" 6581\n"), "at {n}");
-        assert!(rt;
-            text.contains("absent") || text.contains("static 000"),
-            "at {n}"
-        );
+        let is_one_it_had = text.ends_with(" absent\n")
+            || text.ends_with(" static 0000\n")
+            || text.ends_with(" static 0001\n");
+        assert!(rt; is_one_it_had, "at {n}");
     }
     Ok(())
 }
@@ -268,17 +288,20 @@ fn refuses_alike(alloc: Global, change: &Change, k: u32) -> Result<Option<bool>,
     Ok(Some(is_alike))
 }
 
-// Each write of each change, failed by the device itself.
+// Each write of each change, failed by the device itself: two writes at least, and fewer than 64.
 #[test]
 fn failure_writes(rt: HostRuntime) -> Result<(), Fail> {
     let alloc = rt.alloc();
     for change in &CHANGES {
+        let mut failed = 0;
         for k in 1..=64 {
             let Some(is_alike) = refuses_alike(alloc, change, k)? else {
                 break;
             };
             assert!(rt; is_alike, "{} {k}", change.line);
+            failed = k;
         }
+        assert!(rt; 1 < failed && failed < 64, "{} {failed}", change.line);
     }
     Ok(())
 }

@@ -3,26 +3,16 @@
 use Rattle.std.specs.Prelude.{◌≡◌, ◌⊎◌, ℕ, List, [], ◌∷◌, Option, Some, None, Result, Ok, Err, ⊤}
 use Rattle.std.proofs.Common.{inl, inr}
 use Rattle.std.specs.Borrow.{MutBor}
-use Rattle.mc_model_device.specs.Counts.{Rose}
 use Rattle.mc_model_play.specs.DeckGrammar.{DeckLine, Format, deck_read}
 use Rattle.mc_model_play.specs.declared.deck.DeckCause.{DeckCause}
 use Rattle.mc_base.specs.declared.source.Source as source
-use Rattle.mc_filter.specs.Inputs.{TookLimited}
+use Rattle.mc_filter.specs.Inputs.{stream, FailsReading, ReadsLimited, Stream}
 use Rattle.mc_filter.specs.Lines.{deck_line}
 use Rattle.mc_filter.specs.Outside.{IsRead}
 use Rattle.mc_filter.specs.declared.rejection.Rejection.{Rejection}
 use Rattle.mc_filter.specs.declared.rejection.Rejection.TheVariants as rejection
 
 -- ---- sources
-
--- a source: the bytes that it has left, and its number of faults
-pub record Stream : Type 0 where
-  pub left : Option (List ℕ)
-  pub faults : ℕ
-
--- a source, by the members of its trait
-abbrev pub stream : {S : Type 0} → source.Ghosts S → S → Stream
-stream t s = record { left = t.left s; faults = t.faults s }
 
 -- a source that may be missing
 abbrev pub stream_of_source : {D : Type 0} → source.Ghosts D → Option (MutBor D) → Option Stream
@@ -58,19 +48,19 @@ blank_deck = (1, Format) ∷ []
 abbrev pub IsDeck : Option Stream → Option Stream → Result (List (ℕ × DeckLine)) (List ℕ) → Type 0
 IsDeck None b v = v ≡ Ok blank_deck
 IsDeck (Some a) None v = ⊥
-IsDeck (Some a) (Some b) v = IsRead Err SpellsDeck a.left b.left v
+IsDeck (Some a) (Some b) v = IsRead Err SpellsDeck a b v
 
--- at most the limit and one byte after it was read from the deck's source, if there is one
+-- at most the limit and one byte after it was read from the deck's source, if there is one, and no call of it failed
 abbrev pub DeckLimited : Option Stream → Option Stream → Type 0
 DeckLimited None b = ⊤
 DeckLimited (Some a) None = ⊥
-DeckLimited (Some a) (Some b) = TookLimited a.left b.left
+DeckLimited (Some a) (Some b) = ReadsLimited a b
 
--- the number of faults of the deck's source rose, and at most the limit and one byte after it was read
+-- one call of the deck's source failed, and at most the limit and one byte after it was read
 abbrev pub DeckFails : Option Stream → Option Stream → Type 0
 DeckFails None b = ⊥
 DeckFails (Some a) None = ⊥
-DeckFails (Some a) (Some b) = Rose a.faults b.faults × TookLimited a.left b.left
+DeckFails (Some a) (Some b) = FailsReading a b
 
 -- ---- the deck of the code
 

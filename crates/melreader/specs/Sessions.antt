@@ -11,7 +11,8 @@ use Rattle.mc_reader.specs.declared.serve_error.ServeError.TheVariants as serve
 use Rattle.mc_filter.specs.Statuses.{IsWritten}
 use Rattle.mc_filter.specs.declared.status.Status.{Status}
 use Rattle.mc_filter.specs.declared.status.Status.TheVariants.{Done, Failed, NoForm, ReadFault, WriteFault, NoMemory}
-use Rattle.melreader.specs.Decks.{Stream, IsDeck, DeckFails, DeckLimited}
+use Rattle.mc_filter.specs.Inputs.{Stream}
+use Rattle.melreader.specs.Decks.{IsDeck, DeckFails, DeckLimited}
 
 -- the environment of the call: the deck's source, if there is one, the sink of refusals, and the environment of the
 -- session
@@ -48,7 +49,11 @@ outside s t e state bench deck_old deck in_old in_new out_old out_new err_old er
 abbrev pub AreKept : {S T N : Type 0} → S → S → T → T → N → N → Type 0
 AreKept in_old in_new out_old out_new dev_old dev_new = (in_new ≡ in_old) × (out_new ≡ out_old) × (dev_new ≡ dev_old)
 
--- ---- the line of a refusal
+-- ---- the lines that are written beside the answers
+
+-- the text that is written if the words name no deck that can be opened
+abbrev pub usage : List ℕ
+usage = codes "usage: melreader [DECK]\n"
 
 -- the output line if the input ended inside the frame with this number
 abbrev pub short_frame : ℕ → List ℕ

@@ -1,6 +1,7 @@
 // The deck that a session begins with.
 ghost use Rattle.std.specs.Prelude.{◌≡◌, None, Some};
-ghost use Rattle.melreader.specs.Decks.{stream, HasDeck};
+ghost use Rattle.mc_filter.specs.Inputs.{stream};
+ghost use Rattle.melreader.specs.Decks.{HasDeck};
 
 use mc_base::Source;
 use mc_deck::Deck;

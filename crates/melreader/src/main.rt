@@ -8,20 +8,29 @@ mod running;
 #[cfg(test)]
 mod tests;
 
-ghost use Rattle.std.specs.Prelude.{◌≡◌, ◌<◌};
+ghost use Rattle.std.specs.Prelude.{◌≡◌, ◌<◌, Result};
+ghost use Rattle.mc_base.specs.declared.refusals.WriteFault.{WriteFault as Fault};
+ghost use Rattle.mc_text.specs.Texts.{sunk_in, Puts};
+ghost use Rattle.mc_filter.specs.declared.status.Status.TheVariants.{NoForm};
+ghost use Rattle.mc_filter.specs.Statuses.{number_of};
+ghost use Rattle.melreader.specs.Sessions.{usage};
 
 use crate::running::melreader;
-use mc_base::{NoMemory, Source, StdSink, StdSource, Steps, put_all};
-use mc_filter::{Status, blank_device, command_words, number};
+use mc_base::{NoMemory, Sink, Source, StdSink, StdSource, Steps};
+use mc_filter::{Status, blank_device, command_words, number, only_word};
+use mc_text::put;
 use std::fs::File;
 use std::marker::Brand;
 use std::process::ExitCode;
 use std::sync::ledger::{Blank, Ledger};
 
-// Writes the usage line of the program.
-fn usage(rt: &HostRuntime) -> u8 {
-    let mut err = StdSink::new(rt.stderr());
-    let _written = put_all(&mut err, b"usage: melreader [DECK]\n");
+// Writes the usage line of the program, and returns its status, also if the sink fails.
+fn usage<E: Sink>(err: &mut E) -> u8
+    ensures status { result ≡ number_of NoForm }
+    ensures text { (written : Result (Unit {0}) Fault) × Puts (sunk_in E.taken E.faults err.old) usage written
+        (sunk_in E.taken E.faults err.new) }
+{
+    let _written = put(err, b"usage: melreader [DECK]\n");
     number(Status::NoForm)
 }
 
@@ -52,7 +61,7 @@ fn over_streams<D: Source, L: Ledger>(
 // Runs a session on a card on which the deck of a path was played.
 fn with_deck<L: Ledger>(rt: &HostRuntime, path: &str, steps: &mut Steps<L>) -> u8 {
     let Ok(file) = File::open(rt, path) else {
-        return usage(rt);
+        return usage(&mut StdSink::new(rt.stderr()));
     };
     let mut deck = StdSource::new(file);
     over_streams(rt, Some(&mut deck), steps)
@@ -68,13 +77,15 @@ fn program<L: Ledger>(rt: &HostRuntime, blank: Blank) -> u8
     let words = match command_words(rt) {
         Ok(Some(words)) => words,
         // Arguments that are not UTF-8 select no deck.
-        Ok(None) => return usage(rt),
+        Ok(None) => return usage(&mut StdSink::new(rt.stderr())),
         Err(NoMemory) => return number(Status::NoMemory),
     };
-    match words.as_slice() {
-        [] => over_streams::<StdSource<File>, L>(rt, None, &mut steps),
-        [path] => with_deck(rt, path.as_str(), &mut steps),
-        _ => usage(rt),
+    if words.is_empty() {
+        return over_streams::<StdSource<File>, L>(rt, None, &mut steps);
+    }
+    match only_word(words.as_slice()) {
+        Some(path) => with_deck(rt, path.as_str(), &mut steps),
+        None => usage(&mut StdSink::new(rt.stderr())),
     }
 }
 

@@ -5,7 +5,8 @@ ghost use Rattle.mc_script.specs.Players.{IsUnfused};
 ghost use Rattle.mc_text.specs.Texts.{sunk_in};
 ghost use Rattle.mc_filter.specs.declared.status.Status.{Status};
 ghost use Rattle.mc_filter.specs.Statuses.{number_of};
-ghost use Rattle.melreader.specs.Decks.{stream_of_source, stream_left, HasDeck, Stream};
+ghost use Rattle.mc_filter.specs.Inputs.{Stream};
+ghost use Rattle.melreader.specs.Decks.{stream_of_source, stream_left, HasDeck};
 ghost use Rattle.melreader.specs.Sessions.{outside, AreKept, ReaderEnds, MelreaderSays};
 
 use crate::deck::{blank_deck, deck_from};

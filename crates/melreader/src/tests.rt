@@ -15,6 +15,11 @@ const FRAMES: &[u8] = b"\x00\x01\x04\x00\x01\x01\x00\x0A\x00\xA4\x04\x0C\x05\xA0
 // The answers to them.
 const ANSWERS: &[u8] = b"\x00\x0C\x3B\x87\x80\x01MELCARD\x56\x00\x02\x6A\x82";
 
+// A deck that loads the application, and the answers to the same frames after it.
+const COUNTER: &[u8] = b"format\npower\napp counter A000000001\nEXIT\nend\nload counter 2 0\n";
+
+const PLAYED_ANSWERS: &[u8] = b"\x00\x0C\x3B\x87\x80\x01MELCARD\x56\x00\x02\x90\x00";
+
 // The parts of a session under test: its deck, the calls of the deck that fail, its frames, the calls of the
 // frames that fail, and the room of the sinks of answers and of refusals.
 #[derive(Clone, Copy)]
@@ -122,15 +127,15 @@ fn frames(rt: HostRuntime) -> Result<(), Fail> {
     Ok(())
 }
 
-// Decks that are played, refused and not read.
+// A deck that is played, so that the host finds its application, one that is refused, and one that is not read.
 #[test]
 fn decks(rt: HostRuntime) -> Result<(), Fail> {
     let alloc = rt.alloc();
     let played = Trial {
-        deck: Some(b"format\npower\n"),
+        deck: Some(COUNTER),
         ..PLAIN
     };
-    assert!(rt; ended(alloc, &played)?.is(0, ANSWERS, b""));
+    assert!(rt; ended(alloc, &played)?.is(0, PLAYED_ANSWERS, b""));
     let refused = Trial {
         deck: Some(b"format\n\nreboot\n"),
         ..PLAIN

@@ -19,4 +19,4 @@ returns-in_default-clause-says g c =
     let a : CardOutside = around g.S.Source g.T.Sink g.N.Nvm.state g.N.Bench.bench c.args.input.now c.args.input.now c.args.out.now c.put_all.new.sink c.args.dev.now c.args.dev.now in
     let said = c.put_all.ensures in
     let put = puts_by a.streams.out_old a.streams.out usage usage c.put_all.result refl said.bytes said.fault said.part said.quiet in
-    (c.ended.result, c.number.ensures, says_no_form (c.args.dev.now ≡ c.args.dev.now) (job_of c.args.words.now) a c.put_all.result c.ended.result (sym c.job_of.ensures.job ∙ c.in_default.is) c.ended.ensures refl (record { left = refl; reads = refl }) put)
+    (c.ended.result, c.number.ensures, says_no_form (c.args.dev.now ≡ c.args.dev.now) (job_of c.args.words.now) a c.put_all.result c.ended.result (sym c.job_of.ensures.job ∙ c.in_default.is) c.ended.ensures refl refl put)

@@ -33,7 +33,7 @@ returns-in-Ok g c =
           let a : CardOutside = around source sink state bench input input out did.new.out dev did.new.dev in
           let summed = ok_is all.done did.result s (λ (s : Status). IsSummed (deck_of_number n) s a.dev_old a.streams.out_old a.dev a.streams.out) c.in-Ok.is w.done-is did.ensures.done in
           says_at source sink state bench input all.input input out all.out did.new.out dev all.dev did.new.dev c.args.job (job.Generate n) s w.input-is w.out-is w.dev-is w.in-Generate.is
-          (says_summed (did.new.dev ≡ dev) n s a (record { left = refl; reads = refl }) summed)
+          (says_summed (did.new.dev ≡ dev) n s a refl summed)
       | in-Write w ↦
           let f = w.in-Write.form in
           let did = w.write-done in
@@ -65,7 +65,7 @@ returns-in-Err g c =
           let work = job.Generate w.in-Generate.number in
           let a : CardOutside = around source sink state bench input input out did.new.out dev did.new.dev in
           rejected_at source sink state bench input all.input input out all.out did.new.out end.new.out dev all.dev did.new.dev c.args.job work all.done did.result why end.result
-          c.in-Err.is w.input-is w.out-is w.dev-is w.done-is w.in-Generate.is (memory_only work a.streams did.result (record { left = refl; reads = refl }) did.ensures.rejected) did.ensures.out did.ensures.device end.ensures
+          c.in-Err.is w.input-is w.out-is w.dev-is w.done-is w.in-Generate.is (memory_only work a.streams did.result refl refl did.ensures.rejected) did.ensures.out did.ensures.device end.ensures
       | in-Write w ↦
           let did = w.write-done in
           let kept = err_always {P = dev ≡ dev} did.result refl in

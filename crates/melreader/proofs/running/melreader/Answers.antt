@@ -1,4 +1,4 @@
-use Rattle.melreader.specs.Decks.{stream}
+use Rattle.mc_filter.specs.Inputs.{stream}
 use Rattle.std.proofs.Common.{Some}
 use Rattle.melreader.proofs.running.melreader.Goals as goal
 
