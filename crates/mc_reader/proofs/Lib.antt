@@ -4,3 +4,4 @@ pub mod AnswerLemmas
 pub mod ServingLemmas
 pub mod LoopLemmas
 pub mod SessionLemmas
+pub mod LawLemmas

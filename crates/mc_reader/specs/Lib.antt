@@ -8,3 +8,4 @@ pub mod Requests
 pub mod Results
 pub mod Sessions
 pub mod Serving
+pub mod Laws

@@ -4,6 +4,7 @@
 //! frame.
 
 mod answering;
+mod laws;
 mod order;
 mod reading;
 mod request;
@@ -11,5 +12,6 @@ mod rows;
 mod serve_error;
 mod serving;
 
+pub use laws::commands_are_answered;
 pub use serve_error::ServeError;
 pub use serving::serve;
