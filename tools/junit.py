@@ -7,7 +7,7 @@
 
 The cases of `expect` are the expectations of the deck, those of `sweep` the swept lines, those of `explore` the rules that spend; of a
 refused deck it is its refused line. If no deck is given, there is a case for each line of the text alone. A swept line fails if it is
-torn, and with --no-between also if it is between.
+torn, or must be whole and is not, and with --no-between also if it is between.
 
 It needs Python 3.9. It ends with 1 if a case failed, and with 2 if it cannot read what it is given.
 """
@@ -39,11 +39,11 @@ def statement_of(lines: List[str], number: int) -> str:
 
 def expected(text: Text, lines: List[str]) -> Iterator[Case]:
     """The cases of expectations."""
-    numbers = [it.number for it in labtexts.remarks_of(lines) if it.mark == "#>"] or sorted(text.differing)
+    numbers = [it.number for it in labtexts.remarks_of(lines) if it.mark == "#>"] or sorted(text.failed)
     for number in numbers:
-        wanted, was = text.differing.get(number, ("", ""))
-        fault = "failure" if number in text.differing else None
-        yield named(number, statement_of(lines, number)), fault, f"expected {wanted} was {was}" if fault else ""
+        it = text.failed.get(number)
+        remark = f"expected {it.wanted} was {it.was} (line {it.line} {it.statement})" if it is not None else ""
+        yield named(number, statement_of(lines, number)), "failure" if it is not None else None, remark
     if not numbers:
         yield "the expectations", None, text.last
 
@@ -51,8 +51,8 @@ def expected(text: Text, lines: List[str]) -> Iterator[Case]:
 def swept(text: Text, lines: List[str], no_between: bool) -> Iterator[Case]:
     """The cases of swept lines."""
     for it in text.swept:
-        is_bad = it.has("torn") or no_between and it.has("between")
-        runs = " ".join(f"{word} {first}-{last}" for word, first, last in it.runs)
+        is_bad = it.has("torn") or it.is_broken or no_between and it.has("between")
+        runs = " ".join(f"{word} {first}-{last}" for word, first, last in it.runs) + (" not whole" if it.is_broken else "")
         yield named(it.number, statement_of(lines, it.number)), "failure" if is_bad else None, f"writes {it.writes}: {runs}"
 
 

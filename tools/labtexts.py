@@ -13,10 +13,10 @@ WORDS = ("before", "after", "same", "between", "torn")
 # The statuses of the programs: what each means.
 MEANINGS = {0: "held", 1: "failed", 2: "wrong words", 3: "no input", 4: "no output", 5: "out of memory"}
 
-SWEPT = re.compile(r"line (\d+) writes (\d+):((?: [a-z]+ \d+-\d+)+)$")
+SWEPT = re.compile(r"line (\d+) writes (\d+):((?: [a-z]+ \d+-\d+)+)( not whole)?$")
 RUN = re.compile(r" ([a-z]+) (\d+)-(\d+)")
 SWEEP_SUMS = re.compile(r"swept (\d+) writes (\d+) plays (\d+)$")
-DIFFERS = re.compile(r"line (\d+) expected (.*?) was (.*)$")
+DIFFERS = re.compile(r"line (\d+) expected (.*?) was ([0-9A-Za-z ]*) \(line (\d+) (.*)\)$")
 EXPECT_SUMS = re.compile(r"expected (\d+) failed (\d+)$")
 DEPTH = re.compile(r"depth (\d+) states (\d+)$")
 EXPLORED = re.compile(r"explored states (\d+) tries (\d+) (all|depth \d+)$")
@@ -64,7 +64,8 @@ class Remark:
 
 
 def remarks_of(lines: List[str]) -> List[Remark]:
-    """The expectations (`#>`) and the rules (`#@`) of a deck, none of which is in a section of assembly."""
+    """The expectations (`#>`) and the rules (`#@`) of a deck, none of which is in a section of assembly. An expectation needs no blank
+    after its mark."""
     found, is_section = [], False
     for number, line in enumerate(lines, 1):
         fields = fields_of(line)
@@ -72,8 +73,8 @@ def remarks_of(lines: List[str]) -> List[Remark]:
             is_section = fields != ["end"]
         elif fields[:1] == ["app"]:
             is_section = True
-        elif fields and fields[0] in ("#>", "#@"):
-            found.append(Remark(number, fields[0], line.strip(" \t")[2:].strip(" \t")))
+        elif fields and (fields[0].startswith("#>") or fields[0] == "#@"):
+            found.append(Remark(number, fields[0][:2], line.strip(" \t")[2:].strip(" \t")))
     return found
 
 
@@ -82,15 +83,26 @@ def remarks_of(lines: List[str]) -> List[Remark]:
 
 @dataclass
 class Swept:
-    """A swept line: its number, its writes, and its runs as (word, first, last)."""
+    """A swept line: its number, its writes, its runs as (word, first, last), and whether it must be whole and is not."""
 
     number: int
     writes: int
     runs: List[Tuple[str, int, int]]
+    is_broken: bool = False
 
     def has(self, word: str) -> bool:
         """Whether a run has this word."""
         return any(it == word for it, _, _ in self.runs)
+
+
+@dataclass
+class Failed:
+    """An expectation that failed: what it expected, what the result was, and the statement with the number of its line."""
+
+    wanted: str
+    was: str
+    line: int
+    statement: str
 
 
 @dataclass
@@ -101,7 +113,7 @@ class Text:
     is_whole: bool = False
     last: str = ""
     refused: Optional[Tuple[int, str]] = None
-    differing: Dict[int, Tuple[str, str]] = field(default_factory=dict)
+    failed: Dict[int, Failed] = field(default_factory=dict)
     swept: List[Swept] = field(default_factory=list)
     depths: List[Tuple[int, int]] = field(default_factory=list)
     broken: Optional[str] = None
@@ -119,7 +131,7 @@ def swept_line(found: "re.Match[str]", number: int) -> Swept:
     runs = [(word, int(first), int(last)) for word, first, last in RUN.findall(found.group(3))]
     if any(word not in WORDS for word, _, _ in runs):
         raise BadText(f"line {number}: no such word: {found.group()}")
-    return Swept(int(found.group(1)), int(found.group(2)), runs)
+    return Swept(int(found.group(1)), int(found.group(2)), runs, found.group(4) is not None)
 
 
 def read_text(text: str) -> Text:
@@ -134,7 +146,7 @@ def read_text(text: str) -> Text:
             made.swept.append(swept_line(found, number))
         elif found := DIFFERS.match(line):
             made.says("expect", number)
-            made.differing[int(found.group(1))] = found.group(2), found.group(3)
+            made.failed[int(found.group(1))] = Failed(found.group(2), found.group(3), int(found.group(4)), found.group(5))
         elif found := DEPTH.match(line):
             made.says("explore", number)
             made.depths.append((int(found.group(1)), int(found.group(2))))

@@ -46,12 +46,13 @@ def verdict(job: Job) -> Tuple[str, str]:
         return f"status {job.status}: {meaning}" if job.status > 1 else "its text has no end", BAD
     if text.kind == "expect":
         count = text.last.split()[1]
-        return (f"{len(text.differing)} of {count} failed", BAD) if text.differing else (f"{count} held", GOOD)
+        return (f"{len(text.failed)} of {count} failed", BAD) if text.failed else (f"{count} held", GOOD)
     if text.kind == "explore":
         return (f"broken: {text.broken}", BAD) if text.broken else (text.last.partition(" ")[2], GOOD)
     torn, between = (sum(it.has(word) for it in text.swept) for word in ("torn", "between"))
-    if torn:
-        return f"{torn} lines torn", BAD
+    broken = sum(it.is_broken for it in text.swept)
+    if torn or broken:
+        return f"{torn} lines torn" if torn else f"{broken} lines not whole", BAD
     lines = f"{len(text.swept)} lines, {sum(it.writes for it in text.swept)} writes"
     return (f"{lines}, {between} between", LOOK) if between else (lines, GOOD)
 
@@ -92,18 +93,12 @@ def head_of(job: Job) -> str:
     return f'<{tag} id="{escape(job.stem)}.{job.name}"><code>{escape(job.deck)}</code>: <span class="{kind}">{escape(said)}</span></{tag}>'
 
 
-def statement(job: Job, number: int) -> str:
-    """The statement that an expectation is of: the last line above it that is no comment and has a field."""
-    above = (line for line in reversed(job.lines[: number - 1]) if line.strip() and not line.strip().startswith("#"))
-    return next(above, "")
-
-
 def expectations(job: Job) -> Iterator[str]:
     """The failed expectations of a deck."""
-    if job.text.differing:
+    if job.text.failed:
         yield '<div class="wide"><table><tr><th>line</th><th>statement</th><th>expected</th><th>was</th></tr>'
-        for number, (wanted, was) in sorted(job.text.differing.items()):
-            cells = "".join(f'<td class="text">{escape(it)}</td>' for it in (statement(job, number), wanted, was))
+        for number, failed in sorted(job.text.failed.items()):
+            cells = "".join(f'<td class="text">{escape(it)}</td>' for it in (failed.statement, failed.wanted, failed.was))
             yield f"<tr><td>{number}</td>{cells}</tr>"
         yield "</table></div>"
 

@@ -5,7 +5,7 @@
 
 SWEEP is the text that `mellab sweep` wrote, or - for the standard input. If the deck is given too, the statement of each line is
 beside its bar. Each write is as wide as each other, 64 in a row: a long load takes more rows, and those of them that are of one word alone
-are drawn as one.
+are drawn as one. The number of a line that must be whole and is not is red.
 
 It needs Python 3.9. It ends with 2 if it cannot read what it is given.
 """
@@ -98,7 +98,9 @@ def picture(swept: List[Swept], sums: Optional[str], statements: List[str]) -> I
     yield from axis(height)
     y = TOP
     for line, rows in bars:
-        yield f'<text x="10" y="{y + 11}">{line.number}</text>'
+        colour = COLOURS["torn"] if line.is_broken else "black"
+        title = "<title>not whole</title>" if line.is_broken else ""
+        yield f'<text x="10" y="{y + 11}" fill="{colour}">{line.number}{title}</text>'
         if 0 < line.number <= len(statements):
             yield f'<text x="{LEFT + PER_ROW * WRITE + 10}" y="{y + 11}">{escape(beside(statements[line.number - 1]))}</text>'
         for row in rows:

@@ -63,6 +63,35 @@ def test_failed_expectations_are_failed_cases(tmp_path):
     assert [case.get("name") for case in suite if case.find("failure") is not None] == ["line 11: #> 0002 9000"]
 
 
+def test_a_failed_expectation_names_its_statement():
+    text = labtexts.read_text(lab("expect", example("counter").replace("0001 9000", "0002 90*")))
+    failed = text.failed[11]
+    assert (failed.wanted, failed.was, failed.line, failed.statement) == ("0002 90*", "00019000", 10, "apdu 8001000002")
+    text = labtexts.read_text(lab("expect", example("counter").replace("0001 9000", "0002 9000")))
+    assert text.failed[11].was == "0001 9000"
+
+
+def test_an_expectation_needs_no_blank():
+    assert [(it.mark, it.text) for it in labtexts.remarks_of(["#>9000", " #> 90 00 ", "##>", "#@ allow a 1"])] == [
+        ("#>", "9000"), ("#>", "90 00"), ("#@", "allow a 1")]
+
+
+def test_a_deck_without_expectations_is_an_error():
+    suite = xml.fromstring(tool("junit.py", "-", text=lab("expect", "format\npower\n")).stdout.split("\n", 1)[1])[0]
+    assert (suite.get("errors"), suite[0].get("name")) == ("1", "line 0")
+
+
+def test_a_line_that_must_be_whole_is_a_failed_case(tmp_path):
+    deck = tmp_path / "wallet.deck"
+    lines = example("wallet").splitlines(keepends=True)
+    deck.write_text("".join([*lines[:138], "#! whole\n", *lines[138:]]), encoding="utf-8")
+    text = lab("sweep", deck.read_text(encoding="utf-8"))
+    assert [it.number for it in labtexts.read_text(text).swept if it.is_broken] == [138]
+    suite = xml.fromstring(tool("junit.py", "-", deck, text=text).stdout.split("\n", 1)[1])[0]
+    assert (suite.get("failures"), "not whole" in suite.find("testcase/failure").text) == ("1", True)
+    assert ">138<title>not whole</title>" in tool("sweep_svg.py", "-", text=text).stdout
+
+
 def test_a_rule_that_is_broken_is_a_failed_case(tmp_path):
     deck = tmp_path / "rules.deck"
     deck.write_text("format\npower\n#@ move power\n#@ allow a 1\n#@ allow b 1\n#@ on power gives * spend a 1\n#@ on power gives off* spend b 1\n",

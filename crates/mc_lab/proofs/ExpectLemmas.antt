@@ -1,27 +1,32 @@
 -- Expectations compared one by one, and the report of them.
-use Rattle.std.proofs.Common.{◌≡◌, ◌+◌, ◌<◌, ◌≤◌, refl, sym, ◌∙◌, ap, subst, ℕ, zero, suc, List, [], ◌∷◌, ◌++◌, length, drop, map, filter, not, Bool, true, false, cond, Option, Some, None, Result, Ok, Err, IsErr, arith, add-one, zero-add, append_assoc}
+use Rattle.std.proofs.Common.{◌≡◌, ◌+◌, ◌<◌, ◌≤◌, refl, sym, ◌∙◌, ap, subst, ℕ, zero, suc, List, [], ◌∷◌, ◌++◌, length, drop, filter, not, Bool, true, false, cond, Result, Ok, Err, IsErr, arith, zero-add, append_assoc}
 use Rattle.std.specs.Prelude.{slice_index_or}
-use Rattle.std.proofs.lemmas.List.{length-map}
 use Rattle.mc_model_play.specs.Play.{Step}
-use Rattle.mc_asm.specs.declared.line.NumberedLine.{NumberedLine}
-use Rattle.mc_asm.specs.Passes.{numbered_lines}
+use Rattle.mc_asm.proofs.PassLemmas.{no_line}
 use Rattle.mc_base.specs.declared.refusals.WriteFault.{WriteFault}
 use Rattle.mc_text.specs.Texts.{Sunk, Puts, Writes, Fails}
 use Rattle.mc_text.proofs.TextLemmas.{fails_before, puts_as, puts_then}
-use Rattle.mc_model_play.specs.Patterns.{holds}
+use Rattle.mc_explore.specs.Matching.{fits}
+use Rattle.mc_lab.specs.declared.remark.Remark.{Remark as Found}
+use Rattle.mc_lab.specs.Remarks.{Remark}
+use Rattle.mc_lab.specs.Remarked.{remark_value, remark_values}
 use Rattle.mc_lab.specs.Expectations.{count_failed, count_text, expect_text, failed_lines, is_met, result_above, expectation_line}
-use Rattle.mc_lab.specs.Judged.{done_of, expectation_of, text_left}
+use Rattle.mc_lab.specs.Judged.{done_of, text_left}
 
 -- ---- expectations one by one
 
-pub expectation_at : (es : List NumberedLine) (i : ℕ) (d : NumberedLine) → i < length es → drop i (numbered_lines es) ≡ expectation_of (slice_index_or es i d) ∷ drop (i + 1) (numbered_lines es)
+-- a remark in place of one that is not there
+abbrev pub no_remark : Found
+no_remark = record { number = 0; text = no_line.text; above = no_line }
+
+pub expectation_at : (es : List Found) (i : ℕ) (d : Found) → i < length es → drop i (remark_values es) ≡ remark_value (slice_index_or es i d) ∷ drop (i + 1) (remark_values es)
 expectation_at [] i d h = absurd (omega (arith, h))
 expectation_at (e ∷ es) zero d h = refl
 expectation_at (e ∷ es) (suc i) d h =
     let one : suc i + 1 ≡ suc (i + 1) = omega arith in
-    expectation_at es i d (omega (arith, h)) ∙ ap (λ j. expectation_of (slice_index_or es i d) ∷ drop j (expectation_of e ∷ numbered_lines es)) (sym one)
+    expectation_at es i d (omega (arith, h)) ∙ ap (λ j. remark_value (slice_index_or es i d) ∷ drop j (remark_value e ∷ remark_values es)) (sym one)
 
-pub expectation_none : (es : List NumberedLine) (i : ℕ) → length es ≤ i → drop i (numbered_lines es) ≡ []
+pub expectation_none : (es : List Found) (i : ℕ) → length es ≤ i → drop i (remark_values es) ≡ []
 expectation_none [] zero h = refl
 expectation_none [] (suc i) h = refl
 expectation_none (e ∷ es) zero h = absurd (omega (arith, h))
@@ -34,46 +39,46 @@ count_filter test true x xs e = rw e refl
 count_filter test false x xs e = rw e refl
 
 -- an expectation that holds does not count as failed, and one that failed does
-pub count_met : (ts : List Step) (e : ℕ × List ℕ) (es : List (ℕ × List ℕ)) → is_met ts e ≡ true → count_failed ts (e ∷ es) ≡ count_failed ts es
+pub count_met : (ts : List Step) (e : Remark) (es : List Remark) → is_met ts e ≡ true → count_failed ts (e ∷ es) ≡ count_failed ts es
 count_met ts e es h = count_filter (λ e. not (is_met ts e)) false e es (ap not h)
 
-pub count_unmet : (ts : List Step) (e : ℕ × List ℕ) (es : List (ℕ × List ℕ)) → is_met ts e ≡ false → count_failed ts (e ∷ es) ≡ suc (count_failed ts es)
+pub count_unmet : (ts : List Step) (e : Remark) (es : List Remark) → is_met ts e ≡ false → count_failed ts (e ∷ es) ≡ suc (count_failed ts es)
 count_unmet ts e es h = count_filter (λ e. not (is_met ts e)) true e es (ap not h)
 
 -- ---- texts
 
 -- the rest of the report, by the first expectation that is left
-left_on : (ts : List Step) (e : ℕ × List ℕ) (es all : List (ℕ × List ℕ)) → text_left ts (e ∷ es) all ≡ expectation_line (is_met ts e) e (result_above ts e.0) ++ text_left ts es all
-left_on ts e es all = append_assoc (expectation_line (is_met ts e) e (result_above ts e.0)) (failed_lines ts es) (count_text (length all) (count_failed ts all))
+left_on : (ts : List Step) (e : Remark) (es all : List Remark) → text_left ts (e ∷ es) all ≡ expectation_line (is_met ts e) e (result_above ts e.number) ++ text_left ts es all
+left_on ts e es all = append_assoc (expectation_line (is_met ts e) e (result_above ts e.number)) (failed_lines ts es) (count_text (length all) (count_failed ts all))
 
 -- the line that was written of an expectation is the first part of the rest of the report
-pub reported_on : (ts : List Step) (left : List (ℕ × List ℕ)) (e : ℕ × List ℕ) (es all : List (ℕ × List ℕ)) (text : List ℕ) (x y : Sunk) (r : Result (Unit {0}) WriteFault) (z : Sunk)
-    → left ≡ e ∷ es → text ≡ result_above ts e.0 → Writes x (expectation_line (holds e.1 text) e text) y → Puts y (text_left ts es all) r z → Puts x (text_left ts left all) r z
+pub reported_on : (ts : List Step) (left : List Remark) (e : Remark) (es all : List Remark) (text : List ℕ) (x y : Sunk) (r : Result (Unit {0}) WriteFault) (z : Sunk)
+    → left ≡ e ∷ es → text ≡ result_above ts e.number → Writes x (expectation_line (fits e.text text) e text) y → Puts y (text_left ts es all) r z → Puts x (text_left ts left all) r z
 reported_on ts left e es all text x y r z i is wrote rest =
-    let here : expectation_line (holds e.1 text) e text ≡ expectation_line (is_met ts e) e (result_above ts e.0) = ap (λ t. expectation_line (holds e.1 t) e t) is in
+    let here : expectation_line (fits e.text text) e text ≡ expectation_line (is_met ts e) e (result_above ts e.number) = ap (λ t. expectation_line (fits e.text t) e t) is in
     puts_as x z r (ap (λ t. t ++ text_left ts es all) here ∙ sym (left_on ts e es all) ∙ ap (λ l. text_left ts l all) (sym i)) (puts_then z (text_left ts es all) r wrote rest)
 
-pub reported_fails : (ts : List Step) (left : List (ℕ × List ℕ)) (e : ℕ × List ℕ) (es all : List (ℕ × List ℕ)) (text : List ℕ) (x y : Sunk)
-    → left ≡ e ∷ es → text ≡ result_above ts e.0 → Fails x (expectation_line (holds e.1 text) e text) y → Fails x (text_left ts left all) y
+pub reported_fails : (ts : List Step) (left : List Remark) (e : Remark) (es all : List Remark) (text : List ℕ) (x y : Sunk)
+    → left ≡ e ∷ es → text ≡ result_above ts e.number → Fails x (expectation_line (fits e.text text) e text) y → Fails x (text_left ts left all) y
 reported_fails ts left e es all text x y i is failed =
-    let here : expectation_line (holds e.1 text) e text ≡ expectation_line (is_met ts e) e (result_above ts e.0) = ap (λ t. expectation_line (holds e.1 t) e t) is in
+    let here : expectation_line (fits e.text text) e text ≡ expectation_line (is_met ts e) e (result_above ts e.number) = ap (λ t. expectation_line (fits e.text t) e t) is in
     subst (λ (t : List ℕ). Fails x t y) (ap (λ t. t ++ text_left ts es all) here ∙ sym (left_on ts e es all) ∙ ap (λ l. text_left ts l all) (sym i)) (fails_before (text_left ts es all) failed)
 
-pub reported_start : (ts : List Step) (es : List (ℕ × List ℕ)) → text_left ts es es ≡ expect_text ts es
+pub reported_start : (ts : List Step) (es : List Remark) → text_left ts es es ≡ expect_text ts es
 unfolding expect_text
 reported_start ts es = refl
 
-pub reported_end : (ts : List Step) (left all : List (ℕ × List ℕ)) → left ≡ [] → text_left ts left all ≡ count_text (length all) (count_failed ts all)
+pub reported_end : (ts : List Step) (left all : List Remark) → left ≡ [] → text_left ts left all ≡ count_text (length all) (count_failed ts all)
 reported_end ts left all e = ap (λ l. text_left ts l all) e
 
-pub numbered_length : (es : List NumberedLine) → length (numbered_lines es) ≡ length es
+pub numbered_length : (es : List Found) → length (remark_values es) ≡ length es
 numbered_length [] = refl
 numbered_length (e ∷ es) = ap suc (numbered_length es)
 
 -- ---- ends
 
 -- one expectation that held or failed, and those that are left
-pub count_left : (ts : List Step) (left : List (ℕ × List ℕ)) (e : ℕ × List ℕ) (es : List (ℕ × List ℕ)) (held : Bool) → left ≡ e ∷ es → held ≡ is_met ts e → count_failed ts left ≡ cond held 0 1 + count_failed ts es
+pub count_left : (ts : List Step) (left : List Remark) (e : Remark) (es : List Remark) (held : Bool) → left ≡ e ∷ es → held ≡ is_met ts e → count_failed ts left ≡ cond held 0 1 + count_failed ts es
 count_left ts left e es true i h = ap (count_failed ts) i ∙ count_met ts e es (sym h) ∙ sym (zero-add (count_failed ts es))
 count_left ts left e es false i h =
     let more : count_failed ts (e ∷ es) ≡ suc (count_failed ts es) = count_unmet ts e es (sym h) in
@@ -89,7 +94,7 @@ fails_done (Ok x) h f = absurd (cc h)
 fails_done (Err e) h f = f
 
 -- all lines were written, and `failed` expectations failed
-pub text_done : (ts : List Step) (left all : List (ℕ × List ℕ)) (n failed : ℕ) → left ≡ [] → n ≡ length all → failed + count_failed ts left ≡ count_failed ts all → count_text n failed ≡ text_left ts left all
+pub text_done : (ts : List Step) (left all : List Remark) (n failed : ℕ) → left ≡ [] → n ≡ length all → failed + count_failed ts left ≡ count_failed ts all → count_text n failed ≡ text_left ts left all
 text_done ts left all n failed i len h =
     let none : count_failed ts left ≡ 0 = ap (count_failed ts) i in
     let same : failed ≡ count_failed ts all = omega (arith, none, h) in

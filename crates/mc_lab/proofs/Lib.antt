@@ -2,7 +2,8 @@ mod MatchingLemmas
 pub mod RisingLemmas
 mod BelowLemmas
 mod SectionLemmas
-mod ExpectationLemmas
+mod RemarkLemmas
+mod LayingLemmas
 mod TrialLemmas
 mod StageLemmas
 mod ExpectLemmas

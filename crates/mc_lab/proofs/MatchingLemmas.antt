@@ -2,17 +2,18 @@
 use Rattle.std.proofs.Common.{◌≡◌, ◌||◌, ◌==◌, refl, sym, ◌∙◌, ap, subst, ℕ, List, [], ◌∷◌, Bool, true, false, cond, arith}
 use Rattle.mc_model_machine.specs.Text.{is_blank, is_empty}
 use Rattle.mc_lab.specs.Walks.{Parts}
-use Rattle.mc_model_play.specs.Patterns.{is_any, is_star, some_rest, first_and_rest, matches, without_blanks}
+use Rattle.mc_model_play.specs.Patterns.{is_any, is_star}
+use Rattle.mc_explore.specs.Matching.{some_rest, first_and_rest, matches, plain, small}
 use Rattle.std.proofs.lemmas.Bool.{or_left, or_right}
 use Rattle.mc_model_device.proofs.BoolLemmas.{and_second}
 
 -- ---- blanks
 
-pub without_plain : (c : ℕ) (t : List ℕ) → is_blank c ≡ false → without_blanks (c ∷ t) ≡ c ∷ without_blanks t
-without_plain c t e = grind (arith, e)
+pub plain_kept : (c : ℕ) (t : List ℕ) → is_blank c ≡ false → plain (c ∷ t) ≡ small c ∷ plain t
+plain_kept c t e = rw e refl
 
-pub without_blank : (c : ℕ) (t : List ℕ) → is_blank c ≡ true → without_blanks (c ∷ t) ≡ without_blanks t
-without_blank c t e = grind (arith, e)
+pub plain_blank : (c : ℕ) (t : List ℕ) → is_blank c ≡ true → plain (c ∷ t) ≡ plain t
+plain_blank c t e = rw e refl
 
 -- ---- rests
 

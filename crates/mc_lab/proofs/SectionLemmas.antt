@@ -1,6 +1,6 @@
 -- The pass of the laboratory over a deck's text is in a section exactly if the deck's reader is.
 use Rattle.std.proofs.Common.{◌≡◌, ℕ, Bool, true, false, not, List, [], ◌∷◌, ◌++◌, Option, Some, None, Result, Ok, Err, refl, sym, ap, ◌∙◌}
-use Rattle.std.specs.Prelude.{◌&&◌, ◌==◌, ⊤, bytes_eq, codes, ok_or, IfOk, OnOk}
+use Rattle.std.specs.Prelude.{◌==◌, ⊤, bytes_eq, codes, ok_or, IfOk, OnOk}
 use Rattle.std.proofs.lemmas.Bool.{eqb-true}
 use Rattle.mc_model_device.specs.Bytes.{lookup}
 use Rattle.mc_model_device.proofs.MapLemmas.{each_found}
@@ -12,7 +12,8 @@ use Rattle.mc_model_play.specs.declared.deck.DeckCause.TheVariants as causes
 use Rattle.mc_model_play.specs.DeckGrammar.{hex_field, aid_field, fill_field, name_field, number_field, Context, Section, Stated, Says, Opens, Word, FormatWord, PowerWord, UnitWord, AppWord, LoadWord, SelectWord, DeleteWord, DumpWord, ApduWord, BudgetWord, CutWord, FailWord, PokeWord, deck_words, new_name, early, with_unit, statement_of, is_end, section_unit, Mode, Between, Within, LineTurn, turn_of, between, within, turn_at, deck_lines, deck_read}
 use Rattle.mc_model_play.specs.DeckGrammar as line
 use Rattle.mc_family.proofs.AssembledBytes.{as_ok, err_ok, only_ok, cond_ok, any_ok}
-use Rattle.mc_lab.specs.Expectations.{begins_with, in_section, expectation_at, after_line, expectations, expectations_from}
+use Rattle.mc_lab.specs.declared.remark.Mark.{Mark}
+use Rattle.mc_lab.specs.Remarks.{Remark, above_after, after_line, in_section, just, remark_at, remarks, remarks_from, text_in}
 use Rattle.mc_lab.specs.Scanning.{stays_inside, scanned_from, scanned}
 
 -- ---- statements
@@ -144,23 +145,25 @@ turn_leaves false (Within s c) l = within_leaves (is_end (fields l.1)) s c l
 
 -- ---- texts
 
-by_turn : (here : List (ℕ × List ℕ)) (ls : List (ℕ × List ℕ)) (b : Bool) (r : Result LineTurn (ℕ × DeckCause)) → IfOk r (LeavesIn b)
-    → ((m : Mode) → OnOk (deck_lines m ls) (scanned_from (in_section m) ls ≡ expectations_from m ls))
-    → OnOk (r >>= λ t. ok_as (λ rest. t.lines ++ rest) (deck_lines t.mode ls)) (here ++ scanned_from b ls ≡ here ++ after_line r (λ m. expectations_from m ls))
-by_turn here ls b (Err e) leaves rest = tt
-by_turn here ls b (Ok t) leaves rest =
-    as_ok (λ rest. t.lines ++ rest) (deck_lines t.mode ls) (λ ds. scanned_from (in_section t.mode) ls ≡ expectations_from t.mode ls) (λ ds. here ++ scanned_from b ls ≡ here ++ expectations_from t.mode ls) (rest t.mode)
-    (λ ds k. ap (λ (x : List (ℕ × List ℕ)). here ++ x) (ap (λ (i : Bool). scanned_from i ls) (sym leaves) ∙ k))
+by_turn : (k : Mark) (above : ℕ × List ℕ) (here : List Remark) (ls : List (ℕ × List ℕ)) (b : Bool) (r : Result LineTurn (ℕ × DeckCause)) → IfOk r (LeavesIn b)
+    → ((m : Mode) → OnOk (deck_lines m ls) (scanned_from k (in_section m) above ls ≡ remarks_from k m above ls))
+    → OnOk (r >>= λ t. ok_as (λ rest. t.lines ++ rest) (deck_lines t.mode ls)) (here ++ scanned_from k b above ls ≡ here ++ after_line r (λ m. remarks_from k m above ls))
+by_turn k above here ls b (Err e) leaves rest = tt
+by_turn k above here ls b (Ok t) leaves rest =
+    as_ok (λ rest. t.lines ++ rest) (deck_lines t.mode ls) (λ ds. scanned_from k (in_section t.mode) above ls ≡ remarks_from k t.mode above ls)
+    (λ ds. here ++ scanned_from k b above ls ≡ here ++ remarks_from k t.mode above ls) (rest t.mode)
+    (λ ds e. ap (λ (x : List Remark). here ++ x) (ap (λ (i : Bool). scanned_from k i above ls) (sym leaves) ∙ e))
 
 -- line by line, from any mode of the reader
-scanned_from_lem : (m : Mode) (ls : List (ℕ × List ℕ)) → OnOk (deck_lines m ls) (scanned_from (in_section m) ls ≡ expectations_from m ls)
-unfolding deck_lines scanned_from expectations_from
-scanned_from_lem (Between c) [] = refl
-scanned_from_lem (Within s c) [] = tt
-scanned_from_lem m (l ∷ ls) =
-    by_turn (expectation_at (not (in_section m) && begins_with (codes "#>") (fields l.1)) l) ls (stays_inside (in_section m) (fields l.1)) (turn_at (l.0 == 20001) m l) (turn_leaves (l.0 == 20001) m l) (λ k. scanned_from_lem k ls)
+scanned_from_lem : (k : Mark) (m : Mode) (above : ℕ × List ℕ) (ls : List (ℕ × List ℕ)) → OnOk (deck_lines m ls) (scanned_from k (in_section m) above ls ≡ remarks_from k m above ls)
+unfolding deck_lines scanned_from remarks_from
+scanned_from_lem k (Between c) above [] = refl
+scanned_from_lem k (Within s c) above [] = tt
+scanned_from_lem k m above (l ∷ ls) =
+    by_turn k (above_after l above) (just (remark_at (in_section m) (text_in k l.1) l.0 above)) ls (stays_inside (in_section m) (fields l.1)) (turn_at (l.0 == 20001) m l) (turn_leaves (l.0 == 20001) m l)
+    (λ i. scanned_from_lem k i (above_after l above) ls)
 
--- if a text is a deck, the pass finds its expectations
-pub scanned_is : (text : List ℕ) → OnOk (deck_read text) (scanned text ≡ expectations text)
-unfolding deck_read scanned expectations
-scanned_is text = scanned_from_lem (Between (record { units = []; powered = false })) (with_numbers 1 (lines text))
+-- if a text is a deck, the pass finds its remarks
+pub scanned_is : (k : Mark) (text : List ℕ) → OnOk (deck_read text) (scanned k text ≡ remarks k text)
+unfolding deck_read scanned remarks
+scanned_is k text = scanned_from_lem k (Between (record { units = []; powered = false })) (0, []) (with_numbers 1 (lines text))

@@ -1,5 +1,5 @@
 -- A play that is compared: line by line, on a steady bench.
-use Rattle.std.proofs.Common.{◌≡◌, ◌+◌, ◌<◌, ◌≤◌, refl, sym, ◌∙◌, ap, subst, ℕ, zero, suc, List, [], ◌∷◌, length, drop, Bool, true, false, cond, Option, Some, None, arith, add-one}
+use Rattle.std.proofs.Common.{◌≡◌, ◌+◌, ◌≤◌, refl, sym, ◌∙◌, ap, subst, ℕ, zero, suc, List, [], ◌∷◌, drop, true, cond, Option, Some, arith, add-one}
 use Rattle.std.specs.Prelude.{nat_lt, slice_get, option_map}
 use Rattle.mc_model_device.specs.Device.{DeviceState, BenchState}
 use Rattle.mc_model_machine.specs.Chain.{Turn}

@@ -112,8 +112,8 @@ recovered_missed p k fill first made same hit r test missed =
     let within = r.within in
     recovered_all p k fill first made same r (omega arith)
 
-pub recovered_last : (p : Place) (k : ℕ) (fill : List ℕ) (first : ReportedState) (made : ℕ) (same : Bool) → Recovering p k fill first made same → made ≡ 65535 → again_in p k fill ≤ 65535 → Recovered p k fill first made same
-recovered_last p k fill first made same r last few =
+pub recovered_last : (p : Place) (k : ℕ) (fill : List ℕ) (first : ReportedState) (made most : ℕ) (same : Bool) → Recovering p k fill first made same → made ≡ most → again_in p k fill ≤ most → Recovered p k fill first made same
+recovered_last p k fill first made most same r last few =
     let within = r.within in
     recovered_all p k fill first made same r (omega arith)
 

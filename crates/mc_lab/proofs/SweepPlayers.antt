@@ -7,7 +7,10 @@ use Rattle.mc_model_device.specs.Bytes.{lookup}
 use Rattle.mc_model_device.specs.Card.{App, heap_start}
 use Rattle.mc_model_machine.specs.Chain.{Turn}
 use Rattle.mc_model_device.specs.Device.{blank_words, device_words, DeviceState, BenchState, Entry}
-use Rattle.mc_model_play.specs.Play.{Armed, Live, Running, Unpowered, Muted, Warm, State, BeforePower, AfterPower, FailedWrite, LineResult, step, card_line, static_of, steady_at, moves_of, armed_stop_in, play_at_power, power_moves, laid_entries, words_left, start, formatted_image, plays, steady_failures}
+use Rattle.mc_model_device.specs.declared.device.Stop.{Stop}
+use Rattle.mc_model_device.specs.declared.device.Stop.TheVariants as stop
+use Rattle.mc_model_card.specs.Items.{StopAt}
+use Rattle.mc_model_play.specs.Play.{Armed, Live, Running, Unpowered, Muted, Warm, State, BeforePower, AfterPower, FailedWrite, LineResult, Ready, hit_of, power_result, power_says, result_of_stop, step, card_line, static_of, steady_at, moves_of, armed_stop_in, play_at_power, power_moves, laid_entries, words_left, start, formatted_image, plays, steady_failures}
 use Rattle.mc_model_device.specs.PowerUp.{Base, OnCard, AtFault}
 use Rattle.mc_model_play.specs.DeckGrammar.{DeckLine}
 use Rattle.mc_model_play.specs.DeckGrammar as line
@@ -22,10 +25,10 @@ use Rattle.mc_card.specs.Parts.{card_in, device_in}
 use Rattle.mc_script.specs.Players.{answer_value, device_of, dump_value, statics_by, statics_in, LiveIs, StateIs, IsPlayerAt, IsPlaying}
 use Rattle.mc_script.specs.Lines.{LineDone}
 use Rattle.mc_model_device.proofs.ImageLemmas.{length_laid as laid-size}
-use Rattle.mc_lab.specs.Sweeps.{state_on_blank, state_after_lines, state_after_power, state_by_result, Holds, static_bytes_under, running_apps, running_in, cut_statement, under_cut}
+use Rattle.mc_lab.specs.Sweeps.{steady_step, state_on_blank, state_after_lines, state_after_power, state_by_result, Holds, static_bytes_under, running_apps, running_in, cut_statement, under_cut}
 use Rattle.mc_lab.specs.SweepLaws.{is_off}
 use Rattle.mc_lab.specs.SweepBodies.{state_by_fault, next, lines_behind, hits, front_of, line_in, names_in, state_at_place, hit_in, again_in, IsFewBehind}
-use Rattle.mc_lab.specs.SweepPlayers.{fault_in, off_in, BehindOn, CutOn, IsSteadyAt, LineOn}
+use Rattle.mc_lab.specs.SweepPlayers.{fault_in, most_in, off_in, BehindOn, CutOn, IsSteadyAt, LineOn}
 use Rattle.mc_lab.specs.declared.sweep_trial.Behind.{Behind}
 use Rattle.mc_lab.specs.declared.sweep_trial.Place.{Place}
 use Rattle.mc_lab.specs.declared.sweep_trial.Behind.TheVariants as behind
@@ -268,6 +271,40 @@ module _ {N : Type 0} (state : N → DeviceState) (bench : N → BenchState) whe
   pub power_few : (p : Player N) (s : State) (n : ℕ) → IsSteadyAt state bench p s → moves_of s (n, line.Power) ≤ 65535
   power_few p s n h = power_few_by p.power p.card s n h.at.stands
 
+  -- a result that no stop made
+  ready_base : (m k : ℕ) (b : Base) → Some (power_result m b) ≡ Some (Ready k) → m ≡ k
+  ready_base m k (OnCard c) e = cc e
+  ready_base m k (AtFault cause place) e = absurd (cc e)
+
+  ready_stop : (t : StopAt) (k : ℕ) (how : Stop) → Some (result_of_stop t how) ≡ Some (Ready k) → ⊥
+  ready_stop t k stop.Off e = absurd (cc e)
+  ready_stop t k stop.Worn e = absurd (cc e)
+
+  ready_says : (w : Warm) (t : Option StopAt) (k : ℕ) → Some (power_says w t) ≡ Some (Ready k) → power_moves w ≡ k
+  ready_says w None k e = ready_base (power_moves w) k w.base e
+  ready_says w (Some t) k e = absurd (ready_stop t k t.kind e)
+
+  -- a power line that finds a card has as many writes as it says
+  ready_step : (s : State) (n k : ℕ) (w : Option FailedWrite) → (step s (0, line.Power) w).result ≡ Some (Ready k) → moves_of s (n, line.Power) ≡ k
+  unfolding moves_of step
+  ready_step (BeforePower m b a) n k w e = let all = ready_says (play_at_power m b a) (hit_of a (power_moves (play_at_power m b a)) w) k e in omega (arith, all)
+  ready_step (AfterPower v) n k w e = let all = ready_says v (hit_of v.armed (power_moves v) w) k e in omega (arith, all)
+
+  ready_moves : (s : State) (n k : ℕ) → (steady_step s (0, line.Power)).result ≡ Some (Ready k) → moves_of s (n, line.Power) ≡ k
+  ready_moves s n k e = ready_step s n k (steady_at (armed_stop_in s) line.Power (moves_of s (0, line.Power))) e
+
+  power_most : (p : Player N) (s : State) (n : ℕ) (q : Player N) (a : Option Answer) → IsSteadyAt state bench p s → option_map (answer_value state q) a ≡ (steady_step s (0, line.Power)).result → moves_of s (n, line.Power) ≤ most_in a
+  power_most p s n q (Some (answer.Ready k)) h e = let all = ready_moves s n k (sym e) in omega (arith, all)
+  power_most p s n q None h e = power_few p s n h
+  power_most p s n q (Some answer.Formatted) h e = power_few p s n h
+  power_most p s n q (Some (answer.Unusable u)) h e = power_few p s n h
+  power_most p s n q (Some (answer.OffAt k)) h e = power_few p s n h
+  power_most p s n q (Some answer.Worn) h e = power_few p s n h
+  power_most p s n q (Some answer.NoCard) h e = power_few p s n h
+  power_most p s n q (Some answer.Mute) h e = power_few p s n h
+  power_most p s n q (Some answer.Outcome) h e = power_few p s n h
+  power_most p s n q (Some (answer.Dump aid)) h e = power_few p s n h
+
   -- ---- one play
 
   module _ (p : Place) (b : Behind) (x : ℕ × DeckLine) (here : slice_get p.deck.now p.at ≡ Some x) (hit : Bool) (m : Player N) (behind_on : BehindOn state bench (front_of p) x b hit m) where
@@ -283,18 +320,24 @@ module _ {N : Type 0} (state : N → DeviceState) (bench : N → BenchState) whe
     pub trial_hit : hit ≡ hit_in p b
     trial_hit = behind_on.says ∙ ap (λ (l : ℕ × DeckLine). hits (front_of p) l b) line_is
 
-  few_cut : (p : Place) (k : ℕ) (fill : List ℕ) (hit : Bool) (m : Player N) → BehindOn state bench (front_of p) (line_in p) (behind.Cut k fill) hit m → again_in p k fill ≤ 65535
-  few_cut p k fill hit m on = power_few m (state_on_blank (under_cut (front_of p) (line_in p) k fill)) (line_in p).0 on.at
+  -- the result of the power line of a play
+  abbrev PowerOn : Player N → Player N → Option Answer → Type 0
+  PowerOn m q a = (s : State) (n : ℕ) → IsSteadyAt state bench m s → LineOn state bench s (n, line.Power) a q
 
-  few_by : (p : Place) (b : Behind) (hit : Bool) (m : Player N) → BehindOn state bench (front_of p) (line_in p) b hit m → IsFewBehind p b
-  few_by p behind.Nothing hit m on = tt
-  few_by p behind.Whole hit m on = tt
-  few_by p (behind.Cut k fill) hit m on = few_cut p k fill hit m on
-  few_by p (behind.Twice k fill again) hit m on = tt
+  few_cut : (p : Place) (k : ℕ) (fill : List ℕ) (hit : Bool) (m q : Player N) (a : Option Answer) → PowerOn m q a → BehindOn state bench (front_of p) (line_in p) (behind.Cut k fill) hit m → again_in p k fill ≤ most_in a
+  few_cut p k fill hit m q a power_on on =
+      let s = state_on_blank (under_cut (front_of p) (line_in p) k fill) in
+      power_most m s (line_in p).0 q a on.at (power_on s 0 on.at).answers
 
-  pub trial_few : (p : Place) (b : Behind) (x : ℕ × DeckLine) → slice_get p.deck.now p.at ≡ Some x → (hit : Bool) (m : Player N) → BehindOn state bench (front_of p) x b hit m → IsFewBehind p b
-  trial_few p b x here hit m on =
-      few_by p b hit m (subst (λ (l : ℕ × DeckLine). BehindOn state bench (front_of p) l b hit m) (sym (got_or p.deck.now p.at (0, line.Named) x here)) on)
+  few_by : (p : Place) (b : Behind) (hit : Bool) (m q : Player N) (a : Option Answer) → PowerOn m q a → BehindOn state bench (front_of p) (line_in p) b hit m → IsFewBehind p b (most_in a)
+  few_by p behind.Nothing hit m q a power_on on = tt
+  few_by p behind.Whole hit m q a power_on on = tt
+  few_by p (behind.Cut k fill) hit m q a power_on on = few_cut p k fill hit m q a power_on on
+  few_by p (behind.Twice k fill again) hit m q a power_on on = tt
+
+  pub trial_few : (p : Place) (b : Behind) (x : ℕ × DeckLine) → slice_get p.deck.now p.at ≡ Some x → (hit : Bool) (m q : Player N) (a : Option Answer) → PowerOn m q a → BehindOn state bench (front_of p) x b hit m → IsFewBehind p b (most_in a)
+  trial_few p b x here hit m q a power_on on =
+      few_by p b hit m q a power_on (subst (λ (l : ℕ × DeckLine). BehindOn state bench (front_of p) l b hit m) (sym (got_or p.deck.now p.at (0, line.Named) x here)) on)
 
 -- ---- the static bytes under names
 

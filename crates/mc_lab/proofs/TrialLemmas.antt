@@ -1,6 +1,7 @@
 -- Decks with their expectations: the lines above an expectation, and the expectations without a result.
-use Rattle.std.proofs.Common.{◌≡◌, ◌+◌, ◌<◌, ◌≤◌, refl, sym, ◌∙◌, ap, subst, ℕ, zero, suc, List, [], ◌∷◌, length, drop, Bool, true, false, cond, Option, Some, None, Result, Ok, Err, arith}
-use Rattle.std.specs.Prelude.{nat_lt}
+use Rattle.std.proofs.Common.{◌≡◌, ◌+◌, ◌<◌, refl, sym, ◌∙◌, ap, subst, ℕ, suc, List, [], ◌∷◌, length, drop, Bool, true, false, cond, Option, Some, None, Result, Ok, Err, arith}
+use Rattle.std.specs.Prelude.{◌==◌, nat_lt}
+use Rattle.std.proofs.lemmas.Bool.Decides.{nat_tests}
 use Rattle.mc_model_play.specs.DeckGrammar.{DeckLine, deck_read}
 use Rattle.mc_model_play.specs.declared.deck.DeckCause.{DeckCause}
 use Rattle.mc_deck.specs.Refused.{DeckRefuses}
@@ -8,13 +9,17 @@ use Rattle.mc_deck.specs.declared.refusal.DeckRefusal.{DeckRefusal}
 use Rattle.mc_deck.specs.declared.refusal.DeckRefusal.TheVariants as deck
 use Rattle.mc_lab.specs.Trials.{refusal_of, RefusesTrial}
 use Rattle.mc_lab.specs.Rising.{Rising, count_below, last_of}
-use Rattle.mc_lab.specs.Expectations.{Trial, TrialFault, DeckFault, NoAnswer, expectations, first_unanswered, is_answered, last_below, line_number, trial_of, trial_read, trial_unless}
+use Rattle.mc_lab.specs.declared.remark.Mark.TheVariants as mark
+use Rattle.mc_lab.specs.Remarks.{Remark, remarks}
+use Rattle.mc_lab.specs.declared.remark.Remark.{Remark as Found}
+use Rattle.mc_lab.specs.Remarked.{remark_number, remark_values}
+use Rattle.mc_lab.specs.Expectations.{DeckFault, NoExpectation, first_unanswered, is_answered, last_below, line_number, trial_of, trial_read, trial_unless, trial_with}
 use Rattle.mc_lab.proofs.RisingLemmas.{rising_lower}
 use Rattle.mc_lab.proofs.BelowLemmas.{count_on, last_is}
 
 -- `count` lines are above some number, and no expectation that is left is below it
-abbrev pub LinesAbove : List (ℕ × DeckLine) → ℕ → List (ℕ × List ℕ) → Type 0
-LinesAbove ls count left = (m : ℕ) × (count ≡ count_below line_number m ls) × Rising line_number m left
+abbrev pub LinesAbove : List (ℕ × DeckLine) → ℕ → List Remark → Type 0
+LinesAbove ls count left = (m : ℕ) × (count ≡ count_below line_number m ls) × Rising remark_number m left
 
 count_zero : (ls : List (ℕ × DeckLine)) → 0 ≡ count_below line_number 0 ls
 count_zero [] = refl
@@ -22,19 +27,19 @@ count_zero (l ∷ ls) =
     let no : nat_lt l.0 0 ≡ false = grind arith in
     sym (ap (λ b. cond b (suc (count_below line_number 0 ls)) 0) no)
 
-pub above_start : (ls : List (ℕ × DeckLine)) (es : List (ℕ × List ℕ)) → Rising line_number 1 es → LinesAbove ls 0 es
-above_start ls es h = (0, count_zero ls, rising_lower line_number 0 1 es (omega arith) h)
+pub above_start : (ls : List (ℕ × DeckLine)) (es : List Remark) → Rising remark_number 1 es → LinesAbove ls 0 es
+above_start ls es h = (0, count_zero ls, rising_lower remark_number 0 1 es (omega arith) h)
 
 -- the count of the lines above the next expectation continues from there
-pub above_from : (ls : List (ℕ × DeckLine)) (count : ℕ) (left : List (ℕ × List ℕ)) (e : ℕ × List ℕ) (es : List (ℕ × List ℕ)) → left ≡ e ∷ es → LinesAbove ls count left → count + count_below line_number e.0 (drop count ls) ≡ count_below line_number e.0 ls
+pub above_from : (ls : List (ℕ × DeckLine)) (count : ℕ) (left : List Remark) (e : Remark) (es : List Remark) → left ≡ e ∷ es → LinesAbove ls count left → count + count_below line_number e.number (drop count ls) ≡ count_below line_number e.number ls
 above_from ls count left e es i h =
-    let rises : Rising line_number h.0 (e ∷ es) = subst (λ (l : List (ℕ × List ℕ)). Rising line_number h.0 l) i h.2 in
-    subst (λ (k : ℕ). k + count_below line_number e.0 (drop k ls) ≡ count_below line_number e.0 ls) (sym h.1) (count_on line_number h.0 e.0 ls rises.0)
+    let rises : Rising remark_number h.0 (e ∷ es) = subst (λ (l : List Remark). Rising remark_number h.0 l) i h.2 in
+    subst (λ (k : ℕ). k + count_below line_number e.number (drop k ls) ≡ count_below line_number e.number ls) (sym h.1) (count_on line_number h.0 e.number ls rises.0)
 
-pub above_on : (ls : List (ℕ × DeckLine)) (count now : ℕ) (left : List (ℕ × List ℕ)) (e : ℕ × List ℕ) (es : List (ℕ × List ℕ)) → left ≡ e ∷ es → now ≡ count_below line_number e.0 ls → LinesAbove ls count left → LinesAbove ls now es
+pub above_on : (ls : List (ℕ × DeckLine)) (count now : ℕ) (left : List Remark) (e : Remark) (es : List Remark) → left ≡ e ∷ es → now ≡ count_below line_number e.number ls → LinesAbove ls count left → LinesAbove ls now es
 above_on ls count now left e es i k h =
-    let rises : Rising line_number h.0 (e ∷ es) = subst (λ (l : List (ℕ × List ℕ)). Rising line_number h.0 l) i h.2 in
-    (e.0, k, rising_lower line_number e.0 (suc e.0) es (omega arith) rises.1)
+    let rises : Rising remark_number h.0 (e ∷ es) = subst (λ (l : List Remark). Rising remark_number h.0 l) i h.2 in
+    (e.number, k, rising_lower remark_number e.number (suc e.number) es (omega arith) rises.1)
 
 -- ---- the first expectation without a result
 
@@ -42,35 +47,48 @@ above_on ls count now left e es i k h =
 answered_is : (ls : List (ℕ × DeckLine)) (n count : ℕ) (b : Bool) → Rising line_number 1 ls → count ≡ count_below line_number n ls → b ≡ is_answered (last_of count ls) → b ≡ is_answered (last_below line_number n ls)
 answered_is ls n count b h k e = e ∙ ap (λ c. is_answered (last_of c ls)) k ∙ ap is_answered (sym (last_is line_number 1 n ls h))
 
-pub unanswered_first : (ls : List (ℕ × DeckLine)) (left : List (ℕ × List ℕ)) (e : ℕ × List ℕ) (es : List (ℕ × List ℕ)) (count : ℕ) (b : Bool) (whole : Option ℕ)
-    → left ≡ e ∷ es → Rising line_number 1 ls → count ≡ count_below line_number e.0 ls → b ≡ is_answered (last_of count ls) → b ≡ false → first_unanswered ls left ≡ whole → Some e.0 ≡ whole
+pub unanswered_first : (ls : List (ℕ × DeckLine)) (left : List Remark) (e : Remark) (es : List Remark) (count : ℕ) (b : Bool) (whole : Option ℕ)
+    → left ≡ e ∷ es → Rising line_number 1 ls → count ≡ count_below line_number e.number ls → b ≡ is_answered (last_of count ls) → b ≡ false → first_unanswered ls left ≡ whole → Some e.number ≡ whole
 unanswered_first ls left e es count b whole i h k t f w =
-    let here : is_answered (last_below line_number e.0 ls) ≡ false = sym (answered_is ls e.0 count b h k t) ∙ f in
-    sym (ap (λ b. cond b (first_unanswered ls es) (Some e.0)) here) ∙ sym (ap (first_unanswered ls) i) ∙ w
+    let here : is_answered (last_below line_number e.number ls) ≡ false = sym (answered_is ls e.number count b h k t) ∙ f in
+    sym (ap (λ b. cond b (first_unanswered ls es) (Some e.number)) here) ∙ sym (ap (first_unanswered ls) i) ∙ w
 
-pub unanswered_on : (ls : List (ℕ × DeckLine)) (left : List (ℕ × List ℕ)) (e : ℕ × List ℕ) (es : List (ℕ × List ℕ)) (count : ℕ) (b : Bool) (whole : Option ℕ)
-    → left ≡ e ∷ es → Rising line_number 1 ls → count ≡ count_below line_number e.0 ls → b ≡ is_answered (last_of count ls) → b ≡ true → first_unanswered ls left ≡ whole → first_unanswered ls es ≡ whole
+pub unanswered_on : (ls : List (ℕ × DeckLine)) (left : List Remark) (e : Remark) (es : List Remark) (count : ℕ) (b : Bool) (whole : Option ℕ)
+    → left ≡ e ∷ es → Rising line_number 1 ls → count ≡ count_below line_number e.number ls → b ≡ is_answered (last_of count ls) → b ≡ true → first_unanswered ls left ≡ whole → first_unanswered ls es ≡ whole
 unanswered_on ls left e es count b whole i h k t f w =
-    let here : is_answered (last_below line_number e.0 ls) ≡ true = sym (answered_is ls e.0 count b h k t) ∙ f in
-    sym (ap (λ b. cond b (first_unanswered ls es) (Some e.0)) here) ∙ sym (ap (first_unanswered ls) i) ∙ w
+    let here : is_answered (last_below line_number e.number ls) ≡ true = sym (answered_is ls e.number count b h k t) ∙ f in
+    sym (ap (λ b. cond b (first_unanswered ls es) (Some e.number)) here) ∙ sym (ap (first_unanswered ls) i) ∙ w
 
-pub unanswered_none : (ls : List (ℕ × DeckLine)) (left : List (ℕ × List ℕ)) (whole : Option ℕ) → left ≡ [] → first_unanswered ls left ≡ whole → None ≡ whole
+pub unanswered_none : (ls : List (ℕ × DeckLine)) (left : List Remark) (whole : Option ℕ) → left ≡ [] → first_unanswered ls left ≡ whole → None ≡ whole
 unanswered_none ls left whole i w = sym (ap (first_unanswered ls) i) ∙ w
 
 -- ---- what was read
 
-pub read_as : (text : List ℕ) (es : List (ℕ × List ℕ)) (r : Result (List (ℕ × DeckLine)) (ℕ × DeckCause)) → es ≡ expectations text → deck_read text ≡ r → trial_read text ≡ trial_of es r
+pub read_as : (text : List ℕ) (es : List Remark) (r : Result (List (ℕ × DeckLine)) (ℕ × DeckCause)) → es ≡ remarks mark.Expectation text → deck_read text ≡ r → trial_read text ≡ trial_of es r
 unfolding trial_read
-read_as text es r e h = ap (trial_of (expectations text)) h ∙ ap (λ es. trial_of es r) (sym e)
+read_as text es r e h = ap (trial_of (remarks mark.Expectation text)) h ∙ ap (λ es. trial_of es r) (sym e)
 
 pub read_deck : (text : List ℕ) (n : ℕ) (c : DeckCause) → deck_read text ≡ Err (n, c) → trial_read text ≡ Err (DeckFault n c)
 unfolding trial_read
-read_deck text n c h = ap (trial_of (expectations text)) h
+read_deck text n c h = ap (trial_of (remarks mark.Expectation text)) h
 
-pub read_trial : (text : List ℕ) (ls : List (ℕ × DeckLine)) (es : List (ℕ × List ℕ)) (o : Option ℕ) → es ≡ expectations text → deck_read text ≡ Ok ls → o ≡ first_unanswered ls es → trial_read text ≡ trial_unless (record { lines = ls; expected = es }) o
-read_trial text ls es o e h w = read_as text es (Ok ls) e h ∙ ap (trial_unless (record { lines = ls; expected = es })) (sym w)
+pub read_trial : (text : List ℕ) (ls : List (ℕ × DeckLine)) (es : List Remark) (o : Option ℕ) → es ≡ remarks mark.Expectation text → deck_read text ≡ Ok ls → o ≡ first_unanswered ls es → trial_read text ≡ trial_unless ls es o
+read_trial text ls es o e h w = read_as text es (Ok ls) e h ∙ ap (trial_unless ls es) (sym w)
 
 -- the refusal of a deck is one of the trial
 pub refused_deck : (text : List ℕ) (e : DeckRefusal) → DeckRefuses (deck_read text) e → RefusesTrial (trial_read text) (refusal_of e)
 refused_deck text (deck.At n c) h = read_deck text n c h
 refused_deck text deck.NoMemory h = tt
+
+-- a deck without an expectation, and one with some
+pub trial_none : (text : List ℕ) (ls : List (ℕ × DeckLine)) (es : List Found) (n : ℕ) → trial_read text ≡ trial_with ls (remark_values es) → length es ≡ n → (n == 0) ≡ true → trial_read text ≡ Err NoExpectation
+trial_none text ls [] n h len none = h
+trial_none text ls (e ∷ es) n h len none =
+    let zero_long : n ≡ 0 = grind (arith, nat_tests) in
+    absurd (omega (arith, len, zero_long))
+
+pub trial_some : (text : List ℕ) (ls : List (ℕ × DeckLine)) (es : List Found) (n : ℕ) → trial_read text ≡ trial_with ls (remark_values es) → length es ≡ n → (n == 0) ≡ false → trial_read text ≡ Ok (record { lines = ls; expected = remark_values es })
+trial_some text ls [] n h len some =
+    let long : 0 < n = grind (arith, nat_tests) in
+    absurd (omega (arith, len, long))
+trial_some text ls (e ∷ es) n h len some = h

@@ -19,7 +19,8 @@ use Rattle.mc_model_card.specs.Manager.{manage}
 use Rattle.mc_model_play.specs.Play.{Step, send, play_at_power, step, plays, moves_of, steady_failures}
 use Rattle.mc_model_card.specs.Commands.{command}
 use Rattle.mc_model_play.specs.DeckGrammar.{DeckLine, deck_read}
-use Rattle.mc_model_play.specs.Patterns.{matches}
+use Rattle.mc_explore.specs.Matching.{fits}
+use Rattle.mc_lab.specs.Remarks.{remarks}
 use Rattle.mc_lab.specs.Expectations.{Trial, TrialFault, trial_read, expect_text, steady_from, steady_steps}
 
 -- the play of a deck on a blank device of the laboratory
@@ -34,5 +35,5 @@ expectations_text (Err e) = Err e
 
 -- the report of the expectations of a deck's text on a blank device
 unfoldable pub expectation_report : List ℕ → Result (List ℕ) TrialFault
-unfolding deck_read matches trial_read expect_text blank_steps digits
+unfolding deck_read fits remarks trial_read expect_text blank_steps digits
 expectation_report text = expectations_text (trial_read text)

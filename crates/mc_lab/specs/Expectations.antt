@@ -1,60 +1,15 @@
--- Expectations: comments of a deck that begin with `#>`, each with a pattern for the result of the statement above it.
-use Rattle.std.specs.Prelude.{ℕ, ◌+◌, Bool, true, false, cond, not, ◌&&◌, nat_lt, ◌==◌, List, [], ◌∷◌, ◌++◌, length, filter, flat_map, bytes_eq, codes, decimal, Option, Some, None, Result, Ok, Err}
-use Rattle.mc_model_machine.specs.Text.{trim, trim_front, fields, first_cut, is_blank, lines, with_numbers}
+-- Expectations: remarks of a deck that begin with `#>`, each with a pattern for the result of the statement above it.
+use Rattle.std.specs.Prelude.{ℕ, Bool, true, false, cond, not, ◌&&◌, nat_lt, List, [], ◌∷◌, ◌++◌, length, take, drop, filter, flat_map, codes, decimal, Option, Some, None, Result, Ok, Err}
+use Rattle.mc_model_machine.specs.Text.{first_cut, is_blank, pieces}
 use Rattle.mc_model_play.specs.declared.deck.DeckCause.{DeckCause}
-use Rattle.mc_model_play.specs.DeckGrammar.{DeckLine, Mode, Between, Within, LineTurn, statement_of, within, turn_at, deck_read}
+use Rattle.mc_model_play.specs.DeckGrammar.{DeckLine, deck_read}
 use Rattle.mc_model_play.specs.DeckGrammar as line
 use Rattle.mc_model_play.specs.Play.{LineResult, State, Step, plays, start, steady_failures}
 use Rattle.mc_model_play.specs.Transcript.{text_of_result}
-use Rattle.mc_model_play.specs.Patterns.{holds}
-
--- ---- the expectations of a text
-
--- whether the first field of a line is this word
-abbrev pub begins_with : List ℕ → List (List ℕ) → Bool
-begins_with word [] = false
-begins_with word (f ∷ fs) = bytes_eq f word
-
--- the text after a cut, empty if there is none
-abbrev pub or_nothing : Option (List ℕ) → List ℕ
-or_nothing None = []
-or_nothing (Some t) = t
-
--- the first field of a line, empty if it has none, and the text after the blank at its end
-abbrev pub first_field : List ℕ → List ℕ × Option (List ℕ)
-first_field l = first_cut is_blank (trim_front l)
-
--- the text after the first field of a line, without the blanks around it
-abbrev pub behind_field : List ℕ → List ℕ
-behind_field l = trim (or_nothing (first_field l).1)
-
--- whether a line is in a section, by the mode of the deck's reader before it
-abbrev pub in_section : Mode → Bool
-in_section (Between c) = false
-in_section (Within s c) = true
-
--- the expectation of a line outside of sections, if it is one: the number of the line, and the pattern
-abbrev pub expectation_at : Bool → ℕ × List ℕ → List (ℕ × List ℕ)
-expectation_at true l = (l.0, behind_field l.1) ∷ []
-expectation_at false l = []
-
--- the expectations after a line, by the mode after it; there are none after a line that the reader refuses
-abbrev pub after_line : Result LineTurn (ℕ × DeckCause) → (Mode → List (ℕ × List ℕ)) → List (ℕ × List ℕ)
-after_line (Ok t) rest = rest t.mode
-after_line (Err e) rest = []
-
--- the expectations of lines, by the mode of the deck's reader before the first
-unfoldable pub expectations_from : Mode → List (ℕ × List ℕ) → List (ℕ × List ℕ)
-unfolding statement_of within
-expectations_from m [] = []
-expectations_from m (l ∷ ls) =
-    expectation_at (not (in_section m) && begins_with (codes "#>") (fields l.1)) l
-    ++ after_line (turn_at (l.0 == 20001) m l) (λ n. expectations_from n ls)
-
--- the expectations of a deck's text
-unfoldable pub expectations : List ℕ → List (ℕ × List ℕ)
-unfolding expectations_from
-expectations text = expectations_from (Between (record { units = []; powered = false })) (with_numbers 1 (lines text))
+use Rattle.mc_model_play.specs.Patterns.{is_star, without_blanks}
+use Rattle.mc_explore.specs.Matching.{fits}
+use Rattle.mc_lab.specs.declared.remark.Mark.TheVariants as mark
+use Rattle.mc_lab.specs.Remarks.{Remark, remarks}
 
 -- ---- the statements that expectations refer to
 
@@ -98,34 +53,42 @@ is_answered None = false
 is_answered (Some l) = has_result l.1
 
 -- the number of the first expectation without a statement above it that has a result
-abbrev pub first_unanswered : List (ℕ × DeckLine) → List (ℕ × List ℕ) → Option ℕ
+abbrev pub first_unanswered : List (ℕ × DeckLine) → List Remark → Option ℕ
 first_unanswered ls [] = None
-first_unanswered ls (e ∷ es) = cond (is_answered (last_below line_number e.0 ls)) (first_unanswered ls es) (Some e.0)
+first_unanswered ls (e ∷ es) = cond (is_answered (last_below line_number e.number ls)) (first_unanswered ls es) (Some e.number)
 
 -- a deck and its expectations
 pub record Trial : Type 0 where
   pub lines : List (ℕ × DeckLine)
-  pub expected : List (ℕ × List ℕ)
+  pub expected : List Remark
 
--- why a text is not a deck with expectations: the refusal of its deck, or an expectation without a result
+-- why a text is not a deck with expectations: the refusal of its deck, an expectation without a result, or no
+-- expectation at all
 pub data TrialFault : Type 0 where
   DeckFault : ℕ → DeckCause → TrialFault
   NoAnswer : ℕ → TrialFault
+  NoExpectation : TrialFault
+
+-- a deck and its expectations, of which there is one at least
+abbrev pub trial_with : List (ℕ × DeckLine) → List Remark → Result Trial TrialFault
+trial_with ls [] = Err NoExpectation
+trial_with ls (e ∷ es) = Ok (record { lines = ls; expected = e ∷ es })
 
 -- a deck and its expectations, unless one of them has no result
-abbrev pub trial_unless : Trial → Option ℕ → Result Trial TrialFault
-trial_unless t None = Ok t
-trial_unless t (Some n) = Err (NoAnswer n)
+abbrev pub trial_unless : List (ℕ × DeckLine) → List Remark → Option ℕ → Result Trial TrialFault
+trial_unless ls es None = trial_with ls es
+trial_unless ls es (Some n) = Err (NoAnswer n)
 
 -- a deck with its expectations, if the deck was read
-abbrev pub trial_of : List (ℕ × List ℕ) → Result (List (ℕ × DeckLine)) (ℕ × DeckCause) → Result Trial TrialFault
-trial_of es (Ok ls) = trial_unless (record { lines = ls; expected = es }) (first_unanswered ls es)
+abbrev pub trial_of : List Remark → Result (List (ℕ × DeckLine)) (ℕ × DeckCause) → Result Trial TrialFault
+trial_of es (Ok ls) = trial_unless ls es (first_unanswered ls es)
 trial_of es (Err e) = Err (DeckFault e.0 e.1)
 
--- the deck and the expectations of a text; the refusals of the deck come first
+-- the deck and the expectations of a text: the refusals of the deck come first, and that of a deck without an
+-- expectation last
 unfoldable pub trial_read : List ℕ → Result Trial TrialFault
-unfolding expectations deck_read
-trial_read text = trial_of (expectations text) (deck_read text)
+unfolding remarks deck_read
+trial_read text = trial_of (remarks mark.Expectation text) (deck_read text)
 
 -- ---- the report
 
@@ -144,24 +107,54 @@ abbrev pub result_above : List Step → ℕ → List ℕ
 result_above ts n = step_text (last_below (λ t. t.number) n ts)
 
 -- whether an expectation holds in a play
-abbrev pub is_met : List Step → ℕ × List ℕ → Bool
-is_met ts e = holds e.1 (result_above ts e.0)
+abbrev pub is_met : List Step → Remark → Bool
+is_met ts e = fits e.text (result_above ts e.number)
+
+-- whether a text has a character at which it is cut
+abbrev pub is_cut : List ℕ × Option (List ℕ) → Bool
+is_cut (front, None) = false
+is_cut (front, Some rest) = true
+
+-- whether results are laid out as a pattern: it has a blank, and no `*`
+abbrev pub lays_out : List ℕ → Bool
+lays_out pattern = not (is_cut (first_cut is_star pattern)) && is_cut (first_cut is_blank pattern)
+
+-- a blank before a text that is not empty
+abbrev pub after_blank : (List ℕ → List ℕ) → List ℕ → List ℕ
+after_blank rest [] = []
+after_blank rest (c ∷ t) = 32 ∷ rest (c ∷ t)
+
+-- a text with blanks after as many characters as each of these words has, but for the last word, as long as there are
+-- characters
+abbrev pub laid_by : List (List ℕ) → List ℕ → List ℕ
+laid_by [] t = t
+laid_by (w ∷ []) t = t
+laid_by (w ∷ v ∷ ws) t = take (length w) t ++ after_blank (laid_by (v ∷ ws)) (drop (length w) t)
+
+-- a result with blanks where a pattern has them, counted in characters that are no blanks
+abbrev pub laid_out : List ℕ → List ℕ → List ℕ
+laid_out pattern result = cond (lays_out pattern) (laid_by (pieces is_blank pattern) (without_blanks result)) result
+
+-- the statement of an expectation, in the line of one that failed
+abbrev pub above_text : ℕ × List ℕ → List ℕ
+above_text l = codes " (line " ++ decimal l.0 ++ codes " " ++ l.1 ++ codes ")\n"
 
 -- the line of an expectation that failed at a result
-abbrev pub failed_line : ℕ × List ℕ → List ℕ → List ℕ
-failed_line e result = codes "line " ++ decimal e.0 ++ codes " expected " ++ e.1 ++ codes " was " ++ result ++ codes "\n"
+abbrev pub failed_line : Remark → List ℕ → List ℕ
+failed_line e result =
+    codes "line " ++ decimal e.number ++ codes " expected " ++ e.text ++ codes " was " ++ laid_out e.text result ++ above_text e.above
 
 -- no text for an expectation that holds, and the line of one that failed
-abbrev pub expectation_line : Bool → ℕ × List ℕ → List ℕ → List ℕ
+abbrev pub expectation_line : Bool → Remark → List ℕ → List ℕ
 expectation_line true e result = []
 expectation_line false e result = failed_line e result
 
 -- the lines of the expectations that failed
-abbrev pub failed_lines : List Step → List (ℕ × List ℕ) → List ℕ
-failed_lines ts es = flat_map (λ e. expectation_line (is_met ts e) e (result_above ts e.0)) es
+abbrev pub failed_lines : List Step → List Remark → List ℕ
+failed_lines ts es = flat_map (λ e. expectation_line (is_met ts e) e (result_above ts e.number)) es
 
 -- the number of expectations that failed
-abbrev pub count_failed : List Step → List (ℕ × List ℕ) → ℕ
+abbrev pub count_failed : List Step → List Remark → ℕ
 count_failed ts es = length (filter (λ e. not (is_met ts e)) es)
 
 -- the line with the number of expectations and the number that failed
@@ -169,7 +162,7 @@ abbrev pub count_text : ℕ → ℕ → List ℕ
 count_text expected failed = codes "expected " ++ decimal expected ++ codes " failed " ++ decimal failed ++ codes "\n"
 
 -- the report of expectations in a play
-unfoldable pub expect_text : List Step → List (ℕ × List ℕ) → List ℕ
+unfoldable pub expect_text : List Step → List Remark → List ℕ
 expect_text ts es = failed_lines ts es ++ count_text (length es) (count_failed ts es)
 
 -- ---- the play

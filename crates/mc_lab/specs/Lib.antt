@@ -4,9 +4,11 @@ pub use Rattle.mc_model_play.specs.Play
 pub use Rattle.mc_model_play.specs.Transcript
 pub use Rattle.mc_asm.specs.Passes
 pub use Rattle.mc_script.specs.Players
-pub use Rattle.mc_model_play.specs.Patterns
+pub use Rattle.mc_explore.specs.Matching
 pub mod Walks
 pub mod Rising
+pub mod Remarks
+pub mod Remarked
 pub mod Expectations
 pub mod Scanning
 pub mod Trials

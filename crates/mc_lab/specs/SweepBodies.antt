@@ -96,12 +96,12 @@ writes_in p = writes_behind (front_of p) (line_in p)
 abbrev pub again_in : Place → ℕ → List ℕ → ℕ
 again_in p k fill = writes_behind (under_cut (front_of p) (line_in p) k fill) (power (line_in p).0)
 
--- the recovery after a cut makes at most 65,535 device writes
-abbrev pub IsFewBehind : Place → Behind → Type 0
-IsFewBehind p behind.Nothing = Unit {0}
-IsFewBehind p behind.Whole = Unit {0}
-IsFewBehind p (behind.Cut k fill) = again_in p k fill ≤ 65535
-IsFewBehind p (behind.Twice k fill again) = Unit {0}
+-- the recovery after a cut makes at most this many device writes
+abbrev pub IsFewBehind : Place → Behind → ℕ → Type 0
+IsFewBehind p behind.Nothing most = Unit {0}
+IsFewBehind p behind.Whole most = Unit {0}
+IsFewBehind p (behind.Cut k fill) most = again_in p k fill ≤ most
+IsFewBehind p (behind.Twice k fill again) most = Unit {0}
 
 -- the observed states after a cut in which the recovery is cut too
 abbrev pub recovery_states_at : Place → ℕ → List ℕ → List ReportedState

@@ -4,7 +4,8 @@ use Rattle.mc_model_play.specs.Play.{armed_stop_in, is_card_line}
 use Rattle.mc_model_play.specs.DeckGrammar.{DeckLine}
 use Rattle.mc_model_play.specs.DeckGrammar as line
 use Rattle.mc_text.specs.Texts.{Sunk, Writes, Fails}
-use Rattle.mc_lab.specs.Sweeps.{state_on_blank, is_unarmed, is_swept, line_sweep, sweeps_with, Swept, sweep_behind, total, writes_behind, names_from}
+use Rattle.mc_lab.specs.Sweeps.{state_on_blank, is_unarmed, is_swept, line_sweep, sweeps_with, count_of_broken, Swept, sweep_behind, total, writes_behind, names_from}
+use Rattle.mc_lab.specs.Remarks.{Remark}
 use Rattle.mc_lab.specs.declared.sweep_trial.Place.{Place}
 use Rattle.mc_lab.specs.declared.sweep_text.Sums.{Sums}
 use Rattle.mc_lab.specs.declared.sweep_line.Ends.{Ends}
@@ -49,16 +50,18 @@ sweeps_from names ls i = sweep_behind names (take i ls) (drop i ls)
 -- ---- sums
 
 -- sums after those of swept lines are added
-pub record AddsSums (a : Sums) (ss : List Swept) (b : Sums) : Type 0 where
+pub record AddsSums (marks : List Remark) (a : Sums) (ss : List Swept) (b : Sums) : Type 0 where
   pub lines : b.lines ≡ a.lines + length ss
   pub writes : b.writes ≡ a.writes + total (λ s. length s.words) ss
   pub plays : b.plays ≡ a.plays + total (λ s. s.plays) ss
+  pub broken : b.broken ≡ a.broken + total (count_of_broken marks) ss
 
 -- bounds for the sums of `n` lines
 pub record IsSmall (a : Sums) (n : ℕ) : Type 0 where
   pub lines : a.lines ≤ n
   pub writes : a.writes ≤ n * 4294967296
   pub plays : a.plays ≤ n * 562949953421312
+  pub broken : a.broken ≤ n
 
 -- ---- ends
 
@@ -70,7 +73,7 @@ pub record IsRoom (ls : List (ℕ × DeckLine)) (names : List (List ℕ)) (e : E
   pub few : words ≤ 4294967295
 
 -- the text was written, by the result of the call; without room nothing was
-abbrev pub ReportsSweep : Sunk → List ℕ → Result (Unit {0}) SweepFault → Sunk → Type 0
-ReportsSweep a text (Ok u) b = Writes a text b
+abbrev pub ReportsSweep : Sunk → List ℕ → Result Bool SweepFault → Sunk → Type 0
+ReportsSweep a text (Ok whole) b = Writes a text b
 ReportsSweep a text (Err fault.WriteFault) b = Fails a text b
 ReportsSweep a text (Err fault.NoMemory) b = b ≡ a

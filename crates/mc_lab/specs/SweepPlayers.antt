@@ -23,6 +23,11 @@ abbrev pub fault_in : Option Answer → Option Unusable
 fault_in (Some (answer.Unusable u)) = Some u
 fault_in r = None
 
+-- a number of device writes that a power line did not exceed, by its result: the exact number if it found a card
+abbrev pub most_in : Option Answer → ℕ
+most_in (Some (answer.Ready n)) = n
+most_in r = 65535
+
 module _ {N : Type 0} (state : N → DeviceState) (bench : N → BenchState) where
   -- a player represents a state, and its bench refuses no write by itself
   pub record IsSteadyAt (p : Player N) (s : State) : Type 0 where

@@ -1,6 +1,6 @@
 -- Sweeps: power cut in every device write of every line of a deck, and in every write of the recovery after it, and the
 -- observed states of the card.
-use Rattle.std.specs.Prelude.{ℕ, zero, suc, ◌+◌, Bool, true, false, cond, ◌&&◌, nat_le, ◌==◌, List, [], ◌∷◌, ◌++◌, length, map, replicate, bytes_eq, codes, decimal, Option, Some, None, option_map}
+use Rattle.std.specs.Prelude.{ℕ, zero, suc, ◌+◌, Bool, true, false, cond, ◌&&◌, ◌||◌, nat_le, ◌==◌, List, [], ◌∷◌, ◌++◌, length, map, replicate, bytes_eq, codes, decimal, Option, Some, None, option_map}
 use Rattle.mc_model_device.specs.declared.cause.Cause.{Cause}
 use Rattle.mc_model_device.specs.Bytes.{zeros, has_name, lookup}
 use Rattle.mc_model_device.specs.Device.{blank_words, device_words}
@@ -10,6 +10,7 @@ use Rattle.mc_model_device.specs.PowerUp.{Base, OnCard}
 use Rattle.mc_model_device.specs.Words.{cause_text}
 use Rattle.mc_model_play.specs.DeckGrammar.{DeckLine}
 use Rattle.mc_model_play.specs.DeckGrammar as line
+use Rattle.mc_lab.specs.Remarks.{Remark}
 use Rattle.mc_lab.specs.declared.sweep_word.Word.{Word}
 use Rattle.mc_lab.specs.declared.sweep_word.Word.TheVariants.{Before, After, Same, Between, Torn}
 
@@ -270,14 +271,42 @@ abbrev pub runs_text : List Run → List ℕ
 runs_text [] = []
 runs_text (r ∷ rs) = run_text r ++ runs_text rs
 
+-- whether a remark is about the line with a number
+abbrev pub has_mark : ℕ → List Remark → Bool
+has_mark n [] = false
+has_mark n (m ∷ ms) = (m.above.0 == n) || has_mark n ms
+
+-- whether a word is `between`
+abbrev pub is_between : Word → Bool
+is_between Between = true
+is_between w = false
+
+-- whether one of some words is
+abbrev pub has_between : List Word → Bool
+has_between [] = false
+has_between (w ∷ ws) = is_between w || has_between ws
+
+-- whether the line with a number must be whole, by the marks `#! whole` of a deck, and one of its words is `between`
+abbrev pub is_broken_at : List Remark → ℕ → List Word → Bool
+is_broken_at marks n ws = has_mark n marks && has_between ws
+
+-- whether a swept line must be whole, and is not
+abbrev pub is_broken : List Remark → Swept → Bool
+is_broken marks s = is_broken_at marks s.number s.words
+
+-- the end of a swept line
+abbrev pub line_end : Bool → List ℕ
+line_end true = codes " not whole\n"
+line_end false = codes "\n"
+
 -- the text of a swept line
-abbrev pub swept_text : Swept → List ℕ
-swept_text s = codes "line " ++ decimal s.number ++ codes " writes " ++ decimal (length s.words) ++ codes ":" ++ runs_text (runs 1 s.words) ++ codes "\n"
+abbrev pub swept_text : List Remark → Swept → List ℕ
+swept_text marks s = codes "line " ++ decimal s.number ++ codes " writes " ++ decimal (length s.words) ++ codes ":" ++ runs_text (runs 1 s.words) ++ line_end (is_broken marks s)
 
 -- the text of swept lines
-abbrev pub swept_texts : List Swept → List ℕ
-swept_texts [] = []
-swept_texts (s ∷ ss) = swept_text s ++ swept_texts ss
+abbrev pub swept_texts : List Remark → List Swept → List ℕ
+swept_texts marks [] = []
+swept_texts marks (s ∷ ss) = swept_text marks s ++ swept_texts marks ss
 
 -- a sum over swept lines
 abbrev pub total : (Swept → ℕ) → List Swept → ℕ
@@ -289,10 +318,19 @@ abbrev pub sums_text : ℕ → ℕ → ℕ → List ℕ
 sums_text lines writes plays = codes "swept " ++ decimal lines ++ codes " writes " ++ decimal writes ++ codes " plays " ++ decimal plays ++ codes "\n"
 
 -- the text of a sweep
-abbrev pub text_of : List Swept → List ℕ
-text_of ss = swept_texts ss ++ sums_text (length ss) (total (λ s. length s.words) ss) (total (λ s. s.plays) ss)
+abbrev pub text_of : List Remark → List Swept → List ℕ
+text_of marks ss = swept_texts marks ss ++ sums_text (length ss) (total (λ s. length s.words) ss) (total (λ s. s.plays) ss)
 
--- the text of a sweep of a deck
-unfoldable pub sweep_text : List (ℕ × DeckLine) → List ℕ
+-- the text of a sweep of a deck, with its marks `#! whole`
+unfoldable pub sweep_text : List Remark → List (ℕ × DeckLine) → List ℕ
 unfolding sweep
-sweep_text ls = text_of (sweep ls)
+sweep_text marks ls = text_of marks (sweep ls)
+
+-- 1 for a swept line that must be whole and is not
+abbrev pub count_of_broken : List Remark → Swept → ℕ
+count_of_broken marks s = cond (is_broken marks s) 1 0
+
+-- whether each line of a deck that must be whole is
+unfoldable pub is_whole : List Remark → List (ℕ × DeckLine) → Bool
+unfolding sweep
+is_whole marks ls = total (count_of_broken marks) (sweep ls) == 0

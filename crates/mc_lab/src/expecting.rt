@@ -56,7 +56,7 @@ pub fn expect<N: Bench + Drop, T: Sink, L: Ledger>(
         let above = count_above(&trial.deck, count, expectation.number);
         play_lines(&mut player, &trial.deck, count, above, &mut text, steps);
         count = above;
-        let held = judge(out, expectation, text.as_slice())?;
+        let held = judge(out, expectation, &text)?;
         failed = counted(failed, held);
     }
     put_counts(out, expectations.len(), failed)?;

@@ -1,6 +1,6 @@
 // Fields of a line.
 ghost use Rattle.std.specs.Prelude.{◌≡◌};
-ghost use Rattle.mc_lab.specs.Expectations.{first_field, or_nothing};
+ghost use Rattle.mc_lab.specs.Remarked.{first_field, or_nothing};
 
 use mc_text::{cut_blank, trim_front};
 

@@ -1,31 +1,42 @@
 // Expectations compared with results, and the report of them.
 ghost use Rattle.std.specs.Prelude.{◌≡◌, codes, decimal, IfOk};
 ghost use Rattle.mc_text.specs.Texts.{sunk_in, Puts};
-ghost use Rattle.mc_model_play.specs.Patterns.{holds};
-ghost use Rattle.mc_lab.specs.Expectations.{count_text, failed_line, expectation_line};
-ghost use Rattle.mc_lab.specs.Judged.{done_of, expectation_of};
+ghost use Rattle.mc_explore.specs.Matching.{fits};
+ghost use Rattle.mc_lab.specs.Expectations.{above_text, count_text, failed_line, expectation_line};
+ghost use Rattle.mc_lab.specs.Judged.{done_of};
+ghost use Rattle.mc_lab.specs.Remarked.{line_value, remark_value};
 
+use crate::laying::put_laid_out;
 use crate::matching::holds;
+use crate::remark::Remark;
 use itoa::Buffer;
 use mc_asm::NumberedLine;
 use mc_base::{Sink, WriteFault};
+use mc_script::Text;
 use mc_text::{put, put_number};
 
+// Writes the statement of an expectation that failed, with the number of its line.
+fn put_above<T: Sink>(out: &mut T, statement: &NumberedLine<'_>) -> Result<(), WriteFault>
+    ensures { Puts (sunk_in T.taken T.faults out.old) (above_text (line_value statement.now)) result
+        (sunk_in T.taken T.faults out.new) }
+{
+    put_number(out, b" (line ", statement.number)?;
+    put(out, b" ")?;
+    put(out, statement.text)?;
+    put(out, b")\n")
+}
+
 // Writes the line of an expectation that failed at a result.
-fn put_failed<T: Sink>(
-    out: &mut T,
-    expectation: &NumberedLine<'_>,
-    text: &[u8],
-) -> Result<(), WriteFault>
-    ensures { Puts (sunk_in T.taken T.faults out.old) (failed_line (expectation_of expectation.now) text.now) result
+fn put_failed<T: Sink>(out: &mut T, expectation: &Remark<'_>, text: &Text) -> Result<(), WriteFault>
+    ensures { Puts (sunk_in T.taken T.faults out.old) (failed_line (remark_value expectation.now) text.now.items) result
         (sunk_in T.taken T.faults out.new) }
 {
     put_number(out, b"line ", expectation.number)?;
     put(out, b" expected ")?;
     put(out, expectation.text)?;
     put(out, b" was ")?;
-    put(out, text)?;
-    put(out, b"\n")
+    put_laid_out(out, expectation.text, text)?;
+    put_above(out, &expectation.above)
 }
 
 /// Returns whether an expectation holds for the text of a result, and writes the line of one that does not.
@@ -35,16 +46,15 @@ fn put_failed<T: Sink>(
 /// Returns `WriteFault` if the sink fails.
 pub fn judge<T: Sink>(
     out: &mut T,
-    expectation: &NumberedLine<'_>,
-    text: &[u8],
+    expectation: &Remark<'_>,
+    text: &Text,
 ) -> Result<bool, WriteFault>
-    ensures value { IfOk result (λ b. b ≡ holds expectation.now.text.now text.now) }
+    ensures value { IfOk result (λ b. b ≡ fits expectation.now.text.now text.now.items) }
     ensures reported { Puts (sunk_in T.taken T.faults out.old)
-        (expectation_line (holds expectation.now.text.now text.now) (expectation_of expectation.now) text.now)
-        (done_of result)
-        (sunk_in T.taken T.faults out.new) }
+        (expectation_line (fits expectation.now.text.now text.now.items) (remark_value expectation.now) text.now.items)
+        (done_of result) (sunk_in T.taken T.faults out.new) }
 {
-    if holds(expectation.text, text) {
+    if holds(expectation.text, text.as_slice()) {
         return Ok(true);
     }
     put_failed(out, expectation, text)?;

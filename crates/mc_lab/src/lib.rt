@@ -3,17 +3,20 @@
 //! The laboratory: expectations in the comments of a deck, compared with its play; and sweeps of a deck, with
 //! their laws.
 
-mod expectation;
 mod expectation_rows;
 mod expecting;
 mod field;
 mod judging;
+mod laying;
 mod matching;
+mod remark;
 mod rows;
+mod scanning;
 mod stage;
 mod sweep_account;
 mod sweep_laws;
 mod sweep_line;
+mod sweep_marks;
 mod sweep_names;
 mod sweep_play;
 mod sweep_rows;
@@ -25,6 +28,8 @@ mod trial;
 
 pub use expecting::expect;
 pub use matching::holds;
+pub use remark::{Mark, Remark};
+pub use scanning::remarks;
 pub use sweep_laws::{
     a_cut_hits_the_writes_of_its_line, between_two_changes, never_torn, no_change_stays_the_same,
     one_change_splits_at_its_gate,

@@ -1,6 +1,7 @@
 // Patterns matched against texts.
 ghost use Rattle.std.specs.Prelude.{◌≡◌, ◌<◌, ◌||◌, ◌==◌, ◌∷◌, [], length, IfSome, MatchOption};
-ghost use Rattle.mc_model_play.specs.Patterns.{holds, is_any, matches, some_rest, without_blanks};
+ghost use Rattle.mc_model_play.specs.Patterns.{is_any};
+ghost use Rattle.mc_explore.specs.Matching.{fits, matches, plain, small, some_rest};
 ghost use Rattle.mc_lab.specs.Walks.{WalkEnds, WalkIs};
 
 use mc_text::is_blank;
@@ -15,16 +16,25 @@ pub enum Walk<'a> {
     Apart,
 }
 
-// The first character of a text that is not a blank, and the rest after it.
+// A character, a capital letter as the small one.
+fn small(character: u8) -> u8
+    ensures { result ≡ small character }
+{
+    match character {
+        b'A'..=b'Z' => character + 32,
+        _ => character,
+    }
+}
+
+// The first character of a text that is not a blank, a capital letter as the small one, and the rest after it.
 fn first_of(text: &[u8]) -> Option<(u8, &[u8])>
-    ensures parts { MatchOption result (without_blanks text.now ≡ [])
-        (λ p. without_blanks text.now ≡ p.0 ∷ without_blanks p.1.now) }
+    ensures parts { MatchOption result (plain text.now ≡ []) (λ p. plain text.now ≡ p.0 ∷ plain p.1.now) }
     ensures shorter { IfSome result (λ p. length p.1.now < length text.now) }
 {
     let mut rest = text;
     while let [first, behind @ ..] = rest {
         if !is_blank(*first) {
-            return Some((*first, behind));
+            return Some((small(*first), behind));
         }
         rest = behind;
     }
@@ -38,7 +48,7 @@ fn stands_for(sign: u8, character: u8) -> bool
     sign == b'?' || character == sign
 }
 
-// Walks a pattern along a text, up to its first `*`. Blanks are ignored.
+// Walks a pattern along a text, up to its first `*`. Blanks are ignored, and letters match in either case.
 fn walk_to_star<'a>(pattern: &'a [u8], text: &'a [u8]) -> Walk<'a>
     ensures is { WalkIs pattern.now text.now result }
     ensures ends { WalkEnds pattern.now text.now result }
@@ -64,9 +74,9 @@ fn walk_to_star<'a>(pattern: &'a [u8], text: &'a [u8]) -> Walk<'a>
     }
 }
 
-// Whether some rest of a text matches a pattern. Blanks are ignored.
+// Whether some rest of a text matches a pattern. Blanks are ignored, and letters match in either case.
 fn matches_some_rest(pattern: &[u8], text: &[u8]) -> bool
-    ensures { result ≡ some_rest (matches (without_blanks pattern.now)) (without_blanks text.now) }
+    ensures { result ≡ some_rest (matches (plain pattern.now)) (plain text.now) }
 {
     let mut signs = pattern;
     let mut rest = text;
@@ -88,13 +98,14 @@ fn matches_some_rest(pattern: &[u8], text: &[u8]) -> bool
 }
 
 /// Returns whether a pattern holds for the text of a result: `?` matches any one character, `*` any
-/// characters or none, every other sign itself, and blanks are ignored in both. A pattern of blanks alone
-/// holds for no text.
+/// characters or none, a letter itself in either case, and every other sign itself. Blanks are ignored in both. A
+/// pattern of blanks alone holds for no text.
 ///
 /// It allocates no memory. A pattern with at most one `*` takes time linear in both; each `*` restarts the
 /// walk at each place of the text at most once.
+#[tactic(auto, unfolding(mc_explore::specs::Matching::fits))]
 pub fn holds(pattern: &[u8], text: &[u8]) -> bool
-    ensures { result ≡ holds pattern.now text.now }
+    ensures { result ≡ fits pattern.now text.now }
 {
     if first_of(pattern).is_none() {
         return false;

@@ -1,7 +1,8 @@
 // One line of a sweep: each of its writes is cut, and each write of the recovery after it.
 ghost use Rattle.std.specs.Prelude.{◌≡◌, ◌&&◌, ◌+◌, ◌≤◌, ◌<◌, ◌*◌, length, map, take, IfOk, IfSome, MatchOption};
 ghost use Rattle.mc_lab.specs.Sweeps.{all_same, count_from, plays_of};
-ghost use Rattle.mc_lab.specs.SweepBodies.{account_value, again_in, recovery_states_at, state_at_place, cut_write_at, word_with};
+ghost use Rattle.mc_lab.specs.SweepBodies.{account_value, again_in, recovery_states_at, state_at_place};
+ghost use Rattle.mc_lab.specs.SweepBodies.{cut_write_at, word_with};
 ghost use Rattle.mc_lab.specs.SweepBodies.{writes_in, AccountFits, AccountsHaveRoom, IsUnarmedLine, IsPlace};
 ghost use Rattle.mc_lab.specs.SweepBodies.{OpensNoGate};
 ghost use Rattle.mc_lab.specs.declared.sweep_trial.Behind.TheVariants as behind;
@@ -75,13 +76,14 @@ fn word_of(is_one: bool, is_before: bool, is_after: bool) -> Word
     }
 }
 
-// Cuts each write of the recovery after a cut: whether the first state is always left, and the number of
-// those writes.
+// Cuts each write of the recovery after a cut, of which there are at most `most`: whether the first state is always
+// left, and the number of those writes.
 fn recoveries<D: Trials, L: Ledger>(
     trials: &mut D,
     place: &Place<'_>,
     k: u32,
     fill: [u8; 8],
+    most: u16,
     pair: &mut Pair,
     steps: &mut Steps<L>,
 ) -> (bool, u16)
@@ -90,7 +92,7 @@ fn recoveries<D: Trials, L: Ledger>(
     requires low { 1 ≤ k }
     requires high { k ≤ writes_in place.now }
     requires shuts { OpensNoGate fill }
-    requires few { again_in place.now k fill ≤ 65535 }
+    requires few { again_in place.now k fill ≤ most }
     requires room { AccountFits pair.old.now place.now }
     ensures same { result.0 ≡ all_same (account_value pair.old.first) (recovery_states_at place.now k fill) }
     ensures count { result.1 ≡ length (recovery_states_at place.now k fill) }
@@ -98,19 +100,16 @@ fn recoveries<D: Trials, L: Ledger>(
     ensures room { AccountFits pair.new.now place.now }
 {
     let mut same = true;
-    for made in 0..u16::MAX {
+    for made in 0..most {
         let again = made as u32 + 1;
-        if !trials.report(
-            place,
-            Behind::Twice { k, fill, again },
-            &mut pair.now,
-            steps,
-        ) {
+        let behind = Behind::Twice { k, fill, again };
+        let played = trials.report(place, behind, &mut pair.now, steps);
+        if !played.hit {
             return (same, made);
         }
         same = both(pair.now.is_same(&pair.first), same);
     }
-    (same, u16::MAX)
+    (same, most)
 }
 
 // Cuts write `k` of a line with both fills, and each write of the recovery after it, if the line makes at
@@ -137,18 +136,15 @@ fn try_write<D: Trials, L: Ledger>(
     ensures first { AccountFits pair.new.first place.now }
     ensures now { AccountFits pair.new.now place.now }
 {
-    if !trials.report(
-        place,
-        Behind::Cut { k, fill: ZEROS },
-        &mut pair.first,
-        steps,
-    ) {
+    let behind = Behind::Cut { k, fill: ZEROS };
+    let first = trials.report(place, behind, &mut pair.first, steps);
+    if !first.hit {
         return None;
     }
-    let (zeros_same, zeros) = recoveries(trials, place, k, ZEROS, pair, steps);
-    let _hit = trials.report(place, Behind::Cut { k, fill: ONES }, &mut pair.now, steps);
+    let (zeros_same, zeros) = recoveries(trials, place, k, ZEROS, first.most, pair, steps);
+    let second = trials.report(place, Behind::Cut { k, fill: ONES }, &mut pair.now, steps);
     let ones_first = pair.now.is_same(&pair.first);
-    let (ones_same, ones) = recoveries(trials, place, k, ONES, pair, steps);
+    let (ones_same, ones) = recoveries(trials, place, k, ONES, second.most, pair, steps);
     let is_one = both(zeros_same, both(ones_first, ones_same));
     Some(Tried {
         word: word_of(
@@ -158,6 +154,21 @@ fn try_write<D: Trials, L: Ledger>(
         ),
         plays: 2 + zeros as u32 + ones as u32,
     })
+}
+
+// A number of writes that is greater than `bound`, twice as large and one more if that is not too large, or `None` if
+// there is none that a cut may follow.
+fn doubled(bound: u32) -> Option<u32>
+    ensures grows { IfSome result (λ n. bound < n) }
+    ensures small { IfSome result (λ n. n < 4294967295) }
+{
+    if bound >= 4_294_967_294 {
+        return None;
+    }
+    if bound >= 2_147_483_647 {
+        return Some(4_294_967_294);
+    }
+    Some(2 * bound + 1)
 }
 
 impl<D: Trials + Drop> Bench<D> {
@@ -182,25 +193,37 @@ impl<D: Trials + Drop> Bench<D> {
         })
     }
 
-    /// Returns the number of device writes of a line, or `None` if it is greater than the argument of a `cut`
-    /// may be.
-    pub fn writes<L: Ledger>(&mut self, place: &Place<'_>, steps: &mut Steps<L>) -> Option<u32>
+    /// Returns `most` if a line makes at most as many device writes, or else a greater number that they do not
+    /// exceed. Returns `None` if they are more than the argument of a `cut` may be.
+    ///
+    /// A line that makes at most `most` writes costs one play.
+    pub fn bound<L: Ledger>(
+        &mut self,
+        place: &Place<'_>,
+        most: u32,
+        steps: &mut Steps<L>,
+    ) -> Option<u32>
         requires at { IsPlace place.now }
         requires open { IsUnarmedLine place.now }
+        requires small { most < 4294967295 }
         requires room { AccountsHaveRoom self.old.ends self.old.pair (length place.now.names.now) }
-        ensures writes { IfSome result (λ n. n ≡ writes_in place.now) }
+        ensures writes { IfSome result (λ n. writes_in place.now ≤ n) }
+        ensures grows { IfSome result (λ n. most ≤ n) }
+        ensures small { IfSome result (λ n. n < 4294967295) }
         ensures room { AccountsHaveRoom self.new.ends self.new.pair (length place.now.names.now) }
     {
-        for made in 0..u32::MAX {
+        let mut bound = most;
+        loop {
             let behind = Behind::Cut {
-                k: made + 1,
+                k: bound + 1,
                 fill: ZEROS,
             };
-            if !self.trials.report(place, behind, &mut self.pair.now, steps) {
-                return Some(made);
+            let played = self.trials.report(place, behind, &mut self.pair.now, steps);
+            if !played.hit {
+                return Some(bound);
             }
+            bound = doubled(bound)?;
         }
-        None
     }
 
     /// Cuts each write of a line, which makes at most as many writes as there is room for in `words`.
@@ -223,10 +246,10 @@ impl<D: Trials + Drop> Bench<D> {
         ensures size { length words.new ≡ length words.old }
         ensures room { AccountsHaveRoom self.new.ends self.new.pair (length place.now.names.now) }
     {
-        let _hit = self
+        let _played = self
             .trials
             .report(place, Behind::Nothing, &mut self.ends.before, steps);
-        let _hit = self
+        let _played = self
             .trials
             .report(place, Behind::Whole, &mut self.ends.after, steps);
         let mut plays = 0;

@@ -9,10 +9,10 @@ ghost use Rattle.mc_model_device.specs.Device.{blank_words, device_words};
 ghost use Rattle.mc_lab.specs.SweepBodies.{account_value, held_value, hit_in, state_at_place, CanCut, AccountFits};
 ghost use Rattle.mc_lab.specs.SweepBodies.{IsFewBehind, IsPlace};
 ghost use Rattle.mc_lab.specs.declared.sweep_trial.Behind.TheVariants as behind;
-ghost use Rattle.mc_lab.specs.SweepPlayers.{fault_in, off_in, BehindOn, CutOn, IsSteadyAt, LineOn};
+ghost use Rattle.mc_lab.specs.SweepPlayers.{fault_in, most_in, off_in, BehindOn, CutOn, IsSteadyAt, LineOn};
 
 use crate::sweep_account::{Account, Held};
-use crate::sweep_trial::{Behind, Place, Trials};
+use crate::sweep_trial::{Behind, Place, Played, Trials};
 use arrayvec::ArrayVec;
 use mc_base::{Aid, NoMemory, Steps, Word};
 use mc_blocks::Unusable;
@@ -55,6 +55,16 @@ fn fault_of(answer: &Option<Answer>) -> Option<Unusable>
     match answer {
         Some(Answer::Unusable(unusable)) => Some(*unusable),
         _ => None,
+    }
+}
+
+// A number of device writes that a power line did not exceed, by its result: the exact number if it found a card.
+fn most_of(answer: &Option<Answer>) -> u16
+    ensures { result ≡ most_in answer.now }
+{
+    match answer {
+        Some(Answer::Ready(made)) => *made,
+        _ => u16::MAX,
     }
 }
 
@@ -226,7 +236,7 @@ fn play_trial<N: Bench, L: Ledger>(
     behind: Behind,
     into: &mut Account,
     steps: &mut Steps<L>,
-) -> (N, bool)
+) -> (N, Played)
     requires fuses { IsUnfused (N.bench device) }
     requires steady { (N.bench device).steady ≡ true }
     requires words { (N.state device).words ≡ blank_words device_words }
@@ -234,8 +244,8 @@ fn play_trial<N: Bench, L: Ledger>(
     requires room { AccountFits into.old place.now }
     requires cuts { CanCut behind }
     ensures reported { account_value into.new ≡ state_at_place place.now behind }
-    ensures hit { result.1 ≡ hit_in place.now behind }
-    ensures few { IsFewBehind place.now behind }
+    ensures hit { result.1.hit ≡ hit_in place.now behind }
+    ensures few { IsFewBehind place.now behind result.1.most }
     ensures room { AccountFits into.new place.now }
     ensures size { length (N.state result.0).words ≡ length (N.state device).words }
     ensures keeps_device { N.same device result.0 }
@@ -245,7 +255,8 @@ fn play_trial<N: Bench, L: Ledger>(
     let hit = play_behind(&mut player, &line, behind, steps);
     let answer = play_line(&mut player, &Line::Power, steps);
     take_down(into, &player, &answer, place.names);
-    (player.into_dev(), hit)
+    let most = most_of(&answer);
+    (player.into_dev(), Played { hit, most })
 }
 
 // One play on a device in memory of 8,192 words, which is erased for it.
@@ -255,20 +266,20 @@ fn play_blank<L: Ledger>(
     behind: Behind,
     into: &mut Account,
     steps: &mut Steps<L>,
-) -> bool
+) -> Played
     requires size { length device.old.words ≡ device_words }
     requires at { IsPlace place.now }
     requires room { AccountFits into.old place.now }
     requires cuts { CanCut behind }
     ensures reported { account_value into.new ≡ state_at_place place.now behind }
-    ensures hit { result ≡ hit_in place.now behind }
-    ensures few { IsFewBehind place.now behind }
+    ensures hit { result.hit ≡ hit_in place.now behind }
+    ensures few { IsFewBehind place.now behind result.most }
     ensures room { AccountFits into.new place.now }
     ensures size { length device.new.words ≡ device_words }
 {
     device.erase();
-    let (_device, hit) = play_trial(&mut *device, place, behind, into, steps);
-    hit
+    let (_device, played) = play_trial(&mut *device, place, behind, into, steps);
+    played
 }
 
 impl Laboratory {
@@ -291,7 +302,7 @@ impl Trials for Laboratory {
         behind: Behind,
         into: &mut Account,
         steps: &mut Steps<L>,
-    ) -> bool {
+    ) -> Played {
         play_blank(&mut self.device, place, behind, into, steps)
     }
 }

@@ -1,6 +1,6 @@
 // The text of a sweep.
 ghost use Rattle.std.specs.Prelude.{◌≡◌, ◌++◌, ◌+◌, ◌-◌, ◌<◌, ◌≤◌, ℕ, ◌∷◌, codes, decimal, drop, get_or, length};
-ghost use Rattle.mc_lab.specs.Sweeps.{is_word, run_text, runs, runs_text, sums_text, word_text};
+ghost use Rattle.mc_lab.specs.Sweeps.{is_word, line_end, run_text, runs, runs_text, sums_text, word_text};
 ghost use Rattle.mc_lab.specs.declared.sweep_word.Word.TheVariants.{Before};
 ghost use Rattle.mc_text.specs.Texts.{sunk_in, Puts};
 
@@ -9,12 +9,14 @@ use itoa::Buffer;
 use mc_base::{Sink, WriteFault};
 use mc_text::{put, put_decimal};
 
-/// The sums of a sweep: its lines, their writes, and the plays that determine their words.
+/// The sums of a sweep: its lines, their writes, the plays that determine their words, and the lines that must be
+/// whole and are not.
 #[derive(Clone, Copy, Debug)]
 pub struct Sums {
     pub lines: u128,
     pub writes: u128,
     pub plays: u128,
+    pub broken: u128,
 }
 
 // Writes a sum.
@@ -79,16 +81,32 @@ fn put_runs<T: Sink>(out: &mut T, words: &[Word]) -> Result<(), WriteFault>
     Ok(())
 }
 
-/// Writes the text of a swept line: its number and the runs of its writes.
+// Writes the end of a swept line: that it is not whole, if it is broken, and a line feed.
+fn put_end<T: Sink>(out: &mut T, broken: bool) -> Result<(), WriteFault>
+    ensures { Puts (sunk_in T.taken T.faults out.old) (line_end broken) result (sunk_in T.taken T.faults out.new) }
+{
+    if broken {
+        put(out, b" not whole\n")
+    } else {
+        put(out, b"\n")
+    }
+}
+
+/// Writes the text of a swept line: its number, the runs of its writes, and that it is not whole, if it is broken.
 ///
 /// # Errors
 ///
 /// Returns `WriteFault` if the sink fails.
-pub fn put_swept<T: Sink>(out: &mut T, number: u32, words: &[Word]) -> Result<(), WriteFault>
+pub fn put_swept<T: Sink>(
+    out: &mut T,
+    number: u32,
+    words: &[Word],
+    broken: bool,
+) -> Result<(), WriteFault>
     requires { length words.now ≤ 4294967295 }
     ensures { Puts (sunk_in T.taken T.faults out.old) (codes "line " ++ decimal number ++ codes " writes "
         ++ decimal (length words.now) ++ codes ":" ++ runs_text (runs 1 words.now)
-        ++ codes "\n") result (sunk_in T.taken T.faults out.new) }
+        ++ line_end broken) result (sunk_in T.taken T.faults out.new) }
 {
     put(out, b"line ")?;
     put_decimal(out, number)?;
@@ -96,7 +114,7 @@ pub fn put_swept<T: Sink>(out: &mut T, number: u32, words: &[Word]) -> Result<()
     put_decimal(out, words.len() as u32)?;
     put(out, b":")?;
     put_runs(out, words)?;
-    put(out, b"\n")
+    put_end(out, broken)
 }
 
 /// Writes the sums of a sweep.

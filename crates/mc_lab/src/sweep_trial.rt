@@ -1,6 +1,7 @@
 // The plays of a sweep, and the trait of what plays them.
 ghost use Rattle.std.specs.Prelude.{◌≡◌};
-ghost use Rattle.mc_lab.specs.SweepBodies.{account_value, hit_in, state_at_place, CanCut, AccountFits, IsFewBehind, IsPlace};
+ghost use Rattle.mc_lab.specs.SweepBodies.{account_value, hit_in, state_at_place, CanCut, AccountFits};
+ghost use Rattle.mc_lab.specs.SweepBodies.{IsFewBehind, IsPlace};
 
 use crate::sweep_account::Account;
 use mc_base::{Aid, Steps, Word};
@@ -25,23 +26,31 @@ pub enum Behind {
     Twice { k: u32, fill: Word, again: u32 },
 }
 
+/// The end of a play: whether its last cut hit its line, and a number of device writes that the power line without
+/// a cut did not exceed. If that found a card, it made so many.
+#[derive(Clone, Copy, Debug, PartialEq, Eq)]
+pub struct Played {
+    pub hit: bool,
+    pub most: u16,
+}
+
 /// Plays lines of a deck on a blank device of 8,192 words, anew each time, and stores the observed state of
 /// the card after them.
 pub trait Trials {
     /// Plays the lines before a line, the lines of the trial from there on, and then a power line without a
-    /// cut. Stores the observed state in `into`, and returns whether the last cut hit its line.
+    /// cut. Stores the observed state in `into`.
     fn report<L: Ledger>(
         &mut self,
         place: &Place<'_>,
         behind: Behind,
         into: &mut Account,
         steps: &mut Steps<L>,
-    ) -> bool
+    ) -> Played
         requires at { IsPlace place.now }
         requires room { AccountFits into.old place.now }
         requires cuts { CanCut behind }
         ensures reported { account_value into.new ≡ state_at_place place.now behind }
-        ensures hit { result ≡ hit_in place.now behind }
-        ensures few { IsFewBehind place.now behind }
+        ensures hit { result.hit ≡ hit_in place.now behind }
+        ensures few { IsFewBehind place.now behind result.most }
         ensures room { AccountFits into.new place.now };
 }

@@ -1,15 +1,19 @@
 // Sweeps of a deck.
-ghost use Rattle.std.specs.Prelude.{◌≡◌, ◌+◌, ◌≤◌, ◌<◌, length, take, true, false, IfOk, IfSome, MatchOption, OnOk};
+ghost use Rattle.std.specs.Prelude.{◌≡◌, ◌+◌, ◌^◌, ◌≤◌, ◌<◌, cond, length, take, true, false};
+ghost use Rattle.std.specs.Prelude.{IfOk, IfSome, MatchOption, OnOk};
 ghost use Rattle.mc_model_play.specs.Play.{armed_stop_in, is_card_line};
 ghost use Rattle.mc_deck.specs.Lines.{line_of};
 ghost use Rattle.mc_text.specs.Texts.{sunk_in, Puts};
 ghost use Rattle.mc_lab.specs.Judged.{done_of};
-ghost use Rattle.mc_lab.specs.Sweeps.{is_unarmed, names_from, state_on_blank, sweep_text, swept_texts};
+ghost use Rattle.mc_lab.specs.Remarked.{remark_values};
+ghost use Rattle.mc_lab.specs.Sweeps.{is_whole, is_unarmed, names_from, state_on_blank, sweep_text, swept_texts};
 ghost use Rattle.mc_lab.specs.SweepBodies.{line_at, writes_in, AccountsHaveRoom, IsUnarmedLine, IsPlace};
 ghost use Rattle.mc_lab.specs.SweepEnds.{free_behind, is_open_at, sweeps_from, sweeps_at, AddsSums, AtMost, IsRoom};
 ghost use Rattle.mc_lab.specs.SweepEnds.{IsSmall, ReportsSweep};
 
+use crate::remark::Remark;
 use crate::sweep_line::Bench;
+use crate::sweep_marks::is_broken;
 use crate::sweep_names::names_of;
 use crate::sweep_play::Laboratory;
 use crate::sweep_text::{Sums, put_sums, put_swept};
@@ -96,25 +100,29 @@ fn open_number(deck: &Deck, at: usize) -> Option<u32>
     Some(number)
 }
 
-// The number of device writes of a line, 0 if it may not be swept, or `None` if it is greater than the
-// argument of a `cut` may be.
-fn writes_at<D: Trials + Drop, L: Ledger>(
+// `most`, or a greater number that the device writes of a line do not exceed, if it may be swept and makes more.
+// `None` if they are more than the argument of a `cut` may be.
+fn bound_at<D: Trials + Drop, L: Ledger>(
     bench: &mut Bench<D>,
     place: &Place<'_>,
+    most: u32,
     steps: &mut Steps<L>,
 ) -> Option<u32>
     requires at { IsPlace place.now }
+    requires small { most < 4294967295 }
     requires room { AccountsHaveRoom bench.old.ends bench.old.pair (length place.now.names.now) }
     ensures writes { IfSome result (λ n. is_open_at place.now.deck.now place.now.at ≡ true → writes_in place.now ≤ n) }
+    ensures grows { IfSome result (λ n. most ≤ n) }
+    ensures small { IfSome result (λ n. n < 4294967295) }
     ensures room { AccountsHaveRoom bench.new.ends bench.new.pair (length place.now.names.now) }
 {
     match open_number(place.deck, place.at) {
-        None => Some(0),
-        Some(_) => bench.writes(place, steps),
+        None => Some(most),
+        Some(_) => bench.bound(place, most, steps),
     }
 }
 
-// The greatest number of device writes of the lines that may be swept, or `None` if a line makes more than
+// A number that the device writes of no line that may be swept exceed, or `None` if a line makes more than
 // the argument of a `cut` may be.
 fn most_writes<D: Trials + Drop, L: Ledger>(
     bench: &mut Bench<D>,
@@ -129,10 +137,19 @@ fn most_writes<D: Trials + Drop, L: Ledger>(
     let mut most = 0;
     for at in 0..deck.len() {
         let place = Place { deck, at, names };
-        let writes = writes_at(bench, &place, steps)?;
-        most = writes.max(most);
+        let bound = bound_at(bench, &place, most, steps)?;
+        most = bound;
     }
     Some(most)
+}
+
+// One more if a line is broken.
+fn counted(count: u128, broken: bool) -> u128
+    requires { count < 2 ^ 64 }
+    ensures value { result ≡ count + cond broken 1 0 }
+    ensures most { result ≤ count + 1 }
+{
+    if broken { count + 1 } else { count }
 }
 
 // Sweeps a line, and writes its text if it makes a device write.
@@ -140,6 +157,7 @@ fn sweep_place<D: Trials + Drop, T: Sink, L: Ledger>(
     bench: &mut Bench<D>,
     place: &Place<'_>,
     number: u32,
+    marks: &[Remark<'_>],
     words: &mut [Word],
     out: &mut T,
     sums: &mut Sums,
@@ -152,9 +170,10 @@ fn sweep_place<D: Trials + Drop, T: Sink, L: Ledger>(
     requires most { length words.old ≤ 4294967295 }
     requires sums { IsSmall sums.old place.now.at }
     requires room { AccountsHaveRoom bench.old.ends bench.old.pair (length place.now.names.now) }
-    ensures reported { Puts (sunk_in T.taken T.faults out.old) (swept_texts (sweeps_at place.now)) result
-        (sunk_in T.taken T.faults out.new) }
-    ensures adds { OnOk result (AddsSums sums.old (sweeps_at place.now) sums.new) }
+    ensures reported { Puts (sunk_in T.taken T.faults out.old)
+        (swept_texts (remark_values marks.now) (sweeps_at place.now))
+        result (sunk_in T.taken T.faults out.new) }
+    ensures adds { OnOk result (AddsSums (remark_values marks.now) sums.old (sweeps_at place.now) sums.new) }
     ensures small { OnOk result (IsSmall sums.new (place.now.at + 1)) }
     ensures size { length words.new ≡ length words.old }
     ensures room { AccountsHaveRoom bench.new.ends bench.new.pair (length place.now.names.now) }
@@ -163,10 +182,13 @@ fn sweep_place<D: Trials + Drop, T: Sink, L: Ledger>(
     if swept.writes == 0 {
         return Ok(());
     }
-    put_swept(out, number, &words[..swept.writes])?;
+    let made = &words[..swept.writes];
+    let broken = is_broken(marks, number, made);
+    put_swept(out, number, made, broken)?;
     sums.lines += 1;
     sums.writes += swept.writes as u128;
     sums.plays += swept.plays as u128;
+    sums.broken = counted(sums.broken, broken);
     Ok(())
 }
 
@@ -174,6 +196,7 @@ fn sweep_place<D: Trials + Drop, T: Sink, L: Ledger>(
 fn sweep_at<D: Trials + Drop, T: Sink, L: Ledger>(
     bench: &mut Bench<D>,
     place: &Place<'_>,
+    marks: &[Remark<'_>],
     words: &mut [Word],
     out: &mut T,
     sums: &mut Sums,
@@ -184,16 +207,17 @@ fn sweep_at<D: Trials + Drop, T: Sink, L: Ledger>(
     requires most { length words.old ≤ 4294967295 }
     requires sums { IsSmall sums.old place.now.at }
     requires room { AccountsHaveRoom bench.old.ends bench.old.pair (length place.now.names.now) }
-    ensures reported { Puts (sunk_in T.taken T.faults out.old) (swept_texts (sweeps_at place.now)) result
-        (sunk_in T.taken T.faults out.new) }
-    ensures adds { OnOk result (AddsSums sums.old (sweeps_at place.now) sums.new) }
+    ensures reported { Puts (sunk_in T.taken T.faults out.old)
+        (swept_texts (remark_values marks.now) (sweeps_at place.now))
+        result (sunk_in T.taken T.faults out.new) }
+    ensures adds { OnOk result (AddsSums (remark_values marks.now) sums.old (sweeps_at place.now) sums.new) }
     ensures small { OnOk result (IsSmall sums.new (place.now.at + 1)) }
     ensures size { length words.new ≡ length words.old }
     ensures room { AccountsHaveRoom bench.new.ends bench.new.pair (length place.now.names.now) }
 {
     match open_number(place.deck, place.at) {
         None => Ok(()),
-        Some(number) => sweep_place(bench, place, number, words, out, sums, steps),
+        Some(number) => sweep_place(bench, place, number, marks, words, out, sums, steps),
     }
 }
 
@@ -203,11 +227,13 @@ fn no_sums() -> Sums
     ensures lines { result.lines ≡ 0 }
     ensures writes { result.writes ≡ 0 }
     ensures plays { result.plays ≡ 0 }
+    ensures broken { result.broken ≡ 0 }
 {
     Sums {
         lines: 0,
         writes: 0,
         plays: 0,
+        broken: 0,
     }
 }
 
@@ -216,6 +242,7 @@ fn sweep_lines<D: Trials + Drop, T: Sink, L: Ledger>(
     bench: &mut Bench<D>,
     deck: &Deck,
     names: &[Aid],
+    marks: &[Remark<'_>],
     words: &mut [Word],
     out: &mut T,
     sums: &mut Sums,
@@ -225,13 +252,15 @@ fn sweep_lines<D: Trials + Drop, T: Sink, L: Ledger>(
     requires most { length words.old ≤ 4294967295 }
     requires sums { IsSmall sums.old 0 }
     requires room { AccountsHaveRoom bench.old.ends bench.old.pair (length names.now) }
-    ensures reported { Puts (sunk_in T.taken T.faults out.old) (swept_texts (sweeps_from names.now deck.now 0)) result
+    ensures reported { Puts (sunk_in T.taken T.faults out.old)
+        (swept_texts (remark_values marks.now) (sweeps_from names.now deck.now 0)) result
         (sunk_in T.taken T.faults out.new) }
-    ensures adds { OnOk result (AddsSums sums.old (sweeps_from names.now deck.now 0) sums.new) }
+    ensures adds { OnOk result
+        (AddsSums (remark_values marks.now) sums.old (sweeps_from names.now deck.now 0) sums.new) }
 {
     for at in 0..deck.len() {
         let place = Place { deck, at, names };
-        sweep_at(bench, &place, words, out, sums, steps)?;
+        sweep_at(bench, &place, marks, words, out, sums, steps)?;
     }
     Ok(())
 }
@@ -254,36 +283,44 @@ fn room_for<L: Ledger>(alloc: Global, deck: &Deck, steps: &mut Steps<L>) -> Resu
     })
 }
 
-// Sweeps a deck for which there is room, and writes its text.
+// Sweeps a deck for which there is room, and writes its text. Whether each line that must be whole is.
 fn sweep_in<T: Sink, L: Ledger>(
     room: &mut Room,
     deck: &Deck,
+    marks: &[Remark<'_>],
     out: &mut T,
     steps: &mut Steps<L>,
-) -> Result<(), WriteFault>
+) -> Result<bool, WriteFault>
     requires { IsRoom deck.now room.old.names.items room.old.bench.ends room.old.bench.pair
         (length room.old.words.items) }
-    ensures { Puts (sunk_in T.taken T.faults out.old) (sweep_text deck.now) result (sunk_in T.taken T.faults out.new) }
+    ensures reported { Puts (sunk_in T.taken T.faults out.old) (sweep_text (remark_values marks.now) deck.now)
+        (done_of result) (sunk_in T.taken T.faults out.new) }
+    ensures whole { IfOk result (λ whole. whole ≡ is_whole (remark_values marks.now) deck.now) }
 {
     let mut sums = no_sums();
     sweep_lines(
         &mut room.bench,
         deck,
         room.names.as_slice(),
+        marks,
         room.words.as_mut_slice(),
         out,
         &mut sums,
         steps,
     )?;
-    put_sums(out, &sums)
+    put_sums(out, &sums)?;
+    Ok(sums.broken == 0)
 }
 
 /// Cuts power in each device write of each line of a deck for which the deck arms no stop, and in each write
 /// of the recovery after it, with eight bytes 00 and with eight bytes FF, and writes the observed state of
-/// the card: a line of text for each swept line, when it is done, and a last one with their sums.
+/// the card: a line of text for each swept line, when it is done, and a last one with their sums. A line that is
+/// the statement of one of the marks must be whole: if one of its words is `between`, its text says so. Returns
+/// whether each of them is whole.
 ///
 /// Each of its plays runs on a blank device of 8,192 words. All memory is allocated before the first byte is
-/// written; for a line of more than 4,294,967,294 device writes the sweep is out of memory.
+/// written, as measured by one play of each line that may be swept and one more each time that the room is doubled;
+/// for a line of more than 4,294,967,294 device writes the sweep is out of memory.
 ///
 /// # Errors
 ///
@@ -292,18 +329,21 @@ fn sweep_in<T: Sink, L: Ledger>(
 pub fn sweep<T: Sink, L: Ledger>(
     alloc: Global,
     deck: &Deck,
+    marks: &[Remark<'_>],
     out: &mut T,
     steps: &mut Steps<L>,
-) -> Result<(), SweepFault>
-    ensures { ReportsSweep (sunk_in T.taken T.faults out.old) (sweep_text deck.now) result
+) -> Result<bool, SweepFault>
+    ensures reported { ReportsSweep (sunk_in T.taken T.faults out.old)
+        (sweep_text (remark_values marks.now) deck.now) result
         (sunk_in T.taken T.faults out.new) }
+    ensures whole { IfOk result (λ whole. whole ≡ is_whole (remark_values marks.now) deck.now) }
 {
     let mut room = match room_for(alloc, deck, steps) {
         Ok(room) => room,
         Err(_) => return Err(SweepFault::NoMemory),
     };
-    match sweep_in(&mut room, deck, out, steps) {
-        Ok(()) => Ok(()),
+    match sweep_in(&mut room, deck, marks, out, steps) {
+        Ok(whole) => Ok(whole),
         Err(_) => Err(SweepFault::WriteFault),
     }
 }

@@ -1,23 +1,23 @@
 // Decks with their expectations.
 ghost use Rattle.std.specs.Prelude.{◌≡◌, ◌+◌, ◌^◌, ◌<◌, ◌≤◌, drop, length, IfErr, IfOk};
-ghost use Rattle.mc_asm.specs.Passes.{numbered_lines};
 ghost use Rattle.mc_deck.specs.Lines.{line_of};
 ghost use Rattle.mc_lab.specs.Rising.{count_below, last_of, Rising};
+ghost use Rattle.mc_lab.specs.Remarked.{remark_number, remark_values};
 ghost use Rattle.mc_lab.specs.Expectations.{first_unanswered, has_result, is_answered, line_number, trial_read};
 ghost use Rattle.mc_lab.specs.Trials.{refusal_of, trial_value, IsRising, RefusesTrial};
 
-use crate::expectation::expectations;
-use mc_asm::NumberedLine;
+use crate::remark::{Mark, Remark};
+use crate::scanning::remarks;
 use mc_base::NoMemory;
 use mc_deck::{Deck, DeckCause, DeckRefusal, Line, read_deck};
 use std::alloc::Global;
 use thiserror::Error;
 
-/// A deck and its expectations, which are lines of its text: each with its number and its pattern.
+/// A deck and its expectations, remarks whose texts are patterns.
 #[derive(Drop)]
 pub struct Trial<'a> {
     pub deck: Deck,
-    pub expectations: Vec<NumberedLine<'a>>,
+    pub expectations: Vec<Remark<'a>>,
 }
 
 /// Why a text is not a deck with expectations.
@@ -29,6 +29,9 @@ pub enum TrialRefusal {
     /// The line of the first expectation without a statement above it that has a result.
     #[error("line {0}: no answer")]
     NoAnswer(u32),
+    /// The text has no expectation.
+    #[error("no expectation")]
+    NoExpectation,
     /// Out of memory.
     #[error("out of memory")]
     NoMemory,
@@ -85,10 +88,10 @@ fn is_answered(deck: &Deck, count: usize) -> bool
 }
 
 // The line of the first expectation without a statement above it that has a result.
-fn first_unanswered(deck: &Deck, expectations: &[NumberedLine<'_>]) -> Option<u32>
+fn first_unanswered(deck: &Deck, expectations: &[Remark<'_>]) -> Option<u32>
     requires lines { Rising line_number 1 deck.now }
-    requires expectations { Rising line_number 1 (numbered_lines expectations.now) }
-    ensures { result ≡ first_unanswered deck.now (numbered_lines expectations.now) }
+    requires expectations { Rising remark_number 1 (remark_values expectations.now) }
+    ensures { result ≡ first_unanswered deck.now (remark_values expectations.now) }
 {
     let mut count = 0;
     for expectation in expectations {
@@ -115,7 +118,7 @@ fn refusal_of(refusal: DeckRefusal) -> TrialRefusal
 /// # Errors
 ///
 /// Returns the refusal of the deck, or else the line of the first expectation without a statement above it
-/// that has a result; or `NoMemory` if it is out of memory.
+/// that has a result, or else `NoExpectation` if there is none; or `NoMemory` if it is out of memory.
 pub fn read_trial(alloc: Global, text: &[u8]) -> Result<Trial<'_>, TrialRefusal>
     requires { length text.now < 2 ^ 32 }
     ensures trial { IfOk result (λ t. trial_read text.now ≡ Ok (trial_value t)) }
@@ -126,9 +129,12 @@ pub fn read_trial(alloc: Global, text: &[u8]) -> Result<Trial<'_>, TrialRefusal>
         Ok(deck) => deck,
         Err(refusal) => return Err(refusal_of(refusal)),
     };
-    let expectations = expectations(alloc, text)?;
-    match first_unanswered(&deck, expectations.as_slice()) {
-        Some(number) => Err(TrialRefusal::NoAnswer(number)),
-        None => Ok(Trial { deck, expectations }),
+    let expectations = remarks(alloc, text, Mark::Expectation)?;
+    if let Some(number) = first_unanswered(&deck, expectations.as_slice()) {
+        return Err(TrialRefusal::NoAnswer(number));
     }
+    if expectations.is_empty() {
+        return Err(TrialRefusal::NoExpectation);
+    }
+    Ok(Trial { deck, expectations })
 }

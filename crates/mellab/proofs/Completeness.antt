@@ -21,14 +21,14 @@ whole : (work : Job) (a : Outside) (s : Status) → IsWithoutFault a → MellabD
 whole work a s quiet says =
     record {
       verdict = says.verdict;
-      due = all_stands Refusal (IsVerdictOfJob work) a.left_old a.left says.verdict says.due;
+      due = all_stands Refusal (IsVerdictOfJob work) a.input_old a.input says.verdict says.due;
       status = done_whole says.verdict s a quiet.writes says.done;
       done = says.done;
     }
 
 completes : (s : Status) (work : Job) (a : Outside) → MellabSays s (Some work) a → MellabCompletes s work a
 completes s work a says =
-    complete (MellabDone work a) (MellabWhole work a) (SaysReadFault (TookLimited a.left_old a.left) a) (SaysNoMemory (TookLimited a.left_old a.left) a) a s (whole work a) (λ f. f.cause) says
+    complete (MellabDone work a) (MellabWhole work a) (SaysReadFault (TookLimited a.input_old a.input) a) (SaysNoMemory (TookLimited a.input_old a.input) a) a s (whole work a) (λ f. f.cause) says
 
 -- a job is complete at the number of a status, for the job that the words select
 pub complete_at : (form : Option Job) (s t : Status) (a : Outside) (n : ℕ) → n ≡ number_of s → n ≡ number_of t → MellabSays s form a → IfSome form (λ work. MellabCompletes t work a)

@@ -1,3 +1,4 @@
 mod StatusLemmas
 mod Completeness
 mod ReportedLemmas
+mod DepthLemmas

@@ -7,12 +7,13 @@ use Rattle.mc_model_play.specs.DeckGrammar.{DeckLine, deck_read}
 use Rattle.mc_model_device.specs.Device.{blank_words, device_words}
 use Rattle.mc_lab.specs.Expectations.{Trial, count_failed, expect_text, steady_steps, trial_read}
 use Rattle.mc_lab.specs.Judged.{done_of}
-use Rattle.mc_lab.specs.Sweeps.{sweep_text}
+use Rattle.mc_lab.specs.declared.remark.Mark.TheVariants as mark
+use Rattle.mc_lab.specs.Remarks.{Remark, remarks}
+use Rattle.mc_lab.specs.Sweeps.{is_whole, sweep_text}
 use Rattle.mc_filter.specs.Statuses.{status_after_writing}
 use Rattle.mc_filter.specs.Inputs.{ReadWhole}
 use Rattle.mellab.specs.declared.job.Job.TheVariants as job
 use Rattle.mc_filter.specs.declared.status.Status.{Status}
-use Rattle.mc_filter.specs.declared.status.Status.TheVariants.{Done}
 use Rattle.mellab.specs.Verdicts.{Reports, expectation_verdict, sweep_verdict}
 use Rattle.mc_filter.specs.Outside.{Outside}
 use Rattle.mellab.specs.Statuses.{status_after, status_by, MellabDone}
@@ -22,7 +23,7 @@ reported_status (Ok k) n h = ap (λ m. status_by (m == 0)) (h k refl)
 reported_status (Err f) n h = refl
 
 -- the report of a deck's expectations was written
-pub says_expected : (a : Outside) (input : List ℕ) (t : Trial) (words : List (List ℕ)) (r : Result ℕ Fault) (s : Status) → ReadWhole a.left_old a.left input → trial_read input ≡ Ok t → words ≡ blank_words device_words → s ≡ status_after r
+pub says_expected : (a : Outside) (input : List ℕ) (t : Trial) (words : List (List ℕ)) (r : Result ℕ Fault) (s : Status) → ReadWhole a.input_old a.input input → trial_read input ≡ Ok t → words ≡ blank_words device_words → s ≡ status_after r
     → ((k : ℕ) → r ≡ Ok k → k ≡ count_failed (steady_steps words t.lines) t.expected) → Puts a.out_old (expect_text (steady_steps words t.lines) t.expected) (done_of r) a.out → MellabDone job.Expect a s
 says_expected a input t words r s read is blank status count put =
     let n = count_failed (steady_steps words t.lines) t.expected in
@@ -38,10 +39,11 @@ pub if_ok : {X E : Type 0} (r : Result X E) (P : X → Type 0) → IfOk r P → 
 if_ok r P h k e = subst (λ r. IfOk r P) e h
 
 -- the text of a deck's sweep was written, or the sink failed
-pub says_swept : (a : Outside) (input : List ℕ) (ls : List (ℕ × DeckLine)) (r : Result (Unit {0}) Fault) (s : Status) → ReadWhole a.left_old a.left input → deck_read input ≡ Ok ls → s ≡ status_after_writing Done r → Puts a.out_old (sweep_text ls) r a.out → MellabDone job.Sweep a s
-says_swept a input ls r s read is status put =
+pub says_swept : (a : Outside) (input : List ℕ) (marks : List Remark) (ls : List (ℕ × DeckLine)) (r : Result (Unit {0}) Fault) (s : Status) → ReadWhole a.input_old a.input input → deck_read input ≡ Ok ls → marks ≡ remarks mark.Whole input
+    → s ≡ status_after_writing (status_by (is_whole marks ls)) r → Puts a.out_old (sweep_text marks ls) r a.out → MellabDone job.Sweep a s
+says_swept a input marks ls r s read is marked status put =
     record {
-      verdict = Reports (sweep_text ls) true;
-      due = inr (record { input = input; read = read; is = sym (ap sweep_verdict is) });
+      verdict = Reports (sweep_text marks ls) (is_whole marks ls);
+      due = inr (record { input = input; read = read; is = ap (λ (ms : List Remark). Reports (sweep_text ms ls) (is_whole ms ls)) marked ∙ sym (ap (sweep_verdict (remarks mark.Whole input)) is) });
       done = record { result = r; status = status; written = put };
     }

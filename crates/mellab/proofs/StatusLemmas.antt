@@ -19,10 +19,10 @@ use Rattle.mellab.specs.Statuses.{status_by, IsTextWritten, IsVerdictOfJob, Mell
 -- ---- what was done
 
 says_by : (work : Job) (a : Outside) (well : Bool) (r : Result (Unit {0}) Fault) (s : Status) → s ≡ status_after_writing (status_by well) r → MellabDone work a s → MellabSays s (Some work) a
-says_by work a true r s e d = filter.says_done (MellabDone work a) (SaysReadFault (TookLimited a.left_old a.left) a) (SaysNoMemory (TookLimited a.left_old a.left) a) r s e d
-says_by work a false r s e d = filter.says_refused (MellabDone work a) (SaysReadFault (TookLimited a.left_old a.left) a) (SaysNoMemory (TookLimited a.left_old a.left) a) r s e d
+says_by work a true r s e d = filter.says_done (MellabDone work a) (SaysReadFault (TookLimited a.input_old a.input) a) (SaysNoMemory (TookLimited a.input_old a.input) a) r s e d
+says_by work a false r s e d = filter.says_refused (MellabDone work a) (SaysReadFault (TookLimited a.input_old a.input) a) (SaysNoMemory (TookLimited a.input_old a.input) a) r s e d
 
-says_verdict : (work : Job) (a : Outside) (v : LabVerdict) (s : Status) → IsRead Refusal (IsVerdictOfJob work) a.left_old a.left v → IsTextWritten v s a → MellabSays s (Some work) a
+says_verdict : (work : Job) (a : Outside) (v : LabVerdict) (s : Status) → IsRead Refusal (IsVerdictOfJob work) a.input_old a.input v → IsTextWritten v s a → MellabSays s (Some work) a
 says_verdict work a (Reports text well) s due d = says_by work a well d.result s d.status (record { verdict = Reports text well; due = due; done = d })
 says_verdict work a (Refusal line) s due d = says_by work a false d.result s d.status (record { verdict = Refusal line; due = due; done = d })
 
@@ -36,7 +36,7 @@ says_done work s a d = says_verdict work a d.verdict s d.due d.done
 pub says_rejected : (work : Job) (a : Outside) (x : Sunk) (e : Rejection) (s : Status) → RejectsLabJob work (record a { out = x }) e → RejectionEnds e a.out_old s a.out → MellabSays s (Some work) a
 says_rejected work a x (rejection.Refusal line) s why ends = says_verdict work a (Refusal line.items) s why ends
 says_rejected work a x rejection.ReadFault s why ends = subst (λ s. MellabSays s (Some work) a) (sym ends.0) (record { cause = why.0; source = why.1; written = ends.1 })
-says_rejected work a x rejection.NoMemory s why ends = subst (λ s. MellabSays s (Some work) a) (sym ends.0) (record { source = why; written = ends.1 })
+says_rejected work a x rejection.NoMemory s why ends = subst (λ s. MellabSays s (Some work) a) (sym ends.0) (record { quiet = why.0; source = why.1; written = ends.1 })
 
 -- the words select no job, and the usage line was written
 pub says_no_form : (form : Option Job) (a : Outside) (r : Result (Unit {0}) Fault) (s : Status) → form ≡ None → s ≡ status_after_writing NoForm r → Untouched a → Puts a.out_old usage r a.out → MellabSays s form a

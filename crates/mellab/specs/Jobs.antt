@@ -1,7 +1,8 @@
 -- The jobs that the words of the command line select.
-use Rattle.std.specs.Prelude.{ℕ, List, [], ◌∷◌, bytes_eq, codes, cond, string_bytes, Option, Some, None}
+use Rattle.std.specs.Prelude.{ℕ, zero, suc, List, [], ◌∷◌, bytes_eq, codes, cond, length, nat_le, string_bytes, Option, Some, None}
 use Rattle.std.specs.declared.alloc.Global.{Global}
 use Rattle.std.specs.declared.string.String.{String}
+use Rattle.mc_model_machine.specs.Text.{decimal_number}
 use Rattle.mellab.specs.declared.job.Job.{Job}
 use Rattle.mellab.specs.declared.job.Job.TheVariants as job
 
@@ -15,6 +16,22 @@ job_of [] = None
 job_of (w ∷ []) = job_named (string_bytes w)
 job_of (w ∷ x ∷ ws) = None
 
+-- a number that is at least 1
+abbrev pub at_least_one : Option ℕ → Option ℕ
+at_least_one None = None
+at_least_one (Some n) = cond (nat_le 1 n) (Some n) None
+
+-- the depth that a word spells: 1 to 6 decimal digits, at least 1
+abbrev pub depth_of : List ℕ → Option ℕ
+depth_of w = cond (nat_le (length w) 6) (at_least_one (decimal_number w)) None
+
+-- the depth of an exploration that the words of the command line select
+abbrev pub explore_depth : List (String Global) → Option ℕ
+explore_depth [] = None
+explore_depth (w ∷ []) = None
+explore_depth (w ∷ x ∷ []) = cond (bytes_eq (string_bytes w) (codes "explore")) (depth_of (string_bytes x)) None
+explore_depth (w ∷ x ∷ y ∷ ws) = None
+
 -- the text that is written if the words select no job
 abbrev pub usage : List ℕ
-usage = codes "usage: mellab expect | sweep\n"
+usage = codes "usage: mellab expect | sweep | explore N\n"

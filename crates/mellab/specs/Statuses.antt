@@ -16,7 +16,7 @@ use Rattle.mellab.specs.Verdicts.{LabVerdict, Reports, Refusal, verdict_of}
 abbrev pub IsVerdictOfJob : Job → List ℕ → LabVerdict → Type 0
 IsVerdictOfJob job input v = v ≡ verdict_of job input
 
--- the status of a complete text, by whether all expectations hold
+-- the status of a complete text, by whether all that is asked of the deck holds
 abbrev pub status_by : Bool → Status
 status_by true = Done
 status_by false = Failed
@@ -33,14 +33,14 @@ IsTextWritten (Refusal line) s a = IsWritten Failed line s a.out_old a.out
 
 -- a job was done, or its input was refused, or the sink failed
 abbrev pub MellabDone : Job → Outside → Status → Type 0
-MellabDone job a s = SaysDone (IsRead Refusal (IsVerdictOfJob job) a.left_old a.left) (λ (v : LabVerdict). IsTextWritten v s a)
+MellabDone job a s = SaysDone (IsRead Refusal (IsVerdictOfJob job) a.input_old a.input) (λ (v : LabVerdict). IsTextWritten v s a)
 
 -- ---- statuses
 
 -- the meaning of each status, by the job that the words select
 abbrev pub MellabSays : Status → Option Job → Outside → Type 0
 MellabSays s (Some job) a =
-    JobSays (MellabDone job a) (SaysReadFault (TookLimited a.left_old a.left) a) (SaysNoMemory (TookLimited a.left_old a.left) a) s
+    JobSays (MellabDone job a) (SaysReadFault (TookLimited a.input_old a.input) a) (SaysNoMemory (TookLimited a.input_old a.input) a) s
 MellabSays s None a = NoJobSays (λ (t : Status). SaysNoForm usage t a) s
 
 -- ---- completeness
@@ -52,7 +52,7 @@ status_of (Refusal line) = Failed
 
 -- all that is due was written
 abbrev pub MellabWhole : Job → Outside → Status → Type 0
-MellabWhole job a s = IsWhole (AllStands Refusal (IsVerdictOfJob job) a.left_old) status_of (λ (v : LabVerdict). IsTextWritten v s a) s
+MellabWhole job a s = IsWhole (AllStands Refusal (IsVerdictOfJob job) a.input_old.left) status_of (λ (v : LabVerdict). IsTextWritten v s a) s
 
 -- if no call of source or sink fails, all that is due is written, or the call was out of memory before the first byte
 -- of output

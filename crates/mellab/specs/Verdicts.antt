@@ -1,24 +1,27 @@
--- The verdict on the input of a job: the text due, and whether all expectations hold, or the one line that refuses the
--- input.
-use Rattle.std.specs.Prelude.{ℕ, Bool, true, ◌==◌, List, codes, Result, Ok, Err}
+-- The verdict on the input of a job: the text due, and whether all that is asked of it holds, or the one line that
+-- refuses the input.
+use Rattle.std.specs.Prelude.{ℕ, Bool, ◌==◌, List, codes, Result, Ok, Err}
 use Rattle.mc_model_device.specs.Device.{blank_words, device_words}
 use Rattle.mc_model_play.specs.DeckGrammar.{DeckLine, deck_read}
 use Rattle.mc_model_play.specs.declared.deck.DeckCause.{DeckCause}
-use Rattle.mc_lab.specs.Expectations.{Trial, TrialFault, DeckFault, NoAnswer, trial_read, steady_steps, expect_text, count_failed}
-use Rattle.mc_lab.specs.Sweeps.{sweep_text}
+use Rattle.mc_lab.specs.Expectations.{Trial, TrialFault, DeckFault, NoAnswer, NoExpectation, trial_read, steady_steps, expect_text, count_failed}
+use Rattle.mc_lab.specs.declared.remark.Mark.TheVariants as mark
+use Rattle.mc_lab.specs.Remarks.{Remark, remarks}
+use Rattle.mc_lab.specs.Sweeps.{is_whole, sweep_text}
 use Rattle.mc_filter.specs.Lines.{at_line, deck_line}
 use Rattle.mellab.specs.declared.job.Job.{Job}
 use Rattle.mellab.specs.declared.job.Job.TheVariants as job
 
--- a verdict: a text, and whether all expectations hold, or the line of a refusal
+-- a verdict: a text, and whether all expectations hold, or all lines that must be whole are; or the line of a refusal
 pub data LabVerdict : Type 0 where
   Reports : (text : List ℕ) (well : Bool) → LabVerdict
   Refusal : (line : List ℕ) → LabVerdict
 
--- the line of a refusal: a refused line of a deck, or an expectation without a result
+-- the line of a refusal: a refused line of a deck, an expectation without a result, or a deck without expectations
 abbrev pub fault_line : TrialFault → List ℕ
 fault_line (DeckFault n c) = deck_line (n, c)
 fault_line (NoAnswer n) = at_line n (codes "NoAnswer")
+fault_line NoExpectation = at_line 0 (codes "NoExpectation")
 
 -- ---- jobs
 
@@ -29,12 +32,12 @@ expectation_verdict (Ok t) =
     Reports (expect_text ts t.expected) (count_failed ts t.expected == 0)
 expectation_verdict (Err e) = Refusal (fault_line e)
 
--- the verdict on a sweep of a deck, which has no expectations
-abbrev pub sweep_verdict : Result (List (ℕ × DeckLine)) (ℕ × DeckCause) → LabVerdict
-sweep_verdict (Ok ls) = Reports (sweep_text ls) true
-sweep_verdict (Err e) = Refusal (deck_line e)
+-- the verdict on a sweep of a deck with its marks `#! whole`: whether each line that must be whole is
+abbrev pub sweep_verdict : List Remark → Result (List (ℕ × DeckLine)) (ℕ × DeckCause) → LabVerdict
+sweep_verdict marks (Ok ls) = Reports (sweep_text marks ls) (is_whole marks ls)
+sweep_verdict marks (Err e) = Refusal (deck_line e)
 
 -- the verdict on an input within the limit
 abbrev pub verdict_of : Job → List ℕ → LabVerdict
 verdict_of job.Expect input = expectation_verdict (trial_read input)
-verdict_of job.Sweep input = sweep_verdict (deck_read input)
+verdict_of job.Sweep input = sweep_verdict (remarks mark.Whole input) (deck_read input)

@@ -268,10 +268,18 @@ apdu 80880000200000000000000000000000000000104300112233445566778899AABBCCDDEEFF1
 format
 power
 app file A000000020
-; static bytes: 0 triple DES key (16), 16 AES key (16), 32 number of challenges (8), 40 the file (600)
-; session bytes: 0 is 1 once the terminal proved itself, 1 is 1 while a challenge is out, 2 the answer that is due (8),
-;                10 how many bytes are to be copied (2), 12 where to (2), 14 where from (2), 16 is 1 for a write
-; INS B0 read, D6 write, 84 challenge, 82 the terminal's proof, 88 the card's proof
+DATA 0123456789ABCDEFFEDCBA9876543210
+DATA 000102030405060708090A0B0C0D0E0F
+
+
+
+
+
+
+
+
+
+
         CMPB PT[-12],0xB0
         JUMP EQ,read
         CMPB PT[-12],0xD6
@@ -286,10 +294,9 @@ app file A000000020
 length: EXITSW 0x6700
 denied: EXITSW 0x6982
 offset: EXITSW 0x6B00
-; P1 P2 is the place in the file, Le the number of bytes. Place and number are added on the stack; a carry or a sum above 600 is refused.
-read:   LOAD PT[-11],2
+read:   LOAD PT[-11],2               ; the place in the file
         LOAD PT[-6],2
-        ADDN 2
+        ADDN 2                  ; added on the stack: a carry or a sum above the file's size is refused
         POPN 2
         JUMP LT,carry
         PUSHW 600
@@ -302,12 +309,11 @@ read:   LOAD PT[-11],2
         STORE DB[12],2
         LOAD PT[-11],2
         STORE DB[14],2
-        ADDW DB[14],40          ; the file lies at 40
+        ADDW DB[14],40
         SETB DB[16],0
         JUMP ALL,copy
 carry:  POPN 2
         JUMP ALL,offset
-; the same with Lc. Under protection all pieces are one atomic write of at most 64 words; a longer one ends with abend 08.
 write:  CMPB DB[0],1
         JUMP NE,denied
         LOAD PT[-11],2
@@ -327,12 +333,10 @@ write:  CMPB DB[0],1
         LOADA PB[0]
         STORE DB[14],2
         SETB DB[16],1
-        PRIM 3,2
-; copies in pieces of at most 255 bytes, which is all that PRIM 6 takes. It is no routine: the checker refuses a write to a computed
-; address wherever a call might be open.
-copy:   TESTN DB[10],2
+        PRIM 3,2                ; all pieces are one atomic write of at most 64 words; a longer one ends with abend 08
+copy:   TESTN DB[10],2              ; no routine: the checker refuses a write to a computed address wherever a call might be open
         JUMP EQ,copied
-        CMPW DB[10],255
+        CMPW DB[10],255           ; a piece has at most 255 bytes, which is all that PRIM 6 takes
         JUMP LE,last
         PUSHW 255
         JUMP ALL,piece
@@ -349,30 +353,28 @@ piece:  LOAD DB[12],2
 copied: CMPB DB[16],1
         JUMP EQ,commit
         LOAD PT[-6],2
-        STORE PT[-4],2          ; La
+        STORE PT[-4],2
         EXIT
 commit: PRIM 3,1
         EXIT
-; a number that never comes twice, enciphered; enciphered once more it is the answer that is due
 challenge: CMPW PT[-6],8
         JUMP NE,length
-        INCN SB[32],8
+        INCN SB[32],8         ; a number that never comes twice
         LOADA SB[32]
         LOADA PB[0]
         LOADA SB[0]
-        PRIM 6,8
+        PRIM 6,8                ; enciphered it is the challenge
         LOADA PB[0]
         LOADA DB[2]
         LOADA SB[0]
-        PRIM 6,8
+        PRIM 6,8                ; and once more the answer that is due
         SETB DB[1],1
         EXITLA 8
-; a challenge serves once
 proof:  CMPW PT[-8],8
         JUMP NE,length
         CMPB DB[1],1
         JUMP NE,denied
-        SETB DB[1],0
+        SETB DB[1],0              ; a challenge serves once
         LOAD PB[0],8
         CMPN DB[2],8
         POPN 8
@@ -386,8 +388,6 @@ answer: CMPW PT[-8],16
         LOADA SB[16]
         PRIM 10,16
         EXITLA 16
-DATA 0123456789ABCDEFFEDCBA9876543210
-DATA 000102030405060708090A0B0C0D0E0F
 end
 load file 640 17
 #> 9000
@@ -484,15 +484,15 @@ format
 power
 #> ready 0
 app purse A000000002
-; under protection writes wait until they are committed together
-PRIM 3,2
+DATA 0005
+DATA 0000
+PRIM 3,2                ; under protection writes wait until they are committed together
 SUBW SB[0],0x0001
 ADDW SB[2],0x0001
 PRIM 3,1
-LOAD SB[0],4
+LOAD SB[0],4            ; both numbers
 STORE PB[0],4
 EXITLA 4
-DATA 00050000
 end
 load purse 4 0
 #> 9000
@@ -563,9 +563,15 @@ apdu 8001000002
 format
 power
 app purse A000000010
-; static bytes: 0 balance (4), 4 tries left (1), 5 PIN (4), 9 number of debits (2), 11 log of four records (number 2, amount 4),
-;               35 counted name of the loyalty application (1 and 5)
-; session bytes: 0 is 1 once the PIN was shown, 1 and 2 keep an address
+DATA 00000000
+DATA 03
+DATA 31323334
+DATA 0000
+DATA 000000000000000000000000000000000000000000000000
+DATA 05A000000011
+
+
+
         CMPB PT[-12],0x20
         JUMP EQ,show
         CMPB PT[-12],0x30
@@ -577,12 +583,11 @@ app purse A000000010
         CMPB PT[-12],0x60
         JUMP EQ,record
         EXITSW 0x6D00
-; The try is used up before the PIN is compared: a card that is pulled in between has lost one try, and never won one.
 show:   CMPW PT[-8],4
         JUMP NE,length
         TESTN SB[4],1
         JUMP EQ,blocked
-        DECN SB[4],1
+        DECN SB[4],1              ; before the PIN is compared: a card that is pulled in between has lost one try, and never won one
         LOAD PB[0],4
         CMPN SB[5],4
         JUMP NE,wrong
@@ -592,28 +597,26 @@ show:   CMPW PT[-8],4
 wrong:  SETB DB[0],0
         SETSW 0x63C0
         LOAD SB[4],1
-        ORN PT[-1],1            ; 63Cx, with x the tries that are left
+        ORN PT[-1],1                ; 63Cx, with x the tries that are left
         EXIT
 blocked: EXITSW 0x6983
 length: EXITSW 0x6700
 denied: EXITSW 0x6982
 refused: EXITSW 0x6985
-; The sum is made on the stack, so that an overflow changes nothing.
 credit: CMPB DB[0],1
         JUMP NE,denied
         CMPW PT[-8],4
         JUMP NE,length
         LOAD SB[0],4
         LOAD PB[0],4
-        ADDN 4
-        POPN 4                  ; the amount goes, the sum and the flags stay
+        ADDN 4                  ; on the stack, so that an overflow changes nothing
+        POPN 4        ; the amount goes, the sum and the flags stay
         JUMP LT,refused
         STORE SB[0],4
         EXIT
 balance: LOAD SB[0],4
         STORE PB[0],4
         EXITLA 4
-; Balance, number and record change together, or none of them does.
 debit:  CMPB DB[0],1
         JUMP NE,denied
         CMPW PT[-8],4
@@ -621,7 +624,7 @@ debit:  CMPB DB[0],1
         LOAD PB[0],4
         CMPN SB[0],4
         JUMP LT,refused
-        PRIM 3,2                ; protection begins
+        PRIM 3,2                ; protection begins: balance, number and record change together, or none of them does
         SUBN SB[0],4
         INCN SB[9],2
         LOAD SB[10],1           ; the record's place is the number modulo 4
@@ -643,20 +646,19 @@ record: LOAD PT[-10],1
         LOADI 6
         STORE PB[0],6
         EXITLA 6
-DATA 0000000003313233340000
-DATA 000000000000000000000000000000000000000000000000
-DATA 05A000000011
 end
 app loyalty A000000011
-; static bytes: 0 points (4), 4 counted name of its purse (1 and 5), 10 room for the delegator's name (17)
+DATA 00000000
+DATA 05A000000010
+
         LOADA SB[10]
         PRIM 8
         JUMP EQ,direct
         LOAD SB[10],6
         CMPN SB[4],6
-        POPN 6                  ; the flags stay, and `denied` is always reached with an empty stack
+        POPN 6         ; the flags stay, and `denied` is always reached with an empty stack
         JUMP NE,denied
-        LOAD PB[0],4
+        LOAD PB[0],4            ; the amount
         PRIM 3,4,4              ; a point for each 16
         ADDN SB[0],4
         EXIT
@@ -666,14 +668,12 @@ direct: CMPB PT[-12],0x50
         STORE PB[0],4
         EXITLA 4
 denied: EXITSW 0x6982
-DATA 0000000005A000000010
 end
 app stranger A000000012
-; delegates to the loyalty application, which asks who it is
-        LOADA SB[0]
+DATA 05A000000011
+        LOADA SB[0]           ; delegates to the loyalty application, which asks who it is
         PRIM 7
         EXIT
-DATA 05A000000011
 end
 load purse 41 3
 #> 9000

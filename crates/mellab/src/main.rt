@@ -4,6 +4,7 @@
 
 #[cfg(test)]
 mod examples;
+mod exploring;
 mod job;
 mod running;
 #[cfg(test)]
@@ -13,7 +14,7 @@ ghost use Rattle.std.specs.Prelude.{◌≡◌, ◌<◌};
 
 use crate::running::mellab;
 use mc_base::{StdSink, StdSource, Steps};
-use mc_filter::{Status, command_words, number};
+use mc_filter::{Status, command_words, job_words, number};
 use std::marker::Brand;
 use std::process::ExitCode;
 use std::sync::ledger::{Blank, Ledger};
@@ -29,8 +30,7 @@ fn program<L: Ledger>(rt: &HostRuntime, blank: Blank) -> u8
     let Ok(words) = command_words(rt) else {
         return number(Status::NoMemory);
     };
-    // Arguments that are not UTF-8 select no job.
-    let words = words.unwrap_or_else(|| Vec::new(alloc));
+    let words = job_words(alloc, words);
     let mut input = StdSource::new(rt.stdin());
     let mut out = StdSink::new(rt.stdout());
     mellab(alloc, words.as_slice(), &mut input, &mut out, &mut steps)

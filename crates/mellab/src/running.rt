@@ -1,5 +1,5 @@
 // The top call: a job over a source and a sink.
-ghost use Rattle.std.specs.Prelude.{◌≡◌, ◌≤◌, ◌^◌, ◌<◌, length, Ok, Some, IfErr, IfOk, IfSome};
+ghost use Rattle.std.specs.Prelude.{◌≡◌, ◌≤◌, ◌^◌, ◌<◌, length, None, Ok, Some, IfErr, IfOk, IfSome};
 ghost use Rattle.mc_model_play.specs.DeckGrammar.{deck_read};
 ghost use Rattle.mc_text.specs.Texts.{sunk_in};
 ghost use Rattle.mc_lab.specs.Expectations.{trial_read};
@@ -9,21 +9,22 @@ ghost use Rattle.mc_filter.specs.Inputs.{input_limit, Rejects};
 ghost use Rattle.mc_filter.specs.Outside.{outside};
 ghost use Rattle.mc_filter.specs.Statuses.{number_of};
 ghost use Rattle.mellab.specs.declared.job.Job.TheVariants as job;
-ghost use Rattle.mellab.specs.Jobs.{job_of};
+ghost use Rattle.mellab.specs.Jobs.{explore_depth, job_of};
 ghost use Rattle.mellab.specs.Running.{refused_trial, RejectsLabJob};
-ghost use Rattle.mellab.specs.Statuses.{status_after, MellabCompletes, MellabDone, MellabSays};
+ghost use Rattle.mellab.specs.Statuses.{status_after, status_by, MellabCompletes, MellabDone, MellabSays};
 
+use crate::exploring::{explore_depth, explore_input};
 use crate::job::{Job, job_of};
 use mc_base::{Sink, Source, Steps, WriteFault, put_all};
 use mc_filter::{
     Rejection, Status, blank_device, deck_of, ended, number, read_input, refused, reject,
 };
-use mc_lab::{SweepFault, Trial, TrialRefusal, expect, read_trial, sweep};
+use mc_lab::{Mark, SweepFault, Trial, TrialRefusal, expect, read_trial, remarks, sweep};
 use std::alloc::Global;
 use std::sync::ledger::Ledger;
 
 // The text that is written if the words select no job.
-const USAGE: &[u8] = b"usage: mellab expect | sweep\n";
+const USAGE: &[u8] = b"usage: mellab expect | sweep | explore N\n";
 
 // Reads a deck and its expectations, or returns the line that refuses them.
 fn trial_of(alloc: Global, text: &[u8]) -> Result<Trial<'_>, Rejection>
@@ -36,6 +37,7 @@ fn trial_of(alloc: Global, text: &[u8]) -> Result<Trial<'_>, Rejection>
         Ok(trial) => Ok(trial),
         Err(TrialRefusal::Deck(number, cause)) => Err(refused(alloc, "line", number, cause.word())),
         Err(TrialRefusal::NoAnswer(number)) => Err(refused(alloc, "line", number, "NoAnswer")),
+        Err(TrialRefusal::NoExpectation) => Err(refused(alloc, "line", 0, "NoExpectation")),
         Err(TrialRefusal::NoMemory) => Err(Rejection::NoMemory),
     }
 }
@@ -49,6 +51,13 @@ fn status_after(reported: Result<usize, WriteFault>) -> Status
         Ok(_) => Status::Failed,
         Err(WriteFault) => Status::WriteFault,
     }
+}
+
+// The status of a complete text, by whether all that is asked of the deck holds.
+fn status_by(well: bool) -> Status
+    ensures { result ≡ status_by well }
+{
+    if well { Status::Done } else { Status::Failed }
 }
 
 // Plays the deck that an input spells, on a blank device of its own, and writes the report of its
@@ -86,8 +95,9 @@ fn sweep_input<S: Source, T: Sink, L: Ledger>(
 {
     let text = read_input(alloc, input)?;
     let deck = deck_of(alloc, text.as_slice())?;
-    match sweep(alloc, &deck, out, steps) {
-        Ok(()) => Ok(Status::Done),
+    let marks = remarks(alloc, text.as_slice(), Mark::Whole)?;
+    match sweep(alloc, &deck, marks.as_slice(), out, steps) {
+        Ok(whole) => Ok(status_by(whole)),
         Err(SweepFault::WriteFault) => Ok(Status::WriteFault),
         Err(SweepFault::NoMemory) => Err(Rejection::NoMemory),
     }
@@ -127,12 +137,9 @@ fn run<S: Source, T: Sink, L: Ledger>(
     }
 }
 
-/// Does the job that the words select, over a source and a sink, and returns its status: 0 done and all
-/// expectations hold, 1 an expectation failed or the input is refused, 2 the words select no job, 3 a fault
-/// of the source, 4 a fault of the sink, 5 out of memory.
-///
-/// It makes its own devices in memory, of 8,192 words.
-pub fn mellab<S: Source, T: Sink, L: Ledger>(
+// Compares a deck with its expectations or sweeps it, by the words, and returns the status. Words that select
+// neither write the usage line.
+fn expect_or_sweep<S: Source, T: Sink, L: Ledger>(
     alloc: Global,
     words: &[String],
     input: &mut S,
@@ -148,4 +155,29 @@ pub fn mellab<S: Source, T: Sink, L: Ledger>(
         return number(ended(Status::NoForm, put_all(out, USAGE)));
     };
     number(run(alloc, job, input, out, steps))
+}
+
+/// Does the job that the words select, over a source and a sink, and returns its status: 0 done, all expectations
+/// hold, each line that must be whole is and no rule is broken, 1 an expectation failed, a line is not whole, a rule
+/// is broken or the input is refused, 2 the words select no job, 3 a fault of the source, 4 a fault of the sink, 5 out
+/// of memory.
+///
+/// It makes its own devices in memory, of 8,192 words.
+pub fn mellab<S: Source, T: Sink, L: Ledger>(
+    alloc: Global,
+    words: &[String],
+    input: &mut S,
+    out: &mut T,
+    steps: &mut Steps<L>,
+) -> u8
+    ensures says { explore_depth words.now ≡ None → (s : Status) × (result ≡ number_of s)
+        × MellabSays s (job_of words.now) (outside S.Source T.Sink input.old input.new out.old out.new) }
+    ensures complete { explore_depth words.now ≡ None → (s : Status) → result ≡ number_of s
+        → IfSome (job_of words.now)
+        (λ job. MellabCompletes s job (outside S.Source T.Sink input.old input.new out.old out.new)) }
+{
+    match explore_depth(words) {
+        Some(depth) => number(explore_input(alloc, depth, input, out, steps)),
+        None => expect_or_sweep(alloc, words, input, out, steps),
+    }
 }

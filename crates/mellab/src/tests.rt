@@ -8,13 +8,15 @@ use std::marker::Brand;
 use std::sync::ledger::{Blank, Ledger};
 use std::test::Fail;
 
-// A deck of which four expectations fail.
-const FAILING: &[u8] = b"format\n #>   form  \npower\n\n# a comment\n#>\n#> READY 0\n#> ready0\n\
+// A deck of which five expectations fail.
+const FAILING: &[u8] = b"format\n #>   form  \npower\n\n# a comment\n#>\n#> READY 0\n#> rea dy1\n\
     dump A000000001\n#> abs?nt\n#>abs\n#> *t?\n";
 
 // The report of it.
-const FAILED: &[u8] = b"line 2 expected form was formatted\nline 6 expected  was ready 0\n\
-    line 7 expected READY 0 was ready 0\nline 12 expected *t? was absent\nexpected 6 failed 4\n";
+const FAILED: &[u8] = b"line 2 expected form was formatted (line 1 format)\n\
+    line 6 expected  was ready 0 (line 3 power)\nline 8 expected rea dy1 was rea dy0 (line 3 power)\n\
+    line 11 expected abs was absent (line 9 dump A000000001)\n\
+    line 12 expected *t? was absent (line 9 dump A000000001)\nexpected 7 failed 5\n";
 
 // A counter that is loaded and selected, and counts twice.
 const COUNTER: &[u8] = b"format\npower\n\
@@ -126,13 +128,14 @@ fn failed(rt: HostRuntime) -> Result<(), Fail> {
     assert!(rt;
         end.is(
             1,
-            b"line 4 expected present was absent\nexpected 1 failed 1\n"
+            b"line 4 expected present was absent (line 3 dump A000000001)\nexpected 1 failed 1\n"
         )
     );
     Ok(())
 }
 
-// Decks that are refused: by a statement, by an expectation without a result, and by a line of a section.
+// Decks that are refused: by a statement, by an expectation without a result, by a line of a section, and for want of
+// an expectation.
 #[test]
 fn refused(rt: HostRuntime) -> Result<(), Fail> {
     let alloc = rt.alloc();
@@ -149,6 +152,8 @@ fn refused(rt: HostRuntime) -> Result<(), Fail> {
             b"app a A000000001\nEXIT\n#> 9000\nend\n",
             b"line 3 UnknownWord\n",
         ),
+        (b"format\npower\n# ready 0\n", b"line 0 NoExpectation\n"),
+        (b"", b"line 0 NoExpectation\n"),
     ] {
         let end = ended(alloc, words, deck, 400, &[])?;
         assert!(rt;
@@ -160,8 +165,6 @@ fn refused(rt: HostRuntime) -> Result<(), Fail> {
     let feeds = vec![in alloc; b'\n'; 1_048_577]?;
     let end = ended(alloc, words, feeds.as_slice(), 58, &[])?;
     assert!(rt; end.is(1, b"line 0 TooLong\n"));
-    let end = ended(alloc, words, b"", 58, &[])?;
-    assert!(rt; end.is(0, b"expected 0 failed 0\n"));
     Ok(())
 }
 
@@ -184,14 +187,93 @@ fn swept(rt: HostRuntime) -> Result<(), Fail> {
     Ok(())
 }
 
+// The counter with a move, an allowance, and a rule that a second count breaks.
+const RULED: &[u8] = b"format\npower\n\
+    unit counter 0000000000000000000FB902000039020000460200000600020000000961074F05A0000000010\
+    0096F078405A00000000100000000\nload counter 2 0\nselect A000000001\n\
+    #@ move apdu 8001000002\n#@ allow counts 1\n#@ on apdu* gives *9000 spend counts 1\n";
+
+// The text of its exploration, two moves deep, and of one that is one move deep.
+const BROKEN: &[u8] =
+    b"depth 1 states 3\nbroken counts after 2 lines\napdu 8001000002\napdu 8001000002\n";
+
+const KEPT: &[u8] = b"depth 1 states 3\nexplored states 4 tries 19 depth 1\n";
+
+// Explorations: a rule that is broken, and up to a fault of the sink; one that ends at its depth; a source that
+// fails, and rules and a deck that are refused.
+#[test]
+fn explored(rt: HostRuntime) -> Result<(), Fail> {
+    let alloc = rt.alloc();
+    let deep = words(alloc, &["explore", "2"])?;
+    let words = words(alloc, &["explore", "1"])?;
+    let words = words.as_slice();
+    let end = ended(alloc, deep.as_slice(), RULED, 400, &[])?;
+    assert!(rt; end.is(1, BROKEN));
+    for room in 0..BROKEN.len() {
+        let end = ended(alloc, deep.as_slice(), RULED, room, &[])?;
+        assert!(rt; end.is(4, &BROKEN[..room]), "at {room}");
+    }
+    let end = ended(alloc, words, RULED, 400, &[])?;
+    assert!(rt; end.is(0, KEPT));
+    let end = ended(alloc, words, RULED, 400, &[1])?;
+    assert!(rt; end.is(3, b""));
+    let end = ended(alloc, words, b"format\n#@ move reboot\n", 400, &[])?;
+    assert!(rt; end.is(1, b"line 2 BadLine\n"));
+    let end = ended(alloc, words, b"format\n#@ move reboot\nreboot\n", 400, &[])?;
+    assert!(rt; end.is(1, b"line 3 BadLine\n"));
+    Ok(())
+}
+
+// A deck of which a command changes two numbers, one after the other, with a mark after the load.
+const TWICE: &str = "format\npower\n\
+    unit twice 00000000000000000013B9020000B902000239040000460400000600040000000961074F05A0000000010\
+    0096F078405A00000000100000000\nload twice 4 0\n#! whole\nselect A000000001\napdu 8001000004\n";
+
+// The text of its sweep, up to the end of the command's line.
+const TWICE_SWEPT: &str = "line 4 writes 22: before 1-18 after 19-22\n\
+    line 7 writes 12: before 1-4 between 5-10 after 11-12";
+
+// A line that must be whole and is between two changes: the status is 1 if it is marked, and 0 if not.
+#[test]
+fn whole(rt: HostRuntime) -> Result<(), Fail> {
+    let alloc = rt.alloc();
+    let words = words(alloc, &["sweep"])?;
+    let words = words.as_slice();
+    for (mark, reported, status) in [
+        ("#! whole all", "", 0u8),
+        ("power\n#! whole", "", 0),
+        ("# twice\n\n \t#!  whole\t", " not whole", 1),
+    ] {
+        let deck = format!(in alloc; "{}{}\ndump A000000001\n", TWICE, mark)?;
+        let text = format!(in alloc;
+            "{}{}\nswept 2 writes 34 plays 100\n",
+            TWICE_SWEPT, reported
+        )?;
+        let end = ended(alloc, words, deck.as_bytes(), 400, &[])?;
+        assert!(rt; end.is(status, text.as_bytes()), "{}", mark);
+    }
+    Ok(())
+}
+
 // Words that select no job: the usage line is written, and the source is unchanged.
 #[test]
 fn usage(rt: HostRuntime) -> Result<(), Fail> {
     let alloc = rt.alloc();
-    for texts in [&[] as &[&str], &["expect", "sweep"], &["play"], &["--help"]] {
+    for texts in [
+        &[] as &[&str],
+        &["expect", "sweep"],
+        &["play"],
+        &["--help"],
+        &["explore"],
+        &["explore", "0"],
+        &["explore", "1234567"],
+        &["explore", "1", "2"],
+    ] {
         let words = words(alloc, texts)?;
         let end = ended(alloc, words.as_slice(), FAILING, 58, &[])?;
-        assert!(rt; end.is(2, b"usage: mellab expect | sweep\n") && end.left == FAILING.len());
+        assert!(rt;
+            end.is(2, b"usage: mellab expect | sweep | explore N\n") && end.left == FAILING.len()
+        );
     }
     Ok(())
 }

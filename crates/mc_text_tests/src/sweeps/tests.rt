@@ -1,8 +1,8 @@
-ghost use Rattle.std.specs.Prelude.{◌≡◌, ◌<◌};
+ghost use Rattle.std.specs.Prelude.{◌≡◌, ◌^◌, ◌<◌, length};
 
 use mc_base::{MemSink, NoMemory, Steps};
 use mc_deck::read_deck;
-use mc_lab::{SweepFault, sweep};
+use mc_lab::{Mark, SweepFault, remarks, sweep};
 use std::alloc::Global;
 use std::marker::Brand;
 use std::sync::ledger::{Blank, Ledger};
@@ -27,7 +27,7 @@ const ARMED_TEXT: &[u8] =
 /// The end of a sweep, and its output.
 #[derive(Drop)]
 struct End {
-    result: Result<(), SweepFault>,
+    result: Result<bool, SweepFault>,
     text: Vec<u8>,
 }
 
@@ -41,13 +41,15 @@ fn counted<L: Ledger>(
     requires name { blank.name ≡ L.name }
     requires parts { blank.parts ≡ L.parts }
     requires some { 0 < blank.parts }
+    requires few { length text.now < 2 ^ 32 }
 {
     let mut steps = Steps::<L>::new(blank);
     let mut sink = MemSink::new(alloc, room, &[])?;
     let Ok(deck) = read_deck(alloc, text) else {
         return Err(NoMemory);
     };
-    let result = sweep(alloc, &deck, &mut sink, &mut steps);
+    let marks = remarks(alloc, text, Mark::Whole)?;
+    let result = sweep(alloc, &deck, marks.as_slice(), &mut sink, &mut steps);
     Ok(End {
         result,
         text: Vec::from_slice(alloc, sink.bytes())?,
@@ -55,7 +57,9 @@ fn counted<L: Ledger>(
 }
 
 // The end of a sweep over memory.
-fn swept(alloc: Global, text: &[u8], room: usize) -> Result<End, NoMemory> {
+fn swept(alloc: Global, text: &[u8], room: usize) -> Result<End, NoMemory>
+    requires { length text.now < 2 ^ 32 }
+{
     counted::<Brand>(alloc, Blank::new(1), text, room)
 }
 

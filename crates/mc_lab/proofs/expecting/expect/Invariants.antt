@@ -1,5 +1,5 @@
-use Rattle.std.proofs.Common.{◌≡◌, ◌+◌, ◌≤◌, List, Result, drop}
-use Rattle.mc_asm.specs.Passes.{numbered_lines}
+use Rattle.std.proofs.Common.{◌≡◌, ◌+◌, ◌≤◌, Result, drop}
+use Rattle.mc_lab.specs.Remarked.{remark_values}
 use Rattle.mc_base.specs.declared.refusals.WriteFault.{WriteFault}
 use Rattle.mc_text.specs.Texts.{Sunk, Puts, sunk_in}
 use Rattle.mc_lab.specs.Expectations.{count_failed, expect_text, steady_steps}
@@ -15,7 +15,7 @@ invariant-loop-expectation g l =
     let bench = g.N.Bench.bench in
     let taken = g.T.Sink.taken in
     let faults = g.T.Sink.faults in
-    let es = numbered_lines l.trial.expectations.items in
+    let es = remark_values l.trial.expectations.items in
     let whole = steady_steps (state l.fn.device).words l.trial.deck in
     record {
       above : LinesAbove l.trial.deck l.count (drop l.expectation-index es);

@@ -1,11 +1,11 @@
 use Rattle.std.proofs.Common.{◌≡◌, ◌≤◌, length}
-use Rattle.mc_model_play.specs.Patterns.{without_blanks}
+use Rattle.mc_explore.specs.Matching.{plain}
 use Rattle.mc_lab.proofs.matching.first_of.Given as goal
 
 -- the rest has the same characters
 abbrev pub invariant-loop-rest : goal.invariant-loop-rest
 invariant-loop-rest l = record {
-  same : without_blanks l.rest ≡ without_blanks l.text;
+  same : plain l.rest ≡ plain l.text;
   less : length l.rest ≤ length l.text;
 }
 

@@ -1,4 +1,3 @@
-use Rattle.std.proofs.Common.{◌≡◌}
 use Rattle.mc_deck.specs.Lines.{line_of}
 use Rattle.mc_lab.proofs.StageLemmas.{staged_on, playing_on}
 use Rattle.mc_lab.proofs.stage.play_lines.Goals as goal

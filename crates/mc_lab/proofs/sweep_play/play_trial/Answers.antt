@@ -1,5 +1,6 @@
+use Rattle.std.proofs.Common.{ℕ, sym, subst}
 use Rattle.mc_deck.specs.Lines.{line_of}
-use Rattle.mc_lab.specs.SweepBodies.{front_of}
+use Rattle.mc_lab.specs.SweepBodies.{front_of, IsFewBehind}
 use Rattle.mc_lab.proofs.SweepPlayers.{trial_reported, trial_hit, trial_few}
 use Rattle.mc_lab.proofs.sweep_play.play_trial.Goals as goal
 
@@ -28,4 +29,8 @@ pub returns-clause-few : goal.returns-clause-few
 returns-clause-few g c =
     let line = c.line-number.result in
     let b = c.play_behind-hit in
-    trial_few g.N.Nvm.state g.N.Bench.bench c.args.place.now c.args.behind (line.0, line_of line.1) c.line-number.ensures.line b.result b.new.player (b.ensures.on (front_of c.args.place.now) line.0 c.play_front-player.ensures.at)
+    let a = c.play_line-answer in
+    let few =
+    trial_few g.N.Nvm.state g.N.Bench.bench c.args.place.now c.args.behind (line.0, line_of line.1) c.line-number.ensures.line b.result b.new.player a.new.player a.result a.ensures.on
+    (b.ensures.on (front_of c.args.place.now) line.0 c.play_front-player.ensures.at) in
+    subst (λ (n : ℕ). IsFewBehind c.args.place.now c.args.behind n) (sym c.most_of-most.ensures) few

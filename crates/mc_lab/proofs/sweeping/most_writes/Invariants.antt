@@ -1,12 +1,13 @@
-use Rattle.std.proofs.Common.{length}
+use Rattle.std.proofs.Common.{length, ◌<◌}
 use Rattle.mc_lab.specs.SweepBodies.{AccountsHaveRoom}
 use Rattle.mc_lab.specs.SweepEnds.{AtMost}
 use Rattle.mc_lab.proofs.sweeping.most_writes.Given as goal
 
--- the greatest number of writes of the lines up to here
+-- a bound of the writes of the lines up to here
 abbrev pub invariant-loop-at : goal.invariant-loop-at
 invariant-loop-at g l =
     record {
       most : AtMost l.deck l.at l.most;
+      small : l.most < 4294967295;
       room : AccountsHaveRoom l.bench.ends l.bench.pair (length l.names);
     }

@@ -1,0 +1,36 @@
+-- Lines and remarks as the code has them.
+use Rattle.std.specs.Prelude.{ℕ, List, [], map, Option, None, Some}
+use Rattle.mc_model_machine.specs.Text.{first_cut, is_blank, trim_front}
+use Rattle.mc_asm.specs.declared.line.NumberedLine.{NumberedLine}
+use Rattle.mc_lab.specs.Remarks as model
+use Rattle.mc_lab.specs.declared.remark.Remark.{Remark}
+
+-- a numbered line
+abbrev pub line_value : NumberedLine → ℕ × List ℕ
+line_value l = (l.number, l.text.now)
+
+-- a remark
+abbrev pub remark_value : Remark → model.Remark
+remark_value r = record { number = r.number; text = r.text.now; above = line_value r.above }
+
+-- a remark, if there is one
+abbrev pub some_value : Option Remark → Option model.Remark
+some_value None = None
+some_value (Some r) = Some (remark_value r)
+
+-- remarks
+abbrev pub remark_values : List Remark → List model.Remark
+remark_values rs = map remark_value rs
+
+-- the number of a remark's line
+abbrev pub remark_number : model.Remark → ℕ
+remark_number r = r.number
+
+-- the text after a cut, empty if there is none
+abbrev pub or_nothing : Option (List ℕ) → List ℕ
+or_nothing None = []
+or_nothing (Some t) = t
+
+-- the first field of a line, empty if it has none, and the text after the blank at its end
+abbrev pub first_field : List ℕ → List ℕ × Option (List ℕ)
+first_field l = first_cut is_blank (trim_front l)

@@ -1,0 +1,6 @@
+mod FieldLemmas
+mod MatchingLemmas
+mod MoveLemmas
+mod OnLemmas
+mod PartLemmas
+mod ReadLemmas

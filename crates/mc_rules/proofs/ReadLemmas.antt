@@ -1,0 +1,206 @@
+-- The lines of a text, read rule by rule.
+use Rattle.std.proofs.Common.{◌≡◌, ◌+◌, ◌≤◌, ◌<◌, ℕ, suc, List, [], ◌∷◌, ◌++◌, Bool, true, false, cond, length, Option, Some, None, Result, Ok, Err, arith, add-one, refl, sym, ap, subst, ◌∙◌}
+use Rattle.std.specs.Prelude.{◌==◌, bytes_eq, codes, ok_or}
+use Rattle.mc_model_device.specs.Bytes.{lookup}
+use Rattle.mc_model_machine.specs.Text.{◌>>=◌, err_as, fields, lines, ok_as, trim, with_numbers}
+use Rattle.mc_model_play.specs.declared.deck.DeckCause.{DeckCause}
+use Rattle.mc_model_play.specs.declared.deck.DeckCause.TheVariants.{BadLine}
+use Rattle.mc_model_play.specs.DeckGrammar.{deck_lines, deck_read, turn_at, turn_in, DeckLine, LineTurn, Mode}
+use Rattle.mc_explore.specs.Rules as model
+use Rattle.mc_explore.specs.Rules.{begins_with, exploration_read, line_if, no_rules, rule_lines, rule_words, rules_from, rules_read, stays_inside, with_line, with_rule, without_field, RuleWord}
+use Rattle.mc_text.specs.Reading.{next_line}
+use Rattle.mc_text.proofs.ReadingLemmas.{lines_at, lines_from}
+use Rattle.mc_deck.specs.declared.refusal.DeckRefusal.{DeckRefusal}
+use Rattle.mc_deck.specs.declared.refusal.DeckRefusal.TheVariants as refusal
+use Rattle.mc_deck.specs.Refused.{DeckRefuses}
+use Rattle.mc_rules.specs.declared.rules.Move.{Move}
+use Rattle.mc_rules.specs.declared.rules.Allowance.{Allowance}
+use Rattle.mc_rules.specs.declared.rules.OnRule.{OnRule}
+use Rattle.mc_rules.specs.declared.fault.Fault.{Fault}
+use Rattle.mc_rules.specs.declared.fault.Fault.TheVariants as fault
+use Rattle.mc_rules.specs.declared.reading.Exploration.{Exploration}
+use Rattle.mc_rules.specs.Fields.{rest_of, IsOneLine}
+use Rattle.mc_rules.proofs.FieldLemmas.{fields_trimmed, one_line_rest, one_line_trim, trim_rest}
+use Rattle.mc_rules.specs.Meanings.{is_rule, refusal_at, rule_of, rules_with, AreListsRead, AreRuleLists, AreRulesRead, Faulty, IsExplorationRead, IsRuleText}
+
+-- ---- one line
+
+with_mark : (r : model.Rules) (n : ℕ) (line mark : List ℕ) (fs : List (List ℕ)) → with_line r (n, line) (mark ∷ fs) ≡ rule_of r n (without_field line) fs
+unfolding with_line
+with_mark r n line mark [] = refl
+with_mark r n line mark (word ∷ rest) = refl
+
+-- a line that is a rule
+pub rule_line : (r : model.Rules) (n : ℕ) (inside : Bool) (line text : List ℕ) → IsRuleText inside line text → rules_with inside (n, line) r ≡ rule_of r n text (fields text)
+rule_line r n inside line text h =
+    ap (λ b. cond b (with_line r (n, line) (fields line)) (Ok r)) h.rule ∙ ap (with_line r (n, line)) h.marked.1 ∙ with_mark r n line h.marked.0 (fields text)
+    ∙ ap (λ t. rule_of r n t (fields text)) (sym h.left)
+
+-- a line that is none
+pub no_rule_line : (r : model.Rules) (n : ℕ) (inside : Bool) (line : List ℕ) → is_rule inside (fields line) ≡ false → rules_with inside (n, line) r ≡ Ok r
+no_rule_line r n inside line h = ap (λ b. cond b (with_line r (n, line) (fields line)) (Ok r)) h
+
+-- a rule by its word
+pub word_rule : (r : model.Rules) (n : ℕ) (text word : List ℕ) (rest : List (List ℕ)) (w : RuleWord) → fields text ≡ word ∷ rest → Some w ≡ lookup rule_words word
+    → rule_of r n text (fields text) ≡ with_rule r n (without_field text) w rest
+word_rule r n text word rest w e h = ap (rule_of r n text) e ∙ ap (λ o. ok_or o BadLine >>= λ w. with_rule r n (without_field text) w rest) (sym h)
+
+pub no_word : (r : model.Rules) (n : ℕ) (text word : List ℕ) (rest : List (List ℕ)) → fields text ≡ word ∷ rest → None ≡ lookup rule_words word → rule_of r n text (fields text) ≡ Err BadLine
+no_word r n text word rest e h = ap (rule_of r n text) e ∙ ap (λ o. ok_or o BadLine >>= λ w. with_rule r n (without_field text) w rest) (sym h)
+
+-- a rule by its word, its statement's text and its fields
+pub kind_rule : (r : model.Rules) (n : ℕ) (text word behind : List ℕ) (w : RuleWord) → fields text ≡ word ∷ fields behind → behind ≡ rest_of text → Some w ≡ lookup rule_words word
+    → with_rule r n (trim behind) w (fields behind) ≡ rule_of r n text (fields text)
+kind_rule r n text word behind w e i h =
+    ap (λ t. with_rule r n t w (fields behind)) (ap trim i ∙ trim_rest text) ∙ sym (word_rule r n text word (fields behind) w e h)
+
+-- the text of a rule
+pub rule_text_is : (inside : Bool) (line text mark behind : List ℕ) → inside ≡ false → fields line ≡ mark ∷ fields behind → behind ≡ rest_of line → bytes_eq mark (codes "#@") ≡ true → text ≡ trim behind → IsOneLine line
+    → IsRuleText inside line text
+rule_text_is inside line text mark behind f e i m t one = record {
+  rule = ap (λ b. is_rule b (fields line)) f ∙ ap (begins_with (codes "#@")) e ∙ m;
+  left = t ∙ ap trim i ∙ trim_rest line;
+  marked = (mark, e ∙ ap (λ fs. mark ∷ fs) (sym (fields_trimmed behind) ∙ ap fields (sym t)));
+  one = subst IsOneLine (sym t) (one_line_trim behind (one_line_rest line behind i one));
+}
+
+-- ---- line by line
+
+-- what the lines that are left make of rules
+abbrev pub left_rules : model.Rules → Bool → ℕ → List ℕ → Result model.Rules (ℕ × DeckCause)
+left_rules r inside n t = rules_from r (rule_lines inside (with_numbers n (lines t)))
+
+line_by : (r : model.Rules) (n : ℕ) (l : List ℕ) (b : Bool) (rest : List (ℕ × List ℕ))
+    → rules_from r (line_if b (n, l) rest) ≡ (err_as (λ e. (n, e)) (cond b (with_line r (n, l) (fields l)) (Ok r)) >>= λ s. rules_from s rest)
+unfolding rules_from
+line_by r n l true rest = refl
+line_by r n l false rest = refl
+
+numbered : (n : ℕ) (t l b : List ℕ) → Some (l, b) ≡ next_line t → with_numbers n (lines t) ≡ (n, l) ∷ with_numbers (n + 1) (lines b)
+numbered n t l b e = ap (with_numbers n) (lines_at t ∙ ap lines_from (sym e)) ∙ ap (λ k. (n, l) ∷ with_numbers k (lines b)) (sym (add-one n))
+
+line_step : (r : model.Rules) (inside : Bool) (n : ℕ) (t l b : List ℕ) → Some (l, b) ≡ next_line t
+    → left_rules r inside n t ≡ (err_as (λ e. (n, e)) (rules_with inside (n, l) r) >>= λ s. left_rules s (stays_inside inside (fields l)) (n + 1) b)
+unfolding rule_lines
+line_step r inside n t l b e =
+    ap (λ ls. rules_from r (rule_lines inside ls)) (numbered n t l b e)
+    ∙ line_by r n l (is_rule inside (fields l)) (rule_lines (stays_inside inside (fields l)) (with_numbers (n + 1) (lines b)))
+
+no_line : (r : model.Rules) (inside : Bool) (n : ℕ) (t : List ℕ) → None ≡ next_line t → left_rules r inside n t ≡ Ok r
+unfolding rule_lines rules_from
+no_line r inside n t e = ap (λ ls. rules_from r (rule_lines inside (with_numbers n ls))) (lines_at t ∙ ap lines_from (sym e))
+
+-- the rules so far, with those of the lines that are left, are all
+pub record RulesLeft (ms : List Move) (held : List Allowance) (os : List OnRule) (inside : Bool) (n : ℕ) (t : List ℕ) (whole : Result model.Rules (ℕ × DeckCause)) : Type 0 where
+  pub rules : model.Rules
+  pub are : AreRuleLists ms held os rules
+  pub leads : left_rules rules inside n t ≡ whole
+
+-- no line yet
+pub rules_start : (ms : List Move) (held : List Allowance) (os : List OnRule) (t : List ℕ) → ms ≡ [] → held ≡ [] → os ≡ [] → RulesLeft ms held os false 1 t (rules_read t)
+unfolding rules_read
+rules_start ms held os t e f g =
+    let none : AreRuleLists [] [] [] no_rules = record { moves = tt; allowances = refl; distinct = tt; ons = tt } in
+    record {
+      rules = no_rules;
+      are = subst (λ (m : List Move). AreRuleLists m held os no_rules) (sym e) (subst (λ (a : List Allowance). AreRuleLists [] a os no_rules) (sym f) (subst (λ (o : List OnRule). AreRuleLists [] [] o no_rules) (sym g) none));
+      leads = refl;
+    }
+
+step_by : (ms : List Move) (held : List Allowance) (os : List OnRule) (inside : Bool) (n k : ℕ) (b : List ℕ) (whole : Result model.Rules (ℕ × DeckCause)) (x : Result model.Rules DeckCause) → AreListsRead ms held os x
+    → (err_as (λ e. (n, e)) x >>= λ s. left_rules s inside k b) ≡ whole → RulesLeft ms held os inside k b whole
+step_by ms held os inside n k b whole (Ok s) h e = record { rules = s; are = h; leads = e }
+step_by ms held os inside n k b whole (Err c) h e = absurd h
+
+-- one more line
+pub rules_step : (ms ns : List Move) (held bs : List Allowance) (os ps : List OnRule) (inside : Bool) (n : ℕ) (t l b : List ℕ) (whole : Result model.Rules (ℕ × DeckCause)) → Some (l, b) ≡ next_line t
+    → ((r : model.Rules) (n : ℕ) → AreRuleLists ms held os r → AreListsRead ns bs ps (rules_with inside (n, l) r)) → RulesLeft ms held os inside n t whole
+    → RulesLeft ns bs ps (stays_inside inside (fields l)) (n + 1) b whole
+rules_step ms ns held bs os ps inside n t l b whole e added h =
+    step_by ns bs ps (stays_inside inside (fields l)) n (n + 1) b whole (rules_with inside (n, l) h.rules) (added h.rules n h.are) (sym (line_step h.rules inside n t l b e) ∙ h.leads)
+
+-- a line that is refused
+pub rules_refused : (ms : List Move) (held : List Allowance) (os : List OnRule) (inside : Bool) (n : ℕ) (t l b : List ℕ) (whole : Result model.Rules (ℕ × DeckCause)) (c : DeckCause) → Some (l, b) ≡ next_line t
+    → ((r : model.Rules) (n : ℕ) → AreRuleLists ms held os r → rules_with inside (n, l) r ≡ Err c) → RulesLeft ms held os inside n t whole → whole ≡ Err (n, c)
+rules_refused ms held os inside n t l b whole c e refused h =
+    sym h.leads ∙ line_step h.rules inside n t l b e ∙ ap (λ x. err_as (λ e. (n, e)) x >>= λ s. left_rules s (stays_inside inside (fields l)) (n + 1) b) (refused h.rules n h.are)
+
+-- the same, by the refusal without its number
+pub rules_refuse : (ms : List Move) (held : List Allowance) (os : List OnRule) (inside : Bool) (n : ℕ) (t l b : List ℕ) (whole : Result model.Rules (ℕ × DeckCause)) (f : Fault) → Some (l, b) ≡ next_line t
+    → ((r : model.Rules) (n : ℕ) → AreRuleLists ms held os r → Faulty (rules_with inside (n, l) r) f) → RulesLeft ms held os inside n t whole → DeckRefuses whole (refusal_at n f)
+rules_refuse ms held os inside n t l b whole (fault.Cause c) e refused h = rules_refused ms held os inside n t l b whole c e refused h
+rules_refuse ms held os inside n t l b whole fault.NoMemory e refused h = tt
+
+-- no line is left
+pub rules_done : (ms : List Move) (held : List Allowance) (os : List OnRule) (inside : Bool) (n : ℕ) (t : List ℕ) (whole : Result model.Rules (ℕ × DeckCause)) → None ≡ next_line t → RulesLeft ms held os inside n t whole → AreListsRead ms held os whole
+rules_done ms held os inside n t whole e h = subst (AreListsRead ms held os) (sym (no_line h.rules inside n t e) ∙ h.leads) h.are
+
+-- ---- the number of lines
+
+line_count : (t l b : List ℕ) → Some (l, b) ≡ next_line t → length (lines t) ≡ suc (length (lines b))
+line_count t l b e = ap length (lines_at t ∙ ap lines_from (sym e))
+
+-- one line fewer is left
+pub few_step : (n : ℕ) (t l b : List ℕ) → Some (l, b) ≡ next_line t → n + length (lines t) ≤ 20000 → (n + 1) + length (lines b) ≤ 20000
+few_step n t l b e h = let k = line_count t l b e in omega (arith, k, h)
+
+pub few_now : (n : ℕ) (t l b : List ℕ) → Some (l, b) ≡ next_line t → n + length (lines t) ≤ 20000 → n < 20000
+few_now n t l b e h = let k = line_count t l b e in omega (arith, k, h)
+
+abbrev Rest : Type 0
+Rest = List (ℕ × DeckLine)
+
+read_by : (a x : Result Rest (ℕ × DeckCause)) (f : Rest → Rest) (d : Rest) → x ≡ a → ok_as f x ≡ Ok d → (e : Rest) × (x ≡ Ok e)
+read_by (Ok e) x f d i h = (e, i)
+read_by (Err e) x f d i h = absurd (cc (sym (ap (ok_as f) i) ∙ h))
+
+turn_by : (r : Result LineTurn (ℕ × DeckCause)) (ls : List (ℕ × List ℕ)) (d : Rest) → (r >>= λ t. ok_as (λ rest. t.lines ++ rest) (deck_lines t.mode ls)) ≡ Ok d
+    → (m : Mode) × (e : Rest) × (deck_lines m ls ≡ Ok e)
+turn_by (Ok t) ls d h =
+    let r = read_by (deck_lines t.mode ls) (deck_lines t.mode ls) (λ rest. t.lines ++ rest) d refl h in
+    (t.mode, r.0, r.1)
+turn_by (Err e) ls d h = absurd (cc h)
+
+few_by : (n : ℕ) (m : Mode) (l : List ℕ) (ls : List (List ℕ)) (d : Rest) (b : Bool) → (n == 20001) ≡ b → n ≤ 20001
+    → (turn_at b m (n, l) >>= λ t. ok_as (λ rest. t.lines ++ rest) (deck_lines t.mode (with_numbers (suc n) ls))) ≡ Ok d
+    → ((m : Mode) (d : Rest) → deck_lines m (with_numbers (suc n) ls) ≡ Ok d → suc n ≤ 20001 → suc n + length ls ≤ 20001) → n + suc (length ls) ≤ 20001
+few_by n m l ls d true e h i again = absurd (cc i)
+few_by n m l ls d false e h i again =
+    let t = turn_by (turn_in m (n, l)) (with_numbers (suc n) ls) d i in
+    let k = again t.0 t.1 t.2 (grind (arith, e, h)) in
+    omega (arith, k)
+
+few_from : (n : ℕ) (m : Mode) (ls : List (List ℕ)) (d : Rest) → deck_lines m (with_numbers n ls) ≡ Ok d → n ≤ 20001 → n + length ls ≤ 20001
+unfolding deck_lines
+few_from n m [] d i h = omega (arith, h)
+few_from n m (l ∷ ls) d i h = few_by n m l ls d (n == 20001) refl h i (λ k e j g. few_from (suc n) k ls e j g)
+
+-- a deck has at most 20,000 lines
+pub few_lines : (t : List ℕ) (d : Rest) → deck_read t ≡ Ok d → length (lines t) ≤ 20000
+unfolding deck_read
+few_lines t d h = let k = few_from 1 _ (lines t) d h (omega arith) in omega (arith, k)
+
+-- ---- a deck and its rules
+
+-- the deck is refused
+pub deck_refused : (t : List ℕ) (e : DeckRefusal) → DeckRefuses (deck_read t) e → DeckRefuses (exploration_read t) e
+unfolding exploration_read
+deck_refused t (refusal.At n c) h = ap (λ x. x >>= λ ls. ok_as (λ r. record { lines = ls; rules = r }) (rules_read t)) h
+deck_refused t refusal.NoMemory h = tt
+
+whole_by : (t : List ℕ) (ls : Rest) → deck_read t ≡ Ok ls → exploration_read t ≡ ok_as (λ r. record { lines = ls; rules = r }) (rules_read t)
+unfolding exploration_read
+whole_by t ls h = ap (λ x. x >>= λ ls. ok_as (λ r. record { lines = ls; rules = r }) (rules_read t)) h
+
+read_as : (x : Exploration) (y : Result model.Rules (ℕ × DeckCause)) → AreRulesRead x.rules y → IsExplorationRead x (ok_as (λ r. record { lines = x.deck; rules = r }) y)
+read_as x (Ok r) h = (refl, h)
+read_as x (Err e) h = absurd h
+
+-- both are read
+pub rules_are_read : (t : List ℕ) (x : Exploration) → deck_read t ≡ Ok x.deck → AreRulesRead x.rules (rules_read t) → IsExplorationRead x (exploration_read t)
+rules_are_read t x e h = subst (IsExplorationRead x) (sym (whole_by t x.deck e)) (read_as x (rules_read t) h)
+
+-- the rules are refused
+pub rules_are_refused : (t : List ℕ) (ls : Rest) (e : DeckRefusal) → deck_read t ≡ Ok ls → DeckRefuses (rules_read t) e → DeckRefuses (exploration_read t) e
+rules_are_refused t ls (refusal.At n c) i h = whole_by t ls i ∙ ap (ok_as (λ r. record { lines = ls; rules = r })) h
+rules_are_refused t ls refusal.NoMemory i h = tt

@@ -1,0 +1,14 @@
+use Rattle.std.proofs.Common.{◌≤◌, length}
+use Rattle.mc_rules.proofs.MatchingLemmas.{PatternWalked}
+use Rattle.mc_rules.proofs.pattern.walk_to_star.Given as goal
+
+-- the rests match if pattern and text do
+abbrev pub invariant-loop-sign : goal.invariant-loop-sign
+invariant-loop-sign l = record {
+  walked : PatternWalked l.fn.pattern l.fn.text l.signs l.rest;
+  fewer : length l.signs ≤ length l.fn.pattern;
+  less : length l.rest ≤ length l.fn.text;
+}
+
+abbrev pub decreases-loop-sign : goal.decreases-loop-sign
+decreases-loop-sign l = length l.signs

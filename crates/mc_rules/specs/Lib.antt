@@ -1,0 +1,5 @@
+pub mod Fields
+pub mod Meanings
+pub mod Moves
+pub mod Parts
+pub mod Walks

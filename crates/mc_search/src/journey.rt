@@ -1,0 +1,48 @@
+// How a state was reached.
+ghost use Rattle.std.specs.Prelude.{◌≡◌};
+ghost use Rattle.mc_search.specs.Reports.{fill_value};
+
+use mc_base::Word;
+
+/// The word that opens the journal of layout 2.
+const OPENING: Word = *b"OPEN-2--";
+
+/// The word that a cut write leaves: eight bytes 00, eight bytes FF, or the word that opens the journal of
+/// layout 2.
+#[derive(Clone, Copy, Debug, PartialEq, Eq)]
+pub enum Fill {
+    Zeros,
+    Ones,
+    Opening,
+}
+
+/// The words that cut writes leave, in the order in which they are tried.
+pub const FILLS: [Fill; 3] = [Fill::Zeros, Fill::Ones, Fill::Opening];
+
+impl Fill {
+    /// Returns the word.
+    pub fn word(&self) -> Word
+        ensures { result ≡ fill_value self.now }
+    {
+        match self {
+            Fill::Zeros => [0; 8],
+            Fill::Ones => [0xFF; 8],
+            Fill::Opening => OPENING,
+        }
+    }
+}
+
+/// How a move is made: whole, or cut at the device write after the first `made` ones.
+#[derive(Clone, Copy, Debug, PartialEq, Eq)]
+pub enum Manner {
+    Whole,
+    Cut { made: u32, fill: Fill },
+}
+
+/// The last step to a state: the state before it, the move, and how it is made.
+#[derive(Clone, Copy, Debug, PartialEq, Eq)]
+pub struct Step {
+    pub before: usize,
+    pub chosen: usize,
+    pub manner: Manner,
+}

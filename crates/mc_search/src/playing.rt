@@ -1,0 +1,83 @@
+// Lines of a play, one by one, and the budget of their commands.
+ghost use Rattle.std.specs.Prelude.{◌≡◌, ◌≤◌};
+ghost use Rattle.mc_deck.specs.Lines.{line_of, GoodLine};
+ghost use Rattle.mc_script.specs.Players.{device_of, IsPlaying};
+
+use mc_base::Steps;
+use mc_deck::{Deck, Line};
+use mc_nvm::Bench;
+use mc_script::{Answer, Player, Runner, Silent};
+use std::marker::Model;
+use std::sync::ledger::Ledger;
+
+/// The budget of a command: 1 to 65,536 instructions.
+#[derive(Debug, Drop)]
+pub struct Budget {
+    count: u32,
+}
+
+impl Model for Budget {
+    ghost use Rattle.std.specs.Prelude.{ℕ, ◌≤◌};
+
+    ghost Value = { ℕ };
+
+    ghost view = { λ b. b.count };
+
+    ghost invariant = { λ b. (1 ≤ b.count) × (b.count ≤ 65536) };
+}
+
+impl Budget {
+    /// Returns the budget of a player.
+    pub fn of<N: Bench>(player: &Player<N>) -> Budget
+        requires { IsPlaying N.state N.bench player.now }
+    {
+        Budget {
+            count: player.budget(),
+        }
+    }
+
+    /// Returns the line that sets the budget.
+    pub fn line(&self) -> Line<'static>
+        ensures { GoodLine (line_of result) }
+    {
+        Line::Budget(self.count)
+    }
+}
+
+/// Plays a line, and lets a runner record its turns.
+pub fn play_reported<N: Bench, R: Runner, L: Ledger>(
+    player: &mut Player<N>,
+    line: &Line<'_>,
+    runner: &mut R,
+    steps: &mut Steps<L>,
+) -> Option<Answer>
+    requires playing { IsPlaying N.state N.bench player.old }
+    requires good { GoodLine (line_of line.now) }
+    ensures playing { IsPlaying N.state N.bench player.new }
+    ensures keeps_device { N.same (device_of player.old) (device_of player.new) }
+{
+    player.line(line, runner, steps)
+}
+
+/// Plays a line.
+pub fn play<N: Bench, L: Ledger>(
+    player: &mut Player<N>,
+    line: &Line<'_>,
+    steps: &mut Steps<L>,
+) -> Option<Answer>
+    requires playing { IsPlaying N.state N.bench player.old }
+    requires good { GoodLine (line_of line.now) }
+    ensures playing { IsPlaying N.state N.bench player.new }
+    ensures keeps_device { N.same (device_of player.old) (device_of player.new) }
+{
+    play_reported(player, line, &mut Silent, steps)
+}
+
+/// Plays all lines of a deck.
+pub fn play_all<N: Bench, L: Ledger>(player: &mut Player<N>, deck: &Deck, steps: &mut Steps<L>)
+    requires playing { IsPlaying N.state N.bench player.old }
+    ensures playing { IsPlaying N.state N.bench player.new }
+    ensures keeps_device { N.same (device_of player.old) (device_of player.new) }
+{
+    player.deck(deck, steps);
+}
