@@ -1,7 +1,13 @@
 pub mod PartLemmas
+pub mod DeclarationLemmas
+pub mod ScopeLemmas
+pub mod LineLemmas
+pub mod DraftLemmas
+pub mod ReadLemmas
 pub mod SourceLemmas
 pub mod FlatLemmas
 pub mod StayLemmas
+pub mod SectionLemmas
 pub mod NameLemmas
 pub mod TextLemmas
 pub mod PushLemmas

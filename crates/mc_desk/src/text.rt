@@ -38,6 +38,16 @@ pub fn push_byte(deck: &mut Vec<u8>, byte: u8) -> Result<(), AllocError>
     push(deck, &[digit(byte / 16 % 16), digit(byte % 16)])
 }
 
+/// Adds bytes in upper case hexadecimal.
+pub fn push_bytes(deck: &mut Vec<u8>, bytes: &[u8]) -> Result<(), AllocError>
+    ensures { OnOk result (deck.new.items ≡ deck.old.items ++ hex_text bytes.now) }
+{
+    for byte in bytes {
+        push_byte(deck, *byte)?;
+    }
+    Ok(())
+}
+
 /// Adds zero bytes in hexadecimal.
 pub fn push_zeros(deck: &mut Vec<u8>, count: u16) -> Result<(), AllocError>
     ensures { OnOk result (deck.new.items ≡ deck.old.items ++ hex_text (zeros count)) }

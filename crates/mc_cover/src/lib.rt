@@ -1,0 +1,15 @@
+#![tactic(auto)]
+
+//! Plays of drafts that show the source line of each turn, or count how often each line ran.
+
+mod covering;
+mod lcov;
+mod looking;
+mod running;
+mod sections;
+mod span;
+mod tracing;
+
+pub use covering::{CoverFault, cover};
+pub use sections::Sections;
+pub use tracing::trace;

@@ -1,0 +1,56 @@
+// The operand of an instruction.
+use mc_isa::Ins;
+
+/// A register's tag from 1 to 7, an offset, and the number of bytes there.
+#[derive(Clone, Copy, Debug, PartialEq, Eq)]
+pub struct Span {
+    pub tag: u8,
+    pub off: i16,
+    pub size: u8,
+}
+
+// The span of an operand, `None` with tag 0, which is the top of the stack.
+fn reached(tag: u8, off: i16, size: u8) -> Option<Span> {
+    if tag == 0 {
+        return None;
+    }
+    Some(Span { tag, off, size })
+}
+
+// The bytes of an instruction with a byte or a word, or of a pointer.
+fn fixed_span(ins: &Ins) -> Option<Span> {
+    match *ins {
+        Ins::Loadi { tag, off, .. } => reached(tag, off, 2),
+        Ins::Storei { tag, off, .. } => reached(tag, off, 2),
+        Ins::Setb { tag, off, .. } => reached(tag, off, 1),
+        Ins::Cmpb { tag, off, .. } => reached(tag, off, 1),
+        Ins::Addb { tag, off, .. } => reached(tag, off, 1),
+        Ins::Subb { tag, off, .. } => reached(tag, off, 1),
+        Ins::Setw { tag, off, .. } => reached(tag, off, 2),
+        Ins::Cmpw { tag, off, .. } => reached(tag, off, 2),
+        Ins::Addw { tag, off, .. } => reached(tag, off, 2),
+        Ins::Subw { tag, off, .. } => reached(tag, off, 2),
+        _ => None,
+    }
+}
+
+/// Returns the bytes that an instruction's operand `REG[offset]` names: the 2 of a pointer, the 1 or 2 of a word
+/// with an immediate, else its length; or `None` if it names none, or only their address.
+pub fn span_of(ins: &Ins) -> Option<Span> {
+    match *ins {
+        Ins::Load { tag, off, n } => reached(tag, off, n),
+        Ins::Store { tag, off, n } => reached(tag, off, n),
+        Ins::Clearn { tag, off, n } => reached(tag, off, n),
+        Ins::Testn { tag, off, n } => reached(tag, off, n),
+        Ins::Incn { tag, off, n } => reached(tag, off, n),
+        Ins::Decn { tag, off, n } => reached(tag, off, n),
+        Ins::Notn { tag, off, n } => reached(tag, off, n),
+        Ins::Cmpn { tag, off, n } => reached(tag, off, n),
+        Ins::Addn { tag, off, n } => reached(tag, off, n),
+        Ins::Subn { tag, off, n } => reached(tag, off, n),
+        Ins::Andn { tag, off, n } => reached(tag, off, n),
+        Ins::Orn { tag, off, n } => reached(tag, off, n),
+        Ins::Xorn { tag, off, n } => reached(tag, off, n),
+        _ => fixed_span(ins),
+    }
+}

@@ -1,0 +1,57 @@
+-- The jobs that the words of the command line select.
+use Rattle.std.specs.Prelude.{ℕ, Bool, not, ◌&&◌, nat_le, ◌==◌, List, [], ◌∷◌, length, bytes_eq, codes, cond, string_bytes, is_none, Option, Some, None}
+use Rattle.std.specs.declared.alloc.Global.{Global}
+use Rattle.std.specs.declared.string.String.{String}
+use Rattle.mc_model_machine.specs.Text.{first_cut, is_empty}
+use Rattle.meldesk.specs.declared.job.Job.{Job}
+use Rattle.meldesk.specs.declared.job.Job.TheVariants as job
+use Rattle.meldesk.specs.declared.job.Play.{Play}
+use Rattle.meldesk.specs.declared.job.Play.TheVariants as play
+use Rattle.meldesk.specs.declared.job.Text.{Text}
+use Rattle.meldesk.specs.declared.job.Text.TheVariants as text
+
+-- what is shown of a play: its trace, or its coverage as the record of a file
+pub data Shown : Type 0 where
+  Trace : Shown
+  Coverage : (name : List ℕ) → Shown
+
+-- a job: a text made from a draft, or what is shown of the play of its deck
+pub data DeskJob : Type 0 where
+  Makes : (text : Text) → DeskJob
+  Shows : (shown : Shown) → DeskJob
+
+-- what a play of the code shows
+abbrev pub shown_by : Play → Shown
+shown_by play.Trace = Trace
+shown_by (play.Cover name) = Coverage name.now
+
+-- the job of the code
+abbrev pub job_value : Job → DeskJob
+job_value (job.Write t) = Makes t
+job_value (job.Play p) = Shows (shown_by p)
+
+-- the job that a word selects
+abbrev pub job_named : List ℕ → Option DeskJob
+job_named w =
+    cond (bytes_eq w (codes "deck")) (Some (Makes text.Deck)) (cond (bytes_eq w (codes "list")) (Some (Makes text.Listing)) (
+    cond (bytes_eq w (codes "check")) (Some (Makes text.Verdicts)) (cond (bytes_eq w (codes "trace")) (Some (Shows Trace)) None)
+    ))
+
+-- whether a record may have this as the name of its file: 1 to 255 bytes, none of them a line feed
+abbrev pub is_file_name : List ℕ → Bool
+is_file_name n = not (is_empty n) && nat_le (length n) 255 && is_none (first_cut (λ c. c == 10) n).1
+
+-- the job that a word and a name select
+abbrev pub job_with : List ℕ → List ℕ → Option DeskJob
+job_with w n = cond (bytes_eq w (codes "cover") && is_file_name n) (Some (Shows (Coverage n))) None
+
+-- the job that the words of the command line select
+abbrev pub job_of : List (String Global) → Option DeskJob
+job_of [] = None
+job_of (w ∷ []) = job_named (string_bytes w)
+job_of (w ∷ n ∷ []) = job_with (string_bytes w) (string_bytes n)
+job_of (w ∷ n ∷ x ∷ ws) = None
+
+-- the text that is written if the words select no job
+abbrev pub usage : List ℕ
+usage = codes "usage: meldesk deck | list | check | trace | cover NAME\n"

@@ -1,0 +1,83 @@
+// The jobs of the program, and the words that name them.
+ghost use Rattle.std.specs.Prelude.{◌≡◌, bytes_eq, codes, option_map};
+ghost use Rattle.meldesk.specs.Jobs.{is_file_name, job_named, job_of, job_value, job_with};
+
+use mc_text::cut;
+
+/// A text that is made from a draft.
+#[derive(Clone, Copy, Debug, PartialEq, Eq)]
+pub enum Text {
+    /// The deck of the draft.
+    Deck,
+    /// The code of each section line by line.
+    Listing,
+    /// The stack checker's verdict on the code of each load line, with the source line of a place that is refused.
+    Verdicts,
+}
+
+/// What is shown of a play of the draft's deck.
+#[derive(Clone, Copy, Debug, PartialEq, Eq)]
+pub enum Play<'a> {
+    /// Its trace, with the source line of each turn.
+    Trace,
+    /// The number of times that each line ran and each branch went each way, for a file of this name.
+    Cover(&'a [u8]),
+}
+
+/// The job that the words of the command line select.
+#[derive(Clone, Copy, Debug, PartialEq, Eq)]
+pub enum Job<'a> {
+    /// Writes a text made from the draft.
+    Write(Text),
+    /// Plays the deck of the draft and writes what is shown of the play.
+    Play(Play<'a>),
+}
+
+// The job that one word names.
+fn job_named<'a>(word: &str) -> Option<Job<'a>>
+    ensures { option_map job_value result ≡ job_named word.now }
+{
+    match word {
+        "deck" => Some(Job::Write(Text::Deck)),
+        "list" => Some(Job::Write(Text::Listing)),
+        "check" => Some(Job::Write(Text::Verdicts)),
+        "trace" => Some(Job::Play(Play::Trace)),
+        _ => None,
+    }
+}
+
+// Whether a record may have this as the name of its file: 1 to 255 bytes, none of them a line feed.
+fn is_file_name(name: &[u8]) -> bool
+    ensures { result ≡ is_file_name name.now }
+{
+    !name.is_empty() && name.len() <= 255 && cut(name, b'\n').1.is_none()
+}
+
+// Whether a word is `cover`.
+fn is_cover(word: &str) -> bool
+    ensures { result ≡ bytes_eq word.now (codes "cover") }
+{
+    word == "cover"
+}
+
+// The job that a word and a name select.
+fn job_with<'a>(word: &str, name: &'a [u8]) -> Option<Job<'a>>
+    ensures { option_map job_value result ≡ job_with word.now name.now }
+{
+    if is_cover(word) && is_file_name(name) {
+        return Some(Job::Play(Play::Cover(name)));
+    }
+    None
+}
+
+/// Returns the job that the words of the command line, without the name of the program, select, or `None` if
+/// they select none.
+pub fn job_of(words: &[String]) -> Option<Job<'_>>
+    ensures { option_map job_value result ≡ job_of words.now }
+{
+    match words {
+        [word] => job_named(word.as_str()),
+        [word, name] => job_with(word.as_str(), name.as_bytes()),
+        _ => None,
+    }
+}

@@ -1,0 +1,184 @@
+ghost use Rattle.std.specs.Prelude.{◌≡◌, ◌<◌};
+
+use crate::purse::{DECK, DRAFT, LISTING, RECORD, TRACE, VERDICTS};
+use crate::running::meldesk;
+use mc_base::{MemSink, MemSource, NoMemory, Steps, read_all};
+use mc_filter::blank_device;
+use std::alloc::{AllocError, Global};
+use std::marker::Brand;
+use std::sync::ledger::{Blank, Ledger};
+use std::test::Fail;
+
+// A draft whose code runs off its stack.
+const BROKEN: &[u8] =
+    b"format\npower\napp a A000000100\n NOP\n POPB ; nothing there\nend\nload a\n";
+
+// The end of a job: its status, its output, and the number of bytes that it left in its source.
+#[derive(Drop)]
+struct End {
+    status: u8,
+    text: Vec<u8>,
+    left: usize,
+}
+
+impl End {
+    // Whether the status and the text are these.
+    fn is(&self, status: u8, text: &[u8]) -> bool {
+        self.status == status && self.text.as_slice() == text
+    }
+}
+
+// The end of a job over memory, with a count of steps.
+fn counted<L: Ledger>(
+    alloc: Global,
+    blank: Blank,
+    words: &[String],
+    input: &[u8],
+    room: usize,
+    fail_at: &[u32],
+) -> Result<End, NoMemory>
+    requires name { blank.name ≡ L.name }
+    requires parts { blank.parts ≡ L.parts }
+    requires some { 0 < blank.parts }
+{
+    let mut steps = Steps::<L>::new(blank);
+    let mut source = MemSource::new(alloc, input, fail_at)?;
+    let mut sink = MemSink::new(alloc, room, &[])?;
+    let mut device = blank_device(alloc)?;
+    let status = meldesk(
+        alloc,
+        words,
+        &mut source,
+        &mut sink,
+        &mut device,
+        &mut steps,
+    );
+    let left = match read_all(alloc, &mut source, input.len()) {
+        Ok(bytes) => bytes.len(),
+        Err(_) => 0,
+    };
+    Ok(End {
+        status,
+        text: Vec::from_slice(alloc, sink.bytes())?,
+        left,
+    })
+}
+
+// The end of a job over memory, by its words, its input, the room of its sink, and the calls of its source
+// that fail.
+fn ended(
+    alloc: Global,
+    words: &[String],
+    input: &[u8],
+    room: usize,
+    fail_at: &[u32],
+) -> Result<End, NoMemory> {
+    counted::<Brand>(alloc, Blank::new(1), words, input, room, fail_at)
+}
+
+// The words of a command line.
+fn words(alloc: Global, texts: &[&str]) -> Result<Vec<String>, AllocError> {
+    let mut words = Vec::new(alloc);
+    for text in texts {
+        words.push(String::from_str(alloc, text)?)?;
+    }
+    Ok(words)
+}
+
+// The end of a job over memory on a draft that it reads, with room for its text.
+fn made(alloc: Global, texts: &[&str], draft: &[u8]) -> Result<End, NoMemory> {
+    let words = words(alloc, texts)?;
+    ended(alloc, words.as_slice(), draft, 4000, &[])
+}
+
+// Each text of a whole draft.
+#[test]
+fn whole_draft(rt: HostRuntime) -> Result<(), Fail> {
+    let alloc = rt.alloc();
+    let draft = DRAFT.as_bytes();
+    assert!(rt; made(alloc, &["deck"], draft)?.is(0, DECK.as_bytes()));
+    assert!(rt; made(alloc, &["list"], draft)?.is(0, LISTING.as_bytes()));
+    assert!(rt; made(alloc, &["check"], draft)?.is(0, VERDICTS.as_bytes()));
+    assert!(rt; made(alloc, &["trace"], draft)?.is(0, TRACE.as_bytes()));
+    assert!(rt; made(alloc, &["cover", "purse.draft"], draft)?.is(0, RECORD.as_bytes()));
+    Ok(())
+}
+
+// A sink that fails at some of the bytes of each text, and a source that fails.
+#[test]
+fn faults(rt: HostRuntime) -> Result<(), Fail> {
+    let alloc = rt.alloc();
+    for (texts, text) in [
+        (&["deck"] as &[&str], DECK),
+        (&["list"], LISTING),
+        (&["check"], VERDICTS),
+        (&["trace"], TRACE),
+        (&["cover", "purse.draft"], RECORD),
+    ] {
+        let words = words(alloc, texts)?;
+        let words = words.as_slice();
+        for room in [0, 1, 7, text.len().saturating_sub(1)] {
+            let end = ended(alloc, words, DRAFT.as_bytes(), room, &[])?;
+            let written = end.text.as_slice();
+            let is_front = written.len() == room && text.as_bytes().starts_with(written);
+            assert!(rt; end.status == 4 && is_front, "at {room}");
+        }
+        let end = ended(alloc, words, DRAFT.as_bytes(), 4000, &[1])?;
+        assert!(rt; end.is(3, b""));
+    }
+    Ok(())
+}
+
+// Drafts that are refused: as drafts, as decks by all jobs but one, and one that is too long.
+#[test]
+fn refused(rt: HostRuntime) -> Result<(), Fail> {
+    let alloc = rt.alloc();
+    let bad_name = b"app a A000000100\n FOO\nCONST 1x 1\nend\n";
+    let bad_code = b"app a A000000100\nCONST x 1\n FOO\nend\n";
+    for texts in [
+        &["deck"] as &[&str],
+        &["list"],
+        &["check"],
+        &["trace"],
+        &["cover", "f"],
+    ] {
+        assert!(rt; made(alloc, texts, bad_name)?.is(1, b"line 3 BadName\n"));
+        if texts.len() > 1 || texts[0] != "deck" {
+            assert!(rt; made(alloc, texts, bad_code)?.is(1, b"line 3 UnknownWord\n"));
+        }
+    }
+    assert!(rt; made(alloc, &["deck"], bad_code)?.is(0, b"app a A000000100\n\n FOO\nend\n"));
+    let feeds = vec![in alloc; b'\n'; 1_048_577]?;
+    assert!(rt; made(alloc, &["deck"], feeds.as_slice())?.is(1, b"line 0 TooLong\n"));
+    Ok(())
+}
+
+// The source line of a place that the stack checker refuses.
+#[test]
+fn refused_code(rt: HostRuntime) -> Result<(), Fail> {
+    let alloc = rt.alloc();
+    let end = made(alloc, &["check"], BROKEN)?;
+    assert!(rt; end.is(0, b"7 refuse 1 Under ; 5 POPB\n"));
+    Ok(())
+}
+
+// Words that select no job: the usage line is written, and the source is unchanged.
+#[test]
+fn usage(rt: HostRuntime) -> Result<(), Fail> {
+    let alloc = rt.alloc();
+    for texts in [
+        &[] as &[&str],
+        &["play"],
+        &["deck", "deck"],
+        &["cover"],
+        &["cover", ""],
+        &["cover", "a\nb"],
+        &["cover", "a", "b"],
+        &["list", "f"],
+    ] {
+        let end = made(alloc, texts, BROKEN)?;
+        let line = b"usage: meldesk deck | list | check | trace | cover NAME\n";
+        assert!(rt; end.is(2, line) && end.left == BROKEN.len());
+    }
+    Ok(())
+}
