@@ -3,3 +3,4 @@ pub use Rattle.mc_model_machine.specs.Listing
 pub mod Lengths
 pub mod Reading
 pub mod Rows
+pub mod Operations

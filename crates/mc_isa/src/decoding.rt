@@ -4,6 +4,7 @@ ghost use Rattle.std.specs.Prelude.{◌≡◌, ℕ, ◌+◌, ◌*◌, ◌/◌, �
 ghost use Rattle.mc_model_machine.specs.declared.instruction.Ins.TheVariants.{Branch, Jump, Call};
 ghost use Rattle.mc_model_device.specs.Limits.{most_code};
 ghost use Rattle.mc_model_machine.specs.Code.{made_of, row_at, row_of, register_rows, stack_rows, call_rows, near_row, target_row, form, front, instruction_at, DecodesTo};
+ghost use Rattle.mc_isa.specs.Operations.{TakesByte, TakesWord};
 
 use crate::reading::{
     arguments, byte, byte_and_offset, bytes, displacement, offset, offset_size, target,
@@ -117,60 +118,76 @@ fn return_row(tag: u8, rest: &[u8]) -> Result<(Ins, u16), DecodeFault>
     }
 }
 
-// An instruction with a byte before its offset.
-macro_rules! with_byte {
-    ($variant:ident, $operand:ident, $tag:ident, $rest:ident) => {{
-        let ($operand, off) = byte_and_offset($tag, $rest)?;
-        Ok((Ins::$variant { tag: $tag, off, $operand }, 2 + offset_size($tag)))
-    }};
+// Ops 07 to 10 and 15 to 1F without 0B: an instruction with a byte before its offset.
+#[inline(always)]
+fn byte_row(op: u8, tag: u8, rest: &[u8]) -> Result<(Ins, u16), DecodeFault>
+    requires { TakesByte op }
+    ensures { result ≡ made_of (row_of op tag) rest.now }
+{
+    let (n, off) = byte_and_offset(tag, rest)?;
+    let size = 2 + offset_size(tag);
+    match op {
+        0x07 => Ok((Ins::Load { tag, off, n }, size)),
+        0x08 => Ok((Ins::Store { tag, off, n }, size)),
+        0x09 => Ok((Ins::Loadi { tag, off, n }, size)),
+        0x0A => Ok((Ins::Storei { tag, off, n }, size)),
+        0x0C => Ok((Ins::Index { tag, off, size: n }, size)),
+        0x0D => Ok((Ins::Setb { tag, off, b: n }, size)),
+        0x0E => Ok((Ins::Cmpb { tag, off, b: n }, size)),
+        0x0F => Ok((Ins::Addb { tag, off, b: n }, size)),
+        0x10 => Ok((Ins::Subb { tag, off, b: n }, size)),
+        0x15 => Ok((Ins::Clearn { tag, off, n }, size)),
+        0x16 => Ok((Ins::Testn { tag, off, n }, size)),
+        0x17 => Ok((Ins::Incn { tag, off, n }, size)),
+        0x18 => Ok((Ins::Decn { tag, off, n }, size)),
+        0x19 => Ok((Ins::Notn { tag, off, n }, size)),
+        0x1A => Ok((Ins::Cmpn { tag, off, n }, size)),
+        0x1B => Ok((Ins::Addn { tag, off, n }, size)),
+        0x1C => Ok((Ins::Subn { tag, off, n }, size)),
+        0x1D => Ok((Ins::Andn { tag, off, n }, size)),
+        0x1E => Ok((Ins::Orn { tag, off, n }, size)),
+        0x1F => Ok((Ins::Xorn { tag, off, n }, size)),
+        _ => unreachable!(),
+    }
 }
 
-// An instruction with a word before its offset.
-macro_rules! with_word {
-    ($variant:ident, $tag:ident, $rest:ident) => {{
-        let (w, off) = word_and_offset($tag, $rest)?;
-        Ok((Ins::$variant { tag: $tag, off, w }, 3 + offset_size($tag)))
-    }};
+// Ops 11 to 14: an instruction with a word before its offset.
+#[inline(always)]
+fn word_row(op: u8, tag: u8, rest: &[u8]) -> Result<(Ins, u16), DecodeFault>
+    requires { TakesWord op }
+    ensures { result ≡ made_of (row_of op tag) rest.now }
+{
+    let (w, off) = word_and_offset(tag, rest)?;
+    let size = 3 + offset_size(tag);
+    match op {
+        0x11 => Ok((Ins::Setw { tag, off, w }, size)),
+        0x12 => Ok((Ins::Cmpw { tag, off, w }, size)),
+        0x13 => Ok((Ins::Addw { tag, off, w }, size)),
+        0x14 => Ok((Ins::Subw { tag, off, w }, size)),
+        _ => unreachable!(),
+    }
 }
 
-// Ops 07 to 1F: the rows with an address.
+// Op 0B: an instruction with an address alone.
+#[inline(always)]
+fn address_row(tag: u8, rest: &[u8]) -> Result<(Ins, u16), DecodeFault>
+    ensures { result ≡ made_of (row_of 0x0B tag) rest.now }
+{
+    let off = offset(tag, rest)?;
+    Ok((Ins::Loada { tag, off }, 1 + offset_size(tag)))
+}
+
+// Ops 07 to 1F: the rows with an address. The operand is read before the row is looked for, since most rows have the
+// same one.
 #[inline(always)]
 fn addressed_row(op: u8, tag: u8, rest: &[u8]) -> Result<(Ins, u16), DecodeFault>
     requires { 6 ≤ op }
     ensures { result ≡ made_of (row_of op tag) rest.now }
 {
     match op {
-        0x07 => with_byte!(Load, n, tag, rest),
-        0x08 => with_byte!(Store, n, tag, rest),
-        0x09 => with_byte!(Loadi, n, tag, rest),
-        0x0A => with_byte!(Storei, n, tag, rest),
-        0x0B => Ok((
-            Ins::Loada {
-                tag,
-                off: offset(tag, rest)?,
-            },
-            1 + offset_size(tag),
-        )),
-        0x0C => with_byte!(Index, size, tag, rest),
-        0x0D => with_byte!(Setb, b, tag, rest),
-        0x0E => with_byte!(Cmpb, b, tag, rest),
-        0x0F => with_byte!(Addb, b, tag, rest),
-        0x10 => with_byte!(Subb, b, tag, rest),
-        0x11 => with_word!(Setw, tag, rest),
-        0x12 => with_word!(Cmpw, tag, rest),
-        0x13 => with_word!(Addw, tag, rest),
-        0x14 => with_word!(Subw, tag, rest),
-        0x15 => with_byte!(Clearn, n, tag, rest),
-        0x16 => with_byte!(Testn, n, tag, rest),
-        0x17 => with_byte!(Incn, n, tag, rest),
-        0x18 => with_byte!(Decn, n, tag, rest),
-        0x19 => with_byte!(Notn, n, tag, rest),
-        0x1A => with_byte!(Cmpn, n, tag, rest),
-        0x1B => with_byte!(Addn, n, tag, rest),
-        0x1C => with_byte!(Subn, n, tag, rest),
-        0x1D => with_byte!(Andn, n, tag, rest),
-        0x1E => with_byte!(Orn, n, tag, rest),
-        0x1F => with_byte!(Xorn, n, tag, rest),
+        0x0B => address_row(tag, rest),
+        0x11..=0x14 => word_row(op, tag, rest),
+        0x07..=0x1F => byte_row(op, tag, rest),
         _ => Err(DecodeFault::Undefined),
     }
 }
