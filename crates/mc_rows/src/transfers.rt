@@ -1,5 +1,5 @@
 // Rows that move bytes between the stack and an address.
-ghost use Rattle.std.specs.Prelude.{◌≡◌, ◌≤◌, false};
+ghost use Rattle.std.specs.Prelude.{◌≡◌, ◌≤◌, false, length};
 ghost use Rattle.mc_model_machine.specs.declared.instruction.Ins.TheVariants.{Load, Store, Loadi, Storei, Loada, Index};
 ghost use Rattle.mc_segs.specs.HeldFrames.{frame_on_bank, CanRun};
 ghost use Rattle.mc_segs.specs.Ends.{scene, RowActs};
@@ -11,6 +11,9 @@ use crate::operations::check_block;
 use mc_bank::Bank;
 use mc_base::bytes_of;
 use mc_segs::{Abend, Frame, Halt, Public, load, pop, push, store};
+
+/// The number of bytes for which a small buffer is enough: clearing a large one takes longer than most operands.
+const FEW: usize = 16;
 
 /// Executes LOAD: pushes the n bytes of the operand.
 #[tactic(auto, unfolding(mc_model_machine::specs::Row::row, mc_model_machine::specs::Row::causes, mc_model_machine::specs::Row::effect))]
@@ -28,9 +31,32 @@ pub fn load_block<B: Bank>(
         (Load tag off n) alone (onward result) }
 {
     check_block(n)?;
-    let mut buffer = [0; 255];
-    let bytes = &mut buffer[..n as usize];
-    let at = place(frame, tag, off, n as u16)?;
+    let count = n as usize;
+    if count <= FEW {
+        return load_in(bank, frame, public, &mut [0; FEW][..count], tag, off);
+    }
+    load_in(bank, frame, public, &mut [0; 255][..count], tag, off)
+}
+
+// LOAD in a buffer of the operand's length.
+#[tactic(auto, unfolding(mc_model_machine::specs::Row::row, mc_model_machine::specs::Row::causes, mc_model_machine::specs::Row::effect))]
+#[inline(always)]
+fn load_in<B: Bank>(
+    bank: &mut B,
+    frame: &mut Frame,
+    public: &mut Public,
+    bytes: &mut [u8],
+    tag: u8,
+    off: i16,
+) -> Result<(), Halt>
+    requires low { 1 ≤ length bytes.old }
+    requires high { length bytes.old ≤ 255 }
+    requires runs { CanRun B.Bank bank.old frame.old }
+    requires tag { tag ≤ 7 }
+    ensures { RowActs B.Bank (scene bank.old bank.new frame.old frame.new public.old public.new)
+        (Load tag off (length bytes.old)) alone (onward result) }
+{
+    let at = place(frame, tag, off, bytes.len() as u16)?;
     load(bank, frame, public, at, bytes)?;
     push(frame, bytes)?;
     Ok(())
@@ -52,11 +78,34 @@ pub fn store_block<B: Bank>(
         (Store tag off n) alone (onward result) }
 {
     check_block(n)?;
-    let count = n as u16;
+    let count = n as usize;
+    if count <= FEW {
+        return store_in(bank, frame, public, &mut [0; FEW][..count], tag, off);
+    }
+    store_in(bank, frame, public, &mut [0; 255][..count], tag, off)
+}
+
+// STORE in a buffer of the operand's length.
+#[tactic(auto, unfolding(mc_model_machine::specs::Row::row, mc_model_machine::specs::Row::causes, mc_model_machine::specs::Row::effect))]
+#[inline(always)]
+fn store_in<B: Bank>(
+    bank: &mut B,
+    frame: &mut Frame,
+    public: &mut Public,
+    bytes: &mut [u8],
+    tag: u8,
+    off: i16,
+) -> Result<(), Halt>
+    requires low { 1 ≤ length bytes.old }
+    requires high { length bytes.old ≤ 255 }
+    requires runs { CanRun B.Bank bank.old frame.old }
+    requires tag { tag ≤ 7 }
+    ensures { RowActs B.Bank (scene bank.old bank.new frame.old frame.new public.old public.new)
+        (Store tag off (length bytes.old)) alone (onward result) }
+{
+    let count = bytes.len() as u16;
     need(frame, on_stack(tag, 2 * count, count))?;
     let at = operand(frame, tag, off, 2 * count)?;
-    let mut buffer = [0; 255];
-    let bytes = &mut buffer[..n as usize];
     pop(frame, bytes)?;
     store(bank, frame, public, at, bytes)?;
     Ok(())

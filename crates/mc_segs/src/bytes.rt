@@ -2,13 +2,36 @@
 ghost use Rattle.std.specs.Prelude.{◌≡◌, ◌+◌, ◌≤◌, ◌<◌, length, take, drop, ◌++◌};
 ghost use Rattle.mc_model_device.specs.Bytes.{be2, bytes2, splice};
 
+// Copies bytes. One, two or four of them, as most operands have, are copied in place: a call of `memcpy` takes longer.
+#[inline(always)]
+fn copy(into: &mut [u8], from: &[u8])
+    requires { length into.old ≡ length from.now }
+    ensures { into.new ≡ from.now }
+{
+    match from {
+        [a] => into[0] = *a,
+        [a, b] => {
+            into[0] = *a;
+            into[1] = *b;
+        }
+        [a, b, c, d] => {
+            into[0] = *a;
+            into[1] = *b;
+            into[2] = *c;
+            into[3] = *d;
+        }
+        _ => into.copy_from_slice(from),
+    }
+}
+
 /// Copies the bytes of `bytes` from `at` on into `into`.
 #[inline(always)]
 pub fn read(bytes: &[u8], at: usize, into: &mut [u8])
     requires { at + length into.old ≤ length bytes.now }
     ensures { into.new ≡ take (length into.old) (drop at bytes.now) }
 {
-    into.copy_from_slice(&bytes[at..at + into.len()]);
+    let from = &bytes[at..at + into.len()];
+    copy(into, from);
 }
 
 /// Writes `piece` into `into` from `at` on.
@@ -17,7 +40,7 @@ pub fn write(into: &mut [u8], at: usize, piece: &[u8])
     requires { at + length piece.now ≤ length into.old }
     ensures { into.new ≡ splice into.old at piece.now }
 {
-    into[at..at + piece.len()].copy_from_slice(piece);
+    copy(&mut into[at..at + piece.len()], piece);
 }
 
 /// Moves `len` bytes from `from` to `to`; the two ranges may overlap.
