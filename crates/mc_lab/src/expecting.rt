@@ -1,6 +1,6 @@
 // A deck played and compared with its expectations.
 ghost use Rattle.std.specs.Prelude.{◌≡◌, ◌+◌, ◌^◌, ◌<◌, true, cond, IfOk};
-ghost use Rattle.mc_text.specs.Texts.{sunk_in, Puts};
+ghost use Rattle.mc_text.specs.Texts.{sunk, Puts};
 ghost use Rattle.mc_script.specs.Players.{IsUnfused};
 ghost use Rattle.mc_lab.specs.Expectations.{count_failed, expect_text, steady_steps};
 ghost use Rattle.mc_lab.specs.Judged.{done_of};
@@ -41,9 +41,9 @@ pub fn expect<N: Bench + Drop, T: Sink, L: Ledger>(
     requires fuses { IsUnfused (N.bench device) }
     requires steady { (N.bench device).steady ≡ true }
     requires rising { IsRising trial.now }
-    ensures reported { Puts (sunk_in T.taken T.faults out.old)
+    ensures reported { Puts (sunk T.Sink out.old)
         (expect_text (steady_steps (N.state device).words (trial_value trial.now).lines)
-        (trial_value trial.now).expected) (done_of result) (sunk_in T.taken T.faults out.new) }
+        (trial_value trial.now).expected) (done_of result) (sunk T.Sink out.new) }
     ensures failed { IfOk result (λ n. n ≡ count_failed
         (steady_steps (N.state device).words (trial_value trial.now).lines) (trial_value trial.now).expected) }
 {

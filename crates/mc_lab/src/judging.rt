@@ -1,6 +1,6 @@
 // Expectations compared with results, and the report of them.
 ghost use Rattle.std.specs.Prelude.{◌≡◌, codes, decimal, IfOk};
-ghost use Rattle.mc_text.specs.Texts.{sunk_in, Puts};
+ghost use Rattle.mc_text.specs.Texts.{sunk, Puts};
 ghost use Rattle.mc_explore.specs.Matching.{fits};
 ghost use Rattle.mc_lab.specs.Expectations.{above_text, count_text, failed_line, expectation_line};
 ghost use Rattle.mc_lab.specs.Judged.{done_of};
@@ -17,8 +17,8 @@ use mc_text::{put, put_number};
 
 // Writes the statement of an expectation that failed, with the number of its line.
 fn put_above<T: Sink>(out: &mut T, statement: &NumberedLine<'_>) -> Result<(), WriteFault>
-    ensures { Puts (sunk_in T.taken T.faults out.old) (above_text (line_value statement.now)) result
-        (sunk_in T.taken T.faults out.new) }
+    ensures { Puts (sunk T.Sink out.old) (above_text (line_value statement.now)) result
+        (sunk T.Sink out.new) }
 {
     put_number(out, b" (line ", statement.number)?;
     put(out, b" ")?;
@@ -28,8 +28,8 @@ fn put_above<T: Sink>(out: &mut T, statement: &NumberedLine<'_>) -> Result<(), W
 
 // Writes the line of an expectation that failed at a result.
 fn put_failed<T: Sink>(out: &mut T, expectation: &Remark<'_>, text: &Text) -> Result<(), WriteFault>
-    ensures { Puts (sunk_in T.taken T.faults out.old) (failed_line (remark_value expectation.now) text.now.items) result
-        (sunk_in T.taken T.faults out.new) }
+    ensures { Puts (sunk T.Sink out.old) (failed_line (remark_value expectation.now) text.now.items) result
+        (sunk T.Sink out.new) }
 {
     put_number(out, b"line ", expectation.number)?;
     put(out, b" expected ")?;
@@ -50,9 +50,9 @@ pub fn judge<T: Sink>(
     text: &Text,
 ) -> Result<bool, WriteFault>
     ensures value { IfOk result (λ b. b ≡ fits expectation.now.text.now text.now.items) }
-    ensures reported { Puts (sunk_in T.taken T.faults out.old)
+    ensures reported { Puts (sunk T.Sink out.old)
         (expectation_line (fits expectation.now.text.now text.now.items) (remark_value expectation.now) text.now.items)
-        (done_of result) (sunk_in T.taken T.faults out.new) }
+        (done_of result) (sunk T.Sink out.new) }
 {
     if holds(expectation.text, text.as_slice()) {
         return Ok(true);
@@ -63,7 +63,7 @@ pub fn judge<T: Sink>(
 
 // Writes a number in decimal.
 fn put_count<T: Sink>(out: &mut T, count: usize) -> Result<(), WriteFault>
-    ensures { Puts (sunk_in T.taken T.faults out.old) (decimal count) result (sunk_in T.taken T.faults out.new) }
+    ensures { Puts (sunk T.Sink out.old) (decimal count) result (sunk T.Sink out.new) }
 {
     let mut buffer = Buffer::new();
     put(out, buffer.format(count).as_bytes())
@@ -75,8 +75,8 @@ fn put_count<T: Sink>(out: &mut T, count: usize) -> Result<(), WriteFault>
 ///
 /// Returns `WriteFault` if the sink fails.
 pub fn put_counts<T: Sink>(out: &mut T, expected: usize, failed: usize) -> Result<(), WriteFault>
-    ensures { Puts (sunk_in T.taken T.faults out.old) (count_text expected failed) result
-        (sunk_in T.taken T.faults out.new) }
+    ensures { Puts (sunk T.Sink out.old) (count_text expected failed) result
+        (sunk T.Sink out.new) }
 {
     put(out, b"expected ")?;
     put_count(out, expected)?;

@@ -3,7 +3,7 @@ ghost use Rattle.std.specs.Prelude.{◌≡◌, ◌+◌, ◌<◌, ◌≤◌, ◌+
 ghost use Rattle.arrayvec.specs.ArrayVec.{array_vec_len};
 ghost use Rattle.mc_model_machine.specs.Text.{is_blank, pieces};
 ghost use Rattle.mc_model_play.specs.Patterns.{without_blanks};
-ghost use Rattle.mc_text.specs.Texts.{sunk_in, Puts};
+ghost use Rattle.mc_text.specs.Texts.{sunk, Puts};
 ghost use Rattle.mc_lab.specs.Expectations.{laid_by, laid_out, lays_out};
 
 use mc_base::{Sink, WriteFault};
@@ -43,8 +43,8 @@ fn without_blanks(text: &[u8]) -> Text
 
 // Writes a text, with a blank after as many characters as each word of a pattern has, but for the last one.
 fn put_by_words<T: Sink>(out: &mut T, pattern: &[u8], text: &[u8]) -> Result<(), WriteFault>
-    ensures { Puts (sunk_in T.taken T.faults out.old) (laid_by (pieces is_blank pattern.now) text.now) result
-        (sunk_in T.taken T.faults out.new) }
+    ensures { Puts (sunk T.Sink out.old) (laid_by (pieces is_blank pattern.now) text.now) result
+        (sunk T.Sink out.new) }
 {
     let mut signs = pattern;
     let mut rest = text;
@@ -71,8 +71,8 @@ fn put_by_words<T: Sink>(out: &mut T, pattern: &[u8], text: &[u8]) -> Result<(),
 ///
 /// Returns `WriteFault` if the sink fails.
 pub fn put_laid_out<T: Sink>(out: &mut T, pattern: &[u8], text: &Text) -> Result<(), WriteFault>
-    ensures { Puts (sunk_in T.taken T.faults out.old) (laid_out pattern.now text.now.items) result
-        (sunk_in T.taken T.faults out.new) }
+    ensures { Puts (sunk T.Sink out.old) (laid_out pattern.now text.now.items) result
+        (sunk T.Sink out.new) }
 {
     if lays_out(pattern) {
         put_by_words(out, pattern, without_blanks(text.as_slice()).as_slice())

@@ -2,7 +2,7 @@
 ghost use Rattle.std.specs.Prelude.{◌≡◌, ◌++◌, ◌+◌, ◌-◌, ◌<◌, ◌≤◌, ℕ, ◌∷◌, codes, decimal, drop, get_or, length};
 ghost use Rattle.mc_lab.specs.Sweeps.{is_word, line_end, run_text, runs, runs_text, sums_text, word_text};
 ghost use Rattle.mc_lab.specs.declared.sweep_word.Word.TheVariants.{Before};
-ghost use Rattle.mc_text.specs.Texts.{sunk_in, Puts};
+ghost use Rattle.mc_text.specs.Texts.{sunk, Puts};
 
 use crate::sweep_word::Word;
 use itoa::Buffer;
@@ -21,7 +21,7 @@ pub struct Sums {
 
 // Writes a sum.
 fn put_sum<T: Sink>(out: &mut T, number: u128) -> Result<(), WriteFault>
-    ensures { Puts (sunk_in T.taken T.faults out.old) (decimal number) result (sunk_in T.taken T.faults out.new) }
+    ensures { Puts (sunk T.Sink out.old) (decimal number) result (sunk T.Sink out.new) }
 {
     let mut buffer = Buffer::new();
     put(out, buffer.format(number).as_bytes())
@@ -29,8 +29,8 @@ fn put_sum<T: Sink>(out: &mut T, number: u128) -> Result<(), WriteFault>
 
 // Writes a run of writes of one word, by its first and its last write.
 fn put_run<T: Sink>(out: &mut T, word: Word, first: u32, last: u32) -> Result<(), WriteFault>
-    ensures { Puts (sunk_in T.taken T.faults out.old)
-        (run_text (record { first = first; last = last; word = word })) result (sunk_in T.taken T.faults out.new) }
+    ensures { Puts (sunk T.Sink out.old)
+        (run_text (record { first = first; last = last; word = word })) result (sunk T.Sink out.new) }
 {
     put(out, b" ")?;
     put(out, word.text().as_bytes())?;
@@ -69,8 +69,8 @@ fn run_len(words: &[Word]) -> usize
 // Writes the longest runs of the words of a line's writes.
 fn put_runs<T: Sink>(out: &mut T, words: &[Word]) -> Result<(), WriteFault>
     requires { length words.now ≤ 4294967295 }
-    ensures { Puts (sunk_in T.taken T.faults out.old) (runs_text (runs 1 words.now)) result
-        (sunk_in T.taken T.faults out.new) }
+    ensures { Puts (sunk T.Sink out.old) (runs_text (runs 1 words.now)) result
+        (sunk T.Sink out.new) }
 {
     let mut at = 0;
     while at < words.len() {
@@ -83,7 +83,7 @@ fn put_runs<T: Sink>(out: &mut T, words: &[Word]) -> Result<(), WriteFault>
 
 // Writes the end of a swept line: that it is not whole, if it is broken, and a line feed.
 fn put_end<T: Sink>(out: &mut T, broken: bool) -> Result<(), WriteFault>
-    ensures { Puts (sunk_in T.taken T.faults out.old) (line_end broken) result (sunk_in T.taken T.faults out.new) }
+    ensures { Puts (sunk T.Sink out.old) (line_end broken) result (sunk T.Sink out.new) }
 {
     if broken {
         put(out, b" not whole\n")
@@ -104,9 +104,9 @@ pub fn put_swept<T: Sink>(
     broken: bool,
 ) -> Result<(), WriteFault>
     requires { length words.now ≤ 4294967295 }
-    ensures { Puts (sunk_in T.taken T.faults out.old) (codes "line " ++ decimal number ++ codes " writes "
+    ensures { Puts (sunk T.Sink out.old) (codes "line " ++ decimal number ++ codes " writes "
         ++ decimal (length words.now) ++ codes ":" ++ runs_text (runs 1 words.now)
-        ++ line_end broken) result (sunk_in T.taken T.faults out.new) }
+        ++ line_end broken) result (sunk T.Sink out.new) }
 {
     put(out, b"line ")?;
     put_decimal(out, number)?;
@@ -123,8 +123,8 @@ pub fn put_swept<T: Sink>(
 ///
 /// Returns `WriteFault` if the sink fails.
 pub fn put_sums<T: Sink>(out: &mut T, sums: &Sums) -> Result<(), WriteFault>
-    ensures { Puts (sunk_in T.taken T.faults out.old) (sums_text sums.now.lines sums.now.writes sums.now.plays) result
-        (sunk_in T.taken T.faults out.new) }
+    ensures { Puts (sunk T.Sink out.old) (sums_text sums.now.lines sums.now.writes sums.now.plays) result
+        (sunk T.Sink out.new) }
 {
     put(out, b"swept ")?;
     put_sum(out, sums.lines)?;

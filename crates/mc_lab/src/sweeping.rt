@@ -3,7 +3,7 @@ ghost use Rattle.std.specs.Prelude.{◌≡◌, ◌+◌, ◌^◌, ◌≤◌, ◌<
 ghost use Rattle.std.specs.Prelude.{IfOk, IfSome, MatchOption, OnOk};
 ghost use Rattle.mc_model_play.specs.Play.{armed_stop_in, is_card_line};
 ghost use Rattle.mc_deck.specs.Lines.{line_of};
-ghost use Rattle.mc_text.specs.Texts.{sunk_in, Puts};
+ghost use Rattle.mc_text.specs.Texts.{sunk, Puts};
 ghost use Rattle.mc_lab.specs.Judged.{done_of};
 ghost use Rattle.mc_lab.specs.Remarked.{remark_values};
 ghost use Rattle.mc_lab.specs.Sweeps.{is_whole, is_unarmed, names_from, state_on_blank, sweep_text, swept_texts};
@@ -170,9 +170,9 @@ fn sweep_place<D: Trials + Drop, T: Sink, L: Ledger>(
     requires most { length words.old ≤ 4294967295 }
     requires sums { IsSmall sums.old place.now.at }
     requires room { AccountsHaveRoom bench.old.ends bench.old.pair (length place.now.names.now) }
-    ensures reported { Puts (sunk_in T.taken T.faults out.old)
+    ensures reported { Puts (sunk T.Sink out.old)
         (swept_texts (remark_values marks.now) (sweeps_at place.now))
-        result (sunk_in T.taken T.faults out.new) }
+        result (sunk T.Sink out.new) }
     ensures adds { OnOk result (AddsSums (remark_values marks.now) sums.old (sweeps_at place.now) sums.new) }
     ensures small { OnOk result (IsSmall sums.new (place.now.at + 1)) }
     ensures size { length words.new ≡ length words.old }
@@ -207,9 +207,9 @@ fn sweep_at<D: Trials + Drop, T: Sink, L: Ledger>(
     requires most { length words.old ≤ 4294967295 }
     requires sums { IsSmall sums.old place.now.at }
     requires room { AccountsHaveRoom bench.old.ends bench.old.pair (length place.now.names.now) }
-    ensures reported { Puts (sunk_in T.taken T.faults out.old)
+    ensures reported { Puts (sunk T.Sink out.old)
         (swept_texts (remark_values marks.now) (sweeps_at place.now))
-        result (sunk_in T.taken T.faults out.new) }
+        result (sunk T.Sink out.new) }
     ensures adds { OnOk result (AddsSums (remark_values marks.now) sums.old (sweeps_at place.now) sums.new) }
     ensures small { OnOk result (IsSmall sums.new (place.now.at + 1)) }
     ensures size { length words.new ≡ length words.old }
@@ -252,9 +252,9 @@ fn sweep_lines<D: Trials + Drop, T: Sink, L: Ledger>(
     requires most { length words.old ≤ 4294967295 }
     requires sums { IsSmall sums.old 0 }
     requires room { AccountsHaveRoom bench.old.ends bench.old.pair (length names.now) }
-    ensures reported { Puts (sunk_in T.taken T.faults out.old)
+    ensures reported { Puts (sunk T.Sink out.old)
         (swept_texts (remark_values marks.now) (sweeps_from names.now deck.now 0)) result
-        (sunk_in T.taken T.faults out.new) }
+        (sunk T.Sink out.new) }
     ensures adds { OnOk result
         (AddsSums (remark_values marks.now) sums.old (sweeps_from names.now deck.now 0) sums.new) }
 {
@@ -293,8 +293,8 @@ fn sweep_in<T: Sink, L: Ledger>(
 ) -> Result<bool, WriteFault>
     requires { IsRoom deck.now room.old.names.items room.old.bench.ends room.old.bench.pair
         (length room.old.words.items) }
-    ensures reported { Puts (sunk_in T.taken T.faults out.old) (sweep_text (remark_values marks.now) deck.now)
-        (done_of result) (sunk_in T.taken T.faults out.new) }
+    ensures reported { Puts (sunk T.Sink out.old) (sweep_text (remark_values marks.now) deck.now)
+        (done_of result) (sunk T.Sink out.new) }
     ensures whole { IfOk result (λ whole. whole ≡ is_whole (remark_values marks.now) deck.now) }
 {
     let mut sums = no_sums();
@@ -333,9 +333,9 @@ pub fn sweep<T: Sink, L: Ledger>(
     out: &mut T,
     steps: &mut Steps<L>,
 ) -> Result<bool, SweepFault>
-    ensures reported { ReportsSweep (sunk_in T.taken T.faults out.old)
+    ensures reported { ReportsSweep (sunk T.Sink out.old)
         (sweep_text (remark_values marks.now) deck.now) result
-        (sunk_in T.taken T.faults out.new) }
+        (sunk T.Sink out.new) }
     ensures whole { IfOk result (λ whole. whole ≡ is_whole (remark_values marks.now) deck.now) }
 {
     let mut room = match room_for(alloc, deck, steps) {

@@ -3,6 +3,7 @@ use Rattle.std.specs.Prelude.{◌≡◌, ℕ, List, Option, Result, Ok, Err}
 use Rattle.mc_model_device.specs.Counts.{Rose}
 use Rattle.mc_base.specs.Streams.{Grew, GrewByPart}
 use Rattle.mc_base.specs.declared.refusals.WriteFault.{WriteFault}
+use Rattle.mc_base.specs.declared.sink.Sink.{Ghosts}
 
 -- the state of a sink: the bytes that it has taken, if it records them, and its count of faults
 pub record Sunk : Type 0 where
@@ -12,6 +13,10 @@ pub record Sunk : Type 0 where
 -- the state of a sink, from its functions
 abbrev pub sunk_in : {T : Type 0} → (T → Option (List ℕ)) → (T → ℕ) → T → Sunk
 sunk_in taken faults out = record { taken = taken out; faults = faults out }
+
+-- the state of a sink
+abbrev pub sunk : {T : Type 0} → Ghosts T → T → Sunk
+sunk s out = sunk_in s.taken s.faults out
 
 -- a text was written whole from state a to state b, and no call of the sink failed
 pub record Writes (a : Sunk) (text : List ℕ) (b : Sunk) : Type 0 where

@@ -1,7 +1,7 @@
 // Words and numbers, and the digits of bytes.
 ghost use Rattle.std.specs.Prelude.{◌≡◌, ◌<◌, ◌++◌, decimal};
 ghost use Rattle.mc_model_machine.specs.Listing.{hex_digit};
-ghost use Rattle.mc_text.specs.Texts.{sunk_in, Puts};
+ghost use Rattle.mc_text.specs.Texts.{sunk, Puts};
 
 use itoa::Buffer;
 use mc_base::{Sink, WriteFault, put_all};
@@ -15,7 +15,7 @@ const DIGITS: [u8; 16] = *b"0123456789ABCDEF";
 ///
 /// Returns the fault of the sink if it failed; a proper prefix of the piece was written then.
 pub fn put<T: Sink>(out: &mut T, text: &[u8]) -> Result<(), WriteFault>
-    ensures { Puts (sunk_in T.taken T.faults out.old) text.now result (sunk_in T.taken T.faults out.new) }
+    ensures { Puts (sunk T.Sink out.old) text.now result (sunk T.Sink out.new) }
 {
     put_all(out, text)
 }
@@ -26,7 +26,7 @@ pub fn put<T: Sink>(out: &mut T, text: &[u8]) -> Result<(), WriteFault>
 ///
 /// Returns the fault of the sink if it failed; a proper prefix of the text was written then.
 pub fn put_decimal<T: Sink>(out: &mut T, number: u32) -> Result<(), WriteFault>
-    ensures { Puts (sunk_in T.taken T.faults out.old) (decimal number) result (sunk_in T.taken T.faults out.new) }
+    ensures { Puts (sunk T.Sink out.old) (decimal number) result (sunk T.Sink out.new) }
 {
     let mut buffer = Buffer::new();
     put(out, buffer.format(number).as_bytes())
@@ -38,8 +38,8 @@ pub fn put_decimal<T: Sink>(out: &mut T, number: u32) -> Result<(), WriteFault>
 ///
 /// Returns the fault of the sink if it failed; a proper prefix of the text was written then.
 pub fn put_number<T: Sink>(out: &mut T, word: &[u8], number: u32) -> Result<(), WriteFault>
-    ensures { Puts (sunk_in T.taken T.faults out.old) (word.now
-        ++ decimal number) result (sunk_in T.taken T.faults out.new) }
+    ensures { Puts (sunk T.Sink out.old) (word.now
+        ++ decimal number) result (sunk T.Sink out.new) }
 {
     put(out, word)?;
     put_decimal(out, number)

@@ -1,7 +1,7 @@
 // The top call: a job over a source and a sink.
 ghost use Rattle.std.specs.Prelude.{◌≡◌, ◌≤◌, ◌^◌, ◌<◌, length, None, Ok, Some, IfErr, IfOk, IfSome};
 ghost use Rattle.mc_model_play.specs.DeckGrammar.{deck_read};
-ghost use Rattle.mc_text.specs.Texts.{sunk_in};
+ghost use Rattle.mc_text.specs.Texts.{sunk};
 ghost use Rattle.mc_lab.specs.Expectations.{trial_read};
 ghost use Rattle.mc_lab.specs.Trials.{trial_value, IsRising};
 ghost use Rattle.mc_filter.specs.declared.status.Status.{Status};
@@ -72,7 +72,7 @@ fn expect_input<S: Source, T: Sink, L: Ledger>(
         (MellabDone job.Expect (outside S.Source T.Sink input.old input.new out.old out.new)) }
     ensures rejected { IfErr result
         (RejectsLabJob job.Expect (outside S.Source T.Sink input.old input.new out.old out.new)) }
-    ensures out { IfErr result (λ e. sunk_in T.taken T.faults out.new ≡ sunk_in T.taken T.faults out.old) }
+    ensures out { IfErr result (λ e. sunk T.Sink out.new ≡ sunk T.Sink out.old) }
 {
     let text = read_input(alloc, input)?;
     let trial = trial_of(alloc, text.as_slice())?;
@@ -91,7 +91,7 @@ fn sweep_input<S: Source, T: Sink, L: Ledger>(
         (MellabDone job.Sweep (outside S.Source T.Sink input.old input.new out.old out.new)) }
     ensures rejected { IfErr result
         (RejectsLabJob job.Sweep (outside S.Source T.Sink input.old input.new out.old out.new)) }
-    ensures out { IfErr result (λ e. sunk_in T.taken T.faults out.new ≡ sunk_in T.taken T.faults out.old) }
+    ensures out { IfErr result (λ e. sunk T.Sink out.new ≡ sunk T.Sink out.old) }
 {
     let text = read_input(alloc, input)?;
     let deck = deck_of(alloc, text.as_slice())?;
@@ -113,7 +113,7 @@ fn attempt<S: Source, T: Sink, L: Ledger>(
 ) -> Result<Status, Rejection>
     ensures done { IfOk result (MellabDone job (outside S.Source T.Sink input.old input.new out.old out.new)) }
     ensures rejected { IfErr result (RejectsLabJob job (outside S.Source T.Sink input.old input.new out.old out.new)) }
-    ensures out { IfErr result (λ e. sunk_in T.taken T.faults out.new ≡ sunk_in T.taken T.faults out.old) }
+    ensures out { IfErr result (λ e. sunk T.Sink out.new ≡ sunk T.Sink out.old) }
 {
     match job {
         Job::Expect => expect_input(alloc, input, out, steps),
