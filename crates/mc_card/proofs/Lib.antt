@@ -9,3 +9,4 @@ pub mod AfterLemmas
 pub mod TurnLemmas
 pub mod CommandLemmas
 pub mod FewLemmas
+pub mod SavedLemmas

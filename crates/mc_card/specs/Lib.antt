@@ -4,3 +4,4 @@ pub mod ItemWrites
 pub mod Parts
 pub mod Ends
 pub mod Managing
+pub mod Saved

@@ -5,6 +5,7 @@
 mod bench;
 mod card;
 mod managing;
+mod saved;
 mod session;
 mod watching;
 
@@ -12,3 +13,4 @@ pub use card::Card;
 pub use mc_machine::{Chain, Outcome, Turn};
 pub use mc_manager::Load;
 pub use mc_store::{Store, Unusable, Up};
+pub use saved::SavedSession;

@@ -43,6 +43,21 @@ impl Load {
         }
     }
 
+    /// Returns a copy of the load.
+    pub fn copy(&self) -> Load
+        ensures { result ≡ self.now }
+    {
+        let mut dir = ArrayVec::new();
+        let _room = dir.try_extend_from_slice(self.dir.as_slice());
+        Load {
+            site: Site::new(self.site.sizes(), self.site.place()),
+            code: self.code,
+            init: self.init,
+            dir,
+            fci: self.fci,
+        }
+    }
+
     /// Returns the site that the load fills.
     pub fn site(&self) -> &Site
         ensures { result.now ≡ self.now.site }

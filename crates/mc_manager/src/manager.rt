@@ -53,6 +53,16 @@ impl Manager {
         }
     }
 
+    /// Returns a manager with a selection and a copy of an open load.
+    pub fn of(selected: Option<Selection>, load: &Option<Load>) -> Manager
+        ensures { result ≡ record { selected = selected; load = load.now } }
+    {
+        Manager {
+            selected,
+            load: copied(load),
+        }
+    }
+
     /// Returns the selected application, or `None` if none is selected.
     pub fn selected(&self) -> Option<Selection>
         ensures { result ≡ self.now.selected }
@@ -395,5 +405,15 @@ impl Manager {
         self.load = None;
         Status::Done.say(reply);
         Ok(Ruling::Answer)
+    }
+}
+
+// Returns a copy of an open load.
+fn copied(load: &Option<Load>) -> Option<Load>
+    ensures { result ≡ load.now }
+{
+    match load {
+        Some(load) => Some(load.copy()),
+        None => None,
     }
 }
