@@ -35,3 +35,4 @@ pub mod StepLemmas
 pub mod StepRunLemmas
 pub mod StepPlayLemmas
 pub mod PowerAnswerLemmas
+pub mod LiveLemmas

@@ -39,3 +39,7 @@ module _ {N R : Type 0} (state : N → DeviceState) (bench : N → BenchState) (
   pub same_line : (p q e : Player N) (l : DeckLine) (x y : Answer) (before after : R) → LineDone state bench reported p l before after (Some x) q → e ≡ q → y ≡ x → LineDone state bench reported p l before after (Some y) e
   same_line p q e l x y before after done same says =
       subst (λ (z : Player N). LineDone state bench reported p l before after (Some y) z) (sym same) (subst (λ (z : Answer). LineDone state bench reported p l before after (Some z) q) (sym says) done)
+
+-- a line with what is recorded of its command, which is that of the line that was given
+pub given_sent : {N R : Type 0} (state : N → DeviceState) (bench : N → BenchState) (reported : DeckLine → R → List Turn → R → Type 0) (p q : Player N) (l k : DeckLine) (x : Option Answer) (before after : R) → l ≡ k → LineDone state bench (reported k) p k before after x q → LineDone state bench (reported l) p l before after x q
+given_sent state bench reported p q l k x before after is done = subst (λ (y : DeckLine). LineDone state bench (reported y) p y before after x q) (sym is) done

@@ -37,7 +37,7 @@ read_by : (ins p1 p2 : ℕ) (r : Option Rest) (session_state : SessionState) →
 read_by ins p1 p2 None session_state = refl
 read_by ins p1 p2 (Some r) session_state = refl
 
-not_passed : (b : List ℕ) (session_state : SessionState) → IsManaged b → is_passed (route b) session_state.selected ≡ false
+pub not_passed : (b : List ℕ) (session_state : SessionState) → IsManaged b → is_passed (route b) session_state.selected ≡ false
 unfolding apdu_read
 not_passed [] session_state h = refl
 not_passed (c ∷ []) session_state h = refl
@@ -72,7 +72,7 @@ send_none c session_state budget = refl
 module _ {N R : Type 0} (state : N → DeviceState) (wrote : N → ℕ → List ℕ → Answer → N → Type 0)
     (obeys : (d : N) (at : ℕ) (w : List ℕ) (a : Answer) (e : N) → (state d).on ≡ true → wrote d at w a e → Wrote (state d) at w a (state e))
     (reported : R → List Turn → R → Type 0) (silent : (r : R) → reported r [] r)
-    (onward : (q r s : R) (ts us : List Turn) → reported q ts r → reported r us s → reported q (ts ++ us) s) where
+    (onward : (q r s : R) → reported q [] r → reported r [] s → reported q [] s) where
   -- nothing is recorded of commands without turns
   untold : (result : Result Outcome Stop) (c d : Card N) (ws : List (ℕ × List ℕ)) (ts : List Turn) (q r : R) → ts ≡ [] → ReportsTurns state wrote reported c ws ts result d q r → reported q [] r
   untold (Ok o) c d ws ts q r none h = subst (λ (us : List Turn). reported q us r) none h
@@ -82,11 +82,11 @@ module _ {N R : Type 0} (state : N → DeviceState) (wrote : N → ℕ → List 
   reports_behind : (result : Result Outcome Stop) (c m d : Card N) (ws vs : List (ℕ × List ℕ)) (ts us : List Turn) (p q r : R) → Makes wrote (device_in c) ws (Ok tt) (device_in m) → ts ≡ [] → us ≡ [] → reported p [] q
       → ReportsTurns state wrote reported m vs us result d q r → ReportsTurns state wrote reported c (ws ++ vs) ts result d p r
   reports_behind (Ok o) c m d ws vs ts us p q r makes none also first rest =
-      subst (λ (ts : List Turn). reported p ts r) (sym none) (onward p q r [] [] first (subst (λ (us : List Turn). reported q us r) also rest))
+      subst (λ (ts : List Turn). reported p ts r) (sym none) (onward p q r first (subst (λ (us : List Turn). reported q us r) also rest))
   reports_behind (Err s) c m d ws vs ts us p q r makes none also first rest = (
     length ws + rest.0,
     number_done wrote ws vs (device_in c) (device_in m) (device_in d) rest.0 s makes rest.1,
-    subst (λ (ts : List Turn). reported p (before_stop ts (length ws + rest.0)) r) (sym none) (onward p q r [] [] first (subst (λ (us : List Turn). reported q (before_stop us rest.0) r) also rest.2)),
+    subst (λ (ts : List Turn). reported p (before_stop ts (length ws + rest.0)) r) (sym none) (onward p q r first (subst (λ (us : List Turn). reported q (before_stop us rest.0) r) also rest.2)),
   )
 
   -- a command that was done, and those after it
@@ -187,6 +187,16 @@ module _ {N R : Type 0} (state : N → DeviceState) (wrote : N → ℕ → List 
             };
         reports = silent p;
       }))
+
+-- ---- commands without turns, whatever they are sent to
+
+module _ {N R : Type 0} (state : N → DeviceState) (wrote : N → ℕ → List ℕ → Answer → N → Type 0) (one other : R → List Turn → R → Type 0) (moves : (q r : R) → one q [] r → other q [] r) where
+  reports_elsewhere : (result : Result Outcome Stop) (c d : Card N) (ws : List (ℕ × List ℕ)) (ts : List Turn) (q r : R) → ts ≡ [] → ReportsTurns state wrote one c ws ts result d q r → ReportsTurns state wrote other c ws ts result d q r
+  reports_elsewhere (Ok o) c d ws ts q r none h = subst (λ (us : List Turn). other q us r) (sym none) (moves q r (subst (λ (us : List Turn). one q us r) none h))
+  reports_elsewhere (Err s) c d ws ts q r none h = (h.0, h.1, subst (λ (us : List Turn). other q (before_stop us h.0) r) (sym none) (moves q r (subst (λ (us : List Turn). one q (before_stop us h.0) r) none h.2)))
+
+  pub elsewhere : (result : Result Outcome Stop) (c d : Card N) (k : Command) (q r : R) → k.turns ≡ [] → RanAndReported state wrote one c k result d q r → RanAndReported state wrote other c k result d q r
+  elsewhere result c d k q r none h = record { commanded = h.commanded; reports = reports_elsewhere result c d h.commanded.made.writes k.turns q r none h.reports }
 
 -- ---- the commands of a load
 

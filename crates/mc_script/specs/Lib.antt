@@ -14,3 +14,4 @@ pub mod Plays
 pub mod Lines
 pub mod StepCounts
 pub mod Sums
+pub mod Lives

@@ -4,7 +4,7 @@ ghost use Rattle.mc_model_play.specs.Play.{line_command};
 ghost use Rattle.mc_deck.specs.Lines.{GoodLine};
 ghost use Rattle.mc_card.specs.Parts.{device_in, card_in, session_state_in, IsReadyCard};
 ghost use Rattle.mc_script.specs.Commands.{deck_line_of};
-ghost use Rattle.mc_script.specs.Runs.{RanAndReported};
+ghost use Rattle.mc_script.specs.Runs.{RanAndReported, line_bytes, sent_to};
 ghost use Rattle.mc_script.specs.StepCounts.{instructions, line_search, StepsOf};
 ghost use Rattle.mc_card.specs.Ends.{outcome_or_stop};
 
@@ -55,7 +55,8 @@ pub fn run_line<N: Nvm, R: Runner, L: Ledger>(
     requires some { 1 ≤ budget }
     requires budget { budget ≤ 65536 }
     requires good { GoodLine (deck_line_of command.now) }
-    ensures done { RanAndReported N.state N.wrote R.reported card.old
+    ensures done { RanAndReported N.state N.wrote
+        (R.reported (sent_to N.state card.old (line_bytes (deck_line_of command.now)) budget)) card.old
         (line_command (card_in N.state card.old) (session_state_in N.state card.old) budget (deck_line_of command.now))
         (outcome_or_stop result into.new) card.new runner.old runner.new }
     ensures steps { StepsOf

@@ -8,6 +8,7 @@ mod commands;
 mod decks;
 mod examples;
 mod line;
+mod live;
 mod loading;
 mod player;
 mod playing;
@@ -23,6 +24,7 @@ mod writer;
 
 pub use answer::Answer;
 pub use examples::{power_after_lines, steps_of_commands, words_after_lines};
+pub use live::Live;
 pub use player::Player;
 pub use playing::{play, summarise, trace};
 pub use runner::{Runner, Silent};

@@ -4,6 +4,7 @@ ghost use Rattle.mc_deck.specs.Lines.{line_of, GoodLine};
 ghost use Rattle.mc_script.specs.Players.{device_of, IsPlaying};
 ghost use Rattle.mc_script.specs.Counting.{count_after_rises, line_powers};
 ghost use Rattle.mc_script.specs.Arming.{on_after_answer};
+ghost use Rattle.mc_script.specs.Runs.{sent_by};
 ghost use Rattle.mc_script.specs.Lines.{LineDone};
 ghost use Rattle.mc_script.specs.StepCounts.{CountsLine};
 
@@ -32,7 +33,7 @@ impl<N: Bench> Player<N> {
         requires good { GoodLine (line_of line.now) }
         // The line is the step of the play from each state that the player is at: its words, its power, its calls of
         // the bench, its tape, its turns and its result.
-        ensures done { LineDone N.state N.bench R.reported self.old
+        ensures done { LineDone N.state N.bench (R.reported (sent_by N.state self.old (line_of line.now))) self.old
             (line_of line.now) runner.old runner.new result self.new }
         // A `power` line turns the power of the device on once, and no other line does.
         ensures powers { (N.bench (device_of self.new)).powers

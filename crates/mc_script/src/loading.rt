@@ -9,7 +9,7 @@ ghost use Rattle.mc_unit.specs.Parts.{parts_of};
 ghost use Rattle.mc_machine.specs.Turns.{outcome_value};
 ghost use Rattle.mc_card.specs.Parts.{device_in, card_in, session_state_in, IsReadyCard};
 ghost use Rattle.mc_script.specs.Classes.{IsManaged};
-ghost use Rattle.mc_script.specs.Runs.{RanAndReported};
+ghost use Rattle.mc_script.specs.Runs.{RanAndReported, sent_to};
 ghost use Rattle.mc_script.specs.StepCounts.{OnlyFirstOpens, first_search, instructions, StepsOf};
 ghost use Rattle.mc_card.specs.Ends.{outcome_or_stop};
 
@@ -235,7 +235,7 @@ pub fn send<N: Nvm, R: Runner, L: Ledger>(
     requires budget { budget ≤ 65536 }
     requires managed { AllByRecursion IsManaged commands.old }
     requires opens { OnlyFirstOpens commands.old }
-    ensures done { RanAndReported N.state N.wrote R.reported card.old
+    ensures done { RanAndReported N.state N.wrote (R.reported (sent_to N.state card.old [] budget)) card.old
         (send (card_in N.state card.old) (session_state_in N.state card.old) budget commands.old)
         (outcome_or_stop result into.new) card.new runner.old runner.new }
     ensures steps { StepsOf

@@ -5,7 +5,7 @@ ghost use Rattle.mc_model_device.specs.Device.{IsImage};
 ghost use Rattle.mc_model_play.specs.Play.{start};
 ghost use Rattle.mc_model_play.specs.ReadyAgain.{IsLine};
 ghost use Rattle.mc_script.specs.Players.{IsUnfused};
-ghost use Rattle.mc_text.specs.Texts.{sunk_in};
+ghost use Rattle.mc_text.specs.Texts.{sunk};
 ghost use Rattle.mc_script.specs.Writers.{write_result, text_by, turns_text};
 ghost use Rattle.mc_model_play.specs.Generator.{summary};
 ghost use Rattle.mc_script.specs.Sums.{DumpsLast};
@@ -30,9 +30,9 @@ fn play_lines<N: Bench, T: Sink, L: Ledger>(
     requires fuses { IsUnfused (N.bench device) }
     requires fault { writer.old.fault ≡ None }
     ensures plays { CountsFrom (text_by (turns_text writer.old.reporting)) (start (N.state device).words) deck.now
-        (record { device = N.state device; bench = N.bench device }) (sunk_in T.taken T.faults writer.old.out.now)
+        (record { device = N.state device; bench = N.bench device }) (sunk T.Sink writer.old.out.now)
         (write_result writer.new.fault) (record { device = N.state result; bench = N.bench result })
-        (sunk_in T.taken T.faults writer.new.out.now) steps.old steps.new }
+        (sunk T.Sink writer.new.out.now) steps.old steps.new }
     ensures image { IsImage (N.state device).words }
     ensures lines { AllByRecursion (λ l. IsLine l.1) deck.now }
     ensures keeps_device { N.same device result }

@@ -1,8 +1,8 @@
 // Runners, which run the commands of a play, and may record their turns.
-ghost use Rattle.std.specs.Prelude.{◌≡◌, ◌≤◌, ◌++◌, List, [], is_err};
+ghost use Rattle.std.specs.Prelude.{◌≡◌, ◌≤◌, List, [], is_err};
 ghost use Rattle.mc_model_machine.specs.Chain.{Turn as ModelTurn};
 ghost use Rattle.mc_card.specs.Parts.{device_in, card_in, due, IsReadyCard};
-ghost use Rattle.mc_script.specs.Runs.{RanAndReported};
+ghost use Rattle.mc_script.specs.Runs.{RanAndReported, SentCommand, sent_to};
 ghost use Rattle.mc_script.specs.StepCounts.{instructions, command_search, StepsOf};
 ghost use Rattle.mc_card.specs.Ends.{outcome_or_stop};
 
@@ -14,8 +14,8 @@ use std::sync::ledger::Ledger;
 
 /// Runs the commands of a play, and may record their turns.
 pub trait Runner {
-    /// The runner before and after it recorded some turns, in order.
-    ghost reported: { Self → List ModelTurn → Self → Type 0 };
+    /// The runner before and after it recorded some turns of a command, in order: all, or those before a stop.
+    ghost reported: { SentCommand → Self → List ModelTurn → Self → Type 0 };
 
     /// Runs one command on a card, with a budget of 1 to 65,536 instructions, and writes its outcome to
     /// `into`. The turns that are recorded are those of its run; if a write stopped, those before the turn
@@ -36,17 +36,17 @@ pub trait Runner {
         requires ready { IsReadyCard N.state card.old }
         requires some { 1 ≤ budget }
         requires budget { budget ≤ 65536 }
-        ensures done { RanAndReported N.state N.wrote reported card.old (due N.state card.old bytes.now budget)
-            (outcome_or_stop result into.new) card.new self.old self.new }
+        ensures done { RanAndReported N.state N.wrote (reported (sent_to N.state card.old bytes.now budget)) card.old
+            (due N.state card.old bytes.now budget) (outcome_or_stop result into.new) card.new self.old self.new }
         ensures steps { StepsOf (instructions (due N.state card.old bytes.now budget).turns)
             (command_search (card_in N.state card.old) bytes.now) (is_err result) steps.old steps.new }
         ensures keeps_device { N.same (device_in card.old) (device_in card.new) };
 
     /// Without turns nothing is recorded.
-    ghost silent: { (r : Self) → reported r [] r };
+    ghost silent: { (c : SentCommand) (r : Self) → reported c r [] r };
 
-    /// Turns are recorded after those before them.
-    ghost onward: { (q r s : Self) (ts us : List ModelTurn) → reported q ts r → reported r us s → reported q (ts ++ us) s };
+    /// A command without turns may follow one, whatever it is sent to.
+    ghost onward: { (c d : SentCommand) (q r s : Self) → reported c q [] r → reported d r [] s → reported c q [] s };
 }
 
 /// Runs commands, and records nothing of their turns.
@@ -54,11 +54,11 @@ pub trait Runner {
 pub struct Silent;
 
 impl Runner for Silent {
-    ghost reported = { λ q ts r. Unit {0} };
+    ghost reported = { λ c q ts r. Unit {0} };
 
-    ghost silent = { λ r. tt };
+    ghost silent = { λ c r. tt };
 
-    ghost onward = { λ q r s ts us first rest. tt };
+    ghost onward = { λ c d q r s first rest. tt };
 
     fn run<N: Nvm, L: Ledger>(
         &mut self,

@@ -3,7 +3,7 @@ ghost use Rattle.std.specs.Prelude.{◌≡◌, ◌+◌, ◌<◌, ◌≤◌, ◌+
 ghost use Rattle.arrayvec.specs.ArrayVec.{array_vec_len};
 ghost use Rattle.mc_model_play.specs.Play.{LineResult};
 ghost use Rattle.mc_model_play.specs.Generator.{count_line, is_reply, is_abend, is_cut, is_off, is_ready};
-ghost use Rattle.mc_text.specs.Texts.{sunk_in, Puts};
+ghost use Rattle.mc_text.specs.Texts.{sunk, Puts};
 ghost use Rattle.mc_script.specs.Players.{answer_value};
 ghost use Rattle.mc_script.specs.Sums.{Counted, result_list};
 
@@ -158,7 +158,7 @@ fn add_count(line: &mut Line, word: &[u8], count: u64)
 /// Writes the line of the counts.
 pub fn put_counts<T: Sink>(out: &mut T, counts: &Counts) -> Result<(), WriteFault>
     ensures { (rs : List LineResult) → Counted counts.now rs
-        → Puts (sunk_in T.taken T.faults out.old) (count_line rs) result (sunk_in T.taken T.faults out.new) }
+        → Puts (sunk T.Sink out.old) (count_line rs) result (sunk T.Sink out.new) }
 {
     let mut line = ArrayVec::new();
     add_count(&mut line, b"lines ", counts.lines);

@@ -6,7 +6,7 @@ ghost use Rattle.mc_model_play.specs.Play.{start, State, LineResult};
 ghost use Rattle.mc_model_play.specs.ReadyAgain.{IsLine};
 ghost use Rattle.mc_model_play.specs.Generator.{count_line, summary};
 ghost use Rattle.mc_deck.specs.Lines.{line_of};
-ghost use Rattle.mc_text.specs.Texts.{sunk_in, Puts};
+ghost use Rattle.mc_text.specs.Texts.{sunk, Puts};
 ghost use Rattle.mc_script.specs.Players.{device_of, IsPlayerAt, IsPlaying, IsUnfused};
 ghost use Rattle.mc_script.specs.Writers.{write_result};
 ghost use Rattle.mc_script.specs.Lines.{bench_of};
@@ -51,8 +51,8 @@ fn put_dump<N: Bench, T: Sink>(
 ) -> Result<(), WriteFault>
     requires { IsPlaying N.state N.bench player.now }
     ensures { (s : State) → IsPlayerAt N.state N.bench player.now s
-        → Puts (sunk_in T.taken T.faults out.old) (dump_text s (line_of line.now)) result
-        (sunk_in T.taken T.faults out.new) }
+        → Puts (sunk T.Sink out.old) (dump_text s (line_of line.now)) result
+        (sunk T.Sink out.new) }
 {
     let Line::Dump(aid) = line else {
         return Ok(());
@@ -72,7 +72,7 @@ fn put_dumps<N: Bench, T: Sink>(
 ) -> Result<(), WriteFault>
     requires { IsPlaying N.state N.bench player.now }
     ensures { (s : State) → IsPlayerAt N.state N.bench player.now s
-        → Puts (sunk_in T.taken T.faults out.old) (dumps_text s deck.now) result (sunk_in T.taken T.faults out.new) }
+        → Puts (sunk T.Sink out.old) (dumps_text s deck.now) result (sunk T.Sink out.new) }
 {
     for i in 0..deck.len() {
         let (_number, line) = deck.line(i);
@@ -91,8 +91,8 @@ fn put_summary<N: Bench, T: Sink>(
 ) -> Result<(), WriteFault>
     requires { IsPlaying N.state N.bench player.now }
     ensures { (s : State) (rs : List LineResult) → IsPlayerAt N.state N.bench player.now s → Counted counts.now rs
-        → Puts (sunk_in T.taken T.faults out.old) (count_line rs
-        ++ dumps_text s deck.now) result (sunk_in T.taken T.faults out.new) }
+        → Puts (sunk T.Sink out.old) (count_line rs
+        ++ dumps_text s deck.now) result (sunk T.Sink out.new) }
 {
     put_counts(out, counts)?;
     put_dumps(out, text, player, deck)
@@ -108,9 +108,9 @@ pub fn sum_lines<N: Bench, T: Sink, L: Ledger>(
     requires fuses { IsUnfused (N.bench device) }
     requires dumps { DumpsLast deck.now }
     ensures sums { SumsFrom summary (start (N.state device).words) deck.now
-        (record { device = N.state device; bench = N.bench device }) (sunk_in T.taken T.faults writer.old.out.now)
+        (record { device = N.state device; bench = N.bench device }) (sunk T.Sink writer.old.out.now)
         (write_result writer.new.fault) (record { device = N.state result; bench = N.bench result })
-        (sunk_in T.taken T.faults writer.new.out.now) steps.old steps.new }
+        (sunk T.Sink writer.new.out.now) steps.old steps.new }
     ensures image { IsImage (N.state device).words }
     ensures lines { AllByRecursion (λ l. IsLine l.1) deck.now }
     ensures keeps_device { N.same device result }

@@ -11,7 +11,7 @@ ghost use Rattle.mc_machine.specs.Turns.{outcome_value};
 ghost use Rattle.mc_bank.specs.Bank.{app_of};
 ghost use Rattle.mc_card.specs.Parts.{card_in, IsUp};
 ghost use Rattle.mc_script.specs.Players.{answer_value, dump_value, IsPlaying};
-ghost use Rattle.mc_text.specs.Texts.{sunk_in, Puts};
+ghost use Rattle.mc_text.specs.Texts.{sunk, Puts};
 
 use crate::answer::Answer;
 use crate::player::{Player, Power};
@@ -202,9 +202,9 @@ pub fn put_answer<N: Bench, T: Sink>(
     answer: &Option<Answer>,
 ) -> Result<(), WriteFault>
     requires playing { IsPlaying N.state N.bench player.now }
-    ensures { Puts (sunk_in T.taken T.faults out.old)
+    ensures { Puts (sunk T.Sink out.old)
         (line_text number (option_map (answer_value N.state player.now) answer.now)) result
-        (sunk_in T.taken T.faults out.new) }
+        (sunk T.Sink out.new) }
 {
     match answer {
         Some(answer) => {

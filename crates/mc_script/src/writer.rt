@@ -6,7 +6,7 @@ ghost use Rattle.mc_model_play.specs.Transcript.{line_text};
 ghost use Rattle.mc_machine.specs.Turns.{turn_value};
 ghost use Rattle.mc_card.specs.Parts.{device_in, card_in, due, IsReadyCard};
 ghost use Rattle.mc_card.specs.Ends.{outcome_or_stop};
-ghost use Rattle.mc_text.specs.Texts.{sunk_in, Puts};
+ghost use Rattle.mc_text.specs.Texts.{sunk, Puts};
 ghost use Rattle.mc_script.specs.Players.{answer_value, IsPlaying};
 ghost use Rattle.mc_script.specs.Runs.{RanAndReported};
 ghost use Rattle.mc_script.specs.StepCounts.{instructions, command_search, StepsOf};
@@ -64,9 +64,9 @@ impl<'a, T: Sink> Writer<'a, T> {
         requires playing { IsPlaying N.state N.bench player.now }
         ensures reports { (before : Writer T) (ts : List ModelTurn) → before.fault ≡ None
             → WriterKeeps T.taken T.faults before ts self.old
-            → Puts (sunk_in T.taken T.faults before.out.now) (turns_text before.reporting ts
+            → Puts (sunk T.Sink before.out.now) (turns_text before.reporting ts
             ++ line_text number (option_map (answer_value N.state player.now) answer.now)) (write_result self.new.fault)
-            (sunk_in T.taken T.faults self.new.out.now) }
+            (sunk T.Sink self.new.out.now) }
         ensures same { self.new.out.ghost_name ≡ self.old.out.ghost_name }
         ensures reporting { self.new.reporting ≡ self.old.reporting }
     {
@@ -138,11 +138,11 @@ impl<'a, T: Sink> Writer<'a, T> {
 }
 
 impl<'a, T: Sink> Runner for Writer<'a, T> {
-    ghost reported = { WriterKeeps T.taken T.faults };
+    ghost reported = { λ c. WriterKeeps T.taken T.faults };
 
-    ghost silent = { keeps_none T.taken T.faults };
+    ghost silent = { λ c. keeps_none T.taken T.faults };
 
-    ghost onward = { keeps_on T.taken T.faults };
+    ghost onward = { λ c d q r s. keeps_on T.taken T.faults q r s [] [] };
 
     fn run<N: Nvm, L: Ledger>(
         &mut self,

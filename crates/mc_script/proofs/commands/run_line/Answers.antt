@@ -1,11 +1,11 @@
-use Rattle.std.proofs.Common.{subst, sym, ◌∙◌, List, ℕ}
+use Rattle.std.proofs.Common.{subst, sym, ◌∙◌, List, [], ℕ}
 use Rattle.std.specs.Prelude.{is_err}
 use Rattle.mc_model_play.specs.Play.{send, line_command}
 use Rattle.mc_card.specs.Parts.{card_in, session_state_in, due}
 use Rattle.mc_card.specs.Ends.{outcome_or_stop}
 use Rattle.mc_script.specs.declared.commands.CardLine.{CardLine}
 use Rattle.mc_script.specs.Commands.{deck_line_of}
-use Rattle.mc_script.specs.Runs.{RanAndReported}
+use Rattle.mc_script.specs.Runs.{RanAndReported, line_bytes, sent_to}
 use Rattle.mc_script.specs.StepCounts.{instructions, first_search, line_search, StepsOf}
 use Rattle.mc_script.proofs.commands.run_line.Goals as goal
 
@@ -14,8 +14,8 @@ returns-in-Load-clause-done g c =
     let state = g.N.Nvm.state in
     let card = card_in state c.args.card.now in
     let session_state = session_state_in state c.args.card.now in
-    subst (λ (x : CardLine). RanAndReported state g.N.Nvm.wrote g.R.Runner.reported c.args.card.now (line_command card session_state c.args.budget (deck_line_of x)) (outcome_or_stop c.send.result c.send.new.into) c.send.new.card c.args.runner.now c.send.new.runner) (sym c.in-Load.is)
-    (subst (λ (x : List (List ℕ)). RanAndReported state g.N.Nvm.wrote g.R.Runner.reported c.args.card.now (send card session_state c.args.budget x) (outcome_or_stop c.send.result c.send.new.into) c.send.new.card c.args.runner.now c.send.new.runner) c.new-commands.ensures.commands c.send.ensures.done)
+    subst (λ (x : CardLine). RanAndReported state g.N.Nvm.wrote (g.R.Runner.reported (sent_to state c.args.card.now (line_bytes (deck_line_of x)) c.args.budget)) c.args.card.now (line_command card session_state c.args.budget (deck_line_of x)) (outcome_or_stop c.send.result c.send.new.into) c.send.new.card c.args.runner.now c.send.new.runner) (sym c.in-Load.is)
+    (subst (λ (x : List (List ℕ)). RanAndReported state g.N.Nvm.wrote (g.R.Runner.reported (sent_to state c.args.card.now [] c.args.budget)) c.args.card.now (send card session_state c.args.budget x) (outcome_or_stop c.send.result c.send.new.into) c.send.new.card c.args.runner.now c.send.new.runner) c.new-commands.ensures.commands c.send.ensures.done)
 
 pub returns-in-Load-clause-steps : goal.returns-in-Load-clause-steps
 returns-in-Load-clause-steps g c =
@@ -30,21 +30,21 @@ returns-in-Select-clause-done g c =
     let state = g.N.Nvm.state in
     let card = card_in state c.args.card.now in
     let session_state = session_state_in state c.args.card.now in
-    subst (λ (x : CardLine). RanAndReported state g.N.Nvm.wrote g.R.Runner.reported c.args.card.now (line_command card session_state c.args.budget (deck_line_of x)) (outcome_or_stop c.run.result c.run.new.into) c.run.new.card c.args.runner.now c.run.new.self) (sym c.in-Select.is)
-    (subst (λ (b : List ℕ). RanAndReported state g.N.Nvm.wrote g.R.Runner.reported c.args.card.now (due state c.args.card.now b c.args.budget) (outcome_or_stop c.run.result c.run.new.into) c.run.new.card c.args.runner.now c.run.new.self) (c.as_slice.ensures.value ∙ c.with_name.ensures) c.run.ensures.done)
+    subst (λ (x : CardLine). RanAndReported state g.N.Nvm.wrote (g.R.Runner.reported (sent_to state c.args.card.now (line_bytes (deck_line_of x)) c.args.budget)) c.args.card.now (line_command card session_state c.args.budget (deck_line_of x)) (outcome_or_stop c.run.result c.run.new.into) c.run.new.card c.args.runner.now c.run.new.self) (sym c.in-Select.is)
+    (subst (λ (b : List ℕ). RanAndReported state g.N.Nvm.wrote (g.R.Runner.reported (sent_to state c.args.card.now b c.args.budget)) c.args.card.now (due state c.args.card.now b c.args.budget) (outcome_or_stop c.run.result c.run.new.into) c.run.new.card c.args.runner.now c.run.new.self) (c.as_slice.ensures.value ∙ c.with_name.ensures) c.run.ensures.done)
 
 pub returns-in-Delete-clause-done : goal.returns-in-Delete-clause-done
 returns-in-Delete-clause-done g c =
     let state = g.N.Nvm.state in
     let card = card_in state c.args.card.now in
     let session_state = session_state_in state c.args.card.now in
-    subst (λ (x : CardLine). RanAndReported state g.N.Nvm.wrote g.R.Runner.reported c.args.card.now (line_command card session_state c.args.budget (deck_line_of x)) (outcome_or_stop c.run-in-Delete.result c.run-in-Delete.new.into) c.run-in-Delete.new.card c.args.runner.now c.run-in-Delete.new.self) (sym c.in-Delete.is)
-    (subst (λ (b : List ℕ). RanAndReported state g.N.Nvm.wrote g.R.Runner.reported c.args.card.now (due state c.args.card.now b c.args.budget) (outcome_or_stop c.run-in-Delete.result c.run-in-Delete.new.into) c.run-in-Delete.new.card c.args.runner.now c.run-in-Delete.new.self) (c.as_slice-in-Delete.ensures.value ∙ c.with_name-in-Delete.ensures) c.run-in-Delete.ensures.done)
+    subst (λ (x : CardLine). RanAndReported state g.N.Nvm.wrote (g.R.Runner.reported (sent_to state c.args.card.now (line_bytes (deck_line_of x)) c.args.budget)) c.args.card.now (line_command card session_state c.args.budget (deck_line_of x)) (outcome_or_stop c.run-in-Delete.result c.run-in-Delete.new.into) c.run-in-Delete.new.card c.args.runner.now c.run-in-Delete.new.self) (sym c.in-Delete.is)
+    (subst (λ (b : List ℕ). RanAndReported state g.N.Nvm.wrote (g.R.Runner.reported (sent_to state c.args.card.now b c.args.budget)) c.args.card.now (due state c.args.card.now b c.args.budget) (outcome_or_stop c.run-in-Delete.result c.run-in-Delete.new.into) c.run-in-Delete.new.card c.args.runner.now c.run-in-Delete.new.self) (c.as_slice-in-Delete.ensures.value ∙ c.with_name-in-Delete.ensures) c.run-in-Delete.ensures.done)
 
 pub returns-in-Apdu-clause-done : goal.returns-in-Apdu-clause-done
 returns-in-Apdu-clause-done g c =
     let state = g.N.Nvm.state in
     let card = card_in state c.args.card.now in
     let session_state = session_state_in state c.args.card.now in
-    subst (λ (x : CardLine). RanAndReported state g.N.Nvm.wrote g.R.Runner.reported c.args.card.now (line_command card session_state c.args.budget (deck_line_of x)) (outcome_or_stop c.run-in-Apdu.result c.run-in-Apdu.new.into) c.run-in-Apdu.new.card c.args.runner.now c.run-in-Apdu.new.self) (sym c.in-Apdu.is)
+    subst (λ (x : CardLine). RanAndReported state g.N.Nvm.wrote (g.R.Runner.reported (sent_to state c.args.card.now (line_bytes (deck_line_of x)) c.args.budget)) c.args.card.now (line_command card session_state c.args.budget (deck_line_of x)) (outcome_or_stop c.run-in-Apdu.result c.run-in-Apdu.new.into) c.run-in-Apdu.new.card c.args.runner.now c.run-in-Apdu.new.self) (sym c.in-Apdu.is)
     c.run-in-Apdu.ensures.done
