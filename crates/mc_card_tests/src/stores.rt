@@ -13,3 +13,4 @@ mod image;
 mod migrations;
 mod reads;
 mod rule;
+mod searches;
