@@ -1,12 +1,10 @@
 -- The fields of a line, and what is within one line.
-use Rattle.std.proofs.Common.{◌≡◌, ◌≤◌, ◌<◌, ◌-◌, ℕ, zero, suc, List, [], ◌∷◌, ◌++◌, Bool, true, false, cond, not, filter, length, take, Option, Some, None, arith, refl, sym, ap, subst, ◌∙◌}
-use Rattle.std.specs.Prelude.{◌==◌, slice_index, map}
-use Rattle.std.specs.List.{AllByRecursion}
+use Rattle.std.proofs.Common.{◌≡◌, ◌≤◌, ◌<◌, ◌-◌, ℕ, zero, suc, List, [], ◌∷◌, Bool, true, false, cond, not, filter, length, take, Option, Some, None, arith, refl, sym, ap, subst, ◌∙◌}
+use Rattle.std.specs.Prelude.{◌==◌, slice_index}
 use Rattle.mc_model_machine.specs.Text.{before_trimmed, fields, first_cut, halves_with_character, is_blank, is_empty, pieces, pieces_with_character, trim, trim_end, trim_front}
-use Rattle.mc_model_play.specs.Patterns.{without_blanks}
-use Rattle.mc_explore.specs.Matching.{plain, small}
+use Rattle.mc_explore.specs.Matching.{plain}
 use Rattle.mc_explore.specs.Rules.{after_field, without_field}
-use Rattle.mc_text.specs.Reading.{line_cut, next_line, without_return}
+use Rattle.mc_text.specs.Reading.{line_cut, next_line}
 use Rattle.mc_text.proofs.ReadingLemmas.{pieces_at, pieces_cut}
 use Rattle.mc_rules.specs.Fields.{first_field, or_nothing, rest_of, IsOneLine}
 

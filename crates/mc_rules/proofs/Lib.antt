@@ -4,3 +4,6 @@ mod MoveLemmas
 mod OnLemmas
 mod PartLemmas
 mod ReadLemmas
+pub mod CountLemmas
+mod AmountLemmas
+pub mod SpendLemmas

@@ -1,13 +1,12 @@
 -- The fields of a line up to a word, one after the other.
-use Rattle.std.proofs.Common.{◌≡◌, ◌+◌, ◌<◌, ℕ, suc, List, [], ◌∷◌, ◌++◌, Bool, true, false, not, cond, filter, length, Option, Some, None, Result, Ok, Err, append-nil, append_assoc, arith, refl, sym, ap, subst, ◌∙◌}
-use Rattle.std.specs.Prelude.{map, nat_eq, option_map}
+use Rattle.std.proofs.Common.{◌≡◌, ℕ, List, [], ◌∷◌, ◌++◌, Bool, true, false, not, length, Option, Some, None, Ok, Err, append-nil, append_assoc, arith, refl, sym, ap, subst, ◌∙◌}
+use Rattle.std.specs.Prelude.{nat_eq}
 use Rattle.mc_model_device.specs.Bytes.{lookup}
 use Rattle.mc_model_machine.specs.Text.{fields, is_blank, is_empty, only_if}
-use Rattle.mc_model_play.specs.declared.deck.DeckCause.{DeckCause}
 use Rattle.mc_model_play.specs.declared.deck.DeckCause.TheVariants.{BadLine}
 use Rattle.mc_explore.specs.Matching.{plain, small}
 use Rattle.mc_explore.specs.Rules.{full_parts, parts_at, parts_of, with_front, Parts}
-use Rattle.mc_rules.specs.Parts.{AreFullParts, IsParts}
+use Rattle.mc_rules.specs.Parts.{AreFullParts}
 
 -- ---- plain texts
 

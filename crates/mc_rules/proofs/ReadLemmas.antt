@@ -1,5 +1,5 @@
 -- The lines of a text, read rule by rule.
-use Rattle.std.proofs.Common.{◌≡◌, ◌+◌, ◌≤◌, ◌<◌, ℕ, suc, List, [], ◌∷◌, ◌++◌, Bool, true, false, cond, length, Option, Some, None, Result, Ok, Err, arith, add-one, refl, sym, ap, subst, ◌∙◌}
+use Rattle.std.proofs.Common.{◌≡◌, ◌+◌, ◌≤◌, ◌<◌, ℕ, suc, List, [], ◌∷◌, ◌++◌, Bool, true, false, cond, length, Some, None, Result, Ok, Err, arith, add-one, refl, sym, ap, subst, ◌∙◌}
 use Rattle.std.specs.Prelude.{◌==◌, bytes_eq, codes, ok_or}
 use Rattle.mc_model_device.specs.Bytes.{lookup}
 use Rattle.mc_model_machine.specs.Text.{◌>>=◌, err_as, fields, lines, ok_as, trim, with_numbers}

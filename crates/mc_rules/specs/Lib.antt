@@ -1,5 +1,6 @@
 pub mod Fields
 pub mod Meanings
 pub mod Moves
+pub mod Occasions
 pub mod Parts
 pub mod Walks

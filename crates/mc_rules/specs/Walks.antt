@@ -1,5 +1,5 @@
 -- The end of a walk of a pattern along a text.
-use Rattle.std.specs.Prelude.{◌≡◌, ◌+◌, ◌<◌, ◌≤◌, List, ℕ, length, true, false}
+use Rattle.std.specs.Prelude.{◌≡◌, ◌+◌, ◌<◌, List, ℕ, length, true, false}
 use Rattle.mc_rules.specs.declared.pattern.Walk.{Walk}
 use Rattle.mc_rules.specs.declared.pattern.Walk.TheVariants as walk
 use Rattle.mc_explore.specs.Matching.{matches, some_rest}

@@ -6,13 +6,15 @@
 mod fault;
 mod field;
 mod growth;
+mod laws;
 mod occasions;
 mod parts;
 mod pattern;
 mod reading;
 mod rules;
 
-pub use occasions::{TurnCounter, apply_all, count, has_turns};
+pub use laws::counts_are_times;
+pub use occasions::{applications, apply_all, count, count_turn, has_turns};
 pub use pattern::{fits, plain, plain_into};
 pub use reading::{Exploration, read_exploration};
 pub use rules::{Allowance, Effect, Move, Occasion, OnRule, Rules};
