@@ -4,6 +4,7 @@
 
 mod branch;
 mod growth;
+mod places;
 mod resident;
 mod roster;
 mod section;

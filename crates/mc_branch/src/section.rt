@@ -56,7 +56,7 @@ impl Section {
             let (piece, behind) = rest.split_at(count);
             let mut padded = [0; 8];
             padded[..count].copy_from_slice(piece);
-            device.set(word, padded);
+            device.set((word % 65536) as u16, padded);
             rest = behind;
             word = word.saturating_add(1);
         }

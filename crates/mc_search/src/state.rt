@@ -63,7 +63,7 @@ impl Rosters {
         device.return_to_root();
         if let Some(image) = self.images.get(state.roster) {
             for (place, word) in image {
-                device.set(*place as u32, *word);
+                device.set(*place, *word);
             }
         }
         if let Some(roster) = self.rosters.get_index(state.roster) {

@@ -2,15 +2,16 @@
 ghost use Rattle.mc_script.specs.Players.{IsPlaying};
 
 use crate::journey::Manner;
-use crate::playing::{Budget, play, play_reported};
+use crate::playing::{Budget, play};
 use crate::session::{Session, Shown};
 use crate::state::{CardState, Rosters};
 use mc_base::{NoMemory, Steps};
 use mc_branch::{BranchNvm, Roster};
+use mc_counter::play_counted;
 use mc_deck::Line;
 use mc_nvm::Bench;
-use mc_rules::{Move, Occasion, OnRule, TurnCounter, apply_all, count, has_turns, plain_into};
-use mc_script::{Answer, Player, Reporting, Text, Writer, add_result};
+use mc_rules::{Move, Occasion, OnRule, apply_all, count, plain_into};
+use mc_script::{Answer, Player, Text, add_result};
 use std::alloc::Global;
 use std::sync::ledger::Ledger;
 
@@ -21,7 +22,7 @@ pub struct Laboratory {
     pub budget: Budget,
     pub text: Text,
     pub plain: Text,
-    pub counts: Vec<u32>,
+    pub counts: Vec<u64>,
 }
 
 /// A move of a deck, and for each `on` line whether it applies to the move.
@@ -103,24 +104,21 @@ fn recover<N: Bench, L: Ledger>(player: &mut Player<N>, hit: bool, steps: &mut S
 fn play_move<N: Bench, L: Ledger>(
     player: &mut Player<N>,
     candidate: &Candidate<'_>,
-    counts: &mut [u32],
+    counts: &mut [u64],
     steps: &mut Steps<L>,
 ) -> Option<Answer>
     requires { IsPlaying N.state N.bench player.old }
     ensures playing { IsPlaying N.state N.bench player.new }
 {
     let line = candidate.chosen.line();
-    if !has_turns(candidate.ons, candidate.applies) {
-        return play(player, &line, steps);
-    }
-    let mut counter = TurnCounter {
-        ons: candidate.ons,
-        applies: candidate.applies,
+    play_counted(
+        player,
+        &line,
+        candidate.ons,
+        candidate.applies,
         counts,
-        calls: 0,
-    };
-    let mut writer = Writer::new(&mut counter, Reporting::Turns);
-    play_reported(player, &line, &mut writer, steps)
+        steps,
+    )
 }
 
 impl Laboratory {

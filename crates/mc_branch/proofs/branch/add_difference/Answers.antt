@@ -1,0 +1,13 @@
+use Rattle.std.proofs.Common.{◌≡◌, List, ℕ, Result, Ok, Err, sym, subst, ◌++◌, ◌∷◌, []}
+use Rattle.std.specs.Prelude.{OnOk}
+use Rattle.mc_base.specs.declared.refusals.NoMemory.{NoMemory}
+use Rattle.mc_model_device.specs.Image.{image_with}
+use Rattle.mc_branch.specs.Branches.{HasOneMore}
+use Rattle.mc_branch.proofs.BranchLemmas.{one_laid, on_ok}
+use Rattle.mc_branch.proofs.branch.add_difference.Goals as goal
+
+pub returns : goal.returns
+returns c =
+    on_ok c.push.result (λ is.
+    subst (λ (ds : List (ℕ × List ℕ)). HasOneMore c.args.device.now.words c.args.place (image_with c.args.root.now c.args.differences.now.items) (image_with c.args.root.now ds)) (sym is)
+    (one_laid c.args.device.now.words c.args.root.now c.args.differences.now.items c.args.place c.read-word.result c.requires.len c.read-word.ensures)) c.push.ensures
