@@ -1,6 +1,6 @@
 -- Declarations, by their words and their fields.
-use Rattle.std.proofs.Common.{◌≡◌, ℕ, Bool, true, false, cond, List, [], ◌∷◌, take, Option, Some, None, refl, sym, ap, subst, ◌∙◌}
-use Rattle.std.specs.Prelude.{option_map, ⊤}
+use Rattle.std.proofs.Common.{◌≡◌, ℕ, Bool, true, false, cond, List, [], ◌∷◌, take, Option, Some, None, refl, subst, ◌∙◌}
+use Rattle.std.specs.Prelude.{option_map}
 use Rattle.mc_model_device.specs.Bytes.{lookup}
 use Rattle.mc_desk.specs.Declarations.{DeclarationWord, StaticWord, SessionWord, PublicWord, ConstWord, Scope, declaration_of, declaration_text, declaration_words, gives, is_labelled, scope_after}
 use Rattle.mc_desk.specs.declared.declaration.Declaration.{Declaration}

@@ -1,16 +1,14 @@
 -- Drafts line by line: sections that open and end, lines that are taken or refused, and the whole draft.
-use Rattle.std.proofs.Common.{◌≡◌, ℕ, zero, suc, ◌+◌, ◌-◌, ◌<◌, Bool, true, false, cond, List, [], ◌∷◌, ◌++◌, length, take, drop, Bor, Option, Some, None, Result, Ok, Err, refl, sym, ap, subst, ◌∙◌, append_assoc, append-nil, arith}
-use Rattle.std.specs.Prelude.{bytes_eq, codes, map, option_map, unwrap_or, ⊤, ◌==◌}
+use Rattle.std.proofs.Common.{◌≡◌, ℕ, ◌+◌, ◌-◌, Bool, true, false, cond, List, [], ◌∷◌, ◌++◌, take, Bor, Option, Some, None, Result, Ok, Err, refl, sym, ap, subst, ◌∙◌, append_assoc, append-nil}
+use Rattle.std.specs.Prelude.{bytes_eq, codes, map, unwrap_or, ◌==◌}
 use Rattle.std.specs.BTreeMap.{BTreeMap}
-use Rattle.mc_model_machine.specs.Text.{◌>>=◌, ok_as, err_as, only_if, fields, with_numbers}
-use Rattle.mc_model_play.specs.DeckGrammar.{is_data, is_end}
+use Rattle.mc_model_machine.specs.Text.{◌>>=◌, ok_as, err_as, only_if, fields}
+use Rattle.mc_model_play.specs.DeckGrammar.{is_data}
 use Rattle.mc_model_play.specs.declared.deck.DeckCause.{DeckCause}
 use Rattle.mc_model_play.specs.declared.deck.DeckCause.TheVariants.{BadLine}
 use Rattle.mc_deck.specs.declared.refusal.Fault.{Fault}
 use Rattle.mc_deck.specs.declared.refusal.Fault.TheVariants as fault
-use Rattle.mc_deck.specs.declared.refusal.DeckRefusal.{DeckRefusal}
-use Rattle.mc_deck.specs.declared.refusal.DeckRefusal.TheVariants as refusal
-use Rattle.mc_deck.specs.Refused.{Faulty, DeckRefuses}
+use Rattle.mc_deck.specs.Refused.{Faulty}
 use Rattle.mc_desk.specs.Declarations
 use Rattle.mc_desk.specs.Declarations.{DeclarationWord, NameMeaning, data_count, data_scope, declaration_in, declaration_text, gives_later, scope_after}
 use Rattle.mc_desk.specs.Operands.{instruction_text}
@@ -22,7 +20,7 @@ use Rattle.mc_desk.specs.declared.declaration.Declaration.{Declaration}
 use Rattle.mc_desk.specs.declared.draft.OpenSection.{OpenSection}
 use Rattle.mc_desk.specs.declared.scope.Scope.{Scope}
 use Rattle.mc_desk.specs.declared.statement.Sizes.{Sizes}
-use Rattle.mc_desk.specs.Views.{AreNames, AreSections, Declares, DeclaresMaybe, EndedLineTurned, LineTurned, OpensSection, Pushes, ScopeTurned, Stands, StandsMode, StandsSection, TakesScope, loadable_of, scope_by, scope_of, text_by}
+use Rattle.mc_desk.specs.Views.{AreNames, AreSections, Declares, DeclaresMaybe, EndedLineTurned, LineTurned, OpensSection, Pushes, ScopeTurned, Stands, StandsMode, StandsSection, TakesScope, scope_by, scope_of, text_by}
 
 abbrev Names : Type 0
 Names = List (List ℕ × NameMeaning)
@@ -232,9 +230,13 @@ mode_within m b s h = within_by b.mode h.mode
 
 -- ---- all lines
 
--- the deck so far with that of the lines that are left, or the refusal of one of these
-abbrev pub left_deck : List ℕ → Before → List (ℕ × EndedLine) → Result (List ℕ) (ℕ × DeckCause)
-left_deck so b ls = ok_as (λ d. so ++ d.deck) (draft_of_lines b ls)
+-- a draft after a deck
+abbrev pub with_front : List ℕ → Draft → Draft
+with_front so d = record d { deck = so ++ d.deck }
+
+-- the draft of the deck so far and the lines that are left, or the refusal of one of these
+abbrev pub left_draft : List ℕ → Before → List (ℕ × EndedLine) → Result Draft (ℕ × DeckCause)
+left_draft so b ls = ok_as (with_front so) (draft_of_lines b ls)
 
 lines_step : (b : Before) (l : ℕ × EndedLine) (ls : List (ℕ × EndedLine))
     → draft_of_lines b (l ∷ ls) ≡ (err_as (λ c. (l.0, c)) (draft_turn b.mode b l.0 (l.1).text (gives_later (map (λ m. (m.1).text) ls))) >>= λ t. ok_as (with_line t.text (l.1).ending) (draft_of_lines t.before ls))
@@ -245,28 +247,28 @@ lines_end : (b : Before) → draft_of_lines b [] ≡ Ok (record { deck = []; sec
 unfolding draft_of_lines
 lines_end b = refl
 
-deck_after : (so text ending : List ℕ) (r : Result Draft (ℕ × DeckCause)) → ok_as (λ d. (so ++ text ++ ending) ++ d.deck) r ≡ ok_as (λ d. so ++ d.deck) (ok_as (with_line text ending) r)
+deck_after : (so text ending : List ℕ) (r : Result Draft (ℕ × DeckCause)) → ok_as (with_front (so ++ text ++ ending)) r ≡ ok_as (with_front so) (ok_as (with_line text ending) r)
 deck_after so text ending (Ok d) =
-    ap Ok (append_assoc (so ++ text) ending d.deck ∙ append_assoc so text (ending ++ d.deck) ∙ ap (λ x. so ++ x) (sym (append_assoc text ending d.deck)))
+    ap (λ x. Ok (record d { deck = x })) (append_assoc (so ++ text) ending d.deck ∙ append_assoc so text (ending ++ d.deck) ∙ ap (λ x. so ++ x) (sym (append_assoc text ending d.deck)))
 deck_after so text ending (Err e) = refl
 
 -- one more line
-pub line_taken : (so new : List ℕ) (b : Before) (n : ℕ) (l : EndedLine) (later : Bool) (ls : List (ℕ × EndedLine)) (t : DraftTurn) (whole : Result (List ℕ) (ℕ × DeckCause)) → later ≡ gives_later (map (λ m. (m.1).text) ls)
-    → draft_turn b.mode b n l.text later ≡ Ok t → new ≡ so ++ t.text ++ l.ending → left_deck so b ((n, l) ∷ ls) ≡ whole → left_deck new t.before ls ≡ whole
+pub line_taken : (so new : List ℕ) (b : Before) (n : ℕ) (l : EndedLine) (later : Bool) (ls : List (ℕ × EndedLine)) (t : DraftTurn) (whole : Result Draft (ℕ × DeckCause)) → later ≡ gives_later (map (λ m. (m.1).text) ls)
+    → draft_turn b.mode b n l.text later ≡ Ok t → new ≡ so ++ t.text ++ l.ending → left_draft so b ((n, l) ∷ ls) ≡ whole → left_draft new t.before ls ≡ whole
 line_taken so new b n l later ls t whole f h e w =
     let i : draft_turn b.mode b n l.text (gives_later (map (λ m. (m.1).text) ls)) ≡ Ok t = ap (draft_turn b.mode b n l.text) (sym f) ∙ h in
-    ap (λ x. left_deck x t.before ls) e
+    ap (λ x. left_draft x t.before ls) e
     ∙ deck_after so t.text l.ending (draft_of_lines t.before ls)
-    ∙ ap (ok_as (λ d. so ++ d.deck)) (sym (lines_step b (n, l) ls ∙ ap (λ r. err_as (λ c. (n, c)) r >>= λ (t : DraftTurn). ok_as (with_line t.text l.ending) (draft_of_lines t.before ls)) i))
+    ∙ ap (ok_as (with_front so)) (sym (lines_step b (n, l) ls ∙ ap (λ r. err_as (λ c. (n, c)) r >>= λ (t : DraftTurn). ok_as (with_line t.text l.ending) (draft_of_lines t.before ls)) i))
     ∙ w
 
 -- a line that is refused
-pub line_refused : (so : List ℕ) (b : Before) (n : ℕ) (l : EndedLine) (later : Bool) (ls : List (ℕ × EndedLine)) (c : DeckCause) (whole : Result (List ℕ) (ℕ × DeckCause)) → later ≡ gives_later (map (λ m. (m.1).text) ls)
-    → draft_turn b.mode b n l.text later ≡ Err c → left_deck so b ((n, l) ∷ ls) ≡ whole → whole ≡ Err (n, c)
+pub line_refused : (so : List ℕ) (b : Before) (n : ℕ) (l : EndedLine) (later : Bool) (ls : List (ℕ × EndedLine)) (c : DeckCause) (whole : Result Draft (ℕ × DeckCause)) → later ≡ gives_later (map (λ m. (m.1).text) ls)
+    → draft_turn b.mode b n l.text later ≡ Err c → left_draft so b ((n, l) ∷ ls) ≡ whole → whole ≡ Err (n, c)
 line_refused so b n l later ls c whole f h w =
     let i : draft_turn b.mode b n l.text (gives_later (map (λ m. (m.1).text) ls)) ≡ Err c = ap (draft_turn b.mode b n l.text) (sym f) ∙ h in
-    sym w ∙ ap (ok_as (λ d. so ++ d.deck)) (lines_step b (n, l) ls ∙ ap (λ r. err_as (λ c. (n, c)) r >>= λ (t : DraftTurn). ok_as (with_line t.text l.ending) (draft_of_lines t.before ls)) i)
+    sym w ∙ ap (ok_as (with_front so)) (lines_step b (n, l) ls ∙ ap (λ r. err_as (λ c. (n, c)) r >>= λ (t : DraftTurn). ok_as (with_line t.text l.ending) (draft_of_lines t.before ls)) i)
 
 -- the end of the draft
-pub lines_done : (so : List ℕ) (b : Before) (whole : Result (List ℕ) (ℕ × DeckCause)) → left_deck so b [] ≡ whole → whole ≡ Ok so
-lines_done so b whole w = sym w ∙ ap (ok_as (λ d. so ++ d.deck)) (lines_end b) ∙ ap Ok (append-nil so)
+pub lines_done : (so : List ℕ) (b : Before) (whole : Result Draft (ℕ × DeckCause)) → left_draft so b [] ≡ whole → whole ≡ Ok (record { deck = so; sections = b.sections })
+lines_done so b whole w = sym w ∙ ap (ok_as (with_front so)) (lines_end b) ∙ ap (λ x. Ok (record { deck = x; sections = b.sections })) (append-nil so)

@@ -1,19 +1,18 @@
 -- Parts of a text without a line feed, and what a line of a draft becomes, have none either.
-use Rattle.std.proofs.Common.{◌≡◌, ℕ, zero, suc, ◌-◌, Bool, true, false, cond, ◌&&◌, not, List, [], ◌∷◌, ◌++◌, length, take, drop, Option, Some, None, Result, Ok, Err, refl, sym, ap, subst, ◌∙◌, arith}
-use Rattle.std.specs.Prelude.{ℤ, pos, negsuc, ◌+ℤ◌, nat_lt, nat_le, ◌==◌, bytes_eq, codes, decimal, filter, map, ok_or, option_map, slice_index, slice_index_or, ⊤}
+use Rattle.std.proofs.Common.{◌≡◌, ℕ, zero, suc, ◌-◌, Bool, true, false, cond, ◌&&◌, not, List, [], ◌∷◌, ◌++◌, length, take, drop, Option, Some, None, Result, Ok, Err, refl, subst}
+use Rattle.std.specs.Prelude.{ℤ, pos, negsuc, ◌+ℤ◌, nat_lt, nat_le, ◌==◌, bytes_eq, codes, decimal, filter, ok_or, slice_index, slice_index_or, ⊤}
 use Rattle.std.specs.Fmt.{signed_decimal}
 use Rattle.std.specs.List.{AllByRecursion}
 use Rattle.std.proofs.lemmas.Bool.{and_from, and_parts}
-use Rattle.mc_model_device.specs.Bytes.{has_name, lookup, zeros}
+use Rattle.mc_model_device.specs.Bytes.{has_name, lookup}
 use Rattle.mc_model_machine.specs.Text.{◌>>=◌, ok_as, only_if, before_trimmed, decimal_number, every, fields, first_cut, halves_with_character, hex_bytes, is_blank, is_empty, pieces, pieces_with_character, trim, trim_end, trim_front}
 use Rattle.mc_model_machine.specs.Listing.{address_text, hex_text, register_name, register_names}
 use Rattle.mc_model_play.specs.declared.deck.DeckCause.{DeckCause}
-use Rattle.mc_model_play.specs.declared.deck.DeckCause.TheVariants.{BadHex, OutOfRange, UnknownName}
+use Rattle.mc_model_play.specs.declared.deck.DeckCause.TheVariants.{OutOfRange, UnknownName}
 use Rattle.mc_family.proofs.FlatTexts.{unfed, Flat, flat_append, flat_decimal, flat_hex}
 use Rattle.mc_desk.specs.Parts.{part_in, part_of, with_core, before_rest, first_word, after_word, without_comment}
 use Rattle.mc_desk.specs.Declarations.{NameMeaning, Bytes, Number}
 use Rattle.mc_desk.specs.Operands.{after_text, body_text, bytes_text, instruction_text, jump_words, labelled_text, later_text, named_text, operand_by_parts, operand_text, operands_text, piece_text, pieces_text, plain_operand, shifted_text, size_text, sized_words}
-use Rattle.mc_desk.specs.Statements
 use Rattle.mc_desk.specs.Statements.{Loadable, after_open, aid_or_name, aid_text, command_field, command_text, counted_hex, field_by, is_aid, load_text, naming_words, one_field_text, only_of, only_text, plain_hex, stated_text, statement_text, text_in_brackets}
 
 -- ---- parts of a text

@@ -3,8 +3,13 @@ pub mod DeclarationLemmas
 pub mod ScopeLemmas
 pub mod LineLemmas
 pub mod DraftLemmas
+pub mod WrittenLemmas
 pub mod ReadLemmas
+pub mod SizeLemmas
 pub mod SourceLemmas
+pub mod CodeLemmas
+pub mod DeskLemmas
+pub mod LoadLemmas
 pub mod FlatLemmas
 pub mod StayLemmas
 pub mod SectionLemmas

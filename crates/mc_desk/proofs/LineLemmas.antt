@@ -1,9 +1,8 @@
 -- Lines of a draft: what ends them, their numbers, and whether a STATIC line after them gives bytes.
-use Rattle.std.proofs.Common.{◌≡◌, ℕ, zero, suc, ◌+◌, ◌-◌, ◌<◌, ◌≤◌, Bool, true, false, cond, List, [], ◌∷◌, ◌++◌, length, get_or, take, drop, set, Option, Some, None, refl, sym, ap, subst, ◌∙◌, append_assoc, arith}
-use Rattle.std.specs.Prelude.{map, not, option_map, slice_get, slice_index, ◌==◌, ◌&&◌, ◌||◌}
-use Rattle.mc_model_machine.specs.Text.{fields, first_cut, pieces, with_numbers}
+use Rattle.std.proofs.Common.{◌≡◌, ℕ, zero, suc, ◌+◌, ◌-◌, ◌<◌, Bool, List, [], ◌∷◌, ◌++◌, length, get_or, drop, set, Option, Some, None, refl, sym, ap, ◌∙◌, append_assoc, arith}
+use Rattle.std.specs.Prelude.{map, not, slice_get, slice_index, ◌==◌, ◌&&◌, ◌||◌}
+use Rattle.mc_model_machine.specs.Text.{fields, first_cut, with_numbers}
 use Rattle.mc_model_play.specs.DeckGrammar.{is_end}
-use Rattle.mc_text.specs.Reading.{without_return}
 use Rattle.mc_text.proofs.ReadingLemmas.{pieces_at, pieces_cut}
 use Rattle.mc_desk.specs.Parts.{EndedLine, ended_lines, ended_pieces, fed_line}
 use Rattle.mc_desk.specs.Declarations.{declaration_in, gives, gives_later}

@@ -1,22 +1,20 @@
 -- What a section declares: names, sizes, places and numbers, and the section after a declaration.
-use Rattle.std.proofs.Common.{◌≡◌, ℕ, zero, suc, ◌+◌, ◌-◌, ◌*◌, ◌<◌, ◌≤◌, Bool, true, false, cond, List, [], ◌∷◌, length, take, drop, Option, Some, None, Result, Ok, Err, refl, sym, ap, subst, ◌∙◌, arith}
-use Rattle.std.specs.Prelude.{pos, negsuc, nat_le, nat_lt, is_none, not, ok_or, option_map, unwrap_or, ◌==◌, ◌&&◌}
+use Rattle.std.proofs.Common.{◌≡◌, ℕ, zero, suc, ◌+◌, ◌-◌, ◌<◌, ◌≤◌, Bool, true, false, List, ◌∷◌, length, Option, Some, None, Result, Ok, Err, refl, sym, ap, subst, ◌∙◌, arith}
+use Rattle.std.specs.Prelude.{pos, nat_le, is_none, ok_or, option_map, unwrap_or, ◌==◌}
 use Rattle.mc_model_device.specs.Bytes.{has_name, lookup}
 use Rattle.mc_model_machine.specs.Text.{◌>>=◌, ok_as, only_if, begins, decimal_number, hex_bytes}
 use Rattle.mc_model_machine.specs.Listing.{condition_names, register_names}
-use Rattle.mc_model_machine.specs.Assembly.{is_label, minus, natural, signed_number}
+use Rattle.mc_model_machine.specs.Assembly.{is_label, minus, natural}
 use Rattle.mc_model_play.specs.DeckGrammar.{number_field}
 use Rattle.mc_model_play.specs.declared.deck.DeckCause.{DeckCause}
 use Rattle.mc_model_play.specs.declared.deck.DeckCause.TheVariants.{BadHex, BadLine, BadName, BadNumber, NameTwice, OutOfRange}
 use Rattle.mc_text.specs.Reading.{capped_number}
-use Rattle.mc_text.proofs.ReadingLemmas.{capped_bound}
 use Rattle.mc_deck.specs.declared.refusal.Fault.{Fault}
 use Rattle.mc_deck.specs.declared.refusal.Fault.TheVariants as fault
 use Rattle.mc_deck.specs.Refused.{Faulty}
 use Rattle.mc_desk.specs.Declarations.{Bytes, NameMeaning, Number, Scope, const_scope, constant, data_count, data_scope, decimal_field, fits_word, is_size_of, label_name, most_public, most_session, most_static, optional_hex, public_scope, public_span, session_scope, static_count, static_scope, with_name}
-use Rattle.mc_desk.specs.declared.meaning.Meaning.{Meaning}
 use Rattle.mc_desk.specs.declared.scope.Scope.{Scope as CodeScope}
-use Rattle.mc_desk.specs.Views.{AreNames, TakesScope, is_count_of, meaning_of, only_within, scope_of}
+use Rattle.mc_desk.specs.Views.{AreNames, TakesScope, is_count_of, only_within, scope_of}
 
 -- ---- names
 

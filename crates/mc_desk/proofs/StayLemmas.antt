@@ -1,21 +1,20 @@
 -- A draft and its deck have as many lines.
-use Rattle.std.proofs.Common.{◌≡◌, ℕ, zero, suc, ◌+◌, ◌-◌, Bool, true, false, cond, ◌&&◌, not, List, [], ◌∷◌, ◌++◌, length, take, drop, Option, Some, None, Result, Ok, Err, refl, sym, ap, subst, ◌∙◌, arith, append_assoc, append-nil}
-use Rattle.std.specs.Prelude.{pos, nat_lt, nat_le, ◌==◌, bytes_eq, codes, is_none, map, ok_or, option_map, slice_index, unwrap_or, ⊤}
-use Rattle.std.specs.List.{AllByRecursion}
+use Rattle.std.proofs.Common.{◌≡◌, ℕ, suc, ◌+◌, ◌-◌, Bool, true, false, cond, List, [], ◌∷◌, ◌++◌, length, take, drop, Option, Some, None, Result, Ok, Err, refl, sym, ap, subst, ◌∙◌, append_assoc, append-nil}
+use Rattle.std.specs.Prelude.{pos, ◌==◌, bytes_eq, codes, is_none, map, ok_or, option_map, slice_index, unwrap_or, ⊤}
 use Rattle.mc_model_device.specs.Bytes.{lookup, zeros}
-use Rattle.mc_model_machine.specs.Text.{◌>>=◌, ok_as, err_as, only_if, every, fields, first_cut, pieces, pieces_with_character, with_numbers}
+use Rattle.mc_model_machine.specs.Text.{◌>>=◌, ok_as, err_as, only_if, fields, pieces, pieces_with_character, with_numbers}
 use Rattle.mc_model_machine.specs.Assembly.{signed_number}
 use Rattle.mc_model_machine.specs.Listing.{hex_text}
 use Rattle.mc_model_play.specs.DeckGrammar.{is_data, is_end, number_field}
 use Rattle.mc_model_play.specs.declared.deck.DeckCause.{DeckCause}
 use Rattle.mc_model_play.specs.declared.deck.DeckCause.TheVariants.{BadLine, BadNumber, NameTwice, OutOfRange}
 use Rattle.mc_text.specs.Reading.{without_return}
-use Rattle.mc_family.proofs.FlatTexts.{unfed, Flat, flat_append, flat_hex}
+use Rattle.mc_family.proofs.FlatTexts.{Flat, flat_append, flat_hex}
 use Rattle.mc_asm.proofs.CleanLemmas.{pieces_none, pieces_there}
-use Rattle.mc_desk.specs.Parts.{EndedLine, ended_lines, ended_pieces, fed_line, without_comment}
+use Rattle.mc_desk.specs.Parts.{EndedLine, ended_lines, ended_pieces, without_comment}
 use Rattle.mc_desk.specs.Declarations.{Bytes, NameMeaning, Number, Scope, fits_word, DeclarationWord, StaticWord, SessionWord, PublicWord, ConstWord, const_scope, constant, data_count, data_scope, declaration_in, declaration_of, declaration_text, declaration_words, empty_scope, gives_later, header_names, is_labelled, label_name, most_session, public_scope, public_span, scope_after, session_scope, static_count, static_scope, with_name}
 use Rattle.mc_desk.specs.Operands.{instruction_text}
-use Rattle.mc_desk.specs.Statements.{Loadable, statement_text}
+use Rattle.mc_desk.specs.Statements.{statement_text}
 use Rattle.mc_desk.specs.Drafts.{Before, Between, Draft, DraftTurn, Mode, OpenSection, ScopeTurn, Section, Within, by_name, closed_section, coded_turn, deck_of, draft_of_lines, draft_read, draft_turn, kept_line, new_section, nothing_before, opening_line, scope_turn, section_line, with_line}
 use Rattle.mc_desk.proofs.FlatLemmas.{AllFlat, FlatAids, FlatNames, FlatMeaning, FlatOk, flat_drop, flat_fields, flat_instruction, flat_statement, flat_take, flat_uncommented}
 

@@ -9,6 +9,9 @@ pub mod FullTurns
 pub mod Traces
 pub mod Coverage
 pub mod Views
+pub mod Written
+pub mod Sources
+pub mod Loads
 pub mod Laws
 pub mod PurseDraft
 pub mod Computed

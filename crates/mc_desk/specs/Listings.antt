@@ -1,11 +1,11 @@
 -- The code of the sections of a draft line by line, and the listing of a draft.
-use Rattle.std.specs.Prelude.{ℕ, ◌+◌, cond, not, ◌&&◌, nat_lt, nat_le, ◌==◌, List, [], ◌∷◌, ◌++◌, map, filter, flat_map, length, codes, decimal, Option, Some, None, Result, Ok, Err}
+use Rattle.std.specs.Prelude.{ℕ, ◌+◌, Bool, cond, not, ◌&&◌, nat_lt, nat_le, List, [], ◌∷◌, ◌++◌, map, filter, flat_map, length, codes, decimal, Option, Some, None, Result, Ok, Err}
 use Rattle.mc_model_device.specs.Bytes.{bytes2}
 use Rattle.mc_model_machine.specs.declared.assembler.AsmCause.{AsmCause}
-use Rattle.mc_model_machine.specs.Text.{◌>>=◌, ok_as, is_empty, trim}
+use Rattle.mc_model_machine.specs.Text.{◌>>=◌, ok_as, fields, is_empty, trim}
 use Rattle.mc_model_machine.specs.Listing.{hex_text}
 use Rattle.mc_model_machine.specs.Assembly.{Laid, Placed, laid_lines, joined_code, bytes_of_item}
-use Rattle.mc_model_play.specs.DeckGrammar.{DeckLine, section_program, deck_read}
+use Rattle.mc_model_play.specs.DeckGrammar.{DeckLine, is_data, section_program, deck_read}
 use Rattle.mc_model_play.specs.declared.deck.DeckCause.{DeckCause}
 use Rattle.mc_desk.specs.Parts.{without_comment}
 use Rattle.mc_desk.specs.Statements.{Loadable}
@@ -34,22 +34,28 @@ abbrev pub value_or_nothing : {A E : Type 0} → Result (List A) E → List A
 value_or_nothing (Ok a) = a
 value_or_nothing (Err e) = []
 
--- the text of the line with a number, without its comment and without blanks at both ends
-abbrev pub source_text : List SourceLine → ℕ → List ℕ
-source_text [] n = []
-source_text (l ∷ ls) n = cond (l.number == n) (trim (without_comment l.draft)) (source_text ls n)
+-- the lines of a section that go to the assembler
+abbrev pub program_lines : List SourceLine → List SourceLine
+program_lines ls = filter (λ l. not (is_data (fields l.deck))) ls
 
--- a line in its place with its code
-abbrev pub code_line : List (List ℕ × ℕ) → List SourceLine → Placed → CodeLine
-code_line labels ls p = record { number = p.number; place = p.place; bytes = value_or_nothing (bytes_of_item labels p.place p.item); text = source_text ls p.number }
+-- those lines as the assembler reads them, as the deck has them
+abbrev pub program_of : Section → List (ℕ × List ℕ)
+program_of s = section_program (map (λ l. (l.number, l.deck)) s.lines)
+
+-- a line in its place with its code, and its text without its comment and without blanks at both ends
+abbrev pub code_line : List (List ℕ × ℕ) → SourceLine → Placed → CodeLine
+code_line labels l p =
+    record { number = l.number; place = p.place; bytes = value_or_nothing (bytes_of_item labels p.place p.item); text = trim (without_comment l.draft) }
+
+-- lines in their places with their code
+abbrev pub lines_in_place : List (List ℕ × ℕ) → List SourceLine → List Placed → List CodeLine
+lines_in_place labels [] ps = []
+lines_in_place labels (l ∷ ls) [] = []
+lines_in_place labels (l ∷ ls) (p ∷ ps) = code_line labels l p ∷ lines_in_place labels ls ps
 
 -- the lines that have code
 abbrev pub code_lines : List SourceLine → Laid → List CodeLine
-code_lines ls laid = filter (λ c. not (is_empty c.bytes)) (map (code_line laid.labels ls) laid.placed)
-
--- the lines of a section that go to the assembler, as the deck has them
-abbrev pub program_of : Section → List (ℕ × List ℕ)
-program_of s = section_program (map (λ l. (l.number, l.deck)) s.lines)
+code_lines ls laid = filter (λ c. not (is_empty c.bytes)) (lines_in_place laid.labels (program_lines ls) laid.placed)
 
 -- the lines of a program in their places, with its code, or the first refusal
 unfoldable pub laid_code : List (ℕ × List ℕ) → Result (Laid × List ℕ) (ℕ × AsmCause)
@@ -70,10 +76,14 @@ source_of s = source_with s (laid_code (program_of s))
 abbrev pub sources_of : Draft → List Source
 sources_of d = map source_of d.sections
 
+-- whether the code of a line has the byte at a place
+abbrev pub has_byte_at : CodeLine → ℕ → Bool
+has_byte_at l at = nat_le l.place at && nat_lt at (l.place + length l.bytes)
+
 -- the line whose code has the byte at a place, if one has it
 abbrev pub line_at : List CodeLine → ℕ → Option CodeLine
 line_at [] at = None
-line_at (l ∷ ls) at = cond (nat_le l.place at && nat_lt at (l.place + length l.bytes)) (Some l) (line_at ls at)
+line_at (l ∷ ls) at = cond (has_byte_at l at) (Some l) (line_at ls at)
 
 -- ---- the listing
 

@@ -25,9 +25,13 @@ abbrev pub numbered_text : List (ℕ × List ℕ) → ℕ → List ℕ
 numbered_text [] n = []
 numbered_text (l ∷ ls) n = cond (l.0 == n) l.1 (numbered_text ls n)
 
+-- the text of the line of a deck with a number
+abbrev pub line_text : List ℕ → ℕ → List ℕ
+line_text deck n = numbered_text (with_numbers 1 (lines deck)) n
+
 -- the section that the `load` line with a number names, none where it names a unit
 abbrev pub loaded_source : Desk → ℕ → Option Source
-loaded_source d n = option_and_then (source_named d.sources) (second_field (fields (numbered_text (with_numbers 1 (lines d.deck)) n)))
+loaded_source d n = option_and_then (source_named d.sources) (second_field (fields (line_text d.deck n)))
 
 -- the source line of a place in the code of a section, if there is one
 abbrev pub source_line : Option Source → ℕ → Option CodeLine

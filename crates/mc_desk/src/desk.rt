@@ -1,5 +1,8 @@
 // Drafts whose decks are read.
-ghost use Rattle.std.specs.Prelude.{◌≡◌};
+ghost use Rattle.std.specs.Prelude.{◌≡◌, Ok, IfErr, IfOk};
+ghost use Rattle.mc_deck.specs.Refused.{DeckRefuses};
+ghost use Rattle.mc_desk.specs.Listings.{desk_read};
+ghost use Rattle.mc_desk.specs.Loads.{desk_value};
 
 use crate::draft::{Draft, read_draft};
 use crate::source::{Source, sources_of};
@@ -20,7 +23,11 @@ pub struct Desk<'a> {
 ///
 /// Returns `At` with the number of the first refused line, counted from 1, and its cause: the first that is refused as
 /// a draft's, and if there is none, as its deck's. Returns `NoMemory` if out of memory.
-pub fn read_desk(alloc: Global, draft: &[u8]) -> Result<Desk<'_>, DeckRefusal> {
+#[tactic(auto, using(crate::proofs::DeskLemmas::desk_made, crate::proofs::DeskLemmas::desk_refused, crate::proofs::DeskLemmas::deck_refused))]
+pub fn read_desk(alloc: Global, draft: &[u8]) -> Result<Desk<'_>, DeckRefusal>
+    ensures desk { IfOk result (λ d. desk_read draft.now ≡ Ok (desk_value d)) }
+    ensures refused { IfErr result (λ e. DeckRefuses (desk_read draft.now) e) }
+{
     let Draft {
         deck: text,
         sections,

@@ -1,5 +1,5 @@
 // Drafts, line by line.
-ghost use Rattle.std.specs.Prelude.{◌≡◌, ◌<◌, length, slice_get, ◌+◌, ◌++◌, ◌∷◌, [], ℕ, Bool, List, true, option_map, codes, cond, IfErr, IfOk, MatchResult, Ok, OnOk, Some, None};
+ghost use Rattle.std.specs.Prelude.{◌≡◌, ◌<◌, length, slice_get, ◌+◌, ◌++◌, ◌∷◌, [], ℕ, Bool, List, true, option_map, codes, cond, IfErr, IfOk, IfSome, MatchResult, Ok, OnOk, Some, None};
 ghost use Rattle.mc_model_device.specs.Bytes.{lookup, zeros};
 ghost use Rattle.mc_model_machine.specs.Text.{fields};
 ghost use Rattle.mc_model_machine.specs.Listing.{hex_text};
@@ -9,9 +9,10 @@ ghost use Rattle.mc_deck.specs.Refused.{DeckRefuses, Faulty};
 ghost use Rattle.mc_deck.specs.declared.refusal.DeckRefusal.TheVariants.{NoMemory};
 ghost use Rattle.mc_desk.specs.Declarations.{declaration_in, DeclarationWord, NameMeaning};
 ghost use Rattle.mc_desk.specs.Statements.{Loadable};
-ghost use Rattle.mc_desk.specs.Drafts.{by_name, closed_section, coded_turn, deck_of, draft_turn, new_section, opening_line, scope_turn, section_line, sizes_of, static_size, Before};
+ghost use Rattle.mc_desk.specs.Drafts.{by_name, closed_section, coded_turn, deck_of, draft_read, draft_turn, new_section, opening_line, scope_turn, section_line, sizes_of, static_size, Before, DraftTurn};
 ghost use Rattle.mc_desk.specs.Drafts;
 ghost use Rattle.mc_desk.specs.Views.{loadable_of, refusal_at, scope_of, static_line, text_by, AreNames, AreSections, Declares, EndedLineTurned, LineTurned, OpensSection, ScopeTurned, Stands, StandsSection};
+ghost use Rattle.mc_desk.specs.Written.{draft_value, Each, IsSection, IsSourceLine, KeepsSections};
 
 use crate::declaration::{Declaration, declaration_in};
 use crate::instruction::push_instruction;
@@ -68,7 +69,8 @@ struct Writer<'a> {
 // The section with a name and an AID, if it begins with the word `app`.
 #[tactic(auto, using(crate::proofs::DraftLemmas::opens_app, crate::proofs::DraftLemmas::opens_none))]
 fn headed<'a>(alloc: Global, word: &[u8], name: &'a [u8], aid: &'a [u8]) -> Option<OpenSection<'a>>
-    ensures { OpensSection result (new_section (word.now ∷ name.now ∷ aid.now ∷ [])) }
+    ensures opens { OpensSection result (new_section (word.now ∷ name.now ∷ aid.now ∷ [])) }
+    ensures empty { IfSome result (λ s. s.lines.items ≡ []) }
 {
     if word != b"app".as_slice() {
         return None;
@@ -83,7 +85,8 @@ fn headed<'a>(alloc: Global, word: &[u8], name: &'a [u8], aid: &'a [u8]) -> Opti
 
 // The section that a line with these fields opens.
 fn opened_by<'a>(alloc: Global, fields: &[&'a [u8]]) -> Option<OpenSection<'a>>
-    ensures { OpensSection result (new_section (texts fields.now)) }
+    ensures opens { OpensSection result (new_section (texts fields.now)) }
+    ensures empty { IfSome result (λ s. s.lines.items ≡ []) }
 {
     match fields {
         [word, name, aid] => headed(alloc, word, name, aid),
@@ -94,7 +97,8 @@ fn opened_by<'a>(alloc: Global, fields: &[&'a [u8]]) -> Option<OpenSection<'a>>
 // The section that a line opens.
 #[tactic(auto, using(crate::proofs::DraftLemmas::opens_five))]
 fn new_section<'a>(alloc: Global, line: &'a [u8]) -> Option<OpenSection<'a>>
-    ensures { OpensSection result (new_section (fields line.now)) }
+    ensures opens { OpensSection result (new_section (fields line.now)) }
+    ensures empty { IfSome result (λ s. s.lines.items ≡ []) }
 {
     opened_by(alloc, fields(line).as_slice())
 }
@@ -155,6 +159,10 @@ fn close_section<'a>(writer: &mut Writer<'a>, section: OpenSection<'a>) -> Resul
     ensures kept { OnOk result ((ss : List Drafts.Section) (t : Drafts.OpenSection)
         → AreSections writer.old.by_name (by_name ss)
         → StandsSection section.entry t → AreSections writer.new.by_name (by_name (ss ++ closed_section t ∷ []))) }
+    ensures sections { OnOk result ((deck : List ℕ) (ss : List Drafts.Section) (t : Drafts.OpenSection)
+        → StandsSection section.entry t → Each (IsSection deck) writer.old.sections.items ss
+        → Each (IsSourceLine deck) section.entry.lines.items t.lines
+        → Each (IsSection deck) writer.new.sections.items (ss ++ closed_section t ∷ [])) }
     ensures deck { writer.new.deck.items ≡ writer.old.deck.items }
 {
     let sizes = sizes_of(&section);
@@ -171,7 +179,9 @@ fn close_section<'a>(writer: &mut Writer<'a>, section: OpenSection<'a>) -> Resul
 fn push_source_line<'a>(
     lines: &mut Vec<SourceLine<'a>>,
     line: SourceLine<'a>,
-) -> Result<(), AllocError> {
+) -> Result<(), AllocError>
+    ensures { OnOk result (lines.new.items ≡ lines.old.items ++ line.entry ∷ []) }
+{
     lines.push(line)?;
     Ok(())
 }
@@ -299,11 +309,15 @@ fn between<'a>(
     writer: &mut Writer<'a>,
     line: &'a [u8],
 ) -> Result<Option<OpenSection<'a>>, Fault>
-    ensures { (b : Before) → Stands writer.old.by_name None b
+    ensures turned { (b : Before) → Stands writer.old.by_name None b
         → MatchResult result
         (λ s. LineTurned writer.old.deck.items writer.new.deck.items writer.new.by_name s
         (opening_line (new_section (fields line.now)) b line.now))
         (λ e. Faulty (opening_line (new_section (fields line.now)) b line.now) e) }
+    ensures kept { (b : Before) → Stands writer.old.by_name None b
+        → KeepsSections writer.old.deck.items writer.old.sections.items None b
+        → IfOk result (λ s. (t : DraftTurn) → opening_line (new_section (fields line.now)) b line.now ≡ Ok t
+        → KeepsSections writer.new.deck.items writer.new.sections.items s t.before) }
 {
     match new_section(alloc, line) {
         Some(section) => {
@@ -326,6 +340,10 @@ fn end_line<'a>(
     ensures kept { OnOk result ((ss : List Drafts.Section) (t : Drafts.OpenSection)
         → AreSections writer.old.by_name (by_name ss)
         → StandsSection section.entry t → AreSections writer.new.by_name (by_name (ss ++ closed_section t ∷ []))) }
+    ensures sections { OnOk result ((deck : List ℕ) (ss : List Drafts.Section) (t : Drafts.OpenSection)
+        → StandsSection section.entry t → Each (IsSection deck) writer.old.sections.items ss
+        → Each (IsSourceLine deck) section.entry.lines.items t.lines
+        → Each (IsSection deck) writer.new.sections.items (ss ++ closed_section t ∷ [])) }
     ensures deck { OnOk result (writer.new.deck.items ≡ writer.old.deck.items ++ line.now) }
 {
     close_section(writer, section)?;
@@ -343,6 +361,11 @@ fn keep_line<'a>(
     ensures turned { (l : List (List ℕ × NameMeaning)) → AreNames section.old.scope.names l
         → ScopeTurned deck.old.items deck.new.items section.new.scope result
         (scope_turn (is_data (fields line.now)) (scope_of section.old.scope l) line.now later) }
+    ensures lines { OnOk result ((ts : List Drafts.SourceLine) (text : List ℕ)
+        → Each (IsSourceLine deck.old.items) section.old.lines.items ts
+        → deck.new.items ≡ deck.old.items ++ text
+        → Each (IsSourceLine deck.new.items) section.new.lines.items
+        (ts ++ record { number = number; draft = line.now; deck = text } ∷ [])) }
     ensures name { section.new.name ≡ section.old.name }
     ensures aid { section.new.aid ≡ section.old.aid }
 {
@@ -367,12 +390,18 @@ fn within<'a>(
     line: &'a [u8],
     later: bool,
 ) -> Result<Option<OpenSection<'a>>, Fault>
-    ensures { (b : Before) (t : Drafts.OpenSection) → AreSections writer.old.by_name (by_name b.sections)
+    ensures turned { (b : Before) (t : Drafts.OpenSection) → AreSections writer.old.by_name (by_name b.sections)
         → StandsSection section.entry t
         → MatchResult result
         (λ s. LineTurned writer.old.deck.items writer.new.deck.items writer.new.by_name s
         (section_line (is_end (fields line.now)) b t number line.now later))
         (λ e. Faulty (section_line (is_end (fields line.now)) b t number line.now later) e) }
+    ensures kept { (b : Before) (t : Drafts.OpenSection) → StandsSection section.entry t
+        → Each (IsSection writer.old.deck.items) writer.old.sections.items b.sections
+        → Each (IsSourceLine writer.old.deck.items) section.entry.lines.items t.lines
+        → IfOk result (λ s. (u : DraftTurn)
+        → section_line (is_end (fields line.now)) b t number line.now later ≡ Ok u
+        → KeepsSections writer.new.deck.items writer.new.sections.items s u.before) }
 {
     let mut section = section;
     if ends_section(line) {
@@ -392,11 +421,15 @@ fn line_turn<'a>(
     line: &'a [u8],
     later: bool,
 ) -> Result<Option<OpenSection<'a>>, Fault>
-    ensures { (b : Before) → Stands writer.old.by_name section.entry b
+    ensures turned { (b : Before) → Stands writer.old.by_name section.entry b
         → MatchResult result
         (λ s. LineTurned writer.old.deck.items writer.new.deck.items writer.new.by_name s
         (draft_turn b.mode b number line.now later))
         (λ e. Faulty (draft_turn b.mode b number line.now later) e) }
+    ensures kept { (b : Before) → Stands writer.old.by_name section.entry b
+        → KeepsSections writer.old.deck.items writer.old.sections.items section.entry b
+        → IfOk result (λ s. (t : DraftTurn) → draft_turn b.mode b number line.now later ≡ Ok t
+        → KeepsSections writer.new.deck.items writer.new.sections.items s t.before) }
 {
     match section {
         None => between(alloc, writer, line),
@@ -414,11 +447,15 @@ fn turn<'a>(
     line: &EndedLine<'a>,
     later: bool,
 ) -> Result<Option<OpenSection<'a>>, Fault>
-    ensures { (b : Before) → Stands writer.old.by_name section.entry b
+    ensures turned { (b : Before) → Stands writer.old.by_name section.entry b
         → MatchResult result
         (λ s. EndedLineTurned writer.old.deck.items writer.new.deck.items line.now.ending.now writer.new.by_name s
         (draft_turn b.mode b number line.now.text.now later))
         (λ e. Faulty (draft_turn b.mode b number line.now.text.now later) e) }
+    ensures kept { (b : Before) → Stands writer.old.by_name section.entry b
+        → KeepsSections writer.old.deck.items writer.old.sections.items section.entry b
+        → IfOk result (λ s. (t : DraftTurn) → draft_turn b.mode b number line.now.text.now later ≡ Ok t
+        → KeepsSections writer.new.deck.items writer.new.sections.items s t.before) }
 {
     let section = line_turn(alloc, writer, section, number, line.text, later)?;
     push(&mut writer.deck, line.ending)?;
@@ -473,8 +510,8 @@ fn later_at(later: &Vec<bool>, i: usize) -> bool
 /// Returns `At` with the number of the first refused line, counted from 1, and its cause, or `NoMemory` if out of
 /// memory.
 pub fn read_draft(alloc: Global, draft: &[u8]) -> Result<Draft<'_>, DeckRefusal>
-    ensures deck { IfOk result (λ d. deck_of draft.now ≡ Ok d.deck.items) }
-    ensures refused { IfErr result (λ e. DeckRefuses (deck_of draft.now) e) }
+    ensures draft { IfOk result (λ d. draft_read draft.now ≡ Ok (draft_value d)) }
+    ensures refused { IfErr result (λ e. DeckRefuses (draft_read draft.now) e) }
 {
     let lines = ended_lines(alloc, draft)?;
     let later = gives_later(alloc, lines.as_slice())?;
@@ -502,6 +539,7 @@ pub fn read_draft(alloc: Global, draft: &[u8]) -> Result<Draft<'_>, DeckRefusal>
 /// # Errors
 ///
 /// Returns the refusals of [`read_draft`].
+#[tactic(auto, using(crate::proofs::ReadLemmas::deck_made, crate::proofs::ReadLemmas::deck_refused))]
 pub fn deck_of(alloc: Global, draft: &[u8]) -> Result<Vec<u8>, DeckRefusal>
     ensures deck { IfOk result (λ v. deck_of draft.now ≡ Ok v.items) }
     ensures refused { IfErr result (λ e. DeckRefuses (deck_of draft.now) e) }

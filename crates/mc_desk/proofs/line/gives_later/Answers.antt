@@ -1,4 +1,4 @@
-use Rattle.std.proofs.Common.{◌≡◌, ℕ, suc, ◌-◌, ◌<◌, ◌≤◌, ◌∙◌, length, drop, arith, subst}
+use Rattle.std.proofs.Common.{◌≡◌, ℕ, suc, ◌-◌, ◌<◌, ◌∙◌, length, drop, arith, subst}
 use Rattle.mc_desk.specs.Declarations.{gives_later}
 use Rattle.mc_desk.specs.Views.{gives_later_each, line_texts}
 use Rattle.mc_desk.proofs.LineLemmas.{given_more, judged_more, length_set}

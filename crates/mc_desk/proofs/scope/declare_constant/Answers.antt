@@ -1,8 +1,6 @@
-use Rattle.std.proofs.Common.{◌≡◌, ◌+◌, ℕ, List, ◌∷◌, true, refl, subst, rules}
-use Rattle.std.specs.Prelude.{ℤ, is_none, option_map}
+use Rattle.std.proofs.Common.{refl}
 use Rattle.std.proofs.lemmas.Result.{err_from_is_err_and}
-use Rattle.mc_desk.specs.Declarations.{NameMeaning, Bytes}
-use Rattle.mc_desk.specs.Views.{scope_of, AreNames}
+use Rattle.mc_desk.specs.Views.{scope_of}
 use Rattle.mc_desk.proofs.ScopeLemmas.{const_twice, const_taken}
 use Rattle.mc_desk.proofs.scope.declare_constant.Goals as goal
 

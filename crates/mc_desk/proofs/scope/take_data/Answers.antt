@@ -1,7 +1,6 @@
-use Rattle.std.proofs.Common.{◌≡◌, ℕ, ◌+◌, ◌∙◌, ap, arith, rules}
+use Rattle.std.proofs.Common.{◌≡◌, ◌+◌, ◌∙◌, ap, rules}
 use Rattle.std.specs.Prelude.{unwrap_or}
 use Rattle.mc_asm.specs.Items.{texts}
-use Rattle.mc_desk.specs.Declarations.{data_count}
 use Rattle.mc_desk.proofs.ScopeLemmas.{data_taken}
 use Rattle.mc_desk.proofs.scope.take_data.Goals as goal
 
