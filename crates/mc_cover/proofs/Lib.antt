@@ -1,2 +1,12 @@
 pub mod RecordLemmas
+pub mod WideLemmas
 pub mod WatchLemmas
+pub mod FullTurnLemmas
+pub mod ListLemmas
+pub mod RowLemmas
+pub mod CountLemmas
+pub mod CoverageLemmas
+pub mod SentLemmas
+pub mod PlayLemmas
+pub mod CoverLemmas
+pub mod CounterLemmas

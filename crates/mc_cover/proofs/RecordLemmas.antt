@@ -5,7 +5,7 @@ use Rattle.mc_cover.specs.Records.{line_text, lines_text, branch_text, branches_
 
 -- the default line, for an index past the end
 abbrev pub no_line : LineCount
-no_line = record { number = 0; condition = None; turns = 0; taken = 0 }
+no_line = record { number = 0; section = 0; place = 0; condition = None; turns = 0; taken = 0 }
 
 -- what is left from an index on is the line there and those after it
 left_at : (cs : List LineCount) (i : ℕ) → i < length cs → drop i cs ≡ get_or cs i no_line ∷ drop (i + 1) cs

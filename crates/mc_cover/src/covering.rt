@@ -1,14 +1,22 @@
 // How often each line of a draft's code ran, and each of its branches went each way.
-ghost use Rattle.std.specs.Prelude.{◌≡◌};
+ghost use Rattle.std.specs.Prelude.{◌≡◌, ◌++◌, [], map, IfOk};
+ghost use Rattle.std.specs.List.{AllByRecursion};
+ghost use Rattle.mc_model_device.specs.Device.{IsImage};
+ghost use Rattle.mc_model_play.specs.Play.{start};
+ghost use Rattle.mc_model_play.specs.ReadyAgain.{IsLine};
+ghost use Rattle.mc_desk.specs.Coverage.{condition_in, condition_of, line_condition};
+ghost use Rattle.mc_text.specs.Texts.{sunk};
 ghost use Rattle.mc_script.specs.Players.{IsUnfused};
-ghost use Rattle.mc_cover.specs.Watching.{records_any};
+ghost use Rattle.mc_cover.specs.Watching.{Watches};
+ghost use Rattle.mc_cover.specs.Sections.{code_line_value};
+ghost use Rattle.mc_cover.specs.Plays.{CountsPlay, CoversBy};
+ghost use Rattle.mc_cover.specs.Counting.{Counted, counted_none, counted_on, holds_by, line_by, line_risen, lines_by, new_line, new_lines, risen, took_by};
 
 use crate::lcov::{LineCount, put_record};
-use crate::looking::{MOST_CODE, section_of};
+use crate::looking::running_section;
 use crate::running::{Watcher, run_watched};
-use crate::sections::{Section, Sections};
+use crate::sections::{Section, Sections, bytes_of};
 use mc_arith::Flags;
-use mc_bank::Slot;
 use mc_base::{Sink, Steps, Stop, WriteFault};
 use mc_card::{Card, Turn};
 use mc_deck::Deck;
@@ -27,142 +35,193 @@ pub enum CoverFault {
     WriteFault,
 }
 
-// The condition of an instruction that goes elsewhere if it holds, `None` for one that always does.
-fn condition_of(ins: &Ins) -> Option<u8> {
-    let cond = match *ins {
-        Ins::Branch { cond, .. } => cond,
-        Ins::Jump { cond, .. } => cond,
-        Ins::Call { cond, .. } => cond,
-        _ => return None,
-    };
-    if cond < 1 || cond > 6 {
-        return None;
+// The condition of a number, `None` for one that always holds or has its target on the stack.
+fn condition_in(number: u8) -> Option<u8>
+    ensures { result ≡ condition_in number }
+{
+    if number >= 1 && number <= 6 {
+        Some(number)
+    } else {
+        None
     }
-    Some(cond)
 }
 
-// The condition of a line of a section.
-fn line_condition(code: &[u8], line: &CodeLine<'_>) -> Option<u8> {
-    let bytes = line.bytes(code);
-    if bytes.len() > MOST_CODE {
-        return None;
+// The condition of an instruction that goes elsewhere if it holds, `None` for one that always does.
+fn condition_of(ins: &Ins) -> Option<u8>
+    ensures { result ≡ condition_of ins.now }
+{
+    match *ins {
+        Ins::Branch { cond, .. } => condition_in(cond),
+        Ins::Jump { cond, .. } => condition_in(cond),
+        Ins::Call { cond, .. } => condition_in(cond),
+        _ => None,
     }
-    match decode(bytes, 0) {
+}
+
+// The condition of a line of a section with this code.
+fn line_condition(code: &[u8], line: &CodeLine<'_>) -> Option<u8>
+    ensures { result ≡ line_condition (code_line_value code.now line.now) }
+{
+    match decode(bytes_of(code, line), 0) {
         Ok((ins, _end)) => condition_of(&ins),
         Err(_) => None,
     }
 }
 
 // Whether a condition from 1 to 6 holds: EQ, LT, LE, GT, GE, NE.
-fn holds(cond: u8, flags: &Flags) -> bool {
-    match cond {
+fn holds(condition: u8, flags: &Flags) -> bool
+    ensures { result ≡ holds_by condition flags.now.c flags.now.z }
+{
+    match condition {
         1 => flags.z,
         2 => flags.c,
         3 => flags.c || flags.z,
-        4 => !flags.c && !flags.z,
+        4 => !(flags.c || flags.z),
         5 => !flags.c,
-        _ => !flags.z,
+        6 => !flags.z,
+        _ => true,
     }
 }
 
-// Adds the lines of a section before a play, which counted nothing.
-fn push_lines(lines: &mut Vec<LineCount>, section: &Section<'_>) -> Result<(), AllocError> {
-    for line in &section.source.lines {
-        lines.push(LineCount {
-            number: line.number,
-            condition: line_condition(section.source.code.as_slice(), line),
-            turns: 0,
-            taken: 0,
-        })?;
+// Whether the condition of a line, if it has one, holds.
+fn took(condition: Option<u8>, flags: &Flags) -> bool
+    ensures { result ≡ took_by condition flags.now.c flags.now.z }
+{
+    match condition {
+        Some(condition) => holds(condition, flags),
+        None => false,
+    }
+}
+
+// A count that rises by one unless it is at its end.
+fn risen(count: u64) -> u64
+    ensures { result ≡ risen count }
+{
+    count.saturating_add(1)
+}
+
+// A line that ran once more.
+fn line_risen(line: &LineCount, flags: &Flags) -> LineCount
+    ensures { result ≡ line_risen flags.now.c flags.now.z line.now }
+{
+    let taken = if took(line.condition, flags) {
+        risen(line.taken)
+    } else {
+        line.taken
+    };
+    LineCount {
+        turns: risen(line.turns),
+        taken,
+        ..*line
+    }
+}
+
+// A line after a turn at a place of a section.
+fn line_by(line: &LineCount, section: usize, at: u16, flags: &Flags) -> LineCount
+    ensures { result ≡ line_by section at flags.now.c flags.now.z line.now }
+{
+    if line.section == section && at == line.place {
+        line_risen(line, flags)
+    } else {
+        *line
+    }
+}
+
+// Counts a turn at a place of a section.
+fn count(lines: &mut [LineCount], section: usize, at: u16, flags: &Flags)
+    ensures { lines.new ≡ map (line_by section at flags.now.c flags.now.z) lines.old }
+{
+    for i in 0..lines.len() {
+        lines[i] = line_by(&lines[i], section, at, flags);
+    }
+}
+
+// A line of the section with an index, which never ran.
+fn new_line(index: usize, code: &[u8], line: &CodeLine<'_>) -> LineCount
+    ensures { result ≡ new_line index (code_line_value code.now line.now) }
+{
+    LineCount {
+        number: line.number,
+        section: index,
+        place: line.place,
+        condition: line_condition(code, line),
+        turns: 0,
+        taken: 0,
+    }
+}
+
+// Adds the lines of the section with an index, which never ran.
+fn push_lines(
+    lines: &mut Vec<LineCount>,
+    index: usize,
+    section: &Section<'_>,
+) -> Result<(), AllocError>
+    ensures { IfOk result (λ u. lines.new.items ≡ lines.old.items ++ map (new_line index) section.now.lines) }
+{
+    let code = section.code();
+    for line in section.lines() {
+        lines.push(new_line(index, code, line))?;
     }
     Ok(())
 }
 
-/// Counts the turns of the sections of a draft: the lines of all of them, and for each section the index of its
-/// first line.
+// The lines of sections, which never ran.
+fn new_lines(alloc: Global, sections: &[Section<'_>]) -> Result<Vec<LineCount>, AllocError>
+    ensures { IfOk result (λ lines. lines.items ≡ new_lines 0 sections.now) }
+{
+    let mut lines = Vec::new(alloc);
+    for i in 0..sections.len() {
+        push_lines(&mut lines, i, &sections[i])?;
+    }
+    Ok(lines)
+}
+
+/// Counts the turns of the sections of a draft.
 #[derive(Drop)]
 struct Counter<'s, 'o> {
     sections: &'o Sections<'s>,
-    firsts: Vec<usize>,
     lines: Vec<LineCount>,
-    slot: Option<Slot>,
-    section: Option<usize>,
 }
 
 impl<'s, 'o> Counter<'s, 'o> {
-    // A counter that has counted nothing.
-    fn new(alloc: Global, sections: &'o Sections<'s>) -> Result<Self, AllocError> {
-        let mut firsts = Vec::new(alloc);
-        let mut lines = Vec::new(alloc);
-        for section in sections.all() {
-            firsts.push(lines.len())?;
-            push_lines(&mut lines, section)?;
-        }
-        Ok(Counter {
-            sections,
-            firsts,
-            lines,
-            slot: None,
-            section: None,
-        })
-    }
-
-    // The index among all lines of the line whose code begins at a place of the running section.
-    fn line_index(&self, place: u16) -> Option<usize> {
-        let i = self.section?;
-        let section = self.sections.all().get(i)?;
-        let line = section.line_index(place)?;
-        if section.source.lines.get(line)?.place != place {
-            return None;
-        }
-        Some(self.firsts.get(i)?.saturating_add(line))
-    }
-}
-
-// Counts a turn of a line.
-fn count(line: &mut LineCount, flags: &Flags) {
-    line.turns = line.turns.saturating_add(1);
-    if let Some(cond) = line.condition {
-        if holds(cond, flags) {
-            line.taken = line.taken.saturating_add(1);
-        }
-    }
-}
-
-impl<'s, 'o> Watcher for Counter<'s, 'o> {
-    fn begins(&mut self) {
-        self.slot = None;
-    }
-
-    #[tactic(auto, using(crate::proofs::WatchLemmas::watched_chain))]
-    fn before<N: Nvm>(&mut self, card: &Card<N>) {
-        let Some(chain) = card.chain() else {
-            return;
-        };
-        let frame = chain.running();
-        if self.slot != Some(frame.slot()) {
-            self.slot = Some(frame.slot());
-            self.section = section_of(card, frame, self.sections);
-        }
-    }
-
-    fn after<N: Nvm>(&mut self, _card: &Card<N>, turn: &Turn) {
-        if turn.ins.is_some() {
-            if let Some(i) = self.line_index(turn.at) {
-                if let Some(line) = self.lines.get_mut(i) {
-                    count(line, &turn.flags);
-                }
+    // Counts a turn that runs the section with an index, if it runs one.
+    fn count(&mut self, section: Option<usize>, turn: &Turn)
+        ensures sections { self.new.sections.now ≡ self.old.sections.now }
+        ensures lines { self.new.lines.items ≡ lines_by section turn.now self.old.lines.items }
+    {
+        if let Some(i) = section {
+            if turn.ins.is_some() {
+                count(self.lines.as_mut_slice(), i, turn.at, &turn.flags);
             }
         }
     }
 }
 
+impl<'s, 'o> Watcher for Counter<'s, 'o> {
+    ghost watched = { Counted };
+
+    ghost silent = { counted_none };
+
+    ghost onward = { counted_on };
+
+    fn turn<N: Nvm, L: Ledger>(
+        &mut self,
+        card: &mut Card<N>,
+        steps: &mut Steps<L>,
+    ) -> Result<Turn, Stop> {
+        let section = running_section(card, self.sections);
+        let turn = card.turn(steps)?;
+        self.count(section, &turn);
+        Ok(turn)
+    }
+}
+
 impl<'s, 'o> Runner for Counter<'s, 'o> {
-    ghost reported = { records_any };
+    ghost reported = { Watches Counted };
 
-    ghost silent = { λ r. tt };
+    ghost silent = { λ c. counted_none };
 
-    ghost onward = { λ q r s ts us first rest. tt };
+    ghost onward = { λ c d q r s. counted_on q r s [] [] };
 
     fn run<N: Nvm, L: Ledger>(
         &mut self,
@@ -184,7 +243,15 @@ fn count_lines<N: Bench, L: Ledger>(
     steps: &mut Steps<L>,
 ) -> N
     requires { IsUnfused (N.bench device) }
+    ensures counts { CountsPlay (start (N.state device).words) deck.now
+        (record { device = N.state device; bench = N.bench device })
+        (record { device = N.state result; bench = N.bench result }) counter.old counter.new steps.old steps.new }
+    ensures image { IsImage (N.state device).words }
+    ensures lines { AllByRecursion (λ l. IsLine l.1) deck.now }
+    ensures keeps_device { N.same device result }
 {
+    let _words = device.len();
+    let _lines = deck.len();
     let mut player = Player::new(device);
     for i in 0..deck.len() {
         let (_number, line) = deck.line(i);
@@ -211,10 +278,16 @@ pub fn cover<N: Bench, T: Sink, L: Ledger>(
     steps: &mut Steps<L>,
 ) -> Result<(), CoverFault>
     requires { IsUnfused (N.bench dev.old) }
+    // All lines of the deck are played in order, and what is written is the record of the play under the sections of
+    // the draft. Out of memory, nothing is played.
+    ensures covers { CoversBy name.now sections.now deck.now
+        (record { device = N.state dev.old; bench = N.bench dev.old }) (sunk T.Sink out.old) result
+        (record { device = N.state dev.new; bench = N.bench dev.new }) (sunk T.Sink out.new) steps.old steps.new }
 {
-    let Ok(mut counter) = Counter::new(alloc, sections) else {
+    let Ok(lines) = new_lines(alloc, sections.all()) else {
         return Err(CoverFault::NoMemory);
     };
+    let mut counter = Counter { sections, lines };
     let _dev = count_lines(deck, &mut *dev, &mut counter, steps);
     match put_record(out, name, counter.lines.as_slice()) {
         Ok(()) => Ok(()),

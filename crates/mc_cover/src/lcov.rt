@@ -12,11 +12,13 @@ use itoa::Buffer;
 use mc_base::{Sink, WriteFault};
 use mc_text::put;
 
-/// A line of code with its counts: its number, the condition of its branch, if it has one, the number of its turns,
-/// and the number of those in which the condition held.
+/// A line of code with its counts: its number, the index of its section and its place there, the condition of its
+/// branch, if it has one, the number of its turns, and the number of those in which the condition held.
 #[derive(Clone, Copy, Debug)]
 pub struct LineCount {
     pub number: u32,
+    pub section: usize,
+    pub place: u16,
     pub condition: Option<u8>,
     pub turns: u64,
     pub taken: u64,

@@ -1,10 +1,15 @@
 // What a watcher finds of a card between two turns: the section that runs, its stack, and the place of its operand.
-ghost use Rattle.std.specs.Prelude.{◌≡◌, ◌≤◌, false, length, IsSome};
-ghost use Rattle.mc_bank.specs.Bank.{app_of};
+ghost use Rattle.std.specs.Prelude.{◌≡◌, ◌≤◌, ℕ, true, false, length, bytes_eq, slice_get, IsSome, IfSome};
+ghost use Rattle.mc_model_device.specs.Limits.{most_code};
+ghost use Rattle.mc_model_machine.specs.Chain.{Chain as ModelChain};
+ghost use Rattle.mc_desk.specs.FullTurns.{running_code};
+ghost use Rattle.mc_bank.specs.Bank.{app_of, name_or};
 ghost use Rattle.mc_segs.specs.HeldFrames.{CanRun};
-ghost use Rattle.mc_cover.specs.Watching.{FrameRuns, IsWatched};
+ghost use Rattle.mc_card.specs.Parts.{IsRunning, RunsChain};
+ghost use Rattle.mc_cover.specs.Sections.{index_of, is_of};
+ghost use Rattle.mc_cover.specs.Watching.{FrameRuns, IsWatched, code_on, name_in};
 
-use crate::sections::{Section, Sections};
+use crate::sections::{MOST_CODE, Section, Sections};
 use crate::span::{Span, span_of};
 use arrayvec::ArrayVec;
 use mc_bank::{Bank, Slot};
@@ -12,9 +17,6 @@ use mc_card::{Card, Chain};
 use mc_isa::decode;
 use mc_nvm::Nvm;
 use mc_segs::{Frame, Place, look, place_of, resolve};
-
-/// The most bytes of code that an application has.
-pub const MOST_CODE: usize = 8192;
 
 /// The number of code bytes that are compared at a time.
 const PIECE: usize = 256;
@@ -41,6 +43,7 @@ fn has_code<B: Bank>(bank: &B, slot: Slot, code: &[u8]) -> bool
     requires there { IsSome (B.named bank.now slot) }
     requires size { length code.now ≡ length (app_of (B.state bank.now).apps (B.named bank.now slot)).code }
     requires most { length code.now ≤ 65535 }
+    ensures { result ≡ bytes_eq (app_of (B.state bank.now).apps (B.named bank.now slot)).code code.now }
 {
     let mut bytes = [0; PIECE];
     let mut at = 0;
@@ -56,23 +59,16 @@ fn has_code<B: Bank>(bank: &B, slot: Slot, code: &[u8]) -> bool
     true
 }
 
-// Whether an application has the name of a section.
-fn has_name<B: Bank>(bank: &B, slot: Slot, section: &Section<'_>) -> bool
-    requires going { (B.state bank.now).stopped ≡ false }
-    requires there { IsSome (B.named bank.now slot) }
-{
-    match &section.aid {
-        Some(aid) => bank.facts(slot).aid.bytes() == aid.bytes(),
-        None => false,
-    }
-}
-
 // Whether a frame runs a section: its application has the section's name and code.
 fn runs<B: Bank>(bank: &B, frame: &Frame, section: &Section<'_>) -> bool
     requires { CanRun B.Bank bank.now frame.now }
+    ensures value { result ≡ is_of (name_or (B.named bank.now frame.now.slot))
+        (app_of (B.state bank.now).apps (B.named bank.now frame.now.slot)).code section.now }
+    ensures short { result ≡ true → length section.now.code ≤ most_code }
 {
-    let code = section.source.code.as_slice();
-    if !has_name(bank, frame.slot(), section) {
+    let code = section.code();
+    let facts = bank.facts(frame.slot());
+    if !section.has_name(facts.aid.bytes()) {
         return false;
     }
     if frame.code_len() as usize != code.len() {
@@ -84,6 +80,9 @@ fn runs<B: Bank>(bank: &B, frame: &Frame, section: &Section<'_>) -> bool
 /// Returns the index of the first section that a frame runs, or `None` if it runs none.
 pub fn section_of<N: Nvm>(card: &Card<N>, frame: &Frame, sections: &Sections<'_>) -> Option<usize>
     requires { FrameRuns N.state card.now frame.now }
+    ensures value { result ≡ index_of 0 sections.now (name_in N.state card.now frame.now)
+        (code_on N.state card.now frame.now) }
+    ensures short { IfSome result (λ i. IfSome (slice_get sections.now i) (λ s. length s.code ≤ most_code)) }
 {
     let all = sections.all();
     for i in 0..all.len() {
@@ -92,6 +91,19 @@ pub fn section_of<N: Nvm>(card: &Card<N>, frame: &Frame, sections: &Sections<'_>
         }
     }
     None
+}
+
+/// Returns the index of the first section that the running frame of a card runs, or `None` if it runs none.
+pub fn running_section<N: Nvm>(card: &Card<N>, sections: &Sections<'_>) -> Option<usize>
+    requires { IsRunning N.state card.now }
+    ensures value { (ch : ModelChain) (left : ℕ) → RunsChain N.state card.now ch left
+        → result ≡ index_of 0 sections.now ch.frame.name (running_code ch) }
+    ensures short { IfSome result (λ i. IfSome (slice_get sections.now i) (λ s. length s.code ≤ most_code)) }
+{
+    match card.chain() {
+        Some(chain) => section_of(card, chain.running(), sections),
+        None => None,
+    }
 }
 
 // The place of a span in a frame, if its bytes lie whole in a segment.

@@ -3,13 +3,12 @@ ghost use Rattle.std.specs.Prelude.{◌≡◌, ◌≤◌, ◌+◌, ◌*◌, leng
 ghost use Rattle.arrayvec.specs.ArrayVec.{array_vec_len};
 ghost use Rattle.mc_model_machine.specs.Code.{Shaped};
 ghost use Rattle.mc_script.specs.Players.{IsPlaying, IsUnfused};
-ghost use Rattle.mc_cover.specs.Watching.{records_any, IsWatched};
+ghost use Rattle.mc_cover.specs.Watching.{IsWatched};
 
-use crate::looking::{After, Scene, after_turn, scene_of, section_of};
+use crate::looking::{After, Scene, after_turn, running_section, scene_of};
 use crate::running::{Watcher, run_watched};
 use crate::sections::Sections;
 use arrayvec::ArrayVec;
-use mc_bank::Slot;
 use mc_base::{Sink, Steps, Stop, WriteFault};
 use mc_card::{Card, Turn};
 use mc_deck::Deck;
@@ -31,10 +30,6 @@ struct Tracer<'s, 'o, T: Sink> {
     fault: Option<WriteFault>,
     text: Text,
     sections: &'o Sections<'s>,
-    // The slot of the frame before the turn, and its section.
-    slot: Option<Slot>,
-    section: Option<usize>,
-    scene: Option<Scene>,
 }
 
 // Adds bytes in hexadecimal, `-` if there are none.
@@ -75,9 +70,6 @@ impl<'s, 'o, T: Sink> Tracer<'s, 'o, T> {
             fault: None,
             text: ArrayVec::new(),
             sections,
-            slot: None,
-            section: None,
-            scene: None,
         }
     }
 
@@ -95,14 +87,27 @@ impl<'s, 'o, T: Sink> Tracer<'s, 'o, T> {
         }
     }
 
+    // What is kept of the running frame before a turn that runs a section.
+    fn scene_before<N: Nvm>(&self, card: &Card<N>, section: Option<usize>) -> Option<Scene> {
+        let section = self.sections.all().get(section?)?;
+        let chain = card.chain()?;
+        Some(scene_of(chain.running(), section.code()))
+    }
+
     // The source line of a turn.
-    fn line_of_turn(&self, turn: &Turn) -> Option<CodeLine<'s>> {
-        let section = self.sections.all().get(self.section?)?;
+    fn line_of_turn(&self, section: Option<usize>, turn: &Turn) -> Option<CodeLine<'s>> {
+        let section = self.sections.all().get(section?)?;
         section.line_at(turn.at)
     }
 
     // Writes the line of a turn with its source line, its operand and its stack.
-    fn put_turn<N: Nvm>(&mut self, card: &Card<N>, turn: &Turn, line: CodeLine<'s>)
+    fn put_turn<N: Nvm>(
+        &mut self,
+        card: &Card<N>,
+        turn: &Turn,
+        line: CodeLine<'s>,
+        scene: &Option<Scene>,
+    )
         requires watched { IsWatched N.state card.now }
         requires shaped { IfSome turn.now.ins Shaped }
         requires low { 1 ≤ turn.now.depth }
@@ -119,7 +124,7 @@ impl<'s, 'o, T: Sink> Tracer<'s, 'o, T> {
         add(&mut self.text, b" ");
         self.write_gathered();
         self.write(line.text);
-        if let Some(scene) = &self.scene {
+        if let Some(scene) = scene {
             let mut after = after_turn(card, scene, turn.dt);
             if let Some(Outcome::Abend(_)) = turn.end {
                 after.operand.clear();
@@ -145,42 +150,34 @@ impl<'s, 'o, T: Sink> Tracer<'s, 'o, T> {
 }
 
 impl<'s, 'o, T: Sink> Watcher for Tracer<'s, 'o, T> {
-    fn begins(&mut self) {
-        self.slot = None;
-    }
-
-    #[tactic(auto, using(crate::proofs::WatchLemmas::watched_chain))]
-    fn before<N: Nvm>(&mut self, card: &Card<N>) {
-        self.scene = None;
-        let Some(chain) = card.chain() else {
-            return;
-        };
-        let frame = chain.running();
-        if self.slot != Some(frame.slot()) {
-            self.slot = Some(frame.slot());
-            self.section = section_of(card, frame, self.sections);
-        }
-        if let Some(i) = self.section {
-            if let Some(section) = self.sections.all().get(i) {
-                self.scene = Some(scene_of(frame, section.source.code.as_slice()));
-            }
-        }
-    }
-
-    fn after<N: Nvm>(&mut self, card: &Card<N>, turn: &Turn) {
-        match self.line_of_turn(turn) {
-            Some(line) => self.put_turn(card, turn, line),
-            None => self.write(line_of(turn).as_slice()),
-        }
-    }
-}
-
-impl<'s, 'o, T: Sink> Runner for Tracer<'s, 'o, T> {
-    ghost reported = { records_any };
+    ghost watched = { λ q ts r. Unit {0} };
 
     ghost silent = { λ r. tt };
 
     ghost onward = { λ q r s ts us first rest. tt };
+
+    fn turn<N: Nvm, L: Ledger>(
+        &mut self,
+        card: &mut Card<N>,
+        steps: &mut Steps<L>,
+    ) -> Result<Turn, Stop> {
+        let section = running_section(card, self.sections);
+        let scene = self.scene_before(card, section);
+        let turn = card.turn(steps)?;
+        match self.line_of_turn(section, &turn) {
+            Some(line) => self.put_turn(card, &turn, line, &scene),
+            None => self.write(line_of(&turn).as_slice()),
+        }
+        Ok(turn)
+    }
+}
+
+impl<'s, 'o, T: Sink> Runner for Tracer<'s, 'o, T> {
+    ghost reported = { λ c q ts r. Unit {0} };
+
+    ghost silent = { λ c r. tt };
+
+    ghost onward = { λ c d q r s first rest. tt };
 
     fn run<N: Nvm, L: Ledger>(
         &mut self,

@@ -1,5 +1,0 @@
-use Rattle.mc_cover.proofs.WatchLemmas.{turned_watched}
-use Rattle.mc_cover.proofs.running.turn.Goals as goal
-
-pub after-requires-clause-watched : goal.after-requires-clause-watched
-after-requires-clause-watched g c = turned_watched g.N.Nvm.state g.N.Nvm.wrote c.args.card.now c.turn.new.self c.in_ok-turn.turn c.requires c.in_ok-turn.ensures.done
