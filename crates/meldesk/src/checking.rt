@@ -1,42 +1,83 @@
 // The stack checker's verdicts on a draft.
+ghost use Rattle.std.specs.Prelude.{◌≡◌, ◌++◌, codes, decimal, Err, IfOk, OnOk};
 ghost use Rattle.mc_deck.specs.Lines.{line_of, GoodLine};
+ghost use Rattle.mc_desk.specs.Listings.{Desk};
+ghost use Rattle.mc_desk.specs.Loads.{AreLoads};
+ghost use Rattle.mc_desk.specs.Verdicts.{verdict_line, verdict_text};
+ghost use Rattle.meldesk.specs.Checks.{verdict_value, AddsVerdicts, ShowsVerdicts};
 
 use itoa::Buffer;
 use mc_base::NoMemory;
-use mc_check::{Verdict, check};
+use mc_check::{CheckCause, Verdict, check};
 use mc_deck::{Deck, Line};
 use mc_desk::{Loads, push_source_part};
 use std::alloc::Global;
 
 // Adds a number in decimal.
-fn push_decimal(text: &mut Vec<u8>, number: u32) -> Result<(), NoMemory> {
+fn push_decimal(text: &mut Vec<u8>, number: u32) -> Result<(), NoMemory>
+    ensures { OnOk result (text.new.items ≡ text.old.items ++ decimal number) }
+{
     let mut buffer = Buffer::new();
     text.extend_from_slice(buffer.format(number).as_bytes())?;
     Ok(())
 }
 
-// Adds the line of a verdict on the code of a load line: the number of the line, `accept D` or `refuse P CAUSE`, and
-// the source line of the place.
+// Adds ` accept D`: the deepest stack of code that is accepted.
+fn push_accepted(text: &mut Vec<u8>, deepest: u16) -> Result<(), NoMemory>
+    ensures { OnOk result (text.new.items ≡ text.old.items ++ (codes "accept " ++ decimal deepest)) }
+{
+    text.extend_from_slice(b"accept ")?;
+    push_decimal(text, deepest as u32)
+}
+
+// Adds `refuse P CAUSE` and the source line of the place.
+fn push_refused(
+    text: &mut Vec<u8>,
+    loads: &Loads<'_, '_>,
+    number: u32,
+    place: u16,
+    cause: CheckCause,
+) -> Result<(), NoMemory>
+    ensures { OnOk result ((d : Desk) → AreLoads loads.now d.deck d.sources
+        → text.new.items ≡ text.old.items ++ verdict_text d number (Err (place, cause))) }
+{
+    text.extend_from_slice(b"refuse ")?;
+    push_decimal(text, place as u32)?;
+    text.extend_from_slice(b" ")?;
+    text.extend_from_slice(cause.word().as_bytes())?;
+    push_source_part(text, loads.line_at(number, place))?;
+    Ok(())
+}
+
+// Adds `accept D` or `refuse P CAUSE`, and the source line of the place.
+fn push_judged(
+    text: &mut Vec<u8>,
+    loads: &Loads<'_, '_>,
+    number: u32,
+    verdict: &Verdict,
+) -> Result<(), NoMemory>
+    ensures { OnOk result ((d : Desk) → AreLoads loads.now d.deck d.sources
+        → text.new.items ≡ text.old.items ++ verdict_text d number (verdict_value verdict.now)) }
+{
+    match *verdict {
+        Verdict::Accept { deepest } => push_accepted(text, deepest),
+        Verdict::Refuse { place, cause } => push_refused(text, loads, number, place, cause),
+    }
+}
+
+// Adds the line of a verdict on the code of a load line, which begins with the number of the line.
 fn push_verdict(
     text: &mut Vec<u8>,
     loads: &Loads<'_, '_>,
     number: u32,
     verdict: &Verdict,
-) -> Result<(), NoMemory> {
+) -> Result<(), NoMemory>
+    ensures { OnOk result ((d : Desk) → AreLoads loads.now d.deck d.sources
+        → text.new.items ≡ text.old.items ++ verdict_line d (number, verdict_value verdict.now)) }
+{
     push_decimal(text, number)?;
-    match verdict {
-        Verdict::Accept { deepest } => {
-            text.extend_from_slice(b" accept ")?;
-            push_decimal(text, *deepest as u32)?;
-        }
-        Verdict::Refuse { place, cause } => {
-            text.extend_from_slice(b" refuse ")?;
-            push_decimal(text, *place as u32)?;
-            text.extend_from_slice(b" ")?;
-            text.extend_from_slice(cause.word().as_bytes())?;
-            push_source_part(text, loads.line_at(number, *place))?;
-        }
-    }
+    text.extend_from_slice(b" ")?;
+    push_judged(text, loads, number, verdict)?;
     text.extend_from_slice(b"\n")?;
     Ok(())
 }
@@ -50,6 +91,8 @@ fn push_line(
     line: &Line<'_>,
 ) -> Result<(), NoMemory>
     requires { GoodLine (line_of line.now) }
+    ensures { OnOk result ((d : Desk) → AreLoads loads.now d.deck d.sources
+        → AddsVerdicts d (number, line_of line.now) text.old.items text.new.items) }
 {
     let Line::Load { unit, session, .. } = line else {
         return Ok(());
@@ -64,7 +107,10 @@ fn push_line(
 /// # Errors
 ///
 /// Returns `NoMemory` if out of memory.
-pub fn verdicts_of(alloc: Global, loads: &Loads<'_, '_>, deck: &Deck) -> Result<Vec<u8>, NoMemory> {
+pub fn verdicts_of(alloc: Global, loads: &Loads<'_, '_>, deck: &Deck) -> Result<Vec<u8>, NoMemory>
+    ensures { IfOk result (λ text. (d : Desk) → AreLoads loads.now d.deck d.sources
+        → ShowsVerdicts d deck.now text.items) }
+{
     let mut text = Vec::new(alloc);
     for i in 0..deck.len() {
         let (number, line) = deck.line(i);

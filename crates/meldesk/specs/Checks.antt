@@ -1,0 +1,51 @@
+-- The verdicts of the stack checker on the code of a deck's load lines.
+use Rattle.std.specs.Prelude.{◌≡◌, ℕ, List, [], ◌∷◌, ◌++◌, Result, Ok, Err}
+use Rattle.mc_model_play.specs.DeckGrammar.{DeckLine}
+use Rattle.mc_model_play.specs.DeckGrammar as line
+use Rattle.mc_check.specs.declared.verdict.Verdict.{Verdict}
+use Rattle.mc_check.specs.declared.verdict.Verdict.TheVariants.{Accept, Refuse}
+use Rattle.mc_check.specs.Verdicts.{IsVerdictOf, KeepsTo}
+use Rattle.mc_desk.specs.Listings.{Desk}
+use Rattle.mc_desk.specs.Verdicts.{CodeVerdict, verdict_lines}
+
+-- a verdict of the checker
+abbrev pub verdict_value : Verdict → CodeVerdict
+verdict_value (Accept deepest) = Ok deepest
+verdict_value (Refuse place cause) = Err (place, cause)
+
+-- the first load line: its verdict is right for its code, which keeps to it in every run; and the verdicts on the rest
+pub record IsJudged (number : ℕ) (code : List ℕ) (session : ℕ) (Rest : List (ℕ × CodeVerdict) → Type 0) (vs : List (ℕ × CodeVerdict)) : Type 0 where
+  pub verdict : Verdict
+  pub holds : IsVerdictOf code session verdict
+  pub keeps : KeepsTo code session verdict
+  pub others : List (ℕ × CodeVerdict)
+  pub rest : Rest others
+  pub parts : vs ≡ (number, verdict_value verdict) ∷ others
+
+-- a verdict for each load line, in order, each with its line's number
+unfoldable pub AreVerdicts : List (ℕ × DeckLine) → List (ℕ × CodeVerdict) → Type 0
+AreVerdicts [] vs = vs ≡ []
+AreVerdicts ((n, line.Load u fixed session) ∷ ls) vs = IsJudged n u.code session (AreVerdicts ls) vs
+AreVerdicts ((n, line.Format) ∷ ls) vs = AreVerdicts ls vs
+AreVerdicts ((n, line.Power) ∷ ls) vs = AreVerdicts ls vs
+AreVerdicts ((n, line.Named) ∷ ls) vs = AreVerdicts ls vs
+AreVerdicts ((n, line.Select aid) ∷ ls) vs = AreVerdicts ls vs
+AreVerdicts ((n, line.Delete aid) ∷ ls) vs = AreVerdicts ls vs
+AreVerdicts ((n, line.Dump aid) ∷ ls) vs = AreVerdicts ls vs
+AreVerdicts ((n, line.Apdu bytes) ∷ ls) vs = AreVerdicts ls vs
+AreVerdicts ((n, line.Budget b) ∷ ls) vs = AreVerdicts ls vs
+AreVerdicts ((n, line.Cut k fill) ∷ ls) vs = AreVerdicts ls vs
+AreVerdicts ((n, line.Fail k) ∷ ls) vs = AreVerdicts ls vs
+AreVerdicts ((n, line.Poke at fill) ∷ ls) vs = AreVerdicts ls vs
+
+-- a text has a line for each of these load lines of a draft's deck: a verdict, with the source line of a refused place
+pub record ShowsVerdicts (d : Desk) (ls : List (ℕ × DeckLine)) (shown : List ℕ) : Type 0 where
+  pub verdicts : List (ℕ × CodeVerdict)
+  pub are : AreVerdicts ls verdicts
+  pub text : shown ≡ verdict_lines d verdicts
+
+-- a text grew by the lines of verdicts on a line of the deck, which are one for a load line and none for any other
+pub record AddsVerdicts (d : Desk) (l : ℕ × DeckLine) (old new : List ℕ) : Type 0 where
+  pub verdicts : List (ℕ × CodeVerdict)
+  pub are : AreVerdicts (l ∷ []) verdicts
+  pub grew : new ≡ old ++ verdict_lines d verdicts
