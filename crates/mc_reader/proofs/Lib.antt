@@ -1,7 +1,11 @@
 pub mod ReadingLemmas
 pub mod FrameLemmas
 pub mod AnswerLemmas
+pub mod ReadBackLemmas
+pub mod FrameLineLemmas
+pub mod SessionDeckLemmas
 pub mod ServingLemmas
+pub mod MomentLemmas
 pub mod LoopLemmas
 pub mod SessionLemmas
 pub mod LawLemmas

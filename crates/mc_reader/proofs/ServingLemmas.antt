@@ -66,81 +66,83 @@ module _ {N : Type 0} (state : N → DeviceState) (bench : N → BenchState) whe
 -- ---- a frame, and those after it
 
 -- no frame
-pub frames_none : (s : State) (n : ℕ) (powered : Bool) (a : Bench) → StandsForState a.device.words s → IsUnfused a.bench → ServedFrames s n powered [] a [] a
-frames_none s n powered a stands unfused = record { worn = []; played = played_none s a stands unfused; answers = refl }
+pub frames_none : (s : State) (n : ℕ) (powered : Bool) (a : Bench) → StandsForState a.device.words s → IsUnfused a.bench → ServedFrames s n powered [] [] a [] a
+frames_none s n powered a stands unfused = record { played = played_none s a stands unfused; answers = refl }
 
 -- the lines of frames after one with a meaning, and the answers to it and to them
-record ServedBehind (s : State) (n : ℕ) (powered : Bool) (m : Meaning) (fs : List (List ℕ)) (a : Bench) (os : List (Option (List ℕ))) (c : Bench) : Type 0 where
-  worn : List (Option FailedWrite)
+record ServedBehind (s : State) (n : ℕ) (powered : Bool) (m : Meaning) (fs : List (List ℕ)) (worn : List (Option FailedWrite)) (a : Bench) (os : List (Option (List ℕ))) (c : Bench) : Type 0 where
   played : Played s (line_with_number n (line_in m) ++ lines_of (number_after n (line_in m)) (power_after powered m) fs) worn a c
   answers :
       let ts = plays s (line_with_number n (line_in m) ++ lines_of (number_after n (line_in m)) (power_after powered m) fs) worn in
       os ≡ answer_to m (first_result ts) ∷ answer_each (power_after powered m) fs (steps_behind (line_in m) ts)
 
 -- frames after a frame without a line
-behind_none : (s u : State) (n : ℕ) (q : Bool) (fs : List (List ℕ)) (a b c : Bench) (reported : Option LineResult) (os : List (Option (List ℕ)))
-    → Moves s n None a reported u b → ServedFrames u n q fs b os c → ServedFrames s n q fs a os c
-behind_none s u n q fs a b c reported os m h =
-    subst (λ (v : State). ServedFrames v n q fs a os c) m.0 (subst (λ (d : Bench). ServedFrames u n q fs d os c) m.1 h)
+behind_none : (s u : State) (n : ℕ) (q : Bool) (fs : List (List ℕ)) (ws : List (Option FailedWrite)) (a b c : Bench) (reported : Option LineResult) (os : List (Option (List ℕ)))
+    → Moves s n None a reported u b → ServedFrames u n q fs ws b os c → ServedFrames s n q fs ws a os c
+behind_none s u n q fs ws a b c reported os m h =
+    subst (λ (v : State). ServedFrames v n q fs ws a os c) m.0 (subst (λ (d : Bench). ServedFrames u n q fs ws d os c) m.1 h)
 
 -- frames after a line
-record BehindLine (s : State) (n : ℕ) (l : DeckLine) (q : Bool) (fs : List (List ℕ)) (a c : Bench) (reported : Option LineResult) (os : List (Option (List ℕ))) : Type 0 where
-  worn : List (Option FailedWrite)
+record BehindLine (s : State) (n : ℕ) (l : DeckLine) (q : Bool) (fs : List (List ℕ)) (worn : List (Option FailedWrite)) (a c : Bench) (reported : Option LineResult) (os : List (Option (List ℕ))) : Type 0 where
   played : Played s ((n + 1, l) ∷ lines_of (n + 1) q fs) worn a c
   first : reported ≡ first_result (plays s ((n + 1, l) ∷ lines_of (n + 1) q fs) worn)
   rest : os ≡ answer_each q fs (drop 1 (plays s ((n + 1, l) ∷ lines_of (n + 1) q fs) worn))
 
-behind_line : (s u : State) (n : ℕ) (l : DeckLine) (q : Bool) (fs : List (List ℕ)) (a b c : Bench) (reported : Option LineResult) (os : List (Option (List ℕ)))
-    → Moves s n (Some l) a reported u b → ServedFrames u (n + 1) q fs b os c → BehindLine s n l q fs a c reported os
-behind_line s u n l q fs a b c reported os m h =
+behind_line : (s u : State) (n : ℕ) (l : DeckLine) (q : Bool) (fs : List (List ℕ)) (ws : List (Option FailedWrite)) (a b c : Bench) (reported : Option LineResult) (os : List (Option (List ℕ)))
+    (m : Moves s n (Some l) a reported u b) → ServedFrames u (n + 1) q fs ws b os c → BehindLine s n l q fs (m.0 ∷ ws) a c reported os
+behind_line s u n l q fs ws a b c reported os m h =
     let w = m.0 in
     let t = step s (n + 1, l) w in
-    let rest : ServedFrames t.after (n + 1) q fs b os c = subst (λ (v : State). ServedFrames v (n + 1) q fs b os c) m.3 h in
-    let e = plays_on s (n + 1, l) w (lines_of (n + 1) q fs) rest.worn in
+    let rest : ServedFrames t.after (n + 1) q fs ws b os c = subst (λ (v : State). ServedFrames v (n + 1) q fs ws b os c) m.3 h in
+    let e = plays_on s (n + 1, l) w (lines_of (n + 1) q fs) ws in
     record {
-      worn = w ∷ rest.worn;
-      played = played_on s (n + 1, l) w (lines_of (n + 1) q fs) rest.worn a b c m.1 rest.played;
+      played = played_on s (n + 1, l) w (lines_of (n + 1) q fs) ws a b c m.1 rest.played;
       first = m.2 ∙ sym (ap first_result e);
       rest = rest.answers ∙ sym (ap (λ (ts : List Step). answer_each q fs (drop 1 ts)) e);
     }
 
-behind : (s u : State) (n : ℕ) (powered : Bool) (m : Meaning) (fs : List (List ℕ)) (a b c : Bench) (reported : Option LineResult) (os : List (Option (List ℕ)))
-    → Moves s n (line_in m) a reported u b → ServedFrames u (number_after n (line_in m)) (power_after powered m) fs b os c → ServedBehind s n powered m fs a (answer_to m reported ∷ os) c
-behind s u n powered PowerOn fs a b c reported os m h =
-    let r = behind_line s u n line.Power _ fs a b c reported os m h in
-    record { worn = r.worn; played = r.played; answers = ap (λ (qs : List (Option (List ℕ))). None ∷ qs) r.rest }
-behind s u n powered PowerOff fs a b c reported os m h =
-    let r = behind_none s u n _ fs a b c reported os m h in
-    record { worn = r.worn; played = r.played; answers = ap (λ (qs : List (Option (List ℕ))). None ∷ qs) r.answers }
-behind s u n powered WantsAtr fs a b c reported os m h =
-    let r = behind_none s u n _ fs a b c reported os m h in
-    record { worn = r.worn; played = r.played; answers = ap (λ (qs : List (Option (List ℕ))). answer_to WantsAtr None ∷ qs) r.answers }
-behind s u n powered Nothing fs a b c reported os m h =
-    let r = behind_none s u n _ fs a b c reported os m h in
-    record { worn = r.worn; played = r.played; answers = ap (λ (qs : List (Option (List ℕ))). None ∷ qs) r.answers }
-behind s u n powered (Orders l) fs a b c reported os m h =
-    let r = behind_line s u n l _ fs a b c reported os m h in
-    record { worn = r.worn; played = r.played; answers = ap (λ (qs : List (Option (List ℕ))). answer_to (Orders l) None ∷ qs) r.rest }
-behind s u n powered (Refused w) fs a b c reported os m h =
-    let r = behind_none s u n _ fs a b c reported os m h in
-    record { worn = r.worn; played = r.played; answers = ap (λ (qs : List (Option (List ℕ))). answer_to (Refused w) None ∷ qs) r.answers }
-behind s u n powered (ToCard f) fs a b c reported os m h =
-    let r = behind_line s u n (line.Apdu f) _ fs a b c reported os m h in
-    let ts = plays s ((n + 1, line.Apdu f) ∷ lines_of (n + 1) powered fs) r.worn in
+-- the failed write of a line that may be missing
+abbrev pub failures_of_move : (s u : State) (n : ℕ) (o : Option DeckLine) (a b : Bench) (reported : Option LineResult) → Moves s n o a reported u b → List (Option FailedWrite)
+failures_of_move s u n None a b reported m = []
+failures_of_move s u n (Some l) a b reported m = m.0 ∷ []
+
+behind : (s u : State) (n : ℕ) (powered : Bool) (m : Meaning) (fs : List (List ℕ)) (ws : List (Option FailedWrite)) (a b c : Bench) (reported : Option LineResult) (os : List (Option (List ℕ)))
+    (moves : Moves s n (line_in m) a reported u b) → ServedFrames u (number_after n (line_in m)) (power_after powered m) fs ws b os c
+    → ServedBehind s n powered m fs (failures_of_move s u n (line_in m) a b reported moves ++ ws) a (answer_to m reported ∷ os) c
+behind s u n powered PowerOn fs ws a b c reported os m h =
+    let r = behind_line s u n line.Power _ fs ws a b c reported os m h in
+    record { played = r.played; answers = ap (λ (qs : List (Option (List ℕ))). None ∷ qs) r.rest }
+behind s u n powered PowerOff fs ws a b c reported os m h =
+    let r = behind_none s u n _ fs ws a b c reported os m h in
+    record { played = r.played; answers = ap (λ (qs : List (Option (List ℕ))). None ∷ qs) r.answers }
+behind s u n powered WantsAtr fs ws a b c reported os m h =
+    let r = behind_none s u n _ fs ws a b c reported os m h in
+    record { played = r.played; answers = ap (λ (qs : List (Option (List ℕ))). answer_to WantsAtr None ∷ qs) r.answers }
+behind s u n powered Nothing fs ws a b c reported os m h =
+    let r = behind_none s u n _ fs ws a b c reported os m h in
+    record { played = r.played; answers = ap (λ (qs : List (Option (List ℕ))). None ∷ qs) r.answers }
+behind s u n powered (Orders l) fs ws a b c reported os m h =
+    let r = behind_line s u n l _ fs ws a b c reported os m h in
+    record { played = r.played; answers = ap (λ (qs : List (Option (List ℕ))). answer_to (Orders l) None ∷ qs) r.rest }
+behind s u n powered (Refused w) fs ws a b c reported os m h =
+    let r = behind_none s u n _ fs ws a b c reported os m h in
+    record { played = r.played; answers = ap (λ (qs : List (Option (List ℕ))). answer_to (Refused w) None ∷ qs) r.answers }
+behind s u n powered (ToCard f) fs ws a b c reported os m h =
+    let r = behind_line s u n (line.Apdu f) _ fs ws a b c reported os m h in
+    let ts = plays s ((n + 1, line.Apdu f) ∷ lines_of (n + 1) powered fs) (m.0 ∷ ws) in
     record {
-      worn = r.worn;
       played = r.played;
       answers = ap (λ (o : Option LineResult). Some (result_bytes o) ∷ os) r.first ∙ ap (λ (qs : List (Option (List ℕ))). Some (result_bytes (first_result ts)) ∷ qs) r.rest;
     }
-behind s u n powered Unheard fs a b c reported os m h =
-    let r = behind_none s u n _ fs a b c reported os m h in
-    record { worn = r.worn; played = r.played; answers = ap (λ (qs : List (Option (List ℕ))). Some [] ∷ qs) r.answers }
+behind s u n powered Unheard fs ws a b c reported os m h =
+    let r = behind_none s u n _ fs ws a b c reported os m h in
+    record { played = r.played; answers = ap (λ (qs : List (Option (List ℕ))). Some [] ∷ qs) r.answers }
 
 -- a frame that was served, and those after it
-pub frames_on : (s u : State) (n : ℕ) (powered : Bool) (f : List ℕ) (fs : List (List ℕ)) (a b c : Bench) (reported : Option LineResult) (os : List (Option (List ℕ)))
-    → Moves s n (line_in (meaning powered f)) a reported u b
-    → ServedFrames u (number_after n (line_in (meaning powered f))) (power_after powered (meaning powered f)) fs b os c
-    → ServedFrames s n powered (f ∷ fs) a (answer_to (meaning powered f) reported ∷ os) c
-frames_on s u n powered f fs a b c reported os m h =
-    let r = behind s u n powered (meaning powered f) fs a b c reported os m h in
-    record { worn = r.worn; played = r.played; answers = r.answers }
+pub frames_on : (s u : State) (n : ℕ) (powered : Bool) (f : List ℕ) (fs : List (List ℕ)) (ws : List (Option FailedWrite)) (a b c : Bench) (reported : Option LineResult) (os : List (Option (List ℕ)))
+    (moves : Moves s n (line_in (meaning powered f)) a reported u b)
+    → ServedFrames u (number_after n (line_in (meaning powered f))) (power_after powered (meaning powered f)) fs ws b os c
+    → ServedFrames s n powered (f ∷ fs) (failures_of_move s u n (line_in (meaning powered f)) a b reported moves ++ ws) a (answer_to (meaning powered f) reported ∷ os) c
+frames_on s u n powered f fs ws a b c reported os moves h =
+    let r = behind s u n powered (meaning powered f) fs ws a b c reported os moves h in
+    record { played = r.played; answers = r.answers }

@@ -1,5 +1,5 @@
 -- A deck that was played, and the frames that were served after it, as one session.
-use Rattle.std.proofs.Common.{◌≡◌, ℕ, suc, Bool, true, false, cond, List, [], ◌∷◌, ◌++◌, length, take, drop, Option, Some, None, Result, Ok, Err, refl, sym, ◌∙◌, ap, subst}
+use Rattle.std.proofs.Common.{◌≡◌, ◌≢◌, ℕ, suc, Bool, true, false, cond, List, [], ◌∷◌, ◌++◌, length, take, drop, Option, Some, None, Result, Ok, Err, refl, sym, ◌∙◌, ap, subst, append_assoc}
 use Rattle.std.specs.Prelude.{◌&&◌, ◌==◌, nat_le, IfOk, IfSome}
 use Rattle.std.specs.List.{AllByRecursion}
 use Rattle.std.proofs.lemmas.List.{drop_at}
@@ -15,19 +15,19 @@ use Rattle.mc_family.proofs.DeckBytes.{played_bytes}
 use Rattle.mc_family.proofs.PlayLaw.{play_law}
 use Rattle.mc_script.specs.Plays.{Bench, LeadsTo}
 use Rattle.mc_script.proofs.Composing.{plays_append}
+use Rattle.mc_check.proofs.CheckedPlays.{checked_plays_law}
+use Rattle.mc_reader.proofs.FrameLineLemmas.{good}
+use Rattle.mc_reader.proofs.MomentLemmas.{moments_kept}
+use Rattle.mc_reader.proofs.ReadBackLemmas.{IsFrameLine}
+use Rattle.mc_reader.proofs.SessionDeckLemmas.{length_plays}
 use Rattle.mc_reader.specs.Meanings.{Meaning, PowerOn, PowerOff, WantsAtr, Nothing, wrong_length, wrong_instruction, wrong_parameters, in_range, cut_order, fail_order, budget_order, plain_order, order_by, order, by_order, by_power, meaning, power_after}
 use Rattle.mc_reader.specs.Lines.{line_in, line_with_number, number_after, last_number, lines_of, session_lines}
 use Rattle.mc_reader.specs.Answers.{answer_each, session_answers}
-use Rattle.mc_reader.specs.Sessions.{AroundSession, EndsBy, Served, Serves}
-use Rattle.mc_reader.specs.Serving.{ServedFrom}
+use Rattle.mc_reader.specs.Moments.{Moment}
+use Rattle.mc_reader.specs.Sessions.{AnswersWritten, AroundSession, EndsBy, IsMomentAfter, IsUntouched, Served, Serves}
+use Rattle.mc_reader.specs.Serving.{ServedFrom, IsServedMoment}
 use Rattle.mc_reader.specs.declared.serve_error.ServeError.{ServeError}
 use Rattle.mc_reader.specs.declared.serve_error.ServeError.TheVariants as fault
-
--- each line has a step
-length_plays : (s : State) (ls : List (ℕ × DeckLine)) (ws : List (Option FailedWrite)) → length (plays s ls ws) ≡ length ls
-unfolding plays
-length_plays s [] ws = refl
-length_plays s (l ∷ ls) ws = ap suc (length_plays (step s l (first_failure ws)).after ls (drop 1 ws))
 
 -- the steps of the frames' lines
 steps_behind_deck : (s u : State) (deck ls : List (ℕ × DeckLine)) (ws vs : List (Option FailedWrite)) → length ws ≡ length deck → u ≡ last_state s (plays s deck ws) → drop (length deck) (plays s (deck ++ ls) (ws ++ vs)) ≡ plays u ls vs
@@ -46,60 +46,24 @@ ends_same fs part os (Err fault.NoMemory) a b c h = h
 
 -- ---- lines of bytes
 
--- an order is a line that carries no bytes
-plain_cond : (b : Bool) (r q : Result DeckLine ℕ) → IfOk r IsLine → IfOk q IsLine → IfOk (cond b r q) IsLine
-plain_cond true r q h k = h
-plain_cond false r q h k = k
+-- a line that a frame can represent carries bytes
+line_bytes : (l : DeckLine) → IsFrameLine l → IsLine l
+line_bytes line.Power h = tt
+line_bytes (line.Apdu bytes) h = h.1
+line_bytes (line.Cut k fill) h = tt
+line_bytes (line.Fail k) h = tt
+line_bytes (line.Budget n) h = tt
+line_bytes line.Format h = absurd h
+line_bytes (line.Poke at x) h = absurd h
+line_bytes line.Named h = absurd h
+line_bytes (line.Dump x) h = absurd h
+line_bytes (line.Load u fixed session) h = absurd h
+line_bytes (line.Select x) h = absurd h
+line_bytes (line.Delete x) h = absurd h
 
-plain_range : (b : Bool) (l : DeckLine) → IsLine l → IfOk (in_range b l) IsLine
-plain_range true l h = h
-plain_range false l h = tt
-
-plain_sized : (size p1 p2 : ℕ) (body : List ℕ) (r : Result DeckLine ℕ) → IfOk r IsLine → IfOk (plain_order size p1 p2 body r) IsLine
-plain_sized size p1 p2 body r h =
-    plain_cond (length body == size) (cond ((p1 == 0) && (p2 == 0)) r (Err wrong_parameters)) (Err wrong_length) (plain_cond ((p1 == 0) && (p2 == 0)) r (Err wrong_parameters) h tt) tt
-
-plain_by : (ins p1 p2 : ℕ) (body : List ℕ) → IfOk (order_by ins p1 p2 body) IsLine
-plain_by ins p1 p2 body =
-    let k = num (take 4 body) in
-    let n = num body in
-    plain_cond (ins == 0xC0) (plain_order 12 p1 p2 body (cut_order body)) _ (plain_sized 12 p1 p2 body (cut_order body) (plain_range (nat_le 1 k) (line.Cut k (drop 4 body)) tt))
-    (plain_cond (ins == 0xC1) (plain_order 4 p1 p2 body (fail_order body)) _ (plain_sized 4 p1 p2 body (fail_order body) (plain_range (nat_le 1 n) (line.Fail n) tt))
-    (plain_cond (ins == 0xC2) (plain_order 4 p1 p2 body (budget_order body)) (Err wrong_instruction)
-    (plain_sized 4 p1 p2 body (budget_order body) (plain_range (nat_le 1 n && nat_le n 65536) (line.Budget n) tt)) tt))
-
-plain : (f : List ℕ) → IfOk (order f) IsLine
-plain [] = tt
-plain (cla ∷ []) = tt
-plain (cla ∷ ins ∷ []) = tt
-plain (cla ∷ ins ∷ p1 ∷ []) = tt
-plain (cla ∷ ins ∷ p1 ∷ p2 ∷ []) = tt
-plain (cla ∷ ins ∷ p1 ∷ p2 ∷ lc ∷ body) = plain_cond (length body == lc) (order_by ins p1 p2 body) (Err wrong_length) (plain_by ins p1 p2 body) tt
-
--- the line of a meaning, if it has one, carries bytes
-abbrev Carries : Meaning → Type 0
-Carries m = IfSome (line_in m) IsLine
-
-carries_cond : (b : Bool) (m k : Meaning) → Carries m → Carries k → Carries (cond b m k)
-carries_cond true m k h i = h
-carries_cond false m k h i = i
-
-carries_order : (r : Result DeckLine ℕ) → IfOk r IsLine → Carries (by_order r)
-carries_order (Ok l) h = h
-carries_order (Err status) h = tt
-
-carries_power : (powered : Bool) (f : List ℕ) → AreBytes f → Carries (by_power powered f)
-carries_power true f bytes = bytes
-carries_power false f bytes = tt
-
--- the meaning of a frame of bytes has no line with anything else
-carries : (powered : Bool) (f : List ℕ) → AreBytes f → Carries (meaning powered f)
-carries powered [] bytes = tt
-carries powered (b ∷ []) bytes =
-    carries_cond (b == 0) PowerOff _ tt (carries_cond (b == 1) PowerOn _ tt (carries_cond (b == 2) PowerOn _ tt (carries_cond (b == 4) WantsAtr Nothing tt tt)))
-carries powered (b ∷ c ∷ bs) bytes =
-    let f = b ∷ c ∷ bs in
-    carries_cond (b == 0xFF) (by_order (order f)) (by_power powered f) (carries_order (order f) (plain f)) (carries_power powered f bytes)
+carries : (o : Option DeckLine) → IfSome o IsFrameLine → IfSome o IsLine
+carries None h = tt
+carries (Some l) h = line_bytes l h
 
 numbered_bytes : (n : ℕ) (o : Option DeckLine) → IfSome o IsLine → AllByRecursion (λ l. IsLine l.1) (line_with_number n o)
 numbered_bytes n None h = tt
@@ -110,10 +74,27 @@ frames_bytes : (n : ℕ) (powered : Bool) (fs : List (List ℕ)) → AllByRecurs
 frames_bytes n powered [] all = tt
 frames_bytes n powered (f ∷ fs) all =
     let m = meaning powered f in
-    all_append (λ l. IsLine l.1) (line_with_number n (line_in m)) (lines_of (number_after n (line_in m)) (power_after powered m) fs) (numbered_bytes n (line_in m) (carries powered f all.0))
+    all_append (λ l. IsLine l.1) (line_with_number n (line_in m)) (lines_of (number_after n (line_in m)) (power_after powered m) fs) (numbered_bytes n (line_in m) (carries (line_in m) (good powered f all.0)))
     (frames_bytes (number_after n (line_in m)) (power_after powered m) fs all.1)
 
 -- ---- one play
+
+-- a moment of the frames is one after the deck as well
+moment_deck : (deck : List (ℕ × DeckLine)) (a : AroundSession) (b : Bench) (u : State) (worn ws : List (Option FailedWrite)) (fs : List (List ℕ)) (m : Moment)
+    → LeadsTo (start a.dev_old.device.words) deck worn a.dev_old u b → IsServedMoment u (last_number deck) ws b a.out_old fs m → IsMomentAfter deck (worn ++ ws) a fs m
+moment_deck deck a b u worn ws fs m leads k =
+    let s = start a.dev_old.device.words in
+    let ls = lines_of (last_number deck) false fs in
+    let steps = steps_behind_deck s u deck ls worn k.first leads.many leads.last in
+    let are : k.answers ≡ session_answers deck fs (plays s (deck ++ ls) (worn ++ k.first)) =
+    k.served.answers ∙ ap (λ (ts : List Step). answer_each false fs ts) (sym steps) in
+    record {
+      first = worn ++ k.first;
+      later = k.later;
+      parts = ap (λ (us : List (Option FailedWrite)). worn ++ us) k.parts ∙ sym (append_assoc worn k.first k.later);
+      played = leads.rest ls k.first m.dev k.served.played;
+      written = subst (λ (os : List (Option (List ℕ))). AnswersWritten a.out_old os m.out) are k.written;
+    }
 
 -- the deck and the frames are one play
 served_deck : (deck : List (ℕ × DeckLine)) (result : Result (Unit {0}) ServeError) (a : AroundSession) (b : Bench) (u : State) (worn : List (Option FailedWrite))
@@ -121,26 +102,35 @@ served_deck : (deck : List (ℕ × DeckLine)) (result : Result (Unit {0}) ServeE
 served_deck deck result a b u worn image bytes leads h =
     let s = start a.dev_old.device.words in
     let ls = lines_of (last_number deck) false h.frames in
-    let played = leads.rest ls h.served.worn a.dev h.served.played in
-    let steps = steps_behind_deck s u deck ls worn h.served.worn leads.many leads.last in
-    let are : h.answers ≡ session_answers deck h.frames (plays s (deck ++ ls) (worn ++ h.served.worn)) =
+    let played = leads.rest ls h.worn a.dev h.served.played in
+    let steps = steps_behind_deck s u deck ls worn h.worn leads.many leads.last in
+    let are : h.answers ≡ session_answers deck h.frames (plays s (deck ++ ls) (worn ++ h.worn)) =
     h.served.answers ∙ ap (λ (ts : List Step). answer_each false h.frames ts) (sym steps) in
     let m = a.dev_old.device.words in
-    let laws : HoldsOf m (plays s (deck ++ ls) (worn ++ h.served.worn)) = play_law (session_lines deck h.frames) m (worn ++ h.served.worn) played.possible in
+    let laws : HoldsOf m (plays s (deck ++ ls) (worn ++ h.worn)) = play_law (session_lines deck h.frames) m (worn ++ h.worn) played.possible in
     let mine = all_append (λ l. IsLine l.1) deck ls bytes (frames_bytes (last_number deck) false h.frames h.bytes) in
-    let each : AreLines (plays s (deck ++ ls) (worn ++ h.served.worn)) = played_bytes s (session_lines deck h.frames) (worn ++ h.served.worn) mine in
+    let each : AreLines (plays s (deck ++ ls) (worn ++ h.worn)) = played_bytes s (session_lines deck h.frames) (worn ++ h.worn) mine in
     record {
       frames = h.frames;
       part = h.part;
       taken = h.taken;
       took = h.took;
       read = h.read;
+      bytes = h.bytes;
       counted = h.counted;
-      worn = worn ++ h.served.worn;
+      worn = worn ++ h.worn;
       played = played;
+      asked = record {
+        moments = h.moments;
+        recorded = h.recorded;
+        each =
+            moments_kept (IsServedMoment u (last_number deck) h.worn b a.out_old) (IsMomentAfter deck (worn ++ h.worn) a)
+            (λ fs m k. moment_deck deck a b u worn h.worn fs m leads k) [] h.frames h.moments h.each;
+      };
       laws = laws;
       few = laws.few image each;
       ready = laws.ready image each;
+      checked = checked_plays_law (session_lines deck h.frames) m (worn ++ h.worn);
       ends = subst (λ (os : List (Option (List ℕ))). EndsBy h.frames h.part os result a) are (ends_same h.frames h.part h.answers result a b a.dev h.ends);
     }
 
@@ -167,3 +157,24 @@ served_session deck result a d b c u worn image bytes leads h old old_bench new 
     serves deck result a (
     served_deck deck result a b u worn image bytes (subst (λ (e : Bench). LeadsTo (start a.dev_old.device.words) deck worn e u b) (bench_same d a.dev_old old old_bench) leads)
     (subst (λ (e : Bench). ServedFrom u (last_number deck) result (record a { dev_old = b; dev = e })) (bench_same c a.dev new new_bench) h))
+
+-- ---- by the result
+
+-- what a session that is out of memory is, and one that is not
+pub served_unless : (deck : List (ℕ × DeckLine)) (result : Result (Unit {0}) ServeError) (a : AroundSession) → Serves deck result a → result ≢ Err fault.NoMemory → Served deck result a
+served_unless deck (Ok u) a h other = h
+served_unless deck (Err (fault.Short n)) a h other = h
+served_unless deck (Err fault.ReadFault) a h other = h
+served_unless deck (Err fault.WriteFault) a h other = h
+served_unless deck (Err fault.NoMemory) a h other = absurd (other refl)
+
+pub untouched_if : (deck : List (ℕ × DeckLine)) (result : Result (Unit {0}) ServeError) (a : AroundSession) → Serves deck result a → result ≡ Err fault.NoMemory → IsUntouched a
+untouched_if deck result a h is = subst (λ (r : Result (Unit {0}) ServeError). Serves deck r a) is h
+
+-- a session, from both
+pub serves_by : (deck : List (ℕ × DeckLine)) (result : Result (Unit {0}) ServeError) (a : AroundSession) → (result ≡ Err fault.NoMemory → IsUntouched a) → (result ≢ Err fault.NoMemory → Served deck result a) → Serves deck result a
+serves_by deck (Ok u) a short served = served (λ e. cc e)
+serves_by deck (Err (fault.Short n)) a short served = served (λ e. cc e)
+serves_by deck (Err fault.ReadFault) a short served = served (λ e. cc e)
+serves_by deck (Err fault.WriteFault) a short served = served (λ e. cc e)
+serves_by deck (Err fault.NoMemory) a short served = short refl

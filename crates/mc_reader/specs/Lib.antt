@@ -2,10 +2,13 @@ pub mod Frames
 pub mod Meanings
 pub mod Lines
 pub mod Answers
+pub mod SessionDeck
 pub mod Computed
 pub mod Readings
 pub mod Requests
 pub mod Results
+pub mod Benches
+pub mod Moments
 pub mod Sessions
 pub mod Serving
 pub mod Laws

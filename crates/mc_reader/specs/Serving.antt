@@ -1,5 +1,5 @@
 -- The parts of a session: one frame, and frames that are served from a state of a play.
-use Rattle.std.specs.Prelude.{◌≡◌, ℕ, ◌+◌, ◌≤◌, Bool, false, List, Option, Some, None, Result}
+use Rattle.std.specs.Prelude.{◌≡◌, ℕ, ◌+◌, ◌≤◌, Bool, false, List, [], ◌++◌, Option, Some, None, Result}
 use Rattle.std.specs.List.{AllByRecursion}
 use Rattle.mc_model_device.specs.Bytes.{AreBytes}
 use Rattle.mc_model_device.specs.Device.{DeviceState, BenchState}
@@ -18,7 +18,8 @@ use Rattle.mc_reader.specs.Meanings.{Meaning}
 use Rattle.mc_reader.specs.Lines.{line_in, lines_of}
 use Rattle.mc_reader.specs.Answers.{answer_to, answer_each}
 use Rattle.mc_reader.specs.Results.{answer_frame}
-use Rattle.mc_reader.specs.Sessions.{AroundSession, EndsBy}
+use Rattle.mc_reader.specs.Moments.{Moment, Records, AreMoments}
+use Rattle.mc_reader.specs.Sessions.{AnswersWritten, AroundSession, EndsBy}
 use Rattle.mc_reader.specs.declared.serve_error.ServeError.{ServeError}
 
 -- ---- one frame
@@ -47,11 +48,20 @@ module _ {N : Type 0} (state : N → DeviceState) (bench : N → BenchState) whe
 -- ---- frames
 
 -- frames were served from a state of a play, by whether the card has power before them, their lines with numbers after
--- n, and these are their answers
-pub record ServedFrames (s : State) (n : ℕ) (powered : Bool) (fs : List (List ℕ)) (a : Bench) (os : List (Option (List ℕ))) (b : Bench) : Type 0 where
-  pub worn : List (Option FailedWrite)
+-- n and with these failed writes, and these are their answers
+pub record ServedFrames (s : State) (n : ℕ) (powered : Bool) (fs : List (List ℕ)) (worn : List (Option FailedWrite)) (a : Bench) (os : List (Option (List ℕ))) (b : Bench) : Type 0 where
   pub played : Played s (lines_of n powered fs) worn a b
   pub answers : os ≡ answer_each powered fs (plays s (lines_of n powered fs) worn)
+
+-- the moment after these frames, which were served from a state of a play with the first of these failed writes, on a
+-- bench and with a sink as given
+pub record IsServedMoment (s : State) (n : ℕ) (worn : List (Option FailedWrite)) (a : Bench) (x : Sunk) (fs : List (List ℕ)) (m : Moment) : Type 0 where
+  pub first : List (Option FailedWrite)
+  pub later : List (Option FailedWrite)
+  pub parts : worn ≡ first ++ later
+  pub answers : List (Option (List ℕ))
+  pub served : ServedFrames s n false fs first a answers m.dev
+  pub written : AnswersWritten x answers m.out
 
 -- the frames of an input were served from a state of a play, up to the end of the input or up to a fault
 pub record ServedFrom (s : State) (n : ℕ) (result : Result (Unit {0}) ServeError) (a : AroundSession) : Type 0 where
@@ -63,5 +73,9 @@ pub record ServedFrom (s : State) (n : ℕ) (result : Result (Unit {0}) ServeErr
   pub bytes : AllByRecursion AreBytes frames
   pub counted : a.reads_old ≤ a.reads
   pub answers : List (Option (List ℕ))
-  pub served : ServedFrames s n false frames a.dev_old answers a.dev
+  pub worn : List (Option FailedWrite)
+  pub served : ServedFrames s n false frames worn a.dev_old answers a.dev
+  pub moments : List Moment
+  pub recorded : Records a.asked_old moments a.asked
+  pub each : AreMoments (IsServedMoment s n worn a.dev_old a.out_old) [] frames moments
   pub ends : EndsBy frames part answers result a

@@ -1,21 +1,28 @@
 -- A session: a deck is played, and then the frames of a host are served. It is one play of the deck's lines and of
 -- those of the frames.
 use Rattle.std.specs.Prelude.{◌≡◌, ◌⊎◌, ℕ, ◌+◌, ◌<◌, ◌≤◌, false, List, [], ◌∷◌, ◌++◌, length, Option, Some, Result, Ok, Err}
+use Rattle.std.specs.List.{AllByRecursion}
+use Rattle.mc_model_device.specs.Bytes.{AreBytes}
 use Rattle.mc_model_device.specs.Counts.{last_count, Rose}
 use Rattle.mc_model_play.specs.DeckGrammar.{DeckLine}
 use Rattle.mc_model_play.specs.Play.{FailedWrite, Step, plays, start}
 use Rattle.mc_model_play.specs.Laws.{HoldsOf}
 use Rattle.mc_model_play.specs.ReadyAgain.{AllFitJournal, ReadyAgain}
 use Rattle.mc_base.specs.Streams.{Took, AtEnd, Grew}
-use Rattle.mc_text.specs.Texts.{Sunk}
+use Rattle.mc_base.specs.declared.sink.Sink as sink
+use Rattle.mc_text.specs.Texts.{sunk, Sunk}
 use Rattle.mc_script.specs.Plays.{Bench, Played}
+use Rattle.mc_check.specs.Plays.{KeepToVerdicts}
 use Rattle.mc_reader.specs.Frames.{frame_bytes, frames_bytes, frames_read}
 use Rattle.mc_reader.specs.Lines.{session_lines}
 use Rattle.mc_reader.specs.Answers.{present, session_answers}
+use Rattle.mc_reader.specs.Benches.{bench_at, BenchMembers}
+use Rattle.mc_reader.specs.declared.host.Host as host
+use Rattle.mc_reader.specs.Moments.{Moment, Records, AreMoments}
 use Rattle.mc_reader.specs.declared.serve_error.ServeError.{ServeError}
 use Rattle.mc_reader.specs.declared.serve_error.ServeError.TheVariants as fault
 
--- the state of source, sink and device before and after a session
+-- the state of host, sink and device before and after a session, and the moments that the host has recorded
 pub record AroundSession : Type 0 where
   pub left_old : Option (List ℕ)
   pub left : Option (List ℕ)
@@ -25,6 +32,24 @@ pub record AroundSession : Type 0 where
   pub out : Sunk
   pub dev_old : Bench
   pub dev : Bench
+  pub asked_old : Option (List Moment)
+  pub asked : Option (List Moment)
+
+-- the same, by the values of a call before and after it
+abbrev pub around : {H T N : Type 0} → host.Ghosts H → sink.Ghosts T → BenchMembers N → H → H → T → T → N → N → AroundSession
+around h t n in_old in_new out_old out_new dev_old dev_new =
+    record {
+      left_old = h.left in_old;
+      left = h.left in_new;
+      reads_old = h.faults in_old;
+      reads = h.faults in_new;
+      out_old = sunk t out_old;
+      out = sunk t out_new;
+      dev_old = bench_at n dev_old;
+      dev = bench_at n dev_new;
+      asked_old = h.moments in_old;
+      asked = h.moments in_new;
+    }
 
 -- ---- what was written
 
@@ -85,23 +110,50 @@ EndsBy fs part os (Err fault.NoMemory) a = ⊥
 abbrev pub session_steps : List (ℕ × DeckLine) → List (List ℕ) → List (Option FailedWrite) → AroundSession → List Step
 session_steps deck fs worn a = plays (start a.dev_old.device.words) (session_lines deck fs) worn
 
--- A session that served these frames: exactly their bytes, and the part of one that was not received completely, were
--- taken from the source. One list of failed writes accounts for the words, the counts and the tape of the device, and
--- for all that was written. Every closed family of applications has the same results and the same bytes as on a card of
--- its own, each line leaves the card with its complete items, and no new application has a stale byte. Each item fits a
--- journal, and a card that was found or formatted is found by every later power line that no stop hits.
+-- the moment after these frames of a session with these failed writes: the lines of the deck and of exactly these
+-- frames were played on the device, with the first of the failed writes, and exactly the answers to these frames were
+-- written
+pub record IsMomentAfter (deck : List (ℕ × DeckLine)) (worn : List (Option FailedWrite)) (a : AroundSession) (fs : List (List ℕ)) (m : Moment) : Type 0 where
+  pub first : List (Option FailedWrite)
+  pub later : List (Option FailedWrite)
+  pub parts : worn ≡ first ++ later
+  pub played : Played (start a.dev_old.device.words) (session_lines deck fs) first a.dev_old m.dev
+  pub written : AnswersWritten a.out_old (session_answers deck fs (session_steps deck fs first a)) m.out
+
+-- The host was asked for each of these frames once, when the frames before it had been served, and at most once more:
+-- whatever a frame orders has been done before the next one is read, also if it has no answer.
+pub record IsAskedInTurn (deck : List (ℕ × DeckLine)) (worn : List (Option FailedWrite)) (fs : List (List ℕ)) (a : AroundSession) : Type 0 where
+  pub moments : List Moment
+  pub recorded : Records a.asked_old moments a.asked
+  pub each : AreMoments (IsMomentAfter deck worn a) [] fs moments
+
+-- A session: a deck and the frames of a host were one play on a device.
 pub record Served (deck : List (ℕ × DeckLine)) (result : Result (Unit {0}) ServeError) (a : AroundSession) : Type 0 where
+  -- The frames that were served, and the part of one more that was not received completely: exactly their bytes were
+  -- taken from the host.
   pub frames : List (List ℕ)
   pub part : List ℕ
   pub taken : List ℕ
   pub took : Took a.left_old a.left taken
   pub read : frames_read taken ≡ (frames, part)
+  pub bytes : AllByRecursion AreBytes frames
   pub counted : a.reads_old ≤ a.reads
+  -- The lines of the deck and of the frames were played, and one list of failed writes accounts for the words, the
+  -- counts and the tape of the device, and for all that was written.
   pub worn : List (Option FailedWrite)
   pub played : Played (start a.dev_old.device.words) (session_lines deck frames) worn a.dev_old a.dev
+  -- Each frame was taken when the frames before it had been served.
+  pub asked : IsAskedInTurn deck worn frames a
+  -- Every closed family of applications has the same results and the same bytes as on a card of its own, each line
+  -- leaves the card with its complete items, and no new application has a stale byte.
   pub laws : HoldsOf a.dev_old.device.words (session_steps deck frames worn a)
+  -- Each item fits a journal.
   pub few : AllFitJournal (session_steps deck frames worn a)
+  -- A card that was found or formatted is found by every later power line that no stop hits.
   pub ready : ReadyAgain false (session_steps deck frames worn a)
+  -- Accepted code on the card keeps to its verdict.
+  pub checked : KeepToVerdicts (session_steps deck frames worn a)
+  -- The answers of the play were written, each as a frame, up to the end of the session.
   pub ends : EndsBy frames part (session_answers deck frames (session_steps deck frames worn a)) result a
 
 -- out of memory: nothing was read, played or written
@@ -110,6 +162,7 @@ pub record IsUntouched (a : AroundSession) : Type 0 where
   pub reads : a.reads ≡ a.reads_old
   pub out : a.out ≡ a.out_old
   pub dev : a.dev ≡ a.dev_old
+  pub asked : a.asked ≡ a.asked_old
 
 -- the end of a session, by its result
 abbrev pub Serves : List (ℕ × DeckLine) → Result (Unit {0}) ServeError → AroundSession → Type 0

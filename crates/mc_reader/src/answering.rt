@@ -1,7 +1,7 @@
 // The answers to frames.
 ghost use Rattle.std.specs.Prelude.{◌≡◌, ◌≤◌, ◌++◌, length};
 ghost use Rattle.mc_model_device.specs.Bytes.{bytes2};
-ghost use Rattle.mc_text.specs.Texts.{sunk_in, Puts};
+ghost use Rattle.mc_text.specs.Texts.{sunk, Puts};
 ghost use Rattle.mc_reader.specs.Frames.{frame_bytes};
 ghost use Rattle.mc_reader.specs.Requests.{meaning_of};
 ghost use Rattle.mc_machine.specs.Turns.{outcome_value};
@@ -27,8 +27,8 @@ const LONGEST: usize = 1026;
 // Writes an answer as one frame.
 fn put_frame<T: Sink>(out: &mut T, bytes: &[u8]) -> Result<(), WriteFault>
     requires { length bytes.now ≤ 1026 }
-    ensures { Puts (sunk_in T.taken T.faults out.old) (frame_bytes bytes.now) result
-        (sunk_in T.taken T.faults out.new) }
+    ensures { Puts (sunk T.Sink out.old) (frame_bytes bytes.now) result
+        (sunk T.Sink out.new) }
 {
     let mut frame = ArrayVec::<u8, 1028>::new();
     frame.push((bytes.len() / 256) as u8);
@@ -39,8 +39,8 @@ fn put_frame<T: Sink>(out: &mut T, bytes: &[u8]) -> Result<(), WriteFault>
 
 // Writes a reply: its data and its status word.
 fn put_reply<T: Sink>(out: &mut T, reply: &Reply) -> Result<(), WriteFault>
-    ensures { Puts (sunk_in T.taken T.faults out.old) (frame_bytes (reply.now.body.items ++ bytes2 reply.now.sw)) result
-        (sunk_in T.taken T.faults out.new) }
+    ensures { Puts (sunk T.Sink out.old) (frame_bytes (reply.now.body.items ++ bytes2 reply.now.sw)) result
+        (sunk T.Sink out.new) }
 {
     let mut bytes = ArrayVec::<u8, LONGEST>::new();
     bytes.try_extend_from_slice(reply.body.as_slice()).unwrap();
@@ -51,8 +51,8 @@ fn put_reply<T: Sink>(out: &mut T, reply: &Reply) -> Result<(), WriteFault>
 
 // Writes the outcome of a command.
 fn put_outcome<T: Sink>(out: &mut T, outcome: &Outcome) -> Result<(), WriteFault>
-    ensures { Puts (sunk_in T.taken T.faults out.old) (frame_bytes (outcome_bytes (outcome_value outcome.now))) result
-        (sunk_in T.taken T.faults out.new) }
+    ensures { Puts (sunk T.Sink out.old) (frame_bytes (outcome_bytes (outcome_value outcome.now))) result
+        (sunk T.Sink out.new) }
 {
     match outcome {
         Outcome::Reply(reply) => put_reply(out, reply),
@@ -67,8 +67,8 @@ fn put_result<T: Sink>(
     answer: &Option<Answer>,
     outcome: &Outcome,
 ) -> Result<(), WriteFault>
-    ensures { Puts (sunk_in T.taken T.faults out.old) (frame_bytes (answer_bytes outcome.now answer.now)) result
-        (sunk_in T.taken T.faults out.new) }
+    ensures { Puts (sunk T.Sink out.old) (frame_bytes (answer_bytes outcome.now answer.now)) result
+        (sunk T.Sink out.new) }
 {
     match answer {
         Some(Answer::Outcome) => put_outcome(out, outcome),
@@ -89,9 +89,9 @@ pub fn put_answer<T: Sink>(
     answer: &Option<Answer>,
     outcome: &Outcome,
 ) -> Result<(), WriteFault>
-    ensures { Puts (sunk_in T.taken T.faults out.old)
+    ensures { Puts (sunk T.Sink out.old)
         (answer_frame (reply_to_frame (meaning_of request.now) outcome.now answer.now)) result
-        (sunk_in T.taken T.faults out.new) }
+        (sunk T.Sink out.new) }
 {
     match request {
         Request::Atr => put_frame(out, &ATR),

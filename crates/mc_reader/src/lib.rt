@@ -4,6 +4,7 @@
 //! frame.
 
 mod answering;
+mod host;
 mod laws;
 mod order;
 mod reading;
@@ -12,6 +13,8 @@ mod rows;
 mod serve_error;
 mod serving;
 
-pub use laws::commands_are_answered;
+pub use host::Host;
+pub use laws::{a_session_is_a_deck, commands_are_answered};
+pub use reading::FrameFault;
 pub use serve_error::ServeError;
 pub use serving::serve;

@@ -1,9 +1,11 @@
-#![tactic(auto, unfolding(crate::specs::Computed::answers_to_input))]
+#![tactic(auto, unfolding(crate::specs::Computed::answers_to_input, crate::specs::Frames::frames_within))]
 
 // Worked rows: sessions from the text of a deck and the bytes of the host's frames to the bytes of the answers.
 ghost use Rattle.std.specs.Prelude.{◌≡◌, ◌++◌, [], codes};
 ghost use Rattle.mc_model_examples.specs.Written.{hex, times};
 ghost use Rattle.mc_model_examples.specs.Played.{unit_line};
+ghost use Rattle.mc_reader.specs.Frames.{frames_read};
+ghost use Rattle.mc_reader.specs.SessionDeck.{session_text};
 ghost use Rattle.mc_reader.specs.Computed.{answers_to_input};
 
 /// The host requests the answer to reset: it does not depend on power.
@@ -95,4 +97,11 @@ pub fn long_and_short_frames()
         codes "load a 2 0\n") (
         codes "0001 01 000A 00A4040C05A000000001 0100 80010000FA" ++ times 250 (codes "00") ++ codes "02 0005 80010000")
         ≡ hex (codes "0002 9000 0004 00019000") }
+{}
+
+/// The deck that a session is, as a text: a statement for each frame that represents a line, and none for another.
+pub fn text_of_a_session()
+    ensures { session_text (codes "format")
+        ((frames_read (hex (codes "0001 01 0001 04 0001 00 0005 8001000002 0001 02 0005 8001000002"))).0)
+        ≡ codes "format\npower\npower\napdu 8001000002\n" }
 {}

@@ -1,21 +1,22 @@
 // A session: a deck is played, and then the frames of a host are served.
-ghost use Rattle.std.specs.Prelude.{◌≡◌, ℕ, length};
+ghost use Rattle.std.specs.Prelude.{◌≡◌, ◌≢◌, ℕ, length, Err};
 ghost use Rattle.mc_model_device.specs.Bytes.{AreBytes};
 ghost use Rattle.mc_model_play.specs.Play.{State};
-ghost use Rattle.mc_text.specs.Texts.{sunk_in};
+ghost use Rattle.mc_text.specs.Texts.{sunk};
 ghost use Rattle.mc_script.specs.Players.{device_of, IsPlayerAt, IsPlaying, IsUnfused};
-ghost use Rattle.mc_script.specs.Lines.{bench_of};
+ghost use Rattle.mc_reader.specs.Benches.{bench_below};
 ghost use Rattle.mc_reader.specs.Meanings.{meaning, power_after};
 ghost use Rattle.mc_reader.specs.Lines.{line_in};
 ghost use Rattle.mc_reader.specs.Requests.{meaning_of, IsGoodRequest};
 ghost use Rattle.mc_reader.specs.Serving.{PlaysLine, ServesFrame, ServedFrom};
-ghost use Rattle.mc_reader.specs.Sessions.{Serves};
+ghost use Rattle.mc_reader.specs.Sessions.{around, IsUntouched, Served};
 
 use crate::answering::put_answer;
-use crate::reading::{FrameFault, read_frame};
+use crate::host::Host;
+use crate::reading::FrameFault;
 use crate::request::Request;
 use crate::serve_error::ServeError;
-use mc_base::{Sink, Source, Steps, WriteFault};
+use mc_base::{Sink, Steps, WriteFault};
 use mc_deck::Deck;
 use mc_nvm::Bench;
 use mc_script::{Answer, Player, Silent};
@@ -53,7 +54,7 @@ fn serve_frame<N: Bench, T: Sink, L: Ledger>(
     requires { IsPlaying N.state N.bench player.old }
     ensures serves { (s : State) (n : ℕ) → IsPlayerAt N.state N.bench player.old s
         → ServesFrame N.state N.bench player.old s n (meaning powered.old frame.now)
-        (sunk_in T.taken T.faults out.old) result player.new (sunk_in T.taken T.faults out.new) }
+        (sunk T.Sink out.old) result player.new (sunk T.Sink out.new) }
     ensures power { powered.new ≡ power_after powered.old (meaning powered.old frame.now) }
     ensures bytes { AreBytes frame.now }
     ensures keeps_device { N.same (device_of player.old) (device_of player.new) }
@@ -65,9 +66,9 @@ fn serve_frame<N: Bench, T: Sink, L: Ledger>(
 }
 
 // Serves frames up to the end of the input, or up to a fault. The card has no power before them.
-fn serve_frames<S: Source, T: Sink, N: Bench, L: Ledger>(
+fn serve_frames<H: Host, T: Sink, N: Bench, L: Ledger>(
     player: &mut Player<N>,
-    input: &mut S,
+    input: &mut H,
     out: &mut T,
     room: &mut [u8],
     steps: &mut Steps<L>,
@@ -77,20 +78,22 @@ fn serve_frames<S: Source, T: Sink, N: Bench, L: Ledger>(
     ensures served { (s : State) (n : ℕ) → IsPlayerAt N.state N.bench player.old s
         → ServedFrom s n result
         (record {
-          left_old = S.left input.old;
-          left = S.left input.new;
-          reads_old = S.faults input.old;
-          reads = S.faults input.new;
-          out_old = sunk_in T.taken T.faults out.old;
-          out = sunk_in T.taken T.faults out.new;
-          dev_old = bench_of N.state N.bench player.old;
-          dev = bench_of N.state N.bench player.new;
+          left_old = H.left input.old;
+          left = H.left input.new;
+          reads_old = H.faults input.old;
+          reads = H.faults input.new;
+          out_old = sunk T.Sink out.old;
+          out = sunk T.Sink out.new;
+          dev_old = bench_below N.Bench player.old;
+          dev = bench_below N.Bench player.new;
+          asked_old = H.moments input.old;
+          asked = H.moments input.new;
         }) }
     ensures keeps_device { N.same (device_of player.old) (device_of player.new) }
 {
     let mut powered = false;
     for before in 0..u64::MAX {
-        let size = match read_frame(input, room) {
+        let size = match input.frame(room, player, out) {
             Ok(Some(size)) => size,
             Ok(None) => return Ok(()),
             Err(FrameFault::Short) => return Err(ServeError::Short(before + 1)),
@@ -111,25 +114,22 @@ fn serve_frames<S: Source, T: Sink, N: Bench, L: Ledger>(
 ///
 /// Returns why the session ended before the end of its input. If it is out of memory, nothing was read,
 /// played or written.
-pub fn serve<S: Source, T: Sink, N: Bench, L: Ledger>(
+pub fn serve<H: Host, T: Sink, N: Bench, L: Ledger>(
     alloc: Global,
     deck: &Deck,
-    input: &mut S,
+    input: &mut H,
     out: &mut T,
     dev: &mut N,
     steps: &mut Steps<L>,
 ) -> Result<(), ServeError>
     requires { IsUnfused (N.bench dev.old) }
-    ensures { Serves deck.now result (record {
-      left_old = S.left input.old;
-      left = S.left input.new;
-      reads_old = S.faults input.old;
-      reads = S.faults input.new;
-      out_old = sunk_in T.taken T.faults out.old;
-      out = sunk_in T.taken T.faults out.new;
-      dev_old = record { device = N.state dev.old; bench = N.bench dev.old };
-      dev = record { device = N.state dev.new; bench = N.bench dev.new };
-    }) }
+    // Out of memory, nothing was read, played or written.
+    ensures memory { result ≡ Err ServeError.NoMemory → IsUntouched
+        (around H.Host T.Sink N.Bench input.old input.new out.old out.new dev.old dev.new) }
+    // Else the deck and the frames that were taken were one play on the device, each frame was served before the next was
+    // taken, and the answers of the play were written up to the end that the result states.
+    ensures session { result ≢ Err ServeError.NoMemory → Served deck.now result
+        (around H.Host T.Sink N.Bench input.old input.new out.old out.new dev.old dev.new) }
 {
     let mut room = vec![in alloc; 0; LONGEST_FRAME]?;
     let _words = dev.len();

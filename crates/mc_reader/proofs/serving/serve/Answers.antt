@@ -1,6 +1,8 @@
 use Rattle.std.proofs.Common.{rules, MutBor, sym, ap, ◌∙◌}
 use Rattle.mc_reader.specs.Lines.{last_number}
-use Rattle.mc_reader.proofs.SessionLemmas.{served_session}
+use Rattle.mc_reader.specs.Benches.{BenchMembers}
+use Rattle.mc_reader.specs.Sessions.{around, AroundSession, Serves}
+use Rattle.mc_reader.proofs.SessionLemmas.{served_session, served_unless, untouched_if}
 use Rattle.mc_reader.proofs.serving.serve.Goals as goal
 
 pub serve_frames-result-requires-clause-playing : goal.serve_frames-result-requires-clause-playing
@@ -18,4 +20,11 @@ returns g c =
     let back = sym c.into_dev-dev.ensures in
     let device = ap (λ (d : MutBor g.row.N.Denot). g.N.Nvm.state d.now) back in
     let bench = ap (λ (d : MutBor g.row.N.Denot). g.N.Bench.bench d.now) back in
-    served_session _ _ _ _ _ _ deck.here deck.worn c.len-words.ensures.image c.len-lines.ensures.bytes deck.leads served (search rules) (search rules) (device ∙ search (rules, name)) (bench ∙ search (rules, name))
+    let members : BenchMembers g.row.N.Denot = record { state = g.N.Nvm.state; wrote = g.N.Nvm.wrote; same = g.N.Nvm.same; bench = g.N.Bench.bench } in
+    let a : AroundSession = around g.H.Host g.T.Sink members c.args.input.now c.serve_frames-result.new.input c.args.out.now c.serve_frames-result.new.out c.args.dev.now _ in
+    let all : Serves c.args.deck.now c.serve_frames-result.result a =
+    served_session _ _ _ _ _ _ deck.here deck.worn c.len-words.ensures.image c.len-lines.ensures.bytes deck.leads served (search rules) (search rules) (device ∙ search (rules, name)) (bench ∙ search (rules, name)) in
+    record {
+      memory = untouched_if c.args.deck.now c.serve_frames-result.result a all;
+      session = served_unless c.args.deck.now c.serve_frames-result.result a all;
+    }
