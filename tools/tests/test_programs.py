@@ -79,11 +79,16 @@ def framed(*frames):
     return b"".join(len(it).to_bytes(2, "big") + it for it in frames)
 
 
-@pytest.mark.parametrize("words", [["one", "two"], ["one", "two", "three"], ["nosuch.deck"], [NO_TEXT]])
-def test_a_reader_without_a_deck_to_read_writes_its_usage(words, tmp_path):
+@pytest.mark.parametrize("words", [["one", "two"], ["one", "two", "three"], [NO_TEXT]])
+def test_a_reader_whose_words_are_no_deck_writes_its_usage(words, tmp_path):
     (tmp_path / "one").write_bytes(COUNTER)
     done = run("melreader", words, framed(POWER_ON, SELECT), cwd=tmp_path)
     assert (done.returncode, done.stdout, done.stderr) == (2, b"", READER_USAGE)
+
+
+def test_a_reader_names_a_deck_that_cannot_be_opened(tmp_path):
+    done = run("melreader", ["nosuch.deck"], framed(POWER_ON, SELECT), cwd=tmp_path)
+    assert (done.returncode, done.stdout, done.stderr) == (2, b"", b"melreader: nosuch.deck: cannot be opened\n")
 
 
 def test_a_reader_plays_the_deck_that_its_word_names(tmp_path):

@@ -1,12 +1,12 @@
 -- The text that a filter's job writes, and the number of its status.
-use Rattle.std.proofs.Common.{◌≡◌, ◌≤◌, ℕ, cond, nat_eq, List, Result, Ok, Err, OnErr, OnOk, refl, ap, sym, subst, ◌∙◌}
+use Rattle.std.proofs.Common.{◌≡◌, ◌≤◌, ℕ, zero, suc, cond, nat_eq, List, Result, Ok, Err, OnErr, OnOk, refl, arith, ap, sym, subst, ◌∙◌}
 use Rattle.mc_model_device.specs.Counts.{Rose}
 use Rattle.mc_base.specs.Streams.{Grew, GrewByPart}
 use Rattle.mc_base.specs.declared.refusals.WriteFault.{WriteFault as Fault}
 use Rattle.mc_text.specs.Texts.{Puts, Sunk}
 use Rattle.mc_filter.specs.declared.status.Status.{Status}
 use Rattle.mc_filter.specs.declared.status.Status.TheVariants.{Done, Failed, NoForm, ReadFault, WriteFault, NoMemory}
-use Rattle.mc_filter.specs.Statuses.{status_after_writing, number_of}
+use Rattle.mc_filter.specs.Statuses.{status_after_writing, number_of, IsNumberOf}
 
 -- a text was put, from the contract of the call that wrote an equal one
 pub puts_by : (a b : Sunk) (piece text : List ℕ) (r : Result (Unit {0}) Fault) → piece ≡ text → OnOk r (Grew a.taken b.taken piece)
@@ -36,3 +36,29 @@ numbered_is NoMemory = refl
 -- two statuses with one number are equal
 pub same_status : (s t : Status) (n : ℕ) → n ≡ number_of s → n ≡ number_of t → s ≡ t
 same_status s t n e f = sym (numbered_is s) ∙ ap numbered (sym e ∙ f) ∙ numbered_is t
+
+-- what holds of the status with a number
+pub at_number : (Says : Status → Type 0) (t : Status) (n : ℕ) → IsNumberOf Says n → n ≡ number_of t → Says t
+at_number Says t n h is = subst (λ (s : Status). Says s) (same_status h.0 t n h.1 is) h.2
+
+number_bound : (s : Status) → number_of s ≤ 5
+number_bound Done = omega arith
+number_bound Failed = omega arith
+number_bound NoForm = omega arith
+number_bound ReadFault = omega arith
+number_bound WriteFault = omega arith
+number_bound NoMemory = omega arith
+
+-- the greatest number of a status
+pub at_most_five : (Says : Status → Type 0) (n : ℕ) → IsNumberOf Says n → n ≤ 5
+at_most_five Says n h = subst (λ (k : ℕ). k ≤ 5) (sym h.1) (number_bound h.0)
+
+-- a number of a status, by what holds of each
+pub some_number : (Says : Status → Type 0) (n : ℕ) → n ≤ 5 → (n ≡ 0 → Says Done) → (n ≡ 1 → Says Failed) → (n ≡ 2 → Says NoForm) → (n ≡ 3 → Says ReadFault) → (n ≡ 4 → Says WriteFault) → (n ≡ 5 → Says NoMemory) → IsNumberOf Says n
+some_number Says zero few a b c d e f = (Done, refl, a refl)
+some_number Says (suc zero) few a b c d e f = (Failed, refl, b refl)
+some_number Says (suc (suc zero)) few a b c d e f = (NoForm, refl, c refl)
+some_number Says (suc (suc (suc zero))) few a b c d e f = (ReadFault, refl, d refl)
+some_number Says (suc (suc (suc (suc zero)))) few a b c d e f = (WriteFault, refl, e refl)
+some_number Says (suc (suc (suc (suc (suc zero))))) few a b c d e f = (NoMemory, refl, f refl)
+some_number Says (suc (suc (suc (suc (suc (suc n)))))) few a b c d e f = absurd (omega (arith, few))

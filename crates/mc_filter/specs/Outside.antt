@@ -6,7 +6,7 @@ use Rattle.mc_model_device.specs.Counts.{Rose}
 use Rattle.mc_base.specs.Streams.{one_more, TookMore}
 use Rattle.mc_base.specs.declared.sink.Sink as sink
 use Rattle.mc_base.specs.declared.source.Source as source
-use Rattle.mc_text.specs.Texts.{sunk_in, Sunk}
+use Rattle.mc_text.specs.Texts.{sunk, Sunk}
 use Rattle.mc_filter.specs.declared.status.Status.{Status}
 use Rattle.mc_filter.specs.declared.status.Status.TheVariants.{Done, Failed, NoForm, ReadFault, WriteFault, NoMemory}
 use Rattle.mc_filter.specs.Inputs.{input_limit, stream, IsAll, ReadsLimited, ReadWhole, Stream}
@@ -28,8 +28,8 @@ outside s t in_old in_new out_old out_new =
     record {
       input_old = stream s in_old;
       input = stream s in_new;
-      out_old = sunk_in t.taken t.faults out_old;
-      out = sunk_in t.taken t.faults out_new;
+      out_old = sunk t out_old;
+      out = sunk t out_new;
     }
 
 -- the source was not called

@@ -16,6 +16,10 @@ number_of ReadFault = 3
 number_of WriteFault = 4
 number_of NoMemory = 5
 
+-- the number of a status of which this holds
+abbrev pub IsNumberOf : (Status → Type 0) → ℕ → Type 0
+IsNumberOf Says n = (s : Status) × (n ≡ number_of s) × Says s
+
 -- the status after a write: the given one, or `WriteFault` if the sink failed
 abbrev pub status_after_writing : Status → Result (Unit {0}) Fault → Status
 status_after_writing good (Ok u) = good

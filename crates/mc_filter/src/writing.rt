@@ -1,6 +1,6 @@
 // Writing at the end of a job.
 ghost use Rattle.std.specs.Prelude.{◌≡◌};
-ghost use Rattle.mc_text.specs.Texts.{sunk_in};
+ghost use Rattle.mc_text.specs.Texts.{sunk};
 ghost use Rattle.mc_filter.specs.Statuses.{status_after_writing, RejectionEnds};
 
 use crate::rejection::Rejection;
@@ -20,7 +20,7 @@ pub fn ended(good: Status, written: Result<(), WriteFault>) -> Status
 /// Ends a job that is not done, and returns its status: writes the line that refuses its input, and nothing
 /// for another cause.
 pub fn reject<T: Sink>(out: &mut T, rejection: &Rejection) -> Status
-    ensures { RejectionEnds rejection.now (sunk_in T.taken T.faults out.old) result (sunk_in T.taken T.faults out.new) }
+    ensures { RejectionEnds rejection.now (sunk T.Sink out.old) result (sunk T.Sink out.new) }
 {
     match rejection {
         Rejection::Refusal(line) => ended(Status::Failed, put_all(out, line.as_slice())),

@@ -1,11 +1,12 @@
 -- The relation of the top call to its environment at each of its statuses.
-use Rattle.std.specs.Prelude.{◌≡◌, ◌⊎◌, ℕ, ◌++◌, List, codes, decimal, Option, Result, Ok, Err}
+use Rattle.std.specs.Prelude.{◌≡◌, ◌⊎◌, ℕ, ◌++◌, List, codes, decimal, Option, None, Result, Ok, Err}
 use Rattle.mc_model_play.specs.DeckGrammar.{DeckLine}
 use Rattle.mc_base.specs.declared.sink.Sink as sink
 use Rattle.mc_base.specs.declared.source.Source as source
-use Rattle.mc_model_device.specs.Device.{DeviceState, BenchState}
-use Rattle.mc_text.specs.Texts.{Sunk, sunk_in}
-use Rattle.mc_reader.specs.Sessions.{AroundSession, Serves}
+use Rattle.mc_text.specs.Texts.{sunk, Sunk}
+use Rattle.mc_reader.specs.Benches.{BenchMembers}
+use Rattle.mc_reader.specs.declared.host.Host as host
+use Rattle.mc_reader.specs.Sessions.{around, AroundSession, Serves}
 use Rattle.mc_reader.specs.declared.serve_error.ServeError.{ServeError}
 use Rattle.mc_reader.specs.declared.serve_error.ServeError.TheVariants as serve
 use Rattle.mc_filter.specs.Statuses.{IsWritten}
@@ -23,26 +24,20 @@ pub record ReaderOutside : Type 0 where
   pub err : Sunk
   pub session : AroundSession
 
+-- a source as a host, which records no moment
+abbrev pub host_of : {S : Type 0} → source.Ghosts S → host.Ghosts S
+host_of s = record { left = s.left; faults = s.faults; moments = λ x. None }
+
 -- the environment, by the values of a call before and after it
-abbrev pub outside : {S T E N : Type 0} → source.Ghosts S → sink.Ghosts T → sink.Ghosts E → (N → DeviceState) → (N → BenchState)
+abbrev pub outside : {S T E N : Type 0} → source.Ghosts S → sink.Ghosts T → sink.Ghosts E → BenchMembers N
     → Option Stream → Option Stream → S → S → T → T → E → E → N → N → ReaderOutside
-outside s t e state bench deck_old deck in_old in_new out_old out_new err_old err_new dev_old dev_new =
+outside s t e n deck_old deck in_old in_new out_old out_new err_old err_new dev_old dev_new =
     record {
       deck_old = deck_old;
       deck = deck;
-      err_old = sunk_in e.taken e.faults err_old;
-      err = sunk_in e.taken e.faults err_new;
-      session =
-          record {
-            left_old = s.left in_old;
-            left = s.left in_new;
-            reads_old = s.faults in_old;
-            reads = s.faults in_new;
-            out_old = sunk_in t.taken t.faults out_old;
-            out = sunk_in t.taken t.faults out_new;
-            dev_old = record { device = state dev_old; bench = bench dev_old };
-            dev = record { device = state dev_new; bench = bench dev_new };
-          };
+      err_old = sunk e err_old;
+      err = sunk e err_new;
+      session = around (host_of s) t n in_old in_new out_old out_new dev_old dev_new;
     }
 
 -- the input, the sink of answers and the device are unchanged
@@ -51,9 +46,13 @@ AreKept in_old in_new out_old out_new dev_old dev_new = (in_new ≡ in_old) × (
 
 -- ---- the lines that are written beside the answers
 
--- the text that is written if the words name no deck that can be opened
+-- the text that is written if the words are more than one, or are no text
 abbrev pub usage : List ℕ
 usage = codes "usage: melreader [DECK]\n"
+
+-- the line that is written if the deck of a path cannot be opened
+abbrev pub unopened : List ℕ → List ℕ
+unopened path = codes "melreader: " ++ path ++ codes ": cannot be opened\n"
 
 -- the output line if the input ended inside the frame with this number
 abbrev pub short_frame : ℕ → List ℕ

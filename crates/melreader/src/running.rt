@@ -2,9 +2,8 @@
 ghost use Rattle.std.specs.Prelude.{◌≡◌, Err, Option};
 ghost use Rattle.mc_reader.specs.Sessions.{AroundSession};
 ghost use Rattle.mc_script.specs.Players.{IsUnfused};
-ghost use Rattle.mc_text.specs.Texts.{sunk_in};
-ghost use Rattle.mc_filter.specs.declared.status.Status.{Status};
-ghost use Rattle.mc_filter.specs.Statuses.{number_of};
+ghost use Rattle.mc_text.specs.Texts.{sunk};
+ghost use Rattle.mc_filter.specs.Statuses.{IsNumberOf};
 ghost use Rattle.mc_filter.specs.Inputs.{Stream};
 ghost use Rattle.melreader.specs.Decks.{stream_of_source, stream_left, HasDeck};
 ghost use Rattle.melreader.specs.Sessions.{outside, AreKept, ReaderEnds, MelreaderSays};
@@ -21,7 +20,7 @@ use std::sync::ledger::Ledger;
 
 // Writes why a session ended before the end of its input, and returns its status.
 fn fail<E: Sink>(err: &mut E, error: ServeError) -> Status
-    ensures { ReaderEnds (Err error) result (sunk_in E.taken E.faults err.old) (sunk_in E.taken E.faults err.new) }
+    ensures { ReaderEnds (Err error) result (sunk E.Sink err.old) (sunk E.Sink err.new) }
 {
     match error {
         ServeError::Short(number) => ended(Status::Failed, put_short(err, number)),
@@ -33,7 +32,7 @@ fn fail<E: Sink>(err: &mut E, error: ServeError) -> Status
 
 // Writes the end of a session, and returns its status.
 fn end<E: Sink>(err: &mut E, served: Result<(), ServeError>) -> Status
-    ensures { ReaderEnds served result (sunk_in E.taken E.faults err.old) (sunk_in E.taken E.faults err.new) }
+    ensures { ReaderEnds served result (sunk E.Sink err.old) (sunk E.Sink err.new) }
 {
     match served {
         Ok(()) => Status::Done,
@@ -54,7 +53,7 @@ fn session<S: Source, T: Sink, E: Sink, N: Bench, L: Ledger>(
     requires { IsUnfused (N.bench dev.old) }
     ensures { (a b : Option Stream) → HasDeck a b found
         → MelreaderSays (AreKept input.old input.new out.old out.new dev.old dev.new) result
-        (outside S.Source T.Sink E.Sink N.state N.bench a b input.old input.new out.old out.new err.old err.new
+        (outside S.Source T.Sink E.Sink N.Bench a b input.old input.new out.old out.new err.old err.new
         dev.old dev.new) }
 {
     match found {
@@ -64,9 +63,7 @@ fn session<S: Source, T: Sink, E: Sink, N: Bench, L: Ledger>(
 }
 
 /// Plays the deck of a source on a device without an armed stop, or the one line `format` if there is no
-/// source, and then serves the frames of a host on that card. Its status is 0 if the input ended between two
-/// frames; 1 if the deck is refused or the input ended inside a frame; 3 after a fault of the deck or the
-/// input; 4 after a fault of a sink; 5 if it was out of memory.
+/// source, and then serves the frames of a host on that card, and returns its status.
 ///
 /// Only answers are written to `out`, and to `err` the line of a refused deck, or `frame N Short`. The
 /// results of the deck are not written. A deck that is refused leaves `input`, `out` and the device
@@ -81,10 +78,15 @@ pub fn melreader<D: Source, S: Source, T: Sink, E: Sink, N: Bench, L: Ledger>(
     steps: &mut Steps<L>,
 ) -> u8
     requires { IsUnfused (N.bench dev.old) }
-    ensures { (s : Status) × (result ≡ number_of s)
-        × MelreaderSays (AreKept input.old input.new out.old out.new dev.old dev.new) s
-        (outside S.Source T.Sink E.Sink N.state N.bench (stream_of_source D.Source deck.entry)
-        (stream_left D.Source deck.exit) input.old input.new out.old out.new err.old err.new dev.old dev.new) }
+    // 0: the deck was played, each frame was served, and the input ended between two frames. 1: the deck is refused, its
+    // line was written, and no frame was read; or the input ended inside a frame, whose number was written, after each
+    // frame before it was served. 3: a call of the deck's source failed, and nothing was played or served; or one of the
+    // input, after each frame before it was served. 4: a call of a sink failed, and a front of what is due was written.
+    // 5: out of memory before a frame was read or a line was played.
+    ensures says { IsNumberOf
+        (λ s. MelreaderSays (AreKept input.old input.new out.old out.new dev.old dev.new) s
+        (outside S.Source T.Sink E.Sink N.Bench (stream_of_source D.Source deck.entry)
+        (stream_left D.Source deck.exit) input.old input.new out.old out.new err.old err.new dev.old dev.new)) result }
 {
     match deck {
         Some(source) => {

@@ -1,10 +1,12 @@
 // Each status of a session over streams in memory.
 ghost use Rattle.std.specs.Prelude.{◌≡◌, ◌<◌};
 
+use crate::files::Files;
 use crate::running::melreader;
+use crate::selecting::program;
 use mc_base::{MemSink, MemSource, NoMemory, Source, Steps};
 use mc_nvm::SimNvm;
-use std::alloc::Global;
+use std::alloc::{AllocError, Global};
 use std::marker::Brand;
 use std::sync::ledger::{Blank, Ledger};
 use std::test::Fail;
@@ -151,5 +153,90 @@ fn decks(rt: HostRuntime) -> Result<(), Fail> {
         ..played
     };
     assert!(rt; ended(alloc, &failing)?.is(3, b"", b""));
+    Ok(())
+}
+
+// Files in memory, of which one path alone can be opened: `card.deck`, which has this text.
+#[derive(Drop)]
+struct OneFile {
+    alloc: Global,
+    text: &'static [u8],
+}
+
+impl Files<MemSource> for OneFile {
+    ghost use Rattle.std.specs.Prelude.{⊤};
+
+    ghost opens = { λ files path file. ⊤ };
+
+    fn open(&self, path: &str) -> Option<MemSource> {
+        if path != "card.deck" {
+            return None;
+        }
+        MemSource::new(self.alloc, self.text, &[]).ok()
+    }
+}
+
+// The words of a command line.
+fn words(alloc: Global, texts: &[&str]) -> Result<Vec<String>, AllocError> {
+    let mut words = Vec::new(alloc);
+    for text in texts {
+        words.push(String::from_str(alloc, text)?)?;
+    }
+    Ok(words)
+}
+
+// The end of the program with these words, or with words that are no text.
+fn end_of<L: Ledger>(
+    alloc: Global,
+    words: Option<Vec<String>>,
+    err_room: usize,
+    blank: Blank,
+) -> Result<End, NoMemory>
+    requires name { blank.name ≡ L.name }
+    requires parts { blank.parts ≡ L.parts }
+    requires some { 0 < blank.parts }
+{
+    let files = OneFile {
+        alloc,
+        text: COUNTER,
+    };
+    let mut input = MemSource::new(alloc, FRAMES, &[])?;
+    let mut out = MemSink::new(alloc, 18, &[])?;
+    let mut err = MemSink::new(alloc, err_room, &[])?;
+    let status = program::<OneFile, MemSource, MemSource, MemSink, MemSink, L>(
+        alloc,
+        Ok(words),
+        &files,
+        &mut input,
+        &mut out,
+        &mut err,
+        blank,
+    );
+    Ok(End {
+        status,
+        answers: Vec::from_slice(alloc, out.bytes())?,
+        refusal: Vec::from_slice(alloc, err.bytes())?,
+    })
+}
+
+// The end of the program with these words.
+fn end_by(alloc: Global, texts: &[&str], err_room: usize) -> Result<End, NoMemory> {
+    let words = words(alloc, texts)?;
+    end_of::<Brand>(alloc, Some(words), err_room, Blank::new(1))
+}
+
+// The deck of the path that is given, a path that cannot be opened, no word, two words, and words that are no text.
+#[test]
+fn selections(rt: HostRuntime) -> Result<(), Fail> {
+    let alloc = rt.alloc();
+    assert!(rt; end_by(alloc, &["card.deck"], 60)?.is(0, PLAYED_ANSWERS, b""));
+    assert!(rt; end_by(alloc, &[], 60)?.is(0, ANSWERS, b""));
+    let unopened = b"melreader: other.deck: cannot be opened\n";
+    assert!(rt; end_by(alloc, &["other.deck"], 60)?.is(2, b"", unopened));
+    assert!(rt; end_by(alloc, &["other.deck"], 15)?.is(2, b"", &unopened[..15]));
+    let usage = b"usage: melreader [DECK]\n";
+    assert!(rt; end_by(alloc, &["card.deck", "card.deck"], 60)?.is(2, b"", usage));
+    let no_text = end_of::<Brand>(alloc, None, 60, Blank::new(1))?;
+    assert!(rt; no_text.is(2, b"", usage));
     Ok(())
 }

@@ -1,0 +1,100 @@
+-- The program: the deck that its words select, and the session on its own device.
+use Rattle.std.specs.Prelude.{◌≡◌, ◌⊎◌, ℕ, List, [], ◌∷◌, Option, Some, None, Result, Ok, Err, string_bytes}
+use Rattle.std.specs.declared.alloc.Global.{Global}
+use Rattle.std.specs.declared.string.String.{String}
+use Rattle.std.specs.Global.{Vec}
+use Rattle.mc_model_device.specs.Device.{device_words}
+use Rattle.mc_base.specs.declared.refusals.NoMemory.{NoMemory as Memory}
+use Rattle.mc_base.specs.declared.refusals.WriteFault.{WriteFault as Fault}
+use Rattle.mc_base.specs.declared.sink.Sink as sink
+use Rattle.mc_base.specs.declared.source.Source as source
+use Rattle.mc_text.specs.Texts.{sunk, Puts}
+use Rattle.mc_nvm.specs.Sim.{blank_sim, sim_bench, sim_state, Sim, SimWrote}
+use Rattle.mc_filter.specs.Inputs.{stream, Stream}
+use Rattle.mc_filter.specs.Statuses.{IsNumberOf}
+use Rattle.mc_filter.specs.declared.status.Status.{Status}
+use Rattle.mc_filter.specs.declared.status.Status.TheVariants.{NoForm, NoMemory}
+use Rattle.mc_reader.specs.Benches.{BenchMembers}
+use Rattle.melreader.specs.Sessions.{outside, unopened, usage, AreKept, MelreaderSays}
+
+-- ---- words
+
+-- what the words of a command line select: nothing, because they could not be had for want of memory; a blank card; a
+-- card on which the deck of a path was played; or no card
+pub data Selection : Type 0 where
+  OutOfMemory : Selection
+  BlankCard : Selection
+  DeckOf : (path : List ℕ) → Selection
+  NoCard : Selection
+
+-- the selection of words that are text: none of them select a blank card, and one is the path of a deck
+abbrev pub selection_of : List (String Global) → Selection
+selection_of [] = BlankCard
+selection_of (w ∷ []) = DeckOf (string_bytes w)
+selection_of (w ∷ x ∷ ws) = NoCard
+
+-- the selection of a command line; words that are no text select no card
+abbrev pub selection : Result (Option (Vec (String Global))) Memory → Selection
+selection (Err e) = OutOfMemory
+selection (Ok None) = NoCard
+selection (Ok (Some words)) = selection_of words.items
+
+-- ---- statuses
+
+-- a device of a program as a bench
+abbrev pub sim_members : BenchMembers Sim
+sim_members = record { state = sim_state; wrote = SimWrote; same = λ d e. d ≡ e; bench = sim_bench }
+
+module _ {S T E : Type 0} (s : source.Ghosts S) (t : sink.Ghosts T) (e : sink.Ghosts E) where
+  -- source and sinks of a program before and after a call
+  pub record Streams : Type 0 where
+    pub in_old : S
+    pub in_new : S
+    pub out_old : T
+    pub out_new : T
+    pub err_old : E
+    pub err_new : E
+
+  -- nothing was read or written
+  pub record IsStill (x : Streams) : Type 0 where
+    pub input : x.in_new ≡ x.in_old
+    pub out : x.out_new ≡ x.out_old
+    pub err : x.err_new ≡ x.err_old
+
+  -- out of memory before anything was read or written
+  pub record IsShort (x : Streams) (status : Status) : Type 0 where
+    pub is : status ≡ NoMemory
+    pub still : IsStill x
+
+  -- there was no session: this was written to the sink of refusals, whole or up to a fault, and no frame was read
+  pub record IsRefused (text : List ℕ) (x : Streams) (status : Status) : Type 0 where
+    pub is : status ≡ NoForm
+    pub input : x.in_new ≡ x.in_old
+    pub out : x.out_new ≡ x.out_old
+    pub result : Result (Unit {0}) Fault
+    pub written : Puts (sunk e x.err_old) text result (sunk e x.err_new)
+
+  -- a session after the deck of a source, if there is one, on a blank device of 8,192 words
+  pub record IsOnBlank (deck_old deck : Option Stream) (x : Streams) (status : Status) : Type 0 where
+    pub dev_old : Sim
+    pub dev : Sim
+    pub blank : dev_old ≡ blank_sim device_words
+    pub says : MelreaderSays (AreKept x.in_old x.in_new x.out_old x.out_new dev_old dev) status (outside s t e sim_members deck_old deck x.in_old x.in_new x.out_old x.out_new x.err_old x.err_new dev_old dev)
+
+  -- such a session, or out of memory for its device
+  abbrev pub SessionSays : Option Stream → Option Stream → Streams → Status → Type 0
+  SessionSays deck_old deck x status = IsOnBlank deck_old deck x status ⊎ IsShort x status
+
+  module _ {D : Type 0} (d : source.Ghosts D) where
+    -- a session after the deck of a path that was opened; a path that cannot be opened is named
+    abbrev pub PathSays : List ℕ → Option D → Streams → ℕ → Type 0
+    PathSays path None x n = IsNumberOf (IsRefused (unopened path) x) n
+    PathSays path (Some file) x n = (left : D) × IsNumberOf (SessionSays (Some (stream d file)) (Some (stream d left)) x) n
+
+    -- the meaning of the number of the status, by the selection: the session is on a blank card, or after the deck of
+    -- exactly the path that was given
+    abbrev pub ProgramSays : {F : Type 0} → (F → List ℕ → Option D → Type 0) → F → Selection → Streams → ℕ → Type 0
+    ProgramSays opens files OutOfMemory x n = IsNumberOf (IsShort x) n
+    ProgramSays opens files BlankCard x n = IsNumberOf (SessionSays None None x) n
+    ProgramSays opens files (DeckOf path) x n = (file : Option D) × opens files path file × PathSays path file x n
+    ProgramSays opens files NoCard x n = IsNumberOf (IsRefused usage x) n

@@ -1,0 +1,189 @@
+// The program: its words select a deck, which is played on a blank device before the frames of a host are served.
+ghost use Rattle.std.specs.Prelude.{◌≡◌, ◌<◌, None, Option, Some};
+ghost use Rattle.mc_filter.specs.Statuses.{IsNumberOf};
+ghost use Rattle.mc_filter.specs.Inputs.{stream};
+ghost use Rattle.melreader.specs.Program.{selection, selection_of, IsRefused, PathSays, ProgramSays, SessionSays};
+ghost use Rattle.melreader.specs.Sessions.{unopened, usage};
+
+use crate::files::Files;
+use crate::lines::put_unopened;
+use crate::running::melreader;
+use mc_base::{NoMemory, Sink, Source, StdSource, Steps};
+use mc_filter::{Status, blank_device, number};
+use mc_nvm::SimNvm;
+use mc_text::put;
+use std::alloc::Global;
+use std::fs::File;
+use std::sync::ledger::{Blank, Ledger};
+
+// Writes the usage line, and returns its status, also if the sink fails.
+fn usage<S: Source, T: Sink, E: Sink>(input: &S, out: &T, err: &mut E) -> u8
+    ensures { IsNumberOf (IsRefused S.Source T.Sink E.Sink usage (record {
+      in_old = input.now;
+      in_new = input.now;
+      out_old = out.now;
+      out_new = out.now;
+      err_old = err.old;
+      err_new = err.new;
+    })) result }
+{
+    let _written = put(err, b"usage: melreader [DECK]\n");
+    number(Status::NoForm)
+}
+
+// Writes that the deck of a path cannot be opened, and returns the status of that, also if the sink fails.
+fn refuse_path<S: Source, T: Sink, E: Sink>(input: &S, out: &T, err: &mut E, path: &str) -> u8
+    ensures { IsNumberOf (IsRefused S.Source T.Sink E.Sink (unopened path.now) (record {
+      in_old = input.now;
+      in_new = input.now;
+      out_old = out.now;
+      out_new = out.now;
+      err_old = err.old;
+      err_new = err.new;
+    })) result }
+{
+    let _written = put_unopened(err, path);
+    number(Status::NoForm)
+}
+
+// Runs a session on a blank card.
+fn blank_card<S: Source, T: Sink, E: Sink, L: Ledger>(
+    alloc: Global,
+    input: &mut S,
+    out: &mut T,
+    err: &mut E,
+    steps: &mut Steps<L>,
+) -> u8
+    ensures { IsNumberOf (SessionSays S.Source T.Sink E.Sink None None (record {
+      in_old = input.old;
+      in_new = input.new;
+      out_old = out.old;
+      out_new = out.new;
+      err_old = err.old;
+      err_new = err.new;
+    })) result }
+{
+    match blank_device(alloc) {
+        Ok(mut device) => melreader::<StdSource<File>, S, T, E, SimNvm, L>(
+            alloc,
+            None,
+            input,
+            out,
+            err,
+            &mut device,
+            steps,
+        ),
+        Err(_) => number(Status::NoMemory),
+    }
+}
+
+// Runs a session after the deck of a source on a blank device.
+fn with_deck<D: Source, S: Source, T: Sink, E: Sink, L: Ledger>(
+    alloc: Global,
+    deck: &mut D,
+    input: &mut S,
+    out: &mut T,
+    err: &mut E,
+    steps: &mut Steps<L>,
+) -> u8
+    ensures { IsNumberOf (SessionSays S.Source T.Sink E.Sink (Some (stream D.Source deck.old))
+        (Some (stream D.Source deck.new)) (record {
+          in_old = input.old;
+          in_new = input.new;
+          out_old = out.old;
+          out_new = out.new;
+          err_old = err.old;
+          err_new = err.new;
+        })) result }
+{
+    match blank_device(alloc) {
+        Ok(mut device) => melreader(alloc, Some(deck), input, out, err, &mut device, steps),
+        Err(_) => number(Status::NoMemory),
+    }
+}
+
+// Runs a session after the deck of a path, or writes that the path cannot be opened.
+fn after_deck<F: Files<D>, D: Source + Drop, S: Source, T: Sink, E: Sink, L: Ledger>(
+    alloc: Global,
+    files: &F,
+    path: &str,
+    input: &mut S,
+    out: &mut T,
+    err: &mut E,
+    steps: &mut Steps<L>,
+) -> u8
+    ensures { (file : Option D) × F.opens files.now path.now file
+        × PathSays S.Source T.Sink E.Sink D.Source path.now file (record {
+          in_old = input.old;
+          in_new = input.new;
+          out_old = out.old;
+          out_new = out.new;
+          err_old = err.old;
+          err_new = err.new;
+        }) result }
+{
+    match files.open(path) {
+        Some(mut file) => with_deck(alloc, &mut file, input, out, err, steps),
+        None => refuse_path(input, out, err, path),
+    }
+}
+
+// Runs the session that words of text select.
+fn by_words<F: Files<D>, D: Source + Drop, S: Source, T: Sink, E: Sink, L: Ledger>(
+    alloc: Global,
+    words: &[String],
+    files: &F,
+    input: &mut S,
+    out: &mut T,
+    err: &mut E,
+    steps: &mut Steps<L>,
+) -> u8
+    ensures { ProgramSays S.Source T.Sink E.Sink D.Source F.opens files.now (selection_of words.now) (record {
+      in_old = input.old;
+      in_new = input.new;
+      out_old = out.old;
+      out_new = out.new;
+      err_old = err.old;
+      err_new = err.new;
+    }) result }
+{
+    match words {
+        [] => blank_card(alloc, input, out, err, steps),
+        [path] => after_deck(alloc, files, path.as_str(), input, out, err, steps),
+        _ => usage(input, out, err),
+    }
+}
+
+/// Runs the program: a session on a blank device of 8,192 words, after the deck of the one word if there is one, whose
+/// path it is. Its status is that of the session; 2 if the path cannot be opened, which is written to `err`, or if
+/// the words are more or are no text, and then the usage line is; and 5 if it was out of memory for the words or the
+/// device, and then nothing is written.
+pub fn program<F: Files<D>, D: Source + Drop, S: Source, T: Sink, E: Sink, L: Ledger>(
+    alloc: Global,
+    words: Result<Option<Vec<String>>, NoMemory>,
+    files: &F,
+    input: &mut S,
+    out: &mut T,
+    err: &mut E,
+    blank: Blank,
+) -> u8
+    requires name { blank.name ≡ L.name }
+    requires parts { blank.parts ≡ L.parts }
+    requires some { 0 < blank.parts }
+    ensures { ProgramSays S.Source T.Sink E.Sink D.Source F.opens files.now (selection words) (record {
+      in_old = input.old;
+      in_new = input.new;
+      out_old = out.old;
+      out_new = out.new;
+      err_old = err.old;
+      err_new = err.new;
+    }) result }
+{
+    let mut steps = Steps::<L>::new(blank);
+    match words {
+        Ok(Some(words)) => by_words(alloc, words.as_slice(), files, input, out, err, &mut steps),
+        // Arguments that are not UTF-8 select no deck.
+        Ok(None) => usage(input, out, err),
+        Err(NoMemory) => number(Status::NoMemory),
+    }
+}
