@@ -1,11 +1,10 @@
 -- The meaning of the status with which a job ended.
 use Rattle.std.proofs.Common.{◌≡◌, ℕ, Option, Some, None, Result, Ok, Err, IfErr, IfOk, refl, sym, subst, ◌∙◌}
-use Rattle.mc_model_device.specs.Device.{BenchState, DeviceState}
 use Rattle.mc_model_play.specs.Generator.{deck_of_number}
 use Rattle.mc_base.specs.declared.refusals.WriteFault.{WriteFault as Fault}
 use Rattle.mc_base.specs.declared.sink.Sink as sink
 use Rattle.mc_base.specs.declared.source.Source as source
-use Rattle.mc_text.specs.Texts.{sunk_in, Puts, Sunk}
+use Rattle.mc_text.specs.Texts.{sunk, Puts, Sunk}
 use Rattle.mc_filter.specs.Statuses.{RejectionEnds, status_after_writing}
 use Rattle.mc_filter.specs.Outside.{outside, Outside, Untouched}
 use Rattle.mc_filter.proofs.Outside as filter
@@ -20,7 +19,7 @@ use Rattle.mc_filter.specs.declared.status.Status.TheVariants.{Done, Failed, NoF
 use Rattle.melcard.specs.Jobs.{usage}
 use Rattle.melcard.specs.Verdicts.{JobVerdict, Whole, Refusal, Plays, Sums}
 use Rattle.melcard.specs.Running.{PlaysInput, RejectsJob, WritesInput}
-use Rattle.melcard.specs.Statuses.{bench_of, card_outside, CardOutside, IsDue, IsSummed, MelcardDone, MelcardNoForm, MelcardNoMemory, MelcardReadFault, MelcardSays, TakesAtMost}
+use Rattle.melcard.specs.Statuses.{card_outside, BenchMembers, CardOutside, IsDue, IsSummed, MelcardDone, MelcardNoForm, MelcardNoMemory, MelcardReadFault, MelcardSays, TakesAtMost}
 
 -- ---- results
 
@@ -92,10 +91,10 @@ says_no_form Kept form a r s is e kept still put =
 
 -- ---- the environment of a call
 
-module _ {S T N : Type 0} (input : source.Ghosts S) (output : sink.Ghosts T) (state : N → DeviceState) (bench : N → BenchState) where
+module _ {S T N : Type 0} (input : source.Ghosts S) (output : sink.Ghosts T) (members : BenchMembers N) where
   -- source, sink and device before and after the call
   abbrev pub around : S → S → T → T → N → N → CardOutside
-  around s t x y d e = card_outside input output state bench s t x y d e
+  around s t x y d e = card_outside input output members s t x y d e
 
   -- the meaning of a status does not depend on how the job, the source, the sink and the device are named
   pub says_at : (s t u : S) (x y z : T) (d e f : N) (work other : Job) (q : Status) → t ≡ u → y ≡ z → e ≡ f → work ≡ other → MelcardSays (f ≡ d) q (Some other) (around s u x z d f) → MelcardSays (e ≡ d) q (Some work) (around s t x y d e)
@@ -108,10 +107,10 @@ module _ {S T N : Type 0} (input : source.Ghosts S) (output : sink.Ghosts T) (st
   -- a job that was rejected, by the result of the call that did not do it: its sink and device were unchanged
   pub rejected_at : (s t u : S) (x y z m : T) (d e f : N) (work other : Job) (done result : Result Status Rejection) (why : Rejection) (q : Status) → done ≡ Err why → t ≡ u → y ≡ z → e ≡ f → done ≡ result → work ≡ other
       → IfErr result (RejectsJob other (outside input output s u x z)) → IfErr result (λ _. z ≡ x) → IfErr result (λ _. f ≡ d)
-      → RejectionEnds why (sunk_in output.taken output.faults y) q (sunk_in output.taken output.faults m) → MelcardSays (e ≡ d) q (Some work) (around s t x m d e)
+      → RejectionEnds why (sunk output y) q (sunk output m) → MelcardSays (e ≡ d) q (Some work) (around s t x m d e)
   rejected_at s t u x y z m d e f work other done result why q err from to device came is rejects same kept ends =
       let after = around s u x m d f in
       let cause = err_is done result why (RejectsJob other (outside input output s u x z)) err came rejects in
       let before = to ∙ err_is done result why (λ _. z ≡ x) err came same in
-      let end = subst (λ (y : T). RejectionEnds why (sunk_in output.taken output.faults y) q (sunk_in output.taken output.faults m)) before ends in
-      says_at s t u x m m d e f work other q from refl device is (says_rejected (f ≡ d) other after (sunk_in output.taken output.faults z) why q (err_is done result why (λ _. f ≡ d) err came kept) cause end)
+      let end = subst (λ (y : T). RejectionEnds why (sunk output y) q (sunk output m)) before ends in
+      says_at s t u x m m d e f work other q from refl device is (says_rejected (f ≡ d) other after (sunk output z) why q (err_is done result why (λ _. f ≡ d) err came kept) cause end)

@@ -1,6 +1,7 @@
 -- The relation of the top call to its environment at each of its statuses.
 use Rattle.std.specs.Prelude.{◌≡◌, ℕ, List, Option, Some, None, Result, Ok, Err, ⊤}
 use Rattle.mc_model_device.specs.Device.{DeviceState, BenchState}
+use Rattle.mc_model_device.specs.Orders.{Answer}
 use Rattle.mc_model_play.specs.DeckGrammar.{DeckLine}
 use Rattle.mc_model_play.specs.Generator.{deck_of_number, summary}
 use Rattle.mc_model_play.specs.Play as play
@@ -31,18 +32,21 @@ pub record CardOutside : Type 0 where
   pub dev_old : Bench
   pub dev : Bench
 
--- the bench of a device
-abbrev pub bench_of : {N : Type 0} → (N → DeviceState) → (N → BenchState) → N → Bench
-bench_of state bench dev = record { device = state dev; bench = bench dev }
+-- the members of a bench, those of its device first
+abbrev pub BenchMembers : Type 0 → Type 1
+BenchMembers N = record { state : N → DeviceState; wrote : N → ℕ → List ℕ → Answer → N → Type 0; same : N → N → Type 0; bench : N → BenchState }
+
+-- the bench that a device is
+abbrev pub bench_at : {N : Type 0} → BenchMembers N → N → Bench
+bench_at n dev = record { device = n.state dev; bench = n.bench dev }
 
 -- the environment, by the values of a call before and after it
-abbrev pub card_outside : {S T N : Type 0} → source.Ghosts S → sink.Ghosts T → (N → DeviceState) → (N → BenchState)
-    → S → S → T → T → N → N → CardOutside
-card_outside s t state bench in_old in_new out_old out_new dev_old dev_new =
+abbrev pub card_outside : {S T N : Type 0} → source.Ghosts S → sink.Ghosts T → BenchMembers N → S → S → T → T → N → N → CardOutside
+card_outside s t n in_old in_new out_old out_new dev_old dev_new =
     record {
       streams = outside s t in_old in_new out_old out_new;
-      dev_old = bench_of state bench dev_old;
-      dev = bench_of state bench dev_new;
+      dev_old = bench_at n dev_old;
+      dev = bench_at n dev_new;
     }
 
 -- ---- what was read

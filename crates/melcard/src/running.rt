@@ -2,15 +2,16 @@
 ghost use Rattle.std.specs.Prelude.{◌≡◌, ◌≤◌, Some, IfErr, IfOk, IfSome};
 ghost use Rattle.mc_model_play.specs.Generator.{deck_of_number};
 ghost use Rattle.mc_script.specs.Players.{IsUnfused};
-ghost use Rattle.mc_text.specs.Texts.{sunk_in};
+ghost use Rattle.mc_text.specs.Texts.{sunk};
 ghost use Rattle.mc_filter.specs.declared.status.Status.{Status};
+ghost use Rattle.mc_filter.specs.declared.status.Status.TheVariants as status;
 ghost use Rattle.mc_filter.specs.Outside.{outside};
 ghost use Rattle.mc_filter.specs.Statuses.{number_of};
 ghost use Rattle.melcard.specs.declared.job.Job.TheVariants as job;
 ghost use Rattle.mc_filter.specs.declared.rejection.Rejection.TheVariants as rejection;
 ghost use Rattle.melcard.specs.Jobs.{greatest_number, job_of, JobFits};
 ghost use Rattle.melcard.specs.Running.{PlaysInput, RejectsJob, WritesInput};
-ghost use Rattle.melcard.specs.Statuses.{bench_of, card_outside, text_of_step, IsSummed, MelcardCompletes, MelcardSays};
+ghost use Rattle.melcard.specs.Statuses.{bench_at, card_outside, text_of_step, IsSummed, MelcardCompletes, MelcardSays};
 ghost use Rattle.mc_script.specs.Plays.{PlaysDeck};
 
 use crate::form::text_of;
@@ -32,9 +33,9 @@ fn play_as<T: Sink, N: Bench, L: Ledger>(
     steps: &mut Steps<L>,
 ) -> Result<(), WriteFault>
     requires { IsUnfused (N.bench dev.old) }
-    ensures { PlaysDeck (text_of_step reporting) deck.now (bench_of N.state N.bench dev.old)
-        (sunk_in T.taken T.faults out.old) result (bench_of N.state N.bench dev.new)
-        (sunk_in T.taken T.faults out.new) }
+    ensures { PlaysDeck (text_of_step reporting) deck.now (bench_at N.Bench dev.old)
+        (sunk T.Sink out.old) result (bench_at N.Bench dev.new)
+        (sunk T.Sink out.new) }
 {
     match reporting {
         Reporting::Transcript => play(deck, dev, out, steps),
@@ -53,7 +54,7 @@ fn report<S: Source, T: Sink, N: Bench, L: Ledger>(
 ) -> Result<Status, Rejection>
     requires { IsUnfused (N.bench dev.old) }
     ensures done { IfOk result (λ s. PlaysInput reporting s
-        (card_outside S.Source T.Sink N.state N.bench input.old input.new out.old out.new dev.old dev.new)) }
+        (card_outside S.Source T.Sink N.Bench input.old input.new out.old out.new dev.old dev.new)) }
     ensures rejected { IfErr result
         (RejectsJob (job.Play reporting) (outside S.Source T.Sink input.old input.new out.old out.new)) }
     ensures out { IfErr result (λ e. out.new ≡ out.old) }
@@ -75,8 +76,8 @@ fn sum<T: Sink, N: Bench, L: Ledger>(
     requires number { number ≤ greatest_number }
     requires fuses { IsUnfused (N.bench dev.old) }
     ensures done { IfOk result (λ s. IsSummed (deck_of_number number) s
-        (bench_of N.state N.bench dev.old) (sunk_in T.taken T.faults out.old)
-        (bench_of N.state N.bench dev.new) (sunk_in T.taken T.faults out.new)) }
+        (bench_at N.Bench dev.old) (sunk T.Sink out.old)
+        (bench_at N.Bench dev.new) (sunk T.Sink out.new)) }
     ensures rejected { IfErr result (λ e. e ≡ rejection.NoMemory) }
     ensures out { IfErr result (λ e. out.new ≡ out.old) }
     ensures device { IfErr result (λ e. dev.new ≡ dev.old) }
@@ -115,7 +116,7 @@ fn run<S: Source, T: Sink, N: Bench, L: Ledger>(
     requires fits { JobFits job }
     requires fuses { IsUnfused (N.bench dev.old) }
     ensures { MelcardSays (dev.new ≡ dev.old) result (Some job)
-        (card_outside S.Source T.Sink N.state N.bench input.old input.new out.old out.new dev.old dev.new) }
+        (card_outside S.Source T.Sink N.Bench input.old input.new out.old out.new dev.old dev.new) }
 {
     let done = match job {
         Job::Play(reporting) => report(alloc, reporting, input, out, dev, steps),
@@ -128,9 +129,28 @@ fn run<S: Source, T: Sink, N: Bench, L: Ledger>(
     }
 }
 
+// Does the job that the words select, or writes the usage line, and returns its status.
+fn run_words<S: Source, T: Sink, N: Bench, L: Ledger>(
+    alloc: Global,
+    words: &[String],
+    input: &mut S,
+    out: &mut T,
+    dev: &mut N,
+    steps: &mut Steps<L>,
+) -> Status
+    requires { IsUnfused (N.bench dev.old) }
+    ensures { MelcardSays (dev.new ≡ dev.old) result (job_of words.now)
+        (card_outside S.Source T.Sink N.Bench input.old input.new out.old out.new dev.old dev.new) }
+{
+    let Some(job) = job_of(words) else {
+        let usage = b"usage: melcard play | asm | list | gen N | check | trace\n";
+        return ended(Status::NoForm, put_all(out, usage));
+    };
+    run(alloc, job, input, out, dev, steps)
+}
+
 /// Does the job that the words select, over a source, a sink and a device without an armed stop, and returns
-/// its status: 0 done, 1 the input is refused, 2 the words select no job, 3 a fault of the source, 4 a fault
-/// of the sink, 5 out of memory.
+/// its status.
 pub fn melcard<S: Source, T: Sink, N: Bench, L: Ledger>(
     alloc: Global,
     words: &[String],
@@ -140,18 +160,30 @@ pub fn melcard<S: Source, T: Sink, N: Bench, L: Ledger>(
     steps: &mut Steps<L>,
 ) -> u8
     requires { IsUnfused (N.bench dev.old) }
-    ensures says { (s : Status) × (result ≡ number_of s)
-        × MelcardSays (dev.new
-        ≡ dev.old) s (job_of words.now)
-        (card_outside S.Source T.Sink N.state N.bench input.old input.new out.old out.new dev.old dev.new) }
+    // 0: the input was read to its end, the job is done, and all its text was written.
+    ensures done { result ≡ 0 → MelcardSays (dev.new ≡ dev.old) status.Done (job_of words.now)
+        (card_outside S.Source T.Sink N.Bench input.old input.new out.old out.new dev.old dev.new) }
+    // 1: the input is refused, the line that says why was written, and the device is unchanged.
+    ensures refused { result ≡ 1 → MelcardSays (dev.new ≡ dev.old) status.Failed (job_of words.now)
+        (card_outside S.Source T.Sink N.Bench input.old input.new out.old out.new dev.old dev.new) }
+    // 2: the words select no job, the usage line was written, and source and device are unchanged.
+    ensures no_job { result ≡ 2 → MelcardSays (dev.new ≡ dev.old) status.NoForm (job_of words.now)
+        (card_outside S.Source T.Sink N.Bench input.old input.new out.old out.new dev.old dev.new) }
+    // 3: one call of the source failed, nothing was written, and the device is unchanged.
+    ensures read_fault { result ≡ 3 → MelcardSays (dev.new ≡ dev.old) status.ReadFault (job_of words.now)
+        (card_outside S.Source T.Sink N.Bench input.old input.new out.old out.new dev.old dev.new) }
+    // 4: a call of the sink failed, and a front of the text that is due was written.
+    ensures write_fault { result ≡ 4 → MelcardSays (dev.new ≡ dev.old) status.WriteFault (job_of words.now)
+        (card_outside S.Source T.Sink N.Bench input.old input.new out.old out.new dev.old dev.new) }
+    // 5: out of memory before the first byte was written, and the device is unchanged.
+    ensures memory { result ≡ 5 → MelcardSays (dev.new ≡ dev.old) status.NoMemory (job_of words.now)
+        (card_outside S.Source T.Sink N.Bench input.old input.new out.old out.new dev.old dev.new) }
+    // There is no other status.
+    ensures statuses { result ≤ 5 }
+    // If no call of source and sink fails, all that is due for the input is done, or the status is 5.
     ensures complete { (s : Status) → result ≡ number_of s
-        → IfSome (job_of words.now)
-        (λ job. MelcardCompletes s job
-        (card_outside S.Source T.Sink N.state N.bench input.old input.new out.old out.new dev.old dev.new)) }
+        → IfSome (job_of words.now) (λ job. MelcardCompletes s job
+        (card_outside S.Source T.Sink N.Bench input.old input.new out.old out.new dev.old dev.new)) }
 {
-    let Some(job) = job_of(words) else {
-        let usage = b"usage: melcard play | asm | list | gen N | check | trace\n";
-        return number(ended(Status::NoForm, put_all(out, usage)));
-    };
-    number(run(alloc, job, input, out, dev, steps))
+    number(run_words(alloc, words, input, out, dev, steps))
 }

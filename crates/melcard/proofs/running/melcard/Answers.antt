@@ -1,22 +1,26 @@
-use Rattle.std.proofs.Common.{◌≡◌, Option, refl, sym, subst, ◌∙◌}
-use Rattle.mc_filter.proofs.Statuses.{puts_by}
-use Rattle.melcard.specs.declared.job.Job.{Job}
-use Rattle.melcard.specs.Jobs.{job_of, usage}
-use Rattle.melcard.specs.Statuses.{CardOutside, MelcardSays}
-use Rattle.melcard.proofs.StatusLemmas.{around, says_no_form}
+use Rattle.std.proofs.Common.{◌≡◌, refl}
+use Rattle.mc_filter.specs.declared.status.Status.{Status}
+use Rattle.mc_filter.specs.declared.status.Status.TheVariants.{Done, Failed, NoForm, NoMemory, ReadFault, WriteFault}
+use Rattle.mc_filter.specs.Statuses.{IsNumberOf}
+use Rattle.mc_filter.proofs.Statuses.{at_most_five, at_number}
+use Rattle.melcard.specs.Jobs.{job_of}
+use Rattle.melcard.specs.Statuses.{BenchMembers, CardOutside, MelcardSays}
+use Rattle.melcard.proofs.StatusLemmas.{around}
 use Rattle.melcard.proofs.Completeness.{complete_at}
 use Rattle.melcard.proofs.running.melcard.Goals as goal
 
-pub returns-clause-complete : goal.returns-clause-complete
-returns-clause-complete g c = λ s is.
-    let a : CardOutside = around g.S.Source g.T.Sink g.N.Nvm.state g.N.Bench.bench c.args.input.now c.run.new.input c.args.out.now c.run.new.out c.args.dev.now c.run.new.dev in
-    let named = sym c.job_of.ensures.job ∙ c.in-Some.is in
-    complete_at (c.run.new.dev ≡ c.args.dev.now) (job_of c.args.words.now) c.run.result s a c.number-2.result c.number-2.ensures is
-    (subst (λ (o : Option Job). MelcardSays (c.run.new.dev ≡ c.args.dev.now) c.run.result o a) (sym named) c.run.ensures)
-
-pub returns-in_default-clause-says : goal.returns-in_default-clause-says
-returns-in_default-clause-says g c =
-    let a : CardOutside = around g.S.Source g.T.Sink g.N.Nvm.state g.N.Bench.bench c.args.input.now c.args.input.now c.args.out.now c.put_all.new.sink c.args.dev.now c.args.dev.now in
-    let said = c.put_all.ensures in
-    let put = puts_by a.streams.out_old a.streams.out usage usage c.put_all.result refl said.bytes said.fault said.part said.quiet in
-    (c.ended.result, c.number.ensures, says_no_form (c.args.dev.now ≡ c.args.dev.now) (job_of c.args.words.now) a c.put_all.result c.ended.result (sym c.job_of.ensures.job ∙ c.in_default.is) c.ended.ensures refl refl put)
+pub returns : goal.returns
+returns g c =
+    let members : BenchMembers _ = record { state = g.N.Nvm.state; wrote = g.N.Nvm.wrote; same = g.N.Nvm.same; bench = g.N.Bench.bench } in
+    let a : CardOutside = around g.S.Source g.T.Sink members c.args.input.now c.run_words.new.input c.args.out.now c.run_words.new.out c.args.dev.now c.run_words.new.dev in
+    let said : IsNumberOf (λ (s : Status). MelcardSays (c.run_words.new.dev ≡ c.args.dev.now) s (job_of c.args.words.now) a) c.number.result = (c.run_words.result, c.number.ensures, c.run_words.ensures) in
+    record {
+      done = λ is. at_number (λ (s : Status). MelcardSays (c.run_words.new.dev ≡ c.args.dev.now) s (job_of c.args.words.now) a) Done c.number.result said is;
+      refused = λ is. at_number (λ (s : Status). MelcardSays (c.run_words.new.dev ≡ c.args.dev.now) s (job_of c.args.words.now) a) Failed c.number.result said is;
+      no_job = λ is. at_number (λ (s : Status). MelcardSays (c.run_words.new.dev ≡ c.args.dev.now) s (job_of c.args.words.now) a) NoForm c.number.result said is;
+      read_fault = λ is. at_number (λ (s : Status). MelcardSays (c.run_words.new.dev ≡ c.args.dev.now) s (job_of c.args.words.now) a) ReadFault c.number.result said is;
+      write_fault = λ is. at_number (λ (s : Status). MelcardSays (c.run_words.new.dev ≡ c.args.dev.now) s (job_of c.args.words.now) a) WriteFault c.number.result said is;
+      memory = λ is. at_number (λ (s : Status). MelcardSays (c.run_words.new.dev ≡ c.args.dev.now) s (job_of c.args.words.now) a) NoMemory c.number.result said is;
+      statuses = at_most_five (λ (s : Status). MelcardSays (c.run_words.new.dev ≡ c.args.dev.now) s (job_of c.args.words.now) a) c.number.result said;
+      complete = λ s is. complete_at (c.run_words.new.dev ≡ c.args.dev.now) (job_of c.args.words.now) c.run_words.result s a c.number.result c.number.ensures is c.run_words.ensures;
+    }

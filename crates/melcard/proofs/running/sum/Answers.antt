@@ -2,9 +2,9 @@ use Rattle.std.proofs.Common.{ℕ, List, subst}
 use Rattle.mc_model_play.specs.DeckGrammar.{DeckLine}
 use Rattle.mc_model_play.specs.Generator.{deck_of_number, summary}
 use Rattle.mc_script.specs.Plays.{SumsDeck}
-use Rattle.mc_text.specs.Texts.{sunk_in}
+use Rattle.mc_text.specs.Texts.{sunk}
 use Rattle.mc_check.proofs.CheckedPlays.{checked_plays_law}
-use Rattle.melcard.specs.Statuses.{bench_of}
+use Rattle.melcard.specs.Statuses.{bench_at, BenchMembers}
 use Rattle.melcard.proofs.DumpLemmas.{generated_last}
 use Rattle.melcard.proofs.running.sum.Goals as goal
 
@@ -13,10 +13,11 @@ summarise-requires-clause-dumps g c = generated_last c.in_ok-deck.deck c.args.nu
 
 pub returns-clause-done : goal.returns-clause-done
 returns-clause-done g c =
-    let before = bench_of g.N.Nvm.state g.N.Bench.bench c.args.dev.now in
-    let after = bench_of g.N.Nvm.state g.N.Bench.bench c.summarise.new.dev in
-    let from = sunk_in g.T.Sink.taken g.T.Sink.faults c.args.out.now in
-    let to = sunk_in g.T.Sink.taken g.T.Sink.faults c.summarise.new.out in
+    let members : BenchMembers _ = record { state = g.N.Nvm.state; wrote = g.N.Nvm.wrote; same = g.N.Nvm.same; bench = g.N.Bench.bench } in
+    let before = bench_at members c.args.dev.now in
+    let after = bench_at members c.summarise.new.dev in
+    let from = sunk g.T.Sink c.args.out.now in
+    let to = sunk g.T.Sink c.summarise.new.out in
     let sums = subst (λ (ls : List (ℕ × DeckLine)). SumsDeck summary ls before from c.summarise.result after to) c.in_ok-deck.ensures c.summarise.ensures.sums in
     record {
       result = c.summarise.result;
