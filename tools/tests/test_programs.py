@@ -17,7 +17,7 @@ COUNTED = b"1 formatted\n2 ready 0\n9 9000\n10 9000\n11 00019000\n"
 POWER_ON = b"\x01"
 SELECT = bytes.fromhex("00A4040C05A000000001")
 CARD_USAGE = b"usage: melcard play | asm | list | gen N | check | trace\n"
-LAB_USAGE = b"usage: mellab expect | sweep\n"
+LAB_USAGE = b"usage: mellab expect | sweep | explore N\n"
 READER_USAGE = b"usage: melreader [DECK]\n"
 EXPECTED = COUNTER + b"#> 0001 9000\n"
 # A word that is no text.
@@ -36,7 +36,7 @@ RUNS = [
     ("melcard", ["play", NO_TEXT], COUNTER, 2, CARD_USAGE),
     ("mellab", ["expect"], EXPECTED, 0, b"expected 1 failed 0\n"),
     ("mellab", ["expect"], EXPECTED.replace(b"0001 9000", b"0002 9000"), 1,
-     b"line 12 expected 0002 9000 was 00019000\nexpected 1 failed 1\n"),
+     b"line 12 expected 0002 9000 was 0001 9000 (line 11 apdu 8001000002)\nexpected 1 failed 1\n"),
     ("mellab", ["sweep"], b"format\nreboot\n", 1, b"line 2 BadLine\n"),
     ("mellab", [], EXPECTED, 2, LAB_USAGE),
     ("mellab", ["expect", "sweep"], EXPECTED, 2, LAB_USAGE),
