@@ -2,3 +2,4 @@ pub mod BlockLemmas
 pub mod ResultLemmas
 pub mod StepLemmas
 pub mod ShiftLemmas
+pub mod QuadLemmas

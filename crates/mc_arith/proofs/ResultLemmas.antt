@@ -1,5 +1,5 @@
 -- From the numbers that a loop leaves to results with their flags.
-use Rattle.std.proofs.Common.{◌≡◌, ℕ, ◌+◌, ◌-◌, ◌*◌, ◌%◌, ◌^◌, ◌<◌, ◌≢◌, Bool, true, false, List, [], length, get_or, drop, refl, sym, ◌∙◌, ap, subst, arith, length-drop, ◌⊎◌, inl, inr}
+use Rattle.std.proofs.Common.{◌≡◌, ℕ, ◌+◌, ◌-◌, ◌*◌, ◌%◌, ◌^◌, ◌<◌, ◌≢◌, Bool, true, false, List, length, get_or, drop, refl, sym, ◌∙◌, ap, subst, arith, length-drop, ◌⊎◌, inl, inr}
 use Rattle.std.specs.Prelude.{nat_le, nat_lt, nat_eq, cond}
 use Rattle.std.proofs.Math.Arith.{digits_mod}
 use Rattle.mc_model_device.specs.Bytes.{num, AreBytes}

@@ -5,6 +5,7 @@ ghost use Rattle.mc_model_machine.specs.Blocks.{add_blocks, inc_block};
 ghost use Rattle.mc_arith.specs.Carry.{carry_of};
 
 use crate::flags::{Flags, zero};
+use crate::words::{sum_of_four, sum_of_two};
 
 /// Adds the second block to the first, modulo 256 to the power of its length, and returns the flags. Both
 /// have the same length, from 1 to 16. C is the carry.
@@ -14,7 +15,7 @@ pub fn add(a: &mut [u8], b: &[u8]) -> Flags
     requires high { length a.old ≤ 16 }
     ensures { record { value = a.new; c = result.c; z = result.z } ≡ add_blocks a.old b.now }
 {
-    let c = ripple_sum(a, b);
+    let c = sum(a, b);
     let z = zero(a);
     Flags { c, z }
 }
@@ -26,7 +27,7 @@ pub fn inc(a: &mut [u8]) -> Flags
     requires high { length a.old ≤ 16 }
     ensures { record { value = a.new; c = result.c; z = result.z } ≡ inc_block a.old }
 {
-    let wrapped = ripple_one(a);
+    let wrapped = sum_with_one(a);
     Flags {
         c: wrapped,
         z: zero(a),
@@ -34,6 +35,43 @@ pub fn inc(a: &mut [u8]) -> Flags
 }
 
 // Adds the second block to the first, of the same length, and returns the carry.
+#[inline(always)]
+fn sum(a: &mut [u8], b: &[u8]) -> bool
+    requires { length a.old ≡ length b.now }
+    ensures { num a.new + carry_of result * 256 ^ length a.old ≡ num a.old + num b.now }
+{
+    match b {
+        [b0, b1] => {
+            let (sum, carry) = sum_of_two([a[0], a[1]], [*b0, *b1]);
+            a[0] = sum[0];
+            a[1] = sum[1];
+            carry
+        }
+        [b0, b1, b2, b3] => {
+            let (sum, carry) = sum_of_four([a[0], a[1], a[2], a[3]], [*b0, *b1, *b2, *b3]);
+            a[0] = sum[0];
+            a[1] = sum[1];
+            a[2] = sum[2];
+            a[3] = sum[3];
+            carry
+        }
+        _ => ripple_sum(a, b),
+    }
+}
+
+// Adds 1 to the block, and returns the carry.
+#[inline(always)]
+fn sum_with_one(a: &mut [u8]) -> bool
+    ensures { num a.new + carry_of result * 256 ^ length a.old ≡ num a.old + 1 }
+{
+    match a.len() {
+        2 => sum(a, &[0, 1]),
+        4 => sum(a, &[0, 0, 0, 1]),
+        _ => ripple_one(a),
+    }
+}
+
+// Adds the second block to the first byte by byte, of the same length, and returns the carry.
 fn ripple_sum(a: &mut [u8], b: &[u8]) -> bool
     requires { length a.old ≡ length b.now }
     ensures { num a.new + carry_of result * 256 ^ length a.old ≡ num a.old + num b.now }
@@ -47,7 +85,7 @@ fn ripple_sum(a: &mut [u8], b: &[u8]) -> bool
     carry == 1
 }
 
-// Adds 1 to the block, and returns the carry.
+// Adds 1 to the block byte by byte, and returns the carry.
 fn ripple_one(a: &mut [u8]) -> bool
     ensures { num a.new + carry_of result * 256 ^ length a.old ≡ num a.old + 1 }
 {

@@ -10,7 +10,18 @@ pub struct Flags {
 }
 
 // Returns whether the block is the number 0.
+#[inline(always)]
 pub fn zero(block: &[u8]) -> bool
+    ensures { result ≡ is_zero block.now }
+{
+    match block {
+        [a, b, c, d] => u32::from_be_bytes([*a, *b, *c, *d]) == 0,
+        _ => are_zeros(block),
+    }
+}
+
+// Returns whether each byte of the block is 0.
+fn are_zeros(block: &[u8]) -> bool
     ensures { result ≡ is_zero block.now }
 {
     for b in block {

@@ -8,6 +8,7 @@ mod borders;
 mod flags;
 mod shifts;
 mod subtraction;
+mod words;
 
 pub use addition::{add, inc};
 pub use bitwise::{and, not, or, xor};

@@ -5,6 +5,7 @@ ghost use Rattle.mc_model_machine.specs.Blocks.{dec_block, sub_blocks};
 ghost use Rattle.mc_arith.specs.Carry.{carry_of};
 
 use crate::flags::{Flags, zero};
+use crate::words::{difference_of_four, difference_of_two};
 
 /// Subtracts the second block from the first, modulo 256 to the power of its length, and returns the flags.
 /// Both have the same length, from 1 to 16. C is the borrow.
@@ -14,7 +15,7 @@ pub fn sub(a: &mut [u8], b: &[u8]) -> Flags
     requires high { length a.old ≤ 16 }
     ensures { record { value = a.new; c = result.c; z = result.z } ≡ sub_blocks a.old b.now }
 {
-    let borrow = ripple_difference(a, b);
+    let borrow = difference(a, b);
     Flags {
         c: borrow,
         z: zero(a),
@@ -28,7 +29,7 @@ pub fn dec(a: &mut [u8]) -> Flags
     requires high { length a.old ≤ 16 }
     ensures { record { value = a.new; c = result.c; z = result.z } ≡ dec_block a.old }
 {
-    let wrapped = ripple_one_less(a);
+    let wrapped = difference_with_one(a);
     Flags {
         c: wrapped,
         z: zero(a),
@@ -56,6 +57,46 @@ pub fn compare(a: &[u8], b: &[u8]) -> Flags
 }
 
 // Subtracts the second block from the first, of the same length, and returns the borrow.
+#[inline(always)]
+fn difference(a: &mut [u8], b: &[u8]) -> bool
+    requires { length a.old ≡ length b.now }
+    ensures { num a.new + num b.now ≡ num a.old + carry_of result * 256 ^ length a.old }
+{
+    match b {
+        [b0, b1] => {
+            let (difference, borrow) = difference_of_two([a[0], a[1]], [*b0, *b1]);
+            a[0] = difference[0];
+            a[1] = difference[1];
+            borrow
+        }
+        [b0, b1, b2, b3] => {
+            let (difference, borrow) = difference_of_four(
+                [a[0], a[1], a[2], a[3]],
+                [*b0, *b1, *b2, *b3],
+            );
+            a[0] = difference[0];
+            a[1] = difference[1];
+            a[2] = difference[2];
+            a[3] = difference[3];
+            borrow
+        }
+        _ => ripple_difference(a, b),
+    }
+}
+
+// Subtracts 1 from the block, and returns the borrow.
+#[inline(always)]
+fn difference_with_one(a: &mut [u8]) -> bool
+    ensures { num a.new + 1 ≡ num a.old + carry_of result * 256 ^ length a.old }
+{
+    match a.len() {
+        2 => difference(a, &[0, 1]),
+        4 => difference(a, &[0, 0, 0, 1]),
+        _ => ripple_one_less(a),
+    }
+}
+
+// Subtracts the second block from the first byte by byte, of the same length, and returns the borrow.
 fn ripple_difference(a: &mut [u8], b: &[u8]) -> bool
     requires { length a.old ≡ length b.now }
     ensures { num a.new + num b.now ≡ num a.old + carry_of result * 256 ^ length a.old }
@@ -69,7 +110,7 @@ fn ripple_difference(a: &mut [u8], b: &[u8]) -> bool
     borrow == 1
 }
 
-// Subtracts 1 from the block, and returns the borrow.
+// Subtracts 1 from the block byte by byte, and returns the borrow.
 fn ripple_one_less(a: &mut [u8]) -> bool
     ensures { num a.new + 1 ≡ num a.old + carry_of result * 256 ^ length a.old }
 {

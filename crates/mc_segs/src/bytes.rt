@@ -3,6 +3,7 @@ ghost use Rattle.std.specs.Prelude.{◌≡◌, ◌+◌, ◌≤◌, ◌<◌, leng
 ghost use Rattle.mc_model_device.specs.Bytes.{be2, bytes2, splice};
 
 // Copies bytes. One, two or four of them, as most operands have, are copied in place: a call of `memcpy` takes longer.
+// They are read before any is written, which makes one read and one write of them.
 #[inline(always)]
 fn copy(into: &mut [u8], from: &[u8])
     requires { length into.old ≡ length from.now }
@@ -11,14 +12,16 @@ fn copy(into: &mut [u8], from: &[u8])
     match from {
         [a] => into[0] = *a,
         [a, b] => {
-            into[0] = *a;
-            into[1] = *b;
+            let (a, b) = (*a, *b);
+            into[0] = a;
+            into[1] = b;
         }
         [a, b, c, d] => {
-            into[0] = *a;
-            into[1] = *b;
-            into[2] = *c;
-            into[3] = *d;
+            let (a, b, c, d) = (*a, *b, *c, *d);
+            into[0] = a;
+            into[1] = b;
+            into[2] = c;
+            into[3] = d;
         }
         _ => into.copy_from_slice(from),
     }

@@ -4,4 +4,4 @@ use Rattle.mc_model_device.proofs.ListLemmas.{all_bytes}
 use Rattle.mc_arith.proofs.addition.add.Goals as goal
 
 pub returns : goal.returns
-returns c = sum_is c.args.a.now c.args.b.now c.ripple_sum-c.new.a c.ripple_sum-c.result c.zero-z.result (omega arith) (all_bytes c.ripple_sum-c.new.a (search rules)) c.ripple_sum-c.ensures c.zero-z.ensures
+returns c = sum_is c.args.a.now c.args.b.now c.sum-c.new.a c.sum-c.result c.zero-z.result (omega arith) (all_bytes c.sum-c.new.a (search rules)) c.sum-c.ensures c.zero-z.ensures

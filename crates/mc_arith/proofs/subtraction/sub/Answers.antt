@@ -4,4 +4,4 @@ use Rattle.mc_model_device.proofs.ListLemmas.{all_bytes}
 use Rattle.mc_arith.proofs.subtraction.sub.Goals as goal
 
 pub returns : goal.returns
-returns c = difference_is c.args.a.now c.args.b.now c.ripple_difference-borrow.new.a c.ripple_difference-borrow.result c.zero.result (omega arith) (all_bytes c.ripple_difference-borrow.new.a (search rules)) c.ripple_difference-borrow.ensures c.zero.ensures
+returns c = difference_is c.args.a.now c.args.b.now c.difference-borrow.new.a c.difference-borrow.result c.zero.result (omega arith) (all_bytes c.difference-borrow.new.a (search rules)) c.difference-borrow.ensures c.zero.ensures
