@@ -37,10 +37,11 @@ pub fn find_block<N: Nvm>(device: &N, aid: &Aid) -> Option<Slot>
     ensures image { IsImage (N.state device.now).words }
 {
     let size = device.len();
+    let head = head_of(aid);
     let mut place = HEAP;
     while place < size {
         let header = read_header(device, place);
-        if let Some(sizes) = sizes_of_name(device, place, &header, aid) {
+        if let Some(sizes) = sizes_of_name(device, place, &header, aid, &head) {
             return Some(Slot::new(place as u16, sizes));
         }
         place += header.words as u32;
@@ -57,13 +58,21 @@ fn read_header<N: Nvm>(device: &N, place: u32) -> Header
     let word = device.read(place);
     Header {
         used: word[0] == USED,
-        words: number_of(word[2], word[3]),
+        words: u16::from_be_bytes([word[2], word[3]]),
     }
 }
 
-// Returns the sizes of a block if it is used and has this name.
-fn sizes_of_name<N: Nvm>(device: &N, place: u32, header: &Header, aid: &Aid) -> Option<Sizes>
-    requires { header.now.used ≡ true → place + 5 ≤ length (N.state device.now).words }
+// Returns the sizes of a block if it is used and has this name, whose first five bytes are `head`.
+fn sizes_of_name<N: Nvm>(
+    device: &N,
+    place: u32,
+    header: &Header,
+    aid: &Aid,
+    head: &[u8; 5],
+) -> Option<Sizes>
+    requires fits { header.now.used ≡ true → place + 5 ≤ length (N.state device.now).words }
+    requires head { head.now ≡ take 5 aid.now }
+    requires name { 5 ≤ length aid.now }
     ensures name { is_some result ≡ (header.now.used && bytes_eq (name_at (N.state device.now).words place) aid.now) }
     ensures sizes { IfSome result (λ sizes. sizes ≡ record_sizes (record_at (N.state device.now).words place)) }
 {
@@ -72,7 +81,7 @@ fn sizes_of_name<N: Nvm>(device: &N, place: u32, header: &Header, aid: &Aid) -> 
     }
     let _size = device.len();
     let first = device.read(place + 1);
-    if !begins(aid, &first) {
+    if !begins(&first, head) {
         return None;
     }
     let entry = read_record(device, place, first);
@@ -83,20 +92,25 @@ fn sizes_of_name<N: Nvm>(device: &N, place: u32, header: &Header, aid: &Aid) -> 
     }
 }
 
-// Returns whether a name, which has five bytes or more, has the first five of this word.
-fn begins(aid: &Aid, first: &Word) -> bool
-    ensures same { result ≡ bytes_eq (take 5 first.now) (take 5 aid.now) }
+// Returns the first five bytes of a name, which has five or more.
+fn head_of(aid: &Aid) -> [u8; 5]
+    ensures head { result ≡ take 5 aid.now }
     ensures name { 5 ≤ length aid.now }
 {
-    // Five bytes are compared sooner than two slices, and names that differ mostly do so in the last of them.
-    match (first, aid.bytes()) {
-        ([a, b, c, d, e, ..], [f, g, h, i, j, ..]) => e == j
-            && a == f
-            && b == g
-            && c == h
-            && d == i,
-        _ => false,
+    match aid.bytes() {
+        [a, b, c, d, e, ..] => [*a, *b, *c, *d, *e],
+        _ => [0; 5],
     }
+}
+
+// Returns whether a word begins with these bytes.
+fn begins(first: &Word, head: &[u8; 5]) -> bool
+    ensures { result ≡ bytes_eq (take 5 first.now) head.now }
+{
+    // Five bytes are compared sooner than two slices, and names that differ mostly do so in the last of them.
+    let [a, b, c, d, e, ..] = first;
+    let [f, g, h, i, j] = head;
+    e == j && a == f && b == g && c == h && d == i
 }
 
 /// Returns the name in the record of the used block at a place.

@@ -8,7 +8,8 @@ ghost use Rattle.mc_model_card.specs.Items.{Blank, Note, Enter};
 ghost use Rattle.mc_model_card.specs.Manager.{create_items};
 ghost use Rattle.mc_base.specs.Name.{IsName};
 ghost use Rattle.mc_bank.specs.Bank.{FitsLimits};
-ghost use Rattle.mc_store.specs.Store.{is_going, record_word, IsGoodIn, IsInWord, IsReadySite};
+ghost use Rattle.mc_model_card.specs.declared.card.Part.TheVariants.{Data};
+ghost use Rattle.mc_store.specs.Store.{is_going, part_from, record_word, IsGoodIn, IsInWord, IsReadySite};
 ghost use Rattle.mc_store.specs.StoreItems.{store_did, blank_items};
 
 use crate::filling::{room_in_word, write_part};
@@ -49,27 +50,34 @@ fn clear<N: Nvm>(store: &mut Store<N>, site: &Site) -> Result<(), Stop>
     ensures good { OnOk result (IsGoodIn (N.state store.new.device).words site.now) }
 {
     let sizes = site.sizes();
+    let from = part_place(Part::Data, &sizes, site.place());
     let mut at = sizes.init;
     while at < sizes.fixed {
         let count = room_in_word(at, (sizes.fixed - at) as usize);
-        put_zeros(store, site, at, count)?;
+        put_zeros(store, site, from, at, count)?;
         at += count as u16;
     }
     Ok(())
 }
 
-// Writes zeros in one word of the static bytes.
-fn put_zeros<N: Nvm>(store: &mut Store<N>, site: &Site, at: u16, count: usize) -> Result<(), Stop>
+// Writes zeros in one word of the static bytes, which begin in the word `from`.
+fn put_zeros<N: Nvm>(
+    store: &mut Store<N>,
+    site: &Site,
+    from: u32,
+    at: u16,
+    count: usize,
+) -> Result<(), Stop>
     requires going { is_going (N.state store.old.device) store.old.count ≡ true }
     requires good { IsGoodIn (N.state store.old.device).words site.now }
+    requires from { from ≡ part_from Data site.now.sizes site.now.place }
     requires word { IsInWord site.now.sizes.fixed at count }
     ensures did { store_did N.state N.wrote store.old (Blank site.now at count) result store.new }
     ensures going { OnOk result (is_going (N.state store.new.device) store.new.count ≡ true) }
     ensures good { OnOk result (IsGoodIn (N.state store.new.device).words site.now) }
 {
     let _size = store.device.len();
-    let place = part_place(Part::Data, &site.sizes(), site.place());
-    write_part(&mut store.device, place, at, &[0; 8][..count])
+    write_part(&mut store.device, from, at, &[0; 8][..count])
 }
 
 // Writes the four words of the record.
@@ -82,36 +90,46 @@ fn note<N: Nvm>(store: &mut Store<N>, site: &Site, aid: &Aid) -> Result<(), Stop
     ensures going { OnOk result (is_going (N.state store.new.device) store.new.count ≡ true) }
     ensures good { OnOk result (IsGoodIn (N.state store.new.device).words site.now) }
 {
-    put_note(store, site, aid, 0)?;
-    put_note(store, site, aid, 1)?;
-    put_note(store, site, aid, 2)?;
-    put_note(store, site, aid, 3)
+    let name = padded(aid);
+    put_note(store, site, aid, &name, 0)?;
+    put_note(store, site, aid, &name, 1)?;
+    put_note(store, site, aid, &name, 2)?;
+    put_note(store, site, aid, &name, 3)
 }
 
-// Writes one word of the record.
-fn put_note<N: Nvm>(store: &mut Store<N>, site: &Site, aid: &Aid, number: u16) -> Result<(), Stop>
+// Writes one word of the record of an application, whose name followed by zeros is `padded`.
+#[inline(always)]
+fn put_note<N: Nvm>(
+    store: &mut Store<N>,
+    site: &Site,
+    aid: &Aid,
+    padded: &[u8; 16],
+    number: u16,
+) -> Result<(), Stop>
     requires going { is_going (N.state store.old.device) store.old.count ≡ true }
     requires good { IsGoodIn (N.state store.old.device).words site.now }
     requires name { IsName aid.now }
+    requires padded { padded.now ≡ aid.now ++ zeros (16 - length aid.now) }
     requires number { number < 4 }
     ensures did { store_did N.state N.wrote store.old (Note site.now aid.now number) result store.new }
     ensures going { OnOk result (is_going (N.state store.new.device) store.new.count ≡ true) }
     ensures good { OnOk result (IsGoodIn (N.state store.new.device).words site.now) }
 {
     let _size = store.device.len();
-    let word = entry_word(&site.sizes(), aid, number);
+    let word = entry_word(&site.sizes(), aid, padded, number);
     let place = site.place() as u32 + 1 + number as u32;
     store.device.write(place, word)
 }
 
-// Returns a word of the record.
-fn entry_word(sizes: &Sizes, aid: &Aid, number: u16) -> Word
+// Returns a word of the record of an application, whose name followed by zeros is `name`.
+#[inline(always)]
+fn entry_word(sizes: &Sizes, aid: &Aid, name: &[u8; 16], number: u16) -> Word
     requires limits { FitsLimits sizes.now }
     requires name { IsName aid.now }
+    requires padded { name.now ≡ aid.now ++ zeros (16 - length aid.now) }
     requires number { number < 4 }
     ensures { result ≡ record_word sizes.now aid.now number }
 {
-    let name = padded(aid);
     match number {
         0 => [
             name[0], name[1], name[2], name[3], name[4], name[5], name[6], name[7],

@@ -6,7 +6,7 @@ ghost use Rattle.mc_model_device.specs.Card.{word};
 ghost use Rattle.mc_model_card.specs.Items.{Piece};
 ghost use Rattle.mc_model_card.specs.Manager.{word_parts};
 ghost use Rattle.mc_bank.specs.Bank.{part_len};
-ghost use Rattle.mc_store.specs.Store.{is_going, IsGoodIn, IsInWord};
+ghost use Rattle.mc_store.specs.Store.{is_going, part_from, IsGoodIn, IsInWord};
 ghost use Rattle.mc_store.specs.StoreItems.{store_did};
 
 use crate::place::part_place;
@@ -33,11 +33,12 @@ pub fn fill<N: Nvm>(
     ensures items { InOrder (store_did N.state N.wrote) store.old (map
         (λ c. Piece site.now part c.0 c.1) (word_parts at piece.now)) result store.new }
 {
+    let place = part_place(part, &site.sizes(), site.place());
     let mut done = 0;
     while done < piece.len() {
         let from = at + done as u16;
         let count = room_in_word(from, piece.len() - done);
-        put_part(store, site, part, from, &piece[done..done + count])?;
+        put_part(store, site, part, place, from, &piece[done..done + count])?;
         done += count;
     }
     Ok(())
@@ -54,23 +55,24 @@ pub fn room_in_word(at: u16, count: usize) -> usize
     (8 - (at % 8) as usize).min(count)
 }
 
-// Sets bytes in one word of a section.
+// Sets bytes in one word of a section, which begins in the word `place`.
 fn put_part<N: Nvm>(
     store: &mut Store<N>,
     site: &Site,
     part: Part,
+    place: u32,
     at: u16,
     bytes: &[u8],
 ) -> Result<(), Stop>
     requires going { is_going (N.state store.old.device) store.old.count ≡ true }
     requires good { IsGoodIn (N.state store.old.device).words site.now }
+    requires place { place ≡ part_from part site.now.sizes site.now.place }
     requires word { IsInWord (part_len part site.now.sizes) at (length bytes.now) }
     ensures did { store_did N.state N.wrote store.old (Piece site.now part at bytes.now) result store.new }
     ensures going { OnOk result (is_going (N.state store.new.device) store.new.count ≡ true) }
     ensures good { OnOk result (IsGoodIn (N.state store.new.device).words site.now) }
 {
     let _size = store.device.len();
-    let place = part_place(part, &site.sizes(), site.place());
     write_part(&mut store.device, place, at, bytes)
 }
 

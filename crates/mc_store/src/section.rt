@@ -21,7 +21,46 @@ fn read_few<N: Nvm>(device: &N, place: u32, skip: usize, into: &mut [u8])
     let _size = device.len();
     let end = skip + into.len();
     let words = [device.read(place), word_where(device, place + 1, end > 8)];
-    into.copy_from_slice(&words.as_flattened()[skip..end]);
+    copy_few(into, &words.as_flattened()[skip..end]);
+}
+
+// Copies bytes, up to five of them in place: the last instructions of a code are fetched so, and a call of `memcpy` takes
+// longer. They are read before any is written.
+#[inline(always)]
+fn copy_few(into: &mut [u8], from: &[u8])
+    requires { length into.old ≡ length from.now }
+    ensures { into.new ≡ from.now }
+{
+    match from {
+        [a] => into[0] = *a,
+        [a, b] => {
+            let (a, b) = (*a, *b);
+            into[0] = a;
+            into[1] = b;
+        }
+        [a, b, c] => {
+            let (a, b, c) = (*a, *b, *c);
+            into[0] = a;
+            into[1] = b;
+            into[2] = c;
+        }
+        [a, b, c, d] => {
+            let (a, b, c, d) = (*a, *b, *c, *d);
+            into[0] = a;
+            into[1] = b;
+            into[2] = c;
+            into[3] = d;
+        }
+        [a, b, c, d, e] => {
+            let (a, b, c, d, e) = (*a, *b, *c, *d, *e);
+            into[0] = a;
+            into[1] = b;
+            into[2] = c;
+            into[3] = d;
+            into[4] = e;
+        }
+        _ => into.copy_from_slice(from),
+    }
 }
 
 // Returns the word at a place if it is asked for.

@@ -18,8 +18,8 @@ loop-place-init g c =
       left = ap (λ (bs : List Block). first_named m bs c.args.aid.now) (blocks_all m);
     }
 
-pub sizes_of_name-requires : goal.sizes_of_name-requires
-sizes_of_name-requires g c =
+pub sizes_of_name-requires-clause-fits : goal.sizes_of_name-requires-clause-fits
+sizes_of_name-requires-clause-fits g c =
     let m = (g.N.Nvm.state c.args.device.now).words in
     let lt : c.loop-place.place < length m = subst (λ (n : ℕ). c.loop-place.place < n) c.len-size.ensures.len c.loop-place-test.true in
     let s : BlockStands m c.loop-place.place c.read_header-header.result.used c.read_header-header.result.words =

@@ -1,7 +1,4 @@
-use Rattle.std.proofs.Common.{◌+◌, ◌/◌, ◌<◌, ℕ, length, sym, subst, ap, ◌∙◌, arith}
-use Rattle.mc_model_card.specs.declared.card.Sizes.{Sizes}
-use Rattle.mc_model_card.specs.declared.card.Part.TheVariants.{Data}
-use Rattle.mc_store.specs.Store.{part_from}
+use Rattle.std.proofs.Common.{◌+◌, ◌/◌, ◌<◌, ℕ, length, sym, subst, arith}
 use Rattle.mc_store.proofs.FillLemmas.{power_on}
 use Rattle.mc_store.proofs.CreateLemmas.{blank_word, blank_did, blank_going, blank_good, zeros_front}
 use Rattle.mc_model_device.specs.Device.{sized}
@@ -12,13 +9,13 @@ write_part-requires-clause-power g c = power_on (g.N.Nvm.state c.args.store.now.
 
 pub write_part-requires-clause-place : goal.write_part-requires-clause-place
 write_part-requires-clause-place g c =
-    subst (λ (q : ℕ). q + c.args.at / 8 < length (g.N.Nvm.state c.args.store.now.device).words) (sym (c.part_place-place.ensures ∙ ap (λ (z : Sizes). part_from Data z c.place.result) c.sizes.ensures ∙ ap (λ (q : ℕ). part_from Data c.args.site.now.sizes q) c.place.ensures))
+    subst (λ (q : ℕ). q + c.args.at / 8 < length (g.N.Nvm.state c.args.store.now.device).words) (sym c.requires.from)
     (blank_word (g.N.Nvm.state c.args.store.now.device) c.args.store.now.count c.args.site.now c.args.at c.args.count (sized c.len-size.ensures.image) c.requires.going c.requires.good c.requires.word)
 
 pub returns-clause-did : goal.returns-clause-did
 returns-clause-did g c =
-    blank_did g.N.Nvm.state g.N.Nvm.wrote g.met.N.Nvm.obeys c.args.store.now.device c.write_part.new.device c.args.store.now.count c.args.site.now c.args.at c.args.count c.part_place-place.result _ c.write_part.result
-    (sized c.len-size.ensures.image) c.requires.going c.requires.good c.requires.word (c.part_place-place.ensures ∙ ap (λ (z : Sizes). part_from Data z c.place.result) c.sizes.ensures ∙ ap (λ (q : ℕ). part_from Data c.args.site.now.sizes q) c.place.ensures) (zeros_front c.args.count 8 (let w = c.requires.word.word in omega (arith, w))) c.write_part.ensures.wrote
+    blank_did g.N.Nvm.state g.N.Nvm.wrote g.met.N.Nvm.obeys c.args.store.now.device c.write_part.new.device c.args.store.now.count c.args.site.now c.args.at c.args.count c.args.from _ c.write_part.result
+    (sized c.len-size.ensures.image) c.requires.going c.requires.good c.requires.word c.requires.from (zeros_front c.args.count 8 (let w = c.requires.word.word in omega (arith, w))) c.write_part.ensures.wrote
 
 pub returns-clause-going : goal.returns-clause-going
 returns-clause-going g c =

@@ -1,6 +1,4 @@
-use Rattle.std.proofs.Common.{◌+◌, ◌/◌, ◌<◌, ℕ, length, sym, subst, ap, ◌∙◌}
-use Rattle.mc_model_card.specs.declared.card.Sizes.{Sizes}
-use Rattle.mc_store.specs.Store.{part_from}
+use Rattle.std.proofs.Common.{◌+◌, ◌/◌, ◌<◌, ℕ, length, sym, subst}
 use Rattle.mc_store.proofs.FillLemmas.{site_word, power_on, piece_did, piece_going, piece_good}
 use Rattle.mc_model_device.specs.Device.{sized}
 use Rattle.mc_store.proofs.filling.put_part.Goals as goal
@@ -11,14 +9,14 @@ write_part-requires-clause-power g c = power_on (g.N.Nvm.state c.args.store.now.
 pub write_part-requires-clause-place : goal.write_part-requires-clause-place
 write_part-requires-clause-place g c =
     subst (λ (q : ℕ). q + c.args.at / 8 < length (g.N.Nvm.state c.args.store.now.device).words)
-    (sym (c.part_place-place.ensures ∙ ap (λ (z : Sizes). part_from c.args.part z c.place.result) c.sizes.ensures ∙ ap (λ (q : ℕ). part_from c.args.part c.args.site.now.sizes q) c.place.ensures))
+    (sym c.requires.place)
     (site_word (g.N.Nvm.state c.args.store.now.device) c.args.store.now.count c.args.site.now c.args.part c.args.at (length c.args.bytes.now) (sized c.len-size.ensures.image) c.requires.going c.requires.good c.requires.word)
 
 pub returns-clause-did : goal.returns-clause-did
 returns-clause-did g c =
-    piece_did g.N.Nvm.state g.N.Nvm.wrote g.met.N.Nvm.obeys c.args.store.now.device c.write_part.new.device c.args.store.now.count c.args.site.now c.args.part c.args.at c.part_place-place.result c.args.bytes.now c.write_part.result
+    piece_did g.N.Nvm.state g.N.Nvm.wrote g.met.N.Nvm.obeys c.args.store.now.device c.write_part.new.device c.args.store.now.count c.args.site.now c.args.part c.args.at c.args.place c.args.bytes.now c.write_part.result
     (sized c.len-size.ensures.image) c.requires.going c.requires.good c.requires.word
-    (c.part_place-place.ensures ∙ ap (λ (z : Sizes). part_from c.args.part z c.place.result) c.sizes.ensures ∙ ap (λ (q : ℕ). part_from c.args.part c.args.site.now.sizes q) c.place.ensures) c.write_part.ensures.wrote
+    c.requires.place c.write_part.ensures.wrote
 
 pub returns-clause-going : goal.returns-clause-going
 returns-clause-going g c =

@@ -16,7 +16,7 @@ returns g c =
     let lt : q < length m = omega (arith, room, some) in
     let asked : 8 < skip + n → c.word_where.result ≡ word m (q + 1) = λ far. c.word_where.ensures (grind (arith, far)) in
     let count : (skip + n) - skip ≡ n = omega arith in
-    c.copy_from_slice.ensures.after
+    c.copy_few.ensures
     ∙ ap (λ (l : List ℕ). take ((skip + n) - skip) (drop skip l)) c.as_flattened.ensures.value
     ∙ ap (λ (k : ℕ). take k (drop skip (c.read.result ++ (c.word_where.result ++ [])))) count
     ∙ ap (λ (w : List ℕ). take n (drop skip (w ++ (c.word_where.result ++ [])))) c.read.ensures
