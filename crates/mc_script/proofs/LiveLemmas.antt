@@ -1,22 +1,22 @@
 -- A player whose session state, or whose power without a card, is replaced.
-use Rattle.std.proofs.Common.{◌≡◌, ℕ, List, refl, sym, ap, ◌∙◌, subst}
-use Rattle.std.specs.Prelude.{true, false, ⊤}
+use Rattle.std.proofs.Common.{◌≡◌, refl, sym, ap, ◌∙◌, subst}
+use Rattle.std.specs.Prelude.{true, false}
 use Rattle.mc_model_device.specs.Device.{DeviceState, BenchState}
 use Rattle.mc_model_device.specs.Card.{means}
-use Rattle.mc_model_device.specs.PowerUp.{Base, OnCard}
+use Rattle.mc_model_device.specs.PowerUp.{OnCard}
 use Rattle.mc_model_card.specs.Manager.{SessionState}
 use Rattle.mc_model_play.specs.Play as play
 use Rattle.mc_model_play.specs.Play.{Warm, State, BeforePower, AfterPower, Running, Unpowered, Muted}
 use Rattle.mc_model_play.specs.Family.{live_in, is_running}
 use Rattle.mc_store.specs.Power.{HoldsBase}
 use Rattle.mc_card.specs.declared.card.Card.{Card}
-use Rattle.mc_card.specs.Parts.{device_in, words_in, session_state_in, IsReadyCard}
-use Rattle.mc_card.specs.Saved.{SavedState, saved_of, session_state_on, FitsWords}
+use Rattle.mc_card.specs.Parts.{device_in, session_state_in, IsReadyCard}
+use Rattle.mc_card.specs.Saved.{saved_of}
 use Rattle.mc_card.proofs.SavedLemmas.{fits_words}
 use Rattle.mc_script.specs.declared.player.Power.{Power}
 use Rattle.mc_script.specs.declared.player.Power.TheVariants as power
 use Rattle.mc_script.specs.declared.player.Player.{Player}
-use Rattle.mc_script.specs.Players.{LiveIs, StateIs, IsCardOfPlay, IsUnfused, IsPlayerAt, IsPlaying, device_of}
+use Rattle.mc_script.specs.Players.{StateIs, IsUnfused, IsPlayerAt, IsPlaying, device_of}
 use Rattle.mc_script.specs.Lives.{ShowsSession, IsStopped, live_at}
 
 module _ {N : Type 0} (state : N → DeviceState) (bench : N → BenchState) where

@@ -1,10 +1,8 @@
 -- A play of one line and a play of the lines after it are one play.
-use Rattle.std.proofs.Common.{◌≡◌, ◌⊎◌, ℕ, zero, suc, ◌+◌, Bool, List, [], ◌∷◌, ◌++◌, Option, Some, None, Result, Ok, Err, refl, arith, sym, ap, subst, ◌∙◌, append_assoc, inl, inr}
+use Rattle.std.proofs.Common.{◌≡◌, ◌⊎◌, ℕ, zero, suc, ◌+◌, Bool, List, [], ◌∷◌, ◌++◌, Option, Result, Ok, Err, refl, arith, sym, ap, subst, ◌∙◌, append_assoc, inl, inr}
 use Rattle.mc_model_device.specs.Device.{DeviceState, BenchState, next_count}
 use Rattle.mc_model_play.specs.DeckGrammar.{DeckLine}
-use Rattle.mc_model_play.specs.DeckGrammar as line
-use Rattle.mc_model_play.specs.Play.{Armed, Live, Running, Unpowered, Muted, Warm, State, BeforePower, AfterPower, FailedWrite, Step, plays, step, card_line, armed_stop_in, last_state, StandsForState, moves_of, steady_at, steady_failures, failures_of_tape}
-use Rattle.mc_model_device.specs.PowerUp.{Base, OnCard, AtFault}
+use Rattle.mc_model_play.specs.Play.{Armed, State, FailedWrite, Step, plays, step, armed_stop_in, last_state, StandsForState, moves_of, steady_at, steady_failures, failures_of_tape}
 use Rattle.mc_model_play.proofs.PlayLemmas.{step_is}
 use Rattle.mc_base.specs.Streams.{Grew}
 use Rattle.mc_base.specs.declared.refusals.WriteFault.{WriteFault}

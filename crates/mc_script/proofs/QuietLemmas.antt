@@ -6,7 +6,7 @@ use Rattle.mc_model_play.specs.DeckGrammar.{DeckLine}
 use Rattle.mc_model_play.specs.DeckGrammar as line
 use Rattle.mc_model_card.specs.Items.{moves}
 use Rattle.mc_model_play.specs.Play as play
-use Rattle.mc_model_play.specs.Play.{FailedWrite, Unarmed, ArmedCut, ArmedFail, Live, Running, Unpowered, Muted, LineResult, NoCard, Silenced, Warm, State, BeforePower, AfterPower, Step, step, quiet, card_line, dump_result, static_of, is_card_line, armed_stop_in, moves_of, steady_at, words_left}
+use Rattle.mc_model_play.specs.Play.{FailedWrite, Unarmed, ArmedCut, ArmedFail, Live, Running, Unpowered, Muted, LineResult, NoCard, Silenced, Warm, State, BeforePower, AfterPower, Step, step, quiet, card_line, dump_result, is_card_line, armed_stop_in, moves_of, steady_at, words_left}
 use Rattle.mc_model_device.specs.PowerUp.{Base}
 use Rattle.mc_model_play.specs.TraceText.{shown_turns}
 use Rattle.mc_card.specs.declared.card.Card.{Card}

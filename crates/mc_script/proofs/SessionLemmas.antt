@@ -1,5 +1,5 @@
 -- A player whose card changes and keeps its device goes on playing.
-use Rattle.std.proofs.Common.{◌≡◌, ◌≤◌, refl, sym, ◌∙◌, subst}
+use Rattle.std.proofs.Common.{◌≡◌, refl, sym, ◌∙◌, subst}
 use Rattle.mc_model_device.specs.Device.{DeviceState, BenchState}
 use Rattle.mc_model_device.specs.Card.{means}
 use Rattle.mc_model_device.specs.PowerUp.{OnCard}
@@ -10,7 +10,7 @@ use Rattle.mc_card.specs.Parts.{device_in, session_state_in, IsReadyCard}
 use Rattle.mc_script.specs.declared.player.Power.{Power}
 use Rattle.mc_script.specs.declared.player.Power.TheVariants as power
 use Rattle.mc_script.specs.declared.player.Player.{Player}
-use Rattle.mc_script.specs.Players.{StateIs, IsCardOfPlay, IsUnfused, IsPlayerAt, IsPlaying, device_of}
+use Rattle.mc_script.specs.Players.{StateIs, IsUnfused, IsPlayerAt, IsPlaying}
 
 module _ {N : Type 0} (state : N → DeviceState) (bench : N → BenchState) where
   -- a card that runs is that of the play with its session state

@@ -14,15 +14,15 @@ use Rattle.mc_model_machine.specs.declared.instruction.DecodeFault.TheVariants.{
 use Rattle.mc_model_machine.specs.Apdu.{ApduParts, apdu_read, rest_read, Rest}
 use Rattle.mc_model_machine.specs.Code.{instruction_at}
 use Rattle.mc_model_machine.specs.Row.{RowEnd, Abends, Does, row}
-use Rattle.mc_model_machine.specs.Chain.{Chain, Turn, Acted, Ran, Follows, Continues, Ends, code_in, around, frame_at, row_turn, turn_of_fetch, turn_of_chain, turn_of, chain_session, run_after_turn, run_of_chain, run}
+use Rattle.mc_model_machine.specs.Chain.{Chain, Acted, Ran, Follows, Continues, Ends, code_in, around, frame_at, row_turn, turn_of_fetch, turn_of_chain, chain_session, run_after_turn, run_of_chain, run}
 use Rattle.mc_model_card.specs.Units.{UnitParts}
 use Rattle.mc_model_card.specs.Manager.{Selected, SessionState, Managed, Declines, Accepts, Route, WrongLength, WrongClass, ToSelect, ToManager, ToApplication, route, route_of_parts, select, manage, room_on}
-use Rattle.mc_model_card.specs.Commands.{Command, command, manager_command, application_command, by_route}
+use Rattle.mc_model_card.specs.Commands.{command, manager_command, application_command, by_route}
 use Rattle.mc_model_play.specs.Play.{send, piece_commands, section_commands, load_commands}
 use Rattle.mc_manager.specs.CommandDue.{is_open, most_ticks}
 use Rattle.mc_card.specs.Ends.{is_passed, RunSteps, PassedSteps, RouteSteps, BeginSteps}
 use Rattle.mc_script.specs.Classes.{IsManaged}
-use Rattle.mc_script.specs.StepCounts.{count_of_decoded, instructions, is_open_command, most_search, command_search, OnlyFirstOpens, StepsOf}
+use Rattle.mc_script.specs.StepCounts.{count_of_decoded, instructions, is_open_command, command_search, OnlyFirstOpens, StepsOf}
 use Rattle.mc_script.proofs.CommandLemmas.{command_turns}
 use Rattle.mc_script.proofs.SendLemmas.{send_turns}
 

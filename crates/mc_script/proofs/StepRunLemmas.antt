@@ -1,7 +1,6 @@
 -- The steps of a run turn by turn, of the commands of a load, and of a line on a card that runs.
 use Rattle.std.proofs.Common.{◌≡◌, ◌⊎◌, ℕ, zero, suc, ◌+◌, ◌≤◌, Bool, true, false, cond, List, [], ◌∷◌, ◌++◌, Option, Some, None, Ok, refl, arith, sym, ap, subst, ◌∙◌, inl, inr}
 use Rattle.std.specs.Prelude.{option_map}
-use Rattle.std.specs.List.{AllByRecursion}
 use Rattle.mc_model_device.specs.declared.device.Stop.{Stop}
 use Rattle.mc_model_device.specs.declared.device.Stop.TheVariants.{Off, Worn}
 use Rattle.mc_model_device.specs.Orders.{Answer as Ended}
@@ -9,7 +8,7 @@ use Rattle.mc_model_device.specs.Device.{DeviceState, BenchState, Wrote}
 use Rattle.mc_model_device.specs.Card as model
 use Rattle.mc_model_device.specs.Card.{means}
 use Rattle.mc_model_device.specs.PowerUp.{Base, OnCard, AtFault}
-use Rattle.mc_model_machine.specs.Chain.{Chain, Turn, Acted, Ran, Follows, Continues, Ends, turn_of_chain, turn_of, end_of, chain_session, run_after_turn, run_of_chain, run, start}
+use Rattle.mc_model_machine.specs.Chain.{Chain, Turn, Acted, Ran, Follows, Continues, Ends, turn_of_chain, turn_of, end_of, chain_session, run_after_turn, run_of_chain, start}
 use Rattle.mc_model_card.specs.Manager.{SessionState, route}
 use Rattle.mc_model_card.specs.Commands.{Command}
 use Rattle.mc_model_play.specs.DeckGrammar.{DeckLine}
@@ -29,12 +28,12 @@ use Rattle.mc_script.specs.declared.player.Power.TheVariants as power
 use Rattle.mc_script.specs.declared.player.Player.{Player}
 use Rattle.mc_script.specs.Players.{LiveIs, IsPlayerAt}
 use Rattle.mc_script.specs.Arming.{answer_after_stop}
-use Rattle.mc_script.specs.StepCounts.{instructions, is_open_command, most_search, command_search, OnlyFirstOpens, first_search, StepsOf, line_search, search_on, search_in, instructions_on, instructions_in, is_stopped, LineSteps}
+use Rattle.mc_script.specs.StepCounts.{instructions, most_search, command_search, OnlyFirstOpens, first_search, StepsOf, line_search, search_on, search_in, instructions_on, instructions_in, is_stopped, LineSteps}
 use Rattle.mc_script.proofs.TurnLemmas.{is_reported}
 use Rattle.mc_script.proofs.RanLemmas.{end_ends, run_goes}
 use Rattle.mc_script.proofs.CommandLemmas.{command_is, TurnDoes}
 use Rattle.mc_script.proofs.CardLemmas.{session_state_over}
-use Rattle.mc_script.proofs.StepLemmas.{NoneOpens, none, run_count, passed_begin}
+use Rattle.mc_script.proofs.StepLemmas.{NoneOpens, run_count, passed_begin}
 
 -- ---- the count of a run by its first turn
 

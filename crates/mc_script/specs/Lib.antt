@@ -15,3 +15,4 @@ pub mod Lines
 pub mod StepCounts
 pub mod Sums
 pub mod Lives
+pub mod Stops

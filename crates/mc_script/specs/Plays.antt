@@ -1,6 +1,6 @@
 -- A deck played on a device from the words that it holds: its text, the words and counts that it leaves, and the failed
 -- writes that account for all of it.
-use Rattle.std.specs.Prelude.{◌≡◌, ℕ, ◌<◌, true, false, List, [], ◌∷◌, ◌++◌, length, drop, Option, Some, None, Result, Ok, Err}
+use Rattle.std.specs.Prelude.{◌≡◌, ℕ, ◌<◌, true, false, List, [], ◌∷◌, ◌++◌, length, drop, Option, Result, Ok, Err}
 use Rattle.mc_model_device.specs.Counts.{Rose}
 use Rattle.mc_model_device.specs.Device.{DeviceState, BenchState, Entry, GrowsBy}
 use Rattle.mc_model_play.specs.DeckGrammar.{DeckLine}

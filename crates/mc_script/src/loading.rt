@@ -1,6 +1,6 @@
 // The commands of a load, one after the other.
 ghost use Rattle.std.specs.List.{AllByRecursion};
-ghost use Rattle.std.specs.Prelude.{◌≡◌, ◌+◌, ◌++◌, ◌∷◌, [], ◌≤◌, length, is_err, IfSome, IfNone};
+ghost use Rattle.std.specs.Prelude.{◌≡◌, ◌+◌, ◌++◌, ◌∷◌, [], ◌≤◌, length, is_err, true, false};
 ghost use Rattle.mc_model_device.specs.Limits.{most_code};
 ghost use Rattle.mc_model_device.specs.Bytes.{bytes2};
 ghost use Rattle.mc_model_card.specs.Units.{FitsUnit};
@@ -70,28 +70,32 @@ impl<'a> LoadCommands<'a> {
         }
     }
 
-    /// Returns the next command, or `None` if none is left.
-    pub fn next(&mut self) -> Option<ArrayVec<u8, 253>>
-        ensures command { IfSome result (λ bytes. self.old ≡ bytes.items ∷ self.new) }
-        ensures none { IfNone result (self.old ≡ []) }
+    /// Puts the next command into `into`, and returns whether one was left.
+    pub fn next(&mut self, into: &mut ArrayVec<u8, 253>) -> bool
+        ensures command { result ≡ true → self.old ≡ into.new.items ∷ self.new }
+        ensures none { result ≡ false → self.old ≡ [] }
     {
         if let Some(open) = self.open.take() {
-            return Some(copied(&open));
+            put_bytes(into, &open);
+            return true;
         }
-        if let Some(piece) = self.code.next() {
-            return Some(piece);
+        if self.code.next(into) {
+            return true;
         }
-        if let Some(piece) = self.data.next() {
-            return Some(piece);
+        if self.data.next(into) {
+            return true;
         }
-        if let Some(piece) = self.dir.next() {
-            return Some(piece);
+        if self.dir.next(into) {
+            return true;
         }
-        if let Some(piece) = self.fci.next() {
-            return Some(piece);
+        if self.fci.next(into) {
+            return true;
         }
-        let create = self.create.take()?;
-        Some(copied(&create))
+        if let Some(create) = self.create.take() {
+            put_bytes(into, &create);
+            return true;
+        }
+        false
     }
 }
 
@@ -130,14 +134,13 @@ fn open_command(unit: &Unit<'_>, fixed: u16, session: u16) -> [u8; 17]
     ]
 }
 
-// Returns a command of fixed bytes.
-fn copied(bytes: &[u8]) -> ArrayVec<u8, 253>
+// Puts a command of fixed bytes into `into`.
+fn put_bytes(into: &mut ArrayVec<u8, 253>, bytes: &[u8])
     requires { length bytes.now ≤ 253 }
-    ensures { result.items ≡ bytes.now }
+    ensures { into.new.items ≡ bytes.now }
 {
-    let mut command = ArrayVec::new();
-    command.try_extend_from_slice(bytes).unwrap();
-    command
+    into.clear();
+    into.try_extend_from_slice(bytes).unwrap();
 }
 
 // The commands of a section that are still to be sent, each a piece of it with its place.
@@ -175,29 +178,29 @@ impl<'a> Section<'a> {
         }
     }
 
-    // Returns the next command, or `None` if none is left.
-    fn next(&mut self) -> Option<ArrayVec<u8, 253>>
-        ensures command { IfSome result (λ bytes. self.old ≡ bytes.items ∷ self.new) }
-        ensures none { IfNone result (self.old ≡ []) }
-        ensures stays { IfNone result (self.new ≡ []) }
+    // Puts the next command into `into`, and returns whether one was left.
+    fn next(&mut self, into: &mut ArrayVec<u8, 253>) -> bool
+        ensures command { result ≡ true → self.old ≡ into.new.items ∷ self.new }
+        ensures none { result ≡ false → self.old ≡ [] }
+        ensures stays { result ≡ false → self.new ≡ [] }
     {
         if self.rest.is_empty() {
-            return None;
+            return false;
         }
         let (piece, behind) = self.rest.split_at(self.rest.len().min(PIECE));
-        let command = piece_command(self.ins, self.at, piece);
+        put_piece(into, self.ins, self.at, piece);
         self.at += piece.len() as u16;
         self.rest = behind;
-        Some(command)
+        true
     }
 }
 
-// Returns the command that sends a piece of a section, at its place.
-fn piece_command(ins: u8, at: u16, piece: &[u8]) -> ArrayVec<u8, 253>
+// Puts the command that sends a piece of a section, at its place, into `into`.
+fn put_piece(into: &mut ArrayVec<u8, 253>, ins: u8, at: u16, piece: &[u8])
     requires { length piece.now ≤ 248 }
-    ensures { result.items ≡ 0xBE ∷ ins ∷ (bytes2 at ++ length piece.now ∷ piece.now) }
+    ensures { into.new.items ≡ 0xBE ∷ ins ∷ (bytes2 at ++ length piece.now ∷ piece.now) }
 {
-    let mut bytes = ArrayVec::new();
+    into.clear();
     let header = [
         0xBE,
         ins,
@@ -205,9 +208,8 @@ fn piece_command(ins: u8, at: u16, piece: &[u8]) -> ArrayVec<u8, 253>
         (at % 256) as u8,
         piece.len() as u8,
     ];
-    bytes.try_extend_from_slice(&header).unwrap();
-    bytes.try_extend_from_slice(piece).unwrap();
-    bytes
+    into.try_extend_from_slice(&header).unwrap();
+    into.try_extend_from_slice(piece).unwrap();
 }
 
 // Returns whether a command was answered by 9000 alone.
@@ -243,7 +245,8 @@ pub fn send<N: Nvm, R: Runner, L: Ledger>(
         (first_search (card_in N.state card.old) commands.old) (is_err result) steps.old steps.new }
     ensures keeps_device { N.same (device_in card.old) (device_in card.new) }
 {
-    while let Some(bytes) = commands.next() {
+    let mut bytes = ArrayVec::new();
+    while commands.next(&mut bytes) {
         runner.run(card, bytes.as_slice(), budget, into, steps)?;
         if !is_done(into) {
             return Ok(());

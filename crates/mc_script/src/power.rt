@@ -115,8 +115,8 @@ impl<N: Bench> Player<N> {
     ) -> Answer
         requires playing { IsPlaying N.state N.bench self.old }
         requires good { GoodLine (deck_line_of command.now) }
-        ensures done { LineDone N.state N.bench (R.reported (sent_by N.state self.old (deck_line_of command.now))) self.old
-            (deck_line_of command.now) runner.old runner.new (Some result) self.new }
+        ensures done { LineDone N.state N.bench (R.reported (sent_by N.state self.old (deck_line_of command.now)))
+            self.old (deck_line_of command.now) runner.old runner.new (Some result) self.new }
         ensures steps { CountsLine N.state N.bench self.old (deck_line_of command.now) (Some result) steps.old
             steps.new }
         ensures keeps_device { N.same (device_of self.old) (device_of self.new) }
@@ -151,8 +151,8 @@ impl<N: Bench> Player<N> {
         requires most { self.old.budget ≤ 65536 }
         requires can { CanArm self.old.armed }
         requires good { GoodLine (deck_line_of command.now) }
-        ensures done { LineDone N.state N.bench (R.reported (sent_by N.state self.old (deck_line_of command.now))) self.old
-            (deck_line_of command.now) runner.old runner.new (Some result) self.new }
+        ensures done { LineDone N.state N.bench (R.reported (sent_by N.state self.old (deck_line_of command.now)))
+            self.old (deck_line_of command.now) runner.old runner.new (Some result) self.new }
         ensures steps { CountsLine N.state N.bench self.old (deck_line_of command.now) (Some result) steps.old
             steps.new }
         ensures keeps_device { N.same (device_of self.old) (device_of self.new) }

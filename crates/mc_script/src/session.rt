@@ -2,6 +2,7 @@
 ghost use Rattle.std.specs.Prelude.{◌≡◌, ◌≤◌, IfSome};
 ghost use Rattle.mc_card.specs.Parts.{device_in, IsReadyCard};
 ghost use Rattle.mc_script.specs.Players.{device_of, IsPlaying};
+ghost use Rattle.mc_script.specs.Stops.{has_stop};
 
 use crate::armed::Armed;
 use crate::player::{Player, Power};
@@ -23,6 +24,7 @@ impl<N: Bench> Player<N> {
     /// Returns the budget of the commands to come, 1 to 65,536 instructions.
     pub fn budget(&self) -> u32
         requires { IsPlaying N.state N.bench self.now }
+        ensures budget { result ≡ self.now.budget }
         ensures low { 1 ≤ result }
         ensures high { result ≤ 65536 }
     {
@@ -30,8 +32,14 @@ impl<N: Bench> Player<N> {
     }
 
     /// Returns whether a stop is armed for the next card line.
-    pub fn is_armed(&self) -> bool {
-        !matches!(self.armed, Armed::Not)
+    pub fn is_armed(&self) -> bool
+        ensures { result ≡ has_stop self.now.armed }
+    {
+        match self.armed {
+            Armed::Not => false,
+            Armed::Cut { k: _, fill: _ } => true,
+            Armed::Fail(_) => true,
+        }
     }
 
     /// Replaces the session bytes of the selected application by `bytes`, and returns whether it did: if no
