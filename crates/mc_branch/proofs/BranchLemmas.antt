@@ -1,14 +1,14 @@
 -- The places at which words differ from a root.
-use Rattle.std.proofs.Common.{◌≡◌, ◌≢◌, ◌⊎◌, ℕ, zero, suc, ◌+◌, ◌-◌, ◌<◌, ◌≤◌, true, false, List, [], ◌∷◌, ◌++◌, length, get_or, drop, inl, inr, refl, sym, ap, subst, ◌∙◌, arith}
+use Rattle.std.proofs.Common.{◌≡◌, ◌⊎◌, ℕ, zero, suc, ◌<◌, ◌≤◌, true, false, List, [], ◌∷◌, ◌++◌, length, get_or, inl, inr, refl, sym, ap, subst, ◌∙◌, arith}
 use Rattle.std.specs.Prelude.{Bool, slice_index_or, slice_set, replicate, Result, Ok, Err, OnOk}
-use Rattle.std.proofs.lemmas.List.{get_or-set_same, get_or-set_other, ext_get_or, length-set, get_or_past}
+use Rattle.std.proofs.lemmas.List.{get_or-set_same, get_or-set_other, ext_get_or, length-set}
 use Rattle.std.proofs.lemmas.Bool.{cases_eq}
 use Rattle.mc_model_device.specs.Image.{image_with}
 use Rattle.mc_model_device.proofs.ImageLemmas.{length_laid, laid_last}
 use Rattle.mc_model_device.specs.Orders.{Answer}
 use Rattle.mc_model_device.specs.Device.{Due, DueCut, DueFailure, DueNot, blank_words}
 use Rattle.mc_nvm.specs.Sim.{Sim, after_write, next_due, SimWrote, blank_sim}
-use Rattle.mc_branch.specs.Branches.{IsListed, Places, IsPlace, no_places, MarksAreListed, DiffersAt, IsBranch, AreOfEither, HasOneMore}
+use Rattle.mc_branch.specs.Branches.{IsListed, Places, IsPlace, no_places, MarksAreListed, IsBranch, AreOfEither, HasOneMore}
 
 -- a number below another is not at it or past it
 lt_not : {a b : ℕ} → a < b → b ≤ a → ⊥

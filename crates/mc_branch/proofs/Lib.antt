@@ -1,1 +1,7 @@
 mod BranchLemmas
+pub mod Insertions
+pub mod Gathering
+pub mod SectionSteps
+pub mod Parts
+pub mod SameRosters
+pub mod SameCards

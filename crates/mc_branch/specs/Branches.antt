@@ -1,7 +1,7 @@
 -- A device in memory with a root, the words to which it goes back.
-use Rattle.std.specs.Prelude.{◌≡◌, ◌≢◌, ◌⊎◌, ℕ, ◌<◌, Bool, true, false, List, [], ◌∷◌, length, get_or, slice_index_or, option_map, Option, Some, None}
+use Rattle.std.specs.Prelude.{◌≡◌, ◌≢◌, ◌⊎◌, ℕ, ◌<◌, Bool, true, false, List, [], ◌∷◌, length, get_or, slice_index_or}
 use Rattle.mc_model_device.specs.Orders.{Answer}
-use Rattle.mc_model_device.specs.Device.{DeviceState, BenchState, Fuse, blank_words}
+use Rattle.mc_model_device.specs.Device.{DeviceState, BenchState, blank_words}
 use Rattle.mc_nvm.specs.Sim.{Sim, sim_state, sim_bench, SimWrote, blank_sim}
 
 -- ---- places

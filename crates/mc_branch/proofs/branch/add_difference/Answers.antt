@@ -1,6 +1,4 @@
-use Rattle.std.proofs.Common.{◌≡◌, List, ℕ, Result, Ok, Err, sym, subst, ◌++◌, ◌∷◌, []}
-use Rattle.std.specs.Prelude.{OnOk}
-use Rattle.mc_base.specs.declared.refusals.NoMemory.{NoMemory}
+use Rattle.std.proofs.Common.{List, ℕ, sym, subst}
 use Rattle.mc_model_device.specs.Image.{image_with}
 use Rattle.mc_branch.specs.Branches.{HasOneMore}
 use Rattle.mc_branch.proofs.BranchLemmas.{one_laid, on_ok}

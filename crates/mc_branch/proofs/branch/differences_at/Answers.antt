@@ -1,4 +1,4 @@
-use Rattle.std.proofs.Common.{List, ℕ, drop, [], ◌∙◌, subst}
+use Rattle.std.proofs.Common.{List, ℕ, ◌∙◌, subst}
 use Rattle.std.proofs.lemmas.List.{drop_all}
 use Rattle.mc_model_device.specs.Image.{image_with}
 use Rattle.mc_model_device.proofs.ImageLemmas.{length_laid}

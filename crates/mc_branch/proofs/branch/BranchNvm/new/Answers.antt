@@ -1,5 +1,4 @@
 use Rattle.std.proofs.Common.{◌≡◌}
-use Rattle.std.specs.Prelude.{replicate}
 use Rattle.mc_model_device.specs.Device.{blank_words}
 use Rattle.mc_branch.proofs.BranchLemmas.{blank_not}
 use Rattle.mc_branch.proofs.branch.BranchNvm.new.Goals as goal
