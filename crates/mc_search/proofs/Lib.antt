@@ -1,1 +1,17 @@
 mod PlayerLemmas
+mod MoveLemmas
+mod RestoreLemmas
+mod RestoringLemmas
+mod TryLemmas
+mod AlikeLemmas
+pub mod SameKept
+mod BaseLemmas
+mod AttemptLemmas
+mod BeginLemmas
+mod RoundLemmas
+mod CourseLemmas
+mod EndingLemmas
+mod PathLemmas
+mod HaltLemmas
+mod RowLemmas
+mod DepthLemmas

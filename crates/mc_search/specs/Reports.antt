@@ -1,5 +1,5 @@
 -- The text of an exploration, line by line.
-use Rattle.std.specs.Prelude.{◌≡◌, ◌+◌, ℕ, List, [], ◌∷◌, ◌++◌, codes, decimal, replicate, Option, Some, None}
+use Rattle.std.specs.Prelude.{◌+◌, ℕ, List, ◌++◌, codes, decimal, Option, Some, None}
 use Rattle.mc_model_device.specs.Bytes.{zeros}
 use Rattle.mc_model_device.specs.Image.{Two, opening}
 use Rattle.mc_model_machine.specs.Listing.{hex_text}

@@ -8,16 +8,13 @@ use mc_base::Word;
 const OPENING: Word = *b"OPEN-2--";
 
 /// The word that a cut write leaves: eight bytes 00, eight bytes FF, or the word that opens the journal of
-/// layout 2.
+/// layout 2. They are tried in this order.
 #[derive(Clone, Copy, Debug, PartialEq, Eq)]
 pub enum Fill {
     Zeros,
     Ones,
     Opening,
 }
-
-/// The words that cut writes leave, in the order in which they are tried.
-pub const FILLS: [Fill; 3] = [Fill::Zeros, Fill::Ones, Fill::Opening];
 
 impl Fill {
     /// Returns the word.

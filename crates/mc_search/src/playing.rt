@@ -1,12 +1,15 @@
 // Lines of a play, one by one, and the budget of their commands.
-ghost use Rattle.std.specs.Prelude.{◌≡◌, ◌≤◌};
+ghost use Rattle.std.specs.Prelude.{◌≡◌, ◌≤◌, ℕ, true};
 ghost use Rattle.mc_deck.specs.Lines.{line_of, GoodLine};
-ghost use Rattle.mc_script.specs.Players.{device_of, IsPlaying};
+ghost use Rattle.mc_model_play.specs.DeckGrammar as line;
+ghost use Rattle.mc_model_play.specs.Play.{State};
+ghost use Rattle.mc_script.specs.Players.{device_of, IsPlayerAt, IsPlaying};
+ghost use Rattle.mc_search.specs.Playing.{state_after, PlaysAs};
 
 use mc_base::Steps;
 use mc_deck::{Deck, Line};
 use mc_nvm::Bench;
-use mc_script::{Answer, Player, Runner, Silent};
+use mc_script::{Answer, Player, Silent};
 use std::marker::Model;
 use std::sync::ledger::Ledger;
 
@@ -30,6 +33,7 @@ impl Budget {
     /// Returns the budget of a player.
     pub fn of<N: Bench>(player: &Player<N>) -> Budget
         requires { IsPlaying N.state N.bench player.now }
+        ensures { result ≡ player.now.budget }
     {
         Budget {
             count: player.budget(),
@@ -38,25 +42,11 @@ impl Budget {
 
     /// Returns the line that sets the budget.
     pub fn line(&self) -> Line<'static>
-        ensures { GoodLine (line_of result) }
+        ensures good { GoodLine (line_of result) }
+        ensures line { line_of result ≡ line.Budget self.now }
     {
         Line::Budget(self.count)
     }
-}
-
-/// Plays a line, and lets a runner record its turns.
-pub fn play_reported<N: Bench, R: Runner, L: Ledger>(
-    player: &mut Player<N>,
-    line: &Line<'_>,
-    runner: &mut R,
-    steps: &mut Steps<L>,
-) -> Option<Answer>
-    requires playing { IsPlaying N.state N.bench player.old }
-    requires good { GoodLine (line_of line.now) }
-    ensures playing { IsPlaying N.state N.bench player.new }
-    ensures keeps_device { N.same (device_of player.old) (device_of player.new) }
-{
-    player.line(line, runner, steps)
 }
 
 /// Plays a line.
@@ -68,15 +58,20 @@ pub fn play<N: Bench, L: Ledger>(
     requires playing { IsPlaying N.state N.bench player.old }
     requires good { GoodLine (line_of line.now) }
     ensures playing { IsPlaying N.state N.bench player.new }
+    ensures plays { PlaysAs N.state N.bench player.old (line_of line.now) result player.new }
     ensures keeps_device { N.same (device_of player.old) (device_of player.new) }
 {
-    play_reported(player, line, &mut Silent, steps)
+    player.line(line, &mut Silent, steps)
 }
 
 /// Plays all lines of a deck.
 pub fn play_all<N: Bench, L: Ledger>(player: &mut Player<N>, deck: &Deck, steps: &mut Steps<L>)
     requires playing { IsPlaying N.state N.bench player.old }
     ensures playing { IsPlaying N.state N.bench player.new }
+    ensures at { (s : State) → IsPlayerAt N.state N.bench player.old s → (N.bench (device_of player.old)).steady ≡ true
+        → IsPlayerAt N.state N.bench player.new (state_after s deck.now) }
+    ensures steady { (s : State) → IsPlayerAt N.state N.bench player.old s
+        → (N.bench (device_of player.old)).steady ≡ true → (N.bench (device_of player.new)).steady ≡ true }
     ensures keeps_device { N.same (device_of player.old) (device_of player.new) }
 {
     player.deck(deck, steps);

@@ -2,7 +2,7 @@
 ghost use Rattle.std.specs.Prelude.{◌≡◌, ◌++◌, codes, decimal};
 ghost use Rattle.mc_model_machine.specs.Listing.{hex_text};
 ghost use Rattle.mc_explore.specs.Search.{sums_text};
-ghost use Rattle.mc_text.specs.Texts.{sunk_in, Puts};
+ghost use Rattle.mc_text.specs.Texts.{sunk, Puts};
 ghost use Rattle.mc_search.specs.Reports.{broken_line, count_of_lines, cut_line, depth_line, how_text, move_lines, statement_line};
 
 use crate::journey::Manner;
@@ -13,7 +13,7 @@ use mc_text::{add_hex, put};
 
 // Writes a number in decimal.
 fn put_count<T: Sink>(out: &mut T, number: u64) -> Result<(), WriteFault>
-    ensures { Puts (sunk_in T.taken T.faults out.old) (decimal number) result (sunk_in T.taken T.faults out.new) }
+    ensures { Puts (sunk T.Sink out.old) (decimal number) result (sunk T.Sink out.new) }
 {
     let mut buffer = Buffer::new();
     put(out, buffer.format(number).as_bytes())
@@ -25,8 +25,8 @@ fn put_count<T: Sink>(out: &mut T, number: u64) -> Result<(), WriteFault>
 ///
 /// Returns `WriteFault` if the sink fails.
 pub fn put_depth<T: Sink>(out: &mut T, depth: u32, states: usize) -> Result<(), WriteFault>
-    ensures { Puts (sunk_in T.taken T.faults out.old) (depth_line depth states) result
-        (sunk_in T.taken T.faults out.new) }
+    ensures { Puts (sunk T.Sink out.old) (depth_line depth states) result
+        (sunk T.Sink out.new) }
 {
     put(out, b"depth ")?;
     put_count(out, depth as u64)?;
@@ -37,8 +37,8 @@ pub fn put_depth<T: Sink>(out: &mut T, depth: u32, states: usize) -> Result<(), 
 
 // Writes a depth after a word.
 fn put_depth_word<T: Sink>(out: &mut T, depth: u32) -> Result<(), WriteFault>
-    ensures { Puts (sunk_in T.taken T.faults out.old) (codes " depth " ++ decimal depth) result
-        (sunk_in T.taken T.faults out.new) }
+    ensures { Puts (sunk T.Sink out.old) (codes " depth " ++ decimal depth) result
+        (sunk T.Sink out.new) }
 {
     put(out, b" depth ")?;
     put_count(out, depth as u64)
@@ -46,7 +46,7 @@ fn put_depth_word<T: Sink>(out: &mut T, depth: u32) -> Result<(), WriteFault>
 
 // Writes how an exploration ended: `all` if no state is left, or the depth.
 fn put_how<T: Sink>(out: &mut T, depth: Option<u32>) -> Result<(), WriteFault>
-    ensures { Puts (sunk_in T.taken T.faults out.old) (how_text depth) result (sunk_in T.taken T.faults out.new) }
+    ensures { Puts (sunk T.Sink out.old) (how_text depth) result (sunk T.Sink out.new) }
 {
     match depth {
         None => put(out, b" all"),
@@ -66,8 +66,8 @@ pub fn put_sums<T: Sink>(
     tries: u64,
     depth: Option<u32>,
 ) -> Result<(), WriteFault>
-    ensures { Puts (sunk_in T.taken T.faults out.old) (sums_text states tries (how_text depth)) result
-        (sunk_in T.taken T.faults out.new) }
+    ensures { Puts (sunk T.Sink out.old) (sums_text states tries (how_text depth)) result
+        (sunk T.Sink out.new) }
 {
     put(out, b"explored states ")?;
     put_count(out, states as u64)?;
@@ -83,8 +83,8 @@ pub fn put_sums<T: Sink>(
 ///
 /// Returns `WriteFault` if the sink fails.
 pub fn put_broken<T: Sink>(out: &mut T, name: &[u8], lines: u64) -> Result<(), WriteFault>
-    ensures { Puts (sunk_in T.taken T.faults out.old) (broken_line name.now lines) result
-        (sunk_in T.taken T.faults out.new) }
+    ensures { Puts (sunk T.Sink out.old) (broken_line name.now lines) result
+        (sunk T.Sink out.new) }
 {
     put(out, b"broken ")?;
     put(out, name)?;
@@ -109,8 +109,8 @@ pub fn count_of_lines(manner: Manner) -> u64
 ///
 /// Returns `WriteFault` if the sink fails.
 pub fn put_statement<T: Sink>(out: &mut T, statement: &[u8]) -> Result<(), WriteFault>
-    ensures { Puts (sunk_in T.taken T.faults out.old) (statement_line statement.now) result
-        (sunk_in T.taken T.faults out.new) }
+    ensures { Puts (sunk T.Sink out.old) (statement_line statement.now) result
+        (sunk T.Sink out.new) }
 {
     put(out, statement)?;
     put(out, b"\n")
@@ -118,7 +118,7 @@ pub fn put_statement<T: Sink>(out: &mut T, statement: &[u8]) -> Result<(), Write
 
 // Writes the hexadecimal digits of a word.
 fn put_hex<T: Sink>(out: &mut T, word: &[u8; 8]) -> Result<(), WriteFault>
-    ensures { Puts (sunk_in T.taken T.faults out.old) (hex_text word.now) result (sunk_in T.taken T.faults out.new) }
+    ensures { Puts (sunk T.Sink out.old) (hex_text word.now) result (sunk T.Sink out.new) }
 {
     let mut digits = ArrayVec::<u8, 16>::new();
     add_hex(&mut digits, word);
@@ -127,8 +127,8 @@ fn put_hex<T: Sink>(out: &mut T, word: &[u8; 8]) -> Result<(), WriteFault>
 
 // Writes the statement that arms a cut of the write after the first `made` ones.
 fn put_cut<T: Sink>(out: &mut T, made: u32, fill: &[u8; 8]) -> Result<(), WriteFault>
-    ensures { Puts (sunk_in T.taken T.faults out.old) (cut_line made fill.now) result
-        (sunk_in T.taken T.faults out.new) }
+    ensures { Puts (sunk T.Sink out.old) (cut_line made fill.now) result
+        (sunk T.Sink out.new) }
 {
     put(out, b"cut ")?;
     put_count(out, made as u64 + 1)?;
@@ -144,9 +144,9 @@ fn put_cut_move<T: Sink>(
     made: u32,
     fill: &[u8; 8],
 ) -> Result<(), WriteFault>
-    ensures { Puts (sunk_in T.taken T.faults out.old)
+    ensures { Puts (sunk T.Sink out.old)
         (cut_line made fill.now ++ statement_line text.now ++ statement_line (codes "power")) result
-        (sunk_in T.taken T.faults out.new) }
+        (sunk T.Sink out.new) }
 {
     put_cut(out, made, fill)?;
     put_statement(out, text)?;
@@ -160,8 +160,8 @@ fn put_cut_move<T: Sink>(
 ///
 /// Returns `WriteFault` if the sink fails.
 pub fn put_move<T: Sink>(out: &mut T, text: &[u8], manner: Manner) -> Result<(), WriteFault>
-    ensures { Puts (sunk_in T.taken T.faults out.old) (move_lines text.now manner) result
-        (sunk_in T.taken T.faults out.new) }
+    ensures { Puts (sunk T.Sink out.old) (move_lines text.now manner) result
+        (sunk T.Sink out.new) }
 {
     match manner {
         Manner::Whole => put_statement(out, text),

@@ -1,17 +1,28 @@
 // One try: a move from a state, whole or cut.
-ghost use Rattle.mc_script.specs.Players.{IsPlaying};
+ghost use Rattle.std.specs.Prelude.{◌≡◌, ◌≤◌, ℕ, true, List, map, replicate, vec_len, IfOk, OnOk};
+ghost use Rattle.arrayvec.specs.ArrayVec.{array_vec_len};
+ghost use Rattle.mc_model_device.specs.Image.{image_with};
+ghost use Rattle.mc_model_play.specs.Play.{is_card_line};
+ghost use Rattle.mc_explore.specs.Rules as rule;
+ghost use Rattle.mc_explore.specs.States as model;
+ghost use Rattle.mc_rules.specs.Meanings.{IsMove};
+ghost use Rattle.mc_key.specs.Shown.{IsShown, ShowsSome};
+ghost use Rattle.mc_model_play.specs.Play.{Step};
+ghost use Rattle.mc_explore.specs.Rules.{AtResult};
+ghost use Rattle.mc_explore.specs.Matching.{plain};
+ghost use Rattle.mc_explore.specs.Tries.{allowances_after};
+ghost use Rattle.mc_rules.specs.Occasions.{counts_after, AreSpent};
+ghost use Rattle.mc_search.specs.Kept.{CanBeTried, IsCandidate, Kept, KeepsKept, SpendsFrom, TryIs, runs_now};
+ghost use Rattle.mc_search.specs.Trying.{CanCut, TriedAs};
 
 use crate::journey::Manner;
-use crate::playing::{Budget, play};
-use crate::session::{Session, Shown};
-use crate::state::{CardState, Rosters};
+use crate::making::{Candidate, try_on};
+use crate::playing::Budget;
 use mc_base::{NoMemory, Steps};
-use mc_branch::{BranchNvm, Roster};
-use mc_counter::play_counted;
-use mc_deck::Line;
-use mc_nvm::Bench;
-use mc_rules::{Move, Occasion, OnRule, apply_all, count, plain_into};
-use mc_script::{Answer, Player, Text, add_result};
+use mc_branch::BranchNvm;
+use mc_key::{CardState, Rosters, Saved};
+use mc_rules::{Occasion, apply_all, count, plain_into};
+use mc_script::{Live, Text};
 use std::alloc::Global;
 use std::sync::ledger::Ledger;
 
@@ -25,14 +36,6 @@ pub struct Laboratory {
     pub counts: Vec<u64>,
 }
 
-/// A move of a deck, and for each `on` line whether it applies to the move.
-#[derive(Clone, Copy)]
-pub struct Candidate<'a> {
-    pub chosen: &'a Move<'a>,
-    pub ons: &'a [OnRule],
-    pub applies: &'a [bool],
-}
-
 /// What a try came to: its cut hit no write, a state, or the place of an allowance that is spent below zero.
 #[derive(Drop)]
 pub enum Tried {
@@ -41,162 +44,98 @@ pub enum Tried {
     Broken(usize),
 }
 
-// What a move that was played showed: whether the cut before it hit a write, and the session state after it.
-#[derive(Drop)]
-struct Played {
-    hit: bool,
-    shown: Option<Shown>,
-}
-
-// Whether a cut hit a line.
-fn is_off(answer: &Option<Answer>) -> bool {
-    matches!(answer, Some(Answer::OffAt(_)))
-}
-
-// Powers a card up and puts it into a session state.
-fn resume<N: Bench, L: Ledger>(
-    alloc: Global,
-    player: &mut Player<N>,
-    state: &CardState,
-    rosters: &Rosters,
-    steps: &mut Steps<L>,
-) -> Result<(), NoMemory>
-    requires { IsPlaying N.state N.bench player.old }
-    ensures playing { IsPlaying N.state N.bench player.new }
+// Sets all counts to 0.
+fn zero(counts: &mut Vec<u64>)
+    ensures { counts.new.items ≡ replicate (vec_len counts.old) 0 }
 {
-    let Some(session) = &state.session else {
-        return Ok(());
-    };
-    let _powered = play(player, &Line::Power, steps);
-    match rosters.get(state.roster) {
-        Some(roster) => session.resume(alloc, roster, player, steps),
-        None => Ok(()),
-    }
+    counts.as_mut_slice().fill(0);
 }
 
-// Arms the cut of a move that is cut.
-fn arm<N: Bench, L: Ledger>(player: &mut Player<N>, manner: Manner, steps: &mut Steps<L>)
-    requires { IsPlaying N.state N.bench player.old }
-    ensures playing { IsPlaying N.state N.bench player.new }
+// Counts the result of a move for its `on` lines. `room` is left with the plain text of the result.
+fn count_result(candidate: &Candidate<'_>, text: &Text, room: &mut Text, counts: &mut [u64])
+    requires { array_vec_len text.now ≤ 8210 }
+    ensures { counts.new ≡ counts_after AtResult (plain text.now.items) candidate.now.ons.now candidate.now.applies.now
+        counts.old }
 {
-    let Manner::Cut { made, fill } = manner else {
-        return;
-    };
-    let cut = Line::Cut {
-        k: made.saturating_add(1),
-        fill: fill.word(),
-    };
-    let _armed = play(player, &cut, steps);
-}
-
-// Powers a card up after a cut that hit a write.
-fn recover<N: Bench, L: Ledger>(player: &mut Player<N>, hit: bool, steps: &mut Steps<L>)
-    requires { IsPlaying N.state N.bench player.old }
-    ensures playing { IsPlaying N.state N.bench player.new }
-{
-    if !hit {
-        return;
-    }
-    let _recovered = play(player, &Line::Power, steps);
-}
-
-// Plays a move, and counts the executed instructions that its `on` lines match.
-fn play_move<N: Bench, L: Ledger>(
-    player: &mut Player<N>,
-    candidate: &Candidate<'_>,
-    counts: &mut [u64],
-    steps: &mut Steps<L>,
-) -> Option<Answer>
-    requires { IsPlaying N.state N.bench player.old }
-    ensures playing { IsPlaying N.state N.bench player.new }
-{
-    let line = candidate.chosen.line();
-    play_counted(
-        player,
-        &line,
+    room.clear();
+    plain_into(room, text.as_slice());
+    count(
         candidate.ons,
         candidate.applies,
+        Occasion::Result,
+        room.as_slice(),
         counts,
-        steps,
-    )
+    );
+}
+
+// Does to amounts what the `on` lines say of a move, whose executed instructions are counted. Returns the place of the
+// allowance that is spent below zero, if one is.
+fn spend(
+    candidate: &Candidate<'_>,
+    text: &Text,
+    room: &mut Text,
+    counts: &mut [u64],
+    amounts: &mut [u32],
+) -> Option<usize>
+    requires { array_vec_len text.now ≤ 8210 }
+    ensures { (held a : List (List ℕ × ℕ)) (rs : List rule.OnRule) (m : rule.Move) (t : Step)
+        → SpendsFrom held a rs m t candidate.now text.now.items counts.old amounts.old
+        → AreSpent held result amounts.new (allowances_after rs m t a) }
+{
+    count_result(candidate, text, room, counts);
+    apply_all(candidate.ons, counts, amounts)
+}
+
+/// Returns whether a card runs.
+pub fn runs(live: &Live) -> bool
+    ensures { result ≡ runs_now live.now }
+{
+    match live {
+        Live::Running(_) => true,
+        Live::Unpowered => false,
+        Live::Muted => false,
+    }
 }
 
 impl Laboratory {
-    // Plays a try on the device, which holds a card of the state.
-    #[tactic(auto, using(crate::proofs::PlayerLemmas::unfused_after))]
+    // Makes a move from a card that was kept. Returns what runs after it, or `None` if a cut hit no write.
     fn play<L: Ledger>(
         &mut self,
         alloc: Global,
-        rosters: &Rosters,
-        state: &CardState,
+        saved: &Saved,
         candidate: &Candidate<'_>,
         manner: Manner,
         steps: &mut Steps<L>,
-    ) -> Result<Played, NoMemory> {
-        self.device.disarm();
-        let mut player = Player::new(&mut self.device);
-        let _set = play(&mut player, &self.budget.line(), steps);
-        resume(alloc, &mut player, state, rosters, steps)?;
-        arm(&mut player, manner, steps);
-        let answer = play_move(&mut player, candidate, self.counts.as_mut_slice(), steps);
-        self.text.clear();
-        if let Some(answer) = &answer {
-            add_result(&mut self.text, &player, answer);
-        }
-        let hit = is_off(&answer);
-        recover(&mut player, hit, steps);
-        let shown = Shown::of(alloc, &player)?;
-        Ok(Played { hit, shown })
+    ) -> Result<Option<Live>, NoMemory>
+        requires shown { ShowsSome (image_with self.old.device.root saved.now.words.items) saved.now.live }
+        ensures tried { (c : model.CardState) (m : rule.Move)
+            → IsShown (image_with self.old.device.root saved.now.words.items) saved.now.live c.base c.live
+            → c.budget ≡ self.old.budget → IsMove candidate.now.chosen.now m → is_card_line m.line ≡ true
+            → CanCut c manner → TriedAs c m manner candidate.now.ons.now candidate.now.applies.now
+            (replicate (vec_len self.old.counts) 0) self.new.counts.items self.new.text.items
+            self.new.device.device.words result }
+        ensures root { self.new.device.root ≡ self.old.device.root }
+        ensures budget { self.new.budget ≡ self.old.budget }
+        ensures short { array_vec_len self.new.text ≤ 8210 }
+    {
+        self.device.return_to_root();
+        self.device.put_words(saved.words.as_slice());
+        zero(&mut self.counts);
+        let (_device, live) = try_on(
+            alloc,
+            &mut self.device,
+            &self.budget,
+            &saved.live,
+            candidate,
+            manner,
+            self.counts.as_mut_slice(),
+            &mut self.text,
+            steps,
+        );
+        live
     }
 
-    // Returns the number of the roster after a try from a state.
-    fn roster_after(
-        &self,
-        alloc: Global,
-        rosters: &mut Rosters,
-        before: usize,
-    ) -> Result<usize, NoMemory> {
-        let is_kept = match rosters.get(before) {
-            Some(roster) => roster.is_kept_by(self.device.written()),
-            None => false,
-        };
-        if is_kept {
-            return Ok(before);
-        }
-        let roster = Roster::read(alloc, &self.device)?;
-        rosters.number_of(alloc, roster, &self.device)
-    }
-
-    /// Returns the state of the card on the device, whose roster has a number.
-    ///
-    /// # Errors
-    ///
-    /// Returns `NoMemory` if it is out of memory.
-    pub fn state(
-        &self,
-        alloc: Global,
-        rosters: &Rosters,
-        roster: usize,
-        shown: Option<Shown>,
-        allowances: Vec<u32>,
-    ) -> Result<CardState, NoMemory> {
-        let Some(found) = rosters.get(roster) else {
-            return Err(NoMemory);
-        };
-        let statics = found.statics(alloc, &self.device)?;
-        let session = match shown {
-            Some(shown) => Some(Session::read(alloc, &self.device, found, shown)?),
-            None => None,
-        };
-        Ok(CardState {
-            roster,
-            statics,
-            session,
-            allowances,
-        })
-    }
-
-    /// Makes a try from a state.
+    /// Makes a try from a state. `NoMemory` is returned too if the room for the counts is not that of the `on` lines.
     ///
     /// # Errors
     ///
@@ -209,36 +148,42 @@ impl Laboratory {
         candidate: &Candidate<'_>,
         manner: Manner,
         steps: &mut Steps<L>,
-    ) -> Result<Tried, NoMemory> {
-        rosters.put(&mut self.device, state);
-        self.counts.as_mut_slice().fill(0);
-        let played = self.play(alloc, rosters, state, candidate, manner, steps)?;
-        if !played.hit && manner != Manner::Whole {
-            return Ok(Tried::NotHit);
+    ) -> Result<Tried, NoMemory>
+        requires { CanBeTried self.old rosters.old state.now candidate.now manner }
+        // States that were kept stay kept.
+        ensures keeps { OnOk result (KeepsKept self.old rosters.old self.new rosters.new) }
+        // It came to the outcome of the definition.
+        ensures tried { (held : List (List ℕ × ℕ)) (ons : List rule.OnRule) (c : model.CardState) (m : rule.Move)
+            → Kept self.old rosters.old (map (λ a. a.0) held) state.now c → IsCandidate held ons m candidate.now
+            → CanCut c manner
+            → IfOk result (TryIs self.new rosters.new (map (λ a. a.0) held) ons c m manner) }
+    {
+        let Some(saved) = rosters.saved(state.card) else {
+            return Err(NoMemory);
+        };
+        if self.counts.len() != candidate.ons.len() {
+            return Err(NoMemory);
         }
-        self.plain.clear();
-        plain_into(&mut self.plain, self.text.as_slice());
-        count(
-            candidate.ons,
-            candidate.applies,
-            Occasion::Result,
-            self.plain.as_slice(),
+        let Some(live) = self.play(alloc, saved, candidate, manner, steps)? else {
+            return Ok(Tried::NotHit);
+        };
+        let mut allowances = Vec::from_slice(alloc, state.allowances.as_slice())?;
+        let broken = spend(
+            candidate,
+            &self.text,
+            &mut self.plain,
             self.counts.as_mut_slice(),
-        );
-        let mut allowances = state.allowances.clone()?;
-        let broken = apply_all(
-            candidate.ons,
-            self.counts.as_slice(),
             allowances.as_mut_slice(),
         );
         if let Some(allowance) = broken {
             return Ok(Tried::Broken(allowance));
         }
-        let roster = match played.shown {
-            Some(_) => self.roster_after(alloc, rosters, state.roster)?,
-            None => state.roster,
-        };
-        let reached = self.state(alloc, rosters, roster, played.shown, allowances)?;
-        Ok(Tried::Reached(reached))
+        let runs = runs(&live);
+        let card = rosters.keep(alloc, &self.device, live)?;
+        Ok(Tried::Reached(CardState {
+            card,
+            runs,
+            allowances,
+        }))
     }
 }

@@ -1,7 +1,5 @@
-use Rattle.std.proofs.Common.{codes, decimal, ◌+◌, ◌++◌}
-use Rattle.mc_model_machine.specs.Listing.{hex_text}
+use Rattle.std.proofs.Common.{codes, decimal}
 use Rattle.mc_text.proofs.TextLemmas.{puts_then, puts_failed, fails_then, fails_before, writes_then}
-use Rattle.mc_search.specs.Reports.{how_text, statement_line}
 use Rattle.mc_search.proofs.report.put_broken.Goals as goal
 
 pub returns-in_err-put : goal.returns-in_err-put

@@ -1,7 +1,6 @@
-use Rattle.std.proofs.Common.{codes, decimal, ◌+◌, ◌++◌}
-use Rattle.mc_model_machine.specs.Listing.{hex_text}
+use Rattle.std.proofs.Common.{codes}
 use Rattle.mc_text.proofs.TextLemmas.{puts_then, puts_failed, fails_then, fails_before, writes_then}
-use Rattle.mc_search.specs.Reports.{cut_line, how_text, statement_line}
+use Rattle.mc_search.specs.Reports.{statement_line}
 use Rattle.mc_search.proofs.report.put_cut_move.Goals as goal
 
 pub returns-in_err-put_cut : goal.returns-in_err-put_cut

@@ -1,7 +1,0 @@
-use Rattle.mc_deck.specs.Lines.{line_of}
-use Rattle.mc_search.proofs.PlayerLemmas.{line_playing}
-use Rattle.mc_search.proofs.playing.play_reported.Goals as goal
-
-pub returns-clause-playing : goal.returns-clause-playing
-returns-clause-playing g c =
-    line_playing g.N.Nvm.state g.N.Bench.bench _ c.args.player.now c.line.new.self (line_of c.args.line.now) _ _ c.line.result c.line.ensures.done c.requires.playing

@@ -1,0 +1,6 @@
+use Rattle.mc_explore.specs.Search.{explore_text}
+use Rattle.mc_search.proofs.search.explore.Goals as goal
+
+pub returns : goal.returns
+unfolding explore_text
+returns g c = c.explore_within.ensures

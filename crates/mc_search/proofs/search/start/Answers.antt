@@ -1,0 +1,16 @@
+use Rattle.std.proofs.Common.{[], ◌∷◌, refl}
+use Rattle.mc_explore.specs.Search.{first_state}
+use Rattle.mc_search.proofs.RowLemmas.{ran_start}
+use Rattle.mc_search.proofs.search.start.Goals as goal
+
+pub returns : goal.returns
+returns g c =
+    λ x h.
+    let b = c.in_ok-laboratory.ensures x h in
+    let holds = c.in_ok-search.ensures.holds x.rules (first_state x) b.kept in
+    let runs = c.runs.ensures (record { rules = x.rules; most = c.args.limit; from = 0 }) (record { state = first_state x; path = [] } ∷ []) (record { state = first_state x; path = [] }) (record { holds = holds; found = refl }) in
+    record {
+      holds = holds;
+      tries = c.in_ok-search.ensures.none;
+      start = record { lead = b.lead; ran = ran_start x c.ran_before-ran.result c.runs.result _ c.ran_before-ran.ensures runs b.lead.power };
+    }

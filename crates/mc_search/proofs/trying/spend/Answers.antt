@@ -1,0 +1,6 @@
+use Rattle.mc_search.proofs.AttemptLemmas.{spends_counted}
+use Rattle.mc_search.proofs.trying.spend.Goals as goal
+
+pub returns : goal.returns
+returns c =
+    λ held a rs m t h. c.apply_all.ensures held a rs m t (spends_counted held a rs m t c.args.candidate.now c.args.text.now.items c.args.counts.now c.count_result.new.counts c.args.amounts.now h c.count_result.ensures)
