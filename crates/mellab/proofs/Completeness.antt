@@ -5,12 +5,12 @@ use Rattle.mc_filter.proofs.Statuses.{same_status, written_whole}
 use Rattle.mc_filter.proofs.Outside.{all_stands, complete}
 use Rattle.mc_filter.specs.Inputs.{TookLimited}
 use Rattle.mc_filter.specs.Statuses.{number_of}
-use Rattle.mc_filter.specs.Outside.{IsWithoutFault, Outside, SaysNoMemory, SaysReadFault}
+use Rattle.mc_filter.specs.Outside.{IsWithoutFault, Outside, SaysReadFault}
 use Rattle.mellab.specs.declared.job.Job.{Job}
 use Rattle.mc_filter.specs.declared.status.Status.{Status}
 use Rattle.mc_filter.specs.declared.status.Status.TheVariants.{Failed}
 use Rattle.mellab.specs.Verdicts.{LabVerdict, Reports, Refusal}
-use Rattle.mellab.specs.Statuses.{status_by, status_of, IsTextWritten, IsVerdictOfJob, MellabCompletes, MellabDone, MellabWhole, MellabSays}
+use Rattle.mellab.specs.Statuses.{status_by, status_of, IsTextWritten, IsVerdictOfJob, MellabCompletes, MellabDone, MellabStops, MellabWhole, MellabSays}
 
 -- the text of the verdict was written completely
 done_whole : (v : LabVerdict) (s : Status) (a : Outside) → (Rose a.out_old.faults a.out.faults → ⊥) → IsTextWritten v s a → s ≡ status_of v
@@ -28,7 +28,7 @@ whole work a s quiet says =
 
 completes : (s : Status) (work : Job) (a : Outside) → MellabSays s (Some work) a → MellabCompletes s work a
 completes s work a says =
-    complete (MellabDone work a) (MellabWhole work a) (SaysReadFault (TookLimited a.input_old a.input) a) (SaysNoMemory (TookLimited a.input_old a.input) a) a s (whole work a) (λ f. f.cause) says
+    complete (MellabDone work a) (MellabWhole work a) (SaysReadFault (TookLimited a.input_old a.input) a) (MellabStops work a) a s (whole work a) (λ f. f.cause) says
 
 -- a job is complete at the number of a status, for the job that the words select
 pub complete_at : (form : Option Job) (s t : Status) (a : Outside) (n : ℕ) → n ≡ number_of s → n ≡ number_of t → MellabSays s form a → IfSome form (λ work. MellabCompletes t work a)

@@ -2,3 +2,4 @@ mod StatusLemmas
 mod Completeness
 mod ReportedLemmas
 mod DepthLemmas
+mod ExplorationLemmas

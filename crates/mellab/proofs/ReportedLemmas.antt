@@ -1,5 +1,5 @@
 -- The report of expectations on a blank device.
-use Rattle.std.proofs.Common.{◌≡◌, ◌∙◌, ap, refl, sym, subst, ℕ, List, true, Result, Ok, Err, IfOk, inr}
+use Rattle.std.proofs.Common.{◌≡◌, ◌∙◌, ap, refl, sym, subst, ℕ, List, Result, Ok, Err, IfOk, inr}
 use Rattle.std.specs.Prelude.{◌==◌}
 use Rattle.mc_base.specs.declared.refusals.WriteFault.{WriteFault as Fault}
 use Rattle.mc_text.specs.Texts.{Puts}

@@ -1,5 +1,5 @@
 -- The jobs that the words of the command line select.
-use Rattle.std.specs.Prelude.{ℕ, zero, suc, List, [], ◌∷◌, bytes_eq, codes, cond, length, nat_le, string_bytes, Option, Some, None}
+use Rattle.std.specs.Prelude.{ℕ, List, [], ◌∷◌, bytes_eq, codes, cond, length, nat_le, option_map, string_bytes, Option, Some, None}
 use Rattle.std.specs.declared.alloc.Global.{Global}
 use Rattle.std.specs.declared.string.String.{String}
 use Rattle.mc_model_machine.specs.Text.{decimal_number}
@@ -10,12 +10,6 @@ use Rattle.mellab.specs.declared.job.Job.TheVariants as job
 abbrev pub job_named : List ℕ → Option Job
 job_named w = cond (bytes_eq w (codes "expect")) (Some job.Expect) (cond (bytes_eq w (codes "sweep")) (Some job.Sweep) None)
 
--- the job that the words of the command line select
-abbrev pub job_of : List (String Global) → Option Job
-job_of [] = None
-job_of (w ∷ []) = job_named (string_bytes w)
-job_of (w ∷ x ∷ ws) = None
-
 -- a number that is at least 1
 abbrev pub at_least_one : Option ℕ → Option ℕ
 at_least_one None = None
@@ -25,12 +19,16 @@ at_least_one (Some n) = cond (nat_le 1 n) (Some n) None
 abbrev pub depth_of : List ℕ → Option ℕ
 depth_of w = cond (nat_le (length w) 6) (at_least_one (decimal_number w)) None
 
--- the depth of an exploration that the words of the command line select
-abbrev pub explore_depth : List (String Global) → Option ℕ
-explore_depth [] = None
-explore_depth (w ∷ []) = None
-explore_depth (w ∷ x ∷ []) = cond (bytes_eq (string_bytes w) (codes "explore")) (depth_of (string_bytes x)) None
-explore_depth (w ∷ x ∷ y ∷ ws) = None
+-- the exploration that a word and the word of a depth select
+abbrev pub exploration_named : List ℕ → List ℕ → Option Job
+exploration_named w d = cond (bytes_eq w (codes "explore")) (option_map job.Explore (depth_of d)) None
+
+-- the job that the words of the command line select
+abbrev pub job_of : List (String Global) → Option Job
+job_of [] = None
+job_of (w ∷ []) = job_named (string_bytes w)
+job_of (w ∷ d ∷ []) = exploration_named (string_bytes w) (string_bytes d)
+job_of (w ∷ d ∷ x ∷ ws) = None
 
 -- the text that is written if the words select no job
 abbrev pub usage : List ℕ

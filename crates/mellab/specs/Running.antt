@@ -1,11 +1,20 @@
 -- The parts of a job, and why a job is not done.
 use Rattle.std.specs.Prelude.{◌≡◌, ℕ, List, Result, Ok, Err}
+use Rattle.mc_model_play.specs.declared.deck.DeckCause.{DeckCause}
+use Rattle.mc_explore.specs.Rules.{Exploration}
 use Rattle.mc_lab.specs.Expectations.{Trial, TrialFault}
+use Rattle.mc_search.specs.declared.endings.Explored.{Explored}
+use Rattle.mc_search.specs.declared.endings.Explored.TheVariants as explored
+use Rattle.mc_search.specs.declared.endings.SearchFault.{SearchFault}
+use Rattle.mc_search.specs.declared.endings.SearchFault.TheVariants as fault
+use Rattle.mc_filter.specs.Lines.{deck_line}
 use Rattle.mc_filter.specs.Inputs.{FailsReading, ReadsLimited}
 use Rattle.mc_filter.specs.Outside.{IsRead, Outside}
 use Rattle.mellab.specs.declared.job.Job.{Job}
 use Rattle.mc_filter.specs.declared.rejection.Rejection.{Rejection}
 use Rattle.mc_filter.specs.declared.rejection.Rejection.TheVariants as rejection
+use Rattle.mc_filter.specs.declared.status.Status.{Status}
+use Rattle.mc_filter.specs.declared.status.Status.TheVariants.{Done, Failed, NoMemory, WriteFault}
 use Rattle.mellab.specs.Verdicts.{Refusal, fault_line}
 use Rattle.mellab.specs.Statuses.{IsVerdictOfJob}
 
@@ -13,6 +22,18 @@ use Rattle.mellab.specs.Statuses.{IsVerdictOfJob}
 abbrev pub refused_trial : Result Trial TrialFault → List ℕ → Type 0
 refused_trial (Ok t) line = ⊥
 refused_trial (Err e) line = line ≡ fault_line e
+
+-- the line that refuses a deck with its rules
+abbrev pub refused_exploration : Result Exploration (ℕ × DeckCause) → List ℕ → Type 0
+refused_exploration (Ok x) line = ⊥
+refused_exploration (Err e) line = line ≡ deck_line e
+
+-- the status after an exploration
+abbrev pub status_explored : Result Explored SearchFault → Status
+status_explored (Ok explored.Kept) = Done
+status_explored (Ok explored.Broken) = Failed
+status_explored (Err fault.WriteFault) = WriteFault
+status_explored (Err fault.NoMemory) = NoMemory
 
 -- why a job was not done: a line that refuses its input, one call of its source that failed, or out of memory, in which
 -- case none did

@@ -1,12 +1,14 @@
 -- The relation of the top call to its environment at each of its statuses.
-use Rattle.std.specs.Prelude.{◌≡◌, ℕ, ◌==◌, Bool, true, false, List, Option, Some, None, Result, Ok, Err}
+use Rattle.std.specs.Prelude.{◌≡◌, ◌⊎◌, ℕ, ◌==◌, Bool, true, false, List, Option, Some, None, Result, Ok, Err}
 use Rattle.mc_base.specs.declared.refusals.WriteFault.{WriteFault as Fault}
 use Rattle.mc_filter.specs.declared.status.Status.{Status}
 use Rattle.mc_filter.specs.declared.status.Status.TheVariants.{Done, Failed, WriteFault}
-use Rattle.mc_filter.specs.Inputs.{TookLimited}
+use Rattle.mc_search.specs.Endings.{WritesFront}
+use Rattle.mc_filter.specs.Inputs.{ReadWhole, TookLimited}
 use Rattle.mc_filter.specs.Statuses.{IsWritten}
 use Rattle.mc_filter.specs.Outside.{AllStands, Completes, IsRead, IsWhole, JobSays, NoJobSays, Outside, SaysDone, SaysNoForm, SaysNoMemory, SaysReadFault}
 use Rattle.mellab.specs.declared.job.Job.{Job}
+use Rattle.mellab.specs.declared.job.Job.TheVariants as job
 use Rattle.mellab.specs.Jobs.{usage}
 use Rattle.mellab.specs.Verdicts.{LabVerdict, Reports, Refusal, verdict_of}
 
@@ -37,10 +39,29 @@ MellabDone job a s = SaysDone (IsRead Refusal (IsVerdictOfJob job) a.input_old a
 
 -- ---- statuses
 
+-- out of memory within an exploration: the input was read to its end, a prefix of the text that is due was written, and
+-- no call of source or sink failed
+pub record StopsWithin (job : Job) (a : Outside) : Type 0 where
+  pub input : List ℕ
+  pub read : ReadWhole a.input_old a.input input
+  pub text : List ℕ
+  pub well : Bool
+  pub is : verdict_of job input ≡ Reports text well
+  pub written : WritesFront a.out_old text a.out
+
+-- out of memory: before the first byte was written, or for an exploration within its text
+abbrev pub MellabStops : Job → Outside → Type 0
+MellabStops job.Expect a = SaysNoMemory (TookLimited a.input_old a.input) a
+MellabStops job.Sweep a = SaysNoMemory (TookLimited a.input_old a.input) a
+MellabStops (job.Explore depth) a = SaysNoMemory (TookLimited a.input_old a.input) a ⊎ StopsWithin (job.Explore depth) a
+
+-- the meaning of each status of a job
+abbrev pub MellabEnds : Job → Outside → Status → Type 0
+MellabEnds job a s = JobSays (MellabDone job a) (SaysReadFault (TookLimited a.input_old a.input) a) (MellabStops job a) s
+
 -- the meaning of each status, by the job that the words select
 abbrev pub MellabSays : Status → Option Job → Outside → Type 0
-MellabSays s (Some job) a =
-    JobSays (MellabDone job a) (SaysReadFault (TookLimited a.input_old a.input) a) (SaysNoMemory (TookLimited a.input_old a.input) a) s
+MellabSays s (Some job) a = MellabEnds job a s
 MellabSays s None a = NoJobSays (λ (t : Status). SaysNoForm usage t a) s
 
 -- ---- completeness
@@ -54,7 +75,6 @@ status_of (Refusal line) = Failed
 abbrev pub MellabWhole : Job → Outside → Status → Type 0
 MellabWhole job a s = IsWhole (AllStands Refusal (IsVerdictOfJob job) a.input_old.left) status_of (λ (v : LabVerdict). IsTextWritten v s a) s
 
--- if no call of source or sink fails, all that is due is written, or the call was out of memory before the first byte
--- of output
+-- if no call of source or sink fails, all that is due is written, or the call was out of memory
 abbrev pub MellabCompletes : Status → Job → Outside → Type 0
 MellabCompletes s job a = Completes (MellabWhole job a s) s a

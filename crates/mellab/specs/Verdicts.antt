@@ -1,6 +1,6 @@
 -- The verdict on the input of a job: the text due, and whether all that is asked of it holds, or the one line that
 -- refuses the input.
-use Rattle.std.specs.Prelude.{ℕ, Bool, ◌==◌, List, codes, Result, Ok, Err}
+use Rattle.std.specs.Prelude.{ℕ, Bool, not, ◌==◌, List, codes, Result, Ok, Err}
 use Rattle.mc_model_device.specs.Device.{blank_words, device_words}
 use Rattle.mc_model_play.specs.DeckGrammar.{DeckLine, deck_read}
 use Rattle.mc_model_play.specs.declared.deck.DeckCause.{DeckCause}
@@ -8,11 +8,15 @@ use Rattle.mc_lab.specs.Expectations.{Trial, TrialFault, DeckFault, NoAnswer, No
 use Rattle.mc_lab.specs.declared.remark.Mark.TheVariants as mark
 use Rattle.mc_lab.specs.Remarks.{Remark, remarks}
 use Rattle.mc_lab.specs.Sweeps.{is_whole, sweep_text}
+use Rattle.mc_explore.specs.Rules.{Exploration, exploration_read}
+use Rattle.mc_explore.specs.Search.{explore_text, most_states, search_of}
+use Rattle.mc_search.specs.Endings.{is_broken}
 use Rattle.mc_filter.specs.Lines.{at_line, deck_line}
 use Rattle.mellab.specs.declared.job.Job.{Job}
 use Rattle.mellab.specs.declared.job.Job.TheVariants as job
 
--- a verdict: a text, and whether all expectations hold, or all lines that must be whole are; or the line of a refusal
+-- a verdict: a text, and whether all expectations hold, all lines that must be whole are, or no rule is broken; or the
+-- line of a refusal
 pub data LabVerdict : Type 0 where
   Reports : (text : List ℕ) (well : Bool) → LabVerdict
   Refusal : (line : List ℕ) → LabVerdict
@@ -37,7 +41,14 @@ abbrev pub sweep_verdict : List Remark → Result (List (ℕ × DeckLine)) (ℕ 
 sweep_verdict marks (Ok ls) = Reports (sweep_text marks ls) (is_whole marks ls)
 sweep_verdict marks (Err e) = Refusal (deck_line e)
 
+-- the verdict on the exploration of a deck with its rules to a depth: whether no rule is broken in what is
+-- explored
+abbrev pub exploration_verdict : ℕ → Result Exploration (ℕ × DeckCause) → LabVerdict
+exploration_verdict depth (Ok x) = Reports (explore_text depth x) (not (is_broken (search_of most_states depth x).ending))
+exploration_verdict depth (Err e) = Refusal (deck_line e)
+
 -- the verdict on an input within the limit
 abbrev pub verdict_of : Job → List ℕ → LabVerdict
 verdict_of job.Expect input = expectation_verdict (trial_read input)
 verdict_of job.Sweep input = sweep_verdict (remarks mark.Whole input) (deck_read input)
+verdict_of (job.Explore depth) input = exploration_verdict depth (exploration_read input)

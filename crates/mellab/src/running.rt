@@ -9,11 +9,11 @@ ghost use Rattle.mc_filter.specs.Inputs.{input_limit, Rejects};
 ghost use Rattle.mc_filter.specs.Outside.{outside};
 ghost use Rattle.mc_filter.specs.Statuses.{number_of};
 ghost use Rattle.mellab.specs.declared.job.Job.TheVariants as job;
-ghost use Rattle.mellab.specs.Jobs.{explore_depth, job_of};
+ghost use Rattle.mellab.specs.Jobs.{job_of};
 ghost use Rattle.mellab.specs.Running.{refused_trial, RejectsLabJob};
-ghost use Rattle.mellab.specs.Statuses.{status_after, status_by, MellabCompletes, MellabDone, MellabSays};
+ghost use Rattle.mellab.specs.Statuses.{status_after, status_by, MellabCompletes, MellabDone, MellabEnds, MellabSays};
 
-use crate::exploring::{explore_depth, explore_input};
+use crate::exploring::explore_input;
 use crate::job::{Job, job_of};
 use mc_base::{Sink, Source, Steps, WriteFault, put_all};
 use mc_filter::{
@@ -111,13 +111,14 @@ fn attempt<S: Source, T: Sink, L: Ledger>(
     out: &mut T,
     steps: &mut Steps<L>,
 ) -> Result<Status, Rejection>
-    ensures done { IfOk result (MellabDone job (outside S.Source T.Sink input.old input.new out.old out.new)) }
+    ensures ends { IfOk result (MellabEnds job (outside S.Source T.Sink input.old input.new out.old out.new)) }
     ensures rejected { IfErr result (RejectsLabJob job (outside S.Source T.Sink input.old input.new out.old out.new)) }
     ensures out { IfErr result (λ e. sunk T.Sink out.new ≡ sunk T.Sink out.old) }
 {
     match job {
         Job::Expect => expect_input(alloc, input, out, steps),
         Job::Sweep => sweep_input(alloc, input, out, steps),
+        Job::Explore(depth) => explore_input(alloc, depth, input, out, steps),
     }
 }
 
@@ -137,9 +138,13 @@ fn run<S: Source, T: Sink, L: Ledger>(
     }
 }
 
-// Compares a deck with its expectations or sweeps it, by the words, and returns the status. Words that select
-// neither write the usage line.
-fn expect_or_sweep<S: Source, T: Sink, L: Ledger>(
+/// Does the job that the words select, over a source and a sink, and returns its status: 0 done, all expectations
+/// hold, each line that must be whole is or no rule is broken, 1 an expectation failed, a line is not whole, a rule
+/// is broken or the input is refused, 2 the words select no job, 3 a fault of the source, 4 a fault of the sink, 5 out
+/// of memory, in which case nothing was written, but for the first bytes of the text of an exploration.
+///
+/// It makes its own devices in memory, of 8,192 words.
+pub fn mellab<S: Source, T: Sink, L: Ledger>(
     alloc: Global,
     words: &[String],
     input: &mut S,
@@ -155,29 +160,4 @@ fn expect_or_sweep<S: Source, T: Sink, L: Ledger>(
         return number(ended(Status::NoForm, put_all(out, USAGE)));
     };
     number(run(alloc, job, input, out, steps))
-}
-
-/// Does the job that the words select, over a source and a sink, and returns its status: 0 done, all expectations
-/// hold, each line that must be whole is and no rule is broken, 1 an expectation failed, a line is not whole, a rule
-/// is broken or the input is refused, 2 the words select no job, 3 a fault of the source, 4 a fault of the sink, 5 out
-/// of memory.
-///
-/// It makes its own devices in memory, of 8,192 words.
-pub fn mellab<S: Source, T: Sink, L: Ledger>(
-    alloc: Global,
-    words: &[String],
-    input: &mut S,
-    out: &mut T,
-    steps: &mut Steps<L>,
-) -> u8
-    ensures says { explore_depth words.now ≡ None → (s : Status) × (result ≡ number_of s)
-        × MellabSays s (job_of words.now) (outside S.Source T.Sink input.old input.new out.old out.new) }
-    ensures complete { explore_depth words.now ≡ None → (s : Status) → result ≡ number_of s
-        → IfSome (job_of words.now)
-        (λ job. MellabCompletes s job (outside S.Source T.Sink input.old input.new out.old out.new)) }
-{
-    match explore_depth(words) {
-        Some(depth) => number(explore_input(alloc, depth, input, out, steps)),
-        None => expect_or_sweep(alloc, words, input, out, steps),
-    }
 }

@@ -1,6 +1,6 @@
 use Rattle.std.proofs.Common.{◌∙◌}
 use Rattle.mellab.proofs.DepthLemmas.{few_bound, few_value}
-use Rattle.mellab.proofs.exploring.few_digits.Goals as goal
+use Rattle.mellab.proofs.job.few_digits.Goals as goal
 
 pub returns-clause-value : goal.returns-clause-value
 returns-clause-value c = c.decimal_number.ensures ∙ few_value c.args.digits.now c.requires

@@ -6,7 +6,7 @@ use Rattle.mc_filter.specs.Outside.{outside, Outside}
 use Rattle.mellab.specs.Statuses.{MellabSays}
 use Rattle.mellab.proofs.StatusLemmas.{says_no_form}
 use Rattle.mellab.proofs.Completeness.{complete_at}
-use Rattle.mellab.proofs.running.expect_or_sweep.Goals as goal
+use Rattle.mellab.proofs.running.mellab.Goals as goal
 
 pub returns-clause-complete : goal.returns-clause-complete
 returns-clause-complete g c = λ s is.
