@@ -15,7 +15,7 @@ use Rattle.mc_desk.specs.Operands.{instruction_text}
 use Rattle.mc_desk.specs.Statements.{Loadable, statement_text}
 use Rattle.mc_desk.specs.Parts.{EndedLine}
 use Rattle.mc_desk.specs.Drafts
-use Rattle.mc_desk.specs.Drafts.{Before, Between, Draft, DraftTurn, Mode, ScopeTurn, Within, by_name, closed_section, coded_turn, draft_of_lines, draft_turn, kept_line, new_section, nothing_before, opening_line, scope_turn, section_line, sizes_of, static_size, with_line}
+use Rattle.mc_desk.specs.Drafts.{Before, Between, Draft, DraftTurn, Mode, Within, by_name, closed_section, coded_turn, draft_of_lines, draft_turn, kept_line, new_section, opening_line, scope_turn, section_line, sizes_of, static_size, with_line}
 use Rattle.mc_desk.specs.declared.declaration.Declaration.{Declaration}
 use Rattle.mc_desk.specs.declared.draft.OpenSection.{OpenSection}
 use Rattle.mc_desk.specs.declared.scope.Scope.{Scope}

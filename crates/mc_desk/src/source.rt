@@ -230,7 +230,8 @@ impl<'a> Source<'a> {
 
     /// Returns the line whose code has the byte at a place, or `None` if none has it.
     pub fn line_at(&self, place: u16) -> Option<CodeLine<'a>>
-        ensures { option_map (code_line_value self.now.code.items) result ≡ line_at (source_value self.now).lines place }
+        ensures { option_map (code_line_value self.now.code.items) result
+            ≡ line_at (source_value self.now).lines place }
     {
         for line in &self.lines {
             if has_place(line, self.code.as_slice(), place) {
