@@ -1,6 +1,6 @@
 -- Lines that are counted turn by turn: one turn by the code, and all turns as the lines that a play covered.
-use Rattle.std.proofs.Common.{◌≡◌, ℕ, zero, suc, ◌+◌, ◌<◌, ◌≤◌, Bool, true, false, cond, ◌&&◌, ◌==◌, List, [], ◌∷◌, ◌++◌, length, Option, Some, None, refl, arith, sym, ap, subst, ◌∙◌}
-use Rattle.std.specs.Prelude.{map, filter, not, min}
+use Rattle.std.proofs.Common.{◌≡◌, ℕ, suc, ◌+◌, ◌<◌, ◌≤◌, Bool, true, false, cond, ◌&&◌, ◌==◌, List, [], ◌∷◌, ◌++◌, length, Option, Some, None, refl, arith, sym, ap, subst, ◌∙◌}
+use Rattle.std.specs.Prelude.{map, filter, not}
 use Rattle.std.specs.List.{AllByRecursion}
 use Rattle.std.proofs.lemmas.List.{map-append}
 use Rattle.mc_model_machine.specs.declared.instruction.Ins.{Ins}
@@ -12,7 +12,7 @@ use Rattle.mc_machine.specs.declared.outcome.Turn.{Turn}
 use Rattle.mc_cover.specs.declared.lcov.LineCount.{LineCount}
 use Rattle.mc_cover.specs.declared.covering.Counter.{Counter}
 use Rattle.mc_cover.specs.Sections.{index_of, is_of}
-use Rattle.mc_cover.specs.Counting.{AreAtMost, Counted, CountsLines, holds_by, is_at, line_after, line_by, line_risen, line_with_turn, lines_after, lines_by, most_count, new_line, new_lines, risen, runs_line, took, took_by}
+use Rattle.mc_cover.specs.Counting.{AreAtMost, Counted, CountsLines, is_at, line_after, line_by, line_risen, line_with_turn, lines_after, lines_by, most_count, new_line, new_lines, risen, runs_line, took, took_by}
 
 -- ---- one turn
 

@@ -1,15 +1,13 @@
 -- The record of lines that were counted is the record of the lines that a play covered.
-use Rattle.std.proofs.Common.{◌≡◌, ℕ, zero, suc, ◌+◌, ◌-◌, Bool, true, false, cond, ◌==◌, List, [], ◌∷◌, ◌++◌, length, Option, Some, None, refl, arith, sym, ap, subst, ◌∙◌, append_assoc, length-append}
+use Rattle.std.proofs.Common.{◌≡◌, ℕ, suc, ◌+◌, ◌-◌, Bool, true, false, cond, ◌==◌, List, [], ◌∷◌, ◌++◌, length, Option, Some, None, refl, arith, sym, ap, ◌∙◌, append_assoc, length-append}
 use Rattle.std.specs.Prelude.{codes, decimal, filter, flat_map, nat_lt, not}
 use Rattle.std.proofs.lemmas.List.{append-nil}
 use Rattle.std.proofs.lemmas.List.Elements.{filter-append}
-use Rattle.mc_desk.specs.FullTurns.{FullTurn}
-use Rattle.mc_desk.specs.Listings.{Source}
-use Rattle.mc_desk.specs.Coverage.{CoveredBranch, CoveredLine, branch_record, branches_of, branches_under, count_record, covered_lines, line_condition, line_record, record_of}
+use Rattle.mc_desk.specs.Coverage.{CoveredBranch, CoveredLine, branch_record, branches_of, branches_under, count_record, line_condition, line_record, record_of}
 use Rattle.mc_cover.specs.declared.lcov.LineCount.{LineCount}
-use Rattle.mc_cover.specs.Counting.{lines_after, new_lines, took}
+use Rattle.mc_cover.specs.Counting.{took}
 use Rattle.mc_cover.specs.Records.{branch_text, branch_under, branches_text, count_gone, count_run, count_ways, line_text, lines_text, record_text, ways_of, ways_under}
-use Rattle.mc_cover.proofs.CountLemmas.{AreCounts, IsCount, new_covered}
+use Rattle.mc_cover.proofs.CountLemmas.{AreCounts, IsCount}
 
 -- a line with the counts of a covered line
 abbrev counted_as : Option ℕ → CoveredLine → LineCount → LineCount

@@ -1,6 +1,6 @@
 -- A full turn of a chain: its turn, its code, and the frame that it leaves.
 use Rattle.std.proofs.Common.{◌≡◌, ℕ, zero, suc, List, Option, Some, None, Result, Ok, Err, refl, sym, ap, subst, ◌∙◌}
-use Rattle.std.specs.Prelude.{unwrap_or, option_and_then, IsSome}
+use Rattle.std.specs.Prelude.{unwrap_or, IsSome}
 use Rattle.mc_model_device.specs.Bytes.{lookup}
 use Rattle.mc_model_device.specs.Card.{App}
 use Rattle.mc_model_device.specs.Device.{DeviceState}
@@ -12,9 +12,9 @@ use Rattle.mc_model_machine.specs.Frame.{Frame}
 use Rattle.mc_model_machine.specs.Row.{RowEnd, Abends, Does, row}
 use Rattle.mc_model_machine.specs.Chain.{Chain, Turn, Follows, Continues, Ends, Reply, Abended, around, chain_after_effect, code_in, follows, frame_at, reported_frame, row_turn, turn_of, turn_of_chain, turn_of_fetch}
 use Rattle.mc_machine_laws.proofs.RowNames.{RowKeepsName, row_name}
-use Rattle.mc_desk.specs.FullTurns.{FullTurn, after_fetch, after_row, full_turn, running_code}
-use Rattle.mc_bank.specs.Bank.{BankState, app_of, name_or, no_app}
-use Rattle.mc_segs.specs.HeldFrames.{Held, Seen}
+use Rattle.mc_desk.specs.FullTurns.{after_fetch, after_row, full_turn, running_code}
+use Rattle.mc_bank.specs.Bank.{app_of, name_or, no_app}
+use Rattle.mc_segs.specs.HeldFrames.{Seen}
 use Rattle.mc_machine.specs.Chains.{Chained}
 use Rattle.mc_card.specs.declared.card.Card.{Card}
 use Rattle.mc_card.specs.Parts.{RunsChain, view_in}
@@ -92,7 +92,7 @@ there_is (Some m) n there e = ap Some e
 
 module _ {N : Type 0} (state : N → DeviceState) where
   -- the running frame of a card has the name and the code of the chain's
-  chained_name : (c : Card N) (ch : Chain) (left : ℕ) (r : RunsChain state c ch left) → name_in state c r.chained.running ≡ ch.frame.name
+  pub chained_name : (c : Card N) (ch : Chain) (left : ℕ) (r : RunsChain state c ch left) → name_in state c r.chained.running ≡ ch.frame.name
   chained_name c ch left r = ap (λ (s : Seen). s.name) r.runs.running.same
 
   chained_code : (c : Card N) (ch : Chain) (left : ℕ) (r : RunsChain state c ch left) → code_on state c r.chained.running ≡ running_code ch
@@ -101,7 +101,7 @@ module _ {N : Type 0} (state : N → DeviceState) where
       named_code (view_in state c).state.apps ((view_in state c).named r.chained.running.slot) ch.frame.name (there_is ((view_in state c).named r.chained.running.slot) ch.frame.name r.runs.running.fits.there name)
       ∙ ap (λ (m : List (List ℕ × App)). code_in (lookup m ch.frame.name)) (sym r.runs.map)
 
-  same_chain : (c : Card N) (ch : Chain) (left : ℕ) (h : Chained) (r : RunsChain state c ch left) → Some h ≡ c.chain → r.chained ≡ h
+  pub same_chain : (c : Card N) (ch : Chain) (left : ℕ) (h : Chained) (r : RunsChain state c ch left) → Some h ≡ c.chain → r.chained ≡ h
   same_chain c ch left h r e = cc (sym r.is ∙ sym e)
 
   -- the section that the running frame is of

@@ -10,3 +10,8 @@ pub mod SentLemmas
 pub mod PlayLemmas
 pub mod CoverLemmas
 pub mod CounterLemmas
+pub mod AfterLemmas
+pub mod FrontLemmas
+pub mod LookLemmas
+pub mod TraceLemmas
+pub mod TracePlayLemmas

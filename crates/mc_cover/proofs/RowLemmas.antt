@@ -1,5 +1,5 @@
 -- What a row leaves of its frame: where it has an operand, and where its frame runs no more.
-use Rattle.std.specs.Prelude.{◌≡◌, ℕ, ◌+◌, ◌-◌, ◌≤◌, Bool, true, false, cond, ◌==◌, ℤ, List, length, Option, Some, None}
+use Rattle.std.specs.Prelude.{◌≡◌, ℕ, ◌-◌, ◌≤◌, Bool, true, false, cond, ◌==◌, ℤ, List, length, Option, Some, None}
 use Rattle.std.proofs.Common.{refl, arith}
 use Rattle.mc_model_device.proofs.ListLemmas.{splice_longer}
 use Rattle.mc_model_machine.specs.declared.instruction.Ins.{Ins}

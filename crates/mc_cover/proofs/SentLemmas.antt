@@ -1,7 +1,6 @@
 -- The full turns of a line are those of the command that its player sends.
-use Rattle.std.proofs.Common.{◌≡◌, ◌⊎◌, inl, inr, ℕ, zero, suc, Bool, true, false, List, [], ◌∷◌, ◌++◌, length, take, Option, Some, None, refl, sym, ap, subst, ◌∙◌}
+use Rattle.std.proofs.Common.{◌≡◌, ◌⊎◌, inl, inr, ℕ, Bool, true, false, List, [], ◌∷◌, ◌++◌, length, take, Option, Some, None, refl, sym, ap, subst, ◌∙◌}
 use Rattle.std.specs.List.{AllByRecursion}
-use Rattle.std.specs.Prelude.{map}
 use Rattle.mc_model_device.specs.Card as model
 use Rattle.mc_model_device.specs.Device.{DeviceState, BenchState}
 use Rattle.mc_model_device.specs.PowerUp.{Base, OnCard}
@@ -11,7 +10,7 @@ use Rattle.mc_model_card.specs.Items.{StopAt, card_done}
 use Rattle.mc_model_card.specs.Manager.{Selected, SessionState, Route, WrongLength, WrongClass, ToSelect, ToManager, ToApplication, route}
 use Rattle.mc_model_play.specs.DeckGrammar.{DeckLine}
 use Rattle.mc_model_play.specs.DeckGrammar as line
-use Rattle.mc_model_play.specs.Play.{FailedWrite, Live, Running, State, BeforePower, AfterPower, Step, delete_bytes, is_done, load_commands, select_bytes, step}
+use Rattle.mc_model_play.specs.Play.{FailedWrite, Live, Running, State, BeforePower, AfterPower, delete_bytes, is_done, load_commands, select_bytes, step}
 use Rattle.mc_model_play.specs.TraceText.{before_stop, shown_turns}
 use Rattle.mc_model_play.proofs.PlayLemmas.{step_is}
 use Rattle.mc_desk.specs.FullTurns.{FullTurn, turns_of_command, turns_of_commands, turns_of_line_in, turns_of_live, turns_of_route, turns_of_sent, turns_of_step}
@@ -22,7 +21,7 @@ use Rattle.mc_script.specs.Classes.{IsManaged}
 use Rattle.mc_script.specs.declared.player.Player.{Player}
 use Rattle.mc_script.specs.declared.player.Power.{Power}
 use Rattle.mc_script.specs.declared.player.Power.TheVariants as power
-use Rattle.mc_script.specs.Players.{IsCardOfPlay, IsPlayerAt, LiveIs}
+use Rattle.mc_script.specs.Players.{IsPlayerAt, LiveIs}
 use Rattle.mc_script.specs.Runs.{sent_by}
 use Rattle.mc_script.proofs.SendLemmas.{load_managed, not_passed}
 use Rattle.mc_cover.specs.Watching.{sent_turns}

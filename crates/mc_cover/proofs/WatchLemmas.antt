@@ -2,13 +2,13 @@
 use Rattle.std.proofs.Common.{◌≡◌, ℕ, zero, suc, ◌+◌, ◌≤◌, true, List, [], ◌∷◌, ◌++◌, length, take, drop, Option, Some, None, Result, Ok, Err, refl, arith, sym, ap, subst, ◌∙◌, length-append}
 use Rattle.std.proofs.Math.Seq.{take-add, drop-nil}
 use Rattle.std.proofs.lemmas.List.{append-nil}
-use Rattle.std.specs.Prelude.{not, option_map, IfSome}
+use Rattle.std.specs.Prelude.{not, IfSome}
 use Rattle.mc_model_device.specs.declared.device.Stop.{Stop}
 use Rattle.mc_model_device.specs.Orders.{Answer}
 use Rattle.mc_model_device.specs.Device.{DeviceState, Wrote}
 use Rattle.mc_model_device.specs.Card.{Card as ModelCard}
 use Rattle.mc_model_machine.specs.Apdu.{ApduParts}
-use Rattle.mc_model_machine.specs.Chain.{Acted, Chain, Continues, Ends, Follows, Turn as ModelTurn, start, run_of_chain, turn_of, turn_of_chain}
+use Rattle.mc_model_machine.specs.Chain.{Chain, Continues, Ends, Follows, Turn as ModelTurn, start, turn_of, turn_of_chain}
 use Rattle.mc_model_card.specs.Commands.{Command}
 use Rattle.mc_model_card.specs.Manager.{Selected, SessionState, Route, ToApplication, route}
 use Rattle.mc_model_play.specs.TraceText.{before_stop}
@@ -24,7 +24,7 @@ use Rattle.mc_script.specs.Runs.{RanAndReported, ReportsTurns, SentCommand, sent
 use Rattle.mc_script.specs.StepCounts.{instructions}
 use Rattle.mc_script.proofs.StepRunLemmas.{StepsLead, lead_begin, lead_stop, lead_end, lead_on}
 use Rattle.mc_script.proofs.UpLemmas.{up_on}
-use Rattle.mc_script.proofs.RanLemmas.{RunOf, run_ends, run_stops, run_goes, run_on}
+use Rattle.mc_script.proofs.RanLemmas.{run_ends, run_stops, run_goes, run_on}
 use Rattle.mc_script.proofs.CommandLemmas.{RunLeads, answered_ran, passed_ran}
 use Rattle.mc_cover.specs.Watching.{FrameRuns, IsWatched, IsWide, Watches, WatchesTurn, full_turn_of, sent_turns}
 use Rattle.mc_cover.proofs.WideLemmas.{next_wide, start_wide}

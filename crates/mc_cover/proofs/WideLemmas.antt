@@ -1,10 +1,10 @@
 -- The dynamic and the public segment of a chain keep their bytes: no turn makes them shorter.
-use Rattle.std.specs.Prelude.{◌≡◌, ℕ, zero, suc, ◌+◌, ◌-◌, ◌≤◌, Bool, true, false, cond, ◌==◌, ◌||◌, nat_le, nat_lt, List, [], ◌∷◌, ◌++◌, length, position, take, drop, slice_index, unwrap_or, Option, Some, None, Result, Ok, Err}
+use Rattle.std.specs.Prelude.{◌≡◌, ℕ, ◌-◌, ◌≤◌, Bool, true, false, cond, ◌==◌, ◌||◌, nat_le, nat_lt, List, [], ◌∷◌, ◌++◌, length, take, drop, slice_index, unwrap_or, Option, Some, None, Result, Ok, Err}
 use Rattle.std.specs.List.{AllByRecursion}
-use Rattle.std.proofs.Common.{refl, rules, arith, sym, ap, subst, ◌∙◌, length-append}
+use Rattle.std.proofs.Common.{refl, arith, subst, length-append}
 use Rattle.std.proofs.lemmas.List.{length-replicate}
 use Rattle.mc_model_machine.specs.Blocks.{shift_left_block, shift_right_block}
-use Rattle.mc_model_device.specs.Bytes.{bytes2, lookup, num, zeros}
+use Rattle.mc_model_device.specs.Bytes.{bytes2, lookup, zeros}
 use Rattle.mc_model_device.specs.Card.{App}
 use Rattle.mc_model_device.proofs.ListLemmas.{splice_longer}
 use Rattle.mc_model_machine.specs.declared.instruction.Ins.{Ins}
@@ -18,7 +18,7 @@ use Rattle.mc_model_machine.specs.Code.{instruction_at}
 use Rattle.mc_model_machine.specs.Frame.{Frame, Effect, Place, dynamic_base, frame_with_top, la_of, top, Static, Dynamic, Public, frame_after_pop, new_public, pending_change, protect, static_bytes, static_written, where_is, with_la, with_sw, write_effect, write_effect_at}
 use Rattle.mc_model_machine.specs.Primitives.{masked_bytes, Around, Delegates, Done, Exits, Goes, Primitive, CheckCase, LoadCcr, StoreCcr, Lookup, MemoryCompare, MemoryCopy, DelegateTo, DelegatorAid, Digest, CompareFixed, CopyFixed, SetProtection, Encipher, Decipher, Sign, BitByte, ShiftLeft, ShiftRight, BitWord, Then, delegator_reported, effect_flagged, lookup_effect, prim_effect, prim_done, primitive}
 use Rattle.mc_model_machine.specs.Row.{on_stack, RowEnd, Abends, Does, causes, effect, first_cause, frame_after_call, frame_after_jump, holds, row, row_end, target, without_target}
-use Rattle.mc_model_machine.specs.Chain.{Chain, Follows, Continues, Ends, Outcome, Abended, reply_of, code_in, after_exit, around, called_app, chain_after_call, chain_after_effect, depth_of, follows, frame_at, is_active, last_exit, no_app, row_turn, start, turn_of_chain, turn_of_fetch}
+use Rattle.mc_model_machine.specs.Chain.{Chain, Follows, Continues, Ends, Outcome, Abended, reply_of, code_in, after_exit, around, called_app, chain_after_call, chain_after_effect, depth_of, follows, frame_at, is_active, last_exit, row_turn, start, turn_of_chain, turn_of_fetch}
 use Rattle.mc_cover.specs.Watching.{IsWide}
 
 -- ---- rows

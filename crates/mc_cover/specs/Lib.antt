@@ -3,3 +3,5 @@ pub mod Watching
 pub mod Sections
 pub mod Counting
 pub mod Plays
+pub mod Looking
+pub mod Tracing

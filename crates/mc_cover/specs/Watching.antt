@@ -23,6 +23,7 @@ module _ {N : Type 0} (state : N → DeviceState) where
   abbrev pub name_in : Card N → Held → List ℕ
   name_in c h = name_or ((view_in state c).named h.slot)
 
+  -- the code of that application
   abbrev pub code_on : Card N → Held → List ℕ
   code_on c h = (app_of (view_in state c).state.apps ((view_in state c).named h.slot)).code
 

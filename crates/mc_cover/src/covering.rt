@@ -1,14 +1,16 @@
 // How often each line of a draft's code ran, and each of its branches went each way.
-ghost use Rattle.std.specs.Prelude.{◌≡◌, ◌++◌, [], map, IfOk};
+ghost use Rattle.std.specs.Prelude.{◌≡◌, ◌++◌, [], map, IfErr, IfOk};
 ghost use Rattle.std.specs.List.{AllByRecursion};
 ghost use Rattle.mc_model_device.specs.Device.{IsImage};
+ghost use Rattle.mc_model_machine.specs.Code.{front};
 ghost use Rattle.mc_model_play.specs.Play.{start};
 ghost use Rattle.mc_model_play.specs.ReadyAgain.{IsLine};
-ghost use Rattle.mc_desk.specs.Coverage.{condition_in, condition_of, line_condition};
+ghost use Rattle.mc_desk.specs.Coverage.{condition_decoded, condition_in, condition_of, line_condition};
+ghost use Rattle.mc_desk.specs.Sources.{code_line_value};
 ghost use Rattle.mc_text.specs.Texts.{sunk};
 ghost use Rattle.mc_script.specs.Players.{IsUnfused};
+ghost use Rattle.mc_cover.specs.declared.covering.CoverFault.TheVariants as fault;
 ghost use Rattle.mc_cover.specs.Watching.{Watches};
-ghost use Rattle.mc_cover.specs.Sections.{code_line_value};
 ghost use Rattle.mc_cover.specs.Plays.{CountsPlay, CoversBy};
 ghost use Rattle.mc_cover.specs.Counting.{Counted, counted_none, counted_on, holds_by, line_by, line_risen, lines_by, new_line, new_lines, risen, took_by};
 
@@ -58,14 +60,25 @@ fn condition_of(ins: &Ins) -> Option<u8>
     }
 }
 
+/// The most bytes of an instruction.
+const MOST_INSTRUCTION: usize = 6;
+
+// The condition of the instruction at the front of the bytes of a line.
+#[tactic(auto, using(crate::proofs::FrontLemmas::condition_front))]
+fn condition_at_front(bytes: &[u8]) -> Option<u8>
+    ensures { result ≡ condition_decoded (front bytes.now) }
+{
+    match decode(&bytes[..bytes.len().min(MOST_INSTRUCTION)], 0) {
+        Ok((ins, _end)) => condition_of(&ins),
+        Err(_) => None,
+    }
+}
+
 // The condition of a line of a section with this code.
 fn line_condition(code: &[u8], line: &CodeLine<'_>) -> Option<u8>
     ensures { result ≡ line_condition (code_line_value code.now line.now) }
 {
-    match decode(bytes_of(code, line), 0) {
-        Ok((ins, _end)) => condition_of(&ins),
-        Err(_) => None,
-    }
+    condition_at_front(bytes_of(code, line))
 }
 
 // Whether a condition from 1 to 6 holds: EQ, LT, LE, GT, GE, NE.
@@ -283,6 +296,7 @@ pub fn cover<N: Bench, T: Sink, L: Ledger>(
     ensures covers { CoversBy name.now sections.now deck.now
         (record { device = N.state dev.old; bench = N.bench dev.old }) (sunk T.Sink out.old) result
         (record { device = N.state dev.new; bench = N.bench dev.new }) (sunk T.Sink out.new) steps.old steps.new }
+    ensures unplayed { IfErr result (λ e. e ≡ fault.NoMemory → dev.new ≡ dev.old) }
 {
     let Ok(lines) = new_lines(alloc, sections.all()) else {
         return Err(CoverFault::NoMemory);

@@ -1,15 +1,18 @@
 // What a watcher finds of a card between two turns: the section that runs, its stack, and the place of its operand.
-ghost use Rattle.std.specs.Prelude.{◌≡◌, ◌≤◌, ℕ, true, false, length, bytes_eq, slice_get, IsSome, IfSome};
+ghost use Rattle.std.specs.Prelude.{◌≡◌, ◌-◌, ◌≤◌, ℕ, true, false, cond, List, [], Some, length, take, bytes_eq, option_map, IsSome, IfSome};
 ghost use Rattle.mc_model_device.specs.Limits.{most_code};
-ghost use Rattle.mc_model_machine.specs.Chain.{Chain as ModelChain};
-ghost use Rattle.mc_desk.specs.FullTurns.{running_code};
+ghost use Rattle.mc_model_machine.specs.Frame.{dynamic_end, floor, Frame as ModelFrame};
+ghost use Rattle.mc_model_machine.specs.Chain.{Chain as ModelChain, Follows};
+ghost use Rattle.mc_desk.specs.FullTurns.{running_code, stack_of};
 ghost use Rattle.mc_bank.specs.Bank.{app_of, name_or};
 ghost use Rattle.mc_segs.specs.HeldFrames.{CanRun};
+ghost use Rattle.mc_segs.specs.Places.{lies_in_segment};
 ghost use Rattle.mc_card.specs.Parts.{IsRunning, RunsChain};
 ghost use Rattle.mc_cover.specs.Sections.{index_of, is_of};
-ghost use Rattle.mc_cover.specs.Watching.{FrameRuns, IsWatched, code_on, name_in};
+ghost use Rattle.mc_cover.specs.Looking.{IsPlace, IsScene, LiesAfter, Shows, bytes_there, operand_after, place_in, place_pair, section_at, span_in, span_value, stack_after};
+ghost use Rattle.mc_cover.specs.Watching.{FrameRuns, IsWatched, code_on, frame_in, name_in};
 
-use crate::sections::{MOST_CODE, Section, Sections};
+use crate::sections::{Section, Sections};
 use crate::span::{Span, span_of};
 use arrayvec::ArrayVec;
 use mc_bank::{Bank, Slot};
@@ -21,13 +24,14 @@ use mc_segs::{Frame, Place, look, place_of, resolve};
 /// The number of code bytes that are compared at a time.
 const PIECE: usize = 256;
 
-/// The stack before a turn, the address of its first byte, and the place of the operand.
+/// What is kept of the running frame before a turn: the name of its application, the floor of its stack, the stack,
+/// and the place of the operand of its next instruction.
 #[derive(Drop)]
 pub struct Scene {
-    pub slot: Slot,
-    pub floor: u16,
-    pub stack: ArrayVec<u8, 512>,
-    pub place: Option<(Place, u8)>,
+    name: ArrayVec<u8, 16>,
+    floor: u16,
+    stack: ArrayVec<u8, 512>,
+    place: Option<(Place, u8)>,
 }
 
 /// The bytes of an operand, and the stack, after a turn.
@@ -82,7 +86,7 @@ pub fn section_of<N: Nvm>(card: &Card<N>, frame: &Frame, sections: &Sections<'_>
     requires { FrameRuns N.state card.now frame.now }
     ensures value { result ≡ index_of 0 sections.now (name_in N.state card.now frame.now)
         (code_on N.state card.now frame.now) }
-    ensures short { IfSome result (λ i. IfSome (slice_get sections.now i) (λ s. length s.code ≤ most_code)) }
+    ensures short { IfSome (section_at sections.now result) (λ s. length s.code ≤ most_code) }
 {
     let all = sections.all();
     for i in 0..all.len() {
@@ -98,7 +102,7 @@ pub fn running_section<N: Nvm>(card: &Card<N>, sections: &Sections<'_>) -> Optio
     requires { IsRunning N.state card.now }
     ensures value { (ch : ModelChain) (left : ℕ) → RunsChain N.state card.now ch left
         → result ≡ index_of 0 sections.now ch.frame.name (running_code ch) }
-    ensures short { IfSome result (λ i. IfSome (slice_get sections.now i) (λ s. length s.code ≤ most_code)) }
+    ensures short { IfSome (section_at sections.now result) (λ s. length s.code ≤ most_code) }
 {
     match card.chain() {
         Some(chain) => section_of(card, chain.running(), sections),
@@ -107,49 +111,111 @@ pub fn running_section<N: Nvm>(card: &Card<N>, sections: &Sections<'_>) -> Optio
 }
 
 // The place of a span in a frame, if its bytes lie whole in a segment.
-fn placed(frame: &Frame, span: Span) -> Option<(Place, u8)> {
-    if span.tag < 1 || span.tag > 7 {
-        return None;
-    }
-    let Ok(at) = resolve(frame, span.tag, span.off) else {
+fn placed(frame: &Frame, span: Span) -> Option<(Place, u8)>
+    requires { 1 ≤ span.tag }
+    ensures { option_map place_pair result ≡ place_in frame.now.frame (Some (span_value span)) }
+{
+    let Ok(at) = resolve(frame, span.tag.min(7), span.off) else {
         return None;
     };
-    let place = place_of(frame, at, span.size as usize)?;
-    Some((place, span.size))
+    match place_of(frame, at, span.size as usize) {
+        Some(place) => Some((place, span.size)),
+        None => None,
+    }
 }
 
-// The place of the operand of the instruction that a frame runs next.
-fn operand_place(frame: &Frame, code: &[u8]) -> Option<(Place, u8)> {
-    if code.len() > MOST_CODE {
-        return None;
-    }
+// The place of the operand of the instruction that a frame runs next in some code.
+fn operand_place(frame: &Frame, code: &[u8]) -> Option<(Place, u8)>
+    requires { length code.now ≤ most_code }
+    ensures { option_map place_pair result ≡ place_in frame.now.frame (span_in frame.now.frame code.now) }
+{
     let Ok((ins, _end)) = decode(code, frame.at()) else {
         return None;
     };
-    placed(frame, span_of(&ins)?)
+    match span_of(&ins) {
+        Some(span) => placed(frame, span),
+        None => None,
+    }
 }
 
-// A copy of a stack, which has at most 512 bytes.
-fn copied(stack: &[u8]) -> ArrayVec<u8, 512> {
+// The stack of a frame.
+fn stack_of(frame: &Frame) -> ArrayVec<u8, 512>
+    ensures { result.items ≡ stack_of frame.now.frame }
+{
+    let _dt = frame.dt();
+    let _floor = frame.floor();
     let mut copy = ArrayVec::new();
-    copy.try_extend_from_slice(&stack[..stack.len().min(512)])
-        .unwrap();
+    copy.try_extend_from_slice(frame.stack()).unwrap();
     copy
 }
 
-/// Returns what is kept of the running frame before its next turn, by the code of its section.
-pub fn scene_of(frame: &Frame, code: &[u8]) -> Scene {
+// The name of the application of a slot.
+fn name_of<B: Bank>(bank: &B, slot: Slot) -> ArrayVec<u8, 16>
+    requires going { (B.state bank.now).stopped ≡ false }
+    requires there { IsSome (B.named bank.now slot) }
+    ensures { result.items ≡ name_or (B.named bank.now slot) }
+{
+    let mut name = ArrayVec::new();
+    name.try_extend_from_slice(bank.facts(slot).aid.bytes())
+        .unwrap();
+    name
+}
+
+// The place of the operand that a frame has next, if its section is known.
+fn place_by(frame: &Frame, code: Option<&[u8]>) -> Option<(Place, u8)>
+    requires { IfSome code (λ c. length c.now ≤ most_code) }
+    ensures { IsPlace result frame.now.frame (option_map (λ c. c.now) code.entry) }
+{
+    match code {
+        Some(code) => operand_place(frame, code),
+        None => None,
+    }
+}
+
+// What is kept of a frame before its next turn.
+fn scene_in<N: Nvm>(card: &Card<N>, frame: &Frame, code: Option<&[u8]>) -> Scene
+    requires runs { FrameRuns N.state card.now frame.now }
+    requires short { IfSome code (λ c. length c.now ≤ most_code) }
+    ensures name { result.name.items ≡ name_in N.state card.now frame.now }
+    ensures floor { result.floor ≡ floor frame.now.frame }
+    ensures stack { result.stack.items ≡ stack_of frame.now.frame }
+    ensures place { IsPlace result.place frame.now.frame (option_map (λ c. c.now) code.entry) }
+    ensures high { frame.now.frame.dt ≤ dynamic_end }
+{
+    let _dt = frame.dt();
     Scene {
-        slot: frame.slot(),
+        name: name_of(card.bank(), frame.slot()),
         floor: frame.floor(),
-        stack: copied(frame.stack()),
-        place: operand_place(frame, code),
+        stack: stack_of(frame),
+        place: place_by(frame, code),
+    }
+}
+
+/// Returns what is kept of the running frame of a card before its next turn, by the code of its section, if it is of
+/// one.
+pub fn scene_of<N: Nvm>(card: &Card<N>, code: Option<&[u8]>) -> Scene
+    requires running { IsRunning N.state card.now }
+    requires short { IfSome code (λ c. length c.now ≤ most_code) }
+    ensures { (ch : ModelChain) (left : ℕ) → RunsChain N.state card.now ch left
+        → IsScene result ch.frame (option_map (λ c. c.now) code.entry) }
+{
+    match card.chain() {
+        Some(chain) => scene_in(card, chain.running(), code),
+        None => Scene {
+            name: ArrayVec::new(),
+            floor: 0,
+            stack: ArrayVec::new(),
+            place: None,
+        },
     }
 }
 
 // The bytes at a place of the running frame.
 fn bytes_at<N: Nvm>(card: &Card<N>, chain: &Chain, place: &Option<(Place, u8)>) -> ArrayVec<u8, 255>
     requires { FrameRuns N.state card.now chain.now.running }
+    ensures { IfSome place.now (λ p. lies_in_segment chain.now.running.frame chain.now.public p.0 p.1 ≡ true)
+        → result.items ≡ bytes_there (frame_in N.state card.now chain.now.running) chain.now.public
+        (option_map place_pair place.now) }
 {
     let mut found = ArrayVec::new();
     let Some((place, size)) = place else {
@@ -163,30 +229,56 @@ fn bytes_at<N: Nvm>(card: &Card<N>, chain: &Chain, place: &Option<(Place, u8)>) 
     found
 }
 
-// What is left of a frame that runs no more: the stack that it had, up to DT.
-fn left_of(scene: &Scene, dt: u16) -> After {
+// What is left of a frame that runs no more: no operand, and the stack that it had, up to DT.
+fn left_of(scene: &Scene, dt: u16) -> After
+    ensures operand { result.operand.items ≡ [] }
+    ensures stack { result.stack.items ≡ take (dt - scene.now.floor) scene.now.stack.items }
+{
     let count = dt.saturating_sub(scene.floor) as usize;
     let kept = count.min(scene.stack.len());
+    let mut stack = ArrayVec::new();
+    stack
+        .try_extend_from_slice(&scene.stack.as_slice()[..kept])
+        .unwrap();
     After {
         operand: ArrayVec::new(),
-        stack: copied(&scene.stack.as_slice()[..kept]),
+        stack,
+    }
+}
+
+// The operand and the stack of the frame that a scene is of, by the frame that runs after a turn.
+fn after_in<N: Nvm>(card: &Card<N>, chain: &Chain, scene: &Scene, dt: u16) -> After
+    requires { FrameRuns N.state card.now chain.now.running }
+    ensures operand { IfSome scene.now.place
+        (λ p. lies_in_segment chain.now.running.frame chain.now.public p.0 p.1 ≡ true)
+        → result.operand.items ≡ cond (bytes_eq (name_in N.state card.now chain.now.running) scene.now.name.items)
+        (bytes_there (frame_in N.state card.now chain.now.running) chain.now.public
+        (option_map place_pair scene.now.place)) [] }
+    ensures stack { result.stack.items
+        ≡ cond (bytes_eq (name_in N.state card.now chain.now.running) scene.now.name.items)
+        (stack_of chain.now.running.frame) (take (dt - scene.now.floor) scene.now.stack.items) }
+{
+    if name_of(card.bank(), chain.running().slot()).as_slice() != scene.name.as_slice() {
+        return left_of(scene, dt);
+    }
+    After {
+        operand: bytes_at(card, chain, &scene.place),
+        stack: stack_of(chain.running()),
     }
 }
 
 /// Returns the operand's bytes and the stack of a frame after a turn, by what was kept of it before the turn and
 /// by its DT after it.
-#[tactic(auto, using(crate::proofs::WatchLemmas::watched_chain))]
 pub fn after_turn<N: Nvm>(card: &Card<N>, scene: &Scene, dt: u16) -> After
     requires { IsWatched N.state card.now }
+    ensures operand { (f : ModelFrame) (code : List ℕ) (next : Follows) → IsScene scene.now f (Some code)
+        → Shows N.state card.now next → LiesAfter (place_in f (span_in f code)) next
+        → result.operand.items ≡ operand_after f (place_in f (span_in f code)) next }
+    ensures stack { (f : ModelFrame) (code : List ℕ) (next : Follows) → IsScene scene.now f (Some code)
+        → Shows N.state card.now next → result.stack.items ≡ stack_after f dt next }
 {
-    let Some(chain) = card.chain() else {
-        return left_of(scene, dt);
-    };
-    if chain.running().slot() != scene.slot {
-        return left_of(scene, dt);
-    }
-    After {
-        operand: bytes_at(card, chain, &scene.place),
-        stack: copied(chain.running().stack()),
+    match card.chain() {
+        Some(chain) => after_in(card, chain, scene, dt),
+        None => left_of(scene, dt),
     }
 }

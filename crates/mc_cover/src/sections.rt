@@ -1,17 +1,14 @@
 // The sections of a draft, as a watcher looks for them.
-ghost use Rattle.std.specs.Prelude.{◌≡◌, ◌≤◌, ◌&&◌, ◌+◌, nat_le, nat_lt, bytes_eq, length, map, option_map, IfOk};
-ghost use Rattle.mc_model_device.specs.Limits.{most_code};
+ghost use Rattle.std.specs.Prelude.{◌≡◌, bytes_eq, drop, map, option_map, take, IfOk};
 ghost use Rattle.mc_model_machine.specs.Text.{hex_bytes};
-ghost use Rattle.mc_desk.specs.Listings.{line_at};
-ghost use Rattle.mc_cover.specs.Sections.{aid_bytes, bytes_of_line, code_line_value, source_value};
+ghost use Rattle.mc_desk.specs.Listings.{has_byte_at, line_at};
+ghost use Rattle.mc_desk.specs.Sources.{code_line_value, source_value, sources_value};
+ghost use Rattle.mc_cover.specs.Sections.{aid_bytes};
 
 use hex::FromHexError;
 use mc_desk::{CodeLine, Source};
 use std::alloc::{AllocError, Global};
 use std::marker::Model;
-
-/// The most bytes of code that an application has.
-pub const MOST_CODE: usize = 8192;
 
 /// A section of a draft with the bytes of its AID, none if its AID spells none.
 /// Its view in contracts is the section of the definition.
@@ -24,7 +21,8 @@ pub struct Section<'s> {
 impl<'s> Model for Section<'s> {
     ghost use Rattle.std.specs.Prelude.{◌≡◌};
     ghost use Rattle.mc_desk.specs.Listings.{Source};
-    ghost use Rattle.mc_cover.specs.Sections.{aid_bytes, source_value};
+    ghost use Rattle.mc_desk.specs.Sources.{source_value};
+    ghost use Rattle.mc_cover.specs.Sections.{aid_bytes};
 
     ghost Value = { Source };
 
@@ -71,23 +69,17 @@ fn aid_of(alloc: Global, digits: &[u8]) -> Result<Vec<u8>, AllocError>
 }
 
 /// Returns the bytes of a line in the code of its section.
+#[tactic(auto, using(mc_desk::proofs::SourceLemmas::bytes_there))]
 pub fn bytes_of<'c>(code: &'c [u8], line: &CodeLine<'_>) -> &'c [u8]
-    ensures value { result.now ≡ bytes_of_line code.now line.now }
-    ensures most { length result.now ≤ most_code }
+    ensures { result.now ≡ take line.now.size (drop line.now.place code.now) }
 {
-    let start = line.place as usize;
-    let end = start + line.size as usize;
-    if end <= code.len() && code.len() <= MOST_CODE {
-        &code[start..end]
-    } else {
-        &[]
-    }
+    let rest = code.split_at((line.place as usize).min(code.len())).1;
+    rest.split_at((line.size as usize).min(rest.len())).0
 }
 
 // Whether a line of this code has the byte at a place.
 fn has_place(code: &[u8], line: &CodeLine<'_>, place: u16) -> bool
-    ensures { result ≡ (nat_le line.now.place place
-        && nat_lt place (line.now.place + length (bytes_of_line code.now line.now))) }
+    ensures { result ≡ has_byte_at (code_line_value code.now line.now) place }
 {
     line.place <= place && (place as usize) < line.place as usize + bytes_of(code, line).len()
 }
@@ -143,7 +135,7 @@ impl<'s> Sections<'s> {
     ///
     /// Returns `AllocError` if out of memory.
     pub fn new(alloc: Global, sources: &'s [Source<'s>]) -> Result<Self, AllocError>
-        ensures { IfOk result (λ sections. sections ≡ map source_value sources.now) }
+        ensures { IfOk result (λ sections. sections ≡ sources_value sources.now) }
     {
         let mut all = Vec::new(alloc);
         for source in sources {

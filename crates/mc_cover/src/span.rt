@@ -1,7 +1,11 @@
 // The operand of an instruction.
+ghost use Rattle.std.specs.Prelude.{◌≡◌, ◌≤◌, option_map, IfSome};
+ghost use Rattle.mc_desk.specs.FullTurns.{span, span_of};
+ghost use Rattle.mc_cover.specs.Looking.{span_value};
+
 use mc_isa::Ins;
 
-/// A register's tag from 1 to 7, an offset, and the number of bytes there.
+/// A register's tag from 1 on, an offset, and the number of bytes there.
 #[derive(Clone, Copy, Debug, PartialEq, Eq)]
 pub struct Span {
     pub tag: u8,
@@ -10,16 +14,26 @@ pub struct Span {
 }
 
 // The span of an operand, `None` with tag 0, which is the top of the stack.
-fn reached(tag: u8, off: i16, size: u8) -> Option<Span> {
+fn reached(tag: u8, off: i16, size: u8) -> Option<Span>
+    ensures value { option_map span_value result ≡ span tag off size }
+    ensures tag { IfSome result (λ s. 1 ≤ s.tag) }
+{
     if tag == 0 {
-        return None;
+        None
+    } else {
+        Some(Span { tag, off, size })
     }
-    Some(Span { tag, off, size })
 }
 
-// The bytes of an instruction with a byte or a word, or of a pointer.
-fn fixed_span(ins: &Ins) -> Option<Span> {
+/// Returns the bytes that an instruction's operand `REG[offset]` names: the 2 of a pointer, the 1 or 2 of a word
+/// with an immediate, else its length; or `None` if it names none, or only their address.
+pub fn span_of(ins: &Ins) -> Option<Span>
+    ensures value { option_map span_value result ≡ span_of ins.now }
+    ensures tag { IfSome result (λ s. 1 ≤ s.tag) }
+{
     match *ins {
+        Ins::Load { tag, off, n } => reached(tag, off, n),
+        Ins::Store { tag, off, n } => reached(tag, off, n),
         Ins::Loadi { tag, off, .. } => reached(tag, off, 2),
         Ins::Storei { tag, off, .. } => reached(tag, off, 2),
         Ins::Setb { tag, off, .. } => reached(tag, off, 1),
@@ -30,16 +44,6 @@ fn fixed_span(ins: &Ins) -> Option<Span> {
         Ins::Cmpw { tag, off, .. } => reached(tag, off, 2),
         Ins::Addw { tag, off, .. } => reached(tag, off, 2),
         Ins::Subw { tag, off, .. } => reached(tag, off, 2),
-        _ => None,
-    }
-}
-
-/// Returns the bytes that an instruction's operand `REG[offset]` names: the 2 of a pointer, the 1 or 2 of a word
-/// with an immediate, else its length; or `None` if it names none, or only their address.
-pub fn span_of(ins: &Ins) -> Option<Span> {
-    match *ins {
-        Ins::Load { tag, off, n } => reached(tag, off, n),
-        Ins::Store { tag, off, n } => reached(tag, off, n),
         Ins::Clearn { tag, off, n } => reached(tag, off, n),
         Ins::Testn { tag, off, n } => reached(tag, off, n),
         Ins::Incn { tag, off, n } => reached(tag, off, n),
@@ -51,6 +55,6 @@ pub fn span_of(ins: &Ins) -> Option<Span> {
         Ins::Andn { tag, off, n } => reached(tag, off, n),
         Ins::Orn { tag, off, n } => reached(tag, off, n),
         Ins::Xorn { tag, off, n } => reached(tag, off, n),
-        _ => fixed_span(ins),
+        _ => None,
     }
 }

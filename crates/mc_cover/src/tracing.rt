@@ -1,11 +1,27 @@
 // The trace of a draft: the line of each turn of a section with its source line, its operand and its stack.
-ghost use Rattle.std.specs.Prelude.{◌≡◌, ◌≤◌, ◌+◌, ◌*◌, length, IfSome};
+ghost use Rattle.std.specs.Prelude.{◌≡◌, ◌≤◌, ◌+◌, ◌-◌, ◌*◌, ◌++◌, [], ℕ, None, Option, Some, codes, decimal, length, option_map, take, IfSome};
+ghost use Rattle.std.specs.List.{AllByRecursion};
 ghost use Rattle.arrayvec.specs.ArrayVec.{array_vec_len};
+ghost use Rattle.mc_model_device.specs.Device.{IsImage};
 ghost use Rattle.mc_model_machine.specs.Code.{Shaped};
-ghost use Rattle.mc_script.specs.Players.{IsPlaying, IsUnfused};
-ghost use Rattle.mc_cover.specs.Watching.{IsWatched};
+ghost use Rattle.mc_model_machine.specs.TurnText.{turn_line};
+ghost use Rattle.mc_model_play.specs.Play.{start};
+ghost use Rattle.mc_model_play.specs.ReadyAgain.{IsLine};
+ghost use Rattle.mc_model_play.specs.Transcript.{line_text};
+ghost use Rattle.mc_machine.specs.Turns.{turn_value};
+ghost use Rattle.mc_desk.specs.FullTurns.{last_bytes};
+ghost use Rattle.mc_desk.specs.Traces.{bytes_or_dash, trace_text};
+ghost use Rattle.mc_desk.specs.Verdicts.{source_line};
+ghost use Rattle.mc_text.specs.Texts.{sunk};
+ghost use Rattle.mc_script.specs.Players.{answer_value, IsPlaying, IsUnfused};
+ghost use Rattle.mc_script.specs.Plays.{PlaysDeck};
+ghost use Rattle.mc_script.specs.StepCounts.{CountsDeck, CountsFrom};
+ghost use Rattle.mc_script.specs.Writers.{write_result};
+ghost use Rattle.mc_cover.specs.Looking.{section_at};
+ghost use Rattle.mc_cover.specs.Tracing.{line_pair, line_value, state_part_of, traced_none, traced_on, turn_text, Adds, Traced};
+ghost use Rattle.mc_cover.specs.Watching.{Watches};
 
-use crate::looking::{After, Scene, after_turn, running_section, scene_of};
+use crate::looking::{After, after_turn, running_section, scene_of};
 use crate::running::{Watcher, run_watched};
 use crate::sections::Sections;
 use arrayvec::ArrayVec;
@@ -36,7 +52,8 @@ struct Tracer<'s, 'o, T: Sink> {
 fn add_bytes(text: &mut Text, bytes: &[u8])
     requires room { array_vec_len text.old + 1 ≤ 8211 }
     requires bytes { array_vec_len text.old + 2 * length bytes.now ≤ 8211 }
-    ensures { array_vec_len text.new ≤ array_vec_len text.old + 1 + 2 * length bytes.now }
+    ensures text { text.new.items ≡ text.old.items ++ bytes_or_dash bytes.now }
+    ensures short { array_vec_len text.new ≤ array_vec_len text.old + 1 + 2 * length bytes.now }
 {
     if bytes.is_empty() {
         add(text, b"-");
@@ -47,13 +64,32 @@ fn add_bytes(text: &mut Text, bytes: &[u8])
 
 // The last bytes of a stack.
 fn top_of(stack: &[u8]) -> &[u8]
-    ensures { length result.now ≤ 8 }
+    ensures value { result.now ≡ last_bytes 8 stack.now }
+    ensures short { length result.now ≤ 8 }
 {
     &stack[stack.len().saturating_sub(SHOWN)..]
 }
 
+// Gathers what comes before the text of a turn's source line: the line of the turn, and the number of the source line.
+fn gather_front(text: &mut Text, turn: &Turn, number: u32)
+    requires shaped { IfSome turn.now.ins Shaped }
+    requires low { 1 ≤ turn.now.depth }
+    requires high { turn.now.depth ≤ 4 }
+    ensures { (wrote : Option ℕ) → (let line = turn_line (turn_value turn.now wrote)
+        in text.new.items ≡ take (length line - 1) line ++ (codes " ; " ++ decimal number ++ codes " ")) }
+{
+    let line = line_of(turn);
+    text.clear();
+    add(text, &line.as_slice()[..line.len().saturating_sub(1)]);
+    add(text, b" ; ");
+    add_decimal(text, number);
+    add(text, b" ");
+}
+
 // Gathers what comes after the source line of a turn.
-fn gather_state(text: &mut Text, after: &After) {
+fn gather_state(text: &mut Text, after: &After)
+    ensures { text.new.items ≡ state_part_of after.now.operand.items after.now.stack.items ++ codes "\n" }
+{
     text.clear();
     add(text, b" ; ");
     add_bytes(text, after.operand.as_slice());
@@ -62,9 +98,47 @@ fn gather_state(text: &mut Text, after: &After) {
     add(text, b"\n");
 }
 
+// Gathers the line of a result: its number, a blank, the result and a line feed.
+fn gather_result<N: Bench>(text: &mut Text, number: u32, player: &Player<N>, answer: &Answer)
+    requires { IsPlaying N.state N.bench player.now }
+    ensures { text.new.items ≡ line_text number (Some (answer_value N.state player.now answer.now)) }
+{
+    text.clear();
+    add_decimal(text, number);
+    add(text, b" ");
+    add_result(text, player, answer);
+    add(text, b"\n");
+}
+
+// The line whose code has the byte at a place of the section with an index.
+fn line_at<'s>(sections: &Sections<'s>, section: Option<usize>, place: u16) -> Option<CodeLine<'s>>
+    ensures { option_map line_value result
+        ≡ option_map line_pair (source_line (section_at sections.now section) place) }
+{
+    match sections.all().get(section?) {
+        Some(section) => section.line_at(place),
+        None => None,
+    }
+}
+
+// The code of the section with an index.
+fn code_of<'s>(sections: &Sections<'s>, section: Option<usize>) -> Option<&'s [u8]>
+    ensures { option_map (λ c. c.now) result ≡ option_map (λ s. s.code) (section_at sections.now section) }
+{
+    match sections.all().get(section?) {
+        Some(section) => Some(section.code()),
+        None => None,
+    }
+}
+
 impl<'s, 'o, T: Sink> Tracer<'s, 'o, T> {
     // A tracer that has written nothing.
-    fn new(out: &'o mut T, sections: &'o Sections<'s>) -> Tracer<'s, 'o, T> {
+    fn new(out: &'o mut T, sections: &'o Sections<'s>) -> Tracer<'s, 'o, T>
+        ensures out { result.out.now ≡ out.old }
+        ensures same { result.out.ghost_name ≡ out.entry.ghost_name }
+        ensures fault { result.fault ≡ None }
+        ensures sections { result.sections.now ≡ sections.now }
+    {
         Tracer {
             out,
             fault: None,
@@ -74,87 +148,67 @@ impl<'s, 'o, T: Sink> Tracer<'s, 'o, T> {
     }
 
     // Writes a text, unless the sink failed before.
-    fn write(&mut self, text: &[u8]) {
+    fn write(&mut self, text: &[u8])
+        ensures { Adds T.taken T.faults self.old text.now self.new }
+    {
         if self.fault.is_none() {
             self.fault = put(self.out, text).err();
         }
     }
 
     // Writes what was gathered.
-    fn write_gathered(&mut self) {
+    fn write_gathered(&mut self)
+        ensures { Adds T.taken T.faults self.old self.old.text.items self.new }
+    {
         if self.fault.is_none() {
             self.fault = put(self.out, self.text.as_slice()).err();
         }
     }
 
-    // What is kept of the running frame before a turn that runs a section.
-    fn scene_before<N: Nvm>(&self, card: &Card<N>, section: Option<usize>) -> Option<Scene> {
-        let section = self.sections.all().get(section?)?;
-        let chain = card.chain()?;
-        Some(scene_of(chain.running(), section.code()))
-    }
-
-    // The source line of a turn.
-    fn line_of_turn(&self, section: Option<usize>, turn: &Turn) -> Option<CodeLine<'s>> {
-        let section = self.sections.all().get(section?)?;
-        section.line_at(turn.at)
-    }
-
     // Writes the line of a turn with its source line, its operand and its stack.
-    fn put_turn<N: Nvm>(
-        &mut self,
-        card: &Card<N>,
-        turn: &Turn,
-        line: CodeLine<'s>,
-        scene: &Option<Scene>,
-    )
-        requires watched { IsWatched N.state card.now }
+    fn put_turn(&mut self, turn: &Turn, line: &CodeLine<'s>, after: &After)
         requires shaped { IfSome turn.now.ins Shaped }
         requires low { 1 ≤ turn.now.depth }
         requires high { turn.now.depth ≤ 4 }
+        ensures { (wrote : Option ℕ) → Adds T.taken T.faults self.old (turn_text (turn_value turn.now wrote)
+            (line_value line.now) after.now.operand.items after.now.stack.items) self.new }
     {
-        let front = line_of(turn);
-        self.text.clear();
-        add(
-            &mut self.text,
-            &front.as_slice()[..front.len().saturating_sub(1)],
-        );
-        add(&mut self.text, b" ; ");
-        add_decimal(&mut self.text, line.number);
-        add(&mut self.text, b" ");
+        gather_front(&mut self.text, turn, line.number);
         self.write_gathered();
         self.write(line.text);
-        if let Some(scene) = scene {
-            let mut after = after_turn(card, scene, turn.dt);
-            if let Some(Outcome::Abend(_)) = turn.end {
-                after.operand.clear();
-            }
-            gather_state(&mut self.text, &after);
-        }
+        gather_state(&mut self.text, after);
         self.write_gathered();
     }
 
     // Writes the result of a line, if it has one.
-    fn put_result<N: Bench>(&mut self, number: u32, player: &Player<N>, answer: &Option<Answer>)
+    fn report<N: Bench>(&mut self, number: u32, player: &Player<N>, answer: &Option<Answer>)
         requires { IsPlaying N.state N.bench player.now }
+        ensures { Adds T.taken T.faults self.old
+            (line_text number (option_map (answer_value N.state player.now) answer.now)) self.new }
     {
         if let Some(answer) = answer {
-            self.text.clear();
-            add_decimal(&mut self.text, number);
-            add(&mut self.text, b" ");
-            add_result(&mut self.text, player, answer);
-            add(&mut self.text, b"\n");
+            gather_result(&mut self.text, number, player, answer);
             self.write_gathered();
+        }
+    }
+
+    // Returns `Ok` if all was written, or else the fault of the sink.
+    fn ended(&self) -> Result<(), WriteFault>
+        ensures { result ≡ write_result self.now.fault }
+    {
+        match self.fault {
+            None => Ok(()),
+            Some(fault) => Err(fault),
         }
     }
 }
 
 impl<'s, 'o, T: Sink> Watcher for Tracer<'s, 'o, T> {
-    ghost watched = { λ q ts r. Unit {0} };
+    ghost watched = { Traced T.taken T.faults };
 
-    ghost silent = { λ r. tt };
+    ghost silent = { traced_none T.taken T.faults };
 
-    ghost onward = { λ q r s ts us first rest. tt };
+    ghost onward = { traced_on T.taken T.faults };
 
     fn turn<N: Nvm, L: Ledger>(
         &mut self,
@@ -162,10 +216,13 @@ impl<'s, 'o, T: Sink> Watcher for Tracer<'s, 'o, T> {
         steps: &mut Steps<L>,
     ) -> Result<Turn, Stop> {
         let section = running_section(card, self.sections);
-        let scene = self.scene_before(card, section);
+        let scene = scene_of(card, code_of(self.sections, section));
         let turn = card.turn(steps)?;
-        match self.line_of_turn(section, &turn) {
-            Some(line) => self.put_turn(card, &turn, line, &scene),
+        match line_at(self.sections, section, turn.at) {
+            Some(line) => {
+                let after = after_turn(card, &scene, turn.dt);
+                self.put_turn(&turn, &line, &after);
+            }
             None => self.write(line_of(&turn).as_slice()),
         }
         Ok(turn)
@@ -173,11 +230,11 @@ impl<'s, 'o, T: Sink> Watcher for Tracer<'s, 'o, T> {
 }
 
 impl<'s, 'o, T: Sink> Runner for Tracer<'s, 'o, T> {
-    ghost reported = { λ c q ts r. Unit {0} };
+    ghost reported = { Watches (Traced T.taken T.faults) };
 
-    ghost silent = { λ c r. tt };
+    ghost silent = { λ c. traced_none T.taken T.faults };
 
-    ghost onward = { λ c d q r s first rest. tt };
+    ghost onward = { λ c d q r s. traced_on T.taken T.faults q r s [] [] };
 
     fn run<N: Nvm, L: Ledger>(
         &mut self,
@@ -192,20 +249,31 @@ impl<'s, 'o, T: Sink> Runner for Tracer<'s, 'o, T> {
 }
 
 // Plays a deck on a device before a tracer, up to the first line whose text is not wholly written.
-fn trace_lines<N: Bench, T: Sink, L: Ledger>(
+fn play_lines<N: Bench, T: Sink, L: Ledger>(
     deck: &Deck,
     device: N,
     tracer: &mut Tracer<'_, '_, T>,
     steps: &mut Steps<L>,
 ) -> N
-    requires { IsUnfused (N.bench device) }
+    requires fuses { IsUnfused (N.bench device) }
+    requires fault { tracer.old.fault ≡ None }
+    ensures plays { CountsFrom (trace_text tracer.old.sections.now) (start (N.state device).words) deck.now
+        (record { device = N.state device; bench = N.bench device }) (sunk T.Sink tracer.old.out.now)
+        (write_result tracer.new.fault) (record { device = N.state result; bench = N.bench result })
+        (sunk T.Sink tracer.new.out.now) steps.old steps.new }
+    ensures image { IsImage (N.state device).words }
+    ensures lines { AllByRecursion (λ l. IsLine l.1) deck.now }
+    ensures keeps_device { N.same device result }
+    ensures same { tracer.new.out.ghost_name ≡ tracer.old.out.ghost_name }
 {
+    let _words = device.len();
+    let _lines = deck.len();
     let mut player = Player::new(device);
     for i in 0..deck.len() {
         let (number, line) = deck.line(i);
         let answer = player.line(&line, tracer, steps);
-        tracer.put_result(number, &player, &answer);
-        if tracer.fault.is_some() {
+        tracer.report(number, &player, &answer);
+        if tracer.ended().is_err() {
             return player.into_dev();
         }
     }
@@ -230,11 +298,19 @@ pub fn trace<N: Bench, T: Sink, L: Ledger>(
     steps: &mut Steps<L>,
 ) -> Result<(), WriteFault>
     requires { IsUnfused (N.bench dev.old) }
+    // The lines are played in order, up to the first whose text is not wholly written. The words, the power, the calls
+    // and the tape of the device are those of the lines, one by one and in sum, and what is written is their trace
+    // under the sections of the draft.
+    ensures plays { PlaysDeck (trace_text sections.now) deck.now
+        (record { device = N.state dev.old; bench = N.bench dev.old }) (sunk T.Sink out.old) result
+        (record { device = N.state dev.new; bench = N.bench dev.new }) (sunk T.Sink out.new) }
+    // Each executed instruction is one step, and the search of an OPEN for room takes at most two more than the card
+    // has gaps. A line that a stop hits makes no more steps than the whole line.
+    ensures steps { CountsDeck (trace_text sections.now) deck.now
+        (record { device = N.state dev.old; bench = N.bench dev.old }) (sunk T.Sink out.old) result
+        (record { device = N.state dev.new; bench = N.bench dev.new }) (sunk T.Sink out.new) steps.old steps.new }
 {
     let mut tracer = Tracer::new(&mut *out, sections);
-    let _dev = trace_lines(deck, &mut *dev, &mut tracer, steps);
-    match tracer.fault {
-        None => Ok(()),
-        Some(fault) => Err(fault),
-    }
+    let _dev = play_lines(deck, &mut *dev, &mut tracer, steps);
+    tracer.ended()
 }

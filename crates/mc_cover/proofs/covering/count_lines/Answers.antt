@@ -2,8 +2,6 @@ use Rattle.std.proofs.Common.{ℕ, ◌+◌, List, ◌≤◌, drop, length, sym, 
 use Rattle.mc_model_play.specs.DeckGrammar.{DeckLine}
 use Rattle.mc_model_play.specs.Play.{start}
 use Rattle.mc_deck.specs.Lines.{line_of}
-use Rattle.mc_script.specs.Lines.{bench_of}
-use Rattle.mc_script.specs.Players.{device_of}
 use Rattle.mc_script.specs.Plays.{Bench}
 use Rattle.mc_script.proofs.DeckLemmas.{next_line, no_line}
 use Rattle.mc_cover.specs.Plays.{CountsPlay}

@@ -8,8 +8,8 @@ use Rattle.mc_cover.specs.Records.{record_text}
 use Rattle.mc_cover.proofs.CoverLemmas.{covers_deck}
 use Rattle.mc_cover.proofs.covering.cover.Goals as goal
 
-pub returns-in-Ok-put_record : goal.returns-in-Ok-put_record
-returns-in-Ok-put_record g c =
+pub returns-in-Ok-put_record-clause-covers : goal.returns-in-Ok-put_record-clause-covers
+returns-in-Ok-put_record-clause-covers g c =
     let name = c.args.name.now in
     let a : Bench = record { device = g.N.Nvm.state c.args.dev.now; bench = g.N.Bench.bench c.args.dev.now } in
     let x = sunk g.T.Sink c.args.out.now in
@@ -18,13 +18,10 @@ returns-in-Ok-put_record g c =
     subst (λ (ls : List LineCount). Puts x (record_text name ls) (Ok tt) y) c.as_slice.ensures.value
     (subst (λ (r : Result (Unit {0}) WriteFault). Puts x (record_text name c.as_slice.result.now) r y) c.in-Ok-put_record.is c.put_record.ensures)
     in
-    record {
-      covers =
-          covers_deck name c.args.sections.now c.args.deck.now a x (Ok tt) _ _ y y _ c.count_lines-dev.new.counter c.args.steps.now c.count_lines-dev.new.steps (c.in-Ok.ensures ∙ ap (new_lines 0) c.all.ensures) refl c.count_lines-dev.ensures.counts puts c.count_lines-dev.ensures.image c.count_lines-dev.ensures.lines (search rules) (search rules) refl refl;
-    }
+    covers_deck name c.args.sections.now c.args.deck.now a x (Ok tt) _ _ y y _ c.count_lines-dev.new.counter c.args.steps.now c.count_lines-dev.new.steps (c.in-Ok.ensures ∙ ap (new_lines 0) c.all.ensures) refl c.count_lines-dev.ensures.counts puts c.count_lines-dev.ensures.image c.count_lines-dev.ensures.lines (search rules) (search rules) refl refl
 
-pub returns : goal.returns
-returns g c =
+pub returns-clause-covers : goal.returns-clause-covers
+returns-clause-covers g c =
     let name = c.args.name.now in
     let a : Bench = record { device = g.N.Nvm.state c.args.dev.now; bench = g.N.Bench.bench c.args.dev.now } in
     let x = sunk g.T.Sink c.args.out.now in
@@ -33,10 +30,7 @@ returns g c =
     let puts =
     subst (λ (ls : List LineCount). Puts x (record_text name ls) (Err e) y) c.as_slice.ensures.value
     (subst (λ (r : Result (Unit {0}) WriteFault). Puts x (record_text name c.as_slice.result.now) r y) c.in-Err.is c.put_record.ensures)
-    in
-    record {
-      covers = (
-        e,
-        covers_deck name c.args.sections.now c.args.deck.now a x (Err e) _ _ y y _ c.count_lines-dev.new.counter c.args.steps.now c.count_lines-dev.new.steps (c.in-Ok.ensures ∙ ap (new_lines 0) c.all.ensures) refl c.count_lines-dev.ensures.counts puts c.count_lines-dev.ensures.image c.count_lines-dev.ensures.lines (search rules) (search rules) refl refl,
-      );
-    }
+    in (
+      e,
+      covers_deck name c.args.sections.now c.args.deck.now a x (Err e) _ _ y y _ c.count_lines-dev.new.counter c.args.steps.now c.count_lines-dev.new.steps (c.in-Ok.ensures ∙ ap (new_lines 0) c.all.ensures) refl c.count_lines-dev.ensures.counts puts c.count_lines-dev.ensures.image c.count_lines-dev.ensures.lines (search rules) (search rules) refl refl,
+    )

@@ -2,7 +2,7 @@ use Rattle.std.proofs.Common.{◌≡◌, ◌≤◌, ◌++◌, ℕ, List, length,
 use Rattle.std.specs.Prelude.{map}
 use Rattle.mc_desk.specs.declared.source.CodeLine.{CodeLine}
 use Rattle.mc_cover.specs.Counting.{new_line}
-use Rattle.mc_cover.specs.Sections.{code_line_value}
+use Rattle.mc_desk.specs.Sources.{code_line_value}
 use Rattle.mc_cover.proofs.ListLemmas.{grown_end, map_twice}
 use Rattle.mc_cover.proofs.covering.push_lines.Goals as goal
 

@@ -1,7 +1,7 @@
 use Rattle.std.proofs.Common.{◌≡◌, ◌++◌, drop}
 use Rattle.std.specs.Prelude.{map}
 use Rattle.mc_cover.specs.Counting.{new_line}
-use Rattle.mc_cover.specs.Sections.{code_line_value}
+use Rattle.mc_desk.specs.Sources.{code_line_value}
 use Rattle.mc_cover.proofs.covering.push_lines.Given as goal
 
 -- the lines that are left, added from here, are all lines added from the start

@@ -1,4 +1,3 @@
-use Rattle.std.proofs.Common.{◌++◌, ◌-◌, codes, length}
 use Rattle.mc_text.proofs.TextLemmas.{puts_failed, puts_then, fails_before}
 use Rattle.mc_cover.specs.Records.{lines_text, branches_text}
 use Rattle.mc_cover.proofs.lcov.put_body.Goals as goal

@@ -1,6 +1,5 @@
-use Rattle.std.proofs.Common.{◌++◌, ◌-◌, codes, length}
+use Rattle.std.proofs.Common.{◌++◌, codes}
 use Rattle.mc_text.proofs.TextLemmas.{puts_failed, puts_then, fails_before}
-use Rattle.mc_cover.specs.Records.{way_text}
 use Rattle.mc_cover.proofs.lcov.put_head.Goals as goal
 
 pub returns-in_err-put : goal.returns-in_err-put

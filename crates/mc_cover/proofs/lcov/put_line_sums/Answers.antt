@@ -1,4 +1,4 @@
-use Rattle.std.proofs.Common.{◌++◌, ◌-◌, codes, length}
+use Rattle.std.proofs.Common.{codes, length}
 use Rattle.mc_text.proofs.TextLemmas.{puts_failed, puts_then, fails_before}
 use Rattle.mc_cover.specs.Records.{number_text, count_run}
 use Rattle.mc_cover.proofs.lcov.put_line_sums.Goals as goal

@@ -1,4 +1,4 @@
-use Rattle.std.proofs.Common.{◌++◌, ◌-◌, codes, length}
+use Rattle.std.proofs.Common.{◌++◌}
 use Rattle.mc_text.proofs.TextLemmas.{puts_failed, puts_then, fails_before}
 use Rattle.mc_cover.specs.Records.{lines_text, branches_text, end_text}
 use Rattle.mc_cover.proofs.lcov.put_rest.Goals as goal

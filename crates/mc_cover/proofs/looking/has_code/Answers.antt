@@ -1,4 +1,4 @@
-use Rattle.std.proofs.Common.{◌≡◌, ◌+◌, ◌≤◌, length, take, drop, sym, arith, rules}
+use Rattle.std.proofs.Common.{◌≡◌, ◌≤◌, length, take, drop, sym, arith, rules}
 use Rattle.mc_bank.specs.Bank.{app_of}
 use Rattle.mc_cover.proofs.ListLemmas.{alike_more, alike_whole}
 use Rattle.mc_cover.proofs.looking.has_code.Goals as goal

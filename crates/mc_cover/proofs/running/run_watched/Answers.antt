@@ -1,4 +1,4 @@
-use Rattle.std.proofs.Common.{◌≡◌, ℕ, ◌-◌, ◌+◌, false, Option, None, Ok, Err, arith, ap, subst}
+use Rattle.std.proofs.Common.{◌≡◌, ℕ, ◌-◌, ◌+◌, false, Option, Ok, Err, arith, ap, subst}
 use Rattle.std.specs.Prelude.{is_err}
 use Rattle.std.proofs.lemmas.Result.{err_from_is_err_and}
 use Rattle.mc_machine.specs.declared.outcome.Outcome.{Outcome}

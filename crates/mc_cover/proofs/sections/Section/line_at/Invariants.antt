@@ -1,7 +1,7 @@
 use Rattle.std.proofs.Common.{◌≡◌, drop}
 use Rattle.std.specs.Prelude.{map}
 use Rattle.mc_desk.specs.Listings.{line_at}
-use Rattle.mc_cover.specs.Sections.{code_line_value}
+use Rattle.mc_desk.specs.Sources.{code_line_value}
 use Rattle.mc_cover.proofs.sections.Section.line_at.Given as goal
 
 -- the line among those that are left is the one among all lines

@@ -1,6 +1,6 @@
 use Rattle.std.proofs.Common.{◌≡◌, ◌++◌, drop}
 use Rattle.std.specs.Prelude.{map}
-use Rattle.mc_cover.specs.Sections.{source_value}
+use Rattle.mc_desk.specs.Sources.{source_value}
 use Rattle.mc_cover.proofs.sections.Sections.new.Given as goal
 
 -- the sections that are left, added from here, are all sections
