@@ -1,2 +1,6 @@
 pub mod Jobs
 pub mod Checks
+pub mod Verdicts
+pub mod Plays
+pub mod Statuses
+pub mod Running

@@ -4,6 +4,7 @@
 
 mod checking;
 mod job;
+mod playing;
 #[cfg(test)]
 mod purse;
 mod running;

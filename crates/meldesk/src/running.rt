@@ -1,13 +1,27 @@
 // The top call: a job over a source, a sink and a device.
-ghost use Rattle.std.specs.Prelude.{◌≡◌};
+ghost use Rattle.std.specs.Prelude.{◌≡◌, ◌≤◌, false, IfErr, IfOk, MatchResult, Ok, Some};
 ghost use Rattle.mc_script.specs.Players.{IsUnfused};
+ghost use Rattle.mc_text.specs.Texts.{sunk};
+ghost use Rattle.mc_filter.specs.declared.status.Status.{Status};
+ghost use Rattle.mc_filter.specs.declared.status.Status.TheVariants as status;
+ghost use Rattle.mc_filter.specs.Inputs.{Rejects};
+ghost use Rattle.mc_filter.specs.Outside.{outside};
+ghost use Rattle.mc_filter.specs.Statuses.{number_of, RejectionEnds};
+ghost use Rattle.mc_desk.specs.Drafts.{deck_of, draft_read};
+ghost use Rattle.mc_desk.specs.Listings.{desk_read, draft_listing};
+ghost use Rattle.mc_desk.specs.Loads.{desk_value};
+ghost use Rattle.mc_desk.specs.Written.{draft_value};
+ghost use Rattle.meldesk.specs.Jobs.{job_of, job_value, Makes};
+ghost use Rattle.meldesk.specs.Running.{refused_desk, refused_draft, RejectsAs, RejectsText, WritesDraft};
+ghost use Rattle.meldesk.specs.Statuses.{desk_outside, MeldeskCompletes, MeldeskSays, TextSays};
+ghost use Rattle.meldesk.specs.Verdicts.{has_long_deck, of_listing, of_text, IsCheckOf, IsTextOf, Whole};
 
 use crate::checking::verdicts_of;
-use crate::job::{Job, Play, Text, job_of};
+use crate::job::{Job, Text, job_of};
+use crate::playing::show;
 use mc_base::{Sink, Source, Steps, put_all};
-use mc_cover::{CoverFault, Sections, cover, trace};
-use mc_deck::{Deck, DeckRefusal};
-use mc_desk::{Draft, Loads, Source as Section, listing_of, read_draft, sources_of};
+use mc_deck::DeckRefusal;
+use mc_desk::{Desk, Draft, Loads, listing_of, read_draft, sources_of};
 use mc_filter::{
     INPUT_LIMIT, Rejection, Status, deck_of, ended, number, read_input, refused, reject, too_long,
 };
@@ -18,16 +32,11 @@ use std::sync::ledger::Ledger;
 // The text that is written if the words select no job.
 const USAGE: &[u8] = b"usage: meldesk deck | list | check | trace | cover NAME\n";
 
-// A draft whose deck was read: the text of its deck, its sections with their code, and its deck.
-#[derive(Drop)]
-struct Desk<'a> {
-    text: Vec<u8>,
-    sections: Vec<Section<'a>>,
-    deck: Deck,
-}
-
 // Reads a draft, or returns the line that refuses it.
-fn draft_of(alloc: Global, text: &[u8]) -> Result<Draft<'_>, Rejection> {
+fn draft_of(alloc: Global, text: &[u8]) -> Result<Draft<'_>, Rejection>
+    ensures draft { IfOk result (λ d. draft_read text.now ≡ Ok (draft_value d)) }
+    ensures rejected { IfErr result (Rejects (refused_draft (draft_read text.now))) }
+{
     match read_draft(alloc, text) {
         Ok(draft) => Ok(draft),
         Err(DeckRefusal::At(number, cause)) => Err(refused(alloc, "line", number, cause.word())),
@@ -35,9 +44,16 @@ fn draft_of(alloc: Global, text: &[u8]) -> Result<Draft<'_>, Rejection> {
     }
 }
 
-// Reads a draft and its deck, or returns the line that refuses the one or the other. A deck is an input, too, and
-// has its limit.
-fn desk_of(alloc: Global, text: &[u8]) -> Result<Desk<'_>, Rejection> {
+/// Reads a draft and its deck. A deck is an input, too, and has its limit.
+///
+/// # Errors
+///
+/// Returns the line that refuses the draft, or else its deck, or `NoMemory` if out of memory.
+pub fn desk_of(alloc: Global, text: &[u8]) -> Result<Desk<'_>, Rejection>
+    ensures desk { IfOk result (λ d. desk_read text.now ≡ Ok (desk_value d)) }
+    ensures short { IfOk result (λ d. has_long_deck text.now ≡ false) }
+    ensures rejected { IfErr result (Rejects (refused_desk (has_long_deck text.now) (desk_read text.now))) }
+{
     let Draft {
         deck: text,
         sections,
@@ -46,106 +62,132 @@ fn desk_of(alloc: Global, text: &[u8]) -> Result<Desk<'_>, Rejection> {
         return Err(too_long(alloc));
     }
     let deck = deck_of(alloc, text.as_slice())?;
-    let sections = sources_of(alloc, text.as_slice(), sections.as_slice())?;
+    let sources = sources_of(alloc, text.as_slice(), sections.as_slice())?;
     Ok(Desk {
         text,
-        sections,
+        sources,
         deck,
     })
 }
 
-// The text of a draft.
-fn text_of(alloc: Global, text: Text, draft: &[u8]) -> Result<Vec<u8>, Rejection> {
-    match text {
-        Text::Deck => Ok(draft_of(alloc, draft)?.deck),
-        Text::Listing => {
-            let desk = desk_of(alloc, draft)?;
-            Ok(listing_of(alloc, desk.sections.as_slice())?)
-        }
-        Text::Verdicts => {
-            let desk = desk_of(alloc, draft)?;
-            let loads = Loads::new(alloc, desk.text.as_slice(), desk.sections.as_slice())?;
-            Ok(verdicts_of(alloc, &loads, &desk.deck)?)
-        }
-    }
-}
-
-// Plays a deck with the sections of its draft, and writes what a job shows of the play.
-fn play_sections<T: Sink, N: Bench, L: Ledger>(
-    alloc: Global,
-    play: Play<'_>,
-    sections: &Sections<'_>,
-    deck: &Deck,
-    out: &mut T,
-    dev: &mut N,
-    steps: &mut Steps<L>,
-) -> Result<Status, Rejection>
-    requires { IsUnfused (N.bench dev.old) }
+// The deck of a draft.
+fn deck_text(alloc: Global, draft: &[u8]) -> Result<Vec<u8>, Rejection>
+    ensures { MatchResult result (λ t. Whole t.items ≡ of_text (deck_of draft.now))
+        (RejectsAs (λ v. v ≡ of_text (deck_of draft.now))) }
 {
-    match play {
-        Play::Trace => Ok(ended(Status::Done, trace(sections, deck, dev, out, steps))),
-        Play::Cover(name) => match cover(alloc, name, sections, deck, dev, out, steps) {
-            Ok(()) => Ok(Status::Done),
-            Err(CoverFault::WriteFault) => Ok(Status::WriteFault),
-            Err(CoverFault::NoMemory) => Err(Rejection::NoMemory),
-        },
-    }
+    let Draft { deck, .. } = draft_of(alloc, draft)?;
+    Ok(deck)
 }
 
-// Plays the deck of a draft with its sections.
-fn play_desk<T: Sink, N: Bench, L: Ledger>(
-    alloc: Global,
-    play: Play<'_>,
-    desk: &Desk<'_>,
-    out: &mut T,
-    dev: &mut N,
-    steps: &mut Steps<L>,
-) -> Result<Status, Rejection>
-    requires { IsUnfused (N.bench dev.old) }
-{
-    let sections = Sections::new(alloc, desk.sections.as_slice())?;
-    play_sections(alloc, play, &sections, &desk.deck, out, dev, steps)
-}
-
-// Plays the deck of a draft, and writes what a job shows of the play.
-fn play_draft<T: Sink, N: Bench, L: Ledger>(
-    alloc: Global,
-    play: Play<'_>,
-    draft: &[u8],
-    out: &mut T,
-    dev: &mut N,
-    steps: &mut Steps<L>,
-) -> Result<Status, Rejection>
-    requires { IsUnfused (N.bench dev.old) }
+// The listing of a draft.
+fn listing_text(alloc: Global, draft: &[u8]) -> Result<Vec<u8>, Rejection>
+    ensures { MatchResult result
+        (λ t. Whole t.items ≡ of_listing (has_long_deck draft.now) (draft_listing draft.now))
+        (RejectsAs (λ v. v ≡ of_listing (has_long_deck draft.now) (draft_listing draft.now))) }
 {
     let desk = desk_of(alloc, draft)?;
-    play_desk(alloc, play, &desk, out, dev, steps)
+    Ok(listing_of(alloc, desk.sources.as_slice())?)
 }
 
-// Does a job, unless it is rejected.
-fn attempt<S: Source, T: Sink, N: Bench, L: Ledger>(
+// The stack checker's verdicts on a draft.
+fn verdicts_text(alloc: Global, draft: &[u8]) -> Result<Vec<u8>, Rejection>
+    ensures { MatchResult result (λ t. IsCheckOf (has_long_deck draft.now) (desk_read draft.now) (Whole t.items))
+        (RejectsAs (IsCheckOf (has_long_deck draft.now) (desk_read draft.now))) }
+{
+    let desk = desk_of(alloc, draft)?;
+    let loads = Loads::new(alloc, desk.text.as_slice(), desk.sources.as_slice())?;
+    Ok(verdicts_of(alloc, &loads, &desk.deck)?)
+}
+
+// The text of a draft.
+fn text_of(alloc: Global, text: Text, draft: &[u8]) -> Result<Vec<u8>, Rejection>
+    ensures { MatchResult result (λ t. IsTextOf text draft.now (Whole t.items)) (RejectsAs (IsTextOf text draft.now)) }
+{
+    match text {
+        Text::Deck => deck_text(alloc, draft),
+        Text::Listing => listing_text(alloc, draft),
+        Text::Verdicts => verdicts_text(alloc, draft),
+    }
+}
+
+// Writes the text of a draft that is read.
+fn write<S: Source, T: Sink>(
+    alloc: Global,
+    text: Text,
+    input: &mut S,
+    out: &mut T,
+) -> Result<Status, Rejection>
+    ensures done { IfOk result
+        (λ s. WritesDraft text s (outside S.Source T.Sink input.old input.new out.old out.new)) }
+    ensures rejected { IfErr result
+        (RejectsText text (outside S.Source T.Sink input.old input.new out.old out.new)) }
+    ensures out { IfErr result (λ e. sunk T.Sink out.new ≡ sunk T.Sink out.old) }
+{
+    let draft = read_input(alloc, input)?;
+    let text = text_of(alloc, text, draft.as_slice())?;
+    Ok(ended(Status::Done, put_all(out, text.as_slice())))
+}
+
+/// Returns the status of a job after its end. A job that is rejected writes the line of its refusal, and nothing for
+/// another cause.
+pub fn end<T: Sink>(out: &mut T, done: Result<Status, Rejection>) -> Status
+    ensures done { IfOk done (λ s. (result ≡ s) × (sunk T.Sink out.new ≡ sunk T.Sink out.old)) }
+    ensures rejected { IfErr done (λ e. RejectionEnds e (sunk T.Sink out.old) result (sunk T.Sink out.new)) }
+{
+    match done {
+        Ok(status) => status,
+        Err(rejection) => reject(out, &rejection),
+    }
+}
+
+// Makes a text of a draft that is read, and returns its status.
+fn make<S: Source, T: Sink>(alloc: Global, text: Text, input: &mut S, out: &mut T) -> Status
+    ensures { TextSays result text (outside S.Source T.Sink input.old input.new out.old out.new) }
+{
+    let done = write(alloc, text, input, out);
+    end(out, done)
+}
+
+// Does a job.
+fn run<S: Source, T: Sink, N: Bench, L: Ledger>(
     alloc: Global,
     job: Job<'_>,
     input: &mut S,
     out: &mut T,
     dev: &mut N,
     steps: &mut Steps<L>,
-) -> Result<Status, Rejection>
+) -> Status
     requires { IsUnfused (N.bench dev.old) }
+    ensures { MeldeskSays (dev.new ≡ dev.old) result (Some (job_value job.entry))
+        (desk_outside S.Source T.Sink N.Bench input.old input.new out.old out.new dev.old dev.new) }
 {
-    let draft = read_input(alloc, input)?;
     match job {
-        Job::Write(text) => {
-            let text = text_of(alloc, text, draft.as_slice())?;
-            Ok(ended(Status::Done, put_all(out, text.as_slice())))
-        }
-        Job::Play(play) => play_draft(alloc, play, draft.as_slice(), out, dev, steps),
+        Job::Write(text) => make(alloc, text, input, out),
+        Job::Play(play) => show(alloc, play, input, out, dev, steps),
     }
 }
 
+// Does the job that the words select, or writes the usage line, and returns its status.
+fn run_words<S: Source, T: Sink, N: Bench, L: Ledger>(
+    alloc: Global,
+    words: &[String],
+    input: &mut S,
+    out: &mut T,
+    dev: &mut N,
+    steps: &mut Steps<L>,
+) -> Status
+    requires { IsUnfused (N.bench dev.old) }
+    ensures { MeldeskSays (dev.new ≡ dev.old) result (job_of words.now)
+        (desk_outside S.Source T.Sink N.Bench input.old input.new out.old out.new dev.old dev.new) }
+{
+    let Some(job) = job_of(words) else {
+        return ended(Status::NoForm, put_all(out, USAGE));
+    };
+    run(alloc, job, input, out, dev, steps)
+}
+
 /// Does the job that the words select, over a source, a sink and a device without an armed stop, and returns
-/// its status: 0 done, 1 the draft or its deck is refused, 2 the words select no job, 3 a fault of the source, 4 a
-/// fault of the sink, 5 out of memory.
+/// its status.
 pub fn meldesk<S: Source, T: Sink, N: Bench, L: Ledger>(
     alloc: Global,
     words: &[String],
@@ -155,12 +197,29 @@ pub fn meldesk<S: Source, T: Sink, N: Bench, L: Ledger>(
     steps: &mut Steps<L>,
 ) -> u8
     requires { IsUnfused (N.bench dev.old) }
+    // 0: the draft was read to its end, the job is done, and all its text was written.
+    ensures done { result ≡ 0 → MeldeskSays (dev.new ≡ dev.old) status.Done (job_of words.now)
+        (desk_outside S.Source T.Sink N.Bench input.old input.new out.old out.new dev.old dev.new) }
+    // 1: the draft or its deck is refused, the line that says why was written, and the device is unchanged.
+    ensures refused { result ≡ 1 → MeldeskSays (dev.new ≡ dev.old) status.Failed (job_of words.now)
+        (desk_outside S.Source T.Sink N.Bench input.old input.new out.old out.new dev.old dev.new) }
+    // 2: the words select no job, the usage line was written, and source and device are unchanged.
+    ensures no_job { result ≡ 2 → MeldeskSays (dev.new ≡ dev.old) status.NoForm (job_of words.now)
+        (desk_outside S.Source T.Sink N.Bench input.old input.new out.old out.new dev.old dev.new) }
+    // 3: one call of the source failed, nothing was written, and the device is unchanged.
+    ensures read_fault { result ≡ 3 → MeldeskSays (dev.new ≡ dev.old) status.ReadFault (job_of words.now)
+        (desk_outside S.Source T.Sink N.Bench input.old input.new out.old out.new dev.old dev.new) }
+    // 4: a call of the sink failed, and a front of the text that is due was written.
+    ensures write_fault { result ≡ 4 → MeldeskSays (dev.new ≡ dev.old) status.WriteFault (job_of words.now)
+        (desk_outside S.Source T.Sink N.Bench input.old input.new out.old out.new dev.old dev.new) }
+    // 5: out of memory before the first byte was written, and the device is unchanged.
+    ensures memory { result ≡ 5 → MeldeskSays (dev.new ≡ dev.old) status.NoMemory (job_of words.now)
+        (desk_outside S.Source T.Sink N.Bench input.old input.new out.old out.new dev.old dev.new) }
+    // There is no other status.
+    ensures statuses { result ≤ 5 }
+    // If no call of source and sink fails, all that is due for the draft is done, or the status is 5.
+    ensures complete { (s : Status) → result ≡ number_of s → MeldeskCompletes (dev.new ≡ dev.old) s (job_of words.now)
+        (desk_outside S.Source T.Sink N.Bench input.old input.new out.old out.new dev.old dev.new) }
 {
-    let Some(job) = job_of(words) else {
-        return number(ended(Status::NoForm, put_all(out, USAGE)));
-    };
-    match attempt(alloc, job, input, out, dev, steps) {
-        Ok(status) => number(status),
-        Err(rejection) => number(reject(out, &rejection)),
-    }
+    number(run_words(alloc, words, input, out, dev, steps))
 }

@@ -1,0 +1,122 @@
+-- The text of a draft, and the line that refuses it.
+use Rattle.std.proofs.Common.{◌≡◌, ◌≤◌, ◌<◌, ℕ, Bool, true, false, nat_lt, List, length, Result, Ok, Err, refl, ap, sym, subst, ◌∙◌, arith}
+use Rattle.mc_model_machine.specs.Text.{◌>>=◌, ok_as}
+use Rattle.mc_model_play.specs.DeckGrammar.{DeckLine, deck_read}
+use Rattle.mc_model_play.specs.declared.deck.DeckCause.{DeckCause}
+use Rattle.mc_filter.specs.Inputs.{input_limit, refused_deck, Rejects}
+use Rattle.mc_filter.specs.Lines.{too_long}
+use Rattle.mc_filter.specs.declared.rejection.Rejection.{Rejection}
+use Rattle.mc_filter.specs.declared.rejection.Rejection.TheVariants as rejection
+use Rattle.mc_desk.specs.Drafts.{Draft, deck_of, draft_read}
+use Rattle.mc_desk.specs.Listings.{Desk, desk_read, draft_listing, listing_of, sources_of}
+use Rattle.mc_desk.proofs.DeskLemmas as desk
+use Rattle.meldesk.specs.Checks.{ShowsVerdicts}
+use Rattle.meldesk.specs.Running.{refused_desk, refused_draft, RejectsAs}
+use Rattle.meldesk.specs.Verdicts.{has_long_deck, is_long, of_listing, of_text, IsCheckOf, JobVerdict, Refusal, Whole}
+
+-- ---- lines
+
+-- a rejection by one line is one by another, if the one line is due only where the other is
+rejects_as : (P Q : List ℕ → Type 0) (e : Rejection) → ((line : List ℕ) → P line → Q line) → Rejects P e → Rejects Q e
+rejects_as P Q (rejection.Refusal line) f h = f line.items h
+rejects_as P Q rejection.ReadFault f h = h
+rejects_as P Q rejection.NoMemory f h = tt
+
+-- ---- the deck of a draft
+
+deck_known : (t : List ℕ) (r : Result Draft (ℕ × DeckCause)) → draft_read t ≡ r → deck_of t ≡ ok_as (λ d. d.deck) r
+unfolding deck_of
+deck_known t r h = ap (ok_as (λ (d : Draft). d.deck)) h
+
+pub deck_made : (t : List ℕ) (d : Draft) → draft_read t ≡ Ok d → Whole d.deck ≡ of_text (deck_of t)
+deck_made t d h = sym (ap of_text (deck_known t (Ok d) h))
+
+deck_line_refused : (t line : List ℕ) (r : Result Draft (ℕ × DeckCause)) → draft_read t ≡ r → refused_draft r line → Refusal line ≡ of_text (deck_of t)
+deck_line_refused t line (Ok d) h is = absurd is
+deck_line_refused t line (Err e) h is = ap Refusal is ∙ sym (ap of_text (deck_known t (Err e) h))
+
+pub deck_rejected : (t : List ℕ) (e : Rejection) → Rejects (refused_draft (draft_read t)) e → RejectsAs (λ v. v ≡ of_text (deck_of t)) e
+deck_rejected t e h = rejects_as (refused_draft (draft_read t)) (λ (line : List ℕ). Refusal line ≡ of_text (deck_of t)) e (λ line is. deck_line_refused t line (draft_read t) refl is) h
+
+-- ---- a draft whose deck is read
+
+within : (m n : ℕ) → n ≤ m → nat_lt m n ≡ false
+within m n few = grind (arith, few)
+
+beyond : (m n : ℕ) → m < n → nat_lt m n ≡ true
+beyond m n many = grind (arith, many)
+
+pub is_short : (t : List ℕ) (d : Draft) → draft_read t ≡ Ok d → length d.deck ≤ input_limit → has_long_deck t ≡ false
+is_short t d h few = ap is_long (deck_known t (Ok d) h) ∙ within input_limit (length d.deck) few
+
+refused_by : (t line : List ℕ) (b : Bool) (r : Result Desk (ℕ × DeckCause)) → has_long_deck t ≡ b → desk_read t ≡ r → refused_desk b r line → refused_desk (has_long_deck t) (desk_read t) line
+refused_by t line b r long is h = subst (λ (c : Bool). refused_desk c (desk_read t) line) (sym long) (subst (λ (q : Result Desk (ℕ × DeckCause)). refused_desk b q line) (sym is) h)
+
+abbrev desk_with : Draft → Result Desk (ℕ × DeckCause)
+desk_with d = deck_read d.deck >>= λ ls. Ok (record { deck = d.deck; sources = sources_of d; lines = ls })
+
+draft_refused : (t : List ℕ) (e : ℕ × DeckCause) → draft_read t ≡ Err e → desk_read t ≡ Err e
+unfolding desk_read
+draft_refused t e h = ap (λ r. r >>= desk_with) h
+
+draft_line_refused : (t line : List ℕ) (r : Result Draft (ℕ × DeckCause)) → draft_read t ≡ r → refused_draft r line → refused_desk (has_long_deck t) (desk_read t) line
+draft_line_refused t line (Ok d) h is = absurd is
+draft_line_refused t line (Err e) h is = refused_by t line false (Err e) (ap is_long (deck_known t (Err e) h)) (draft_refused t e h) is
+
+pub draft_rejected : (t : List ℕ) (e : Rejection) → Rejects (refused_draft (draft_read t)) e → Rejects (refused_desk (has_long_deck t) (desk_read t)) e
+draft_rejected t e h = rejects_as (refused_draft (draft_read t)) (refused_desk (has_long_deck t) (desk_read t)) e (λ line is. draft_line_refused t line (draft_read t) refl is) h
+
+pub long_rejected : (t : List ℕ) (d : Draft) (e : Rejection) → draft_read t ≡ Ok d → input_limit < length d.deck → Rejects (λ line. line ≡ too_long) e → Rejects (refused_desk (has_long_deck t) (desk_read t)) e
+long_rejected t d e h many is =
+    let long : has_long_deck t ≡ true = ap is_long (deck_known t (Ok d) h) ∙ beyond input_limit (length d.deck) many in
+    rejects_as (λ (line : List ℕ). line ≡ too_long) (refused_desk (has_long_deck t) (desk_read t)) e (λ line here. refused_by t line true (desk_read t) long refl here) is
+
+deck_refused : (t : List ℕ) (d : Draft) (e : ℕ × DeckCause) → draft_read t ≡ Ok d → deck_read d.deck ≡ Err e → desk_read t ≡ Err e
+unfolding desk_read
+deck_refused t d e h k = ap (λ r. r >>= desk_with) h ∙ ap (λ r. r >>= λ ls. Ok (record { deck = d.deck; sources = sources_of d; lines = ls })) k
+
+deck_line_of_desk : (t line : List ℕ) (d : Draft) (r : Result (List (ℕ × DeckLine)) (ℕ × DeckCause)) → draft_read t ≡ Ok d → length d.deck ≤ input_limit → deck_read d.deck ≡ r → refused_deck r line → refused_desk (has_long_deck t) (desk_read t) line
+deck_line_of_desk t line d (Ok ls) h few k is = absurd is
+deck_line_of_desk t line d (Err e) h few k is = refused_by t line false (Err e) (is_short t d h few) (deck_refused t d e h k) is
+
+pub desk_rejected : (t : List ℕ) (d : Draft) (e : Rejection) → draft_read t ≡ Ok d → length d.deck ≤ input_limit → Rejects (refused_deck (deck_read d.deck)) e → Rejects (refused_desk (has_long_deck t) (desk_read t)) e
+desk_rejected t d e h few is =
+    rejects_as (refused_deck (deck_read d.deck)) (refused_desk (has_long_deck t) (desk_read t)) e (λ line here. deck_line_of_desk t line d (deck_read d.deck) h few refl here) is
+
+pub desk_made : (t : List ℕ) (d : Draft) (ls : List (ℕ × DeckLine)) → draft_read t ≡ Ok d → deck_read d.deck ≡ Ok ls → desk_read t ≡ Ok (record { deck = d.deck; sources = sources_of d; lines = ls })
+desk_made t d ls h k = desk.desk_made t d ls h k
+
+-- ---- the listing
+
+listing_by : (t : List ℕ) (b : Bool) (r : Result Desk (ℕ × DeckCause)) → has_long_deck t ≡ b → desk_read t ≡ r → of_listing (has_long_deck t) (draft_listing t) ≡ of_listing b (ok_as (λ d. listing_of d.sources) r)
+unfolding draft_listing
+listing_by t b r long is = ap (λ (c : Bool). of_listing c (ok_as (λ (d : Desk). listing_of d.sources) (desk_read t))) long ∙ ap (λ (q : Result Desk (ℕ × DeckCause)). of_listing b (ok_as (λ (d : Desk). listing_of d.sources) q)) is
+
+pub listing_made : (t : List ℕ) (d : Desk) → has_long_deck t ≡ false → desk_read t ≡ Ok d → Whole (listing_of d.sources) ≡ of_listing (has_long_deck t) (draft_listing t)
+listing_made t d short is = sym (listing_by t false (Ok d) short is)
+
+listing_refused : (t line : List ℕ) (b : Bool) (r : Result Desk (ℕ × DeckCause)) → has_long_deck t ≡ b → desk_read t ≡ r → refused_desk b r line → Refusal line ≡ of_listing (has_long_deck t) (draft_listing t)
+listing_refused t line true r long is h = ap Refusal h ∙ sym (listing_by t true r long is)
+listing_refused t line false (Ok d) long is h = absurd h
+listing_refused t line false (Err e) long is h = ap Refusal h ∙ sym (listing_by t false (Err e) long is)
+
+pub listing_rejected : (t : List ℕ) (e : Rejection) → Rejects (refused_desk (has_long_deck t) (desk_read t)) e → RejectsAs (λ v. v ≡ of_listing (has_long_deck t) (draft_listing t)) e
+listing_rejected t e h =
+    rejects_as (refused_desk (has_long_deck t) (desk_read t)) (λ (line : List ℕ). Refusal line ≡ of_listing (has_long_deck t) (draft_listing t)) e (λ line is. listing_refused t line (has_long_deck t) (desk_read t) refl refl is) h
+
+-- ---- the verdicts
+
+check_by : (t : List ℕ) (b : Bool) (r : Result Desk (ℕ × DeckCause)) (v : JobVerdict) → has_long_deck t ≡ b → desk_read t ≡ r → IsCheckOf b r v → IsCheckOf (has_long_deck t) (desk_read t) v
+check_by t b r v long is h = subst (λ (c : Bool). IsCheckOf c (desk_read t) v) (sym long) (subst (λ (q : Result Desk (ℕ × DeckCause)). IsCheckOf b q v) (sym is) h)
+
+pub check_made : (t text : List ℕ) (d : Desk) → has_long_deck t ≡ false → desk_read t ≡ Ok d → ShowsVerdicts d d.lines text → IsCheckOf (has_long_deck t) (desk_read t) (Whole text)
+check_made t text d short is shows = check_by t false (Ok d) (Whole text) short is (text, refl, shows)
+
+check_refused : (line : List ℕ) (b : Bool) (r : Result Desk (ℕ × DeckCause)) → refused_desk b r line → IsCheckOf b r (Refusal line)
+check_refused line true r h = ap Refusal h
+check_refused line false (Ok d) h = absurd h
+check_refused line false (Err e) h = ap Refusal h
+
+pub check_rejected : (t : List ℕ) (e : Rejection) → Rejects (refused_desk (has_long_deck t) (desk_read t)) e → RejectsAs (IsCheckOf (has_long_deck t) (desk_read t)) e
+check_rejected t e h =
+    rejects_as (refused_desk (has_long_deck t) (desk_read t)) (λ (line : List ℕ). IsCheckOf (has_long_deck t) (desk_read t) (Refusal line)) e (λ line is. check_refused line (has_long_deck t) (desk_read t) is) h

@@ -1,0 +1,149 @@
+// The jobs that play the deck of a draft: its trace, and its coverage.
+ghost use Rattle.std.specs.Prelude.{◌≡◌, IfErr, IfOk};
+ghost use Rattle.mc_script.specs.Players.{IsUnfused};
+ghost use Rattle.mc_text.specs.Texts.{sunk};
+ghost use Rattle.mc_filter.specs.declared.rejection.Rejection.TheVariants as rejection;
+ghost use Rattle.mc_filter.specs.Outside.{outside};
+ghost use Rattle.mc_desk.specs.Sources.{sources_value};
+ghost use Rattle.meldesk.specs.Jobs.{shown_by};
+ghost use Rattle.meldesk.specs.Plays.{IsCovered, IsShown, IsTraced, RejectsPlay, ShowSays, ShowsDraft};
+
+use crate::job::Play;
+use crate::running::{desk_of, end};
+use mc_base::{Sink, Source, Steps};
+use mc_cover::{CoverFault, Sections, cover, trace};
+use mc_deck::Deck;
+use mc_desk::Desk;
+use mc_filter::{Rejection, Status, ended, read_input};
+use mc_nvm::Bench;
+use std::alloc::Global;
+use std::sync::ledger::Ledger;
+
+// Plays a deck and writes its trace under the sections of its draft.
+fn write_trace<T: Sink, N: Bench, L: Ledger>(
+    sections: &Sections<'_>,
+    deck: &Deck,
+    out: &mut T,
+    dev: &mut N,
+    steps: &mut Steps<L>,
+) -> Status
+    requires { IsUnfused (N.bench dev.old) }
+    ensures { IsTraced sections.now deck.now result (record { device = N.state dev.old; bench = N.bench dev.old })
+        (sunk T.Sink out.old) (record { device = N.state dev.new; bench = N.bench dev.new }) (sunk T.Sink out.new) }
+{
+    ended(Status::Done, trace(sections, deck, dev, out, steps))
+}
+
+// Plays a deck and writes how often each line of its draft's code ran, as a record for the file `name`.
+fn write_coverage<T: Sink, N: Bench, L: Ledger>(
+    alloc: Global,
+    name: &[u8],
+    sections: &Sections<'_>,
+    deck: &Deck,
+    out: &mut T,
+    dev: &mut N,
+    steps: &mut Steps<L>,
+) -> Result<Status, Rejection>
+    requires { IsUnfused (N.bench dev.old) }
+    ensures covered { IfOk result (λ s. IsCovered name.now sections.now deck.now s
+        (record { device = N.state dev.old; bench = N.bench dev.old }) (sunk T.Sink out.old)
+        (record { device = N.state dev.new; bench = N.bench dev.new }) (sunk T.Sink out.new)) }
+    ensures memory { IfErr result (λ e. e ≡ rejection.NoMemory) }
+    ensures out { IfErr result (λ e. sunk T.Sink out.new ≡ sunk T.Sink out.old) }
+    ensures kept { IfErr result (λ e. dev.new ≡ dev.old) }
+{
+    match cover(alloc, name, sections, deck, dev, out, steps) {
+        Ok(()) => Ok(Status::Done),
+        Err(CoverFault::WriteFault) => Ok(Status::WriteFault),
+        Err(CoverFault::NoMemory) => Err(Rejection::NoMemory),
+    }
+}
+
+// Plays a deck under the sections of its draft, and writes what a job shows of the play.
+fn play_deck<T: Sink, N: Bench, L: Ledger>(
+    alloc: Global,
+    play: Play<'_>,
+    sections: &Sections<'_>,
+    deck: &Deck,
+    out: &mut T,
+    dev: &mut N,
+    steps: &mut Steps<L>,
+) -> Result<Status, Rejection>
+    requires { IsUnfused (N.bench dev.old) }
+    ensures shown { IfOk result (λ s. IsShown (shown_by play.entry) sections.now deck.now s
+        (record { device = N.state dev.old; bench = N.bench dev.old }) (sunk T.Sink out.old)
+        (record { device = N.state dev.new; bench = N.bench dev.new }) (sunk T.Sink out.new)) }
+    ensures memory { IfErr result (λ e. e ≡ rejection.NoMemory) }
+    ensures out { IfErr result (λ e. sunk T.Sink out.new ≡ sunk T.Sink out.old) }
+    ensures kept { IfErr result (λ e. dev.new ≡ dev.old) }
+{
+    match play {
+        Play::Trace => Ok(write_trace(sections, deck, out, dev, steps)),
+        Play::Cover(name) => write_coverage(alloc, name, sections, deck, out, dev, steps),
+    }
+}
+
+// Plays the deck of a draft under its sections, and writes what a job shows of the play.
+fn play_desk<T: Sink, N: Bench, L: Ledger>(
+    alloc: Global,
+    play: Play<'_>,
+    desk: &Desk<'_>,
+    out: &mut T,
+    dev: &mut N,
+    steps: &mut Steps<L>,
+) -> Result<Status, Rejection>
+    requires { IsUnfused (N.bench dev.old) }
+    ensures shown { IfOk result (λ s. IsShown (shown_by play.entry) (sources_value desk.now.sources.items) desk.now.deck
+        s (record { device = N.state dev.old; bench = N.bench dev.old }) (sunk T.Sink out.old)
+        (record { device = N.state dev.new; bench = N.bench dev.new }) (sunk T.Sink out.new)) }
+    ensures memory { IfErr result (λ e. e ≡ rejection.NoMemory) }
+    ensures out { IfErr result (λ e. sunk T.Sink out.new ≡ sunk T.Sink out.old) }
+    ensures kept { IfErr result (λ e. dev.new ≡ dev.old) }
+{
+    let sections = Sections::new(alloc, desk.sources.as_slice())?;
+    play_deck(alloc, play, &sections, &desk.deck, out, dev, steps)
+}
+
+// Plays the deck of a draft that is read, and writes what a job shows of the play.
+fn play_draft<S: Source, T: Sink, N: Bench, L: Ledger>(
+    alloc: Global,
+    play: Play<'_>,
+    input: &mut S,
+    out: &mut T,
+    dev: &mut N,
+    steps: &mut Steps<L>,
+) -> Result<Status, Rejection>
+    requires { IsUnfused (N.bench dev.old) }
+    ensures shown { IfOk result (λ s. ShowsDraft (shown_by play.entry) s
+        (outside S.Source T.Sink input.old input.new out.old out.new)
+        (record { device = N.state dev.old; bench = N.bench dev.old })
+        (record { device = N.state dev.new; bench = N.bench dev.new })) }
+    ensures rejected { IfErr result
+        (RejectsPlay (outside S.Source T.Sink input.old input.new out.old out.new)) }
+    ensures out { IfErr result (λ e. sunk T.Sink out.new ≡ sunk T.Sink out.old) }
+    ensures kept { IfErr result (λ e. dev.new ≡ dev.old) }
+{
+    let draft = read_input(alloc, input)?;
+    let desk = desk_of(alloc, draft.as_slice())?;
+    play_desk(alloc, play, &desk, out, dev, steps)
+}
+
+/// Plays the deck of a draft that is read, writes what a job shows of the play, and returns the status of the job. A
+/// draft that is refused is not played: the line that refuses it is written.
+pub fn show<S: Source, T: Sink, N: Bench, L: Ledger>(
+    alloc: Global,
+    play: Play<'_>,
+    input: &mut S,
+    out: &mut T,
+    dev: &mut N,
+    steps: &mut Steps<L>,
+) -> Status
+    requires { IsUnfused (N.bench dev.old) }
+    ensures { ShowSays (dev.new ≡ dev.old) (shown_by play.entry) result
+        (outside S.Source T.Sink input.old input.new out.old out.new)
+        (record { device = N.state dev.old; bench = N.bench dev.old })
+        (record { device = N.state dev.new; bench = N.bench dev.new }) }
+{
+    let done = play_draft(alloc, play, input, out, dev, steps);
+    end(out, done)
+}
