@@ -9,7 +9,7 @@ use Rattle.mc_model_card.specs.Manager.{Selected, SessionState, Route, WrongLeng
 use Rattle.mc_model_play.specs.DeckGrammar.{DeckLine}
 use Rattle.mc_model_play.specs.DeckGrammar as line
 use Rattle.mc_model_play.specs.Laws.{bytes_of}
-use Rattle.mc_model_play.specs.Play.{FailedWrite, Live, Running, Unpowered, Muted, Warm, State, BeforePower, AfterPower, Step, Armed, is_done, send, command_with_rest, line_command, card_line, after_power_step, before_power_step, step, select_bytes, delete_bytes}
+use Rattle.mc_model_play.specs.Play.{FailedWrite, Live, Running, Unpowered, Muted, Warm, State, BeforePower, AfterPower, Armed, is_done, send, command_with_rest, line_command, card_line, after_power_step, before_power_step, step, select_bytes, delete_bytes}
 use Rattle.mc_model_device.specs.PowerUp.{Base, OnCard, AtFault}
 use Rattle.mc_model_card.specs.Commands.{Command, command, manager_command, application_command, by_route}
 use Rattle.mc_model_play.proofs.PlayLemmas.{step_is}

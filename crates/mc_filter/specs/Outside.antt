@@ -1,7 +1,7 @@
 -- The source and the sink of a program, and its promises about them at each of its statuses. The type V is that of a
 -- program's verdicts on an input, of which a refusal by a line is one; the program supplies which verdicts an input
 -- has, which is due, and when a verdict is done.
-use Rattle.std.specs.Prelude.{◌≡◌, ℕ, ◌≤◌, ◌<◌, ◌⊎◌, List, length, Option, Some, None}
+use Rattle.std.specs.Prelude.{◌≡◌, ℕ, ◌≤◌, ◌<◌, ◌⊎◌, List, length, Option}
 use Rattle.mc_model_device.specs.Counts.{Rose}
 use Rattle.mc_base.specs.Streams.{one_more, TookMore}
 use Rattle.mc_base.specs.declared.sink.Sink as sink

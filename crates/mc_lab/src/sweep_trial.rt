@@ -27,7 +27,7 @@ pub enum Behind {
 }
 
 /// The end of a play: whether its last cut hit its line, and a number of device writes that the power line without
-/// a cut did not exceed. If that found a card, it made so many.
+/// a cut did not exceed. If that found a card, it made exactly that number.
 #[derive(Clone, Copy, Debug, PartialEq, Eq)]
 pub struct Played {
     pub hit: bool,

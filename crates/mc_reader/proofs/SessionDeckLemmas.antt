@@ -1,21 +1,21 @@
 -- The text of a session is a deck, whose play is the session.
-use Rattle.std.proofs.Common.{◌≡◌, ℕ, zero, suc, ◌+◌, ◌-◌, ◌<◌, ◌≤◌, Bool, true, false, cond, List, [], ◌∷◌, ◌++◌, length, map, drop, Option, Some, None, Result, Ok, Err, refl, arith, sym, ap, subst, ◌∙◌, append_assoc, append-nil, length-append}
+use Rattle.std.proofs.Common.{◌≡◌, ℕ, zero, suc, ◌+◌, ◌-◌, ◌≤◌, Bool, false, List, [], ◌∷◌, ◌++◌, length, map, drop, Option, Some, None, Result, Ok, Err, refl, arith, sym, ap, subst, ◌∙◌, append_assoc}
 use Rattle.std.specs.Prelude.{◌==◌, codes}
 use Rattle.std.specs.List.{AllByRecursion}
-use Rattle.std.proofs.lemmas.List.{drop_at, map-append, drop-map}
+use Rattle.std.proofs.lemmas.List.{drop_at, map-append}
 use Rattle.mc_model_device.specs.Bytes.{AreBytes}
 use Rattle.mc_model_device.specs.PowerUp.{AtFault, Base, OnCard}
 use Rattle.mc_model_machine.specs.Text.{◌>>=◌, lines, ok_as, with_numbers}
 use Rattle.mc_model_play.specs.declared.deck.DeckCause.{DeckCause}
-use Rattle.mc_model_play.specs.DeckGrammar.{deck_lines, deck_read, lines_at_end, turn_at, turn_in, Between, Context, DeckLine, LineTurn, Mode, Within}
+use Rattle.mc_model_play.specs.DeckGrammar.{deck_lines, deck_read, turn_at, Between, Context, DeckLine, LineTurn, Mode, Within}
 use Rattle.mc_model_play.specs.DeckGrammar as line
 use Rattle.mc_model_play.specs.Play.{after_power_step, before_power_step, card_line, first_failure, last_state, plays, start, step, AfterPower, Armed, BeforePower, FailedWrite, Live, Muted, Running, State, Step, Unpowered, Warm}
-use Rattle.mc_model_play.specs.Transcript.{line_text, plain_text, texts, transcript}
+use Rattle.mc_model_play.specs.Transcript.{line_text, plain_text, transcript}
 use Rattle.mc_model_play.proofs.PlayLemmas.{step_is}
 use Rattle.mc_reader.specs.Meanings.{meaning, power_after}
-use Rattle.mc_reader.specs.Lines.{last_number, line_in, line_with_number, lines_of, number_after, session_lines}
-use Rattle.mc_reader.specs.Answers.{answer_each, answer_to, first_result, session_answers, steps_behind}
-use Rattle.mc_reader.specs.SessionDeck.{result_text, result_texts, session_text, statement_text, statements_text, unnumbered, IsSession, SessionLaw}
+use Rattle.mc_reader.specs.Lines.{last_number, line_in, line_with_number, lines_of, number_after}
+use Rattle.mc_reader.specs.Answers.{answer_each, first_result, session_answers, steps_behind}
+use Rattle.mc_reader.specs.SessionDeck.{result_text, result_texts, session_text, statement_text, statements_text, unnumbered, SessionLaw}
 use Rattle.mc_reader.proofs.ReadBackLemmas.{context_after, line_first, lines_append, statement_printed, statement_read, IsFrameLine}
 use Rattle.mc_reader.proofs.FrameLineLemmas.{bare_good, bare_lines, one_line}
 

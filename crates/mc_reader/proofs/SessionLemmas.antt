@@ -1,14 +1,14 @@
 -- A deck that was played, and the frames that were served after it, as one session.
-use Rattle.std.proofs.Common.{◌≡◌, ◌≢◌, ℕ, suc, Bool, true, false, cond, List, [], ◌∷◌, ◌++◌, length, take, drop, Option, Some, None, Result, Ok, Err, refl, sym, ◌∙◌, ap, subst, append_assoc}
-use Rattle.std.specs.Prelude.{◌&&◌, ◌==◌, nat_le, IfOk, IfSome}
+use Rattle.std.proofs.Common.{◌≡◌, ◌≢◌, ℕ, Bool, false, List, [], ◌∷◌, ◌++◌, length, drop, Option, Some, None, Result, Ok, Err, refl, sym, ◌∙◌, ap, subst, append_assoc}
+use Rattle.std.specs.Prelude.{IfSome}
 use Rattle.std.specs.List.{AllByRecursion}
 use Rattle.std.proofs.lemmas.List.{drop_at}
-use Rattle.mc_model_device.specs.Bytes.{AreBytes, num}
+use Rattle.mc_model_device.specs.Bytes.{AreBytes}
 use Rattle.mc_model_device.specs.Device.{DeviceState, BenchState, IsImage}
 use Rattle.mc_model_play.specs.DeckGrammar.{DeckLine}
 use Rattle.mc_model_play.specs.DeckGrammar as line
 use Rattle.mc_model_play.specs.Laws.{HoldsOf}
-use Rattle.mc_model_play.specs.Play.{State, FailedWrite, Step, plays, start, step, first_failure, last_state}
+use Rattle.mc_model_play.specs.Play.{State, FailedWrite, Step, plays, start, last_state}
 use Rattle.mc_model_play.specs.ReadyAgain.{IsLine, AreLines}
 use Rattle.mc_model_device.proofs.ImageLemmas.{all_append}
 use Rattle.mc_family.proofs.DeckBytes.{played_bytes}
@@ -20,7 +20,7 @@ use Rattle.mc_reader.proofs.FrameLineLemmas.{good}
 use Rattle.mc_reader.proofs.MomentLemmas.{moments_kept}
 use Rattle.mc_reader.proofs.ReadBackLemmas.{IsFrameLine}
 use Rattle.mc_reader.proofs.SessionDeckLemmas.{length_plays}
-use Rattle.mc_reader.specs.Meanings.{Meaning, PowerOn, PowerOff, WantsAtr, Nothing, wrong_length, wrong_instruction, wrong_parameters, in_range, cut_order, fail_order, budget_order, plain_order, order_by, order, by_order, by_power, meaning, power_after}
+use Rattle.mc_reader.specs.Meanings.{meaning, power_after}
 use Rattle.mc_reader.specs.Lines.{line_in, line_with_number, number_after, last_number, lines_of, session_lines}
 use Rattle.mc_reader.specs.Answers.{answer_each, session_answers}
 use Rattle.mc_reader.specs.Moments.{Moment}

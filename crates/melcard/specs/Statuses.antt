@@ -1,5 +1,5 @@
 -- The relation of the top call to its environment at each of its statuses.
-use Rattle.std.specs.Prelude.{◌≡◌, ℕ, List, Option, Some, None, Result, Ok, Err, ⊤}
+use Rattle.std.specs.Prelude.{◌≡◌, ℕ, List, Option, Some, None, Result, ⊤}
 use Rattle.mc_model_device.specs.Device.{DeviceState, BenchState}
 use Rattle.mc_model_device.specs.Orders.{Answer}
 use Rattle.mc_model_play.specs.DeckGrammar.{DeckLine}

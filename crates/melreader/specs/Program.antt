@@ -19,7 +19,7 @@ use Rattle.melreader.specs.Sessions.{outside, unopened, usage, AreKept, Melreade
 
 -- ---- words
 
--- what the words of a command line select: nothing, because they could not be had for want of memory; a blank card; a
+-- what the words of a command line select: nothing, because memory was out before they were read; a blank card; a
 -- card on which the deck of a path was played; or no card
 pub data Selection : Type 0 where
   OutOfMemory : Selection

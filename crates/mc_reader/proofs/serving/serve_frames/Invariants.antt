@@ -3,7 +3,7 @@ use Rattle.mc_model_play.specs.Play.{State}
 use Rattle.mc_text.specs.Texts.{sunk_in}
 use Rattle.mc_script.specs.Players.{device_of, IsPlayerAt}
 use Rattle.mc_script.specs.Lines.{bench_of}
-use Rattle.mc_reader.proofs.LoopLemmas.{Heard, SessionReached}
+use Rattle.mc_reader.proofs.LoopLemmas.{SessionReached}
 use Rattle.mc_reader.proofs.serving.serve_frames.Given as goal
 
 -- whatever the frames that follow do, all frames from the start do
