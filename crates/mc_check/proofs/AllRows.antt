@@ -11,12 +11,12 @@ use Rattle.mc_model_machine.specs.Primitives.{Around, Then, Goes, Exits, Delegat
 use Rattle.mc_model_machine.specs.Chain.{frame_at}
 use Rattle.mc_model_machine.specs.Row.{causes, first_cause, effect, holds, no_place, address_or_zero, row_end, row, Does}
 use Rattle.mc_model_machine.specs.StackRows.{need, height_after, row_uses, WritesNothing, row_writing, always_abends, is_indirect, counts, goes_on, call_target}
+use Rattle.mc_row_laws.proofs.Keeping.{effect_keeps}
 use Rattle.mc_machine_laws.proofs.RowWords.{none_holds}
 use Rattle.mc_check.specs.Standing.{StandsAt}
 use Rattle.mc_check.proofs.RowFacts.{GoesTo, RowStays, RowsAreCalm}
 use Rattle.mc_check.proofs.CalmAddresses.{IsSafe}
 use Rattle.mc_check.proofs.CalmCauses.{always_first, stepped_stands, need_few, row_pops, rows_calm}
-use Rattle.mc_check.proofs.CalmPublic.{effect_grows}
 use Rattle.mc_check.proofs.CalmEffects.{RunsPlainRow, place_after, effect_kept, no_call}
 
 -- ---- the place at which a frame goes on
@@ -139,7 +139,7 @@ rows_grow : (i : Ins) (f : Frame) (public : List ℕ) (x : Around) (d : Done) �
 unfolding row
 rows_grow i f public x d e =
     let parts = done_parts (first_cause (causes i f public x)) (effect i f public x) d e in
-    subst (λ (done : Done). length public ≤ length done.effect.public) parts.1 (effect_grows i f public x)
+    subst (λ (done : Done). length public ≤ length done.effect.public) parts.1 (effect_keeps i f public x).public
 
 -- the facts of every row of accepted code
 pub row_facts : RowsAreCalm

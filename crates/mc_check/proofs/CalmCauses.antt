@@ -1,6 +1,6 @@
 -- The causes of a row of accepted code: none of the abends 01, 02, 04 and 05 is the first that holds.
-use Rattle.std.proofs.Common.{◌≡◌, ℕ, ◌+◌, ◌-◌, ◌*◌, ◌≤◌, ℤ, Bool, true, false, cond, List, [], ◌∷◌, Option, Some, None, refl, sym, ap, subst, ◌∙◌, arith, le-ltb}
-use Rattle.std.specs.Prelude.{◌==◌, ◌&&◌, ◌||◌, not, nat_lt, slice_index}
+use Rattle.std.proofs.Common.{◌≡◌, ℕ, ◌+◌, ◌-◌, ◌*◌, ◌≤◌, Bool, true, false, cond, List, [], ◌∷◌, Option, Some, None, refl, sym, ap, subst, ◌∙◌, arith, le-ltb}
+use Rattle.std.specs.Prelude.{◌==◌, ◌&&◌, ◌||◌, not, nat_lt}
 use Rattle.std.proofs.lemmas.Bool.{and_parts, and_left, and_right, not_from_true}
 use Rattle.mc_model_machine.specs.declared.instruction.Ins.{Ins}
 use Rattle.mc_model_machine.specs.declared.instruction.Ins.TheVariants as ins
@@ -8,9 +8,9 @@ use Rattle.mc_model_machine.specs.declared.machine.Abend.{Abend}
 use Rattle.mc_model_machine.specs.declared.machine.Abend.TheVariants.{A06}
 use Rattle.mc_model_device.specs.Bytes.{num}
 use Rattle.mc_model_machine.specs.Frame.{Frame, floor, dynamic_end, is_under, is_over, frame_after_pop, top}
-use Rattle.mc_model_machine.specs.Primitives.{Around, Primitive, CheckCase, LoadCcr, StoreCcr, Lookup, MemoryCompare, MemoryCopy, DelegateTo, DelegatorAid, Digest, CompareFixed, CopyFixed, SetProtection, Encipher, Decipher, Sign, BitByte, ShiftLeft, ShiftRight, BitWord, primitive, prim_causes, later_causes, reported_causes}
+use Rattle.mc_model_machine.specs.Primitives.{Around, Primitive, LoadCcr, DelegatorAid, BitByte, primitive, prim_causes, later_causes, reported_causes}
 use Rattle.mc_model_machine.specs.Chain.{frame_at}
-use Rattle.mc_model_machine.specs.Row.{causes, first_cause, holds, no_place, on_stack, immediate_reads, immediate_writes, pair_reads, pair_writes}
+use Rattle.mc_model_machine.specs.Row.{causes, first_cause, holds, no_place, on_stack}
 use Rattle.mc_model_machine.specs.StackRows.{need, always_abends, prim_abends, height_after, pair_uses, prim_uses, row_uses, is_indirect, counts, call_target, is_inside, target_inside, call_inside, goes_on, jump_target, places_inside}
 use Rattle.mc_check.specs.Checked.{is_excluded}
 use Rattle.mc_check.specs.Standing.{StandsAt}
@@ -18,30 +18,27 @@ use Rattle.mc_check.proofs.CalmWrites.{IsRoomy, stands_roomy}
 
 -- ---- lists of causes
 
--- an excluded abend does not hold
-abbrev pub IsSilent : Bool → Bool → Type 0
-IsSilent true b = b ≡ false
-IsSilent false b = Unit {0}
+-- whether none of the excluded abends holds in a list of causes, and then `last`, so that there is something to rewrite
+-- in each case
+abbrev pub are_calm : Bool → List (Abend × Bool) → Bool
+are_calm last [] = last
+are_calm last (c ∷ cs) = not (is_excluded c.0 && c.1) && are_calm last cs
 
--- none of the excluded abends holds
-abbrev pub AreCalm : List (Abend × Bool) → Type 0
-AreCalm [] = Unit {0}
-AreCalm (c ∷ cs) = IsSilent (is_excluded c.0) c.1 × AreCalm cs
-
-silent : (b : Bool) → IsSilent b true → b ≡ false
+silent : (b : Bool) → not (b && true) ≡ true → b ≡ false
 silent true s = absurd (cc s)
 silent false s = refl
 
-first_of_two : (a c : Abend) (b : Bool) (rest : Option Abend) → IsSilent (is_excluded a) b → (rest ≡ Some c → is_excluded c ≡ false) → cond b (Some a) rest ≡ Some c → is_excluded c ≡ false
-first_of_two a c true rest s others e =
-    let same : a ≡ c = cc e in
-    ap is_excluded (sym same) ∙ silent (is_excluded a) s
-first_of_two a c false rest s others e = others e
+first_by : (c d : Abend) (b last : Bool) (cs : List (Abend × Bool)) (rest : Option Abend) → (not (is_excluded c && b) && are_calm last cs) ≡ true → (are_calm last cs ≡ true → rest ≡ Some d → is_excluded d ≡ false) → cond b (Some c) rest ≡ Some d
+    → is_excluded d ≡ false
+first_by c d true last cs rest calm others e =
+    let same : c ≡ d = cc e in
+    ap is_excluded (sym same) ∙ silent (is_excluded c) (and_parts (not (is_excluded c && true)) (are_calm last cs) calm).0
+first_by c d false last cs rest calm others e = others (and_parts (not (is_excluded c && false)) (are_calm last cs) calm).1 e
 
 -- the first cause of calm ones is none of the excluded abends
-pub first_calm : (cs : List (Abend × Bool)) (c : Abend) → AreCalm cs → first_cause cs ≡ Some c → is_excluded c ≡ false
-first_calm [] c calm e = absurd (cc e)
-first_calm (p ∷ cs) c calm e = first_of_two p.0 c p.1 (first_cause cs) calm.0 (first_calm cs c calm.1) e
+pub first_calm : (cs : List (Abend × Bool)) (last : Bool) (d : Abend) → are_calm last cs ≡ true → first_cause cs ≡ Some d → is_excluded d ≡ false
+first_calm [] last d calm e = absurd (cc e)
+first_calm (c ∷ cs) last d calm e = first_by c.0 d c.1 last cs (first_cause cs) calm (first_calm cs last d) e
 
 -- ---- tests by kind
 
@@ -49,10 +46,10 @@ first_calm (p ∷ cs) c calm e = first_of_two p.0 c p.1 (first_cause cs) calm.0 
 under : (f : Frame) (h n : ℕ) → IsRoomy f h → n ≤ h → is_under f n ≡ false
 under f h n r few = le-ltb f.dt (floor f + n) (omega (arith, r.low, r.top))
 
--- there are n bytes on the stack, for an operand that may be on the stack
-under_on : (b : Bool) (f : Frame) (h n : ℕ) → IsRoomy f h → cond b n 0 ≤ h → (b && is_under f n) ≡ false
-under_on true f h n r few = under f h n r few
-under_on false f h n r few = refl
+-- a test of an operand that may be on the stack
+under_on : (f : Frame) (h : ℕ) → IsRoomy f h → (b : Bool) (n : ℕ) → (b && is_under f n) ≡ is_under f (cond b n 0)
+under_on f h r true n = refl
+under_on f h r false n = sym (under f h 0 r (omega arith))
 
 -- there is room for n bytes more
 over : (f : Frame) (n : ℕ) → f.dt + n ≤ dynamic_end → is_over f n ≡ false
@@ -76,53 +73,24 @@ call_over : (b : Bool) (f : Frame) (to : ℕ) → b ≡ false → ((q : ℕ) →
 call_over true f to direct room = absurd (cc direct)
 call_over false f to direct room = over f 4 (room to refl)
 
--- ---- causes by kind
-
-immediate_read : (f : Frame) (h tag : ℕ) (off : ℤ) (n : ℕ) → IsRoomy f h → on_stack tag n 0 ≤ h → AreCalm (immediate_reads f tag off n)
-immediate_read f h tag off n r few = (under_on (tag == 0) f h n r few, (tt, tt))
-
-immediate_write : (f : Frame) (h tag : ℕ) (off : ℤ) (n : ℕ) → IsRoomy f h → on_stack tag n 0 ≤ h → AreCalm (immediate_writes f tag off n)
-immediate_write f h tag off n r few = (under_on (tag == 0) f h n r few, (tt, (tt, tt)))
-
-pair_read : (f : Frame) (h tag : ℕ) (off : ℤ) (n : ℕ) → IsRoomy f h → on_stack tag (2 * n) n ≤ h → AreCalm (pair_reads f tag off n)
-pair_read f h tag off n r few = (under f h (on_stack tag (2 * n) n) r few, (tt, tt))
-
-pair_write : (f : Frame) (h tag : ℕ) (off : ℤ) (n : ℕ) → IsRoomy f h → on_stack tag (2 * n) n ≤ h → AreCalm (pair_writes f tag off n)
-pair_write f h tag off n r few = (under f h (on_stack tag (2 * n) n) r few, (tt, (tt, tt)))
-
 -- ---- primitives
 
-reported_calm : (g : Frame) (a : ℕ) (o : Option (List ℕ)) → AreCalm (reported_causes g a o)
-reported_calm g a None = tt
-reported_calm g a (Some name) = (tt, (tt, tt))
+reported_calm : (g : Frame) (a : ℕ) (o : Option (List ℕ)) (last : Bool) → last ≡ true → are_calm last (reported_causes g a o) ≡ true
+reported_calm g a None last is = is
+reported_calm g a (Some name) last is = is
 
-later_calm : (p : Primitive) (args : List ℕ) (f : Frame) (h : ℕ) (public : List ℕ) (x : Around) → IsRoomy f h → (prim_uses p args).needs ≤ h
-    → f.dt - (prim_uses p args).pops + (prim_uses p args).pushes ≤ dynamic_end → AreCalm (later_causes p args f public x)
+-- the tests of the stack, by the bytes that the primitive needs
+later_calm : (p : Primitive) (args : List ℕ) (f : Frame) (h : ℕ) (public : List ℕ) (x : Around) (last : Bool) → last ≡ true → IsRoomy f h → (prim_uses p args).needs ≤ h
+    → f.dt - (prim_uses p args).pops + (prim_uses p args).pushes ≤ dynamic_end → are_calm last (later_causes p args f public x) ≡ true
 unfolding later_causes
-later_calm CheckCase args f h public x r few room = (under f h 1 r few, (tt, tt))
-later_calm LoadCcr args f h public x r few room = (over f 1 (omega arith), tt)
-later_calm StoreCcr args f h public x r few room = (under f h 1 r few, tt)
-later_calm Lookup args f h public x r few room = (under f h 3 r few, (tt, tt))
-later_calm MemoryCompare args f h public x r few room = (under f h 6 r few, (tt, (tt, tt)))
-later_calm MemoryCopy args f h public x r few room = (under f h 6 r few, (tt, (tt, (tt, tt))))
-later_calm DelegateTo args f h public x r few room = (under f h 2 r few, (tt, (tt, tt)))
-later_calm DelegatorAid args f h public x r few room = (under f h 2 r few, reported_calm (frame_after_pop f 2) _ x.delegator)
-later_calm Digest args f h public x r few room = (under f h 6 r few, (tt, (tt, (tt, tt))))
-later_calm CompareFixed args f h public x r few room = (under f h 4 r few, (tt, tt))
-later_calm CopyFixed args f h public x r few room = (under f h 4 r few, (tt, (tt, tt)))
-later_calm SetProtection args f h public x r few room = tt
-later_calm (Encipher c) args f h public x r few room = (under f h 6 r few, (tt, (tt, tt)))
-later_calm (Decipher c) args f h public x r few room = (under f h 6 r few, (tt, (tt, tt)))
-later_calm (Sign c) args f h public x r few room = (under f h 8 r few, (tt, (tt, tt)))
-later_calm BitByte args f h public x r few room = (under f h 1 r few, tt)
-later_calm ShiftLeft args f h public x r few room = (under f h (slice_index args 0) r few, tt)
-later_calm ShiftRight args f h public x r few room = (under f h (slice_index args 0) r few, tt)
-later_calm BitWord args f h public x r few room = (under f h 2 r few, tt)
+later_calm LoadCcr args f h public x last is r few room = simp (is, over f 1 (omega arith))
+later_calm DelegatorAid args f h public x last is r few room = simp (under f h 2 r few) (reported_calm (frame_after_pop f 2) _ x.delegator last is)
+later_calm p args f h public x last is r few room = simp (is, under f h (prim_uses p args).needs r few)
 
-prim_calm : (p : Option Primitive) (args : List ℕ) (f : Frame) (h : ℕ) (public : List ℕ) (x : Around) → IsRoomy f h → (pair_uses p args).needs ≤ h
-    → f.dt - (pair_uses p args).pops + (pair_uses p args).pushes ≤ dynamic_end → AreCalm (prim_causes p args f public x)
-prim_calm None args f h public x r few room = (tt, tt)
-prim_calm (Some p) args f h public x r few room = (tt, (tt, later_calm p args f h public x r few room))
+prim_calm : (p : Option Primitive) (args : List ℕ) (f : Frame) (h : ℕ) (public : List ℕ) (x : Around) (last : Bool) → last ≡ true → IsRoomy f h → (pair_uses p args).needs ≤ h
+    → f.dt - (pair_uses p args).pops + (pair_uses p args).pushes ≤ dynamic_end → are_calm last (prim_causes p args f public x) ≡ true
+prim_calm None args f h public x last is r few room = is
+prim_calm (Some p) args f h public x last is r few room = later_calm p args f h public x last is r few room
 
 -- ---- all rows
 
@@ -152,60 +120,24 @@ call_known len i next h =
     let of_call = call_inside len (call_target i) in
     (and_parts (behind && at) of_call h).1
 
-causes_calm : (i : Ins) (len h : ℕ) (f : Frame) (public : List ℕ) (x : Around) → IsReadyToRun len i f h → AreCalm (causes i f public x)
+-- the tests of the stack, by the bytes that the row needs and pushes, and the places that it goes to
+causes_calm : (i : Ins) (len h : ℕ) (f : Frame) (public : List ℕ) (x : Around) (last : Bool) → last ≡ true → IsReadyToRun len i f h → are_calm last (causes i f public x) ≡ true
 unfolding causes
-causes_calm ins.Nop len h f public x y = tt
-causes_calm (ins.Setsw sw) len h f public x y = tt
-causes_calm (ins.Setla la) len h f public x y = tt
-causes_calm (ins.Setswla sw la) len h f public x y = tt
-causes_calm ins.Exit len h f public x y = tt
-causes_calm (ins.Exitsw sw) len h f public x y = tt
-causes_calm (ins.Exitla la) len h f public x y = tt
-causes_calm (ins.Exitswla sw la) len h f public x y = tt
-causes_calm (ins.Branch k d) len h f public x y =
-    (and_right (holds k f) _ (placed f len _ y.code_len (target_known len (ins.Branch k d) f.at y.inside)), tt)
-causes_calm (ins.Jump k to) len h f public x y =
+causes_calm (ins.Branch k d) len h f public x last is y = simp (is, and_right (holds k f) _ (placed f len _ y.code_len (target_known len (ins.Branch k d) f.at y.inside)))
+causes_calm (ins.Jump k to) len h f public x last is y =
     let here = jump_placed (k == 0) f len (num (top f 2)) to y.code_len y.direct (target_known len (ins.Jump k to) f.at y.inside) in
-    (and_left (k == 0) (is_under f 2) y.direct, (and_right (holds k f) _ here, tt))
-causes_calm (ins.Call k to) len h f public x y =
+    simp (is, and_left (k == 0) (is_under f 2) y.direct, and_right (holds k f) _ here)
+causes_calm (ins.Call k to) len h f public x last is y =
     let here = call_placed (k == 0) f len (num (top f 2)) to y.code_len y.direct (call_known len (ins.Call k to) f.at y.inside) in
-    (and_left (k == 0) (is_under f 2) y.direct, (and_right (holds k f) _ here, (and_right (holds k f) _ (call_over (k == 0) f to y.direct y.call_room), tt)))
-causes_calm (ins.Pushz n) len h f public x y = (tt, (over f n (omega (arith, y.room)), tt))
-causes_calm (ins.Pushb b) len h f public x y = (over f 1 (omega (arith, y.room)), tt)
-causes_calm (ins.Pushw w) len h f public x y = (over f 2 (omega (arith, y.room)), tt)
-causes_calm (ins.Popn n) len h f public x y = (tt, (under f h n y.roomy y.few, tt))
-causes_calm ins.Popb len h f public x y = (under f h 1 y.roomy y.few, tt)
-causes_calm ins.Popw len h f public x y = (under f h 2 y.roomy y.few, tt)
-causes_calm (ins.Prim set number args) len h f public x y = prim_calm (primitive set number) args f h public x y.roomy y.few y.room
-causes_calm ins.Ret len h f public x y = absurd (cc y.no_return)
-causes_calm (ins.Reti i) len h f public x y = absurd (cc y.no_return)
-causes_calm (ins.Reto o) len h f public x y = absurd (cc y.no_return)
-causes_calm (ins.Retio i o) len h f public x y = absurd (cc y.no_return)
-causes_calm (ins.Load tag off n) len h f public x y = (tt, (under_on (tag == 0) f h n y.roomy y.few, (tt, (over f n (omega (arith, y.room)), tt))))
-causes_calm (ins.Store tag off n) len h f public x y = (tt, (under f h (on_stack tag (2 * n) n) y.roomy y.few, (tt, (tt, tt))))
-causes_calm (ins.Loadi tag off n) len h f public x y = (tt, (under_on (tag == 0) f h 2 y.roomy y.few, (tt, (over f n (omega (arith, y.room)), tt))))
-causes_calm (ins.Storei tag off n) len h f public x y = (tt, (under f h (on_stack tag (n + 2) n) y.roomy y.few, (tt, (tt, tt))))
-causes_calm (ins.Loada tag off) len h f public x y = (tt, (over f 2 (omega (arith, y.room)), tt))
-causes_calm (ins.Index tag off size) len h f public x y = (under f h (on_stack tag 3 1) y.roomy y.few, (tt, (over (frame_after_pop f (on_stack tag 3 1)) 2 y.room, tt)))
-causes_calm (ins.Setb tag off b) len h f public x y = immediate_write f h tag off 1 y.roomy y.few
-causes_calm (ins.Cmpb tag off b) len h f public x y = immediate_read f h tag off 1 y.roomy y.few
-causes_calm (ins.Addb tag off b) len h f public x y = immediate_write f h tag off 1 y.roomy y.few
-causes_calm (ins.Subb tag off b) len h f public x y = immediate_write f h tag off 1 y.roomy y.few
-causes_calm (ins.Setw tag off w) len h f public x y = immediate_write f h tag off 2 y.roomy y.few
-causes_calm (ins.Cmpw tag off w) len h f public x y = immediate_read f h tag off 2 y.roomy y.few
-causes_calm (ins.Addw tag off w) len h f public x y = immediate_write f h tag off 2 y.roomy y.few
-causes_calm (ins.Subw tag off w) len h f public x y = immediate_write f h tag off 2 y.roomy y.few
-causes_calm (ins.Clearn tag off n) len h f public x y = (tt, immediate_write f h tag off n y.roomy y.few)
-causes_calm (ins.Testn tag off n) len h f public x y = (tt, immediate_read f h tag off n y.roomy y.few)
-causes_calm (ins.Incn tag off n) len h f public x y = (tt, immediate_write f h tag off n y.roomy y.few)
-causes_calm (ins.Decn tag off n) len h f public x y = (tt, immediate_write f h tag off n y.roomy y.few)
-causes_calm (ins.Notn tag off n) len h f public x y = (tt, immediate_write f h tag off n y.roomy y.few)
-causes_calm (ins.Cmpn tag off n) len h f public x y = (tt, pair_read f h tag off n y.roomy y.few)
-causes_calm (ins.Addn tag off n) len h f public x y = (tt, pair_write f h tag off n y.roomy y.few)
-causes_calm (ins.Subn tag off n) len h f public x y = (tt, pair_write f h tag off n y.roomy y.few)
-causes_calm (ins.Andn tag off n) len h f public x y = (tt, pair_write f h tag off n y.roomy y.few)
-causes_calm (ins.Orn tag off n) len h f public x y = (tt, pair_write f h tag off n y.roomy y.few)
-causes_calm (ins.Xorn tag off n) len h f public x y = (tt, pair_write f h tag off n y.roomy y.few)
+    simp (is, and_left (k == 0) (is_under f 2) y.direct, and_right (holds k f) _ here, and_right (holds k f) _ (call_over (k == 0) f to y.direct y.call_room))
+causes_calm (ins.Prim set number args) len h f public x last is y = prim_calm (primitive set number) args f h public x last is y.roomy y.few y.room
+causes_calm ins.Ret len h f public x last is y = absurd (cc y.no_return)
+causes_calm (ins.Reti i) len h f public x last is y = absurd (cc y.no_return)
+causes_calm (ins.Reto o) len h f public x last is y = absurd (cc y.no_return)
+causes_calm (ins.Retio i o) len h f public x last is y = absurd (cc y.no_return)
+causes_calm (ins.Index tag off size) len h f public x last is y = simp (is, under f h (on_stack tag 3 1) y.roomy y.few, over (frame_after_pop f (on_stack tag 3 1)) 2 y.room)
+causes_calm i len h f public x last is y =
+    simp (is, under_on f h y.roomy, under f h (row_uses i).needs y.roomy y.few, over f (row_uses i).pushes (omega (arith, y.room, y.roomy.high)))
 
 -- ---- instructions that always abend
 
@@ -220,25 +152,8 @@ prim_at_once (Some p) args f public x h = at_once _ _ h
 -- an instruction that abends by its own bytes does so with 06, whatever else holds
 pub always_first : (i : Ins) (f : Frame) (public : List ℕ) (x : Around) → always_abends i ≡ true → first_cause (causes i f public x) ≡ Some A06
 unfolding causes
-always_first (ins.Pushz n) f public x h = at_once _ _ h
-always_first (ins.Popn n) f public x h = at_once _ _ h
 always_first (ins.Prim set number args) f public x h = prim_at_once (primitive set number) args f public x h
-always_first (ins.Load tag off n) f public x h = at_once _ _ h
-always_first (ins.Store tag off n) f public x h = at_once _ _ h
-always_first (ins.Loadi tag off n) f public x h = at_once _ _ h
-always_first (ins.Storei tag off n) f public x h = at_once _ _ h
-always_first (ins.Clearn tag off n) f public x h = at_once _ _ h
-always_first (ins.Testn tag off n) f public x h = at_once _ _ h
-always_first (ins.Incn tag off n) f public x h = at_once _ _ h
-always_first (ins.Decn tag off n) f public x h = at_once _ _ h
-always_first (ins.Notn tag off n) f public x h = at_once _ _ h
-always_first (ins.Cmpn tag off n) f public x h = at_once _ _ h
-always_first (ins.Addn tag off n) f public x h = at_once _ _ h
-always_first (ins.Subn tag off n) f public x h = at_once _ _ h
-always_first (ins.Andn tag off n) f public x h = at_once _ _ h
-always_first (ins.Orn tag off n) f public x h = at_once _ _ h
-always_first (ins.Xorn tag off n) f public x h = at_once _ _ h
-always_first _ f public x h = absurd (cc h)
+always_first _ f public x h = grind (arith, h)
 
 -- ---- rows
 
@@ -281,7 +196,7 @@ calm_by false len size base h i f public x c is s few direct inside no_return ro
     let enough : size + base + height_after i h ≤ 512 = room is in
     let few_bytes : (row_uses i).needs ≤ h = need_few i h few is in
     let pops : (row_uses i).pops ≤ (row_uses i).needs = row_pops i in
-    first_calm (causes i f public x) c (causes_calm i len h f public x (record {
+    first_calm (causes i f public x) true c (causes_calm i len h f public x true refl (record {
       roomy = stands_roomy len size base h f s;
       code_len = s.code_len;
       few = few_bytes;

@@ -22,7 +22,8 @@ use Rattle.mc_check.specs.Checked.{ends_excluded, RunsCode, IsCalm, OnFollows}
 use Rattle.mc_machine_laws.specs.Limited.{AreLimited}
 use Rattle.mc_machine.specs.Sound.{IsSoundFrame, IsSoundChain}
 use Rattle.mc_check.specs.Standing.{none}
-use Rattle.mc_machine.proofs.SoundRows.{ChangesWithin, KeepsPartsOf, RowKeeps, row_keeps}
+use Rattle.mc_row_laws.specs.Keeping.{ChangeWithin, Keeps, OnDone}
+use Rattle.mc_row_laws.proofs.Keeping.{fixed_length, row_keeps}
 use Rattle.mc_machine.proofs.SoundChains.{SameLengths, sizes_changed}
 use Rattle.mc_check.proofs.RowFacts.{RowsAreCalm}
 use Rattle.mc_check.proofs.AcceptedFacts.{HasBases, room_at, undefined_never, past_never, GoodAt, good_at}
@@ -210,25 +211,25 @@ end_grows facts i f public x (Abends cause) is = tt
 end_grows facts i f public x (Does d) is = facts.grows i f public x d is
 
 -- the chain's applications and its frame after a row
-fixed_stays : (ch : Chain) (next : ℕ) (r : RowEnd) → AreLimited ch.map → IsSoundChain ch → RowKeeps (frame_at ch.frame next) r → FixedStays r
+fixed_stays : (ch : Chain) (next : ℕ) (r : RowEnd) → AreLimited ch.map → IsSoundChain ch → OnDone r (λ d. Keeps (frame_at ch.frame next) ch.public d.effect) → FixedStays r
 fixed_stays ch next (Abends cause) limited sound keeps = tt
-fixed_stays ch next (Does d) limited sound keeps = subst (λ (n : ℕ). n ≤ dynamic_base) (sym (keeps.fixed sound.0.pieces)) (fixed_low ch.map ch.frame limited sound.0)
+fixed_stays ch next (Does d) limited sound keeps = subst (λ (n : ℕ). n ≤ dynamic_base) (sym (fixed_length (frame_at ch.frame next) ch.public d.effect keeps sound.0.pieces)) (fixed_low ch.map ch.frame limited sound.0)
 
-settled_limited : (ch : Chain) (next : ℕ) (e : Effect) → AreLimited ch.map → IsSoundChain ch → KeepsPartsOf (frame_at ch.frame next) e → AreLimited (chain_after_effect ch e).map
+settled_limited : (ch : Chain) (next : ℕ) (e : Effect) → AreLimited ch.map → IsSoundChain ch → Keeps (frame_at ch.frame next) ch.public e → AreLimited (chain_after_effect ch e).map
 settled_limited ch next e limited sound keeps =
     let stands = sound.0 in
-    let within : ChangesWithin (length (app_of ch.map (Some ch.frame.name)).fixed) e.changes = subst (λ (n : ℕ). ChangesWithin n e.changes) stands.fixed (keeps.change stands.pieces) in
+    let within : ChangeWithin (length (app_of ch.map (Some ch.frame.name)).fixed) e.changes = subst (λ (n : ℕ). ChangeWithin n e.changes) stands.fixed (keeps.changes stands.pieces) in
     limited_still ch.map (chain_after_effect ch e).map (sizes_changed ch.map ch.frame.name e.changes within) limited
 
 module _ (code : List ℕ) (session most : ℕ) (accepts : Accepts code session most) (bases : HasBases code) where
   -- the frame after an instruction, if it runs the code
-  frame_held : (ch : Chain) (next : ℕ) (d : Done) → KeepsPartsOf (frame_at ch.frame next) d.effect → (HasCode code session ch.map ch.frame.name → DoneCalm code session most d) → OnGoing d.next (StandsIfRunning code session (chain_after_effect ch d.effect).map d.effect.frame)
+  frame_held : (ch : Chain) (next : ℕ) (d : Done) → Keeps (frame_at ch.frame next) ch.public d.effect → (HasCode code session ch.map ch.frame.name → DoneCalm code session most d) → OnGoing d.next (StandsIfRunning code session (chain_after_effect ch d.effect).map d.effect.frame)
   frame_held ch next d keeps calm =
       let back : HasCode code session (chain_after_effect ch d.effect).map d.effect.frame.name → HasCode code session ch.map ch.frame.name =
       λ has. code_back code session ch.map ch.frame.name d.effect.changes ch.frame.name (subst (λ (n : List ℕ). HasCode code session (chain_after_effect ch d.effect).map n) keeps.name has) in
       going_under d.next (HasCode code session (chain_after_effect ch d.effect).map d.effect.frame.name) (IsStanding code session d.effect.frame) (λ has. (calm (back has)).stands)
 
-  row_turn_held : (ch : Chain) (i : Ins) (next : ℕ) (r : RowEnd) → IsSoundChain ch → IsHeldChain code session ch → RowKeeps (frame_at ch.frame next) r → RowGrows ch.public r → (HasCode code session ch.map ch.frame.name → RowCalm code session most r) → OnFollows (row_turn ch i r).follows (IsHeldChain code session)
+  row_turn_held : (ch : Chain) (i : Ins) (next : ℕ) (r : RowEnd) → IsSoundChain ch → IsHeldChain code session ch → OnDone r (λ d. Keeps (frame_at ch.frame next) ch.public d.effect) → RowGrows ch.public r → (HasCode code session ch.map ch.frame.name → RowCalm code session most r) → OnFollows (row_turn ch i r).follows (IsHeldChain code session)
   row_turn_held ch i next (Abends cause) sound held keeps grows calm = tt
   row_turn_held ch i next (Does d) sound held keeps grows calm =
       let whole = held.whole in

@@ -5,7 +5,7 @@ use Rattle.std.specs.Prelude.{◌==◌, ◌&&◌, ◌||◌, nat_le}
 use Rattle.std.proofs.lemmas.Bool.{and_parts, leb-true}
 use Rattle.std.proofs.lemmas.List.{length-append, length-take-le, take-append-le, drop-take}
 use Rattle.mc_model_device.specs.Bytes.{splice}
-use Rattle.mc_model_machine.specs.Frame.{Frame, Effect, Place, Static, Dynamic, Public, where_is, floor, dynamic_base, dynamic_end, static_written, write_effect_at, write_effect, frame_after_push, frame_after_pop, frame_with_top, frame_with_flags, protect, static_bytes, pending_change}
+use Rattle.mc_model_machine.specs.Frame.{Frame, Effect, Place, Static, Dynamic, Public, where_is, floor, dynamic_base, dynamic_end, static_written, write_effect_at, write_effect, frame_after_push, frame_with_top, protect, static_bytes, pending_change}
 use Rattle.mc_model_machine.specs.Primitives.{frame_effect, effect_flagged}
 use Rattle.mc_model_device.proofs.ListLemmas.{length_splice}
 use Rattle.mc_check.specs.Standing.{StandsAt, calls_of}
@@ -55,13 +55,6 @@ stands_roomy len size base h f s =
     let room : size + base + h ≤ 512 = s.room in
     record { dyn = s.dyn; low = omega arith; top = s.dt; high = omega arith }
 
--- the top bytes taken off
-pub popped_roomy : (f : Frame) (h n : ℕ) → IsRoomy f h → n ≤ h → IsRoomy (frame_after_pop f n) (h - n)
-popped_roomy f h n r few =
-    let top : f.dt ≡ f.lb + h = r.top in
-    let high : f.dt ≤ dynamic_end = r.high in
-    record { dyn = r.dyn; low = r.low; top = omega arith; high = omega arith }
-
 -- What an effect leaves of a frame with these parts: DT is `height` bytes above LB then, the code goes on at `place`,
 -- and the calls are unchanged if the write is safe.
 pub record KeptParts (known : List ℕ) (size len base : ℕ) (opened : List ℕ) (height place : ℕ) (safe : Type 0) (e : Effect) : Type 0 where
@@ -79,15 +72,11 @@ KeepsCalls f height place safe e = KeptParts f.name f.session f.code_len f.lb (c
 
 -- ---- effects by kind
 
--- a frame whose flags or whose public segment changed
-pub framed_kept : (f : Frame) (h k : ℕ) (safe : Type 0) (public : List ℕ) (c z : Bool) → IsRoomy f h → k ≡ h → KeepsCalls f k f.at safe (frame_effect (frame_with_flags f c z) public)
-framed_kept f h k safe public c z r is =
+-- a frame as it was
+pub framed_kept : (f : Frame) (h k : ℕ) (safe : Type 0) (public : List ℕ) → IsRoomy f h → k ≡ h → KeepsCalls f k f.at safe (frame_effect f public)
+framed_kept f h k safe public r is =
     let top : f.dt ≡ f.lb + h = r.top in
     record { name = refl; session = refl; code_len = refl; lb = refl; dyn = r.dyn; dt = omega arith; at = refl; calls = λ p. refl }
-
--- a frame whose flags or whose public segment changed, with the top bytes taken off
-pub popped_kept : (f : Frame) (h n k : ℕ) (safe : Type 0) (public : List ℕ) (c z : Bool) → IsRoomy f h → n ≤ h → k ≡ h - n → KeepsCalls f k f.at safe (frame_effect (frame_with_flags (frame_after_pop f n) c z) public)
-popped_kept f h n k safe public c z r few is = framed_kept (frame_after_pop f n) (h - n) k safe public c z (popped_roomy f h n r few) is
 
 -- the code goes on elsewhere
 pub gone_kept : (f : Frame) (h k to : ℕ) (safe : Type 0) (public : List ℕ) → IsRoomy f h → k ≡ h → KeepsCalls f k to safe (frame_effect (record f { at = to }) public)
@@ -141,13 +130,12 @@ pushed_kept f h k b safe public r is room =
     spliced_kept f h k (f.dt + length b) f.dt b safe public r (omega arith) room (omega arith) (λ p. stack (omega arith))
 
 -- the top bytes replaced
-pub topped_kept : (f : Frame) (h k : ℕ) (b : List ℕ) (safe : Type 0) (public : List ℕ) (c z : Bool) → IsRoomy f h → length b ≤ h → k ≡ h → KeepsCalls f k f.at safe (frame_effect (frame_with_flags (frame_with_top f b) c z) public)
-topped_kept f h k b safe public c z r few is =
+pub topped_kept : (f : Frame) (h k : ℕ) (b : List ℕ) (safe : Type 0) (public : List ℕ) → IsRoomy f h → length b ≤ h → k ≡ h → KeepsCalls f k f.at safe (frame_effect (frame_with_top f b) public)
+topped_kept f h k b safe public r few is =
     let top : f.dt ≡ f.lb + h = r.top in
     let low : floor f ≤ f.lb = r.low in
     let high : f.dt ≤ dynamic_end = r.high in
-    let e : Effect = frame_effect (frame_with_top f b) public in
-    flagged_kept f k f.at safe e c z (spliced_kept f h k f.dt (f.dt - length b) b safe public r (omega arith) (omega arith) (omega arith) (λ p. stack (omega arith)))
+    spliced_kept f h k f.dt (f.dt - length b) b safe public r (omega arith) (omega arith) (omega arith) (λ p. stack (omega arith))
 
 -- the place of bytes that lie in the dynamic segment
 dynamic_fits : (s d p : Bool) (a n i j k dt : ℕ) → d ≡ (nat_le dynamic_base a && nat_le (a + n) dt)
@@ -173,7 +161,7 @@ IsSafeAt f a n safe = dynamic_base ≤ a → a + n ≤ dynamic_end → safe → 
 
 written_in_kept : (f : Frame) (h k : ℕ) (safe : Type 0) (public : List ℕ) (a : ℕ) (bytes : List ℕ) (place : Option Place) → IsRoomy f h → k ≡ h → IsSafeAt f a (length bytes) safe
     → where_is f a (length bytes) ≡ place → KeepsCalls f k f.at safe (write_effect_at f public bytes place)
-written_in_kept f h k safe public a bytes None r is untouched e = framed_kept f h k safe public f.c f.z r is
+written_in_kept f h k safe public a bytes None r is untouched e = framed_kept f h k safe public r is
 written_in_kept f h k safe public a bytes (Some (Static i)) r is untouched e = static_kept f.protected f h k safe public i bytes r is
 written_in_kept f h k safe public a bytes (Some (Dynamic i)) r is untouched e =
     let high : f.dt ≤ dynamic_end = r.high in
@@ -182,7 +170,7 @@ written_in_kept f h k safe public a bytes (Some (Dynamic i)) r is untouched e =
     let to : a + length bytes ≤ dynamic_end = omega arith in
     subst (λ (j : ℕ). KeepsCalls f k f.at safe (frame_effect (record f { dyn = splice f.dyn j bytes }) public)) (sym fits.2)
     (spliced_kept f h k f.dt a bytes safe public r fits.0 to (omega arith) (untouched fits.0 to))
-written_in_kept f h k safe public a bytes (Some (Public i)) r is untouched e = framed_kept f h k safe (splice public i bytes) f.c f.z r is
+written_in_kept f h k safe public a bytes (Some (Public i)) r is untouched e = framed_kept f h k safe (splice public i bytes) r is
 
 -- bytes written at an address
 pub written_kept : (f : Frame) (h k : ℕ) (safe : Type 0) (public : List ℕ) (a : ℕ) (bytes : List ℕ) → IsRoomy f h → k ≡ h → IsSafeAt f a (length bytes) safe → KeepsCalls f k f.at safe (write_effect f public a bytes)

@@ -8,6 +8,7 @@ mod calls;
 mod closing;
 mod judging;
 mod laws;
+mod primitives;
 #[cfg(test)]
 mod rows;
 mod shape;

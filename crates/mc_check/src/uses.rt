@@ -4,11 +4,10 @@ ghost use Rattle.mc_model_machine.specs.Code.{Shaped};
 ghost use Rattle.mc_model_machine.specs.Primitives as model;
 ghost use Rattle.mc_model_machine.specs.StackRows as shape;
 ghost use Rattle.mc_model_machine.specs.Row as row;
-ghost use Rattle.mc_prims.specs.Table.{primitive_of};
 ghost use Rattle.mc_check.specs.Seen.{uses_of};
 
+use crate::primitives::{pair_abends, pair_uses};
 use mc_model_machine::Ins;
-use mc_prims::Primitive;
 
 // The bytes of the stack that an instruction needs, those that it pops, and those that it pushes then.
 #[derive(Clone, Copy)]
@@ -19,7 +18,7 @@ pub struct Uses {
 }
 
 impl Uses {
-    fn new(needs: u16, pops: u16, pushes: u16) -> Uses
+    pub fn new(needs: u16, pops: u16, pushes: u16) -> Uses
         ensures { uses_of result ≡ shape.uses needs pops pushes }
     {
         Uses {
@@ -35,48 +34,6 @@ fn on_stack(tag: u8, top: u16, address: u16) -> u16
     ensures { result ≡ row.on_stack tag top address }
 {
     if tag == 0 { top } else { address }
-}
-
-fn primitive_uses(primitive: Primitive, args: &[u8; 3]) -> Uses
-    ensures { uses_of result ≡ shape.prim_uses (primitive_of primitive) args.now }
-{
-    match primitive {
-        Primitive::LoadCcr => Uses::new(0, 0, 1),
-        Primitive::CheckCase | Primitive::StoreCcr => Uses::new(1, 1, 0),
-        Primitive::Delegate | Primitive::DelegatorAid => Uses::new(2, 2, 0),
-        Primitive::Lookup => Uses::new(3, 3, 1),
-        Primitive::CompareFixed | Primitive::CopyFixed => Uses::new(4, 4, 0),
-        Primitive::MemoryCompare
-        | Primitive::MemoryCopy
-        | Primitive::Digest
-        | Primitive::Encipher(_)
-        | Primitive::Decipher(_) => Uses::new(6, 6, 0),
-        Primitive::Sign(_) => Uses::new(8, 8, 0),
-        Primitive::SetProtection => Uses::new(0, 0, 0),
-        Primitive::BitByte => Uses::new(1, 0, 0),
-        Primitive::BitWord => Uses::new(2, 0, 0),
-        Primitive::ShiftLeft | Primitive::ShiftRight => Uses::new(u16::from(args[0]), 0, 0),
-    }
-}
-
-// Returns the uses of a primitive by its set and number; a pair that is no primitive uses nothing.
-fn pair_uses(set: u8, number: u8, args: &[u8; 3]) -> Uses
-    ensures { uses_of result ≡ shape.pair_uses (model.primitive set number) args.now }
-{
-    match Primitive::of(set, number) {
-        Some(primitive) => primitive_uses(primitive, args),
-        None => Uses::new(0, 0, 0),
-    }
-}
-
-// Returns whether a primitive abends with 06 by its own bytes, whatever the stack holds.
-fn pair_abends(set: u8, number: u8, args: &[u8; 3]) -> bool
-    ensures { result ≡ shape.prim_abends (model.primitive set number) args.now }
-{
-    match Primitive::of(set, number) {
-        Some(primitive) => primitive.has_bad_argument(args),
-        None => true,
-    }
 }
 
 // Returns whether numbers of `n` bytes are valid operands.

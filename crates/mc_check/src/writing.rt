@@ -4,34 +4,17 @@ ghost use Rattle.mc_model_machine.specs.Primitives as model;
 ghost use Rattle.mc_model_machine.specs.StackRows as shape;
 ghost use Rattle.mc_check.specs.Seen.{writing_of};
 
+use crate::primitives::primitive_writing;
 use crate::uses::always_abends;
 use mc_model_machine::Ins;
-use mc_prims::Primitive;
 
 // The write of an instruction: at no address, at n bytes of an address by tag and offset, or at an address
 // that comes from the stack or from memory.
 #[derive(Clone, Copy)]
-enum Writing {
+pub enum Writing {
     Nothing,
     At { tag: u8, off: i16, n: u8 },
     Anywhere,
-}
-
-fn primitive_writing(set: u8, number: u8) -> Writing
-    ensures { writing_of result ≡ shape.prim_writing (model.primitive set number) }
-{
-    match Primitive::of(set, number) {
-        Some(
-            Primitive::MemoryCopy
-            | Primitive::CopyFixed
-            | Primitive::DelegatorAid
-            | Primitive::Digest
-            | Primitive::Encipher(_)
-            | Primitive::Decipher(_)
-            | Primitive::Sign(_),
-        ) => Writing::Anywhere,
-        _ => Writing::Nothing,
-    }
 }
 
 // Returns the write of an instruction if it does not abend.

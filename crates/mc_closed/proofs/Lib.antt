@@ -1,6 +1,5 @@
 mod Families
 mod SameGiven
-mod RowDenies
 mod OneRow
 mod Places
 mod Runs

@@ -16,12 +16,12 @@ use Rattle.mc_model_machine.specs.Frame.{Frame, la_of}
 use Rattle.mc_model_machine.specs.Primitives.{Then, Goes, Exits, Delegates, DelegateTo, Done, is_denied}
 use Rattle.mc_model_machine.specs.Row.{Does, causes, effect, first_cause, row_end, row}
 use Rattle.mc_model_machine.specs.Chain.{Outcome, Chain, Ran, Acted, Follows, Continues, Ends, code_in, with_pieces, changed_app, map_changed, chain_after_effect, chain_session, is_active, depth_of, called_app, chain_after_call, after_exit, follows, pair_of, row_turn, turn_of_fetch, frame_at, around, turn_of_chain, run_after_turn, run_of_chain, start_app, start, no_app, run}
-use Rattle.mc_machine_laws.proofs.RowNames.{row_name, RowKeepsName}
+use Rattle.mc_row_laws.specs.Keeping.{Keeps}
+use Rattle.mc_row_laws.proofs.Keeping.{effect_keeps}
 use Rattle.mc_machine_laws.proofs.RowWords.{none_holds}
 use Rattle.mc_closed.specs.Delegations.{is_decoded_delegation, can_delegate, has_delegation, CanCall}
 use Rattle.mc_closed.specs.Laws.{DelegatesByCode}
 use Rattle.mc_closed.proofs.Places.{has_from_place, can_by_place}
-use Rattle.mc_closed.proofs.RowDenies.{effect_deny}
 use Rattle.mc_closed.proofs.OneRow.{row_delegates}
 
 -- ---- what a run leaves of an application
@@ -187,27 +187,28 @@ done_calls m ch i d h name deny call =
     }
 
 judged_calls : (m : List (List ℕ × App)) (ch : Chain) (i : Ins) (at : ℕ) (o : Option Abend) → first_cause (causes i (frame_at ch.frame at) ch.public (around ch)) ≡ o → ChainFits m ch
-    → instruction_at (code_in (lookup ch.map ch.frame.name)) ch.frame.at ≡ Ok (i, at) → RowKeepsName ch.frame.name (row_end o (effect i (frame_at ch.frame at) ch.public (around ch)))
+    → instruction_at (code_in (lookup ch.map ch.frame.name)) ch.frame.at ≡ Ok (i, at)
     → ActCalls m ch (row_turn ch i (row_end o (effect i (frame_at ch.frame at) ch.public (around ch))))
-judged_calls m ch i at (Some a) e h is name = record { callers = tt; next = tt; first = λ alone cannot. record { none = refl; next = tt } }
-judged_calls m ch i at None e h is name =
+judged_calls m ch i at (Some a) e h is = record { callers = tt; next = tt; first = λ alone cannot. record { none = refl; next = tt } }
+judged_calls m ch i at None e h is =
     let f = frame_at ch.frame at in
     let x = around ch in
     let none = none_holds (causes i f ch.public x) e in
-    done_calls m ch i (effect i f ch.public x) h name (effect_deny i f ch.public x)
+    let keeps : Keeps f ch.public (effect i f ch.public x).effect = effect_keeps i f ch.public x in
+    done_calls m ch i (effect i f ch.public x) h keeps.name keeps.deny
     (λ k to.
     let d = row_delegates i f ch.public x none k to in
     calls m ch h (ap is_decoded_delegation is ∙ d.0) d.1)
 
-row_calls : (m : List (List ℕ × App)) (ch : Chain) (i : Ins) (at : ℕ) → ChainFits m ch → instruction_at (code_in (lookup ch.map ch.frame.name)) ch.frame.at ≡ Ok (i, at) → RowKeepsName ch.frame.name (row i (frame_at ch.frame at) ch.public (around ch))
+row_calls : (m : List (List ℕ × App)) (ch : Chain) (i : Ins) (at : ℕ) → ChainFits m ch → instruction_at (code_in (lookup ch.map ch.frame.name)) ch.frame.at ≡ Ok (i, at)
     → ActCalls m ch (row_turn ch i (row i (frame_at ch.frame at) ch.public (around ch)))
 unfolding row
-row_calls m ch i at h is name = judged_calls m ch i at (first_cause (causes i (frame_at ch.frame at) ch.public (around ch))) refl h is name
+row_calls m ch i at h is = judged_calls m ch i at (first_cause (causes i (frame_at ch.frame at) ch.public (around ch))) refl h is
 
 fetched_calls : (m : List (List ℕ × App)) (ch : Chain) (r : Result (Ins × ℕ) DecodeFault) → instruction_at (code_in (lookup ch.map ch.frame.name)) ch.frame.at ≡ r → ChainFits m ch → ActCalls m ch (turn_of_fetch ch r)
 fetched_calls m ch (Err Undefined) is h = record { callers = tt; next = tt; first = λ alone cannot. record { none = refl; next = tt } }
 fetched_calls m ch (Err Past) is h = record { callers = tt; next = tt; first = λ alone cannot. record { none = refl; next = tt } }
-fetched_calls m ch (Ok i) is h = row_calls m ch i.0 i.1 h is (row_name i.0 (frame_at ch.frame i.1) ch.public (around ch))
+fetched_calls m ch (Ok i) is h = row_calls m ch i.0 i.1 h is
 
 acted_calls : (m : List (List ℕ × App)) (ch : Chain) → ChainFits m ch → ActCalls m ch (turn_of_chain ch)
 unfolding turn_of_chain

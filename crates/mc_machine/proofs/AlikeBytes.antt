@@ -34,9 +34,13 @@ bytes_in_same f qs public n (Some (Static i)) s = ap (λ (l : List ℕ). take n 
 bytes_in_same f qs public n (Some (Dynamic i)) s = refl
 bytes_in_same f qs public n (Some (Public i)) s = refl
 
-pub bytes_same : (f : Frame) (qs : List (ℕ × List ℕ)) (public : List ℕ) (a n : ℕ) → SamePieces f.fixed f.pieces qs → bytes_at (with_pieces qs f) public a n ≡ bytes_at f public a n
+bytes_same : (f : Frame) (qs : List (ℕ × List ℕ)) (public : List ℕ) (a n : ℕ) → SamePieces f.fixed f.pieces qs → bytes_at (with_pieces qs f) public a n ≡ bytes_at f public a n
 unfolding bytes_at
 bytes_same f qs public a n s = ap (λ (b : List ℕ). cond (n == 0) [] b) (bytes_in_same f qs public n (where_is f a n) s)
+
+-- the same bytes are read, wherever DT is
+pub reads_same : (f : Frame) (qs : List (ℕ × List ℕ)) → SamePieces f.fixed f.pieces qs → (t : ℕ) (public : List ℕ) (a n : ℕ) → bytes_at (record f { pieces = qs; dt = t }) public a n ≡ bytes_at (record f { dt = t }) public a n
+reads_same f qs s t public a n = bytes_same (record f { dt = t }) qs public a n s
 
 -- ---- the limit of pending words
 
@@ -47,6 +51,9 @@ passes_same true f qs (Some (Public i)) n s = refl
 passes_same true f qs None n s = refl
 passes_same false f qs place n s = refl
 
-pub too_many_same : (f : Frame) (qs : List (ℕ × List ℕ)) (a n : ℕ) → SamePieces f.fixed f.pieces qs → too_many (with_pieces qs f) a n ≡ too_many f a n
+-- the limit is passed by the same writes, wherever DT is
+pub limit_same : (f : Frame) (qs : List (ℕ × List ℕ)) → SamePieces f.fixed f.pieces qs → (t a n : ℕ) → too_many (record f { pieces = qs; dt = t }) a n ≡ too_many (record f { dt = t }) a n
 unfolding too_many
-too_many_same f qs a n s = passes_same f.protected f qs (where_is f a n) n s
+limit_same f qs s t a n =
+    let g = record f { dt = t } in
+    passes_same f.protected g qs (where_is g a n) n s

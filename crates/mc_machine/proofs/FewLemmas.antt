@@ -8,7 +8,6 @@ use Rattle.mc_model_machine.specs.declared.instruction.Ins.TheVariants as ins
 use Rattle.mc_model_machine.specs.declared.machine.Abend.{Abend}
 use Rattle.mc_model_device.specs.declared.device.Stop.{Stop}
 use Rattle.mc_model_device.specs.Orders.{Answer, InOrder}
-use Rattle.mc_model_card.specs.Items.{BankItem}
 use Rattle.mc_model_device.specs.Bytes.{lookup}
 use Rattle.mc_model_device.specs.Card.{App}
 use Rattle.mc_model_machine.specs.Code.{Shaped}

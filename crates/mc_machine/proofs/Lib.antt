@@ -10,7 +10,6 @@ pub mod FollowLemmas
 pub mod ReadsLemmas
 pub mod RowFacts
 pub mod TurnLemmas
-pub mod SoundRows
 pub mod SoundChains
 pub mod SoundRuns
 pub mod LoneLemmas

@@ -4,8 +4,6 @@ use Rattle.std.specs.Prelude.{nat_lt, option_map, IsSome}
 use Rattle.mc_model_machine.specs.declared.instruction.Ins.{Ins}
 use Rattle.mc_model_machine.specs.declared.machine.Abend.{Abend}
 use Rattle.mc_model_machine.specs.declared.machine.Abend.TheVariants.{A09}
-use Rattle.mc_model_device.specs.Orders.{Answer}
-use Rattle.mc_model_card.specs.Items.{BankItem}
 use Rattle.mc_model_machine.specs.Frame.{Frame, la_of}
 use Rattle.mc_model_machine.specs.Primitives.{Then, Exits}
 use Rattle.mc_model_machine.specs.Row.{RowEnd, Abends, Does}

@@ -18,8 +18,8 @@ use Rattle.mc_model_machine.specs.Chain.{Chain, Write, Acted, Follows, Continues
 use Rattle.mc_model_card.specs.Items.{apps_after_items, write_items}
 use Rattle.mc_bank.specs.Bank.{no_app, app_of}
 use Rattle.mc_machine.specs.Sound.{IsSoundFrame, IsSoundChain}
-use Rattle.mc_machine_laws.specs.FewWords.{PiecesWithin}
-use Rattle.mc_machine.proofs.SoundRows.{ChangesWithin, KeepsPartsOf, RowKeeps, row_keeps, length_pieces}
+use Rattle.mc_row_laws.specs.Keeping.{PiecesWithin, ChangeWithin, Keeps, OnDone}
+use Rattle.mc_row_laws.proofs.Keeping.{length_laid, fixed_length, row_keeps}
 use Rattle.mc_model_device.proofs.MapLemmas.{same_name, lookup_inserted_lem, lookup_beside}
 
 -- ---- applications whose sizes do not change
@@ -54,10 +54,10 @@ sizes_by : (apps : List (List ℕ × App)) (n : List ℕ) (ps : List (ℕ × Lis
 sizes_by apps n ps None is within = subst (λ (now : List (List ℕ × App)). SameLengths apps now) (sym (ap (λ (o : Option App). changed_app apps n ps o) is)) (same_sizes apps)
 sizes_by apps n ps (Some a) is within =
     let app : app_of apps (Some n) ≡ a = ap (λ (o : Option App). unwrap_or o no_app) is in
-    let long = length_pieces a.fixed ps (subst (λ (x : App). PiecesWithin (length x.fixed) ps) app within) in
+    let long = length_laid ps a.fixed (subst (λ (x : App). PiecesWithin (length x.fixed) ps) app within) in
     subst (λ (now : List (List ℕ × App)). SameLengths apps now) (sym (ap (λ (o : Option App). changed_app apps n ps o) is)) (sizes_inserted apps n a (with_pieces ps a) is long refl)
 
-pub sizes_changed : (apps : List (List ℕ × App)) (n : List ℕ) (changes : Option (List (ℕ × List ℕ))) → ChangesWithin (length (app_of apps (Some n)).fixed) changes → SameLengths apps (map_changed apps n changes)
+pub sizes_changed : (apps : List (List ℕ × App)) (n : List ℕ) (changes : Option (List (ℕ × List ℕ))) → ChangeWithin (length (app_of apps (Some n)).fixed) changes → SameLengths apps (map_changed apps n changes)
 sizes_changed apps n None within = same_sizes apps
 sizes_changed apps n (Some ps) within = sizes_by apps n ps (lookup apps n) refl within
 
@@ -73,7 +73,7 @@ abbrev pub AreSound : List (List ℕ × App) → List Write → Type 0
 AreSound apps [] = Unit {0}
 AreSound apps (w ∷ ws) = IsSoundWrite apps w × AreSound (map_changed apps w.name (Some w.pieces)) ws
 
-write_sound : (apps : List (List ℕ × App)) (n : List ℕ) (changes : Option (List (ℕ × List ℕ))) → ChangesWithin (length (app_of apps (Some n)).fixed) changes → AreSound apps (write_of n changes)
+write_sound : (apps : List (List ℕ × App)) (n : List ℕ) (changes : Option (List (ℕ × List ℕ))) → ChangeWithin (length (app_of apps (Some n)).fixed) changes → AreSound apps (write_of n changes)
 write_sound apps n None within = tt
 write_sound apps n (Some ps) within = (record { words = refl; within = within }, tt)
 
@@ -99,16 +99,16 @@ frames_stay apps now [] same all = tt
 frames_stay apps now (f ∷ fs) same all = (frame_stays apps now f same all.0, frames_stay apps now fs same all.1)
 
 -- the frame after an effect, on the applications after its change
-frame_kept : (apps now : List (List ℕ × App)) (f : Frame) (e : Effect) → SameLengths apps now → IsSoundFrame apps f → KeepsPartsOf f e → IsSoundFrame now e.frame
-frame_kept apps now f e same s k =
-    let long = k.fixed s.pieces in
+frame_kept : (apps now : List (List ℕ × App)) (f : Frame) (public : List ℕ) (e : Effect) → SameLengths apps now → IsSoundFrame apps f → Keeps f public e → IsSoundFrame now e.frame
+frame_kept apps now f public e same s k =
+    let long = fixed_length f public e k s.pieces in
     let name : app_of now (Some e.frame.name) ≡ app_of now (Some f.name) = ap (λ (n : List ℕ). app_of now (Some n)) k.name in
     let held = s.held in
     let dyn = k.dyn in
     let size = k.session in
     record {
       fixed = long ∙ s.fixed ∙ sym (same.fixed f.name) ∙ ap (λ (a : App). length a.fixed) (sym name);
-      pieces = subst (λ (n : ℕ). PiecesWithin n e.frame.pieces) (sym long) (k.pieces s.pieces);
+      pieces = subst (λ (n : ℕ). PiecesWithin n e.frame.pieces) (sym long) (k.inside s.pieces);
       session = k.session ∙ s.session ∙ sym (same.session f.name) ∙ ap (λ (a : App). a.session) (sym name);
       held = omega (arith, held, dyn, size);
     }
@@ -189,15 +189,15 @@ onward : (ch now : Chain) (apps : List (List ℕ × App)) (r : Follows) → now.
 onward ch now apps (Ends o) map first s = tt
 onward ch now apps (Continues next) map first s = record { sound = s.sound; map = s.map ∙ map; first = s.first ∙ first }
 
-row_sound : (ch : Chain) (i : Ins) (f : Frame) (r : RowEnd) → IsSoundChain ch → IsSoundFrame ch.map f → f.name ≡ ch.frame.name → RowKeeps f r → TurnSound ch (row_turn ch i r)
+row_sound : (ch : Chain) (i : Ins) (f : Frame) (r : RowEnd) → IsSoundChain ch → IsSoundFrame ch.map f → f.name ≡ ch.frame.name → OnDone r (λ d. Keeps f ch.public d.effect) → TurnSound ch (row_turn ch i r)
 row_sound ch i f (Abends a) sound stands name keeps = record { writes = tt; follows = tt }
 row_sound ch i f (Does d) sound stands name keeps =
     let e = d.effect in
     let own : length f.fixed ≡ length (app_of ch.map (Some ch.frame.name)).fixed = stands.fixed ∙ ap (λ (n : List ℕ). length (app_of ch.map (Some n)).fixed) name in
-    let within : ChangesWithin (length (app_of ch.map (Some ch.frame.name)).fixed) e.changes = subst (λ (n : ℕ). ChangesWithin n e.changes) own (keeps.change stands.pieces) in
+    let within : ChangeWithin (length (app_of ch.map (Some ch.frame.name)).fixed) e.changes = subst (λ (n : ℕ). ChangeWithin n e.changes) own (keeps.changes stands.pieces) in
     let same : SameLengths ch.map (map_changed ch.map ch.frame.name e.changes) = sizes_changed ch.map ch.frame.name e.changes within in
     let now = chain_after_effect ch e in
-    let stays : IsSoundChain now = (frame_kept ch.map now.map f e same stands keeps, frames_stay ch.map now.map ch.below same sound.1) in
+    let stays : IsSoundChain now = (frame_kept ch.map now.map f ch.public e same stands keeps, frames_stay ch.map now.map ch.below same sound.1) in
     record {
       writes = write_sound ch.map ch.frame.name e.changes within;
       follows = onward ch now (apps_after_items ch.map (write_items (write_of ch.frame.name e.changes))) (follows now d.next) (sym (write_done ch.map ch.frame.name e.changes)) (first_name ch.frame e.frame ch.below (keeps.name ∙ name)) (follows_sound now d.next stays);

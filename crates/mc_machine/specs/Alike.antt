@@ -6,6 +6,7 @@ use Rattle.mc_model_device.specs.Pieces.{laid_pieces, touched_words}
 use Rattle.mc_model_machine.specs.Frame.{Frame, Effect}
 use Rattle.mc_model_machine.specs.Primitives.{Then, Done}
 use Rattle.mc_model_machine.specs.Row.{RowEnd, Abends, Does}
+use Rattle.mc_row_laws.specs.Keeping.{OnDone}
 use Rattle.mc_segs.specs.HeldFrames.{Seen, frame_reading, no_pieces}
 use Rattle.mc_segs.specs.Ends.{changed_bytes}
 
@@ -62,5 +63,4 @@ pub record KeepsEffect (f : Frame) (segment : List ℕ) (e : Effect) : Type 0 wh
 
 -- what a row that is done keeps; nothing is claimed of one that abends
 abbrev pub KeepsRow : Frame → List ℕ → RowEnd → Type 0
-KeepsRow f public (Abends a) = Unit {0}
-KeepsRow f public (Does d) = KeepsEffect f public d.effect
+KeepsRow f public r = OnDone r (λ d. KeepsEffect f public d.effect)

@@ -11,9 +11,9 @@ use Rattle.mc_model_device.specs.Image.{Two}
 use Rattle.mc_model_device.specs.Stopped.{cost, stands}
 use Rattle.mc_model_device.specs.Limits.{most_static}
 use Rattle.std.specs.Prelude.{nat_le, ◌==◌}
-use Rattle.mc_machine_laws.specs.FewWords.{PiecesWithin}
+use Rattle.mc_row_laws.specs.Keeping.{PiecesWithin}
 use Rattle.mc_machine_laws.specs.Limited.{AreLimited}
-use Rattle.mc_machine_laws.proofs.RowSizes.{length_laid}
+use Rattle.mc_row_laws.proofs.Keeping.{length_laid}
 use Rattle.mc_model_device.proofs.MapLemmas.{same_name, lookup_inserted_lem, lookup_beside, lookup_removed_lem, lookup_left}
 
 -- the lengths of static and session bytes

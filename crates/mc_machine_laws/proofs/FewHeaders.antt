@@ -12,27 +12,27 @@ use Rattle.mc_machine_laws.specs.FewHeaders.{FewHeadersLaw}
 use Rattle.mc_model_device.proofs.BoolLemmas.{or_swap}
 use Rattle.mc_model_device.proofs.LayoutLemmas.{length_spans}
 
-abbrev Pair : Type 0
+abbrev pub Pair : Type 0
 Pair = ℕ × List ℕ
 
 -- 1 if a test passes, else 0
-abbrev one_if : Bool → ℕ
+abbrev pub one_if : Bool → ℕ
 one_if true = 1
 one_if false = 0
 
 -- ---- filters over insertions
 
-abbrev count : (Pair → Bool) → List Pair → ℕ
+abbrev pub count : (Pair → Bool) → List Pair → ℕ
 count t es = length (filter t es)
 
-count_first : (t : Pair → Bool) (e : Pair) (es : List Pair) → count t (e ∷ es) ≡ one_if (t e) + count t es
+pub count_first : (t : Pair → Bool) (e : Pair) (es : List Pair) → count t (e ∷ es) ≡ one_if (t e) + count t es
 count_first t e es = by (t e)
   where
     by : (b : Bool) → length (cond b (e ∷ filter t es) (filter t es)) ≡ one_if b + length (filter t es)
     by true = omega arith
     by false = omega arith
 
-count_put : (t : Pair → Bool) (p : ℕ) (x : List ℕ) (es : List Pair) → count t (put_at p x es) ≡ one_if (t (p, x)) + count t es
+pub count_put : (t : Pair → Bool) (p : ℕ) (x : List ℕ) (es : List Pair) → count t (put_at p x es) ≡ one_if (t (p, x)) + count t es
 count_put t p x [] = count_first t (p, x) []
 count_put t p x (e ∷ es) = by (nat_lt p e.0) (count_put t p x es)
   where
@@ -40,7 +40,7 @@ count_put t p x (e ∷ es) = by (nat_lt p e.0) (count_put t p x es)
     by true r = count_first t (p, x) (e ∷ es)
     by false r = let a = count_first t e (put_at p x es) in let b = count_first t e es in omega (arith, a, b, r)
 
-one_most : (b : Bool) → one_if b ≤ 1
+pub one_most : (b : Bool) → one_if b ≤ 1
 one_most true = omega arith
 one_most false = omega arith
 
@@ -52,7 +52,7 @@ count_most t (e ∷ es) =
     let o : one_if (t e) ≤ 1 = one_most (t e) in
     omega arith
 
-any_put : (q : Pair → Bool) (p : ℕ) (x : List ℕ) (es : List Pair) → list_any q (put_at p x es) ≡ (q (p, x) || list_any q es)
+pub any_put : (q : Pair → Bool) (p : ℕ) (x : List ℕ) (es : List Pair) → list_any q (put_at p x es) ≡ (q (p, x) || list_any q es)
 any_put q p x [] = refl
 any_put q p x (e ∷ es) = by (nat_lt p e.0) (any_put q p x es)
   where
@@ -147,7 +147,7 @@ chained_length (g ∷ gs) = ap suc (chained_length gs)
 
 -- ---- the headers that stay
 
-self_pair : (e : Pair) → same_pair e e ≡ true
+pub self_pair : (e : Pair) → same_pair e e ≡ true
 self_pair e = and_from (e.0 == e.0) (bytes_eq e.1 e.1) (eq-eqb e.0 e.0 refl) ((bytes_eq-Decides e.1 e.1).1 refl)
 
 -- a test that fails of each application's header counts none

@@ -17,6 +17,7 @@ use Rattle.mc_model_machine.specs.Chain.{Outcome, Write, Chain, Ran, Acted, Foll
 use Rattle.mc_model_device.proofs.ImageLemmas.{all_append}
 use Rattle.mc_machine_laws.specs.FewWords.{HoldsFew, words_in, most_words}
 use Rattle.mc_machine_laws.specs.FewRuns.{AreCoded, FewRunsLaw}
+use Rattle.mc_row_laws.proofs.Keeping.{effect_keeps}
 use Rattle.mc_machine_laws.proofs.RowWords.{none_holds, DoneRowFacts, row_few, held_after, reported_any, delegates_short, most_64}
 use Rattle.mc_machine_laws.proofs.AppSizes.{SameSizes, Limited, limited_from, are_limited, limited_same}
 use Rattle.mc_machine_laws.proofs.RunSizes.{ChainFits, changed_by, NextFits, acted_fits, start_fits}
@@ -46,36 +47,38 @@ code_kept m n (Some ps) = code_changed (lookup m n) m n ps refl
 -- ---- chains
 
 -- a frame within the limits, whose name has at most 16 bytes
-record FewFrame (f : Frame) : Type 0 where
-  held : HoldsFew f
-  name : length f.name ≤ 16
+pub record FewFrame (f : Frame) : Type 0 where
+  pub held : HoldsFew f
+  pub name : length f.name ≤ 16
 
-abbrev AllFew : List Frame → Type 0
+abbrev pub AllFew : List Frame → Type 0
 AllFew [] = ⊤
 AllFew (f ∷ fs) = FewFrame f × AllFew fs
 
-abbrev Coded : List (List ℕ × App) → Type 0
+abbrev pub Coded : List (List ℕ × App) → Type 0
 Coded m = (n : List ℕ) (at : ℕ) (i : Ins) (next : ℕ) → instruction_at (code_in (lookup m n)) at ≡ Ok (i, next) → Shaped i
 
-record FewChain (ch : Chain) : Type 0 where
-  frame : FewFrame ch.frame
-  below : AllFew ch.below
-  limited : Limited ch.map
-  coded : Coded ch.map
+-- a chain of such frames, over applications within the limits whose code is bytes
+pub record FewChain (ch : Chain) : Type 0 where
+  pub frame : FewFrame ch.frame
+  pub below : AllFew ch.below
+  pub limited : Limited ch.map
+  pub coded : Coded ch.map
 
 coded_moved : (m d : List (List ℕ × App)) → SameCode m d → Coded m → Coded d
 coded_moved m d same h n at i next e = h n at i next (subst (λ (c : List ℕ). instruction_at c at ≡ Ok (i, next)) (same n) e)
 
-abbrev FewOfWrite : Write → Type 0
+abbrev pub FewOfWrite : Write → Type 0
 FewOfWrite w = w.words ≤ 64
 
-abbrev FewNext : Follows → Type 0
+abbrev pub FewNext : Follows → Type 0
 FewNext (Ends o) = ⊤
 FewNext (Continues c) = FewChain c
 
-record ActFew (t : Acted) : Type 0 where
-  writes : AllByRecursion FewOfWrite t.writes
-  next : FewNext t.follows
+-- a turn writes few words at a time, and what follows it is within the limits
+pub record ActFew (t : Acted) : Type 0 where
+  pub writes : AllByRecursion FewOfWrite t.writes
+  pub next : FewNext t.follows
 
 new_few : (n : List ℕ) (a : App) (session : List ℕ) → length n ≤ 16 → length a.fixed ≤ 4096 → FewFrame (new_frame n (length a.code) a.deny a.fixed session)
 new_few n a session short small = record { held = record { fixed = small; inside = tt; few = none_touched }; name = short }
@@ -107,7 +110,7 @@ follows_few s (Delegates n) short h = called_few s n (lookup s.map n) refl (shor
 
 -- ---- turns
 
-reported_by : (fs : List Frame) → AllFew fs → IfSome (delegator_in fs) (λ n. length n ≤ 16)
+pub reported_by : (fs : List Frame) → AllFew fs → IfSome (delegator_in fs) (λ n. length n ≤ 16)
 reported_by [] a = tt
 reported_by (f ∷ fs) a = a.0.name
 
@@ -120,7 +123,7 @@ done_few ch i at fits h p =
     let f = frame_at ch.frame at in
     let x = around ch in
     let d = effect i f ch.public x in
-    let k = row_few f ch.public x i in
+    let k = effect_keeps i f ch.public x in
     let held : HoldsFew f = record { fixed = h.frame.held.fixed; inside = h.frame.held.inside; few = h.frame.held.few } in
     let m : List (List ℕ × App) = map_changed ch.map ch.frame.name d.effect.changes in
     let same : SameSizes ch.map m = changed_by ch.map ch.frame.name (length ch.frame.fixed) d.effect.changes fits.frame.fixed (k.changes held.inside) in
@@ -133,7 +136,7 @@ done_few ch i at fits h p =
     }
     in
     let most : most_words i ≤ 64 = most_64 i in
-    let words : words_in d.effect.changes ≤ most_words i = k.words p (λ e. held.few) in
+    let words : words_in d.effect.changes ≤ most_words i = (row_few i f ch.public x p).words (λ e. held.few) in
     record {
       writes = written_few ch.frame.name d.effect.changes (omega arith);
       next = follows_few (chain_after_effect ch d.effect) d.next (λ n e. delegates_short i f ch.public x p.none n e) s;
@@ -160,7 +163,7 @@ fetched_few ch (Err Undefined) e fits h = record { writes = tt; next = tt }
 fetched_few ch (Err Past) e fits h = record { writes = tt; next = tt }
 fetched_few ch (Ok i) e fits h = row_turn_few ch i.0 i.1 fits h (h.coded ch.frame.name ch.frame.at i.0 i.1 e)
 
-acted_few : (ch : Chain) → ChainFits ch → FewChain ch → ActFew (turn_of_chain ch)
+pub acted_few : (ch : Chain) → ChainFits ch → FewChain ch → ActFew (turn_of_chain ch)
 unfolding turn_of_chain
 acted_few ch fits h = fetched_few ch (instruction_at (code_in (lookup ch.map ch.frame.name)) ch.frame.at) refl fits h
 
@@ -178,7 +181,7 @@ ran_few (suc n) ch fits h =
     let t : ActFew (turn_of_chain ch) = acted_few ch fits h in
     ran_on_few ch (turn_of_chain ch) _ (turn_of_chain ch).follows (λ c. run_of_chain n c) t.writes (acted_fits ch fits).next t.next (λ c k l. ran_few n c k l)
 
-start_few : (m : List (List ℕ × App)) (first session : List ℕ) (apdu : ApduParts) (o : Option App) → lookup m first ≡ o → AreCoded m → length first ≤ 16 → FewChain (start_app m first session apdu (unwrap_or o no_app))
+pub start_few : (m : List (List ℕ × App)) (first session : List ℕ) (apdu : ApduParts) (o : Option App) → lookup m first ≡ o → AreCoded m → length first ≤ 16 → FewChain (start_app m first session apdu (unwrap_or o no_app))
 start_few m first session apdu None e good short = record { frame = new_few first no_app session short (omega arith); below = tt; limited = limited_from m good.limited; coded = good.shaped }
 start_few m first session apdu (Some a) e good short = record { frame = new_few first a session short (good.limited first a e); below = tt; limited = limited_from m good.limited; coded = good.shaped }
 

@@ -1,7 +1,6 @@
-pub mod RowNames
 pub mod TouchedWords
 pub mod BlockLengths
-pub mod RowSizes
+pub mod ActWords
 pub mod RowWords
 pub mod AppSizes
 pub mod RunSizes

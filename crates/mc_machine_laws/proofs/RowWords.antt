@@ -1,5 +1,5 @@
 -- The words that each row's change touches, from the causes that do not hold and the ranges of its operands.
-use Rattle.std.proofs.Common.{◌≡◌, ℕ, ◌+◌, ◌-◌, ◌*◌, ◌<◌, ◌≤◌, ℤ, Bool, true, false, cond, List, [], ◌∷◌, ◌++◌, take, drop, length, Option, Some, None, refl, sym, subst, inl, inr, arith}
+use Rattle.std.proofs.Common.{◌≡◌, ℕ, ◌+◌, ◌-◌, ◌*◌, ◌<◌, ◌≤◌, ℤ, Bool, true, false, cond, List, [], ◌∷◌, ◌++◌, length, Option, Some, None, refl, sym, subst, inl, inr, arith}
 use Rattle.std.specs.Prelude.{◌==◌, ◌&&◌, ◌||◌, ◌⊎◌, ⊤, nat_le, slice_index, IfSome}
 use Rattle.std.specs.List.{AllByRecursion}
 use Rattle.std.proofs.lemmas.Bool.{and_parts, or_parts, not-false, leb-true}
@@ -7,18 +7,21 @@ use Rattle.sha1.specs.Sha1.{sha1}
 use Rattle.mc_model_machine.specs.declared.instruction.Ins.{Ins}
 use Rattle.mc_model_machine.specs.declared.instruction.Ins.TheVariants as ins
 use Rattle.mc_model_machine.specs.declared.machine.Abend.{Abend}
-use Rattle.mc_model_device.specs.Bytes.{bytes2, zeros}
+use Rattle.mc_model_device.specs.Bytes.{bytes2}
 use Rattle.mc_model_machine.specs.Code.{Shaped}
 use Rattle.mc_model_machine.specs.Modes.{ecb}
 use Rattle.mc_model_device.specs.Pieces.{touched_words}
-use Rattle.mc_model_machine.specs.Frame.{Frame, Effect, bytes_at, address_at, is_outside, no_access, write_effect, frame_after_pop, frame_after_push, top, frame_with_flags, come_back, dynamic_base}
-use Rattle.mc_model_machine.specs.Primitives.{Around, Exits, Delegates, frame_effect, effect_flagged, Cipher, Des, TripleDes, Aes, block_len, key_len, Primitive, CheckCase, LoadCcr, StoreCcr, Lookup, MemoryCompare, MemoryCopy, DelegateTo, DelegatorAid, Digest, CompareFixed, CopyFixed, SetProtection, Encipher, Decipher, Sign, BitByte, ShiftLeft, ShiftRight, BitWord, primitive, in_range, number_below_top, count_at, reported_causes, cipher_causes, later_causes, prim_causes, prim_effect, prim_done, masked_bytes, encipherment, decipherment}
-use Rattle.mc_model_machine.specs.Blocks.{shift_left_block, shift_right_block, add_blocks, sub_blocks, inc_block, dec_block, and_blocks, or_blocks, xor_blocks, not_block}
-use Rattle.mc_model_machine.specs.Row.{on_stack, indexed_address, holds, frame_after_jump, frame_after_call, target, operand, address_or_zero, writes, immediate_writes, pair_writes, place_of, value_of, first_of, causes, effect, first_cause, row_end, row}
-use Rattle.mc_model_device.proofs.ListLemmas.{splice_longer, zeros_short}
-use Rattle.mc_machine_laws.specs.FewWords.{PiecesWithin, HoldsFew, IsReportedName, most_of, most_words, EndsFew, EndsWithin, FewWordsLaw, FewWritesLaw}
+use Rattle.mc_model_machine.specs.Frame.{Frame, Effect, bytes_at, address_at, is_outside, no_access, frame_after_pop, top}
+use Rattle.mc_model_machine.specs.Primitives.{Around, Then, Done, Goes, Exits, Delegates, Cipher, Des, TripleDes, Aes, block_len, key_len, Primitive, MemoryCopy, DelegateTo, DelegatorAid, Digest, CopyFixed, SetProtection, Encipher, Decipher, Sign, primitive, in_range, number_below_top, count_at, reported_causes, cipher_causes, later_causes, prim_causes, prim_effect, prim_done, encipherment, decipherment}
+use Rattle.mc_model_machine.specs.Row.{holds, operand, address_or_zero, writes, immediate_writes, pair_writes, place_of, causes, effect, first_cause, row_end, row}
+use Rattle.mc_model_device.proofs.ListLemmas.{zeros_short}
+use Rattle.mc_row_laws.specs.Shapes.{Shape, meaning, delegator_shape, prim_shape, pair_shape, shape}
+use Rattle.mc_row_laws.specs.Keeping.{PiecesWithin, Leaves, OnLeave}
+use Rattle.mc_row_laws.proofs.RowShapes.{shapes}
+use Rattle.mc_row_laws.proofs.Keeping.{effect_keeps, effect_leaves, fixed_length}
+use Rattle.mc_machine_laws.specs.FewWords.{HoldsFew, IsReportedName, most_of, most_words, EndsFew, EndsWithin, FewWordsLaw, FewWritesLaw}
 use Rattle.mc_machine_laws.proofs.BlockLengths.{worked_short, each_short, map_short, stacked_short, at_short, enciphered_message, deciphered_message, signature_short, length_sha1}
-use Rattle.mc_machine_laws.proofs.RowSizes.{KeepsSizes, WriteFacts, still, pushes_few, tops_few, writes_few, flagged_few, protects_few, looks_few, reports_few}
+use Rattle.mc_machine_laws.proofs.ActWords.{ChangesFew, WriteFacts, Tested, act_most, shape_few}
 
 -- ---- no cause holds
 
@@ -62,10 +65,9 @@ pub first_byte : (args : List ℕ) → AllByRecursion (λ b. b < 256) args → s
 first_byte [] a = omega arith
 first_byte (b ∷ bs) a = a.0
 
--- what is known of more
-weaker : (f : Frame) (P Q : Type 0) (most : ℕ) (e : Effect) → (Q → P) → KeepsSizes f P most e → KeepsSizes f Q most e
-weaker f P Q most e g k =
-    record { name = k.name; session = k.session; fixed = k.fixed; dyn = k.dyn; inside = k.inside; changes = k.changes; words = λ q. k.words (g q); few = λ q. k.few (g q) }
+-- what a shape writes was tested
+abbrev IsTested : Frame → Shape → Type 0
+IsTested f s = Tested s.act (record f { dt = s.dt })
 
 -- ---- primitives
 
@@ -78,10 +80,6 @@ block_most : (c : Cipher) → block_len c ≤ 256
 block_most Des = omega arith
 block_most TripleDes = omega arith
 block_most Aes = omega arith
-
-reported_facts : (g : Frame) (a : ℕ) (o : Option (List ℕ)) → IfSome o (λ n. length n ≤ 16) → NoneHolds (reported_causes g a o) → IfSome o (λ name. WriteFacts g a (1 + length name) (length name ∷ name))
-reported_facts g a None t h = tt
-reported_facts g a (Some name) t h = record { short = omega arith; small = let few : length name ≤ 16 = t in omega arith; there = h.0; room = h.1.0 }
 
 copy_facts : (args : List ℕ) (f : Frame) (public : List ℕ) (x : Around) → PrimFacts MemoryCopy args f public x → WriteFacts (frame_after_pop f 6) (number_below_top f 4) (number_below_top f 6) (bytes_at (frame_after_pop f 6) public (number_below_top f 2) (number_below_top f 6))
 unfolding later_causes
@@ -157,45 +155,25 @@ sign_facts c args f public b x p short =
     let middle = or_parts (is_outside g (number_below_top f 8) m || is_outside g (number_below_top f 6) n) (is_outside g (number_below_top f 4) m) last.0 in
     record { short = short; small = block_most c; there = middle.1; room = p.none.1.1.0 }
 
-reported_delegator : (args : List ℕ) (f : Frame) (public : List ℕ) (x : Around) → PrimFacts DelegatorAid args f public x → IfSome x.delegator (λ name. WriteFacts (frame_after_pop f 2) (number_below_top f 2) (1 + length name) (length name ∷ name))
-unfolding later_causes
-reported_delegator args f public x p = reported_facts (frame_after_pop f 2) (number_below_top f 2) x.delegator p.reported p.none.1
+delegator_tested : (f : Frame) (o : Option (List ℕ)) → IfSome o (λ n. length n ≤ 16) → NoneHolds (reported_causes (frame_after_pop f 2) (number_below_top f 2) o) → IsTested f (delegator_shape f o)
+delegator_tested f None t h = tt
+delegator_tested f (Some name) t h = record { short = omega arith; small = let few : length name ≤ 16 = t in omega arith; there = h.0; room = h.1.0 }
 
-module _ (args : List ℕ) (f : Frame) (public : List ℕ) (x : Around) where
-  prim_few : (p : Primitive) → KeepsSizes f (PrimFacts p args f public x) (most_of (Some p)) (prim_effect p args f public x).effect
-  unfolding prim_effect
-  prim_few CheckCase = still f (PrimFacts CheckCase args f public x) _ public 33 refl refl refl refl (omega arith)
-  prim_few LoadCcr = pushes_few f (PrimFacts LoadCcr args f public x) 33 f.dt ((cond f.c 2 0 + cond f.z 1 0) ∷ []) public
-  prim_few StoreCcr = still f (PrimFacts StoreCcr args f public x) _ public 33 refl refl refl refl (omega arith)
-  prim_few Lookup = looks_few f (PrimFacts Lookup args f public x) 33 (f.dt - 3) public _
-  prim_few MemoryCompare = still f (PrimFacts MemoryCompare args f public x) _ public 33 refl refl refl refl (omega arith)
-  prim_few MemoryCopy = writes_few f (PrimFacts MemoryCopy args f public x) (f.dt - 6) (number_below_top f 4) (number_below_top f 6) public _ (λ p. copy_facts args f public x p)
-  prim_few DelegateTo = still f (PrimFacts DelegateTo args f public x) _ public 33 refl refl refl refl (omega arith)
-  prim_few DelegatorAid = reports_few f (PrimFacts DelegatorAid args f public x) (f.dt - 2) (number_below_top f 2) public x.delegator (λ p. reported_delegator args f public x p)
-  prim_few Digest = writes_few f (PrimFacts Digest args f public x) (f.dt - 6) (number_below_top f 2) 20 public _ (λ p. digest_facts args f public x p)
-  prim_few CompareFixed = still f (PrimFacts CompareFixed args f public x) _ public 33 refl refl refl refl (omega arith)
-  prim_few CopyFixed = writes_few f (PrimFacts CopyFixed args f public x) (f.dt - 4) (number_below_top f 4) (slice_index args 0) public _ (λ p. fixed_facts args f public x p)
-  prim_few SetProtection = protects_few f (PrimFacts SetProtection args f public x) public (slice_index args 0)
-  prim_few (Encipher c) = writes_few f (PrimFacts (Encipher c) args f public x) (f.dt - 6) (number_below_top f 4) (slice_index args 0) public _ (λ p. encipher_facts c args f public _ x p)
-  prim_few (Decipher c) = writes_few f (PrimFacts (Decipher c) args f public x) (f.dt - 6) (number_below_top f 4) (slice_index args 0) public _ (λ p. decipher_facts c args f public _ x p)
-  prim_few (Sign c) =
-      writes_few f (PrimFacts (Sign c) args f public x) (f.dt - 8) (number_below_top f 4) (block_len c) public _
-      (λ p. sign_facts c args f public _ x p (signature_short c _ _ _ (at_short (frame_after_pop f 8) public (number_below_top f 8) (block_len c))))
-  prim_few BitByte = tops_few f (PrimFacts BitByte args f public x) 33 (masked_bytes (slice_index args 0) (top f 1) (take 1 (drop 1 args))) public f.c _
-  prim_few ShiftLeft = tops_few f (PrimFacts ShiftLeft args f public x) 33 (shift_left_block (top f (slice_index args 0)) (slice_index args 1)).value public _ _
-  prim_few ShiftRight = tops_few f (PrimFacts ShiftRight args f public x) 33 (shift_right_block (top f (slice_index args 0)) (slice_index args 1)).value public _ _
-  prim_few BitWord = tops_few f (PrimFacts BitWord args f public x) 33 (masked_bytes (slice_index args 0) (top f 2) (take 2 (drop 1 args))) public f.c _
+prim_tested : (p : Primitive) (args : List ℕ) (f : Frame) (public : List ℕ) (x : Around) → PrimFacts p args f public x → IsTested f (prim_shape p args f public x)
+unfolding prim_shape later_causes
+prim_tested MemoryCopy args f public x p = copy_facts args f public x p
+prim_tested DelegatorAid args f public x p = delegator_tested f x.delegator p.reported p.none.1
+prim_tested Digest args f public x p = digest_facts args f public x p
+prim_tested CopyFixed args f public x p = fixed_facts args f public x p
+prim_tested (Encipher c) args f public x p = encipher_facts c args f public _ x p
+prim_tested (Decipher c) args f public x p = decipher_facts c args f public _ x p
+prim_tested (Sign c) args f public x p =
+    sign_facts c args f public _ x p (signature_short c _ _ _ (at_short (frame_after_pop f 8) public (number_below_top f 8) (block_len c)))
+prim_tested _ args f public x p = tt
 
-  prim_done_few : (o : Option Primitive) → (P : Type 0) → ((p : Primitive) → o ≡ Some p → P → PrimFacts p args f public x) → KeepsSizes f P (most_of o) (prim_done o args f public x).effect
-  prim_done_few None P facts = still f P f public 33 refl refl refl refl (omega arith)
-  prim_done_few (Some p) P facts = weaker f (PrimFacts p args f public x) P (most_of (Some p)) _ (facts p refl) (prim_few p)
-
--- no primitive exits
-prim_exits : (o : Option Primitive) (args : List ℕ) (f : Frame) (public : List ℕ) (x : Around) → (prim_done o args f public x).next ≡ Exits → (prim_done o args f public x).effect.changes ≡ None
-unfolding prim_effect
-prim_exits None args f public x e = refl
-prim_exits (Some DelegateTo) args f public x e = refl
-prim_exits (Some p) args f public x e = absurd (cc e)
+pair_tested : (o : Option Primitive) (args : List ℕ) (f : Frame) (public : List ℕ) (x : Around) → ((p : Primitive) → o ≡ Some p → PrimFacts p args f public x) → IsTested f (pair_shape o args f public x)
+pair_tested None args f public x facts = tt
+pair_tested (Some p) args f public x facts = prim_tested p args f public x (facts p refl)
 
 -- ---- rows
 
@@ -211,150 +189,80 @@ prim_facts set number args f public x p is h =
     let none : NoneHolds (prim_causes (Some p) args f public x) = subst (λ (o : Option Primitive). NoneHolds (prim_causes o args f public x)) is h.none in
     record { bytes = h.shaped.bytes; reported = h.reported; none = none.1.1 }
 
-module _ (f : Frame) (public : List ℕ) (x : Around) where
-  -- rows that write nothing
-  row_still : (i : Ins) (g : Frame) (segment : List ℕ) → g.name ≡ f.name → g.session ≡ f.session → g.fixed ≡ f.fixed → g.pieces ≡ f.pieces → length f.dyn ≤ length g.dyn → KeepsSizes f (DoneRowFacts i f public x) 33 (frame_effect g segment)
-  row_still i g segment = still f (DoneRowFacts i f public x) g segment 33
+-- what each row writes was tested
+shape_tested : (i : Ins) (f : Frame) (public : List ℕ) (x : Around) → DoneRowFacts i f public x → IsTested f (shape i f public x)
+unfolding shape causes
+shape_tested (ins.Prim set number args) f public x p = pair_tested (primitive set number) args f public x (λ q is. prim_facts set number args f public x q is p)
+shape_tested (ins.Store tag off n) f public x p = operand_facts (frame_after_pop f n) (operand f tag off (2 * n)) n (top f n) p.none.1.1 (stacked_short f n n) (byte_most n p.shaped.1)
+shape_tested (ins.Storei tag off n) f public x p =
+    record {
+      short = stacked_short f n n;
+      small = byte_most n p.shaped.1;
+      there = (or_parts (no_access f (operand f tag off (n + 2)) 2) (is_outside (frame_after_pop f n) (address_at f public (place_of f tag off (n + 2))) n) p.none.1.1.0).1;
+      room = p.none.1.1.1.0;
+    }
+shape_tested (ins.Setb tag off b) f public x p = imm_facts f tag off 1 _ p.none (omega arith) (omega arith)
+shape_tested (ins.Addb tag off b) f public x p = imm_facts f tag off 1 _ p.none (worked_short _ 1 _ (at_short f public _ 1)) (omega arith)
+shape_tested (ins.Subb tag off b) f public x p = imm_facts f tag off 1 _ p.none (worked_short _ 1 _ (at_short f public _ 1)) (omega arith)
+shape_tested (ins.Setw tag off w) f public x p = imm_facts f tag off 2 (bytes2 w) p.none (omega arith) (omega arith)
+shape_tested (ins.Addw tag off w) f public x p = imm_facts f tag off 2 _ p.none (worked_short _ 2 _ (at_short f public _ 2)) (omega arith)
+shape_tested (ins.Subw tag off w) f public x p = imm_facts f tag off 2 _ p.none (worked_short _ 2 _ (at_short f public _ 2)) (omega arith)
+shape_tested (ins.Clearn tag off n) f public x p = imm_facts f tag off n _ p.none.1 (zeros_short n) (byte_most n p.shaped.1)
+shape_tested (ins.Incn tag off n) f public x p = imm_facts f tag off n _ p.none.1 (worked_short _ n _ (at_short f public _ n)) (byte_most n p.shaped.1)
+shape_tested (ins.Decn tag off n) f public x p = imm_facts f tag off n _ p.none.1 (worked_short _ n _ (at_short f public _ n)) (byte_most n p.shaped.1)
+shape_tested (ins.Notn tag off n) f public x p = imm_facts f tag off n _ p.none.1 (map_short _ _ n (at_short f public _ n)) (byte_most n p.shaped.1)
+shape_tested (ins.Addn tag off n) f public x p = pair_facts f tag off n _ p.none.1 (worked_short _ n _ (at_short f public _ n)) p.shaped.1
+shape_tested (ins.Subn tag off n) f public x p = pair_facts f tag off n _ p.none.1 (worked_short _ n _ (at_short f public _ n)) p.shaped.1
+shape_tested (ins.Andn tag off n) f public x p = pair_facts f tag off n _ p.none.1 (each_short _ _ (top f n) n (at_short f public _ n)) p.shaped.1
+shape_tested (ins.Orn tag off n) f public x p = pair_facts f tag off n _ p.none.1 (each_short _ _ (top f n) n (at_short f public _ n)) p.shaped.1
+shape_tested (ins.Xorn tag off n) f public x p = pair_facts f tag off n _ p.none.1 (each_short _ _ (top f n) n (at_short f public _ n)) p.shaped.1
+shape_tested _ f public x p = tt
 
-  row_same : (i : Ins) (segment : List ℕ) → KeepsSizes f (DoneRowFacts i f public x) 33 (frame_effect f segment)
-  row_same i segment = row_still i f segment refl refl refl refl (omega arith)
+-- only a change of protection may change more than 33 words
+pair_most : (o : Option Primitive) (args : List ℕ) (f : Frame) (public : List ℕ) (x : Around) → act_most (pair_shape o args f public x).act ≡ most_of o
+unfolding prim_shape
+pair_most None args f public x = refl
+pair_most (Some DelegatorAid) args f public x = by x.delegator
+  where
+    by : (o : Option (List ℕ)) → act_most (delegator_shape f o).act ≡ 33
+    by None = refl
+    by (Some name) = refl
+pair_most (Some p) args f public x = refl
 
-  row_pushes : (i : Ins) (dt : ℕ) (b : List ℕ) → KeepsSizes f (DoneRowFacts i f public x) 33 (frame_effect (frame_after_push (record f { dt = dt }) b) public)
-  row_pushes i dt b = pushes_few f (DoneRowFacts i f public x) 33 dt b public
+shape_most : (i : Ins) (f : Frame) (public : List ℕ) (x : Around) → act_most (shape i f public x).act ≡ most_words i
+unfolding shape
+shape_most (ins.Prim set number args) f public x = pair_most (primitive set number) args f public x
+shape_most _ f public x = refl
 
-  row_flags : (i : Ins) (c z : Bool) → KeepsSizes f (DoneRowFacts i f public x) 33 (frame_effect (frame_with_flags f c z) public)
-  row_flags i c z = row_still i (frame_with_flags f c z) public refl refl refl refl (omega arith)
-
-  row_writes : (i : Ins) (dt a n : ℕ) (b : List ℕ) → (DoneRowFacts i f public x → WriteFacts (record f { dt = dt }) a n b) → KeepsSizes f (DoneRowFacts i f public x) 33 (write_effect (record f { dt = dt }) public a b)
-  row_writes i dt a n b w = writes_few f (DoneRowFacts i f public x) dt a n public b w
-
-  -- a result written to a place, which sets flags
-  row_becomes : (i : Ins) (a n : ℕ) (b : List ℕ) (c z : Bool) → (DoneRowFacts i f public x → WriteFacts f a n b) → KeepsSizes f (DoneRowFacts i f public x) 33 (effect_flagged (write_effect f public a b) c z)
-  row_becomes i a n b c z w = flagged_few f (DoneRowFacts i f public x) 33 (write_effect f public a b) c z (row_writes i f.dt a n b w)
-
-  row_gone : (i : Ins) (b on : Bool) (to : ℕ) → KeepsSizes f (DoneRowFacts i f public x) 33 (frame_effect (frame_after_jump b (cond on (frame_after_pop f 2) f) to) public)
-  row_gone i true true to = row_still i _ public refl refl refl refl (omega arith)
-  row_gone i true false to = row_still i _ public refl refl refl refl (omega arith)
-  row_gone i false true to = row_still i _ public refl refl refl refl (omega arith)
-  row_gone i false false to = row_still i _ public refl refl refl refl (omega arith)
-
-  row_called : (i : Ins) (b on : Bool) (to : ℕ) → KeepsSizes f (DoneRowFacts i f public x) 33 (frame_effect (frame_after_call b (cond on (frame_after_pop f 2) f) to) public)
-  row_called i true true to = row_still i _ public refl refl refl refl (splice_longer f.dyn (f.dt - 2 - dynamic_base) (bytes2 f.lb ++ bytes2 f.at))
-  row_called i true false to = row_still i _ public refl refl refl refl (splice_longer f.dyn (f.dt - dynamic_base) (bytes2 f.lb ++ bytes2 f.at))
-  row_called i false true to = row_still i _ public refl refl refl refl (omega arith)
-  row_called i false false to = row_still i _ public refl refl refl refl (omega arith)
-
-  row_returns : (i : Ins) (less more : ℕ) → KeepsSizes f (DoneRowFacts i f public x) 33 (frame_effect (come_back f less more) public)
-  row_returns i less more = row_still i (come_back f less more) public refl refl refl refl (splice_longer f.dyn (f.lb - 4 - less - dynamic_base) (top f more))
-
-  pub row_few : (i : Ins) → KeepsSizes f (DoneRowFacts i f public x) (most_words i) (effect i f public x).effect
-  unfolding effect causes
-  row_few ins.Nop = row_same ins.Nop public
-  row_few (ins.Setsw sw) = row_same (ins.Setsw sw) _
-  row_few (ins.Setla la) = row_same (ins.Setla la) _
-  row_few (ins.Setswla sw la) = row_same (ins.Setswla sw la) _
-  row_few ins.Exit = row_same ins.Exit public
-  row_few (ins.Exitsw sw) = row_same (ins.Exitsw sw) _
-  row_few (ins.Exitla la) = row_same (ins.Exitla la) _
-  row_few (ins.Exitswla sw la) = row_same (ins.Exitswla sw la) _
-  row_few (ins.Branch k d) = row_gone (ins.Branch k d) (holds k f) false _
-  row_few (ins.Jump k to) = row_gone (ins.Jump k to) (holds k f) (k == 0) (target f k to)
-  row_few (ins.Call k to) = row_called (ins.Call k to) (holds k f) (k == 0) (target f k to)
-  row_few (ins.Pushz n) = row_pushes (ins.Pushz n) f.dt (zeros n)
-  row_few (ins.Pushb b) = row_pushes (ins.Pushb b) f.dt (b ∷ [])
-  row_few (ins.Pushw w) = row_pushes (ins.Pushw w) f.dt (bytes2 w)
-  row_few (ins.Popn n) = row_still (ins.Popn n) (frame_after_pop f n) public refl refl refl refl (omega arith)
-  row_few ins.Popb = row_still ins.Popb (frame_after_pop f 1) public refl refl refl refl (omega arith)
-  row_few ins.Popw = row_still ins.Popw (frame_after_pop f 2) public refl refl refl refl (omega arith)
-  row_few (ins.Prim set number args) =
-      prim_done_few args f public x (primitive set number) (DoneRowFacts (ins.Prim set number args) f public x) (λ q is p. prim_facts set number args f public x q is p)
-  row_few ins.Ret = row_returns ins.Ret 0 0
-  row_few (ins.Reti i) = row_returns (ins.Reti i) i 0
-  row_few (ins.Reto o) = row_returns (ins.Reto o) 0 o
-  row_few (ins.Retio i o) = row_returns (ins.Retio i o) i o
-  row_few (ins.Load tag off n) = row_pushes (ins.Load tag off n) f.dt (value_of f public tag off n)
-  row_few (ins.Store tag off n) =
-      row_writes (ins.Store tag off n) (f.dt - n) (place_of f tag off (2 * n)) n (top f n)
-      (λ p. operand_facts (frame_after_pop f n) (operand f tag off (2 * n)) n (top f n) p.none.1.1 (stacked_short f n n) (byte_most n p.shaped.1))
-  row_few (ins.Loadi tag off n) = row_pushes (ins.Loadi tag off n) f.dt (bytes_at f public (address_at f public (place_of f tag off 2)) n)
-  row_few (ins.Storei tag off n) =
-      let to : ℕ = address_at f public (place_of f tag off (n + 2)) in
-      row_writes (ins.Storei tag off n) (f.dt - n) to n (top f n)
-      (λ p. record {
-        short = stacked_short f n n;
-        small = byte_most n p.shaped.1;
-        there = (or_parts (no_access f (operand f tag off (n + 2)) 2) (is_outside (frame_after_pop f n) to n) p.none.1.1.0).1;
-        room = p.none.1.1.1.0;
-      })
-  row_few (ins.Loada tag off) = row_pushes (ins.Loada tag off) f.dt (bytes2 (place_of f tag off 0))
-  row_few (ins.Index tag off size) = row_pushes (ins.Index tag off size) (f.dt - on_stack tag 3 1) (bytes2 (address_or_zero (indexed_address f tag off size)))
-  row_few (ins.Setb tag off b) = row_writes (ins.Setb tag off b) f.dt (place_of f tag off 1) 1 (b ∷ []) (λ p. imm_facts f tag off 1 (b ∷ []) p.none (omega arith) (omega arith))
-  row_few (ins.Cmpb tag off b) = row_flags (ins.Cmpb tag off b) _ _
-  row_few (ins.Addb tag off b) =
-      let v = value_of f public tag off 1 in
-      row_becomes (ins.Addb tag off b) (place_of f tag off 1) 1 (add_blocks v (b ∷ [])).value _ _ (λ p. imm_facts f tag off 1 (add_blocks v (b ∷ [])).value p.none (worked_short v 1 _ (at_short f public (place_of f tag off 1) 1)) (omega arith))
-  row_few (ins.Subb tag off b) =
-      let v = value_of f public tag off 1 in
-      row_becomes (ins.Subb tag off b) (place_of f tag off 1) 1 (sub_blocks v (b ∷ [])).value _ _ (λ p. imm_facts f tag off 1 (sub_blocks v (b ∷ [])).value p.none (worked_short v 1 _ (at_short f public (place_of f tag off 1) 1)) (omega arith))
-  row_few (ins.Setw tag off w) = row_writes (ins.Setw tag off w) f.dt (place_of f tag off 2) 2 (bytes2 w) (λ p. imm_facts f tag off 2 (bytes2 w) p.none (omega arith) (omega arith))
-  row_few (ins.Cmpw tag off w) = row_flags (ins.Cmpw tag off w) _ _
-  row_few (ins.Addw tag off w) =
-      let v = value_of f public tag off 2 in
-      row_becomes (ins.Addw tag off w) (place_of f tag off 2) 2 (add_blocks v (bytes2 w)).value _ _ (λ p. imm_facts f tag off 2 (add_blocks v (bytes2 w)).value p.none (worked_short v 2 _ (at_short f public (place_of f tag off 2) 2)) (omega arith))
-  row_few (ins.Subw tag off w) =
-      let v = value_of f public tag off 2 in
-      row_becomes (ins.Subw tag off w) (place_of f tag off 2) 2 (sub_blocks v (bytes2 w)).value _ _ (λ p. imm_facts f tag off 2 (sub_blocks v (bytes2 w)).value p.none (worked_short v 2 _ (at_short f public (place_of f tag off 2) 2)) (omega arith))
-  row_few (ins.Clearn tag off n) =
-      row_becomes (ins.Clearn tag off n) (place_of f tag off n) n (zeros n) _ _ (λ p. imm_facts f tag off n (zeros n) p.none.1 (zeros_short n) (byte_most n p.shaped.1))
-  row_few (ins.Testn tag off n) = row_flags (ins.Testn tag off n) _ _
-  row_few (ins.Incn tag off n) =
-      let v = value_of f public tag off n in
-      row_becomes (ins.Incn tag off n) (place_of f tag off n) n (inc_block v).value _ _ (λ p. imm_facts f tag off n (inc_block v).value p.none.1 (worked_short v n _ (at_short f public (place_of f tag off n) n)) (byte_most n p.shaped.1))
-  row_few (ins.Decn tag off n) =
-      let v = value_of f public tag off n in
-      row_becomes (ins.Decn tag off n) (place_of f tag off n) n (dec_block v).value _ _ (λ p. imm_facts f tag off n (dec_block v).value p.none.1 (worked_short v n _ (at_short f public (place_of f tag off n) n)) (byte_most n p.shaped.1))
-  row_few (ins.Notn tag off n) =
-      let v = value_of f public tag off n in
-      row_becomes (ins.Notn tag off n) (place_of f tag off n) n (not_block v) _ _ (λ p. imm_facts f tag off n (not_block v) p.none.1 (map_short _ v n (at_short f public (place_of f tag off n) n)) (byte_most n p.shaped.1))
-  row_few (ins.Cmpn tag off n) = row_flags (ins.Cmpn tag off n) _ _
-  row_few (ins.Addn tag off n) =
-      let v = first_of f public tag off n in
-      row_becomes (ins.Addn tag off n) (place_of f tag off (2 * n)) n (add_blocks v (top f n)).value _ _ (λ p. pair_facts f tag off n (add_blocks v (top f n)).value p.none.1 (worked_short v n _ (at_short f public (place_of f tag off (2 * n)) n)) p.shaped.1)
-  row_few (ins.Subn tag off n) =
-      let v = first_of f public tag off n in
-      row_becomes (ins.Subn tag off n) (place_of f tag off (2 * n)) n (sub_blocks v (top f n)).value _ _ (λ p. pair_facts f tag off n (sub_blocks v (top f n)).value p.none.1 (worked_short v n _ (at_short f public (place_of f tag off (2 * n)) n)) p.shaped.1)
-  row_few (ins.Andn tag off n) =
-      let v = first_of f public tag off n in
-      row_becomes (ins.Andn tag off n) (place_of f tag off (2 * n)) n (and_blocks v (top f n)) _ _ (λ p. pair_facts f tag off n (and_blocks v (top f n)) p.none.1 (each_short _ v (top f n) n (at_short f public (place_of f tag off (2 * n)) n)) p.shaped.1)
-  row_few (ins.Orn tag off n) =
-      let v = first_of f public tag off n in
-      row_becomes (ins.Orn tag off n) (place_of f tag off (2 * n)) n (or_blocks v (top f n)) _ _ (λ p. pair_facts f tag off n (or_blocks v (top f n)) p.none.1 (each_short _ v (top f n) n (at_short f public (place_of f tag off (2 * n)) n)) p.shaped.1)
-  row_few (ins.Xorn tag off n) =
-      let v = first_of f public tag off n in
-      row_becomes (ins.Xorn tag off n) (place_of f tag off (2 * n)) n (xor_blocks v (top f n)) _ _ (λ p. pair_facts f tag off n (xor_blocks v (top f n)) p.none.1 (each_short _ v (top f n) n (at_short f public (place_of f tag off (2 * n)) n)) p.shaped.1)
+-- the words that an instruction changes, if no cause holds
+pub row_few : (i : Ins) (f : Frame) (public : List ℕ) (x : Around) → DoneRowFacts i f public x → ChangesFew (length f.fixed) f.pieces (most_words i) (effect i f public x).effect
+row_few i f public x p =
+    let s = shape i f public x in
+    let k : ChangesFew (length f.fixed) f.pieces (act_most s.act) (meaning s f public).effect = shape_few s f public (shape_tested i f public x p) in
+    let l : ChangesFew (length f.fixed) f.pieces (most_words i) (meaning s f public).effect = subst (λ (n : ℕ). ChangesFew (length f.fixed) f.pieces n (meaning s f public).effect) (shape_most i f public x) k in
+    subst (λ (d : Done). ChangesFew (length f.fixed) f.pieces (most_words i) d.effect) (sym (shapes i f public x)) l
 
 -- ---- exits
 
-exit_none : (i : Ins) (f : Frame) (public : List ℕ) (x : Around) → (effect i f public x).next ≡ Exits → (effect i f public x).effect.changes ≡ None
-unfolding effect
-exit_none ins.Exit f public x e = refl
-exit_none (ins.Exitsw sw) f public x e = refl
-exit_none (ins.Exitla la) f public x e = refl
-exit_none (ins.Exitswla sw la) f public x e = refl
-exit_none (ins.Prim set number args) f public x e = prim_exits (primitive set number) args f public x e
-exit_none i f public x e = absurd (cc e)
+exit_by : (t : Then) (f : Frame) (e : Effect) → OnLeave t (Leaves f e) → t ≡ Exits → e.changes ≡ None
+exit_by Goes f e h is = absurd (cc is)
+exit_by Exits f e h is = h.changes
+exit_by (Delegates n) f e h is = absurd (cc is)
+
+exit_none : (d : Done) (f : Frame) → OnLeave d.next (Leaves f d.effect) → d.next ≡ Exits → d.effect.changes ≡ None
+exit_none d f h is = exit_by d.next f d.effect h is
 
 -- ---- the law
 
 -- the frame that a row leaves is within the limits
 pub held_after : (i : Ins) (f : Frame) (public : List ℕ) (x : Around) → DoneRowFacts i f public x → HoldsFew f → HoldsFew (effect i f public x).effect.frame
 held_after i f public x p held =
-    let k = row_few f public x i in
-    let same : length (effect i f public x).effect.frame.fixed ≡ length f.fixed = k.fixed held.inside in
+    let k = effect_keeps i f public x in
+    let same : length (effect i f public x).effect.frame.fixed ≡ length f.fixed = fixed_length f public (effect i f public x).effect k held.inside in
     record {
       fixed = subst (λ (n : ℕ). n ≤ 4096) (sym same) held.fixed;
       inside = subst (λ (n : ℕ). PiecesWithin n (effect i f public x).effect.frame.pieces) (sym same) (k.inside held.inside);
-      few = k.few p held.fixed held.few;
+      few = (row_few i f public x p).few held.fixed held.few;
     }
 
 -- a name that every row may write
@@ -366,7 +274,7 @@ reported_any i o h = tt
 judged_words : (i : Ins) (f : Frame) (public : List ℕ) (x : Around) → Shaped i → IsReportedName i x.delegator → (most_words i ≡ 64 → length (touched_words f.pieces) ≤ 64) → (o : Option Abend) → first_cause (causes i f public x) ≡ o
     → EndsWithin (most_words i) (row_end o (effect i f public x))
 judged_words i f public x shaped reported few (Some a) e = tt
-judged_words i f public x shaped reported few None e = (row_few f public x i).words (record { shaped = shaped; reported = reported; none = none_holds (causes i f public x) e }) few
+judged_words i f public x shaped reported few None e = (row_few i f public x (record { shaped = shaped; reported = reported; none = none_holds (causes i f public x) e })).words few
 
 pub row_words : (i : Ins) (f : Frame) (public : List ℕ) (x : Around) → Shaped i → IsReportedName i x.delegator → (most_words i ≡ 64 → length (touched_words f.pieces) ≤ 64) → EndsWithin (most_words i) (row i f public x)
 unfolding row
@@ -377,7 +285,7 @@ judged_few : (i : Ins) (f : Frame) (public : List ℕ) (x : Around) → Shaped i
 judged_few i f public x shaped reported held (Some a) e = tt
 judged_few i f public x shaped reported held None e =
     let p : DoneRowFacts i f public x = record { shaped = shaped; reported = reported_any i x.delegator reported; none = none_holds (causes i f public x) e } in
-    record { words = (row_few f public x i).words p (λ e. held.few); frame = held_after i f public x p held; exit = exit_none i f public x }
+    record { words = (row_few i f public x p).words (λ e. held.few); frame = held_after i f public x p held; exit = exit_none (effect i f public x) f (effect_leaves i f public x) }
 
 -- a name that a row delegates to has at most 16 bytes
 delegates_prim : (p : Primitive) (args : List ℕ) (f : Frame) (public : List ℕ) (x : Around) → NoneHolds (later_causes p args f public x) → (n : List ℕ) → (prim_effect p args f public x).next ≡ Delegates n → length n ≤ 16

@@ -16,9 +16,8 @@ use Rattle.mc_model_machine.specs.Primitives.{Then, Goes, Exits, Delegates, Done
 use Rattle.mc_model_machine.specs.Row.{Does, causes, effect, first_cause, row_end, row}
 use Rattle.mc_model_machine.specs.Chain.{Outcome, Chain, Ran, Acted, Follows, Continues, Ends, code_in, first_frame, chain_session, map_changed, write_of, chain_after_effect, is_active, depth_of, called_app, chain_after_call, reply_of, after_exit, follows, row_turn, turn_of_fetch, frame_at, around, turn_of_chain, run_after_turn, run_of_chain, start_app, start, no_app, run}
 use Rattle.mc_model_device.proofs.ImageLemmas.{all_append}
-use Rattle.mc_machine_laws.specs.FewWords.{PiecesWithin, most_words}
-use Rattle.mc_machine_laws.proofs.RowSizes.{KeepsSizes, InsideChange}
-use Rattle.mc_machine_laws.proofs.RowWords.{DoneRowFacts, row_few}
+use Rattle.mc_row_laws.specs.Keeping.{PiecesWithin, ChangeWithin, Keeps}
+use Rattle.mc_row_laws.proofs.Keeping.{effect_keeps, fixed_length}
 use Rattle.mc_machine_laws.proofs.AppSizes.{size_of, size_in, SameSizes, InsideApp, changed_sizes, WriteFits, moved_writes}
 
 -- ---- frames
@@ -111,28 +110,29 @@ follows_fits ch s Exits g = exited_fits ch s s.below g refl
 follows_fits ch s (Delegates n) g = called_fits ch s n (lookup s.map n) refl g
 
 -- a change of the running frame's application
-pub changed_by : (m : List (List ℕ × App)) (n : List ℕ) (size : ℕ) (o : Option (List (ℕ × List ℕ))) → AsMany (size_in m n) size → InsideChange size o → SameSizes m (map_changed m n o)
+pub changed_by : (m : List (List ℕ × App)) (n : List ℕ) (size : ℕ) (o : Option (List (ℕ × List ℕ))) → AsMany (size_in m n) size → ChangeWithin size o → SameSizes m (map_changed m n o)
 changed_by m n size None h a = λ k. refl
 changed_by m n size (Some ps) h a = changed_sizes m n ps (change_fits (size_in m n) size ps h a)
 
-written_by : (m : List (List ℕ × App)) (n : List ℕ) (size : ℕ) (o : Option (List (ℕ × List ℕ))) → AsMany (size_in m n) size → InsideChange size o → AllByRecursion (WriteFits m) (write_of n o)
+written_by : (m : List (List ℕ × App)) (n : List ℕ) (size : ℕ) (o : Option (List (ℕ × List ℕ))) → AsMany (size_in m n) size → ChangeWithin size o → AllByRecursion (WriteFits m) (write_of n o)
 written_by m n size None h a = tt
 written_by m n size (Some ps) h a = (change_fits (size_in m n) size ps h a, tt)
 
 -- a row that is done, of the frame with another code address
-done_fits : (ch : Chain) (i : Ins) (d : Done) (P : Type 0) (most : ℕ) → ChainFits ch → KeepsSizes ch.frame P most d.effect → ActFits ch (row_turn ch i (Does d))
-done_fits ch i d P most h k =
+done_fits : (ch : Chain) (i : Ins) (d : Done) → ChainFits ch → Keeps ch.frame ch.public d.effect → ActFits ch (row_turn ch i (Does d))
+done_fits ch i d h k =
     let e = d.effect in
     let n = ch.frame.name in
     let m : List (List ℕ × App) = map_changed ch.map n e.changes in
     let inside = h.frame.inside in
+    let size : length e.frame.fixed ≡ length ch.frame.fixed = fixed_length ch.frame ch.public e k inside in
     let same : SameSizes ch.map m = changed_by ch.map n (length ch.frame.fixed) e.changes h.frame.fixed (k.changes inside) in
-    let many : AsMany (size_in ch.map n) (length e.frame.fixed) = subst (AsMany (size_in ch.map n)) (sym (k.fixed inside)) h.frame.fixed in
+    let many : AsMany (size_in ch.map n) (length e.frame.fixed) = subst (AsMany (size_in ch.map n)) (sym size) h.frame.fixed in
     let named : AsMany (size_in ch.map e.frame.name) (length e.frame.fixed) = subst (λ (x : List ℕ). AsMany (size_in ch.map x) (length e.frame.fixed)) (sym k.name) many in
     let session : e.frame.session ≡ ch.frame.session = k.session in
     let before : ch.frame.session ≤ length ch.frame.dyn = h.frame.session in
     let room : length ch.frame.dyn ≤ length e.frame.dyn = k.dyn in
-    let frame : FrameFits ch.map e.frame = record { fixed = named; inside = subst (λ (x : ℕ). PiecesWithin x e.frame.pieces) (sym (k.fixed inside)) (k.inside inside); session = omega arith } in
+    let frame : FrameFits ch.map e.frame = record { fixed = named; inside = subst (λ (x : ℕ). PiecesWithin x e.frame.pieces) (sym size) (k.inside inside); session = omega arith } in
     let g : ChainGoesOn ch (chain_after_effect ch e) =
     record {
       same = same;
@@ -146,7 +146,7 @@ judged_fits : (ch : Chain) (i : Ins) (at : ℕ) (o : Option Abend) → ChainFits
 judged_fits ch i at (Some a) h = record { writes = tt; next = tt }
 judged_fits ch i at None h =
     let f = frame_at ch.frame at in
-    done_fits ch i (effect i f ch.public (around ch)) (DoneRowFacts i f ch.public (around ch)) (most_words i) h (row_few f ch.public (around ch) i)
+    done_fits ch i (effect i f ch.public (around ch)) h (effect_keeps i f ch.public (around ch))
 
 row_fits : (ch : Chain) (i : Ins) (at : ℕ) → ChainFits ch → ActFits ch (row_turn ch i (row i (frame_at ch.frame at) ch.public (around ch)))
 unfolding row

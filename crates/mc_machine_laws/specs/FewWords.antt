@@ -1,6 +1,5 @@
 -- The number of words of static bytes that one instruction changes, and the number of device writes that this takes.
-use Rattle.std.specs.Prelude.{◌≡◌, ℕ, ◌+◌, ◌≤◌, List, length, IfSome, Option, Some, None, ⊤}
-use Rattle.std.specs.List.{AllByRecursion}
+use Rattle.std.specs.Prelude.{◌≡◌, ℕ, ◌≤◌, List, length, IfSome, Option, Some, None, ⊤}
 use Rattle.mc_model_machine.specs.declared.instruction.Ins.{Ins}
 use Rattle.mc_model_machine.specs.declared.instruction.Ins.TheVariants as ins
 use Rattle.mc_model_device.specs.Image.{One, Two}
@@ -11,10 +10,7 @@ use Rattle.mc_model_machine.specs.Frame.{Frame}
 use Rattle.mc_model_machine.specs.Primitives.{Around, Exits, Done, Primitive, SetProtection, primitive}
 use Rattle.mc_model_machine.specs.Row.{RowEnd, Abends, Does, row}
 use Rattle.mc_model_device.specs.Limits.{most_static}
-
--- pieces that lie in a list of this length
-abbrev pub PiecesWithin : ℕ → List (ℕ × List ℕ) → Type 0
-PiecesWithin n ps = AllByRecursion (λ p. p.0 + length p.1 ≤ n) ps
+use Rattle.mc_row_laws.specs.Keeping.{PiecesWithin}
 
 -- a frame within the limits: its pending pieces lie in its static bytes and touch at most 64 words
 pub record HoldsFew (f : Frame) : Type 0 where

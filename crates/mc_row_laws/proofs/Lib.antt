@@ -1,0 +1,3 @@
+pub mod RowShapes
+pub mod Keeping
+pub mod RowNames
