@@ -2,21 +2,21 @@
 use Rattle.std.proofs.Common.{◌≡◌, ℕ, Bool, true, false, cond, List, [], length, Option, Some, None, Ok, Err, refl, sym, ◌∙◌, ap, subst}
 use Rattle.std.specs.Prelude.{◌==◌, ◌&&◌, Result, bytes_eq, is_some, option_map, unwrap_or, IsSome}
 use Rattle.std.proofs.lemmas.List.{length-replicate}
-use Rattle.mc_model_card.specs.declared.card.Part.{Part}
-use Rattle.mc_model_card.specs.declared.card.Part.TheVariants as part
 use Rattle.mc_model_card.specs.declared.card.Sizes.{Sizes}
-use Rattle.mc_model_card.specs.declared.unit.AidFault.{AidFault}
 use Rattle.mc_model_device.specs.declared.device.Stop.{Stop}
 use Rattle.mc_model_device.specs.Orders.{Answer, InOrder}
 use Rattle.mc_model_machine.specs.Apdu.{ApduParts}
 use Rattle.mc_model_device.specs.Bytes.{zeros, lookup, insert}
 use Rattle.mc_model_device.specs.Device.{DeviceState, Wrote}
 use Rattle.mc_model_device.specs.Card.{App, Card as ModelCard}
-use Rattle.mc_model_card.specs.Units.{name_of}
 use Rattle.mc_model_card.specs.Items.{BankItem}
-use Rattle.mc_model_card.specs.Manager.{Selected, SessionState, Open, Managed, Declines, Accepts, Accepted, Route, WrongLength, WrongClass, ToSelect, ToManager, ToApplication, route_of_parts, fresh, first_status, answer_unless, select_refusals, select_done, select, open_refusals, open_done, load_refusals, load_done, load_part, create_refusals, create_done, create, dir_in, is_taken, delete_refusals, delete_done, delete, is_selected, manage, room_on}
+use Rattle.mc_model_card.specs.Manager.{Selected, SessionState, Managed, Declines, Accepts, Accepted, Route, WrongLength, WrongClass, ToSelect, ToManager, ToApplication, route_of_parts, fresh, first_status, answer_unless, select_refusals, select_done, select, is_selected, manage, room_on}
 use Rattle.mc_model_machine.specs.Chain.{Reply}
 use Rattle.mc_model_card.specs.Commands.{Command, manager_command, application_command, by_route}
+use Rattle.mc_manager_laws.specs.Orders.{Order, order_of}
+use Rattle.mc_manager_laws.specs.Answers.{IsAnswer}
+use Rattle.mc_manager_laws.specs.Answers as answer
+use Rattle.mc_manager_laws.proofs.Orders.{answer_made}
 use Rattle.mc_bank.specs.Bank.{no_app, app_of}
 use Rattle.mc_bank.specs.Slots.{slot_place}
 use Rattle.mc_bank.specs.SlotLaws.{has_sizes}
@@ -38,9 +38,8 @@ use Rattle.mc_card.specs.Parts.{card_in, session_state_in, view_in, IsReadyCard}
 use Rattle.mc_card.specs.Ends.{is_passed}
 use Rattle.mc_card.specs.Managing.{IsAnswered, IsPassed}
 use Rattle.mc_card.proofs.StaticLemmas.{going_apps}
-use Rattle.mc_card.proofs.ManagerLemmas.{none_of, due_made}
+use Rattle.mc_card.proofs.ManagerLemmas.{due_made}
 use Rattle.mc_model_device.proofs.MapLemmas.{same_name, lookup_beside, lookup_left, other_way}
-use Rattle.mc_model_device.proofs.BoolLemmas.{no_value}
 
 -- ---- the verdict on a command, and what it does
 
@@ -82,10 +81,6 @@ module _ (apps : List (List ℕ × App)) (n : List ℕ) (there : is_some (lookup
   abbrev CommandSpares : CommandDue → Type 0
   CommandSpares d = lookup (apps_after d apps) n ≡ lookup apps n
 
-  by_refusal : (o : Option ℕ) (d : Accepted) → (o ≡ None → CommandSpares (Does d)) → CommandSpares (due_manager (answer_unless o d))
-  by_refusal None d h = h refl
-  by_refusal (Some sw) d h = refl
-
   inserted_spares : (k : List ℕ) (x : App) → lookup apps k ≡ None → lookup (insert apps k x) n ≡ lookup apps n
   inserted_spares k x none = by_test (bytes_eq k n) refl
     where
@@ -93,47 +88,16 @@ module _ (apps : List (List ℕ × App)) (n : List ℕ) (there : is_some (lookup
       by_test true e = absurd (cc (ap (λ (t : List ℕ). is_some (lookup apps t)) (sym (same_name k n e)), ap is_some none, there))
       by_test false e = lookup_beside apps k x n e
 
-  load_spares : (p : Part) (session_state : SessionState) (a : ApduParts) → CommandSpares (due_manager (load_part p session_state a))
-  load_spares p session_state a = by_refusal (first_status (load_refusals session_state.load p a)) (load_done session_state session_state.load p a) (λ e. by_load session_state.load)
-    where
-      by_load : (x : Option Open) → CommandSpares (Does (load_done session_state x p a))
-      by_load None = refl
-      by_load (Some o) = refl
-
-  create_spares : (session_state : SessionState) (a : ApduParts) → CommandSpares (due_manager (create apps session_state a))
-  create_spares session_state a =
-      by_refusal (first_status (create_refusals apps session_state.load a)) (create_done session_state session_state.load (name_of (dir_in session_state.load))) (λ e.
-      let one = none_of _ 0x6A86 _ e in
-      let two = none_of _ 0x6700 _ one.1 in
-      let three = none_of _ 0x6985 _ two.1 in
-      let four = none_of _ 0x6A80 _ three.1 in
-      let five = none_of _ 0x6A89 _ four.1 in
-      by_load session_state.load (name_of (dir_in session_state.load)) five.0)
-    where
-      by_load : (x : Option Open) (k : Result (List ℕ) AidFault) → is_taken apps k ≡ false → CommandSpares (Does (create_done session_state x k))
-      by_load None k h = refl
-      by_load (Some o) (Err f) h = refl
-      by_load (Some o) (Ok k) h = inserted_spares k (fresh o) (no_value (lookup apps k) h)
-
-  delete_spares : (session_state : SessionState) (a : ApduParts) → (is_selected session_state.selected a.body ≡ false → bytes_eq a.body n ≡ false) → CommandSpares (due_manager (delete apps session_state a))
-  delete_spares session_state a other =
-      by_refusal (first_status (delete_refusals apps session_state a)) (delete_done session_state a) (λ e.
-      let one = none_of _ 0x6A86 _ e in
-      let two = none_of _ 0x6700 _ one.1 in
-      let three = none_of _ 0x6A82 _ two.1 in
-      let four = none_of _ 0x6985 _ three.1 in
-      lookup_left apps a.body n (other four.0))
-
-  by_test : (x y : Managed) → CommandSpares (due_manager x) → CommandSpares (due_manager y) → (b : Bool) → CommandSpares (due_manager (cond b x y))
-  by_test x y h k true = h
-  by_test x y h k false = k
+  made_spares : (room : Sizes → Option ℕ) (session_state : SessionState) (a : ApduParts) (o : Order) (m : Managed) → (is_selected session_state.selected a.body ≡ false → bytes_eq a.body n ≡ false)
+      → IsAnswer room apps session_state a o m → CommandSpares (due_manager m)
+  made_spares room session_state a _ _ other (answer.refused o sw h) = refl
+  made_spares room session_state a _ _ other (answer.quiet o body load h) = refl
+  made_spares room session_state a _ _ other (answer.loaded p l h) = refl
+  made_spares room session_state a _ _ other (answer.created l k h) = inserted_spares k (fresh l) h.free
+  made_spares room session_state a _ _ other (answer.deleted h) = lookup_left apps a.body n (other h.other)
 
   manage_spares : (room : Sizes → Option ℕ) (session_state : SessionState) (a : ApduParts) → (is_selected session_state.selected a.body ≡ false → bytes_eq a.body n ≡ false) → CommandSpares (due_manager (manage room apps session_state a))
-  unfolding manage
-  manage_spares room session_state a other =
-      by_test _ _ (by_refusal (first_status (open_refusals room apps a)) (open_done room session_state a) (λ e. refl)) (by_test _ _ (load_spares part.Code session_state a) (by_test _ _ (load_spares part.Data session_state a)
-      (by_test _ _ (load_spares part.Dir session_state a) (by_test _ _ (load_spares part.Fci session_state a)
-      (by_test _ _ (create_spares session_state a) (by_test _ _ (delete_spares session_state a other) refl (a.ins == 0x18)) (a.ins == 0x16)) (a.ins == 0x22)) (a.ins == 0x20)) (a.ins == 0x26)) (a.ins == 0x24)) (a.ins == 0x12)
+  manage_spares room session_state a other = made_spares room session_state a (order_of a.ins) (manage room apps session_state a) other (answer_made room apps session_state a)
 
 -- the selected application is unchanged by a command
 due_spares : (v : BankView) (s : List ℕ) (m : ManagerState) (t : Selection) (r : Route) → m.selected ≡ Some t → is_some (lookup v.state.apps t.aid) ≡ true

@@ -1,26 +1,25 @@
 -- The number of device writes of each item that a command began.
-use Rattle.std.proofs.Common.{◌≡◌, ℕ, zero, suc, ◌+◌, ◌-◌, ◌≤◌, Bool, true, false, cond, not, List, [], ◌∷◌, ◌++◌, length, map, Option, Some, None, Result, Ok, Err, refl, sym, ap, subst, inl, inr, arith, length-append}
-use Rattle.std.specs.Prelude.{⊤, ◌==◌}
+use Rattle.std.proofs.Common.{◌≡◌, ℕ, zero, suc, ◌+◌, ◌-◌, ◌≤◌, true, false, not, List, [], ◌∷◌, ◌++◌, length, Option, Some, None, Ok, Err, refl, sym, ap, subst, inl, inr, arith, length-append}
 use Rattle.std.specs.List.{AllByRecursion}
-use Rattle.mc_model_card.specs.declared.card.Part.{Part}
-use Rattle.mc_model_card.specs.declared.card.Part.TheVariants as part
-use Rattle.mc_model_card.specs.declared.unit.AidFault.{AidFault}
 use Rattle.mc_model_device.specs.declared.device.Stop.{Stop}
 use Rattle.mc_model_device.specs.Orders.{Answer, InOrder}
-use Rattle.mc_model_device.specs.Bytes.{lookup}
 use Rattle.mc_model_device.specs.Image.{Two}
 use Rattle.mc_model_device.specs.Stopped.{cost}
 use Rattle.mc_model_machine.specs.Apdu.{ApduParts}
 use Rattle.mc_model_device.specs.Device.{DeviceState, IsSized, Wrote as DeviceWrote}
 use Rattle.mc_model_device.specs.Card.{App, Card, means}
 use Rattle.mc_model_machine.specs.Chain.{Write, no_app}
-use Rattle.mc_model_card.specs.Items.{Change, Fixed, Created, Deleted, Item, Plain, Atomic, weight, moves, card_done, BankItem, Piece, Blank, Note, Commit, Enter, Remove, write_items}
-use Rattle.mc_model_card.specs.Manager.{SessionState, Selected, Route, WrongLength, WrongClass, ToSelect, ToManager, ToApplication, Open, Accepted, Managed, Declines, Accepts, answer_unless, select, select_done, manage, open_load, open_refusals, open_done, delete, delete_refusals, delete_done, load_part, load_done, load_refusals, create, create_done, create_refusals, first_status, dir_in, room_on}
-use Rattle.mc_model_card.specs.Units.{name_of}
-use Rattle.mc_model_card.specs.Commands.{item_of, atomic_of, manager_command, by_route}
+use Rattle.mc_model_card.specs.Items.{Fixed, Created, Item, Plain, Atomic, weight, moves, card_done, BankItem, write_items}
+use Rattle.mc_model_card.specs.Manager.{SessionState, Selected, Route, WrongLength, WrongClass, ToSelect, ToManager, ToApplication, p1p2, word_parts, fresh, select, manage, room_on}
+use Rattle.mc_model_card.specs.Commands.{Command, atomic_of, manager_command, by_route}
 use Rattle.mc_model_device.proofs.OrdersLemmas.{in_order_append}
 use Rattle.mc_machine_laws.proofs.FewHeaders.{few_headers_law}
 use Rattle.mc_machine_laws.proofs.RowWords.{few_writes_law}
+use Rattle.mc_manager_laws.specs.Orders.{Order, order_of}
+use Rattle.mc_manager_laws.specs.OnCard.{IsCommand, IsSelect, plains, blank_words}
+use Rattle.mc_manager_laws.specs.OnCard as made
+use Rattle.mc_manager_laws.proofs.OnCard.{command_made, selects_law}
+use Rattle.mc_manager_laws.proofs.Plains.{plains_are}
 use Rattle.mc_bank.specs.Bank.{BankState, AreApps}
 use Rattle.mc_store.specs.declared.store.Store.{Store}
 use Rattle.mc_store.specs.Store.{apps_in, is_going, store_state}
@@ -140,87 +139,25 @@ module _ {N : Type 0} (state : N → DeviceState) (wrote : N → ℕ → List �
 
 -- ---- the items of the manager
 
--- a change of headers: none of static bytes
-abbrev OfHeaders : Option Change → Type 0
-OfHeaders None = ⊤
-OfHeaders (Some (Fixed n ps)) = ⊥
-OfHeaders (Some (Created n a)) = ⊤
-OfHeaders (Some (Deleted n)) = ⊤
-
-abbrev OnlyHeaders : Managed → Type 0
-OnlyHeaders (Declines sw) = ⊤
-OnlyHeaders (Accepts a) = OfHeaders a.change
-
-by_status : (o : Option ℕ) (a : Accepted) → OfHeaders a.change → OnlyHeaders (answer_unless o a)
-by_status (Some sw) a h = tt
-by_status None a h = h
-
-select_headers : (session_state : SessionState) (a : ApduParts) (o : Option App) → OfHeaders (select_done session_state a o).change
-select_headers session_state a None = tt
-select_headers session_state a (Some app) = tt
-
-load_headers : (session_state : SessionState) (o : Option Open) (p : Part) (a : ApduParts) → OfHeaders (load_done session_state o p a).change
-load_headers session_state None p a = tt
-load_headers session_state (Some o) p a = tt
-
-create_headers : (session_state : SessionState) (o : Option Open) (n : Result (List ℕ) AidFault) → OfHeaders (create_done session_state o n).change
-create_headers session_state None n = tt
-create_headers session_state (Some o) (Err e) = tt
-create_headers session_state (Some o) (Ok n) = tt
-
-either : (b : Bool) (x y : Managed) → OnlyHeaders x → OnlyHeaders y → OnlyHeaders (cond b x y)
-either true x y h k = h
-either false x y h k = k
-
-part_headers : (session_state : SessionState) (p : Part) (a : ApduParts) → OnlyHeaders (load_part p session_state a)
-part_headers session_state p a = by_status (first_status (load_refusals session_state.load p a)) (load_done session_state session_state.load p a) (load_headers session_state session_state.load p a)
-
-create_only : (map : List (List ℕ × App)) (session_state : SessionState) (a : ApduParts) → OnlyHeaders (create map session_state a)
-create_only map session_state a = by_status (first_status (create_refusals map session_state.load a)) (create_done session_state session_state.load (name_of (dir_in session_state.load))) (create_headers session_state session_state.load (name_of (dir_in session_state.load)))
-
-manage_headers : (c : Card) (session_state : SessionState) (a : ApduParts) → OnlyHeaders (manage (room_on c) c.apps session_state a)
-unfolding manage
-manage_headers c session_state a =
-    let map = c.apps in
-    let deletes = cond (a.ins == 0x18) (delete map session_state a) (Declines 0x6D00) in
-    let creates = cond (a.ins == 0x16) (create map session_state a) deletes in
-    let fci = cond (a.ins == 0x22) (load_part part.Fci session_state a) creates in
-    let dir = cond (a.ins == 0x20) (load_part part.Dir session_state a) fci in
-    let init = cond (a.ins == 0x26) (load_part part.Data session_state a) dir in
-    let code = cond (a.ins == 0x24) (load_part part.Code session_state a) init in
-    let none : OnlyHeaders deletes = either (a.ins == 0x18) (delete map session_state a) (Declines 0x6D00) (by_status (first_status (delete_refusals map session_state a)) (delete_done session_state a) tt) tt in
-    let one : OnlyHeaders creates = either (a.ins == 0x16) (create map session_state a) deletes (create_only map session_state a) none in
-    let two : OnlyHeaders fci = either (a.ins == 0x22) (load_part part.Fci session_state a) creates (part_headers session_state part.Fci a) one in
-    let three : OnlyHeaders dir = either (a.ins == 0x20) (load_part part.Dir session_state a) fci (part_headers session_state part.Dir a) two in
-    let four : OnlyHeaders init = either (a.ins == 0x26) (load_part part.Data session_state a) dir (part_headers session_state part.Data a) three in
-    let five : OnlyHeaders code = either (a.ins == 0x24) (load_part part.Code session_state a) init (part_headers session_state part.Code a) four in
-    either (a.ins == 0x12) (open_load (room_on c) map session_state a) code (by_status (first_status (open_refusals (room_on c) map a)) (open_done (room_on c) session_state a) tt) five
-
 -- the device writes of a change of headers
 header_cost : (w n : ℕ) → n ≤ 32 → w ≤ n + 4 → cost Two w ≤ 84
 header_cost w n few h = omega (arith, few, h)
 
-header_weight : (c : Card) (o : Option Change) → length c.apps ≤ 32 → OfHeaders o → weight (atomic_of c o) ≤ 84
-header_weight c None few h = omega arith
-header_weight c (Some (Fixed n ps)) few h = absurd h
-header_weight c (Some (Created n a)) few h = header_cost _ (length c.apps) few (few_headers_law c n a).created
-header_weight c (Some (Deleted n)) few h = header_cost _ (length c.apps) few (few_headers_law c n no_app).deleted
+plain_within : (n : ℕ) (is : List Item) → AllWithin 84 is → AllWithin 84 (plains n is)
+plain_within = plains_are (AllWithin 84) (λ is h. (omega arith, h))
 
-item_weight : (whole : Item) (i : BankItem) → weight whole ≤ 84 → weight (item_of whole i) ≤ 84
-item_weight whole (Piece s p at b) h = omega arith
-item_weight whole (Blank s at n) h = omega arith
-item_weight whole (Note s n k) h = omega arith
-item_weight whole (Commit n ws) h = omega arith
-item_weight whole (Enter s n) h = h
-item_weight whole (Remove n) h = h
+made_within : (c : Card) (session_state : SessionState) (a : ApduParts) (o : Order) (r : Command) → length c.apps ≤ 32 → IsCommand c session_state a o r → AllWithin 84 r.items
+made_within c session_state a _ _ few (made.refused o sw h) = tt
+made_within c session_state a _ _ few (made.quiet o body load h) = tt
+made_within c session_state a _ _ few (made.loaded p l h) = plain_within (length (word_parts (p1p2 a) a.body)) [] tt
+made_within c session_state a _ _ few (made.created l n h) =
+    let whole = atomic_of c (Some (Created n (fresh l))) in
+    plain_within (blank_words l.site) (plains 4 (whole ∷ [])) (plain_within 4 (whole ∷ []) (header_cost _ (length c.apps) few (few_headers_law c n (fresh l)).created, tt))
+made_within c session_state a _ _ few (made.deleted h) = (header_cost _ (length c.apps) few (few_headers_law c a.body no_app).deleted, tt)
 
-items_within : (whole : Item) (is : List BankItem) → weight whole ≤ 84 → AllWithin 84 (map (item_of whole) is)
-items_within whole [] h = tt
-items_within whole (i ∷ is) h = (item_weight whole i h, items_within whole is h)
-
-managed_within : (c : Card) (session_state : SessionState) (m : Managed) → length c.apps ≤ 32 → OnlyHeaders m → AllWithin 84 (manager_command c session_state m).items
-managed_within c session_state (Declines sw) few h = tt
-managed_within c session_state (Accepts a) few h = items_within (atomic_of c a.change) a.items (header_weight c a.change few h)
+select_within : (c : Card) (session_state : SessionState) (a : ApduParts) (r : Command) → IsSelect c session_state a r → AllWithin 84 r.items
+select_within c session_state a _ (made.unselected sw h) = tt
+select_within c session_state a _ (made.selected app h) = tt
 
 no_application : (c : Card) (session_state : SessionState) (budget : ℕ) (a : ApduParts) (o : Option Selected) → session_state.selected ≡ o → is_passed (ToApplication a) o ≡ false → AllWithin 147 (by_route c session_state budget (ToApplication a)).items
 no_application c session_state budget a None is stays = rw is tt
@@ -230,8 +167,8 @@ no_application c session_state budget a (Some s) is stays = absurd (cc stays)
 pub route_within : (c : Card) (session_state : SessionState) (budget : ℕ) (r : Route) → length c.apps ≤ 32 → is_passed r session_state.selected ≡ false → AllWithin (most_weight r) (by_route c session_state budget r).items
 route_within c session_state budget WrongLength few stays = tt
 route_within c session_state budget WrongClass few stays = tt
-route_within c session_state budget (ToSelect a) few stays = managed_within c session_state (select c.apps session_state a) few (by_status _ (select_done session_state a (lookup c.apps a.body)) (select_headers session_state a (lookup c.apps a.body)))
-route_within c session_state budget (ToManager a) few stays = managed_within c session_state (manage (room_on c) c.apps session_state a) few (manage_headers c session_state a)
+route_within c session_state budget (ToSelect a) few stays = select_within c session_state a (manager_command c session_state (select c.apps session_state a)) (selects_law c session_state a)
+route_within c session_state budget (ToManager a) few stays = made_within c session_state a (order_of a.ins) (manager_command c session_state (manage (room_on c) c.apps session_state a)) few (command_made c session_state a)
 route_within c session_state budget (ToApplication a) few stays = no_application c session_state budget a session_state.selected refl stays
 
 -- a card that runs has at most 32 applications

@@ -1,13 +1,10 @@
 -- The card in the words of a device after the items of a manager's command.
-use Rattle.std.proofs.Common.{◌≡◌, ◌⊎◌, ℕ, ◌-◌, Bool, true, false, cond, List, [], ◌∷◌, ◌++◌, length, map, Option, Some, None, Ok, Err, refl, sym, ◌∙◌, ap, subst, inl, inr}
-use Rattle.std.specs.Prelude.{◌==◌, Result, option_map}
-use Rattle.std.specs.Option.{ForSome}
+use Rattle.std.proofs.Common.{◌≡◌, ◌⊎◌, ℕ, true, List, [], ◌∷◌, ◌++◌, length, map, Option, Some, None, Ok, Err, refl, sym, ◌∙◌, ap, subst, inl, inr}
+use Rattle.std.specs.Prelude.{option_map}
 use Rattle.std.specs.List.{AllByRecursion}
 use Rattle.std.proofs.lemmas.List.{map-append}
 use Rattle.mc_model_card.specs.declared.card.Part.{Part}
-use Rattle.mc_model_card.specs.declared.card.Part.TheVariants as part
 use Rattle.mc_model_card.specs.declared.card.Sizes.{Sizes}
-use Rattle.mc_model_card.specs.declared.unit.AidFault.{AidFault}
 use Rattle.mc_model_device.specs.declared.device.Stop.{Stop}
 use Rattle.mc_model_device.specs.Orders.{Answer, InOrder}
 use Rattle.mc_model_machine.specs.Apdu.{ApduParts}
@@ -16,11 +13,14 @@ use Rattle.mc_model_device.specs.Image.{Two}
 use Rattle.mc_model_device.specs.Device.{DeviceState, Wrote}
 use Rattle.mc_model_device.specs.Card.{App, Card, means}
 use Rattle.mc_model_device.specs.Layout.{step_of}
-use Rattle.mc_model_card.specs.Units.{name_of}
 use Rattle.mc_model_card.specs.Items.{Created, Deleted, Item, Plain, Atomic, card_done, Site, BankItem, Piece, Blank, Note, Commit, Enter, Remove}
-use Rattle.mc_model_card.specs.Manager.{SessionState, Open, got_of, select_body, Managed, Declines, Accepts, Accepted, Route, WrongLength, WrongClass, ToSelect, ToManager, ToApplication, can_create, first_status, answer_unless, select_refusals, select_done, select, open_refusals, open_done, open_load, load_refusals, load_done, load_part, create_refusals, create_done, create_items, create, dir_in, fresh, delete_refusals, delete_done, delete, manage, word_parts, room_on}
+use Rattle.mc_model_card.specs.Manager.{SessionState, Open, got_of, select_body, Managed, Declines, Accepts, Route, WrongLength, WrongClass, ToSelect, ToManager, ToApplication, is_complete, first_status, answer_unless, select_refusals, select_done, select, create_done, create_items, fresh, manage, word_parts, room_on}
 use Rattle.mc_model_device.specs.PowerUp.{OnCard}
 use Rattle.mc_model_card.specs.Commands.{item_of, atomic_of, manager_command, application_command, by_route}
+use Rattle.mc_manager_laws.specs.Orders.{Order, order_of}
+use Rattle.mc_manager_laws.specs.Answers.{IsAnswer}
+use Rattle.mc_manager_laws.specs.Answers as answer
+use Rattle.mc_manager_laws.proofs.Orders.{answer_made}
 use Rattle.mc_bank.specs.Bank.{app_of_site}
 use Rattle.mc_manager.specs.ManagerState.{BankView, Loaded, ManagerState, open_of, session_state_of, ManagerFits, FitsLoad}
 use Rattle.mc_manager.specs.declared.selection.Selection.{Selection}
@@ -38,7 +38,6 @@ use Rattle.mc_card.specs.ItemWrites.{ItemsMade}
 use Rattle.mc_card.proofs.StaticLemmas.{going_apps}
 use Rattle.mc_card.proofs.MadeLemmas.{IsAs, card_found, closed_base, made_stopped, made_append, made_fold, made_one}
 use Rattle.mc_model_device.proofs.LayoutLemmas.{closed_means}
-use Rattle.std.proofs.lemmas.Bool.{not-false}
 
 -- ---- lists of steps that are done in order
 
@@ -89,24 +88,10 @@ pieces_plain t p (c ∷ cs) = (tt, pieces_plain t p cs)
 pub going_base : (d : DeviceState) (c : ℕ) → is_going d c ≡ true → HoldsBase (OnCard (means d.words)) 0 Two d.words
 going_base d c h = let g : Going d c = going_is d c h in closed_base d.words (means d.words) g.closed g.laid (sym (closed_means d.words g.closed))
 
--- ---- the first refusal
-
 -- the items of a command that the manager answers
 abbrev pub items_in : Managed → List BankItem
 items_in (Declines sw) = []
 items_in (Accepts d) = d.items
-
-pub none_of : (b : Bool) (sw : ℕ) (rest : Option ℕ) → cond b (Some sw) rest ≡ None → (b ≡ false) × (rest ≡ None)
-none_of true sw rest h = absurd (cc h)
-none_of false sw rest h = (refl, h)
-
--- a CREATE without a refusal has a complete load
-unrefused_can_create : (apps : List (List ℕ × App)) (load : Option Open) (a : ApduParts) → first_status (create_refusals apps load a) ≡ None → can_create load ≡ true
-unrefused_can_create apps load a h =
-    let one = none_of _ 0x6A86 _ h in
-    let two = none_of _ 0x6700 _ one.1 in
-    let three = none_of _ 0x6985 _ two.1 in
-    not-false (can_create load) three.0
 
 module _ {N : Type 0} (state : N → DeviceState) (wrote : N → ℕ → List ℕ → Answer → N → Type 0)
     (obeys : (d : N) (at : ℕ) (w : List ℕ) (a : Answer) (e : N) → (state d).on ≡ true → wrote d at w a e → Wrote (state d) at w a (state e)) where
@@ -188,60 +173,39 @@ module _ {N : Type 0} (state : N → DeviceState) (wrote : N → ℕ → List �
     quiet_items : (body : List ℕ) (next : SessionState) → MakesAll s session_state (Accepts (record { body = body; session_state = next; items = []; change = None }))
     quiet_items body next e a h = plain_made Plain [] s e a going tt h
 
-    by_refusal : (o : Option ℕ) (d : Accepted) → (o ≡ None → MakesAll s session_state (Accepts d)) → MakesAll s session_state (answer_unless o d)
-    by_refusal None d h = h refl
-    by_refusal (Some sw) d h = no_items sw
-
     select_made : (apps : List (List ℕ × App)) (a : ApduParts) → MakesAll s session_state (select apps session_state a)
-    select_made apps a = by_refusal (first_status (select_refusals apps a)) (select_done session_state a (lookup apps a.body)) (λ e. by_app (lookup apps a.body))
+    select_made apps a = by_refusal (first_status (select_refusals apps a)) (lookup apps a.body)
       where
-        by_app : (x : Option App) → MakesAll s session_state (Accepts (select_done session_state a x))
-        by_app None = quiet_items [] session_state
-        by_app (Some app) = quiet_items (select_body a app) (select_done session_state a (Some app)).session_state
-
-    open_made : (room : Sizes → Option ℕ) (apps : List (List ℕ × App)) (a : ApduParts) → MakesAll s session_state (open_load room apps session_state a)
-    open_made room apps a = by_refusal (first_status (open_refusals room apps a)) (open_done room session_state a) (λ e. quiet_items [] (open_done room session_state a).session_state)
-
-    load_made : (p : Part) (a : ApduParts) → MakesAll s session_state (load_part p session_state a)
-    load_made p a = by_refusal (first_status (load_refusals session_state.load p a)) (load_done session_state session_state.load p a) (λ e. by_load session_state.load)
-      where
-        by_load : (x : Option Open) → MakesAll s session_state (Accepts (load_done session_state x p a))
-        by_load None = quiet_items [] session_state
-        by_load (Some o) = λ e b h. plain_made Plain (map (λ c. Piece o.site p c.0 c.1) (word_parts (length (got_of p o.got)) a.body)) s e b going (pieces_plain o.site p (word_parts (length (got_of p o.got)) a.body)) h
-
-    create_by : (l : Option Loaded) (apps : List (List ℕ × App)) (a : ApduParts) (n : Result (List ℕ) AidFault) → ForSome l (FitsLoad (view s)) → first_status (create_refusals apps (option_map (open_of (view s).site_bytes) l) a) ≡ None
-        → MakesAll s session_state (Accepts (create_done session_state (option_map (open_of (view s).site_bytes) l) n))
-    create_by None apps a n fits clear = quiet_items [] session_state
-    create_by (Some l) apps a (Err e) fits clear = quiet_items [] session_state
-    create_by (Some l) apps a (Ok n) fits clear =
-        let here : FitsLoad (view s) l = fits l refl in
-        let full : is_full l ≡ true = sym (complete_full (view s) l here) ∙ unrefused_can_create apps (Some (open_of (view s).site_bytes l)) a clear in
-        λ e b h. create_made s e b l.site n (open_of (view s).site_bytes l) going (sym (fresh_entered (view s) l here full)) h
-
-    delete_done_makes : (apps : List (List ℕ × App)) (a : ApduParts) → MakesAll s session_state (delete apps session_state a)
-    delete_done_makes apps a = by_refusal (first_status (delete_refusals apps session_state a)) (delete_done session_state a) (λ e. λ x b h. delete_made s x b a.body h)
-
-    by_test : (x y : Managed) → MakesAll s session_state x → MakesAll s session_state y → (b : Bool) → MakesAll s session_state (cond b x y)
-    by_test x y h k true = h
-    by_test x y h k false = k
+        by_refusal : (o : Option ℕ) (x : Option App) → MakesAll s session_state (answer_unless o (select_done session_state a x))
+        by_refusal (Some sw) x = no_items sw
+        by_refusal None None = quiet_items [] session_state
+        by_refusal None (Some app) = quiet_items (select_body a app) (select_done session_state a (Some app)).session_state
 
   module _ (s : Store N) (session : List ℕ) (m : ManagerState) (going : is_going (state s.device) s.count ≡ true) (fits : ManagerFits (view s) m) where
     -- the session state of a manager over a store
     abbrev session_state_on : SessionState
     session_state_on = session_state_of (view s).site_bytes session m
 
-    create_done_makes : (apps : List (List ℕ × App)) (a : ApduParts) → MakesAll s session_state_on (create apps session_state_on a)
-    create_done_makes apps a =
-        by_refusal s session_state_on going (first_status (create_refusals apps session_state_on.load a)) (create_done session_state_on session_state_on.load (name_of (dir_in session_state_on.load)))
-        (create_by s session_state_on going m.load apps a (name_of (dir_in session_state_on.load)) fits.load)
+    create_makes : (l : Option Loaded) (o : Open) (n : List ℕ) → m.load ≡ l → option_map (open_of (view s).site_bytes) l ≡ Some o → is_complete o ≡ true → MakesAll s session_state_on (Accepts (create_done session_state_on (Some o) (Ok n)))
+    create_makes None o n is here complete = absurd (cc here)
+    create_makes (Some l) o n is here complete =
+        let same : open_of (view s).site_bytes l ≡ o = cc here in
+        let good : FitsLoad (view s) l = fits.load l is in
+        let full : is_full l ≡ true = sym (complete_full (view s) l good) ∙ (ap is_complete same ∙ complete) in
+        subst (λ (x : Open). MakesAll s session_state_on (Accepts (create_done session_state_on (Some x) (Ok n)))) same
+        (λ e b h. create_made s e b l.site n (open_of (view s).site_bytes l) going (sym (fresh_entered (view s) l good full)) h)
+
+    made_by : (room : Sizes → Option ℕ) (apps : List (List ℕ × App)) (a : ApduParts) (o : Order) (x : Managed) → IsAnswer room apps session_state_on a o x → MakesAll s session_state_on x
+    made_by room apps a _ _ (answer.refused o sw h) = no_items s session_state_on going sw
+    made_by room apps a _ _ (answer.quiet o body load h) = quiet_items s session_state_on going body (record session_state_on { load = load })
+    made_by room apps a _ _ (answer.loaded p l h) =
+        let cs = word_parts (length (got_of p l.got)) a.body in
+        λ e b k. plain_made Plain (map (λ c. Piece l.site p c.0 c.1) cs) s e b going (pieces_plain l.site p cs) k
+    made_by room apps a _ _ (answer.created l n h) = create_makes m.load l n refl h.is h.complete
+    made_by room apps a _ _ (answer.deleted h) = λ e b k. delete_made s e b a.body k
 
     manage_made : (room : Sizes → Option ℕ) (apps : List (List ℕ × App)) (a : ApduParts) → MakesAll s session_state_on (manage room apps session_state_on a)
-    unfolding manage
-    manage_made room apps a =
-        let load = load_made s session_state_on going in
-        let test = by_test s session_state_on going in
-        test _ _ (open_made s session_state_on going room apps a) (test _ _ (load part.Code a) (test _ _ (load part.Data a) (test _ _ (load part.Dir a) (test _ _ (load part.Fci a)
-        (test _ _ (create_done_makes apps a) (test _ _ (delete_done_makes s session_state_on going apps a) (no_items s session_state_on going 0x6D00) (a.ins == 0x18)) (a.ins == 0x16)) (a.ins == 0x22)) (a.ins == 0x20)) (a.ins == 0x26)) (a.ins == 0x24)) (a.ins == 0x12)
+    manage_made room apps a = made_by room apps a (order_of a.ins) (manage room apps session_state_on a) (answer_made room apps session_state_on a)
 
     -- ---- a command by its route
 

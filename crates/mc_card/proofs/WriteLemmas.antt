@@ -19,7 +19,7 @@ use Rattle.mc_store.specs.StoreItems.{store_did}
 use Rattle.mc_store.specs.GoingLaws.{Going, going_is}
 use Rattle.mc_card.proofs.StaticLemmas.{going_apps}
 use Rattle.mc_card.specs.ItemWrites.{ItemsMade}
-use Rattle.mc_machine_laws.specs.FewWords.{PiecesWithin}
+use Rattle.mc_row_laws.specs.Keeping.{PiecesWithin}
 use Rattle.mc_machine.specs.Chains.{ChainWrote}
 use Rattle.mc_machine.proofs.SoundChains.{IsSoundWrite, AreSound}
 use Rattle.mc_card.proofs.MadeLemmas.{card_found, closed_base, made_none, made_stopped, made_append, IsAtomicAs, made_one}

@@ -1,5 +1,5 @@
 -- How the manager of a card handles a command.
-use Rattle.std.specs.Prelude.{◌≡◌, ℕ, false, List, Some, Result, Ok, Err}
+use Rattle.std.specs.Prelude.{◌≡◌, ℕ, false, List, Option, Some, None, Result, Ok, Err}
 use Rattle.mc_model_device.specs.declared.device.Stop.{Stop}
 use Rattle.mc_model_device.specs.Orders.{Answer}
 use Rattle.mc_model_device.specs.Device.{DeviceState}
@@ -11,8 +11,6 @@ use Rattle.mc_machine.specs.declared.outcome.Outcome.{Outcome}
 use Rattle.mc_machine.specs.declared.outcome.Outcome.TheVariants as outcome
 use Rattle.mc_manager.specs.declared.selection.Selection.{Selection}
 use Rattle.mc_card.specs.declared.card.Card.{Card}
-use Rattle.mc_card.specs.declared.managing.Directed.{Directed}
-use Rattle.mc_card.specs.declared.managing.Directed.TheVariants.{Answered, Passed}
 use Rattle.mc_card.specs.Parts.{card_in, session_state_in}
 use Rattle.mc_card.specs.Ends.{is_passed, Commanded}
 
@@ -30,8 +28,8 @@ module _ {N : Type 0} (state : N → DeviceState) (wrote : N → ℕ → List �
     pub slot_is : selected.slot ≡ slot
     pub unchanged : d ≡ c
 
-  -- the end of a command, by how the manager handled it and the reply that it wrote
-  abbrev pub Directs : Card N → ApduParts → Result Directed Stop → Reply → Card N → Type 0
-  Directs c a (Ok Answered) r d = IsAnswered c a (Ok (outcome.Reply r)) d
-  Directs c a (Ok (Passed slot)) r d = IsPassed c a slot d
+  -- the end of a command that the manager answered with a reply, or that the application in a slot is to run
+  abbrev pub Directs : Card N → ApduParts → Result (Option ℕ) Stop → Reply → Card N → Type 0
+  Directs c a (Ok None) r d = IsAnswered c a (Ok (outcome.Reply r)) d
+  Directs c a (Ok (Some slot)) r d = IsPassed c a slot d
   Directs c a (Err s) r d = IsAnswered c a (Err s) d

@@ -15,7 +15,6 @@ ghost use Rattle.mc_card.specs.Ends.{power_up_end, restart_end, device_after, Co
 ghost use Rattle.mc_card.specs.Ends.{BeginSteps, most_weight};
 ghost use Rattle.mc_card.specs.ItemWrites.{ItemsMade, MadeWithin};
 
-use crate::managing::Directed;
 use arrayvec::ArrayVec;
 use mc_apdu::{Reply, parse};
 use mc_bank::Bank;
@@ -278,8 +277,8 @@ impl<N: Nvm> Card<N> {
             return Ok(End::Reply);
         };
         match self.direct(&apdu, reply, steps)? {
-            Directed::Answered => Ok(End::Reply),
-            Directed::Passed(slot) => run_into(
+            None => Ok(End::Reply),
+            Some(slot) => run_into(
                 &mut self.store,
                 slot,
                 &mut self.session,
@@ -320,8 +319,8 @@ impl<N: Nvm> Card<N> {
             return Ok(Some(Outcome::Reply(reply)));
         };
         match self.direct(&apdu, &mut reply, steps)? {
-            Directed::Answered => Ok(Some(Outcome::Reply(reply))),
-            Directed::Passed(slot) => {
+            None => Ok(Some(Outcome::Reply(reply))),
+            Some(slot) => {
                 self.chain = Some(begin(&self.store, slot, &self.session, &apdu, budget));
                 Ok(None)
             }

@@ -20,18 +20,10 @@ use mc_segs::Session;
 use mc_store::Store;
 use std::sync::ledger::Ledger;
 
-/// How the manager handled a command: it has written the reply, or the application in a slot is to run the
-/// command.
-#[derive(Clone, Copy, Debug, PartialEq, Eq)]
-pub enum Directed {
-    Answered,
-    Passed(Slot),
-}
-
 impl<N: Nvm> Card<N> {
     /// Passes one command to the manager, which writes its reply to `reply`. A new selection begins with
-    /// session bytes of zero. If an application is to run the command, nothing but the contents of `reply`
-    /// has changed.
+    /// session bytes of zero. Returns the slot of the application that is to run the command, if one is:
+    /// nothing but the contents of `reply` has changed then.
     ///
     /// # Errors
     ///
@@ -41,7 +33,7 @@ impl<N: Nvm> Card<N> {
         apdu: &Apdu,
         reply: &mut Reply,
         steps: &mut Steps<L>,
-    ) -> Result<Directed, Stop>
+    ) -> Result<Option<Slot>, Stop>
         requires ready { IsReadyCard N.state self.old }
         ensures done { Directs N.state N.wrote self.old (parts_of apdu.now) result reply.new self.new }
         ensures rises { steps.old ≤ steps.new }
@@ -50,12 +42,12 @@ impl<N: Nvm> Card<N> {
         ensures keeps_device { N.same (device_in self.old) (device_in self.new) }
     {
         match self.manager.rule(&mut self.store, apdu, reply, steps)? {
-            Ruling::Answer => Ok(Directed::Answered),
+            Ruling::Answer => Ok(None),
             Ruling::Fresh(slot) => {
                 self.session = session_of(&self.store, slot);
-                Ok(Directed::Answered)
+                Ok(None)
             }
-            Ruling::Pass(slot) => Ok(Directed::Passed(slot)),
+            Ruling::Pass(slot) => Ok(Some(slot)),
         }
     }
 }

@@ -1,20 +1,21 @@
 -- A creation is the last item of its line, so if it is durable the map has it.
-use Rattle.std.specs.Prelude.{◌≡◌, ℕ, ◌-◌, Bool, true, false, cond, nat_le, ◌==◌, List, [], ◌∷◌, ◌++◌, length, map, Option, Some, None, Result, Ok, Err, ⊤}
+use Rattle.std.specs.Prelude.{◌≡◌, ℕ, ◌-◌, Bool, true, false, cond, nat_le, ◌==◌, List, [], ◌∷◌, ◌++◌, length, Option, Some, None, ⊤}
 use Rattle.std.proofs.Common.{refl, ap, sym, subst, ◌∙◌}
-use Rattle.mc_model_card.specs.declared.card.Part.{Part}
-use Rattle.mc_model_card.specs.declared.card.Part.TheVariants as part
-use Rattle.mc_model_card.specs.declared.unit.AidFault.{AidFault}
-use Rattle.mc_model_device.specs.Bytes.{zeros, lookup, insert, remove}
+use Rattle.mc_model_device.specs.Bytes.{insert, remove}
 use Rattle.mc_model_device.specs.Image.{Two}
 use Rattle.mc_model_device.specs.Stopped.{cost, stands}
 use Rattle.mc_model_machine.specs.Apdu.{ApduParts}
-use Rattle.mc_model_card.specs.Units.{name_of}
 use Rattle.mc_model_device.specs.Card.{App, Card}
 use Rattle.mc_model_machine.specs.Chain.{Write, map_changed, run}
 use Rattle.mc_model_card.specs.Items.{Change, Fixed, Created, Deleted, Item, Plain, Atomic, apps_after_items, Stopped, with_item, in_flight, at_stop, Site, BankItem, Piece, Blank, Note, Commit, Enter, Remove, write_items}
 use Rattle.mc_model_card.specs.Items as items
-use Rattle.mc_model_card.specs.Manager.{Selected, Open, SessionState, Route, WrongLength, WrongClass, ToSelect, ToManager, ToApplication, route, Managed, Accepts, Accepted, answer_unless, first_status, select_done, select_refusals, open_refusals, open_done, load_refusals, load_done, load_part, dir_in, create_refusals, create_done, fresh, got_of, word_parts, delete_refusals, delete_done, manage, room_on}
-use Rattle.mc_model_card.specs.Commands.{Command, item_of, atomic_of, manager_command, application_command, by_route, command, refusal}
+use Rattle.mc_model_card.specs.Manager.{Selected, SessionState, Route, WrongLength, WrongClass, ToSelect, ToManager, ToApplication, route, select, p1p2, fresh, word_parts, manage, room_on}
+use Rattle.mc_model_card.specs.Commands.{Command, atomic_of, manager_command, application_command, by_route, command, refusal}
+use Rattle.mc_manager_laws.specs.Orders.{Order, order_of}
+use Rattle.mc_manager_laws.specs.OnCard.{IsCommand, IsSelect, plains, blank_words}
+use Rattle.mc_manager_laws.specs.OnCard as made
+use Rattle.mc_manager_laws.proofs.OnCard.{command_made, selects_law}
+use Rattle.mc_manager_laws.proofs.Plains.{plains_are}
 use Rattle.mc_model_play.specs.Play.{is_done, send, command_with_rest}
 use Rattle.mc_model_play.specs.Laws.{Sent, creation_of_command, made_of, creations_among, without_places, AllAreIn}
 use Rattle.mc_family.proofs.LoadCommands.{IsFiller, AreFillers}
@@ -80,80 +81,34 @@ last_then_none (Atomic w (Created n a) ∷ is) h = ap (λ (js : List Item). js +
 
 -- ---- so it is in every command
 
-plain_last : (bs : List BankItem) → LastCreates (map (item_of Plain) bs)
-plain_last [] = tt
-plain_last (Piece s p at b ∷ bs) = plain_last bs
-plain_last (Blank s at n ∷ bs) = plain_last bs
-plain_last (Note s n i ∷ bs) = plain_last bs
-plain_last (Commit n ws ∷ bs) = plain_last bs
-plain_last (Enter s n ∷ bs) = plain_last bs
-plain_last (Remove n ∷ bs) = plain_last bs
+plains_last : (n : ℕ) (is : List Item) → LastCreates is → LastCreates (plains n is)
+plains_last = plains_are LastCreates (λ is h. h)
 
 writes_last : (ws : List Write) → LastCreates (write_items ws)
 writes_last [] = tt
 writes_last (w ∷ ws) = writes_last ws
 
-blanks_last : (w : Item) (s : Site) (cs : List (ℕ × List ℕ)) (bs : List BankItem) → LastCreates (map (item_of w) bs) → LastCreates (map (item_of w) (map (λ c. Blank s c.0 (length c.1)) cs ++ bs))
-blanks_last w s [] bs h = h
-blanks_last w s (c ∷ cs) bs h = blanks_last w s cs bs h
-
 module _ (c : Card) (session_state : SessionState) where
-  IsLast : Managed → Type 0
-  IsLast m = LastCreates (manager_command c session_state m).items
+  made_last : (a : ApduParts) (o : Order) (r : Command) → IsCommand c session_state a o r → LastCreates r.items
+  made_last a _ _ (made.refused o sw h) = tt
+  made_last a _ _ (made.quiet o body load h) = tt
+  made_last a _ _ (made.loaded p l h) = plains_last (length (word_parts (p1p2 a) a.body)) [] tt
+  made_last a _ _ (made.created l n h) = plains_last (blank_words l.site) (plains 4 (atomic_of c (Some (Created n (fresh l))) ∷ [])) refl
+  made_last a _ _ (made.deleted h) = tt
 
-  cond_managed : (b : Bool) (m n : Managed) → IsLast m → IsLast n → IsLast (cond b m n)
-  cond_managed true m n g h = g
-  cond_managed false m n g h = h
-
-  answered_last : (o : Option ℕ) (d : Accepted) → IsLast (Accepts d) → IsLast (answer_unless o d)
-  unfolding IsLast
-  answered_last (Some sw) d h = tt
-  answered_last None d h = h
-
-  loaded_last : (s : Option ℕ) (o : Option Open) (p : Part) (a : ApduParts) → IsLast (answer_unless s (load_done session_state o p a))
-  unfolding IsLast
-  loaded_last s None p a = answered_last s (load_done session_state None p a) tt
-  loaded_last s (Some o) p a = answered_last s (load_done session_state (Some o) p a) (plain_last (map (λ c. Piece o.site p c.0 c.1) (word_parts (length (got_of p o.got)) a.body)))
-
-  created_last : (s : Option ℕ) (o : Option Open) (r : Result (List ℕ) AidFault) → IsLast (answer_unless s (create_done session_state o r))
-  unfolding IsLast
-  created_last s None r = answered_last s (create_done session_state None r) tt
-  created_last s (Some o) (Err e) = answered_last s (create_done session_state (Some o) (Err e)) tt
-  created_last s (Some o) (Ok n) =
-      answered_last s (create_done session_state (Some o) (Ok n))
-      (blanks_last (atomic_of c (Some (Created n (fresh o)))) o.site (word_parts o.site.sizes.init (zeros (o.site.sizes.fixed - o.site.sizes.init)))
-      (Note o.site n 0 ∷ Note o.site n 1 ∷ Note o.site n 2 ∷ Note o.site n 3 ∷ Enter o.site n ∷ []) refl)
-
-  load_last : (p : Part) (a : ApduParts) → IsLast (load_part p session_state a)
-  load_last p a = loaded_last (first_status (load_refusals session_state.load p a)) session_state.load p a
-
-  managed_last : (a : ApduParts) → IsLast (manage (room_on c) c.apps session_state a)
-  unfolding IsLast manage
-  managed_last a =
-      cond_managed (a.ins == 0x12) _ _ (answered_last (first_status (open_refusals (room_on c) c.apps a)) (open_done (room_on c) session_state a) tt) (
-      cond_managed (a.ins == 0x24) _ _ (load_last part.Code a) (
-      cond_managed (a.ins == 0x26) _ _ (load_last part.Data a) (
-      cond_managed (a.ins == 0x20) _ _ (load_last part.Dir a) (
-      cond_managed (a.ins == 0x22) _ _ (load_last part.Fci a) (
-      cond_managed (a.ins == 0x16) _ _ (created_last (first_status (create_refusals c.apps session_state.load a)) session_state.load (name_of (dir_in session_state.load))) (
-      cond_managed (a.ins == 0x18) _ _ (answered_last (first_status (delete_refusals c.apps session_state a)) (delete_done session_state a) tt) tt
-      ))))))
-
-  selected_last : (s : Option ℕ) (a : ApduParts) (o : Option App) → IsLast (answer_unless s (select_done session_state a o))
-  unfolding IsLast
-  selected_last s a None = answered_last s (select_done session_state a None) tt
-  selected_last s a (Some app) = answered_last s (select_done session_state a (Some app)) tt
+  selected_last : (a : ApduParts) (r : Command) → IsSelect c session_state a r → LastCreates r.items
+  selected_last a _ (made.unselected sw h) = tt
+  selected_last a _ (made.selected app h) = tt
 
   passed_last : (o : Option Selected) (a : ApduParts) (budget : ℕ) → LastCreates (application_command c session_state o a budget).items
   passed_last None a budget = tt
   passed_last (Some s) a budget = writes_last (run c.apps s.name s.session a budget).writes
 
   routed_last : (budget : ℕ) (r : Route) → LastCreates (by_route c session_state budget r).items
-  unfolding IsLast
   routed_last budget WrongLength = tt
   routed_last budget WrongClass = tt
-  routed_last budget (ToSelect a) = selected_last (first_status (select_refusals c.apps a)) a (lookup c.apps a.body)
-  routed_last budget (ToManager a) = managed_last a
+  routed_last budget (ToSelect a) = selected_last a (manager_command c session_state (select c.apps session_state a)) (selects_law c session_state a)
+  routed_last budget (ToManager a) = made_last a (order_of a.ins) (manager_command c session_state (manage (room_on c) c.apps session_state a)) (command_made c session_state a)
   routed_last budget (ToApplication a) = passed_last session_state.selected a budget
 
   pub command_last : (b : List ℕ) (budget : ℕ) → LastCreates (command c session_state b budget).items

@@ -27,16 +27,16 @@ stop_behind (Atomic w c ∷ is) js k x high =
 
 -- ---- counts
 
-row_count : (ch : Chain) (i : Ins) (r : RowEnd) → (row_turn ch i r).count ≤ 1
+pub row_count : (ch : Chain) (i : Ins) (r : RowEnd) → (row_turn ch i r).count ≤ 1
 row_count ch i (Abends cause) = omega arith
 row_count ch i (Does d) = omega arith
 
-fetch_count : (ch : Chain) (r : Result (Ins × ℕ) DecodeFault) → (turn_of_fetch ch r).count ≤ 1
+pub fetch_count : (ch : Chain) (r : Result (Ins × ℕ) DecodeFault) → (turn_of_fetch ch r).count ≤ 1
 fetch_count ch (Err Undefined) = omega arith
 fetch_count ch (Err Past) = omega arith
 fetch_count ch (Ok i) = row_count ch i.0 _
 
-turn_count : (ch : Chain) → (turn_of_chain ch).count ≤ 1
+pub turn_count : (ch : Chain) → (turn_of_chain ch).count ≤ 1
 unfolding turn_of_chain
 turn_count ch = fetch_count ch _
 

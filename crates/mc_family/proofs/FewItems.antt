@@ -1,28 +1,34 @@
 -- Each item of a command on a card within the limits fits a journal, and leaves such a card.
-use Rattle.std.proofs.Common.{◌≡◌, ℕ, ◌+◌, ◌*◌, ◌-◌, ◌≤◌, ◌<◌, Bool, true, false, cond, not, List, [], ◌∷◌, ◌++◌, take, drop, length, Option, Some, None, Result, Ok, Err, refl, sym, subst, ◌∙◌, arith}
-use Rattle.std.specs.Prelude.{⊤, ◌==◌, ◌&&◌, ◌||◌, nat_lt, nat_le, map, is_none, is_ok, option_map, option_and_then}
+use Rattle.std.proofs.Common.{◌≡◌, ℕ, ◌+◌, ◌*◌, ◌≤◌, ◌<◌, Bool, true, false, cond, List, [], ◌∷◌, take, drop, length, Option, Some, None, Ok, Err, refl, sym, subst, ◌∙◌, arith}
+use Rattle.std.specs.Prelude.{⊤, ◌==◌, ◌&&◌, nat_le, option_map, option_and_then}
 use Rattle.std.specs.List.{AllByRecursion}
 use Rattle.mc_model_card.specs.declared.card.Part.{Part}
 use Rattle.mc_model_card.specs.declared.card.Part.TheVariants as part
-use Rattle.mc_model_card.specs.declared.unit.AidFault.{AidFault}
 use Rattle.mc_model_card.specs.declared.unit.AidFault.TheVariants.{AidLength}
-use Rattle.mc_model_device.specs.Bytes.{AreBytes, lookup, insert, remove, zeros}
+use Rattle.mc_model_device.specs.Bytes.{AreBytes, insert, remove}
 use Rattle.mc_model_machine.specs.Apdu.{ApduParts, Rest, rest_read, short_rest, extended_rest, extended_body, apdu_read}
 use Rattle.mc_model_card.specs.Units.{name_of, checked_name, template_of, name_among}
 use Rattle.mc_model_device.specs.Card.{App, Card}
 use Rattle.mc_model_device.specs.Layout.{step_of}
 use Rattle.mc_model_machine.specs.Chain.{Write, no_app, run}
-use Rattle.mc_model_card.specs.Items.{Change, Fixed, Created, Plain, Atomic, apps_after_change, apps_after_items, card_done, Site, Piece, Blank, write_items}
-use Rattle.mc_model_card.specs.Manager.{Selected, Open, SessionState, Route, WrongLength, WrongClass, ToSelect, ToManager, ToApplication, route, route_of_parts, Accepted, Managed, Declines, Accepts, answer_unless, first_status, is_empty, p1p2, select_done, select_refusals, select, sizes_in, fits_limits, open_done, open_load, load_refusals, load_done, load_part, word_parts, got_of, with_got, Got, can_create, dir_in, is_taken, fresh, create_done, create, is_selected, delete_done, delete, manage, room_on}
-use Rattle.mc_model_card.specs.Commands.{Command, item_of, manager_command, application_command, by_route, command}
+use Rattle.mc_model_card.specs.Items.{Fixed, Created, Item, apps_after_change, apps_after_items, card_done, write_items}
+use Rattle.mc_model_card.specs.Manager.{Selected, Open, SessionState, Route, WrongLength, WrongClass, ToSelect, ToManager, ToApplication, route, route_of_parts, p1p2, select, word_parts, with_got, Got, fresh, manage, room_on}
+use Rattle.mc_model_card.specs.Commands.{Command, atomic_of, manager_command, application_command, by_route, command}
+use Rattle.mc_manager_laws.specs.Orders.{Order, order_of}
+use Rattle.mc_manager_laws.specs.Answers.{IsQuiet}
+use Rattle.mc_manager_laws.specs.Answers as quiet
+use Rattle.mc_manager_laws.specs.OnCard.{IsCommand, IsSelect, plains, blank_words}
+use Rattle.mc_manager_laws.specs.OnCard as made
+use Rattle.mc_manager_laws.proofs.OnCard.{command_made, selects_law}
+use Rattle.mc_manager_laws.proofs.Plains.{plains_are, plains_done}
 use Rattle.mc_model_play.specs.Play.{is_done, command_with_rest, send}
 use Rattle.mc_model_play.specs.ReadyAgain.{FitsJournal}
 use Rattle.mc_model_device.proofs.ImageLemmas.{all_append}
 use Rattle.mc_machine_laws.proofs.AppSizes.{Limited, limited_done}
-use Rattle.mc_family.proofs.CardFacts.{all_take, AreOnCard, are_coded, name_short, ChangeStands, ItemsStand, fixed_again, done_stands, stand_append}
+use Rattle.mc_family.proofs.CardFacts.{all_take, AreOnCard, are_coded, name_short, ItemsStand, fixed_again, done_stands, stand_append}
 use Rattle.mc_machine_laws.proofs.FewHeaders.{few_headers_law}
 use Rattle.mc_machine_laws.proofs.FewRuns.{few_runs_law}
-use Rattle.mc_family.proofs.PlaySizes.{notes, SessionStateFits, CommandFits, command_fits}
+use Rattle.mc_family.proofs.PlaySizes.{SessionStateFits, CommandFits, command_fits}
 use Rattle.mc_model_card.proofs.ItemLemmas.{done_append}
 
 -- ---- the bytes of a command
@@ -120,21 +126,11 @@ same_load m d (Some o) e h = (subst (λ (k : ℕ). k ≤ 31) (sym e) h.0, h.1)
 
 -- ---- items without contents
 
-pieces_few : (s : Site) (p : Part) (cs : List (ℕ × List ℕ)) → AllByRecursion FitsJournal (map (item_of Plain) (map (λ c. Piece s p c.0 c.1) cs))
-pieces_few s p [] = tt
-pieces_few s p (c ∷ cs) = (tt, pieces_few s p cs)
+plains_few : (n : ℕ) (is : List Item) → AllByRecursion FitsJournal is → AllByRecursion FitsJournal (plains n is)
+plains_few = plains_are (AllByRecursion FitsJournal) (λ is h. (tt, h))
 
-pieces_stand : (m : List (List ℕ × App)) (s : Site) (p : Part) (cs : List (ℕ × List ℕ)) → ItemsStand m (map (item_of Plain) (map (λ c. Piece s p c.0 c.1) cs)) × (apps_after_items m (map (item_of Plain) (map (λ c. Piece s p c.0 c.1) cs)) ≡ m)
-pieces_stand m s p [] = (tt, refl)
-pieces_stand m s p (c ∷ cs) = pieces_stand m s p cs
-
-creation_few : (w : ℕ) (c : Change) (s : Site) (n : List ℕ) (cs : List (ℕ × List ℕ)) → w ≤ 64 → AllByRecursion FitsJournal (map (item_of (Atomic w c)) (map (λ c. Blank s c.0 (length c.1)) cs ++ notes s n))
-creation_few w c s n [] h = (tt, (tt, (tt, (tt, (h, tt)))))
-creation_few w c s n (x ∷ cs) h = (tt, creation_few w c s n cs h)
-
-creation_stands : (m : List (List ℕ × App)) (w : ℕ) (c : Change) (s : Site) (n : List ℕ) (cs : List (ℕ × List ℕ)) → ChangeStands m c → ItemsStand m (map (item_of (Atomic w c)) (map (λ c. Blank s c.0 (length c.1)) cs ++ notes s n))
-creation_stands m w c s n [] h = (h, tt)
-creation_stands m w c s n (x ∷ cs) h = creation_stands m w c s n cs h
+plains_stand : (m : List (List ℕ × App)) (n : ℕ) (is : List Item) → ItemsStand m is → ItemsStand m (plains n is)
+plains_stand m = plains_are (ItemsStand m) (λ is h. h)
 
 -- ---- names
 
@@ -153,10 +149,6 @@ short_name d n e = checked_short (option_and_then (λ t. name_among (length t) t
 
 -- ---- the manager
 
-or_false : (x y : Bool) → (x || y) ≡ false → x ≡ false
-or_false true y e = absurd (cc e)
-or_false false y e = refl
-
 with_code : (p : Part) (b : List ℕ) (g : Got) → AreBytes b → AreBytes g.code → AreBytes (with_got p b g).code
 with_code part.Code b g h k = all_append (λ x. x < 256) g.code b k h
 with_code part.Data b g h k = k
@@ -164,117 +156,40 @@ with_code part.Dir b g h k = k
 with_code part.Fci b g h k = k
 
 module _ (c : Card) (session_state : SessionState) (on : AreOnCard c.apps) (stands : SessionStateStands c.apps session_state) where
-  ManagedStands : Managed → Type 0
-  ManagedStands m = CommandStands c.apps (manager_command c session_state m)
+  selected_stands : (a : ApduParts) (r : Command) → IsSelect c session_state a r → CommandStands c.apps r
+  selected_stands a _ (made.unselected sw h) = record { few = tt; items = tt; session_state = stands }
+  selected_stands a _ (made.selected app h) = record { few = tt; items = tt; session_state = record { selected = name_short c.apps a.body app on h; load = stands.load } }
 
-  declined : (sw : ℕ) → ManagedStands (Declines sw)
-  unfolding ManagedStands
-  declined sw = record { few = tt; items = tt; session_state = stands }
+  quiet_stands : (a : ApduParts) (o : Order) (body : List ℕ) (load : Option Open) → IsQuiet (room_on c) c.apps session_state a o body load → LoadStands c.apps load
+  quiet_stands a _ _ _ (quiet.answers o first rest) = stands.load
+  quiet_stands a _ _ _ (quiet.opens h) = (h.few, tt)
 
-  answered_stands : (o : Option ℕ) (d : Accepted) → (o ≡ None → ManagedStands (Accepts d)) → ManagedStands (answer_unless o d)
-  answered_stands (Some sw) d h = declined sw
-  answered_stands None d h = h refl
-
-  select_by : (a : ApduParts) (o : Option App) → lookup c.apps a.body ≡ o → ManagedStands (Accepts (select_done session_state a o))
-  unfolding ManagedStands
-  select_by a None e = record { few = tt; items = tt; session_state = stands }
-  select_by a (Some app) e = record { few = tt; items = tt; session_state = record { selected = name_short c.apps a.body app on e; load = stands.load } }
-
-  select_stands : (a : ApduParts) → ManagedStands (select c.apps session_state a)
-  select_stands a = answered_stands (first_status (select_refusals c.apps a)) (select_done session_state a (lookup c.apps a.body)) (λ e. select_by a (lookup c.apps a.body) refl)
-
-  -- ---- OPEN
-
-  opened_by : (a : ApduParts) (x y z v : Bool) → (nat_le 32 (length c.apps) || is_none (room_on c (sizes_in a))) ≡ v
-      → ManagedStands (answer_unless (cond x (Some 0x6A86) (cond y (Some 0x6700) (cond (not z) (Some 0x6A80) (cond v (Some 0x6A84) None)))) (open_done (room_on c) session_state a))
-  unfolding ManagedStands
-  opened_by a true y z v h = declined 0x6A86
-  opened_by a false true z v h = declined 0x6700
-  opened_by a false false false v h = declined 0x6A80
-  opened_by a false false true true h = declined 0x6A84
-  opened_by a false false true false h =
-      let below : nat_le 32 (length c.apps) ≡ false = or_false (nat_le 32 (length c.apps)) (is_none (room_on c (sizes_in a))) h in
-      record { few = tt; items = tt; session_state = record { selected = stands.selected; load = (grind (arith, below), tt) } }
-
-  open_stands : (a : ApduParts) → ManagedStands (open_load (room_on c) c.apps session_state a)
-  open_stands a = opened_by a (nat_lt 15 (p1p2 a)) (not (length a.body == 12)) (fits_limits (sizes_in a)) (nat_le 32 (length c.apps) || is_none (room_on c (sizes_in a))) refl
-
-  -- ---- LOAD
-
-  loaded_by : (p : Part) (a : ApduParts) (o : Option Open) → AreBytes a.body → session_state.load ≡ o → ManagedStands (Accepts (load_done session_state o p a))
-  unfolding ManagedStands
-  loaded_by p a None bytes e = record { few = tt; items = tt; session_state = stands }
-  loaded_by p a (Some o) bytes e =
-      let cs = word_parts (length (got_of p o.got)) a.body in
-      let now = pieces_stand c.apps o.site p cs in
-      let load : LoadStands c.apps (Some o) = subst (LoadStands c.apps) e stands.load in
+  made_stands : (a : ApduParts) (o : Order) (r : Command) → AreBytes a.body → IsCommand c session_state a o r → CommandStands c.apps r
+  made_stands a _ _ bytes (made.refused o sw h) = record { few = tt; items = tt; session_state = stands }
+  made_stands a _ _ bytes (made.quiet o body load h) = record { few = tt; items = tt; session_state = record { selected = stands.selected; load = quiet_stands a o body load h } }
+  made_stands a _ _ bytes (made.loaded p l h) =
+      let k = length (word_parts (p1p2 a) a.body) in
+      let load : LoadStands c.apps (Some l) = subst (LoadStands c.apps) h.is stands.load in
+      let next = record session_state { load = Some (record l { got = with_got p a.body l.got }) } in
       record {
-        few = pieces_few o.site p cs;
-        items = now.0;
-        session_state = subst (λ (m : List (List ℕ × App)). SessionStateStands m (load_done session_state (Some o) p a).session_state) (sym now.1) (record { selected = stands.selected; load = (load.0, with_code p a.body o.got bytes load.1) });
+        few = plains_few k [] tt;
+        items = plains_stand c.apps k [] tt;
+        session_state = subst (λ (m : List (List ℕ × App)). SessionStateStands m next) (sym (plains_done c.apps k [])) (record { selected = stands.selected; load = (load.0, with_code p a.body l.got bytes load.1) });
       }
-
-  load_stands : (p : Part) (a : ApduParts) → AreBytes a.body → ManagedStands (load_part p session_state a)
-  load_stands p a bytes = answered_stands (first_status (load_refusals session_state.load p a)) (load_done session_state session_state.load p a) (λ e. loaded_by p a session_state.load bytes refl)
-
-  -- ---- CREATE
-
-  created_by : (a : ApduParts) (o : Open) (r : Result (List ℕ) AidFault) (x y z v : Bool) → session_state.load ≡ Some o → name_of o.got.dir ≡ r
-      → ManagedStands (answer_unless (cond x (Some 0x6A86) (cond y (Some 0x6700) (cond (not z) (Some 0x6985) (cond (not (is_ok r)) (Some 0x6A80) (cond v (Some 0x6A89) None))))) (create_done session_state (Some o) r))
-  unfolding ManagedStands
-  created_by a o r true y z v e k = declined 0x6A86
-  created_by a o r false true z v e k = declined 0x6700
-  created_by a o r false false false v e k = declined 0x6985
-  created_by a o (Err f) false false true v e k = declined 0x6A80
-  created_by a o (Ok n) false false true true e k = declined 0x6A89
-  created_by a o (Ok n) false false true false e k =
-      let ch = Created n (fresh o) in
-      let cs = word_parts o.site.sizes.init (zeros (o.site.sizes.fixed - o.site.sizes.init)) in
-      let load : LoadStands c.apps (Some o) = subst (LoadStands c.apps) e stands.load in
+  made_stands a _ _ bytes (made.created l n h) =
+      let items = plains 4 (atomic_of c (Some (Created n (fresh l))) ∷ []) in
+      let load : LoadStands c.apps (Some l) = subst (LoadStands c.apps) h.is stands.load in
       let room : length c.apps ≤ 31 = load.0 in
-      let words : length (step_of c (record c { apps = insert c.apps n (fresh o) })) ≤ length c.apps + 4 = (few_headers_law c n (fresh o)).created in
-      let items : ItemsStand c.apps (manager_command c session_state (Accepts (create_done session_state (Some o) (Ok n)))).items = creation_stands c.apps _ ch o.site n cs (load.0, record { name = short_name o.got.dir n k; code = load.1 }) in
-      record { few = creation_few _ ch o.site n cs (omega (arith, words, room)); items = items; session_state = record { selected = stands.selected; load = tt } }
-
-  create_by : (a : ApduParts) (o : Option Open) (x y : Bool) → session_state.load ≡ o
-      → ManagedStands (answer_unless (cond x (Some 0x6A86) (cond y (Some 0x6700) (cond (not (can_create o)) (Some 0x6985) (cond (not (is_ok (name_of (dir_in o)))) (Some 0x6A80) (cond (is_taken c.apps (name_of (dir_in o))) (Some 0x6A89) None))))) (create_done session_state o (name_of (dir_in o))))
-  create_by a None true y e = declined 0x6A86
-  create_by a None false true e = declined 0x6700
-  create_by a None false false e = declined 0x6985
-  create_by a (Some o) x y e = created_by a o (name_of o.got.dir) x y (can_create (Some o)) (is_taken c.apps (name_of o.got.dir)) e refl
-
-  create_stands : (a : ApduParts) → ManagedStands (create c.apps session_state a)
-  create_stands a = create_by a session_state.load (not (p1p2 a == 0)) (not (is_empty a.body)) refl
-
-  -- ---- DELETE
-
-  deleted_by : (a : ApduParts) (x y z v : Bool) → ManagedStands (answer_unless (cond x (Some 0x6A86) (cond y (Some 0x6700) (cond z (Some 0x6A82) (cond v (Some 0x6985) None)))) (delete_done session_state a))
-  unfolding ManagedStands
-  deleted_by a true y z v = declined 0x6A86
-  deleted_by a false true z v = declined 0x6700
-  deleted_by a false false true v = declined 0x6A82
-  deleted_by a false false false true = declined 0x6985
-  deleted_by a false false false false =
+      let words : length (step_of c (record c { apps = insert c.apps n (fresh l) })) ≤ length c.apps + 4 = (few_headers_law c n (fresh l)).created in
+      record {
+        few = plains_few (blank_words l.site) items (tt, (tt, (tt, (tt, (omega (arith, words, room), tt)))));
+        items = plains_stand c.apps (blank_words l.site) items ((load.0, record { name = short_name l.got.dir n h.name; code = load.1 }), tt);
+        session_state = record { selected = stands.selected; load = tt };
+      }
+  made_stands a _ _ bytes (made.deleted h) =
       let words : length (step_of c (record c { apps = remove c.apps a.body })) ≤ length c.apps + 4 = (few_headers_law c a.body no_app).deleted in
       let count : length c.apps ≤ 32 = on.count in
       record { few = (omega (arith, words, count), tt); items = (tt, tt); session_state = record { selected = stands.selected; load = tt } }
-
-  delete_stands : (a : ApduParts) → ManagedStands (delete c.apps session_state a)
-  delete_stands a = deleted_by a (not (p1p2 a == 0)) (is_empty a.body) (is_none (lookup c.apps a.body)) (is_selected session_state.selected a.body)
-
-  either : (b : Bool) (m n : Managed) → ManagedStands m → ManagedStands n → ManagedStands (cond b m n)
-  either true m n h k = h
-  either false m n h k = k
-
-  manage_stands : (a : ApduParts) → AreBytes a.body → ManagedStands (manage (room_on c) c.apps session_state a)
-  unfolding manage
-  manage_stands a bytes =
-      either (a.ins == 0x12) _ _ (open_stands a) (
-      either (a.ins == 0x24) _ _ (load_stands part.Code a bytes) (
-      either (a.ins == 0x26) _ _ (load_stands part.Data a bytes) (
-      either (a.ins == 0x20) _ _ (load_stands part.Dir a bytes) (
-      either (a.ins == 0x22) _ _ (load_stands part.Fci a bytes) (
-      either (a.ins == 0x16) _ _ (create_stands a) (either (a.ins == 0x18) _ _ (delete_stands a) (declined 0x6D00)))))))
 
 -- ---- a run
 
@@ -305,11 +220,11 @@ passed_stands c session_state (Some s) a budget e limited on h =
 -- ---- a command
 
 routed_stands : (c : Card) (session_state : SessionState) (budget : ℕ) (r : Route) → RouteBytes r → Limited c.apps → AreOnCard c.apps → SessionStateStands c.apps session_state → CommandStands c.apps (by_route c session_state budget r)
-unfolding ManagedStands
 routed_stands c session_state budget WrongLength bytes limited on h = record { few = tt; items = tt; session_state = h }
 routed_stands c session_state budget WrongClass bytes limited on h = record { few = tt; items = tt; session_state = h }
-routed_stands c session_state budget (ToSelect a) bytes limited on h = select_stands c session_state on h a
-routed_stands c session_state budget (ToManager a) bytes limited on h = manage_stands c session_state on h a bytes
+routed_stands c session_state budget (ToSelect a) bytes limited on h = selected_stands c session_state on h a (manager_command c session_state (select c.apps session_state a)) (selects_law c session_state a)
+routed_stands c session_state budget (ToManager a) bytes limited on h =
+    made_stands c session_state on h a (order_of a.ins) (manager_command c session_state (manage (room_on c) c.apps session_state a)) bytes (command_made c session_state a)
 routed_stands c session_state budget (ToApplication a) bytes limited on h = passed_stands c session_state session_state.selected a budget refl limited on h
 
 pub command_stands : (c : Card) (session_state : SessionState) (b : List ℕ) (budget : ℕ) → IsSent b → Limited c.apps → AreOnCard c.apps → SessionStateStands c.apps session_state → CommandStands c.apps (command c session_state b budget)

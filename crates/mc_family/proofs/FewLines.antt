@@ -33,10 +33,10 @@ use Rattle.mc_model_device.proofs.ListLemmas.{pair_bytes}
 
 -- ---- the commands of a line
 
-with_pair : (b : List ℕ) (n : ℕ) → AreBytes b → AreBytes (b ++ bytes2 n)
+pub with_pair : (b : List ℕ) (n : ℕ) → AreBytes b → AreBytes (b ++ bytes2 n)
 with_pair b n h = all_append (λ x. x < 256) b (bytes2 n) h (pair_bytes n)
 
-pieces_sent : (k ins at : ℕ) (b : List ℕ) → AreBytes b → AllByRecursion IsSent (piece_commands k ins at b)
+pub pieces_sent : (k ins at : ℕ) (b : List ℕ) → AreBytes b → AllByRecursion IsSent (piece_commands k ins at b)
 pieces_sent zero ins at b h = tt
 pieces_sent (suc k) ins at b h = by (length b == 0) (all_take (λ x. x < 256) 248 b h, pieces_sent k ins (at + 248) (drop 248 b) (all_drop (λ x. x < 256) 248 b h))
   where
@@ -45,7 +45,7 @@ pieces_sent (suc k) ins at b h = by (length b == 0) (all_take (λ x. x < 256) 24
     by true r = tt
     by false r = r
 
-load_sent : (u : UnitParts) (fixed session : ℕ) → AreBytes u.code → AreBytes u.init → AreBytes u.dir → AreBytes u.fci → AllByRecursion IsSent (load_commands u fixed session)
+pub load_sent : (u : UnitParts) (fixed session : ℕ) → AreBytes u.code → AreBytes u.init → AreBytes u.dir → AreBytes u.fci → AllByRecursion IsSent (load_commands u fixed session)
 load_sent u fixed session code init dir fci =
     let P = λ (b : List ℕ). IsSent b in
     let c = section_commands 0x24 u.code in
@@ -67,7 +67,7 @@ load_sent u fixed session code init dir fci =
           (pieces_sent (length u.fci) 0x22 0 u.fci fci)) (tt, tt),
     )
 
-line_stands : (c : Card) (session_state : SessionState) (budget : ℕ) (l : DeckLine) → IsLine l → Limited c.apps → SessionStateFits c.apps session_state → AreOnCard c.apps → SessionStateStands c.apps session_state → CommandStands c.apps (line_command c session_state budget l)
+pub line_stands : (c : Card) (session_state : SessionState) (budget : ℕ) (l : DeckLine) → IsLine l → Limited c.apps → SessionStateFits c.apps session_state → AreOnCard c.apps → SessionStateStands c.apps session_state → CommandStands c.apps (line_command c session_state budget l)
 line_stands c session_state budget (line.Select n) is limited fits on h = command_stands c session_state (select_bytes n) budget is limited on h
 line_stands c session_state budget (line.Delete n) is limited fits on h = command_stands c session_state (delete_bytes n) budget is limited on h
 line_stands c session_state budget (line.Apdu b) is limited fits on h = command_stands c session_state b budget (all_drop (λ x. x < 256) 5 b is) limited on h
@@ -77,13 +77,13 @@ line_stands c session_state budget _ is limited fits on h = record { few = tt; i
 
 -- ---- words that are set
 
-root_full : (v size first : ℕ) → v < 256 → IsFull (root v size first)
+pub root_full : (v size first : ℕ) → v < 256 → IsFull (root v size first)
 root_full v size first h = (refl, (omega arith, (omega arith, (omega arith, (h, (omega arith, (omega arith, (omega arith, (omega arith, tt)))))))))
 
-hole_full : (n link : ℕ) → IsFull (hole_header n link)
+pub hole_full : (n link : ℕ) → IsFull (hole_header n link)
 hole_full n link = (refl, (omega arith, (omega arith, (omega arith, (omega arith, (omega arith, (omega arith, (omega arith, (omega arith, tt)))))))))
 
-formatted_image_lem : (m : List (List ℕ)) → IsImage m → IsImage (formatted_image m)
+pub formatted_image_lem : (m : List (List ℕ)) → IsImage m → IsImage (formatted_image m)
 formatted_image_lem m image =
     let size : ℕ = length m in
     let a = slice_set m 0 (root 2 size heap_start) in
@@ -97,12 +97,12 @@ formatted_image_lem m image =
 
 -- ---- what is kept from line to line
 
-abbrev LiveStands : List (List ℕ × App) → Live → Type 0
+abbrev pub LiveStands : List (List ℕ × App) → Live → Type 0
 LiveStands m (Running session_state) = SessionStateStands m session_state
 LiveStands m Unpowered = ⊤
 LiveStands m Muted = ⊤
 
-abbrev BaseStands : Base → Live → Type 0
+abbrev pub BaseStands : Base → Live → Type 0
 BaseStands (OnCard c) v = AreOnCard c.apps × LiveStands c.apps v
 BaseStands (AtFault cause p) v = ⊤
 
@@ -114,29 +114,29 @@ record LineStands (u : Step) : Type 0 where
   few : AllByRecursion FitsJournal u.items
   next : StateStands u.after
 
-after_stop : (m : List (List ℕ × App)) (k : Stop) → LiveStands m (live_after k)
+pub after_stop : (m : List (List ℕ × App)) (k : Stop) → LiveStands m (live_after k)
 after_stop m stop.Off = tt
 after_stop m stop.Worn = tt
 
 -- ---- power lines
 
-base_on_card : (b : Base) (v : Live) → BaseStands b v → BaseStands b Unpowered
+pub base_on_card : (b : Base) (v : Live) → BaseStands b v → BaseStands b Unpowered
 base_on_card (OnCard c) v h = (h.0, tt)
 base_on_card (AtFault cause p) v h = tt
 
-base_stopped : (b : Base) (k : Stop) → BaseStands b Unpowered → BaseStands b (live_after k)
+pub base_stopped : (b : Base) (k : Stop) → BaseStands b Unpowered → BaseStands b (live_after k)
 base_stopped (OnCard c) k h = (h.0, after_stop c.apps k)
 base_stopped (AtFault cause p) k h = tt
 
-base_powered : (b : Base) → BaseStands b Unpowered → BaseStands (base_after_migration b) (power_live b)
+pub base_powered : (b : Base) → BaseStands b Unpowered → BaseStands (base_after_migration b) (power_live b)
 base_powered (OnCard c) h = (h.0, record { selected = tt; load = tt })
 base_powered (AtFault cause p) h = tt
 
-base_migrated : (b : Base) (v : Live) → BaseStands b v → BaseStands (base_after_migration b) v
+pub base_migrated : (b : Base) (v : Live) → BaseStands b v → BaseStands (base_after_migration b) v
 base_migrated (OnCard c) v h = h
 base_migrated (AtFault cause p) v h = h
 
-base_cond : (t : Bool) (b : Base) (v : Live) → BaseStands b v → BaseStands (cond t (base_after_migration b) b) v
+pub base_cond : (t : Bool) (b : Base) (v : Live) → BaseStands b v → BaseStands (cond t (base_after_migration b) b) v
 base_cond true b v h = base_migrated b v h
 base_cond false b v h = h
 
@@ -175,11 +175,11 @@ after_power_stands n _ s w is f h = record { few = tt; next = h }
 
 -- ---- lines up to the first power line
 
-found_stands : (m : List (List ℕ)) (f : Option (Cause × ℕ)) → IsImage m → fault m ≡ f → BaseStands (base_of f m) Unpowered
+pub found_stands : (m : List (List ℕ)) (f : Option (Cause × ℕ)) → IsImage m → fault m ≡ f → BaseStands (base_of f m) Unpowered
 found_stands m None image h = (means_on_card m image h, tt)
 found_stands m (Some f) image h = tt
 
-warmed_stands : (m : List (List ℕ)) (b : ℕ) (a : Armed) → IsImage m → BaseStands (play_at_power m b a).base Unpowered
+pub warmed_stands : (m : List (List ℕ)) (b : ℕ) (a : Armed) → IsImage m → BaseStands (play_at_power m b a).base Unpowered
 unfolding play_at_power
 warmed_stands m b a image = found_stands m (fault m) image refl
 

@@ -58,7 +58,7 @@ flat_decimal n = decimal_every unfed (λ d h. above 10 (48 + d) (omega arith)) n
 pub unmarked_decimal : (n : ℕ) → every unmarked (decimal n) ≡ true
 unmarked_decimal n = decimal_every unmarked (λ d h. ap not (ne_eqb (48 + d) 62 (λ e. absurd (omega (arith, e, h))))) n
 
-flat_signed : (z : ℤ) → Flat (signed_decimal z)
+pub flat_signed : (z : ℤ) → Flat (signed_decimal z)
 flat_signed (pos n) = flat_decimal n
 flat_signed (negsuc n) = flat_decimal (suc n)
 

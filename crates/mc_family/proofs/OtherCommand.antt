@@ -1,25 +1,26 @@
 -- A command that is none of a family leaves its applications as they are, and its selection, but for a SELECT that is
 -- done.
-use Rattle.std.specs.Prelude.{◌≡◌, ℕ, Bool, true, false, cond, not, ◌&&◌, ◌||◌, ◌==◌, List, [], ◌∷◌, map, is_none, Option, Some, None, Result, Ok, Err, ⊤}
+use Rattle.std.specs.Prelude.{◌≡◌, ℕ, Bool, true, false, cond, not, ◌&&◌, List, [], ◌∷◌, length, Option, Some, None, ⊤}
 use Rattle.std.proofs.Common.{refl, ap, sym, ◌∙◌}
-use Rattle.mc_model_card.specs.declared.card.Part.{Part}
-use Rattle.mc_model_card.specs.declared.card.Part.TheVariants as part
-use Rattle.mc_model_card.specs.declared.unit.AidFault.{AidFault}
-use Rattle.mc_model_device.specs.Bytes.{zeros, has_name, lookup}
+use Rattle.mc_model_device.specs.Bytes.{zeros, has_name}
 use Rattle.mc_model_machine.specs.Apdu.{ApduParts}
-use Rattle.mc_model_card.specs.Units.{name_of}
-use Rattle.mc_model_device.specs.Card.{App, Card}
+use Rattle.mc_model_device.specs.Card.{Card}
 use Rattle.mc_model_machine.specs.Chain.{run}
-use Rattle.mc_model_card.specs.Items.{Item, BankItem, Piece, Blank, Note, Commit, Enter, Remove}
-use Rattle.mc_model_card.specs.Manager.{Selected, Open, SessionState, Route, WrongLength, WrongClass, ToSelect, ToManager, ToApplication, route, Managed, Declines, Accepted, answer_unless, first_status, is_empty, select_done, select, open_refusals, open_done, load_refusals, load_done, create_refusals, create_done, delete_refusals, delete_done, manage, room_on, dir_in, open_load, load_part, create, delete}
-use Rattle.mc_model_card.specs.Commands.{Command, item_of, atomic_of, manager_command, application_command, by_route, command}
+use Rattle.mc_model_card.specs.Items.{Created, Item}
+use Rattle.mc_model_card.specs.Manager.{Selected, SessionState, Route, WrongLength, WrongClass, ToSelect, ToManager, ToApplication, route, select, p1p2, word_parts, fresh, manage, room_on}
+use Rattle.mc_model_card.specs.Commands.{Command, atomic_of, manager_command, application_command, by_route, command}
 use Rattle.mc_model_play.specs.Play.{Answered, send, command_with_rest, is_done}
 use Rattle.mc_model_card.specs.Items as items
+use Rattle.mc_manager_laws.specs.Orders.{Order, order_of}
+use Rattle.mc_manager_laws.specs.OnCard.{IsCommand, IsSelect, plains, blank_words}
+use Rattle.mc_manager_laws.specs.OnCard as made
+use Rattle.mc_manager_laws.proofs.OnCard.{command_made, selects_law}
+use Rattle.mc_manager_laws.proofs.Plains.{plains_are}
 use Rattle.mc_model_play.specs.Family.{ClosedPairs, routes_in, selects_in}
 use Rattle.mc_model_play.specs.Given.{is_done_reply, selects_foreign, is_foreign_select}
 use Rattle.mc_family.proofs.RunLemma.{RunAlike, run_alike}
 use Rattle.mc_family.proofs.Sim.{own_of}
-use Rattle.mc_family.proofs.Stops.{IsOther, AreOthers, are_others_append, writes_others}
+use Rattle.mc_family.proofs.Stops.{AreOthers, are_others_append, writes_others}
 
 -- nothing if the selection was lost
 abbrev pub unless : Bool → Option Selected → Option Selected
@@ -38,85 +39,33 @@ pub record Aside (K : List (List ℕ)) (session_state : SessionState) (r : Comma
   pub others : AreOthers K r.items
   pub selected : r.session_state.selected ≡ session_state.selected
 
-IsAside : List (List ℕ) → Card → SessionState → Managed → Type 0
-IsAside K c session_state m = Aside K session_state (manager_command c session_state m)
-
-by_cond : {A : Type 0} (P : A → Type 0) (b : Bool) (x y : A) → P x → P y → P (cond b x y)
-by_cond P true x y p q = p
-by_cond P false x y p q = q
-
-item_of_other : (K : List (List ℕ)) (w : Item) (b : BankItem) → IsOther K w → IsOther K (item_of w b)
-item_of_other K w (Piece s p at b) h = tt
-item_of_other K w (Blank s at n) h = tt
-item_of_other K w (Note s n i) h = tt
-item_of_other K w (Commit n ws) h = tt
-item_of_other K w (Enter s n) h = h
-item_of_other K w (Remove n) h = h
-
-items_others : (K : List (List ℕ)) (w : Item) (bs : List BankItem) → IsOther K w → AreOthers K (map (item_of w) bs)
-items_others K w [] h = tt
-items_others K w (b ∷ bs) h = (item_of_other K w b h, items_others K w bs h)
-
 module _ (K : List (List ℕ)) (c : Card) (session_state : SessionState) where
-  answered_aside : (o : Option ℕ) (d : Accepted) → IsOther K (atomic_of c d.change) → d.session_state.selected ≡ session_state.selected → IsAside K c session_state (answer_unless o d)
-  unfolding IsAside
-  answered_aside (Some sw) d h e = record { others = tt; selected = refl }
-  answered_aside None d h e = record { others = items_others K (atomic_of c d.change) d.items h; selected = e }
+  plain_others : (n : ℕ) (is : List Item) → AreOthers K is → AreOthers K (plains n is)
+  plain_others = plains_are (AreOthers K) (λ is h. (tt, h))
 
-  load_aside : (o : Option Open) (s : Option ℕ) (p : Part) (a : ApduParts) → IsAside K c session_state (answer_unless s (load_done session_state o p a))
-  load_aside None s p a = answered_aside s (load_done session_state None p a) tt refl
-  load_aside (Some o) s p a = answered_aside s (load_done session_state (Some o) p a) tt refl
+  made_aside : (a : ApduParts) (o : Order) (r : Command) → IsCommand c session_state a o r → Aside K session_state r
+  made_aside a _ _ (made.refused o sw h) = record { others = tt; selected = refl }
+  made_aside a _ _ (made.quiet o body load h) = record { others = tt; selected = refl }
+  made_aside a _ _ (made.loaded p l h) = record { others = plain_others (length (word_parts (p1p2 a) a.body)) [] tt; selected = refl }
+  made_aside a _ _ (made.created l n h) =
+      let whole = atomic_of c (Some (Created n (fresh l))) in
+      record { others = plain_others (blank_words l.site) (plains 4 (whole ∷ [])) (plain_others 4 (whole ∷ []) (tt, tt)); selected = refl }
+  made_aside a _ _ (made.deleted h) = record { others = (tt, tt); selected = refl }
 
-  create_aside : (o : Option Open) (s : Option ℕ) (n : Result (List ℕ) AidFault) → IsAside K c session_state (answer_unless s (create_done session_state o n))
-  create_aside None s n = answered_aside s (create_done session_state None n) tt refl
-  create_aside (Some o) s (Ok n) = answered_aside s (create_done session_state (Some o) (Ok n)) tt refl
-  create_aside (Some o) s (Err e) = answered_aside s (create_done session_state (Some o) (Err e)) tt refl
-
-  declines_aside : (sw : ℕ) → IsAside K c session_state (Declines sw)
-  unfolding IsAside
-  declines_aside sw = record { others = tt; selected = refl }
-
-  managed_aside : (a : ApduParts) → IsAside K c session_state (manage (room_on c) c.apps session_state a)
-  unfolding manage
-  managed_aside a =
-      let P = IsAside K c session_state in
-      let m = c.apps in
-      let opened = open_load (room_on c) m session_state a in
-      let l4 = load_part part.Code session_state a in
-      let l6 = load_part part.Data session_state a in
-      let l0 = load_part part.Dir session_state a in
-      let l2 = load_part part.Fci session_state a in
-      let made = create m session_state a in
-      let gone = delete m session_state a in
-      let r7 = cond (a.ins == 0x18) gone (Declines 0x6D00) in
-      let r6 = cond (a.ins == 0x16) made r7 in
-      let r5 = cond (a.ins == 0x22) l2 r6 in
-      let r4 = cond (a.ins == 0x20) l0 r5 in
-      let r3 = cond (a.ins == 0x26) l6 r4 in
-      let r2 = cond (a.ins == 0x24) l4 r3 in
-      by_cond P (a.ins == 0x12) opened r2 (answered_aside (first_status (open_refusals (room_on c) m a)) (open_done (room_on c) session_state a) tt refl) (
-      by_cond P (a.ins == 0x24) l4 r3 (load_aside session_state.load (first_status (load_refusals session_state.load part.Code a)) part.Code a) (
-      by_cond P (a.ins == 0x26) l6 r4 (load_aside session_state.load (first_status (load_refusals session_state.load part.Data a)) part.Data a) (
-      by_cond P (a.ins == 0x20) l0 r5 (load_aside session_state.load (first_status (load_refusals session_state.load part.Dir a)) part.Dir a) (
-      by_cond P (a.ins == 0x22) l2 r6 (load_aside session_state.load (first_status (load_refusals session_state.load part.Fci a)) part.Fci a) (
-      by_cond P (a.ins == 0x16) made r7 (create_aside session_state.load (first_status (create_refusals m session_state.load a)) (name_of (dir_in session_state.load))) (
-      by_cond P (a.ins == 0x18) gone (Declines 0x6D00) (answered_aside (first_status (delete_refusals m session_state a)) (delete_done session_state a) tt refl) (declines_aside 0x6D00)
-      ))))))
+  managed_aside : (a : ApduParts) → Aside K session_state (manager_command c session_state (manage (room_on c) c.apps session_state a))
+  managed_aside a = made_aside a (order_of a.ins) (manager_command c session_state (manage (room_on c) c.apps session_state a)) (command_made c session_state a)
 
   -- ---- all routes
 
   -- a SELECT of a name outside the family
-  select_at : (a : ApduParts) (x y : Bool) (o : Option App) → has_name a.body K ≡ false
-      → let r = manager_command c session_state (answer_unless (first_status ((0x6A86, x) ∷ (0x6700, y) ∷ (0x6A82, is_none o) ∷ [])) (select_done session_state a o)) in Other K session_state (is_done_reply (Some (Answered r.outcome))) r
-  select_at a true y o h = record { others = tt; selected = refl }
-  select_at a false true o h = record { others = tt; selected = refl }
-  select_at a false false None h = record { others = tt; selected = refl }
-  select_at a false false (Some app) h = record { others = tt; selected = ap (λ (b : Bool). cond b (Some (record { name = a.body; session = zeros app.session })) None) h }
+  select_other : (a : ApduParts) (r : Command) → has_name a.body K ≡ false → IsSelect c session_state a r → Other K session_state (is_done_reply (Some (Answered r.outcome))) r
+  select_other a _ outside (made.unselected sw h) = record { others = tt; selected = sym (ap (λ (b : Bool). unless b (own_of K session_state.selected)) h) }
+  select_other a _ outside (made.selected app h) = record { others = tt; selected = ap (λ (b : Bool). cond b (Some (record { name = a.body; session = zeros app.session })) None) outside }
 
   other_select : (a : ApduParts) (b : Bool) → has_name a.body K ≡ b → b ≡ false
       → let r = manager_command c session_state (select c.apps session_state a) in Other K session_state (not b && is_done_reply (Some (Answered r.outcome))) r
   other_select a true h e = absurd (cc e)
-  other_select a false h e = select_at a (not (a.p2 == 0 || a.p2 == 0x0C)) (is_empty a.body) (lookup c.apps a.body) h
+  other_select a false h e = select_other a (manager_command c session_state (select c.apps session_state a)) h (selects_law c session_state a)
 
   other_passed : (a : ApduParts) (budget : ℕ) (o : Option Selected) → session_state.selected ≡ o → selects_in K o ≡ false → ClosedPairs K (application_command c session_state o a budget).pairs → Other K session_state false (application_command c session_state o a budget)
   other_passed a budget None e h closed = record { others = tt; selected = refl }
@@ -134,7 +83,6 @@ module _ (K : List (List ℕ)) (c : Card) (session_state : SessionState) where
 
   other_routed : (budget : ℕ) (r : Route) → routes_in K session_state r ≡ false → ClosedPairs K (by_route c session_state budget r).pairs
       → Other K session_state (selects_foreign K r && is_done_reply (Some (Answered (by_route c session_state budget r).outcome))) (by_route c session_state budget r)
-  unfolding IsAside
   other_routed budget WrongLength h closed = record { others = tt; selected = refl }
   other_routed budget WrongClass h closed = record { others = tt; selected = refl }
   other_routed budget (ToSelect a) h closed = other_select a (has_name a.body K) refl h
@@ -161,7 +109,6 @@ AreManagers [] = ⊤
 AreManagers (b ∷ bs) = IsManagers (route b) × AreManagers bs
 
 pub routed_aside : (K : List (List ℕ)) (c : Card) (session_state : SessionState) (budget : ℕ) (r : Route) → IsManagers r → Aside K session_state (by_route c session_state budget r)
-unfolding IsAside
 routed_aside K c session_state budget WrongLength h = record { others = tt; selected = refl }
 routed_aside K c session_state budget (ToManager a) h = managed_aside K c session_state a
 routed_aside K c session_state budget WrongClass h = absurd h

@@ -1,41 +1,44 @@
 -- Every application of a play is limited, and each run begins with as many session bytes as its application has.
-use Rattle.std.proofs.Common.{◌≡◌, ℕ, ◌+◌, ◌-◌, ◌≤◌, Bool, true, false, cond, not, List, [], ◌∷◌, ◌++◌, take, drop, length, Option, Some, None, Result, Ok, Err, refl, sym, ap, subst, ◌∙◌, arith}
-use Rattle.std.specs.Prelude.{⊤, ◌==◌, ◌&&◌, ◌||◌, nat_lt, nat_le, bytes_eq, map, is_none, is_ok, slice_index}
+use Rattle.std.proofs.Common.{◌≡◌, ℕ, ◌+◌, ◌-◌, ◌≤◌, Bool, true, false, cond, not, List, [], ◌∷◌, take, drop, length, Option, Some, None, refl, sym, ap, subst, ◌∙◌, arith}
+use Rattle.std.specs.Prelude.{⊤, ◌==◌, ◌&&◌, nat_lt, nat_le, bytes_eq, slice_index}
 use Rattle.std.specs.List.{AllByRecursion}
 use Rattle.std.proofs.lemmas.Bool.{and_parts, leb-true, eqb-true}
 use Rattle.std.proofs.lemmas.List.{length-append, length-take, length-replicate}
 use Rattle.mc_model_device.specs.declared.cause.Cause.{Cause}
 use Rattle.mc_model_device.specs.declared.cause.Cause.TheVariants.{NoRoot, BadBlock, BadRecord, BadChain}
-use Rattle.mc_model_card.specs.declared.card.Part.{Part}
-use Rattle.mc_model_card.specs.declared.card.Part.TheVariants as part
 use Rattle.mc_model_card.specs.declared.card.Sizes.{Sizes}
 use Rattle.mc_model_device.specs.declared.device.Stop.{Stop}
 use Rattle.mc_model_device.specs.declared.device.Stop.TheVariants as stop
-use Rattle.mc_model_card.specs.declared.unit.AidFault.{AidFault}
 use Rattle.mc_model_device.specs.Bytes.{lookup, insert, remove, zeros, up, be2, has_name}
 use Rattle.mc_model_machine.specs.Apdu.{ApduParts}
-use Rattle.mc_model_card.specs.Units.{name_of}
 use Rattle.mc_model_device.specs.Image.{Journal, look, after}
 use Rattle.mc_model_device.specs.Card.{App, Card, Block, words_of_lengths, record_at, name_in, name_at, app_at, apps_of, blocks, cells, words_after, means}
 use Rattle.mc_model_device.specs.Layout.{is_record, no_root, bad_block, bad_record, bad_chain, by_cause, words_fault, fault}
 use Rattle.mc_model_machine.specs.Chain.{Write, run}
-use Rattle.mc_model_card.specs.Items.{Change, Fixed, Created, Item, Plain, Atomic, moves, apps_after_change, apps_after_items, card_done, StopAt, at_stop, Site, BankItem, Piece, Blank, Note, Enter, write_items}
+use Rattle.mc_model_card.specs.Items.{Fixed, Created, Item, moves, apps_after_change, apps_after_items, card_done, StopAt, at_stop, write_items}
 use Rattle.mc_model_device.specs.Limits.{most_static, most_code, most_session, most_record}
-use Rattle.mc_model_card.specs.Manager.{Selected, Open, SessionState, Route, WrongLength, WrongClass, ToSelect, ToManager, ToApplication, route, Accepted, Managed, Declines, Accepts, answer_unless, first_status, is_empty, p1p2, select_done, select_refusals, select, sizes_in, fits_limits, open_done, open_load, load_refusals, load_done, load_part, word_parts, is_complete, can_create, dir_in, is_taken, fresh, create_done, create, is_selected, delete_done, delete, manage, room_on}
+use Rattle.mc_model_card.specs.Manager.{Selected, Open, SessionState, Route, WrongLength, WrongClass, ToSelect, ToManager, ToApplication, route, p1p2, select, sizes_in, fits_limits, word_parts, with_got, is_complete, fresh, is_selected, manage, room_on}
 use Rattle.mc_model_play.specs.Play.{Armed, Live, Running, Unpowered, Muted, Warm, State, BeforePower, AfterPower, Step, is_done, command_with_rest, send, line_command, hit_of, FailedWrite, live_after, power_live, power_after, stopped_power, power_moves, line_after, card_line, after_power_step, before_power_step, step, play_at_power, plays, first_failure, start, select_bytes, delete_bytes, load_commands}
 use Rattle.mc_model_device.specs.PowerUp.{Base, OnCard, AtFault, base_after_migration, base_of}
-use Rattle.mc_model_card.specs.Commands.{Command, item_of, manager_command, application_command, by_route, command}
+use Rattle.mc_model_card.specs.Commands.{Command, atomic_of, manager_command, application_command, by_route, command}
+use Rattle.mc_manager_laws.specs.Orders.{Order, order_of}
+use Rattle.mc_manager_laws.specs.Answers.{IsQuiet}
+use Rattle.mc_manager_laws.specs.Answers as quiet
+use Rattle.mc_manager_laws.specs.OnCard.{IsCommand, IsSelect, plains, blank_words}
+use Rattle.mc_manager_laws.specs.OnCard as made
+use Rattle.mc_manager_laws.proofs.OnCard.{command_made, selects_law}
+use Rattle.mc_manager_laws.proofs.Plains.{plains_are, plains_done}
 use Rattle.mc_model_play.specs.Laws.{bytes_of}
 use Rattle.mc_model_play.specs.DeckGrammar.{DeckLine}
 use Rattle.mc_model_play.specs.DeckGrammar as line
 use Rattle.mc_machine_laws.specs.Limited.{session_in}
 use Rattle.mc_family.specs.Begins.{PassedWell, RoutedWell, BehindDone, SentWell, TakenWell, LineWell, BeginWell, BeginsLaw}
-use Rattle.mc_machine_laws.proofs.AppSizes.{size_of, size_in, SameSizes, changed_sizes, WriteFits, moved_writes, Limited, are_limited, limited_inserted, ChangeFits, ItemsFit, limited_done, fit_whole, fit_append}
+use Rattle.mc_machine_laws.proofs.AppSizes.{size_of, size_in, SameSizes, changed_sizes, WriteFits, moved_writes, Limited, are_limited, limited_inserted, ItemsFit, limited_done, fit_whole, fit_append}
 use Rattle.mc_machine_laws.proofs.RunSizes.{RanFits, run_fits}
 use Rattle.mc_family.proofs.AfterPowerLines.{past_power}
 use Rattle.mc_model_device.proofs.MapLemmas.{same_name, name_is_itself, lookup_beside, lookup_left}
 use Rattle.mc_model_card.proofs.ItemLemmas.{done_append}
-use Rattle.mc_model_device.proofs.BoolLemmas.{or_else_none, no_value}
+use Rattle.mc_model_device.proofs.BoolLemmas.{or_else_none}
 use Rattle.mc_model_device.proofs.LayoutLemmas.{cause_none, sound_after}
 
 -- ---- a running card
@@ -69,51 +72,17 @@ same_selected m d s e h = subst (λ (z : Option (ℕ × ℕ)). AsManySession z (
 
 -- ---- items without contents
 
-plain_fit : (m : List (List ℕ × App)) (whole : Item) (s : Site) (p : Part) (cs : List (ℕ × List ℕ)) → ItemsFit m (map (item_of whole) (map (λ c. Piece s p c.0 c.1) cs))
-plain_fit m whole s p [] = tt
-plain_fit m whole s p (c ∷ cs) = plain_fit m whole s p cs
-
-plain_done : (m : List (List ℕ × App)) (whole : Item) (s : Site) (p : Part) (cs : List (ℕ × List ℕ)) → apps_after_items m (map (item_of whole) (map (λ c. Piece s p c.0 c.1) cs)) ≡ m
-plain_done m whole s p [] = refl
-plain_done m whole s p (c ∷ cs) = plain_done m whole s p cs
-
-abbrev pub notes : Site → List ℕ → List BankItem
-notes s n = Note s n 0 ∷ Note s n 1 ∷ Note s n 2 ∷ Note s n 3 ∷ Enter s n ∷ []
-
-blanks_fit : (m : List (List ℕ × App)) (w : ℕ) (c : Change) (s : Site) (n : List ℕ) (cs : List (ℕ × List ℕ)) → ChangeFits m c → ItemsFit m (map (item_of (Atomic w c)) (map (λ c. Blank s c.0 (length c.1)) cs ++ notes s n))
-blanks_fit m w c s n [] h = (h, tt)
-blanks_fit m w c s n (x ∷ cs) h = blanks_fit m w c s n cs h
-
-blanks_done : (m : List (List ℕ × App)) (w : ℕ) (c : Change) (s : Site) (n : List ℕ) (cs : List (ℕ × List ℕ)) → apps_after_items m (map (item_of (Atomic w c)) (map (λ c. Blank s c.0 (length c.1)) cs ++ notes s n)) ≡ apps_after_change c m
-blanks_done m w c s n [] = refl
-blanks_done m w c s n (x ∷ cs) = blanks_done m w c s n cs
+plains_fit : (m : List (List ℕ × App)) (n : ℕ) (is : List Item) → ItemsFit m is → ItemsFit m (plains n is)
+plains_fit m = plains_are (ItemsFit m) (λ is h. h)
 
 -- ---- the manager
 
 module _ (c : Card) (session_state : SessionState) (fits : SessionStateFits c.apps session_state) where
-  ManagedFits : Managed → Type 0
-  ManagedFits m = CommandFits c.apps (manager_command c session_state m)
-
-  declined : (sw : ℕ) → ManagedFits (Declines sw)
-  unfolding ManagedFits
-  declined sw = record { items = tt; session_state = fits }
-
-  answered_fits : (o : Option ℕ) (d : Accepted) → (o ≡ None → ManagedFits (Accepts d)) → ManagedFits (answer_unless o d)
-  answered_fits (Some sw) d h = declined sw
-  answered_fits None d h = h refl
-
-  select_by : (a : ApduParts) (o : Option App) → lookup c.apps a.body ≡ o → ManagedFits (Accepts (select_done session_state a o))
-  unfolding ManagedFits
-  select_by a None e = record { items = tt; session_state = fits }
-  select_by a (Some app) e =
+  selected_fits : (a : ApduParts) (r : Command) → IsSelect c session_state a r → CommandFits c.apps r
+  selected_fits a _ (made.unselected sw h) = record { items = tt; session_state = fits }
+  selected_fits a _ (made.selected app h) =
       let size : length (zeros app.session) ≡ app.session = length-replicate {A = ℕ} app.session 0 in
-      record {
-        items = tt;
-        session_state = record { selected = subst (λ (o : Option App). AsManySession (size_of o) (length (zeros app.session))) (sym e) size; load = fits.load };
-      }
-
-  select_fits : (a : ApduParts) → ManagedFits (select c.apps session_state a)
-  select_fits a = answered_fits (first_status (select_refusals c.apps a)) (select_done session_state a (lookup c.apps a.body)) (λ e. select_by a (lookup c.apps a.body) refl)
+      record { items = tt; session_state = record { selected = subst (λ (o : Option App). AsManySession (size_of o) (length (zeros app.session))) (sym h) size; load = fits.load } }
 
   -- ---- OPEN
 
@@ -131,33 +100,9 @@ module _ (c : Card) (session_state : SessionState) (fits : SessionStateFits c.ap
       let to-a = and_parts a (nat_le s.fixed most_static) to-b.0 in
       (leb-true s.fixed most_static to-a.1, leb-true s.init s.fixed to-b.1)
 
-  opened_by : (a : ApduParts) (x y z v : Bool) → fits_limits (sizes_in a) ≡ z → ManagedFits (answer_unless (cond x (Some 0x6A86) (cond y (Some 0x6700) (cond (not z) (Some 0x6A80) (cond v (Some 0x6A84) None)))) (open_done (room_on c) session_state a))
-  unfolding ManagedFits
-  opened_by a true y z v h = declined 0x6A86
-  opened_by a false true z v h = declined 0x6700
-  opened_by a false false false v h = declined 0x6A80
-  opened_by a false false true true h = declined 0x6A84
-  opened_by a false false true false h = record { items = tt; session_state = record { selected = fits.selected; load = limits_are (sizes_in a) h } }
-
-  open_fits : (a : ApduParts) → ManagedFits (open_load (room_on c) c.apps session_state a)
-  open_fits a =
-      opened_by a (nat_lt 15 (p1p2 a)) (not (length a.body == 12)) (fits_limits (sizes_in a)) (nat_le 32 (length c.apps) || is_none (room_on c (sizes_in a))) refl
-
-  -- ---- LOAD
-
-  loaded_by : (p : Part) (a : ApduParts) (o : Option Open) → session_state.load ≡ o → ManagedFits (Accepts (load_done session_state o p a))
-  unfolding ManagedFits
-  loaded_by p a None e = record { items = tt; session_state = fits }
-  loaded_by p a (Some o) e =
-      let cs = word_parts _ a.body in
-      record {
-        items = plain_fit c.apps Plain o.site p cs;
-        session_state = subst (λ (m : List (List ℕ × App)). SessionStateFits m (load_done session_state (Some o) p a).session_state) (sym (plain_done c.apps Plain o.site p cs))
-            (record { selected = fits.selected; load = subst LoadFits e fits.load });
-      }
-
-  load_fits : (p : Part) (a : ApduParts) → ManagedFits (load_part p session_state a)
-  load_fits p a = answered_fits (first_status (load_refusals session_state.load p a)) (load_done session_state session_state.load p a) (λ e. loaded_by p a session_state.load refl)
+  quiet_fits : (a : ApduParts) (o : Order) (body : List ℕ) (load : Option Open) → IsQuiet (room_on c) c.apps session_state a o body load → LoadFits load
+  quiet_fits a _ _ _ (quiet.answers o first rest) = fits.load
+  quiet_fits a _ _ _ (quiet.opens h) = limits_are (sizes_in a) h.limits
 
   -- ---- CREATE
 
@@ -185,34 +130,6 @@ module _ (c : Card) (session_state : SessionState) (fits : SessionStateFits c.ap
           absurd (subst (λ (z : Option (ℕ × ℕ)). AsManySession z (length s.session)) gone h)
       by false is = same_selected c.apps (insert c.apps n a) s (ap size_of (lookup_beside c.apps n a s.name is)) h
 
-  created_by : (a : ApduParts) (o : Open) (r : Result (List ℕ) AidFault) (x y z v : Bool) → session_state.load ≡ Some o → is_complete o ≡ z → is_taken c.apps r ≡ v
-      → ManagedFits (answer_unless (cond x (Some 0x6A86) (cond y (Some 0x6700) (cond (not z) (Some 0x6985) (cond (not (is_ok r)) (Some 0x6A80) (cond v (Some 0x6A89) None))))) (create_done session_state (Some o) r))
-  unfolding ManagedFits
-  created_by a o r true y z v e h t = declined 0x6A86
-  created_by a o r false true z v e h t = declined 0x6700
-  created_by a o r false false false v e h t = declined 0x6985
-  created_by a o (Err f) false false true v e h t = declined 0x6A80
-  created_by a o (Ok n) false false true true e h t = declined 0x6A89
-  created_by a o (Ok n) false false true false e h t =
-      let ch = Created n (fresh o) in
-      let cs = word_parts o.site.sizes.init (zeros (o.site.sizes.fixed - o.site.sizes.init)) in
-      let small : length (fresh o).fixed ≤ most_static = fresh_small o h (subst LoadFits e fits.load) in
-      record {
-        items = blanks_fit c.apps _ ch o.site n cs small;
-        session_state = subst (λ (m : List (List ℕ × App)). SessionStateFits m (record session_state { load = None })) (sym (blanks_done c.apps _ ch o.site n cs))
-            (record { selected = beside_selected session_state.selected n (fresh o) (no_value (lookup c.apps n) t) fits.selected; load = tt });
-      }
-
-  create_by : (a : ApduParts) (o : Option Open) (x y : Bool) → session_state.load ≡ o
-      → ManagedFits (answer_unless (cond x (Some 0x6A86) (cond y (Some 0x6700) (cond (not (can_create o)) (Some 0x6985) (cond (not (is_ok (name_of (dir_in o)))) (Some 0x6A80) (cond (is_taken c.apps (name_of (dir_in o))) (Some 0x6A89) None))))) (create_done session_state o (name_of (dir_in o))))
-  create_by a None true y e = declined 0x6A86
-  create_by a None false true e = declined 0x6700
-  create_by a None false false e = declined 0x6985
-  create_by a (Some o) x y e = created_by a o (name_of o.got.dir) x y (is_complete o) (is_taken c.apps (name_of o.got.dir)) e refl refl
-
-  create_fits : (a : ApduParts) → ManagedFits (create c.apps session_state a)
-  create_fits a = create_by a session_state.load (not (p1p2 a == 0)) (not (is_empty a.body)) refl
-
   -- ---- DELETE
 
   unselected : (o : Option Selected) (n : List ℕ) → is_selected o n ≡ false → SelectedFits c.apps o → SelectedFits (remove c.apps n) o
@@ -225,30 +142,26 @@ module _ (c : Card) (session_state : SessionState) (fits : SessionStateFits c.ap
           absurd (cc (sym same ∙ e))
       by false is = same_selected c.apps (remove c.apps n) s (ap size_of (lookup_left c.apps n s.name is)) h
 
-  deleted_by : (a : ApduParts) (x y z v : Bool) → is_selected session_state.selected a.body ≡ v → ManagedFits (answer_unless (cond x (Some 0x6A86) (cond y (Some 0x6700) (cond z (Some 0x6A82) (cond v (Some 0x6985) None)))) (delete_done session_state a))
-  unfolding ManagedFits
-  deleted_by a true y z v h = declined 0x6A86
-  deleted_by a false true z v h = declined 0x6700
-  deleted_by a false false true v h = declined 0x6A82
-  deleted_by a false false false true h = declined 0x6985
-  deleted_by a false false false false h = record { items = (tt, tt); session_state = record { selected = unselected session_state.selected a.body h fits.selected; load = tt } }
+  -- ---- the manager's commands
 
-  delete_fits : (a : ApduParts) → ManagedFits (delete c.apps session_state a)
-  delete_fits a = deleted_by a (not (p1p2 a == 0)) (is_empty a.body) (is_none (lookup c.apps a.body)) (is_selected session_state.selected a.body) refl
-
-  either : (b : Bool) (m n : Managed) → ManagedFits m → ManagedFits n → ManagedFits (cond b m n)
-  either true m n h k = h
-  either false m n h k = k
-
-  manage_fits : (a : ApduParts) → ManagedFits (manage (room_on c) c.apps session_state a)
-  unfolding manage
-  manage_fits a =
-      either (a.ins == 0x12) _ _ (open_fits a) (
-      either (a.ins == 0x24) _ _ (load_fits part.Code a) (
-      either (a.ins == 0x26) _ _ (load_fits part.Data a) (
-      either (a.ins == 0x20) _ _ (load_fits part.Dir a) (
-      either (a.ins == 0x22) _ _ (load_fits part.Fci a) (
-      either (a.ins == 0x16) _ _ (create_fits a) (either (a.ins == 0x18) _ _ (delete_fits a) (declined 0x6D00)))))))
+  made_fits : (a : ApduParts) (o : Order) (r : Command) → IsCommand c session_state a o r → CommandFits c.apps r
+  made_fits a _ _ (made.refused o sw h) = record { items = tt; session_state = fits }
+  made_fits a _ _ (made.quiet o body load h) = record { items = tt; session_state = record { selected = fits.selected; load = quiet_fits a o body load h } }
+  made_fits a _ _ (made.loaded p l h) =
+      let k = length (word_parts (p1p2 a) a.body) in
+      let next = record session_state { load = Some (record l { got = with_got p a.body l.got }) } in
+      record {
+        items = plains_fit c.apps k [] tt;
+        session_state = subst (λ (m : List (List ℕ × App)). SessionStateFits m next) (sym (plains_done c.apps k [])) (record { selected = fits.selected; load = subst LoadFits h.is fits.load });
+      }
+  made_fits a _ _ (made.created l n h) =
+      let items = plains 4 (atomic_of c (Some (Created n (fresh l))) ∷ []) in
+      record {
+        items = plains_fit c.apps (blank_words l.site) items (fresh_small l h.complete (subst LoadFits h.is fits.load), tt);
+        session_state = subst (λ (m : List (List ℕ × App)). SessionStateFits m (record session_state { load = None })) (sym (plains_done c.apps (blank_words l.site) items))
+            (record { selected = beside_selected session_state.selected n (fresh l) h.free fits.selected; load = tt });
+      }
+  made_fits a _ _ (made.deleted h) = record { items = (tt, tt); session_state = record { selected = unselected session_state.selected a.body h.other fits.selected; load = tt } }
 
 -- ---- a run
 
@@ -282,11 +195,10 @@ passed_fits c session_state (Some s) a budget e h =
 -- ---- a command
 
 routed_fits : (c : Card) (session_state : SessionState) (budget : ℕ) (r : Route) → SessionStateFits c.apps session_state → CommandFits c.apps (by_route c session_state budget r)
-unfolding ManagedFits
 routed_fits c session_state budget WrongLength h = record { items = tt; session_state = h }
 routed_fits c session_state budget WrongClass h = record { items = tt; session_state = h }
-routed_fits c session_state budget (ToSelect a) h = select_fits c session_state h a
-routed_fits c session_state budget (ToManager a) h = manage_fits c session_state h a
+routed_fits c session_state budget (ToSelect a) h = selected_fits c session_state h a (manager_command c session_state (select c.apps session_state a)) (selects_law c session_state a)
+routed_fits c session_state budget (ToManager a) h = made_fits c session_state h a (order_of a.ins) (manager_command c session_state (manage (room_on c) c.apps session_state a)) (command_made c session_state a)
 routed_fits c session_state budget (ToApplication a) h = passed_fits c session_state session_state.selected a budget refl h
 
 pub command_fits : (c : Card) (session_state : SessionState) (b : List ℕ) (budget : ℕ) → SessionStateFits c.apps session_state → CommandFits c.apps (command c session_state b budget)

@@ -35,12 +35,12 @@ owed_which m Neither = omega arith
 pub owed_most : (m : List (List ℕ)) → count_of_recovery_writes m ≤ 65
 owed_most m = owed_which m (which m)
 
-owed_cond : (b : Bool) (s t : Stopped) → s.owed ≤ 65 → t.owed ≤ 65 → (cond b s t).owed ≤ 65
+pub owed_cond : (b : Bool) (s t : Stopped) → s.owed ≤ 65 → t.owed ≤ 65 → (cond b s t).owed ≤ 65
 owed_cond true s t h k = h
 owed_cond false s t h k = k
 
 -- a stop leaves at most 65 writes for recovery
-at_stop_owed : (is : List Item) (k : ℕ) (x : List ℕ) → AllByRecursion FitsJournal is → (at_stop is k x).owed ≤ 65
+pub at_stop_owed : (is : List Item) (k : ℕ) (x : List ℕ) → AllByRecursion FitsJournal is → (at_stop is k x).owed ≤ 65
 at_stop_owed [] k x a = omega arith
 at_stop_owed (Plain ∷ is) k x a = owed_cond (k == 1) (record { whole = []; owed = 0 }) (with_item Plain (at_stop is (k - 1) x)) (omega arith) (at_stop_owed is (k - 1) x a.1)
 at_stop_owed (Atomic w c ∷ is) k x a =

@@ -15,7 +15,7 @@ use Rattle.mc_model_machine.specs.Row.{RowEnd, Abends, Does, row}
 use Rattle.mc_model_machine.specs.Chain.{Outcome, Write, Chain, Ran, Acted, Follows, Continues, Ends, code_in, map_changed, write_of, chain_after_effect, is_active, depth_of, entered_app, called_app, chain_after_call, after_exit, follows, pair_of, done_turn, row_turn, turn_of_fetch, frame_at, around, turn_of_chain, ends_with, goes_on, run_after_turn, chain_session, run_of_chain, start_app, start, no_app, run}
 use Rattle.mc_model_play.specs.Family.{ClosedPairs}
 use Rattle.mc_family.proofs.Agreement.{bare, MapsAgree, agree_map_changed}
-use Rattle.mc_machine_laws.proofs.RowNames.{RowKeepsName, row_name}
+use Rattle.mc_row_laws.proofs.RowNames.{RowKeepsName, row_name}
 
 -- ---- sides
 

@@ -4,8 +4,6 @@ use Rattle.std.specs.Prelude.{map, option_map, IsSome, is_some, is_none, Result,
 use Rattle.std.specs.Option.{ForSome}
 use Rattle.std.proofs.lemmas.Bool.Decides.{nat_tests}
 use Rattle.mc_model_card.specs.declared.card.Part.{Part}
-use Rattle.mc_model_card.specs.declared.card.Part.TheVariants as part
-use Rattle.mc_model_card.specs.declared.card.Sizes.{Sizes}
 use Rattle.mc_model_card.specs.declared.unit.AidFault.{AidFault}
 use Rattle.mc_model_device.specs.declared.device.Stop.{Stop}
 use Rattle.mc_model_device.specs.Orders.{Answer, answer_of, InOrder}
@@ -13,8 +11,10 @@ use Rattle.mc_model_device.specs.Bytes.{zeros, lookup, insert, remove}
 use Rattle.mc_model_machine.specs.Apdu.{ApduParts}
 use Rattle.mc_model_device.specs.Card.{App}
 use Rattle.mc_model_card.specs.Items.{Site, BankItem, Piece, Remove}
-use Rattle.mc_model_card.specs.Manager.{Open, SessionState, Accepted, Managed, first_status, answer_unless, select_body, select_done, select, p1p2, is_empty, got_of, size_of, with_got, word_parts, load_refusals, load_done, load_part, create_refusals, create_done, create_items, create, dir_in, is_selected, delete_refusals, delete_done, delete, open_load, Declines, WrongClass, ToSelect, ToManager, ToApplication, manage}
+use Rattle.mc_model_card.specs.Manager.{Open, Accepted, first_status, answer_unless, select_body, select_done, select, p1p2, is_empty, got_of, size_of, with_got, word_parts, load_refusals, load_done, load_part, create_refusals, create_done, create_items, create, dir_in, is_selected, delete_refusals, delete_done, delete, WrongClass, ToSelect, ToManager, ToApplication, manage}
 use Rattle.mc_model_card.specs.Units.{name_of}
+use Rattle.mc_manager_laws.specs.Orders.{order_of, managed}
+use Rattle.mc_manager_laws.proofs.Orders.{manage_is}
 use Rattle.mc_apdu.specs.declared.reply.Reply.{Reply}
 use Rattle.mc_bank.specs.Bank.{part_len, no_app, app_of, name_or, app_of_site, Changes}
 use Rattle.mc_manager.specs.declared.selection.Selection.{Selection}
@@ -348,25 +348,6 @@ module _ {B : Type 0} (did : B → BankItem → Answer → B → Type 0) where
 
 -- ---- the table
 
--- a command of class BE, by its INS
-abbrev by_ins : ℕ → (Sizes → Option ℕ) → List (List ℕ × App) → SessionState → ApduParts → Managed
-by_ins i room map session_state a =
-    cond (i == 0x12) (open_load room map session_state a) (
-    cond (i == 0x24) (load_part part.Code session_state a) (
-    cond (i == 0x26) (load_part part.Data session_state a) (
-    cond (i == 0x20) (load_part part.Dir session_state a) (
-    cond (i == 0x22) (load_part part.Fci session_state a) (
-    cond (i == 0x16) (create map session_state a) (cond (i == 0x18) (delete map session_state a) (Declines 0x6D00))
-    )
-    )
-    )
-    )
-    )
-
-pub manage_is : (i : ℕ) (room : Sizes → Option ℕ) (map : List (List ℕ × App)) (session_state : SessionState) (a : ApduParts) → a.ins ≡ i → manage room map session_state a ≡ by_ins i room map session_state a
-unfolding manage
-manage_is i room map session_state a is = ap (λ (k : ℕ). by_ins k room map session_state a) is
-
 -- the verdict on a command of class BE is that of the manager's table
 pub manager_due : (v : BankView) (s : List ℕ) (m : ManagerState) (a : ApduParts) → a.cla ≡ 0xBE → due v s m a ≡ due_manager (manage v.room v.state.apps (session_state_of v.site_bytes s m) a)
 manager_due v s m a is =
@@ -385,10 +366,10 @@ module _ {B : Type 0} (did : B → BankItem → Answer → B → Type 0) where
       }
 
   pub ends_managed : (i : ℕ) (v : BankView) (m : ManagerState) (a : ApduParts) (b : B) (x : Result Routed Stop) (w : BankView) (n : ManagerState) (e : B) → a.ins ≡ i
-      → CommandEnds did (λ s. due_manager (by_ins i v.room v.state.apps (session_state_of v.site_bytes s m) a)) v m b x w n e
+      → CommandEnds did (λ s. due_manager (managed (order_of i) v.room v.state.apps (session_state_of v.site_bytes s m) a)) v m b x w n e
       → CommandEnds did (λ s. due_manager (manage v.room v.state.apps (session_state_of v.site_bytes s m) a)) v m b x w n e
   ends_managed i v m a b x w n e is =
-      ends_as (λ s. due_manager (manage v.room v.state.apps (session_state_of v.site_bytes s m) a)) (λ s. due_manager (by_ins i v.room v.state.apps (session_state_of v.site_bytes s m) a)) v m b x w n e
+      ends_as (λ s. due_manager (manage v.room v.state.apps (session_state_of v.site_bytes s m) a)) (λ s. due_manager (managed (order_of i) v.room v.state.apps (session_state_of v.site_bytes s m) a)) v m b x w n e
       (λ s. ap due_manager (manage_is i v.room v.state.apps (session_state_of v.site_bytes s m) a is))
 
   -- ---- the clauses of a command whose reply was written beside its ruling

@@ -1,19 +1,19 @@
 -- What a command adds to the applications: nothing, or the application of the open load.
 use Rattle.std.proofs.Common.{◌≡◌, ℕ, Bool, true, false, List, [], ◌∷◌, Option, Some, None, Ok, Err, refl, sym, ap, subst, ◌∙◌, inl, inr}
-use Rattle.std.specs.Prelude.{◌⊎◌, cond, ◌==◌, ◌&&◌, bytes_eq, Result}
-use Rattle.mc_model_card.specs.declared.card.Part.{Part}
-use Rattle.mc_model_card.specs.declared.card.Part.TheVariants as part
+use Rattle.std.specs.Prelude.{◌⊎◌, cond, ◌==◌, ◌&&◌, bytes_eq}
 use Rattle.mc_model_card.specs.declared.card.Sizes.{Sizes}
-use Rattle.mc_model_card.specs.declared.unit.AidFault.{AidFault}
 use Rattle.mc_model_device.specs.Orders.{Answer}
 use Rattle.mc_model_device.specs.Bytes.{lookup, insert, remove}
 use Rattle.mc_model_machine.specs.Apdu.{ApduParts}
 use Rattle.mc_model_device.specs.Card.{App}
-use Rattle.mc_model_card.specs.Manager.{Selected, Open, SessionState, Accepted, Managed, Declines, first_status, answer_unless, WrongClass, ToSelect, ToManager, ToApplication, select_refusals, select_done, select, open_refusals, open_done, open_load, load_refusals, load_done, load_part, create_refusals, create_done, create, dir_in, fresh, delete_refusals, delete_done, delete, manage}
-use Rattle.mc_model_card.specs.Units.{name_of}
+use Rattle.mc_model_card.specs.Manager.{Selected, Open, SessionState, Managed, first_status, answer_unless, WrongClass, ToSelect, ToManager, ToApplication, select_refusals, select_done, select, fresh, manage}
+use Rattle.mc_manager_laws.specs.Orders.{Order, order_of}
+use Rattle.mc_manager_laws.specs.Answers.{IsAnswer}
+use Rattle.mc_manager_laws.specs.Answers as answer
+use Rattle.mc_manager_laws.proofs.Orders.{answer_made}
 use Rattle.mc_bank.specs.Bank.{BankState, Changes}
 use Rattle.mc_manager.specs.ManagerState.{BankView, ManagerState, session_state_of, load_of}
-use Rattle.mc_manager.specs.CommandDue.{CommandDue, Refuses, Selects, Does, due_select, due_manager, due_application, due_on, due, apps_after, NoneStale}
+use Rattle.mc_manager.specs.CommandDue.{CommandDue, due_select, due_manager, due_application, due_on, due, apps_after, NoneStale}
 use Rattle.mc_model_device.proofs.MapLemmas.{same_name, lookup_inserted_lem, lookup_beside, lookup_removed_lem}
 
 -- ---- maps
@@ -45,48 +45,23 @@ abbrev AddsFresh : Option Open → List (List ℕ × App) → CommandDue → Typ
 AddsFresh load apps d = NoneStale load apps (apps_after d apps)
 
 module _ (load : Option Open) (apps : List (List ℕ × App)) where
-  by_answer : (f : Managed → CommandDue) → (d : Accepted) → ((sw : ℕ) → f (Declines sw) ≡ Refuses sw) → AddsFresh load apps (f (answer_unless None d)) → (x : Option ℕ) → AddsFresh load apps (f (answer_unless x d))
-  by_answer f d is h None = h
-  by_answer f d is h (Some sw) = subst (AddsFresh load apps) (sym (is sw)) (same_apps load apps)
-
   select_adds : (session_state : SessionState) (a : ApduParts) → AddsFresh load apps (due_select (select apps session_state a))
-  select_adds session_state a = by_answer due_select (select_done session_state a (lookup apps a.body)) (λ sw. refl) (by_app (lookup apps a.body)) (first_status (select_refusals apps a))
+  select_adds session_state a = by_refusal (first_status (select_refusals apps a)) (lookup apps a.body)
     where
-      by_app : (x : Option App) → AddsFresh load apps (Selects (select_done session_state a x))
-      by_app None = same_apps load apps
-      by_app (Some app) = same_apps load apps
+      by_refusal : (x : Option ℕ) (o : Option App) → AddsFresh load apps (due_select (answer_unless x (select_done session_state a o)))
+      by_refusal (Some sw) o = same_apps load apps
+      by_refusal None None = same_apps load apps
+      by_refusal None (Some app) = same_apps load apps
 
-  open_adds : (room : Sizes → Option ℕ) (session_state : SessionState) (a : ApduParts) → AddsFresh load apps (due_manager (open_load room apps session_state a))
-  open_adds room session_state a = by_answer due_manager (open_done room session_state a) (λ sw. refl) (same_apps load apps) (first_status (open_refusals room apps a))
-
-  load_adds : (p : Part) (session_state : SessionState) (a : ApduParts) → AddsFresh load apps (due_manager (load_part p session_state a))
-  load_adds p session_state a = by_answer due_manager (load_done session_state session_state.load p a) (λ sw. refl) (by_load session_state.load) (first_status (load_refusals session_state.load p a))
-    where
-      by_load : (x : Option Open) → AddsFresh load apps (Does (load_done session_state x p a))
-      by_load None = same_apps load apps
-      by_load (Some o) = same_apps load apps
-
-  create_adds : (session_state : SessionState) (a : ApduParts) → session_state.load ≡ load → AddsFresh load apps (due_manager (create apps session_state a))
-  create_adds session_state a is =
-      by_answer due_manager (create_done session_state session_state.load (name_of (dir_in session_state.load))) (λ sw. refl) (by_load session_state.load (name_of (dir_in session_state.load)) is) (first_status (create_refusals apps session_state.load a))
-    where
-      by_load : (x : Option Open) (n : Result (List ℕ) AidFault) → x ≡ load → AddsFresh load apps (Does (create_done session_state x n))
-      by_load None n is = same_apps load apps
-      by_load (Some o) (Err e) is = same_apps load apps
-      by_load (Some o) (Ok n) is = lookup_inserted load o apps n (sym is)
-
-  delete_adds : (session_state : SessionState) (a : ApduParts) → AddsFresh load apps (due_manager (delete apps session_state a))
-  delete_adds session_state a = by_answer due_manager (delete_done session_state a) (λ sw. refl) (λ n app h. inl (lookup_removed apps a.body n app h)) (first_status (delete_refusals apps session_state a))
-
-  by_test : (x y : Managed) → AddsFresh load apps (due_manager x) → AddsFresh load apps (due_manager y) → (b : Bool) → AddsFresh load apps (due_manager (cond b x y))
-  by_test x y h k true = h
-  by_test x y h k false = k
+  made_adds : (room : Sizes → Option ℕ) (session_state : SessionState) (a : ApduParts) (o : Order) (m : Managed) → session_state.load ≡ load → IsAnswer room apps session_state a o m → AddsFresh load apps (due_manager m)
+  made_adds room session_state a _ _ is (answer.refused o sw h) = same_apps load apps
+  made_adds room session_state a _ _ is (answer.quiet o body next h) = same_apps load apps
+  made_adds room session_state a _ _ is (answer.loaded p l h) = same_apps load apps
+  made_adds room session_state a _ _ is (answer.created l n h) = lookup_inserted load l apps n (sym is ∙ h.is)
+  made_adds room session_state a _ _ is (answer.deleted h) = λ n app there. inl (lookup_removed apps a.body n app there)
 
   manage_adds : (room : Sizes → Option ℕ) (session_state : SessionState) (a : ApduParts) → session_state.load ≡ load → AddsFresh load apps (due_manager (manage room apps session_state a))
-  unfolding manage
-  manage_adds room session_state a is =
-      by_test _ _ (open_adds room session_state a) (by_test _ _ (load_adds part.Code session_state a) (by_test _ _ (load_adds part.Data session_state a) (by_test _ _ (load_adds part.Dir session_state a) (by_test _ _ (load_adds part.Fci session_state a)
-      (by_test _ _ (create_adds session_state a is) (by_test _ _ (delete_adds session_state a) (same_apps load apps) (a.ins == 0x18)) (a.ins == 0x16)) (a.ins == 0x22)) (a.ins == 0x20)) (a.ins == 0x26)) (a.ins == 0x24)) (a.ins == 0x12)
+  manage_adds room session_state a is = made_adds room session_state a (order_of a.ins) (manage room apps session_state a) is (answer_made room apps session_state a)
 
 -- a command by its route leaves no stale application
 pub due_adds : (v : BankView) (s : List ℕ) (m : ManagerState) (a : ApduParts) → NoneStale (load_of v.site_bytes m) v.state.apps (apps_after (due v s m a) v.state.apps)

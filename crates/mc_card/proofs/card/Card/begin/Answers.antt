@@ -1,4 +1,4 @@
-use Rattle.std.proofs.Common.{Result, Option, refl, sym, ◌∙◌, ap, subst, Some, Ok, Err}
+use Rattle.std.proofs.Common.{ℕ, Result, Option, refl, sym, ◌∙◌, ap, subst, Some, Ok, Err}
 use Rattle.std.proofs.lemmas.Result.{err_from_is_err_and}
 use Rattle.mc_model_device.specs.declared.device.Stop.{Stop}
 use Rattle.mc_model_device.specs.Orders.{answer_of}
@@ -6,7 +6,6 @@ use Rattle.mc_model_device.specs.Device.{Ended}
 use Rattle.mc_apdu.specs.Command.{parts_of}
 use Rattle.mc_machine.specs.declared.outcome.Outcome.{Outcome}
 use Rattle.mc_machine.specs.declared.outcome.Outcome.TheVariants as outcome
-use Rattle.mc_card.specs.declared.managing.Directed.{Directed}
 use Rattle.mc_card.specs.Managing.{Directs}
 use Rattle.mc_card.specs.Parts.{device_in}
 use Rattle.mc_card.specs.Ends.{Begun}
@@ -26,26 +25,26 @@ returns-in_err-direct-clause-done g c =
     subst (λ (r : Result (Option Outcome) Stop). Begun g.N.Nvm.state g.N.Nvm.wrote old c.args.bytes.now c.args.budget r c.direct.new.self) (sym (p.1 ∙ ap (λ (s : Stop). Err s) p.2))
     (answered_begun g.N.Nvm.state g.N.Nvm.wrote g.met.N.Nvm.obeys a old c.direct.new.self c.args.bytes.now c.args.budget (Err c.in_err-direct.field-0.0) c.in-Ok.ensures.read c.in_err-direct.ensures.done)
 
-pub returns-in-Answered-clause-done : goal.returns-in-Answered-clause-done
-returns-in-Answered-clause-done g c =
+pub returns-in-None-clause-done : goal.returns-in-None-clause-done
+returns-in-None-clause-done g c =
     let old = c.args.self.now in
     let a = parts_of c.in-Ok.apdu in
     answered_begun g.N.Nvm.state g.N.Nvm.wrote g.met.N.Nvm.obeys a old c.direct.new.self c.args.bytes.now c.args.budget (Ok (outcome.Reply c.direct.new.reply)) c.in-Ok.ensures.read
-    (subst (λ (x : Directed). Directs g.N.Nvm.state g.N.Nvm.wrote old a (Ok x) c.direct.new.reply c.direct.new.self) c.in-Answered.is c.in_ok-direct.ensures.done)
+    (subst (λ (x : Option ℕ). Directs g.N.Nvm.state g.N.Nvm.wrote old a (Ok x) c.direct.new.reply c.direct.new.self) c.in-None.is c.in_ok-direct.ensures.done)
 
 pub begin-requires-clause-session : goal.begin-requires-clause-session
 begin-requires-clause-session g c =
     let old = c.args.self.now in
     let a = parts_of c.in-Ok.apdu in
-    passed_session g.N.Nvm.state g.N.Nvm.wrote g.met.N.Nvm.obeys old c.direct.new.self a c.in-Passed.slot c.requires.ready
-    (subst (λ (x : Directed). Directs g.N.Nvm.state g.N.Nvm.wrote old a (Ok x) c.direct.new.reply c.direct.new.self) c.in-Passed.is c.in_ok-direct.ensures.done)
+    passed_session g.N.Nvm.state g.N.Nvm.wrote g.met.N.Nvm.obeys old c.direct.new.self a c.in-Some.slot c.requires.ready
+    (subst (λ (x : Option ℕ). Directs g.N.Nvm.state g.N.Nvm.wrote old a (Ok x) c.direct.new.reply c.direct.new.self) c.in-Some.is c.in_ok-direct.ensures.done)
 
-pub returns-in-Passed-clause-done : goal.returns-in-Passed-clause-done
-returns-in-Passed-clause-done g c =
+pub returns-in-Some-clause-done : goal.returns-in-Some-clause-done
+returns-in-Some-clause-done g c =
     let old = c.args.self.now in
     let a = parts_of c.in-Ok.apdu in
-    passed_begun g.N.Nvm.state g.N.Nvm.wrote g.met.N.Nvm.obeys old c.direct.new.self a c.in-Passed.slot c.args.budget c.args.bytes.now c.begin.result c.requires.ready
-    (subst (λ (x : Directed). Directs g.N.Nvm.state g.N.Nvm.wrote old a (Ok x) c.direct.new.reply c.direct.new.self) c.in-Passed.is c.in_ok-direct.ensures.done)
+    passed_begun g.N.Nvm.state g.N.Nvm.wrote g.met.N.Nvm.obeys old c.direct.new.self a c.in-Some.slot c.args.budget c.args.bytes.now c.begin.result c.requires.ready
+    (subst (λ (x : Option ℕ). Directs g.N.Nvm.state g.N.Nvm.wrote old a (Ok x) c.direct.new.reply c.direct.new.self) c.in-Some.is c.in_ok-direct.ensures.done)
     c.in-Ok.ensures.read c.begin.ensures.runs c.begin.ensures.left
 
 pub returns-in_default-clause-ended : goal.returns-in_default-clause-ended
@@ -59,10 +58,10 @@ returns-in_err-direct-clause-ended g c =
     subst (λ (r : Result (Option Outcome) Stop). Ended (answer_of r) (g.N.Nvm.state (device_in old)) (g.N.Nvm.state (device_in c.direct.new.self))) (sym (p.1 ∙ ap (λ (s : Stop). Err s) p.2))
     (commanded_ended g.N.Nvm.state g.N.Nvm.wrote g.met.N.Nvm.obeys _ old c.direct.new.self (Err c.in_err-direct.field-0.0) c.requires.ready (c.in_err-direct.ensures.done.commanded 1))
 
-pub returns-in-Answered-clause-ended : goal.returns-in-Answered-clause-ended
-returns-in-Answered-clause-ended g c =
-    commanded_ended g.N.Nvm.state g.N.Nvm.wrote g.met.N.Nvm.obeys _ c.args.self.now c.direct.new.self (Ok (outcome.Reply c.direct.new.reply)) c.requires.ready (returns-in-Answered-clause-done g c).commanded
+pub returns-in-None-clause-ended : goal.returns-in-None-clause-ended
+returns-in-None-clause-ended g c =
+    commanded_ended g.N.Nvm.state g.N.Nvm.wrote g.met.N.Nvm.obeys _ c.args.self.now c.direct.new.self (Ok (outcome.Reply c.direct.new.reply)) c.requires.ready (returns-in-None-clause-done g c).commanded
 
-pub returns-in-Passed-clause-ended : goal.returns-in-Passed-clause-ended
-returns-in-Passed-clause-ended g c =
-    none_ended g.N.Nvm.state g.N.Nvm.wrote g.met.N.Nvm.obeys c.args.self.now (record c.direct.new.self { chain = Some c.begin.result }) c.requires.ready.up (returns-in-Passed-clause-done g c).device
+pub returns-in-Some-clause-ended : goal.returns-in-Some-clause-ended
+returns-in-Some-clause-ended g c =
+    none_ended g.N.Nvm.state g.N.Nvm.wrote g.met.N.Nvm.obeys c.args.self.now (record c.direct.new.self { chain = Some c.begin.result }) c.requires.ready.up (returns-in-Some-clause-done g c).device

@@ -1,11 +1,10 @@
-use Rattle.std.proofs.Common.{Result, refl, sym, ◌∙◌, ap, subst, Ok, Err}
+use Rattle.std.proofs.Common.{ℕ, Result, Option, refl, sym, ◌∙◌, ap, subst, Ok, Err}
 use Rattle.std.proofs.lemmas.Result.{err_from_is_err_and}
 use Rattle.mc_model_device.specs.declared.device.Stop.{Stop}
 use Rattle.mc_apdu.specs.Command.{parts_of}
 use Rattle.mc_manager.specs.declared.routed.Ruling.{Ruling}
 use Rattle.mc_manager.specs.Ruled.{ruling_with_reply}
 use Rattle.mc_card.specs.declared.card.Card.{Card}
-use Rattle.mc_card.specs.declared.managing.Directed.{Directed}
 use Rattle.mc_card.specs.Managing.{Directs}
 use Rattle.mc_card.proofs.DirectLemmas.{DirectEnds, answered_done, stopped_done, selected_done, fresh_slot, passed_done}
 use Rattle.mc_card.proofs.DeviceLemmas.{answered_same}
@@ -49,7 +48,7 @@ returns-in_err-rule-clause-done g c =
     let new = record old { store = c.rule.new.bank; manager = c.rule.new.self } in
     let a = parts_of c.args.apdu.now in
     let p = err_from_is_err_and c.from_residual.result c.from_residual.ensures.1 in
-    subst (λ (r : Result Directed Stop). Directs g.N.Nvm.state g.N.Nvm.wrote old a r c.rule.new.reply new) (sym (p.1 ∙ ap (λ (s : Stop). Err s) p.2))
+    subst (λ (r : Result (Option ℕ) Stop). Directs g.N.Nvm.state g.N.Nvm.wrote old a r c.rule.new.reply new) (sym (p.1 ∙ ap (λ (s : Stop). Err s) p.2))
     (stopped_done g.N.Nvm.state g.N.Nvm.wrote g.met.N.Nvm.obeys a old new c.in_err-rule.field-0.0 c.requires.ready (record { items = c.in_err-rule.ensures.items; apps = c.in_err-rule.ensures.apps; leaves = c.in_err-rule.ensures.leaves; fits = c.in_err-rule.ensures.fits; going = c.in_err-rule.ensures.going }))
 
 pub returns-in_err-rule-clause-keeps_device : goal.returns-in_err-rule-clause-keeps_device

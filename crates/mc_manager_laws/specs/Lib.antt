@@ -1,0 +1,4 @@
+pub mod Orders
+pub mod Answers
+pub mod OnCard
+pub mod Laws
