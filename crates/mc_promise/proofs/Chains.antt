@@ -10,7 +10,7 @@ use Rattle.mc_model_machine.specs.Frame.{Frame}
 use Rattle.mc_model_machine.specs.Chain.{Outcome, Reply, Abended, Chain, with_pieces, changed_app, map_changed, is_active}
 use Rattle.mc_promise.specs.Outline.{Entry, BySelection, ByDelegation, Outline, public_size}
 use Rattle.mc_promise.specs.Kept.{IsLike}
-use Rattle.mc_promise.proofs.RowTracks.{after_change}
+use Rattle.mc_row_laws.specs.Keeping.{after_change}
 use Rattle.mc_model_device.proofs.MapLemmas.{lookup_beside, lookup_inserted_lem}
 
 -- ---- names

@@ -14,7 +14,8 @@ use Rattle.mc_model_machine.specs.Row.{RowEnd, Abends, Does, row}
 use Rattle.mc_model_machine.specs.Chain.{Outcome, Reply, Abended, Chain, Ends, write_of, chain_after_effect, reply_of, after_exit, follows, row_turn, turn_of_fetch, frame_at, around, first_frame, chain_session}
 use Rattle.mc_model_card.specs.Items.{apps_after_items, write_items}
 use Rattle.mc_promise.specs.Outline.{Outline, IsShown, public_size, ExitShown}
-use Rattle.mc_promise.proofs.RowTracks.{Tracked, RowTracks, row_tracks}
+use Rattle.mc_row_laws.specs.Keeping.{Keeps, OnDone}
+use Rattle.mc_row_laws.proofs.Keeping.{row_keeps}
 use Rattle.mc_promise.specs.Kept.{IsLike, KeptIn}
 use Rattle.mc_promise.proofs.Chains.{NoneOf, entry_over, none_waits, others_run, others_wait, others_wait_below, FoundKept, ChainKept, SessionIn, beside_changed}
 use Rattle.mc_promise.proofs.Turns.{FollowsKept, TurnKept, FoundBelow, first_name, single_write, done_write, abended, exited_chain, called_chain}
@@ -60,7 +61,7 @@ module _ {E : Type 0} (o : Outline E) (shown : IsShown o) (apdu : ApduParts) (be
       called_chain o shown apdu before b h s n (lookup s.map n) command l refl first (other_waits h (lookup s.map o.watch.name) s.frame s.below e w)
 
   other_done : (b : Bool) (h : List E) (ch : Chain) (i : Ins) (d : Done) → bytes_eq ch.frame.name o.watch.name ≡ false → bytes_eq (first_frame ch.frame ch.below).name o.watch.name ≡ b
-      → ChainKept o apdu before h ch → Tracked ch.frame.name ch.frame.fixed (length ch.public) d.effect → TurnKept b o apdu before h ch (row_turn ch i (Does d)) None
+      → ChainKept o apdu before h ch → Keeps ch.frame ch.public d.effect → TurnKept b o apdu before h ch (row_turn ch i (Does d)) None
   other_done b h ch i d e first c t =
       let n = ch.frame.name in
       let s : Chain = chain_after_effect ch d.effect in
@@ -82,7 +83,7 @@ module _ {E : Type 0} (o : Outline E) (shown : IsShown o) (apdu : ApduParts) (be
       }
 
   other_row : (b : Bool) (h : List E) (ch : Chain) (i : Ins) (r : RowEnd) → bytes_eq ch.frame.name o.watch.name ≡ false → bytes_eq (first_frame ch.frame ch.below).name o.watch.name ≡ b
-      → ChainKept o apdu before h ch → RowTracks ch.frame ch.public r → TurnKept b o apdu before h ch (row_turn ch i r) None
+      → ChainKept o apdu before h ch → OnDone r (λ d. Keeps ch.frame ch.public d.effect) → TurnKept b o apdu before h ch (row_turn ch i r) None
   other_row b h ch i (Abends cause) e first c t = abended o shown apdu before b h ch (Some i) 1 cause first c
   other_row b h ch i (Does d) e first c t = other_done b h ch i d e first c t
 
@@ -91,7 +92,7 @@ module _ {E : Type 0} (o : Outline E) (shown : IsShown o) (apdu : ApduParts) (be
   other_fetched b h ch (Err Undefined) e first c = abended o shown apdu before b h ch None 0 A01 first c
   other_fetched b h ch (Err Past) e first c = abended o shown apdu before b h ch None 0 A02 first c
   other_fetched b h ch (Ok i) e first c =
-      other_row b h ch i.0 (row i.0 (frame_at ch.frame i.1) ch.public (around ch)) e first c (row_tracks i.0 (frame_at ch.frame i.1) ch.public (around ch))
+      other_row b h ch i.0 (row i.0 (frame_at ch.frame i.1) ch.public (around ch)) e first c (row_keeps i.0 (frame_at ch.frame i.1) ch.public (around ch))
 
   -- ---- its own turn
 

@@ -1,15 +1,14 @@
 -- Lists of items and one name: those that do not touch it, those that change other static bytes alone, and what keeps
 -- over them.
 use Rattle.std.proofs.Common.{◌≡◌, ℕ, ◌-◌, Bool, true, false, cond, List, [], ◌∷◌, ◌++◌, Some, None, refl, sym, ap, subst, ◌∙◌}
-use Rattle.std.specs.Prelude.{⊤, ◌==◌, bytes_eq, nat_le, map}
+use Rattle.std.specs.Prelude.{⊤, ◌==◌, bytes_eq, nat_le}
 use Rattle.std.proofs.lemmas.Bool.{or_parts, false_from_ne_true}
 use Rattle.mc_model_device.specs.Bytes.{lookup, insert, remove, has_name}
 use Rattle.mc_model_device.specs.Image.{Two}
 use Rattle.mc_model_device.specs.Stopped.{cost, stands}
 use Rattle.mc_model_device.specs.Card.{App}
 use Rattle.mc_model_machine.specs.Chain.{Write, map_changed}
-use Rattle.mc_model_card.specs.Items.{Change, Fixed, Created, Deleted, Item, Plain, Atomic, apps_after_items, Stopped, with_item, in_flight, at_stop, BankItem, Piece, Blank, Note, Commit, Enter, Remove, write_items}
-use Rattle.mc_model_card.specs.Commands.{item_of}
+use Rattle.mc_model_card.specs.Items.{Change, Fixed, Created, Deleted, Item, Plain, Atomic, apps_after_items, Stopped, with_item, in_flight, at_stop, write_items}
 use Rattle.mc_family.proofs.Stops.{AreOthers}
 use Rattle.mc_promise.specs.History.{unless_created, after_items}
 use Rattle.mc_promise.specs.Along.{IsAppIf, CreatesOnly}
@@ -47,18 +46,6 @@ avoid_history n (Plain ∷ is) h a = avoid_history n is h a.1
 avoid_history n (Atomic w (Fixed k ps) ∷ is) h a = avoid_history n is h a.1
 avoid_history n (Atomic w (Created k x) ∷ is) h a = ap (λ (b : Bool). after_items n is (unless_created b h)) a.0 ∙ avoid_history n is h a.1
 avoid_history n (Atomic w (Deleted k) ∷ is) h a = avoid_history n is h a.1
-
-item_avoids : (n : List ℕ) (i : Item) (b : BankItem) → Avoids n i → Avoids n (item_of i b)
-item_avoids n i (Piece s p at b) a = tt
-item_avoids n i (Blank s at k) a = tt
-item_avoids n i (Note s k q) a = tt
-item_avoids n i (Commit k ws) a = tt
-item_avoids n i (Enter s k) a = a
-item_avoids n i (Remove k) a = a
-
-pub items_avoid : (n : List ℕ) (i : Item) (bs : List BankItem) → Avoids n i → AllAvoid n (map (item_of i) bs)
-items_avoid n i [] a = tt
-items_avoid n i (b ∷ bs) a = (item_avoids n i b a, items_avoid n i bs a)
 
 -- ---- items of a run
 

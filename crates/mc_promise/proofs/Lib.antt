@@ -1,4 +1,3 @@
-pub mod RowTracks
 pub mod Chains
 pub mod Turns
 pub mod EachTurn

@@ -17,7 +17,8 @@ use Rattle.mc_model_machine.specs.Chain.{Chain, code_in, map_changed, write_of, 
 use Rattle.mc_model_card.specs.Items.{apps_after_items, write_items}
 use Rattle.mc_promise.specs.History.{Deed, with_event, row_event, fetched_event, event_if, turn_event}
 use Rattle.mc_promise.specs.Outline.{Outline, IsShown, FitsEntry, public_size, NextShown, DeedShown, RowShown, FetchShown}
-use Rattle.mc_promise.proofs.RowTracks.{after_change, Tracked, RowTracks, row_tracks}
+use Rattle.mc_row_laws.specs.Keeping.{after_change, Keeps, OnDone}
+use Rattle.mc_row_laws.proofs.Keeping.{row_keeps}
 use Rattle.mc_promise.specs.Kept.{IsLike, KeptIn}
 use Rattle.mc_promise.proofs.Chains.{NoneOf, entry_over, Runs, own_runs, own_waits, own_run, ThereKept, FoundKept, ChainKept, with_change, own_changed}
 use Rattle.mc_promise.proofs.Turns.{FollowsKept, TurnKept, BelowKept, FoundBelow, first_name, single_write, done_write, direct_is, abended, called_chain}
@@ -47,7 +48,7 @@ module _ {E : Type 0} (o : Outline E) (shown : IsShown o) (apdu : ApduParts) (be
 
   own_done : (b : Bool) (h k : List E) (ev : Option E) (a : App) (ch : Chain) (i : Ins) (d : Done) → k ≡ with_event ev h → lookup ch.map o.watch.name ≡ Some a → IsLike o a → Runs o apdu before h a.fixed ch.frame ch.below ch.public
       → bytes_eq ch.frame.name o.watch.name ≡ true → bytes_eq (first_frame ch.frame ch.below).name o.watch.name ≡ b → ChainKept o apdu before h ch
-      → Tracked ch.frame.name ch.frame.fixed (length ch.public) d.effect → DeedShown o (entry_over apdu before ch.below) k ch.frame d
+      → Keeps ch.frame ch.public d.effect → DeedShown o (entry_over apdu before ch.below) k ch.frame d
       → TurnKept b o apdu before h ch (row_turn ch i (Does d)) ev
   own_done b h k ev a ch i d event is like r e first c t x =
       let n = ch.frame.name in
@@ -75,7 +76,7 @@ module _ {E : Type 0} (o : Outline E) (shown : IsShown o) (apdu : ApduParts) (be
 
   own_row : (b : Bool) (h : List E) (a : App) (ch : Chain) (i : Ins) (r : RowEnd) → lookup ch.map o.watch.name ≡ Some a → IsLike o a → Runs o apdu before h a.fixed ch.frame ch.below ch.public
       → bytes_eq ch.frame.name o.watch.name ≡ true → bytes_eq (first_frame ch.frame ch.below).name o.watch.name ≡ b → ChainKept o apdu before h ch
-      → RowTracks ch.frame ch.public r → RowShown o (entry_over apdu before ch.below) h ch.frame ch.public (depth_of ch) i r
+      → OnDone r (λ d. Keeps ch.frame ch.public d.effect) → RowShown o (entry_over apdu before ch.below) h ch.frame ch.public (depth_of ch) i r
       → TurnKept b o apdu before h ch (row_turn ch i r) (row_event o.watch ch i r)
   own_row b h a ch i (Abends cause) is like r e first c t x = abended o shown apdu before b h ch (Some i) 1 cause first c
   own_row b h a ch i (Does d) is like r e first c t x =
@@ -91,7 +92,7 @@ module _ {E : Type 0} (o : Outline E) (shown : IsShown o) (apdu : ApduParts) (be
   own_fetched b h a ch (Err Undefined) is like r e first c x = abended o shown apdu before b h ch None 0 A01 first c
   own_fetched b h a ch (Err Past) is like r e first c x = abended o shown apdu before b h ch None 0 A02 first c
   own_fetched b h a ch (Ok i) is like r e first c x =
-      own_row b h a ch i.0 (row i.0 (frame_at ch.frame i.1) ch.public (around ch)) is like r e first c (row_tracks i.0 (frame_at ch.frame i.1) ch.public (around ch)) x
+      own_row b h a ch i.0 (row i.0 (frame_at ch.frame i.1) ch.public (around ch)) is like r e first c (row_keeps i.0 (frame_at ch.frame i.1) ch.public (around ch)) x
 
   -- what is known around the frame
   fits_over : (case : ℕ) (fs : List Frame) → case ≡ apdu_case apdu → FitsEntry (entry_over apdu before fs) (record { case = case; delegator = delegator_in fs })

@@ -1,53 +1,16 @@
 -- A creation writes at most three header words, and a deletion at most two: those of the other applications and of
 -- the other gaps stay.
 use Rattle.std.proofs.Common.{◌≡◌, ℕ, ◌+◌, ◌-◌, ◌<◌, ◌≤◌, Bool, true, false, cond, ◌||◌, not, List, [], ◌∷◌, ◌++◌, length, None, refl, sym, ◌∙◌, ap, subst, inl, inr, arith, ◌⊎◌}
-use Rattle.std.specs.Prelude.{◌==◌, nat_lt, bytes_eq, filter}
+use Rattle.std.specs.Prelude.{◌==◌, nat_lt}
 use Rattle.std.specs.List.{list_any, AllByRecursion}
-use Rattle.std.proofs.lemmas.Bool.{and_from, eq-eqb, or_left, or_right, ltb-true}
+use Rattle.std.proofs.lemmas.Bool.{eq-eqb, or_left, or_right, ltb-true}
 use Rattle.std.proofs.lemmas.Bool.Decides.{eqb_tells}
-use Rattle.std.proofs.lemmas.Slice.Eq.{bytes_eq-Decides}
 use Rattle.mc_model_device.specs.Bytes.{lookup, insert, remove, AscendByName}
 use Rattle.mc_model_device.specs.Card.{App, Card, heap_start}
 use Rattle.mc_model_device.specs.Layout.{put_at, spans, gap, gaps_from, gaps, first_place, hole_header, used_header, root, gap_headers, with_used, layout, same_pair, step_of}
-use Rattle.mc_model_device.proofs.BoolLemmas.{or_swap, cond_most}
+use Rattle.mc_model_device.proofs.BoolLemmas.{cond_most}
 use Rattle.mc_wear.proofs.Spans.{Span, Without, inserted, Removed, removed}
-
-abbrev Pair : Type 0
-Pair = ℕ × List ℕ
-
-abbrev one_if : Bool → ℕ
-one_if true = 1
-one_if false = 0
-
-one_most : (b : Bool) → one_if b ≤ 1
-one_most true = omega arith
-one_most false = omega arith
-
-abbrev count : (Pair → Bool) → List Pair → ℕ
-count t es = length (filter t es)
-
-count_first : (t : Pair → Bool) (e : Pair) (es : List Pair) → count t (e ∷ es) ≡ one_if (t e) + count t es
-count_first t e es = by (t e)
-  where
-    by : (b : Bool) → length (cond b (e ∷ filter t es) (filter t es)) ≡ one_if b + length (filter t es)
-    by true = omega arith
-    by false = omega arith
-
-count_put : (t : Pair → Bool) (p : ℕ) (x : List ℕ) (es : List Pair) → count t (put_at p x es) ≡ one_if (t (p, x)) + count t es
-count_put t p x [] = count_first t (p, x) []
-count_put t p x (e ∷ es) = by (nat_lt p e.0) (count_put t p x es)
-  where
-    by : (b : Bool) → count t (put_at p x es) ≡ one_if (t (p, x)) + count t es → count t (cond b ((p, x) ∷ e ∷ es) (e ∷ put_at p x es)) ≡ one_if (t (p, x)) + count t (e ∷ es)
-    by true r = count_first t (p, x) (e ∷ es)
-    by false r = let a = count_first t e (put_at p x es) in let b = count_first t e es in omega (arith, a, b, r)
-
-any_put : (q : Pair → Bool) (p : ℕ) (x : List ℕ) (es : List Pair) → list_any q (put_at p x es) ≡ (q (p, x) || list_any q es)
-any_put q p x [] = refl
-any_put q p x (e ∷ es) = by (nat_lt p e.0) (any_put q p x es)
-  where
-    by : (b : Bool) → list_any q (put_at p x es) ≡ (q (p, x) || list_any q es) → list_any q (cond b ((p, x) ∷ e ∷ es) (e ∷ put_at p x es)) ≡ (q (p, x) || (q e || list_any q es))
-    by true r = refl
-    by false r = ap (λ (b : Bool). q e || b) r ∙ or_swap (q e) (q (p, x)) (list_any q es)
+use Rattle.mc_machine_laws.proofs.FewHeaders.{Pair, one_if, one_most, count, count_first, count_put, any_put, self_pair}
 
 -- ---- the headers of spans among others
 
@@ -83,9 +46,6 @@ used_has q (s ∷ ss) hs (inr h) =
     any_put q s.0 (used_header s.1) (with_used ss hs) ∙ or_right (q (span_header s)) (list_any q (with_used ss hs)) (used_has q ss hs (inr h))
 
 -- ---- what a layout has is not new to it
-
-self_pair : (e : Pair) → same_pair e e ≡ true
-self_pair e = and_from (e.0 == e.0) (bytes_eq e.1 e.1) (eq-eqb e.0 e.0 refl) ((bytes_eq-Decides e.1 e.1).1 refl)
 
 -- no pair of a list passes a test
 abbrev NonePass : (Pair → Bool) → List Pair → Type 0

@@ -1,6 +1,6 @@
 -- The device writes of the commands of a load at the most.
-use Rattle.std.proofs.Common.{◌≡◌, ℕ, zero, suc, ◌+◌, ◌/◌, ◌%◌, ◌<◌, ◌≤◌, Bool, true, false, cond, not, List, [], ◌∷◌, ◌++◌, take, drop, length, Option, Some, None, refl, sym, ◌∙◌, ap, subst, inl, inr, arith}
-use Rattle.std.specs.Prelude.{◌==◌, ◌||◌, nat_lt, nat_le, is_none, option_map, slice_index}
+use Rattle.std.proofs.Common.{◌≡◌, ℕ, zero, suc, ◌+◌, ◌/◌, ◌%◌, ◌<◌, ◌≤◌, Bool, true, false, cond, List, [], ◌∷◌, ◌++◌, take, drop, length, Option, Some, None, refl, sym, ◌∙◌, ap, subst, inl, inr, arith}
+use Rattle.std.specs.Prelude.{◌==◌, option_map, slice_index}
 use Rattle.std.proofs.lemmas.Bool.{eq-eqb}
 use Rattle.std.proofs.lemmas.Bool.Decides.{eqb_tells}
 use Rattle.std.proofs.lemmas.List.{length-take, length-drop, append_assoc}
@@ -11,18 +11,25 @@ use Rattle.mc_model_machine.specs.Apdu.{ApduParts, Rest, rest_read, short_rest, 
 use Rattle.mc_model_card.specs.Units.{UnitParts}
 use Rattle.mc_model_device.specs.Card.{Card}
 use Rattle.mc_model_card.specs.Items.{moves, card_done}
-use Rattle.mc_model_card.specs.Manager.{Open, SessionState, Route, ToManager, route_of_parts, route, Managed, answer_unless, first_status, p1p2, sizes_in, fits_limits, open_done, open_load, load_refusals, load_done, load_part, create, manage, room_on}
+use Rattle.mc_model_card.specs.Manager.{SessionState, Route, ToManager, route_of_parts, route, Managed, p1p2, open_load, load_part, create, room_on}
 use Rattle.mc_model_card.specs.Commands.{Command, manager_command, by_route, command}
 use Rattle.mc_model_play.specs.Play.{is_done, command_with_rest, send, piece_commands, section_commands, load_commands}
 use Rattle.mc_model_card.proofs.ItemLemmas.{moves_append}
 use Rattle.mc_model_device.proofs.ListLemmas.{pair_bytes}
 use Rattle.mc_model_device.proofs.ImageLemmas.{all_append}
 use Rattle.mc_machine_laws.proofs.AppSizes.{Limited, limited_done}
+use Rattle.mc_manager_laws.specs.Orders.{Order, Opens, Loads, Creates, order_of, ins_of_part, managed}
+use Rattle.mc_manager_laws.specs.Answers as quiet
+use Rattle.mc_manager_laws.specs.OnCard.{IsCommand}
+use Rattle.mc_manager_laws.specs.OnCard as made
+use Rattle.mc_manager_laws.proofs.Orders.{order_law, part_order}
+use Rattle.mc_manager_laws.proofs.OnCard.{commands_law}
 use Rattle.mc_family.proofs.CardFacts.{all_take, all_drop, AreOnCard, done_stands}
 use Rattle.mc_family.proofs.PlaySizes.{SessionStateFits, command_fits}
 use Rattle.mc_family.proofs.FewItems.{IsSent, SessionStateStands, command_stands}
 use Rattle.mc_wear.specs.Most.{most_of_creation, most_of_load}
-use Rattle.mc_wear.proofs.Commands.{fixed_in, Wears, manager_turns, open_few, load_aligned, create_few}
+use Rattle.mc_wear.proofs.Commands.{fixed_in, manager_turns, most_of_order, made_few}
+use Rattle.mc_wear.proofs.Pieces.{parts_few}
 
 -- ---- commands in turn
 
@@ -80,33 +87,37 @@ adds_append fixed budget k l cs ds h j n bs rest c session_state good size =
 
 -- ---- the manager's commands
 
-routed : (c : Card) (session_state : SessionState) (budget : ℕ) (b : List ℕ) (a : ApduParts) (m : Managed) → route b ≡ ToManager a → manage (room_on c) c.apps session_state a ≡ m → command c session_state b budget ≡ manager_command c session_state m
+-- the command of bytes that reach the manager, by name
+routed : (c : Card) (session_state : SessionState) (budget : ℕ) (b : List ℕ) (a : ApduParts) (o : Order) → route b ≡ ToManager a → order_of a.ins ≡ o
+    → command c session_state b budget ≡ manager_command c session_state (managed o (room_on c) c.apps session_state a)
 unfolding command
-routed c session_state budget b a m r e = ap (λ (x : Route). by_route c session_state budget x) r ∙ ap (λ (x : Managed). manager_command c session_state x) e
+routed c session_state budget b a o r is =
+    ap (λ (x : Route). by_route c session_state budget x) r
+    ∙ ap (λ (x : Managed). manager_command c session_state x) ((order_law (room_on c) c.apps session_state a).is ∙ ap (λ (x : Order). managed x (room_on c) c.apps session_state a) is)
 
-managed : (c : Card) (session_state : SessionState) (k : ℕ) (m : Managed) → Wears c session_state k m → Sends k (manager_command c session_state m)
-unfolding Wears
-managed c session_state k m h = record { writes = h; none = manager_turns c session_state m }
+managed_sends : (c : Card) (session_state : SessionState) (a : ApduParts) (o : Order) → Good c session_state → Sends (most_of_order c session_state a o) (manager_command c session_state (managed o (room_on c) c.apps session_state a))
+managed_sends c session_state a o good =
+    let m = managed o (room_on c) c.apps session_state a in
+    record { writes = made_few c session_state a o (manager_command c session_state m) good.on good.fits.load (commands_law o c session_state a); none = manager_turns c session_state m }
 
-steps_managed : (fixed budget k : ℕ) (b : List ℕ) (c : Card) (session_state : SessionState) (a : ApduParts) (m : Managed) → route b ≡ ToManager a → manage (room_on c) c.apps session_state a ≡ m → Wears c session_state k m
-    → (is_done (manager_command c session_state m).outcome ≡ true → fixed_in (manager_command c session_state m).session_state.load ≤ fixed) → Steps fixed budget k b c session_state
-steps_managed fixed budget k b c session_state a m r e h keeps =
-    let same : command c session_state b budget ≡ manager_command c session_state m = routed c session_state budget b a m r e in
+steps_managed : (fixed budget k : ℕ) (b : List ℕ) (c : Card) (session_state : SessionState) (a : ApduParts) (o : Order) → route b ≡ ToManager a → order_of a.ins ≡ o → Good c session_state → most_of_order c session_state a o ≤ k
+    → (let r = manager_command c session_state (managed o (room_on c) c.apps session_state a) in is_done r.outcome ≡ true → fixed_in r.session_state.load ≤ fixed) → Steps fixed budget k b c session_state
+steps_managed fixed budget k b c session_state a o r is good most keeps =
+    let same : command c session_state b budget ≡ manager_command c session_state (managed o (room_on c) c.apps session_state a) = routed c session_state budget b a o r is in
+    let sends = managed_sends c session_state a o good in
+    let writes = sends.writes in
     record {
-      first = subst (λ (x : Command). Sends k x) (sym same) (managed c session_state k m h);
+      first = subst (λ (x : Command). Sends k x) (sym same) (record { writes = omega (arith, writes, most); none = sends.none });
       keeps = subst (λ (x : Command). is_done x.outcome ≡ true → fixed_in x.session_state.load ≤ fixed) (sym same) keeps;
     }
 
 -- ---- pieces
 
 -- a LOAD leaves the sizes of the open load
-loaded_size : (c : Card) (session_state : SessionState) (s : Option ℕ) (o : Option Open) (p : Part) (a : ApduParts) → session_state.load ≡ o → fixed_in (manager_command c session_state (answer_unless s (load_done session_state o p a))).session_state.load ≤ fixed_in session_state.load
-loaded_size c session_state (Some sw) o p a e = omega arith
-loaded_size c session_state None None p a e = omega arith
-loaded_size c session_state None (Some o) p a e = let same : fixed_in session_state.load ≡ o.site.sizes.fixed = ap fixed_in e in omega (arith, same)
-
-load_size : (c : Card) (session_state : SessionState) (p : Part) (a : ApduParts) → fixed_in (manager_command c session_state (load_part p session_state a)).session_state.load ≤ fixed_in session_state.load
-load_size c session_state p a = loaded_size c session_state (first_status (load_refusals session_state.load p a)) session_state.load p a refl
+load_size : (c : Card) (session_state : SessionState) (a : ApduParts) (p : Part) (r : Command) → IsCommand c session_state a (Loads p) r → fixed_in r.session_state.load ≤ fixed_in session_state.load
+load_size c session_state a p _ (made.refused _ sw h) = omega arith
+load_size c session_state a p _ (made.quiet _ _ _ (quiet.answers _ first rest)) = omega arith
+load_size c session_state a p _ (made.loaded _ l h) = let same : fixed_in session_state.load ≡ l.site.sizes.fixed = ap fixed_in h.is in omega (arith, same)
 
 -- the command of a piece
 abbrev piece_bytes : ℕ → ℕ → List ℕ → List ℕ
@@ -127,13 +138,17 @@ unfolding apdu_read
 piece_route ins at x xs =
     ap (λ (o : Option Rest). route_of_parts (option_map (λ r. record { cla = 0xBE; ins = ins; p1 = at / 256 % 256; p2 = at % 256; p3 = r.p3; body = r.body; le = r.le }) o)) (rest_of_piece x xs)
 
-module _ (ins : ℕ) (p : Part) (is : (c : Card) (session_state : SessionState) (at : ℕ) (b : List ℕ) → manage (room_on c) c.apps session_state (piece_apdu ins at b) ≡ load_part p session_state (piece_apdu ins at b)) where
-  piece_steps : (fixed budget at : ℕ) (b : List ℕ) (c : Card) (session_state : SessionState) → (length b == 0) ≡ false → at % 8 ≡ 0 → fixed_in session_state.load ≤ fixed → Steps fixed budget (up (length b) 8) (piece_bytes ins at b) c session_state
-  piece_steps fixed budget at [] c session_state some aligned size = absurd (cc some)
-  piece_steps fixed budget at (x ∷ xs) c session_state some aligned size =
+module _ (p : Part) where
+  abbrev ins : ℕ
+  ins = ins_of_part p
+
+  piece_steps : (fixed budget at : ℕ) (b : List ℕ) (c : Card) (session_state : SessionState) → (length b == 0) ≡ false → at % 8 ≡ 0 → Good c session_state → fixed_in session_state.load ≤ fixed → Steps fixed budget (up (length b) 8) (piece_bytes ins at b) c session_state
+  piece_steps fixed budget at [] c session_state some aligned good size = absurd (cc some)
+  piece_steps fixed budget at (x ∷ xs) c session_state some aligned good size =
       let a = piece_apdu ins at (x ∷ xs) in
-      let less = load_size c session_state p a in
-      steps_managed fixed budget (up (length (x ∷ xs)) 8) (piece_bytes ins at (x ∷ xs)) c session_state a (load_part p session_state a) (piece_route ins at x xs) (is c session_state at (x ∷ xs)) (load_aligned c session_state p a (omega (arith, aligned))) (λ done. omega (arith, less, size))
+      let few = parts_few (p1p2 a) (x ∷ xs) in
+      let less = load_size c session_state a p (manager_command c session_state (load_part p session_state a)) (commands_law (Loads p) c session_state a) in
+      steps_managed fixed budget (up (length (x ∷ xs)) 8) (piece_bytes ins at (x ∷ xs)) c session_state a (Loads p) (piece_route ins at x xs) (part_order p) good (omega (arith, few, aligned)) (λ done. omega (arith, less, size))
 
   pieces_add : (fixed budget k at : ℕ) (b : List ℕ) → AreBytes b → at % 8 ≡ 0 → Adds fixed budget (up (length b) 8) (piece_commands k ins at b)
   pieces_add fixed budget zero at b bytes aligned n bs rest c session_state good size = let all = rest c session_state good size in let writes = all.writes in record { writes = omega (arith, writes); none = all.none }
@@ -147,7 +162,7 @@ module _ (ins : ℕ) (p : Part) (is : (c : Card) (session_state : SessionState) 
           let first : length (take 248 b) ≡ _ = length-take 248 b in
           let later : length (drop 248 b) ≡ _ = length-drop 248 b in
           let some : (length (take 248 b) == 0) ≡ false = elim (eqb_tells (length (take 248 b)) 0) [ inl own ↦ absurd (some_taken own.1) | inr other ↦ other.0 ] in
-          let steps : Steps fixed budget (up (length (take 248 b)) 8) (piece_bytes ins at (take 248 b)) c session_state = piece_steps fixed budget at (take 248 b) c session_state some aligned size in
+          let steps : Steps fixed budget (up (length (take 248 b)) 8) (piece_bytes ins at (take 248 b)) c session_state = piece_steps fixed budget at (take 248 b) c session_state some aligned good size in
           let all = send_steps fixed budget (up (length (take 248 b)) 8) (up (length (drop 248 b)) 8 + n) (piece_bytes ins at (take 248 b)) (piece_commands k ins (at + 248) (drop 248 b) ++ bs) c session_state (all_take (λ x. x < 256) 248 b bytes) good steps more in
           let writes = all.writes in
           record { writes = omega (arith, first, later, writes); none = all.none }
@@ -159,22 +174,6 @@ module _ (ins : ℕ) (p : Part) (is : (c : Card) (session_state : SessionState) 
 
   section_adds : (fixed budget : ℕ) (b : List ℕ) → AreBytes b → Adds fixed budget (up (length b) 8) (section_commands ins b)
   section_adds fixed budget b bytes = pieces_add fixed budget (length b) 0 b bytes refl
-
-manages_code : (c : Card) (session_state : SessionState) (at : ℕ) (b : List ℕ) → manage (room_on c) c.apps session_state (piece_apdu 0x24 at b) ≡ load_part part.Code session_state (piece_apdu 0x24 at b)
-unfolding manage
-manages_code c session_state at b = refl
-
-manages_data : (c : Card) (session_state : SessionState) (at : ℕ) (b : List ℕ) → manage (room_on c) c.apps session_state (piece_apdu 0x26 at b) ≡ load_part part.Data session_state (piece_apdu 0x26 at b)
-unfolding manage
-manages_data c session_state at b = refl
-
-manages_dir : (c : Card) (session_state : SessionState) (at : ℕ) (b : List ℕ) → manage (room_on c) c.apps session_state (piece_apdu 0x20 at b) ≡ load_part part.Dir session_state (piece_apdu 0x20 at b)
-unfolding manage
-manages_dir c session_state at b = refl
-
-manages_fci : (c : Card) (session_state : SessionState) (at : ℕ) (b : List ℕ) → manage (room_on c) c.apps session_state (piece_apdu 0x22 at b) ≡ load_part part.Fci session_state (piece_apdu 0x22 at b)
-unfolding manage
-manages_fci c session_state at b = refl
 
 -- ---- CREATE
 
@@ -188,18 +187,14 @@ create_route : route create_bytes ≡ ToManager create_apdu
 unfolding apdu_read
 create_route = refl
 
-manages_create : (c : Card) (session_state : SessionState) → manage (room_on c) c.apps session_state create_apdu ≡ create c.apps session_state create_apdu
-unfolding manage
-manages_create c session_state = refl
-
 create_alone : (fixed budget : ℕ) → SendsWithin fixed budget (most_of_creation fixed) (create_bytes ∷ [])
-unfolding send Wears
+unfolding send
 create_alone fixed budget c session_state good size =
     let r = command c session_state create_bytes budget in
-    let m = create c.apps session_state create_apdu in
-    let same : r ≡ manager_command c session_state m = routed c session_state budget create_bytes create_apdu m create_route (manages_create c session_state) in
-    let few : moves (manager_command c session_state m).items ≤ most_of_creation (fixed_in session_state.load) = create_few c session_state create_apdu good.fits.load in
-    let sends : Sends (most_of_creation fixed) r = subst (λ (x : Command). Sends (most_of_creation fixed) x) (sym same) (record { writes = omega (arith, few, size); none = manager_turns c session_state m }) in
+    let same : r ≡ manager_command c session_state (create c.apps session_state create_apdu) = routed c session_state budget create_bytes create_apdu Creates create_route refl in
+    let made = managed_sends c session_state create_apdu Creates good in
+    let few : moves (manager_command c session_state (create c.apps session_state create_apdu)).items ≤ most_of_creation (fixed_in session_state.load) = made.writes in
+    let sends : Sends (most_of_creation fixed) r = subst (λ (x : Command). Sends (most_of_creation fixed) x) (sym same) (record { writes = omega (arith, few, size); none = made.none }) in
     let all = sends_after (is_done r.outcome) r (send (card_done c r.items) r.session_state budget []) (most_of_creation fixed) 0 sends (λ done. record { writes = omega arith; none = refl }) in
     let writes = all.writes in
     record { writes = omega (arith, writes); none = all.none }
@@ -219,24 +214,16 @@ open_route : (u : UnitParts) (fixed session : ℕ) → route (open_bytes u fixed
 unfolding apdu_read
 open_route u fixed session = refl
 
-manages_open : (c : Card) (session_state : SessionState) (a : UnitParts) (fixed session : ℕ) → manage (room_on c) c.apps session_state (open_apdu a fixed session) ≡ open_load (room_on c) c.apps session_state (open_apdu a fixed session)
-unfolding manage
-manages_open c session_state u fixed session = refl
+opened_size : (c : Card) (session_state : SessionState) (u : UnitParts) (fixed session : ℕ) (r : Command) → IsCommand c session_state (open_apdu u fixed session) Opens r → is_done r.outcome ≡ true → fixed_in r.session_state.load ≤ fixed
+opened_size c session_state u fixed session _ (made.refused _ sw h) done = absurd (cc (sym done ∙ h))
+opened_size c session_state u fixed session _ (made.quiet _ _ _ (quiet.answers _ first rest)) done = absurd (cc done)
+opened_size c session_state u fixed session _ (made.quiet _ _ _ (quiet.opens h)) done = omega arith
 
-opened_size : (c : Card) (session_state : SessionState) (u : UnitParts) (fixed session : ℕ) (x y z v : Bool)
-    → let m = answer_unless (cond x (Some 0x6A86) (cond y (Some 0x6700) (cond z (Some 0x6A80) (cond v (Some 0x6A84) None)))) (open_done (room_on c) session_state (open_apdu u fixed session)) in
-    is_done (manager_command c session_state m).outcome ≡ true → fixed_in (manager_command c session_state m).session_state.load ≤ fixed
-opened_size c session_state u fixed session true y z v done = absurd (cc done)
-opened_size c session_state u fixed session false true z v done = absurd (cc done)
-opened_size c session_state u fixed session false false true v done = absurd (cc done)
-opened_size c session_state u fixed session false false false true done = absurd (cc done)
-opened_size c session_state u fixed session false false false false done = omega arith
-
-open_steps : (budget : ℕ) (u : UnitParts) (fixed session : ℕ) (c : Card) (session_state : SessionState) → Steps fixed budget 0 (open_bytes u fixed session) c session_state
-open_steps budget u fixed session c session_state =
+open_steps : (budget : ℕ) (u : UnitParts) (fixed session : ℕ) (c : Card) (session_state : SessionState) → Good c session_state → Steps fixed budget 0 (open_bytes u fixed session) c session_state
+open_steps budget u fixed session c session_state good =
     let a = open_apdu u fixed session in
-    steps_managed fixed budget 0 (open_bytes u fixed session) c session_state a (open_load (room_on c) c.apps session_state a) (open_route u fixed session) (manages_open c session_state u fixed session) (open_few c session_state 0 a)
-    (λ done. opened_size c session_state u fixed session (nat_lt 15 (p1p2 a)) (not (length a.body == 12)) (not (fits_limits (sizes_in a))) (nat_le 32 (length c.apps) || is_none (room_on c (sizes_in a))) done)
+    steps_managed fixed budget 0 (open_bytes u fixed session) c session_state a Opens (open_route u fixed session) refl good (omega arith)
+    (opened_size c session_state u fixed session (manager_command c session_state (open_load (room_on c) c.apps session_state a)) (commands_law Opens c session_state a))
 
 -- ---- a load
 
@@ -261,10 +248,10 @@ load_sends budget u fixed session c session_state code init dir fci good =
     let b2 = section_commands 0x26 u.init in
     let b3 = section_commands 0x20 u.dir in
     let b4 = section_commands 0x22 u.fci in
-    let two : Adds fixed budget (k1 + k2) (b1 ++ b2) = adds_append fixed budget k1 k2 b1 b2 (section_adds 0x24 part.Code manages_code fixed budget u.code code) (section_adds 0x26 part.Data manages_data fixed budget u.init init) in
-    let three : Adds fixed budget (k1 + k2 + k3) (b1 ++ b2 ++ b3) = adds_append fixed budget (k1 + k2) k3 (b1 ++ b2) b3 two (section_adds 0x20 part.Dir manages_dir fixed budget u.dir dir) in
-    let four : Adds fixed budget (k1 + k2 + k3 + k4) (b1 ++ b2 ++ b3 ++ b4) = adds_append fixed budget (k1 + k2 + k3) k4 (b1 ++ b2 ++ b3) b4 three (section_adds 0x22 part.Fci manages_fci fixed budget u.fci fci) in
+    let two : Adds fixed budget (k1 + k2) (b1 ++ b2) = adds_append fixed budget k1 k2 b1 b2 (section_adds part.Code fixed budget u.code code) (section_adds part.Data fixed budget u.init init) in
+    let three : Adds fixed budget (k1 + k2 + k3) (b1 ++ b2 ++ b3) = adds_append fixed budget (k1 + k2) k3 (b1 ++ b2) b3 two (section_adds part.Dir fixed budget u.dir dir) in
+    let four : Adds fixed budget (k1 + k2 + k3 + k4) (b1 ++ b2 ++ b3 ++ b4) = adds_append fixed budget (k1 + k2 + k3) k4 (b1 ++ b2 ++ b3) b4 three (section_adds part.Fci fixed budget u.fci fci) in
     let rest : SendsWithin fixed budget (k1 + k2 + k3 + k4 + most_of_creation fixed) ((b1 ++ b2 ++ b3 ++ b4) ++ create_bytes ∷ []) = four (most_of_creation fixed) (create_bytes ∷ []) (create_alone fixed budget) in
-    let all = send_steps fixed budget 0 (k1 + k2 + k3 + k4 + most_of_creation fixed) (open_bytes u fixed session) ((b1 ++ b2 ++ b3 ++ b4) ++ create_bytes ∷ []) c session_state (sizes_sent u fixed session) good (open_steps budget u fixed session c session_state) rest in
+    let all = send_steps fixed budget 0 (k1 + k2 + k3 + k4 + most_of_creation fixed) (open_bytes u fixed session) ((b1 ++ b2 ++ b3 ++ b4) ++ create_bytes ∷ []) c session_state (sizes_sent u fixed session) good (open_steps budget u fixed session c session_state good) rest in
     let writes = all.writes in
     record { writes = omega (arith, writes); none = all.none }

@@ -1,90 +1,42 @@
 -- No line of a play makes more device writes than its row of the table says.
-use Rattle.std.proofs.Common.{◌≡◌, ℕ, zero, suc, ◌+◌, ◌-◌, ◌<◌, ◌≤◌, Bool, true, false, cond, List, [], ◌∷◌, take, length, Option, Some, None, refl, sym, subst, arith}
-use Rattle.std.specs.Prelude.{⊤, ◌==◌, nat_le, slice_set}
-use Rattle.std.specs.List.{AllByRecursion}
+use Rattle.std.proofs.Common.{◌≡◌, ℕ, zero, suc, ◌+◌, ◌-◌, ◌<◌, ◌≤◌, Bool, true, false, cond, List, [], ◌∷◌, take, Option, Some, None, refl, sym, subst, arith}
+use Rattle.std.specs.Prelude.{⊤, ◌==◌, nat_le}
 use Rattle.std.proofs.lemmas.Bool.{leb-true}
-use Rattle.mc_model_device.specs.declared.cause.Cause.{Cause}
-use Rattle.mc_model_device.specs.declared.device.Stop.{Stop}
 use Rattle.mc_model_device.specs.declared.device.Stop.TheVariants as stop
-use Rattle.mc_model_device.specs.Bytes.{zeros}
 use Rattle.mc_model_device.specs.Device.{IsImage}
-use Rattle.mc_model_device.specs.Image.{Journal, One, Two, shut_word}
-use Rattle.mc_model_device.specs.Stopped.{cost, stands}
-use Rattle.mc_model_device.specs.Card.{App, Card, heap_start}
-use Rattle.mc_model_device.specs.Layout.{root, hole_header, fault}
-use Rattle.mc_model_device.specs.PowerUp.{Base, OnCard, AtFault, migration, base_after_migration, base_of}
-use Rattle.mc_model_card.specs.Items.{Item, Plain, Atomic, moves, apps_after_items, StopAt, Stopped, at_stop, in_flight, with_item}
+use Rattle.mc_model_device.specs.Image.{Journal, One}
+use Rattle.mc_model_device.specs.Stopped.{stands}
+use Rattle.mc_model_device.specs.Card.{Card}
+use Rattle.mc_model_device.specs.PowerUp.{Base, OnCard, AtFault, migration}
+use Rattle.mc_model_card.specs.Items.{moves, apps_after_items, StopAt, at_stop}
 use Rattle.mc_model_card.specs.Commands.{Command}
 use Rattle.mc_model_play.specs.DeckGrammar.{DeckLine}
 use Rattle.mc_model_play.specs.DeckGrammar as line
-use Rattle.mc_model_play.specs.Play.{Armed, Unarmed, ArmedCut, ArmedFail, Live, Running, Unpowered, Muted, Warm, State, BeforePower, AfterPower, Step, line_command, hit_of, moves_with, FailedWrite, live_after, power_live, power_after, stopped_power, power_moves, power_step, line_after, card_line, after_power_step, before_power_step, step, play_at_power, plays, start, formatted_image, moves_of, MayHit, Possible}
+use Rattle.mc_model_play.specs.Play.{Armed, Unarmed, ArmedCut, ArmedFail, Live, Running, Unpowered, Muted, Warm, State, BeforePower, AfterPower, Step, line_command, hit_of, moves_with, FailedWrite, live_after, power_after, stopped_power, power_moves, power_step, line_after, card_line, after_power_step, before_power_step, step, play_at_power, plays, start, moves_of, MayHit, Possible}
 use Rattle.mc_model_play.specs.Given.{budget_in}
-use Rattle.mc_model_play.specs.ReadyAgain.{FitsJournal, IsLine, AreLines}
+use Rattle.mc_model_play.specs.ReadyAgain.{IsLine, AreLines}
 use Rattle.mc_model_play.proofs.PlayLemmas.{step_is}
 use Rattle.mc_model_device.proofs.BoolLemmas.{cond_most}
-use Rattle.mc_model_device.proofs.LookLemmas.{IsFull}
-use Rattle.mc_model_device.proofs.ImageBytes.{image_set, shut_full}
-use Rattle.mc_family.proofs.CardFacts.{AreOnCard, done_stands, whole_stand, means_on_card}
-use Rattle.mc_family.proofs.FewItems.{SessionStateStands, CommandStands}
+use Rattle.mc_model_device.proofs.ImageBytes.{image_set}
+use Rattle.mc_family.proofs.CardFacts.{AreOnCard, done_stands, whole_stand}
+use Rattle.mc_family.proofs.FewItems.{CommandStands}
 use Rattle.mc_family.proofs.AfterPowerLines.{past_power}
 use Rattle.mc_family.proofs.PlaySizes.{BaseFits, StateFits, step_fits}
-use Rattle.mc_family.proofs.ReadyLines.{owed_most, migration_most}
+use Rattle.mc_family.proofs.ReadyLines.{owed_most, migration_most, at_stop_owed}
 use Rattle.mc_wear.specs.Most.{most_atomic, most_writes}
 use Rattle.mc_wear.specs.Laws.{atomic_writes, instructions, WritesFew, EachWritesFew, writes_of_play, most_of_play, WearLaw}
 use Rattle.mc_wear.proofs.Loads.{Good}
-use Rattle.mc_wear.proofs.Lines.{line_stands, line_wears, line_atomic, most_more}
+use Rattle.mc_wear.proofs.Lines.{line_wears, line_atomic, most_more}
+use Rattle.mc_family.proofs.FewLines.{line_stands, formatted_image_lem, BaseStands, after_stop, base_on_card, base_stopped, base_powered, base_cond, warmed_stands}
 
 -- ---- the writes that recovery may have to make
 
-owed_cond : (b : Bool) (s t : Stopped) → s.owed ≤ 65 → t.owed ≤ 65 → (cond b s t).owed ≤ 65
-owed_cond true s t h k = h
-owed_cond false s t h k = k
-
--- a stop leaves at most 65 writes for recovery
-at_stop_owed : (is : List Item) (k : ℕ) (x : List ℕ) → AllByRecursion FitsJournal is → (at_stop is k x).owed ≤ 65
-at_stop_owed [] k x a = omega arith
-at_stop_owed (Plain ∷ is) k x a = owed_cond (k == 1) (record { whole = []; owed = 0 }) (with_item Plain (at_stop is (k - 1) x)) (omega arith) (at_stop_owed is (k - 1) x a.1)
-at_stop_owed (Atomic w c ∷ is) k x a =
-    let few : w ≤ 64 = a.0 in
-    owed_cond (nat_le k (cost Two w)) (in_flight w c k x) (with_item (Atomic w c) (at_stop is (k - cost Two w) x)) (cond_most _ (w + 1) 0 65 (omega arith) (omega arith)) (at_stop_owed is (k - cost Two w) x a.1)
-
-root_full : (v size first : ℕ) → v < 256 → IsFull (root v size first)
-root_full v size first h = (refl, (omega arith, (omega arith, (omega arith, (h, (omega arith, (omega arith, (omega arith, (omega arith, tt)))))))))
-
-hole_full : (n link : ℕ) → IsFull (hole_header n link)
-hole_full n link = (refl, (omega arith, (omega arith, (omega arith, (omega arith, (omega arith, (omega arith, (omega arith, (omega arith, tt)))))))))
-
-formatted_kept : (m : List (List ℕ)) → IsImage m → IsImage (formatted_image m)
-formatted_kept m image =
-    let size : ℕ = length m in
-    let a = slice_set m 0 (root 2 size heap_start) in
-    let b = slice_set a 1 shut_word in
-    let c = slice_set b 2 (zeros 8) in
-    let d = slice_set c 130 shut_word in
-    let zero-full : IsFull (zeros 8) = (refl, (omega arith, (omega arith, (omega arith, (omega arith, (omega arith, (omega arith, (omega arith, (omega arith, tt))))))))) in
-    image_set d heap_start (hole_header (size - heap_start) 0)
-    (image_set c 130 shut_word (image_set b 2 (zeros 8) (image_set a 1 shut_word (image_set m 0 (root 2 size heap_start) image (root_full 2 size heap_start (omega arith))) shut_full) zero-full) shut_full)
-    (hole_full (size - heap_start) 0)
-
 -- ---- what is kept from line to line
-
-abbrev LiveStands : List (List ℕ × App) → Live → Type 0
-LiveStands m (Running session_state) = SessionStateStands m session_state
-LiveStands m Unpowered = ⊤
-LiveStands m Muted = ⊤
-
-abbrev BaseStands : Base → Live → Type 0
-BaseStands (OnCard c) v = AreOnCard c.apps × LiveStands c.apps v
-BaseStands (AtFault cause p) v = ⊤
 
 -- recovery has to make few writes, and the applications are those of a card
 abbrev StateGood : State → Type 0
 StateGood (BeforePower m b a) = IsImage m
 StateGood (AfterPower s) = (s.owed ≤ 65) × BaseStands s.base s.live
-
-after_stop : (m : List (List ℕ × App)) (k : Stop) → LiveStands m (live_after k)
-after_stop m stop.Off = tt
-after_stop m stop.Worn = tt
 
 -- ---- stops
 
@@ -115,26 +67,6 @@ record LineWears (z : State) (l : ℕ × DeckLine) (w : Option FailedWrite) (u :
   next : StateGood u.after
 
 -- ---- power lines
-
-base_on_card : (b : Base) (v : Live) → BaseStands b v → BaseStands b Unpowered
-base_on_card (OnCard c) v h = (h.0, tt)
-base_on_card (AtFault cause p) v h = tt
-
-base_stopped : (b : Base) (k : Stop) → BaseStands b Unpowered → BaseStands b (live_after k)
-base_stopped (OnCard c) k h = (h.0, after_stop c.apps k)
-base_stopped (AtFault cause p) k h = tt
-
-base_powered : (b : Base) → BaseStands b Unpowered → BaseStands (base_after_migration b) (power_live b)
-base_powered (OnCard c) h = (h.0, record { selected = tt; load = tt })
-base_powered (AtFault cause p) h = tt
-
-base_migrated : (b : Base) (v : Live) → BaseStands b v → BaseStands (base_after_migration b) v
-base_migrated (OnCard c) v h = h
-base_migrated (AtFault cause p) v h = h
-
-base_cond : (t : Bool) (b : Base) (v : Live) → BaseStands b v → BaseStands (cond t (base_after_migration b) b) v
-base_cond true b v h = base_migrated b v h
-base_cond false b v h = h
 
 stopped_good : (s : Warm) (t : StopAt) (b : Bool) → s.owed ≤ 65 → BaseStands s.base Unpowered → StateGood (AfterPower (stopped_power s t b))
 stopped_good s t true few h = (cond_most _ (s.owed - 1 + 1) 0 65 (omega (arith, few)) (omega arith), base_stopped s.base t.kind h)
@@ -179,7 +111,7 @@ card_wears : (n : ℕ) (l : DeckLine) (b : Base) (o : ℕ) (j : Journal) (v : Li
 card_wears n l (OnCard c) o j (Running session_state) g a w is f few h =
     let r = line_command c session_state g l in
     let good : Good c session_state = record { limited = f.0; fits = f.1; on = h.0; stands = h.1 } in
-    let k : CommandStands c.apps r = line_stands c session_state g l is good in
+    let k : CommandStands c.apps r = line_stands c session_state g l is good.limited good.fits good.on good.stands in
     let wears = line_wears c session_state g l is good in
     let writes = wears.writes in
     record {
@@ -215,21 +147,13 @@ after_power_wears n _ s w is f h = record { few = λ may. omega arith; atomic = 
 
 -- ---- lines up to the first power line
 
-found_stands : (m : List (List ℕ)) (f : Option (Cause × ℕ)) → IsImage m → fault m ≡ f → BaseStands (base_of f m) Unpowered
-found_stands m None image h = (means_on_card m image h, tt)
-found_stands m (Some f) image h = tt
-
-warmed_stands : (m : List (List ℕ)) (b : ℕ) (a : Armed) → IsImage m → BaseStands (play_at_power m b a).base Unpowered
-unfolding play_at_power
-warmed_stands m b a image = found_stands m (fault m) image refl
-
 warmed_owed : (m : List (List ℕ)) (b : ℕ) (a : Armed) → (play_at_power m b a).owed ≤ 65
 unfolding play_at_power
 warmed_owed m b a = owed_most m
 
 before_power_wears : (n : ℕ) (l : DeckLine) (m : List (List ℕ)) (b : ℕ) (a : Armed) (w : Option FailedWrite) → IsLine l → IsImage m → LineWears (BeforePower m b a) (n, l) w (before_power_step n l m b a w)
 unfolding moves_of step
-before_power_wears n line.Format m b a w is h = record { few = λ may. omega arith; atomic = omega arith; count = omega arith; next = formatted_kept m h }
+before_power_wears n line.Format m b a w is h = record { few = λ may. omega arith; atomic = omega arith; count = omega arith; next = formatted_image_lem m h }
 before_power_wears n (line.Poke at x) m b a w is h = record { few = λ may. omega arith; atomic = omega arith; count = omega arith; next = image_set m at x h (is.1, is.0) }
 before_power_wears n line.Power m b a w is h = power_wears n (BeforePower m b a) (play_at_power m b a) a w (omega arith) (warmed_owed m b a) (warmed_stands m b a h)
 before_power_wears n _ m b a w is h = record { few = λ may. omega arith; atomic = omega arith; count = omega arith; next = h }
