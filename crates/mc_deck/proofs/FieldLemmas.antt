@@ -33,7 +33,7 @@ fields_cut (a, Some rest) = fields_cut_by (is_empty a) a (pieces is_blank rest) 
 fields_at : (t : List ℕ) → fields t ≡ put_field (is_empty (first_cut is_blank t).0) (first_cut is_blank t).0 (fields_left (first_cut is_blank t).1)
 fields_at t = ap (filter (λ p. not (is_empty p))) (pieces_at is_blank t) ∙ fields_cut (first_cut is_blank t)
 
-empty_is : (t : List ℕ) (b : Bool) → nat_eq (length t) 0 ≡ b → is_empty t ≡ b
+pub empty_is : (t : List ℕ) (b : Bool) → nat_eq (length t) 0 ≡ b → is_empty t ≡ b
 empty_is [] true h = refl
 empty_is [] false h = absurd (cc h)
 empty_is (c ∷ t) true h = absurd (grind (arith, h))

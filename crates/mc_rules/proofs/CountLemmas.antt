@@ -11,23 +11,20 @@ use Rattle.mc_explore.specs.Rules as model
 use Rattle.mc_explore.specs.Rules.{AtResult, AtTurn}
 use Rattle.mc_explore.specs.Matching.{fits, plain}
 use Rattle.mc_explore.specs.Tries.{occasions, result_text, times, turn_text}
+use Rattle.mc_match.proofs.MatchingLemmas.{fits_again}
 use Rattle.mc_rules.specs.declared.rules.Move.{Move}
 use Rattle.mc_rules.specs.declared.rules.OnRule.{OnRule}
 use Rattle.mc_rules.specs.Meanings.{occasion_value, AlikeLists, IsMove, IsOn}
-use Rattle.mc_rules.specs.Occasions.{applications, capped, count_with, counts_after, counts_after_turns, counts_from, counts_with, fits_plain, has_turns, is_counted, is_same_occasion, row_of, CountsLaw, IsRow}
+use Rattle.mc_rules.specs.Occasions.{applications, capped, count_with, counts_after, counts_after_turns, counts_from, counts_with, has_turns, is_counted, is_same_occasion, row_of, CountsLaw, IsRow}
 
 -- ---- which lines apply
-
-fits_as : (p t : List ℕ) → fits_plain (plain p) (plain t) ≡ fits p t
-unfolding fits
-fits_as p t = refl
 
 -- the row of a text
 row_as : (held : List (List ℕ × ℕ)) (ons : List OnRule) (rules : List model.OnRule) (text : List ℕ) → AlikeLists (IsOn held) ons rules → row_of ons (plain text) ≡ map (λ r. fits r.move text) rules
 row_as held [] [] text h = refl
 row_as held (o ∷ ons) (r ∷ rules) text h =
-    ap (λ (p : List ℕ). fits_plain p (plain text) ∷ row_of ons (plain text)) h.0.moves
-    ∙ ap (λ b. b ∷ row_of ons (plain text)) (fits_as r.move text)
+    ap (λ (p : List ℕ). fits p (plain text) ∷ row_of ons (plain text)) h.0.moves
+    ∙ ap (λ b. b ∷ row_of ons (plain text)) (fits_again r.move text)
     ∙ ap (λ (bs : List Bool). fits r.move text ∷ bs) (row_as held ons rules text h.1)
 row_as held [] (r ∷ rules) text h = absurd h
 row_as held (o ∷ ons) [] text h = absurd h
@@ -71,7 +68,7 @@ counts_from_first o t (r ∷ rs) applies (n ∷ ns) =
 -- ---- no line that counts turns
 
 uncounted_by : (b : Bool) (r : OnRule) (t : List ℕ) → (b && is_same_occasion (occasion_value r.occasion) AtTurn) ≡ false → is_counted AtTurn t r b ≡ false
-uncounted_by b r t h = ap (λ c. c && fits_plain r.pattern.items t) h
+uncounted_by b r t h = ap (λ c. c && fits r.pattern.items t) h
 
 or_none : (a b : Bool) → (a || b) ≡ false → (a ≡ false) × (b ≡ false)
 or_none true b h = absurd (cc h)
@@ -154,9 +151,9 @@ turn_count_by p r b h (t ∷ ts) n =
 counted_as : (r : OnRule) (b : Bool) (o at : model.Occasion) (pattern text : List ℕ) → occasion_value r.occasion ≡ o → r.pattern.items ≡ plain pattern
     → is_counted at (plain text) r b ≡ ((b && is_same_occasion o at) && fits pattern text)
 counted_as r b o at pattern text i h =
-    ap (λ v. (b && is_same_occasion v at) && fits_plain r.pattern.items (plain text)) i
-    ∙ ap (λ (p : List ℕ). (b && is_same_occasion o at) && fits_plain p (plain text)) h
-    ∙ ap (λ c. (b && is_same_occasion o at) && c) (fits_as pattern text)
+    ap (λ v. (b && is_same_occasion v at) && fits r.pattern.items (plain text)) i
+    ∙ ap (λ (p : List ℕ). (b && is_same_occasion o at) && fits p (plain text)) h
+    ∙ ap (λ c. (b && is_same_occasion o at) && c) (fits_again pattern text)
 
 -- the count of a line after a move that was played
 abbrev line_count : OnRule → Bool → Step → ℕ
@@ -172,7 +169,7 @@ line_times_by : (r : OnRule) (b : Bool) (o : model.Occasion) (pattern : List ℕ
 line_times_by r false o pattern t i h = turn_count_none r false (shown_turns t.turns t.stop) 0 (λ text. refl)
 line_times_by r true AtResult pattern t i h =
     ap (λ c. count_with c (turn_count r true (shown_turns t.turns t.stop) 0)) (counted_as r true AtResult AtResult pattern (result_text t.result) i h)
-    ∙ ap (count_with (fits pattern (result_text t.result))) (turn_count_none r true (shown_turns t.turns t.stop) 0 (λ text. ap (λ v. is_same_occasion v AtTurn && fits_plain r.pattern.items text) i))
+    ∙ ap (count_with (fits pattern (result_text t.result))) (turn_count_none r true (shown_turns t.turns t.stop) 0 (λ text. ap (λ v. is_same_occasion v AtTurn && fits r.pattern.items text) i))
     ∙ result_once (fits pattern (result_text t.result))
 line_times_by r true AtTurn pattern t i h =
     ap (λ c. count_with c (turn_count r true (shown_turns t.turns t.stop) 0)) (counted_as r true AtTurn AtResult pattern (result_text t.result) i h)

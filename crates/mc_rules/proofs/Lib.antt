@@ -1,5 +1,4 @@
 mod FieldLemmas
-mod MatchingLemmas
 mod MoveLemmas
 mod OnLemmas
 mod PartLemmas

@@ -19,8 +19,10 @@ use Rattle.mc_rules.specs.declared.rules.OnRule.{OnRule}
 use Rattle.mc_rules.specs.declared.fault.Fault.{Fault}
 use Rattle.mc_rules.specs.declared.fault.Fault.TheVariants as fault
 use Rattle.mc_rules.specs.declared.reading.Exploration.{Exploration}
-use Rattle.mc_rules.specs.Fields.{rest_of, IsOneLine}
-use Rattle.mc_rules.proofs.FieldLemmas.{fields_trimmed, one_line_rest, one_line_trim, trim_rest}
+use Rattle.mc_match.specs.Fields.{rest_of}
+use Rattle.mc_match.proofs.FieldLemmas.{fields_trimmed}
+use Rattle.mc_rules.specs.Fields.{IsOneLine}
+use Rattle.mc_rules.proofs.FieldLemmas.{one_line_rest, one_line_trim, trim_rest}
 use Rattle.mc_rules.specs.Meanings.{is_rule, refusal_at, rule_of, rules_with, AreListsRead, AreRuleLists, AreRulesRead, Faulty, IsExplorationRead, IsRuleText}
 
 -- ---- one line

@@ -3,4 +3,3 @@ pub mod Meanings
 pub mod Moves
 pub mod Occasions
 pub mod Parts
-pub mod Walks

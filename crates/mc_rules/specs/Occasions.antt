@@ -1,30 +1,26 @@
 -- How often `on` lines apply to a move that was played, as the code counts it, and what they then do to the amounts of
 -- the allowances.
-use Rattle.std.specs.Prelude.{◌≡◌, ℕ, zero, suc, ◌-◌, min, Bool, true, false, not, cond, ◌&&◌, ◌||◌, nat_le, List, [], ◌∷◌, drop, length, map, replicate, slice_get, slice_index_or, slice_set, option_and_then, Option, Some, None, Result, Ok, Err}
+use Rattle.std.specs.Prelude.{◌≡◌, ℕ, zero, suc, ◌-◌, min, Bool, true, false, cond, ◌&&◌, ◌||◌, nat_le, List, [], ◌∷◌, drop, length, map, replicate, slice_get, slice_index_or, slice_set, option_and_then, Option, Some, None, Result, Ok, Err}
 use Rattle.std.specs.declared.alloc.Global.{Global}
 use Rattle.std.specs.declared.vec.Vec.{Vec}
 use Rattle.mc_model_device.specs.Counts.{last_count}
-use Rattle.mc_model_machine.specs.Text.{◌>>=◌, is_empty}
+use Rattle.mc_model_machine.specs.Text.{◌>>=◌}
 use Rattle.mc_model_machine.specs.Chain.{Turn}
 use Rattle.mc_model_play.specs.Play.{Step}
 use Rattle.mc_model_play.specs.TraceText.{shown_turns}
 use Rattle.mc_base.specs.Streams.{one_more}
 use Rattle.mc_explore.specs.Rules as model
 use Rattle.mc_explore.specs.Rules.{AtResult, AtTurn, Allows, Spends}
-use Rattle.mc_explore.specs.Matching.{fits, matches, plain}
+use Rattle.mc_explore.specs.Matching.{fits, plain}
 use Rattle.mc_explore.specs.Tries.{result_text, times, turn_text}
 use Rattle.mc_rules.specs.declared.rules.OnRule.{OnRule}
 use Rattle.mc_rules.specs.Meanings.{effect_value, occasion_value, AlikeLists, AreDistinct, IsOn}
 
 -- ---- which lines apply
 
--- whether a pattern fits a text, both of them plain
-abbrev pub fits_plain : List ℕ → List ℕ → Bool
-fits_plain pattern text = not (is_empty pattern) && matches pattern text
-
 -- for each `on` line whether it applies to a move with a plain text
 abbrev pub row_of : List OnRule → List ℕ → List Bool
-row_of ons text = map (λ r. fits_plain r.moves.items text) ons
+row_of ons text = map (λ r. fits r.moves.items text) ons
 
 -- for each `on` line of the definition whether it applies to a move
 abbrev pub applications : List model.OnRule → model.Move → List Bool
@@ -45,7 +41,7 @@ is_same_occasion AtTurn AtResult = false
 
 -- whether an `on` line counts an occasion with a plain text, by whether the line applies to the move
 abbrev pub is_counted : model.Occasion → List ℕ → OnRule → Bool → Bool
-is_counted occasion text r applies = (applies && is_same_occasion (occasion_value r.occasion) occasion) && fits_plain r.pattern.items text
+is_counted occasion text r applies = (applies && is_same_occasion (occasion_value r.occasion) occasion) && fits r.pattern.items text
 
 -- a count, one greater if an occasion counts, up to the last value of a count
 abbrev pub count_with : Bool → ℕ → ℕ

@@ -15,6 +15,6 @@ mod rules;
 
 pub use laws::counts_are_times;
 pub use occasions::{applications, apply_all, count, count_turn, has_turns};
-pub use pattern::{fits, plain, plain_into};
+pub use pattern::plain_into;
 pub use reading::{Exploration, read_exploration};
 pub use rules::{Allowance, Effect, Move, Occasion, OnRule, Rules};

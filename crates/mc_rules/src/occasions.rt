@@ -11,10 +11,11 @@ ghost use Rattle.mc_rules.specs.Meanings.{effect_value, occasion_value, AlikeLis
 ghost use Rattle.mc_rules.specs.Occasions.{amount_once, amount_times, amounts_after_rule, amounts_from, capped, counts_after, counts_with, has_turns, is_counted, is_same_occasion, row_of, AmountsAre, AreSpent, CountsMove, IsRow};
 
 use crate::growth::push;
-use crate::pattern::{fits, plain, plain_into};
+use crate::pattern::{plain, plain_into};
 use crate::rules::{Effect, Move, Occasion, OnRule, Rules};
 use arrayvec::ArrayVec;
 use mc_base::NoMemory;
+use mc_match::fits;
 use mc_text::cut;
 use std::alloc::Global;
 
@@ -95,7 +96,7 @@ pub fn count(ons: &[OnRule], applies: &[bool], occasion: Occasion, plain: &[u8],
 }
 
 // Returns the text of an executed instruction: its line without the `>` and without the line feed.
-#[tactic(auto, using(crate::proofs::FieldLemmas::cut_short))]
+#[tactic(auto, using(mc_match::proofs::FieldLemmas::cut_short))]
 fn turn_text(line: &[u8]) -> &[u8]
     ensures text { (t : Turn) → line.now ≡ turn_line t → result.now ≡ turn_text t }
     ensures short { length result.now ≤ length line.now }

@@ -7,10 +7,10 @@ ghost use Rattle.mc_rules.specs.Meanings.{effect_value, occasion_value, Faulty};
 ghost use Rattle.mc_rules.specs.Parts.{AreFullParts};
 
 use crate::fault::Fault;
-use crate::field::first_field;
 use crate::pattern::add_plain;
 use crate::rules::{Effect, Occasion};
 use mc_deck::DeckCause;
+use mc_match::first_field;
 use std::alloc::Global;
 
 // Returns the occasion that a word names.

@@ -11,11 +11,12 @@ ghost use Rattle.mc_rules.specs.Moves.{IsMoveDeck};
 ghost use Rattle.mc_rules.specs.Meanings.{AreRules, AreRulesRead, Faulty, IsExplorationRead, IsOnRead, IsRuleText};
 
 use crate::fault::Fault;
-use crate::field::{first_field, name_and_amount, stays_inside};
+use crate::field::name_and_amount;
 use crate::growth::push;
 use crate::parts::{effect_parts, occasion_parts};
 use crate::rules::{Allowance, Move, OnRule, Rules};
 use mc_deck::{Deck, DeckCause, DeckRefusal, read_deck};
+use mc_match::{first_field, stays_inside};
 use mc_text::{next_line, trim};
 use std::alloc::Global;
 
@@ -170,7 +171,7 @@ fn kind_named(word: &[u8]) -> Option<Kind>
 }
 
 // Adds a rule of this kind, by the text after its word.
-#[tactic(auto, using(crate::proofs::FieldLemmas::one_line_trim, crate::proofs::FieldLemmas::fields_trimmed))]
+#[tactic(auto, using(crate::proofs::FieldLemmas::one_line_trim, mc_match::proofs::FieldLemmas::fields_trimmed))]
 fn add_kind<'a>(
     alloc: Global,
     rules: &mut Rules<'a>,

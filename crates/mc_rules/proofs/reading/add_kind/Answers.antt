@@ -4,7 +4,7 @@ use Rattle.mc_model_machine.specs.Text.{fields, trim}
 use Rattle.mc_explore.specs.Rules as model
 use Rattle.mc_explore.specs.Rules.{with_rule, MoveWord, RuleWord}
 use Rattle.mc_rules.specs.Meanings.{kind_value, AreRules, AreRulesRead, Faulty}
-use Rattle.mc_rules.proofs.FieldLemmas.{fields_trimmed}
+use Rattle.mc_match.proofs.FieldLemmas.{fields_trimmed}
 use Rattle.mc_rules.proofs.reading.add_kind.Goals as goal
 
 pub returns-in-Move-clause-added : goal.returns-in-Move-clause-added

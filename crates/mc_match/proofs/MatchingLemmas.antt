@@ -1,11 +1,51 @@
--- Walks of a pattern along a text.
-use Rattle.std.proofs.Common.{◌≡◌, ◌||◌, ◌==◌, refl, sym, ◌∙◌, ap, subst, ℕ, List, [], ◌∷◌, Bool, true, false, cond, arith}
-use Rattle.mc_model_machine.specs.Text.{is_empty}
-use Rattle.mc_rules.specs.Walks.{Parts}
+-- Texts without blanks, and walks of a pattern along a text.
+use Rattle.std.proofs.Common.{◌≡◌, ℕ, ◌+◌, ◌&&◌, ◌||◌, ◌==◌, refl, sym, ◌∙◌, ap, subst, List, [], ◌∷◌, Bool, true, false, cond, arith}
+use Rattle.std.specs.Prelude.{not}
+use Rattle.mc_model_machine.specs.Text.{is_blank, is_empty, is_within}
+use Rattle.mc_match.specs.Walks.{Parts}
 use Rattle.mc_model_play.specs.Patterns.{is_any, is_star}
-use Rattle.mc_explore.specs.Matching.{some_rest, first_and_rest, matches}
+use Rattle.mc_explore.specs.Matching.{some_rest, first_and_rest, fits, matches, plain, small}
 use Rattle.std.proofs.lemmas.Bool.{or_left, or_right}
 use Rattle.mc_model_device.proofs.BoolLemmas.{and_second}
+
+-- ---- blanks
+
+pub plain_kept : (c : ℕ) (t : List ℕ) → is_blank c ≡ false → plain (c ∷ t) ≡ small c ∷ plain t
+plain_kept c t e = rw e refl
+
+pub plain_blank : (c : ℕ) (t : List ℕ) → is_blank c ≡ true → plain (c ∷ t) ≡ plain t
+plain_blank c t e = rw e refl
+
+-- ---- texts without blanks and capital letters
+
+-- a character that is no capital letter
+kept_by : (c : ℕ) (b : Bool) → is_within 65 90 c ≡ b → small (cond b (c + 32) c) ≡ cond b (c + 32) c
+kept_by c true e = grind (arith, e)
+kept_by c false e = ap (λ (b : Bool). cond b (c + 32) c) e
+
+small_again : (c : ℕ) → small (small c) ≡ small c
+small_again c = kept_by c (is_within 65 90 c) refl
+
+blank_by : (c : ℕ) (b : Bool) → is_within 65 90 c ≡ b → is_blank c ≡ false → is_blank (cond b (c + 32) c) ≡ false
+blank_by c true e h = grind (arith, e, h)
+blank_by c false e h = h
+
+again_by : (b : Bool) (c : ℕ) (t : List ℕ) → is_blank c ≡ b → plain (plain t) ≡ plain t → plain (plain (c ∷ t)) ≡ plain (c ∷ t)
+again_by true c t e h = subst (λ (x : List ℕ). plain x ≡ x) (sym (plain_blank c t e)) h
+again_by false c t e h =
+    subst (λ (x : List ℕ). plain x ≡ x) (sym (plain_kept c t e))
+    (plain_kept (small c) (plain t) (blank_by c (is_within 65 90 c) refl e) ∙ ap (λ (x : ℕ). x ∷ plain (plain t)) (small_again c) ∙ ap (λ (x : List ℕ). small c ∷ x) h)
+
+plain_again : (t : List ℕ) → plain (plain t) ≡ plain t
+plain_again [] = refl
+plain_again (c ∷ t) = again_by (is_blank c) c t refl (plain_again t)
+
+-- what fits does not depend on blanks and capital letters
+pub fits_again : (p t : List ℕ) → fits (plain p) (plain t) ≡ fits p t
+unfolding fits
+fits_again p t =
+    ap (λ (x : List ℕ). not (is_empty x) && matches x (plain (plain t))) (plain_again p)
+    ∙ ap (λ (x : List ℕ). not (is_empty (plain p)) && matches (plain p) x) (plain_again t)
 
 -- ---- rests
 

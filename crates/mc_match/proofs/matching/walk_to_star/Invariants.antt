@@ -1,11 +1,12 @@
 use Rattle.std.proofs.Common.{◌≤◌, length}
-use Rattle.mc_rules.proofs.MatchingLemmas.{PatternWalked}
-use Rattle.mc_rules.proofs.pattern.walk_to_star.Given as goal
+use Rattle.mc_explore.specs.Matching.{plain}
+use Rattle.mc_match.proofs.MatchingLemmas.{PatternWalked}
+use Rattle.mc_match.proofs.matching.walk_to_star.Given as goal
 
 -- the rests match if pattern and text do
 abbrev pub invariant-loop-sign : goal.invariant-loop-sign
 invariant-loop-sign l = record {
-  walked : PatternWalked l.fn.pattern l.fn.text l.signs l.rest;
+  walked : PatternWalked (plain l.fn.pattern) (plain l.fn.text) (plain l.signs) (plain l.rest);
   fewer : length l.signs ≤ length l.fn.pattern;
   less : length l.rest ≤ length l.fn.text;
 }

@@ -1,20 +1,20 @@
 -- The end of a walk of a pattern along a text.
 use Rattle.std.specs.Prelude.{◌≡◌, ◌+◌, ◌<◌, List, ℕ, length, true, false}
-use Rattle.mc_rules.specs.declared.pattern.Walk.{Walk}
-use Rattle.mc_rules.specs.declared.pattern.Walk.TheVariants as walk
-use Rattle.mc_explore.specs.Matching.{matches, some_rest}
+use Rattle.mc_match.specs.declared.matching.Walk.{Walk}
+use Rattle.mc_match.specs.declared.matching.Walk.TheVariants as walk
+use Rattle.mc_explore.specs.Matching.{matches, plain, some_rest}
 
--- a pattern and a text were walked up to a `*`: the pattern matches here, or further on, exactly if the rest of it
--- does
+-- a pattern and a text, without blanks and capital letters, were walked up to a `*`: the pattern matches here, or
+-- further on, exactly if the rest of it does
 pub record Parts (p t ps ts : List ℕ) : Type 0 where
   pub here : matches p t ≡ some_rest (matches ps) ts
   pub later : some_rest (matches p) t ≡ some_rest (matches ps) ts
 
--- the match, by the end of a walk
+-- the match, by the end of a walk, without blanks and capital letters
 abbrev pub WalkIs : List ℕ → List ℕ → Walk → Type 0
-WalkIs p t walk.Whole = matches p t ≡ true
-WalkIs p t walk.Apart = matches p t ≡ false
-WalkIs p t (walk.Star ps ts) = Parts p t ps.now ts.now
+WalkIs p t walk.Whole = matches (plain p) (plain t) ≡ true
+WalkIs p t walk.Apart = matches (plain p) (plain t) ≡ false
+WalkIs p t (walk.Star ps ts) = Parts (plain p) (plain t) (plain ps.now) (plain ts.now)
 
 -- the rests after a `*` are shorter
 abbrev pub WalkEnds : List ℕ → List ℕ → Walk → Type 0

@@ -1,0 +1,3 @@
+pub use Rattle.mc_explore.specs.Matching
+pub mod Walks
+pub mod Fields
