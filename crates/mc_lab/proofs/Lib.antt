@@ -1,10 +1,9 @@
-mod MatchingLemmas
 pub mod RisingLemmas
 mod BelowLemmas
 mod SectionLemmas
 mod RemarkLemmas
 mod LayingLemmas
-mod TrialLemmas
+mod ExpectedDeckLemmas
 mod StageLemmas
 mod ExpectLemmas
 pub mod SweepPlays

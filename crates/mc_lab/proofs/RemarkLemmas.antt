@@ -1,114 +1,19 @@
 -- Lines that are remarks, and lines that are not.
-use Rattle.std.proofs.Common.{◌≡◌, ◌+◌, ◌<◌, length, refl, sym, ◌∙◌, ap, subst, ℕ, suc, List, [], ◌∷◌, ◌++◌, Bool, true, false, not, cond, filter, Option, Some, None, append_assoc, append-nil, arith}
-use Rattle.std.specs.Prelude.{◌&&◌, ◌==◌, codes, bytes_eq, Result, Ok, Err}
-use Rattle.mc_model_machine.specs.Text.{fields, first_cut, pieces_with_character, halves_with_character, is_blank, is_empty, lines, with_numbers, pieces, trim_front}
+use Rattle.std.proofs.Common.{◌≡◌, ◌+◌, ◌<◌, refl, sym, ◌∙◌, ap, ℕ, suc, List, [], ◌∷◌, ◌++◌, Bool, true, false, not, Option, Some, None, append_assoc, append-nil, arith}
+use Rattle.std.specs.Prelude.{◌&&◌, ◌==◌, Result, Ok, Err}
+use Rattle.mc_model_machine.specs.Text.{fields, lines, with_numbers}
 use Rattle.mc_model_play.specs.declared.deck.DeckCause.{DeckCause}
-use Rattle.mc_model_play.specs.DeckGrammar.{Mode, Between, LineTurn, turn_at, is_end}
+use Rattle.mc_model_play.specs.DeckGrammar.{Mode, Between, LineTurn, turn_at}
 use Rattle.mc_text.specs.Reading.{next_line}
-use Rattle.mc_text.proofs.ReadingLemmas.{pieces_at, pieces_cut}
 use Rattle.mc_asm.proofs.PassLemmas.{numbered_some, numbered_none}
 use Rattle.mc_lab.specs.Rising.{Rising}
 use Rattle.mc_lab.proofs.RisingLemmas.{rising_lower}
 use Rattle.mc_lab.specs.declared.remark.Mark.{Mark}
 use Rattle.mc_lab.specs.declared.remark.Remark.{Remark as Found}
-use Rattle.mc_lab.specs.Remarks.{Remark, above_after, after_line, in_section, is_only, is_whole_mark, just, remark_at, remarks, remarks_from, text_in}
-use Rattle.mc_lab.specs.Remarked.{first_field, or_nothing, remark_number, remark_value, remark_values}
-use Rattle.mc_lab.specs.Scanning.{begins_with, stays_inside, scanned_from, scanned}
-use Rattle.mc_deck.proofs.FieldLemmas.{fields_cut_by, put_field}
-use Rattle.mc_model_device.proofs.BoolLemmas.{and_false, and_true}
-
--- ---- fields
-
-fields_cut : (p : List ℕ × Option (List ℕ)) → filter (λ p. not (is_empty p)) (pieces_cut is_blank p) ≡ put_field (is_empty p.0) p.0 (fields (or_nothing p.1))
-fields_cut (a, None) = fields_cut_by (is_empty a) a [] refl
-fields_cut (a, Some rest) = fields_cut_by (is_empty a) a (pieces is_blank rest) refl
-
-fields_at : (t : List ℕ) → fields t ≡ put_field (is_empty (first_cut is_blank t).0) (first_cut is_blank t).0 (fields (or_nothing (first_cut is_blank t).1))
-fields_at t = ap (filter (λ p. not (is_empty p))) (pieces_at is_blank t) ∙ fields_cut (first_cut is_blank t)
-
-trim_fields_by : (c : ℕ) (t : List ℕ) (b : Bool) → is_blank c ≡ b → fields (trim_front t) ≡ fields t → fields (trim_front (c ∷ t)) ≡ fields (c ∷ t)
-trim_fields_by c t true e h = ap (λ b. fields (cond b (trim_front t) (c ∷ t))) e ∙ h ∙ sym (ap (λ b. filter (λ p. not (is_empty p)) (pieces_with_character b c (pieces is_blank t))) e)
-trim_fields_by c t false e h = ap (λ b. fields (cond b (trim_front t) (c ∷ t))) e
-
--- blanks before a line are ignored
-trim_fields : (t : List ℕ) → fields (trim_front t) ≡ fields t
-trim_fields [] = refl
-trim_fields (c ∷ t) = trim_fields_by c t (is_blank c) refl (trim_fields t)
-
--- a text does not begin with a blank
-abbrev Plain : List ℕ → Type 0
-Plain [] = Unit {0}
-Plain (c ∷ t) = is_blank c ≡ false
-
-trim_plain_by : (c : ℕ) (t : List ℕ) (b : Bool) → is_blank c ≡ b → Plain (trim_front t) → Plain (cond b (trim_front t) (c ∷ t))
-trim_plain_by c t true e h = h
-trim_plain_by c t false e h = e
-
-trim_plain : (t : List ℕ) → Plain (trim_front t)
-trim_plain [] = tt
-trim_plain (c ∷ t) = trim_plain_by c t (is_blank c) refl (trim_plain t)
-
--- the first field of such a text is empty only if the text is
-plain_cut : (t : List ℕ) → Plain t → is_empty (first_cut is_blank t).0 ≡ true → (first_cut is_blank t).1 ≡ None
-plain_cut [] h e = refl
-plain_cut (c ∷ t) h e =
-    let no : false ≡ true = subst (λ (b : Bool). is_empty (halves_with_character b c t (first_cut is_blank t)).0 ≡ true) h e in
-    absurd (cc no)
-
-fields_by : (l : List ℕ) (b : Bool) → is_empty (first_field l).0 ≡ b → fields l ≡ put_field b (first_field l).0 (fields (or_nothing (first_field l).1))
-fields_by l b e = sym (trim_fields l) ∙ fields_at (trim_front l) ∙ ap (λ b. put_field b (first_field l).0 (fields (or_nothing (first_field l).1))) e
-
--- a line whose first field is empty has none
-fields_none : (l : List ℕ) → is_empty (first_field l).0 ≡ true → fields l ≡ []
-fields_none l e = fields_by l true e ∙ ap (λ o. fields (or_nothing o)) (plain_cut (trim_front l) (trim_plain l) e)
-
-empty_is : (t : List ℕ) → is_empty t ≡ true → t ≡ []
-empty_is [] e = refl
-empty_is (c ∷ t) e = absurd (cc e)
-
-begins_by_empty : (word l : List ℕ) (b : Bool) → 0 < length word → is_empty (first_field l).0 ≡ b → bytes_eq (first_field l).0 word ≡ begins_with word (fields l)
-begins_by_empty [] l true h e = absurd (omega (arith, h))
-begins_by_empty (c ∷ word) l true h e = ap (λ f. bytes_eq f (c ∷ word)) (empty_is (first_field l).0 e) ∙ ap (begins_with (c ∷ word)) (sym (fields_none l e))
-begins_by_empty word l false h e = ap (begins_with word) (sym (fields_by l false e))
-
--- the first field is a word
-pub begins_by : (word l : List ℕ) → 0 < length word → bytes_eq (first_field l).0 word ≡ begins_with word (fields l)
-begins_by word l h = begins_by_empty word l (is_empty (first_field l).0) h refl
-
-one_field : (word f b : List ℕ) (e : Bool) → is_empty (first_field b).0 ≡ e → (bytes_eq f word && e) ≡ is_only word (f ∷ fields b)
-one_field word f b true e = and_true (bytes_eq f word) ∙ ap (λ fs. is_only word (f ∷ fs)) (sym (fields_none b e))
-one_field word f b false e = and_false (bytes_eq f word) ∙ ap (λ fs. is_only word (f ∷ fs)) (sym (fields_by b false e))
-
-only_by_empty : (word l : List ℕ) (b : Bool) → 0 < length word → is_empty (first_field l).0 ≡ b
-    → (bytes_eq (first_field l).0 word && is_empty (first_field (or_nothing (first_field l).1)).0) ≡ is_only word (fields l)
-only_by_empty [] l true h e = absurd (omega (arith, h))
-only_by_empty (c ∷ word) l true h e =
-    ap (λ f. bytes_eq f (c ∷ word) && is_empty (first_field (or_nothing (first_field l).1)).0) (empty_is (first_field l).0 e) ∙ ap (is_only (c ∷ word)) (sym (fields_none l e))
-only_by_empty word l false h e =
-    one_field word (first_field l).0 (or_nothing (first_field l).1) (is_empty (first_field (or_nothing (first_field l).1)).0) refl ∙ ap (is_only word) (sym (fields_by l false e))
-
--- the first field is a word, and the last
-pub only_by : (word l : List ℕ) → 0 < length word → (bytes_eq (first_field l).0 word && is_empty (first_field (or_nothing (first_field l).1)).0) ≡ is_only word (fields l)
-only_by word l h = only_by_empty word l (is_empty (first_field l).0) h refl
-
-end_is : (fs : List (List ℕ)) → is_only (codes "end") fs ≡ is_end fs
-end_is [] = refl
-end_is (f ∷ []) = refl
-end_is (f ∷ g ∷ fs) = refl
-
--- the only field is `end`
-pub ends_by : (l : List ℕ) → is_only (codes "end") (fields l) ≡ is_end (fields l)
-ends_by l = end_is (fields l)
-
-whole_by_empty : (l : List ℕ) (b : Bool) → is_empty (first_field l).0 ≡ b
-    → (bytes_eq (first_field l).0 (codes "#!") && is_only (codes "whole") (fields (or_nothing (first_field l).1))) ≡ is_whole_mark (fields l)
-whole_by_empty l true e =
-    ap (λ f. bytes_eq f (codes "#!") && is_only (codes "whole") (fields (or_nothing (first_field l).1))) (empty_is (first_field l).0 e) ∙ ap is_whole_mark (sym (fields_none l e))
-whole_by_empty l false e = ap is_whole_mark (sym (fields_by l false e))
-
--- the fields are `#!` and `whole`
-pub whole_by : (l : List ℕ) → (bytes_eq (first_field l).0 (codes "#!") && is_only (codes "whole") (fields (or_nothing (first_field l).1))) ≡ is_whole_mark (fields l)
-whole_by l = whole_by_empty l (is_empty (first_field l).0) refl
+use Rattle.mc_lab.specs.Remarks.{Remark, above_after, after_line, in_section, just, remark_at, remarks, remarks_from, text_in}
+use Rattle.mc_lab.specs.Remarked.{remark_number, remark_value, remark_values}
+use Rattle.mc_explore.specs.Rules.{stays_inside}
+use Rattle.mc_lab.specs.Scanning.{scanned_from, scanned}
 
 -- ---- remarks
 

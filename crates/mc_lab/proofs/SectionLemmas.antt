@@ -14,7 +14,8 @@ use Rattle.mc_model_play.specs.DeckGrammar as line
 use Rattle.mc_family.proofs.AssembledBytes.{as_ok, err_ok, only_ok, cond_ok, any_ok}
 use Rattle.mc_lab.specs.declared.remark.Mark.{Mark}
 use Rattle.mc_lab.specs.Remarks.{Remark, above_after, after_line, in_section, just, remark_at, remarks, remarks_from, text_in}
-use Rattle.mc_lab.specs.Scanning.{stays_inside, scanned_from, scanned}
+use Rattle.mc_explore.specs.Rules.{stays_inside}
+use Rattle.mc_lab.specs.Scanning.{scanned_from, scanned}
 
 -- ---- statements
 

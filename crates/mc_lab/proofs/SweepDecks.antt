@@ -18,7 +18,7 @@ use Rattle.mc_model_device.proofs.ListLemmas.{length_map as map-length}
 use Rattle.mc_lab.specs.Remarks.{Remark}
 use Rattle.mc_lab.specs.declared.sweep_trial.Place.{Place}
 use Rattle.mc_lab.specs.declared.sweep_text.Sums.{Sums}
-use Rattle.mc_lab.specs.declared.sweep_word.Word.{Word}
+use Rattle.mc_lab.specs.declared.sweep_word.SweepWord.{SweepWord}
 use Rattle.mc_lab.specs.Sweeps.{state_on_blank, state_after_lines, count_from, is_unarmed, is_swept, line_sweep, sweeps_with, swept_text, swept_texts, Swept, plays_of, sweep, sweep_behind, sweep_text, sums_text, text_of, names_from, total, writes_behind, count_of_broken, is_broken_at, is_whole, line_end, runs, runs_text}
 use Rattle.mc_lab.specs.SweepBodies.{line_at, front_of, line_in, names_in, cut_write_at, writes_in, IsUnarmedLine}
 use Rattle.mc_lab.specs.SweepEnds.{free_behind, is_open, is_open_at, sweeps_at, sweeps_from, AddsSums, AtMost}
@@ -144,7 +144,7 @@ unfolding line_sweep
 swept_is p = refl
 
 -- the swept line, by its number, its words and its plays
-one_swept : (p : Place) (number n : ℕ) (words : List Word) (plays : ℕ) → number ≡ (line_in p).0 → SweptAs p n words plays → IsUnarmedLine p → 1 ≤ n
+one_swept : (p : Place) (number n : ℕ) (words : List SweepWord) (plays : ℕ) → number ≡ (line_in p).0 → SweptAs p n words plays → IsUnarmedLine p → 1 ≤ n
     → sweeps_at p ≡ record { number = number; words = take n words; plays = plays } ∷ []
 one_swept p number n words plays is s o some =
     let made : 1 ≤ writes_in p = (let e = s.writes in omega (arith, e)) in
@@ -152,15 +152,15 @@ one_swept p number n words plays is s o some =
     ∙ ap (λ (x : Swept). x ∷ []) (
     swept_is p
     ∙ ap (λ (k : ℕ). record { number = k; words = map (λ t. t.word) (map (cut_write_at p) (count_from 1 (writes_in p))); plays = plays_of (map (cut_write_at p) (count_from 1 (writes_in p))) }) (sym is)
-    ∙ ap (λ (ws : List Word). record { number = number; words = ws; plays = plays_of (map (cut_write_at p) (count_from 1 (writes_in p))) }) (sym s.words_are)
+    ∙ ap (λ (ws : List SweepWord). record { number = number; words = ws; plays = plays_of (map (cut_write_at p) (count_from 1 (writes_in p))) }) (sym s.words_are)
     ∙ ap (λ (k : ℕ). record { number = number; words = take n words; plays = k }) (sym s.plays_are)
     )
 
 -- the text of a line, by its words, and by whether it is broken
-abbrev pub text_by : ℕ → List Word → Bool → List ℕ
+abbrev pub text_by : ℕ → List SweepWord → Bool → List ℕ
 text_by number words broken = codes "line " ++ decimal number ++ codes " writes " ++ decimal (length words) ++ codes ":" ++ runs_text (runs 1 words) ++ line_end broken
 
-pub place_text : (marks : List Remark) (p : Place) (number n : ℕ) (words : List Word) (plays : ℕ) (broken : Bool) → broken ≡ is_broken_at marks number (take n words) → number ≡ (line_in p).0 → SweptAs p n words plays → IsUnarmedLine p → 1 ≤ n
+pub place_text : (marks : List Remark) (p : Place) (number n : ℕ) (words : List SweepWord) (plays : ℕ) (broken : Bool) → broken ≡ is_broken_at marks number (take n words) → number ≡ (line_in p).0 → SweptAs p n words plays → IsUnarmedLine p → 1 ≤ n
     → text_by number (take n words) broken ≡ swept_texts marks (sweeps_at p)
 place_text marks p number n words plays broken b is s o some =
     let swept : Swept = record { number = number; words = take n words; plays = plays } in
@@ -168,11 +168,11 @@ place_text marks p number n words plays broken b is s o some =
     ∙ sym (append-nil (swept_text marks swept))
     ∙ ap (swept_texts marks) (sym (one_swept p number n words plays is s o some))
 
-taken_length : (p : Place) (n : ℕ) (words : List Word) (plays : ℕ) → SweptAs p n words plays → length (take n words) ≡ n
+taken_length : (p : Place) (n : ℕ) (words : List SweepWord) (plays : ℕ) → SweptAs p n words plays → length (take n words) ≡ n
 taken_length p n words plays s =
     ap length s.words_are ∙ map-length (λ t. t.word) (map (cut_write_at p) (count_from 1 (writes_in p))) ∙ counted_length (cut_write_at p) (writes_in p) ∙ sym s.writes
 
-pub place_adds : (marks : List Remark) (p : Place) (number n : ℕ) (words : List Word) (plays : ℕ) (broken : Bool) (a b : Sums) → broken ≡ is_broken_at marks number (take n words) → number ≡ (line_in p).0 → SweptAs p n words plays → IsUnarmedLine p → 1 ≤ n
+pub place_adds : (marks : List Remark) (p : Place) (number n : ℕ) (words : List SweepWord) (plays : ℕ) (broken : Bool) (a b : Sums) → broken ≡ is_broken_at marks number (take n words) → number ≡ (line_in p).0 → SweptAs p n words plays → IsUnarmedLine p → 1 ≤ n
     → b.lines ≡ a.lines + 1 → b.writes ≡ a.writes + n → b.plays ≡ a.plays + plays → b.broken ≡ a.broken + cond broken 1 0 → AddsSums marks a (sweeps_at p) b
 place_adds marks p number n words plays broken a b e is s o some x y z w =
     let long = taken_length p n words plays s in

@@ -5,8 +5,8 @@ use Rattle.std.proofs.Common.{arith, ap, sym, subst, inl, inr, ◌∙◌}
 use Rattle.std.proofs.lemmas.Bool.{cases_lt}
 use Rattle.mc_model_play.specs.DeckGrammar.{DeckLine}
 use Rattle.mc_lab.specs.Sweeps.{state_after_power, word_by, count_from, runs, writes_behind, Tried, cut_write, Swept, line_sweep, is_swept, sweeps_with, sweep_behind, sweep, names_from}
-use Rattle.mc_lab.specs.declared.sweep_word.Word.{Word}
-use Rattle.mc_lab.specs.declared.sweep_word.Word.TheVariants.{Same, Between, Torn}
+use Rattle.mc_lab.specs.declared.sweep_word.SweepWord.{SweepWord}
+use Rattle.mc_lab.specs.declared.sweep_word.SweepWord.TheVariants.{Same, Between, Torn}
 use Rattle.mc_lab.specs.SweepLaws.{changing_behind, opening_behind, all_of, split_at, NotTorn, BetweenChanges, SplitsAtGate, StaysSame, EachSwept, NeverTorn, OfEach}
 use Rattle.mc_lab.proofs.SweepRuns.{words, all_runs, all_counted, runs_all, runs_split}
 use Rattle.mc_lab.proofs.SweepReported.{SweptAt, swept_at, word_reported, word_none, splits_line}
@@ -22,7 +22,7 @@ module _ (names : List (List ℕ)) (front : List (ℕ × DeckLine)) (l : ℕ × 
   write k = cut_write names front l (state_after_power names front) (state_after_power names (front ++ l ∷ [])) k
 
   -- a property of each word is one of each run
-  each_run : (P : Word → Type 0) → ((k : ℕ) → 1 ≤ k → k ≤ writes_behind front l → P (write k).word) → AllByRecursion (λ r. P r.word) (runs 1 (line_sweep names front l).words)
+  each_run : (P : SweepWord → Type 0) → ((k : ℕ) → 1 ≤ k → k ≤ writes_behind front l → P (write k).word) → AllByRecursion (λ r. P r.word) (runs 1 (line_sweep names front l).words)
   unfolding line_sweep
   each_run P h = all_runs P 1 (map write (count_from 1 (writes_behind front l))) (all_counted (λ t. P t.word) write 1 (writes_behind front l) (λ k low high. h k low (omega arith)))
 

@@ -8,10 +8,10 @@ use Rattle.mc_model_device.proofs.ListLemmas.{length_map as map-length}
 use Rattle.mc_lab.specs.Sweeps.{Tried, plays_of, state_on_blank, ReportedState, is_same, all_same, count_from, cut_statement, power, under_cut, ones, cut_write}
 use Rattle.mc_model_device.specs.Bytes.{zeros}
 use Rattle.std.proofs.Common.{length-append}
-use Rattle.mc_lab.specs.declared.sweep_word.Word.{Word}
+use Rattle.mc_lab.specs.declared.sweep_word.SweepWord.{SweepWord}
 use Rattle.mc_lab.specs.SweepBodies.{word_with, cut_write_at, IsUnarmedLine, OpensNoGate, front_of, line_in, hit_in, state_at_place, writes_in, again_in, recovery_states_at}
 use Rattle.mc_lab.specs.declared.sweep_trial.Place.{Place}
-use Rattle.mc_lab.specs.declared.sweep_trial.Behind.TheVariants as behind
+use Rattle.mc_lab.specs.declared.sweep_trial.TrialLines.TheVariants as trial
 use Rattle.mc_lab.proofs.SweepPlays.{played_two, line_cut, unarmed_is}
 use Rattle.mc_lab.proofs.SweepHits.{line_hit}
 use Rattle.mc_model_device.proofs.BoolLemmas.{and_true}
@@ -21,11 +21,11 @@ module _ (p : Place) (open_line : IsUnarmedLine p) where
   at_front = unarmed_is (armed_stop_in (state_on_blank (front_of p))) open_line.unarmed
 
   -- a cut hits exactly the writes of the line
-  pub hit_cut : (k : ℕ) (fill : List ℕ) → 1 ≤ k → hit_in p (behind.Cut k fill) ≡ nat_le k (writes_in p)
+  pub hit_cut : (k : ℕ) (fill : List ℕ) → 1 ≤ k → hit_in p (trial.Cut k fill) ≡ nat_le k (writes_in p)
   hit_cut k fill low = line_hit (state_on_blank (front_of p)) (line_in p) (line_in p).0 k fill at_front open_line.card low
 
   -- a cut in the recovery after it hits exactly the writes of the recovery
-  pub hit_again : (k : ℕ) (fill : List ℕ) (j : ℕ) → 1 ≤ k → k ≤ writes_in p → OpensNoGate fill → 1 ≤ j → hit_in p (behind.Twice k fill j) ≡ nat_le j (again_in p k fill)
+  pub hit_again : (k : ℕ) (fill : List ℕ) (j : ℕ) → 1 ≤ k → k ≤ writes_in p → OpensNoGate fill → 1 ≤ j → hit_in p (trial.Twice k fill j) ≡ nat_le j (again_in p k fill)
   hit_again k fill j low high shuts first =
       let l = line_in p in
       let c = line_cut (state_on_blank (front_of p)) l l.0 k fill at_front open_line.card shuts low high in
@@ -72,16 +72,16 @@ same_append t (x ∷ xs) ys = ap (λ (b : Bool). is_same x t && b) (same_append 
 -- the states of the recoveries that were cut already
 pub record Recovering (p : Place) (k : ℕ) (fill : List ℕ) (first : ReportedState) (made : ℕ) (same : Bool) : Type 0 where
   pub within : made ≤ again_in p k fill
-  pub is : same ≡ all_same first (map (λ j. state_at_place p (behind.Twice k fill j)) (count_from 1 made))
+  pub is : same ≡ all_same first (map (λ j. state_at_place p (trial.Twice k fill j)) (count_from 1 made))
 
 pub recovering_none : (p : Place) (k : ℕ) (fill : List ℕ) (first : ReportedState) → Recovering p k fill first 0 true
 recovering_none p k fill first = record { within = omega arith; is = refl }
 
 pub recovering_more : (p : Place) (k : ℕ) (fill : List ℕ) (first now : ReportedState) (made : ℕ) (same now_same hit : Bool) → Recovering p k fill first made same
-    → hit ≡ nat_le (made + 1) (again_in p k fill) → hit ≡ true → now ≡ state_at_place p (behind.Twice k fill (made + 1)) → now_same ≡ is_same now first
+    → hit ≡ nat_le (made + 1) (again_in p k fill) → hit ≡ true → now ≡ state_at_place p (trial.Twice k fill (made + 1)) → now_same ≡ is_same now first
     → Recovering p k fill first (made + 1) (now_same && same)
 recovering_more p k fill first now made same now_same hit r test is_hit is test_same =
-    let f = λ (j : ℕ). state_at_place p (behind.Twice k fill j) in
+    let f = λ (j : ℕ). state_at_place p (trial.Twice k fill j) in
     record {
       within = leb-true (made + 1) (again_in p k fill) (sym test ∙ is_hit);
       is =
@@ -101,8 +101,8 @@ pub record Recovered (p : Place) (k : ℕ) (fill : List ℕ) (first : ReportedSt
 recovered_all : (p : Place) (k : ℕ) (fill : List ℕ) (first : ReportedState) (made : ℕ) (same : Bool) → Recovering p k fill first made same → made ≡ again_in p k fill → Recovered p k fill first made same
 recovered_all p k fill first made same r e =
     record {
-      same_as = r.is ∙ ap (λ (n : ℕ). all_same first (map (λ j. state_at_place p (behind.Twice k fill j)) (count_from 1 n))) e;
-      count = e ∙ sym (counted_length (λ j. state_at_place p (behind.Twice k fill j)) (again_in p k fill));
+      same_as = r.is ∙ ap (λ (n : ℕ). all_same first (map (λ j. state_at_place p (trial.Twice k fill j)) (count_from 1 n))) e;
+      count = e ∙ sym (counted_length (λ j. state_at_place p (trial.Twice k fill j)) (again_in p k fill));
     }
 
 pub recovered_missed : (p : Place) (k : ℕ) (fill : List ℕ) (first : ReportedState) (made : ℕ) (same hit : Bool) → Recovering p k fill first made same
@@ -120,21 +120,21 @@ recovered_last p k fill first made most same r last few =
 -- ---- one write
 
 -- the word and the number of plays of a write
-pub record TriedAs (p : Place) (k : ℕ) (w : Word) (n : ℕ) : Type 0 where
+pub record TriedAs (p : Place) (k : ℕ) (w : SweepWord) (n : ℕ) : Type 0 where
   pub word : w ≡ (cut_write_at p k).word
   pub plays : n ≡ (cut_write_at p k).plays
 
 pub tried_as : (p : Place) (k : ℕ) (first before after now : ReportedState) (zeros_same ones_first ones_same : Bool) (n m : ℕ)
-    → first ≡ state_at_place p (behind.Cut k (zeros 8)) → before ≡ state_at_place p behind.Nothing → after ≡ state_at_place p behind.Whole → now ≡ state_at_place p (behind.Cut k ones)
+    → first ≡ state_at_place p (trial.Cut k (zeros 8)) → before ≡ state_at_place p trial.Nothing → after ≡ state_at_place p trial.Whole → now ≡ state_at_place p (trial.Cut k ones)
     → zeros_same ≡ all_same first (recovery_states_at p k (zeros 8)) → ones_first ≡ is_same now first → ones_same ≡ all_same first (recovery_states_at p k ones)
     → n ≡ length (recovery_states_at p k (zeros 8)) → m ≡ length (recovery_states_at p k ones)
     → TriedAs p k (word_with (zeros_same && (ones_first && ones_same)) (is_same first before) (is_same first after)) (2 + n + m)
 unfolding cut_write
 tried_as p k first before after now zeros_same ones_first ones_same n m first_is before_is after_is now_is zs o os zn on =
-    let t = state_at_place p (behind.Cut k (zeros 8)) in
-    let u = state_at_place p (behind.Cut k ones) in
-    let b = state_at_place p behind.Nothing in
-    let a = state_at_place p behind.Whole in
+    let t = state_at_place p (trial.Cut k (zeros 8)) in
+    let u = state_at_place p (trial.Cut k ones) in
+    let b = state_at_place p trial.Nothing in
+    let a = state_at_place p trial.Whole in
     let xs = recovery_states_at p k (zeros 8) in
     let ys = recovery_states_at p k ones in
     let long : length (xs ++ u ∷ ys) ≡ length xs + (1 + length ys) = length-append xs (u ∷ ys) ∙ ap (λ (i : ℕ). length xs + i) (let e : length (u ∷ ys) ≡ 1 + length ys = omega arith in e) in
@@ -152,10 +152,10 @@ tried_as p k first before after now zeros_same ones_first ones_same n m first_is
     }
 
 -- a cut that hit, and one that did not
-pub hit_within : (p : Place) (k : ℕ) (hit : Bool) → IsUnarmedLine p → 1 ≤ k → (fill : List ℕ) → hit ≡ hit_in p (behind.Cut k fill) → hit ≡ true → k ≤ writes_in p
+pub hit_within : (p : Place) (k : ℕ) (hit : Bool) → IsUnarmedLine p → 1 ≤ k → (fill : List ℕ) → hit ≡ hit_in p (trial.Cut k fill) → hit ≡ true → k ≤ writes_in p
 hit_within p k hit open_line low fill is hits_it = leb-true k (writes_in p) (sym (is ∙ hit_cut p open_line k fill low) ∙ hits_it)
 
-pub missed_past : (p : Place) (k : ℕ) (hit : Bool) → IsUnarmedLine p → 1 ≤ k → (fill : List ℕ) → hit ≡ hit_in p (behind.Cut k fill) → hit ≡ false → writes_in p < k
+pub missed_past : (p : Place) (k : ℕ) (hit : Bool) → IsUnarmedLine p → 1 ≤ k → (fill : List ℕ) → hit ≡ hit_in p (trial.Cut k fill) → hit ≡ false → writes_in p < k
 missed_past p k hit open_line low fill is misses_it =
     let past : nat_le k (writes_in p) ≡ false = sym (is ∙ hit_cut p open_line k fill low) ∙ misses_it in
     grind (arith, nat_tests)
@@ -173,16 +173,16 @@ plays_more [] t = omega arith
 plays_more (u ∷ us) t = let e = plays_more us t in omega (arith, e)
 
 -- the words and the number of plays of the writes that were cut already
-pub record Sweeping (p : Place) (i : ℕ) (words : List Word) (plays : ℕ) : Type 0 where
+pub record Sweeping (p : Place) (i : ℕ) (words : List SweepWord) (plays : ℕ) : Type 0 where
   pub within : i ≤ writes_in p
   pub words_are : take i words ≡ map (λ t. t.word) (map (cut_write_at p) (count_from 1 i))
   pub plays_are : plays ≡ plays_of (map (cut_write_at p) (count_from 1 i))
   pub few_plays : plays ≤ 131072 * i
 
-pub sweeping_none : (p : Place) (words : List Word) → Sweeping p 0 words 0
+pub sweeping_none : (p : Place) (words : List SweepWord) → Sweeping p 0 words 0
 sweeping_none p words = record { within = omega arith; words_are = refl; plays_are = refl; few_plays = omega arith }
 
-pub sweeping_more : (p : Place) (i : ℕ) (words : List Word) (plays : ℕ) (w : Word) (n : ℕ) → Sweeping p i words plays → i < length words → i + 1 ≤ writes_in p
+pub sweeping_more : (p : Place) (i : ℕ) (words : List SweepWord) (plays : ℕ) (w : SweepWord) (n : ℕ) → Sweeping p i words plays → i < length words → i + 1 ≤ writes_in p
     → w ≡ (cut_write_at p (i + 1)).word → n ≡ (cut_write_at p (i + 1)).plays → n ≤ 131072 → Sweeping p (i + 1) (slice_set words i w) (plays + n)
 sweeping_more p i words plays w n s lt within w_is n_is few =
     let more = map_more (cut_write_at p) i in
@@ -193,8 +193,8 @@ sweeping_more p i words plays w n s lt within w_is n_is few =
       within = within;
       words_are =
           take_set i words w lt
-          ∙ ap (λ (l : List Word). l ++ w ∷ []) s.words_are
-          ∙ ap (λ (x : Word). map (λ t. t.word) (map (cut_write_at p) (count_from 1 i)) ++ x ∷ []) w_is
+          ∙ ap (λ (l : List SweepWord). l ++ w ∷ []) s.words_are
+          ∙ ap (λ (x : SweepWord). map (λ t. t.word) (map (cut_write_at p) (count_from 1 i)) ++ x ∷ []) w_is
           ∙ sym (map_append (λ t. t.word) (map (cut_write_at p) (count_from 1 i)) (cut_write_at p (i + 1) ∷ []))
           ∙ ap (λ (ts : List Tried). map (λ t. t.word) ts) (sym more);
       plays_are = (let e : plays + n ≡ plays_of (map (cut_write_at p) (count_from 1 i)) + (cut_write_at p (i + 1)).plays = omega (arith, so_far, n_is) in e) ∙ sym last ∙ ap plays_of (sym more);
@@ -202,12 +202,12 @@ sweeping_more p i words plays w n s lt within w_is n_is few =
     }
 
 -- the words and the number of plays of all writes of a line
-pub record SweptAs (p : Place) (n : ℕ) (words : List Word) (plays : ℕ) : Type 0 where
+pub record SweptAs (p : Place) (n : ℕ) (words : List SweepWord) (plays : ℕ) : Type 0 where
   pub writes : n ≡ writes_in p
   pub words_are : take n words ≡ map (λ t. t.word) (map (cut_write_at p) (count_from 1 (writes_in p)))
   pub plays_are : plays ≡ plays_of (map (cut_write_at p) (count_from 1 (writes_in p)))
 
-pub swept_as : (p : Place) (n : ℕ) (words : List Word) (plays : ℕ) → Sweeping p n words plays → n ≡ writes_in p → SweptAs p n words plays
+pub swept_as : (p : Place) (n : ℕ) (words : List SweepWord) (plays : ℕ) → Sweeping p n words plays → n ≡ writes_in p → SweptAs p n words plays
 swept_as p n words plays s e =
     record {
       writes = e;

@@ -27,11 +27,11 @@ use Rattle.mc_script.specs.Lines.{LineDone}
 use Rattle.mc_model_device.proofs.ImageLemmas.{length_laid as laid-size}
 use Rattle.mc_lab.specs.Sweeps.{steady_step, state_on_blank, state_after_lines, state_after_power, state_by_result, Holds, static_bytes_under, running_apps, running_in, cut_statement, under_cut}
 use Rattle.mc_lab.specs.SweepLaws.{is_off}
-use Rattle.mc_lab.specs.SweepBodies.{state_by_fault, next, lines_behind, hits, front_of, line_in, names_in, state_at_place, hit_in, again_in, IsFewBehind}
-use Rattle.mc_lab.specs.SweepPlayers.{fault_in, most_in, off_in, BehindOn, CutOn, IsSteadyAt, LineOn}
-use Rattle.mc_lab.specs.declared.sweep_trial.Behind.{Behind}
+use Rattle.mc_lab.specs.SweepBodies.{state_by_fault, next, trial_lines, hits, front_of, line_in, names_in, state_at_place, hit_in, again_in, IsRecoveryBound}
+use Rattle.mc_lab.specs.SweepPlayers.{fault_in, most_in, off_in, TrialOn, CutOn, IsSteadyAt, LineOn}
+use Rattle.mc_lab.specs.declared.sweep_trial.TrialLines.{TrialLines}
 use Rattle.mc_lab.specs.declared.sweep_trial.Place.{Place}
-use Rattle.mc_lab.specs.declared.sweep_trial.Behind.TheVariants as behind
+use Rattle.mc_lab.specs.declared.sweep_trial.TrialLines.TheVariants as trial
 use Rattle.mc_lab.proofs.SweepPlays.{played_one, played_two}
 use Rattle.mc_lab.proofs.SweepLoops.{take_set, map_append}
 
@@ -218,16 +218,16 @@ module _ {N : Type 0} (state : N → DeviceState) (bench : N → BenchState) whe
   at_lines : (q : Player N) (s t : State) → t ≡ s → IsSteadyAt state bench q s → IsSteadyAt state bench q t
   at_lines q s t e h = subst (λ (u : State). IsSteadyAt state bench q u) (sym e) h
 
-  pub nothing_on : (p : Player N) (hit : Bool) → hit ≡ true → (front : List (ℕ × DeckLine)) (l : ℕ × DeckLine) → IsSteadyAt state bench p (state_on_blank front) → BehindOn state bench front l behind.Nothing hit p
+  pub nothing_on : (p : Player N) (hit : Bool) → hit ≡ true → (front : List (ℕ × DeckLine)) (l : ℕ × DeckLine) → IsSteadyAt state bench p (state_on_blank front) → TrialOn state bench front l trial.Nothing hit p
   nothing_on p hit is front l h = record { at = h; says = is }
 
   pub whole_on : (q : Player N) (l : DeckLine) (a : Option Answer) (p : Player N) (hit : Bool) → hit ≡ true → ((s : State) (n : ℕ) → IsSteadyAt state bench p s → LineOn state bench s (n, l) a q)
-      → (front : List (ℕ × DeckLine)) (n : ℕ) → IsSteadyAt state bench p (state_on_blank front) → BehindOn state bench front (n, l) behind.Whole hit q
+      → (front : List (ℕ × DeckLine)) (n : ℕ) → IsSteadyAt state bench p (state_on_blank front) → TrialOn state bench front (n, l) trial.Whole hit q
   whole_on q l a p hit is on front n h =
       record { at = at_lines q (next (state_on_blank front) (n, l)) (state_on_blank (front ++ (n, l) ∷ [])) (played_one front (n, l)) (on (state_on_blank front) n h).at; says = is }
 
   pub cut_behind : (p q : Player N) (l : DeckLine) (k : ℕ) (fill : List ℕ) (hit : Bool) → ((s : State) (i n : ℕ) → IsSteadyAt state bench p s → CutOn state bench s (n, l) i k fill hit q)
-      → (front : List (ℕ × DeckLine)) (n : ℕ) → IsSteadyAt state bench p (state_on_blank front) → BehindOn state bench front (n, l) (behind.Cut k fill) hit q
+      → (front : List (ℕ × DeckLine)) (n : ℕ) → IsSteadyAt state bench p (state_on_blank front) → TrialOn state bench front (n, l) (trial.Cut k fill) hit q
   cut_behind p q l k fill hit on front n h =
       let c = on (state_on_blank front) n n h in
       record { at = at_lines q (next (next (state_on_blank front) (cut_statement n k fill)) (n, l)) (state_on_blank (front ++ cut_statement n k fill ∷ (n, l) ∷ [])) (played_two front (cut_statement n k fill) (n, l)) c.at; says = c.says }
@@ -235,7 +235,7 @@ module _ {N : Type 0} (state : N → DeviceState) (bench : N → BenchState) whe
   pub twice_behind : (p m q : Player N) (l : DeckLine) (k : ℕ) (fill : List ℕ) (again : ℕ) (first hit : Bool)
       → ((s : State) (i n : ℕ) → IsSteadyAt state bench p s → CutOn state bench s (n, l) i k fill first m)
       → ((s : State) (i n : ℕ) → IsSteadyAt state bench m s → CutOn state bench s (n, line.Power) i again fill hit q)
-      → (front : List (ℕ × DeckLine)) (n : ℕ) → IsSteadyAt state bench p (state_on_blank front) → BehindOn state bench front (n, l) (behind.Twice k fill again) hit q
+      → (front : List (ℕ × DeckLine)) (n : ℕ) → IsSteadyAt state bench p (state_on_blank front) → TrialOn state bench front (n, l) (trial.Twice k fill again) hit q
   twice_behind p m q l k fill again first hit one two front n h =
       let b = cut_behind p m l k fill first one front n h in
       let lines = front ++ cut_statement n k fill ∷ (n, l) ∷ [] in
@@ -307,15 +307,15 @@ module _ {N : Type 0} (state : N → DeviceState) (bench : N → BenchState) whe
 
   -- ---- one play
 
-  module _ (p : Place) (b : Behind) (x : ℕ × DeckLine) (here : slice_get p.deck.now p.at ≡ Some x) (hit : Bool) (m : Player N) (behind_on : BehindOn state bench (front_of p) x b hit m) where
+  module _ (p : Place) (b : TrialLines) (x : ℕ × DeckLine) (here : slice_get p.deck.now p.at ≡ Some x) (hit : Bool) (m : Player N) (behind_on : TrialOn state bench (front_of p) x b hit m) where
     line_is : x ≡ line_in p
     line_is = sym (got_or p.deck.now p.at (0, line.Named) x here)
 
     pub trial_reported : (q : Player N) (a : Option Answer) (f : Option Unusable) (held : List (Option (List ℕ))) → ((s : State) (n : ℕ) → IsSteadyAt state bench m s → LineOn state bench s (n, line.Power) a q)
         → f ≡ fault_in a → held ≡ map (statics_in state q) (names_in p) → state_by_fault f held ≡ state_at_place p b
     trial_reported q a f held on f_is held_is =
-        let ls = lines_behind (front_of p) x b in
-        reported_on q ls (names_in p) a f held (on (state_on_blank ls) 0 behind_on.at) f_is held_is ∙ ap (λ (l : ℕ × DeckLine). state_after_power (names_in p) (lines_behind (front_of p) l b)) line_is
+        let ls = trial_lines (front_of p) x b in
+        reported_on q ls (names_in p) a f held (on (state_on_blank ls) 0 behind_on.at) f_is held_is ∙ ap (λ (l : ℕ × DeckLine). state_after_power (names_in p) (trial_lines (front_of p) l b)) line_is
 
     pub trial_hit : hit ≡ hit_in p b
     trial_hit = behind_on.says ∙ ap (λ (l : ℕ × DeckLine). hits (front_of p) l b) line_is
@@ -324,20 +324,20 @@ module _ {N : Type 0} (state : N → DeviceState) (bench : N → BenchState) whe
   abbrev PowerOn : Player N → Player N → Option Answer → Type 0
   PowerOn m q a = (s : State) (n : ℕ) → IsSteadyAt state bench m s → LineOn state bench s (n, line.Power) a q
 
-  few_cut : (p : Place) (k : ℕ) (fill : List ℕ) (hit : Bool) (m q : Player N) (a : Option Answer) → PowerOn m q a → BehindOn state bench (front_of p) (line_in p) (behind.Cut k fill) hit m → again_in p k fill ≤ most_in a
+  few_cut : (p : Place) (k : ℕ) (fill : List ℕ) (hit : Bool) (m q : Player N) (a : Option Answer) → PowerOn m q a → TrialOn state bench (front_of p) (line_in p) (trial.Cut k fill) hit m → again_in p k fill ≤ most_in a
   few_cut p k fill hit m q a power_on on =
       let s = state_on_blank (under_cut (front_of p) (line_in p) k fill) in
       power_most m s (line_in p).0 q a on.at (power_on s 0 on.at).answers
 
-  few_by : (p : Place) (b : Behind) (hit : Bool) (m q : Player N) (a : Option Answer) → PowerOn m q a → BehindOn state bench (front_of p) (line_in p) b hit m → IsFewBehind p b (most_in a)
-  few_by p behind.Nothing hit m q a power_on on = tt
-  few_by p behind.Whole hit m q a power_on on = tt
-  few_by p (behind.Cut k fill) hit m q a power_on on = few_cut p k fill hit m q a power_on on
-  few_by p (behind.Twice k fill again) hit m q a power_on on = tt
+  few_by : (p : Place) (b : TrialLines) (hit : Bool) (m q : Player N) (a : Option Answer) → PowerOn m q a → TrialOn state bench (front_of p) (line_in p) b hit m → IsRecoveryBound p b (most_in a)
+  few_by p trial.Nothing hit m q a power_on on = tt
+  few_by p trial.Whole hit m q a power_on on = tt
+  few_by p (trial.Cut k fill) hit m q a power_on on = few_cut p k fill hit m q a power_on on
+  few_by p (trial.Twice k fill again) hit m q a power_on on = tt
 
-  pub trial_few : (p : Place) (b : Behind) (x : ℕ × DeckLine) → slice_get p.deck.now p.at ≡ Some x → (hit : Bool) (m q : Player N) (a : Option Answer) → PowerOn m q a → BehindOn state bench (front_of p) x b hit m → IsFewBehind p b (most_in a)
+  pub trial_few : (p : Place) (b : TrialLines) (x : ℕ × DeckLine) → slice_get p.deck.now p.at ≡ Some x → (hit : Bool) (m q : Player N) (a : Option Answer) → PowerOn m q a → TrialOn state bench (front_of p) x b hit m → IsRecoveryBound p b (most_in a)
   trial_few p b x here hit m q a power_on on =
-      few_by p b hit m q a power_on (subst (λ (l : ℕ × DeckLine). BehindOn state bench (front_of p) l b hit m) (sym (got_or p.deck.now p.at (0, line.Named) x here)) on)
+      few_by p b hit m q a power_on (subst (λ (l : ℕ × DeckLine). TrialOn state bench (front_of p) l b hit m) (sym (got_or p.deck.now p.at (0, line.Named) x here)) on)
 
 -- ---- the static bytes under names
 

@@ -14,8 +14,8 @@ use Rattle.mc_model_play.specs.Play.{Unarmed, State, AfterPower, moves_of, armed
 use Rattle.mc_model_device.specs.PowerUp.{Base, OnCard}
 use Rattle.mc_model_play.specs.DeckGrammar.{DeckLine}
 use Rattle.mc_lab.specs.Sweeps.{state_on_blank, ReportedState, Holds, NoCard, static_bytes_under, are_same_held, state_after_power, is_same, word_by, word_if, word_of, all_same, ones, cut_statement, power, under_cut, under_cuts, writes_behind, recovery_states, cut_write, is_unarmed, is_swept}
-use Rattle.mc_lab.specs.declared.sweep_word.Word.{Word}
-use Rattle.mc_lab.specs.declared.sweep_word.Word.TheVariants.{Before, After, Same}
+use Rattle.mc_lab.specs.declared.sweep_word.SweepWord.{SweepWord}
+use Rattle.mc_lab.specs.declared.sweep_word.SweepWord.TheVariants.{Before, After, Same}
 use Rattle.mc_lab.specs.SweepLaws.{count_of_changes, opening_write, items_behind, changing_behind, opening_behind}
 use Rattle.mc_lab.proofs.SweepPlays.{next, played_one, played_two, base_in, shown, reported_lines, base_done, shown_none, zeros_shut, ones_shut, CutTo, line_cut, line_whole, power_items, items_on, unarmed_is}
 use Rattle.mc_lab.specs.SweepBodies.{OpensNoGate}
@@ -119,7 +119,7 @@ module _ (names : List (List ℕ)) (front : List (ℕ × DeckLine)) (l : ℕ × 
 
   -- ---- by the items that change the observed state
 
-  abbrev word_at : ℕ → Word
+  abbrev word_at : ℕ → SweepWord
   word_at k = (cut_write names front l (state_after_power names front) (state_after_power names (front ++ l ∷ [])) k).word
 
   -- a line without items

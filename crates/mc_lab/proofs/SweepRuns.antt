@@ -4,10 +4,10 @@ use Rattle.std.specs.List.{AllByRecursion}
 use Rattle.std.proofs.Common.{arith, ap, inl, inr, ◌∙◌}
 use Rattle.std.proofs.lemmas.Bool.{cases_lt}
 use Rattle.mc_lab.specs.Sweeps.{Tried, count_from, Run, is_word, with_write, runs}
-use Rattle.mc_lab.specs.declared.sweep_word.Word.{Word}
-use Rattle.mc_lab.specs.declared.sweep_word.Word.TheVariants.{Before, After, Same, Between, Torn}
+use Rattle.mc_lab.specs.declared.sweep_word.SweepWord.{SweepWord}
+use Rattle.mc_lab.specs.declared.sweep_word.SweepWord.TheVariants.{Before, After, Same, Between, Torn}
 
-pub word_itself : (w : Word) → is_word w w ≡ true
+pub word_itself : (w : SweepWord) → is_word w w ≡ true
 word_itself Before = refl
 word_itself After = refl
 word_itself Same = refl
@@ -15,18 +15,18 @@ word_itself Between = refl
 word_itself Torn = refl
 
 -- the words of some writes
-abbrev pub words : List Tried → List Word
+abbrev pub words : List Tried → List SweepWord
 words ts = map (λ t. t.word) ts
 
 -- ---- a property of each write is one of each run
 
-module _ (P : Word → Type 0) where
-  joined_all : (b : Bool) (k : ℕ) (w : Word) (r : Run) (rs : List Run) → P w → P r.word → AllByRecursion (λ r. P r.word) rs
+module _ (P : SweepWord → Type 0) where
+  joined_all : (b : Bool) (k : ℕ) (w : SweepWord) (r : Run) (rs : List Run) → P w → P r.word → AllByRecursion (λ r. P r.word) rs
       → AllByRecursion (λ r. P r.word) (cond b (record r { first = k } ∷ rs) (record { first = k; last = k; word = w } ∷ r ∷ rs))
   joined_all true k w r rs here first rest = (first, rest)
   joined_all false k w r rs here first rest = (here, (first, rest))
 
-  with_all : (k : ℕ) (w : Word) (rs : List Run) → P w → AllByRecursion (λ r. P r.word) rs → AllByRecursion (λ r. P r.word) (with_write k w rs)
+  with_all : (k : ℕ) (w : SweepWord) (rs : List Run) → P w → AllByRecursion (λ r. P r.word) rs → AllByRecursion (λ r. P r.word) (with_write k w rs)
   with_all k w [] here all = (here, tt)
   with_all k w (r ∷ rs) here all = joined_all (is_word w r.word) k w r rs here all.0 all.1
 
@@ -41,15 +41,15 @@ all_counted Q f k (suc n) h = (h k (omega arith) (omega arith), all_counted Q f 
 
 -- ---- writes of one word, and of two
 
-pub with_same : (k last : ℕ) (v w : Word) (rs : List Run) → v ≡ w → with_write k v (record { first = k + 1; last = last; word = w } ∷ rs) ≡ record { first = k; last = last; word = w } ∷ rs
+pub with_same : (k last : ℕ) (v w : SweepWord) (rs : List Run) → v ≡ w → with_write k v (record { first = k + 1; last = last; word = w } ∷ rs) ≡ record { first = k; last = last; word = w } ∷ rs
 with_same k last v w rs e =
-    ap (λ (x : Word). with_write k x (record { first = k + 1; last = last; word = w } ∷ rs)) e
+    ap (λ (x : SweepWord). with_write k x (record { first = k + 1; last = last; word = w } ∷ rs)) e
     ∙ ap (λ (b : Bool). cond b (record { first = k; last = last; word = w } ∷ rs) (record { first = k; last = k; word = w } ∷ record { first = k + 1; last = last; word = w } ∷ rs)) (word_itself w)
 
 module _ (f : ℕ → Tried) where
-  pub runs_all : (w : Word) (n k : ℕ) → ((j : ℕ) → k ≤ j → j < k + suc n → (f j).word ≡ w) → runs k (words (map f (count_from k (suc n)))) ≡ record { first = k; last = k + n; word = w } ∷ []
+  pub runs_all : (w : SweepWord) (n k : ℕ) → ((j : ℕ) → k ≤ j → j < k + suc n → (f j).word ≡ w) → runs k (words (map f (count_from k (suc n)))) ≡ record { first = k; last = k + n; word = w } ∷ []
   runs_all w zero k h =
-      ap (λ (x : Word). record { first = k; last = k; word = x } ∷ []) (h k (omega arith) (omega arith))
+      ap (λ (x : SweepWord). record { first = k; last = k; word = x } ∷ []) (h k (omega arith) (omega arith))
       ∙ ap (λ (i : ℕ). record { first = k; last = i; word = w } ∷ []) (let e : k ≡ k + 0 = omega arith in e)
   runs_all w (suc n) k h =
       ap (λ (rs : List Run). with_write k (f k).word rs) (runs_all w n (k + 1) (λ j low high. h j (omega arith) (omega arith)))
@@ -68,7 +68,7 @@ module _ (f : ℕ → Tried) where
     | inr here ↦
         let is : k ≡ g = omega arith in
         ap (λ (rs : List Run). with_write k (f k).word rs) (runs_all After n (k + 1) (λ j l h. after j (omega arith) (omega arith)))
-        ∙ ap (λ (w : Word). with_write k w (record { first = k + 1; last = k + 1 + n; word = After } ∷ [])) (before k (omega arith) low)
+        ∙ ap (λ (w : SweepWord). with_write k w (record { first = k + 1; last = k + 1 + n; word = After } ∷ [])) (before k (omega arith) low)
         ∙ ap (λ (i : ℕ). record { first = k; last = k; word = Before } ∷ record { first = k + 1; last = i; word = After } ∷ []) (let e : k + 1 + n ≡ k + suc n = omega arith in e)
         ∙ ap (λ (i : ℕ). record { first = k; last = i; word = Before } ∷ record { first = i + 1; last = k + suc n; word = After } ∷ []) is
   ]

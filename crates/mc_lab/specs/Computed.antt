@@ -21,7 +21,7 @@ use Rattle.mc_model_card.specs.Commands.{command}
 use Rattle.mc_model_play.specs.DeckGrammar.{DeckLine, deck_read}
 use Rattle.mc_explore.specs.Matching.{fits}
 use Rattle.mc_lab.specs.Remarks.{remarks}
-use Rattle.mc_lab.specs.Expectations.{Trial, TrialFault, trial_read, expect_text, steady_from, steady_steps}
+use Rattle.mc_lab.specs.Expectations.{ExpectedDeck, ExpectationFault, expected_deck_read, expect_text, steady_from, steady_steps}
 
 -- the play of a deck on a blank device of the laboratory
 unfoldable pub blank_steps : List (ℕ × DeckLine) → List Step
@@ -29,11 +29,11 @@ unfolding steady_from name_of apdu_read touched_words des_encipher des_decipher 
 blank_steps ls = steady_steps (blank_words device_words) ls
 
 -- the report of the expectations of a deck
-abbrev pub expectations_text : Result Trial TrialFault → Result (List ℕ) TrialFault
+abbrev pub expectations_text : Result ExpectedDeck ExpectationFault → Result (List ℕ) ExpectationFault
 expectations_text (Ok t) = Ok (expect_text (blank_steps t.lines) t.expected)
 expectations_text (Err e) = Err e
 
 -- the report of the expectations of a deck's text on a blank device
-unfoldable pub expectation_report : List ℕ → Result (List ℕ) TrialFault
-unfolding deck_read fits remarks trial_read expect_text blank_steps digits
-expectation_report text = expectations_text (trial_read text)
+unfoldable pub expectation_report : List ℕ → Result (List ℕ) ExpectationFault
+unfolding deck_read fits remarks expected_deck_read expect_text blank_steps digits
+expectation_report text = expectations_text (expected_deck_read text)

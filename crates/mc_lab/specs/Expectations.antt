@@ -58,37 +58,37 @@ first_unanswered ls [] = None
 first_unanswered ls (e ∷ es) = cond (is_answered (last_below line_number e.number ls)) (first_unanswered ls es) (Some e.number)
 
 -- a deck and its expectations
-pub record Trial : Type 0 where
+pub record ExpectedDeck : Type 0 where
   pub lines : List (ℕ × DeckLine)
   pub expected : List Remark
 
 -- why a text is not a deck with expectations: the refusal of its deck, an expectation without a result, or no
 -- expectation at all
-pub data TrialFault : Type 0 where
-  DeckFault : ℕ → DeckCause → TrialFault
-  NoAnswer : ℕ → TrialFault
-  NoExpectation : TrialFault
+pub data ExpectationFault : Type 0 where
+  DeckFault : ℕ → DeckCause → ExpectationFault
+  NoAnswer : ℕ → ExpectationFault
+  NoExpectation : ExpectationFault
 
 -- a deck and its expectations, of which there is one at least
-abbrev pub trial_with : List (ℕ × DeckLine) → List Remark → Result Trial TrialFault
-trial_with ls [] = Err NoExpectation
-trial_with ls (e ∷ es) = Ok (record { lines = ls; expected = e ∷ es })
+abbrev pub expected_deck_with : List (ℕ × DeckLine) → List Remark → Result ExpectedDeck ExpectationFault
+expected_deck_with ls [] = Err NoExpectation
+expected_deck_with ls (e ∷ es) = Ok (record { lines = ls; expected = e ∷ es })
 
 -- a deck and its expectations, unless one of them has no result
-abbrev pub trial_unless : List (ℕ × DeckLine) → List Remark → Option ℕ → Result Trial TrialFault
-trial_unless ls es None = trial_with ls es
-trial_unless ls es (Some n) = Err (NoAnswer n)
+abbrev pub expected_deck_unless : List (ℕ × DeckLine) → List Remark → Option ℕ → Result ExpectedDeck ExpectationFault
+expected_deck_unless ls es None = expected_deck_with ls es
+expected_deck_unless ls es (Some n) = Err (NoAnswer n)
 
 -- a deck with its expectations, if the deck was read
-abbrev pub trial_of : List Remark → Result (List (ℕ × DeckLine)) (ℕ × DeckCause) → Result Trial TrialFault
-trial_of es (Ok ls) = trial_unless ls es (first_unanswered ls es)
-trial_of es (Err e) = Err (DeckFault e.0 e.1)
+abbrev pub expected_deck_of : List Remark → Result (List (ℕ × DeckLine)) (ℕ × DeckCause) → Result ExpectedDeck ExpectationFault
+expected_deck_of es (Ok ls) = expected_deck_unless ls es (first_unanswered ls es)
+expected_deck_of es (Err e) = Err (DeckFault e.0 e.1)
 
 -- the deck and the expectations of a text: the refusals of the deck come first, and that of a deck without an
 -- expectation last
-unfoldable pub trial_read : List ℕ → Result Trial TrialFault
+unfoldable pub expected_deck_read : List ℕ → Result ExpectedDeck ExpectationFault
 unfolding remarks deck_read
-trial_read text = trial_of (remarks mark.Expectation text) (deck_read text)
+expected_deck_read text = expected_deck_of (remarks mark.Expectation text) (deck_read text)
 
 -- ---- the report
 

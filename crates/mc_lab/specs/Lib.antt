@@ -5,13 +5,12 @@ pub use Rattle.mc_model_play.specs.Transcript
 pub use Rattle.mc_asm.specs.Passes
 pub use Rattle.mc_script.specs.Players
 pub use Rattle.mc_explore.specs.Matching
-pub mod Walks
 pub mod Rising
 pub mod Remarks
 pub mod Remarked
 pub mod Expectations
 pub mod Scanning
-pub mod Trials
+pub mod ExpectedDecks
 pub mod Stages
 pub mod Judged
 pub mod Computed
@@ -19,5 +18,6 @@ pub mod Sweeps
 pub mod SweepLaws
 pub mod SweepBodies
 pub mod SweepPlayers
+pub mod Benches
 pub mod SweepEnds
 pub mod SweptRows

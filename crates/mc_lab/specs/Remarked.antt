@@ -1,6 +1,5 @@
 -- Lines and remarks as the code has them.
 use Rattle.std.specs.Prelude.{ℕ, List, [], map, Option, None, Some}
-use Rattle.mc_model_machine.specs.Text.{first_cut, is_blank, trim_front}
 use Rattle.mc_asm.specs.declared.line.NumberedLine.{NumberedLine}
 use Rattle.mc_lab.specs.Remarks as model
 use Rattle.mc_lab.specs.declared.remark.Remark.{Remark}
@@ -25,12 +24,3 @@ remark_values rs = map remark_value rs
 -- the number of a remark's line
 abbrev pub remark_number : model.Remark → ℕ
 remark_number r = r.number
-
--- the text after a cut, empty if there is none
-abbrev pub or_nothing : Option (List ℕ) → List ℕ
-or_nothing None = []
-or_nothing (Some t) = t
-
--- the first field of a line, empty if it has none, and the text after the blank at its end
-abbrev pub first_field : List ℕ → List ℕ × Option (List ℕ)
-first_field l = first_cut is_blank (trim_front l)

@@ -6,12 +6,12 @@ use Rattle.mc_model_device.specs.Image.{opening, Two}
 use Rattle.mc_model_play.specs.Play.{State, armed_stop_in, is_card_line}
 use Rattle.mc_model_play.specs.DeckGrammar.{DeckLine}
 use Rattle.mc_model_play.specs.DeckGrammar as line
-use Rattle.mc_lab.specs.declared.sweep_word.Word.{Word}
+use Rattle.mc_lab.specs.declared.sweep_word.SweepWord.{SweepWord}
 use Rattle.mc_lab.specs.Sweeps.{word_if, word_by, recovery_states, state_after_power, Tried, cut_write, steady_step, state_on_blank, cut_statement, power, under_cut, under_cuts, writes_behind, is_unarmed, ReportedState, Holds, NoCard}
 use Rattle.mc_lab.specs.SweepLaws.{is_off}
 use Rattle.mc_lab.specs.declared.sweep_account.Account.{Account}
-use Rattle.mc_lab.specs.declared.sweep_trial.Behind.{Behind}
-use Rattle.mc_lab.specs.declared.sweep_trial.Behind.TheVariants as behind
+use Rattle.mc_lab.specs.declared.sweep_trial.TrialLines.{TrialLines}
+use Rattle.mc_lab.specs.declared.sweep_trial.TrialLines.TheVariants as trial
 use Rattle.mc_lab.specs.declared.sweep_trial.Place.{Place}
 use Rattle.mc_lab.specs.declared.sweep_line.Ends.{Ends}
 use Rattle.mc_lab.specs.declared.sweep_line.Pair.{Pair}
@@ -38,25 +38,25 @@ abbrev pub next : State → ℕ × DeckLine → State
 next s l = (steady_step s l).after
 
 -- the lines that are played of a deck up to a line, and of a cut in it
-abbrev pub lines_behind : List (ℕ × DeckLine) → ℕ × DeckLine → Behind → List (ℕ × DeckLine)
-lines_behind front l behind.Nothing = front
-lines_behind front l behind.Whole = front ++ l ∷ []
-lines_behind front l (behind.Cut k fill) = under_cut front l k fill
-lines_behind front l (behind.Twice k fill again) = under_cuts front l k fill again
+abbrev pub trial_lines : List (ℕ × DeckLine) → ℕ × DeckLine → TrialLines → List (ℕ × DeckLine)
+trial_lines front l trial.Nothing = front
+trial_lines front l trial.Whole = front ++ l ∷ []
+trial_lines front l (trial.Cut k fill) = under_cut front l k fill
+trial_lines front l (trial.Twice k fill again) = under_cuts front l k fill again
 
 -- whether the last cut hit its line
-abbrev pub hits : List (ℕ × DeckLine) → ℕ × DeckLine → Behind → Bool
-hits front l behind.Nothing = true
-hits front l behind.Whole = true
-hits front l (behind.Cut k fill) = is_off (steady_step (next (state_on_blank front) (cut_statement l.0 k fill)) l).result
-hits front l (behind.Twice k fill again) = is_off (steady_step (next (state_on_blank (under_cut front l k fill)) (cut_statement l.0 again fill)) (power l.0)).result
+abbrev pub hits : List (ℕ × DeckLine) → ℕ × DeckLine → TrialLines → Bool
+hits front l trial.Nothing = true
+hits front l trial.Whole = true
+hits front l (trial.Cut k fill) = is_off (steady_step (next (state_on_blank front) (cut_statement l.0 k fill)) l).result
+hits front l (trial.Twice k fill again) = is_off (steady_step (next (state_on_blank (under_cut front l k fill)) (cut_statement l.0 again fill)) (power l.0)).result
 
 -- the numbers of writes are counted from 1
-abbrev pub CanCut : Behind → Type 0
-CanCut behind.Nothing = Unit {0}
-CanCut behind.Whole = Unit {0}
-CanCut (behind.Cut k fill) = 1 ≤ k
-CanCut (behind.Twice k fill again) = (1 ≤ k) × (1 ≤ again)
+abbrev pub CanCut : TrialLines → Type 0
+CanCut trial.Nothing = Unit {0}
+CanCut trial.Whole = Unit {0}
+CanCut (trial.Cut k fill) = 1 ≤ k
+CanCut (trial.Twice k fill again) = (1 ≤ k) × (1 ≤ again)
 
 -- ---- places
 
@@ -81,11 +81,11 @@ abbrev pub IsPlace : Place → Type 0
 IsPlace p = p.at < length p.deck.now
 
 -- the observed state of a play of a place
-abbrev pub state_at_place : Place → Behind → ReportedState
-state_at_place p b = state_after_power (names_in p) (lines_behind (front_of p) (line_in p) b)
+abbrev pub state_at_place : Place → TrialLines → ReportedState
+state_at_place p b = state_after_power (names_in p) (trial_lines (front_of p) (line_in p) b)
 
 -- whether the last cut of a play of a place hit its line
-abbrev pub hit_in : Place → Behind → Bool
+abbrev pub hit_in : Place → TrialLines → Bool
 hit_in p b = hits (front_of p) (line_in p) b
 
 -- the number of device writes of the line
@@ -97,11 +97,11 @@ abbrev pub again_in : Place → ℕ → List ℕ → ℕ
 again_in p k fill = writes_behind (under_cut (front_of p) (line_in p) k fill) (power (line_in p).0)
 
 -- the recovery after a cut makes at most this many device writes
-abbrev pub IsFewBehind : Place → Behind → ℕ → Type 0
-IsFewBehind p behind.Nothing most = Unit {0}
-IsFewBehind p behind.Whole most = Unit {0}
-IsFewBehind p (behind.Cut k fill) most = again_in p k fill ≤ most
-IsFewBehind p (behind.Twice k fill again) most = Unit {0}
+abbrev pub IsRecoveryBound : Place → TrialLines → ℕ → Type 0
+IsRecoveryBound p trial.Nothing most = Unit {0}
+IsRecoveryBound p trial.Whole most = Unit {0}
+IsRecoveryBound p (trial.Cut k fill) most = again_in p k fill ≤ most
+IsRecoveryBound p (trial.Twice k fill again) most = Unit {0}
 
 -- the observed states after a cut in which the recovery is cut too
 abbrev pub recovery_states_at : Place → ℕ → List ℕ → List ReportedState
@@ -109,7 +109,7 @@ recovery_states_at p k fill = recovery_states (names_in p) (front_of p) (line_in
 
 -- the cut of one write of the line
 abbrev pub cut_write_at : Place → ℕ → Tried
-cut_write_at p k = cut_write (names_in p) (front_of p) (line_in p) (state_at_place p behind.Nothing) (state_at_place p behind.Whole) k
+cut_write_at p k = cut_write (names_in p) (front_of p) (line_in p) (state_at_place p trial.Nothing) (state_at_place p trial.Whole) k
 
 -- an account has room for the names
 abbrev pub AccountFits : Account → Place → Type 0
@@ -134,5 +134,5 @@ OpensNoGate x = bytes_eq x (opening Two) ≡ false
 -- ---- the writes of a line
 
 -- the word of a write, by whether its states are equal, and equal to the state before and to the state after
-abbrev pub word_with : Bool → Bool → Bool → Word
+abbrev pub word_with : Bool → Bool → Bool → SweepWord
 word_with same before after = word_if same (word_by before after)

@@ -10,8 +10,8 @@ use Rattle.mc_model_play.specs.Given.{apps_in}
 use Rattle.mc_model_play.specs.Play.{Unarmed, LineResult, OffAt, step, armed_stop_in, is_card_line}
 use Rattle.mc_model_play.specs.DeckGrammar.{DeckLine}
 use Rattle.mc_lab.specs.Sweeps.{steady_step, state_on_blank, cut_statement, static_bytes_under, are_same_held, Swept, line_sweep, is_swept, writes_behind, names_from, Run, runs, sweep}
-use Rattle.mc_lab.specs.declared.sweep_word.Word.{Word}
-use Rattle.mc_lab.specs.declared.sweep_word.Word.TheVariants.{Before, After, Same, Between, Torn}
+use Rattle.mc_lab.specs.declared.sweep_word.SweepWord.{SweepWord}
+use Rattle.mc_lab.specs.declared.sweep_word.SweepWord.TheVariants.{Before, After, Same, Between, Torn}
 
 -- ---- changes
 
@@ -49,7 +49,7 @@ abbrev pub opening_behind : List (List ℕ) → List (ℕ × DeckLine) → ℕ �
 opening_behind names front l = opening_write names (apps_in (state_on_blank front)) (items_behind front l)
 
 -- the runs of `n` writes of this word
-abbrev pub all_of : Word → ℕ → List Run
+abbrev pub all_of : SweepWord → ℕ → List Run
 all_of w n = record { first = 1; last = n; word = w } ∷ []
 
 -- the runs of `n` writes that are `before` up to and with write `g`, and `after` from the next one on

@@ -10,8 +10,8 @@ use Rattle.mc_script.specs.declared.player.Player.{Player}
 use Rattle.mc_script.specs.Players.{answer_value, device_of, IsPlayerAt}
 use Rattle.mc_lab.specs.Sweeps.{steady_step, state_on_blank, cut_statement}
 use Rattle.mc_lab.specs.SweepLaws.{is_off}
-use Rattle.mc_lab.specs.declared.sweep_trial.Behind.{Behind}
-use Rattle.mc_lab.specs.SweepBodies.{next, lines_behind, hits}
+use Rattle.mc_lab.specs.declared.sweep_trial.TrialLines.{TrialLines}
+use Rattle.mc_lab.specs.SweepBodies.{next, trial_lines, hits}
 
 -- whether a result is that of a cut
 abbrev pub off_in : Option Answer → Bool
@@ -45,6 +45,6 @@ module _ {N : Type 0} (state : N → DeviceState) (bench : N → BenchState) whe
     pub says : hit ≡ is_off (steady_step (next s (cut_statement n k fill)) l).result
 
   -- the lines of a trial from its line on were played
-  pub record BehindOn (front : List (ℕ × DeckLine)) (l : ℕ × DeckLine) (b : Behind) (hit : Bool) (q : Player N) : Type 0 where
-    pub at : IsSteadyAt q (state_on_blank (lines_behind front l b))
+  pub record TrialOn (front : List (ℕ × DeckLine)) (l : ℕ × DeckLine) (b : TrialLines) (hit : Bool) (q : Player N) : Type 0 where
+    pub at : IsSteadyAt q (state_on_blank (trial_lines front l b))
     pub says : hit ≡ hits front l b

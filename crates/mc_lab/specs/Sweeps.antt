@@ -11,8 +11,8 @@ use Rattle.mc_model_device.specs.Words.{cause_text}
 use Rattle.mc_model_play.specs.DeckGrammar.{DeckLine}
 use Rattle.mc_model_play.specs.DeckGrammar as line
 use Rattle.mc_lab.specs.Remarks.{Remark}
-use Rattle.mc_lab.specs.declared.sweep_word.Word.{Word}
-use Rattle.mc_lab.specs.declared.sweep_word.Word.TheVariants.{Before, After, Same, Between, Torn}
+use Rattle.mc_lab.specs.declared.sweep_word.SweepWord.{SweepWord}
+use Rattle.mc_lab.specs.declared.sweep_word.SweepWord.TheVariants.{Before, After, Same, Between, Torn}
 
 -- ---- plays
 
@@ -106,7 +106,7 @@ is_same (NoCard c p) (Holds b) = false
 -- ---- words
 
 -- the word of a state, by whether it is the state before, and whether it is the state after
-abbrev pub word_by : Bool → Bool → Word
+abbrev pub word_by : Bool → Bool → SweepWord
 word_by true false = Before
 word_by false true = After
 word_by true true = Same
@@ -118,12 +118,12 @@ all_same t [] = true
 all_same t (u ∷ us) = is_same u t && all_same t us
 
 -- a word, or `torn` if the states differ
-abbrev pub word_if : Bool → Word → Word
+abbrev pub word_if : Bool → SweepWord → SweepWord
 word_if true w = w
 word_if false w = Torn
 
 -- the word of a write, by the state before, the state after, its first state and its other states
-abbrev pub word_of : ReportedState → ReportedState → ReportedState → List ReportedState → Word
+abbrev pub word_of : ReportedState → ReportedState → ReportedState → List ReportedState → SweepWord
 word_of before after t ts = word_if (all_same t ts) (word_by (is_same t before) (is_same t after))
 
 -- ---- the plays of a swept line
@@ -164,7 +164,7 @@ recovery_states names front l k fill =
 
 -- the cut of one write: its word, and the number of plays that determine it
 pub record Tried : Type 0 where
-  pub word : Word
+  pub word : SweepWord
   pub plays : ℕ
 
 -- the cut of one write, by the state before, the state after, its first state and its other states
@@ -188,7 +188,7 @@ plays_of (t ∷ ts) = t.plays + plays_of ts
 -- a swept line: its number, the words of its writes in order, and the number of plays that determine them
 pub record Swept : Type 0 where
   pub number : ℕ
-  pub words : List Word
+  pub words : List SweepWord
   pub plays : ℕ
 
 -- the swept line of a number, by its writes
@@ -235,7 +235,7 @@ sweep ls = sweep_behind (names_from [] ls) [] ls
 -- ---- the text
 
 -- the text of a word
-abbrev pub word_text : Word → List ℕ
+abbrev pub word_text : SweepWord → List ℕ
 word_text Before = codes "before"
 word_text After = codes "after"
 word_text Same = codes "same"
@@ -243,22 +243,22 @@ word_text Between = codes "between"
 word_text Torn = codes "torn"
 
 -- whether two words are equal
-abbrev pub is_word : Word → Word → Bool
+abbrev pub is_word : SweepWord → SweepWord → Bool
 is_word v w = bytes_eq (word_text v) (word_text w)
 
 -- a run: consecutive writes of one word, from the first to the last
 pub record Run : Type 0 where
   pub first : ℕ
   pub last : ℕ
-  pub word : Word
+  pub word : SweepWord
 
 -- a write before runs
-abbrev pub with_write : ℕ → Word → List Run → List Run
+abbrev pub with_write : ℕ → SweepWord → List Run → List Run
 with_write k w [] = record { first = k; last = k; word = w } ∷ []
 with_write k w (r ∷ rs) = cond (is_word w r.word) (record r { first = k } ∷ rs) (record { first = k; last = k; word = w } ∷ r ∷ rs)
 
 -- the longest runs of the writes from write `k` on
-abbrev pub runs : ℕ → List Word → List Run
+abbrev pub runs : ℕ → List SweepWord → List Run
 runs k [] = []
 runs k (w ∷ ws) = with_write k w (runs (k + 1) ws)
 
@@ -277,17 +277,17 @@ has_mark n [] = false
 has_mark n (m ∷ ms) = (m.above.0 == n) || has_mark n ms
 
 -- whether a word is `between`
-abbrev pub is_between : Word → Bool
+abbrev pub is_between : SweepWord → Bool
 is_between Between = true
 is_between w = false
 
 -- whether one of some words is
-abbrev pub has_between : List Word → Bool
+abbrev pub has_between : List SweepWord → Bool
 has_between [] = false
 has_between (w ∷ ws) = is_between w || has_between ws
 
 -- whether the line with a number must be whole, by the marks `#! whole` of a deck, and one of its words is `between`
-abbrev pub is_broken_at : List Remark → ℕ → List Word → Bool
+abbrev pub is_broken_at : List Remark → ℕ → List SweepWord → Bool
 is_broken_at marks n ws = has_mark n marks && has_between ws
 
 -- whether a swept line must be whole, and is not

@@ -4,11 +4,11 @@ ghost use Rattle.mc_text.specs.Texts.{sunk, Puts};
 ghost use Rattle.mc_script.specs.Players.{IsUnfused};
 ghost use Rattle.mc_lab.specs.Expectations.{count_failed, expect_text, steady_steps};
 ghost use Rattle.mc_lab.specs.Judged.{done_of};
-ghost use Rattle.mc_lab.specs.Trials.{trial_value, IsRising};
+ghost use Rattle.mc_lab.specs.ExpectedDecks.{expected_deck_value, IsRising};
 
+use crate::expected_deck::{ExpectedDeck, count_above};
 use crate::judging::{judge, put_counts};
 use crate::stage::play_lines;
-use crate::trial::{Trial, count_above};
 use mc_base::{Sink, Steps, WriteFault};
 use mc_nvm::Bench;
 use mc_script::{Player, Text};
@@ -33,28 +33,36 @@ fn counted(failed: usize, held: bool) -> usize
 ///
 /// Returns `WriteFault` if the sink fails; the first bytes of the report were written then.
 pub fn expect<N: Bench + Drop, T: Sink, L: Ledger>(
-    trial: &Trial<'_>,
+    expected_deck: &ExpectedDeck<'_>,
     device: N,
     out: &mut T,
     steps: &mut Steps<L>,
 ) -> Result<usize, WriteFault>
     requires fuses { IsUnfused (N.bench device) }
     requires steady { (N.bench device).steady ≡ true }
-    requires rising { IsRising trial.now }
+    requires rising { IsRising expected_deck.now }
     ensures reported { Puts (sunk T.Sink out.old)
-        (expect_text (steady_steps (N.state device).words (trial_value trial.now).lines)
-        (trial_value trial.now).expected) (done_of result) (sunk T.Sink out.new) }
+        (expect_text (steady_steps (N.state device).words (expected_deck_value expected_deck.now).lines)
+        (expected_deck_value expected_deck.now).expected) (done_of result) (sunk T.Sink out.new) }
     ensures failed { IfOk result (λ n. n ≡ count_failed
-        (steady_steps (N.state device).words (trial_value trial.now).lines) (trial_value trial.now).expected) }
+        (steady_steps (N.state device).words (expected_deck_value expected_deck.now).lines)
+        (expected_deck_value expected_deck.now).expected) }
 {
     let mut player = Player::new(device);
     let mut text = Text::new();
     let mut count = 0;
     let mut failed = 0;
-    let expectations = trial.expectations.as_slice();
+    let expectations = expected_deck.expectations.as_slice();
     for expectation in expectations {
-        let above = count_above(&trial.deck, count, expectation.number);
-        play_lines(&mut player, &trial.deck, count, above, &mut text, steps);
+        let above = count_above(&expected_deck.deck, count, expectation.number);
+        play_lines(
+            &mut player,
+            &expected_deck.deck,
+            count,
+            above,
+            &mut text,
+            steps,
+        );
         count = above;
         let held = judge(out, expectation, &text)?;
         failed = counted(failed, held);

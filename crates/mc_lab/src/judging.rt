@@ -7,11 +7,11 @@ ghost use Rattle.mc_lab.specs.Judged.{done_of};
 ghost use Rattle.mc_lab.specs.Remarked.{line_value, remark_value};
 
 use crate::laying::put_laid_out;
-use crate::matching::holds;
 use crate::remark::Remark;
 use itoa::Buffer;
 use mc_asm::NumberedLine;
 use mc_base::{Sink, WriteFault};
+use mc_match::fits;
 use mc_script::Text;
 use mc_text::{put, put_number};
 
@@ -54,7 +54,7 @@ pub fn judge<T: Sink>(
         (expectation_line (fits expectation.now.text.now text.now.items) (remark_value expectation.now) text.now.items)
         (done_of result) (sunk T.Sink out.new) }
 {
-    if holds(expectation.text, text.as_slice()) {
+    if fits(expectation.text, text.as_slice()) {
         return Ok(true);
     }
     put_failed(out, expectation, text)?;

@@ -4,11 +4,10 @@
 //! their laws.
 
 mod expectation_rows;
+mod expected_deck;
 mod expecting;
-mod field;
 mod judging;
 mod laying;
-mod matching;
 mod remark;
 mod rows;
 mod scanning;
@@ -24,10 +23,9 @@ mod sweep_text;
 mod sweep_trial;
 mod sweep_word;
 mod sweeping;
-mod trial;
 
+pub use expected_deck::{ExpectationRefusal, ExpectedDeck, read_expected_deck};
 pub use expecting::expect;
-pub use matching::holds;
 pub use remark::{Mark, Remark};
 pub use scanning::remarks;
 pub use sweep_laws::{
@@ -35,6 +33,5 @@ pub use sweep_laws::{
     one_change_splits_at_its_gate,
 };
 pub use sweep_text::{Sums, put_sums, put_swept};
-pub use sweep_word::Word;
+pub use sweep_word::SweepWord;
 pub use sweeping::{SweepFault, sweep};
-pub use trial::{Trial, TrialRefusal, read_trial};

@@ -1,14 +1,12 @@
 // Remarks: comment lines of a deck that the laboratory reads.
-ghost use Rattle.std.specs.Prelude.{◌≡◌, ◌<◌, ◌&&◌, codes, length, bytes_eq, option_map};
-ghost use Rattle.mc_model_machine.specs.Text.{fields, is_empty, trim_front};
-ghost use Rattle.mc_model_play.specs.DeckGrammar.{is_end};
+ghost use Rattle.std.specs.Prelude.{◌≡◌, ◌<◌, ◌&&◌, option_map};
+ghost use Rattle.mc_model_machine.specs.Text.{fields, trim_front};
 ghost use Rattle.mc_lab.specs.Remarks.{above_after, begins_statement, is_only, is_whole_mark};
 ghost use Rattle.mc_lab.specs.Remarks.{pattern_in, remark_at, text_in};
-ghost use Rattle.mc_lab.specs.Remarked.{first_field, line_value, some_value};
-ghost use Rattle.mc_lab.specs.Scanning.{begins_with, stays_inside};
+ghost use Rattle.mc_lab.specs.Remarked.{line_value, some_value};
 
-use crate::field::first_field;
 use mc_asm::NumberedLine;
+use mc_match::first_field;
 use mc_text::{trim, trim_front};
 
 /// What a remark says, by the mark that its line begins with.
@@ -29,66 +27,24 @@ pub struct Remark<'a> {
     pub above: NumberedLine<'a>,
 }
 
-// Whether the first field of a line is this word.
-#[tactic(auto, using(crate::proofs::RemarkLemmas::begins_by))]
-fn line_begins(line: &[u8], word: &[u8]) -> bool
-    requires { 0 < length word.now }
-    ensures { result ≡ begins_with word.now (fields line.now) }
-{
-    let (field, _) = first_field(line);
-    field == word
-}
-
-// Whether a field is this word, and only blanks follow it.
-fn is_last(field: &[u8], behind: &[u8], word: &[u8]) -> bool
-    ensures { result ≡ (bytes_eq field.now word.now && is_empty (first_field behind.now).0) }
-{
-    field == word && first_field(behind).0.is_empty()
-}
-
 // Whether a line has one field, which is this word.
-#[tactic(auto, using(crate::proofs::RemarkLemmas::only_by))]
 fn is_only(line: &[u8], word: &[u8]) -> bool
-    requires { 0 < length word.now }
     ensures { result ≡ is_only word.now (fields line.now) }
 {
-    let (field, behind) = first_field(line);
-    is_last(field, behind, word)
-}
-
-// Whether a line ends a section.
-#[tactic(auto, using(crate::proofs::RemarkLemmas::ends_by))]
-fn ends_section(line: &[u8]) -> bool
-    ensures { result ≡ is_end (fields line.now) }
-{
-    is_only(line, b"end")
-}
-
-/// Returns whether the next line is in a section, if this one is or is not.
-pub fn stays_inside(inside: bool, line: &[u8]) -> bool
-    ensures { result ≡ stays_inside inside (fields line.now) }
-{
-    if inside {
-        !ends_section(line)
-    } else {
-        line_begins(line, b"app")
+    match first_field(line) {
+        Some((field, rest)) => field == word && first_field(rest).is_none(),
+        None => false,
     }
 }
 
-// Whether a field is `#!`, and the only one after it is `whole`.
-fn is_whole_pair(field: &[u8], behind: &[u8]) -> bool
-    ensures { result ≡ (bytes_eq field.now (codes "#!") && is_only (codes "whole") (fields behind.now)) }
-{
-    field == b"#!".as_slice() && is_only(behind, b"whole")
-}
-
 // Whether a line has the fields `#!` and `whole`.
-#[tactic(auto, using(crate::proofs::RemarkLemmas::whole_by))]
 fn is_whole_mark(line: &[u8]) -> bool
     ensures { result ≡ is_whole_mark (fields line.now) }
 {
-    let (field, behind) = first_field(line);
-    is_whole_pair(field, behind)
+    match first_field(line) {
+        Some((field, rest)) => field == b"#!".as_slice() && is_only(rest, b"whole"),
+        None => false,
+    }
 }
 
 // The pattern of a line, if its first field begins with `#>`.

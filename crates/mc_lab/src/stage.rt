@@ -2,9 +2,10 @@
 ghost use Rattle.std.specs.Prelude.{◌≡◌, ◌≤◌, List, length, option_map};
 ghost use Rattle.mc_model_play.specs.DeckGrammar.{DeckLine};
 ghost use Rattle.mc_model_play.specs.Play.{Step};
-ghost use Rattle.mc_script.specs.Players.{answer_value, device_of, IsPlaying};
+ghost use Rattle.mc_script.specs.Players.{answer_value, device_of};
+ghost use Rattle.mc_script.specs.Benches.{IsPlaying};
 ghost use Rattle.mc_lab.specs.Expectations.{result_text};
-ghost use Rattle.mc_lab.specs.Stages.{Staged};
+ghost use Rattle.mc_lab.specs.Benches.{Staged};
 
 use mc_base::Steps;
 use mc_deck::Deck;
@@ -14,7 +15,7 @@ use std::sync::ledger::Ledger;
 
 // Copies the text of a result of a player to `text`, empty if there is no result.
 fn gather<N: Bench>(text: &mut Text, player: &Player<N>, answer: &Option<Answer>)
-    requires { IsPlaying N.state N.bench player.now }
+    requires { IsPlaying N.Bench player.now }
     ensures { text.new.items ≡ result_text (option_map (answer_value N.state player.now) answer.now) }
 {
     text.clear();
@@ -33,12 +34,12 @@ pub fn play_lines<N: Bench, L: Ledger>(
     text: &mut Text,
     steps: &mut Steps<L>,
 )
-    requires playing { IsPlaying N.state N.bench player.old }
+    requires playing { IsPlaying N.Bench player.old }
     requires order { from ≤ to }
     requires most { to ≤ length deck.now }
-    ensures staged { (whole : List Step) → Staged N.state N.bench whole deck.now player.old from text.old.items
-        → Staged N.state N.bench whole deck.now player.new to text.new.items }
-    ensures playing { IsPlaying N.state N.bench player.new }
+    ensures staged { (whole : List Step) → Staged N.Bench whole deck.now player.old from text.old.items
+        → Staged N.Bench whole deck.now player.new to text.new.items }
+    ensures playing { IsPlaying N.Bench player.new }
 {
     for at in from..to {
         let (_number, line) = deck.line(at);

@@ -5,11 +5,11 @@ ghost use Rattle.mc_lab.specs.SweepBodies.{account_value, again_in, recovery_sta
 ghost use Rattle.mc_lab.specs.SweepBodies.{cut_write_at, word_with};
 ghost use Rattle.mc_lab.specs.SweepBodies.{writes_in, AccountFits, AccountsHaveRoom, IsUnarmedLine, IsPlace};
 ghost use Rattle.mc_lab.specs.SweepBodies.{OpensNoGate};
-ghost use Rattle.mc_lab.specs.declared.sweep_trial.Behind.TheVariants as behind;
+ghost use Rattle.mc_lab.specs.declared.sweep_trial.TrialLines.TheVariants as trial;
 
 use crate::sweep_account::Account;
-use crate::sweep_trial::{Behind, Place, Trials};
-use crate::sweep_word::Word;
+use crate::sweep_trial::{Place, TrialLines, Trials};
+use crate::sweep_word::SweepWord;
 use mc_base::{NoMemory, Steps};
 use std::alloc::Global;
 use std::sync::ledger::Ledger;
@@ -35,7 +35,7 @@ pub struct Pair {
 
 /// A laboratory, and room for the states that it observes.
 #[derive(Drop)]
-pub struct Bench<D: Trials + Drop> {
+pub struct LineSweeper<D: Trials + Drop> {
     trials: D,
     ends: Ends,
     pair: Pair,
@@ -44,7 +44,7 @@ pub struct Bench<D: Trials + Drop> {
 /// A write that was cut: its word, and the number of plays that determine it.
 #[derive(Clone, Copy, Debug)]
 pub struct Tried {
-    pub word: Word,
+    pub word: SweepWord,
     pub plays: u32,
 }
 
@@ -64,15 +64,15 @@ fn both(a: bool, b: bool) -> bool
 
 // The word of a write, by whether all its states are equal, and equal to the state before and to the state
 // after.
-fn word_of(is_one: bool, is_before: bool, is_after: bool) -> Word
+fn word_of(is_one: bool, is_before: bool, is_after: bool) -> SweepWord
     ensures { result ≡ word_with is_one is_before is_after }
 {
     match (is_one, is_before, is_after) {
-        (false, _, _) => Word::Torn,
-        (true, true, false) => Word::Before,
-        (true, false, true) => Word::After,
-        (true, true, true) => Word::Same,
-        (true, false, false) => Word::Between,
+        (false, _, _) => SweepWord::Torn,
+        (true, true, false) => SweepWord::Before,
+        (true, false, true) => SweepWord::After,
+        (true, true, true) => SweepWord::Same,
+        (true, false, false) => SweepWord::Between,
     }
 }
 
@@ -102,8 +102,8 @@ fn recoveries<D: Trials, L: Ledger>(
     let mut same = true;
     for made in 0..most {
         let again = made as u32 + 1;
-        let behind = Behind::Twice { k, fill, again };
-        let played = trials.report(place, behind, &mut pair.now, steps);
+        let trial = TrialLines::Twice { k, fill, again };
+        let played = trials.report(place, trial, &mut pair.now, steps);
         if !played.hit {
             return (same, made);
         }
@@ -125,8 +125,8 @@ fn try_write<D: Trials, L: Ledger>(
     requires at { IsPlace place.now }
     requires open { IsUnarmedLine place.now }
     requires low { 1 ≤ k }
-    requires before { account_value ends.now.before ≡ state_at_place place.now behind.Nothing }
-    requires after { account_value ends.now.after ≡ state_at_place place.now behind.Whole }
+    requires before { account_value ends.now.before ≡ state_at_place place.now trial.Nothing }
+    requires after { account_value ends.now.after ≡ state_at_place place.now trial.Whole }
     requires first { AccountFits pair.old.first place.now }
     requires now { AccountFits pair.old.now place.now }
     ensures tried { MatchOption result (writes_in place.now < k)
@@ -136,13 +136,18 @@ fn try_write<D: Trials, L: Ledger>(
     ensures first { AccountFits pair.new.first place.now }
     ensures now { AccountFits pair.new.now place.now }
 {
-    let behind = Behind::Cut { k, fill: ZEROS };
-    let first = trials.report(place, behind, &mut pair.first, steps);
+    let trial = TrialLines::Cut { k, fill: ZEROS };
+    let first = trials.report(place, trial, &mut pair.first, steps);
     if !first.hit {
         return None;
     }
     let (zeros_same, zeros) = recoveries(trials, place, k, ZEROS, first.most, pair, steps);
-    let second = trials.report(place, Behind::Cut { k, fill: ONES }, &mut pair.now, steps);
+    let second = trials.report(
+        place,
+        TrialLines::Cut { k, fill: ONES },
+        &mut pair.now,
+        steps,
+    );
     let ones_first = pair.now.is_same(&pair.first);
     let (ones_same, ones) = recoveries(trials, place, k, ONES, second.most, pair, steps);
     let is_one = both(zeros_same, both(ones_first, ones_same));
@@ -171,16 +176,16 @@ fn doubled(bound: u32) -> Option<u32>
     Some(2 * bound + 1)
 }
 
-impl<D: Trials + Drop> Bench<D> {
-    /// Returns a bench for this number of names.
+impl<D: Trials + Drop> LineSweeper<D> {
+    /// Returns a sweeper with room for this number of names.
     ///
     /// # Errors
     ///
     /// Returns `NoMemory` if it is out of memory.
-    pub fn new(alloc: Global, trials: D, names: usize) -> Result<Bench<D>, NoMemory>
-        ensures { IfOk result (λ bench. AccountsHaveRoom bench.ends bench.pair names) }
+    pub fn new(alloc: Global, trials: D, names: usize) -> Result<LineSweeper<D>, NoMemory>
+        ensures { IfOk result (λ sweeper. AccountsHaveRoom sweeper.ends sweeper.pair names) }
     {
-        Ok(Bench {
+        Ok(LineSweeper {
             trials,
             ends: Ends {
                 before: Account::new(alloc, names)?,
@@ -214,11 +219,11 @@ impl<D: Trials + Drop> Bench<D> {
     {
         let mut bound = most;
         loop {
-            let behind = Behind::Cut {
+            let trial = TrialLines::Cut {
                 k: bound + 1,
                 fill: ZEROS,
             };
-            let played = self.trials.report(place, behind, &mut self.pair.now, steps);
+            let played = self.trials.report(place, trial, &mut self.pair.now, steps);
             if !played.hit {
                 return Some(bound);
             }
@@ -230,7 +235,7 @@ impl<D: Trials + Drop> Bench<D> {
     pub fn sweep_line<L: Ledger>(
         &mut self,
         place: &Place<'_>,
-        words: &mut [Word],
+        words: &mut [SweepWord],
         steps: &mut Steps<L>,
     ) -> Swept
         requires at { IsPlace place.now }
@@ -248,10 +253,10 @@ impl<D: Trials + Drop> Bench<D> {
     {
         let _played = self
             .trials
-            .report(place, Behind::Nothing, &mut self.ends.before, steps);
+            .report(place, TrialLines::Nothing, &mut self.ends.before, steps);
         let _played = self
             .trials
-            .report(place, Behind::Whole, &mut self.ends.after, steps);
+            .report(place, TrialLines::Whole, &mut self.ends.after, steps);
         let mut plays = 0;
         for writes in 0..words.len() {
             let k = writes as u32 + 1;

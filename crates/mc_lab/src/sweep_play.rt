@@ -3,16 +3,18 @@ ghost use Rattle.std.specs.Prelude.{◌≡◌, ◌≤◌, ◌<◌, ℕ, List, le
 ghost use Rattle.mc_model_play.specs.Play.{State};
 ghost use Rattle.mc_model_play.specs.DeckGrammar.{DeckLine};
 ghost use Rattle.mc_deck.specs.Lines.{line_of, GoodLine};
-ghost use Rattle.mc_script.specs.Players.{device_of, statics_in, IsPlaying, IsUnfused};
+ghost use Rattle.mc_script.specs.Players.{device_of, statics_in, IsUnfused};
+ghost use Rattle.mc_script.specs.Benches.{IsPlaying};
 ghost use Rattle.mc_lab.specs.Sweeps.{state_on_blank};
 ghost use Rattle.mc_model_device.specs.Device.{blank_words, device_words};
 ghost use Rattle.mc_lab.specs.SweepBodies.{account_value, held_value, hit_in, state_at_place, CanCut, AccountFits};
-ghost use Rattle.mc_lab.specs.SweepBodies.{IsFewBehind, IsPlace};
-ghost use Rattle.mc_lab.specs.declared.sweep_trial.Behind.TheVariants as behind;
-ghost use Rattle.mc_lab.specs.SweepPlayers.{fault_in, most_in, off_in, BehindOn, CutOn, IsSteadyAt, LineOn};
+ghost use Rattle.mc_lab.specs.SweepBodies.{IsRecoveryBound, IsPlace};
+ghost use Rattle.mc_lab.specs.declared.sweep_trial.TrialLines.TheVariants as trial;
+ghost use Rattle.mc_lab.specs.SweepPlayers.{fault_in, most_in, off_in};
+ghost use Rattle.mc_lab.specs.Benches.{CutOn, IsSteadyAt, LineOn, TrialOn};
 
 use crate::sweep_account::{Account, Held};
-use crate::sweep_trial::{Behind, Place, Played, Trials};
+use crate::sweep_trial::{Place, Played, TrialLines, Trials};
 use arrayvec::ArrayVec;
 use mc_base::{Aid, NoMemory, Steps, Word};
 use mc_blocks::Unusable;
@@ -74,11 +76,11 @@ fn play_line<N: Bench, L: Ledger>(
     line: &Line<'_>,
     steps: &mut Steps<L>,
 ) -> Option<Answer>
-    requires playing { IsPlaying N.state N.bench player.old }
+    requires playing { IsPlaying N.Bench player.old }
     requires good { GoodLine (line_of line.now) }
-    ensures on { (s : State) (n : ℕ) → IsSteadyAt N.state N.bench player.old s
-        → LineOn N.state N.bench s (n, line_of line.now) result player.new }
-    ensures playing { IsPlaying N.state N.bench player.new }
+    ensures on { (s : State) (n : ℕ) → IsSteadyAt N.Bench player.old s
+        → LineOn N.Bench s (n, line_of line.now) result player.new }
+    ensures playing { IsPlaying N.Bench player.new }
     ensures size { length (N.state (device_of player.new)).words ≡ length (N.state (device_of player.old)).words }
     ensures keeps_device { N.same (device_of player.old) (device_of player.new) }
 {
@@ -96,7 +98,7 @@ fn play_front<N: Bench, L: Ledger>(
     requires steady { (N.bench device).steady ≡ true }
     requires words { (N.state device).words ≡ blank_words device_words }
     requires place { at ≤ length deck.now }
-    ensures at { IsSteadyAt N.state N.bench result (state_on_blank (take at deck.now)) }
+    ensures at { IsSteadyAt N.Bench result (state_on_blank (take at deck.now)) }
     ensures size { length (N.state (device_of result)).words ≡ length (N.state device).words }
     ensures keeps_device { N.same device (device_of result) }
 {
@@ -116,12 +118,12 @@ fn play_cut<N: Bench, L: Ledger>(
     fill: Word,
     steps: &mut Steps<L>,
 ) -> bool
-    requires playing { IsPlaying N.state N.bench player.old }
+    requires playing { IsPlaying N.Bench player.old }
     requires good { GoodLine (line_of line.now) }
     requires low { 1 ≤ k }
-    ensures on { (s : State) (i n : ℕ) → IsSteadyAt N.state N.bench player.old s
-        → CutOn N.state N.bench s (n, line_of line.now) i k fill result player.new }
-    ensures playing { IsPlaying N.state N.bench player.new }
+    ensures on { (s : State) (i n : ℕ) → IsSteadyAt N.Bench player.old s
+        → CutOn N.Bench s (n, line_of line.now) i k fill result player.new }
+    ensures playing { IsPlaying N.Bench player.new }
     ensures size { length (N.state (device_of player.new)).words ≡ length (N.state (device_of player.old)).words }
     ensures keeps_device { N.same (device_of player.old) (device_of player.new) }
 {
@@ -140,12 +142,12 @@ fn play_twice<N: Bench, L: Ledger>(
     again: u32,
     steps: &mut Steps<L>,
 ) -> bool
-    requires playing { IsPlaying N.state N.bench player.old }
+    requires playing { IsPlaying N.Bench player.old }
     requires good { GoodLine (line_of line.now) }
     requires low { 1 ≤ k }
     requires first { 1 ≤ again }
-    ensures on { (front : List (ℕ × DeckLine)) (n : ℕ) → IsSteadyAt N.state N.bench player.old (state_on_blank front)
-        → BehindOn N.state N.bench front (n, line_of line.now) (behind.Twice k fill again) result player.new }
+    ensures on { (front : List (ℕ × DeckLine)) (n : ℕ) → IsSteadyAt N.Bench player.old (state_on_blank front)
+        → TrialOn N.Bench front (n, line_of line.now) (trial.Twice k fill again) result player.new }
     ensures size { length (N.state (device_of player.new)).words ≡ length (N.state (device_of player.old)).words }
     ensures keeps_device { N.same (device_of player.old) (device_of player.new) }
 {
@@ -154,34 +156,34 @@ fn play_twice<N: Bench, L: Ledger>(
 }
 
 // Plays the lines of a trial from its line on, and returns whether the last cut hit its line.
-fn play_behind<N: Bench, L: Ledger>(
+fn play_trial_lines<N: Bench, L: Ledger>(
     player: &mut Player<N>,
     line: &Line<'_>,
-    behind: Behind,
+    trial: TrialLines,
     steps: &mut Steps<L>,
 ) -> bool
-    requires playing { IsPlaying N.state N.bench player.old }
+    requires playing { IsPlaying N.Bench player.old }
     requires good { GoodLine (line_of line.now) }
-    requires cuts { CanCut behind }
-    ensures on { (front : List (ℕ × DeckLine)) (n : ℕ) → IsSteadyAt N.state N.bench player.old (state_on_blank front)
-        → BehindOn N.state N.bench front (n, line_of line.now) behind result player.new }
+    requires cuts { CanCut trial }
+    ensures on { (front : List (ℕ × DeckLine)) (n : ℕ) → IsSteadyAt N.Bench player.old (state_on_blank front)
+        → TrialOn N.Bench front (n, line_of line.now) trial result player.new }
     ensures size { length (N.state (device_of player.new)).words ≡ length (N.state (device_of player.old)).words }
     ensures keeps_device { N.same (device_of player.old) (device_of player.new) }
 {
-    match behind {
-        Behind::Nothing => true,
-        Behind::Whole => {
+    match trial {
+        TrialLines::Nothing => true,
+        TrialLines::Whole => {
             let _answer = play_line(player, line, steps);
             true
         }
-        Behind::Cut { k, fill } => play_cut(player, line, k, fill, steps),
-        Behind::Twice { k, fill, again } => play_twice(player, line, k, fill, again, steps),
+        TrialLines::Cut { k, fill } => play_cut(player, line, k, fill, steps),
+        TrialLines::Twice { k, fill, again } => play_twice(player, line, k, fill, again, steps),
     }
 }
 
 // The static bytes under a name, or `None` if it is absent or no card runs.
 fn held_now<N: Bench>(player: &Player<N>, name: &Aid) -> Held
-    requires { IsPlaying N.state N.bench player.now }
+    requires { IsPlaying N.Bench player.now }
     ensures { held_value result ≡ statics_in N.state player.now name.now }
 {
     let len = player.static_len(name)?;
@@ -203,7 +205,7 @@ fn kept(bytes: &[u8]) -> ArrayVec<u8, 4096>
 
 // Stores the static bytes under each name.
 fn take_held<N: Bench>(held: &mut [Held], player: &Player<N>, names: &[Aid])
-    requires playing { IsPlaying N.state N.bench player.now }
+    requires playing { IsPlaying N.Bench player.now }
     requires room { length held.old ≡ length names.now }
     ensures held { map held_value held.new ≡ map (statics_in N.state player.now) names.now }
 {
@@ -219,7 +221,7 @@ fn take_down<N: Bench>(
     answer: &Option<Answer>,
     names: &[Aid],
 )
-    requires playing { IsPlaying N.state N.bench player.now }
+    requires playing { IsPlaying N.Bench player.now }
     requires room { length into.old.held.items ≡ length names.now }
     ensures fault { into.new.fault ≡ fault_in answer.now }
     ensures held { map held_value into.new.held.items ≡ map (statics_in N.state player.now) names.now }
@@ -233,7 +235,7 @@ fn take_down<N: Bench>(
 fn play_trial<N: Bench, L: Ledger>(
     device: N,
     place: &Place<'_>,
-    behind: Behind,
+    trial: TrialLines,
     into: &mut Account,
     steps: &mut Steps<L>,
 ) -> (N, Played)
@@ -242,17 +244,17 @@ fn play_trial<N: Bench, L: Ledger>(
     requires words { (N.state device).words ≡ blank_words device_words }
     requires at { IsPlace place.now }
     requires room { AccountFits into.old place.now }
-    requires cuts { CanCut behind }
-    ensures reported { account_value into.new ≡ state_at_place place.now behind }
-    ensures hit { result.1.hit ≡ hit_in place.now behind }
-    ensures few { IsFewBehind place.now behind result.1.most }
+    requires cuts { CanCut trial }
+    ensures reported { account_value into.new ≡ state_at_place place.now trial }
+    ensures hit { result.1.hit ≡ hit_in place.now trial }
+    ensures few { IsRecoveryBound place.now trial result.1.most }
     ensures room { AccountFits into.new place.now }
     ensures size { length (N.state result.0).words ≡ length (N.state device).words }
     ensures keeps_device { N.same device result.0 }
 {
     let mut player = play_front(device, place.deck, place.at, steps);
     let (_number, line) = place.deck.line(place.at);
-    let hit = play_behind(&mut player, &line, behind, steps);
+    let hit = play_trial_lines(&mut player, &line, trial, steps);
     let answer = play_line(&mut player, &Line::Power, steps);
     take_down(into, &player, &answer, place.names);
     let most = most_of(&answer);
@@ -263,22 +265,22 @@ fn play_trial<N: Bench, L: Ledger>(
 fn play_blank<L: Ledger>(
     device: &mut SimNvm,
     place: &Place<'_>,
-    behind: Behind,
+    trial: TrialLines,
     into: &mut Account,
     steps: &mut Steps<L>,
 ) -> Played
     requires size { length device.old.words ≡ device_words }
     requires at { IsPlace place.now }
     requires room { AccountFits into.old place.now }
-    requires cuts { CanCut behind }
-    ensures reported { account_value into.new ≡ state_at_place place.now behind }
-    ensures hit { result.hit ≡ hit_in place.now behind }
-    ensures few { IsFewBehind place.now behind result.most }
+    requires cuts { CanCut trial }
+    ensures reported { account_value into.new ≡ state_at_place place.now trial }
+    ensures hit { result.hit ≡ hit_in place.now trial }
+    ensures few { IsRecoveryBound place.now trial result.most }
     ensures room { AccountFits into.new place.now }
     ensures size { length device.new.words ≡ device_words }
 {
     device.erase();
-    let (_device, played) = play_trial(&mut *device, place, behind, into, steps);
+    let (_device, played) = play_trial(&mut *device, place, trial, into, steps);
     played
 }
 
@@ -299,10 +301,10 @@ impl Trials for Laboratory {
     fn report<L: Ledger>(
         &mut self,
         place: &Place<'_>,
-        behind: Behind,
+        trial: TrialLines,
         into: &mut Account,
         steps: &mut Steps<L>,
     ) -> Played {
-        play_blank(&mut self.device, place, behind, into, steps)
+        play_blank(&mut self.device, place, trial, into, steps)
     }
 }

@@ -1,10 +1,10 @@
 // The text of a sweep.
 ghost use Rattle.std.specs.Prelude.{◌≡◌, ◌++◌, ◌+◌, ◌-◌, ◌<◌, ◌≤◌, ℕ, ◌∷◌, codes, decimal, drop, get_or, length};
 ghost use Rattle.mc_lab.specs.Sweeps.{is_word, line_end, run_text, runs, runs_text, sums_text, word_text};
-ghost use Rattle.mc_lab.specs.declared.sweep_word.Word.TheVariants.{Before};
+ghost use Rattle.mc_lab.specs.declared.sweep_word.SweepWord.TheVariants.{Before};
 ghost use Rattle.mc_text.specs.Texts.{sunk, Puts};
 
-use crate::sweep_word::Word;
+use crate::sweep_word::SweepWord;
 use itoa::Buffer;
 use mc_base::{Sink, WriteFault};
 use mc_text::{put, put_decimal};
@@ -28,7 +28,7 @@ fn put_sum<T: Sink>(out: &mut T, number: u128) -> Result<(), WriteFault>
 }
 
 // Writes a run of writes of one word, by its first and its last write.
-fn put_run<T: Sink>(out: &mut T, word: Word, first: u32, last: u32) -> Result<(), WriteFault>
+fn put_run<T: Sink>(out: &mut T, word: SweepWord, first: u32, last: u32) -> Result<(), WriteFault>
     ensures { Puts (sunk T.Sink out.old)
         (run_text (record { first = first; last = last; word = word })) result (sunk T.Sink out.new) }
 {
@@ -41,14 +41,14 @@ fn put_run<T: Sink>(out: &mut T, word: Word, first: u32, last: u32) -> Result<()
 }
 
 // Whether two words are equal.
-fn is_word(a: Word, b: Word) -> bool
+fn is_word(a: SweepWord, b: SweepWord) -> bool
     ensures { result ≡ is_word a b }
 {
     a.text() == b.text()
 }
 
 // The length of the first run of words.
-fn run_len(words: &[Word]) -> usize
+fn run_len(words: &[SweepWord]) -> usize
     requires { 0 < length words.now }
     ensures low { 1 ≤ result }
     ensures high { result ≤ length words.now }
@@ -67,7 +67,7 @@ fn run_len(words: &[Word]) -> usize
 }
 
 // Writes the longest runs of the words of a line's writes.
-fn put_runs<T: Sink>(out: &mut T, words: &[Word]) -> Result<(), WriteFault>
+fn put_runs<T: Sink>(out: &mut T, words: &[SweepWord]) -> Result<(), WriteFault>
     requires { length words.now ≤ 4294967295 }
     ensures { Puts (sunk T.Sink out.old) (runs_text (runs 1 words.now)) result
         (sunk T.Sink out.new) }
@@ -100,7 +100,7 @@ fn put_end<T: Sink>(out: &mut T, broken: bool) -> Result<(), WriteFault>
 pub fn put_swept<T: Sink>(
     out: &mut T,
     number: u32,
-    words: &[Word],
+    words: &[SweepWord],
     broken: bool,
 ) -> Result<(), WriteFault>
     requires { length words.now ≤ 4294967295 }

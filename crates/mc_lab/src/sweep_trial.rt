@@ -1,7 +1,7 @@
 // The plays of a sweep, and the trait of what plays them.
 ghost use Rattle.std.specs.Prelude.{◌≡◌};
 ghost use Rattle.mc_lab.specs.SweepBodies.{account_value, hit_in, state_at_place, CanCut, AccountFits};
-ghost use Rattle.mc_lab.specs.SweepBodies.{IsFewBehind, IsPlace};
+ghost use Rattle.mc_lab.specs.SweepBodies.{IsRecoveryBound, IsPlace};
 
 use crate::sweep_account::Account;
 use mc_base::{Aid, Steps, Word};
@@ -19,7 +19,7 @@ pub struct Place<'a> {
 /// The lines that are played after those before a line: none, the line, the line with one of its writes cut,
 /// or also a power line with one of its writes cut. Writes are counted from 1, and a cut leaves its fill.
 #[derive(Clone, Copy, Debug)]
-pub enum Behind {
+pub enum TrialLines {
     Nothing,
     Whole,
     Cut { k: u32, fill: Word },
@@ -42,15 +42,15 @@ pub trait Trials {
     fn report<L: Ledger>(
         &mut self,
         place: &Place<'_>,
-        behind: Behind,
+        trial: TrialLines,
         into: &mut Account,
         steps: &mut Steps<L>,
     ) -> Played
         requires at { IsPlace place.now }
         requires room { AccountFits into.old place.now }
-        requires cuts { CanCut behind }
-        ensures reported { account_value into.new ≡ state_at_place place.now behind }
-        ensures hit { result.hit ≡ hit_in place.now behind }
-        ensures few { IsFewBehind place.now behind result.most }
+        requires cuts { CanCut trial }
+        ensures reported { account_value into.new ≡ state_at_place place.now trial }
+        ensures hit { result.hit ≡ hit_in place.now trial }
+        ensures few { IsRecoveryBound place.now trial result.most }
         ensures room { AccountFits into.new place.now };
 }

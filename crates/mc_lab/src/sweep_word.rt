@@ -5,7 +5,7 @@ ghost use Rattle.mc_lab.specs.Sweeps.{word_text};
 /// The state that a cut left: that before the line, that after it, both if they are equal, or another; or
 /// states that differ by fill or by a cut of the recovery.
 #[derive(Clone, Copy, Debug, PartialEq, Eq)]
-pub enum Word {
+pub enum SweepWord {
     Before,
     After,
     Same,
@@ -13,17 +13,17 @@ pub enum Word {
     Torn,
 }
 
-impl Word {
+impl SweepWord {
     /// Returns the word that is printed.
     pub fn text(&self) -> &'static str
         ensures { result.now ≡ word_text self.now }
     {
         match self {
-            Word::Before => "before",
-            Word::After => "after",
-            Word::Same => "same",
-            Word::Between => "between",
-            Word::Torn => "torn",
+            SweepWord::Before => "before",
+            SweepWord::After => "after",
+            SweepWord::Same => "same",
+            SweepWord::Between => "between",
+            SweepWord::Torn => "torn",
         }
     }
 }

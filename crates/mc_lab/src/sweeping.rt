@@ -12,13 +12,13 @@ ghost use Rattle.mc_lab.specs.SweepEnds.{free_behind, is_open_at, sweeps_from, s
 ghost use Rattle.mc_lab.specs.SweepEnds.{IsSmall, ReportsSweep};
 
 use crate::remark::Remark;
-use crate::sweep_line::Bench;
+use crate::sweep_line::LineSweeper;
 use crate::sweep_marks::is_broken;
 use crate::sweep_names::names_of;
 use crate::sweep_play::Laboratory;
 use crate::sweep_text::{Sums, put_sums, put_swept};
 use crate::sweep_trial::{Place, Trials};
-use crate::sweep_word::Word;
+use crate::sweep_word::SweepWord;
 use mc_base::{Aid, NoMemory, Sink, Steps, WriteFault};
 use mc_deck::{Deck, Line};
 use std::alloc::Global;
@@ -37,8 +37,8 @@ pub enum SweepFault {
 #[derive(Drop)]
 struct Room {
     names: Vec<Aid>,
-    bench: Bench<Laboratory>,
-    words: Vec<Word>,
+    sweeper: LineSweeper<Laboratory>,
+    words: Vec<SweepWord>,
 }
 
 // Whether a line is one to the card.
@@ -103,41 +103,41 @@ fn open_number(deck: &Deck, at: usize) -> Option<u32>
 // `most`, or a greater number that the device writes of a line do not exceed, if it may be swept and makes more.
 // `None` if they are more than the argument of a `cut` may be.
 fn bound_at<D: Trials + Drop, L: Ledger>(
-    bench: &mut Bench<D>,
+    sweeper: &mut LineSweeper<D>,
     place: &Place<'_>,
     most: u32,
     steps: &mut Steps<L>,
 ) -> Option<u32>
     requires at { IsPlace place.now }
     requires small { most < 4294967295 }
-    requires room { AccountsHaveRoom bench.old.ends bench.old.pair (length place.now.names.now) }
+    requires room { AccountsHaveRoom sweeper.old.ends sweeper.old.pair (length place.now.names.now) }
     ensures writes { IfSome result (λ n. is_open_at place.now.deck.now place.now.at ≡ true → writes_in place.now ≤ n) }
     ensures grows { IfSome result (λ n. most ≤ n) }
     ensures small { IfSome result (λ n. n < 4294967295) }
-    ensures room { AccountsHaveRoom bench.new.ends bench.new.pair (length place.now.names.now) }
+    ensures room { AccountsHaveRoom sweeper.new.ends sweeper.new.pair (length place.now.names.now) }
 {
     match open_number(place.deck, place.at) {
         None => Some(most),
-        Some(_) => bench.bound(place, most, steps),
+        Some(_) => sweeper.bound(place, most, steps),
     }
 }
 
 // A number that the device writes of no line that may be swept exceed, or `None` if a line makes more than
 // the argument of a `cut` may be.
 fn most_writes<D: Trials + Drop, L: Ledger>(
-    bench: &mut Bench<D>,
+    sweeper: &mut LineSweeper<D>,
     deck: &Deck,
     names: &[Aid],
     steps: &mut Steps<L>,
 ) -> Option<u32>
-    requires room { AccountsHaveRoom bench.old.ends bench.old.pair (length names.now) }
+    requires room { AccountsHaveRoom sweeper.old.ends sweeper.old.pair (length names.now) }
     ensures most { IfSome result (λ n. AtMost deck.now (length deck.now) n) }
-    ensures room { AccountsHaveRoom bench.new.ends bench.new.pair (length names.now) }
+    ensures room { AccountsHaveRoom sweeper.new.ends sweeper.new.pair (length names.now) }
 {
     let mut most = 0;
     for at in 0..deck.len() {
         let place = Place { deck, at, names };
-        let bound = bound_at(bench, &place, most, steps)?;
+        let bound = bound_at(sweeper, &place, most, steps)?;
         most = bound;
     }
     Some(most)
@@ -154,11 +154,11 @@ fn counted(count: u128, broken: bool) -> u128
 
 // Sweeps a line, and writes its text if it makes a device write.
 fn sweep_place<D: Trials + Drop, T: Sink, L: Ledger>(
-    bench: &mut Bench<D>,
+    sweeper: &mut LineSweeper<D>,
     place: &Place<'_>,
     number: u32,
     marks: &[Remark<'_>],
-    words: &mut [Word],
+    words: &mut [SweepWord],
     out: &mut T,
     sums: &mut Sums,
     steps: &mut Steps<L>,
@@ -169,16 +169,16 @@ fn sweep_place<D: Trials + Drop, T: Sink, L: Ledger>(
     requires words { writes_in place.now ≤ length words.old }
     requires most { length words.old ≤ 4294967295 }
     requires sums { IsSmall sums.old place.now.at }
-    requires room { AccountsHaveRoom bench.old.ends bench.old.pair (length place.now.names.now) }
+    requires room { AccountsHaveRoom sweeper.old.ends sweeper.old.pair (length place.now.names.now) }
     ensures reported { Puts (sunk T.Sink out.old)
         (swept_texts (remark_values marks.now) (sweeps_at place.now))
         result (sunk T.Sink out.new) }
     ensures adds { OnOk result (AddsSums (remark_values marks.now) sums.old (sweeps_at place.now) sums.new) }
     ensures small { OnOk result (IsSmall sums.new (place.now.at + 1)) }
     ensures size { length words.new ≡ length words.old }
-    ensures room { AccountsHaveRoom bench.new.ends bench.new.pair (length place.now.names.now) }
+    ensures room { AccountsHaveRoom sweeper.new.ends sweeper.new.pair (length place.now.names.now) }
 {
-    let swept = bench.sweep_line(place, words, steps);
+    let swept = sweeper.sweep_line(place, words, steps);
     if swept.writes == 0 {
         return Ok(());
     }
@@ -194,10 +194,10 @@ fn sweep_place<D: Trials + Drop, T: Sink, L: Ledger>(
 
 // Sweeps the line at a place, if it may be swept.
 fn sweep_at<D: Trials + Drop, T: Sink, L: Ledger>(
-    bench: &mut Bench<D>,
+    sweeper: &mut LineSweeper<D>,
     place: &Place<'_>,
     marks: &[Remark<'_>],
-    words: &mut [Word],
+    words: &mut [SweepWord],
     out: &mut T,
     sums: &mut Sums,
     steps: &mut Steps<L>,
@@ -206,18 +206,18 @@ fn sweep_at<D: Trials + Drop, T: Sink, L: Ledger>(
     requires words { AtMost place.now.deck.now (length place.now.deck.now) (length words.old) }
     requires most { length words.old ≤ 4294967295 }
     requires sums { IsSmall sums.old place.now.at }
-    requires room { AccountsHaveRoom bench.old.ends bench.old.pair (length place.now.names.now) }
+    requires room { AccountsHaveRoom sweeper.old.ends sweeper.old.pair (length place.now.names.now) }
     ensures reported { Puts (sunk T.Sink out.old)
         (swept_texts (remark_values marks.now) (sweeps_at place.now))
         result (sunk T.Sink out.new) }
     ensures adds { OnOk result (AddsSums (remark_values marks.now) sums.old (sweeps_at place.now) sums.new) }
     ensures small { OnOk result (IsSmall sums.new (place.now.at + 1)) }
     ensures size { length words.new ≡ length words.old }
-    ensures room { AccountsHaveRoom bench.new.ends bench.new.pair (length place.now.names.now) }
+    ensures room { AccountsHaveRoom sweeper.new.ends sweeper.new.pair (length place.now.names.now) }
 {
     match open_number(place.deck, place.at) {
         None => Ok(()),
-        Some(number) => sweep_place(bench, place, number, marks, words, out, sums, steps),
+        Some(number) => sweep_place(sweeper, place, number, marks, words, out, sums, steps),
     }
 }
 
@@ -239,11 +239,11 @@ fn no_sums() -> Sums
 
 // Sweeps the lines of a deck, and writes the text of each when it is done.
 fn sweep_lines<D: Trials + Drop, T: Sink, L: Ledger>(
-    bench: &mut Bench<D>,
+    sweeper: &mut LineSweeper<D>,
     deck: &Deck,
     names: &[Aid],
     marks: &[Remark<'_>],
-    words: &mut [Word],
+    words: &mut [SweepWord],
     out: &mut T,
     sums: &mut Sums,
     steps: &mut Steps<L>,
@@ -251,7 +251,7 @@ fn sweep_lines<D: Trials + Drop, T: Sink, L: Ledger>(
     requires words { AtMost deck.now (length deck.now) (length words.old) }
     requires most { length words.old ≤ 4294967295 }
     requires sums { IsSmall sums.old 0 }
-    requires room { AccountsHaveRoom bench.old.ends bench.old.pair (length names.now) }
+    requires room { AccountsHaveRoom sweeper.old.ends sweeper.old.pair (length names.now) }
     ensures reported { Puts (sunk T.Sink out.old)
         (swept_texts (remark_values marks.now) (sweeps_from names.now deck.now 0)) result
         (sunk T.Sink out.new) }
@@ -260,25 +260,25 @@ fn sweep_lines<D: Trials + Drop, T: Sink, L: Ledger>(
 {
     for at in 0..deck.len() {
         let place = Place { deck, at, names };
-        sweep_at(bench, &place, marks, words, out, sums, steps)?;
+        sweep_at(sweeper, &place, marks, words, out, sums, steps)?;
     }
     Ok(())
 }
 
 // Allocates the room for a sweep of a deck.
 fn room_for<L: Ledger>(alloc: Global, deck: &Deck, steps: &mut Steps<L>) -> Result<Room, NoMemory>
-    ensures { IfOk result (λ room. IsRoom deck.now room.names.items room.bench.ends room.bench.pair
+    ensures { IfOk result (λ room. IsRoom deck.now room.names.items room.sweeper.ends room.sweeper.pair
         (length room.words.items)) }
 {
     let names = names_of(alloc, deck)?;
-    let mut bench = Bench::new(alloc, Laboratory::new(alloc)?, names.len())?;
-    let Some(most) = most_writes(&mut bench, deck, names.as_slice(), steps) else {
+    let mut sweeper = LineSweeper::new(alloc, Laboratory::new(alloc)?, names.len())?;
+    let Some(most) = most_writes(&mut sweeper, deck, names.as_slice(), steps) else {
         return Err(NoMemory);
     };
-    let words = vec![in alloc; Word::Same; most as usize]?;
+    let words = vec![in alloc; SweepWord::Same; most as usize]?;
     Ok(Room {
         names,
-        bench,
+        sweeper,
         words,
     })
 }
@@ -291,7 +291,7 @@ fn sweep_in<T: Sink, L: Ledger>(
     out: &mut T,
     steps: &mut Steps<L>,
 ) -> Result<bool, WriteFault>
-    requires { IsRoom deck.now room.old.names.items room.old.bench.ends room.old.bench.pair
+    requires { IsRoom deck.now room.old.names.items room.old.sweeper.ends room.old.sweeper.pair
         (length room.old.words.items) }
     ensures reported { Puts (sunk T.Sink out.old) (sweep_text (remark_values marks.now) deck.now)
         (done_of result) (sunk T.Sink out.new) }
@@ -299,7 +299,7 @@ fn sweep_in<T: Sink, L: Ledger>(
 {
     let mut sums = no_sums();
     sweep_lines(
-        &mut room.bench,
+        &mut room.sweeper,
         deck,
         room.names.as_slice(),
         marks,

@@ -5,7 +5,7 @@ use Rattle.mc_text.specs.Texts.{Sunk, Puts, sunk_in}
 use Rattle.mc_lab.specs.Expectations.{count_failed, expect_text, steady_steps}
 use Rattle.mc_lab.specs.Judged.{text_left}
 use Rattle.mc_lab.specs.Stages.{Staged}
-use Rattle.mc_lab.proofs.TrialLemmas.{LinesAbove}
+use Rattle.mc_lab.proofs.ExpectedDeckLemmas.{LinesAbove}
 use Rattle.mc_lab.proofs.expecting.expect.Given as goal
 
 -- the lines above some number were played; a writer of the rest of the report from here writes all of it from the start
@@ -15,11 +15,11 @@ invariant-loop-expectation g l =
     let bench = g.N.Bench.bench in
     let taken = g.T.Sink.taken in
     let faults = g.T.Sink.faults in
-    let es = remark_values l.trial.expectations.items in
-    let whole = steady_steps (state l.fn.device).words l.trial.deck in
+    let es = remark_values l.expected_deck.expectations.items in
+    let whole = steady_steps (state l.fn.device).words l.expected_deck.deck in
     record {
-      above : LinesAbove l.trial.deck l.count (drop l.expectation-index es);
-      staged : Staged state bench whole l.trial.deck l.player l.count l.text.items;
+      above : LinesAbove l.expected_deck.deck l.count (drop l.expectation-index es);
+      staged : Staged state bench whole l.expected_deck.deck l.player l.count l.text.items;
       left : l.failed + count_failed whole (drop l.expectation-index es) ≡ count_failed whole es;
       few : l.failed ≤ l.expectation-index;
       reported : (r : Result (Unit {0}) WriteFault) (b : Sunk) → Puts (sunk_in taken faults l.out) (text_left whole (drop l.expectation-index es) es) r b → Puts (sunk_in taken faults l.fn.out) (expect_text whole es) r b;

@@ -6,7 +6,8 @@ use Rattle.mc_model_play.specs.DeckGrammar.{deck_read}
 use Rattle.mc_lab.specs.declared.remark.Remark.{Remark as Found}
 use Rattle.mc_lab.specs.Remarks.{Remark, just}
 use Rattle.mc_lab.specs.Remarked.{line_value, remark_values}
-use Rattle.mc_lab.specs.Scanning.{scanned, stays_inside}
+use Rattle.mc_explore.specs.Rules.{stays_inside}
+use Rattle.mc_lab.specs.Scanning.{scanned}
 use Rattle.mc_lab.proofs.SectionLemmas.{scanned_is}
 use Rattle.mc_lab.proofs.RemarkLemmas.{with_left, line_read, lines_done, scanned_are}
 use Rattle.mc_lab.proofs.scanning.remarks.Goals as goal

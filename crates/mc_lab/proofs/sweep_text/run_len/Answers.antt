@@ -1,5 +1,5 @@
 use Rattle.std.proofs.Common.{◌≡◌, ◌≤◌, false, true, length, get_or, arith, rules, sym, ◌∙◌, inl, inr}
-use Rattle.mc_lab.specs.declared.sweep_word.Word.TheVariants.{Before}
+use Rattle.mc_lab.specs.declared.sweep_word.SweepWord.TheVariants.{Before}
 use Rattle.mc_lab.proofs.SweepTexts.{fronts_one, fronts_more, runs_len}
 use Rattle.mc_lab.proofs.sweep_text.run_len.Goals as goal
 

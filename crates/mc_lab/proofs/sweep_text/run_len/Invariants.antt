@@ -1,5 +1,5 @@
 use Rattle.std.proofs.Common.{length, ◌-◌, ◌≤◌, get_or}
-use Rattle.mc_lab.specs.declared.sweep_word.Word.TheVariants.{Before}
+use Rattle.mc_lab.specs.declared.sweep_word.SweepWord.TheVariants.{Before}
 use Rattle.mc_lab.proofs.SweepTexts.{Fronts}
 use Rattle.mc_lab.proofs.sweep_text.run_len.Given as goal
 

@@ -9,5 +9,5 @@ invariant-loop-at g l =
     record {
       most : AtMost l.deck l.at l.most;
       small : l.most < 4294967295;
-      room : AccountsHaveRoom l.bench.ends l.bench.pair (length l.names);
+      room : AccountsHaveRoom l.sweeper.ends l.sweeper.pair (length l.names);
     }

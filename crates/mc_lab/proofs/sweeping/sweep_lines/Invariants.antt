@@ -17,5 +17,5 @@ invariant-loop-at g l =
       adds : (b : Sums) → AddsSums (remark_values l.marks) l.sums (sweeps_from l.names l.deck l.at) b → AddsSums (remark_values l.marks) l.fn.sums (sweeps_from l.names l.deck 0) b;
       small : IsSmall l.sums l.at;
       size : length l.words ≡ length l.fn.words;
-      room : AccountsHaveRoom l.bench.ends l.bench.pair (length l.names);
+      room : AccountsHaveRoom l.sweeper.ends l.sweeper.pair (length l.names);
     }

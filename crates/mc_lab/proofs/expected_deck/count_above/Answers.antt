@@ -2,7 +2,7 @@ use Rattle.std.proofs.Common.{arith}
 use Rattle.mc_deck.specs.Lines.{line_of}
 use Rattle.mc_lab.specs.Expectations.{line_number}
 use Rattle.mc_lab.proofs.BelowLemmas.{count_most, count_step, count_stop}
-use Rattle.mc_lab.proofs.trial.count_above.Goals as goal
+use Rattle.mc_lab.proofs.expected_deck.count_above.Goals as goal
 
 pub returns-then-line-number-clause-count : goal.returns-then-line-number-clause-count
 returns-then-line-number-clause-count c =

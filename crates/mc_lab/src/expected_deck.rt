@@ -3,8 +3,8 @@ ghost use Rattle.std.specs.Prelude.{◌≡◌, ◌+◌, ◌^◌, ◌<◌, ◌≤
 ghost use Rattle.mc_deck.specs.Lines.{line_of};
 ghost use Rattle.mc_lab.specs.Rising.{count_below, last_of, Rising};
 ghost use Rattle.mc_lab.specs.Remarked.{remark_number, remark_values};
-ghost use Rattle.mc_lab.specs.Expectations.{first_unanswered, has_result, is_answered, line_number, trial_read};
-ghost use Rattle.mc_lab.specs.Trials.{refusal_of, trial_value, IsRising, RefusesTrial};
+ghost use Rattle.mc_lab.specs.Expectations.{first_unanswered, has_result, is_answered, line_number, expected_deck_read};
+ghost use Rattle.mc_lab.specs.ExpectedDecks.{refusal_of, expected_deck_value, IsRising, RefusesExpectedDeck};
 
 use crate::remark::{Mark, Remark};
 use crate::scanning::remarks;
@@ -15,14 +15,14 @@ use thiserror::Error;
 
 /// A deck and its expectations, remarks whose texts are patterns.
 #[derive(Drop)]
-pub struct Trial<'a> {
+pub struct ExpectedDeck<'a> {
     pub deck: Deck,
     pub expectations: Vec<Remark<'a>>,
 }
 
 /// Why a text is not a deck with expectations.
 #[derive(Clone, Copy, Debug, PartialEq, Eq, Error)]
-pub enum TrialRefusal {
+pub enum ExpectationRefusal {
     /// The first refused line of the deck, counted from 1, and its cause.
     #[error("line {0}: refused")]
     Deck(u32, DeckCause),
@@ -37,14 +37,14 @@ pub enum TrialRefusal {
     NoMemory,
 }
 
-impl From<NoMemory> for TrialRefusal {
+impl From<NoMemory> for ExpectationRefusal {
     ghost use Rattle.std.specs.Prelude.{◌≡◌};
-    ghost use Rattle.mc_lab.specs.declared.trial.TrialRefusal.TheVariants.{NoMemory};
+    ghost use Rattle.mc_lab.specs.declared.expected_deck.ExpectationRefusal.TheVariants.{NoMemory};
 
     ghost from_gives = { λ f e. e ≡ NoMemory };
 
     fn from(_error: NoMemory) -> Self {
-        TrialRefusal::NoMemory
+        ExpectationRefusal::NoMemory
     }
 }
 
@@ -103,13 +103,13 @@ fn first_unanswered(deck: &Deck, expectations: &[Remark<'_>]) -> Option<u32>
     None
 }
 
-// The refusal of a deck, as one of a trial.
-fn refusal_of(refusal: DeckRefusal) -> TrialRefusal
+// The refusal of a deck, as one of a deck with expectations.
+fn refusal_of(refusal: DeckRefusal) -> ExpectationRefusal
     ensures { result ≡ refusal_of refusal }
 {
     match refusal {
-        DeckRefusal::At(number, cause) => TrialRefusal::Deck(number, cause),
-        DeckRefusal::NoMemory => TrialRefusal::NoMemory,
+        DeckRefusal::At(number, cause) => ExpectationRefusal::Deck(number, cause),
+        DeckRefusal::NoMemory => ExpectationRefusal::NoMemory,
     }
 }
 
@@ -119,11 +119,14 @@ fn refusal_of(refusal: DeckRefusal) -> TrialRefusal
 ///
 /// Returns the refusal of the deck, or else the line of the first expectation without a statement above it
 /// that has a result, or else `NoExpectation` if there is none; or `NoMemory` if it is out of memory.
-pub fn read_trial(alloc: Global, text: &[u8]) -> Result<Trial<'_>, TrialRefusal>
+pub fn read_expected_deck(
+    alloc: Global,
+    text: &[u8],
+) -> Result<ExpectedDeck<'_>, ExpectationRefusal>
     requires { length text.now < 2 ^ 32 }
-    ensures trial { IfOk result (λ t. trial_read text.now ≡ Ok (trial_value t)) }
+    ensures expected_deck { IfOk result (λ t. expected_deck_read text.now ≡ Ok (expected_deck_value t)) }
     ensures rising { IfOk result IsRising }
-    ensures refused { IfErr result (RefusesTrial (trial_read text.now)) }
+    ensures refused { IfErr result (RefusesExpectedDeck (expected_deck_read text.now)) }
 {
     let deck = match read_deck(alloc, text) {
         Ok(deck) => deck,
@@ -131,10 +134,10 @@ pub fn read_trial(alloc: Global, text: &[u8]) -> Result<Trial<'_>, TrialRefusal>
     };
     let expectations = remarks(alloc, text, Mark::Expectation)?;
     if let Some(number) = first_unanswered(&deck, expectations.as_slice()) {
-        return Err(TrialRefusal::NoAnswer(number));
+        return Err(ExpectationRefusal::NoAnswer(number));
     }
     if expectations.is_empty() {
-        return Err(TrialRefusal::NoExpectation);
+        return Err(ExpectationRefusal::NoExpectation);
     }
-    Ok(Trial { deck, expectations })
+    Ok(ExpectedDeck { deck, expectations })
 }

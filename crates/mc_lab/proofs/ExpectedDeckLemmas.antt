@@ -7,13 +7,13 @@ use Rattle.mc_model_play.specs.declared.deck.DeckCause.{DeckCause}
 use Rattle.mc_deck.specs.Refused.{DeckRefuses}
 use Rattle.mc_deck.specs.declared.refusal.DeckRefusal.{DeckRefusal}
 use Rattle.mc_deck.specs.declared.refusal.DeckRefusal.TheVariants as deck
-use Rattle.mc_lab.specs.Trials.{refusal_of, RefusesTrial}
+use Rattle.mc_lab.specs.ExpectedDecks.{refusal_of, RefusesExpectedDeck}
 use Rattle.mc_lab.specs.Rising.{Rising, count_below, last_of}
 use Rattle.mc_lab.specs.declared.remark.Mark.TheVariants as mark
 use Rattle.mc_lab.specs.Remarks.{Remark, remarks}
 use Rattle.mc_lab.specs.declared.remark.Remark.{Remark as Found}
 use Rattle.mc_lab.specs.Remarked.{remark_number, remark_values}
-use Rattle.mc_lab.specs.Expectations.{DeckFault, NoExpectation, first_unanswered, is_answered, last_below, line_number, trial_of, trial_read, trial_unless, trial_with}
+use Rattle.mc_lab.specs.Expectations.{DeckFault, NoExpectation, first_unanswered, is_answered, last_below, line_number, expected_deck_of, expected_deck_read, expected_deck_unless, expected_deck_with}
 use Rattle.mc_lab.proofs.RisingLemmas.{rising_lower}
 use Rattle.mc_lab.proofs.BelowLemmas.{count_on, last_is}
 
@@ -64,31 +64,31 @@ unanswered_none ls left whole i w = sym (ap (first_unanswered ls) i) ∙ w
 
 -- ---- what was read
 
-pub read_as : (text : List ℕ) (es : List Remark) (r : Result (List (ℕ × DeckLine)) (ℕ × DeckCause)) → es ≡ remarks mark.Expectation text → deck_read text ≡ r → trial_read text ≡ trial_of es r
-unfolding trial_read
-read_as text es r e h = ap (trial_of (remarks mark.Expectation text)) h ∙ ap (λ es. trial_of es r) (sym e)
+pub read_as : (text : List ℕ) (es : List Remark) (r : Result (List (ℕ × DeckLine)) (ℕ × DeckCause)) → es ≡ remarks mark.Expectation text → deck_read text ≡ r → expected_deck_read text ≡ expected_deck_of es r
+unfolding expected_deck_read
+read_as text es r e h = ap (expected_deck_of (remarks mark.Expectation text)) h ∙ ap (λ es. expected_deck_of es r) (sym e)
 
-pub read_deck : (text : List ℕ) (n : ℕ) (c : DeckCause) → deck_read text ≡ Err (n, c) → trial_read text ≡ Err (DeckFault n c)
-unfolding trial_read
-read_deck text n c h = ap (trial_of (remarks mark.Expectation text)) h
+pub read_deck : (text : List ℕ) (n : ℕ) (c : DeckCause) → deck_read text ≡ Err (n, c) → expected_deck_read text ≡ Err (DeckFault n c)
+unfolding expected_deck_read
+read_deck text n c h = ap (expected_deck_of (remarks mark.Expectation text)) h
 
-pub read_trial : (text : List ℕ) (ls : List (ℕ × DeckLine)) (es : List Remark) (o : Option ℕ) → es ≡ remarks mark.Expectation text → deck_read text ≡ Ok ls → o ≡ first_unanswered ls es → trial_read text ≡ trial_unless ls es o
-read_trial text ls es o e h w = read_as text es (Ok ls) e h ∙ ap (trial_unless ls es) (sym w)
+pub read_expected_deck : (text : List ℕ) (ls : List (ℕ × DeckLine)) (es : List Remark) (o : Option ℕ) → es ≡ remarks mark.Expectation text → deck_read text ≡ Ok ls → o ≡ first_unanswered ls es → expected_deck_read text ≡ expected_deck_unless ls es o
+read_expected_deck text ls es o e h w = read_as text es (Ok ls) e h ∙ ap (expected_deck_unless ls es) (sym w)
 
--- the refusal of a deck is one of the trial
-pub refused_deck : (text : List ℕ) (e : DeckRefusal) → DeckRefuses (deck_read text) e → RefusesTrial (trial_read text) (refusal_of e)
+-- the refusal of a deck is one of a deck with expectations
+pub refused_deck : (text : List ℕ) (e : DeckRefusal) → DeckRefuses (deck_read text) e → RefusesExpectedDeck (expected_deck_read text) (refusal_of e)
 refused_deck text (deck.At n c) h = read_deck text n c h
 refused_deck text deck.NoMemory h = tt
 
 -- a deck without an expectation, and one with some
-pub trial_none : (text : List ℕ) (ls : List (ℕ × DeckLine)) (es : List Found) (n : ℕ) → trial_read text ≡ trial_with ls (remark_values es) → length es ≡ n → (n == 0) ≡ true → trial_read text ≡ Err NoExpectation
-trial_none text ls [] n h len none = h
-trial_none text ls (e ∷ es) n h len none =
+pub expected_deck_none : (text : List ℕ) (ls : List (ℕ × DeckLine)) (es : List Found) (n : ℕ) → expected_deck_read text ≡ expected_deck_with ls (remark_values es) → length es ≡ n → (n == 0) ≡ true → expected_deck_read text ≡ Err NoExpectation
+expected_deck_none text ls [] n h len none = h
+expected_deck_none text ls (e ∷ es) n h len none =
     let zero_long : n ≡ 0 = grind (arith, nat_tests) in
     absurd (omega (arith, len, zero_long))
 
-pub trial_some : (text : List ℕ) (ls : List (ℕ × DeckLine)) (es : List Found) (n : ℕ) → trial_read text ≡ trial_with ls (remark_values es) → length es ≡ n → (n == 0) ≡ false → trial_read text ≡ Ok (record { lines = ls; expected = remark_values es })
-trial_some text ls [] n h len some =
+pub expected_deck_some : (text : List ℕ) (ls : List (ℕ × DeckLine)) (es : List Found) (n : ℕ) → expected_deck_read text ≡ expected_deck_with ls (remark_values es) → length es ≡ n → (n == 0) ≡ false → expected_deck_read text ≡ Ok (record { lines = ls; expected = remark_values es })
+expected_deck_some text ls [] n h len some =
     let long : 0 < n = grind (arith, nat_tests) in
     absurd (omega (arith, len, long))
-trial_some text ls (e ∷ es) n h len some = h
+expected_deck_some text ls (e ∷ es) n h len some = h

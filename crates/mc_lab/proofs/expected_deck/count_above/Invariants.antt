@@ -1,7 +1,7 @@
 use Rattle.std.proofs.Common.{◌≡◌, ◌+◌, ◌-◌, drop, length}
 use Rattle.mc_lab.specs.Rising.{count_below}
 use Rattle.mc_lab.specs.Expectations.{line_number}
-use Rattle.mc_lab.proofs.trial.count_above.Given as goal
+use Rattle.mc_lab.proofs.expected_deck.count_above.Given as goal
 
 -- the counted lines and the rest are all
 abbrev pub invariant-loop-count : goal.invariant-loop-count

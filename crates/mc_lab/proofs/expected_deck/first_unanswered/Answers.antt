@@ -2,8 +2,8 @@ use Rattle.std.proofs.Common.{◌+◌, refl, drop, slice_index_or}
 use Rattle.mc_lab.specs.Expectations.{first_unanswered}
 use Rattle.mc_lab.specs.Remarked.{remark_value, remark_values}
 use Rattle.mc_lab.proofs.ExpectLemmas.{expectation_at, no_remark}
-use Rattle.mc_lab.proofs.TrialLemmas.{above_start, above_from, above_on, unanswered_first, unanswered_on}
-use Rattle.mc_lab.proofs.trial.first_unanswered.Goals as goal
+use Rattle.mc_lab.proofs.ExpectedDeckLemmas.{above_start, above_from, above_on, unanswered_first, unanswered_on}
+use Rattle.mc_lab.proofs.expected_deck.first_unanswered.Goals as goal
 
 pub loop-expectation-init : goal.loop-expectation-init
 loop-expectation-init c = record { above = above_start c.args.deck.now (remark_values c.args.expectations.now) c.requires.expectations; left = refl }

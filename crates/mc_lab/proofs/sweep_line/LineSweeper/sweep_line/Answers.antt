@@ -1,7 +1,7 @@
 use Rattle.std.proofs.Common.{◌<◌, length, arith, ◌∙◌}
 use Rattle.std.proofs.lemmas.List.{length-set}
 use Rattle.mc_lab.proofs.SweepLoops.{sweeping_more}
-use Rattle.mc_lab.proofs.sweep_line.Bench.sweep_line.Goals as goal
+use Rattle.mc_lab.proofs.sweep_line.LineSweeper.sweep_line.Goals as goal
 
 pub loop-writes-preserved : goal.loop-writes-preserved
 loop-writes-preserved g c =

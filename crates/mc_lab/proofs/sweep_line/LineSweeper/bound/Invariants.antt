@@ -1,6 +1,6 @@
 use Rattle.std.proofs.Common.{length, ◌-◌, ◌<◌, ◌≤◌}
 use Rattle.mc_lab.specs.SweepBodies.{AccountsHaveRoom}
-use Rattle.mc_lab.proofs.sweep_line.Bench.bound.Given as goal
+use Rattle.mc_lab.proofs.sweep_line.LineSweeper.bound.Given as goal
 
 -- the bounds that were exceeded already
 abbrev pub invariant-loop-most : goal.invariant-loop-most

@@ -1,6 +1,6 @@
 use Rattle.std.proofs.Common.{◌≡◌, ◌+◌, false, replicate, arith, rules}
 use Rattle.mc_lab.proofs.SweepLoops.{missed_past}
-use Rattle.mc_lab.proofs.sweep_line.Bench.bound.Goals as goal
+use Rattle.mc_lab.proofs.sweep_line.LineSweeper.bound.Goals as goal
 
 pub returns-then-not-played-clause-writes : goal.returns-then-not-played-clause-writes
 returns-then-not-played-clause-writes g c =
