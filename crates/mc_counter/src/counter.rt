@@ -7,10 +7,10 @@ ghost use Rattle.mc_card.specs.Ends.{outcome_or_stop};
 ghost use Rattle.mc_deck.specs.Lines.{line_of, GoodLine};
 ghost use Rattle.mc_script.specs.Arming.{on_after_answer};
 ghost use Rattle.mc_script.specs.Counting.{count_after_rises, line_powers};
-ghost use Rattle.mc_script.specs.Lines.{LineDone};
-ghost use Rattle.mc_script.specs.Players.{device_of, IsPlaying};
+ghost use Rattle.mc_script.specs.Players.{device_of};
 ghost use Rattle.mc_script.specs.Runs.{RanAndReported};
-ghost use Rattle.mc_script.specs.StepCounts.{command_search, instructions, CountsLine, StepsOf};
+ghost use Rattle.mc_script.specs.StepCounts.{command_search, instructions, StepsOf};
+ghost use Rattle.mc_script.specs.Benches.{CountsLine, IsPlaying, LineDone};
 ghost use Rattle.mc_counter.specs.Counters.{counts_no_turn, counts_on, AreCounted, CountsTurns};
 
 use mc_base::{Steps, Stop};
@@ -89,16 +89,16 @@ fn play<N: Bench, L: Ledger>(
     line: &Line<'_>,
     steps: &mut Steps<L>,
 ) -> Option<Answer>
-    requires playing { IsPlaying N.state N.bench player.old }
+    requires playing { IsPlaying N.Bench player.old }
     requires good { GoodLine (line_of line.now) }
-    ensures done { LineDone N.state N.bench (AreCounted counter.old.ons.now counter.old.applies.now) player.old
+    ensures done { LineDone N.Bench (AreCounted counter.old.ons.now counter.old.applies.now) player.old
         (line_of line.now) counter.old.counts.now counter.new.counts.now result player.new }
     ensures same { counter.new.counts.ghost_name ≡ counter.old.counts.ghost_name }
     ensures powers { (N.bench (device_of player.new)).powers
         ≡ count_after_rises (N.bench (device_of player.old)).powers (line_powers (line_of line.now)) }
     ensures power { (N.state (device_of player.new)).on
         ≡ on_after_answer (N.state (device_of player.old)).on (line_of line.now) result }
-    ensures steps { CountsLine N.state N.bench player.old (line_of line.now) result steps.old steps.new }
+    ensures steps { CountsLine N.Bench player.old (line_of line.now) result steps.old steps.new }
     ensures keeps_device { N.same (device_of player.old) (device_of player.new) }
 {
     player.line(line, counter, steps)
@@ -116,16 +116,16 @@ pub fn play_counted<N: Bench, L: Ledger>(
     counts: &mut [u64],
     steps: &mut Steps<L>,
 ) -> Option<Answer>
-    requires playing { IsPlaying N.state N.bench player.old }
+    requires playing { IsPlaying N.Bench player.old }
     requires good { GoodLine (line_of line.now) }
     // The line is the step of the play from each state that the player is at, and the turns that it shows are counted.
-    ensures done { LineDone N.state N.bench (AreCounted ons.now applies.now) player.old (line_of line.now)
+    ensures done { LineDone N.Bench (AreCounted ons.now applies.now) player.old (line_of line.now)
         counts.old counts.new result player.new }
     ensures powers { (N.bench (device_of player.new)).powers
         ≡ count_after_rises (N.bench (device_of player.old)).powers (line_powers (line_of line.now)) }
     ensures power { (N.state (device_of player.new)).on
         ≡ on_after_answer (N.state (device_of player.old)).on (line_of line.now) result }
-    ensures steps { CountsLine N.state N.bench player.old (line_of line.now) result steps.old steps.new }
+    ensures steps { CountsLine N.Bench player.old (line_of line.now) result steps.old steps.new }
     ensures keeps_device { N.same (device_of player.old) (device_of player.new) }
 {
     if !has_turns(ons, applies) {

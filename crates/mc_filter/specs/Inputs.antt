@@ -22,8 +22,8 @@ pub record Stream : Type 0 where
 abbrev pub stream : {S : Type 0} → source.Ghosts S → S → Stream
 stream t s = record { left = t.left s; faults = t.faults s; calls = t.calls s }
 
--- the input was read to its end from a source a that is b afterwards, and is within the limit; no call failed, and each
--- but the last one took a byte at least, so that the end was asked for once
+-- the input was read to its end from a source a that is b afterwards, and is within the limit; no call failed, and
+-- there was at most one call more than bytes
 pub record ReadWhole (a b : Stream) (input : List ℕ) : Type 0 where
   pub bytes : Took a.left b.left input
   pub end : AtEnd b.left

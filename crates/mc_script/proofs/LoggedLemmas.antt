@@ -4,6 +4,7 @@ use Rattle.mc_model_machine.specs.Chain.{Turn}
 use Rattle.std.specs.Result.{result_err}
 use Rattle.mc_model_machine.specs.TurnText.{turn_lines}
 use Rattle.mc_base.specs.declared.refusals.WriteFault.{WriteFault}
+use Rattle.mc_base.specs.declared.sink.Sink.{Ghosts}
 use Rattle.mc_text.specs.Texts.{Sunk, Puts}
 use Rattle.mc_text.specs.Logs.{LoggedBy, Logged}
 use Rattle.mc_text.proofs.TextLemmas.{puts_then}
@@ -18,9 +19,9 @@ none_reported : (t : Reporting) (ts : List Turn) → t ≡ Results → [] ≡ re
 none_reported Results ts is = refl
 none_reported Turns ts is = absurd (cc is)
 
-pub keeps_untold : {T : Type 0} (taken : T → Option (List ℕ)) (faults : T → ℕ) (w : Writer T) (ts : List Turn) → w.reporting ≡ Results → WriterKeeps taken faults w ts w
-keeps_untold taken faults w ts is =
-    let log = log_in taken faults w in
+pub keeps_untold : {T : Type 0} (sink : Ghosts T) (w : Writer T) (ts : List Turn) → w.reporting ≡ Results → WriterKeeps sink w ts w
+keeps_untold sink w ts is =
+    let log = log_in sink w in
     record { lines = subst (λ (us : List Turn). Logged log us log) (none_reported w.reporting ts is) (logged_none log); reporting = refl; same = refl }
 
 -- a line after the turns of a log that had no fault

@@ -14,5 +14,6 @@ pub mod Plays
 pub mod Lines
 pub mod StepCounts
 pub mod Sums
+pub mod Benches
 pub mod Lives
 pub mod Stops

@@ -7,7 +7,8 @@ use Rattle.mc_model_play.specs.Transcript.{line_text}
 use Rattle.mc_model_play.specs.TraceText.{shown_turns}
 use Rattle.mc_model_machine.specs.TurnText.{turn_lines}
 use Rattle.mc_base.specs.declared.refusals.WriteFault.{WriteFault}
-use Rattle.mc_text.specs.Texts.{sunk_in}
+use Rattle.mc_base.specs.declared.sink.Sink.{Ghosts}
+use Rattle.mc_text.specs.Texts.{sunk}
 use Rattle.mc_text.specs.Logs.{Logged}
 use Rattle.mc_text.specs.Logs as text
 use Rattle.mc_text.proofs.LogLemmas.{logged_none, logged_on}
@@ -38,12 +39,12 @@ text_by f t = f (shown_turns t.turns t.stop) ++ line_text t.number t.result
 -- ---- writers
 
 -- the log of a writer, by what its sink took
-abbrev pub log_in : {T : Type 0} → (T → Option (List ℕ)) → (T → ℕ) → Writer T → text.Log
-log_in taken faults w = record { out = sunk_in taken faults w.out.now; fault = w.fault }
+abbrev pub log_in : {T : Type 0} → Ghosts T → Writer T → text.Log
+log_in sink w = record { out = sunk sink w.out.now; fault = w.fault }
 
 -- turns that a writer recorded: it has the same sink as before, with the lines of those turns that it writes
-pub record WriterKeeps {T : Type 0} (taken : T → Option (List ℕ)) (faults : T → ℕ) (w : Writer T) (ts : List Turn) (x : Writer T) : Type 0 where
-  pub lines : Logged (log_in taken faults w) (reported_turns w.reporting ts) (log_in taken faults x)
+pub record WriterKeeps {T : Type 0} (sink : Ghosts T) (w : Writer T) (ts : List Turn) (x : Writer T) : Type 0 where
+  pub lines : Logged (log_in sink w) (reported_turns w.reporting ts) (log_in sink x)
   pub reporting : x.reporting ≡ w.reporting
   pub same : x.out.ghost_name ≡ w.out.ghost_name
 
@@ -59,19 +60,19 @@ pub reported_behind : (t : Reporting) (ts us : List Turn) → reported_turns t t
 reported_behind Results ts us = refl
 reported_behind Turns ts us = refl
 
-module _ {T : Type 0} (taken : T → Option (List ℕ)) (faults : T → ℕ) where
+module _ {T : Type 0} (sink : Ghosts T) where
   -- a writer that recorded no turn is unchanged
-  pub keeps_none : (w : Writer T) → WriterKeeps taken faults w [] w
+  pub keeps_none : (w : Writer T) → WriterKeeps sink w [] w
   keeps_none w =
-      let log = log_in taken faults w in
+      let log = log_in sink w in
       record { lines = subst (λ (ts : List Turn). Logged log ts log) (reported_none w.reporting) (logged_none log); reporting = refl; same = refl }
 
   -- turns are recorded after turns
-  pub keeps_on : (w x y : Writer T) (ts us : List Turn) → WriterKeeps taken faults w ts x → WriterKeeps taken faults x us y → WriterKeeps taken faults w (ts ++ us) y
+  pub keeps_on : (w x y : Writer T) (ts us : List Turn) → WriterKeeps sink w ts x → WriterKeeps sink x us y → WriterKeeps sink w (ts ++ us) y
   keeps_on w x y ts us first rest =
-      let a = log_in taken faults w in
-      let b = log_in taken faults x in
-      let c = log_in taken faults y in
+      let a = log_in sink w in
+      let b = log_in sink x in
+      let c = log_in sink y in
       let more = subst (λ (t : Reporting). Logged b (reported_turns t us) c) first.reporting rest.lines in
       record {
         lines = subst (λ (vs : List Turn). Logged a vs c) (reported_behind w.reporting ts us) (logged_on a b c (reported_turns w.reporting ts) (reported_turns w.reporting us) first.lines more);

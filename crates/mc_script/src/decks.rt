@@ -1,9 +1,8 @@
 // All lines of a deck, of which nothing is written.
 ghost use Rattle.std.specs.Prelude.{◌≡◌};
 ghost use Rattle.mc_model_play.specs.Play.{State};
-ghost use Rattle.mc_script.specs.Players.{device_of, IsPlayerAt, IsPlaying};
-ghost use Rattle.mc_script.specs.Lines.{DeckPlayed};
-ghost use Rattle.mc_script.specs.StepCounts.{CountsPlayed};
+ghost use Rattle.mc_script.specs.Players.{device_of};
+ghost use Rattle.mc_script.specs.Benches.{CountsPlayed, DeckPlayed, IsPlayerAt, IsPlaying};
 
 use crate::player::Player;
 use crate::runner::Silent;
@@ -15,11 +14,11 @@ use std::sync::ledger::Ledger;
 impl<N: Bench> Player<N> {
     /// Plays all lines of a deck, and writes nothing.
     pub fn deck<L: Ledger>(&mut self, deck: &Deck, steps: &mut Steps<L>)
-        requires playing { IsPlaying N.state N.bench self.old }
-        ensures done { (s : State) → IsPlayerAt N.state N.bench self.old s
-            → DeckPlayed N.state N.bench self.old s deck.now self.new }
-        ensures steps { (s : State) → IsPlayerAt N.state N.bench self.old s
-            → CountsPlayed N.state N.bench self.old s deck.now self.new steps.old steps.new }
+        requires playing { IsPlaying N.Bench self.old }
+        ensures done { (s : State) → IsPlayerAt N.Bench self.old s
+            → DeckPlayed N.Bench self.old s deck.now self.new }
+        ensures steps { (s : State) → IsPlayerAt N.Bench self.old s
+            → CountsPlayed N.Bench self.old s deck.now self.new steps.old steps.new }
         ensures keeps_device { N.same (device_of self.old) (device_of self.new) }
     {
         for i in 0..deck.len() {

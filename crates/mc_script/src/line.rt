@@ -1,12 +1,11 @@
 // One line of a deck.
 ghost use Rattle.std.specs.Prelude.{◌≡◌};
 ghost use Rattle.mc_deck.specs.Lines.{line_of, GoodLine};
-ghost use Rattle.mc_script.specs.Players.{device_of, IsPlaying};
+ghost use Rattle.mc_script.specs.Players.{device_of};
 ghost use Rattle.mc_script.specs.Counting.{count_after_rises, line_powers};
 ghost use Rattle.mc_script.specs.Arming.{on_after_answer};
 ghost use Rattle.mc_script.specs.Runs.{sent_by};
-ghost use Rattle.mc_script.specs.Lines.{LineDone};
-ghost use Rattle.mc_script.specs.StepCounts.{CountsLine};
+ghost use Rattle.mc_script.specs.Benches.{CountsLine, IsPlaying, LineDone};
 
 use crate::answer::Answer;
 use crate::commands::CardLine;
@@ -29,11 +28,11 @@ impl<N: Bench> Player<N> {
         runner: &mut R,
         steps: &mut Steps<L>,
     ) -> Option<Answer>
-        requires playing { IsPlaying N.state N.bench self.old }
+        requires playing { IsPlaying N.Bench self.old }
         requires good { GoodLine (line_of line.now) }
         // The line is the step of the play from each state that the player is at: its words, its power, its calls of
         // the bench, its tape, its turns and its result.
-        ensures done { LineDone N.state N.bench (R.reported (sent_by N.state self.old (line_of line.now))) self.old
+        ensures done { LineDone N.Bench (R.reported (sent_by N.state self.old (line_of line.now))) self.old
             (line_of line.now) runner.old runner.new result self.new }
         // A `power` line turns the power of the device on once, and no other line does.
         ensures powers { (N.bench (device_of self.new)).powers
@@ -42,7 +41,7 @@ impl<N: Bench> Player<N> {
         ensures power { (N.state (device_of self.new)).on
             ≡ on_after_answer (N.state (device_of self.old)).on (line_of line.now) result }
         // Its steps are those of its instructions and of its search for room; a line that a stop hits makes no more.
-        ensures steps { CountsLine N.state N.bench self.old (line_of line.now) result steps.old steps.new }
+        ensures steps { CountsLine N.Bench self.old (line_of line.now) result steps.old steps.new }
         // The device is the same one.
         ensures keeps_device { N.same (device_of self.old) (device_of self.new) }
     {

@@ -3,7 +3,8 @@ ghost use Rattle.std.specs.Prelude.{◌≡◌, true, false, IfOk};
 ghost use Rattle.mc_model_play.specs.Play as play;
 ghost use Rattle.mc_model_play.specs.Play.{State, Warm, AfterPower, Running};
 ghost use Rattle.mc_model_play.specs.Family.{live_in, is_running};
-ghost use Rattle.mc_script.specs.Players.{device_of, IsPlayerAt, IsPlaying};
+ghost use Rattle.mc_script.specs.Players.{device_of};
+ghost use Rattle.mc_script.specs.Benches.{IsPlayerAt, IsPlaying};
 ghost use Rattle.mc_script.specs.Lives.{LiveShows, FitsLive, IsStopped, live_at};
 ghost use Rattle.mc_card.specs.Saved.{FitsWords, session_state_on};
 
@@ -28,8 +29,8 @@ impl<N: Bench> Player<N> {
     ///
     /// Returns `NoMemory` if it is out of memory.
     pub fn live(&self, alloc: Global) -> Result<Live, NoMemory>
-        requires { IsPlaying N.state N.bench self.now }
-        ensures shows { IfOk result (λ v. (s : State) → IsPlayerAt N.state N.bench self.now s
+        requires { IsPlaying N.Bench self.now }
+        ensures shows { IfOk result (λ v. (s : State) → IsPlayerAt N.Bench self.now s
             → LiveShows (N.state (device_of self.now)).words v (live_in s)) }
         ensures fits { IfOk result (FitsLive (N.state (device_of self.now)).words) }
     {
@@ -43,12 +44,12 @@ impl<N: Bench> Player<N> {
 
     /// Puts back what ran on the device, if a card runs exactly if one ran.
     pub fn put_live(&mut self, saved: &Live)
-        requires playing { IsPlaying N.state N.bench self.old }
+        requires playing { IsPlaying N.Bench self.old }
         requires fits { FitsLive (N.state (device_of self.old)).words saved.now }
-        ensures playing { IsPlaying N.state N.bench self.new }
-        ensures at { (s : Warm) (l : play.Live) → IsPlayerAt N.state N.bench self.old (AfterPower s)
+        ensures playing { IsPlaying N.Bench self.new }
+        ensures at { (s : Warm) (l : play.Live) → IsPlayerAt N.Bench self.old (AfterPower s)
             → LiveShows (N.state (device_of self.old)).words saved.now l → is_running s.live ≡ is_running l
-            → IsPlayerAt N.state N.bench self.new (AfterPower (record s { live = l })) }
+            → IsPlayerAt N.Bench self.new (AfterPower (record s { live = l })) }
         ensures device { device_of self.new ≡ device_of self.old }
     {
         match saved {
@@ -60,11 +61,11 @@ impl<N: Bench> Player<N> {
 
     // Puts back the session state of a card, if one runs.
     fn put_running(&mut self, saved: &SavedSession)
-        requires playing { IsPlaying N.state N.bench self.old }
+        requires playing { IsPlaying N.Bench self.old }
         requires fits { FitsWords (N.state (device_of self.old)).words saved.now }
-        ensures playing { IsPlaying N.state N.bench self.new }
-        ensures at { (s : Warm) → IsPlayerAt N.state N.bench self.old (AfterPower s) → is_running s.live ≡ true
-            → IsPlayerAt N.state N.bench self.new (AfterPower (record s {
+        ensures playing { IsPlaying N.Bench self.new }
+        ensures at { (s : Warm) → IsPlayerAt N.Bench self.old (AfterPower s) → is_running s.live ≡ true
+            → IsPlayerAt N.Bench self.new (AfterPower (record s {
               live = Running (session_state_on (N.state (device_of self.old)).words saved.now);
             })) }
         ensures device { device_of self.new ≡ device_of self.old }
@@ -80,10 +81,10 @@ impl<N: Bench> Player<N> {
     // Replaces the power, if no card runs, by another one without a card.
     fn put_stopped(&mut self, power: Power)
         requires stopped { IsStopped power }
-        requires playing { IsPlaying N.state N.bench self.old }
-        ensures playing { IsPlaying N.state N.bench self.new }
-        ensures at { (s : Warm) → IsPlayerAt N.state N.bench self.old (AfterPower s) → is_running s.live ≡ false
-            → IsPlayerAt N.state N.bench self.new (AfterPower (record s { live = live_at power })) }
+        requires playing { IsPlaying N.Bench self.old }
+        ensures playing { IsPlaying N.Bench self.new }
+        ensures at { (s : Warm) → IsPlayerAt N.Bench self.old (AfterPower s) → is_running s.live ≡ false
+            → IsPlayerAt N.Bench self.new (AfterPower (record s { live = live_at power })) }
         ensures device { device_of self.new ≡ device_of self.old }
     {
         match self.power {

@@ -1,6 +1,7 @@
 ghost use Rattle.std.specs.Prelude.{◌≡◌};
 ghost use Rattle.mc_model_play.specs.Play.{start};
-ghost use Rattle.mc_script.specs.Players.{device_of, IsPlayerAt, IsUnfused};
+ghost use Rattle.mc_script.specs.Players.{device_of, IsUnfused};
+ghost use Rattle.mc_script.specs.Benches.{IsPlayerAt};
 
 use crate::armed::Armed;
 use mc_card::Card;
@@ -36,7 +37,7 @@ impl<N: Bench> Player<N> {
     /// Returns a play before its first line, on a device without a fuse.
     pub fn new(device: N) -> Player<N>
         requires { IsUnfused (N.bench device) }
-        ensures at { IsPlayerAt N.state N.bench result (start (N.state device).words) }
+        ensures at { IsPlayerAt N.Bench result (start (N.state device).words) }
         ensures device { device_of result ≡ device }
     {
         Player {

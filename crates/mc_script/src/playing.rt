@@ -11,6 +11,7 @@ ghost use Rattle.mc_model_play.specs.Generator.{summary};
 ghost use Rattle.mc_script.specs.Sums.{DumpsLast};
 ghost use Rattle.mc_script.specs.Plays.{plain_text, traced_text, PlaysDeck, SumsDeck};
 ghost use Rattle.mc_script.specs.StepCounts.{CountsFrom, CountsDeck, CountsSum};
+ghost use Rattle.mc_script.specs.Benches.{bench_at};
 
 use crate::player::Player;
 use crate::summing::sum_lines;
@@ -30,8 +31,8 @@ fn play_lines<N: Bench, T: Sink, L: Ledger>(
     requires fuses { IsUnfused (N.bench device) }
     requires fault { writer.old.fault ≡ None }
     ensures plays { CountsFrom (text_by (turns_text writer.old.reporting)) (start (N.state device).words) deck.now
-        (record { device = N.state device; bench = N.bench device }) (sunk T.Sink writer.old.out.now)
-        (write_result writer.new.fault) (record { device = N.state result; bench = N.bench result })
+        (bench_at N.Bench device) (sunk T.Sink writer.old.out.now)
+        (write_result writer.new.fault) (bench_at N.Bench result)
         (sunk T.Sink writer.new.out.now) steps.old steps.new }
     ensures image { IsImage (N.state device).words }
     ensures lines { AllByRecursion (λ l. IsLine l.1) deck.now }
@@ -69,15 +70,15 @@ pub fn play<N: Bench, T: Sink, L: Ledger>(
     requires { IsUnfused (N.bench dev.old) }
     // The lines are played in order, up to the first whose text is not wholly written. The words, the power, the calls
     // and the tape of the device are those of the lines, one by one and in sum, and what is written is their text.
-    ensures plays { PlaysDeck plain_text deck.now (record { device = N.state dev.old; bench = N.bench dev.old })
+    ensures plays { PlaysDeck plain_text deck.now (bench_at N.Bench dev.old)
         (record { taken = T.taken out.old; faults = T.faults out.old }) result
-        (record { device = N.state dev.new; bench = N.bench dev.new })
+        (bench_at N.Bench dev.new)
         (record { taken = T.taken out.new; faults = T.faults out.new }) }
     // Each executed instruction is one step, and the search of an OPEN for room takes at most two more than the card
     // has gaps. A line that a stop hits makes no more steps than the whole line.
-    ensures steps { CountsDeck plain_text deck.now (record { device = N.state dev.old; bench = N.bench dev.old })
+    ensures steps { CountsDeck plain_text deck.now (bench_at N.Bench dev.old)
         (record { taken = T.taken out.old; faults = T.faults out.old }) result
-        (record { device = N.state dev.new; bench = N.bench dev.new })
+        (bench_at N.Bench dev.new)
         (record { taken = T.taken out.new; faults = T.faults out.new }) steps.old steps.new }
 {
     let mut writer = Writer::new(&mut *out, Reporting::Results);
@@ -102,15 +103,15 @@ pub fn trace<N: Bench, T: Sink, L: Ledger>(
     requires { IsUnfused (N.bench dev.old) }
     // The lines are played in order, up to the first whose text is not wholly written. The words, the power, the calls
     // and the tape of the device are those of the lines, one by one and in sum, and what is written is their text.
-    ensures plays { PlaysDeck traced_text deck.now (record { device = N.state dev.old; bench = N.bench dev.old })
+    ensures plays { PlaysDeck traced_text deck.now (bench_at N.Bench dev.old)
         (record { taken = T.taken out.old; faults = T.faults out.old }) result
-        (record { device = N.state dev.new; bench = N.bench dev.new })
+        (bench_at N.Bench dev.new)
         (record { taken = T.taken out.new; faults = T.faults out.new }) }
     // Each executed instruction is one step, and the search of an OPEN for room takes at most two more than the card
     // has gaps. A line that a stop hits makes no more steps than the whole line.
-    ensures steps { CountsDeck traced_text deck.now (record { device = N.state dev.old; bench = N.bench dev.old })
+    ensures steps { CountsDeck traced_text deck.now (bench_at N.Bench dev.old)
         (record { taken = T.taken out.old; faults = T.faults out.old }) result
-        (record { device = N.state dev.new; bench = N.bench dev.new })
+        (bench_at N.Bench dev.new)
         (record { taken = T.taken out.new; faults = T.faults out.new }) steps.old steps.new }
 {
     let mut writer = Writer::new(&mut *out, Reporting::Turns);
@@ -137,15 +138,15 @@ pub fn summarise<N: Bench, T: Sink, L: Ledger>(
     requires dumps { DumpsLast deck.now }
     // All lines are played in order. The words, the power, the calls and the tape of the device are those of the lines,
     // one by one and in sum, and what is written is their summary.
-    ensures sums { SumsDeck summary deck.now (record { device = N.state dev.old; bench = N.bench dev.old })
+    ensures sums { SumsDeck summary deck.now (bench_at N.Bench dev.old)
         (record { taken = T.taken out.old; faults = T.faults out.old }) result
-        (record { device = N.state dev.new; bench = N.bench dev.new })
+        (bench_at N.Bench dev.new)
         (record { taken = T.taken out.new; faults = T.faults out.new }) }
     // Each executed instruction is one step, and the search of an OPEN for room takes at most two more than the card
     // has gaps. A line that a stop hits makes no more steps than the whole line.
-    ensures steps { CountsSum summary deck.now (record { device = N.state dev.old; bench = N.bench dev.old })
+    ensures steps { CountsSum summary deck.now (bench_at N.Bench dev.old)
         (record { taken = T.taken out.old; faults = T.faults out.old }) result
-        (record { device = N.state dev.new; bench = N.bench dev.new })
+        (bench_at N.Bench dev.new)
         (record { taken = T.taken out.new; faults = T.faults out.new }) steps.old steps.new }
 {
     let mut writer = Writer::new(&mut *out, Reporting::Results);

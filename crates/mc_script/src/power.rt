@@ -4,13 +4,12 @@ ghost use Rattle.mc_model_play.specs.DeckGrammar as line;
 ghost use Rattle.mc_deck.specs.Lines.{GoodLine};
 ghost use Rattle.mc_card.specs.Parts.{device_in, with_device, IsReadyCard};
 ghost use Rattle.mc_script.specs.Arming.{armed_bench, power_after_stop, answer_after_stop, power_after_failure, answer_after_failure};
-ghost use Rattle.mc_script.specs.Players.{device_of, CanArm, IsPlaying};
+ghost use Rattle.mc_script.specs.Players.{device_of, CanArm};
 ghost use Rattle.mc_script.specs.declared.armed.Armed.TheVariants as armed;
 ghost use Rattle.mc_script.specs.declared.player.Power.TheVariants as live;
 ghost use Rattle.mc_script.specs.Commands.{deck_line_of};
 ghost use Rattle.mc_script.specs.Runs.{sent_by};
-ghost use Rattle.mc_script.specs.Lines.{SilentDone, LineDone};
-ghost use Rattle.mc_script.specs.StepCounts.{CountsLine};
+ghost use Rattle.mc_script.specs.Benches.{CountsLine, IsPlaying, LineDone, SilentDone};
 
 use crate::answer::Answer;
 use crate::armed::Armed;
@@ -83,8 +82,8 @@ fn answer_after_failure(up: Up, armed: Armed) -> Answer
 impl<N: Bench> Player<N> {
     /// Plays a `power` line: turns power on and looks for the card, under the armed stop.
     pub(crate) fn power_line(&mut self) -> Answer
-        requires { IsPlaying N.state N.bench self.old }
-        ensures done { SilentDone N.state N.bench self.old line.Power (Some result) self.new }
+        requires { IsPlaying N.Bench self.old }
+        ensures done { SilentDone N.Bench self.old line.Power (Some result) self.new }
         ensures keeps_device { N.same (device_of self.old) (device_of self.new) }
     {
         let armed = self.armed;
@@ -113,11 +112,11 @@ impl<N: Bench> Player<N> {
         runner: &mut R,
         steps: &mut Steps<L>,
     ) -> Answer
-        requires playing { IsPlaying N.state N.bench self.old }
+        requires playing { IsPlaying N.Bench self.old }
         requires good { GoodLine (deck_line_of command.now) }
-        ensures done { LineDone N.state N.bench (R.reported (sent_by N.state self.old (deck_line_of command.now)))
+        ensures done { LineDone N.Bench (R.reported (sent_by N.state self.old (deck_line_of command.now)))
             self.old (deck_line_of command.now) runner.old runner.new (Some result) self.new }
-        ensures steps { CountsLine N.state N.bench self.old (deck_line_of command.now) (Some result) steps.old
+        ensures steps { CountsLine N.Bench self.old (deck_line_of command.now) (Some result) steps.old
             steps.new }
         ensures keeps_device { N.same (device_of self.old) (device_of self.new) }
     {
@@ -151,9 +150,9 @@ impl<N: Bench> Player<N> {
         requires most { self.old.budget ≤ 65536 }
         requires can { CanArm self.old.armed }
         requires good { GoodLine (deck_line_of command.now) }
-        ensures done { LineDone N.state N.bench (R.reported (sent_by N.state self.old (deck_line_of command.now)))
+        ensures done { LineDone N.Bench (R.reported (sent_by N.state self.old (deck_line_of command.now)))
             self.old (deck_line_of command.now) runner.old runner.new (Some result) self.new }
-        ensures steps { CountsLine N.state N.bench self.old (deck_line_of command.now) (Some result) steps.old
+        ensures steps { CountsLine N.Bench self.old (deck_line_of command.now) (Some result) steps.old
             steps.new }
         ensures keeps_device { N.same (device_of self.old) (device_of self.new) }
     {

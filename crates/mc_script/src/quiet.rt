@@ -7,7 +7,7 @@ ghost use Rattle.mc_model_play.specs.DeckGrammar as line;
 ghost use Rattle.mc_model_play.specs.Play.{formatted_image};
 ghost use Rattle.mc_card.specs.Parts.{device_in};
 ghost use Rattle.mc_script.specs.Players.{device_of};
-ghost use Rattle.mc_script.specs.Lines.{SilentDone};
+ghost use Rattle.mc_script.specs.Benches.{SilentDone};
 
 use crate::answer::Answer;
 use crate::armed::Armed;
@@ -60,7 +60,7 @@ impl<N: Bench> Player<N> {
     pub(crate) fn set_budget(&mut self, budget: u32)
         requires some { 1 ≤ budget }
         requires most { budget ≤ 65536 }
-        ensures done { SilentDone N.state N.bench self.old (line.Budget budget) None self.new }
+        ensures done { SilentDone N.Bench self.old (line.Budget budget) None self.new }
         ensures device { device_of self.new ≡ device_of self.old }
     {
         self.budget = budget;
@@ -69,7 +69,7 @@ impl<N: Bench> Player<N> {
     /// Plays a `cut` line.
     pub(crate) fn arm_cut(&mut self, k: u32, fill: Word)
         requires { 1 ≤ k }
-        ensures done { SilentDone N.state N.bench self.old (line.Cut k fill) None self.new }
+        ensures done { SilentDone N.Bench self.old (line.Cut k fill) None self.new }
         ensures device { device_of self.new ≡ device_of self.old }
     {
         self.armed = Armed::Cut { k, fill };
@@ -78,7 +78,7 @@ impl<N: Bench> Player<N> {
     /// Plays a `fail` line.
     pub(crate) fn arm_fail(&mut self, k: u32)
         requires { 1 ≤ k }
-        ensures done { SilentDone N.state N.bench self.old (line.Fail k) None self.new }
+        ensures done { SilentDone N.Bench self.old (line.Fail k) None self.new }
         ensures device { device_of self.new ≡ device_of self.old }
     {
         self.armed = Armed::Fail(k);
@@ -86,7 +86,7 @@ impl<N: Bench> Player<N> {
 
     /// Plays a `format` line, which does nothing after the first power line.
     pub(crate) fn format(&mut self) -> Option<Answer>
-        ensures done { SilentDone N.state N.bench self.old line.Format result self.new }
+        ensures done { SilentDone N.Bench self.old line.Format result self.new }
         ensures keeps_device { N.same (device_of self.old) (device_of self.new) }
     {
         match self.power {
@@ -100,7 +100,7 @@ impl<N: Bench> Player<N> {
 
     /// Plays a `poke` line, which does nothing after the first power line.
     pub(crate) fn poke(&mut self, at: u16, fill: Word)
-        ensures done { SilentDone N.state N.bench self.old (line.Poke at fill) None self.new }
+        ensures done { SilentDone N.Bench self.old (line.Poke at fill) None self.new }
         ensures keeps_device { N.same (device_of self.old) (device_of self.new) }
     {
         match self.power {

@@ -1,7 +1,8 @@
 // What a play holds between two lines, and the session bytes of its card put back.
 ghost use Rattle.std.specs.Prelude.{◌≡◌, ◌≤◌, IfSome};
 ghost use Rattle.mc_card.specs.Parts.{device_in, IsReadyCard};
-ghost use Rattle.mc_script.specs.Players.{device_of, IsPlaying};
+ghost use Rattle.mc_script.specs.Players.{device_of};
+ghost use Rattle.mc_script.specs.Benches.{IsPlaying};
 ghost use Rattle.mc_script.specs.Stops.{has_stop};
 
 use crate::armed::Armed;
@@ -12,7 +13,7 @@ use mc_nvm::Bench;
 impl<N: Bench> Player<N> {
     /// Returns the card, or `None` if no card runs.
     pub fn card(&self) -> Option<&Card<N>>
-        requires { IsPlaying N.state N.bench self.now }
+        requires { IsPlaying N.Bench self.now }
         ensures { IfSome result (λ card. IsReadyCard N.state card.now) }
     {
         match self.power {
@@ -23,7 +24,7 @@ impl<N: Bench> Player<N> {
 
     /// Returns the budget of the commands to come, 1 to 65,536 instructions.
     pub fn budget(&self) -> u32
-        requires { IsPlaying N.state N.bench self.now }
+        requires { IsPlaying N.Bench self.now }
         ensures budget { result ≡ self.now.budget }
         ensures low { 1 ≤ result }
         ensures high { result ≤ 65536 }
@@ -45,8 +46,8 @@ impl<N: Bench> Player<N> {
     /// Replaces the session bytes of the selected application by `bytes`, and returns whether it did: if no
     /// card runs, or if their number is another one, nothing changes.
     pub fn put_session(&mut self, bytes: &[u8]) -> bool
-        requires { IsPlaying N.state N.bench self.old }
-        ensures playing { IsPlaying N.state N.bench self.new }
+        requires { IsPlaying N.Bench self.old }
+        ensures playing { IsPlaying N.Bench self.new }
         ensures device { device_of self.new ≡ device_of self.old }
     {
         match self.power {

@@ -7,10 +7,10 @@ ghost use Rattle.mc_model_play.specs.ReadyAgain.{IsLine};
 ghost use Rattle.mc_model_play.specs.Generator.{count_line, summary};
 ghost use Rattle.mc_deck.specs.Lines.{line_of};
 ghost use Rattle.mc_text.specs.Texts.{sunk, Puts};
-ghost use Rattle.mc_script.specs.Players.{device_of, IsPlayerAt, IsPlaying, IsUnfused};
+ghost use Rattle.mc_script.specs.Players.{device_of, IsUnfused};
+ghost use Rattle.mc_script.specs.Benches.{bench_at, bench_of, IsPlayerAt, IsPlaying, Tallied};
 ghost use Rattle.mc_script.specs.Writers.{write_result};
-ghost use Rattle.mc_script.specs.Lines.{bench_of};
-ghost use Rattle.mc_script.specs.Sums.{Counted, DumpsLast, dump_text, dumps_text, Tallied, SumsFrom};
+ghost use Rattle.mc_script.specs.Sums.{Counted, DumpsLast, dump_text, dumps_text, SumsFrom};
 
 use crate::answer::Answer;
 use crate::player::Player;
@@ -26,9 +26,9 @@ use std::sync::ledger::Ledger;
 
 // Plays all lines of a deck, and counts their results.
 fn tally<N: Bench, L: Ledger>(player: &mut Player<N>, deck: &Deck, steps: &mut Steps<L>) -> Counts
-    requires { IsPlaying N.state N.bench player.old }
-    ensures tallied { (s : State) → IsPlayerAt N.state N.bench player.old s
-        → Tallied N.state N.bench s deck.now (bench_of N.state N.bench player.old) player.new result
+    requires { IsPlaying N.Bench player.old }
+    ensures tallied { (s : State) → IsPlayerAt N.Bench player.old s
+        → Tallied N.Bench s deck.now (bench_of N.Bench player.old) player.new result
         steps.old steps.new }
     ensures keeps_device { N.same (device_of player.old) (device_of player.new) }
 {
@@ -49,8 +49,8 @@ fn put_dump<N: Bench, T: Sink>(
     player: &Player<N>,
     line: &Line<'_>,
 ) -> Result<(), WriteFault>
-    requires { IsPlaying N.state N.bench player.now }
-    ensures { (s : State) → IsPlayerAt N.state N.bench player.now s
+    requires { IsPlaying N.Bench player.now }
+    ensures { (s : State) → IsPlayerAt N.Bench player.now s
         → Puts (sunk T.Sink out.old) (dump_text s (line_of line.now)) result
         (sunk T.Sink out.new) }
 {
@@ -70,8 +70,8 @@ fn put_dumps<N: Bench, T: Sink>(
     player: &Player<N>,
     deck: &Deck,
 ) -> Result<(), WriteFault>
-    requires { IsPlaying N.state N.bench player.now }
-    ensures { (s : State) → IsPlayerAt N.state N.bench player.now s
+    requires { IsPlaying N.Bench player.now }
+    ensures { (s : State) → IsPlayerAt N.Bench player.now s
         → Puts (sunk T.Sink out.old) (dumps_text s deck.now) result (sunk T.Sink out.new) }
 {
     for i in 0..deck.len() {
@@ -89,8 +89,8 @@ fn put_summary<N: Bench, T: Sink>(
     player: &Player<N>,
     deck: &Deck,
 ) -> Result<(), WriteFault>
-    requires { IsPlaying N.state N.bench player.now }
-    ensures { (s : State) (rs : List LineResult) → IsPlayerAt N.state N.bench player.now s → Counted counts.now rs
+    requires { IsPlaying N.Bench player.now }
+    ensures { (s : State) (rs : List LineResult) → IsPlayerAt N.Bench player.now s → Counted counts.now rs
         → Puts (sunk T.Sink out.old) (count_line rs
         ++ dumps_text s deck.now) result (sunk T.Sink out.new) }
 {
@@ -108,8 +108,8 @@ pub fn sum_lines<N: Bench, T: Sink, L: Ledger>(
     requires fuses { IsUnfused (N.bench device) }
     requires dumps { DumpsLast deck.now }
     ensures sums { SumsFrom summary (start (N.state device).words) deck.now
-        (record { device = N.state device; bench = N.bench device }) (sunk T.Sink writer.old.out.now)
-        (write_result writer.new.fault) (record { device = N.state result; bench = N.bench result })
+        (bench_at N.Bench device) (sunk T.Sink writer.old.out.now)
+        (write_result writer.new.fault) (bench_at N.Bench result)
         (sunk T.Sink writer.new.out.now) steps.old steps.new }
     ensures image { IsImage (N.state device).words }
     ensures lines { AllByRecursion (λ l. IsLine l.1) deck.now }

@@ -10,7 +10,8 @@ ghost use Rattle.mc_model_play.specs.Transcript.{line_text, outcome_text, text_o
 ghost use Rattle.mc_machine.specs.Turns.{outcome_value};
 ghost use Rattle.mc_bank.specs.Bank.{app_of};
 ghost use Rattle.mc_card.specs.Parts.{card_in, IsUp};
-ghost use Rattle.mc_script.specs.Players.{answer_value, dump_value, IsPlaying};
+ghost use Rattle.mc_script.specs.Players.{answer_value, dump_value};
+ghost use Rattle.mc_script.specs.Benches.{IsPlaying};
 ghost use Rattle.mc_text.specs.Texts.{sunk, Puts};
 
 use crate::answer::Answer;
@@ -136,7 +137,7 @@ fn add_static<N: Nvm>(text: &mut Text, card: &Card<N>, aid: &Aid)
 
 // Adds the result of a `dump` line for a name.
 fn add_dump<N: Bench>(text: &mut Text, player: &Player<N>, aid: &Aid)
-    requires playing { IsPlaying N.state N.bench player.now }
+    requires playing { IsPlaying N.Bench player.now }
     requires room { array_vec_len text.old ≤ 11 }
     ensures text { text.new.items ≡ text.old.items
         ++ text_of_result (dump_value N.state player.now.power player.now.card aid.now) }
@@ -152,7 +153,7 @@ fn add_dump<N: Bench>(text: &mut Text, player: &Player<N>, aid: &Aid)
 
 /// Adds a result of a player, as a transcript has it after its number and a blank.
 pub fn add_result<N: Bench>(text: &mut Text, player: &Player<N>, answer: &Answer)
-    requires playing { IsPlaying N.state N.bench player.now }
+    requires playing { IsPlaying N.Bench player.now }
     requires room { array_vec_len text.old ≤ 11 }
     ensures text { text.new.items ≡ text.old.items ++ text_of_result (answer_value N.state player.now answer.now) }
     ensures short { array_vec_len text.new ≤ 8210 }
@@ -183,7 +184,7 @@ fn add_number(text: &mut Text, word: &[u8], number: u32)
 
 // Gathers the line of a result: its number, a blank, the result and a line feed.
 fn gather<N: Bench>(text: &mut Text, number: u32, player: &Player<N>, answer: &Answer)
-    requires playing { IsPlaying N.state N.bench player.now }
+    requires playing { IsPlaying N.Bench player.now }
     ensures { text.new.items ≡ line_text number (Some (answer_value N.state player.now answer.now)) }
 {
     text.clear();
@@ -201,7 +202,7 @@ pub fn put_answer<N: Bench, T: Sink>(
     player: &Player<N>,
     answer: &Option<Answer>,
 ) -> Result<(), WriteFault>
-    requires playing { IsPlaying N.state N.bench player.now }
+    requires playing { IsPlaying N.Bench player.now }
     ensures { Puts (sunk T.Sink out.old)
         (line_text number (option_map (answer_value N.state player.now) answer.now)) result
         (sunk T.Sink out.new) }

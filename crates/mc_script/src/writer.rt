@@ -7,7 +7,8 @@ ghost use Rattle.mc_machine.specs.Turns.{turn_value};
 ghost use Rattle.mc_card.specs.Parts.{device_in, card_in, due, IsReadyCard};
 ghost use Rattle.mc_card.specs.Ends.{outcome_or_stop};
 ghost use Rattle.mc_text.specs.Texts.{sunk, Puts};
-ghost use Rattle.mc_script.specs.Players.{answer_value, IsPlaying};
+ghost use Rattle.mc_script.specs.Players.{answer_value};
+ghost use Rattle.mc_script.specs.Benches.{IsPlaying};
 ghost use Rattle.mc_script.specs.Runs.{RanAndReported};
 ghost use Rattle.mc_script.specs.StepCounts.{instructions, command_search, StepsOf};
 ghost use Rattle.mc_script.specs.Writers.{write_result, turns_text, keeps_none, keeps_on, WriterKeeps};
@@ -61,9 +62,9 @@ impl<'a, T: Sink> Writer<'a, T> {
     /// Writes the result of a line after the text of the turns that were recorded in it, unless its sink
     /// failed before.
     pub fn report<N: Bench>(&mut self, number: u32, player: &Player<N>, answer: &Option<Answer>)
-        requires playing { IsPlaying N.state N.bench player.now }
+        requires playing { IsPlaying N.Bench player.now }
         ensures reports { (before : Writer T) (ts : List ModelTurn) → before.fault ≡ None
-            → WriterKeeps T.taken T.faults before ts self.old
+            → WriterKeeps T.Sink before ts self.old
             → Puts (sunk T.Sink before.out.now) (turns_text before.reporting ts
             ++ line_text number (option_map (answer_value N.state player.now) answer.now)) (write_result self.new.fault)
             (sunk T.Sink self.new.out.now) }
@@ -92,7 +93,7 @@ impl<'a, T: Sink> Writer<'a, T> {
         requires low { 1 ≤ turn.now.depth }
         requires high { turn.now.depth ≤ 4 }
         ensures reports { (wrote : Option ℕ)
-            → WriterKeeps T.taken T.faults self.old (turn_value turn.now wrote ∷ []) self.new }
+            → WriterKeeps T.Sink self.old (turn_value turn.now wrote ∷ []) self.new }
     {
         if self.fault.is_none() {
             self.fault = put(self.out, line_of(turn).as_slice()).err();
@@ -112,7 +113,7 @@ impl<'a, T: Sink> Writer<'a, T> {
         requires ready { IsReadyCard N.state card.old }
         requires some { 1 ≤ budget }
         requires budget { budget ≤ 65536 }
-        ensures done { RanAndReported N.state N.wrote (WriterKeeps T.taken T.faults) card.old
+        ensures done { RanAndReported N.state N.wrote (WriterKeeps T.Sink) card.old
             (due N.state card.old bytes.now budget) (outcome_or_stop result into.new) card.new self.old self.new }
         ensures steps { StepsOf (instructions (due N.state card.old bytes.now budget).turns)
             (command_search (card_in N.state card.old) bytes.now) (is_err result) steps.old steps.new }
@@ -138,11 +139,11 @@ impl<'a, T: Sink> Writer<'a, T> {
 }
 
 impl<'a, T: Sink> Runner for Writer<'a, T> {
-    ghost reported = { λ c. WriterKeeps T.taken T.faults };
+    ghost reported = { λ c. WriterKeeps T.Sink };
 
-    ghost silent = { λ c. keeps_none T.taken T.faults };
+    ghost silent = { λ c. keeps_none T.Sink };
 
-    ghost onward = { λ c d q r s. keeps_on T.taken T.faults q r s [] [] };
+    ghost onward = { λ c d q r s. keeps_on T.Sink q r s [] [] };
 
     fn run<N: Nvm, L: Ledger>(
         &mut self,

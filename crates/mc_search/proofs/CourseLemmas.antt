@@ -13,6 +13,7 @@ use Rattle.mc_explore.specs.Tries.{Manner as TryManner, Try, Whole, cuts_from, m
 use Rattle.mc_explore.specs.Search.{Node, Round, HaltedRound, round_of_states, round_of_tries}
 use Rattle.mc_explore.proofs.Searches.{tried_append}
 use Rattle.mc_rules.specs.Meanings.{AlikeLists, IsMove, IsOn}
+use Rattle.mc_rules.specs.Occasions.{IsRow}
 use Rattle.mc_rules.specs.declared.rules.Move.{Move}
 use Rattle.mc_rules.specs.declared.rules.OnRule.{OnRule}
 use Rattle.mc_rules.specs.declared.rules.Rules.{Rules}
@@ -25,7 +26,7 @@ use Rattle.mc_search.specs.declared.rounds.Halt.{Halt}
 use Rattle.mc_search.specs.declared.rounds.Search.{Search}
 use Rattle.mc_search.specs.declared.making.Candidate.{Candidate}
 use Rattle.mc_search.specs.Kept.{IsCandidate}
-use Rattle.mc_search.specs.Rounds.{cuts_at, round_in, tries_from, tries_in, try_value, Ahead, AreCandidates, Attempts, Comes, Depth, Extends, Holds, IsFrom, IsRow, TriesMove}
+use Rattle.mc_search.specs.Rounds.{cuts_at, round_in, tries_from, tries_in, try_value, Ahead, AreCandidates, Attempts, Comes, Depth, Extends, Holds, IsFrom, TriesMove}
 use Rattle.mc_search.proofs.AlikeLemmas.{alike_get_second, all_get, drop_at, drop_past}
 use Rattle.mc_search.proofs.RoundLemmas.{extends_more, extends_none, found_later}
 

@@ -8,10 +8,9 @@ use Rattle.mc_explore.specs.Rules as rule
 use Rattle.mc_explore.specs.States as model
 use Rattle.mc_explore.specs.States.{play_of_deck}
 use Rattle.mc_explore.specs.Search.{Ending, All, AtDepth, Broken, TooMany, HaltedRound, Node, Round, Search as Found, after_depth, after_round, depth_lines, ending_of, ending_text, first_state, round_of_states, search_end, search_from, search_of, search_on, sums_text, text_within, with_depth}
-use Rattle.mc_rules.specs.Meanings.{AlikeLists, IsMove, IsOn}
+use Rattle.mc_rules.specs.Meanings.{AlikeLists, AreRules}
+use Rattle.mc_rules.specs.Occasions.{IsRow}
 use Rattle.mc_rules.specs.declared.reading.Exploration.{Exploration}
-use Rattle.mc_rules.specs.declared.rules.Move.{Move}
-use Rattle.mc_rules.specs.declared.rules.OnRule.{OnRule}
 use Rattle.mc_rules.specs.declared.rules.Rules.{Rules}
 use Rattle.mc_text.specs.Texts.{Sunk, Writes, Fails}
 use Rattle.mc_text.proofs.TextLemmas.{fails_before, fails_then, writes_then}
@@ -22,7 +21,7 @@ use Rattle.mc_search.specs.declared.rounds.Halt.{Halt}
 use Rattle.mc_search.specs.declared.rounds.Search.{Search}
 use Rattle.mc_search.specs.Kept.{IsExplorationOf}
 use Rattle.mc_search.specs.Reports.{depth_line}
-use Rattle.mc_search.specs.Rounds.{round_in, AreCandidates, CanTryStates, Comes, Depth, Ends, Extends, Holds, IsRow, KeepsNode}
+use Rattle.mc_search.specs.Rounds.{round_in, AreCandidates, CanTryStates, Comes, Depth, Ends, Extends, Holds, KeepsNode}
 use Rattle.mc_search.specs.Endings.{is_broken, text_from, DepthsAhead, Explores, IsExplored, IsPut}
 use Rattle.mc_search.proofs.AlikeLemmas.{alike_length, drop_past}
 use Rattle.mc_search.proofs.EndingLemmas.{put_failed}
@@ -292,15 +291,13 @@ depth_stops x most depth done from s a b r k i y = k.rest r b (explored_err b b 
 -- ---- the tries of a depth
 
 -- the moves of an exploration with their rows are candidates
-pub candidates_of : (x : rule.Exploration) (e : Exploration) (ms : List Move) (os : List OnRule) (rows used : List (Vec Bool Global)) → IsExplorationOf e x → ms ≡ e.rules.moves.items → os ≡ e.rules.ons.items → used ≡ rows
-    → ((ns : List rule.Move) (held : List (List ℕ × ℕ)) (rs : List rule.OnRule) → AlikeLists IsMove ms ns → AlikeLists (IsOn held) os rs → AlikeLists (IsRow rs) rows ns) → AreCandidates x.rules e.rules used
-candidates_of x e ms os rows used h m o u f =
+pub candidates_of : (x : rule.Exploration) (e : Exploration) (rows used : List (Vec Bool Global)) → IsExplorationOf e x → used ≡ rows
+    → ((r : rule.Rules) → AreRules e.rules r → AlikeLists (IsRow r.ons) rows r.moves) → AreCandidates x.rules e.rules used
+candidates_of x e rows used h u f =
     record {
       rules = h.rules;
       cards = h.cards;
-      rows = subst (λ (rs : List (Vec Bool Global)). AlikeLists (IsRow x.rules.ons) rs x.rules.moves) (sym u)
-          (f x.rules.moves x.rules.allowances x.rules.ons (subst (λ (xs : List Move). AlikeLists IsMove xs x.rules.moves) (sym m) h.rules.moves)
-          (subst (λ (xs : List OnRule). AlikeLists (IsOn x.rules.allowances) xs x.rules.ons) (sym o) h.rules.ons));
+      rows = subst (λ (rs : List (Vec Bool Global)). AlikeLists (IsRow x.rules.ons) rs x.rules.moves) (sym u) (f x.rules h.rules);
     }
 
 -- what the tries of a depth come to

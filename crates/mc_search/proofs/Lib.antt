@@ -13,5 +13,5 @@ mod CourseLemmas
 mod EndingLemmas
 mod PathLemmas
 mod HaltLemmas
-mod RowLemmas
+mod StartLemmas
 mod DepthLemmas

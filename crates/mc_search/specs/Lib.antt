@@ -2,6 +2,7 @@ pub mod Reports
 pub mod Playing
 pub mod Shown
 pub mod Trying
+pub mod Benches
 pub mod Kept
 pub mod Beginnings
 pub mod Rounds

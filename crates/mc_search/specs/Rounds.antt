@@ -6,12 +6,12 @@ use Rattle.mc_model_device.specs.Bytes.{zeros}
 use Rattle.mc_model_device.specs.Image.{Two, opening}
 use Rattle.mc_model_play.specs.Family.{is_running}
 use Rattle.mc_model_play.specs.Play.{is_card_line}
-use Rattle.mc_explore.specs.Matching.{fits}
 use Rattle.mc_explore.specs.Rules as rule
 use Rattle.mc_explore.specs.Search.{Node, Round, HaltedRound, Halt as SearchHalt, Full, RuleBroken, round_of_tries}
 use Rattle.mc_explore.specs.States as model
 use Rattle.mc_explore.specs.Tries.{Try, Manner as TryManner, CutAt, ones}
 use Rattle.mc_rules.specs.Meanings.{AlikeLists, AreRules}
+use Rattle.mc_rules.specs.Occasions.{IsRow}
 use Rattle.mc_rules.specs.declared.rules.Rules.{Rules}
 use Rattle.mc_search.specs.declared.journey.Manner.{Manner}
 use Rattle.mc_search.specs.declared.journey.Step.{Step}
@@ -94,10 +94,6 @@ CanStep s c r = (d : Depth) × (ns : List Node) × (n : Node) × (m : rule.Move)
 abbrev pub CanCutMove : Search → Candidate → ℕ → ℕ → Type 0
 CanCutMove s c before chosen =
     (d : Depth) × (ns : List Node) × (n : Node) × (m : rule.Move) × TriesMove d s ns n m c before chosen × (is_running n.state.live ≡ true)
-
--- the `on` lines of a row apply to a move
-abbrev pub IsRow : List rule.OnRule → Vec Bool Global → rule.Move → Type 0
-IsRow ons row m = row.items ≡ map (λ r. fits r.move m.text) ons
 
 -- rules are those of a definition, whose moves are lines to the card, with a row of applications for each move
 pub record AreCandidates (r : rule.Rules) (e : Rules) (applied : List (Vec Bool Global)) : Type 0 where

@@ -7,7 +7,8 @@ ghost use Rattle.mc_explore.specs.Safety.{IsSettled};
 ghost use Rattle.mc_explore.specs.States.{first_warm, play_of_deck, warm_in};
 ghost use Rattle.mc_branch.specs.Branches.{blank_branch};
 ghost use Rattle.mc_model_play.specs.DeckGrammar.{DeckLine};
-ghost use Rattle.mc_script.specs.Players.{device_of, IsPlayerAt, IsPlaying, IsUnfused};
+ghost use Rattle.mc_script.specs.Players.{device_of, IsUnfused};
+ghost use Rattle.mc_script.specs.Benches.{IsPlayerAt, IsPlaying};
 ghost use Rattle.mc_search.specs.Kept.{is_armed, Begins, IsExplorationOf};
 ghost use Rattle.mc_search.specs.Beginnings.{is_ready_answer, without_stop, IsFirst, IsPowered};
 
@@ -43,11 +44,11 @@ pub struct Beginning {
 
 // Drops a stop that is armed for the next card line, and returns whether there was one.
 fn drop_stop<N: Bench, L: Ledger>(player: &mut Player<N>, steps: &mut Steps<L>) -> bool
-    requires { IsPlaying N.state N.bench player.old }
-    ensures playing { IsPlaying N.state N.bench player.new }
-    ensures armed { (s : State) → IsPlayerAt N.state N.bench player.old s → result ≡ is_armed (armed_stop_in s) }
-    ensures at { (s : State) → IsPlayerAt N.state N.bench player.old s
-        → (N.bench (device_of player.old)).steady ≡ true → IsPlayerAt N.state N.bench player.new (without_stop s) }
+    requires { IsPlaying N.Bench player.old }
+    ensures playing { IsPlaying N.Bench player.new }
+    ensures armed { (s : State) → IsPlayerAt N.Bench player.old s → result ≡ is_armed (armed_stop_in s) }
+    ensures at { (s : State) → IsPlayerAt N.Bench player.old s
+        → (N.bench (device_of player.old)).steady ≡ true → IsPlayerAt N.Bench player.new (without_stop s) }
     ensures steady { (N.bench (device_of player.old)).steady ≡ true → (N.bench (device_of player.new)).steady ≡ true }
     ensures keeps_device { N.same (device_of player.old) (device_of player.new) }
 {
@@ -60,10 +61,10 @@ fn drop_stop<N: Bench, L: Ledger>(player: &mut Player<N>, steps: &mut Steps<L>) 
 
 // Plays a command that is too short to be one.
 fn play_idle<N: Bench, L: Ledger>(player: &mut Player<N>, steps: &mut Steps<L>)
-    requires { IsPlaying N.state N.bench player.old }
-    ensures playing { IsPlaying N.state N.bench player.new }
-    ensures at { (s : State) → IsPlayerAt N.state N.bench player.old s
-        → (N.bench (device_of player.old)).steady ≡ true → IsPlayerAt N.state N.bench player.new (without_stop s) }
+    requires { IsPlaying N.Bench player.old }
+    ensures playing { IsPlaying N.Bench player.new }
+    ensures at { (s : State) → IsPlayerAt N.Bench player.old s
+        → (N.bench (device_of player.old)).steady ≡ true → IsPlayerAt N.Bench player.new (without_stop s) }
     ensures steady { (N.bench (device_of player.old)).steady ≡ true → (N.bench (device_of player.new)).steady ≡ true }
     ensures keeps_device { N.same (device_of player.old) (device_of player.new) }
 {
@@ -87,9 +88,9 @@ fn power_up<N: Bench, L: Ledger>(
     player: &mut Player<N>,
     steps: &mut Steps<L>,
 ) -> Result<(bool, Live), NoMemory>
-    requires { IsPlaying N.state N.bench player.old }
-    ensures playing { IsPlaying N.state N.bench player.new }
-    ensures powered { IfOk result (λ r. (s : State) → IsPlayerAt N.state N.bench player.old s
+    requires { IsPlaying N.Bench player.old }
+    ensures playing { IsPlaying N.Bench player.new }
+    ensures powered { IfOk result (λ r. (s : State) → IsPlayerAt N.Bench player.old s
         → (N.bench (device_of player.old)).steady ≡ true → armed_stop_in s ≡ Unarmed
         → IsSettled (first_warm (warm_in s)).live (first_warm (warm_in s)).base (first_warm (warm_in s)).owed
         → IsPowered (warm_in s) (N.state (device_of player.new)).words r.0 r.1 player.new.budget) }
@@ -112,10 +113,10 @@ fn lead_on<N: Bench, L: Ledger>(
     player: &mut Player<N>,
     steps: &mut Steps<L>,
 ) -> Result<(Budget, Lead, Live), NoMemory>
-    requires { IsPlaying N.state N.bench player.old }
-    ensures playing { IsPlaying N.state N.bench player.new }
+    requires { IsPlaying N.Bench player.old }
+    ensures playing { IsPlaying N.Bench player.new }
     ensures first { IfOk result (λ r. (ls : List (ℕ × DeckLine))
-        → IsPlayerAt N.state N.bench player.old (play_of_deck ls) → (N.bench (device_of player.old)).steady ≡ true
+        → IsPlayerAt N.Bench player.old (play_of_deck ls) → (N.bench (device_of player.old)).steady ≡ true
         → IsFirst ls (N.state (device_of player.new)).words r.0 r.1 r.2) }
     ensures keeps_device { N.same (device_of player.old) (device_of player.new) }
 {

@@ -12,12 +12,14 @@ ghost use Rattle.mc_explore.specs.States.{play_of};
 ghost use Rattle.mc_explore.specs.Tries.{recovery, result_text};
 ghost use Rattle.mc_rules.specs.Moves.{move_deck};
 ghost use Rattle.mc_rules.specs.Meanings.{IsMove};
-ghost use Rattle.mc_script.specs.Players.{answer_value, device_of, IsPlayerAt, IsPlaying, IsUnfused};
-ghost use Rattle.mc_search.specs.Playing.{FailsNot, PlaysAs, CountsAs};
+ghost use Rattle.mc_script.specs.Players.{answer_value, device_of, IsUnfused};
+ghost use Rattle.mc_script.specs.Benches.{IsPlayerAt, IsPlaying};
+ghost use Rattle.mc_search.specs.Playing.{FailsNot};
+ghost use Rattle.mc_search.specs.Benches.{CountsAs, IsLiveAfter, MadeAs, PlaysAs};
 ghost use Rattle.mc_search.specs.Reports.{fill_value, manner_value};
 ghost use Rattle.mc_key.specs.Shown.{IsKeptBase, IsShown, ShowsSome};
 ghost use Rattle.mc_search.specs.Shown.{settled_play};
-ghost use Rattle.mc_search.specs.Trying.{CanCut, CountsWrite, armed_for, is_off_answer, is_missed, IsLiveAfter, MadeAs, TriedAs};
+ghost use Rattle.mc_search.specs.Trying.{CanCut, CountsWrite, armed_for, is_off_answer, is_missed, TriedAs};
 
 use crate::journey::{Fill, Manner};
 use crate::playing::{Budget, play};
@@ -45,12 +47,12 @@ fn restore<N: Bench, L: Ledger>(
     saved: &Live,
     steps: &mut Steps<L>,
 )
-    requires start { IsPlayerAt N.state N.bench player.old (start (N.state (device_of player.old)).words) }
+    requires start { IsPlayerAt N.Bench player.old (start (N.state (device_of player.old)).words) }
     requires steady { (N.bench (device_of player.old)).steady ≡ true }
     requires shown { ShowsSome (N.state (device_of player.old)).words saved.now }
-    ensures playing { IsPlaying N.state N.bench player.new }
+    ensures playing { IsPlaying N.Bench player.new }
     ensures at { (b : Base) (l : play.Live) → IsShown (N.state (device_of player.old)).words saved.now b l
-        → IsPlayerAt N.state N.bench player.new (AfterPower (settled_play b l budget.now)) }
+        → IsPlayerAt N.Bench player.new (AfterPower (settled_play b l budget.now)) }
     ensures steady { (N.bench (device_of player.new)).steady ≡ true }
     ensures keeps_device { N.same (device_of player.old) (device_of player.new) }
 {
@@ -61,12 +63,12 @@ fn restore<N: Bench, L: Ledger>(
 
 // Arms the cut of a move that is cut.
 fn arm<N: Bench, L: Ledger>(player: &mut Player<N>, manner: Manner, steps: &mut Steps<L>)
-    requires { IsPlaying N.state N.bench player.old }
-    ensures playing { IsPlaying N.state N.bench player.new }
-    ensures at { (s : State) (n : ℕ) → CountsWrite manner → IsPlayerAt N.state N.bench player.old s
+    requires { IsPlaying N.Bench player.old }
+    ensures playing { IsPlaying N.Bench player.new }
+    ensures at { (s : State) (n : ℕ) → CountsWrite manner → IsPlayerAt N.Bench player.old s
         → (N.bench (device_of player.old)).steady ≡ true → FailsNot (armed_stop_in s)
-        → IsPlayerAt N.state N.bench player.new (armed_for n manner s) }
-    ensures steady { CountsWrite manner → (s : State) → IsPlayerAt N.state N.bench player.old s
+        → IsPlayerAt N.Bench player.new (armed_for n manner s) }
+    ensures steady { CountsWrite manner → (s : State) → IsPlayerAt N.Bench player.old s
         → (N.bench (device_of player.old)).steady ≡ true → FailsNot (armed_stop_in s)
         → (N.bench (device_of player.new)).steady ≡ true }
     ensures keeps_device { N.same (device_of player.old) (device_of player.new) }
@@ -79,10 +81,10 @@ fn arm<N: Bench, L: Ledger>(player: &mut Player<N>, manner: Manner, steps: &mut 
 
 // Arms a cut.
 fn arm_cut<N: Bench, L: Ledger>(player: &mut Player<N>, k: u32, fill: Fill, steps: &mut Steps<L>)
-    requires playing { IsPlaying N.state N.bench player.old }
+    requires playing { IsPlaying N.Bench player.old }
     requires some { 1 ≤ k }
-    ensures playing { IsPlaying N.state N.bench player.new }
-    ensures plays { PlaysAs N.state N.bench player.old (line.Cut k (fill_value fill)) None player.new }
+    ensures playing { IsPlaying N.Bench player.new }
+    ensures plays { PlaysAs N.Bench player.old (line.Cut k (fill_value fill)) None player.new }
     ensures keeps_device { N.same (device_of player.old) (device_of player.new) }
 {
     let cut = Line::Cut {
@@ -94,11 +96,11 @@ fn arm_cut<N: Bench, L: Ledger>(player: &mut Player<N>, k: u32, fill: Fill, step
 
 // Powers a card up after a move that was cut.
 fn recover<N: Bench, L: Ledger>(player: &mut Player<N>, manner: Manner, steps: &mut Steps<L>)
-    requires { IsPlaying N.state N.bench player.old }
-    ensures playing { IsPlaying N.state N.bench player.new }
-    ensures at { (s : State) (n : ℕ) → IsPlayerAt N.state N.bench player.old s
+    requires { IsPlaying N.Bench player.old }
+    ensures playing { IsPlaying N.Bench player.new }
+    ensures at { (s : State) (n : ℕ) → IsPlayerAt N.Bench player.old s
         → (N.bench (device_of player.old)).steady ≡ true → FailsNot (armed_stop_in s)
-        → IsPlayerAt N.state N.bench player.new (recovery n (manner_value manner) s) }
+        → IsPlayerAt N.Bench player.new (recovery n (manner_value manner) s) }
     ensures keeps_device { N.same (device_of player.old) (device_of player.new) }
 {
     match manner {
@@ -131,7 +133,7 @@ fn is_missed(manner: Manner, answer: &Option<Answer>) -> bool
 
 // Writes the result of a line, as a transcript has it after its number and a blank.
 fn put_result<N: Bench>(text: &mut Text, player: &Player<N>, answer: &Option<Answer>)
-    requires { IsPlaying N.state N.bench player.now }
+    requires { IsPlaying N.Bench player.now }
     ensures text { text.new.items ≡ result_text (option_map (answer_value N.state player.now) answer.now) }
     ensures short { array_vec_len text.new ≤ 8210 }
 {
@@ -148,12 +150,12 @@ fn play_move<N: Bench, L: Ledger>(
     counts: &mut [u64],
     steps: &mut Steps<L>,
 ) -> Option<Answer>
-    requires { IsPlaying N.state N.bench player.old }
-    ensures playing { IsPlaying N.state N.bench player.new }
+    requires { IsPlaying N.Bench player.old }
+    ensures playing { IsPlaying N.Bench player.new }
     ensures plays { (l : DeckLine) → candidate.now.chosen.now.deck ≡ move_deck l
-        → PlaysAs N.state N.bench player.old l result player.new }
+        → PlaysAs N.Bench player.old l result player.new }
     ensures counts { (l : DeckLine) → candidate.now.chosen.now.deck ≡ move_deck l
-        → CountsAs N.state N.bench candidate.now.ons.now candidate.now.applies.now player.old l counts.old
+        → CountsAs N.Bench candidate.now.ons.now candidate.now.applies.now player.old l counts.old
         counts.new }
     ensures keeps_device { N.same (device_of player.old) (device_of player.new) }
 {
@@ -178,12 +180,12 @@ fn make<N: Bench, L: Ledger>(
     text: &mut Text,
     steps: &mut Steps<L>,
 ) -> bool
-    requires { IsPlaying N.state N.bench player.old }
-    ensures playing { IsPlaying N.state N.bench player.new }
-    ensures made { (c : model.CardState) (m : rule.Move) → IsPlayerAt N.state N.bench player.old (play_of c)
+    requires { IsPlaying N.Bench player.old }
+    ensures playing { IsPlaying N.Bench player.new }
+    ensures made { (c : model.CardState) (m : rule.Move) → IsPlayerAt N.Bench player.old (play_of c)
         → (N.bench (device_of player.old)).steady ≡ true → IsKeptBase c.live c.base
         → IsMove candidate.now.chosen.now m → is_card_line m.line ≡ true → CanCut c manner
-        → MadeAs N.state N.bench c m manner candidate.now.ons.now candidate.now.applies.now counts.old counts.new
+        → MadeAs N.Bench c m manner candidate.now.ons.now candidate.now.applies.now counts.old counts.new
         text.new.items player.new result }
     ensures short { array_vec_len text.new ≤ 8210 }
     ensures keeps_device { N.same (device_of player.old) (device_of player.new) }
@@ -204,8 +206,8 @@ fn live_after<N: Bench>(
     player: &Player<N>,
     made: bool,
 ) -> Result<Option<Live>, NoMemory>
-    requires { IsPlaying N.state N.bench player.now }
-    ensures shows { IfOk result (IsLiveAfter N.state N.bench player.now made) }
+    requires { IsPlaying N.Bench player.now }
+    ensures shows { IfOk result (IsLiveAfter N.Bench player.now made) }
 {
     if !made {
         return Ok(None);

@@ -3,8 +3,10 @@ ghost use Rattle.std.specs.Prelude.{◌≡◌, ◌≤◌, ℕ, true};
 ghost use Rattle.mc_deck.specs.Lines.{line_of, GoodLine};
 ghost use Rattle.mc_model_play.specs.DeckGrammar as line;
 ghost use Rattle.mc_model_play.specs.Play.{State};
-ghost use Rattle.mc_script.specs.Players.{device_of, IsPlayerAt, IsPlaying};
-ghost use Rattle.mc_search.specs.Playing.{state_after, PlaysAs};
+ghost use Rattle.mc_script.specs.Players.{device_of};
+ghost use Rattle.mc_script.specs.Benches.{IsPlayerAt, IsPlaying};
+ghost use Rattle.mc_search.specs.Playing.{state_after};
+ghost use Rattle.mc_search.specs.Benches.{PlaysAs};
 
 use mc_base::Steps;
 use mc_deck::{Deck, Line};
@@ -32,7 +34,7 @@ impl Model for Budget {
 impl Budget {
     /// Returns the budget of a player.
     pub fn of<N: Bench>(player: &Player<N>) -> Budget
-        requires { IsPlaying N.state N.bench player.now }
+        requires { IsPlaying N.Bench player.now }
         ensures { result ≡ player.now.budget }
     {
         Budget {
@@ -55,10 +57,10 @@ pub fn play<N: Bench, L: Ledger>(
     line: &Line<'_>,
     steps: &mut Steps<L>,
 ) -> Option<Answer>
-    requires playing { IsPlaying N.state N.bench player.old }
+    requires playing { IsPlaying N.Bench player.old }
     requires good { GoodLine (line_of line.now) }
-    ensures playing { IsPlaying N.state N.bench player.new }
-    ensures plays { PlaysAs N.state N.bench player.old (line_of line.now) result player.new }
+    ensures playing { IsPlaying N.Bench player.new }
+    ensures plays { PlaysAs N.Bench player.old (line_of line.now) result player.new }
     ensures keeps_device { N.same (device_of player.old) (device_of player.new) }
 {
     player.line(line, &mut Silent, steps)
@@ -66,11 +68,11 @@ pub fn play<N: Bench, L: Ledger>(
 
 /// Plays all lines of a deck.
 pub fn play_all<N: Bench, L: Ledger>(player: &mut Player<N>, deck: &Deck, steps: &mut Steps<L>)
-    requires playing { IsPlaying N.state N.bench player.old }
-    ensures playing { IsPlaying N.state N.bench player.new }
-    ensures at { (s : State) → IsPlayerAt N.state N.bench player.old s → (N.bench (device_of player.old)).steady ≡ true
-        → IsPlayerAt N.state N.bench player.new (state_after s deck.now) }
-    ensures steady { (s : State) → IsPlayerAt N.state N.bench player.old s
+    requires playing { IsPlaying N.Bench player.old }
+    ensures playing { IsPlaying N.Bench player.new }
+    ensures at { (s : State) → IsPlayerAt N.Bench player.old s → (N.bench (device_of player.old)).steady ≡ true
+        → IsPlayerAt N.Bench player.new (state_after s deck.now) }
+    ensures steady { (s : State) → IsPlayerAt N.Bench player.old s
         → (N.bench (device_of player.old)).steady ≡ true → (N.bench (device_of player.new)).steady ≡ true }
     ensures keeps_device { N.same (device_of player.old) (device_of player.new) }
 {

@@ -1,13 +1,11 @@
 // The search through all states, breadth first.
-ghost use Rattle.std.specs.Prelude.{◌≡◌, ℕ, not, ◌&&◌, List, IfOk};
+ghost use Rattle.std.specs.Prelude.{◌≡◌, not, ◌&&◌, IfOk};
 ghost use Rattle.mc_explore.specs.Rules as rule;
 ghost use Rattle.mc_explore.specs.States.{play_of_deck};
 ghost use Rattle.mc_explore.specs.Search.{most_states, search_of, text_within};
 ghost use Rattle.mc_explore.specs.Search.{explore_text};
-ghost use Rattle.mc_rules.specs.Meanings.{AlikeLists, IsMove, IsOn};
 ghost use Rattle.mc_text.specs.Texts.{sunk};
 ghost use Rattle.mc_search.specs.Kept.{IsExplorationOf};
-ghost use Rattle.mc_search.specs.Rounds.{IsRow};
 ghost use Rattle.mc_search.specs.Endings.{IsExplored, Starts};
 
 use crate::beginning::{Beginning, begin};
@@ -15,42 +13,12 @@ use crate::endings::{Explored, SearchFault, Start};
 use crate::report::put_depth;
 use crate::rounds::Search;
 use mc_base::{NoMemory, Sink, Steps};
-use mc_branch::push;
-use mc_rules::{Exploration, Move, OnRule, fits, plain};
+use mc_rules::{Exploration, applications};
 use std::alloc::Global;
 use std::sync::ledger::Ledger;
 
 /// The most states of an exploration.
 const MOST_STATES: usize = 1_000_000;
-
-// For each `on` line whether it applies to a move.
-fn application(alloc: Global, chosen: &Move<'_>, ons: &[OnRule]) -> Result<Vec<bool>, NoMemory>
-    ensures { IfOk result (λ row. (m : rule.Move) (held : List (List ℕ × ℕ)) (rs : List rule.OnRule) → IsMove chosen.now m
-        → AlikeLists (IsOn held) ons.now rs → IsRow rs row m) }
-{
-    let text = plain(alloc, chosen.text)?;
-    let mut row = Vec::new(alloc);
-    for on in ons {
-        push(&mut row, fits(on.moves.as_slice(), text.as_slice()))?;
-    }
-    Ok(row)
-}
-
-// For each move and each `on` line whether the line applies to the move.
-fn applications(
-    alloc: Global,
-    moves: &[Move<'_>],
-    ons: &[OnRule],
-) -> Result<Vec<Vec<bool>>, NoMemory>
-    ensures { IfOk result (λ rows. (ms : List rule.Move) (held : List (List ℕ × ℕ)) (rs : List rule.OnRule)
-        → AlikeLists IsMove moves.now ms → AlikeLists (IsOn held) ons.now rs → AlikeLists (IsRow rs) rows.items ms) }
-{
-    let mut applications = Vec::new(alloc);
-    for chosen in moves {
-        push(&mut applications, application(alloc, chosen, ons)?)?;
-    }
-    Ok(applications)
-}
 
 // Whether a card ran before a power line that was wanted, by whether one runs after it.
 fn ran_before(runs: bool, power: bool) -> bool
@@ -99,8 +67,7 @@ pub fn explore_within<T: Sink, L: Ledger>(
         → IsExplored (sunk T.Sink out.old) (text_within limit depth x) (search_of limit depth x).ending result
         (sunk T.Sink out.new) }
 {
-    let rules = &exploration.rules;
-    let rows = applications(alloc, rules.moves.as_slice(), rules.ons.as_slice())?;
+    let rows = applications(alloc, &exploration.rules)?;
     let (mut search, start) = start(alloc, exploration, limit, steps)?;
     let mut from = 0;
     for done in 0..depth {

@@ -19,7 +19,8 @@ use Rattle.mc_filter.specs.declared.status.Status.TheVariants.{Done, Failed, NoF
 use Rattle.melcard.specs.Jobs.{usage}
 use Rattle.melcard.specs.Verdicts.{JobVerdict, Whole, Refusal, Plays, Sums}
 use Rattle.melcard.specs.Running.{PlaysInput, RejectsJob, WritesInput}
-use Rattle.melcard.specs.Statuses.{card_outside, BenchMembers, CardOutside, IsDue, IsSummed, MelcardDone, MelcardNoForm, MelcardNoMemory, MelcardReadFault, MelcardSays, TakesAtMost}
+use Rattle.mc_script.specs.Benches.{BenchMembers}
+use Rattle.melcard.specs.Statuses.{card_outside, CardOutside, IsDue, IsSummed, MelcardDone, MelcardNoForm, MelcardNoMemory, MelcardReadFault, MelcardSays, TakesAtMost}
 
 -- ---- results
 

@@ -1,7 +1,5 @@
 -- The relation of the top call to its environment at each of its statuses.
 use Rattle.std.specs.Prelude.{◌≡◌, ℕ, List, Option, Some, None, Result, ⊤}
-use Rattle.mc_model_device.specs.Device.{DeviceState, BenchState}
-use Rattle.mc_model_device.specs.Orders.{Answer}
 use Rattle.mc_model_play.specs.DeckGrammar.{DeckLine}
 use Rattle.mc_model_play.specs.Generator.{deck_of_number, summary}
 use Rattle.mc_model_play.specs.Play as play
@@ -11,6 +9,7 @@ use Rattle.mc_base.specs.declared.sink.Sink as sink
 use Rattle.mc_base.specs.declared.source.Source as source
 use Rattle.mc_text.specs.Texts.{Sunk}
 use Rattle.mc_check.specs.Plays.{KeepToVerdicts}
+use Rattle.mc_script.specs.Benches.{bench_at, BenchMembers}
 use Rattle.mc_script.specs.Plays.{Bench, plain_text, traced_text, PlaysDeck, SumsDeck}
 use Rattle.mc_filter.specs.declared.status.Status.{Status}
 use Rattle.mc_filter.specs.declared.status.Status.TheVariants.{Done, Failed}
@@ -31,14 +30,6 @@ pub record CardOutside : Type 0 where
   pub streams : Outside
   pub dev_old : Bench
   pub dev : Bench
-
--- the members of a bench, those of its device first
-abbrev pub BenchMembers : Type 0 → Type 1
-BenchMembers N = record { state : N → DeviceState; wrote : N → ℕ → List ℕ → Answer → N → Type 0; same : N → N → Type 0; bench : N → BenchState }
-
--- the bench that a device is
-abbrev pub bench_at : {N : Type 0} → BenchMembers N → N → Bench
-bench_at n dev = record { device = n.state dev; bench = n.bench dev }
 
 -- the environment, by the values of a call before and after it
 abbrev pub card_outside : {S T N : Type 0} → source.Ghosts S → sink.Ghosts T → BenchMembers N → S → S → T → T → N → N → CardOutside

@@ -11,7 +11,8 @@ ghost use Rattle.melcard.specs.declared.job.Job.TheVariants as job;
 ghost use Rattle.mc_filter.specs.declared.rejection.Rejection.TheVariants as rejection;
 ghost use Rattle.melcard.specs.Jobs.{greatest_number, job_of, JobFits};
 ghost use Rattle.melcard.specs.Running.{PlaysInput, RejectsJob, WritesInput};
-ghost use Rattle.melcard.specs.Statuses.{bench_at, card_outside, text_of_step, IsSummed, MelcardCompletes, MelcardSays};
+ghost use Rattle.mc_script.specs.Benches.{bench_at};
+ghost use Rattle.melcard.specs.Statuses.{card_outside, text_of_step, IsSummed, MelcardCompletes, MelcardSays};
 ghost use Rattle.mc_script.specs.Plays.{PlaysDeck};
 
 use crate::form::text_of;

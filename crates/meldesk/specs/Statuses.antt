@@ -1,9 +1,8 @@
 -- The relation of the top call to its source, its sink and its device at each of its statuses.
-use Rattle.std.specs.Prelude.{ℕ, List, Option, Some, None, ⊤}
-use Rattle.mc_model_device.specs.Device.{DeviceState, BenchState}
-use Rattle.mc_model_device.specs.Orders.{Answer}
+use Rattle.std.specs.Prelude.{Option, Some, None, ⊤}
 use Rattle.mc_base.specs.declared.sink.Sink as sink
 use Rattle.mc_base.specs.declared.source.Source as source
+use Rattle.mc_script.specs.Benches.{bench_at, BenchMembers}
 use Rattle.mc_script.specs.Plays.{Bench}
 use Rattle.mc_filter.specs.declared.status.Status.{Status}
 use Rattle.mc_filter.specs.declared.status.Status.TheVariants.{Done, Failed}
@@ -22,14 +21,6 @@ pub record DeskOutside : Type 0 where
   pub streams : Outside
   pub dev_old : Bench
   pub dev : Bench
-
--- the members of a bench, those of its device first
-abbrev pub BenchMembers : Type 0 → Type 1
-BenchMembers N = record { state : N → DeviceState; wrote : N → ℕ → List ℕ → Answer → N → Type 0; same : N → N → Type 0; bench : N → BenchState }
-
--- the bench that a device is
-abbrev pub bench_at : {N : Type 0} → BenchMembers N → N → Bench
-bench_at n dev = record { device = n.state dev; bench = n.bench dev }
 
 -- the environment, by the values of a call before and after it
 abbrev pub desk_outside : {S T N : Type 0} → source.Ghosts S → sink.Ghosts T → BenchMembers N → S → S → T → T → N → N → DeskOutside

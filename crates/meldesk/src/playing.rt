@@ -1,6 +1,7 @@
 // The jobs that play the deck of a draft: its trace, and its coverage.
 ghost use Rattle.std.specs.Prelude.{◌≡◌, IfErr, IfOk};
 ghost use Rattle.mc_script.specs.Players.{IsUnfused};
+ghost use Rattle.mc_script.specs.Benches.{bench_at};
 ghost use Rattle.mc_text.specs.Texts.{sunk};
 ghost use Rattle.mc_filter.specs.declared.rejection.Rejection.TheVariants as rejection;
 ghost use Rattle.mc_filter.specs.Outside.{outside};
@@ -28,8 +29,8 @@ fn write_trace<T: Sink, N: Bench, L: Ledger>(
     steps: &mut Steps<L>,
 ) -> Status
     requires { IsUnfused (N.bench dev.old) }
-    ensures { IsTraced sections.now deck.now result (record { device = N.state dev.old; bench = N.bench dev.old })
-        (sunk T.Sink out.old) (record { device = N.state dev.new; bench = N.bench dev.new }) (sunk T.Sink out.new) }
+    ensures { IsTraced sections.now deck.now result (bench_at N.Bench dev.old)
+        (sunk T.Sink out.old) (bench_at N.Bench dev.new) (sunk T.Sink out.new) }
 {
     ended(Status::Done, trace(sections, deck, dev, out, steps))
 }
@@ -46,8 +47,8 @@ fn write_coverage<T: Sink, N: Bench, L: Ledger>(
 ) -> Result<Status, Rejection>
     requires { IsUnfused (N.bench dev.old) }
     ensures covered { IfOk result (λ s. IsCovered name.now sections.now deck.now s
-        (record { device = N.state dev.old; bench = N.bench dev.old }) (sunk T.Sink out.old)
-        (record { device = N.state dev.new; bench = N.bench dev.new }) (sunk T.Sink out.new)) }
+        (bench_at N.Bench dev.old) (sunk T.Sink out.old)
+        (bench_at N.Bench dev.new) (sunk T.Sink out.new)) }
     ensures memory { IfErr result (λ e. e ≡ rejection.NoMemory) }
     ensures out { IfErr result (λ e. sunk T.Sink out.new ≡ sunk T.Sink out.old) }
     ensures kept { IfErr result (λ e. dev.new ≡ dev.old) }
@@ -71,8 +72,8 @@ fn play_deck<T: Sink, N: Bench, L: Ledger>(
 ) -> Result<Status, Rejection>
     requires { IsUnfused (N.bench dev.old) }
     ensures shown { IfOk result (λ s. IsShown (shown_by play.entry) sections.now deck.now s
-        (record { device = N.state dev.old; bench = N.bench dev.old }) (sunk T.Sink out.old)
-        (record { device = N.state dev.new; bench = N.bench dev.new }) (sunk T.Sink out.new)) }
+        (bench_at N.Bench dev.old) (sunk T.Sink out.old)
+        (bench_at N.Bench dev.new) (sunk T.Sink out.new)) }
     ensures memory { IfErr result (λ e. e ≡ rejection.NoMemory) }
     ensures out { IfErr result (λ e. sunk T.Sink out.new ≡ sunk T.Sink out.old) }
     ensures kept { IfErr result (λ e. dev.new ≡ dev.old) }
@@ -94,8 +95,8 @@ fn play_desk<T: Sink, N: Bench, L: Ledger>(
 ) -> Result<Status, Rejection>
     requires { IsUnfused (N.bench dev.old) }
     ensures shown { IfOk result (λ s. IsShown (shown_by play.entry) (sources_value desk.now.sources.items) desk.now.deck
-        s (record { device = N.state dev.old; bench = N.bench dev.old }) (sunk T.Sink out.old)
-        (record { device = N.state dev.new; bench = N.bench dev.new }) (sunk T.Sink out.new)) }
+        s (bench_at N.Bench dev.old) (sunk T.Sink out.old)
+        (bench_at N.Bench dev.new) (sunk T.Sink out.new)) }
     ensures memory { IfErr result (λ e. e ≡ rejection.NoMemory) }
     ensures out { IfErr result (λ e. sunk T.Sink out.new ≡ sunk T.Sink out.old) }
     ensures kept { IfErr result (λ e. dev.new ≡ dev.old) }
@@ -116,8 +117,8 @@ fn play_draft<S: Source, T: Sink, N: Bench, L: Ledger>(
     requires { IsUnfused (N.bench dev.old) }
     ensures shown { IfOk result (λ s. ShowsDraft (shown_by play.entry) s
         (outside S.Source T.Sink input.old input.new out.old out.new)
-        (record { device = N.state dev.old; bench = N.bench dev.old })
-        (record { device = N.state dev.new; bench = N.bench dev.new })) }
+        (bench_at N.Bench dev.old)
+        (bench_at N.Bench dev.new)) }
     ensures rejected { IfErr result
         (RejectsPlay (outside S.Source T.Sink input.old input.new out.old out.new)) }
     ensures out { IfErr result (λ e. sunk T.Sink out.new ≡ sunk T.Sink out.old) }
@@ -141,8 +142,8 @@ pub fn show<S: Source, T: Sink, N: Bench, L: Ledger>(
     requires { IsUnfused (N.bench dev.old) }
     ensures { ShowSays (dev.new ≡ dev.old) (shown_by play.entry) result
         (outside S.Source T.Sink input.old input.new out.old out.new)
-        (record { device = N.state dev.old; bench = N.bench dev.old })
-        (record { device = N.state dev.new; bench = N.bench dev.new }) }
+        (bench_at N.Bench dev.old)
+        (bench_at N.Bench dev.new) }
 {
     let done = play_draft(alloc, play, input, out, dev, steps);
     end(out, done)

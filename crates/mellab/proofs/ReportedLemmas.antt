@@ -5,7 +5,7 @@ use Rattle.mc_base.specs.declared.refusals.WriteFault.{WriteFault as Fault}
 use Rattle.mc_text.specs.Texts.{Puts}
 use Rattle.mc_model_play.specs.DeckGrammar.{DeckLine, deck_read}
 use Rattle.mc_model_device.specs.Device.{blank_words, device_words}
-use Rattle.mc_lab.specs.Expectations.{Trial, count_failed, expect_text, steady_steps, trial_read}
+use Rattle.mc_lab.specs.Expectations.{ExpectedDeck, count_failed, expect_text, steady_steps, expected_deck_read}
 use Rattle.mc_lab.specs.Judged.{done_of}
 use Rattle.mc_lab.specs.declared.remark.Mark.TheVariants as mark
 use Rattle.mc_lab.specs.Remarks.{Remark, remarks}
@@ -23,7 +23,7 @@ reported_status (Ok k) n h = ap (λ m. status_by (m == 0)) (h k refl)
 reported_status (Err f) n h = refl
 
 -- the report of a deck's expectations was written
-pub says_expected : (a : Outside) (input : List ℕ) (t : Trial) (words : List (List ℕ)) (r : Result ℕ Fault) (s : Status) → ReadWhole a.input_old a.input input → trial_read input ≡ Ok t → words ≡ blank_words device_words → s ≡ status_after r
+pub says_expected : (a : Outside) (input : List ℕ) (t : ExpectedDeck) (words : List (List ℕ)) (r : Result ℕ Fault) (s : Status) → ReadWhole a.input_old a.input input → expected_deck_read input ≡ Ok t → words ≡ blank_words device_words → s ≡ status_after r
     → ((k : ℕ) → r ≡ Ok k → k ≡ count_failed (steady_steps words t.lines) t.expected) → Puts a.out_old (expect_text (steady_steps words t.lines) t.expected) (done_of r) a.out → MellabDone job.Expect a s
 says_expected a input t words r s read is blank status count put =
     let n = count_failed (steady_steps words t.lines) t.expected in

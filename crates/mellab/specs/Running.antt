@@ -2,7 +2,7 @@
 use Rattle.std.specs.Prelude.{◌≡◌, ℕ, List, Result, Ok, Err}
 use Rattle.mc_model_play.specs.declared.deck.DeckCause.{DeckCause}
 use Rattle.mc_explore.specs.Rules.{Exploration}
-use Rattle.mc_lab.specs.Expectations.{Trial, TrialFault}
+use Rattle.mc_lab.specs.Expectations.{ExpectedDeck, ExpectationFault}
 use Rattle.mc_search.specs.declared.endings.Explored.{Explored}
 use Rattle.mc_search.specs.declared.endings.Explored.TheVariants as explored
 use Rattle.mc_search.specs.declared.endings.SearchFault.{SearchFault}
@@ -19,9 +19,9 @@ use Rattle.mellab.specs.Verdicts.{Refusal, fault_line}
 use Rattle.mellab.specs.Statuses.{IsVerdictOfJob}
 
 -- the line that refuses a deck with its expectations
-abbrev pub refused_trial : Result Trial TrialFault → List ℕ → Type 0
-refused_trial (Ok t) line = ⊥
-refused_trial (Err e) line = line ≡ fault_line e
+abbrev pub refused_expected_deck : Result ExpectedDeck ExpectationFault → List ℕ → Type 0
+refused_expected_deck (Ok t) line = ⊥
+refused_expected_deck (Err e) line = line ≡ fault_line e
 
 -- the line that refuses a deck with its rules
 abbrev pub refused_exploration : Result Exploration (ℕ × DeckCause) → List ℕ → Type 0

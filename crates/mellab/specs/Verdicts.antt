@@ -4,7 +4,7 @@ use Rattle.std.specs.Prelude.{ℕ, Bool, not, ◌==◌, List, codes, Result, Ok,
 use Rattle.mc_model_device.specs.Device.{blank_words, device_words}
 use Rattle.mc_model_play.specs.DeckGrammar.{DeckLine, deck_read}
 use Rattle.mc_model_play.specs.declared.deck.DeckCause.{DeckCause}
-use Rattle.mc_lab.specs.Expectations.{Trial, TrialFault, DeckFault, NoAnswer, NoExpectation, trial_read, steady_steps, expect_text, count_failed}
+use Rattle.mc_lab.specs.Expectations.{ExpectedDeck, ExpectationFault, DeckFault, NoAnswer, NoExpectation, expected_deck_read, steady_steps, expect_text, count_failed}
 use Rattle.mc_lab.specs.declared.remark.Mark.TheVariants as mark
 use Rattle.mc_lab.specs.Remarks.{Remark, remarks}
 use Rattle.mc_lab.specs.Sweeps.{is_whole, sweep_text}
@@ -22,7 +22,7 @@ pub data LabVerdict : Type 0 where
   Refusal : (line : List ℕ) → LabVerdict
 
 -- the line of a refusal: a refused line of a deck, an expectation without a result, or a deck without expectations
-abbrev pub fault_line : TrialFault → List ℕ
+abbrev pub fault_line : ExpectationFault → List ℕ
 fault_line (DeckFault n c) = deck_line (n, c)
 fault_line (NoAnswer n) = at_line n (codes "NoAnswer")
 fault_line NoExpectation = at_line 0 (codes "NoExpectation")
@@ -30,7 +30,7 @@ fault_line NoExpectation = at_line 0 (codes "NoExpectation")
 -- ---- jobs
 
 -- the verdict on a deck's expectations, played on a blank device
-abbrev pub expectation_verdict : Result Trial TrialFault → LabVerdict
+abbrev pub expectation_verdict : Result ExpectedDeck ExpectationFault → LabVerdict
 expectation_verdict (Ok t) =
     let ts = steady_steps (blank_words device_words) t.lines in
     Reports (expect_text ts t.expected) (count_failed ts t.expected == 0)
@@ -49,6 +49,6 @@ exploration_verdict depth (Err e) = Refusal (deck_line e)
 
 -- the verdict on an input within the limit
 abbrev pub verdict_of : Job → List ℕ → LabVerdict
-verdict_of job.Expect input = expectation_verdict (trial_read input)
+verdict_of job.Expect input = expectation_verdict (expected_deck_read input)
 verdict_of job.Sweep input = sweep_verdict (remarks mark.Whole input) (deck_read input)
 verdict_of (job.Explore depth) input = exploration_verdict depth (exploration_read input)

@@ -2,15 +2,15 @@
 ghost use Rattle.std.specs.Prelude.{◌≡◌, ◌≤◌, ◌^◌, ◌<◌, length, None, Ok, Some, IfErr, IfOk, IfSome};
 ghost use Rattle.mc_model_play.specs.DeckGrammar.{deck_read};
 ghost use Rattle.mc_text.specs.Texts.{sunk};
-ghost use Rattle.mc_lab.specs.Expectations.{trial_read};
-ghost use Rattle.mc_lab.specs.Trials.{trial_value, IsRising};
+ghost use Rattle.mc_lab.specs.Expectations.{expected_deck_read};
+ghost use Rattle.mc_lab.specs.ExpectedDecks.{expected_deck_value, IsRising};
 ghost use Rattle.mc_filter.specs.declared.status.Status.{Status};
 ghost use Rattle.mc_filter.specs.Inputs.{input_limit, Rejects};
 ghost use Rattle.mc_filter.specs.Outside.{outside};
 ghost use Rattle.mc_filter.specs.Statuses.{number_of};
 ghost use Rattle.mellab.specs.declared.job.Job.TheVariants as job;
 ghost use Rattle.mellab.specs.Jobs.{job_of};
-ghost use Rattle.mellab.specs.Running.{refused_trial, RejectsLabJob};
+ghost use Rattle.mellab.specs.Running.{refused_expected_deck, RejectsLabJob};
 ghost use Rattle.mellab.specs.Statuses.{status_after, status_by, MellabCompletes, MellabDone, MellabEnds, MellabSays};
 
 use crate::exploring::explore_input;
@@ -19,7 +19,9 @@ use mc_base::{Sink, Source, Steps, WriteFault, put_all};
 use mc_filter::{
     Rejection, Status, blank_device, deck_of, ended, number, read_input, refused, reject,
 };
-use mc_lab::{Mark, SweepFault, Trial, TrialRefusal, expect, read_trial, remarks, sweep};
+use mc_lab::{
+    ExpectationRefusal, ExpectedDeck, Mark, SweepFault, expect, read_expected_deck, remarks, sweep,
+};
 use std::alloc::Global;
 use std::sync::ledger::Ledger;
 
@@ -27,18 +29,25 @@ use std::sync::ledger::Ledger;
 const USAGE: &[u8] = b"usage: mellab expect | sweep | explore N\n";
 
 // Reads a deck and its expectations, or returns the line that refuses them.
-fn trial_of(alloc: Global, text: &[u8]) -> Result<Trial<'_>, Rejection>
+fn expected_deck_of(alloc: Global, text: &[u8]) -> Result<ExpectedDeck<'_>, Rejection>
     requires { length text.now ≤ input_limit }
-    ensures trial { IfOk result (λ t. trial_read text.now ≡ Ok (trial_value t)) }
+    ensures expected_deck { IfOk result (λ t. expected_deck_read text.now ≡ Ok (expected_deck_value t)) }
     ensures rising { IfOk result IsRising }
-    ensures rejected { IfErr result (Rejects (refused_trial (trial_read text.now))) }
+    ensures rejected { IfErr result (Rejects (refused_expected_deck (expected_deck_read text.now))) }
 {
-    match read_trial(alloc, text) {
-        Ok(trial) => Ok(trial),
-        Err(TrialRefusal::Deck(number, cause)) => Err(refused(alloc, "line", number, cause.word())),
-        Err(TrialRefusal::NoAnswer(number)) => Err(refused(alloc, "line", number, "NoAnswer")),
-        Err(TrialRefusal::NoExpectation) => Err(refused(alloc, "line", 0, "NoExpectation")),
-        Err(TrialRefusal::NoMemory) => Err(Rejection::NoMemory),
+    match read_expected_deck(alloc, text) {
+        Ok(expected_deck) => Ok(expected_deck),
+        Err(ExpectationRefusal::Deck(number, cause)) => Err(refused(
+            alloc,
+            "line",
+            number,
+            cause.word(),
+        )),
+        Err(ExpectationRefusal::NoAnswer(number)) => Err(refused(
+            alloc, "line", number, "NoAnswer",
+        )),
+        Err(ExpectationRefusal::NoExpectation) => Err(refused(alloc, "line", 0, "NoExpectation")),
+        Err(ExpectationRefusal::NoMemory) => Err(Rejection::NoMemory),
     }
 }
 
@@ -75,9 +84,9 @@ fn expect_input<S: Source, T: Sink, L: Ledger>(
     ensures out { IfErr result (λ e. sunk T.Sink out.new ≡ sunk T.Sink out.old) }
 {
     let text = read_input(alloc, input)?;
-    let trial = trial_of(alloc, text.as_slice())?;
+    let expected_deck = expected_deck_of(alloc, text.as_slice())?;
     let device = blank_device(alloc)?;
-    Ok(status_after(expect(&trial, device, out, steps)))
+    Ok(status_after(expect(&expected_deck, device, out, steps)))
 }
 
 // Sweeps the deck that an input spells, on devices of its own.

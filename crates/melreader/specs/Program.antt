@@ -14,7 +14,7 @@ use Rattle.mc_filter.specs.Inputs.{stream, Stream}
 use Rattle.mc_filter.specs.Statuses.{IsNumberOf}
 use Rattle.mc_filter.specs.declared.status.Status.{Status}
 use Rattle.mc_filter.specs.declared.status.Status.TheVariants.{NoForm, NoMemory}
-use Rattle.mc_reader.specs.Benches.{BenchMembers}
+use Rattle.mc_script.specs.Benches.{BenchMembers}
 use Rattle.melreader.specs.Sessions.{outside, unopened, usage, AreKept, MelreaderSays}
 
 -- ---- words

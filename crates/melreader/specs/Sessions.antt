@@ -4,7 +4,7 @@ use Rattle.mc_model_play.specs.DeckGrammar.{DeckLine}
 use Rattle.mc_base.specs.declared.sink.Sink as sink
 use Rattle.mc_base.specs.declared.source.Source as source
 use Rattle.mc_text.specs.Texts.{sunk, Sunk}
-use Rattle.mc_reader.specs.Benches.{BenchMembers}
+use Rattle.mc_script.specs.Benches.{BenchMembers}
 use Rattle.mc_reader.specs.declared.host.Host as host
 use Rattle.mc_reader.specs.Sessions.{around, AroundSession, Serves}
 use Rattle.mc_reader.specs.declared.serve_error.ServeError.{ServeError}

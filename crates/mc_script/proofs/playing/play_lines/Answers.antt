@@ -32,7 +32,7 @@ returns-then-is_err-clause-plays g c =
     let reached = subst (λ (left : List (ℕ × DeckLine)). PlayReached state bench (text_by text) (start (state c.args.device).words) deck a (out c.args.writer.now.out.now) c.args.steps.now left c.loop-i.player (out c.loop-i.writer.out.now) c.loop-i.steps) here c.loop-i.invariant.reached in
     let failed : is_err (write_result c.report.new.self.fault) ≡ true = search rules in
     subst (λ d. CountsFrom (text_by text) (start (state c.args.device).words) deck a (out c.args.writer.now.out.now) (write_result c.report.new.self.fault) (record { device = state d; bench = bench d }) (out c.report.new.self.out.now) c.args.steps.now c.line-answer.new.steps) (sym c.into_dev.ensures)
-    (reached_failed state bench (WriterKeeps g.T.Sink.taken g.T.Sink.faults) text (start (state c.args.device).words) deck a (out c.args.writer.now.out.now) (out c.loop-i.writer.out.now) (out c.report.new.self.out.now) (drop (c.loop-i.i + 1) deck) line.0 (line_of line.1) c.loop-i.player c.line-answer.new.self c.loop-i.writer c.line-answer.new.runner c.line-answer.result (write_result c.report.new.self.fault) c.args.steps.now c.loop-i.steps c.line-answer.new.steps failed reached c.line-answer.ensures.done c.line-answer.ensures.steps (λ ts reported. reported_as _ _ ts _ _ _ _ c.loop-i.invariant.reporting (c.report.ensures.reports c.loop-i.writer ts c.loop-i.invariant.fault reported)))
+    (reached_failed state bench (WriterKeeps g.T.Sink) text (start (state c.args.device).words) deck a (out c.args.writer.now.out.now) (out c.loop-i.writer.out.now) (out c.report.new.self.out.now) (drop (c.loop-i.i + 1) deck) line.0 (line_of line.1) c.loop-i.player c.line-answer.new.self c.loop-i.writer c.line-answer.new.runner c.line-answer.result (write_result c.report.new.self.fault) c.args.steps.now c.loop-i.steps c.line-answer.new.steps failed reached c.line-answer.ensures.done c.line-answer.ensures.steps (λ ts reported. reported_as _ _ ts _ _ _ _ c.loop-i.invariant.reporting (c.report.ensures.reports c.loop-i.writer ts c.loop-i.invariant.fault reported)))
 
 pub loop-i-preserved : goal.loop-i-preserved
 loop-i-preserved g c =
@@ -49,7 +49,7 @@ loop-i-preserved g c =
     let done = c.line-answer.ensures.done c.loop-i.invariant.reached.here 0 c.loop-i.invariant.reached.at in
     record {
       reached =
-          reached_written state bench (WriterKeeps g.T.Sink.taken g.T.Sink.faults) text (start (state c.args.device).words) deck a (out c.args.writer.now.out.now) (out c.loop-i.writer.out.now) (out c.report.new.self.out.now) (drop (c.loop-i.i + 1) deck) line.0 (line_of line.1) c.loop-i.player c.line-answer.new.self c.loop-i.writer c.line-answer.new.runner c.line-answer.result (write_result c.report.new.self.fault) c.args.steps.now c.loop-i.steps c.line-answer.new.steps written reached c.line-answer.ensures.done c.line-answer.ensures.steps (λ ts reported. reported_as _ _ ts _ _ _ _ c.loop-i.invariant.reporting (c.report.ensures.reports c.loop-i.writer ts c.loop-i.invariant.fault reported));
+          reached_written state bench (WriterKeeps g.T.Sink) text (start (state c.args.device).words) deck a (out c.args.writer.now.out.now) (out c.loop-i.writer.out.now) (out c.report.new.self.out.now) (drop (c.loop-i.i + 1) deck) line.0 (line_of line.1) c.loop-i.player c.line-answer.new.self c.loop-i.writer c.line-answer.new.runner c.line-answer.result (write_result c.report.new.self.fault) c.args.steps.now c.loop-i.steps c.line-answer.new.steps written reached c.line-answer.ensures.done c.line-answer.ensures.steps (λ ts reported. reported_as _ _ ts _ _ _ _ c.loop-i.invariant.reporting (c.report.ensures.reports c.loop-i.writer ts c.loop-i.invariant.fault reported));
       fault = no_fault c.report.new.self.fault written;
       keeps_device = g.met.N.Nvm.onward _ _ _ c.loop-i.invariant.keeps_device c.line-answer.ensures.keeps_device;
       reporting = c.report.ensures.reporting ∙ done.1.reports.reporting ∙ c.loop-i.invariant.reporting;

@@ -1,6 +1,6 @@
 use Rattle.std.proofs.Common.{[], ◌∷◌, refl}
 use Rattle.mc_explore.specs.Search.{first_state}
-use Rattle.mc_search.proofs.RowLemmas.{ran_start}
+use Rattle.mc_search.proofs.StartLemmas.{ran_start}
 use Rattle.mc_search.proofs.search.start.Goals as goal
 
 pub returns : goal.returns

@@ -4,7 +4,8 @@ use Rattle.mc_filter.specs.declared.status.Status.TheVariants.{Done, Failed, NoF
 use Rattle.mc_filter.specs.Statuses.{IsNumberOf}
 use Rattle.mc_filter.proofs.Statuses.{at_most_five, at_number}
 use Rattle.melcard.specs.Jobs.{job_of}
-use Rattle.melcard.specs.Statuses.{BenchMembers, CardOutside, MelcardSays}
+use Rattle.mc_script.specs.Benches.{BenchMembers}
+use Rattle.melcard.specs.Statuses.{CardOutside, MelcardSays}
 use Rattle.melcard.proofs.StatusLemmas.{around}
 use Rattle.melcard.proofs.Completeness.{complete_at}
 use Rattle.melcard.proofs.running.melcard.Goals as goal

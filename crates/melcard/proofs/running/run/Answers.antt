@@ -3,7 +3,8 @@ use Rattle.mc_model_play.specs.Generator.{deck_of_number}
 use Rattle.melcard.specs.declared.job.Job.TheVariants as job
 use Rattle.mc_filter.specs.declared.status.Status.{Status}
 use Rattle.melcard.specs.Running.{PlaysInput, WritesInput}
-use Rattle.melcard.specs.Statuses.{BenchMembers, CardOutside, IsSummed}
+use Rattle.mc_script.specs.Benches.{BenchMembers}
+use Rattle.melcard.specs.Statuses.{CardOutside, IsSummed}
 use Rattle.melcard.proofs.StatusLemmas.{around, err_always, memory_only, ok_is, rejected_at, says_at, says_played, says_summed, says_written}
 use Rattle.melcard.proofs.running.run.Goals as goal
 use Rattle.melcard.proofs.running.run.Goals.{in-Play, in-Generate, in-Write}

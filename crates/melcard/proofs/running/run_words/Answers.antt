@@ -1,7 +1,8 @@
 use Rattle.std.proofs.Common.{◌≡◌, refl, sym, ◌∙◌}
 use Rattle.mc_filter.proofs.Statuses.{puts_by}
 use Rattle.melcard.specs.Jobs.{job_of, usage}
-use Rattle.melcard.specs.Statuses.{BenchMembers, CardOutside}
+use Rattle.mc_script.specs.Benches.{BenchMembers}
+use Rattle.melcard.specs.Statuses.{CardOutside}
 use Rattle.melcard.proofs.StatusLemmas.{around, says_no_form}
 use Rattle.melcard.proofs.running.run_words.Goals as goal
 

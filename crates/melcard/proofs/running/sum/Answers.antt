@@ -4,7 +4,7 @@ use Rattle.mc_model_play.specs.Generator.{deck_of_number, summary}
 use Rattle.mc_script.specs.Plays.{SumsDeck}
 use Rattle.mc_text.specs.Texts.{sunk}
 use Rattle.mc_check.proofs.CheckedPlays.{checked_plays_law}
-use Rattle.melcard.specs.Statuses.{bench_at, BenchMembers}
+use Rattle.mc_script.specs.Benches.{bench_at, BenchMembers}
 use Rattle.melcard.proofs.DumpLemmas.{generated_last}
 use Rattle.melcard.proofs.running.sum.Goals as goal
 

@@ -4,7 +4,8 @@ use Rattle.mc_filter.specs.declared.status.Status.TheVariants.{Done, Failed, NoF
 use Rattle.mc_filter.specs.Statuses.{IsNumberOf}
 use Rattle.mc_filter.proofs.Statuses.{at_most_five, at_number}
 use Rattle.meldesk.specs.Jobs.{job_of}
-use Rattle.meldesk.specs.Statuses.{desk_outside, BenchMembers, DeskOutside, MeldeskSays}
+use Rattle.mc_script.specs.Benches.{BenchMembers}
+use Rattle.meldesk.specs.Statuses.{desk_outside, DeskOutside, MeldeskSays}
 use Rattle.meldesk.proofs.Completeness.{complete_at}
 use Rattle.meldesk.proofs.running.meldesk.Goals as goal
 

@@ -2,7 +2,8 @@ use Rattle.std.proofs.Common.{◌≡◌, ap, refl, sym, ◌∙◌}
 use Rattle.std.specs.Prelude.{option_map}
 use Rattle.mc_filter.proofs.Statuses.{puts_by}
 use Rattle.meldesk.specs.Jobs.{job_of, job_value, usage}
-use Rattle.meldesk.specs.Statuses.{desk_outside, BenchMembers, DeskOutside}
+use Rattle.mc_script.specs.Benches.{BenchMembers}
+use Rattle.meldesk.specs.Statuses.{desk_outside, DeskOutside}
 use Rattle.meldesk.proofs.Completeness.{says_no_form}
 use Rattle.meldesk.proofs.running.run_words.Goals as goal
 

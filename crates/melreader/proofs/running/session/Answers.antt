@@ -1,7 +1,7 @@
 use Rattle.std.proofs.Common.{ℕ, List, Result, refl, subst}
 use Rattle.mc_model_play.specs.DeckGrammar.{DeckLine}
 use Rattle.mc_filter.specs.declared.rejection.Rejection.{Rejection}
-use Rattle.mc_reader.specs.Benches.{BenchMembers}
+use Rattle.mc_script.specs.Benches.{BenchMembers}
 use Rattle.melreader.specs.Decks.{HasDeck}
 use Rattle.melreader.specs.Sessions.{outside, AreKept, ReaderOutside}
 use Rattle.melreader.proofs.SessionLemmas.{says_rejected, says_served}

@@ -10,7 +10,7 @@ pub returns-in-Results-clause-done : goal.returns-in-Results-clause-done
 returns-in-Results-clause-done g c =
     let e = c.command_into.ensures in
     untold_ran g.N.Nvm.state g.N.Nvm.wrote _ (outcome_or_stop c.command_into.result c.command_into.new.into) c.args.card.now c.command_into.new.self _ _ _
-    (λ ts. keeps_untold g.T.Sink.taken g.T.Sink.faults c.args.self.now ts c.in-Results.is)
+    (λ ts. keeps_untold g.T.Sink c.args.self.now ts c.in-Results.is)
     (commanded_into g.N.Nvm.state g.N.Nvm.wrote c.args.card.now c.command_into.new.self _ c.command_into.result c.command_into.new.into e.made e.outcome e.session_state e.on)
 
 pub returns-in-Results-clause-steps : goal.returns-in-Results-clause-steps
