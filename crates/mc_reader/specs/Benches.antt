@@ -1,19 +1,20 @@
--- The bench of a device and of a player, by the members of its trait as one record.
-use Rattle.std.specs.Prelude.{ℕ, List}
-use Rattle.mc_model_device.specs.Device.{BenchState, DeviceState}
-use Rattle.mc_model_device.specs.Orders.{Answer}
+-- The relations of a session's lines and frames by the bench of its player as a whole, as contracts cite them. Each is
+-- that of the same name in `Serving`, which lemmas cite by the functions of the bench.
+use Rattle.std.specs.Prelude.{ℕ, Option, Result}
+use Rattle.mc_model_play.specs.DeckGrammar.{DeckLine}
+use Rattle.mc_model_play.specs.Play.{State}
+use Rattle.mc_base.specs.declared.refusals.WriteFault.{WriteFault}
+use Rattle.mc_text.specs.Texts.{Sunk}
+use Rattle.mc_script.specs.declared.answer.Answer.{Answer}
 use Rattle.mc_script.specs.declared.player.Player.{Player}
-use Rattle.mc_script.specs.Lines.{bench_of}
-use Rattle.mc_script.specs.Plays.{Bench}
+use Rattle.mc_script.specs.Benches.{BenchMembers}
+use Rattle.mc_reader.specs.Meanings.{Meaning}
+use Rattle.mc_reader.specs.Serving as serving
 
--- the members of a bench, those of its device first
-abbrev pub BenchMembers : Type 0 → Type 1
-BenchMembers N = record { state : N → DeviceState; wrote : N → ℕ → List ℕ → Answer → N → Type 0; same : N → N → Type 0; bench : N → BenchState }
+-- a line that may be missing was played, whatever its number; without a line nothing has changed
+abbrev pub PlaysLine : {N : Type 0} → BenchMembers N → Player N → Option DeckLine → Option Answer → Player N → Type 0
+PlaysLine n = serving.PlaysLine n.state n.bench
 
--- the bench that a device is
-abbrev pub bench_at : {N : Type 0} → BenchMembers N → N → Bench
-bench_at g dev = record { device = g.state dev; bench = g.bench dev }
-
--- the bench of a player
-abbrev pub bench_below : {N : Type 0} → BenchMembers N → Player N → Bench
-bench_below g player = bench_of g.state g.bench player
+-- a frame with this meaning was served
+abbrev pub ServesFrame : {N : Type 0} → BenchMembers N → Player N → State → ℕ → Meaning → Sunk → Result (Unit {0}) WriteFault → Player N → Sunk → Type 0
+ServesFrame n = serving.ServesFrame n.state n.bench

@@ -7,8 +7,8 @@ pub mod Computed
 pub mod Readings
 pub mod Requests
 pub mod Results
-pub mod Benches
 pub mod Moments
 pub mod Sessions
 pub mod Serving
+pub mod Benches
 pub mod Laws

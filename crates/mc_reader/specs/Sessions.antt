@@ -16,7 +16,7 @@ use Rattle.mc_check.specs.Plays.{KeepToVerdicts}
 use Rattle.mc_reader.specs.Frames.{frame_bytes, frames_bytes, frames_read}
 use Rattle.mc_reader.specs.Lines.{session_lines}
 use Rattle.mc_reader.specs.Answers.{present, session_answers}
-use Rattle.mc_reader.specs.Benches.{bench_at, BenchMembers}
+use Rattle.mc_script.specs.Benches.{bench_at, BenchMembers}
 use Rattle.mc_reader.specs.declared.host.Host as host
 use Rattle.mc_reader.specs.Moments.{Moment, Records, AreMoments}
 use Rattle.mc_reader.specs.declared.serve_error.ServeError.{ServeError}

@@ -21,32 +21,35 @@ const ATR: [u8; 12] = [
     0x3B, 0x87, 0x80, 0x01, 0x4D, 0x45, 0x4C, 0x43, 0x41, 0x52, 0x44, 0x56,
 ];
 
-/// The length of the longest answer: the data of a reply and its two status bytes.
-const LONGEST: usize = 1026;
+/// The length of the longest frame: its own length, the data of a reply and its two status bytes.
+const LONGEST: usize = 1028;
 
-// Writes an answer as one frame.
+// Writes an answer that is not the reply of an application as one frame.
 fn put_frame<T: Sink>(out: &mut T, bytes: &[u8]) -> Result<(), WriteFault>
-    requires { length bytes.now ≤ 1026 }
+    requires { length bytes.now ≤ 12 }
     ensures { Puts (sunk T.Sink out.old) (frame_bytes bytes.now) result
         (sunk T.Sink out.new) }
 {
-    let mut frame = ArrayVec::<u8, 1028>::new();
+    let mut frame = ArrayVec::<u8, 14>::new();
     frame.push((bytes.len() / 256) as u8);
     frame.push((bytes.len() % 256) as u8);
     frame.try_extend_from_slice(bytes).unwrap();
     put(out, frame.as_slice())
 }
 
-// Writes a reply: its data and its status word.
+// Writes a reply as one frame: its data and its status word.
 fn put_reply<T: Sink>(out: &mut T, reply: &Reply) -> Result<(), WriteFault>
     ensures { Puts (sunk T.Sink out.old) (frame_bytes (reply.now.body.items ++ bytes2 reply.now.sw)) result
         (sunk T.Sink out.new) }
 {
-    let mut bytes = ArrayVec::<u8, LONGEST>::new();
-    bytes.try_extend_from_slice(reply.body.as_slice()).unwrap();
-    bytes.push((reply.sw / 256) as u8);
-    bytes.push((reply.sw % 256) as u8);
-    put_frame(out, bytes.as_slice())
+    let size = reply.body.len() + 2;
+    let mut frame = ArrayVec::<u8, LONGEST>::new();
+    frame.push((size / 256) as u8);
+    frame.push((size % 256) as u8);
+    frame.try_extend_from_slice(reply.body.as_slice()).unwrap();
+    frame.push((reply.sw / 256) as u8);
+    frame.push((reply.sw % 256) as u8);
+    put(out, frame.as_slice())
 }
 
 // Writes the outcome of a command.

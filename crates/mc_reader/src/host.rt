@@ -1,7 +1,7 @@
 // The host of a session.
 ghost use Rattle.std.specs.Prelude.{◌≡◌, ◌≤◌, ℕ, List, [], ◌∷◌, length, Option};
 ghost use Rattle.mc_text.specs.Texts.{sunk};
-ghost use Rattle.mc_reader.specs.Benches.{bench_below};
+ghost use Rattle.mc_script.specs.Benches.{bench_of};
 ghost use Rattle.mc_reader.specs.Moments.{Moment, Records};
 ghost use Rattle.mc_reader.specs.Readings.{ReadsFrame};
 
@@ -38,7 +38,7 @@ pub trait Host {
         ensures reads { ReadsFrame (left self.old) (faults self.old) (left self.new) (faults self.new) room.new result }
         ensures counted { faults self.old ≤ faults self.new }
         ensures asked { Records (moments self.old) (record {
-          dev = bench_below N.Bench player.now;
+          dev = bench_of N.Bench player.now;
           out = sunk T.Sink out.now;
         } ∷ []) (moments self.new) };
 }

@@ -3,12 +3,13 @@ ghost use Rattle.std.specs.Prelude.{◌≡◌, ◌≢◌, ℕ, length, Err};
 ghost use Rattle.mc_model_device.specs.Bytes.{AreBytes};
 ghost use Rattle.mc_model_play.specs.Play.{State};
 ghost use Rattle.mc_text.specs.Texts.{sunk};
-ghost use Rattle.mc_script.specs.Players.{device_of, IsPlayerAt, IsPlaying, IsUnfused};
-ghost use Rattle.mc_reader.specs.Benches.{bench_below};
+ghost use Rattle.mc_script.specs.Players.{device_of, IsUnfused};
+ghost use Rattle.mc_script.specs.Benches.{bench_of, IsPlayerAt, IsPlaying};
+ghost use Rattle.mc_reader.specs.Benches.{PlaysLine, ServesFrame};
 ghost use Rattle.mc_reader.specs.Meanings.{meaning, power_after};
 ghost use Rattle.mc_reader.specs.Lines.{line_in};
 ghost use Rattle.mc_reader.specs.Requests.{meaning_of, IsGoodRequest};
-ghost use Rattle.mc_reader.specs.Serving.{PlaysLine, ServesFrame, ServedFrom};
+ghost use Rattle.mc_reader.specs.Serving.{ServedFrom};
 ghost use Rattle.mc_reader.specs.Sessions.{around, IsUntouched, Served};
 
 use crate::answering::put_answer;
@@ -32,9 +33,9 @@ fn play_request<N: Bench, L: Ledger>(
     request: &Request<'_>,
     steps: &mut Steps<L>,
 ) -> Option<Answer>
-    requires playing { IsPlaying N.state N.bench player.old }
+    requires playing { IsPlaying N.Bench player.old }
     requires good { IsGoodRequest request.now }
-    ensures plays { PlaysLine N.state N.bench player.old (line_in (meaning_of request.now)) result player.new }
+    ensures plays { PlaysLine N.Bench player.old (line_in (meaning_of request.now)) result player.new }
     ensures keeps_device { N.same (device_of player.old) (device_of player.new) }
 {
     match request.line() {
@@ -51,9 +52,9 @@ fn serve_frame<N: Bench, T: Sink, L: Ledger>(
     out: &mut T,
     steps: &mut Steps<L>,
 ) -> Result<(), WriteFault>
-    requires { IsPlaying N.state N.bench player.old }
-    ensures serves { (s : State) (n : ℕ) → IsPlayerAt N.state N.bench player.old s
-        → ServesFrame N.state N.bench player.old s n (meaning powered.old frame.now)
+    requires { IsPlaying N.Bench player.old }
+    ensures serves { (s : State) (n : ℕ) → IsPlayerAt N.Bench player.old s
+        → ServesFrame N.Bench player.old s n (meaning powered.old frame.now)
         (sunk T.Sink out.old) result player.new (sunk T.Sink out.new) }
     ensures power { powered.new ≡ power_after powered.old (meaning powered.old frame.now) }
     ensures bytes { AreBytes frame.now }
@@ -73,9 +74,9 @@ fn serve_frames<H: Host, T: Sink, N: Bench, L: Ledger>(
     room: &mut [u8],
     steps: &mut Steps<L>,
 ) -> Result<(), ServeError>
-    requires playing { IsPlaying N.state N.bench player.old }
+    requires playing { IsPlaying N.Bench player.old }
     requires room { length room.old ≡ 65535 }
-    ensures served { (s : State) (n : ℕ) → IsPlayerAt N.state N.bench player.old s
+    ensures served { (s : State) (n : ℕ) → IsPlayerAt N.Bench player.old s
         → ServedFrom s n result
         (record {
           left_old = H.left input.old;
@@ -84,8 +85,8 @@ fn serve_frames<H: Host, T: Sink, N: Bench, L: Ledger>(
           reads = H.faults input.new;
           out_old = sunk T.Sink out.old;
           out = sunk T.Sink out.new;
-          dev_old = bench_below N.Bench player.old;
-          dev = bench_below N.Bench player.new;
+          dev_old = bench_of N.Bench player.old;
+          dev = bench_of N.Bench player.new;
           asked_old = H.moments input.old;
           asked = H.moments input.new;
         }) }

@@ -1,6 +1,6 @@
 use Rattle.std.proofs.Common.{rules, MutBor, sym, ap, ◌∙◌}
 use Rattle.mc_reader.specs.Lines.{last_number}
-use Rattle.mc_reader.specs.Benches.{BenchMembers}
+use Rattle.mc_script.specs.Benches.{BenchMembers}
 use Rattle.mc_reader.specs.Sessions.{around, AroundSession, Serves}
 use Rattle.mc_reader.proofs.SessionLemmas.{served_session, served_unless, untouched_if}
 use Rattle.mc_reader.proofs.serving.serve.Goals as goal
