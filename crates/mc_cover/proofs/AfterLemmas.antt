@@ -13,13 +13,14 @@ use Rattle.mc_model_machine.specs.Frame.{Effect, Frame, Place, bytes_in, floor, 
 use Rattle.mc_model_machine.specs.Primitives.{Delegates, Done, Exits, Goes, Then}
 use Rattle.mc_model_machine.specs.Row.{RowEnd, Abends, Does, row}
 use Rattle.mc_model_machine.specs.Chain.{Chain, Follows, Continues, Ends, Reply, Abended, after_exit, around, called_app, chain_after_call, chain_after_effect, depth_of, follows, frame_at, is_active, reply_of, reported_frame, row_turn, turn_of, turn_of_chain, turn_of_fetch}
-use Rattle.mc_machine_laws.proofs.RowNames.{RowKeepsName, row_name}
+use Rattle.mc_row_laws.specs.Keeping.{Keeps, Leaves, OnDone, OnLeave}
+use Rattle.mc_row_laws.proofs.Keeping.{row_keeps, row_leaves}
 use Rattle.mc_machine.specs.Chains.{NamesApart}
 use Rattle.mc_desk.specs.FullTurns as desk
-use Rattle.mc_desk.specs.FullTurns.{FullTurn, Span, after_fetch, after_row, full_turn, running_code, span_of, stack_of}
+use Rattle.mc_desk.specs.FullTurns.{Span, after_fetch, after_row, full_turn, running_code, span_of, stack_of}
 use Rattle.mc_cover.specs.Looking.{bytes_there, cut_stack, operand_after, place_in, span_decoded, span_in, stack_after}
 use Rattle.mc_cover.specs.Watching.{full_turn_of}
-use Rattle.mc_cover.proofs.RowLemmas.{CutsStack, GoesOn, OnLeave, OnSpan, RowGoesOn, RowLeaves, row_goes, row_leaves}
+use Rattle.mc_cover.proofs.RowLemmas.{OnSpan, SpanGoes, row_goes}
 
 -- ---- stacks
 
@@ -52,9 +53,9 @@ operand_is f e None = refl
 operand_is f e (Some s) = there_is e.frame e.public s.size (option_and_then (λ a. where_is f a s.size) (resolve f s.tag s.offset))
 
 -- an operand is only of a row whose frame goes on
-no_span : (f : Frame) (public : List ℕ) (d : Done) (s : Option Span) → OnSpan s (GoesOn f public d) → (d.next ≡ Goes → ⊥) → s ≡ None
-no_span f public d None h stays = refl
-no_span f public d (Some s) h stays = absurd (stays h.next)
+no_span : (t : Then) (s : Option Span) → OnSpan s (t ≡ Goes) → (t ≡ Goes → ⊥) → s ≡ None
+no_span t None h stays = refl
+no_span t (Some s) h stays = absurd (stays h)
 
 none_there : (f g : Frame) (public : List ℕ) (s : Option Span) → s ≡ None → bytes_there g public (place_in f s) ≡ []
 none_there f g public s e = ap (λ (s : Option Span). bytes_there g public (place_in f s)) e
@@ -76,16 +77,15 @@ shows_same f s e ch same operand name =
     }
 
 -- another frame runs
-shows_other : (f : Frame) (s : Option Span) (e : Effect) (d : Done) (ch : Chain) → bytes_eq ch.frame.name f.name ≡ false → s ≡ None → e ≡ d.effect → CutsStack f d → Shows f s e.frame (desk.operand_after f e s) (Continues ch)
-shows_other f s e d ch other none is cuts =
-    let k : CutsStack f (record d { effect = e }) = subst (λ (x : Effect). CutsStack f (record d { effect = x })) (sym is) (record { dyn = cuts.dyn; session = cuts.session; dt = cuts.dt }) in
+shows_other : (f : Frame) (s : Option Span) (e : Effect) (ch : Chain) → bytes_eq ch.frame.name f.name ≡ false → s ≡ None → Leaves f e → Shows f s e.frame (desk.operand_after f e s) (Continues ch)
+shows_other f s e ch other none cuts =
     record {
       operand = ap (λ (s : Option Span). desk.operand_after f e s) none ∙ sym (ap (λ (b : Bool). cond b (bytes_there ch.frame ch.public (place_in f s)) []) other);
-      stack = cut_is f e.frame k.dyn k.session k.dt ∙ sym (ap (λ (b : Bool). cond b (stack_of ch.frame) (cut_stack f e.frame.dt)) other);
+      stack = cut_is f e.frame cuts.dyn cuts.session cuts.dt ∙ sym (ap (λ (b : Bool). cond b (stack_of ch.frame) (cut_stack f e.frame.dt)) other);
     }
 
 -- the chain ends with a reply
-shows_reply : (f : Frame) (s : Option Span) (d : Done) (b : List ℕ) (sw : ℕ) → s ≡ None → CutsStack f d → Shows f s d.effect.frame (desk.operand_after f d.effect s) (Ends (Reply b sw))
+shows_reply : (f : Frame) (s : Option Span) (d : Done) (b : List ℕ) (sw : ℕ) → s ≡ None → Leaves f d.effect → Shows f s d.effect.frame (desk.operand_after f d.effect s) (Ends (Reply b sw))
 shows_reply f s d b sw none cuts = record { operand = ap (λ (s : Option Span). desk.operand_after f d.effect s) none; stack = cut_is f d.effect.frame cuts.dyn cuts.session cuts.dt }
 
 -- the chain ends with an abend
@@ -93,13 +93,13 @@ shows_abend : (f g : Frame) (s : Option Span) (e : Effect) (c : _) → s ≡ Non
 shows_abend f g s e c none = record { operand = ap (λ (s : Option Span). desk.operand_after f e s) none; stack = uncut f }
 
 -- an exit
-shows_last : (ch : Chain) (f : Frame) (s : Option Span) (d : Done) (b : Bool) → s ≡ None → CutsStack f d → Shows f s d.effect.frame (desk.operand_after f d.effect s) (cond b (Ends (Abended A09)) (Ends (reply_of ch)))
+shows_last : (ch : Chain) (f : Frame) (s : Option Span) (d : Done) (b : Bool) → s ≡ None → Leaves f d.effect → Shows f s d.effect.frame (desk.operand_after f d.effect s) (cond b (Ends (Abended A09)) (Ends (reply_of ch)))
 shows_last ch f s d true none cuts = shows_abend f d.effect.frame s d.effect A09 none
 shows_last ch f s d false none cuts = shows_reply f s d _ _ none cuts
 
-shows_exit : (ch : Chain) (f : Frame) (s : Option Span) (d : Done) (fs : List Frame) → NamesApart (f ∷ fs) → s ≡ None → CutsStack f d → Shows f s d.effect.frame (desk.operand_after f d.effect s) (after_exit ch fs)
+shows_exit : (ch : Chain) (f : Frame) (s : Option Span) (d : Done) (fs : List Frame) → NamesApart (f ∷ fs) → s ≡ None → Leaves f d.effect → Shows f s d.effect.frame (desk.operand_after f d.effect s) (after_exit ch fs)
 shows_exit ch f s d [] apart none cuts = shows_last ch f s d (nat_lt 1024 (la_of ch.public)) none cuts
-shows_exit ch f s d (g ∷ gs) apart none cuts = shows_other f s d.effect d (record ch { frame = g; below = gs }) (other_way f.name g.name apart.0.0) none refl cuts
+shows_exit ch f s d (g ∷ gs) apart none cuts = shows_other f s d.effect (record ch { frame = g; below = gs }) (other_way f.name g.name apart.0.0) none cuts
 
 -- a delegation
 first_other : (n : List ℕ) (f : Frame) (fs : List Frame) → is_active n f fs ≡ false → bytes_eq f.name n ≡ false
@@ -114,11 +114,11 @@ or_none : (b c : Bool) → (b || c) ≡ false → b ≡ false
 or_none true c e = absurd (cc e)
 or_none false c e = refl
 
-shows_called : (ch : Chain) (f : Frame) (s : Option Span) (d : Done) (n : List ℕ) (a : App) (b : Bool) → ch.frame ≡ d.effect.frame → d.effect.frame.name ≡ f.name → (b ≡ false → bytes_eq n f.name ≡ false) → s ≡ None → CutsStack f d → Shows f s d.effect.frame (desk.operand_after f d.effect s) (Continues (called_app b ch n a))
+shows_called : (ch : Chain) (f : Frame) (s : Option Span) (d : Done) (n : List ℕ) (a : App) (b : Bool) → ch.frame ≡ d.effect.frame → d.effect.frame.name ≡ f.name → (b ≡ false → bytes_eq n f.name ≡ false) → s ≡ None → Leaves f d.effect → Shows f s d.effect.frame (desk.operand_after f d.effect s) (Continues (called_app b ch n a))
 shows_called ch f s d n a true same name apart none cuts = shows_same f s d.effect (called_app true ch n a) same (none_there f ch.frame _ s none ∙ sym (ap (λ (s : Option Span). desk.operand_after f d.effect s) none)) name
-shows_called ch f s d n a false same name apart none cuts = shows_other f s d.effect d (called_app false ch n a) (apart refl) none refl cuts
+shows_called ch f s d n a false same name apart none cuts = shows_other f s d.effect (called_app false ch n a) (apart refl) none cuts
 
-shows_call : (ch : Chain) (f : Frame) (s : Option Span) (d : Done) (n : List ℕ) (o : Option App) → ch.frame ≡ d.effect.frame → d.effect.frame.name ≡ f.name → s ≡ None → CutsStack f d → Shows f s d.effect.frame (desk.operand_after f d.effect s) (Continues (chain_after_call ch n o))
+shows_call : (ch : Chain) (f : Frame) (s : Option Span) (d : Done) (n : List ℕ) (o : Option App) → ch.frame ≡ d.effect.frame → d.effect.frame.name ≡ f.name → s ≡ None → Leaves f d.effect → Shows f s d.effect.frame (desk.operand_after f d.effect s) (Continues (chain_after_call ch n o))
 shows_call ch f s d n None same name none cuts = shows_same f s d.effect (chain_after_call ch n None) same (none_there f ch.frame _ s none ∙ sym (ap (λ (s : Option Span). desk.operand_after f d.effect s) none)) name
 shows_call ch f s d n (Some a) same name none cuts =
     let apart : (is_active n ch.frame ch.below || nat_le 4 (depth_of ch)) ≡ false → bytes_eq n f.name ≡ false = λ e.
@@ -128,12 +128,12 @@ shows_call ch f s d n (Some a) same name none cuts =
     shows_called ch f s d n a (is_active n ch.frame ch.below || nat_le 4 (depth_of ch)) same name apart none cuts
 
 -- a row that is done
-shows_done : (ch : Chain) (s : Option Span) (d : Done) (t : Then) → t ≡ d.next → NamesApart (ch.frame ∷ ch.below) → d.effect.frame.name ≡ ch.frame.name → OnSpan s (GoesOn ch.frame ch.public d) → OnLeave t (CutsStack ch.frame d)
+shows_done : (ch : Chain) (s : Option Span) (d : Done) (t : Then) → NamesApart (ch.frame ∷ ch.below) → d.effect.frame.name ≡ ch.frame.name → OnSpan s (t ≡ Goes) → OnLeave t (Leaves ch.frame d.effect)
     → Shows ch.frame s d.effect.frame (desk.operand_after ch.frame d.effect s) (follows (chain_after_effect ch d.effect) t)
-shows_done ch s d Goes is apart name goes leaves = shows_same ch.frame s d.effect (chain_after_effect ch d.effect) refl (sym (operand_is ch.frame d.effect s)) name
-shows_done ch s d Exits is apart name goes leaves = shows_exit (chain_after_effect ch d.effect) ch.frame s d ch.below apart (no_span ch.frame ch.public d s goes (λ e. absurd (cc (is ∙ e)))) leaves
-shows_done ch s d (Delegates n) is apart name goes leaves =
-    shows_call (chain_after_effect ch d.effect) ch.frame s d n (lookup (chain_after_effect ch d.effect).map n) refl name (no_span ch.frame ch.public d s goes (λ e. absurd (cc (is ∙ e)))) leaves
+shows_done ch s d Goes apart name goes leaves = shows_same ch.frame s d.effect (chain_after_effect ch d.effect) refl (sym (operand_is ch.frame d.effect s)) name
+shows_done ch s d Exits apart name goes leaves = shows_exit (chain_after_effect ch d.effect) ch.frame s d ch.below apart (no_span Exits s goes (λ e. absurd (cc e))) leaves
+shows_done ch s d (Delegates n) apart name goes leaves =
+    shows_call (chain_after_effect ch d.effect) ch.frame s d n (lookup (chain_after_effect ch d.effect).map n) refl name (no_span (Delegates n) s goes (λ e. absurd (cc e))) leaves
 
 -- ---- turns
 
@@ -142,24 +142,9 @@ pub record TurnShows (f : Frame) (s : Option Span) (after : Frame × List ℕ) (
   pub operand : after.1 ≡ operand_after f (place_in f s) next
   pub stack : stack_of after.0 ≡ stack_after f dt next
 
-row_shows : (ch : Chain) (i : Ins) (r : RowEnd) → NamesApart (ch.frame ∷ ch.below) → RowKeepsName ch.frame.name r → RowGoesOn (span_of i) ch.frame ch.public r → RowLeaves ch.frame r → TurnShows ch.frame (span_of i) (after_row ch i r) (row_turn ch i r).turn.dt (row_turn ch i r).follows
-row_shows ch i (Abends c) apart name goes leaves = record { operand = refl; stack = uncut ch.frame }
-row_shows ch i (Does d) apart name goes leaves = let h = shows_done ch (span_of i) d d.next refl apart name goes leaves in record { operand = h.operand; stack = h.stack }
-
--- the place of the code address is not seen
-pub goes_at : (s : Option Span) (f : Frame) (at : ℕ) (public : List ℕ) (r : RowEnd) → RowGoesOn s (frame_at f at) public r → RowGoesOn s f public r
-goes_at s f at public (Abends c) h = tt
-goes_at None f at public (Does d) h = tt
-goes_at (Some s) f at public (Does d) h = record { next = h.next; longer = record { fixed = h.longer.fixed; dyn = h.longer.dyn; public = h.longer.public } }
-
-leaves_at : (f : Frame) (at : ℕ) (r : RowEnd) → RowLeaves (frame_at f at) r → RowLeaves f r
-leaves_at f at (Abends c) h = tt
-leaves_at f at (Does d) h = by_then d.next h
-  where
-    by_then : (t : Then) → OnLeave t (CutsStack (frame_at f at) d) → OnLeave t (CutsStack f d)
-    by_then Goes h = tt
-    by_then Exits h = record { dyn = h.dyn; session = h.session; dt = h.dt }
-    by_then (Delegates n) h = record { dyn = h.dyn; session = h.session; dt = h.dt }
+row_shows : (ch : Chain) (i : Ins) (r : RowEnd) → NamesApart (ch.frame ∷ ch.below) → OnDone r (λ d. Keeps ch.frame ch.public d.effect) → OnDone r (λ d. SpanGoes i d) → OnDone r (λ d. OnLeave d.next (Leaves ch.frame d.effect)) → TurnShows ch.frame (span_of i) (after_row ch i r) (row_turn ch i r).turn.dt (row_turn ch i r).follows
+row_shows ch i (Abends c) apart keeps goes leaves = record { operand = refl; stack = uncut ch.frame }
+row_shows ch i (Does d) apart keeps goes leaves = let h = shows_done ch (span_of i) d d.next apart keeps.name goes leaves in record { operand = h.operand; stack = h.stack }
 
 fetch_shows : (ch : Chain) (r : Result (Ins × ℕ) DecodeFault) → NamesApart (ch.frame ∷ ch.below) → TurnShows ch.frame (span_decoded r) (after_fetch ch r) (turn_of_fetch ch r).turn.dt (turn_of_fetch ch r).follows
 fetch_shows ch (Err Undefined) apart = record { operand = refl; stack = uncut ch.frame }
@@ -167,7 +152,7 @@ fetch_shows ch (Err Past) apart = record { operand = refl; stack = uncut ch.fram
 fetch_shows ch (Ok i) apart =
     let f = frame_at ch.frame i.1 in
     let r = row i.0 f ch.public (around ch) in
-    row_shows ch i.0 r apart (row_name i.0 f ch.public (around ch)) (goes_at (span_of i.0) ch.frame i.1 ch.public r (row_goes i.0 f ch.public (around ch))) (leaves_at ch.frame i.1 r (row_leaves i.0 f ch.public (around ch)))
+    row_shows ch i.0 r apart (row_keeps i.0 f ch.public (around ch)) (row_goes i.0 f ch.public (around ch)) (row_leaves i.0 f ch.public (around ch))
 
 -- the operand and the stack of a full turn
 pub turn_shows : (n : ℕ) (ch : Chain) → NamesApart (ch.frame ∷ ch.below) → TurnShows ch.frame (span_in ch.frame (running_code ch)) ((full_turn_of n ch).frame, (full_turn_of n ch).operand) (turn_of n ch).turn.dt (turn_of n ch).follows

@@ -11,7 +11,8 @@ use Rattle.mc_model_machine.specs.Code.{instruction_at}
 use Rattle.mc_model_machine.specs.Frame.{Frame}
 use Rattle.mc_model_machine.specs.Row.{RowEnd, Abends, Does, row}
 use Rattle.mc_model_machine.specs.Chain.{Chain, Turn, Follows, Continues, Ends, Reply, Abended, around, chain_after_effect, code_in, follows, frame_at, reported_frame, row_turn, turn_of, turn_of_chain, turn_of_fetch}
-use Rattle.mc_machine_laws.proofs.RowNames.{RowKeepsName, row_name}
+use Rattle.mc_row_laws.specs.Keeping.{Keeps, OnDone}
+use Rattle.mc_row_laws.proofs.Keeping.{row_keeps}
 use Rattle.mc_desk.specs.FullTurns.{after_fetch, after_row, full_turn, running_code}
 use Rattle.mc_bank.specs.Bank.{app_of, name_or, no_app}
 use Rattle.mc_segs.specs.HeldFrames.{Seen}
@@ -63,13 +64,13 @@ reported_name old new (Continues ch) e = e
 reported_name old new (Ends (Reply b sw)) e = e
 reported_name old new (Ends (Abended cause)) e = refl
 
-row_names : (ch : Chain) (i : Ins) (r : RowEnd) → RowKeepsName ch.frame.name r → ((after_row ch i r).0).name ≡ ch.frame.name
-row_names ch i (Abends a) h = refl
-row_names ch i (Does d) h = reported_name ch.frame d.effect.frame (follows (chain_after_effect ch d.effect) d.next) h
+row_names : (ch : Chain) (i : Ins) (r : RowEnd) → OnDone r (λ d. Keeps ch.frame ch.public d.effect) → ((after_row ch i r).0).name ≡ ch.frame.name
+row_names ch i (Abends a) keeps = refl
+row_names ch i (Does d) keeps = reported_name ch.frame d.effect.frame (follows (chain_after_effect ch d.effect) d.next) keeps.name
 
 fetch_names : (ch : Chain) (r : Result (Ins × ℕ) DecodeFault) → ((after_fetch ch r).0).name ≡ ch.frame.name
 fetch_names ch (Err e) = refl
-fetch_names ch (Ok i) = row_names ch i.0 (row i.0 (frame_at ch.frame i.1) ch.public (around ch)) (row_name i.0 (frame_at ch.frame i.1) ch.public (around ch))
+fetch_names ch (Ok i) = row_names ch i.0 (row i.0 (frame_at ch.frame i.1) ch.public (around ch)) (row_keeps i.0 (frame_at ch.frame i.1) ch.public (around ch))
 
 -- the frame that a full turn leaves has the name of the one before it
 pub frame_name : (n : ℕ) (ch : Chain) → ((full_turn_of n ch).frame).name ≡ ch.frame.name

@@ -16,10 +16,11 @@ use Rattle.mc_model_machine.specs.declared.instruction.DecodeFault.TheVariants.{
 use Rattle.mc_model_machine.specs.Code.{instruction_at}
 use Rattle.mc_model_machine.specs.Frame.{Frame, Place, Static, Dynamic, Public, dynamic_base, dynamic_end, public_base, public_end, resolve, where_is}
 use Rattle.mc_model_machine.specs.Listing.{hex_text}
-use Rattle.mc_model_machine.specs.Primitives.{Done, Then}
+use Rattle.mc_model_machine.specs.Primitives.{Goes, Done, Then}
 use Rattle.mc_model_machine.specs.Row.{RowEnd, Abends, Does, row}
 use Rattle.mc_model_machine.specs.TurnText.{bit_text, ins_text, turn_line}
 use Rattle.mc_model_machine.specs.Chain.{Chain, Turn as ModelTurn, Follows, Continues, Ends, around, chain_after_effect, follows, frame_at, row_turn, turn_of, turn_of_chain, turn_of_fetch}
+use Rattle.mc_base.specs.declared.sink.Sink.{Ghosts}
 use Rattle.mc_desk.specs.FullTurns.{FullTurn, Span, running_code, span_of, stack_of}
 use Rattle.mc_desk.specs.Listings.{CodeLine, Source}
 use Rattle.mc_desk.specs.Traces.{is_turn_of, line_of_turn, section_of_turn, trace_line, trace_lines, turn_part, with_part}
@@ -35,9 +36,11 @@ use Rattle.mc_cover.specs.Looking.{IsScene, Lies, LiesAfter, Shows, operand_afte
 use Rattle.mc_cover.specs.Sections.{index_of, is_of}
 use Rattle.mc_cover.specs.Tracing.{line_pair, source_part_of, state_part_of, turn_text, Adds, Traced}
 use Rattle.mc_cover.specs.Watching.{IsWide, full_turn_of}
-use Rattle.mc_cover.proofs.AfterLemmas.{goes_at, turn_shows}
+use Rattle.mc_cover.proofs.AfterLemmas.{turn_shows}
 use Rattle.mc_cover.proofs.FullTurnLemmas.{code_is, frame_name, turn_is}
-use Rattle.mc_cover.proofs.RowLemmas.{GoesOn, OnSpan, RowGoesOn, row_goes}
+use Rattle.mc_row_laws.specs.Keeping.{Keeps, OnDone}
+use Rattle.mc_row_laws.proofs.Keeping.{fixed_longer, row_keeps}
+use Rattle.mc_cover.proofs.RowLemmas.{OnSpan, SpanGoes, row_goes}
 
 -- ---- the section of a turn
 
@@ -120,21 +123,20 @@ lies_span : (f g : Frame) (p : List ℕ) (s : Span) → length f.fixed ≤ lengt
 lies_span f g p s fixed dt dyn public = lies_at f g p s.size (resolve f s.tag s.offset) fixed dt dyn public
 
 -- after a row: only a row whose frame goes on has an operand
-lies_done : (ch : Chain) (o : Option Span) (d : Done) (t : Then) → d.next ≡ t → IsWide ch → ch.frame.dt ≤ dynamic_end → OnSpan o (GoesOn ch.frame ch.public d) → LiesAfter (place_in ch.frame o) (follows (chain_after_effect ch d.effect) t)
-lies_done ch None d t e wide dt goes = by_follows (follows (chain_after_effect ch d.effect) t)
+lies_done : (ch : Chain) (o : Option Span) (d : Done) (t : Then) → IsWide ch → ch.frame.dt ≤ dynamic_end → Keeps ch.frame ch.public d.effect → OnSpan o (t ≡ Goes) → LiesAfter (place_in ch.frame o) (follows (chain_after_effect ch d.effect) t)
+lies_done ch None d t wide dt keeps goes = by_follows (follows (chain_after_effect ch d.effect) t)
   where
     by_follows : (f : Follows) → LiesAfter None f
     by_follows (Continues c) = tt
     by_follows (Ends o) = tt
-lies_done ch (Some s) d t e wide dt goes =
-    let h = goes.longer in
-    let dyn : 512 ≤ length d.effect.frame.dyn = let a = wide.frames.0 in let b = h.dyn in omega (arith, a, b) in
-    let public : 1041 ≤ length d.effect.public = let a = wide.public in let b = h.public in omega (arith, a, b) in
-    subst (λ (x : Then). LiesAfter (place_in ch.frame (Some s)) (follows (chain_after_effect ch d.effect) x)) (sym goes.next ∙ e) (lies_span ch.frame d.effect.frame d.effect.public s h.fixed dt dyn public)
+lies_done ch (Some s) d t wide dt keeps goes =
+    let dyn : 512 ≤ length d.effect.frame.dyn = let a = wide.frames.0 in let b = keeps.dyn in omega (arith, a, b) in
+    let public : 1041 ≤ length d.effect.public = let a = wide.public in let b = keeps.public in omega (arith, a, b) in
+    subst (λ (x : Then). LiesAfter (place_in ch.frame (Some s)) (follows (chain_after_effect ch d.effect) x)) (sym goes) (lies_span ch.frame d.effect.frame d.effect.public s (fixed_longer ch.frame ch.public d.effect keeps) dt dyn public)
 
-lies_row : (ch : Chain) (i : Ins) (r : RowEnd) → IsWide ch → ch.frame.dt ≤ dynamic_end → RowGoesOn (span_of i) ch.frame ch.public r → LiesAfter (place_in ch.frame (span_of i)) (row_turn ch i r).follows
-lies_row ch i (Abends c) wide dt goes = tt
-lies_row ch i (Does d) wide dt goes = lies_done ch (span_of i) d d.next refl wide dt goes
+lies_row : (ch : Chain) (i : Ins) (r : RowEnd) → IsWide ch → ch.frame.dt ≤ dynamic_end → OnDone r (λ d. Keeps ch.frame ch.public d.effect) → OnDone r (λ d. SpanGoes i d) → LiesAfter (place_in ch.frame (span_of i)) (row_turn ch i r).follows
+lies_row ch i (Abends c) wide dt keeps goes = tt
+lies_row ch i (Does d) wide dt keeps goes = lies_done ch (span_of i) d d.next wide dt keeps goes
 
 lies_fetch : (ch : Chain) (r : Result (Ins × ℕ) DecodeFault) → IsWide ch → ch.frame.dt ≤ dynamic_end → LiesAfter (place_in ch.frame (span_decoded r)) (turn_of_fetch ch r).follows
 lies_fetch ch (Err Undefined) wide dt = tt
@@ -142,7 +144,7 @@ lies_fetch ch (Err Past) wide dt = tt
 lies_fetch ch (Ok i) wide dt =
     let f = frame_at ch.frame i.1 in
     let r = row i.0 f ch.public (around ch) in
-    lies_row ch i.0 r wide dt (goes_at (span_of i.0) ch.frame i.1 ch.public r (row_goes i.0 f ch.public (around ch)))
+    lies_row ch i.0 r wide dt (row_keeps i.0 f ch.public (around ch)) (row_goes i.0 f ch.public (around ch))
 
 -- the place of the operand of a turn has its bytes after the turn
 pub lies_after : (n : ℕ) (ch : Chain) → IsWide ch → ch.frame.dt ≤ dynamic_end → LiesAfter (place_in ch.frame (span_in ch.frame (running_code ch))) (turn_of n ch).follows
@@ -226,21 +228,21 @@ line_found turn ss o t l h e =
 one_line : (ss : List Source) (t : FullTurn) (l : List ℕ) → l ≡ trace_line ss t → l ≡ trace_lines ss (t ∷ [])
 one_line ss t l e = e ∙ sym (append-nil (trace_line ss t))
 
-module _ {T : Type 0} (taken : T → Option (List ℕ)) (faults : T → ℕ) where
+module _ {T : Type 0} (sink : Ghosts T) where
   -- the line of a turn that runs no line of a section
-  pub traced_plain : (q r : Tracer T) (turn : Turn) (o : Option ℕ) (t : FullTurn) (text : List ℕ) (h : IsTurnOf turn q.sections.now o t) → None ≡ option_map line_pair (source_line (section_at q.sections.now o) turn.at) → text ≡ turn_line (turn_value turn h.wrote) → Adds taken faults q text r
-      → Traced taken faults q (t ∷ []) r
+  pub traced_plain : (q r : Tracer T) (turn : Turn) (o : Option ℕ) (t : FullTurn) (text : List ℕ) (h : IsTurnOf turn q.sections.now o t) → None ≡ option_map line_pair (source_line (section_at q.sections.now o) turn.at) → text ≡ turn_line (turn_value turn h.wrote) → Adds sink q text r
+      → Traced sink q (t ∷ []) r
   traced_plain q r turn o t text h none is adds =
       let ss : List Source = q.sections.now in
       let part : turn_part t (line_of_turn ss t) ≡ [] = no_part t (line_of_turn ss t) (line_found turn ss o t None h none) in
       let line : text ≡ trace_line ss t =
       is ∙ ap turn_line (sym h.same) ∙ plain_line t.turn ∙ ap (λ (p : List ℕ). with_part (turn_line t.turn) p) (sym part)
       in
-      subst (λ (l : List ℕ). Adds taken faults q l r) (one_line ss t text line) adds
+      subst (λ (l : List ℕ). Adds sink q l r) (one_line ss t text line) adds
 
   -- the line of a turn with its source line
   pub traced_turn : (q r : Tracer T) (turn : Turn) (o : Option ℕ) (t : FullTurn) (l : ℕ × List ℕ) (operand stack : List ℕ) (h : IsTurnOf turn q.sections.now o t) → Some l ≡ option_map line_pair (source_line (section_at q.sections.now o) turn.at)
-      → operand ≡ t.operand → stack ≡ stack_of t.frame → Adds taken faults q (turn_text (turn_value turn h.wrote) l operand stack) r → Traced taken faults q (t ∷ []) r
+      → operand ≡ t.operand → stack ≡ stack_of t.frame → Adds sink q (turn_text (turn_value turn h.wrote) l operand stack) r → Traced sink q (t ∷ []) r
   traced_turn q r turn o t l operand stack h some by_operand by_stack adds =
       let ss : List Source = q.sections.now in
       let part : turn_part t (line_of_turn ss t) ≡ source_part_of l ++ state_part_of t.operand (stack_of t.frame) = part_is t (line_of_turn ss t) l (line_found turn ss o t (Some l) h some) in
@@ -249,7 +251,7 @@ module _ {T : Type 0} (taken : T → Option (List ℕ)) (faults : T → ℕ) whe
       ∙ ap (λ (u : ModelTurn). with_part (turn_line u) (source_part_of l ++ state_part_of t.operand (stack_of t.frame))) (sym h.same)
       ∙ ap (λ (p : List ℕ). with_part (turn_line t.turn) p) (sym part)
       in
-      subst (λ (x : List ℕ). Adds taken faults q x r) (one_line ss t (turn_text (turn_value turn h.wrote) l operand stack) line) adds
+      subst (λ (x : List ℕ). Adds sink q x r) (one_line ss t (turn_text (turn_value turn h.wrote) l operand stack) line) adds
 
 -- ---- the operand and the stack
 

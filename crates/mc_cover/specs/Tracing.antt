@@ -4,8 +4,9 @@ use Rattle.std.proofs.Common.{refl, sym, ap, subst, ◌∙◌, append_assoc}
 use Rattle.mc_model_machine.specs.Chain.{Turn}
 use Rattle.mc_model_machine.specs.TurnText.{turn_line}
 use Rattle.mc_base.specs.declared.refusals.WriteFault.{WriteFault}
+use Rattle.mc_base.specs.declared.sink.Sink.{Ghosts}
 use Rattle.mc_text.specs.Logs.{Log}
-use Rattle.mc_text.specs.Texts.{Sunk, Writes, Fails, sunk_in}
+use Rattle.mc_text.specs.Texts.{sunk, Sunk, Writes, Fails}
 use Rattle.mc_text.proofs.TextLemmas.{writes_then, writes_none, fails_then, fails_before}
 use Rattle.mc_desk.specs.declared.source.CodeLine.{CodeLine as LineOfCode}
 use Rattle.mc_desk.specs.FullTurns.{FullTurn, last_bytes}
@@ -51,10 +52,10 @@ TextBy (Some f) a text m = (m.fault ≡ Some f) × (m.out ≡ a)
 abbrev pub AddsText : Log → List ℕ → Log → Type 0
 AddsText l text m = TextBy l.fault l.out text m
 
-module _ {T : Type 0} (taken : T → Option (List ℕ)) (faults : T → ℕ) where
+module _ {T : Type 0} (sink : Ghosts T) where
   -- the log of a tracer, by what its sink took
   abbrev pub log_of : Tracer T → Log
-  log_of q = record { out = sunk_in taken faults q.out.now; fault = q.fault }
+  log_of q = record { out = sunk sink q.out.now; fault = q.fault }
 
   -- a tracer wrote a text: it has the same sink as before, and the same sections
   pub record Adds (q : Tracer T) (text : List ℕ) (r : Tracer T) : Type 0 where
@@ -94,26 +95,26 @@ lines_append : (ss : List Source) (ts us : List FullTurn) → trace_lines ss (ts
 lines_append ss [] us = refl
 lines_append ss (t ∷ ts) us = ap (λ (l : List ℕ). trace_line ss t ++ l) (lines_append ss ts us) ∙ sym (append_assoc (trace_line ss t) (trace_lines ss ts) (trace_lines ss us))
 
-module _ {T : Type 0} (taken : T → Option (List ℕ)) (faults : T → ℕ) where
+module _ {T : Type 0} (sink : Ghosts T) where
   -- a text after a text
-  pub adds_on : (q r s : Tracer T) (x y : List ℕ) → Adds taken faults q x r → Adds taken faults r y s → Adds taken faults q (x ++ y) s
+  pub adds_on : (q r s : Tracer T) (x y : List ℕ) → Adds sink q x r → Adds sink r y s → Adds sink q (x ++ y) s
   adds_on q r s x y first rest =
       record {
-        adds = by_on q.fault (sunk_in taken faults q.out.now) (log_of taken faults r) (log_of taken faults s) x y first.adds rest.adds;
+        adds = by_on q.fault (sunk sink q.out.now) (log_of sink r) (log_of sink s) x y first.adds rest.adds;
         sections = rest.sections ∙ first.sections;
         same = rest.same ∙ first.same;
       }
 
   -- a tracer that wrote nothing is unchanged
-  pub adds_none : (r : Tracer T) → Adds taken faults r [] r
-  adds_none r = record { adds = none_by r.fault (sunk_in taken faults r.out.now); sections = refl; same = refl }
+  pub adds_none : (r : Tracer T) → Adds sink r [] r
+  adds_none r = record { adds = none_by r.fault (sunk sink r.out.now); sections = refl; same = refl }
 
   -- of no turn no line is written
-  pub traced_none : (r : Tracer T) → Traced taken faults r [] r
+  pub traced_none : (r : Tracer T) → Traced sink r [] r
   traced_none r = adds_none r
 
   -- the lines of turns are written after those before them
-  pub traced_on : (q r s : Tracer T) (ts us : List FullTurn) → Traced taken faults q ts r → Traced taken faults r us s → Traced taken faults q (ts ++ us) s
+  pub traced_on : (q r s : Tracer T) (ts us : List FullTurn) → Traced sink q ts r → Traced sink r us s → Traced sink q (ts ++ us) s
   traced_on q r s ts us first rest =
-      let here = subst (λ (ss : List Source). Adds taken faults r (trace_lines ss us) s) first.sections rest in
-      subst (λ (l : List ℕ). Adds taken faults q l s) (sym (lines_append q.sections.now ts us)) (adds_on q r s (trace_lines q.sections.now ts) (trace_lines q.sections.now us) first here)
+      let here = subst (λ (ss : List Source). Adds sink r (trace_lines ss us) s) first.sections rest in
+      subst (λ (l : List ℕ). Adds sink q l s) (sym (lines_append q.sections.now ts us)) (adds_on q r s (trace_lines q.sections.now ts) (trace_lines q.sections.now us) first here)

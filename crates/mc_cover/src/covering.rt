@@ -9,6 +9,7 @@ ghost use Rattle.mc_desk.specs.Coverage.{condition_decoded, condition_in, condit
 ghost use Rattle.mc_desk.specs.Sources.{code_line_value};
 ghost use Rattle.mc_text.specs.Texts.{sunk};
 ghost use Rattle.mc_script.specs.Players.{IsUnfused};
+ghost use Rattle.mc_script.specs.Benches.{bench_at};
 ghost use Rattle.mc_cover.specs.declared.covering.CoverFault.TheVariants as fault;
 ghost use Rattle.mc_cover.specs.Watching.{Watches};
 ghost use Rattle.mc_cover.specs.Plays.{CountsPlay, CoversBy};
@@ -257,8 +258,8 @@ fn count_lines<N: Bench, L: Ledger>(
 ) -> N
     requires { IsUnfused (N.bench device) }
     ensures counts { CountsPlay (start (N.state device).words) deck.now
-        (record { device = N.state device; bench = N.bench device })
-        (record { device = N.state result; bench = N.bench result }) counter.old counter.new steps.old steps.new }
+        (bench_at N.Bench device)
+        (bench_at N.Bench result) counter.old counter.new steps.old steps.new }
     ensures image { IsImage (N.state device).words }
     ensures lines { AllByRecursion (λ l. IsLine l.1) deck.now }
     ensures keeps_device { N.same device result }
@@ -294,8 +295,8 @@ pub fn cover<N: Bench, T: Sink, L: Ledger>(
     // All lines of the deck are played in order, and what is written is the record of the play under the sections of
     // the draft. Out of memory, nothing is played.
     ensures covers { CoversBy name.now sections.now deck.now
-        (record { device = N.state dev.old; bench = N.bench dev.old }) (sunk T.Sink out.old) result
-        (record { device = N.state dev.new; bench = N.bench dev.new }) (sunk T.Sink out.new) steps.old steps.new }
+        (bench_at N.Bench dev.old) (sunk T.Sink out.old) result
+        (bench_at N.Bench dev.new) (sunk T.Sink out.new) steps.old steps.new }
     ensures unplayed { IfErr result (λ e. e ≡ fault.NoMemory → dev.new ≡ dev.old) }
 {
     let Ok(lines) = new_lines(alloc, sections.all()) else {

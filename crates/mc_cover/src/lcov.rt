@@ -2,7 +2,7 @@
 ghost use Rattle.std.specs.Prelude.{◌≡◌, ◌+◌, ◌-◌, ◌*◌, ◌≤◌, ◌++◌};
 ghost use Rattle.std.specs.Prelude.{codes, cond, decimal, filter, length, nat_lt};
 ghost use Rattle.arrayvec.specs.ArrayVec.{array_vec_len};
-ghost use Rattle.mc_text.specs.Texts.{sunk_in, Puts};
+ghost use Rattle.mc_text.specs.Texts.{sunk, Puts};
 ghost use Rattle.mc_cover.specs.Records.{branch_text, branches_text, count_gone, count_run, count_text, count_ways};
 ghost use Rattle.mc_cover.specs.Records.{end_text, head_text, line_sums, line_text, lines_text, number_text};
 ghost use Rattle.mc_cover.specs.Records.{record_text, rest_text, way_sums, way_text, ways_of};
@@ -47,7 +47,7 @@ fn add_number(gathered: &mut Record, number: u64)
 
 // Writes the line of a line of code.
 fn put_line<T: Sink>(out: &mut T, line: &LineCount) -> Result<(), WriteFault>
-    ensures { Puts (sunk_in T.taken T.faults out.old) (line_text line.now) result (sunk_in T.taken T.faults out.new) }
+    ensures { Puts (sunk T.Sink out.old) (line_text line.now) result (sunk T.Sink out.new) }
 {
     let mut gathered = ArrayVec::new();
     add(&mut gathered, b"DA:");
@@ -73,8 +73,8 @@ fn add_count(gathered: &mut Record, turns: u64, count: u64)
 
 // Writes the line of one way of a branch.
 fn put_way<T: Sink>(out: &mut T, line: &LineCount, way: u64, count: u64) -> Result<(), WriteFault>
-    ensures { Puts (sunk_in T.taken T.faults out.old) (way_text line.now way count) result
-        (sunk_in T.taken T.faults out.new) }
+    ensures { Puts (sunk T.Sink out.old) (way_text line.now way count) result
+        (sunk T.Sink out.new) }
 {
     let mut gathered = ArrayVec::new();
     add(&mut gathered, b"BRDA:");
@@ -89,17 +89,17 @@ fn put_way<T: Sink>(out: &mut T, line: &LineCount, way: u64, count: u64) -> Resu
 
 // Writes the line of the way on which the condition did not hold.
 fn put_passed<T: Sink>(out: &mut T, line: &LineCount) -> Result<(), WriteFault>
-    ensures { Puts (sunk_in T.taken T.faults out.old) (way_text line.now 1 (line.now.turns - line.now.taken)) result
-        (sunk_in T.taken T.faults out.new) }
+    ensures { Puts (sunk T.Sink out.old) (way_text line.now 1 (line.now.turns - line.now.taken)) result
+        (sunk T.Sink out.new) }
 {
     put_way(out, line, 1, line.turns.saturating_sub(line.taken))
 }
 
 // Writes the two lines of a branch.
 fn put_ways<T: Sink>(out: &mut T, line: &LineCount) -> Result<(), WriteFault>
-    ensures { Puts (sunk_in T.taken T.faults out.old)
+    ensures { Puts (sunk T.Sink out.old)
         (way_text line.now 0 line.now.taken ++ way_text line.now 1 (line.now.turns - line.now.taken)) result
-        (sunk_in T.taken T.faults out.new) }
+        (sunk T.Sink out.new) }
 {
     put_way(out, line, 0, line.taken)?;
     put_passed(out, line)
@@ -108,7 +108,7 @@ fn put_ways<T: Sink>(out: &mut T, line: &LineCount) -> Result<(), WriteFault>
 // Writes the two lines of a line's branch, if it has one.
 #[tactic(auto, using(mc_text::proofs::TextLemmas::writes_none))]
 fn put_branch<T: Sink>(out: &mut T, line: &LineCount) -> Result<(), WriteFault>
-    ensures { Puts (sunk_in T.taken T.faults out.old) (branch_text line.now) result (sunk_in T.taken T.faults out.new) }
+    ensures { Puts (sunk T.Sink out.old) (branch_text line.now) result (sunk T.Sink out.new) }
 {
     match line.condition {
         None => Ok(()),
@@ -118,7 +118,7 @@ fn put_branch<T: Sink>(out: &mut T, line: &LineCount) -> Result<(), WriteFault>
 
 // Writes the lines of lines of code.
 fn put_lines<T: Sink>(out: &mut T, lines: &[LineCount]) -> Result<(), WriteFault>
-    ensures { Puts (sunk_in T.taken T.faults out.old) (lines_text lines.now) result (sunk_in T.taken T.faults out.new) }
+    ensures { Puts (sunk T.Sink out.old) (lines_text lines.now) result (sunk T.Sink out.new) }
 {
     for line in lines {
         put_line(out, line)?;
@@ -128,8 +128,8 @@ fn put_lines<T: Sink>(out: &mut T, lines: &[LineCount]) -> Result<(), WriteFault
 
 // Writes the lines of their branches.
 fn put_branches<T: Sink>(out: &mut T, lines: &[LineCount]) -> Result<(), WriteFault>
-    ensures { Puts (sunk_in T.taken T.faults out.old) (branches_text lines.now) result
-        (sunk_in T.taken T.faults out.new) }
+    ensures { Puts (sunk T.Sink out.old) (branches_text lines.now) result
+        (sunk T.Sink out.new) }
 {
     for line in lines {
         put_branch(out, line)?;
@@ -140,8 +140,8 @@ fn put_branches<T: Sink>(out: &mut T, lines: &[LineCount]) -> Result<(), WriteFa
 // Writes a word and a number.
 fn put_count<T: Sink>(out: &mut T, word: &[u8], number: u64) -> Result<(), WriteFault>
     requires { length word.now ≤ 20 }
-    ensures { Puts (sunk_in T.taken T.faults out.old) (number_text word.now number) result
-        (sunk_in T.taken T.faults out.new) }
+    ensures { Puts (sunk T.Sink out.old) (number_text word.now number) result
+        (sunk T.Sink out.new) }
 {
     let mut gathered = ArrayVec::new();
     add(&mut gathered, word);
@@ -214,8 +214,8 @@ fn count_run(lines: &[LineCount]) -> u64
 
 // Writes the name of a file, and a line feed.
 fn put_name<T: Sink>(out: &mut T, name: &[u8]) -> Result<(), WriteFault>
-    ensures { Puts (sunk_in T.taken T.faults out.old) (name.now ++ codes "\n") result
-        (sunk_in T.taken T.faults out.new) }
+    ensures { Puts (sunk T.Sink out.old) (name.now ++ codes "\n") result
+        (sunk T.Sink out.new) }
 {
     put(out, name)?;
     put(out, b"\n")
@@ -223,7 +223,7 @@ fn put_name<T: Sink>(out: &mut T, name: &[u8]) -> Result<(), WriteFault>
 
 // Writes the head of a record.
 fn put_head<T: Sink>(out: &mut T, name: &[u8]) -> Result<(), WriteFault>
-    ensures { Puts (sunk_in T.taken T.faults out.old) (head_text name.now) result (sunk_in T.taken T.faults out.new) }
+    ensures { Puts (sunk T.Sink out.old) (head_text name.now) result (sunk T.Sink out.new) }
 {
     put(out, b"TN:\nSF:")?;
     put_name(out, name)
@@ -231,31 +231,31 @@ fn put_head<T: Sink>(out: &mut T, name: &[u8]) -> Result<(), WriteFault>
 
 // Writes the number of ways.
 fn put_all_ways<T: Sink>(out: &mut T, lines: &[LineCount]) -> Result<(), WriteFault>
-    ensures { Puts (sunk_in T.taken T.faults out.old) (number_text (codes "BRF:") (count_ways lines.now)) result
-        (sunk_in T.taken T.faults out.new) }
+    ensures { Puts (sunk T.Sink out.old) (number_text (codes "BRF:") (count_ways lines.now)) result
+        (sunk T.Sink out.new) }
 {
     put_count(out, b"BRF:", count_ways(lines))
 }
 
 // Writes the number of ways that were gone.
 fn put_gone_ways<T: Sink>(out: &mut T, lines: &[LineCount]) -> Result<(), WriteFault>
-    ensures { Puts (sunk_in T.taken T.faults out.old) (number_text (codes "BRH:") (count_gone lines.now)) result
-        (sunk_in T.taken T.faults out.new) }
+    ensures { Puts (sunk T.Sink out.old) (number_text (codes "BRH:") (count_gone lines.now)) result
+        (sunk T.Sink out.new) }
 {
     put_count(out, b"BRH:", count_gone(lines))
 }
 
 // Writes the number of lines that ran.
 fn put_run_lines<T: Sink>(out: &mut T, lines: &[LineCount]) -> Result<(), WriteFault>
-    ensures { Puts (sunk_in T.taken T.faults out.old) (number_text (codes "LH:") (count_run lines.now)) result
-        (sunk_in T.taken T.faults out.new) }
+    ensures { Puts (sunk T.Sink out.old) (number_text (codes "LH:") (count_run lines.now)) result
+        (sunk T.Sink out.new) }
 {
     put_count(out, b"LH:", count_run(lines))
 }
 
 // Writes the number of ways, and of those that were gone.
 fn put_way_sums<T: Sink>(out: &mut T, lines: &[LineCount]) -> Result<(), WriteFault>
-    ensures { Puts (sunk_in T.taken T.faults out.old) (way_sums lines.now) result (sunk_in T.taken T.faults out.new) }
+    ensures { Puts (sunk T.Sink out.old) (way_sums lines.now) result (sunk T.Sink out.new) }
 {
     put_all_ways(out, lines)?;
     put_gone_ways(out, lines)
@@ -263,7 +263,7 @@ fn put_way_sums<T: Sink>(out: &mut T, lines: &[LineCount]) -> Result<(), WriteFa
 
 // Writes the number of lines, and of those that ran.
 fn put_line_sums<T: Sink>(out: &mut T, lines: &[LineCount]) -> Result<(), WriteFault>
-    ensures { Puts (sunk_in T.taken T.faults out.old) (line_sums lines.now) result (sunk_in T.taken T.faults out.new) }
+    ensures { Puts (sunk T.Sink out.old) (line_sums lines.now) result (sunk T.Sink out.new) }
 {
     put_count(out, b"LF:", lines.len() as u64)?;
     put_run_lines(out, lines)
@@ -271,8 +271,8 @@ fn put_line_sums<T: Sink>(out: &mut T, lines: &[LineCount]) -> Result<(), WriteF
 
 // Writes all numbers.
 fn put_sums<T: Sink>(out: &mut T, lines: &[LineCount]) -> Result<(), WriteFault>
-    ensures { Puts (sunk_in T.taken T.faults out.old) (way_sums lines.now ++ line_sums lines.now) result
-        (sunk_in T.taken T.faults out.new) }
+    ensures { Puts (sunk T.Sink out.old) (way_sums lines.now ++ line_sums lines.now) result
+        (sunk T.Sink out.new) }
 {
     put_way_sums(out, lines)?;
     put_line_sums(out, lines)
@@ -280,7 +280,7 @@ fn put_sums<T: Sink>(out: &mut T, lines: &[LineCount]) -> Result<(), WriteFault>
 
 // Writes all numbers, and the end of the record.
 fn put_end<T: Sink>(out: &mut T, lines: &[LineCount]) -> Result<(), WriteFault>
-    ensures { Puts (sunk_in T.taken T.faults out.old) (end_text lines.now) result (sunk_in T.taken T.faults out.new) }
+    ensures { Puts (sunk T.Sink out.old) (end_text lines.now) result (sunk T.Sink out.new) }
 {
     put_sums(out, lines)?;
     put(out, b"end_of_record\n")
@@ -288,8 +288,8 @@ fn put_end<T: Sink>(out: &mut T, lines: &[LineCount]) -> Result<(), WriteFault>
 
 // Writes the lines of lines of code and of their branches.
 fn put_body<T: Sink>(out: &mut T, lines: &[LineCount]) -> Result<(), WriteFault>
-    ensures { Puts (sunk_in T.taken T.faults out.old) (lines_text lines.now ++ branches_text lines.now) result
-        (sunk_in T.taken T.faults out.new) }
+    ensures { Puts (sunk T.Sink out.old) (lines_text lines.now ++ branches_text lines.now) result
+        (sunk T.Sink out.new) }
 {
     put_lines(out, lines)?;
     put_branches(out, lines)
@@ -297,7 +297,7 @@ fn put_body<T: Sink>(out: &mut T, lines: &[LineCount]) -> Result<(), WriteFault>
 
 // Writes a record after its head.
 fn put_rest<T: Sink>(out: &mut T, lines: &[LineCount]) -> Result<(), WriteFault>
-    ensures { Puts (sunk_in T.taken T.faults out.old) (rest_text lines.now) result (sunk_in T.taken T.faults out.new) }
+    ensures { Puts (sunk T.Sink out.old) (rest_text lines.now) result (sunk T.Sink out.new) }
 {
     put_body(out, lines)?;
     put_end(out, lines)
@@ -309,8 +309,8 @@ fn put_rest<T: Sink>(out: &mut T, lines: &[LineCount]) -> Result<(), WriteFault>
 ///
 /// Returns the fault of the sink if it failed; a proper prefix of the record was written then.
 pub fn put_record<T: Sink>(out: &mut T, name: &[u8], lines: &[LineCount]) -> Result<(), WriteFault>
-    ensures { Puts (sunk_in T.taken T.faults out.old) (record_text name.now lines.now) result
-        (sunk_in T.taken T.faults out.new) }
+    ensures { Puts (sunk T.Sink out.old) (record_text name.now lines.now) result
+        (sunk T.Sink out.new) }
 {
     put_head(out, name)?;
     put_rest(out, lines)

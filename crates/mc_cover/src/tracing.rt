@@ -13,7 +13,8 @@ ghost use Rattle.mc_desk.specs.FullTurns.{last_bytes};
 ghost use Rattle.mc_desk.specs.Traces.{bytes_or_dash, trace_text};
 ghost use Rattle.mc_desk.specs.Verdicts.{source_line};
 ghost use Rattle.mc_text.specs.Texts.{sunk};
-ghost use Rattle.mc_script.specs.Players.{answer_value, IsPlaying, IsUnfused};
+ghost use Rattle.mc_script.specs.Players.{answer_value, IsUnfused};
+ghost use Rattle.mc_script.specs.Benches.{bench_at, IsPlaying};
 ghost use Rattle.mc_script.specs.Plays.{PlaysDeck};
 ghost use Rattle.mc_script.specs.StepCounts.{CountsDeck, CountsFrom};
 ghost use Rattle.mc_script.specs.Writers.{write_result};
@@ -100,7 +101,7 @@ fn gather_state(text: &mut Text, after: &After)
 
 // Gathers the line of a result: its number, a blank, the result and a line feed.
 fn gather_result<N: Bench>(text: &mut Text, number: u32, player: &Player<N>, answer: &Answer)
-    requires { IsPlaying N.state N.bench player.now }
+    requires { IsPlaying N.Bench player.now }
     ensures { text.new.items ≡ line_text number (Some (answer_value N.state player.now answer.now)) }
 {
     text.clear();
@@ -149,7 +150,7 @@ impl<'s, 'o, T: Sink> Tracer<'s, 'o, T> {
 
     // Writes a text, unless the sink failed before.
     fn write(&mut self, text: &[u8])
-        ensures { Adds T.taken T.faults self.old text.now self.new }
+        ensures { Adds T.Sink self.old text.now self.new }
     {
         if self.fault.is_none() {
             self.fault = put(self.out, text).err();
@@ -158,7 +159,7 @@ impl<'s, 'o, T: Sink> Tracer<'s, 'o, T> {
 
     // Writes what was gathered.
     fn write_gathered(&mut self)
-        ensures { Adds T.taken T.faults self.old self.old.text.items self.new }
+        ensures { Adds T.Sink self.old self.old.text.items self.new }
     {
         if self.fault.is_none() {
             self.fault = put(self.out, self.text.as_slice()).err();
@@ -170,7 +171,7 @@ impl<'s, 'o, T: Sink> Tracer<'s, 'o, T> {
         requires shaped { IfSome turn.now.ins Shaped }
         requires low { 1 ≤ turn.now.depth }
         requires high { turn.now.depth ≤ 4 }
-        ensures { (wrote : Option ℕ) → Adds T.taken T.faults self.old (turn_text (turn_value turn.now wrote)
+        ensures { (wrote : Option ℕ) → Adds T.Sink self.old (turn_text (turn_value turn.now wrote)
             (line_value line.now) after.now.operand.items after.now.stack.items) self.new }
     {
         gather_front(&mut self.text, turn, line.number);
@@ -182,8 +183,8 @@ impl<'s, 'o, T: Sink> Tracer<'s, 'o, T> {
 
     // Writes the result of a line, if it has one.
     fn report<N: Bench>(&mut self, number: u32, player: &Player<N>, answer: &Option<Answer>)
-        requires { IsPlaying N.state N.bench player.now }
-        ensures { Adds T.taken T.faults self.old
+        requires { IsPlaying N.Bench player.now }
+        ensures { Adds T.Sink self.old
             (line_text number (option_map (answer_value N.state player.now) answer.now)) self.new }
     {
         if let Some(answer) = answer {
@@ -204,11 +205,11 @@ impl<'s, 'o, T: Sink> Tracer<'s, 'o, T> {
 }
 
 impl<'s, 'o, T: Sink> Watcher for Tracer<'s, 'o, T> {
-    ghost watched = { Traced T.taken T.faults };
+    ghost watched = { Traced T.Sink };
 
-    ghost silent = { traced_none T.taken T.faults };
+    ghost silent = { traced_none T.Sink };
 
-    ghost onward = { traced_on T.taken T.faults };
+    ghost onward = { traced_on T.Sink };
 
     fn turn<N: Nvm, L: Ledger>(
         &mut self,
@@ -230,11 +231,11 @@ impl<'s, 'o, T: Sink> Watcher for Tracer<'s, 'o, T> {
 }
 
 impl<'s, 'o, T: Sink> Runner for Tracer<'s, 'o, T> {
-    ghost reported = { Watches (Traced T.taken T.faults) };
+    ghost reported = { Watches (Traced T.Sink) };
 
-    ghost silent = { λ c. traced_none T.taken T.faults };
+    ghost silent = { λ c. traced_none T.Sink };
 
-    ghost onward = { λ c d q r s. traced_on T.taken T.faults q r s [] [] };
+    ghost onward = { λ c d q r s. traced_on T.Sink q r s [] [] };
 
     fn run<N: Nvm, L: Ledger>(
         &mut self,
@@ -258,8 +259,8 @@ fn play_lines<N: Bench, T: Sink, L: Ledger>(
     requires fuses { IsUnfused (N.bench device) }
     requires fault { tracer.old.fault ≡ None }
     ensures plays { CountsFrom (trace_text tracer.old.sections.now) (start (N.state device).words) deck.now
-        (record { device = N.state device; bench = N.bench device }) (sunk T.Sink tracer.old.out.now)
-        (write_result tracer.new.fault) (record { device = N.state result; bench = N.bench result })
+        (bench_at N.Bench device) (sunk T.Sink tracer.old.out.now)
+        (write_result tracer.new.fault) (bench_at N.Bench result)
         (sunk T.Sink tracer.new.out.now) steps.old steps.new }
     ensures image { IsImage (N.state device).words }
     ensures lines { AllByRecursion (λ l. IsLine l.1) deck.now }
@@ -302,13 +303,13 @@ pub fn trace<N: Bench, T: Sink, L: Ledger>(
     // and the tape of the device are those of the lines, one by one and in sum, and what is written is their trace
     // under the sections of the draft.
     ensures plays { PlaysDeck (trace_text sections.now) deck.now
-        (record { device = N.state dev.old; bench = N.bench dev.old }) (sunk T.Sink out.old) result
-        (record { device = N.state dev.new; bench = N.bench dev.new }) (sunk T.Sink out.new) }
+        (bench_at N.Bench dev.old) (sunk T.Sink out.old) result
+        (bench_at N.Bench dev.new) (sunk T.Sink out.new) }
     // Each executed instruction is one step, and the search of an OPEN for room takes at most two more than the card
     // has gaps. A line that a stop hits makes no more steps than the whole line.
     ensures steps { CountsDeck (trace_text sections.now) deck.now
-        (record { device = N.state dev.old; bench = N.bench dev.old }) (sunk T.Sink out.old) result
-        (record { device = N.state dev.new; bench = N.bench dev.new }) (sunk T.Sink out.new) steps.old steps.new }
+        (bench_at N.Bench dev.old) (sunk T.Sink out.old) result
+        (bench_at N.Bench dev.new) (sunk T.Sink out.new) steps.old steps.new }
 {
     let mut tracer = Tracer::new(&mut *out, sections);
     let _dev = play_lines(deck, &mut *dev, &mut tracer, steps);

@@ -1,6 +1,6 @@
 -- Parts of a text without a line feed, and what a line of a draft becomes, have none either.
 use Rattle.std.proofs.Common.{◌≡◌, ℕ, zero, suc, ◌-◌, Bool, true, false, cond, ◌&&◌, not, List, [], ◌∷◌, ◌++◌, length, take, drop, Option, Some, None, Result, Ok, Err, refl, subst}
-use Rattle.std.specs.Prelude.{ℤ, pos, negsuc, ◌+ℤ◌, nat_lt, nat_le, ◌==◌, bytes_eq, codes, decimal, filter, ok_or, slice_index, slice_index_or, ⊤}
+use Rattle.std.specs.Prelude.{ℤ, pos, ◌+ℤ◌, nat_lt, nat_le, ◌==◌, bytes_eq, codes, decimal, filter, ok_or, slice_index, slice_index_or, ⊤}
 use Rattle.std.specs.Fmt.{signed_decimal}
 use Rattle.std.specs.List.{AllByRecursion}
 use Rattle.std.proofs.lemmas.Bool.{and_from, and_parts}
@@ -14,6 +14,7 @@ use Rattle.mc_desk.specs.Parts.{part_in, part_of, with_core, before_rest, first_
 use Rattle.mc_desk.specs.Declarations.{NameMeaning, Bytes, Number}
 use Rattle.mc_desk.specs.Operands.{after_text, body_text, bytes_text, instruction_text, jump_words, labelled_text, later_text, named_text, operand_by_parts, operand_text, operands_text, piece_text, pieces_text, plain_operand, shifted_text, size_text, sized_words}
 use Rattle.mc_desk.specs.Statements.{Loadable, after_open, aid_or_name, aid_text, command_field, command_text, counted_hex, field_by, is_aid, load_text, naming_words, one_field_text, only_of, only_text, plain_hex, stated_text, statement_text, text_in_brackets}
+use Rattle.mc_family.proofs.FlatTexts.{flat_signed}
 
 -- ---- parts of a text
 
@@ -141,10 +142,6 @@ flat_index (t ∷ ts) (suc i) h = flat_index ts i h.1
 
 flat_register : (tag : ℕ) → Flat (register_name tag)
 flat_register tag = flat_index register_names (tag - 1) (refl, (refl, (refl, (refl, (refl, (refl, (refl, tt)))))))
-
-flat_signed : (z : ℤ) → Flat (signed_decimal z)
-flat_signed (pos n) = flat_decimal n
-flat_signed (negsuc n) = flat_decimal (suc n)
 
 flat_address : (tag : ℕ) (z : ℤ) → Flat (address_text tag z)
 flat_address tag z =

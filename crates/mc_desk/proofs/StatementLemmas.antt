@@ -12,6 +12,7 @@ use Rattle.mc_deck.specs.declared.refusal.Fault.{Fault}
 use Rattle.mc_deck.specs.Refused.{Faulty}
 use Rattle.mc_desk.specs.Views.{Pushes, part_text}
 use Rattle.mc_desk.proofs.PushLemmas.{Text, faulty_as, faulty_of, faulty_then, pushed_then}
+use Rattle.mc_deck.proofs.FieldLemmas.{empty_is}
 
 -- ---- fields of a command
 
@@ -53,12 +54,6 @@ counted_good t (Some (b ∷ bs)) n h e f =
 nothing_more : (r : Text) → r ≡ ok_as (λ t. [] ++ t) r
 nothing_more (Ok t) = refl
 nothing_more (Err e) = refl
-
-empty_is : (t : List ℕ) (b : Bool) → nat_eq (length t) 0 ≡ b → is_empty t ≡ b
-empty_is [] true h = refl
-empty_is [] false h = absurd (cc h)
-empty_is (c ∷ t) true h = absurd (grind (arith, h))
-empty_is (c ∷ t) false h = refl
 
 command_by : (b : Bool) (p : Bor (List ℕ)) (t : List ℕ) (o : Option (List ℕ)) → nat_eq (length p.now) 0 ≡ b → p.now ≡ (first_cut is_blank t).0 → o ≡ (first_cut is_blank t).1
     → command_text (fields t) ≡ (part_text p.now >>= λ x. ok_as (λ rest. x ++ rest) (command_text (fields_left o)))

@@ -21,7 +21,7 @@ use Rattle.mc_desk.proofs.FlatLemmas.{AllFlat, FlatAids, FlatNames, FlatMeaning,
 -- ---- results
 
 -- what holds of a value that was made
-abbrev Good : {A : Type 0} → (A → Type 0) → Result A DeckCause → Type 0
+abbrev pub Good : {A : Type 0} → (A → Type 0) → Result A DeckCause → Type 0
 Good P (Ok a) = P a
 Good P (Err e) = ⊤
 
@@ -221,11 +221,11 @@ ended_all p [] h = (h.0, refl)
 ended_all p (q ∷ []) h = (unreturned p h.0, (drop (length (without_return p)) p, flat_drop (length (without_return p)) p h.0, refl), ended_all q [] h.1)
 ended_all p (q ∷ r ∷ ps) h = (unreturned p h.0, (drop (length (without_return p)) p, flat_drop (length (without_return p)) p h.0, refl), ended_all q (r ∷ ps) h.1)
 
-many_by : (b : Bool) (c : ℕ) (ps : List (List ℕ)) → (p : List ℕ) × (qs : List (List ℕ)) × (ps ≡ p ∷ qs) → (p : List ℕ) × (qs : List (List ℕ)) × (pieces_with_character b c ps ≡ p ∷ qs)
+pub many_by : (b : Bool) (c : ℕ) (ps : List (List ℕ)) → (p : List ℕ) × (qs : List (List ℕ)) × (ps ≡ p ∷ qs) → (p : List ℕ) × (qs : List (List ℕ)) × (pieces_with_character b c ps ≡ p ∷ qs)
 many_by true c ps h = ([], ps, refl)
 many_by false c ps h = (c ∷ h.0, h.1, ap (pieces_with_character false c) h.2)
 
-some_pieces : (f : ℕ → Bool) (t : List ℕ) → (p : List ℕ) × (qs : List (List ℕ)) × (pieces f t ≡ p ∷ qs)
+pub some_pieces : (f : ℕ → Bool) (t : List ℕ) → (p : List ℕ) × (qs : List (List ℕ)) × (pieces f t ≡ p ∷ qs)
 some_pieces f [] = ([], [], refl)
 some_pieces f (c ∷ t) = many_by (f c) c (pieces f t) (some_pieces f t)
 

@@ -20,8 +20,9 @@ use Rattle.mc_desk.specs.Drafts
 use Rattle.mc_desk_laws.proofs.Results.{Fine, fine_as, fine_err, fine_ok, fine_or, fine_then}
 use Rattle.mc_desk_laws.proofs.SelfLines.{joined, lines_joined, lines_read, texts_read}
 use Rattle.mc_desk_laws.proofs.StableLines.{line_stays, line_undeclared}
-use Rattle.mc_desk_laws.proofs.StableStatements.{Good, IsLine, IsOpening, is_app, opening_kept, skipped_stays, statement_kept, statement_stays, word_known, word_name}
+use Rattle.mc_desk_laws.proofs.StableStatements.{IsLine, IsOpening, is_app, opening_kept, skipped_stays, statement_kept, statement_stays, word_known, word_name}
 use Rattle.mc_desk_laws.proofs.Words.{one_trimmed, other_fields}
+use Rattle.mc_desk.proofs.StayLemmas.{Good}
 
 -- ---- the lines of a section
 

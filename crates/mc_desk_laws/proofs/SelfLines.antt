@@ -7,6 +7,7 @@ use Rattle.mc_model_machine.specs.Text.{first_cut, halves_with_character, is_emp
 use Rattle.mc_text.specs.Reading.{line_cut, without_return}
 use Rattle.mc_text.proofs.ReadingLemmas.{lines_at, lines_from, pieces_at, pieces_cut}
 use Rattle.mc_desk.specs.Parts.{EndedLine, ended_lines, ended_pieces}
+use Rattle.mc_desk.proofs.StayLemmas.{some_pieces}
 
 -- ---- pieces
 
@@ -19,14 +20,6 @@ after_each s (p ∷ ps) = s ∷ (p ++ after_each s ps)
 abbrev pub rejoined : ℕ → List (List ℕ) → List ℕ
 rejoined s [] = []
 rejoined s (p ∷ ps) = p ++ after_each s ps
-
-many_by : (b : Bool) (c : ℕ) (ps : List (List ℕ)) → (p : List ℕ) × (qs : List (List ℕ)) × (ps ≡ p ∷ qs) → (p : List ℕ) × (qs : List (List ℕ)) × (pieces_with_character b c ps ≡ p ∷ qs)
-many_by true c ps h = ([], ps, refl)
-many_by false c ps h = (c ∷ h.0, h.1, ap (pieces_with_character false c) h.2)
-
-pub some_pieces : (f : ℕ → Bool) (t : List ℕ) → (p : List ℕ) × (qs : List (List ℕ)) × (pieces f t ≡ p ∷ qs)
-some_pieces f [] = ([], [], refl)
-some_pieces f (c ∷ t) = many_by (f c) c (pieces f t) (some_pieces f t)
 
 joined_by : (b : Bool) (s c : ℕ) (p : List ℕ) (ps : List (List ℕ)) → (c == s) ≡ b → rejoined s (pieces_with_character b c (p ∷ ps)) ≡ c ∷ rejoined s (p ∷ ps)
 joined_by true s c p ps e = let i : c ≡ s = grind (arith, e) in ap (λ x. x ∷ rejoined s (p ∷ ps)) (sym i)

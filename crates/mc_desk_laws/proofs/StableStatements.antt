@@ -15,6 +15,7 @@ use Rattle.mc_desk.specs.Statements.{Loadable, after_open, aid_text, command_fie
 use Rattle.mc_desk.specs.Drafts.{new_section}
 use Rattle.mc_desk_laws.proofs.Results.{Fine, fine_as, fine_if, looked}
 use Rattle.mc_desk_laws.proofs.SelfParts.{ends_after, part_joined}
+use Rattle.mc_desk.proofs.StayLemmas.{Good}
 
 -- ---- words
 
@@ -84,11 +85,6 @@ command_stays t h =
     ap (λ r. r >>= λ first. ok_as (λ rest. first ++ rest) (Ok [])) e ∙ ap Ok (append-nil t)
 
 -- ---- what an accepted statement is
-
--- what holds of a value that was made
-abbrev pub Good : {A : Type 0} → (A → Type 0) → Result A DeckCause → Type 0
-Good P (Ok a) = P a
-Good P (Err e) = ⊤
 
 good_then : {A B : Type 0} (P : B → Type 0) (r : Result A DeckCause) (f : A → Result B DeckCause) → ((a : A) → Good P (f a)) → Good P (r >>= f)
 good_then P (Ok a) f g = g a

@@ -10,7 +10,7 @@ use Rattle.mc_script.specs.Plays.{Bench}
 use Rattle.mc_script.specs.StepCounts.{CountsFrom}
 use Rattle.mc_script.specs.Writers.{write_result}
 use Rattle.mc_script.proofs.DeckLemmas.{PlayReached, next_line, no_fault, no_line, reached_end, reached_start}
-use Rattle.mc_text.specs.Texts.{sunk_in}
+use Rattle.mc_text.specs.Texts.{sunk}
 use Rattle.mc_cover.proofs.TracePlayLemmas.{reached_failed, reached_written}
 use Rattle.mc_cover.proofs.tracing.play_lines.Goals as goal
 
@@ -18,7 +18,7 @@ pub loop-i-init : goal.loop-i-init
 loop-i-init g c =
     let state = g.N.Nvm.state in
     let bench = g.N.Bench.bench in
-    let out = sunk_in g.T.Sink.taken g.T.Sink.faults in
+    let out = sunk g.T.Sink in
     let first = start (state c.args.device).words in
     let text = trace_text c.args.tracer.now.sections.now in
     let deck = c.args.deck.now in
@@ -44,7 +44,7 @@ returns-then-is_err-clause-plays g c =
     let state = g.N.Nvm.state in
     let bench = g.N.Bench.bench in
     let a : Bench = record { device = state c.args.device; bench = bench c.args.device } in
-    let out = sunk_in g.T.Sink.taken g.T.Sink.faults in
+    let out = sunk g.T.Sink in
     let ss = c.args.tracer.now.sections.now in
     let first = start (state c.args.device).words in
     let deck = c.args.deck.now in
@@ -54,7 +54,7 @@ returns-then-is_err-clause-plays g c =
     let reached = subst (λ (left : List (ℕ × DeckLine)). PlayReached state bench (trace_text ss) first deck a x c.args.steps.now left c.loop-i.player (out c.loop-i.tracer.out.now) c.loop-i.steps) here c.loop-i.invariant.reached in
     let failed : is_err (write_result c.report.new.self.fault) ≡ true = search rules in
     subst (λ d. CountsFrom (trace_text ss) first deck a x (write_result c.report.new.self.fault) (record { device = state d; bench = bench d }) (out c.report.new.self.out.now) c.args.steps.now c.line-answer.new.steps) (sym c.into_dev.ensures)
-    (reached_failed g.T.Sink.taken g.T.Sink.faults state bench ss first deck a x (drop (c.loop-i.i + 1) deck) line.0 (line_of line.1) c.loop-i.player c.line-answer.new.self c.loop-i.tracer c.line-answer.new.runner c.report.new.self c.line-answer.result c.args.steps.now c.loop-i.steps c.line-answer.new.steps failed c.loop-i.invariant.sections reached
+    (reached_failed g.T.Sink state bench ss first deck a x (drop (c.loop-i.i + 1) deck) line.0 (line_of line.1) c.loop-i.player c.line-answer.new.self c.loop-i.tracer c.line-answer.new.runner c.report.new.self c.line-answer.result c.args.steps.now c.loop-i.steps c.line-answer.new.steps failed c.loop-i.invariant.sections reached
     (record { fault = c.loop-i.invariant.fault; done = c.line-answer.ensures.done; counts = c.line-answer.ensures.steps; adds = c.report.ensures }))
 
 pub loop-i-preserved : goal.loop-i-preserved
@@ -62,7 +62,7 @@ loop-i-preserved g c =
     let state = g.N.Nvm.state in
     let bench = g.N.Bench.bench in
     let a : Bench = record { device = state c.args.device; bench = bench c.args.device } in
-    let out = sunk_in g.T.Sink.taken g.T.Sink.faults in
+    let out = sunk g.T.Sink in
     let ss = c.args.tracer.now.sections.now in
     let first = start (state c.args.device).words in
     let deck = c.args.deck.now in
@@ -74,7 +74,7 @@ loop-i-preserved g c =
     let done = c.line-answer.ensures.done c.loop-i.invariant.reached.here 0 c.loop-i.invariant.reached.at in
     record {
       reached =
-          reached_written g.T.Sink.taken g.T.Sink.faults state bench ss first deck a x (drop (c.loop-i.i + 1) deck) line.0 (line_of line.1) c.loop-i.player c.line-answer.new.self c.loop-i.tracer c.line-answer.new.runner c.report.new.self c.line-answer.result c.args.steps.now c.loop-i.steps c.line-answer.new.steps written c.loop-i.invariant.sections reached
+          reached_written g.T.Sink state bench ss first deck a x (drop (c.loop-i.i + 1) deck) line.0 (line_of line.1) c.loop-i.player c.line-answer.new.self c.loop-i.tracer c.line-answer.new.runner c.report.new.self c.line-answer.result c.args.steps.now c.loop-i.steps c.line-answer.new.steps written c.loop-i.invariant.sections reached
           (record { fault = c.loop-i.invariant.fault; done = c.line-answer.ensures.done; counts = c.line-answer.ensures.steps; adds = c.report.ensures });
       fault = no_fault c.report.new.self.fault written;
       sections = c.report.ensures.sections ∙ done.1.reports.sections ∙ c.loop-i.invariant.sections;
@@ -87,7 +87,7 @@ returns-clause-plays g c =
     let state = g.N.Nvm.state in
     let bench = g.N.Bench.bench in
     let a : Bench = record { device = state c.args.device; bench = bench c.args.device } in
-    let out = sunk_in g.T.Sink.taken g.T.Sink.faults in
+    let out = sunk g.T.Sink in
     let text = trace_text c.args.tracer.now.sections.now in
     let first = start (state c.args.device).words in
     let deck = c.args.deck.now in

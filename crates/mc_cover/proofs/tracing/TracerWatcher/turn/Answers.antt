@@ -14,8 +14,7 @@ after_turn-after-requires g c = turned_watched g.N.Nvm.state g.N.Nvm.wrote c.arg
 
 pub returns-clause-watches : goal.returns-clause-watches
 returns-clause-watches g c ch left runs wide =
-    let taken = g.T.Sink.taken in
-    let faults = g.T.Sink.faults in
+    let sink = g.T.Sink in
     let q = c.args.self.now in
     let o = c.running_section-section.result in
     let turn = c.in_ok-turn.turn in
@@ -34,9 +33,9 @@ returns-clause-watches g c ch left runs wide =
           let here = scene_of_turn left ch q.sections.now o turn.at (line_value w.in-Some.line) c.scene_of-scene.result (option_map (λ b. b.now) c.code_of.result) index some c.code_of.ensures scene in
           let operand = operand_full left ch after.operand.items apart (w.after_turn-after.ensures.operand ch.frame (running_code ch) follows here shows (lies_after left ch wide scene.high)) in
           let stack = stack_full left ch turn after.stack.items apart done.turn (w.after_turn-after.ensures.stack ch.frame (running_code ch) follows here shows) in
-          subst (λ r. Traced taken faults q (t ∷ []) r) (sym w.self-is) (traced_turn taken faults q w.put_turn.new.self turn o t (line_value w.in-Some.line) after.operand.items after.stack.items is some operand stack (w.put_turn.ensures is.wrote))
+          subst (λ r. Traced sink q (t ∷ []) r) (sym w.self-is) (traced_turn sink q w.put_turn.new.self turn o t (line_value w.in-Some.line) after.operand.items after.stack.items is some operand stack (w.put_turn.ensures is.wrote))
       | in-None w ↦
           let none = sym (ap (option_map line_value) w.in-None.is) ∙ c.line_at.ensures in
           let line = w.as_slice.ensures.value ∙ w.line_of.ensures is.wrote in
-          subst (λ r. Traced taken faults q (t ∷ []) r) (sym w.self-is) (traced_plain taken faults q w.write.new.self turn o t w.as_slice.result.now is none line w.write.ensures)
+          subst (λ r. Traced sink q (t ∷ []) r) (sym w.self-is) (traced_plain sink q w.write.new.self turn o t w.as_slice.result.now is none line w.write.ensures)
     ]
