@@ -38,8 +38,8 @@ pub trait Source {
 // The greatest number of bytes of one call.
 const CHUNK: usize = 4096;
 
-/// Reads a source to its end and returns its bytes, at most `limit` of them. Each call takes a byte at least, but for
-/// the last one, which finds the end: the end is asked for once.
+/// Reads a source to its end and returns its bytes, at most `limit` of them, by at most one call more than it returns
+/// bytes.
 ///
 /// # Errors
 ///
