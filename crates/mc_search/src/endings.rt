@@ -69,7 +69,10 @@ impl Start {
     // The lead to a path, by whether its first move is cut: on a card that runs already, the cut takes the place of
     // a stop that is armed.
     fn lead_to(&self, cut: bool) -> Lead
-        ensures { result ≡ record { armed = self.now.lead.armed && not (self.now.ran && cut); power = self.now.lead.power } }
+        ensures { result ≡ record {
+          armed = self.now.lead.armed && not (self.now.ran && cut);
+          power = self.now.lead.power;
+        } }
     {
         let is_replaced = self.ran && cut;
         Lead {
@@ -178,7 +181,8 @@ fn report_broken<T: Sink>(
     allowance: usize,
     path: &[Step],
 ) -> Result<(), SearchFault>
-    ensures { (x : rule.Exploration) (name : List ℕ) (ts : List Try) → IsExplorationOf exploration.now x → StartIs start x
+    ensures { (x : rule.Exploration) (name : List ℕ) (ts : List Try) → IsExplorationOf exploration.now x
+        → StartIs start x
         → slice_get (names_in x.rules) allowance ≡ Some name → AlikeLists (IsTry x.rules.moves) path.now ts
         → IsPut (sunk T.Sink out.old) (broken_text name (statements_to (play_of_deck x.lines) ts)) result
         (sunk T.Sink out.new) }
@@ -193,8 +197,9 @@ fn report_broken<T: Sink>(
 impl Search {
     // The steps from the first state to the end of a last one, in order.
     fn path(&self, alloc: Global, last: Step) -> Result<Vec<Step>, NoMemory>
-        ensures { IfOk result (λ path. (d : Depth) (ns : List Node) (n : Node) (t : Try) → IsFrom d self.now ns n last.before
-            → IsTry d.rules.moves last t → AlikeLists (IsTry d.rules.moves) path.items (reverse (t ∷ n.path))) }
+        ensures { IfOk result (λ path. (d : Depth) (ns : List Node) (n : Node) (t : Try)
+            → IsFrom d self.now ns n last.before → IsTry d.rules.moves last t
+            → AlikeLists (IsTry d.rules.moves) path.items (reverse (t ∷ n.path))) }
     {
         let mut path = Vec::new(alloc);
         push(&mut path, last)?;
@@ -242,8 +247,9 @@ impl Search {
         depth: u32,
         out: &mut T,
     ) -> Result<Explored, SearchFault>
-        ensures { (x : rule.Exploration) (most from : ℕ) (ns : List Node) (e : HaltedRound) → IsExplorationOf exploration.now x
-            → StartIs start x → Ends (record { rules = x.rules; most = most; from = from }) ns e halt self.now
+        ensures { (x : rule.Exploration) (most from : ℕ) (ns : List Node) (e : HaltedRound)
+            → IsExplorationOf exploration.now x → StartIs start x
+            → Ends (record { rules = x.rules; most = most; from = from }) ns e halt self.now
             → Explores depth (play_of_deck x.lines) (search_end (ending_of e.halt depth) e.count e.tries)
             (sunk T.Sink out.old) result (sunk T.Sink out.new) }
     {

@@ -78,7 +78,8 @@ impl Search {
         rosters: Rosters,
         first: CardState,
     ) -> Result<Search, NoMemory>
-        ensures holds { IfOk result (λ s. (r : rule.Rules) (c : model.CardState) → Kept laboratory rosters (names_in r) first c
+        ensures holds { IfOk result (λ s. (r : rule.Rules) (c : model.CardState)
+            → Kept laboratory rosters (names_in r) first c
             → Holds (record { rules = r; most = limit; from = 0 }) s (record { state = c; path = [] } ∷ [])) }
         ensures none { IfOk result (λ s. s.tries ≡ 0) }
     {
