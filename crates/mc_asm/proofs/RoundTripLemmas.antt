@@ -3,12 +3,12 @@ use Rattle.std.proofs.Common.{◌≡◌, ℕ, zero, suc, ◌+◌, ◌-◌, ◌<�
 use Rattle.std.specs.Prelude.{◌==◌, not, nat_le, codes, slice_index, IfOk}
 use Rattle.std.specs.List.{AllByRecursion}
 use Rattle.std.proofs.lemmas.List.{take-append-drop}
-use Rattle.mc_model_machine.specs.Text.{◌>>=◌, ok_as, every, lines, with_numbers}
+use Rattle.mc_model_text.specs.Text.{◌>>=◌, ok_as, every, lines, with_numbers}
 use Rattle.mc_model_machine.specs.declared.instruction.DecodeFault.{DecodeFault}
 use Rattle.mc_model_machine.specs.declared.instruction.Ins.{Ins}
 use Rattle.mc_model_machine.specs.Code.{Shaped, DecodesTo, spell, front, from_place}
-use Rattle.mc_model_machine.specs.Listing.{text_of, line_before, listing_with, length_of, listing_from, listing_of_code}
-use Rattle.mc_model_machine.specs.Assembly.{assembly_of, line_laid}
+use Rattle.mc_model_text.specs.Listing.{text_of, line_before, listing_with, length_of, listing_from, listing_of_code}
+use Rattle.mc_model_text.specs.Assembly.{assembly_of, line_laid}
 use Rattle.mc_model_device.specs.Bytes.{AreBytes}
 use Rattle.mc_isa.proofs.PlaceLemmas.{decoded_stands}
 use Rattle.mc_text.specs.Reading.{next_line, without_return}

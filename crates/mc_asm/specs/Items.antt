@@ -3,7 +3,7 @@ use Rattle.std.specs.Prelude.{ℕ, ◌<◌, List, map, option_map}
 use denote.Ref.{Bor}
 use Rattle.mc_model_machine.specs.Code.{Shaped}
 use Rattle.mc_model_machine.specs.declared.instruction.Ins.TheVariants.{Branch}
-use Rattle.mc_model_machine.specs.Assembly
+use Rattle.mc_model_text.specs.Assembly
 use Rattle.mc_asm.specs.declared.item.Item.{Item}
 use Rattle.mc_asm.specs.declared.line.Line.{Line}
 use Rattle.mc_asm.specs.Forms.{by_place}

@@ -1,6 +1,6 @@
 -- The refusals of a text, and of code.
 use Rattle.std.specs.Prelude.{◌≡◌, ℕ, List, Result, Err, ⊤}
-use Rattle.mc_model_machine.specs.declared.assembler.AsmCause.{AsmCause}
+use Rattle.mc_model_text.specs.declared.assembler.AsmCause.{AsmCause}
 use Rattle.mc_model_machine.specs.declared.instruction.DecodeFault.{DecodeFault}
 use Rattle.mc_asm.specs.declared.refusal.AsmRefusal.{AsmRefusal}
 use Rattle.mc_asm.specs.declared.refusal.AsmRefusal.TheVariants.{At, NoMemory}

@@ -1,8 +1,8 @@
 // The second pass, which makes the code, and the whole assembler.
 ghost use Rattle.std.specs.Prelude.{◌≡◌, ◌+◌, ◌≤◌, ℕ, pos, ◌-ℤ◌, List, [], ◌∷◌, ◌++◌, length, Some, None, Ok, Err, IfOk, IfErr, MatchResult, OnOk, vec_len};
 ghost use Rattle.mc_model_device.specs.Limits.{most_code};
-ghost use Rattle.mc_model_machine.specs.Text.{lines, with_numbers};
-ghost use Rattle.mc_model_machine.specs.Assembly.{bytes_of_item, size, assembly_of, assembled_lines};
+ghost use Rattle.mc_model_text.specs.Text.{lines, with_numbers};
+ghost use Rattle.mc_model_text.specs.Assembly.{bytes_of_item, size, assembly_of, assembled_lines};
 ghost use Rattle.mc_asm.specs.Items.{item_of, Ready};
 ghost use Rattle.mc_asm.specs.Passes.{AreLabels, AssemblyRefuses, code_and_end, code_of_lines, near, numbered_lines};
 ghost use Rattle.mc_asm.specs.declared.refusal.AsmRefusal.TheVariants.{NoMemory};
@@ -14,7 +14,8 @@ use crate::line::{NumberedLine, read_line};
 use crate::refusal::AsmRefusal;
 use arrayvec::ArrayVec;
 use mc_isa::encode;
-use mc_model_machine::{AsmCause, Ins};
+use mc_model_machine::Ins;
+use mc_model_text::AsmCause;
 use mc_text::next_line;
 use std::alloc::Global;
 

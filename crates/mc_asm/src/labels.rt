@@ -2,9 +2,9 @@
 ghost use Rattle.std.specs.Prelude.{◌≡◌, ◌+◌, ◌≤◌, ℕ, List, [], length, option_map, Some, None, Ok, Err, IfOk, IfErr, OnOk, MatchResult};
 ghost use Rattle.mc_model_device.specs.Limits.{most_code};
 ghost use Rattle.mc_model_device.specs.Bytes.{lookup};
-ghost use Rattle.mc_model_machine.specs.Text.{ok_as, only_if};
-ghost use Rattle.mc_model_machine.specs.Assembly.{is_new, line_laid, line_read, size, with_label};
-ghost use Rattle.mc_model_machine.specs.declared.assembler.AsmCause.TheVariants.{TooLong};
+ghost use Rattle.mc_model_text.specs.Text.{ok_as, only_if};
+ghost use Rattle.mc_model_text.specs.Assembly.{is_new, line_laid, line_read, size, with_label};
+ghost use Rattle.mc_model_text.specs.declared.assembler.AsmCause.TheVariants.{TooLong};
 ghost use Rattle.mc_asm.specs.Items.{item_of, Ready};
 ghost use Rattle.mc_asm.specs.declared.refusal.AsmRefusal.TheVariants.{NoMemory};
 ghost use Rattle.mc_asm.specs.Passes.{AreLabels, AssemblyRefuses, label_and_end, end_of, numbered_lines, places};
@@ -13,7 +13,7 @@ use crate::item::Item;
 use crate::line::{NumberedLine, read_line};
 use crate::refusal::AsmRefusal;
 use mc_isa::encode;
-use mc_model_machine::AsmCause;
+use mc_model_text::AsmCause;
 use std::alloc::Global;
 use std::collections::BTreeMap;
 

@@ -1,15 +1,15 @@
 // Lines: a label, and a word with its operands.
 ghost use Rattle.std.specs.Prelude.{◌≡◌, ◌+◌, ◌≤◌, length, take, map, option_map, Some, None, Ok, Err, IfOk, OnOk};
 ghost use Rattle.arrayvec.specs.ArrayVec.{array_vec_len};
-ghost use Rattle.mc_model_machine.specs.Text.{first_cut, is_blank, ok_as};
-ghost use Rattle.mc_model_machine.specs.Assembly.{operands, word_and_operands, label_and_rest, line_read};
+ghost use Rattle.mc_model_text.specs.Text.{first_cut, is_blank, ok_as};
+ghost use Rattle.mc_model_text.specs.Assembly.{operands, word_and_operands, label_and_rest, line_read};
 ghost use Rattle.mc_asm.specs.Items.{item_of, line_of, texts, Ready};
 
 use crate::item::{Item, worded};
 use crate::operand::is_label;
 use crate::words::form_named;
 use arrayvec::ArrayVec;
-use mc_model_machine::AsmCause;
+use mc_model_text::AsmCause;
 use mc_text::{cut, cut_blank, trim};
 
 /// A line of a text without its end, and its number.

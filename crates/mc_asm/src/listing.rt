@@ -1,9 +1,9 @@
 // The listing of code.
 ghost use Rattle.std.specs.Prelude.{◌≡◌, ◌≤◌, ◌++◌, length, codes, Ok, IfOk, IfErr, OnOk};
 ghost use Rattle.mc_model_device.specs.Limits.{most_code};
-ghost use Rattle.mc_model_machine.specs.Listing.{listing_of_code, text_of};
+ghost use Rattle.mc_model_text.specs.Listing.{listing_of_code, text_of};
 ghost use Rattle.mc_model_machine.specs.Code.{Shaped};
-ghost use Rattle.mc_model_machine.specs.Assembly.{assembly_of};
+ghost use Rattle.mc_model_text.specs.Assembly.{assembly_of};
 ghost use Rattle.mc_asm.specs.Refusals.{RefusesListing};
 
 use crate::refusal::ListRefusal;

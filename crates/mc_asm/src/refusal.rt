@@ -1,4 +1,5 @@
-use mc_model_machine::{AsmCause, DecodeFault};
+use mc_model_machine::DecodeFault;
+use mc_model_text::AsmCause;
 use std::alloc::AllocError;
 use thiserror::Error;
 

@@ -2,7 +2,7 @@
 ghost use Rattle.std.specs.Prelude.{◌≡◌, ◌<◌, ◌≤◌, ℕ, List, take, drop, option_map, IfSome, Some, None};
 ghost use Rattle.mc_model_device.specs.Bytes.{lookup};
 ghost use Rattle.mc_model_machine.specs.Code.{Shaped};
-ghost use Rattle.mc_model_machine.specs.Assembly.{words};
+ghost use Rattle.mc_model_text.specs.Assembly.{words};
 ghost use Rattle.mc_asm.specs.Forms.{form_of, of_byte, of_word, of_words, by_place, addressed_byte, addressed_word, BareShaped, register_words, stack_words, call_words, memory_words, number_words, block_words};
 ghost use Rattle.mc_model_machine.specs.declared.instruction.Ins.TheVariants.{Loada};
 

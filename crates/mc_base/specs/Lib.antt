@@ -1,3 +1,1 @@
 pub mod Name
-pub mod Streams
-pub mod MemoryStreams

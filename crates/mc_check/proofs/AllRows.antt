@@ -10,7 +10,7 @@ use Rattle.mc_model_machine.specs.Frame.{Frame, public_base, public_end, moved_a
 use Rattle.mc_model_machine.specs.Primitives.{Around, Then, Goes, Exits, Delegates, Done}
 use Rattle.mc_model_machine.specs.Chain.{frame_at}
 use Rattle.mc_model_machine.specs.Row.{causes, first_cause, effect, holds, no_place, address_or_zero, row_end, row, Does}
-use Rattle.mc_model_machine.specs.StackRows.{need, height_after, row_uses, WritesNothing, row_writing, always_abends, is_indirect, counts, goes_on, call_target}
+use Rattle.mc_model_stack.specs.StackRows.{need, height_after, row_uses, WritesNothing, row_writing, always_abends, is_indirect, counts, goes_on, call_target}
 use Rattle.mc_row_laws.proofs.Keeping.{effect_keeps}
 use Rattle.mc_machine_laws.proofs.RowWords.{none_holds}
 use Rattle.mc_check.specs.Standing.{StandsAt}

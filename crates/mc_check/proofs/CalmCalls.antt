@@ -12,8 +12,8 @@ use Rattle.mc_model_machine.specs.Primitives.{Around, Done, Goes, effect_and_nex
 use Rattle.mc_model_machine.specs.Row.{causes, effect, first_cause, row_end, row, Abends, Does, holds}
 use Rattle.mc_model_machine.specs.Row as rows
 use Rattle.mc_model_machine.specs.Chain.{frame_at}
-use Rattle.mc_model_machine.specs.StackRows.{call_target, is_conditional}
-use Rattle.mc_model_machine.specs.StackShape.{Routine, At, fact, Reached, calls, passes, Depth, called, Accepts, Gives}
+use Rattle.mc_model_stack.specs.StackRows.{call_target, is_conditional}
+use Rattle.mc_model_stack.specs.StackShape.{Routine, At, fact, Reached, calls, passes, Depth, called, Accepts, Gives}
 use Rattle.mc_check.specs.Standing.{OpenCalls, call}
 use Rattle.mc_check.proofs.AcceptedFacts.{GoodAt, HasStackRoom, HasBases, room_at, gives_at}
 use Rattle.mc_check.proofs.OpenCalls.{IsAtFact, open_front, open_depth, spliced_above, spliced_words}

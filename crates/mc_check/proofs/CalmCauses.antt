@@ -11,7 +11,7 @@ use Rattle.mc_model_machine.specs.Frame.{Frame, floor, dynamic_end, is_under, is
 use Rattle.mc_model_machine.specs.Primitives.{Around, Primitive, LoadCcr, DelegatorAid, BitByte, primitive, prim_causes, later_causes, reported_causes}
 use Rattle.mc_model_machine.specs.Chain.{frame_at}
 use Rattle.mc_model_machine.specs.Row.{causes, first_cause, holds, no_place, on_stack}
-use Rattle.mc_model_machine.specs.StackRows.{need, always_abends, prim_abends, height_after, pair_uses, prim_uses, row_uses, is_indirect, counts, call_target, is_inside, target_inside, call_inside, goes_on, jump_target, places_inside}
+use Rattle.mc_model_stack.specs.StackRows.{need, always_abends, prim_abends, height_after, pair_uses, prim_uses, row_uses, is_indirect, counts, call_target, is_inside, target_inside, call_inside, goes_on, jump_target, places_inside}
 use Rattle.mc_check.specs.Checked.{is_excluded}
 use Rattle.mc_check.specs.Standing.{StandsAt}
 use Rattle.mc_check.proofs.CalmWrites.{IsRoomy, stands_roomy}

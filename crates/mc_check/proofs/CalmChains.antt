@@ -15,7 +15,7 @@ use Rattle.mc_model_machine.specs.Primitives.{Around, Then, Goes, Exits, Delegat
 use Rattle.mc_model_machine.specs.Row.{RowEnd, Abends, Does, row}
 use Rattle.mc_model_machine.specs.Chain.{Chain, Outcome, Reply, Abended, Follows, Continues, Ends, code_in, around, with_pieces, changed_app, map_changed, chain_after_effect, chain_after_call, called_app, is_active, depth_of, after_exit, follows, end_of, reported_frame, row_turn, frame_at, turn_of_fetch, turn_of_chain}
 use Rattle.mc_model_device.specs.Limits.{most_static, most_code}
-use Rattle.mc_model_machine.specs.StackShape.{Main, fact, begins, main, Accepts}
+use Rattle.mc_model_stack.specs.StackShape.{Main, fact, begins, main, Accepts}
 use Rattle.mc_bank.specs.Bank.{no_app, app_of}
 use Rattle.mc_model_device.proofs.ListLemmas.{splice_longer}
 use Rattle.mc_check.specs.Checked.{ends_excluded, RunsCode, IsCalm, OnFollows}

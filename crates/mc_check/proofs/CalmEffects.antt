@@ -11,7 +11,7 @@ use Rattle.mc_model_machine.specs.Code.{IsAddress, Shaped}
 use Rattle.mc_model_machine.specs.Frame.{Frame, Effect, dynamic_end, public_base, public_end, moved_address, address_at, is_outside, no_access, top}
 use Rattle.mc_model_machine.specs.Primitives.{Around, Done, Primitive, MemoryCopy, DelegatorAid, Digest, CopyFixed, Encipher, Decipher, Sign, BitByte, ShiftLeft, ShiftRight, BitWord, primitive, masked_bytes}
 use Rattle.mc_model_machine.specs.Row.{causes, first_cause, effect, holds, address_or_zero, on_stack, operand, place_of}
-use Rattle.mc_model_machine.specs.StackRows.{Uses, uses, WritesAt, WritesAnywhere, height_after, pair_uses, prim_uses, row_uses, prim_writing, row_writing, is_indirect, counts, call_target}
+use Rattle.mc_model_stack.specs.StackRows.{Uses, uses, WritesAt, WritesAnywhere, height_after, pair_uses, prim_uses, row_uses, prim_writing, row_writing, is_indirect, counts, call_target}
 use Rattle.mc_row_laws.specs.Shapes.{Act, Stays, Answers, Jumps, Calls, Returns, Pushes, Replaces, Writes, Protects, Shape, with_status, with_length, act_effect, with_flags, meaning, delegator_shape, prim_shape, pair_shape, shape}
 use Rattle.mc_row_laws.proofs.RowShapes.{shapes}
 use Rattle.mc_machine_laws.proofs.RowWords.{none_holds}

@@ -4,7 +4,7 @@ use Rattle.std.proofs.Common.{◌≡◌, ℕ, ◌+◌, ◌-◌, ◌≤◌, ◌<�
 use Rattle.std.specs.Prelude.{◌&&◌, ◌||◌, not, nat_lt, nat_le, is_some}
 use Rattle.std.proofs.lemmas.Bool.{and_parts, and_from, ltb-true, lt-ltb, le-leb, cases_lt, not_from_true}
 use Rattle.std.proofs.lemmas.List.{length-take, length-drop, drop-drop}
-use Rattle.mc_model_machine.specs.declared.checker.CheckCause.TheVariants.{Under}
+use Rattle.mc_model_stack.specs.declared.checker.CheckCause.TheVariants.{Under}
 use Rattle.mc_model_machine.specs.declared.instruction.Ins.{Ins}
 use Rattle.mc_model_machine.specs.declared.instruction.Ins.TheVariants as ins
 use Rattle.mc_model_device.specs.Bytes.{bytes2, num, splice}
@@ -12,8 +12,8 @@ use Rattle.mc_model_machine.specs.Frame.{Frame, dynamic_base, floor, top, saved_
 use Rattle.mc_model_machine.specs.Primitives.{Around, effect_and_next, frame_effect}
 use Rattle.mc_model_machine.specs.Row.{causes, effect, first_cause, return_causes, no_place}
 use Rattle.mc_model_machine.specs.Chain.{frame_at}
-use Rattle.mc_model_machine.specs.StackRows.{need, counts, goes_on, jump_target, call_target, target_inside, call_inside, places_inside}
-use Rattle.mc_model_machine.specs.StackShape.{Routine, At, fact, Reached, returns, Gives, ReturnsWith, Accepts}
+use Rattle.mc_model_stack.specs.StackRows.{need, counts, goes_on, jump_target, call_target, target_inside, call_inside, places_inside}
+use Rattle.mc_model_stack.specs.StackShape.{Routine, At, fact, Reached, returns, Gives, ReturnsWith, Accepts}
 use Rattle.mc_check.specs.Standing.{StandsAt, OpenCalls, none, call}
 use Rattle.mc_check.proofs.AcceptedFacts.{GoodAt, good_at, HasStackRoom, HasBases, room_at}
 use Rattle.mc_check.proofs.FactLooks.{fine}

@@ -7,7 +7,7 @@ use Rattle.mc_model_machine.specs.Apdu.{ApduParts}
 use Rattle.mc_model_device.specs.Bytes.{lookup}
 use Rattle.mc_model_device.specs.Card.{App}
 use Rattle.mc_model_machine.specs.Chain.{Chain, Follows, Continues, Ends, turn_of_chain, turn_of, no_app, start, start_app}
-use Rattle.mc_model_machine.specs.StackShape.{Accepts}
+use Rattle.mc_model_stack.specs.StackShape.{Accepts}
 use Rattle.mc_bank.specs.Bank.{app_of}
 use Rattle.mc_check.specs.Checked.{RunsCode, IsCalm, OnFollows, RunsCalmly, IsChecked}
 use Rattle.mc_machine_laws.specs.Limited.{session_in, AreLimited}

@@ -4,7 +4,7 @@ use Rattle.std.proofs.Common.{◌≡◌, ℕ, ◌+◌, ◌-◌, ◌≤◌, ◌<�
 use Rattle.std.specs.Prelude.{◌⊎◌}
 use Rattle.std.specs.List.{AllByRecursion}
 use Rattle.std.proofs.lemmas.Bool.{cases_Bool}
-use Rattle.mc_model_machine.specs.declared.checker.CheckCause.TheVariants.{Wild}
+use Rattle.mc_model_stack.specs.declared.checker.CheckCause.TheVariants.{Wild}
 use Rattle.mc_model_machine.specs.declared.instruction.DecodeFault.{DecodeFault}
 use Rattle.mc_model_machine.specs.declared.instruction.Ins.{Ins}
 use Rattle.mc_model_machine.specs.declared.machine.Abend.{Abend}
@@ -13,8 +13,8 @@ use Rattle.mc_model_machine.specs.Frame.{Frame, dynamic_base, public_base, publi
 use Rattle.mc_model_machine.specs.Primitives.{Around, Then, Goes, Exits, Delegates, Done, effect_and_next, frame_effect}
 use Rattle.mc_model_machine.specs.Row.{effect, first_cause, row, RowEnd, Abends, Does}
 use Rattle.mc_model_machine.specs.Chain.{frame_at}
-use Rattle.mc_model_machine.specs.StackRows.{height_after, always_abends, writing, is_plain, counts, goes_on, jump_target, call_target}
-use Rattle.mc_model_machine.specs.StackShape.{Routine, fact, Reached, goes, jumps, Gives, Depth, Accepts}
+use Rattle.mc_model_stack.specs.StackRows.{height_after, always_abends, writing, is_plain, counts, goes_on, jump_target, call_target}
+use Rattle.mc_model_stack.specs.StackShape.{Routine, fact, Reached, goes, jumps, Gives, Depth, Accepts}
 use Rattle.mc_isa.proofs.PlaceLemmas.{decoded_stands}
 use Rattle.mc_check.specs.Checked.{is_excluded}
 use Rattle.mc_check.specs.Standing.{StandsAt, OpenCalls, none, call, calls_of}

@@ -4,8 +4,8 @@ use Rattle.std.proofs.lemmas.Bool.{and_parts}
 use Rattle.mc_model_machine.specs.declared.instruction.Ins.{Ins}
 use Rattle.mc_model_machine.specs.declared.instruction.Ins.TheVariants as ins
 use Rattle.mc_model_machine.specs.Code.{Shaped}
-use Rattle.mc_model_machine.specs.StackRows.{counts, goes_on, jump_target, call_target, target_inside, call_inside}
-use Rattle.mc_model_machine.specs.StackShape.{Routine, Main, At, Fact, Stands, look, Reached, begins, goes, jumps, calls, passes, returns}
+use Rattle.mc_model_stack.specs.StackRows.{counts, goes_on, jump_target, call_target, target_inside, call_inside}
+use Rattle.mc_model_stack.specs.StackShape.{Routine, Main, At, Fact, Stands, look, Reached, begins, goes, jumps, calls, passes, returns}
 use Rattle.mc_check.proofs.FactLooks.{fine}
 
 -- ---- kinds of instruction

@@ -6,8 +6,8 @@ use Rattle.mc_model_machine.specs.declared.instruction.Ins.{Ins}
 use Rattle.mc_model_machine.specs.declared.instruction.Ins.TheVariants as ins
 use Rattle.mc_model_device.specs.Bytes.{bytes2, num, splice}
 use Rattle.mc_model_machine.specs.Frame.{Frame, floor}
-use Rattle.mc_model_machine.specs.StackRows.{call_target, is_call}
-use Rattle.mc_model_machine.specs.StackShape.{Routine, fact, Reached, Depth, main, called}
+use Rattle.mc_model_stack.specs.StackRows.{call_target, is_call}
+use Rattle.mc_model_stack.specs.StackShape.{Routine, fact, Reached, Depth, main, called}
 use Rattle.mc_check.proofs.FactLooks.{fine}
 use Rattle.mc_check.specs.Standing.{StandsAt, OpenCalls, none, call, calls_of}
 

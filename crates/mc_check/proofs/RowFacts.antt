@@ -7,7 +7,7 @@ use Rattle.mc_model_machine.specs.Frame.{Frame, dynamic_base, public_base, publi
 use Rattle.mc_model_machine.specs.Primitives.{Around, Then, Goes, Exits, Delegates, Done}
 use Rattle.mc_model_machine.specs.Row.{causes, first_cause, row, Does}
 use Rattle.mc_model_machine.specs.Chain.{frame_at}
-use Rattle.mc_model_machine.specs.StackRows.{need, height_after, always_abends, writing, is_plain, is_indirect, counts, goes_on, jump_target, call_target, places_inside}
+use Rattle.mc_model_stack.specs.StackRows.{need, height_after, always_abends, writing, is_plain, is_indirect, counts, goes_on, jump_target, call_target, places_inside}
 use Rattle.mc_check.specs.Checked.{is_excluded}
 use Rattle.mc_check.specs.Standing.{StandsAt, calls_of}
 

@@ -3,7 +3,7 @@
 ghost use Rattle.std.specs.Prelude.{◌≡◌, ◌≤◌, ◌<◌, ◌&&◌, not, length, IfOk, IfErr, MatchBool};
 ghost use Rattle.mc_model_device.specs.Limits.{most_code};
 ghost use Rattle.mc_model_machine.specs.Code.{instruction_at};
-ghost use Rattle.mc_model_machine.specs.StackShape.{Accepts};
+ghost use Rattle.mc_model_stack.specs.StackShape.{Accepts};
 ghost use Rattle.mc_check.specs.Judging.{calls_at, plain_at, depth_of, BeginsWithin, HasCall, HasNoCall};
 ghost use Rattle.mc_check.specs.Verdicts.{IsVerdictOf};
 ghost use Rattle.mc_check.specs.Table.{routine_of, base_in, IsWholeTable, AreBases, IsRefusalOf};
@@ -12,7 +12,7 @@ use crate::shape::{is_call, is_plain};
 use crate::table::{Entry, Refusal, Routine};
 use crate::verdict::Verdict;
 use mc_isa::decode;
-use mc_model_machine::CheckCause;
+use mc_model_stack::CheckCause;
 
 // The bytes of the dynamic segment that session data and the stack share.
 const ROOM: u64 = 512;

@@ -3,8 +3,8 @@ ghost use Rattle.std.specs.Prelude.{◌≡◌, ◌≤◌, ◌==◌, ◌&&◌, if
 ghost use Rattle.mc_model_device.specs.Limits.{most_code};
 ghost use Rattle.mc_model_machine.specs.Code.{Shaped};
 ghost use Rattle.mc_model_machine.specs.Frame as frame;
-ghost use Rattle.mc_model_machine.specs.StackRows as shape;
-ghost use Rattle.mc_model_machine.specs.StackShape.{is_main, look, fact_look};
+ghost use Rattle.mc_model_stack.specs.StackRows as shape;
+ghost use Rattle.mc_model_stack.specs.StackShape.{is_main, look, fact_look};
 ghost use Rattle.mc_check.specs.Seen.{pair_of, cause_of, fact_look_of};
 ghost use Rattle.mc_check.specs.Table.{fact_of, routine_of};
 
@@ -13,7 +13,8 @@ pub use crate::uses::height_after;
 use crate::uses::{always_abends, need};
 pub use crate::writing::is_plain;
 use mc_isa::decode;
-use mc_model_machine::{CheckCause, DecodeFault, Ins};
+use mc_model_machine::{DecodeFault, Ins};
+use mc_model_stack::CheckCause;
 
 // The condition of a jump or call that always goes.
 const ALWAYS: u8 = 7;

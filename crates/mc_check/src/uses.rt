@@ -2,7 +2,7 @@
 ghost use Rattle.std.specs.Prelude.{◌≡◌, ◌≤◌, ◌*◌};
 ghost use Rattle.mc_model_machine.specs.Code.{Shaped};
 ghost use Rattle.mc_model_machine.specs.Primitives as model;
-ghost use Rattle.mc_model_machine.specs.StackRows as shape;
+ghost use Rattle.mc_model_stack.specs.StackRows as shape;
 ghost use Rattle.mc_model_machine.specs.Row as row;
 ghost use Rattle.mc_check.specs.Seen.{uses_of};
 

@@ -9,7 +9,7 @@ use Rattle.mc_model_play.specs.Play.{Step, plays, start}
 use Rattle.mc_model_play.specs.ReadyAgain.{AreLines, IsLine}
 use Rattle.mc_family.proofs.DeckBytes.{played_bytes}
 use Rattle.mc_family.proofs.PlayLaw.{play_law}
-use Rattle.mc_base.specs.declared.refusals.WriteFault.{WriteFault}
+use Rattle.mc_streams.specs.declared.refusals.WriteFault.{WriteFault}
 use Rattle.mc_text.specs.Texts.{Sunk, Puts}
 use Rattle.mc_desk.specs.FullTurns.{FullTurn, turns_of_step}
 use Rattle.mc_desk.specs.Listings.{CodeLine, Source}

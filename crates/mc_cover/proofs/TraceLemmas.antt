@@ -15,12 +15,12 @@ use Rattle.mc_model_machine.specs.declared.instruction.DecodeFault.{DecodeFault}
 use Rattle.mc_model_machine.specs.declared.instruction.DecodeFault.TheVariants.{Undefined, Past}
 use Rattle.mc_model_machine.specs.Code.{instruction_at}
 use Rattle.mc_model_machine.specs.Frame.{Frame, Place, Static, Dynamic, Public, dynamic_base, dynamic_end, public_base, public_end, resolve, where_is}
-use Rattle.mc_model_machine.specs.Listing.{hex_text}
+use Rattle.mc_model_text.specs.Listing.{hex_text}
 use Rattle.mc_model_machine.specs.Primitives.{Goes, Done, Then}
 use Rattle.mc_model_machine.specs.Row.{RowEnd, Abends, Does, row}
-use Rattle.mc_model_machine.specs.TurnText.{bit_text, ins_text, turn_line}
+use Rattle.mc_model_text.specs.TurnText.{bit_text, ins_text, turn_line}
 use Rattle.mc_model_machine.specs.Chain.{Chain, Turn as ModelTurn, Follows, Continues, Ends, around, chain_after_effect, follows, frame_at, row_turn, turn_of, turn_of_chain, turn_of_fetch}
-use Rattle.mc_base.specs.declared.sink.Sink.{Ghosts}
+use Rattle.mc_streams.specs.declared.sink.Sink.{Ghosts}
 use Rattle.mc_desk.specs.FullTurns.{FullTurn, Span, running_code, span_of, stack_of}
 use Rattle.mc_desk.specs.Listings.{CodeLine, Source}
 use Rattle.mc_desk.specs.Traces.{is_turn_of, line_of_turn, section_of_turn, trace_line, trace_lines, turn_part, with_part}

@@ -6,8 +6,8 @@ use Rattle.mc_model_play.specs.DeckGrammar.{DeckLine}
 use Rattle.mc_model_play.specs.Play.{FailedWrite, State, step}
 use Rattle.mc_model_play.specs.Transcript.{line_text}
 use Rattle.mc_model_play.proofs.PlayLemmas.{step_is}
-use Rattle.mc_base.specs.declared.refusals.WriteFault.{WriteFault}
-use Rattle.mc_base.specs.declared.sink.Sink.{Ghosts}
+use Rattle.mc_streams.specs.declared.refusals.WriteFault.{WriteFault}
+use Rattle.mc_streams.specs.declared.sink.Sink.{Ghosts}
 use Rattle.mc_text.specs.Texts.{sunk, Puts, Sunk}
 use Rattle.mc_desk.specs.FullTurns.{FullTurn, turns_of_step}
 use Rattle.mc_desk.specs.Listings.{Source}

@@ -1,6 +1,6 @@
 -- The section that an application is of.
 use Rattle.std.specs.Prelude.{ℕ, ◌+◌, Bool, cond, ◌&&◌, List, [], ◌∷◌, bytes_eq, unwrap_or, Option, Some, None}
-use Rattle.mc_model_machine.specs.Text.{hex_bytes}
+use Rattle.mc_model_text.specs.Text.{hex_bytes}
 use Rattle.mc_desk.specs.Listings.{Source}
 
 -- the bytes that the AID of a section spells, none if it spells none

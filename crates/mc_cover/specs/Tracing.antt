@@ -2,9 +2,9 @@
 use Rattle.std.specs.Prelude.{◌≡◌, ℕ, List, [], ◌∷◌, ◌++◌, codes, decimal, Option, Some, None}
 use Rattle.std.proofs.Common.{refl, sym, ap, subst, ◌∙◌, append_assoc}
 use Rattle.mc_model_machine.specs.Chain.{Turn}
-use Rattle.mc_model_machine.specs.TurnText.{turn_line}
-use Rattle.mc_base.specs.declared.refusals.WriteFault.{WriteFault}
-use Rattle.mc_base.specs.declared.sink.Sink.{Ghosts}
+use Rattle.mc_model_text.specs.TurnText.{turn_line}
+use Rattle.mc_streams.specs.declared.refusals.WriteFault.{WriteFault}
+use Rattle.mc_streams.specs.declared.sink.Sink.{Ghosts}
 use Rattle.mc_text.specs.Logs.{Log}
 use Rattle.mc_text.specs.Texts.{sunk, Sunk, Writes, Fails}
 use Rattle.mc_text.proofs.TextLemmas.{writes_then, writes_none, fails_then, fails_before}

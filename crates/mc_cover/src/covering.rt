@@ -20,7 +20,7 @@ use crate::looking::running_section;
 use crate::running::{Watcher, run_watched};
 use crate::sections::{Section, Sections, bytes_of};
 use mc_arith::Flags;
-use mc_base::{Sink, Steps, Stop, WriteFault};
+use mc_base::{Steps, Stop};
 use mc_card::{Card, Turn};
 use mc_deck::Deck;
 use mc_desk::CodeLine;
@@ -28,6 +28,7 @@ use mc_isa::{Ins, decode};
 use mc_machine::Outcome;
 use mc_nvm::{Bench, Nvm};
 use mc_script::{Player, Runner};
+use mc_streams::{Sink, WriteFault};
 use std::alloc::{AllocError, Global};
 use std::sync::ledger::Ledger;
 

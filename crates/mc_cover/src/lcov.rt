@@ -9,7 +9,7 @@ ghost use Rattle.mc_cover.specs.Records.{record_text, rest_text, way_sums, way_t
 
 use arrayvec::ArrayVec;
 use itoa::Buffer;
-use mc_base::{Sink, WriteFault};
+use mc_streams::{Sink, WriteFault};
 use mc_text::put;
 
 /// A line of code with its counts: its number, the index of its section and its place there, the condition of its

@@ -1,6 +1,6 @@
 // The sections of a draft, as a watcher looks for them.
 ghost use Rattle.std.specs.Prelude.{◌≡◌, bytes_eq, drop, map, option_map, take, IfOk};
-ghost use Rattle.mc_model_machine.specs.Text.{hex_bytes};
+ghost use Rattle.mc_model_text.specs.Text.{hex_bytes};
 ghost use Rattle.mc_desk.specs.Listings.{has_byte_at, line_at};
 ghost use Rattle.mc_desk.specs.Sources.{code_line_value, source_value, sources_value};
 ghost use Rattle.mc_cover.specs.Sections.{aid_bytes};

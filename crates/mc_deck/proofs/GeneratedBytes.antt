@@ -4,7 +4,7 @@ use Rattle.std.specs.Prelude.{nat_lt, ◌==◌}
 use Rattle.std.specs.List.{AllByRecursion}
 use Rattle.std.proofs.lemmas.Bool.{and_parts, ltb-true}
 use Rattle.mc_model_device.specs.Bytes.{AreBytes, bytes}
-use Rattle.mc_model_machine.specs.Text.{with_numbers, every}
+use Rattle.mc_model_text.specs.Text.{with_numbers, every}
 use Rattle.mc_model_play.specs.DeckGrammar.{DeckLine, Power, Load, Select, Delete, Apdu}
 use Rattle.mc_model_play.specs.Generator.{command, next, draw, turns, line_of, opening_lines, closing_lines, cut_line, purse_line, deck_of_number, counter, purse, relay, counter_aid, purse_aid, relay_aid}
 use Rattle.mc_model_play.specs.ReadyAgain.{IsLine}

@@ -4,7 +4,7 @@ use Rattle.std.specs.Prelude.{ok_or}
 use Rattle.std.specs.BTreeMap.{BTreeMap}
 use Rattle.std.specs.List.{AllByRecursion}
 use Rattle.mc_model_device.specs.Bytes.{lookup}
-use Rattle.mc_model_machine.specs.Text.{◌>>=◌, ok_as, err_as, begins}
+use Rattle.mc_model_text.specs.Text.{◌>>=◌, ok_as, err_as, begins}
 use Rattle.mc_model_play.specs.declared.deck.DeckCause.{DeckCause}
 use Rattle.mc_model_play.specs.declared.deck.DeckCause.TheVariants.{BadLine}
 use Rattle.mc_model_play.specs.DeckGrammar

@@ -2,7 +2,7 @@
 use Rattle.std.proofs.Common.{◌≡◌, ℕ, Bool, true, false, cond, List, [], ◌∷◌, ◌++◌, Option, Some, None, Ok, Err, refl, sym, ap, ◌∙◌}
 use Rattle.std.specs.Prelude.{bytes_eq, option_map}
 use Rattle.mc_model_device.specs.Bytes.{lookup, or_else}
-use Rattle.mc_model_machine.specs.Text.{◌>>=◌, err_as}
+use Rattle.mc_model_text.specs.Text.{◌>>=◌, err_as}
 use Rattle.mc_model_card.specs.Units.{unit_read}
 use Rattle.mc_model_play.specs.declared.deck.DeckCause.TheVariants as causes
 use Rattle.mc_model_play.specs.declared.deck.DeckCause.TheVariants.{BadLine}

@@ -1,7 +1,7 @@
 -- Turns: a line between statements, and a line of a section.
 use Rattle.std.proofs.Common.{◌≡◌, ◌≢◌, ◌≤◌, Bor, arith, ℕ, ◌+◌, append_assoc, Bool, true, false, List, [], ◌∷◌, ◌++◌, Option, Some, None, Result, Ok, Err, append-nil, refl, sym, ap, subst, ◌∙◌}
 use Rattle.std.specs.Prelude.{⊤, ◌==◌, option_map, MatchOption, MatchResult, IfOk, IfErr}
-use Rattle.mc_model_machine.specs.Text.{◌>>=◌, ok_as, fields, lines, with_numbers}
+use Rattle.mc_model_text.specs.Text.{◌>>=◌, ok_as, fields, lines, with_numbers}
 use Rattle.mc_model_card.specs.Units.{UnitParts}
 use Rattle.std.specs.BTreeMap.{BTreeMap}
 use Rattle.mc_model_play.specs.declared.deck.DeckCause.{DeckCause}

@@ -1,7 +1,7 @@
 // Sections: an application in assembly, up to its line `end`.
 ghost use Rattle.std.specs.Prelude.{◌≡◌, ◌<◌, ◌≤◌, length, vec_len, Ok, Err, IfOk, IfErr, MatchResult};
 ghost use Rattle.mc_model_device.specs.Limits.{most_code};
-ghost use Rattle.mc_model_machine.specs.Text.{fields};
+ghost use Rattle.mc_model_text.specs.Text.{fields};
 ghost use Rattle.mc_model_play.specs.DeckGrammar.{data_hex, data_of_line, is_data, is_end, made_unit, section_data, section_program, section_unit};
 ghost use Rattle.mc_asm.specs.Items.{texts};
 ghost use Rattle.mc_asm.specs.Passes.{numbered_lines};

@@ -2,7 +2,7 @@
 ghost use Rattle.std.specs.Prelude.{◌≡◌, ◌<◌, ◌+◌, ℕ, Bool, false, List, [], ◌∷◌, length, option_map, Ok, Err, IfOk, MatchResult};
 ghost use Rattle.std.specs.List.{AllByRecursion};
 ghost use Rattle.mc_model_device.specs.Bytes.{lookup};
-ghost use Rattle.mc_model_machine.specs.Text.{err_as};
+ghost use Rattle.mc_model_text.specs.Text.{err_as};
 ghost use Rattle.mc_model_card.specs.Units.{unit_read};
 ghost use Rattle.mc_model_play.specs.declared.deck.DeckCause.TheVariants.{Unit};
 ghost use Rattle.mc_model_play.specs.DeckGrammar.{deck_words, new_name, statement_of, Context, FormatWord, PowerWord, UnitWord, AppWord, LoadWord, SelectWord, DeleteWord, DumpWord, ApduWord, BudgetWord, CutWord, FailWord, PokeWord};

@@ -1,8 +1,8 @@
 -- A section with its code, as the code keeps it.
 use Rattle.std.proofs.Common.{◌≡◌, ℕ, List, [], ◌∷◌, Ok, Err, refl, sym, ap, ◌∙◌}
 use Rattle.std.specs.Prelude.{map}
-use Rattle.mc_model_machine.specs.declared.assembler.AsmCause.{AsmCause}
-use Rattle.mc_model_machine.specs.Assembly.{assembled_lines}
+use Rattle.mc_model_text.specs.declared.assembler.AsmCause.{AsmCause}
+use Rattle.mc_model_text.specs.Assembly.{assembled_lines}
 use Rattle.mc_model_play.specs.DeckGrammar.{section_program}
 use Rattle.mc_desk.specs.declared.draft.SourceLine.{SourceLine}
 use Rattle.mc_desk.specs.declared.source.CodeLine.{CodeLine}

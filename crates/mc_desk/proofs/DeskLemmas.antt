@@ -1,6 +1,6 @@
 -- A draft whose deck is read, and its listing.
 use Rattle.std.proofs.Common.{◌≡◌, ℕ, List, Result, Ok, ap, ◌∙◌}
-use Rattle.mc_model_machine.specs.Text.{◌>>=◌, ok_as}
+use Rattle.mc_model_text.specs.Text.{◌>>=◌, ok_as}
 use Rattle.mc_model_play.specs.DeckGrammar.{DeckLine, deck_read}
 use Rattle.mc_model_play.specs.declared.deck.DeckCause.{DeckCause}
 use Rattle.mc_deck.specs.declared.refusal.DeckRefusal.{DeckRefusal}

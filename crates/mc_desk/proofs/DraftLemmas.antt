@@ -2,7 +2,7 @@
 use Rattle.std.proofs.Common.{◌≡◌, ℕ, ◌+◌, ◌-◌, Bool, true, false, cond, List, [], ◌∷◌, ◌++◌, take, Bor, Option, Some, None, Result, Ok, Err, refl, sym, ap, subst, ◌∙◌, append_assoc, append-nil}
 use Rattle.std.specs.Prelude.{bytes_eq, codes, map, unwrap_or, ◌==◌}
 use Rattle.std.specs.BTreeMap.{BTreeMap}
-use Rattle.mc_model_machine.specs.Text.{◌>>=◌, ok_as, err_as, only_if, fields}
+use Rattle.mc_model_text.specs.Text.{◌>>=◌, ok_as, err_as, only_if, fields}
 use Rattle.mc_model_play.specs.DeckGrammar.{is_data}
 use Rattle.mc_model_play.specs.declared.deck.DeckCause.{DeckCause}
 use Rattle.mc_model_play.specs.declared.deck.DeckCause.TheVariants.{BadLine}

@@ -5,8 +5,8 @@ use Rattle.std.specs.Fmt.{signed_decimal}
 use Rattle.std.specs.List.{AllByRecursion}
 use Rattle.std.proofs.lemmas.Bool.{and_from, and_parts}
 use Rattle.mc_model_device.specs.Bytes.{has_name, lookup}
-use Rattle.mc_model_machine.specs.Text.{◌>>=◌, ok_as, only_if, before_trimmed, decimal_number, every, fields, first_cut, halves_with_character, hex_bytes, is_blank, is_empty, pieces, pieces_with_character, trim, trim_end, trim_front}
-use Rattle.mc_model_machine.specs.Listing.{address_text, hex_text, register_name, register_names}
+use Rattle.mc_model_text.specs.Text.{◌>>=◌, ok_as, only_if, before_trimmed, decimal_number, every, fields, first_cut, halves_with_character, hex_bytes, is_blank, is_empty, pieces, pieces_with_character, trim, trim_end, trim_front}
+use Rattle.mc_model_text.specs.Listing.{address_text, hex_text, register_name, register_names}
 use Rattle.mc_model_play.specs.declared.deck.DeckCause.{DeckCause}
 use Rattle.mc_model_play.specs.declared.deck.DeckCause.TheVariants.{OutOfRange, UnknownName}
 use Rattle.mc_family.proofs.FlatTexts.{unfed, Flat, flat_append, flat_decimal, flat_hex}

@@ -7,7 +7,7 @@ use Rattle.std.proofs.lemmas.Map.Text.{is_eq-slice_cmp}
 use Rattle.std.proofs.lemmas.List.{drop_more}
 use Rattle.mc_model_device.specs.Bytes.{or_else}
 use Rattle.mc_model_device.proofs.MapLemmas.{same_name}
-use Rattle.mc_model_machine.specs.Text.{lines, with_numbers}
+use Rattle.mc_model_text.specs.Text.{lines, with_numbers}
 use Rattle.mc_text.specs.Reading.{next_line}
 use Rattle.mc_text.proofs.ReadingLemmas.{lines_at, lines_from}
 use Rattle.mc_asm.specs.Items.{texts}

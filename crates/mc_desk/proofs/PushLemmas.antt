@@ -2,7 +2,7 @@
 use Rattle.std.proofs.Common.{◌≡◌, ℕ, Bool, true, false, List, [], ◌∷◌, ◌++◌, length, drop, Option, Some, None, Result, Ok, Err, refl, sym, ap, subst, ◌∙◌, append_assoc, arith}
 use Rattle.std.specs.Prelude.{◌==◌, ◌&&◌}
 use Rattle.mc_model_device.specs.Bytes.{has_name}
-use Rattle.mc_model_machine.specs.Text.{◌>>=◌, ok_as, first_cut, pieces}
+use Rattle.mc_model_text.specs.Text.{◌>>=◌, ok_as, first_cut, pieces}
 use Rattle.mc_model_play.specs.declared.deck.DeckCause.{DeckCause}
 use Rattle.mc_text.proofs.ReadingLemmas.{pieces_at, pieces_cut}
 use Rattle.mc_desk.specs.Declarations.{NameMeaning}

@@ -2,9 +2,9 @@
 use Rattle.std.proofs.Common.{◌≡◌, ℕ, zero, suc, ◌+◌, ◌-◌, ◌<◌, ◌≤◌, Bool, true, false, List, ◌∷◌, length, Option, Some, None, Result, Ok, Err, refl, sym, ap, subst, ◌∙◌, arith}
 use Rattle.std.specs.Prelude.{pos, nat_le, is_none, ok_or, option_map, unwrap_or, ◌==◌}
 use Rattle.mc_model_device.specs.Bytes.{has_name, lookup}
-use Rattle.mc_model_machine.specs.Text.{◌>>=◌, ok_as, only_if, begins, decimal_number, hex_bytes}
-use Rattle.mc_model_machine.specs.Listing.{condition_names, register_names}
-use Rattle.mc_model_machine.specs.Assembly.{is_label, minus, natural}
+use Rattle.mc_model_text.specs.Text.{◌>>=◌, ok_as, only_if, begins, decimal_number, hex_bytes}
+use Rattle.mc_model_text.specs.Listing.{condition_names, register_names}
+use Rattle.mc_model_text.specs.Assembly.{is_label, minus, natural}
 use Rattle.mc_model_play.specs.DeckGrammar.{number_field}
 use Rattle.mc_model_play.specs.declared.deck.DeckCause.{DeckCause}
 use Rattle.mc_model_play.specs.declared.deck.DeckCause.TheVariants.{BadHex, BadLine, BadName, BadNumber, NameTwice, OutOfRange}

@@ -3,12 +3,12 @@ use Rattle.std.proofs.Common.{◌≡◌, ℕ, suc, ◌+◌, Bool, true, false, c
 use Rattle.std.specs.Prelude.{ℤ, pos, ◌-ℤ◌, bytes_eq, ok_or, nat_le, ⊤, ◌==◌}
 use Rattle.std.specs.List.{AllByRecursion}
 use Rattle.mc_model_device.specs.Bytes.{lookup, bytes2}
-use Rattle.mc_model_machine.specs.Text.{◌>>=◌, ok_as, only_if, first_cut, is_blank, is_empty, trim}
+use Rattle.mc_model_text.specs.Text.{◌>>=◌, ok_as, only_if, first_cut, is_blank, is_empty, trim}
 use Rattle.mc_model_machine.specs.Code.{spell}
 use Rattle.mc_model_machine.specs.declared.instruction.Ins.{Ins}
-use Rattle.mc_model_machine.specs.declared.assembler.AsmCause.{AsmCause}
-use Rattle.mc_model_machine.specs.declared.assembler.AsmCause.TheVariants.{BadOperands, UnknownLabel, UnknownWord, FarBranch}
-use Rattle.mc_model_machine.specs.Assembly.{CodeItem, Nothing, Raw, Plain, ToPlace, ToDistance, WordForm, Bare, OfByte, OfBytes, OfWord, OfWords, RawByte, ByDistance, ByPlace, Primitive, Addressed, AddressedByte, AddressedWord, Target, Label, Given, Line, words, byte, word, both, address, all_bytes, condition, signed_operand, is_label, label_or_given, by_distance, by_place, primitive, item_of_word, operands, word_and_operands, label_and_rest, line_read, bytes_of_item, size, fits_signed}
+use Rattle.mc_model_text.specs.declared.assembler.AsmCause.{AsmCause}
+use Rattle.mc_model_text.specs.declared.assembler.AsmCause.TheVariants.{BadOperands, UnknownLabel, UnknownWord, FarBranch}
+use Rattle.mc_model_text.specs.Assembly.{CodeItem, Nothing, Raw, Plain, ToPlace, ToDistance, WordForm, Bare, OfByte, OfBytes, OfWord, OfWords, RawByte, ByDistance, ByPlace, Primitive, Addressed, AddressedByte, AddressedWord, Target, Label, Given, Line, words, byte, word, both, address, all_bytes, condition, signed_operand, is_label, label_or_given, by_distance, by_place, primitive, item_of_word, operands, word_and_operands, label_and_rest, line_read, bytes_of_item, size, fits_signed}
 
 -- an item whose number of bytes does not depend on the place of its label
 abbrev GoodItem : CodeItem → Type 0

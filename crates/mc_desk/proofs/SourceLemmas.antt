@@ -5,10 +5,10 @@ use Rattle.std.specs.Prelude.{filter, flat_map, map, not, nat_le, ◌==◌}
 use Rattle.std.proofs.Math.Seq.{take-append_seam, drop-append_seam}
 use Rattle.std.proofs.lemmas.List.{length-append, take_min}
 use Rattle.mc_model_device.specs.Limits.{most_code}
-use Rattle.mc_model_machine.specs.declared.assembler.AsmCause.{AsmCause}
-use Rattle.mc_model_machine.specs.declared.assembler.AsmCause.TheVariants.{LabelTwice, TooLong}
-use Rattle.mc_model_machine.specs.Text.{◌>>=◌, ok_as, err_as, only_if, fields, is_empty, trim}
-use Rattle.mc_model_machine.specs.Assembly.{Laid, Line, Placed, assembled_lines, bytes_of_item, is_new, joined_code, laid_lines, line_laid, line_read, size, with_label}
+use Rattle.mc_model_text.specs.declared.assembler.AsmCause.{AsmCause}
+use Rattle.mc_model_text.specs.declared.assembler.AsmCause.TheVariants.{LabelTwice, TooLong}
+use Rattle.mc_model_text.specs.Text.{◌>>=◌, ok_as, err_as, only_if, fields, is_empty, trim}
+use Rattle.mc_model_text.specs.Assembly.{Laid, Line, Placed, assembled_lines, bytes_of_item, is_new, joined_code, laid_lines, line_laid, line_read, size, with_label}
 use Rattle.mc_model_play.specs.DeckGrammar.{is_data, section_program}
 use Rattle.mc_desk.specs.Parts.{without_comment}
 use Rattle.mc_desk.specs.Drafts.{Section, SourceLine}

@@ -2,8 +2,8 @@
 use Rattle.std.proofs.Common.{◌≡◌, ℕ, ◌<◌, ◌≤◌, Bool, true, false, List, [], ◌∷◌, ◌++◌, length, take, Bor, Option, Some, None, Result, Ok, Err, refl, sym, ap, subst, ◌∙◌, append_assoc, arith}
 use Rattle.std.specs.Prelude.{bytes_eq, codes, nat_eq, nat_le, ok_or, option_map, unwrap_or}
 use Rattle.mc_model_device.specs.Bytes.{has_name, lookup}
-use Rattle.mc_model_machine.specs.Text.{◌>>=◌, ok_as, fields, first_cut, hex_bytes, is_blank, is_empty, is_within}
-use Rattle.mc_model_machine.specs.Listing.{hex_text}
+use Rattle.mc_model_text.specs.Text.{◌>>=◌, ok_as, fields, first_cut, hex_bytes, is_blank, is_empty, is_within}
+use Rattle.mc_model_text.specs.Listing.{hex_text}
 use Rattle.mc_model_play.specs.declared.deck.DeckCause.TheVariants.{BadHex, OutOfRange, UnknownName}
 use Rattle.mc_deck.proofs.FieldLemmas.{fields_left, field_more, field_none}
 use Rattle.mc_desk.specs.Parts.{Part, part_in, with_core, after_word}

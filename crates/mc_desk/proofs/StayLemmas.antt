@@ -2,9 +2,9 @@
 use Rattle.std.proofs.Common.{◌≡◌, ℕ, suc, ◌+◌, ◌-◌, Bool, true, false, cond, List, [], ◌∷◌, ◌++◌, length, take, drop, Option, Some, None, Result, Ok, Err, refl, sym, ap, subst, ◌∙◌, append_assoc, append-nil}
 use Rattle.std.specs.Prelude.{pos, ◌==◌, bytes_eq, codes, is_none, map, ok_or, option_map, slice_index, unwrap_or, ⊤}
 use Rattle.mc_model_device.specs.Bytes.{lookup, zeros}
-use Rattle.mc_model_machine.specs.Text.{◌>>=◌, ok_as, err_as, only_if, fields, pieces, pieces_with_character, with_numbers}
-use Rattle.mc_model_machine.specs.Assembly.{signed_number}
-use Rattle.mc_model_machine.specs.Listing.{hex_text}
+use Rattle.mc_model_text.specs.Text.{◌>>=◌, ok_as, err_as, only_if, fields, pieces, pieces_with_character, with_numbers}
+use Rattle.mc_model_text.specs.Assembly.{signed_number}
+use Rattle.mc_model_text.specs.Listing.{hex_text}
 use Rattle.mc_model_play.specs.DeckGrammar.{is_data, is_end, number_field}
 use Rattle.mc_model_play.specs.declared.deck.DeckCause.{DeckCause}
 use Rattle.mc_model_play.specs.declared.deck.DeckCause.TheVariants.{BadLine, BadNumber, NameTwice, OutOfRange}

@@ -2,7 +2,7 @@
 use Rattle.std.proofs.Common.{◌≡◌, ℕ, Bool, true, false, List, [], ◌∷◌, ◌++◌, length, Option, Some, None, refl, ap, sym, ◌∙◌, arith}
 use Rattle.std.specs.Prelude.{◌||◌, ◌==◌, bytes_eq, is_none}
 use Rattle.mc_model_device.specs.Bytes.{has_name}
-use Rattle.mc_model_machine.specs.Text.{first_cut, pieces}
+use Rattle.mc_model_text.specs.Text.{first_cut, pieces}
 use Rattle.mc_text.proofs.ReadingLemmas.{pieces_at, pieces_cut}
 use Rattle.mc_desk.specs.Operands.{sized_words, moving_words, one_block_words, two_block_words}
 

@@ -3,7 +3,7 @@ use Rattle.std.proofs.Common.{◌≡◌, ℕ, ◌-◌, Bool, true, false, cond, 
 use Rattle.std.specs.Prelude.{bytes_eq, codes, map, IfOk}
 use Rattle.std.specs.BTreeMap.{BTreeMap}
 use Rattle.std.proofs.lemmas.List.{length-append, take_at, drop_at}
-use Rattle.mc_model_machine.specs.Text.{ok_as, fields}
+use Rattle.mc_model_text.specs.Text.{ok_as, fields}
 use Rattle.mc_model_play.specs.DeckGrammar.{is_data, is_end}
 use Rattle.mc_model_play.specs.declared.deck.DeckCause.{DeckCause}
 use Rattle.mc_deck.specs.declared.refusal.Fault.{Fault}

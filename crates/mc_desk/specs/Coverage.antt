@@ -3,7 +3,7 @@ use Rattle.std.specs.Prelude.{ℕ, ◌-◌, Bool, true, false, cond, not, ◌&&�
 use Rattle.mc_model_machine.specs.declared.instruction.Ins.{Ins}
 use Rattle.mc_model_machine.specs.declared.instruction.Ins.TheVariants as ins
 use Rattle.mc_model_machine.specs.declared.instruction.DecodeFault.{DecodeFault}
-use Rattle.mc_model_machine.specs.Text.{is_within}
+use Rattle.mc_model_text.specs.Text.{is_within}
 use Rattle.mc_model_machine.specs.Code.{front}
 use Rattle.mc_model_machine.specs.Row.{holds}
 use Rattle.mc_model_play.specs.Play.{Step}

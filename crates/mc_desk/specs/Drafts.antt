@@ -1,6 +1,6 @@
 -- Drafts line by line: the deck of a draft, and its sections, or the first refusal.
 use Rattle.std.specs.Prelude.{ℕ, ◌-◌, Bool, true, false, cond, nat_lt, List, [], ◌∷◌, ◌++◌, map, bytes_eq, codes, unwrap_or, Option, Some, None, Result, Ok}
-use Rattle.mc_model_machine.specs.Text.{◌>>=◌, ok_as, err_as, with_numbers, fields}
+use Rattle.mc_model_text.specs.Text.{◌>>=◌, ok_as, err_as, with_numbers, fields}
 use Rattle.mc_model_play.specs.DeckGrammar.{is_data, is_end}
 use Rattle.mc_model_play.specs.declared.deck.DeckCause.{DeckCause}
 use Rattle.mc_desk.specs.Parts.{EndedLine, ended_lines}

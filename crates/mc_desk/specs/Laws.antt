@@ -1,7 +1,7 @@
 -- The laws of drafts, their decks and their plays.
 use Rattle.std.specs.Prelude.{◌≡◌, ℕ, ◌==◌, List, map, flat_map, length, Option, Ok}
-use Rattle.mc_model_machine.specs.Text.{pieces}
-use Rattle.mc_model_machine.specs.Assembly.{assembled_lines}
+use Rattle.mc_model_text.specs.Text.{pieces}
+use Rattle.mc_model_text.specs.Assembly.{assembled_lines}
 use Rattle.mc_model_play.specs.DeckGrammar.{DeckLine, deck_read}
 use Rattle.mc_model_play.specs.Play.{State, FailedWrite, step}
 use Rattle.mc_desk.specs.Drafts.{Section, deck_of}

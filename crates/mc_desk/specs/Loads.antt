@@ -5,7 +5,7 @@ use Rattle.std.specs.Cmp.Lexicographic.{slice_cmp}
 use Rattle.std.specs.BTreeMap
 use Rattle.std.specs.BTreeMap.{BTreeMap}
 use denote.Ref.{Bor}
-use Rattle.mc_model_machine.specs.Text.{lines}
+use Rattle.mc_model_text.specs.Text.{lines}
 use Rattle.mc_asm.specs.Items.{texts}
 use Rattle.mc_desk.specs.declared.desk.Desk.{Desk}
 use Rattle.mc_desk.specs.declared.source.CodeLine.{CodeLine}

@@ -2,8 +2,8 @@
 -- it was.
 use Rattle.std.specs.Prelude.{ℕ, ◌-◌, ℤ, pos, ◌+ℤ◌, Bool, true, false, cond, ◌&&◌, nat_lt, ◌==◌, List, [], ◌∷◌, ◌++◌, length, drop, bytes_eq, codes, decimal, Option, Some, None, Result, Ok}
 use Rattle.mc_model_device.specs.Bytes.{lookup, has_name}
-use Rattle.mc_model_machine.specs.Text.{◌>>=◌, ok_as, only_if, pieces, first_cut, decimal_number}
-use Rattle.mc_model_machine.specs.Listing.{address_text}
+use Rattle.mc_model_text.specs.Text.{◌>>=◌, ok_as, only_if, pieces, first_cut, decimal_number}
+use Rattle.mc_model_text.specs.Listing.{address_text}
 use Rattle.mc_model_play.specs.declared.deck.DeckCause.{DeckCause}
 use Rattle.mc_model_play.specs.declared.deck.DeckCause.TheVariants.{OutOfRange}
 use Rattle.mc_desk.specs.Parts.{part_of, with_core, before_rest, first_word, after_word, without_comment}

@@ -1,9 +1,9 @@
 -- The code of sections as the code keeps it: of each line its place and the number of its bytes.
 use Rattle.std.specs.Prelude.{◌≡◌, ℕ, ◌+◌, ◌==◌, cond, min, List, [], ◌∷◌, ◌++◌, map, take, drop, Option, Some, None, Result, Ok, Err}
 use Rattle.std.specs.Global.{Vec}
-use Rattle.mc_model_machine.specs.declared.assembler.AsmCause.{AsmCause}
-use Rattle.mc_model_machine.specs.Text.{fields, ok_as, trim}
-use Rattle.mc_model_machine.specs.Assembly.{line_read, size}
+use Rattle.mc_model_text.specs.declared.assembler.AsmCause.{AsmCause}
+use Rattle.mc_model_text.specs.Text.{fields, ok_as, trim}
+use Rattle.mc_model_text.specs.Assembly.{line_read, size}
 use Rattle.mc_model_play.specs.DeckGrammar.{is_data}
 use Rattle.mc_desk.specs.declared.source.CodeLine.{CodeLine}
 use Rattle.mc_desk.specs.declared.source.Source.{Source}

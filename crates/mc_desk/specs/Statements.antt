@@ -1,8 +1,8 @@
 -- A statement of a draft between its sections, and what it becomes in the deck.
 use Rattle.std.specs.Prelude.{ℕ, ◌-◌, Bool, cond, nat_le, ◌==◌, List, [], ◌∷◌, ◌++◌, length, take, slice_index, unwrap_or, bytes_eq, codes, decimal, Option, Some, None, ok_or, Result, Ok, Err}
 use Rattle.mc_model_device.specs.Bytes.{lookup, has_name}
-use Rattle.mc_model_machine.specs.Text.{◌>>=◌, ok_as, only_if, is_within, fields, hex_bytes}
-use Rattle.mc_model_machine.specs.Listing.{hex_text}
+use Rattle.mc_model_text.specs.Text.{◌>>=◌, ok_as, only_if, is_within, fields, hex_bytes}
+use Rattle.mc_model_text.specs.Listing.{hex_text}
 use Rattle.mc_model_play.specs.declared.deck.DeckCause.{DeckCause}
 use Rattle.mc_model_play.specs.declared.deck.DeckCause.TheVariants.{BadHex, OutOfRange, UnknownName}
 use Rattle.mc_desk.specs.Parts.{part_in, after_word, with_core}

@@ -1,9 +1,9 @@
 -- The trace of a draft: the line of each turn of a section with its source line, the bytes of its operand, and the top
 -- of the stack.
 use Rattle.std.specs.Prelude.{ℕ, ◌-◌, Bool, cond, ◌&&◌, List, [], ◌∷◌, ◌++◌, length, take, bytes_eq, codes, unwrap_or, Option, Some, None}
-use Rattle.mc_model_machine.specs.Text.{hex_bytes}
-use Rattle.mc_model_machine.specs.Listing.{hex_text}
-use Rattle.mc_model_machine.specs.TurnText.{turn_line}
+use Rattle.mc_model_text.specs.Text.{hex_bytes}
+use Rattle.mc_model_text.specs.Listing.{hex_text}
+use Rattle.mc_model_text.specs.TurnText.{turn_line}
 use Rattle.mc_model_play.specs.Play.{Step}
 use Rattle.mc_model_play.specs.Transcript.{plain_text, texts}
 use Rattle.mc_desk.specs.Listings.{CodeLine, Source}

@@ -6,8 +6,8 @@ use Rattle.std.specs.BTreeMap
 use Rattle.std.specs.BTreeMap.{BTreeMap}
 use denote.Ref.{Bor}
 use Rattle.mc_model_device.specs.Bytes.{lookup, or_else, zeros}
-use Rattle.mc_model_machine.specs.Text.{ok_as, only_if, hex_value, is_empty}
-use Rattle.mc_model_machine.specs.Listing.{address_text, hex_text}
+use Rattle.mc_model_text.specs.Text.{ok_as, only_if, hex_value, is_empty}
+use Rattle.mc_model_text.specs.Listing.{address_text, hex_text}
 use Rattle.mc_model_play.specs.declared.deck.DeckCause.{DeckCause}
 use Rattle.mc_model_play.specs.declared.deck.DeckCause.TheVariants.{BadLine, BadNumber, OutOfRange, NameTwice}
 use Rattle.mc_deck.specs.declared.refusal.Fault.{Fault}

@@ -1,6 +1,6 @@
 // The declaration of a line.
 ghost use Rattle.std.specs.Prelude.{◌≡◌, option_map, ◌∷◌};
-ghost use Rattle.mc_model_machine.specs.Text.{begins};
+ghost use Rattle.mc_model_text.specs.Text.{begins};
 ghost use Rattle.mc_model_device.specs.Bytes.{lookup};
 ghost use Rattle.mc_asm.specs.Items.{texts};
 ghost use Rattle.mc_desk.specs.Declarations.{declaration_in, declaration_of, declaration_words, is_labelled, gives, StaticWord, SessionWord, PublicWord, ConstWord};

@@ -1,8 +1,8 @@
 // Drafts, line by line.
 ghost use Rattle.std.specs.Prelude.{◌≡◌, ◌<◌, length, slice_get, ◌+◌, ◌++◌, ◌∷◌, [], ℕ, Bool, List, true, option_map, codes, cond, IfErr, IfOk, IfSome, MatchResult, Ok, OnOk, Some, None};
 ghost use Rattle.mc_model_device.specs.Bytes.{lookup, zeros};
-ghost use Rattle.mc_model_machine.specs.Text.{fields};
-ghost use Rattle.mc_model_machine.specs.Listing.{hex_text};
+ghost use Rattle.mc_model_text.specs.Text.{fields};
+ghost use Rattle.mc_model_text.specs.Listing.{hex_text};
 ghost use Rattle.mc_model_play.specs.DeckGrammar.{is_data, is_end};
 ghost use Rattle.mc_asm.specs.Items.{texts};
 ghost use Rattle.mc_deck.specs.Refused.{DeckRefuses, Faulty};

@@ -1,6 +1,6 @@
 // The lines of a draft.
 ghost use Rattle.std.specs.Prelude.{◌≡◌, ◌&&◌, ◌||◌, length, map, not, option_map, IfOk, vec_len};
-ghost use Rattle.mc_model_machine.specs.Text.{fields};
+ghost use Rattle.mc_model_text.specs.Text.{fields};
 ghost use Rattle.mc_model_play.specs.DeckGrammar.{is_end};
 ghost use Rattle.mc_desk.specs.Declarations.{declaration_in, gives};
 ghost use Rattle.mc_desk.specs.Parts.{ended_lines, fed_line};

@@ -2,7 +2,7 @@
 ghost use Rattle.std.specs.Prelude.{◌≡◌, ◌++◌, flat_map, map, Ok, IfErr, IfOk, OnOk};
 ghost use Rattle.mc_deck.specs.Refused.{DeckRefuses};
 ghost use Rattle.mc_model_device.specs.Bytes.{bytes2};
-ghost use Rattle.mc_model_machine.specs.Listing.{hex_text};
+ghost use Rattle.mc_model_text.specs.Listing.{hex_text};
 ghost use Rattle.mc_desk.specs.Listings.{draft_listing, listing_head, listing_line, listing_of};
 ghost use Rattle.mc_desk.specs.Sources.{code_line_value, source_value, sources_value};
 

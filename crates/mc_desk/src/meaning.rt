@@ -32,7 +32,7 @@ pub type Names<'a> = BTreeMap<&'a [u8], Meaning<'a>>;
 
 impl Register {
     ghost use Rattle.std.specs.Prelude.{◌≡◌};
-    ghost use Rattle.mc_model_machine.specs.Listing.{register_name};
+    ghost use Rattle.mc_model_text.specs.Listing.{register_name};
     ghost use Rattle.mc_desk.specs.Views.{register_tag};
 
     /// Returns the register's name.

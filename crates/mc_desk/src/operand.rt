@@ -1,8 +1,8 @@
 // One operand, and what it becomes.
 ghost use Rattle.std.specs.Prelude.{◌≡◌, ◌++◌, ◌==◌, ℕ, List, bytes_eq, codes, OnOk};
 ghost use Rattle.mc_model_device.specs.Bytes.{lookup};
-ghost use Rattle.mc_model_machine.specs.Text.{decimal_number, first_cut, ok_as};
-ghost use Rattle.mc_model_machine.specs.Listing.{address_text};
+ghost use Rattle.mc_model_text.specs.Text.{decimal_number, first_cut, ok_as};
+ghost use Rattle.mc_model_text.specs.Listing.{address_text};
 ghost use Rattle.mc_desk.specs.Declarations.{NameMeaning};
 ghost use Rattle.mc_desk.specs.Operands.{bytes_text, named_text, operand_text, plain_operand, shifted_text, size_text};
 ghost use Rattle.mc_desk.specs.Views.{register_tag, text_of_operand, AreNames};

@@ -1,8 +1,8 @@
 // What a section declares.
 ghost use Rattle.std.specs.Prelude.{◌≡◌, pos, ◌+◌, ◌-◌, ◌<◌, ◌≤◌, ℕ, List, ◌∷◌, length, nat_le, is_none, option_map, IfOk};
 ghost use Rattle.mc_model_device.specs.Bytes.{has_name, lookup};
-ghost use Rattle.mc_model_machine.specs.Text.{ok_as};
-ghost use Rattle.mc_model_machine.specs.Listing.{condition_names, register_names};
+ghost use Rattle.mc_model_text.specs.Text.{ok_as};
+ghost use Rattle.mc_model_text.specs.Listing.{condition_names, register_names};
 ghost use Rattle.mc_model_play.specs.DeckGrammar.{number_field};
 ghost use Rattle.mc_text.specs.Reading.{capped_number};
 ghost use Rattle.mc_asm.specs.Items.{texts};

@@ -1,6 +1,6 @@
 // The code of the sections of a draft, line by line.
 ghost use Rattle.std.specs.Prelude.{◌≡◌, ◌++◌, ◌∷◌, [], drop, length, map, take, IfOk, OnOk, option_map};
-ghost use Rattle.mc_model_machine.specs.Assembly.{assembled_lines};
+ghost use Rattle.mc_model_text.specs.Assembly.{assembled_lines};
 ghost use Rattle.mc_model_play.specs.DeckGrammar.{section_program};
 ghost use Rattle.mc_asm.specs.Passes.{numbered_lines};
 ghost use Rattle.mc_desk.specs.Listings.{has_byte_at, source_of};

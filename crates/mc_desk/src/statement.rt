@@ -1,8 +1,8 @@
 // A statement between sections, and what it becomes.
 ghost use Rattle.std.specs.Prelude.{◌≡◌, ◌++◌, ◌∷◌, [], ℕ, List, bytes_eq, codes, ok_or, option_map, OnOk};
 ghost use Rattle.mc_model_device.specs.Bytes.{has_name, lookup};
-ghost use Rattle.mc_model_machine.specs.Text.{fields, hex_bytes, is_within, ok_as};
-ghost use Rattle.mc_model_machine.specs.Listing.{hex_text};
+ghost use Rattle.mc_model_text.specs.Text.{fields, hex_bytes, is_within, ok_as};
+ghost use Rattle.mc_model_text.specs.Listing.{hex_text};
 ghost use Rattle.mc_model_play.specs.declared.deck.DeckCause.TheVariants.{UnknownName};
 ghost use Rattle.mc_asm.specs.Items.{texts};
 ghost use Rattle.mc_desk.specs.Statements.{after_open, aid_or_name, text_in_brackets, command_field, command_text, counted_hex, is_aid, load_text, named_text, naming_words, one_field_text, only_of, plain_hex, stated_text, statement_text, Loadable};

@@ -2,7 +2,7 @@
 ghost use Rattle.std.specs.Prelude.{◌≡◌, ◌++◌, ◌∷◌, [], decimal, OnOk};
 ghost use Rattle.std.specs.Fmt.{signed_decimal};
 ghost use Rattle.mc_model_device.specs.Bytes.{zeros};
-ghost use Rattle.mc_model_machine.specs.Listing.{hex_text};
+ghost use Rattle.mc_model_text.specs.Listing.{hex_text};
 
 use itoa::Buffer;
 use mc_text::digit;

@@ -4,9 +4,9 @@ use Rattle.std.specs.Prelude.{◌&&◌, bytes_eq, ok_or, ⊤}
 use Rattle.mc_model_device.specs.Bytes.{lookup}
 use Rattle.mc_model_device.proofs.BoolLemmas.{and_first, and_second}
 use Rattle.mc_model_device.proofs.MapLemmas.{same_name}
-use Rattle.mc_model_machine.specs.Text.{◌>>=◌, err_as, ok_as, only_if}
-use Rattle.mc_model_machine.specs.Assembly.{both, place_among}
-use Rattle.mc_model_machine.specs.declared.assembler.AsmCause.{AsmCause}
+use Rattle.mc_model_text.specs.Text.{◌>>=◌, err_as, ok_as, only_if}
+use Rattle.mc_model_text.specs.Assembly.{both, place_among}
+use Rattle.mc_model_text.specs.declared.assembler.AsmCause.{AsmCause}
 
 -- ---- results
 

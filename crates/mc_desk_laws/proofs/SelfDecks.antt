@@ -2,9 +2,9 @@
 use Rattle.std.proofs.Common.{◌≡◌, ℕ, suc, ◌+◌, Bool, true, false, cond, List, [], ◌∷◌, ◌++◌, map, Option, Some, None, Result, Ok, Err, refl, sym, ap, subst, ◌∙◌}
 use Rattle.std.specs.Prelude.{◌==◌, not, ok_or, unwrap_or, ⊤}
 use Rattle.mc_model_device.specs.Bytes.{lookup}
-use Rattle.mc_model_machine.specs.Text.{◌>>=◌, begins, err_as, fields, is_empty, ok_as, only_if, trim, with_numbers}
-use Rattle.mc_model_machine.specs.declared.assembler.AsmCause.{AsmCause}
-use Rattle.mc_model_machine.specs.Assembly.{assembled_lines, joined_code, laid_lines, line_laid, line_read, size, with_label}
+use Rattle.mc_model_text.specs.Text.{◌>>=◌, begins, err_as, fields, is_empty, ok_as, only_if, trim, with_numbers}
+use Rattle.mc_model_text.specs.declared.assembler.AsmCause.{AsmCause}
+use Rattle.mc_model_text.specs.Assembly.{assembled_lines, joined_code, laid_lines, line_laid, line_read, size, with_label}
 use Rattle.mc_model_play.specs.declared.deck.DeckCause.{DeckCause}
 use Rattle.mc_model_play.specs.declared.deck.DeckCause.TheVariants.{BadLine}
 use Rattle.mc_model_play.specs.declared.deck.DeckCause.TheVariants as causes

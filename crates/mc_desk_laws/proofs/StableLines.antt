@@ -4,9 +4,9 @@ use Rattle.std.specs.Prelude.{◌==◌, ◌&&◌, ◌||◌, is_none, not, ok_or,
 use Rattle.std.proofs.Math.Seq.{drop-append_seam, drop-length}
 use Rattle.mc_model_device.specs.Bytes.{has_name, lookup}
 use Rattle.mc_model_device.proofs.BoolLemmas.{and_false, and_first, and_second}
-use Rattle.mc_model_machine.specs.Text.{◌>>=◌, before_trimmed, every, fields, first_cut, halves_with_character, is_blank, is_digit, is_empty, is_name, is_name_character, is_within, ok_as, pieces, pieces_with_character, trim, trim_end, trim_front}
-use Rattle.mc_model_machine.specs.Assembly.{CodeItem, Line, WordForm, is_label, item_of_word, label_and_rest, line_read, operands, word_and_operands, words}
-use Rattle.mc_model_machine.specs.declared.assembler.AsmCause.TheVariants.{UnknownWord}
+use Rattle.mc_model_text.specs.Text.{◌>>=◌, before_trimmed, every, fields, first_cut, halves_with_character, is_blank, is_digit, is_empty, is_name, is_name_character, is_within, ok_as, pieces, pieces_with_character, trim, trim_end, trim_front}
+use Rattle.mc_model_text.specs.Assembly.{CodeItem, Line, WordForm, is_label, item_of_word, label_and_rest, line_read, operands, word_and_operands, words}
+use Rattle.mc_model_text.specs.declared.assembler.AsmCause.TheVariants.{UnknownWord}
 use Rattle.mc_desk.specs.Parts.{after_word, before_rest, first_word, part_of, with_core, without_comment}
 use Rattle.mc_desk.specs.Declarations.{declaration_in, declaration_of, declaration_words, header_names, is_labelled}
 use Rattle.mc_desk.specs.Operands.{body_text, instruction_text, jump_words, labelled_text, later_text, operands_text, pieces_text, sized_words}

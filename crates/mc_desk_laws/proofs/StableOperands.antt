@@ -5,11 +5,11 @@ use Rattle.std.proofs.lemmas.Bool.{not-true}
 use Rattle.mc_model_device.specs.Bytes.{lookup}
 use Rattle.mc_model_device.proofs.BoolLemmas.{and_false, and_first, and_second}
 use Rattle.mc_model_device.proofs.MapLemmas.{same_name}
-use Rattle.mc_model_machine.specs.declared.assembler.AsmCause.TheVariants.{BadNumber, BadOperands, OutOfRange}
-use Rattle.mc_model_machine.specs.Text.{decimal_number, every, first_cut, halves_with_character, is_digit, is_empty, ok_as, only_if, pieces}
-use Rattle.mc_model_machine.specs.Listing.{register_names}
-use Rattle.mc_model_machine.specs.Assembly.{Addressed, AddressedByte, AddressedWord, Bare, ByDistance, ByPlace, OfByte, OfBytes, OfWord, OfWords, Primitive, RawByte, WordForm, address, all_bytes, both, byte, hex_number, item_of_word, natural, number_operand, offset_and_end, place_among, primitive, register_and_rest, word}
-use Rattle.mc_model_machine.proofs.TextLemmas.{every_append}
+use Rattle.mc_model_text.specs.declared.assembler.AsmCause.TheVariants.{BadNumber, BadOperands, OutOfRange}
+use Rattle.mc_model_text.specs.Text.{decimal_number, every, first_cut, halves_with_character, is_digit, is_empty, ok_as, only_if, pieces}
+use Rattle.mc_model_text.specs.Listing.{register_names}
+use Rattle.mc_model_text.specs.Assembly.{Addressed, AddressedByte, AddressedWord, Bare, ByDistance, ByPlace, OfByte, OfBytes, OfWord, OfWords, Primitive, RawByte, WordForm, address, all_bytes, both, byte, hex_number, item_of_word, natural, number_operand, offset_and_end, place_among, primitive, register_and_rest, word}
+use Rattle.mc_model_text.proofs.TextLemmas.{every_append}
 use Rattle.mc_desk.specs.Declarations.{header_names}
 use Rattle.mc_desk.specs.Operands.{named_text, operand_by_parts, operand_text, plain_operand, shifted_text, size_text}
 use Rattle.mc_desk_laws.proofs.Results.{Fine, among, fine_as, fine_both, fine_ok, fine_or, fine_then, unknown}

@@ -4,7 +4,7 @@ use Rattle.std.specs.Prelude.{◌==◌, bytes_eq, codes, ok_or, slice_index, unw
 use Rattle.std.proofs.lemmas.List.{take-append-drop}
 use Rattle.mc_model_device.specs.Bytes.{lookup}
 use Rattle.mc_model_device.proofs.MapLemmas.{same_name}
-use Rattle.mc_model_machine.specs.Text.{◌>>=◌, begins, err_as, fields, hex_bytes, is_within, ok_as, only_if, trim}
+use Rattle.mc_model_text.specs.Text.{◌>>=◌, begins, err_as, fields, hex_bytes, is_within, ok_as, only_if, trim}
 use Rattle.mc_model_card.specs.Units.{unit_read}
 use Rattle.mc_model_play.specs.declared.deck.DeckCause.{DeckCause}
 use Rattle.mc_model_play.specs.declared.deck.DeckCause.TheVariants.{BadHex, OutOfRange, UnknownName}

@@ -4,7 +4,7 @@ use Rattle.std.specs.List.{AllByRecursion}
 use Rattle.std.proofs.Common.{arith, ap, sym, subst, inl, inr, ◌∙◌}
 use Rattle.std.proofs.lemmas.List.{append-nil, append_assoc, reverse-append}
 use Rattle.mc_model_device.proofs.ImageLemmas.{all_append, all_map}
-use Rattle.mc_model_machine.specs.Text.{◌>>=◌, ok_as}
+use Rattle.mc_model_text.specs.Text.{◌>>=◌, ok_as}
 use Rattle.mc_model_play.specs.Play.{Live, Running, Unpowered, Muted, State, AfterPower, is_card_line}
 use Rattle.mc_model_play.specs.Family.{live_in, is_running}
 use Rattle.mc_explore.specs.Rules.{Move, Rules}

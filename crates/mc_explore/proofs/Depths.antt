@@ -4,7 +4,7 @@ use Rattle.std.proofs.Common.{arith, ap, sym, ◌∙◌}
 use Rattle.std.proofs.lemmas.Bool.{and_parts, ltb-true, ltb-false, eq-eqb, cond_both}
 use Rattle.std.proofs.lemmas.Fmt.{decimal_injective}
 use Rattle.std.proofs.lemmas.List.{append_assoc}
-use Rattle.mc_model_machine.specs.Text.{every}
+use Rattle.mc_model_text.specs.Text.{every}
 use Rattle.mc_model_play.specs.Play.{State}
 use Rattle.mc_explore.specs.Rules.{Rules, no_rules, Exploration}
 use Rattle.mc_explore.specs.States.{CardState, is_known, play_of_deck}

@@ -3,7 +3,7 @@ use Rattle.std.specs.Prelude.{◌≡◌, ◌⊎◌, ℕ, zero, suc, ◌+◌, ◌
 use Rattle.std.specs.List.{AllByRecursion}
 use Rattle.std.proofs.Common.{arith, sym, subst, inl, inr, ◌∙◌}
 use Rattle.mc_model_device.proofs.ImageLemmas.{all_map}
-use Rattle.mc_model_machine.specs.Text.{◌>>=◌}
+use Rattle.mc_model_text.specs.Text.{◌>>=◌}
 use Rattle.mc_explore.specs.Rules.{OnRule, Rules}
 use Rattle.mc_explore.specs.States.{CardState, is_known}
 use Rattle.mc_explore.specs.Tries.{Try, tries_of, outcome}

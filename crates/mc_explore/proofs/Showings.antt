@@ -1,7 +1,7 @@
 -- Two moves that tell the same do the same to allowances.
 use Rattle.std.specs.Prelude.{◌≡◌, ℕ, cond, List, [], ◌∷◌, length, filter, Option, Result, Ok, Err, refl}
 use Rattle.std.proofs.Common.{ap, ◌∙◌}
-use Rattle.mc_model_machine.specs.Text.{◌>>=◌}
+use Rattle.mc_model_text.specs.Text.{◌>>=◌}
 use Rattle.mc_model_machine.specs.Chain.{Turn}
 use Rattle.mc_model_play.specs.Play.{LineResult, Step}
 use Rattle.mc_explore.specs.Rules.{Move, Occasion, AtResult, AtTurn, OnRule}

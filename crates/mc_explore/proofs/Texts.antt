@@ -4,7 +4,7 @@ use Rattle.std.specs.Fmt.{digits, digits_onto, digit_glyph}
 use Rattle.std.proofs.Common.{arith, ap, sym, ◌∙◌}
 use Rattle.std.proofs.lemmas.Bool.{and_from, and_parts, lt-ltb, eq-eqb, ne_eqb, cond_both}
 use Rattle.std.proofs.lemmas.List.{append_assoc}
-use Rattle.mc_model_machine.specs.Text.{every}
+use Rattle.mc_model_text.specs.Text.{every}
 use Rattle.mc_model_play.specs.Play.{State}
 use Rattle.mc_explore.specs.States.{play_of_deck}
 use Rattle.mc_explore.specs.Search.{Ending, All, AtDepth, Broken, TooMany, Search, depth_lines, sums_text, ending_text, most_states, search_of, text_within, explore_text}

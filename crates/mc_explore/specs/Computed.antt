@@ -15,7 +15,7 @@ use Rattle.mc_model_machine.specs.Frame.{bytes_at, write_effect, too_many}
 use Rattle.mc_model_machine.specs.Primitives.{later_causes, prim_effect}
 use Rattle.mc_model_machine.specs.Row.{causes, effect, row}
 use Rattle.mc_model_machine.specs.Chain.{turn_of_chain, run_of_chain}
-use Rattle.mc_model_machine.specs.TurnText.{turn_line}
+use Rattle.mc_model_text.specs.TurnText.{turn_line}
 use Rattle.mc_model_card.specs.Manager.{manage}
 use Rattle.mc_model_card.specs.Commands.{command}
 use Rattle.mc_model_play.specs.Play.{send, play_at_power, step, plays, moves_of, steady_failures}

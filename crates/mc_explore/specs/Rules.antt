@@ -2,7 +2,7 @@
 -- application, and what a move does to an allowance.
 use Rattle.std.specs.Prelude.{ℕ, Bool, true, false, not, ◌&&◌, List, [], ◌∷◌, ◌++◌, bytes_eq, codes, is_none, is_some, ok_or, Option, Some, None, Result, Ok, Err}
 use Rattle.mc_model_device.specs.Bytes.{lookup}
-use Rattle.mc_model_machine.specs.Text.{◌>>=◌, ok_as, err_as, only_if, is_blank, is_empty, first_cut, trim, trim_front, lines, with_numbers, fields}
+use Rattle.mc_model_text.specs.Text.{◌>>=◌, ok_as, err_as, only_if, is_blank, is_empty, first_cut, trim, trim_front, lines, with_numbers, fields}
 use Rattle.mc_model_play.specs.declared.deck.DeckCause.{DeckCause}
 use Rattle.mc_model_play.specs.declared.deck.DeckCause.TheVariants.{BadLine, NameTwice, UnknownName}
 use Rattle.mc_model_play.specs.DeckGrammar.{DeckLine, Stated, Says, Opens, Word, PowerWord, SelectWord, DeleteWord, ApduWord, statement_of, name_field, number_field, is_end, deck_read}

@@ -1,7 +1,7 @@
 -- The search through all states, breadth first, and the text that it writes.
 use Rattle.std.specs.Prelude.{ℕ, zero, suc, ◌+◌, Bool, true, false, nat_lt, List, [], ◌∷◌, ◌++◌, length, reverse, codes, decimal, Result, Ok, Err}
-use Rattle.mc_model_machine.specs.Text.{◌>>=◌}
-use Rattle.mc_model_machine.specs.Listing.{hex_text}
+use Rattle.mc_model_text.specs.Text.{◌>>=◌}
+use Rattle.mc_model_text.specs.Listing.{hex_text}
 use Rattle.mc_model_device.specs.PowerUp.{Base, OnCard, AtFault}
 use Rattle.mc_model_play.specs.DeckGrammar.{DeckLine}
 use Rattle.mc_model_play.specs.DeckGrammar as line

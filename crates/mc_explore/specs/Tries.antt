@@ -3,9 +3,9 @@
 use Rattle.std.specs.Prelude.{ℕ, zero, suc, ◌+◌, ◌-◌, Bool, true, false, cond, nat_le, ◌==◌, List, [], ◌∷◌, length, drop, filter, map, flat_map, replicate, bytes_eq, unwrap_or, Option, Some, None, Result, Ok, Err}
 use Rattle.mc_model_device.specs.Bytes.{zeros, lookup}
 use Rattle.mc_model_device.specs.Image.{Two, opening}
-use Rattle.mc_model_machine.specs.Text.{◌>>=◌, ok_as, first_cut}
+use Rattle.mc_model_text.specs.Text.{◌>>=◌, ok_as, first_cut}
 use Rattle.mc_model_machine.specs.Chain.{Turn}
-use Rattle.mc_model_machine.specs.TurnText.{turn_line}
+use Rattle.mc_model_text.specs.TurnText.{turn_line}
 use Rattle.mc_model_play.specs.DeckGrammar.{DeckLine}
 use Rattle.mc_model_play.specs.DeckGrammar as line
 use Rattle.mc_model_play.specs.Play.{Live, Running, Unpowered, Muted, State, Step, LineResult, step, moves_of}

@@ -3,11 +3,11 @@ use Rattle.std.proofs.Common.{◌≡◌, ℕ, ◌+◌, Bool, true, false, cond, 
 use Rattle.std.specs.Prelude.{◌==◌, codes, decimal, filter}
 use Rattle.std.proofs.lemmas.Bool.{and_from, and_parts, ne_eqb, not-true}
 use Rattle.mc_model_device.specs.Bytes.{bytes2}
-use Rattle.mc_model_machine.specs.Text.{begins, pieces, pieces_with_character, every}
+use Rattle.mc_model_text.specs.Text.{begins, pieces, pieces_with_character, every}
 use Rattle.mc_model_machine.specs.Chain.{Turn}
-use Rattle.mc_model_machine.specs.Listing.{hex_text}
+use Rattle.mc_model_text.specs.Listing.{hex_text}
 use Rattle.mc_model_play.specs.Transcript.{text_of_result, line_text, transcript}
-use Rattle.mc_model_machine.specs.TurnText.{ins_text, bit_text, turn_line, turn_lines}
+use Rattle.mc_model_text.specs.TurnText.{ins_text, bit_text, turn_line, turn_lines}
 use Rattle.mc_model_play.specs.TraceText.{shown_turns, trace_text, is_turn_line, joined_lines, TraceLaw}
 use Rattle.mc_model_play.specs.Play.{LineResult, Step}
 use Rattle.mc_family.proofs.FlatTexts.{unfed, unmarked, Flat, flat_append, flat_decimal, unmarked_decimal, flat_hex, flat_ins, flat_bit, flat_shown}

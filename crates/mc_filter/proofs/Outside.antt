@@ -1,7 +1,7 @@
 -- The promises of a program at its status, and that a job is complete if no call of source or sink fails.
 use Rattle.std.proofs.Common.{◌≡◌, ℕ, List, Result, Ok, Err, refl, sym, subst, inl, inr}
-use Rattle.mc_base.specs.Streams.{one_more}
-use Rattle.mc_base.specs.declared.refusals.WriteFault.{WriteFault as Fault}
+use Rattle.mc_streams.specs.Streams.{one_more}
+use Rattle.mc_streams.specs.declared.refusals.WriteFault.{WriteFault as Fault}
 use Rattle.mc_filter.specs.declared.status.Status.{Status}
 use Rattle.mc_filter.specs.declared.status.Status.TheVariants.{Done, Failed, NoForm, ReadFault, WriteFault, NoMemory}
 use Rattle.mc_filter.specs.Statuses.{status_after_writing}

@@ -1,8 +1,8 @@
 -- The text that a filter's job writes, and the number of its status.
 use Rattle.std.proofs.Common.{◌≡◌, ◌≤◌, ℕ, zero, suc, cond, nat_eq, List, Result, Ok, Err, OnErr, OnOk, refl, arith, ap, sym, subst, ◌∙◌}
 use Rattle.mc_model_device.specs.Counts.{Rose}
-use Rattle.mc_base.specs.Streams.{Grew, GrewByPart}
-use Rattle.mc_base.specs.declared.refusals.WriteFault.{WriteFault as Fault}
+use Rattle.mc_streams.specs.Streams.{Grew, GrewByPart}
+use Rattle.mc_streams.specs.declared.refusals.WriteFault.{WriteFault as Fault}
 use Rattle.mc_text.specs.Texts.{Puts, Sunk}
 use Rattle.mc_filter.specs.declared.status.Status.{Status}
 use Rattle.mc_filter.specs.declared.status.Status.TheVariants.{Done, Failed, NoForm, ReadFault, WriteFault, NoMemory}

@@ -2,8 +2,8 @@
 use Rattle.std.specs.Prelude.{◌≡◌, ℕ, ◌+◌, ◌≤◌, List, length, Option, Some, None, Result, Ok, Err, ⊤}
 use Rattle.mc_model_play.specs.DeckGrammar.{DeckLine}
 use Rattle.mc_model_play.specs.declared.deck.DeckCause.{DeckCause}
-use Rattle.mc_base.specs.Streams.{one_more, Took, AtEnd, TookAtMost, TookMore}
-use Rattle.mc_base.specs.declared.source.Source as source
+use Rattle.mc_streams.specs.Streams.{one_more, Took, AtEnd, TookAtMost, TookMore}
+use Rattle.mc_streams.specs.declared.source.Source as source
 use Rattle.mc_filter.specs.declared.rejection.Rejection.{Rejection}
 use Rattle.mc_filter.specs.declared.rejection.Rejection.TheVariants as rejection
 use Rattle.mc_filter.specs.Lines.{deck_line, too_long}

@@ -3,9 +3,9 @@
 -- has, which is due, and when a verdict is done.
 use Rattle.std.specs.Prelude.{◌≡◌, ℕ, ◌≤◌, ◌<◌, ◌⊎◌, List, length, Option}
 use Rattle.mc_model_device.specs.Counts.{Rose}
-use Rattle.mc_base.specs.Streams.{one_more, TookMore}
-use Rattle.mc_base.specs.declared.sink.Sink as sink
-use Rattle.mc_base.specs.declared.source.Source as source
+use Rattle.mc_streams.specs.Streams.{one_more, TookMore}
+use Rattle.mc_streams.specs.declared.sink.Sink as sink
+use Rattle.mc_streams.specs.declared.source.Source as source
 use Rattle.mc_text.specs.Texts.{sunk, Sunk}
 use Rattle.mc_filter.specs.declared.status.Status.{Status}
 use Rattle.mc_filter.specs.declared.status.Status.TheVariants.{Done, Failed, NoForm, ReadFault, WriteFault, NoMemory}

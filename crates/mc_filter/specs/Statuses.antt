@@ -1,6 +1,6 @@
 -- The statuses of a filter, and the status after a text is written.
 use Rattle.std.specs.Prelude.{◌≡◌, ℕ, List, Result, Ok, Err}
-use Rattle.mc_base.specs.declared.refusals.WriteFault.{WriteFault as Fault}
+use Rattle.mc_streams.specs.declared.refusals.WriteFault.{WriteFault as Fault}
 use Rattle.mc_text.specs.Texts.{Sunk, Puts}
 use Rattle.mc_filter.specs.declared.rejection.Rejection.{Rejection}
 use Rattle.mc_filter.specs.declared.rejection.Rejection.TheVariants as rejection

@@ -4,7 +4,7 @@ ghost use Rattle.mc_filter.specs.Inputs.{stream, ReadWhole, RejectsRead};
 
 use crate::lines::too_long;
 use crate::rejection::Rejection;
-use mc_base::{ReadAll, Source, read_all};
+use mc_streams::{ReadAll, Source, read_all};
 use std::alloc::Global;
 
 /// The greatest number of bytes of an input.

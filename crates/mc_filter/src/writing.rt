@@ -5,7 +5,7 @@ ghost use Rattle.mc_filter.specs.Statuses.{status_after_writing, RejectionEnds};
 
 use crate::rejection::Rejection;
 use crate::status::Status;
-use mc_base::{Sink, WriteFault, put_all};
+use mc_streams::{Sink, WriteFault, put_all};
 
 /// Returns the status after a text was written: `good`, or `WriteFault` if the sink failed.
 pub fn ended(good: Status, written: Result<(), WriteFault>) -> Status

@@ -1,7 +1,7 @@
 // From instructions to their rows: the table again, in the order of `Ins`.
 ghost use Rattle.std.specs.Prelude.{◌≡◌, ◌≤◌, ◌∷◌, length};
 ghost use Rattle.mc_model_machine.specs.Code.{Shaped, spell};
-ghost use Rattle.mc_model_machine.specs.Listing.{text_of};
+ghost use Rattle.mc_model_text.specs.Listing.{text_of};
 ghost use Rattle.mc_isa.specs.Rows.{operand_bytes, line_of, OperandsInRange};
 
 use Operands::{

@@ -3,7 +3,7 @@ use Rattle.std.proofs.Common.{◌≡◌, ◌+◌, ◌<◌, ◌≤◌, refl, sym,
 use Rattle.std.specs.Prelude.{slice_index_or}
 use Rattle.mc_model_play.specs.Play.{Step}
 use Rattle.mc_asm.proofs.PassLemmas.{no_line}
-use Rattle.mc_base.specs.declared.refusals.WriteFault.{WriteFault}
+use Rattle.mc_streams.specs.declared.refusals.WriteFault.{WriteFault}
 use Rattle.mc_text.specs.Texts.{Sunk, Puts, Writes, Fails}
 use Rattle.mc_text.proofs.TextLemmas.{fails_before, puts_as, puts_then}
 use Rattle.mc_explore.specs.Matching.{fits}

@@ -1,7 +1,7 @@
 -- Lines that are remarks, and lines that are not.
 use Rattle.std.proofs.Common.{◌≡◌, ◌+◌, ◌<◌, refl, sym, ◌∙◌, ap, ℕ, suc, List, [], ◌∷◌, ◌++◌, Bool, true, false, not, Option, Some, None, append_assoc, append-nil, arith}
 use Rattle.std.specs.Prelude.{◌&&◌, ◌==◌, Result, Ok, Err}
-use Rattle.mc_model_machine.specs.Text.{fields, lines, with_numbers}
+use Rattle.mc_model_text.specs.Text.{fields, lines, with_numbers}
 use Rattle.mc_model_play.specs.declared.deck.DeckCause.{DeckCause}
 use Rattle.mc_model_play.specs.DeckGrammar.{Mode, Between, LineTurn, turn_at}
 use Rattle.mc_text.specs.Reading.{next_line}

@@ -6,7 +6,7 @@ use Rattle.mc_model_play.specs.declared.deck.DeckCause.TheVariants.{BadLine, Unk
 use Rattle.mc_model_play.specs.declared.deck.DeckCause.TheVariants as causes
 use Rattle.mc_model_device.specs.Bytes.{lookup}
 use Rattle.mc_model_card.specs.Units.{UnitParts, unit_read}
-use Rattle.mc_model_machine.specs.Text.{◌>>=◌, ok_as, err_as, only_if, begins, fields, lines, with_numbers}
+use Rattle.mc_model_text.specs.Text.{◌>>=◌, ok_as, err_as, only_if, begins, fields, lines, with_numbers}
 use Rattle.mc_model_play.specs.DeckGrammar.{DeckLine, Named, Context, Section, Stated, Says, Opens, Word, FormatWord, PowerWord, UnitWord, AppWord, LoadWord, SelectWord, DeleteWord, DumpWord, ApduWord, BudgetWord, CutWord, FailWord, PokeWord, Mode, Between, Within, LineTurn, statement_of, deck_words, turn_of, between, within, turn_in, turn_at, lines_at_end, deck_lines, deck_read, section_unit, with_unit, is_end, name_field, hex_field, aid_field, fill_field, number_field, new_name}
 use Rattle.mc_model_play.specs.DeckGrammar as line
 use Rattle.mc_lab.specs.Rising.{Rising}

@@ -4,7 +4,7 @@ use Rattle.std.specs.Prelude.{◌==◌, ⊤, bytes_eq, codes, ok_or, IfOk, OnOk}
 use Rattle.std.proofs.lemmas.Bool.{eqb-true}
 use Rattle.mc_model_device.specs.Bytes.{lookup}
 use Rattle.mc_model_device.proofs.MapLemmas.{each_found}
-use Rattle.mc_model_machine.specs.Text.{ok_as, err_as, ◌>>=◌, begins, fields, lines, with_numbers}
+use Rattle.mc_model_text.specs.Text.{ok_as, err_as, ◌>>=◌, begins, fields, lines, with_numbers}
 use Rattle.mc_model_card.specs.Units.{unit_read}
 use Rattle.mc_model_play.specs.declared.deck.DeckCause.{DeckCause}
 use Rattle.mc_model_play.specs.declared.deck.DeckCause.TheVariants.{BadLine, LateLine, UnknownName}

@@ -11,7 +11,7 @@ use Rattle.mc_model_card.specs.Commands.{Command}
 use Rattle.mc_model_card.specs.Items.{StopAt, moves}
 use Rattle.mc_model_play.specs.DeckGrammar.{DeckLine}
 use Rattle.mc_model_play.specs.DeckGrammar as line
-use Rattle.mc_base.specs.declared.refusals.WriteFault.{WriteFault}
+use Rattle.mc_streams.specs.declared.refusals.WriteFault.{WriteFault}
 use Rattle.mc_text.specs.Texts.{Sunk, Puts, Fails, Writes}
 use Rattle.mc_text.proofs.TextLemmas.{puts_as, puts_then, fails_before}
 use Rattle.mc_model_device.proofs.ListLemmas.{length_map as map-length}

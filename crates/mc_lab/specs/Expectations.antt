@@ -1,6 +1,6 @@
 -- Expectations: remarks of a deck that begin with `#>`, each with a pattern for the result of the statement above it.
 use Rattle.std.specs.Prelude.{ℕ, Bool, true, false, cond, not, ◌&&◌, nat_lt, List, [], ◌∷◌, ◌++◌, length, take, drop, filter, flat_map, codes, decimal, Option, Some, None, Result, Ok, Err}
-use Rattle.mc_model_machine.specs.Text.{first_cut, is_blank, pieces}
+use Rattle.mc_model_text.specs.Text.{first_cut, is_blank, pieces}
 use Rattle.mc_model_play.specs.declared.deck.DeckCause.{DeckCause}
 use Rattle.mc_model_play.specs.DeckGrammar.{DeckLine, deck_read}
 use Rattle.mc_model_play.specs.DeckGrammar as line

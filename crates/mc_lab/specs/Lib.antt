@@ -1,4 +1,4 @@
-pub use Rattle.mc_model_machine.specs.Text
+pub use Rattle.mc_model_text.specs.Text
 pub use Rattle.mc_model_play.specs.DeckGrammar
 pub use Rattle.mc_model_play.specs.Play
 pub use Rattle.mc_model_play.specs.Transcript

@@ -10,9 +10,9 @@ use crate::laying::put_laid_out;
 use crate::remark::Remark;
 use itoa::Buffer;
 use mc_asm::NumberedLine;
-use mc_base::{Sink, WriteFault};
 use mc_match::fits;
 use mc_script::Text;
+use mc_streams::{Sink, WriteFault};
 use mc_text::{put, put_number};
 
 // Writes the statement of an expectation that failed, with the number of its line.

@@ -1,13 +1,13 @@
 // Results laid out as patterns.
 ghost use Rattle.std.specs.Prelude.{◌≡◌, ◌+◌, ◌<◌, ◌≤◌, ◌++◌, ◌∷◌, [], length};
 ghost use Rattle.arrayvec.specs.ArrayVec.{array_vec_len};
-ghost use Rattle.mc_model_machine.specs.Text.{is_blank, pieces};
+ghost use Rattle.mc_model_text.specs.Text.{is_blank, pieces};
 ghost use Rattle.mc_model_play.specs.Patterns.{without_blanks};
 ghost use Rattle.mc_text.specs.Texts.{sunk, Puts};
 ghost use Rattle.mc_lab.specs.Expectations.{laid_by, laid_out, lays_out};
 
-use mc_base::{Sink, WriteFault};
 use mc_script::Text;
+use mc_streams::{Sink, WriteFault};
 use mc_text::{cut, cut_blank, is_blank, put};
 
 // Whether results are laid out as a pattern: it has a blank, and no `*`.

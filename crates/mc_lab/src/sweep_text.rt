@@ -6,7 +6,7 @@ ghost use Rattle.mc_text.specs.Texts.{sunk, Puts};
 
 use crate::sweep_word::SweepWord;
 use itoa::Buffer;
-use mc_base::{Sink, WriteFault};
+use mc_streams::{Sink, WriteFault};
 use mc_text::{put, put_decimal};
 
 /// The sums of a sweep: its lines, their writes, the plays that determine their words, and the lines that must be

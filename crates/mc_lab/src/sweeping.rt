@@ -19,8 +19,9 @@ use crate::sweep_play::Laboratory;
 use crate::sweep_text::{Sums, put_sums, put_swept};
 use crate::sweep_trial::{Place, Trials};
 use crate::sweep_word::SweepWord;
-use mc_base::{Aid, NoMemory, Sink, Steps, WriteFault};
+use mc_base::{Aid, NoMemory, Steps};
 use mc_deck::{Deck, Line};
+use mc_streams::{Sink, WriteFault};
 use std::alloc::Global;
 use std::sync::ledger::Ledger;
 

@@ -1,7 +1,7 @@
 -- Texts without blanks, and walks of a pattern along a text.
 use Rattle.std.proofs.Common.{◌≡◌, ℕ, ◌+◌, ◌&&◌, ◌||◌, ◌==◌, refl, sym, ◌∙◌, ap, subst, List, [], ◌∷◌, Bool, true, false, cond, arith}
 use Rattle.std.specs.Prelude.{not}
-use Rattle.mc_model_machine.specs.Text.{is_blank, is_empty, is_within}
+use Rattle.mc_model_text.specs.Text.{is_blank, is_empty, is_within}
 use Rattle.mc_match.specs.Walks.{Parts}
 use Rattle.mc_model_play.specs.Patterns.{is_any, is_star}
 use Rattle.mc_explore.specs.Matching.{some_rest, first_and_rest, fits, matches, plain, small}

@@ -1,6 +1,6 @@
 // The first field of a line, and whether a line is in a section.
 ghost use Rattle.std.specs.Prelude.{◌≡◌, ◌<◌, ◌∷◌, [], false, length, IfSome, MatchOption};
-ghost use Rattle.mc_model_machine.specs.Text.{fields, is_empty};
+ghost use Rattle.mc_model_text.specs.Text.{fields, is_empty};
 ghost use Rattle.mc_model_play.specs.DeckGrammar.{is_end};
 ghost use Rattle.mc_explore.specs.Matching.{plain};
 ghost use Rattle.mc_explore.specs.Rules.{begins_with, stays_inside};

@@ -5,8 +5,8 @@ use Rattle.std.specs.List.{list_any}
 use Rattle.mc_model_machine.specs.declared.instruction.Ins.{Ins}
 use Rattle.mc_model_machine.specs.declared.instruction.DecodeFault.{DecodeFault}
 use Rattle.mc_model_machine.specs.Code.{instruction_at}
-use Rattle.mc_model_machine.specs.StackRows.{height_after, writing, is_plain, is_call, is_conditional, counts, goes_on, jump_target, call_target}
-use Rattle.mc_model_machine.specs.StackShape.{Routine, Main, At, Fact, fact, FactLook, Bad, Stands, look}
+use Rattle.mc_model_stack.specs.StackRows.{height_after, writing, is_plain, is_call, is_conditional, counts, goes_on, jump_target, call_target}
+use Rattle.mc_model_stack.specs.StackShape.{Routine, Main, At, Fact, fact, FactLook, Bad, Stands, look}
 
 -- whether two routines are equal
 abbrev pub is_same_routine : Routine → Routine → Bool

@@ -20,9 +20,9 @@ use Rattle.mc_model_card.specs.Manager.{manage}
 use Rattle.mc_model_play.specs.Play.{State, Step, start, send, play_at_power, step, plays, moves_of, steady_failures, BeforePower, AfterPower, last_state}
 use Rattle.mc_model_card.specs.Commands.{command}
 use Rattle.mc_model_device.specs.PowerUp.{Base, OnCard, AtFault}
-use Rattle.mc_model_machine.specs.Listing.{hex_text}
+use Rattle.mc_model_text.specs.Listing.{hex_text}
 use Rattle.mc_model_play.specs.Transcript.{transcript}
-use Rattle.mc_model_machine.specs.TurnText.{turn_line}
+use Rattle.mc_model_text.specs.TurnText.{turn_line}
 use Rattle.mc_model_play.specs.TraceText.{trace_text}
 use Rattle.mc_model_play.specs.DeckGrammar.{DeckLine, deck_read}
 use Rattle.mc_model_play.specs.Generator.{summary}

@@ -2,7 +2,7 @@
 use Rattle.std.specs.Prelude.{ℕ, List, [], ◌∷◌, flat_map, Option, Result, Ok, Err}
 use Rattle.mc_model_play.specs.declared.deck.DeckCause.{DeckCause}
 use Rattle.mc_model_play.specs.DeckGrammar.{DeckLine, Load, deck_read}
-use Rattle.mc_model_machine.specs.StackShape.{Main, fact, look}
+use Rattle.mc_model_stack.specs.StackShape.{Main, fact, look}
 use Rattle.mc_model_examples.specs.Checked.{facts_in, calls_in, verdict_of}
 
 -- the greatest depth of the stack of code that is accepted, if 120 rounds find all facts

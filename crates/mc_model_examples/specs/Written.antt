@@ -2,8 +2,8 @@
 use Rattle.std.specs.Prelude.{ℕ, zero, suc, not, List, [], ◌∷◌, ◌++◌, take, filter, unwrap_or, Result}
 use Rattle.std.specs.Fmt.{digits}
 use Rattle.mc_model_machine.specs.declared.instruction.DecodeFault.{DecodeFault}
-use Rattle.mc_model_machine.specs.Listing.{listing_of_code}
-use Rattle.mc_model_machine.specs.Text.{hex_bytes, is_blank}
+use Rattle.mc_model_text.specs.Listing.{listing_of_code}
+use Rattle.mc_model_text.specs.Text.{hex_bytes, is_blank}
 
 -- the bytes that hexadecimal digits spell, with blanks anywhere
 abbrev pub hex : List ℕ → List ℕ

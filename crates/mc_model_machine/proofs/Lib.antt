@@ -1,2 +1,1 @@
 pub mod ModesLemmas
-pub mod TextLemmas

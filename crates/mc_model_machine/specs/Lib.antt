@@ -1,8 +1,5 @@
 pub mod Apdu
 pub mod Code
-pub mod Listing
-pub mod Text
-pub mod Assembly
 pub mod Frame
 pub mod Blocks
 pub mod Modes
@@ -11,7 +8,4 @@ pub mod Aes
 pub mod Primitives
 pub mod Row
 pub mod Chain
-pub mod StackRows
-pub mod StackShape
-pub mod TurnText
 pub mod Words

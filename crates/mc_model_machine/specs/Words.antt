@@ -1,10 +1,5 @@
--- The words that are printed for the causes of the assembler, the decoder and the stack checker, and the numbers of
--- abends.
+-- The words that are printed for the causes of the decoder, and the numbers of abends.
 use Rattle.std.specs.Prelude.{ℕ, List, codes}
-use Rattle.mc_model_machine.specs.declared.assembler.AsmCause.{AsmCause}
-use Rattle.mc_model_machine.specs.declared.assembler.AsmCause.TheVariants as asm
-use Rattle.mc_model_machine.specs.declared.checker.CheckCause.{CheckCause}
-use Rattle.mc_model_machine.specs.declared.checker.CheckCause.TheVariants as check
 use Rattle.mc_model_machine.specs.declared.instruction.DecodeFault.{DecodeFault}
 use Rattle.mc_model_machine.specs.declared.instruction.DecodeFault.TheVariants as decode
 use Rattle.mc_model_machine.specs.declared.machine.Abend.{Abend}
@@ -14,30 +9,6 @@ use Rattle.mc_model_machine.specs.declared.machine.Abend.TheVariants.{A01, A02, 
 abbrev pub decode_word : DecodeFault → List ℕ
 decode_word decode.Undefined = codes "Undefined"
 decode_word decode.Past = codes "Past"
-
--- the printed word of why a line of an assembly text is refused
-abbrev pub asm_word : AsmCause → List ℕ
-asm_word asm.UnknownWord = codes "UnknownWord"
-asm_word asm.BadOperands = codes "BadOperands"
-asm_word asm.BadNumber = codes "BadNumber"
-asm_word asm.OutOfRange = codes "OutOfRange"
-asm_word asm.LabelTwice = codes "LabelTwice"
-asm_word asm.TooLong = codes "TooLong"
-asm_word asm.UnknownLabel = codes "UnknownLabel"
-asm_word asm.FarBranch = codes "FarBranch"
-
--- the printed word of why the stack checker refuses code
-abbrev pub check_word : CheckCause → List ℕ
-check_word check.Undefined = codes "Undefined"
-check_word check.Past = codes "Past"
-check_word check.Indirect = codes "Indirect"
-check_word check.Returns = codes "Returns"
-check_word check.Under = codes "Under"
-check_word check.Target = codes "Target"
-check_word check.Recursive = codes "Recursive"
-check_word check.Heights = codes "Heights"
-check_word check.Wild = codes "Wild"
-check_word check.Deep = codes "Deep"
 
 -- the number of an abend
 abbrev pub abend_code : Abend → ℕ

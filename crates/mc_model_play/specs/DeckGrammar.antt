@@ -7,9 +7,9 @@ use Rattle.mc_model_play.specs.declared.deck.DeckCause.TheVariants as causes
 use Rattle.mc_model_card.specs.declared.unit.UnitRefusal.{UnitRefusal}
 use Rattle.mc_model_card.specs.declared.unit.UnitRefusal.TheVariants.{NoCode, TooLarge}
 use Rattle.mc_model_device.specs.Bytes.{lookup, zeros}
-use Rattle.mc_model_machine.specs.Text.{◌>>=◌, ok_as, err_as, only_if, begins, lines, with_numbers, fields, is_within, is_name, decimal_number, hex_bytes}
+use Rattle.mc_model_text.specs.Text.{◌>>=◌, ok_as, err_as, only_if, begins, lines, with_numbers, fields, is_within, is_name, decimal_number, hex_bytes}
 use Rattle.mc_model_card.specs.Units.{UnitParts, unit_read, made_dir, made_fci}
-use Rattle.mc_model_machine.specs.Assembly.{assembled_lines}
+use Rattle.mc_model_text.specs.Assembly.{assembled_lines}
 
 -- a line of a deck: a statement that was read; Named is one that names a unit
 pub data DeckLine : Type 0 where

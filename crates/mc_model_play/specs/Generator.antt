@@ -2,7 +2,7 @@
 use Rattle.std.specs.Prelude.{ℕ, zero, suc, ◌+◌, ◌*◌, ◌/◌, ◌%◌, ◌^◌, Bool, true, false, cond, nat_lt, ◌==◌, List, [], ◌∷◌, ◌++◌, length, filter, filter_map, flat_map, codes, decimal}
 use Rattle.mc_model_device.specs.Bytes.{bytes, zeros}
 use Rattle.mc_model_card.specs.Units.{UnitParts}
-use Rattle.mc_model_machine.specs.Text.{with_numbers}
+use Rattle.mc_model_text.specs.Text.{with_numbers}
 use Rattle.mc_model_machine.specs.Chain.{Reply, Abended}
 use Rattle.mc_model_play.specs.Play.{Step, LineResult, Ready, OffAt, FailureStop, NoCard, Answered}
 use Rattle.mc_model_play.specs.Transcript.{text_of_result}

@@ -1,6 +1,6 @@
 -- Patterns: `?` is any one character, `*` any characters or none, all else itself; blanks are nothing.
 use Rattle.std.specs.Prelude.{ℕ, Bool, true, false, cond, not, ◌&&◌, ◌||◌, ◌==◌, List, [], ◌∷◌, filter}
-use Rattle.mc_model_machine.specs.Text.{is_blank, is_empty}
+use Rattle.mc_model_text.specs.Text.{is_blank, is_empty}
 
 -- whether a character of a pattern matches any characters or none
 abbrev pub is_star : ℕ → Bool

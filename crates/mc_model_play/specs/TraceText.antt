@@ -1,15 +1,15 @@
 -- The line of each executed instruction, and the transcript with those lines.
 use Rattle.std.specs.Prelude.{◌≡◌, ℕ, ◌+◌, ◌-◌, Bool, cond, not, nat_le, ◌==◌, List, [], ◌∷◌, ◌++◌, filter, Option, Some, None, codes}
-use Rattle.mc_model_machine.specs.TurnText.{turn_lines}
+use Rattle.mc_model_text.specs.TurnText.{turn_lines}
 use Rattle.mc_model_machine.specs.declared.instruction.Ins.{Ins}
 use Rattle.mc_model_device.specs.Bytes.{bytes2}
 use Rattle.mc_model_device.specs.Image.{Two}
 use Rattle.mc_model_device.specs.Stopped.{cost}
-use Rattle.mc_model_machine.specs.Listing.{text_of, hex_text}
+use Rattle.mc_model_text.specs.Listing.{text_of, hex_text}
 use Rattle.mc_model_machine.specs.Chain.{Turn}
 use Rattle.mc_model_card.specs.Items.{StopAt}
 use Rattle.mc_model_play.specs.Play.{Step}
-use Rattle.mc_model_machine.specs.Text.{begins, pieces}
+use Rattle.mc_model_text.specs.Text.{begins, pieces}
 use Rattle.mc_model_play.specs.Transcript.{plain_text, texts, transcript}
 
 -- the turns before the one whose atomic write a stop at write k hits

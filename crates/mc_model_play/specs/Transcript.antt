@@ -1,7 +1,7 @@
 -- The text that a play writes: for each line that has a result its number, a blank, the result and a line feed.
 use Rattle.std.specs.Prelude.{ℕ, ◌/◌, ◌%◌, List, [], ◌∷◌, ◌++◌, Option, Some, None, codes, decimal}
 use Rattle.mc_model_machine.specs.Words.{abend_code}
-use Rattle.mc_model_machine.specs.Listing.{hex_text, hex_digit}
+use Rattle.mc_model_text.specs.Listing.{hex_text, hex_digit}
 use Rattle.mc_model_device.specs.Words.{cause_text}
 use Rattle.mc_model_device.specs.declared.cause.Cause.{Cause}
 use Rattle.mc_model_device.specs.Bytes.{bytes2}

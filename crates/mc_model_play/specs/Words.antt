@@ -1,7 +1,7 @@
 -- The words that are printed for the causes that refuse a line of a deck.
 use Rattle.std.specs.Prelude.{ℕ, List, codes}
 use Rattle.mc_model_card.specs.Words.{unit_word}
-use Rattle.mc_model_machine.specs.Words.{asm_word}
+use Rattle.mc_model_text.specs.AsmWords.{asm_word}
 use Rattle.mc_model_play.specs.declared.deck.DeckCause.{DeckCause}
 use Rattle.mc_model_play.specs.declared.deck.DeckCause.TheVariants as deck
 

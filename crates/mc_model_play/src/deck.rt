@@ -2,7 +2,7 @@ ghost use Rattle.std.specs.Prelude.{◌≡◌};
 ghost use Rattle.mc_model_play.specs.Words.{deck_word};
 
 use mc_model_card::UnitRefusal;
-use mc_model_machine::AsmCause;
+use mc_model_text::AsmCause;
 
 /// Why a line of a deck is refused.
 #[derive(Clone, Copy, Debug, PartialEq, Eq)]

@@ -9,7 +9,7 @@ mod rule;
 ghost use Rattle.std.specs.Prelude.{◌≡◌, ◌<◌, ◌≤◌, ℕ, List, length, Ok, Some};
 ghost use Rattle.mc_model_device.specs.Bytes.{AreBytes};
 ghost use Rattle.mc_model_machine.specs.Apdu.{ApduParts, apdu_read};
-ghost use Rattle.mc_model_machine.specs.Assembly.{assembly_of};
+ghost use Rattle.mc_model_text.specs.Assembly.{assembly_of};
 ghost use Rattle.mc_promise.specs.Along.{FormattedLaw};
 ghost use Rattle.mc_promise.specs.Counter.{CounterLaw, counter_code, counter_text};
 

@@ -11,7 +11,7 @@ use Rattle.mc_model_device.specs.Image.{targets_1, targets_2, pairs}
 use Rattle.mc_model_device.specs.Layout.{layout, step_of, bad_block, bad_record}
 use Rattle.mc_model_card.specs.Units.{name_of}
 use Rattle.mc_model_machine.specs.Apdu.{apdu_read}
-use Rattle.mc_model_machine.specs.Assembly.{assembly_of}
+use Rattle.mc_model_text.specs.Assembly.{assembly_of}
 use Rattle.mc_model_machine.specs.Frame.{bytes_at, write_effect, too_many}
 use Rattle.mc_model_machine.specs.Primitives.{later_causes, prim_effect}
 use Rattle.mc_model_machine.specs.Row.{causes, effect, row}

@@ -7,7 +7,7 @@ mod purse;
 mod worked;
 
 ghost use Rattle.std.specs.Prelude.{◌≡◌, Ok};
-ghost use Rattle.mc_model_machine.specs.Assembly.{assembly_of};
+ghost use Rattle.mc_model_text.specs.Assembly.{assembly_of};
 ghost use Rattle.mc_purse.specs.Purse.{purse_code, purse_text};
 ghost use Rattle.mc_purse.specs.Laws.{BooksLaw, GuessesLaw, RightLaw, SessionsLaw};
 

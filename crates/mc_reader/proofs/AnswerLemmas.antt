@@ -4,11 +4,11 @@ use Rattle.std.specs.Prelude.{option_map}
 use Rattle.mc_model_device.specs.Device.{DeviceState}
 use Rattle.mc_model_device.specs.Card.{App}
 use Rattle.mc_model_play.specs.Play.{static_of}
-use Rattle.mc_base.specs.Streams.{Grew}
-use Rattle.mc_base.proofs.StreamsLemmas.{grew_append}
+use Rattle.mc_streams.specs.Streams.{Grew}
+use Rattle.mc_streams.proofs.StreamsLemmas.{grew_append}
 use Rattle.mc_text.specs.Texts.{Sunk}
 use Rattle.mc_text.specs.Texts as text
-use Rattle.mc_base.proofs.StreamsLemmas.{rose_later}
+use Rattle.mc_streams.proofs.StreamsLemmas.{rose_later}
 use Rattle.mc_script.specs.declared.answer.Answer.{Answer}
 use Rattle.mc_script.specs.declared.answer.Answer.TheVariants as answer
 use Rattle.mc_script.specs.declared.player.Player.{Player}

@@ -4,9 +4,9 @@ use Rattle.std.specs.List.{AllByRecursion}
 use Rattle.mc_model_device.specs.Counts.{Rose, last_count}
 use Rattle.mc_model_device.specs.Device.{DeviceState, BenchState}
 use Rattle.mc_model_play.specs.Play.{State, FailedWrite, LineResult}
-use Rattle.mc_base.specs.Streams.{Took}
-use Rattle.mc_base.specs.declared.refusals.WriteFault.{WriteFault}
-use Rattle.mc_base.proofs.StreamsLemmas.{took_append, took_none, grew_none, rose_later}
+use Rattle.mc_streams.specs.Streams.{Took}
+use Rattle.mc_streams.specs.declared.refusals.WriteFault.{WriteFault}
+use Rattle.mc_streams.proofs.StreamsLemmas.{took_append, took_none, grew_none, rose_later}
 use Rattle.mc_text.specs.Texts.{Sunk}
 use Rattle.mc_script.specs.declared.player.Player.{Player}
 use Rattle.mc_script.specs.Players.{IsPlayerAt}

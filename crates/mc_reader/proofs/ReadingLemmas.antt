@@ -5,8 +5,8 @@ use Rattle.std.proofs.lemmas.Bool.{lt-leb}
 use Rattle.std.proofs.lemmas.List.{take-append-le, length-take-le, take_all}
 use Rattle.std.proofs.Math.Seq.{take-append-add}
 use borrow.Rule.Slice.PartMut.{put_mid, post_of}
-use Rattle.mc_base.specs.Streams.{Took, AtEnd}
-use Rattle.mc_base.proofs.StreamsLemmas.{took_append}
+use Rattle.mc_streams.specs.Streams.{Took, AtEnd}
+use Rattle.mc_streams.proofs.StreamsLemmas.{took_append}
 use Rattle.mc_reader.specs.Frames.{first_frame}
 use Rattle.mc_reader.specs.Readings.{TookPart, TookShort}
 

@@ -5,7 +5,7 @@ use Rattle.std.specs.List.{AllByRecursion}
 use Rattle.std.proofs.lemmas.List.{drop_at, map-append}
 use Rattle.mc_model_device.specs.Bytes.{AreBytes}
 use Rattle.mc_model_device.specs.PowerUp.{AtFault, Base, OnCard}
-use Rattle.mc_model_machine.specs.Text.{◌>>=◌, lines, ok_as, with_numbers}
+use Rattle.mc_model_text.specs.Text.{◌>>=◌, lines, ok_as, with_numbers}
 use Rattle.mc_model_play.specs.declared.deck.DeckCause.{DeckCause}
 use Rattle.mc_model_play.specs.DeckGrammar.{deck_lines, deck_read, turn_at, Between, Context, DeckLine, LineTurn, Mode, Within}
 use Rattle.mc_model_play.specs.DeckGrammar as line

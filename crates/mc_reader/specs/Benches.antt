@@ -3,7 +3,7 @@
 use Rattle.std.specs.Prelude.{ℕ, Option, Result}
 use Rattle.mc_model_play.specs.DeckGrammar.{DeckLine}
 use Rattle.mc_model_play.specs.Play.{State}
-use Rattle.mc_base.specs.declared.refusals.WriteFault.{WriteFault}
+use Rattle.mc_streams.specs.declared.refusals.WriteFault.{WriteFault}
 use Rattle.mc_text.specs.Texts.{Sunk}
 use Rattle.mc_script.specs.declared.answer.Answer.{Answer}
 use Rattle.mc_script.specs.declared.player.Player.{Player}

@@ -8,8 +8,8 @@ use Rattle.mc_model_play.specs.DeckGrammar.{DeckLine}
 use Rattle.mc_model_play.specs.Play.{FailedWrite, Step, plays, start}
 use Rattle.mc_model_play.specs.Laws.{HoldsOf}
 use Rattle.mc_model_play.specs.ReadyAgain.{AllFitJournal, ReadyAgain}
-use Rattle.mc_base.specs.Streams.{Took, AtEnd, Grew}
-use Rattle.mc_base.specs.declared.sink.Sink as sink
+use Rattle.mc_streams.specs.Streams.{Took, AtEnd, Grew}
+use Rattle.mc_streams.specs.declared.sink.Sink as sink
 use Rattle.mc_text.specs.Texts.{sunk, Sunk}
 use Rattle.mc_script.specs.Plays.{Bench, Played}
 use Rattle.mc_check.specs.Plays.{KeepToVerdicts}

@@ -11,9 +11,9 @@ ghost use Rattle.mc_reader.specs.Results.{answer_bytes, reply_to_frame, answer_f
 use crate::request::Request;
 use arrayvec::ArrayVec;
 use mc_apdu::Reply;
-use mc_base::{Sink, WriteFault};
 use mc_machine::Outcome;
 use mc_script::Answer;
+use mc_streams::{Sink, WriteFault};
 use mc_text::put;
 
 /// The answer to reset (ISO/IEC 7816-3): T=0 and T=1, the historical bytes MELCARD, and the check byte.

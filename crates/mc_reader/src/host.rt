@@ -6,9 +6,9 @@ ghost use Rattle.mc_reader.specs.Moments.{Moment, Records};
 ghost use Rattle.mc_reader.specs.Readings.{ReadsFrame};
 
 use crate::reading::{FrameFault, read_frame};
-use mc_base::{Sink, Source};
 use mc_nvm::Bench;
 use mc_script::Player;
+use mc_streams::{Sink, Source};
 
 /// The host of a session, which sends one frame at each call. It is passed the card and the sink of the answers at
 /// that moment, and may record what it sees. Each source is a host, and looks at neither.

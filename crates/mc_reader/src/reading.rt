@@ -1,10 +1,10 @@
 // Frames read from a source, and no byte after them.
 ghost use Rattle.std.specs.Prelude.{◌≡◌, ◌<◌, ◌≤◌, length, take, IfOk, OnErr};
 ghost use Rattle.mc_model_device.specs.Counts.{Rose};
-ghost use Rattle.mc_base.specs.Streams.{Took, AtEnd};
+ghost use Rattle.mc_streams.specs.Streams.{Took, AtEnd};
 ghost use Rattle.mc_reader.specs.Readings.{TookLess, ReadsFrame};
 
-use mc_base::{Failed, Source};
+use mc_streams::{Failed, Source};
 
 /// Why the bytes that were read are not a frame.
 #[derive(Clone, Copy, Debug, PartialEq, Eq)]

@@ -1,4 +1,4 @@
-use mc_base::WriteFault;
+use mc_streams::WriteFault;
 use std::alloc::AllocError;
 
 /// Why a session ended before the end of its input.

@@ -17,10 +17,11 @@ use crate::host::Host;
 use crate::reading::FrameFault;
 use crate::request::Request;
 use crate::serve_error::ServeError;
-use mc_base::{Sink, Steps, WriteFault};
+use mc_base::Steps;
 use mc_deck::Deck;
 use mc_nvm::Bench;
 use mc_script::{Answer, Player, Silent};
+use mc_streams::{Sink, WriteFault};
 use std::alloc::Global;
 use std::sync::ledger::Ledger;
 

@@ -3,7 +3,7 @@ use Rattle.std.proofs.Common.{◌≡◌, ℕ, List, [], ◌∷◌, ◌++◌, Boo
 use Rattle.std.specs.Prelude.{◌==◌, bytes_eq, codes, is_some, ok_or}
 use Rattle.std.proofs.lemmas.Slice.Eq.{bytes_eq-Decides}
 use Rattle.mc_model_device.specs.Bytes.{lookup}
-use Rattle.mc_model_machine.specs.Text.{◌>>=◌, err_as, fields, first_cut, halves_with_character, lines, ok_as, with_numbers}
+use Rattle.mc_model_text.specs.Text.{◌>>=◌, err_as, fields, first_cut, halves_with_character, lines, ok_as, with_numbers}
 use Rattle.mc_model_play.specs.declared.deck.DeckCause.{DeckCause}
 use Rattle.mc_model_play.specs.declared.deck.DeckCause.TheVariants.{BadLine}
 use Rattle.mc_model_play.specs.DeckGrammar.{aid_field, between, deck_lines, deck_read, hex_field, statement_of, turn_of, ApduWord, Between, Context, DeckLine, DeleteWord, PowerWord, Says, SelectWord, Stated, Word}

@@ -3,7 +3,7 @@ use Rattle.std.proofs.Common.{◌≡◌, ℕ, suc, List, [], ◌∷◌, ◌++◌
 use Rattle.std.specs.Prelude.{bytes_eq, is_none, is_some, option_map}
 use Rattle.std.proofs.lemmas.Slice.Eq.{bytes_eq-Decides}
 use Rattle.mc_model_device.specs.Bytes.{lookup}
-use Rattle.mc_model_machine.specs.Text.{◌>>=◌, fields, ok_as, only_if}
+use Rattle.mc_model_text.specs.Text.{◌>>=◌, fields, ok_as, only_if}
 use Rattle.mc_model_play.specs.declared.deck.DeckCause.{DeckCause}
 use Rattle.mc_model_play.specs.DeckGrammar.{DeckLine}
 use Rattle.mc_model_play.specs.declared.deck.DeckCause.TheVariants.{NameTwice, UnknownName}

@@ -2,7 +2,7 @@
 use Rattle.std.proofs.Common.{◌≡◌, ℕ, List, [], ◌∷◌, ◌++◌, Bool, true, false, not, length, Option, Some, None, Ok, Err, append-nil, append_assoc, arith, refl, sym, ap, subst, ◌∙◌}
 use Rattle.std.specs.Prelude.{nat_eq}
 use Rattle.mc_model_device.specs.Bytes.{lookup}
-use Rattle.mc_model_machine.specs.Text.{fields, is_blank, is_empty, only_if}
+use Rattle.mc_model_text.specs.Text.{fields, is_blank, is_empty, only_if}
 use Rattle.mc_model_play.specs.declared.deck.DeckCause.TheVariants.{BadLine}
 use Rattle.mc_explore.specs.Matching.{plain, small}
 use Rattle.mc_explore.specs.Rules.{full_parts, parts_at, parts_of, with_front, Parts}

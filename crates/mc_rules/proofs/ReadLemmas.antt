@@ -2,7 +2,7 @@
 use Rattle.std.proofs.Common.{◌≡◌, ◌+◌, ◌≤◌, ◌<◌, ℕ, suc, List, [], ◌∷◌, ◌++◌, Bool, true, false, cond, length, Some, None, Result, Ok, Err, arith, add-one, refl, sym, ap, subst, ◌∙◌}
 use Rattle.std.specs.Prelude.{◌==◌, bytes_eq, codes, ok_or}
 use Rattle.mc_model_device.specs.Bytes.{lookup}
-use Rattle.mc_model_machine.specs.Text.{◌>>=◌, err_as, fields, lines, ok_as, trim, with_numbers}
+use Rattle.mc_model_text.specs.Text.{◌>>=◌, err_as, fields, lines, ok_as, trim, with_numbers}
 use Rattle.mc_model_play.specs.declared.deck.DeckCause.{DeckCause}
 use Rattle.mc_model_play.specs.declared.deck.DeckCause.TheVariants.{BadLine}
 use Rattle.mc_model_play.specs.DeckGrammar.{deck_lines, deck_read, turn_at, turn_in, DeckLine, LineTurn, Mode}

@@ -3,7 +3,7 @@ use Rattle.std.proofs.Common.{◌≡◌, ℕ, zero, suc, ◌-◌, List, [], ◌�
 use Rattle.std.specs.Prelude.{bytes_eq, nat_le, option_and_then, option_map, slice_get, slice_index_or, slice_set, unwrap_or}
 use Rattle.std.proofs.lemmas.Slice.Eq.{bytes_eq-Decides}
 use Rattle.mc_model_device.specs.Bytes.{lookup}
-use Rattle.mc_model_machine.specs.Text.{◌>>=◌}
+use Rattle.mc_model_text.specs.Text.{◌>>=◌}
 use Rattle.mc_model_play.specs.Play.{Step}
 use Rattle.mc_explore.specs.Rules as model
 use Rattle.mc_explore.specs.Rules.{Allows, Spends}

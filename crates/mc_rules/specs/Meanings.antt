@@ -1,7 +1,7 @@
 -- The rules of a deck as the code has them, and the rules that they are.
 use Rattle.std.specs.Prelude.{◌≡◌, ℕ, suc, Bool, true, not, ◌&&◌, cond, List, [], ◌∷◌, map, bytes_eq, codes, is_some, option_map, ok_or, Option, Some, None, Result, Ok, Err, ⊤}
 use Rattle.mc_model_device.specs.Bytes.{lookup}
-use Rattle.mc_model_machine.specs.Text.{◌>>=◌, only_if, fields}
+use Rattle.mc_model_text.specs.Text.{◌>>=◌, only_if, fields}
 use Rattle.mc_model_play.specs.declared.deck.DeckCause.{DeckCause}
 use Rattle.mc_model_play.specs.declared.deck.DeckCause.TheVariants.{BadLine, UnknownName}
 use Rattle.mc_deck.specs.declared.refusal.DeckRefusal.{DeckRefusal}

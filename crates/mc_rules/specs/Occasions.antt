@@ -4,11 +4,11 @@ use Rattle.std.specs.Prelude.{◌≡◌, ℕ, zero, suc, ◌-◌, min, Bool, tru
 use Rattle.std.specs.declared.alloc.Global.{Global}
 use Rattle.std.specs.declared.vec.Vec.{Vec}
 use Rattle.mc_model_device.specs.Counts.{last_count}
-use Rattle.mc_model_machine.specs.Text.{◌>>=◌}
+use Rattle.mc_model_text.specs.Text.{◌>>=◌}
 use Rattle.mc_model_machine.specs.Chain.{Turn}
 use Rattle.mc_model_play.specs.Play.{Step}
 use Rattle.mc_model_play.specs.TraceText.{shown_turns}
-use Rattle.mc_base.specs.Streams.{one_more}
+use Rattle.mc_streams.specs.Streams.{one_more}
 use Rattle.mc_explore.specs.Rules as model
 use Rattle.mc_explore.specs.Rules.{AtResult, AtTurn, Allows, Spends}
 use Rattle.mc_explore.specs.Matching.{fits, plain}

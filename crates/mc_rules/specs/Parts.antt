@@ -1,6 +1,6 @@
 -- The parts of an `on` line as the code has them.
 use Rattle.std.specs.Prelude.{◌≡◌, ℕ, List, Result, Ok, Err}
-use Rattle.mc_model_machine.specs.Text.{fields}
+use Rattle.mc_model_text.specs.Text.{fields}
 use Rattle.mc_model_play.specs.declared.deck.DeckCause.{DeckCause}
 use Rattle.mc_explore.specs.Matching.{plain}
 use Rattle.mc_explore.specs.Rules.{Parts}

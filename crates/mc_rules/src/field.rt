@@ -1,6 +1,6 @@
 // Names and numbers in the lines of rules.
 ghost use Rattle.std.specs.Prelude.{◌≡◌, Ok, Err, MatchResult};
-ghost use Rattle.mc_model_machine.specs.Text.{fields};
+ghost use Rattle.mc_model_text.specs.Text.{fields};
 ghost use Rattle.mc_explore.specs.Rules.{name_and_amount};
 ghost use Rattle.mc_model_play.specs.DeckGrammar.{name_field};
 

@@ -1,7 +1,7 @@
 // How often the `on` lines of a deck apply to a move, and what they then do to the allowances.
 ghost use Rattle.std.specs.Prelude.{◌≡◌, ◌≤◌, ◌==◌, ℕ, List, true, false, length, map, slice_index_or, IfOk};
 ghost use Rattle.mc_model_machine.specs.Chain.{Turn};
-ghost use Rattle.mc_model_machine.specs.TurnText.{turn_line};
+ghost use Rattle.mc_model_text.specs.TurnText.{turn_line};
 ghost use Rattle.mc_model_play.specs.Play.{Step};
 ghost use Rattle.mc_explore.specs.Rules as model;
 ghost use Rattle.mc_explore.specs.Rules.{AtTurn};

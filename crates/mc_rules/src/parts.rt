@@ -1,7 +1,7 @@
 // The parts of an `on` line: a pattern, and the word after it.
 ghost use Rattle.std.specs.Prelude.{◌≡◌, option_map, MatchResult};
 ghost use Rattle.mc_model_device.specs.Bytes.{lookup};
-ghost use Rattle.mc_model_machine.specs.Text.{fields};
+ghost use Rattle.mc_model_text.specs.Text.{fields};
 ghost use Rattle.mc_explore.specs.Rules.{effect_words, full_parts, occasion_words, parts_of};
 ghost use Rattle.mc_rules.specs.Meanings.{effect_value, occasion_value, Faulty};
 ghost use Rattle.mc_rules.specs.Parts.{AreFullParts};

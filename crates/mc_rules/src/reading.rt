@@ -1,7 +1,7 @@
 // The rules of a deck, read from its comments that begin with `#@`.
 ghost use Rattle.std.specs.Prelude.{◌≡◌, ◌≤◌, ℕ, List, false, true, is_some, length, option_map, Ok, IfErr, IfNone, IfOk, IfSome, MatchResult, OnOk};
 ghost use Rattle.mc_model_device.specs.Bytes.{lookup};
-ghost use Rattle.mc_model_machine.specs.Text.{fields, lines, trim};
+ghost use Rattle.mc_model_text.specs.Text.{fields, lines, trim};
 ghost use Rattle.mc_explore.specs.Rules as model;
 ghost use Rattle.mc_explore.specs.Rules.{exploration_read, move_line, move_words, rule_words, rules_read, with_rule, AllowWord, MoveWord, OnWord};
 ghost use Rattle.mc_deck.specs.Refused.{DeckRefuses};

@@ -8,7 +8,7 @@ use Rattle.mc_model_play.specs.Play.{Step, start, plays}
 use Rattle.mc_model_play.specs.ReadyAgain.{IsLine, AreLines}
 use Rattle.mc_family.proofs.DeckBytes.{played_bytes}
 use Rattle.mc_family.proofs.PlayLaw.{play_law}
-use Rattle.mc_base.specs.declared.refusals.WriteFault.{WriteFault}
+use Rattle.mc_streams.specs.declared.refusals.WriteFault.{WriteFault}
 use Rattle.mc_text.specs.Texts.{Sunk}
 use Rattle.mc_script.specs.Plays.{Bench, PlaysDeck, SumsDeck}
 use Rattle.mc_script.specs.StepCounts.{CountsFrom, CountsDeck, CountsSum}

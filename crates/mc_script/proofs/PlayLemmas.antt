@@ -4,9 +4,9 @@ use Rattle.mc_model_device.specs.Device.{DeviceState, BenchState, next_count}
 use Rattle.mc_model_play.specs.DeckGrammar.{DeckLine}
 use Rattle.mc_model_play.specs.Play.{Armed, State, FailedWrite, Step, plays, step, armed_stop_in, last_state, StandsForState, moves_of, steady_at, steady_failures, failures_of_tape}
 use Rattle.mc_model_play.proofs.PlayLemmas.{step_is}
-use Rattle.mc_base.specs.Streams.{Grew}
-use Rattle.mc_base.specs.declared.refusals.WriteFault.{WriteFault}
-use Rattle.mc_base.proofs.StreamsLemmas.{grew_append, grew_none, rose_later}
+use Rattle.mc_streams.specs.Streams.{Grew}
+use Rattle.mc_streams.specs.declared.refusals.WriteFault.{WriteFault}
+use Rattle.mc_streams.proofs.StreamsLemmas.{grew_append, grew_none, rose_later}
 use Rattle.mc_script.specs.Counting.{count_after_rises, when_poked, on_at_end, CountsCalls, LineCounts, PlayCounts}
 use Rattle.mc_script.specs.Players.{IsUnfused}
 use Rattle.mc_script.specs.Plays.{Bench, PlayedLine, PlayTape, Played, texts, PlayEnds}

@@ -7,7 +7,7 @@ use Rattle.mc_model_device.specs.declared.cause.Cause.TheVariants.{BadJournal, N
 use Rattle.mc_model_device.specs.Card.{App}
 use Rattle.mc_model_play.specs.Play.{static_of}
 use Rattle.mc_model_device.specs.Words.{cause_text}
-use Rattle.mc_model_machine.specs.Listing.{hex_text}
+use Rattle.mc_model_text.specs.Listing.{hex_text}
 use Rattle.mc_model_play.specs.Transcript.{static_text}
 use Rattle.mc_model_device.proofs.ListLemmas.{drop_none}
 

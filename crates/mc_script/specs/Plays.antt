@@ -9,8 +9,8 @@ use Rattle.mc_model_play.specs.Laws.{HoldsOf}
 use Rattle.mc_model_play.specs.ReadyAgain.{AllFitJournal, ReadyAgain}
 pub use Rattle.mc_model_play.specs.Transcript.{plain_text, texts}
 pub use Rattle.mc_model_play.specs.TraceText.{traced_text}
-use Rattle.mc_base.specs.Streams.{Grew}
-use Rattle.mc_base.specs.declared.refusals.WriteFault.{WriteFault}
+use Rattle.mc_streams.specs.Streams.{Grew}
+use Rattle.mc_streams.specs.declared.refusals.WriteFault.{WriteFault}
 use Rattle.mc_script.specs.Counting.{on_after, on_at_end, LineCounts, PlayCounts}
 use Rattle.mc_script.specs.Players.{IsUnfused}
 use Rattle.mc_text.specs.Texts.{Sunk, Puts}

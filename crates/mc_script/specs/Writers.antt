@@ -5,9 +5,9 @@ use Rattle.mc_model_machine.specs.Chain.{Turn}
 use Rattle.mc_model_play.specs.Play.{Step}
 use Rattle.mc_model_play.specs.Transcript.{line_text}
 use Rattle.mc_model_play.specs.TraceText.{shown_turns}
-use Rattle.mc_model_machine.specs.TurnText.{turn_lines}
-use Rattle.mc_base.specs.declared.refusals.WriteFault.{WriteFault}
-use Rattle.mc_base.specs.declared.sink.Sink.{Ghosts}
+use Rattle.mc_model_text.specs.TurnText.{turn_lines}
+use Rattle.mc_streams.specs.declared.refusals.WriteFault.{WriteFault}
+use Rattle.mc_streams.specs.declared.sink.Sink.{Ghosts}
 use Rattle.mc_text.specs.Texts.{sunk}
 use Rattle.mc_text.specs.Logs.{Logged}
 use Rattle.mc_text.specs.Logs as text

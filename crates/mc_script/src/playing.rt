@@ -16,9 +16,10 @@ ghost use Rattle.mc_script.specs.Benches.{bench_at};
 use crate::player::Player;
 use crate::summing::sum_lines;
 use crate::writer::{Reporting, Writer};
-use mc_base::{Sink, Steps, WriteFault};
+use mc_base::Steps;
 use mc_deck::Deck;
 use mc_nvm::Bench;
+use mc_streams::{Sink, WriteFault};
 use std::sync::ledger::Ledger;
 
 // Plays a deck on a device line by line, up to the first line whose text is not wholly written.

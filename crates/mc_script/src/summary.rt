@@ -11,9 +11,9 @@ use crate::answer::Answer;
 use crate::player::{Player, Power};
 use arrayvec::ArrayVec;
 use itoa::Buffer;
-use mc_base::{Sink, WriteFault};
 use mc_machine::Outcome;
 use mc_nvm::Bench;
+use mc_streams::{Sink, WriteFault};
 use mc_text::put;
 
 /// The number of lines of a play that answered, and the numbers of those that did so by a reply or a failed

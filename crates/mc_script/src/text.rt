@@ -5,7 +5,7 @@ ghost use Rattle.mc_model_device.specs.Bytes.{bytes2, lookup};
 ghost use Rattle.mc_model_play.specs.Play.{static_of};
 ghost use Rattle.mc_model_machine.specs.Words.{abend_code};
 ghost use Rattle.mc_model_device.specs.Words.{cause_text};
-ghost use Rattle.mc_model_machine.specs.Listing.{hex_text};
+ghost use Rattle.mc_model_text.specs.Listing.{hex_text};
 ghost use Rattle.mc_model_play.specs.Transcript.{line_text, outcome_text, text_of_result};
 ghost use Rattle.mc_machine.specs.Turns.{outcome_value};
 ghost use Rattle.mc_bank.specs.Bank.{app_of};
@@ -18,12 +18,13 @@ use crate::answer::Answer;
 use crate::player::{Player, Power};
 use arrayvec::ArrayVec;
 use mc_apdu::Reply;
-use mc_base::{Aid, Sink, WriteFault};
+use mc_base::Aid;
 use mc_blocks::Unusable;
 use mc_card::Card;
 use mc_machine::Outcome;
 use mc_model_machine::Abend;
 use mc_nvm::{Bench, Nvm};
+use mc_streams::{Sink, WriteFault};
 use mc_text::{add, add_decimal, add_hex, put};
 
 /// The number of static bytes that are read at a time.

@@ -1,7 +1,7 @@
 -- What a try came to, by the definition, and what stays kept.
 use Rattle.std.specs.Prelude.{◌≡◌, ◌≢◌, ℕ, Bool, true, List, length, map, replicate, slice_get, Option, Some, None, Result, Ok, Err, refl}
 use Rattle.std.proofs.Common.{ap, sym, subst, ◌∙◌}
-use Rattle.mc_model_machine.specs.Text.{ok_as}
+use Rattle.mc_model_text.specs.Text.{ok_as}
 use Rattle.mc_model_device.specs.PowerUp.{Base}
 use Rattle.mc_model_play.specs.Play as play
 use Rattle.mc_model_play.specs.Play.{Running, Unpowered, Muted, Step}

@@ -3,7 +3,7 @@ use Rattle.std.proofs.Common.{◌≡◌, ◌≢◌, ◌⊎◌, inl, inr, ℕ, �
 use Rattle.std.specs.List.{list_any}
 use Rattle.std.proofs.lemmas.List.{append-nil, reverse-append, map-append, drop-append-le}
 use Rattle.std.proofs.lemmas.Option.{slice_get_within}
-use Rattle.mc_model_machine.specs.Text.{◌>>=◌}
+use Rattle.mc_model_text.specs.Text.{◌>>=◌}
 use Rattle.mc_explore.specs.Rules as rule
 use Rattle.mc_explore.specs.States as model
 use Rattle.mc_explore.specs.States.{is_known, is_same_state}

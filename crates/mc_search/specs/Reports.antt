@@ -2,7 +2,7 @@
 use Rattle.std.specs.Prelude.{◌+◌, ℕ, List, ◌++◌, codes, decimal, Option, Some, None}
 use Rattle.mc_model_device.specs.Bytes.{zeros}
 use Rattle.mc_model_device.specs.Image.{Two, opening}
-use Rattle.mc_model_machine.specs.Listing.{hex_text}
+use Rattle.mc_model_text.specs.Listing.{hex_text}
 use Rattle.mc_explore.specs.Tries as model
 use Rattle.mc_explore.specs.Tries.{ones}
 use Rattle.mc_search.specs.declared.journey.Fill.{Fill}

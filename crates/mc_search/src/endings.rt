@@ -19,9 +19,10 @@ use crate::beginning::Lead;
 use crate::journey::{Manner, Step};
 use crate::report::{count_of_lines, put_broken, put_move, put_statement, put_sums};
 use crate::rounds::{Halt, Search, sum_of};
-use mc_base::{NoMemory, Sink, WriteFault};
+use mc_base::NoMemory;
 use mc_branch::push;
 use mc_rules::{Exploration, Move};
+use mc_streams::{Sink, WriteFault};
 use std::alloc::Global;
 
 /// How an exploration ended: no rule was broken in what it tried, or one was.

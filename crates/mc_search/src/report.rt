@@ -1,6 +1,6 @@
 // The text of an exploration.
 ghost use Rattle.std.specs.Prelude.{◌≡◌, ◌++◌, codes, decimal};
-ghost use Rattle.mc_model_machine.specs.Listing.{hex_text};
+ghost use Rattle.mc_model_text.specs.Listing.{hex_text};
 ghost use Rattle.mc_explore.specs.Search.{sums_text};
 ghost use Rattle.mc_text.specs.Texts.{sunk, Puts};
 ghost use Rattle.mc_search.specs.Reports.{broken_line, count_of_lines, cut_line, depth_line, how_text, move_lines, statement_line};
@@ -8,7 +8,7 @@ ghost use Rattle.mc_search.specs.Reports.{broken_line, count_of_lines, cut_line,
 use crate::journey::Manner;
 use arrayvec::ArrayVec;
 use itoa::Buffer;
-use mc_base::{Sink, WriteFault};
+use mc_streams::{Sink, WriteFault};
 use mc_text::{add_hex, put};
 
 // Writes a number in decimal.

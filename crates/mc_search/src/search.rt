@@ -12,8 +12,9 @@ use crate::beginning::{Beginning, begin};
 use crate::endings::{Explored, SearchFault, Start};
 use crate::report::put_depth;
 use crate::rounds::Search;
-use mc_base::{NoMemory, Sink, Steps};
+use mc_base::{NoMemory, Steps};
 use mc_rules::{Exploration, applications};
+use mc_streams::Sink;
 use std::alloc::Global;
 use std::sync::ledger::Ledger;
 

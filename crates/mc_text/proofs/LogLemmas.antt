@@ -1,8 +1,8 @@
 -- The laws of logs.
 use Rattle.std.proofs.Common.{◌≡◌, ℕ, List, [], ◌∷◌, ◌++◌, Option, Some, None, refl, sym, ap, subst, ◌∙◌, append_assoc}
 use Rattle.mc_model_machine.specs.Chain.{Turn}
-use Rattle.mc_model_machine.specs.TurnText.{turn_line, turn_lines}
-use Rattle.mc_base.specs.declared.refusals.WriteFault.{WriteFault}
+use Rattle.mc_model_text.specs.TurnText.{turn_line, turn_lines}
+use Rattle.mc_streams.specs.declared.refusals.WriteFault.{WriteFault}
 use Rattle.mc_text.specs.Texts.{Sunk, Writes, Fails}
 use Rattle.mc_text.specs.Logs.{Log, LoggedAs, LoggedBy, Logged}
 use Rattle.mc_text.proofs.TextLemmas.{writes_then, writes_none, fails_then, fails_before}

@@ -1,6 +1,6 @@
-pub use Rattle.mc_model_machine.specs.Text
-pub use Rattle.mc_model_machine.specs.TurnText
-pub use Rattle.mc_base.specs.Streams
+pub use Rattle.mc_model_text.specs.Text
+pub use Rattle.mc_model_text.specs.TurnText
+pub use Rattle.mc_streams.specs.Streams
 pub mod Texts
 pub mod Logs
 pub mod Reading

@@ -1,9 +1,9 @@
 -- A text written to a sink: whole, or a proper prefix of it if the sink failed.
 use Rattle.std.specs.Prelude.{◌≡◌, ℕ, List, Option, Result, Ok, Err}
 use Rattle.mc_model_device.specs.Counts.{Rose}
-use Rattle.mc_base.specs.Streams.{Grew, GrewByPart}
-use Rattle.mc_base.specs.declared.refusals.WriteFault.{WriteFault}
-use Rattle.mc_base.specs.declared.sink.Sink.{Ghosts}
+use Rattle.mc_streams.specs.Streams.{Grew, GrewByPart}
+use Rattle.mc_streams.specs.declared.refusals.WriteFault.{WriteFault}
+use Rattle.mc_streams.specs.declared.sink.Sink.{Ghosts}
 
 -- the state of a sink: the bytes that it has taken, if it records them, and its count of faults
 pub record Sunk : Type 0 where

@@ -1,10 +1,10 @@
 // Words and numbers, and the digits of bytes.
 ghost use Rattle.std.specs.Prelude.{◌≡◌, ◌<◌, ◌++◌, decimal};
-ghost use Rattle.mc_model_machine.specs.Listing.{hex_digit};
+ghost use Rattle.mc_model_text.specs.Listing.{hex_digit};
 ghost use Rattle.mc_text.specs.Texts.{sunk, Puts};
 
 use itoa::Buffer;
-use mc_base::{Sink, WriteFault, put_all};
+use mc_streams::{Sink, WriteFault, put_all};
 
 // The upper case hexadecimal digits.
 const DIGITS: [u8; 16] = *b"0123456789ABCDEF";

@@ -3,8 +3,8 @@ ghost use Rattle.std.specs.Prelude.{◌≡◌, ◌+◌, ◌≤◌, ◌++◌, ◌
 ghost use Rattle.arrayvec.specs.ArrayVec.{array_vec_len};
 ghost use Rattle.mc_model_device.specs.Bytes.{bytes2};
 ghost use Rattle.mc_model_machine.specs.Code.{Shaped};
-ghost use Rattle.mc_model_machine.specs.Listing.{hex_text};
-ghost use Rattle.mc_model_machine.specs.TurnText.{bit_text, ins_text, turn_line};
+ghost use Rattle.mc_model_text.specs.Listing.{hex_text};
+ghost use Rattle.mc_model_text.specs.TurnText.{bit_text, ins_text, turn_line};
 ghost use Rattle.mc_machine.specs.Turns.{turn_value};
 
 use arrayvec::ArrayVec;

@@ -4,7 +4,7 @@ use Rattle.mc_model_device.specs.Counts.{Rose}
 use Rattle.mc_model_play.specs.DeckGrammar.{DeckLine}
 use Rattle.mc_model_play.specs.Generator.{summary}
 use Rattle.mc_model_play.specs.Play.{Step}
-use Rattle.mc_base.specs.declared.refusals.WriteFault.{WriteFault as Fault}
+use Rattle.mc_streams.specs.declared.refusals.WriteFault.{WriteFault as Fault}
 use Rattle.mc_script.specs.Plays.{Bench, PlaysDeck, SumsDeck}
 use Rattle.mc_text.specs.Texts.{Sunk}
 use Rattle.mc_filter.proofs.Statuses.{same_status, written_whole}

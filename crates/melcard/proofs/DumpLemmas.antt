@@ -2,7 +2,7 @@
 use Rattle.std.proofs.Common.{◌≡◌, ◌==◌, ◌%◌, ℕ, zero, suc, Bool, true, false, cond, List, [], ◌∷◌, ◌++◌, refl, sym, subst, ◌∙◌, true≢false, nat_lt}
 use Rattle.std.specs.List.{AllByRecursion}
 use Rattle.mc_model_device.specs.Bytes.{bytes}
-use Rattle.mc_model_machine.specs.Text.{with_numbers}
+use Rattle.mc_model_text.specs.Text.{with_numbers}
 use Rattle.mc_model_play.specs.DeckGrammar.{DeckLine, Power, Load, Select, Delete, Apdu}
 use Rattle.mc_model_play.specs.Generator.{closing_lines, command, counter_aid, cut_line, draw, deck_of_number, is_dump, line_of, next, opening_lines, purse, purse_aid, purse_line, relay_aid, turns}
 use Rattle.mc_script.specs.Sums.{DumpsLast}

@@ -1,7 +1,7 @@
 -- The results of the code for listed code and for rejected input, in terms of the model.
 use Rattle.std.specs.Prelude.{◌≡◌, ℕ, not, List, [], ◌∷◌, ◌++◌, filter, ok_or, option_map, Result, Ok, Err, ⊤}
-use Rattle.mc_model_machine.specs.Text
-use Rattle.mc_model_machine.specs.Text.{CodeFault, ◌>>=◌, hex_values, is_blank, ok_as}
+use Rattle.mc_model_text.specs.Text
+use Rattle.mc_model_text.specs.Text.{CodeFault, ◌>>=◌, hex_values, is_blank, ok_as}
 use Rattle.mc_filter.specs.Inputs.{Rejects}
 use Rattle.melcard.specs.declared.code.CodeRefusal.{CodeRefusal}
 use Rattle.mc_filter.specs.declared.rejection.Rejection.{Rejection}

@@ -25,8 +25,9 @@ mod worked_rows;
 ghost use Rattle.std.specs.Prelude.{◌≡◌, ◌<◌};
 
 use crate::running::melcard;
-use mc_base::{StdSink, StdSource, Steps};
+use mc_base::Steps;
 use mc_filter::{Status, blank_device, command_words, job_words, number};
+use mc_streams::{StdSink, StdSource};
 use std::marker::Brand;
 use std::process::ExitCode;
 use std::sync::ledger::{Blank, Ledger};

@@ -1,7 +1,7 @@
 -- A call without a fault is complete, and words that select no job.
 use Rattle.std.proofs.Common.{◌≡◌, ℕ, Option, Some, None, Result, sym, subst}
 use Rattle.mc_model_device.specs.Counts.{Rose}
-use Rattle.mc_base.specs.declared.refusals.WriteFault.{WriteFault as Fault}
+use Rattle.mc_streams.specs.declared.refusals.WriteFault.{WriteFault as Fault}
 use Rattle.mc_text.specs.Texts.{Puts}
 use Rattle.mc_filter.specs.Inputs.{TookLimited}
 use Rattle.mc_filter.specs.Outside.{IsWithoutFault, Outside, SaysNoForm, SaysNoMemory, SaysReadFault, Untouched}

@@ -3,7 +3,7 @@ use Rattle.std.proofs.Common.{◌≡◌, ℕ, Bool, true, false, List, Result, O
 use Rattle.mc_model_device.specs.Counts.{Rose}
 use Rattle.mc_model_play.specs.declared.deck.DeckCause.{DeckCause}
 use Rattle.mc_model_play.specs.DeckGrammar.{DeckLine}
-use Rattle.mc_base.specs.declared.refusals.WriteFault.{WriteFault as Fault}
+use Rattle.mc_streams.specs.declared.refusals.WriteFault.{WriteFault as Fault}
 use Rattle.mc_script.specs.Plays.{Bench, PlaysDeck}
 use Rattle.mc_text.specs.Texts.{Sunk}
 use Rattle.mc_filter.specs.Inputs.{ReadWhole, ReadsLimited, Rejects, RejectsRead, Stream}

@@ -1,6 +1,6 @@
 -- The text of a draft, and the line that refuses it.
 use Rattle.std.proofs.Common.{◌≡◌, ◌≤◌, ◌<◌, ℕ, Bool, true, false, nat_lt, List, length, Result, Ok, Err, refl, ap, sym, subst, ◌∙◌, arith}
-use Rattle.mc_model_machine.specs.Text.{◌>>=◌, ok_as}
+use Rattle.mc_model_text.specs.Text.{◌>>=◌, ok_as}
 use Rattle.mc_model_play.specs.DeckGrammar.{DeckLine, deck_read}
 use Rattle.mc_model_play.specs.declared.deck.DeckCause.{DeckCause}
 use Rattle.mc_filter.specs.Inputs.{input_limit, refused_deck, Rejects}

@@ -3,7 +3,7 @@ use Rattle.std.specs.Prelude.{◌≡◌, ℕ, ◌≤◌, Bool, true, false, List
 use Rattle.mc_model_play.specs.declared.deck.DeckCause.{DeckCause}
 use Rattle.mc_model_play.specs.DeckGrammar.{DeckLine}
 use Rattle.mc_model_play.specs.Play.{plays, start}
-use Rattle.mc_base.specs.declared.refusals.WriteFault.{WriteFault as Fault}
+use Rattle.mc_streams.specs.declared.refusals.WriteFault.{WriteFault as Fault}
 use Rattle.mc_text.specs.Texts.{Sunk}
 use Rattle.mc_script.specs.Plays.{Bench, PlaysDeck, SumsDeck}
 use Rattle.mc_filter.specs.declared.status.Status.{Status}

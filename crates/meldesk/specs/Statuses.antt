@@ -1,7 +1,7 @@
 -- The relation of the top call to its source, its sink and its device at each of its statuses.
 use Rattle.std.specs.Prelude.{Option, Some, None, ⊤}
-use Rattle.mc_base.specs.declared.sink.Sink as sink
-use Rattle.mc_base.specs.declared.source.Source as source
+use Rattle.mc_streams.specs.declared.sink.Sink as sink
+use Rattle.mc_streams.specs.declared.source.Source as source
 use Rattle.mc_script.specs.Benches.{bench_at, BenchMembers}
 use Rattle.mc_script.specs.Plays.{Bench}
 use Rattle.mc_filter.specs.declared.status.Status.{Status}

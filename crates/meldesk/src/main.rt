@@ -14,8 +14,9 @@ mod tests;
 ghost use Rattle.std.specs.Prelude.{◌≡◌, ◌<◌};
 
 use crate::running::meldesk;
-use mc_base::{StdSink, StdSource, Steps};
+use mc_base::Steps;
 use mc_filter::{Status, blank_device, command_words, number};
+use mc_streams::{StdSink, StdSource};
 use std::marker::Brand;
 use std::process::ExitCode;
 use std::sync::ledger::{Blank, Ledger};

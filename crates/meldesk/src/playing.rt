@@ -11,12 +11,13 @@ ghost use Rattle.meldesk.specs.Plays.{IsCovered, IsShown, IsTraced, RejectsPlay,
 
 use crate::job::Play;
 use crate::running::{desk_of, end};
-use mc_base::{Sink, Source, Steps};
+use mc_base::Steps;
 use mc_cover::{CoverFault, Sections, cover, trace};
 use mc_deck::Deck;
 use mc_desk::Desk;
 use mc_filter::{Rejection, Status, ended, read_input};
 use mc_nvm::Bench;
+use mc_streams::{Sink, Source};
 use std::alloc::Global;
 use std::sync::ledger::Ledger;
 

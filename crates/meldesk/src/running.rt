@@ -19,13 +19,14 @@ ghost use Rattle.meldesk.specs.Verdicts.{has_long_deck, of_listing, of_text, IsC
 use crate::checking::verdicts_of;
 use crate::job::{Job, Text, job_of};
 use crate::playing::show;
-use mc_base::{Sink, Source, Steps, put_all};
+use mc_base::Steps;
 use mc_deck::DeckRefusal;
 use mc_desk::{Desk, Draft, Loads, listing_of, read_draft, sources_of};
 use mc_filter::{
     INPUT_LIMIT, Rejection, Status, deck_of, ended, number, read_input, refused, reject, too_long,
 };
 use mc_nvm::Bench;
+use mc_streams::{Sink, Source, put_all};
 use std::alloc::Global;
 use std::sync::ledger::Ledger;
 

@@ -1,7 +1,7 @@
 -- A deck with its rules that was read is one of the definition, and what its exploration comes to.
 use Rattle.std.specs.Prelude.{◌≡◌, ℕ, not, List, Result, Ok, Err}
 use Rattle.std.proofs.Common.{ap, inr, refl, subst, sym}
-use Rattle.mc_base.specs.declared.refusals.WriteFault.{WriteFault as Fault}
+use Rattle.mc_streams.specs.declared.refusals.WriteFault.{WriteFault as Fault}
 use Rattle.mc_explore.specs.Rules as rule
 use Rattle.mc_explore.specs.Rules.{exploration_read}
 use Rattle.mc_explore.specs.Search.{explore_text, most_states, search_of}

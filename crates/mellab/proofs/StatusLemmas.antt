@@ -1,6 +1,6 @@
 -- The meaning of the status with which a job ended.
 use Rattle.std.proofs.Common.{◌≡◌, Bool, true, false, Option, Some, None, Result, Ok, Err, IfOk, inl, sym, subst}
-use Rattle.mc_base.specs.declared.refusals.WriteFault.{WriteFault as Fault}
+use Rattle.mc_streams.specs.declared.refusals.WriteFault.{WriteFault as Fault}
 use Rattle.mc_text.specs.Texts.{Puts, Sunk}
 use Rattle.mc_filter.specs.Inputs.{TookLimited}
 use Rattle.mc_filter.specs.Statuses.{RejectionEnds, status_after_writing}

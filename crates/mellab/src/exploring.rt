@@ -9,11 +9,12 @@ ghost use Rattle.mellab.specs.declared.job.Job.TheVariants as job;
 ghost use Rattle.mellab.specs.Running.{refused_exploration, status_explored, RejectsLabJob};
 ghost use Rattle.mellab.specs.Statuses.{MellabEnds};
 
-use mc_base::{Sink, Source, Steps};
+use mc_base::Steps;
 use mc_deck::DeckRefusal;
 use mc_filter::{Rejection, Status, read_input, refused};
 use mc_rules::{Exploration, read_exploration};
 use mc_search::{Explored, SearchFault, explore};
+use mc_streams::{Sink, Source};
 use std::alloc::Global;
 use std::sync::ledger::Ledger;
 

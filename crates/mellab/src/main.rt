@@ -13,8 +13,9 @@ mod tests;
 ghost use Rattle.std.specs.Prelude.{◌≡◌, ◌<◌};
 
 use crate::running::mellab;
-use mc_base::{StdSink, StdSource, Steps};
+use mc_base::Steps;
 use mc_filter::{Status, command_words, job_words, number};
+use mc_streams::{StdSink, StdSource};
 use std::marker::Brand;
 use std::process::ExitCode;
 use std::sync::ledger::{Blank, Ledger};

@@ -15,13 +15,14 @@ ghost use Rattle.mellab.specs.Statuses.{status_after, status_by, MellabCompletes
 
 use crate::exploring::explore_input;
 use crate::job::{Job, job_of};
-use mc_base::{Sink, Source, Steps, WriteFault, put_all};
+use mc_base::Steps;
 use mc_filter::{
     Rejection, Status, blank_device, deck_of, ended, number, read_input, refused, reject,
 };
 use mc_lab::{
     ExpectationRefusal, ExpectedDeck, Mark, SweepFault, expect, read_expected_deck, remarks, sweep,
 };
+use mc_streams::{Sink, Source, WriteFault, put_all};
 use std::alloc::Global;
 use std::sync::ledger::Ledger;
 

@@ -2,7 +2,8 @@ ghost use Rattle.std.specs.Prelude.{◌≡◌, ◌<◌};
 
 use crate::examples::EXAMPLES;
 use crate::running::mellab;
-use mc_base::{MemSink, MemSource, NoMemory, Steps, read_all};
+use mc_base::{NoMemory, Steps};
+use mc_streams::{MemSink, MemSource, read_all};
 use std::alloc::{AllocError, Global};
 use std::marker::Brand;
 use std::sync::ledger::{Blank, Ledger};

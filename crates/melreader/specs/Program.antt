@@ -5,9 +5,9 @@ use Rattle.std.specs.declared.string.String.{String}
 use Rattle.std.specs.Global.{Vec}
 use Rattle.mc_model_device.specs.Device.{device_words}
 use Rattle.mc_base.specs.declared.refusals.NoMemory.{NoMemory as Memory}
-use Rattle.mc_base.specs.declared.refusals.WriteFault.{WriteFault as Fault}
-use Rattle.mc_base.specs.declared.sink.Sink as sink
-use Rattle.mc_base.specs.declared.source.Source as source
+use Rattle.mc_streams.specs.declared.refusals.WriteFault.{WriteFault as Fault}
+use Rattle.mc_streams.specs.declared.sink.Sink as sink
+use Rattle.mc_streams.specs.declared.source.Source as source
 use Rattle.mc_text.specs.Texts.{sunk, Puts}
 use Rattle.mc_nvm.specs.Sim.{blank_sim, sim_bench, sim_state, Sim, SimWrote}
 use Rattle.mc_filter.specs.Inputs.{stream, Stream}

@@ -3,9 +3,9 @@ ghost use Rattle.std.specs.Prelude.{◌≡◌, None, Some};
 ghost use Rattle.mc_filter.specs.Inputs.{stream};
 ghost use Rattle.melreader.specs.Decks.{HasDeck};
 
-use mc_base::Source;
 use mc_deck::Deck;
 use mc_filter::{Rejection, deck_of, read_input};
+use mc_streams::Source;
 use std::alloc::Global;
 
 // The deck of a blank card.

@@ -1,7 +1,7 @@
 // The files of a program.
 ghost use Rattle.std.specs.Prelude.{ℕ, List, Option};
 
-use mc_base::{Source, StdSource};
+use mc_streams::{Source, StdSource};
 use std::fs::File;
 
 /// Where a program finds its files, each of which is a source of its bytes.

@@ -4,7 +4,7 @@ ghost use Rattle.mc_text.specs.Texts.{sunk, Puts};
 ghost use Rattle.melreader.specs.Sessions.{short_frame, unopened};
 
 use itoa::Buffer;
-use mc_base::{Sink, WriteFault};
+use mc_streams::{Sink, WriteFault};
 use mc_text::put;
 
 // Writes a number in decimal.

@@ -12,8 +12,8 @@ mod tests;
 
 use crate::files::Disk;
 use crate::selecting::program;
-use mc_base::{StdSink, StdSource};
 use mc_filter::command_words;
+use mc_streams::{StdSink, StdSource};
 use std::fs::File;
 use std::io::{Stderr, Stdin, Stdout};
 use std::marker::Brand;

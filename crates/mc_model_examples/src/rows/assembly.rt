@@ -1,8 +1,8 @@
 #![tactic(auto, unfolding(mc_model_machine::specs::Assembly::assembly_of))]
 
 ghost use Rattle.std.specs.Prelude.{◌≡◌, ◌∷◌, ◌++◌, [], codes, replicate, Ok, Err};
-ghost use Rattle.mc_model_machine.specs.Assembly.{assembly_of};
-ghost use Rattle.mc_model_machine.specs.declared.assembler.AsmCause.TheVariants.{UnknownWord, BadOperands, BadNumber, OutOfRange, LabelTwice, TooLong, UnknownLabel, FarBranch};
+ghost use Rattle.mc_model_text.specs.Assembly.{assembly_of};
+ghost use Rattle.mc_model_text.specs.declared.assembler.AsmCause.TheVariants.{UnknownWord, BadOperands, BadNumber, OutOfRange, LabelTwice, TooLong, UnknownLabel, FarBranch};
 ghost use Rattle.mc_model_examples.specs.Written.{hex, times};
 
 /// The counter's code.

@@ -1,8 +1,8 @@
 #![tactic(auto, unfolding(mc_model_machine::specs::Assembly::assembly_of))]
 
 ghost use Rattle.std.specs.Prelude.{◌≡◌, ◌++◌, [], codes, Ok, Err};
-ghost use Rattle.mc_model_machine.specs.Assembly.{assembly_of};
-ghost use Rattle.mc_model_machine.specs.declared.assembler.AsmCause.TheVariants.{BadNumber, LabelTwice};
+ghost use Rattle.mc_model_text.specs.Assembly.{assembly_of};
+ghost use Rattle.mc_model_text.specs.declared.assembler.AsmCause.TheVariants.{BadNumber, LabelTwice};
 ghost use Rattle.mc_model_examples.specs.Written.{hex};
 
 /// Words without a label, and no line feed at the end.

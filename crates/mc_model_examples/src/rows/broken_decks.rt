@@ -2,7 +2,7 @@
 
 ghost use Rattle.std.specs.Prelude.{◌≡◌, ◌++◌, codes, Err};
 ghost use Rattle.mc_model_play.specs.DeckGrammar.{deck_read};
-ghost use Rattle.mc_model_machine.specs.declared.assembler.AsmCause.TheVariants.{UnknownWord, BadNumber};
+ghost use Rattle.mc_model_text.specs.declared.assembler.AsmCause.TheVariants.{UnknownWord, BadNumber};
 ghost use Rattle.mc_model_play.specs.declared.deck.DeckCause.TheVariants.{BadLine, BadHex, NoEnd, Asm};
 
 /// A `fail` with a blank and no number after it.

@@ -3,7 +3,7 @@
 ghost use Rattle.std.specs.Prelude.{◌≡◌, ◌∷◌, ◌++◌, [], codes, replicate, Ok, Err};
 ghost use Rattle.mc_model_play.specs.DeckGrammar.{deck_read, Format, Power, Named, Load, Select, Delete, Dump, Apdu, Budget, Cut, Fail, Poke};
 ghost use Rattle.mc_model_play.specs.Generator.{counter, counter_aid};
-ghost use Rattle.mc_model_machine.specs.declared.assembler.AsmCause.TheVariants.{UnknownWord, FarBranch};
+ghost use Rattle.mc_model_text.specs.declared.assembler.AsmCause.TheVariants.{UnknownWord, FarBranch};
 ghost use Rattle.mc_model_play.specs.declared.deck.DeckCause.TheVariants.{TooManyLines, BadLine, BadName, BadHex, BadNumber, OutOfRange, NameTwice, UnknownName, LateLine, NoEnd, Unit, Asm};
 ghost use Rattle.mc_model_card.specs.declared.unit.UnitRefusal.TheVariants.{Short, NoCode, TooLarge, Signed, Enciphered, Tail, NoAid, AidLength};
 ghost use Rattle.mc_model_examples.specs.Written.{hex, times};

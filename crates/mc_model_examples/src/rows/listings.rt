@@ -1,7 +1,7 @@
 #![tactic(auto, unfolding(mc_model_machine::specs::Text::code_text_read, crate::specs::Written::listing))]
 
 ghost use Rattle.std.specs.Prelude.{◌≡◌, ◌++◌, [], codes, replicate, length, Ok, Err};
-ghost use Rattle.mc_model_machine.specs.Text.{code_text_read, BadHex, TooLarge};
+ghost use Rattle.mc_model_text.specs.Text.{code_text_read, BadHex, TooLarge};
 ghost use Rattle.mc_model_machine.specs.declared.instruction.DecodeFault.TheVariants.{Undefined, Past};
 ghost use Rattle.mc_model_examples.specs.Written.{hex, listing};
 

@@ -1,5 +1,5 @@
 use Rattle.std.proofs.Common.{List, Result, Ok, Err, refl, ap, subst, ◌∙◌, rules}
-use Rattle.mc_base.specs.declared.refusals.WriteFault.{WriteFault}
+use Rattle.mc_streams.specs.declared.refusals.WriteFault.{WriteFault}
 use Rattle.mc_text.specs.Texts.{Puts, sunk}
 use Rattle.mc_script.specs.Plays.{Bench}
 use Rattle.mc_cover.specs.declared.lcov.LineCount.{LineCount}

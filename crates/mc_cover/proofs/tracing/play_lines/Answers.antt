@@ -2,7 +2,7 @@ use Rattle.std.proofs.Common.{◌≡◌, ℕ, ◌+◌, List, true, false, drop, 
 use Rattle.std.specs.Prelude.{is_err}
 use Rattle.mc_model_play.specs.DeckGrammar.{DeckLine}
 use Rattle.mc_model_play.specs.Play.{start}
-use Rattle.mc_base.specs.declared.refusals.WriteFault.{WriteFault}
+use Rattle.mc_streams.specs.declared.refusals.WriteFault.{WriteFault}
 use Rattle.mc_deck.specs.Lines.{line_of}
 use Rattle.mc_desk.specs.Traces.{trace_text}
 use Rattle.mc_script.specs.Players.{device_of}

@@ -1,6 +1,6 @@
 use Rattle.std.proofs.Common.{◌++◌, ℕ, List, sym, ap, subst, ◌∙◌}
 use Rattle.std.specs.List.{AllByRecursion}
-use Rattle.mc_model_machine.specs.Text.{with_numbers}
+use Rattle.mc_model_text.specs.Text.{with_numbers}
 use Rattle.mc_model_play.specs.DeckGrammar.{DeckLine}
 use Rattle.mc_model_play.specs.Generator.{turns, closing_lines}
 use Rattle.mc_model_play.specs.ReadyAgain.{IsLine}

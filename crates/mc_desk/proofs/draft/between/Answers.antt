@@ -1,6 +1,6 @@
 use Rattle.std.proofs.Common.{Option, refl, subst}
 use Rattle.std.proofs.lemmas.Result.{err_from_is_err_and}
-use Rattle.mc_model_machine.specs.Text.{fields}
+use Rattle.mc_model_text.specs.Text.{fields}
 use Rattle.mc_desk.specs.Drafts.{by_name, new_section}
 use Rattle.mc_desk.specs.declared.draft.OpenSection.{OpenSection}
 use Rattle.mc_desk.specs.Views.{OpensSection}

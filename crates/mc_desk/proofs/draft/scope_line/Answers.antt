@@ -1,5 +1,5 @@
 use Rattle.std.proofs.Common.{◌≡◌, true, rules}
-use Rattle.mc_model_machine.specs.Text.{fields}
+use Rattle.mc_model_text.specs.Text.{fields}
 use Rattle.mc_model_play.specs.DeckGrammar.{is_data}
 use Rattle.mc_desk.specs.Views.{scope_of}
 use Rattle.mc_desk.proofs.DraftLemmas.{scope_by_data}

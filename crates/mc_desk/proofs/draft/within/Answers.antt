@@ -1,5 +1,5 @@
 use Rattle.std.proofs.Common.{◌≡◌, true, false, rules}
-use Rattle.mc_model_machine.specs.Text.{fields}
+use Rattle.mc_model_text.specs.Text.{fields}
 use Rattle.mc_model_play.specs.DeckGrammar.{is_end}
 use Rattle.mc_desk.proofs.WrittenLemmas.{end_keeps, line_keeps}
 use Rattle.mc_desk.proofs.draft.within.Goals as goal

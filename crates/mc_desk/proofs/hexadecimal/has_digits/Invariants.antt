@@ -1,5 +1,5 @@
 use Rattle.std.proofs.Common.{◌≡◌, drop}
-use Rattle.mc_model_machine.specs.Text.{every}
+use Rattle.mc_model_text.specs.Text.{every}
 use Rattle.mc_desk.specs.Views.{is_hex}
 use Rattle.mc_desk.proofs.hexadecimal.has_digits.Given as goal
 

@@ -1,6 +1,6 @@
 use Rattle.std.proofs.Common.{Option, List, ℕ, Bor, subst, ◌≡◌}
 use Rattle.std.specs.Prelude.{option_map, ◌==◌}
-use Rattle.mc_model_machine.specs.Text.{first_cut}
+use Rattle.mc_model_text.specs.Text.{first_cut}
 use Rattle.mc_desk.proofs.WordLemmas.{one_piece}
 use Rattle.mc_desk.proofs.instruction.is_one.Goals as goal
 

@@ -1,6 +1,6 @@
 use Rattle.std.proofs.Common.{◌≡◌, ℕ, List, Option, Bor, subst}
 use Rattle.std.specs.Prelude.{◌==◌, option_map}
-use Rattle.mc_model_machine.specs.Text.{first_cut}
+use Rattle.mc_model_text.specs.Text.{first_cut}
 use Rattle.mc_desk.proofs.PushLemmas.{unlabelled, labelled}
 use Rattle.mc_desk.proofs.instruction.push_labelled.Goals as goal
 

@@ -1,6 +1,6 @@
 use Rattle.std.proofs.Common.{◌≡◌, ◌++◌, ℕ, List}
 use Rattle.std.specs.Prelude.{◌==◌, option_map}
-use Rattle.mc_model_machine.specs.Text.{ok_as, pieces}
+use Rattle.mc_model_text.specs.Text.{ok_as, pieces}
 use Rattle.mc_asm.proofs.LineLemmas.{left_of}
 use Rattle.mc_desk.specs.Declarations.{NameMeaning}
 use Rattle.mc_desk.specs.Operands.{pieces_text}

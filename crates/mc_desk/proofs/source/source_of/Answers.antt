@@ -1,7 +1,7 @@
 use Rattle.std.proofs.Common.{◌∙◌, ℕ, List, Option, ap, refl, subst, sym}
 use Rattle.std.specs.Prelude.{map}
 use Rattle.std.specs.Global.{Vec}
-use Rattle.mc_model_machine.specs.Assembly.{assembled_lines}
+use Rattle.mc_model_text.specs.Assembly.{assembled_lines}
 use Rattle.mc_desk.specs.declared.draft.SourceLine.{SourceLine}
 use Rattle.mc_desk.specs.declared.source.Source.{Source}
 use Rattle.mc_desk.specs.Sources.{Assembles, spans_from}

@@ -1,5 +1,5 @@
 use Rattle.std.proofs.Common.{arith}
-use Rattle.mc_model_machine.specs.Text.{hex_bytes}
+use Rattle.mc_model_text.specs.Text.{hex_bytes}
 use Rattle.mc_desk.proofs.StatementLemmas.{counted_none, counted_zero, counted_high, counted_good}
 use Rattle.mc_desk.proofs.statement.counted.Goals as goal
 

@@ -1,4 +1,4 @@
-use Rattle.mc_model_machine.specs.Text.{hex_bytes}
+use Rattle.mc_model_text.specs.Text.{hex_bytes}
 use Rattle.mc_desk.proofs.StatementLemmas.{plain_some, plain_none}
 use Rattle.mc_desk.proofs.statement.plain.Goals as goal
 

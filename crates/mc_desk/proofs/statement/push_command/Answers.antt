@@ -1,7 +1,7 @@
 use Rattle.std.proofs.Common.{◌≡◌, ◌++◌, ℕ, List, Option, Bor, subst}
 use Rattle.std.specs.Prelude.{option_map}
 use Rattle.std.proofs.lemmas.Result.{err_from_is_err_and}
-use Rattle.mc_model_machine.specs.Text.{ok_as, fields}
+use Rattle.mc_model_text.specs.Text.{ok_as, fields}
 use Rattle.mc_deck.proofs.FieldLemmas.{fields_left}
 use Rattle.mc_desk.specs.Statements.{command_text}
 use Rattle.mc_desk.proofs.StatementLemmas.{part_faulty, part_pushed}

@@ -1,6 +1,6 @@
 use Rattle.std.proofs.Common.{◌≡◌, ◌++◌}
 use Rattle.std.specs.Prelude.{option_map}
-use Rattle.mc_model_machine.specs.Text.{ok_as, fields}
+use Rattle.mc_model_text.specs.Text.{ok_as, fields}
 use Rattle.mc_deck.proofs.FieldLemmas.{fields_left, left_of}
 use Rattle.mc_desk.specs.Statements.{command_text}
 use Rattle.mc_desk.proofs.statement.push_command.Given as goal

@@ -1,6 +1,6 @@
 use Rattle.std.proofs.Common.{◌≡◌, ◌+◌, ◌-◌, ◌++◌, ℕ, List, subst, sym}
 use Rattle.mc_model_device.specs.Bytes.{zeros}
-use Rattle.mc_model_machine.specs.Listing.{hex_text}
+use Rattle.mc_model_text.specs.Listing.{hex_text}
 use Rattle.mc_desk.proofs.TextLemmas.{zero_more}
 use Rattle.mc_desk.proofs.text.push_zeros.Goals as goal
 

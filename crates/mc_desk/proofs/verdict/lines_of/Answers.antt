@@ -1,6 +1,6 @@
 use Rattle.std.proofs.Common.{◌∙◌, ℕ, List, Bor, ap, sym}
 use Rattle.std.specs.Prelude.{option_map}
-use Rattle.mc_model_machine.specs.Text.{lines}
+use Rattle.mc_model_text.specs.Text.{lines}
 use Rattle.mc_asm.specs.Items.{texts}
 use Rattle.mc_desk.proofs.LoadLemmas.{lines_done, lines_more, texts_more}
 use Rattle.mc_desk.proofs.verdict.lines_of.Goals as goal

@@ -1,5 +1,5 @@
 use Rattle.std.proofs.Common.{◌≡◌, ◌++◌, length}
-use Rattle.mc_model_machine.specs.Text.{lines}
+use Rattle.mc_model_text.specs.Text.{lines}
 use Rattle.mc_asm.specs.Items.{texts}
 use Rattle.mc_desk.proofs.verdict.lines_of.Given as goal
 

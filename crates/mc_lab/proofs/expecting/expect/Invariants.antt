@@ -1,6 +1,6 @@
 use Rattle.std.proofs.Common.{◌≡◌, ◌+◌, ◌≤◌, Result, drop}
 use Rattle.mc_lab.specs.Remarked.{remark_values}
-use Rattle.mc_base.specs.declared.refusals.WriteFault.{WriteFault}
+use Rattle.mc_streams.specs.declared.refusals.WriteFault.{WriteFault}
 use Rattle.mc_text.specs.Texts.{Sunk, Puts, sunk_in}
 use Rattle.mc_lab.specs.Expectations.{count_failed, expect_text, steady_steps}
 use Rattle.mc_lab.specs.Judged.{text_left}

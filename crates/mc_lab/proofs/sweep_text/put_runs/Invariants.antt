@@ -1,5 +1,5 @@
 use Rattle.std.proofs.Common.{length, drop, ◌-◌, ◌+◌, ◌≤◌, Result}
-use Rattle.mc_base.specs.declared.refusals.WriteFault.{WriteFault}
+use Rattle.mc_streams.specs.declared.refusals.WriteFault.{WriteFault}
 use Rattle.mc_text.specs.Texts.{Sunk, sunk_in, Puts}
 use Rattle.mc_lab.specs.Sweeps.{runs, runs_text}
 use Rattle.mc_lab.proofs.sweep_text.put_runs.Given as goal

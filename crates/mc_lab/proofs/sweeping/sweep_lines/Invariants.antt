@@ -1,5 +1,5 @@
 use Rattle.std.proofs.Common.{◌≡◌, length, Result}
-use Rattle.mc_base.specs.declared.refusals.WriteFault.{WriteFault}
+use Rattle.mc_streams.specs.declared.refusals.WriteFault.{WriteFault}
 use Rattle.mc_text.specs.Texts.{Sunk, Puts, sunk_in}
 use Rattle.mc_lab.specs.declared.sweep_text.Sums.{Sums}
 use Rattle.mc_lab.specs.Remarked.{remark_values}

@@ -1,6 +1,6 @@
 use Rattle.std.proofs.Common.{◌-◌, length, take, List, ℕ, sym, subst, arith}
-use Rattle.mc_base.specs.Streams.{Took}
-use Rattle.mc_base.proofs.StreamsLemmas.{took_append}
+use Rattle.mc_streams.specs.Streams.{Took}
+use Rattle.mc_streams.proofs.StreamsLemmas.{took_append}
 use Rattle.mc_reader.proofs.ReadingLemmas.{filled}
 use Rattle.mc_reader.proofs.reading.fill.Goals as goal
 

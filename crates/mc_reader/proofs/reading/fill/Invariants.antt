@@ -1,5 +1,5 @@
 use Rattle.std.proofs.Common.{length, ◌-◌, ◌≤◌, take}
-use Rattle.mc_base.specs.Streams.{Took}
+use Rattle.mc_streams.specs.Streams.{Took}
 use Rattle.mc_reader.proofs.reading.fill.Given as goal
 
 abbrev pub invariant-loop-done : goal.invariant-loop-done

@@ -1,6 +1,6 @@
 use Rattle.std.proofs.Common.{◌≡◌, ◌<◌, length, length-take, arith}
 use Rattle.std.proofs.lemmas.Result.{err_from_is_err_and}
-use Rattle.mc_base.proofs.StreamsLemmas.{rose_later}
+use Rattle.mc_streams.proofs.StreamsLemmas.{rose_later}
 use Rattle.mc_reader.proofs.ReadingLemmas.{size_in, took_part, short_head, short_body}
 use Rattle.mc_reader.proofs.reading.read_frame.Goals as goal
 

@@ -1,5 +1,5 @@
 use Rattle.std.proofs.Common.{length}
-use Rattle.mc_model_machine.specs.Text.{fields}
+use Rattle.mc_model_text.specs.Text.{fields}
 use Rattle.mc_explore.specs.Rules.{effect_words}
 use Rattle.mc_rules.proofs.PartLemmas.{PartsLeft}
 use Rattle.mc_rules.proofs.parts.effect_parts.Given as goal

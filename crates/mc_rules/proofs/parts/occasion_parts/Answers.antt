@@ -1,4 +1,4 @@
-use Rattle.mc_model_machine.specs.Text.{fields}
+use Rattle.mc_model_text.specs.Text.{fields}
 use Rattle.mc_explore.specs.Rules.{occasion_words}
 use Rattle.mc_rules.proofs.PartLemmas.{parts_step}
 use Rattle.mc_rules.proofs.parts.occasion_parts.Goals as goal

@@ -1,5 +1,5 @@
 use Rattle.std.proofs.Common.{arith}
-use Rattle.mc_model_machine.specs.Text.{fields}
+use Rattle.mc_model_text.specs.Text.{fields}
 use Rattle.mc_rules.proofs.OnLemmas.{allow_faulty, allow_new, allow_there}
 use Rattle.mc_rules.proofs.reading.add_allowance.Goals as goal
 

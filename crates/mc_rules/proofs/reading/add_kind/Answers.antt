@@ -1,6 +1,6 @@
 use Rattle.std.proofs.Common.{ℕ, List, ap, sym, subst}
 use Rattle.std.specs.Prelude.{IfErr, OnOk}
-use Rattle.mc_model_machine.specs.Text.{fields, trim}
+use Rattle.mc_model_text.specs.Text.{fields, trim}
 use Rattle.mc_explore.specs.Rules as model
 use Rattle.mc_explore.specs.Rules.{with_rule, MoveWord, RuleWord}
 use Rattle.mc_rules.specs.Meanings.{kind_value, AreRules, AreRulesRead, Faulty}

@@ -1,6 +1,6 @@
 use Rattle.std.proofs.Common.{ℕ, subst, sym}
 use Rattle.std.proofs.lemmas.Result.{on_ok_weaker, IfErr-weaker}
-use Rattle.mc_model_machine.specs.Text.{fields}
+use Rattle.mc_model_text.specs.Text.{fields}
 use Rattle.mc_explore.specs.Rules as model
 use Rattle.mc_rules.specs.Meanings.{rule_of, rules_with, AreRules, AreRulesRead, Faulty}
 use Rattle.mc_rules.proofs.ReadLemmas.{rule_line}

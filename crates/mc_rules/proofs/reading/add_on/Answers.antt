@@ -1,4 +1,4 @@
-use Rattle.mc_model_machine.specs.Text.{fields}
+use Rattle.mc_model_text.specs.Text.{fields}
 use Rattle.mc_rules.specs.Meanings.{allowance_values}
 use Rattle.mc_rules.proofs.OnLemmas.{on_added, on_faulty}
 use Rattle.mc_rules.proofs.reading.add_on.Goals as goal

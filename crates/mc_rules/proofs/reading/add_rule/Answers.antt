@@ -1,6 +1,6 @@
 use Rattle.std.proofs.Common.{ℕ, subst}
 use Rattle.std.proofs.lemmas.Result.{on_ok_weaker, IfErr-weaker}
-use Rattle.mc_model_machine.specs.Text.{fields, trim}
+use Rattle.mc_model_text.specs.Text.{fields, trim}
 use Rattle.mc_explore.specs.Rules as model
 use Rattle.mc_explore.specs.Rules.{with_rule}
 use Rattle.mc_rules.specs.Meanings.{kind_value, rule_of, AreRules, AreRulesRead, Faulty}

@@ -1,5 +1,5 @@
 use Rattle.std.proofs.Common.{sym}
-use Rattle.mc_model_machine.specs.Text.{fields}
+use Rattle.mc_model_text.specs.Text.{fields}
 use Rattle.mc_explore.specs.Rules.{full_parts, occasion_words, parts_of}
 use Rattle.mc_rules.specs.Meanings.{allowance_values, effect_value, occasion_value, on_of}
 use Rattle.mc_rules.proofs.OnLemmas.{all_parts, name_unknown, on_is_read}

@@ -1,5 +1,5 @@
 use Rattle.std.proofs.Common.{◌+◌, ◌≤◌, length}
-use Rattle.mc_model_machine.specs.Text.{lines}
+use Rattle.mc_model_text.specs.Text.{lines}
 use Rattle.mc_explore.specs.Rules.{rules_read}
 use Rattle.mc_rules.proofs.ReadLemmas.{RulesLeft}
 use Rattle.mc_rules.proofs.reading.read_rules.Given as goal

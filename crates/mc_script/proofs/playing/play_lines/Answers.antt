@@ -3,7 +3,7 @@ use Rattle.std.specs.Prelude.{is_err}
 use Rattle.mc_model_play.specs.DeckGrammar.{DeckLine}
 use Rattle.mc_model_play.specs.Play.{start}
 use Rattle.mc_deck.specs.Lines.{line_of}
-use Rattle.mc_base.specs.declared.refusals.WriteFault.{WriteFault}
+use Rattle.mc_streams.specs.declared.refusals.WriteFault.{WriteFault}
 use Rattle.mc_script.specs.Players.{device_of}
 use Rattle.mc_text.specs.Texts.{sunk_in}
 use Rattle.mc_script.specs.Writers.{write_result, text_by, turns_text, WriterKeeps}

@@ -1,5 +1,5 @@
 use Rattle.std.proofs.Common.{List, Result, drop}
-use Rattle.mc_base.specs.declared.refusals.WriteFault.{WriteFault}
+use Rattle.mc_streams.specs.declared.refusals.WriteFault.{WriteFault}
 use Rattle.mc_explore.specs.Rules as rule
 use Rattle.mc_explore.specs.Tries.{Try}
 use Rattle.mc_explore.specs.Search.{path_statements, statements_text}

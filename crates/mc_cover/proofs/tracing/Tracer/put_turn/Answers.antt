@@ -1,5 +1,5 @@
 use Rattle.std.proofs.Common.{ℕ, ◌-◌, ◌++◌, List, codes, decimal, length, take, ap, subst, ◌∙◌}
-use Rattle.mc_model_machine.specs.TurnText.{turn_line}
+use Rattle.mc_model_text.specs.TurnText.{turn_line}
 use Rattle.mc_machine.specs.Turns.{turn_value}
 use Rattle.mc_cover.specs.Tracing.{Adds, adds_on, state_part_of}
 use Rattle.mc_cover.proofs.TraceLemmas.{line_parts}

@@ -1,0 +1,3 @@
+pub mod StackRows
+pub mod StackShape
+pub mod CheckWords
