@@ -4,7 +4,7 @@ use Rattle.std.proofs.Common.{◌≡◌, ℕ, ◌+◌, ◌-◌, ◌≤◌, ◌<�
 use Rattle.std.specs.Prelude.{◌&&◌, ◌||◌, not, nat_lt, nat_le, is_some}
 use Rattle.std.proofs.lemmas.Bool.{and_parts, and_from, ltb-true, lt-ltb, le-leb, cases_lt, not_from_true}
 use Rattle.std.proofs.lemmas.List.{length-take, length-drop, drop-drop}
-use Rattle.mc_model_stack.specs.declared.checker.CheckCause.TheVariants.{Under}
+use Rattle.mc_model_text.specs.declared.checker.CheckCause.TheVariants.{Under}
 use Rattle.mc_model_machine.specs.declared.instruction.Ins.{Ins}
 use Rattle.mc_model_machine.specs.declared.instruction.Ins.TheVariants as ins
 use Rattle.mc_model_device.specs.Bytes.{bytes2, num, splice}

@@ -1,8 +1,8 @@
 -- The look of a fact: why a bad one is refused, and what holds of a good one.
 use Rattle.std.proofs.Common.{◌≡◌, ℕ, Bool, true, false, cond, not, ◌&&◌, nat_lt, List, length, is_some, Result, Ok, Err, refl, sym, ap, ◌∙◌, subst, inl, ltb-true}
 use Rattle.std.proofs.lemmas.Bool.{not-true, not-false}
-use Rattle.mc_model_stack.specs.declared.checker.CheckCause.{CheckCause}
-use Rattle.mc_model_stack.specs.declared.checker.CheckCause.TheVariants.{Undefined, Past, Indirect, Returns, Under, Target}
+use Rattle.mc_model_text.specs.declared.checker.CheckCause.{CheckCause}
+use Rattle.mc_model_text.specs.declared.checker.CheckCause.TheVariants.{Undefined, Past, Indirect, Returns, Under, Target}
 use Rattle.mc_model_machine.specs.declared.instruction.DecodeFault.{DecodeFault}
 use Rattle.mc_model_machine.specs.declared.instruction.DecodeFault.TheVariants as fault
 use Rattle.mc_model_machine.specs.declared.instruction.Ins.{Ins}

@@ -5,8 +5,8 @@ use Rattle.std.proofs.lemmas.Bool.{ltb-true, ltb-false}
 use borrow.Author.Count.{below_more}
 use Rattle.std.specs.Ordering.{ord_max, nat_cmp, is_lt}
 use Rattle.std.specs.declared.cmp.Ordering.TheVariants.{Less, Equal, Greater}
-use Rattle.mc_model_stack.specs.declared.checker.CheckCause.{CheckCause}
-use Rattle.mc_model_stack.specs.declared.checker.CheckCause.TheVariants.{Undefined, Past, Indirect, Returns, Under, Target, Recursive, Heights, Wild, Deep}
+use Rattle.mc_model_text.specs.declared.checker.CheckCause.{CheckCause}
+use Rattle.mc_model_text.specs.declared.checker.CheckCause.TheVariants.{Undefined, Past, Indirect, Returns, Under, Target, Recursive, Heights, Wild, Deep}
 use Rattle.mc_model_machine.specs.declared.instruction.DecodeFault.{DecodeFault}
 use Rattle.mc_model_machine.specs.declared.instruction.DecodeFault.TheVariants as fault
 use Rattle.mc_model_machine.specs.declared.instruction.Ins.{Ins}

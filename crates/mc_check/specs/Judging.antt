@@ -1,6 +1,6 @@
 -- The results of the last pass over the table.
 use Rattle.std.specs.Prelude.{ℕ, ◌≡◌, ◌+◌, ◌<◌, Bool, true, false, cond, nat_lt, List, slice_get, Option, Some, Result, Ok, Err}
-use Rattle.mc_model_stack.specs.declared.checker.CheckCause.TheVariants.{Deep, Wild}
+use Rattle.mc_model_text.specs.declared.checker.CheckCause.TheVariants.{Deep, Wild}
 use Rattle.mc_model_machine.specs.declared.instruction.DecodeFault.{DecodeFault}
 use Rattle.mc_model_machine.specs.declared.instruction.Ins.{Ins}
 use Rattle.mc_model_machine.specs.Code.{instruction_at}

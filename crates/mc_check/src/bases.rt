@@ -8,7 +8,7 @@ ghost use Rattle.mc_check.specs.Searching.{answer_of_call, Answers, AreBelow, Is
 
 use crate::calls::{Call, list_calls};
 use crate::table::{Entry, Fault, Refusal, Routine};
-use mc_model_stack::CheckCause;
+use mc_model_text::CheckCause;
 use std::alloc::{AllocError, Global};
 
 // The progress of the search with a routine.

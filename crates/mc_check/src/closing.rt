@@ -11,7 +11,7 @@ use crate::shape::{
     return_counts,
 };
 use crate::table::{Entry, Fault, Refusal, Routine};
-use mc_model_stack::CheckCause;
+use mc_model_text::CheckCause;
 use std::alloc::Global;
 
 // From a height above this one no fact follows.

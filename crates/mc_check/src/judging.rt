@@ -12,7 +12,7 @@ use crate::shape::{is_call, is_plain};
 use crate::table::{Entry, Refusal, Routine};
 use crate::verdict::Verdict;
 use mc_isa::decode;
-use mc_model_stack::CheckCause;
+use mc_model_text::CheckCause;
 
 // The bytes of the dynamic segment that session data and the stack share.
 const ROOM: u64 = 512;

@@ -18,5 +18,5 @@ mod verdict;
 mod writing;
 
 pub use laws::checked_plays;
-pub use mc_model_stack::CheckCause;
+pub use mc_model_text::CheckCause;
 pub use verdict::{Verdict, check};

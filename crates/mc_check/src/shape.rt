@@ -14,7 +14,7 @@ use crate::uses::{always_abends, need};
 pub use crate::writing::is_plain;
 use mc_isa::decode;
 use mc_model_machine::{DecodeFault, Ins};
-use mc_model_stack::CheckCause;
+use mc_model_text::CheckCause;
 
 // The condition of a jump or call that always goes.
 const ALWAYS: u8 = 7;

@@ -9,7 +9,7 @@ use crate::closing::close;
 use crate::judging::judge;
 use crate::table::Fault;
 use mc_base::NoMemory;
-use mc_model_stack::CheckCause;
+use mc_model_text::CheckCause;
 use std::alloc::Global;
 
 /// A verdict on code: the most bytes of stack that it takes, or the place and cause of a rule that it breaks.

@@ -1,7 +1,7 @@
 -- The verdicts of the stack checker on a draft, with the source line of each place that is refused.
 use Rattle.std.specs.Prelude.{ℕ, ◌==◌, cond, List, [], ◌∷◌, ◌++◌, bytes_eq, codes, decimal, Option, Some, None, option_and_then, Result, Ok, Err}
-use Rattle.mc_model_stack.specs.declared.checker.CheckCause.{CheckCause}
-use Rattle.mc_model_stack.specs.CheckWords.{check_word}
+use Rattle.mc_model_text.specs.declared.checker.CheckCause.{CheckCause}
+use Rattle.mc_model_text.specs.CheckWords.{check_word}
 use Rattle.mc_model_text.specs.Text.{lines, with_numbers, fields}
 use Rattle.mc_desk.specs.Listings.{CodeLine, Source, Desk, line_at}
 

@@ -11,5 +11,3 @@ pub mod Decisions
 pub mod Breaks
 pub mod FitLemmas
 pub mod Statements
-pub mod Texts
-pub mod Depths

@@ -4,5 +4,3 @@ pub mod States
 pub mod Tries
 pub mod Search
 pub mod Safety
-pub mod Computed
-pub mod Decks

@@ -1,5 +1,5 @@
 -- What an exploration promises: the laws of its fills, of its recoveries, and of every sequence of moves and cuts.
-use Rattle.std.specs.Prelude.{◌≡◌, ◌⊎◌, ℕ, ◌<◌, ◌≤◌, true, List, [], ◌∷◌, ◌++◌, length, map, reverse, codes, decimal, ◌^◌, Ok, Err, ⊤}
+use Rattle.std.specs.Prelude.{◌≡◌, ◌⊎◌, ℕ, ◌<◌, ◌≤◌, true, List, [], ◌∷◌, ◌++◌, length, map, reverse, Ok, Err, ⊤}
 use Rattle.std.specs.List.{AllByRecursion}
 use Rattle.mc_model_device.specs.Bytes.{zeros}
 use Rattle.mc_model_device.specs.Image.{Two, opening}
@@ -16,7 +16,7 @@ use Rattle.mc_explore.specs.Matching.{small, fits}
 use Rattle.mc_explore.specs.Rules.{Move, OnRule, Rules, Exploration, exploration_read}
 use Rattle.mc_explore.specs.States.{state_in, play_of_deck, first_play}
 use Rattle.mc_explore.specs.Tries.{Manner, Whole, CutAt, Try, allowances_after, writes_of, ones, next, step_of, recovery}
-use Rattle.mc_explore.specs.Search.{All, AtDepth, Broken, TooMany, Statement, statements_to, depth_lines, sums_text, most_states, search_of, explore_text}
+use Rattle.mc_explore.specs.Search.{All, AtDepth, Broken, TooMany, Statement, statements_to, search_of}
 
 -- one of some
 abbrev pub Among : {A : Type 0} → A → List A → Type 0
@@ -77,36 +77,10 @@ AllLaw =
     (limit n : ℕ) (text : List ℕ) (x : Exploration) → exploration_read text ≡ Ok x → (search_of limit n x).ending ≡ All
     → (ts : List Action) → KeepsRulesIn x ts
 
--- a text that says `all`: the lines of depths, and the line of the sums with this word
-pub record SaysAll (text : List ℕ) : Type 0 where
-  pub news : List ℕ
-  pub states : ℕ
-  pub tries : ℕ
-  pub is : text ≡ depth_lines 1 news ++ sums_text states tries (codes " all")
-
--- So it is of the text that is written.
-abbrev pub TextLaw : Type 0
-TextLaw = (n : ℕ) (text : List ℕ) (x : Exploration) → exploration_read text ≡ Ok x → SaysAll (explore_text n x) → (ts : List Action) → KeepsRulesIn x ts
-
 -- If it says `depth N`, no list of at most N actions does.
 abbrev pub DepthLaw : Type 0
 DepthLaw =
     (limit n d : ℕ) (text : List ℕ) (x : Exploration) → exploration_read text ≡ Ok x → (search_of limit n x).ending ≡ AtDepth d
-    → (ts : List Action) → length ts ≤ d → KeepsRulesIn x ts
-
--- a text that says `depth N`, with fewer states than the most: the lines of depths, and the line of the sums with this
--- depth
-pub record SaysDepth (text : List ℕ) (depth : ℕ) : Type 0 where
-  pub news : List ℕ
-  pub states : ℕ
-  pub tries : ℕ
-  pub few : states < most_states
-  pub is : text ≡ depth_lines 1 news ++ sums_text states tries (codes " depth " ++ decimal depth)
-
--- So it is of the text that is written.
-abbrev pub DepthTextLaw : Type 0
-DepthTextLaw =
-    (n d : ℕ) (text : List ℕ) (x : Exploration) → n < 2 ^ 64 → d < 2 ^ 64 → exploration_read text ≡ Ok x → SaysDepth (explore_text n x) d
     → (ts : List Action) → length ts ≤ d → KeepsRulesIn x ts
 
 -- If it ends at depth D for too many states, no list of fewer than D actions does.

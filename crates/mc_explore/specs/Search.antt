@@ -1,4 +1,4 @@
--- The search through all states, breadth first, and the text that it writes.
+-- The search through all states, breadth first.
 use Rattle.std.specs.Prelude.{ℕ, zero, suc, ◌+◌, Bool, true, false, nat_lt, List, [], ◌∷◌, ◌++◌, length, reverse, codes, decimal, Result, Ok, Err}
 use Rattle.mc_model_text.specs.Text.{◌>>=◌}
 use Rattle.mc_model_text.specs.Listing.{hex_text}
@@ -190,48 +190,9 @@ lead_statements v (AtFault cause place) a cut = drop_statements a
 unfoldable pub statements_to : State → List Try → List Statement
 statements_to s ts = lead_statements (warm_in s).live (warm_in s).base (armed_stop_in s) (begins_cut ts) ++ path_statements ts
 
--- ---- the text
-
--- the lines of the depths from depth d on
-abbrev pub depth_lines : ℕ → List ℕ → List ℕ
-depth_lines d [] = []
-depth_lines d (n ∷ ns) = codes "depth " ++ decimal d ++ codes " states " ++ decimal n ++ codes "\n" ++ depth_lines (d + 1) ns
-
--- the text of statements, a line each
-abbrev pub statements_text : List Statement → List ℕ
-statements_text [] = []
-statements_text (l ∷ ls) = l.0 ++ codes "\n" ++ statements_text ls
-
--- the line of a broken rule, and the statements that lead there
-abbrev pub broken_text : List ℕ → List Statement → List ℕ
-broken_text name ls = codes "broken " ++ name ++ codes " after " ++ decimal (length ls) ++ codes " lines\n" ++ statements_text ls
-
--- the line of the sums
-abbrev pub sums_text : ℕ → ℕ → List ℕ → List ℕ
-sums_text states tries how = codes "explored states " ++ decimal states ++ codes " tries " ++ decimal tries ++ how ++ codes "\n"
-
--- how a search ends, from the end of a deck
-abbrev pub ending_text : State → Search → Ending → List ℕ
-ending_text s e All = sums_text e.states e.tries (codes " all")
-ending_text s e (AtDepth d) = sums_text e.states e.tries (codes " depth " ++ decimal d)
-ending_text s e (TooMany d) = sums_text e.states e.tries (codes " depth " ++ decimal d)
-ending_text s e (Broken name path) = broken_text name (statements_to s (reverse path))
-
--- the text of a search, from the end of a deck
-abbrev pub text_of : State → Search → List ℕ
-text_of s e = depth_lines 1 e.news ++ ending_text s e e.ending
+-- ---- of a deck
 
 -- the search of n depths of a deck with its rules, with at most `limit` states
 unfoldable pub search_of : ℕ → ℕ → Exploration → Search
 unfolding search_from first_state
 search_of limit n x = search_from n limit x.rules (first_state x)
-
--- its text
-unfoldable pub text_within : ℕ → ℕ → Exploration → List ℕ
-unfolding search_of statements_to play_of_deck
-text_within limit n x = text_of (play_of_deck x.lines) (search_of limit n x)
-
--- the text of the exploration of a deck with its rules, n depths deep
-unfoldable pub explore_text : ℕ → Exploration → List ℕ
-unfolding text_within
-explore_text n x = text_within most_states n x

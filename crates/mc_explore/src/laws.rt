@@ -1,4 +1,4 @@
-ghost use Rattle.mc_explore.specs.Safety.{AllLaw, BrokenLaw, DepthLaw, DepthTextLaw, FillLaw, FirstLaw, FitsLaw, LimitLaw, RecoveryLaw, StateLaw, StatementsLaw, TextLaw, WordsLaw};
+ghost use Rattle.mc_explore.specs.Safety.{AllLaw, BrokenLaw, DepthLaw, FillLaw, FirstLaw, FitsLaw, LimitLaw, RecoveryLaw, StateLaw, StatementsLaw, WordsLaw};
 
 /// Every exploration begins with no stop armed, and with a card of layout 2 that owes no write if one runs.
 pub fn first_card_is_settled()
@@ -22,19 +22,9 @@ pub fn all_is_safe()
     ensures { AllLaw }
 {}
 
-/// If the text of an exploration says `all`, no sequence of moves spends an allowance below zero.
-pub fn a_text_that_says_all_is_safe()
-    ensures { TextLaw }
-{}
-
 /// If a search ends at depth N and nothing was broken, no sequence of at most N moves does.
 pub fn depth_is_safe()
     ensures { DepthLaw }
-{}
-
-/// If the text of an exploration says `depth N` and fewer than 1,000,000 states, no sequence of at most N moves does.
-pub fn a_text_that_says_depth_is_safe()
-    ensures { DepthTextLaw }
 {}
 
 /// If a search ends within depth D because of too many states, no sequence of fewer than D moves does.

@@ -3,6 +3,3 @@
 #![tactic(auto)]
 
 mod laws;
-mod purse_rows;
-mod refusal_rows;
-mod rows;

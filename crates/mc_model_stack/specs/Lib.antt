@@ -1,3 +1,2 @@
 pub mod StackRows
 pub mod StackShape
-pub mod CheckWords

@@ -1,7 +1,7 @@
 -- The shape of the stack at each place of code: the facts, the causes by which code is refused, and the deepest stack.
 use Rattle.std.specs.Prelude.{◌≡◌, ◌≢◌, ◌⊎◌, ℕ, ◌+◌, ◌-◌, ◌<◌, ◌≤◌, Bool, true, false, cond, not, ◌&&◌, nat_lt, List, [], ◌∷◌, length, Some, None, is_some, Result, Ok, Err}
-use Rattle.mc_model_stack.specs.declared.checker.CheckCause.{CheckCause}
-use Rattle.mc_model_stack.specs.declared.checker.CheckCause.TheVariants.{Undefined, Past, Indirect, Returns, Under, Target, Recursive, Heights, Wild, Deep}
+use Rattle.mc_model_text.specs.declared.checker.CheckCause.{CheckCause}
+use Rattle.mc_model_text.specs.declared.checker.CheckCause.TheVariants.{Undefined, Past, Indirect, Returns, Under, Target, Recursive, Heights, Wild, Deep}
 use Rattle.mc_model_machine.specs.declared.instruction.DecodeFault.{DecodeFault}
 use Rattle.mc_model_machine.specs.declared.instruction.DecodeFault.TheVariants as fault
 use Rattle.mc_model_machine.specs.declared.instruction.Ins.{Ins}

@@ -1,7 +1,3 @@
 #![tactic(auto)]
 
-//! What the stack checker asks: the shape of the stack at each place of code, and why code is refused.
-
-mod checker;
-
-pub use checker::CheckCause;
+//! What the stack checker asks: the shape of the stack at each place of code.

@@ -7,7 +7,8 @@ use Rattle.mc_model_play.specs.Play.{State}
 use Rattle.mc_explore.specs.Rules as rule
 use Rattle.mc_explore.specs.States as model
 use Rattle.mc_explore.specs.States.{play_of_deck}
-use Rattle.mc_explore.specs.Search.{Ending, All, AtDepth, Broken, TooMany, HaltedRound, Node, Round, Search as Found, after_depth, after_round, depth_lines, ending_of, ending_text, first_state, round_of_states, search_end, search_from, search_of, search_on, sums_text, text_within, with_depth}
+use Rattle.mc_explore.specs.Search.{Ending, All, AtDepth, Broken, TooMany, HaltedRound, Node, Round, Search as Found, after_depth, after_round, ending_of, first_state, round_of_states, search_end, search_from, search_of, search_on, with_depth}
+use Rattle.mc_explore_text.specs.Report.{depth_lines, ending_text, sums_text, text_within}
 use Rattle.mc_rules.specs.Meanings.{AlikeLists, AreRules}
 use Rattle.mc_rules.specs.Occasions.{IsRow}
 use Rattle.mc_rules.specs.declared.reading.Exploration.{Exploration}

@@ -11,7 +11,8 @@ use Rattle.mc_model_play.specs.Family.{is_running}
 use Rattle.mc_explore.specs.Rules as rule
 use Rattle.mc_explore.specs.States.{warm_in, play_of_deck}
 use Rattle.mc_explore.specs.Tries.{Try}
-use Rattle.mc_explore.specs.Search.{Statement, begins_cut, broken_text, lead_statements, move_statements, path_statements, statements_text, statements_to}
+use Rattle.mc_explore.specs.Search.{Statement, begins_cut, lead_statements, move_statements, path_statements, statements_to}
+use Rattle.mc_explore_text.specs.Report.{broken_text, statements_text}
 use Rattle.mc_rules.specs.Meanings.{allowance_values, AlikeLists, IsMove}
 use Rattle.mc_rules.specs.declared.reading.Exploration.{Exploration}
 use Rattle.mc_rules.specs.declared.rules.Allowance.{Allowance}

@@ -4,7 +4,8 @@ use Rattle.std.specs.Result.{IsErrAnd}
 use Rattle.mc_model_play.specs.Play.{State}
 use Rattle.mc_explore.specs.Rules as rule
 use Rattle.mc_explore.specs.Tries.{Try}
-use Rattle.mc_explore.specs.Search.{Ending, HaltedRound, Node, Halt as SearchHalt, Full, RuleBroken, Broken, TooMany, broken_text, ending_of, search_end, statements_to, sums_text}
+use Rattle.mc_explore.specs.Search.{Ending, HaltedRound, Node, Halt as SearchHalt, Full, RuleBroken, Broken, TooMany, ending_of, search_end, statements_to}
+use Rattle.mc_explore_text.specs.Report.{broken_text, sums_text}
 use Rattle.mc_rules.specs.Meanings.{AlikeLists}
 use Rattle.mc_text.specs.Texts.{Sunk}
 use Rattle.mc_text.proofs.TextLemmas.{writes_none}

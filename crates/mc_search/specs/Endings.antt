@@ -5,7 +5,8 @@ use Rattle.mc_model_play.specs.Family.{is_running}
 use Rattle.mc_explore.specs.Rules as rule
 use Rattle.mc_explore.specs.States.{warm_in, play_of_deck}
 use Rattle.mc_explore.specs.Search as found
-use Rattle.mc_explore.specs.Search.{Ending, All, AtDepth, TooMany, Node, Statement, depth_lines, ending_text, first_state, idle_statement, path_statements, power_statement, search_of, search_on, text_within}
+use Rattle.mc_explore.specs.Search.{Ending, All, AtDepth, TooMany, Node, Statement, first_state, idle_statement, path_statements, power_statement, search_of, search_on}
+use Rattle.mc_explore_text.specs.Report.{depth_lines, ending_text, text_within}
 use Rattle.mc_text.specs.Texts.{Sunk, Writes, Fails}
 use Rattle.mc_search.specs.declared.beginning.Lead.{Lead}
 use Rattle.mc_search.specs.declared.endings.Start.{Start}

@@ -1,7 +1,7 @@
 // The text of an exploration.
 ghost use Rattle.std.specs.Prelude.{◌≡◌, ◌++◌, codes, decimal};
 ghost use Rattle.mc_model_text.specs.Listing.{hex_text};
-ghost use Rattle.mc_explore.specs.Search.{sums_text};
+ghost use Rattle.mc_explore_text.specs.Report.{sums_text};
 ghost use Rattle.mc_text.specs.Texts.{sunk, Puts};
 ghost use Rattle.mc_search.specs.Reports.{broken_line, count_of_lines, cut_line, depth_line, how_text, move_lines, statement_line};
 

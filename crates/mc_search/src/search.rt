@@ -2,8 +2,9 @@
 ghost use Rattle.std.specs.Prelude.{◌≡◌, not, ◌&&◌, IfOk};
 ghost use Rattle.mc_explore.specs.Rules as rule;
 ghost use Rattle.mc_explore.specs.States.{play_of_deck};
-ghost use Rattle.mc_explore.specs.Search.{most_states, search_of, text_within};
-ghost use Rattle.mc_explore.specs.Search.{explore_text};
+ghost use Rattle.mc_explore.specs.Search.{most_states, search_of};
+ghost use Rattle.mc_explore_text.specs.Report.{text_within};
+ghost use Rattle.mc_explore_text.specs.Report.{explore_text};
 ghost use Rattle.mc_text.specs.Texts.{sunk};
 ghost use Rattle.mc_search.specs.Kept.{IsExplorationOf};
 ghost use Rattle.mc_search.specs.Endings.{IsExplored, Starts};

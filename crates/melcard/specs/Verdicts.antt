@@ -7,7 +7,7 @@ use Rattle.mc_model_text.specs.Listing.{listing_of_code, hex_text}
 use Rattle.mc_model_text.specs.Text.{CodeFault, BadHex, TooLarge, code_text_read}
 use Rattle.mc_model_machine.specs.Words.{decode_word}
 use Rattle.mc_model_text.specs.AsmWords.{asm_word}
-use Rattle.mc_model_stack.specs.CheckWords.{check_word}
+use Rattle.mc_model_text.specs.CheckWords.{check_word}
 use Rattle.mc_model_text.specs.declared.assembler.AsmCause.{AsmCause}
 use Rattle.mc_model_play.specs.declared.deck.DeckCause.{DeckCause}
 use Rattle.mc_model_machine.specs.declared.instruction.DecodeFault.{DecodeFault}

@@ -4,7 +4,8 @@ use Rattle.std.proofs.Common.{ap, inr, refl, subst, sym}
 use Rattle.mc_streams.specs.declared.refusals.WriteFault.{WriteFault as Fault}
 use Rattle.mc_explore.specs.Rules as rule
 use Rattle.mc_explore.specs.Rules.{exploration_read}
-use Rattle.mc_explore.specs.Search.{explore_text, most_states, search_of}
+use Rattle.mc_explore.specs.Search.{most_states, search_of}
+use Rattle.mc_explore_text.specs.Report.{explore_text}
 use Rattle.mc_explore.proofs.ReadRules.{moves_of_exploration}
 use Rattle.mc_rules.specs.Meanings.{IsExplorationRead}
 use Rattle.mc_rules.specs.declared.reading.Exploration.{Exploration}

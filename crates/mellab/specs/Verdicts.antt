@@ -9,7 +9,8 @@ use Rattle.mc_lab.specs.declared.remark.Mark.TheVariants as mark
 use Rattle.mc_lab.specs.Remarks.{Remark, remarks}
 use Rattle.mc_lab.specs.Sweeps.{is_whole, sweep_text}
 use Rattle.mc_explore.specs.Rules.{Exploration, exploration_read}
-use Rattle.mc_explore.specs.Search.{explore_text, most_states, search_of}
+use Rattle.mc_explore.specs.Search.{most_states, search_of}
+use Rattle.mc_explore_text.specs.Report.{explore_text}
 use Rattle.mc_search.specs.Endings.{is_broken}
 use Rattle.mc_filter.specs.Lines.{at_line, deck_line}
 use Rattle.mellab.specs.declared.job.Job.{Job}

@@ -3,7 +3,7 @@
 // What is listed, checked, traced and counted where a whole draft does not show it.
 ghost use Rattle.std.specs.Prelude.{◌≡◌, ◌∷◌, ◌++◌, [], codes, Ok, Err};
 ghost use Rattle.mc_model_text.specs.declared.assembler.AsmCause.TheVariants.{UnknownWord};
-ghost use Rattle.mc_model_stack.specs.declared.checker.CheckCause.TheVariants.{Past, Under};
+ghost use Rattle.mc_model_text.specs.declared.checker.CheckCause.TheVariants.{Past, Under};
 ghost use Rattle.mc_model_play.specs.declared.deck.DeckCause.TheVariants.{Asm, BadName, NoEnd};
 ghost use Rattle.mc_desk.specs.Computed.{check, cover, listing, trace};
 

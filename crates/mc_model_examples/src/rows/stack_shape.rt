@@ -3,7 +3,7 @@
 ghost use Rattle.std.specs.Prelude.{◌≡◌, ◌∷◌, ◌++◌, [], codes, pos, negsuc, true, false, Some, None};
 ghost use Rattle.mc_model_stack.specs.StackRows.{need, height_after, always_abends, is_plain_at};
 ghost use Rattle.mc_model_stack.specs.StackShape.{Main, At, Bad, Stands, fact, look};
-ghost use Rattle.mc_model_stack.specs.declared.checker.CheckCause.TheVariants.{Undefined, Past, Indirect, Returns, Under, Target};
+ghost use Rattle.mc_model_text.specs.declared.checker.CheckCause.TheVariants.{Undefined, Past, Indirect, Returns, Under, Target};
 ghost use Rattle.mc_model_machine.specs.declared.instruction.Ins.TheVariants.{Prim, Ret, Retio, Load, Store, Storei, Index, Setw, Addn, Incn, Popn};
 ghost use Rattle.mc_model_examples.specs.Checked.{verdict};
 ghost use Rattle.mc_model_examples.specs.Written.{hex};

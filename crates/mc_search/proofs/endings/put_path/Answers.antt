@@ -1,5 +1,6 @@
 use Rattle.std.proofs.Common.{sym}
-use Rattle.mc_explore.specs.Search.{path_statements, statements_text}
+use Rattle.mc_explore.specs.Search.{path_statements}
+use Rattle.mc_explore_text.specs.Report.{statements_text}
 use Rattle.mc_text.proofs.TextLemmas.{fails_before, puts_as, puts_failed, puts_then}
 use Rattle.mc_search.specs.Endings.{lead_list}
 use Rattle.mc_search.proofs.EndingLemmas.{statements_append}

@@ -2,7 +2,8 @@ use Rattle.std.proofs.Common.{List, Result, drop}
 use Rattle.mc_streams.specs.declared.refusals.WriteFault.{WriteFault}
 use Rattle.mc_explore.specs.Rules as rule
 use Rattle.mc_explore.specs.Tries.{Try}
-use Rattle.mc_explore.specs.Search.{path_statements, statements_text}
+use Rattle.mc_explore.specs.Search.{path_statements}
+use Rattle.mc_explore_text.specs.Report.{statements_text}
 use Rattle.mc_rules.specs.Meanings.{AlikeLists, IsMove}
 use Rattle.mc_text.specs.Texts.{Puts, Sunk, sunk_in}
 use Rattle.mc_search.specs.Rounds.{IsTry}

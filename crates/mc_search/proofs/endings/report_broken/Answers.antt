@@ -1,5 +1,6 @@
 use Rattle.std.proofs.Common.{ap}
-use Rattle.mc_explore.specs.Search.{statements_text, statements_to}
+use Rattle.mc_explore.specs.Search.{statements_to}
+use Rattle.mc_explore_text.specs.Report.{statements_text}
 use Rattle.mc_explore.specs.States.{play_of_deck}
 use Rattle.mc_search.specs.Reports.{broken_line}
 use Rattle.mc_search.proofs.EndingLemmas.{count_is, fails_as, line_fails, moves_as, path_fails, path_puts, put_failed, writes_as, written_are}

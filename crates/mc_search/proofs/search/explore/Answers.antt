@@ -1,4 +1,4 @@
-use Rattle.mc_explore.specs.Search.{explore_text}
+use Rattle.mc_explore_text.specs.Report.{explore_text}
 use Rattle.mc_search.proofs.search.explore.Goals as goal
 
 pub returns : goal.returns

@@ -1,5 +1,5 @@
 ghost use Rattle.std.specs.Prelude.{◌≡◌};
-ghost use Rattle.mc_model_stack.specs.CheckWords.{check_word};
+ghost use Rattle.mc_model_text.specs.CheckWords.{check_word};
 
 /// Why the stack checker refuses code.
 #[derive(Clone, Copy, Debug, PartialEq, Eq)]

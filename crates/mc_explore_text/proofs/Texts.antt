@@ -7,8 +7,9 @@ use Rattle.std.proofs.lemmas.List.{append_assoc}
 use Rattle.mc_model_text.specs.Text.{every}
 use Rattle.mc_model_play.specs.Play.{State}
 use Rattle.mc_explore.specs.States.{play_of_deck}
-use Rattle.mc_explore.specs.Search.{Ending, All, AtDepth, Broken, TooMany, Search, depth_lines, sums_text, ending_text, most_states, search_of, text_within, explore_text}
-use Rattle.mc_explore.specs.Safety.{TextLaw}
+use Rattle.mc_explore.specs.Search.{Ending, All, AtDepth, Broken, TooMany, Search, most_states, search_of}
+use Rattle.mc_explore_text.specs.Report.{depth_lines, sums_text, ending_text, text_within, explore_text}
+use Rattle.mc_explore_text.specs.TextSafety.{TextLaw}
 use Rattle.mc_explore.proofs.Safety.{all_law}
 
 -- ---- numbers have no blank and no line feed

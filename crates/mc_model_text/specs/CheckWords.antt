@@ -1,7 +1,7 @@
 -- The words that are printed for the causes of the stack checker.
 use Rattle.std.specs.Prelude.{ℕ, List, codes}
-use Rattle.mc_model_stack.specs.declared.checker.CheckCause.{CheckCause}
-use Rattle.mc_model_stack.specs.declared.checker.CheckCause.TheVariants as check
+use Rattle.mc_model_text.specs.declared.checker.CheckCause.{CheckCause}
+use Rattle.mc_model_text.specs.declared.checker.CheckCause.TheVariants as check
 
 -- the printed word of why the stack checker refuses code
 abbrev pub check_word : CheckCause → List ℕ

@@ -22,7 +22,8 @@ use Rattle.mc_model_play.specs.Play.{send, play_at_power, step, plays, moves_of,
 use Rattle.mc_explore.specs.Matching.{fits}
 use Rattle.mc_explore.specs.Rules.{Exploration, exploration_read}
 use Rattle.mc_model_play.specs.DeckGrammar.{DeckLine, deck_read}
-use Rattle.mc_explore.specs.Search.{Statement, statements_text, most_states, text_within}
+use Rattle.mc_explore.specs.Search.{Statement, most_states}
+use Rattle.mc_explore_text.specs.Report.{statements_text, text_within}
 
 -- the exploration of a deck that was read, with at most `limit` states
 abbrev pub text_in : ℕ → ℕ → Result Exploration (ℕ × DeckCause) → Result (List ℕ) (ℕ × DeckCause)

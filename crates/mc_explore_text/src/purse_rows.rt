@@ -2,8 +2,8 @@
 
 // Worked rows: purses whose PIN is compared at most three times, and whose debits want a right guess.
 ghost use Rattle.std.specs.Prelude.{◌≡◌, ◌++◌, codes, Ok};
-ghost use Rattle.mc_explore.specs.Computed.{explored_deck};
-ghost use Rattle.mc_explore.specs.Decks.{late_deck, pin_deck};
+ghost use Rattle.mc_explore_text.specs.Computed.{explored_deck};
+ghost use Rattle.mc_explore_text.specs.Decks.{late_deck, pin_deck};
 
 /// Four depths of a purse that counts a guess before it compares it.
 pub fn pin_four()

@@ -11,7 +11,7 @@ ghost use Rattle.mc_model_play.specs.declared.deck.DeckCause.TheVariants.{
   OutOfRange,
   UnknownName,
 };
-ghost use Rattle.mc_explore.specs.Computed.{explored_deck};
+ghost use Rattle.mc_explore_text.specs.Computed.{explored_deck};
 
 /// Lines that are no rule.
 pub fn bad_lines()

@@ -6,8 +6,8 @@ ghost use Rattle.mc_model_device.specs.Image.{opening, Two};
 ghost use Rattle.mc_model_play.specs.DeckGrammar as line;
 ghost use Rattle.mc_explore.specs.Tries.{ones};
 ghost use Rattle.mc_explore.specs.Search.{cut_statement, idle_statement, power_statement};
-ghost use Rattle.mc_explore.specs.Computed.{explored_deck, explored_within, statements_read};
-ghost use Rattle.mc_explore.specs.Decks.{counter_deck, idle_deck, session_deck, twice_deck};
+ghost use Rattle.mc_explore_text.specs.Computed.{explored_deck, explored_within, statements_read};
+ghost use Rattle.mc_explore_text.specs.Decks.{counter_deck, idle_deck, session_deck, twice_deck};
 
 /// A deck without rules has one state.
 pub fn no_rules()

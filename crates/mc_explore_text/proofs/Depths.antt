@@ -9,11 +9,12 @@ use Rattle.mc_model_play.specs.Play.{State}
 use Rattle.mc_explore.specs.Rules.{Rules, no_rules, Exploration}
 use Rattle.mc_explore.specs.States.{CardState, is_known, play_of_deck}
 use Rattle.mc_explore.specs.Tries.{Try, tries_of, outcome}
-use Rattle.mc_explore.specs.Search.{Node, Round, Halt, RuleBroken, Full, HaltedRound, with_try, with_new, with_reached, after_outcome, round_of_tries, round_of_states, Ending, All, AtDepth, Broken, TooMany, Search, search_end, ending_of, after_depth, after_round, search_on, search_from, sums_text, ending_text, most_states, first_state, search_of, text_within, explore_text}
-use Rattle.mc_explore.specs.Safety.{DepthTextLaw}
+use Rattle.mc_explore.specs.Search.{Node, Round, Halt, RuleBroken, Full, HaltedRound, with_try, with_new, with_reached, after_outcome, round_of_tries, round_of_states, Ending, All, AtDepth, Broken, TooMany, Search, search_end, ending_of, after_depth, after_round, search_on, search_from, most_states, first_state, search_of}
+use Rattle.mc_explore_text.specs.Report.{sums_text, ending_text, text_within, explore_text}
+use Rattle.mc_explore_text.specs.TextSafety.{DepthTextLaw}
 use Rattle.mc_explore.proofs.Breaks.{EitherWay, either_way}
 use Rattle.mc_explore.proofs.Safety.{depth_law}
-use Rattle.mc_explore.proofs.Texts.{other, after, head, after_five, decimal_every, unlines, sums_end, no_depth}
+use Rattle.mc_explore_text.proofs.Texts.{other, after, head, after_five, decimal_every, unlines, sums_end, no_depth}
 
 -- ---- how many states there are
 

@@ -1,0 +1,4 @@
+pub mod Report
+pub mod TextSafety
+pub mod Computed
+pub mod Decks
