@@ -170,7 +170,7 @@ fn lines_of(alloc: Global, text: &[u8]) -> Result<Vec<NumberedLine<'_>>, AsmRefu
 /// Returns `At` with the first refused line, counted from 1, and its cause: the first line with a cause of
 /// its own, and if there is none, the first whose label is unknown or too far for a branch. Returns
 /// `NoMemory` if out of memory.
-#[tactic(auto, unfolding(mc_model_machine::specs::Assembly::assembly_of))]
+#[tactic(auto, unfolding(mc_model_text::specs::Assembly::assembly_of))]
 pub fn assemble(alloc: Global, text: &[u8]) -> Result<Vec<u8>, AsmRefusal>
     ensures code { IfOk result (λ v. assembly_of text.now ≡ Ok v.items) }
     ensures refused { IfErr result (λ e. AssemblyRefuses (assembly_of text.now) e) }

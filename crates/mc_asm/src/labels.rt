@@ -104,7 +104,7 @@ pub fn end_of(item: &Item<'_>, place: u16) -> Result<u16, AsmCause>
 }
 
 // A line's label, and the place after the line.
-#[tactic(auto, unfolding(mc_model_machine::specs::Assembly::line_laid))]
+#[tactic(auto, unfolding(mc_model_text::specs::Assembly::line_laid))]
 fn label_and_end<'a>(
     line: &'a [u8],
     place: u16,

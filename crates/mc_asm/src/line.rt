@@ -84,7 +84,7 @@ fn labelled<'a>(front: &'a [u8], behind: Option<&'a [u8]>) -> Result<Line<'a>, A
 /// # Errors
 ///
 /// Returns the cause why the line is refused.
-#[tactic(auto, unfolding(mc_model_machine::specs::Assembly::line_read))]
+#[tactic(auto, unfolding(mc_model_text::specs::Assembly::line_read))]
 pub fn read_line(line: &[u8]) -> Result<Line<'_>, AsmCause>
     ensures value { ok_as line_of result ≡ line_read line.now }
     ensures ready { IfOk result (λ l. Ready l.item) }

@@ -183,7 +183,7 @@ fn looked_at(len: usize, entry: Entry, ins: Ins, next: u16) -> Result<Seen, Chec
 
 /// Returns the instruction of a fact and the place after it, or the first rule that is broken there by the
 /// fact alone.
-#[tactic(auto, unfolding(mc_model_machine::specs::StackShape::look))]
+#[tactic(auto, unfolding(mc_model_stack::specs::StackShape::look))]
 pub fn look(code: &[u8], place: u16, entry: Entry) -> Result<Seen, CheckCause>
     requires high { length code.now ≤ most_code }
     ensures seen { fact_look_of result ≡ look code.now (fact_of place entry) }

@@ -1,5 +1,5 @@
 -- The search through all states, breadth first.
-use Rattle.std.specs.Prelude.{ℕ, zero, suc, ◌+◌, Bool, true, false, nat_lt, List, [], ◌∷◌, ◌++◌, length, reverse, codes, decimal, Result, Ok, Err}
+use Rattle.std.specs.Prelude.{ℕ, zero, suc, ◌+◌, Bool, true, false, nat_lt, List, [], ◌∷◌, ◌++◌, length, codes, decimal, Result, Ok, Err}
 use Rattle.mc_model_text.specs.Text.{◌>>=◌}
 use Rattle.mc_model_text.specs.Listing.{hex_text}
 use Rattle.mc_model_device.specs.PowerUp.{Base, OnCard, AtFault}
@@ -7,7 +7,7 @@ use Rattle.mc_model_play.specs.DeckGrammar.{DeckLine}
 use Rattle.mc_model_play.specs.DeckGrammar as line
 use Rattle.mc_model_play.specs.Play.{Armed, Unarmed, ArmedCut, ArmedFail, Live, Running, armed_stop_in, State}
 use Rattle.mc_explore.specs.Rules.{Move, OnRule, Rules, Exploration}
-use Rattle.mc_explore.specs.States.{CardState, warm_state, warm_in, play_of_deck, first_play, is_known}
+use Rattle.mc_explore.specs.States.{CardState, warm_state, warm_in, first_play, is_known}
 use Rattle.mc_explore.specs.Tries.{Manner, Whole, CutAt, Try, tries_of, outcome}
 
 -- ---- one depth

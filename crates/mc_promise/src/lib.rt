@@ -30,7 +30,7 @@ pub fn data_are_few()
 {}
 
 /// The text of the counter is assembled to its code.
-#[tactic(auto, unfolding(mc_model_machine::specs::Assembly::assembly_of))]
+#[tactic(auto, unfolding(mc_model_text::specs::Assembly::assembly_of))]
 pub fn counter_is_assembled()
     ensures { assembly_of counter_text ≡ Ok counter_code }
 {}

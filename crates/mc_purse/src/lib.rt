@@ -19,7 +19,7 @@ pub use worked::{
 };
 
 /// The text of the purse is assembled to its code.
-#[tactic(auto, unfolding(mc_model_machine::specs::Assembly::assembly_of))]
+#[tactic(auto, unfolding(mc_model_text::specs::Assembly::assembly_of))]
 pub fn text()
     ensures { assembly_of purse_text ≡ Ok purse_code }
 {}

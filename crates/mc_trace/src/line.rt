@@ -66,7 +66,7 @@ fn bit(flag: bool) -> u8
 /// Returns the line of a turn in a trace, with its line feed: the depth of its frame from 1 to 4, the place,
 /// the instruction as in a listing or `?` if there is none, DT, and the flags C and Z. Place and DT have four
 /// hexadecimal digits.
-#[tactic(auto, unfolding(mc_model_machine::specs::TurnText::turn_line))]
+#[tactic(auto, unfolding(mc_model_text::specs::TurnText::turn_line))]
 pub fn line_of(turn: &Turn) -> ArrayVec<u8, 96>
     requires shaped { IfSome turn.now.ins Shaped }
     requires low { 1 ≤ turn.now.depth }

@@ -1,4 +1,4 @@
-#![tactic(auto, unfolding(mc_model_machine::specs::Assembly::assembly_of))]
+#![tactic(auto, unfolding(mc_model_text::specs::Assembly::assembly_of))]
 
 ghost use Rattle.std.specs.Prelude.{◌≡◌, ◌++◌, [], codes, Ok, Err};
 ghost use Rattle.mc_model_text.specs.Assembly.{assembly_of};

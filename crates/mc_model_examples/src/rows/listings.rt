@@ -1,4 +1,4 @@
-#![tactic(auto, unfolding(mc_model_machine::specs::Text::code_text_read, crate::specs::Written::listing))]
+#![tactic(auto, unfolding(mc_model_text::specs::Text::code_text_read, crate::specs::Written::listing))]
 
 ghost use Rattle.std.specs.Prelude.{◌≡◌, ◌++◌, [], codes, replicate, length, Ok, Err};
 ghost use Rattle.mc_model_text.specs.Text.{code_text_read, BadHex, TooLarge};

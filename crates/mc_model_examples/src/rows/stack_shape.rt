@@ -1,4 +1,4 @@
-#![tactic(auto, unfolding(mc_model_machine::specs::StackShape::look, crate::specs::Checked::verdict))]
+#![tactic(auto, unfolding(mc_model_stack::specs::StackShape::look, crate::specs::Checked::verdict))]
 
 ghost use Rattle.std.specs.Prelude.{◌≡◌, ◌∷◌, ◌++◌, [], codes, pos, negsuc, true, false, Some, None};
 ghost use Rattle.mc_model_stack.specs.StackRows.{need, height_after, always_abends, is_plain_at};
