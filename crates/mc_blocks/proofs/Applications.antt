@@ -1,38 +1,35 @@
 -- The applications of a well laid image: their number, and one of them found by its name.
-use Rattle.std.proofs.Common.{◌≡◌, ◌≢◌, ℕ, ◌+◌, ◌<◌, ◌≤◌, Bool, true, false, ◌&&◌, List, [], ◌∷◌, length, Option, Some, None, refl, sym, ◌∙◌, ap, subst, arith, cond, not}
-use Rattle.std.specs.Prelude.{nat_lt, ◌==◌, bytes_eq, MatchBool}
-use Rattle.std.proofs.lemmas.Bool.{and_parts, eq-eqb, ne_eqb, ltb-true, or_right, or_left}
+use Rattle.std.proofs.Common.{◌≡◌, ◌≢◌, ℕ, ◌+◌, ◌<◌, ◌≤◌, Bool, true, false, List, [], ◌∷◌, length, Option, Some, None, refl, sym, ◌∙◌, ap, subst, arith, cond, not}
+use Rattle.std.specs.Prelude.{◌==◌, bytes_eq}
+use Rattle.std.proofs.lemmas.Bool.{eq-eqb, ne_eqb, or_right, or_left}
 use Rattle.std.proofs.lemmas.Slice.Eq.{bytes_eq-Decides}
 use Rattle.mc_model_device.specs.Bytes.{insert, lookup, name_before, has_name}
 use Rattle.mc_model_device.specs.Image.{Closed, look}
 use Rattle.mc_model_device.specs.Device.{IsSized}
-use Rattle.mc_model_device.specs.Card.{App, Card, Block, means, blocks, name_in, name_at, app_at, apps_of, record_at}
-use Rattle.mc_model_device.specs.Layout.{spans, is_record, bad_record, IsWellLaid}
+use Rattle.mc_model_device.specs.Card.{App, Card, Block, means, blocks, name_at, app_at, apps_of}
+use Rattle.mc_model_device.specs.Layout.{spans, bad_record, IsWellLaid}
 use Rattle.mc_blocks.specs.Blocks.{used_spans, is_admissible}
 use Rattle.mc_blocks.specs.Plans.{has_span}
 use Rattle.mc_blocks.proofs.Tiles.{Tiled}
 use Rattle.mc_blocks.proofs.Maps.{Free, OneAt, one_insert, has_self}
-use Rattle.mc_blocks.proofs.Bridge.{WellLaid, well_laid, with_block, some_apps, no_apps, AreNamed, named, free_all, Faultless, faultless}
+use Rattle.mc_blocks.proofs.Bridge.{WellLaid, well_laid, no_apps, AreNamed, named, free_all, Faultless, faultless, passed, admitted}
 use Rattle.mc_model_device.proofs.MapLemmas.{same_name}
 use Rattle.mc_model_device.proofs.LayoutLemmas.{closed_fault, closed_means}
 
 -- ---- at most 32
 
-few_kind : (m : List (List ℕ)) (names : List (List ℕ)) (b : Block) (used : ℕ) (x y : Option ℕ) (us : List (ℕ × ℕ)) (t s : Bool) → is_admissible m b names used ≡ s
-    → (x ≡ None → used + 1 ≤ 32 → used + 1 + length us ≤ 32) → (y ≡ None → used + length us ≤ 32) → cond t (cond s x (Some b.place)) y ≡ None → used + length (cond t ((b.place, b.words) ∷ us) us) ≤ 32
-few_kind m names b used x y us false s e f g none = g none
-few_kind m names b used x y us true false e f g none = absurd (cc none)
-few_kind m names b used x y us true true e f g none =
-    let lt : used < 32 = ltb-true used 32 (and_parts (is_record (record_at m b.place) b.words && not (has_name (name_in (record_at m b.place)) names)) (nat_lt used 32) e).1 in
-    let more : used + 1 + length us ≤ 32 = f none (omega arith) in
-    omega arith
-
 few_all : (m : List (List ℕ)) (bs : List Block) (names : List (List ℕ)) (used : ℕ) → used ≤ 32 → bad_record m bs names used ≡ None → used + length (used_spans bs) ≤ 32
 unfolding bad_record
 few_all m [] names used low h = omega arith
 few_all m (b ∷ bs) names used low h =
-    few_kind m names b used (bad_record m bs (name_in (record_at m b.place) ∷ names) (used + 1)) (bad_record m bs names used) (used_spans bs) b.used (is_admissible m b names used) refl
-    (λ none more. few_all m bs (name_in (record_at m b.place) ∷ names) (used + 1) more none) (λ none. few_all m bs names used low none) h
+    (elim b.used as (λ u. bad_record m (record b { used = u } ∷ bs) names used ≡ None → used + length (used_spans (record b { used = u } ∷ bs)) ≤ 32) [
+      | true ↦ λ none.
+          let rest = passed (is_admissible m b names used) (bad_record m bs (name_at m b.place ∷ names) (used + 1)) b.place none in
+          let lt : used < 32 = (admitted m b names used rest.0).2 in
+          let more : used + 1 + length (used_spans bs) ≤ 32 = few_all m bs (name_at m b.place ∷ names) (used + 1) (omega arith) rest.1 in
+          omega arith
+      | false ↦ λ none. few_all m bs names used low none
+    ]) h
 
 pub few_blocks : (m : List (List ℕ)) → Faultless m → length (used_spans (blocks m)) ≤ 32
 few_blocks m f = let few : 0 + length (used_spans (blocks m)) ≤ 32 = few_all m (blocks m) [] 0 (omega arith) f.records in omega (arith, few)
@@ -71,53 +68,56 @@ pub free_one : (n : List ℕ) (p : ℕ) (es : List (List ℕ × App)) → Free n
 free_one n p [] f = tt
 free_one n p (e ∷ es) f = (f.0 ∙ sym (ne_eqb (e.1).place p f.1), free_one n p es f.2)
 
--- an application that is found: it is at p or after it, a span begins at its place, and an application has its name
--- exactly if it lies there
+-- an application that is found: it is at p or after it, a span begins at its place, an application has its name exactly
+-- if it lies there, and the block there holds it
 pub record ApplicationFound (m : List (List ℕ)) (n : List ℕ) (bs : List Block) (p : ℕ) (a : App) : Type 0 where
   pub low : p ≤ a.place
   pub span : has_span a.place (used_spans bs) ≡ true
   pub one : OneAt n a.place (apps_of m bs)
   pub name : name_at m a.place ≡ n
+  pub self : app_at m a.place ≡ a
 
-found_kind : (m : List (List ℕ)) (n : List ℕ) (a : App) (b : Block) (bs : List Block) (names : List (List ℕ)) (u t : Bool) → 1 ≤ b.words → bytes_eq (name_at m b.place) n ≡ t
-    → MatchBool u ((is_record (record_at m b.place) b.words ≡ true) × (has_name (name_at m b.place) names ≡ false) × AreNamed m (name_at m b.place ∷ names) bs) (AreNamed m names bs)
+-- an application that is found is that of a used block of its name, or of a block after it
+found_kind : (m : List (List ℕ)) (n : List ℕ) (a : App) (b : Block) (bs : List Block) (names : List (List ℕ)) (u t : Bool) → 1 ≤ b.words → bytes_eq (name_at m b.place) n ≡ t → AreNamed m names (record b { used = u } ∷ bs)
     → ((ns : List (List ℕ)) → AreNamed m ns bs → lookup (apps_of m bs) n ≡ Some a → ApplicationFound m n bs (b.place + b.words) a)
     → ((ns : List (List ℕ)) (k : List ℕ) → has_name k ns ≡ true → AreNamed m ns bs → Free k b.place (apps_of m bs))
-    → lookup (cond u (with_block m b bs) (apps_of m bs)) n ≡ Some a
-    → (b.place ≤ a.place) × (has_span a.place (cond u ((b.place, b.words) ∷ used_spans bs) (used_spans bs)) ≡ true) × OneAt n a.place (cond u (with_block m b bs) (apps_of m bs)) × (name_at m a.place ≡ n)
+    → lookup (apps_of m (record b { used = u } ∷ bs)) n ≡ Some a → ApplicationFound m n (record b { used = u } ∷ bs) b.place a
+unfolding apps_of
 found_kind m n a b bs names false t long e nm rest free l =
     let f = rest names nm l in
     let low : b.place + b.words ≤ a.place = f.low in
-    (omega arith, f.span, f.one, f.name)
+    record { low = omega arith; span = f.span; one = f.one; name = f.name; self = f.self }
 found_kind m n a b bs names true true long e nm rest free l =
     let k = name_at m b.place in
     let is : Some (app_at m b.place) ≡ Some a = sym (lookup_insert (apps_of m bs) k n (app_at m b.place) ∙ ap (λ (x : Bool). cond x (Some (app_at m b.place)) (lookup (apps_of m bs) n)) e) ∙ l in
     let same : app_at m b.place ≡ a = cc in
     let place : b.place ≡ a.place = ap (λ (x : App). x.place) same in
-    let clear : Free n b.place (apps_of m bs) = subst (λ (x : List ℕ). Free x b.place (apps_of m bs)) (same_name k n e) (free (k ∷ names) k (has_self k names) nm.2) in (
-      omega (arith, place),
-      or_left (b.place == a.place) (has_span a.place (used_spans bs)) (eq-eqb b.place a.place place),
-      one_insert (apps_of m bs) n k a.place (app_at m b.place) (e ∙ sym (eq-eqb b.place a.place place)) (free_one n a.place (apps_of m bs) (subst (λ (q : ℕ). Free n q (apps_of m bs)) place clear)),
-      sym (ap (λ (q : ℕ). name_at m q) place) ∙ same_name k n e,
-    )
+    let clear : Free n b.place (apps_of m bs) = subst (λ (x : List ℕ). Free x b.place (apps_of m bs)) (same_name k n e) (free (k ∷ names) k (has_self k names) nm.2) in
+    record {
+      low = omega (arith, place);
+      span = or_left (b.place == a.place) (has_span a.place (used_spans bs)) (eq-eqb b.place a.place place);
+      one = one_insert (apps_of m bs) n k a.place (app_at m b.place) (e ∙ sym (eq-eqb b.place a.place place)) (free_one n a.place (apps_of m bs) (subst (λ (q : ℕ). Free n q (apps_of m bs)) place clear));
+      name = sym (ap (λ (q : ℕ). name_at m q) place) ∙ same_name k n e;
+      self = sym (ap (λ (q : ℕ). app_at m q) place) ∙ same;
+    }
 found_kind m n a b bs names true false long e nm rest free l =
     let k = name_at m b.place in
     let behind : lookup (apps_of m bs) n ≡ Some a = sym (lookup_insert (apps_of m bs) k n (app_at m b.place) ∙ ap (λ (x : Bool). cond x (Some (app_at m b.place)) (lookup (apps_of m bs) n)) e) ∙ l in
     let f = rest (k ∷ names) nm.2 behind in
     let low : b.place + b.words ≤ a.place = f.low in
     let ne : b.place ≢ a.place = λ h. absurd (omega (arith, h)) in
-    (omega arith, or_right (b.place == a.place) (has_span a.place (used_spans bs)) f.span, one_insert (apps_of m bs) n k a.place (app_at m b.place) (e ∙ sym (ne_eqb b.place a.place ne)) f.one, f.name)
+    record { low = omega arith; span = or_right (b.place == a.place) (has_span a.place (used_spans bs)) f.span; one = one_insert (apps_of m bs) n k a.place (app_at m b.place) (e ∙ sym (ne_eqb b.place a.place ne)) f.one; name = f.name; self = f.self }
 
-found_all : (m : List (List ℕ)) (n : List ℕ) (a : App) (bs : List Block) (p : ℕ) (x : Bool) (end : ℕ) (names : List (List ℕ)) → Tiled p x bs end → AreNamed m names bs → lookup (apps_of m bs) n ≡ Some a → ApplicationFound m n bs p a
+pub found_all : (m : List (List ℕ)) (n : List ℕ) (a : App) (bs : List Block) (p : ℕ) (x : Bool) (end : ℕ) (names : List (List ℕ)) → Tiled p x bs end → AreNamed m names bs → lookup (apps_of m bs) n ≡ Some a → ApplicationFound m n bs p a
 found_all m n a [] p x end names t nm l = absurd (cc (sym (ap (λ (es : List (List ℕ × App)). lookup es n) (no_apps m)) ∙ l))
 found_all m n a (b ∷ bs) p x end names t nm l =
     let place : b.place ≡ p = t.0 in
     let long : 1 ≤ b.words = t.1 in
-    let f = found_kind m n a b bs names b.used (bytes_eq (name_at m b.place) n) long refl nm
+    subst (λ (q : ℕ). ApplicationFound m n (b ∷ bs) q a) place
+    (found_kind m n a b bs names b.used (bytes_eq (name_at m b.place) n) long refl nm
     (λ ns ok h. subst (λ (q : ℕ). ApplicationFound m n bs (q + b.words) a) (sym place) (found_all m n a bs (p + b.words) (not b.used) end ns t.3 ok h))
     (λ ns k is ok. free_all m bs (p + b.words) (not b.used) end ns k b.place t.3 (omega arith) is ok)
-    (sym (ap (λ (es : List (List ℕ × App)). lookup es n) (some_apps m b bs)) ∙ l) in
-    record { low = omega (arith, f.0, place); span = f.1; one = subst (λ (es : List (List ℕ × App)). OneAt n a.place es) (sym (some_apps m b bs)) f.2; name = f.3 }
+    l)
 
 -- an application that is found by its name: its span, its place and its name
 pub record FoundIn (m : List (List ℕ)) (n : List ℕ) (a : App) : Type 0 where

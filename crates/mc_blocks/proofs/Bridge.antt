@@ -1,11 +1,11 @@
 -- On a well laid image the holes of the walk are the gaps of the card, and its used blocks are the card's spans.
 use Rattle.std.proofs.Common.{◌≡◌, ℕ, ◌+◌, ◌<◌, ◌≤◌, Bool, true, false, ◌&&◌, List, [], ◌∷◌, length, Option, Some, None, refl, sym, ◌∙◌, ap, subst, arith, cond, not}
 use Rattle.std.specs.Prelude.{nat_lt, ◌==◌, slice_index, MatchBool}
-use Rattle.std.proofs.lemmas.Bool.{and_parts, eqb-true, not-true}
+use Rattle.std.proofs.lemmas.Bool.{and_parts, eqb-true, not-true, ltb-true}
 use Rattle.mc_model_device.specs.Bytes.{up, be2, has_name, insert}
 use Rattle.mc_model_device.specs.Image.{Closed, look}
 use Rattle.mc_model_device.specs.Device.{IsSized}
-use Rattle.mc_model_device.specs.Card.{App, Block, blocks, section, record_at, name_in, name_at, app_at, apps_of, card_of, words_of_app, words_of_lengths, heap_start}
+use Rattle.mc_model_device.specs.Card.{App, Block, blocks, section, record_at, name_at, app_at, apps_of, card_of, words_of_app, words_of_lengths, heap_start}
 use Rattle.mc_model_device.specs.Layout.{spans, spans_of, gaps, gaps_from, put_at, no_root, is_record, bad_block, bad_record, bad_chain, words_fault, IsWellLaid}
 use Rattle.mc_blocks.specs.Chains.{SpansAbove}
 use Rattle.mc_blocks.specs.Blocks.{used_spans, hole_spans, is_admissible}
@@ -61,22 +61,42 @@ AreNamed m names (b ∷ bs) = MatchBool b.used
     ((is_record (record_at m b.place) b.words ≡ true) × (has_name (name_at m b.place) names ≡ false) × AreNamed m (name_at m b.place ∷ names) bs)
     (AreNamed m names bs)
 
-named_step : (m : List (List ℕ)) (names : List (List ℕ)) (b : Block) (x y : Option ℕ) (used : ℕ) (P Q : Type 0) (t s : Bool) → b.used ≡ t → is_admissible m b names used ≡ s
-    → (x ≡ None → P) → (y ≡ None → Q) → cond t (cond s x (Some b.place)) y ≡ None
-    → MatchBool t ((is_record (record_at m b.place) b.words ≡ true) × (has_name (name_at m b.place) names ≡ false) × P) Q
-named_step m names b x y used P Q false s ht hs f g none = g none
-named_step m names b x y used P Q true false ht hs f g none = absurd (cc none)
-named_step m names b x y used P Q true true ht hs f g none =
-    let outer = and_parts (is_record (record_at m b.place) b.words && not (has_name (name_in (record_at m b.place)) names)) (nat_lt used 32) hs in
-    let inner = and_parts (is_record (record_at m b.place) b.words) (not (has_name (name_in (record_at m b.place)) names)) outer.0 in
-    (inner.0, not-true (has_name (name_in (record_at m b.place)) names) inner.1, f none)
+-- a condition that lets a search pass holds, and the rest of the search finds nothing
+pub passed : (t : Bool) (x : Option ℕ) (p : ℕ) → cond t x (Some p) ≡ None → (t ≡ true) × (x ≡ None)
+passed true x p h = (refl, h)
+passed false x p h = absurd (cc h)
+
+-- a block that is admitted among the records has a good record and a new name
+pub admitted : (m : List (List ℕ)) (b : Block) (names : List (List ℕ)) (used : ℕ) → is_admissible m b names used ≡ true → (is_record (record_at m b.place) b.words ≡ true) × (has_name (name_at m b.place) names ≡ false) × (used < 32)
+admitted m b names used h =
+    let outer = and_parts (is_record (record_at m b.place) b.words && not (has_name (name_at m b.place) names)) (nat_lt used 32) h in
+    let inner = and_parts (is_record (record_at m b.place) b.words) (not (has_name (name_at m b.place) names)) outer.0 in
+    (inner.0, not-true (has_name (name_at m b.place) names) inner.1, ltb-true used 32 outer.1)
 
 pub named : (m : List (List ℕ)) (bs : List Block) (names : List (List ℕ)) (used : ℕ) → bad_record m bs names used ≡ None → AreNamed m names bs
 unfolding bad_record
 named m [] names used h = tt
 named m (b ∷ bs) names used h =
-    named_step m names b (bad_record m bs (name_in (record_at m b.place) ∷ names) (used + 1)) (bad_record m bs names used) used _ _ b.used (is_admissible m b names used) refl refl
-    (λ none. named m bs (name_in (record_at m b.place) ∷ names) (used + 1) none) (λ none. named m bs names used none) h
+    (elim b.used as (λ u. bad_record m (record b { used = u } ∷ bs) names used ≡ None → AreNamed m names (record b { used = u } ∷ bs)) [
+      | true ↦ λ none.
+          let rest = passed (is_admissible m b names used) (bad_record m bs (name_at m b.place ∷ names) (used + 1)) b.place none in
+          let good = admitted m b names used rest.0 in
+          (good.0, good.1, named m bs (name_at m b.place ∷ names) (used + 1) rest.1)
+      | false ↦ λ none. named m bs names used none
+    ]) h
+
+-- each used block has a good record
+abbrev pub AreRecorded : List (List ℕ) → List Block → Type 0
+AreRecorded m [] = Unit {0}
+AreRecorded m (b ∷ bs) = (b.used ≡ true → is_record (record_at m b.place) b.words ≡ true) × AreRecorded m bs
+
+pub recorded : (m : List (List ℕ)) (names : List (List ℕ)) (bs : List Block) → AreNamed m names bs → AreRecorded m bs
+recorded m names [] n = tt
+recorded m names (b ∷ bs) n =
+    (elim b.used as (λ u. AreNamed m names (record b { used = u } ∷ bs) → (u ≡ true → is_record (record_at m b.place) b.words ≡ true) × AreRecorded m bs) [
+      | true ↦ λ n. ((λ _. n.0), recorded m (name_at m b.place ∷ names) bs n.2)
+      | false ↦ λ n. ((λ e. absurd (cc e)), recorded m names bs n)
+    ]) n
 
 -- ---- the map of a walk
 
@@ -92,51 +112,42 @@ unfolding apps_of
 no_apps m = refl
 
 -- a name of the list has no entry in the map, and no entry lies at a place below
-free_step : (m : List (List ℕ)) (names : List (List ℕ)) (k : List ℕ) (q : ℕ) (b : Block) (bs : List Block) (t : Bool) → has_name k names ≡ true → q < b.place
-    → MatchBool t ((is_record (record_at m b.place) b.words ≡ true) × (has_name (name_at m b.place) names ≡ false) × AreNamed m (name_at m b.place ∷ names) bs) (AreNamed m names bs)
-    → ((ns : List (List ℕ)) → has_name k ns ≡ true → AreNamed m ns bs → Free k q (apps_of m bs)) → Free k q (cond t (with_block m b bs) (apps_of m bs))
-free_step m names k q b bs true there low n rest =
-    free_insert (apps_of m bs) (name_at m b.place) k q (app_at m b.place) (names_apart names k (name_at m b.place) there n.1) (λ e. absurd (omega (arith, e)))
-    (rest (name_at m b.place ∷ names) (has_more k (name_at m b.place) names there) n.2)
-free_step m names k q b bs false there low n rest = rest names there n
-
 pub free_all : (m : List (List ℕ)) (bs : List Block) (p : ℕ) (a : Bool) (end : ℕ) (names : List (List ℕ)) (k : List ℕ) (q : ℕ) → Tiled p a bs end → q < p → has_name k names ≡ true → AreNamed m names bs → Free k q (apps_of m bs)
-free_all m [] p a end names k q t low there n = subst (λ (l : List (List ℕ × App)). Free k q l) (sym (no_apps m)) tt
+unfolding apps_of
+free_all m [] p a end names k q t low there n = tt
 free_all m (b ∷ bs) p a end names k q t low there n =
     let place : b.place ≡ p = t.0 in
     let long : 1 ≤ b.words = t.1 in
-    subst (λ (l : List (List ℕ × App)). Free k q l) (sym (some_apps m b bs))
-    (free_step m names k q b bs b.used there (omega arith) n (λ ns is ok. free_all m bs (p + b.words) (not b.used) end ns k q t.3 (omega arith) is ok))
-
-above_step : (p : ℕ) (b : Block) (bs : List Block) (t : Bool) → b.place ≡ p → SpansAbove p (used_spans bs) → SpansAbove p (cond t ((b.place, b.words) ∷ used_spans bs) (used_spans bs))
-above_step p b bs true place rest = (omega (arith, place), rest)
-above_step p b bs false place rest = rest
+    let x = name_at m b.place in
+    (elim b.used as (λ u. AreNamed m names (record b { used = u } ∷ bs) → Free k q (apps_of m (record b { used = u } ∷ bs))) [
+      | true ↦ λ n. free_insert (apps_of m bs) x k q (app_at m b.place) (names_apart names k x there n.1) (λ e. absurd (omega (arith, e)))
+          (free_all m bs (p + b.words) (not b.used) end (x ∷ names) k q t.3 (omega arith) (has_more k x names there) n.2)
+      | false ↦ λ n. free_all m bs (p + b.words) (not b.used) end names k q t.3 (omega arith) there n
+    ]) n
 
 pub used_above : (p : ℕ) (a : Bool) (bs : List Block) (end : ℕ) → Tiled p a bs end → SpansAbove p (used_spans bs)
 used_above p a [] end t = tt
-used_above p a (b ∷ bs) end t = above_step p b bs b.used t.0 (above_weaker (p + b.words) p (used_spans bs) (omega arith) (used_above (p + b.words) (not b.used) bs end t.3))
-
-spans_step : (m : List (List ℕ)) (names : List (List ℕ)) (b : Block) (bs : List Block) (t : Bool) → IsSized m → b.place + b.words ≤ length m → SpansAbove (b.place + 1) (used_spans bs)
-    → MatchBool t ((is_record (record_at m b.place) b.words ≡ true) × (has_name (name_at m b.place) names ≡ false) × AreNamed m (name_at m b.place ∷ names) bs) (AreNamed m names bs)
-    → ((ns : List (List ℕ)) → AreNamed m ns bs → spans_of (apps_of m bs) ≡ used_spans bs) → ((ns : List (List ℕ)) (k : List ℕ) → has_name k ns ≡ true → AreNamed m ns bs → Free k b.place (apps_of m bs))
-    → spans_of (cond t (with_block m b bs) (apps_of m bs)) ≡ cond t ((b.place, b.words) ∷ used_spans bs) (used_spans bs)
-spans_step m names b bs false image h above n rest free = rest names n
-spans_step m names b bs true image h above n rest free =
-    let ns = name_at m b.place ∷ names in
-    spans_insert (apps_of m bs) (name_at m b.place) (app_at m b.place) (free ns (name_at m b.place) (has_self (name_at m b.place) names) n.2)
-    ∙ ap (λ (l : List (ℕ × ℕ)). put_at b.place (words_of_app (app_at m b.place)) l) (rest ns n.2)
-    ∙ ap (λ (w : ℕ). put_at b.place w (used_spans bs)) (needed_is m b.place b.words image n.0 h)
-    ∙ put_front b.place b.words (used_spans bs) above
+used_above p a (b ∷ bs) end t =
+    let place : b.place ≡ p = t.0 in
+    let rest : SpansAbove p (used_spans bs) = above_weaker (p + b.words) p (used_spans bs) (omega arith) (used_above (p + b.words) (not b.used) bs end t.3) in
+    elim b.used as (λ u. SpansAbove p (used_spans (record b { used = u } ∷ bs))) [ true ↦ (omega arith, rest) | false ↦ rest ]
 
 spans_all : (m : List (List ℕ)) (bs : List Block) (p : ℕ) (a : Bool) (names : List (List ℕ)) → IsSized m → Tiled p a bs (length m) → HeadersRead m bs → AreNamed m names bs → spans_of (apps_of m bs) ≡ used_spans bs
-spans_all m [] p a names image t r n = ap spans_of (no_apps m)
+unfolding apps_of
+spans_all m [] p a names image t r n = refl
 spans_all m (b ∷ bs) p a names image t r n =
     let place : b.place ≡ p = t.0 in
     let long : 1 ≤ b.words = t.1 in
-    ap spans_of (some_apps m b bs)
-    ∙ spans_step m names b bs b.used image r.1 (above_weaker (p + b.words) (b.place + 1) (used_spans bs) (omega arith) (used_above (p + b.words) (not b.used) bs (length m) t.3)) n
-    (λ ns ok. spans_all m bs (p + b.words) (not b.used) ns image t.3 r.2 ok)
-    (λ ns k is ok. free_all m bs (p + b.words) (not b.used) (length m) ns k b.place t.3 (omega arith) is ok)
+    let x = name_at m b.place in
+    let above = above_weaker (p + b.words) (b.place + 1) (used_spans bs) (omega arith) (used_above (p + b.words) (not b.used) bs (length m) t.3) in
+    (elim b.used as (λ u. AreNamed m names (record b { used = u } ∷ bs) → spans_of (apps_of m (record b { used = u } ∷ bs)) ≡ used_spans (record b { used = u } ∷ bs)) [
+      | true ↦ λ n.
+          spans_insert (apps_of m bs) x (app_at m b.place) (free_all m bs (p + b.words) (not b.used) (length m) (x ∷ names) x b.place t.3 (omega arith) (has_self x names) n.2)
+          ∙ ap (λ (l : List (ℕ × ℕ)). put_at b.place (words_of_app (app_at m b.place)) l) (spans_all m bs (p + b.words) (not b.used) (x ∷ names) image t.3 r.2 n.2)
+          ∙ ap (λ (w : ℕ). put_at b.place w (used_spans bs)) (needed_is m b.place b.words image n.0 r.1)
+          ∙ put_front b.place b.words (used_spans bs) above
+      | false ↦ λ n. spans_all m bs (p + b.words) (not b.used) names image t.3 r.2 n
+    ]) n
 
 -- ---- the bridge
 

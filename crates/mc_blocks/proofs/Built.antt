@@ -1,23 +1,24 @@
 -- Words that hold the headers and records of adjacent blocks are well laid, and words that agree in all that is read
 -- hold the same card.
-use Rattle.std.proofs.Common.{◌≡◌, ℕ, ◌+◌, ◌<◌, ◌≤◌, Bool, true, false, ◌&&◌, ◌||◌, List, [], ◌∷◌, length, take, Option, Some, None, refl, sym, ◌∙◌, ap, subst, arith, cond, not}
-use Rattle.std.specs.Prelude.{nat_lt, ◌==◌, slice_index, MatchBool}
-use Rattle.std.proofs.lemmas.Bool.{le-ltb, lt-ltb, le-leb, eq-eqb, and_from, and_parts, eqb-true}
+use Rattle.std.proofs.Common.{◌≡◌, ℕ, ◌+◌, ◌<◌, ◌≤◌, Bool, true, false, ◌&&◌, ◌||◌, List, [], ◌∷◌, length, Option, Some, None, refl, sym, ◌∙◌, ap, subst, arith, cond, not}
+use Rattle.std.specs.Prelude.{nat_lt, ◌==◌, slice_index}
+use Rattle.std.proofs.lemmas.Bool.{le-ltb, lt-ltb, le-leb, eq-eqb, and_from}
 use Rattle.std.proofs.lemmas.List.{get_or_past}
-use Rattle.mc_model_device.specs.Bytes.{be2, or_else, has_name, insert, up}
+use Rattle.mc_model_device.specs.Bytes.{be2, or_else, has_name}
 use Rattle.mc_model_device.specs.Device.{IsSized}
-use Rattle.mc_model_device.specs.Card.{App, Block, word, header, blocks, heap_start, section, record_at, name_in, name_at, app_at, app_of, apps_of, card_of, words_of_lengths}
+use Rattle.mc_model_device.specs.Card.{App, Block, word, header, blocks, heap_start, record_at, name_at, apps_of, card_of}
 use Rattle.mc_model_device.specs.Layout.{no_root, is_record, bad_header, bad_block, bad_record, bad_link, bad_chain, first_hole, by_cause, words_fault}
 use Rattle.mc_model_device.specs.declared.cause.Cause.TheVariants.{NoRoot, BadBlock, BadRecord, BadChain}
 use Rattle.mc_blocks.specs.Blocks.{block_within, blocks_at, bad_from, is_admissible, used_spans, is_root_word, FollowsBlock, WordsAgree}
-use Rattle.mc_blocks.proofs.Sections.{same_cells}
 use Rattle.mc_blocks.proofs.Steps.{blocks_step, blocks_stop, blocks_all}
 use Rattle.mc_blocks.proofs.Headers.{bad_all, bad_behind, bad_end}
 use Rattle.mc_blocks.proofs.Tiles.{Tiled, HeadersRead}
 use Rattle.mc_blocks.proofs.Taking.{tiled_end}
 use Rattle.mc_blocks.proofs.Applications.{few_blocks}
-use Rattle.mc_blocks.proofs.Bridge.{AreNamed, Faultless, faultless, WellLaid, laid, named, some_apps, no_apps}
+use Rattle.mc_blocks.proofs.Bridge.{AreNamed, Faultless, faultless, WellLaid, laid, named, passed, recorded}
 use Rattle.mc_blocks.proofs.Search.{chain_parts}
+use Rattle.mc_blocks.proofs.Same.{same_named, agree_read, SameApplications, agree_used}
+use Rattle.mc_blocks.specs.Outcomes.{AgreeBut}
 
 -- ---- the walk finds the blocks
 
@@ -51,22 +52,18 @@ walks m p a (b ∷ bs) t r =
 
 admitted_from : (m : List (List ℕ)) (b : Block) (names : List (List ℕ)) (used : ℕ) → is_record (record_at m b.place) b.words ≡ true → has_name (name_at m b.place) names ≡ false → used < 32 → is_admissible m b names used ≡ true
 admitted_from m b names used good new few =
-    and_from (is_record (record_at m b.place) b.words && not (has_name (name_in (record_at m b.place)) names)) (nat_lt used 32)
-    (and_from (is_record (record_at m b.place) b.words) (not (has_name (name_in (record_at m b.place)) names)) good (ap not new)) (lt-ltb used 32 few)
-
-record_kind : (m : List (List ℕ)) (b : Block) (names : List (List ℕ)) (used : ℕ) (us : List (ℕ × ℕ)) (P Q : Type 0) (x y : Option ℕ) (u : Bool)
-    → MatchBool u ((is_record (record_at m b.place) b.words ≡ true) × (has_name (name_at m b.place) names ≡ false) × P) Q → used + length (cond u ((b.place, b.words) ∷ us) us) ≤ 32
-    → (P → used + 1 + length us ≤ 32 → x ≡ None) → (Q → used + length us ≤ 32 → y ≡ None) → cond u (cond (is_admissible m b names used) x (Some b.place)) y ≡ None
-record_kind m b names used us P Q x y true n few f g =
-    ap (λ (t : Bool). cond t x (Some b.place)) (admitted_from m b names used n.0 n.1 (omega arith)) ∙ f n.2 (omega arith)
-record_kind m b names used us P Q x y false n few f g = g n few
+    and_from (is_record (record_at m b.place) b.words && not (has_name (name_at m b.place) names)) (nat_lt used 32)
+    (and_from (is_record (record_at m b.place) b.words) (not (has_name (name_at m b.place) names)) good (ap not new)) (lt-ltb used 32 few)
 
 records_good : (m : List (List ℕ)) (bs : List Block) (names : List (List ℕ)) (used : ℕ) → AreNamed m names bs → used + length (used_spans bs) ≤ 32 → bad_record m bs names used ≡ None
 unfolding bad_record
 records_good m [] names used n few = refl
 records_good m (b ∷ bs) names used n few =
-    record_kind m b names used (used_spans bs) _ _ (bad_record m bs (name_in (record_at m b.place) ∷ names) (used + 1)) (bad_record m bs names used) b.used n few
-    (λ ok less. records_good m bs (name_in (record_at m b.place) ∷ names) (used + 1) ok less) (λ ok less. records_good m bs names used ok less)
+    (elim b.used as (λ u. AreNamed m names (record b { used = u } ∷ bs) → used + length (used_spans (record b { used = u } ∷ bs)) ≤ 32 → bad_record m (record b { used = u } ∷ bs) names used ≡ None) [
+      | true ↦ λ n few. ap (λ (t : Bool). cond t (bad_record m bs (name_at m b.place ∷ names) (used + 1)) (Some b.place)) (admitted_from m b names used n.0 n.1 (omega arith))
+          ∙ records_good m bs (name_at m b.place ∷ names) (used + 1) n.2 (omega arith)
+      | false ↦ λ n few. records_good m bs names used n few
+    ]) n few
 
 -- ---- words that hold given blocks
 
@@ -108,83 +105,16 @@ built m bs b =
 
 -- ---- words that agree in all that is read
 
-same_section : (m n : List (List ℕ)) (p words q x : ℕ) → length n ≡ length m → p + words ≤ length m → ((i : ℕ) → p ≤ i → i < p + words → word n i ≡ word m i) → p ≤ q → q + up x 8 ≤ p + words → section n q x ≡ section m q x
-same_section m n p words q x size h same low high =
-    ap (λ (l : List ℕ). take x l) (same_cells m n (up x 8) q size (omega arith) (λ i above below. same i (omega arith) (omega arith)))
+kept_but : (m n : List (List ℕ)) (p : ℕ) (bs : List Block) → WordsAgree m n bs → AgreeBut m n p bs
+kept_but m n p [] a = tt
+kept_but m n p (b ∷ bs) a = (a.0, (λ u _. a.1 u), kept_but m n p bs a.2)
 
--- an application by its sections
-abbrev app_by_sections : ℕ → List ℕ → List ℕ → List ℕ → List ℕ → List ℕ → App
-app_by_sections p r code fixed dir fci = record { code = code; fixed = fixed; session = be2 r 24; deny = be2 r 26; dir = dir; fci = fci; place = p }
-
--- the block at p has the same record and the same application in both words
-pub record SameBlock (m n : List (List ℕ)) (p : ℕ) : Type 0 where
-  pub entry : record_at n p ≡ record_at m p
-  pub app : app_at n p ≡ app_at m p
-
-pub same_block : (m n : List (List ℕ)) (p words : ℕ) → length n ≡ length m → p + words ≤ length m → is_record (record_at m p) words ≡ true → ((i : ℕ) → p ≤ i → i < p + words → word n i ≡ word m i) → SameBlock m n p
-same_block m n p words size h good same =
-    let r = record_at m p in
-    let code = be2 r 20 in
-    let fixed = be2 r 22 in
-    let dir = slice_index r 17 in
-    let fci = slice_index r 18 in
-    let is : words ≡ words_of_lengths code fixed dir fci = eqb-true words (words_of_lengths code fixed dir fci) (and_parts _ (words == words_of_lengths code fixed dir fci) good).1 in
-    let entry : record_at n p ≡ record_at m p = same_cells m n 4 (p + 1) size (omega (arith, is)) (λ i above below. same i (omega arith) (omega (arith, is))) in
-    let a : section n (p + 5) code ≡ section m (p + 5) code = same_section m n p words (p + 5) code size h same (omega arith) (omega (arith, is)) in
-    let b : section n (p + 5 + up code 8) fixed ≡ section m (p + 5 + up code 8) fixed = same_section m n p words (p + 5 + up code 8) fixed size h same (omega arith) (omega (arith, is)) in
-    let c : section n (p + 5 + up code 8 + up fixed 8) dir ≡ section m (p + 5 + up code 8 + up fixed 8) dir = same_section m n p words (p + 5 + up code 8 + up fixed 8) dir size h same (omega arith) (omega (arith, is)) in
-    let d : section n (p + 5 + up code 8 + up fixed 8 + up dir 8) fci ≡ section m (p + 5 + up code 8 + up fixed 8 + up dir 8) fci = same_section m n p words (p + 5 + up code 8 + up fixed 8 + up dir 8) fci size h same (omega arith) (omega (arith, is)) in
-    record {
-      entry = entry;
-      app = ap (λ (t : List ℕ). app_of n p t) entry
-          ∙ ap (λ (w : List ℕ). app_by_sections p r w (section n (p + 5 + up code 8) fixed) (section n (p + 5 + up code 8 + up fixed 8) dir) (section n (p + 5 + up code 8 + up fixed 8 + up dir 8) fci)) a
-          ∙ ap (λ (w : List ℕ). app_by_sections p r (section m (p + 5) code) w (section n (p + 5 + up code 8 + up fixed 8) dir) (section n (p + 5 + up code 8 + up fixed 8 + up dir 8) fci)) b
-          ∙ ap (λ (w : List ℕ). app_by_sections p r (section m (p + 5) code) (section m (p + 5 + up code 8) fixed) w (section n (p + 5 + up code 8 + up fixed 8 + up dir 8) fci)) c
-          ∙ ap (λ (w : List ℕ). app_by_sections p r (section m (p + 5) code) (section m (p + 5 + up code 8) fixed) (section m (p + 5 + up code 8 + up fixed 8) dir) w) d;
-    }
-
--- both words agree in all that is read of the blocks
-record SameAll (m n : List (List ℕ)) (names : List (List ℕ)) (bs : List Block) : Type 0 where
-  read : HeadersRead n bs
-  named : AreNamed n names bs
-  apps : apps_of n bs ≡ apps_of m bs
-
-all_kind : (m n : List (List ℕ)) (names : List (List ℕ)) (b : Block) (bs : List Block) (u : Bool) → length n ≡ length m → b.place + b.words ≤ length m
-    → (u ≡ true → (i : ℕ) → b.place ≤ i → i < b.place + b.words → word n i ≡ word m i)
-    → MatchBool u ((is_record (record_at m b.place) b.words ≡ true) × (has_name (name_at m b.place) names ≡ false) × AreNamed m (name_at m b.place ∷ names) bs) (AreNamed m names bs)
-    → ((ns : List (List ℕ)) → AreNamed m ns bs → SameAll m n ns bs)
-    → MatchBool u ((is_record (record_at n b.place) b.words ≡ true) × (has_name (name_at n b.place) names ≡ false) × AreNamed n (name_at n b.place ∷ names) bs) (AreNamed n names bs)
-    × (HeadersRead n bs) × (cond u (insert (apps_of n bs) (name_at n b.place) (app_at n b.place)) (apps_of n bs) ≡ cond u (insert (apps_of m bs) (name_at m b.place) (app_at m b.place)) (apps_of m bs))
-all_kind m n names b bs false size h same nm rest = let s = rest names nm in (s.named, s.read, s.apps)
-all_kind m n names b bs true size h same nm rest =
-    let k = name_at m b.place in
-    let s = rest (k ∷ names) nm.2 in
-    let block : SameBlock m n b.place = same_block m n b.place b.words size h nm.0 (same refl) in
-    let name : name_at n b.place ≡ name_at m b.place = ap name_in block.entry in (
-      (
-        subst (λ (r : List ℕ). is_record r b.words ≡ true) (sym block.entry) nm.0,
-        subst (λ (x : List ℕ). has_name x names ≡ false) (sym name) nm.1,
-        subst (λ (x : List ℕ). AreNamed n (x ∷ names) bs) (sym name) s.named,
-      ),
-      s.read,
-      ap (λ (x : List ℕ). insert (apps_of n bs) x (app_at n b.place)) name ∙ ap (λ (x : App). insert (apps_of n bs) k x) block.app ∙ ap (λ (es : List (List ℕ × App)). insert es k (app_at m b.place)) s.apps,
-    )
-
-same_all : (m n : List (List ℕ)) (names : List (List ℕ)) (bs : List Block) → length n ≡ length m → HeadersRead m bs → AreNamed m names bs → WordsAgree m n bs → SameAll m n names bs
-same_all m n names [] size r nm a = record { read = tt; named = tt; apps = no_apps n ∙ sym (no_apps m) }
-same_all m n names (b ∷ bs) size r nm a =
-    let all = all_kind m n names b bs b.used size r.1 a.1 nm (λ ns ok. same_all m n ns bs size r.2 ok a.2) in
-    record {
-      read = (ap (λ (x : List ℕ). header b.place x) a.0 ∙ r.0, subst (λ (l : ℕ). b.place + b.words ≤ l) (sym size) r.1, all.1);
-      named = all.0;
-      apps = some_apps n b bs ∙ all.2 ∙ sym (some_apps m b bs);
-    }
-
-card_parts : (n m : List (List ℕ)) → length n ≡ length m → slice_index (word n 0) 3 ≡ slice_index (word m 0) 3 → apps_of n (blocks n) ≡ apps_of m (blocks m) → card_of n ≡ card_of m
-card_parts n m size version apps =
-    ap (λ (s : ℕ). record { size = s; layout = slice_index (word n 0) 3; apps = apps_of n (blocks n) }) size
-    ∙ ap (λ (v : ℕ). record { size = length m; layout = v; apps = apps_of n (blocks n) }) version
-    ∙ ap (λ (a : List (List ℕ × App)). record { size = length m; layout = slice_index (word m 0) 3; apps = a }) apps
+-- the card of words with the size, the version and these applications
+pub card_parts : (n m : List (List ℕ)) (es : List (List ℕ × App)) → length n ≡ length m → slice_index (word n 0) 3 ≡ slice_index (word m 0) 3 → apps_of n (blocks n) ≡ es → card_of n ≡ record (card_of m) { apps = es }
+card_parts n m es size version apps =
+    ap (λ (s : ℕ). record (card_of n) { size = s }) size
+    ∙ ap (λ (v : ℕ). record (card_of n) { size = length m; layout = v }) version
+    ∙ ap (λ (a : List (List ℕ × App)). record (card_of m) { apps = a }) apps
 
 -- words n are well laid and have the blocks and the card of m
 pub record SameCard (m n : List (List ℕ)) : Type 0 where
@@ -192,9 +122,21 @@ pub record SameCard (m n : List (List ℕ)) : Type 0 where
   pub blocks : blocks n ≡ blocks m
   pub card : card_of n ≡ card_of m
 
-pub root_good : (m : List (List ℕ)) (t : Bool) → cond {A = Option ℕ} t None (Some 0) ≡ None → t ≡ true
-root_good m true h = refl
-root_good m false h = absurd (cc h)
+-- words n with the blocks of m, the hole that its root names, and good records are well laid
+pub kept_blocks : (m n : List (List ℕ)) → IsSized m → words_fault m ≡ None → length n ≡ length m → is_root_word (word n 0) (length n) ≡ true → be2 (word n 0) 6 ≡ be2 (word m 0) 6 → HeadersRead n (blocks m) → AreNamed n [] (blocks m) → HoldsBlocks n (blocks m)
+kept_blocks m n image h size root first read names =
+    let f : Faultless m = faultless m h in
+    let l : WellLaid m = laid m image h in
+    let bs = blocks m in
+    let links = chain_parts (be2 (word m 0) 6) (first_hole bs) (bad_link bs) (be2 (word m 0) 6 == first_hole bs) refl f.chain in
+    built n bs (record { root = root; first = first ∙ links.0; tiled = subst (λ (e : ℕ). Tiled 131 false bs e) (sym size) l.tiled; read = read; links = links.1; named = names; few = few_blocks m f })
+
+-- the root of words without a fault
+pub root_of : (m : List (List ℕ)) → no_root m ≡ None → is_root_word (word m 0) (length m) ≡ true
+root_of m h = (passed (is_root_word (word m 0) (length m)) None 0 h).0
+
+pub root_kept : (m n : List (List ℕ)) → no_root m ≡ None → length n ≡ length m → word n 0 ≡ word m 0 → is_root_word (word n 0) (length n) ≡ true
+root_kept m n h size same = ap (λ (x : List ℕ). is_root_word x (length n)) same ∙ ap (λ (x : ℕ). is_root_word (word m 0) x) size ∙ root_of m h
 
 -- words n are well laid and hold the applications of m, if both agree in all that is read of the blocks and the roots
 -- name the same hole
@@ -205,29 +147,19 @@ pub record SameBlocks (m n : List (List ℕ)) : Type 0 where
 
 pub same_blocks : (m n : List (List ℕ)) → IsSized m → words_fault m ≡ None → length n ≡ length m → is_root_word (word n 0) (length n) ≡ true → be2 (word n 0) 6 ≡ be2 (word m 0) 6 → WordsAgree m n (blocks m) → SameBlocks m n
 same_blocks m n image h size root first agree =
-    let f : Faultless m = faultless m h in
     let l : WellLaid m = laid m image h in
     let bs = blocks m in
-    let names = named m bs [] 0 f.records in
-    let s : SameAll m n [] bs = same_all m n [] bs size l.read names agree in
-    let links = chain_parts (be2 (word m 0) 6) (first_hole bs) (bad_link bs) (be2 (word m 0) 6 == first_hole bs) refl f.chain in
-    let stands : HoldsBlocks n bs = built n bs (record {
-      root = root;
-      first = first ∙ links.0;
-      tiled = subst (λ (e : ℕ). Tiled 131 false bs e) (sym size) l.tiled;
-      read = s.read;
-      links = links.1;
-      named = s.named;
-      few = few_blocks m f;
-    }) in
+    let names = named m bs [] 0 (faultless m h).records in
+    let but : AgreeBut m n 0 bs = kept_but m n 0 bs agree in
+    let s : SameApplications m n [] bs = same_named m n 0 131 false [] bs (length m) (omega arith) l.tiled (agree_used m n 0 bs size l.read (recorded m [] bs names) but) names in
+    let stands : HoldsBlocks n bs = kept_blocks m n image h size root first (agree_read m n 0 bs size l.read but) s.named in
     record { good = stands.good; blocks = stands.blocks; apps = ap (λ (l : List Block). apps_of n l) stands.blocks ∙ s.apps }
 
 -- words that agree in word 0 and in the blocks hold the same card
 pub same_card : (m n : List (List ℕ)) → IsSized m → words_fault m ≡ None → length n ≡ length m → word n 0 ≡ word m 0 → WordsAgree m n (blocks m) → SameCard m n
 same_card m n image h size same agree =
-    let root : is_root_word (word m 0) (length m) ≡ true = root_good m (is_root_word (word m 0) (length m)) (faultless m h).root in
-    let b : SameBlocks m n = same_blocks m n image h size (ap (λ (x : List ℕ). is_root_word x (length n)) same ∙ ap (λ (x : ℕ). is_root_word (word m 0) x) size ∙ root) (ap (λ (x : List ℕ). be2 x 6) same) agree in
-    record { good = b.good; blocks = b.blocks; card = card_parts n m size (ap (λ (x : List ℕ). slice_index x 3) same) b.apps }
+    let b : SameBlocks m n = same_blocks m n image h size (root_kept m n (faultless m h).root size same) (ap (λ (x : List ℕ). be2 x 6) same) agree in
+    record { good = b.good; blocks = b.blocks; card = card_parts n m (apps_of m (blocks m)) size (ap (λ (x : List ℕ). slice_index x 3) same) b.apps }
 
 -- words with another version in the root hold the same card in that layout
 pub other_layout : (m n : List (List ℕ)) → IsSized m → words_fault m ≡ None → length n ≡ length m → is_root_word (word n 0) (length n) ≡ true → be2 (word n 0) 6 ≡ be2 (word m 0) 6 → WordsAgree m n (blocks m)

@@ -39,10 +39,6 @@ none_before e p (x ∷ xs) low b =
     let ne : e.0 ≢ x.0 = λ h. absurd (omega (arith, h)) in
     ap (λ (t : Bool). t || list_any (same_pair e) xs) (other_place e x ne) ∙ none_before e p xs low b.1
 
-or_or : (a b c : Bool) → (a || (b || c)) ≡ ((a || b) || c)
-or_or true b c = refl
-or_or false b c = refl
-
 or_false : (a b : Bool) → b ≡ false → (a || b) ≡ a
 or_false true b h = refl
 or_false false b h = h

@@ -57,7 +57,7 @@ words_at p (s ∷ ss) = cond (s.0 == p) s.1 (words_at p ss)
 
 with_first : (q k : ℕ) (bs : List Block) → first_hole (with_hole q k bs) ≡ q
 with_first q k [] = refl
-with_first q k (c ∷ cs) = elim c.used as (λ u. first_hole (cond u (free_block q k ∷ c ∷ cs) (free_block q (k + c.words) ∷ cs)) ≡ q) [ true ↦ refl | false ↦ refl ]
+with_first q k (c ∷ cs) = elim c.used as (λ u. first_hole (with_hole q k (record c { used = u } ∷ cs)) ≡ q) [ true ↦ refl | false ↦ refl ]
 
 not_joined : (q k r : ℕ) (hs : List (ℕ × ℕ)) → r ≡ q + k → SpansAbove (r + 1) hs → (joined_words q k hs ≡ k) × (joined_next q k hs ≡ first_place hs)
 not_joined q k r [] e a = (refl, refl)
@@ -66,65 +66,50 @@ not_joined q k r (g ∷ gs) e a =
     let ne : g.0 ≢ q + k = λ h. absurd (omega (arith, h)) in
     (ap (λ (t : Bool). cond t (k + g.1) k) (ne_eqb g.0 (q + k) ne), ap (λ (t : Bool). cond t (first_place gs) g.0) (ne_eqb g.0 (q + k) ne))
 
-with_kind : (q k : ℕ) (c : Block) (cs : List Block) (u : Bool) → c.used ≡ u → c.place ≡ q + k → SpansAbove (q + k + 1) (hole_spans cs)
-    → heads (cond u (free_block q k ∷ c ∷ cs) (free_block q (k + c.words) ∷ cs))
-    ≡ (q, hole_header (joined_words q k (cond u (hole_spans cs) ((c.place, c.words) ∷ hole_spans cs))) (joined_next q k (cond u (hole_spans cs) ((c.place, c.words) ∷ hole_spans cs)))) ∷ heads (cond u (c ∷ cs) cs)
-with_kind q k c cs true used place above =
-    let apart = not_joined q k (q + k) (hole_spans cs) refl above in
-    ap (λ (f : ℕ). (q, hole_header k f) ∷ heads (c ∷ cs)) (ap (λ (t : Bool). cond t (first_hole cs) c.place) used ∙ first_is cs ∙ sym apart.1)
-    ∙ ap (λ (n : ℕ). (q, hole_header n (joined_next q k (hole_spans cs))) ∷ heads (c ∷ cs)) (sym apart.0)
-with_kind q k c cs false used place above =
-    ap (λ (f : ℕ). (q, hole_header (k + c.words) f) ∷ heads cs) (first_is cs)
-    ∙ sym (ap (λ (t : Bool). (q, hole_header (cond t (k + c.words) k) (cond t (first_place (hole_spans cs)) c.place)) ∷ heads cs) (eq-eqb c.place (q + k) place))
-
 -- the headers of a hole and the blocks after it
 with_heads : (q k : ℕ) (a : Bool) (bs : List Block) (end : ℕ) → Tiled (q + k) a bs end
     → heads (with_hole q k bs) ≡ (q, hole_header (joined_words q k (hole_spans bs)) (joined_next q k (hole_spans bs))) ∷ heads (rest_after bs)
 with_heads q k a [] end t = refl
 with_heads q k a (c ∷ cs) end t =
     let low : 1 ≤ c.words = t.1 in
-    with_kind q k c cs c.used refl t.0 (above_weaker (q + k + c.words) (q + k + 1) (hole_spans cs) (omega arith) (holes_above (q + k + c.words) (not c.used) cs end t.3))
+    let apart = not_joined q k (q + k) (hole_spans cs) refl (above_weaker (q + k + c.words) (q + k + 1) (hole_spans cs) (omega arith) (holes_above (q + k + c.words) (not c.used) cs end t.3)) in
+    let kind = λ (u : Bool). record c { used = u } ∷ cs in
+    elim c.used as (λ u. heads (with_hole q k (kind u)) ≡ (q, hole_header (joined_words q k (hole_spans (kind u))) (joined_next q k (hole_spans (kind u)))) ∷ heads (rest_after (kind u))) [
+      | true ↦ ap (λ (f : ℕ). (q, hole_header k f) ∷ heads (kind true)) (first_is cs ∙ sym apart.1) ∙ ap (λ (n : ℕ). (q, hole_header n (joined_next q k (hole_spans cs))) ∷ heads (kind true)) (sym apart.0)
+      | false ↦ ap (λ (f : ℕ). (q, hole_header (k + c.words) f) ∷ heads cs) (first_is cs)
+          ∙ sym (ap (λ (t : Bool). (q, hole_header (cond t (k + c.words) k) (cond t (first_place (hole_spans cs)) c.place)) ∷ heads cs) (eq-eqb c.place (q + k) t.0))
+    ]
 
 -- a header in front that the new list lacks adds no change
 dropped : (e : ℕ × List ℕ) (old new : List (ℕ × List ℕ)) → From (e.0 + 1) new → changes (e ∷ old) new ≡ changes old new
 dropped e old new f = let lt : e.0 < e.0 + 1 = omega arith in back (e.0 + 1) (e ∷ []) old new (lt, tt) f
 
-rest_kind : (r : ℕ) (c : Block) (cs : List Block) (end : ℕ) (u : Bool) → Tiled r u (c ∷ cs) end → (v : Bool) → changes (heads (c ∷ cs)) (heads (cond v (c ∷ cs) cs)) ≡ []
-rest_kind r c cs end u t true = heads_same r u (c ∷ cs) end t
-rest_kind r c cs end u t false =
-    dropped (c.place, cond c.used (used_header c.words) (hole_header c.words (first_hole cs))) (heads cs) (heads cs) (heads_behind r c (not c.used) cs end t.0 t.1 t.3)
-    ∙ heads_same (r + c.words) (not c.used) cs end t.3
-
 rest_none : (r : ℕ) (a : Bool) (bs : List Block) (end : ℕ) → Tiled r a bs end → changes (heads bs) (heads (rest_after bs)) ≡ []
 rest_none r a [] end t = refl
-rest_none r a (c ∷ cs) end t = rest_kind r c cs end a t c.used
-
-rest_from_kind : (r : ℕ) (c : Block) (cs : List Block) (v : Bool) → From r (heads (c ∷ cs)) → From r (heads (cond v (c ∷ cs) cs))
-rest_from_kind r c cs true f = f
-rest_from_kind r c cs false f = f.1
+rest_none r a (c ∷ cs) end t =
+    elim c.used as (λ v. changes (heads (c ∷ cs)) (heads (cond v (c ∷ cs) cs)) ≡ []) [
+      | true ↦ heads_same r a (c ∷ cs) end t
+      | false ↦ dropped (c.place, cond c.used (used_header c.words) (hole_header c.words (first_hole cs))) (heads cs) (heads cs) (heads_behind r c (not c.used) cs end t.0 t.1 t.3) ∙ heads_same (r + c.words) (not c.used) cs end t.3
+    ]
 
 rest_from : (r : ℕ) (a : Bool) (bs : List Block) (end : ℕ) → Tiled r a bs end → From r (heads (rest_after bs))
 rest_from r a [] end t = tt
-rest_from r a (c ∷ cs) end t = rest_from_kind r c cs c.used (heads_from r a (c ∷ cs) end t)
-
-with_tiled_kind : (q k : ℕ) (c : Block) (cs : List Block) (end : ℕ) (u : Bool) → c.used ≡ u → 1 ≤ k → c.place ≡ q + k → 1 ≤ c.words → Tiled (q + k + c.words) (not c.used) cs end
-    → Tiled q false (cond u (free_block q k ∷ c ∷ cs) (free_block q (k + c.words) ∷ cs)) end
-with_tiled_kind q k c cs end true used low place long t = (refl, low, refl, (place, long, ap (λ (u : Bool). true && not u) used, t))
-with_tiled_kind q k c cs end false used low place long t =
-    let same : q + k + c.words ≡ q + (k + c.words) = omega arith in
-    (refl, omega arith, refl, subst (λ (r : ℕ). Tiled r true cs end) same (subst (λ (u : Bool). Tiled (q + k + c.words) (not u) cs end) used t))
+rest_from r a (c ∷ cs) end t =
+    let f = heads_from r a (c ∷ cs) end t in
+    elim c.used as (λ v. From r (heads (cond v (c ∷ cs) cs))) [ true ↦ f | false ↦ f.1 ]
 
 with_tiled : (q k : ℕ) (a : Bool) (bs : List Block) (end : ℕ) → 1 ≤ k → Tiled (q + k) a bs end → Tiled q false (with_hole q k bs) end
 with_tiled q k a [] end low t = (refl, low, refl, t)
-with_tiled q k a (c ∷ cs) end low t = with_tiled_kind q k c cs end c.used refl low t.0 t.1 t.3
-
-with_spans_kind : (q k : ℕ) (c : Block) (cs : List Block) (u : Bool) → c.used ≡ u → used_spans (cond u (free_block q k ∷ c ∷ cs) (free_block q (k + c.words) ∷ cs)) ≡ cond c.used ((c.place, c.words) ∷ used_spans cs) (used_spans cs)
-with_spans_kind q k c cs true used = refl
-with_spans_kind q k c cs false used = sym (ap (λ (u : Bool). cond u ((c.place, c.words) ∷ used_spans cs) (used_spans cs)) used)
+with_tiled q k a (c ∷ cs) end low t =
+    let same : q + k + c.words ≡ q + (k + c.words) = omega arith in
+    (elim c.used as (λ u. Tiled (q + k + c.words) (not u) cs end → Tiled q false (with_hole q k (record c { used = u } ∷ cs)) end) [
+      | true ↦ λ rest. (refl, low, refl, (t.0, t.1, refl, rest))
+      | false ↦ λ rest. (refl, omega arith, refl, subst (λ (r : ℕ). Tiled r true cs end) same rest)
+    ]) t.3
 
 with_spans : (q k : ℕ) (bs : List Block) → used_spans (with_hole q k bs) ≡ used_spans bs
 with_spans q k [] = refl
-with_spans q k (c ∷ cs) = with_spans_kind q k c cs c.used refl
+with_spans q k (c ∷ cs) = elim c.used as (λ u. used_spans (with_hole q k (record c { used = u } ∷ cs)) ≡ used_spans (record c { used = u } ∷ cs)) [ true ↦ refl | false ↦ refl ]
 
 shift_kind : (k n m : ℕ) (t : Bool) → cond t (k + n + m) (k + n) ≡ k + cond t (n + m) n
 shift_kind k n m true = omega arith
@@ -360,20 +345,16 @@ claim_here v s end g a b bs low some few gap apart t =
     ∙ sym (ap (λ (h : ℕ × ℕ). free_list v s h (gaps_behind b.place (hole_spans bs)) b.place b.words) (gap_none b.place g (hole_spans bs) above) ∙ ap (λ (l : List (ℕ × ℕ)). free_list v s g l b.place b.words) (behind_all b.place (hole_spans bs) above))
 
 -- a hole that is joined with the next is no shorter, and ends within the device
-joined_kind : (q k : ℕ) (c : Block) (cs : List Block) (end : ℕ) (u : Bool) → c.place ≡ q + k → SpansAbove (q + k + 1) (hole_spans cs) → q + k + c.words ≤ end
-    → (k ≤ joined_words q k (cond u (hole_spans cs) ((c.place, c.words) ∷ hole_spans cs))) × (q + joined_words q k (cond u (hole_spans cs) ((c.place, c.words) ∷ hole_spans cs)) ≤ end)
-joined_kind q k c cs end true place above ends =
-    let is : joined_words q k (hole_spans cs) ≡ k = (not_joined q k (q + k) (hole_spans cs) refl above).0 in
-    (omega (arith, is), omega (arith, is))
-joined_kind q k c cs end false place above ends =
-    let is : cond (c.place == q + k) (k + c.words) k ≡ k + c.words = ap (λ (t : Bool). cond t (k + c.words) k) (eq-eqb c.place (q + k) place) in
-    (omega (arith, is), omega (arith, is))
-
 joined_range : (q k : ℕ) (a : Bool) (bs : List Block) (end : ℕ) → Tiled (q + k) a bs end → (k ≤ joined_words q k (hole_spans bs)) × (q + joined_words q k (hole_spans bs) ≤ end)
 joined_range q k a [] end t = (omega arith, omega (arith, t))
 joined_range q k a (c ∷ cs) end t =
     let low : 1 ≤ c.words = t.1 in
-    joined_kind q k c cs end c.used t.0 (above_weaker (q + k + c.words) (q + k + 1) (hole_spans cs) (omega arith) (holes_above (q + k + c.words) (not c.used) cs end t.3)) (tiled_end (q + k + c.words) (not c.used) cs end t.3)
+    let ends : q + k + c.words ≤ end = tiled_end (q + k + c.words) (not c.used) cs end t.3 in
+    let above = above_weaker (q + k + c.words) (q + k + 1) (hole_spans cs) (omega arith) (holes_above (q + k + c.words) (not c.used) cs end t.3) in
+    elim c.used as (λ u. (k ≤ joined_words q k (hole_spans (record c { used = u } ∷ cs))) × (q + joined_words q k (hole_spans (record c { used = u } ∷ cs)) ≤ end)) [
+      | true ↦ let is = (not_joined q k (q + k) (hole_spans cs) refl above).0 in (omega (arith, is), omega (arith, is))
+      | false ↦ let is = ap (λ (t : Bool). cond t (k + c.words) k) (eq-eqb c.place (q + k) t.0) in (omega (arith, is), omega (arith, is))
+    ]
 
 -- the changes of freeing a block after a hole that ends at it
 touch_list : (v s h k n end : ℕ) (g : ℕ × ℕ) (a : Bool) (cs : List Block) → g.0 < h → 1 ≤ k → 1 ≤ n → end < 65536 → Tiled (h + k + n) a cs end

@@ -48,25 +48,19 @@ used_behind e (s ∷ ss) l a =
     ap (λ (k : List (ℕ × List ℕ)). put_at s.0 (used_header s.1) k) (used_behind e ss l a.1)
     ∙ ap (λ (t : Bool). cond t ((s.0, used_header s.1) ∷ e ∷ with_used ss l) (e ∷ put_at s.0 (used_header s.1) (with_used ss l))) (le-ltb s.0 e.0 (omega arith))
 
-layout_step : (b : Block) (bs : List Block) (t : Bool) → SpansAbove (b.place + 1) (used_spans bs) → From (b.place + 1) (heads bs) → with_used (used_spans bs) (gap_headers (hole_spans bs)) ≡ heads bs
-    → with_used (cond t ((b.place, b.words) ∷ used_spans bs) (used_spans bs)) (gap_headers (cond t (hole_spans bs) ((b.place, b.words) ∷ hole_spans bs)))
-    ≡ (b.place, cond t (used_header b.words) (hole_header b.words (first_hole bs))) ∷ heads bs
-layout_step b bs true a f rest =
-    ap (λ (l : List (ℕ × List ℕ)). put_at b.place (used_header b.words) l) rest ∙ put_first b.place (used_header b.words) (heads bs) f
-layout_step b bs false a f rest =
-    used_behind (b.place, hole_header b.words (first_place (hole_spans bs))) (used_spans bs) (gap_headers (hole_spans bs)) a
-    ∙ ap (λ (l : List (ℕ × List ℕ)). (b.place, hole_header b.words (first_place (hole_spans bs))) ∷ l) rest
-    ∙ ap (λ (f : ℕ). (b.place, hole_header b.words f) ∷ heads bs) (sym (first_is bs))
-
 layout_heads : (p : ℕ) (a : Bool) (bs : List Block) (end : ℕ) → Tiled p a bs end → with_used (used_spans bs) (gap_headers (hole_spans bs)) ≡ heads bs
 layout_heads p a [] end t = refl
 layout_heads p a (b ∷ bs) end t =
     let place : b.place ≡ p = t.0 in
     let low : 1 ≤ b.words = t.1 in
-    layout_step b bs b.used
-    (above_weaker (p + b.words) (b.place + 1) (used_spans bs) (omega arith) (used_above (p + b.words) (not b.used) bs end t.3))
-    (heads_behind p b (not b.used) bs end t.0 t.1 t.3)
-    (layout_heads (p + b.words) (not b.used) bs end t.3)
+    let rest = layout_heads (p + b.words) (not b.used) bs end t.3 in
+    elim b.used as (λ u. with_used (used_spans (record b { used = u } ∷ bs)) (gap_headers (hole_spans (record b { used = u } ∷ bs))) ≡ heads (record b { used = u } ∷ bs)) [
+      | true ↦ ap (λ (l : List (ℕ × List ℕ)). put_at b.place (used_header b.words) l) rest ∙ put_first b.place (used_header b.words) (heads bs) (heads_behind p b (not b.used) bs end t.0 t.1 t.3)
+      | false ↦
+          used_behind (b.place, hole_header b.words (first_place (hole_spans bs))) (used_spans bs) (gap_headers (hole_spans bs)) (above_weaker (p + b.words) (b.place + 1) (used_spans bs) (omega arith) (used_above (p + b.words) (not b.used) bs end t.3))
+          ∙ ap (λ (l : List (ℕ × List ℕ)). (b.place, hole_header b.words (first_place (hole_spans bs))) ∷ l) rest
+          ∙ ap (λ (f : ℕ). (b.place, hole_header b.words f) ∷ heads bs) (sym (first_is bs))
+    ]
 
 -- the layout of the spans of adjacent blocks is the root and their headers
 pub layout_is : (v size : ℕ) (bs : List Block) (ss : List (ℕ × ℕ)) → Tiled heap_start false bs size → ss ≡ used_spans bs → layout_of v size ss ≡ link_word v size (0, 0) (first_hole bs) ∷ heads bs

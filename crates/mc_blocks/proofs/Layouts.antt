@@ -8,7 +8,7 @@ use Rattle.mc_model_device.specs.Bytes.{AreBytes, be2, bytes2}
 use Rattle.mc_model_device.specs.Device.{IsImage, sized}
 use Rattle.mc_model_device.specs.Image.{look, after}
 use Rattle.mc_model_device.specs.Card.{Block, used_tag, hole_tag, word, is_header, header, blocks, card_of, words_after, means}
-use Rattle.mc_model_device.specs.Layout.{put_at, spans, gaps, first_place, first_hole, hole_header, used_header, root, gap_headers, with_used, layout, no_root, bad_link, words_fault, IsWellLaid}
+use Rattle.mc_model_device.specs.Layout.{put_at, spans, gaps, first_place, first_hole, used_header, root, gap_headers, with_used, layout, no_root, bad_link, words_fault, IsWellLaid}
 use Rattle.mc_model_device.proofs.LookLemmas.{IsFull}
 use Rattle.mc_model_device.proofs.ImageBytes.{image_settled}
 use Rattle.mc_blocks.specs.Blocks.{used_spans, hole_spans}
@@ -125,20 +125,12 @@ blocks_stand : (m : List (List ℕ)) (bs : List Block) → IsImage m → Headers
 blocks_stand m [] image r h = (tt, tt)
 blocks_stand m (b ∷ bs) image r h =
     let link = link_none b (cond b.used 0 (first_hole bs)) (bad_link bs) (b.link == cond b.used 0 (first_hole bs)) refl h in
-    by b.used refl (blocks_stand m bs image r.2 link.1) link.0
-  where
-    by : (u : Bool) → b.used ≡ u → Used m (used_spans bs) × Stand m (gap_headers (hole_spans bs)) → b.link ≡ cond u 0 (first_hole bs)
-        → Used m (cond u ((b.place, b.words) ∷ used_spans bs) (used_spans bs)) × Stand m (gap_headers (cond u (hole_spans bs) ((b.place, b.words) ∷ hole_spans bs)))
-    by true is rest link =
-        let form : word m b.place ≡ tag_of b.used ∷ 0 ∷ (bytes2 b.words ++ bytes2 b.link ++ 0 ∷ 0 ∷ []) = header_form b.place (word m b.place) b (full_at m b r.0 r.1 image) r.0 in
-        let here : word m b.place ≡ used_header b.words =
-        form ∙ ap (λ (t : Bool). tag_of t ∷ 0 ∷ (bytes2 b.words ++ bytes2 b.link ++ 0 ∷ 0 ∷ [])) is ∙ ap (λ (n : ℕ). used_tag ∷ 0 ∷ (bytes2 b.words ++ bytes2 n ++ 0 ∷ 0 ∷ [])) link in
-        ((here, rest.0), rest.1)
-    by false is rest link =
-        let form : word m b.place ≡ tag_of b.used ∷ 0 ∷ (bytes2 b.words ++ bytes2 b.link ++ 0 ∷ 0 ∷ []) = header_form b.place (word m b.place) b (full_at m b r.0 r.1 image) r.0 in
-        let here : word m b.place ≡ hole_header b.words (first_place (hole_spans bs)) =
-        form ∙ ap (λ (t : Bool). tag_of t ∷ 0 ∷ (bytes2 b.words ++ bytes2 b.link ++ 0 ∷ 0 ∷ [])) is ∙ ap (λ (n : ℕ). hole_tag ∷ 0 ∷ (bytes2 b.words ++ bytes2 n ++ 0 ∷ 0 ∷ [])) (link ∙ first_is bs) in
-        (rest.0, (here, rest.1))
+    let rest = blocks_stand m bs image r.2 link.1 in
+    let form = λ (tag link : ℕ). tag ∷ 0 ∷ (bytes2 b.words ++ bytes2 link ++ 0 ∷ 0 ∷ []) in
+    (elim b.used as (λ u. word m b.place ≡ form (tag_of u) b.link → b.link ≡ cond u 0 (first_hole bs) → Used m (used_spans (record b { used = u } ∷ bs)) × Stand m (gap_headers (hole_spans (record b { used = u } ∷ bs)))) [
+      | true ↦ λ is due. ((is ∙ ap (form used_tag) due, rest.0), rest.1)
+      | false ↦ λ is due. (rest.0, (is ∙ ap (form hole_tag) (due ∙ first_is bs), rest.1))
+    ]) (header_form b.place (word m b.place) b (full_at m b r.0 r.1 image) r.0) link.0
 
 -- ---- the root
 

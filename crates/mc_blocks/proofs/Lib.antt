@@ -15,6 +15,7 @@ pub mod Freeing
 pub mod Links
 pub mod Plans
 pub mod Applications
+pub mod Same
 pub mod Built
 pub mod Written
 pub mod Cards

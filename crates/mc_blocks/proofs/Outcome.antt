@@ -1,10 +1,10 @@
 -- The card after a plan: written to the words of a well laid image, the plan leaves the card with the application or
 -- without it.
-use Rattle.std.proofs.Common.{◌≡◌, ◌≢◌, ◌⊎◌, ℕ, ◌+◌, ◌<◌, ◌≤◌, Bool, true, false, List, [], ◌∷◌, ◌++◌, length, Some, None, refl, sym, ◌∙◌, ap, subst, inl, inr, arith, cond}
-use Rattle.std.specs.Prelude.{nat_lt, ◌==◌, slice_index, MatchBool}
+use Rattle.std.proofs.Common.{◌≡◌, ◌≢◌, ◌⊎◌, ℕ, ◌+◌, ◌<◌, ◌≤◌, true, false, List, [], ◌∷◌, ◌++◌, length, Some, None, refl, sym, ◌∙◌, ap, subst, inl, inr, arith, cond}
+use Rattle.std.specs.Prelude.{nat_lt, ◌==◌, slice_index}
 use Rattle.std.specs.List.{AllByRecursion, list_any}
 use Rattle.std.proofs.lemmas.Bool.{eqb-true}
-use Rattle.mc_model_device.specs.Bytes.{be2, insert, lookup, remove, has_name}
+use Rattle.mc_model_device.specs.Bytes.{be2, insert, lookup, remove}
 use Rattle.mc_model_device.specs.Image.{Closed, look, Two}
 use Rattle.mc_model_device.specs.Device.{IsSized}
 use Rattle.mc_model_device.specs.Card.{App, Card, Block, word, blocks, means, record_at, name_at, app_at, apps_of}
@@ -15,20 +15,21 @@ use Rattle.mc_blocks.specs.Blocks.{used_spans, hole_spans}
 use Rattle.mc_blocks.specs.Outcomes.{OthersKept, Planned, HoldsApplications}
 use Rattle.mc_blocks.specs.Plans.{changes, layout_of, plan, link_word, without, has_room, has_span}
 use Rattle.mc_blocks.proofs.Tiles.{Tiled, HeadersRead}
-use Rattle.mc_blocks.proofs.Bridge.{WellLaid, well_laid, used_above, AreNamed, named, Faultless, faultless}
+use Rattle.mc_blocks.proofs.Bridge.{WellLaid, well_laid, used_above, AreNamed, named, Faultless, faultless, recorded, AreRecorded}
 use Rattle.mc_blocks.proofs.Applications.{few_blocks, found_application}
 use Rattle.mc_blocks.proofs.Changes.{from_weaker, split}
 use Rattle.mc_blocks.proofs.Heads.{heads, heads_from, layout_is}
 use Rattle.mc_blocks.proofs.Plans.{plan_is, gaps_are, spans_are}
 use Rattle.mc_blocks.proofs.Taking.{take_in, take_tiled, take_spans}
 use Rattle.mc_blocks.proofs.Freeing.{free_in, free_tiled, free_spans}
-use Rattle.mc_blocks.proofs.Built.{HoldsBlocks, built, same_block, root_good}
+use Rattle.mc_blocks.proofs.Built.{HoldsBlocks, built, card_parts, root_of}
 use Rattle.mc_blocks.proofs.Written.{relink, relink_used, Relaid, written, root_apart}
-use Rattle.mc_blocks.proofs.Cards.{In, in_above, in_old, changes_apart, SameUsed, NotNamed, not_named, relink_named, relink_apps, ApplicationInserted, created, Deleted, deleted}
+use Rattle.mc_blocks.proofs.Cards.{In, in_above, in_old, changes_apart, NotNamed, not_named, relink_named, relink_apps, created, deleted}
 use Rattle.mc_model_device.proofs.MapLemmas.{remove_inserted}
 use Rattle.mc_model_device.proofs.LookLemmas.{outside_two}
 use Rattle.mc_model_device.proofs.LayoutLemmas.{closed_fault, closed_means, length_put}
 use Rattle.mc_blocks.proofs.Search.{chain_parts}
+use Rattle.mc_blocks.proofs.Same.{same_block, SameUsed, ApplicationInserted, Deleted}
 
 -- the words after a plan for the spans of these blocks
 record AfterPlan (m n : List (List ℕ)) (new : List Block) : Type 0 where
@@ -53,7 +54,7 @@ after_plan m n f new image closed h planned tiled spans-new =
     let parts : changes old-list new-list ≡ changes ((0, root v (length m) (first_hole bs)) ∷ []) ((0, root v (length m) (first_hole new)) ∷ []) ++ changes (heads bs) (heads new) =
     split 1 ((0, root v (length m) (first_hole bs)) ∷ []) (heads bs) ((0, root v (length m) (first_hole new)) ∷ []) (heads new) (one, tt) (from_weaker 131 1 (heads bs) (omega arith) (heads_from 131 false bs (length m) l.tiled)) (one, tt) (from_weaker 131 1 (heads new) (omega arith) (heads_from 131 false new (length m) tiled)) in
     record {
-      relaid = written m n bs new (omega arith) planned.size (root_good m _ l.root) links.0 l.tiled l.read links.1 tiled
+      relaid = written m n bs new (omega arith) planned.size (root_of m l.root) links.0 l.tiled l.read links.1 tiled
           (subst (λ (x : List (ℕ × List ℕ)). HoldsWords n x) listed planned.stand)
           (subst (λ (x : List (ℕ × List ℕ)). AllByRecursion (λ (e : ℕ × List ℕ). e.0 ≢ 0) x → word n 0 ≡ word m 0) listed planned.root)
           kept;
@@ -67,55 +68,36 @@ after_plan m n f new image closed h planned tiled spans-new =
 
 -- ---- used blocks have their words
 
-pub good_of : (m : List (List ℕ)) (names : List (List ℕ)) (b : Block) (bs : List Block) (u : Bool) → u ≡ true → MatchBool u ((is_record (record_at m b.place) b.words ≡ true) × (has_name (name_at m b.place) names ≡ false) × AreNamed m (name_at m b.place ∷ names) bs) (AreNamed m names bs)
-    → is_record (record_at m b.place) b.words ≡ true
-good_of m names b bs true e nm = nm.0
-good_of m names b bs false e nm = absurd (cc e)
-
-pub tail_of : (m : List (List ℕ)) (names : List (List ℕ)) (b : Block) (bs : List Block) (u : Bool) → MatchBool u ((is_record (record_at m b.place) b.words ≡ true) × (has_name (name_at m b.place) names ≡ false) × AreNamed m (name_at m b.place ∷ names) bs) (AreNamed m names bs)
-    → AreNamed m (cond u (name_at m b.place ∷ names) names) bs
-tail_of m names b bs true nm = nm.2
-tail_of m names b bs false nm = nm
-
-in_first : (b : Block) (us : List (ℕ × ℕ)) (u : Bool) → u ≡ true → In (b.place, b.words) (cond u ((b.place, b.words) ∷ us) us)
-in_first b us true e = inl refl
-in_first b us false e = absurd (cc e)
-
-in_later : (s : ℕ × ℕ) (b : Block) (us : List (ℕ × ℕ)) (u : Bool) → In s us → In s (cond u ((b.place, b.words) ∷ us) us)
-in_later s b us true i = inr i
-in_later s b us false i = i
-
-same_used : (m n : List (List ℕ)) (p : ℕ) (names : List (List ℕ)) (bs : List Block) → length n ≡ length m → HeadersRead m bs → AreNamed m names bs
+same_used : (m n : List (List ℕ)) (p : ℕ) (bs : List Block) → length n ≡ length m → HeadersRead m bs → AreRecorded m bs
     → ((s : ℕ × ℕ) → In s (used_spans bs) → s.0 ≢ p → (i : ℕ) → s.0 ≤ i → i < s.0 + s.1 → word n i ≡ word m i) → SameUsed m n p bs
-same_used m n p names [] size r nm same = tt
-same_used m n p names (b ∷ bs) size r nm same = (
-  (λ u ne. same_block m n b.place b.words size r.1 (good_of m names b bs b.used u nm) (same (b.place, b.words) (in_first b (used_spans bs) b.used u) ne)),
-  same_used m n p (cond b.used (name_at m b.place ∷ names) names) bs size r.2 (tail_of m names b bs b.used nm) (λ s i ne. same s (in_later s b (used_spans bs) b.used i) ne),
-)
-
-in_put_kind : (s : ℕ × ℕ) (p n : ℕ) (e : ℕ × ℕ) (es more : List (ℕ × ℕ)) (t : Bool) → In s (e ∷ es) → (In s es → In s more) → In s (cond t ((p, n) ∷ e ∷ es) (e ∷ more))
-in_put_kind s p n e es more true i rest = inr i
-in_put_kind s p n e es more false i rest = elim i [ inl here ↦ inl here | inr later ↦ inr (rest later) ]
+same_used m n p [] size r g same = tt
+same_used m n p (b ∷ bs) size r g same =
+    (elim b.used as (λ u. (u ≡ true → is_record (record_at m b.place) b.words ≡ true) → ((s : ℕ × ℕ) → In s (used_spans (record b { used = u } ∷ bs)) → s.0 ≢ p → (i : ℕ) → s.0 ≤ i → i < s.0 + s.1 → word n i ≡ word m i) → SameUsed m n p (record b { used = u } ∷ bs)) [
+      | true ↦ λ good same. ((λ u ne. same_block m n b.place b.words size r.1 (good u) (same (b.place, b.words) (inl refl) ne)), same_used m n p bs size r.2 g.1 (λ s i ne. same s (inr i) ne))
+      | false ↦ λ good same. ((λ u ne. absurd (cc u)), same_used m n p bs size r.2 g.1 (λ s i ne. same s i ne))
+    ]) g.0 same
 
 in_put : (s : ℕ × ℕ) (p n : ℕ) (l : List (ℕ × ℕ)) → In s l → In s (put_at p n l)
 in_put s p n [] i = absurd i
-in_put s p n (e ∷ es) i = in_put_kind s p n e es (put_at p n es) (nat_lt p e.0) i (in_put s p n es)
-
-in_without_kind : (s : ℕ × ℕ) (p : ℕ) (e : ℕ × ℕ) (es more : List (ℕ × ℕ)) (t : Bool) → (e.0 == p) ≡ t → s.0 ≢ p → In s (e ∷ es) → (In s es → In s more) → In s (cond t more (e ∷ more))
-in_without_kind s p e es more true h ne i rest = elim i [ inl here ↦ absurd (ne (sym (ap (λ (x : ℕ × ℕ). x.0) here) ∙ eqb-true e.0 p h)) | inr later ↦ rest later ]
-in_without_kind s p e es more false h ne i rest = elim i [ inl here ↦ inl here | inr later ↦ inr (rest later) ]
+in_put s p n (e ∷ es) i =
+    elim (nat_lt p e.0) as (λ t. In s (cond t ((p, n) ∷ e ∷ es) (e ∷ put_at p n es))) [
+      | true ↦ inr i
+      | false ↦ elim i [ inl here ↦ inl here | inr later ↦ inr (in_put s p n es later) ]
+    ]
 
 in_without : (s : ℕ × ℕ) (p : ℕ) (l : List (ℕ × ℕ)) → s.0 ≢ p → In s l → In s (without p l)
 in_without s p [] ne i = absurd i
-in_without s p (e ∷ es) ne i = in_without_kind s p e es (without p es) (e.0 == p) refl ne i (in_without s p es ne)
-
-less_kind : (p : ℕ) (e : ℕ × ℕ) (es more : List (ℕ × ℕ)) (t : Bool) → length more ≤ length es → length (cond t more (e ∷ more)) ≤ length es + 1
-less_kind p e es more true h = omega (arith, h)
-less_kind p e es more false h = omega (arith, h)
+in_without s p (e ∷ es) ne i =
+    (elim (e.0 == p) as (λ t. (e.0 == p) ≡ t → In s (cond t (without p es) (e ∷ without p es))) [
+      | true ↦ λ is. elim i [ inl here ↦ absurd (ne (sym (ap (λ (x : ℕ × ℕ). x.0) here) ∙ eqb-true e.0 p is)) | inr later ↦ in_without s p es ne later ]
+      | false ↦ λ is. elim i [ inl here ↦ inl here | inr later ↦ inr (in_without s p es ne later) ]
+    ]) refl
 
 length_without : (p : ℕ) (l : List (ℕ × ℕ)) → length (without p l) ≤ length l
 length_without p [] = omega arith
-length_without p (e ∷ es) = let h = less_kind p e es (without p es) (e.0 == p) (length_without p es) in omega (arith, h)
+length_without p (e ∷ es) =
+    let h = length_without p es in
+    elim (e.0 == p) as (λ t. length (cond t (without p es) (e ∷ without p es)) ≤ length (e ∷ es)) [ true ↦ omega (arith, h) | false ↦ omega (arith, h) ]
 
 -- ---- the cards
 
@@ -124,9 +106,7 @@ leaves m n new apps closed size r nm few is =
     let s : HoldsBlocks n (relink new) = built n (relink new) (record { root = r.root; first = r.first; tiled = r.tiled; read = r.read; links = r.links; named = relink_named n [] new nm; few = subst (λ (l : List (ℕ × ℕ)). length l ≤ 32) (sym (relink_used new)) few }) in
     record {
       laid = s.good;
-      card = ap (λ (x : ℕ). record { size = x; layout = slice_index (word n 0) 3; apps = apps_of n (blocks n) }) size
-          ∙ ap (λ (x : ℕ). record { size = length m; layout = x; apps = apps_of n (blocks n) }) r.version
-          ∙ ap (λ (x : List (List ℕ × App)). record { size = length m; layout = slice_index (word m 0) 3; apps = x }) (ap (λ (l : List Block). apps_of n l) s.blocks ∙ relink_apps n new ∙ is)
+      card = card_parts n m apps size r.version (ap (λ (l : List Block). apps_of n l) s.blocks ∙ relink_apps n new ∙ is)
           ∙ sym (ap (λ (k : Card). record k { apps = apps }) (closed_means m closed));
     }
 
@@ -144,7 +124,7 @@ creates m n p need image closed h some room planned good fresh few =
     let after : AfterPlan m n new = after_plan m n (put_at p need) new image closed h planned tiled (sym same-spans) in
     let names : AreNamed m [] bs = named m bs [] 0 f.records in
     let means-apps : (means m).apps ≡ apps_of m bs = ap (λ (k : Card). k.apps) (closed_means m closed) in
-    let used : SameUsed m n p bs = same_used m n p [] bs planned.size l.read names (λ s i ne. after.same s i (subst (λ (x : List (ℕ × ℕ)). In s x) (sym same-spans) (in_put s p need (used_spans bs) i))) in
+    let used : SameUsed m n p bs = same_used m n p bs planned.size l.read (recorded m [] bs names) (λ s i ne. after.same s i (subst (λ (x : List (ℕ × ℕ)). In s x) (sym same-spans) (in_put s p need (used_spans bs) i))) in
     let unnamed : NotNamed m (name_at n p) bs = not_named m (name_at n p) bs (sym (ap (λ (es : List (List ℕ × App)). lookup es (name_at n p)) means-apps) ∙ fresh) in
     let c : ApplicationInserted m n [] (name_at n p) (app_at n p) bs new = created m n p need 131 false [] bs (length m) l.tiled names used unnamed free refl good in
     let count : length (used_spans bs) < 32 = subst (λ (k : ℕ). k < 32) (ap (λ (es : List (List ℕ × App)). length es) means-apps ∙ l.apps) few in
@@ -166,7 +146,7 @@ deletes m n k a image closed h found planned =
     let after : AfterPlan m n new = after_plan m n (without p) new image closed h planned tiled (sym same-spans) in
     let names : AreNamed m [] bs = named m bs [] 0 f.records in
     let means-apps : (means m).apps ≡ apps_of m bs = ap (λ (k : Card). k.apps) (closed_means m closed) in
-    let used : SameUsed m n p bs = same_used m n p [] bs planned.size l.read names (λ s i ne. after.same s i (subst (λ (x : List (ℕ × ℕ)). In s x) (sym same-spans) (in_without s p (used_spans bs) ne i))) in
+    let used : SameUsed m n p bs = same_used m n p bs planned.size l.read (recorded m [] bs names) (λ s i ne. after.same s i (subst (λ (x : List (ℕ × ℕ)). In s x) (sym same-spans) (in_without s p (used_spans bs) ne i))) in
     let d : Deleted m n [] (name_at m p) (app_at m p) bs new = deleted m n p 131 false [] bs (length m) l.tiled names used there in
     let few : length (used_spans new) ≤ 32 = omega (arith, ap length same-spans, length_without p (used_spans bs), few_blocks m f) in
     let left : remove (means m).apps k ≡ apps_of n new =

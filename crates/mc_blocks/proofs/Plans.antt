@@ -6,20 +6,20 @@ use Rattle.mc_model_device.specs.Bytes.{be2}
 use Rattle.mc_model_device.specs.Image.{Closed, look, within, ascend}
 use Rattle.mc_model_device.specs.Device.{IsSized}
 use Rattle.mc_model_device.specs.Stopped.{IsAtomic}
-use Rattle.mc_model_device.specs.Card.{Card, Block, means, card_of, word, header, blocks}
+use Rattle.mc_model_device.specs.Card.{Card, Block, means, card_of, word, blocks}
 use Rattle.mc_model_device.specs.Layout.{first_fitting, layout, step_of, gaps, spans, put_at, hole_header, used_header, IsWellLaid}
 use Rattle.mc_blocks.specs.Chains.{SpansAbove}
 use Rattle.mc_blocks.specs.Blocks.{used_spans, hole_spans}
 use Rattle.mc_blocks.specs.Plans.{changes, layout_of, plan, without, has_room, has_span, link_word, gap_before, gaps_behind, touches, take_front, take_list, joined_words, joined_next, put_hole, free_list}
-use Rattle.mc_blocks.proofs.Steps.{HeaderIs, header_is}
+use Rattle.mc_blocks.proofs.Steps.{header_is}
 use Rattle.mc_blocks.proofs.Tiles.{Tiled, HeadersRead}
 use Rattle.mc_blocks.proofs.Bridge.{WellLaid, well_laid, used_above}
 use Rattle.mc_blocks.proofs.Search.{holes_above}
 use Rattle.mc_blocks.proofs.Heads.{layout_spans}
-use Rattle.mc_blocks.proofs.Taking as taking
-use Rattle.mc_blocks.proofs.Freeing as freeing
 use Rattle.mc_blocks.proofs.Links.{chain_behind, gaps_chain, joined_within, HoleAt, hole_at, BeforeAt, before_at, before_cases}
 use Rattle.mc_model_device.proofs.LayoutLemmas.{closed_means}
+use Rattle.mc_blocks.proofs.Taking as taking
+use Rattle.mc_blocks.proofs.Freeing as freeing
 
 -- a plan for a function of the card's spans
 pub plan_is : (m : List (List ℕ)) (f : List (ℕ × ℕ) → List (ℕ × ℕ)) → IsSized m → look m ≡ Closed → IsWellLaid m
@@ -166,29 +166,27 @@ pub record BlockAt (m : List (List ℕ)) (p : ℕ) (bs : List Block) : Type 0 wh
   pub ends : p + be2 (word m p) 2 ≤ length m
   pub words : be2 (word m p) 2 ≡ freeing.words_at p (used_spans bs)
 
-block_kind : (m : List (List ℕ)) (p q : ℕ) (b : Block) (bs : List Block) (u : Bool) → 131 ≤ q → b.place ≡ q → 1 ≤ b.words → header b.place (word m b.place) ≡ Some b → b.place + b.words ≤ length m
-    → (has_span p (used_spans bs) ≡ true → BlockAt m p bs) → SpansAbove (q + b.words) (used_spans bs) → has_span p (cond u ((b.place, b.words) ∷ used_spans bs) (used_spans bs)) ≡ true
-    → (1 ≤ be2 (word m p) 2) × (131 ≤ p) × (p + be2 (word m p) 2 ≤ length m) × (be2 (word m p) 2 ≡ freeing.words_at p (cond u ((b.place, b.words) ∷ used_spans bs) (used_spans bs)))
-block_kind m p q b bs false low place long is ends rest above h = let there = rest h in (there.some, there.low, there.ends, there.words)
-block_kind m p q b bs true low place long is ends rest above h =
-    elim (or_cases (b.place == p) (has_span p (used_spans bs)) h) [
-      | inl here ↦
-          let at : b.place ≡ p = eqb-true b.place p here in
-          let known : HeaderIs b.place (word m b.place) b = header_is b.place (word m b.place) b is in
-          let same : be2 (word m p) 2 ≡ b.words = ap (λ (x : ℕ). be2 (word m x) 2) (sym at) ∙ sym known.words in
-          (omega (arith, same), omega arith, omega (arith, same), same ∙ sym (ap (λ (t : Bool). cond t b.words (freeing.words_at p (used_spans bs))) here))
-      | inr later ↦
-          let there = rest later in
-          let far : q + b.words ≤ p = freeing.span_from (q + b.words) p (used_spans bs) above later in
-          let ne : b.place ≢ p = λ e. absurd (omega (arith, e)) in
-          (there.some, there.low, there.ends, there.words ∙ sym (ap (λ (t : Bool). cond t b.words (freeing.words_at p (used_spans bs))) (ne_eqb b.place p ne)))
-    ]
-
 block_at : (m : List (List ℕ)) (p q : ℕ) (a : Bool) (bs : List Block) (end : ℕ) → 131 ≤ q → Tiled q a bs end → HeadersRead m bs → has_span p (used_spans bs) ≡ true → BlockAt m p bs
 block_at m p q a [] end low t r h = absurd (cc h)
 block_at m p q a (b ∷ bs) end low t r h =
-    let k = block_kind m p q b bs b.used low t.0 t.1 r.0 r.1 (λ later. block_at m p (q + b.words) (not b.used) bs end (omega arith) t.3 r.2 later) (used_above (q + b.words) (not b.used) bs end t.3) h in
-    record { low = k.1; some = k.0; ends = k.2; words = k.3 }
+    let place : b.place ≡ q = t.0 in
+    let long : 1 ≤ b.words = t.1 in
+    let ends : b.place + b.words ≤ length m = r.1 in
+    let rest = λ (later : has_span p (used_spans bs) ≡ true). block_at m p (q + b.words) (not b.used) bs end (omega arith) t.3 r.2 later in
+    (elim b.used as (λ u. has_span p (used_spans (record b { used = u } ∷ bs)) ≡ true → BlockAt m p (record b { used = u } ∷ bs)) [
+      | true ↦ λ h. elim (or_cases (b.place == p) (has_span p (used_spans bs)) h) [
+        | inl here ↦
+            let at : b.place ≡ p = eqb-true b.place p here in
+            let same : be2 (word m p) 2 ≡ b.words = ap (λ (x : ℕ). be2 (word m x) 2) (sym at) ∙ sym (header_is b.place (word m b.place) b r.0).words in
+            record { low = omega arith; some = omega (arith, same); ends = omega (arith, same); words = same ∙ sym (ap (λ (t : Bool). cond t b.words (freeing.words_at p (used_spans bs))) here) }
+        | inr later ↦
+            let there = rest later in
+            let far : q + b.words ≤ p = freeing.span_from (q + b.words) p (used_spans bs) (used_above (q + b.words) (not b.used) bs end t.3) later in
+            let ne : b.place ≢ p = λ e. absurd (omega (arith, e)) in
+            record { low = there.low; some = there.some; ends = there.ends; words = there.words ∙ sym (ap (λ (t : Bool). cond t b.words (freeing.words_at p (used_spans bs))) (ne_eqb b.place p ne)) }
+      ]
+      | false ↦ λ h. let there = rest h in record { low = there.low; some = there.some; ends = there.ends; words = there.words }
+    ]) h
 
 pub record FreeIs (m : List (List ℕ)) (p : ℕ) : Type 0 where
   pub low : 131 ≤ p

@@ -5,7 +5,7 @@ use Rattle.std.proofs.lemmas.Bool.{leb-true, leb-false, le-leb, lt-leb, ne_eqb, 
 use Rattle.mc_model_device.specs.Bytes.{be2, or_else}
 use Rattle.mc_model_device.specs.Image.{Closed, look}
 use Rattle.mc_model_device.specs.Device.{IsSized}
-use Rattle.mc_model_device.specs.Card.{Card, Block, word, header, blocks, means}
+use Rattle.mc_model_device.specs.Card.{Card, Block, word, blocks, means}
 use Rattle.mc_model_device.specs.Layout.{first_hole, first_place, first_fitting, gaps, bad_link, IsWellLaid}
 use Rattle.mc_blocks.specs.Chains.{SpansAbove, IsChain, count_of_searched_gaps}
 use Rattle.mc_blocks.specs.Blocks.{hole_spans}
@@ -21,30 +21,26 @@ pub link_none : (b : Block) (due : ℕ) (rest : Option ℕ) (t : Bool) → (b.li
 link_none b due rest true e h = (eqb-true b.link due e, h)
 link_none b due rest false e h = absurd (cc h)
 
-holes_step : (p : ℕ) (b : Block) (bs : List Block) (t : Bool) → b.place ≡ p → SpansAbove p (hole_spans bs) → SpansAbove p (cond t (hole_spans bs) ((b.place, b.words) ∷ hole_spans bs))
-holes_step p b bs true place rest = rest
-holes_step p b bs false place rest = (omega (arith, place), rest)
-
 pub holes_above : (p : ℕ) (a : Bool) (bs : List Block) (end : ℕ) → Tiled p a bs end → SpansAbove p (hole_spans bs)
 holes_above p a [] end t = tt
-holes_above p a (b ∷ bs) end t = holes_step p b bs b.used t.0 (above_weaker (p + b.words) p (hole_spans bs) (omega arith) (holes_above (p + b.words) (not b.used) bs end t.3))
-
-chain_step : (m : List (List ℕ)) (b : Block) (bs : List Block) (t : Bool) → b.used ≡ t → 1 ≤ b.place → b.place + b.words ≤ length m → 1 ≤ b.words → header b.place (word m b.place) ≡ Some b
-    → b.link ≡ cond b.used 0 (first_hole bs) → SpansAbove (b.place + 1) (hole_spans bs) → IsChain m (hole_spans bs) → IsChain m (cond t (hole_spans bs) ((b.place, b.words) ∷ hole_spans bs))
-chain_step m b bs true e low high long is link above rest = rest
-chain_step m b bs false e low high long is link above rest =
-    let known : HeaderIs b.place (word m b.place) b = header_is b.place (word m b.place) b is in
-    (low, high, long, sym known.words, sym known.link ∙ link ∙ ap (λ (u : Bool). cond u 0 (first_hole bs)) e ∙ first_is bs, above, rest)
+holes_above p a (b ∷ bs) end t =
+    let place : b.place ≡ p = t.0 in
+    let rest : SpansAbove p (hole_spans bs) = above_weaker (p + b.words) p (hole_spans bs) (omega arith) (holes_above (p + b.words) (not b.used) bs end t.3) in
+    elim b.used as (λ u. SpansAbove p (hole_spans (record b { used = u } ∷ bs))) [ true ↦ rest | false ↦ (omega arith, rest) ]
 
 pub chain_all : (m : List (List ℕ)) (bs : List Block) (p : ℕ) (a : Bool) (end : ℕ) → 1 ≤ p → Tiled p a bs end → HeadersRead m bs → bad_link bs ≡ None → IsChain m (hole_spans bs)
 chain_all m [] p a end low t r h = tt
 chain_all m (b ∷ bs) p a end low t r h =
     let place : b.place ≡ p = t.0 in
     let long : 1 ≤ b.words = t.1 in
+    let known : HeaderIs b.place (word m b.place) b = header_is b.place (word m b.place) b r.0 in
     let links = link_none b (cond b.used 0 (first_hole bs)) (bad_link bs) (b.link == cond b.used 0 (first_hole bs)) refl h in
-    chain_step m b bs b.used refl (omega arith) r.1 long r.0 links.0
-    (above_weaker (p + b.words) (b.place + 1) (hole_spans bs) (omega arith) (holes_above (p + b.words) (not b.used) bs end t.3))
-    (chain_all m bs (p + b.words) (not b.used) end (omega arith) t.3 r.2 links.1)
+    let above = above_weaker (p + b.words) (b.place + 1) (hole_spans bs) (omega arith) (holes_above (p + b.words) (not b.used) bs end t.3) in
+    let rest = chain_all m bs (p + b.words) (not b.used) end (omega arith) t.3 r.2 links.1 in
+    (elim b.used as (λ u. b.link ≡ cond u 0 (first_hole bs) → IsChain m (hole_spans (record b { used = u } ∷ bs))) [
+      | true ↦ λ link. rest
+      | false ↦ λ link. (omega arith, r.1, long, sym known.words, sym known.link ∙ link ∙ first_is bs, above, rest)
+    ]) links.0
 
 pub chain_parts : (x first : ℕ) (rest : Option ℕ) (t : Bool) → (x == first) ≡ t → or_else (cond t None (Some 0)) rest ≡ None → (x ≡ first) × (rest ≡ None)
 chain_parts x first rest true e h = (eqb-true x first e, h)

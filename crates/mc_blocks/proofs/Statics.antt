@@ -1,64 +1,32 @@
 -- The card after words of a static segment are written: the application has them over its static bytes, and all else is
 -- kept.
-use Rattle.std.proofs.Common.{◌≡◌, ◌⊎◌, ℕ, ◌+◌, ◌<◌, ◌≤◌, Bool, true, false, ◌&&◌, ◌||◌, List, [], ◌∷◌, length, Some, None, cond, not, refl, sym, ◌∙◌, ap, subst, inl, inr, arith}
-use Rattle.std.specs.Prelude.{◌==◌, nat_le, slice_index, bytes_eq, MatchBool}
-use Rattle.std.proofs.lemmas.Slice.Eq.{bytes_eq-Decides}
-use Rattle.std.proofs.lemmas.Bool.{eqb-true, leb-true, and_parts, or_cases}
-use Rattle.mc_model_device.specs.Bytes.{up, be2, lookup, insert, has_name}
+use Rattle.std.proofs.Common.{◌≡◌, ◌⊎◌, ℕ, ◌+◌, ◌<◌, ◌≤◌, Bool, true, false, ◌&&◌, ◌||◌, List, [], ◌∷◌, length, Some, None, not, refl, sym, ◌∙◌, ap, subst, inl, inr, arith}
+use Rattle.std.specs.Prelude.{◌==◌, nat_le, slice_index}
+use Rattle.std.proofs.lemmas.Bool.{eqb-true, leb-true, and_parts, or_cases, cases_eq}
+use Rattle.mc_model_device.specs.Bytes.{up, be2, lookup, insert}
 use Rattle.mc_model_device.specs.Device.{IsSized}
-use Rattle.mc_model_device.specs.Card.{App, Block, word, header, blocks, section, record_at, name_in, name_at, app_of, app_at, apps_of, card_of, words_of_lengths}
-use Rattle.mc_model_device.specs.Layout.{is_record, words_fault, first_hole, bad_link}
-use Rattle.mc_blocks.specs.Chains.{SpansAbove}
-use Rattle.mc_blocks.specs.Blocks.{hole_spans, is_root_word}
-use Rattle.mc_blocks.specs.Plans.{has_room}
-use Rattle.mc_blocks.proofs.Search.{holes_above, chain_parts}
+use Rattle.mc_model_device.specs.Card.{App, Block, word, blocks, section, record_at, name_at, app_of, app_at, card_of, words_of_lengths}
+use Rattle.mc_model_device.specs.Layout.{is_record, words_fault}
+use Rattle.mc_blocks.specs.Blocks.{hole_spans, used_spans}
+use Rattle.mc_blocks.specs.Plans.{has_room, has_span}
+use Rattle.mc_blocks.proofs.Search.{holes_above}
 use Rattle.mc_blocks.proofs.Taking.{room_from}
 use Rattle.mc_blocks.proofs.Tiles.{Tiled, HeadersRead}
-use Rattle.mc_blocks.proofs.Bridge.{WellLaid, laid, AreNamed, named, Faultless, faultless, with_block, some_apps, no_apps}
-use Rattle.mc_blocks.proofs.Applications.{few_blocks, lookup_insert}
-use Rattle.mc_blocks.proofs.Built.{HoldsBlocks, built, SameBlock, same_block, root_good}
+use Rattle.mc_blocks.proofs.Bridge.{WellLaid, laid, named, Faultless, faultless, recorded, used_above, AreRecorded}
+use Rattle.mc_blocks.proofs.Applications.{found_all, ApplicationFound}
 use Rattle.mc_blocks.proofs.Sections.{length_section, same_cells, same_section}
-use Rattle.mc_model_device.proofs.MapLemmas.{other_way, insert_swap, insert_twice}
+use Rattle.mc_blocks.proofs.Setting.{set_block, later_span, BlockSet}
+use Rattle.mc_blocks.proofs.Freeing.{span_from}
+use Rattle.mc_blocks.specs.Outcomes.{AgreeBut}
 
 -- ---- blocks that are kept
 
--- both words agree in all that is read of the blocks
-record Stay (m n : List (List ℕ)) (names : List (List ℕ)) (bs : List Block) : Type 0 where
-  read : HeadersRead n bs
-  named : AreNamed n names bs
-  apps : apps_of n bs ≡ apps_of m bs
-
-stay_kind : (m n : List (List ℕ)) (names : List (List ℕ)) (b : Block) (bs : List Block) (u : Bool) → length n ≡ length m → b.place + b.words ≤ length m
-    → ((i : ℕ) → b.place ≤ i → i < b.place + b.words → word n i ≡ word m i)
-    → MatchBool u ((is_record (record_at m b.place) b.words ≡ true) × (has_name (name_at m b.place) names ≡ false) × AreNamed m (name_at m b.place ∷ names) bs) (AreNamed m names bs)
-    → ((ns : List (List ℕ)) → AreNamed m ns bs → Stay m n ns bs)
-    → MatchBool u ((is_record (record_at n b.place) b.words ≡ true) × (has_name (name_at n b.place) names ≡ false) × AreNamed n (name_at n b.place ∷ names) bs) (AreNamed n names bs)
-    × (HeadersRead n bs) × (cond u (insert (apps_of n bs) (name_at n b.place) (app_at n b.place)) (apps_of n bs) ≡ cond u (insert (apps_of m bs) (name_at m b.place) (app_at m b.place)) (apps_of m bs))
-stay_kind m n names b bs false size h same nm rest = let s = rest names nm in (s.named, s.read, s.apps)
-stay_kind m n names b bs true size h same nm rest =
-    let k = name_at m b.place in
-    let s = rest (k ∷ names) nm.2 in
-    let block : SameBlock m n b.place = same_block m n b.place b.words size h nm.0 same in
-    let name : name_at n b.place ≡ name_at m b.place = ap name_in block.entry in (
-      (
-        subst (λ (r : List ℕ). is_record r b.words ≡ true) (sym block.entry) nm.0,
-        subst (λ (x : List ℕ). has_name x names ≡ false) (sym name) nm.1,
-        subst (λ (x : List ℕ). AreNamed n (x ∷ names) bs) (sym name) s.named,
-      ),
-      s.read,
-      ap (λ (x : List ℕ). insert (apps_of n bs) x (app_at n b.place)) name ∙ ap (λ (x : App). insert (apps_of n bs) k x) block.app ∙ ap (λ (es : List (List ℕ × App)). insert es k (app_at m b.place)) s.apps,
-    )
-
-header_same : (m n : List (List ℕ)) (b : Block) → length n ≡ length m → word n b.place ≡ word m b.place → (header b.place (word m b.place) ≡ Some b) → b.place + b.words ≤ length m → (header b.place (word n b.place) ≡ Some b) × (b.place + b.words ≤ length n)
-header_same m n b size same is ends = (ap (λ (x : List ℕ). header b.place x) same ∙ is, subst (λ (l : ℕ). b.place + b.words ≤ l) (sym size) ends)
-
-stay_all : (m n : List (List ℕ)) (names : List (List ℕ)) (q : ℕ) (a : Bool) (bs : List Block) (end : ℕ) → length n ≡ length m → Tiled q a bs end → HeadersRead m bs → AreNamed m names bs → ((i : ℕ) → q ≤ i → word n i ≡ word m i) → Stay m n names bs
-stay_all m n names q a [] end size t r nm same = record { read = tt; named = tt; apps = no_apps n ∙ sym (no_apps m) }
-stay_all m n names q a (b ∷ bs) end size t r nm same =
+-- the blocks from q on are kept if all words from there on are
+pub agree_from : (m n : List (List ℕ)) (p q : ℕ) (a : Bool) (bs : List Block) (end : ℕ) → Tiled q a bs end → ((i : ℕ) → q ≤ i → word n i ≡ word m i) → AgreeBut m n p bs
+agree_from m n p q a [] end t same = tt
+agree_from m n p q a (b ∷ bs) end t same =
     let place : b.place ≡ q = t.0 in
-    let all = stay_kind m n names b bs b.used size r.1 (λ i low high. same i (omega (arith, place))) nm (λ ns ok. stay_all m n ns (q + b.words) (not b.used) bs end size t.3 r.2 ok (λ i low. same i (omega arith))) in
-    let head = header_same m n b size (same b.place (omega (arith, place))) r.0 r.1 in
-    record { read = (head.0, head.1, all.1); named = all.0; apps = some_apps n b bs ∙ all.2 ∙ sym (some_apps m b bs) }
+    (same b.place (omega (arith, place)), (λ _ _ i low high. same i (omega (arith, place))), agree_from m n p (q + b.words) (not b.used) bs end t.3 (λ i low. same i (omega arith)))
 
 -- ---- a block with other static bytes
 
@@ -114,34 +82,14 @@ here_is m n p words fixed image low h good s =
 
 -- ---- the walk
 
--- the application of this name among the blocks from q on, with these static bytes
-record Again (m n : List (List ℕ)) (names : List (List ℕ)) (k : List ℕ) (a : App) (fixed : List ℕ) (q : ℕ) (bs : List Block) : Type 0 where
-  low : q ≤ a.place
-  self : app_at m a.place ≡ a
-  name : name_at m a.place ≡ k
+-- the used block at p among the blocks from q on: its record, its end, the holes beside it, and that the blocks are kept
+-- if only its words after the header change
+record UsedAt (m : List (List ℕ)) (p q : ℕ) (bs : List Block) : Type 0 where
   words : ℕ
-  good : is_record (record_at m a.place) words ≡ true
-  end : a.place + words ≤ length m
-  ends : static_from a + up (length a.fixed) 8 ≤ length m
-  read : HeadersRead n bs
-  named : AreNamed n names bs
-  apps : apps_of n bs ≡ insert (apps_of m bs) k (record a { fixed = fixed })
-  apart : (p need : ℕ) → has_room p need (hole_spans bs) ≡ true → (p + need ≤ a.place) ⊎ (static_from a + up (length a.fixed) 8 ≤ p)
-
--- one block of such a walk
-record BlockStep (m n : List (List ℕ)) (names : List (List ℕ)) (k : List ℕ) (a : App) (fixed : List ℕ) (b : Block) (bs : List Block) (u : Bool) : Type 0 where
-  low : b.place ≤ a.place
-  self : app_at m a.place ≡ a
-  name : name_at m a.place ≡ k
-  words : ℕ
-  good : is_record (record_at m a.place) words ≡ true
-  end : a.place + words ≤ length m
-  ends : static_from a + up (length a.fixed) 8 ≤ length m
-  same : word n b.place ≡ word m b.place
-  read : HeadersRead n bs
-  named : MatchBool u ((is_record (record_at n b.place) b.words ≡ true) × (has_name (name_at n b.place) names ≡ false) × AreNamed n (name_at n b.place ∷ names) bs) (AreNamed n names bs)
-  apps : cond u (with_block n b bs) (apps_of n bs) ≡ insert (cond u (with_block m b bs) (apps_of m bs)) k (record a { fixed = fixed })
-  apart : (p need : ℕ) → has_room p need (cond u (hole_spans bs) ((b.place, b.words) ∷ hole_spans bs)) ≡ true → (p + need ≤ a.place) ⊎ (static_from a + up (length a.fixed) 8 ≤ p)
+  good : is_record (record_at m p) words ≡ true
+  end : p + words ≤ length m
+  apart : (r need : ℕ) → has_room r need (hole_spans bs) ≡ true → (r + need ≤ p) ⊎ (p + words ≤ r)
+  agree : (n : List (List ℕ)) → ((i : ℕ) → q ≤ i → (i ≤ p) ⊎ (p + words ≤ i) → word n i ≡ word m i) → AgreeBut m n p bs
 
 hole_apart : (p need q words at end : ℕ) (hs : List (ℕ × ℕ)) → q + words ≤ at → ((q == p && nat_le need words) || has_room p need hs) ≡ true → (has_room p need hs ≡ true → (p + need ≤ at) ⊎ (end ≤ p)) → (p + need ≤ at) ⊎ (end ≤ p)
 hole_apart p need q words at end hs low room rest =
@@ -154,99 +102,89 @@ hole_apart p need q words at end hs low room rest =
       | inr later ↦ rest later
     ]
 
-again_kind : (m n : List (List ℕ)) (names : List (List ℕ)) (k : List ℕ) (a : App) (fixed : List ℕ) (b : Block) (bs : List Block) (u t : Bool) → IsSized m → 131 ≤ b.place → 1 ≤ b.words → b.place + b.words ≤ length m
-    → SpansAbove (b.place + b.words) (hole_spans bs) → Restated m n a fixed → bytes_eq (name_at m b.place) k ≡ t
-    → MatchBool u ((is_record (record_at m b.place) b.words ≡ true) × (has_name (name_at m b.place) names ≡ false) × AreNamed m (name_at m b.place ∷ names) bs) (AreNamed m names bs)
-    → ((ns : List (List ℕ)) → AreNamed m ns bs → lookup (apps_of m bs) k ≡ Some a → Again m n ns k a fixed (b.place + b.words) bs)
-    → ((ns : List (List ℕ)) → AreNamed m ns bs → ((i : ℕ) → b.place + b.words ≤ i → word n i ≡ word m i) → Stay m n ns bs)
-    → lookup (cond u (with_block m b bs) (apps_of m bs)) k ≡ Some a → BlockStep m n names k a fixed b bs u
-again_kind m n names k a fixed b bs false t image heap long h above s e nm rest stay l =
-    let g = rest names nm l in
-    let low : b.place + b.words ≤ a.place = g.low in
-    record { low = omega arith; self = g.self; name = g.name; words = g.words; good = g.good; end = g.end; ends = g.ends; same = s.words b.place heap (inl (omega arith)); read = g.read; named = g.named; apps = g.apps; apart = λ p need room. hole_apart p need b.place b.words a.place (static_from a + up (length a.fixed) 8) (hole_spans bs) low room (g.apart p need) }
-again_kind m n names k a fixed b bs true true image heap long h above s e nm rest stay l =
-    let x = name_at m b.place in
-    let is : Some (app_at m b.place) ≡ Some a = sym (lookup_insert (apps_of m bs) x k (app_at m b.place) ∙ ap (λ (y : Bool). cond y (Some (app_at m b.place)) (lookup (apps_of m bs) k)) e) ∙ l in
-    let same : app_at m b.place ≡ a = cc in
-    let place : b.place ≡ a.place = ap (λ (y : App). y.place) same in
-    let here : OnlyStaticChanged m n b.place fixed = here_is m n b.place b.words fixed image heap h nm.0 (subst (λ (y : App). Restated m n y fixed) (sym same) s) in
-    let r = record_at m b.place in
-    let need : b.words ≡ words_of_lengths (be2 r 20) (be2 r 22) (slice_index r 17) (slice_index r 18) = eqb-true b.words _ (and_parts _ (b.words == words_of_lengths (be2 r 20) (be2 r 22) (slice_index r 17) (slice_index r 18)) nm.0).1 in
-    let ends : static_from a + up (length a.fixed) 8 ≤ b.place + b.words = subst (λ (y : App). static_from y + up (length y.fixed) 8 ≤ b.place + b.words) same (subst (λ (y : ℕ). static_from (app_at m b.place) + up (length (app_at m b.place).fixed) 8 ≤ b.place + y) (sym need) here.ends) in
-    let behind : Stay m n (x ∷ names) bs = stay (x ∷ names) nm.2 (λ i above. s.words i (omega arith) (inr (omega (arith, ends)))) in
-    let name : name_at n b.place ≡ x = ap name_in here.entry in
-    let app : app_at n b.place ≡ record a { fixed = fixed } = here.app ∙ ap (λ (y : App). record y { fixed = fixed }) same in
-    record {
-      low = omega (arith, place);
-      self = ap (λ (y : ℕ). app_at m y) (sym place) ∙ same;
-      name = ap (λ (y : ℕ). name_at m y) (sym place) ∙ (bytes_eq-Decides x k).0 e;
-      words = b.words;
-      good = subst (λ (y : ℕ). is_record (record_at m y) b.words ≡ true) place nm.0;
-      end = subst (λ (y : ℕ). y + b.words ≤ length m) place h;
-      ends = omega (arith, ends);
-      same = s.words b.place heap (inl (omega (arith, place)));
-      read = behind.read;
-      named = (subst (λ (y : List ℕ). is_record y b.words ≡ true) (sym here.entry) nm.0, subst (λ (y : List ℕ). has_name y names ≡ false) (sym name) nm.1, subst (λ (y : List ℕ). AreNamed n (y ∷ names) bs) (sym name) behind.named);
-      apps = ap (λ (y : List ℕ). insert (apps_of n bs) y (app_at n b.place)) (name ∙ (bytes_eq-Decides x k).0 e)
-          ∙ ap (λ (y : App). insert (apps_of n bs) k y) app
-          ∙ ap (λ (es : List (List ℕ × App)). insert es k (record a { fixed = fixed })) behind.apps
-          ∙ sym (ap (λ (y : List ℕ). insert (insert (apps_of m bs) y (app_at m b.place)) k (record a { fixed = fixed })) ((bytes_eq-Decides x k).0 e) ∙ insert_twice (apps_of m bs) k (app_at m b.place) (record a { fixed = fixed }));
-      apart = λ p need room. let far : b.place + b.words ≤ p = room_from (b.place + b.words) p need (hole_spans bs) above room in inr (omega (arith, ends));
-    }
-again_kind m n names k a fixed b bs true false image heap long h above s e nm rest stay l =
-    let x = name_at m b.place in
-    let behind : lookup (apps_of m bs) k ≡ Some a = sym (lookup_insert (apps_of m bs) x k (app_at m b.place) ∙ ap (λ (y : Bool). cond y (Some (app_at m b.place)) (lookup (apps_of m bs) k)) e) ∙ l in
-    let g : Again m n (x ∷ names) k a fixed (b.place + b.words) bs = rest (x ∷ names) nm.2 behind in
-    let low : b.place + b.words ≤ a.place = g.low in
-    let block : SameBlock m n b.place = same_block m n b.place b.words s.size h nm.0 (λ i above below. s.words i (omega arith) (inl (omega arith))) in
-    let name : name_at n b.place ≡ x = ap name_in block.entry in
-    record {
-      low = omega arith;
-      self = g.self;
-      name = g.name;
-      words = g.words;
-      good = g.good;
-      end = g.end;
-      ends = g.ends;
-      same = s.words b.place heap (inl (omega arith));
-      read = g.read;
-      named = (subst (λ (y : List ℕ). is_record y b.words ≡ true) (sym block.entry) nm.0, subst (λ (y : List ℕ). has_name y names ≡ false) (sym name) nm.1, subst (λ (y : List ℕ). AreNamed n (y ∷ names) bs) (sym name) g.named);
-      apps = ap (λ (y : List ℕ). insert (apps_of n bs) y (app_at n b.place)) name
-          ∙ ap (λ (y : App). insert (apps_of n bs) x y) block.app
-          ∙ ap (λ (es : List (List ℕ × App)). insert es x (app_at m b.place)) g.apps
-          ∙ insert_swap (apps_of m bs) k (record a { fixed = fixed }) x (app_at m b.place) (other_way x k e);
-      apart = g.apart;
-    }
-
-again_all : (m n : List (List ℕ)) (names : List (List ℕ)) (k : List ℕ) (a : App) (fixed : List ℕ) (q : ℕ) (f : Bool) (bs : List Block) (end : ℕ) → IsSized m → 131 ≤ q → Tiled q f bs end → HeadersRead m bs → AreNamed m names bs
-    → Restated m n a fixed → lookup (apps_of m bs) k ≡ Some a → Again m n names k a fixed q bs
-again_all m n names k a fixed q f [] end image heap t r nm s l = absurd (cc (sym (ap (λ (es : List (List ℕ × App)). lookup es k) (no_apps m)) ∙ l))
-again_all m n names k a fixed q f (b ∷ bs) end image heap t r nm s l =
+used_at : (m : List (List ℕ)) (p q : ℕ) (a : Bool) (bs : List Block) (end : ℕ) → Tiled q a bs end → HeadersRead m bs → AreRecorded m bs → has_span p (used_spans bs) ≡ true → UsedAt m p q bs
+used_at m p q a [] end t r g span = absurd (cc span)
+used_at m p q a (b ∷ bs) end t r g span =
     let place : b.place ≡ q = t.0 in
     let long : 1 ≤ b.words = t.1 in
-    let tail : Tiled (b.place + b.words) (not b.used) bs end = subst (λ (x : ℕ). Tiled (x + b.words) (not b.used) bs end) (sym place) t.3 in
-    let g = again_kind m n names k a fixed b bs b.used (bytes_eq (name_at m b.place) k) image (omega (arith, place)) long r.1 (holes_above (b.place + b.words) (not b.used) bs end tail) s refl nm
-    (λ ns ok there. again_all m n ns k a fixed (b.place + b.words) (not b.used) bs end image (omega (arith, place)) tail r.2 ok s there)
-    (λ ns ok same. stay_all m n ns (b.place + b.words) (not b.used) bs end s.size tail r.2 ok same)
-    (sym (ap (λ (es : List (List ℕ × App)). lookup es k) (some_apps m b bs)) ∙ l) in
-    let head = header_same m n b s.size g.same r.0 r.1 in
-    record {
-      low = omega (arith, place, g.low);
-      self = g.self;
-      name = g.name;
-      words = g.words;
-      good = g.good;
-      end = g.end;
-      ends = g.ends;
-      read = (head.0, head.1, g.read);
-      named = g.named;
-      apps = some_apps n b bs ∙ g.apps ∙ ap (λ (es : List (List ℕ × App)). insert es k (record a { fixed = fixed })) (sym (some_apps m b bs));
-      apart = g.apart;
-    }
+    let ends : b.place + b.words ≤ length m = r.1 in
+    let above = used_above (q + b.words) (not b.used) bs end t.3 in
+    elim (cases_eq b.place p) [
+      | inl here ↦
+          (elim b.used as (λ u. (u ≡ true → is_record (record_at m b.place) b.words ≡ true) → has_span p (used_spans (record b { used = u } ∷ bs)) ≡ true → UsedAt m p q (record b { used = u } ∷ bs)) [
+            | true ↦ λ good span. record {
+              words = b.words;
+              good = subst (λ (x : ℕ). is_record (record_at m x) b.words ≡ true) here (good refl);
+              end = omega (arith, here);
+              apart = λ s need room. let far : q + b.words ≤ s = room_from (q + b.words) s need (hole_spans bs) (holes_above (q + b.words) (not b.used) bs end t.3) room in inr (omega (arith, here));
+              agree = λ n same. (same b.place (omega arith) (inl (omega (arith, here))), (λ _ ne. absurd (ne here)), agree_from m n p (q + b.words) (not b.used) bs end t.3 (λ i low. same i (omega arith) (inr (omega (arith, here)))));
+            }
+            | false ↦ λ good span. let far : q + b.words ≤ p = span_from (q + b.words) p (used_spans bs) above span in absurd (omega (arith, here))
+          ]) g.0 span
+      | inr ne ↦
+          let later : has_span p (used_spans bs) ≡ true = later_span p b (used_spans bs) b.used ne span in
+          let rest = used_at m p (q + b.words) (not b.used) bs end t.3 r.2 g.1 later in
+          let far : q + b.words ≤ p = span_from (q + b.words) p (used_spans bs) above later in
+          record {
+            words = rest.words;
+            good = rest.good;
+            end = rest.end;
+            apart = λ s need room.
+                (elim b.used as (λ u. has_room s need (hole_spans (record b { used = u } ∷ bs)) ≡ true → (s + need ≤ p) ⊎ (p + rest.words ≤ s)) [
+                  | true ↦ λ room. rest.apart s need room
+                  | false ↦ λ room. hole_apart s need b.place b.words p (p + rest.words) (hole_spans bs) (omega arith) room (rest.apart s need)
+                ]) room;
+            agree = λ n same. (same b.place (omega arith) (inl (omega arith)), (λ _ _ i low high. same i (omega arith) (inl (omega arith))), rest.agree n (λ i low out. same i (omega arith) out));
+          }
+    ]
 
 -- ---- the card
 
--- words without a fault that hold the card with these static bytes
+-- an application is the one that its block holds, and its static bytes lie in the heap and in no hole; the blocks are
+-- kept if only these bytes change
+pub record StaticIn (m : List (List ℕ)) (k : List ℕ) (a : App) : Type 0 where
+  pub low : 131 ≤ a.place
+  pub self : app_at m a.place ≡ a
+  pub name : name_at m a.place ≡ k
+  pub span : has_span a.place (used_spans (blocks m)) ≡ true
+  pub words : ℕ
+  pub good : is_record (record_at m a.place) words ≡ true
+  pub end : a.place + words ≤ length m
+  pub ends : static_from a + up (length a.fixed) 8 ≤ length m
+  pub bytes : section m (static_from a) (length a.fixed) ≡ a.fixed
+  pub apart : (p need : ℕ) → has_room p need (hole_spans (blocks m)) ≡ true → (p + need ≤ a.place) ⊎ (static_from a + up (length a.fixed) 8 ≤ p)
+  pub agree : (n : List (List ℕ)) (fixed : List ℕ) → Restated m n a fixed → AgreeBut m n a.place (blocks m)
+
+pub static_in : (m : List (List ℕ)) (k : List ℕ) (a : App) → IsSized m → words_fault m ≡ None → lookup (card_of m).apps k ≡ Some a → StaticIn m k a
+static_in m k a image h there =
+    let f : Faultless m = faultless m h in
+    let l : WellLaid m = laid m image h in
+    let bs = blocks m in
+    let p = a.place in
+    let names = named m bs [] 0 f.records in
+    let found : ApplicationFound m k bs 131 a = found_all m k a bs 131 false (length m) [] l.tiled names there in
+    let u : UsedAt m p 131 bs = used_at m p 131 false bs (length m) l.tiled l.read (recorded m [] bs names) found.span in
+    let now = section m (static_from (app_at m p)) (length (app_at m p).fixed) in
+    let here : OnlyStaticChanged m m p now = here_is m m p u.words now image found.low u.end u.good (record { size = refl; words = λ i low out. refl; bytes = refl }) in
+    let r = record_at m p in
+    let need : u.words ≡ words_of_lengths (be2 r 20) (be2 r 22) (slice_index r 17) (slice_index r 18) = eqb-true u.words _ (and_parts _ (u.words == words_of_lengths (be2 r 20) (be2 r 22) (slice_index r 17) (slice_index r 18)) u.good).1 in
+    let ends : static_from a + up (length a.fixed) 8 ≤ p + u.words = subst (λ (x : App). static_from x + up (length x.fixed) 8 ≤ p + u.words) found.self (subst (λ (x : ℕ). static_from (app_at m p) + up (length (app_at m p).fixed) 8 ≤ p + x) (sym need) here.ends) in
+    let end : p + u.words ≤ length m = u.end in
+    record {
+      low = found.low;
+      self = found.self;
+      name = found.name;
+      span = found.span;
+      words = u.words;
+      good = u.good;
+      end = end;
+      ends = omega (arith, ends);
+      bytes = subst (λ (x : App). section m (static_from x) (length x.fixed) ≡ x.fixed) found.self (sym (ap (λ (x : App). x.fixed) here.app));
+      apart = λ s room-need room. elim (u.apart s room-need room) [ inl before ↦ inl before | inr behind ↦ inr (omega (arith, ends, behind)) ];
+      agree = λ n fixed s. u.agree n (λ i low out. s.words i low (elim out [ inl before ↦ inl (omega (arith, before)) | inr behind ↦ inr (omega (arith, ends, behind)) ]));
+    }
+
+-- words n have no fault, and hold the card of m with these static bytes of an application
 pub record Restates (m n : List (List ℕ)) (k : List ℕ) (a : App) (fixed : List ℕ) : Type 0 where
   pub good : words_fault n ≡ None
   pub blocks : blocks n ≡ blocks m
@@ -254,51 +192,10 @@ pub record Restates (m n : List (List ℕ)) (k : List ℕ) (a : App) (fixed : Li
 
 pub restates : (m n : List (List ℕ)) (k : List ℕ) (a : App) (fixed : List ℕ) → IsSized m → words_fault m ≡ None → lookup (card_of m).apps k ≡ Some a → word n 0 ≡ word m 0 → Restated m n a fixed → Restates m n k a fixed
 restates m n k a fixed image h there root s =
-    let f : Faultless m = faultless m h in
-    let l : WellLaid m = laid m image h in
-    let bs = blocks m in
-    let g : Again m n [] k a fixed 131 bs = again_all m n [] k a fixed 131 false bs (length m) image (omega arith) l.tiled l.read (named m bs [] 0 f.records) s there in
-    let good : is_root_word (word m 0) (length m) ≡ true = root_good m (is_root_word (word m 0) (length m)) f.root in
-    let links = chain_parts (be2 (word m 0) 6) (first_hole bs) (bad_link bs) (be2 (word m 0) 6 == first_hole bs) refl f.chain in
-    let stands : HoldsBlocks n bs = built n bs (record {
-      root = ap (λ (x : List ℕ). is_root_word x (length n)) root ∙ ap (λ (x : ℕ). is_root_word (word m 0) x) s.size ∙ good;
-      first = ap (λ (x : List ℕ). be2 x 6) root ∙ links.0;
-      tiled = subst (λ (e : ℕ). Tiled 131 false bs e) (sym s.size) l.tiled;
-      read = g.read;
-      links = links.1;
-      named = g.named;
-      few = few_blocks m f;
-    }) in
-    record {
-      good = stands.good;
-      blocks = stands.blocks;
-      card = ap (λ (x : ℕ). record { size = x; layout = slice_index (word n 0) 3; apps = apps_of n (blocks n) }) s.size
-          ∙ ap (λ (x : List ℕ). record { size = length m; layout = slice_index x 3; apps = apps_of n (blocks n) }) root
-          ∙ ap (λ (x : List (List ℕ × App)). record { size = length m; layout = slice_index (word m 0) 3; apps = x }) (ap (λ (y : List Block). apps_of n y) stands.blocks ∙ g.apps);
-    }
-
--- an application is the one that its block holds, and its static bytes lie in the heap and in no hole
-pub record StaticIn (m : List (List ℕ)) (k : List ℕ) (a : App) : Type 0 where
-  pub low : 131 ≤ a.place
-  pub self : app_at m a.place ≡ a
-  pub name : name_at m a.place ≡ k
-  pub words : ℕ
-  pub good : is_record (record_at m a.place) words ≡ true
-  pub end : a.place + words ≤ length m
-  pub ends : static_from a + up (length a.fixed) 8 ≤ length m
-  pub bytes : section m (static_from a) (length a.fixed) ≡ a.fixed
-  pub apart : (p need : ℕ) → has_room p need (hole_spans (blocks m)) ≡ true → (p + need ≤ a.place) ⊎ (static_from a + up (length a.fixed) 8 ≤ p)
-
-pub static_in : (m : List (List ℕ)) (k : List ℕ) (a : App) → IsSized m → words_fault m ≡ None → lookup (card_of m).apps k ≡ Some a → StaticIn m k a
-static_in m k a image h there =
-    let f : Faultless m = faultless m h in
-    let l : WellLaid m = laid m image h in
-    let bs = blocks m in
-    let now = section m (static_from a) (length a.fixed) in
-    let s : Restated m m a now = record { size = refl; words = λ i low out. refl; bytes = refl } in
-    let g : Again m m [] k a now 131 bs = again_all m m [] k a now 131 false bs (length m) image (omega arith) l.tiled l.read (named m bs [] 0 f.records) s there in
-    let again : Some a ≡ Some (record a { fixed = now }) =
-    sym there ∙ ap (λ (es : List (List ℕ × App)). lookup es k) g.apps ∙ lookup_insert (apps_of m bs) k k (record a { fixed = now })
-    ∙ ap (λ (t : Bool). cond t (Some (record a { fixed = now })) (lookup (apps_of m bs) k)) ((bytes_eq-Decides k k).1 refl) in
-    let same : a ≡ record a { fixed = now } = cc in
-    record { low = g.low; self = g.self; name = g.name; words = g.words; good = g.good; end = g.end; ends = g.ends; bytes = sym (ap (λ (y : App). y.fixed) same); apart = g.apart }
+    let p = a.place in
+    let i : StaticIn m k a = static_in m k a image h there in
+    let here : OnlyStaticChanged m n p fixed = here_is m n p i.words fixed image i.low i.end i.good (subst (λ (x : App). Restated m n x fixed) (sym i.self) s) in
+    let b : BlockSet m n p = set_block m n p image h i.span s.size root (i.agree n fixed s) here.entry in
+    let apps : insert (card_of m).apps (name_at m p) (app_at n p) ≡ insert (card_of m).apps k (record a { fixed = fixed }) =
+    ap (λ (x : List ℕ). insert (card_of m).apps x (app_at n p)) i.name ∙ ap (λ (x : App). insert (card_of m).apps k x) (here.app ∙ ap (λ (x : App). record x { fixed = fixed }) i.self) in
+    record { good = b.good; blocks = b.blocks; card = b.card ∙ ap (λ (es : List (List ℕ × App)). record (card_of m) { apps = es }) apps }

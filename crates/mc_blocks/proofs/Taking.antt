@@ -48,23 +48,22 @@ room_from q p need (g ∷ gs) a h =
 unfoldable pub RoomAt : ℕ → ℕ → Block → List Block → Type 0
 RoomAt p need b bs = ((b.used ≡ false) × (b.place ≡ p) × (need ≤ b.words)) ⊎ (((b.place == p) ≡ false) × (has_room p need (hole_spans bs) ≡ true) × (b.place < p))
 
-room_kind : (p need q : ℕ) (b : Block) (bs : List Block) (u : Bool) → b.used ≡ u → b.place ≡ q → 1 ≤ b.words → SpansAbove (q + b.words) (hole_spans bs) → has_room p need (cond u (hole_spans bs) ((b.place, b.words) ∷ hole_spans bs)) ≡ true → RoomAt p need b bs
-unfolding RoomAt
-room_kind p need q b bs true used place low above room =
-    let far : q + b.words ≤ p = room_from (q + b.words) p need (hole_spans bs) above room in
-    let ne : b.place ≢ p = λ e. absurd (omega (arith, e)) in
-    inr (ne_eqb b.place p ne, room, omega arith)
-room_kind p need q b bs false used place low above room =
-    elim (or_cases (b.place == p && nat_le need b.words) (has_room p need (hole_spans bs)) room) [
-      | inl here ↦ let parts = and_parts (b.place == p) (nat_le need b.words) here in inl (used, eqb-true b.place p parts.0, leb-true need b.words parts.1)
-      | inr later ↦
-          let far : q + b.words ≤ p = room_from (q + b.words) p need (hole_spans bs) above later in
-          let ne : b.place ≢ p = λ e. absurd (omega (arith, e)) in
-          inr (ne_eqb b.place p ne, later, omega arith)
-    ]
-
 pub room_at : (p need q : ℕ) (a : Bool) (b : Block) (bs : List Block) (end : ℕ) → Tiled q a (b ∷ bs) end → has_room p need (hole_spans (b ∷ bs)) ≡ true → RoomAt p need b bs
-room_at p need q a b bs end t room = room_kind p need q b bs b.used refl t.0 t.1 (holes_above (q + b.words) (not b.used) bs end t.3) room
+unfolding RoomAt
+room_at p need q a b bs end t room =
+    let place : b.place ≡ q = t.0 in
+    let low : 1 ≤ b.words = t.1 in
+    let later : has_room p need (hole_spans bs) ≡ true → ((b.place == p) ≡ false) × (has_room p need (hole_spans bs) ≡ true) × (b.place < p) = λ room.
+    let far : q + b.words ≤ p = room_from (q + b.words) p need (hole_spans bs) (holes_above (q + b.words) (not b.used) bs end t.3) room in
+    let ne : b.place ≢ p = λ e. absurd (omega (arith, e)) in
+    (ne_eqb b.place p ne, room, omega arith) in
+    (elim b.used as (λ u. has_room p need (hole_spans (record b { used = u } ∷ bs)) ≡ true → RoomAt p need (record b { used = u }) bs) [
+      | true ↦ λ room. inr (later room)
+      | false ↦ λ room. elim (or_cases (b.place == p && nat_le need b.words) (has_room p need (hole_spans bs)) room) [
+        | inl here ↦ let parts = and_parts (b.place == p) (nat_le need b.words) here in inl (refl, eqb-true b.place p parts.0, leb-true need b.words parts.1)
+        | inr behind ↦ inr (later behind)
+      ]
+    ]) room
 
 -- ---- the blocks after the change
 
@@ -106,14 +105,8 @@ take_tiled p need q a (b ∷ bs) end some t room =
 
 -- ---- their spans
 
-rest_spans : (p need : ℕ) (b : Block) (bs : List Block) (t : Bool) → used_spans (cond t (free_block (p + need) (b.words - need) ∷ bs) bs) ≡ used_spans bs
-rest_spans p need b bs true = refl
-rest_spans p need b bs false = refl
-
-later_spans : (p need : ℕ) (b : Block) (us vs : List (ℕ × ℕ)) (u : Bool) → b.place < p → vs ≡ put_at p need us → cond u ((b.place, b.words) ∷ vs) vs ≡ put_at p need (cond u ((b.place, b.words) ∷ us) us)
-later_spans p need b us vs true lt e =
-    ap (λ (l : List (ℕ × ℕ)). (b.place, b.words) ∷ l) e ∙ sym (ap (λ (t : Bool). cond t ((p, need) ∷ (b.place, b.words) ∷ us) ((b.place, b.words) ∷ put_at p need us)) (le-ltb p b.place (omega arith)))
-later_spans p need b us vs false lt e = e
+rest_spans : (p need : ℕ) (b : Block) (bs : List Block) → used_spans (rest_of p need b bs) ≡ used_spans bs
+rest_spans p need b bs = elim (nat_lt need b.words) as (λ t. used_spans (cond t (free_block (p + need) (b.words - need) ∷ bs) bs) ≡ used_spans bs) [ true ↦ refl | false ↦ refl ]
 
 pub take_spans : (p need q : ℕ) (a : Bool) (bs : List Block) (end : ℕ) → Tiled q a bs end → has_room p need (hole_spans bs) ≡ true → used_spans (take_in p need bs) ≡ put_at p need (used_spans bs)
 unfolding RoomAt
@@ -125,12 +118,17 @@ take_spans p need q a (b ∷ bs) end t room =
       | inl here ↦
           let same : p ≡ q = sym here.1 ∙ place in
           ap used_spans (taken_here p need b bs here.1)
-          ∙ ap (λ (l : List (ℕ × ℕ)). (p, need) ∷ l) (rest_spans p need b bs (nat_lt need b.words))
+          ∙ ap (λ (l : List (ℕ × ℕ)). (p, need) ∷ l) (rest_spans p need b bs)
           ∙ sym (put_front p need (used_spans bs) (above_weaker (q + b.words) (p + 1) (used_spans bs) (omega arith) (used_above (q + b.words) (not b.used) bs end t.3)))
           ∙ sym (ap (λ (u : Bool). put_at p need (cond u ((b.place, b.words) ∷ used_spans bs) (used_spans bs))) here.0)
       | inr later ↦
           ap used_spans (taken_later p need b bs later.0)
-          ∙ later_spans p need b (used_spans bs) (used_spans (take_in p need bs)) b.used later.2 (take_spans p need (q + b.words) (not b.used) bs end t.3 later.1)
+          ∙ (let rest = take_spans p need (q + b.words) (not b.used) bs end t.3 later.1 in
+          elim b.used as (λ u. used_spans (record b { used = u } ∷ take_in p need bs) ≡ put_at p need (used_spans (record b { used = u } ∷ bs))) [
+            | true ↦ ap (λ (l : List (ℕ × ℕ)). (b.place, b.words) ∷ l) rest
+                ∙ sym (ap (λ (t : Bool). cond t ((p, need) ∷ (b.place, b.words) ∷ used_spans bs) ((b.place, b.words) ∷ put_at p need (used_spans bs))) (le-ltb p b.place (let lt : b.place < p = later.2 in omega arith)))
+            | false ↦ rest
+          ])
     ]
 
 -- ---- the headers that change
@@ -140,15 +138,17 @@ pub tiled_end : (q : ℕ) (a : Bool) (bs : List Block) (end : ℕ) → Tiled q a
 tiled_end q a [] end t = omega (arith, t)
 tiled_end q a (b ∷ bs) end t = let later : q + b.words ≤ end = tiled_end (q + b.words) (not b.used) bs end t.3 in omega arith
 
-first_kind : (q : ℕ) (b : Block) (bs : List Block) (end : ℕ) (u : Bool) → b.place ≡ q → 1 ≤ b.words → q + b.words ≤ end → (first_hole bs ≡ 0) ⊎ ((q + b.words ≤ first_hole bs) × (first_hole bs < end))
-    → (cond u (first_hole bs) b.place ≡ 0) ⊎ ((q ≤ cond u (first_hole bs) b.place) × (cond u (first_hole bs) b.place < end))
-first_kind q b bs end true place low ends rest = elim rest [ inl none ↦ inl none | inr some ↦ inr (omega (arith, some.0), some.1) ]
-first_kind q b bs end false place low ends rest = inr (omega arith, omega arith)
-
 -- the place of the first hole is within the blocks, or 0
 pub first_range : (q : ℕ) (a : Bool) (bs : List Block) (end : ℕ) → Tiled q a bs end → (first_hole bs ≡ 0) ⊎ ((q ≤ first_hole bs) × (first_hole bs < end))
 first_range q a [] end t = inl refl
-first_range q a (b ∷ bs) end t = first_kind q b bs end b.used t.0 t.1 (tiled_end (q + b.words) (not b.used) bs end t.3) (first_range (q + b.words) (not b.used) bs end t.3)
+first_range q a (b ∷ bs) end t =
+    let place : b.place ≡ q = t.0 in
+    let low : 1 ≤ b.words = t.1 in
+    let ends : q + b.words ≤ end = tiled_end (q + b.words) (not b.used) bs end t.3 in
+    elim b.used as (λ u. (first_hole (record b { used = u } ∷ bs) ≡ 0) ⊎ ((q ≤ first_hole (record b { used = u } ∷ bs)) × (first_hole (record b { used = u } ∷ bs) < end))) [
+      | true ↦ elim (first_range (q + b.words) (not b.used) bs end t.3) [ inl none ↦ inl none | inr some ↦ inr (omega (arith, some.0), some.1) ]
+      | false ↦ inr (omega arith, omega arith)
+    ]
 
 pub added : (e : ℕ × List ℕ) (l : List (ℕ × List ℕ)) → From (e.0 + 1) l → changes l l ≡ [] → changes l (e ∷ l) ≡ e ∷ []
 added e l f same =

@@ -84,41 +84,31 @@ abbrev GapBegins : Bool → ℕ → ℕ → Type 0
 GapBegins true start p = start < p
 GapBegins false start p = start ≡ p
 
-gaps_go : (start p : ℕ) (after_hole u : Bool) (b : Block) (us hs : List (ℕ × ℕ)) (end : ℕ) → b.used ≡ u → b.place ≡ p → 1 ≤ b.words → (after_hole && not b.used) ≡ false → GapBegins after_hole start p
-    → ((s : ℕ) → GapBegins (not b.used) s (p + b.words) → gaps_from s us end ≡ gap s (p + b.words) ++ hs)
-    → gaps_from start (cond b.used ((b.place, b.words) ∷ us) us) end ≡ gap start p ++ cond b.used hs ((b.place, b.words) ∷ hs)
-gaps_go start p after_hole true b us hs end used place low apart begins rest =
-    let first : gaps_from (p + b.words) us end ≡ gap (p + b.words) (p + b.words) ++ hs = rest (p + b.words) (subst (λ (t : Bool). GapBegins (not t) (p + b.words) (p + b.words)) (sym used) refl) in
-    ap (λ (t : Bool). gaps_from start (cond t ((b.place, b.words) ∷ us) us) end) used
-    ∙ ap (λ (q : ℕ). gap start q ++ gaps_from (q + b.words) us end) place
-    ∙ ap (λ (l : List (ℕ × ℕ)). gap start p ++ l) (first ∙ ap (λ (l : List (ℕ × ℕ)). l ++ hs) (no_gap (p + b.words)))
-    ∙ sym (ap (λ (t : Bool). gap start p ++ cond t hs ((b.place, b.words) ∷ hs)) used)
-gaps_go start p true false b us hs end used place low apart begins rest = absurd (cc (sym (ap not used) ∙ apart))
-gaps_go start p false false b us hs end used place low apart begins rest =
-    let first : gaps_from p us end ≡ gap p (p + b.words) ++ hs = rest p (subst (λ (t : Bool). GapBegins (not t) p (p + b.words)) (sym used) (omega arith)) in
-    ap (λ (t : Bool). gaps_from start (cond t ((b.place, b.words) ∷ us) us) end) used
-    ∙ ap (λ (s : ℕ). gaps_from s us end) begins
-    ∙ first
-    ∙ ap (λ (l : List (ℕ × ℕ)). l ++ hs) (one_gap p b.words low)
-    ∙ ap (λ (q : ℕ). (q, b.words) ∷ hs) (sym place)
-    ∙ sym (ap (λ (l : List (ℕ × ℕ)). l ++ (b.place, b.words) ∷ hs) (ap (λ (s : ℕ). gap s p) begins ∙ no_gap p))
-    ∙ sym (ap (λ (t : Bool). gap start p ++ cond t hs ((b.place, b.words) ∷ hs)) used)
+gaps_go : (start p : ℕ) (after_hole u : Bool) (b : Block) (bs : List Block) (end : ℕ) → b.place ≡ p → 1 ≤ b.words → (after_hole && not u) ≡ false → GapBegins after_hole start p
+    → ((s : ℕ) → GapBegins (not u) s (p + b.words) → gaps_from s (used_spans bs) end ≡ gap s (p + b.words) ++ hole_spans bs)
+    → gaps_from start (used_spans (record b { used = u } ∷ bs)) end ≡ gap start p ++ hole_spans (record b { used = u } ∷ bs)
+gaps_go start p after_hole true b bs end place low apart begins rest =
+    ap (λ (q : ℕ). gap start q ++ gaps_from (q + b.words) (used_spans bs) end) place
+    ∙ ap (λ (l : List (ℕ × ℕ)). gap start p ++ l) (rest (p + b.words) refl ∙ ap (λ (l : List (ℕ × ℕ)). l ++ hole_spans bs) (no_gap (p + b.words)))
+gaps_go start p true false b bs end place low apart begins rest = absurd (cc apart)
+gaps_go start p false false b bs end place low apart begins rest =
+    ap (λ (s : ℕ). gaps_from s (used_spans bs) end) begins
+    ∙ rest p (omega arith)
+    ∙ ap (λ (l : List (ℕ × ℕ)). l ++ hole_spans bs) (one_gap p b.words low)
+    ∙ ap (λ (q : ℕ). (q, b.words) ∷ hole_spans bs) (sym place)
+    ∙ sym (ap (λ (l : List (ℕ × ℕ)). l ++ (b.place, b.words) ∷ hole_spans bs) (ap (λ (s : ℕ). gap s p) begins ∙ no_gap p))
 
 gaps_all : (start p : ℕ) (after_hole : Bool) (bs : List Block) (end : ℕ) → Tiled p after_hole bs end → GapBegins after_hole start p → gaps_from start (used_spans bs) end ≡ gap start p ++ hole_spans bs
 gaps_all start p after_hole [] end t begins = ap (λ (e : ℕ). gap start e) (sym t) ∙ sym (append-nil (gap start p))
 gaps_all start p after_hole (b ∷ bs) end t begins =
-    gaps_go start p after_hole b.used b (used_spans bs) (hole_spans bs) end refl t.0 t.1 t.2 begins
-    (λ s begun. gaps_all s (p + b.words) (not b.used) bs end t.3 begun)
+    gaps_go start p after_hole b.used b bs end t.0 t.1 t.2 begins (λ s begun. gaps_all s (p + b.words) (not b.used) bs end t.3 begun)
 
 -- the gaps between used blocks are the holes
 pub gaps_are_holes : (p : ℕ) (bs : List Block) (end : ℕ) → Tiled p false bs end → gaps_from p (used_spans bs) end ≡ hole_spans bs
 gaps_are_holes p bs end t = gaps_all p p false bs end t refl ∙ ap (λ (l : List (ℕ × ℕ)). l ++ hole_spans bs) (no_gap p)
 
-by_kind : (t : Bool) (f p n : ℕ) (hs : List (ℕ × ℕ)) → f ≡ first_place hs → cond t f p ≡ first_place (cond t hs ((p, n) ∷ hs))
-by_kind true f p n hs e = e
-by_kind false f p n hs e = refl
-
 -- the first hole is the first gap
 pub first_is : (bs : List Block) → first_hole bs ≡ first_place (hole_spans bs)
 first_is [] = refl
-first_is (b ∷ bs) = by_kind b.used (first_hole bs) b.place b.words (hole_spans bs) (first_is bs)
+first_is (b ∷ bs) =
+    elim b.used as (λ u. first_hole (record b { used = u } ∷ bs) ≡ first_place (hole_spans (record b { used = u } ∷ bs))) [ true ↦ first_is bs | false ↦ refl ]

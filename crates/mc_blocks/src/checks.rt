@@ -7,7 +7,7 @@ ghost use Rattle.mc_blocks.specs.Blocks.{block_of, is_root_word, FollowsBlock, A
 
 use crate::block::{Block, block_at};
 use crate::header::{HEAP, root_word};
-use crate::record::{Record, is_good, read_record};
+use crate::record::{Record, is_good, name_of, read_record};
 use arrayvec::ArrayVec;
 use mc_base::Word;
 use mc_nvm::Nvm;
@@ -114,13 +114,4 @@ fn is_seen(seen: &[Record], entry: &Record) -> bool
         }
     }
     false
-}
-
-// The name in a record.
-#[tactic(auto, using(std::proofs::lemmas::List::take_min))]
-fn name_of(entry: &Record) -> &[u8]
-    ensures { result.now ≡ name_in entry.now }
-{
-    let len = (entry[16] as usize).min(32);
-    &entry[..len]
 }

@@ -16,6 +16,7 @@ mod record;
 mod room;
 
 pub use format::format_words;
+pub use header::{HEAP, Header, read_header};
 pub use image::{Shape, Unusable, walk};
 pub use laws::{
     chains_gaps, changes_layout, counts_applications, creates_application, deletes_application,
@@ -24,4 +25,5 @@ pub use laws::{
 };
 pub use mc_model_device::Cause;
 pub use plan::{free_plan, take_plan};
+pub use record::{Record, name_of, read_record, record_from, words_of};
 pub use room::first_fit;

@@ -1,24 +1,34 @@
 ghost use Rattle.std.specs.Prelude.{◌≡◌, ◌+◌, ◌≤◌, length, slice_index, bytes_eq};
 ghost use Rattle.mc_model_device.specs.Bytes.{be2, zeros, up};
-ghost use Rattle.mc_model_device.specs.Card.{record_at, words_of_lengths};
+ghost use Rattle.mc_model_device.specs.Card.{record_at, name_in, word, words_of_lengths};
 ghost use Rattle.mc_model_device.specs.Layout.{is_record};
 ghost use Rattle.mc_blocks.specs.Records.{has_valid_name, has_valid_lengths, has_valid_access};
 
-use mc_base::number_of;
+use mc_base::{Word, number_of};
 use mc_nvm::Nvm;
 
 /// The 32 bytes of a record.
 pub type Record = [u8; 32];
 
 /// Returns the record of the block at a place: the four words after its header.
-#[tactic(auto, using(crate::proofs::Records::record_words))]
 pub fn read_record<N: Nvm>(device: &N, place: u32) -> Record
     requires { place + 5 ≤ length (N.state device.now).words }
     ensures { result ≡ record_at (N.state device.now).words place }
 {
     let _size = device.len();
+    record_from(device, place, device.read(place + 1))
+}
+
+/// Returns the record of the block at a place, whose first word was read.
+#[tactic(auto, using(crate::proofs::Records::record_words))]
+pub fn record_from<N: Nvm>(device: &N, place: u32, first: Word) -> Record
+    requires place { place + 5 ≤ length (N.state device.now).words }
+    requires first { first ≡ word (N.state device.now).words (place + 1) }
+    ensures { result ≡ record_at (N.state device.now).words place }
+{
+    let _size = device.len();
     let words = [
-        device.read(place + 1),
+        first,
         device.read(place + 2),
         device.read(place + 3),
         device.read(place + 4),
@@ -26,6 +36,15 @@ pub fn read_record<N: Nvm>(device: &N, place: u32) -> Record
     let mut bytes = [0; 32];
     bytes.copy_from_slice(words.as_flattened());
     bytes
+}
+
+/// Returns the name in a record.
+#[tactic(auto, using(std::proofs::lemmas::List::take_min))]
+pub fn name_of(entry: &Record) -> &[u8]
+    ensures { result.now ≡ name_in entry.now }
+{
+    let len = (entry[16] as usize).min(32);
+    &entry[..len]
 }
 
 /// Returns whether the fields of a record are in their ranges, and its sections fill a block of `words`
@@ -78,8 +97,8 @@ fn needed_words(entry: &Record) -> u32
     5 + words_of(code) + words_of(fixed) + words_of(entry[17] as u16) + words_of(entry[18] as u16)
 }
 
-// The number of words of `bytes` bytes.
-fn words_of(bytes: u16) -> u32
+/// Returns the number of words that `bytes` bytes take.
+pub fn words_of(bytes: u16) -> u32
     ensures { result ≡ up bytes 8 }
 {
     (bytes as u32 + 7) / 8

@@ -10,10 +10,6 @@ use Rattle.mc_model_device.specs.Device.{Due, DueCut, DueFailure, DueNot, blank_
 use Rattle.mc_nvm.specs.Sim.{Sim, after_write, next_due, SimWrote, blank_sim}
 use Rattle.mc_branch.specs.Branches.{IsListed, Places, IsPlace, no_places, MarksAreListed, IsBranch, AreOfEither, HasOneMore}
 
--- a number below another is not at it or past it
-lt_not : {a b : ℕ} → a < b → b ≤ a → ⊥
-lt_not lt le = omega (arith, lt, le)
-
 replicated : (n i : ℕ) → get_or (replicate n false) i false ≡ false
 replicated zero i = refl
 replicated (suc n) zero = refl
@@ -70,17 +66,6 @@ differs_set p q m root at w h stays added =
 
 -- ---- differences
 
--- a place of the device whose word is that of the root
-pub one_kept : (words root m : List (List ℕ)) (place : ℕ) → slice_index_or root place [] ≡ slice_index_or words place [] → AreOfEither words root m → HasOneMore words place m m
-one_kept words root m place same either =
-    record {
-      there = λ lt. elim (either place lt) [ inl is_root ↦ sym same ∙ sym is_root | inr is_word ↦ sym is_word ];
-      others = λ i not. refl;
-    }
-
-pub one_past : (words m : List (List ℕ)) (place : ℕ) → length words ≤ place → HasOneMore words place m m
-one_past words m place past = record { there = λ lt. absurd (lt_not lt past); others = λ i not. refl }
-
 pub one_laid : (words root : List (List ℕ)) (ds : List (ℕ × List ℕ)) (place : ℕ) (w : List ℕ) → length root ≡ length words → w ≡ slice_index_or words place []
     → HasOneMore words place (image_with root ds) (image_with root (ds ++ (place, w) ∷ []))
 one_laid words root ds place w len is =
@@ -95,22 +80,6 @@ one_laid words root ds place w len is =
 pub record Differs (words root : List (List ℕ)) (places : List ℕ) (m : List (List ℕ)) : Type 0 where
   pub either : AreOfEither words root m
   pub left : (i : ℕ) → i < length words → IsListed i places ⊎ (slice_index_or words i [] ≡ slice_index_or m i [])
-
-pub differs_one : (words root : List (List ℕ)) (place : ℕ) (places : List ℕ) (m n : List (List ℕ)) → HasOneMore words place m n → Differs words root (place ∷ places) m → Differs words root places n
-differs_one words root place places m n more h =
-    record {
-      either = λ i lt. elim (cases_eq i place) [
-        | inl same ↦ inr (subst (λ (j : ℕ). slice_index_or n j [] ≡ slice_index_or words j []) (sym same) (sym (more.there (subst (λ (j : ℕ). j < length words) same lt))))
-        | inr other ↦ subst (λ (w : List ℕ). (w ≡ slice_index_or root i []) ⊎ (w ≡ slice_index_or words i [])) (sym (more.others i other)) (h.either i lt)
-      ];
-      left = λ i lt. elim (cases_eq i place) [
-        | inl same ↦ inr (subst (λ (j : ℕ). slice_index_or words j [] ≡ slice_index_or n j []) (sym same) (more.there (subst (λ (j : ℕ). j < length words) same lt)))
-        | inr other ↦ elim (h.left i lt) [
-          | inl listed ↦ elim listed [ inl is ↦ absurd (other is) | inr rest ↦ inl rest ]
-          | inr e ↦ inr (e ∙ sym (more.others i other))
-        ]
-      ];
-    }
 
 pub differs_none : (words root m : List (List ℕ)) → length m ≡ length words → Differs words root [] m → m ≡ words
 differs_none words root m len h =

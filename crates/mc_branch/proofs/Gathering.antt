@@ -1,15 +1,15 @@
 -- A walk over the blocks of a card without a fault, which gathers the applications of its used blocks.
 use Rattle.std.proofs.Common.{◌≡◌, ℕ, ◌+◌, ◌<◌, ◌≤◌, Bool, true, false, cond, ◌||◌, List, [], ◌∷◌, length, Option, Some, None, refl, sym, ◌∙◌, ap, subst, arith}
-use Rattle.std.specs.Prelude.{◌==◌, slice_index, bytes_eq, MatchBool}
+use Rattle.std.specs.Prelude.{◌==◌, slice_index, bytes_eq}
 use Rattle.std.proofs.lemmas.Bool.{le-leb}
 use Rattle.mc_model_device.specs.Bytes.{be2, has_name, lookup, insert}
 use Rattle.mc_model_device.specs.Device.{IsSized}
-use Rattle.mc_model_device.specs.Card.{App, Block, word, header, blocks, name_at, app_at, apps_of, card_of, record_at, used_tag}
-use Rattle.mc_model_device.specs.Layout.{is_record, words_fault}
+use Rattle.mc_model_device.specs.Card.{App, Block, word, header, blocks, name_at, app_at, apps_of, card_of, used_tag}
+use Rattle.mc_model_device.specs.Layout.{words_fault}
 use Rattle.mc_model_device.proofs.MapLemmas.{apart, insert_swap, lookup_beside}
 use Rattle.mc_blocks.specs.Blocks.{block_within, blocks_at}
 use Rattle.mc_blocks.proofs.Steps.{HeaderIs, header_is, blocks_step, blocks_all}
-use Rattle.mc_blocks.proofs.Bridge.{AreNamed, named, faultless, with_block as with_more, some_apps, no_apps}
+use Rattle.mc_blocks.proofs.Bridge.{AreNamed, named, faultless}
 use Rattle.mc_blocks.proofs.Maps.{has_self, has_more}
 use Rattle.mc_store.specs.Slots.{IsUsedBlock}
 use Rattle.mc_store.proofs.WalkLemmas.{Walk, BlockStands, walk_begins, header_stands}
@@ -20,40 +20,28 @@ abbrev pub joined : List (List ℕ) → List Block → List (List ℕ × App) �
 joined m [] es = es
 joined m (b ∷ bs) es = joined m bs (with_block m b.used b.place es)
 
--- the names of a block and those after it are none of these
-abbrev pub NamedFrom : List (List ℕ) → List (List ℕ) → Block → List Block → Bool → Type 0
-NamedFrom m names b bs t = MatchBool t
-    ((is_record (record_at m b.place) b.words ≡ true) × (has_name (name_at m b.place) names ≡ false) × AreNamed m (name_at m b.place ∷ names) bs)
-    (AreNamed m names bs)
-
 module _ (m : List (List ℕ)) where
-  insert_step : (b : Block) (bs : List Block) (names : List (List ℕ)) (es : List (List ℕ × App)) (n : List ℕ) (a : App) (t : Bool) → has_name n names ≡ true → NamedFrom m names b bs t
-      → ((ns : List (List ℕ)) (fs : List (List ℕ × App)) → has_name n ns ≡ true → AreNamed m ns bs → joined m bs (insert fs n a) ≡ insert (joined m bs fs) n a)
-      → joined m bs (with_block m t b.place (insert es n a)) ≡ insert (joined m bs (with_block m t b.place es)) n a
-  insert_step b bs names es n a false there h rest = rest names es there h
-  insert_step b bs names es n a true there h rest =
-      let k = name_at m b.place in
-      ap (λ (fs : List (List ℕ × App)). joined m bs fs) (insert_swap es n a k (app_at m b.place) (apart names n k true there h.1))
-      ∙ rest (k ∷ names) (insert es k (app_at m b.place)) (has_more n k names there) h.2
-
   -- an insertion under a name that no block has may come first or last
   insert_joined : (bs : List Block) (names : List (List ℕ)) (es : List (List ℕ × App)) (n : List ℕ) (a : App) → has_name n names ≡ true → AreNamed m names bs → joined m bs (insert es n a) ≡ insert (joined m bs es) n a
   insert_joined [] names es n a there h = refl
   insert_joined (b ∷ bs) names es n a there h =
-      insert_step b bs names es n a b.used there h (λ ns fs is ok. insert_joined bs ns fs n a is ok)
-
-  apps_step : (b : Block) (bs : List Block) (names : List (List ℕ)) (t : Bool) → NamedFrom m names b bs t → ((ns : List (List ℕ)) → AreNamed m ns bs → joined m bs [] ≡ apps_of m bs)
-      → joined m bs (with_block m t b.place []) ≡ cond t (with_more m b bs) (apps_of m bs)
-  apps_step b bs names false h rest = rest names h
-  apps_step b bs names true h rest =
       let k = name_at m b.place in
-      insert_joined bs (k ∷ names) [] k (app_at m b.place) (has_self k names) h.2
-      ∙ ap (λ (es : List (List ℕ × App)). insert es k (app_at m b.place)) (rest (k ∷ names) h.2)
+      (elim b.used as (λ u. AreNamed m names (record b { used = u } ∷ bs) → joined m (record b { used = u } ∷ bs) (insert es n a) ≡ insert (joined m (record b { used = u } ∷ bs) es) n a) [
+        | true ↦ λ h. ap (λ (fs : List (List ℕ × App)). joined m bs fs) (insert_swap es n a k (app_at m b.place) (apart names n k true there h.1))
+            ∙ insert_joined bs (k ∷ names) (insert es k (app_at m b.place)) n a (has_more n k names there) h.2
+        | false ↦ λ h. insert_joined bs names es n a there h
+      ]) h
 
   -- the applications of all blocks, from none on
   joined_apps : (bs : List Block) (names : List (List ℕ)) → AreNamed m names bs → joined m bs [] ≡ apps_of m bs
-  joined_apps [] names h = sym (no_apps m)
-  joined_apps (b ∷ bs) names h = apps_step b bs names b.used h (λ ns ok. joined_apps bs ns ok) ∙ sym (some_apps m b bs)
+  unfolding apps_of
+  joined_apps [] names h = refl
+  joined_apps (b ∷ bs) names h =
+      let k = name_at m b.place in
+      (elim b.used as (λ u. AreNamed m names (record b { used = u } ∷ bs) → joined m (record b { used = u } ∷ bs) [] ≡ apps_of m (record b { used = u } ∷ bs)) [
+        | true ↦ λ h. insert_joined bs (k ∷ names) [] k (app_at m b.place) (has_self k names) h.2 ∙ ap (λ (es : List (List ℕ × App)). insert es k (app_at m b.place)) (joined_apps bs (k ∷ names) h.2)
+        | false ↦ λ h. joined_apps bs names h
+      ]) h
 
 -- A walk has come to place p with these entries: those of the blocks that are left make them the applications of the
 -- card, and no block that is left has a name of theirs.
@@ -110,7 +98,7 @@ module _ (m : List (List ℕ)) where
   neither false true h = absurd (cc h)
   neither true y h = absurd (cc h)
 
-  after : (p : ℕ) (b : Block) (bs : List Block) (names : List (List ℕ)) (t : Bool) (es : List (List ℕ × App)) → NamedFrom m names b bs t → ((n : List ℕ) → has_name n names ≡ false → lookup es n ≡ None) → After p b bs t es
+  after : (p : ℕ) (b : Block) (bs : List Block) (names : List (List ℕ)) (t : Bool) (es : List (List ℕ × App)) → AreNamed m names (record b { used = t } ∷ bs) → ((n : List ℕ) → has_name n names ≡ false → lookup es n ≡ None) → After p b bs t es
   after p b bs names false es h fresh = record { names = names; named_after = h; fresh_here = λ e. absurd (cc e); fresh = fresh }
   after p b bs names true es h fresh =
       let k = name_at m b.place in

@@ -47,7 +47,3 @@ section_step m p n before whole image some within h =
     append_assoc before (take (min n 8) (word m p)) (section m (p + 1) (n - min n 8))
     ∙ ap (λ (l : List ℕ). before ++ l) (sym (section_more m p n image some within))
     ∙ h
-
--- nothing is left of an empty section
-pub section_done : (m : List (List ℕ)) (p : ℕ) (before : List ℕ) → before ++ section m p 0 ≡ before
-section_done m p before = append-nil before

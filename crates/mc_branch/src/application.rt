@@ -1,17 +1,15 @@
 // An application of a card, as the words of its device hold it.
-ghost use Rattle.std.specs.Prelude.{◌≡◌, ◌+◌, ◌≤◌, length, take, slice_index, IfOk};
-ghost use Rattle.mc_model_device.specs.Bytes.{be2, up};
-ghost use Rattle.mc_model_device.specs.Card.{name_in, name_at, app_at, record_at};
+ghost use Rattle.std.specs.Prelude.{◌≡◌, ◌+◌, slice_index, IfOk};
+ghost use Rattle.mc_model_device.specs.Bytes.{be2};
+ghost use Rattle.mc_model_device.specs.Card.{name_at, app_at};
 ghost use Rattle.mc_store.specs.Slots.{IsUsedBlock};
 
 use crate::section::read_section;
 use mc_base::{NoMemory, number_of};
+use mc_blocks::{Record, name_of, read_record, words_of};
 use mc_nvm::Nvm;
 use std::alloc::Global;
 use std::marker::Model;
-
-/// The 32 bytes of a record.
-type Record = [u8; 32];
 
 /// An application of a card: its name, the place of its block, its number of session bytes, its access list, and the
 /// bytes of its code, static segment, DIR and FCI.
@@ -94,24 +92,6 @@ struct Lengths {
     fci: u16,
 }
 
-// Returns the record of the block at a place: the four words after its header.
-#[tactic(auto, using(mc_blocks::proofs::Records::record_words))]
-fn read_record<N: Nvm>(device: &N, place: u32) -> Record
-    requires { place + 5 ≤ length (N.state device.now).words }
-    ensures { result ≡ record_at (N.state device.now).words place }
-{
-    let _size = device.len();
-    let words = [
-        device.read(place + 1),
-        device.read(place + 2),
-        device.read(place + 3),
-        device.read(place + 4),
-    ];
-    let mut bytes = [0; 32];
-    bytes.copy_from_slice(words.as_flattened());
-    bytes
-}
-
 // Returns the lengths of the sections in a record.
 fn sizes_of(entry: &Record) -> Lengths
     ensures { result ≡ record {
@@ -127,20 +107,4 @@ fn sizes_of(entry: &Record) -> Lengths
         dir: entry[17] as u16,
         fci: entry[18] as u16,
     }
-}
-
-// Returns the number of words of `bytes` bytes.
-fn words_of(bytes: u16) -> u32
-    ensures { result ≡ up bytes 8 }
-{
-    (bytes as u32 + 7) / 8
-}
-
-// Returns the name in a record.
-#[tactic(auto, using(std::proofs::lemmas::List::take_min))]
-fn name_of(entry: &Record) -> &[u8]
-    ensures { result.now ≡ name_in entry.now }
-{
-    let len = (entry[16] as usize).min(32);
-    &entry[..len]
 }

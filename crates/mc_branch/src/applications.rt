@@ -1,28 +1,16 @@
 // The applications of a card in the order of their names.
-ghost use Rattle.std.specs.Prelude.{◌≡◌, ◌<◌, ◌≤◌, ◌==◌, None, IfOk, OnOk, length, slice_index, true};
-ghost use Rattle.mc_model_device.specs.Bytes.{be2, lookup, insert, name_before};
-ghost use Rattle.mc_model_device.specs.Card.{word, used_tag, name_at, app_at, card_of};
+ghost use Rattle.std.specs.Prelude.{◌≡◌, ◌<◌, None, IfOk, OnOk, true};
+ghost use Rattle.mc_model_device.specs.Bytes.{lookup, insert, name_before};
+ghost use Rattle.mc_model_device.specs.Card.{name_at, card_of};
 ghost use Rattle.mc_model_device.specs.Layout.{words_fault};
 ghost use Rattle.mc_store.specs.Slots.{IsUsedBlock};
 ghost use Rattle.mc_branch.specs.Applications.{place_of_name, with_block};
 
 use crate::application::Application;
-use mc_base::{NoMemory, number_of};
+use mc_base::NoMemory;
+use mc_blocks::{HEAP, read_header};
 use mc_nvm::Nvm;
 use std::alloc::Global;
-
-/// The first word of the heap. The root is word 0, and the journals are the words between.
-const HEAP: u32 = 131;
-
-/// The first byte of the header of a used block.
-const USED: u8 = 0x55;
-
-/// The header of a block: whether the block is used, and its number of words with the header.
-#[derive(Clone, Copy, Debug, PartialEq, Eq)]
-struct Header {
-    used: bool,
-    words: u16,
-}
 
 /// Reads the applications of the card in the words of a device, which have no fault and no open journal. They come in
 /// the order of their names.
@@ -43,19 +31,6 @@ pub fn read_applications<N: Nvm>(alloc: Global, device: &N) -> Result<Vec<Applic
         place += header.words as u32;
     }
     Ok(applications)
-}
-
-// Returns the header at a place.
-fn read_header<N: Nvm>(device: &N, place: u32) -> Header
-    requires { place < length (N.state device.now).words }
-    ensures used { result.used ≡ (slice_index (word (N.state device.now).words place) 0 == used_tag) }
-    ensures words { result.words ≡ be2 (word (N.state device.now).words place) 2 }
-{
-    let word = device.read(place);
-    Header {
-        used: word[0] == USED,
-        words: number_of(word[2], word[3]),
-    }
 }
 
 // Puts the application of a block among others, whose names are not its own, if the block is used.

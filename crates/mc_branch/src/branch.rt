@@ -1,5 +1,5 @@
 // A device in memory that goes back to the words that it once had.
-ghost use Rattle.std.specs.Prelude.{◌≡◌, ◌⊎◌, ℕ, ◌<◌, ◌≤◌, [], length, slice_index_or, slice_set, None, IfOk, OnOk};
+ghost use Rattle.std.specs.Prelude.{◌≡◌, ◌⊎◌, ℕ, ◌<◌, [], length, slice_index_or, slice_set, None, IfOk, OnOk};
 ghost use Rattle.mc_model_device.specs.Bytes.{zeros};
 ghost use Rattle.mc_model_device.specs.Image.{image_with};
 ghost use Rattle.mc_model_device.specs.Device.{device_words, blank_words};
@@ -13,14 +13,12 @@ use std::alloc::Global;
 use std::marker::Model;
 
 /// A device in memory with a root, words to which it goes back at the cost of those that changed: it keeps a
-/// list of the places that were set since, and one of those that were written since its writes were last
-/// forgotten.
+/// list of the places that were set since.
 #[derive(Drop)]
 pub struct BranchNvm {
     device: SimNvm,
     root: Vec<Word>,
     changed: Places,
-    written: Places,
 }
 
 impl Model for BranchNvm {
@@ -98,7 +96,6 @@ impl BranchNvm {
             device,
             root: blank(alloc, count)?,
             changed: Places::new(alloc)?,
-            written: Places::new(alloc)?,
         })
     }
 
@@ -154,18 +151,6 @@ impl BranchNvm {
         } else {
             [0; 8]
         }
-    }
-
-    /// Forgets which places were written.
-    pub fn forget_writes(&mut self)
-        ensures { self.new ≡ self.old }
-    {
-        self.written.clear();
-    }
-
-    /// Returns the places that were written since the writes were forgotten, each once.
-    pub fn written(&self) -> &[u16] {
-        self.written.list()
     }
 
     /// Returns the words that differ from the root, each with its place: laid over the root they are those of the
@@ -263,7 +248,6 @@ impl Nvm for BranchNvm {
     fn write(&mut self, at: u32, word: Word) -> Result<(), Stop> {
         let _size = self.device.len();
         self.changed.add(at as u16);
-        self.written.add(at as u16);
         self.device.write(at, word)
     }
 }

@@ -18,5 +18,5 @@ pub use lines::{refused, too_long};
 pub use reading::{INPUT_LIMIT, read_input};
 pub use rejection::Rejection;
 pub use status::{Status, number};
-pub use words::{command_words, job_words, only_word};
+pub use words::{command_words, job_words};
 pub use writing::{ended, reject};

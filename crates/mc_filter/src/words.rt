@@ -1,5 +1,5 @@
 // The words of a command line.
-ghost use Rattle.std.specs.Prelude.{◌≡◌, ◌≢◌, [], ◌∷◌, drop, length, Ok, None, IfOk, IfSome, IsErr, IsNone};
+ghost use Rattle.std.specs.Prelude.{◌≡◌, ◌≢◌, drop, Ok, None, IfOk, IsErr};
 ghost use Rattle.std.specs.IoError.{error_kind};
 ghost use Rattle.std.specs.Vec.Iter.{into_iter_items};
 ghost use Rattle.mc_filter.specs.Words.{readable_words};
@@ -54,16 +54,5 @@ pub fn job_words(alloc: Global, words: Option<Vec<String>>) -> Vec<String>
     match words {
         Some(words) => words,
         None => Vec::new(alloc),
-    }
-}
-
-/// Returns the word of a command line that has one, or `None` if it has none or more.
-pub fn only_word(words: &[String]) -> Option<&String>
-    ensures one { IfSome result (λ word. words.now ≡ word.now ∷ []) }
-    ensures other { IsNone result → length words.now ≢ 1 }
-{
-    match words {
-        [word] => Some(word),
-        _ => None,
     }
 }

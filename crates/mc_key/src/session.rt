@@ -1,17 +1,17 @@
 // The key of a session state: the selection with the session bytes, and the open load with the bytes that it received.
-ghost use Rattle.std.specs.Prelude.{◌≡◌, ◌+◌, IfOk, option_map};
-ghost use Rattle.mc_model_device.specs.Bytes.{up};
-ghost use Rattle.mc_store.specs.Store.{store_site_bytes, part_from};
+ghost use Rattle.std.specs.Prelude.{◌≡◌, IfOk, option_map};
+ghost use Rattle.mc_store.specs.Store.{store_site_bytes};
 ghost use Rattle.mc_manager.specs.ManagerState.{FitsLoad, open_of, got_at, selected_of as selected_in, load_of as load_in};
 ghost use Rattle.mc_card.specs.Saved.{FitsWords, session_state_on, view_of_words, device_with};
 ghost use Rattle.mc_key.specs.Sessions.{session_value, selected_value, load_value, boxed_value, IsCard};
 
-use mc_bank::{Part, Sizes};
+use mc_bank::Part;
 use mc_base::NoMemory;
 use mc_branch::read_section;
 use mc_card::SavedSession;
 use mc_manager::Load;
 use mc_nvm::Nvm;
+use mc_store::part_place;
 use std::alloc::Global;
 
 /// A selection: the name of its application, and the session bytes.
@@ -152,27 +152,4 @@ fn read_part<N: Nvm>(
     let _size = device.len();
     let first = part_place(part, &load.site().sizes(), load.site().place());
     read_section(alloc, device, first, load.got(part))
-}
-
-// Returns the number of words of `bytes` bytes.
-fn words_of(bytes: u16) -> u32
-    ensures { result ≡ up bytes 8 }
-{
-    (bytes as u32 + 7) / 8
-}
-
-// Returns the word in which a section begins, of a block at a place with sections of these sizes.
-fn part_place(part: Part, sizes: &Sizes, place: u16) -> u32
-    ensures { result ≡ part_from part sizes.now place }
-{
-    let code = place as u32 + 5;
-    let fixed = code + words_of(sizes.code);
-    let dir = fixed + words_of(sizes.fixed);
-    let fci = dir + words_of(sizes.dir);
-    match part {
-        Part::Code => code,
-        Part::Data => fixed,
-        Part::Dir => dir,
-        Part::Fci => fci,
-    }
 }

@@ -8,20 +8,20 @@ use Rattle.mc_model_device.specs.Bytes.{be2, up, lookup, insert, name_before, As
 use Rattle.mc_model_device.specs.Image.{look, Closed}
 use Rattle.mc_model_device.specs.Device.{DeviceState, IsSized}
 use Rattle.mc_model_device.specs.Card.{App, Card, Block, blocks, record_at, name_at, app_at, apps_of, card_of, words_of_lengths}
-use Rattle.mc_model_device.specs.Layout.{words_fault}
+use Rattle.mc_model_device.specs.Layout.{is_record, words_fault}
 use Rattle.mc_model_device.proofs.ImageLemmas.{all_map}
 use Rattle.mc_base.specs.Name.{IsName}
 use Rattle.mc_bank.specs.Bank.{app_of, no_app, sizes_of, FitsLimits, IsApplication, AreApps}
 use Rattle.mc_blocks.proofs.Steps.{blocks_all}
 use Rattle.mc_blocks.proofs.Tiles.{HeadersRead}
-use Rattle.mc_blocks.proofs.Bridge.{some_apps, no_apps, with_block}
+use Rattle.mc_blocks.proofs.Bridge.{AreRecorded}
 use Rattle.mc_blocks.proofs.Applications.{few_applications}
 use Rattle.mc_store.specs.Store.{apps_in, is_going, name_of_place, place_named}
 use Rattle.mc_store.specs.Slots.{first_named, record_sizes, IsUsedBlock}
 use Rattle.mc_store.specs.GoingLaws.{Going, going_is, closed_apps}
 use Rattle.mc_blocks.proofs.Sections.{length_cells, length_section}
 use Rattle.mc_store.proofs.RecordLemmas.{RecordIs, record_is, name_size}
-use Rattle.mc_store.proofs.WalkLemmas.{HasRecord, Walk, walk_begins}
+use Rattle.mc_store.proofs.WalkLemmas.{Walk, walk_begins}
 use Rattle.mc_model_device.proofs.MapLemmas.{same_name, name_is_itself, not_after, lookup_inserted_lem, lookup_beside, each_inserted, ascending_inserted, each_found}
 use Rattle.mc_model_device.proofs.LayoutLemmas.{closed_fault, closed_means}
 use Rattle.mc_blocks.proofs.Entries.{long_enough}
@@ -36,49 +36,46 @@ pub record IsOf (m : List (List ℕ)) (e : List ℕ × App) : Type 0 where
   pub block : IsUsedBlock m (e.1).place
 
 module _ (m : List (List ℕ)) where
-  entries : (bs : List Block) → HeadersRead m bs → AllByRecursion (HasRecord m) bs → AllByRecursion (IsOf m) (apps_of m bs) × AscendByName (apps_of m bs)
-  entries [] r h = (subst (λ (es : List (List ℕ × App)). AllByRecursion (IsOf m) es) (sym (no_apps m)) tt, subst (λ (es : List (List ℕ × App)). AscendByName es) (sym (no_apps m)) tt)
+  entries : (bs : List Block) → HeadersRead m bs → AreRecorded m bs → AllByRecursion (IsOf m) (apps_of m bs) × AscendByName (apps_of m bs)
+  unfolding apps_of
+  entries [] r h = (tt, tt)
   entries (b ∷ bs) r h =
       let rest = entries bs r.2 h.1 in
-      let both = by_kind b.used refl rest.0 rest.1 in
-      (subst (λ (es : List (List ℕ × App)). AllByRecursion (IsOf m) es) (sym (some_apps m b bs)) both.0, subst (λ (es : List (List ℕ × App)). AscendByName es) (sym (some_apps m b bs)) both.1)
-    where
-      by_kind : (t : Bool) → b.used ≡ t → AllByRecursion (IsOf m) (apps_of m bs) → AscendByName (apps_of m bs)
-          → AllByRecursion (IsOf m) (cond t (with_block m b bs) (apps_of m bs)) × AscendByName (cond t (with_block m b bs) (apps_of m bs))
-      by_kind true e each up = (
-        each_inserted (IsOf m) (apps_of m bs) (name_at m b.place) (app_at m b.place) (record { name = refl; app = refl; block = record { words = b.words; good = h.0 e; end = r.1 } }) each,
-        ascending_inserted (apps_of m bs) (name_at m b.place) (app_at m b.place) up,
-      )
-      by_kind false e each up = (each, up)
+      (elim b.used as (λ t. (t ≡ true → is_record (record_at m b.place) b.words ≡ true) → AllByRecursion (IsOf m) (apps_of m (record b { used = t } ∷ bs)) × AscendByName (apps_of m (record b { used = t } ∷ bs))) [
+        | true ↦ λ good. (
+          each_inserted (IsOf m) (apps_of m bs) (name_at m b.place) (app_at m b.place) (record { name = refl; app = refl; block = record { words = b.words; good = good refl; end = r.1 } }) rest.0,
+          ascending_inserted (apps_of m bs) (name_at m b.place) (app_at m b.place) rest.1,
+        )
+        | false ↦ λ good. rest
+      ]) h.0
 
   -- ---- found by a name
 
-  found_kind : (n : List ℕ) (b : Block) (bs : List Block) (u t : Bool) → bytes_eq (name_at m b.place) n ≡ t → (p : ℕ) → cond (u && t) (Some b.place) (first_named m bs n) ≡ Some p
-      → (first_named m bs n ≡ Some p → lookup (apps_of m bs) n ≡ Some (app_at m p)) → lookup (cond u (with_block m b bs) (apps_of m bs)) n ≡ Some (app_at m p)
-  found_kind n b bs false t e p h rest = rest h
-  found_kind n b bs true false e p h rest = lookup_beside (apps_of m bs) (name_at m b.place) (app_at m b.place) n e ∙ rest h
-  found_kind n b bs true true e p h rest =
-      let place : b.place ≡ p = cc in
-      ap (λ (k : List ℕ). lookup (insert (apps_of m bs) k (app_at m b.place)) n) (same_name (name_at m b.place) n e)
-      ∙ lookup_inserted_lem (apps_of m bs) n (app_at m b.place)
-      ∙ ap (λ (q : ℕ). Some (app_at m q)) place
-
   found : (n : List ℕ) (bs : List Block) (p : ℕ) → first_named m bs n ≡ Some p → lookup (apps_of m bs) n ≡ Some (app_at m p)
-  unfolding first_named
+  unfolding first_named apps_of
   found n [] p h = absurd (cc h)
-  found n (b ∷ bs) p h =
-      ap (λ (es : List (List ℕ × App)). lookup es n) (some_apps m b bs) ∙ found_kind n b bs b.used (bytes_eq (name_at m b.place) n) refl p h (λ r. found n bs p r)
-
-  none_kind : (n : List ℕ) (b : Block) (bs : List Block) (u t : Bool) → bytes_eq (name_at m b.place) n ≡ t → cond (u && t) (Some b.place) (first_named m bs n) ≡ None
-      → (first_named m bs n ≡ None → lookup (apps_of m bs) n ≡ None) → lookup (cond u (with_block m b bs) (apps_of m bs)) n ≡ None
-  none_kind n b bs false t e h rest = rest h
-  none_kind n b bs true false e h rest = lookup_beside (apps_of m bs) (name_at m b.place) (app_at m b.place) n e ∙ rest h
-  none_kind n b bs true true e h rest = absurd (cc h)
+  found n (b ∷ bs) p h = by b.used (bytes_eq (name_at m b.place) n) refl h (λ r. found n bs p r)
+    where
+      by : (u t : Bool) → bytes_eq (name_at m b.place) n ≡ t → cond (u && t) (Some b.place) (first_named m bs n) ≡ Some p → (first_named m bs n ≡ Some p → lookup (apps_of m bs) n ≡ Some (app_at m p))
+          → lookup (cond u (insert (apps_of m bs) (name_at m b.place) (app_at m b.place)) (apps_of m bs)) n ≡ Some (app_at m p)
+      by false t e h rest = rest h
+      by true false e h rest = lookup_beside (apps_of m bs) (name_at m b.place) (app_at m b.place) n e ∙ rest h
+      by true true e h rest =
+          let place : b.place ≡ p = cc in
+          ap (λ (k : List ℕ). lookup (insert (apps_of m bs) k (app_at m b.place)) n) (same_name (name_at m b.place) n e)
+          ∙ lookup_inserted_lem (apps_of m bs) n (app_at m b.place)
+          ∙ ap (λ (q : ℕ). Some (app_at m q)) place
 
   none : (n : List ℕ) (bs : List Block) → first_named m bs n ≡ None → lookup (apps_of m bs) n ≡ None
-  unfolding first_named
-  none n [] h = ap (λ (es : List (List ℕ × App)). lookup es n) (no_apps m)
-  none n (b ∷ bs) h = ap (λ (es : List (List ℕ × App)). lookup es n) (some_apps m b bs) ∙ none_kind n b bs b.used (bytes_eq (name_at m b.place) n) refl h (λ r. none n bs r)
+  unfolding first_named apps_of
+  none n [] h = refl
+  none n (b ∷ bs) h = by b.used (bytes_eq (name_at m b.place) n) refl h (λ r. none n bs r)
+    where
+      by : (u t : Bool) → bytes_eq (name_at m b.place) n ≡ t → cond (u && t) (Some b.place) (first_named m bs n) ≡ None → (first_named m bs n ≡ None → lookup (apps_of m bs) n ≡ None)
+          → lookup (cond u (insert (apps_of m bs) (name_at m b.place) (app_at m b.place)) (apps_of m bs)) n ≡ None
+      by false t e h rest = rest h
+      by true false e h rest = lookup_beside (apps_of m bs) (name_at m b.place) (app_at m b.place) n e ∙ rest h
+      by true true e h rest = absurd (cc h)
 
 -- ---- maps
 

@@ -1,46 +1,29 @@
 -- A walk over the blocks of words without a fault, one header after another.
 use Rattle.std.proofs.Common.{◌≡◌, ℕ, ◌+◌, ◌<◌, ◌≤◌, Bool, true, false, ◌&&◌, List, [], ◌∷◌, length, Option, Some, None, refl, sym, ◌∙◌, ap, subst, arith, cond, not}
-use Rattle.std.specs.Prelude.{◌==◌, slice_index, bytes_eq, MatchBool}
-use Rattle.std.specs.List.{AllByRecursion}
+use Rattle.std.specs.Prelude.{◌==◌, slice_index, bytes_eq}
 use Rattle.std.proofs.lemmas.Bool.{le-leb}
-use Rattle.mc_model_device.specs.Bytes.{be2, has_name}
+use Rattle.mc_model_device.specs.Bytes.{be2}
 use Rattle.mc_model_device.specs.Device.{IsSized}
-use Rattle.mc_model_device.specs.Card.{Block, word, header, blocks, record_at, name_at, used_tag}
-use Rattle.mc_model_device.specs.Layout.{is_record, words_fault}
+use Rattle.mc_model_device.specs.Card.{Block, word, header, blocks, name_at, used_tag}
+use Rattle.mc_model_device.specs.Layout.{words_fault}
 use Rattle.mc_blocks.specs.Blocks.{block_within, blocks_at}
 use Rattle.mc_blocks.proofs.Steps.{HeaderIs, header_is, blocks_step, blocks_all}
 use Rattle.mc_blocks.proofs.Tiles.{Tiled, HeadersRead}
-use Rattle.mc_blocks.proofs.Bridge.{WellLaid, laid, AreNamed, named, faultless}
+use Rattle.mc_blocks.proofs.Bridge.{WellLaid, laid, AreRecorded, recorded, named, faultless}
 use Rattle.mc_store.specs.Slots.{first_named, IsUsedBlock}
-
--- a used block has a good record
-abbrev pub HasRecord : List (List ℕ) → Block → Type 0
-HasRecord m b = b.used ≡ true → is_record (record_at m b.place) b.words ≡ true
-
-has_step : (m : List (List ℕ)) (names : List (List ℕ)) (b : Block) (bs : List Block) (t : Bool) → b.used ≡ t
-    → MatchBool t ((is_record (record_at m b.place) b.words ≡ true) × (has_name (name_at m b.place) names ≡ false) × AreNamed m (name_at m b.place ∷ names) bs) (AreNamed m names bs)
-    → HasRecord m b × ((ns : List (List ℕ)) × AreNamed m ns bs)
-has_step m names b bs true e n = (λ h. n.0, (name_at m b.place ∷ names, n.2))
-has_step m names b bs false e n = (λ h. absurd (cc (sym h ∙ e)), (names, n))
-
-pub all_records : (m : List (List ℕ)) (bs : List Block) (names : List (List ℕ)) → AreNamed m names bs → AllByRecursion (HasRecord m) bs
-all_records m [] names n = tt
-all_records m (b ∷ bs) names n =
-    let s = has_step m names b bs b.used refl n in
-    (s.0, all_records m bs s.1.0 s.1.1)
 
 -- the rest of the walk from place p on
 pub record Walk (m : List (List ℕ)) (p : ℕ) (bs : List Block) : Type 0 where
   pub after : Bool
   pub tiled : Tiled p after bs (length m)
   pub read : HeadersRead m bs
-  pub records : AllByRecursion (HasRecord m) bs
+  pub records : AreRecorded m bs
 
 pub walk_begins : (m : List (List ℕ)) → IsSized m → words_fault m ≡ None → Walk m 131 (blocks_at m 131)
 walk_begins m image h =
     let l : WellLaid m = laid m image h in
     subst (λ (bs : List Block). Walk m 131 bs) (blocks_all m)
-    (record { after = false; tiled = l.tiled; read = l.read; records = all_records m (blocks m) [] (named m (blocks m) [] 0 (faultless m h).records) })
+    (record { after = false; tiled = l.tiled; read = l.read; records = recorded m [] (blocks m) (named m (blocks m) [] 0 (faultless m h).records) })
 
 -- the block at place p: its header, and the walk after it
 pub record BlockStands (m : List (List ℕ)) (p : ℕ) (used : Bool) (words : ℕ) : Type 0 where

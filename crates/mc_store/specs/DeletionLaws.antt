@@ -14,7 +14,8 @@ use Rattle.mc_blocks.specs.Blocks.{used_spans}
 use Rattle.mc_blocks.specs.Outcomes.{HoldsApplications}
 use Rattle.mc_blocks.proofs.Bridge.{WellLaid, well_laid, named, Faultless, faultless}
 use Rattle.mc_blocks.proofs.Freeing.{free_in}
-use Rattle.mc_blocks.proofs.Cards.{SameUsed, Deleted, deleted}
+use Rattle.mc_blocks.proofs.Same.{SameUsed, Deleted}
+use Rattle.mc_blocks.proofs.Cards.{deleted}
 use Rattle.mc_blocks.proofs.Outcome.{deletes}
 use Rattle.mc_store.specs.Store.{card_without}
 use Rattle.mc_store.specs.AlikeLaws.{HeapsAlike}

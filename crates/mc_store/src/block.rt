@@ -1,31 +1,15 @@
 // The used blocks of a card and their records, read by their places.
-ghost use Rattle.std.specs.Prelude.{◌≡◌, ◌+◌, ◌<◌, ◌≤◌, ◌&&◌, ◌==◌, None, IfSome, is_some, option_map, length, take, slice_index, bytes_eq, true};
-ghost use Rattle.mc_model_device.specs.Bytes.{be2};
+ghost use Rattle.std.specs.Prelude.{◌≡◌, ◌+◌, ◌<◌, ◌≤◌, ◌&&◌, ◌==◌, None, IfSome, is_some, option_map, length, take, bytes_eq, true};
 ghost use Rattle.mc_model_device.specs.Device.{IsImage};
-ghost use Rattle.mc_model_device.specs.Card.{word, blocks, used_tag, record_at, name_at, name_in};
+ghost use Rattle.mc_model_device.specs.Card.{blocks, record_at, name_at};
 ghost use Rattle.mc_model_device.specs.Layout.{words_fault};
 ghost use Rattle.mc_bank.specs.Slots.{slot_place, slot_sizes};
 ghost use Rattle.mc_store.specs.Slots.{first_named, record_sizes, IsUsedBlock};
 
 use mc_bank::{Sizes, Slot};
 use mc_base::{Aid, Word, number_of};
+use mc_blocks::{HEAP, Header, Record, name_of, read_header, read_record, record_from};
 use mc_nvm::Nvm;
-
-/// The first word of the heap.
-const HEAP: u32 = 131;
-
-/// The first byte of the header of a used block.
-const USED: u8 = 0x55;
-
-/// The 32 bytes of a record.
-pub type Record = [u8; 32];
-
-/// The header of a block: whether the block is used, and its number of words with the header.
-#[derive(Clone, Copy, Debug, PartialEq, Eq)]
-pub struct Header {
-    pub used: bool,
-    pub words: u16,
-}
 
 /// Returns the slot of the used block that has this name, or `None` if there is none, on words without a fault.
 pub fn find_block<N: Nvm>(device: &N, aid: &Aid) -> Option<Slot>
@@ -47,19 +31,6 @@ pub fn find_block<N: Nvm>(device: &N, aid: &Aid) -> Option<Slot>
         place += header.words as u32;
     }
     None
-}
-
-// Returns the header at a place.
-fn read_header<N: Nvm>(device: &N, place: u32) -> Header
-    requires { place < length (N.state device.now).words }
-    ensures used { result.used ≡ (slice_index (word (N.state device.now).words place) 0 == used_tag) }
-    ensures words { result.words ≡ be2 (word (N.state device.now).words place) 2 }
-{
-    let word = device.read(place);
-    Header {
-        used: word[0] == USED,
-        words: u16::from_be_bytes([word[2], word[3]]),
-    }
 }
 
 // Returns the sizes of a block if it is used and has this name, whose first five bytes are `head`.
@@ -84,7 +55,7 @@ fn sizes_of_name<N: Nvm>(
     if !begins(&first, head) {
         return None;
     }
-    let entry = read_record(device, place, first);
+    let entry = record_from(device, place, first);
     if name_of(&entry) == aid.bytes() {
         Some(sizes_of(&entry))
     } else {
@@ -119,28 +90,8 @@ pub fn name_of_block<N: Nvm>(device: &N, place: u16) -> Aid
     ensures { result ≡ name_at (N.state device.now).words place }
 {
     let _size = device.len();
-    let place = place as u32;
-    let entry = read_record(device, place, device.read(place + 1));
+    let entry = read_record(device, place as u32);
     Aid::new(name_of(&entry)).unwrap()
-}
-
-// Returns the record of the block at a place, whose first word was read: the four words after its header.
-#[tactic(auto, using(mc_blocks::proofs::Records::record_words))]
-fn read_record<N: Nvm>(device: &N, place: u32, first: Word) -> Record
-    requires place { place + 5 ≤ length (N.state device.now).words }
-    requires first { first ≡ word (N.state device.now).words (place + 1) }
-    ensures { result ≡ record_at (N.state device.now).words place }
-{
-    let _size = device.len();
-    let words = [
-        first,
-        device.read(place + 2),
-        device.read(place + 3),
-        device.read(place + 4),
-    ];
-    let mut bytes = [0; 32];
-    bytes.copy_from_slice(words.as_flattened());
-    bytes
 }
 
 // Returns the sizes in a record; its data are its whole static segment.
@@ -157,13 +108,4 @@ fn sizes_of(entry: &Record) -> Sizes
         fci: entry[18] as u16,
         deny: number_of(entry[26], entry[27]),
     }
-}
-
-// Returns the name in a record.
-#[tactic(auto, using(std::proofs::lemmas::List::take_min))]
-fn name_of(entry: &Record) -> &[u8]
-    ensures { result.now ≡ name_in entry.now }
-{
-    let len = (entry[16] as usize).min(32);
-    &entry[..len]
 }

@@ -16,5 +16,6 @@ mod store;
 
 pub use laws::{item_stops, power_ends, power_stops};
 pub use mc_blocks::Unusable;
+pub use place::part_place;
 pub use power::Up;
 pub use store::Store;
