@@ -1,5 +1,4 @@
 pub mod RecordLemmas
-pub mod WideLemmas
 pub mod WatchLemmas
 pub mod FullTurnLemmas
 pub mod ListLemmas

@@ -13,13 +13,14 @@ use Rattle.mc_script.specs.Lines.{LineDone, bench_of}
 use Rattle.mc_script.specs.Plays.{Bench, Played}
 use Rattle.mc_script.specs.Runs.{sent_by}
 use Rattle.mc_script.specs.StepCounts.{CountsLine, PlaySteps}
+use Rattle.mc_script.specs.Watching.{Watches}
 use Rattle.mc_script.proofs.LinedLemmas.{at_stands}
 use Rattle.mc_script.proofs.PlayLemmas.{played_none, played_on, plays_none, plays_on}
 use Rattle.mc_script.proofs.StepPlayLemmas.{step_counts, steps_as, steps_none, steps_then}
 use Rattle.mc_cover.specs.declared.covering.Counter.{Counter}
 use Rattle.mc_cover.specs.Counting.{Counted, counted_none, counted_on}
 use Rattle.mc_cover.specs.Plays.{CountsPlay}
-use Rattle.mc_cover.specs.Watching.{Watches}
+use Rattle.mc_cover.specs.Watching.{full_turn_of}
 use Rattle.mc_cover.proofs.SentLemmas.{sent_shown}
 
 module _ {N : Type 0} (state : N → DeviceState) (bench : N → BenchState) where
@@ -44,7 +45,7 @@ module _ {N : Type 0} (state : N → DeviceState) (bench : N → BenchState) whe
       record { worn = all.0; played = all.1; steps = all.2; counted = subst (λ (ts : List FullTurn). Counted q ts r) (sym are) h.counted }
 
   pub counting_on : (s : State) (ls : List (ℕ × DeckLine)) (a : Bench) (q : Counter) (left : List (ℕ × DeckLine)) (n : ℕ) (l : DeckLine) (p v : Player N) (before after : Counter) (answer : Option Answer) (old now new : ℕ) → Counting s ls a q old ((n, l) ∷ left) p before now
-      → LineDone state bench (Watches Counted (sent_by state p l)) p l before after answer v → CountsLine state bench p l answer now new → Counting s ls a q old left v after new
+      → LineDone state bench (Watches full_turn_of Counted (sent_by state p l)) p l before after answer v → CountsLine state bench p l answer now new → Counting s ls a q old left v after new
   counting_on s ls a q left n l p v before after answer old now new h done counts =
       let line = done h.here n h.at in
       let w = line.0 in

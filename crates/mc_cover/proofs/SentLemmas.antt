@@ -1,10 +1,11 @@
 -- The full turns of a line are those of the command that its player sends.
-use Rattle.std.proofs.Common.{◌≡◌, ◌⊎◌, inl, inr, ℕ, Bool, true, false, List, [], ◌∷◌, ◌++◌, length, take, Option, Some, None, refl, sym, ap, subst, ◌∙◌}
+use Rattle.std.proofs.Common.{◌≡◌, ◌⊎◌, inl, inr, ℕ, zero, suc, Bool, true, false, List, [], ◌∷◌, ◌++◌, length, take, Option, Some, None, refl, sym, ap, subst, ◌∙◌}
 use Rattle.std.specs.List.{AllByRecursion}
 use Rattle.mc_model_device.specs.Card as model
 use Rattle.mc_model_device.specs.Device.{DeviceState, BenchState}
 use Rattle.mc_model_device.specs.PowerUp.{Base, OnCard}
-use Rattle.mc_model_machine.specs.Chain.{Turn}
+use Rattle.mc_model_machine.specs.Apdu.{ApduParts}
+use Rattle.mc_model_machine.specs.Chain.{Chain, Follows, Continues, Ends, Turn, start, turn_of_chain}
 use Rattle.mc_model_card.specs.Commands.{command}
 use Rattle.mc_model_card.specs.Items.{StopAt, card_done}
 use Rattle.mc_model_card.specs.Manager.{Selected, SessionState, Route, WrongLength, WrongClass, ToSelect, ToManager, ToApplication, route}
@@ -13,7 +14,7 @@ use Rattle.mc_model_play.specs.DeckGrammar as line
 use Rattle.mc_model_play.specs.Play.{FailedWrite, Live, Running, State, BeforePower, AfterPower, delete_bytes, is_done, load_commands, select_bytes, step}
 use Rattle.mc_model_play.specs.TraceText.{before_stop, shown_turns}
 use Rattle.mc_model_play.proofs.PlayLemmas.{step_is}
-use Rattle.mc_desk.specs.FullTurns.{FullTurn, turns_of_command, turns_of_commands, turns_of_line_in, turns_of_live, turns_of_route, turns_of_sent, turns_of_step}
+use Rattle.mc_desk.specs.FullTurns.{FullTurn, full_turn, turns_of_application, turns_of_command, turns_of_commands, turns_of_line_in, turns_of_live, turns_of_route, turns_of_run, turns_of_sent, turns_of_step, turns_on}
 use Rattle.mc_desk.proofs.TurnLemmas.{step_turns, turns_of}
 use Rattle.mc_card.specs.Ends.{is_passed}
 use Rattle.mc_card.specs.Parts.{card_in, session_state_in}
@@ -22,9 +23,36 @@ use Rattle.mc_script.specs.declared.player.Player.{Player}
 use Rattle.mc_script.specs.declared.player.Power.{Power}
 use Rattle.mc_script.specs.declared.player.Power.TheVariants as power
 use Rattle.mc_script.specs.Players.{IsPlayerAt, LiveIs}
-use Rattle.mc_script.specs.Runs.{sent_by}
+use Rattle.mc_script.specs.Runs.{SentCommand, line_bytes, sent_by}
+use Rattle.mc_script.specs.Watching.{seen_of, seen_of_application, seen_of_route, seen_of_run, seen_on}
 use Rattle.mc_script.proofs.SendLemmas.{load_managed, not_passed}
-use Rattle.mc_cover.specs.Watching.{sent_turns}
+use Rattle.mc_cover.specs.Watching.{full_turn_of}
+
+-- ---- what a watcher sees of a command
+
+full_on : (t : FullTurn) (f : Follows) (n : ℕ) → ((c : Chain) → seen_of_run full_turn_of n c ≡ turns_of_run n c) → seen_on full_turn_of t f (λ c. seen_of_run full_turn_of n c) ≡ turns_on t f (λ c. turns_of_run n c)
+full_on t (Ends o) n h = refl
+full_on t (Continues ch) n h = ap (λ (ts : List FullTurn). t ∷ ts) (h ch)
+
+full_run : (n : ℕ) (ch : Chain) → seen_of_run full_turn_of n ch ≡ turns_of_run n ch
+unfolding seen_of_run turns_of_run
+full_run zero ch = refl
+full_run (suc n) ch = full_on (full_turn ch (turn_of_chain ch).turn) (turn_of_chain ch).follows n (λ c. full_run n c)
+
+full_application : (c : model.Card) (s : Option Selected) (a : ApduParts) (budget : ℕ) → seen_of_application full_turn_of c s a budget ≡ turns_of_application c s a budget
+full_application c None a budget = refl
+full_application c (Some s) a budget = full_run budget (start c.apps s.name s.session a)
+
+full_route : (c : model.Card) (session_state : SessionState) (budget : ℕ) (r : Route) → seen_of_route full_turn_of c session_state budget r ≡ turns_of_route c session_state budget r
+full_route c session_state budget WrongLength = refl
+full_route c session_state budget WrongClass = refl
+full_route c session_state budget (ToSelect a) = refl
+full_route c session_state budget (ToManager a) = refl
+full_route c session_state budget (ToApplication a) = full_application c session_state.selected a budget
+
+-- the full turns of a command that is sent to a card
+abbrev sent_turns : SentCommand → List FullTurn
+sent_turns s = turns_of_command s.card s.session_state s.bytes s.budget
 
 -- ---- commands that run no application
 
@@ -90,10 +118,9 @@ module _ {N : Type 0} (state : N → DeviceState) (bench : N → BenchState) whe
   shown_none None ts e = e
   shown_none (Some t) ts e = ap (λ (us : List Turn). before_stop us t.at) e
 
-  -- the full turns of a step are the first ones of its line's command
-  pub sent_shown : (p : Player N) (s : State) (l : ℕ × DeckLine) (w : Option FailedWrite) → IsPlayerAt state bench p s → (let t = step s l w in take (length (shown_turns t.turns t.stop)) (sent_turns (sent_by state p l.1)) ≡ turns_of_step t)
+  command_shown : (p : Player N) (s : State) (l : ℕ × DeckLine) (w : Option FailedWrite) → IsPlayerAt state bench p s → (let t = step s l w in take (length (shown_turns t.turns t.stop)) (sent_turns (sent_by state p l.1)) ≡ turns_of_step t)
   unfolding turns_of_step
-  sent_shown p s l w at =
+  command_shown p s l w at =
       let t = step s l w in
       let k = length (shown_turns t.turns t.stop) in
       let is = step_is s l w in
@@ -105,3 +132,10 @@ module _ {N : Type 0} (state : N → DeviceState) (bench : N → BenchState) whe
             let no_shown : k ≡ 0 = ap length (shown_none t.stop t.turns no_turns) in
             ap (λ (i : ℕ). take i (sent_turns (sent_by state p l.1))) no_shown ∙ sym (ap (λ (i : ℕ). take i (turns_of_line_in t.before t.line)) no_shown)
       ]
+
+  -- what is seen of a step is what is seen first of its line's command
+  pub sent_shown : (p : Player N) (s : State) (l : ℕ × DeckLine) (w : Option FailedWrite) → IsPlayerAt state bench p s → (let t = step s l w in take (length (shown_turns t.turns t.stop)) (seen_of full_turn_of (sent_by state p l.1)) ≡ turns_of_step t)
+  sent_shown p s l w at =
+      let t = step s l w in
+      let full = full_route (card_in state p.card) (session_state_in state p.card) p.budget (route (line_bytes l.1)) in
+      ap (λ (ts : List FullTurn). take (length (shown_turns t.turns t.stop)) ts) full ∙ command_shown p s l w at

@@ -30,12 +30,13 @@ use Rattle.mc_machine.specs.Chains.{NamesApart}
 use Rattle.mc_machine.specs.Turns.{turn_value}
 use Rattle.mc_card.specs.declared.card.Card.{Card}
 use Rattle.mc_card.specs.Ends.{ChainTurned, TurnGoesOn}
+use Rattle.mc_script.specs.Watching.{IsWide}
 use Rattle.mc_cover.specs.declared.looking.Scene.{Scene}
 use Rattle.mc_cover.specs.declared.tracing.Tracer.{Tracer}
 use Rattle.mc_cover.specs.Looking.{IsScene, Lies, LiesAfter, Shows, operand_after, place_in, section_at, span_decoded, span_in, stack_after}
 use Rattle.mc_cover.specs.Sections.{index_of, is_of}
 use Rattle.mc_cover.specs.Tracing.{line_pair, source_part_of, state_part_of, turn_text, Adds, Traced}
-use Rattle.mc_cover.specs.Watching.{IsWide, full_turn_of}
+use Rattle.mc_cover.specs.Watching.{full_turn_of}
 use Rattle.mc_cover.proofs.AfterLemmas.{turn_shows}
 use Rattle.mc_cover.proofs.FullTurnLemmas.{code_is, frame_name, turn_is}
 use Rattle.mc_row_laws.specs.Keeping.{Keeps, OnDone}

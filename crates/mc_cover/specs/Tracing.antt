@@ -11,7 +11,7 @@ use Rattle.mc_text.proofs.TextLemmas.{writes_then, writes_none, fails_then, fail
 use Rattle.mc_desk.specs.declared.source.CodeLine.{CodeLine as LineOfCode}
 use Rattle.mc_desk.specs.FullTurns.{FullTurn, last_bytes}
 use Rattle.mc_desk.specs.Listings.{CodeLine, Source}
-use Rattle.mc_desk.specs.Traces.{bytes_or_dash, trace_line, trace_lines, with_part}
+use Rattle.mc_desk.specs.Traces.{bytes_or_dash, trace_line, trace_lines, trace_text, with_part}
 use Rattle.mc_cover.specs.declared.tracing.Tracer.{Tracer}
 
 -- ---- the line of a turn
@@ -67,7 +67,21 @@ module _ {T : Type 0} (sink : Ghosts T) where
   abbrev pub Traced : Tracer T → List FullTurn → Tracer T → Type 0
   Traced q ts r = Adds q (trace_lines q.sections.now ts) r
 
+-- one tracer before and after it wrote something: its sink and its sections are the same
+pub record IsSameTracer {T : Type 0} (q r : Tracer T) : Type 0 where
+  pub sections : r.sections.now ≡ q.sections.now
+  pub same : r.out.ghost_name ≡ q.out.ghost_name
+
 -- ---- the laws of tracers
+
+pub same_itself : {T : Type 0} (q : Tracer T) → IsSameTracer q q
+same_itself q = record { sections = refl; same = refl }
+
+pub same_after : {T : Type 0} (q r s : Tracer T) → IsSameTracer q r → IsSameTracer r s → IsSameTracer q s
+same_after q r s first rest = record { sections = rest.sections ∙ first.sections; same = rest.same ∙ first.same }
+
+pub same_texts : {T : Type 0} (q r : Tracer T) → IsSameTracer q r → trace_text r.sections.now ≡ trace_text q.sections.now
+same_texts q r h = ap (λ (ss : List Source). trace_text ss) h.sections
 
 -- no text
 none_by : (f : Option WriteFault) (a : Sunk) → TextBy f a [] (record { out = a; fault = f })
@@ -108,6 +122,10 @@ module _ {T : Type 0} (sink : Ghosts T) where
   -- a tracer that wrote nothing is unchanged
   pub adds_none : (r : Tracer T) → Adds sink r [] r
   adds_none r = record { adds = none_by r.fault (sunk sink r.out.now); sections = refl; same = refl }
+
+  -- a tracer that wrote lines of turns is the same
+  pub same_traced : (q r : Tracer T) (ts : List FullTurn) → Traced sink q ts r → IsSameTracer q r
+  same_traced q r ts h = record { sections = h.sections; same = h.same }
 
   -- of no turn no line is written
   pub traced_none : (r : Tracer T) → Traced sink r [] r

@@ -6,18 +6,19 @@ ghost use Rattle.mc_model_machine.specs.Code.{front};
 ghost use Rattle.mc_model_play.specs.Play.{start};
 ghost use Rattle.mc_model_play.specs.ReadyAgain.{IsLine};
 ghost use Rattle.mc_desk.specs.Coverage.{condition_decoded, condition_in, condition_of, line_condition};
+ghost use Rattle.mc_desk.specs.FullTurns.{FullTurn};
 ghost use Rattle.mc_desk.specs.Sources.{code_line_value};
 ghost use Rattle.mc_text.specs.Texts.{sunk};
 ghost use Rattle.mc_script.specs.Players.{IsUnfused};
 ghost use Rattle.mc_script.specs.Benches.{bench_at};
+ghost use Rattle.mc_script.specs.Watching.{Watches};
 ghost use Rattle.mc_cover.specs.declared.covering.CoverFault.TheVariants as fault;
-ghost use Rattle.mc_cover.specs.Watching.{Watches};
+ghost use Rattle.mc_cover.specs.Watching.{full_turn_of};
 ghost use Rattle.mc_cover.specs.Plays.{CountsPlay, CoversBy};
 ghost use Rattle.mc_cover.specs.Counting.{Counted, counted_none, counted_on, holds_by, line_by, line_risen, lines_by, new_line, new_lines, risen, took_by};
 
 use crate::lcov::{LineCount, put_record};
 use crate::looking::running_section;
-use crate::running::{Watcher, run_watched};
 use crate::sections::{Section, Sections, bytes_of};
 use mc_arith::Flags;
 use mc_base::{Steps, Stop};
@@ -27,7 +28,7 @@ use mc_desk::CodeLine;
 use mc_isa::{Ins, decode};
 use mc_machine::Outcome;
 use mc_nvm::{Bench, Nvm};
-use mc_script::{Player, Runner};
+use mc_script::{Player, Runner, Watcher, run_watched};
 use mc_streams::{Sink, WriteFault};
 use std::alloc::{AllocError, Global};
 use std::sync::ledger::Ledger;
@@ -213,6 +214,10 @@ impl<'s, 'o> Counter<'s, 'o> {
 }
 
 impl<'s, 'o> Watcher for Counter<'s, 'o> {
+    ghost Seen = { FullTurn };
+
+    ghost seen = { full_turn_of };
+
     ghost watched = { Counted };
 
     ghost silent = { counted_none };
@@ -232,7 +237,7 @@ impl<'s, 'o> Watcher for Counter<'s, 'o> {
 }
 
 impl<'s, 'o> Runner for Counter<'s, 'o> {
-    ghost reported = { Watches Counted };
+    ghost reported = { Watches full_turn_of Counted };
 
     ghost silent = { λ c. counted_none };
 

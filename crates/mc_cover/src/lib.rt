@@ -5,7 +5,6 @@
 mod covering;
 mod lcov;
 mod looking;
-mod running;
 mod sections;
 mod span;
 mod tracing;

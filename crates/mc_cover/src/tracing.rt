@@ -1,29 +1,25 @@
 // The trace of a draft: the line of each turn of a section with its source line, its operand and its stack.
 ghost use Rattle.std.specs.Prelude.{◌≡◌, ◌≤◌, ◌+◌, ◌-◌, ◌*◌, ◌++◌, [], ℕ, None, Option, Some, codes, decimal, length, option_map, take, IfSome};
-ghost use Rattle.std.specs.List.{AllByRecursion};
 ghost use Rattle.arrayvec.specs.ArrayVec.{array_vec_len};
-ghost use Rattle.mc_model_device.specs.Device.{IsImage};
 ghost use Rattle.mc_model_machine.specs.Code.{Shaped};
 ghost use Rattle.mc_model_text.specs.TurnText.{turn_line};
-ghost use Rattle.mc_model_play.specs.Play.{start};
-ghost use Rattle.mc_model_play.specs.ReadyAgain.{IsLine};
 ghost use Rattle.mc_model_play.specs.Transcript.{line_text};
 ghost use Rattle.mc_machine.specs.Turns.{turn_value};
-ghost use Rattle.mc_desk.specs.FullTurns.{last_bytes};
+ghost use Rattle.mc_desk.specs.FullTurns.{FullTurn, last_bytes};
 ghost use Rattle.mc_desk.specs.Traces.{bytes_or_dash, trace_text};
 ghost use Rattle.mc_desk.specs.Verdicts.{source_line};
 ghost use Rattle.mc_text.specs.Texts.{sunk};
 ghost use Rattle.mc_script.specs.Players.{answer_value, IsUnfused};
 ghost use Rattle.mc_script.specs.Benches.{bench_at, IsPlaying};
 ghost use Rattle.mc_script.specs.Plays.{PlaysDeck};
-ghost use Rattle.mc_script.specs.StepCounts.{CountsDeck, CountsFrom};
+ghost use Rattle.mc_script.specs.StepCounts.{CountsDeck};
+ghost use Rattle.mc_script.specs.Watching.{seen_of, Watches};
 ghost use Rattle.mc_script.specs.Writers.{write_result};
 ghost use Rattle.mc_cover.specs.Looking.{section_at};
-ghost use Rattle.mc_cover.specs.Tracing.{line_pair, line_value, state_part_of, traced_none, traced_on, turn_text, Adds, Traced};
-ghost use Rattle.mc_cover.specs.Watching.{Watches};
+ghost use Rattle.mc_cover.specs.Tracing.{line_pair, line_value, log_of, same_after, same_itself, same_texts, same_traced, state_part_of, traced_none, traced_on, turn_text, Adds, IsSameTracer, Traced};
+ghost use Rattle.mc_cover.specs.Watching.{full_turn_of};
 
 use crate::looking::{After, after_turn, running_section, scene_of};
-use crate::running::{Watcher, run_watched};
 use crate::sections::Sections;
 use arrayvec::ArrayVec;
 use mc_base::{Steps, Stop};
@@ -32,7 +28,9 @@ use mc_deck::Deck;
 use mc_desk::CodeLine;
 use mc_machine::Outcome;
 use mc_nvm::{Bench, Nvm};
-use mc_script::{Answer, Player, Runner, Text, add_result};
+use mc_script::{
+    Answer, Player, Reporter, Runner, Text, Watcher, gather_result, play_lines, run_watched,
+};
 use mc_streams::{Sink, WriteFault};
 use mc_text::{add, add_decimal, add_hex, put};
 use mc_trace::line_of;
@@ -97,18 +95,6 @@ fn gather_state(text: &mut Text, after: &After)
     add_bytes(text, after.operand.as_slice());
     add(text, b" ");
     add_bytes(text, top_of(after.stack.as_slice()));
-    add(text, b"\n");
-}
-
-// Gathers the line of a result: its number, a blank, the result and a line feed.
-fn gather_result<N: Bench>(text: &mut Text, number: u32, player: &Player<N>, answer: &Answer)
-    requires { IsPlaying N.Bench player.now }
-    ensures { text.new.items ≡ line_text number (Some (answer_value N.state player.now answer.now)) }
-{
-    text.clear();
-    add_decimal(text, number);
-    add(text, b" ");
-    add_result(text, player, answer);
     add(text, b"\n");
 }
 
@@ -183,7 +169,7 @@ impl<'s, 'o, T: Sink> Tracer<'s, 'o, T> {
     }
 
     // Writes the result of a line, if it has one.
-    fn report<N: Bench>(&mut self, number: u32, player: &Player<N>, answer: &Option<Answer>)
+    fn put_result<N: Bench>(&mut self, number: u32, player: &Player<N>, answer: &Option<Answer>)
         requires { IsPlaying N.Bench player.now }
         ensures { Adds T.Sink self.old
             (line_text number (option_map (answer_value N.state player.now) answer.now)) self.new }
@@ -195,7 +181,7 @@ impl<'s, 'o, T: Sink> Tracer<'s, 'o, T> {
     }
 
     // Returns `Ok` if all was written, or else the fault of the sink.
-    fn ended(&self) -> Result<(), WriteFault>
+    fn written(&self) -> Result<(), WriteFault>
         ensures { result ≡ write_result self.now.fault }
     {
         match self.fault {
@@ -206,6 +192,10 @@ impl<'s, 'o, T: Sink> Tracer<'s, 'o, T> {
 }
 
 impl<'s, 'o, T: Sink> Watcher for Tracer<'s, 'o, T> {
+    ghost Seen = { FullTurn };
+
+    ghost seen = { full_turn_of };
+
     ghost watched = { Traced T.Sink };
 
     ghost silent = { traced_none T.Sink };
@@ -232,7 +222,7 @@ impl<'s, 'o, T: Sink> Watcher for Tracer<'s, 'o, T> {
 }
 
 impl<'s, 'o, T: Sink> Runner for Tracer<'s, 'o, T> {
-    ghost reported = { Watches (Traced T.Sink) };
+    ghost reported = { Watches full_turn_of (Traced T.Sink) };
 
     ghost silent = { λ c. traced_none T.Sink };
 
@@ -250,36 +240,28 @@ impl<'s, 'o, T: Sink> Runner for Tracer<'s, 'o, T> {
     }
 }
 
-// Plays a deck on a device before a tracer, up to the first line whose text is not wholly written.
-fn play_lines<N: Bench, T: Sink, L: Ledger>(
-    deck: &Deck,
-    device: N,
-    tracer: &mut Tracer<'_, '_, T>,
-    steps: &mut Steps<L>,
-) -> N
-    requires fuses { IsUnfused (N.bench device) }
-    requires fault { tracer.old.fault ≡ None }
-    ensures plays { CountsFrom (trace_text tracer.old.sections.now) (start (N.state device).words) deck.now
-        (bench_at N.Bench device) (sunk T.Sink tracer.old.out.now)
-        (write_result tracer.new.fault) (bench_at N.Bench result)
-        (sunk T.Sink tracer.new.out.now) steps.old steps.new }
-    ensures image { IsImage (N.state device).words }
-    ensures lines { AllByRecursion (λ l. IsLine l.1) deck.now }
-    ensures keeps_device { N.same device result }
-    ensures same { tracer.new.out.ghost_name ≡ tracer.old.out.ghost_name }
-{
-    let _words = device.len();
-    let _lines = deck.len();
-    let mut player = Player::new(device);
-    for i in 0..deck.len() {
-        let (number, line) = deck.line(i);
-        let answer = player.line(&line, tracer, steps);
-        tracer.report(number, &player, &answer);
-        if tracer.ended().is_err() {
-            return player.into_dev();
-        }
+impl<'s, 'o, T: Sink> Reporter for Tracer<'s, 'o, T> {
+    ghost text = { λ q. trace_text q.sections.now };
+
+    ghost log = { log_of T.Sink };
+
+    ghost same = { IsSameTracer };
+
+    ghost records = { λ c q r ts h. same_traced T.Sink q r (take (length ts) (seen_of full_turn_of c)) h };
+
+    ghost itself = { same_itself };
+
+    ghost after = { same_after };
+
+    ghost texts = { same_texts };
+
+    fn report<N: Bench>(&mut self, number: u32, player: &Player<N>, answer: &Option<Answer>) {
+        self.put_result(number, player, answer);
     }
-    player.into_dev()
+
+    fn ended(&self) -> Result<(), WriteFault> {
+        self.written()
+    }
 }
 
 /// Plays the deck of a draft on a device and writes its trace: the transcript, with a line before each result for

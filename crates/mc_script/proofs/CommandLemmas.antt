@@ -1,32 +1,30 @@
 -- Commands on a card: answered, run with their turns recorded, and one after the other.
-use Rattle.std.proofs.Common.{◌≡◌, ℕ, suc, true, false, List, [], ◌∷◌, ◌++◌, Option, Some, None, Result, Ok, Err, refl, sym, ap, subst, ◌∙◌}
-use Rattle.std.specs.Prelude.{option_map, OnOk, IsSome}
+use Rattle.std.proofs.Common.{◌≡◌, ℕ, suc, true, false, List, [], ◌++◌, Option, Some, None, Result, Ok, Err, refl, sym, ap, subst, ◌∙◌}
+use Rattle.std.specs.Prelude.{option_map, OnOk}
 use Rattle.mc_model_device.specs.declared.device.Stop.{Stop}
 use Rattle.mc_model_device.specs.Orders.{Answer, answer_of}
 use Rattle.mc_model_device.specs.Device.{DeviceState, Wrote}
 use Rattle.mc_model_machine.specs.Apdu.{ApduParts}
 use Rattle.mc_model_device.specs.Card as model
 use Rattle.mc_model_device.specs.Card.{means}
-use Rattle.mc_model_machine.specs.Chain.{Chain, Turn, Ran as ModelRan, turn_of, run_of_chain, run, start}
+use Rattle.mc_model_machine.specs.Chain.{Chain, Turn, Ran as ModelRan, run_of_chain, run, start}
 use Rattle.mc_model_card.specs.Manager.{Selected, SessionState, Managed, Declines, Accepts, Route, WrongLength, WrongClass, ToSelect, ToManager, ToApplication, route, select, manage, room_on}
 use Rattle.mc_model_card.specs.Commands.{Command, command, manager_command, application_command, by_route, ran_command}
 use Rattle.mc_model_card.specs.Items.{write_items}
 use Rattle.mc_model_play.specs.TraceText.{before_stop}
 use Rattle.mc_machine.specs.declared.outcome.Outcome.{Outcome}
-use Rattle.mc_machine.specs.declared.outcome.Turn.{Turn as CodeTurn}
-use Rattle.mc_machine.specs.Turns.{turn_value}
 use Rattle.mc_card.specs.declared.card.Card.{Card}
-use Rattle.mc_card.specs.Parts.{device_in, card_in, session_state_in, due, with_session, RunsChain}
-use Rattle.mc_card.specs.Ends.{is_passed, Commanded, PassedToChain, Answered, ChainTurned}
-use Rattle.mc_script.specs.Runs.{StoppedAtWrite, ReportsTurns, RanAndReported}
+use Rattle.mc_card.specs.Parts.{device_in, card_in, session_state_in, due, with_session}
+use Rattle.mc_card.specs.Ends.{is_passed, Commanded, PassedToChain, Answered}
+use Rattle.mc_script.specs.Runs.{StoppedAtWrite, ReportsTurns, RanAndReported, sent_to}
+use Rattle.mc_script.specs.Watching.{Records, Watches, seen_of, seen_of_application, seen_of_route, seen_of_run}
 use Rattle.mc_script.proofs.StopLemmas.{stopped_in, at_number}
-use Rattle.mc_script.proofs.RanLemmas.{RunOf, run_ends, run_stops, run_goes, run_on}
-use Rattle.mc_script.proofs.UpLemmas.{up_on}
+use Rattle.mc_script.proofs.RanLemmas.{RunOf}
 use Rattle.mc_card.proofs.MadeLemmas.{MadeBy}
 
 -- ---- commands without turns
 
-managed_turns : (c : model.Card) (session_state : SessionState) (m : Managed) → (manager_command c session_state m).turns ≡ []
+pub managed_turns : (c : model.Card) (session_state : SessionState) (m : Managed) → (manager_command c session_state m).turns ≡ []
 managed_turns c session_state (Declines sw) = refl
 managed_turns c session_state (Accepts a) = refl
 
@@ -58,10 +56,7 @@ command_is c session_state bytes budget a s routed is = passed_is c session_stat
 session_stays : (session_state : SessionState) (s : Selected) (session : List ℕ) → session_state.selected ≡ Some s → with_session session session_state ≡ record session_state { selected = Some (record { name = s.name; session = session }) }
 session_stays session_state s session is = ap (λ (o : Option Selected). record session_state { selected = option_map {T = Selected} (λ s. record s { session = session }) o }) is
 
-module _ {N R : Type 0} (state : N → DeviceState) (wrote : N → ℕ → List ℕ → Answer → N → Type 0)
-    (obeys : (d : N) (at : ℕ) (w : List ℕ) (a : Answer) (e : N) → (state d).on ≡ true → wrote d at w a e → Wrote (state d) at w a (state e))
-    (reported : R → List Turn → R → Type 0) (silent : (r : R) → reported r [] r)
-    (onward : (q r s : R) (ts us : List Turn) → reported q ts r → reported r us s → reported q (ts ++ us) s) where
+module _ {N R : Type 0} (state : N → DeviceState) (wrote : N → ℕ → List ℕ → Answer → N → Type 0) (reported : R → List Turn → R → Type 0) (silent : (r : R) → reported r [] r) where
   -- nothing is recorded of a command without turns
   quiet_reports : (result : Result Outcome Stop) (c d : Card N) (r : Command) (h : Commanded state wrote c r result d) (q : R) → ReportsTurns state wrote reported c h.made.writes [] result d q q
   quiet_reports (Ok o) c d r h q = silent q
@@ -70,7 +65,7 @@ module _ {N R : Type 0} (state : N → DeviceState) (wrote : N → ℕ → List 
       (suc at.0, at_number wrote h.made.writes (device_in c) (device_in d) at.0 s at.1, silent q)
 
   -- a command without turns
-  pub quiet_ran : (result : Result Outcome Stop) (c d : Card N) (r : Command) (q : R) → r.turns ≡ [] → Commanded state wrote c r result d → RanAndReported state wrote reported c r result d q q
+  quiet_ran : (result : Result Outcome Stop) (c d : Card N) (r : Command) (q : R) → r.turns ≡ [] → Commanded state wrote c r result d → RanAndReported state wrote reported c r result d q q
   quiet_ran result c d r q none h =
       record { commanded = h; reports = subst (λ (ts : List Turn). ReportsTurns state wrote reported c h.made.writes ts result d q q) (sym none) (quiet_reports result c d r h q) }
 
@@ -79,19 +74,28 @@ module _ {N R : Type 0} (state : N → DeviceState) (wrote : N → ℕ → List 
   answered_ran result c d bytes budget q h =
       quiet_ran result c d (due state c bytes budget) q (command_turns (card_in state c) (session_state_in state c) bytes budget h.stays) h.commanded
 
+-- what was recorded of a run is recorded of the command that began it
+reports_as : {N R : Type 0} (state : N → DeviceState) (wrote : N → ℕ → List ℕ → Answer → N → Type 0) (reported : R → List Turn → R → Type 0) (result : Result Outcome Stop) (c m d : Card N) (ws : List (ℕ × List ℕ)) (ts : List Turn) (q r : R) → device_in m ≡ device_in c → ReportsTurns state wrote reported m ws ts result d q r → ReportsTurns state wrote reported c ws ts result d q r
+reports_as state wrote reported (Ok o) c m d ws ts q r same h = h
+reports_as state wrote reported (Err s) c m d ws ts q r same h = (h.0, subst (λ x. StoppedAtWrite wrote x ws h.0 s (device_in d)) same h.1, h.2)
+
+-- what is seen of a command that is passed to an application
+seen_passed : {X : Type 0} (seen : ℕ → Chain → X) (c : model.Card) (session_state : SessionState) (budget : ℕ) (r : Route) (a : ApduParts) (s : Selected) → r ≡ ToApplication a → session_state.selected ≡ Some s → seen_of_route seen c session_state budget r ≡ seen_of_run seen budget (start c.apps s.name s.session a)
+seen_passed seen c session_state budget r a s routed is = ap (λ (r : Route). seen_of_route seen c session_state budget r) routed ∙ ap (λ (o : Option Selected). seen_of_application seen c o a budget) is
+
+module _ {N R X : Type 0} (state : N → DeviceState) (wrote : N → ℕ → List ℕ → Answer → N → Type 0)
+    (obeys : (d : N) (at : ℕ) (w : List ℕ) (a : Answer) (e : N) → (state d).on ≡ true → wrote d at w a e → Wrote (state d) at w a (state e))
+    (seen : ℕ → Chain → X) (watched : R → List X → R → Type 0)
+    (onward : (q r s : R) (ts us : List X) → watched q ts r → watched r us s → watched q (ts ++ us) s) where
   session_state_stays : (result : Result Outcome Stop) (c m d : Card N) (s : Selected) (run : ModelRan) → session_state_in state m ≡ session_state_in state c → (session_state_in state c).selected ≡ Some s
       → OnOk result (session_state_in state d ≡ with_session run.session (session_state_in state m)) → OnOk result (session_state_in state d ≡ (ran_command (session_state_in state c) s.name run).session_state)
   session_state_stays (Ok o) c m d s run same is h = h ∙ ap (λ (session_state : SessionState). with_session run.session session_state) same ∙ session_stays (session_state_in state c) s run.session is
   session_state_stays (Err t) c m d s run same is h = tt
 
-  reports_as : (result : Result Outcome Stop) (c m d : Card N) (ws : List (ℕ × List ℕ)) (ts : List Turn) (q r : R) → device_in m ≡ device_in c → ReportsTurns state wrote reported m ws ts result d q r → ReportsTurns state wrote reported c ws ts result d q r
-  reports_as (Ok o) c m d ws ts q r same h = h
-  reports_as (Err s) c m d ws ts q r same h = (h.0, subst (λ (x : N). StoppedAtWrite wrote x ws h.0 s (device_in d)) same h.1, h.2)
-
   -- a run, as the command that began it
-  begun_by : (result : Result Outcome Stop) (c m d : Card N) (s : Selected) (run : ModelRan) (q r : R) → device_in m ≡ device_in c → session_state_in state m ≡ session_state_in state c → (session_state_in state c).selected ≡ Some s
-      → RunOf state wrote obeys reported silent onward run m result d q r → RanAndReported state wrote reported c (ran_command (session_state_in state c) s.name run) result d q r
-  begun_by result c m d s run q r device same is h =
+  begun_by : (result : Result Outcome Stop) (c m d : Card N) (s : Selected) (run : ModelRan) (all : List X) (q r : R) → device_in m ≡ device_in c → session_state_in state m ≡ session_state_in state c → (session_state_in state c).selected ≡ Some s
+      → RunOf state wrote obeys seen watched onward run all m result d q r → RanAndReported state wrote (Records seen watched all) c (ran_command (session_state_in state c) s.name run) result d q r
+  begun_by result c m d s run all q r device same is h =
       let made : MadeBy state wrote obeys (card_in state c) (write_items run.writes) (device_in c) (answer_of result) (device_in d) h.writes =
       subst (λ (x : N). MadeBy state wrote obeys (means (state x).words) (write_items run.writes) x (answer_of result) (device_in d) h.writes) device h.made
       in
@@ -103,67 +107,19 @@ module _ {N R : Type 0} (state : N → DeviceState) (wrote : N → ℕ → List 
               session_state = session_state_stays result c m d s run same is h.session_state;
               ready = h.ready;
             };
-        reports = reports_as result c m d h.writes run.turns q r device h.reports;
+        reports = reports_as state wrote (Records seen watched all) result c m d h.writes run.turns q r device h.reports;
       }
 
   -- a command that was passed on, and run to its end
   pub passed_ran : (result : Result Outcome Stop) (c m d : Card N) (bytes : List ℕ) (budget : ℕ) (q r : R) (h : PassedToChain state wrote c bytes budget m)
-      → RunOf state wrote obeys reported silent onward (run (card_in state c).apps (h.selected).name (h.selected).session h.apdu budget) m result d q r → RanAndReported state wrote reported c (due state c bytes budget) result d q r
+      → (let first = start (card_in state c).apps (h.selected).name (h.selected).session h.apdu in RunOf state wrote obeys seen watched onward (run_of_chain budget first) (seen_of_run seen budget first) m result d q r)
+      → RanAndReported state wrote (Watches seen watched (sent_to state c bytes budget)) c (due state c bytes budget) result d q r
   passed_ran result c m d bytes budget q r h ran =
-      subst (λ (k : Command). RanAndReported state wrote reported c k result d q r) (sym (command_is (card_in state c) (session_state_in state c) bytes budget h.apdu h.selected h.routed h.is))
-      (begun_by result c m d h.selected (run (card_in state c).apps (h.selected).name (h.selected).session h.apdu budget) q r h.device h.session_state h.is ran)
-
-  -- the rest of a run, whose writes and recorded turns make up those of the whole command
-  pub record RunLeads (c : Card N) (bytes : List ℕ) (budget : ℕ) (q : R) (n : ℕ) (m : Card N) (p : R) : Type 0 where
-    pub chain : Chain
-    pub runs : RunsChain state m chain n
-    pub rest : (result : Result Outcome Stop) (d : Card N) (r : R) → RunOf state wrote obeys reported silent onward (run_of_chain n chain) m result d p r → RanAndReported state wrote reported c (due state c bytes budget) result d q r
-
-  -- what a turn does, whichever its chain
-  abbrev pub TurnDoes : Card N → Result CodeTurn Stop → Card N → Type 0
-  TurnDoes m result d = (ch : Chain) (left : ℕ) → RunsChain state m ch left → ChainTurned state wrote m ch left (turn_of left ch) result d
-
-  -- what the runner records of a turn, whatever number of words it wrote
-  abbrev pub ReportsTurn : R → CodeTurn → R → Type 0
-  ReportsTurn p turn r = (wrote : Option ℕ) → reported p (turn_value turn wrote ∷ []) r
-
-  -- the beginning of a command that is passed on
-  pub leads_begin : (c m : Card N) (bytes : List ℕ) (budget : ℕ) (q : R) → PassedToChain state wrote c bytes budget m → RunLeads c bytes budget q budget m q
-  leads_begin c m bytes budget q h =
-      record {
-        chain = start (card_in state c).apps (h.selected).name (h.selected).session h.apdu;
-        runs = h.runs;
-        rest = λ result d r ran. passed_ran result c m d bytes budget q r h ran;
-      }
-
-  -- a turn whose write stopped
-  pub leads_stop : (c m d : Card N) (bytes : List ℕ) (budget n : ℕ) (q p : R) (s : Stop) → RunLeads c bytes budget q n m p → TurnDoes m (Err s) d → RanAndReported state wrote reported c (due state c bytes budget) (Err s) d q p
-  leads_stop c m d bytes budget n q p s h turns = h.rest (Err s) d p (run_stops state wrote obeys reported silent onward m d h.chain n s p (turns h.chain n h.runs))
-
-  -- a turn that ends its chain
-  pub leads_end : (c m d : Card N) (bytes : List ℕ) (budget n : ℕ) (q p r : R) (turn : CodeTurn) (o : Outcome) → RunLeads c bytes budget q n m p → TurnDoes m (Ok turn) d → ReportsTurn p turn r → turn.end ≡ Some o → RanAndReported state wrote reported c (due state c bytes budget) (Ok o) d q r
-  leads_end c m d bytes budget n q p r turn o h turns reports end =
-      h.rest (Ok o) d r (run_ends state wrote obeys reported silent onward m d h.chain n turn o p r (turns h.chain n h.runs) end (reports (turn_of n h.chain).turn.wrote))
-
-  -- a turn that goes on
-  pub leads_on : (c m d : Card N) (bytes : List ℕ) (budget n : ℕ) (q p r : R) (turn : CodeTurn) → RunLeads c bytes budget q n m p → TurnDoes m (Ok turn) d → ReportsTurn p turn r → turn.end ≡ None → (left : ℕ) × (n ≡ suc left) × RunLeads c bytes budget q left d r
-  leads_on c m d bytes budget n q p r turn h turns reports end =
-      let turned = turns h.chain n h.runs in
-      let goes = run_goes state wrote obeys reported silent onward m d h.chain n turn turned end in (
-        goes.left,
-        goes.is,
-        record {
-          chain = goes.next;
-          runs = goes.runs;
-          rest = λ result e s ran.
-              h.rest result e s (run_on state wrote obeys reported silent onward m d e h.chain n turn result p r s goes (up_on state m h.runs.up) turned (reports (turn_of n h.chain).turn.wrote) ran);
-        },
-      )
-
--- a value that is not missing
-pub some_is : {A : Type 0} (o : Option A) → (o ≡ None → ⊥) → IsSome o
-some_is None h = absurd (h refl)
-some_is (Some x) h = refl
+      let first = start (card_in state c).apps (h.selected).name (h.selected).session h.apdu in
+      let all : seen_of seen (sent_to state c bytes budget) ≡ seen_of_run seen budget first = seen_passed seen (card_in state c) (session_state_in state c) budget (route bytes) h.apdu h.selected h.routed h.is in
+      subst (λ (xs : List X). RanAndReported state wrote (Records seen watched xs) c (due state c bytes budget) result d q r) (sym all)
+      (subst (λ (k : Command). RanAndReported state wrote (Records seen watched (seen_of_run seen budget first)) c k result d q r) (sym (command_is (card_in state c) (session_state_in state c) bytes budget h.apdu h.selected h.routed h.is))
+      (begun_by result c m d h.selected (run (card_in state c).apps (h.selected).name (h.selected).session h.apdu budget) (seen_of_run seen budget first) q r h.device h.session_state h.is ran))
 
 -- a command of which the runner may record every turn
 pub untold_ran : {N R : Type 0} (state : N → DeviceState) (wrote : N → ℕ → List ℕ → Answer → N → Type 0) (reported : R → List Turn → R → Type 0) (result : Result Outcome Stop) (c d : Card N) (k : Command) (q r : R) → ((ts : List Turn) → reported q ts r) → Commanded state wrote c k result d → RanAndReported state wrote reported c k result d q r

@@ -13,7 +13,7 @@ use Rattle.mc_text.specs.Texts.{Sunk, Puts}
 use Rattle.mc_script.specs.declared.answer.Answer.{Answer}
 use Rattle.mc_script.specs.declared.player.Player.{Player}
 use Rattle.mc_script.specs.Players.{answer_value, IsPlayerAt}
-use Rattle.mc_script.specs.Lines.{bench_of, Lined, LineDone}
+use Rattle.mc_script.specs.Lines.{bench_of, Lined, Stepped}
 use Rattle.mc_script.specs.Writers.{write_result, text_by}
 use Rattle.mc_script.specs.Plays.{Bench}
 use Rattle.mc_script.specs.StepCounts.{CountsLine, CountsFrom}
@@ -38,59 +38,37 @@ module _ {N : Type 0} (state : N → DeviceState) (bench : N → BenchState) whe
   pub reached_end : (f : Step → List ℕ) (s : State) (ls : List (ℕ × DeckLine)) (a : Bench) (x y : Sunk) (p : Player N) (old now : ℕ) → PlayReached f s ls a x old [] p y now → CountsFrom f s ls a x (Ok tt) (bench_of state bench p) y old now
   reached_end f s ls a x y p old now h = h.rest (Ok tt) (bench_of state bench p) y now (from_none f h.here (bench_of state bench p) y now (at_stands state bench p h.here h.at) h.at.unfused)
 
-  module _ {R : Type 0} (reported : R → List Turn → R → Type 0) (text : List Turn → List ℕ) where
-    -- the text that is written of a line, whatever turns its runner recorded
-    abbrev pub ReportsLine : Player N → R → R → ℕ → Option Answer → Sunk → Result (Unit {0}) WriteFault → Sunk → Type 0
-    ReportsLine q before after n answer y r z = (ts : List Turn) → reported before ts after → Puts y (text ts ++ line_text n (option_map (answer_value state q) answer)) r z
+  -- the text of the result of a line
+  pub result_text : (p q : Player N) (s : State) (l : ℕ × DeckLine) (w : Option FailedWrite) (answer : Option Answer) → Stepped state bench p s l w (step s l w) answer q → (let t = step s l w in line_text l.0 (option_map (answer_value state q) answer) ≡ line_text t.number t.result)
+  result_text p q s l w answer stepped = let t = step s l w in ap (λ o. line_text l.0 o) stepped.answers ∙ ap (λ n. line_text n t.result) (sym ((step_is s l w).number))
 
-    -- the text of a line is that of its step
-    line_puts : (p q : Player N) (s : State) (l : ℕ × DeckLine) (w : Option FailedWrite) (before after : R) (answer : Option Answer) (y z : Sunk) (r : Result (Unit {0}) WriteFault)
-        → Lined state bench reported p s l w before after answer q → ReportsLine q before after l.0 answer y r z → Puts y (text_by text (step s l w)) r z
-    line_puts p q s l w before after answer y z r lined reports =
-        let t = step s l w in
-        let is : line_text l.0 (option_map (answer_value state q) answer) ≡ line_text t.number t.result = ap (λ o. line_text l.0 o) lined.stepped.answers ∙ ap (λ n. line_text n t.result) (sym ((step_is s l w).number)) in
-        subst (λ (bs : List ℕ). Puts y (text (shown_turns t.turns t.stop) ++ bs) r z) is (reports (shown_turns t.turns t.stop) lined.reports)
+  -- the text of a line is that of its step, if it is written of the result after whatever turns were recorded
+  pub line_puts : {R : Type 0} (reported : R → List Turn → R → Type 0) (text : List Turn → List ℕ) (p q : Player N) (s : State) (l : ℕ × DeckLine) (w : Option FailedWrite) (before after : R) (answer : Option Answer) (y z : Sunk) (r : Result (Unit {0}) WriteFault)
+      → Lined state bench reported p s l w before after answer q → ((ts : List Turn) → reported before ts after → Puts y (text ts ++ line_text l.0 (option_map (answer_value state q) answer)) r z) → Puts y (text_by text (step s l w)) r z
+  line_puts reported text p q s l w before after answer y z r lined reports =
+      let t = step s l w in
+      subst (λ (bs : List ℕ). Puts y (text (shown_turns t.turns t.stop) ++ bs) r z) (result_text p q s l w answer lined.stepped) (reports (shown_turns t.turns t.stop) lined.reports)
 
-    -- a line whose text was written
-    pub reached_on : (s : State) (ls : List (ℕ × DeckLine)) (a : Bench) (x y z : Sunk) (left : List (ℕ × DeckLine)) (n : ℕ) (l : DeckLine) (p q : Player N) (before after : R) (answer : Option Answer) (old now new : ℕ)
-        → PlayReached (text_by text) s ls a x old ((n, l) ∷ left) p y now → LineDone state bench reported p l before after answer q → CountsLine state bench p l answer now new → ReportsLine q before after n answer y (Ok tt) z → PlayReached (text_by text) s ls a x old left q z new
-    reached_on s ls a x y z left n l p q before after answer old now new h done counts reports =
-        let line = done h.here n h.at in
-        let puts = line_puts p q h.here (n, l) line.0 before after answer y z (Ok tt) line.1 reports in
-        let end = line.1.stepped in
-        let steps = step_counts state q h.here (n, l) line.0 answer now new end.answers (counts h.here h.at) in
+  module _ (f : Step → List ℕ) (s : State) (ls : List (ℕ × DeckLine)) (a : Bench) (x : Sunk) (old : ℕ) (left : List (ℕ × DeckLine)) (n : ℕ) (l : DeckLine) (p q : Player N) (y z : Sunk) (answer : Option Answer) (now new : ℕ)
+      (h : PlayReached f s ls a x old ((n, l) ∷ left) p y now) (w : Option FailedWrite) (stepped : Stepped state bench p h.here (n, l) w (step h.here (n, l) w) answer q) (counts : CountsLine state bench p l answer now new) where
+    -- a line whose text was written, by the result of its reporter
+    pub reached_written : (r : Result (Unit {0}) WriteFault) → is_err r ≡ false → Puts y (f (step h.here (n, l) w)) r z → PlayReached f s ls a x old left q z new
+    reached_written (Err e) good puts = absurd (cc good)
+    reached_written (Ok u) good puts =
+        let steps = step_counts state q h.here (n, l) w answer now new stepped.answers (counts h.here h.at) in
         record {
-          here = (step h.here (n, l) line.0).after;
-          at = end.at;
-          rest = λ r c u last rest.
-              h.rest r c u last (from_on (text_by text) h.here (n, l) line.0 left (bench_of state bench p) (bench_of state bench q) c y z u r now new last end.played steps puts rest);
+          here = (step h.here (n, l) w).after;
+          at = stepped.at;
+          rest = λ r c u last rest. h.rest r c u last (from_on f h.here (n, l) w left (bench_of state bench p) (bench_of state bench q) c y z u r now new last stepped.played steps puts rest);
         }
 
     -- a line whose text was not wholly written
-    pub reached_cut : (s : State) (ls : List (ℕ × DeckLine)) (a : Bench) (x y z : Sunk) (left : List (ℕ × DeckLine)) (n : ℕ) (l : DeckLine) (p q : Player N) (before after : R) (answer : Option Answer) (e : WriteFault) (old now new : ℕ)
-        → PlayReached (text_by text) s ls a x old ((n, l) ∷ left) p y now → LineDone state bench reported p l before after answer q → CountsLine state bench p l answer now new → ReportsLine q before after n answer y (Err e) z
-        → CountsFrom (text_by text) s ls a x (Err e) (bench_of state bench q) z old new
-    reached_cut s ls a x y z left n l p q before after answer e old now new h done counts reports =
-        let line = done h.here n h.at in
-        let puts = line_puts p q h.here (n, l) line.0 before after answer y z (Err e) line.1 reports in
-        let end = line.1.stepped in
-        let steps = step_counts state q h.here (n, l) line.0 answer now new end.answers (counts h.here h.at) in
+    pub reached_failed : (r : Result (Unit {0}) WriteFault) → is_err r ≡ true → Puts y (f (step h.here (n, l) w)) r z → CountsFrom f s ls a x r (bench_of state bench q) z old new
+    reached_failed (Ok u) bad puts = absurd (cc bad)
+    reached_failed (Err e) bad puts =
+        let steps = step_counts state q h.here (n, l) w answer now new stepped.answers (counts h.here h.at) in
         h.rest (Err e) (bench_of state bench q) z new
-        (from_cut (text_by text) h.here (n, l) line.0 left (bench_of state bench p) (bench_of state bench q) y z e now new end.played steps (at_stands state bench q (step h.here (n, l) line.0).after end.at) end.at.unfused puts)
-
-    -- a line whose text was not wholly written, by the result of the writer
-    pub reached_failed : (s : State) (ls : List (ℕ × DeckLine)) (a : Bench) (x y z : Sunk) (left : List (ℕ × DeckLine)) (n : ℕ) (l : DeckLine) (p q : Player N) (before after : R) (answer : Option Answer) (r : Result (Unit {0}) WriteFault) (old now new : ℕ)
-        → is_err r ≡ true → PlayReached (text_by text) s ls a x old ((n, l) ∷ left) p y now → LineDone state bench reported p l before after answer q → CountsLine state bench p l answer now new → ReportsLine q before after n answer y r z
-        → CountsFrom (text_by text) s ls a x r (bench_of state bench q) z old new
-    reached_failed s ls a x y z left n l p q before after answer (Ok u) old now new failed h done counts reports = absurd (cc failed)
-    reached_failed s ls a x y z left n l p q before after answer (Err e) old now new failed h done counts reports = reached_cut s ls a x y z left n l p q before after answer e old now new h done counts reports
-
-    -- a line whose text was written, by the result of the writer
-    pub reached_written : (s : State) (ls : List (ℕ × DeckLine)) (a : Bench) (x y z : Sunk) (left : List (ℕ × DeckLine)) (n : ℕ) (l : DeckLine) (p q : Player N) (before after : R) (answer : Option Answer) (r : Result (Unit {0}) WriteFault) (old now new : ℕ)
-        → is_err r ≡ false → PlayReached (text_by text) s ls a x old ((n, l) ∷ left) p y now → LineDone state bench reported p l before after answer q → CountsLine state bench p l answer now new → ReportsLine q before after n answer y r z
-        → PlayReached (text_by text) s ls a x old left q z new
-    reached_written s ls a x y z left n l p q before after answer (Ok u) old now new written h done counts reports = reached_on s ls a x y z left n l p q before after answer old now new h done counts reports
-    reached_written s ls a x y z left n l p q before after answer (Err e) old now new written h done counts reports = absurd (cc written)
+        (from_cut f h.here (n, l) w left (bench_of state bench p) (bench_of state bench q) y z e now new stepped.played steps (at_stands state bench q (step h.here (n, l) w).after stepped.at) stepped.at.unfused puts)
 
 -- ---- places of a deck
 

@@ -33,6 +33,9 @@ pub mod FormatLemmas
 pub mod SessionLemmas
 pub mod StepLemmas
 pub mod StepRunLemmas
+pub mod WideLemmas
+pub mod WatchLemmas
+pub mod AloneLemmas
 pub mod StepPlayLemmas
 pub mod PowerAnswerLemmas
 pub mod LiveLemmas

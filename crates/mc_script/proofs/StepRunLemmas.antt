@@ -1,16 +1,14 @@
 -- The steps of a run turn by turn, of the commands of a load, and of a line on a card that runs.
-use Rattle.std.proofs.Common.{◌≡◌, ◌⊎◌, ℕ, zero, suc, ◌+◌, ◌≤◌, Bool, true, false, cond, List, [], ◌∷◌, ◌++◌, Option, Some, None, Ok, refl, arith, sym, ap, subst, ◌∙◌, inl, inr}
+use Rattle.std.proofs.Common.{◌≡◌, ◌⊎◌, ℕ, zero, suc, ◌+◌, ◌≤◌, Bool, true, false, cond, List, [], ◌∷◌, Option, Some, refl, arith, sym, ap, subst, ◌∙◌, inl, inr}
 use Rattle.std.specs.Prelude.{option_map}
 use Rattle.mc_model_device.specs.declared.device.Stop.{Stop}
 use Rattle.mc_model_device.specs.declared.device.Stop.TheVariants.{Off, Worn}
-use Rattle.mc_model_device.specs.Orders.{Answer as Ended}
-use Rattle.mc_model_device.specs.Device.{DeviceState, BenchState, Wrote}
+use Rattle.mc_model_device.specs.Device.{DeviceState, BenchState}
 use Rattle.mc_model_device.specs.Card as model
 use Rattle.mc_model_device.specs.Card.{means}
 use Rattle.mc_model_device.specs.PowerUp.{Base, OnCard, AtFault}
-use Rattle.mc_model_machine.specs.Chain.{Chain, Turn, Acted, Ran, Follows, Continues, Ends, turn_of_chain, turn_of, end_of, chain_session, run_after_turn, run_of_chain, start}
-use Rattle.mc_model_card.specs.Manager.{SessionState, route}
-use Rattle.mc_model_card.specs.Commands.{Command}
+use Rattle.mc_model_machine.specs.Chain.{Chain, Turn, Acted, Ran, Follows, Continues, Ends, turn_of_chain, turn_of, end_of, chain_session, run_after_turn, run_of_chain}
+use Rattle.mc_model_card.specs.Manager.{SessionState}
 use Rattle.mc_model_play.specs.DeckGrammar.{DeckLine}
 use Rattle.mc_model_play.specs.DeckGrammar as line
 use Rattle.mc_model_play.specs.Play.{Live, Running, Unpowered, Muted, State, BeforePower, AfterPower, line_command}
@@ -18,8 +16,7 @@ use Rattle.mc_machine.specs.declared.outcome.Outcome.{Outcome}
 use Rattle.mc_machine.specs.declared.outcome.Turn.{Turn as CodeTurn}
 use Rattle.mc_machine.specs.Turns.{outcome_value, turn_value}
 use Rattle.mc_card.specs.declared.card.Card.{Card}
-use Rattle.mc_card.specs.Parts.{device_in, card_in, session_state_in, due, with_device, RunsChain}
-use Rattle.mc_card.specs.Ends.{PassedToChain, BeginSteps}
+use Rattle.mc_card.specs.Parts.{device_in, card_in, session_state_in, with_device}
 use Rattle.mc_script.specs.declared.answer.Answer.{Answer}
 use Rattle.mc_script.specs.declared.answer.Answer.TheVariants as answer
 use Rattle.mc_script.specs.declared.armed.Armed.{Armed}
@@ -29,15 +26,13 @@ use Rattle.mc_script.specs.declared.player.Player.{Player}
 use Rattle.mc_script.specs.Players.{LiveIs, IsPlayerAt}
 use Rattle.mc_script.specs.Arming.{answer_after_stop}
 use Rattle.mc_script.specs.StepCounts.{instructions, most_search, command_search, OnlyFirstOpens, first_search, StepsOf, line_search, search_on, search_in, instructions_on, instructions_in, is_stopped, LineSteps}
-use Rattle.mc_script.proofs.TurnLemmas.{is_reported}
-use Rattle.mc_script.proofs.RanLemmas.{end_ends, run_goes}
-use Rattle.mc_script.proofs.CommandLemmas.{command_is, TurnDoes}
+use Rattle.mc_script.proofs.RanLemmas.{end_ends}
 use Rattle.mc_script.proofs.CardLemmas.{session_state_over}
-use Rattle.mc_script.proofs.StepLemmas.{NoneOpens, run_count, passed_begin}
+use Rattle.mc_script.proofs.StepLemmas.{NoneOpens}
 
 -- ---- the count of a run by its first turn
 
-end_count : (n : ℕ) (ch : Chain) (o : _) → (turn_of n ch).follows ≡ Ends o → (run_of_chain n ch).count ≡ (turn_of n ch).count
+pub end_count : (n : ℕ) (ch : Chain) (o : _) → (turn_of n ch).follows ≡ Ends o → (run_of_chain n ch).count ≡ (turn_of n ch).count
 unfolding run_of_chain
 end_count zero ch o e = refl
 end_count (suc n) ch o e = ap (λ (f : Follows). (run_after_turn (turn_of_chain ch) (chain_session ch) f (λ c. run_of_chain n c)).count) e
@@ -46,71 +41,21 @@ goes_count : (n : ℕ) (ch next : Chain) → (turn_of_chain ch).follows ≡ Cont
 unfolding run_of_chain
 goes_count n ch next e = ap (λ (f : Follows). (run_after_turn (turn_of_chain ch) (chain_session ch) f (λ c. run_of_chain n c)).count) e
 
-goes_at : (n left : ℕ) (ch next : Chain) → n ≡ suc left → (turn_of_chain ch).follows ≡ Continues next → (run_of_chain n ch).count ≡ (turn_of n ch).count + (run_of_chain left next).count
+pub goes_at : (n left : ℕ) (ch next : Chain) → n ≡ suc left → (turn_of_chain ch).follows ≡ Continues next → (run_of_chain n ch).count ≡ (turn_of n ch).count + (run_of_chain left next).count
 goes_at n left ch next is e = subst (λ (k : ℕ). (run_of_chain k ch).count ≡ (turn_of k ch).count + (run_of_chain left next).count) (sym is) (goes_count left ch next e)
 
 after_first : (t : Acted) (session : List ℕ) (f : Follows) (rest : Chain → Ran) → t.count ≤ (run_after_turn t session f rest).count
 after_first t session (Ends o) rest = omega arith
 after_first t session (Continues c) rest = omega arith
 
-first_count : (n : ℕ) (ch : Chain) → (turn_of n ch).count ≤ (run_of_chain n ch).count
+pub first_count : (n : ℕ) (ch : Chain) → (turn_of n ch).count ≤ (run_of_chain n ch).count
 unfolding run_of_chain
 first_count zero ch = omega arith
 first_count (suc n) ch = after_first (turn_of_chain ch) (chain_session ch) (turn_of_chain ch).follows (λ c. run_of_chain n c)
 
 -- a turn that ends its chain
-ends_so : (t : Acted) (turn : CodeTurn) (o : Outcome) → t.turn ≡ turn_value turn t.turn.wrote → t.turn.end ≡ end_of t.follows → turn.end ≡ Some o → t.follows ≡ Ends (outcome_value o)
+pub ends_so : (t : Acted) (turn : CodeTurn) (o : Outcome) → t.turn ≡ turn_value turn t.turn.wrote → t.turn.end ≡ end_of t.follows → turn.end ≡ Some o → t.follows ≡ Ends (outcome_value o)
 ends_so t turn o is end e = end_ends t.follows (outcome_value o) (sym end ∙ ap (λ (u : Turn). u.end) is ∙ ap (λ (x : Option Outcome). option_map outcome_value x) e)
-
--- ---- a run turn by turn
-
-module _ {N R : Type 0} (state : N → DeviceState) (wrote : N → ℕ → List ℕ → Ended → N → Type 0)
-    (obeys : (d : N) (at : ℕ) (w : List ℕ) (a : Ended) (e : N) → (state d).on ≡ true → wrote d at w a e → Wrote (state d) at w a (state e))
-    (reported : R → List Turn → R → Type 0) (silent : (r : R) → reported r [] r)
-    (onward : (q r s : R) (ts us : List Turn) → reported q ts r → reported r us s → reported q (ts ++ us) s) where
-  -- a run with the budget that is left brings the count of steps to the given bound
-  pub record StepsLead (bound n : ℕ) (m : Card N) (now : ℕ) : Type 0 where
-    pub chain : Chain
-    pub runs : RunsChain state m chain n
-    pub ahead : now + (run_of_chain n chain).count ≡ bound
-
-  -- the steps of a turn, whichever its chain
-  abbrev pub TurnSteps : Card N → ℕ → ℕ → Type 0
-  TurnSteps m now new = (ch : Chain) (left : ℕ) → RunsChain state m ch left → new ≡ now + (turn_of left ch).count
-
-  pub lead_begin : (c m : Card N) (bytes : List ℕ) (budget old now : ℕ) → PassedToChain state wrote c bytes budget m → BeginSteps (card_in state c) (route bytes) old now → StepsLead (old + instructions (due state c bytes budget).turns) budget m now
-  lead_begin c m bytes budget old now h begun =
-      let s = h.selected in
-      let ch = start (card_in state c).apps s.name s.session h.apdu in
-      let same : now ≡ old = passed_begin (card_in state c) bytes h.apdu old now h.routed begun in
-      let is : instructions (due state c bytes budget).turns ≡ (run_of_chain budget ch).count = ap (λ (k : Command). instructions k.turns) (command_is (card_in state c) (session_state_in state c) bytes budget h.apdu s h.routed h.is) ∙ run_count budget ch in
-      record { chain = ch; runs = h.runs; ahead = omega (arith, same, is) }
-
-  pub lead_stop : (m : Card N) (bound n now new : ℕ) → StepsLead bound n m now → TurnSteps m now new → new ≤ bound
-  lead_stop m bound n now new h steps =
-      let one = steps h.chain n h.runs in
-      let few = first_count n h.chain in
-      let all = h.ahead in
-      omega (arith, one, few, all)
-
-  pub lead_end : (m d : Card N) (bound n now new : ℕ) (turn : CodeTurn) (o : Outcome) → StepsLead bound n m now → TurnDoes state wrote obeys reported silent onward m (Ok turn) d → turn.end ≡ Some o → TurnSteps m now new → new ≡ bound
-  lead_end m d bound n now new turn o h turns end steps =
-      let ch = h.chain in
-      let turned = turns ch n h.runs in
-      let follows = ends_so (turn_of n ch) turn o turned.turn (is_reported n ch).end end in
-      let last = end_count n ch (outcome_value o) follows in
-      let one = steps ch n h.runs in
-      let all = h.ahead in
-      omega (arith, one, last, all)
-
-  pub lead_on : (m d : Card N) (bound n now new : ℕ) (turn : CodeTurn) → StepsLead bound n m now → TurnDoes state wrote obeys reported silent onward m (Ok turn) d → turn.end ≡ None → TurnSteps m now new → (left : ℕ) × (n ≡ suc left) × StepsLead bound left d new
-  lead_on m d bound n now new turn h turns end steps =
-      let ch = h.chain in
-      let goes = run_goes state wrote obeys reported silent onward m d ch n turn (turns ch n h.runs) end in
-      let next = goes_at n goes.left ch goes.next goes.is goes.follows in
-      let one = steps ch n h.runs in
-      let all = h.ahead in
-      (goes.left, goes.is, record { chain = goes.next; runs = goes.runs; ahead = omega (arith, one, next, all) })
 
 -- ---- the commands of a load
 

@@ -5,6 +5,7 @@ pub use Rattle.mc_model_play.specs.Generator
 pub mod Loads
 pub mod Classes
 pub mod Runs
+pub mod Watching
 pub mod Writers
 pub mod Players
 pub mod Counting

@@ -1,6 +1,6 @@
 -- The text of a play, line by line, and the result of writing it.
 use Rattle.std.specs.Prelude.{◌≡◌, ℕ, List, [], ◌++◌, Option, Some, None, Result, Ok, Err, refl}
-use Rattle.std.proofs.Common.{◌∙◌, subst}
+use Rattle.std.proofs.Common.{◌∙◌, ap, subst}
 use Rattle.mc_model_machine.specs.Chain.{Turn}
 use Rattle.mc_model_play.specs.Play.{Step}
 use Rattle.mc_model_play.specs.Transcript.{line_text}
@@ -48,7 +48,21 @@ pub record WriterKeeps {T : Type 0} (sink : Ghosts T) (w : Writer T) (ts : List 
   pub reporting : x.reporting ≡ w.reporting
   pub same : x.out.ghost_name ≡ w.out.ghost_name
 
+-- one writer before and after it wrote something: its sink and what it writes are the same
+pub record IsSameWriter {T : Type 0} (w x : Writer T) : Type 0 where
+  pub reporting : x.reporting ≡ w.reporting
+  pub same : x.out.ghost_name ≡ w.out.ghost_name
+
 -- ---- their laws
+
+pub same_itself : {T : Type 0} (w : Writer T) → IsSameWriter w w
+same_itself w = record { reporting = refl; same = refl }
+
+pub same_after : {T : Type 0} (w x y : Writer T) → IsSameWriter w x → IsSameWriter x y → IsSameWriter w y
+same_after w x y first rest = record { reporting = rest.reporting ∙ first.reporting; same = rest.same ∙ first.same }
+
+pub same_texts : {T : Type 0} (w x : Writer T) → IsSameWriter w x → text_by (turns_text x.reporting) ≡ text_by (turns_text w.reporting)
+same_texts w x h = ap (λ (t : Reporting). text_by (turns_text t)) h.reporting
 
 -- of no turns no line is written
 pub reported_none : (t : Reporting) → [] ≡ reported_turns t []
@@ -79,3 +93,7 @@ module _ {T : Type 0} (sink : Ghosts T) where
         reporting = rest.reporting ∙ first.reporting;
         same = rest.same ∙ first.same;
       }
+
+  -- a writer that recorded turns is the same
+  pub same_kept : (w x : Writer T) (ts : List Turn) → WriterKeeps sink w ts x → IsSameWriter w x
+  same_kept w x ts h = record { reporting = h.reporting; same = h.same }

@@ -5,8 +5,7 @@ ghost use Rattle.mc_model_device.specs.Device.{IsImage};
 ghost use Rattle.mc_model_play.specs.Play.{start};
 ghost use Rattle.mc_model_play.specs.ReadyAgain.{IsLine};
 ghost use Rattle.mc_script.specs.Players.{IsUnfused};
-ghost use Rattle.mc_text.specs.Texts.{sunk};
-ghost use Rattle.mc_script.specs.Writers.{write_result, text_by, turns_text};
+ghost use Rattle.mc_script.specs.Writers.{write_result};
 ghost use Rattle.mc_model_play.specs.Generator.{summary};
 ghost use Rattle.mc_script.specs.Sums.{DumpsLast};
 ghost use Rattle.mc_script.specs.Plays.{plain_text, traced_text, PlaysDeck, SumsDeck};
@@ -14,6 +13,7 @@ ghost use Rattle.mc_script.specs.StepCounts.{CountsFrom, CountsDeck, CountsSum};
 ghost use Rattle.mc_script.specs.Benches.{bench_at};
 
 use crate::player::Player;
+use crate::reporter::Reporter;
 use crate::summing::sum_lines;
 use crate::writer::{Reporting, Writer};
 use mc_base::Steps;
@@ -22,31 +22,33 @@ use mc_nvm::Bench;
 use mc_streams::{Sink, WriteFault};
 use std::sync::ledger::Ledger;
 
-// Plays a deck on a device line by line, up to the first line whose text is not wholly written.
-fn play_lines<N: Bench, T: Sink, L: Ledger>(
+/// Plays a deck on a device before a reporter, up to the first line whose text is not wholly written. That line is
+/// played whole.
+pub fn play_lines<N: Bench, R: Reporter, L: Ledger>(
     deck: &Deck,
     device: N,
-    writer: &mut Writer<'_, T>,
+    reporter: &mut R,
     steps: &mut Steps<L>,
 ) -> N
     requires fuses { IsUnfused (N.bench device) }
-    requires fault { writer.old.fault ≡ None }
-    ensures plays { CountsFrom (text_by (turns_text writer.old.reporting)) (start (N.state device).words) deck.now
-        (bench_at N.Bench device) (sunk T.Sink writer.old.out.now)
-        (write_result writer.new.fault) (bench_at N.Bench result)
-        (sunk T.Sink writer.new.out.now) steps.old steps.new }
+    requires fault { (R.log reporter.old).fault ≡ None }
+    // The lines are the steps of a play, and what is written is their text, as the reporter writes it.
+    ensures plays { CountsFrom (R.text reporter.old) (start (N.state device).words) deck.now
+        (bench_at N.Bench device) (R.log reporter.old).out (write_result (R.log reporter.new).fault)
+        (bench_at N.Bench result) (R.log reporter.new).out steps.old steps.new }
     ensures image { IsImage (N.state device).words }
     ensures lines { AllByRecursion (λ l. IsLine l.1) deck.now }
     ensures keeps_device { N.same device result }
-    ensures same { writer.new.out.ghost_name ≡ writer.old.out.ghost_name }
+    ensures same { R.same reporter.old reporter.new }
 {
     let _words = device.len();
+    let _lines = deck.len();
     let mut player = Player::new(device);
     for i in 0..deck.len() {
         let (number, line) = deck.line(i);
-        let answer = player.line(&line, writer, steps);
-        writer.report(number, &player, &answer);
-        if writer.ended().is_err() {
+        let answer = player.line(&line, reporter, steps);
+        reporter.report(number, &player, &answer);
+        if reporter.ended().is_err() {
             return player.into_dev();
         }
     }

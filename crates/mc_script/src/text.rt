@@ -183,8 +183,8 @@ fn add_number(text: &mut Text, word: &[u8], number: u32)
     add_decimal(text, number);
 }
 
-// Gathers the line of a result: its number, a blank, the result and a line feed.
-fn gather<N: Bench>(text: &mut Text, number: u32, player: &Player<N>, answer: &Answer)
+/// Gathers the line of a result: its number, a blank, the result and a line feed.
+pub fn gather_result<N: Bench>(text: &mut Text, number: u32, player: &Player<N>, answer: &Answer)
     requires playing { IsPlaying N.Bench player.now }
     ensures { text.new.items ≡ line_text number (Some (answer_value N.state player.now answer.now)) }
 {
@@ -210,7 +210,7 @@ pub fn put_answer<N: Bench, T: Sink>(
 {
     match answer {
         Some(answer) => {
-            gather(text, number, player, answer);
+            gather_result(text, number, player, answer);
             put(out, text.as_slice())
         }
         None => Ok(()),

@@ -1,23 +1,22 @@
 // The text of a play, written line by line.
-ghost use Rattle.std.specs.Prelude.{◌≡◌, ◌≤◌, ◌++◌, ◌∷◌, [], ℕ, List, Option, None, IfSome, option_map, is_err};
+ghost use Rattle.std.specs.Prelude.{◌≡◌, ◌≤◌, ◌++◌, ◌∷◌, [], ℕ, List, Option, None, IfSome, option_map};
 ghost use Rattle.mc_model_machine.specs.Chain.{Turn as ModelTurn};
 ghost use Rattle.mc_model_machine.specs.Code.{Shaped};
 ghost use Rattle.mc_model_play.specs.Transcript.{line_text};
 ghost use Rattle.mc_machine.specs.Turns.{turn_value};
-ghost use Rattle.mc_card.specs.Parts.{device_in, card_in, due, IsReadyCard};
-ghost use Rattle.mc_card.specs.Ends.{outcome_or_stop};
 ghost use Rattle.mc_text.specs.Texts.{sunk, Puts};
 ghost use Rattle.mc_script.specs.Players.{answer_value};
 ghost use Rattle.mc_script.specs.Benches.{IsPlaying};
-ghost use Rattle.mc_script.specs.Runs.{RanAndReported};
-ghost use Rattle.mc_script.specs.StepCounts.{instructions, command_search, StepsOf};
-ghost use Rattle.mc_script.specs.Writers.{write_result, turns_text, keeps_none, keeps_on, WriterKeeps};
+ghost use Rattle.mc_script.specs.Watching.{turn_alone};
+ghost use Rattle.mc_script.specs.Writers.{keeps_none, keeps_on, log_in, same_after, same_itself, same_kept, same_texts, text_by, turns_text, write_result, IsSameWriter, WriterKeeps};
 ghost use Rattle.mc_script.specs.declared.writer.Reporting.TheVariants as reporting;
 
 use crate::answer::Answer;
 use crate::player::Player;
+use crate::reporter::Reporter;
 use crate::runner::Runner;
 use crate::text::{Text, put_answer};
+use crate::watching::{Watcher, run_watched};
 use arrayvec::ArrayVec;
 use mc_base::{Steps, Stop};
 use mc_card::{Card, Turn};
@@ -60,9 +59,8 @@ impl<'a, T: Sink> Writer<'a, T> {
         }
     }
 
-    /// Writes the result of a line after the text of the turns that were recorded in it, unless its sink
-    /// failed before.
-    pub fn report<N: Bench>(&mut self, number: u32, player: &Player<N>, answer: &Option<Answer>)
+    // Writes the result of a line after the text of the turns that were recorded in it, unless its sink failed before.
+    fn put_result<N: Bench>(&mut self, number: u32, player: &Player<N>, answer: &Option<Answer>)
         requires playing { IsPlaying N.Bench player.now }
         ensures reports { (before : Writer T) (ts : List ModelTurn) → before.fault ≡ None
             → WriterKeeps T.Sink before ts self.old
@@ -77,8 +75,8 @@ impl<'a, T: Sink> Writer<'a, T> {
         }
     }
 
-    /// Returns `Ok` if all was written, or else the fault of the sink.
-    pub fn ended(&self) -> Result<(), WriteFault>
+    // Returns `Ok` if all was written, or else the fault of the sink.
+    fn written(&self) -> Result<(), WriteFault>
         ensures { result ≡ write_result self.now.fault }
     {
         match self.fault {
@@ -87,55 +85,52 @@ impl<'a, T: Sink> Writer<'a, T> {
         }
     }
 
-    // Writes the line of a turn.
+    // Writes the line of a turn, if lines of turns are written.
     fn report_turn(&mut self, turn: &Turn)
+        requires shaped { IfSome turn.now.ins Shaped }
+        requires low { 1 ≤ turn.now.depth }
+        requires high { turn.now.depth ≤ 4 }
+        ensures { (wrote : Option ℕ) → WriterKeeps T.Sink self.old (turn_value turn.now wrote ∷ []) self.new }
+    {
+        match self.reporting {
+            Reporting::Results => {}
+            Reporting::Turns => self.put_turn(turn),
+        }
+    }
+
+    // Writes the line of a turn.
+    fn put_turn(&mut self, turn: &Turn)
         requires turns { self.old.reporting ≡ reporting.Turns }
         requires shaped { IfSome turn.now.ins Shaped }
         requires low { 1 ≤ turn.now.depth }
         requires high { turn.now.depth ≤ 4 }
-        ensures reports { (wrote : Option ℕ)
-            → WriterKeeps T.Sink self.old (turn_value turn.now wrote ∷ []) self.new }
+        ensures { (wrote : Option ℕ) → WriterKeeps T.Sink self.old (turn_value turn.now wrote ∷ []) self.new }
     {
         if self.fault.is_none() {
             self.fault = put(self.out, line_of(turn).as_slice()).err();
         }
     }
+}
 
-    // Runs a command turn by turn, and writes the line of each turn.
-    fn run_reported<N: Nvm, L: Ledger>(
+impl<'a, T: Sink> Watcher for Writer<'a, T> {
+    ghost Seen = { ModelTurn };
+
+    ghost seen = { turn_alone };
+
+    ghost watched = { WriterKeeps T.Sink };
+
+    ghost silent = { keeps_none T.Sink };
+
+    ghost onward = { keeps_on T.Sink };
+
+    fn turn<N: Nvm, L: Ledger>(
         &mut self,
         card: &mut Card<N>,
-        bytes: &[u8],
-        budget: u32,
-        into: &mut Outcome,
         steps: &mut Steps<L>,
-    ) -> Result<(), Stop>
-        requires turns { self.old.reporting ≡ reporting.Turns }
-        requires ready { IsReadyCard N.state card.old }
-        requires some { 1 ≤ budget }
-        requires budget { budget ≤ 65536 }
-        ensures done { RanAndReported N.state N.wrote (WriterKeeps T.Sink) card.old
-            (due N.state card.old bytes.now budget) (outcome_or_stop result into.new) card.new self.old self.new }
-        ensures steps { StepsOf (instructions (due N.state card.old bytes.now budget).turns)
-            (command_search (card_in N.state card.old) bytes.now) (is_err result) steps.old steps.new }
-        ensures keeps_device { N.same (device_in card.old) (device_in card.new) }
-    {
-        if let Some(outcome) = card.begin(bytes, budget, steps)? {
-            *into = outcome;
-            return Ok(());
-        }
-        for _turn in 0..budget {
-            let turn = card.turn(steps)?;
-            self.report_turn(&turn);
-            if let Some(outcome) = turn.end {
-                *into = outcome;
-                return Ok(());
-            }
-        }
+    ) -> Result<Turn, Stop> {
         let turn = card.turn(steps)?;
         self.report_turn(&turn);
-        *into = turn.end.unwrap();
-        Ok(())
+        Ok(turn)
     }
 }
 
@@ -156,7 +151,31 @@ impl<'a, T: Sink> Runner for Writer<'a, T> {
     ) -> Result<(), Stop> {
         match self.reporting {
             Reporting::Results => card.command_into(bytes, budget, into, steps),
-            Reporting::Turns => self.run_reported(card, bytes, budget, into, steps),
+            Reporting::Turns => run_watched(self, card, bytes, budget, into, steps),
         }
+    }
+}
+
+impl<'a, T: Sink> Reporter for Writer<'a, T> {
+    ghost text = { λ w. text_by (turns_text w.reporting) };
+
+    ghost log = { log_in T.Sink };
+
+    ghost same = { IsSameWriter };
+
+    ghost records = { λ c q r ts h. same_kept T.Sink q r ts h };
+
+    ghost itself = { same_itself };
+
+    ghost after = { same_after };
+
+    ghost texts = { same_texts };
+
+    fn report<N: Bench>(&mut self, number: u32, player: &Player<N>, answer: &Option<Answer>) {
+        self.put_result(number, player, answer);
+    }
+
+    fn ended(&self) -> Result<(), WriteFault> {
+        self.written()
     }
 }

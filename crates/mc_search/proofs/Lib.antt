@@ -1,4 +1,5 @@
 mod PlayerLemmas
+mod CountedLines
 mod MoveLemmas
 mod RestoreLemmas
 mod RestoringLemmas

@@ -1,5 +1,6 @@
 pub mod Reports
 pub mod Playing
+pub mod Counters
 pub mod Shown
 pub mod Trying
 pub mod Benches

@@ -4,6 +4,7 @@
 //! its device writes, and finds the first that breaks a rule of the deck's comments.
 
 mod beginning;
+mod counter;
 mod endings;
 mod journey;
 mod making;

@@ -21,10 +21,10 @@ ghost use Rattle.mc_key.specs.Shown.{IsKeptBase, IsShown, ShowsSome};
 ghost use Rattle.mc_search.specs.Shown.{settled_play};
 ghost use Rattle.mc_search.specs.Trying.{CanCut, CountsWrite, armed_for, is_off_answer, is_missed, TriedAs};
 
+use crate::counter::play_counted;
 use crate::journey::{Fill, Manner};
 use crate::playing::{Budget, play};
 use mc_base::{NoMemory, Steps};
-use mc_counter::play_counted;
 use mc_deck::Line;
 use mc_nvm::Bench;
 use mc_rules::{Move, OnRule};

@@ -1,11 +1,19 @@
-use Rattle.std.proofs.Common.{rules}
+use Rattle.std.proofs.Common.{◌≡◌, rules}
+use Rattle.mc_text.specs.Texts.{sunk}
+use Rattle.mc_script.specs.StepCounts.{CountsFrom}
+use Rattle.mc_script.specs.Writers.{text_by, turns_text, write_result}
 use Rattle.mc_script.proofs.LawLemmas.{play_deck, deck_of}
 use Rattle.mc_script.proofs.playing.play.Goals as goal
 
 pub returns : goal.returns
 returns g c =
-    let plays = rw (c.new-writer.ensures.reporting, c.new-writer.ensures.out) at c.play_lines-dev.ensures.plays in
+    let e = c.play_lines-dev.ensures in
+    let same = e.same.same in
+    let last = c.play_lines-dev.new.reporter in
+    let ended : c.ended.result ≡ write_result last.fault = c.ended.ensures in
+    let from : CountsFrom (text_by (turns_text c.new-writer.result.reporting)) _ _ _ (sunk g.T.Sink c.new-writer.result.out.now) (write_result last.fault) _ (sunk g.T.Sink last.out.now) _ _ = e.plays in
+    let plays = rw (c.new-writer.ensures.reporting, c.new-writer.ensures.out) at from in
     record {
-      plays = deck_of _ _ _ _ _ _ _ _ _ (play_deck _ _ _ _ _ _ _ _ _ _ _ _ plays c.play_lines-dev.ensures.image c.play_lines-dev.ensures.lines (search rules) (search rules) (search rules) (search rules) (search rules));
-      steps = play_deck _ _ _ _ _ _ _ _ _ _ _ _ plays c.play_lines-dev.ensures.image c.play_lines-dev.ensures.lines (search rules) (search rules) (search rules) (search rules) (search rules);
+      plays = deck_of _ _ _ _ _ _ _ _ _ (play_deck _ _ _ _ _ _ _ _ _ _ _ _ plays e.image e.lines (search (rules, same, ended)) (search (rules, same, ended)) (search (rules, same, ended)) (search (rules, same, ended)) (search (rules, same, ended)));
+      steps = play_deck _ _ _ _ _ _ _ _ _ _ _ _ plays e.image e.lines (search (rules, same, ended)) (search (rules, same, ended)) (search (rules, same, ended)) (search (rules, same, ended)) (search (rules, same, ended));
     }
