@@ -1,5 +1,5 @@
 -- The turns of a line are those of its runs.
-use Rattle.std.proofs.Common.{◌≡◌, ℕ, zero, suc, Bool, true, false, List, [], ◌∷◌, ◌++◌, Option, Some, None, refl, sym, ap, subst, ◌∙◌}
+use Rattle.std.proofs.Common.{◌≡◌, ℕ, zero, suc, Bool, true, false, List, [], ◌∷◌, ◌++◌, Option, Some, None, refl, sym, ap, subst, ◌∙◌, inl}
 use Rattle.std.proofs.lemmas.List.{map-append, append-nil}
 use Rattle.mc_model_machine.specs.Apdu.{ApduParts}
 use Rattle.mc_model_device.specs.Card.{Card}
@@ -9,11 +9,12 @@ use Rattle.mc_model_card.specs.Manager.{Selected, SessionState, Route, WrongLeng
 use Rattle.mc_model_play.specs.DeckGrammar.{DeckLine}
 use Rattle.mc_model_play.specs.DeckGrammar as line
 use Rattle.mc_model_play.specs.Laws.{bytes_of}
-use Rattle.mc_model_play.specs.Play.{FailedWrite, Live, Running, Unpowered, Muted, Warm, State, BeforePower, AfterPower, Armed, is_done, send, command_with_rest, line_command, card_line, after_power_step, before_power_step, step, select_bytes, delete_bytes}
+use Rattle.mc_model_play.specs.Play.{FailedWrite, Live, Running, Unpowered, Muted, State, BeforePower, AfterPower, is_done, send, command_with_rest, line_command, step, select_bytes, delete_bytes, Step}
 use Rattle.mc_model_device.specs.PowerUp.{Base, OnCard, AtFault}
 use Rattle.mc_model_card.specs.Commands.{Command, command, manager_command, application_command, by_route}
 use Rattle.mc_model_play.proofs.PlayLemmas.{step_is}
 use Rattle.mc_check.specs.Turns.{turns_on, turns_from, turns_passed, turns_routed, turns_behind, turns_sent, turns_taken, turns_in, turns_with, bare}
+use Rattle.mc_model_play.proofs.LineKinds.{IsUnheard, StepKind, Early, Quiet, Powers, Sends, by_kind, unheard_bytes}
 
 -- ---- runs
 
@@ -74,40 +75,27 @@ one_reported c session_state budget b = last_reported (is_done (command c sessio
 -- ---- lines
 
 line_reported : (c : Card) (session_state : SessionState) (budget : ℕ) (l : DeckLine) → bare (turns_sent c session_state budget (bytes_of l)) ≡ (line_command c session_state budget l).turns
-line_reported c session_state budget (line.Select n) = one_reported c session_state budget (select_bytes n)
-line_reported c session_state budget (line.Delete n) = one_reported c session_state budget (delete_bytes n)
-line_reported c session_state budget (line.Apdu b) = one_reported c session_state budget b
-line_reported c session_state budget (line.Load u fixed session) = sent_reported c session_state budget (bytes_of (line.Load u fixed session))
+line_reported c session_state budget (line.Sent (line.Select n)) = one_reported c session_state budget (select_bytes n)
+line_reported c session_state budget (line.Sent (line.Delete n)) = one_reported c session_state budget (delete_bytes n)
+line_reported c session_state budget (line.Sent (line.Apdu b)) = one_reported c session_state budget b
+line_reported c session_state budget (line.Sent (line.Load u fixed session)) = sent_reported c session_state budget (bytes_of (line.Sent (line.Load u fixed session)))
 line_reported c session_state budget _ = refl
 
-none_taken : (v : Live) (b : Base) (budget : ℕ) → bare (turns_taken v b budget []) ≡ []
-none_taken (Running session_state) (OnCard c) budget = refl
-none_taken (Running session_state) (AtFault cause p) budget = refl
-none_taken Unpowered b budget = refl
-none_taken Muted b budget = refl
+none_taken : (v : Live) (b : Base) (budget : ℕ) (l : DeckLine) → IsUnheard l v b → bare (turns_taken v b budget (bytes_of l)) ≡ []
+none_taken (Running session_state) (OnCard c) budget l h = ap (λ (bs : List (List ℕ)). bare (turns_sent c session_state budget bs)) (unheard_bytes l c session_state h)
+none_taken (Running session_state) (AtFault cause p) budget l h = refl
+none_taken Unpowered b budget l h = refl
+none_taken Muted b budget l h = refl
 
--- a line that is played by what runs
-card_reported : (n : ℕ) (l : DeckLine) (s : Warm) (v : Live) (b : Base) (w : Option FailedWrite) → bare (turns_taken v b s.budget (bytes_of l)) ≡ (card_line n l s v b w).turns
-card_reported n l s (Running session_state) (OnCard c) w = line_reported c session_state s.budget l
-card_reported n l s (Running session_state) (AtFault cause p) w = refl
-card_reported n l s Unpowered b w = refl
-card_reported n l s Muted b w = refl
-
-after_power_reported : (n : ℕ) (l : DeckLine) (s : Warm) (w : Option FailedWrite) → bare (turns_in (AfterPower s) (bytes_of l)) ≡ (after_power_step n l s w).turns
-after_power_reported n (line.Load u fixed session) s w = card_reported n (line.Load u fixed session) s s.live s.base w
-after_power_reported n (line.Select a) s w = card_reported n (line.Select a) s s.live s.base w
-after_power_reported n (line.Delete a) s w = card_reported n (line.Delete a) s s.live s.base w
-after_power_reported n (line.Apdu b) s w = card_reported n (line.Apdu b) s s.live s.base w
-after_power_reported n _ s w = none_taken s.live s.base s.budget
-
-before_power_reported : (n : ℕ) (l : DeckLine) (m : List (List ℕ)) (b : ℕ) (a : Armed) (w : Option FailedWrite) → bare (turns_in (BeforePower m b a) (bytes_of l)) ≡ (before_power_step n l m b a w).turns
-before_power_reported n line.Format m b a w = refl
-before_power_reported n _ m b a w = refl
+kind_reported : {w : Option FailedWrite} {z : State} {n : ℕ} {l : DeckLine} {u : Step} → StepKind w z n l u → bare (turns_in z (bytes_of l)) ≡ u.turns
+kind_reported (Early p) = refl
+kind_reported (Quiet {l = l} {s = s} p h) = none_taken s.live s.base s.budget l h
+kind_reported (Powers (BeforePower m b a)) = refl
+kind_reported (Powers (AfterPower s)) = none_taken s.live s.base s.budget line.Power (inl refl)
+kind_reported (Sends {g = g} k c session_state) = line_reported c session_state g (line.Sent k)
 
 step_reported : (s : State) (l : ℕ × DeckLine) (w : Option FailedWrite) → bare (turns_in s (bytes_of l.1)) ≡ (step s l w).turns
-unfolding step
-step_reported (BeforePower m b a) l w = before_power_reported l.0 l.1 m b a w
-step_reported (AfterPower s) l w = after_power_reported l.0 l.1 s w
+step_reported s l w = kind_reported (by_kind s l w)
 
 -- the turns of a line are those of the runs that begin in the state before it
 pub line_reports : (s : State) (l : ℕ × DeckLine) (w : Option FailedWrite) → bare (turns_with (step s l w)) ≡ (step s l w).turns

@@ -2,21 +2,19 @@
 use Rattle.std.proofs.Common.{◌≡◌, ℕ, zero, suc, List, [], ◌∷◌, take, drop, Option, Some, None, sym, subst}
 use Rattle.std.specs.List.{AllByRecursion}
 use Rattle.mc_model_device.specs.Card.{App, Card}
-use Rattle.mc_model_device.specs.Image.{Journal}
-use Rattle.mc_model_device.specs.PowerUp.{Base, OnCard, AtFault}
 use Rattle.mc_model_machine.specs.Apdu.{ApduParts}
 use Rattle.mc_model_card.specs.Manager.{Selected, SessionState, Route, WrongLength, WrongClass, ToSelect, ToManager, ToApplication, route, select, manage, room_on}
 use Rattle.mc_model_card.specs.Commands.{application_command, by_route, command}
 use Rattle.mc_model_play.specs.DeckGrammar.{DeckLine}
 use Rattle.mc_model_play.specs.DeckGrammar as line
 use Rattle.mc_model_play.specs.Given.{apps_in}
-use Rattle.mc_model_play.specs.Play.{Armed, Live, Running, Unpowered, Muted, Warm, State, BeforePower, AfterPower, Step, FailedWrite, line_command, card_line, after_power_step, before_power_step, step, plays, first_failure, select_bytes, delete_bytes, load_commands}
-use Rattle.mc_family.proofs.AfterPowerLines.{past_power}
+use Rattle.mc_model_play.specs.Play.{State, Step, FailedWrite, line_command, step, plays, first_failure, select_bytes, delete_bytes, load_commands}
 use Rattle.mc_family.proofs.LoadCommands.{load_managers, delete_manager}
 use Rattle.mc_closed.specs.Delegations.{CanCall}
 use Rattle.mc_closed.specs.Laws.{EachCallerCan}
 use Rattle.mc_closed.proofs.Runs.{runs_law}
 use Rattle.mc_closed.proofs.Commands.{managed_none, command_none, sent_none}
+use Rattle.mc_model_play.proofs.LineKinds.{StepKind, Early, Quiet, Powers, Sends, by_kind}
 
 abbrev Callers : List (List ℕ × App) → List (List ℕ × List ℕ) → Type 0
 Callers m = AllByRecursion (λ p. CanCall m p.0)
@@ -40,10 +38,10 @@ unfolding command
 command_call c session_state b budget = routed_call c session_state budget (route b)
 
 line_call : (c : Card) (session_state : SessionState) (budget : ℕ) (l : DeckLine) → Callers c.apps (line_command c session_state budget l).pairs
-line_call c session_state budget (line.Select n) = command_call c session_state (select_bytes n) budget
-line_call c session_state budget (line.Apdu b) = command_call c session_state b budget
-line_call c session_state budget (line.Delete n) = none_call c.apps _ (command_none c session_state (delete_bytes n) budget (delete_manager n))
-line_call c session_state budget (line.Load u fixed session) = none_call c.apps _ (sent_none c session_state budget (load_commands u fixed session) (load_managers u fixed session))
+line_call c session_state budget (line.Sent (line.Select n)) = command_call c session_state (select_bytes n) budget
+line_call c session_state budget (line.Sent (line.Apdu b)) = command_call c session_state b budget
+line_call c session_state budget (line.Sent (line.Delete n)) = none_call c.apps _ (command_none c session_state (delete_bytes n) budget (delete_manager n))
+line_call c session_state budget (line.Sent (line.Load u fixed session)) = none_call c.apps _ (sent_none c session_state budget (load_commands u fixed session) (load_managers u fixed session))
 line_call c session_state budget _ = tt
 
 -- ---- lines
@@ -51,27 +49,14 @@ line_call c session_state budget _ = tt
 abbrev StepCalls : Step → Type 0
 StepCalls t = Callers (apps_in t.before) t.pairs
 
-card_call : (n : ℕ) (l : DeckLine) (b : Base) (o : ℕ) (j : Journal) (v : Live) (g : ℕ) (a : Armed) (w : Option FailedWrite) → StepCalls (card_line n l (past_power b o j v g a) v b w)
-card_call n l (OnCard c) o j (Running session_state) g a w = line_call c session_state g l
-card_call n l (AtFault cause p) o j (Running session_state) g a w = tt
-card_call n l b o j Unpowered g a w = tt
-card_call n l b o j Muted g a w = tt
-
-after_power_call : (n : ℕ) (l : DeckLine) (s : Warm) (w : Option FailedWrite) → StepCalls (after_power_step n l s w)
-after_power_call n (line.Load u fixed session) s w = card_call n (line.Load u fixed session) s.base s.owed s.by s.live s.budget s.armed w
-after_power_call n (line.Select x) s w = card_call n (line.Select x) s.base s.owed s.by s.live s.budget s.armed w
-after_power_call n (line.Delete x) s w = card_call n (line.Delete x) s.base s.owed s.by s.live s.budget s.armed w
-after_power_call n (line.Apdu x) s w = card_call n (line.Apdu x) s.base s.owed s.by s.live s.budget s.armed w
-after_power_call n _ s w = tt
-
-before_power_call : (n : ℕ) (l : DeckLine) (m : List (List ℕ)) (b : ℕ) (a : Armed) (w : Option FailedWrite) → StepCalls (before_power_step n l m b a w)
-before_power_call n line.Power m b a w = tt
-before_power_call n _ m b a w = tt
+kind_call : {w : Option FailedWrite} {z : State} {n : ℕ} {l : DeckLine} {u : Step} → StepKind w z n l u → StepCalls u
+kind_call (Early p) = tt
+kind_call (Quiet p q) = tt
+kind_call (Powers z) = tt
+kind_call (Sends {g = g} k c session_state) = line_call c session_state g (line.Sent k)
 
 step_call : (z : State) (l : ℕ × DeckLine) (w : Option FailedWrite) → StepCalls (step z l w)
-unfolding step
-step_call (BeforePower m b a) l w = before_power_call l.0 l.1 m b a w
-step_call (AfterPower s) l w = after_power_call l.0 l.1 s w
+step_call z l w = kind_call (by_kind z l w)
 
 -- for every front of a play from any state
 pub plays_law : (n : ℕ) (z : State) (ls : List (ℕ × DeckLine)) (ws : List (Option FailedWrite)) → EachCallerCan (take n (plays z ls ws))

@@ -97,8 +97,8 @@ sent_none c session_state budget (b ∷ bs) h =
 -- ---- the commands of a line
 
 pub line_pairs : (K : List (List ℕ)) (c : Card) (session_state : SessionState) (budget : ℕ) (l : DeckLine) → NoneOutsideCan K c.apps → PairsOf K (is_own_command K (Running session_state) (command_of l)) (line_command c session_state budget l).pairs
-line_pairs K c session_state budget (line.Select n) h = command_pairs K c session_state (select_bytes n) budget h
-line_pairs K c session_state budget (line.Apdu b) h = command_pairs K c session_state b budget h
-line_pairs K c session_state budget (line.Delete n) h = no_pairs K false _ (command_none c session_state (delete_bytes n) budget (delete_manager n))
-line_pairs K c session_state budget (line.Load u fixed session) h = no_pairs K false _ (sent_none c session_state budget (load_commands u fixed session) (load_managers u fixed session))
+line_pairs K c session_state budget (line.Sent (line.Select n)) h = command_pairs K c session_state (select_bytes n) budget h
+line_pairs K c session_state budget (line.Sent (line.Apdu b)) h = command_pairs K c session_state b budget h
+line_pairs K c session_state budget (line.Sent (line.Delete n)) h = no_pairs K false _ (command_none c session_state (delete_bytes n) budget (delete_manager n))
+line_pairs K c session_state budget (line.Sent (line.Load u fixed session)) h = no_pairs K false _ (sent_none c session_state budget (load_commands u fixed session) (load_managers u fixed session))
 line_pairs K c session_state budget _ h = no_pairs K false [] refl

@@ -5,7 +5,7 @@ use Rattle.std.specs.List.{AllByRecursion}
 use Rattle.mc_model_device.specs.Bytes.{has_name, lookup, insert}
 use Rattle.mc_model_device.specs.Card.{App, Card}
 use Rattle.mc_model_device.specs.Image.{Journal}
-use Rattle.mc_model_device.specs.PowerUp.{Base, OnCard, AtFault}
+use Rattle.mc_model_device.specs.PowerUp.{OnCard}
 use Rattle.mc_model_device.proofs.MapLemmas.{each_found, each_inserted, each_removed}
 use Rattle.mc_model_machine.specs.Chain.{with_pieces, changed_app}
 use Rattle.mc_model_card.specs.Items.{Fixed, Created, Deleted, Item, Plain, Atomic, moves, apps_after_change, apps_after_items, StopAt, at_stop}
@@ -15,12 +15,13 @@ use Rattle.mc_model_play.specs.DeckGrammar as line
 use Rattle.mc_model_play.specs.Family.{ClosedPairs, Closed, routes_in, selects_in, command_of, live_in, is_own_command, is_own}
 use Rattle.mc_model_play.specs.Given.{apps_on, apps_in, is_power, first_apps}
 use Rattle.mc_model_play.specs.Laws.{creations_among}
-use Rattle.mc_model_play.specs.Play.{Armed, Live, Running, Unpowered, Muted, Warm, State, BeforePower, AfterPower, Step, FailedWrite, hit_of, power_moves, command_step, line_command, card_line, after_power_step, before_power_step, step, plays, first_failure, start}
-use Rattle.mc_family.proofs.AfterPowerLines.{past_power, powered}
+use Rattle.mc_model_play.specs.Play.{Armed, Live, Running, Unpowered, Muted, Warm, State, BeforePower, AfterPower, Step, FailedWrite, hit_of, power_moves, command_step, line_command, step, plays, first_failure, start}
+use Rattle.mc_family.proofs.AfterPowerLines.{powered}
 use Rattle.mc_family.proofs.PlayLaw.{isolation_law}
 use Rattle.mc_closed.specs.Delegations.{can_delegate, NoneOutsideCan}
 use Rattle.mc_closed.specs.Laws.{front_of_play, NoneNewCan, NoPairs, OwnPairsStay, ClosedByCodeLaw}
 use Rattle.mc_closed.proofs.Commands.{PairsOf, no_pairs, line_pairs}
+use Rattle.mc_model_play.proofs.LineKinds.{past_power, StepKind, Early, Quiet, Powers, Sends, by_kind}
 
 -- whether the first power line was played
 abbrev IsAfterPower : State → Type 0
@@ -64,21 +65,13 @@ command_calls K n l c o j session_state g a (Some t) h =
     let r = line_command c session_state g l in
     record { pairs = line_pairs K c session_state g l h; next = λ new. items_can K c.apps (at_stop r.items t.at t.left).whole h new; after = tt }
 
-card_calls : (K : List (List ℕ)) (n : ℕ) (l : DeckLine) (b : Base) (o : ℕ) (j : Journal) (v : Live) (g : ℕ) (a : Armed) (w : Option FailedWrite) → NoneOutsideCan K (apps_on b) → LineCalls K (card_line n l (past_power b o j v g a) v b w)
-card_calls K n l (OnCard c) o j (Running session_state) g a w h = command_calls K n l c o j session_state g a (hit_of a (moves (line_command c session_state g l).items) w) h
-card_calls K n l (AtFault cause p) o j (Running session_state) g a w h = record { pairs = no_pairs K _ [] refl; next = λ new. h; after = tt }
-card_calls K n l b o j Unpowered g a w h = record { pairs = no_pairs K _ [] refl; next = λ new. h; after = tt }
-card_calls K n l b o j Muted g a w h = record { pairs = no_pairs K _ [] refl; next = λ new. h; after = tt }
-
-after_power_calls : (K : List (List ℕ)) (n : ℕ) (l : DeckLine) (s : Warm) (w : Option FailedWrite) → NoneOutsideCan K (apps_on s.base) → LineCalls K (after_power_step n l s w)
-after_power_calls K n line.Power s w h =
-    let t = hit_of s.armed (power_moves s) w in
+kind_calls : {w : Option FailedWrite} {s : Warm} {n : ℕ} {l : DeckLine} {u : Step} (K : List (List ℕ)) → StepKind w (AfterPower s) n l u → NoneOutsideCan K (apps_on s.base) → LineCalls K u
+kind_calls K (Quiet p q) h = record { pairs = no_pairs K _ [] refl; next = λ new. h; after = tt }
+kind_calls K (Powers (AfterPower s)) h =
+    let t = hit_of s.armed (power_moves s) _ in
     record { pairs = no_pairs K _ [] refl; next = λ new. subst (NoneOutsideCan K) (sym (powered K s t).map) h; after = tt }
-after_power_calls K n (line.Load u fixed session) s w h = card_calls K n (line.Load u fixed session) s.base s.owed s.by s.live s.budget s.armed w h
-after_power_calls K n (line.Select x) s w h = card_calls K n (line.Select x) s.base s.owed s.by s.live s.budget s.armed w h
-after_power_calls K n (line.Delete x) s w h = card_calls K n (line.Delete x) s.base s.owed s.by s.live s.budget s.armed w h
-after_power_calls K n (line.Apdu x) s w h = card_calls K n (line.Apdu x) s.base s.owed s.by s.live s.budget s.armed w h
-after_power_calls K n _ s w h = record { pairs = no_pairs K _ [] refl; next = λ new. h; after = tt }
+kind_calls {w} K (Sends {n = n} {o = o} {g = g} {j = j} {a = a} k c session_state) h =
+    command_calls K n (line.Sent k) c o j session_state g a (hit_of a (moves (line_command c session_state g (line.Sent k)).items) w) h
 
 -- ---- a line before it, or that line
 
@@ -92,9 +85,11 @@ record LineFinds (u : Step) : Type 0 where
   none : u.pairs ≡ []
   after : IsAfterPower u.after
 
-before_power_calls : (n : ℕ) (l : DeckLine) (m : List (List ℕ)) (b : ℕ) (a : Armed) (w : Option FailedWrite) → LineWaits (before_power_step n l m b a w) ⊎ LineFinds (before_power_step n l m b a w)
-before_power_calls n line.Power m b a w = inr (record { power = refl; none = refl; after = tt })
-before_power_calls n _ m b a w = inl (record { power = refl; none = refl; before = tt })
+kind_finds : {w : Option FailedWrite} {z : State} {n : ℕ} {l : DeckLine} {u : Step} → StepKind w z n l u → IsBeforePower z → LineWaits u ⊎ LineFinds u
+kind_finds (Early p) before = inl (record { power = p; none = refl; before = tt })
+kind_finds (Quiet p q) before = absurd before
+kind_finds (Powers z) before = inr (record { power = refl; none = refl; after = tt })
+kind_finds (Sends k c session_state) before = absurd before
 
 -- ---- all lines
 
@@ -103,14 +98,11 @@ EachCalls K [] = ⊤
 EachCalls K (t ∷ ts) = PairsOf K (is_own K t) t.pairs × EachCalls K ts
 
 step_calls : (K : List (List ℕ)) (z : State) (l : ℕ × DeckLine) (w : Option FailedWrite) → IsAfterPower z → NoneOutsideCan K (apps_in z) → LineCalls K (step z l w)
-unfolding step
 step_calls K (BeforePower m b a) l w after h = absurd after
-step_calls K (AfterPower s) l w after h = after_power_calls K l.0 l.1 s w h
+step_calls K (AfterPower s) l w after h = kind_calls K (by_kind (AfterPower s) l w) h
 
 step_finds : (z : State) (l : ℕ × DeckLine) (w : Option FailedWrite) → IsBeforePower z → LineWaits (step z l w) ⊎ LineFinds (step z l w)
-unfolding step
-step_finds (BeforePower m b a) l w before = before_power_calls l.0 l.1 m b a w
-step_finds (AfterPower s) l w before = absurd before
+step_finds z l w before = kind_finds (by_kind z l w) before
 
 each_after : (K : List (List ℕ)) (n : ℕ) (ls : List (ℕ × DeckLine)) (ws : List (Option FailedWrite)) (z : State) → IsAfterPower z → NoneOutsideCan K (apps_in z) → NoneNewCan K (take n (plays z ls ws)) → EachCalls K (take n (plays z ls ws))
 unfolding plays

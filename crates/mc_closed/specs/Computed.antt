@@ -60,8 +60,8 @@ caller =
 -- these two are loaded, selected and sent a command in turn
 abbrev pub lines_of : UnitParts → UnitParts → List (ℕ × DeckLine)
 lines_of u v =
-    (1, line.Format) ∷ (2, line.Power) ∷ (3, line.Load u 6 0) ∷ (4, line.Load v 6 0) ∷ (5, line.Select first) ∷ (6, count)
-    ∷ (7, line.Select second) ∷ (8, count) ∷ []
+    (1, line.Format) ∷ (2, line.Power) ∷ (3, line.Sent (line.Load u 6 0)) ∷ (4, line.Sent (line.Load v 6 0)) ∷ (5, line.Sent (line.Select first)) ∷ (6, count)
+    ∷ (7, line.Sent (line.Select second)) ∷ (8, count) ∷ []
 
 -- the play of two applications
 unfoldable pub steps_of : UnitParts → UnitParts → List Step

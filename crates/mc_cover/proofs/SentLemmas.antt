@@ -88,18 +88,11 @@ module _ {N : Type 0} (state : N → DeviceState) (bench : N → BenchState) whe
   AreSent p s l = (turns_of_line_in s l ≡ sent_turns (sent_by state p l)) ⊎ (turns_of_line_in s l ≡ [])
 
   on_card : (p : Player N) (budget : ℕ) (l : DeckLine) → p.budget ≡ budget → let all = turns_of_live (Running (session_state_in state p.card)) (OnCard (card_in state p.card)) budget l in (all ≡ sent_turns (sent_by state p l)) ⊎ (all ≡ [])
-  on_card p budget (line.Select n) e = inl (ap (λ (k : ℕ). turns_of_command (card_in state p.card) (session_state_in state p.card) (select_bytes n) k) (sym e))
-  on_card p budget (line.Delete n) e = inl (ap (λ (k : ℕ). turns_of_command (card_in state p.card) (session_state_in state p.card) (delete_bytes n) k) (sym e))
-  on_card p budget (line.Apdu b) e = inl (ap (λ (k : ℕ). turns_of_command (card_in state p.card) (session_state_in state p.card) b k) (sym e))
-  on_card p budget (line.Load u fixed session) e = inr (commands_none (card_in state p.card) (session_state_in state p.card) budget (load_commands u fixed session) (load_managed u fixed session))
-  on_card p budget line.Format e = inr refl
-  on_card p budget (line.Poke at x) e = inr refl
-  on_card p budget line.Named e = inr refl
-  on_card p budget (line.Budget b) e = inr refl
-  on_card p budget (line.Cut k x) e = inr refl
-  on_card p budget (line.Fail k) e = inr refl
-  on_card p budget (line.Dump a) e = inr refl
-  on_card p budget line.Power e = inr refl
+  on_card p budget (line.Sent (line.Select n)) e = inl (ap (λ (k : ℕ). turns_of_command (card_in state p.card) (session_state_in state p.card) (select_bytes n) k) (sym e))
+  on_card p budget (line.Sent (line.Delete n)) e = inl (ap (λ (k : ℕ). turns_of_command (card_in state p.card) (session_state_in state p.card) (delete_bytes n) k) (sym e))
+  on_card p budget (line.Sent (line.Apdu b)) e = inl (ap (λ (k : ℕ). turns_of_command (card_in state p.card) (session_state_in state p.card) b k) (sym e))
+  on_card p budget (line.Sent (line.Load u fixed session)) e = inr (commands_none (card_in state p.card) (session_state_in state p.card) budget (load_commands u fixed session) (load_managed u fixed session))
+  on_card p budget _ e = inr refl
 
   by_live : (p : Player N) (budget : ℕ) (l : DeckLine) (x : Power) (base : Base) (live : Live) → LiveIs state x p.card base live → p.budget ≡ budget → (turns_of_live live base budget l ≡ sent_turns (sent_by state p l)) ⊎ (turns_of_live live base budget l ≡ [])
   by_live p budget l power.BeforePower base live h e = absurd h

@@ -5,7 +5,7 @@ use Rattle.std.specs.List.{AllByRecursion}
 use Rattle.std.proofs.lemmas.Bool.{and_parts, ltb-true}
 use Rattle.mc_model_device.specs.Bytes.{AreBytes, bytes}
 use Rattle.mc_model_text.specs.Text.{with_numbers, every}
-use Rattle.mc_model_play.specs.DeckGrammar.{DeckLine, Power, Load, Select, Delete, Apdu}
+use Rattle.mc_model_play.specs.DeckGrammar.{DeckLine, Power, Sent, Load, Select, Delete, Apdu}
 use Rattle.mc_model_play.specs.Generator.{command, next, draw, turns, line_of, opening_lines, closing_lines, cut_line, purse_line, deck_of_number, counter, purse, relay, counter_aid, purse_aid, relay_aid}
 use Rattle.mc_model_play.specs.ReadyAgain.{IsLine}
 use Rattle.mc_model_device.proofs.ImageLemmas.{all_append}
@@ -22,13 +22,13 @@ number_bytes : (n v : ℕ) → AreBytes (bytes n v)
 number_bytes zero v = tt
 number_bytes (suc n) v = (remainder (v / 256 ^ n), number_bytes n v)
 
-loads_counter : IsLine (Load counter 2 0)
+loads_counter : IsLine (Sent (Load counter 2 0))
 loads_counter = (low counter.code refl, low counter.init refl, low counter.dir refl, low counter.fci refl)
 
-loads_purse : IsLine (Load purse 10 0)
+loads_purse : IsLine (Sent (Load purse 10 0))
 loads_purse = (low purse.code refl, low purse.init refl, low purse.dir refl, low purse.fci refl)
 
-loads_relay : IsLine (Load relay 6 0)
+loads_relay : IsLine (Sent (Load relay 6 0))
 loads_relay = (low relay.code refl, low relay.init refl, low relay.dir refl, low relay.fci refl)
 
 commands : (ins : ℕ) (number : List ℕ) → ins < 256 → AreBytes number → IsLine (command ins number)
@@ -39,15 +39,15 @@ pick true x y g h = g
 pick false x y g h = h
 
 purse_line_bytes : (q : ℕ) → IsLine (purse_line q)
-purse_line_bytes q = pick (q % 4 == 0) (Delete purse_aid) (cond (q % 4 == 1) (Load purse 10 0) Power) (low purse_aid refl) (pick (q % 4 == 1) (Load purse 10 0) Power loads_purse tt)
+purse_line_bytes q = pick (q % 4 == 0) (Sent (Delete purse_aid)) (cond (q % 4 == 1) (Sent (Load purse 10 0)) Power) (low purse_aid refl) (pick (q % 4 == 1) (Sent (Load purse 10 0)) Power loads_purse tt)
 
 line_bytes : (r q : ℕ) → IsLine (line_of r q)
 line_bytes r q =
-    pick (r % 16 == 0) (Select counter_aid) _ (low counter_aid refl)
-    (pick (r % 16 == 1) (Select relay_aid) _ (low relay_aid refl)
-    (pick (r % 16 == 2) (Select purse_aid) _ (low purse_aid refl)
+    pick (r % 16 == 0) (Sent (Select counter_aid)) _ (low counter_aid refl)
+    (pick (r % 16 == 1) (Sent (Select relay_aid)) _ (low relay_aid refl)
+    (pick (r % 16 == 2) (Sent (Select purse_aid)) _ (low purse_aid refl)
     (pick (r % 16 == 3) Power _ tt
-    (pick (nat_lt (r % 16) 9) (Apdu (0x80 ∷ 1 ∷ 0 ∷ 0 ∷ 2 ∷ [])) _ (low (0x80 ∷ 1 ∷ 0 ∷ 0 ∷ 2 ∷ []) refl)
+    (pick (nat_lt (r % 16) 9) (Sent (Apdu (0x80 ∷ 1 ∷ 0 ∷ 0 ∷ 2 ∷ []))) _ (low (0x80 ∷ 1 ∷ 0 ∷ 0 ∷ 2 ∷ []) refl)
     (pick (nat_lt (r % 16) 11) (command 0x30 (bytes 4 q)) _ (commands 0x30 (bytes 4 q) (omega arith) (number_bytes 4 q))
     (pick (nat_lt (r % 16) 13) (command 0x40 (bytes 4 q)) _ (commands 0x40 (bytes 4 q) (omega arith) (number_bytes 4 q))
     (pick (r % 16 == 13) (command 0x50 []) _ (commands 0x50 [] (omega arith) tt)

@@ -4,7 +4,7 @@ use Rattle.std.specs.Prelude.{nat_lt}
 use Rattle.std.specs.List.{AllByRecursion}
 use Rattle.mc_model_device.specs.Bytes.{bytes, zeros}
 use Rattle.mc_model_text.specs.Text.{with_numbers}
-use Rattle.mc_model_play.specs.DeckGrammar.{DeckLine, Format, Power, Named, Load, Select, Delete, Dump, Apdu, made_unit}
+use Rattle.mc_model_play.specs.DeckGrammar.{DeckLine, Format, Power, Named, Sent, Load, Select, Delete, Dump, Apdu, made_unit}
 use Rattle.mc_model_play.specs.Generator.{command, next, draw, turns, line_of, opening_lines, closing_lines, opening_word, cut_line, purse_line, deck_of_number, counter, purse, relay, counter_aid, purse_aid, relay_aid}
 use Rattle.mc_unit.proofs.Made.{made_name}
 use Rattle.mc_deck.specs.declared.line.OwnedLine.{OwnedLine}
@@ -86,8 +86,8 @@ relay_good = made_good relay_aid relay.code relay.init (omega arith) (omega arit
 
 purse_line_good : (q : ℕ) → GoodTurn (purse_line q)
 purse_line_good q =
-    pick (q % 4 == 0) (Delete purse_aid) (cond (q % 4 == 1) (Load purse 10 0) Power) ((omega arith, omega arith), λ p. tt)
-    (pick (q % 4 == 1) (Load purse 10 0) Power ((purse_good, omega arith, omega arith), λ p. tt) (tt, λ p. tt))
+    pick (q % 4 == 0) (Sent (Delete purse_aid)) (cond (q % 4 == 1) (Sent (Load purse 10 0)) Power) ((omega arith, omega arith), λ p. tt)
+    (pick (q % 4 == 1) (Sent (Load purse 10 0)) Power ((purse_good, omega arith, omega arith), λ p. tt) (tt, λ p. tt))
 
 cut_line_good : (q : ℕ) → GoodTurn (cut_line q)
 cut_line_good q = (((omega arith, omega arith), fill_len (q / 12 % 2 == 1)), λ p. tt)
@@ -95,13 +95,13 @@ cut_line_good q = (((omega arith, omega arith), fill_len (q / 12 % 2 == 1)), λ 
 line_good : (r q : ℕ) → GoodTurn (line_of r q)
 line_good r q =
     let power : GoodTurn Power = (tt, λ p. tt) in
-    let count : GoodTurn (Apdu (0x80 ∷ 1 ∷ 0 ∷ 0 ∷ 2 ∷ [])) = (omega arith, λ p. tt) in
+    let count : GoodTurn (Sent (Apdu (0x80 ∷ 1 ∷ 0 ∷ 0 ∷ 2 ∷ []))) = (omega arith, λ p. tt) in
     let credit : GoodTurn (command 0x30 (bytes 4 q)) = (omega arith, λ p. tt) in
     let debit : GoodTurn (command 0x40 (bytes 4 q)) = (omega arith, λ p. tt) in
     let balance : GoodTurn (command 0x50 []) = (omega arith, λ p. tt) in
-    let first : GoodTurn (Select counter_aid) = ((omega arith, omega arith), λ p. tt) in
-    let second : GoodTurn (Select relay_aid) = ((omega arith, omega arith), λ p. tt) in
-    let third : GoodTurn (Select purse_aid) = ((omega arith, omega arith), λ p. tt) in
+    let first : GoodTurn (Sent (Select counter_aid)) = ((omega arith, omega arith), λ p. tt) in
+    let second : GoodTurn (Sent (Select relay_aid)) = ((omega arith, omega arith), λ p. tt) in
+    let third : GoodTurn (Sent (Select purse_aid)) = ((omega arith, omega arith), λ p. tt) in
     pick (r % 16 == 0) _ _ first
     (pick (r % 16 == 1) _ _ second
     (pick (r % 16 == 2) _ _ third
@@ -130,7 +130,7 @@ good_times p n (l ∷ ls) g = ((g.0).1 p, good_times (is_powered_after_line p l)
 
 -- the lines after the first
 abbrev behind_first : ℕ → List DeckLine
-behind_first n = Power ∷ Named ∷ Named ∷ Named ∷ Load counter 2 0 ∷ Load purse 10 0 ∷ Load relay 6 0 ∷ (turns 4000 n ++ closing_lines)
+behind_first n = Power ∷ Named ∷ Named ∷ Named ∷ Sent (Load counter 2 0) ∷ Sent (Load purse 10 0) ∷ Sent (Load relay 6 0) ∷ (turns 4000 n ++ closing_lines)
 
 behind_good : (n : ℕ) → AllByRecursion GoodTurn (behind_first n)
 behind_good n =
@@ -139,9 +139,9 @@ behind_good n =
     let dump_third : GoodTurn (Dump relay_aid) = ((omega arith, omega arith), λ p. tt) in
     let plain : GoodTurn Power = (tt, λ p. tt) in
     let named : GoodTurn Named = (tt, λ p. tt) in
-    let first : GoodTurn (Load counter 2 0) = ((counter_good, omega arith, omega arith), λ p. tt) in
-    let second : GoodTurn (Load purse 10 0) = ((purse_good, omega arith, omega arith), λ p. tt) in
-    let third : GoodTurn (Load relay 6 0) = ((relay_good, omega arith, omega arith), λ p. tt) in
+    let first : GoodTurn (Sent (Load counter 2 0)) = ((counter_good, omega arith, omega arith), λ p. tt) in
+    let second : GoodTurn (Sent (Load purse 10 0)) = ((purse_good, omega arith, omega arith), λ p. tt) in
+    let third : GoodTurn (Sent (Load relay 6 0)) = ((relay_good, omega arith, omega arith), λ p. tt) in
     let dumps : AllByRecursion GoodTurn closing_lines = (plain, (dump, (dump_second, (dump_third, tt)))) in
     (plain, (named, (named, (named, (first, (second, (third, both_good (turns 4000 n) closing_lines (turns_good 4000 n) dumps)))))))
 

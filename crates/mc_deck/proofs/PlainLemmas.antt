@@ -3,7 +3,7 @@ use Rattle.std.proofs.Common.{◌≡◌, ℕ, ◌<◌, true, List, [], ◌∷◌
 use Rattle.std.specs.Prelude.{not, option_and_then, ok_or}
 use Rattle.mc_model_text.specs.Text.{hex_value, hex_values, before_values, bytes_of_digits, every, is_blank, fields}
 use Rattle.mc_model_play.specs.declared.deck.DeckCause.TheVariants.{BadHex}
-use Rattle.mc_model_play.specs.DeckGrammar.{Context, Says, Apdu, hex_field, statement_of}
+use Rattle.mc_model_play.specs.DeckGrammar.{Context, Says, Sent, Apdu, hex_field, statement_of}
 use Rattle.mc_asm.proofs.CleanLemmas.{pieces_none}
 use Rattle.mc_deck.specs.Readers.{line_stated}
 
@@ -33,10 +33,10 @@ plain_fields : (t : List ℕ) → 0 < length t → every (λ c. not (is_blank c)
 plain_fields [] l e = absurd (omega (arith, l))
 plain_fields (c ∷ t) l e = rw (pieces_none is_blank (c ∷ t) e) refl
 
-plain_word : (c : Context) (n : ℕ) (t bs : List ℕ) → hex_field t ≡ Ok bs → line_stated c n ((97 ∷ 112 ∷ 100 ∷ 117 ∷ []) ∷ t ∷ []) ≡ Ok (Some (Says (Apdu bs) c))
+plain_word : (c : Context) (n : ℕ) (t bs : List ℕ) → hex_field t ≡ Ok bs → line_stated c n ((97 ∷ 112 ∷ 100 ∷ 117 ∷ []) ∷ t ∷ []) ≡ Ok (Some (Says (Sent (Apdu bs)) c))
 unfolding statement_of
 plain_word c n t bs h = rw h refl
 
 -- such a line is a command
-pub plain_stated : (c : Context) (n : ℕ) (l t bs : List ℕ) → l ≡ 97 ∷ 112 ∷ 100 ∷ 117 ∷ 32 ∷ t → hex_field t ≡ Ok bs → 0 < length t → line_stated c n (fields l) ≡ Ok (Some (Says (Apdu bs) c))
+pub plain_stated : (c : Context) (n : ℕ) (l t bs : List ℕ) → l ≡ 97 ∷ 112 ∷ 100 ∷ 117 ∷ 32 ∷ t → hex_field t ≡ Ok bs → 0 < length t → line_stated c n (fields l) ≡ Ok (Some (Says (Sent (Apdu bs)) c))
 plain_stated c n l t bs e h s = ap (λ l. line_stated c n (fields l)) e ∙ ap (line_stated c n) (plain_fields t s (field_solid t bs (hex_values t) refl h)) ∙ plain_word c n t bs h

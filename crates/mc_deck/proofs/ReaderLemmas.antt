@@ -123,7 +123,7 @@ stands_power m us p ls ks c n e s = rw e (record {
 -- ---- one more unit
 
 said_grow : (us : List OwnedUnit) (u : OwnedUnit) (l : OwnedLine) → UnitWithin (length us) l → grammar_line (us ++ u ∷ []) l ≡ grammar_line us l
-said_grow us u (OwnedLine.Load i fixed session) h = ap (λ v. DeckGrammar.Load v fixed session) (unit_front us u i h)
+said_grow us u (OwnedLine.Load i fixed session) h = ap (λ v. DeckGrammar.Sent (DeckGrammar.Load v fixed session)) (unit_front us u i h)
 said_grow us u _ h = refl
 
 lines_grow : (us : List OwnedUnit) (u : OwnedUnit) (ls : List (ℕ × OwnedLine)) → AllByRecursion (λ l. UnitWithin (length us) l.1) ls → said_lines (us ++ u ∷ []) ls ≡ said_lines us ls

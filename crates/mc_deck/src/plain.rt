@@ -1,7 +1,7 @@
 // Commands as nearly all decks write them.
 ghost use Rattle.std.specs.Prelude.{◌≡◌, ◌<◌, ◌∷◌, ℕ, length, Ok, Some, IfSome};
 ghost use Rattle.mc_model_text.specs.Text.{fields};
-ghost use Rattle.mc_model_play.specs.DeckGrammar.{Apdu, Context, Says};
+ghost use Rattle.mc_model_play.specs.DeckGrammar.{Sent, Apdu, Context, Says};
 ghost use Rattle.mc_deck.specs.Readers.{line_stated};
 
 use crate::bytes::ShortBytes;
@@ -23,7 +23,7 @@ fn behind_word(text: &[u8]) -> Option<&[u8]>
 pub fn plain_command(text: &[u8]) -> Option<ShortBytes>
     ensures some { IfSome result (λ b. 0 < length b) }
     ensures value { (c : Context) (n : ℕ)
-        → IfSome result (λ b. line_stated c n (fields text.now) ≡ Ok (Some (Says (Apdu b) c))) }
+        → IfSome result (λ b. line_stated c n (fields text.now) ≡ Ok (Some (Says (Sent (Apdu b)) c))) }
 {
     let hex = behind_word(text)?;
     if hex.is_empty() || hex.len() > SHORT_DIGITS {

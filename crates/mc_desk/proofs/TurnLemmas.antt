@@ -80,32 +80,15 @@ quiet_turns Unpowered base budget l h = refl
 quiet_turns Muted base budget l h = refl
 
 after_power_turns : (n : ℕ) (l : DeckLine) (s : Warm) (w : Option FailedWrite) → turns_of (turns_of_live s.live s.base s.budget l) ≡ (after_power_step n l s w).turns
-after_power_turns n line.Format s w = quiet_turns s.live s.base s.budget line.Format (λ c session_state. refl)
-after_power_turns n (line.Poke at x) s w = quiet_turns s.live s.base s.budget (line.Poke at x) (λ c session_state. refl)
-after_power_turns n line.Named s w = quiet_turns s.live s.base s.budget line.Named (λ c session_state. refl)
-after_power_turns n (line.Budget b) s w = quiet_turns s.live s.base s.budget (line.Budget b) (λ c session_state. refl)
-after_power_turns n (line.Cut k x) s w = quiet_turns s.live s.base s.budget (line.Cut k x) (λ c session_state. refl)
-after_power_turns n (line.Fail k) s w = quiet_turns s.live s.base s.budget (line.Fail k) (λ c session_state. refl)
-after_power_turns n (line.Dump a) s w = quiet_turns s.live s.base s.budget (line.Dump a) (λ c session_state. refl)
-after_power_turns n line.Power s w = quiet_turns s.live s.base s.budget line.Power (λ c session_state. refl)
-after_power_turns n (line.Load u fixed session) s w = live_turns n (line.Load u fixed session) s s.live s.base w (λ c session_state. send_turns c session_state s.budget (load_commands u fixed session))
-after_power_turns n (line.Select a) s w = live_turns n (line.Select a) s s.live s.base w (λ c session_state. command_turns c session_state (select_bytes a) s.budget)
-after_power_turns n (line.Delete a) s w = live_turns n (line.Delete a) s s.live s.base w (λ c session_state. command_turns c session_state (delete_bytes a) s.budget)
-after_power_turns n (line.Apdu b) s w = live_turns n (line.Apdu b) s s.live s.base w (λ c session_state. command_turns c session_state b s.budget)
+after_power_turns n (line.Sent (line.Load u fixed session)) s w = live_turns n (line.Sent (line.Load u fixed session)) s s.live s.base w (λ c session_state. send_turns c session_state s.budget (load_commands u fixed session))
+after_power_turns n (line.Sent (line.Select a)) s w = live_turns n (line.Sent (line.Select a)) s s.live s.base w (λ c session_state. command_turns c session_state (select_bytes a) s.budget)
+after_power_turns n (line.Sent (line.Delete a)) s w = live_turns n (line.Sent (line.Delete a)) s s.live s.base w (λ c session_state. command_turns c session_state (delete_bytes a) s.budget)
+after_power_turns n (line.Sent (line.Apdu b)) s w = live_turns n (line.Sent (line.Apdu b)) s s.live s.base w (λ c session_state. command_turns c session_state b s.budget)
+after_power_turns n l s w = quiet_turns s.live s.base s.budget l (λ c session_state. refl)
 
 before_power_turns : (n : ℕ) (l : DeckLine) (m : List (List ℕ)) (b : ℕ) (a : Armed) (w : Option FailedWrite) → [] ≡ (before_power_step n l m b a w).turns
 before_power_turns n line.Format m b a w = refl
-before_power_turns n (line.Poke at x) m b a w = refl
-before_power_turns n line.Named m b a w = refl
-before_power_turns n (line.Budget c) m b a w = refl
-before_power_turns n (line.Cut k x) m b a w = refl
-before_power_turns n (line.Fail k) m b a w = refl
-before_power_turns n (line.Dump x) m b a w = refl
-before_power_turns n line.Power m b a w = refl
-before_power_turns n (line.Load u fixed session) m b a w = refl
-before_power_turns n (line.Select x) m b a w = refl
-before_power_turns n (line.Delete x) m b a w = refl
-before_power_turns n (line.Apdu x) m b a w = refl
+before_power_turns n _ m b a w = refl
 
 -- the turns of a line are those of its step
 pub step_turns : (s : State) (l : ℕ × DeckLine) (w : Option FailedWrite) → turns_of (turns_of_line_in s l.1) ≡ (step s l w).turns

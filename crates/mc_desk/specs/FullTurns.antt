@@ -147,10 +147,10 @@ turns_of_commands c session_state budget (b ∷ bs) =
 
 -- the turns of a line of a running card
 abbrev pub turns_of_line : Card → SessionState → ℕ → DeckLine → List FullTurn
-turns_of_line c session_state budget (line.Select n) = turns_of_command c session_state (select_bytes n) budget
-turns_of_line c session_state budget (line.Delete n) = turns_of_command c session_state (delete_bytes n) budget
-turns_of_line c session_state budget (line.Apdu b) = turns_of_command c session_state b budget
-turns_of_line c session_state budget (line.Load u fixed session) = turns_of_commands c session_state budget (load_commands u fixed session)
+turns_of_line c session_state budget (line.Sent (line.Select n)) = turns_of_command c session_state (select_bytes n) budget
+turns_of_line c session_state budget (line.Sent (line.Delete n)) = turns_of_command c session_state (delete_bytes n) budget
+turns_of_line c session_state budget (line.Sent (line.Apdu b)) = turns_of_command c session_state b budget
+turns_of_line c session_state budget (line.Sent (line.Load u fixed session)) = turns_of_commands c session_state budget (load_commands u fixed session)
 turns_of_line c session_state budget _ = []
 
 -- the turns of a line where a card runs

@@ -10,8 +10,7 @@ use Rattle.mc_model_device.specs.PowerUp.{Base, OnCard, AtFault, migration, base
 use Rattle.mc_model_card.specs.Items.{Item, moves, StopAt, at_stop, card_done}
 use Rattle.mc_model_card.specs.Manager.{SessionState}
 use Rattle.mc_model_card.specs.Commands.{Command}
-use Rattle.mc_model_card.specs.Units.{UnitParts}
-use Rattle.mc_model_play.specs.DeckGrammar.{DeckLine}
+use Rattle.mc_model_play.specs.DeckGrammar.{DeckLine, DeckCommand}
 use Rattle.mc_model_play.specs.DeckGrammar as line
 use Rattle.mc_model_play.specs.Play.{Armed, Unarmed, ArmedCut, Live, Running, Unpowered, Muted, Warm, State, AfterPower, Step, step, is_card_line, moves_of, power_result, power_live, power_after, power_step, card_line, command_step, line_command, stopped_line}
 use Rattle.mc_model_play.specs.Family.{is_running}
@@ -21,6 +20,7 @@ use Rattle.mc_explore.specs.Tries.{Manner, Whole, CutAt, manners, writes_of, nex
 use Rattle.mc_explore.specs.Safety.{Among, after_cuts, recovery_with, CanMake, ShowsSame, IsFill, DoesSame, IsSettled, FillLaw}
 use Rattle.mc_explore.proofs.Recoveries.{state_by, cuts_heal, whole_power, states_equal}
 use Rattle.mc_explore.proofs.Fills.{OpenAlike, whole_same, fill_for, cuts_among}
+use Rattle.mc_model_play.proofs.LineKinds.{past_power}
 
 -- ---- plays that agree with a state
 
@@ -42,9 +42,6 @@ pub record Agrees (s : State) (c : CardState) : Type 0 where
   pub budget : warm.budget ≡ c.budget
   pub unarmed : warm.armed ≡ Unarmed
   pub started : IsStarted c.live c.base warm.owed
-
-abbrev pub past_power : Base → ℕ → Journal → Live → ℕ → Armed → Warm
-past_power b o j v g a = record { base = b; owed = o; by = j; live = v; budget = g; armed = a }
 
 -- a play by the parts of its state
 pub warm_is : (s : Warm) (b : Base) (v : Live) (g : ℕ) → s.base ≡ b → s.live ≡ v → s.budget ≡ g → s.armed ≡ Unarmed → s ≡ past_power b s.owed s.by v g Unarmed
@@ -157,21 +154,9 @@ record IsCommand (n : ℕ) (t : List ℕ) (l : DeckLine) : Type 0 where
   cut : (s : Warm) (k : ℕ) (x : List ℕ) → step_of (AfterPower s) (move_by n t l) (CutAt k x) ≡ card_line n l (record s { armed = ArmedCut k x }) s.live s.base None
   writes : (s : Warm) → writes_of (AfterPower s) (move_by n t l) ≡ moves (card_line n l s s.live s.base None).items
 
-load_command : (n : ℕ) (t : List ℕ) (u : UnitParts) (f e : ℕ) → IsCommand n t (line.Load u f e)
+sent_command : (n : ℕ) (t : List ℕ) (sent : DeckCommand) → IsCommand n t (line.Sent sent)
 unfolding step moves_of
-load_command n t u f e = record { whole = λ s. refl; cut = λ s k x. refl; writes = λ s. omega arith }
-
-select_command : (n : ℕ) (t : List ℕ) (d : List ℕ) → IsCommand n t (line.Select d)
-unfolding step moves_of
-select_command n t d = record { whole = λ s. refl; cut = λ s k x. refl; writes = λ s. omega arith }
-
-delete_command : (n : ℕ) (t : List ℕ) (d : List ℕ) → IsCommand n t (line.Delete d)
-unfolding step moves_of
-delete_command n t d = record { whole = λ s. refl; cut = λ s k x. refl; writes = λ s. omega arith }
-
-apdu_command : (n : ℕ) (t : List ℕ) (d : List ℕ) → IsCommand n t (line.Apdu d)
-unfolding step moves_of
-apdu_command n t d = record { whole = λ s. refl; cut = λ s k x. refl; writes = λ s. omega arith }
+sent_command n t sent = record { whole = λ s. refl; cut = λ s k x. refl; writes = λ s. omega arith }
 
 -- ---- done in a play and in its state
 
@@ -320,29 +305,20 @@ power_filled n t b o j Muted g k x h can = absurd (cc can.0)
 line_done : (n : ℕ) (t : List ℕ) (l : DeckLine) (b : Base) (o : ℕ) (j : Journal) (v : Live) (g : ℕ) (a : List (List ℕ × ℕ)) (w : Manner) (cs : List (ℕ × List ℕ)) (y : List ℕ) → is_card_line l ≡ true
     → FillsAlike w y → IsStarted v b o → CanMake (AfterPower (past_power b o j v g Unarmed)) (move_by n t l) w → IsDone (AfterPower (past_power b o j v g Unarmed)) (state_by b v g a) (move_by n t l) w cs y
 line_done n t line.Power b o j v g a w cs y is alike h can = power_done n t b o j v g a w cs y h can
-line_done n t (line.Load u f e) b o j v g a w cs y is alike h can = command_done n t (line.Load u f e) (load_command n t u f e) b o j v g a w cs y alike h can
-line_done n t (line.Select d) b o j v g a w cs y is alike h can = command_done n t (line.Select d) (select_command n t d) b o j v g a w cs y alike h can
-line_done n t (line.Delete d) b o j v g a w cs y is alike h can = command_done n t (line.Delete d) (delete_command n t d) b o j v g a w cs y alike h can
-line_done n t (line.Apdu d) b o j v g a w cs y is alike h can = command_done n t (line.Apdu d) (apdu_command n t d) b o j v g a w cs y alike h can
+line_done n t (line.Sent sent) b o j v g a w cs y is alike h can = command_done n t (line.Sent sent) (sent_command n t sent) b o j v g a w cs y alike h can
 line_done n t _ b o j v g a w cs y is alike h can = absurd (cc is)
 
 line_can : (n : ℕ) (t : List ℕ) (l : DeckLine) (b : Base) (o : ℕ) (j : Journal) (v : Live) (g : ℕ) (w : Manner) → is_card_line l ≡ true → IsStarted v b o
     → CanMake (AfterPower (past_power b o j v g Unarmed)) (move_by n t l) w → CanMake (AfterPower (past_power b 0 Two v g Unarmed)) (move_by n t l) w
 line_can n t line.Power b o j v g w is h can = power_can n t b o j v g w h can
-line_can n t (line.Load u f e) b o j v g w is h can = command_can n t (line.Load u f e) (load_command n t u f e) b o j v g w can
-line_can n t (line.Select d) b o j v g w is h can = command_can n t (line.Select d) (select_command n t d) b o j v g w can
-line_can n t (line.Delete d) b o j v g w is h can = command_can n t (line.Delete d) (delete_command n t d) b o j v g w can
-line_can n t (line.Apdu d) b o j v g w is h can = command_can n t (line.Apdu d) (apdu_command n t d) b o j v g w can
+line_can n t (line.Sent sent) b o j v g w is h can = command_can n t (line.Sent sent) (sent_command n t sent) b o j v g w can
 line_can n t _ b o j v g w is h can = absurd (cc is)
 
 -- the writes of a move on a running card are those of the state
 line_writes : (n : ℕ) (t : List ℕ) (l : DeckLine) (c : Card) (o : ℕ) (j : Journal) (session_state : SessionState) (g : ℕ) → is_card_line l ≡ true → (o ≡ 0) × (c.layout ≡ 2)
     → writes_of (AfterPower (past_power (OnCard c) o j (Running session_state) g Unarmed)) (move_by n t l) ≡ writes_of (AfterPower (past_power (OnCard c) 0 Two (Running session_state) g Unarmed)) (move_by n t l)
 line_writes n t line.Power c o j session_state g is h = power_none n t c o j session_state g h ∙ sym (power_none n t c 0 Two session_state g (refl, h.1))
-line_writes n t (line.Load u f e) c o j session_state g is h = let cmd = load_command n t u f e in cmd.writes (past_power (OnCard c) o j (Running session_state) g Unarmed) ∙ sym (cmd.writes (past_power (OnCard c) 0 Two (Running session_state) g Unarmed))
-line_writes n t (line.Select d) c o j session_state g is h = let cmd = select_command n t d in cmd.writes (past_power (OnCard c) o j (Running session_state) g Unarmed) ∙ sym (cmd.writes (past_power (OnCard c) 0 Two (Running session_state) g Unarmed))
-line_writes n t (line.Delete d) c o j session_state g is h = let cmd = delete_command n t d in cmd.writes (past_power (OnCard c) o j (Running session_state) g Unarmed) ∙ sym (cmd.writes (past_power (OnCard c) 0 Two (Running session_state) g Unarmed))
-line_writes n t (line.Apdu d) c o j session_state g is h = let cmd = apdu_command n t d in cmd.writes (past_power (OnCard c) o j (Running session_state) g Unarmed) ∙ sym (cmd.writes (past_power (OnCard c) 0 Two (Running session_state) g Unarmed))
+line_writes n t (line.Sent sent) c o j session_state g is h = let cmd = sent_command n t sent in cmd.writes (past_power (OnCard c) o j (Running session_state) g Unarmed) ∙ sym (cmd.writes (past_power (OnCard c) 0 Two (Running session_state) g Unarmed))
 line_writes n t _ c o j session_state g is h = absurd (cc is)
 
 -- of a running card, started or not at all
@@ -408,10 +384,7 @@ action_tried s c m (CutAt k x) cs is h can =
 line_filled : (n : ℕ) (t : List ℕ) (l : DeckLine) (b : Base) (o : ℕ) (j : Journal) (v : Live) (g k : ℕ) (x : List ℕ) → is_card_line l ≡ true → IsSettled v b o
     → CanMake (AfterPower (past_power b o j v g Unarmed)) (move_by n t l) (CutAt k x) → (y : List ℕ) × IsFill y × DoesSame (AfterPower (past_power b o j v g Unarmed)) (move_by n t l) k x y
 line_filled n t line.Power b o j v g k x is h can = power_filled n t b o j v g k x h can
-line_filled n t (line.Load u f e) b o j v g k x is h can = command_filled n t (line.Load u f e) (load_command n t u f e) b o j v g k x h can
-line_filled n t (line.Select d) b o j v g k x is h can = command_filled n t (line.Select d) (select_command n t d) b o j v g k x h can
-line_filled n t (line.Delete d) b o j v g k x is h can = command_filled n t (line.Delete d) (delete_command n t d) b o j v g k x h can
-line_filled n t (line.Apdu d) b o j v g k x is h can = command_filled n t (line.Apdu d) (apdu_command n t d) b o j v g k x h can
+line_filled n t (line.Sent sent) b o j v g k x is h can = command_filled n t (line.Sent sent) (sent_command n t sent) b o j v g k x h can
 line_filled n t _ b o j v g k x is h can = absurd (cc is)
 
 pub fill_law : FillLaw

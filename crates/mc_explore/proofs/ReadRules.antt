@@ -25,15 +25,15 @@ IsCardLine l = is_card_line l ≡ true
 abbrev powered : Context
 powered = record { units = []; powered = true }
 
-select_line : (x : Result (List ℕ) DeckCause) → IfGoesOn IsCardLine (ok_as (λ a. Says (line.Select a) powered) x >>= line_stated)
+select_line : (x : Result (List ℕ) DeckCause) → IfGoesOn IsCardLine (ok_as (λ a. Says (line.Sent (line.Select a)) powered) x >>= line_stated)
 select_line (Ok a) = refl
 select_line (Err e) = tt
 
-delete_line : (x : Result (List ℕ) DeckCause) → IfGoesOn IsCardLine (ok_as (λ a. Says (line.Delete a) powered) x >>= line_stated)
+delete_line : (x : Result (List ℕ) DeckCause) → IfGoesOn IsCardLine (ok_as (λ a. Says (line.Sent (line.Delete a)) powered) x >>= line_stated)
 delete_line (Ok a) = refl
 delete_line (Err e) = tt
 
-apdu_line : (x : Result (List ℕ) DeckCause) → IfGoesOn IsCardLine (ok_as (λ a. Says (line.Apdu a) powered) x >>= line_stated)
+apdu_line : (x : Result (List ℕ) DeckCause) → IfGoesOn IsCardLine (ok_as (λ a. Says (line.Sent (line.Apdu a)) powered) x >>= line_stated)
 apdu_line (Ok a) = refl
 apdu_line (Err e) = tt
 

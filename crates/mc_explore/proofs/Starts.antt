@@ -11,12 +11,13 @@ use Rattle.mc_model_card.specs.Items.{moves, StopAt}
 use Rattle.mc_model_card.specs.Commands.{Command}
 use Rattle.mc_model_play.specs.DeckGrammar.{DeckLine}
 use Rattle.mc_model_play.specs.DeckGrammar as line
-use Rattle.mc_model_play.specs.Play.{Armed, Unarmed, Live, Running, Unpowered, Muted, Warm, State, BeforePower, AfterPower, FailedWrite, step, after_power_step, before_power_step, card_line, command_step, line_command, hit_of, live_after, power_live, power_after, power_moves, stopped_power, play_at_power, start, plays, steady_failures, first_failure, last_state}
+use Rattle.mc_model_play.specs.Play.{Armed, Unarmed, Live, Running, Unpowered, Muted, Warm, State, BeforePower, AfterPower, FailedWrite, step, command_step, line_command, hit_of, live_after, power_live, power_after, stopped_power, play_at_power, start, plays, steady_failures, first_failure, last_state, Step}
 use Rattle.mc_explore.specs.Rules.{Exploration}
 use Rattle.mc_explore.specs.States.{warm_in, play_of_deck, first_warm, first_play}
 use Rattle.mc_explore.specs.Search.{first_state}
 use Rattle.mc_explore.specs.Safety.{IsSettled, FirstLaw}
-use Rattle.mc_explore.proofs.Actions.{IsStarted, Agrees, past_power}
+use Rattle.mc_explore.proofs.Actions.{IsStarted, Agrees}
+use Rattle.mc_model_play.proofs.LineKinds.{past_power, found_by_power, StepKind, Early, Quiet, Powers, Sends, by_kind}
 
 -- the running card of a play is settled
 abbrev Settles : State → Type 0
@@ -44,47 +45,16 @@ command_settles : (n : ℕ) (l : DeckLine) (c : Card) (o : ℕ) (j : Journal) (v
 command_settles n l c o j v g a r None h = h
 command_settles n l c o j v g a r (Some t) h = stopped_settles t.kind _ _
 
-card_line_settles : (n : ℕ) (l : DeckLine) (b : Base) (o : ℕ) (j : Journal) (v : Live) (g : ℕ) (a : Armed) (w : Option FailedWrite) → IsSettled v b o
-    → Settles (card_line n l (past_power b o j v g a) v b w).after
-card_line_settles n l (OnCard c) o j (Running session_state) g a w h =
-    let r = line_command c session_state g l in
-    command_settles n l c o j (Running session_state) g a r (hit_of a (moves r.items) w) h
-card_line_settles n l (AtFault cause place) o j (Running session_state) g a w h = absurd h
-card_line_settles n l b o j Unpowered g a w h = tt
-card_line_settles n l b o j Muted g a w h = tt
-
-after_power_settles : (n : ℕ) (l : DeckLine) (s : Warm) (w : Option FailedWrite) → Settles (AfterPower s) → Settles (after_power_step n l s w).after
-after_power_settles n line.Format s w h = h
-after_power_settles n (line.Poke at x) s w h = h
-after_power_settles n line.Named s w h = h
-after_power_settles n (line.Budget b) s w h = h
-after_power_settles n (line.Cut k x) s w h = h
-after_power_settles n (line.Fail k) s w h = h
-after_power_settles n (line.Dump a) s w h = h
-after_power_settles n line.Power s w h = power_settles s (hit_of s.armed (power_moves s) w)
-after_power_settles n (line.Load u f e) s w h = card_line_settles n (line.Load u f e) s.base s.owed s.by s.live s.budget s.armed w h
-after_power_settles n (line.Select a) s w h = card_line_settles n (line.Select a) s.base s.owed s.by s.live s.budget s.armed w h
-after_power_settles n (line.Delete a) s w h = card_line_settles n (line.Delete a) s.base s.owed s.by s.live s.budget s.armed w h
-after_power_settles n (line.Apdu a) s w h = card_line_settles n (line.Apdu a) s.base s.owed s.by s.live s.budget s.armed w h
-
-before_power_settles : (n : ℕ) (l : DeckLine) (m : List (List ℕ)) (b : ℕ) (a : Armed) (w : Option FailedWrite) → Settles (before_power_step n l m b a w).after
-before_power_settles n line.Power m b a w = power_settles (play_at_power m b a) (hit_of a (power_moves (play_at_power m b a)) w)
-before_power_settles n line.Format m b a w = tt
-before_power_settles n (line.Poke at x) m b a w = tt
-before_power_settles n line.Named m b a w = tt
-before_power_settles n (line.Budget c) m b a w = tt
-before_power_settles n (line.Cut k x) m b a w = tt
-before_power_settles n (line.Fail k) m b a w = tt
-before_power_settles n (line.Dump x) m b a w = tt
-before_power_settles n (line.Load u f e) m b a w = tt
-before_power_settles n (line.Select x) m b a w = tt
-before_power_settles n (line.Delete x) m b a w = tt
-before_power_settles n (line.Apdu x) m b a w = tt
+kind_settles : {w : Option FailedWrite} {z : State} {n : ℕ} {l : DeckLine} {u : Step} → StepKind w z n l u → Settles z → Settles u.after
+kind_settles (Early p) h = tt
+kind_settles (Quiet p q) h = h
+kind_settles (Powers z) h = power_settles (found_by_power z) _
+kind_settles {w} (Sends {n = n} {o = o} {g = g} {j = j} {a = a} k c session_state) h =
+    let r = line_command c session_state g (line.Sent k) in
+    command_settles n (line.Sent k) c o j (Running session_state) g a r (hit_of a (moves r.items) w) h
 
 step_settles : (z : State) (l : ℕ × DeckLine) (w : Option FailedWrite) → Settles z → Settles (step z l w).after
-unfolding step
-step_settles (BeforePower m b a) l w h = before_power_settles l.0 l.1 m b a w
-step_settles (AfterPower s) l w h = after_power_settles l.0 l.1 s w h
+step_settles z l w h = kind_settles (by_kind z l w) h
 
 play_settles : (z : State) (ls : List (ℕ × DeckLine)) (ws : List (Option FailedWrite)) → Settles z → Settles (last_state z (plays z ls ws))
 unfolding plays

@@ -23,7 +23,7 @@ use Rattle.mc_explore.specs.States.{warm_in, play_of_deck, running_or_powered, f
 use Rattle.mc_explore.specs.Tries.{Manner, Whole, CutAt, Try, next, step_of, recovery}
 use Rattle.mc_explore.specs.Search.{Statement, cut_statement, power_statement, move_statements, path_statements, is_cut, drop_statements, lead_statements, statements_to}
 use Rattle.mc_explore.specs.Safety.{after_tries, CountsFromOne, StatementsLaw}
-use Rattle.mc_explore.proofs.Actions.{past_power}
+use Rattle.mc_model_play.proofs.LineKinds.{past_power}
 
 -- ---- plays line by line
 
@@ -75,18 +75,8 @@ card_number n m l b o j Muted g a = refl
 
 any_number : (n m : ℕ) (s : Warm) (l : DeckLine) → next (AfterPower s) (n, l) ≡ next (AfterPower s) (m, l)
 unfolding step
-any_number n m s line.Power = refl
-any_number n m s (line.Load u f e) = card_number n m (line.Load u f e) s.base s.owed s.by s.live s.budget s.armed
-any_number n m s (line.Select d) = card_number n m (line.Select d) s.base s.owed s.by s.live s.budget s.armed
-any_number n m s (line.Delete d) = card_number n m (line.Delete d) s.base s.owed s.by s.live s.budget s.armed
-any_number n m s (line.Apdu d) = card_number n m (line.Apdu d) s.base s.owed s.by s.live s.budget s.armed
-any_number n m s (line.Cut k x) = refl
-any_number n m s (line.Fail k) = refl
-any_number n m s (line.Budget b) = refl
-any_number n m s (line.Dump d) = refl
-any_number n m s (line.Poke at x) = refl
-any_number n m s line.Named = refl
-any_number n m s line.Format = refl
+any_number n m s (line.Sent sent) = card_number n m (line.Sent sent) s.base s.owed s.by s.live s.budget s.armed
+any_number n m s _ = refl
 
 -- ---- lines to the card drop the stop
 
@@ -119,10 +109,7 @@ power_frees s (Some t) = stopped_frees s t (nat_le t.at s.owed)
 frees : (n : ℕ) (l : DeckLine) (s : Warm) → is_card_line l ≡ true → IsFree (next (AfterPower s) (n, l))
 unfolding step
 frees n line.Power s is = power_frees s (hit_of s.armed (power_moves s) None)
-frees n (line.Load u f e) s is = card_frees n (line.Load u f e) s.base s.owed s.by s.live s.budget s.armed
-frees n (line.Select d) s is = card_frees n (line.Select d) s.base s.owed s.by s.live s.budget s.armed
-frees n (line.Delete d) s is = card_frees n (line.Delete d) s.base s.owed s.by s.live s.budget s.armed
-frees n (line.Apdu d) s is = card_frees n (line.Apdu d) s.base s.owed s.by s.live s.budget s.armed
+frees n (line.Sent sent) s is = card_frees n (line.Sent sent) s.base s.owed s.by s.live s.budget s.armed
 frees n _ s is = absurd (cc is)
 
 -- ---- the statements of a try
@@ -185,13 +172,13 @@ path_plays n (t ∷ ts) s e cards =
 no_cut : (k : ℕ) (t : StopAt) → 1 ≤ k → cond (nat_le k 0) (Some t) None ≡ None
 no_cut k t low = ap (λ (b : Bool). cond b (Some t) None) (lt-leb k 0 low)
 
-idle_drops : (n : ℕ) (b : Base) (o : ℕ) (j : Journal) (v : Live) (g : ℕ) (a : Armed) → CountsFromOne a → steady_next (AfterPower (past_power b o j v g a)) (n, line.Apdu (0 ∷ [])) ≡ AfterPower (past_power b o j v g Unarmed)
+idle_drops : (n : ℕ) (b : Base) (o : ℕ) (j : Journal) (v : Live) (g : ℕ) (a : Armed) → CountsFromOne a → steady_next (AfterPower (past_power b o j v g a)) (n, line.Sent (line.Apdu (0 ∷ []))) ≡ AfterPower (past_power b o j v g Unarmed)
 unfolding step moves_of command apdu_read
 idle_drops n (OnCard c) o j (Running session_state) g Unarmed h = refl
 idle_drops n (OnCard c) o j (Running session_state) g (ArmedCut k x) h =
     ap (λ (t : Option StopAt). AfterPower (line_after (past_power (OnCard c) o j (Running session_state) g (ArmedCut k x)) c (refusal session_state 0x6700) t)) (no_cut k (record { kind = stop.Off; at = k; left = x }) h)
 idle_drops n (OnCard c) o j (Running session_state) g (ArmedFail k) h =
-    ap (λ (e : Bool). (card_line n (line.Apdu (0 ∷ [])) (past_power (OnCard c) o j (Running session_state) g (ArmedFail k)) (Running session_state) (OnCard c) (cond e (Some (record { at = k; left = zeros 8 })) None)).after) (lt-leb k 0 h)
+    ap (λ (e : Bool). (card_line n (line.Sent (line.Apdu (0 ∷ []))) (past_power (OnCard c) o j (Running session_state) g (ArmedFail k)) (Running session_state) (OnCard c) (cond e (Some (record { at = k; left = zeros 8 })) None)).after) (lt-leb k 0 h)
 idle_drops n (AtFault cause place) o j (Running session_state) g a h = refl
 idle_drops n b o j Unpowered g a h = refl
 idle_drops n b o j Muted g a h = refl
@@ -200,21 +187,21 @@ dropping_plays : (n : ℕ) (b : Base) (o : ℕ) (j : Journal) (v : Live) (g : �
     → played (AfterPower (past_power b o j v g a)) (lines_of n (drop_statements a ++ rest)) ≡ played (AfterPower (past_power b o j v g Unarmed)) (lines_of n rest)
 dropping_plays n b o j v g Unarmed rest h = refl
 dropping_plays n b o j v g (ArmedCut k x) rest h =
-    played_line (AfterPower (past_power b o j v g (ArmedCut k x))) (n, line.Apdu (0 ∷ [])) (lines_of n rest) ∙ ap (λ (z : State). played z (lines_of n rest)) (idle_drops n b o j v g (ArmedCut k x) h)
+    played_line (AfterPower (past_power b o j v g (ArmedCut k x))) (n, line.Sent (line.Apdu (0 ∷ []))) (lines_of n rest) ∙ ap (λ (z : State). played z (lines_of n rest)) (idle_drops n b o j v g (ArmedCut k x) h)
 dropping_plays n b o j v g (ArmedFail k) rest h =
-    played_line (AfterPower (past_power b o j v g (ArmedFail k))) (n, line.Apdu (0 ∷ [])) (lines_of n rest) ∙ ap (λ (z : State). played z (lines_of n rest)) (idle_drops n b o j v g (ArmedFail k) h)
+    played_line (AfterPower (past_power b o j v g (ArmedFail k))) (n, line.Sent (line.Apdu (0 ∷ []))) (lines_of n rest) ∙ ap (λ (z : State). played z (lines_of n rest)) (idle_drops n b o j v g (ArmedFail k) h)
 
 -- before the first power line
-before_power_drops : (n : ℕ) (m : List (List ℕ)) (g : ℕ) (a : Armed) → steady_next (BeforePower m g a) (n, line.Apdu (0 ∷ [])) ≡ BeforePower m g Unarmed
+before_power_drops : (n : ℕ) (m : List (List ℕ)) (g : ℕ) (a : Armed) → steady_next (BeforePower m g a) (n, line.Sent (line.Apdu (0 ∷ []))) ≡ BeforePower m g Unarmed
 unfolding step
 before_power_drops n m g a = refl
 
 before_power_dropping : (n : ℕ) (m : List (List ℕ)) (g : ℕ) (a : Armed) (rest : List Statement) → played (BeforePower m g a) (lines_of n (drop_statements a ++ rest)) ≡ played (BeforePower m g Unarmed) (lines_of n rest)
 before_power_dropping n m g Unarmed rest = refl
 before_power_dropping n m g (ArmedCut k x) rest =
-    played_line (BeforePower m g (ArmedCut k x)) (n, line.Apdu (0 ∷ [])) (lines_of n rest) ∙ ap (λ (z : State). played z (lines_of n rest)) (before_power_drops n m g (ArmedCut k x))
+    played_line (BeforePower m g (ArmedCut k x)) (n, line.Sent (line.Apdu (0 ∷ []))) (lines_of n rest) ∙ ap (λ (z : State). played z (lines_of n rest)) (before_power_drops n m g (ArmedCut k x))
 before_power_dropping n m g (ArmedFail k) rest =
-    played_line (BeforePower m g (ArmedFail k)) (n, line.Apdu (0 ∷ [])) (lines_of n rest) ∙ ap (λ (z : State). played z (lines_of n rest)) (before_power_drops n m g (ArmedFail k))
+    played_line (BeforePower m g (ArmedFail k)) (n, line.Sent (line.Apdu (0 ∷ []))) (lines_of n rest) ∙ ap (λ (z : State). played z (lines_of n rest)) (before_power_drops n m g (ArmedFail k))
 
 before_power_power : (n : ℕ) (m : List (List ℕ)) (g : ℕ) → steady_next (BeforePower m g Unarmed) (n, line.Power) ≡ AfterPower (power_after (play_at_power m g Unarmed) None)
 unfolding step

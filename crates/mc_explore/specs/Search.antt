@@ -150,7 +150,7 @@ cut_statement k x = (codes "cut " ++ decimal k ++ codes " " ++ hex_text x, line.
 
 -- a command too short to be one: a card answers it without a write, and a stop that is armed is dropped
 abbrev pub idle_statement : Statement
-idle_statement = (codes "apdu 00", line.Apdu (0 ∷ []))
+idle_statement = (codes "apdu 00", line.Sent (line.Apdu (0 ∷ [])))
 
 -- the statements of a move
 abbrev pub move_statements : Manner → Move → List Statement

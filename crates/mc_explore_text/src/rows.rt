@@ -141,6 +141,6 @@ pub fn unusable()
 pub fn statements()
     ensures { statements_read (power_statement ∷ idle_statement ∷ cut_statement 7 ones
         ∷ cut_statement 4294967295 (opening Two) ∷ [])
-        ≡ Ok ((1, line.Format) ∷ (2, line.Power) ∷ (3, line.Apdu (0 ∷ [])) ∷ (4, line.Cut 7 ones)
+        ≡ Ok ((1, line.Format) ∷ (2, line.Power) ∷ (3, line.Sent (line.Apdu (0 ∷ []))) ∷ (4, line.Cut 7 ones)
         ∷ (5, line.Cut 4294967295 (opening Two)) ∷ []) }
 {}

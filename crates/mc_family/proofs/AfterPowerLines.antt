@@ -7,7 +7,7 @@ use Rattle.mc_model_device.specs.Stopped.{stands}
 use Rattle.mc_model_device.specs.Card.{App, Card}
 use Rattle.mc_model_card.specs.Items.{moves, StopAt}
 use Rattle.mc_model_card.specs.Manager.{SessionState, route}
-use Rattle.mc_model_play.specs.Play.{Armed, Unarmed, ArmedCut, ArmedFail, Live, Running, Unpowered, Muted, Warm, State, AfterPower, LineResult, NoCard, Silenced, Step, select_bytes, delete_bytes, load_commands, send, hit_of, FailedWrite, MayHit, moves_of, step, after_power_step, quiet, power_step, power_after, stopped_power, power_live, power_moves, without_card, static_of}
+use Rattle.mc_model_play.specs.Play.{Armed, Unarmed, Live, Running, Unpowered, Muted, Warm, State, AfterPower, LineResult, NoCard, Silenced, Step, select_bytes, delete_bytes, load_commands, send, hit_of, FailedWrite, MayHit, moves_of, step, after_power_step, quiet, power_step, power_after, stopped_power, power_live, power_moves, without_card, static_of}
 use Rattle.mc_model_device.specs.PowerUp.{Base, OnCard, AtFault, base_after_migration}
 use Rattle.mc_model_card.specs.Commands.{command}
 use Rattle.mc_model_play.specs.Family.{ClosedPairs, routes_in, command_of, is_own, is_own_command, live_in, is_running}
@@ -23,6 +23,7 @@ use Rattle.mc_family.proofs.OtherCommand.{aside_other, command_aside, send_aside
 use Rattle.mc_family.proofs.LoadCommands.{load_managers, delete_manager}
 use Rattle.mc_family.proofs.Lines.{stopped_runs, no_selection, running, command_keeps, other_keeps}
 use Rattle.mc_model_device.proofs.BoolLemmas.{and_first}
+use Rattle.mc_model_play.proofs.LineKinds.{past_power}
 
 -- ---- lines that change nothing that is related
 
@@ -121,9 +122,6 @@ and_false false h = cc h
 
 -- ---- a case for each line
 
-abbrev pub past_power : Base → ℕ → Journal → Live → ℕ → Armed → Warm
-past_power b o j v g a = record { base = b; owed = o; by = j; live = v; budget = g; armed = a }
-
 failure_within : (s : State) (l : ℕ × DeckLine) (m : ℕ) (w : Option FailedWrite) → moves_of s l ≡ m → MayHit s l w → FailsWithin m w
 failure_within s l m None e h = tt
 failure_within s l m (Some w) e h = subst (λ (k : ℕ). w.at ≤ k) e h.high
@@ -137,11 +135,11 @@ module _ (K : List (List ℕ)) (t : Solo) (n : ℕ) (o : ℕ) (j : Journal) (g :
   dump_kept b Unpowered x sim = dump_at K t (after_power_step n (line.Dump x) (past_power b o j Unpowered g a) None) x (has_name x K && false) NoCard sim refl (λ h. absurd (and_false (has_name x K) h))
   dump_kept b Muted x sim = dump_at K t (after_power_step n (line.Dump x) (past_power b o j Muted g a) None) x (has_name x K && false) Silenced sim refl (λ h. absurd (and_false (has_name x K) h))
 
-  moves_select : (c : Card) (session_state : SessionState) (x : List ℕ) → moves_of (AfterPower (running c o j session_state g a)) (n, line.Select x) ≡ moves (command c session_state (select_bytes x) g).items
+  moves_select : (c : Card) (session_state : SessionState) (x : List ℕ) → moves_of (AfterPower (running c o j session_state g a)) (n, line.Sent (line.Select x)) ≡ moves (command c session_state (select_bytes x) g).items
   unfolding moves_of step
   moves_select c session_state x = omega arith
 
-  moves_apdu : (c : Card) (session_state : SessionState) (x : List ℕ) → moves_of (AfterPower (running c o j session_state g a)) (n, line.Apdu x) ≡ moves (command c session_state x g).items
+  moves_apdu : (c : Card) (session_state : SessionState) (x : List ℕ) → moves_of (AfterPower (running c o j session_state g a)) (n, line.Sent (line.Apdu x)) ≡ moves (command c session_state x g).items
   unfolding moves_of step
   moves_apdu c session_state x = omega arith
 
@@ -153,38 +151,21 @@ module _ (K : List (List ℕ)) (t : Solo) (n : ℕ) (o : ℕ) (j : Journal) (g :
       (ap (λ (x : Bool). x && is_foreign_select K (command_of l) && is_done_reply (Some (without_card v))) off) (record { warm = sim.warm; map = sim.map; selected = sim.selected })
 
   pub after_power_kept : (l : DeckLine) (w : Option FailedWrite) (b : Base) (v : Live) → let s = past_power b o j v g a in Simulates K (AfterPower s) t → MayHit (AfterPower s) (n, l) w → ClosedPairs K (after_power_step n l s w).pairs → LineKeepsSimulation K t (after_power_step n l s w)
-  after_power_kept line.Format w b v sim may closed = quiet_keeps K t n line.Format (AfterPower (past_power b o j v g a)) None (AfterPower (past_power b o j v g a)) (no_own K v) (no_left v _) sim
-  after_power_kept (line.Poke at x) w b v sim may closed = quiet_keeps K t n (line.Poke at x) (AfterPower (past_power b o j v g a)) None (AfterPower (past_power b o j v g a)) (no_own K v) (no_left v _) sim
-  after_power_kept line.Named w b v sim may closed = quiet_keeps K t n line.Named (AfterPower (past_power b o j v g a)) None (AfterPower (past_power b o j v g a)) (no_own K v) (no_left v _) sim
-  after_power_kept (line.Budget k) w b v sim may closed =
-      quiet_keeps K t n (line.Budget k) (AfterPower (past_power b o j v g a)) None (AfterPower (past_power b o j v k a)) (no_own K v) (no_left v _) (record { warm = sim.warm; map = sim.map; selected = sim.selected })
-  after_power_kept (line.Cut k x) w b v sim may closed =
-      quiet_keeps K t n (line.Cut k x) (AfterPower (past_power b o j v g a)) None (AfterPower (past_power b o j v g (ArmedCut k x))) (no_own K v) (no_left v _) (record { warm = sim.warm; map = sim.map; selected = sim.selected })
-  after_power_kept (line.Fail k) w b v sim may closed =
-      quiet_keeps K t n (line.Fail k) (AfterPower (past_power b o j v g a)) None (AfterPower (past_power b o j v g (ArmedFail k))) (no_own K v) (no_left v _) (record { warm = sim.warm; map = sim.map; selected = sim.selected })
   after_power_kept (line.Dump x) w b v sim may closed = dump_kept b v x sim
   after_power_kept line.Power w b v sim may closed = power_keeps K t n (AfterPower (past_power b o j v g a)) (past_power b o j v g a) (hit_of a (power_moves (past_power b o j v g a)) w) (no_own K v) sim.map
-  after_power_kept (line.Load u fixed session) w (OnCard c) (Running session_state) sim may closed =
+  after_power_kept (line.Sent (line.Load u fixed session)) w (OnCard c) (Running session_state) sim may closed =
       let r = send c session_state g (load_commands u fixed session) in
-      other_keeps K c o j session_state g a t n (line.Load u fixed session) r (hit_of a (moves r.items) w) sim (aside_other K c session_state r (send_aside K c session_state g (load_commands u fixed session) (load_managers u fixed session)))
-  after_power_kept (line.Load u fixed session) w (AtFault cause p) (Running session_state) sim may closed = absurd sim.warm
-  after_power_kept (line.Load u fixed session) w b Unpowered sim may closed = no_card_kept (line.Load u fixed session) b Unpowered refl refl sim
-  after_power_kept (line.Load u fixed session) w b Muted sim may closed = no_card_kept (line.Load u fixed session) b Muted refl refl sim
-  after_power_kept (line.Delete x) w (OnCard c) (Running session_state) sim may closed =
+      other_keeps K c o j session_state g a t n (line.Sent (line.Load u fixed session)) r (hit_of a (moves r.items) w) sim (aside_other K c session_state r (send_aside K c session_state g (load_commands u fixed session) (load_managers u fixed session)))
+  after_power_kept (line.Sent sent) w (AtFault cause p) (Running session_state) sim may closed = absurd sim.warm
+  after_power_kept (line.Sent sent) w b Unpowered sim may closed = no_card_kept (line.Sent sent) b Unpowered refl refl sim
+  after_power_kept (line.Sent sent) w b Muted sim may closed = no_card_kept (line.Sent sent) b Muted refl refl sim
+  after_power_kept (line.Sent (line.Delete x)) w (OnCard c) (Running session_state) sim may closed =
       let r = command c session_state (delete_bytes x) g in
-      other_keeps K c o j session_state g a t n (line.Delete x) r (hit_of a (moves r.items) w) sim (aside_other K c session_state r (command_aside K c session_state g (delete_bytes x) (delete_manager x)))
-  after_power_kept (line.Delete x) w (AtFault cause p) (Running session_state) sim may closed = absurd sim.warm
-  after_power_kept (line.Delete x) w b Unpowered sim may closed = no_card_kept (line.Delete x) b Unpowered refl refl sim
-  after_power_kept (line.Delete x) w b Muted sim may closed = no_card_kept (line.Delete x) b Muted refl refl sim
-  after_power_kept (line.Select x) w (OnCard c) (Running session_state) sim may closed =
-      command_keeps K c o j session_state g a t n (line.Select x) (select_bytes x) w (routes_in K session_state (route (select_bytes x))) refl sim
-      (failure_within (AfterPower (running c o j session_state g a)) (n, line.Select x) (moves (command c session_state (select_bytes x) g).items) w (moves_select c session_state x) may) refl closed
-  after_power_kept (line.Select x) w (AtFault cause p) (Running session_state) sim may closed = absurd sim.warm
-  after_power_kept (line.Select x) w b Unpowered sim may closed = no_card_kept (line.Select x) b Unpowered refl refl sim
-  after_power_kept (line.Select x) w b Muted sim may closed = no_card_kept (line.Select x) b Muted refl refl sim
-  after_power_kept (line.Apdu x) w (OnCard c) (Running session_state) sim may closed =
-      command_keeps K c o j session_state g a t n (line.Apdu x) x w (routes_in K session_state (route x)) refl sim
-      (failure_within (AfterPower (running c o j session_state g a)) (n, line.Apdu x) (moves (command c session_state x g).items) w (moves_apdu c session_state x) may) refl closed
-  after_power_kept (line.Apdu x) w (AtFault cause p) (Running session_state) sim may closed = absurd sim.warm
-  after_power_kept (line.Apdu x) w b Unpowered sim may closed = no_card_kept (line.Apdu x) b Unpowered refl refl sim
-  after_power_kept (line.Apdu x) w b Muted sim may closed = no_card_kept (line.Apdu x) b Muted refl refl sim
+      other_keeps K c o j session_state g a t n (line.Sent (line.Delete x)) r (hit_of a (moves r.items) w) sim (aside_other K c session_state r (command_aside K c session_state g (delete_bytes x) (delete_manager x)))
+  after_power_kept (line.Sent (line.Select x)) w (OnCard c) (Running session_state) sim may closed =
+      command_keeps K c o j session_state g a t n (line.Sent (line.Select x)) (select_bytes x) w (routes_in K session_state (route (select_bytes x))) refl sim
+      (failure_within (AfterPower (running c o j session_state g a)) (n, line.Sent (line.Select x)) (moves (command c session_state (select_bytes x) g).items) w (moves_select c session_state x) may) refl closed
+  after_power_kept (line.Sent (line.Apdu x)) w (OnCard c) (Running session_state) sim may closed =
+      command_keeps K c o j session_state g a t n (line.Sent (line.Apdu x)) x w (routes_in K session_state (route x)) refl sim
+      (failure_within (AfterPower (running c o j session_state g a)) (n, line.Sent (line.Apdu x)) (moves (command c session_state x g).items) w (moves_apdu c session_state x) may) refl closed
+  after_power_kept _ w b v sim may closed = quiet_keeps K t n _ (AfterPower (past_power b o j v g a)) None _ (no_own K v) (no_left v _) (record { warm = sim.warm; map = sim.map; selected = sim.selected })

@@ -126,63 +126,34 @@ found_unit us name (Some u) e h = each_found (λ x. UnitBytes x.1) us name u h e
 stated_ok : (c : Context) (n : ℕ) (w : Word) (fs : List (List ℕ)) → ContextBytes c → IfOk (statement_of c n w fs) StatedBytes
 unfolding statement_of Fill Aid
 stated_ok c n FormatWord [] h = early_ok c line.Format h tt
-stated_ok c n FormatWord (x ∷ xs) h = tt
 stated_ok c n PowerWord [] h = (tt, h)
-stated_ok c n PowerWord (x ∷ xs) h = tt
-stated_ok c n UnitWord [] h = tt
-stated_ok c n UnitWord (x ∷ []) h = tt
 stated_ok c n UnitWord (name ∷ hex ∷ []) h =
     bind_ok (name_field name) (λ name. hex_field hex >>= λ bytes. new_name c name >>= λ name. err_as causes.Unit (unit_read bytes) >>= λ u. Ok (Says line.Named (with_unit c name u))) (λ x. ⊤) StatedBytes (any_ok (name_field name))
     (λ name i. bind_ok (hex_field hex) (λ bytes. new_name c name >>= λ name. err_as causes.Unit (unit_read bytes) >>= λ u. Ok (Says line.Named (with_unit c name u))) AreBytes StatedBytes (hex_ok hex)
     (λ bytes j. bind_ok (new_name c name) (λ name. err_as causes.Unit (unit_read bytes) >>= λ u. Ok (Says line.Named (with_unit c name u))) (λ x. ⊤) StatedBytes (any_ok (new_name c name))
     (λ name k. bind_ok (err_as causes.Unit (unit_read bytes)) (λ u. Ok (Says line.Named (with_unit c name u))) UnitBytes StatedBytes (err_ok causes.Unit (unit_read bytes) UnitBytes (unit_ok bytes j)) (λ u l. (tt, (l, h))))))
-stated_ok c n UnitWord (name ∷ hex ∷ x ∷ xs) h = tt
-stated_ok c n AppWord [] h = tt
-stated_ok c n AppWord (x ∷ []) h = tt
 stated_ok c n AppWord (name ∷ aid ∷ []) h =
     bind_ok (name_field name) (λ name. aid_field aid >>= λ aid. new_name c name >>= λ name. Ok (Opens (record { first = n; name = name; aid = aid; lines = [] }) c)) (λ x. ⊤) StatedBytes (any_ok (name_field name))
     (λ name i. bind_ok (aid_field aid) (λ aid. new_name c name >>= λ name. Ok (Opens (record { first = n; name = name; aid = aid; lines = [] }) c)) Aid StatedBytes (aid_ok aid)
     (λ aid j. bind_ok (new_name c name) (λ name. Ok (Opens (record { first = n; name = name; aid = aid; lines = [] }) c)) (λ x. ⊤) StatedBytes (any_ok (new_name c name)) (λ name k. (j, h))))
-stated_ok c n AppWord (name ∷ aid ∷ x ∷ xs) h = tt
-stated_ok c n LoadWord [] h = tt
-stated_ok c n LoadWord (x ∷ []) h = tt
-stated_ok c n LoadWord (x ∷ y ∷ []) h = tt
 stated_ok c n LoadWord (name ∷ fixed ∷ session ∷ []) h =
-    bind_ok (name_field name) (λ name. number_field 0 65535 fixed >>= λ fixed. number_field 0 65535 session >>= λ session. ok_or (lookup c.units name) UnknownName >>= λ u. Ok (Says (line.Load u fixed session) c)) (λ x. ⊤) StatedBytes (any_ok (name_field name))
-    (λ name i. bind_ok (number_field 0 65535 fixed) (λ fixed. number_field 0 65535 session >>= λ session. ok_or (lookup c.units name) UnknownName >>= λ u. Ok (Says (line.Load u fixed session) c)) (λ x. ⊤) StatedBytes (any_ok (number_field 0 65535 fixed))
-    (λ fixed j. bind_ok (number_field 0 65535 session) (λ session. ok_or (lookup c.units name) UnknownName >>= λ u. Ok (Says (line.Load u fixed session) c)) (λ x. ⊤) StatedBytes (any_ok (number_field 0 65535 session))
-    (λ session k. bind_ok (ok_or (lookup c.units name) UnknownName) (λ u. Ok (Says (line.Load u fixed session) c)) UnitBytes StatedBytes (found_unit c.units name (lookup c.units name) refl h) (λ u l. (l, h)))))
-stated_ok c n LoadWord (name ∷ fixed ∷ session ∷ x ∷ xs) h = tt
-stated_ok c n SelectWord [] h = tt
-stated_ok c n SelectWord (aid ∷ []) h = as_ok (λ a. Says (line.Select a) c) (aid_field aid) Aid StatedBytes (aid_ok aid) (λ a k. (k.0, h))
-stated_ok c n SelectWord (aid ∷ x ∷ xs) h = tt
-stated_ok c n DeleteWord [] h = tt
-stated_ok c n DeleteWord (aid ∷ []) h = as_ok (λ a. Says (line.Delete a) c) (aid_field aid) Aid StatedBytes (aid_ok aid) (λ a k. (k.0, h))
-stated_ok c n DeleteWord (aid ∷ x ∷ xs) h = tt
-stated_ok c n DumpWord [] h = tt
+    bind_ok (name_field name) (λ name. number_field 0 65535 fixed >>= λ fixed. number_field 0 65535 session >>= λ session. ok_or (lookup c.units name) UnknownName >>= λ u. Ok (Says (line.Sent (line.Load u fixed session)) c)) (λ x. ⊤) StatedBytes (any_ok (name_field name))
+    (λ name i. bind_ok (number_field 0 65535 fixed) (λ fixed. number_field 0 65535 session >>= λ session. ok_or (lookup c.units name) UnknownName >>= λ u. Ok (Says (line.Sent (line.Load u fixed session)) c)) (λ x. ⊤) StatedBytes (any_ok (number_field 0 65535 fixed))
+    (λ fixed j. bind_ok (number_field 0 65535 session) (λ session. ok_or (lookup c.units name) UnknownName >>= λ u. Ok (Says (line.Sent (line.Load u fixed session)) c)) (λ x. ⊤) StatedBytes (any_ok (number_field 0 65535 session))
+    (λ session k. bind_ok (ok_or (lookup c.units name) UnknownName) (λ u. Ok (Says (line.Sent (line.Load u fixed session)) c)) UnitBytes StatedBytes (found_unit c.units name (lookup c.units name) refl h) (λ u l. (l, h)))))
+stated_ok c n SelectWord (aid ∷ []) h = as_ok (λ a. Says (line.Sent (line.Select a)) c) (aid_field aid) Aid StatedBytes (aid_ok aid) (λ a k. (k.0, h))
+stated_ok c n DeleteWord (aid ∷ []) h = as_ok (λ a. Says (line.Sent (line.Delete a)) c) (aid_field aid) Aid StatedBytes (aid_ok aid) (λ a k. (k.0, h))
 stated_ok c n DumpWord (aid ∷ []) h = as_ok (λ a. Says (line.Dump a) c) (aid_field aid) Aid StatedBytes (aid_ok aid) (λ a k. (tt, h))
-stated_ok c n DumpWord (aid ∷ x ∷ xs) h = tt
-stated_ok c n ApduWord [] h = tt
-stated_ok c n ApduWord (hex ∷ []) h = as_ok (λ b. Says (line.Apdu b) c) (hex_field hex) AreBytes StatedBytes (hex_ok hex) (λ b k. (k, h))
-stated_ok c n ApduWord (hex ∷ x ∷ xs) h = tt
-stated_ok c n BudgetWord [] h = tt
+stated_ok c n ApduWord (hex ∷ []) h = as_ok (λ b. Says (line.Sent (line.Apdu b)) c) (hex_field hex) AreBytes StatedBytes (hex_ok hex) (λ b k. (k, h))
 stated_ok c n BudgetWord (b ∷ []) h = as_ok (λ b. Says (line.Budget b) c) (number_field 1 65536 b) (λ x. ⊤) StatedBytes (any_ok (number_field 1 65536 b)) (λ b k. (tt, h))
-stated_ok c n BudgetWord (b ∷ x ∷ xs) h = tt
-stated_ok c n CutWord [] h = tt
-stated_ok c n CutWord (x ∷ []) h = tt
 stated_ok c n CutWord (k ∷ fill ∷ []) h =
     bind_ok (number_field 1 4294967295 k) (λ k. fill_field fill >>= λ fill. Ok (Says (line.Cut k fill) c)) (λ x. ⊤) StatedBytes (any_ok (number_field 1 4294967295 k))
     (λ k i. bind_ok (fill_field fill) (λ fill. Ok (Says (line.Cut k fill) c)) Fill StatedBytes (fill_ok fill) (λ fill j. (tt, h)))
-stated_ok c n CutWord (k ∷ fill ∷ x ∷ xs) h = tt
-stated_ok c n FailWord [] h = tt
 stated_ok c n FailWord (k ∷ []) h = as_ok (λ k. Says (line.Fail k) c) (number_field 1 4294967295 k) (λ x. ⊤) StatedBytes (any_ok (number_field 1 4294967295 k)) (λ k j. (tt, h))
-stated_ok c n FailWord (k ∷ x ∷ xs) h = tt
-stated_ok c n PokeWord [] h = tt
-stated_ok c n PokeWord (x ∷ []) h = tt
 stated_ok c n PokeWord (at ∷ fill ∷ []) h =
     bind_ok (number_field 0 16383 at) (λ at. fill_field fill >>= λ fill. early c (line.Poke at fill)) (λ x. ⊤) StatedBytes (any_ok (number_field 0 16383 at))
     (λ at i. bind_ok (fill_field fill) (λ fill. early c (line.Poke at fill)) Fill StatedBytes (fill_ok fill) (λ fill j. early_ok c (line.Poke at fill) h j))
-stated_ok c n PokeWord (at ∷ fill ∷ x ∷ xs) h = tt
+stated_ok c n _ _ h = tt
 
 -- ---- sections
 

@@ -8,7 +8,7 @@ use Rattle.mc_model_device.specs.declared.device.Stop.TheVariants as stop
 use Rattle.mc_model_device.specs.Bytes.{AreBytes, bytes2, zeros}
 use Rattle.mc_model_card.specs.Units.{UnitParts}
 use Rattle.mc_model_device.specs.Device.{IsImage}
-use Rattle.mc_model_device.specs.Image.{Journal, One, shut_word}
+use Rattle.mc_model_device.specs.Image.{One, shut_word}
 use Rattle.mc_model_device.specs.Stopped.{stands}
 use Rattle.mc_model_device.specs.Card.{App, Card, heap_start}
 use Rattle.mc_model_device.specs.Layout.{root, hole_header, fault}
@@ -16,7 +16,7 @@ use Rattle.mc_model_card.specs.Items.{moves, apps_after_items, StopAt, at_stop}
 use Rattle.mc_model_card.specs.Manager.{SessionState}
 use Rattle.mc_model_play.specs.DeckGrammar.{DeckLine}
 use Rattle.mc_model_play.specs.DeckGrammar as line
-use Rattle.mc_model_play.specs.Play.{Armed, Live, Running, Unpowered, Muted, Warm, State, BeforePower, AfterPower, Step, select_bytes, delete_bytes, piece_commands, section_commands, load_commands, line_command, hit_of, FailedWrite, live_after, power_live, power_after, stopped_power, power_moves, line_after, card_line, after_power_step, before_power_step, step, play_at_power, plays, first_failure, start, formatted_image}
+use Rattle.mc_model_play.specs.Play.{Armed, Live, Running, Unpowered, Muted, Warm, State, BeforePower, AfterPower, Step, select_bytes, delete_bytes, piece_commands, section_commands, load_commands, line_command, hit_of, FailedWrite, live_after, power_live, power_after, stopped_power, line_after, step, play_at_power, plays, first_failure, start, formatted_image}
 use Rattle.mc_model_device.specs.PowerUp.{Base, OnCard, AtFault, base_after_migration, base_of}
 use Rattle.mc_model_card.specs.Commands.{Command}
 use Rattle.mc_model_play.specs.ReadyAgain.{FitsJournal, AllFitJournal, IsLine, AreLines}
@@ -27,9 +27,9 @@ use Rattle.mc_model_device.proofs.ImageBytes.{image_set, shut_full}
 use Rattle.mc_family.proofs.CardFacts.{all_take, all_drop, AreOnCard, done_stands, whole_stand, means_on_card}
 use Rattle.mc_family.proofs.FewItems.{IsSent, SessionStateStands, CommandStands, command_stands, send_stands}
 use Rattle.mc_machine_laws.proofs.AppSizes.{Limited}
-use Rattle.mc_family.proofs.AfterPowerLines.{past_power}
-use Rattle.mc_family.proofs.PlaySizes.{SessionStateFits, BaseFits, StateFits, step_fits}
+use Rattle.mc_family.proofs.PlaySizes.{SessionStateFits, StateFits, step_fits}
 use Rattle.mc_model_device.proofs.ListLemmas.{pair_bytes}
+use Rattle.mc_model_play.proofs.LineKinds.{past_power, image_after, StepKind, Early, Quiet, Powers, Sends, by_kind}
 
 -- ---- the commands of a line
 
@@ -68,10 +68,10 @@ load_sent u fixed session code init dir fci =
     )
 
 pub line_stands : (c : Card) (session_state : SessionState) (budget : ℕ) (l : DeckLine) → IsLine l → Limited c.apps → SessionStateFits c.apps session_state → AreOnCard c.apps → SessionStateStands c.apps session_state → CommandStands c.apps (line_command c session_state budget l)
-line_stands c session_state budget (line.Select n) is limited fits on h = command_stands c session_state (select_bytes n) budget is limited on h
-line_stands c session_state budget (line.Delete n) is limited fits on h = command_stands c session_state (delete_bytes n) budget is limited on h
-line_stands c session_state budget (line.Apdu b) is limited fits on h = command_stands c session_state b budget (all_drop (λ x. x < 256) 5 b is) limited on h
-line_stands c session_state budget (line.Load u fixed session) is limited fits on h =
+line_stands c session_state budget (line.Sent (line.Select n)) is limited fits on h = command_stands c session_state (select_bytes n) budget is limited on h
+line_stands c session_state budget (line.Sent (line.Delete n)) is limited fits on h = command_stands c session_state (delete_bytes n) budget is limited on h
+line_stands c session_state budget (line.Sent (line.Apdu b)) is limited fits on h = command_stands c session_state b budget (all_drop (λ x. x < 256) 5 b is) limited on h
+line_stands c session_state budget (line.Sent (line.Load u fixed session)) is limited fits on h =
     send_stands c session_state budget (load_commands u fixed session) (load_sent u fixed session is.0 is.1 is.2 is.3) limited fits on h
 line_stands c session_state budget _ is limited fits on h = record { few = tt; items = tt; session_state = h }
 
@@ -156,23 +156,6 @@ after_stands s c r (Some t) on k =
     let whole = (at_stop r.items t.at t.left).whole in
     (done_stands whole c.apps on (whole_stand r.items c.apps t.at t.left k.items), after_stop (apps_after_items c.apps whole) t.kind)
 
-card_stands : (n : ℕ) (l : DeckLine) (b : Base) (o : ℕ) (j : Journal) (v : Live) (g : ℕ) (a : Armed) (w : Option FailedWrite) → IsLine l → BaseFits b v → BaseStands b v → LineStands (card_line n l (past_power b o j v g a) v b w)
-card_stands n l (OnCard c) o j (Running session_state) g a w is f h =
-    let r = line_command c session_state g l in
-    let k : CommandStands c.apps r = line_stands c session_state g l is f.0 f.1 h.0 h.1 in
-    record { few = k.few; next = after_stands (past_power (OnCard c) o j (Running session_state) g a) c r (hit_of a (moves r.items) w) h.0 k }
-card_stands n l (AtFault cause p) o j (Running session_state) g a w is f h = record { few = tt; next = tt }
-card_stands n l b o j Unpowered g a w is f h = record { few = tt; next = h }
-card_stands n l b o j Muted g a w is f h = record { few = tt; next = h }
-
-after_power_stands : (n : ℕ) (l : DeckLine) (s : Warm) (w : Option FailedWrite) → IsLine l → BaseFits s.base s.live → BaseStands s.base s.live → LineStands (after_power_step n l s w)
-after_power_stands n line.Power s w is f h = record { few = tt; next = power_stands s (hit_of s.armed (power_moves s) w) (base_on_card s.base s.live h) }
-after_power_stands n (line.Load u fixed session) s w is f h = card_stands n (line.Load u fixed session) s.base s.owed s.by s.live s.budget s.armed w is f h
-after_power_stands n (line.Select x) s w is f h = card_stands n (line.Select x) s.base s.owed s.by s.live s.budget s.armed w is f h
-after_power_stands n (line.Delete x) s w is f h = card_stands n (line.Delete x) s.base s.owed s.by s.live s.budget s.armed w is f h
-after_power_stands n (line.Apdu x) s w is f h = card_stands n (line.Apdu x) s.base s.owed s.by s.live s.budget s.armed w is f h
-after_power_stands n _ s w is f h = record { few = tt; next = h }
-
 -- ---- lines up to the first power line
 
 pub found_stands : (m : List (List ℕ)) (f : Option (Cause × ℕ)) → IsImage m → fault m ≡ f → BaseStands (base_of f m) Unpowered
@@ -183,18 +166,27 @@ pub warmed_stands : (m : List (List ℕ)) (b : ℕ) (a : Armed) → IsImage m �
 unfolding play_at_power
 warmed_stands m b a image = found_stands m (fault m) image refl
 
-before_power_stands : (n : ℕ) (l : DeckLine) (m : List (List ℕ)) (b : ℕ) (a : Armed) (w : Option FailedWrite) → IsLine l → IsImage m → LineStands (before_power_step n l m b a w)
-before_power_stands n line.Format m b a w is h = record { few = tt; next = formatted_image_lem m h }
-before_power_stands n (line.Poke at x) m b a w is h = record { few = tt; next = image_set m at x h (is.1, is.0) }
-before_power_stands n line.Power m b a w is h = record { few = tt; next = power_stands (play_at_power m b a) (hit_of a (power_moves (play_at_power m b a)) w) (warmed_stands m b a h) }
-before_power_stands n _ m b a w is h = record { few = tt; next = h }
+-- ---- every line
+
+pub early_stands : (l : DeckLine) (m : List (List ℕ)) → IsLine l → IsImage m → IsImage (image_after l m)
+early_stands line.Format m is h = formatted_image_lem m h
+early_stands (line.Poke at x) m is h = image_set m at x h (is.1, is.0)
+early_stands _ m is h = h
+
+kind_stands : {w : Option FailedWrite} {z : State} {n : ℕ} {l : DeckLine} {u : Step} → StepKind w z n l u → IsLine l → StateFits z → StateStands z → LineStands u
+kind_stands (Early {l = l} {m = m} p) is f h = record { few = tt; next = early_stands l m is h }
+kind_stands (Quiet p q) is f h = record { few = tt; next = h }
+kind_stands (Powers (BeforePower m b a)) is f h = record { few = tt; next = power_stands (play_at_power m b a) _ (warmed_stands m b a h) }
+kind_stands (Powers (AfterPower s)) is f h = record { few = tt; next = power_stands s _ (base_on_card s.base s.live h) }
+kind_stands {w} (Sends {o = o} {g = g} {j = j} {a = a} k c session_state) is f h =
+    let r = line_command c session_state g (line.Sent k) in
+    let k : CommandStands c.apps r = line_stands c session_state g (line.Sent k) is f.0 f.1 h.0 h.1 in
+    record { few = k.few; next = after_stands (past_power (OnCard c) o j (Running session_state) g a) c r (hit_of a (moves r.items) w) h.0 k }
 
 -- ---- plays
 
 step_stands : (z : State) (l : ℕ × DeckLine) (w : Option FailedWrite) → IsLine l.1 → StateFits z → StateStands z → LineStands (step z l w)
-unfolding step
-step_stands (BeforePower m b a) l w is f h = before_power_stands l.0 l.1 m b a w is h
-step_stands (AfterPower s) l w is f h = after_power_stands l.0 l.1 s w is f h
+step_stands z l w is f h = kind_stands (by_kind z l w) is f h
 
 few_from : (n : ℕ) (z : State) (ls : List (ℕ × DeckLine)) (ws : List (Option FailedWrite)) → StateFits z → StateStands z → AreLines (take n (plays z ls ws)) → AllFitJournal (take n (plays z ls ws))
 unfolding plays

@@ -1,20 +1,20 @@
 -- No new application has a stale byte, for every front of a play.
 use Rattle.std.specs.Prelude.{◌≡◌, ℕ, zero, suc, Bool, true, false, nat_le, List, [], ◌∷◌, take, drop, Option, Some, None, ⊤}
-use Rattle.std.proofs.Common.{refl, ap, sym, subst, ◌∙◌}
+use Rattle.std.proofs.Common.{refl, ap, sym, subst, ◌∙◌, inl}
 use Rattle.mc_model_device.specs.declared.device.Stop.{Stop}
 use Rattle.mc_model_device.specs.declared.device.Stop.TheVariants as stop
 use Rattle.mc_model_device.specs.Image.{Journal}
 use Rattle.mc_model_device.specs.Card.{Card}
 use Rattle.mc_model_card.specs.Items.{Item, moves, StopAt, at_stop}
 use Rattle.mc_model_card.specs.Manager.{SessionState}
-use Rattle.mc_model_play.specs.Play.{Armed, Live, Running, Unpowered, Muted, Warm, State, BeforePower, AfterPower, Step, command_step, select_bytes, delete_bytes, load_commands, line_command, hit_of, live_after, FailedWrite, step, after_power_step, before_power_step, card_line, power_after, stopped_power, power_moves, power_live, play_at_power, plays, first_failure, start}
+use Rattle.mc_model_play.specs.Play.{Armed, Live, Running, Unpowered, Muted, Warm, State, BeforePower, AfterPower, Step, command_step, select_bytes, delete_bytes, load_commands, line_command, hit_of, live_after, FailedWrite, step, power_after, stopped_power, power_live, play_at_power, plays, first_failure, start}
 use Rattle.mc_model_device.specs.PowerUp.{Base, OnCard, AtFault}
 use Rattle.mc_model_card.specs.Commands.{Command}
 use Rattle.mc_model_play.specs.Given.{is_power, apps_in}
 use Rattle.mc_model_play.specs.Laws.{Sent, sections_after_commands, creations_of_commands, accepted_commands, bytes_of, accepted_commands_on, accepted_commands_in, kept_sent, creations_among, without_places, AllAreIn, KeepsFresh, NoStaleByte}
-use Rattle.mc_model_play.specs.DeckGrammar.{DeckLine}
+use Rattle.mc_model_play.specs.DeckGrammar.{DeckCommand, DeckLine}
 use Rattle.mc_model_play.specs.DeckGrammar as line
-use Rattle.mc_family.proofs.AfterPowerLines.{past_power}
+use Rattle.mc_model_play.proofs.LineKinds.{past_power, IsUnheard, StepKind, Early, Quiet, Powers, Sends, by_kind, unheard_bytes}
 use Rattle.mc_family.proofs.LoadCommands.{load_front, create_bytes, front_fillers}
 use Rattle.mc_family.proofs.FreshCommands.{load_sent, AllFresh, send_fresh, command_all_fresh}
 use Rattle.mc_family.proofs.CreationLast.{LastCreates, created_stands, whole_last, command_last, send_last}
@@ -54,12 +54,12 @@ power_after_sent s (Some t) = stopped_power_sent s t (nat_le t.at s.owed)
 
 -- ---- lines that send nothing
 
-none_taken : (v : Live) (b : Base) (g : ℕ) (l : DeckLine) → bytes_of l ≡ [] → accepted_commands_on v b g l ≡ []
+none_taken : (v : Live) (b : Base) (g : ℕ) (l : DeckLine) → IsUnheard l v b → accepted_commands_on v b g l ≡ []
 unfolding accepted_commands
-none_taken (Running session_state) (OnCard c) g l e = ap (λ (bs : List (List ℕ)). accepted_commands c session_state g bs) e
-none_taken (Running session_state) (AtFault cause p) g l e = refl
-none_taken Unpowered b g l e = refl
-none_taken Muted b g l e = refl
+none_taken (Running session_state) (OnCard c) g l h = ap (λ (bs : List (List ℕ)). accepted_commands c session_state g bs) (unheard_bytes l c session_state h)
+none_taken (Running session_state) (AtFault cause p) g l h = refl
+none_taken Unpowered b g l h = refl
+none_taken Muted b g l h = refl
 
 -- a step that makes nothing, and after which as much was sent
 nothing_fresh : (s : Option Sent) (u : Step) → accepted_commands_in u.before u.line ≡ [] → u.items ≡ [] → u.whole ≡ [] → SentIn (kept_sent (is_power u.line) u.stop s) u.after → FreshStep s u
@@ -89,57 +89,32 @@ command_step_fresh n l c o j session_state g a r (Some t) s p h last e =
       next = stopped_sent _ t.kind;
     }
 
-module _ (n : ℕ) (o : ℕ) (j : Journal) (g : ℕ) (a : Armed) (s : Option Sent) where
-  -- a card line other than power
-  card_fresh : (l : DeckLine) (b : Base) (v : Live) (w : Option FailedWrite) → is_power l ≡ false
-      → ((c : Card) (session_state : SessionState) → AllFresh session_state (line_command c session_state g l) (accepted_commands c session_state g (bytes_of l))) → ((c : Card) (session_state : SessionState) → LastCreates (line_command c session_state g l).items)
-      → SentOn s v → FreshStep s (card_line n l (past_power b o j v g a) v b w)
-  card_fresh l (OnCard c) (Running session_state) w p h last e =
-      let r = line_command c session_state g l in
-      command_step_fresh n l c o j session_state g a r (hit_of a (moves r.items) w) s p (h c session_state) (last c session_state) e
-  card_fresh l (AtFault cause q) (Running session_state) w p h last e =
-      nothing_fresh s (card_line n l (past_power (AtFault cause q) o j (Running session_state) g a) (Running session_state) (AtFault cause q) w) refl refl refl (subst (λ (x : Bool). SentOn (kept_sent x None s) (Running session_state)) (sym p) e)
-  card_fresh l b Unpowered w p h last e = nothing_fresh s (card_line n l (past_power b o j Unpowered g a) Unpowered b w) refl refl refl tt
-  card_fresh l b Muted w p h last e = nothing_fresh s (card_line n l (past_power b o j Muted g a) Muted b w) refl refl refl tt
+sent_fresh : (k : DeckCommand) (c : Card) (session_state : SessionState) (g : ℕ) → AllFresh session_state (line_command c session_state g (line.Sent k)) (accepted_commands c session_state g (bytes_of (line.Sent k)))
+sent_fresh (line.Load u fixed session) c session_state g = send_fresh c session_state g (load_commands u fixed session)
+sent_fresh (line.Select x) c session_state g = command_all_fresh c session_state (select_bytes x) g
+sent_fresh (line.Delete x) c session_state g = command_all_fresh c session_state (delete_bytes x) g
+sent_fresh (line.Apdu x) c session_state g = command_all_fresh c session_state x g
 
-  after_power_fresh : (l : DeckLine) (b : Base) (v : Live) (w : Option FailedWrite) → SentOn s v → FreshStep s (after_power_step n l (past_power b o j v g a) w)
-  after_power_fresh line.Format b v w e = nothing_fresh s (after_power_step n line.Format (past_power b o j v g a) w) (none_taken v b g line.Format refl) refl refl e
-  after_power_fresh (line.Poke at x) b v w e = nothing_fresh s (after_power_step n (line.Poke at x) (past_power b o j v g a) w) (none_taken v b g (line.Poke at x) refl) refl refl e
-  after_power_fresh line.Named b v w e = nothing_fresh s (after_power_step n line.Named (past_power b o j v g a) w) (none_taken v b g line.Named refl) refl refl e
-  after_power_fresh (line.Budget k) b v w e = nothing_fresh s (after_power_step n (line.Budget k) (past_power b o j v g a) w) (none_taken v b g (line.Budget k) refl) refl refl e
-  after_power_fresh (line.Cut k x) b v w e = nothing_fresh s (after_power_step n (line.Cut k x) (past_power b o j v g a) w) (none_taken v b g (line.Cut k x) refl) refl refl e
-  after_power_fresh (line.Fail k) b v w e = nothing_fresh s (after_power_step n (line.Fail k) (past_power b o j v g a) w) (none_taken v b g (line.Fail k) refl) refl refl e
-  after_power_fresh (line.Dump x) b v w e = nothing_fresh s (after_power_step n (line.Dump x) (past_power b o j v g a) w) (none_taken v b g (line.Dump x) refl) refl refl e
-  after_power_fresh line.Power b v w e =
-      let z = past_power b o j v g a in
-      nothing_fresh s (after_power_step n line.Power z w) (none_taken v b g line.Power refl) refl refl (power_after_sent z (hit_of a (power_moves z) w))
-  after_power_fresh (line.Load u fixed session) b v w e =
-      card_fresh (line.Load u fixed session) b v w refl (λ c session_state. send_fresh c session_state g (load_commands u fixed session))
-      (λ c session_state. send_last c session_state g (load_front u fixed session) create_bytes (front_fillers u fixed session)) e
-  after_power_fresh (line.Select x) b v w e = card_fresh (line.Select x) b v w refl (λ c session_state. command_all_fresh c session_state (select_bytes x) g) (λ c session_state. command_last c session_state (select_bytes x) g) e
-  after_power_fresh (line.Delete x) b v w e = card_fresh (line.Delete x) b v w refl (λ c session_state. command_all_fresh c session_state (delete_bytes x) g) (λ c session_state. command_last c session_state (delete_bytes x) g) e
-  after_power_fresh (line.Apdu x) b v w e = card_fresh (line.Apdu x) b v w refl (λ c session_state. command_all_fresh c session_state x g) (λ c session_state. command_last c session_state x g) e
+sent_last : (k : DeckCommand) (c : Card) (session_state : SessionState) (g : ℕ) → LastCreates (line_command c session_state g (line.Sent k)).items
+sent_last (line.Load u fixed session) c session_state g = send_last c session_state g (load_front u fixed session) create_bytes (front_fillers u fixed session)
+sent_last (line.Select x) c session_state g = command_last c session_state (select_bytes x) g
+sent_last (line.Delete x) c session_state g = command_last c session_state (delete_bytes x) g
+sent_last (line.Apdu x) c session_state g = command_last c session_state x g
 
--- ---- before the first power line
+-- ---- every line
 
-before_power_fresh : (s : Option Sent) (n : ℕ) (l : DeckLine) (m : List (List ℕ)) (b : ℕ) (a : Armed) (w : Option FailedWrite) → FreshStep s (before_power_step n l m b a w)
-before_power_fresh s n line.Format m b a w = nothing_fresh s (before_power_step n line.Format m b a w) refl refl refl tt
-before_power_fresh s n (line.Poke at x) m b a w = nothing_fresh s (before_power_step n (line.Poke at x) m b a w) refl refl refl tt
-before_power_fresh s n line.Named m b a w = nothing_fresh s (before_power_step n line.Named m b a w) refl refl refl tt
-before_power_fresh s n (line.Budget c) m b a w = nothing_fresh s (before_power_step n (line.Budget c) m b a w) refl refl refl tt
-before_power_fresh s n (line.Cut k x) m b a w = nothing_fresh s (before_power_step n (line.Cut k x) m b a w) refl refl refl tt
-before_power_fresh s n (line.Fail k) m b a w = nothing_fresh s (before_power_step n (line.Fail k) m b a w) refl refl refl tt
-before_power_fresh s n (line.Dump x) m b a w = nothing_fresh s (before_power_step n (line.Dump x) m b a w) refl refl refl tt
-before_power_fresh s n line.Power m b a w = nothing_fresh s (before_power_step n line.Power m b a w) refl refl refl (power_after_sent (play_at_power m b a) (hit_of a (power_moves (play_at_power m b a)) w))
-before_power_fresh s n (line.Load u fixed session) m b a w = nothing_fresh s (before_power_step n (line.Load u fixed session) m b a w) refl refl refl tt
-before_power_fresh s n (line.Select x) m b a w = nothing_fresh s (before_power_step n (line.Select x) m b a w) refl refl refl tt
-before_power_fresh s n (line.Delete x) m b a w = nothing_fresh s (before_power_step n (line.Delete x) m b a w) refl refl refl tt
-before_power_fresh s n (line.Apdu x) m b a w = nothing_fresh s (before_power_step n (line.Apdu x) m b a w) refl refl refl tt
+kind_fresh : {w : Option FailedWrite} {z : State} {n : ℕ} {l : DeckLine} {u : Step} (s : Option Sent) → StepKind w z n l u → SentIn s z → FreshStep s u
+kind_fresh s (Early p) e = nothing_fresh s _ refl refl refl tt
+kind_fresh s (Quiet {l = l} {s = x} p h) e =
+    nothing_fresh s _ (none_taken x.live x.base x.budget l h) refl refl (subst (λ (t : Bool). SentOn (kept_sent t None s) x.live) (sym p) e)
+kind_fresh s (Powers (BeforePower m b a)) e = nothing_fresh s _ refl refl refl (power_after_sent (play_at_power m b a) _)
+kind_fresh s (Powers (AfterPower x)) e = nothing_fresh s _ (none_taken x.live x.base x.budget line.Power (inl refl)) refl refl (power_after_sent x _)
+kind_fresh {w} s (Sends {n = n} {o = o} {g = g} {j = j} {a = a} k c session_state) e =
+    let r = line_command c session_state g (line.Sent k) in
+    command_step_fresh n (line.Sent k) c o j session_state g a r (hit_of a (moves r.items) w) s refl (sent_fresh k c session_state g) (sent_last k c session_state g) e
 
 step_fresh : (s : Option Sent) (z : State) (l : ℕ × DeckLine) (w : Option FailedWrite) → SentIn s z → FreshStep s (step z l w)
-unfolding step
-step_fresh s (BeforePower m b a) l w e = before_power_fresh s l.0 l.1 m b a w
-step_fresh s (AfterPower z) l w e = after_power_fresh l.0 z.owed z.by z.budget z.armed s l.1 z.base z.live w e
+step_fresh s z l w e = kind_fresh s (by_kind z l w) e
 
 fresh_from : (n : ℕ) (s : Option Sent) (z : State) (ls : List (ℕ × DeckLine)) (ws : List (Option FailedWrite)) → SentIn s z → NoStaleByte s (take n (plays z ls ws))
 unfolding plays

@@ -1,5 +1,5 @@
 -- Every application of a play is limited, and each run begins with as many session bytes as its application has.
-use Rattle.std.proofs.Common.{◌≡◌, ℕ, ◌+◌, ◌-◌, ◌≤◌, Bool, true, false, cond, not, List, [], ◌∷◌, take, drop, length, Option, Some, None, refl, sym, ap, subst, ◌∙◌, arith}
+use Rattle.std.proofs.Common.{◌≡◌, ℕ, ◌+◌, ◌-◌, ◌≤◌, Bool, true, false, cond, not, List, [], ◌∷◌, take, drop, length, Option, Some, None, refl, sym, ap, subst, ◌∙◌, arith, inl}
 use Rattle.std.specs.Prelude.{⊤, ◌==◌, ◌&&◌, nat_lt, nat_le, bytes_eq, slice_index}
 use Rattle.std.specs.List.{AllByRecursion}
 use Rattle.std.proofs.lemmas.Bool.{and_parts, leb-true, eqb-true}
@@ -11,14 +11,14 @@ use Rattle.mc_model_device.specs.declared.device.Stop.{Stop}
 use Rattle.mc_model_device.specs.declared.device.Stop.TheVariants as stop
 use Rattle.mc_model_device.specs.Bytes.{lookup, insert, remove, zeros, up, be2, has_name}
 use Rattle.mc_model_machine.specs.Apdu.{ApduParts}
-use Rattle.mc_model_device.specs.Image.{Journal, look, after}
+use Rattle.mc_model_device.specs.Image.{look, after}
 use Rattle.mc_model_device.specs.Card.{App, Card, Block, words_of_lengths, record_at, name_in, name_at, app_at, apps_of, blocks, cells, words_after, means}
 use Rattle.mc_model_device.specs.Layout.{is_record, no_root, bad_block, bad_record, bad_chain, by_cause, words_fault, fault}
 use Rattle.mc_model_machine.specs.Chain.{Write, run}
 use Rattle.mc_model_card.specs.Items.{Fixed, Created, Item, moves, apps_after_change, apps_after_items, card_done, StopAt, at_stop, write_items}
 use Rattle.mc_model_device.specs.Limits.{most_static, most_code, most_session, most_record}
 use Rattle.mc_model_card.specs.Manager.{Selected, Open, SessionState, Route, WrongLength, WrongClass, ToSelect, ToManager, ToApplication, route, p1p2, select, sizes_in, fits_limits, word_parts, with_got, is_complete, fresh, is_selected, manage, room_on}
-use Rattle.mc_model_play.specs.Play.{Armed, Live, Running, Unpowered, Muted, Warm, State, BeforePower, AfterPower, Step, is_done, command_with_rest, send, line_command, hit_of, FailedWrite, live_after, power_live, power_after, stopped_power, power_moves, line_after, card_line, after_power_step, before_power_step, step, play_at_power, plays, first_failure, start, select_bytes, delete_bytes, load_commands}
+use Rattle.mc_model_play.specs.Play.{Armed, Live, Running, Unpowered, Muted, Warm, State, BeforePower, AfterPower, Step, is_done, command_with_rest, send, line_command, hit_of, FailedWrite, live_after, power_live, power_after, stopped_power, line_after, step, play_at_power, plays, first_failure, start, select_bytes, delete_bytes, load_commands}
 use Rattle.mc_model_device.specs.PowerUp.{Base, OnCard, AtFault, base_after_migration, base_of}
 use Rattle.mc_model_card.specs.Commands.{Command, atomic_of, manager_command, application_command, by_route, command}
 use Rattle.mc_manager_laws.specs.Orders.{Order, order_of}
@@ -35,11 +35,11 @@ use Rattle.mc_machine_laws.specs.Limited.{session_in}
 use Rattle.mc_family.specs.Begins.{PassedWell, RoutedWell, BehindDone, SentWell, TakenWell, LineWell, BeginWell, BeginsLaw}
 use Rattle.mc_machine_laws.proofs.AppSizes.{size_of, size_in, SameSizes, changed_sizes, WriteFits, moved_writes, Limited, are_limited, limited_inserted, ItemsFit, limited_done, fit_whole, fit_append}
 use Rattle.mc_machine_laws.proofs.RunSizes.{RanFits, run_fits}
-use Rattle.mc_family.proofs.AfterPowerLines.{past_power}
 use Rattle.mc_model_device.proofs.MapLemmas.{same_name, name_is_itself, lookup_beside, lookup_left}
 use Rattle.mc_model_card.proofs.ItemLemmas.{done_append}
 use Rattle.mc_model_device.proofs.BoolLemmas.{or_else_none}
 use Rattle.mc_model_device.proofs.LayoutLemmas.{cause_none, sound_after}
+use Rattle.mc_model_play.proofs.LineKinds.{past_power, IsUnheard, StepKind, Early, Quiet, Powers, Sends, by_kind, unheard_bytes}
 
 -- ---- a running card
 
@@ -250,10 +250,10 @@ send_fits c session_state budget (b ∷ bs) h =
     sent_on_fits c.apps (is_done r.outcome) r (send (card_done c r.items) r.session_state budget bs) k (send_fits (card_done c r.items) r.session_state budget bs k.session_state)
 
 line_fits : (c : Card) (session_state : SessionState) (budget : ℕ) (l : DeckLine) → SessionStateFits c.apps session_state → CommandFits c.apps (line_command c session_state budget l)
-line_fits c session_state budget (line.Select n) h = command_fits c session_state (select_bytes n) budget h
-line_fits c session_state budget (line.Delete n) h = command_fits c session_state (delete_bytes n) budget h
-line_fits c session_state budget (line.Apdu b) h = command_fits c session_state b budget h
-line_fits c session_state budget (line.Load u fixed session) h = send_fits c session_state budget (load_commands u fixed session) h
+line_fits c session_state budget (line.Sent (line.Select n)) h = command_fits c session_state (select_bytes n) budget h
+line_fits c session_state budget (line.Sent (line.Delete n)) h = command_fits c session_state (delete_bytes n) budget h
+line_fits c session_state budget (line.Sent (line.Apdu b)) h = command_fits c session_state b budget h
+line_fits c session_state budget (line.Sent (line.Load u fixed session)) h = send_fits c session_state budget (load_commands u fixed session) h
 line_fits c session_state budget l h = record { items = tt; session_state = h }
 
 -- ---- the card that the first power line finds
@@ -369,29 +369,12 @@ after_fits : (s : Warm) (c : Card) (r : Command) (t : Option StopAt) → Limited
 after_fits s c r None l k = (limited_done r.items c.apps l k.items, k.session_state)
 after_fits s c r (Some t) l k = (limited_done (at_stop r.items t.at t.left).whole c.apps l (fit_whole r.items c.apps t.at t.left k.items), after_stop _ t.kind)
 
-card_fits : (n : ℕ) (l : DeckLine) (b : Base) (o : ℕ) (j : Journal) (v : Live) (g : ℕ) (a : Armed) (w : Option FailedWrite) → BaseFits b v → LineFits (card_line n l (past_power b o j v g a) v b w)
-card_fits n l (OnCard c) o j (Running session_state) g a w h =
-    let r = line_command c session_state g l in
-    let s = past_power (OnCard c) o j (Running session_state) g a in
-    record { well = sent_well c session_state g (bytes_of l) h.0 h.1; next = after_fits s c r (hit_of a (moves r.items) w) h.0 (line_fits c session_state g l h.1) }
-card_fits n l (AtFault cause p) o j (Running session_state) g a w h = record { well = tt; next = tt }
-card_fits n l b o j Unpowered g a w h = record { well = tt; next = h }
-card_fits n l b o j Muted g a w h = record { well = tt; next = h }
-
--- a line that has no commands
-none_taken : (v : Live) (b : Base) (g : ℕ) → TakenWell v b g []
-none_taken (Running session_state) (OnCard c) g = tt
-none_taken (Running session_state) (AtFault cause p) g = tt
-none_taken Unpowered b g = tt
-none_taken Muted b g = tt
-
-after_power_fits : (n : ℕ) (l : DeckLine) (s : Warm) (w : Option FailedWrite) → BaseFits s.base s.live → LineFits (after_power_step n l s w)
-after_power_fits n line.Power s w h = record { well = none_taken s.live s.base s.budget; next = power_fits s (hit_of s.armed (power_moves s) w) (base_limited s.base s.live h) }
-after_power_fits n (line.Load u fixed session) s w h = card_fits n (line.Load u fixed session) s.base s.owed s.by s.live s.budget s.armed w h
-after_power_fits n (line.Select x) s w h = card_fits n (line.Select x) s.base s.owed s.by s.live s.budget s.armed w h
-after_power_fits n (line.Delete x) s w h = card_fits n (line.Delete x) s.base s.owed s.by s.live s.budget s.armed w h
-after_power_fits n (line.Apdu x) s w h = card_fits n (line.Apdu x) s.base s.owed s.by s.live s.budget s.armed w h
-after_power_fits n _ s w h = record { well = none_taken s.live s.base s.budget; next = h }
+-- a line that no card hears has no commands for one
+none_taken : (v : Live) (b : Base) (g : ℕ) (l : DeckLine) → IsUnheard l v b → TakenWell v b g (bytes_of l)
+none_taken (Running session_state) (OnCard c) g l h = subst (SentWell c session_state g) (sym (unheard_bytes l c session_state h)) tt
+none_taken (Running session_state) (AtFault cause p) g l h = tt
+none_taken Unpowered b g l h = tt
+none_taken Muted b g l h = tt
 
 found_fits : (m : List (List ℕ)) (f : Option (Cause × ℕ)) → fault m ≡ f → BaseFits (base_of f m) Unpowered
 found_fits m None h = (means_limited m h, tt)
@@ -401,14 +384,19 @@ warmed_fits : (m : List (List ℕ)) (b : ℕ) (a : Armed) → BaseFits (play_at_
 unfolding play_at_power
 warmed_fits m b a = found_fits m (fault m) refl
 
-before_power_fits : (n : ℕ) (l : DeckLine) (m : List (List ℕ)) (b : ℕ) (a : Armed) (w : Option FailedWrite) → LineFits (before_power_step n l m b a w)
-before_power_fits n line.Power m b a w = record { well = tt; next = power_fits (play_at_power m b a) (hit_of a (power_moves (play_at_power m b a)) w) (warmed_fits m b a) }
-before_power_fits n _ m b a w = record { well = tt; next = tt }
+-- every line
+kind_fits : {w : Option FailedWrite} {z : State} {n : ℕ} {l : DeckLine} {u : Step} → StepKind w z n l u → StateFits z → LineFits u
+kind_fits (Early p) h = record { well = tt; next = tt }
+kind_fits (Quiet {l = l} {s = s} p q) h = record { well = none_taken s.live s.base s.budget l q; next = h }
+kind_fits (Powers (BeforePower m b a)) h = record { well = tt; next = power_fits (play_at_power m b a) _ (warmed_fits m b a) }
+kind_fits (Powers (AfterPower s)) h = record { well = none_taken s.live s.base s.budget line.Power (inl refl); next = power_fits s _ (base_limited s.base s.live h) }
+kind_fits {w} (Sends {o = o} {g = g} {j = j} {a = a} k c session_state) h =
+    let r = line_command c session_state g (line.Sent k) in
+    let s = past_power (OnCard c) o j (Running session_state) g a in
+    record { well = sent_well c session_state g (bytes_of (line.Sent k)) h.0 h.1; next = after_fits s c r (hit_of a (moves r.items) w) h.0 (line_fits c session_state g (line.Sent k) h.1) }
 
 pub step_fits : (z : State) (l : ℕ × DeckLine) (w : Option FailedWrite) → StateFits z → LineFits (step z l w)
-unfolding step
-step_fits (BeforePower m b a) l w h = before_power_fits l.0 l.1 m b a w
-step_fits (AfterPower s) l w h = after_power_fits l.0 l.1 s w h
+step_fits z l w h = kind_fits (by_kind z l w) h
 
 begin_from : (z : State) (ls : List (ℕ × DeckLine)) (ws : List (Option FailedWrite)) → StateFits z → BeginWell (plays z ls ws)
 unfolding plays

@@ -1,5 +1,5 @@
 -- Once a card is sure to be there, every power line that no stop hits finds it.
-use Rattle.std.proofs.Common.{◌≡◌, ℕ, zero, suc, ◌+◌, ◌-◌, ◌≤◌, Bool, true, false, cond, ◌&&◌, ◌||◌, not, List, [], ◌∷◌, length, take, drop, Option, Some, None, refl, sym, ◌∙◌, ap, subst, arith}
+use Rattle.std.proofs.Common.{◌≡◌, ℕ, zero, suc, ◌+◌, ◌-◌, ◌≤◌, Bool, true, false, cond, ◌&&◌, ◌||◌, not, List, [], ◌∷◌, length, take, drop, Option, Some, None, refl, sym, subst, arith}
 use Rattle.std.specs.Prelude.{⊤, nat_le, ◌==◌, slice_set}
 use Rattle.std.specs.List.{AllByRecursion}
 use Rattle.std.proofs.lemmas.List.{length-set}
@@ -12,17 +12,18 @@ use Rattle.mc_model_device.specs.Stopped.{cost, stands}
 use Rattle.mc_model_device.specs.Card.{App, Card}
 use Rattle.mc_model_device.specs.Layout.{fault}
 use Rattle.mc_model_card.specs.Items.{Item, Plain, Atomic, weight, moves, StopAt, Stopped, at_stop, in_flight, with_item}
-use Rattle.mc_model_play.specs.Play.{Armed, Live, Running, Unpowered, Muted, Warm, State, BeforePower, AfterPower, LineResult, Step, command_step, line_command, line_after, line_says, hit_of, result_of_stop, FailedWrite, step, after_power_step, before_power_step, card_line, power_step, stopped_power, power_moves, play_at_power, plays, first_failure, start, static_of, dump_result, without_card, quiet, formatted_image}
+use Rattle.mc_model_play.specs.Play.{Armed, Live, Running, Unpowered, Muted, Warm, State, BeforePower, AfterPower, LineResult, Step, command_step, line_command, line_after, hit_of, result_of_stop, FailedWrite, step, power_step, stopped_power, play_at_power, plays, first_failure, start, static_of, dump_result, without_card, formatted_image}
 use Rattle.mc_model_device.specs.PowerUp.{Base, OnCard, AtFault, base_after_migration, migration, base_of}
 use Rattle.mc_model_card.specs.Commands.{Command}
 use Rattle.mc_model_play.specs.ReadyAgain.{is_found, is_before_power, is_poke, sure_after, PowerIsReady, ReadyLine, ReadyAgain, FitsJournal, AllFitJournal}
-use Rattle.mc_model_play.specs.DeckGrammar.{DeckLine}
+use Rattle.mc_model_play.specs.DeckGrammar.{DeckLine, DeckCommand}
 use Rattle.mc_model_play.specs.DeckGrammar as line
 use Rattle.mc_model_device.proofs.LookLemmas.{owed_few}
 use Rattle.mc_model_device.specs.Device.{IsImage}
 use Rattle.mc_family.proofs.FormattedImage.{formatted_sound, formatted_size}
-use Rattle.mc_family.proofs.AfterPowerLines.{past_power}
 use Rattle.mc_model_device.proofs.BoolLemmas.{cond_most}
+use Rattle.mc_model_play.proofs.LineKinds.{past_power, image_after, budget_after, armed_after, early_result, quiet_result, StepKind, Early, Quiet, Powers, Sends, by_kind}
+use Rattle.mc_model_play.specs.Given.{is_power}
 
 -- ---- the writes that recovery may have to make
 
@@ -89,9 +90,6 @@ says_ready false t h = tt
 still_sure : (found sure : Bool) (s : Warm) → found ≡ false → SureWarm sure s → SureWarm (found || sure) s
 still_sure found sure s e h = subst (λ (b : Bool). SureWarm (b || sure) s) (sym e) h
 
-still_before_power : (found sure : Bool) (m : List (List ℕ)) → found ≡ false → SureBeforePower sure m → SureBeforePower (found || sure) m
-still_before_power found sure m e h = subst (λ (b : Bool). SureBeforePower (b || sure) m) (sym e) h
-
 -- ---- power lines
 
 stop_not_found : (t : StopAt) (k : Stop) → is_found (Some (result_of_stop t k)) ≡ false
@@ -139,42 +137,18 @@ card_sure : (sure : Bool) (c : Card) → SureBase sure (OnCard c)
 card_sure true c = tt
 card_sure false c = tt
 
--- a line other than power, whose result finds no card
-module _ (sure : Bool) (n : ℕ) (l : DeckLine) (other : (o : Option StopAt) (r : Option LineResult) → PowerIsReady l o r) (unpoked : is_poke l ≡ false) where
-  unspoiled : (before : State) → (not (is_poke l && is_before_power before) && sure) ≡ sure
-  unspoiled before = ap (λ (b : Bool). not (b && is_before_power before) && sure) unpoked
+-- a line other than power has nothing to be ready for
+no_power_ready : (l : DeckLine) (o : Option StopAt) (r : Option LineResult) → is_power l ≡ false → PowerIsReady l o r
+no_power_ready line.Power o r p = absurd (cc p)
+no_power_ready _ o r p = tt
 
-  sure_still : (before : State) (found : Bool) → found ≡ false → (found || (not (is_poke l && is_before_power before) && sure)) ≡ sure
-  sure_still before found e = ap (λ (b : Bool). b || (not (is_poke l && is_before_power before) && sure)) e ∙ unspoiled before
-
-  command_sure : (s : Warm) (c : Card) (r : Command) (t : Option StopAt) → AllByRecursion FitsJournal r.items → SureWarm sure s → KeepsReady sure (command_step n l s c r t)
-  command_sure s c r None fits h =
-      record {
-        says = says_ready sure (command_step n l s c r None) (other None (Some (line_says r None)));
-        next = subst (λ (b : Bool). SureWarm b (line_after s c r None)) (sym (sure_still (AfterPower s) false refl)) (record { owed = h.owed; base = card_sure sure _ });
-      }
-  command_sure s c r (Some t) fits h =
-      record {
-        says = says_ready sure (command_step n l s c r (Some t)) (other (Some t) (Some (line_says r (Some t))));
-        next = subst (λ (b : Bool). SureWarm b (line_after s c r (Some t))) (sym (sure_still (AfterPower s) (is_found (Some (result_of_stop t t.kind))) (stop_not_found t t.kind)))
-            (record { owed = at_stop_owed r.items t.at t.left fits; base = card_sure sure _ });
-      }
-
-  -- a line that changes neither the base nor the writes that recovery still has to make
-  quiet_sure : (s t : Warm) (r : Option LineResult) → is_found r ≡ false → t.base ≡ s.base → t.owed ≡ s.owed → SureWarm sure s → KeepsReady sure (quiet n l (AfterPower s) r (AfterPower t))
-  quiet_sure s t r e b o h =
-      record {
-        says = says_ready sure (quiet n l (AfterPower s) r (AfterPower t)) (other None r);
-        next = subst (λ (b : Bool). SureWarm b t) (sym (sure_still (AfterPower s) (is_found r) e)) (record { owed = subst (λ (k : ℕ). k ≤ 65) (sym o) h.owed; base = subst (λ (x : Base). SureBase sure x) (sym b) h.base });
-      }
-
-  -- a line before the first power line that leaves the image
-  before_power_sure : (m : List (List ℕ)) (b c : ℕ) (a d : Armed) (r : Option LineResult) → is_found r ≡ false → SureBeforePower sure m → KeepsReady sure (quiet n l (BeforePower m b a) r (BeforePower m c d))
-  before_power_sure m b c a d r e h =
-      record {
-        says = says_ready sure (quiet n l (BeforePower m b a) r (BeforePower m c d)) (other None r);
-        next = subst (λ (b : Bool). SureBeforePower b m) (sym (sure_still (BeforePower m b a) (is_found r) e)) h;
-      }
+command_sure : (sure : Bool) (n : ℕ) (k : DeckCommand) (s : Warm) (c : Card) (r : Command) (t : Option StopAt) → AllByRecursion FitsJournal r.items → SureWarm sure s → KeepsReady sure (command_step n (line.Sent k) s c r t)
+command_sure sure n k s c r None fits h = record { says = says_ready sure (command_step n (line.Sent k) s c r None) tt; next = record { owed = h.owed; base = card_sure sure _ } }
+command_sure sure n k s c r (Some t) fits h =
+    record {
+      says = says_ready sure (command_step n (line.Sent k) s c r (Some t)) tt;
+      next = still_sure (is_found (Some (result_of_stop t t.kind))) sure (line_after s c r (Some t)) (stop_not_found t t.kind) (record { owed = at_stop_owed r.items t.at t.left fits; base = card_sure sure _ });
+    }
 
 without_not_found : (v : Live) → is_found (Some (without_card v)) ≡ false
 without_not_found (Running session_state) = refl
@@ -191,34 +165,17 @@ dumped_not_found (Running session_state) (AtFault cause p) x = refl
 dumped_not_found Unpowered b x = refl
 dumped_not_found Muted b x = refl
 
-card_line_sure : (sure : Bool) (n : ℕ) (l : DeckLine) → ((o : Option StopAt) (r : Option LineResult) → PowerIsReady l o r) → is_poke l ≡ false
-    → (b : Base) (o : ℕ) (j : Journal) (v : Live) (g : ℕ) (a : Armed) (w : Option FailedWrite) → let s = past_power b o j v g a in AllByRecursion FitsJournal (card_line n l s v b w).items → SureWarm sure s → KeepsReady sure (card_line n l s v b w)
-card_line_sure sure n l other unpoked (OnCard c) o j (Running session_state) g a w fits h =
-    let s = past_power (OnCard c) o j (Running session_state) g a in
-    let r = line_command c session_state g l in
-    command_sure sure n l other unpoked s c r (hit_of a (moves r.items) w) fits h
-card_line_sure sure n l other unpoked (AtFault cause p) o j (Running session_state) g a w fits h =
-    quiet_sure sure n l other unpoked (past_power (AtFault cause p) o j (Running session_state) g a) _ (Some (without_card (Running session_state))) refl refl refl h
-card_line_sure sure n l other unpoked b o j Unpowered g a w fits h =
-    quiet_sure sure n l other unpoked (past_power b o j Unpowered g a) _ (Some (without_card Unpowered)) refl refl refl h
-card_line_sure sure n l other unpoked b o j Muted g a w fits h =
-    quiet_sure sure n l other unpoked (past_power b o j Muted g a) _ (Some (without_card Muted)) refl refl refl h
+quiet_not_found : (l : DeckLine) (v : Live) (b : Base) → is_found (quiet_result l v b) ≡ false
+quiet_not_found (line.Dump x) v b = dumped_not_found v b x
+quiet_not_found (line.Sent k) v b = without_not_found v
+quiet_not_found _ v b = refl
+
+-- only a line before the first power line can spoil the card
+unspoiled : (l : DeckLine) (s : Warm) (sure : Bool) → (not (is_poke l && is_before_power (AfterPower s)) && sure) ≡ sure
+unspoiled (line.Poke at x) s sure = refl
+unspoiled _ s sure = refl
 
 -- ---- every line
-
-after_power_sure : (sure : Bool) (n : ℕ) (l : DeckLine) (s : Warm) (w : Option FailedWrite) → AllByRecursion FitsJournal (after_power_step n l s w).items → SureWarm sure s → KeepsReady sure (after_power_step n l s w)
-after_power_sure sure n line.Format s w fits h = quiet_sure sure n line.Format (λ o r. tt) refl s s None refl refl refl h
-after_power_sure sure n (line.Poke at x) s w fits h = record { says = says_ready sure (quiet n (line.Poke at x) (AfterPower s) None (AfterPower s)) tt; next = h }
-after_power_sure sure n line.Named s w fits h = quiet_sure sure n line.Named (λ o r. tt) refl s s None refl refl refl h
-after_power_sure sure n (line.Budget b) s w fits h = quiet_sure sure n (line.Budget b) (λ o r. tt) refl s (record s { budget = b }) None refl refl refl h
-after_power_sure sure n (line.Cut k x) s w fits h = quiet_sure sure n (line.Cut k x) (λ o r. tt) refl s _ None refl refl refl h
-after_power_sure sure n (line.Fail k) s w fits h = quiet_sure sure n (line.Fail k) (λ o r. tt) refl s _ None refl refl refl h
-after_power_sure sure n (line.Dump x) s w fits h = quiet_sure sure n (line.Dump x) (λ o r. tt) refl s s (Some (dump_result s.live s.base x)) (dumped_not_found s.live s.base x) refl refl h
-after_power_sure sure n line.Power s w fits h = power_sure sure n (AfterPower s) s (hit_of s.armed (power_moves s) w) h
-after_power_sure sure n (line.Load u fixed session) s w fits h = card_line_sure sure n (line.Load u fixed session) (λ o r. tt) refl s.base s.owed s.by s.live s.budget s.armed w fits h
-after_power_sure sure n (line.Select x) s w fits h = card_line_sure sure n (line.Select x) (λ o r. tt) refl s.base s.owed s.by s.live s.budget s.armed w fits h
-after_power_sure sure n (line.Delete x) s w fits h = card_line_sure sure n (line.Delete x) (λ o r. tt) refl s.base s.owed s.by s.live s.budget s.armed w fits h
-after_power_sure sure n (line.Apdu x) s w fits h = card_line_sure sure n (line.Apdu x) (λ o r. tt) refl s.base s.owed s.by s.live s.budget s.armed w fits h
 
 -- what the first power line finds
 based_sure : (sure : Bool) (m : List (List ℕ)) → SureImage sure m → SureBase sure (base_of (fault m) m)
@@ -239,24 +196,28 @@ formatted_sure m sure h =
     let same : length (formatted_image m) ≡ length m = formatted_size m h.low in
     record { low = subst (λ (k : ℕ). 256 ≤ k) (sym same) h.low; high = subst (λ (k : ℕ). k ≤ 16384) (sym same) h.high; sound = formatted_sound m h.low h.high }
 
-before_power_line_sure : (sure : Bool) (n : ℕ) (l : DeckLine) (m : List (List ℕ)) (b : ℕ) (a : Armed) (w : Option FailedWrite) → SureBeforePower sure m → KeepsReady sure (before_power_step n l m b a w)
-before_power_line_sure sure n line.Format m b a w h = record { says = says_ready sure (before_power_step n line.Format m b a w) tt; next = formatted_sure m sure h }
-before_power_line_sure sure n (line.Poke at x) m b a w h = record { says = says_ready sure (before_power_step n (line.Poke at x) m b a w) tt; next = poked_size m at x sure h }
-before_power_line_sure sure n line.Named m b a w h = before_power_sure sure n line.Named (λ o r. tt) refl m b b a a None refl h
-before_power_line_sure sure n (line.Budget c) m b a w h = before_power_sure sure n (line.Budget c) (λ o r. tt) refl m b c a a None refl h
-before_power_line_sure sure n (line.Cut k x) m b a w h = before_power_sure sure n (line.Cut k x) (λ o r. tt) refl m b b a _ None refl h
-before_power_line_sure sure n (line.Fail k) m b a w h = before_power_sure sure n (line.Fail k) (λ o r. tt) refl m b b a _ None refl h
-before_power_line_sure sure n (line.Dump x) m b a w h = before_power_sure sure n (line.Dump x) (λ o r. tt) refl m b b a a _ refl h
-before_power_line_sure sure n line.Power m b a w h = power_sure sure n (BeforePower m b a) (play_at_power m b a) (hit_of a (power_moves (play_at_power m b a)) w) (warmed_sure sure m b a h)
-before_power_line_sure sure n (line.Load u fixed session) m b a w h = before_power_sure sure n (line.Load u fixed session) (λ o r. tt) refl m b b a _ _ refl h
-before_power_line_sure sure n (line.Select x) m b a w h = before_power_sure sure n (line.Select x) (λ o r. tt) refl m b b a _ _ refl h
-before_power_line_sure sure n (line.Delete x) m b a w h = before_power_sure sure n (line.Delete x) (λ o r. tt) refl m b b a _ _ refl h
-before_power_line_sure sure n (line.Apdu x) m b a w h = before_power_sure sure n (line.Apdu x) (λ o r. tt) refl m b b a _ _ refl h
+early_sure : (l : DeckLine) (m : List (List ℕ)) (b : ℕ) (a : Armed) (sure : Bool) → SureBeforePower sure m → SureBeforePower (is_found (early_result l) || (not (is_poke l && is_before_power (BeforePower m b a)) && sure)) (image_after l m)
+early_sure line.Format m b a sure h = formatted_sure m sure h
+early_sure (line.Poke at x) m b a sure h = poked_size m at x sure h
+early_sure _ m b a sure h = h
+
+kind_sure : {w : Option FailedWrite} {z : State} {n : ℕ} {l : DeckLine} {u : Step} (sure : Bool) → StepKind w z n l u → AllByRecursion FitsJournal u.items → Sure sure z → KeepsReady sure u
+kind_sure sure (Early {l = l} {m = m} {b = b} {a = a} p) fits h = record { says = says_ready sure _ (no_power_ready l None _ p); next = early_sure l m b a sure h }
+kind_sure sure (Quiet {l = l} {s = s} p q) fits h =
+    let t : Warm = record s { budget = budget_after l s.budget; armed = armed_after l s.armed } in
+    record {
+      says = says_ready sure _ (no_power_ready l None _ p);
+      next = still_sure (is_found (quiet_result l s.live s.base)) (not (is_poke l && is_before_power (AfterPower s)) && sure) t (quiet_not_found l s.live s.base)
+          (subst (λ (b : Bool). SureWarm b t) (sym (unspoiled l s sure)) (record { owed = h.owed; base = h.base }));
+    }
+kind_sure sure (Powers (BeforePower m b a)) fits h = power_sure sure _ (BeforePower m b a) (play_at_power m b a) _ (warmed_sure sure m b a h)
+kind_sure sure (Powers (AfterPower s)) fits h = power_sure sure _ (AfterPower s) s _ h
+kind_sure {w} sure (Sends {n = n} {o = o} {g = g} {j = j} {a = a} k c session_state) fits h =
+    let r = line_command c session_state g (line.Sent k) in
+    command_sure sure n k (past_power (OnCard c) o j (Running session_state) g a) c r (hit_of a (moves r.items) w) fits h
 
 step_sure : (sure : Bool) (z : State) (l : ℕ × DeckLine) (w : Option FailedWrite) → AllByRecursion FitsJournal (step z l w).items → Sure sure z → KeepsReady sure (step z l w)
-unfolding step
-step_sure sure (BeforePower m b a) l w fits h = before_power_line_sure sure l.0 l.1 m b a w h
-step_sure sure (AfterPower s) l w fits h = after_power_sure sure l.0 l.1 s w fits h
+step_sure sure z l w fits h = kind_sure sure (by_kind z l w) fits h
 
 ready_from : (n : ℕ) (sure : Bool) (z : State) (ls : List (ℕ × DeckLine)) (ws : List (Option FailedWrite)) → Sure sure z → AllFitJournal (take n (plays z ls ws)) → ReadyAgain sure (take n (plays z ls ws))
 unfolding plays

@@ -42,7 +42,7 @@ counter aid =
 
 -- the command that counts
 abbrev pub count : DeckLine
-count = line.Apdu (0x80 ∷ 1 ∷ 0 ∷ 0 ∷ 2 ∷ [])
+count = line.Sent (line.Apdu (0x80 ∷ 1 ∷ 0 ∷ 0 ∷ 2 ∷ []))
 
 -- a cut at write 4, which opens the gate of an atomic write of one word and leaves the commit record
 abbrev pub gate_cut : DeckLine
@@ -51,8 +51,8 @@ gate_cut = line.Cut 4 (opening Two)
 -- both are loaded and count; a cut in the stranger's command, and one in the family's
 abbrev pub lines : List (ℕ × DeckLine)
 lines =
-    (1, line.Format) ∷ (2, line.Power) ∷ (3, line.Load (counter first) 2 0) ∷ (4, line.Load (counter second) 2 0) ∷ (5, line.Select first) ∷ (6, count)
-    ∷ (7, line.Select second) ∷ (8, gate_cut) ∷ (9, count) ∷ (10, line.Power) ∷ (11, line.Select first) ∷ (12, gate_cut) ∷ (13, count) ∷ (14, line.Power)
+    (1, line.Format) ∷ (2, line.Power) ∷ (3, line.Sent (line.Load (counter first) 2 0)) ∷ (4, line.Sent (line.Load (counter second) 2 0)) ∷ (5, line.Sent (line.Select first)) ∷ (6, count)
+    ∷ (7, line.Sent (line.Select second)) ∷ (8, gate_cut) ∷ (9, count) ∷ (10, line.Power) ∷ (11, line.Sent (line.Select first)) ∷ (12, gate_cut) ∷ (13, count) ∷ (14, line.Power)
     ∷ (15, line.Dump first) ∷ (16, line.Dump second) ∷ []
 
 -- the words of a small device

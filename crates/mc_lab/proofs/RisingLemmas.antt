@@ -39,48 +39,19 @@ begins_early n c false e l = tt
 opens_at : (c : Context) (n : ℕ) (w : Word) (fs : List (List ℕ)) → BeginsAt n (statement_of c n w fs)
 unfolding statement_of
 opens_at c n FormatWord [] = begins_early n c (not c.powered) LateLine line.Format
-opens_at c n FormatWord (f ∷ fs) = tt
 opens_at c n PowerWord [] = tt
-opens_at c n PowerWord (f ∷ fs) = tt
-opens_at c n UnitWord [] = tt
-opens_at c n UnitWord (f0 ∷ []) = tt
 opens_at c n UnitWord (f0 ∷ f1 ∷ []) = begins_behind n (name_field f0) _ (λ name. begins_behind n (hex_field f1) _ (λ bytes. begins_behind n (new_name c name) _ (λ name. begins_behind n (err_as causes.Unit (unit_read bytes)) _ (λ u. tt))))
-opens_at c n UnitWord (f0 ∷ f1 ∷ f ∷ fs) = tt
-opens_at c n AppWord [] = tt
-opens_at c n AppWord (f0 ∷ []) = tt
 opens_at c n AppWord (f0 ∷ f1 ∷ []) = begins_behind n (name_field f0) _ (λ name. begins_behind n (aid_field f1) _ (λ aid. begins_behind n (new_name c name) _ (λ name. refl)))
-opens_at c n AppWord (f0 ∷ f1 ∷ f ∷ fs) = tt
-opens_at c n LoadWord [] = tt
-opens_at c n LoadWord (f0 ∷ []) = tt
-opens_at c n LoadWord (f0 ∷ f1 ∷ []) = tt
 opens_at c n LoadWord (f0 ∷ f1 ∷ f2 ∷ []) = begins_behind n (name_field f0) _ (λ name. begins_behind n (number_field 0 65535 f1) _ (λ fixed. begins_behind n (number_field 0 65535 f2) _ (λ session. begins_behind n (ok_or (lookup c.units name) UnknownName) _ (λ u. tt))))
-opens_at c n LoadWord (f0 ∷ f1 ∷ f2 ∷ f ∷ fs) = tt
-opens_at c n SelectWord [] = tt
-opens_at c n SelectWord (f0 ∷ []) = begins_says n (aid_field f0) line.Select c
-opens_at c n SelectWord (f0 ∷ f ∷ fs) = tt
-opens_at c n DeleteWord [] = tt
-opens_at c n DeleteWord (f0 ∷ []) = begins_says n (aid_field f0) line.Delete c
-opens_at c n DeleteWord (f0 ∷ f ∷ fs) = tt
-opens_at c n DumpWord [] = tt
+opens_at c n SelectWord (f0 ∷ []) = begins_says n (aid_field f0) (λ a. line.Sent (line.Select a)) c
+opens_at c n DeleteWord (f0 ∷ []) = begins_says n (aid_field f0) (λ a. line.Sent (line.Delete a)) c
 opens_at c n DumpWord (f0 ∷ []) = begins_says n (aid_field f0) line.Dump c
-opens_at c n DumpWord (f0 ∷ f ∷ fs) = tt
-opens_at c n ApduWord [] = tt
-opens_at c n ApduWord (f0 ∷ []) = begins_says n (hex_field f0) line.Apdu c
-opens_at c n ApduWord (f0 ∷ f ∷ fs) = tt
-opens_at c n BudgetWord [] = tt
+opens_at c n ApduWord (f0 ∷ []) = begins_says n (hex_field f0) (λ a. line.Sent (line.Apdu a)) c
 opens_at c n BudgetWord (f0 ∷ []) = begins_says n (number_field 1 65536 f0) line.Budget c
-opens_at c n BudgetWord (f0 ∷ f ∷ fs) = tt
-opens_at c n CutWord [] = tt
-opens_at c n CutWord (f0 ∷ []) = tt
 opens_at c n CutWord (f0 ∷ f1 ∷ []) = begins_behind n (number_field 1 4294967295 f0) _ (λ k. begins_behind n (fill_field f1) _ (λ fill. tt))
-opens_at c n CutWord (f0 ∷ f1 ∷ f ∷ fs) = tt
-opens_at c n FailWord [] = tt
 opens_at c n FailWord (f0 ∷ []) = begins_says n (number_field 1 4294967295 f0) line.Fail c
-opens_at c n FailWord (f0 ∷ f ∷ fs) = tt
-opens_at c n PokeWord [] = tt
-opens_at c n PokeWord (f0 ∷ []) = tt
 opens_at c n PokeWord (f0 ∷ f1 ∷ []) = begins_behind n (number_field 0 16383 f0) _ (λ at. begins_behind n (fill_field f1) _ (λ fill. begins_early n c (not c.powered) LateLine (line.Poke at fill)))
-opens_at c n PokeWord (f0 ∷ f1 ∷ f ∷ fs) = tt
+opens_at c n _ _ = tt
 
 -- ---- turns
 

@@ -40,63 +40,34 @@ then_any b (Err e) f h = tt
 stated_opens : (c : Context) (n : ℕ) (w : Word) (fs : List (List ℕ)) → IfOk (statement_of c n w fs) (OpensAs (is_app w))
 unfolding statement_of
 stated_opens c n FormatWord [] = only_ok (not c.powered) LateLine (Says line.Format c) (OpensAs false) (λ e. refl)
-stated_opens c n FormatWord (x ∷ xs) = tt
 stated_opens c n PowerWord [] = refl
-stated_opens c n PowerWord (x ∷ xs) = tt
-stated_opens c n UnitWord [] = tt
-stated_opens c n UnitWord (x ∷ []) = tt
 stated_opens c n UnitWord (name ∷ hex ∷ []) =
     then_any false (name_field name) (λ name. hex_field hex >>= λ bytes. new_name c name >>= λ name. err_as causes.Unit (unit_read bytes) >>= λ u. Ok (Says line.Named (with_unit c name u)))
     (λ name. then_any false (hex_field hex) (λ bytes. new_name c name >>= λ name. err_as causes.Unit (unit_read bytes) >>= λ u. Ok (Says line.Named (with_unit c name u)))
     (λ bytes. then_any false (new_name c name) (λ name. err_as causes.Unit (unit_read bytes) >>= λ u. Ok (Says line.Named (with_unit c name u)))
     (λ name. then_any false (err_as causes.Unit (unit_read bytes)) (λ u. Ok (Says line.Named (with_unit c name u))) (λ u. refl))))
-stated_opens c n UnitWord (name ∷ hex ∷ x ∷ xs) = tt
-stated_opens c n AppWord [] = tt
-stated_opens c n AppWord (x ∷ []) = tt
 stated_opens c n AppWord (name ∷ aid ∷ []) =
     then_any true (name_field name) (λ name. aid_field aid >>= λ aid. new_name c name >>= λ name. Ok (Opens (record { first = n; name = name; aid = aid; lines = [] }) c))
     (λ name. then_any true (aid_field aid) (λ aid. new_name c name >>= λ name. Ok (Opens (record { first = n; name = name; aid = aid; lines = [] }) c))
     (λ aid. then_any true (new_name c name) (λ name. Ok (Opens (record { first = n; name = name; aid = aid; lines = [] }) c)) (λ name. refl)))
-stated_opens c n AppWord (name ∷ aid ∷ x ∷ xs) = tt
-stated_opens c n LoadWord [] = tt
-stated_opens c n LoadWord (x ∷ []) = tt
-stated_opens c n LoadWord (x ∷ y ∷ []) = tt
 stated_opens c n LoadWord (name ∷ fixed ∷ session ∷ []) =
-    then_any false (name_field name) (λ name. number_field 0 65535 fixed >>= λ fixed. number_field 0 65535 session >>= λ session. ok_or (lookup c.units name) UnknownName >>= λ u. Ok (Says (line.Load u fixed session) c))
-    (λ name. then_any false (number_field 0 65535 fixed) (λ fixed. number_field 0 65535 session >>= λ session. ok_or (lookup c.units name) UnknownName >>= λ u. Ok (Says (line.Load u fixed session) c))
-    (λ fixed. then_any false (number_field 0 65535 session) (λ session. ok_or (lookup c.units name) UnknownName >>= λ u. Ok (Says (line.Load u fixed session) c))
-    (λ session. then_any false (ok_or (lookup c.units name) UnknownName) (λ u. Ok (Says (line.Load u fixed session) c)) (λ u. refl))))
-stated_opens c n LoadWord (name ∷ fixed ∷ session ∷ x ∷ xs) = tt
-stated_opens c n SelectWord [] = tt
-stated_opens c n SelectWord (aid ∷ []) = as_ok (λ a. Says (line.Select a) c) (aid_field aid) (λ x. ⊤) (OpensAs false) (any_ok (aid_field aid)) (λ a k. refl)
-stated_opens c n SelectWord (aid ∷ x ∷ xs) = tt
-stated_opens c n DeleteWord [] = tt
-stated_opens c n DeleteWord (aid ∷ []) = as_ok (λ a. Says (line.Delete a) c) (aid_field aid) (λ x. ⊤) (OpensAs false) (any_ok (aid_field aid)) (λ a k. refl)
-stated_opens c n DeleteWord (aid ∷ x ∷ xs) = tt
-stated_opens c n DumpWord [] = tt
+    then_any false (name_field name) (λ name. number_field 0 65535 fixed >>= λ fixed. number_field 0 65535 session >>= λ session. ok_or (lookup c.units name) UnknownName >>= λ u. Ok (Says (line.Sent (line.Load u fixed session)) c))
+    (λ name. then_any false (number_field 0 65535 fixed) (λ fixed. number_field 0 65535 session >>= λ session. ok_or (lookup c.units name) UnknownName >>= λ u. Ok (Says (line.Sent (line.Load u fixed session)) c))
+    (λ fixed. then_any false (number_field 0 65535 session) (λ session. ok_or (lookup c.units name) UnknownName >>= λ u. Ok (Says (line.Sent (line.Load u fixed session)) c))
+    (λ session. then_any false (ok_or (lookup c.units name) UnknownName) (λ u. Ok (Says (line.Sent (line.Load u fixed session)) c)) (λ u. refl))))
+stated_opens c n SelectWord (aid ∷ []) = as_ok (λ a. Says (line.Sent (line.Select a)) c) (aid_field aid) (λ x. ⊤) (OpensAs false) (any_ok (aid_field aid)) (λ a k. refl)
+stated_opens c n DeleteWord (aid ∷ []) = as_ok (λ a. Says (line.Sent (line.Delete a)) c) (aid_field aid) (λ x. ⊤) (OpensAs false) (any_ok (aid_field aid)) (λ a k. refl)
 stated_opens c n DumpWord (aid ∷ []) = as_ok (λ a. Says (line.Dump a) c) (aid_field aid) (λ x. ⊤) (OpensAs false) (any_ok (aid_field aid)) (λ a k. refl)
-stated_opens c n DumpWord (aid ∷ x ∷ xs) = tt
-stated_opens c n ApduWord [] = tt
-stated_opens c n ApduWord (hex ∷ []) = as_ok (λ b. Says (line.Apdu b) c) (hex_field hex) (λ x. ⊤) (OpensAs false) (any_ok (hex_field hex)) (λ b k. refl)
-stated_opens c n ApduWord (hex ∷ x ∷ xs) = tt
-stated_opens c n BudgetWord [] = tt
+stated_opens c n ApduWord (hex ∷ []) = as_ok (λ b. Says (line.Sent (line.Apdu b)) c) (hex_field hex) (λ x. ⊤) (OpensAs false) (any_ok (hex_field hex)) (λ b k. refl)
 stated_opens c n BudgetWord (b ∷ []) = as_ok (λ b. Says (line.Budget b) c) (number_field 1 65536 b) (λ x. ⊤) (OpensAs false) (any_ok (number_field 1 65536 b)) (λ b k. refl)
-stated_opens c n BudgetWord (b ∷ x ∷ xs) = tt
-stated_opens c n CutWord [] = tt
-stated_opens c n CutWord (x ∷ []) = tt
 stated_opens c n CutWord (k ∷ fill ∷ []) =
     then_any false (number_field 1 4294967295 k) (λ k. fill_field fill >>= λ fill. Ok (Says (line.Cut k fill) c))
     (λ k. then_any false (fill_field fill) (λ fill. Ok (Says (line.Cut k fill) c)) (λ fill. refl))
-stated_opens c n CutWord (k ∷ fill ∷ x ∷ xs) = tt
-stated_opens c n FailWord [] = tt
 stated_opens c n FailWord (k ∷ []) = as_ok (λ k. Says (line.Fail k) c) (number_field 1 4294967295 k) (λ x. ⊤) (OpensAs false) (any_ok (number_field 1 4294967295 k)) (λ k j. refl)
-stated_opens c n FailWord (k ∷ x ∷ xs) = tt
-stated_opens c n PokeWord [] = tt
-stated_opens c n PokeWord (x ∷ []) = tt
 stated_opens c n PokeWord (at ∷ fill ∷ []) =
     then_any false (number_field 0 16383 at) (λ at. fill_field fill >>= λ fill. early c (line.Poke at fill))
     (λ at. then_any false (fill_field fill) (λ fill. early c (line.Poke at fill)) (λ fill. only_ok (not c.powered) LateLine (Says (line.Poke at fill) c) (OpensAs false) (λ e. refl)))
-stated_opens c n PokeWord (at ∷ fill ∷ x ∷ xs) = tt
+stated_opens c n _ _ = tt
 
 -- ---- lines
 

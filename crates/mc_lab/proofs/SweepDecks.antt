@@ -53,10 +53,7 @@ free_step : (s : State) (n : ℕ) (l : DeckLine) (w : Option FailedWrite) → is
 unfolding step
 free_step (BeforePower m b a) n line.Power w = power_free (play_at_power m b a) (hit_of a (power_moves (play_at_power m b a)) w)
 free_step (AfterPower s) n line.Power w = power_free s (hit_of s.armed (power_moves s) w)
-free_step (AfterPower s) n (line.Load u fixed session) w = card_free n (line.Load u fixed session) s s.live s.base w
-free_step (AfterPower s) n (line.Select x) w = card_free n (line.Select x) s s.live s.base w
-free_step (AfterPower s) n (line.Delete x) w = card_free n (line.Delete x) s s.live s.base w
-free_step (AfterPower s) n (line.Apdu x) w = card_free n (line.Apdu x) s s.live s.base w
+free_step (AfterPower s) n (line.Sent sent) w = card_free n (line.Sent sent) s s.live s.base w
 free_step (BeforePower m b a) n _ w = refl
 free_step (AfterPower s) n _ w = refl
 

@@ -14,12 +14,10 @@ use Rattle.mc_model_play.specs.DeckGrammar as line
 use Rattle.mc_lab.specs.Sweeps.{steady_step, state_on_blank, cut_statement}
 use Rattle.mc_lab.specs.SweepLaws.{is_off, HitsWithin}
 use Rattle.mc_lab.proofs.SweepPlays.{next, played_one, warmed_moves}
+use Rattle.mc_model_play.proofs.LineKinds.{past_power}
 
 abbrev cut_at : ℕ → List ℕ → StopAt
 cut_at k x = record { kind = stop.Off; at = k; left = x }
-
-abbrev past_power : Base → ℕ → Journal → Live → ℕ → Armed → Warm
-past_power b o j v g a = record { base = b; owed = o; by = j; live = v; budget = g; armed = a }
 
 command_hit : (n : ℕ) (l : DeckLine) (s : Warm) (c : Card) (r : Command) (k : ℕ) (x : List ℕ) (b : Bool) → is_off (command_step n l s c r (cond b (Some (cut_at k x)) None)).result ≡ b
 command_hit n l s c r k x true = refl
@@ -55,10 +53,7 @@ before_power_hit n i line.Power m b k x is low =
     let w = play_at_power m b (ArmedCut k x) in
     power_hit n (BeforePower m b (ArmedCut k x)) w k x (nat_le k (power_moves w))
     ∙ with_none k (power_moves w) (power_moves (play_at_power m b Unarmed) + 0) (let e : power_moves w ≡ power_moves (play_at_power m b Unarmed) = warmed_moves m b (ArmedCut k x) Unarmed in omega (arith, e))
-before_power_hit n i (line.Load u fixed session) m b k x is low = no_writes k low
-before_power_hit n i (line.Select a) m b k x is low = no_writes k low
-before_power_hit n i (line.Delete a) m b k x is low = no_writes k low
-before_power_hit n i (line.Apdu a) m b k x is low = no_writes k low
+before_power_hit n i (line.Sent sent) m b k x is low = no_writes k low
 before_power_hit n i _ m b k x is low = absurd (cc is)
 
 after_power_hit : (n i : ℕ) (l : DeckLine) (b : Base) (o : ℕ) (j : Journal) (v : Live) (g : ℕ) (k : ℕ) (x : List ℕ) → is_card_line l ≡ true → 1 ≤ k
@@ -67,10 +62,7 @@ unfolding step moves_of
 after_power_hit n i line.Power b o j v g k x is low =
     let w = past_power b o j v g (ArmedCut k x) in
     power_hit n (AfterPower w) w k x (nat_le k (power_moves w)) ∙ with_none k (power_moves w) (power_moves w + 0) (omega arith)
-after_power_hit n i (line.Load u fixed session) b o j v g k x is low = card_hit n (line.Load u fixed session) b o j v g k x low ∙ with_none k _ _ (omega arith)
-after_power_hit n i (line.Select a) b o j v g k x is low = card_hit n (line.Select a) b o j v g k x low ∙ with_none k _ _ (omega arith)
-after_power_hit n i (line.Delete a) b o j v g k x is low = card_hit n (line.Delete a) b o j v g k x low ∙ with_none k _ _ (omega arith)
-after_power_hit n i (line.Apdu a) b o j v g k x is low = card_hit n (line.Apdu a) b o j v g k x low ∙ with_none k _ _ (omega arith)
+after_power_hit n i (line.Sent sent) b o j v g k x is low = card_hit n (line.Sent sent) b o j v g k x low ∙ with_none k _ _ (omega arith)
 after_power_hit n i _ b o j v g k x is low = absurd (cc is)
 
 armed_hit : (n i : ℕ) (l : DeckLine) (b : Base) (o : ℕ) (j : Journal) (v : Live) (g : ℕ) (a : Armed) (k : ℕ) (x : List ℕ) → a ≡ Unarmed → is_card_line l ≡ true → 1 ≤ k

@@ -72,10 +72,7 @@ unfolding step
 left_size (BeforePower i b a) n line.Format w m es e = ap (λ (x : List (List ℕ)). length (formatted_image x)) (sym e) ∙ formatted_size m
 left_size (BeforePower i b a) n (line.Poke at x) w m es e = ap (λ (y : List (List ℕ)). length (slice_set y at x)) (sym e) ∙ length-set m at x
 left_size (BeforePower i b a) n line.Power w m es e = after_power_size m es
-left_size (AfterPower s) n (line.Load u fixed session) w m es e = card_size n (line.Load u fixed session) s s.live s.base w m es
-left_size (AfterPower s) n (line.Select x) w m es e = card_size n (line.Select x) s s.live s.base w m es
-left_size (AfterPower s) n (line.Delete x) w m es e = card_size n (line.Delete x) s s.live s.base w m es
-left_size (AfterPower s) n (line.Apdu x) w m es e = card_size n (line.Apdu x) s s.live s.base w m es
+left_size (AfterPower s) n (line.Sent sent) w m es e = card_size n (line.Sent sent) s s.live s.base w m es
 left_size (BeforePower i b a) n _ w m es e = ap length (sym e)
 left_size (AfterPower s) n _ w m es e = after_power_size m es
 

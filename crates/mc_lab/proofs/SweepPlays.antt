@@ -16,6 +16,7 @@ use Rattle.mc_model_play.specs.DeckGrammar.{DeckLine}
 use Rattle.mc_model_play.specs.DeckGrammar as line
 use Rattle.mc_lab.specs.Sweeps.{is_unarmed, steady_step, state_after_lines, state_on_blank, ReportedState, Holds, NoCard, static_bytes_under, state_of_step, state_after_power, ones, cut_statement, power}
 use Rattle.mc_lab.specs.SweepBodies.{OpensNoGate}
+use Rattle.mc_model_play.proofs.LineKinds.{past_power}
 
 -- ---- plays, line by line
 
@@ -123,10 +124,6 @@ pub record CutTo (s : State) (is : List Item) (t : State) : Type 0 where
 abbrev cut_at : ℕ → List ℕ → StopAt
 cut_at k x = record { kind = stop.Off; at = k; left = x }
 
--- a state after the first power line
-abbrev past_power : Base → ℕ → Journal → Live → ℕ → Armed → Warm
-past_power b o j v g a = record { base = b; owed = o; by = j; live = v; budget = g; armed = a }
-
 command_cut : (n : ℕ) (l : DeckLine) (c : Card) (o : ℕ) (j : Journal) (v : Live) (g k : ℕ) (x : List ℕ) (r : Command) → OpensNoGate x → (b : Bool) → b ≡ true
     → CutTo (AfterPower (past_power (OnCard c) o j v g Unarmed)) (at_stop r.items k (zeros 8)).whole (command_step n l (past_power (OnCard c) o j v g (ArmedCut k x)) c r (cond b (Some (cut_at k x)) None)).after
 command_cut n l c o j v g k x r shuts true is =
@@ -187,10 +184,7 @@ before_power_cut n i line.Power m b k x is shuts low high =
     let w = play_at_power m b (ArmedCut k x) in
     power_cut (BeforePower m b Unarmed) w (BeforePower m b (ArmedCut k x)) n k x (warmed_base m b (ArmedCut k x) Unarmed) (nat_le k (power_moves w))
     (le-leb k (power_moves w) (let e : power_moves w ≡ power_moves (play_at_power m b Unarmed) = warmed_moves m b (ArmedCut k x) Unarmed in omega (arith, e)))
-before_power_cut n i (line.Load u fixed session) m b k x is shuts low high = absurd (omega arith)
-before_power_cut n i (line.Select a) m b k x is shuts low high = absurd (omega arith)
-before_power_cut n i (line.Delete a) m b k x is shuts low high = absurd (omega arith)
-before_power_cut n i (line.Apdu a) m b k x is shuts low high = absurd (omega arith)
+before_power_cut n i (line.Sent sent) m b k x is shuts low high = absurd (omega arith)
 before_power_cut n i _ m b k x is shuts low high = absurd (cc is)
 
 -- a line after the first power line
@@ -200,10 +194,7 @@ unfolding step moves_of
 after_power_cut n i line.Power b o j v g k x is shuts low high =
     let w = past_power b o j v g (ArmedCut k x) in
     power_cut (AfterPower (past_power b o j v g Unarmed)) w (AfterPower w) n k x refl (nat_le k (power_moves w)) (le-leb k (power_moves w) (omega arith))
-after_power_cut n i (line.Load u fixed session) b o j v g k x is shuts low high = card_cut n (line.Load u fixed session) b o j v g k x shuts low (omega arith)
-after_power_cut n i (line.Select a) b o j v g k x is shuts low high = card_cut n (line.Select a) b o j v g k x shuts low (omega arith)
-after_power_cut n i (line.Delete a) b o j v g k x is shuts low high = card_cut n (line.Delete a) b o j v g k x shuts low (omega arith)
-after_power_cut n i (line.Apdu a) b o j v g k x is shuts low high = card_cut n (line.Apdu a) b o j v g k x shuts low (omega arith)
+after_power_cut n i (line.Sent sent) b o j v g k x is shuts low high = card_cut n (line.Sent sent) b o j v g k x shuts low (omega arith)
 after_power_cut n i _ b o j v g k x is shuts low high = absurd (cc is)
 
 armed_cut : (n i : ℕ) (l : DeckLine) (b : Base) (o : ℕ) (j : Journal) (v : Live) (g : ℕ) (a : Armed) (k : ℕ) (x : List ℕ) → a ≡ Unarmed → is_card_line l ≡ true → OpensNoGate x → 1 ≤ k → k ≤ moves_of (AfterPower (past_power b o j v g a)) (n, l)
@@ -244,20 +235,14 @@ before_power_whole : (n : ℕ) (l : DeckLine) (m : List (List ℕ)) (b : ℕ) �
     → CutTo (BeforePower m b Unarmed) (step (BeforePower m b Unarmed) (n, l) None).items (next (BeforePower m b Unarmed) (n, l))
 unfolding step moves_of
 before_power_whole n line.Power m b is some = power_whole (BeforePower m b Unarmed) (play_at_power m b Unarmed) (BeforePower m b Unarmed) n refl
-before_power_whole n (line.Load u fixed session) m b is some = absurd (omega arith)
-before_power_whole n (line.Select a) m b is some = absurd (omega arith)
-before_power_whole n (line.Delete a) m b is some = absurd (omega arith)
-before_power_whole n (line.Apdu a) m b is some = absurd (omega arith)
+before_power_whole n (line.Sent sent) m b is some = absurd (omega arith)
 before_power_whole n _ m b is some = absurd (cc is)
 
 after_power_whole : (n : ℕ) (l : DeckLine) (b : Base) (o : ℕ) (j : Journal) (v : Live) (g : ℕ) → is_card_line l ≡ true → 1 ≤ moves_of (AfterPower (past_power b o j v g Unarmed)) (n, l)
     → CutTo (AfterPower (past_power b o j v g Unarmed)) (step (AfterPower (past_power b o j v g Unarmed)) (n, l) None).items (next (AfterPower (past_power b o j v g Unarmed)) (n, l))
 unfolding step moves_of
 after_power_whole n line.Power b o j v g is some = power_whole (AfterPower (past_power b o j v g Unarmed)) (past_power b o j v g Unarmed) (AfterPower (past_power b o j v g Unarmed)) n refl
-after_power_whole n (line.Load u fixed session) b o j v g is some = card_whole n (line.Load u fixed session) b o j v g (omega arith)
-after_power_whole n (line.Select a) b o j v g is some = card_whole n (line.Select a) b o j v g (omega arith)
-after_power_whole n (line.Delete a) b o j v g is some = card_whole n (line.Delete a) b o j v g (omega arith)
-after_power_whole n (line.Apdu a) b o j v g is some = card_whole n (line.Apdu a) b o j v g (omega arith)
+after_power_whole n (line.Sent sent) b o j v g is some = card_whole n (line.Sent sent) b o j v g (omega arith)
 after_power_whole n _ b o j v g is some = absurd (cc is)
 
 armed_whole : (n : ℕ) (l : DeckLine) (b : Base) (o : ℕ) (j : Journal) (v : Live) (g : ℕ) (a : Armed) → a ≡ Unarmed → is_card_line l ≡ true → 1 ≤ moves_of (AfterPower (past_power b o j v g a)) (n, l)
@@ -300,10 +285,7 @@ before_power_on n _ m b a = inl refl
 
 after_power_on : (n : ℕ) (l : DeckLine) (s : Warm) → ItemsOn (AfterPower s) (n, l)
 unfolding step moves_of
-after_power_on n (line.Load u fixed session) s = card_on n (line.Load u fixed session) s _ _ (omega arith) (card_items n (line.Load u fixed session) s.base s.owed s.by s.live s.budget s.armed)
-after_power_on n (line.Select x) s = card_on n (line.Select x) s _ _ (omega arith) (card_items n (line.Select x) s.base s.owed s.by s.live s.budget s.armed)
-after_power_on n (line.Delete x) s = card_on n (line.Delete x) s _ _ (omega arith) (card_items n (line.Delete x) s.base s.owed s.by s.live s.budget s.armed)
-after_power_on n (line.Apdu x) s = card_on n (line.Apdu x) s _ _ (omega arith) (card_items n (line.Apdu x) s.base s.owed s.by s.live s.budget s.armed)
+after_power_on n (line.Sent sent) s = card_on n (line.Sent sent) s _ _ (omega arith) (card_items n (line.Sent sent) s.base s.owed s.by s.live s.budget s.armed)
 after_power_on n _ s = inl refl
 
 pub items_on : (s : State) (l : ℕ × DeckLine) → ItemsOn s l

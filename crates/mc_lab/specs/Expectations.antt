@@ -36,16 +36,9 @@ line_number l = l.0
 abbrev pub has_result : DeckLine → Bool
 has_result line.Format = true
 has_result line.Power = true
-has_result line.Named = false
-has_result (line.Load u fixed session) = true
-has_result (line.Select a) = true
-has_result (line.Delete a) = true
+has_result (line.Sent sent) = true
 has_result (line.Dump a) = true
-has_result (line.Apdu b) = true
-has_result (line.Budget n) = false
-has_result (line.Cut k fill) = false
-has_result (line.Fail k) = false
-has_result (line.Poke at fill) = false
+has_result _ = false
 
 -- whether a statement is there and has a result
 abbrev pub is_answered : Option (ℕ × DeckLine) → Bool

@@ -21,10 +21,7 @@ abbrev pub free_behind : DeckLine → Bool → Bool
 free_behind (line.Cut k fill) free = false
 free_behind (line.Fail k) free = false
 free_behind line.Power free = true
-free_behind (line.Load u fixed session) free = true
-free_behind (line.Select n) free = true
-free_behind (line.Delete n) free = true
-free_behind (line.Apdu b) free = true
+free_behind (line.Sent sent) free = true
 free_behind l free = free
 
 -- whether a line after others is one to the card for which no stop is armed

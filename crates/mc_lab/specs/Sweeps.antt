@@ -32,9 +32,9 @@ state_on_blank ls = state_after_lines (start (blank_words device_words)) ls
 
 -- the names that a line mentions
 abbrev pub names_in_line : DeckLine → List (List ℕ)
-names_in_line (line.Load u fixed session) = u.aid ∷ []
-names_in_line (line.Select n) = n ∷ []
-names_in_line (line.Delete n) = n ∷ []
+names_in_line (line.Sent (line.Load u fixed session)) = u.aid ∷ []
+names_in_line (line.Sent (line.Select n)) = n ∷ []
+names_in_line (line.Sent (line.Delete n)) = n ∷ []
 names_in_line (line.Dump n) = n ∷ []
 names_in_line _ = []
 

@@ -1,7 +1,7 @@
 -- The verdicts on the load lines of a deck, computed by following all facts of short code.
 use Rattle.std.specs.Prelude.{ℕ, List, [], ◌∷◌, flat_map, Option, Result, Ok, Err}
 use Rattle.mc_model_play.specs.declared.deck.DeckCause.{DeckCause}
-use Rattle.mc_model_play.specs.DeckGrammar.{DeckLine, Load, deck_read}
+use Rattle.mc_model_play.specs.DeckGrammar.{DeckLine, Sent, Load, deck_read}
 use Rattle.mc_model_stack.specs.StackShape.{Main, fact, look}
 use Rattle.mc_model_examples.specs.Checked.{facts_in, calls_in, verdict_of}
 
@@ -15,7 +15,7 @@ verdict code session =
 -- the verdict on a line, if it is a load line
 abbrev pub line_verdict : ℕ × DeckLine → List (ℕ × Option ℕ)
 unfolding verdict
-line_verdict (n, Load u fixed session) = (n, verdict u.code session) ∷ []
+line_verdict (n, Sent (Load u fixed session)) = (n, verdict u.code session) ∷ []
 line_verdict (n, _) = []
 
 -- the verdicts on the load lines of a deck

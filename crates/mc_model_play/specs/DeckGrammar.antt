@@ -11,16 +11,20 @@ use Rattle.mc_model_text.specs.Text.{◌>>=◌, ok_as, err_as, only_if, begins, 
 use Rattle.mc_model_card.specs.Units.{UnitParts, unit_read, made_dir, made_fci}
 use Rattle.mc_model_text.specs.Assembly.{assembled_lines}
 
+-- what a line sends to the card: the commands of a load, a SELECT, a DELETE, or one command as it is
+pub data DeckCommand : Type 0 where
+  Load : UnitParts → ℕ → ℕ → DeckCommand
+  Select : List ℕ → DeckCommand
+  Delete : List ℕ → DeckCommand
+  Apdu : List ℕ → DeckCommand
+
 -- a line of a deck: a statement that was read; Named is one that names a unit
 pub data DeckLine : Type 0 where
   Format : DeckLine
   Power : DeckLine
   Named : DeckLine
-  Load : UnitParts → ℕ → ℕ → DeckLine
-  Select : List ℕ → DeckLine
-  Delete : List ℕ → DeckLine
+  Sent : DeckCommand → DeckLine
   Dump : List ℕ → DeckLine
-  Apdu : List ℕ → DeckLine
   Budget : ℕ → DeckLine
   Cut : ℕ → List ℕ → DeckLine
   Fail : ℕ → DeckLine
@@ -137,11 +141,11 @@ statement_of c n LoadWord (name ∷ fixed ∷ session ∷ []) = do
   fixed ← number_field 0 65535 fixed
   session ← number_field 0 65535 session
   u ← ok_or (lookup c.units name) UnknownName
-  Ok (Says (Load u fixed session) c)
-statement_of c n SelectWord (aid ∷ []) = ok_as (λ a. Says (Select a) c) (aid_field aid)
-statement_of c n DeleteWord (aid ∷ []) = ok_as (λ a. Says (Delete a) c) (aid_field aid)
+  Ok (Says (Sent (Load u fixed session)) c)
+statement_of c n SelectWord (aid ∷ []) = ok_as (λ a. Says (Sent (Select a)) c) (aid_field aid)
+statement_of c n DeleteWord (aid ∷ []) = ok_as (λ a. Says (Sent (Delete a)) c) (aid_field aid)
 statement_of c n DumpWord (aid ∷ []) = ok_as (λ a. Says (Dump a) c) (aid_field aid)
-statement_of c n ApduWord (hex ∷ []) = ok_as (λ b. Says (Apdu b) c) (hex_field hex)
+statement_of c n ApduWord (hex ∷ []) = ok_as (λ b. Says (Sent (Apdu b)) c) (hex_field hex)
 statement_of c n BudgetWord (b ∷ []) = ok_as (λ b. Says (Budget b) c) (number_field 1 65536 b)
 statement_of c n CutWord (k ∷ fill ∷ []) = do
   k ← number_field 1 4294967295 k

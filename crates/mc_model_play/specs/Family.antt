@@ -21,8 +21,8 @@ Closed K (t ∷ ts) = ClosedPairs K t.pairs × Closed K ts
 
 -- the command of a select or apdu line
 abbrev pub command_of : DeckLine → Option (List ℕ)
-command_of (line.Select n) = Some (select_bytes n)
-command_of (line.Apdu b) = Some b
+command_of (line.Sent (line.Select n)) = Some (select_bytes n)
+command_of (line.Sent (line.Apdu b)) = Some b
 command_of _ = None
 
 -- whether the selected application is of the family

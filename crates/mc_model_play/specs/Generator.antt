@@ -6,7 +6,7 @@ use Rattle.mc_model_text.specs.Text.{with_numbers}
 use Rattle.mc_model_machine.specs.Chain.{Reply, Abended}
 use Rattle.mc_model_play.specs.Play.{Step, LineResult, Ready, OffAt, FailureStop, NoCard, Answered}
 use Rattle.mc_model_play.specs.Transcript.{text_of_result}
-use Rattle.mc_model_play.specs.DeckGrammar.{DeckLine, Format, Power, Named, Load, Select, Delete, Dump, Apdu, Cut, made_unit}
+use Rattle.mc_model_play.specs.DeckGrammar.{DeckLine, Format, Power, Named, Sent, Load, Select, Delete, Dump, Apdu, Cut, made_unit}
 
 -- ---- draws
 
@@ -66,11 +66,11 @@ relay = made_unit relay_aid (0x22 ∷ 0x00 ∷ 0x00 ∷ 0x28 ∷ 0x07 ∷ 0x04 �
 
 -- the first eight lines
 abbrev pub opening_lines : List DeckLine
-opening_lines = Format ∷ Power ∷ Named ∷ Named ∷ Named ∷ Load counter 2 0 ∷ Load purse 10 0 ∷ Load relay 6 0 ∷ []
+opening_lines = Format ∷ Power ∷ Named ∷ Named ∷ Named ∷ Sent (Load counter 2 0) ∷ Sent (Load purse 10 0) ∷ Sent (Load relay 6 0) ∷ []
 
 -- a command to a purse, with a number of four bytes or none
 abbrev pub command : ℕ → List ℕ → DeckLine
-command ins number = Apdu (0x80 ∷ ins ∷ 0 ∷ 0 ∷ 4 ∷ number)
+command ins number = Sent (Apdu (0x80 ∷ ins ∷ 0 ∷ 0 ∷ 4 ∷ number))
 
 -- `OPEN-2--`, the commit record of journal 2
 abbrev pub opening_word : List ℕ
@@ -82,16 +82,16 @@ cut_line q = Cut (1 + q % 12) (cond (q / 12 % 2 == 1) opening_word (zeros 8))
 
 -- a line on the purse by a draw, or power
 abbrev pub purse_line : ℕ → DeckLine
-purse_line q = cond (q % 4 == 0) (Delete purse_aid) (cond (q % 4 == 1) (Load purse 10 0) Power)
+purse_line q = cond (q % 4 == 0) (Sent (Delete purse_aid)) (cond (q % 4 == 1) (Sent (Load purse 10 0)) Power)
 
 -- the line of a turn that draws r and q
 abbrev pub line_of : ℕ → ℕ → DeckLine
 line_of r q =
-    cond (r % 16 == 0) (Select counter_aid)
-    (cond (r % 16 == 1) (Select relay_aid)
-    (cond (r % 16 == 2) (Select purse_aid)
+    cond (r % 16 == 0) (Sent (Select counter_aid))
+    (cond (r % 16 == 1) (Sent (Select relay_aid))
+    (cond (r % 16 == 2) (Sent (Select purse_aid))
     (cond (r % 16 == 3) Power
-    (cond (nat_lt (r % 16) 9) (Apdu (0x80 ∷ 1 ∷ 0 ∷ 0 ∷ 2 ∷ []))
+    (cond (nat_lt (r % 16) 9) (Sent (Apdu (0x80 ∷ 1 ∷ 0 ∷ 0 ∷ 2 ∷ [])))
     (cond (nat_lt (r % 16) 11) (command 0x30 (bytes 4 q))
     (cond (nat_lt (r % 16) 13) (command 0x40 (bytes 4 q))
     (cond (r % 16 == 13) (command 0x50 [])

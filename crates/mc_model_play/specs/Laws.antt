@@ -132,10 +132,10 @@ accepted_commands c session_state budget (b ∷ bs) =
 
 -- the commands of a line
 abbrev pub bytes_of : DeckLine → List (List ℕ)
-bytes_of (line.Select n) = select_bytes n ∷ []
-bytes_of (line.Delete n) = delete_bytes n ∷ []
-bytes_of (line.Apdu b) = b ∷ []
-bytes_of (line.Load u fixed session) = load_commands u fixed session
+bytes_of (line.Sent (line.Select n)) = select_bytes n ∷ []
+bytes_of (line.Sent (line.Delete n)) = delete_bytes n ∷ []
+bytes_of (line.Sent (line.Apdu b)) = b ∷ []
+bytes_of (line.Sent (line.Load u fixed session)) = load_commands u fixed session
 bytes_of _ = []
 
 -- the commands of a line that a running card takes

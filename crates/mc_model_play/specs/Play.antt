@@ -139,10 +139,7 @@ send c session_state budget (b ∷ bs) =
 -- whether a stop can be armed for a line
 abbrev pub is_card_line : DeckLine → Bool
 is_card_line line.Power = true
-is_card_line (line.Load u fixed session) = true
-is_card_line (line.Select n) = true
-is_card_line (line.Delete n) = true
-is_card_line (line.Apdu b) = true
+is_card_line (line.Sent sent) = true
 is_card_line _ = false
 
 -- the stop that hits a card line of m device writes: a failed write, else the cut that is armed
@@ -308,10 +305,10 @@ formatted_image m =
 
 -- the commands of a line: select, delete, apdu and load
 abbrev pub line_command : Card → SessionState → ℕ → DeckLine → Command
-line_command c session_state budget (line.Select n) = command c session_state (select_bytes n) budget
-line_command c session_state budget (line.Delete n) = command c session_state (delete_bytes n) budget
-line_command c session_state budget (line.Apdu b) = command c session_state b budget
-line_command c session_state budget (line.Load u fixed session) = send c session_state budget (load_commands u fixed session)
+line_command c session_state budget (line.Sent (line.Select n)) = command c session_state (select_bytes n) budget
+line_command c session_state budget (line.Sent (line.Delete n)) = command c session_state (delete_bytes n) budget
+line_command c session_state budget (line.Sent (line.Apdu b)) = command c session_state b budget
+line_command c session_state budget (line.Sent (line.Load u fixed session)) = send c session_state budget (load_commands u fixed session)
 line_command c session_state budget _ = refusal session_state 0x9000
 
 -- a card line other than power: its command if a card runs, else the result that none does
@@ -331,10 +328,7 @@ after_power_step n (line.Cut k x) s w = quiet n (line.Cut k x) (AfterPower s) No
 after_power_step n (line.Fail k) s w = quiet n (line.Fail k) (AfterPower s) None (AfterPower (record s { armed = ArmedFail k }))
 after_power_step n (line.Dump a) s w = quiet n (line.Dump a) (AfterPower s) (Some (dump_result s.live s.base a)) (AfterPower s)
 after_power_step n line.Power s w = power_step n (AfterPower s) s (hit_of s.armed (power_moves s) w)
-after_power_step n (line.Load u fixed session) s w = card_line n (line.Load u fixed session) s s.live s.base w
-after_power_step n (line.Select a) s w = card_line n (line.Select a) s s.live s.base w
-after_power_step n (line.Delete a) s w = card_line n (line.Delete a) s s.live s.base w
-after_power_step n (line.Apdu b) s w = card_line n (line.Apdu b) s s.live s.base w
+after_power_step n (line.Sent sent) s w = card_line n (line.Sent sent) s s.live s.base w
 
 -- the play that the first power line finds
 unfoldable pub play_at_power : List (List ℕ) → ℕ → Armed → Warm
@@ -355,10 +349,7 @@ before_power_step n (line.Cut k x) m b a w = quiet n (line.Cut k x) (BeforePower
 before_power_step n (line.Fail k) m b a w = quiet n (line.Fail k) (BeforePower m b a) None (BeforePower m b (ArmedFail k))
 before_power_step n (line.Dump x) m b a w = before_power_line n (line.Dump x) m b a a
 before_power_step n line.Power m b a w = let s = play_at_power m b a in power_step n (BeforePower m b a) s (hit_of a (power_moves s) w)
-before_power_step n (line.Load u fixed session) m b a w = before_power_line n (line.Load u fixed session) m b a Unarmed
-before_power_step n (line.Select x) m b a w = before_power_line n (line.Select x) m b a Unarmed
-before_power_step n (line.Delete x) m b a w = before_power_line n (line.Delete x) m b a Unarmed
-before_power_step n (line.Apdu x) m b a w = before_power_line n (line.Apdu x) m b a Unarmed
+before_power_step n (line.Sent sent) m b a w = before_power_line n (line.Sent sent) m b a Unarmed
 
 -- the step of one line from a state
 unfoldable pub step : State → ℕ × DeckLine → Option FailedWrite → Step

@@ -72,10 +72,10 @@ AllFitJournal (t ∷ ts) = AllByRecursion FitsJournal t.items × AllFitJournal t
 
 -- what a line carries is bytes, and a poke carries a word of eight
 abbrev pub IsLine : DeckLine → Type 0
-IsLine (line.Load u fixed session) = AreBytes u.code × AreBytes u.init × AreBytes u.dir × AreBytes u.fci
-IsLine (line.Select n) = AreBytes n
-IsLine (line.Delete n) = AreBytes n
-IsLine (line.Apdu b) = AreBytes b
+IsLine (line.Sent (line.Load u fixed session)) = AreBytes u.code × AreBytes u.init × AreBytes u.dir × AreBytes u.fci
+IsLine (line.Sent (line.Select n)) = AreBytes n
+IsLine (line.Sent (line.Delete n)) = AreBytes n
+IsLine (line.Sent (line.Apdu b)) = AreBytes b
 IsLine (line.Poke at x) = AreBytes x × (length x ≡ 8)
 IsLine _ = ⊤
 

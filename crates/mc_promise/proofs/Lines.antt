@@ -12,14 +12,13 @@ use Rattle.mc_model_machine.specs.Chain.{Outcome, Reply, Abended}
 use Rattle.mc_model_card.specs.Items.{apps_after_items, moves, StopAt, at_stop}
 use Rattle.mc_model_card.specs.Manager.{Selected, SessionState, route, is_selected}
 use Rattle.mc_model_card.specs.Commands.{Command, command}
-use Rattle.mc_model_play.specs.DeckGrammar.{DeckLine}
+use Rattle.mc_model_play.specs.DeckGrammar.{DeckLine, DeckCommand}
 use Rattle.mc_model_play.specs.DeckGrammar as line
 use Rattle.mc_model_play.specs.Given.{apps_in}
-use Rattle.mc_model_play.specs.Play.{Armed, Unarmed, Live, Running, Unpowered, Muted, Warm, State, BeforePower, AfterPower, Answered, FailedWrite, Step, select_bytes, delete_bytes, load_commands, send, hit_of, live_after, result_of_stop, power_live, power_moves, stopped_power, power_after, command_step, line_says, whole_items, card_line, after_power_step, before_power_step, play_at_power, step, plays, first_failure, start}
+use Rattle.mc_model_play.specs.Play.{Armed, Unarmed, Live, Running, Unpowered, Muted, Warm, State, BeforePower, AfterPower, Answered, FailedWrite, Step, select_bytes, delete_bytes, load_commands, send, hit_of, live_after, result_of_stop, power_live, power_moves, stopped_power, power_after, command_step, line_says, whole_items, card_line, after_power_step, before_power_step, play_at_power, step, plays, first_failure, start, without_card}
 use Rattle.mc_family.proofs.Stops.{whole_others}
 use Rattle.mc_family.proofs.OtherCommand.{AreManagers, Aside, send_aside}
 use Rattle.mc_family.proofs.LoadCommands.{load_managers}
-use Rattle.mc_family.proofs.AfterPowerLines.{past_power}
 use Rattle.mc_promise.specs.History.{CutAt, cut_of, with_event, after_route, after_items, after_stop, after_step}
 use Rattle.mc_promise.specs.Along.{CreatesOnly, BringsOnly, stopped_step, Along, parts_for, command_for, OnAnswer}
 use Rattle.mc_promise.specs.Outline.{Outline, IsShown}
@@ -27,54 +26,22 @@ use Rattle.mc_promise.specs.Kept.{KeptIn, SessionKept, SessionIf, SelectedKept, 
 use Rattle.mc_promise.proofs.ItemLists.{AllAvoid, avoid_lookup, avoid_history, items_kept}
 use Rattle.mc_promise.proofs.SelectedStays.{send_avoids}
 use Rattle.mc_promise.proofs.Commands.{OnParts, CommandKept, end_kept, route_kept, route_cut}
+use Rattle.mc_model_play.proofs.LineKinds.{past_power}
+use Rattle.mc_model_play.proofs.PlayLemmas.{step_is}
 
 -- the parts of a command, where its answer is looked at
 abbrev parts_if : Bool → Option ApduParts → Option ApduParts
 parts_if true found = found
 parts_if false found = None
 
--- the card lines other than power
-abbrev IsCommandLine : DeckLine → Type 0
-IsCommandLine (line.Load u fixed session) = ⊤
-IsCommandLine (line.Select x) = ⊤
-IsCommandLine (line.Delete x) = ⊤
-IsCommandLine (line.Apdu x) = ⊤
-IsCommandLine _ = ⊥
-
 -- ---- a line knows the state before it, its number and its statement
-
--- a line that was played
-abbrev IsStepOf : State → ℕ × DeckLine → Step → Type 0
-IsStepOf z l t = (t.before ≡ z) × (t.number ≡ l.0) × (t.line ≡ l.1)
-
-card_origin : (n : ℕ) (l : DeckLine) (s : Warm) (v : Live) (b : Base) (w : Option FailedWrite) → IsStepOf (AfterPower s) (n, l) (card_line n l s v b w)
-card_origin n l s (Running session_state) (OnCard c) w = (refl, refl, refl)
-card_origin n l s (Running session_state) (AtFault cause p) w = (refl, refl, refl)
-card_origin n l s Unpowered b w = (refl, refl, refl)
-card_origin n l s Muted b w = (refl, refl, refl)
-
-after_power_origin : (n : ℕ) (l : DeckLine) (s : Warm) (w : Option FailedWrite) → IsStepOf (AfterPower s) (n, l) (after_power_step n l s w)
-after_power_origin n (line.Load u fixed session) s w = card_origin n (line.Load u fixed session) s s.live s.base w
-after_power_origin n (line.Select x) s w = card_origin n (line.Select x) s s.live s.base w
-after_power_origin n (line.Delete x) s w = card_origin n (line.Delete x) s s.live s.base w
-after_power_origin n (line.Apdu x) s w = card_origin n (line.Apdu x) s s.live s.base w
-after_power_origin n _ s w = (refl, refl, refl)
-
-before_power_origin : (n : ℕ) (l : DeckLine) (m : List (List ℕ)) (b : ℕ) (a : Armed) (w : Option FailedWrite) → IsStepOf (BeforePower m b a) (n, l) (before_power_step n l m b a w)
-before_power_origin n line.Power m b a w = (refl, refl, refl)
-before_power_origin n _ m b a w = (refl, refl, refl)
-
-step_origin : (z : State) (l : ℕ × DeckLine) (w : Option FailedWrite) → IsStepOf z l (step z l w)
-unfolding step
-step_origin (BeforePower m b a) l w = before_power_origin l.0 l.1 m b a w
-step_origin (AfterPower s) l w = after_power_origin l.0 l.1 s w
 
 -- the line as it is stopped elsewhere
 stopped_is : (z : State) (l : ℕ × DeckLine) (w : Option FailedWrite) (c : FailedWrite) → step z l (Some c) ≡ stopped_step (step z l w) c
 stopped_is z l w c =
-    let e = step_origin z l w in
-    ap (λ (q : State). step q l (Some c)) (sym e.0)
-    ∙ (ap (λ (n : ℕ). step (step z l w).before (n, l.1) (Some c)) (sym e.1) ∙ ap (λ (k : DeckLine). step (step z l w).before ((step z l w).number, k) (Some c)) (sym e.2))
+    let e = step_is z l w in
+    ap (λ (q : State). step q l (Some c)) (sym e.before)
+    ∙ (ap (λ (n : ℕ). step (step z l w).before (n, l.1) (Some c)) (sym e.number) ∙ ap (λ (k : DeckLine). step (step z l w).before ((step z l w).number, k) (Some c)) (sym e.line))
 
 module _ {E : Type 0} (o : Outline E) (shown : IsShown o) where
   -- ---- answers
@@ -226,60 +193,42 @@ module _ {E : Type 0} (o : Outline E) (shown : IsShown o) where
   Keeps : List E → Step → Type 0
   Keeps h t = BringsOnly o.watch.name o.app t → LineKept o h t (after_step o.watch t h)
 
-  -- a line that finds no card
-  card_kept : (h : List E) (n : ℕ) (l : DeckLine) (b : Base) (q : ℕ) (j : Journal) (v : Live) (g : ℕ) (a : Armed) (w : Option FailedWrite) → IsCommandLine l → BaseKept o h b v → Keeps h (card_line n l (past_power b q j v g a) v b w)
+  -- what no card hears is answered by none
+  unanswered : (h k : List E) (found : Option ApduParts) (v : Live) → OnAnswer (λ a sw. o.answers a h k sw) found (Some (without_card v))
+  unanswered h k None v = tt
+  unanswered h k (Some a) (Running session_state) = tt
+  unanswered h k (Some a) Unpowered = tt
+  unanswered h k (Some a) Muted = tt
+
+  -- what is sent to a card, or to none
+  card_kept : (h : List E) (n : ℕ) (k : DeckCommand) (b : Base) (q : ℕ) (j : Journal) (v : Live) (g : ℕ) (a : Armed) (w : Option FailedWrite) → BaseKept o h b v → Keeps h (card_line n (line.Sent k) (past_power b q j v g a) v b w)
   unfolding Keeps
-  card_kept h n (line.Select x) (OnCard c) q j (Running session_state) g a w i kept brings =
+  card_kept h n (line.Select x) (OnCard c) q j (Running session_state) g a w kept brings =
       let r = command c session_state (select_bytes x) g in
       let t = hit_of a (moves r.items) w in
-      command_line_kept h _ n (line.Select x) (past_power (OnCard c) q j (Running session_state) g a) c r None t refl (one_command h c session_state g (select_bytes x) false t kept.0 kept.1 brings.creates)
-  card_kept h n (line.Delete x) (OnCard c) q j (Running session_state) g a w i kept brings =
+      command_line_kept h _ n (line.Sent (line.Select x)) (past_power (OnCard c) q j (Running session_state) g a) c r None t refl (one_command h c session_state g (select_bytes x) false t kept.0 kept.1 brings.creates)
+  card_kept h n (line.Delete x) (OnCard c) q j (Running session_state) g a w kept brings =
       let r = command c session_state (delete_bytes x) g in
       let t = hit_of a (moves r.items) w in
-      command_line_kept h _ n (line.Delete x) (past_power (OnCard c) q j (Running session_state) g a) c r None t refl (one_command h c session_state g (delete_bytes x) false t kept.0 kept.1 brings.creates)
-  card_kept h n (line.Apdu x) (OnCard c) q j (Running session_state) g a w i kept brings =
+      command_line_kept h _ n (line.Sent (line.Delete x)) (past_power (OnCard c) q j (Running session_state) g a) c r None t refl (one_command h c session_state g (delete_bytes x) false t kept.0 kept.1 brings.creates)
+  card_kept h n (line.Apdu x) (OnCard c) q j (Running session_state) g a w kept brings =
       let r = command c session_state x g in
       let t = hit_of a (moves r.items) w in
-      command_line_kept h _ n (line.Apdu x) (past_power (OnCard c) q j (Running session_state) g a) c r (parts_for o.watch.name session_state.selected (route x)) t refl (one_command h c session_state g x true t kept.0 kept.1 brings.creates)
-  card_kept h n (line.Load u fixed session) (OnCard c) q j (Running session_state) g a w i kept brings =
+      command_line_kept h _ n (line.Sent (line.Apdu x)) (past_power (OnCard c) q j (Running session_state) g a) c r (parts_for o.watch.name session_state.selected (route x)) t refl (one_command h c session_state g x true t kept.0 kept.1 brings.creates)
+  card_kept h n (line.Load u fixed session) (OnCard c) q j (Running session_state) g a w kept brings =
       let r = send c session_state g (load_commands u fixed session) in
       let t = hit_of a (moves r.items) w in
-      command_line_kept h _ n (line.Load u fixed session) (past_power (OnCard c) q j (Running session_state) g a) c r None t refl (a_load h c session_state g (load_commands u fixed session) t (load_managers u fixed session) kept.0 kept.1 brings.creates)
-  card_kept h n (line.Select x) (AtFault cause p) q j (Running session_state) g a w i kept brings = (tt, tt)
-  card_kept h n (line.Delete x) (AtFault cause p) q j (Running session_state) g a w i kept brings = (tt, tt)
-  card_kept h n (line.Apdu x) (AtFault cause p) q j (Running session_state) g a w i kept brings = (tt, tt)
-  card_kept h n (line.Load u fixed session) (AtFault cause p) q j (Running session_state) g a w i kept brings = (tt, tt)
-  card_kept h n (line.Select x) b q j Unpowered g a w i kept brings = (kept, tt)
-  card_kept h n (line.Delete x) b q j Unpowered g a w i kept brings = (kept, tt)
-  card_kept h n (line.Apdu x) b q j Unpowered g a w i kept brings = (kept, tt)
-  card_kept h n (line.Load u fixed session) b q j Unpowered g a w i kept brings = (kept, tt)
-  card_kept h n (line.Select x) b q j Muted g a w i kept brings = (kept, tt)
-  card_kept h n (line.Delete x) b q j Muted g a w i kept brings = (kept, tt)
-  card_kept h n (line.Apdu x) b q j Muted g a w i kept brings = (kept, tt)
-  card_kept h n (line.Load u fixed session) b q j Muted g a w i kept brings = (kept, tt)
-  card_kept h n line.Format b q j v g a w i kept brings = absurd i
-  card_kept h n line.Power b q j v g a w i kept brings = absurd i
-  card_kept h n line.Named b q j v g a w i kept brings = absurd i
-  card_kept h n (line.Dump x) b q j v g a w i kept brings = absurd i
-  card_kept h n (line.Budget x) b q j v g a w i kept brings = absurd i
-  card_kept h n (line.Cut k x) b q j v g a w i kept brings = absurd i
-  card_kept h n (line.Fail k) b q j v g a w i kept brings = absurd i
-  card_kept h n (line.Poke k x) b q j v g a w i kept brings = absurd i
+      command_line_kept h _ n (line.Sent (line.Load u fixed session)) (past_power (OnCard c) q j (Running session_state) g a) c r None t refl (a_load h c session_state g (load_commands u fixed session) t (load_managers u fixed session) kept.0 kept.1 brings.creates)
+  card_kept h n k (AtFault cause p) q j (Running session_state) g a w kept brings =
+      (tt, unanswered h h (command_for o.watch.name (AfterPower (past_power (AtFault cause p) q j (Running session_state) g a)) (line.Sent k)) (Running session_state))
+  card_kept h n k b q j Unpowered g a w kept brings = (kept, unanswered h h (command_for o.watch.name (AfterPower (past_power b q j Unpowered g a)) (line.Sent k)) Unpowered)
+  card_kept h n k b q j Muted g a w kept brings = (kept, unanswered h h (command_for o.watch.name (AfterPower (past_power b q j Muted g a)) (line.Sent k)) Muted)
 
   after_power_kept : (h : List E) (n : ℕ) (l : DeckLine) (s : Warm) (w : Option FailedWrite) → BaseKept o h s.base s.live → Keeps h (after_power_step n l s w)
   unfolding Keeps
   after_power_kept h n line.Power s w kept brings = (after_power (with_event o.watch.of_end h) s (hit_of s.armed (power_moves s) w) (base_ended h s.base s.live kept), tt)
-  after_power_kept h n (line.Load u fixed session) s w kept brings = card_kept h n (line.Load u fixed session) s.base s.owed s.by s.live s.budget s.armed w tt kept brings
-  after_power_kept h n (line.Select x) s w kept brings = card_kept h n (line.Select x) s.base s.owed s.by s.live s.budget s.armed w tt kept brings
-  after_power_kept h n (line.Delete x) s w kept brings = card_kept h n (line.Delete x) s.base s.owed s.by s.live s.budget s.armed w tt kept brings
-  after_power_kept h n (line.Apdu x) s w kept brings = card_kept h n (line.Apdu x) s.base s.owed s.by s.live s.budget s.armed w tt kept brings
-  after_power_kept h n line.Format s w kept brings = (kept, tt)
-  after_power_kept h n line.Named s w kept brings = (kept, tt)
-  after_power_kept h n (line.Dump x) s w kept brings = (kept, tt)
-  after_power_kept h n (line.Budget x) s w kept brings = (kept, tt)
-  after_power_kept h n (line.Cut k x) s w kept brings = (kept, tt)
-  after_power_kept h n (line.Fail k) s w kept brings = (kept, tt)
-  after_power_kept h n (line.Poke k x) s w kept brings = (kept, tt)
+  after_power_kept h n (line.Sent k) s w kept brings = card_kept h n k s.base s.owed s.by s.live s.budget s.armed w kept brings
+  after_power_kept h n _ s w kept brings = (kept, tt)
 
   before_power_kept : (h : List E) (n : ℕ) (l : DeckLine) (m : List (List ℕ)) (b : ℕ) (a : Armed) (w : Option FailedWrite) → Keeps h (before_power_step n l m b a w)
   unfolding Keeps
@@ -287,17 +236,7 @@ module _ {E : Type 0} (o : Outline E) (shown : IsShown o) where
       let s = play_at_power m b a in
       let t = hit_of a (power_moves s) w in
       (after_power (with_event o.watch.of_end h) s t (none_found (with_event o.watch.of_end h) s t brings.finds), tt)
-  before_power_kept h n line.Format m b a w brings = (tt, tt)
-  before_power_kept h n line.Named m b a w brings = (tt, tt)
-  before_power_kept h n (line.Load u fixed session) m b a w brings = (tt, tt)
-  before_power_kept h n (line.Select x) m b a w brings = (tt, tt)
-  before_power_kept h n (line.Delete x) m b a w brings = (tt, tt)
-  before_power_kept h n (line.Apdu x) m b a w brings = (tt, tt)
-  before_power_kept h n (line.Dump x) m b a w brings = (tt, tt)
-  before_power_kept h n (line.Budget x) m b a w brings = (tt, tt)
-  before_power_kept h n (line.Cut k x) m b a w brings = (tt, tt)
-  before_power_kept h n (line.Fail k) m b a w brings = (tt, tt)
-  before_power_kept h n (line.Poke k x) m b a w brings = (tt, tt)
+  before_power_kept h n _ m b a w brings = (tt, tt)
 
   -- one line
   pub step_kept : (h : List E) (z : State) (l : ℕ × DeckLine) (w : Option FailedWrite) → StateKept o h z → BringsOnly o.watch.name o.app (step z l w) → LineKept o h (step z l w) (after_step o.watch (step z l w) h)

@@ -43,17 +43,7 @@ none_is (Some a) h = absurd (cc h)
 
 finds_from : (n : List ℕ) (z : State) (l : DeckLine) (after : State) → finds_none n z l after ≡ true → FindsNone n z l after
 finds_from n (BeforePower m b a) line.Power after h = none_is (lookup (apps_in after) n) h
-finds_from n (BeforePower m b a) line.Format after h = tt
-finds_from n (BeforePower m b a) line.Named after h = tt
-finds_from n (BeforePower m b a) (line.Load u fixed session) after h = tt
-finds_from n (BeforePower m b a) (line.Select x) after h = tt
-finds_from n (BeforePower m b a) (line.Delete x) after h = tt
-finds_from n (BeforePower m b a) (line.Apdu x) after h = tt
-finds_from n (BeforePower m b a) (line.Dump x) after h = tt
-finds_from n (BeforePower m b a) (line.Budget x) after h = tt
-finds_from n (BeforePower m b a) (line.Cut k x) after h = tt
-finds_from n (BeforePower m b a) (line.Fail k) after h = tt
-finds_from n (BeforePower m b a) (line.Poke k x) after h = tt
+finds_from n (BeforePower m b a) _ after h = tt
 finds_from n (AfterPower s) l after h = tt
 
 -- ---- along a play

@@ -101,7 +101,7 @@ live_parts n Muted base b = None
 
 -- the command of a line that reaches the application as the selected one, if it does
 abbrev pub command_for : List ℕ → State → DeckLine → Option ApduParts
-command_for n (AfterPower s) (line.Apdu b) = live_parts n s.live s.base b
+command_for n (AfterPower s) (line.Sent (line.Apdu b)) = live_parts n s.live s.base b
 command_for n z l = None
 
 -- what holds of a command and of the status that it was answered with, where a line is one and was answered with one

@@ -171,9 +171,9 @@ after_stop w (Some s) h = with_event w.of_end h
 
 -- the one command of a line to a running card; the many of a load reach no application
 abbrev pub command_in : DeckLine → Option (List ℕ)
-command_in (line.Select n) = Some (select_bytes n)
-command_in (line.Delete n) = Some (delete_bytes n)
-command_in (line.Apdu b) = Some b
+command_in (line.Sent (line.Select n)) = Some (select_bytes n)
+command_in (line.Sent (line.Delete n)) = Some (delete_bytes n)
+command_in (line.Sent (line.Apdu b)) = Some b
 command_in _ = None
 
 -- what a line's command does
@@ -191,10 +191,7 @@ after_taken w live base budget t h = h
 abbrev pub after_line : {E : Type 0} → Watch E → State → Step → DeckLine → List E → List E
 after_line w z t line.Power h = with_event w.of_end h
 after_line w (BeforePower m b a) t _ h = h
-after_line w (AfterPower s) t (line.Load u fixed session) h = after_taken w s.live s.base s.budget t h
-after_line w (AfterPower s) t (line.Select n) h = after_taken w s.live s.base s.budget t h
-after_line w (AfterPower s) t (line.Delete n) h = after_taken w s.live s.base s.budget t h
-after_line w (AfterPower s) t (line.Apdu b) h = after_taken w s.live s.base s.budget t h
+after_line w (AfterPower s) t (line.Sent sent) h = after_taken w s.live s.base s.budget t h
 after_line w (AfterPower s) t _ h = h
 
 -- the history after a line that was played

@@ -30,13 +30,13 @@ answered_by r None e = two_bytes r.outcome
 answered_by r (Some t) e = absurd (cc e)
 
 command_answered : (n : ℕ) (f : List ℕ) (s : Warm) (live : Live) (base : Base) (w : Option FailedWrite) → s.live ≡ live → s.base ≡ base
-    → has_running_card (card_line n (line.Apdu f) s live base w).before ≡ true → (card_line n (line.Apdu f) s live base w).stop ≡ None → 2 ≤ length (result_bytes (card_line n (line.Apdu f) s live base w).result)
-command_answered n f s (Running x) (OnCard c) w e k runs none = answered_by (line_command c x s.budget (line.Apdu f)) _ none
+    → has_running_card (card_line n (line.Sent (line.Apdu f)) s live base w).before ≡ true → (card_line n (line.Sent (line.Apdu f)) s live base w).stop ≡ None → 2 ≤ length (result_bytes (card_line n (line.Sent (line.Apdu f)) s live base w).result)
+command_answered n f s (Running x) (OnCard c) w e k runs none = answered_by (line_command c x s.budget (line.Sent (line.Apdu f))) _ none
 command_answered n f s (Running x) (AtFault cause p) w e k runs none = absurd (cc (sym (ap (λ (v : Live). runs_on v s.base) e ∙ ap (λ (b : Base). runs_on (Running x) b) k) ∙ runs))
 command_answered n f s Unpowered base w e k runs none = absurd (cc (sym (ap (λ (v : Live). runs_on v s.base) e) ∙ runs))
 command_answered n f s Muted base w e k runs none = absurd (cc (sym (ap (λ (v : Live). runs_on v s.base) e) ∙ runs))
 
-step_answered : (n : ℕ) (f : List ℕ) (s : State) (w : Option FailedWrite) (ts : List Step) → IsAnswered (ToCard f) (step s (n, line.Apdu f) w ∷ ts)
+step_answered : (n : ℕ) (f : List ℕ) (s : State) (w : Option FailedWrite) (ts : List Step) → IsAnswered (ToCard f) (step s (n, line.Sent (line.Apdu f)) w ∷ ts)
 unfolding step
 step_answered n f (BeforePower m b a) w ts = λ runs none. absurd (cc runs)
 step_answered n f (AfterPower s) w ts = λ runs none. command_answered n f s s.live s.base w refl refl runs none
@@ -60,7 +60,7 @@ frames_answered (f ∷ fs) n powered s ws = by (meaning powered f) (λ k p z ws.
     by Nothing later = (tt, later n powered s ws)
     by (Orders l) later = (tt, later (n + 1) powered (step s (n + 1, l) (first_failure ws)).after (drop 1 ws))
     by (Refused status) later = (tt, later n powered s ws)
-    by (ToCard g) later = (step_answered (n + 1) g s (first_failure ws) (plays (step s (n + 1, line.Apdu g) (first_failure ws)).after (lines_of (n + 1) powered fs) (drop 1 ws)), later (n + 1) powered (step s (n + 1, line.Apdu g) (first_failure ws)).after (drop 1 ws))
+    by (ToCard g) later = (step_answered (n + 1) g s (first_failure ws) (plays (step s (n + 1, line.Sent (line.Apdu g)) (first_failure ws)).after (lines_of (n + 1) powered fs) (drop 1 ws)), later (n + 1) powered (step s (n + 1, line.Sent (line.Apdu g)) (first_failure ws)).after (drop 1 ws))
     by Unheard later = (tt, later n powered s ws)
 
 deck_before : (deck : List (ℕ × DeckLine)) (fs : List (List ℕ)) (k : ℕ) (s : State) (ws : List (Option FailedWrite)) → AreAnswered false fs (drop (length deck) (plays s (deck ++ lines_of k false fs) ws))
@@ -138,32 +138,14 @@ card_line_keeps n l s Muted base w e k = record { begins = λ writes is. absurd 
 first_keeps : (n : ℕ) (l : DeckLine) (m : List (List ℕ)) (b : ℕ) (a : Armed) (w : Option FailedWrite) → KeepsRunning (before_power_step n l m b a w)
 first_keeps n line.Power m b a w =
     record { begins = λ writes is. power_begins (play_at_power m b a) Unpowered (play_at_power m b a).base _ writes refl is; goes_on = λ runs none. absurd (cc runs) }
-first_keeps n line.Format m b a w = record { begins = λ writes is. absurd (cc is); goes_on = λ runs none. absurd (cc runs) }
-first_keeps n (line.Poke at x) m b a w = record { begins = λ writes is. absurd (cc is); goes_on = λ runs none. absurd (cc runs) }
-first_keeps n line.Named m b a w = record { begins = λ writes is. absurd (cc is); goes_on = λ runs none. absurd (cc runs) }
-first_keeps n (line.Budget c) m b a w = record { begins = λ writes is. absurd (cc is); goes_on = λ runs none. absurd (cc runs) }
-first_keeps n (line.Cut k x) m b a w = record { begins = λ writes is. absurd (cc is); goes_on = λ runs none. absurd (cc runs) }
-first_keeps n (line.Fail k) m b a w = record { begins = λ writes is. absurd (cc is); goes_on = λ runs none. absurd (cc runs) }
-first_keeps n (line.Dump x) m b a w = record { begins = λ writes is. absurd (cc is); goes_on = λ runs none. absurd (cc runs) }
-first_keeps n (line.Load u fixed session) m b a w = record { begins = λ writes is. absurd (cc is); goes_on = λ runs none. absurd (cc runs) }
-first_keeps n (line.Select x) m b a w = record { begins = λ writes is. absurd (cc is); goes_on = λ runs none. absurd (cc runs) }
-first_keeps n (line.Delete x) m b a w = record { begins = λ writes is. absurd (cc is); goes_on = λ runs none. absurd (cc runs) }
-first_keeps n (line.Apdu x) m b a w = record { begins = λ writes is. absurd (cc is); goes_on = λ runs none. absurd (cc runs) }
+first_keeps n _ m b a w = record { begins = λ writes is. absurd (cc is); goes_on = λ runs none. absurd (cc runs) }
 
 later_keeps : (n : ℕ) (l : DeckLine) (s : Warm) (w : Option FailedWrite) → KeepsRunning (after_power_step n l s w)
 later_keeps n line.Power s w =
     record { begins = λ writes is. power_begins s s.live s.base _ writes refl is; goes_on = λ runs none. power_goes_on s s.live s.base _ refl runs none }
-later_keeps n line.Format s w = record { begins = λ writes is. absurd (cc is); goes_on = λ runs none. runs }
-later_keeps n (line.Poke at x) s w = record { begins = λ writes is. absurd (cc is); goes_on = λ runs none. runs }
-later_keeps n line.Named s w = record { begins = λ writes is. absurd (cc is); goes_on = λ runs none. runs }
-later_keeps n (line.Budget c) s w = record { begins = λ writes is. absurd (cc is); goes_on = λ runs none. runs }
-later_keeps n (line.Cut k x) s w = record { begins = λ writes is. absurd (cc is); goes_on = λ runs none. runs }
-later_keeps n (line.Fail k) s w = record { begins = λ writes is. absurd (cc is); goes_on = λ runs none. runs }
 later_keeps n (line.Dump x) s w = record { begins = λ writes is. no_ready _ writes _ (dump_not_ready s.live s.base x) is; goes_on = λ runs none. runs }
-later_keeps n (line.Load u fixed session) s w = card_line_keeps n (line.Load u fixed session) s s.live s.base w refl refl
-later_keeps n (line.Select x) s w = card_line_keeps n (line.Select x) s s.live s.base w refl refl
-later_keeps n (line.Delete x) s w = card_line_keeps n (line.Delete x) s s.live s.base w refl refl
-later_keeps n (line.Apdu x) s w = card_line_keeps n (line.Apdu x) s s.live s.base w refl refl
+later_keeps n (line.Sent sent) s w = card_line_keeps n (line.Sent sent) s s.live s.base w refl refl
+later_keeps n _ s w = record { begins = λ writes is. absurd (cc is); goes_on = λ runs none. runs }
 
 step_keeps : (s : State) (l : ℕ × DeckLine) (w : Option FailedWrite) → KeepsRunning (step s l w)
 unfolding step

@@ -186,7 +186,7 @@ hex_field_is (b ∷ bs) h = record { some = refl; all = hex_all (b ∷ bs) }
 -- a line that a frame of bytes can represent
 abbrev pub IsFrameLine : DeckLine → Type 0
 IsFrameLine line.Power = ⊤
-IsFrameLine (line.Apdu bytes) = (0 < length bytes) × AreBytes bytes
+IsFrameLine (line.Sent (line.Apdu bytes)) = (0 < length bytes) × AreBytes bytes
 IsFrameLine (line.Cut k fill) = (1 ≤ k) × (k ≤ 4294967295) × (length fill ≡ 8) × AreBytes fill
 IsFrameLine (line.Fail k) = (1 ≤ k) × (k ≤ 4294967295)
 IsFrameLine (line.Budget n) = (1 ≤ n) × (n ≤ 65536)
@@ -208,7 +208,7 @@ printed_all t h = every_as solid printed t solid_printed h
 
 pub statement_printed : (l : DeckLine) → IsFrameLine l → every printed (statement_text l) ≡ true
 statement_printed line.Power h = refl
-statement_printed (line.Apdu bytes) h = every_append printed (codes "apdu ") (hex_text bytes) refl (printed_all (hex_text bytes) (hex_all bytes))
+statement_printed (line.Sent (line.Apdu bytes)) h = every_append printed (codes "apdu ") (hex_text bytes) refl (printed_all (hex_text bytes) (hex_all bytes))
 statement_printed (line.Cut k fill) h =
     let digits = numeral_field k (decimal k) (decimal_is k (wide k h.1)) in
     every_append printed (codes "cut ") (decimal k ++ (codes " " ++ hex_text fill)) refl
@@ -217,19 +217,13 @@ statement_printed (line.Fail k) h =
     every_append printed (codes "fail ") (decimal k) refl (printed_all (decimal k) (numeral_field k (decimal k) (decimal_is k (wide k h.1))).all)
 statement_printed (line.Budget n) h =
     every_append printed (codes "budget ") (decimal n) refl (printed_all (decimal n) (numeral_field n (decimal n) (decimal_is n (wide n (omega (arith, h.1))))).all)
-statement_printed line.Format h = absurd h
-statement_printed (line.Poke at x) h = absurd h
-statement_printed line.Named h = absurd h
-statement_printed (line.Dump x) h = absurd h
-statement_printed (line.Load u fixed session) h = absurd h
-statement_printed (line.Select x) h = absurd h
-statement_printed (line.Delete x) h = absurd h
+statement_printed _ h = absurd h
 
 -- a statement of a frame's line is this line
 pub statement_read : (l : DeckLine) → IsFrameLine l → (c : Context) (n : ℕ) → turn_in (Between c) (n, statement_text l) ≡ Ok (record { lines = (n, l) ∷ []; mode = Between (context_after l c) })
 unfolding statement_of
 statement_read line.Power h c n = refl
-statement_read (line.Apdu bytes) h c n = rw (one_field (hex_text bytes) (hex_field_is bytes h.0), hex_read bytes h.1) refl
+statement_read (line.Sent (line.Apdu bytes)) h c n = rw (one_field (hex_text bytes) (hex_field_is bytes h.0), hex_read bytes h.1) refl
 statement_read (line.Cut k fill) h c n =
     let number = decimal_is k (wide k h.1) in
     let some : 0 < length fill = omega (arith, h.2) in
@@ -240,10 +234,4 @@ statement_read (line.Fail k) h c n =
 statement_read (line.Budget b) h c n =
     let number = decimal_is b (wide b (omega (arith, h.1))) in
     rw (one_field (decimal b) (numeral_field b (decimal b) number), number_of b (decimal b) number, in_range 1 65536 b h.0 h.1) refl
-statement_read line.Format h c n = absurd h
-statement_read (line.Poke at x) h c n = absurd h
-statement_read line.Named h c n = absurd h
-statement_read (line.Dump x) h c n = absurd h
-statement_read (line.Load u fixed session) h c n = absurd h
-statement_read (line.Select x) h c n = absurd h
-statement_read (line.Delete x) h c n = absurd h
+statement_read _ h c n = absurd h

@@ -59,7 +59,7 @@ module _ {N : Type 0} (state : N → DeviceState) (bench : N → BenchState) whe
   frame_served p q s n (Orders l) answer x y r at plays puts = with_line p q s n (Orders l) l answer x y r refl at plays puts
   frame_served p q s n (Refused w) answer x y r at plays puts = without_line p q s n (Refused w) x y r refl at plays puts
   frame_served p q s n (ToCard f) answer x y r at plays puts =
-      with_line p q s n (ToCard f) (line.Apdu f) answer x y r refl at plays
+      with_line p q s n (ToCard f) (line.Sent (line.Apdu f)) answer x y r refl at plays
       (subst (λ (t : List ℕ). Puts x (answer_frame (Some t)) r y) (sym (answer_is state q answer)) puts)
   frame_served p q s n Unheard answer x y r at plays puts = without_line p q s n Unheard x y r refl at plays puts
 
@@ -128,8 +128,8 @@ behind s u n powered (Refused w) fs ws a b c reported os m h =
     let r = behind_none s u n _ fs ws a b c reported os m h in
     record { played = r.played; answers = ap (λ (qs : List (Option (List ℕ))). answer_to (Refused w) None ∷ qs) r.answers }
 behind s u n powered (ToCard f) fs ws a b c reported os m h =
-    let r = behind_line s u n (line.Apdu f) _ fs ws a b c reported os m h in
-    let ts = plays s ((n + 1, line.Apdu f) ∷ lines_of (n + 1) powered fs) (m.0 ∷ ws) in
+    let r = behind_line s u n (line.Sent (line.Apdu f)) _ fs ws a b c reported os m h in
+    let ts = plays s ((n + 1, line.Sent (line.Apdu f)) ∷ lines_of (n + 1) powered fs) (m.0 ∷ ws) in
     record {
       played = r.played;
       answers = ap (λ (o : Option LineResult). Some (result_bytes o) ∷ os) r.first ∙ ap (λ (qs : List (Option (List ℕ))). Some (result_bytes (first_result ts)) ∷ qs) r.rest;

@@ -138,31 +138,11 @@ card_unnumbered n k l s Muted base w = refl
 
 before_unnumbered : (n k : ℕ) (l : DeckLine) (m : List (List ℕ)) (b : ℕ) (a : Armed) (w : Option FailedWrite) → unnumbered (before_power_step n l m b a w) ≡ unnumbered (before_power_step k l m b a w)
 before_unnumbered n k line.Power m b a w = refl
-before_unnumbered n k line.Format m b a w = refl
-before_unnumbered n k (line.Poke at x) m b a w = refl
-before_unnumbered n k line.Named m b a w = refl
-before_unnumbered n k (line.Budget c) m b a w = refl
-before_unnumbered n k (line.Cut j x) m b a w = refl
-before_unnumbered n k (line.Fail j) m b a w = refl
-before_unnumbered n k (line.Dump x) m b a w = refl
-before_unnumbered n k (line.Load u fixed session) m b a w = refl
-before_unnumbered n k (line.Select x) m b a w = refl
-before_unnumbered n k (line.Delete x) m b a w = refl
-before_unnumbered n k (line.Apdu x) m b a w = refl
+before_unnumbered n k _ m b a w = refl
 
 after_unnumbered : (n k : ℕ) (l : DeckLine) (s : Warm) (w : Option FailedWrite) → unnumbered (after_power_step n l s w) ≡ unnumbered (after_power_step k l s w)
-after_unnumbered n k line.Power s w = refl
-after_unnumbered n k line.Format s w = refl
-after_unnumbered n k (line.Poke at x) s w = refl
-after_unnumbered n k line.Named s w = refl
-after_unnumbered n k (line.Budget c) s w = refl
-after_unnumbered n k (line.Cut j x) s w = refl
-after_unnumbered n k (line.Fail j) s w = refl
-after_unnumbered n k (line.Dump x) s w = refl
-after_unnumbered n k (line.Load u fixed session) s w = card_unnumbered n k (line.Load u fixed session) s s.live s.base w
-after_unnumbered n k (line.Select x) s w = card_unnumbered n k (line.Select x) s s.live s.base w
-after_unnumbered n k (line.Delete x) s w = card_unnumbered n k (line.Delete x) s s.live s.base w
-after_unnumbered n k (line.Apdu x) s w = card_unnumbered n k (line.Apdu x) s s.live s.base w
+after_unnumbered n k (line.Sent sent) s w = card_unnumbered n k (line.Sent sent) s s.live s.base w
+after_unnumbered n k _ s w = refl
 
 step_unnumbered : (n k : ℕ) (l : DeckLine) (s : State) (w : Option FailedWrite) → unnumbered (step s (n, l) w) ≡ unnumbered (step s (k, l) w)
 unfolding step

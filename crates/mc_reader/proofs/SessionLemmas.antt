@@ -49,17 +49,11 @@ ends_same fs part os (Err fault.NoMemory) a b c h = h
 -- a line that a frame can represent carries bytes
 line_bytes : (l : DeckLine) → IsFrameLine l → IsLine l
 line_bytes line.Power h = tt
-line_bytes (line.Apdu bytes) h = h.1
+line_bytes (line.Sent (line.Apdu bytes)) h = h.1
 line_bytes (line.Cut k fill) h = tt
 line_bytes (line.Fail k) h = tt
 line_bytes (line.Budget n) h = tt
-line_bytes line.Format h = absurd h
-line_bytes (line.Poke at x) h = absurd h
-line_bytes line.Named h = absurd h
-line_bytes (line.Dump x) h = absurd h
-line_bytes (line.Load u fixed session) h = absurd h
-line_bytes (line.Select x) h = absurd h
-line_bytes (line.Delete x) h = absurd h
+line_bytes _ h = absurd h
 
 carries : (o : Option DeckLine) → IfSome o IsFrameLine → IfSome o IsLine
 carries None h = tt

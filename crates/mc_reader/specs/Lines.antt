@@ -8,7 +8,7 @@ use Rattle.mc_reader.specs.Meanings.{Meaning, PowerOn, Orders, ToCard, meaning, 
 abbrev pub line_in : Meaning → Option DeckLine
 line_in PowerOn = Some line.Power
 line_in (Orders l) = Some l
-line_in (ToCard f) = Some (line.Apdu f)
+line_in (ToCard f) = Some (line.Sent (line.Apdu f))
 line_in _ = None
 
 -- a line that may be missing, with the number after n

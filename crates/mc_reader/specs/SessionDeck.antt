@@ -15,7 +15,7 @@ use Rattle.mc_reader.specs.Answers.{first_result, session_answers, steps_behind}
 -- the statement of a line that a frame can represent, and nothing for another line
 abbrev pub statement_text : DeckLine → List ℕ
 statement_text line.Power = codes "power"
-statement_text (line.Apdu bytes) = codes "apdu " ++ hex_text bytes
+statement_text (line.Sent (line.Apdu bytes)) = codes "apdu " ++ hex_text bytes
 statement_text (line.Cut k fill) = codes "cut " ++ decimal k ++ (codes " " ++ hex_text fill)
 statement_text (line.Fail k) = codes "fail " ++ decimal k
 statement_text (line.Budget n) = codes "budget " ++ decimal n

@@ -14,13 +14,11 @@ use Rattle.mc_model_card.specs.Commands.{Command}
 use Rattle.mc_model_play.specs.DeckGrammar.{DeckLine}
 use Rattle.mc_model_play.specs.DeckGrammar as line
 use Rattle.mc_model_play.specs.Given.{apps_on, apps_in}
-use Rattle.mc_model_play.specs.Play.{Armed, Unarmed, ArmedCut, Live, Running, Unpowered, Muted, Warm, State, BeforePower, AfterPower, FailedWrite, step, after_power_step, before_power_step, card_line, line_command, line_after, hit_of, power_moves, power_live, power_after, stopped_power, play_at_power, is_card_line}
+use Rattle.mc_model_play.specs.Play.{Armed, Unarmed, ArmedCut, Live, Running, Unpowered, Muted, Warm, State, BeforePower, AfterPower, FailedWrite, step, card_line, line_command, line_after, hit_of, power_moves, power_live, power_after, stopped_power, play_at_power, is_card_line, Step}
 use Rattle.mc_recovery.specs.Chains.{after_line, stopped_by, stopped_line, after_stops, base_in, base_with, items_in, whole_items_in}
 use Rattle.mc_recovery.specs.Laws.{IsPowered, ChainLaw}
 use Rattle.mc_recovery.proofs.Rule.{past_all}
-
-abbrev past_power : Base → ℕ → Journal → Live → ℕ → Armed → Warm
-past_power b o j v g a = record { base = b; owed = o; by = j; live = v; budget = g; armed = a }
+use Rattle.mc_model_play.proofs.LineKinds.{past_power, StepKind, Early, Quiet, Powers, Sends, by_kind}
 
 -- ---- power lines
 
@@ -167,14 +165,8 @@ repowered n s stop.Worn t = power_leads (base_with s.base []) s (hit_of s.armed 
 after_power_leads : (n : ℕ) (l : DeckLine) (s : Warm) (kind : Stop) (t : StopAt) → is_card_line l ≡ true → LeadsTo (base_with s.base (whole_items_in (AfterPower s) (n, l) t)) (stopped_by kind (AfterPower s) (n, l) t).after
 unfolding step
 after_power_leads n line.Power s kind t h = repowered n s kind t
-after_power_leads n (line.Load u f e) s stop.Off t h = card_leads n (line.Load u f e) s.base s.owed s.by s.live s.budget s.armed stop.Off t.at t.left
-after_power_leads n (line.Load u f e) s stop.Worn t h = card_leads n (line.Load u f e) s.base s.owed s.by s.live s.budget s.armed stop.Worn t.at t.left
-after_power_leads n (line.Select a) s stop.Off t h = card_leads n (line.Select a) s.base s.owed s.by s.live s.budget s.armed stop.Off t.at t.left
-after_power_leads n (line.Select a) s stop.Worn t h = card_leads n (line.Select a) s.base s.owed s.by s.live s.budget s.armed stop.Worn t.at t.left
-after_power_leads n (line.Delete a) s stop.Off t h = card_leads n (line.Delete a) s.base s.owed s.by s.live s.budget s.armed stop.Off t.at t.left
-after_power_leads n (line.Delete a) s stop.Worn t h = card_leads n (line.Delete a) s.base s.owed s.by s.live s.budget s.armed stop.Worn t.at t.left
-after_power_leads n (line.Apdu b) s stop.Off t h = card_leads n (line.Apdu b) s.base s.owed s.by s.live s.budget s.armed stop.Off t.at t.left
-after_power_leads n (line.Apdu b) s stop.Worn t h = card_leads n (line.Apdu b) s.base s.owed s.by s.live s.budget s.armed stop.Worn t.at t.left
+after_power_leads n (line.Sent sent) s stop.Off t h = card_leads n (line.Sent sent) s.base s.owed s.by s.live s.budget s.armed stop.Off t.at t.left
+after_power_leads n (line.Sent sent) s stop.Worn t h = card_leads n (line.Sent sent) s.base s.owed s.by s.live s.budget s.armed stop.Worn t.at t.left
 after_power_leads n _ s kind t h = absurd (cc h)
 
 -- lines before the first power line, and that line
@@ -191,14 +183,8 @@ before_power_leads : (n : ℕ) (l : DeckLine) (m : List (List ℕ)) (g : ℕ) (a
     → LeadsTo (base_with (base_of (fault m) m) (whole_items_in (BeforePower m g a) (n, l) t)) (stopped_by kind (BeforePower m g a) (n, l) t).after
 unfolding step
 before_power_leads n line.Power m g a kind t h = first_powered n m g a kind t
-before_power_leads n (line.Load u f e) m g a stop.Off t h = (sym (no_items (base_of (fault m) m)), refl)
-before_power_leads n (line.Load u f e) m g a stop.Worn t h = (sym (no_items (base_of (fault m) m)), refl)
-before_power_leads n (line.Select x) m g a stop.Off t h = (sym (no_items (base_of (fault m) m)), refl)
-before_power_leads n (line.Select x) m g a stop.Worn t h = (sym (no_items (base_of (fault m) m)), refl)
-before_power_leads n (line.Delete x) m g a stop.Off t h = (sym (no_items (base_of (fault m) m)), refl)
-before_power_leads n (line.Delete x) m g a stop.Worn t h = (sym (no_items (base_of (fault m) m)), refl)
-before_power_leads n (line.Apdu x) m g a stop.Off t h = (sym (no_items (base_of (fault m) m)), refl)
-before_power_leads n (line.Apdu x) m g a stop.Worn t h = (sym (no_items (base_of (fault m) m)), refl)
+before_power_leads n (line.Sent sent) m g a stop.Off t h = (sym (no_items (base_of (fault m) m)), refl)
+before_power_leads n (line.Sent sent) m g a stop.Worn t h = (sym (no_items (base_of (fault m) m)), refl)
 before_power_leads n _ m g a kind t h = absurd (cc h)
 
 line_leads : (z : State) (l : ℕ × DeckLine) (t : StopAt) → is_card_line l.1 ≡ true → LeadsTo (base_with (base_in z) (whole_items_in z l t)) (stopped_line z l t).after
@@ -220,27 +206,15 @@ none_on : (b : Base) → NoneAtFault b []
 none_on (OnCard c) = tt
 none_on (AtFault cause p) = refl
 
-card_none : (n : ℕ) (l : DeckLine) (b : Base) (o : ℕ) (j : Journal) (v : Live) (g : ℕ) (a : Armed) → NoneAtFault b (card_line n l (past_power b o j v g a) v b None).items
-card_none n l (OnCard c) o j v g a = tt
-card_none n l (AtFault cause p) o j (Running session_state) g a = refl
-card_none n l (AtFault cause p) o j Unpowered g a = refl
-card_none n l (AtFault cause p) o j Muted g a = refl
-
-after_power_none : (n : ℕ) (l : DeckLine) (s : Warm) → NoneAtFault s.base (after_power_step n l s None).items
-after_power_none n (line.Load u f e) s = card_none n (line.Load u f e) s.base s.owed s.by s.live s.budget s.armed
-after_power_none n (line.Select a) s = card_none n (line.Select a) s.base s.owed s.by s.live s.budget s.armed
-after_power_none n (line.Delete a) s = card_none n (line.Delete a) s.base s.owed s.by s.live s.budget s.armed
-after_power_none n (line.Apdu b) s = card_none n (line.Apdu b) s.base s.owed s.by s.live s.budget s.armed
-after_power_none n _ s = none_on s.base
-
-before_power_none : (n : ℕ) (l : DeckLine) (m : List (List ℕ)) (g : ℕ) (a : Armed) → (before_power_step n l m g a None).items ≡ []
-before_power_none n line.Format m g a = refl
-before_power_none n _ m g a = refl
+kind_none : {z : State} {n : ℕ} {l : DeckLine} {u : Step} → StepKind None z n l u → NoneAtFault (base_in z) u.items
+kind_none (Early {m = m} p) = none_on (base_of (fault m) m)
+kind_none (Quiet {s = s} p q) = none_on s.base
+kind_none (Powers (BeforePower m b a)) = none_on (base_of (fault m) m)
+kind_none (Powers (AfterPower s)) = none_on s.base
+kind_none (Sends k c session_state) = tt
 
 none_in : (z : State) (l : ℕ × DeckLine) → NoneAtFault (base_in z) (items_in z l)
-unfolding step
-none_in (BeforePower m g a) l = subst (λ (is : List Item). NoneAtFault (base_of (fault m) m) is) (sym (before_power_none l.0 l.1 m g a)) (none_on (base_of (fault m) m))
-none_in (AfterPower s) l = after_power_none l.0 l.1 s
+none_in z l = kind_none (by_kind z l None)
 
 done_apps : (b : Base) (is : List Item) (k : ℕ) (x : List ℕ) → NoneAtFault b is → apps_on (base_with b (at_stop is k x).whole) ≡ apps_after_items (apps_on b) (at_stop is k x).whole
 done_apps (OnCard c) is k x h = refl

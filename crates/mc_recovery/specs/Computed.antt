@@ -42,5 +42,5 @@ unfoldable pub counted : StopAt → List StopAt → Option (List ℕ)
 unfolding deck_read name_of apdu_read touched_words targets_1 targets_2 pairs blocks_from apps_of layout step_of bad_block bad_record bytes_at write_effect too_many later_causes prim_effect causes effect row turn_of_chain run_of_chain manage command send play_at_power step plays moves_of steady_failures after_stops
 counted t ts =
     let z = state_after (deck_read counter) in
-    let count : ℕ × DeckLine = (8, line.Apdu (0x80 ∷ 0x01 ∷ 0 ∷ 0 ∷ 2 ∷ [])) in
+    let count : ℕ × DeckLine = (8, line.Sent (line.Apdu (0x80 ∷ 0x01 ∷ 0 ∷ 0 ∷ 2 ∷ []))) in
     option_map (λ a. a.fixed) (lookup (apps_in (after_chain 9 z count t ts)) (0xA0 ∷ 0 ∷ 0 ∷ 0 ∷ 1 ∷ []))

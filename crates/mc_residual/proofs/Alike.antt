@@ -46,16 +46,8 @@ before_alike : (n : ℕ) (l : DeckLine) (m k : List (List ℕ)) (b : ℕ) (a : A
 unfolding step
 before_alike n line.Format m k b a w alike none = absurd (cc none)
 before_alike n (line.Poke at x) m k b a w alike none = absurd (cc none)
-before_alike n line.Named m k b a w alike none = record { text = refl; traced = refl; after = NotYet m k b a alike }
-before_alike n (line.Budget c) m k b a w alike none = record { text = refl; traced = refl; after = NotYet m k c a alike }
-before_alike n (line.Cut i x) m k b a w alike none = record { text = refl; traced = refl; after = NotYet m k b _ alike }
-before_alike n (line.Fail i) m k b a w alike none = record { text = refl; traced = refl; after = NotYet m k b _ alike }
-before_alike n (line.Dump x) m k b a w alike none = record { text = refl; traced = refl; after = NotYet m k b a alike }
 before_alike n line.Power m k b a w alike none = power_alike n m k b a w (play_at_power m b a) (play_at_power k b a) (found_alike m k b a alike)
-before_alike n (line.Load u fixed session) m k b a w alike none = record { text = refl; traced = refl; after = NotYet m k b _ alike }
-before_alike n (line.Select x) m k b a w alike none = record { text = refl; traced = refl; after = NotYet m k b _ alike }
-before_alike n (line.Delete x) m k b a w alike none = record { text = refl; traced = refl; after = NotYet m k b _ alike }
-before_alike n (line.Apdu x) m k b a w alike none = record { text = refl; traced = refl; after = NotYet m k b _ alike }
+before_alike n _ m k b a w alike none = record { text = refl; traced = refl; after = NotYet m k _ _ alike }
 
 -- one line from states that are alike
 step_alike : (s z : State) (l : ℕ × DeckLine) (w : Option FailedWrite) → SeenAlike s z → writes_words l.1 ≡ false → StepsAlike (step s l w) (step z l w)

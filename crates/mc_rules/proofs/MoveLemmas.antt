@@ -58,19 +58,19 @@ power_alike n (f ∷ fs) = refl
 select_alike : (n : ℕ) (fs : List (List ℕ)) → IsReadAlike n fs SelectWord
 unfolding statement_of
 select_alike n [] = refl
-select_alike n (f ∷ []) = says_lines (aid_field f) line.Select
+select_alike n (f ∷ []) = says_lines (aid_field f) (λ a. line.Sent (line.Select a))
 select_alike n (f ∷ g ∷ fs) = refl
 
 delete_alike : (n : ℕ) (fs : List (List ℕ)) → IsReadAlike n fs DeleteWord
 unfolding statement_of
 delete_alike n [] = refl
-delete_alike n (f ∷ []) = says_lines (aid_field f) line.Delete
+delete_alike n (f ∷ []) = says_lines (aid_field f) (λ a. line.Sent (line.Delete a))
 delete_alike n (f ∷ g ∷ fs) = refl
 
 apdu_alike : (n : ℕ) (fs : List (List ℕ)) → IsReadAlike n fs ApduWord
 unfolding statement_of
 apdu_alike n [] = refl
-apdu_alike n (f ∷ []) = says_lines (hex_field f) line.Apdu
+apdu_alike n (f ∷ []) = says_lines (hex_field f) (λ a. line.Sent (line.Apdu a))
 apdu_alike n (f ∷ g ∷ fs) = refl
 
 -- ---- words

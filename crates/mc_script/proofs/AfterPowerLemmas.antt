@@ -22,18 +22,8 @@ card_begun n l s Muted base w = record { pokes = refl; after = refl }
 begun : (s : State) (l : ℕ × DeckLine) (w : Option FailedWrite) → is_before_power s ≡ false → PlayBegun (step s l w)
 unfolding step
 begun (BeforePower m b a) l w past_power = absurd (cc past_power)
-begun (AfterPower s) (n, line.Format) w past_power = record { pokes = refl; after = refl }
-begun (AfterPower s) (n, line.Named) w past_power = record { pokes = refl; after = refl }
-begun (AfterPower s) (n, line.Power) w past_power = record { pokes = refl; after = refl }
-begun (AfterPower s) (n, line.Poke at x) w past_power = record { pokes = refl; after = refl }
-begun (AfterPower s) (n, line.Budget c) w past_power = record { pokes = refl; after = refl }
-begun (AfterPower s) (n, line.Cut k x) w past_power = record { pokes = refl; after = refl }
-begun (AfterPower s) (n, line.Fail k) w past_power = record { pokes = refl; after = refl }
-begun (AfterPower s) (n, line.Dump x) w past_power = record { pokes = refl; after = refl }
-begun (AfterPower s) (n, line.Load u fixed session) w past_power = card_begun n (line.Load u fixed session) s s.live s.base w
-begun (AfterPower s) (n, line.Select x) w past_power = card_begun n (line.Select x) s s.live s.base w
-begun (AfterPower s) (n, line.Delete x) w past_power = card_begun n (line.Delete x) s s.live s.base w
-begun (AfterPower s) (n, line.Apdu x) w past_power = card_begun n (line.Apdu x) s s.live s.base w
+begun (AfterPower s) (n, line.Sent sent) w past_power = card_begun n (line.Sent sent) s s.live s.base w
+begun (AfterPower s) (n, _) w past_power = record { pokes = refl; after = refl }
 
 -- every play from the first power line on pokes no word
 none_poked : (s : State) (ls : List (ℕ × DeckLine)) (ws : List (Option FailedWrite)) → is_before_power s ≡ false → total (λ t. line_pokes t.before t.line) (plays s ls ws) ≡ 0
@@ -48,18 +38,8 @@ none_poked s (l ∷ ls) ws past_power =
 -- either power does not come in a line, or the play after it is past the first power line
 powers_first : (s : State) (l : ℕ × DeckLine) (w : Option FailedWrite) → (line_powers (step s l w).line ≡ 0) ⊎ (is_before_power (step s l w).after ≡ false)
 unfolding step
-powers_first (BeforePower m b a) (n, line.Format) w = inl refl
-powers_first (BeforePower m b a) (n, line.Named) w = inl refl
 powers_first (BeforePower m b a) (n, line.Power) w = inr refl
-powers_first (BeforePower m b a) (n, line.Poke at x) w = inl refl
-powers_first (BeforePower m b a) (n, line.Budget c) w = inl refl
-powers_first (BeforePower m b a) (n, line.Cut k x) w = inl refl
-powers_first (BeforePower m b a) (n, line.Fail k) w = inl refl
-powers_first (BeforePower m b a) (n, line.Dump x) w = inl refl
-powers_first (BeforePower m b a) (n, line.Load u fixed session) w = inl refl
-powers_first (BeforePower m b a) (n, line.Select x) w = inl refl
-powers_first (BeforePower m b a) (n, line.Delete x) w = inl refl
-powers_first (BeforePower m b a) (n, line.Apdu x) w = inl refl
+powers_first (BeforePower m b a) (n, _) w = inl refl
 powers_first (AfterPower s) l w = inr (begun (AfterPower s) l w refl).after
 
 -- either power does not come in a line, or no word is poked after it

@@ -74,10 +74,7 @@ step_power (BeforePower m b a) (n, line.Power) w on = power_power (play_at_power
 step_power (BeforePower m b a) (n, line.Format) w on = refl
 step_power (BeforePower m b a) (n, _) w on = refl
 step_power (AfterPower s) (n, line.Power) w on = power_power s (hit_of s.armed (power_moves s) w) on
-step_power (AfterPower s) (n, line.Load u fixed session) w on = card_power n (line.Load u fixed session) s s.live s.base w on
-step_power (AfterPower s) (n, line.Select x) w on = card_power n (line.Select x) s s.live s.base w on
-step_power (AfterPower s) (n, line.Delete x) w on = card_power n (line.Delete x) s s.live s.base w on
-step_power (AfterPower s) (n, line.Apdu x) w on = card_power n (line.Apdu x) s s.live s.base w on
+step_power (AfterPower s) (n, line.Sent sent) w on = card_power n (line.Sent sent) s s.live s.base w on
 step_power (AfterPower s) (n, line.Dump x) w on = dump_power s.live s.base x on (line.Dump x)
 step_power (AfterPower s) (n, _) w on = refl
 

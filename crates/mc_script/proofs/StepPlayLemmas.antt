@@ -42,18 +42,8 @@ line_turns : (s : State) (l : ℕ × DeckLine) (w : Option FailedWrite) → inst
 unfolding step
 line_turns (BeforePower m b a) (n, line.Format) w = refl
 line_turns (BeforePower m b a) (n, _) w = refl
-line_turns (AfterPower s) (n, line.Load u fixed session) w = card_turns n (line.Load u fixed session) s s.live s.base w
-line_turns (AfterPower s) (n, line.Select x) w = card_turns n (line.Select x) s s.live s.base w
-line_turns (AfterPower s) (n, line.Delete x) w = card_turns n (line.Delete x) s s.live s.base w
-line_turns (AfterPower s) (n, line.Apdu x) w = card_turns n (line.Apdu x) s s.live s.base w
-line_turns (AfterPower s) (n, line.Format) w = none_executed s.live s.base s.budget line.Format (λ c session_state. refl)
-line_turns (AfterPower s) (n, line.Power) w = none_executed s.live s.base s.budget line.Power (λ c session_state. refl)
-line_turns (AfterPower s) (n, line.Named) w = none_executed s.live s.base s.budget line.Named (λ c session_state. refl)
-line_turns (AfterPower s) (n, line.Poke at x) w = none_executed s.live s.base s.budget (line.Poke at x) (λ c session_state. refl)
-line_turns (AfterPower s) (n, line.Budget k) w = none_executed s.live s.base s.budget (line.Budget k) (λ c session_state. refl)
-line_turns (AfterPower s) (n, line.Cut k x) w = none_executed s.live s.base s.budget (line.Cut k x) (λ c session_state. refl)
-line_turns (AfterPower s) (n, line.Fail k) w = none_executed s.live s.base s.budget (line.Fail k) (λ c session_state. refl)
-line_turns (AfterPower s) (n, line.Dump x) w = none_executed s.live s.base s.budget (line.Dump x) (λ c session_state. refl)
+line_turns (AfterPower s) (n, line.Sent sent) w = card_turns n (line.Sent sent) s s.live s.base w
+line_turns (AfterPower s) (n, l) w = none_executed s.live s.base s.budget l (λ c session_state. refl)
 
 -- ---- the result of a line that no stop hit
 
@@ -99,10 +89,7 @@ unstopped (BeforePower m b a) (n, line.Power) w h = power_unstopped (play_at_pow
 unstopped (BeforePower m b a) (n, line.Format) w h = refl
 unstopped (BeforePower m b a) (n, _) w h = refl
 unstopped (AfterPower s) (n, line.Power) w h = power_unstopped s (hit_of s.armed (power_moves s) w) h
-unstopped (AfterPower s) (n, line.Load u fixed session) w h = card_unstopped n (line.Load u fixed session) s s.live s.base w h
-unstopped (AfterPower s) (n, line.Select x) w h = card_unstopped n (line.Select x) s s.live s.base w h
-unstopped (AfterPower s) (n, line.Delete x) w h = card_unstopped n (line.Delete x) s s.live s.base w h
-unstopped (AfterPower s) (n, line.Apdu x) w h = card_unstopped n (line.Apdu x) s s.live s.base w h
+unstopped (AfterPower s) (n, line.Sent sent) w h = card_unstopped n (line.Sent sent) s s.live s.base w h
 unstopped (AfterPower s) (n, line.Dump x) w h = dump_unstopped s.live s.base x
 unstopped (AfterPower s) (n, _) w h = refl
 

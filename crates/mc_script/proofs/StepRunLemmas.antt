@@ -104,10 +104,7 @@ left_none c m k old now stopped h still =
 
 -- whether a line sends commands to a card
 abbrev pub sends : DeckLine → Bool
-sends (line.Load u fixed session) = true
-sends (line.Select n) = true
-sends (line.Delete n) = true
-sends (line.Apdu b) = true
+sends (line.Sent sent) = true
 sends _ = false
 
 -- what a line may count by its state: nothing
@@ -116,10 +113,7 @@ record CountsNone (s : State) (l : DeckLine) : Type 0 where
   searches : search_in s l ≡ 0
 
 on_none : (live : Live) (base : Base) (budget : ℕ) (l : DeckLine) → sends l ≡ false → (instructions_on live base budget l ≡ 0) × (search_on live base l ≡ 0)
-on_none (Running session_state) (OnCard c) budget (line.Load u fixed session) h = absurd (cc h)
-on_none (Running session_state) (OnCard c) budget (line.Select n) h = absurd (cc h)
-on_none (Running session_state) (OnCard c) budget (line.Delete n) h = absurd (cc h)
-on_none (Running session_state) (OnCard c) budget (line.Apdu b) h = absurd (cc h)
+on_none (Running session_state) (OnCard c) budget (line.Sent sent) h = absurd (cc h)
 on_none (Running session_state) (OnCard c) budget _ h = (refl, refl)
 on_none (Running session_state) (AtFault cause p) budget l h = (refl, refl)
 on_none Unpowered base budget l h = (refl, refl)

@@ -76,18 +76,9 @@ line_moved (AfterPower s) (n, line.Power) w h =
     let p = power_moves s in
     let e : p + 0 ≡ p = omega arith in
     moved_as (p + 0) p _ e (record { moves = refl; reaches = hit_reaches s.armed p w (subst (λ k. MayReach k w) e h) })
-line_moved (AfterPower s) (n, line.Load u fixed session) w h =
-    let k = moves (card_line n (line.Load u fixed session) s s.live s.base None).items in
-    moved_as (0 + k) k _ (nothing k) (card_moved n (line.Load u fixed session) s s.live s.base w (subst (λ k. MayReach k w) (nothing k) h))
-line_moved (AfterPower s) (n, line.Select x) w h =
-    let k = moves (card_line n (line.Select x) s s.live s.base None).items in
-    moved_as (0 + k) k _ (nothing k) (card_moved n (line.Select x) s s.live s.base w (subst (λ k. MayReach k w) (nothing k) h))
-line_moved (AfterPower s) (n, line.Delete x) w h =
-    let k = moves (card_line n (line.Delete x) s s.live s.base None).items in
-    moved_as (0 + k) k _ (nothing k) (card_moved n (line.Delete x) s s.live s.base w (subst (λ k. MayReach k w) (nothing k) h))
-line_moved (AfterPower s) (n, line.Apdu x) w h =
-    let k = moves (card_line n (line.Apdu x) s s.live s.base None).items in
-    moved_as (0 + k) k _ (nothing k) (card_moved n (line.Apdu x) s s.live s.base w (subst (λ k. MayReach k w) (nothing k) h))
+line_moved (AfterPower s) (n, line.Sent sent) w h =
+    let k = moves (card_line n (line.Sent sent) s s.live s.base None).items in
+    moved_as (0 + k) k _ (nothing k) (card_moved n (line.Sent sent) s s.live s.base w (subst (λ k. MayReach k w) (nothing k) h))
 line_moved (AfterPower s) (n, _) w h = record { moves = refl; reaches = tt }
 
 -- ---- the entries of a line at the front of a tape

@@ -7,7 +7,7 @@ use Rattle.mc_script.specs.declared.commands.CardLine.TheVariants as command
 
 -- the line of a deck that a command is
 abbrev pub deck_line_of : CardLine → DeckLine
-deck_line_of (command.Select aid) = line.Select aid.now
-deck_line_of (command.Delete aid) = line.Delete aid.now
-deck_line_of (command.Apdu bytes) = line.Apdu bytes.now
-deck_line_of (command.Load u fixed session) = line.Load (parts_of u.now) fixed session
+deck_line_of (command.Select aid) = line.Sent (line.Select aid.now)
+deck_line_of (command.Delete aid) = line.Sent (line.Delete aid.now)
+deck_line_of (command.Apdu bytes) = line.Sent (line.Apdu bytes.now)
+deck_line_of (command.Load u fixed session) = line.Sent (line.Load (parts_of u.now) fixed session)

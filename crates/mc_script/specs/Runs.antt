@@ -29,9 +29,9 @@ pub record SentCommand : Type 0 where
 -- the bytes of the command of a line, none of a load, whose commands are several and run no application, and of a line
 -- that sends none
 abbrev pub line_bytes : DeckLine → List ℕ
-line_bytes (line.Select n) = select_bytes n
-line_bytes (line.Delete n) = delete_bytes n
-line_bytes (line.Apdu b) = b
+line_bytes (line.Sent (line.Select n)) = select_bytes n
+line_bytes (line.Sent (line.Delete n)) = delete_bytes n
+line_bytes (line.Sent (line.Apdu b)) = b
 line_bytes _ = []
 
 module _ {N : Type 0} (state : N → DeviceState) where

@@ -70,8 +70,8 @@ pub record StepsOf (n k : ℕ) (stopped : Bool) (old new : ℕ) : Type 0 where
 
 -- the most steps of the search of a line on a card that runs
 abbrev pub line_search : Card → DeckLine → ℕ
-line_search c (line.Load u fixed session) = most_search c
-line_search c (line.Apdu b) = command_search c b
+line_search c (line.Sent (line.Load u fixed session)) = most_search c
+line_search c (line.Sent (line.Apdu b)) = command_search c b
 line_search c _ = 0
 
 -- the most steps of the search of a line, by whether a card runs

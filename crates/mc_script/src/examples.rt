@@ -15,8 +15,8 @@ pub fn power_after_lines()
     ensures power { on_after false line.Power None ≡ true }
     ensures cut { on_after false line.Power (Some (record { kind = Off; at = 1; left = zeros 8 })) ≡ false }
     ensures failed { on_after false line.Power (Some (record { kind = Worn; at = 1; left = zeros 8 })) ≡ true }
-    ensures answered { on_after true (line.Apdu []) None ≡ true }
-    ensures refused { on_after false (line.Apdu []) None ≡ false }
+    ensures answered { on_after true (line.Sent (line.Apdu [])) None ≡ true }
+    ensures refused { on_after false (line.Sent (line.Apdu [])) None ≡ false }
     ensures budget { on_after false (line.Budget 5) None ≡ false }
 {}
 

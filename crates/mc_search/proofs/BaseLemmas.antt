@@ -67,10 +67,7 @@ line_follows n l s Muted b h = subst (λ (x : Base). FollowsBase b x) (sym h) (f
 step_follows : (n : ℕ) (l : DeckLine) (s : Warm) → is_card_line l ≡ true → FollowsBase s.base (base_then (step (AfterPower s) (n, l) None).after)
 unfolding step
 step_follows n line.Power s is = power_follows s (hit_of s.armed (power_moves s) None)
-step_follows n (line.Load u f e) s is = line_follows n (line.Load u f e) s s.live s.base refl
-step_follows n (line.Select d) s is = line_follows n (line.Select d) s s.live s.base refl
-step_follows n (line.Delete d) s is = line_follows n (line.Delete d) s s.live s.base refl
-step_follows n (line.Apdu d) s is = line_follows n (line.Apdu d) s s.live s.base refl
+step_follows n (line.Sent sent) s is = line_follows n (line.Sent sent) s s.live s.base refl
 step_follows n _ s is = absurd (cc is)
 
 recovery_follows : (n : ℕ) (s : State) (w : Warm) → s ≡ AfterPower w → FollowsBase (base_then s) (base_then (next s (n, line.Power)))

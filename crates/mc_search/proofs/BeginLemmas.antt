@@ -31,7 +31,6 @@ use Rattle.mc_key.specs.Kept.{IsKeptCard, IsOfDevice}
 use Rattle.mc_key.specs.KeptStates.{IsKeptState}
 use Rattle.mc_search.specs.declared.beginning.Lead.{Lead}
 use Rattle.mc_search.proofs.AttemptLemmas.{runs_shown}
-use Rattle.mc_explore.proofs.Actions.{past_power}
 use Rattle.mc_script.specs.declared.answer.Answer.{Answer}
 use Rattle.mc_script.specs.declared.answer.Answer.TheVariants as answer
 use Rattle.mc_script.specs.declared.armed.Armed.{Armed}
@@ -52,6 +51,7 @@ use Rattle.mc_key.specs.Shown.{IsShown}
 use Rattle.mc_search.specs.Kept.{is_armed, names_in, needs_power, runs_now, LeadIs}
 use Rattle.mc_search.specs.Playing.{state_after, FailsNot, PlayedAs}
 use Rattle.mc_search.specs.Beginnings.{is_ready_answer, without_stop, IsFirst, IsPowered}
+use Rattle.mc_model_play.proofs.LineKinds.{past_power}
 
 -- ---- stops
 
@@ -79,7 +79,7 @@ no_cut : (k : ℕ) (t : StopAt) → 1 ≤ k → cond (nat_le k 0) (Some t) None 
 no_cut k t low = ap (λ (b : Bool). cond b (Some t) None) (lt-leb k 0 low)
 
 abbrev idle_after : State → State
-idle_after s = (step s (0, line.Apdu (0 ∷ [])) (steady_at (armed_stop_in s) (line.Apdu (0 ∷ [])) (moves_of s (0, line.Apdu (0 ∷ []))))).after
+idle_after s = (step s (0, line.Sent (line.Apdu (0 ∷ []))) (steady_at (armed_stop_in s) (line.Sent (line.Apdu (0 ∷ []))) (moves_of s (0, line.Sent (line.Apdu (0 ∷ [])))))).after
 
 idle_drops : (b : Base) (o : ℕ) (j : Journal) (v : play.Live) (g : ℕ) (a : play.Armed) → CountsFromOne a → idle_after (AfterPower (past_power b o j v g a)) ≡ AfterPower (past_power b o j v g Unarmed)
 unfolding step moves_of command apdu_read
@@ -87,17 +87,17 @@ idle_drops (OnCard c) o j (Running session_state) g Unarmed h = refl
 idle_drops (OnCard c) o j (Running session_state) g (ArmedCut k x) h =
     ap (λ (t : Option StopAt). AfterPower (line_after (past_power (OnCard c) o j (Running session_state) g (ArmedCut k x)) c (refusal session_state 0x6700) t)) (no_cut k (record { kind = stop.Off; at = k; left = x }) h)
 idle_drops (OnCard c) o j (Running session_state) g (ArmedFail k) h =
-    ap (λ (e : Bool). (card_line 0 (line.Apdu (0 ∷ [])) (past_power (OnCard c) o j (Running session_state) g (ArmedFail k)) (Running session_state) (OnCard c) (cond e (Some (record { at = k; left = zeros 8 })) None)).after) (lt-leb k 0 h)
+    ap (λ (e : Bool). (card_line 0 (line.Sent (line.Apdu (0 ∷ []))) (past_power (OnCard c) o j (Running session_state) g (ArmedFail k)) (Running session_state) (OnCard c) (cond e (Some (record { at = k; left = zeros 8 })) None)).after) (lt-leb k 0 h)
 idle_drops (AtFault cause place) o j (Running session_state) g a h = refl
 idle_drops b o j Unpowered g a h = refl
 idle_drops b o j Muted g a h = refl
 
-idle_before : (m : List (List ℕ)) (b : ℕ) (a : play.Armed) (w : Option FailedWrite) → (step (BeforePower m b a) (0, line.Apdu (0 ∷ [])) w).after ≡ BeforePower m b Unarmed
+idle_before : (m : List (List ℕ)) (b : ℕ) (a : play.Armed) (w : Option FailedWrite) → (step (BeforePower m b a) (0, line.Sent (line.Apdu (0 ∷ []))) w).after ≡ BeforePower m b Unarmed
 unfolding step
 idle_before m b a w = refl
 
 idle_leaves : (s : State) → CountsFromOne (armed_stop_in s) → idle_after s ≡ without_stop s
-idle_leaves (BeforePower m b a) h = idle_before m b a (steady_at a (line.Apdu (0 ∷ [])) (moves_of (BeforePower m b a) (0, line.Apdu (0 ∷ []))))
+idle_leaves (BeforePower m b a) h = idle_before m b a (steady_at a (line.Sent (line.Apdu (0 ∷ []))) (moves_of (BeforePower m b a) (0, line.Sent (line.Apdu (0 ∷ [])))))
 idle_leaves (AfterPower w) h = idle_drops w.base w.owed w.by w.live w.budget w.armed h
 
 -- ---- the power line
@@ -165,11 +165,11 @@ module _ {N : Type 0} (state : N → DeviceState) (bench : N → BenchState) whe
     pub at : IsPlayerAt state bench q (without_stop s)
     pub steady : (bench (device_of q)).steady ≡ true
 
-  pub idled : {R : Type 0} (reported : R → List Turn → R → Type 0) (p q : Player N) (before after : R) (a : Option Answer) (s : State) → LineDone state bench reported p (line.Apdu (0 ∷ [])) before after a q
+  pub idled : {R : Type 0} (reported : R → List Turn → R → Type 0) (p q : Player N) (before after : R) (a : Option Answer) (s : State) → LineDone state bench reported p (line.Sent (line.Apdu (0 ∷ []))) before after a q
       → IsPlayerAt state bench p s → (bench (device_of p)).steady ≡ true → IsIdled q s
   idled reported p q before after a s done at steady =
       let d = done s 0 at in
-      let first = subst (λ (w : Option FailedWrite). IsPlayerAt state bench q (step s (0, line.Apdu (0 ∷ [])) w).after) (d.1.stepped.played.steady steady) d.1.stepped.at in
+      let first = subst (λ (w : Option FailedWrite). IsPlayerAt state bench q (step s (0, line.Sent (line.Apdu (0 ∷ []))) w).after) (d.1.stepped.played.steady steady) d.1.stepped.at in
       let one = subst (λ (x : play.Armed). CountsFromOne x) at.armed (counts_one p.armed at.can_arm) in
       record { at = subst (λ (z : State). IsPlayerAt state bench q z) (idle_leaves s one) first; steady = d.1.stepped.played.counts.counts.steady ∙ steady }
 

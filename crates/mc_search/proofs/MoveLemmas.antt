@@ -51,10 +51,7 @@ line_leaves n l s Muted b = record { warm = record s { armed = Unarmed }; is = r
 pub card_line_leaves : (n : ℕ) (l : DeckLine) (s : Warm) → is_card_line l ≡ true → LeavesPlay s (step (AfterPower s) (n, l) None).after
 unfolding step
 card_line_leaves n line.Power s is = power_leaves s (hit_of s.armed (power_moves s) None) refl
-card_line_leaves n (line.Load u f e) s is = line_leaves n (line.Load u f e) s s.live s.base
-card_line_leaves n (line.Select d) s is = line_leaves n (line.Select d) s s.live s.base
-card_line_leaves n (line.Delete d) s is = line_leaves n (line.Delete d) s s.live s.base
-card_line_leaves n (line.Apdu d) s is = line_leaves n (line.Apdu d) s s.live s.base
+card_line_leaves n (line.Sent sent) s is = line_leaves n (line.Sent sent) s s.live s.base
 card_line_leaves n _ s is = absurd (cc is)
 
 -- the play after a whole power line
@@ -118,10 +115,7 @@ module _ (n : ℕ) (t : List ℕ) (c : Card) (session_state : SessionState) (g k
   hits : (l : DeckLine) → is_card_line l ≡ true → Hits l
   unfolding step moves_of
   hits line.Power is = power_hit (record { base = OnCard c; owed = 0; by = Two; live = Running session_state; budget = g; armed = ArmedCut k x }) k x (nat_le k (0 + migration (OnCard c))) ∙ no_items k (0 + migration (OnCard c))
-  hits (line.Load u f e) is = let r = line_command c session_state g (line.Load u f e) in command_hit r k x (nat_le k (moves r.items)) ∙ no_part k (moves r.items)
-  hits (line.Select d) is = let r = line_command c session_state g (line.Select d) in command_hit r k x (nat_le k (moves r.items)) ∙ no_part k (moves r.items)
-  hits (line.Delete d) is = let r = line_command c session_state g (line.Delete d) in command_hit r k x (nat_le k (moves r.items)) ∙ no_part k (moves r.items)
-  hits (line.Apdu d) is = let r = line_command c session_state g (line.Apdu d) in command_hit r k x (nat_le k (moves r.items)) ∙ no_part k (moves r.items)
+  hits (line.Sent sent) is = let r = line_command c session_state g (line.Sent sent) in command_hit r k x (nat_le k (moves r.items)) ∙ no_part k (moves r.items)
   hits _ is = absurd (cc is)
 
 -- a card is there

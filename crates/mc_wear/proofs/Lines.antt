@@ -35,18 +35,18 @@ unfolding apdu_read
 delete_most k n = delete_by k (rest_read (length n ∷ n))
 
 pub line_wears : (c : Card) (session_state : SessionState) (budget : ℕ) (l : DeckLine) → IsLine l → Good c session_state → CommandWears (λ k. most_writes k l) budget (line_command c session_state budget l)
-line_wears c session_state budget (line.Select n) is h =
+line_wears c session_state budget (line.Sent (line.Select n)) is h =
     let r = command c session_state (select_bytes n) budget in
     let w = command_wears c session_state (select_bytes n) budget h.fits h.limited h.on h.stands in
     let writes = w.writes in
     record { writes = omega (arith, writes, select_none (instructions r.turns) n); count = w.count }
-line_wears c session_state budget (line.Delete n) is h =
+line_wears c session_state budget (line.Sent (line.Delete n)) is h =
     let r = command c session_state (delete_bytes n) budget in
     let w = command_wears c session_state (delete_bytes n) budget h.fits h.limited h.on h.stands in
     let writes = w.writes in
     record { writes = omega (arith, writes, delete_most (instructions r.turns) n); count = w.count }
-line_wears c session_state budget (line.Apdu b) is h = command_wears c session_state b budget h.fits h.limited h.on h.stands
-line_wears c session_state budget (line.Load u fixed session) is h =
+line_wears c session_state budget (line.Sent (line.Apdu b)) is h = command_wears c session_state b budget h.fits h.limited h.on h.stands
+line_wears c session_state budget (line.Sent (line.Load u fixed session)) is h =
     let s = load_sends budget u fixed session c session_state is.0 is.1 is.2 is.3 h in
     let none = ap (λ (ts : List Turn). instructions ts) s.none in
     record { writes = s.writes; count = omega (arith, none) }
@@ -71,14 +71,14 @@ unfolding apdu_read
 delete_atomic k n = delete_atomic_by k (rest_read (length n ∷ n))
 
 pub line_atomic : (c : Card) (session_state : SessionState) (budget : ℕ) (l : DeckLine) → Good c session_state → let r = line_command c session_state budget l in atomic_writes r.items ≤ most_atomic (instructions r.turns) l
-line_atomic c session_state budget (line.Select n) h =
+line_atomic c session_state budget (line.Sent (line.Select n)) h =
     let few = command_atoms c session_state (select_bytes n) budget h.limited h.on h.stands in
     omega (arith, few, select_atomic (instructions (command c session_state (select_bytes n) budget).turns) n)
-line_atomic c session_state budget (line.Delete n) h =
+line_atomic c session_state budget (line.Sent (line.Delete n)) h =
     let few = command_atoms c session_state (delete_bytes n) budget h.limited h.on h.stands in
     omega (arith, few, delete_atomic (instructions (command c session_state (delete_bytes n) budget).turns) n)
-line_atomic c session_state budget (line.Apdu b) h = command_atoms c session_state b budget h.limited h.on h.stands
-line_atomic c session_state budget (line.Load u fixed session) h = load_atoms c session_state budget u fixed session
+line_atomic c session_state budget (line.Sent (line.Apdu b)) h = command_atoms c session_state b budget h.limited h.on h.stands
+line_atomic c session_state budget (line.Sent (line.Load u fixed session)) h = load_atoms c session_state budget u fixed session
 line_atomic c session_state budget _ h = omega arith
 
 -- ---- more instructions
@@ -91,5 +91,5 @@ route_more k n (ToManager a) h = omega arith
 route_more k n (ToApplication a) h = omega (arith, h)
 
 pub most_more : (k n : ℕ) (l : DeckLine) → k ≤ n → most_writes k l ≤ most_writes n l
-most_more k n (line.Apdu b) h = route_more k n (route b) h
+most_more k n (line.Sent (line.Apdu b)) h = route_more k n (route b) h
 most_more k n _ h = omega arith

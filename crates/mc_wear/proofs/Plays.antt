@@ -4,30 +4,29 @@ use Rattle.std.specs.Prelude.{⊤, ◌==◌, nat_le}
 use Rattle.std.proofs.lemmas.Bool.{leb-true}
 use Rattle.mc_model_device.specs.declared.device.Stop.TheVariants as stop
 use Rattle.mc_model_device.specs.Device.{IsImage}
-use Rattle.mc_model_device.specs.Image.{Journal, One}
+use Rattle.mc_model_device.specs.Image.{One}
 use Rattle.mc_model_device.specs.Stopped.{stands}
 use Rattle.mc_model_device.specs.Card.{Card}
-use Rattle.mc_model_device.specs.PowerUp.{Base, OnCard, AtFault, migration}
+use Rattle.mc_model_device.specs.PowerUp.{OnCard, migration}
 use Rattle.mc_model_card.specs.Items.{moves, apps_after_items, StopAt, at_stop}
 use Rattle.mc_model_card.specs.Commands.{Command}
 use Rattle.mc_model_play.specs.DeckGrammar.{DeckLine}
 use Rattle.mc_model_play.specs.DeckGrammar as line
-use Rattle.mc_model_play.specs.Play.{Armed, Unarmed, ArmedCut, ArmedFail, Live, Running, Unpowered, Muted, Warm, State, BeforePower, AfterPower, Step, line_command, hit_of, moves_with, FailedWrite, live_after, power_after, stopped_power, power_moves, power_step, line_after, card_line, after_power_step, before_power_step, step, play_at_power, plays, start, moves_of, MayHit, Possible}
+use Rattle.mc_model_play.specs.Play.{Armed, Unarmed, ArmedCut, ArmedFail, Running, Unpowered, Warm, State, BeforePower, AfterPower, Step, line_command, hit_of, moves_with, FailedWrite, live_after, power_after, stopped_power, power_moves, power_step, line_after, step, play_at_power, plays, start, moves_of, MayHit, Possible}
 use Rattle.mc_model_play.specs.Given.{budget_in}
 use Rattle.mc_model_play.specs.ReadyAgain.{IsLine, AreLines}
 use Rattle.mc_model_play.proofs.PlayLemmas.{step_is}
 use Rattle.mc_model_device.proofs.BoolLemmas.{cond_most}
-use Rattle.mc_model_device.proofs.ImageBytes.{image_set}
 use Rattle.mc_family.proofs.CardFacts.{AreOnCard, done_stands, whole_stand}
 use Rattle.mc_family.proofs.FewItems.{CommandStands}
-use Rattle.mc_family.proofs.AfterPowerLines.{past_power}
-use Rattle.mc_family.proofs.PlaySizes.{BaseFits, StateFits, step_fits}
+use Rattle.mc_family.proofs.PlaySizes.{StateFits, step_fits}
 use Rattle.mc_family.proofs.ReadyLines.{owed_most, migration_most, at_stop_owed}
 use Rattle.mc_wear.specs.Most.{most_atomic, most_writes}
 use Rattle.mc_wear.specs.Laws.{atomic_writes, instructions, WritesFew, EachWritesFew, writes_of_play, most_of_play, WearLaw}
 use Rattle.mc_wear.proofs.Loads.{Good}
 use Rattle.mc_wear.proofs.Lines.{line_wears, line_atomic, most_more}
-use Rattle.mc_family.proofs.FewLines.{line_stands, formatted_image_lem, BaseStands, after_stop, base_on_card, base_stopped, base_powered, base_cond, warmed_stands}
+use Rattle.mc_family.proofs.FewLines.{line_stands, early_stands, BaseStands, after_stop, base_on_card, base_stopped, base_powered, base_cond, warmed_stands}
+use Rattle.mc_model_play.proofs.LineKinds.{past_power, StepKind, Early, Quiet, Powers, Sends, by_kind}
 
 -- ---- the writes that recovery may have to make
 
@@ -99,71 +98,41 @@ after_good s c r (Some t) few on k =
     let whole = (at_stop r.items t.at t.left).whole in
     (at_stop_owed r.items t.at t.left k.few, (done_stands whole c.apps on (whole_stand r.items c.apps t.at t.left k.items), after_stop (apps_after_items c.apps whole) t.kind))
 
--- what a card line writes, runs and leaves
-record CardLineWears (l : DeckLine) (g : ℕ) (w : Option FailedWrite) (none u : Step) : Type 0 where
-  few : IsWithin w (moves none.items) → u.moves ≤ most_writes (instructions u.turns) l
-  atomic : atomic_writes u.items ≤ most_atomic (instructions u.turns) l
-  count : instructions u.turns ≤ g
-  next : StateGood u.after
-
-card_wears : (n : ℕ) (l : DeckLine) (b : Base) (o : ℕ) (j : Journal) (v : Live) (g : ℕ) (a : Armed) (w : Option FailedWrite) → IsLine l → BaseFits b v → o ≤ 65 → BaseStands b v
-    → let s = past_power b o j v g a in CardLineWears l g w (card_line n l s v b None) (card_line n l s v b w)
-card_wears n l (OnCard c) o j (Running session_state) g a w is f few h =
-    let r = line_command c session_state g l in
-    let good : Good c session_state = record { limited = f.0; fits = f.1; on = h.0; stands = h.1 } in
-    let k : CommandStands c.apps r = line_stands c session_state g l is good.limited good.fits good.on good.stands in
-    let wears = line_wears c session_state g l is good in
-    let writes = wears.writes in
-    record {
-      few = λ within. let hit = hit_within a (moves r.items) w within in omega (arith, hit, writes);
-      atomic = line_atomic c session_state g l good;
-      count = wears.count;
-      next = after_good (past_power (OnCard c) o j (Running session_state) g a) c r (hit_of a (moves r.items) w) few h.0 k;
-    }
-card_wears n l (AtFault cause p) o j (Running session_state) g a w is f few h = record { few = λ within. omega arith; atomic = omega arith; count = omega arith; next = (few, tt) }
-card_wears n l b o j Unpowered g a w is f few h = record { few = λ within. omega arith; atomic = omega arith; count = omega arith; next = (few, h) }
-card_wears n l b o j Muted g a w is f few h = record { few = λ within. omega arith; atomic = omega arith; count = omega arith; next = (few, h) }
-
-after_power_wears : (n : ℕ) (l : DeckLine) (s : Warm) (w : Option FailedWrite) → IsLine l → BaseFits s.base s.live → StateGood (AfterPower s) → LineWears (AfterPower s) (n, l) w (after_power_step n l s w)
-unfolding moves_of step
-after_power_wears n line.Power s w is f h = power_wears n (AfterPower s) s s.armed w (omega arith) h.0 (base_on_card s.base s.live h.1)
-after_power_wears n (line.Load u fixed session) s w is f h =
-    let l = line.Load u fixed session in
-    let k = card_wears n l s.base s.owed s.by s.live s.budget s.armed w is f h.0 h.1 in
-    record { few = λ may. k.few (possible_within (AfterPower s) (n, l) w (moves (card_line n l s s.live s.base None).items) (omega arith) may); atomic = k.atomic; count = k.count; next = k.next }
-after_power_wears n (line.Select x) s w is f h =
-    let l = line.Select x in
-    let k = card_wears n l s.base s.owed s.by s.live s.budget s.armed w is f h.0 h.1 in
-    record { few = λ may. k.few (possible_within (AfterPower s) (n, l) w (moves (card_line n l s s.live s.base None).items) (omega arith) may); atomic = k.atomic; count = k.count; next = k.next }
-after_power_wears n (line.Delete x) s w is f h =
-    let l = line.Delete x in
-    let k = card_wears n l s.base s.owed s.by s.live s.budget s.armed w is f h.0 h.1 in
-    record { few = λ may. k.few (possible_within (AfterPower s) (n, l) w (moves (card_line n l s s.live s.base None).items) (omega arith) may); atomic = k.atomic; count = k.count; next = k.next }
-after_power_wears n (line.Apdu x) s w is f h =
-    let l = line.Apdu x in
-    let k = card_wears n l s.base s.owed s.by s.live s.budget s.armed w is f h.0 h.1 in
-    record { few = λ may. k.few (possible_within (AfterPower s) (n, l) w (moves (card_line n l s s.live s.base None).items) (omega arith) may); atomic = k.atomic; count = k.count; next = k.next }
-after_power_wears n _ s w is f h = record { few = λ may. omega arith; atomic = omega arith; count = omega arith; next = h }
-
 -- ---- lines up to the first power line
 
 warmed_owed : (m : List (List ℕ)) (b : ℕ) (a : Armed) → (play_at_power m b a).owed ≤ 65
 unfolding play_at_power
 warmed_owed m b a = owed_most m
 
-before_power_wears : (n : ℕ) (l : DeckLine) (m : List (List ℕ)) (b : ℕ) (a : Armed) (w : Option FailedWrite) → IsLine l → IsImage m → LineWears (BeforePower m b a) (n, l) w (before_power_step n l m b a w)
+-- ---- every line
+
+kind_wears : {w : Option FailedWrite} {z : State} {n : ℕ} {l : DeckLine} {u : Step} → StepKind w z n l u → IsLine l → StateFits z → StateGood z → LineWears z (n, l) w u
 unfolding moves_of step
-before_power_wears n line.Format m b a w is h = record { few = λ may. omega arith; atomic = omega arith; count = omega arith; next = formatted_image_lem m h }
-before_power_wears n (line.Poke at x) m b a w is h = record { few = λ may. omega arith; atomic = omega arith; count = omega arith; next = image_set m at x h (is.1, is.0) }
-before_power_wears n line.Power m b a w is h = power_wears n (BeforePower m b a) (play_at_power m b a) a w (omega arith) (warmed_owed m b a) (warmed_stands m b a h)
-before_power_wears n _ m b a w is h = record { few = λ may. omega arith; atomic = omega arith; count = omega arith; next = h }
+kind_wears (Early {l = l} {m = m} p) is f h = record { few = λ may. omega arith; atomic = omega arith; count = omega arith; next = early_stands l m is h }
+kind_wears (Quiet p q) is f h = record { few = λ may. omega arith; atomic = omega arith; count = omega arith; next = h }
+kind_wears {w} (Powers {n = n} (BeforePower m b a)) is f h =
+    let s = play_at_power m b a in
+    power_wears n (BeforePower m b a) s s.armed w (omega arith) (warmed_owed m b a) (warmed_stands m b a h)
+kind_wears {w} (Powers {n = n} (AfterPower s)) is f h = power_wears n (AfterPower s) s s.armed w (omega arith) h.0 (base_on_card s.base s.live h.1)
+kind_wears {w} (Sends {n = n} {o = o} {g = g} {j = j} {a = a} k c session_state) is f h =
+    let l = line.Sent k in
+    let s = past_power (OnCard c) o j (Running session_state) g a in
+    let r = line_command c session_state g l in
+    let good : Good c session_state = record { limited = f.0; fits = f.1; on = h.1.0; stands = h.1.1 } in
+    let stand : CommandStands c.apps r = line_stands c session_state g l is good.limited good.fits good.on good.stands in
+    let wears = line_wears c session_state g l is good in
+    let writes = wears.writes in
+    record {
+      few = λ may. let hit = hit_within a (moves r.items) w (possible_within (AfterPower s) (n, l) w (moves r.items) (omega arith) may) in omega (arith, hit, writes);
+      atomic = line_atomic c session_state g l good;
+      count = wears.count;
+      next = after_good s c r (hit_of a (moves r.items) w) h.0 h.1.0 stand;
+    }
 
 -- ---- plays
 
 step_wears : (z : State) (l : ℕ × DeckLine) (w : Option FailedWrite) → IsLine l.1 → StateFits z → StateGood z → LineWears z l w (step z l w)
-unfolding step
-step_wears (BeforePower m b a) l w is f h = before_power_wears l.0 l.1 m b a w is h
-step_wears (AfterPower s) l w is f h = after_power_wears l.0 l.1 s w is f h
+step_wears z l w is f h = kind_wears (by_kind z l w) is f h
 
 line_few : (z : State) (l : ℕ × DeckLine) (w : Option FailedWrite) → MayHit z l w → LineWears z l w (step z l w) → WritesFew (step z l w)
 line_few z l w may h =

@@ -57,10 +57,10 @@ most_of_route n (ToApplication a) = most_of_instruction * n
 -- the most of a line that runs n instructions
 abbrev pub most_writes : ℕ → DeckLine → ℕ
 most_writes n line.Power = most_of_power
-most_writes n (line.Load u fixed session) = most_of_load u fixed
-most_writes n (line.Select a) = 0
-most_writes n (line.Delete a) = most_of_deletion
-most_writes n (line.Apdu b) = most_of_route n (route b)
+most_writes n (line.Sent (line.Load u fixed session)) = most_of_load u fixed
+most_writes n (line.Sent (line.Select a)) = 0
+most_writes n (line.Sent (line.Delete a)) = most_of_deletion
+most_writes n (line.Sent (line.Apdu b)) = most_of_route n (route b)
 most_writes n _ = 0
 
 -- ---- atomic writes, each of which writes the gate twice
@@ -79,7 +79,7 @@ most_atomic_of_route n (ToApplication a) = n
 
 -- the most atomic writes of a line that runs n instructions
 abbrev pub most_atomic : ℕ → DeckLine → ℕ
-most_atomic n (line.Load u fixed session) = 1
-most_atomic n (line.Delete a) = 1
-most_atomic n (line.Apdu b) = most_atomic_of_route n (route b)
+most_atomic n (line.Sent (line.Load u fixed session)) = 1
+most_atomic n (line.Sent (line.Delete a)) = 1
+most_atomic n (line.Sent (line.Apdu b)) = most_atomic_of_route n (route b)
 most_atomic n _ = 0

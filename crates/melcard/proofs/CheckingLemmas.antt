@@ -25,12 +25,12 @@ no_verdict n _ other = refl
 pub nothing_added : (n : ℕ) (l : Line) (old : List ℕ) → ((u : _) (fixed session : ℕ) → l ≢ line.Load u fixed session) → AddsVerdict (n, line_of l) old old
 nothing_added n l old other = ([], sym (append-nil old), no_verdict n l other)
 
-one_verdict : (n : ℕ) (u : UnitParts) (fixed session : ℕ) (v : CodeVerdict) → IsVerdictOf u.code session v → KeepsTo u.code session v → AreVerdicts ((n, grammar.Load u fixed session) ∷ []) (verdict_line n v)
+one_verdict : (n : ℕ) (u : UnitParts) (fixed session : ℕ) (v : CodeVerdict) → IsVerdictOf u.code session v → KeepsTo u.code session v → AreVerdicts ((n, grammar.Sent (grammar.Load u fixed session)) ∷ []) (verdict_line n v)
 unfolding AreVerdicts
 one_verdict n u fixed session v holds keeps = record { verdict = v; holds = holds; keeps = keeps; behind = []; rest = refl; parts = sym (append-nil (verdict_line n v)) }
 
 -- a load line adds its verdict
-pub verdict_added : {A E : Type 0} (r : Result A E) (n : ℕ) (l : DeckLine) (u : UnitParts) (fixed session : ℕ) (v : CodeVerdict) (old new : List ℕ) → l ≡ grammar.Load u fixed session → IsVerdictOf u.code session v → KeepsTo u.code session v → OnOk r (new ≡ old ++ verdict_line n v) → OnOk r (AddsVerdict (n, l) old new)
+pub verdict_added : {A E : Type 0} (r : Result A E) (n : ℕ) (l : DeckLine) (u : UnitParts) (fixed session : ℕ) (v : CodeVerdict) (old new : List ℕ) → l ≡ grammar.Sent (grammar.Load u fixed session) → IsVerdictOf u.code session v → KeepsTo u.code session v → OnOk r (new ≡ old ++ verdict_line n v) → OnOk r (AddsVerdict (n, l) old new)
 verdict_added (Ok a) n l u fixed session v old new is holds keeps grew =
     (verdict_line n v, grew, subst (λ (k : DeckLine). AreVerdicts ((n, k) ∷ []) (verdict_line n v)) (sym is) (one_verdict n u fixed session v holds keeps))
 verdict_added (Err e) n l u fixed session v old new is holds keeps grew = tt
@@ -42,7 +42,7 @@ nothing_before ls text behind none rest = subst (λ t. AreVerdicts ls (t ++ behi
 
 verdict_before : (n : ℕ) (l : DeckLine) (ls : List (ℕ × DeckLine)) (text behind : List ℕ) → AreVerdicts ((n, l) ∷ []) text → AreVerdicts ls behind → AreVerdicts ((n, l) ∷ ls) (text ++ behind)
 unfolding AreVerdicts
-verdict_before n (grammar.Load u fixed session) ls text behind one rest =
+verdict_before n (grammar.Sent (grammar.Load u fixed session)) ls text behind one rest =
     let line = verdict_line n one.verdict in
     let whole : text ≡ line = one.parts ∙ ap (λ t. line ++ t) one.rest ∙ append-nil line in
     record { verdict = one.verdict; holds = one.holds; keeps = one.keeps; behind = behind; rest = rest; parts = ap (λ t. t ++ behind) whole }

@@ -3,7 +3,7 @@ use Rattle.std.proofs.Common.{◌≡◌, ◌==◌, ◌%◌, ℕ, zero, suc, Bool
 use Rattle.std.specs.List.{AllByRecursion}
 use Rattle.mc_model_device.specs.Bytes.{bytes}
 use Rattle.mc_model_text.specs.Text.{with_numbers}
-use Rattle.mc_model_play.specs.DeckGrammar.{DeckLine, Power, Load, Select, Delete, Apdu}
+use Rattle.mc_model_play.specs.DeckGrammar.{DeckLine, Power, Sent, Load, Select, Delete, Apdu}
 use Rattle.mc_model_play.specs.Generator.{closing_lines, command, counter_aid, cut_line, draw, deck_of_number, is_dump, line_of, next, opening_lines, purse, purse_aid, purse_line, relay_aid, turns}
 use Rattle.mc_script.specs.Sums.{DumpsLast}
 
@@ -15,15 +15,15 @@ pick true x y g h = g
 pick false x y g h = h
 
 purse_none : (q : ℕ) → is_dump (purse_line q) ≡ false
-purse_none q = pick (q % 4 == 0) (Delete purse_aid) (cond (q % 4 == 1) (Load purse 10 0) Power) refl (pick (q % 4 == 1) (Load purse 10 0) Power refl refl)
+purse_none q = pick (q % 4 == 0) (Sent (Delete purse_aid)) (cond (q % 4 == 1) (Sent (Load purse 10 0)) Power) refl (pick (q % 4 == 1) (Sent (Load purse 10 0)) Power refl refl)
 
 line_none : (r q : ℕ) → is_dump (line_of r q) ≡ false
 line_none r q =
-    pick (r % 16 == 0) (Select counter_aid) _ refl
-    (pick (r % 16 == 1) (Select relay_aid) _ refl
-    (pick (r % 16 == 2) (Select purse_aid) _ refl
+    pick (r % 16 == 0) (Sent (Select counter_aid)) _ refl
+    (pick (r % 16 == 1) (Sent (Select relay_aid)) _ refl
+    (pick (r % 16 == 2) (Sent (Select purse_aid)) _ refl
     (pick (r % 16 == 3) Power _ refl
-    (pick (nat_lt (r % 16) 9) (Apdu (0x80 ∷ 1 ∷ 0 ∷ 0 ∷ 2 ∷ [])) _ refl
+    (pick (nat_lt (r % 16) 9) (Sent (Apdu (0x80 ∷ 1 ∷ 0 ∷ 0 ∷ 2 ∷ []))) _ refl
     (pick (nat_lt (r % 16) 11) (command 0x30 (bytes 4 q)) _ refl
     (pick (nat_lt (r % 16) 13) (command 0x40 (bytes 4 q)) _ refl
     (pick (r % 16 == 13) (command 0x50 []) _ refl

@@ -78,18 +78,8 @@ pub record IsJudged (number : ℕ) (code : List ℕ) (session : ℕ) (Rest : Lis
 -- to
 unfoldable pub AreVerdicts : List (ℕ × DeckLine) → List ℕ → Type 0
 AreVerdicts [] text = text ≡ []
-AreVerdicts ((n, line.Load u fixed session) ∷ ls) text = IsJudged n u.code session (AreVerdicts ls) text
-AreVerdicts ((n, line.Format) ∷ ls) text = AreVerdicts ls text
-AreVerdicts ((n, line.Power) ∷ ls) text = AreVerdicts ls text
-AreVerdicts ((n, line.Named) ∷ ls) text = AreVerdicts ls text
-AreVerdicts ((n, line.Select aid) ∷ ls) text = AreVerdicts ls text
-AreVerdicts ((n, line.Delete aid) ∷ ls) text = AreVerdicts ls text
-AreVerdicts ((n, line.Dump aid) ∷ ls) text = AreVerdicts ls text
-AreVerdicts ((n, line.Apdu bytes) ∷ ls) text = AreVerdicts ls text
-AreVerdicts ((n, line.Budget b) ∷ ls) text = AreVerdicts ls text
-AreVerdicts ((n, line.Cut k fill) ∷ ls) text = AreVerdicts ls text
-AreVerdicts ((n, line.Fail k) ∷ ls) text = AreVerdicts ls text
-AreVerdicts ((n, line.Poke at fill) ∷ ls) text = AreVerdicts ls text
+AreVerdicts ((n, line.Sent (line.Load u fixed session)) ∷ ls) text = IsJudged n u.code session (AreVerdicts ls) text
+AreVerdicts ((n, _) ∷ ls) text = AreVerdicts ls text
 
 -- the verdict on a deck whose code is checked
 abbrev pub IsCheckOf : Result (List (ℕ × DeckLine)) (ℕ × DeckCause) → JobVerdict → Type 0

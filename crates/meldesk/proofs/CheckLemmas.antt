@@ -30,12 +30,12 @@ no_verdict n _ other = refl
 pub nothing_added : (d : Desk) (n : ℕ) (l : Line) (old : List ℕ) → ((u : _) (fixed session : ℕ) → l ≢ line.Load u fixed session) → AddsVerdicts d (n, line_of l) old old
 nothing_added d n l old other = record { verdicts = []; are = no_verdict n l other; grew = sym (append-nil old) }
 
-one_verdict : (n : ℕ) (u : UnitParts) (fixed session : ℕ) (v : Verdict) → IsVerdictOf u.code session v → KeepsTo u.code session v → AreVerdicts ((n, grammar.Load u fixed session) ∷ []) ((n, verdict_value v) ∷ [])
+one_verdict : (n : ℕ) (u : UnitParts) (fixed session : ℕ) (v : Verdict) → IsVerdictOf u.code session v → KeepsTo u.code session v → AreVerdicts ((n, grammar.Sent (grammar.Load u fixed session)) ∷ []) ((n, verdict_value v) ∷ [])
 unfolding AreVerdicts
 one_verdict n u fixed session v holds keeps = record { verdict = v; holds = holds; keeps = keeps; others = []; rest = refl; parts = refl }
 
 -- a load line adds its verdict
-pub verdict_added : (d : Desk) (n : ℕ) (l : DeckLine) (u : UnitParts) (fixed session : ℕ) (v : Verdict) (old new : List ℕ) → l ≡ grammar.Load u fixed session → IsVerdictOf u.code session v → KeepsTo u.code session v → new ≡ old ++ verdict_line d (n, verdict_value v)
+pub verdict_added : (d : Desk) (n : ℕ) (l : DeckLine) (u : UnitParts) (fixed session : ℕ) (v : Verdict) (old new : List ℕ) → l ≡ grammar.Sent (grammar.Load u fixed session) → IsVerdictOf u.code session v → KeepsTo u.code session v → new ≡ old ++ verdict_line d (n, verdict_value v)
     → AddsVerdicts d (n, l) old new
 verdict_added d n l u fixed session v old new is holds keeps grew = record {
   verdicts = (n, verdict_value v) ∷ [];
@@ -44,7 +44,7 @@ verdict_added d n l u fixed session v old new is holds keeps grew = record {
 }
 
 -- a load line adds its verdict, if its line was written
-pub verdicts_added : {A E : Type 0} (loads : Loads) (r : Result A E) (n : ℕ) (l : DeckLine) (u : UnitParts) (fixed session : ℕ) (v : Verdict) (old new : List ℕ) → l ≡ grammar.Load u fixed session → IsVerdictOf u.code session v → KeepsTo u.code session v
+pub verdicts_added : {A E : Type 0} (loads : Loads) (r : Result A E) (n : ℕ) (l : DeckLine) (u : UnitParts) (fixed session : ℕ) (v : Verdict) (old new : List ℕ) → l ≡ grammar.Sent (grammar.Load u fixed session) → IsVerdictOf u.code session v → KeepsTo u.code session v
     → OnOk r ((d : Desk) → AreLoads loads d.deck d.sources → new ≡ old ++ verdict_line d (n, verdict_value v))
     → OnOk r ((d : Desk) → AreLoads loads d.deck d.sources → AddsVerdicts d (n, l) old new)
 verdicts_added loads (Ok a) n l u fixed session v old new is holds keeps grew = λ d h. verdict_added d n l u fixed session v old new is holds keeps (grew d h)
@@ -57,7 +57,7 @@ nothing_before ls vs others none rest = subst (λ (t : Judged). AreVerdicts ls (
 
 verdict_before : (n : ℕ) (l : DeckLine) (ls : List (ℕ × DeckLine)) (vs others : Judged) → AreVerdicts ((n, l) ∷ []) vs → AreVerdicts ls others → AreVerdicts ((n, l) ∷ ls) (vs ++ others)
 unfolding AreVerdicts
-verdict_before n (grammar.Load u fixed session) ls vs others one rest =
+verdict_before n (grammar.Sent (grammar.Load u fixed session)) ls vs others one rest =
     let v : ℕ × CodeVerdict = (n, verdict_value one.verdict) in
     let whole : vs ≡ v ∷ [] = one.parts ∙ ap (λ t. v ∷ t) one.rest in
     record { verdict = one.verdict; holds = one.holds; keeps = one.keeps; others = others; rest = rest; parts = ap (λ t. t ++ others) whole }

@@ -25,18 +25,8 @@ pub record IsJudged (number : ℕ) (code : List ℕ) (session : ℕ) (Rest : Lis
 -- a verdict for each load line, in order, each with its line's number
 unfoldable pub AreVerdicts : List (ℕ × DeckLine) → List (ℕ × CodeVerdict) → Type 0
 AreVerdicts [] vs = vs ≡ []
-AreVerdicts ((n, line.Load u fixed session) ∷ ls) vs = IsJudged n u.code session (AreVerdicts ls) vs
-AreVerdicts ((n, line.Format) ∷ ls) vs = AreVerdicts ls vs
-AreVerdicts ((n, line.Power) ∷ ls) vs = AreVerdicts ls vs
-AreVerdicts ((n, line.Named) ∷ ls) vs = AreVerdicts ls vs
-AreVerdicts ((n, line.Select aid) ∷ ls) vs = AreVerdicts ls vs
-AreVerdicts ((n, line.Delete aid) ∷ ls) vs = AreVerdicts ls vs
-AreVerdicts ((n, line.Dump aid) ∷ ls) vs = AreVerdicts ls vs
-AreVerdicts ((n, line.Apdu bytes) ∷ ls) vs = AreVerdicts ls vs
-AreVerdicts ((n, line.Budget b) ∷ ls) vs = AreVerdicts ls vs
-AreVerdicts ((n, line.Cut k fill) ∷ ls) vs = AreVerdicts ls vs
-AreVerdicts ((n, line.Fail k) ∷ ls) vs = AreVerdicts ls vs
-AreVerdicts ((n, line.Poke at fill) ∷ ls) vs = AreVerdicts ls vs
+AreVerdicts ((n, line.Sent (line.Load u fixed session)) ∷ ls) vs = IsJudged n u.code session (AreVerdicts ls) vs
+AreVerdicts ((n, _) ∷ ls) vs = AreVerdicts ls vs
 
 -- a text has a line for each of these load lines of a draft's deck: a verdict, with the source line of a refused place
 pub record ShowsVerdicts (d : Desk) (ls : List (ℕ × DeckLine)) (shown : List ℕ) : Type 0 where

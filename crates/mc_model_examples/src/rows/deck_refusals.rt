@@ -1,7 +1,7 @@
 #![tactic(auto, unfolding(mc_model_play::specs::DeckGrammar::deck_read))]
 
 ghost use Rattle.std.specs.Prelude.{◌≡◌, ◌∷◌, ◌++◌, [], codes, replicate, Ok, Err};
-ghost use Rattle.mc_model_play.specs.DeckGrammar.{deck_read, Format, Power, Named, Load, Select, Delete, Dump, Apdu, Budget, Cut, Fail, Poke};
+ghost use Rattle.mc_model_play.specs.DeckGrammar.{deck_read, Format, Power, Named, Sent, Load, Select, Delete, Dump, Apdu, Budget, Cut, Fail, Poke};
 ghost use Rattle.mc_model_play.specs.Generator.{counter, counter_aid};
 ghost use Rattle.mc_model_text.specs.declared.assembler.AsmCause.TheVariants.{UnknownWord, FarBranch};
 ghost use Rattle.mc_model_play.specs.declared.deck.DeckCause.TheVariants.{TooManyLines, BadLine, BadName, BadHex, BadNumber, OutOfRange, NameTwice, UnknownName, LateLine, NoEnd, Unit, Asm};
@@ -28,11 +28,11 @@ pub fn each_statement()
         ∷ (2, Poke 16383 (hex (codes "0001020304050607")))
         ∷ (3, Power)
         ∷ (4, Named)
-        ∷ (5, Load counter 2 65535)
-        ∷ (6, Select counter_aid)
-        ∷ (7, Delete (hex (codes "000102030405060708090A0B0C0D0E0F")))
+        ∷ (5, Sent (Load counter 2 65535))
+        ∷ (6, Sent (Select counter_aid))
+        ∷ (7, Sent (Delete (hex (codes "000102030405060708090A0B0C0D0E0F"))))
         ∷ (8, Dump counter_aid)
-        ∷ (9, Apdu (0x80 ∷ []))
+        ∷ (9, Sent (Apdu (0x80 ∷ [])))
         ∷ (10, Budget 65536)
         ∷ (11, Cut 4294967295 (hex (codes "0001020304050607")))
         ∷ (12, Fail 1)
@@ -51,7 +51,7 @@ pub fn application_section()
         codes "EXITLA 2\n" ++
         codes "end\n" ++
         codes "load counter 2 0\n")
-        ≡ Ok ((1, Format) ∷ (2, Power) ∷ (3, Named) ∷ (9, Load counter 2 0) ∷ []) }
+        ≡ Ok ((1, Format) ∷ (2, Power) ∷ (3, Named) ∷ (9, Sent (Load counter 2 0)) ∷ []) }
 {}
 
 /// Skipped lines are numbered too, and blanks and carriage returns at the ends of lines mean nothing.

@@ -1,7 +1,7 @@
 #![tactic(auto, unfolding(mc_model_play::specs::Generator::deck_of_number, crate::specs::Played::deck_summary))]
 
 ghost use Rattle.std.specs.Prelude.{◌≡◌, ◌∷◌, ◌++◌, [], codes, drop, length, take, Ok};
-ghost use Rattle.mc_model_play.specs.DeckGrammar.{Apdu, Select, Power, Dump};
+ghost use Rattle.mc_model_play.specs.DeckGrammar.{Sent, Apdu, Select, Power, Dump};
 ghost use Rattle.mc_model_play.specs.Generator.{counter_aid, draw, deck_of_number, next, purse_aid, relay_aid};
 ghost use Rattle.mc_model_examples.specs.Played.{deck_summary, unit_line};
 ghost use Rattle.mc_model_examples.specs.Written.{hex};
@@ -20,7 +20,7 @@ pub fn first_draws()
 pub fn deck_of_one()
     ensures lines { length (deck_of_number 1) ≡ 4012 }
     ensures turns { take 3 (drop 8 (deck_of_number 1))
-        ≡ (9, Apdu (hex (codes "8001000002"))) ∷ (10, Select relay_aid) ∷ (11, Apdu (hex (codes "8040000004000015FB")))
+        ≡ (9, Sent (Apdu (hex (codes "8001000002")))) ∷ (10, Sent (Select relay_aid)) ∷ (11, Sent (Apdu (hex (codes "8040000004000015FB"))))
         ∷ [] }
     ensures end { drop 4008 (deck_of_number 1)
         ≡ (4009, Power) ∷ (4010, Dump counter_aid) ∷ (4011, Dump purse_aid) ∷ (4012, Dump relay_aid) ∷ [] }

@@ -6,7 +6,7 @@ use Rattle.mc_search.proofs.beginning.play_idle.Goals as goal
 
 pub returns-clause-playing : goal.returns-clause-playing
 returns-clause-playing g c =
-    line_playing g.N.Nvm.state g.N.Bench.bench _ c.args.player.now c.line-dropped.new.self (line.Apdu (0 ∷ [])) _ _ c.line-dropped.result c.line-dropped.ensures.done c.requires
+    line_playing g.N.Nvm.state g.N.Bench.bench _ c.args.player.now c.line-dropped.new.self (line.Sent (line.Apdu (0 ∷ []))) _ _ c.line-dropped.result c.line-dropped.ensures.done c.requires
 
 pub returns-clause-at : goal.returns-clause-at
 returns-clause-at g c =

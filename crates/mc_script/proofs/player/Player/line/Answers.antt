@@ -43,17 +43,17 @@ returns-in-Named-clause-done g c =
 
 pub returns-in-Load-clause-done : goal.returns-in-Load-clause-done
 returns-in-Load-clause-done g c =
-    given_sent g.N.Nvm.state g.N.Bench.bench (λ (y : DeckLine). g.R.Runner.reported (sent_by g.N.Nvm.state c.args.self.now y)) c.args.self.now c.card_line.new.self (line_of c.args.line.now) (line.Load (parts_of c.in-Load.unit) c.in-Load.fixed c.in-Load.session) (Some c.card_line.result) c.args.runner.now c.card_line.new.runner (ap line_of c.in-Load.is)
+    given_sent g.N.Nvm.state g.N.Bench.bench (λ (y : DeckLine). g.R.Runner.reported (sent_by g.N.Nvm.state c.args.self.now y)) c.args.self.now c.card_line.new.self (line_of c.args.line.now) (line.Sent (line.Load (parts_of c.in-Load.unit) c.in-Load.fixed c.in-Load.session)) (Some c.card_line.result) c.args.runner.now c.card_line.new.runner (ap line_of c.in-Load.is)
     c.card_line.ensures.done
 
 pub returns-in-Select-clause-done : goal.returns-in-Select-clause-done
 returns-in-Select-clause-done g c =
-    given_sent g.N.Nvm.state g.N.Bench.bench (λ (y : DeckLine). g.R.Runner.reported (sent_by g.N.Nvm.state c.args.self.now y)) c.args.self.now c.card_line-in-Select.new.self (line_of c.args.line.now) (line.Select c.in-Select.aid) (Some c.card_line-in-Select.result) c.args.runner.now c.card_line-in-Select.new.runner (ap line_of c.in-Select.is)
+    given_sent g.N.Nvm.state g.N.Bench.bench (λ (y : DeckLine). g.R.Runner.reported (sent_by g.N.Nvm.state c.args.self.now y)) c.args.self.now c.card_line-in-Select.new.self (line_of c.args.line.now) (line.Sent (line.Select c.in-Select.aid)) (Some c.card_line-in-Select.result) c.args.runner.now c.card_line-in-Select.new.runner (ap line_of c.in-Select.is)
     c.card_line-in-Select.ensures.done
 
 pub returns-in-Delete-clause-done : goal.returns-in-Delete-clause-done
 returns-in-Delete-clause-done g c =
-    given_sent g.N.Nvm.state g.N.Bench.bench (λ (y : DeckLine). g.R.Runner.reported (sent_by g.N.Nvm.state c.args.self.now y)) c.args.self.now c.card_line-in-Delete.new.self (line_of c.args.line.now) (line.Delete c.in-Delete.aid) (Some c.card_line-in-Delete.result) c.args.runner.now c.card_line-in-Delete.new.runner (ap line_of c.in-Delete.is)
+    given_sent g.N.Nvm.state g.N.Bench.bench (λ (y : DeckLine). g.R.Runner.reported (sent_by g.N.Nvm.state c.args.self.now y)) c.args.self.now c.card_line-in-Delete.new.self (line_of c.args.line.now) (line.Sent (line.Delete c.in-Delete.aid)) (Some c.card_line-in-Delete.result) c.args.runner.now c.card_line-in-Delete.new.runner (ap line_of c.in-Delete.is)
     c.card_line-in-Delete.ensures.done
 
 pub returns-in-Dump-clause-done : goal.returns-in-Dump-clause-done
@@ -68,7 +68,7 @@ returns-in-Dump-clause-done g c =
 
 pub returns-in-Apdu-clause-done : goal.returns-in-Apdu-clause-done
 returns-in-Apdu-clause-done g c =
-    given_sent g.N.Nvm.state g.N.Bench.bench (λ (y : DeckLine). g.R.Runner.reported (sent_by g.N.Nvm.state c.args.self.now y)) c.args.self.now c.card_line-in-Apdu.new.self (line_of c.args.line.now) (line.Apdu c.in-Apdu.bytes.now) (Some c.card_line-in-Apdu.result) c.args.runner.now c.card_line-in-Apdu.new.runner (ap line_of c.in-Apdu.is)
+    given_sent g.N.Nvm.state g.N.Bench.bench (λ (y : DeckLine). g.R.Runner.reported (sent_by g.N.Nvm.state c.args.self.now y)) c.args.self.now c.card_line-in-Apdu.new.self (line_of c.args.line.now) (line.Sent (line.Apdu c.in-Apdu.bytes.now)) (Some c.card_line-in-Apdu.result) c.args.runner.now c.card_line-in-Apdu.new.runner (ap line_of c.in-Apdu.is)
     c.card_line-in-Apdu.ensures.done
 
 pub returns-in-Budget-clause-done : goal.returns-in-Budget-clause-done
@@ -145,19 +145,19 @@ returns-in-Poke-clause-steps g c s at =
 
 pub returns-in-Load-clause-steps : goal.returns-in-Load-clause-steps
 returns-in-Load-clause-steps g c s at =
-    given_steps s (line_of c.args.line.now) (line.Load (parts_of c.in-Load.unit) c.in-Load.fixed c.in-Load.session) (Some c.card_line.result) c.args.steps.now c.card_line.new.steps (ap line_of c.in-Load.is) (c.card_line.ensures.steps s at)
+    given_steps s (line_of c.args.line.now) (line.Sent (line.Load (parts_of c.in-Load.unit) c.in-Load.fixed c.in-Load.session)) (Some c.card_line.result) c.args.steps.now c.card_line.new.steps (ap line_of c.in-Load.is) (c.card_line.ensures.steps s at)
 
 pub returns-in-Select-clause-steps : goal.returns-in-Select-clause-steps
 returns-in-Select-clause-steps g c s at =
-    given_steps s (line_of c.args.line.now) (line.Select c.in-Select.aid) (Some c.card_line-in-Select.result) c.args.steps.now c.card_line-in-Select.new.steps (ap line_of c.in-Select.is) (c.card_line-in-Select.ensures.steps s at)
+    given_steps s (line_of c.args.line.now) (line.Sent (line.Select c.in-Select.aid)) (Some c.card_line-in-Select.result) c.args.steps.now c.card_line-in-Select.new.steps (ap line_of c.in-Select.is) (c.card_line-in-Select.ensures.steps s at)
 
 pub returns-in-Delete-clause-steps : goal.returns-in-Delete-clause-steps
 returns-in-Delete-clause-steps g c s at =
-    given_steps s (line_of c.args.line.now) (line.Delete c.in-Delete.aid) (Some c.card_line-in-Delete.result) c.args.steps.now c.card_line-in-Delete.new.steps (ap line_of c.in-Delete.is) (c.card_line-in-Delete.ensures.steps s at)
+    given_steps s (line_of c.args.line.now) (line.Sent (line.Delete c.in-Delete.aid)) (Some c.card_line-in-Delete.result) c.args.steps.now c.card_line-in-Delete.new.steps (ap line_of c.in-Delete.is) (c.card_line-in-Delete.ensures.steps s at)
 
 pub returns-in-Apdu-clause-steps : goal.returns-in-Apdu-clause-steps
 returns-in-Apdu-clause-steps g c s at =
-    given_steps s (line_of c.args.line.now) (line.Apdu c.in-Apdu.bytes.now) (Some c.card_line-in-Apdu.result) c.args.steps.now c.card_line-in-Apdu.new.steps (ap line_of c.in-Apdu.is) (c.card_line-in-Apdu.ensures.steps s at)
+    given_steps s (line_of c.args.line.now) (line.Sent (line.Apdu c.in-Apdu.bytes.now)) (Some c.card_line-in-Apdu.result) c.args.steps.now c.card_line-in-Apdu.new.steps (ap line_of c.in-Apdu.is) (c.card_line-in-Apdu.ensures.steps s at)
 
 pub returns-in-Format-clause-powers : goal.returns-in-Format-clause-powers
 returns-in-Format-clause-powers g c =
