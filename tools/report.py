@@ -12,6 +12,7 @@ It needs Python 3.9. It ends with 1 if a job did not hold, and with 2 if it cann
 """
 
 import argparse
+import json
 import sys
 from html import escape
 from pathlib import Path
@@ -136,6 +137,20 @@ def explored(job: Job) -> Iterator[str]:
         yield "<pre>" + escape("\n".join(job.text.path)) + "</pre>"
 
 
+def mutants(folder: Path) -> Iterator[str]:
+    """The mutants that survived, by line, of each draft for which `tools/mutate.py --into` left a record."""
+    for path in sorted(folder.glob("*.mutants")):
+        rows = [json.loads(line) for line in labtexts.read(str(path)).splitlines()]
+        left = [it for it in rows if it["found"] is None]
+        yield (f'<h3><code>{escape(path.stem)}</code>: <span class="{LOOK if left else GOOD}">{len(left)} of {len(rows)} survive</span></h3>')
+        if left:
+            yield '<div class="wide"><table><tr><th>line</th><th>instruction</th><th>changed</th><th>why no job found it</th></tr>'
+            for it in left:
+                cells = "".join(f'<td class="text">{escape(it[key])}</td>' for key in ("text", "what", "reason"))
+                yield f"<tr><td>{it['line']}</td>{cells}</tr>"
+            yield "</table></div>"
+
+
 SECTIONS = {"expect": ("Expectations", expectations), "sweep": ("Sweeps", sweeps), "explore": ("Explored", explored)}
 
 
@@ -159,6 +174,10 @@ def page(title: str, jobs: List[Job], folder: Path) -> Iterator[str]:
             for job in sorted(found, key=lambda job: verdict(job)[1] != BAD):
                 yield head_of(job)
                 yield from section(job)
+    survivors = list(mutants(folder))
+    if survivors:
+        yield "<h2>Mutants</h2>"
+        yield from survivors
     yield "</body></html>"
 
 
