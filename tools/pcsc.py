@@ -76,10 +76,10 @@ def daemon(log):
 
 
 @contextlib.contextmanager
-def card(path=None):
-    """A card in the reader, on which the deck of this path was played; none: a blank card."""
+def card(path=None, program=None):
+    """A card in the reader, on which the deck of this path was played; none: a blank card. `program` is another one than melreader."""
     with Watch() as watch:
-        words = ["--quiet"] if path is None else ["--quiet", path]
+        words = ["--quiet", *([] if program is None else ["--program", program]), *([] if path is None else [path])]
         with running([sys.executable, str(TOOLS / "vpcd.py"), *words]) as bridge:
 
             def is_there():

@@ -6,7 +6,9 @@ import subprocess
 from types import TracebackType
 from typing import Optional, Type
 
-from .readers import ATR, BUDGET, CUT, DONE, FAIL, POWER_OFF, RESET, Path, Reader, ReaderEnded, opened, program_path
+from .decks import Path, opened
+from .programs import program_path
+from .readers import ATR, BUDGET, CUT, DONE, FAIL, POWER_OFF, RESET, Reader, ReaderEnded
 
 
 class Card:

@@ -17,7 +17,7 @@ from typing import Any, Callable, Generator, Iterator, List, Optional
 import pytest
 
 from .cards import Card
-from .readers import Path
+from .decks import Path
 
 CARDS = "_cards_of_melcard"
 

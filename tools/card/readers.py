@@ -3,15 +3,14 @@
 from __future__ import annotations
 
 import os
-import pathlib
-import shutil
 import subprocess
+import tempfile
 from types import TracebackType
-from typing import IO, List, Optional, Type, Union
+from typing import IO, List, Optional, Type
 
+from .decks import Path, Refused, deck_of, opened, text_of
+from .programs import program_path
 from .sessions import Session
-
-Path = Union[str, "os.PathLike[str]"]
 
 POWER_OFF = b"\x00"
 RESET = b"\x02"
@@ -24,8 +23,6 @@ BUDGET = b"\xff\xc2"
 
 DONE = b"\x90\x00"
 
-TOP = pathlib.Path(__file__).resolve().parent.parent.parent
-
 
 class ReaderEnded(Exception):
     """`melreader` has ended. The message is what it wrote, such as the line of a refused deck."""
@@ -33,21 +30,6 @@ class ReaderEnded(Exception):
     def __init__(self, status: int, message: str) -> None:
         super().__init__(f"melreader ended with {status}: {message}")
         self.status = status
-
-
-def program_path(name: str = "melreader") -> str:
-    """A program: what the environment names (`MELREADER`), else what the repository built, by the gate or by tools/build, or what was
-    installed with this package, else what is on the path.
-
-    # Errors
-
-    FileNotFoundError, if there is none.
-    """
-    built = [TOP / "crates" / name / "out" / name, TOP / "build" / "bin" / name, *([TOP.parent / "bin" / name] if TOP.name == "share" else [])]
-    named = os.environ.get(name.upper()) or next((os.fspath(it) for it in built if it.is_file()), None) or shutil.which(name)
-    if named is None:
-        raise FileNotFoundError(f"there is no {name}: build it by tools/build, or name it by {name.upper()}")
-    return named
 
 
 def framed(content: bytes) -> bytes:
@@ -60,20 +42,28 @@ def is_answered(content: bytes) -> bool:
     return len(content) >= 2 or content == ATR
 
 
-def opened(path: Path, mode: str) -> IO[str]:
-    """A file of a deck: whatever bytes stand in it stay as they are."""
-    return open(path, mode, encoding="utf-8", errors="surrogateescape", newline="")
+def asked_deck(path: Path) -> str:
+    """The text of a deck, or of the deck of a draft."""
+    try:
+        return deck_of(text_of(path))
+    except Refused as why:
+        raise ReaderEnded(1, str(why)) from None
 
 
-def deck_of(path: Path) -> str:
-    """The text of a deck."""
-    with opened(path, "r") as file:
-        return file.read()
+def started(program: str, deck: Optional[Path], text: Optional[str]) -> subprocess.Popen[bytes]:
+    """The program, on a deck of this path. It reads a deck alone, so it gets that of a draft as a file without a name."""
+    pipes = {"stdin": subprocess.PIPE, "stdout": subprocess.PIPE, "stderr": subprocess.PIPE}
+    if deck is None or text is None or text == text_of(deck):
+        return subprocess.Popen([program, *([] if deck is None else [os.fspath(deck)])], **pipes)
+    with tempfile.TemporaryFile() as file:
+        file.write(text.encode("utf-8", "surrogateescape"))
+        file.flush()
+        return subprocess.Popen([program, f"/dev/fd/{file.fileno()}"], pass_fds=[file.fileno()], **pipes)
 
 
 class Reader:
-    """A `melreader` that runs. Frames go in and out; each of them is kept as a line of the session, and `record` names a file that has
-    the session's deck after every frame.
+    """A `melreader` that runs, on a card on which a deck or a draft was played. Frames go in and out; each of them is kept as a line of the
+    session, and `record` names a file that has the session's deck after every frame.
 
     # Errors
 
@@ -81,13 +71,13 @@ class Reader:
     """
 
     def __init__(self, deck: Optional[Path] = None, program: Optional[Path] = None, record: Optional[Path] = None) -> None:
-        self.session = Session(None if deck is None else deck_of(deck))
+        text = None if deck is None else asked_deck(deck)
+        self.session = Session(text)
         self._record: Optional[IO[str]] = None
         if record is not None:
             self._record = opened(record, "w")
             self._keep(self.session.lines)
-        words = [os.fspath(program or program_path()), *([] if deck is None else [os.fspath(deck)])]
-        process = subprocess.Popen(words, stdin=subprocess.PIPE, stdout=subprocess.PIPE, stderr=subprocess.PIPE)
+        process = started(os.fspath(program or program_path()), deck, text)
         assert process.stdin is not None and process.stdout is not None and process.stderr is not None
         self.process, self._input, self._output, self._errors = process, process.stdin, process.stdout, process.stderr
         self._asked: Optional[bytes] = None
