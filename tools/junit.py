@@ -1,13 +1,14 @@
 #!/usr/bin/env python3
 """Writes what `mellab` wrote as JUnit XML, a case for each line of a deck that is tested, for services that show tests.
 
-    tools/junit.py [--no-between] TEXT [DECK]        one text, of `mellab expect`, `sweep` or `explore`; - is the standard input
+    tools/junit.py [--no-between] TEXT [DECK]        one text, of `mellab expect`, `sweep`, `explore` or `prove`; - is the standard input
     tools/junit.py [--no-between] --campaign FOLDER  a folder of texts and statuses, as docs/CAMPAIGNS.md fills it; its decks are looked
                                                      for from the working folder on, or from --decks
 
-The cases of `expect` are the expectations of the deck, those of `sweep` the swept lines, those of `explore` the rules that spend; of a
-refused deck it is its refused line. If no deck is given, there is a case for each line of the text alone. A swept line fails if it is
-torn, or must be whole and is not, and with --no-between also if it is between.
+The cases of `expect` are the expectations of the deck, those of `sweep` the swept lines, those of `explore` the rules that spend, those
+of `prove` all its rules; of a refused deck it is its refused line. If no deck is given, there is a case for each line of the text alone. A
+swept line fails if it is torn, or must be whole and is not, and with --no-between also if it is between. A rule is skipped if no try fits it,
+or not all was explored.
 
 It needs Python 3.9. It ends with 1 if a case failed, and with 2 if it cannot read what it is given.
 """
@@ -22,7 +23,7 @@ from typing import Iterator, List, Optional, Tuple
 import labtexts
 from labtexts import BadText, Text
 
-# A case: its name, the kind of its fault (`failure`, `error` or none), and what is said of that.
+# A case: its name, the kind of its fault (`failure`, `error`, `skipped` or none), and what is said of that.
 Case = Tuple[str, Optional[str], str]
 NO_CHARACTERS = re.compile("[^\t\n\r\x20-\ud7ff\ue000-\ufffd\U00010000-\U0010ffff]")
 
@@ -54,17 +55,31 @@ def swept(text: Text, lines: List[str], no_between: bool) -> Iterator[Case]:
         is_bad = it.has("torn") or it.is_broken or no_between and it.has("between")
         runs = " ".join(f"{word} {first}-{last}" for word, first, last in it.runs) + (" not whole" if it.is_broken else "")
         yield named(it.number, statement_of(lines, it.number)), "failure" if is_bad else None, f"writes {it.writes}: {runs}"
+    for number in text.unswept:
+        yield named(number, statement_of(lines, number)), "failure", "this mark is of no swept line"
 
 
 def explored(text: Text, lines: List[str]) -> Iterator[Case]:
-    """The cases of rules that spend an allowance."""
+    """The cases of rules that spend an allowance. What was not explored whole, or has a rule that fits nothing, is skipped."""
     rules = [it for it in labtexts.remarks_of(lines) if it.mark == "#@" and " spend " in f" {it.text} "]
-    remark = "\n".join(text.path)
+    remark, is_all = "\n".join(text.path), text.last.endswith(" all")
     for it in rules:
-        is_broken = it.text.split()[-2:-1] == [text.broken]
-        yield named(it.number, statement_of(lines, it.number)), "failure" if is_broken else None, remark if is_broken else text.last
+        is_broken, is_silent = it.text.split()[-2:-1] == [text.broken], it.number in text.silent
+        kind = "failure" if is_broken else "skipped" if is_silent or not is_all and not text.broken else None
+        yield named(it.number, statement_of(lines, it.number)), kind, remark if is_broken else "no try fits it" if is_silent else text.last
     if not rules:
-        yield "explored", "failure" if text.broken else None, remark or text.last
+        yield "explored", "failure" if text.broken else None if is_all else "skipped", remark or text.last
+
+
+def proved(text: Text, lines: List[str]) -> Iterator[Case]:
+    """The cases of rules that are proved, and of what is behind none of them."""
+    faults = {number: line for number, line in text.unproved}
+    rules = [it for it in labtexts.remarks_of(lines) if it.mark == "#@" and it.text.split()[:1] in (["on"], ["never"], ["always"])]
+    for it in rules:
+        yield named(it.number, statement_of(lines, it.number)), "failure" if it.number in faults else None, faults.get(it.number, text.last)
+    others = [line for number, line in text.unproved if number not in {it.number for it in rules}]
+    if others or not rules:
+        yield "proved", None if text.last.startswith("proved") else "failure", "\n".join([*others, text.last])
 
 
 def cases(text: Text, lines: List[str], status: Optional[int], no_between: bool) -> Iterator[Case]:
@@ -78,7 +93,9 @@ def cases(text: Text, lines: List[str], status: Optional[int], no_between: bool)
         yield from swept(text, lines, no_between)
     elif text.kind == "explore":
         yield from explored(text, lines)
-    if status is not None and status > 1:
+    elif text.kind == "prove":
+        yield from proved(text, lines)
+    if status is not None and status not in (0, 1, 6):
         yield "the job", "error", f"status {status}: {labtexts.MEANINGS.get(status, 'ended by a signal')}"
     elif text.refused is None and not text.is_whole:
         yield "the job", "error", "its text has no end"
@@ -93,6 +110,9 @@ def suite(name: str, found: List[Case]) -> xml.Element:
     """A suite of cases."""
     counts = {kind: sum(fault == kind for _, fault, _ in found) for kind in ("failure", "error")}
     made = xml.Element("testsuite", name=clean(name), tests=str(len(found)), failures=str(counts["failure"]), errors=str(counts["error"]))
+    skipped = sum(fault == "skipped" for _, fault, _ in found)
+    if skipped:
+        made.set("skipped", str(skipped))
     for case, fault, remark in found:
         element = xml.SubElement(made, "testcase", classname=clean(name), name=clean(case))
         if fault is not None:

@@ -11,7 +11,8 @@ from typing import Dict, List, Optional, Tuple
 
 WORDS = ("before", "after", "same", "between", "torn")
 # The statuses of the programs: what each means.
-MEANINGS = {0: "held", 1: "failed", 2: "wrong words", 3: "no input", 4: "no output", 5: "out of memory"}
+MEANINGS = {0: "held", 1: "failed", 2: "wrong words", 3: "no input", 4: "no output", 5: "out of memory",
+            6: "not all was explored"}
 
 SWEPT = re.compile(r"line (\d+) writes (\d+):((?: [a-z]+ \d+-\d+)+)( not whole)?$")
 RUN = re.compile(r" ([a-z]+) (\d+)-(\d+)")
@@ -20,7 +21,14 @@ DIFFERS = re.compile(r"line (\d+) expected (.*?) was ([0-9A-Za-z ]*) \(line (\d+
 EXPECT_SUMS = re.compile(r"expected (\d+) failed (\d+)$")
 DEPTH = re.compile(r"depth (\d+) states (\d+)$")
 EXPLORED = re.compile(r"explored states (\d+) tries (\d+) (all|depth \d+)$")
-BROKEN = re.compile(r"broken (\w+) after (\d+) lines$")
+BROKEN = re.compile(r"broken (\S+) after (\d+) lines?$")
+SILENT = re.compile(r"silent line (\d+)$")
+NOT_SWEPT = re.compile(r"line (\d+) not swept$")
+# Of `prove`: a key, a broken rule, a place of unknown control, and the end. Behind ` ; ` is help.
+KEY = re.compile(r"(?:idle|session)(?: \w+ \d+)*:")
+BROKEN_RULE = re.compile(r"broken (\S+) line (\d+)(?: at ([0-9A-F]{4}))?(?: ; .*)?$")
+UNKNOWN = re.compile(r"unknown ([0-9A-F]{4})(?: ; .*)?$")
+PROVED = re.compile(r"(?:not )?proved keys (\d+)$")
 REFUSAL = re.compile(r"line (\d+) ([A-Z]\w*)$")
 
 
@@ -107,7 +115,9 @@ class Failed:
 
 @dataclass
 class Text:
-    """What a job wrote of a deck; `kind` is `expect`, `sweep`, `explore` or `refused`, or empty if nothing was written."""
+    """What a job wrote of a deck; `kind` is `expect`, `sweep`, `explore`, `prove` or `refused`, or empty if nothing was written. `silent` are the
+    rules that no try fits, `unswept` the marks that are of no swept line, `unproved` the lines of what was not proved, by the rule's number or
+    by 0."""
 
     kind: str = ""
     is_whole: bool = False
@@ -118,6 +128,9 @@ class Text:
     depths: List[Tuple[int, int]] = field(default_factory=list)
     broken: Optional[str] = None
     path: List[str] = field(default_factory=list)
+    silent: List[int] = field(default_factory=list)
+    unswept: List[int] = field(default_factory=list)
+    unproved: List[Tuple[int, str]] = field(default_factory=list)
 
     def says(self, kind: str, number: int) -> None:
         """Takes in that a line is of a job, which is that of all lines."""
@@ -153,6 +166,17 @@ def read_text(text: str) -> Text:
         elif found := BROKEN.match(line):
             made.says("explore", number)
             made.broken, made.is_whole = found.group(1), True
+        elif found := SILENT.match(line):
+            made.says("explore", number)
+            made.silent.append(int(found.group(1)))
+        elif found := NOT_SWEPT.match(line):
+            made.says("sweep", number)
+            made.unswept.append(int(found.group(1)))
+        elif KEY.match(line):
+            made.says("prove", number)
+        elif found := BROKEN_RULE.match(line) or UNKNOWN.match(line):
+            made.says("prove", number)
+            made.unproved.append((int(found.group(2)) if line.startswith("broken") else 0, line))
         elif kind := sums_of(line):
             made.says(kind, number)
             made.is_whole = True
@@ -166,7 +190,7 @@ def read_text(text: str) -> Text:
 
 def sums_of(line: str) -> Optional[str]:
     """The job that ends with such a line, or None."""
-    kinds = {"sweep": SWEEP_SUMS, "expect": EXPECT_SUMS, "explore": EXPLORED}
+    kinds = {"sweep": SWEEP_SUMS, "expect": EXPECT_SUMS, "explore": EXPLORED, "prove": PROVED}
     return next((kind for kind, form in kinds.items() if form.match(line)), None)
 
 

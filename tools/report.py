@@ -4,7 +4,7 @@
     tools/report.py FOLDER [--decks FOLDER] [--title TEXT] > REPORT.html
 
 FOLDER is a campaign as docs/CAMPAIGNS.md makes it: `JOB.verdicts` with a line `STATUS DECK` for each run, and what that run wrote at
-`DECK.JOB`, where JOB is expect, sweep or explore. Decks are looked for from the working folder on, or from --decks. Coverage is linked if
+`DECK.JOB`, where JOB is expect, sweep, explore or prove. Decks are looked for from the working folder on, or from --decks. Coverage is linked if
 it lies in FOLDER: `coverage/index.html`, and LCOV records `DECK.cover` or `DECK.info`. The page stands alone: it has no script, and loads
 nothing.
 
@@ -22,7 +22,7 @@ import labtexts
 import sweep_svg
 from labtexts import BadText, Job
 
-JOBS = ("expect", "sweep", "explore")
+JOBS = ("expect", "sweep", "explore", "prove")
 STYLE = """
 :root { color-scheme: light; }
 body { font: 15px/1.5 system-ui, sans-serif; color: #222; background: #fff; max-width: 1180px; margin: 0 auto; padding: 16px; }
@@ -37,24 +37,43 @@ svg { display: block; }
 GOOD, LOOK, BAD = "good", "look", "bad"
 
 
+def count_of(count: int, what: str) -> str:
+    """A number of things."""
+    return f"{count} {what}" if count == 1 else f"{count} {what}s"
+
+
+def explored_verdict(text: labtexts.Text) -> Tuple[str, str]:
+    """What is said of an exploration: that it is not all, or that a rule fits nothing, wants a look."""
+    sums = text.last.partition(" ")[2]
+    if text.broken:
+        return f"broken: {text.broken}", BAD
+    if text.silent:
+        return f"{sums}, {count_of(len(text.silent), 'rule')} silent", LOOK
+    return sums, GOOD if sums.endswith("all") else LOOK
+
+
 def verdict(job: Job) -> Tuple[str, str]:
     """What is said of a job in a few words, and whether it is good."""
     text = job.text
     if text.refused is not None:
         return f"refused: line {text.refused[0]} {text.refused[1]}", BAD
-    if job.status > 1 or text.kind == "" or not text.is_whole:
+    if job.status not in (0, 1, 6) or text.kind == "" or not text.is_whole:
         meaning = labtexts.MEANINGS.get(job.status, "ended by a signal")
-        return f"status {job.status}: {meaning}" if job.status > 1 else "its text has no end", BAD
+        return f"status {job.status}: {meaning}" if job.status not in (0, 1, 6) else "its text has no end", BAD
     if text.kind == "expect":
         count = text.last.split()[1]
         return (f"{len(text.failed)} of {count} failed", BAD) if text.failed else (f"{count} held", GOOD)
     if text.kind == "explore":
-        return (f"broken: {text.broken}", BAD) if text.broken else (text.last.partition(" ")[2], GOOD)
+        return explored_verdict(text)
+    if text.kind == "prove":
+        return (text.last, GOOD) if text.last.startswith("proved") else (f"{text.last}: {count_of(len(text.unproved), 'line')}", BAD)
     torn, between = (sum(it.has(word) for it in text.swept) for word in ("torn", "between"))
     broken = sum(it.is_broken for it in text.swept)
     if torn or broken:
-        return f"{torn} lines torn" if torn else f"{broken} lines not whole", BAD
-    lines = f"{len(text.swept)} lines, {sum(it.writes for it in text.swept)} writes"
+        return f"{count_of(torn, 'line')} torn" if torn else f"{count_of(broken, 'line')} not whole", BAD
+    if text.unswept:
+        return f"{count_of(len(text.unswept), 'mark')} of no swept line", BAD
+    lines = f"{count_of(len(text.swept), 'line')}, {count_of(sum(it.writes for it in text.swept), 'write')}"
     return (f"{lines}, {between} between", LOOK) if between else (lines, GOOD)
 
 
@@ -64,7 +83,7 @@ def coverage_of(folder: Path, stem: str) -> str:
     if found is None:
         return ""
     hits = [line[3:].split(",")[1] for line in found.read_text(encoding="utf-8").splitlines() if line.startswith("DA:")]
-    return f'<a href="{escape(found.name)}">{sum(hit != "0" for hit in hits)} of {len(hits)} lines</a>'
+    return f'<a href="{escape(found.name)}">{sum(hit != "0" for hit in hits)} of {count_of(len(hits), "line")}</a>'
 
 
 def table(jobs: List[Job], folder: Path) -> Iterator[str]:
@@ -135,6 +154,15 @@ def explored(job: Job) -> Iterator[str]:
     if job.text.path:
         yield "<p>These lines behind the deck break it.</p>"
         yield "<pre>" + escape("\n".join(job.text.path)) + "</pre>"
+    for number in job.text.silent:
+        rule = job.lines[number - 1] if number <= len(job.lines) else ""
+        yield f'<p class="{LOOK}">No event of any try fits line {number}: <code>{escape(rule)}</code></p>'
+
+
+def proved(job: Job) -> Iterator[str]:
+    """The rules that were not proved."""
+    if job.text.unproved:
+        yield "<pre>" + escape("\n".join(line for _, line in job.text.unproved)) + "</pre>"
 
 
 def mutants(folder: Path) -> Iterator[str]:
@@ -151,7 +179,7 @@ def mutants(folder: Path) -> Iterator[str]:
             yield "</table></div>"
 
 
-SECTIONS = {"expect": ("Expectations", expectations), "sweep": ("Sweeps", sweeps), "explore": ("Explored", explored)}
+SECTIONS = {"expect": ("Expectations", expectations), "sweep": ("Sweeps", sweeps), "explore": ("Explored", explored), "prove": ("Proved", proved)}
 
 
 def page(title: str, jobs: List[Job], folder: Path) -> Iterator[str]:
@@ -160,8 +188,9 @@ def page(title: str, jobs: List[Job], folder: Path) -> Iterator[str]:
     yield f'<!DOCTYPE html>\n<html lang="en"><head><meta charset="utf-8"><title>{escape(title)}</title>'
     yield f'<meta name="viewport" content="width=device-width, initial-scale=1"><style>{STYLE}</style></head><body>'
     yield f"<h1>{escape(title)}</h1>"
-    writes = sum(it.writes for job in jobs for it in job.text.swept)
-    sums = [(len({job.deck for job in jobs}), "decks", ""), (len(jobs), "runs", ""), (writes, "writes swept", ""),
+    writes, decks = sum(it.writes for job in jobs for it in job.text.swept), len({job.deck for job in jobs})
+    sums = [(decks, "deck" if decks == 1 else "decks", ""), (len(jobs), "run" if len(jobs) == 1 else "runs", ""),
+            (writes, "write swept" if writes == 1 else "writes swept", ""),
             (kinds.count(BAD), "did not hold", BAD if BAD in kinds else GOOD)]
     yield '<ul class="sums">' + "".join(f'<li class="{kind}"><b>{count:,}</b>{what}</li>' for count, what, kind in sums) + "</ul>"
     if (folder / "coverage" / "index.html").is_file():

@@ -117,7 +117,9 @@ def main() -> int:
     given = words.parse_args()
     try:
         text = labtexts.read_text(sys.stdin.read() if given.sweep == "-" else labtexts.read(given.sweep))
-        if text.kind not in ("sweep", ""):
+        if text.kind == "":
+            raise BadText(f"{given.sweep} has no sweep: it is empty")
+        if text.kind != "sweep":
             raise BadText(f"{given.sweep} is no sweep: {text.last or 'the deck is refused'}")
         statements = [] if given.deck is None else labtexts.lines_of(labtexts.read(given.deck))
     except (OSError, BadText) as error:

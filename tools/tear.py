@@ -145,6 +145,8 @@ def show(rows: List[List[str]]) -> None:
 def tear(given: argparse.Namespace) -> List[str]:
     """Shows a cut, and gives the deck that plays it."""
     lines = lines_of(read(given.source))
+    if not 0 < given.line <= len(lines):
+        raise NotDone(f"{given.source} has no line {given.line}: it has {len(lines)}", 2)
     found = dict(statements(lines)).get(given.line)
     if found is None or found[0] not in CARD_LINES:
         raise NotDone(f"line {given.line} is none of {', '.join(CARD_LINES)}", 2)

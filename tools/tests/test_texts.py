@@ -53,6 +53,16 @@ def test_a_write_that_a_line_does_not_make_is_none():
     assert (shown.returncode, "fewer than 7 writes" in shown.stderr) == (1, True)
 
 
+def test_a_line_that_a_deck_does_not_have_is_said():
+    shown = tool("tear.py", TOP / "examples/purse.deck", 999, 1)
+    assert (shown.returncode, "has no line 999: it has 33" in shown.stderr) == (2, True)
+
+
+def test_a_picture_of_nothing_is_none():
+    shown = tool("sweep_svg.py", "-")
+    assert (shown.returncode, shown.stdout, "it is empty" in shown.stderr) == (2, "", True)
+
+
 def test_failed_expectations_are_failed_cases(tmp_path):
     deck = tmp_path / "wrong.deck"
     deck.write_text(example("counter").replace("0001 9000", "0002 9000"), encoding="utf-8")
@@ -100,6 +110,51 @@ def test_a_rule_that_is_broken_is_a_failed_case(tmp_path):
     suite = xml.fromstring(tool("junit.py", "-", deck, text=text).stdout.split("\n", 1)[1])[0]
     assert [case.find("failure") is not None for case in suite] == [True, False]
     assert suite[0].find("failure").text == "power\npower"
+
+
+RULES = "format\npower\n#@ move power\n#@ allow a 1\n#@ on power gives ready* spend a 0\n#@ on power gives none spend a 1\n"
+
+
+@pytest.mark.parametrize("text, skipped", [("depth 1 states 0\nsilent line 6\nexplored states 1 tries 1 all\n", [False, True]),
+                                           ("depth 1 states 1\nexplored states 2 tries 1 depth 1\n", [True, True])])
+def test_what_was_not_explored_is_skipped_and_wants_a_look(tmp_path, text, skipped):
+    deck = tmp_path / "rules.deck"
+    deck.write_text(RULES, encoding="utf-8")
+    made = tool("junit.py", "-", deck, text=text)
+    suite = xml.fromstring(made.stdout.split("\n", 1)[1])[0]
+    assert made.returncode == 0 and [case.find("skipped") is not None for case in suite] == skipped
+    (tmp_path / "rules.explore").write_text(text, encoding="utf-8")
+    (tmp_path / "explore.verdicts").write_text("0 rules.deck\n" if "all" in text else "6 rules.deck\n", encoding="utf-8")
+    page = tool("report.py", tmp_path, "--decks", tmp_path)
+    assert page.returncode == 0 and '<span class="look">' in page.stdout
+    assert ("fits line 6" in page.stdout) == ("silent" in text)
+
+
+def test_a_rule_that_is_not_proved_is_a_failed_case(tmp_path):
+    deck = tmp_path / "rules.deck"
+    deck.write_text("#@ app a\n#@ allow guesses 3\n#@ on turn CMPN* spend guesses 1\n#@ never abend\n", encoding="utf-8")
+    text = "idle guesses 3: SB[2] 03\nbroken guesses line 3 at 002C ; look\nunknown 0100\nnot proved keys 12\n"
+    suite = xml.fromstring(tool("junit.py", "-", deck, text=text).stdout.split("\n", 1)[1])[0]
+    assert [case.find("failure") is not None for case in suite] == [True, False, True]
+    (tmp_path / "rules.prove").write_text(text, encoding="utf-8")
+    (tmp_path / "prove.verdicts").write_text("1 rules.deck\n", encoding="utf-8")
+    page = tool("report.py", tmp_path, "--decks", tmp_path)
+    assert page.returncode == 1 and "not proved keys 12: 2 lines" in page.stdout and "unknown 0100" in page.stdout
+
+
+def test_a_mark_of_no_swept_line_fails(tmp_path):
+    text = "line 4 not swept\nline 6 writes 6: before 1-4 after 5-6\nswept 1 writes 6 plays 16\n"
+    assert tool("junit.py", "-", text=text).returncode == 1
+    (tmp_path / "marks.sweep").write_text(text, encoding="utf-8")
+    (tmp_path / "sweep.verdicts").write_text("1 marks.deck\n", encoding="utf-8")
+    assert "1 mark of no swept line" in tool("report.py", tmp_path).stdout
+
+
+def test_one_line_is_no_lines(tmp_path):
+    (tmp_path / "one.sweep").write_text("line 6 writes 1: before 1-1\nswept 1 writes 1 plays 2\n", encoding="utf-8")
+    (tmp_path / "sweep.verdicts").write_text("0 one.deck\n", encoding="utf-8")
+    page = tool("report.py", tmp_path).stdout
+    assert "1 line, 1 write<" in page and "</b>deck<" in page
 
 
 def test_a_text_without_an_end_is_an_error():
