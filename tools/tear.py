@@ -6,9 +6,9 @@
 LINE is the number of a card line of the deck, K the device write in which power goes, and FILL the 8 bytes, in hexadecimal, that are left in
 its word (zeros if none are given). Behind each of the three plays a whole `power` follows, and the static bytes of the applications that the
 deck names are compared: those of its load, select, delete and dump lines, and of --aid. Then the lines that play the cut; with --deck the
-whole deck is written to a file, with what was seen as expectations.
+whole deck is written to a file, with what was seen as expectations. Of a draft the bytes have their names, as `meldesk names` has them.
 
-It needs Python 3.9 and `melcard`, built by tools/build or by `rt ci`. It ends with 0, with 1 if the deck is refused or the line has no
+It needs Python 3.9, and `melcard` and for drafts `meldesk`, built by tools/build or by `rt ci`. It ends with 0, with 1 if the deck is refused or the line has no
 such write, and with 2 if it is called wrongly.
 """
 
@@ -18,11 +18,13 @@ import subprocess
 import sys
 from typing import Dict, Iterator, List, Optional, Tuple
 
-from card import program_path
+from card import Refused, deck_of, names_of as names_of_bytes, program_path
 from card.sessions import CARD_LINES, armed_in
-from labtexts import end_with_reader, fields_of, lines_of, read
+from labtexts import end_with_reader, lines_of, read
+from units import names_of, statements
 
-ABSENT = "absent"
+# The names of an application's static bytes: the first place of each, its size and itself.
+Names = List[Tuple[int, int, str]]
 
 
 class NotDone(Exception):
@@ -31,43 +33,6 @@ class NotDone(Exception):
     def __init__(self, why: str, status: int = 1) -> None:
         super().__init__(why)
         self.status = status
-
-
-# ---- the deck
-
-
-def statements(lines: List[str]) -> Iterator[Tuple[int, List[str]]]:
-    """The statements of a deck, as their numbers and fields; the lines of sections are none."""
-    is_section = False
-    for number, line in enumerate(lines, 1):
-        fields = fields_of(line)
-        if is_section:
-            is_section = fields != ["end"]
-        elif fields and not fields[0].startswith("#"):
-            is_section = fields[0] == "app"
-            yield number, fields
-
-
-def aid_of(unit: str) -> Optional[str]:
-    """The name of the application of a load unit in hexadecimal: its DIR record is 61 l 4F l AID."""
-    found = re.search(r"61..4F(..)", unit.upper())
-    return unit.upper()[found.end():found.end() + 2 * int(found.group(1), 16)] if found else None
-
-
-def names_of(lines: List[str]) -> List[str]:
-    """The applications that a deck names, in the order of their first mention."""
-    units: Dict[str, Optional[str]] = {}
-    found: List[Optional[str]] = []
-    for _, fields in statements(lines):
-        if fields[0] == "app" and len(fields) == 3:
-            units[fields[1]] = fields[2].upper()
-        elif fields[0] == "unit" and len(fields) == 3:
-            units[fields[1]] = aid_of(fields[2])
-        elif fields[0] == "load" and len(fields) > 1:
-            found.append(units.get(fields[1]))
-        elif fields[0] in ("select", "delete", "dump") and len(fields) == 2:
-            found.append(fields[1].upper())
-    return list(dict.fromkeys(it for it in found if it))
 
 
 # ---- the plays
@@ -99,30 +64,39 @@ def bytes_of(dump: str) -> Optional[bytes]:
 # ---- what is shown
 
 
-def differing(dumps: List[Optional[bytes]]) -> Iterator[Tuple[int, int]]:
-    """The runs of places, from one up to another, at which the bytes of some dumps differ; an absent application has none."""
+def differing(dumps: List[Optional[bytes]], names: Names) -> Iterator[Tuple[int, int]]:
+    """The runs of places, from one up to another, at which the bytes of some dumps differ; an absent application has none. A run ends where a
+    name begins or ends."""
     end = max(len(it or b"") for it in dumps)
+    ends = {place for first, size, _ in names for place in (first, first + size)}
     start = None
     for place in range(end + 1):
         is_same = place == end or len({it[place:place + 1] if it is not None else b"" for it in dumps}) == 1
-        if is_same and start is not None:
+        if start is not None and (is_same or place in ends):
             yield start, place
             start = None
-        elif not is_same and start is None:
+        if not is_same and start is None:
             start = place
 
 
-def table(names: List[str], before: Dict[str, str], after: Dict[str, str], cut: Dict[str, str]) -> Iterator[List[str]]:
-    """The rows of what differs: the application, the first place, and the bytes before, after and as cut."""
+def name_at(place: int, names: Names) -> str:
+    """The name of the byte at a place, with how far behind its first it is, or nothing."""
+    found = next(((place - first, name) for first, size, name in names if first <= place < first + size), None)
+    return "" if found is None else found[1] if found[0] == 0 else f"{found[1]}+{found[0]}"
+
+
+def table(names: List[str], of_bytes: Dict[str, Names], before: Dict[str, str], after: Dict[str, str], cut: Dict[str, str]) -> Iterator[List[str]]:
+    """The rows of what differs: the application, the first place, its name if any byte has one, and the bytes before, after and as cut."""
     for name in names:
         dumps = [it[name] for it in (before, after, cut)]
         if len(set(dumps)) == 1:
             continue
         values = [bytes_of(it) for it in dumps]
-        for start, end in differing(values):
-            yield [name, f"{start:04X}", *(dump if it is None else it[start:end].hex().upper() for dump, it in zip(dumps, values))]
+        for start, end in differing(values, of_bytes.get(name, [])):
+            column = [name_at(start, of_bytes.get(name, []))] if of_bytes else []
+            yield [name, f"{start:04X}", *column, *(dump if it is None else it[start:end].hex().upper() for dump, it in zip(dumps, values))]
         if not any(values):
-            yield [name, "", *dumps]
+            yield [name, "", *([""] if of_bytes else []), *dumps]
 
 
 def verdict(before: Dict[str, str], after: Dict[str, str], cut: Dict[str, str]) -> str:
@@ -134,17 +108,22 @@ def verdict(before: Dict[str, str], after: Dict[str, str], cut: Dict[str, str]) 
     return "between: neither"
 
 
-def show(rows: List[List[str]]) -> None:
+def show(rows: List[List[str]], has_names: bool) -> None:
     """Prints rows as columns."""
-    rows = [["application", "place", "before", "after", "cut"], *rows]
-    widths = [max(len(row[place]) for row in rows) for place in range(5)]
+    rows = [["application", "place", *(["name"] if has_names else []), "before", "after", "cut"], *rows]
+    widths = [max(len(row[place]) for row in rows) for place in range(len(rows[0]))]
     for row in rows:
         print("  ".join(it.ljust(width) for it, width in zip(row, widths)).rstrip())
 
 
 def tear(given: argparse.Namespace) -> List[str]:
     """Shows a cut, and gives the deck that plays it."""
-    lines = lines_of(read(given.source))
+    source = read(given.source)
+    text, lines = lines_of(source), lines_of(deck_of(source))
+    of_bytes: Dict[str, Names] = {}
+    for it in names_of_bytes(source):
+        if it.get("register") == "SB":
+            of_bytes.setdefault(it["aid"], []).append((it["offset"], it["size"], it["name"]))
     if not 0 < given.line <= len(lines):
         raise NotDone(f"{given.source} has no line {given.line}: it has {len(lines)}", 2)
     found = dict(statements(lines)).get(given.line)
@@ -161,10 +140,10 @@ def tear(given: argparse.Namespace) -> List[str]:
     if shown[-1] != f"off at write {given.write}":
         raise NotDone(f"line {given.line} makes fewer than {given.write} writes: its result is {shown[-1]}")
     end_with_reader()
-    print(f"line {given.line}: {line.strip()}\ncut in write {given.write}, {given.fill} left in its word\n{verdict(before, after, cut)}\n")
-    rows = list(table(names, before, after, cut))
+    print(f"line {given.line}: {text[given.line - 1].strip()}\ncut in write {given.write}, {given.fill} left in its word\n{verdict(before, after, cut)}\n")
+    rows = list(table(names, of_bytes, before, after, cut))
     if rows:
-        show(rows)
+        show(rows, bool(of_bytes))
         print()
     seen = [it for name in names for it in (f"dump {name}", f"#> {cut[name]}")]
     return [*front, f"cut {given.write} {given.fill}", line, f"#> off at write {given.write}", "power", *seen]
@@ -172,7 +151,7 @@ def tear(given: argparse.Namespace) -> List[str]:
 
 def main() -> int:
     words = argparse.ArgumentParser(description="Shows what a power cut in one write of one line does to a card.")
-    words.add_argument("source", metavar="DECK", help="the deck")
+    words.add_argument("source", metavar="DECK", help="the deck, or a draft")
     words.add_argument("line", metavar="LINE", type=int, help="the number of a card line")
     words.add_argument("write", metavar="K", type=int, help="the device write, from 1")
     words.add_argument("fill", metavar="FILL", nargs="?", default="00" * 8, help="the 8 bytes that are left in its word (zeros)")
@@ -189,6 +168,9 @@ def main() -> int:
     except NotDone as why:
         print(f"tear.py: {why}", file=sys.stderr)
         return why.status
+    except Refused as why:
+        print(f"tear.py: {given.source} is refused: {why}", file=sys.stderr)
+        return 1
     except OSError as error:
         print(f"tear.py: {error}", file=sys.stderr)
         return 2

@@ -93,7 +93,7 @@ def serve(reader, address, pause, say):
 
 def main():
     words = argparse.ArgumentParser(description="Joins melreader to vpcd, a driver of pcscd.")
-    words.add_argument("deck", nargs="?", help="the deck that is played on the card first; none: a blank card")
+    words.add_argument("deck", nargs="?", help="the deck or draft that is played on the card first; none: a blank card")
     words.add_argument("--record", metavar="FILE", help="keep the session here as a deck, with the answers as expectations")
     words.add_argument("--host", default="127.0.0.1", help="where vpcd listens (127.0.0.1)")
     words.add_argument("--port", type=int, default=35963, help="where vpcd listens (35963)")

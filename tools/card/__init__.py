@@ -8,7 +8,7 @@
         assert card.transmit(bytes.fromhex("8001000002")) == b""   # no answer
         card.reset()
         assert card.transmit(bytes.fromhex("00A4040C05A000000001")).hex() == "9000"
-        assert card.dump("A000000001") == b"\\0\\2"                  # as `melcard play` dumps it
+        assert card.dump("A000000001") == b"\\0\\2"                  # as `melcard play` dumps it; of a draft card.static("count")
         card.keep("session.deck")                                  # the session as a deck, with its answers as expectations
 
 `docs/READER.md` has the frames and the commands to the reader itself; `card.fixture` is a plugin for pytest.

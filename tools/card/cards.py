@@ -6,7 +6,7 @@ import subprocess
 from types import TracebackType
 from typing import Optional, Type
 
-from .decks import Path, opened
+from .decks import Path, names_of, opened
 from .programs import program_path
 from .readers import ATR, BUDGET, CUT, DONE, FAIL, POWER_OFF, RESET, Reader, ReaderEnded
 
@@ -68,6 +68,26 @@ class Card:
 
         ValueError, if no card runs: `reset` it first."""
         return dumped(self.session(), aid)
+
+    def static(self, name: str, section: Optional[str] = None) -> bytes:
+        """The static bytes that a name of the draft stands for, as `dump` has them. `section` is one whose names are meant, if several have
+        this name.
+
+        # Errors
+
+        ValueError, if the draft has no such name, or several, or its application is absent; and as `dump`."""
+        names = names_of(self.reader.draft)
+        if not names:
+            raise ValueError("meldesk has no names of this card's deck")
+        found = [it for it in names if it.get("name") == name and it.get("register") == "SB" and section in (None, it["section"])]
+        if len(found) != 1:
+            sections = ", ".join(it["section"] for it in found)
+            raise ValueError(f"{name} is the name of static bytes in several sections: {sections}" if found else f"no static bytes are named {name}")
+        place = found[0]
+        fixed = self.dump(place["aid"])
+        if fixed is None:
+            raise ValueError(f"{place['section']} is absent")
+        return fixed[place["offset"]:place["offset"] + place["size"]]
 
     def session(self) -> str:
         """The session so far as a deck, with its answers as expectations: `mellab expect` holds of it."""

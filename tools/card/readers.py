@@ -42,10 +42,10 @@ def is_answered(content: bytes) -> bool:
     return len(content) >= 2 or content == ATR
 
 
-def asked_deck(path: Path) -> str:
-    """The text of a deck, or of the deck of a draft."""
+def asked_deck(text: str) -> str:
+    """The deck of a draft."""
     try:
-        return deck_of(text_of(path))
+        return deck_of(text)
     except Refused as why:
         raise ReaderEnded(1, str(why)) from None
 
@@ -71,7 +71,9 @@ class Reader:
     """
 
     def __init__(self, deck: Optional[Path] = None, program: Optional[Path] = None, record: Optional[Path] = None) -> None:
-        text = None if deck is None else asked_deck(deck)
+        # What the file has, whose names are those of the card's bytes.
+        self.draft = "" if deck is None else text_of(deck)
+        text = None if deck is None else asked_deck(self.draft)
         self.session = Session(text)
         self._record: Optional[IO[str]] = None
         if record is not None:
