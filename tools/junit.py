@@ -2,7 +2,7 @@
 """Writes what `mellab` wrote as JUnit XML, a case for each line of a deck that is tested, for services that show tests.
 
     tools/junit.py [--no-between] TEXT [DECK]        one text, of `mellab expect`, `sweep`, `explore` or `prove`; - is the standard input
-    tools/junit.py [--no-between] --campaign FOLDER  a folder of texts and statuses, as docs/CAMPAIGNS.md fills it; its decks are looked
+    tools/junit.py [--no-between] --campaign FOLDER  a folder of texts and statuses, as docs/LABORATORY.md fills it; its decks are looked
                                                      for from the working folder on, or from --decks
 
 The cases of `expect` are the expectations of the deck, those of `sweep` the swept lines, those of `explore` the rules that spend, those

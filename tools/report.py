@@ -3,7 +3,7 @@
 
     tools/report.py FOLDER [--decks FOLDER] [--title TEXT] > REPORT.html
 
-FOLDER is a campaign as docs/CAMPAIGNS.md makes it: `JOB.verdicts` with a line `STATUS DECK` for each run, and what that run wrote at
+FOLDER is a campaign as docs/LABORATORY.md makes it: `JOB.verdicts` with a line `STATUS DECK` for each run, and what that run wrote at
 `DECK.JOB`, where JOB is expect, sweep, explore or prove. Decks are looked for from the working folder on, or from --decks. Coverage is linked if
 it lies in FOLDER: `coverage/index.html`, and LCOV records `DECK.cover` or `DECK.info`. The page stands alone: it has no script, and loads
 nothing.
@@ -220,7 +220,7 @@ def main() -> int:
     try:
         jobs = labtexts.jobs_of(folder, Path(given.decks))
         if not jobs:
-            raise BadText(f"{folder} has no verdicts: docs/CAMPAIGNS.md shows how a campaign is made")
+            raise BadText(f"{folder} has no verdicts: docs/LABORATORY.md shows how a campaign is made")
     except (OSError, BadText) as error:
         print(f"report.py: {error}", file=sys.stderr)
         return 2
