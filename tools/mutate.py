@@ -87,7 +87,8 @@ class Mutant:
 
 def sections_of(lines: List[str], wanted: List[str]) -> Iterator[List[Tuple[int, str]]]:
     """The lines of each section, with their numbers; of the wanted ones, if any is named."""
-    name, found = None, []
+    name: Optional[str] = None
+    found: List[Tuple[int, str]] = []
     for number, line in enumerate(lines, 1):
         fields = fields_of(line)
         if name is None and fields[:1] == ["app"] and len(fields) > 1:
@@ -196,7 +197,8 @@ def status_of(words: List[str], deck: str, seconds: float, no_between: bool) -> 
 def turns_of(trace: str, changed: List[int]) -> Tuple[List[Tuple[str, ...]], List[str], bool]:
     """What a trace shows: the turns of other lines than the changed ones, without their places and instructions; the results; and whether
     a changed line ran."""
-    turns, results, did_run = [], [], False
+    turns: List[Tuple[str, ...]] = []
+    results, did_run = [], False
     for line in trace.splitlines():
         found = TURN.match(line)
         if found is None:

@@ -52,13 +52,14 @@ def asked_deck(text: str) -> str:
 
 def started(program: str, deck: Optional[Path], text: Optional[str]) -> subprocess.Popen[bytes]:
     """The program, on a deck of this path. It reads a deck alone, so it gets that of a draft as a file without a name."""
-    pipes = {"stdin": subprocess.PIPE, "stdout": subprocess.PIPE, "stderr": subprocess.PIPE}
+    pipe = subprocess.PIPE
     if deck is None or text is None or text == text_of(deck):
-        return subprocess.Popen([program, *([] if deck is None else [os.fspath(deck)])], **pipes)
+        words = [program, *([] if deck is None else [os.fspath(deck)])]
+        return subprocess.Popen(words, stdin=pipe, stdout=pipe, stderr=pipe)
     with tempfile.TemporaryFile() as file:
         file.write(text.encode("utf-8", "surrogateescape"))
         file.flush()
-        return subprocess.Popen([program, f"/dev/fd/{file.fileno()}"], pass_fds=[file.fileno()], **pipes)
+        return subprocess.Popen([program, f"/dev/fd/{file.fileno()}"], stdin=pipe, stdout=pipe, stderr=pipe, pass_fds=[file.fileno()])
 
 
 class Reader:
