@@ -199,7 +199,8 @@ def sums_of(line: str) -> Optional[str]:
 
 @dataclass
 class Job:
-    """A job of a campaign: its name, its deck as it was named, its status, where its text lies, and what was read there."""
+    """A job of a campaign: its name, its deck as it was named, its status, where its text lies, what was read there, the lines of the deck, and
+    where the deck lies."""
 
     name: str
     deck: str
@@ -207,6 +208,7 @@ class Job:
     path: Path
     text: Text
     lines: List[str]
+    source: Path
 
     @property
     def stem(self) -> str:
@@ -226,5 +228,5 @@ def jobs_of(folder: Path, decks: Path) -> List[Job]:
             path, source = folder / f"{Path(deck).stem}.{verdicts.stem}", decks / deck
             text = read_text(read(str(path))) if path.is_file() else Text()
             lines = lines_of(read(str(source))) if source.is_file() else []
-            found.append(Job(verdicts.stem, deck, int(status), path, text, lines))
+            found.append(Job(verdicts.stem, deck, int(status), path, text, lines, source))
     return sorted(found, key=lambda it: (it.stem, it.name))

@@ -8,6 +8,8 @@ FOLDER is a campaign as docs/LABORATORY.md makes it: `JOB.verdicts` with a line 
 it lies in FOLDER: `coverage/index.html`, and LCOV records `DECK.cover` or `DECK.info`. The page stands alone: it has no script, and loads
 nothing.
 
+If a deck has a draft of its name beside it, a dump that was not as expected names its bytes, as `meldesk names` has them.
+
 It needs Python 3.9. It ends with 1 if a job did not hold, and with 2 if it cannot read what it is given.
 """
 
@@ -18,9 +20,11 @@ from html import escape
 from pathlib import Path
 from typing import Dict, Iterator, List, Tuple
 
+import card
 import labtexts
 import sweep_svg
 from labtexts import BadText, Job
+from tear import Names, name_at
 
 JOBS = ("expect", "sweep", "explore", "prove")
 STYLE = """
@@ -113,12 +117,35 @@ def head_of(job: Job) -> str:
     return f'<{tag} id="{escape(job.stem)}.{job.name}"><code>{escape(job.deck)}</code>: <span class="{kind}">{escape(said)}</span></{tag}>'
 
 
+def names_by_aid(job: Job) -> Dict[str, Names]:
+    """The names of static bytes by application, if the deck has a draft of its name beside it."""
+    draft = job.source.with_suffix(".draft")
+    found: Dict[str, Names] = {}
+    for it in card.names_of(card.text_of(draft)) if draft.is_file() else []:
+        if it.get("register") == "SB":
+            found.setdefault(it["aid"], []).append((it["offset"], it["size"], it["name"]))
+    return found
+
+
+def names_in(failed: labtexts.Failed, names: Dict[str, Names]) -> str:
+    """The names of the bytes at which a dump is not as expected, if the draft names any."""
+    fields, wanted, was = failed.statement.split(), failed.wanted.replace(" ", "").lower(), failed.was.replace(" ", "").lower()
+    if fields[:1] != ["dump"] or not wanted.startswith("static") or len(wanted) != len(was):
+        return ""
+    places = [place for place in range((len(was) - 6) // 2)
+              if any(a not in ("?", b) for a, b in zip(wanted[6 + 2 * place:8 + 2 * place], was[6 + 2 * place:8 + 2 * place]))]
+    return ", ".join(dict.fromkeys(name_at(place, names.get(fields[1].upper(), [])) for place in places))
+
+
 def expectations(job: Job) -> Iterator[str]:
     """The failed expectations of a deck."""
     if job.text.failed:
-        yield '<div class="wide"><table><tr><th>line</th><th>statement</th><th>expected</th><th>was</th></tr>'
+        names = names_by_aid(job)
+        head = "<th>bytes</th>" if names else ""
+        yield f'<div class="wide"><table><tr><th>line</th><th>statement</th><th>expected</th><th>was</th>{head}</tr>'
         for number, failed in sorted(job.text.failed.items()):
-            cells = "".join(f'<td class="text">{escape(it)}</td>' for it in (failed.statement, failed.wanted, failed.was))
+            shown = (failed.statement, failed.wanted, failed.was, *([names_in(failed, names)] if names else []))
+            cells = "".join(f'<td class="text">{escape(it)}</td>' for it in shown)
             yield f"<tr><td>{number}</td>{cells}</tr>"
         yield "</table></div>"
 

@@ -77,3 +77,14 @@ def test_a_tear_names_bytes():
     assert shown[4].split() == ["application", "place", "name", "before", "after", "cut"]
     assert ["A000000010", "0002", "balance+2", "1000", "0EDD", "0EDD"] in [line.split() for line in shown]
     assert "apdu 80400000040000012304" in shown[shown.index("These lines play it, in place of line 138 and those after it:"):]
+
+
+def test_a_report_names_bytes(tmp_path):
+    (tmp_path / "purse.draft").write_text(PURSE.read_text(encoding="utf-8"), encoding="utf-8")
+    (tmp_path / "purse.deck").write_text(PURSE.with_suffix(".deck").read_text(encoding="utf-8"), encoding="utf-8")
+    text = "line 3 expected static 0003 00?1 was static 0002 0001 (line 2 dump A000000002)\nexpected 1 failed 1\n"
+    (tmp_path / "purse.expect").write_text(text, encoding="utf-8")
+    (tmp_path / "expect.verdicts").write_text("1 purse.deck\n", encoding="utf-8")
+    page = subprocess.run([sys.executable, str(TOP / "tools" / "report.py"), str(tmp_path), "--decks", str(tmp_path)], stdout=subprocess.PIPE,
+                          text=True, check=False)
+    assert page.returncode == 1 and '<td class="text">payer+1</td>' in page.stdout
