@@ -1,0 +1,2 @@
+//! Rules of an application over the history of what happens to it: definitions, and worked rows.
+#![tactic(auto)]
