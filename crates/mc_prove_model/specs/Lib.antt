@@ -1,0 +1,15 @@
+pub mod Sets
+pub mod Facts
+pub mod Compares
+pub mod Digits
+pub mod Keys
+pub mod Texts
+pub mod Splits
+pub mod Work
+pub mod Reach
+pub mod Arrivals
+pub mod Steps
+pub mod Between
+pub mod Tables
+pub mod Laws
+pub mod Computed

@@ -1,0 +1,5 @@
+//! Abstract states of an application, their outcomes and tables: definitions, and the laws that carry a proof by them.
+#![tactic(auto)]
+
+mod laws;
+mod rows;
