@@ -5,22 +5,22 @@ use Rattle.mc_model_machine.specs.declared.instruction.Ins.{Ins}
 use Rattle.mc_model_machine.specs.declared.instruction.DecodeFault.{DecodeFault}
 use Rattle.mc_model_machine.specs.declared.instruction.DecodeFault.TheVariants.{Undefined, Past}
 use Rattle.mc_model_machine.specs.declared.machine.Abend.{Abend}
-use Rattle.mc_model_machine.specs.declared.machine.Abend.TheVariants.{A01, A02, A07, A09}
+use Rattle.mc_model_machine.specs.declared.machine.Abend.TheVariants.{A01, A02, A09}
 use Rattle.mc_model_device.specs.Bytes.{lookup}
 use Rattle.mc_model_device.specs.Card.{Card}
-use Rattle.mc_model_device.specs.PowerUp.{Base, OnCard, AtFault}
+use Rattle.mc_model_device.specs.PowerUp.{Base, OnCard}
 use Rattle.mc_model_machine.specs.Apdu.{ApduParts}
 use Rattle.mc_model_machine.specs.Code.{instruction_at}
-use Rattle.mc_model_machine.specs.Frame.{Frame, Effect, la_of}
+use Rattle.mc_model_machine.specs.Frame.{la_of}
 use Rattle.mc_model_machine.specs.Primitives.{Then, Goes, Exits, Delegates, Done}
 use Rattle.mc_model_machine.specs.Row.{RowEnd, Abends, Does, row}
-use Rattle.mc_model_machine.specs.Chain.{Chain, Outcome, Reply, Abended, code_in, frame_at, around, turn_of_chain, depth_of, start}
+use Rattle.mc_model_machine.specs.Chain.{Chain, Outcome, code_in, frame_at, around, turn_of_chain, depth_of, start}
 use Rattle.mc_model_card.specs.Items.{StopAt}
 use Rattle.mc_model_card.specs.Manager.{Selected, SessionState, Route, WrongLength, WrongClass, ToSelect, ToManager, ToApplication, route, Managed, Declines, Accepts, select}
 use Rattle.mc_model_play.specs.DeckGrammar.{DeckLine}
 use Rattle.mc_model_play.specs.DeckGrammar as line
 use Rattle.mc_model_play.specs.Play.{Live, Running, Unpowered, Muted, State, BeforePower, AfterPower, LineResult, Answered, Step}
-use Rattle.mc_promise.specs.History.{Deed, CutAt, cut_of, is_first, with_event, after_writes, after_follows, after_items, command_in}
+use Rattle.mc_promise.specs.History.{Deed, CutAt, cut_of, is_first, after_writes, after_follows, after_items, command_in}
 
 -- ---- events
 

@@ -1,14 +1,12 @@
 -- What a history breaks: allowances and sums along the events of an application, and what always holds of its static
 -- bytes.
-use Rattle.std.specs.Prelude.{◌≡◌, ℕ, ◌+◌, ◌-◌, ◌*◌, ◌%◌, ◌^◌, Bool, true, false, cond, not, ◌&&◌, ◌||◌, nat_le, ◌==◌, List, [], ◌∷◌, ◌++◌, length, take, drop, map, bytes_eq, is_ok, slice_index, unwrap_or, Option, Some, None, Result, Ok, Err}
-use Rattle.mc_model_machine.specs.declared.machine.Abend.{Abend}
+use Rattle.std.specs.Prelude.{ℕ, ◌+◌, ◌-◌, ◌%◌, ◌^◌, Bool, true, false, cond, not, ◌&&◌, ◌||◌, nat_le, ◌==◌, List, [], ◌∷◌, take, drop, map, bytes_eq, is_ok, slice_index, Option, Some, None, Result, Ok, Err}
 use Rattle.mc_model_machine.specs.declared.instruction.Ins.{Ins}
 use Rattle.mc_model_machine.specs.declared.instruction.Ins.TheVariants as ins
-use Rattle.mc_model_device.specs.Bytes.{lookup, num}
+use Rattle.mc_model_device.specs.Bytes.{num}
 use Rattle.mc_model_text.specs.Text.{◌>>=◌}
 use Rattle.mc_model_text.specs.Listing.{hex_text}
 use Rattle.mc_model_machine.specs.Primitives.{Primitive, SetProtection, primitive}
-use Rattle.mc_model_machine.specs.Chain.{Outcome, Turn}
 use Rattle.mc_model_play.specs.Transcript.{outcome_text}
 use Rattle.mc_promise.specs.History.{Deed}
 use Rattle.mc_explore.specs.Matching.{fits}

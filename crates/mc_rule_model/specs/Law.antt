@@ -1,7 +1,6 @@
 -- The law of rules: along every play, at each moment at which power may go, nothing is broken and what always holds
 -- holds. It has the shape of the law of promises, over the history of the rules.
-use Rattle.std.specs.Prelude.{◌≡◌, ℕ, Bool, true, false, List, [], ◌∷◌, Option, Some, None, ⊤}
-use Rattle.mc_model_device.specs.Card.{App}
+use Rattle.std.specs.Prelude.{◌≡◌, ℕ, true, false, List, [], ◌∷◌, Option, Some, None, ⊤}
 use Rattle.mc_model_play.specs.DeckGrammar.{DeckLine}
 use Rattle.mc_model_play.specs.Play.{FailedWrite, Step, plays, start}
 use Rattle.mc_promise.specs.Along.{BringsOnly, OnFixed, stopped_step}

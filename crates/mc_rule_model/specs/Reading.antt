@@ -1,6 +1,6 @@
 -- How the rules of an application are read: the lines of a deck whose first field is `#@`, each with its refusals in
 -- their order, after the deck's own.
-use Rattle.std.specs.Prelude.{ℕ, suc, ◌+◌, ◌-◌, ℤ, pos, negsuc, Bool, true, false, cond, not, ◌&&◌, ◌||◌, nat_lt, nat_le, ◌==◌, List, [], ◌∷◌, ◌++◌, length, bytes_eq, codes, is_some, is_none, ok_or, Option, Some, None, Result, Ok, Err}
+use Rattle.std.specs.Prelude.{ℕ, suc, ◌-◌, ℤ, pos, negsuc, Bool, true, false, cond, not, ◌&&◌, ◌||◌, nat_lt, nat_le, ◌==◌, List, [], ◌∷◌, ◌++◌, length, bytes_eq, codes, is_some, is_none, ok_or, Option, Some, None, Result, Ok, Err}
 use Rattle.mc_model_device.specs.Bytes.{lookup, zeros}
 use Rattle.mc_model_text.specs.Text.{◌>>=◌, ok_as, err_as, only_if, is_empty, pieces, lines, with_numbers, fields}
 use Rattle.mc_model_text.specs.Assembly.{natural, signed_number}
@@ -12,8 +12,8 @@ use Rattle.mc_model_play.specs.declared.deck.DeckCause.{DeckCause}
 use Rattle.mc_model_play.specs.declared.deck.DeckCause.TheVariants.{BadLine, BadNumber, OutOfRange, NameTwice, UnknownName}
 use Rattle.mc_model_play.specs.DeckGrammar.{DeckLine, name_field, number_field, deck_read}
 use Rattle.mc_model_play.specs.DeckGrammar as line
-use Rattle.mc_explore.specs.Rules.{Parts, parts_of, full_parts, name_and_amount, begins_with, stays_inside, line_if, rule_lines}
-use Rattle.mc_rule_model.specs.Rules.{Trigger, AtTurn, AtCommand, AtAnswer, AtSession, Action, Allows, Spends, Needs, OnLine, Amount, Constant, PublicBytes, SumLine, Range, Total, Target, AppRules, no_app_rules}
+use Rattle.mc_explore.specs.Rules.{Parts, parts_of, full_parts, name_and_amount, begins_with, stays_inside, rule_lines}
+use Rattle.mc_rule_model.specs.Rules.{Trigger, AtTurn, AtCommand, AtAnswer, AtSession, Action, Allows, Spends, Needs, Amount, Constant, PublicBytes, Target, AppRules, no_app_rules}
 
 -- why a line of rules is refused: a cause of decks, or that no `#@ app` line is above
 pub data RuleCause : Type 0 where
