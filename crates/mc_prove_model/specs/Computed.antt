@@ -1,5 +1,7 @@
 -- The text of a deck's proof, for rows that compute it.
-use Rattle.std.specs.Prelude.{ℕ, ◌≡◌, List, ◌++◌, codes, Result, Ok, Err}
+use Rattle.std.specs.Prelude.{ℕ, Bool, false, List, ◌++◌, codes, Option, Some, None, Result, Ok, Err}
+use Rattle.mc_rule_model.specs.Rules.{AppRules, Target}
+use Rattle.mc_prove_model.specs.Arrivals.{Setting}
 use Rattle.std.specs.Fmt.{digits}
 use Rattle.mc_model_card.specs.Units.{name_of}
 use Rattle.mc_model_machine.specs.Apdu.{apdu_read}
@@ -12,7 +14,7 @@ use Rattle.mc_model_text.specs.TurnText.{turn_line}
 use Rattle.mc_model_play.specs.DeckGrammar.{deck_read}
 use Rattle.mc_explore.specs.Matching.{fits}
 use Rattle.mc_rule_model.specs.Reading.{RuleCause, app_rules_read}
-use Rattle.mc_prove_model.specs.Tables.{prove_text, text_of_read}
+use Rattle.mc_prove_model.specs.Tables.{is_closed, tables_after, prove_text, text_of_read}
 
 -- the text of the proof of a deck's text, after so many steps of the search
 unfoldable pub proof_of : ℕ → List ℕ → Result (List ℕ) (ℕ × RuleCause)
@@ -36,3 +38,18 @@ abbrev pub counter_text : List ℕ
 counter_text =
     codes "idle step 0 done 0: SB[0] 00 SB[1] 00\nidle step 0 done 1:\nidle step 1 done 0:\nidle step 1 done 1:\n"
     ++ codes "session step 0 done 0: SB[0] 00 SB[1] 00\nsession step 0 done 1:\nsession step 1 done 0:\nsession step 1 done 1:\nproved keys 31\n"
+
+-- whether the tables after so many steps of the search are closed
+abbrev pub closed_for : ℕ → AppRules → Option Target → Bool
+closed_for n r None = false
+closed_for n r (Some g) = let s : Setting = record { rules = r; app = g.app } in is_closed s (tables_after n s)
+
+-- whether those of a deck that was read are
+abbrev pub closed_read : ℕ → Result AppRules (ℕ × RuleCause) → Bool
+closed_read n (Err e) = false
+closed_read n (Ok r) = closed_for n r r.target
+
+-- whether the tables of a deck's text are closed after so many steps of the search
+unfoldable pub closed_after : ℕ → List ℕ → Bool
+unfolding digits name_of apdu_read touched_words bytes_at write_effect too_many later_causes causes shape prim_shape turn_line deck_read fits app_rules_read is_closed
+closed_after n text = closed_read n (app_rules_read text)

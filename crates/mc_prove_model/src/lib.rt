@@ -3,3 +3,4 @@
 
 mod laws;
 mod rows;
+mod set_rows;
