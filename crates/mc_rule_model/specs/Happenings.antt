@@ -165,10 +165,7 @@ after_taken name live base budget t h = h
 abbrev pub after_line : List ℕ → State → Step → DeckLine → History → History
 after_line name z t line.Power h = with_session (is_selected_in name z) h
 after_line name (BeforePower m b a) t _ h = h
-after_line name (AfterPower s) t (line.Load u fixed session) h = after_taken name s.live s.base s.budget t h
-after_line name (AfterPower s) t (line.Select n) h = after_taken name s.live s.base s.budget t h
-after_line name (AfterPower s) t (line.Delete n) h = after_taken name s.live s.base s.budget t h
-after_line name (AfterPower s) t (line.Apdu b) h = after_taken name s.live s.base s.budget t h
+after_line name (AfterPower s) t (line.Sent sent) h = after_taken name s.live s.base s.budget t h
 after_line name (AfterPower s) t _ h = h
 
 -- the history after a line that was played; a creation of the name begins it anew

@@ -52,7 +52,7 @@ load_under other l = []
 -- the `load` lines of a deck, each under the name of its unit, in their order
 abbrev pub loads_of : List (ℕ × List (List ℕ)) → List (ℕ × DeckLine) → List (List ℕ × LoadLine)
 loads_of names [] = []
-loads_of names ((n, line.Load u fixed session) ∷ ls) =
+loads_of names ((n, line.Sent (line.Load u fixed session)) ∷ ls) =
     load_under (entry_of_number n names) (record { unit = u; fixed = fixed; session = session }) ++ loads_of names ls
 loads_of names (l ∷ ls) = loads_of names ls
 
