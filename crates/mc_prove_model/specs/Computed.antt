@@ -28,7 +28,7 @@ deck_of code sizes rules = codes "format\npower\napp a A000000001\n" ++ code ++ 
 -- a counter with its rules: one step for each command that is answered with 9000
 abbrev pub counter_deck : List ℕ
 counter_deck =
-    codes "format\npower\nunit counter 0000000000000000000FB902000039020000460200000600020000000961074F05A00000000100000000096F078405A00000000100000000\n"
+    codes "format\npower\nunit counter 0000000000000000000FB902000039020000460200000600020000000961074F05A00000000100096F078405A00000000100000000\n"
     ++ codes "load counter 2 0\nselect A000000001\napdu 8001000002\n#@ app counter\n#@ allow step 0\n#@ on command * allow step 1\n"
     ++ codes "#@ on turn 1*INCN SB[0],2* spend step 1\n#@ allow done 0\n#@ on command * allow done 0\n#@ on turn *INCN SB[0],2* allow done 1\n"
     ++ codes "#@ on answer * gives *9000 need done 1\n#@ never abend\n"

@@ -2,7 +2,7 @@
 
 // Worked rows: the whole texts of small proofs.
 ghost use Rattle.std.specs.Prelude.{◌≡◌, ◌++◌, codes, true, false, Ok};
-ghost use Rattle.mc_prove_model.specs.Computed.{closed_after, proof_of, deck_of};
+ghost use Rattle.mc_prove_model.specs.Computed.{closed_after, proof_of, deck_of, counter_deck, counter_text};
 
 /// An application that does nothing: a moment without a session and one in it, and the first place of a frame that a
 /// command or a delegation began.
@@ -46,4 +46,9 @@ pub fn closing()
     ensures broken { closed_after 40 (deck_of (codes "SETB SB[0],1\nEXIT\n") (codes "1 0")
         (codes "#@ always SB[0] 0 0\n"))
         ≡ false }
+{}
+
+/// A counter that answers 9000 only where it has counted, and counts at most once for each command.
+pub fn counter()
+    ensures { proof_of 800 counter_deck ≡ Ok counter_text }
 {}
