@@ -27,7 +27,8 @@ pub fn digits_lie_on_ways()
     ensures { DigitsLaw }
 {}
 
-/// The values of the bytes that decide an instruction are one of their combinations, each of which is followed by itself.
+/// The values of the bytes that decide an instruction are one of their combinations, and each of these is followed by
+/// itself.
 pub fn splits_are_all()
     ensures { SplitLaw }
 {}
