@@ -3,7 +3,7 @@ ghost use Rattle.mc_model_device.specs.Bytes.{be2};
 ghost use Rattle.mc_model_device.specs.Card.{word, used_tag};
 ghost use Rattle.mc_model_device.specs.Layout.{hole_header, used_header, root};
 
-use mc_base::{Word, bytes_of, number_of};
+use mc_base::{Word, bytes_of};
 use mc_nvm::Nvm;
 
 /// The first byte of the header of a used block.
@@ -31,7 +31,7 @@ pub fn read_header<N: Nvm>(device: &N, place: u32) -> Header
     let word = device.read(place);
     Header {
         used: word[0] == USED,
-        words: number_of(word[2], word[3]),
+        words: u16::from_be_bytes([word[2], word[3]]),
     }
 }
 
