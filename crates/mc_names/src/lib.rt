@@ -1,0 +1,9 @@
+#![tactic(auto)]
+
+//! The names and labels of a draft's sections, as JSON Lines.
+
+mod entry;
+mod listing;
+mod text;
+
+pub use listing::names_of;
