@@ -2,33 +2,34 @@
 use Rattle.std.proofs.Common.{◌≡◌, ℕ, Option, Some, None, Result, sym, subst}
 use Rattle.mc_model_device.specs.Counts.{Rose}
 use Rattle.mc_streams.specs.declared.refusals.WriteFault.{WriteFault as Fault}
-use Rattle.mc_text.specs.Texts.{Puts}
+use Rattle.mc_text.specs.Texts.{Puts, Sunk}
 use Rattle.mc_filter.specs.Inputs.{TookLimited}
-use Rattle.mc_filter.specs.Outside.{IsWithoutFault, Outside, SaysNoForm, SaysNoMemory, SaysReadFault, Untouched}
+use Rattle.mc_filter.specs.Outside.{Completes, IsWithoutFault, Outside, SaysNoForm, SaysNoMemory, SaysReadFault, Untouched}
 use Rattle.mc_filter.specs.Statuses.{number_of, status_after_writing}
 use Rattle.mc_filter.specs.declared.status.Status.{Status}
 use Rattle.mc_filter.specs.declared.status.Status.TheVariants.{Done, Failed, NoForm}
 use Rattle.mc_filter.proofs.Outside as filter
 use Rattle.mc_filter.proofs.Statuses.{same_status, written_whole}
 use Rattle.meldesk.specs.declared.job.Text.{Text}
-use Rattle.meldesk.specs.Jobs.{usage, DeskJob, Makes, Shows}
-use Rattle.meldesk.specs.Statuses.{status_of, DeskOutside, IsTextWritten, MeldeskCompletes, MeldeskDone, MeldeskSays, TextWhole}
+use Rattle.meldesk.specs.declared.job.Text.TheVariants as text
+use Rattle.meldesk.specs.Jobs.{told_text, usage, DeskJob, Makes, Shows, Tells}
+use Rattle.meldesk.specs.Statuses.{status_if, status_of, DeckDone, DeckSays, DeckWhole, DeskOutside, IsDeckWritten, IsTextWritten, MakesSays, MakesWhole, MeldeskCompletes, MeldeskDone, MeldeskSays, TextSays, TextWhole}
 use Rattle.meldesk.specs.Verdicts.{IsTextOf, JobVerdict, Refusal, Whole}
 use Rattle.meldesk.proofs.PlayLemmas.{show_completes}
 
 -- ---- words that select no job
 
-pub says_no_form : (Kept : Type 0) (work : Option DeskJob) (a : DeskOutside) (r : Result (Unit {0}) Fault) (s : Status) → work ≡ None → s ≡ status_after_writing NoForm r → Kept → Untouched a.streams → Puts a.streams.out_old usage r a.streams.out
+pub says_no_form : (Kept : Type 0) (work : Option DeskJob) (a : DeskOutside) (r : Result (Unit {0}) Fault) (s : Status) → work ≡ None → s ≡ status_after_writing NoForm r → Kept → a.err ≡ a.err_old → Untouched a.streams → Puts a.streams.out_old usage r a.streams.out
     → MeldeskSays Kept s work a
-says_no_form Kept work a r s none e kept still put =
+says_no_form Kept work a r s none e kept quiet still put =
     subst (λ (o : Option DeskJob). MeldeskSays Kept s o a) (sym none)
-    (filter.says_no_job (λ (q : Status). SaysNoForm usage q a.streams) r s e (record { source = still; written = record { result = r; status = e; written = put } }), kept)
+    (filter.says_no_job (λ (q : Status). SaysNoForm usage q a.streams) r s e (record { source = still; written = record { result = r; status = e; written = put } }), kept, quiet)
 
 -- ---- completeness
 
 -- the verdict was carried out completely
 done_whole : (v : JobVerdict) (s : Status) (a : Outside) → (Rose a.out_old.faults a.out.faults → ⊥) → IsTextWritten v s a → s ≡ status_of v
-done_whole (Whole text) s a quiet d = written_whole a.out_old a.out text Done s d.result quiet d.status d.written
+done_whole (Whole fine text) s a quiet d = written_whole a.out_old a.out text (status_if fine) s d.result quiet d.status d.written
 done_whole (Refusal line) s a quiet d = written_whole a.out_old a.out line Failed s d.result quiet d.status d.written
 
 whole : (t : Text) (a : Outside) (s : Status) → IsWithoutFault a → MeldeskDone t a s → TextWhole t a s
@@ -40,11 +41,40 @@ whole t a s quiet says =
       done = says.done;
     }
 
+text_completes : (s : Status) (t : Text) (a : Outside) → TextSays s t a → Completes (TextWhole t a s) s a
+text_completes s t a says =
+    filter.complete (MeldeskDone t a) (TextWhole t a) (SaysReadFault (TookLimited a.input_old a.input) a) (SaysNoMemory (TookLimited a.input_old a.input) a) a s (whole t a) (λ f. f.cause) says
+
+-- the verdict of a deck was carried out completely
+deck_done : (v : JobVerdict) (s : Status) (a : Outside) (x y : Sunk) → (Rose a.out_old.faults a.out.faults → ⊥) → (Rose x.faults y.faults → ⊥) → IsDeckWritten v s a x y → s ≡ status_of v
+deck_done (Whole fine text) s a x y quiet calm d = written_whole a.out_old a.out text (status_if fine) s (d.0).result quiet (d.0).status (d.0).written
+deck_done (Refusal line) s a x y quiet calm d = written_whole x y line Failed s (d.0).result calm (d.0).status (d.0).written
+
+deck_whole : (a : Outside) (x y : Sunk) (s : Status) → (Rose x.faults y.faults → ⊥) → IsWithoutFault a → DeckDone a x y s → DeckWhole a x y s
+deck_whole a x y s calm quiet says =
+    record {
+      verdict = says.verdict;
+      due = filter.all_stands Refusal (IsTextOf text.Deck) a.input_old a.input says.verdict says.due;
+      status = deck_done says.verdict s a x y quiet.writes calm says.done;
+      done = says.done;
+    }
+
+deck_completes : (s : Status) (a : Outside) (x y : Sunk) → DeckSays s a x y → (Rose x.faults y.faults → ⊥) → Completes (DeckWhole a x y s) s a
+deck_completes s a x y says calm =
+    filter.complete (DeckDone a x y) (DeckWhole a x y) (SaysReadFault (TookLimited a.input_old a.input) a × (y ≡ x)) (SaysNoMemory (TookLimited a.input_old a.input) a × (y ≡ x)) a s (λ t quiet did. deck_whole a x y t calm quiet did) (λ f. (f.0).cause) says
+
+makes_whole : (s : Status) (t : Text) (a : DeskOutside) → MakesSays s t a → MakesWhole s t a
+makes_whole s text.Deck a says = deck_completes s a.streams a.err_old a.err says
+makes_whole s text.Listing a says = text_completes s text.Listing a.streams says.0
+makes_whole s text.Verdicts a says = text_completes s text.Verdicts a.streams says.0
+makes_whole s text.Names a says = text_completes s text.Names a.streams says.0
+
 completes : (Kept : Type 0) (s : Status) (work : Option DeskJob) (a : DeskOutside) → MeldeskSays Kept s work a → MeldeskCompletes Kept s work a
-completes Kept s (Some (Makes t)) a says =
-    let b = a.streams in
-    filter.complete (MeldeskDone t b) (TextWhole t b) (SaysReadFault (TookLimited b.input_old b.input) b) (SaysNoMemory (TookLimited b.input_old b.input) b) b s (whole t b) (λ f. f.cause) says.0
-completes Kept s (Some (Shows p)) a says = show_completes Kept p s a.streams a.dev_old a.dev says
+completes Kept s (Some (Makes t)) a says = makes_whole s t a says.0
+completes Kept s (Some (Shows p)) a says = show_completes Kept p s a.streams a.dev_old a.dev says.0
+completes Kept s (Some (Tells t)) a says =
+    let w = says.0.1 in
+    λ quiet. written_whole a.streams.out_old a.streams.out (told_text t) Done s w.result quiet w.status w.written
 completes Kept s None a says = tt
 
 -- a job is complete at the number of a status

@@ -12,7 +12,7 @@ use Rattle.mc_desk.specs.Listings.{Desk, desk_read, draft_listing, listing_of, s
 use Rattle.mc_desk.proofs.DeskLemmas as desk
 use Rattle.meldesk.specs.Checks.{ShowsVerdicts}
 use Rattle.meldesk.specs.Running.{refused_desk, refused_draft, RejectsAs}
-use Rattle.meldesk.specs.Verdicts.{has_long_deck, is_long, of_listing, of_text, IsCheckOf, JobVerdict, Refusal, Whole}
+use Rattle.meldesk.specs.Verdicts.{has_long_deck, is_long, of_listing, of_text, IsCheckOf, IsNamesOf, JobVerdict, Refusal, Whole}
 
 -- ---- lines
 
@@ -28,7 +28,7 @@ deck_known : (t : List ℕ) (r : Result Draft (ℕ × DeckCause)) → draft_read
 unfolding deck_of
 deck_known t r h = ap (ok_as (λ (d : Draft). d.deck)) h
 
-pub deck_made : (t : List ℕ) (d : Draft) → draft_read t ≡ Ok d → Whole d.deck ≡ of_text (deck_of t)
+pub deck_made : (t : List ℕ) (d : Draft) → draft_read t ≡ Ok d → Whole true d.deck ≡ of_text (deck_of t)
 deck_made t d h = sym (ap of_text (deck_known t (Ok d) h))
 
 deck_line_refused : (t line : List ℕ) (r : Result Draft (ℕ × DeckCause)) → draft_read t ≡ r → refused_draft r line → Refusal line ≡ of_text (deck_of t)
@@ -92,7 +92,7 @@ listing_by : (t : List ℕ) (b : Bool) (r : Result Desk (ℕ × DeckCause)) → 
 unfolding draft_listing
 listing_by t b r long is = ap (λ (c : Bool). of_listing c (ok_as (λ (d : Desk). listing_of d.sources) (desk_read t))) long ∙ ap (λ (q : Result Desk (ℕ × DeckCause)). of_listing b (ok_as (λ (d : Desk). listing_of d.sources) q)) is
 
-pub listing_made : (t : List ℕ) (d : Desk) → has_long_deck t ≡ false → desk_read t ≡ Ok d → Whole (listing_of d.sources) ≡ of_listing (has_long_deck t) (draft_listing t)
+pub listing_made : (t : List ℕ) (d : Desk) → has_long_deck t ≡ false → desk_read t ≡ Ok d → Whole true (listing_of d.sources) ≡ of_listing (has_long_deck t) (draft_listing t)
 listing_made t d short is = sym (listing_by t false (Ok d) short is)
 
 listing_refused : (t line : List ℕ) (b : Bool) (r : Result Desk (ℕ × DeckCause)) → has_long_deck t ≡ b → desk_read t ≡ r → refused_desk b r line → Refusal line ≡ of_listing (has_long_deck t) (draft_listing t)
@@ -109,8 +109,8 @@ listing_rejected t e h =
 check_by : (t : List ℕ) (b : Bool) (r : Result Desk (ℕ × DeckCause)) (v : JobVerdict) → has_long_deck t ≡ b → desk_read t ≡ r → IsCheckOf b r v → IsCheckOf (has_long_deck t) (desk_read t) v
 check_by t b r v long is h = subst (λ (c : Bool). IsCheckOf c (desk_read t) v) (sym long) (subst (λ (q : Result Desk (ℕ × DeckCause)). IsCheckOf b q v) (sym is) h)
 
-pub check_made : (t text : List ℕ) (d : Desk) → has_long_deck t ≡ false → desk_read t ≡ Ok d → ShowsVerdicts d d.lines text → IsCheckOf (has_long_deck t) (desk_read t) (Whole text)
-check_made t text d short is shows = check_by t false (Ok d) (Whole text) short is (text, refl, shows)
+pub check_made : (t text : List ℕ) (fine : Bool) (d : Desk) → has_long_deck t ≡ false → desk_read t ≡ Ok d → ShowsVerdicts d d.lines fine text → IsCheckOf (has_long_deck t) (desk_read t) (Whole fine text)
+check_made t text fine d short is shows = check_by t false (Ok d) (Whole fine text) short is (fine, text, refl, shows)
 
 check_refused : (line : List ℕ) (b : Bool) (r : Result Desk (ℕ × DeckCause)) → refused_desk b r line → IsCheckOf b r (Refusal line)
 check_refused line true r h = ap Refusal h
@@ -120,3 +120,24 @@ check_refused line false (Err e) h = ap Refusal h
 pub check_rejected : (t : List ℕ) (e : Rejection) → Rejects (refused_desk (has_long_deck t) (desk_read t)) e → RejectsAs (IsCheckOf (has_long_deck t) (desk_read t)) e
 check_rejected t e h =
     rejects_as (refused_desk (has_long_deck t) (desk_read t)) (λ (line : List ℕ). IsCheckOf (has_long_deck t) (desk_read t) (Refusal line)) e (λ line is. check_refused line (has_long_deck t) (desk_read t) is) h
+
+-- ---- the names
+
+names_by : (t : List ℕ) (b : Bool) (r : Result Desk (ℕ × DeckCause)) (v : JobVerdict) → has_long_deck t ≡ b → desk_read t ≡ r → IsNamesOf b r v → IsNamesOf (has_long_deck t) (desk_read t) v
+names_by t b r v long is h = subst (λ (c : Bool). IsNamesOf c (desk_read t) v) (sym long) (subst (λ (q : Result Desk (ℕ × DeckCause)). IsNamesOf b q v) (sym is) h)
+
+pub names_made : (t text : List ℕ) (d : Desk) → has_long_deck t ≡ false → desk_read t ≡ Ok d → IsNamesOf (has_long_deck t) (desk_read t) (Whole true text)
+names_made t text d short is = names_by t false (Ok d) (Whole true text) short is (text, refl)
+
+names_refused : (line : List ℕ) (b : Bool) (r : Result Desk (ℕ × DeckCause)) → refused_desk b r line → IsNamesOf b r (Refusal line)
+names_refused line true r h = ap Refusal h
+names_refused line false (Ok d) h = absurd h
+names_refused line false (Err e) h = ap Refusal h
+
+pub names_rejected : (t : List ℕ) (e : Rejection) → Rejects (refused_desk (has_long_deck t) (desk_read t)) e → RejectsAs (IsNamesOf (has_long_deck t) (desk_read t)) e
+names_rejected t e h =
+    rejects_as (refused_desk (has_long_deck t) (desk_read t)) (λ (line : List ℕ). IsNamesOf (has_long_deck t) (desk_read t) (Refusal line)) e (λ line is. names_refused line (has_long_deck t) (desk_read t) is) h
+
+-- out of memory, whatever the names are
+pub names_short : (t : List ℕ) (e : Rejection) → e ≡ rejection.NoMemory → RejectsAs (IsNamesOf (has_long_deck t) (desk_read t)) e
+names_short t e is = subst (λ (e : Rejection). RejectsAs (IsNamesOf (has_long_deck t) (desk_read t)) e) (sym is) tt

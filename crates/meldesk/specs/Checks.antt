@@ -1,5 +1,5 @@
 -- The verdicts of the stack checker on the code of a deck's load lines.
-use Rattle.std.specs.Prelude.{◌≡◌, ℕ, List, [], ◌∷◌, ◌++◌, Ok, Err}
+use Rattle.std.specs.Prelude.{◌≡◌, ℕ, Bool, true, false, List, [], ◌∷◌, ◌++◌, Ok, Err}
 use Rattle.mc_model_play.specs.DeckGrammar.{DeckLine}
 use Rattle.mc_model_play.specs.DeckGrammar as line
 use Rattle.mc_check.specs.declared.verdict.Verdict.{Verdict}
@@ -28,14 +28,28 @@ AreVerdicts [] vs = vs ≡ []
 AreVerdicts ((n, line.Sent (line.Load u fixed session)) ∷ ls) vs = IsJudged n u.code session (AreVerdicts ls) vs
 AreVerdicts ((n, _) ∷ ls) vs = AreVerdicts ls vs
 
--- a text has a line for each of these load lines of a draft's deck: a verdict, with the source line of a refused place
-pub record ShowsVerdicts (d : Desk) (ls : List (ℕ × DeckLine)) (shown : List ℕ) : Type 0 where
+-- whether all verdicts accept up to this one, if those before it did or not
+abbrev pub accepts : Bool → CodeVerdict → Bool
+accepts fine (Ok deepest) = fine
+accepts fine (Err e) = false
+
+-- whether all verdicts accept up to the last of these, if those before them did or not
+abbrev pub all_accept : Bool → List (ℕ × CodeVerdict) → Bool
+all_accept fine [] = fine
+all_accept fine (v ∷ vs) = all_accept (accepts fine v.1) vs
+
+-- a text has a line for each of these load lines of a draft's deck: a verdict, with the source line of a refused place;
+-- and all their code is accepted or not
+pub record ShowsVerdicts (d : Desk) (ls : List (ℕ × DeckLine)) (fine : Bool) (shown : List ℕ) : Type 0 where
   pub verdicts : List (ℕ × CodeVerdict)
   pub are : AreVerdicts ls verdicts
   pub text : shown ≡ verdict_lines d verdicts
+  pub accepted : fine ≡ all_accept true verdicts
 
--- a text grew by the lines of verdicts on a line of the deck, which are one for a load line and none for any other
-pub record AddsVerdicts (d : Desk) (l : ℕ × DeckLine) (old new : List ℕ) : Type 0 where
+-- a text grew by the lines of verdicts on a line of the deck, which are one for a load line and none for any other; and
+-- whether all code was accepted, before the line and after it
+pub record AddsVerdicts (d : Desk) (l : ℕ × DeckLine) (before after : Bool) (old new : List ℕ) : Type 0 where
   pub verdicts : List (ℕ × CodeVerdict)
   pub are : AreVerdicts (l ∷ []) verdicts
   pub grew : new ≡ old ++ verdict_lines d verdicts
+  pub fine : after ≡ all_accept before verdicts

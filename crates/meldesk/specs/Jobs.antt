@@ -1,5 +1,5 @@
 -- The jobs that the words of the command line select.
-use Rattle.std.specs.Prelude.{ℕ, Bool, not, ◌&&◌, nat_le, ◌==◌, List, [], ◌∷◌, length, bytes_eq, codes, cond, string_bytes, is_none, Option, Some, None}
+use Rattle.std.specs.Prelude.{ℕ, Bool, not, ◌&&◌, nat_le, ◌==◌, List, [], ◌∷◌, ◌++◌, length, bytes_eq, codes, cond, string_bytes, is_none, Option, Some, None}
 use Rattle.std.specs.declared.alloc.Global.{Global}
 use Rattle.std.specs.declared.string.String.{String}
 use Rattle.mc_model_text.specs.Text.{first_cut, is_empty}
@@ -7,6 +7,8 @@ use Rattle.meldesk.specs.declared.job.Job.{Job}
 use Rattle.meldesk.specs.declared.job.Job.TheVariants as job
 use Rattle.meldesk.specs.declared.job.Play.{Play}
 use Rattle.meldesk.specs.declared.job.Play.TheVariants as play
+use Rattle.meldesk.specs.declared.job.Told.{Told}
+use Rattle.meldesk.specs.declared.job.Told.TheVariants as told
 use Rattle.meldesk.specs.declared.job.Text.{Text}
 use Rattle.meldesk.specs.declared.job.Text.TheVariants as text
 
@@ -15,10 +17,11 @@ pub data Shown : Type 0 where
   Trace : Shown
   Coverage : (name : List ℕ) → Shown
 
--- a job: a text made from a draft, or what is shown of the play of its deck
+-- a job: a text made from a draft, what is shown of the play of its deck, or what the program says of itself
 pub data DeskJob : Type 0 where
   Makes : (text : Text) → DeskJob
   Shows : (shown : Shown) → DeskJob
+  Tells : (told : Told) → DeskJob
 
 -- what a play of the code shows
 abbrev pub shown_by : Play → Shown
@@ -29,12 +32,17 @@ shown_by (play.Cover name) = Coverage name.now
 abbrev pub job_value : Job → DeskJob
 job_value (job.Write t) = Makes t
 job_value (job.Play p) = Shows (shown_by p)
+job_value (job.Tell t) = Tells t
 
 -- the job that a word selects
 abbrev pub job_named : List ℕ → Option DeskJob
 job_named w =
     cond (bytes_eq w (codes "deck")) (Some (Makes text.Deck)) (cond (bytes_eq w (codes "list")) (Some (Makes text.Listing)) (
-    cond (bytes_eq w (codes "check")) (Some (Makes text.Verdicts)) (cond (bytes_eq w (codes "trace")) (Some (Shows Trace)) None)
+    cond (bytes_eq w (codes "check")) (Some (Makes text.Verdicts)) (cond (bytes_eq w (codes "names")) (Some (Makes text.Names)) (
+    cond (bytes_eq w (codes "trace")) (Some (Shows Trace)) (
+    cond (bytes_eq w (codes "--help")) (Some (Tells told.Help)) (cond (bytes_eq w (codes "--version")) (Some (Tells told.Version)) None)
+    )
+    ))
     ))
 
 -- whether a record may have this as the name of its file: 1 to 255 bytes, none of them a line feed
@@ -54,4 +62,22 @@ job_of (w ∷ n ∷ x ∷ ws) = None
 
 -- the text that is written if the words select no job
 abbrev pub usage : List ℕ
-usage = codes "usage: meldesk deck | list | check | trace | cover NAME\n"
+usage = codes "usage: meldesk deck | list | check | trace | names | cover NAME\n"
+
+-- the version
+abbrev pub version : List ℕ
+version = codes "meldesk 3\n"
+
+-- what the program reads and writes, its jobs, an example, and its page
+abbrev pub help : List ℕ
+help =
+    codes "usage: meldesk deck | list | check | trace | names | cover NAME\n\nmeldesk reads a draft from standard input, a deck in whose app sections bytes and numbers have names, and writes to standard output.\n\n" ++
+    codes "  deck        the deck of the draft\n  list        the code of each section line by line\n  check       the stack checker's verdicts, with source lines; status 1 if code is refused\n" ++
+    codes "  trace       plays the deck: its trace, with source lines, operands and stack\n" ++
+    codes "  names       the names and labels of the sections as lines of JSON\n  cover NAME  plays the deck: how often each line ran, as an LCOV record for the file NAME\n\n" ++
+    codes "Example: meldesk deck < purse.draft | melcard play\nThe page is docs/DESK.md.\n"
+
+-- what the program says of itself
+abbrev pub told_text : Told → List ℕ
+told_text told.Help = help
+told_text told.Version = version

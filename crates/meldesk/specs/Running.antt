@@ -2,7 +2,6 @@
 use Rattle.std.specs.Prelude.{◌≡◌, ℕ, Bool, true, false, List, Result, Ok, Err}
 use Rattle.mc_model_play.specs.declared.deck.DeckCause.{DeckCause}
 use Rattle.mc_filter.specs.declared.status.Status.{Status}
-use Rattle.mc_filter.specs.declared.status.Status.TheVariants.{Done}
 use Rattle.mc_filter.specs.Inputs.{FailsReading, ReadsLimited, Rejects}
 use Rattle.mc_filter.specs.Lines.{deck_line, too_long}
 use Rattle.mc_filter.specs.Outside.{IsRead, Outside}
@@ -11,6 +10,7 @@ use Rattle.mc_filter.specs.declared.rejection.Rejection.{Rejection}
 use Rattle.mc_filter.specs.declared.rejection.Rejection.TheVariants as rejection
 use Rattle.mc_desk.specs.Listings.{Desk}
 use Rattle.meldesk.specs.declared.job.Text.{Text}
+use Rattle.meldesk.specs.Statuses.{status_if}
 use Rattle.meldesk.specs.Verdicts.{IsTextOf, JobVerdict, Refusal, Whole}
 
 -- the line that refuses a draft
@@ -37,6 +37,7 @@ RejectsText t a rejection.NoMemory = ReadsLimited a.input_old a.input
 
 -- the text of a draft was written
 pub record WritesDraft (t : Text) (s : Status) (a : Outside) : Type 0 where
+  pub fine : Bool
   pub text : List ℕ
-  pub due : IsRead Refusal (IsTextOf t) a.input_old a.input (Whole text)
-  pub written : IsWritten Done text s a.out_old a.out
+  pub due : IsRead Refusal (IsTextOf t) a.input_old a.input (Whole fine text)
+  pub written : IsWritten (status_if fine) text s a.out_old a.out

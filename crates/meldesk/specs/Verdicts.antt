@@ -9,9 +9,9 @@ use Rattle.meldesk.specs.declared.job.Text.{Text}
 use Rattle.meldesk.specs.declared.job.Text.TheVariants as text
 use Rattle.meldesk.specs.Checks.{ShowsVerdicts}
 
--- the verdict on a draft: the complete text of a job, or the line of a refusal
+-- the verdict on a draft: the complete text of a job, and whether the draft passes it, or the line of a refusal
 pub data JobVerdict : Type 0 where
-  Whole : (text : List ℕ) → JobVerdict
+  Whole : (fine : Bool) (text : List ℕ) → JobVerdict
   Refusal : (line : List ℕ) → JobVerdict
 
 -- ---- refusals
@@ -27,7 +27,7 @@ has_long_deck draft = is_long (deck_of draft)
 
 -- the verdict with a text, or its refusal
 abbrev pub of_text : Result (List ℕ) (ℕ × DeckCause) → JobVerdict
-of_text (Ok t) = Whole t
+of_text (Ok t) = Whole true t
 of_text (Err e) = Refusal (deck_line e)
 
 -- the verdict with a listing of a draft, whose deck may not be too long
@@ -38,8 +38,14 @@ of_listing false listing = of_text listing
 -- the verdict with the stack checker's verdicts on a draft, whose deck may not be too long
 abbrev pub IsCheckOf : Bool → Result Desk (ℕ × DeckCause) → JobVerdict → Type 0
 IsCheckOf true desk v = v ≡ Refusal too_long
-IsCheckOf false (Ok d) v = (text : List ℕ) × (v ≡ Whole text) × ShowsVerdicts d d.lines text
+IsCheckOf false (Ok d) v = (fine : Bool) × (text : List ℕ) × (v ≡ Whole fine text) × ShowsVerdicts d d.lines fine text
 IsCheckOf false (Err e) v = v ≡ Refusal (deck_line e)
+
+-- the verdict with the names of a draft, whose deck may not be too long
+abbrev pub IsNamesOf : Bool → Result Desk (ℕ × DeckCause) → JobVerdict → Type 0
+IsNamesOf true desk v = v ≡ Refusal too_long
+IsNamesOf false (Ok d) v = (text : List ℕ) × (v ≡ Whole true text)
+IsNamesOf false (Err e) v = v ≡ Refusal (deck_line e)
 
 -- ---- jobs
 
@@ -48,3 +54,4 @@ abbrev pub IsTextOf : Text → List ℕ → JobVerdict → Type 0
 IsTextOf text.Deck draft v = v ≡ of_text (deck_of draft)
 IsTextOf text.Listing draft v = v ≡ of_listing (has_long_deck draft) (draft_listing draft)
 IsTextOf text.Verdicts draft v = IsCheckOf (has_long_deck draft) (desk_read draft) v
+IsTextOf text.Names draft v = IsNamesOf (has_long_deck draft) (desk_read draft) v

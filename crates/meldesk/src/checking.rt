@@ -4,8 +4,9 @@ ghost use Rattle.mc_deck.specs.Lines.{line_of, GoodLine};
 ghost use Rattle.mc_desk.specs.Listings.{Desk};
 ghost use Rattle.mc_desk.specs.Loads.{AreLoads};
 ghost use Rattle.mc_desk.specs.Verdicts.{verdict_line, verdict_text};
-ghost use Rattle.meldesk.specs.Checks.{verdict_value, AddsVerdicts, ShowsVerdicts};
+ghost use Rattle.meldesk.specs.Checks.{accepts, verdict_value, AddsVerdicts, ShowsVerdicts};
 
+use crate::made::Made;
 use itoa::Buffer;
 use mc_base::NoMemory;
 use mc_check::{CheckCause, Verdict, check};
@@ -82,39 +83,55 @@ fn push_verdict(
     Ok(())
 }
 
+// Whether all code is accepted after a verdict, if it was before or not.
+fn accepts(fine: bool, verdict: &Verdict) -> bool
+    ensures { result ≡ accepts fine (verdict_value verdict.now) }
+{
+    match *verdict {
+        Verdict::Accept { deepest: _ } => fine,
+        Verdict::Refuse { place: _, cause: _ } => false,
+    }
+}
+
 // Adds the line of a load line, and nothing for any other line.
 fn push_line(
     alloc: Global,
-    text: &mut Vec<u8>,
+    made: &mut Made,
     loads: &Loads<'_, '_>,
     number: u32,
     line: &Line<'_>,
 ) -> Result<(), NoMemory>
     requires { GoodLine (line_of line.now) }
     ensures { OnOk result ((d : Desk) → AreLoads loads.now d.deck d.sources
-        → AddsVerdicts d (number, line_of line.now) text.old.items text.new.items) }
+        → AddsVerdicts d (number, line_of line.now) made.old.fine made.new.fine made.old.text.items
+        made.new.text.items) }
 {
     let Line::Load { unit, session, .. } = line else {
         return Ok(());
     };
     let verdict = check(alloc, unit.code, *session)?;
-    push_verdict(text, loads, number, &verdict)
+    made.fine = accepts(made.fine, &verdict);
+    push_verdict(&mut made.text, loads, number, &verdict)
 }
 
 /// Returns a text with a line for each load line of a deck, in order: its number, and the stack checker's verdict
-/// on its unit's code with its session size, with the source line of the place that is refused.
+/// on its unit's code with its session size, with the source line of the place that is refused. It is fine if all code
+/// is accepted.
 ///
 /// # Errors
 ///
 /// Returns `NoMemory` if out of memory.
-pub fn verdicts_of(alloc: Global, loads: &Loads<'_, '_>, deck: &Deck) -> Result<Vec<u8>, NoMemory>
-    ensures { IfOk result (λ text. (d : Desk) → AreLoads loads.now d.deck d.sources
-        → ShowsVerdicts d deck.now text.items) }
+pub fn verdicts_of(alloc: Global, loads: &Loads<'_, '_>, deck: &Deck) -> Result<Made, NoMemory>
+    ensures { IfOk result (λ made. (d : Desk) → AreLoads loads.now d.deck d.sources
+        → ShowsVerdicts d deck.now made.fine made.text.items) }
 {
-    let mut text = Vec::new(alloc);
+    let mut made = Made {
+        text: Vec::new(alloc),
+        fine: true,
+    };
     for i in 0..deck.len() {
         let (number, line) = deck.line(i);
-        push_line(alloc, &mut text, loads, number, &line)?;
+        push_line(alloc, &mut made, loads, number, &line)?;
     }
-    Ok(text)
+    Ok(made)
 }

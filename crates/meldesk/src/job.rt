@@ -13,6 +13,17 @@ pub enum Text {
     Listing,
     /// The stack checker's verdict on the code of each load line, with the source line of a place that is refused.
     Verdicts,
+    /// The names and labels of each section as JSON Lines.
+    Names,
+}
+
+/// What the program says of itself.
+#[derive(Clone, Copy, Debug, PartialEq, Eq)]
+pub enum Told {
+    /// What it reads and writes, its jobs, an example, and its page.
+    Help,
+    /// Its version.
+    Version,
 }
 
 /// What is shown of a play of the draft's deck.
@@ -31,6 +42,8 @@ pub enum Job<'a> {
     Write(Text),
     /// Plays the deck of the draft and writes what is shown of the play.
     Play(Play<'a>),
+    /// Says something of the program.
+    Tell(Told),
 }
 
 // The job that one word names.
@@ -41,7 +54,10 @@ fn job_named<'a>(word: &str) -> Option<Job<'a>>
         "deck" => Some(Job::Write(Text::Deck)),
         "list" => Some(Job::Write(Text::Listing)),
         "check" => Some(Job::Write(Text::Verdicts)),
+        "names" => Some(Job::Write(Text::Names)),
         "trace" => Some(Job::Play(Play::Trace)),
+        "--help" => Some(Job::Tell(Told::Help)),
+        "--version" => Some(Job::Tell(Told::Version)),
         _ => None,
     }
 }

@@ -4,10 +4,12 @@
 
 mod checking;
 mod job;
+mod made;
 mod playing;
 #[cfg(test)]
 mod purse;
 mod running;
+mod telling;
 #[cfg(test)]
 mod tests;
 
@@ -39,11 +41,13 @@ fn program<L: Ledger>(rt: &HostRuntime, blank: Blank) -> u8
     };
     let mut input = StdSource::new(rt.stdin());
     let mut out = StdSink::new(rt.stdout());
+    let mut err = StdSink::new(rt.stderr());
     meldesk(
         alloc,
         words.as_slice(),
         &mut input,
         &mut out,
+        &mut err,
         &mut device,
         &mut steps,
     )

@@ -13,25 +13,28 @@ ghost use Rattle.mc_desk.specs.Loads.{desk_value};
 ghost use Rattle.mc_desk.specs.Written.{draft_value};
 ghost use Rattle.meldesk.specs.Jobs.{job_of, job_value, Makes};
 ghost use Rattle.meldesk.specs.Running.{refused_desk, refused_draft, RejectsAs, RejectsText, WritesDraft};
-ghost use Rattle.meldesk.specs.Statuses.{desk_outside, MeldeskCompletes, MeldeskSays, TextSays};
-ghost use Rattle.meldesk.specs.Verdicts.{has_long_deck, of_listing, of_text, IsCheckOf, IsTextOf, Whole};
+ghost use Rattle.meldesk.specs.Statuses.{desk_outside, status_if, DeckSays, MeldeskCompletes, MeldeskSays, TextSays};
+ghost use Rattle.meldesk.specs.Verdicts.{has_long_deck, of_listing, of_text, IsCheckOf, IsNamesOf, IsTextOf, Whole};
 
 use crate::checking::verdicts_of;
 use crate::job::{Job, Text, job_of};
+use crate::made::Made;
 use crate::playing::show;
-use mc_base::Steps;
+use crate::telling::tell;
+use mc_base::{NoMemory, Steps};
 use mc_deck::DeckRefusal;
 use mc_desk::{Desk, Draft, Loads, listing_of, read_draft, sources_of};
 use mc_filter::{
     INPUT_LIMIT, Rejection, Status, deck_of, ended, number, read_input, refused, reject, too_long,
 };
+use mc_names::names_of;
 use mc_nvm::Bench;
 use mc_streams::{Sink, Source, put_all};
 use std::alloc::Global;
 use std::sync::ledger::Ledger;
 
 // The text that is written if the words select no job.
-const USAGE: &[u8] = b"usage: meldesk deck | list | check | trace | cover NAME\n";
+const USAGE: &[u8] = b"usage: meldesk deck | list | check | trace | names | cover NAME\n";
 
 // Reads a draft, or returns the line that refuses it.
 fn draft_of(alloc: Global, text: &[u8]) -> Result<Draft<'_>, Rejection>
@@ -72,27 +75,32 @@ pub fn desk_of(alloc: Global, text: &[u8]) -> Result<Desk<'_>, Rejection>
 }
 
 // The deck of a draft.
-fn deck_text(alloc: Global, draft: &[u8]) -> Result<Vec<u8>, Rejection>
-    ensures { MatchResult result (λ t. Whole t.items ≡ of_text (deck_of draft.now))
+fn deck_text(alloc: Global, draft: &[u8]) -> Result<Made, Rejection>
+    ensures { MatchResult result (λ m. Whole m.fine m.text.items ≡ of_text (deck_of draft.now))
         (RejectsAs (λ v. v ≡ of_text (deck_of draft.now))) }
 {
     let Draft { deck, .. } = draft_of(alloc, draft)?;
-    Ok(deck)
+    Ok(Made {
+        text: deck,
+        fine: true,
+    })
 }
 
 // The listing of a draft.
-fn listing_text(alloc: Global, draft: &[u8]) -> Result<Vec<u8>, Rejection>
+fn listing_text(alloc: Global, draft: &[u8]) -> Result<Made, Rejection>
     ensures { MatchResult result
-        (λ t. Whole t.items ≡ of_listing (has_long_deck draft.now) (draft_listing draft.now))
+        (λ m. Whole m.fine m.text.items ≡ of_listing (has_long_deck draft.now) (draft_listing draft.now))
         (RejectsAs (λ v. v ≡ of_listing (has_long_deck draft.now) (draft_listing draft.now))) }
 {
     let desk = desk_of(alloc, draft)?;
-    Ok(listing_of(alloc, desk.sources.as_slice())?)
+    let text = listing_of(alloc, desk.sources.as_slice())?;
+    Ok(Made { text, fine: true })
 }
 
 // The stack checker's verdicts on a draft.
-fn verdicts_text(alloc: Global, draft: &[u8]) -> Result<Vec<u8>, Rejection>
-    ensures { MatchResult result (λ t. IsCheckOf (has_long_deck draft.now) (desk_read draft.now) (Whole t.items))
+fn verdicts_text(alloc: Global, draft: &[u8]) -> Result<Made, Rejection>
+    ensures { MatchResult result
+        (λ m. IsCheckOf (has_long_deck draft.now) (desk_read draft.now) (Whole m.fine m.text.items))
         (RejectsAs (IsCheckOf (has_long_deck draft.now) (desk_read draft.now))) }
 {
     let desk = desk_of(alloc, draft)?;
@@ -100,15 +108,43 @@ fn verdicts_text(alloc: Global, draft: &[u8]) -> Result<Vec<u8>, Rejection>
     Ok(verdicts_of(alloc, &loads, &desk.deck)?)
 }
 
+// The names of a draft that was read.
+fn names_in(alloc: Global, draft: &[u8], desk: &Desk<'_>) -> Result<Vec<u8>, NoMemory> {
+    match read_draft(alloc, draft) {
+        Ok(draft) => Ok(names_of(alloc, draft.sections.as_slice(), desk.sources.as_slice())?),
+        Err(_) => Err(NoMemory),
+    }
+}
+
+// The names of a draft.
+fn names_text(alloc: Global, draft: &[u8]) -> Result<Made, Rejection>
+    ensures { MatchResult result
+        (λ m. IsNamesOf (has_long_deck draft.now) (desk_read draft.now) (Whole m.fine m.text.items))
+        (RejectsAs (IsNamesOf (has_long_deck draft.now) (desk_read draft.now))) }
+{
+    let desk = desk_of(alloc, draft)?;
+    let text = names_in(alloc, draft, &desk)?;
+    Ok(Made { text, fine: true })
+}
+
 // The text of a draft.
-fn text_of(alloc: Global, text: Text, draft: &[u8]) -> Result<Vec<u8>, Rejection>
-    ensures { MatchResult result (λ t. IsTextOf text draft.now (Whole t.items)) (RejectsAs (IsTextOf text draft.now)) }
+fn text_of(alloc: Global, text: Text, draft: &[u8]) -> Result<Made, Rejection>
+    ensures { MatchResult result (λ m. IsTextOf text draft.now (Whole m.fine m.text.items))
+        (RejectsAs (IsTextOf text draft.now)) }
 {
     match text {
         Text::Deck => deck_text(alloc, draft),
         Text::Listing => listing_text(alloc, draft),
         Text::Verdicts => verdicts_text(alloc, draft),
+        Text::Names => names_text(alloc, draft),
     }
+}
+
+// The status of a text that is written, by whether its draft passes it.
+fn status_if(fine: bool) -> Status
+    ensures { result ≡ status_if fine }
+{
+    if fine { Status::Done } else { Status::Failed }
 }
 
 // Writes the text of a draft that is read.
@@ -125,8 +161,9 @@ fn write<S: Source, T: Sink>(
     ensures out { IfErr result (λ e. sunk T.Sink out.new ≡ sunk T.Sink out.old) }
 {
     let draft = read_input(alloc, input)?;
-    let text = text_of(alloc, text, draft.as_slice())?;
-    Ok(ended(Status::Done, put_all(out, text.as_slice())))
+    let made = text_of(alloc, text, draft.as_slice())?;
+    let status = status_if(made.fine);
+    Ok(ended(status, put_all(out, made.text.as_slice())))
 }
 
 /// Returns the status of a job after its end. A job that is rejected writes the line of its refusal, and nothing for
@@ -149,78 +186,109 @@ fn make<S: Source, T: Sink>(alloc: Global, text: Text, input: &mut S, out: &mut 
     end(out, done)
 }
 
+// Makes the deck of a draft that is read, writes it, or the line that refuses the draft to `err`, and returns its status.
+fn make_deck<S: Source, T: Sink, E: Sink>(
+    alloc: Global,
+    input: &mut S,
+    out: &mut T,
+    err: &mut E,
+) -> Status
+    ensures { DeckSays result (outside S.Source T.Sink input.old input.new out.old out.new)
+        (sunk E.Sink err.old) (sunk E.Sink err.new) }
+{
+    let done = write(alloc, Text::Deck, input, out);
+    end(err, done)
+}
+
 // Does a job.
-fn run<S: Source, T: Sink, N: Bench, L: Ledger>(
+fn run<S: Source, T: Sink, E: Sink, N: Bench, L: Ledger>(
     alloc: Global,
     job: Job<'_>,
     input: &mut S,
     out: &mut T,
+    err: &mut E,
     dev: &mut N,
     steps: &mut Steps<L>,
 ) -> Status
     requires { IsUnfused (N.bench dev.old) }
     ensures { MeldeskSays (dev.new ≡ dev.old) result (Some (job_value job.entry))
-        (desk_outside S.Source T.Sink N.Bench input.old input.new out.old out.new dev.old dev.new) }
+        (desk_outside S.Source T.Sink E.Sink N.Bench input.old input.new out.old out.new err.old err.new dev.old
+        dev.new) }
 {
     match job {
-        Job::Write(text) => make(alloc, text, input, out),
+        Job::Write(Text::Deck) => make_deck(alloc, input, out, err),
+        Job::Write(Text::Listing) => make(alloc, Text::Listing, input, out),
+        Job::Write(Text::Verdicts) => make(alloc, Text::Verdicts, input, out),
+        Job::Write(Text::Names) => make(alloc, Text::Names, input, out),
         Job::Play(play) => show(alloc, play, input, out, dev, steps),
+        Job::Tell(told) => tell(told, out),
     }
 }
 
 // Does the job that the words select, or writes the usage line, and returns its status.
-fn run_words<S: Source, T: Sink, N: Bench, L: Ledger>(
+fn run_words<S: Source, T: Sink, E: Sink, N: Bench, L: Ledger>(
     alloc: Global,
     words: &[String],
     input: &mut S,
     out: &mut T,
+    err: &mut E,
     dev: &mut N,
     steps: &mut Steps<L>,
 ) -> Status
     requires { IsUnfused (N.bench dev.old) }
     ensures { MeldeskSays (dev.new ≡ dev.old) result (job_of words.now)
-        (desk_outside S.Source T.Sink N.Bench input.old input.new out.old out.new dev.old dev.new) }
+        (desk_outside S.Source T.Sink E.Sink N.Bench input.old input.new out.old out.new err.old err.new dev.old
+        dev.new) }
 {
     let Some(job) = job_of(words) else {
         return ended(Status::NoForm, put_all(out, USAGE));
     };
-    run(alloc, job, input, out, dev, steps)
+    run(alloc, job, input, out, err, dev, steps)
 }
 
-/// Does the job that the words select, over a source, a sink and a device without an armed stop, and returns
-/// its status.
-pub fn meldesk<S: Source, T: Sink, N: Bench, L: Ledger>(
+/// Does the job that the words select, over a source, a sink, a sink of the refusals of decks and a device without an
+/// armed stop, and returns its status.
+pub fn meldesk<S: Source, T: Sink, E: Sink, N: Bench, L: Ledger>(
     alloc: Global,
     words: &[String],
     input: &mut S,
     out: &mut T,
+    err: &mut E,
     dev: &mut N,
     steps: &mut Steps<L>,
 ) -> u8
     requires { IsUnfused (N.bench dev.old) }
-    // 0: the draft was read to its end, the job is done, and all its text was written.
+    // 0: the draft was read to its end, or the job needs none, the job is done, and all its text was written.
     ensures done { result ≡ 0 → MeldeskSays (dev.new ≡ dev.old) status.Done (job_of words.now)
-        (desk_outside S.Source T.Sink N.Bench input.old input.new out.old out.new dev.old dev.new) }
-    // 1: the draft or its deck is refused, the line that says why was written, and the device is unchanged.
+        (desk_outside S.Source T.Sink E.Sink N.Bench input.old input.new out.old out.new err.old err.new dev.old
+        dev.new) }
+    // 1: the draft or its deck is refused, the line that says why was written, to the sink of refusals if the job is
+    // `deck`, and the device is unchanged; or the verdicts were written, and one refuses code.
     ensures refused { result ≡ 1 → MeldeskSays (dev.new ≡ dev.old) status.Failed (job_of words.now)
-        (desk_outside S.Source T.Sink N.Bench input.old input.new out.old out.new dev.old dev.new) }
+        (desk_outside S.Source T.Sink E.Sink N.Bench input.old input.new out.old out.new err.old err.new dev.old
+        dev.new) }
     // 2: the words select no job, the usage line was written, and source and device are unchanged.
     ensures no_job { result ≡ 2 → MeldeskSays (dev.new ≡ dev.old) status.NoForm (job_of words.now)
-        (desk_outside S.Source T.Sink N.Bench input.old input.new out.old out.new dev.old dev.new) }
+        (desk_outside S.Source T.Sink E.Sink N.Bench input.old input.new out.old out.new err.old err.new dev.old
+        dev.new) }
     // 3: one call of the source failed, nothing was written, and the device is unchanged.
     ensures read_fault { result ≡ 3 → MeldeskSays (dev.new ≡ dev.old) status.ReadFault (job_of words.now)
-        (desk_outside S.Source T.Sink N.Bench input.old input.new out.old out.new dev.old dev.new) }
-    // 4: a call of the sink failed, and a front of the text that is due was written.
+        (desk_outside S.Source T.Sink E.Sink N.Bench input.old input.new out.old out.new err.old err.new dev.old
+        dev.new) }
+    // 4: a call of a sink failed, and a front of the text that is due was written.
     ensures write_fault { result ≡ 4 → MeldeskSays (dev.new ≡ dev.old) status.WriteFault (job_of words.now)
-        (desk_outside S.Source T.Sink N.Bench input.old input.new out.old out.new dev.old dev.new) }
+        (desk_outside S.Source T.Sink E.Sink N.Bench input.old input.new out.old out.new err.old err.new dev.old
+        dev.new) }
     // 5: out of memory before the first byte was written, and the device is unchanged.
     ensures memory { result ≡ 5 → MeldeskSays (dev.new ≡ dev.old) status.NoMemory (job_of words.now)
-        (desk_outside S.Source T.Sink N.Bench input.old input.new out.old out.new dev.old dev.new) }
+        (desk_outside S.Source T.Sink E.Sink N.Bench input.old input.new out.old out.new err.old err.new dev.old
+        dev.new) }
     // There is no other status.
     ensures statuses { result ≤ 5 }
-    // If no call of source and sink fails, all that is due for the draft is done, or the status is 5.
+    // If no call of source and sinks fails, all that is due for the draft is done, or the status is 5.
     ensures complete { (s : Status) → result ≡ number_of s → MeldeskCompletes (dev.new ≡ dev.old) s (job_of words.now)
-        (desk_outside S.Source T.Sink N.Bench input.old input.new out.old out.new dev.old dev.new) }
+        (desk_outside S.Source T.Sink E.Sink N.Bench input.old input.new out.old out.new err.old err.new dev.old
+        dev.new) }
 {
-    number(run_words(alloc, words, input, out, dev, steps))
+    number(run_words(alloc, words, input, out, err, dev, steps))
 }

@@ -14,18 +14,25 @@ use std::test::Fail;
 const BROKEN: &[u8] =
     b"format\npower\napp a A000000100\n NOP\n POPB ; nothing there\nend\nload a\n";
 
-// The end of a job: its status, its output, and the number of bytes that it left in its source.
+// The end of a job: its status, its output, its line on a refused deck, and the number of bytes that it left in its
+// source.
 #[derive(Drop)]
 struct End {
     status: u8,
     text: Vec<u8>,
+    refusal: Vec<u8>,
     left: usize,
 }
 
 impl End {
     // Whether the status and the text are these.
     fn is(&self, status: u8, text: &[u8]) -> bool {
-        self.status == status && self.text.as_slice() == text
+        self.status == status && self.text.as_slice() == text && self.refusal.is_empty()
+    }
+
+    // Whether the deck was refused by this line, and nothing of it was written.
+    fn is_refused(&self, line: &[u8]) -> bool {
+        self.status == 1 && self.text.is_empty() && self.refusal.as_slice() == line
     }
 }
 
@@ -45,12 +52,14 @@ fn counted<L: Ledger>(
     let mut steps = Steps::<L>::new(blank);
     let mut source = MemSource::new(alloc, input, fail_at)?;
     let mut sink = MemSink::new(alloc, room, &[])?;
+    let mut err = MemSink::new(alloc, room, &[])?;
     let mut device = blank_device(alloc)?;
     let status = meldesk(
         alloc,
         words,
         &mut source,
         &mut sink,
+        &mut err,
         &mut device,
         &mut steps,
     );
@@ -61,6 +70,7 @@ fn counted<L: Ledger>(
     Ok(End {
         status,
         text: Vec::from_slice(alloc, sink.bytes())?,
+        refusal: Vec::from_slice(alloc, err.bytes())?,
         left,
     })
 }
@@ -137,20 +147,19 @@ fn refused(rt: HostRuntime) -> Result<(), Fail> {
     let bad_name = b"app a A000000100\n FOO\nCONST 1x 1\nend\n";
     let bad_code = b"app a A000000100\nCONST x 1\n FOO\nend\n";
     for texts in [
-        &["deck"] as &[&str],
-        &["list"],
+        &["list"] as &[&str],
         &["check"],
         &["trace"],
+        &["names"],
         &["cover", "f"],
     ] {
         assert!(rt; made(alloc, texts, bad_name)?.is(1, b"line 3 BadName\n"));
-        if texts.len() > 1 || texts[0] != "deck" {
-            assert!(rt; made(alloc, texts, bad_code)?.is(1, b"line 3 UnknownWord\n"));
-        }
+        assert!(rt; made(alloc, texts, bad_code)?.is(1, b"line 3 UnknownWord\n"));
     }
+    assert!(rt; made(alloc, &["deck"], bad_name)?.is_refused(b"line 3 BadName\n"));
     assert!(rt; made(alloc, &["deck"], bad_code)?.is(0, b"app a A000000100\n\n FOO\nend\n"));
     let feeds = vec![in alloc; b'\n'; 1_048_577]?;
-    assert!(rt; made(alloc, &["deck"], feeds.as_slice())?.is(1, b"line 0 TooLong\n"));
+    assert!(rt; made(alloc, &["deck"], feeds.as_slice())?.is_refused(b"line 0 TooLong\n"));
     Ok(())
 }
 
@@ -159,7 +168,37 @@ fn refused(rt: HostRuntime) -> Result<(), Fail> {
 fn refused_code(rt: HostRuntime) -> Result<(), Fail> {
     let alloc = rt.alloc();
     let end = made(alloc, &["check"], BROKEN)?;
-    assert!(rt; end.is(0, b"7 refuse 1 Under ; 5 POPB\n"));
+    assert!(rt; end.is(1, b"7 refuse 1 Under ; 5 POPB\n"));
+    Ok(())
+}
+
+// A counter with a name of each kind.
+const COUNTER: &[u8] =
+    b"format\npower\napp c A000000a00\nSTATIC count 2\nSESSION seen 1 ; once\nPUBLIC given 3 2\n\
+CONST full 0x6985\n CMPB INS,1\ndone: INCN count\n EXITSW full\nend\nload c\nselect c\napdu 80020000\n";
+
+// The names and labels of a section.
+#[test]
+fn names(rt: HostRuntime) -> Result<(), Fail> {
+    let end = made(rt.alloc(), &["names"], COUNTER)?;
+    let lines =
+        b"{\"section\":\"c\",\"aid\":\"A000000A00\",\"name\":\"count\",\"register\":\"SB\",\"offset\":0,\"size\":2,\"line\":4}\n\
+{\"section\":\"c\",\"aid\":\"A000000A00\",\"name\":\"seen\",\"register\":\"DB\",\"offset\":0,\"size\":1,\"line\":5}\n\
+{\"section\":\"c\",\"aid\":\"A000000A00\",\"name\":\"given\",\"register\":\"PB\",\"offset\":3,\"size\":2,\"line\":6}\n\
+{\"section\":\"c\",\"aid\":\"A000000A00\",\"name\":\"full\",\"number\":\"0x6985\",\"line\":7}\n\
+{\"section\":\"c\",\"aid\":\"A000000A00\",\"label\":\"done\",\"place\":4,\"line\":9}\n";
+    assert!(rt; end.is(0, lines));
+    Ok(())
+}
+
+// What the program says of itself, without a draft.
+#[test]
+fn told(rt: HostRuntime) -> Result<(), Fail> {
+    let alloc = rt.alloc();
+    let version = made(alloc, &["--version"], BROKEN)?;
+    assert!(rt; version.is(0, b"meldesk 3\n") && version.left == BROKEN.len());
+    let help = made(alloc, &["--help"], BROKEN)?;
+    assert!(rt; help.status == 0 && help.text.as_slice().starts_with(b"usage: meldesk deck |"));
     Ok(())
 }
 
@@ -176,9 +215,10 @@ fn usage(rt: HostRuntime) -> Result<(), Fail> {
         &["cover", "a\nb"],
         &["cover", "a", "b"],
         &["list", "f"],
+        &["--help", "f"],
     ] {
         let end = made(alloc, texts, BROKEN)?;
-        let line = b"usage: meldesk deck | list | check | trace | cover NAME\n";
+        let line = b"usage: meldesk deck | list | check | trace | names | cover NAME\n";
         assert!(rt; end.is(2, line) && end.left == BROKEN.len());
     }
     Ok(())

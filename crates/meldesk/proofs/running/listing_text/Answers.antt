@@ -1,4 +1,4 @@
-use Rattle.std.proofs.Common.{◌≡◌, ◌∙◌, List, ap, rules}
+use Rattle.std.proofs.Common.{◌≡◌, ◌∙◌, List, true, ap, rules}
 use Rattle.std.proofs.lemmas.Result.{err_from_is_err_and}
 use Rattle.mc_desk.specs.declared.source.Source.{Source}
 use Rattle.mc_desk.specs.Listings.{listing_of}
@@ -16,5 +16,5 @@ returns-in_err-desk c =
 pub returns : goal.returns
 returns c =
     let same : c.as_slice.result.now ≡ c.in_ok-desk.desk.sources.items = search rules in
-    ap Whole (c.in_ok-listing_of.ensures ∙ ap (λ (ss : List Source). listing_of (sources_value ss)) same)
+    ap (Whole true) (c.in_ok-text.ensures ∙ ap (λ (ss : List Source). listing_of (sources_value ss)) same)
     ∙ listing_made c.args.draft.now (desk_value c.in_ok-desk.desk) c.in_ok-desk.ensures.short c.in_ok-desk.ensures.desk

@@ -13,7 +13,7 @@ pub returns : goal.returns
 returns g c =
     let members : BenchMembers _ = record { state = g.N.Nvm.state; wrote = g.N.Nvm.wrote; same = g.N.Nvm.same; bench = g.N.Bench.bench } in
     let new = c.run_words.new in
-    let a : DeskOutside = desk_outside g.S.Source g.T.Sink members c.args.input.now new.input c.args.out.now new.out c.args.dev.now new.dev in
+    let a : DeskOutside = desk_outside g.S.Source g.T.Sink g.E.Sink members c.args.input.now new.input c.args.out.now new.out c.args.err.now new.err c.args.dev.now new.dev in
     let n = c.number.result in
     let Kept : Type 0 = c.run_words.new.dev ≡ c.args.dev.now in
     let work = job_of c.args.words.now in

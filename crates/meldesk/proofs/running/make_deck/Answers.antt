@@ -1,0 +1,10 @@
+use Rattle.mc_filter.specs.Inputs.{stream}
+use Rattle.mc_text.specs.Texts.{sunk}
+use Rattle.meldesk.proofs.StatusLemmas.{says_deck}
+use Rattle.meldesk.proofs.running.make_deck.Goals as goal
+
+pub returns : goal.returns
+returns g c =
+    let made = c.write-done in
+    says_deck (stream g.S.Source c.args.input.now) (stream g.S.Source made.new.input) (sunk g.T.Sink c.args.out.now) (sunk g.T.Sink made.new.out) (sunk g.E.Sink c.args.err.now) (sunk g.E.Sink c.end.new.out)
+    made.result c.end.result made.ensures.done made.ensures.rejected made.ensures.out c.end.ensures.done c.end.ensures.rejected

@@ -1,0 +1,12 @@
+use Rattle.std.proofs.lemmas.Result.{err_from_is_err_and}
+use Rattle.mc_desk.specs.Loads.{desk_value}
+use Rattle.meldesk.proofs.RunLemmas.{names_made, names_rejected}
+use Rattle.meldesk.proofs.running.names_text.Goals as goal
+
+pub returns-in_err-desk : goal.returns-in_err-desk
+returns-in_err-desk c =
+    let p = err_from_is_err_and c.from_residual.result c.from_residual.ensures.1 in
+    rw (p.1, p.2) (names_rejected c.args.draft.now c.in_err-desk.field-0.0 c.in_err-desk.ensures.rejected)
+
+pub returns : goal.returns
+returns c = names_made c.args.draft.now c.in_ok-text.text.items (desk_value c.in_ok-desk.desk) c.in_ok-desk.ensures.short c.in_ok-desk.ensures.desk

@@ -1,0 +1,46 @@
+// What the program says of itself.
+ghost use Rattle.std.specs.Prelude.{◌≡◌};
+ghost use Rattle.mc_text.specs.Texts.{sunk};
+ghost use Rattle.mc_filter.specs.declared.status.Status.TheVariants.{Done};
+ghost use Rattle.mc_filter.specs.Statuses.{IsWritten};
+ghost use Rattle.meldesk.specs.Jobs.{told_text};
+
+use crate::job::Told;
+use mc_filter::{Status, ended};
+use mc_streams::{Sink, put_all};
+
+// What the program reads and writes, its jobs, an example, and its page.
+const HELP: &[u8] = b"usage: meldesk deck | list | check | trace | names | cover NAME\n\
+\n\
+meldesk reads a draft from standard input, a deck in whose app sections bytes and numbers have names, and writes to standard output.\n\
+\n\
+\x20 deck        the deck of the draft\n\
+\x20 list        the code of each section line by line\n\
+\x20 check       the stack checker's verdicts, with source lines; status 1 if code is refused\n\
+\x20 trace       plays the deck: its trace, with source lines, operands and stack\n\
+\x20 names       the names and labels of the sections as lines of JSON\n\
+\x20 cover NAME  plays the deck: how often each line ran, as an LCOV record for the file NAME\n\
+\n\
+Example: meldesk deck < purse.draft | melcard play\n\
+The page is docs/DESK.md.\n\
+";
+
+// The version.
+const VERSION: &[u8] = b"meldesk 3\n";
+
+// The text of what the program says of itself.
+fn told_text(told: Told) -> &'static [u8]
+    ensures { result.now ≡ told_text told }
+{
+    match told {
+        Told::Help => HELP,
+        Told::Version => VERSION,
+    }
+}
+
+/// Writes what the program says of itself, and returns its status.
+pub fn tell<T: Sink>(told: Told, out: &mut T) -> Status
+    ensures { IsWritten Done (told_text told) result (sunk T.Sink out.old) (sunk T.Sink out.new) }
+{
+    ended(Status::Done, put_all(out, told_text(told)))
+}
