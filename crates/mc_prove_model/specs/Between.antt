@@ -80,7 +80,7 @@ with_class c (d ∷ ds) =
     let rest = with_class c ds in
     cond (same_lists same c.matches d.matches) (record { matches = d.matches; sets = union_all c.sets d.sets } ∷ ds) (d ∷ rest)
 
--- classes with those of a header, behind which any bytes may follow
+-- classes with those of a header, which any bytes may follow
 abbrev pub with_classes : List Set → List Opens → List Class → List Class
 with_classes sets [] cs = cs
 with_classes sets (o ∷ os) cs = with_class (record { matches = matches_of o; sets = sets }) (with_classes sets os cs)

@@ -16,7 +16,7 @@ use Rattle.mc_explore.specs.Matching.{fits}
 use Rattle.mc_rule_model.specs.Reading.{RuleCause, app_rules_read}
 use Rattle.mc_prove_model.specs.Tables.{is_closed, tables_after, prove_text, text_of_read}
 
--- the text of the proof of a deck's text, after so many steps of the search
+-- the text of the proof of a deck's text, after at most n steps of the search
 unfoldable pub proof_of : ℕ → List ℕ → Result (List ℕ) (ℕ × RuleCause)
 unfolding digits name_of apdu_read touched_words bytes_at write_effect too_many later_causes causes shape prim_shape turn_line deck_read fits app_rules_read prove_text
 proof_of n text = text_of_read n (app_rules_read text)
@@ -39,7 +39,7 @@ counter_text =
     codes "idle step 0 done 0: SB[0] 00 SB[1] 00\nidle step 0 done 1:\nidle step 1 done 0:\nidle step 1 done 1:\n"
     ++ codes "session step 0 done 0: SB[0] 00 SB[1] 00\nsession step 0 done 1:\nsession step 1 done 0:\nsession step 1 done 1:\nproved keys 31\n"
 
--- whether the tables after so many steps of the search are closed
+-- whether the tables after at most n steps of the search are closed
 abbrev pub closed_for : ℕ → AppRules → Option Target → Bool
 closed_for n r None = false
 closed_for n r (Some g) = let s : Setting = record { rules = r; app = g.app } in is_closed s (tables_after n s)
@@ -49,7 +49,7 @@ abbrev pub closed_read : ℕ → Result AppRules (ℕ × RuleCause) → Bool
 closed_read n (Err e) = false
 closed_read n (Ok r) = closed_for n r r.target
 
--- whether the tables of a deck's text are closed after so many steps of the search
+-- whether the tables of a deck's text are closed after at most n steps of the search
 unfoldable pub closed_after : ℕ → List ℕ → Bool
 unfolding digits name_of apdu_read touched_words bytes_at write_effect too_many later_causes causes shape prim_shape turn_line deck_read fits app_rules_read is_closed
 closed_after n text = closed_read n (app_rules_read text)

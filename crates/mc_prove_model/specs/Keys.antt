@@ -7,13 +7,13 @@ use Rattle.mc_prove_model.specs.Facts.{Facts, within, join, follow}
 use Rattle.mc_prove_model.specs.Compares.{Compare, NoCompare, Bounds, Ordered, Orders, join_compare, meet, touched}
 use Rattle.mc_prove_model.specs.Digits.{same}
 
--- how a frame began: by a delegation, or by a command of a class, which tells of each `command` and `answer` line, in
+-- how a frame began: by a delegation, or by a command of a class, which states of each `command` and `answer` line, in
 -- their order, whether the bytes of the command match
 pub data Start : Type 0 where
   Delegated : Start
   OfClass : (class : List Bool) → Start
 
--- An open call: DT behind its four saved bytes, the saved LB, and the saved place.
+-- An open call: DT right above its four saved bytes, the saved LB, and the saved place.
 pub record Call : Type 0 where
   pub dt : ℕ
   pub lb : ℕ

@@ -21,7 +21,7 @@ pub record Reach : Type 0 where
   pub low : Set
   pub lengths : List ℕ
 
--- whether n bytes from one of the addresses, whole in a segment, may have a byte at a place less than d behind it
+-- whether n bytes from one of the addresses, whole in a segment, may have a byte at a place less than d after it
 abbrev pub is_reached_within : Frame → Reach → ℕ → ℕ → ℕ → Bool
 is_reached_within f r n a zero = false
 is_reached_within f r n a (suc d) =

@@ -45,7 +45,7 @@ written a ss p =
       known = record p.known { bytes = know_all a ss p.known.bytes; compare = touched a (length ss) p.known.compare };
     }
 
--- DT is at most this: the dynamic bytes behind it are lost
+-- DT is at most this: the dynamic bytes above it are lost
 abbrev pub lowered : ℕ → Spot → Spot
 lowered dt p =
     record {

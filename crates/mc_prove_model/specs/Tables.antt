@@ -162,7 +162,7 @@ search_on (suc n) s cs z = search_on n s cs (followed s cs z.places z.moments z)
 abbrev pub no_tables : Tables
 no_tables = record { moments = []; places = [] }
 
--- The least tables, after so many steps of a search: each step follows one key and joins its outcomes.
+-- The least tables, after at most n steps of a search: each step follows one key and joins its outcomes.
 abbrev pub tables_after : ℕ → Setting → Tables
 tables_after n s = (search_on n s (classes s.rules) (reach s.rules.ranges (created s) (record { tables = no_tables; moments = []; places = [] }))).tables
 
@@ -304,7 +304,7 @@ text_with fs t =
 abbrev pub text_of_tables : Setting → Tables → List ℕ
 text_of_tables s t = text_with (in_order (findings s t)) t
 
--- the text of rules, after so many steps of the search
+-- the text of rules, after at most n steps of the search
 abbrev pub text_for : ℕ → AppRules → Option Target → List ℕ
 text_for n r None = []
 text_for n r (Some g) = let s : Setting = record { rules = r; app = g.app } in text_of_tables s (tables_after n s)

@@ -12,7 +12,7 @@ use Rattle.mc_filter.proofs.Outside as filter
 use Rattle.mc_filter.proofs.Statuses.{same_status, written_whole}
 use Rattle.meldesk.specs.declared.job.Text.{Text}
 use Rattle.meldesk.specs.declared.job.Text.TheVariants as text
-use Rattle.meldesk.specs.Jobs.{told_text, usage, DeskJob, Makes, Shows, Tells}
+use Rattle.meldesk.specs.Jobs.{about_text, usage, DeskJob, Makes, Shows, Describes}
 use Rattle.meldesk.specs.Statuses.{status_if, status_of, DeckDone, DeckSays, DeckWhole, DeskOutside, IsDeckWritten, IsTextWritten, MakesSays, MakesWhole, MeldeskCompletes, MeldeskDone, MeldeskSays, TextSays, TextWhole}
 use Rattle.meldesk.specs.Verdicts.{IsTextOf, JobVerdict, Refusal, Whole}
 use Rattle.meldesk.proofs.PlayLemmas.{show_completes}
@@ -29,7 +29,7 @@ says_no_form Kept work a r s none e kept quiet still put =
 
 -- the verdict was carried out completely
 done_whole : (v : JobVerdict) (s : Status) (a : Outside) → (Rose a.out_old.faults a.out.faults → ⊥) → IsTextWritten v s a → s ≡ status_of v
-done_whole (Whole fine text) s a quiet d = written_whole a.out_old a.out text (status_if fine) s d.result quiet d.status d.written
+done_whole (Whole passes text) s a quiet d = written_whole a.out_old a.out text (status_if passes) s d.result quiet d.status d.written
 done_whole (Refusal line) s a quiet d = written_whole a.out_old a.out line Failed s d.result quiet d.status d.written
 
 whole : (t : Text) (a : Outside) (s : Status) → IsWithoutFault a → MeldeskDone t a s → TextWhole t a s
@@ -47,7 +47,7 @@ text_completes s t a says =
 
 -- the verdict of a deck was carried out completely
 deck_done : (v : JobVerdict) (s : Status) (a : Outside) (x y : Sunk) → (Rose a.out_old.faults a.out.faults → ⊥) → (Rose x.faults y.faults → ⊥) → IsDeckWritten v s a x y → s ≡ status_of v
-deck_done (Whole fine text) s a x y quiet calm d = written_whole a.out_old a.out text (status_if fine) s (d.0).result quiet (d.0).status (d.0).written
+deck_done (Whole passes text) s a x y quiet calm d = written_whole a.out_old a.out text (status_if passes) s (d.0).result quiet (d.0).status (d.0).written
 deck_done (Refusal line) s a x y quiet calm d = written_whole x y line Failed s (d.0).result calm (d.0).status (d.0).written
 
 deck_whole : (a : Outside) (x y : Sunk) (s : Status) → (Rose x.faults y.faults → ⊥) → IsWithoutFault a → DeckDone a x y s → DeckWhole a x y s
@@ -72,9 +72,9 @@ makes_whole s text.Names a says = text_completes s text.Names a.streams says.0
 completes : (Kept : Type 0) (s : Status) (work : Option DeskJob) (a : DeskOutside) → MeldeskSays Kept s work a → MeldeskCompletes Kept s work a
 completes Kept s (Some (Makes t)) a says = makes_whole s t a says.0
 completes Kept s (Some (Shows p)) a says = show_completes Kept p s a.streams a.dev_old a.dev says.0
-completes Kept s (Some (Tells t)) a says =
+completes Kept s (Some (Describes t)) a says =
     let w = says.0.1 in
-    λ quiet. written_whole a.streams.out_old a.streams.out (told_text t) Done s w.result quiet w.status w.written
+    λ quiet. written_whole a.streams.out_old a.streams.out (about_text t) Done s w.result quiet w.status w.written
 completes Kept s None a says = tt
 
 -- a job is complete at the number of a status

@@ -109,8 +109,8 @@ listing_rejected t e h =
 check_by : (t : List ℕ) (b : Bool) (r : Result Desk (ℕ × DeckCause)) (v : JobVerdict) → has_long_deck t ≡ b → desk_read t ≡ r → IsCheckOf b r v → IsCheckOf (has_long_deck t) (desk_read t) v
 check_by t b r v long is h = subst (λ (c : Bool). IsCheckOf c (desk_read t) v) (sym long) (subst (λ (q : Result Desk (ℕ × DeckCause)). IsCheckOf b q v) (sym is) h)
 
-pub check_made : (t text : List ℕ) (fine : Bool) (d : Desk) → has_long_deck t ≡ false → desk_read t ≡ Ok d → ShowsVerdicts d d.lines fine text → IsCheckOf (has_long_deck t) (desk_read t) (Whole fine text)
-check_made t text fine d short is shows = check_by t false (Ok d) (Whole fine text) short is (fine, text, refl, shows)
+pub check_made : (t text : List ℕ) (passes : Bool) (d : Desk) → has_long_deck t ≡ false → desk_read t ≡ Ok d → ShowsVerdicts d d.lines passes text → IsCheckOf (has_long_deck t) (desk_read t) (Whole passes text)
+check_made t text passes d short is shows = check_by t false (Ok d) (Whole passes text) short is (passes, text, refl, shows)
 
 check_refused : (line : List ℕ) (b : Bool) (r : Result Desk (ℕ × DeckCause)) → refused_desk b r line → IsCheckOf b r (Refusal line)
 check_refused line true r h = ap Refusal h

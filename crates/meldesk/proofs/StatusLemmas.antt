@@ -20,7 +20,7 @@ abbrev pub around : Stream → Stream → Sunk → Sunk → Outside
 around i j x y = record { input_old = i; input = j; out_old = x; out = y }
 
 -- the promise of a job that was done, at the status that its writing ended with, by whether its draft passes
-says_by : (Did : Status → Type 0) (Faulty Short : Type 0) (fine : Bool) (r : Result (Unit {0}) Fault) (s : Status) → s ≡ status_after_writing (status_if fine) r → Did s → JobSays Did Faulty Short s
+says_by : (Did : Status → Type 0) (Faulty Short : Type 0) (passes : Bool) (r : Result (Unit {0}) Fault) (s : Status) → s ≡ status_after_writing (status_if passes) r → Did s → JobSays Did Faulty Short s
 says_by Did Faulty Short true r s e d = filter.says_done Did Faulty Short r s e d
 says_by Did Faulty Short false r s e d = filter.says_refused Did Faulty Short r s e d
 
@@ -29,8 +29,8 @@ says_by Did Faulty Short false r s e d = filter.says_refused Did Faulty Short r 
 -- the text of a draft was written
 says_written : (t : Text) (s : Status) (a : Outside) → WritesDraft t s a → TextSays s t a
 says_written t s a w =
-    says_by (MeldeskDone t a) (SaysReadFault (TookLimited a.input_old a.input) a) (SaysNoMemory (TookLimited a.input_old a.input) a) w.fine w.written.result s w.written.status
-    (record { verdict = Whole w.fine w.text; due = w.due; done = w.written })
+    says_by (MeldeskDone t a) (SaysReadFault (TookLimited a.input_old a.input) a) (SaysNoMemory (TookLimited a.input_old a.input) a) w.passes w.written.result s w.written.status
+    (record { verdict = Whole w.passes w.text; due = w.due; done = w.written })
 
 -- a text was not made
 says_rejected : (t : Text) (i j : Stream) (x m y : Sunk) (e : Rejection) (s : Status) → m ≡ x → RejectsText t (around i j x m) e → RejectionEnds e x s y → TextSays s t (around i j x y)
@@ -56,8 +56,8 @@ says_text t i j x m y (Err e) s wrote rejects same done ends =
 
 deck_written : (s : Status) (a : Outside) (u : Sunk) → WritesDraft text.Deck s a → DeckSays s a u u
 deck_written s a u w =
-    says_by (DeckDone a u u) (SaysReadFault (TookLimited a.input_old a.input) a × (u ≡ u)) (SaysNoMemory (TookLimited a.input_old a.input) a × (u ≡ u)) w.fine w.written.result s w.written.status
-    (record { verdict = Whole w.fine w.text; due = w.due; done = (w.written, refl) })
+    says_by (DeckDone a u u) (SaysReadFault (TookLimited a.input_old a.input) a × (u ≡ u)) (SaysNoMemory (TookLimited a.input_old a.input) a × (u ≡ u)) w.passes w.written.result s w.written.status
+    (record { verdict = Whole w.passes w.text; due = w.due; done = (w.written, refl) })
 
 deck_rejected : (i j : Stream) (x m u v : Sunk) (e : Rejection) (s : Status) → m ≡ x → RejectsText text.Deck (around i j x m) e → RejectionEnds e u s v → DeckSays s (around i j x m) u v
 deck_rejected i j x m u v (rejection.Refusal line) s same why ends =

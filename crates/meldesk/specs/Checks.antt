@@ -30,21 +30,21 @@ AreVerdicts ((n, _) ∷ ls) vs = AreVerdicts ls vs
 
 -- whether all verdicts accept up to this one, if those before it did or not
 abbrev pub accepts : Bool → CodeVerdict → Bool
-accepts fine (Ok deepest) = fine
-accepts fine (Err e) = false
+accepts passes (Ok deepest) = passes
+accepts passes (Err e) = false
 
 -- whether all verdicts accept up to the last of these, if those before them did or not
 abbrev pub all_accept : Bool → List (ℕ × CodeVerdict) → Bool
-all_accept fine [] = fine
-all_accept fine (v ∷ vs) = all_accept (accepts fine v.1) vs
+all_accept passes [] = passes
+all_accept passes (v ∷ vs) = all_accept (accepts passes v.1) vs
 
 -- a text has a line for each of these load lines of a draft's deck: a verdict, with the source line of a refused place;
 -- and all their code is accepted or not
-pub record ShowsVerdicts (d : Desk) (ls : List (ℕ × DeckLine)) (fine : Bool) (shown : List ℕ) : Type 0 where
+pub record ShowsVerdicts (d : Desk) (ls : List (ℕ × DeckLine)) (passes : Bool) (shown : List ℕ) : Type 0 where
   pub verdicts : List (ℕ × CodeVerdict)
   pub are : AreVerdicts ls verdicts
   pub text : shown ≡ verdict_lines d verdicts
-  pub accepted : fine ≡ all_accept true verdicts
+  pub accepted : passes ≡ all_accept true verdicts
 
 -- a text grew by the lines of verdicts on a line of the deck, which are one for a load line and none for any other; and
 -- whether all code was accepted, before the line and after it
@@ -52,4 +52,4 @@ pub record AddsVerdicts (d : Desk) (l : ℕ × DeckLine) (before after : Bool) (
   pub verdicts : List (ℕ × CodeVerdict)
   pub are : AreVerdicts (l ∷ []) verdicts
   pub grew : new ≡ old ++ verdict_lines d verdicts
-  pub fine : after ≡ all_accept before verdicts
+  pub passes : after ≡ all_accept before verdicts

@@ -7,8 +7,8 @@ use Rattle.meldesk.specs.declared.job.Job.{Job}
 use Rattle.meldesk.specs.declared.job.Job.TheVariants as job
 use Rattle.meldesk.specs.declared.job.Play.{Play}
 use Rattle.meldesk.specs.declared.job.Play.TheVariants as play
-use Rattle.meldesk.specs.declared.job.Told.{Told}
-use Rattle.meldesk.specs.declared.job.Told.TheVariants as told
+use Rattle.meldesk.specs.declared.job.About.{About}
+use Rattle.meldesk.specs.declared.job.About.TheVariants as about
 use Rattle.meldesk.specs.declared.job.Text.{Text}
 use Rattle.meldesk.specs.declared.job.Text.TheVariants as text
 
@@ -21,7 +21,7 @@ pub data Shown : Type 0 where
 pub data DeskJob : Type 0 where
   Makes : (text : Text) → DeskJob
   Shows : (shown : Shown) → DeskJob
-  Tells : (told : Told) → DeskJob
+  Describes : (about : About) → DeskJob
 
 -- what a play of the code shows
 abbrev pub shown_by : Play → Shown
@@ -32,7 +32,7 @@ shown_by (play.Cover name) = Coverage name.now
 abbrev pub job_value : Job → DeskJob
 job_value (job.Write t) = Makes t
 job_value (job.Play p) = Shows (shown_by p)
-job_value (job.Tell t) = Tells t
+job_value (job.Describe t) = Describes t
 
 -- the job that a word selects
 abbrev pub job_named : List ℕ → Option DeskJob
@@ -40,7 +40,7 @@ job_named w =
     cond (bytes_eq w (codes "deck")) (Some (Makes text.Deck)) (cond (bytes_eq w (codes "list")) (Some (Makes text.Listing)) (
     cond (bytes_eq w (codes "check")) (Some (Makes text.Verdicts)) (cond (bytes_eq w (codes "names")) (Some (Makes text.Names)) (
     cond (bytes_eq w (codes "trace")) (Some (Shows Trace)) (
-    cond (bytes_eq w (codes "--help")) (Some (Tells told.Help)) (cond (bytes_eq w (codes "--version")) (Some (Tells told.Version)) None)
+    cond (bytes_eq w (codes "--help")) (Some (Describes about.Help)) (cond (bytes_eq w (codes "--version")) (Some (Describes about.Version)) None)
     )
     ))
     ))
@@ -78,6 +78,6 @@ help =
     codes "Example: meldesk deck < purse.draft | melcard play\nThe page is docs/DESK.md.\n"
 
 -- what the program says of itself
-abbrev pub told_text : Told → List ℕ
-told_text told.Help = help
-told_text told.Version = version
+abbrev pub about_text : About → List ℕ
+about_text about.Help = help
+about_text about.Version = version

@@ -37,7 +37,7 @@ RejectsText t a rejection.NoMemory = ReadsLimited a.input_old a.input
 
 -- the text of a draft was written
 pub record WritesDraft (t : Text) (s : Status) (a : Outside) : Type 0 where
-  pub fine : Bool
+  pub passes : Bool
   pub text : List ℕ
-  pub due : IsRead Refusal (IsTextOf t) a.input_old a.input (Whole fine text)
-  pub written : IsWritten (status_if fine) text s a.out_old a.out
+  pub due : IsRead Refusal (IsTextOf t) a.input_old a.input (Whole passes text)
+  pub written : IsWritten (status_if passes) text s a.out_old a.out

@@ -11,10 +11,10 @@ use Rattle.mc_filter.specs.Inputs.{TookLimited}
 use Rattle.mc_filter.specs.Statuses.{IsWritten}
 use Rattle.mc_filter.specs.Outside.{AllStands, Completes, IsRead, IsWhole, JobSays, NoJobSays, Outside, SaysDone, SaysNoForm, SaysNoMemory, SaysReadFault, outside}
 use Rattle.mc_text.specs.Texts.{sunk, Sunk}
-use Rattle.meldesk.specs.declared.job.Told.{Told}
+use Rattle.meldesk.specs.declared.job.About.{About}
 use Rattle.meldesk.specs.declared.job.Text.{Text}
 use Rattle.meldesk.specs.declared.job.Text.TheVariants as text
-use Rattle.meldesk.specs.Jobs.{told_text, usage, DeskJob, Makes, Shows, Tells}
+use Rattle.meldesk.specs.Jobs.{about_text, usage, DeskJob, Makes, Shows, Describes}
 use Rattle.meldesk.specs.Verdicts.{IsTextOf, JobVerdict, Refusal, Whole}
 use Rattle.meldesk.specs.Plays.{ShowCompletes, ShowSays}
 
@@ -48,7 +48,7 @@ status_if false = Failed
 
 -- the text of the verdict on a draft was written
 abbrev pub IsTextWritten : JobVerdict → Status → Outside → Type 0
-IsTextWritten (Whole fine text) s a = IsWritten (status_if fine) text s a.out_old a.out
+IsTextWritten (Whole passes text) s a = IsWritten (status_if passes) text s a.out_old a.out
 IsTextWritten (Refusal line) s a = IsWritten Failed line s a.out_old a.out
 
 -- a text was made, or its draft was refused, or the sink failed
@@ -66,7 +66,7 @@ TextSays s t a =
 
 -- the deck of a draft was written, and nothing of its refusal; or its refusal, and nothing of a deck
 abbrev pub IsDeckWritten : JobVerdict → Status → Outside → Sunk → Sunk → Type 0
-IsDeckWritten (Whole fine text) s a x y = IsWritten (status_if fine) text s a.out_old a.out × (y ≡ x)
+IsDeckWritten (Whole passes text) s a x y = IsWritten (status_if passes) text s a.out_old a.out × (y ≡ x)
 IsDeckWritten (Refusal line) s a x y = IsWritten Failed line s x y × (a.out ≡ a.out_old)
 
 -- a deck was written, or its draft was refused, or a sink failed
@@ -78,7 +78,7 @@ abbrev pub DeckSays : Status → Outside → Sunk → Sunk → Type 0
 DeckSays s a x y =
     JobSays (DeckDone a x y) (SaysReadFault (TookLimited a.input_old a.input) a × (y ≡ x)) (SaysNoMemory (TookLimited a.input_old a.input) a × (y ≡ x)) s
 
--- the meaning of each status of a job that makes a text; `Quiet` states that nothing was written to the sink of refusals
+-- the meaning of each status of a job that makes a text: all but that of a deck leave the sink of refusals as it was
 abbrev pub MakesSays : Status → Text → DeskOutside → Type 0
 MakesSays s text.Deck a = DeckSays s a.streams a.err_old a.err
 MakesSays s text.Listing a = TextSays s text.Listing a.streams × (a.err ≡ a.err_old)
@@ -86,21 +86,21 @@ MakesSays s text.Verdicts a = TextSays s text.Verdicts a.streams × (a.err ≡ a
 MakesSays s text.Names a = TextSays s text.Names a.streams × (a.err ≡ a.err_old)
 
 -- what the program says of itself was written, and the source was not touched
-abbrev pub SaysTold : Told → Status → Outside → Type 0
-SaysTold t s a = (a.input ≡ a.input_old) × IsWritten Done (told_text t) s a.out_old a.out
+abbrev pub SaysAbout : About → Status → Outside → Type 0
+SaysAbout t s a = (a.input ≡ a.input_old) × IsWritten Done (about_text t) s a.out_old a.out
 
 -- the meaning of each status, by the job that the words select; only a job that plays changes the device
 abbrev pub MeldeskSays : Type 0 → Status → Option DeskJob → DeskOutside → Type 0
 MeldeskSays Kept s (Some (Makes t)) a = MakesSays s t a × Kept
 MeldeskSays Kept s (Some (Shows p)) a = ShowSays Kept p s a.streams a.dev_old a.dev × (a.err ≡ a.err_old)
-MeldeskSays Kept s (Some (Tells t)) a = SaysTold t s a.streams × Kept × (a.err ≡ a.err_old)
+MeldeskSays Kept s (Some (Describes t)) a = SaysAbout t s a.streams × Kept × (a.err ≡ a.err_old)
 MeldeskSays Kept s None a = NoJobSays (λ (t : Status). SaysNoForm usage t a.streams) s × Kept × (a.err ≡ a.err_old)
 
 -- ---- completeness
 
 -- the status if the text of a verdict is written completely
 abbrev pub status_of : JobVerdict → Status
-status_of (Whole fine text) = status_if fine
+status_of (Whole passes text) = status_if passes
 status_of (Refusal line) = Failed
 
 -- all that is due was written
@@ -123,5 +123,5 @@ MakesWhole s text.Names a = Completes (TextWhole text.Names a.streams s) s a.str
 abbrev pub MeldeskCompletes : Type 0 → Status → Option DeskJob → DeskOutside → Type 0
 MeldeskCompletes Kept s (Some (Makes t)) a = MakesWhole s t a
 MeldeskCompletes Kept s (Some (Shows p)) a = ShowCompletes Kept p s a.streams a.dev_old a.dev
-MeldeskCompletes Kept s (Some (Tells t)) a = (Rose a.streams.out_old.faults a.streams.out.faults → ⊥) → s ≡ Done
+MeldeskCompletes Kept s (Some (Describes t)) a = (Rose a.streams.out_old.faults a.streams.out.faults → ⊥) → s ≡ Done
 MeldeskCompletes Kept s None a = ⊤

@@ -11,7 +11,7 @@ use Rattle.meldesk.specs.Checks.{ShowsVerdicts}
 
 -- the verdict on a draft: the complete text of a job, and whether the draft passes it, or the line of a refusal
 pub data JobVerdict : Type 0 where
-  Whole : (fine : Bool) (text : List ℕ) → JobVerdict
+  Whole : (passes : Bool) (text : List ℕ) → JobVerdict
   Refusal : (line : List ℕ) → JobVerdict
 
 -- ---- refusals
@@ -38,7 +38,7 @@ of_listing false listing = of_text listing
 -- the verdict with the stack checker's verdicts on a draft, whose deck may not be too long
 abbrev pub IsCheckOf : Bool → Result Desk (ℕ × DeckCause) → JobVerdict → Type 0
 IsCheckOf true desk v = v ≡ Refusal too_long
-IsCheckOf false (Ok d) v = (fine : Bool) × (text : List ℕ) × (v ≡ Whole fine text) × ShowsVerdicts d d.lines fine text
+IsCheckOf false (Ok d) v = (passes : Bool) × (text : List ℕ) × (v ≡ Whole passes text) × ShowsVerdicts d d.lines passes text
 IsCheckOf false (Err e) v = v ≡ Refusal (deck_line e)
 
 -- the verdict with the names of a draft, whose deck may not be too long

@@ -6,7 +6,7 @@ ghost use Rattle.mc_desk.specs.Loads.{AreLoads};
 ghost use Rattle.mc_desk.specs.Verdicts.{verdict_line, verdict_text};
 ghost use Rattle.meldesk.specs.Checks.{accepts, verdict_value, AddsVerdicts, ShowsVerdicts};
 
-use crate::made::Made;
+use crate::draft_text::DraftText;
 use itoa::Buffer;
 use mc_base::NoMemory;
 use mc_check::{CheckCause, Verdict, check};
@@ -84,11 +84,11 @@ fn push_verdict(
 }
 
 // Whether all code is accepted after a verdict, if it was before or not.
-fn accepts(fine: bool, verdict: &Verdict) -> bool
-    ensures { result ≡ accepts fine (verdict_value verdict.now) }
+fn accepts(passes: bool, verdict: &Verdict) -> bool
+    ensures { result ≡ accepts passes (verdict_value verdict.now) }
 {
     match *verdict {
-        Verdict::Accept { deepest: _ } => fine,
+        Verdict::Accept { deepest: _ } => passes,
         Verdict::Refuse { place: _, cause: _ } => false,
     }
 }
@@ -96,38 +96,38 @@ fn accepts(fine: bool, verdict: &Verdict) -> bool
 // Adds the line of a load line, and nothing for any other line.
 fn push_line(
     alloc: Global,
-    made: &mut Made,
+    made: &mut DraftText,
     loads: &Loads<'_, '_>,
     number: u32,
     line: &Line<'_>,
 ) -> Result<(), NoMemory>
     requires { GoodLine (line_of line.now) }
     ensures { OnOk result ((d : Desk) → AreLoads loads.now d.deck d.sources
-        → AddsVerdicts d (number, line_of line.now) made.old.fine made.new.fine made.old.text.items
+        → AddsVerdicts d (number, line_of line.now) made.old.passes made.new.passes made.old.text.items
         made.new.text.items) }
 {
     let Line::Load { unit, session, .. } = line else {
         return Ok(());
     };
     let verdict = check(alloc, unit.code, *session)?;
-    made.fine = accepts(made.fine, &verdict);
+    made.passes = accepts(made.passes, &verdict);
     push_verdict(&mut made.text, loads, number, &verdict)
 }
 
 /// Returns a text with a line for each load line of a deck, in order: its number, and the stack checker's verdict
-/// on its unit's code with its session size, with the source line of the place that is refused. It is fine if all code
-/// is accepted.
+/// on its unit's code with its session size, with the source line of the place that is refused. The draft passes it if
+/// all code is accepted.
 ///
 /// # Errors
 ///
 /// Returns `NoMemory` if out of memory.
-pub fn verdicts_of(alloc: Global, loads: &Loads<'_, '_>, deck: &Deck) -> Result<Made, NoMemory>
+pub fn verdicts_of(alloc: Global, loads: &Loads<'_, '_>, deck: &Deck) -> Result<DraftText, NoMemory>
     ensures { IfOk result (λ made. (d : Desk) → AreLoads loads.now d.deck d.sources
-        → ShowsVerdicts d deck.now made.fine made.text.items) }
+        → ShowsVerdicts d deck.now made.passes made.text.items) }
 {
-    let mut made = Made {
+    let mut made = DraftText {
         text: Vec::new(alloc),
-        fine: true,
+        passes: true,
     };
     for i in 0..deck.len() {
         let (number, line) = deck.line(i);

@@ -19,7 +19,7 @@ pub enum Text {
 
 /// What the program says of itself.
 #[derive(Clone, Copy, Debug, PartialEq, Eq)]
-pub enum Told {
+pub enum About {
     /// What it reads and writes, its jobs, an example, and its page.
     Help,
     /// Its version.
@@ -43,7 +43,7 @@ pub enum Job<'a> {
     /// Plays the deck of the draft and writes what is shown of the play.
     Play(Play<'a>),
     /// Says something of the program.
-    Tell(Told),
+    Describe(About),
 }
 
 // The job that one word names.
@@ -56,8 +56,8 @@ fn job_named<'a>(word: &str) -> Option<Job<'a>>
         "check" => Some(Job::Write(Text::Verdicts)),
         "names" => Some(Job::Write(Text::Names)),
         "trace" => Some(Job::Play(Play::Trace)),
-        "--help" => Some(Job::Tell(Told::Help)),
-        "--version" => Some(Job::Tell(Told::Version)),
+        "--help" => Some(Job::Describe(About::Help)),
+        "--version" => Some(Job::Describe(About::Version)),
         _ => None,
     }
 }

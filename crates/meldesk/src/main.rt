@@ -2,14 +2,14 @@
 
 //! Drafts, over the standard streams.
 
+mod about;
 mod checking;
+mod draft_text;
 mod job;
-mod made;
 mod playing;
 #[cfg(test)]
 mod purse;
 mod running;
-mod telling;
 #[cfg(test)]
 mod tests;
 

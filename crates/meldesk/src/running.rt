@@ -16,11 +16,11 @@ ghost use Rattle.meldesk.specs.Running.{refused_desk, refused_draft, RejectsAs, 
 ghost use Rattle.meldesk.specs.Statuses.{desk_outside, status_if, DeckSays, MeldeskCompletes, MeldeskSays, TextSays};
 ghost use Rattle.meldesk.specs.Verdicts.{has_long_deck, of_listing, of_text, IsCheckOf, IsNamesOf, IsTextOf, Whole};
 
+use crate::about::describe;
 use crate::checking::verdicts_of;
+use crate::draft_text::DraftText;
 use crate::job::{Job, Text, job_of};
-use crate::made::Made;
 use crate::playing::show;
-use crate::telling::tell;
 use mc_base::{NoMemory, Steps};
 use mc_deck::DeckRefusal;
 use mc_desk::{Desk, Draft, Loads, listing_of, read_draft, sources_of};
@@ -75,32 +75,32 @@ pub fn desk_of(alloc: Global, text: &[u8]) -> Result<Desk<'_>, Rejection>
 }
 
 // The deck of a draft.
-fn deck_text(alloc: Global, draft: &[u8]) -> Result<Made, Rejection>
-    ensures { MatchResult result (λ m. Whole m.fine m.text.items ≡ of_text (deck_of draft.now))
+fn deck_text(alloc: Global, draft: &[u8]) -> Result<DraftText, Rejection>
+    ensures { MatchResult result (λ m. Whole m.passes m.text.items ≡ of_text (deck_of draft.now))
         (RejectsAs (λ v. v ≡ of_text (deck_of draft.now))) }
 {
     let Draft { deck, .. } = draft_of(alloc, draft)?;
-    Ok(Made {
+    Ok(DraftText {
         text: deck,
-        fine: true,
+        passes: true,
     })
 }
 
 // The listing of a draft.
-fn listing_text(alloc: Global, draft: &[u8]) -> Result<Made, Rejection>
+fn listing_text(alloc: Global, draft: &[u8]) -> Result<DraftText, Rejection>
     ensures { MatchResult result
-        (λ m. Whole m.fine m.text.items ≡ of_listing (has_long_deck draft.now) (draft_listing draft.now))
+        (λ m. Whole m.passes m.text.items ≡ of_listing (has_long_deck draft.now) (draft_listing draft.now))
         (RejectsAs (λ v. v ≡ of_listing (has_long_deck draft.now) (draft_listing draft.now))) }
 {
     let desk = desk_of(alloc, draft)?;
     let text = listing_of(alloc, desk.sources.as_slice())?;
-    Ok(Made { text, fine: true })
+    Ok(DraftText { text, passes: true })
 }
 
 // The stack checker's verdicts on a draft.
-fn verdicts_text(alloc: Global, draft: &[u8]) -> Result<Made, Rejection>
+fn verdicts_text(alloc: Global, draft: &[u8]) -> Result<DraftText, Rejection>
     ensures { MatchResult result
-        (λ m. IsCheckOf (has_long_deck draft.now) (desk_read draft.now) (Whole m.fine m.text.items))
+        (λ m. IsCheckOf (has_long_deck draft.now) (desk_read draft.now) (Whole m.passes m.text.items))
         (RejectsAs (IsCheckOf (has_long_deck draft.now) (desk_read draft.now))) }
 {
     let desk = desk_of(alloc, draft)?;
@@ -117,19 +117,19 @@ fn names_in(alloc: Global, draft: &[u8], desk: &Desk<'_>) -> Result<Vec<u8>, NoM
 }
 
 // The names of a draft.
-fn names_text(alloc: Global, draft: &[u8]) -> Result<Made, Rejection>
+fn names_text(alloc: Global, draft: &[u8]) -> Result<DraftText, Rejection>
     ensures { MatchResult result
-        (λ m. IsNamesOf (has_long_deck draft.now) (desk_read draft.now) (Whole m.fine m.text.items))
+        (λ m. IsNamesOf (has_long_deck draft.now) (desk_read draft.now) (Whole m.passes m.text.items))
         (RejectsAs (IsNamesOf (has_long_deck draft.now) (desk_read draft.now))) }
 {
     let desk = desk_of(alloc, draft)?;
     let text = names_in(alloc, draft, &desk)?;
-    Ok(Made { text, fine: true })
+    Ok(DraftText { text, passes: true })
 }
 
 // The text of a draft.
-fn text_of(alloc: Global, text: Text, draft: &[u8]) -> Result<Made, Rejection>
-    ensures { MatchResult result (λ m. IsTextOf text draft.now (Whole m.fine m.text.items))
+fn text_of(alloc: Global, text: Text, draft: &[u8]) -> Result<DraftText, Rejection>
+    ensures { MatchResult result (λ m. IsTextOf text draft.now (Whole m.passes m.text.items))
         (RejectsAs (IsTextOf text draft.now)) }
 {
     match text {
@@ -141,10 +141,10 @@ fn text_of(alloc: Global, text: Text, draft: &[u8]) -> Result<Made, Rejection>
 }
 
 // The status of a text that is written, by whether its draft passes it.
-fn status_if(fine: bool) -> Status
-    ensures { result ≡ status_if fine }
+fn status_if(passes: bool) -> Status
+    ensures { result ≡ status_if passes }
 {
-    if fine { Status::Done } else { Status::Failed }
+    if passes { Status::Done } else { Status::Failed }
 }
 
 // Writes the text of a draft that is read.
@@ -162,7 +162,7 @@ fn write<S: Source, T: Sink>(
 {
     let draft = read_input(alloc, input)?;
     let made = text_of(alloc, text, draft.as_slice())?;
-    let status = status_if(made.fine);
+    let status = status_if(made.passes);
     Ok(ended(status, put_all(out, made.text.as_slice())))
 }
 
@@ -221,7 +221,7 @@ fn run<S: Source, T: Sink, E: Sink, N: Bench, L: Ledger>(
         Job::Write(Text::Verdicts) => make(alloc, Text::Verdicts, input, out),
         Job::Write(Text::Names) => make(alloc, Text::Names, input, out),
         Job::Play(play) => show(alloc, play, input, out, dev, steps),
-        Job::Tell(told) => tell(told, out),
+        Job::Describe(about) => describe(about, out),
     }
 }
 

@@ -193,7 +193,7 @@ fn names(rt: HostRuntime) -> Result<(), Fail> {
 
 // What the program says of itself, without a draft.
 #[test]
-fn told(rt: HostRuntime) -> Result<(), Fail> {
+fn about(rt: HostRuntime) -> Result<(), Fail> {
     let alloc = rt.alloc();
     let version = made(alloc, &["--version"], BROKEN)?;
     assert!(rt; version.is(0, b"meldesk 3\n") && version.left == BROKEN.len());

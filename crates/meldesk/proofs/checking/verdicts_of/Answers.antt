@@ -11,9 +11,9 @@ loop-i-init c = λ d h.
 pub loop-i-preserved : goal.loop-i-preserved
 loop-i-preserved c = λ d h.
     let next = c.line-number.result in
-    leads_next d c.args.deck.now c.loop-i.i next.0 (line_of next.1) c.loop-i.made.fine c.push_line.new.made.fine c.loop-i.made.text.items c.push_line.new.made.text.items c.line-number.ensures.line (c.in_ok-push_line.ensures d h) (c.loop-i.invariant d h)
+    leads_next d c.args.deck.now c.loop-i.i next.0 (line_of next.1) c.loop-i.made.passes c.push_line.new.made.passes c.loop-i.made.text.items c.push_line.new.made.text.items c.line-number.ensures.line (c.in_ok-push_line.ensures d h) (c.loop-i.invariant d h)
 
 pub returns : goal.returns
 returns c = λ d h.
     let end : length c.args.deck.now ≤ c.loop-i.i = omega arith in
-    leads_last d c.args.deck.now c.loop-i.i c.loop-i.made.fine c.loop-i.made.text.items end (c.loop-i.invariant d h)
+    leads_last d c.args.deck.now c.loop-i.i c.loop-i.made.passes c.loop-i.made.text.items end (c.loop-i.invariant d h)

@@ -18,4 +18,4 @@ returns c =
     let sources : c.as_slice-2.result.now ≡ c.in_ok-desk.desk.sources.items = search rules in
     let by_text = subst (λ (t : List ℕ). AreLoads c.in_ok-loads.loads t (sources_value c.as_slice-2.result.now)) text c.in_ok-loads.ensures in
     let loads = subst (λ (ss : List Source). AreLoads c.in_ok-loads.loads d.deck (sources_value ss)) sources by_text in
-    check_made c.args.draft.now c.in_ok-verdicts_of.field-0.text.items c.in_ok-verdicts_of.field-0.fine d c.in_ok-desk.ensures.short c.in_ok-desk.ensures.desk (c.in_ok-verdicts_of.ensures d loads)
+    check_made c.args.draft.now c.in_ok-verdicts_of.field-0.text.items c.in_ok-verdicts_of.field-0.passes d c.in_ok-desk.ensures.short c.in_ok-desk.ensures.desk (c.in_ok-verdicts_of.ensures d loads)

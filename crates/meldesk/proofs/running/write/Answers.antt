@@ -11,9 +11,9 @@ returns-clause-done g c =
     let to = sunk g.T.Sink c.put_all.new.sink in
     let said = c.put_all.ensures in
     let text = c.in_ok-made.made.text.items in
-    let is = subst (λ (t : List ℕ). IsTextOf c.args.text t (Whole c.in_ok-made.made.fine text)) c.as_slice.ensures.value c.in_ok-made.ensures in
+    let is = subst (λ (t : List ℕ). IsTextOf c.args.text t (Whole c.in_ok-made.made.passes text)) c.as_slice.ensures.value c.in_ok-made.ensures in
     record {
-      fine = c.in_ok-made.made.fine;
+      passes = c.in_ok-made.made.passes;
       text = text;
       due = inr (record { input = c.in_ok-draft.draft.items; read = c.in_ok-draft.ensures.read; is = is });
       written = record {

@@ -2,7 +2,7 @@
 
 /// A text that was made from a draft, and whether the draft passes it, as it does each text but that of verdicts.
 #[derive(Drop)]
-pub struct Made {
+pub struct DraftText {
     pub text: Vec<u8>,
-    pub fine: bool,
+    pub passes: bool,
 }

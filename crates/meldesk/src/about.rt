@@ -3,9 +3,9 @@ ghost use Rattle.std.specs.Prelude.{◌≡◌};
 ghost use Rattle.mc_text.specs.Texts.{sunk};
 ghost use Rattle.mc_filter.specs.declared.status.Status.TheVariants.{Done};
 ghost use Rattle.mc_filter.specs.Statuses.{IsWritten};
-ghost use Rattle.meldesk.specs.Jobs.{told_text};
+ghost use Rattle.meldesk.specs.Jobs.{about_text};
 
-use crate::job::Told;
+use crate::job::About;
 use mc_filter::{Status, ended};
 use mc_streams::{Sink, put_all};
 
@@ -29,18 +29,18 @@ The page is docs/DESK.md.\n\
 const VERSION: &[u8] = b"meldesk 3\n";
 
 // The text of what the program says of itself.
-fn told_text(told: Told) -> &'static [u8]
-    ensures { result.now ≡ told_text told }
+fn about_text(about: About) -> &'static [u8]
+    ensures { result.now ≡ about_text about }
 {
-    match told {
-        Told::Help => HELP,
-        Told::Version => VERSION,
+    match about {
+        About::Help => HELP,
+        About::Version => VERSION,
     }
 }
 
 /// Writes what the program says of itself, and returns its status.
-pub fn tell<T: Sink>(told: Told, out: &mut T) -> Status
-    ensures { IsWritten Done (told_text told) result (sunk T.Sink out.old) (sunk T.Sink out.new) }
+pub fn describe<T: Sink>(about: About, out: &mut T) -> Status
+    ensures { IsWritten Done (about_text about) result (sunk T.Sink out.old) (sunk T.Sink out.new) }
 {
-    ended(Status::Done, put_all(out, told_text(told)))
+    ended(Status::Done, put_all(out, about_text(about)))
 }
