@@ -3,3 +3,4 @@ pub mod Inputs
 pub mod Statuses
 pub mod Outside
 pub mod Words
+pub mod Programs

@@ -2,23 +2,25 @@
 ghost use Rattle.std.specs.Prelude.{◌≡◌, ◌≢◌, drop, Ok, None, IfOk, IsErr};
 ghost use Rattle.std.specs.IoError.{error_kind};
 ghost use Rattle.std.specs.Vec.Iter.{into_iter_items};
-ghost use Rattle.mc_filter.specs.Words.{readable_words};
+ghost use Rattle.mc_filter.specs.Words.{readable_words, ArgumentsGive};
 
 use mc_base::NoMemory;
 use std::alloc::{AllocError, Global};
-use std::env;
 use std::env::Args;
+use std::io;
 use std::io::{Error, ErrorKind};
 
-/// Returns the words of the command line after the program's name, or `None` if one of them cannot be read, as one
-/// that is not UTF-8.
+/// Returns the words of the command line after the program's name, from the arguments of the process, or `None` if one
+/// of them cannot be read, as one that is not UTF-8.
 ///
 /// # Errors
 ///
 /// Returns `NoMemory` if out of memory.
-pub fn command_words(rt: &HostRuntime) -> Result<Option<Vec<String>>, NoMemory> {
-    match env::args(rt) {
-        Ok(args) => Ok(Some(without_name(rt.alloc(), args)?)),
+pub fn command_words(alloc: Global, args: io::Result<Args>) -> Result<Option<Vec<String>>, NoMemory>
+    ensures { ArgumentsGive args result }
+{
+    match args {
+        Ok(args) => Ok(Some(without_name(alloc, args)?)),
         Err(error) => unread(&error),
     }
 }

@@ -2,5 +2,6 @@ pub mod Jobs
 pub mod Verdicts
 pub mod Judging
 pub mod Statuses
+pub mod Programs
 pub mod Running
 pub mod Computed

@@ -8,6 +8,7 @@ mod code;
 mod decks;
 mod form;
 mod job;
+mod program;
 mod rows;
 mod running;
 #[cfg(test)]
@@ -22,43 +23,25 @@ mod text;
 #[cfg(test)]
 mod worked_rows;
 
-ghost use Rattle.std.specs.Prelude.{◌≡◌, ◌<◌};
-
-use crate::running::melcard;
-use mc_base::Steps;
-use mc_filter::{Status, blank_device, command_words, job_words, number};
+use crate::program::program;
+use mc_filter::command_words;
 use mc_streams::{StdSink, StdSource};
+use std::env;
+use std::io::{Stdin, Stdout};
 use std::marker::Brand;
 use std::process::ExitCode;
-use std::sync::ledger::{Blank, Ledger};
-
-// Runs the job over the standard streams and a blank device.
-fn program<L: Ledger>(rt: &HostRuntime, blank: Blank) -> u8
-    requires name { blank.name ≡ L.name }
-    requires parts { blank.parts ≡ L.parts }
-    requires some { 0 < blank.parts }
-{
-    let alloc = rt.alloc();
-    let mut steps = Steps::<L>::new(blank);
-    let Ok(words) = command_words(rt) else {
-        return number(Status::NoMemory);
-    };
-    let words = job_words(alloc, words);
-    let Ok(mut device) = blank_device(alloc) else {
-        return number(Status::NoMemory);
-    };
-    let mut input = StdSource::new(rt.stdin());
-    let mut out = StdSink::new(rt.stdout());
-    melcard(
-        alloc,
-        words.as_slice(),
-        &mut input,
-        &mut out,
-        &mut device,
-        &mut steps,
-    )
-}
+use std::sync::ledger::Blank;
 
 fn main(rt: HostRuntime) -> ExitCode {
-    ExitCode::from(program::<Brand>(&rt, Blank::new(1)))
+    let words = command_words(rt.alloc(), env::args(&rt));
+    let mut input = StdSource::new(rt.stdin());
+    let mut out = StdSink::new(rt.stdout());
+    let status = program::<StdSource<Stdin>, StdSink<Stdout>, Brand>(
+        rt.alloc(),
+        words,
+        &mut input,
+        &mut out,
+        Blank::new(1),
+    );
+    ExitCode::from(status)
 }

@@ -4,3 +4,4 @@ pub mod Verdicts
 pub mod Plays
 pub mod Statuses
 pub mod Running
+pub mod Programs

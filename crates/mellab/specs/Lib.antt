@@ -2,3 +2,4 @@ pub mod Jobs
 pub mod Verdicts
 pub mod Statuses
 pub mod Running
+pub mod Programs

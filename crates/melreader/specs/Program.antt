@@ -9,12 +9,12 @@ use Rattle.mc_streams.specs.declared.refusals.WriteFault.{WriteFault as Fault}
 use Rattle.mc_streams.specs.declared.sink.Sink as sink
 use Rattle.mc_streams.specs.declared.source.Source as source
 use Rattle.mc_text.specs.Texts.{sunk, Puts}
-use Rattle.mc_nvm.specs.Sim.{blank_sim, sim_bench, sim_state, Sim, SimWrote}
+use Rattle.mc_nvm.specs.Sim.{blank_sim, Sim}
 use Rattle.mc_filter.specs.Inputs.{stream, Stream}
+use Rattle.mc_filter.specs.Programs.{sim_members}
 use Rattle.mc_filter.specs.Statuses.{IsNumberOf}
 use Rattle.mc_filter.specs.declared.status.Status.{Status}
 use Rattle.mc_filter.specs.declared.status.Status.TheVariants.{NoForm, NoMemory}
-use Rattle.mc_script.specs.Benches.{BenchMembers}
 use Rattle.melreader.specs.Sessions.{outside, unopened, usage, AreKept, MelreaderSays}
 
 -- ---- words
@@ -39,11 +39,14 @@ selection (Err e) = OutOfMemory
 selection (Ok None) = NoCard
 selection (Ok (Some words)) = selection_of words.items
 
--- ---- statuses
+-- the path that is selected, if one is
+abbrev pub selected_path : Selection → Option (List ℕ)
+selected_path OutOfMemory = None
+selected_path BlankCard = None
+selected_path (DeckOf path) = Some path
+selected_path NoCard = None
 
--- a device of a program as a bench
-abbrev pub sim_members : BenchMembers Sim
-sim_members = record { state = sim_state; wrote = SimWrote; same = λ d e. d ≡ e; bench = sim_bench }
+-- ---- statuses
 
 module _ {S T E : Type 0} (s : source.Ghosts S) (t : sink.Ghosts T) (e : sink.Ghosts E) where
   -- source and sinks of a program before and after a call
@@ -91,10 +94,10 @@ module _ {S T E : Type 0} (s : source.Ghosts S) (t : sink.Ghosts T) (e : sink.Gh
     PathSays path None x n = IsNumberOf (IsRefused (unopened path) x) n
     PathSays path (Some file) x n = (left : D) × IsNumberOf (SessionSays (Some (stream d file)) (Some (stream d left)) x) n
 
-    -- the meaning of the number of the status, by the selection: the session is on a blank card, or after the deck of
-    -- exactly the path that was given
-    abbrev pub ProgramSays : {F : Type 0} → (F → List ℕ → Option D → Type 0) → F → Selection → Streams → ℕ → Type 0
-    ProgramSays opens files OutOfMemory x n = IsNumberOf (IsShort x) n
-    ProgramSays opens files BlankCard x n = IsNumberOf (SessionSays None None x) n
-    ProgramSays opens files (DeckOf path) x n = (file : Option D) × opens files path file × PathSays path file x n
-    ProgramSays opens files NoCard x n = IsNumberOf (IsRefused usage x) n
+    -- the meaning of the number of the status, by what the path that is selected was opened as, and by the selection:
+    -- the session is on a blank card, or after the deck of that path
+    abbrev pub ProgramSays : Option D → Selection → Streams → ℕ → Type 0
+    ProgramSays file OutOfMemory x n = IsNumberOf (IsShort x) n
+    ProgramSays file BlankCard x n = IsNumberOf (SessionSays None None x) n
+    ProgramSays file (DeckOf path) x n = PathSays path file x n
+    ProgramSays file NoCard x n = IsNumberOf (IsRefused usage x) n

@@ -3,17 +3,16 @@
 //! A card in a reader, over the standard streams.
 
 mod deck;
-mod files;
 mod lines;
 mod running;
 mod selecting;
 #[cfg(test)]
 mod tests;
 
-use crate::files::Disk;
-use crate::selecting::program;
+use crate::selecting::{deck_path, program};
 use mc_filter::command_words;
 use mc_streams::{StdSink, StdSource};
+use std::env;
 use std::fs::File;
 use std::io::{Stderr, Stdin, Stdout};
 use std::marker::Brand;
@@ -21,14 +20,15 @@ use std::process::ExitCode;
 use std::sync::ledger::Blank;
 
 fn main(rt: HostRuntime) -> ExitCode {
-    let words = command_words(&rt);
-    let files = Disk::new(&rt);
+    let words = command_words(rt.alloc(), env::args(&rt));
+    let file = match deck_path(&words) {
+        Some(path) => File::open(&rt, path).ok().map(StdSource::new),
+        None => None,
+    };
     let mut input = StdSource::new(rt.stdin());
     let mut out = StdSink::new(rt.stdout());
     let mut err = StdSink::new(rt.stderr());
-    let blank = Blank::new(1);
-    ExitCode::from(program::<
-        Disk<'_>,
+    let status = program::<
         StdSource<File>,
         StdSource<Stdin>,
         StdSink<Stdout>,
@@ -37,10 +37,11 @@ fn main(rt: HostRuntime) -> ExitCode {
     >(
         rt.alloc(),
         words,
-        &files,
+        file,
         &mut input,
         &mut out,
         &mut err,
-        blank,
-    ))
+        Blank::new(1),
+    );
+    ExitCode::from(status)
 }

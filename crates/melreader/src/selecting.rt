@@ -1,11 +1,10 @@
 // The program: its words select a deck, which is played on a blank device before the frames of a host are served.
-ghost use Rattle.std.specs.Prelude.{◌≡◌, ◌<◌, None, Option, Some};
+ghost use Rattle.std.specs.Prelude.{◌≡◌, ◌<◌, option_map, None, Some};
 ghost use Rattle.mc_filter.specs.Statuses.{IsNumberOf};
 ghost use Rattle.mc_filter.specs.Inputs.{stream};
-ghost use Rattle.melreader.specs.Program.{selection, selection_of, IsRefused, PathSays, ProgramSays, SessionSays};
+ghost use Rattle.melreader.specs.Program.{selected_path, selection, selection_of, IsRefused, PathSays, ProgramSays, SessionSays};
 ghost use Rattle.melreader.specs.Sessions.{unopened, usage};
 
-use crate::files::Files;
 use crate::lines::put_unopened;
 use crate::running::melreader;
 use mc_base::{NoMemory, Steps};
@@ -104,42 +103,41 @@ fn with_deck<D: Source, S: Source, T: Sink, E: Sink, L: Ledger>(
 }
 
 // Runs a session after the deck of a path, or writes that the path cannot be opened.
-fn after_deck<F: Files<D>, D: Source + Drop, S: Source, T: Sink, E: Sink, L: Ledger>(
+fn after_deck<D: Source + Drop, S: Source, T: Sink, E: Sink, L: Ledger>(
     alloc: Global,
-    files: &F,
     path: &str,
+    file: Option<D>,
     input: &mut S,
     out: &mut T,
     err: &mut E,
     steps: &mut Steps<L>,
 ) -> u8
-    ensures { (file : Option D) × F.opens files.now path.now file
-        × PathSays S.Source T.Sink E.Sink D.Source path.now file (record {
-          in_old = input.old;
-          in_new = input.new;
-          out_old = out.old;
-          out_new = out.new;
-          err_old = err.old;
-          err_new = err.new;
-        }) result }
+    ensures { PathSays S.Source T.Sink E.Sink D.Source path.now file (record {
+      in_old = input.old;
+      in_new = input.new;
+      out_old = out.old;
+      out_new = out.new;
+      err_old = err.old;
+      err_new = err.new;
+    }) result }
 {
-    match files.open(path) {
+    match file {
         Some(mut file) => with_deck(alloc, &mut file, input, out, err, steps),
         None => refuse_path(input, out, err, path),
     }
 }
 
 // Runs the session that words of text select.
-fn by_words<F: Files<D>, D: Source + Drop, S: Source, T: Sink, E: Sink, L: Ledger>(
+fn by_words<D: Source + Drop, S: Source, T: Sink, E: Sink, L: Ledger>(
     alloc: Global,
     words: &[String],
-    files: &F,
+    file: Option<D>,
     input: &mut S,
     out: &mut T,
     err: &mut E,
     steps: &mut Steps<L>,
 ) -> u8
-    ensures { ProgramSays S.Source T.Sink E.Sink D.Source F.opens files.now (selection_of words.now) (record {
+    ensures { ProgramSays S.Source T.Sink E.Sink D.Source file (selection_of words.now) (record {
       in_old = input.old;
       in_new = input.new;
       out_old = out.old;
@@ -150,19 +148,32 @@ fn by_words<F: Files<D>, D: Source + Drop, S: Source, T: Sink, E: Sink, L: Ledge
 {
     match words {
         [] => blank_card(alloc, input, out, err, steps),
-        [path] => after_deck(alloc, files, path.as_str(), input, out, err, steps),
+        [path] => after_deck(alloc, path.as_str(), file, input, out, err, steps),
         _ => usage(input, out, err),
     }
 }
 
-/// Runs the program: a session on a blank device of 8,192 words, after the deck of the one word if there is one, whose
-/// path it is. Its status is that of the session; 2 if the path cannot be opened, which is written to `err`, or if
-/// the words are more or are no text, and then the usage line is; and 5 if it was out of memory for the words or the
-/// device, and then nothing is written.
-pub fn program<F: Files<D>, D: Source + Drop, S: Source, T: Sink, E: Sink, L: Ledger>(
+/// Returns the path of the deck that the words of a command line select, or `None` if they select none.
+pub fn deck_path(words: &Result<Option<Vec<String>>, NoMemory>) -> Option<&str>
+    ensures { option_map (λ path. path.now) result ≡ selected_path (selection words.now) }
+{
+    let Ok(Some(words)) = words else {
+        return None;
+    };
+    match words.as_slice() {
+        [path] => Some(path.as_str()),
+        _ => None,
+    }
+}
+
+/// Runs the program: a session on a blank device of 8,192 words, after the deck of `file` if the words select a deck,
+/// whose path ([`deck_path`]) was opened there. Its status is that of the session; 2 if the path could not be opened,
+/// which is written to `err`, or if the words are more or are no text, and then the usage line is; and 5 if it was out
+/// of memory for the words or the device, and then nothing is written.
+pub fn program<D: Source + Drop, S: Source, T: Sink, E: Sink, L: Ledger>(
     alloc: Global,
     words: Result<Option<Vec<String>>, NoMemory>,
-    files: &F,
+    file: Option<D>,
     input: &mut S,
     out: &mut T,
     err: &mut E,
@@ -171,7 +182,7 @@ pub fn program<F: Files<D>, D: Source + Drop, S: Source, T: Sink, E: Sink, L: Le
     requires name { blank.name ≡ L.name }
     requires parts { blank.parts ≡ L.parts }
     requires some { 0 < blank.parts }
-    ensures { ProgramSays S.Source T.Sink E.Sink D.Source F.opens files.now (selection words) (record {
+    ensures { ProgramSays S.Source T.Sink E.Sink D.Source file (selection words) (record {
       in_old = input.old;
       in_new = input.new;
       out_old = out.old;
@@ -182,7 +193,7 @@ pub fn program<F: Files<D>, D: Source + Drop, S: Source, T: Sink, E: Sink, L: Le
 {
     let mut steps = Steps::<L>::new(blank);
     match words {
-        Ok(Some(words)) => by_words(alloc, words.as_slice(), files, input, out, err, &mut steps),
+        Ok(Some(words)) => by_words(alloc, words.as_slice(), file, input, out, err, &mut steps),
         // Arguments that are not UTF-8 select no deck.
         Ok(None) => usage(input, out, err),
         Err(NoMemory) => number(Status::NoMemory),

@@ -1,9 +1,8 @@
 // Each status of a session over streams in memory.
 ghost use Rattle.std.specs.Prelude.{◌≡◌, ◌<◌};
 
-use crate::files::Files;
 use crate::running::melreader;
-use crate::selecting::program;
+use crate::selecting::{deck_path, program};
 use mc_base::{NoMemory, Steps};
 use mc_nvm::SimNvm;
 use mc_streams::{MemSink, MemSource, Source};
@@ -157,24 +156,12 @@ fn decks(rt: HostRuntime) -> Result<(), Fail> {
     Ok(())
 }
 
-// Files in memory, of which one path alone can be opened: `card.deck`, which has this text.
-#[derive(Drop)]
-struct OneFile {
-    alloc: Global,
-    text: &'static [u8],
-}
-
-impl Files<MemSource> for OneFile {
-    ghost use Rattle.std.specs.Prelude.{⊤};
-
-    ghost opens = { λ files path file. ⊤ };
-
-    fn open(&self, path: &str) -> Option<MemSource> {
-        if path != "card.deck" {
-            return None;
-        }
-        MemSource::new(self.alloc, self.text, &[]).ok()
+// The file of a path, of which one alone can be opened: `card.deck`.
+fn open(alloc: Global, path: Option<&str>) -> Option<MemSource> {
+    if path? != "card.deck" {
+        return None;
     }
+    MemSource::new(alloc, COUNTER, &[]).ok()
 }
 
 // The words of a command line.
@@ -197,21 +184,13 @@ fn end_of<L: Ledger>(
     requires parts { blank.parts ≡ L.parts }
     requires some { 0 < blank.parts }
 {
-    let files = OneFile {
-        alloc,
-        text: COUNTER,
-    };
+    let words = Ok(words);
+    let file = open(alloc, deck_path(&words));
     let mut input = MemSource::new(alloc, FRAMES, &[])?;
     let mut out = MemSink::new(alloc, 18, &[])?;
     let mut err = MemSink::new(alloc, err_room, &[])?;
-    let status = program::<OneFile, MemSource, MemSource, MemSink, MemSink, L>(
-        alloc,
-        Ok(words),
-        &files,
-        &mut input,
-        &mut out,
-        &mut err,
-        blank,
+    let status = program::<MemSource, MemSource, MemSink, MemSink, L>(
+        alloc, words, file, &mut input, &mut out, &mut err, blank,
     );
     Ok(End {
         status,

@@ -1,0 +1,23 @@
+-- The program: the job that the words of its command line select, or out of memory before they were read.
+use Rattle.std.specs.Prelude.{ℕ, List, Option, Result, Ok, Err, IfSome}
+use Rattle.std.specs.declared.alloc.Global.{Global}
+use Rattle.std.specs.declared.string.String.{String}
+use Rattle.std.specs.Global.{Vec}
+use Rattle.mc_base.specs.declared.refusals.NoMemory.{NoMemory as Memory}
+use Rattle.mc_filter.specs.declared.status.Status.{Status}
+use Rattle.mc_filter.specs.Outside.{Outside}
+use Rattle.mc_filter.specs.Programs.{IsShort}
+use Rattle.mc_filter.specs.Statuses.{IsNumberOf}
+use Rattle.mc_filter.specs.Words.{readable_words}
+use Rattle.mellab.specs.Jobs.{job_of}
+use Rattle.mellab.specs.Statuses.{MellabCompletes, MellabSays}
+
+-- what is done for words
+pub record DoesLabJob (words : List (String Global)) (a : Outside) (s : Status) : Type 0 where
+  pub says : MellabSays s (job_of words) a
+  pub completes : IfSome (job_of words) (λ job. MellabCompletes s job a)
+
+-- the meaning of the number of the status, by the words, or that memory was out before they were read
+abbrev pub ProgramSays : Result (Option (Vec (String Global))) Memory → Outside → ℕ → Type 0
+ProgramSays (Err e) a n = IsNumberOf (IsShort a) n
+ProgramSays (Ok words) a n = IsNumberOf (DoesLabJob (readable_words words) a) n
