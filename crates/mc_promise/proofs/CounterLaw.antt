@@ -4,7 +4,7 @@ use Rattle.mc_model_play.specs.Play.{Step, plays, start}
 use Rattle.mc_promise.specs.Along.{OnFixed, OnAnswer, command_for}
 use Rattle.mc_promise.specs.Kept.{LineKept}
 use Rattle.mc_promise.specs.Counter.{CounterLaw, KeepsCount, counter_name, counter_watch, counter_app, AnswersCount}
-use Rattle.mc_promise.proofs.Lines.{kept_along}
+use Rattle.mc_promise.proofs.OutlineDomain.{kept_along}
 use Rattle.mc_promise.proofs.FromOutline.{along_from, fixed_from}
 use Rattle.mc_promise.proofs.CounterOutline.{CountKept, counter_outline, counter_shown}
 

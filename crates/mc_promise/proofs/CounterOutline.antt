@@ -44,17 +44,17 @@ frame_at place x y dyn dt c z =
 
 -- nothing was written yet, and the public segment is the command's, where the selection began the frame
 abbrev pub IsFresh : Entry ℕ → List ℕ → List ℕ → Type 0
-IsFresh (BySelection a before) h p = (h ≡ before) × (p ≡ new_public a)
+IsFresh (BySelection bytes a before) h p = (h ≡ before) × (p ≡ new_public a)
 IsFresh ByDelegation h p = ⊤
 
 -- the command is not to count
 abbrev pub IsNoCount : Entry ℕ → Type 0
-IsNoCount (BySelection a before) = length a.body ≤ 1024 → a.ins ≢ 0x10
+IsNoCount (BySelection bytes a before) = length a.body ≤ 1024 → a.ins ≢ 0x10
 IsNoCount ByDelegation = ⊤
 
 -- it was counted, where the command is to count, and the status is 9000
 abbrev pub IsCounted : Entry ℕ → List ℕ → List ℕ → Type 0
-IsCounted (BySelection a before) h p = length a.body ≤ 1024 → (sw_of p ≡ 0x9000) × (a.ins ≡ 0x10 → h ≡ suc (newest_count before) ∷ before)
+IsCounted (BySelection bytes a before) h p = length a.body ≤ 1024 → (sw_of p ≡ 0x9000) × (a.ins ≡ 0x10 → h ≡ suc (newest_count before) ∷ before)
 IsCounted ByDelegation h p = ⊤
 
 -- before the instruction at each place
@@ -88,7 +88,7 @@ counter_outline =
 
 no_count : (e : Entry ℕ) (h p : List ℕ) → IsFresh e h p → (sub_blocks (take 1 (drop 1029 p)) (0x10 ∷ [])).z ≡ false → IsNoCount e
 no_count ByDelegation h p f z = tt
-no_count (BySelection a before) h p f z = λ small. other_ins a 0x10 p f.1 small z
+no_count (BySelection bytes a before) h p f z = λ small. other_ins a 0x10 p f.1 small z
 
 not_full : (x y : ℕ) → (sub_blocks (x ∷ y ∷ []) (0xFF ∷ 0xFF ∷ [])).z ≡ false → num (x ∷ y ∷ []) ≢ 65535
 not_full x y z is =
@@ -107,29 +107,29 @@ one_more_is n small other = let less : n + 1 < 65536 = below n small other in om
 
 uncounted : (e : Entry ℕ) (h p : List ℕ) → IsFresh e h p → IsNoCount e → IsCounted e h p
 uncounted ByDelegation h p f n = tt
-uncounted (BySelection a before) h p f n = λ small. (ap sw_of f.1 ∙ status_new a small, λ is. absurd (n small is))
+uncounted (BySelection bytes a before) h p f n = λ small. (ap sw_of f.1 ∙ status_new a small, λ is. absurd (n small is))
 
 counted : (e : Entry ℕ) (h p : List ℕ) (v : ℕ) → IsFresh e h p → v ≡ suc (newest_count h) → IsCounted e (v ∷ h) p
 counted ByDelegation h p v f is = tt
-counted (BySelection a before) h p v f is = λ small. (ap sw_of f.1 ∙ status_new a small, λ ins. ap (λ (k : List ℕ). v ∷ k) f.0 ∙ ap (λ (n : ℕ). n ∷ before) (is ∙ ap (λ (k : List ℕ). suc (newest_count k)) f.0))
+counted (BySelection bytes a before) h p v f is = λ small. (ap sw_of f.1 ∙ status_new a small, λ ins. ap (λ (k : List ℕ). v ∷ k) f.0 ∙ ap (λ (n : ℕ). n ∷ before) (is ∙ ap (λ (k : List ℕ). suc (newest_count k)) f.0))
 
 -- a status other than 9000 ends a command in which nothing was written
 refused_exit : (e : Entry ℕ) (h p : List ℕ) (f : Frame) (d : Done) (high low : ℕ) → IsFresh e h p → d.effect.public ≡ splice p 1039 (high ∷ low ∷ []) → public_size ≤ length p → 256 * high + low ≢ 0x9000 → ExitShown counter_outline e h f d
 refused_exit ByDelegation h p f d high low fresh is size other = tt
-refused_exit (BySelection a before) h p f d high low fresh is size other =
+refused_exit (BySelection bytes a before) h p f d high low fresh is size other =
     let sw : sw_of d.effect.public ≡ 256 * high + low = ap sw_of is ∙ status_set p high low size in
     (tt, record { durable = λ small ins done. absurd (other (sym sw ∙ done)); refused = λ small ins other. fresh.0 })
 
 -- 9000 ends a command that was counted, if it is to count
 counted_exit : (e : Entry ℕ) (h p : List ℕ) (f : Frame) (d : Done) → IsCounted e h p → d.effect.public ≡ with_la p 2 → public_size ≤ length p → ExitShown counter_outline e h f d
 counted_exit ByDelegation h p f d done is size = tt
-counted_exit (BySelection a before) h p f d done is size =
+counted_exit (BySelection bytes a before) h p f d done is size =
     let sw : sw_of d.effect.public ≡ sw_of p = ap sw_of is ∙ status_beside_la p 2 size in
     (tt, record { durable = λ small ins good. (done small).1 ins; refused = λ small ins other. absurd (other (sw ∙ (done small).0)) })
 
 stored : (e : Entry ℕ) (h p : List ℕ) (x y : ℕ) → IsCounted e h p → IsCounted e h (splice p 0 (x ∷ y ∷ []))
 stored ByDelegation h p x y done = tt
-stored (BySelection a before) h p x y done = λ small. (status_beside_two p x y ∙ (done small).0, (done small).1)
+stored (BySelection bytes a before) h p x y done = λ small. (status_beside_two p x y ∙ (done small).0, (done small).1)
 
 more_kept : (h : List ℕ) (x y : ℕ) → CountKept h (x ∷ y ∷ []) → num (x ∷ y ∷ []) ≢ 65535
     → CountKept (num (bytes 2 (num (x ∷ y ∷ []) + 1)) ∷ h) (bytes 2 (num (x ∷ y ∷ []) + 1))
@@ -175,14 +175,16 @@ pub counter_shown : IsShown counter_outline
 counter_shown =
     record {
       created = record { size = refl; holds = refl; small = omega arith; rises = tt };
-      selected = λ h fixed kept. (kept, tt);
-      ended = λ h fixed kept. kept;
-      begins = λ a h fixed session kept holds size. (
+      selected = λ was h fixed kept. (kept, tt);
+      ended = λ was h fixed kept. kept;
+      begins = λ bytes a h fixed session kept holds size. (
         kept,
-        subst (λ (s : List ℕ). CounterAt (BySelection a h) h (new_public a) (first_frame_of counter_outline fixed s)) (sym (no_session session size))
-            (first_place (BySelection a h) h (new_public a) fixed (refl, refl) kept),
+        subst (λ (s : List ℕ). CounterAt (BySelection bytes a h) h (new_public a) (first_frame_of counter_outline fixed s)) (sym (no_session session size))
+            (first_place (BySelection bytes a h) h (new_public a) fixed (refl, refl) kept),
       );
       entered = λ h fixed public kept size. first_place ByDelegation h public fixed tt kept;
       turn = turn;
-      abends = λ a before h f public at kept. tt;
+      abends = λ bytes a before h f public at kept. tt;
+      failed = λ at cause h fixed. record { keeps = λ kept. kept; holds = λ session kept holds. holds };
+      answered = λ bytes outcome h fixed. record { keeps = λ kept. kept; holds = λ session kept holds. holds };
     }

@@ -1,6 +1,6 @@
 -- Lists of items and one name: those that do not touch it, those that change other static bytes alone, and what keeps
 -- over them.
-use Rattle.std.proofs.Common.{◌≡◌, ℕ, ◌-◌, Bool, true, false, cond, List, [], ◌∷◌, ◌++◌, Some, None, refl, sym, ap, subst, ◌∙◌}
+use Rattle.std.proofs.Common.{◌≡◌, ℕ, ◌-◌, Bool, true, false, cond, List, [], ◌∷◌, ◌++◌, Option, Some, None, refl, sym, ap, subst, ◌∙◌}
 use Rattle.std.specs.Prelude.{⊤, ◌==◌, bytes_eq, nat_le}
 use Rattle.std.proofs.lemmas.Bool.{or_parts, false_from_ne_true}
 use Rattle.mc_model_device.specs.Bytes.{lookup, insert, remove, has_name}
@@ -12,8 +12,7 @@ use Rattle.mc_model_card.specs.Items.{Change, Fixed, Created, Deleted, Item, Pla
 use Rattle.mc_family.proofs.Stops.{AreOthers}
 use Rattle.mc_promise.specs.History.{unless_created, after_items}
 use Rattle.mc_promise.specs.Along.{IsAppIf, CreatesOnly}
-use Rattle.mc_promise.specs.Outline.{Outline, IsShown}
-use Rattle.mc_promise.specs.Kept.{KeptIn}
+use Rattle.mc_promise.specs.Domain.{Domain, IsSound, IdleCovered}
 use Rattle.mc_promise.proofs.Chains.{beside_changed}
 use Rattle.mc_model_device.proofs.MapLemmas.{lookup_beside, lookup_inserted_lem, lookup_left, lookup_removed_lem, name_is_itself, same_name}
 
@@ -46,6 +45,25 @@ avoid_history n (Plain ∷ is) h a = avoid_history n is h a.1
 avoid_history n (Atomic w (Fixed k ps) ∷ is) h a = avoid_history n is h a.1
 avoid_history n (Atomic w (Created k x) ∷ is) h a = ap (λ (b : Bool). after_items n is (unless_created b h)) a.0 ∙ avoid_history n is h a.1
 avoid_history n (Atomic w (Deleted k) ∷ is) h a = avoid_history n is h a.1
+
+flight_avoids : (n : List ℕ) (w : ℕ) (c : Change) (b : Bool) → Avoids n (Atomic w c) → AllAvoid n (cond b (Atomic w c ∷ []) [])
+flight_avoids n w c true a = (a, tt)
+flight_avoids n w c false a = tt
+
+plain_avoids : (n : List ℕ) (b : Bool) (s : Stopped) → AllAvoid n s.whole → AllAvoid n (cond b (record { whole = []; owed = 0 }) (with_item Plain s)).whole
+plain_avoids n true s a = tt
+plain_avoids n false s a = (tt, a)
+
+atomic_avoids : (n : List ℕ) (b : Bool) (w : ℕ) (c : Change) (f s : Stopped) → Avoids n (Atomic w c) → AllAvoid n f.whole → AllAvoid n s.whole → AllAvoid n (cond b f (with_item (Atomic w c) s)).whole
+atomic_avoids n true w c f s i a b = a
+atomic_avoids n false w c f s i a b = (i, b)
+
+pub whole_avoids : (n : List ℕ) (is : List Item) (k : ℕ) (x : List ℕ) → AllAvoid n is → AllAvoid n (at_stop is k x).whole
+whole_avoids n [] k x a = tt
+whole_avoids n (Plain ∷ is) k x a = plain_avoids n (k == 1) (at_stop is (k - 1) x) (whole_avoids n is (k - 1) x a.1)
+whole_avoids n (Atomic w c ∷ is) k x a =
+    atomic_avoids n (nat_le k (cost Two w)) w c (in_flight w c k x) (at_stop is (k - cost Two w) x) a.0
+    (flight_avoids n w c (stands Two w k x) a.0) (whole_avoids n is (k - cost Two w) x a.1)
 
 -- ---- items of a run
 
@@ -97,26 +115,30 @@ beside n k h =
     let apart : bytes_eq n k ≡ false = (or_parts (bytes_eq n k) false h).0 in
     false_from_ne_true (bytes_eq k n) (λ e. cc (sym (name_is_itself n) ∙ (ap (λ (z : List ℕ). bytes_eq n z) (sym (same_name k n e)) ∙ apart)))
 
-module _ {E : Type 0} (o : Outline E) (shown : IsShown o) where
-  created_kept : (b : Bool) (h : List E) (m : List (List ℕ × App)) (k : List ℕ) (a : App) → bytes_eq k o.watch.name ≡ b → IsAppIf b o.app a → KeptIn o h (lookup m o.watch.name) → KeptIn o (unless_created b h) (lookup (insert m k a) o.watch.name)
-  created_kept false h m k a e only kept = subst (KeptIn o h) (sym (lookup_beside m k a o.watch.name e)) kept
+module _ {E : Type 0} (o : Domain E) (shown : IsSound o) where
+  created_kept : (b : Bool) (h : List E) (m : List (List ℕ × App)) (k : List ℕ) (a : App) → bytes_eq k o.watch.name ≡ b → IsAppIf b o.app a → IdleCovered o h (lookup m o.watch.name) → IdleCovered o (unless_created b h) (lookup (insert m k a) o.watch.name)
+  created_kept false h m k a e only kept = subst (IdleCovered o h) (sym (lookup_beside m k a o.watch.name e)) kept
   created_kept true h m k a e only kept =
       let is : lookup (insert m k a) o.watch.name ≡ Some a = subst (λ (n : List ℕ). lookup (insert m k a) n ≡ Some a) (same_name k o.watch.name e) (lookup_inserted_lem m k a) in
-      subst (KeptIn o []) (sym is) (record { code = only.code; session = only.session; deny = only.deny }, subst (o.keeps []) (sym only.fixed) shown.created)
+      subst (IdleCovered o []) (sym is) (record { code = only.code; session = only.session; deny = only.deny }, subst (o.idle []) (sym only.fixed) shown.created)
 
-  deleted_kept : (b : Bool) (h : List E) (m : List (List ℕ × App)) (k : List ℕ) → bytes_eq k o.watch.name ≡ b → KeptIn o h (lookup m o.watch.name) → KeptIn o h (lookup (remove m k) o.watch.name)
-  deleted_kept false h m k e kept = subst (KeptIn o h) (sym (lookup_left m k o.watch.name e)) kept
+  left_gone : (h : List E) (found : Option App) → IdleCovered o h found → o.gone h
+  left_gone h None kept = kept
+  left_gone h (Some a) kept = shown.deleted h a.fixed kept.1
+
+  deleted_kept : (b : Bool) (h : List E) (m : List (List ℕ × App)) (k : List ℕ) → bytes_eq k o.watch.name ≡ b → IdleCovered o h (lookup m o.watch.name) → IdleCovered o h (lookup (remove m k) o.watch.name)
+  deleted_kept false h m k e kept = subst (IdleCovered o h) (sym (lookup_left m k o.watch.name e)) kept
   deleted_kept true h m k e kept =
       let none : lookup (remove m k) o.watch.name ≡ None = subst (λ (n : List ℕ). lookup (remove m k) n ≡ None) (same_name k o.watch.name e) (lookup_removed_lem m k) in
-      subst (KeptIn o h) (sym none) tt
+      subst (IdleCovered o h) (sym none) (left_gone h (lookup m o.watch.name) kept)
 
-  -- what keeps, over items that create it or delete it, and change no static bytes of it
-  pub items_kept : (is : List Item) (h : List E) (m : List (List ℕ × App)) → AreOthers (o.watch.name ∷ []) is → CreatesOnly o.watch.name o.app is → KeptIn o h (lookup m o.watch.name)
-      → KeptIn o (after_items o.watch.name is h) (lookup (apps_after_items m is) o.watch.name)
+  -- what is idle stays so over items that create it or delete it, and change no static bytes of it
+  pub items_kept : (is : List Item) (h : List E) (m : List (List ℕ × App)) → AreOthers (o.watch.name ∷ []) is → CreatesOnly o.watch.name o.app is → IdleCovered o h (lookup m o.watch.name)
+      → IdleCovered o (after_items o.watch.name is h) (lookup (apps_after_items m is) o.watch.name)
   items_kept [] h m a only kept = kept
   items_kept (Plain ∷ is) h m a only kept = items_kept is h m a.1 only kept
   items_kept (Atomic w (Fixed k ps) ∷ is) h m a only kept =
-      items_kept is h (map_changed m k (Some ps)) a.1 only (subst (KeptIn o h) (sym (beside_changed m k o.watch.name (Some ps) (beside o.watch.name k a.0))) kept)
+      items_kept is h (map_changed m k (Some ps)) a.1 only (subst (IdleCovered o h) (sym (beside_changed m k o.watch.name (Some ps) (beside o.watch.name k a.0))) kept)
   items_kept (Atomic w (Created k x) ∷ is) h m a only kept =
       items_kept is (unless_created (bytes_eq k o.watch.name) h) (insert m k x) a.1 only.1 (created_kept (bytes_eq k o.watch.name) h m k x refl only.0 kept)
   items_kept (Atomic w (Deleted k) ∷ is) h m a only kept = items_kept is h (remove m k) a.1 only (deleted_kept (bytes_eq k o.watch.name) h m k refl kept)

@@ -1,3 +1,4 @@
+pub mod Causes
 pub mod Chains
 pub mod Turns
 pub mod EachTurn
@@ -7,6 +8,7 @@ pub mod ItemLists
 pub mod SelectedStays
 pub mod Commands
 pub mod Lines
+pub mod OutlineDomain
 pub mod PublicBytes
 pub mod CounterOutline
 pub mod FromOutline

@@ -41,7 +41,16 @@ count_of d = written_count d.effect.changes d.effect.frame.fixed
 
 -- what is counted of the counter
 abbrev pub counter_watch : Watch ℕ
-counter_watch = record { name = counter_name; of_deed = count_of; of_command = λ a. None; of_selection = None; of_end = None }
+counter_watch =
+    record {
+      name = counter_name;
+      of_deed = count_of;
+      of_abend = λ at cause. None;
+      of_command = λ bytes a. None;
+      of_answer = λ bytes outcome. None;
+      of_selection = λ was. None;
+      of_end = λ was. None;
+    }
 
 -- ---- what it promises
 

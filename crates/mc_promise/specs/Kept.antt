@@ -9,16 +9,16 @@ use Rattle.mc_model_play.specs.Play.{Live, Running, Unpowered, Muted, State, Bef
 use Rattle.mc_promise.specs.Along.{Along, OnAnswer, command_for}
 use Rattle.mc_promise.specs.Outline.{Outline}
 
--- an application has the code, the session bytes and the access list of the outline
-pub record IsLike {E : Type 0} (o : Outline E) (a : App) : Type 0 where
-  pub code : a.code ≡ o.app.code
-  pub session : a.session ≡ o.app.session
-  pub deny : a.deny ≡ o.app.deny
+-- an application has the code, the session bytes and the access list of another
+pub record IsLike (app a : App) : Type 0 where
+  pub code : a.code ≡ app.code
+  pub session : a.session ≡ app.session
+  pub deny : a.deny ≡ app.deny
 
 -- what keeps, of the application where it is there
 abbrev pub KeptIn : {E : Type 0} → Outline E → List E → Option App → Type 0
 KeptIn o h None = ⊤
-KeptIn o h (Some a) = IsLike o a × o.keeps h a.fixed
+KeptIn o h (Some a) = IsLike o.app a × o.keeps h a.fixed
 
 -- what holds of its session bytes, which are as many as it has; it is there
 abbrev pub SessionKept : {E : Type 0} → Outline E → List E → Option App → List ℕ → Type 0

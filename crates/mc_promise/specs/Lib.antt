@@ -2,5 +2,6 @@ pub mod History
 pub mod Along
 pub mod Outline
 pub mod Kept
+pub mod Domain
 pub mod Counter
 pub mod Computed

@@ -1,21 +1,23 @@
 -- Proof outlines: what an application's writer says of its static bytes, of its sessions and of each place of its code,
 -- and what is to be shown of it, one instruction at a time.
-use Rattle.std.specs.Prelude.{◌≡◌, ℕ, ◌≤◌, Bool, true, false, List, [], length, None, Result, Ok, Err, ⊤}
+use Rattle.std.specs.Prelude.{◌≡◌, ℕ, ◌≤◌, Bool, true, false, min, List, [], length, take, unwrap_or, None, Result, Ok, Err, ⊤}
 use Rattle.mc_model_machine.specs.declared.instruction.Ins.{Ins}
 use Rattle.mc_model_machine.specs.declared.instruction.DecodeFault.{DecodeFault}
+use Rattle.mc_model_machine.specs.declared.machine.Abend.{Abend}
 use Rattle.mc_model_device.specs.Bytes.{zeros}
 use Rattle.mc_model_device.specs.Card.{App}
 use Rattle.mc_model_machine.specs.Apdu.{ApduParts, apdu_case}
 use Rattle.mc_model_machine.specs.Code.{instruction_at}
-use Rattle.mc_model_machine.specs.Frame.{Frame, new_frame, new_public, session_of, sw_of}
+use Rattle.mc_model_machine.specs.Frame.{Frame, new_frame, new_public, session_of, sw_of, la_of}
 use Rattle.mc_model_machine.specs.Primitives.{Around, Then, Goes, Exits, Delegates, Done}
 use Rattle.mc_model_machine.specs.Row.{RowEnd, Abends, Does, row}
-use Rattle.mc_model_machine.specs.Chain.{frame_at}
+use Rattle.mc_model_machine.specs.Chain.{Outcome, Reply, frame_at}
 use Rattle.mc_promise.specs.History.{Watch, with_event}
 
--- how a frame began: by a command to the selected application, with the history before it; or by a delegation
+-- how a frame began: by a command to the selected application, its bytes and parts, with the history before it; or by a
+-- delegation
 pub data Entry (E : Type 0) : Type 0 where
-  BySelection : (apdu : ApduParts) (before : List E) → Entry E
+  BySelection : (bytes : List ℕ) (apdu : ApduParts) (before : List E) → Entry E
   ByDelegation : Entry E
 
 -- An outline: the application as it is created, what is counted of it, and what its writer says.
@@ -35,13 +37,17 @@ pub record Outline (E : Type 0) : Type 1 where
 
 -- the frame was begun by the selection
 abbrev pub is_direct : {E : Type 0} → Entry E → Bool
-is_direct (BySelection apdu before) = true
+is_direct (BySelection bytes apdu before) = true
 is_direct ByDelegation = false
 
 -- what is known around a frame that began so
 abbrev pub FitsEntry : {E : Type 0} → Entry E → Around → Type 0
-FitsEntry (BySelection apdu before) x = (x.case ≡ apdu_case apdu) × (x.delegator ≡ None)
+FitsEntry (BySelection bytes apdu before) x = (x.case ≡ apdu_case apdu) × (x.delegator ≡ None)
 FitsEntry ByDelegation x = ⊤
+
+-- the reply to a command, by the public segment at its exit
+abbrev pub reply_to : ApduParts → List ℕ → Outcome
+reply_to apdu public = Reply (take (min (la_of public) (unwrap_or apdu.le 0)) public) (sw_of public)
 
 -- the number of bytes of a public segment
 abbrev pub public_size : ℕ
@@ -50,7 +56,9 @@ public_size = 1041
 -- the exit of a frame: one that the selection began ends its command, whose session bytes are those before the
 -- instruction
 abbrev pub ExitShown : {E : Type 0} → Outline E → Entry E → List E → Frame → Done → Type 0
-ExitShown o (BySelection apdu before) k f d = o.holds k d.effect.frame.fixed (session_of f) × o.answers apdu before k (sw_of d.effect.public)
+ExitShown o (BySelection bytes apdu before) k f d =
+    o.holds k d.effect.frame.fixed (session_of f)
+    × o.answers apdu before (with_event (o.watch.of_answer bytes (reply_to apdu d.effect.public)) k) (sw_of d.effect.public)
 ExitShown o ByDelegation k f d = ⊤
 
 -- what an instruction leads to: the next place; after a delegation the next place with whatever public segment comes
@@ -82,18 +90,23 @@ FetchShown o e h f public depth x (Ok i) = RowShown o e h f public depth i.0 (ro
 abbrev pub first_frame_of : {E : Type 0} → Outline E → List ℕ → List ℕ → Frame
 first_frame_of o fixed session = new_frame o.watch.name (length o.app.code) o.app.deny fixed session
 
+-- a history keeps what another keeps and holds of the same bytes
+pub record GoesOn {E : Type 0} (o : Outline E) (h k : List E) (fixed : List ℕ) : Type 0 where
+  pub keeps : o.keeps h fixed → o.keeps k fixed
+  pub holds : (session : List ℕ) → o.keeps h fixed → o.holds h fixed session → o.holds k fixed session
+
 -- each part is about one moment or one instruction
 pub record IsShown {E : Type 0} (o : Outline E) : Type 0 where
   -- the bytes of a new application keep it, with an empty history
   pub created : o.keeps [] o.app.fixed
   -- so do its bytes after a new selection, and what holds of zero session bytes
-  pub selected : (h : List E) (fixed : List ℕ) → o.keeps h fixed
-      → o.keeps (with_event o.watch.of_selection h) fixed × o.holds (with_event o.watch.of_selection h) fixed (zeros o.app.session)
+  pub selected : (was : Bool) (h : List E) (fixed : List ℕ) → o.keeps h fixed
+      → o.keeps (with_event (o.watch.of_selection was) h) fixed × o.holds (with_event (o.watch.of_selection was) h) fixed (zeros o.app.session)
   -- and at the end of a session
-  pub ended : (h : List E) (fixed : List ℕ) → o.keeps h fixed → o.keeps (with_event o.watch.of_end h) fixed
+  pub ended : (was : Bool) (h : List E) (fixed : List ℕ) → o.keeps h fixed → o.keeps (with_event (o.watch.of_end was) h) fixed
   -- a command begins with what keeps and what holds; with its event, its bytes keep it
-  pub begins : (apdu : ApduParts) (h : List E) (fixed session : List ℕ) → o.keeps h fixed → o.holds h fixed session → length session ≡ o.app.session
-      → o.keeps (with_event (o.watch.of_command apdu) h) fixed × o.at (BySelection apdu h) (with_event (o.watch.of_command apdu) h) (first_frame_of o fixed session) (new_public apdu)
+  pub begins : (bytes : List ℕ) (apdu : ApduParts) (h : List E) (fixed session : List ℕ) → o.keeps h fixed → o.holds h fixed session → length session ≡ o.app.session
+      → o.keeps (with_event (o.watch.of_command bytes apdu) h) fixed × o.at (BySelection bytes apdu h) (with_event (o.watch.of_command bytes apdu) h) (first_frame_of o fixed session) (new_public apdu)
   -- a delegation begins with zero session bytes and any public segment
   pub entered : (h : List E) (fixed public : List ℕ) → o.keeps h fixed → public_size ≤ length public
       → o.at ByDelegation h (first_frame_of o fixed (zeros o.app.session)) public
@@ -101,5 +114,9 @@ pub record IsShown {E : Type 0} (o : Outline E) : Type 0 where
   pub turn : (e : Entry E) (h : List E) (f : Frame) (public : List ℕ) (depth : ℕ) (x : Around) → o.at e h f public → o.keeps h f.fixed → FitsEntry e x → public_size ≤ length public
       → FetchShown o e h f public depth x (instruction_at o.app.code f.at)
   -- a command may end with an abend at each place, and its session goes on
-  pub abends : (apdu : ApduParts) (before h : List E) (f : Frame) (public : List ℕ) → o.at (BySelection apdu before) h f public → o.keeps h f.fixed
+  pub abends : (bytes : List ℕ) (apdu : ApduParts) (before h : List E) (f : Frame) (public : List ℕ) → o.at (BySelection bytes apdu before) h f public → o.keeps h f.fixed
       → o.holds h f.fixed (session_of f)
+  -- the event of an abend keeps it
+  pub failed : (at : ℕ) (cause : Abend) (h : List E) (fixed : List ℕ) → GoesOn o h (with_event (o.watch.of_abend at cause) h) fixed
+  -- and that of an answer
+  pub answered : (bytes : List ℕ) (outcome : Outcome) (h : List E) (fixed : List ℕ) → GoesOn o h (with_event (o.watch.of_answer bytes outcome) h) fixed

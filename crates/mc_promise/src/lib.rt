@@ -1,7 +1,7 @@
 #![tactic(auto)]
 
 //! What an application itself promises, proved for every deck: histories of events, proof outlines, the rule that
-//! carries them, and a counter as an example.
+//! carries them, and a counter as an example; abstract domains, of which outlines are one kind.
 
 mod examples;
 mod rule;
@@ -14,7 +14,7 @@ ghost use Rattle.mc_promise.specs.Along.{FormattedLaw};
 ghost use Rattle.mc_promise.specs.Counter.{CounterLaw, counter_code, counter_text};
 
 pub use examples::{counter_play, set_back_falls};
-pub use rule::{Promise, keeps};
+pub use rule::{Analysis, Promise, covers, keeps};
 
 /// The card of a device that was formatted just before the first power line has none of any name, whatever stop hits
 /// that line.

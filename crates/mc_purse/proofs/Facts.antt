@@ -44,14 +44,14 @@ moved e h f d l r q a other differ x = subst (λ (b : Bool). DeedShown purse_out
 
 pub shows : (e : Entry Event) (h : List Event) (p : List ℕ) → IsFresh e h p → (sub_blocks (take 1 (drop 1029 p)) (0x20 ∷ [])).z ≡ true → IsNoDebit e
 shows ByDelegation h p f z = tt
-shows (BySelection a before) h p f z = λ small is.
+shows (BySelection bytes a before) h p f z = λ small is.
     let same : take 1 (drop 1029 p) ≡ 0x40 ∷ [] = ap (λ (q : List ℕ). take 1 (drop 1029 q)) f.1 ∙ (ins_byte a small ∙ ap (λ (i : ℕ). i ∷ []) is) in
     let clear : (sub_blocks (take 1 (drop 1029 p)) (0x20 ∷ [])).z ≡ false = ap (λ (b : List ℕ). (sub_blocks b (0x20 ∷ [])).z) same in
     absurd (cc (sym clear ∙ z))
 
 pub no_debit : (e : Entry Event) (h : List Event) (p : List ℕ) → IsFresh e h p → (sub_blocks (take 1 (drop 1029 p)) (0x40 ∷ [])).z ≡ false → IsNoDebit e
 no_debit ByDelegation h p f z = tt
-no_debit (BySelection a before) h p f z = λ small. other_ins a 0x40 p f.1 small z
+no_debit (BySelection bytes a before) h p f z = λ small. other_ins a 0x40 p f.1 small z
 
 one_by : (n : ℕ) → n < 256 → is_zero (bytes 1 (256 + num (n ∷ []) - 64)) ≡ true → n ≡ 64
 one_by n small z =
@@ -60,21 +60,21 @@ one_by n small z =
 
 pub is_debit : (e : Entry Event) (h : List Event) (p : List ℕ) → IsFresh e h p → (sub_blocks (take 1 (drop 1029 p)) (0x40 ∷ [])).z ≡ true → IsDebit e
 is_debit ByDelegation h p f z = tt
-is_debit (BySelection a before) h p f z = λ small byte.
+is_debit (BySelection bytes a before) h p f z = λ small byte.
     let same : take 1 (drop 1029 p) ≡ a.ins ∷ [] = ap (λ (q : List ℕ). take 1 (drop 1029 q)) f.1 ∙ ins_byte a small in
     one_by a.ins byte (sym (ap (λ (b : List ℕ). (sub_blocks b (0x40 ∷ [])).z) same) ∙ z)
 
 pub none_fresh : (e : Entry Event) (h : List Event) (p : List ℕ) → IsFresh e h p → MadeNone e h
 none_fresh ByDelegation h p f = tt
-none_fresh (BySelection a before) h p f = λ small is. f.0
+none_fresh (BySelection bytes a before) h p f = λ small is. f.0
 
 pub none_else : (e : Entry Event) (h : List Event) → IsNoDebit e → MadeNone e h
 none_else ByDelegation h n = tt
-none_else (BySelection a before) h n = λ small is. absurd (n small is)
+none_else (BySelection bytes a before) h n = λ small is. absurd (n small is)
 
 pub paid_else : (e : Entry Event) (h : List Event) (p : List ℕ) → IsNoDebit e → IsPaid e h p
 paid_else ByDelegation h p n = tt
-paid_else (BySelection a before) h p n = λ small is. absurd (n small is)
+paid_else (BySelection bytes a before) h p n = λ small is. absurd (n small is)
 
 -- ---- tries
 
@@ -124,11 +124,11 @@ kept_try h v t k few why =
 
 pub sits_tried : (e : Entry Event) (h : List Event) (t s : ℕ) → Sits e h (s ∷ []) → Sits e (Tries t ∷ h) (s ∷ [])
 sits_tried ByDelegation h t s x = tt
-sits_tried (BySelection a before) h t s x = x
+sits_tried (BySelection bytes a before) h t s x = x
 
 pub open_tried : (e : Entry Event) (h : List Event) (t : ℕ) → IsOpenIf e h → IsOpenIf e (Tries t ∷ h)
 open_tried ByDelegation h t x = tt
-open_tried (BySelection a before) h t x = x
+open_tried (BySelection bytes a before) h t x = x
 
 -- ---- a comparison
 
@@ -184,13 +184,13 @@ kept_compared false q h v k x =
 
 pub sits_compared : (e : Entry Event) (z : Bool) (h : List Event) (s : ℕ) → Sits e h (s ∷ []) → Sits e (comparison z (is_direct e) ∷ h) (s ∷ [])
 sits_compared ByDelegation z h s x = tt
-sits_compared (BySelection a before) true h s (inl is) = inl is
-sits_compared (BySelection a before) true h s (inr is) = inr (is.0, refl)
-sits_compared (BySelection a before) false h s x = x
+sits_compared (BySelection bytes a before) true h s (inl is) = inl is
+sits_compared (BySelection bytes a before) true h s (inr is) = inr (is.0, refl)
+sits_compared (BySelection bytes a before) false h s x = x
 
 pub right_compared : (e : Entry Event) (z : Bool) (h : List Event) (v : Cells) → IsSpent h v → z ≡ true → IsRight e (comparison z (is_direct e) ∷ h) v
 right_compared ByDelegation true h v x is = let room : v.t + suc (wrong_since h) ≤ 3 = x.room in record { just = tt; none_wrong = refl; low = omega (arith, room); shown = tt }
-right_compared (BySelection a before) true h v x is = let room : v.t + suc (wrong_since h) ≤ 3 = x.room in record { just = tt; none_wrong = refl; low = omega (arith, room); shown = refl }
+right_compared (BySelection bytes a before) true h v x is = let room : v.t + suc (wrong_since h) ≤ 3 = x.room in record { just = tt; none_wrong = refl; low = omega (arith, room); shown = refl }
 right_compared e false h v x is = absurd (cc is)
 
 pub right_tries : (h : List Event) → wrong_since h ≡ 0 → 3 + wrong_since h ≤ 3
@@ -198,7 +198,7 @@ right_tries h none = omega (arith, none)
 
 pub sits_right : (e : Entry Event) (h : List Event) → IsOpenIf e h → Sits e h (1 ∷ [])
 sits_right ByDelegation h x = tt
-sits_right (BySelection a before) h x = inr (refl, x)
+sits_right (BySelection bytes a before) h x = inr (refl, x)
 
 -- ---- a debit
 
@@ -206,10 +206,10 @@ pub opened : (e : Entry Event) (h : List Event) (s : ℕ) → Sits e h (s ∷ []
 opened ByDelegation h s x is z =
     let clear : (sub_blocks (s ∷ []) (1 ∷ [])).z ≡ false = ap (λ (n : ℕ). (sub_blocks (n ∷ []) (1 ∷ [])).z) is in
     cc (sym clear ∙ z)
-opened (BySelection a before) h s (inl is) zeroed z =
+opened (BySelection bytes a before) h s (inl is) zeroed z =
     let clear : (sub_blocks (s ∷ []) (1 ∷ [])).z ≡ false = ap (λ (n : ℕ). (sub_blocks (n ∷ []) (1 ∷ [])).z) is in
     absurd (cc (sym clear ∙ z))
-opened (BySelection a before) h s (inr is) zeroed z = is.1
+opened (BySelection bytes a before) h s (inr is) zeroed z = is.1
 
 two_by : (n : ℕ) → n ≤ 1024 → is_zero (bytes 2 (65536 + num (bytes2 n) - 2)) ≡ true → n ≡ 2
 two_by n small z =
@@ -218,28 +218,28 @@ two_by n small z =
 
 pub two_bytes : (e : Entry Event) (h : List Event) (p : List ℕ) → IsFresh e h p → (sub_blocks (take 2 (drop 1033 p)) (0 ∷ 2 ∷ [])).z ≡ true → HasTwo e
 two_bytes ByDelegation h p f z = tt
-two_bytes (BySelection a before) h p f z = λ small.
+two_bytes (BySelection bytes a before) h p f z = λ small.
     let same : take 2 (drop 1033 p) ≡ bytes2 (length a.body) = ap (λ (q : List ℕ). take 2 (drop 1033 q)) f.1 ∙ length_bytes a small in
     let set : (sub_blocks (bytes2 (length a.body)) (0 ∷ 2 ∷ [])).z ≡ true = sym (ap (λ (b : List ℕ). (sub_blocks b (0 ∷ 2 ∷ [])).z) same) ∙ z in
     two_by (length a.body) small set
 
 pub carried : (e : Entry Event) (h : List Event) (p : List ℕ) (x y : ℕ) → IsFresh e h p → HasTwo e → take 2 p ≡ x ∷ y ∷ [] → Carries e x y
 carried ByDelegation h p x y f two is = tt
-carried (BySelection a before) h p x y f two is = λ small. sym (body_of_two a (two small)) ∙ (sym (ap (λ (q : List ℕ). take 2 q) f.1) ∙ is)
+carried (BySelection bytes a before) h p x y f two is = λ small. sym (body_of_two a (two small)) ∙ (sym (ap (λ (q : List ℕ). take 2 q) f.1) ∙ is)
 
 pub paid : (e : Entry Event) (h : List Event) (p : List ℕ) (x y : ℕ) → Debits e h p x y → IsPaid e (Debited (is_direct e) (num (take 2 p)) ∷ h) p
 paid ByDelegation h p x y d = tt
-paid (BySelection a before) h p x y d = λ small ins.
+paid (BySelection bytes a before) h p x y d = λ small ins.
     let amount : num (take 2 p) ≡ num a.body = ap num (d.amount ∙ sym (d.carries small)) in
     (ap sw_of d.begun.fresh.1 ∙ status_new a small, ap (λ (n : ℕ). Debited true n ∷ h) amount ∙ ap (λ (k : List Event). Debited true (num a.body) ∷ k) d.begun.fresh.0)
 
 pub sits_paid : (e : Entry Event) (h : List Event) (q : Bool) (a s : ℕ) → Sits e h (s ∷ []) → Sits e (Debited q a ∷ h) (s ∷ [])
 sits_paid ByDelegation h q a s x = tt
-sits_paid (BySelection b before) h q a s x = x
+sits_paid (BySelection bytes b before) h q a s x = x
 
 pub stored : (e : Entry Event) (h : List Event) (p : List ℕ) (x y : ℕ) → IsPaid e h p → IsPaid e h (splice p 0 (x ∷ y ∷ []))
 stored ByDelegation h p x y done = tt
-stored (BySelection a before) h p x y done = λ small ins. (status_beside_two p x y ∙ (done small ins).0, (done small ins).1)
+stored (BySelection bytes a before) h p x y done = λ small ins. (status_beside_two p x y ∙ (done small ins).0, (done small ins).1)
 
 -- the arithmetic of a debit
 less_is : (b a : ℕ) → b ≤ 1000 → a ≤ b → num (bytes 2 (65536 + b - a)) + a ≡ b
@@ -285,17 +285,17 @@ paid_direct h v x y k shown ordered low =
     }
 
 -- the command orders the debit that is made
-just_ordered : (a : ApduParts) (before h : List Event) (p : List ℕ) (x y : ℕ) → Debits (BySelection a before) h p x y → JustOrdered (num (x ∷ y ∷ [])) h
-just_ordered a before h p x y d =
+just_ordered : (bytes : List ℕ) (a : ApduParts) (before h : List Event) (p : List ℕ) (x y : ℕ) → Debits (BySelection bytes a before) h p x y → JustOrdered (num (x ∷ y ∷ [])) h
+just_ordered bytes a before h p x y d =
     subst (JustOrdered (num (x ∷ y ∷ []))) (sym d.begun.fresh.0)
     (λ small byte. record { is_debit = d.begun.debit small byte; has_two = ap length (d.carries small); pays = ap num (d.carries small) })
 
 pub kept_paid : (e : Entry Event) (h : List Event) (p : List ℕ) (v : Cells) (x y : ℕ) → PurseKept h (fixed_of v) → Debits e h p x y → num (x ∷ y ∷ []) ≤ balance_of v
     → PurseKept (Debited (is_direct e) (num (take 2 p)) ∷ h) (paid_cells v x y)
 kept_paid ByDelegation h p v x y k d low = absurd d.open_session
-kept_paid (BySelection a before) h p v x y k d low =
+kept_paid (BySelection bytes a before) h p v x y k d low =
     subst (λ (l : List ℕ). PurseKept (Debited true (num l) ∷ h) (paid_cells v x y)) (sym d.amount)
-    (paid_direct h v x y k d.open_session (just_ordered a before h p x y d) low)
+    (paid_direct h v x y k d.open_session (just_ordered bytes a before h p x y d) low)
 
 -- ---- exits
 
@@ -303,18 +303,18 @@ kept_paid (BySelection a before) h p v x y k d low =
 pub refused_exit : (e : Entry Event) (h : List Event) (p : List ℕ) (f : Frame) (d : Done) (high low : ℕ) → Sits e h (session_of f) → MadeNone e h → d.effect.public ≡ splice p 1039 (high ∷ low ∷ []) → public_size ≤ length p → 256 * high + low ≢ 0x9000
     → ExitShown purse_outline e h f d
 refused_exit ByDelegation h p f d high low sit none is size other = tt
-refused_exit (BySelection a before) h p f d high low sit none is size other =
+refused_exit (BySelection bytes a before) h p f d high low sit none is size other =
     let sw : sw_of d.effect.public ≡ 256 * high + low = ap sw_of is ∙ status_set p high low size in
     (sit, record { durable = λ small ins done. absurd (other (sym sw ∙ done)); refused = λ small ins differs. none small ins })
 
 -- 9000, where the debit was made if the command is one
 pub paid_exit : (e : Entry Event) (h : List Event) (p : List ℕ) (f : Frame) (d : Done) → Sits e h (session_of f) → IsPaid e h p → d.effect.public ≡ with_la p 2 → public_size ≤ length p → ExitShown purse_outline e h f d
 paid_exit ByDelegation h p f d sit done is size = tt
-paid_exit (BySelection a before) h p f d sit done is size =
+paid_exit (BySelection bytes a before) h p f d sit done is size =
     let sw : sw_of d.effect.public ≡ sw_of p = ap sw_of is ∙ status_beside_la p 2 size in
     (sit, record { durable = λ small ins good. (done small ins).1; refused = λ small ins differs. absurd (differs (sw ∙ (done small ins).0)) })
 
 -- any status, where the command is no debit
 pub other_exit : (e : Entry Event) (h : List Event) (f : Frame) (d : Done) → Sits e h (session_of f) → IsNoDebit e → ExitShown purse_outline e h f d
 other_exit ByDelegation h f d sit n = tt
-other_exit (BySelection a before) h f d sit n = (sit, record { durable = λ small ins good. absurd (n small ins); refused = λ small ins differs. absurd (n small ins) })
+other_exit (BySelection bytes a before) h f d sit n = (sit, record { durable = λ small ins good. absurd (n small ins); refused = λ small ins differs. absurd (n small ins) })

@@ -79,27 +79,27 @@ one_more v = bytes 2 (num (v.c0 ∷ v.c1 ∷ []) + 1)
 
 -- only the command was counted yet, and the public segment is the command's, if the selection began the frame
 abbrev pub IsFresh : Entry Event → List Event → List ℕ → Type 0
-IsFresh (BySelection a before) h p = (h ≡ Commanded a.ins a.body ∷ before) × (p ≡ new_public a)
+IsFresh (BySelection bytes a before) h p = (h ≡ Commanded a.ins a.body ∷ before) × (p ≡ new_public a)
 IsFresh ByDelegation h p = ⊤
 
 -- a delegation began with a session byte of 0
 abbrev pub IsZeroed : Entry Event → ℕ → Type 0
-IsZeroed (BySelection a before) s = ⊤
+IsZeroed (BySelection bytes a before) s = ⊤
 IsZeroed ByDelegation s = s ≡ 0
 
 -- what holds of the session, where the selection began the frame
 abbrev pub Sits : Entry Event → List Event → List ℕ → Type 0
-Sits (BySelection a before) h session = PurseHolds h session
+Sits (BySelection bytes a before) h session = PurseHolds h session
 Sits ByDelegation h session = ⊤
 
 -- the command is no debit
 abbrev pub IsNoDebit : Entry Event → Type 0
-IsNoDebit (BySelection a before) = length a.body ≤ 1024 → a.ins ≢ 0x40
+IsNoDebit (BySelection bytes a before) = length a.body ≤ 1024 → a.ins ≢ 0x40
 IsNoDebit ByDelegation = ⊤
 
 -- the command is a debit
 abbrev pub IsDebit : Entry Event → Type 0
-IsDebit (BySelection a before) = length a.body ≤ 1024 → a.ins < 256 → a.ins ≡ 0x40
+IsDebit (BySelection bytes a before) = length a.body ≤ 1024 → a.ins < 256 → a.ins ≡ 0x40
 IsDebit ByDelegation = ⊤
 
 -- a debit of which only the command was counted yet
@@ -109,12 +109,12 @@ pub record IsBegun (e : Entry Event) (h : List Event) (p : List ℕ) : Type 0 wh
 
 -- the command made no debit
 abbrev pub MadeNone : Entry Event → List Event → Type 0
-MadeNone (BySelection a before) h = length a.body ≤ 1024 → a.ins ≡ 0x40 → h ≡ Commanded a.ins a.body ∷ before
+MadeNone (BySelection bytes a before) h = length a.body ≤ 1024 → a.ins ≡ 0x40 → h ≡ Commanded a.ins a.body ∷ before
 MadeNone ByDelegation h = ⊤
 
 -- the debit was made, if the command is one, and the status is 9000
 abbrev pub IsPaid : Entry Event → List Event → List ℕ → Type 0
-IsPaid (BySelection a before) h p = length a.body ≤ 1024 → a.ins ≡ 0x40 → (sw_of p ≡ 0x9000) × (h ≡ Debited true (num a.body) ∷ Commanded a.ins a.body ∷ before)
+IsPaid (BySelection bytes a before) h p = length a.body ≤ 1024 → a.ins ≡ 0x40 → (sw_of p ≡ 0x9000) × (h ≡ Debited true (num a.body) ∷ Commanded a.ins a.body ∷ before)
 IsPaid ByDelegation h p = ⊤
 
 -- a try was just taken, and one wrong comparison more is within the bound
@@ -124,7 +124,7 @@ pub record IsSpent (h : List Event) (v : Cells) : Type 0 where
 
 -- the PIN was shown in this session, if the selection began the frame
 abbrev pub IsOpenIf : Entry Event → List Event → Type 0
-IsOpenIf (BySelection a before) h = is_shown h ≡ true
+IsOpenIf (BySelection bytes a before) h = is_shown h ≡ true
 IsOpenIf ByDelegation h = ⊤
 
 -- the PIN was just compared, and was right, at the cost of a try
@@ -136,17 +136,17 @@ pub record IsRight (e : Entry Event) (h : List Event) (v : Cells) : Type 0 where
 
 -- the PIN was shown in this session; no delegation comes here
 abbrev pub IsOpen : Entry Event → List Event → Type 0
-IsOpen (BySelection a before) h = is_shown h ≡ true
+IsOpen (BySelection bytes a before) h = is_shown h ≡ true
 IsOpen ByDelegation h = ⊥
 
 -- the data are two bytes
 abbrev pub HasTwo : Entry Event → Type 0
-HasTwo (BySelection a before) = length a.body ≤ 1024 → length a.body ≡ 2
+HasTwo (BySelection bytes a before) = length a.body ≤ 1024 → length a.body ≡ 2
 HasTwo ByDelegation = ⊤
 
 -- the data are these two
 abbrev pub Carries : Entry Event → ℕ → ℕ → Type 0
-Carries (BySelection a before) x y = length a.body ≤ 1024 → a.body ≡ x ∷ y ∷ []
+Carries (BySelection bytes a before) x y = length a.body ≤ 1024 → a.body ≡ x ∷ y ∷ []
 Carries ByDelegation x y = ⊤
 
 -- a debit of the amount that the public segment has in front

@@ -2,7 +2,7 @@
 use Rattle.std.proofs.Common.{List, []}
 use Rattle.mc_model_play.specs.Play.{Step, plays, start}
 use Rattle.mc_promise.specs.Kept.{LineKept}
-use Rattle.mc_promise.proofs.Lines.{kept_along}
+use Rattle.mc_promise.proofs.OutlineDomain.{kept_along}
 use Rattle.mc_promise.proofs.FromOutline.{along_from, fixed_from}
 use Rattle.mc_purse.specs.Purse.{Event, purse_watch, purse_app}
 use Rattle.mc_purse.specs.Laws.{KeepsGuesses, KeepsBooks, KeepsSessions, InEveryPlay, SaysGuesses, SaysBooks, SaysSessions, GuessesLaw, BooksLaw, SessionsLaw}

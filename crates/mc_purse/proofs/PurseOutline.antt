@@ -130,14 +130,14 @@ commanded_kept a h fixed kept =
       sessions = kept.sessions;
     }
 
-began : (a : ApduParts) (h : List Event) (fixed session : List ℕ) → PurseKept h fixed → PurseHolds h session
+began : (bytes : List ℕ) (a : ApduParts) (h : List Event) (fixed session : List ℕ) → PurseKept h fixed → PurseHolds h session
     → let k = Commanded a.ins a.body ∷ h in
-    Sits (BySelection a h) k (session_of (first_frame_of purse_outline fixed session)) × PurseAt (BySelection a h) k (new_public a) (first_frame_of purse_outline fixed session)
-began a h fixed [] kept holds = absurd holds
-began a h fixed (s ∷ []) kept holds =
+    Sits (BySelection bytes a h) k (session_of (first_frame_of purse_outline fixed session)) × PurseAt (BySelection bytes a h) k (new_public a) (first_frame_of purse_outline fixed session)
+began bytes a h fixed [] kept holds = absurd holds
+began bytes a h fixed (s ∷ []) kept holds =
     let k = Commanded a.ins a.body ∷ h in
-    (holds, first_place (BySelection a h) k (new_public a) fixed s (refl, refl) tt (commanded_kept a h fixed kept))
-began a h fixed (s ∷ r ∷ rs) kept holds = absurd holds
+    (holds, first_place (BySelection bytes a h) k (new_public a) fixed s (refl, refl) tt (commanded_kept a h fixed kept))
+began bytes a h fixed (s ∷ r ∷ rs) kept holds = absurd holds
 
 -- so do a selection and the end of a session
 selected_kept : (h : List Event) (fixed : List ℕ) → PurseKept h fixed → PurseKept (Selected ∷ h) fixed
@@ -174,10 +174,12 @@ pub purse_shown : IsShown purse_outline
 purse_shown =
     record {
       created = record { size = refl; few = tt; left = refl; costs = tt; tries = omega arith; pin = refl; balance = refl; number = refl; ordered = tt; sessions = tt };
-      selected = λ h fixed kept. (selected_kept h fixed kept, inl refl);
-      ended = λ h fixed kept. ended_kept h fixed kept;
-      begins = λ a h fixed session kept holds size. (commanded_kept a h fixed kept, began a h fixed session kept holds);
+      selected = λ was h fixed kept. (selected_kept h fixed kept, inl refl);
+      ended = λ was h fixed kept. ended_kept h fixed kept;
+      begins = λ bytes a h fixed session kept holds size. (commanded_kept a h fixed kept, began bytes a h fixed session kept holds);
       entered = λ h fixed public kept size. (tt, first_place ByDelegation h public fixed 0 tt refl kept);
       turn = λ e h f public depth x at kept fits size. turn_at e h f public depth x at.0 at.1 kept fits size;
-      abends = λ a before h f public at kept. at.0;
+      abends = λ bytes a before h f public at kept. at.0;
+      failed = λ at cause h fixed. record { keeps = λ kept. kept; holds = λ session kept holds. holds };
+      answered = λ bytes outcome h fixed. record { keeps = λ kept. kept; holds = λ session kept holds. holds };
     }

@@ -92,7 +92,9 @@ purse_watch =
     record {
       name = purse_name;
       of_deed = event_of;
-      of_command = λ a. Some (Commanded a.ins a.body);
-      of_selection = Some Selected;
-      of_end = Some Ended;
+      of_abend = λ at cause. None;
+      of_command = λ bytes a. Some (Commanded a.ins a.body);
+      of_answer = λ bytes outcome. None;
+      of_selection = λ was. Some Selected;
+      of_end = λ was. Some Ended;
     }

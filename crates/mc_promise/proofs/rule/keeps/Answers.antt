@@ -1,4 +1,4 @@
-use Rattle.mc_promise.proofs.Lines.{kept_along}
+use Rattle.mc_promise.proofs.OutlineDomain.{kept_along}
 use Rattle.mc_promise.proofs.rule.keeps.Goals as goal
 
 pub returns : goal.returns
