@@ -1,9 +1,9 @@
 -- The tables: when they are closed under every outcome, the least ones, what they break, and the text of a proof.
-use Rattle.std.specs.Prelude.{◌≡◌, ℕ, zero, suc, ◌+◌, ◌-◌, ◌/◌, Bool, true, false, cond, not, ◌&&◌, ◌||◌, nat_lt, nat_le, ◌==◌, List, [], ◌∷◌, ◌++◌, length, map, flat_map, filter, codes, decimal, Option, Some, None, Result, Ok, Err}
-use Rattle.mc_model_device.specs.Bytes.{bytes2}
+use Rattle.std.specs.Prelude.{◌≡◌, ℕ, zero, suc, ◌+◌, ◌-◌, ◌/◌, ◌≤◌, Bool, true, false, cond, not, ◌&&◌, ◌||◌, nat_lt, nat_le, ◌==◌, List, [], ◌∷◌, ◌++◌, length, map, flat_map, filter, codes, decimal, Option, Some, None, Result, Ok, Err}
+use Rattle.mc_model_device.specs.Bytes.{AreBytes, bytes2}
 use Rattle.mc_model_device.specs.Card.{App}
 use Rattle.mc_model_text.specs.Listing.{hex_text}
-use Rattle.mc_model_machine.specs.Frame.{dynamic_base}
+use Rattle.mc_model_machine.specs.Frame.{dynamic_base, dynamic_end}
 use Rattle.mc_rule_model.specs.Rules.{OnLine, Range, Target, AppRules}
 use Rattle.mc_rule_model.specs.Reading.{RuleCause, app_rules_read}
 use Rattle.mc_rule_model.specs.Keeping.{Amounts, Break, ByLine, ByAbend}
@@ -70,10 +70,18 @@ places_closed s t (p ∷ ps) = includes_all t (place_arrivals s p.0 p.1) && plac
 unfoldable pub is_closed : Setting → Tables → Bool
 is_closed s t = includes t (created s) && moments_closed s (classes s.rules) t t.moments && places_closed s t t.places
 
--- The law of closed tables: the rules without sums are kept in every play of every deck.
+-- an application that a card can have: of bytes, with static and session bytes that lie in their segments
+pub record IsLoadable (a : App) : Type 0 where
+  pub code : AreBytes a.code
+  pub bytes : AreBytes a.fixed
+  pub static : length a.fixed ≤ dynamic_base
+  pub session : dynamic_base + a.session ≤ dynamic_end
+
+-- The law of closed tables: the rules without sums are kept of an application that a card can have in every play of
+-- every deck.
 abbrev pub ClosedLaw : Type 0
 ClosedLaw =
-    (r : AppRules) (g : Target) (t : Tables) → r.target ≡ Some g → r.totals ≡ [] → is_closed (record { rules = r; app = g.app }) t ≡ true → AreKept r
+    (r : AppRules) (g : Target) (t : Tables) → r.target ≡ Some g → IsLoadable g.app → r.totals ≡ [] → is_closed (record { rules = r; app = g.app }) t ≡ true → AreKept r
 
 -- ---- the least tables
 

@@ -23,7 +23,8 @@ use Rattle.mc_promise.specs.Computed.{steps_of}
 use Rattle.mc_explore.specs.Matching.{fits}
 use Rattle.mc_rule_model.specs.Rules.{AppRules, Target}
 use Rattle.mc_rule_model.specs.Reading.{RuleCause, app_rules_read}
-use Rattle.mc_rule_model.specs.Happenings.{History, after_run, after_step}
+use Rattle.mc_promise.specs.History.{after_run, after_step}
+use Rattle.mc_rule_model.specs.Happenings.{History, rule_watch}
 use Rattle.mc_rule_model.specs.Keeping.{Amounts, Standing, Break, standing_after, keeps_rules, is_broken}
 
 -- what a deck's play shows of its rules: the refusal, the number of the first line that broke one, or the allowances at
@@ -52,8 +53,9 @@ shown_if false line rest = Broken line
 abbrev pub shown_along : AppRules → List ℕ → History → List Step → Shown
 shown_along r name h [] = shown_standing 0 (standing_after r h)
 shown_along r name h (t ∷ ts) =
-    let rest = shown_along r name (after_step name t h) ts in
-    shown_if (keeps_on r (after_step name t h) (lookup (apps_in t.after) name)) t.number rest
+    let after : History = after_step (rule_watch name) t h in
+    let rest = shown_along r name after ts in
+    shown_if (keeps_on r after (lookup (apps_in t.after) name)) t.number rest
 
 -- what the play of a deck's lines shows of the rules of an application
 abbrev pub shown_for : Result (List (ℕ × DeckLine)) (ℕ × DeckCause) → AppRules → Option Target → Shown
