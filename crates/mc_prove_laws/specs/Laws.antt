@@ -1,0 +1,53 @@
+-- The laws of closed tables between commands: each moment that may follow a moment is one that the tables have.
+use Rattle.std.specs.Prelude.{◌≡◌, ℕ, true, false, List, [], ◌∷◌, Err}
+use Rattle.mc_model_device.specs.Bytes.{AreBytes, zeros}
+use Rattle.mc_model_machine.specs.declared.instruction.DecodeFault.{DecodeFault}
+use Rattle.mc_model_machine.specs.declared.machine.Abend.TheVariants.{A07}
+use Rattle.mc_model_machine.specs.Code.{instruction_at}
+use Rattle.mc_model_machine.specs.Frame.{Frame, session_of}
+use Rattle.mc_model_machine.specs.Chain.{Abended}
+use Rattle.mc_promise.specs.History.{fetch_cause}
+use Rattle.mc_promise.specs.Outline.{Entry, ByDelegation}
+use Rattle.mc_promise.specs.Domain.{AbendCovered, EndCovered, first_frame_in}
+use Rattle.mc_rule_model.specs.Rules.{Target, AppRules}
+use Rattle.mc_rule_model.specs.Happenings.{Event, History, Failed, Session}
+use Rattle.mc_rule_model.specs.Keeping.{keeps_rules}
+use Rattle.mc_rule_model.specs.Law.{domain_of_rules}
+use Rattle.mc_prove_model.specs.Keys.{Tables}
+use Rattle.mc_prove_model.specs.Arrivals.{Setting}
+use Rattle.mc_prove_model.specs.Tables.{IsLoadable, is_closed}
+use Rattle.mc_prove_laws.specs.Coverings.{IsMoment, IsUnbroken, IsPlace, covering_of}
+
+-- What closed tables have between commands: the moment of a creation; after each moment the selection of the
+-- application, with zero session bytes, and the end of a session; and no moment breaks a rule, nor is one broken while
+-- the application is not on the card.
+pub record MomentsCovered (s : Setting) (t : Tables) : Type 0 where
+  pub none : IsUnbroken s []
+  pub created : IsMoment s t false [] s.app.fixed []
+  pub deleted : (h : History) (fixed : List ℕ) → IsMoment s t false h fixed [] → IsUnbroken s h
+  pub selected : (h : History) (fixed : List ℕ) → IsMoment s t false h fixed [] → IsMoment s t true (Session ∷ h) fixed (zeros s.app.session)
+  pub selected_again : (h : History) (fixed session : List ℕ) → IsMoment s t true h fixed session → IsMoment s t true (Session ∷ h) fixed (zeros s.app.session)
+  pub ended : (h : History) (fixed session : List ℕ) → IsMoment s t true h fixed session → IsMoment s t false (Session ∷ h) fixed []
+  pub idle_keeps : s.rules.totals ≡ [] → (h : History) (fixed : List ℕ) → IsMoment s t false h fixed [] → keeps_rules s.rules h fixed ≡ true
+  pub session_keeps : s.rules.totals ≡ [] → (h : History) (fixed session : List ℕ) → IsMoment s t true h fixed session → keeps_rules s.rules h fixed ≡ true
+
+-- of each setting whose application a card can have
+abbrev pub MomentLaw : Type 0
+MomentLaw = (s : Setting) (t : Tables) → IsLoadable s.app → is_closed s t ≡ true → MomentsCovered s t
+
+-- ---- places
+
+-- What closed tables have at places: the beginning of a frame by a delegation, with a public segment of bytes; and where
+-- the budget ends at a place, or no instruction is there, the answer to the command or the end of the delegation.
+pub record PlacesCovered (s : Setting) (t : Tables) (g : Target) : Type 0 where
+  pub entered : (h : History) (fixed public : List ℕ) → IsMoment s t false h fixed [] → AreBytes public
+      → IsPlace s t ByDelegation h (first_frame_in (domain_of_rules g (covering_of s t)) fixed (zeros s.app.session)) public
+  pub spent : (e : Entry Event) (h : History) (f : Frame) (public : List ℕ) → IsPlace s t e h f public
+      → EndCovered (domain_of_rules g (covering_of s t)) e h f.fixed (session_of f) (Abended A07)
+  pub unfetched : (e : Entry Event) (h : History) (f : Frame) (public : List ℕ) (fault : DecodeFault) → IsPlace s t e h f public → instruction_at s.app.code f.at ≡ Err fault
+      → AbendCovered (domain_of_rules g (covering_of s t)) e (Failed f.at (fetch_cause fault) ∷ h) f (fetch_cause fault)
+
+-- of an application that a card can have
+abbrev pub PlaceLaw : Type 0
+PlaceLaw =
+    (r : AppRules) (g : Target) (t : Tables) → IsLoadable g.app → is_closed (record { rules = r; app = g.app }) t ≡ true → PlacesCovered (record { rules = r; app = g.app }) t g

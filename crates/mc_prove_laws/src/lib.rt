@@ -1,0 +1,16 @@
+#![tactic(auto)]
+
+//! What closed tables of abstract states cover of the plays of an application.
+
+ghost use Rattle.mc_prove_laws.specs.Laws.{MomentLaw, PlaceLaw};
+
+/// Between commands: each moment that may follow one is one that closed tables have, and none breaks a rule.
+pub fn moments_are_covered()
+    ensures { MomentLaw }
+{}
+
+/// A frame that a delegation begins is at a place that closed tables have; and if the budget ends at a place, or no
+/// instruction is there, they have the moment after the answer, or after the delegation.
+pub fn places_are_covered()
+    ensures { PlaceLaw }
+{}
