@@ -10,7 +10,7 @@ use Rattle.mc_model_play.specs.Family.{live_in, is_running}
 use Rattle.mc_explore.specs.Rules.{Move, Rules}
 use Rattle.mc_explore.specs.States.{CardState, play_of, is_known, first_play}
 use Rattle.mc_explore.specs.Tries.{Manner, Whole, CutAt, Try, cuts_from, manners, writes_of, tries_with, tries_of, step_of, allowances_after, outcome}
-use Rattle.mc_explore.specs.Search.{Node, Round, Halt, RuleBroken, Full, HaltedRound, with_try, with_new, with_reached, after_outcome, round_of_tries, round_of_states, Broken, Search, search_end, ending_of, after_depth, after_round, search_on, search_from, first_state}
+use Rattle.mc_explore.specs.Search.{Node, Round, Halt, RuleBroken, Full, HaltedRound, with_try, with_new, with_reached, after_outcome, round_of_tries, round_of_states, Broken, Search, search_end, ending_of, after_depth, after_round, search_on, search_from, first_state, Tally, no_tries}
 use Rattle.mc_explore.specs.Safety.{Among, CanMake, CanTry, Breaks, BrokenLaw}
 use Rattle.mc_explore.proofs.Showings.{allowances_same}
 use Rattle.mc_explore.proofs.Actions.{Agrees, move_writes}
@@ -82,8 +82,8 @@ module _ (limit : ℕ) (rules : Rules) (first : CardState) where
     unfolding round_of_tries
     tries_find [] r among h = h
     tries_find (t ∷ ts) r among h =
-        either_way (Finds d) (Finds d) (Halts d) (after_outcome (outcome rules.ons n.state t) limit (t ∷ n.path) (with_try r)) (λ q. round_of_tries limit rules.ons n ts q)
-        (outcome_finds t (with_try r) (outcome rules.ons n.state t) (among t (inl refl)) refl h) (λ q g. tries_find ts q (λ u i. among u (inr i)) g)
+        either_way (Finds d) (Finds d) (Halts d) (after_outcome (outcome rules.ons n.state t) limit (t ∷ n.path) (with_try rules.ons n.state t r)) (λ q. round_of_tries limit rules.ons n ts q)
+        (outcome_finds t (with_try rules.ons n.state t r) (outcome rules.ons n.state t) (among t (inl refl)) refl h) (λ q g. tries_find ts q (λ u i. among u (inr i)) g)
 
   nodes_find : (d : ℕ) (ns : List Node) (r : Round) → AreNodes d ns → Finds d r → EitherWay (Finds d) (Halts d) (round_of_states limit rules ns r)
   unfolding round_of_states
@@ -103,7 +103,7 @@ module _ (limit : ℕ) (rules : Rules) (first : CardState) where
       let many : length p ≡ d + 1 = h.1 in
       (subst (λ (q : List Try). EndsIn q name) paths (subst (λ (x : List ℕ). EndsIn p x) names h.0), subst (λ (q : List Try). length q ≡ d + 0 + 1) paths (omega (arith, many)))
 
-  halt_broken : (d s t : ℕ) (h : Halt) → HaltsAt d h → EndsBroken (search_end (ending_of h (d + 1)) s t) d
+  halt_broken : (d s : ℕ) (t : Tally) (h : Halt) → HaltsAt d h → EndsBroken (search_end (ending_of h (d + 1)) s t) d
   halt_broken d s t (RuleBroken m p) h name path e = broken_same d m name p path h e
   halt_broken d s t Full h name path e = absurd (cc e)
 
@@ -116,7 +116,7 @@ module _ (limit : ℕ) (rules : Rules) (first : CardState) where
 
   round_broken : (d : ℕ) (x : Result Round HaltedRound) (again : List Node → Round → Search) → EitherWay (Finds d) (Halts d) x
       → ((ms : List Node) (q : Round) → AreNodes (d + 1) ms → EndsBroken (again ms q) (d + 1)) → EndsBroken (after_round x (d + 1) again) d
-  round_broken d (Err h) again finds later = halt_broken d h.count h.tries h.halt finds
+  round_broken d (Err h) again finds later = halt_broken d h.count h.tally h.halt finds
   round_broken d (Ok q) again finds later = depth_broken d q.fresh q again (later q.fresh q finds)
 
   explored_broken : (n d : ℕ) (ns : List Node) (r : Round) → AreNodes d ns → EndsBroken (search_on n d limit rules ns r) d
@@ -128,7 +128,7 @@ module _ (limit : ℕ) (rules : Rules) (first : CardState) where
 
   search_broken : (n : ℕ) → EndsBroken (search_from n limit rules first) 0
   unfolding search_from
-  search_broken n = explored_broken n 0 (record { state = first; path = [] } ∷ []) (record { known = first ∷ []; fresh = []; count = 1; tries = 0 }) ((refl, refl), tt)
+  search_broken n = explored_broken n 0 (record { state = first; path = [] } ∷ []) (record { known = first ∷ []; fresh = []; count = 1; tally = no_tries rules.ons }) ((refl, refl), tt)
 
 -- ---- what is tried can be made
 

@@ -10,7 +10,7 @@ use Rattle.mc_model_play.specs.declared.deck.DeckCause.TheVariants.{BadLine}
 use Rattle.mc_model_play.specs.DeckGrammar.{DeckLine, Context, Stated, Says, Opens, Word, PowerWord, SelectWord, DeleteWord, ApduWord, statement_of, aid_field, hex_field, deck_read}
 use Rattle.mc_model_play.specs.DeckGrammar as line
 use Rattle.mc_model_play.specs.Play.{is_card_line}
-use Rattle.mc_explore.specs.Rules.{Move, Rules, no_rules, rule_lines, move_words, line_stated, move_line, parts_of, full_parts, occasion_words, effect_words, name_and_amount, RuleWord, MoveWord, AllowWord, OnWord, rule_words, with_rule, with_line, rules_from, rules_read, Exploration, exploration_read}
+use Rattle.mc_explore.specs.Rules.{Move, Rules, no_rules, marked_lines, move_words, line_stated, move_line, parts_of, full_parts, occasion_words, effect_words, name_and_amount, RuleWord, MoveWord, AllowWord, OnWord, rule_word, with_rule, with_line, rules_from, rules_read, Exploration, exploration_read, line_fault, is_some_of, tested_rules, NoMove, NoRule}
 use Rattle.mc_explore.proofs.Searches.{IfGoesOn, goes_on}
 
 -- each move is a line to the card
@@ -132,7 +132,7 @@ unfolding with_line
 moves_of_line r l [] h = tt
 moves_of_line r l (mark ∷ []) h = tt
 moves_of_line r l (mark ∷ word ∷ rest) h =
-    goes_on (λ w. ⊤) HasMoves (ok_or (lookup rule_words word) BadLine) _ (any_goes (ok_or (lookup rule_words word) BadLine)) (λ w g. moves_of_rule r l.0 _ w rest h)
+    goes_on (λ w. ⊤) HasMoves (rule_word mark word) _ (any_goes (rule_word mark word)) (λ w g. moves_of_rule r l.0 _ w rest h)
 
 moves_of_rules : (r : Rules) (ls : List (ℕ × List ℕ)) → HasMoves r → IfGoesOn HasMoves (rules_from r ls)
 unfolding rules_from
@@ -143,15 +143,22 @@ moves_of_rules r (l ∷ ls) h =
 
 moves_read : (text : List ℕ) → IfGoesOn HasMoves (rules_read text)
 unfolding rules_read
-moves_read text = moves_of_rules no_rules (rule_lines false (with_numbers 1 (lines text))) tt
+moves_read text = moves_of_rules no_rules (marked_lines false (with_numbers 1 (lines text))) tt
 
 abbrev ExploresMoves : Exploration → Type 0
 ExploresMoves x = AreMoves x.rules.moves
 
+tested_goes : (r : Rules) → HasMoves r → IfGoesOn HasMoves (tested_rules r)
+tested_goes r h =
+    goes_on HasMoves HasMoves (only_if (is_some_of r.moves) NoMove r) (λ s. only_if (is_some_of s.ons) NoRule s) (only_goes HasMoves (is_some_of r.moves) NoMove r h)
+    (λ s g. only_goes HasMoves (is_some_of s.ons) NoRule s g)
+
 exploration_goes : (text : List ℕ) → IfGoesOn ExploresMoves (exploration_read text)
 unfolding exploration_read
 exploration_goes text =
-    goes_on (λ ls. ⊤) ExploresMoves (deck_read text) _ (any_goes (deck_read text)) (λ ls g. as_goes HasMoves ExploresMoves (λ r. record { lines = ls; rules = r }) (rules_read text) (λ r h. h) (moves_read text))
+    goes_on (λ ls. ⊤) ExploresMoves (err_as line_fault (deck_read text)) _ (any_goes (err_as line_fault (deck_read text)))
+    (λ ls g. goes_on HasMoves ExploresMoves (err_as line_fault (rules_read text)) (λ r. ok_as (λ s. record { lines = ls; rules = s }) (tested_rules r)) (err_goes HasMoves line_fault (rules_read text) (moves_read text))
+    (λ r h. as_goes HasMoves ExploresMoves (λ s. record { lines = ls; rules = s }) (tested_rules r) (λ s i. i) (tested_goes r h)))
 
 -- each move of a deck that was read is a line to the card
 pub moves_of_exploration : (text : List ℕ) (x : Exploration) → exploration_read text ≡ Ok x → AreMoves x.rules.moves

@@ -7,7 +7,7 @@ use Rattle.mc_model_text.specs.Text.{◌>>=◌}
 use Rattle.mc_explore.specs.Rules.{OnRule, Rules}
 use Rattle.mc_explore.specs.States.{CardState, is_known}
 use Rattle.mc_explore.specs.Tries.{Try, tries_of, outcome}
-use Rattle.mc_explore.specs.Search.{Node, Round, Halt, RuleBroken, Full, HaltedRound, with_try, with_new, with_reached, after_outcome, round_of_tries, round_of_states, Ending, All, AtDepth, Broken, TooMany, Search, search_end, ending_of, with_depth, after_depth, after_round, search_on, search_from}
+use Rattle.mc_explore.specs.Search.{Node, Round, Halt, RuleBroken, Full, HaltedRound, with_try, with_new, with_reached, after_outcome, round_of_tries, round_of_states, Ending, All, AtDepth, Broken, TooMany, Search, search_end, ending_of, with_depth, after_depth, after_round, search_on, search_from, Tally, no_tries}
 use Rattle.mc_explore.specs.Safety.{Among}
 use Rattle.mc_explore.proofs.Showings.{bind_same}
 use Rattle.mc_explore.proofs.SameStates.{known_among}
@@ -42,7 +42,7 @@ pub tried_append : (limit : ℕ) (ons : List OnRule) (n : Node) (ts us : List Tr
 unfolding round_of_tries
 tried_append limit ons n [] us r = refl
 tried_append limit ons n (t ∷ ts) us r =
-    let first = after_outcome (outcome ons n.state t) limit (t ∷ n.path) (with_try r) in
+    let first = after_outcome (outcome ons n.state t) limit (t ∷ n.path) (with_try ons n.state t r) in
     bind_same first (λ q. round_of_tries limit ons n (ts ++ us) q) (λ q. round_of_tries limit ons n ts q >>= λ p. round_of_tries limit ons n us p) (λ q. tried_append limit ons n ts us q)
     ∙ sym (bind_bind first (λ q. round_of_tries limit ons n ts q) (λ p. round_of_tries limit ons n us p))
 
@@ -83,8 +83,8 @@ record Advances (r q : Round) : Type 0 where
   fresh : (c : CardState) → InNodes c r.fresh → InNodes c q.fresh
   new : (c : CardState) → Among c q.known → Among c r.known ⊎ InNodes c q.fresh
 
-stays : (r : Round) → Advances r (with_try r)
-stays r = record { known = λ c i. i; fresh = λ c i. i; new = λ c i. inl i }
+stays : (ons : List OnRule) (c : CardState) (t : Try) (r : Round) → Advances r (with_try ons c t r)
+stays ons c t r = record { known = λ c i. i; fresh = λ c i. i; new = λ c i. inl i }
 
 still : (r : Round) → Advances r r
 still r = record { known = λ c i. i; fresh = λ c i. i; new = λ c i. inl i }
@@ -119,7 +119,7 @@ module _ (limit : ℕ) (ons : List OnRule) (n : Node) where
   Tried r t q = Advances r q × LeadsInto ons q.known n.state t
 
   room : (t : Try) (r : Round) (c : CardState) (path : List Try) (b : Bool) → outcome ons n.state t ≡ Ok c
-      → IfGoesOn (Tried r t) (with_new b (record { state = c; path = path }) (with_try r))
+      → IfGoesOn (Tried r t) (with_new b (record { state = c; path = path }) (with_try ons n.state t r))
   room t r c path true e = (
     record {
       known = λ d i. inr i;
@@ -131,11 +131,11 @@ module _ (limit : ℕ) (ons : List OnRule) (n : Node) where
   room t r c path false e = tt
 
   reached : (t : Try) (r : Round) (c : CardState) (path : List Try) (b : Bool) → outcome ons n.state t ≡ Ok c → is_known c r.known ≡ b
-      → IfGoesOn (Tried r t) (with_reached b limit (record { state = c; path = path }) (with_try r))
-  reached t r c path true e k = (stays r, (c, e, known_among c r.known k))
+      → IfGoesOn (Tried r t) (with_reached b limit (record { state = c; path = path }) (with_try ons n.state t r))
+  reached t r c path true e k = (stays ons n.state t r, (c, e, known_among c r.known k))
   reached t r c path false e k = room t r c path (nat_lt r.count limit) e
 
-  outcome_kept : (t : Try) (r : Round) (o : Result CardState (List ℕ)) → outcome ons n.state t ≡ o → IfGoesOn (Tried r t) (after_outcome o limit (t ∷ n.path) (with_try r))
+  outcome_kept : (t : Try) (r : Round) (o : Result CardState (List ℕ)) → outcome ons n.state t ≡ o → IfGoesOn (Tried r t) (after_outcome o limit (t ∷ n.path) (with_try ons n.state t r))
   outcome_kept t r (Err name) e = tt
   outcome_kept t r (Ok c) e = reached t r c (t ∷ n.path) (is_known c r.known) e refl
 
@@ -143,7 +143,7 @@ module _ (limit : ℕ) (ons : List OnRule) (n : Node) where
   unfolding round_of_tries
   all_tried [] r = (still r, tt)
   all_tried (t ∷ ts) r =
-      goes_on (Tried r t) (λ q. Advances r q × AllByRecursion (LeadsInto ons q.known n.state) (t ∷ ts)) (after_outcome (outcome ons n.state t) limit (t ∷ n.path) (with_try r))
+      goes_on (Tried r t) (λ q. Advances r q × AllByRecursion (LeadsInto ons q.known n.state) (t ∷ ts)) (after_outcome (outcome ons n.state t) limit (t ∷ n.path) (with_try ons n.state t r))
       (λ q. round_of_tries limit ons n ts q) (outcome_kept t r (outcome ons n.state t) refl)
       (λ p h. weaker (λ q. Advances p q × AllByRecursion (LeadsInto ons q.known n.state) ts) (λ q. Advances r q × AllByRecursion (LeadsInto ons q.known n.state) (t ∷ ts)) (round_of_tries limit ons n ts p)
       (λ q g. (then r p q h.0 g.0, (leads_on ons n.state t p.known q.known (g.0).known h.1, g.1))) (all_tried ts p))
@@ -189,8 +189,8 @@ module _ (limit : ℕ) (rules : Rules) where
 
   -- a number of tries in a row that a search from some depth on promises: none of a depth that was not done
   pub record IsPromise (P : Search → ℕ → ℕ → Type 0) : Type 0 where
-    pub halt : (h : Halt) (s t d k : ℕ) → P (search_end (ending_of h (d + 1)) s t) d (suc k) → ⊥
-    pub last : (s t d k : ℕ) → P (search_end (AtDepth d) s t) d (suc k) → ⊥
+    pub halt : (h : Halt) (s : ℕ) (t : Tally) (d k : ℕ) → P (search_end (ending_of h (d + 1)) s t) d (suc k) → ⊥
+    pub last : (s : ℕ) (t : Tally) (d k : ℕ) → P (search_end (AtDepth d) s t) d (suc k) → ⊥
     pub later : (n : ℕ) (e : Search) (d k : ℕ) → P (with_depth n e) d (suc k) → P e (d + 1) k
 
   -- a state that was found closes among those that are found after its depth
@@ -224,7 +224,7 @@ module _ (limit : ℕ) (rules : Rules) where
     round_safe : (d : ℕ) (ns : List Node) (r : Round) (x : Result Round HaltedRound) (again : List Node → Round → Search) → Pending ns r.known → IfGoesOn (Expands ns (record r { fresh = [] })) x
         → ((ms : List Node) (q : Round) → Pending ms q.known → SafeAfter (again ms q) (d + 1) q) → (k : ℕ) → P (after_round x (d + 1) again) d (suc k)
         → (c : CardState) → Among c r.known → Safe (suc k) c
-    round_safe d ns r (Err h) again pending ex later k promise c i = absurd (is.halt h.halt h.count h.tries d k promise)
+    round_safe d ns r (Err h) again pending ex later k promise c i = absurd (is.halt h.halt h.count h.tally d k promise)
     round_safe d ns r (Ok q) again pending ex later k promise c i =
         let after = pending_after ns r q pending ex in
         safe_from k q.known c (depth_safe d q.fresh q again after (later q.fresh q after) k promise) (found_closes ns r q pending ex c i)
@@ -232,7 +232,7 @@ module _ (limit : ℕ) (rules : Rules) where
     explored_safe : (n d : ℕ) (ns : List Node) (r : Round) → Pending ns r.known → SafeAfter (search_on n d limit rules ns r) d r
     unfolding search_on
     explored_safe n d ns r pending zero h c i = tt
-    explored_safe zero d ns r pending (suc k) h c i = absurd (is.last r.count r.tries d k h)
+    explored_safe zero d ns r pending (suc k) h c i = absurd (is.last r.count r.tally d k h)
     explored_safe (suc n) d ns r pending (suc k) h c i =
         round_safe d ns r (round_of_states limit rules ns (record r { fresh = [] })) (λ ms q. search_on n (d + 1) limit rules ms q) pending (all_expanded ns (record r { fresh = [] }))
         (λ ms q p. explored_safe n (d + 1) ms q p) k h c i
@@ -241,7 +241,7 @@ module _ (limit : ℕ) (rules : Rules) where
     pub search_safe : (n : ℕ) (c : CardState) (k : ℕ) → P (search_from n limit rules c) 0 k → Safe k c
     unfolding search_from
     search_safe n c k h =
-        explored_safe n 0 (record { state = c; path = [] } ∷ []) (record { known = c ∷ []; fresh = []; count = 1; tries = 0 })
+        explored_safe n 0 (record { state = c; path = [] } ∷ []) (record { known = c ∷ []; fresh = []; count = 1; tally = no_tries rules.ons })
         (λ d i. elim i [ inl same ↦ inl (inl same) | inr none ↦ absurd none ]) k h c (inl refl)
 
   -- ---- what is promised

@@ -1,8 +1,8 @@
 -- The rules of a deck: its comments that begin with `#@`. They name the moves of a terminal, the allowances of an
 -- application, and what a move does to an allowance.
-use Rattle.std.specs.Prelude.{ℕ, Bool, true, false, not, ◌&&◌, List, [], ◌∷◌, ◌++◌, bytes_eq, codes, is_none, is_some, ok_or, Option, Some, None, Result, Ok, Err}
+use Rattle.std.specs.Prelude.{ℕ, Bool, true, false, not, cond, ◌&&◌, ◌==◌, List, [], ◌∷◌, ◌++◌, bytes_eq, codes, is_none, is_some, ok_or, Option, Some, None, Result, Ok, Err}
 use Rattle.mc_model_device.specs.Bytes.{lookup}
-use Rattle.mc_model_text.specs.Text.{◌>>=◌, ok_as, err_as, only_if, is_blank, is_empty, first_cut, trim, trim_front, lines, with_numbers, fields}
+use Rattle.mc_model_text.specs.Text.{◌>>=◌, ok_as, err_as, only_if, is_blank, is_empty, begins, first_cut, trim, trim_front, lines, with_numbers, fields}
 use Rattle.mc_model_play.specs.declared.deck.DeckCause.{DeckCause}
 use Rattle.mc_model_play.specs.declared.deck.DeckCause.TheVariants.{BadLine, NameTwice, UnknownName}
 use Rattle.mc_model_play.specs.DeckGrammar.{DeckLine, Stated, Says, Opens, Word, PowerWord, SelectWord, DeleteWord, ApduWord, statement_of, name_field, number_field, is_end, deck_read}
@@ -25,8 +25,10 @@ pub data Effect : Type 0 where
   Allows : Effect
   Spends : Effect
 
--- an `on` line: the pattern of its moves, the pattern of its occasions, and what then happens to which allowance
+-- an `on` line: its number, the pattern of its moves, the pattern of its occasions, and what then happens to which
+-- allowance
 pub record OnRule : Type 0 where
+  pub number : ℕ
   pub move : List ℕ
   pub occasion : Occasion
   pub pattern : List ℕ
@@ -66,6 +68,22 @@ unfoldable pub rule_lines : Bool → List (ℕ × List ℕ) → List (ℕ × Lis
 rule_lines inside [] = []
 rule_lines inside (l ∷ ls) =
     line_if (not inside && begins_with (codes "#@") (fields l.1)) l (rule_lines (stays_inside inside (fields l.1)) ls)
+
+-- whether a field begins with `#@`
+abbrev pub has_mark : List ℕ → Bool
+has_mark [] = false
+has_mark (c ∷ rest) = (c == 35) && begins 64 rest
+
+-- whether the first field of a line begins with `#@`
+abbrev pub is_marked : List (List ℕ) → Bool
+is_marked [] = false
+is_marked (f ∷ fs) = has_mark f
+
+-- the lines outside of sections whose first field begins with `#@`; the first line of these is in a section or not
+unfoldable pub marked_lines : Bool → List (ℕ × List ℕ) → List (ℕ × List ℕ)
+marked_lines inside [] = []
+marked_lines inside (l ∷ ls) =
+    line_if (not inside && is_marked (fields l.1)) l (marked_lines (stays_inside inside (fields l.1)) ls)
 
 -- ---- moves
 
@@ -163,13 +181,17 @@ with_rule r n text OnWord fields = do
   o ← full_parts (parts_of effect_words m.2)
   a ← name_and_amount o.2
   only_if (is_some (lookup r.allowances a.0)) UnknownName (record r {
-    ons = r.ons ++ record { move = m.0; occasion = m.1; pattern = o.0; effect = o.1; name = a.0; amount = a.1 } ∷ [];
+    ons = r.ons ++ record { number = n; move = m.0; occasion = m.1; pattern = o.0; effect = o.1; name = a.0; amount = a.1 } ∷ [];
   })
 
--- the rules with those of one more line, by its fields after `#@`
+-- the word of a rule, by the first field of its line, which is `#@` and no more, and the field after it
+abbrev pub rule_word : List ℕ → List ℕ → Result RuleWord DeckCause
+rule_word mark word = cond (bytes_eq mark (codes "#@")) (ok_or (lookup rule_words word) BadLine) (Err BadLine)
+
+-- the rules with those of one more line, by its fields
 unfoldable pub with_line : Rules → ℕ × List ℕ → List (List ℕ) → Result Rules DeckCause
 unfolding with_rule
-with_line r l (mark ∷ word ∷ rest) = ok_or (lookup rule_words word) BadLine >>= λ w. with_rule r l.0 (without_field (without_field l.1)) w rest
+with_line r l (mark ∷ word ∷ rest) = rule_word mark word >>= λ w. with_rule r l.0 (without_field (without_field l.1)) w rest
 with_line r l other = Err BadLine
 
 -- the rules of lines, or the first refusal
@@ -180,8 +202,8 @@ rules_from r (l ∷ ls) = err_as (λ e. (l.0, e)) (with_line r l (fields l.1)) >
 
 -- the rules of a deck's text
 unfoldable pub rules_read : List ℕ → Result Rules (ℕ × DeckCause)
-unfolding rule_lines rules_from
-rules_read text = rules_from no_rules (rule_lines false (with_numbers 1 (lines text)))
+unfolding marked_lines rules_from
+rules_read text = rules_from no_rules (marked_lines false (with_numbers 1 (lines text)))
 
 -- ---- a deck with its rules
 
@@ -190,9 +212,29 @@ pub record Exploration : Type 0 where
   pub lines : List (ℕ × DeckLine)
   pub rules : Rules
 
--- the lines of a deck and its rules, or the first refusal; those of the deck come first
-unfoldable pub exploration_read : List ℕ → Result Exploration (ℕ × DeckCause)
+-- why a deck is not explored: a line that is refused, of the deck or of its rules; no move; or no `on` line
+pub data ExplorationFault : Type 0 where
+  LineFault : (line : ℕ) (cause : DeckCause) → ExplorationFault
+  NoMove : ExplorationFault
+  NoRule : ExplorationFault
+
+-- the refusal of a line
+abbrev pub line_fault : ℕ × DeckCause → ExplorationFault
+line_fault e = LineFault e.0 e.1
+
+-- whether there is one of some
+abbrev pub is_some_of : {A : Type 0} → List A → Bool
+is_some_of [] = false
+is_some_of (x ∷ xs) = true
+
+-- rules with a move and an `on` line: without them an exploration tests nothing
+abbrev pub tested_rules : Rules → Result Rules ExplorationFault
+tested_rules r = only_if (is_some_of r.moves) NoMove r >>= λ r. only_if (is_some_of r.ons) NoRule r
+
+-- the lines of a deck and its rules, or the first refusal; those of the deck come first, and then those of lines
+unfoldable pub exploration_read : List ℕ → Result Exploration ExplorationFault
 unfolding deck_read rules_read
 exploration_read text = do
-  ls ← deck_read text
-  ok_as (λ r. record { lines = ls; rules = r }) (rules_read text)
+  ls ← err_as line_fault (deck_read text)
+  r ← err_as line_fault (rules_read text)
+  ok_as (λ r. record { lines = ls; rules = r }) (tested_rules r)

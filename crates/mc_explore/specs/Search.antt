@@ -1,5 +1,5 @@
 -- The search through all states, breadth first.
-use Rattle.std.specs.Prelude.{ℕ, zero, suc, ◌+◌, Bool, true, false, nat_lt, List, [], ◌∷◌, ◌++◌, length, codes, decimal, Result, Ok, Err}
+use Rattle.std.specs.Prelude.{ℕ, zero, suc, ◌+◌, Bool, true, false, nat_lt, List, [], ◌∷◌, ◌++◌, length, map, codes, decimal, Result, Ok, Err}
 use Rattle.mc_model_text.specs.Text.{◌>>=◌}
 use Rattle.mc_model_text.specs.Listing.{hex_text}
 use Rattle.mc_model_device.specs.PowerUp.{Base, OnCard, AtFault}
@@ -8,7 +8,7 @@ use Rattle.mc_model_play.specs.DeckGrammar as line
 use Rattle.mc_model_play.specs.Play.{Armed, Unarmed, ArmedCut, ArmedFail, Live, Running, armed_stop_in, State}
 use Rattle.mc_explore.specs.Rules.{Move, OnRule, Rules, Exploration}
 use Rattle.mc_explore.specs.States.{CardState, warm_state, warm_in, first_play, is_known}
-use Rattle.mc_explore.specs.Tries.{Manner, Whole, CutAt, Try, tries_of, outcome}
+use Rattle.mc_explore.specs.Tries.{Manner, Whole, CutAt, Try, tries_of, outcome, heard_after}
 
 -- ---- one depth
 
@@ -17,13 +17,26 @@ pub record Node : Type 0 where
   pub state : CardState
   pub path : List Try
 
--- what was found so far: all states, those of this depth in the order in which they were found, the number of states
--- and of tries
+-- what tries came to so far: their number, and for each `on` line whether it applied to one of them
+pub record Tally : Type 0 where
+  pub tries : ℕ
+  pub heard : List Bool
+
+-- what no tries came to, by the `on` lines
+abbrev pub no_tries : List OnRule → Tally
+no_tries ons = record { tries = 0; heard = map (λ r. false) ons }
+
+-- what tries came to, with one more from a state
+abbrev pub tally_with : List OnRule → CardState → Try → Tally → Tally
+tally_with ons c t a = record { tries = a.tries + 1; heard = heard_after ons c t a.heard }
+
+-- what was found so far: all states, those of this depth in the order in which they were found, the number of states,
+-- and what the tries came to
 pub record Round : Type 0 where
   pub known : List CardState
   pub fresh : List Node
   pub count : ℕ
-  pub tries : ℕ
+  pub tally : Tally
 
 -- what ends a search within a depth: an allowance that is spent below zero, by these tries, the last first; or one
 -- state too many
@@ -31,19 +44,19 @@ pub data Halt : Type 0 where
   RuleBroken : (name : List ℕ) (path : List Try) → Halt
   Full : Halt
 
--- a search that ended within a depth: why, and the number of states and of tries
+-- a search that ended within a depth: why, the number of states, and what the tries came to
 pub record HaltedRound : Type 0 where
   pub halt : Halt
   pub count : ℕ
-  pub tries : ℕ
+  pub tally : Tally
 
--- one try more
-abbrev pub with_try : Round → Round
-with_try r = record r { tries = r.tries + 1 }
+-- one try more, from a state
+abbrev pub with_try : List OnRule → CardState → Try → Round → Round
+with_try ons c t r = record r { tally = tally_with ons c t r.tally }
 
 -- a search that ends here
 abbrev pub halt_of : Halt → Round → HaltedRound
-halt_of h r = record { halt = h; count = r.count; tries = r.tries }
+halt_of h r = record { halt = h; count = r.count; tally = r.tally }
 
 -- a new state, if there is room for one more
 abbrev pub with_new : Bool → Node → Round → Result Round HaltedRound
@@ -62,9 +75,9 @@ after_outcome (Ok c) limit path r = with_reached (is_known c r.known) limit (rec
 
 -- the tries of a state, one after the other
 unfoldable pub round_of_tries : ℕ → List OnRule → Node → List Try → Round → Result Round HaltedRound
-unfolding outcome is_known
+unfolding outcome is_known heard_after
 round_of_tries limit ons n [] r = Ok r
-round_of_tries limit ons n (t ∷ ts) r = after_outcome (outcome ons n.state t) limit (t ∷ n.path) (with_try r) >>= λ q. round_of_tries limit ons n ts q
+round_of_tries limit ons n (t ∷ ts) r = after_outcome (outcome ons n.state t) limit (t ∷ n.path) (with_try ons n.state t r) >>= λ q. round_of_tries limit ons n ts q
 
 -- the states of a depth, one after the other
 unfoldable pub round_of_states : ℕ → Rules → List Node → Round → Result Round HaltedRound
@@ -82,16 +95,17 @@ pub data Ending : Type 0 where
   Broken : (name : List ℕ) (path : List Try) → Ending
   TooMany : (depth : ℕ) → Ending
 
--- a search: the number of new states of each depth that is done, the number of states and of tries, and how it ends
+-- a search: the number of new states of each depth that is done, the number of states, what the tries came to, and how
+-- it ends
 pub record Search : Type 0 where
   pub news : List ℕ
   pub states : ℕ
-  pub tries : ℕ
+  pub tally : Tally
   pub ending : Ending
 
 -- a search that ends before another depth is done
-abbrev pub search_end : Ending → ℕ → ℕ → Search
-search_end e states tries = record { news = []; states = states; tries = tries; ending = e }
+abbrev pub search_end : Ending → ℕ → Tally → Search
+search_end e states a = record { news = []; states = states; tally = a; ending = e }
 
 -- how a depth ends a search
 abbrev pub ending_of : Halt → ℕ → Ending
@@ -104,18 +118,18 @@ with_depth n e = record e { news = n ∷ e.news }
 
 -- after a depth that is done: it goes on from the new states, if there are some
 abbrev pub after_depth : List Node → Round → (List Node → Round → Search) → Search
-after_depth [] r again = with_depth 0 (search_end All r.count r.tries)
+after_depth [] r again = with_depth 0 (search_end All r.count r.tally)
 after_depth (n ∷ ns) r again = with_depth (length (n ∷ ns)) (again (n ∷ ns) r)
 
 -- after a depth
 abbrev pub after_round : Result Round HaltedRound → ℕ → (List Node → Round → Search) → Search
-after_round (Err h) d again = search_end (ending_of h.halt d) h.count h.tries
+after_round (Err h) d again = search_end (ending_of h.halt d) h.count h.tally
 after_round (Ok r) d again = after_depth r.fresh r again
 
 -- n depths more after depth d, from the states of depth d
 unfoldable pub search_on : ℕ → ℕ → ℕ → Rules → List Node → Round → Search
 unfolding round_of_states
-search_on zero d limit rules ns r = search_end (AtDepth d) r.count r.tries
+search_on zero d limit rules ns r = search_end (AtDepth d) r.count r.tally
 search_on (suc n) d limit rules ns r =
     after_round (round_of_states limit rules ns (record r { fresh = [] })) (d + 1) (λ ms q. search_on n (d + 1) limit rules ms q)
 
@@ -123,7 +137,7 @@ search_on (suc n) d limit rules ns r =
 unfoldable pub search_from : ℕ → ℕ → Rules → CardState → Search
 unfolding search_on
 search_from n limit rules c =
-    search_on n 0 limit rules (record { state = c; path = [] } ∷ []) (record { known = c ∷ []; fresh = []; count = 1; tries = 0 })
+    search_on n 0 limit rules (record { state = c; path = [] } ∷ []) (record { known = c ∷ []; fresh = []; count = 1; tally = no_tries rules.ons })
 
 -- the most states of a search
 abbrev pub most_states : ℕ

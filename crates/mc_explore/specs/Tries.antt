@@ -1,6 +1,6 @@
 -- What is tried in a state: each move whole, and cut in each of its device writes; and what a try does to the card and
 -- the allowances.
-use Rattle.std.specs.Prelude.{ℕ, zero, suc, ◌+◌, ◌-◌, Bool, true, false, cond, nat_le, ◌==◌, List, [], ◌∷◌, length, drop, filter, map, flat_map, replicate, bytes_eq, unwrap_or, Option, Some, None, Result, Ok, Err}
+use Rattle.std.specs.Prelude.{ℕ, zero, suc, ◌+◌, ◌-◌, Bool, true, false, cond, ◌||◌, nat_le, nat_lt, ◌==◌, List, [], ◌∷◌, length, drop, filter, map, flat_map, replicate, bytes_eq, unwrap_or, Option, Some, None, Result, Ok, Err}
 use Rattle.mc_model_device.specs.Bytes.{zeros, lookup}
 use Rattle.mc_model_device.specs.Image.{Two, opening}
 use Rattle.mc_model_text.specs.Text.{◌>>=◌, ok_as, first_cut}
@@ -66,6 +66,16 @@ unfoldable pub allowances_after : List OnRule → Move → Step → List (List �
 allowances_after [] m t a = Ok a
 allowances_after (r ∷ rs) m t a = effect_times (times r m t) r.effect r.name r.amount a >>= λ b. allowances_after rs m t b
 
+-- ---- `on` lines that applied
+
+-- for each `on` line whether it applied before, or applies to one more move that was played
+unfoldable pub heard_with : List OnRule → Move → Step → List Bool → List Bool
+heard_with [] m t hs = hs
+heard_with (r ∷ rs) m t [] = []
+heard_with (r ∷ rs) m t (h ∷ hs) =
+    let now = nat_lt 0 (times r m t) in
+    (h || now) ∷ heard_with rs m t hs
+
 -- ---- tries
 
 -- how a move is made: whole, or cut at a device write, counted from 1, that leaves a word
@@ -128,3 +138,10 @@ unfolding allowances_after
 outcome ons c t =
     let s = step_of (play_of c) t.move t.manner in
     ok_as (λ a. state_in (recovery t.move.number t.manner s.after) a) (allowances_after ons t.move s c.allowances)
+
+-- for each `on` line whether it applied before, or applies to a try
+unfoldable pub heard_after : List OnRule → CardState → Try → List Bool → List Bool
+unfolding heard_with
+heard_after ons c t hs =
+    let s = step_of (play_of c) t.move t.manner in
+    heard_with ons t.move s hs

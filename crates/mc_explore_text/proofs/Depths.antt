@@ -6,15 +6,15 @@ use Rattle.std.proofs.lemmas.Fmt.{decimal_injective}
 use Rattle.std.proofs.lemmas.List.{append_assoc}
 use Rattle.mc_model_text.specs.Text.{every}
 use Rattle.mc_model_play.specs.Play.{State}
-use Rattle.mc_explore.specs.Rules.{Rules, no_rules, Exploration}
+use Rattle.mc_explore.specs.Rules.{OnRule, Rules, no_rules, Exploration}
 use Rattle.mc_explore.specs.States.{CardState, is_known, play_of_deck}
 use Rattle.mc_explore.specs.Tries.{Try, tries_of, outcome}
-use Rattle.mc_explore.specs.Search.{Node, Round, Halt, RuleBroken, Full, HaltedRound, with_try, with_new, with_reached, after_outcome, round_of_tries, round_of_states, Ending, All, AtDepth, Broken, TooMany, Search, search_end, ending_of, after_depth, after_round, search_on, search_from, most_states, first_state, search_of}
-use Rattle.mc_explore_text.specs.Report.{sums_text, ending_text, text_within, explore_text}
+use Rattle.mc_explore.specs.Search.{Node, Round, Halt, RuleBroken, Full, HaltedRound, with_try, with_new, with_reached, after_outcome, round_of_tries, round_of_states, Ending, All, AtDepth, Broken, TooMany, Search, search_end, ending_of, after_depth, after_round, search_on, search_from, most_states, first_state, search_of, Tally, no_tries}
+use Rattle.mc_explore_text.specs.Report.{silent_lines, silent_numbers, sums_text, ending_text, text_within, explore_text}
 use Rattle.mc_explore_text.specs.TextSafety.{DepthTextLaw}
 use Rattle.mc_explore.proofs.Breaks.{EitherWay, either_way}
 use Rattle.mc_explore.proofs.Safety.{depth_law}
-use Rattle.mc_explore_text.proofs.Texts.{other, after, head, after_five, decimal_every, unlines, sums_end, no_depth}
+use Rattle.mc_explore_text.proofs.Texts.{other, after, head, after_five, decimal_every, unlines, sums_end, no_depth, silent_no_depth, same_sums, broken_no_sums}
 
 -- ---- how many states there are
 
@@ -46,8 +46,8 @@ module _ (limit : ℕ) (rules : Rules) where
   unfolding round_of_tries
   tries_within n [] r h = h
   tries_within n (t ∷ ts) r h =
-      either_way Within Within Stops (after_outcome (outcome rules.ons n.state t) limit (t ∷ n.path) (with_try r)) (λ q. round_of_tries limit rules.ons n ts q)
-      (outcome_within (outcome rules.ons n.state t) (t ∷ n.path) (with_try r) h) (λ q g. tries_within n ts q g)
+      either_way Within Within Stops (after_outcome (outcome rules.ons n.state t) limit (t ∷ n.path) (with_try rules.ons n.state t r)) (λ q. round_of_tries limit rules.ons n ts q)
+      (outcome_within (outcome rules.ons n.state t) (t ∷ n.path) (with_try rules.ons n.state t r) h) (λ q g. tries_within n ts q g)
 
   nodes_within : (ns : List Node) (r : Round) → Within r → EitherWay Within Stops (round_of_states limit rules ns r)
   unfolding round_of_states
@@ -66,7 +66,7 @@ module _ (limit : ℕ) (rules : Rules) where
   abbrev Ends : Search → ℕ → Type 0
   Ends e last = EndsAt e.ending last e.states
 
-  halt_ends : (h : Halt) (d last states tries : ℕ) → FullAt h states → Ends (search_end (ending_of h d) states tries) last
+  halt_ends : (h : Halt) (d last states : ℕ) (tries : Tally) → FullAt h states → Ends (search_end (ending_of h d) states tries) last
   halt_ends (RuleBroken name path) d last states tries h = tt
   halt_ends Full d last states tries h = h
 
@@ -76,7 +76,7 @@ module _ (limit : ℕ) (rules : Rules) where
 
   round_ends : (d last : ℕ) (x : Result Round HaltedRound) (again : List Node → Round → Search) → EitherWay Within Stops x → ((ms : List Node) (q : Round) → Within q → Ends (again ms q) last)
       → Ends (after_round x d again) last
-  round_ends d last (Err h) again within later = halt_ends h.halt d last h.count h.tries within
+  round_ends d last (Err h) again within later = halt_ends h.halt d last h.count h.tally within
   round_ends d last (Ok q) again within later = depth_ends last q.fresh q again (later q.fresh q within)
 
   explored_ends : (n d last : ℕ) (ns : List Node) (r : Round) → d + n ≡ last → Within r → Ends (search_on n d limit rules ns r) last
@@ -88,7 +88,7 @@ module _ (limit : ℕ) (rules : Rules) where
 
   search_ends : (n : ℕ) (c : CardState) → 1 ≤ limit → Ends (search_from n limit rules c) n
   unfolding search_from
-  search_ends n c low = explored_ends n 0 n (record { state = c; path = [] } ∷ []) (record { known = c ∷ []; fresh = []; count = 1; tries = 0 }) (omega arith) low
+  search_ends n c low = explored_ends n 0 n (record { state = c; path = [] } ∷ []) (record { known = c ∷ []; fresh = []; count = 1; tally = no_tries rules.ons }) (omega arith) low
 
 -- ---- before a character
 
@@ -139,19 +139,26 @@ all_none s t n m d h =
     let z : 97 ≡ 100 = ap (λ (u : List ℕ). head u) e in
     omega (arith, z)
 
-depth_is : (s : State) (e : Search) (x : Ending) (last n m d : ℕ) → EndsAt most_states no_rules x last e.states → last < 2 ^ 64 → n < most_states → d < 2 ^ 64
-    → ending_text s e x ≡ sums_text n m (codes " depth " ++ decimal d) → x ≡ AtDepth d
-depth_is s e All last n m d ends a b c h = absurd (all_none e.states e.tries n m d h)
-depth_is s e (AtDepth f) last n m d ends a b c h =
-    ap (λ (k : ℕ). AtDepth k) (decimal_injective f d (omega (arith, ends, a)) c (same_depth e.states e.tries f n m d h))
-depth_is s e (TooMany f) last n m d ends a b c h =
-    absurd (let same : e.states ≡ n = decimal_injective e.states n (omega (arith, ends)) (omega (arith, b)) (same_states e.states e.tries f n m d h) in omega (arith, same, ends, b))
-depth_is s e (Broken name path) last n m d ends a b c h = absurd (let z : 98 ≡ 101 = ap (λ (u : List ℕ). head u) h in omega (arith, z))
+module _ (ons : List OnRule) (s : State) (e : Search) (ms : List ℕ) where
+  abbrev sums_of : List ℕ → ℕ → ℕ → ℕ → Type 0
+  sums_of how n m d = silent_lines (silent_numbers ons e.tally.heard) ++ sums_text e.states e.tally.tries how ≡ silent_lines ms ++ sums_text n m (codes " depth " ++ decimal d)
+
+  sums_same : (how : List ℕ) (n m d : ℕ) → sums_of how n m d → sums_text e.states e.tally.tries how ≡ sums_text n m (codes " depth " ++ decimal d)
+  sums_same how n m d h = same_sums (silent_numbers ons e.tally.heard) ms e.states e.tally.tries n m how (codes " depth " ++ decimal d) h
+
+  depth_is : (x : Ending) (last n m d : ℕ) → EndsAt most_states no_rules x last e.states → last < 2 ^ 64 → n < most_states → d < 2 ^ 64
+      → ending_text ons s e x ≡ silent_lines ms ++ sums_text n m (codes " depth " ++ decimal d) → x ≡ AtDepth d
+  depth_is All last n m d ends a b c h = absurd (all_none e.states e.tally.tries n m d (sums_same (codes " all") n m d h))
+  depth_is (AtDepth f) last n m d ends a b c h =
+      ap (λ (k : ℕ). AtDepth k) (decimal_injective f d (omega (arith, ends, a)) c (same_depth e.states e.tally.tries f n m d (sums_same (codes " depth " ++ decimal f) n m d h)))
+  depth_is (TooMany f) last n m d ends a b c h =
+      absurd (
+      let same : e.states ≡ n = decimal_injective e.states n (omega (arith, ends)) (omega (arith, b)) (same_states e.states e.tally.tries f n m d (sums_same (codes " depth " ++ decimal f) n m d h)) in
+      omega (arith, same, ends, b)
+      )
+  depth_is (Broken name path) last n m d ends a b c h = absurd (broken_no_sums (ending_text ons s e (Broken name path)) ms n m (codes " depth " ++ decimal d) refl h)
 
 -- ---- the law
-
-sums_begin : (n m d : ℕ) → head (sums_text n m (codes " depth " ++ decimal d)) ≡ 100 → ⊥
-sums_begin n m d h = let z : 101 ≡ 100 = h in omega (arith, z)
 
 ends_in : (n : ℕ) (x : Exploration) → let e = search_of most_states n x in EndsAt most_states no_rules e.ending n e.states
 unfolding search_of
@@ -160,8 +167,11 @@ ends_in n x = search_ends most_states x.rules n (first_state x) (omega arith)
 pub depth_text_law : DepthTextLaw
 unfolding explore_text text_within
 depth_text_law n d text x small few read says ts most =
+    let ons = x.rules.ons in
     let s = play_of_deck x.lines in
     let e = search_of most_states n x in
-    let ends : ending_text s e e.ending ≡ sums_text says.states says.tries (codes " depth " ++ decimal d) =
-    unlines e.news says.news 1 (ending_text s e e.ending) (sums_text says.states says.tries (codes " depth " ++ decimal d)) (no_depth s e e.ending) (sums_begin says.states says.tries d) says.is in
-    depth_law most_states n d text x read (depth_is s e e.ending n says.states says.tries d (ends_in n x) small says.few few ends) ts most
+    let how = codes " depth " ++ decimal d in
+    let end = silent_lines says.silent ++ sums_text says.states says.tries how in
+    let ends : ending_text ons s e e.ending ≡ end =
+    unlines e.news says.news 1 (ending_text ons s e e.ending) end (no_depth ons s e e.ending) (silent_no_depth says.silent says.states says.tries how) says.is in
+    depth_law most_states n d text x read (depth_is ons s e says.silent e.ending n says.states says.tries d (ends_in n x) small says.few few ends) ts most

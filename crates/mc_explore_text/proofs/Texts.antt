@@ -6,9 +6,10 @@ use Rattle.std.proofs.lemmas.Bool.{and_from, and_parts, lt-ltb, eq-eqb, ne_eqb, 
 use Rattle.std.proofs.lemmas.List.{append_assoc}
 use Rattle.mc_model_text.specs.Text.{every}
 use Rattle.mc_model_play.specs.Play.{State}
+use Rattle.mc_explore.specs.Rules.{OnRule}
 use Rattle.mc_explore.specs.States.{play_of_deck}
 use Rattle.mc_explore.specs.Search.{Ending, All, AtDepth, Broken, TooMany, Search, most_states, search_of}
-use Rattle.mc_explore_text.specs.Report.{depth_lines, sums_text, ending_text, text_within, explore_text}
+use Rattle.mc_explore_text.specs.Report.{depth_lines, silent_lines, silent_numbers, sums_text, ending_text, text_within, explore_text}
 use Rattle.mc_explore_text.specs.TextSafety.{TextLaw}
 use Rattle.mc_explore.proofs.Safety.{all_law}
 
@@ -84,6 +85,44 @@ unlines (x ∷ xs) [] d e s he hs h = absurd (hs (ap (λ (t : List ℕ). head t)
 unlines (x ∷ xs) (y ∷ ys) d e s he hs h =
     unlines xs ys (d + 1) e s he hs (sym (unlined d x xs e) ∙ ap (λ (t : List ℕ). after 10 t) h ∙ unlined d y ys s)
 
+-- ---- lines of rules that applied to no try
+
+abbrev pub silent_front : ℕ → List ℕ
+silent_front n = codes "silent line " ++ decimal n
+
+silent_one : (n : ℕ) → every (other 10) (silent_front n) ≡ true
+silent_one n = every_append (other 10) (codes "silent line ") (decimal n) refl (decimal_every 10 n (omega arith))
+
+unsilenced : (n : ℕ) (ns e : List ℕ) → after 10 (silent_lines (n ∷ ns) ++ e) ≡ silent_lines ns ++ e
+unsilenced n ns e =
+    ap (λ (t : List ℕ). after 10 t) (append_assoc (silent_front n ++ codes "\n") (silent_lines ns) e ∙ append_assoc (silent_front n) (codes "\n") (silent_lines ns ++ e))
+    ∙ after_first 10 (silent_front n) (silent_lines ns ++ e) (silent_one n)
+
+-- texts that are equal are so without such lines before them
+pub unsilent : (xs ys : List ℕ) (e s : List ℕ) → (head e ≡ 115 → ⊥) → (head s ≡ 115 → ⊥) → silent_lines xs ++ e ≡ silent_lines ys ++ s → e ≡ s
+unsilent [] [] e s he hs h = h
+unsilent [] (y ∷ ys) e s he hs h = absurd (he (ap (λ (t : List ℕ). head t) h))
+unsilent (x ∷ xs) [] e s he hs h = absurd (hs (ap (λ (t : List ℕ). head t) (sym h)))
+unsilent (x ∷ xs) (y ∷ ys) e s he hs h = unsilent xs ys e s he hs (sym (unsilenced x xs e) ∙ ap (λ (t : List ℕ). after 10 t) h ∙ unsilenced y ys s)
+
+-- such lines before the sums begin with no `d`
+pub silent_no_depth : (ns : List ℕ) (states tries : ℕ) (how : List ℕ) → head (silent_lines ns ++ sums_text states tries how) ≡ 100 → ⊥
+silent_no_depth [] states tries how h = let z : 101 ≡ 100 = h in omega (arith, z)
+silent_no_depth (n ∷ ns) states tries how h = let z : 115 ≡ 100 = h in omega (arith, z)
+
+-- and the sums with no `s`
+pub sums_no_silent : (states tries : ℕ) (how : List ℕ) → head (sums_text states tries how) ≡ 115 → ⊥
+sums_no_silent states tries how h = let z : 101 ≡ 115 = h in omega (arith, z)
+
+-- equal ends of searches have equal sums
+pub same_sums : (ns ms : List ℕ) (s t n m : ℕ) (how so : List ℕ) → silent_lines ns ++ sums_text s t how ≡ silent_lines ms ++ sums_text n m so → sums_text s t how ≡ sums_text n m so
+same_sums ns ms s t n m how so h = unsilent ns ms (sums_text s t how) (sums_text n m so) (sums_no_silent s t how) (sums_no_silent n m so) h
+
+-- the line of a broken rule is not such an end
+pub broken_no_sums : (broken ms : List ℕ) (n m : ℕ) (so : List ℕ) → head broken ≡ 98 → broken ≡ silent_lines ms ++ sums_text n m so → ⊥
+broken_no_sums broken [] n m so b h = let z : 98 ≡ 101 = sym b ∙ ap (λ (t : List ℕ). head t) h in omega (arith, z)
+broken_no_sums broken (x ∷ ms) n m so b h = let z : 98 ≡ 115 = sym b ∙ ap (λ (t : List ℕ). head t) h in omega (arith, z)
+
 -- ---- the line of the sums
 
 abbrev pub after_five : List ℕ → List ℕ
@@ -103,11 +142,15 @@ sums_end states tries how =
 
 -- ---- endings
 
-pub no_depth : (s : State) (e : Search) (x : Ending) → head (ending_text s e x) ≡ 100 → ⊥
-no_depth s e All h = let z : 101 ≡ 100 = h in omega (arith, z)
-no_depth s e (AtDepth d) h = let z : 101 ≡ 100 = h in omega (arith, z)
-no_depth s e (TooMany d) h = let z : 101 ≡ 100 = h in omega (arith, z)
-no_depth s e (Broken name path) h = let z : 98 ≡ 100 = h in omega (arith, z)
+module _ (ons : List OnRule) (s : State) (e : Search) where
+  abbrev silent : List ℕ
+  silent = silent_numbers ons e.tally.heard
+
+  pub no_depth : (x : Ending) → head (ending_text ons s e x) ≡ 100 → ⊥
+  no_depth All h = silent_no_depth silent e.states e.tally.tries (codes " all") h
+  no_depth (AtDepth d) h = silent_no_depth silent e.states e.tally.tries (codes " depth " ++ decimal d) h
+  no_depth (TooMany d) h = silent_no_depth silent e.states e.tally.tries (codes " depth " ++ decimal d) h
+  no_depth (Broken name path) h = let z : 98 ≡ 100 = h in omega (arith, z)
 
 -- sums that end with a depth do not end with `all`
 not_all : (states tries d n m : ℕ) → sums_text states tries (codes " depth " ++ decimal d) ≡ sums_text n m (codes " all") → ⊥
@@ -116,22 +159,24 @@ not_all states tries d n m h =
     let z : 100 ≡ 97 = ap (λ (t : List ℕ). head t) e in
     omega (arith, z)
 
-ending_is : (s : State) (e : Search) (x : Ending) (n m : ℕ) → ending_text s e x ≡ sums_text n m (codes " all") → x ≡ All
-ending_is s e All n m h = refl
-ending_is s e (AtDepth d) n m h = absurd (not_all e.states e.tries d n m h)
-ending_is s e (TooMany d) n m h = absurd (not_all e.states e.tries d n m h)
-ending_is s e (Broken name path) n m h = absurd (let z : 98 ≡ 101 = ap (λ (t : List ℕ). head t) h in omega (arith, z))
+module _ (ons : List OnRule) (s : State) (e : Search) (ms : List ℕ) where
+  ending_is : (x : Ending) (n m : ℕ) → ending_text ons s e x ≡ silent_lines ms ++ sums_text n m (codes " all") → x ≡ All
+  ending_is All n m h = refl
+  ending_is (AtDepth d) n m h =
+      absurd (not_all e.states e.tally.tries d n m (same_sums (silent_numbers ons e.tally.heard) ms e.states e.tally.tries n m (codes " depth " ++ decimal d) (codes " all") h))
+  ending_is (TooMany d) n m h =
+      absurd (not_all e.states e.tally.tries d n m (same_sums (silent_numbers ons e.tally.heard) ms e.states e.tally.tries n m (codes " depth " ++ decimal d) (codes " all") h))
+  ending_is (Broken name path) n m h = absurd (broken_no_sums (ending_text ons s e (Broken name path)) ms n m (codes " all") refl h)
 
 -- ---- the law
-
-pub sums_first : (n m : ℕ) → head (sums_text n m (codes " all")) ≡ 100 → ⊥
-sums_first n m h = let z : 101 ≡ 100 = h in omega (arith, z)
 
 pub text_law : TextLaw
 unfolding explore_text text_within
 text_law n text x read says ts =
+    let ons = x.rules.ons in
     let s = play_of_deck x.lines in
     let e = search_of most_states n x in
-    let ends : ending_text s e e.ending ≡ sums_text says.states says.tries (codes " all") =
-    unlines e.news says.news 1 (ending_text s e e.ending) (sums_text says.states says.tries (codes " all")) (no_depth s e e.ending) (sums_first says.states says.tries) says.is in
-    all_law most_states n text x read (ending_is s e e.ending says.states says.tries ends) ts
+    let end = silent_lines says.silent ++ sums_text says.states says.tries (codes " all") in
+    let ends : ending_text ons s e e.ending ≡ end =
+    unlines e.news says.news 1 (ending_text ons s e e.ending) end (no_depth ons s e e.ending) (silent_no_depth says.silent says.states says.tries (codes " all")) says.is in
+    all_law most_states n text x read (ending_is ons s e says.silent e.ending says.states says.tries ends) ts

@@ -62,3 +62,7 @@ session_deck = app_deck (codes "CMPB DB[0],1\nJUMP EQ,no\nSETB DB[0],1\nEXIT\nno
 -- one that counts twice in each command
 abbrev pub twice_deck : List ℕ
 twice_deck = app_deck (codes "INCN SB[0],1\nINCN SB[1],1\nEXIT\n") (codes "2 0")
+
+-- an allowance that is never spent, and a rule that applies to each try
+abbrev pub quiet_rule : List ℕ
+quiet_rule = codes "#@ allow quiet 0\n#@ on * gives * allow quiet 0\n"

@@ -1,9 +1,9 @@
 -- The text that the search through all states writes.
-use Rattle.std.specs.Prelude.{ℕ, ◌+◌, List, [], ◌∷◌, ◌++◌, length, reverse, codes, decimal}
+use Rattle.std.specs.Prelude.{ℕ, ◌+◌, Bool, true, false, List, [], ◌∷◌, ◌++◌, length, reverse, codes, decimal}
 use Rattle.mc_model_play.specs.Play.{State}
-use Rattle.mc_explore.specs.Rules.{Exploration}
+use Rattle.mc_explore.specs.Rules.{OnRule, Exploration}
 use Rattle.mc_explore.specs.States.{play_of_deck}
-use Rattle.mc_explore.specs.Search.{Ending, All, AtDepth, TooMany, Broken, Search, Statement, statements_to, most_states, search_of}
+use Rattle.mc_explore.specs.Search.{Ending, All, AtDepth, TooMany, Broken, Search, Tally, Statement, statements_to, most_states, search_of}
 
 -- the lines of the depths from depth d on
 abbrev pub depth_lines : ℕ → List ℕ → List ℕ
@@ -23,21 +23,37 @@ broken_text name ls = codes "broken " ++ name ++ codes " after " ++ decimal (len
 abbrev pub sums_text : ℕ → ℕ → List ℕ → List ℕ
 sums_text states tries how = codes "explored states " ++ decimal states ++ codes " tries " ++ decimal tries ++ how ++ codes "\n"
 
--- how a search ends, from the end of a deck
-abbrev pub ending_text : State → Search → Ending → List ℕ
-ending_text s e All = sums_text e.states e.tries (codes " all")
-ending_text s e (AtDepth d) = sums_text e.states e.tries (codes " depth " ++ decimal d)
-ending_text s e (TooMany d) = sums_text e.states e.tries (codes " depth " ++ decimal d)
-ending_text s e (Broken name path) = broken_text name (statements_to s (reverse path))
+-- the numbers of the `on` lines that applied to no try, by whether each did
+abbrev pub silent_numbers : List OnRule → List Bool → List ℕ
+silent_numbers [] hs = []
+silent_numbers (r ∷ rs) [] = []
+silent_numbers (r ∷ rs) (true ∷ hs) = silent_numbers rs hs
+silent_numbers (r ∷ rs) (false ∷ hs) = r.number ∷ silent_numbers rs hs
 
--- the text of a search, from the end of a deck
-abbrev pub text_of : State → Search → List ℕ
-text_of s e = depth_lines 1 e.news ++ ending_text s e e.ending
+-- the lines of rules that applied to no try, by their numbers
+abbrev pub silent_lines : List ℕ → List ℕ
+silent_lines [] = []
+silent_lines (n ∷ ns) = codes "silent line " ++ decimal n ++ codes "\n" ++ silent_lines ns
+
+-- the end of a search that broke no rule: the `on` lines that applied to no try, and the sums
+abbrev pub kept_text : List OnRule → ℕ → Tally → List ℕ → List ℕ
+kept_text ons states a how = silent_lines (silent_numbers ons a.heard) ++ sums_text states a.tries how
+
+-- how a search ends, from the end of a deck, by its `on` lines
+abbrev pub ending_text : List OnRule → State → Search → Ending → List ℕ
+ending_text ons s e All = kept_text ons e.states e.tally (codes " all")
+ending_text ons s e (AtDepth d) = kept_text ons e.states e.tally (codes " depth " ++ decimal d)
+ending_text ons s e (TooMany d) = kept_text ons e.states e.tally (codes " depth " ++ decimal d)
+ending_text ons s e (Broken name path) = broken_text name (statements_to s (reverse path))
+
+-- the text of a search, from the end of a deck, by its `on` lines
+abbrev pub text_of : List OnRule → State → Search → List ℕ
+text_of ons s e = depth_lines 1 e.news ++ ending_text ons s e e.ending
 
 -- its text
 unfoldable pub text_within : ℕ → ℕ → Exploration → List ℕ
 unfolding search_of statements_to play_of_deck
-text_within limit n x = text_of (play_of_deck x.lines) (search_of limit n x)
+text_within limit n x = text_of x.rules.ons (play_of_deck x.lines) (search_of limit n x)
 
 -- the text of the exploration of a deck with its rules, n depths deep
 unfoldable pub explore_text : ℕ → Exploration → List ℕ

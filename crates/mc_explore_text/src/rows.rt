@@ -7,13 +7,7 @@ ghost use Rattle.mc_model_play.specs.DeckGrammar as line;
 ghost use Rattle.mc_explore.specs.Tries.{ones};
 ghost use Rattle.mc_explore.specs.Search.{cut_statement, idle_statement, power_statement};
 ghost use Rattle.mc_explore_text.specs.Computed.{explored_deck, explored_within, statements_read};
-ghost use Rattle.mc_explore_text.specs.Decks.{counter_deck, idle_deck, session_deck, twice_deck};
-
-/// A deck without rules has one state.
-pub fn no_rules()
-    ensures { explored_deck 5 (codes "format\npower\n")
-        ≡ Ok (codes "depth 1 states 0\nexplored states 1 tries 0 all\n") }
-{}
+ghost use Rattle.mc_explore_text.specs.Decks.{counter_deck, idle_deck, quiet_rule, session_deck, twice_deck};
 
 /// A third count is one too many; a cut that leaves the count ends the selection.
 pub fn third_count()
@@ -56,13 +50,13 @@ pub fn session_bytes()
 /// Two states that differ in an open load alone.
 pub fn open_load()
     ensures { explored_deck 2 (codes "format\npower\n#@ move apdu BE1200000C000100000000000000000000\n"
-        ++ codes "#@ move apdu BE1200000C000200000000000000000000\n")
+        ++ codes "#@ move apdu BE1200000C000200000000000000000000\n" ++ quiet_rule)
         ≡ Ok (codes "depth 1 states 2\ndepth 2 states 0\nexplored states 3 tries 6 all\n") }
 {}
 
 /// A deletion of two words makes eight device writes. A name that is selected is not deleted.
 pub fn deletion()
-    ensures { explored_deck 3 (idle_deck ++ codes "#@ move power\n#@ move delete A000000001\n")
+    ensures { explored_deck 3 (idle_deck ++ codes "#@ move power\n#@ move delete A000000001\n" ++ quiet_rule)
         ≡ Ok (codes "depth 1 states 1\ndepth 2 states 1\ndepth 3 states 0\nexplored states 3 tries 33 all\n") }
 {}
 
@@ -96,21 +90,39 @@ pub fn below_zero()
         ≡ Ok (codes "broken x after 1 lines\napdu 8001000000\n") }
 {}
 
+/// An `on` line that applied to no try is named, with its number, in the order of the lines.
+pub fn silent_lines()
+    ensures one { explored_deck 9 (idle_deck ++ codes "#@ allow x 1\n#@ on power gives * spend x 1\n")
+        ≡ Ok (codes "depth 1 states 0\nsilent line 10\nexplored states 1 tries 1 all\n") }
+    ensures two { explored_deck 1 (idle_deck ++ codes "#@ move power\n#@ allow x 1\n#@ on apdu* gives 6F00 spend x 1\n"
+        ++ codes "#@ on power gives ready* allow x 1\n#@ on apdu* turns *INCN* spend x 1\n")
+        ≡ Ok (codes "depth 1 states 1\nsilent line 11\nsilent line 13\nexplored states 2 tries 2 depth 1\n") }
+    ensures none { explored_deck 9 (idle_deck ++ codes "#@ allow x 1\n#@ on apdu* turns *EXIT* allow x 1\n")
+        ≡ Ok (codes "depth 1 states 0\nexplored states 1 tries 1 all\n") }
+{}
+
+/// An event of a move that was cut is one, too.
+pub fn heard_by_cuts()
+    ensures { explored_deck 1 (counter_deck ++ codes "#@ allow x 0\n#@ on * gives off at write 6 allow x 0\n"
+        ++ codes "#@ on * gives off at write 7 allow x 0\n")
+        ≡ Ok (codes "depth 1 states 3\nsilent line 12\nexplored states 4 tries 19 depth 1\n") }
+{}
+
 /// A search says `all` only when a depth has no new state.
 pub fn all_or_depth()
-    ensures one { explored_deck 1 (idle_deck ++ codes "#@ move power\n")
+    ensures one { explored_deck 1 (idle_deck ++ codes "#@ move power\n" ++ quiet_rule)
         ≡ Ok (codes "depth 1 states 1\nexplored states 2 tries 2 depth 1\n") }
-    ensures two { explored_deck 2 (idle_deck ++ codes "#@ move power\n")
+    ensures two { explored_deck 2 (idle_deck ++ codes "#@ move power\n" ++ quiet_rule)
         ≡ Ok (codes "depth 1 states 1\ndepth 2 states 0\nexplored states 2 tries 4 all\n") }
 {}
 
 /// No more states than the limit are kept.
 pub fn limit()
-    ensures reached { explored_within 2 9 (idle_deck ++ codes "#@ move power\n")
+    ensures reached { explored_within 2 9 (idle_deck ++ codes "#@ move power\n" ++ quiet_rule)
         ≡ Ok (codes "depth 1 states 1\ndepth 2 states 0\nexplored states 2 tries 4 all\n") }
-    ensures exceeded { explored_within 1 9 (idle_deck ++ codes "#@ move power\n")
+    ensures exceeded { explored_within 1 9 (idle_deck ++ codes "#@ move power\n" ++ quiet_rule)
         ≡ Ok (codes "explored states 1 tries 2 depth 1\n") }
-    ensures later { explored_within 5 9 (counter_deck ++ codes "#@ allow x 0\n")
+    ensures later { explored_within 5 9 (counter_deck ++ quiet_rule)
         ≡ Ok (codes "depth 1 states 3\nexplored states 5 tries 32 depth 2\n") }
 {}
 

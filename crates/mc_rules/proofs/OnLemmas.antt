@@ -77,7 +77,7 @@ alike_other R S f [] (b ∷ ys) h = absurd h
 alike_other R S f (a ∷ xs) [] h = absurd h
 
 on_more : (held : List (List ℕ × ℕ)) (a : List ℕ × ℕ) (o : OnRule) (r : model.OnRule) → IsOn held o r → IsOn (held ++ a ∷ []) o r
-on_more held a o r h = record { moves = h.moves; occasion = h.occasion; pattern = h.pattern; effect = h.effect; place = place_more held a r.name o.allowance h.place; amount = h.amount }
+on_more held a o r h = record { line = h.line; moves = h.moves; occasion = h.occasion; pattern = h.pattern; effect = h.effect; place = place_more held a r.name o.allowance h.place; amount = h.amount }
 
 -- what is not found is none of the front
 cond_none : (b : Bool) (n : ℕ) (o : Option ℕ) → cond b (Some n) o ≡ None → (b ≡ false) × (o ≡ None)
@@ -150,96 +150,96 @@ pub allow_rule : (r : model.Rules) (n : ℕ) (text : List ℕ) (fs : List (List 
 unfolding with_rule
 allow_rule r n text fs = refl
 
-on_by : (r : model.Rules) (m : Parts model.Occasion) (o : Parts model.Effect) (a : List ℕ × ℕ) (b : Bool)
-    → ok_as (λ o. record r { ons = r.ons ++ o ∷ [] }) (only_if b UnknownName (record { move = m.0; occasion = m.1; pattern = o.0; effect = o.1; name = a.0; amount = a.1 }))
-    ≡ only_if b UnknownName (record r { ons = r.ons ++ record { move = m.0; occasion = m.1; pattern = o.0; effect = o.1; name = a.0; amount = a.1 } ∷ [] })
-on_by r m o a true = refl
-on_by r m o a false = refl
+on_by : (n : ℕ) (r : model.Rules) (m : Parts model.Occasion) (o : Parts model.Effect) (a : List ℕ × ℕ) (b : Bool)
+    → ok_as (λ o. record r { ons = r.ons ++ o ∷ [] }) (only_if b UnknownName (record { number = n; move = m.0; occasion = m.1; pattern = o.0; effect = o.1; name = a.0; amount = a.1 }))
+    ≡ only_if b UnknownName (record r { ons = r.ons ++ record { number = n; move = m.0; occasion = m.1; pattern = o.0; effect = o.1; name = a.0; amount = a.1 } ∷ [] })
+on_by n r m o a true = refl
+on_by n r m o a false = refl
 
-on_named : (r : model.Rules) (m : Parts model.Occasion) (o : Parts model.Effect) (y : Result (List ℕ × ℕ) DeckCause)
-    → ok_as (λ o. record r { ons = r.ons ++ o ∷ [] }) (named_on r.allowances m o y)
-    ≡ (y >>= λ a. only_if (is_some (lookup r.allowances a.0)) UnknownName (record r { ons = r.ons ++ record { move = m.0; occasion = m.1; pattern = o.0; effect = o.1; name = a.0; amount = a.1 } ∷ [] }))
-on_named r m o (Ok a) = on_by r m o a (is_some (lookup r.allowances a.0))
-on_named r m o (Err e) = refl
+on_named : (n : ℕ) (r : model.Rules) (m : Parts model.Occasion) (o : Parts model.Effect) (y : Result (List ℕ × ℕ) DeckCause)
+    → ok_as (λ o. record r { ons = r.ons ++ o ∷ [] }) (named_on n r.allowances m o y)
+    ≡ (y >>= λ a. only_if (is_some (lookup r.allowances a.0)) UnknownName (record r { ons = r.ons ++ record { number = n; move = m.0; occasion = m.1; pattern = o.0; effect = o.1; name = a.0; amount = a.1 } ∷ [] }))
+on_named n r m o (Ok a) = on_by n r m o a (is_some (lookup r.allowances a.0))
+on_named n r m o (Err e) = refl
 
-on_effected : (r : model.Rules) (m : Parts model.Occasion) (x : Result (Parts model.Effect) DeckCause)
-    → ok_as (λ o. record r { ons = r.ons ++ o ∷ [] }) (effected_on r.allowances m x)
-    ≡ (x >>= λ o. name_and_amount o.2 >>= λ a. only_if (is_some (lookup r.allowances a.0)) UnknownName (record r { ons = r.ons ++ record { move = m.0; occasion = m.1; pattern = o.0; effect = o.1; name = a.0; amount = a.1 } ∷ [] }))
-on_effected r m (Ok o) = on_named r m o (name_and_amount o.2)
-on_effected r m (Err e) = refl
+on_effected : (n : ℕ) (r : model.Rules) (m : Parts model.Occasion) (x : Result (Parts model.Effect) DeckCause)
+    → ok_as (λ o. record r { ons = r.ons ++ o ∷ [] }) (effected_on n r.allowances m x)
+    ≡ (x >>= λ o. name_and_amount o.2 >>= λ a. only_if (is_some (lookup r.allowances a.0)) UnknownName (record r { ons = r.ons ++ record { number = n; move = m.0; occasion = m.1; pattern = o.0; effect = o.1; name = a.0; amount = a.1 } ∷ [] }))
+on_effected n r m (Ok o) = on_named n r m o (name_and_amount o.2)
+on_effected n r m (Err e) = refl
 
-on_read_from : (r : model.Rules) (x : Result (Parts model.Occasion) DeckCause)
-    → ok_as (λ o. record r { ons = r.ons ++ o ∷ [] }) (on_from r.allowances x)
-    ≡ (x >>= λ m. full_parts (parts_of effect_words m.2) >>= λ o. name_and_amount o.2 >>= λ a. only_if (is_some (lookup r.allowances a.0)) UnknownName (record r { ons = r.ons ++ record { move = m.0; occasion = m.1; pattern = o.0; effect = o.1; name = a.0; amount = a.1 } ∷ [] }))
-on_read_from r (Ok m) = on_effected r m (full_parts (parts_of effect_words m.2))
-on_read_from r (Err e) = refl
+on_read_from : (n : ℕ) (r : model.Rules) (x : Result (Parts model.Occasion) DeckCause)
+    → ok_as (λ o. record r { ons = r.ons ++ o ∷ [] }) (on_from n r.allowances x)
+    ≡ (x >>= λ m. full_parts (parts_of effect_words m.2) >>= λ o. name_and_amount o.2 >>= λ a. only_if (is_some (lookup r.allowances a.0)) UnknownName (record r { ons = r.ons ++ record { number = n; move = m.0; occasion = m.1; pattern = o.0; effect = o.1; name = a.0; amount = a.1 } ∷ [] }))
+on_read_from n r (Ok m) = on_effected n r m (full_parts (parts_of effect_words m.2))
+on_read_from n r (Err e) = refl
 
-pub on_rule : (r : model.Rules) (n : ℕ) (text : List ℕ) (fs : List (List ℕ)) → with_rule r n text OnWord fs ≡ ok_as (λ o. record r { ons = r.ons ++ o ∷ [] }) (on_of r.allowances fs)
+pub on_rule : (r : model.Rules) (n : ℕ) (text : List ℕ) (fs : List (List ℕ)) → with_rule r n text OnWord fs ≡ ok_as (λ o. record r { ons = r.ons ++ o ∷ [] }) (on_of n r.allowances fs)
 unfolding with_rule
-on_rule r n text fs = sym (on_read_from r (full_parts (parts_of occasion_words fs)))
+on_rule r n text fs = sym (on_read_from n r (full_parts (parts_of occasion_words fs)))
 
 -- ---- an `on` line from its parts
 
 -- refused in its second parts
-pub second_refused : (held : List (List ℕ × ℕ)) (x : Result (Parts model.Occasion) DeckCause) (moves rest : List ℕ) (v : model.Occasion) (e : Fault) → AreFullParts moves v rest x
-    → Faulty (full_parts (parts_of effect_words (fields rest))) e → Faulty (on_from held x) e
-second_refused held (Ok m) moves rest v e h g =
-    faulty_on (full_parts (parts_of effect_words m.2)) (λ o. named_on held m o (name_and_amount o.2)) e (subst (λ (fs : List (List ℕ)). Faulty (full_parts (parts_of effect_words fs)) e) h.behind g)
-second_refused held (Err c) moves rest v e h g = absurd h
+pub second_refused : (n : ℕ) (held : List (List ℕ × ℕ)) (x : Result (Parts model.Occasion) DeckCause) (moves rest : List ℕ) (v : model.Occasion) (e : Fault) → AreFullParts moves v rest x
+    → Faulty (full_parts (parts_of effect_words (fields rest))) e → Faulty (on_from n held x) e
+second_refused n held (Ok m) moves rest v e h g =
+    faulty_on (full_parts (parts_of effect_words m.2)) (λ o. named_on n held m o (name_and_amount o.2)) e (subst (λ (fs : List (List ℕ)). Faulty (full_parts (parts_of effect_words fs)) e) h.behind g)
+second_refused n held (Err c) moves rest v e h g = absurd h
 
 -- with all parts: what follows is read of its name and amount
-named_from : (held : List (List ℕ × ℕ)) (m : Parts model.Occasion) (y : Result (Parts model.Effect) DeckCause) (pattern rest : List ℕ) (v : model.Effect) → AreFullParts pattern v rest y
-    → (o : Parts model.Effect) × IsParts pattern v rest o × (effected_on held m y ≡ named_on held m o (name_and_amount (fields rest)))
-named_from held m (Ok o) pattern rest v h = (o, h, ap (λ fs. named_on held m o (name_and_amount fs)) (sym h.behind))
-named_from held m (Err c) pattern rest v h = absurd h
+named_from : (n : ℕ) (held : List (List ℕ × ℕ)) (m : Parts model.Occasion) (y : Result (Parts model.Effect) DeckCause) (pattern rest : List ℕ) (v : model.Effect) → AreFullParts pattern v rest y
+    → (o : Parts model.Effect) × IsParts pattern v rest o × (effected_on n held m y ≡ named_on n held m o (name_and_amount (fields rest)))
+named_from n held m (Ok o) pattern rest v h = (o, h, ap (λ fs. named_on n held m o (name_and_amount fs)) (sym h.behind))
+named_from n held m (Err c) pattern rest v h = absurd h
 
 -- the parts of an `on` line
-pub record OnParts (held : List (List ℕ × ℕ)) (whole : Result model.OnRule DeckCause) (moves pattern rest : List ℕ) (v : model.Occasion) (w : model.Effect) : Type 0 where
+pub record OnParts (n : ℕ) (held : List (List ℕ × ℕ)) (whole : Result model.OnRule DeckCause) (moves pattern rest : List ℕ) (v : model.Occasion) (w : model.Effect) : Type 0 where
   pub first : Parts model.Occasion
   pub second : Parts model.Effect
   pub before : moves ≡ plain first.0
   pub word : v ≡ first.1
   pub between : pattern ≡ plain second.0
   pub next : w ≡ second.1
-  pub left : whole ≡ named_on held first second (name_and_amount (fields rest))
+  pub left : whole ≡ named_on n held first second (name_and_amount (fields rest))
 
-pub all_parts : (held : List (List ℕ × ℕ)) (x : Result (Parts model.Occasion) DeckCause) (moves between pattern rest : List ℕ) (v : model.Occasion) (w : model.Effect)
-    → AreFullParts moves v between x → AreFullParts pattern w rest (full_parts (parts_of effect_words (fields between))) → OnParts held (on_from held x) moves pattern rest v w
-all_parts held (Ok m) moves between pattern rest v w h g =
+pub all_parts : (n : ℕ) (held : List (List ℕ × ℕ)) (x : Result (Parts model.Occasion) DeckCause) (moves between pattern rest : List ℕ) (v : model.Occasion) (w : model.Effect)
+    → AreFullParts moves v between x → AreFullParts pattern w rest (full_parts (parts_of effect_words (fields between))) → OnParts n held (on_from n held x) moves pattern rest v w
+all_parts n held (Ok m) moves between pattern rest v w h g =
     let i : AreFullParts pattern w rest (full_parts (parts_of effect_words m.2)) = subst (λ (fs : List (List ℕ)). AreFullParts pattern w rest (full_parts (parts_of effect_words fs))) h.behind g in
-    let n = named_from held m (full_parts (parts_of effect_words m.2)) pattern rest w i in
+    let n = named_from n held m (full_parts (parts_of effect_words m.2)) pattern rest w i in
     record { first = m; second = n.0; before = h.is; word = h.word; between = n.1.is; next = n.1.word; left = n.2 }
-all_parts held (Err c) moves between pattern rest v w h g = absurd h
+all_parts n held (Err c) moves between pattern rest v w h g = absurd h
 
 -- refused in its name and amount
-pub name_refused : (held : List (List ℕ × ℕ)) (whole : Result model.OnRule DeckCause) (moves pattern rest : List ℕ) (v : model.Occasion) (w : model.Effect) (e : DeckCause)
-    → OnParts held whole moves pattern rest v w → name_and_amount (fields rest) ≡ Err e → whole ≡ Err e
-name_refused held whole moves pattern rest v w e p h = p.left ∙ ap (named_on held p.first p.second) h
+pub name_refused : (n : ℕ) (held : List (List ℕ × ℕ)) (whole : Result model.OnRule DeckCause) (moves pattern rest : List ℕ) (v : model.Occasion) (w : model.Effect) (e : DeckCause)
+    → OnParts n held whole moves pattern rest v w → name_and_amount (fields rest) ≡ Err e → whole ≡ Err e
+name_refused n held whole moves pattern rest v w e p h = p.left ∙ ap (named_on n held p.first p.second) h
 
 none_is : {A : Type 0} (o : Option A) → o ≡ None → is_some o ≡ false
 none_is None e = refl
 none_is (Some a) e = absurd (cc e)
 
-abbrev made_on : Parts model.Occasion → Parts model.Effect → List ℕ → ℕ → model.OnRule
-made_on m o name amount = record { move = m.0; occasion = m.1; pattern = o.0; effect = o.1; name = name; amount = amount }
+abbrev made_on : ℕ → Parts model.Occasion → Parts model.Effect → List ℕ → ℕ → model.OnRule
+made_on n m o name amount = record { number = n; move = m.0; occasion = m.1; pattern = o.0; effect = o.1; name = name; amount = amount }
 
 -- refused, since its name is unknown
-pub name_unknown : (held : List (List ℕ × ℕ)) (whole : Result model.OnRule DeckCause) (moves pattern rest name : List ℕ) (amount : ℕ) (v : model.Occasion) (w : model.Effect)
-    → OnParts held whole moves pattern rest v w → name_and_amount (fields rest) ≡ Ok (name, amount) → place_of held name ≡ None → whole ≡ Err UnknownName
-name_unknown held whole moves pattern rest name amount v w p h e =
-    p.left ∙ ap (named_on held p.first p.second) h
-    ∙ ap (λ b. only_if b UnknownName (made_on p.first p.second name amount)) (none_is (lookup held name) (place_none held name e))
+pub name_unknown : (n : ℕ) (held : List (List ℕ × ℕ)) (whole : Result model.OnRule DeckCause) (moves pattern rest name : List ℕ) (amount : ℕ) (v : model.Occasion) (w : model.Effect)
+    → OnParts n held whole moves pattern rest v w → name_and_amount (fields rest) ≡ Ok (name, amount) → place_of held name ≡ None → whole ≡ Err UnknownName
+name_unknown n held whole moves pattern rest name amount v w p h e =
+    p.left ∙ ap (named_on n held p.first p.second) h
+    ∙ ap (λ b. only_if b UnknownName (made_on n p.first p.second name amount)) (none_is (lookup held name) (place_none held name e))
 
 -- an `on` line that was read
-pub on_is_read : (held : List (List ℕ × ℕ)) (whole : Result model.OnRule DeckCause) (rest name : List ℕ) (o : OnRule)
-    → OnParts held whole o.moves.items o.pattern.items rest (occasion_value o.occasion) (effect_value o.effect) → name_and_amount (fields rest) ≡ Ok (name, o.amount) → place_of held name ≡ Some o.allowance
+pub on_is_read : (n : ℕ) (held : List (List ℕ × ℕ)) (whole : Result model.OnRule DeckCause) (rest name : List ℕ) (o : OnRule) → o.line ≡ n
+    → OnParts n held whole o.moves.items o.pattern.items rest (occasion_value o.occasion) (effect_value o.effect) → name_and_amount (fields rest) ≡ Ok (name, o.amount) → place_of held name ≡ Some o.allowance
     → IsOnRead held o whole
-on_is_read held whole rest name o p h e =
-    let i : whole ≡ Ok (made_on p.first p.second name o.amount) =
-    p.left ∙ ap (named_on held p.first p.second) h
-    ∙ ap (λ b. only_if b UnknownName (made_on p.first p.second name o.amount)) (place_some held name o.allowance e)
+on_is_read n held whole rest name o l p h e =
+    let i : whole ≡ Ok (made_on n p.first p.second name o.amount) =
+    p.left ∙ ap (named_on n held p.first p.second) h
+    ∙ ap (λ b. only_if b UnknownName (made_on n p.first p.second name o.amount)) (place_some held name o.allowance e)
     in
-    subst (IsOnRead held o) (sym i) (record { moves = p.before; occasion = p.word; pattern = p.between; effect = p.next; place = e; amount = refl })
+    subst (IsOnRead held o) (sym i) (record { line = l; moves = p.before; occasion = p.word; pattern = p.between; effect = p.next; place = e; amount = refl })
 
 -- ---- answers
 
@@ -256,17 +256,17 @@ move_added ms ns r n m held os fs e d h =
     (subst (λ x. AreListsRead (ms ++ m ∷ []) held os x) (sym (move_rule r n m.text.now fs)) (moves_more ms r n m (move_line n fs) held os d h))
 
 -- an `on` line that is refused
-pub on_faulty : (r : model.Rules) (n : ℕ) (text : List ℕ) (fs : List (List ℕ)) (held : List (List ℕ × ℕ)) (e : Fault) → held ≡ r.allowances → Faulty (on_of held fs) e → Faulty (with_rule r n text OnWord fs) e
+pub on_faulty : (r : model.Rules) (n : ℕ) (text : List ℕ) (fs : List (List ℕ)) (held : List (List ℕ × ℕ)) (e : Fault) → held ≡ r.allowances → Faulty (on_of n held fs) e → Faulty (with_rule r n text OnWord fs) e
 on_faulty r n text fs held e i h =
-    subst (λ x. Faulty x e) (sym (on_rule r n text fs)) (faulty_as (λ o. record r { ons = r.ons ++ o ∷ [] }) (on_of r.allowances fs) e (subst (λ (a : List (List ℕ × ℕ)). Faulty (on_of a fs) e) i h))
+    subst (λ x. Faulty x e) (sym (on_rule r n text fs)) (faulty_as (λ o. record r { ons = r.ons ++ o ∷ [] }) (on_of n r.allowances fs) e (subst (λ (a : List (List ℕ × ℕ)). Faulty (on_of n a fs) e) i h))
 
 -- an `on` line that is added
-pub on_added : (ms : List Move) (held : List Allowance) (os ps : List OnRule) (r : model.Rules) (n : ℕ) (text : List ℕ) (fs : List (List ℕ)) (o : OnRule) → ps ≡ os ++ o ∷ [] → IsOnRead (allowance_values held) o (on_of (allowance_values held) fs)
+pub on_added : (ms : List Move) (held : List Allowance) (os ps : List OnRule) (r : model.Rules) (n : ℕ) (text : List ℕ) (fs : List (List ℕ)) (o : OnRule) → ps ≡ os ++ o ∷ [] → IsOnRead (allowance_values held) o (on_of n (allowance_values held) fs)
     → AreRuleLists ms held os r → AreListsRead ms held ps (with_rule r n text OnWord fs)
 on_added ms held os ps r n text fs o e d h =
-    let i : IsOnRead r.allowances o (on_of r.allowances fs) = subst (λ (a : List (List ℕ × ℕ)). IsOnRead a o (on_of a fs)) h.allowances d in
+    let i : IsOnRead r.allowances o (on_of n r.allowances fs) = subst (λ (a : List (List ℕ × ℕ)). IsOnRead a o (on_of n a fs)) h.allowances d in
     subst (λ (l : List OnRule). AreListsRead ms held l (with_rule r n text OnWord fs)) (sym e)
-    (subst (λ x. AreListsRead ms held (os ++ o ∷ []) x) (sym (on_rule r n text fs)) (ons_more ms held os r o (on_of r.allowances fs) i h))
+    (subst (λ x. AreListsRead ms held (os ++ o ∷ []) x) (sym (on_rule r n text fs)) (ons_more ms held os r o (on_of n r.allowances fs) i h))
 
 -- an `allow` line whose name or amount is refused
 pub allow_faulty : (r : model.Rules) (n : ℕ) (text : List ℕ) (fs : List (List ℕ)) (e : DeckCause) → name_and_amount fs ≡ Err e → with_rule r n text AllowWord fs ≡ Err e

@@ -8,7 +8,9 @@ use Rattle.mc_deck.specs.declared.refusal.DeckRefusal.{DeckRefusal}
 use Rattle.mc_deck.specs.declared.refusal.DeckRefusal.TheVariants as refusal
 use Rattle.mc_explore.specs.Matching.{plain}
 use Rattle.mc_explore.specs.Rules as model
-use Rattle.mc_explore.specs.Rules.{Parts, RuleWord, begins_with, effect_words, full_parts, name_and_amount, occasion_words, parts_of, rule_words, with_line, with_rule, without_field}
+use Rattle.mc_rules.specs.declared.refusal.ExplorationRefusal.{ExplorationRefusal}
+use Rattle.mc_rules.specs.declared.refusal.ExplorationRefusal.TheVariants as explored
+use Rattle.mc_explore.specs.Rules.{ExplorationFault, LineFault, NoMove, NoRule, Parts, RuleWord, begins_with, is_marked, effect_words, full_parts, name_and_amount, occasion_words, parts_of, rule_words, with_line, with_rule, without_field}
 use Rattle.mc_rules.specs.declared.rules.Move.{Move}
 use Rattle.mc_rules.specs.declared.rules.Allowance.{Allowance}
 use Rattle.mc_rules.specs.declared.rules.Occasion.{Occasion}
@@ -87,6 +89,7 @@ effect_value effect.Spend = model.Spends
 
 -- an `on` line is one of the definition, among these allowances
 pub record IsOn (held : List (List ℕ × ℕ)) (o : OnRule) (r : model.OnRule) : Type 0 where
+  pub line : o.line ≡ r.number
   pub moves : o.moves.items ≡ plain r.move
   pub occasion : occasion_value o.occasion ≡ r.occasion
   pub pattern : o.pattern.items ≡ plain r.pattern
@@ -94,22 +97,23 @@ pub record IsOn (held : List (List ℕ × ℕ)) (o : OnRule) (r : model.OnRule) 
   pub place : place_of held r.name ≡ Some o.allowance
   pub amount : o.amount ≡ r.amount
 
--- the `on` line of the definition, by its first parts, its second ones and its name with the amount
-abbrev pub named_on : List (List ℕ × ℕ) → Parts model.Occasion → Parts model.Effect → Result (List ℕ × ℕ) DeckCause → Result model.OnRule DeckCause
-named_on held m o y =
-    y >>= λ a. only_if (is_some (lookup held a.0)) UnknownName (record { move = m.0; occasion = m.1; pattern = o.0; effect = o.1; name = a.0; amount = a.1 })
+-- the `on` line of the definition, by its number, the allowances before it, its first parts, its second ones and its name
+-- with the amount
+abbrev pub named_on : ℕ → List (List ℕ × ℕ) → Parts model.Occasion → Parts model.Effect → Result (List ℕ × ℕ) DeckCause → Result model.OnRule DeckCause
+named_on n held m o y =
+    y >>= λ a. only_if (is_some (lookup held a.0)) UnknownName (record { number = n; move = m.0; occasion = m.1; pattern = o.0; effect = o.1; name = a.0; amount = a.1 })
 
 -- the same by its first and second parts
-abbrev pub effected_on : List (List ℕ × ℕ) → Parts model.Occasion → Result (Parts model.Effect) DeckCause → Result model.OnRule DeckCause
-effected_on held m x = x >>= λ o. named_on held m o (name_and_amount o.2)
+abbrev pub effected_on : ℕ → List (List ℕ × ℕ) → Parts model.Occasion → Result (Parts model.Effect) DeckCause → Result model.OnRule DeckCause
+effected_on n held m x = x >>= λ o. named_on n held m o (name_and_amount o.2)
 
 -- the same by its first parts
-abbrev pub on_from : List (List ℕ × ℕ) → Result (Parts model.Occasion) DeckCause → Result model.OnRule DeckCause
-on_from held x = x >>= λ m. effected_on held m (full_parts (parts_of effect_words m.2))
+abbrev pub on_from : ℕ → List (List ℕ × ℕ) → Result (Parts model.Occasion) DeckCause → Result model.OnRule DeckCause
+on_from n held x = x >>= λ m. effected_on n held m (full_parts (parts_of effect_words m.2))
 
--- an `on` line of the definition, by the allowances before it and the fields after its word
-abbrev pub on_of : List (List ℕ × ℕ) → List (List ℕ) → Result model.OnRule DeckCause
-on_of held fs = on_from held (full_parts (parts_of occasion_words fs))
+-- an `on` line of the definition, by its number, the allowances before it and the fields after its word
+abbrev pub on_of : ℕ → List (List ℕ × ℕ) → List (List ℕ) → Result model.OnRule DeckCause
+on_of n held fs = on_from n held (full_parts (parts_of occasion_words fs))
 
 -- an `on` line that was read
 abbrev pub IsOnRead : List (List ℕ × ℕ) → OnRule → Result model.OnRule DeckCause → Type 0
@@ -145,17 +149,21 @@ rule_of r n text (word ∷ rest) = ok_or (lookup rule_words word) BadLine >>= λ
 
 -- the rules with that of one more line, if it is one, by whether it is in a section
 abbrev pub rules_with : Bool → ℕ × List ℕ → model.Rules → Result model.Rules DeckCause
-rules_with inside l r = cond (not inside && begins_with (codes "#@") (fields l.1)) (with_line r l (fields l.1)) (Ok r)
+rules_with inside l r = cond (not inside && is_marked (fields l.1)) (with_line r l (fields l.1)) (Ok r)
 
--- whether a line with these fields is a rule, by whether it is in a section
+-- whether the first field of a line begins with `#@`, by whether the line is in a section
 abbrev pub is_rule : Bool → List (List ℕ) → Bool
-is_rule inside fs = not inside && begins_with (codes "#@") fs
+is_rule inside fs = not inside && is_marked fs
+
+-- whether the first of some fields is `#@`
+abbrev pub is_plain_mark : List (List ℕ) → Bool
+is_plain_mark fs = begins_with (codes "#@") fs
 
 -- the text of a rule: its line without its first field, and the fields of it
 pub record IsRuleText (inside : Bool) (line text : List ℕ) : Type 0 where
   pub rule : is_rule inside (fields line) ≡ true
   pub left : text ≡ without_field line
-  pub marked : (mark : List ℕ) × (fields line ≡ mark ∷ fields text)
+  pub marked : fields line ≡ codes "#@" ∷ fields text
   pub one : IsOneLine text
 
 -- a word of a rule, as the definition has it
@@ -163,6 +171,18 @@ abbrev pub kind_value : Kind → RuleWord
 kind_value kind.Move = model.MoveWord
 kind_value kind.Allow = model.AllowWord
 kind_value kind.On = model.OnWord
+
+-- the refusal of a line, of the deck or of its rules
+abbrev pub line_refusal : DeckRefusal → ExplorationRefusal
+line_refusal (refusal.At n c) = explored.Line n c
+line_refusal refusal.NoMemory = explored.NoMemory
+
+-- the refusal of a deck with its rules is the one of the definition, or out of memory
+abbrev pub RefusesExploration : {A : Type 0} → Result A ExplorationFault → ExplorationRefusal → Type 0
+RefusesExploration r (explored.Line n c) = r ≡ Err (LineFault n c)
+RefusesExploration r explored.NoMove = r ≡ Err NoMove
+RefusesExploration r explored.NoRule = r ≡ Err NoRule
+RefusesExploration r explored.NoMemory = ⊤
 
 -- a deck with its rules that was read
 abbrev pub IsExplorationRead : {E : Type 0} → Exploration → Result model.Exploration E → Type 0

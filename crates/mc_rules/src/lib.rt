@@ -11,10 +11,12 @@ mod occasions;
 mod parts;
 mod pattern;
 mod reading;
+mod refusal;
 mod rules;
 
 pub use laws::counts_are_times;
 pub use occasions::{applications, apply_all, count, count_turn, has_turns};
 pub use pattern::plain_into;
 pub use reading::{Exploration, read_exploration};
+pub use refusal::ExplorationRefusal;
 pub use rules::{Allowance, Effect, Move, Occasion, OnRule, Rules};

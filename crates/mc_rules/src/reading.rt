@@ -3,17 +3,20 @@ ghost use Rattle.std.specs.Prelude.{◌≡◌, ◌≤◌, ℕ, List, false, true
 ghost use Rattle.mc_model_device.specs.Bytes.{lookup};
 ghost use Rattle.mc_model_text.specs.Text.{fields, lines, trim};
 ghost use Rattle.mc_explore.specs.Rules as model;
-ghost use Rattle.mc_explore.specs.Rules.{exploration_read, move_line, move_words, rule_words, rules_read, with_rule, AllowWord, MoveWord, OnWord};
+ghost use Rattle.mc_explore.specs.Rules.{exploration_read, is_marked, move_line, move_words, rule_words, rules_read, with_rule, AllowWord, MoveWord, OnWord};
+ghost use Rattle.mc_model_play.specs.declared.deck.DeckCause.TheVariants.{BadLine};
+ghost use Rattle.mc_rules.specs.declared.fault.Fault.TheVariants.{Cause};
 ghost use Rattle.mc_deck.specs.Refused.{DeckRefuses};
 ghost use Rattle.mc_rules.specs.Fields.{is_move, IsOneLine};
-ghost use Rattle.mc_rules.specs.Meanings.{allowance_values, is_rule, kind_value, on_of, refusal_at, rule_of, rules_with};
+ghost use Rattle.mc_rules.specs.Meanings.{allowance_values, is_plain_mark, kind_value, on_of, refusal_at, rule_of, rules_with};
 ghost use Rattle.mc_rules.specs.Moves.{IsMoveDeck};
-ghost use Rattle.mc_rules.specs.Meanings.{AreRules, AreRulesRead, Faulty, IsExplorationRead, IsOnRead, IsRuleText};
+ghost use Rattle.mc_rules.specs.Meanings.{AreRules, AreRulesRead, Faulty, IsExplorationRead, IsOnRead, IsRuleText, RefusesExploration};
 
 use crate::fault::Fault;
 use crate::field::name_and_amount;
 use crate::growth::push;
 use crate::parts::{effect_parts, occasion_parts};
+use crate::refusal::{ExplorationRefusal, line_refusal};
 use crate::rules::{Allowance, Move, OnRule, Rules};
 use mc_deck::{Deck, DeckCause, DeckRefusal, read_deck};
 use mc_match::{first_field, stays_inside};
@@ -111,12 +114,12 @@ fn add_allowance<'a>(rules: &mut Rules<'a>, text: &'a [u8]) -> Result<(), Fault>
     Ok(())
 }
 
-// Reads an `on` line, by the text after that word.
-fn on_rule(alloc: Global, rules: &Rules<'_>, text: &[u8]) -> Result<OnRule, Fault>
+// Reads an `on` line, by its number and the text after that word.
+fn on_rule(alloc: Global, rules: &Rules<'_>, number: u32, text: &[u8]) -> Result<OnRule, Fault>
     ensures { MatchResult result
         (λ o. IsOnRead (allowance_values rules.now.allowances.items) o
-        (on_of (allowance_values rules.now.allowances.items) (fields text.now)))
-        (λ e. Faulty (on_of (allowance_values rules.now.allowances.items) (fields text.now)) e) }
+        (on_of number (allowance_values rules.now.allowances.items) (fields text.now)))
+        (λ e. Faulty (on_of number (allowance_values rules.now.allowances.items) (fields text.now)) e) }
 {
     let (moves, occasion, behind) = match occasion_parts(alloc, text) {
         Ok(parts) => parts,
@@ -134,6 +137,7 @@ fn on_rule(alloc: Global, rules: &Rules<'_>, text: &[u8]) -> Result<OnRule, Faul
         return Err(Fault::Cause(DeckCause::UnknownName));
     };
     Ok(OnRule {
+        line: number,
         moves,
         occasion,
         pattern,
@@ -143,14 +147,14 @@ fn on_rule(alloc: Global, rules: &Rules<'_>, text: &[u8]) -> Result<OnRule, Faul
     })
 }
 
-// Adds the rule of an `on` line, by the text after that word.
-fn add_on(alloc: Global, rules: &mut Rules<'_>, text: &[u8]) -> Result<(), Fault>
-    ensures added { OnOk result ((r : model.Rules) (n : ℕ) (statement : List ℕ) → AreRules rules.old r
-        → AreRulesRead rules.new (with_rule r n statement OnWord (fields text.now))) }
-    ensures refused { IfErr result (λ e. (r : model.Rules) (n : ℕ) (statement : List ℕ) → AreRules rules.old r
-        → Faulty (with_rule r n statement OnWord (fields text.now)) e) }
+// Adds the rule of an `on` line, by its number and the text after that word.
+fn add_on(alloc: Global, rules: &mut Rules<'_>, number: u32, text: &[u8]) -> Result<(), Fault>
+    ensures added { OnOk result ((r : model.Rules) (statement : List ℕ) → AreRules rules.old r
+        → AreRulesRead rules.new (with_rule r number statement OnWord (fields text.now))) }
+    ensures refused { IfErr result (λ e. (r : model.Rules) (statement : List ℕ) → AreRules rules.old r
+        → Faulty (with_rule r number statement OnWord (fields text.now)) e) }
 {
-    let rule = match on_rule(alloc, rules, text) {
+    let rule = match on_rule(alloc, rules, number, text) {
         Ok(rule) => rule,
         Err(fault) => return Err(fault),
     };
@@ -170,34 +174,40 @@ fn kind_named(word: &[u8]) -> Option<Kind>
     }
 }
 
-// Adds a rule of this kind, by the text after its word.
+// Adds a rule of this kind, by the number of its line and the text after its word.
 #[tactic(auto, using(crate::proofs::FieldLemmas::one_line_trim, mc_match::proofs::FieldLemmas::fields_trimmed))]
 fn add_kind<'a>(
     alloc: Global,
     rules: &mut Rules<'a>,
     kind: Kind,
+    number: u32,
     text: &'a [u8],
 ) -> Result<(), Fault>
     requires { IsOneLine text.now }
-    ensures added { OnOk result ((r : model.Rules) (n : ℕ) → AreRules rules.old r
-        → AreRulesRead rules.new (with_rule r n (trim text.now) (kind_value kind) (fields text.now))) }
-    ensures refused { IfErr result (λ e. (r : model.Rules) (n : ℕ) → AreRules rules.old r
-        → Faulty (with_rule r n (trim text.now) (kind_value kind) (fields text.now)) e) }
+    ensures added { OnOk result ((r : model.Rules) → AreRules rules.old r
+        → AreRulesRead rules.new (with_rule r number (trim text.now) (kind_value kind) (fields text.now))) }
+    ensures refused { IfErr result (λ e. (r : model.Rules) → AreRules rules.old r
+        → Faulty (with_rule r number (trim text.now) (kind_value kind) (fields text.now)) e) }
 {
     match kind {
         Kind::Move => add_move(alloc, rules, trim(text)),
         Kind::Allow => add_allowance(rules, text),
-        Kind::On => add_on(alloc, rules, text),
+        Kind::On => add_on(alloc, rules, number, text),
     }
 }
 
-// Adds the rule of a line, by the text after `#@`.
-fn add_rule<'a>(alloc: Global, rules: &mut Rules<'a>, text: &'a [u8]) -> Result<(), Fault>
+// Adds the rule of a line, by its number and the text after `#@`.
+fn add_rule<'a>(
+    alloc: Global,
+    rules: &mut Rules<'a>,
+    number: u32,
+    text: &'a [u8],
+) -> Result<(), Fault>
     requires { IsOneLine text.now }
-    ensures added { OnOk result ((r : model.Rules) (n : ℕ) → AreRules rules.old r
-        → AreRulesRead rules.new (rule_of r n text.now (fields text.now))) }
-    ensures refused { IfErr result (λ e. (r : model.Rules) (n : ℕ) → AreRules rules.old r
-        → Faulty (rule_of r n text.now (fields text.now)) e) }
+    ensures added { OnOk result ((r : model.Rules) → AreRules rules.old r
+        → AreRulesRead rules.new (rule_of r number text.now (fields text.now))) }
+    ensures refused { IfErr result (λ e. (r : model.Rules) → AreRules rules.old r
+        → Faulty (rule_of r number text.now (fields text.now)) e) }
 {
     let Some((word, behind)) = first_field(text) else {
         return Err(Fault::Cause(DeckCause::BadLine));
@@ -205,26 +215,37 @@ fn add_rule<'a>(alloc: Global, rules: &mut Rules<'a>, text: &'a [u8]) -> Result<
     let Some(kind) = kind_named(word) else {
         return Err(Fault::Cause(DeckCause::BadLine));
     };
-    add_kind(alloc, rules, kind, behind)
+    add_kind(alloc, rules, kind, number, behind)
 }
 
-// Returns the text of a rule, after the `#@` of its line and without the blanks around it, or `None` if a line
-// is no rule.
-fn rule_text(inside: bool, line: &[u8]) -> Option<&[u8]>
-    requires { IsOneLine line.now }
-    ensures some { IfSome result (λ t. IsRuleText inside line.now t.now) }
-    ensures none { IfNone result (is_rule inside (fields line.now) ≡ false) }
+// Whether a line begins with `#@`, after the blanks in front of it.
+fn is_marked(line: &[u8]) -> bool
+    ensures { result ≡ is_marked (fields line.now) }
 {
-    if inside {
-        return None;
+    match first_field(line) {
+        Some(([b'#', b'@', ..], _)) => true,
+        _ => false,
     }
+}
+
+// Returns the text of a rule, after the `#@` of its line and without the blanks around it.
+//
+// # Errors
+//
+// Returns `BadLine` if the first field of the line is longer.
+fn rule_text(line: &[u8]) -> Result<&[u8], Fault>
+    requires one { IsOneLine line.now }
+    requires marked { is_marked (fields line.now) ≡ true }
+    ensures text { IfOk result (λ t. IsRuleText false line.now t.now) }
+    ensures refused { IfErr result (λ e. (e ≡ Cause BadLine) × (is_plain_mark (fields line.now) ≡ false)) }
+{
     let Some((mark, behind)) = first_field(line) else {
-        return None;
+        return Err(Fault::Cause(DeckCause::BadLine));
     };
     if mark != b"#@".as_slice() {
-        return None;
+        return Err(Fault::Cause(DeckCause::BadLine));
     }
-    Some(trim(behind))
+    Ok(trim(behind))
 }
 
 // Adds the rule of a line of a deck, if it is one, by whether it is in a section.
@@ -232,18 +253,23 @@ fn add_line<'a>(
     alloc: Global,
     rules: &mut Rules<'a>,
     inside: bool,
+    number: u32,
     line: &'a [u8],
 ) -> Result<(), Fault>
     requires { IsOneLine line.now }
-    ensures added { OnOk result ((r : model.Rules) (n : ℕ) → AreRules rules.old r
-        → AreRulesRead rules.new (rules_with inside (n, line.now) r)) }
-    ensures refused { IfErr result (λ e. (r : model.Rules) (n : ℕ) → AreRules rules.old r
-        → Faulty (rules_with inside (n, line.now) r) e) }
+    ensures added { OnOk result ((r : model.Rules) → AreRules rules.old r
+        → AreRulesRead rules.new (rules_with inside (number, line.now) r)) }
+    ensures refused { IfErr result (λ e. (r : model.Rules) → AreRules rules.old r
+        → Faulty (rules_with inside (number, line.now) r) e) }
 {
-    match rule_text(inside, line) {
-        Some(text) => add_rule(alloc, rules, text),
-        None => Ok(()),
+    if inside || !is_marked(line) {
+        return Ok(());
     }
+    let text = match rule_text(line) {
+        Ok(text) => text,
+        Err(fault) => return Err(fault),
+    };
+    add_rule(alloc, rules, number, text)
 }
 
 // Returns the refusal of a line that is no rule.
@@ -272,7 +298,7 @@ fn read_rules(alloc: Global, text: &[u8]) -> Result<Rules<'_>, DeckRefusal>
     let mut rest = text;
     while let Some((line, behind)) = next_line(rest) {
         number += 1;
-        match add_line(alloc, &mut rules, inside, line) {
+        match add_line(alloc, &mut rules, inside, number, line) {
             Ok(()) => {}
             Err(fault) => return Err(refusal_at(number, fault)),
         }
@@ -286,18 +312,25 @@ fn read_rules(alloc: Global, text: &[u8]) -> Result<Rules<'_>, DeckRefusal>
 ///
 /// # Errors
 ///
-/// Returns the refusal of the deck, or else that of the first line that is no rule; or `NoMemory` if it is out
-/// of memory.
-pub fn read_exploration(alloc: Global, text: &[u8]) -> Result<Exploration<'_>, DeckRefusal>
+/// Returns the refusal of the deck, or else that of the first line that is no rule; or else `NoMove` if no line is a
+/// move, and `NoRule` if none is an `on` line; or `NoMemory` if it is out of memory.
+pub fn read_exploration(alloc: Global, text: &[u8]) -> Result<Exploration<'_>, ExplorationRefusal>
     ensures read { IfOk result (λ x. IsExplorationRead x (exploration_read text.now)) }
-    ensures refused { IfErr result (λ e. DeckRefuses (exploration_read text.now) e) }
+    ensures refused { IfErr result (λ e. RefusesExploration (exploration_read text.now) e) }
 {
     let deck = match read_deck(alloc, text) {
         Ok(deck) => deck,
-        Err(refusal) => return Err(refusal),
+        Err(refusal) => return Err(line_refusal(refusal)),
     };
-    match read_rules(alloc, text) {
-        Ok(rules) => Ok(Exploration { deck, rules }),
-        Err(refusal) => Err(refusal),
+    let rules = match read_rules(alloc, text) {
+        Ok(rules) => rules,
+        Err(refusal) => return Err(line_refusal(refusal)),
+    };
+    if rules.moves.is_empty() {
+        return Err(ExplorationRefusal::NoMove);
     }
+    if rules.ons.is_empty() {
+        return Err(ExplorationRefusal::NoRule);
+    }
+    Ok(Exploration { deck, rules })
 }

@@ -50,10 +50,11 @@ pub enum Effect {
     Spend,
 }
 
-/// An `on` line: the plain pattern of its moves, the plain pattern of its occasions, and what then happens to
+/// An `on` line: its number, the plain pattern of its moves, the plain pattern of its occasions, and what then happens to
 /// which allowance, by its place among them.
 #[derive(Drop)]
 pub struct OnRule {
+    pub line: u32,
     pub moves: Vec<u8>,
     pub occasion: Occasion,
     pub pattern: Vec<u8>,

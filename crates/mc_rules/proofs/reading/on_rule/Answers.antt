@@ -1,4 +1,4 @@
-use Rattle.std.proofs.Common.{sym}
+use Rattle.std.proofs.Common.{refl, sym}
 use Rattle.mc_model_text.specs.Text.{fields}
 use Rattle.mc_explore.specs.Rules.{full_parts, occasion_words, parts_of}
 use Rattle.mc_rules.specs.Meanings.{allowance_values, effect_value, occasion_value, on_of}
@@ -11,8 +11,8 @@ returns-in_default c =
     let first = full_parts (parts_of occasion_words (fields c.args.text.now)) in
     let p = c.in-Ok.parts in
     let q = c.in-Ok-effect_parts.parts in
-    let parts = all_parts held first p.0.items p.2.now q.0.items q.2.now (occasion_value p.1) (effect_value q.1) c.in-Ok.ensures c.in-Ok-effect_parts.ensures in
-    name_unknown held (on_of held (fields c.args.text.now)) p.0.items q.0.items q.2.now c.in-Ok-name_and_amount.fields.0.now c.in-Ok-name_and_amount.fields.1 (occasion_value p.1) (effect_value q.1)
+    let parts = all_parts c.args.number held first p.0.items p.2.now q.0.items q.2.now (occasion_value p.1) (effect_value q.1) c.in-Ok.ensures c.in-Ok-effect_parts.ensures in
+    name_unknown c.args.number held (on_of c.args.number held (fields c.args.text.now)) p.0.items q.0.items q.2.now c.in-Ok-name_and_amount.fields.0.now c.in-Ok-name_and_amount.fields.1 (occasion_value p.1) (effect_value q.1)
     parts c.in-Ok-name_and_amount.ensures (sym c.in_default.ensures)
 
 pub returns : goal.returns
@@ -22,7 +22,7 @@ returns c =
     let p = c.in-Ok.parts in
     let q = c.in-Ok-effect_parts.parts in
     let n = c.in-Ok-name_and_amount.fields in
-    let parts = all_parts held first p.0.items p.2.now q.0.items q.2.now (occasion_value p.1) (effect_value q.1) c.in-Ok.ensures c.in-Ok-effect_parts.ensures in
-    on_is_read held (on_of held (fields c.args.text.now)) q.2.now n.0.now
-    (record { moves = p.0; occasion = p.1; pattern = q.0; effect = q.1; allowance = c.in-Some.allowance; amount = n.1 })
+    let parts = all_parts c.args.number held first p.0.items p.2.now q.0.items q.2.now (occasion_value p.1) (effect_value q.1) c.in-Ok.ensures c.in-Ok-effect_parts.ensures in
+    on_is_read c.args.number held (on_of c.args.number held (fields c.args.text.now)) q.2.now n.0.now
+    (record { line = c.args.number; moves = p.0; occasion = p.1; pattern = q.0; effect = q.1; allowance = c.in-Some.allowance; amount = n.1 }) refl
     parts c.in-Ok-name_and_amount.ensures (sym c.in-Some.ensures)
