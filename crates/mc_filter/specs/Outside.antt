@@ -8,7 +8,7 @@ use Rattle.mc_streams.specs.declared.sink.Sink as sink
 use Rattle.mc_streams.specs.declared.source.Source as source
 use Rattle.mc_text.specs.Texts.{sunk, Sunk}
 use Rattle.mc_filter.specs.declared.status.Status.{Status}
-use Rattle.mc_filter.specs.declared.status.Status.TheVariants.{Done, Failed, NoForm, ReadFault, WriteFault, NoMemory}
+use Rattle.mc_filter.specs.declared.status.Status.TheVariants.{Done, Failed, NoForm, ReadFault, WriteFault, NoMemory, Partial}
 use Rattle.mc_filter.specs.Inputs.{input_limit, stream, IsAll, ReadsLimited, ReadWhole, Stream}
 use Rattle.mc_filter.specs.Lines.{too_long}
 use Rattle.mc_filter.specs.Statuses.{IsWritten}
@@ -67,7 +67,7 @@ pub data AllStands {V : Type 0} (refusal : List ℕ → V) (Stand : List ℕ →
 
 -- ---- statuses
 
--- at the statuses `Done`, `Failed` and `WriteFault`: there is a verdict that is due, and it was done
+-- at the statuses `Done`, `Failed`, `Partial` and `WriteFault`: there is a verdict that is due, and it was done
 pub record SaysDone {V : Type 0} (Due Did : V → Type 0) : Type 0 where
   pub verdict : V
   pub due : Due verdict
@@ -101,6 +101,17 @@ JobSays Did Fault Short NoForm = ⊥
 JobSays Did Fault Short Done = Did Done
 JobSays Did Fault Short Failed = Did Failed
 JobSays Did Fault Short WriteFault = Did WriteFault
+JobSays Did Fault Short Partial = ⊥
+
+-- the same for a job that may also be done in part: all of its text is written then, too
+abbrev pub PartJobSays : (Status → Type 0) → Type 0 → Type 0 → Status → Type 0
+PartJobSays Did Fault Short ReadFault = Fault
+PartJobSays Did Fault Short NoMemory = Short
+PartJobSays Did Fault Short NoForm = ⊥
+PartJobSays Did Fault Short Done = Did Done
+PartJobSays Did Fault Short Failed = Did Failed
+PartJobSays Did Fault Short WriteFault = Did WriteFault
+PartJobSays Did Fault Short Partial = Did Partial
 
 -- the promise at each status if the arguments select no job
 abbrev pub NoJobSays : (Status → Type 0) → Status → Type 0
@@ -110,6 +121,7 @@ NoJobSays Wrote Done = ⊥
 NoJobSays Wrote Failed = ⊥
 NoJobSays Wrote NoForm = Wrote NoForm
 NoJobSays Wrote WriteFault = Wrote WriteFault
+NoJobSays Wrote Partial = ⊥
 
 -- ---- completeness
 

@@ -5,7 +5,7 @@ use Rattle.mc_text.specs.Texts.{Sunk, Puts}
 use Rattle.mc_filter.specs.declared.rejection.Rejection.{Rejection}
 use Rattle.mc_filter.specs.declared.rejection.Rejection.TheVariants as rejection
 use Rattle.mc_filter.specs.declared.status.Status.{Status}
-use Rattle.mc_filter.specs.declared.status.Status.TheVariants.{Done, Failed, NoForm, ReadFault, WriteFault, NoMemory}
+use Rattle.mc_filter.specs.declared.status.Status.TheVariants.{Done, Failed, NoForm, ReadFault, WriteFault, NoMemory, Partial}
 
 -- the exit status of a program, as a number
 abbrev pub number_of : Status → ℕ
@@ -15,6 +15,7 @@ number_of NoForm = 2
 number_of ReadFault = 3
 number_of WriteFault = 4
 number_of NoMemory = 5
+number_of Partial = 6
 
 -- the number of a status of which this holds
 abbrev pub IsNumberOf : (Status → Type 0) → ℕ → Type 0

@@ -17,9 +17,11 @@ pub enum Status {
     WriteFault,
     /// Out of memory.
     NoMemory,
+    /// The job is done up to its bounds, and its input passes as far as that: not all of it was tried.
+    Partial,
 }
 
-/// Returns the number of a status: 0 to 5, in the order of the statuses.
+/// Returns the number of a status: 0 to 6, in the order of the statuses.
 pub fn number(status: Status) -> u8
     ensures { result ≡ number_of status }
 {
@@ -30,5 +32,6 @@ pub fn number(status: Status) -> u8
         Status::ReadFault => 3,
         Status::WriteFault => 4,
         Status::NoMemory => 5,
+        Status::Partial => 6,
     }
 }

@@ -15,7 +15,7 @@ use Rattle.melcard.specs.declared.job.Reporting.{Reporting}
 use Rattle.mc_filter.specs.declared.rejection.Rejection.{Rejection}
 use Rattle.mc_filter.specs.declared.rejection.Rejection.TheVariants as rejection
 use Rattle.mc_filter.specs.declared.status.Status.{Status}
-use Rattle.mc_filter.specs.declared.status.Status.TheVariants.{Done, Failed, NoForm}
+use Rattle.mc_filter.specs.declared.status.Status.TheVariants.{Done, Failed, NoForm, Partial}
 use Rattle.melcard.specs.Jobs.{usage}
 use Rattle.melcard.specs.Verdicts.{JobVerdict, Whole, Refusal, Plays, Sums}
 use Rattle.melcard.specs.Running.{PlaysInput, RejectsJob, WritesInput}
@@ -89,6 +89,11 @@ pub says_no_form : (Kept : Type 0) (form : Option Job) (a : CardOutside) (r : Re
 says_no_form Kept form a r s is e kept still put =
     subst (λ o. MelcardSays Kept s o a) (sym is)
     (filter.says_no_job (MelcardNoForm Kept a) r s e (record { source = still; written = record { result = r; status = e; written = put } }, kept))
+
+-- no job is done in part
+pub no_part : (Kept : Type 0) (form : Option Job) (a : CardOutside) → MelcardSays Kept Partial form a → ⊥
+no_part Kept None a says = says
+no_part Kept (Some work) a says = says
 
 -- ---- the environment of a call
 

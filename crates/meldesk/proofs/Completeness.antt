@@ -1,5 +1,5 @@
 -- A call without a fault is complete, and words that select no job.
-use Rattle.std.proofs.Common.{◌≡◌, ℕ, Option, Some, None, Result, sym, subst}
+use Rattle.std.proofs.Common.{◌≡◌, ◌∙◌, ℕ, Option, Some, None, Result, Ok, Err, refl, sym, subst}
 use Rattle.mc_model_device.specs.Counts.{Rose}
 use Rattle.mc_streams.specs.declared.refusals.WriteFault.{WriteFault as Fault}
 use Rattle.mc_text.specs.Texts.{Puts, Sunk}
@@ -7,7 +7,7 @@ use Rattle.mc_filter.specs.Inputs.{TookLimited}
 use Rattle.mc_filter.specs.Outside.{Completes, IsWithoutFault, Outside, SaysNoForm, SaysNoMemory, SaysReadFault, Untouched}
 use Rattle.mc_filter.specs.Statuses.{number_of, status_after_writing}
 use Rattle.mc_filter.specs.declared.status.Status.{Status}
-use Rattle.mc_filter.specs.declared.status.Status.TheVariants.{Done, Failed, NoForm}
+use Rattle.mc_filter.specs.declared.status.Status.TheVariants.{Done, Failed, NoForm, Partial}
 use Rattle.mc_filter.proofs.Outside as filter
 use Rattle.mc_filter.proofs.Statuses.{same_status, written_whole}
 use Rattle.meldesk.specs.declared.job.Text.{Text}
@@ -24,6 +24,23 @@ pub says_no_form : (Kept : Type 0) (work : Option DeskJob) (a : DeskOutside) (r 
 says_no_form Kept work a r s none e kept quiet still put =
     subst (λ (o : Option DeskJob). MeldeskSays Kept s o a) (sym none)
     (filter.says_no_job (λ (q : Status). SaysNoForm usage q a.streams) r s e (record { source = still; written = record { result = r; status = e; written = put } }), kept, quiet)
+
+-- no job is done in part
+makes_part : (t : Text) (a : DeskOutside) → MakesSays Partial t a → ⊥
+makes_part text.Deck a says = says
+makes_part text.Listing a says = says.0
+makes_part text.Verdicts a says = says.0
+makes_part text.Names a says = says.0
+
+written_part : (good : Status) (r : Result (Unit {0}) Fault) → good ≡ Done → Partial ≡ status_after_writing good r → ⊥
+written_part good (Ok u) is e = absurd (cc (e ∙ is))
+written_part good (Err f) is e = absurd (cc e)
+
+pub no_part : (Kept : Type 0) (work : Option DeskJob) (a : DeskOutside) → MeldeskSays Kept Partial work a → ⊥
+no_part Kept None a says = says.0
+no_part Kept (Some (Makes t)) a says = makes_part t a says.0
+no_part Kept (Some (Shows p)) a says = says.0
+no_part Kept (Some (Describes t)) a says = written_part Done (says.0.1).result refl (says.0.1).status
 
 -- ---- completeness
 

@@ -11,7 +11,7 @@ use Rattle.mc_reader.specs.declared.serve_error.ServeError.{ServeError}
 use Rattle.mc_reader.specs.declared.serve_error.ServeError.TheVariants as serve
 use Rattle.mc_filter.specs.Statuses.{IsWritten}
 use Rattle.mc_filter.specs.declared.status.Status.{Status}
-use Rattle.mc_filter.specs.declared.status.Status.TheVariants.{Done, Failed, NoForm, ReadFault, WriteFault, NoMemory}
+use Rattle.mc_filter.specs.declared.status.Status.TheVariants.{Done, Failed, NoForm, Partial, ReadFault, WriteFault, NoMemory}
 use Rattle.mc_filter.specs.Inputs.{Stream}
 use Rattle.melreader.specs.Decks.{IsDeck, DeckFails, DeckLimited}
 
@@ -97,3 +97,4 @@ MelreaderSays Kept NoForm o = ⊥
 MelreaderSays Kept ReadFault o = SaysNoDeck Kept (DeckFails o.deck_old o.deck) o ⊎ SaysServed ReadFault o
 MelreaderSays Kept WriteFault o = SaysRefused Kept WriteFault o ⊎ SaysServed WriteFault o
 MelreaderSays Kept NoMemory o = SaysNoDeck Kept (DeckLimited o.deck_old o.deck) o ⊎ SaysServed NoMemory o
+MelreaderSays Kept Partial o = ⊥

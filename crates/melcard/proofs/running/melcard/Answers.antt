@@ -6,7 +6,7 @@ use Rattle.mc_filter.proofs.Statuses.{at_most_five, at_number}
 use Rattle.melcard.specs.Jobs.{job_of}
 use Rattle.mc_script.specs.Benches.{BenchMembers}
 use Rattle.melcard.specs.Statuses.{CardOutside, MelcardSays}
-use Rattle.melcard.proofs.StatusLemmas.{around}
+use Rattle.melcard.proofs.StatusLemmas.{around, no_part}
 use Rattle.melcard.proofs.Completeness.{complete_at}
 use Rattle.melcard.proofs.running.melcard.Goals as goal
 
@@ -22,6 +22,6 @@ returns g c =
       read_fault = λ is. at_number (λ (s : Status). MelcardSays (c.run_words.new.dev ≡ c.args.dev.now) s (job_of c.args.words.now) a) ReadFault c.number.result said is;
       write_fault = λ is. at_number (λ (s : Status). MelcardSays (c.run_words.new.dev ≡ c.args.dev.now) s (job_of c.args.words.now) a) WriteFault c.number.result said is;
       memory = λ is. at_number (λ (s : Status). MelcardSays (c.run_words.new.dev ≡ c.args.dev.now) s (job_of c.args.words.now) a) NoMemory c.number.result said is;
-      statuses = at_most_five (λ (s : Status). MelcardSays (c.run_words.new.dev ≡ c.args.dev.now) s (job_of c.args.words.now) a) c.number.result said;
+      statuses = at_most_five (λ (s : Status). MelcardSays (c.run_words.new.dev ≡ c.args.dev.now) s (job_of c.args.words.now) a) c.number.result (no_part (c.run_words.new.dev ≡ c.args.dev.now) (job_of c.args.words.now) a) said;
       complete = λ s is. complete_at (c.run_words.new.dev ≡ c.args.dev.now) (job_of c.args.words.now) c.run_words.result s a c.number.result c.number.ensures is c.run_words.ensures;
     }

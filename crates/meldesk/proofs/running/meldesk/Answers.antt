@@ -6,7 +6,7 @@ use Rattle.mc_filter.proofs.Statuses.{at_most_five, at_number}
 use Rattle.meldesk.specs.Jobs.{job_of}
 use Rattle.mc_script.specs.Benches.{BenchMembers}
 use Rattle.meldesk.specs.Statuses.{desk_outside, DeskOutside, MeldeskSays}
-use Rattle.meldesk.proofs.Completeness.{complete_at}
+use Rattle.meldesk.proofs.Completeness.{complete_at, no_part}
 use Rattle.meldesk.proofs.running.meldesk.Goals as goal
 
 pub returns : goal.returns
@@ -26,6 +26,6 @@ returns g c =
       read_fault = λ is. at_number Says ReadFault n said is;
       write_fault = λ is. at_number Says WriteFault n said is;
       memory = λ is. at_number Says NoMemory n said is;
-      statuses = at_most_five Says n said;
+      statuses = at_most_five Says n (no_part Kept work a) said;
       complete = λ s is. complete_at Kept work c.run_words.result s a n c.number.ensures is c.run_words.ensures;
     }
