@@ -26,7 +26,7 @@ use Rattle.mc_search.specs.declared.rounds.Halt.{Halt}
 use Rattle.mc_search.specs.declared.rounds.Search.{Search}
 use Rattle.mc_search.specs.declared.making.Candidate.{Candidate}
 use Rattle.mc_search.specs.Kept.{IsCandidate}
-use Rattle.mc_search.specs.Rounds.{cuts_at, round_in, tries_from, tries_in, try_value, Ahead, AreCandidates, Attempts, Comes, Depth, Extends, Holds, IsFrom, TriesMove}
+use Rattle.mc_search.specs.Rounds.{cuts_at, round_in, tally_of, tries_from, tries_in, try_value, Ahead, AreCandidates, Attempts, Comes, Depth, Extends, Holds, IsFrom, TriesMove}
 use Rattle.mc_search.proofs.AlikeLemmas.{alike_get_second, all_get, drop_at, drop_past}
 use Rattle.mc_search.proofs.RoundLemmas.{extends_more, extends_none, found_later}
 
@@ -38,7 +38,7 @@ later d ns all (Ok r) None s e h = record { all = h.all; grew = extends_more ns 
 later d ns all (Ok r) (Some k) s e h = absurd h
 later d ns all (Err f) None s e h = absurd h
 later d ns all (Err f) (Some k) s e h =
-    record { all = h.all; grew = extends_more ns all h.all e h.grew; holds = h.holds; halt = h.halt; count = h.count; tries = h.tries }
+    record { all = h.all; grew = extends_more ns all h.all e h.grew; holds = h.holds; halt = h.halt; count = h.count; tally = h.tally }
 
 -- tries of a move go on from nodes that were found since
 pub tries_later : (d : Depth) (s u : Search) (ns all : List Node) (n : Node) (m : rule.Move) (c : Candidate) (i j : ℕ) → Extends ns all → Holds d u all → TriesMove d s ns n m c i j → TriesMove d u all n m c i j
@@ -54,10 +54,10 @@ halts d ns (Err e) f k s h = h
 
 -- a search that goes on
 pub goes : (d : Depth) (ns : List Node) (x : Result Round HaltedRound) (f : Round → Result Round HaltedRound) (o : Option Halt) (s u : Search) → Comes d ns x None s
-    → ((all : List Node) → Extends ns all → Holds d s all → Comes d all (f (round_in d s.tries all)) o u) → Comes d ns (x >>= f) o u
+    → ((all : List Node) → Extends ns all → Holds d s all → Comes d all (f (round_in d (tally_of s) all)) o u) → Comes d ns (x >>= f) o u
 goes d ns (Err e) f o s u h g = absurd h
 goes d ns (Ok r) f o s u h g =
-    subst (λ (q : Round). Comes d ns (f q) o u) (sym h.round) (later d ns h.all (f (round_in d s.tries h.all)) o u h.grew (g h.all h.grew h.holds))
+    subst (λ (q : Round). Comes d ns (f q) o u) (sym h.round) (later d ns h.all (f (round_in d (tally_of s) h.all)) o u h.grew (g h.all h.grew h.holds))
 
 -- ---- cuts
 
@@ -70,13 +70,13 @@ module _ (missed made : Type 0) (d : Depth) (ns : List Node) (n : Node) (r : Rou
       (h.0, subst (λ (x : Result Round HaltedRound). Comes d ns x (Some k) s) (sym (tried_append d.most d.rules.ons n ts us r)) (halts d ns (tries_from d n ts r) (λ q. tries_from d n us q) k s h.1))
 
   missed_never : (x : Result Round HaltedRound) (s u : Search) → (made → missed → ⊥) → made → Comes d ns x None s
-      → ((all : List Node) → Extends ns all → Holds d s all → Attempts missed made d all (round_in d s.tries all) (tries_from d n us (round_in d s.tries all)) attempt.NotHit u) → ⊥
+      → ((all : List Node) → Extends ns all → Holds d s all → Attempts missed made d all (round_in d (tally_of s) all) (tries_from d n us (round_in d (tally_of s) all)) attempt.NotHit u) → ⊥
   missed_never (Err e) s u both m h g = absurd h
   missed_never (Ok q) s u both m h g = both m (g h.all h.grew h.holds).0
 
   -- the first tries go on
   pub first_goes : (a : Attempt) (s u : Search) → (made → missed → ⊥) → Attempts missed made d ns r (tries_from d n ts r) attempt.GoesOn s
-      → ((all : List Node) → Extends ns all → Holds d s all → Attempts missed made d all (round_in d s.tries all) (tries_from d n us (round_in d s.tries all)) a u)
+      → ((all : List Node) → Extends ns all → Holds d s all → Attempts missed made d all (round_in d (tally_of s) all) (tries_from d n us (round_in d (tally_of s) all)) a u)
       → Attempts missed made d ns r (tries_from d n (ts ++ us) r) a u
   first_goes attempt.NotHit s u both h g = absurd (missed_never (tries_from d n ts r) s u both h.0 h.1 g)
   first_goes attempt.GoesOn s u both h g =
@@ -86,21 +86,21 @@ module _ (missed made : Type 0) (d : Depth) (ns : List Node) (n : Node) (r : Rou
 
 -- ---- loops
 
-pub ahead_start : (d : Depth) (ns : List Node) (s : Search) (f : Round → Result Round HaltedRound) → Holds d s ns → Ahead d ns s f (f (round_in d s.tries ns))
+pub ahead_start : (d : Depth) (ns : List Node) (s : Search) (f : Round → Result Round HaltedRound) → Holds d s ns → Ahead d ns s f (f (round_in d (tally_of s) ns))
 ahead_start d ns s f h = record { all = ns; grew = extends_none ns; holds = h; same = refl }
 
 pub ahead_goes : (d : Depth) (ns : List Node) (s u : Search) (f g : Round → Result Round HaltedRound) (x whole : Result Round HaltedRound) → (a : Ahead d ns s f whole) → Comes d a.all x None u
-    → f (round_in d s.tries a.all) ≡ (x >>= g) → Ahead d ns u g whole
+    → f (round_in d (tally_of s) a.all) ≡ (x >>= g) → Ahead d ns u g whole
 ahead_goes d ns s u f g (Err e) whole a h i = absurd h
 ahead_goes d ns s u f g (Ok r) whole a h i =
     record { all = h.all; grew = extends_more ns a.all h.all a.grew h.grew; holds = h.holds; same = ap g (sym h.round) ∙ sym i ∙ a.same }
 
 pub ahead_ends : (d : Depth) (ns : List Node) (s u : Search) (f : Round → Result Round HaltedRound) (whole : Result Round HaltedRound) (o : Option Halt) → (a : Ahead d ns s f whole)
-    → Comes d a.all (f (round_in d s.tries a.all)) o u → Comes d ns whole o u
+    → Comes d a.all (f (round_in d (tally_of s) a.all)) o u → Comes d ns whole o u
 ahead_ends d ns s u f whole o a h = later d ns a.all whole o u a.grew (subst (λ (x : Result Round HaltedRound). Comes d a.all x o u) a.same h)
 
 pub ahead_halts : (d : Depth) (ns : List Node) (s u : Search) (f g : Round → Result Round HaltedRound) (x whole : Result Round HaltedRound) (k : Halt) → (a : Ahead d ns s f whole) → Comes d a.all x (Some k) u
-    → f (round_in d s.tries a.all) ≡ (x >>= g) → Comes d ns whole (Some k) u
+    → f (round_in d (tally_of s) a.all) ≡ (x >>= g) → Comes d ns whole (Some k) u
 ahead_halts d ns s u f g x whole k a h i =
     ahead_ends d ns s u f whole (Some k) a (subst (λ (y : Result Round HaltedRound). Comes d a.all y (Some k) u) (sym i) (halts d a.all x g k u h))
 
@@ -159,7 +159,7 @@ never_both a b h k = omega (arith, h, k)
 
 -- the first cut goes on, and the later ones come to something
 pub cut_goes : (d : Depth) (ns : List Node) (n : Node) (m : rule.Move) (made : ℕ) (r : Round) (a : Attempt) (s u : Search) → CutsCome d ns n m made (cut_of m made fill.Zeros ∷ []) r attempt.GoesOn s
-    → ((all : List Node) → Extends ns all → Holds d s all → CutsCome d all n m made (cut_of m made fill.Ones ∷ cut_of m made fill.Opening ∷ []) (round_in d s.tries all) a u)
+    → ((all : List Node) → Extends ns all → Holds d s all → CutsCome d all n m made (cut_of m made fill.Ones ∷ cut_of m made fill.Opening ∷ []) (round_in d (tally_of s) all) a u)
     → CutsCome d ns n m made (cuts_at m (made + 1)) r a u
 cut_goes d ns n m made r a s u h g =
     first_goes (writes_of (play_of n.state) m ≤ made) (made < writes_of (play_of n.state) m) d ns n r (cut_of m made fill.Zeros ∷ []) (cut_of m made fill.Ones ∷ cut_of m made fill.Opening ∷ []) a s u
@@ -173,7 +173,7 @@ second_ends d ns n m made r a s not h =
 
 -- the second cut goes on, and the third comes to something
 pub second_goes : (d : Depth) (ns : List Node) (n : Node) (m : rule.Move) (made : ℕ) (r : Round) (a : Attempt) (s u : Search) → CutsCome d ns n m made (cut_of m made fill.Ones ∷ []) r attempt.GoesOn s
-    → ((all : List Node) → Extends ns all → Holds d s all → CutsCome d all n m made (cut_of m made fill.Opening ∷ []) (round_in d s.tries all) a u)
+    → ((all : List Node) → Extends ns all → Holds d s all → CutsCome d all n m made (cut_of m made fill.Opening ∷ []) (round_in d (tally_of s) all) a u)
     → CutsCome d ns n m made (cut_of m made fill.Ones ∷ cut_of m made fill.Opening ∷ []) r a u
 second_goes d ns n m made r a s u h g =
     first_goes (writes_of (play_of n.state) m ≤ made) (made < writes_of (play_of n.state) m) d ns n r (cut_of m made fill.Ones ∷ []) (cut_of m made fill.Opening ∷ []) a s u
@@ -191,25 +191,25 @@ cuts_left d n m made r = tries_from d n (tries_in m (cuts_from (made + 1) (write
 
 module _ (d : Depth) (ns : List Node) (n : Node) (m : rule.Move) (made : ℕ) (s u : Search) (whole : Result Round HaltedRound) (a : Ahead d ns s (cuts_left d n m made) whole) where
   -- there is no write left
-  pub cuts_done : (b : Attempt) → b ≡ attempt.NotHit → CutsCome d a.all n m made (cuts_at m (made + 1)) (round_in d s.tries a.all) b u → Comes d ns whole None u
+  pub cuts_done : (b : Attempt) → b ≡ attempt.NotHit → CutsCome d a.all n m made (cuts_at m (made + 1)) (round_in d (tally_of s) a.all) b u → Comes d ns whole None u
   cuts_done b e k =
-      let h = cuts_as d a.all n m made _ (round_in d s.tries a.all) b attempt.NotHit u e k in
+      let h = cuts_as d a.all n m made _ (round_in d (tally_of s) a.all) b attempt.NotHit u e k in
       ahead_ends d ns s u (cuts_left d n m made) whole None a
-      (subst (λ (x : Result Round HaltedRound). Comes d a.all x None u) (sym (cuts_none d n m made (writes_of (play_of n.state) m) (round_in d s.tries a.all) h.0)) h.1)
+      (subst (λ (x : Result Round HaltedRound). Comes d a.all x None u) (sym (cuts_none d n m made (writes_of (play_of n.state) m) (round_in d (tally_of s) a.all) h.0)) h.1)
 
   -- the cuts of a write end
-  pub cuts_halt : (b : Attempt) (o : Halt) → b ≡ attempt.Halts o → CutsCome d a.all n m made (cuts_at m (made + 1)) (round_in d s.tries a.all) b u → Comes d ns whole (Some o) u
+  pub cuts_halt : (b : Attempt) (o : Halt) → b ≡ attempt.Halts o → CutsCome d a.all n m made (cuts_at m (made + 1)) (round_in d (tally_of s) a.all) b u → Comes d ns whole (Some o) u
   cuts_halt b o e k =
-      let h = cuts_as d a.all n m made _ (round_in d s.tries a.all) b (attempt.Halts o) u e k in
-      ahead_halts d ns s u (cuts_left d n m made) (cuts_left d n m (made + 1)) (tries_from d n (cuts_at m (made + 1)) (round_in d s.tries a.all)) whole o a h.1
-      (cuts_split d n m made (writes_of (play_of n.state) m) (round_in d s.tries a.all) h.0)
+      let h = cuts_as d a.all n m made _ (round_in d (tally_of s) a.all) b (attempt.Halts o) u e k in
+      ahead_halts d ns s u (cuts_left d n m made) (cuts_left d n m (made + 1)) (tries_from d n (cuts_at m (made + 1)) (round_in d (tally_of s) a.all)) whole o a h.1
+      (cuts_split d n m made (writes_of (play_of n.state) m) (round_in d (tally_of s) a.all) h.0)
 
   -- they go on
-  pub cuts_go : (b : Attempt) → b ≡ attempt.GoesOn → CutsCome d a.all n m made (cuts_at m (made + 1)) (round_in d s.tries a.all) b u → Ahead d ns u (cuts_left d n m (made + 1)) whole
+  pub cuts_go : (b : Attempt) → b ≡ attempt.GoesOn → CutsCome d a.all n m made (cuts_at m (made + 1)) (round_in d (tally_of s) a.all) b u → Ahead d ns u (cuts_left d n m (made + 1)) whole
   cuts_go b e k =
-      let h = cuts_as d a.all n m made _ (round_in d s.tries a.all) b attempt.GoesOn u e k in
-      ahead_goes d ns s u (cuts_left d n m made) (cuts_left d n m (made + 1)) (tries_from d n (cuts_at m (made + 1)) (round_in d s.tries a.all)) whole a h.1
-      (cuts_split d n m made (writes_of (play_of n.state) m) (round_in d s.tries a.all) h.0)
+      let h = cuts_as d a.all n m made _ (round_in d (tally_of s) a.all) b attempt.GoesOn u e k in
+      ahead_goes d ns s u (cuts_left d n m made) (cuts_left d n m (made + 1)) (tries_from d n (cuts_at m (made + 1)) (round_in d (tally_of s) a.all)) whole a h.1
+      (cuts_split d n m made (writes_of (play_of n.state) m) (round_in d (tally_of s) a.all) h.0)
 
 -- ---- a move
 
@@ -240,7 +240,7 @@ whole_only d ns n m r s e h =
 -- the move whole goes on, and its cuts come to something
 pub whole_then : (d : Depth) (ns : List Node) (n : Node) (m : rule.Move) (r : Round) (o : Option Halt) (s u : Search) → is_running n.state.live ≡ true
     → Comes d ns (tries_from d n (try_value m manner.Whole ∷ []) r) None s
-    → ((all : List Node) → Extends ns all → Holds d s all → Comes d all (tries_from d n (tries_in m (cuts_from 1 (writes_of (play_of n.state) m))) (round_in d s.tries all)) o u)
+    → ((all : List Node) → Extends ns all → Holds d s all → Comes d all (tries_from d n (tries_in m (cuts_from 1 (writes_of (play_of n.state) m))) (round_in d (tally_of s) all)) o u)
     → Comes d ns (tries_from d n (tries_with n.state m) r) o u
 whole_then d ns n m r o s u e h g =
     let writes = writes_of (play_of n.state) m in
@@ -297,19 +297,19 @@ states_none d ns i r h = ap (λ (ms : List Node). round_of_states d.most d.rules
 
 module _ (d : Depth) (ns : List Node) (s : Search) (f : Round → Result Round HaltedRound) (whole : Result Round HaltedRound) (a : Ahead d ns s f whole) where
   -- a step ends
-  pub step_halts : (u : Search) (g : Round → Result Round HaltedRound) (x : Result Round HaltedRound) (o : Option Halt) → f (round_in d s.tries a.all) ≡ (x >>= g) → is_some o ≡ true → Comes d a.all x o u
+  pub step_halts : (u : Search) (g : Round → Result Round HaltedRound) (x : Result Round HaltedRound) (o : Option Halt) → f (round_in d (tally_of s) a.all) ≡ (x >>= g) → is_some o ≡ true → Comes d a.all x o u
       → Comes d ns whole o u
   step_halts u g x None i e h = absurd (cc e)
   step_halts u g x (Some k) i e h = ahead_halts d ns s u f g x whole k a h i
 
   -- a step goes on
-  pub step_goes : (u : Search) (g : Round → Result Round HaltedRound) (x : Result Round HaltedRound) (o : Option Halt) → f (round_in d s.tries a.all) ≡ (x >>= g) → is_some o ≡ false → Comes d a.all x o u
+  pub step_goes : (u : Search) (g : Round → Result Round HaltedRound) (x : Result Round HaltedRound) (o : Option Halt) → f (round_in d (tally_of s) a.all) ≡ (x >>= g) → is_some o ≡ false → Comes d a.all x o u
       → Ahead d ns u g whole
   step_goes u g x None i e h = ahead_goes d ns s u f g x whole a h i
   step_goes u g x (Some k) i e h = absurd (cc e)
 
   -- there is no step left
-  pub steps_end : f (round_in d s.tries a.all) ≡ Ok (round_in d s.tries a.all) → Comes d ns whole None s
+  pub steps_end : f (round_in d (tally_of s) a.all) ≡ Ok (round_in d (tally_of s) a.all) → Comes d ns whole None s
   steps_end i =
       ahead_ends d ns s s f whole None a
       (subst (λ (x : Result Round HaltedRound). Comes d a.all x None s) (sym i) (record { all = a.all; grew = extends_none a.all; holds = a.holds; round = refl }))

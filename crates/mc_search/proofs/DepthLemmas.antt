@@ -7,8 +7,8 @@ use Rattle.mc_model_play.specs.Play.{State}
 use Rattle.mc_explore.specs.Rules as rule
 use Rattle.mc_explore.specs.States as model
 use Rattle.mc_explore.specs.States.{play_of_deck}
-use Rattle.mc_explore.specs.Search.{Ending, All, AtDepth, Broken, TooMany, HaltedRound, Node, Round, Search as Found, after_depth, after_round, ending_of, first_state, round_of_states, search_end, search_from, search_of, search_on, with_depth}
-use Rattle.mc_explore_text.specs.Report.{depth_lines, ending_text, sums_text, text_within}
+use Rattle.mc_explore.specs.Search.{Ending, All, AtDepth, Broken, TooMany, HaltedRound, Node, Round, Search as Found, after_depth, after_round, ending_of, first_state, round_of_states, search_end, search_from, search_of, search_on, with_depth, no_tries, Tally}
+use Rattle.mc_explore_text.specs.Report.{depth_lines, ending_text, kept_text, text_within}
 use Rattle.mc_rules.specs.Meanings.{AlikeLists, AreRules}
 use Rattle.mc_rules.specs.Occasions.{IsRow}
 use Rattle.mc_rules.specs.declared.reading.Exploration.{Exploration}
@@ -16,14 +16,15 @@ use Rattle.mc_rules.specs.declared.rules.Rules.{Rules}
 use Rattle.mc_text.specs.Texts.{Sunk, Writes, Fails}
 use Rattle.mc_text.proofs.TextLemmas.{fails_before, fails_then, writes_then}
 use Rattle.mc_search.specs.declared.endings.Explored.{Explored}
+use Rattle.mc_search.specs.declared.endings.Explored.TheVariants as explored
 use Rattle.mc_search.specs.declared.endings.SearchFault.{SearchFault}
 use Rattle.mc_search.specs.declared.endings.SearchFault.TheVariants as fault
 use Rattle.mc_search.specs.declared.rounds.Halt.{Halt}
 use Rattle.mc_search.specs.declared.rounds.Search.{Search}
 use Rattle.mc_search.specs.Kept.{IsExplorationOf}
 use Rattle.mc_search.specs.Reports.{depth_line}
-use Rattle.mc_search.specs.Rounds.{round_in, AreCandidates, CanTryStates, Comes, Depth, Ends, Extends, Holds, KeepsNode}
-use Rattle.mc_search.specs.Endings.{is_broken, text_from, DepthsAhead, Explores, IsExplored, IsPut}
+use Rattle.mc_search.specs.Rounds.{round_in, tally_of, AreCandidates, CanTryStates, Comes, Depth, Ends, Extends, Holds, KeepsNode}
+use Rattle.mc_search.specs.Endings.{explored_as, text_from, DepthsAhead, Explores, IsExplored, IsPut}
 use Rattle.mc_search.proofs.AlikeLemmas.{alike_length, drop_past}
 use Rattle.mc_search.proofs.EndingLemmas.{put_failed}
 use Rattle.mc_search.proofs.HaltLemmas.{err_ending, explored_err, nothing_yet}
@@ -38,28 +39,28 @@ put_then a b c s t (Err fault.NoMemory) w p =
     record { front = s ++ p.front; rest = p.rest; parts = ap (λ x. s ++ x) p.parts ∙ sym (append_assoc s p.front p.rest); written = writes_then w p.written }
 
 -- the end of a search with one depth before it
-ending_same : (z : State) (n : ℕ) (e : Found) (x : Ending) → ending_text z (with_depth n e) x ≡ ending_text z e x
-ending_same z n e All = refl
-ending_same z n e (AtDepth d) = refl
-ending_same z n e (Broken name path) = refl
-ending_same z n e (TooMany d) = refl
+ending_same : (ons : List rule.OnRule) (z : State) (n : ℕ) (e : Found) (x : Ending) → ending_text ons z (with_depth n e) x ≡ ending_text ons z e x
+ending_same ons z n e All = refl
+ending_same ons z n e (AtDepth d) = refl
+ending_same ons z n e (Broken name path) = refl
+ending_same ons z n e (TooMany d) = refl
 
 -- the text of a search with one depth before it
-text_split : (k : ℕ) (z : State) (n : ℕ) (e : Found) → text_from k z (with_depth n e) ≡ depth_line k n ++ text_from (k + 1) z e
-text_split k z n e =
-    ap (λ t. depth_lines k (n ∷ e.news) ++ t) (ending_same z n e e.ending) ∙ append_assoc (depth_line k n) (depth_lines (k + 1) e.news) (ending_text z e e.ending)
+text_split : (ons : List rule.OnRule) (k : ℕ) (z : State) (n : ℕ) (e : Found) → text_from ons k z (with_depth n e) ≡ depth_line k n ++ text_from ons (k + 1) z e
+text_split ons k z n e =
+    ap (λ t. depth_lines k (n ∷ e.news) ++ t) (ending_same ons z n e e.ending) ∙ append_assoc (depth_line k n) (depth_lines (k + 1) e.news) (ending_text ons z e e.ending)
 
 -- the line of a depth was written, and then the rest
-pub explores_then : (k : ℕ) (z : State) (n : ℕ) (e : Found) (a b c : Sunk) (r : Result Explored SearchFault) → Writes a (depth_line k n) b → Explores (k + 1) z e b r c → Explores k z (with_depth n e) a r c
-explores_then k z n e a b c r w x =
-    record { text = subst (λ (t : List ℕ). IsPut a t r c) (sym (text_split k z n e)) (put_then a b c (depth_line k n) (text_from (k + 1) z e) r w x.text); ending = x.ending }
+pub explores_then : (ons : List rule.OnRule) (k : ℕ) (z : State) (n : ℕ) (e : Found) (a b c : Sunk) (r : Result Explored SearchFault) → Writes a (depth_line k n) b → Explores ons (k + 1) z e b r c → Explores ons k z (with_depth n e) a r c
+explores_then ons k z n e a b c r w x =
+    record { text = subst (λ (t : List ℕ). IsPut a t r c) (sym (text_split ons k z n e)) (put_then a b c (depth_line k n) (text_from ons (k + 1) z e) r w x.text); ending = x.ending }
 
 -- the line of a depth failed
-pub explores_failed : (k : ℕ) (z : State) (n : ℕ) (e : Found) (a b : Sunk) (r : Result Explored SearchFault) → IsErr r → IsErrAnd r (λ y. y ≡ fault.WriteFault) → Fails a (depth_line k n) b
-    → Explores k z (with_depth n e) a r b
-explores_failed k z n e a b r i y f =
+pub explores_failed : (ons : List rule.OnRule) (k : ℕ) (z : State) (n : ℕ) (e : Found) (a b : Sunk) (r : Result Explored SearchFault) → IsErr r → IsErrAnd r (λ y. y ≡ fault.WriteFault) → Fails a (depth_line k n) b
+    → Explores ons k z (with_depth n e) a r b
+explores_failed ons k z n e a b r i y f =
     record {
-      text = subst (λ (t : List ℕ). IsPut a t r b) (sym (text_split k z n e)) (put_failed a b (depth_line k n ++ text_from (k + 1) z e) r i y (fails_before (text_from (k + 1) z e) f));
+      text = subst (λ (t : List ℕ). IsPut a t r b) (sym (text_split ons k z n e)) (put_failed a b (depth_line k n ++ text_from ons (k + 1) z e) r i y (fails_before (text_from ons (k + 1) z e) f));
       ending = err_ending r e.ending i;
     }
 
@@ -67,7 +68,7 @@ explores_failed k z n e a b r i y f =
 
 -- the search after a depth, by its new nodes
 abbrev pub after_new : List Node → Round → (List Node → Round → Found) → Found
-after_new [] r again = search_end All r.count r.tries
+after_new [] r again = search_end All r.count r.tally
 after_new (n ∷ ns) r again = again (n ∷ ns) r
 
 depth_is : (ms : List Node) (r : Round) (again : List Node → Round → Found) → after_depth ms r again ≡ with_depth (length ms) (after_new ms r again)
@@ -85,14 +86,14 @@ search_step : (n k most : ℕ) (rules : rule.Rules) (ns : List Node) (r : Round)
 unfolding search_on
 search_step n k most rules ns r = refl
 
-search_done : (k most : ℕ) (rules : rule.Rules) (ns : List Node) (r : Round) → search_on zero k most rules ns r ≡ search_end (AtDepth k) r.count r.tries
+search_done : (k most : ℕ) (rules : rule.Rules) (ns : List Node) (r : Round) → search_on zero k most rules ns r ≡ search_end (AtDepth k) r.count r.tally
 unfolding search_on
 search_done k most rules ns r = refl
 
 -- what is left of a search, from the nodes of a depth on
-abbrev pub left_of : rule.Rules → ℕ → ℕ → ℕ → ℕ → ℕ → List Node → Found
-left_of rules most depth done from tries ns =
-    search_on (depth - done) done most rules (drop from ns) (round_in (record { rules = rules; most = most; from = from }) tries ns)
+abbrev pub left_of : rule.Rules → ℕ → ℕ → ℕ → ℕ → Tally → List Node → Found
+left_of rules most depth done from a ns =
+    search_on (depth - done) done most rules (drop from ns) (round_in (record { rules = rules; most = most; from = from }) a ns)
 
 -- a depth of nodes that begins after those that are held
 abbrev pub next_depth : rule.Rules → ℕ → List Node → Depth
@@ -102,7 +103,7 @@ pub holds_next : (rules : rule.Rules) (most from : ℕ) (s : Search) (ns : List 
 holds_next rules most from s ns h = record { room = h.room; within = omega arith; kept = h.kept; reached = h.reached }
 
 -- what is left, by the tries of a depth
-left_step : (rules : rule.Rules) (most depth done from tries : ℕ) (ns : List Node) → done < depth
+left_step : (rules : rule.Rules) (most depth done from : ℕ) (tries : Tally) (ns : List Node) → done < depth
     → left_of rules most depth done from tries ns
     ≡ after_round (round_of_states most rules (drop from ns) (round_in (next_depth rules most ns) tries ns)) (done + 1) (λ ms q. search_on (depth - (done + 1)) (done + 1) most rules ms q)
 left_step rules most depth done from tries ns h =
@@ -135,7 +136,7 @@ pub record Went (d : Depth) (ns : List Node) (x : Result Round HaltedRound) (s :
   pub all : List Node
   pub grew : Extends ns all
   pub holds : Holds d s all
-  pub is : x ≡ Ok (round_in d s.tries all)
+  pub is : x ≡ Ok (round_in d (tally_of s) all)
 
 went_is : (d : Depth) (ns : List Node) (x : Result Round HaltedRound) (o : Option Halt) (s : Search) → o ≡ None → Comes d ns x o s → Went d ns x s
 went_is d ns (Ok r) None s e c = record { all = c.all; grew = c.grew; holds = c.holds; is = ap Ok c.round }
@@ -152,29 +153,29 @@ some_left n ms e h k = h (e ∙ ap length k)
 
 -- the tries of the nodes of a depth
 abbrev pub depth_round : rule.Rules → ℕ → ℕ → Search → List Node → Result Round HaltedRound
-depth_round rules most from s ns = round_of_states most rules (drop from ns) (round_in (next_depth rules most ns) s.tries ns)
+depth_round rules most from s ns = round_of_states most rules (drop from ns) (round_in (next_depth rules most ns) (tally_of s) ns)
 
 module _ (x : rule.Exploration) (most depth done from : ℕ) (s u : Search) (a b : Sunk) (k : DepthsAhead x most depth done from s a b) (below : done < depth) where
   -- a depth ends the search
   pub depth_halts : (o : Option Halt) (h : Halt) (r : Result Explored SearchFault) (c : Sunk) → o ≡ Some h → Comes (next_depth x.rules most k.nodes) k.nodes (depth_round x.rules most from s k.nodes) o u
-      → ((e : HaltedRound) → Ends (next_depth x.rules most k.nodes) k.nodes e h u → Explores (done + 1) (play_of_deck x.lines) (search_end (ending_of e.halt (done + 1)) e.count e.tries) b r c)
+      → ((e : HaltedRound) → Ends (next_depth x.rules most k.nodes) k.nodes e h u → Explores x.rules.ons (done + 1) (play_of_deck x.lines) (search_end (ending_of e.halt (done + 1)) e.count e.tally) b r c)
       → IsExplored a (text_within most depth x) (search_of most depth x).ending r c
   depth_halts o h r c e comes f =
       let w = halted_is (next_depth x.rules most k.nodes) k.nodes (depth_round x.rules most from s k.nodes) o h u e comes in
       let again = λ (ms : List Node) (q : Round). search_on (depth - (done + 1)) (done + 1) most x.rules ms q in
       k.rest r c
-      (subst (λ (y : Found). Explores (done + 1) (play_of_deck x.lines) y b r c)
-      (sym (left_step x.rules most depth done from s.tries k.nodes below ∙ ap (λ (y : Result Round HaltedRound). after_round y (done + 1) again) w.is)) (f w.end w.ends))
+      (subst (λ (y : Found). Explores x.rules.ons (done + 1) (play_of_deck x.lines) y b r c)
+      (sym (left_step x.rules most depth done from (tally_of s) k.nodes below ∙ ap (λ (y : Result Round HaltedRound). after_round y (done + 1) again) w.is)) (f w.end w.ends))
 
   -- what is left after a depth that goes on
   left_went : (w : Went (next_depth x.rules most k.nodes) k.nodes (depth_round x.rules most from s k.nodes) u)
-      → left_of x.rules most depth done from s.tries k.nodes
+      → left_of x.rules most depth done from (tally_of s) k.nodes
       ≡ with_depth (length (drop (length k.nodes) w.all))
-      (after_new (drop (length k.nodes) w.all) (round_in (next_depth x.rules most k.nodes) u.tries w.all) (λ ms q. search_on (depth - (done + 1)) (done + 1) most x.rules ms q))
+      (after_new (drop (length k.nodes) w.all) (round_in (next_depth x.rules most k.nodes) (tally_of u) w.all) (λ ms q. search_on (depth - (done + 1)) (done + 1) most x.rules ms q))
   left_went w =
       let again = λ (ms : List Node) (q : Round). search_on (depth - (done + 1)) (done + 1) most x.rules ms q in
-      left_step x.rules most depth done from s.tries k.nodes below ∙ ap (λ (y : Result Round HaltedRound). after_round y (done + 1) again) w.is
-      ∙ depth_is (drop (length k.nodes) w.all) (round_in (next_depth x.rules most k.nodes) u.tries w.all) again
+      left_step x.rules most depth done from (tally_of s) k.nodes below ∙ ap (λ (y : Result Round HaltedRound). after_round y (done + 1) again) w.is
+      ∙ depth_is (drop (length k.nodes) w.all) (round_in (next_depth x.rules most k.nodes) (tally_of u) w.all) again
 
   -- the number of the new nodes
   new_count : (w : Went (next_depth x.rules most k.nodes) k.nodes (depth_round x.rules most from s k.nodes) u) (n : ℕ) → n ≡ length u.states.keys - length s.states.keys
@@ -191,26 +192,26 @@ module _ (x : rule.Exploration) (most depth done from : ℕ) (s u : Search) (a b
   depth_fails o n r c e comes count i y f =
       let w = went_is (next_depth x.rules most k.nodes) k.nodes (depth_round x.rules most from s k.nodes) o u e comes in
       k.rest r c
-      (subst (λ (q : Found). Explores (done + 1) (play_of_deck x.lines) q b r c) (sym (left_went w))
-      (explores_failed (done + 1) (play_of_deck x.lines) (length (drop (length k.nodes) w.all)) _ b c r i y (subst (λ (m : ℕ). Fails b (depth_line (done + 1) m) c) (new_count w n count) f)))
+      (subst (λ (q : Found). Explores x.rules.ons (done + 1) (play_of_deck x.lines) q b r c) (sym (left_went w))
+      (explores_failed x.rules.ons (done + 1) (play_of_deck x.lines) (length (drop (length k.nodes) w.all)) _ b c r i y (subst (λ (m : ℕ). Fails b (depth_line (done + 1) m) c) (new_count w n count) f)))
 
   -- a depth without new nodes is the last
   pub depth_last : (o : Option Halt) (n : ℕ) (m c : Sunk) (r : Result Explored SearchFault) → o ≡ None → Comes (next_depth x.rules most k.nodes) k.nodes (depth_round x.rules most from s k.nodes) o u
       → n ≡ length u.states.keys - length s.states.keys → n ≡ 0 → Writes b (depth_line (done + 1) n) m
-      → ((end : Ending) → is_broken end ≡ false → IsExplored m (sums_text (length u.states.keys) u.tries (codes " all")) end r c) → IsExplored a (text_within most depth x) (search_of most depth x).ending r c
+      → ((end : Ending) → explored_as end ≡ explored.All → IsExplored m (kept_text x.rules.ons (length u.states.keys) (tally_of u) (codes " all")) end r c) → IsExplored a (text_within most depth x) (search_of most depth x).ending r c
   depth_last o n m c r e comes count zero_new written f =
       let w = went_is (next_depth x.rules most k.nodes) k.nodes (depth_round x.rules most from s k.nodes) o u e comes in
       let new = new_count w n count in
       let after = alike_length (KeepsNode x.rules u) u.states.keys w.all w.holds.kept in
       let none : drop (length k.nodes) w.all ≡ [] = drop_past w.all (length k.nodes) (omega (arith, new, zero_new, length-drop (length k.nodes) w.all)) in
-      let q = round_in (next_depth x.rules most k.nodes) u.tries w.all in
+      let q = round_in (next_depth x.rules most k.nodes) (tally_of u) w.all in
       let again = λ (ms : List Node) (q : Round). search_on (depth - (done + 1)) (done + 1) most x.rules ms q in
-      let all : IsExplored m (sums_text (length w.all) u.tries (codes " all")) All r c = subst (λ (i : ℕ). IsExplored m (sums_text i u.tries (codes " all")) All r c) after (f All refl) in
+      let all : IsExplored m (kept_text x.rules.ons (length w.all) (tally_of u) (codes " all")) All r c = subst (λ (i : ℕ). IsExplored m (kept_text x.rules.ons i (tally_of u) (codes " all")) All r c) after (f All refl) in
       k.rest r c
-      (subst (λ (y : Found). Explores (done + 1) (play_of_deck x.lines) y b r c) (sym (left_went w))
-      (explores_then (done + 1) (play_of_deck x.lines) (length (drop (length k.nodes) w.all)) (after_new (drop (length k.nodes) w.all) q again) b m c r
+      (subst (λ (y : Found). Explores x.rules.ons (done + 1) (play_of_deck x.lines) y b r c) (sym (left_went w))
+      (explores_then x.rules.ons (done + 1) (play_of_deck x.lines) (length (drop (length k.nodes) w.all)) (after_new (drop (length k.nodes) w.all) q again) b m c r
       (subst (λ (i : ℕ). Writes b (depth_line (done + 1) i) m) new written)
-      (subst (λ (ms : List Node). Explores (done + 1 + 1) (play_of_deck x.lines) (after_new ms q again) m r c) (sym none) all)))
+      (subst (λ (ms : List Node). Explores x.rules.ons (done + 1 + 1) (play_of_deck x.lines) (after_new ms q again) m r c) (sym none) all)))
 
   -- a depth with new nodes
   pub depth_next : (o : Option Halt) (n : ℕ) (m : Sunk) → o ≡ None → Comes (next_depth x.rules most k.nodes) k.nodes (depth_round x.rules most from s k.nodes) o u
@@ -219,7 +220,7 @@ module _ (x : rule.Exploration) (most depth done from : ℕ) (s u : Search) (a b
       let w = went_is (next_depth x.rules most k.nodes) k.nodes (depth_round x.rules most from s k.nodes) o u e comes in
       let new = new_count w n count in
       let before = alike_length (KeepsNode x.rules s) s.states.keys k.nodes k.holds.kept in
-      let q = round_in (next_depth x.rules most k.nodes) u.tries w.all in
+      let q = round_in (next_depth x.rules most k.nodes) (tally_of u) w.all in
       let again = λ (ms : List Node) (q : Round). search_on (depth - (done + 1)) (done + 1) most x.rules ms q in
       subst (λ (i : ℕ). DepthsAhead x most depth (done + 1) i u a m) (sym (at ∙ before))
       (record {
@@ -227,37 +228,37 @@ module _ (x : rule.Exploration) (most depth done from : ℕ) (s u : Search) (a b
         holds = w.holds;
         rest = λ r c h.
             k.rest r c
-            (subst (λ (y : Found). Explores (done + 1) (play_of_deck x.lines) y b r c) (sym (left_went w))
-            (explores_then (done + 1) (play_of_deck x.lines) (length (drop (length k.nodes) w.all)) (after_new (drop (length k.nodes) w.all) q again) b m c r
+            (subst (λ (y : Found). Explores x.rules.ons (done + 1) (play_of_deck x.lines) y b r c) (sym (left_went w))
+            (explores_then x.rules.ons (done + 1) (play_of_deck x.lines) (length (drop (length k.nodes) w.all)) (after_new (drop (length k.nodes) w.all) q again) b m c r
             (subst (λ (i : ℕ). Writes b (depth_line (done + 1) i) m) new written)
-            (subst (λ (y : Found). Explores (done + 1 + 1) (play_of_deck x.lines) y m r c) (sym (new_some (drop (length k.nodes) w.all) q again (some_left n (drop (length k.nodes) w.all) new some_new))) h)));
+            (subst (λ (y : Found). Explores x.rules.ons (done + 1 + 1) (play_of_deck x.lines) y m r c) (sym (new_some (drop (length k.nodes) w.all) q again (some_left n (drop (length k.nodes) w.all) new some_new))) h)));
       })
 
 -- ---- the ends of the loop
 
 -- what is left at the start is the whole search
-left_first : (rules : rule.Rules) (most depth tries : ℕ) (n : Node) → tries ≡ 0
-    → left_of rules most depth 0 0 tries (n ∷ []) ≡ search_on depth 0 most rules (n ∷ []) (record { known = n.state ∷ []; fresh = []; count = 1; tries = 0 })
+left_first : (rules : rule.Rules) (most depth : ℕ) (tries : Tally) (n : Node) → tries ≡ no_tries rules.ons
+    → left_of rules most depth 0 0 tries (n ∷ []) ≡ search_on depth 0 most rules (n ∷ []) (record { known = n.state ∷ []; fresh = []; count = 1; tally = no_tries rules.ons })
 left_first rules most depth tries n none =
     let less : depth - 0 ≡ depth = omega arith in
-    let start : Round = record { known = n.state ∷ []; fresh = []; count = 1; tries = 0 } in
+    let start : Round = record { known = n.state ∷ []; fresh = []; count = 1; tally = no_tries rules.ons } in
     ap (λ k. search_on k 0 most rules (n ∷ []) (round_in (record { rules = rules; most = most; from = 0 }) tries (n ∷ []))) less
     ∙ ap (λ i. search_on depth 0 most rules (n ∷ []) (round_in (record { rules = rules; most = most; from = 0 }) i (n ∷ []))) none
     ∙ search_fresh depth 0 most rules (n ∷ []) start (n ∷ [])
 
 -- the text of a search from its start
-text_whole : (x : rule.Exploration) (most depth : ℕ) (a c : Sunk) (r : Result Explored SearchFault) → Explores 1 (play_of_deck x.lines) (search_from depth most x.rules (first_state x)) a r c
+text_whole : (x : rule.Exploration) (most depth : ℕ) (a c : Sunk) (r : Result Explored SearchFault) → Explores x.rules.ons 1 (play_of_deck x.lines) (search_from depth most x.rules (first_state x)) a r c
     → IsExplored a (text_within most depth x) (search_of most depth x).ending r c
 unfolding text_within search_of
 text_whole x most depth a c r e = e
 
 from_start : (most depth : ℕ) (rules : rule.Rules) (c : model.CardState)
-    → search_on depth 0 most rules (record { state = c; path = [] } ∷ []) (record { known = c ∷ []; fresh = []; count = 1; tries = 0 }) ≡ search_from depth most rules c
+    → search_on depth 0 most rules (record { state = c; path = [] } ∷ []) (record { known = c ∷ []; fresh = []; count = 1; tally = no_tries rules.ons }) ≡ search_from depth most rules c
 unfolding search_from
 from_start most depth rules c = refl
 
 -- the search begins
-pub depth_first : (x : rule.Exploration) (most depth : ℕ) (s : Search) (a : Sunk) → Holds (record { rules = x.rules; most = most; from = 0 }) s (record { state = first_state x; path = [] } ∷ []) → s.tries ≡ 0
+pub depth_first : (x : rule.Exploration) (most depth : ℕ) (s : Search) (a : Sunk) → Holds (record { rules = x.rules; most = most; from = 0 }) s (record { state = first_state x; path = [] } ∷ []) → (tally_of s) ≡ no_tries x.rules.ons
     → DepthsAhead x most depth 0 0 s a a
 depth_first x most depth s a h none =
     let n : Node = record { state = first_state x; path = [] } in
@@ -266,22 +267,22 @@ depth_first x most depth s a h none =
       holds = h;
       rest = λ r c e.
           text_whole x most depth a c r
-          (subst (λ (y : Found). Explores 1 (play_of_deck x.lines) y a r c) (left_first x.rules most depth s.tries n none ∙ from_start most depth x.rules (first_state x)) e);
+          (subst (λ (y : Found). Explores x.rules.ons 1 (play_of_deck x.lines) y a r c) (left_first x.rules most depth (tally_of s) n none ∙ from_start most depth x.rules (first_state x)) e);
     }
 
 -- the last depth is done
 pub depth_end : (x : rule.Exploration) (most depth done from : ℕ) (s : Search) (a b c : Sunk) (r : Result Explored SearchFault) → DepthsAhead x most depth done from s a b → done ≡ depth
-    → ((end : Ending) → is_broken end ≡ false → IsExplored b (sums_text (length s.states.keys) s.tries (codes " depth " ++ decimal depth)) end r c) → IsExplored a (text_within most depth x) (search_of most depth x).ending r c
+    → ((end : Ending) → explored_as end ≡ explored.Partial → IsExplored b (kept_text x.rules.ons (length s.states.keys) (tally_of s) (codes " depth " ++ decimal depth)) end r c) → IsExplored a (text_within most depth x) (search_of most depth x).ending r c
 depth_end x most depth done from s a b c r k e f =
     let count = alike_length (KeepsNode x.rules s) s.states.keys k.nodes k.holds.kept in
-    let q = round_in (record { rules = x.rules; most = most; from = from }) s.tries k.nodes in
+    let q = round_in (record { rules = x.rules; most = most; from = from }) (tally_of s) k.nodes in
     let none : depth - done ≡ 0 = omega (arith, e) in
-    let said : IsExplored b (sums_text (length k.nodes) s.tries (codes " depth " ++ decimal done)) (AtDepth done) r c =
-    subst (λ (i : ℕ). IsExplored b (sums_text (length k.nodes) s.tries (codes " depth " ++ decimal i)) (AtDepth done) r c) (sym e)
-    (subst (λ (i : ℕ). IsExplored b (sums_text i s.tries (codes " depth " ++ decimal depth)) (AtDepth done) r c) count (f (AtDepth done) refl))
+    let said : IsExplored b (kept_text x.rules.ons (length k.nodes) (tally_of s) (codes " depth " ++ decimal done)) (AtDepth done) r c =
+    subst (λ (i : ℕ). IsExplored b (kept_text x.rules.ons (length k.nodes) (tally_of s) (codes " depth " ++ decimal i)) (AtDepth done) r c) (sym e)
+    (subst (λ (i : ℕ). IsExplored b (kept_text x.rules.ons i (tally_of s) (codes " depth " ++ decimal depth)) (AtDepth done) r c) count (f (AtDepth done) refl))
     in
     k.rest r c
-    (subst (λ (y : Found). Explores (done + 1) (play_of_deck x.lines) y b r c)
+    (subst (λ (y : Found). Explores x.rules.ons (done + 1) (play_of_deck x.lines) y b r c)
     (sym (ap (λ i. search_on i done most x.rules (drop from k.nodes) q) none ∙ search_done done most x.rules (drop from k.nodes) q)) said)
 
 -- out of memory within a depth
@@ -304,7 +305,7 @@ candidates_of x e rows used h u f =
 -- what the tries of a depth come to
 pub depth_comes : (x : rule.Exploration) (most depth done from to : ℕ) (s u : Search) (a b : Sunk) (o : Option Halt) (rules : Rules) (used : List (Vec Bool Global)) → (k : DepthsAhead x most depth done from s a b) → to ≡ length s.states.keys
     → AreCandidates x.rules rules used
-    → ((d : Depth) (ns : List Node) → Holds d s ns → from ≤ to → to ≡ length ns → AreCandidates d.rules rules used → Comes d ns (round_of_states d.most d.rules (drop from ns) (round_in d s.tries ns)) o u)
+    → ((d : Depth) (ns : List Node) → Holds d s ns → from ≤ to → to ≡ length ns → AreCandidates d.rules rules used → Comes d ns (round_of_states d.most d.rules (drop from ns) (round_in d (tally_of s) ns)) o u)
     → Comes (next_depth x.rules most k.nodes) k.nodes (depth_round x.rules most from s k.nodes) o u
 depth_comes x most depth done from to s u a b o rules used k at can f =
     let count = at ∙ alike_length (KeepsNode x.rules s) s.states.keys k.nodes k.holds.kept in

@@ -4,19 +4,20 @@ use Rattle.std.specs.Result.{IsErrAnd}
 use Rattle.mc_model_play.specs.Play.{State}
 use Rattle.mc_explore.specs.Rules as rule
 use Rattle.mc_explore.specs.Tries.{Try}
-use Rattle.mc_explore.specs.Search.{Ending, HaltedRound, Node, Halt as SearchHalt, Full, RuleBroken, Broken, TooMany, ending_of, search_end, statements_to}
-use Rattle.mc_explore_text.specs.Report.{broken_text, sums_text}
+use Rattle.mc_explore.specs.Search.{Ending, HaltedRound, Node, Halt as SearchHalt, Full, RuleBroken, Broken, TooMany, ending_of, search_end, statements_to, Tally}
+use Rattle.mc_explore_text.specs.Report.{broken_text, kept_text}
 use Rattle.mc_rules.specs.Meanings.{AlikeLists}
 use Rattle.mc_text.specs.Texts.{Sunk}
 use Rattle.mc_text.proofs.TextLemmas.{writes_none}
 use Rattle.mc_search.specs.declared.endings.Explored.{Explored}
+use Rattle.mc_search.specs.declared.endings.Explored.TheVariants as explored
 use Rattle.mc_search.specs.declared.endings.SearchFault.{SearchFault}
 use Rattle.mc_search.specs.declared.journey.Step.{Step}
 use Rattle.mc_search.specs.declared.rounds.Halt.{Halt}
 use Rattle.mc_search.specs.declared.rounds.Halt.TheVariants as halt
 use Rattle.mc_search.specs.declared.rounds.Search.{Search}
-use Rattle.mc_search.specs.Rounds.{BreaksBy, Depth, Ends, IsFrom, IsHalt, IsTry, KeepsNode}
-use Rattle.mc_search.specs.Endings.{is_broken, Explores, IsExplored, IsPut, SaysEnding, StopsBy, WritesFront}
+use Rattle.mc_search.specs.Rounds.{tally_of, BreaksBy, Depth, Ends, IsFrom, IsHalt, IsTry, KeepsNode}
+use Rattle.mc_search.specs.Endings.{explored_as, Explores, IsExplored, IsPut, SaysEnding, StopsBy, WritesFront}
 use Rattle.mc_search.proofs.AlikeLemmas.{alike_length}
 
 -- ---- faults
@@ -73,21 +74,21 @@ path_tries d ns e h s i r steps k b f =
     (f d k.all b.breaks.before b.breaks.last (record { holds = k.holds; found = b.breaks.found }) b.breaks.is)
 
 -- the exploration reports a broken rule
-pub reports_broken : (depth : ℕ) (z : State) (e : HaltedRound) (name : List ℕ) (path : List Try) (a b : Sunk) (r : Result Explored SearchFault) → e.halt ≡ RuleBroken name path
-    → IsPut a (broken_text name (statements_to z (reverse path))) r b → SaysEnding r (Broken name path) → Explores depth z (search_end (ending_of e.halt depth) e.count e.tries) a r b
-reports_broken depth z e name path a b r is p q =
-    subst (λ (h : SearchHalt). Explores depth z (search_end (ending_of h depth) e.count e.tries) a r b) (sym is) (record { text = p; ending = q })
+pub reports_broken : (ons : List rule.OnRule) (depth : ℕ) (z : State) (e : HaltedRound) (name : List ℕ) (path : List Try) (a b : Sunk) (r : Result Explored SearchFault) → e.halt ≡ RuleBroken name path
+    → IsPut a (broken_text name (statements_to z (reverse path))) r b → SaysEnding r (Broken name path) → Explores ons depth z (search_end (ending_of e.halt depth) e.count e.tally) a r b
+reports_broken ons depth z e name path a b r is p q =
+    subst (λ (h : SearchHalt). Explores ons depth z (search_end (ending_of h depth) e.count e.tally) a r b) (sym is) (record { text = p; ending = q })
 
 -- the exploration reports one state too many
 pub reports_full : (d : Depth) (ns : List Node) (depth : ℕ) (z : State) (e : HaltedRound) (h : Halt) (s : Search) (a b : Sunk) (r : Result Explored SearchFault) → Ends d ns e h s → h ≡ halt.Full
-    → ((end : Ending) → is_broken end ≡ false → IsExplored a (sums_text (length s.states.keys) s.tries (codes " depth " ++ decimal depth)) end r b)
-    → Explores depth z (search_end (ending_of e.halt depth) e.count e.tries) a r b
+    → ((end : Ending) → explored_as end ≡ explored.Partial → IsExplored a (kept_text d.rules.ons (length s.states.keys) (tally_of s) (codes " depth " ++ decimal depth)) end r b)
+    → Explores d.rules.ons depth z (search_end (ending_of e.halt depth) e.count e.tally) a r b
 reports_full d ns depth z e h s a b r k is f =
     let full = halt_full d.rules k.all h e.halt k.halt is in
     let count : length s.states.keys ≡ e.count = alike_length (KeepsNode d.rules s) s.states.keys k.all k.holds.kept ∙ sym k.count in
-    let said = subst (λ (n : ℕ). IsExplored a (sums_text n s.tries (codes " depth " ++ decimal depth)) (TooMany depth) r b) count (f (TooMany depth) refl) in
-    let sums = subst (λ (n : ℕ). IsExplored a (sums_text e.count n (codes " depth " ++ decimal depth)) (TooMany depth) r b) (sym k.tries) said in
-    subst (λ (x : SearchHalt). Explores depth z (search_end (ending_of x depth) e.count e.tries) a r b) (sym full) sums
+    let said = subst (λ (n : ℕ). IsExplored a (kept_text d.rules.ons n (tally_of s) (codes " depth " ++ decimal depth)) (TooMany depth) r b) count (f (TooMany depth) refl) in
+    let sums = subst (λ (t : Tally). IsExplored a (kept_text d.rules.ons e.count t (codes " depth " ++ decimal depth)) (TooMany depth) r b) (sym k.tally) said in
+    subst (λ (x : SearchHalt). Explores d.rules.ons depth z (search_end (ending_of x depth) e.count e.tally) a r b) (sym full) sums
 
 -- steps of a list that is another one
 pub steps_as : (ms : List rule.Move) {xs ys : List Step} (ts : List Try) → xs ≡ ys → AlikeLists (IsTry ms) ys ts → AlikeLists (IsTry ms) xs ts

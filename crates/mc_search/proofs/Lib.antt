@@ -9,6 +9,8 @@ pub mod SameKept
 mod BaseLemmas
 mod AttemptLemmas
 mod BeginLemmas
+mod TallyLemmas
+mod KeptLemmas
 mod RoundLemmas
 mod CourseLemmas
 mod EndingLemmas

@@ -8,7 +8,7 @@ use Rattle.mc_explore.specs.Rules as rule
 use Rattle.mc_explore.specs.States as model
 use Rattle.mc_explore.specs.States.{is_known, is_same_state}
 use Rattle.mc_explore.specs.Tries.{Try, outcome}
-use Rattle.mc_explore.specs.Search.{Node, Round, HaltedRound, RuleBroken, after_outcome, round_of_tries, with_new, with_reached, with_try}
+use Rattle.mc_explore.specs.Search.{Node, Round, HaltedRound, RuleBroken, after_outcome, round_of_tries, with_new, with_reached, with_try, tally_with, Tally}
 use Rattle.mc_rules.specs.Meanings.{AlikeLists}
 use Rattle.mc_search.specs.declared.journey.Manner.{Manner}
 use Rattle.mc_search.specs.declared.journey.Step.{Step}
@@ -23,7 +23,7 @@ use Rattle.mc_search.specs.declared.trying.Tried.{Tried}
 use Rattle.mc_search.specs.declared.trying.Tried.TheVariants as tried
 use Rattle.mc_search.specs.Trying.{IsMade, IsMissed}
 use Rattle.mc_search.specs.Kept.{is_equal, names_in, Kept, KeepsKept, TryIs}
-use Rattle.mc_search.specs.Rounds.{known_in, round_in, tries_from, try_value, AreReached, Comes, Depth, Ends, Extends, GoesOn, Holds, IsFrom, IsReached, IsTry, KeepsNode, TriesMove}
+use Rattle.mc_search.specs.Rounds.{known_in, round_in, tally_of, tries_from, try_value, AreReached, Comes, Depth, Ends, Extends, GoesOn, Holds, IsFrom, IsReached, IsTry, KeepsNode, TriesMove}
 use Rattle.mc_search.proofs.AlikeLemmas.{alike_get, alike_length, alike_more, alike_other, get_front, get_more}
 use Rattle.mc_search.proofs.SameKept.{kept_same}
 
@@ -166,7 +166,7 @@ holds_more d s u ns b r t x c h is k lab ros limit keys items =
     }
 
 -- the round of one node more
-round_more : (d : Depth) (tries : ℕ) (ns : List Node) (n : Node) → d.from ≤ length ns
+round_more : (d : Depth) (tries : Tally) (ns : List Node) (n : Node) → d.from ≤ length ns
     → record (round_in d tries ns) { known = n.state ∷ known_in ns; fresh = drop d.from ns ++ n ∷ []; count = length ns + 1 } ≡ round_in d tries (ns ++ n ∷ [])
 round_more d tries ns n h =
     let known : n.state ∷ known_in ns ≡ known_in (ns ++ n ∷ []) = sym (ap reverse (map-append (λ m. m.state) ns (n ∷ [])) ∙ reverse-append (map (λ m. m.state) ns) (n.state ∷ [])) in
@@ -177,21 +177,21 @@ round_more d tries ns n h =
 -- ---- a state that was reached
 
 -- it is known
-pub reached_known : (d : Depth) (s : Search) (ns : List Node) (n : Node) (b : Bool) → Holds d s ns → b ≡ true → Comes d ns (with_reached b d.most n (round_in d s.tries ns)) None s
+pub reached_known : (d : Depth) (s : Search) (ns : List Node) (n : Node) (b : Bool) → Holds d s ns → b ≡ true → Comes d ns (with_reached b d.most n (round_in d (tally_of s) ns)) None s
 reached_known d s ns n true h e = record { all = ns; grew = extends_none ns; holds = h; round = refl }
 reached_known d s ns n false h e = absurd (cc e)
 
 -- there is no room for it
 pub reached_full : (d : Depth) (s : Search) (ns : List Node) (n : Node) (b r : Bool) → Holds d s ns → b ≡ false → r ≡ false
-    → nat_lt (length ns) d.most ≡ r → Comes d ns (with_reached b d.most n (round_in d s.tries ns)) (Some halt.Full) s
+    → nat_lt (length ns) d.most ≡ r → Comes d ns (with_reached b d.most n (round_in d (tally_of s) ns)) (Some halt.Full) s
 reached_full d s ns n true r h e f l = absurd (cc e)
 reached_full d s ns n false true h e f l = absurd (cc f)
 reached_full d s ns n false false h e f l =
-    subst (λ (x : Bool). Comes d ns (with_new x n (round_in d s.tries ns)) (Some halt.Full) s) (sym l)
-    (record { all = ns; grew = extends_none ns; holds = h; halt = tt; count = refl; tries = refl })
+    subst (λ (x : Bool). Comes d ns (with_new x n (round_in d (tally_of s) ns)) (Some halt.Full) s) (sym l)
+    (record { all = ns; grew = extends_none ns; holds = h; halt = tt; count = refl; tally = refl })
 
 -- it is new
-pub reached_new : (d : Depth) (u : Search) (ns : List Node) (n : Node) (tries : ℕ) (b : Bool) → d.from ≤ length ns → Holds d u (ns ++ n ∷ []) → b ≡ false → nat_lt (length ns) d.most ≡ true → tries ≡ u.tries
+pub reached_new : (d : Depth) (u : Search) (ns : List Node) (n : Node) (tries : Tally) (b : Bool) → d.from ≤ length ns → Holds d u (ns ++ n ∷ []) → b ≡ false → nat_lt (length ns) d.most ≡ true → tries ≡ (tally_of u)
     → Comes d ns (with_reached b d.most n (round_in d tries ns)) None u
 reached_new d u ns n tries true w h e l t = absurd (cc e)
 reached_new d u ns n tries false w h e l t =
@@ -201,14 +201,14 @@ reached_new d u ns n tries false w h e l t =
 -- keeps a state that was reached: it is known
 pub keeps_known : (d : Depth) (s : Search) (ns : List Node) (n : Node) (t : Try) (r : Step) (x : CardState) (c : model.CardState) → list_any (is_equal x) s.states.keys ≡ true
     → IsFrom d s ns n r.before → IsTry d.rules.moves r t → Kept s.laboratory s.rosters (names_in d.rules) x c
-    → Comes d ns (with_reached (is_known c (known_in ns)) d.most (record { state = c; path = t ∷ n.path }) (round_in d s.tries ns)) None s
+    → Comes d ns (with_reached (is_known c (known_in ns)) d.most (record { state = c; path = t ∷ n.path }) (round_in d (tally_of s) ns)) None s
 keeps_known d s ns n t r x c among h is k =
     reached_known d s ns (record { state = c; path = t ∷ n.path }) (is_known c (known_in ns)) h.holds (sym (known_same d.rules s x c s.states.keys ns h.holds.kept k) ∙ among)
 
 -- there are too many
 pub keeps_full : (d : Depth) (s : Search) (ns : List Node) (n : Node) (t : Try) (r : Step) (x : CardState) (c : model.CardState) → list_any (is_equal x) s.states.keys ≡ false
     → s.limit ≤ length s.states.keys → IsFrom d s ns n r.before → IsTry d.rules.moves r t → Kept s.laboratory s.rosters (names_in d.rules) x c
-    → Comes d ns (with_reached (is_known c (known_in ns)) d.most (record { state = c; path = t ∷ n.path }) (round_in d s.tries ns)) (Some halt.Full) s
+    → Comes d ns (with_reached (is_known c (known_in ns)) d.most (record { state = c; path = t ∷ n.path }) (round_in d (tally_of s) ns)) (Some halt.Full) s
 keeps_full d s ns n t r x c among full h is k =
     let room = h.holds.room in
     let count = alike_length (KeepsNode d.rules s) s.states.keys ns h.holds.kept in
@@ -217,20 +217,20 @@ keeps_full d s ns n t r x c among full h is k =
 
 -- it is kept
 pub keeps_new : (d : Depth) (s u : Search) (ns : List Node) (n : Node) (t : Try) (r : Step) (x : CardState) (c : model.CardState) → list_any (is_equal x) s.states.keys ≡ false
-    → length s.states.keys < s.limit → u.laboratory ≡ s.laboratory → u.rosters ≡ s.rosters → u.limit ≡ s.limit → s.tries ≡ u.tries → u.states.keys ≡ s.states.keys ++ x ∷ []
+    → length s.states.keys < s.limit → u.laboratory ≡ s.laboratory → u.rosters ≡ s.rosters → u.limit ≡ s.limit → (tally_of s) ≡ (tally_of u) → u.states.keys ≡ s.states.keys ++ x ∷ []
     → u.last_steps.items ≡ s.last_steps.items ++ r ∷ [] → IsFrom d s ns n r.before → IsTry d.rules.moves r t → Kept s.laboratory s.rosters (names_in d.rules) x c
-    → Comes d ns (with_reached (is_known c (known_in ns)) d.most (record { state = c; path = t ∷ n.path }) (round_in d s.tries ns)) None u
+    → Comes d ns (with_reached (is_known c (known_in ns)) d.most (record { state = c; path = t ∷ n.path }) (round_in d (tally_of s) ns)) None u
 keeps_new d s u ns n t r x c among below lab ros limit tries keys items h is k =
     let room = h.holds.room in
     let count = alike_length (KeepsNode d.rules s) s.states.keys ns h.holds.kept in
     let yes : nat_lt (length ns) d.most ≡ true = is_below (length ns) d.most (omega (arith, below, room, count)) in
-    reached_new d u ns (record { state = c; path = t ∷ n.path }) s.tries (is_known c (known_in ns)) h.holds.within
+    reached_new d u ns (record { state = c; path = t ∷ n.path }) (tally_of s) (is_known c (known_in ns)) h.holds.within
     (holds_more d s u ns n r t x c h is k lab ros limit keys items) (sym (known_same d.rules s x c s.states.keys ns h.holds.kept k) ∙ among) yes tries
 
 -- ---- a try
 
 tries_one : (d : Depth) (n : Node) (t : Try) (r : Round)
-    → tries_from d n (t ∷ []) r ≡ (after_outcome (outcome d.rules.ons n.state t) d.most (t ∷ n.path) (with_try r) >>= λ q. Ok q)
+    → tries_from d n (t ∷ []) r ≡ (after_outcome (outcome d.rules.ons n.state t) d.most (t ∷ n.path) (with_try d.rules.ons n.state t r) >>= λ q. Ok q)
 unfolding round_of_tries
 tries_one d n t r = refl
 
@@ -240,9 +240,9 @@ bind_ok (Err e) = refl
 
 -- one try
 pub one_try : (d : Depth) (n : Node) (t : Try) (r : Round) (o : Result model.CardState (List ℕ)) → outcome d.rules.ons n.state t ≡ o
-    → tries_from d n (t ∷ []) r ≡ after_outcome o d.most (t ∷ n.path) (with_try r)
+    → tries_from d n (t ∷ []) r ≡ after_outcome o d.most (t ∷ n.path) (with_try d.rules.ons n.state t r)
 one_try d n t r o e =
-    tries_one d n t r ∙ bind_ok (after_outcome (outcome d.rules.ons n.state t) d.most (t ∷ n.path) (with_try r)) ∙ ap (λ x. after_outcome x d.most (t ∷ n.path) (with_try r)) e
+    tries_one d n t r ∙ bind_ok (after_outcome (outcome d.rules.ons n.state t) d.most (t ∷ n.path) (with_try d.rules.ons n.state t r)) ∙ ap (λ x. after_outcome x d.most (t ∷ n.path) (with_try d.rules.ons n.state t r)) e
 
 -- the outcome of a try of a move that was kept
 abbrev IsOutcome : Depth → Node → rule.Move → Manner → Result model.CardState (List ℕ) → Type 0
@@ -250,9 +250,9 @@ IsOutcome d n m w o = outcome d.rules.ons n.state (try_value m w) ≡ o
 
 -- a cut that hit no write
 pub missed : (d : Depth) (s u : Search) (ns : List Node) (n : Node) (m : rule.Move) (c : Candidate) (r : Step) (t : Tried) → KeepsKept s.laboratory s.rosters u.laboratory u.rosters
-    → u.limit ≡ s.limit → u.states.keys ≡ s.states.keys → u.last_steps.items ≡ s.last_steps.items → s.tries ≡ u.tries → TriesMove d s ns n m c r.before r.chosen
+    → u.limit ≡ s.limit → u.states.keys ≡ s.states.keys → u.last_steps.items ≡ s.last_steps.items → (tally_of s) ≡ (tally_of u) → TriesMove d s ns n m c r.before r.chosen
     → TryIs u.laboratory u.rosters (names_in d.rules) d.rules.ons n.state m r.manner t → t ≡ tried.NotHit
-    → IsMissed n.state m r.manner × GoesOn d ns (round_in d s.tries ns) u
+    → IsMissed n.state m r.manner × GoesOn d ns (round_in d (tally_of s) ns) u
 missed d s u ns n m c r tried.NotHit keeps limit keys items tries h x e =
     (x, record { all = ns; grew = extends_none ns; holds = holds_still d s u ns keeps limit keys items h.at.holds; round = ap (λ k. round_in d k ns) tries })
 missed d s u ns n m c r (tried.Reached y) keeps limit keys items tries h x e = absurd (cc e)
@@ -266,15 +266,15 @@ reached_same z y e = cc e
 
 -- a rule that is broken
 pub broken : (d : Depth) (s u : Search) (ns : List Node) (n : Node) (m : rule.Move) (c : Candidate) (r : Step) (i : ℕ) (t : Tried) → KeepsKept s.laboratory s.rosters u.laboratory u.rosters
-    → u.limit ≡ s.limit → u.states.keys ≡ s.states.keys → u.last_steps.items ≡ s.last_steps.items → u.tries ≡ s.tries + 1 → TriesMove d s ns n m c r.before r.chosen
+    → u.limit ≡ s.limit → u.states.keys ≡ s.states.keys → u.last_steps.items ≡ s.last_steps.items → tally_of u ≡ tally_with d.rules.ons n.state (try_value m r.manner) (tally_of s) → TriesMove d s ns n m c r.before r.chosen
     → TryIs u.laboratory u.rosters (names_in d.rules) d.rules.ons n.state m r.manner t → t ≡ tried.Broken i
-    → IsMade n.state m r.manner × Comes d ns (tries_from d n (try_value m r.manner ∷ []) (round_in d s.tries ns)) (Some (halt.Broken i r)) u
+    → IsMade n.state m r.manner × Comes d ns (tries_from d n (try_value m r.manner ∷ []) (round_in d (tally_of s) ns)) (Some (halt.Broken i r)) u
 broken d s u ns n m c r i tried.NotHit keeps limit keys items tries h x e = absurd (cc e)
 broken d s u ns n m c r i (tried.Reached y) keeps limit keys items tries h x e = absurd (cc e)
 broken d s u ns n m c r i (tried.Broken j) keeps limit keys items tries h x e =
     let same : j ≡ i = broken_same j i e in
     let name = x.1.0 in
-    let ends : Ends d ns (record { halt = RuleBroken name (try_value m r.manner ∷ n.path); count = length ns; tries = s.tries + 1 }) (halt.Broken i r) u = record {
+    let ends : Ends d ns (record { halt = RuleBroken name (try_value m r.manner ∷ n.path); count = length ns; tally = tally_with d.rules.ons n.state (try_value m r.manner) (tally_of s) }) (halt.Broken i r) u = record {
       all = ns;
       grew = extends_none ns;
       holds = holds_still d s u ns keeps limit keys items h.at.holds;
@@ -287,18 +287,18 @@ broken d s u ns n m c r i (tried.Broken j) keeps limit keys items tries h x e =
         tries = refl;
       };
       count = refl;
-      tries = sym tries;
+      tally = sym tries;
     }
     in
-    (x.0, subst (λ (y : Result Round HaltedRound). Comes d ns y (Some (halt.Broken i r)) u) (sym (one_try d n (try_value m r.manner) (round_in d s.tries ns) (Err name) x.1.2)) ends)
+    (x.0, subst (λ (y : Result Round HaltedRound). Comes d ns y (Some (halt.Broken i r)) u) (sym (one_try d n (try_value m r.manner) (round_in d (tally_of s) ns) (Err name) x.1.2)) ends)
 
 -- a state that is reached, by what keeping it came to
 pub reached : (d : Depth) (s u v : Search) (ns : List Node) (n : Node) (m : rule.Move) (c : Candidate) (r : Step) (y : CardState) (t : Tried) (o : Option Halt)
-    → KeepsKept s.laboratory s.rosters u.laboratory u.rosters → u.limit ≡ s.limit → u.states.keys ≡ s.states.keys → u.last_steps.items ≡ s.last_steps.items → u.tries ≡ s.tries + 1
+    → KeepsKept s.laboratory s.rosters u.laboratory u.rosters → u.limit ≡ s.limit → u.states.keys ≡ s.states.keys → u.last_steps.items ≡ s.last_steps.items → tally_of u ≡ tally_with d.rules.ons n.state (try_value m r.manner) (tally_of s)
     → TriesMove d s ns n m c r.before r.chosen → TryIs u.laboratory u.rosters (names_in d.rules) d.rules.ons n.state m r.manner t → t ≡ tried.Reached y
     → ((k : Try) (e : model.CardState) → IsFrom d u ns n r.before → IsTry d.rules.moves r k → Kept u.laboratory u.rosters (names_in d.rules) y e
-    → Comes d ns (with_reached (is_known e (known_in ns)) d.most (record { state = e; path = k ∷ n.path }) (round_in d u.tries ns)) o v)
-    → (p : Option Halt) → o ≡ p → IsMade n.state m r.manner × Comes d ns (tries_from d n (try_value m r.manner ∷ []) (round_in d s.tries ns)) p v
+    → Comes d ns (with_reached (is_known e (known_in ns)) d.most (record { state = e; path = k ∷ n.path }) (round_in d (tally_of u) ns)) o v)
+    → (p : Option Halt) → o ≡ p → IsMade n.state m r.manner × Comes d ns (tries_from d n (try_value m r.manner ∷ []) (round_in d (tally_of s) ns)) p v
 reached d s u v ns n m c r y tried.NotHit o keeps limit keys items tries h x e f p i = absurd (cc e)
 reached d s u v ns n m c r y (tried.Broken j) o keeps limit keys items tries h x e f p i = absurd (cc e)
 reached d s u v ns n m c r y (tried.Reached z) o keeps limit keys items tries h x e f p i =
@@ -307,5 +307,5 @@ reached d s u v ns n m c r y (tried.Reached z) o keeps limit keys items tries h 
     let a : model.CardState = x.1.0 in
     let from : IsFrom d u ns n r.before = record { holds = holds_still d s u ns keeps limit keys items h.at.holds; found = h.at.found } in
     let comes = f t a from (record { move = h.place; manner = refl }) (subst (λ (w : CardState). Kept u.laboratory u.rosters (names_in d.rules) w a) same x.1.2) in
-    let comes_at = subst (λ (k : ℕ). Comes d ns (with_reached (is_known a (known_in ns)) d.most (record { state = a; path = t ∷ n.path }) (round_in d k ns)) o v) tries comes in
-    (x.0, subst (λ (w : Result Round HaltedRound). Comes d ns w p v) (sym (one_try d n t (round_in d s.tries ns) (Ok a) x.1.1)) (subst (λ (w : Option Halt). Comes d ns (after_outcome (Ok a) d.most (t ∷ n.path) (with_try (round_in d s.tries ns))) w v) i comes_at))
+    let comes_at = subst (λ (k : Tally). Comes d ns (with_reached (is_known a (known_in ns)) d.most (record { state = a; path = t ∷ n.path }) (round_in d k ns)) o v) tries comes in
+    (x.0, subst (λ (w : Result Round HaltedRound). Comes d ns w p v) (sym (one_try d n t (round_in d (tally_of s) ns) (Ok a) x.1.1)) (subst (λ (w : Option Halt). Comes d ns (after_outcome (Ok a) d.most (t ∷ n.path) (with_try d.rules.ons n.state t (round_in d (tally_of s) ns))) w v) i comes_at))

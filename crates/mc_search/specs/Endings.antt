@@ -1,11 +1,11 @@
 -- What an exploration writes, and what it returns.
-use Rattle.std.specs.Prelude.{◌≡◌, ℕ, ◌+◌, ◌-◌, Bool, true, false, List, [], ◌∷◌, ◌++◌, drop, Result, Ok, Err}
+use Rattle.std.specs.Prelude.{◌≡◌, ℕ, ◌+◌, ◌-◌, Bool, true, false, List, [], ◌∷◌, ◌++◌, drop, Option, Some, None, Result, Ok, Err}
 use Rattle.mc_model_play.specs.Play.{State}
 use Rattle.mc_model_play.specs.Family.{is_running}
 use Rattle.mc_explore.specs.Rules as rule
 use Rattle.mc_explore.specs.States.{warm_in, play_of_deck}
 use Rattle.mc_explore.specs.Search as found
-use Rattle.mc_explore.specs.Search.{Ending, All, AtDepth, TooMany, Node, Statement, first_state, idle_statement, path_statements, power_statement, search_of, search_on}
+use Rattle.mc_explore.specs.Search.{Ending, All, AtDepth, TooMany, Node, Statement, first_state, idle_statement, no_tries, path_statements, power_statement, search_of, search_on}
 use Rattle.mc_explore_text.specs.Report.{depth_lines, ending_text, text_within}
 use Rattle.mc_text.specs.Texts.{Sunk, Writes, Fails}
 use Rattle.mc_search.specs.declared.beginning.Lead.{Lead}
@@ -18,7 +18,7 @@ use Rattle.mc_search.specs.declared.endings.SearchFault.{SearchFault}
 use Rattle.mc_search.specs.declared.endings.SearchFault.TheVariants as fault
 use Rattle.mc_search.specs.Kept.{LeadIs}
 use Rattle.mc_search.specs.Reports.{count_of_lines}
-use Rattle.mc_search.specs.Rounds.{round_in, Holds}
+use Rattle.mc_search.specs.Rounds.{round_in, tally_of, Holds}
 
 -- ---- texts
 
@@ -39,35 +39,35 @@ abbrev pub IsPut : {X : Type 0} → Sunk → List ℕ → Result X SearchFault �
 IsPut a text (Ok x) b = Writes a text b
 IsPut a text (Err f) b = StopsBy f a text b
 
--- whether a search ends with a rule that is broken
-abbrev pub is_broken : Ending → Bool
-is_broken All = false
-is_broken (AtDepth d) = false
-is_broken (found.Broken name path) = true
-is_broken (TooMany d) = false
+-- how an exploration ends, by the end of its search
+abbrev pub explored_as : Ending → Explored
+explored_as All = explored.All
+explored_as (AtDepth d) = explored.Partial
+explored_as (found.Broken name path) = explored.Broken
+explored_as (TooMany d) = explored.Partial
 
--- whether an exploration says so
-abbrev pub says_broken : Explored → Bool
-says_broken explored.Kept = false
-says_broken explored.Broken = true
+-- how an exploration that broke no rule ends, by the depth at which it ended, if a state is left
+abbrev pub kept_as : Option ℕ → Explored
+kept_as None = explored.All
+kept_as (Some depth) = explored.Partial
 
--- an exploration says whether a rule is broken
+-- an exploration returns how it ends
 abbrev pub SaysEnding : Result Explored SearchFault → Ending → Type 0
-SaysEnding (Ok e) end = says_broken e ≡ is_broken end
+SaysEnding (Ok e) end = e ≡ explored_as end
 SaysEnding (Err f) end = Unit {0}
 
--- what an exploration writes and returns: the text, and whether a rule is broken
+-- what an exploration writes and returns: the text, and how it ends
 pub record IsExplored (a : Sunk) (due : List ℕ) (end : Ending) (result : Result Explored SearchFault) (b : Sunk) : Type 0 where
   pub text : IsPut a due result b
   pub ending : SaysEnding result end
 
--- the text of a search from a depth on, from the end of a deck
-abbrev pub text_from : ℕ → State → found.Search → List ℕ
-text_from k z e = depth_lines k e.news ++ ending_text z e e.ending
+-- the text of a search from a depth on, from the end of a deck, by its `on` lines
+abbrev pub text_from : List rule.OnRule → ℕ → State → found.Search → List ℕ
+text_from ons k z e = depth_lines k e.news ++ ending_text ons z e e.ending
 
 -- what an exploration writes and returns from a depth on
-abbrev pub Explores : ℕ → State → found.Search → Sunk → Result Explored SearchFault → Sunk → Type 0
-Explores k z e a result b = IsExplored a (text_from k z e) e.ending result b
+abbrev pub Explores : List rule.OnRule → ℕ → State → found.Search → Sunk → Result Explored SearchFault → Sunk → Type 0
+Explores ons k z e a result b = IsExplored a (text_from ons k z e) e.ending result b
 
 -- ---- statements
 
@@ -108,7 +108,7 @@ pub record StartIs (s : Start) (x : rule.Exploration) : Type 0 where
 -- a search of an exploration holds the first state alone
 pub record Starts (most : ℕ) (s : Search) (z : Start) (x : rule.Exploration) : Type 0 where
   pub holds : Holds (record { rules = x.rules; most = most; from = 0 }) s (record { state = first_state x; path = [] } ∷ [])
-  pub tries : s.tries ≡ 0
+  pub tally : (tally_of s) ≡ no_tries x.rules.ons
   pub start : StartIs z x
 
 -- ---- depths
@@ -119,5 +119,5 @@ pub record DepthsAhead (x : rule.Exploration) (most depth done from : ℕ) (s : 
   pub nodes : List Node
   pub holds : Holds (record { rules = x.rules; most = most; from = from }) s nodes
   pub rest : (r : Result Explored SearchFault) (c : Sunk)
-      → Explores (done + 1) (play_of_deck x.lines) (search_on (depth - done) done most x.rules (drop from nodes) (round_in (record { rules = x.rules; most = most; from = from }) s.tries nodes)) b r c
+      → Explores x.rules.ons (done + 1) (play_of_deck x.lines) (search_on (depth - done) done most x.rules (drop from nodes) (round_in (record { rules = x.rules; most = most; from = from }) (tally_of s) nodes)) b r c
       → IsExplored a (text_within most depth x) (search_of most depth x).ending r c

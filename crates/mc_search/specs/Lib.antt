@@ -6,5 +6,6 @@ pub mod Trying
 pub mod Benches
 pub mod Kept
 pub mod Beginnings
+pub mod Tallies
 pub mod Rounds
 pub mod Endings

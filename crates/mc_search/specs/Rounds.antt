@@ -7,7 +7,7 @@ use Rattle.mc_model_device.specs.Image.{Two, opening}
 use Rattle.mc_model_play.specs.Family.{is_running}
 use Rattle.mc_model_play.specs.Play.{is_card_line}
 use Rattle.mc_explore.specs.Rules as rule
-use Rattle.mc_explore.specs.Search.{Node, Round, HaltedRound, Halt as SearchHalt, Full, RuleBroken, round_of_tries}
+use Rattle.mc_explore.specs.Search.{Node, Round, Tally, HaltedRound, Halt as SearchHalt, Full, RuleBroken, round_of_tries}
 use Rattle.mc_explore.specs.States as model
 use Rattle.mc_explore.specs.Tries.{Try, Manner as TryManner, CutAt, ones}
 use Rattle.mc_rules.specs.Meanings.{AlikeLists, AreRules}
@@ -24,6 +24,7 @@ use Rattle.mc_key.specs.declared.state.CardState.{CardState}
 use Rattle.mc_search.specs.declared.making.Candidate.{Candidate}
 use Rattle.mc_search.specs.Kept.{names_in, IsCandidate, Kept}
 use Rattle.mc_search.specs.Reports.{manner_value}
+use Rattle.mc_search.specs.Tallies.{tally_value}
 use Rattle.mc_search.specs.Trying.{CanCut}
 
 -- ---- steps
@@ -113,9 +114,13 @@ CanTryStates s e applied from to = (d : Depth) × (ns : List Node) × Holds d s 
 abbrev pub known_in : List Node → List model.CardState
 known_in ns = reverse (map (λ n. n.state) ns)
 
--- a round of the definition, by the nodes in the order in which they were found
-abbrev pub round_in : Depth → ℕ → List Node → Round
-round_in d tries ns = record { known = known_in ns; fresh = drop d.from ns; count = length ns; tries = tries }
+-- what the tries of a search came to
+abbrev pub tally_of : Search → Tally
+tally_of s = tally_value s.tally
+
+-- a round of the definition, by what the tries came to and the nodes in the order in which they were found
+abbrev pub round_in : Depth → Tally → List Node → Round
+round_in d a ns = record { known = known_in ns; fresh = drop d.from ns; count = length ns; tally = a }
 
 -- tries from a node
 abbrev pub tries_from : Depth → Node → List Try → Round → Result Round HaltedRound
@@ -141,7 +146,7 @@ pub record GoesOn (d : Depth) (ns : List Node) (r : Round) (s : Search) : Type 0
   pub all : List Node
   pub grew : Extends ns all
   pub holds : Holds d s all
-  pub round : r ≡ round_in d s.tries all
+  pub round : r ≡ round_in d (tally_of s) all
 
 -- a rule is broken by a step from a node: the allowance at a place, and the tries that lead there, the last first
 pub record BreaksBy (rules : rule.Rules) (ns : List Node) (i : ℕ) (s : Step) (name : List ℕ) (path : List Try) : Type 0 where
@@ -166,7 +171,7 @@ pub record Ends (d : Depth) (ns : List Node) (e : HaltedRound) (h : Halt) (s : S
   pub holds : Holds d s all
   pub halt : IsHalt d.rules all h e.halt
   pub count : e.count ≡ length all
-  pub tries : e.tries ≡ s.tries
+  pub tally : e.tally ≡ tally_of s
 
 -- tries came to what they come to by the definition: a search that held some nodes goes on, or ends
 abbrev pub Comes : Depth → List Node → Result Round HaltedRound → Option Halt → Search → Type 0
@@ -187,4 +192,4 @@ pub record Ahead (d : Depth) (ns : List Node) (s : Search) (rest : Round → Res
   pub all : List Node
   pub grew : Extends ns all
   pub holds : Holds d s all
-  pub same : rest (round_in d s.tries all) ≡ whole
+  pub same : rest (round_in d (tally_of s) all) ≡ whole

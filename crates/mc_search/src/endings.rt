@@ -6,30 +6,33 @@ ghost use Rattle.mc_explore.specs.Rules as rule;
 ghost use Rattle.mc_explore.specs.States.{play_of_deck};
 ghost use Rattle.mc_explore.specs.Tries.{Try};
 ghost use Rattle.mc_explore.specs.Search.{ending_of, move_statements, path_statements, search_end, statements_to};
-ghost use Rattle.mc_explore_text.specs.Report.{broken_text, statements_text, sums_text};
+ghost use Rattle.mc_explore_text.specs.Report.{broken_text, kept_text, statements_text};
 ghost use Rattle.mc_explore.specs.Search.{begins_cut, Ending, HaltedRound, Node};
 ghost use Rattle.mc_rules.specs.Meanings.{AlikeLists, IsMove};
 ghost use Rattle.mc_text.specs.Texts.{sunk, Puts};
 ghost use Rattle.mc_search.specs.Kept.{names_in, IsExplorationOf};
 ghost use Rattle.mc_search.specs.Reports.{how_text, statement_line};
-ghost use Rattle.mc_search.specs.Rounds.{Depth, Ends, IsFrom, IsTry};
-ghost use Rattle.mc_search.specs.Endings.{is_broken, lead_list, lines_of, one_if, text_if};
+ghost use Rattle.mc_search.specs.Rounds.{tally_of, Depth, Ends, IsFrom, IsTry};
+ghost use Rattle.mc_search.specs.Endings.{explored_as, kept_as, lead_list, lines_of, one_if, text_if};
 ghost use Rattle.mc_search.specs.Endings.{Explores, IsExplored, IsPut, StartIs};
 
 use crate::beginning::Lead;
 use crate::journey::{Manner, Step};
-use crate::report::{count_of_lines, put_broken, put_move, put_statement, put_sums};
-use crate::rounds::{Halt, Search, sum_of};
+use crate::report::{count_of_lines, put_broken, put_move, put_silent, put_statement, put_sums};
+use crate::rounds::{Halt, Search};
+use crate::tally::sum_of;
 use mc_base::NoMemory;
 use mc_branch::push;
 use mc_rules::{Exploration, Move};
 use mc_streams::{Sink, WriteFault};
 use std::alloc::Global;
 
-/// How an exploration ended: no rule was broken in what it tried, or one was.
+/// How an exploration ended: no state is left and no rule is broken; no rule is broken in what it tried, which is not
+/// all; or a rule is broken.
 #[derive(Clone, Copy, Debug, PartialEq, Eq)]
 pub enum Explored {
-    Kept,
+    All,
+    Partial,
     Broken,
 }
 
@@ -91,6 +94,16 @@ fn begins_cut(path: &[Step]) -> bool
     match path {
         [first, ..] => first.manner != Manner::Whole,
         [] => false,
+    }
+}
+
+// How an exploration that broke no rule ends, by the depth at which it ended, if a state is left.
+fn kept_as(depth: Option<u32>) -> Explored
+    ensures { result ≡ kept_as depth }
+{
+    match depth {
+        None => Explored::All,
+        Some(_) => Explored::Partial,
     }
 }
 
@@ -217,22 +230,30 @@ impl Search {
         Ok(path)
     }
 
-    /// Writes the sums, with the depth at which the search ended, or `None` if no state is left.
+    /// Writes the `on` lines that applied to no try and the sums, with the depth at which the search ended, or `None` if
+    /// no state is left.
     ///
     /// # Errors
     ///
     /// Returns `WriteFault` if the sink fails.
     pub fn report_kept<T: Sink>(
         &self,
+        exploration: &Exploration<'_>,
         depth: Option<u32>,
         out: &mut T,
     ) -> Result<Explored, SearchFault>
-        ensures { (end : Ending) → is_broken end ≡ false → IsExplored (sunk T.Sink out.old)
-            (sums_text (index_set_len self.now.states) self.now.tries (how_text depth)) end result
+        ensures { (x : rule.Exploration) → IsExplorationOf exploration.now x
+            → (end : Ending) → explored_as end ≡ kept_as depth → IsExplored (sunk T.Sink out.old)
+            (kept_text x.rules.ons (index_set_len self.now.states) (tally_of self.now) (how_text depth)) end result
             (sunk T.Sink out.new) }
     {
-        put_sums(out, self.states.len(), self.tries, depth)?;
-        Ok(Explored::Kept)
+        put_silent(
+            out,
+            exploration.rules.ons.as_slice(),
+            self.tally.heard.as_slice(),
+        )?;
+        put_sums(out, self.states.len(), self.tally.tries, depth)?;
+        Ok(kept_as(depth))
     }
 
     /// Writes why a search ended within a depth.
@@ -252,11 +273,11 @@ impl Search {
         ensures { (x : rule.Exploration) (most from : ℕ) (ns : List Node) (e : HaltedRound)
             → IsExplorationOf exploration.now x → StartIs start x
             → Ends (record { rules = x.rules; most = most; from = from }) ns e halt self.now
-            → Explores depth (play_of_deck x.lines) (search_end (ending_of e.halt depth) e.count e.tries)
+            → Explores x.rules.ons depth (play_of_deck x.lines) (search_end (ending_of e.halt depth) e.count e.tally)
             (sunk T.Sink out.old) result (sunk T.Sink out.new) }
     {
         match halt {
-            Halt::Full => self.report_kept(Some(depth), out),
+            Halt::Full => self.report_kept(exploration, Some(depth), out),
             Halt::Broken(allowance, step) => {
                 let path = self.path(alloc, step)?;
                 report_broken(out, exploration, start, allowance, path.as_slice())?;

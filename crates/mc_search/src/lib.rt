@@ -12,6 +12,7 @@ mod playing;
 mod report;
 mod rounds;
 mod search;
+mod tally;
 mod trying;
 
 pub use endings::{Explored, SearchFault};

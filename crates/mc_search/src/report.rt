@@ -1,13 +1,15 @@
 // The text of an exploration.
-ghost use Rattle.std.specs.Prelude.{◌≡◌, ◌++◌, codes, decimal};
+ghost use Rattle.std.specs.Prelude.{◌≡◌, ◌++◌, codes, decimal, slice_index_or, true};
 ghost use Rattle.mc_model_text.specs.Listing.{hex_text};
 ghost use Rattle.mc_explore_text.specs.Report.{sums_text};
 ghost use Rattle.mc_text.specs.Texts.{sunk, Puts};
+ghost use Rattle.mc_search.specs.Tallies.{silent_from, silent_if, silent_line};
 ghost use Rattle.mc_search.specs.Reports.{broken_line, count_of_lines, cut_line, depth_line, how_text, move_lines, statement_line};
 
 use crate::journey::Manner;
 use arrayvec::ArrayVec;
 use itoa::Buffer;
+use mc_rules::OnRule;
 use mc_streams::{Sink, WriteFault};
 use mc_text::{add_hex, put};
 
@@ -75,6 +77,46 @@ pub fn put_sums<T: Sink>(
     put_count(out, tries)?;
     put_how(out, depth)?;
     put(out, b"\n")
+}
+
+// Writes the line of a rule that applied to no try, unless it applied to one.
+fn put_unheard<T: Sink>(out: &mut T, line: u32, heard: bool) -> Result<(), WriteFault>
+    ensures { Puts (sunk T.Sink out.old) (silent_if heard line) result (sunk T.Sink out.new) }
+{
+    if heard {
+        return Ok(());
+    }
+    put_silent_line(out, line)
+}
+
+// Writes the line of a rule that applied to no try.
+fn put_silent_line<T: Sink>(out: &mut T, line: u32) -> Result<(), WriteFault>
+    ensures { Puts (sunk T.Sink out.old) (silent_line line) result (sunk T.Sink out.new) }
+{
+    put(out, b"silent line ")?;
+    put_count(out, line as u64)?;
+    put(out, b"\n")
+}
+
+// Whether the `on` line with an index applied to a try. One that was not counted did.
+fn is_heard(heard: &[bool], i: usize) -> bool
+    ensures { result ≡ slice_index_or heard.now i true }
+{
+    if i < heard.len() { heard[i] } else { true }
+}
+
+/// Writes the lines of the `on` lines that applied to no try, by whether each did.
+///
+/// # Errors
+///
+/// Returns `WriteFault` if the sink fails.
+pub fn put_silent<T: Sink>(out: &mut T, ons: &[OnRule], heard: &[bool]) -> Result<(), WriteFault>
+    ensures { Puts (sunk T.Sink out.old) (silent_from 0 ons.now heard.now) result (sunk T.Sink out.new) }
+{
+    for (i, on) in ons.iter().enumerate() {
+        put_unheard(out, on.line, is_heard(heard, i))?;
+    }
+    Ok(())
 }
 
 /// Writes the line of a broken rule: the name of its allowance, and the number of statements that follow.

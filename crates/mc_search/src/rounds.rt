@@ -1,5 +1,5 @@
 // What was found so far, and the tries of a depth.
-ghost use Rattle.std.specs.Prelude.{◌≡◌, ◌+◌, ◌<◌, ◌≤◌, ◌^◌, ℕ, true, List, [], ◌∷◌, drop, length, slice_get, IfOk};
+ghost use Rattle.std.specs.Prelude.{◌≡◌, ◌+◌, ◌<◌, ◌≤◌, ◌^◌, ℕ, true, List, [], ◌∷◌, drop, false, length, replicate, slice_get, IfOk};
 ghost use Rattle.mc_model_play.specs.Family.{is_running};
 ghost use Rattle.mc_explore.specs.Rules as rule;
 ghost use Rattle.mc_explore.specs.States as model;
@@ -7,13 +7,14 @@ ghost use Rattle.mc_explore.specs.States.{is_known, play_of};
 ghost use Rattle.mc_explore.specs.Tries.{cuts_from, tries_of, tries_with, writes_of, Try};
 ghost use Rattle.mc_explore.specs.Search.{round_of_states, with_reached, Node};
 ghost use Rattle.mc_search.specs.Kept.{names_in, Kept};
-ghost use Rattle.mc_search.specs.Rounds.{cuts_at, known_in, round_in, tries_from, tries_in, try_value};
+ghost use Rattle.mc_search.specs.Rounds.{cuts_at, known_in, round_in, tally_of, tries_from, tries_in, try_value};
 ghost use Rattle.mc_search.specs.Trying.{CanCut, IsMade, IsMissed};
 ghost use Rattle.mc_search.specs.Rounds.{CanCutMove, CanStep, CanTryMove, CanTryMoves, CanTryStates};
 ghost use Rattle.mc_search.specs.Rounds.{AreCandidates, Attempts, Comes, Depth, Holds, IsFrom, IsTry, TriesMove};
 
 use crate::journey::{Fill, Manner, Step};
 use crate::making::Candidate;
+use crate::tally::Tally;
 use crate::trying::{Laboratory, Tried};
 use indexmap::IndexSet;
 use mc_base::{NoMemory, Steps};
@@ -40,7 +41,7 @@ pub enum Attempt {
 }
 
 /// A search: the most states, the laboratory and the rosters with which states are kept, the states in the order
-/// in which they were found, the last step to each but the first, and the number of tries.
+/// in which they were found, the last step to each but the first, and what the tries came to.
 #[derive(Drop)]
 pub struct Search {
     pub limit: usize,
@@ -48,25 +49,11 @@ pub struct Search {
     pub rosters: Rosters,
     pub states: IndexSet<CardState>,
     pub last_steps: Vec<Step>,
-    pub tries: u64,
-}
-
-/// Returns the sum of two counts.
-///
-/// # Errors
-///
-/// Returns `NoMemory` if there is no room for it.
-pub fn sum_of(count: u64, more: u64) -> Result<u64, NoMemory>
-    ensures { IfOk result (λ sum. sum ≡ count + more) }
-{
-    match count.checked_add(more) {
-        Some(sum) => Ok(sum),
-        None => Err(NoMemory),
-    }
+    pub tally: Tally,
 }
 
 impl Search {
-    /// Returns a search that holds a first state.
+    /// Returns a search that holds a first state, for a number of `on` lines.
     ///
     /// # Errors
     ///
@@ -77,11 +64,12 @@ impl Search {
         laboratory: Laboratory,
         rosters: Rosters,
         first: CardState,
+        ons: usize,
     ) -> Result<Search, NoMemory>
         ensures holds { IfOk result (λ s. (r : rule.Rules) (c : model.CardState)
             → Kept laboratory rosters (names_in r) first c
             → Holds (record { rules = r; most = limit; from = 0 }) s (record { state = c; path = [] } ∷ [])) }
-        ensures none { IfOk result (λ s. s.tries ≡ 0) }
+        ensures none { IfOk result (λ s. tally_of s ≡ record { tries = 0; heard = replicate ons false }) }
     {
         let mut states = IndexSet::new(alloc);
         if states.insert_full(first).is_err() {
@@ -93,7 +81,7 @@ impl Search {
             rosters,
             states,
             last_steps: Vec::new(alloc),
-            tries: 0,
+            tally: Tally::new(alloc, ons)?,
         })
     }
 
@@ -103,7 +91,7 @@ impl Search {
             → IsFrom d self.old ns n step.before → IsTry d.rules.moves step t
             → Kept self.old.laboratory self.old.rosters (names_in d.rules) state c
             → Comes d ns (with_reached (is_known c (known_in ns)) d.most (record { state = c; path = t ∷ n.path })
-            (round_in d self.old.tries ns)) h self.new) }
+            (round_in d (tally_of self.old) ns)) h self.new) }
     {
         if self.states.contains(&state) {
             return Ok(None);
@@ -129,8 +117,8 @@ impl Search {
         requires { CanStep self.old candidate.now step }
         ensures { IfOk result (λ a. (d : Depth) (ns : List Node) (n : Node) (m : rule.Move)
             → TriesMove d self.old ns n m candidate.now step.before step.chosen → CanCut n.state step.manner
-            → Attempts (IsMissed n.state m step.manner) (IsMade n.state m step.manner) d ns (round_in d self.old.tries ns)
-            (tries_from d n (try_value m step.manner ∷ []) (round_in d self.old.tries ns)) a self.new) }
+            → Attempts (IsMissed n.state m step.manner) (IsMade n.state m step.manner) d ns (round_in d (tally_of self.old) ns)
+            (tries_from d n (try_value m step.manner ∷ []) (round_in d (tally_of self.old) ns)) a self.new) }
     {
         let Some(state) = self.states.get_index(step.before) else {
             return Err(NoMemory);
@@ -146,11 +134,11 @@ impl Search {
         match tried {
             Tried::NotHit => Ok(Attempt::NotHit),
             Tried::Broken(allowance) => {
-                self.tries = sum_of(self.tries, 1)?;
+                self.tally.count(&self.laboratory.counts)?;
                 Ok(Attempt::Halts(Halt::Broken(allowance, step)))
             }
             Tried::Reached(state) => {
-                self.tries = sum_of(self.tries, 1)?;
+                self.tally.count(&self.laboratory.counts)?;
                 match self.keep(state, step)? {
                     None => Ok(Attempt::GoesOn),
                     Some(halt) => Ok(Attempt::Halts(halt)),
@@ -175,8 +163,8 @@ impl Search {
         ensures { IfOk result (λ a. (d : Depth) (ns : List Node) (n : Node) (m : rule.Move)
             → TriesMove d self.old ns n m candidate.now before chosen → is_running n.state.live ≡ true
             → Attempts (writes_of (play_of n.state) m ≤ made) (made < writes_of (play_of n.state) m) d ns
-            (round_in d self.old.tries ns)
-            (tries_from d n (try_value m (Manner.Cut made fill) ∷ []) (round_in d self.old.tries ns)) a self.new) }
+            (round_in d (tally_of self.old) ns)
+            (tries_from d n (try_value m (Manner.Cut made fill) ∷ []) (round_in d (tally_of self.old) ns)) a self.new) }
     {
         let manner = Manner::Cut { made, fill };
         let step = Step {
@@ -202,7 +190,7 @@ impl Search {
         ensures { IfOk result (λ a. (d : Depth) (ns : List Node) (n : Node) (m : rule.Move)
             → TriesMove d self.old ns n m candidate.now before chosen → is_running n.state.live ≡ true
             → Attempts (writes_of (play_of n.state) m ≤ made) (made < writes_of (play_of n.state) m) d ns
-            (round_in d self.old.tries ns) (tries_from d n (cuts_at m (made + 1)) (round_in d self.old.tries ns))
+            (round_in d (tally_of self.old) ns) (tries_from d n (cuts_at m (made + 1)) (round_in d (tally_of self.old) ns))
             a self.new) }
     {
         match self.cut_with(alloc, candidate, before, chosen, made, Fill::Zeros, steps)? {
@@ -230,7 +218,7 @@ impl Search {
         ensures { IfOk result (λ h. (d : Depth) (ns : List Node) (n : Node) (m : rule.Move)
             → TriesMove d self.old ns n m candidate.now before chosen → is_running n.state.live ≡ true
             → Comes d ns (tries_from d n (tries_in m (cuts_from 1 (writes_of (play_of n.state) m)))
-            (round_in d self.old.tries ns)) h self.new) }
+            (round_in d (tally_of self.old) ns)) h self.new) }
     {
         for made in 0..u32::MAX {
             match self.cut_at(alloc, candidate, before, chosen, made, steps)? {
@@ -265,7 +253,7 @@ impl Search {
         requires { CanTryMove self.old candidate.now before chosen }
         ensures { IfOk result (λ h. (d : Depth) (ns : List Node) (n : Node) (m : rule.Move)
             → TriesMove d self.old ns n m candidate.now before chosen
-            → Comes d ns (tries_from d n (tries_with n.state m) (round_in d self.old.tries ns)) h self.new) }
+            → Comes d ns (tries_from d n (tries_with n.state m) (round_in d (tally_of self.old) ns)) h self.new) }
     {
         let step = Step {
             before,
@@ -294,7 +282,7 @@ impl Search {
         requires { CanTryMoves self.old exploration.now.rules applications.now before }
         ensures { IfOk result (λ h. (d : Depth) (ns : List Node) (n : Node) → IsFrom d self.old ns n before
             → AreCandidates d.rules exploration.now.rules applications.now
-            → Comes d ns (tries_from d n (tries_of d.rules.moves n.state) (round_in d self.old.tries ns)) h self.new) }
+            → Comes d ns (tries_from d n (tries_of d.rules.moves n.state) (round_in d (tally_of self.old) ns)) h self.new) }
     {
         let ons = exploration.rules.ons.as_slice();
         for (chosen, listed) in exploration.rules.moves.iter().enumerate() {
@@ -332,7 +320,7 @@ impl Search {
         requires { CanTryStates self.old exploration.now.rules applications.now from to }
         ensures { IfOk result (λ h. (d : Depth) (ns : List Node) → Holds d self.old ns → from ≤ to → to ≡ length ns
             → AreCandidates d.rules exploration.now.rules applications.now
-            → Comes d ns (round_of_states d.most d.rules (drop from ns) (round_in d self.old.tries ns)) h self.new) }
+            → Comes d ns (round_of_states d.most d.rules (drop from ns) (round_in d (tally_of self.old) ns)) h self.new) }
     {
         for before in from..to {
             let halt = self.try_moves(alloc, exploration, applications, before, steps)?;

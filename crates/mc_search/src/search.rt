@@ -44,7 +44,8 @@ fn start<L: Ledger>(
         first,
         lead,
     } = begin(alloc, exploration, steps)?;
-    let search = Search::new(alloc, limit, laboratory, rosters, first)?;
+    let ons = exploration.rules.ons.len();
+    let search = Search::new(alloc, limit, laboratory, rosters, first, ons)?;
     let ran = ran_before(search.runs(0), lead.power);
     Ok((search, Start { lead, ran }))
 }
@@ -81,11 +82,11 @@ pub fn explore_within<T: Sink, L: Ledger>(
         let new = search.states.len().saturating_sub(to);
         put_depth(out, done + 1, new)?;
         if new == 0 {
-            return search.report_kept(None, out);
+            return search.report_kept(exploration, None, out);
         }
         from = to;
     }
-    search.report_kept(Some(depth), out)
+    search.report_kept(exploration, Some(depth), out)
 }
 
 /// Explores a deck with its rules, at most `depth` moves deep, and writes a line for each depth when it is done,
@@ -93,7 +94,7 @@ pub fn explore_within<T: Sink, L: Ledger>(
 ///
 /// The exploration is one that `read_exploration` of `mc_rules` returned: its rules are those of a text, each move is a
 /// line to the card, and each allowance has a name of its own. What is written is the text of the definition
-/// (`explore_text`), and the result says whether it is that of a broken rule; after an error it is a prefix of it.
+/// (`explore_text`), and the result says how it ends; after an error it is a prefix of it.
 ///
 /// It plays on a device in memory of 8,192 words. It keeps at most 1,000,000 states, and ends with the sums when
 /// there is one more. Memory is allocated as states are found, so it may be out of memory after lines that it has

@@ -10,9 +10,10 @@ ghost use Rattle.mc_key.specs.Shown.{IsShown, ShowsSome};
 ghost use Rattle.mc_model_play.specs.Play.{Step};
 ghost use Rattle.mc_explore.specs.Rules.{AtResult};
 ghost use Rattle.mc_explore.specs.Matching.{plain};
-ghost use Rattle.mc_explore.specs.Tries.{allowances_after};
-ghost use Rattle.mc_rules.specs.Occasions.{counts_after, AreSpent};
+ghost use Rattle.mc_explore.specs.Tries.{allowances_after, times};
+ghost use Rattle.mc_rules.specs.Occasions.{capped, counts_after, AreSpent};
 ghost use Rattle.mc_search.specs.Kept.{CanBeTried, IsCandidate, Kept, KeepsKept, SpendsFrom, TryIs, runs_now};
+ghost use Rattle.mc_search.specs.Tallies.{CountsTry};
 ghost use Rattle.mc_search.specs.Trying.{CanCut, TriedAs};
 
 use crate::journey::Manner;
@@ -78,9 +79,12 @@ fn spend(
     amounts: &mut [u32],
 ) -> Option<usize>
     requires { array_vec_len text.now ≤ 8210 }
-    ensures { (held a : List (List ℕ × ℕ)) (rs : List rule.OnRule) (m : rule.Move) (t : Step)
+    ensures spent { (held a : List (List ℕ × ℕ)) (rs : List rule.OnRule) (m : rule.Move) (t : Step)
         → SpendsFrom held a rs m t candidate.now text.now.items counts.old amounts.old
         → AreSpent held result amounts.new (allowances_after rs m t a) }
+    ensures counted { (held a : List (List ℕ × ℕ)) (rs : List rule.OnRule) (m : rule.Move) (t : Step)
+        → SpendsFrom held a rs m t candidate.now text.now.items counts.old amounts.old
+        → counts.new ≡ map (λ r. capped (times r m t)) rs }
 {
     count_result(candidate, text, room, counts);
     apply_all(candidate.ons, counts, amounts)
@@ -157,6 +161,11 @@ impl Laboratory {
             → Kept self.old rosters.old (map (λ a. a.0) held) state.now c → IsCandidate held ons m candidate.now
             → CanCut c manner
             → IfOk result (TryIs self.new rosters.new (map (λ a. a.0) held) ons c m manner) }
+        // The counts are how many times each `on` line applies.
+        ensures counted { (held : List (List ℕ × ℕ)) (ons : List rule.OnRule) (c : model.CardState) (m : rule.Move)
+            → Kept self.old rosters.old (map (λ a. a.0) held) state.now c → IsCandidate held ons m candidate.now
+            → CanCut c manner
+            → IfOk result (CountsTry self.new ons c m manner) }
     {
         let Some(saved) = rosters.saved(state.card) else {
             return Err(NoMemory);

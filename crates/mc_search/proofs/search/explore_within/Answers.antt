@@ -3,7 +3,7 @@ use Rattle.mc_search.proofs.DepthLemmas.{candidates_of, depth_comes, depth_end, 
 use Rattle.mc_search.proofs.search.explore_within.Goals as goal
 
 pub loop-done-init : goal.loop-done-init
-loop-done-init g c = λ x h. let s = c.in_ok-search.ensures x h in depth_first x c.args.limit c.args.depth c.in_ok-search.search _ s.holds s.tries
+loop-done-init g c = λ x h. let s = c.in_ok-search.ensures x h in depth_first x c.args.limit c.args.depth c.in_ok-search.search _ s.holds s.tally
 
 pub returns-in_err-halt : goal.returns-in_err-halt
 returns-in_err-halt g c =
@@ -36,7 +36,7 @@ returns-then-new-eq0 g c =
     let comes = depth_comes x c.args.limit c.args.depth c.loop-done.done c.loop-done.from c.len-to.result c.loop-done.search c.try_states.new.self _ _ c.in_ok-halt.halt c.args.exploration.now.rules c.as_slice.result.now k c.len-to.ensures.len can c.in_ok-halt.ensures in
     let count : c.saturating_sub-new.result ≡ length c.try_states.new.self.states.keys - length c.loop-done.search.states.keys = omega (arith, c.saturating_sub-new.ensures, c.len.ensures.len, c.len-to.ensures.len) in
     depth_last x c.args.limit c.args.depth c.loop-done.done c.loop-done.from c.loop-done.search c.try_states.new.self _ _ k c.loop-done-test.true c.in_ok-halt.halt c.saturating_sub-new.result _ _ c.report_kept.result c.in_default.is comes count
-    c.if-new-eq0.true c.in_ok-put_depth.ensures c.report_kept.ensures
+    c.if-new-eq0.true c.in_ok-put_depth.ensures (c.report_kept.ensures x h)
 
 pub loop-done-preserved : goal.loop-done-preserved
 loop-done-preserved g c =
@@ -50,7 +50,7 @@ loop-done-preserved g c =
 
 pub returns : goal.returns
 returns g c =
-    λ x h. depth_end x c.args.limit c.args.depth c.loop-done.done c.loop-done.from c.loop-done.search _ _ _ c.report_kept-2.result (c.loop-done.invariant x h) (omega (arith, c.loop-done.auto.done-end, c.loop-done-test.false)) c.report_kept-2.ensures
+    λ x h. depth_end x c.args.limit c.args.depth c.loop-done.done c.loop-done.from c.loop-done.search _ _ _ c.report_kept-2.result (c.loop-done.invariant x h) (omega (arith, c.loop-done.auto.done-end, c.loop-done-test.false)) (c.report_kept-2.ensures x h)
 
 pub try_states-requires : goal.try_states-requires
 try_states-requires g c =

@@ -1,7 +1,7 @@
 use Rattle.std.proofs.Common.{List}
 use Rattle.mc_explore.specs.Tries.{tries_of}
 use Rattle.mc_explore.specs.Search.{Node}
-use Rattle.mc_search.specs.Rounds.{round_in, tries_from, Ahead, AreCandidates, Depth, IsFrom}
+use Rattle.mc_search.specs.Rounds.{round_in, tally_of, tries_from, Ahead, AreCandidates, Depth, IsFrom}
 use Rattle.mc_search.proofs.CourseLemmas.{moves_left}
 use Rattle.mc_search.proofs.rounds.Search.try_moves.Given as goal
 
@@ -9,4 +9,4 @@ use Rattle.mc_search.proofs.rounds.Search.try_moves.Given as goal
 abbrev pub invariant-loop-chosen : goal.invariant-loop-chosen
 invariant-loop-chosen g l =
     (d : Depth) (ns : List Node) (n : Node) → IsFrom d l.fn.self ns n l.before → AreCandidates d.rules l.exploration.rules l.applications
-    → Ahead d ns l.self (moves_left d n l.chosen) (tries_from d n (tries_of d.rules.moves n.state) (round_in d l.fn.self.tries ns))
+    → Ahead d ns l.self (moves_left d n l.chosen) (tries_from d n (tries_of d.rules.moves n.state) (round_in d (tally_of l.fn.self) ns))

@@ -1,5 +1,5 @@
 use Rattle.std.proofs.Common.{◌+◌, arith, sym, ◌∙◌}
-use Rattle.mc_search.specs.Rounds.{round_in}
+use Rattle.mc_search.specs.Rounds.{round_in, tally_of}
 use Rattle.mc_search.proofs.AlikeLemmas.{get_within}
 use Rattle.mc_search.proofs.RoundLemmas.{found_later}
 use Rattle.mc_search.proofs.CourseLemmas.{ahead_start, states_left, states_none, states_split, step_goes, step_halts, steps_end}
@@ -14,7 +14,7 @@ returns-then-is_some g c =
     let a = c.loop-before.invariant d ns h b e k in
     let i = c.loop-before.before in
     let n = get_within ns i (omega (arith, e, c.loop-before-test.true)) in
-    step_halts d ns c.loop-before.self (states_left d ns i) _ a c.try_moves.new.self (states_left d ns (i + 1)) _ c.in_ok-halt.halt (states_split d ns n.0 i (round_in d c.loop-before.self.tries a.all) n.1)
+    step_halts d ns c.loop-before.self (states_left d ns i) _ a c.try_moves.new.self (states_left d ns (i + 1)) _ c.in_ok-halt.halt (states_split d ns n.0 i (round_in d (tally_of c.loop-before.self) a.all) n.1)
     (sym c.is_some.ensures ∙ c.if-is_some.true) (c.in_ok-halt.ensures d a.all n.0 (record { holds = a.holds; found = found_later ns a.all i n.0 a.grew n.1 }) k)
 
 pub loop-before-preserved : goal.loop-before-preserved
@@ -23,7 +23,7 @@ loop-before-preserved g c =
     let a = c.loop-before.invariant d ns h b e k in
     let i = c.loop-before.before in
     let n = get_within ns i (omega (arith, e, c.loop-before-test.true)) in
-    step_goes d ns c.loop-before.self (states_left d ns i) _ a c.try_moves.new.self (states_left d ns (i + 1)) _ c.in_ok-halt.halt (states_split d ns n.0 i (round_in d c.loop-before.self.tries a.all) n.1)
+    step_goes d ns c.loop-before.self (states_left d ns i) _ a c.try_moves.new.self (states_left d ns (i + 1)) _ c.in_ok-halt.halt (states_split d ns n.0 i (round_in d (tally_of c.loop-before.self) a.all) n.1)
     (sym c.is_some.ensures ∙ c.if-is_some.false) (c.in_ok-halt.ensures d a.all n.0 (record { holds = a.holds; found = found_later ns a.all i n.0 a.grew n.1 }) k)
 
 pub returns : goal.returns
@@ -31,7 +31,7 @@ returns g c =
     λ d ns h b e k.
     let a = c.loop-before.invariant d ns h b e k in
     steps_end d ns c.loop-before.self (states_left d ns c.loop-before.before) _ a
-    (states_none d ns c.loop-before.before (round_in d c.loop-before.self.tries a.all) (omega (arith, e, c.loop-before-test.false)))
+    (states_none d ns c.loop-before.before (round_in d (tally_of c.loop-before.self) a.all) (omega (arith, e, c.loop-before-test.false)))
 
 pub try_moves-requires : goal.try_moves-requires
 try_moves-requires g c =
