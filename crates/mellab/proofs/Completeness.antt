@@ -2,19 +2,20 @@
 use Rattle.std.proofs.Common.{◌≡◌, ℕ, Option, Some, None, IfSome, subst}
 use Rattle.mc_model_device.specs.Counts.{Rose}
 use Rattle.mc_filter.proofs.Statuses.{same_status, written_whole}
-use Rattle.mc_filter.proofs.Outside.{all_stands, complete}
+use Rattle.mc_filter.proofs.Outside.{all_stands, complete_part}
 use Rattle.mc_filter.specs.Inputs.{TookLimited}
 use Rattle.mc_filter.specs.Statuses.{number_of}
 use Rattle.mc_filter.specs.Outside.{IsWithoutFault, Outside, SaysReadFault}
 use Rattle.mellab.specs.declared.job.Job.{Job}
 use Rattle.mc_filter.specs.declared.status.Status.{Status}
-use Rattle.mc_filter.specs.declared.status.Status.TheVariants.{Failed}
-use Rattle.mellab.specs.Verdicts.{LabVerdict, Reports, Refusal}
+use Rattle.mc_filter.specs.declared.status.Status.TheVariants.{Failed, Partial}
+use Rattle.mellab.specs.Verdicts.{LabVerdict, Reports, ReportsPart, Refusal}
 use Rattle.mellab.specs.Statuses.{status_by, status_of, IsTextWritten, IsVerdictOfJob, MellabCompletes, MellabDone, MellabStops, MellabWhole, MellabSays}
 
 -- the text of the verdict was written completely
 done_whole : (v : LabVerdict) (s : Status) (a : Outside) → (Rose a.out_old.faults a.out.faults → ⊥) → IsTextWritten v s a → s ≡ status_of v
 done_whole (Reports text well) s a quiet d = written_whole a.out_old a.out text (status_by well) s d.result quiet d.status d.written
+done_whole (ReportsPart text) s a quiet d = written_whole a.out_old a.out text Partial s d.result quiet d.status d.written
 done_whole (Refusal line) s a quiet d = written_whole a.out_old a.out line Failed s d.result quiet d.status d.written
 
 whole : (work : Job) (a : Outside) (s : Status) → IsWithoutFault a → MellabDone work a s → MellabWhole work a s
@@ -28,7 +29,7 @@ whole work a s quiet says =
 
 completes : (s : Status) (work : Job) (a : Outside) → MellabSays s (Some work) a → MellabCompletes s work a
 completes s work a says =
-    complete (MellabDone work a) (MellabWhole work a) (SaysReadFault (TookLimited a.input_old a.input) a) (MellabStops work a) a s (whole work a) (λ f. f.cause) says
+    complete_part (MellabDone work a) (MellabWhole work a) (SaysReadFault (TookLimited a.input_old a.input) a) (MellabStops work a) a s (whole work a) (λ f. f.cause) says
 
 -- a job is complete at the number of a status, for the job that the words select
 pub complete_at : (form : Option Job) (s t : Status) (a : Outside) (n : ℕ) → n ≡ number_of s → n ≡ number_of t → MellabSays s form a → IfSome form (λ work. MellabCompletes t work a)

@@ -1,16 +1,16 @@
 -- A deck with its rules that was read is one of the definition, and what its exploration comes to.
-use Rattle.std.specs.Prelude.{◌≡◌, ℕ, not, List, Result, Ok, Err}
-use Rattle.std.proofs.Common.{ap, inr, refl, subst, sym}
-use Rattle.mc_streams.specs.declared.refusals.WriteFault.{WriteFault as Fault}
+use Rattle.std.specs.Prelude.{◌≡◌, ℕ, true, false, List, Result, Ok, Err}
+use Rattle.std.proofs.Common.{ap, inr, refl, subst, sym, ◌∙◌}
+use Rattle.mc_text.specs.Texts.{Fails}
 use Rattle.mc_explore.specs.Rules as rule
 use Rattle.mc_explore.specs.Rules.{exploration_read}
-use Rattle.mc_explore.specs.Search.{most_states, search_of}
+use Rattle.mc_explore.specs.Search.{Ending, All, AtDepth, Broken, TooMany, most_states, search_of}
 use Rattle.mc_explore_text.specs.Report.{explore_text}
 use Rattle.mc_explore.proofs.ReadRules.{moves_of_exploration}
 use Rattle.mc_rules.specs.Meanings.{IsExplorationRead}
 use Rattle.mc_rules.specs.declared.reading.Exploration.{Exploration}
 use Rattle.mc_search.specs.Kept.{IsExplorationOf}
-use Rattle.mc_search.specs.Endings.{is_broken, IsExplored}
+use Rattle.mc_search.specs.Endings.{explored_as, IsExplored, WritesFront}
 use Rattle.mc_search.specs.declared.endings.Explored.{Explored}
 use Rattle.mc_search.specs.declared.endings.Explored.TheVariants as explored
 use Rattle.mc_search.specs.declared.endings.SearchFault.{SearchFault}
@@ -18,10 +18,11 @@ use Rattle.mc_search.specs.declared.endings.SearchFault.TheVariants as fault
 use Rattle.mc_filter.specs.Inputs.{ReadWhole}
 use Rattle.mc_filter.specs.Outside.{IsRead, Outside}
 use Rattle.mc_filter.specs.declared.status.Status.{Status}
+use Rattle.mc_filter.specs.declared.status.Status.TheVariants.{WriteFault}
 use Rattle.mellab.specs.declared.job.Job.TheVariants as job
-use Rattle.mellab.specs.Verdicts.{Reports, Refusal, exploration_verdict}
+use Rattle.mellab.specs.Verdicts.{LabVerdict, Reports, ReportsPart, Refusal, ending_verdict, exploration_verdict, text_of_verdict, verdict_of}
 use Rattle.mellab.specs.Running.{status_explored}
-use Rattle.mellab.specs.Statuses.{status_by, IsVerdictOfJob, MellabEnds}
+use Rattle.mellab.specs.Statuses.{IsTextWritten, IsVerdictOfJob, MellabEnds}
 
 -- ---- the deck and its rules
 
@@ -40,42 +41,62 @@ read_as text e h = read_by text e (exploration_read text) (λ x s. s) h
 
 -- ---- the end
 
-module _ (depth : ℕ) (a : Outside) (input : List ℕ) (x : rule.Exploration) (read : ReadWhole a.input_old a.input input) (is : exploration_read input ≡ Ok x) where
-  -- the verdict that is due
-  due : IsRead Refusal (IsVerdictOfJob (job.Explore depth)) a.input_old a.input (Reports (explore_text depth x) (not (is_broken (search_of most_states depth x).ending)))
-  due = inr (record { input = input; read = read; is = sym (ap (exploration_verdict depth) is) })
+-- the verdict on an exploration, by its text and how it ended
+abbrev verdict_by : List ℕ → Explored → LabVerdict
+verdict_by text explored.All = Reports text true
+verdict_by text explored.Partial = ReportsPart text
+verdict_by text explored.Broken = Reports text false
 
-  ends_as : (r : Result Explored SearchFault) → IsExplored a.out_old (explore_text depth x) (search_of most_states depth x).ending r a.out → MellabEnds (job.Explore depth) a (status_explored r)
-  ends_as (Ok explored.Kept) h =
-      record {
-        verdict = Reports (explore_text depth x) (not (is_broken (search_of most_states depth x).ending));
-        due = due;
-        done = record { result = Ok tt; status = ap (λ b. status_by (not b)) h.ending; written = h.text };
-      }
+verdict_is : (text : List ℕ) (end : Ending) → ending_verdict text end ≡ verdict_by text (explored_as end)
+verdict_is text All = refl
+verdict_is text (AtDepth d) = refl
+verdict_is text (Broken name path) = refl
+verdict_is text (TooMany d) = refl
+
+module _ (depth : ℕ) (a : Outside) (input : List ℕ) (x : rule.Exploration) (read : ReadWhole a.input_old a.input input) (is : exploration_read input ≡ Ok x) where
+  abbrev text : List ℕ
+  text = explore_text depth x
+
+  abbrev end : Ending
+  end = (search_of most_states depth x).ending
+
+  verdict : verdict_of (job.Explore depth) input ≡ ending_verdict text end
+  verdict = ap (exploration_verdict depth) is
+
+  -- the verdict that is due
+  due : (e : Explored) → e ≡ explored_as end → IsRead Refusal (IsVerdictOfJob (job.Explore depth)) a.input_old a.input (verdict_by text e)
+  due e how = inr (record { input = input; read = read; is = ap (verdict_by text) how ∙ sym (verdict ∙ verdict_is text end) })
+
+  failed : (v : LabVerdict) → Fails a.out_old (text_of_verdict v) a.out → IsTextWritten v WriteFault a
+  failed (Reports t well) w = record { result = Err (record {}); status = refl; written = w }
+  failed (ReportsPart t) w = record { result = Err (record {}); status = refl; written = w }
+  failed (Refusal t) w = record { result = Err (record {}); status = refl; written = w }
+
+  same_text : (e : Explored) → text_of_verdict (verdict_by text e) ≡ text
+  same_text explored.All = refl
+  same_text explored.Partial = refl
+  same_text explored.Broken = refl
+
+  verdict_text : text_of_verdict (verdict_of (job.Explore depth) input) ≡ text
+  verdict_text = ap text_of_verdict (verdict ∙ verdict_is text end) ∙ same_text (explored_as end)
+
+  ends_as : (r : Result Explored SearchFault) → IsExplored a.out_old text end r a.out → MellabEnds (job.Explore depth) a (status_explored r)
+  ends_as (Ok explored.All) h =
+      record { verdict = verdict_by text explored.All; due = due explored.All h.ending; done = record { result = Ok tt; status = refl; written = h.text } }
+  ends_as (Ok explored.Partial) h =
+      record { verdict = verdict_by text explored.Partial; due = due explored.Partial h.ending; done = record { result = Ok tt; status = refl; written = h.text } }
   ends_as (Ok explored.Broken) h =
-      record {
-        verdict = Reports (explore_text depth x) (not (is_broken (search_of most_states depth x).ending));
-        due = due;
-        done = record { result = Ok tt; status = ap (λ b. status_by (not b)) h.ending; written = h.text };
-      }
+      record { verdict = verdict_by text explored.Broken; due = due explored.Broken h.ending; done = record { result = Ok tt; status = refl; written = h.text } }
   ends_as (Err fault.WriteFault) h =
-      let failed : Fault = record {} in
+      let e = explored_as end in
       record {
-        verdict = Reports (explore_text depth x) (not (is_broken (search_of most_states depth x).ending));
-        due = due;
-        done = record { result = Err failed; status = refl; written = h.text };
+        verdict = verdict_by text e;
+        due = due e refl;
+        done = failed (verdict_by text e) (subst (λ (t : List ℕ). Fails a.out_old t a.out) (sym (same_text e)) h.text);
       }
   ends_as (Err fault.NoMemory) h =
-      inr
-      (record {
-        input = input;
-        read = read;
-        text = explore_text depth x;
-        well = not (is_broken (search_of most_states depth x).ending);
-        is = ap (exploration_verdict depth) is;
-        written = h.text;
-      })
+      inr (record { input = input; read = read; written = subst (λ (t : List ℕ). WritesFront a.out_old t a.out) (sym verdict_text) h.text })
 
   -- an exploration ended
-  pub ends_explored : (r : Result Explored SearchFault) (s : Status) → s ≡ status_explored r → IsExplored a.out_old (explore_text depth x) (search_of most_states depth x).ending r a.out → MellabEnds (job.Explore depth) a s
+  pub ends_explored : (r : Result Explored SearchFault) (s : Status) → s ≡ status_explored r → IsExplored a.out_old text end r a.out → MellabEnds (job.Explore depth) a s
   ends_explored r s e h = subst (λ (t : Status). MellabEnds (job.Explore depth) a t) (sym e) (ends_as r h)

@@ -11,20 +11,22 @@ use Rattle.mellab.specs.declared.job.Job.TheVariants as job
 use Rattle.mc_filter.specs.declared.rejection.Rejection.{Rejection}
 use Rattle.mc_filter.specs.declared.rejection.Rejection.TheVariants as rejection
 use Rattle.mc_filter.specs.declared.status.Status.{Status}
-use Rattle.mc_filter.specs.declared.status.Status.TheVariants.{NoForm}
+use Rattle.mc_filter.specs.declared.status.Status.TheVariants.{Done, Failed, NoForm, Partial}
 use Rattle.mellab.specs.Jobs.{usage}
-use Rattle.mellab.specs.Verdicts.{LabVerdict, Reports, Refusal}
+use Rattle.mellab.specs.Verdicts.{LabVerdict, Reports, ReportsPart, Refusal}
 use Rattle.mellab.specs.Running.{RejectsLabJob}
 use Rattle.mellab.specs.Statuses.{status_by, IsTextWritten, IsVerdictOfJob, MellabDone, MellabEnds, MellabSays, MellabStops}
 
 -- ---- what was done
 
 says_by : (work : Job) (a : Outside) (well : Bool) (r : Result (Unit {0}) Fault) (s : Status) → s ≡ status_after_writing (status_by well) r → MellabDone work a s → MellabEnds work a s
-says_by work a true r s e d = filter.says_done (MellabDone work a) (SaysReadFault (TookLimited a.input_old a.input) a) (MellabStops work a) r s e d
-says_by work a false r s e d = filter.says_refused (MellabDone work a) (SaysReadFault (TookLimited a.input_old a.input) a) (MellabStops work a) r s e d
+says_by work a true r s e d = filter.says_part (MellabDone work a) (SaysReadFault (TookLimited a.input_old a.input) a) (MellabStops work a) Done r s tt e d
+says_by work a false r s e d = filter.says_part (MellabDone work a) (SaysReadFault (TookLimited a.input_old a.input) a) (MellabStops work a) Failed r s tt e d
 
 says_verdict : (work : Job) (a : Outside) (v : LabVerdict) (s : Status) → IsRead Refusal (IsVerdictOfJob work) a.input_old a.input v → IsTextWritten v s a → MellabEnds work a s
 says_verdict work a (Reports text well) s due d = says_by work a well d.result s d.status (record { verdict = Reports text well; due = due; done = d })
+says_verdict work a (ReportsPart text) s due d =
+    filter.says_part (MellabDone work a) (SaysReadFault (TookLimited a.input_old a.input) a) (MellabStops work a) Partial d.result s tt d.status (record { verdict = ReportsPart text; due = due; done = d })
 says_verdict work a (Refusal line) s due d = says_by work a false d.result s d.status (record { verdict = Refusal line; due = due; done = d })
 
 -- a verdict whose text was written is the meaning of the status with which its writing ended

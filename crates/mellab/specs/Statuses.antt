@@ -2,15 +2,15 @@
 use Rattle.std.specs.Prelude.{◌≡◌, ◌⊎◌, ℕ, ◌==◌, Bool, true, false, List, Option, Some, None, Result, Ok, Err}
 use Rattle.mc_streams.specs.declared.refusals.WriteFault.{WriteFault as Fault}
 use Rattle.mc_filter.specs.declared.status.Status.{Status}
-use Rattle.mc_filter.specs.declared.status.Status.TheVariants.{Done, Failed, WriteFault}
+use Rattle.mc_filter.specs.declared.status.Status.TheVariants.{Done, Failed, Partial, WriteFault}
 use Rattle.mc_search.specs.Endings.{WritesFront}
 use Rattle.mc_filter.specs.Inputs.{ReadWhole, TookLimited}
 use Rattle.mc_filter.specs.Statuses.{IsWritten}
-use Rattle.mc_filter.specs.Outside.{AllStands, Completes, IsRead, IsWhole, JobSays, NoJobSays, Outside, SaysDone, SaysNoForm, SaysNoMemory, SaysReadFault}
+use Rattle.mc_filter.specs.Outside.{AllStands, Completes, IsRead, IsWhole, NoJobSays, Outside, PartJobSays, SaysDone, SaysNoForm, SaysNoMemory, SaysReadFault}
 use Rattle.mellab.specs.declared.job.Job.{Job}
 use Rattle.mellab.specs.declared.job.Job.TheVariants as job
 use Rattle.mellab.specs.Jobs.{usage}
-use Rattle.mellab.specs.Verdicts.{LabVerdict, Reports, Refusal, verdict_of}
+use Rattle.mellab.specs.Verdicts.{LabVerdict, Reports, ReportsPart, Refusal, text_of_verdict, verdict_of}
 
 -- ---- what was read, and what was done
 
@@ -31,6 +31,7 @@ status_after (Err f) = WriteFault
 -- the text of the verdict on an input was written
 abbrev pub IsTextWritten : LabVerdict → Status → Outside → Type 0
 IsTextWritten (Reports text well) s a = IsWritten (status_by well) text s a.out_old a.out
+IsTextWritten (ReportsPart text) s a = IsWritten Partial text s a.out_old a.out
 IsTextWritten (Refusal line) s a = IsWritten Failed line s a.out_old a.out
 
 -- a job was done, or its input was refused, or the sink failed
@@ -44,10 +45,7 @@ MellabDone job a s = SaysDone (IsRead Refusal (IsVerdictOfJob job) a.input_old a
 pub record StopsWithin (job : Job) (a : Outside) : Type 0 where
   pub input : List ℕ
   pub read : ReadWhole a.input_old a.input input
-  pub text : List ℕ
-  pub well : Bool
-  pub is : verdict_of job input ≡ Reports text well
-  pub written : WritesFront a.out_old text a.out
+  pub written : WritesFront a.out_old (text_of_verdict (verdict_of job input)) a.out
 
 -- out of memory: before the first byte was written, or for an exploration within its text
 abbrev pub MellabStops : Job → Outside → Type 0
@@ -57,7 +55,7 @@ MellabStops (job.Explore depth) a = SaysNoMemory (TookLimited a.input_old a.inpu
 
 -- the meaning of each status of a job
 abbrev pub MellabEnds : Job → Outside → Status → Type 0
-MellabEnds job a s = JobSays (MellabDone job a) (SaysReadFault (TookLimited a.input_old a.input) a) (MellabStops job a) s
+MellabEnds job a s = PartJobSays (MellabDone job a) (SaysReadFault (TookLimited a.input_old a.input) a) (MellabStops job a) s
 
 -- the meaning of each status, by the job that the words select
 abbrev pub MellabSays : Status → Option Job → Outside → Type 0
@@ -69,6 +67,7 @@ MellabSays s None a = NoJobSays (λ (t : Status). SaysNoForm usage t a) s
 -- the status if the text of a verdict is written completely
 abbrev pub status_of : LabVerdict → Status
 status_of (Reports text well) = status_by well
+status_of (ReportsPart text) = Partial
 status_of (Refusal line) = Failed
 
 -- all that is due was written

@@ -1,6 +1,6 @@
 -- The verdict on the input of a job: the text due, and whether all that is asked of it holds, or the one line that
 -- refuses the input.
-use Rattle.std.specs.Prelude.{ℕ, Bool, not, ◌==◌, List, codes, Result, Ok, Err}
+use Rattle.std.specs.Prelude.{ℕ, Bool, true, false, ◌==◌, List, codes, Result, Ok, Err}
 use Rattle.mc_model_device.specs.Device.{blank_words, device_words}
 use Rattle.mc_model_play.specs.DeckGrammar.{DeckLine, deck_read}
 use Rattle.mc_model_play.specs.declared.deck.DeckCause.{DeckCause}
@@ -8,25 +8,37 @@ use Rattle.mc_lab.specs.Expectations.{ExpectedDeck, ExpectationFault, DeckFault,
 use Rattle.mc_lab.specs.declared.remark.Mark.TheVariants as mark
 use Rattle.mc_lab.specs.Remarks.{Remark, remarks}
 use Rattle.mc_lab.specs.Sweeps.{is_whole, sweep_text}
-use Rattle.mc_explore.specs.Rules.{Exploration, exploration_read}
-use Rattle.mc_explore.specs.Search.{most_states, search_of}
+use Rattle.mc_explore.specs.Rules.{Exploration, ExplorationFault, LineFault, NoMove, NoRule, exploration_read}
+use Rattle.mc_explore.specs.Search.{Ending, All, AtDepth, Broken, TooMany, most_states, search_of}
 use Rattle.mc_explore_text.specs.Report.{explore_text}
-use Rattle.mc_search.specs.Endings.{is_broken}
 use Rattle.mc_filter.specs.Lines.{at_line, deck_line}
 use Rattle.mellab.specs.declared.job.Job.{Job}
 use Rattle.mellab.specs.declared.job.Job.TheVariants as job
 
--- a verdict: a text, and whether all expectations hold, all lines that must be whole are, or no rule is broken; or the
--- line of a refusal
+-- a verdict: a text, and whether all expectations hold, all lines that must be whole are, or no rule is broken; a text
+-- and that no rule is broken in what was tried, which is not all; or the line of a refusal
 pub data LabVerdict : Type 0 where
   Reports : (text : List ℕ) (well : Bool) → LabVerdict
+  ReportsPart : (text : List ℕ) → LabVerdict
   Refusal : (line : List ℕ) → LabVerdict
+
+-- the text of a verdict
+abbrev pub text_of_verdict : LabVerdict → List ℕ
+text_of_verdict (Reports text well) = text
+text_of_verdict (ReportsPart text) = text
+text_of_verdict (Refusal line) = line
 
 -- the line of a refusal: a refused line of a deck, an expectation without a result, or a deck without expectations
 abbrev pub fault_line : ExpectationFault → List ℕ
 fault_line (DeckFault n c) = deck_line (n, c)
 fault_line (NoAnswer n) = at_line n (codes "NoAnswer")
 fault_line NoExpectation = at_line 0 (codes "NoExpectation")
+
+-- the line of a refusal: a refused line of a deck or of its rules, or a deck that tests nothing
+abbrev pub exploration_fault_line : ExplorationFault → List ℕ
+exploration_fault_line (LineFault n c) = deck_line (n, c)
+exploration_fault_line NoMove = at_line 0 (codes "NoMove")
+exploration_fault_line NoRule = at_line 0 (codes "NoRule")
 
 -- ---- jobs
 
@@ -42,11 +54,18 @@ abbrev pub sweep_verdict : List Remark → Result (List (ℕ × DeckLine)) (ℕ 
 sweep_verdict marks (Ok ls) = Reports (sweep_text marks ls) (is_whole marks ls)
 sweep_verdict marks (Err e) = Refusal (deck_line e)
 
--- the verdict on the exploration of a deck with its rules to a depth: whether no rule is broken in what is
--- explored
-abbrev pub exploration_verdict : ℕ → Result Exploration (ℕ × DeckCause) → LabVerdict
-exploration_verdict depth (Ok x) = Reports (explore_text depth x) (not (is_broken (search_of most_states depth x).ending))
-exploration_verdict depth (Err e) = Refusal (deck_line e)
+-- the verdict on an exploration, by its text and the end of its search
+abbrev pub ending_verdict : List ℕ → Ending → LabVerdict
+ending_verdict text All = Reports text true
+ending_verdict text (AtDepth d) = ReportsPart text
+ending_verdict text (Broken name path) = Reports text false
+ending_verdict text (TooMany d) = ReportsPart text
+
+-- the verdict on the exploration of a deck with its rules to a depth: whether no rule is broken in what is explored, and
+-- whether that is all
+abbrev pub exploration_verdict : ℕ → Result Exploration ExplorationFault → LabVerdict
+exploration_verdict depth (Ok x) = ending_verdict (explore_text depth x) (search_of most_states depth x).ending
+exploration_verdict depth (Err e) = Refusal (exploration_fault_line e)
 
 -- the verdict on an input within the limit
 abbrev pub verdict_of : Job → List ℕ → LabVerdict

@@ -10,9 +10,8 @@ ghost use Rattle.mellab.specs.Running.{refused_exploration, status_explored, Rej
 ghost use Rattle.mellab.specs.Statuses.{MellabEnds};
 
 use mc_base::Steps;
-use mc_deck::DeckRefusal;
 use mc_filter::{Rejection, Status, read_input, refused};
-use mc_rules::{Exploration, read_exploration};
+use mc_rules::{Exploration, ExplorationRefusal, read_exploration};
 use mc_search::{Explored, SearchFault, explore};
 use mc_streams::{Sink, Source};
 use std::alloc::Global;
@@ -25,8 +24,15 @@ fn exploration_of(alloc: Global, text: &[u8]) -> Result<Exploration<'_>, Rejecti
 {
     match read_exploration(alloc, text) {
         Ok(exploration) => Ok(exploration),
-        Err(DeckRefusal::At(number, cause)) => Err(refused(alloc, "line", number, cause.word())),
-        Err(DeckRefusal::NoMemory) => Err(Rejection::NoMemory),
+        Err(ExplorationRefusal::Line(number, cause)) => Err(refused(
+            alloc,
+            "line",
+            number,
+            cause.word(),
+        )),
+        Err(ExplorationRefusal::NoMove) => Err(refused(alloc, "line", 0, "NoMove")),
+        Err(ExplorationRefusal::NoRule) => Err(refused(alloc, "line", 0, "NoRule")),
+        Err(ExplorationRefusal::NoMemory) => Err(Rejection::NoMemory),
     }
 }
 
@@ -35,7 +41,8 @@ fn status_explored(explored: Result<Explored, SearchFault>) -> Status
     ensures { result ≡ status_explored explored }
 {
     match explored {
-        Ok(Explored::Kept) => Status::Done,
+        Ok(Explored::All) => Status::Done,
+        Ok(Explored::Partial) => Status::Partial,
         Ok(Explored::Broken) => Status::Failed,
         Err(SearchFault::WriteFault) => Status::WriteFault,
         Err(SearchFault::NoMemory) => Status::NoMemory,

@@ -151,7 +151,8 @@ fn run<S: Source, T: Sink, L: Ledger>(
 /// Does the job that the words select, over a source and a sink, and returns its status: 0 done, all expectations
 /// hold, each line that must be whole is or no rule is broken, 1 an expectation failed, a line is not whole, a rule
 /// is broken or the input is refused, 2 the words select no job, 3 a fault of the source, 4 a fault of the sink, 5 out
-/// of memory, in which case nothing was written, but for the first bytes of the text of an exploration.
+/// of memory, in which case nothing was written, but for the first bytes of the text of an exploration, 6 no rule is
+/// broken in what was explored, which is not all.
 ///
 /// It makes its own devices in memory, of 8,192 words.
 pub fn mellab<S: Source, T: Sink, L: Ledger>(

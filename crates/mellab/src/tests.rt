@@ -215,13 +215,48 @@ fn explored(rt: HostRuntime) -> Result<(), Fail> {
         assert!(rt; end.is(4, &BROKEN[..room]), "at {room}");
     }
     let end = ended(alloc, words, RULED, 400, &[])?;
-    assert!(rt; end.is(0, KEPT));
+    assert!(rt; end.is(6, KEPT));
     let end = ended(alloc, words, RULED, 400, &[1])?;
     assert!(rt; end.is(3, b""));
     let end = ended(alloc, words, b"format\n#@ move reboot\n", 400, &[])?;
     assert!(rt; end.is(1, b"line 2 BadLine\n"));
     let end = ended(alloc, words, b"format\n#@ move reboot\nreboot\n", 400, &[])?;
     assert!(rt; end.is(1, b"line 3 BadLine\n"));
+    Ok(())
+}
+
+// A deck that tests nothing is refused, and so is a mark without a blank; a rule that fits nothing is named.
+#[test]
+fn silent(rt: HostRuntime) -> Result<(), Fail> {
+    let alloc = rt.alloc();
+    let words = words(alloc, &["explore", "3"])?;
+    let words = words.as_slice();
+    for (deck, reported, status) in [
+        (
+            b"format\npower\n" as &[u8],
+            b"line 0 NoMove\n" as &[u8],
+            1u8,
+        ),
+        (b"format\npower\n#@ move power\n", b"line 0 NoRule\n", 1),
+        (b"format\npower\n#@move power\n", b"line 3 BadLine\n", 1),
+        (
+            b"format\npower\n#@ move power\n#@ allow a 1\n#@ on power gives mute spend a 1\n",
+            b"depth 1 states 0\nsilent line 5\nexplored states 1 tries 1 all\n",
+            0,
+        ),
+        (
+            b"format\n#@ move power\n#@ allow a 1\n#@ on power gives ready* allow a 2\n",
+            b"depth 1 states 1\ndepth 2 states 0\nexplored states 2 tries 2 all\n",
+            0,
+        ),
+    ] {
+        let end = ended(alloc, words, deck, 400, &[])?;
+        assert!(rt;
+            end.is(status, reported),
+            "{}",
+            str::from_utf8(end.text.as_slice()).unwrap_or("")
+        );
+    }
     Ok(())
 }
 
