@@ -17,5 +17,4 @@ mod SweepAccounts
 mod SweepNames
 mod SweepLoops
 mod SweepPlayers
-mod SweepRows
 mod SweepDecks

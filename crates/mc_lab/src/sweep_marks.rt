@@ -1,16 +1,10 @@
-// Lines of a sweep that must be whole, and marks that are of no swept line.
-ghost use Rattle.std.specs.Prelude.{◌≡◌, ◌<◌, ◌&&◌, [], ◌∷◌, length, IfOk, IfSome, MatchOption};
-ghost use Rattle.mc_text.specs.Texts.{sunk, Puts};
-ghost use Rattle.mc_lab.specs.Judged.{done_of};
-ghost use Rattle.mc_lab.specs.Sweeps.{are_fine, is_above, is_guarded, left_behind, rows_above, rows_text, row_unless};
-ghost use Rattle.mc_lab.specs.Remarked.{remark_value};
+// Lines of a sweep that must be whole.
+ghost use Rattle.std.specs.Prelude.{◌≡◌};
 ghost use Rattle.mc_lab.specs.Sweeps.{has_between, has_mark, is_between, is_broken_at};
 ghost use Rattle.mc_lab.specs.Remarked.{remark_values};
 
 use crate::remark::Remark;
-use crate::sweep_text::put_mark;
 use crate::sweep_word::SweepWord;
-use mc_streams::{Sink, WriteFault};
 
 // Whether a remark is about the line with a number.
 fn has_mark(marks: &[Remark<'_>], number: u32) -> bool
@@ -48,99 +42,4 @@ pub fn is_broken(marks: &[Remark<'_>], number: u32, words: &[SweepWord]) -> bool
     ensures { result ≡ is_broken_at (remark_values marks.now) number words.now }
 {
     has_mark(marks, number) && has_between(words)
-}
-
-/// The marks that are left of a deck, and the number of the last swept line above them.
-#[derive(Clone, Copy)]
-pub struct Pending<'a> {
-    pub left: &'a [Remark<'a>],
-    pub last: Option<u32>,
-}
-
-/// The marks that are left behind a line, and whether those above it are all of swept lines.
-#[derive(Clone, Copy)]
-pub struct Passed<'a> {
-    pub left: &'a [Remark<'a>],
-    pub whole: bool,
-}
-
-// Whether a mark is of a swept line, by the last of them above it.
-fn is_guarded(last: Option<u32>, mark: &Remark<'_>) -> bool
-    ensures { result ≡ is_guarded last (remark_value mark.now) }
-{
-    match last {
-        None => false,
-        Some(number) => mark.above.number == number,
-    }
-}
-
-// Whether a mark is above a line, or the end of a deck.
-fn is_above(number: Option<u32>, mark: &Remark<'_>) -> bool
-    ensures { result ≡ is_above number (remark_value mark.now) }
-{
-    match number {
-        None => true,
-        Some(number) => mark.number < number,
-    }
-}
-
-// Whether both hold.
-fn both(a: bool, b: bool) -> bool
-    ensures { result ≡ (a && b) }
-{
-    a && b
-}
-
-// Writes the line of a mark, unless it is of a swept line.
-fn put_unless<T: Sink>(out: &mut T, guarded: bool, number: u32) -> Result<(), WriteFault>
-    ensures { Puts (sunk T.Sink out.old) (rows_text [] (row_unless guarded number [])) result
-        (sunk T.Sink out.new) }
-{
-    if guarded {
-        return Ok(());
-    }
-    put_mark(out, number)
-}
-
-// Returns the first of some marks, and the others.
-fn first_mark<'a>(marks: &'a [Remark<'a>]) -> Option<(&'a Remark<'a>, &'a [Remark<'a>])>
-    ensures parts { MatchOption result (remark_values marks.now ≡ [])
-        (λ p. remark_values marks.now ≡ remark_value p.0.now ∷ remark_values p.1.now) }
-    ensures shorter { IfSome result (λ p. length p.1.now < length marks.now) }
-{
-    match marks {
-        [mark, behind @ ..] => Some((mark, behind)),
-        [] => None,
-    }
-}
-
-/// Writes the lines of the marks above a line, or the end of a deck, that are of no swept line, by the last swept line
-/// above them.
-///
-/// # Errors
-///
-/// Returns `WriteFault` if the sink fails.
-pub fn put_above<'a, T: Sink>(
-    out: &mut T,
-    number: Option<u32>,
-    last: Option<u32>,
-    marks: &'a [Remark<'a>],
-) -> Result<Passed<'a>, WriteFault>
-    ensures reported { Puts (sunk T.Sink out.old)
-        (rows_text [] (rows_above number last (remark_values marks.now))) (done_of result) (sunk T.Sink out.new) }
-    ensures left { IfOk result (λ p. remark_values p.left.now ≡ left_behind number (remark_values marks.now)) }
-    ensures whole { IfOk result (λ p. p.whole ≡ are_fine [] (rows_above number last (remark_values marks.now))) }
-{
-    let mut left = marks;
-    let mut whole = true;
-    while let Some((mark, behind)) = first_mark(left) {
-        if !is_above(number, mark) {
-            return Ok(Passed { left, whole });
-        }
-        let guarded = is_guarded(last, mark);
-        put_unless(out, guarded, mark.number)?;
-        whole = both(whole, guarded);
-        left = behind;
-    }
-    Ok(Passed { left, whole })
 }
