@@ -1,0 +1,14 @@
+// Lists that grow.
+use mc_base::NoMemory;
+
+/// Appends a value to a list.
+///
+/// # Errors
+///
+/// Returns `NoMemory` if it is out of memory.
+pub fn push<T: Drop>(list: &mut Vec<T>, value: T) -> Result<(), NoMemory> {
+    match list.push(value) {
+        Ok(()) => Ok(()),
+        Err(_) => Err(NoMemory),
+    }
+}
