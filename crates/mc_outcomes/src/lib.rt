@@ -1,0 +1,22 @@
+#![tactic(auto)]
+
+//! What each instruction can do to what is known of a frame: its outcomes.
+
+mod coarse;
+mod compute;
+mod jumps;
+mod numbers;
+mod prims;
+mod rows;
+mod shared;
+mod shifts;
+mod splitting;
+mod state;
+mod step;
+
+pub use rows::row;
+pub use state::{
+    Bounds, Call, DYNAMIC, DYNAMIC_END, Known, Last, Order, PUBLIC, PUBLIC_END, PackedKnown,
+    Registers, Sizes, State,
+};
+pub use step::Step;
