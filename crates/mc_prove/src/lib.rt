@@ -1,0 +1,19 @@
+#![tactic(auto)]
+
+//! Whether an application keeps its rules whatever a terminal sends: tables of what may be known at each place of its code
+//! and at each moment between commands, the search that fills them, and the check of the finished tables.
+
+mod balances;
+mod checking;
+mod ends;
+mod events;
+mod keys;
+mod moments;
+mod places;
+mod proving;
+mod searching;
+mod subject;
+mod tables;
+mod text;
+
+pub use proving::{Verdict, prove};
