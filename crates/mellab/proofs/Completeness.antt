@@ -9,8 +9,8 @@ use Rattle.mc_filter.specs.Outside.{IsWithoutFault, Outside, SaysReadFault}
 use Rattle.mellab.specs.declared.job.Job.{Job}
 use Rattle.mc_filter.specs.declared.status.Status.{Status}
 use Rattle.mc_filter.specs.declared.status.Status.TheVariants.{Failed, Partial}
-use Rattle.mellab.specs.Verdicts.{LabVerdict, Reports, ReportsPart, Refusal}
-use Rattle.mellab.specs.Statuses.{status_by, status_of, IsTextWritten, IsVerdictOfJob, MellabCompletes, MellabDone, MellabStops, MellabWhole, MellabSays}
+use Rattle.mellab.specs.Verdicts.{LabVerdict, Reports, ReportsPart, Refusal, IsVerdictOfJob}
+use Rattle.mellab.specs.Statuses.{status_by, status_of, IsTextWritten, MellabCompletes, MellabDone, MellabStops, MellabWhole, MellabSays}
 
 -- the text of the verdict was written completely
 done_whole : (v : LabVerdict) (s : Status) (a : Outside) → (Rose a.out_old.faults a.out.faults → ⊥) → IsTextWritten v s a → s ≡ status_of v

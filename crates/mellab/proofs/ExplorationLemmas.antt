@@ -20,9 +20,9 @@ use Rattle.mc_filter.specs.Outside.{IsRead, Outside}
 use Rattle.mc_filter.specs.declared.status.Status.{Status}
 use Rattle.mc_filter.specs.declared.status.Status.TheVariants.{WriteFault}
 use Rattle.mellab.specs.declared.job.Job.TheVariants as job
-use Rattle.mellab.specs.Verdicts.{LabVerdict, Reports, ReportsPart, Refusal, ending_verdict, exploration_verdict, text_of_verdict, verdict_of}
+use Rattle.mellab.specs.Verdicts.{LabVerdict, Reports, ReportsPart, Refusal, ending_verdict, exploration_verdict, text_of_verdict, IsVerdictOfJob}
 use Rattle.mellab.specs.Running.{status_explored}
-use Rattle.mellab.specs.Statuses.{IsTextWritten, IsVerdictOfJob, MellabEnds}
+use Rattle.mellab.specs.Statuses.{IsTextWritten, MellabEnds}
 
 -- ---- the deck and its rules
 

@@ -3,3 +3,4 @@ mod Completeness
 mod ReportedLemmas
 mod DepthLemmas
 mod ExplorationLemmas
+mod RuleLemmas

@@ -13,9 +13,9 @@ use Rattle.mc_filter.specs.declared.rejection.Rejection.TheVariants as rejection
 use Rattle.mc_filter.specs.declared.status.Status.{Status}
 use Rattle.mc_filter.specs.declared.status.Status.TheVariants.{Done, Failed, NoForm, Partial}
 use Rattle.mellab.specs.Jobs.{usage}
-use Rattle.mellab.specs.Verdicts.{LabVerdict, Reports, ReportsPart, Refusal}
+use Rattle.mellab.specs.Verdicts.{LabVerdict, Reports, ReportsPart, Refusal, IsVerdictOfJob}
 use Rattle.mellab.specs.Running.{RejectsLabJob}
-use Rattle.mellab.specs.Statuses.{status_by, IsTextWritten, IsVerdictOfJob, MellabDone, MellabEnds, MellabSays, MellabStops}
+use Rattle.mellab.specs.Statuses.{status_by, IsTextWritten, MellabDone, MellabEnds, MellabSays, MellabStops}
 
 -- ---- what was done
 
@@ -44,6 +44,7 @@ stops_early : (work : Job) (a : Outside) → SaysNoMemory (TookLimited a.input_o
 stops_early job.Expect a h = h
 stops_early job.Sweep a h = h
 stops_early (job.Explore depth) a h = inl h
+stops_early job.Prove a h = h
 
 -- a job that was rejected ended
 pub says_rejected : (work : Job) (a : Outside) (x : Sunk) (e : Rejection) (s : Status) → RejectsLabJob work (record a { out = x }) e → RejectionEnds e a.out_old s a.out → MellabSays s (Some work) a

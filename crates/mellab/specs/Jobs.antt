@@ -8,7 +8,9 @@ use Rattle.mellab.specs.declared.job.Job.TheVariants as job
 
 -- the job that a word selects
 abbrev pub job_named : List ℕ → Option Job
-job_named w = cond (bytes_eq w (codes "expect")) (Some job.Expect) (cond (bytes_eq w (codes "sweep")) (Some job.Sweep) None)
+job_named w = cond (bytes_eq w (codes "expect")) (Some job.Expect) (
+    cond (bytes_eq w (codes "sweep")) (Some job.Sweep) (cond (bytes_eq w (codes "prove")) (Some job.Prove) None)
+    )
 
 -- a number that is at least 1
 abbrev pub at_least_one : Option ℕ → Option ℕ
@@ -32,4 +34,4 @@ job_of (w ∷ d ∷ x ∷ ws) = None
 
 -- the text that is written if the words select no job
 abbrev pub usage : List ℕ
-usage = codes "usage: mellab expect | sweep | explore N\n"
+usage = codes "usage: mellab expect | sweep | explore N | prove\n"

@@ -13,8 +13,7 @@ use Rattle.mc_filter.specs.declared.rejection.Rejection.{Rejection}
 use Rattle.mc_filter.specs.declared.rejection.Rejection.TheVariants as rejection
 use Rattle.mc_filter.specs.declared.status.Status.{Status}
 use Rattle.mc_filter.specs.declared.status.Status.TheVariants.{Done, Failed, NoMemory, Partial, WriteFault}
-use Rattle.mellab.specs.Verdicts.{Refusal, exploration_fault_line, fault_line}
-use Rattle.mellab.specs.Statuses.{IsVerdictOfJob}
+use Rattle.mellab.specs.Verdicts.{Refusal, exploration_fault_line, fault_line, IsVerdictOfJob}
 
 -- the line that refuses a deck with its expectations
 abbrev pub refused_expected_deck : Result ExpectedDeck ExpectationFault → List ℕ → Type 0

@@ -10,13 +10,10 @@ use Rattle.mc_filter.specs.Outside.{AllStands, Completes, IsRead, IsWhole, NoJob
 use Rattle.mellab.specs.declared.job.Job.{Job}
 use Rattle.mellab.specs.declared.job.Job.TheVariants as job
 use Rattle.mellab.specs.Jobs.{usage}
-use Rattle.mellab.specs.Verdicts.{LabVerdict, Reports, ReportsPart, Refusal, text_of_verdict, verdict_of}
+use Rattle.mc_explore.specs.Rules.{exploration_read}
+use Rattle.mellab.specs.Verdicts.{LabVerdict, Reports, ReportsPart, Refusal, exploration_verdict, text_of_verdict, IsVerdictOfJob}
 
 -- ---- what was read, and what was done
-
--- the verdict on an input within the limit
-abbrev pub IsVerdictOfJob : Job → List ℕ → LabVerdict → Type 0
-IsVerdictOfJob job input v = v ≡ verdict_of job input
 
 -- the status of a complete text, by whether all that is asked of the deck holds
 abbrev pub status_by : Bool → Status
@@ -42,16 +39,17 @@ MellabDone job a s = SaysDone (IsRead Refusal (IsVerdictOfJob job) a.input_old a
 
 -- out of memory within an exploration: the input was read to its end, a prefix of the text that is due was written, and
 -- no call of source or sink failed
-pub record StopsWithin (job : Job) (a : Outside) : Type 0 where
+pub record StopsWithin (depth : ℕ) (a : Outside) : Type 0 where
   pub input : List ℕ
   pub read : ReadWhole a.input_old a.input input
-  pub written : WritesFront a.out_old (text_of_verdict (verdict_of job input)) a.out
+  pub written : WritesFront a.out_old (text_of_verdict (exploration_verdict depth (exploration_read input))) a.out
 
 -- out of memory: before the first byte was written, or for an exploration within its text
 abbrev pub MellabStops : Job → Outside → Type 0
 MellabStops job.Expect a = SaysNoMemory (TookLimited a.input_old a.input) a
 MellabStops job.Sweep a = SaysNoMemory (TookLimited a.input_old a.input) a
-MellabStops (job.Explore depth) a = SaysNoMemory (TookLimited a.input_old a.input) a ⊎ StopsWithin (job.Explore depth) a
+MellabStops (job.Explore depth) a = SaysNoMemory (TookLimited a.input_old a.input) a ⊎ StopsWithin depth a
+MellabStops job.Prove a = SaysNoMemory (TookLimited a.input_old a.input) a
 
 -- the meaning of each status of a job
 abbrev pub MellabEnds : Job → Outside → Status → Type 0

@@ -1,6 +1,6 @@
 -- The verdict on the input of a job: the text due, and whether all that is asked of it holds, or the one line that
 -- refuses the input.
-use Rattle.std.specs.Prelude.{ℕ, Bool, true, false, ◌==◌, List, codes, Result, Ok, Err}
+use Rattle.std.specs.Prelude.{◌≡◌, ℕ, Bool, true, false, ◌==◌, List, codes, Result, Ok, Err}
 use Rattle.mc_model_device.specs.Device.{blank_words, device_words}
 use Rattle.mc_model_play.specs.DeckGrammar.{DeckLine, deck_read}
 use Rattle.mc_model_play.specs.declared.deck.DeckCause.{DeckCause}
@@ -11,12 +11,13 @@ use Rattle.mc_lab.specs.Sweeps.{is_whole, sweep_text}
 use Rattle.mc_explore.specs.Rules.{Exploration, ExplorationFault, LineFault, NoMove, NoRule, exploration_read}
 use Rattle.mc_explore.specs.Search.{Ending, All, AtDepth, Broken, TooMany, most_states, search_of}
 use Rattle.mc_explore_text.specs.Report.{explore_text}
+use Rattle.mc_prove.specs.Reports.{IsReport}
 use Rattle.mc_filter.specs.Lines.{at_line, deck_line}
 use Rattle.mellab.specs.declared.job.Job.{Job}
 use Rattle.mellab.specs.declared.job.Job.TheVariants as job
 
--- a verdict: a text, and whether all expectations hold, all lines that must be whole are, or no rule is broken; a text
--- and that no rule is broken in what was tried, which is not all; or the line of a refusal
+-- a verdict: a text, and whether all expectations hold, all lines that must be whole are, no rule is broken, or all rules
+-- are proved; a text and that no rule is broken in what was tried, which is not all; or the line of a refusal
 pub data LabVerdict : Type 0 where
   Reports : (text : List ℕ) (well : Bool) → LabVerdict
   ReportsPart : (text : List ℕ) → LabVerdict
@@ -67,8 +68,22 @@ abbrev pub exploration_verdict : ℕ → Result Exploration ExplorationFault →
 exploration_verdict depth (Ok x) = ending_verdict (explore_text depth x) (search_of most_states depth x).ending
 exploration_verdict depth (Err e) = Refusal (exploration_fault_line e)
 
+-- the line that refuses a rule of a deck that can be read
+pub record IsRuleRefusal (line : List ℕ) : Type 0 where
+  pub number : ℕ
+  pub cause : List ℕ
+  pub is : line ≡ at_line number cause
+
+-- A verdict on the rules of a deck in every play of every deck. Its text is no definition: of a deck that can be read, a
+-- line refuses a rule, or the last line of a text is whether all rules are proved.
+abbrev pub IsProofVerdict : Result (List (ℕ × DeckLine)) (ℕ × DeckCause) → LabVerdict → Type 0
+IsProofVerdict (Ok ls) (Reports text well) = IsReport well text
+IsProofVerdict (Ok ls) (Refusal line) = IsRuleRefusal line
+IsProofVerdict (Err e) v = v ≡ Refusal (deck_line e)
+
 -- the verdict on an input within the limit
-abbrev pub verdict_of : Job → List ℕ → LabVerdict
-verdict_of job.Expect input = expectation_verdict (expected_deck_read input)
-verdict_of job.Sweep input = sweep_verdict (remarks mark.Whole input) (deck_read input)
-verdict_of (job.Explore depth) input = exploration_verdict depth (exploration_read input)
+abbrev pub IsVerdictOfJob : Job → List ℕ → LabVerdict → Type 0
+IsVerdictOfJob job.Expect input v = v ≡ expectation_verdict (expected_deck_read input)
+IsVerdictOfJob job.Sweep input v = v ≡ sweep_verdict (remarks mark.Whole input) (deck_read input)
+IsVerdictOfJob (job.Explore depth) input v = v ≡ exploration_verdict depth (exploration_read input)
+IsVerdictOfJob job.Prove input v = IsProofVerdict (deck_read input) v

@@ -15,6 +15,8 @@ pub enum Job {
     /// Tries every sequence of at most this number of moves of a deck, each move whole and cut in each of its device
     /// writes, and finds the first that breaks a rule of the deck.
     Explore(u32),
+    /// Decides whether an application keeps the rules of its deck in every play of every deck.
+    Prove,
 }
 
 // The job that one word names.
@@ -24,6 +26,7 @@ fn job_named(word: &str) -> Option<Job>
     match word {
         "expect" => Some(Job::Expect),
         "sweep" => Some(Job::Sweep),
+        "prove" => Some(Job::Prove),
         _ => None,
     }
 }

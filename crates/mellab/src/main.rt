@@ -7,6 +7,7 @@ mod examples;
 mod exploring;
 mod job;
 mod program;
+mod proving;
 mod running;
 #[cfg(test)]
 mod tests;

@@ -15,6 +15,7 @@ ghost use Rattle.mellab.specs.Statuses.{status_after, status_by, MellabCompletes
 
 use crate::exploring::explore_input;
 use crate::job::{Job, job_of};
+use crate::proving::prove_input;
 use mc_base::Steps;
 use mc_filter::{
     Rejection, Status, blank_device, deck_of, ended, number, read_input, refused, reject,
@@ -27,7 +28,7 @@ use std::alloc::Global;
 use std::sync::ledger::Ledger;
 
 // The text that is written if the words select no job.
-const USAGE: &[u8] = b"usage: mellab expect | sweep | explore N\n";
+const USAGE: &[u8] = b"usage: mellab expect | sweep | explore N | prove\n";
 
 // Reads a deck and its expectations, or returns the line that refuses them.
 fn expected_deck_of(alloc: Global, text: &[u8]) -> Result<ExpectedDeck<'_>, Rejection>
@@ -63,8 +64,8 @@ fn status_after(reported: Result<usize, WriteFault>) -> Status
     }
 }
 
-// The status of a complete text, by whether all that is asked of the deck holds.
-fn status_by(well: bool) -> Status
+/// Returns the status of a complete text, by whether all that is asked of the deck holds.
+pub fn status_by(well: bool) -> Status
     ensures { result ≡ status_by well }
 {
     if well { Status::Done } else { Status::Failed }
@@ -129,6 +130,7 @@ fn attempt<S: Source, T: Sink, L: Ledger>(
         Job::Expect => expect_input(alloc, input, out, steps),
         Job::Sweep => sweep_input(alloc, input, out, steps),
         Job::Explore(depth) => explore_input(alloc, depth, input, out, steps),
+        Job::Prove => prove_input(alloc, input, out),
     }
 }
 
@@ -149,10 +151,10 @@ fn run<S: Source, T: Sink, L: Ledger>(
 }
 
 /// Does the job that the words select, over a source and a sink, and returns its status: 0 done, all expectations
-/// hold, each line that must be whole is or no rule is broken, 1 an expectation failed, a line is not whole, a rule
-/// is broken or the input is refused, 2 the words select no job, 3 a fault of the source, 4 a fault of the sink, 5 out
-/// of memory, in which case nothing was written, but for the first bytes of the text of an exploration, 6 no rule is
-/// broken in what was explored, which is not all.
+/// hold, each line that must be whole is, no rule is broken or all rules are proved, 1 an expectation failed, a line is
+/// not whole, a rule is broken or not proved, or the input is refused, 2 the words select no job, 3 a fault of the
+/// source, 4 a fault of the sink, 5 out of memory, in which case nothing was written, but for the first bytes of the
+/// text of an exploration, 6 no rule is broken in what was explored, which is not all.
 ///
 /// It makes its own devices in memory, of 8,192 words.
 pub fn mellab<S: Source, T: Sink, L: Ledger>(

@@ -291,6 +291,63 @@ fn whole(rt: HostRuntime) -> Result<(), Fail> {
     Ok(())
 }
 
+// The text of a door that is proved.
+const PROVED: &[u8] =
+    b"idle guesses 0: SB[0] 00\nidle guesses 1: SB[0] 00-01\nidle guesses 2: SB[0] 00-02\n\
+    idle guesses 3: SB[0] 00-03\nsession guesses 0: SB[0] 00\nsession guesses 1: SB[0] 00-01\n\
+    session guesses 2: SB[0] 00-02\nsession guesses 3: SB[0] 00-03\nproved keys 114\n";
+
+// A door that takes three guesses of a byte: what its commands find first, what a guess costs, and what its rule does.
+fn door(alloc: Global, first: &str, cost: &str, effect: &str) -> Result<String, AllocError> {
+    format!(in alloc;
+        "format\npower\napp door A000000001\n{}CMPB PT[-12],0x20\nJUMP EQ,show\nEXIT\n\
+            show: TESTN SB[0],1\nJUMP EQ,done\n{}\nCMPB PB[0],7\ndone: EXIT\n\
+            gift: SETB SB[0],3\nEXIT\nDATA 03\nend\nload door 1 0\n\
+            #@ app door\n#@ allow guesses 3\n#@ on turn *CMPB PB[0],7* {} guesses 1\n#@ always SB[0] 0 3\n",
+        first, cost, effect
+    )
+}
+
+// Rules that hold in every play, one that a guess without its cost breaks, one that a command which no move lists breaks,
+// one that is refused, and a deck without an application; the first also up to a fault of the sink.
+#[test]
+fn proved(rt: HostRuntime) -> Result<(), Fail> {
+    let alloc = rt.alloc();
+    let words = words(alloc, &["prove"])?;
+    let words = words.as_slice();
+    let kept = door(alloc, "", "DECN SB[0],1", "spend")?;
+    let end = ended(alloc, words, kept.as_bytes(), 400, &[])?;
+    assert!(rt; end.is(0, PROVED));
+    let end = ended(alloc, words, kept.as_bytes(), 100, &[])?;
+    assert!(rt; end.is(4, &PROVED[..100]));
+    for (first, cost, tail) in [
+        (
+            "",
+            "NOP",
+            "broken guesses line 19 at 0010 ; CMPB PB[0],7\nnot proved keys 106\n",
+        ),
+        (
+            "CMPB PT[-12],0x99\nJUMP EQ,gift\n",
+            "DECN SB[0],1",
+            "broken guesses line 21 at 001A ; CMPB PB[0],7\nnot proved keys 180\n",
+        ),
+    ] {
+        let deck = door(alloc, first, cost, "spend")?;
+        let end = ended(alloc, words, deck.as_bytes(), 400, &[])?;
+        assert!(rt;
+            end.status == 1 && end.text.as_slice().ends_with(tail.as_bytes()),
+            "{}",
+            cost
+        );
+    }
+    let refused = door(alloc, "", "NOP", "lend")?;
+    let end = ended(alloc, words, refused.as_bytes(), 400, &[])?;
+    assert!(rt; end.is(1, b"line 19 BadLine\n"));
+    let end = ended(alloc, words, COUNTER, 400, &[])?;
+    assert!(rt; end.is(1, b"line 0 NoApplication\n"));
+    Ok(())
+}
+
 // Words that select no job: the usage line is written, and the source is unchanged.
 #[test]
 fn usage(rt: HostRuntime) -> Result<(), Fail> {
@@ -308,7 +365,8 @@ fn usage(rt: HostRuntime) -> Result<(), Fail> {
         let words = words(alloc, texts)?;
         let end = ended(alloc, words.as_slice(), FAILING, 58, &[])?;
         assert!(rt;
-            end.is(2, b"usage: mellab expect | sweep | explore N\n") && end.left == FAILING.len()
+            end.is(2, b"usage: mellab expect | sweep | explore N | prove\n")
+                && end.left == FAILING.len()
         );
     }
     Ok(())

@@ -1,0 +1,19 @@
+use Rattle.std.proofs.Common.{◌∙◌, ap, sym}
+use Rattle.mc_model_play.specs.DeckGrammar.{deck_read}
+use Rattle.mc_filter.proofs.Statuses.{puts_by}
+use Rattle.mc_filter.specs.Outside.{outside, Outside}
+use Rattle.mc_filter.specs.Statuses.{status_after_writing}
+use Rattle.mc_filter.specs.declared.status.Status.{Status}
+use Rattle.mellab.specs.Statuses.{status_by}
+use Rattle.mellab.proofs.RuleLemmas.{says_proved}
+use Rattle.mellab.proofs.proving.prove_input.Goals as goal
+
+pub returns-clause-done : goal.returns-clause-done
+returns-clause-done g c =
+    let a : Outside = outside g.S.Source g.T.Sink c.args.input.now c.read_input.new.input c.args.out.now c.put_all-written.new.sink in
+    let text = c.in_ok-verdict.verdict.text.items in
+    let is = ap deck_read (sym c.as_slice.ensures.value) ∙ c.in_ok-deck.ensures.deck in
+    let said = c.put_all-written.ensures in
+    let put = puts_by a.out_old a.out c.as_slice-3.result.now text c.put_all-written.result c.as_slice-3.ensures.value said.bytes said.fault said.part said.quiet in
+    let status = c.ended.ensures ∙ ap (λ (s : Status). status_after_writing s c.put_all-written.result) c.status_by.ensures in
+    says_proved a c.in_ok-text.text.items c.in_ok-deck.deck text c.in_ok-verdict.verdict.proved c.put_all-written.result c.ended.result c.in_ok-text.ensures.read is c.in_ok-verdict.ensures.report status put
