@@ -253,14 +253,19 @@ def played(text: str) -> str:
     return f"{text.rstrip()}\n" + "".join(f"{' '.join(it[2:])}\n" for it in moves if it[:2] == ["#@", "move"])
 
 
+def is_asked(job: str, deck: str) -> bool:
+    """Whether a deck asks something of a job: an exploration has rules and no application, a proof has one."""
+    has_rules, has_application = (re.search(rf"^[ \t]*#@[ \t]+{word}[ \t]", deck, re.MULTILINE) is not None for word in ("on", "app"))
+    return {"explore": has_rules and not has_application, "prove": has_application}.get(job, True)
+
+
 def jobs_of(deck: str, given: argparse.Namespace) -> Iterator[Tuple[List[str], int]]:
     """The jobs that the deck of the draft passes, with their statuses; the others are named on the standard error."""
     for words in (["expect"], ["sweep"], ["explore", str(given.explore)], ["prove"]):
         status, last = status_of(words, deck, given.seconds, given.no_between)
-        has_rules = words[0] != "explore" or re.search(r"^[ \t]*#@[ \t]+on[ \t]", deck, re.MULTILINE) is not None
-        if status in (0, 6) and has_rules:
+        if status in (0, 6) and is_asked(words[0], deck):
             yield words, status
-        elif status != 2 and has_rules:
+        elif status != 2 and is_asked(words[0], deck):
             print(f"mutate.py: {words[0]} is left out, since the draft does not pass it: {last}", file=sys.stderr)
 
 

@@ -17,9 +17,12 @@ COUNTED = b"1 formatted\n2 ready 0\n9 9000\n10 9000\n11 00019000\n"
 POWER_ON = b"\x01"
 SELECT = bytes.fromhex("00A4040C05A000000001")
 CARD_USAGE = b"usage: melcard play | asm | list | gen N | check | trace\n"
-LAB_USAGE = b"usage: mellab expect | sweep | explore N\n"
+LAB_USAGE = b"usage: mellab expect | sweep | explore N | prove\n"
 READER_USAGE = b"usage: melreader [DECK]\n"
 EXPECTED = COUNTER + b"#> 0001 9000\n"
+# The counter with a rule that holds in every play, and one that does not.
+RULED = COUNTER + b"#@ app counter\n#@ never abend\n"
+WRAPS = b"#@ allow wraps 0\n#@ on turn *INCN SB[0],2 8*1? spend wraps 1\n"
 # A word that is no text.
 NO_TEXT = b"\xff"
 
@@ -38,6 +41,10 @@ RUNS = [
     ("mellab", ["expect"], EXPECTED.replace(b"0001 9000", b"0002 9000"), 1,
      b"line 12 expected 0002 9000 was 0001 9000 (line 11 apdu 8001000002)\nexpected 1 failed 1\n"),
     ("mellab", ["sweep"], b"format\nreboot\n", 1, b"line 2 BadLine\n"),
+    ("mellab", ["prove"], RULED, 0, b"idle:\nsession:\nproved keys 16\n"),
+    ("mellab", ["prove"], RULED + WRAPS, 1, b"idle wraps 0:\nsession wraps 0:\nbroken wraps line 15 at 0000 ; INCN SB[0],2\nnot proved keys 10\n"),
+    ("mellab", ["prove"], RULED + WRAPS.replace(b"spend", b"lend"), 1, b"line 15 BadLine\n"),
+    ("mellab", ["prove"], COUNTER, 1, b"line 0 NoApplication\n"),
     ("mellab", [], EXPECTED, 2, LAB_USAGE),
     ("mellab", ["expect", "sweep"], EXPECTED, 2, LAB_USAGE),
     ("mellab", [NO_TEXT], EXPECTED, 2, LAB_USAGE),
