@@ -19,4 +19,10 @@ mod writing;
 
 pub use laws::checked_plays;
 pub use mc_model_text::CheckCause;
+pub use shape::{
+    Counts, Seen, call_target, goes_on, height_after, is_call, is_conditional, jump_target, look,
+    return_counts,
+};
+pub use table::{Entry, Routine};
+pub use uses::always_abends;
 pub use verdict::{Verdict, check};

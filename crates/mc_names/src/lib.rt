@@ -6,4 +6,5 @@ mod entry;
 mod listing;
 mod text;
 
+pub use entry::{Declared, Meaning, Named, label_in, named_in};
 pub use listing::names_of;

@@ -1,0 +1,24 @@
+#![tactic(auto)]
+
+//! All that is wrong with a draft, in the lines that editors read.
+
+mod column;
+mod entry;
+mod explaining;
+mod kind;
+mod lines;
+mod part;
+mod place;
+mod reach;
+mod refusals;
+mod sentence;
+#[cfg(test)]
+mod tests;
+mod text;
+mod uses;
+mod verdicts;
+mod warning;
+mod warnings;
+mod ways;
+
+pub use explaining::{Explained, explain};
