@@ -10,9 +10,8 @@ use Rattle.mc_filter.specs.declared.status.Status.{Status}
 use Rattle.mc_filter.specs.declared.status.Status.TheVariants.{Done, Failed, NoForm, Partial}
 use Rattle.mc_filter.proofs.Outside as filter
 use Rattle.mc_filter.proofs.Statuses.{same_status, written_whole}
-use Rattle.meldesk.specs.declared.job.Text.{Text}
-use Rattle.meldesk.specs.declared.job.Text.TheVariants as text
-use Rattle.meldesk.specs.Jobs.{about_text, usage, DeskJob, Makes, Shows, Describes}
+use Rattle.meldesk.specs.Jobs.{about_text, usage, DeskJob, MadeText, Makes, Shows, Describes}
+use Rattle.meldesk.specs.Jobs as text
 use Rattle.meldesk.specs.Statuses.{status_if, status_of, DeckDone, DeckSays, DeckWhole, DeskOutside, IsDeckWritten, IsTextWritten, MakesSays, MakesWhole, MeldeskCompletes, MeldeskDone, MeldeskSays, TextSays, TextWhole}
 use Rattle.meldesk.specs.Verdicts.{IsTextOf, JobVerdict, Refusal, Whole}
 use Rattle.meldesk.proofs.PlayLemmas.{show_completes}
@@ -49,7 +48,7 @@ done_whole : (v : JobVerdict) (s : Status) (a : Outside) → (Rose a.out_old.fau
 done_whole (Whole passes text) s a quiet d = written_whole a.out_old a.out text (status_if passes) s d.result quiet d.status d.written
 done_whole (Refusal line) s a quiet d = written_whole a.out_old a.out line Failed s d.result quiet d.status d.written
 
-whole : (t : Text) (a : Outside) (s : Status) → IsWithoutFault a → MeldeskDone t a s → TextWhole t a s
+whole : (t : MadeText) (a : Outside) (s : Status) → IsWithoutFault a → MeldeskDone t a s → TextWhole t a s
 whole t a s quiet says =
     record {
       verdict = says.verdict;
@@ -58,7 +57,7 @@ whole t a s quiet says =
       done = says.done;
     }
 
-text_completes : (s : Status) (t : Text) (a : Outside) → TextSays s t a → Completes (TextWhole t a s) s a
+text_completes : (s : Status) (t : MadeText) (a : Outside) → TextSays s t a → Completes (TextWhole t a s) s a
 text_completes s t a says =
     filter.complete (MeldeskDone t a) (TextWhole t a) (SaysReadFault (TookLimited a.input_old a.input) a) (SaysNoMemory (TookLimited a.input_old a.input) a) a s (whole t a) (λ f. f.cause) says
 
@@ -80,11 +79,12 @@ deck_completes : (s : Status) (a : Outside) (x y : Sunk) → DeckSays s a x y �
 deck_completes s a x y says calm =
     filter.complete (DeckDone a x y) (DeckWhole a x y) (SaysReadFault (TookLimited a.input_old a.input) a × (y ≡ x)) (SaysNoMemory (TookLimited a.input_old a.input) a × (y ≡ x)) a s (λ t quiet did. deck_whole a x y t calm quiet did) (λ f. (f.0).cause) says
 
-makes_whole : (s : Status) (t : Text) (a : DeskOutside) → MakesSays s t a → MakesWhole s t a
+makes_whole : (s : Status) (t : MadeText) (a : DeskOutside) → MakesSays s t a → MakesWhole s t a
 makes_whole s text.Deck a says = deck_completes s a.streams a.err_old a.err says
 makes_whole s text.Listing a says = text_completes s text.Listing a.streams says.0
 makes_whole s text.Verdicts a says = text_completes s text.Verdicts a.streams says.0
 makes_whole s text.Names a says = text_completes s text.Names a.streams says.0
+makes_whole s (text.Explained name) a says = text_completes s (text.Explained name) a.streams says.0
 
 completes : (Kept : Type 0) (s : Status) (work : Option DeskJob) (a : DeskOutside) → MeldeskSays Kept s work a → MeldeskCompletes Kept s work a
 completes Kept s (Some (Makes t)) a says = makes_whole s t a says.0

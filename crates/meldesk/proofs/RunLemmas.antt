@@ -1,5 +1,5 @@
 -- The text of a draft, and the line that refuses it.
-use Rattle.std.proofs.Common.{◌≡◌, ◌≤◌, ◌<◌, ℕ, Bool, true, false, nat_lt, List, length, Result, Ok, Err, refl, ap, sym, subst, ◌∙◌, arith}
+use Rattle.std.proofs.Common.{◌≡◌, ◌≤◌, ◌<◌, ℕ, Bool, true, false, nat_lt, List, length, Result, Ok, Err, IfErr, OnOk, refl, ap, sym, subst, ◌∙◌, arith}
 use Rattle.mc_model_text.specs.Text.{◌>>=◌, ok_as}
 use Rattle.mc_model_play.specs.DeckGrammar.{DeckLine, deck_read}
 use Rattle.mc_model_play.specs.declared.deck.DeckCause.{DeckCause}
@@ -10,9 +10,10 @@ use Rattle.mc_filter.specs.declared.rejection.Rejection.TheVariants as rejection
 use Rattle.mc_desk.specs.Drafts.{Draft, deck_of, draft_read}
 use Rattle.mc_desk.specs.Listings.{Desk, desk_read, draft_listing, listing_of, sources_of}
 use Rattle.mc_desk.proofs.DeskLemmas as desk
+use Rattle.mc_explain.specs.Explained.{Explains}
 use Rattle.meldesk.specs.Checks.{ShowsVerdicts}
 use Rattle.meldesk.specs.Running.{refused_desk, refused_draft, RejectsAs}
-use Rattle.meldesk.specs.Verdicts.{has_long_deck, is_long, of_listing, of_text, IsCheckOf, IsNamesOf, JobVerdict, Refusal, Whole}
+use Rattle.meldesk.specs.Verdicts.{has_long_deck, is_long, of_listing, of_text, IsCheckOf, IsExplainedOf, IsNamesOf, JobVerdict, Refusal, Whole}
 
 -- ---- lines
 
@@ -141,3 +142,30 @@ names_rejected t e h =
 -- out of memory, whatever the names are
 pub names_short : (t : List ℕ) (e : Rejection) → e ≡ rejection.NoMemory → RejectsAs (IsNamesOf (has_long_deck t) (desk_read t)) e
 names_short t e is = subst (λ (e : Rejection). RejectsAs (IsNamesOf (has_long_deck t) (desk_read t)) e) (sym is) tt
+
+-- ---- all that is wrong with a draft
+
+-- a draft that is refused has no deck, which is not too long
+pub none_is_short : (t : List ℕ) (e : ℕ × DeckCause) → draft_read t ≡ Err e → has_long_deck t ≡ false
+none_is_short t e h = ap is_long (deck_known t (Err e) h)
+
+pub long_explained : (name t : List ℕ) (d : Draft) (e : Rejection) → draft_read t ≡ Ok d → input_limit < length d.deck → Rejects (λ line. line ≡ too_long) e → RejectsAs (IsExplainedOf name (has_long_deck t) (desk_read t)) e
+long_explained name t d e h many r =
+    let long : has_long_deck t ≡ true = ap is_long (deck_known t (Ok d) h) ∙ beyond input_limit (length d.deck) many in
+    rejects_as (λ (line : List ℕ). line ≡ too_long) (λ (line : List ℕ). IsExplainedOf name (has_long_deck t) (desk_read t) (Refusal line)) e
+    (λ line is. subst (λ (b : Bool). IsExplainedOf name b (desk_read t) (Refusal line)) (sym long) (ap Refusal is)) r
+
+pub explained_made : (name t text : List ℕ) (passes : Bool) → has_long_deck t ≡ false → Explains name (desk_read t) passes text → IsExplainedOf name (has_long_deck t) (desk_read t) (Whole passes text)
+explained_made name t text passes short h =
+    subst (λ (b : Bool). IsExplainedOf name b (desk_read t) (Whole passes text)) (sym short) (passes, text, refl, h)
+
+-- a draft whose deck is not too long, by what is said of the deck
+pub short_by : (t : List ℕ) (d : Draft) (r : Result (Unit {0}) Rejection) → draft_read t ≡ Ok d → OnOk r (length d.deck ≤ input_limit) → OnOk r (has_long_deck t ≡ false)
+short_by t d (Ok u) h few = is_short t d h few
+short_by t d (Err e) h few = tt
+
+-- a draft whose deck is too long, by what is said of the deck
+pub long_by : (t : List ℕ) (d : Draft) (r : Result (Unit {0}) Rejection) → draft_read t ≡ Ok d → IfErr r (λ e. input_limit < length d.deck) → IfErr r (Rejects (λ line. line ≡ too_long))
+    → IfErr r (λ e. (name : List ℕ) → RejectsAs (IsExplainedOf name (has_long_deck t) (desk_read t)) e)
+long_by t d (Ok u) h many why = tt
+long_by t d (Err e) h many why = λ name. long_explained name t d e h many why

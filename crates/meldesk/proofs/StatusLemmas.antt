@@ -9,8 +9,8 @@ use Rattle.mc_filter.specs.declared.rejection.Rejection.{Rejection}
 use Rattle.mc_filter.specs.declared.rejection.Rejection.TheVariants as rejection
 use Rattle.mc_filter.specs.declared.status.Status.{Status}
 use Rattle.mc_filter.proofs.Outside as filter
-use Rattle.meldesk.specs.declared.job.Text.{Text}
-use Rattle.meldesk.specs.declared.job.Text.TheVariants as text
+use Rattle.meldesk.specs.Jobs.{MadeText}
+use Rattle.meldesk.specs.Jobs as text
 use Rattle.meldesk.specs.Running.{RejectsText, WritesDraft}
 use Rattle.meldesk.specs.Statuses.{status_if, DeckDone, DeckSays, MeldeskDone, TextSays}
 use Rattle.meldesk.specs.Verdicts.{Refusal, Whole}
@@ -27,13 +27,13 @@ says_by Did Faulty Short false r s e d = filter.says_refused Did Faulty Short r 
 -- ---- a text
 
 -- the text of a draft was written
-says_written : (t : Text) (s : Status) (a : Outside) → WritesDraft t s a → TextSays s t a
+says_written : (t : MadeText) (s : Status) (a : Outside) → WritesDraft t s a → TextSays s t a
 says_written t s a w =
     says_by (MeldeskDone t a) (SaysReadFault (TookLimited a.input_old a.input) a) (SaysNoMemory (TookLimited a.input_old a.input) a) w.passes w.written.result s w.written.status
     (record { verdict = Whole w.passes w.text; due = w.due; done = w.written })
 
 -- a text was not made
-says_rejected : (t : Text) (i j : Stream) (x m y : Sunk) (e : Rejection) (s : Status) → m ≡ x → RejectsText t (around i j x m) e → RejectionEnds e x s y → TextSays s t (around i j x y)
+says_rejected : (t : MadeText) (i j : Stream) (x m y : Sunk) (e : Rejection) (s : Status) → m ≡ x → RejectsText t (around i j x m) e → RejectionEnds e x s y → TextSays s t (around i j x y)
 says_rejected t i j x m y (rejection.Refusal line) s same why ends =
     let a = around i j x y in
     filter.says_refused (MeldeskDone t a) (SaysReadFault (TookLimited i j) a) (SaysNoMemory (TookLimited i j) a) ends.result s ends.status
@@ -44,7 +44,7 @@ says_rejected t i j x m y rejection.NoMemory s same why ends =
     subst (λ (s : Status). TextSays s t (around i j x y)) (sym ends.0) (record { quiet = why.0; source = why.1; written = ends.1 })
 
 -- the end of a job that makes a text, by its result, after which its sink is m, and by what was written at its end
-pub says_text : (t : Text) (i j : Stream) (x m y : Sunk) (r : Result Status Rejection) (s : Status) → IfOk r (λ q. WritesDraft t q (around i j x m)) → IfErr r (λ e. RejectsText t (around i j x m) e) → IfErr r (λ e. m ≡ x)
+pub says_text : (t : MadeText) (i j : Stream) (x m y : Sunk) (r : Result Status Rejection) (s : Status) → IfOk r (λ q. WritesDraft t q (around i j x m)) → IfErr r (λ e. RejectsText t (around i j x m) e) → IfErr r (λ e. m ≡ x)
     → IfOk r (λ q. (s ≡ q) × (y ≡ m)) → IfErr r (λ e. RejectionEnds e m s y) → TextSays s t (around i j x y)
 says_text t i j x m y (Ok q) s wrote rejects same done ends =
     subst (λ (s : Status). TextSays s t (around i j x y)) (sym done.0)

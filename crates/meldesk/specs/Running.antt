@@ -9,7 +9,7 @@ use Rattle.mc_filter.specs.Statuses.{IsWritten}
 use Rattle.mc_filter.specs.declared.rejection.Rejection.{Rejection}
 use Rattle.mc_filter.specs.declared.rejection.Rejection.TheVariants as rejection
 use Rattle.mc_desk.specs.Listings.{Desk}
-use Rattle.meldesk.specs.declared.job.Text.{Text}
+use Rattle.meldesk.specs.Jobs.{MadeText}
 use Rattle.meldesk.specs.Statuses.{status_if}
 use Rattle.meldesk.specs.Verdicts.{IsTextOf, JobVerdict, Refusal, Whole}
 
@@ -30,13 +30,13 @@ RejectsAs IsOf why = Rejects (λ line. IsOf (Refusal line)) why
 
 -- why a text was not made: a line that refuses its draft, one call of its source that failed, or out of memory, in
 -- which case none did
-abbrev pub RejectsText : Text → Outside → Rejection → Type 0
+abbrev pub RejectsText : MadeText → Outside → Rejection → Type 0
 RejectsText t a (rejection.Refusal line) = IsRead Refusal (IsTextOf t) a.input_old a.input (Refusal line.items)
 RejectsText t a rejection.ReadFault = FailsReading a.input_old a.input
 RejectsText t a rejection.NoMemory = ReadsLimited a.input_old a.input
 
 -- the text of a draft was written
-pub record WritesDraft (t : Text) (s : Status) (a : Outside) : Type 0 where
+pub record WritesDraft (t : MadeText) (s : Status) (a : Outside) : Type 0 where
   pub passes : Bool
   pub text : List ℕ
   pub due : IsRead Refusal (IsTextOf t) a.input_old a.input (Whole passes text)

@@ -12,9 +12,8 @@ use Rattle.mc_filter.specs.Statuses.{IsWritten}
 use Rattle.mc_filter.specs.Outside.{AllStands, Completes, IsRead, IsWhole, JobSays, NoJobSays, Outside, SaysDone, SaysNoForm, SaysNoMemory, SaysReadFault, outside}
 use Rattle.mc_text.specs.Texts.{sunk, Sunk}
 use Rattle.meldesk.specs.declared.job.About.{About}
-use Rattle.meldesk.specs.declared.job.Text.{Text}
-use Rattle.meldesk.specs.declared.job.Text.TheVariants as text
-use Rattle.meldesk.specs.Jobs.{about_text, usage, DeskJob, Makes, Shows, Describes}
+use Rattle.meldesk.specs.Jobs.{about_text, usage, DeskJob, MadeText, Makes, Shows, Describes}
+use Rattle.meldesk.specs.Jobs as text
 use Rattle.meldesk.specs.Verdicts.{IsTextOf, JobVerdict, Refusal, Whole}
 use Rattle.meldesk.specs.Plays.{ShowCompletes, ShowSays}
 
@@ -52,13 +51,13 @@ IsTextWritten (Whole passes text) s a = IsWritten (status_if passes) text s a.ou
 IsTextWritten (Refusal line) s a = IsWritten Failed line s a.out_old a.out
 
 -- a text was made, or its draft was refused, or the sink failed
-abbrev pub MeldeskDone : Text → Outside → Status → Type 0
+abbrev pub MeldeskDone : MadeText → Outside → Status → Type 0
 MeldeskDone t a s = SaysDone (IsRead Refusal (IsTextOf t) a.input_old a.input) (λ (v : JobVerdict). IsTextWritten v s a)
 
 -- ---- statuses: `Kept` states that the device is unchanged
 
 -- the meaning of each status of a job that makes a text
-abbrev pub TextSays : Status → Text → Outside → Type 0
+abbrev pub TextSays : Status → MadeText → Outside → Type 0
 TextSays s t a =
     JobSays (MeldeskDone t a) (SaysReadFault (TookLimited a.input_old a.input) a) (SaysNoMemory (TookLimited a.input_old a.input) a) s
 
@@ -79,11 +78,12 @@ DeckSays s a x y =
     JobSays (DeckDone a x y) (SaysReadFault (TookLimited a.input_old a.input) a × (y ≡ x)) (SaysNoMemory (TookLimited a.input_old a.input) a × (y ≡ x)) s
 
 -- the meaning of each status of a job that makes a text: all but that of a deck leave the sink of refusals as it was
-abbrev pub MakesSays : Status → Text → DeskOutside → Type 0
+abbrev pub MakesSays : Status → MadeText → DeskOutside → Type 0
 MakesSays s text.Deck a = DeckSays s a.streams a.err_old a.err
 MakesSays s text.Listing a = TextSays s text.Listing a.streams × (a.err ≡ a.err_old)
 MakesSays s text.Verdicts a = TextSays s text.Verdicts a.streams × (a.err ≡ a.err_old)
 MakesSays s text.Names a = TextSays s text.Names a.streams × (a.err ≡ a.err_old)
+MakesSays s (text.Explained name) a = TextSays s (text.Explained name) a.streams × (a.err ≡ a.err_old)
 
 -- what the program says of itself was written, and the source was not touched
 abbrev pub SaysAbout : About → Status → Outside → Type 0
@@ -104,7 +104,7 @@ status_of (Whole passes text) = status_if passes
 status_of (Refusal line) = Failed
 
 -- all that is due was written
-abbrev pub TextWhole : Text → Outside → Status → Type 0
+abbrev pub TextWhole : MadeText → Outside → Status → Type 0
 TextWhole t a s = IsWhole (AllStands Refusal (IsTextOf t) a.input_old.left) status_of (λ (v : JobVerdict). IsTextWritten v s a) s
 
 -- all that is due of a deck was written
@@ -112,11 +112,12 @@ abbrev pub DeckWhole : Outside → Sunk → Sunk → Status → Type 0
 DeckWhole a x y s = IsWhole (AllStands Refusal (IsTextOf text.Deck) a.input_old.left) status_of (λ (v : JobVerdict). IsDeckWritten v s a x y) s
 
 -- if no call of source or sinks fails, all that is due of a text is written
-abbrev pub MakesWhole : Status → Text → DeskOutside → Type 0
+abbrev pub MakesWhole : Status → MadeText → DeskOutside → Type 0
 MakesWhole s text.Deck a = (Rose a.err_old.faults a.err.faults → ⊥) → Completes (DeckWhole a.streams a.err_old a.err s) s a.streams
 MakesWhole s text.Listing a = Completes (TextWhole text.Listing a.streams s) s a.streams
 MakesWhole s text.Verdicts a = Completes (TextWhole text.Verdicts a.streams s) s a.streams
 MakesWhole s text.Names a = Completes (TextWhole text.Names a.streams s) s a.streams
+MakesWhole s (text.Explained name) a = Completes (TextWhole (text.Explained name) a.streams s) s a.streams
 
 -- if no call of source or sink fails, all that is due is written, or the call was out of memory before the first byte of
 -- output

@@ -5,8 +5,9 @@ use Rattle.mc_filter.specs.Inputs.{input_limit}
 use Rattle.mc_filter.specs.Lines.{deck_line, too_long}
 use Rattle.mc_desk.specs.Drafts.{deck_of}
 use Rattle.mc_desk.specs.Listings.{Desk, desk_read, draft_listing}
-use Rattle.meldesk.specs.declared.job.Text.{Text}
-use Rattle.meldesk.specs.declared.job.Text.TheVariants as text
+use Rattle.mc_explain.specs.Explained.{Explains}
+use Rattle.meldesk.specs.Jobs.{MadeText}
+use Rattle.meldesk.specs.Jobs as text
 use Rattle.meldesk.specs.Checks.{ShowsVerdicts}
 
 -- the verdict on a draft: the complete text of a job, and whether the draft passes it, or the line of a refusal
@@ -47,11 +48,18 @@ IsNamesOf true desk v = v ≡ Refusal too_long
 IsNamesOf false (Ok d) v = (text : List ℕ) × (v ≡ Whole true text)
 IsNamesOf false (Err e) v = v ≡ Refusal (deck_line e)
 
+-- the verdict with all that is wrong with a draft, for a file of a name: what refuses the draft is part of the text, but a
+-- deck that is too long
+abbrev pub IsExplainedOf : List ℕ → Bool → Result Desk (ℕ × DeckCause) → JobVerdict → Type 0
+IsExplainedOf name true desk v = v ≡ Refusal too_long
+IsExplainedOf name false desk v = (passes : Bool) × (text : List ℕ) × (v ≡ Whole passes text) × Explains name desk passes text
+
 -- ---- jobs
 
 -- the verdict on a draft within the limit
-abbrev pub IsTextOf : Text → List ℕ → JobVerdict → Type 0
+abbrev pub IsTextOf : MadeText → List ℕ → JobVerdict → Type 0
 IsTextOf text.Deck draft v = v ≡ of_text (deck_of draft)
 IsTextOf text.Listing draft v = v ≡ of_listing (has_long_deck draft) (draft_listing draft)
 IsTextOf text.Verdicts draft v = IsCheckOf (has_long_deck draft) (desk_read draft) v
 IsTextOf text.Names draft v = IsNamesOf (has_long_deck draft) (desk_read draft) v
+IsTextOf (text.Explained name) draft v = IsExplainedOf name (has_long_deck draft) (desk_read draft) v

@@ -1,12 +1,12 @@
 // The jobs of the program, and the words that name them.
-ghost use Rattle.std.specs.Prelude.{◌≡◌, bytes_eq, codes, option_map};
-ghost use Rattle.meldesk.specs.Jobs.{is_file_name, job_named, job_of, job_value, job_with};
+ghost use Rattle.std.specs.Prelude.{◌≡◌, option_map};
+ghost use Rattle.meldesk.specs.Jobs.{is_file_name, job_for, job_named, job_of, job_value, job_with};
 
 use mc_text::cut;
 
 /// A text that is made from a draft.
 #[derive(Clone, Copy, Debug, PartialEq, Eq)]
-pub enum Text {
+pub enum Text<'a> {
     /// The deck of the draft.
     Deck,
     /// The code of each section line by line.
@@ -15,6 +15,8 @@ pub enum Text {
     Verdicts,
     /// The names and labels of each section as JSON Lines.
     Names,
+    /// All that is wrong with the draft, for a file of this name.
+    Explained(&'a [u8]),
 }
 
 /// What the program says of itself.
@@ -39,7 +41,7 @@ pub enum Play<'a> {
 #[derive(Clone, Copy, Debug, PartialEq, Eq)]
 pub enum Job<'a> {
     /// Writes a text made from the draft.
-    Write(Text),
+    Write(Text<'a>),
     /// Plays the deck of the draft and writes what is shown of the play.
     Play(Play<'a>),
     /// Says something of the program.
@@ -62,26 +64,30 @@ fn job_named<'a>(word: &str) -> Option<Job<'a>>
     }
 }
 
-// Whether a record may have this as the name of its file: 1 to 255 bytes, none of them a line feed.
+// Whether a file may have this name in what is written: 1 to 255 bytes, none of them a line feed.
 fn is_file_name(name: &[u8]) -> bool
     ensures { result ≡ is_file_name name.now }
 {
     !name.is_empty() && name.len() <= 255 && cut(name, b'\n').1.is_none()
 }
 
-// Whether a word is `cover`.
-fn is_cover(word: &str) -> bool
-    ensures { result ≡ bytes_eq word.now (codes "cover") }
+// The job that a word selects with the name of a file.
+fn job_for<'a>(word: &str, name: &'a [u8]) -> Option<Job<'a>>
+    ensures { option_map job_value result ≡ job_for word.now name.now }
 {
-    word == "cover"
+    match word {
+        "cover" => Some(Job::Play(Play::Cover(name))),
+        "explain" => Some(Job::Write(Text::Explained(name))),
+        _ => None,
+    }
 }
 
 // The job that a word and a name select.
 fn job_with<'a>(word: &str, name: &'a [u8]) -> Option<Job<'a>>
     ensures { option_map job_value result ≡ job_with word.now name.now }
 {
-    if is_cover(word) && is_file_name(name) {
-        return Some(Job::Play(Play::Cover(name)));
+    if is_file_name(name) {
+        return job_for(word, name);
     }
     None
 }

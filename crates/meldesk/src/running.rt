@@ -1,20 +1,21 @@
 // The top call: a job over a source, a sink and a device.
-ghost use Rattle.std.specs.Prelude.{◌≡◌, ◌≤◌, false, IfErr, IfOk, MatchResult, Ok, Some};
+ghost use Rattle.std.specs.Prelude.{◌≡◌, ◌<◌, ◌≤◌, ℕ, List, false, length, IfErr, IfOk, MatchResult, Ok, OnOk, Some};
 ghost use Rattle.mc_script.specs.Players.{IsUnfused};
 ghost use Rattle.mc_text.specs.Texts.{sunk};
 ghost use Rattle.mc_filter.specs.declared.status.Status.{Status};
 ghost use Rattle.mc_filter.specs.declared.status.Status.TheVariants as status;
-ghost use Rattle.mc_filter.specs.Inputs.{Rejects};
+ghost use Rattle.mc_filter.specs.Inputs.{input_limit, Rejects};
+ghost use Rattle.mc_filter.specs.Lines.{too_long};
 ghost use Rattle.mc_filter.specs.Outside.{outside};
 ghost use Rattle.mc_filter.specs.Statuses.{number_of, RejectionEnds};
 ghost use Rattle.mc_desk.specs.Drafts.{deck_of, draft_read};
 ghost use Rattle.mc_desk.specs.Listings.{desk_read, draft_listing};
 ghost use Rattle.mc_desk.specs.Loads.{desk_value};
 ghost use Rattle.mc_desk.specs.Written.{draft_value};
-ghost use Rattle.meldesk.specs.Jobs.{job_of, job_value, Makes};
+ghost use Rattle.meldesk.specs.Jobs.{job_of, job_value, text_value, Makes};
 ghost use Rattle.meldesk.specs.Running.{refused_desk, refused_draft, RejectsAs, RejectsText, WritesDraft};
 ghost use Rattle.meldesk.specs.Statuses.{desk_outside, status_if, DeckSays, MeldeskCompletes, MeldeskSays, TextSays};
-ghost use Rattle.meldesk.specs.Verdicts.{has_long_deck, of_listing, of_text, IsCheckOf, IsNamesOf, IsTextOf, Whole};
+ghost use Rattle.meldesk.specs.Verdicts.{has_long_deck, of_listing, of_text, IsCheckOf, IsExplainedOf, IsNamesOf, IsTextOf, Whole};
 
 use crate::about::describe;
 use crate::checking::verdicts_of;
@@ -24,6 +25,7 @@ use crate::playing::show;
 use mc_base::{NoMemory, Steps};
 use mc_deck::DeckRefusal;
 use mc_desk::{Desk, Draft, Loads, listing_of, read_draft, sources_of};
+use mc_explain::{Explained, explain};
 use mc_filter::{
     INPUT_LIMIT, Rejection, Status, deck_of, ended, number, read_input, refused, reject, too_long,
 };
@@ -34,7 +36,8 @@ use std::alloc::Global;
 use std::sync::ledger::Ledger;
 
 // The text that is written if the words select no job.
-const USAGE: &[u8] = b"usage: meldesk deck | list | check | trace | names | cover NAME\n";
+const USAGE: &[u8] =
+    b"usage: meldesk deck | list | check | trace | names | explain NAME | cover NAME\n";
 
 // Reads a draft, or returns the line that refuses it.
 fn draft_of(alloc: Global, text: &[u8]) -> Result<Draft<'_>, Rejection>
@@ -127,16 +130,69 @@ fn names_text(alloc: Global, draft: &[u8]) -> Result<DraftText, Rejection>
     Ok(DraftText { text, passes: true })
 }
 
+// Refuses a deck that is too long.
+fn check_deck(alloc: Global, deck: &[u8]) -> Result<(), Rejection>
+    ensures short { OnOk result (length deck.now ≤ input_limit) }
+    ensures long { IfErr result (λ e. input_limit < length deck.now) }
+    ensures rejected { IfErr result (Rejects (λ line. line ≡ too_long)) }
+{
+    if deck.len() > INPUT_LIMIT {
+        return Err(too_long(alloc));
+    }
+    Ok(())
+}
+
+// Refuses a draft whose deck is too long.
+#[tactic(auto, using(crate::proofs::RunLemmas::none_is_short))]
+fn check_length(alloc: Global, draft: &[u8]) -> Result<(), Rejection>
+    ensures short { OnOk result (has_long_deck draft.now ≡ false) }
+    ensures rejected { IfErr result (λ e. (name : List ℕ)
+        → RejectsAs (IsExplainedOf name (has_long_deck draft.now) (desk_read draft.now)) e) }
+{
+    match read_draft(alloc, draft) {
+        Ok(read) => check_deck(alloc, read.deck.as_slice()),
+        Err(DeckRefusal::At(..)) => Ok(()),
+        Err(DeckRefusal::NoMemory) => Err(Rejection::NoMemory),
+    }
+}
+
+// All that is wrong with a draft whose deck is not too long, for a file of a name.
+#[tactic(auto, using(crate::proofs::RunLemmas::explained_made))]
+fn explained_short(alloc: Global, name: &[u8], draft: &[u8]) -> Result<DraftText, Rejection>
+    requires { has_long_deck draft.now ≡ false }
+    ensures { MatchResult result
+        (λ m. IsExplainedOf name.now (has_long_deck draft.now) (desk_read draft.now) (Whole m.passes m.text.items))
+        (RejectsAs (IsExplainedOf name.now (has_long_deck draft.now) (desk_read draft.now))) }
+{
+    match explain(alloc, name, draft) {
+        Ok(Explained { text, passes }) => Ok(DraftText { text, passes }),
+        Err(_) => Err(Rejection::NoMemory),
+    }
+}
+
+// All that is wrong with a draft, for a file of a name.
+fn explained_text(alloc: Global, name: &[u8], draft: &[u8]) -> Result<DraftText, Rejection>
+    ensures { MatchResult result
+        (λ m. IsExplainedOf name.now (has_long_deck draft.now) (desk_read draft.now) (Whole m.passes m.text.items))
+        (RejectsAs (IsExplainedOf name.now (has_long_deck draft.now) (desk_read draft.now))) }
+{
+    match check_length(alloc, draft) {
+        Ok(()) => explained_short(alloc, name, draft),
+        Err(rejection) => Err(rejection),
+    }
+}
+
 // The text of a draft.
-fn text_of(alloc: Global, text: Text, draft: &[u8]) -> Result<DraftText, Rejection>
-    ensures { MatchResult result (λ m. IsTextOf text draft.now (Whole m.passes m.text.items))
-        (RejectsAs (IsTextOf text draft.now)) }
+fn text_of(alloc: Global, text: Text<'_>, draft: &[u8]) -> Result<DraftText, Rejection>
+    ensures { MatchResult result (λ m. IsTextOf (text_value text.entry) draft.now (Whole m.passes m.text.items))
+        (RejectsAs (IsTextOf (text_value text.entry) draft.now)) }
 {
     match text {
         Text::Deck => deck_text(alloc, draft),
         Text::Listing => listing_text(alloc, draft),
         Text::Verdicts => verdicts_text(alloc, draft),
         Text::Names => names_text(alloc, draft),
+        Text::Explained(name) => explained_text(alloc, name, draft),
     }
 }
 
@@ -150,14 +206,14 @@ fn status_if(passes: bool) -> Status
 // Writes the text of a draft that is read.
 fn write<S: Source, T: Sink>(
     alloc: Global,
-    text: Text,
+    text: Text<'_>,
     input: &mut S,
     out: &mut T,
 ) -> Result<Status, Rejection>
     ensures done { IfOk result
-        (λ s. WritesDraft text s (outside S.Source T.Sink input.old input.new out.old out.new)) }
+        (λ s. WritesDraft (text_value text.entry) s (outside S.Source T.Sink input.old input.new out.old out.new)) }
     ensures rejected { IfErr result
-        (RejectsText text (outside S.Source T.Sink input.old input.new out.old out.new)) }
+        (RejectsText (text_value text.entry) (outside S.Source T.Sink input.old input.new out.old out.new)) }
     ensures out { IfErr result (λ e. sunk T.Sink out.new ≡ sunk T.Sink out.old) }
 {
     let draft = read_input(alloc, input)?;
@@ -179,8 +235,8 @@ pub fn end<T: Sink>(out: &mut T, done: Result<Status, Rejection>) -> Status
 }
 
 // Makes a text of a draft that is read, and returns its status.
-fn make<S: Source, T: Sink>(alloc: Global, text: Text, input: &mut S, out: &mut T) -> Status
-    ensures { TextSays result text (outside S.Source T.Sink input.old input.new out.old out.new) }
+fn make<S: Source, T: Sink>(alloc: Global, text: Text<'_>, input: &mut S, out: &mut T) -> Status
+    ensures { TextSays result (text_value text.entry) (outside S.Source T.Sink input.old input.new out.old out.new) }
 {
     let done = write(alloc, text, input, out);
     end(out, done)
@@ -220,6 +276,7 @@ fn run<S: Source, T: Sink, E: Sink, N: Bench, L: Ledger>(
         Job::Write(Text::Listing) => make(alloc, Text::Listing, input, out),
         Job::Write(Text::Verdicts) => make(alloc, Text::Verdicts, input, out),
         Job::Write(Text::Names) => make(alloc, Text::Names, input, out),
+        Job::Write(Text::Explained(name)) => make(alloc, Text::Explained(name), input, out),
         Job::Play(play) => show(alloc, play, input, out, dev, steps),
         Job::Describe(about) => describe(about, out),
     }

@@ -191,6 +191,28 @@ fn names(rt: HostRuntime) -> Result<(), Fail> {
     Ok(())
 }
 
+// All that is wrong with a draft: each refused line, refused code, and warnings, which refuse nothing.
+#[test]
+fn explained(rt: HostRuntime) -> Result<(), Fail> {
+    let alloc = rt.alloc();
+    let bad = b"format\nreboot\napp a A000000100\n EXIT\nend\nload b\n";
+    let lines =
+        b"f:6:6: UnknownName: `b` stands here; expected the name of a unit or section above; move the section above this line, or mend the name\n\
+f:2:1: BadLine: `reboot` stands here; expected a statement in lower case with as many fields as it takes, and a comment on a line of its own; look the statement up in docs/DECKS.md\n";
+    assert!(rt; made(alloc, &["explain", "f"], bad)?.is(1, lines));
+    let code =
+        b"f:5:2: Under: `POPB` stands here; the code comes here from line 4 with a stack of 0; expected as many bytes on the stack as the instruction takes; push them first, on each way that leads here\n";
+    assert!(rt; made(alloc, &["explain", "f"], BROKEN)?.is(1, code));
+    let unused = b"app a A000000100\nCONST x 1\n EXIT\nend\n";
+    let warning =
+        b"f:2:7: warning: `x` stands here; expected an instruction or a rule that has the name; take the declaration away if nothing is to be read or written there\n";
+    assert!(rt; made(alloc, &["explain", "f"], unused)?.is(0, warning));
+    assert!(rt; made(alloc, &["explain", "f"], DRAFT.as_bytes())?.status == 0);
+    let feeds = vec![in alloc; b'\n'; 1_048_577]?;
+    assert!(rt; made(alloc, &["explain", "f"], feeds.as_slice())?.is(1, b"line 0 TooLong\n"));
+    Ok(())
+}
+
 // What the program says of itself, without a draft.
 #[test]
 fn about(rt: HostRuntime) -> Result<(), Fail> {
@@ -214,11 +236,14 @@ fn usage(rt: HostRuntime) -> Result<(), Fail> {
         &["cover", ""],
         &["cover", "a\nb"],
         &["cover", "a", "b"],
+        &["explain"],
+        &["explain", "a\nb"],
         &["list", "f"],
         &["--help", "f"],
     ] {
         let end = made(alloc, texts, BROKEN)?;
-        let line = b"usage: meldesk deck | list | check | trace | names | cover NAME\n";
+        let line =
+            b"usage: meldesk deck | list | check | trace | names | explain NAME | cover NAME\n";
         assert!(rt; end.is(2, line) && end.left == BROKEN.len());
     }
     Ok(())

@@ -2,6 +2,7 @@ use Rattle.std.proofs.Common.{ℕ, List, ap, inr, subst, ◌∙◌}
 use Rattle.mc_text.specs.Texts.{sunk}
 use Rattle.mc_filter.specs.Statuses.{status_after_writing}
 use Rattle.mc_filter.proofs.Statuses.{puts_by}
+use Rattle.meldesk.specs.Jobs.{text_value}
 use Rattle.meldesk.specs.Verdicts.{IsTextOf, Whole}
 use Rattle.meldesk.proofs.running.write.Goals as goal
 
@@ -11,7 +12,7 @@ returns-clause-done g c =
     let to = sunk g.T.Sink c.put_all.new.sink in
     let said = c.put_all.ensures in
     let text = c.in_ok-made.made.text.items in
-    let is = subst (λ (t : List ℕ). IsTextOf c.args.text t (Whole c.in_ok-made.made.passes text)) c.as_slice.ensures.value c.in_ok-made.ensures in
+    let is = subst (λ (t : List ℕ). IsTextOf (text_value c.args.text) t (Whole c.in_ok-made.made.passes text)) c.as_slice.ensures.value c.in_ok-made.ensures in
     record {
       passes = c.in_ok-made.made.passes;
       text = text;
