@@ -12,11 +12,14 @@ returns-in-Ok g c =
     let h = c.meldesk.ensures in
     let a : DeskOutside = on_device (streams g.S.Source g.T.Sink g.E.Sink c.args.input.now c.meldesk.new.input c.args.out.now c.meldesk.new.out c.args.err.now c.meldesk.new.err) c.in-Ok.device c.meldesk.new.dev in
     let said : IsNumberOf (λ (s : Status). MeldeskSays (c.meldesk.new.dev ≡ c.in-Ok.device) s (job_of c.args.words.now) a) c.meldesk.result =
-      some_number (λ (s : Status). MeldeskSays (c.meldesk.new.dev ≡ c.in-Ok.device) s (job_of c.args.words.now) a) c.meldesk.result h.statuses h.done h.refused h.no_job h.read_fault h.write_fault h.memory in
-    (said.0, said.1, inl (record {
-      dev_old = c.in-Ok.device;
-      dev = c.meldesk.new.dev;
-      blank = c.in-Ok.ensures;
-      says = said.2;
-      completes = h.complete said.0 said.1;
-    }))
+    some_number (λ (s : Status). MeldeskSays (c.meldesk.new.dev ≡ c.in-Ok.device) s (job_of c.args.words.now) a) c.meldesk.result h.statuses h.done h.refused h.no_job h.read_fault h.write_fault h.memory in (
+      said.0,
+      said.1,
+      inl (record {
+        dev_old = c.in-Ok.device;
+        dev = c.meldesk.new.dev;
+        blank = c.in-Ok.ensures;
+        says = said.2;
+        completes = h.complete said.0 said.1;
+      }),
+    )
