@@ -60,7 +60,7 @@ module _ (depth : ℕ) (a : Outside) (input : List ℕ) (x : rule.Exploration) (
   abbrev end : Ending
   end = (search_of most_states depth x).ending
 
-  verdict : verdict_of (job.Explore depth) input ≡ ending_verdict text end
+  verdict : exploration_verdict depth (exploration_read input) ≡ ending_verdict text end
   verdict = ap (exploration_verdict depth) is
 
   -- the verdict that is due
@@ -77,7 +77,7 @@ module _ (depth : ℕ) (a : Outside) (input : List ℕ) (x : rule.Exploration) (
   same_text explored.Partial = refl
   same_text explored.Broken = refl
 
-  verdict_text : text_of_verdict (verdict_of (job.Explore depth) input) ≡ text
+  verdict_text : text_of_verdict (exploration_verdict depth (exploration_read input)) ≡ text
   verdict_text = ap text_of_verdict (verdict ∙ verdict_is text end) ∙ same_text (explored_as end)
 
   ends_as : (r : Result Explored SearchFault) → IsExplored a.out_old text end r a.out → MellabEnds (job.Explore depth) a (status_explored r)

@@ -78,6 +78,7 @@ pub record IsRuleRefusal (line : List ℕ) : Type 0 where
 -- line refuses a rule, or the last line of a text is whether all rules are proved.
 abbrev pub IsProofVerdict : Result (List (ℕ × DeckLine)) (ℕ × DeckCause) → LabVerdict → Type 0
 IsProofVerdict (Ok ls) (Reports text well) = IsReport well text
+IsProofVerdict (Ok ls) (ReportsPart text) = ⊥
 IsProofVerdict (Ok ls) (Refusal line) = IsRuleRefusal line
 IsProofVerdict (Err e) v = v ≡ Refusal (deck_line e)
 

@@ -1,7 +1,8 @@
-use Rattle.std.proofs.Common.{◌≡◌, inl}
+use Rattle.std.proofs.Common.{◌≡◌, inl, inr, refl}
 use Rattle.mc_filter.specs.Outside.{outside}
 use Rattle.mc_filter.specs.Statuses.{IsNumberOf}
 use Rattle.mc_filter.specs.declared.status.Status.{Status}
+use Rattle.mc_filter.specs.declared.status.Status.TheVariants.{NoMemory}
 use Rattle.mc_filter.proofs.Statuses.{some_number}
 use Rattle.melcard.specs.Jobs.{job_of}
 use Rattle.melcard.specs.Programs.{on_device}
@@ -24,3 +25,6 @@ returns-in-Ok g c =
         completes = h.complete said.0 said.1;
       }),
     )
+
+pub returns-in-Err : goal.returns-in-Err
+returns-in-Err g c = (NoMemory, c.number.ensures, inr (record { is = refl; still = record { input = refl; out = refl } }))

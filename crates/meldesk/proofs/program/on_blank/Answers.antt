@@ -1,6 +1,7 @@
-use Rattle.std.proofs.Common.{◌≡◌, inl}
+use Rattle.std.proofs.Common.{◌≡◌, inl, inr, refl}
 use Rattle.mc_filter.specs.Statuses.{IsNumberOf}
 use Rattle.mc_filter.specs.declared.status.Status.{Status}
+use Rattle.mc_filter.specs.declared.status.Status.TheVariants.{NoMemory}
 use Rattle.mc_filter.proofs.Statuses.{some_number}
 use Rattle.meldesk.specs.Jobs.{job_of}
 use Rattle.meldesk.specs.Programs.{on_device, streams}
@@ -23,3 +24,6 @@ returns-in-Ok g c =
         completes = h.complete said.0 said.1;
       }),
     )
+
+pub returns-in-Err : goal.returns-in-Err
+returns-in-Err g c = (NoMemory, c.number.ensures, inr (record { is = refl; still = record { input = refl; out = refl } }, refl))

@@ -4,7 +4,6 @@ use Rattle.mc_filter.proofs.Statuses.{puts_by}
 use Rattle.mc_filter.specs.Outside.{outside, Outside}
 use Rattle.mc_filter.specs.Statuses.{status_after_writing}
 use Rattle.mc_filter.specs.declared.status.Status.{Status}
-use Rattle.mellab.specs.Statuses.{status_by}
 use Rattle.mellab.proofs.RuleLemmas.{says_proved}
 use Rattle.mellab.proofs.proving.prove_input.Goals as goal
 
