@@ -1,4 +1,7 @@
 // Sets of byte values.
+ghost use Rattle.std.specs.Prelude.{◌≡◌, ◌<◌, ◌≤◌, ◌↔◌, ℕ, ◌+◌, ◌-◌, ◌%◌, ◌^◌, min, Bool, true, false, not, ◌&&◌, ◌||◌, ◌==◌, nat_lt, nat_le, IsTrue, IfSome, IfNone};
+ghost use Rattle.std.specs.Int.{bit_at};
+ghost use Rattle.mc_facts.specs.Sets.{has_value};
 
 /// A set of some of the 256 values of a byte.
 #[derive(Clone, Copy, PartialEq, Eq, Debug)]
@@ -15,7 +18,9 @@ impl Values {
     pub const NONE: Values = Values { words: [0; 4] };
 
     /// Returns the set of one value.
-    pub fn one(value: u8) -> Values {
+    pub fn one(value: u8) -> Values
+        ensures { (v : ℕ) → v < 256 → has_value result v ≡ (v == value) }
+    {
         let bit = 1u64 << (value % 64);
         match value / 64 {
             0 => Values {
@@ -34,7 +39,9 @@ impl Values {
     }
 
     /// Returns the set of the values below a number.
-    pub fn below(end: u16) -> Values {
+    pub fn below(end: u16) -> Values
+        ensures { (v : ℕ) → v < 256 → has_value result v ≡ nat_lt v end }
+    {
         Values {
             words: [
                 low_bits(end),
@@ -46,12 +53,16 @@ impl Values {
     }
 
     /// Returns the set of the values from one to another.
-    pub fn range(low: u8, high: u8) -> Values {
+    pub fn range(low: u8, high: u8) -> Values
+        ensures { (v : ℕ) → v < 256 → has_value result v ≡ nat_le low v && nat_le v high }
+    {
         Values::below(high as u16 + 1).and(&Values::below(low as u16).not())
     }
 
     /// Returns the values of either set.
-    pub fn or(&self, other: &Values) -> Values {
+    pub fn or(&self, other: &Values) -> Values
+        ensures { (v : ℕ) → v < 256 → has_value result v ≡ has_value self.now v || has_value other.now v }
+    {
         let [a, b, c, d] = self.words;
         let [e, f, g, h] = other.words;
         Values {
@@ -60,7 +71,9 @@ impl Values {
     }
 
     /// Returns the values of both sets.
-    pub fn and(&self, other: &Values) -> Values {
+    pub fn and(&self, other: &Values) -> Values
+        ensures { (v : ℕ) → v < 256 → has_value result v ≡ has_value self.now v && has_value other.now v }
+    {
         let [a, b, c, d] = self.words;
         let [e, f, g, h] = other.words;
         Values {
@@ -69,15 +82,19 @@ impl Values {
     }
 
     /// Returns the other values.
-    pub fn not(&self) -> Values {
+    pub fn not(&self) -> Values
+        ensures { (v : ℕ) → v < 256 → has_value result v ≡ not (has_value self.now v) }
+    {
         let [a, b, c, d] = self.words;
         Values {
-            words: [!a, !b, !c, !d],
+            words: [inverted(a), inverted(b), inverted(c), inverted(d)],
         }
     }
 
     /// Returns whether a value is there.
-    pub fn has(&self, value: u8) -> bool {
+    pub fn has(&self, value: u8) -> bool
+        ensures { result ≡ has_value self.now value }
+    {
         let [a, b, c, d] = self.words;
         let word = match value / 64 {
             0 => a,
@@ -89,18 +106,24 @@ impl Values {
     }
 
     /// Returns the set with one more value.
-    pub fn with(&self, value: u8) -> Values {
+    pub fn with(&self, value: u8) -> Values
+        ensures { (v : ℕ) → v < 256 → has_value result v ≡ has_value self.now v || (v == value) }
+    {
         self.or(&Values::one(value))
     }
 
     /// Returns whether no value is there.
-    pub fn is_empty(&self) -> bool {
+    pub fn is_empty(&self) -> bool
+        ensures { result ≡ true → (v : ℕ) → v < 256 → has_value self.now v ≡ false }
+    {
         let [a, b, c, d] = self.words;
         a | b | c | d == 0
     }
 
     /// Returns whether all 256 values are there.
-    pub fn is_all(&self) -> bool {
+    pub fn is_all(&self) -> bool
+        ensures { result ≡ true → (v : ℕ) → v < 256 → has_value self.now v ≡ true }
+    {
         *self == Values::ALL
     }
 
@@ -113,7 +136,9 @@ impl Values {
     }
 
     /// Returns whether each value is in another set.
-    pub fn is_within(&self, other: &Values) -> bool {
+    pub fn is_within(&self, other: &Values) -> bool
+        ensures { result ≡ true → (v : ℕ) → v < 256 → has_value self.now v ≡ true → has_value other.now v ≡ true }
+    {
         self.and(other) == *self
     }
 
@@ -162,8 +187,17 @@ impl Values {
     }
 }
 
+// The other bits of a word.
+fn inverted(word: u64) -> u64
+    ensures { (i : ℕ) → i < 64 → (bit_at result i == 1) ≡ not (bit_at word i == 1) }
+{
+    !word
+}
+
 // The lowest bits of a word, as many as a number says.
-fn low_bits(count: u16) -> u64 {
+fn low_bits(count: u16) -> u64
+    ensures { result ≡ 2 ^ min count 64 - 1 }
+{
     if count == 0 {
         return 0;
     }
