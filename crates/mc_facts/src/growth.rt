@@ -1,4 +1,6 @@
 // Lists that grow.
+ghost use Rattle.std.specs.Prelude.{◌≡◌, [], ◌∷◌, ◌++◌, OnOk};
+
 use mc_base::NoMemory;
 
 /// Appends a value to a list.
@@ -6,7 +8,9 @@ use mc_base::NoMemory;
 /// # Errors
 ///
 /// Returns `NoMemory` if it is out of memory.
-pub fn push<T: Drop>(list: &mut Vec<T>, value: T) -> Result<(), NoMemory> {
+pub fn push<T: Drop>(list: &mut Vec<T>, value: T) -> Result<(), NoMemory>
+    ensures { OnOk result (list.new.items ≡ list.old.items ++ value ∷ []) }
+{
     match list.push(value) {
         Ok(()) => Ok(()),
         Err(_) => Err(NoMemory),

@@ -1,5 +1,5 @@
 // Facts in little room: most are of one value.
-use crate::facts::{Fact, Facts, from_address};
+use crate::facts::{Fact, Facts, from_address, is_covered};
 use crate::growth::push;
 use crate::values::Values;
 use mc_base::NoMemory;
@@ -36,14 +36,6 @@ fn add_before<'a>(list: &mut Vec<Fact>, sets: &'a [Fact], at: u16) -> Result<&'a
         push(list, *fact)?;
     }
     Ok(&[])
-}
-
-// Whether a list has a fact at its front that is within another.
-fn is_covered(rest: &[Fact], at: u16, values: &Values) -> bool {
-    match rest {
-        [first, ..] => first.at == at && first.values.is_within(values),
-        [] => false,
-    }
 }
 
 fn cover_ones(ones: &[One], list: &[Fact]) -> bool {

@@ -1,5 +1,5 @@
 use Rattle.mc_facts.proofs.BitLemmas.{not_bit}
-use Rattle.std.proofs.Common.{◌≡◌, ◌∙◌, ◌+◌, ◌-◌, ◌^◌, ap, sym, arith, ℕ, Bool, min}
+use Rattle.std.proofs.Common.{arith}
 use Rattle.mc_facts.proofs.values.inverted.Goals as goal
 
 pub returns : goal.returns
