@@ -1,0 +1,4 @@
+pub mod ByteLists
+pub mod CipherBytes
+pub mod RowBytes
+pub mod ChainBytes
