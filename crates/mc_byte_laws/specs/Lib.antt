@@ -1,2 +1,3 @@
 pub mod OfBytes
 pub mod OfChains
+pub mod OfPlays

@@ -4,6 +4,7 @@
 
 ghost use Rattle.mc_byte_laws.specs.OfBytes.{RowBytesLaw};
 ghost use Rattle.mc_byte_laws.specs.OfChains.{RunBytesLaw, StartBytesLaw, TurnBytesLaw};
+ghost use Rattle.mc_byte_laws.specs.OfPlays.{PlayBytesLaw};
 
 /// Each row of an instruction that was read from bytes, in a frame of bytes, writes bytes alone.
 pub fn rows_write_bytes()
@@ -16,4 +17,10 @@ pub fn chains_stay_bytes()
     ensures turn { TurnBytesLaw }
     ensures run { RunBytesLaw }
     ensures start { StartBytesLaw }
+{}
+
+/// Lines of bytes on an image of words of bytes play through states of bytes, whichever writes fail: the applications of
+/// the card, their names, the session and the open load.
+pub fn plays_stay_bytes()
+    ensures { PlayBytesLaw }
 {}
