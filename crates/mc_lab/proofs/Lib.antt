@@ -17,4 +17,5 @@ mod SweepAccounts
 mod SweepNames
 mod SweepLoops
 mod SweepPlayers
+mod SweepRows
 mod SweepDecks

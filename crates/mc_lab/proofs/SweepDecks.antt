@@ -11,17 +11,14 @@ use Rattle.mc_model_card.specs.Commands.{Command}
 use Rattle.mc_model_card.specs.Items.{StopAt, moves}
 use Rattle.mc_model_play.specs.DeckGrammar.{DeckLine}
 use Rattle.mc_model_play.specs.DeckGrammar as line
-use Rattle.mc_streams.specs.declared.refusals.WriteFault.{WriteFault}
-use Rattle.mc_text.specs.Texts.{Sunk, Puts, Fails, Writes}
-use Rattle.mc_text.proofs.TextLemmas.{puts_as, puts_then, fails_before}
 use Rattle.mc_model_device.proofs.ListLemmas.{length_map as map-length}
 use Rattle.mc_lab.specs.Remarks.{Remark}
 use Rattle.mc_lab.specs.declared.sweep_trial.Place.{Place}
 use Rattle.mc_lab.specs.declared.sweep_text.Sums.{Sums}
 use Rattle.mc_lab.specs.declared.sweep_word.SweepWord.{SweepWord}
-use Rattle.mc_lab.specs.Sweeps.{state_on_blank, state_after_lines, count_from, is_unarmed, is_swept, line_sweep, sweeps_with, swept_text, swept_texts, Swept, plays_of, sweep, sweep_behind, sweep_text, sums_text, text_of, names_from, total, writes_behind, count_of_broken, is_broken_at, is_whole, line_end, runs, runs_text}
+use Rattle.mc_lab.specs.Sweeps.{state_on_blank, state_after_lines, count_from, is_unarmed, is_swept, line_sweep, sweeps_with, all_marks, are_fine, rows_of, rows_text, Swept, plays_of, sweep, sweep_behind, sweep_text, sums_text, text_of, names_from, total, writes_behind, is_broken_at, is_whole}
 use Rattle.mc_lab.specs.SweepBodies.{line_at, front_of, line_in, names_in, cut_write_at, writes_in, IsUnarmedLine}
-use Rattle.mc_lab.specs.SweepEnds.{free_behind, is_open, is_open_at, sweeps_at, sweeps_from, AddsSums, AtMost}
+use Rattle.mc_lab.specs.SweepEnds.{free_behind, is_open, is_open_at, sweeps_at, sweeps_from, AddsSums, AtMost, IsLineOf}
 use Rattle.mc_lab.proofs.SweepPlays.{played_one}
 use Rattle.mc_lab.proofs.SweepPlayers.{take_one}
 use Rattle.mc_lab.proofs.SweepLoops.{counted_length, SweptAs}
@@ -113,24 +110,22 @@ most_more ls n most w new so_far here old now i lt is_open_there = elim (cases_l
 
 -- ---- sums
 
-pub adds_none : (marks : List Remark) (a : Sums) (ss : List Swept) → [] ≡ ss → AddsSums marks a ss a
-adds_none marks a ss none = subst (λ (ts : List Swept). AddsSums marks a ts a) none (record { lines = omega arith; writes = omega arith; plays = omega arith; broken = omega arith })
+pub adds_none : (a : Sums) (ss : List Swept) → [] ≡ ss → AddsSums a ss a
+adds_none a ss none = subst (λ (ts : List Swept). AddsSums a ts a) none (record { lines = omega arith; writes = omega arith; plays = omega arith })
 
 total_append : (f : Swept → ℕ) (xs ys : List Swept) → total f (xs ++ ys) ≡ total f xs + total f ys
 total_append f [] ys = omega arith
 total_append f (x ∷ xs) ys = let e = total_append f xs ys in omega (arith, e)
 
-pub adds_on : (marks : List Remark) (a b c : Sums) (xs ys : List Swept) → AddsSums marks a xs b → AddsSums marks b ys c → AddsSums marks a (xs ++ ys) c
-adds_on marks a b c xs ys one rest =
+pub adds_on : (a b c : Sums) (xs ys : List Swept) → AddsSums a xs b → AddsSums b ys c → AddsSums a (xs ++ ys) c
+adds_on a b c xs ys one rest =
     let long = length-append xs ys in
     let words = total_append (λ s. length s.words) xs ys in
     let plays = total_append (λ s. s.plays) xs ys in
-    let broken = total_append (count_of_broken marks) xs ys in
     record {
       lines = (let x = one.lines in let y = rest.lines in omega (arith, x, y, long));
       writes = (let x = one.writes in let y = rest.writes in omega (arith, x, y, words));
       plays = (let x = one.plays in let y = rest.plays in omega (arith, x, y, plays));
-      broken = (let x = one.broken in let y = rest.broken in omega (arith, x, y, broken));
     }
 
 -- ---- a line that was swept
@@ -153,29 +148,26 @@ one_swept p number n words plays is s o some =
     ∙ ap (λ (k : ℕ). record { number = number; words = take n words; plays = k }) (sym s.plays_are)
     )
 
--- the text of a line, by its words, and by whether it is broken
-abbrev pub text_by : ℕ → List SweepWord → Bool → List ℕ
-text_by number words broken = codes "line " ++ decimal number ++ codes " writes " ++ decimal (length words) ++ codes ":" ++ runs_text (runs 1 words) ++ line_end broken
+-- the swept line of a place
+pub place_line : (p : Place) (number n : ℕ) (words : List SweepWord) (plays : ℕ) → number ≡ (line_in p).0 → SweptAs p n words plays → IsUnarmedLine p → 1 ≤ n
+    → (s : Swept) × (sweeps_at p ≡ s ∷ []) × (s.number ≡ number) × (s.words ≡ take n words)
+place_line p number n words plays is s o some = (record { number = number; words = take n words; plays = plays }, one_swept p number n words plays is s o some, refl, refl)
 
-pub place_text : (marks : List Remark) (p : Place) (number n : ℕ) (words : List SweepWord) (plays : ℕ) (broken : Bool) → broken ≡ is_broken_at marks number (take n words) → number ≡ (line_in p).0 → SweptAs p n words plays → IsUnarmedLine p → 1 ≤ n
-    → text_by number (take n words) broken ≡ swept_texts marks (sweeps_at p)
-place_text marks p number n words plays broken b is s o some =
-    let swept : Swept = record { number = number; words = take n words; plays = plays } in
-    ap (text_by number (take n words)) b
-    ∙ sym (append-nil (swept_text marks swept))
-    ∙ ap (swept_texts marks) (sym (one_swept p number n words plays is s o some))
+pub line_of_place : (marks : List Remark) (s : Swept) (number n : ℕ) (words : List SweepWord) (broken : Bool) → s.number ≡ number → s.words ≡ take n words → broken ≡ is_broken_at marks number (take n words)
+    → IsLineOf marks s number (take n words) broken
+line_of_place marks s number n words broken k w b =
+    record { number_is = k; words_are = w; broken_is = b ∙ ap (λ (i : ℕ). is_broken_at marks i (take n words)) (sym k) ∙ ap (λ (ws : List SweepWord). is_broken_at marks s.number ws) (sym w) }
 
 taken_length : (p : Place) (n : ℕ) (words : List SweepWord) (plays : ℕ) → SweptAs p n words plays → length (take n words) ≡ n
 taken_length p n words plays s =
     ap length s.words_are ∙ map-length (λ t. t.word) (map (cut_write_at p) (count_from 1 (writes_in p))) ∙ counted_length (cut_write_at p) (writes_in p) ∙ sym s.writes
 
-pub place_adds : (marks : List Remark) (p : Place) (number n : ℕ) (words : List SweepWord) (plays : ℕ) (broken : Bool) (a b : Sums) → broken ≡ is_broken_at marks number (take n words) → number ≡ (line_in p).0 → SweptAs p n words plays → IsUnarmedLine p → 1 ≤ n
-    → b.lines ≡ a.lines + 1 → b.writes ≡ a.writes + n → b.plays ≡ a.plays + plays → b.broken ≡ a.broken + cond broken 1 0 → AddsSums marks a (sweeps_at p) b
-place_adds marks p number n words plays broken a b e is s o some x y z w =
+pub place_adds : (p : Place) (number n : ℕ) (words : List SweepWord) (plays : ℕ) (a b : Sums) → number ≡ (line_in p).0 → SweptAs p n words plays → IsUnarmedLine p → 1 ≤ n
+    → b.lines ≡ a.lines + 1 → b.writes ≡ a.writes + n → b.plays ≡ a.plays + plays → AddsSums a (sweeps_at p) b
+place_adds p number n words plays a b is s o some x y z =
     let long = taken_length p n words plays s in
-    let same = ap {B = ℕ} (λ (t : Bool). cond t 1 0) e in
-    subst (λ (ss : List Swept). AddsSums marks a ss b) (sym (one_swept p number n words plays is s o some))
-    (record { lines = omega (arith, x); writes = omega (arith, y, long); plays = omega (arith, z); broken = omega (arith, w, same) })
+    subst (λ (ss : List Swept). AddsSums a ss b) (sym (one_swept p number n words plays is s o some))
+    (record { lines = omega (arith, x); writes = omega (arith, y, long); plays = omega (arith, z) })
 
 -- ---- the rest of the lines
 
@@ -210,43 +202,30 @@ left_step names ls i h = left_by names ls i (line_at ls i) (slice_get-get_or ls 
 pub left_none : (names : List (List ℕ)) (ls : List (ℕ × DeckLine)) (i : ℕ) → length ls ≤ i → [] ≡ sweeps_from names ls i
 left_none names ls i h = sym (ap (λ (l : List (ℕ × DeckLine)). sweep_behind names (take i ls) l) (drop_of_length-le ls h) ∙ behind_none names (take i ls))
 
--- ---- their text
-
-module _ (marks : List Remark) where
-  texts_append : (xs ys : List Swept) → swept_texts marks (xs ++ ys) ≡ swept_texts marks xs ++ swept_texts marks ys
-  texts_append [] ys = refl
-  texts_append (x ∷ xs) ys = ap (λ (t : List ℕ). swept_text marks x ++ t) (texts_append xs ys) ∙ sym (append_assoc (swept_text marks x) (swept_texts marks xs) (swept_texts marks ys))
-
-  pub reported_on : (all xs ys : List Swept) (a b c : Sunk) (r : Result (Unit {0}) WriteFault) → all ≡ xs ++ ys → Writes a (swept_texts marks xs) b → Puts b (swept_texts marks ys) r c → Puts a (swept_texts marks all) r c
-  reported_on all xs ys a b c r is first rest =
-      puts_as a c r (sym (texts_append xs ys) ∙ ap (swept_texts marks) (sym is)) (puts_then c (swept_texts marks ys) r first rest)
-
-  pub reported_fails : (all xs ys : List Swept) (a b : Sunk) → all ≡ xs ++ ys → Fails a (swept_texts marks xs) b → Fails a (swept_texts marks all) b
-  reported_fails all xs ys a b is f = subst (λ (t : List ℕ). Fails a t b) (sym (texts_append xs ys) ∙ ap (swept_texts marks) (sym is)) (fails_before (swept_texts marks ys) f)
-
 -- ---- the whole text
 
-pub text_whole : (marks : List Remark) (ls : List (ℕ × DeckLine)) (names : List (List ℕ)) → names ≡ names_from [] ls → text_of marks (sweeps_from names ls 0) ≡ sweep_text marks ls
-unfolding sweep_text sweep
-text_whole marks ls names is = ap (λ (ns : List (List ℕ)). text_of marks (sweep_behind ns [] ls)) is
+module _ (marks : List Remark) (ls : List (ℕ × DeckLine)) (names : List (List ℕ)) (is : names ≡ names_from [] ls) where
+  abbrev all_swept : List Swept
+  all_swept = sweeps_from names ls 0
 
--- all lines that must be whole are, by the number of those that are not
-pub whole_is : (marks : List Remark) (ls : List (ℕ × DeckLine)) (names : List (List ℕ)) (a b : Sums) → names ≡ names_from [] ls → a.broken ≡ 0 → AddsSums marks a (sweeps_from names ls 0) b → (b.broken == 0) ≡ is_whole marks ls
-unfolding is_whole sweep
-whole_is marks ls names a b is x adds =
-    let ss = sweeps_from names ls 0 in
-    let broken : b.broken ≡ total (count_of_broken marks) ss = (let e = adds.broken in omega (arith, e, x)) in
-    ap (λ (n : ℕ). n == 0) broken ∙ ap (λ (ns : List (List ℕ)). total (count_of_broken marks) (sweep_behind ns [] ls) == 0) is
+  pub text_whole : text_of marks all_swept ≡ sweep_text marks ls
+  unfolding sweep_text sweep
+  text_whole = ap (λ (ns : List (List ℕ)). text_of marks (sweep_behind ns [] ls)) is
 
-pub text_is : (marks : List Remark) (ls : List (ℕ × DeckLine)) (names : List (List ℕ)) (a b : Sums) → names ≡ names_from [] ls → a.lines ≡ 0 → a.writes ≡ 0 → a.plays ≡ 0 → AddsSums marks a (sweeps_from names ls 0) b
-    → swept_texts marks (sweeps_from names ls 0) ++ sums_text b.lines b.writes b.plays ≡ sweep_text marks ls
-unfolding sweep_text sweep
-text_is marks ls names a b is x y z adds =
-    let ss = sweeps_from names ls 0 in
-    let lines : b.lines ≡ length ss = (let e = adds.lines in omega (arith, e, x)) in
-    let writes : b.writes ≡ total (λ s. length s.words) ss = (let e = adds.writes in omega (arith, e, y)) in
-    let plays : b.plays ≡ total (λ s. s.plays) ss = (let e = adds.plays in omega (arith, e, z)) in
-    ap (λ (n : ℕ). swept_texts marks ss ++ sums_text n b.writes b.plays) lines
-    ∙ ap (λ (n : ℕ). swept_texts marks ss ++ sums_text (length ss) n b.plays) writes
-    ∙ ap (λ (n : ℕ). swept_texts marks ss ++ sums_text (length ss) (total (λ s. length s.words) ss) n) plays
-    ∙ ap (λ (ns : List (List ℕ)). text_of marks (sweep_behind ns [] ls)) is
+  -- each line that must be whole is, and each mark is of a swept line
+  pub whole_is : (b : Bool) → b ≡ are_fine marks (rows_of (all_marks marks) all_swept) → b ≡ is_whole marks ls
+  unfolding is_whole sweep
+  whole_is b e = e ∙ ap (λ (ns : List (List ℕ)). are_fine marks (rows_of (all_marks marks) (sweep_behind ns [] ls))) is
+
+  pub text_is : (a b : Sums) → a.lines ≡ 0 → a.writes ≡ 0 → a.plays ≡ 0 → AddsSums a all_swept b
+      → rows_text marks (rows_of (all_marks marks) all_swept) ++ sums_text b.lines b.writes b.plays ≡ sweep_text marks ls
+  text_is a b x y z adds =
+      let ss = all_swept in
+      let rows = rows_text marks (rows_of (all_marks marks) ss) in
+      let lines : b.lines ≡ length ss = (let e = adds.lines in omega (arith, e, x)) in
+      let writes : b.writes ≡ total (λ s. length s.words) ss = (let e = adds.writes in omega (arith, e, y)) in
+      let plays : b.plays ≡ total (λ s. s.plays) ss = (let e = adds.plays in omega (arith, e, z)) in
+      ap (λ (n : ℕ). rows ++ sums_text n b.writes b.plays) lines
+      ∙ ap (λ (n : ℕ). rows ++ sums_text (length ss) n b.plays) writes
+      ∙ ap (λ (n : ℕ). rows ++ sums_text (length ss) (total (λ s. length s.words) ss) n) plays
+      ∙ text_whole

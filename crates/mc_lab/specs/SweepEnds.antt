@@ -4,10 +4,12 @@ use Rattle.mc_model_play.specs.Play.{armed_stop_in, is_card_line}
 use Rattle.mc_model_play.specs.DeckGrammar.{DeckLine}
 use Rattle.mc_model_play.specs.DeckGrammar as line
 use Rattle.mc_text.specs.Texts.{Sunk, Writes, Fails}
-use Rattle.mc_lab.specs.Sweeps.{state_on_blank, is_unarmed, is_swept, line_sweep, sweeps_with, count_of_broken, Swept, sweep_behind, total, writes_behind, names_from}
+use Rattle.mc_lab.specs.Sweeps.{state_on_blank, is_unarmed, is_swept, line_sweep, sweeps_with, are_fine, is_broken, MarksLeft, Row, Swept, sweep_behind, total, writes_behind, names_from}
 use Rattle.mc_lab.specs.Remarks.{Remark}
+use Rattle.mc_lab.specs.declared.sweep_marks.Pending.{Pending}
 use Rattle.mc_lab.specs.declared.sweep_trial.Place.{Place}
 use Rattle.mc_lab.specs.declared.sweep_text.Sums.{Sums}
+use Rattle.mc_lab.specs.declared.sweep_word.SweepWord.{SweepWord}
 use Rattle.mc_lab.specs.declared.sweep_line.Ends.{Ends}
 use Rattle.mc_lab.specs.declared.sweep_line.Pair.{Pair}
 use Rattle.mc_lab.specs.declared.sweeping.SweepFault.{SweepFault}
@@ -44,21 +46,33 @@ sweeps_at p = sweeps_with (is_swept (front_of p) (line_in p)) (line_sweep (names
 abbrev pub sweeps_from : List (List ℕ) → List (ℕ × DeckLine) → ℕ → List Swept
 sweeps_from names ls i = sweep_behind names (take i ls) (drop i ls)
 
+-- the marks that are left, as the definition has them
+abbrev pub pending_value : List Remark → Pending → MarksLeft
+pending_value marks p = record { last = p.last; left = drop p.next marks }
+
+-- a swept line has this number and these words, and is broken or not
+pub record IsLineOf (marks : List Remark) (s : Swept) (number : ℕ) (words : List SweepWord) (broken : Bool) : Type 0 where
+  pub number_is : s.number ≡ number
+  pub words_are : s.words ≡ words
+  pub broken_is : broken ≡ is_broken marks s
+
+-- whether rows are fine, added to whether those before them are
+abbrev pub AddsFine : List Remark → Bool → List Row → Bool → Type 0
+AddsFine marks a rs b = b ≡ (a && are_fine marks rs)
+
 -- ---- sums
 
 -- sums after those of swept lines are added
-pub record AddsSums (marks : List Remark) (a : Sums) (ss : List Swept) (b : Sums) : Type 0 where
+pub record AddsSums (a : Sums) (ss : List Swept) (b : Sums) : Type 0 where
   pub lines : b.lines ≡ a.lines + length ss
   pub writes : b.writes ≡ a.writes + total (λ s. length s.words) ss
   pub plays : b.plays ≡ a.plays + total (λ s. s.plays) ss
-  pub broken : b.broken ≡ a.broken + total (count_of_broken marks) ss
 
 -- bounds for the sums of `n` lines
 pub record IsSmall (a : Sums) (n : ℕ) : Type 0 where
   pub lines : a.lines ≤ n
   pub writes : a.writes ≤ n * 4294967296
   pub plays : a.plays ≤ n * 562949953421312
-  pub broken : a.broken ≤ n
 
 -- ---- ends
 

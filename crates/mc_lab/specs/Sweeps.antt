@@ -1,6 +1,6 @@
 -- Sweeps: power cut in every device write of every line of a deck, and in every write of the recovery after it, and the
 -- observed states of the card.
-use Rattle.std.specs.Prelude.{ℕ, zero, suc, ◌+◌, Bool, true, false, cond, ◌&&◌, ◌||◌, nat_le, ◌==◌, List, [], ◌∷◌, ◌++◌, length, map, replicate, bytes_eq, codes, decimal, Option, Some, None, option_map}
+use Rattle.std.specs.Prelude.{ℕ, zero, suc, ◌+◌, Bool, true, false, cond, not, ◌&&◌, ◌||◌, nat_le, nat_lt, ◌==◌, List, [], ◌∷◌, ◌++◌, length, map, replicate, bytes_eq, codes, decimal, Option, Some, None, option_map}
 use Rattle.mc_model_device.specs.declared.cause.Cause.{Cause}
 use Rattle.mc_model_device.specs.Bytes.{zeros, has_name, lookup}
 use Rattle.mc_model_device.specs.Device.{blank_words, device_words}
@@ -303,10 +303,97 @@ line_end false = codes "\n"
 abbrev pub swept_text : List Remark → Swept → List ℕ
 swept_text marks s = codes "line " ++ decimal s.number ++ codes " writes " ++ decimal (length s.words) ++ codes ":" ++ runs_text (runs 1 s.words) ++ line_end (is_broken marks s)
 
--- the text of swept lines
-abbrev pub swept_texts : List Remark → List Swept → List ℕ
-swept_texts marks [] = []
-swept_texts marks (s ∷ ss) = swept_text marks s ++ swept_texts marks ss
+-- ---- marks
+
+-- the marks `#! whole` that are left of a deck, in the order of their lines, and the last swept line above them
+pub record MarksLeft : Type 0 where
+  pub last : Option ℕ
+  pub left : List Remark
+
+-- a row of a sweep's text: a swept line, or the line of a mark that is of no swept line
+pub data Row : Type 0 where
+  SweptRow : Swept → Row
+  MarkRow : ℕ → Row
+
+-- whether a mark is of a swept line: its statement is the last of them above it
+abbrev pub is_guarded : Option ℕ → Remark → Bool
+is_guarded None m = false
+is_guarded (Some n) m = m.above.0 == n
+
+-- whether a mark is above the line with a number; each is above the end of a deck
+abbrev pub is_above : Option ℕ → Remark → Bool
+is_above None m = true
+is_above (Some n) m = nat_lt m.number n
+
+-- the row of a mark before others, unless it is of a swept line
+abbrev pub row_unless : Bool → ℕ → List Row → List Row
+row_unless true n rs = rs
+row_unless false n rs = MarkRow n ∷ rs
+
+-- some rows, or none
+abbrev pub rows_if : Bool → List Row → List Row
+rows_if true rs = rs
+rows_if false rs = []
+
+-- the rows of the marks above a line that are of no swept line, by the last swept line above them
+abbrev pub rows_above : Option ℕ → Option ℕ → List Remark → List Row
+rows_above number last [] = []
+rows_above number last (m ∷ ms) = rows_if (is_above number m) (row_unless (is_guarded last m) m.number (rows_above number last ms))
+
+-- the marks that are left, or those behind the first
+abbrev pub left_if : Bool → List Remark → List Remark → List Remark
+left_if true behind ms = behind
+left_if false behind ms = ms
+
+-- the marks that are left after those above a line
+abbrev pub left_behind : Option ℕ → List Remark → List Remark
+left_behind number [] = []
+left_behind number (m ∷ ms) = left_if (is_above number m) (left_behind number ms) (m ∷ ms)
+
+-- the rows of swept lines and of the marks above them
+abbrev pub rows_to : MarksLeft → List Swept → List Row
+rows_to q [] = []
+rows_to q (s ∷ ss) =
+    rows_above (Some s.number) q.last q.left ++ SweptRow s ∷ rows_to (record { last = Some s.number; left = left_behind (Some s.number) q.left }) ss
+
+-- the marks that are left after swept lines
+abbrev pub marks_after : MarksLeft → List Swept → MarksLeft
+marks_after q [] = q
+marks_after q (s ∷ ss) = marks_after (record { last = Some s.number; left = left_behind (Some s.number) q.left }) ss
+
+-- the rows of swept lines and of all marks that are left
+abbrev pub rows_of : MarksLeft → List Swept → List Row
+rows_of q ss =
+    let r = marks_after q ss in
+    rows_to q ss ++ rows_above None r.last r.left
+
+-- all marks of a deck
+abbrev pub all_marks : List Remark → MarksLeft
+all_marks marks = record { last = None; left = marks }
+
+-- the line of a mark that is of no swept line
+abbrev pub mark_text : ℕ → List ℕ
+mark_text n = codes "line " ++ decimal n ++ codes " not swept\n"
+
+-- the text of a row
+abbrev pub row_text : List Remark → Row → List ℕ
+row_text marks (SweptRow s) = swept_text marks s
+row_text marks (MarkRow n) = mark_text n
+
+-- the text of rows
+abbrev pub rows_text : List Remark → List Row → List ℕ
+rows_text marks [] = []
+rows_text marks (r ∷ rs) = row_text marks r ++ rows_text marks rs
+
+-- whether a row is as the marks want it: a swept line that is whole, or need not be
+abbrev pub is_fine : List Remark → Row → Bool
+is_fine marks (SweptRow s) = not (is_broken marks s)
+is_fine marks (MarkRow n) = false
+
+-- whether all rows are
+abbrev pub are_fine : List Remark → List Row → Bool
+are_fine marks [] = true
+are_fine marks (r ∷ rs) = is_fine marks r && are_fine marks rs
 
 -- a sum over swept lines
 abbrev pub total : (Swept → ℕ) → List Swept → ℕ
@@ -319,18 +406,14 @@ sums_text lines writes plays = codes "swept " ++ decimal lines ++ codes " writes
 
 -- the text of a sweep
 abbrev pub text_of : List Remark → List Swept → List ℕ
-text_of marks ss = swept_texts marks ss ++ sums_text (length ss) (total (λ s. length s.words) ss) (total (λ s. s.plays) ss)
+text_of marks ss = rows_text marks (rows_of (all_marks marks) ss) ++ sums_text (length ss) (total (λ s. length s.words) ss) (total (λ s. s.plays) ss)
 
 -- the text of a sweep of a deck, with its marks `#! whole`
 unfoldable pub sweep_text : List Remark → List (ℕ × DeckLine) → List ℕ
 unfolding sweep
 sweep_text marks ls = text_of marks (sweep ls)
 
--- 1 for a swept line that must be whole and is not
-abbrev pub count_of_broken : List Remark → Swept → ℕ
-count_of_broken marks s = cond (is_broken marks s) 1 0
-
--- whether each line of a deck that must be whole is
+-- whether each line of a deck that must be whole is, and each mark is of a swept line
 unfoldable pub is_whole : List Remark → List (ℕ × DeckLine) → Bool
 unfolding sweep
-is_whole marks ls = total (count_of_broken marks) (sweep ls) == 0
+is_whole marks ls = are_fine marks (rows_of (all_marks marks) (sweep ls))

@@ -1,5 +1,5 @@
 // One line of a sweep: each of its writes is cut, and each write of the recovery after it.
-ghost use Rattle.std.specs.Prelude.{◌≡◌, ◌&&◌, ◌+◌, ◌≤◌, ◌<◌, ◌*◌, length, map, take, IfOk, IfSome, MatchOption};
+ghost use Rattle.std.specs.Prelude.{◌≡◌, ◌&&◌, ◌+◌, ◌≤◌, ◌<◌, ◌*◌, length, map, take, IfNone, IfOk, IfSome, MatchOption};
 ghost use Rattle.mc_lab.specs.Sweeps.{all_same, count_from, plays_of};
 ghost use Rattle.mc_lab.specs.SweepBodies.{account_value, again_in, recovery_states_at, state_at_place};
 ghost use Rattle.mc_lab.specs.SweepBodies.{cut_write_at, word_with};
@@ -166,6 +166,7 @@ fn try_write<D: Trials, L: Ledger>(
 fn doubled(bound: u32) -> Option<u32>
     ensures grows { IfSome result (λ n. bound < n) }
     ensures small { IfSome result (λ n. n < 4294967295) }
+    ensures none { IfNone result (4294967294 ≤ bound) }
 {
     if bound >= 4_294_967_294 {
         return None;

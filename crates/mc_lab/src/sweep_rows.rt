@@ -36,8 +36,33 @@ pub fn two_changes_between()
 pub fn marked_line_not_whole()
     ensures { swept_deck (twice_loaded ++ codes "#! whole\napdu 8001000004\n\n# a comment\n \t#!  whole\t\n")
         ≡ Ok (
-        codes "line 4 writes 22: before 1-18 after 19-22\n" ++
+        codes "line 4 writes 22: before 1-18 after 19-22\nline 6 not swept\n" ++
         codes "line 7 writes 12: before 1-4 between 5-10 after 11-12 not whole\nswept 2 writes 34 plays 100\n") }
+{}
+
+/// A mark that is of no swept line has a line of its own, in the order of lines: at the top of a deck, under a line that
+/// makes no write, is armed or is not one to the card, after a section, and at the end.
+pub fn unswept_marks()
+    ensures top { swept_deck (codes "#! whole\n# a comment\n#! whole\nformat\npower\n")
+        ≡ Ok (codes "line 1 not swept\nline 3 not swept\nswept 0 writes 0 plays 0\n") }
+    ensures without_writes { swept_deck (counter_loaded
+        ++ codes "select A000000001\n#! whole\npower\n#! whole\napdu 8001000002\n#! whole\n")
+        ≡ Ok (
+        codes "line 4 writes 21: before 1-17 after 18-21\nline 6 writes 6: before 1-4 after 5-6\n" ++
+        codes "line 8 not swept\nline 10 not swept\nline 12 not swept\nswept 2 writes 27 plays 82\n") }
+    ensures armed { swept_deck (counter_loaded
+        ++ codes "cut 2 0000000000000000\n#! whole\napdu 8001000002\n#! whole\n")
+        ≡ Ok (
+        codes "line 4 writes 21: before 1-17 after 18-21\nline 6 writes 6: before 1-4 after 5-6\n" ++
+        codes "line 8 not swept\nline 10 not swept\nswept 2 writes 27 plays 82\n") }
+    ensures section { swept_deck (counter_loaded ++ codes "app b A000000002\nEXIT\nend\n#! whole\n")
+        ≡ Ok (
+        codes "line 4 writes 21: before 1-17 after 18-21\nline 6 writes 6: before 1-4 after 5-6\n" ++
+        codes "line 10 not swept\nswept 2 writes 27 plays 82\n") }
+    ensures between { swept_deck (twice_loaded ++ codes "#! whole\n#! whole\napdu 8001000004\n")
+        ≡ Ok (
+        codes "line 4 writes 22: before 1-18 after 19-22\nline 6 not swept\nline 7 not swept\n" ++
+        codes "line 8 writes 12: before 1-4 between 5-10 after 11-12\nswept 2 writes 34 plays 100\n") }
 {}
 
 /// A number that is raised and then lowered again is the same before and after, and `between` after the first.

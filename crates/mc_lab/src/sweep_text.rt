@@ -1,6 +1,6 @@
 // The text of a sweep.
 ghost use Rattle.std.specs.Prelude.{◌≡◌, ◌++◌, ◌+◌, ◌-◌, ◌<◌, ◌≤◌, ℕ, ◌∷◌, codes, decimal, drop, get_or, length};
-ghost use Rattle.mc_lab.specs.Sweeps.{is_word, line_end, run_text, runs, runs_text, sums_text, word_text};
+ghost use Rattle.mc_lab.specs.Sweeps.{is_word, line_end, mark_text, run_text, runs, runs_text, sums_text, word_text};
 ghost use Rattle.mc_lab.specs.declared.sweep_word.SweepWord.TheVariants.{Before};
 ghost use Rattle.mc_text.specs.Texts.{sunk, Puts};
 
@@ -9,14 +9,14 @@ use itoa::Buffer;
 use mc_streams::{Sink, WriteFault};
 use mc_text::{put, put_decimal};
 
-/// The sums of a sweep: its lines, their writes, the plays that determine their words, and the lines that must be
-/// whole and are not.
+/// The sums of a sweep: its lines, their writes, and the plays that determine their words; and whether all that must be
+/// whole is.
 #[derive(Clone, Copy, Debug)]
 pub struct Sums {
     pub lines: u128,
     pub writes: u128,
     pub plays: u128,
-    pub broken: u128,
+    pub whole: bool,
 }
 
 // Writes a sum.
@@ -115,6 +115,19 @@ pub fn put_swept<T: Sink>(
     put(out, b":")?;
     put_runs(out, words)?;
     put_end(out, broken)
+}
+
+/// Writes the line of a mark that is of no swept line, by the number of its line.
+///
+/// # Errors
+///
+/// Returns `WriteFault` if the sink fails.
+pub fn put_mark<T: Sink>(out: &mut T, number: u32) -> Result<(), WriteFault>
+    ensures { Puts (sunk T.Sink out.old) (mark_text number) result (sunk T.Sink out.new) }
+{
+    put(out, b"line ")?;
+    put_decimal(out, number)?;
+    put(out, b" not swept\n")
 }
 
 /// Writes the sums of a sweep.

@@ -1,19 +1,19 @@
 // Sweeps of a deck.
-ghost use Rattle.std.specs.Prelude.{◌≡◌, ◌+◌, ◌^◌, ◌≤◌, ◌<◌, cond, length, take, true, false};
+ghost use Rattle.std.specs.Prelude.{◌≡◌, ◌+◌, ◌≤◌, ◌<◌, ◌&&◌, List, [], ◌∷◌, length, not, take, true, false};
 ghost use Rattle.std.specs.Prelude.{IfOk, IfSome, MatchOption, OnOk};
 ghost use Rattle.mc_model_play.specs.Play.{armed_stop_in, is_card_line};
 ghost use Rattle.mc_deck.specs.Lines.{line_of};
 ghost use Rattle.mc_text.specs.Texts.{sunk, Puts};
 ghost use Rattle.mc_lab.specs.Judged.{done_of};
 ghost use Rattle.mc_lab.specs.Remarked.{remark_values};
-ghost use Rattle.mc_lab.specs.Sweeps.{is_whole, is_unarmed, names_from, state_on_blank, sweep_text, swept_texts};
+ghost use Rattle.mc_lab.specs.Sweeps.{are_fine, is_whole, is_unarmed, marks_after, names_from, rows_text, rows_to, state_on_blank, sweep_text, Swept};
 ghost use Rattle.mc_lab.specs.SweepBodies.{line_at, writes_in, AccountsHaveRoom, IsUnarmedLine, IsPlace};
-ghost use Rattle.mc_lab.specs.SweepEnds.{free_behind, is_open_at, sweeps_from, sweeps_at, AddsSums, AtMost, IsRoom};
+ghost use Rattle.mc_lab.specs.SweepEnds.{free_behind, is_open_at, sweeps_from, sweeps_at, pending_value, AddsFine, AddsSums, AtMost, IsLineOf, IsRoom};
 ghost use Rattle.mc_lab.specs.SweepEnds.{IsSmall, ReportsSweep};
 
 use crate::remark::Remark;
 use crate::sweep_line::LineSweeper;
-use crate::sweep_marks::is_broken;
+use crate::sweep_marks::{Pending, is_broken, put_above};
 use crate::sweep_names::names_of;
 use crate::sweep_play::Laboratory;
 use crate::sweep_text::{Sums, put_sums, put_swept};
@@ -144,21 +144,49 @@ fn most_writes<D: Trials + Drop, L: Ledger>(
     Some(most)
 }
 
-// One more if a line is broken.
-fn counted(count: u128, broken: bool) -> u128
-    requires { count < 2 ^ 64 }
-    ensures value { result ≡ count + cond broken 1 0 }
-    ensures most { result ≤ count + 1 }
+// Writes the lines of the marks above a swept line and its own, and returns whether all of them are as the marks want
+// it.
+fn report_place<T: Sink>(
+    out: &mut T,
+    number: u32,
+    words: &[SweepWord],
+    broken: bool,
+    marks: &[Remark<'_>],
+    pending: &mut Pending,
+) -> Result<bool, WriteFault>
+    requires { length words.now ≤ 4294967295 }
+    ensures reported { (s : Swept) → IsLineOf (remark_values marks.now) s number words.now broken
+        → Puts (sunk T.Sink out.old) (rows_text (remark_values marks.now)
+        (rows_to (pending_value (remark_values marks.now) pending.old) (s ∷ []))) (done_of result)
+        (sunk T.Sink out.new) }
+    ensures fine { IfOk result (λ b. (s : Swept) → IsLineOf (remark_values marks.now) s number words.now broken
+        → b ≡ are_fine (remark_values marks.now)
+        (rows_to (pending_value (remark_values marks.now) pending.old) (s ∷ []))) }
+    ensures left { OnOk result ((s : Swept) → s.number ≡ number
+        → pending_value (remark_values marks.now) pending.new
+        ≡ marks_after (pending_value (remark_values marks.now) pending.old) (s ∷ [])) }
 {
-    if broken { count + 1 } else { count }
+    let passed = put_above(out, Some(number), pending.last, marks, pending.next)?;
+    put_swept(out, number, words, broken)?;
+    pending.next = passed.next;
+    pending.last = Some(number);
+    Ok(is_fine(passed.whole, broken))
 }
 
-// Sweeps a line, and writes its text if it makes a device write.
+// Whether a swept line and the marks above it are as the marks want it.
+fn is_fine(whole: bool, broken: bool) -> bool
+    ensures { result ≡ (whole && not broken) }
+{
+    whole && !broken
+}
+
+// Sweeps a line, and writes its text and that of the marks above it, if it makes a device write.
 fn sweep_place<D: Trials + Drop, T: Sink, L: Ledger>(
     sweeper: &mut LineSweeper<D>,
     place: &Place<'_>,
     number: u32,
     marks: &[Remark<'_>],
+    pending: &mut Pending,
     words: &mut [SweepWord],
     out: &mut T,
     sums: &mut Sums,
@@ -172,9 +200,14 @@ fn sweep_place<D: Trials + Drop, T: Sink, L: Ledger>(
     requires sums { IsSmall sums.old place.now.at }
     requires room { AccountsHaveRoom sweeper.old.ends sweeper.old.pair (length place.now.names.now) }
     ensures reported { Puts (sunk T.Sink out.old)
-        (swept_texts (remark_values marks.now) (sweeps_at place.now))
+        (rows_text (remark_values marks.now)
+        (rows_to (pending_value (remark_values marks.now) pending.old) (sweeps_at place.now)))
         result (sunk T.Sink out.new) }
-    ensures adds { OnOk result (AddsSums (remark_values marks.now) sums.old (sweeps_at place.now) sums.new) }
+    ensures adds { OnOk result (AddsSums sums.old (sweeps_at place.now) sums.new) }
+    ensures fine { OnOk result (AddsFine (remark_values marks.now) sums.old.whole
+        (rows_to (pending_value (remark_values marks.now) pending.old) (sweeps_at place.now)) sums.new.whole) }
+    ensures left { OnOk result (pending_value (remark_values marks.now) pending.new
+        ≡ marks_after (pending_value (remark_values marks.now) pending.old) (sweeps_at place.now)) }
     ensures small { OnOk result (IsSmall sums.new (place.now.at + 1)) }
     ensures size { length words.new ≡ length words.old }
     ensures room { AccountsHaveRoom sweeper.new.ends sweeper.new.pair (length place.now.names.now) }
@@ -185,12 +218,19 @@ fn sweep_place<D: Trials + Drop, T: Sink, L: Ledger>(
     }
     let made = &words[..swept.writes];
     let broken = is_broken(marks, number, made);
-    put_swept(out, number, made, broken)?;
+    let fine = report_place(out, number, made, broken, marks, pending)?;
     sums.lines += 1;
     sums.writes += swept.writes as u128;
     sums.plays += swept.plays as u128;
-    sums.broken = counted(sums.broken, broken);
+    sums.whole = both(sums.whole, fine);
     Ok(())
+}
+
+// Whether both hold.
+fn both(a: bool, b: bool) -> bool
+    ensures { result ≡ (a && b) }
+{
+    a && b
 }
 
 // Sweeps the line at a place, if it may be swept.
@@ -198,6 +238,7 @@ fn sweep_at<D: Trials + Drop, T: Sink, L: Ledger>(
     sweeper: &mut LineSweeper<D>,
     place: &Place<'_>,
     marks: &[Remark<'_>],
+    pending: &mut Pending,
     words: &mut [SweepWord],
     out: &mut T,
     sums: &mut Sums,
@@ -209,16 +250,23 @@ fn sweep_at<D: Trials + Drop, T: Sink, L: Ledger>(
     requires sums { IsSmall sums.old place.now.at }
     requires room { AccountsHaveRoom sweeper.old.ends sweeper.old.pair (length place.now.names.now) }
     ensures reported { Puts (sunk T.Sink out.old)
-        (swept_texts (remark_values marks.now) (sweeps_at place.now))
+        (rows_text (remark_values marks.now)
+        (rows_to (pending_value (remark_values marks.now) pending.old) (sweeps_at place.now)))
         result (sunk T.Sink out.new) }
-    ensures adds { OnOk result (AddsSums (remark_values marks.now) sums.old (sweeps_at place.now) sums.new) }
+    ensures adds { OnOk result (AddsSums sums.old (sweeps_at place.now) sums.new) }
+    ensures fine { OnOk result (AddsFine (remark_values marks.now) sums.old.whole
+        (rows_to (pending_value (remark_values marks.now) pending.old) (sweeps_at place.now)) sums.new.whole) }
+    ensures left { OnOk result (pending_value (remark_values marks.now) pending.new
+        ≡ marks_after (pending_value (remark_values marks.now) pending.old) (sweeps_at place.now)) }
     ensures small { OnOk result (IsSmall sums.new (place.now.at + 1)) }
     ensures size { length words.new ≡ length words.old }
     ensures room { AccountsHaveRoom sweeper.new.ends sweeper.new.pair (length place.now.names.now) }
 {
     match open_number(place.deck, place.at) {
         None => Ok(()),
-        Some(number) => sweep_place(sweeper, place, number, marks, words, out, sums, steps),
+        Some(number) => sweep_place(
+            sweeper, place, number, marks, pending, words, out, sums, steps,
+        ),
     }
 }
 
@@ -228,13 +276,13 @@ fn no_sums() -> Sums
     ensures lines { result.lines ≡ 0 }
     ensures writes { result.writes ≡ 0 }
     ensures plays { result.plays ≡ 0 }
-    ensures broken { result.broken ≡ 0 }
+    ensures whole { result.whole ≡ true }
 {
     Sums {
         lines: 0,
         writes: 0,
         plays: 0,
-        broken: 0,
+        whole: true,
     }
 }
 
@@ -244,6 +292,7 @@ fn sweep_lines<D: Trials + Drop, T: Sink, L: Ledger>(
     deck: &Deck,
     names: &[Aid],
     marks: &[Remark<'_>],
+    pending: &mut Pending,
     words: &mut [SweepWord],
     out: &mut T,
     sums: &mut Sums,
@@ -254,14 +303,19 @@ fn sweep_lines<D: Trials + Drop, T: Sink, L: Ledger>(
     requires sums { IsSmall sums.old 0 }
     requires room { AccountsHaveRoom sweeper.old.ends sweeper.old.pair (length names.now) }
     ensures reported { Puts (sunk T.Sink out.old)
-        (swept_texts (remark_values marks.now) (sweeps_from names.now deck.now 0)) result
+        (rows_text (remark_values marks.now)
+        (rows_to (pending_value (remark_values marks.now) pending.old) (sweeps_from names.now deck.now 0))) result
         (sunk T.Sink out.new) }
-    ensures adds { OnOk result
-        (AddsSums (remark_values marks.now) sums.old (sweeps_from names.now deck.now 0) sums.new) }
+    ensures adds { OnOk result (AddsSums sums.old (sweeps_from names.now deck.now 0) sums.new) }
+    ensures fine { OnOk result (AddsFine (remark_values marks.now) sums.old.whole
+        (rows_to (pending_value (remark_values marks.now) pending.old) (sweeps_from names.now deck.now 0))
+        sums.new.whole) }
+    ensures left { OnOk result (pending_value (remark_values marks.now) pending.new
+        ≡ marks_after (pending_value (remark_values marks.now) pending.old) (sweeps_from names.now deck.now 0)) }
 {
     for at in 0..deck.len() {
         let place = Place { deck, at, names };
-        sweep_at(sweeper, &place, marks, words, out, sums, steps)?;
+        sweep_at(sweeper, &place, marks, pending, words, out, sums, steps)?;
     }
     Ok(())
 }
@@ -284,7 +338,8 @@ fn room_for<L: Ledger>(alloc: Global, deck: &Deck, steps: &mut Steps<L>) -> Resu
     })
 }
 
-// Sweeps a deck for which there is room, and writes its text. Whether each line that must be whole is.
+// Sweeps a deck for which there is room, and writes its text. Returns whether each line that must be whole is, and each
+// mark is of a swept line.
 fn sweep_in<T: Sink, L: Ledger>(
     room: &mut Room,
     deck: &Deck,
@@ -299,25 +354,32 @@ fn sweep_in<T: Sink, L: Ledger>(
     ensures whole { IfOk result (λ whole. whole ≡ is_whole (remark_values marks.now) deck.now) }
 {
     let mut sums = no_sums();
+    let mut pending = Pending {
+        next: 0,
+        last: None,
+    };
     sweep_lines(
         &mut room.sweeper,
         deck,
         room.names.as_slice(),
         marks,
+        &mut pending,
         room.words.as_mut_slice(),
         out,
         &mut sums,
         steps,
     )?;
+    let rest = put_above(out, None, pending.last, marks, pending.next)?;
     put_sums(out, &sums)?;
-    Ok(sums.broken == 0)
+    Ok(both(sums.whole, rest.whole))
 }
 
 /// Cuts power in each device write of each line of a deck for which the deck arms no stop, and in each write
 /// of the recovery after it, with eight bytes 00 and with eight bytes FF, and writes the observed state of
 /// the card: a line of text for each swept line, when it is done, and a last one with their sums. A line that is
-/// the statement of one of the marks must be whole: if one of its words is `between`, its text says so. Returns
-/// whether each of them is whole.
+/// the statement of one of the marks must be whole: if one of its words is `between`, its text says so. A mark that is of
+/// no swept line has a line of text of its own. The marks are in the order of their lines. Returns whether each line
+/// that must be whole is, and each mark is of a swept line.
 ///
 /// Each of its plays runs on a blank device of 8,192 words. All memory is allocated before the first byte is
 /// written, as measured by one play of each line that may be swept and one more each time that the room is doubled;
