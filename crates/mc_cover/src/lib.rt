@@ -10,5 +10,6 @@ mod span;
 mod tracing;
 
 pub use covering::{CoverFault, cover};
+pub use looking::running_section;
 pub use sections::Sections;
 pub use tracing::trace;

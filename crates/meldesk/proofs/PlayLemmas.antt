@@ -19,8 +19,9 @@ use Rattle.mc_desk.specs.Listings.{Desk, Source, desk_read}
 use Rattle.mc_cover.specs.declared.covering.CoverFault.{CoverFault}
 use Rattle.mc_cover.specs.declared.covering.CoverFault.TheVariants as cover
 use Rattle.mc_cover.specs.Plays.{CoversBy, CoversDeck}
-use Rattle.meldesk.specs.Jobs.{Shown, Coverage, Trace}
-use Rattle.meldesk.specs.Plays.{IsCovered, IsPlayOf, IsShown, IsShownAs, PlayVerdict, Plays, Refuses, RejectsPlay, ShowCompletes, ShowDone, ShowNoMemory, ShowReadFault, ShowSays, ShowWhole, ShowsDraft, of_desk, status_of_play}
+use Rattle.mc_steps.specs.Recorded.{StepsDeck}
+use Rattle.meldesk.specs.Jobs.{Shown, Coverage, Steps, Trace}
+use Rattle.meldesk.specs.Plays.{IsCovered, IsStepped, IsPlayOf, IsShown, IsShownAs, PlayVerdict, Plays, Refuses, RejectsPlay, ShowCompletes, ShowDone, ShowNoMemory, ShowReadFault, ShowSays, ShowWhole, ShowsDraft, of_desk, status_of_play}
 use Rattle.meldesk.specs.Running.{refused_desk}
 use Rattle.meldesk.specs.Verdicts.{has_long_deck}
 use Rattle.meldesk.proofs.StatusLemmas.{around}
@@ -59,6 +60,10 @@ draft_rejected t a rejection.NoMemory read few h = few
 pub is_covered : (name : List ℕ) (ss : List Source) (ls : List (ℕ × DeckLine)) (s : Status) (a : Bench) (x : Sunk) (r : Result (Unit {0}) Fault) (b : Bench) (y : Sunk) (old new : ℕ) → s ≡ status_after_writing Done r → CoversDeck name ss ls a x r b y old new → IsCovered name ss ls s a x b y
 is_covered name ss ls s a x r b y old new status h = record { result = r; status = status; text = h.text; sums = h.sums.deck; covers = h.covers }
 
+-- a deck whose steps were written
+pub is_stepped : (ss : List Source) (ls : List (ℕ × DeckLine)) (s : Status) (a : Bench) (x : Sunk) (r : Result (Unit {0}) Fault) (b : Bench) (y : Sunk) (old new : ℕ) → s ≡ status_after_writing Done r → StepsDeck ss ls a x r b y old new → IsStepped ss ls s a x b y
+is_stepped ss ls s a x r b y old new status h = record { result = r; status = status; text = h.text; sums = h.sums.deck; shows = h.shows }
+
 -- a deck whose coverage was not wholly written
 pub cover_fault : (name : List ℕ) (ss : List Source) (ls : List (ℕ × DeckLine)) (a : Bench) (x : Sunk) (r : Result (Unit {0}) CoverFault) (b : Bench) (y : Sunk) (old new : ℕ) → r ≡ Err cover.WriteFault → CoversBy name ss ls a x r b y old new → IsCovered name ss ls WriteFault a x b y
 cover_fault name ss ls a x r b y old new is h =
@@ -70,6 +75,7 @@ cover_fault name ss ls a x r b y old new is h =
 -- the result of a play that was shown
 shown_result : (p : Shown) (ss : List Source) (ls : List (ℕ × DeckLine)) (s : Status) (a : Bench) (x : Sunk) (b : Bench) (y : Sunk) → IsShown p ss ls s a x b y → (r : Result (Unit {0}) Fault) × (s ≡ status_after_writing Done r)
 shown_result Trace ss ls s a x b y h = (h.result, h.status)
+shown_result Steps ss ls s a x b y h = (h.result, h.status)
 shown_result (Coverage name) ss ls s a x b y h = (h.result, h.status)
 
 says_shown : (Kept : Type 0) (p : Shown) (s : Status) (a : Outside) (old new : Bench) → ShowsDraft p s a old new → ShowSays Kept p s a old new
@@ -104,6 +110,7 @@ shown_whole Trace ss ls s a x b y quiet h = by_result h.result h.status h.plays
     by_result : {f : _} (r : Result (Unit {0}) Fault) → s ≡ status_after_writing Done r → PlaysDeck f ls a x r b y → s ≡ Done
     by_result (Ok u) e plays = e
     by_result (Err w) e plays = absurd (quiet plays.from.text.cause)
+shown_whole Steps ss ls s a x b y quiet h = written_whole x y h.text Done s h.result quiet h.status h.sums.text
 shown_whole (Coverage name) ss ls s a x b y quiet h = written_whole x y h.text Done s h.result quiet h.status h.sums.text
 
 play_whole : (Kept : Type 0) (p : Shown) (v : PlayVerdict) (s : Status) (a : Outside) (old new : Bench) → (Rose a.out_old.faults a.out.faults → ⊥) → IsShownAs Kept p v s a old new → s ≡ status_of_play v

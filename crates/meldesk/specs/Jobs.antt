@@ -21,9 +21,10 @@ pub data MadeText : Type 0 where
   Names : MadeText
   Explained : (name : List ℕ) → MadeText
 
--- what is shown of a play: its trace, or its coverage as the record of a file
+-- what is shown of a play: its trace, its lines and turns as JSON Lines, or its coverage as the record of a file
 pub data Shown : Type 0 where
   Trace : Shown
+  Steps : Shown
   Coverage : (name : List ℕ) → Shown
 
 -- a job: a text made from a draft, what is shown of the play of its deck, or what the program says of itself
@@ -35,6 +36,7 @@ pub data DeskJob : Type 0 where
 -- what a play of the code shows
 abbrev pub shown_by : Play → Shown
 shown_by play.Trace = Trace
+shown_by play.Steps = Steps
 shown_by (play.Cover name) = Coverage name.now
 
 -- the text of the code
@@ -56,9 +58,9 @@ abbrev pub job_named : List ℕ → Option DeskJob
 job_named w =
     cond (bytes_eq w (codes "deck")) (Some (Makes Deck)) (cond (bytes_eq w (codes "list")) (Some (Makes Listing)) (
     cond (bytes_eq w (codes "check")) (Some (Makes Verdicts)) (cond (bytes_eq w (codes "names")) (Some (Makes Names)) (
-    cond (bytes_eq w (codes "trace")) (Some (Shows Trace)) (
+    cond (bytes_eq w (codes "trace")) (Some (Shows Trace)) (cond (bytes_eq w (codes "steps")) (Some (Shows Steps)) (
     cond (bytes_eq w (codes "--help")) (Some (Describes about.Help)) (cond (bytes_eq w (codes "--version")) (Some (Describes about.Version)) None)
-    )
+    ))
     ))
     ))
 
@@ -83,7 +85,7 @@ job_of (w ∷ n ∷ x ∷ ws) = None
 
 -- the text that is written if the words select no job
 abbrev pub usage : List ℕ
-usage = codes "usage: meldesk deck | list | check | trace | names | explain NAME | cover NAME\n"
+usage = codes "usage: meldesk deck | list | check | trace | steps | names | explain NAME | cover NAME\n"
 
 -- the version
 abbrev pub version : List ℕ
@@ -92,9 +94,10 @@ version = codes "meldesk 3\n"
 -- what the program reads and writes, its jobs, an example, and its page
 abbrev pub help : List ℕ
 help =
-    codes "usage: meldesk deck | list | check | trace | names | explain NAME | cover NAME\n\nmeldesk reads a draft from standard input, a deck in whose app sections bytes and numbers have names, and writes to standard output.\n\n" ++
+    codes "usage: meldesk deck | list | check | trace | steps | names | explain NAME | cover NAME\n\nmeldesk reads a draft from standard input, a deck in whose app sections bytes and numbers have names, and writes to standard output.\n\n" ++
     codes "  deck        the deck of the draft\n  list        the code of each section line by line\n  check       the stack checker's verdicts, with source lines; status 1 if code is refused\n" ++
     codes "  trace       plays the deck: its trace, with source lines, operands and stack\n" ++
+    codes "  steps       plays the deck: each line and each turn as a line of JSON, with what it changed\n" ++
     codes "  names       the names and labels of the sections as lines of JSON\n  explain NAME  all that is wrong with the draft, as editors read it, for the file NAME\n" ++
     codes "  cover NAME  plays the deck: how often each line ran, as an LCOV record for the file NAME\n\n" ++
     codes "Example: meldesk deck < purse.draft | melcard play\nThe page is docs/DESK.md.\n"

@@ -19,7 +19,8 @@ use Rattle.mc_desk.specs.FullTurns.{turns_of_step}
 use Rattle.mc_desk.specs.Listings.{Desk, Source, desk_read}
 use Rattle.mc_desk.specs.Traces.{trace_text}
 use Rattle.mc_cover.specs.Counting.{most_count}
-use Rattle.meldesk.specs.Jobs.{Shown, Coverage, Trace}
+use Rattle.mc_steps.specs.Recorded.{ShowsSteps}
+use Rattle.meldesk.specs.Jobs.{Shown, Coverage, Steps, Trace}
 use Rattle.meldesk.specs.Verdicts.{has_long_deck}
 
 -- ---- the verdict on a draft
@@ -56,9 +57,19 @@ pub record IsCovered (name : List ℕ) (ss : List Source) (ls : List (ℕ × Dec
   pub sums : SumsDeck (λ ts. text) ls dev_old out_old result dev out
   pub covers : let ts = plays (start dev_old.device.words) ls sums.worn in length (flat_map turns_of_step ts) ≤ most_count → text ≡ coverage name ss ts
 
+-- The deck of a draft was played and a text written, completely or up to a fault: a line for each line of the deck, in
+-- order, and before it one for each of its turns.
+pub record IsStepped (ss : List Source) (ls : List (ℕ × DeckLine)) (s : Status) (dev_old : Bench) (out_old : Sunk) (dev : Bench) (out : Sunk) : Type 0 where
+  pub result : Result (Unit {0}) Fault
+  pub status : s ≡ status_after_writing Done result
+  pub text : List ℕ
+  pub sums : SumsDeck (λ ts. text) ls dev_old out_old result dev out
+  pub shows : ShowsSteps ss (plays (start dev_old.device.words) ls sums.worn) text
+
 -- what a job shows of the play of a deck under the sections of its draft
 abbrev pub IsShown : Shown → List Source → List (ℕ × DeckLine) → Status → Bench → Sunk → Bench → Sunk → Type 0
 IsShown Trace ss ls s dev_old out_old dev out = IsTraced ss ls s dev_old out_old dev out
+IsShown Steps ss ls s dev_old out_old dev out = IsStepped ss ls s dev_old out_old dev out
 IsShown (Coverage name) ss ls s dev_old out_old dev out = IsCovered name ss ls s dev_old out_old dev out
 
 -- the verdict on a draft was carried out; a device on which nothing is played is unchanged

@@ -11,7 +11,7 @@ use mc_streams::{Sink, put_all};
 
 // What the program reads and writes, its jobs, an example, and its page.
 const HELP: &[u8] =
-    b"usage: meldesk deck | list | check | trace | names | explain NAME | cover NAME\n\
+    b"usage: meldesk deck | list | check | trace | steps | names | explain NAME | cover NAME\n\
 \n\
 meldesk reads a draft from standard input, a deck in whose app sections bytes and numbers have names, and writes to standard output.\n\
 \n\
@@ -19,6 +19,7 @@ meldesk reads a draft from standard input, a deck in whose app sections bytes an
 \x20 list        the code of each section line by line\n\
 \x20 check       the stack checker's verdicts, with source lines; status 1 if code is refused\n\
 \x20 trace       plays the deck: its trace, with source lines, operands and stack\n\
+\x20 steps       plays the deck: each line and each turn as a line of JSON, with what it changed\n\
 \x20 names       the names and labels of the sections as lines of JSON\n\
 \x20 explain NAME  all that is wrong with the draft, as editors read it, for the file NAME\n\
 \x20 cover NAME  plays the deck: how often each line ran, as an LCOV record for the file NAME\n\

@@ -33,6 +33,8 @@ pub enum About {
 pub enum Play<'a> {
     /// Its trace, with the source line of each turn.
     Trace,
+    /// Each line and each turn as a line of JSON, with what it changed.
+    Steps,
     /// The number of times that each line ran and each branch went each way, for a file of this name.
     Cover(&'a [u8]),
 }
@@ -58,6 +60,7 @@ fn job_named<'a>(word: &str) -> Option<Job<'a>>
         "check" => Some(Job::Write(Text::Verdicts)),
         "names" => Some(Job::Write(Text::Names)),
         "trace" => Some(Job::Play(Play::Trace)),
+        "steps" => Some(Job::Play(Play::Steps)),
         "--help" => Some(Job::Describe(About::Help)),
         "--version" => Some(Job::Describe(About::Version)),
         _ => None,

@@ -1,4 +1,4 @@
-// The jobs that play the deck of a draft: its trace, and its coverage.
+// The jobs that play the deck of a draft: its trace, its steps, and its coverage.
 ghost use Rattle.std.specs.Prelude.{◌≡◌, IfErr, IfOk};
 ghost use Rattle.mc_script.specs.Players.{IsUnfused};
 ghost use Rattle.mc_script.specs.Benches.{bench_at};
@@ -7,7 +7,7 @@ ghost use Rattle.mc_filter.specs.declared.rejection.Rejection.TheVariants as rej
 ghost use Rattle.mc_filter.specs.Outside.{outside};
 ghost use Rattle.mc_desk.specs.Sources.{sources_value};
 ghost use Rattle.meldesk.specs.Jobs.{shown_by};
-ghost use Rattle.meldesk.specs.Plays.{IsCovered, IsShown, IsTraced, RejectsPlay, ShowSays, ShowsDraft};
+ghost use Rattle.meldesk.specs.Plays.{IsCovered, IsShown, IsStepped, IsTraced, RejectsPlay, ShowSays, ShowsDraft};
 
 use crate::job::Play;
 use crate::running::{desk_of, end};
@@ -17,6 +17,7 @@ use mc_deck::Deck;
 use mc_desk::Desk;
 use mc_filter::{Rejection, Status, ended, read_input};
 use mc_nvm::Bench;
+use mc_steps::put_steps;
 use mc_streams::{Sink, Source};
 use std::alloc::Global;
 use std::sync::ledger::Ledger;
@@ -34,6 +35,25 @@ fn write_trace<T: Sink, N: Bench, L: Ledger>(
         (sunk T.Sink out.old) (bench_at N.Bench dev.new) (sunk T.Sink out.new) }
 {
     ended(Status::Done, trace(sections, deck, dev, out, steps))
+}
+
+// Plays a deck, whose text is `text`, and writes its lines and turns as JSON Lines under the sections of its draft.
+fn write_steps<T: Sink, N: Bench, L: Ledger>(
+    sections: &Sections<'_>,
+    text: &[u8],
+    deck: &Deck,
+    out: &mut T,
+    dev: &mut N,
+    steps: &mut Steps<L>,
+) -> Status
+    requires { IsUnfused (N.bench dev.old) }
+    ensures { IsStepped sections.now deck.now result (bench_at N.Bench dev.old)
+        (sunk T.Sink out.old) (bench_at N.Bench dev.new) (sunk T.Sink out.new) }
+{
+    ended(
+        Status::Done,
+        put_steps(sections, text, deck, dev, out, steps),
+    )
 }
 
 // Plays a deck and writes how often each line of its draft's code ran, as a record for the file `name`.
@@ -61,11 +81,12 @@ fn write_coverage<T: Sink, N: Bench, L: Ledger>(
     }
 }
 
-// Plays a deck under the sections of its draft, and writes what a job shows of the play.
+// Plays a deck, whose text is `text`, under the sections of its draft, and writes what a job shows of the play.
 fn play_deck<T: Sink, N: Bench, L: Ledger>(
     alloc: Global,
     play: Play<'_>,
     sections: &Sections<'_>,
+    text: &[u8],
     deck: &Deck,
     out: &mut T,
     dev: &mut N,
@@ -81,6 +102,7 @@ fn play_deck<T: Sink, N: Bench, L: Ledger>(
 {
     match play {
         Play::Trace => Ok(write_trace(sections, deck, out, dev, steps)),
+        Play::Steps => Ok(write_steps(sections, text, deck, out, dev, steps)),
         Play::Cover(name) => write_coverage(alloc, name, sections, deck, out, dev, steps),
     }
 }
@@ -103,7 +125,16 @@ fn play_desk<T: Sink, N: Bench, L: Ledger>(
     ensures kept { IfErr result (λ e. dev.new ≡ dev.old) }
 {
     let sections = Sections::new(alloc, desk.sources.as_slice())?;
-    play_deck(alloc, play, &sections, &desk.deck, out, dev, steps)
+    play_deck(
+        alloc,
+        play,
+        &sections,
+        desk.text.as_slice(),
+        &desk.deck,
+        out,
+        dev,
+        steps,
+    )
 }
 
 // Plays the deck of a draft that is read, and writes what a job shows of the play.

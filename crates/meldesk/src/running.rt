@@ -37,7 +37,7 @@ use std::sync::ledger::Ledger;
 
 // The text that is written if the words select no job.
 const USAGE: &[u8] =
-    b"usage: meldesk deck | list | check | trace | names | explain NAME | cover NAME\n";
+    b"usage: meldesk deck | list | check | trace | steps | names | explain NAME | cover NAME\n";
 
 // Reads a draft, or returns the line that refuses it.
 fn draft_of(alloc: Global, text: &[u8]) -> Result<Draft<'_>, Rejection>

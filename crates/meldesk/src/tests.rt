@@ -150,6 +150,7 @@ fn refused(rt: HostRuntime) -> Result<(), Fail> {
         &["list"] as &[&str],
         &["check"],
         &["trace"],
+        &["steps"],
         &["names"],
         &["cover", "f"],
     ] {
@@ -213,6 +214,35 @@ f:2:1: BadLine: `reboot` stands here; expected a statement in lower case with as
     Ok(())
 }
 
+// The steps of a play.
+const STEPS: &[u8] = b"{\"line\":1,\"source\":1,\"text\":\"format\",\"result\":\"formatted\"}\n\
+{\"line\":2,\"source\":2,\"text\":\"power\",\"result\":\"ready 0\"}\n\
+{\"line\":3,\"source\":3,\"text\":\"app c A000000a00\"}\n\
+{\"line\":12,\"source\":12,\"text\":\"load c 2 1\",\"result\":\"9000\"}\n\
+{\"line\":13,\"source\":13,\"text\":\"select A000000a00\",\"result\":\"9000\"}\n\
+{\"frame\":1,\"aid\":\"A000000A00\",\"command\":\"80020000\",\"sets\":[[50180,\"8002\"],[50191,\"90\"]]}\n\
+{\"turn\":1,\"depth\":1,\"aid\":\"A000000A00\",\"place\":0,\"source\":8,\"ins\":\"CMPB PT[-12],1\",\"dt\":32769,\"lb\":32769,\"c\":0,\"z\":0,\"open\":false,\"sets\":[],\"writes\":[]}\n\
+{\"turn\":2,\"depth\":1,\"aid\":\"A000000A00\",\"place\":4,\"source\":9,\"ins\":\"INCN SB[0],2\",\"dt\":32769,\"lb\":32769,\"c\":0,\"z\":0,\"open\":false,\"sets\":[[1,\"01\"]],\"writes\":[1,6]}\n\
+{\"turn\":3,\"depth\":1,\"aid\":\"A000000A00\",\"place\":8,\"source\":10,\"ins\":\"EXITSW 0x6985\",\"dt\":32769,\"lb\":32769,\"c\":0,\"z\":0,\"open\":false,\"sets\":[[50191,\"6985\"]],\"writes\":[]}\n\
+{\"line\":14,\"source\":14,\"text\":\"apdu 80020000\",\"result\":\"6985\"}\n";
+
+// The lines and turns of a play, whole and up to a fault of the sink.
+#[test]
+fn steps(rt: HostRuntime) -> Result<(), Fail> {
+    let alloc = rt.alloc();
+    assert!(rt; made(alloc, &["steps"], COUNTER)?.is(0, STEPS));
+    let words = words(alloc, &["steps"])?;
+    for room in [0, 1, 60, 923] {
+        let end = ended(alloc, words.as_slice(), COUNTER, room, &[])?;
+        let written = end.text.as_slice();
+        assert!(rt;
+            end.status == 4 && written.len() == room && STEPS.starts_with(written),
+            "at {room}"
+        );
+    }
+    Ok(())
+}
+
 // What the program says of itself, without a draft.
 #[test]
 fn about(rt: HostRuntime) -> Result<(), Fail> {
@@ -243,7 +273,7 @@ fn usage(rt: HostRuntime) -> Result<(), Fail> {
     ] {
         let end = made(alloc, texts, BROKEN)?;
         let line =
-            b"usage: meldesk deck | list | check | trace | names | explain NAME | cover NAME\n";
+            b"usage: meldesk deck | list | check | trace | steps | names | explain NAME | cover NAME\n";
         assert!(rt; end.is(2, line) && end.left == BROKEN.len());
     }
     Ok(())

@@ -1,0 +1,4 @@
+pub mod ChangeLemmas
+pub mod DeckLemmas
+pub mod PlayLemmas
+pub mod TurnLemmas

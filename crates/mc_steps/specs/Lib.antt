@@ -1,0 +1,3 @@
+pub mod Shots
+pub mod Lines
+pub mod Recorded

@@ -1,0 +1,17 @@
+#![tactic(auto)]
+
+//! Plays of drafts as JSON Lines: each line of the deck, and each turn with the bytes that it changed.
+
+mod changes;
+mod guard;
+mod keys;
+mod looking;
+mod memory;
+mod playing;
+mod recording;
+mod shot;
+mod statements;
+mod watching;
+mod writes;
+
+pub use playing::put_steps;

@@ -1,0 +1,594 @@
+"""What a client of the Debug Adapter Protocol asks of a play, and what it is answered."""
+
+from __future__ import annotations
+
+import base64
+import os
+import re
+from typing import Callable, Dict, List, Optional
+
+from desktexts import Play, Refused, Section, desk, sections_of
+from labtexts import lines_of
+from units import statements
+
+from . import cuts, stops, views
+from .expressions import BadExpression, Bytes, value_of
+from .stack import CODE, Spot, instructions, memory, reference, spots
+from .stops import Breakpoint, Stop, Stops, Watch
+from .walk import Position, Walk, expectations_of
+from .wire import Wire
+
+CAPABILITIES = {
+    "supportsConfigurationDoneRequest": True, "supportsFunctionBreakpoints": True, "supportsConditionalBreakpoints": True,
+    "supportsHitConditionalBreakpoints": True, "supportsLogPoints": True, "supportsDataBreakpoints": True, "supportsStepBack": True,
+    "supportsEvaluateForHovers": True, "supportsReadMemoryRequest": True, "supportsDisassembleRequest": True,
+    "supportsInstructionBreakpoints": True, "supportsExceptionInfoRequest": True, "supportsRestartRequest": True,
+    "supportsTerminateRequest": True, "supportsBreakpointLocationsRequest": True,
+    "exceptionBreakpointFilters": [{"filter": it, "label": text, "default": True} for it, text in stops.FILTERS.items()]}
+EXPLAINED = re.compile(r"(.*):(\d+):(\d+): (\w+): (.*)$")
+REFUSED = re.compile(r"line (\d+) \w+$")
+MOVES = ("continue", "next", "stepIn", "stepOut", "stepBack", "reverseContinue")
+# What is asked only of a play that stands still, besides moves.
+STANDING = ("evaluate", "cut", "whole", "restart", "launch", "configurationDone")
+HELP = """cut [K [FILL]]   cut power in the next device write, or in write K of this line, and play on
+whole            go back to the play without the cut
+watch NAME       stop when these bytes change; unwatch [NAME] takes it back
+goto LINE        go to the statement of a line
+back             undo one instruction
+All else is an expression: tries, amount+1, balance.size, PB[0],2, tries == 0 and not shown
+"""
+
+
+class Failed(Exception):
+    """Why a request fails."""
+
+
+class Adapter:
+    """A session with one client."""
+
+    def __init__(self, wire: Wire) -> None:
+        self.wire = wire
+        self.path, self.line = "", None
+        self.draft = b""
+        self.sections: List[Section] = []
+        self.statement_lines: List[int] = []
+        self.walk: Optional[Walk] = None
+        self.play: Optional[Play] = None
+        self.whole: Optional[Position] = None
+        self.position = Position(0, 0)
+        self.stops = Stops(self.console)
+        self.cut: Optional[cuts.Cut] = None
+        # Why the play stands still, and why it went somewhere while a request was answered that is no move.
+        self.stopped: Optional[Stop] = None
+        self.jumped: Optional[Stop] = None
+        self.stop_on_entry = False
+        self.is_over = self.is_done = False
+        self.told = 0
+        self.numbers = 0
+        self.refs: List[Callable[[], List[dict]]] = []
+        self.shown: List[List[views.Shown]] = []
+
+    # ---- the loop
+
+    def serve(self) -> None:
+        """Answers requests until the client leaves."""
+        while not self.is_done and (request := self.wire.next()) is not None:
+            self.handle(request)
+        self.close()
+
+    def close(self) -> None:
+        """Ends the play."""
+        if self.play is not None:
+            self.play.close()
+            self.play = None
+
+    def handle(self, request: dict) -> None:
+        """Answers one request."""
+        if request.get("type") != "request":
+            return
+        name, given = request["command"], request.get("arguments") or {}
+        self.jumped = None
+        method = getattr(self, "on_" + name, None)
+        if method is None:
+            self.wire.refuse(request, f"there is no request {name}")
+            return
+        try:
+            body = method(given)
+        except (Failed, Refused, BadExpression, cuts.NoCut) as why:
+            self.wire.refuse(request, str(why))
+            return
+        except (KeyError, IndexError, TypeError, ValueError) as why:
+            self.wire.refuse(request, f"{name} is malformed: {why!r}")
+            return
+        self.wire.answer(request, body)
+        if name in MOVES or name in ("configurationDone", "restart"):
+            self.move("entry" if name in ("configurationDone", "restart") else name)
+        elif self.jumped is not None:
+            self.stop(self.jumped)
+        elif name == "launch":
+            self.wire.event("initialized")
+
+    def console(self, text: str, category: str = "console", **more: object) -> None:
+        """Writes to the client's console."""
+        self.wire.event("output", category=category, output=text, **more)
+
+    # ---- the beginning and the end
+
+    def on_initialize(self, given: dict) -> dict:
+        return CAPABILITIES
+
+    def on_launch(self, given: dict) -> None:
+        self.path = os.path.abspath(given["program"])
+        self.line = given.get("line")
+        self.stop_on_entry = bool(given.get("stopOnEntry"))
+        if given.get("meldesk"):
+            os.environ["MELDESK"] = given["meldesk"]
+        self.load()
+
+    def on_restart(self, given: dict) -> None:
+        self.load()
+
+    def load(self) -> None:
+        """Reads the draft and begins to play it."""
+        try:
+            with open(self.path, "rb") as file:
+                self.draft = file.read()
+            is_told = self.explain()
+            self.sections = sections_of(self.draft)
+            deck = lines_of(desk(["deck"], self.draft))
+        except OSError as error:
+            raise Failed(str(error)) from None
+        except Refused as why:
+            refused = REFUSED.match(why.text)
+            if refused and not is_told:
+                self.console(f"{why}\n", "stderr", source=self.source(), line=int(refused.group(1)))
+            raise Failed(f"{os.path.basename(self.path)}: {why}") from None
+        self.statement_lines = [number for number, _ in statements(deck)]
+        self.whole, self.told, self.is_over = None, 0, False
+        self.begin(self.draft, lambda it: it, expectations_of(deck, self.statement_lines))
+
+    def begin(self, draft: bytes, line_of: Callable[[int], int], expected: Dict[int, List[str]]) -> None:
+        """Begins to play a draft."""
+        self.close()
+        self.play = Play(draft)
+        self.walk = Walk(self.play, self.sections, line_of, expected)
+        self.position, self.stopped = Position(0, 0), None
+
+    def explain(self) -> bool:
+        """Writes all that is wrong with the draft, each with its line, and returns whether anything but warnings is."""
+        is_told, name = False, os.path.basename(self.path)
+        try:
+            text = desk(["explain", name], self.draft)
+        except Refused as why:
+            text = why.text
+        for line in text.splitlines():
+            found = EXPLAINED.match(line)
+            if found:
+                is_told = is_told or found.group(4) != "warning"
+                self.console(line + "\n", "console" if found.group(4) == "warning" else "stderr", source=self.source(),
+                             line=int(found.group(2)), column=int(found.group(3)))
+        return is_told
+
+    def on_configurationDone(self, given: dict) -> None:
+        if self.walk is None:
+            raise Failed("nothing was launched")
+
+    def on_disconnect(self, given: dict) -> None:
+        self.is_done = True
+
+    def on_terminate(self, given: dict) -> None:
+        self.wire.event("terminated")
+
+    def source(self) -> dict:
+        """Returns the draft, as the protocol names it."""
+        return {"name": os.path.basename(self.path), "path": self.path}
+
+    # ---- breakpoints
+
+    def number(self) -> int:
+        """Returns a number for a breakpoint."""
+        self.numbers += 1
+        return self.numbers
+
+    def made(self, given: dict, **where: object) -> Breakpoint:
+        """Returns the breakpoint that was asked for."""
+        count = re.search(r"\d+", given.get("hitCondition") or "")
+        return Breakpoint(self.number(), condition=given.get("condition") or "", message=given.get("logMessage") or "",
+                          count=int(count.group()) if count else 0, **where)  # type: ignore[arg-type]
+
+    def lines_with_code(self) -> List[int]:
+        """Returns the lines on which a run may stop."""
+        return sorted({code.line for it in self.sections for code in it.code} | set(self.statement_lines))
+
+    def on_setBreakpoints(self, given: dict) -> dict:
+        asked = given.get("breakpoints")
+        asked = [{"line": it} for it in given.get("lines", [])] if asked is None else asked
+        path = given["source"].get("path") or ""
+        if os.path.realpath(path) != os.path.realpath(self.path):
+            return {"breakpoints": [{"verified": False, "message": f"{os.path.basename(self.path)} is what is played"} for _ in asked]}
+        self.stops.lines, told, lines = [], [], self.lines_with_code()
+        for it in asked:
+            line = next((at for at in lines if at >= it["line"]), None)
+            if line is None:
+                told.append({"verified": False, "message": "there is no code from this line on"})
+                continue
+            self.stops.lines.append(self.made(it, line=line))
+            told.append({"id": self.numbers, "verified": True, "line": line, "source": self.source()})
+        return {"breakpoints": told}
+
+    def on_breakpointLocations(self, given: dict) -> dict:
+        first, last = given["line"], given.get("endLine", given["line"])
+        return {"breakpoints": [{"line": it} for it in self.lines_with_code() if first <= it <= last]}
+
+    def on_setFunctionBreakpoints(self, given: dict) -> dict:
+        self.stops.functions, told = [], []
+        for it in given["breakpoints"]:
+            front, _, label = it["name"].rpartition(".")
+            found = [(section, section.labels[label]) for section in self.sections if label in section.labels and front in ("", section.name)]
+            found = found or [(section, 0) for section in self.sections if section.name == it["name"]]
+            if not found:
+                told.append({"verified": False, "message": f"there is no label {it['name']}"})
+                continue
+            section, place = found[0]
+            self.stops.functions.append(self.made(it, section=section, place=place))
+            code = section.at(place)
+            told.append({"id": self.numbers, "verified": True, "source": self.source(), **({"line": code.line} if code else {})})
+        return {"breakpoints": told}
+
+    def on_setInstructionBreakpoints(self, given: dict) -> dict:
+        self.stops.places, told = [], []
+        for it in given["breakpoints"]:
+            index, place = divmod(int(it["instructionReference"], 0) + it.get("offset", 0) - CODE, 0x10000)
+            section = self.sections[index] if 0 <= index < len(self.sections) else None
+            code = section.at(place) if section else None
+            if section and code and code.place == place:
+                self.stops.places.append(self.made(it, section=section, place=place))
+                told.append({"id": self.numbers, "verified": True, "line": code.line, "source": self.source()})
+            else:
+                told.append({"verified": False, "message": "no instruction begins there"})
+        return {"breakpoints": told}
+
+    def on_setExceptionBreakpoints(self, given: dict) -> None:
+        self.stops.filters = set(given.get("filters", [])) & set(stops.FILTERS)
+
+    def on_dataBreakpointInfo(self, given: dict) -> dict:
+        name, ref = given["name"], given.get("variablesReference")
+        shown = next((it for it in (self.shown[ref - 1] if ref else []) if it.name == name), None)
+        try:
+            spot = self.spot(given.get("frameId"))
+            found = self.watchable(shown.expression if shown is not None else name, spot)
+        except (Failed, BadExpression) as why:
+            return {"dataId": None, "description": str(why)}
+        aid = spot.frame.aid if spot.frame is not None else ""
+        return {"dataId": stops.watch_id(aid, found.address, len(found.content), name), "accessTypes": ["write"],
+                "description": f"{name}, {len(found.content)} bytes at {found.address:04X}", "canPersist": stops.is_kept(found.address)}
+
+    def watchable(self, expression: str, spot: Spot) -> Bytes:
+        """Returns the bytes that an expression names."""
+        value = value_of(expression, spot.names())
+        if not isinstance(value, Bytes):
+            raise Failed(f"{expression} names no bytes")
+        return value
+
+    def on_setDataBreakpoints(self, given: dict) -> dict:
+        self.stops.watches, told = [], []
+        for it in given["breakpoints"]:
+            watch = stops.watch_of(it["dataId"], self.number(), it.get("condition") or "")
+            if watch is not None:
+                self.stops.watches.append(watch)
+            told.append({"id": self.numbers, "verified": watch is not None})
+        return {"breakpoints": told}
+
+    # ---- moves
+
+    def on_continue(self, given: dict) -> dict:
+        return {"allThreadsContinued": True}
+
+    def _move(self, given: dict) -> None:
+        if self.walk is None:
+            raise Failed("nothing was launched")
+
+    on_next = on_stepIn = on_stepOut = on_stepBack = on_reverseContinue = _move
+
+    def on_pause(self, given: dict) -> None:
+        self.jumped = Stop("pause", "")
+
+    def move(self, name: str) -> None:
+        """Goes to where a request leads, and says where that is."""
+        if name == "continue" and self.is_over:
+            self.wire.event("terminated")
+            self.wire.event("exited", exitCode=0)
+            return
+        try:
+            self.stop(self.enter() if name == "entry" else self.run(name))
+        except Refused as why:
+            self.console(f"{why}\n", "stderr")
+            self.wire.event("terminated")
+
+    def enter(self) -> Optional[Stop]:
+        """Goes to where the launch asked for: a line's first turn, the first statement, or the first breakpoint."""
+        assert self.walk is not None and self.play is not None
+        if self.play.statement(0) is None:
+            raise Refused("the draft has no statement", 1)
+        if self.line is not None:
+            self.go_to(self.line)
+            return Stop("entry", f"line {self.line}")
+        if self.stop_on_entry:
+            return Stop("entry", "")
+        found = self.stops.at(self.walk, self.position, False)
+        return found or self.run("continue")
+
+    def go_to(self, line: int) -> None:
+        """Goes to the first turn of the statement of a line."""
+        assert self.walk is not None and self.play is not None
+        for number, it in enumerate(self.play.statements()):
+            if self.walk.line(Position(number, 0)) == line:
+                self.position = Position(number, 1 if it.turns else 0)
+                self.tell()
+                return
+        raise Refused(f"line {line} is no statement that is played", 1)
+
+    def run(self, name: str) -> Optional[Stop]:
+        """Goes on, or back, until there is a reason to stop; None if the client left."""
+        assert self.walk is not None
+        is_back = name in ("stepBack", "reverseContinue")
+        start, steps = self.walk.level(self.position), 0
+        while True:
+            if name in ("continue", "reverseContinue"):
+                self.skip(is_back)
+            found = self.walk.step(self.position, is_back)
+            if found is None:
+                self.tell(is_end=not is_back)
+                self.is_over = not is_back
+                return Stop("pause" if name in ("continue", "reverseContinue") else "step",
+                            "the beginning of the play" if is_back else "the end of the play")
+            self.position, self.is_over = found, False
+            self.tell()
+            stop = self.stops.at(self.walk, found, is_back) or self.stepped(name, start)
+            if stop is not None:
+                return stop
+            steps += 1
+            if (steps % 1024 == 0 or found.at == 0) and self.is_interrupted():
+                return None if self.is_done else Stop("pause", "")
+
+    def skip(self, is_back: bool) -> None:
+        """Goes over the turns at which a run does not stop, up to the one right before the next at which it may."""
+        assert self.walk is not None
+        number, end = self.position.statement, len(self.walk.statement(self.position).turns)
+        if not (1 <= self.position.at <= end):
+            return
+        found = self.stops.next(self.walk, self.position, is_back)
+        at = (found or 0) + 1 if is_back else (found or end + 1) - 1
+        self.position = Position(number, at)
+
+    def stepped(self, name: str, start: tuple) -> Optional[Stop]:
+        """Whether a step of some kind, which began at a depth, is done."""
+        assert self.walk is not None
+        if name in ("stepIn", "stepBack"):
+            return Stop("step", "")
+        if name not in ("next", "stepOut"):
+            return None
+        level = self.walk.level(self.position)
+        return Stop("step", "") if (level <= start if name == "next" else level < start or start == (0, 0)) else None
+
+    def is_interrupted(self) -> bool:
+        """Whether the client asked for a pause, or left; its other requests are answered."""
+        while not self.is_done and (request := self.wire.waiting()) is not None:
+            if request.get("command") == "pause":
+                self.wire.answer(request)
+                return True
+            if request.get("command") in (*MOVES, *STANDING):
+                self.wire.refuse(request, "the play runs")
+            else:
+                self.handle(request)
+        return self.is_done
+
+    def tell(self, is_end: bool = False) -> None:
+        """Writes the results of the statements that are done, each once."""
+        assert self.walk is not None and self.play is not None
+        end = self.position.statement + (1 if is_end or self.walk.is_after(self.position) else 0)
+        while self.told < end:
+            it = self.play.statement(self.told)
+            assert it is not None
+            if it.result is not None:
+                line = self.walk.line(Position(self.told, 0))
+                self.console(f"{line} {it.text}: {it.result}\n", "stdout", source=self.source(), line=line)
+            self.told += 1
+
+    def stop(self, why: Optional[Stop]) -> None:
+        """Says that the play stands still."""
+        if why is None:
+            return
+        self.stopped, self.refs, self.shown = why, [], []
+        more = {"description": why.text, "text": why.text} if why.text else {}
+        self.wire.event("stopped", reason=why.reason, threadId=1, allThreadsStopped=True, **more, **({"hitBreakpointIds": why.hit} if why.hit else {}))
+
+    # ---- what is shown
+
+    def on_threads(self, given: dict) -> dict:
+        return {"threads": [{"id": 1, "name": "card"}]}
+
+    def on_exceptionInfo(self, given: dict) -> dict:
+        if self.stopped is None or self.stopped.reason != "exception":
+            raise Failed("the play did not stop for an exception")
+        return {"exceptionId": "abend" if self.stopped.text.startswith("abend") else "expectation", "description": self.stopped.text,
+                "breakMode": "always"}
+
+    def spots(self) -> List[Spot]:
+        """Returns the frames of the stack trace, the running one first."""
+        if self.walk is None:
+            raise Failed("nothing was launched")
+        return spots(self.walk, self.position)
+
+    def spot(self, number: Optional[int]) -> Spot:
+        """Returns a frame by the number that the client has of it; the running one without."""
+        found = self.spots()
+        return found[(number or 1) - 1]
+
+    def on_stackTrace(self, given: dict) -> dict:
+        found = self.spots()
+        first, count = given.get("startFrame", 0), given.get("levels") or len(found)
+        frames = []
+        for number, it in enumerate(found[first:first + count], first + 1):
+            frame = {"id": number, "name": it.name, "line": it.line or 0, "column": 1 if it.line else 0}
+            if it.line:
+                frame["source"] = self.source()
+            address = reference(self.sections, it)
+            if address is not None:
+                frame["instructionPointerReference"] = address
+            frames.append(frame)
+        return {"stackFrames": frames, "totalFrames": len(found)}
+
+    def keep(self, shown: List[views.Shown], depth: int, spot: Spot) -> int:
+        """Keeps the lines of a scope, and returns the reference by which the client asks for them."""
+        self.refs.append(lambda: [self.variable(it, depth, spot) for it in shown])
+        self.shown.append(shown)
+        return len(self.refs)
+
+    def variable(self, it: views.Shown, depth: int, spot: Spot) -> dict:
+        """Returns a line of a scope, as the protocol has it."""
+        made = {"name": it.name, "value": it.value, "variablesReference": 0, **({"type": it.type} if it.type else {}),
+                **({"evaluateName": it.expression} if it.expression else {})}
+        if it.address is not None:
+            made["memoryReference"] = hex(depth * 0x10000 + it.address)
+            if it.size > views.LONG and spot.state is not None:
+                below = list(views.rows(spot.state, depth, it.address, it.size, it.name, it.address))
+                for row in below:
+                    row.expression = ""
+                made["variablesReference"] = self.keep(below, depth, spot)
+        return made
+
+    def on_scopes(self, given: dict) -> dict:
+        spot, scopes = self.spot(given["frameId"]), []
+        for name, shown in spot.scopes(self.stopped):
+            scopes.append({"name": name, "variablesReference": self.keep(shown, spot.depth, spot), "expensive": False,
+                           "namedVariables": len(shown)})
+        return {"scopes": scopes}
+
+    def on_variables(self, given: dict) -> dict:
+        found = self.refs[given["variablesReference"] - 1]()
+        start = given.get("start") or 0
+        return {"variables": found[start:start + (given.get("count") or len(found))]}
+
+    def on_evaluate(self, given: dict) -> dict:
+        text, spot = given["expression"].strip(), self.spot(given.get("frameId"))
+        if given.get("context") == "repl":
+            said = self.order(text.split(), spot)
+            if said is not None:
+                return {"result": said.rstrip("\n"), "variablesReference": 0}
+        value = value_of(text, spot.names())
+        more = {"memoryReference": hex(spot.depth * 0x10000 + value.address), "type": f"{len(value.content)} bytes"} \
+            if isinstance(value, Bytes) else {"type": "number"}
+        return {"result": views.value_text(value), "variablesReference": 0, **more}
+
+    def on_readMemory(self, given: dict) -> dict:
+        address = int(given["memoryReference"], 0) + given.get("offset", 0)
+        start, content = memory(self.walk, self.position, address, given["count"])
+        return {"address": hex(start), "data": base64.b64encode(content).decode(), "unreadableBytes": given["count"] - len(content)}
+
+    def on_disassemble(self, given: dict) -> dict:
+        address = int(given["memoryReference"], 0) + given.get("offset", 0)
+        return {"instructions": instructions(self.sections, address, given.get("instructionOffset", 0), given["instructionCount"], self.source())}
+
+    # ---- cuts and the words of the console
+
+    def order(self, fields: List[str], spot: Spot) -> Optional[str]:
+        """Does what a word of the console says, and returns what is answered; None if it is no such word."""
+        word, rest = (fields or [""])[0], fields[1:]
+        orders: Dict[str, Callable[[], str]] = {
+            "help": lambda: HELP, "cut": lambda: self.console_cut(rest), "whole": self.play_whole, "goto": lambda: self.console_goto(rest),
+            "watch": lambda: self.console_watch(rest, spot), "unwatch": lambda: self.console_unwatch(rest), "back": self.console_back}
+        return orders[word]() if word in orders and not (self.is_name(word, spot) and not rest) else None
+
+    def is_name(self, word: str, spot: Spot) -> bool:
+        """Whether a draft has a name that is a word of the console."""
+        return spot.section is not None and word in spot.section.names
+
+    def on_cut(self, given: dict) -> dict:
+        text = self.play_cut(given.get("write"), given.get("fill") or cuts.FILL)
+        assert self.cut is not None
+        return {"text": text, "line": self.cut.line, "write": self.cut.write, "before": self.cut.before, "after": self.cut.after,
+                "cut": self.cut.cut}
+
+    def on_whole(self, given: dict) -> dict:
+        return {"text": self.play_whole()}
+
+    def console_cut(self, rest: List[str]) -> str:
+        """Does the word `cut`."""
+        if len(rest) > 2 or rest and not rest[0].isdigit() or rest[1:] and not re.fullmatch("[0-9A-Fa-f]{16}", rest[1]):
+            raise Failed("cut [K [FILL]]: K is a device write, FILL 8 bytes")
+        return self.play_cut(int(rest[0]) if rest else None, rest[1] if rest[1:] else cuts.FILL)
+
+    def play_cut(self, write: Optional[int], fill: str) -> str:
+        """Cuts power here, and goes to where the card is shown after power returned."""
+        assert self.walk is not None
+        if self.whole is not None:
+            raise Failed("this play has a cut: `whole` goes back to the one without")
+        statement = self.walk.statement(self.position)
+        write = write or self.walk.next_write(self.position)
+        if write is None:
+            raise Failed("no device write is made from here on in this line")
+        frames = self.walk.state(self.position).frames
+        selected = frames[0].aid if frames and statement.turns else None
+        made = cuts.cut_at(self.draft, statement.line, write, fill, selected)
+        number = self.position.statement
+        self.cut, self.whole = made, self.position
+        self.begin(made.draft, made.line_of, {})
+        self.go_after_cut(number, selected)
+        self.jumped = Stop("goto", f"power was cut in write {made.write}")
+        return cuts.report(made, self.sections)
+
+    def go_after_cut(self, number: int, selected: Optional[str]) -> None:
+        """Goes to the dump of the application that was selected, or to the line `power` after the cut."""
+        assert self.play is not None
+        at = after = None
+        for place, it in enumerate(self.play.statements()):
+            if it.text.split()[:1] == ["power"] and place > number and after is None:
+                after = place
+            if after is not None and it.text.split() == ["dump", selected]:
+                at = place
+                break
+        self.position = Position(at or after or number, 0)
+        self.told = self.position.statement
+
+    def play_whole(self) -> str:
+        """Goes back to the play without a cut, to where it was cut."""
+        if self.whole is None:
+            raise Failed("this play has no cut")
+        position, self.whole = self.whole, None
+        deck = lines_of(desk(["deck"], self.draft))
+        self.begin(self.draft, lambda it: it, expectations_of(deck, self.statement_lines))
+        self.position, self.told = position, position.statement
+        self.jumped = Stop("goto", "the play without a cut")
+        return "the play without a cut"
+
+    def console_goto(self, rest: List[str]) -> str:
+        """Does the word `goto`."""
+        if len(rest) != 1 or not rest[0].isdigit():
+            raise Failed("goto LINE")
+        self.go_to(int(rest[0]))
+        self.jumped = Stop("goto", f"line {rest[0]}")
+        return f"line {rest[0]}"
+
+    def console_back(self) -> str:
+        """Does the word `back`."""
+        self.run("stepBack")
+        self.jumped = Stop("goto", "one instruction back")
+        return "one instruction back"
+
+    def console_watch(self, rest: List[str], spot: Spot) -> str:
+        """Does the word `watch`."""
+        name = " ".join(rest)
+        if not name:
+            return "\n".join(f"{it.name}: {it.size} bytes at {it.address:04X}" for it in self.stops.watches) or "no bytes are watched"
+        found = self.watchable(name, spot)
+        data_id = stops.watch_id(spot.frame.aid if spot.frame else "", found.address, len(found.content), name)
+        watch: Optional[Watch] = stops.watch_of(data_id, self.number(), "")
+        if watch is not None:
+            self.stops.watches.append(watch)
+        return f"{name}: {len(found.content)} bytes at {found.address:04X} are watched"
+
+    def console_unwatch(self, rest: List[str]) -> str:
+        """Does the word `unwatch`."""
+        self.stops.watches = [it for it in self.stops.watches if rest and it.name != " ".join(rest)]
+        return f"{len(self.stops.watches)} watched"

@@ -1,0 +1,1 @@
+autocmd BufNewFile,BufRead *.draft,*.deck setfiletype melcard
