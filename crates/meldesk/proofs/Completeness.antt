@@ -25,11 +25,12 @@ says_no_form Kept work a r s none e kept quiet still put =
     (filter.says_no_job (λ (q : Status). SaysNoForm usage q a.streams) r s e (record { source = still; written = record { result = r; status = e; written = put } }), kept, quiet)
 
 -- no job is done in part
-makes_part : (t : Text) (a : DeskOutside) → MakesSays Partial t a → ⊥
+makes_part : (t : MadeText) (a : DeskOutside) → MakesSays Partial t a → ⊥
 makes_part text.Deck a says = says
 makes_part text.Listing a says = says.0
 makes_part text.Verdicts a says = says.0
 makes_part text.Names a says = says.0
+makes_part (text.Explained name) a says = says.0
 
 written_part : (good : Status) (r : Result (Unit {0}) Fault) → good ≡ Done → Partial ≡ status_after_writing good r → ⊥
 written_part good (Ok u) is e = absurd (cc (e ∙ is))
