@@ -223,7 +223,7 @@ def test_the_end_is_a_stop_and_then_the_end(client, draft):
     client.start(draft, line=THIRD)
     client.ask("setExceptionBreakpoints", filters=[])
     assert client.move("continue")["text"] == "the end of the play"
-    told = [it["body"]["output"] for it in client.messages if it.get("event") == "output"]
+    told = [it["body"]["output"] for it in client.messages if it.get("event") == "output" and it["body"]["category"] == "stdout"]
     played = subprocess.run([program_path("melcard"), "play"], input=subprocess.run(
         [program_path("meldesk"), "deck"], input=DRAFT.encode(), stdout=subprocess.PIPE, check=True).stdout, stdout=subprocess.PIPE, check=True)
     assert [it.strip().rpartition(": ")[2] for it in told] == [it.partition(" ")[2] for it in played.stdout.decode().splitlines()]
