@@ -9,10 +9,11 @@ use Rattle.mc_model_device.specs.Card.{App}
 use Rattle.mc_model_machine.specs.Apdu.{ApduParts}
 use Rattle.mc_model_machine.specs.Frame.{Frame, session_of}
 use Rattle.mc_model_machine.specs.Chain.{Outcome, Abended, Chain, with_pieces, changed_app, map_changed, is_active, first_frame}
+use Rattle.mc_byte_laws.specs.OfChains.{IsByteChain}
 use Rattle.mc_promise.specs.History.{with_event}
 use Rattle.mc_promise.specs.Outline.{Entry, BySelection, ByDelegation, public_size}
 use Rattle.mc_promise.specs.Kept.{IsLike}
-use Rattle.mc_promise.specs.Domain.{Domain, AnswerCovered, EndCovered, StopCovered, IsRowCause, IdleCovered}
+use Rattle.mc_promise.specs.Domain.{Domain, IsSegment, AnswerCovered, EndCovered, StopCovered, IsRowCause, IdleCovered}
 use Rattle.mc_row_laws.specs.Keeping.{after_change}
 use Rattle.mc_model_device.proofs.MapLemmas.{lookup_beside, lookup_inserted_lem}
 
@@ -54,7 +55,7 @@ entry_over q (f ∷ fs) = ByDelegation
 -- if a delegate abends, and if power goes
 pub record Waits {E : Type 0} (o : Domain E) (q : Asked E) (h : List E) (fixed : List ℕ) (f : Frame) (fs : List Frame) : Type 0 where
   pub same : f.fixed ≡ fixed
-  pub at : (p : List ℕ) → public_size ≤ length p → o.at (entry_over q fs) h f p
+  pub at : (p : List ℕ) → IsSegment o p → o.at (entry_over q fs) h f p
   pub ends : (cause : Abend) → IsRowCause cause → EndCovered o (entry_over q fs) h fixed (session_of f) (Abended cause)
   pub stops : StopCovered o (entry_over q fs) h fixed
   pub none : NoneOf o.watch.name fs
@@ -97,13 +98,13 @@ module _ {E : Type 0} (o : Domain E) (q : Asked E) (h : List E) (fixed : List �
       let P = AllWait o q h fixed fs in
       none_idle fs n.1 (subst (λ (b : Bool). WaitsIf b o q h fixed f fs P) n.0 w)
 
-  resumed_by : (b : Bool) (f : Frame) (fs : List Frame) (p : List ℕ) → public_size ≤ length p → WaitsIf b o q h fixed f fs (AllWait o q h fixed fs)
+  resumed_by : (b : Bool) (f : Frame) (fs : List Frame) (p : List ℕ) → IsSegment o p → WaitsIf b o q h fixed f fs (AllWait o q h fixed fs)
       → RunsIf b o q h fixed f fs p (AllWait o q h fixed fs)
   resumed_by true f fs p l w = record { same = w.same; at = w.at p l; none = w.none }
   resumed_by false f fs p l w = w
 
   -- a waiting frame goes on with any public segment
-  pub resumed : (f : Frame) (fs : List Frame) (p : List ℕ) → public_size ≤ length p → AllWait o q h fixed (f ∷ fs) → StackKept o q h fixed f fs p
+  pub resumed : (f : Frame) (fs : List Frame) (p : List ℕ) → IsSegment o p → AllWait o q h fixed (f ∷ fs) → StackKept o q h fixed f fs p
   resumed f fs p l w = resumed_by (bytes_eq f.name o.watch.name) f fs p l w
 
   -- the running frame is of another application
@@ -142,6 +143,7 @@ pub record ChainKept {E : Type 0} (o : Domain E) (q : Asked E) (h : List E) (ch 
   pub command : ch.apdu ≡ q.apdu
   pub whole : public_size ≤ length ch.public
   pub shallow : length ch.below ≤ 3
+  pub bytes : o.of_bytes → IsByteChain ch
 
 -- ---- the end of a command
 

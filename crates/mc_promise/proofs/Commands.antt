@@ -14,6 +14,10 @@ use Rattle.mc_model_play.specs.Play.{Answered}
 use Rattle.mc_machine_laws.proofs.RunSizes.{RanFits, run_fits}
 use Rattle.mc_family.proofs.Stops.{whole_others}
 use Rattle.mc_family.proofs.OtherCommand.{IsManagers, Aside, routed_aside}
+use Rattle.mc_byte_laws.specs.OfChains.{AreByteApps, IsByteChain, IsByteCommand}
+use Rattle.mc_byte_laws.specs.OfPlays.{IsSelection, IsByteSession}
+use Rattle.mc_byte_laws.proofs.ChainBytes.{start_bytes}
+use Rattle.mc_byte_laws.proofs.CommandBytes.{IsByteRoute}
 use Rattle.mc_promise.specs.History.{CutAt, with_event, after_run, selection_event, after_select, command_event, after_passed, after_route, is_own_route, with_answer, after_items}
 use Rattle.mc_promise.specs.Along.{CreatesOnly, own_parts, parts_for}
 use Rattle.mc_promise.specs.Outline.{BySelection, public_size}
@@ -24,6 +28,15 @@ use Rattle.mc_promise.proofs.Runs.{RunKept, run_kept, cut_kept}
 use Rattle.mc_promise.proofs.ItemLists.{AllAvoid, avoid_lookup, avoid_history, whole_avoids, writes_fixed, whole_fixed, fixed_history, items_kept}
 use Rattle.mc_promise.proofs.SelectedStays.{manager_avoids}
 use Rattle.mc_model_device.proofs.MapLemmas.{same_name}
+
+-- a running card of bytes, and a command of bytes
+pub record IsKnown (c : Card) (session_state : SessionState) (r : Route) : Type 0 where
+  pub apps : AreByteApps c.apps
+  pub session : IsByteSession session_state
+  pub route : IsByteRoute r
+
+begun : (c : Card) (s : Selected) (a : ApduParts) → AreByteApps c.apps × IsSelection (Some s) → IsByteCommand a → IsByteChain (start c.apps s.name s.session a)
+begun c s a known cmd = start_bytes c.apps s.name s.session a known.0 known.1.0 known.1.1 cmd
 
 -- the public segment of a command is whole
 begun_whole : (a : ApduParts) → public_size ≤ length (new_public a)
@@ -68,31 +81,31 @@ module _ {E : Type 0} (o : Domain E) (shown : IsSound o) where
       ∙ (ap (λ (c : List ℕ). new_frame n (length c) o.app.deny fixed session) (sym like.code)
       ∙ ap (λ (d : ℕ). new_frame n (length a.code) d fixed session) (sym like.deny))
 
-  own_start : (h : List E) (m : List (List ℕ × App)) (n session bytes : List ℕ) (apdu : ApduParts) (found : Option App) → route bytes ≡ ToApplication apdu → lookup m o.watch.name ≡ found → bytes_eq n o.watch.name ≡ true → SessionCovered o h found session
+  own_start : (h : List E) (m : List (List ℕ × App)) (n session bytes : List ℕ) (apdu : ApduParts) (found : Option App) → route bytes ≡ ToApplication apdu → (o.of_bytes → IsByteCommand apdu) → (o.of_bytes → IsByteChain (start m n session apdu)) → lookup m o.watch.name ≡ found → bytes_eq n o.watch.name ≡ true → SessionCovered o h found session
       → ChainKept o (asked bytes apdu h) (with_event (o.watch.of_command bytes apdu) h) (start m n session apdu)
-  own_start h m n session bytes apdu None to is e holds = absurd holds
-  own_start h m n session bytes apdu (Some a) to is e holds =
+  own_start h m n session bytes apdu None to cmd chain is e holds = absurd holds
+  own_start h m n session bytes apdu (Some a) to cmd chain is e holds =
       let same : n ≡ o.watch.name = same_name n o.watch.name e in
       let there : lookup m n ≡ Some a = subst (λ (z : List ℕ). lookup m z ≡ Some a) (sym same) is in
       let q : Asked E = asked bytes apdu h in
       let f = new_frame n (length a.code) a.deny a.fixed session in
       let p = new_public apdu in
       let k : List E = with_event (o.watch.of_command bytes apdu) h in
-      let begun = shown.begins bytes apdu h a.fixed session to holds.1 holds.2 in
+      let begun = shown.begins bytes apdu h a.fixed session to cmd holds.1 holds.2 in
       let r : Runs o q k a.fixed f [] p = record { same = refl; at = subst (λ (z : Frame). o.at (BySelection bytes apdu h) k z p) (own_frame n a.fixed session a holds.0 same) begun; none = tt } in
       let t : ThereKept o q k a f [] p = record { like = holds.0; stack = own_runs o q k a.fixed f [] p e r } in
       subst (ChainKept o q k) (start_is m n session a apdu there)
-      (record { kept = subst (λ (z : Option App). FoundKept o q k z f [] p) (sym is) t; command = refl; whole = begun_whole apdu; shallow = omega arith })
+      (record { kept = subst (λ (z : Option App). FoundKept o q k z f [] p) (sym is) t; command = refl; whole = begun_whole apdu; shallow = omega arith; bytes = λ t. subst IsByteChain (sym (start_is m n session a apdu there)) (chain t) })
 
   other_found : (h : List E) (q : Asked E) (found : Option App) (f : Frame) (p : List ℕ) → bytes_eq f.name o.watch.name ≡ false → IdleCovered o h found → FoundKept o q h found f [] p
   other_found h q None f p e kept = ((e, tt), kept)
   other_found h q (Some a) f p e kept = record { like = kept.0; stack = others_run o q h a.fixed f [] p e kept.1 }
 
-  start_kept : (b : Bool) (h : List E) (m : List (List ℕ × App)) (n session bytes : List ℕ) (apdu : ApduParts) → route bytes ≡ ToApplication apdu → bytes_eq n o.watch.name ≡ b → CoveredIf b o h (lookup m o.watch.name) session
+  start_kept : (b : Bool) (h : List E) (m : List (List ℕ × App)) (n session bytes : List ℕ) (apdu : ApduParts) → route bytes ≡ ToApplication apdu → (o.of_bytes → IsByteCommand apdu) → (o.of_bytes → IsByteChain (start m n session apdu)) → bytes_eq n o.watch.name ≡ b → CoveredIf b o h (lookup m o.watch.name) session
       → ChainKept o (asked bytes apdu h) (with_event (command_event o.watch b bytes apdu) h) (start m n session apdu)
-  start_kept true h m n session bytes apdu to e holds = own_start h m n session bytes apdu (lookup m o.watch.name) to refl e holds
-  start_kept false h m n session bytes apdu to e holds =
-      record { kept = other_found h (asked bytes apdu h) (lookup m o.watch.name) (start m n session apdu).frame (new_public apdu) e holds; command = refl; whole = begun_whole apdu; shallow = omega arith }
+  start_kept true h m n session bytes apdu to cmd chain e holds = own_start h m n session bytes apdu (lookup m o.watch.name) to cmd chain refl e holds
+  start_kept false h m n session bytes apdu to cmd chain e holds =
+      record { kept = other_found h (asked bytes apdu h) (lookup m o.watch.name) (start m n session apdu).frame (new_public apdu) e holds; command = refl; whole = begun_whole apdu; shallow = omega arith; bytes = chain }
 
   -- ---- a run that is passed
 
@@ -118,33 +131,33 @@ module _ {E : Type 0} (o : Domain E) (shown : IsSound o) where
   ended_answer true q k None last outcome x = absurd (cc x.0)
   ended_answer true q k (Some a) last outcome x = replied q k outcome x.answer
 
-  passed_by : (h : List E) (c : Card) (s : Selected) (bytes : List ℕ) (a : ApduParts) (budget : ℕ) (b : Bool) → route bytes ≡ ToApplication a → bytes_eq s.name o.watch.name ≡ b → CoveredIf b o h (lookup c.apps o.watch.name) s.session
+  passed_by : (h : List E) (c : Card) (s : Selected) (bytes : List ℕ) (a : ApduParts) (budget : ℕ) (b : Bool) → route bytes ≡ ToApplication a → (o.of_bytes → IsByteCommand a) → (o.of_bytes → IsByteChain (start c.apps s.name s.session a)) → bytes_eq s.name o.watch.name ≡ b → CoveredIf b o h (lookup c.apps o.watch.name) s.session
       → let r = run c.apps s.name s.session a budget in
       let k = with_answer o.watch b bytes (Some (Answered r.outcome)) (after_run o.watch budget (start c.apps s.name s.session a) None (with_event (command_event o.watch b bytes a) h)) in
       CoveredIf b o k (lookup (apps_after_items c.apps (write_items r.writes)) o.watch.name) r.session × OnParts o (own_parts b a) h k r.outcome
-  passed_by h c s bytes a budget b to e holds =
+  passed_by h c s bytes a budget b to cmd chain e holds =
       let r = run c.apps s.name s.session a budget in
       let q : Asked E = asked bytes a h in
       let k = after_run o.watch budget (start c.apps s.name s.session a) None (with_event (command_event o.watch b bytes a) h) in
-      let d : RunKept b o q c.apps r k = run_kept o shown q b budget (with_event (command_event o.watch b bytes a) h) (start c.apps s.name s.session a) e (start_kept b h c.apps s.name s.session bytes a to e holds) in
+      let d : RunKept b o q c.apps r k = run_kept o shown q b budget (with_event (command_event o.watch b bytes a) h) (start c.apps s.name s.session a) e (start_kept b h c.apps s.name s.session bytes a to cmd chain e holds) in
       let fits : RanFits c.apps (length s.session) r = run_fits c.apps s.name s.session a budget in
       let found = lookup (apps_after_items c.apps (write_items r.writes)) o.watch.name in
       (ended_session b q k found r.session r.outcome (many b h (lookup c.apps o.watch.name) s.session r.session fits.session holds) d.ended, ended_answer b q k found r.session r.outcome d.ended)
 
-  passed_kept : (h : List E) (c : Card) (session_state : SessionState) (found : Option Selected) (bytes : List ℕ) (a : ApduParts) (budget : ℕ) → route bytes ≡ ToApplication a → session_state.selected ≡ found → SelectedCovered o h (lookup c.apps o.watch.name) found
+  passed_kept : (h : List E) (c : Card) (session_state : SessionState) (found : Option Selected) (bytes : List ℕ) (a : ApduParts) (budget : ℕ) → route bytes ≡ ToApplication a → (o.of_bytes → IsByteCommand a) → (o.of_bytes → AreByteApps c.apps × IsSelection found) → session_state.selected ≡ found → SelectedCovered o h (lookup c.apps o.watch.name) found
       → let r = application_command c session_state found a budget in
       CommandKept o h c session_state (ToApplication a) r (with_answer o.watch (is_selected found o.watch.name) bytes (Some (Answered r.outcome)) (after_passed o.watch c found bytes a budget None (after_items o.watch.name r.items h)))
-  passed_kept h c session_state None bytes a budget to is holds =
+  passed_kept h c session_state None bytes a budget to cmd known is holds =
       record {
         selected = subst (SelectedCovered o h (lookup c.apps o.watch.name)) (sym is) holds;
         answer = subst (λ (z : Option Selected). OnParts o (parts_for o.watch.name z (ToApplication a)) h h (Reply [] 0x6985)) (sym is) tt;
       }
-  passed_kept h c session_state (Some s) bytes a budget to is holds =
+  passed_kept h c session_state (Some s) bytes a budget to cmd known is holds =
       let r = run c.apps s.name s.session a budget in
       let b = bytes_eq s.name o.watch.name in
       let go : List E → List E = λ p. with_answer o.watch b bytes (Some (Answered r.outcome)) (after_run o.watch budget (start c.apps s.name s.session a) None (with_event (command_event o.watch b bytes a) p)) in
       let same : h ≡ after_items o.watch.name (write_items r.writes) h = sym (fixed_history o.watch.name (write_items r.writes) h (writes_fixed r.writes)) in
-      let p = passed_by h c s bytes a budget b to refl holds in
+      let p = passed_by h c s bytes a budget b to cmd (λ t. begun c s a (known t) (cmd t)) refl holds in
       subst (λ (p : List E). CommandKept o h c session_state (ToApplication a) (application_command c session_state (Some s) a budget) (go p)) same
       (record { selected = p.0; answer = subst (λ (z : Option Selected). OnParts o (parts_for o.watch.name z (ToApplication a)) h (go h) r.outcome) (sym is) p.1 })
 
@@ -165,18 +178,18 @@ module _ {E : Type 0} (o : Domain E) (shown : IsSound o) where
   selected_end h found (Some s) kept = if_end (bytes_eq s.name o.watch.name) h found s.session kept
 
   -- a run up to a stop
-  passed_cut : (h : List E) (c : Card) (session_state : SessionState) (found : Option Selected) (bytes : List ℕ) (a : ApduParts) (budget : ℕ) (cut : CutAt) → route bytes ≡ ToApplication a → SelectedCovered o h (lookup c.apps o.watch.name) found
+  passed_cut : (h : List E) (c : Card) (session_state : SessionState) (found : Option Selected) (bytes : List ℕ) (a : ApduParts) (budget : ℕ) (cut : CutAt) → route bytes ≡ ToApplication a → (o.of_bytes → IsByteCommand a) → (o.of_bytes → AreByteApps c.apps × IsSelection found) → SelectedCovered o h (lookup c.apps o.watch.name) found
       → HitsItems o.anywhere (application_command c session_state found a budget).items cut
       → let whole = (at_stop (application_command c session_state found a budget).items cut.at cut.left).whole in
       IdleCovered o (with_event (o.watch.of_end (is_selected found o.watch.name)) (after_passed o.watch c found bytes a budget (Some cut) (after_items o.watch.name whole h))) (lookup (apps_after_items c.apps whole) o.watch.name)
-  passed_cut h c session_state None bytes a budget cut to holds hits = idle_end h (lookup c.apps o.watch.name) holds
-  passed_cut h c session_state (Some s) bytes a budget cut to holds hits =
+  passed_cut h c session_state None bytes a budget cut to cmd known holds hits = idle_end h (lookup c.apps o.watch.name) holds
+  passed_cut h c session_state (Some s) bytes a budget cut to cmd known holds hits =
       let r = run c.apps s.name s.session a budget in
       let whole = (at_stop (write_items r.writes) cut.at cut.left).whole in
       let b = bytes_eq s.name o.watch.name in
       let same : h ≡ after_items o.watch.name whole h = sym (fixed_history o.watch.name whole h (whole_fixed (write_items r.writes) cut.at cut.left (writes_fixed r.writes))) in
       subst (λ (p : List E). StopIf b o (after_run o.watch budget (start c.apps s.name s.session a) (Some cut) (with_event (command_event o.watch b bytes a) p)) (lookup (apps_after_items c.apps whole) o.watch.name)) same
-      (cut_kept o shown (asked bytes a h) b budget (with_event (command_event o.watch b bytes a) h) (start c.apps s.name s.session a) cut hits refl (start_kept b h c.apps s.name s.session bytes a to refl holds))
+      (cut_kept o shown (asked bytes a h) b budget (with_event (command_event o.watch b bytes a) h) (start c.apps s.name s.session a) cut hits refl (start_kept b h c.apps s.name s.session bytes a to cmd (λ t. begun c s a (known t) (cmd t)) refl holds))
 
   -- ---- a selection
 
@@ -288,23 +301,23 @@ module _ {E : Type 0} (o : Domain E) (shown : IsSound o) where
 
   -- ---- a command by its route
 
-  pub route_kept : (h : List E) (c : Card) (session_state : SessionState) (bytes : List ℕ) (budget : ℕ) (r : Route) → route bytes ≡ r → CreatesOnly o.watch.name o.app (by_route c session_state budget r).items → SelectedCovered o h (lookup c.apps o.watch.name) session_state.selected
+  pub route_kept : (h : List E) (c : Card) (session_state : SessionState) (bytes : List ℕ) (budget : ℕ) (r : Route) → route bytes ≡ r → (o.of_bytes → IsKnown c session_state r) → CreatesOnly o.watch.name o.app (by_route c session_state budget r).items → SelectedCovered o h (lookup c.apps o.watch.name) session_state.selected
       → CommandKept o h c session_state r (by_route c session_state budget r)
       (with_answer o.watch (is_own_route o.watch.name session_state.selected r) bytes (Some (Answered (by_route c session_state budget r).outcome)) (after_route o.watch c session_state bytes budget r None (after_items o.watch.name (by_route c session_state budget r).items h)))
-  route_kept h c session_state bytes budget WrongLength to only holds = record { selected = holds; answer = no_parts WrongLength session_state.selected h h _ (λ a e. cc e) }
-  route_kept h c session_state bytes budget WrongClass to only holds = record { selected = holds; answer = no_parts WrongClass session_state.selected h h _ (λ a e. cc e) }
-  route_kept h c session_state bytes budget (ToSelect a) to only holds =
+  route_kept h c session_state bytes budget WrongLength to known only holds = record { selected = holds; answer = no_parts WrongLength session_state.selected h h _ (λ a e. cc e) }
+  route_kept h c session_state bytes budget WrongClass to known only holds = record { selected = holds; answer = no_parts WrongClass session_state.selected h h _ (λ a e. cc e) }
+  route_kept h c session_state bytes budget (ToSelect a) to known only holds =
       record { selected = select_by h c session_state a (not (a.p2 == 0 || a.p2 == 0x0C)) (is_empty a.body) (lookup c.apps a.body) refl holds; answer = no_parts (ToSelect a) session_state.selected h _ _ (λ a e. cc e) }
-  route_kept h c session_state bytes budget (ToManager a) to only holds =
+  route_kept h c session_state bytes budget (ToManager a) to known only holds =
       record { selected = manager_kept h c session_state budget (ToManager a) tt only holds; answer = no_parts (ToManager a) session_state.selected h _ _ (λ a e. cc e) }
-  route_kept h c session_state bytes budget (ToApplication a) to only holds = passed_kept h c session_state session_state.selected bytes a budget to refl holds
+  route_kept h c session_state bytes budget (ToApplication a) to known only holds = passed_kept h c session_state session_state.selected bytes a budget to (λ t. (known t).route) (λ t. ((known t).apps, (known t).session.selected)) refl holds
 
-  pub route_cut : (h : List E) (c : Card) (session_state : SessionState) (bytes : List ℕ) (budget : ℕ) (r : Route) (cut : CutAt) → route bytes ≡ r
+  pub route_cut : (h : List E) (c : Card) (session_state : SessionState) (bytes : List ℕ) (budget : ℕ) (r : Route) (cut : CutAt) → route bytes ≡ r → (o.of_bytes → IsKnown c session_state r)
       → let whole = (at_stop (by_route c session_state budget r).items cut.at cut.left).whole in
       HitsItems o.anywhere (by_route c session_state budget r).items cut → CreatesOnly o.watch.name o.app whole → SelectedCovered o h (lookup c.apps o.watch.name) session_state.selected
       → IdleCovered o (with_event (o.watch.of_end (is_selected session_state.selected o.watch.name)) (after_route o.watch c session_state bytes budget r (Some cut) (after_items o.watch.name whole h))) (lookup (apps_after_items c.apps whole) o.watch.name)
-  route_cut h c session_state bytes budget WrongLength cut to hits only holds = selected_end h (lookup c.apps o.watch.name) session_state.selected holds
-  route_cut h c session_state bytes budget WrongClass cut to hits only holds = selected_end h (lookup c.apps o.watch.name) session_state.selected holds
-  route_cut h c session_state bytes budget (ToSelect a) cut to hits only holds = select_cut h c session_state a (not (a.p2 == 0 || a.p2 == 0x0C)) (is_empty a.body) (lookup c.apps a.body) refl holds cut hits
-  route_cut h c session_state bytes budget (ToManager a) cut to hits only holds = manager_cut h c session_state budget (ToManager a) cut tt only holds
-  route_cut h c session_state bytes budget (ToApplication a) cut to hits only holds = passed_cut h c session_state session_state.selected bytes a budget cut to holds hits
+  route_cut h c session_state bytes budget WrongLength cut to known hits only holds = selected_end h (lookup c.apps o.watch.name) session_state.selected holds
+  route_cut h c session_state bytes budget WrongClass cut to known hits only holds = selected_end h (lookup c.apps o.watch.name) session_state.selected holds
+  route_cut h c session_state bytes budget (ToSelect a) cut to known hits only holds = select_cut h c session_state a (not (a.p2 == 0 || a.p2 == 0x0C)) (is_empty a.body) (lookup c.apps a.body) refl holds cut hits
+  route_cut h c session_state bytes budget (ToManager a) cut to known hits only holds = manager_cut h c session_state budget (ToManager a) cut tt only holds
+  route_cut h c session_state bytes budget (ToApplication a) cut to known hits only holds = passed_cut h c session_state session_state.selected bytes a budget cut to (λ t. (known t).route) (λ t. ((known t).apps, (known t).session.selected)) holds hits

@@ -12,6 +12,7 @@ use Rattle.mc_model_machine.specs.Primitives.{Then, Goes, Exits, Delegates, Done
 use Rattle.mc_model_machine.specs.Row.{RowEnd, Abends, Does, row}
 use Rattle.mc_model_machine.specs.Chain.{Outcome, Abended, Chain, Ends, write_of, chain_after_effect, reply_of, after_exit, follows, row_turn, turn_of_fetch, frame_at, around, first_frame, chain_session}
 use Rattle.mc_model_card.specs.Items.{apps_after_items, write_items}
+use Rattle.mc_byte_laws.specs.OfChains.{IsByteChain, OnGoing}
 use Rattle.mc_promise.specs.Outline.{public_size}
 use Rattle.mc_promise.specs.Domain.{Domain, IsSound, IsRowCause}
 use Rattle.mc_row_laws.specs.Keeping.{Keeps, OnDone}
@@ -45,20 +46,20 @@ module _ {E : Type 0} (o : Domain E) (shown : IsSound o) (q : Asked E) where
   other_ends b h session false x y e m w = other_end b h (lookup m o.watch.name) session y e w
 
   -- the exit of another's frame
-  other_exits : (b : Bool) (h : List E) (s : Chain) (session : List ℕ) (fs : List Frame) → s.apdu ≡ q.apdu → public_size ≤ length s.public → length fs ≤ 3 → bytes_eq s.frame.name o.watch.name ≡ false
+  other_exits : (b : Bool) (h : List E) (s : Chain) (session : List ℕ) (fs : List Frame) → s.apdu ≡ q.apdu → public_size ≤ length s.public → length fs ≤ 3 → (o.of_bytes → OnGoing (after_exit s fs) IsByteChain) → bytes_eq s.frame.name o.watch.name ≡ false
       → bytes_eq (first_frame s.frame fs).name o.watch.name ≡ b → FoundBelow o q h (lookup s.map o.watch.name) fs
       → FollowsKept b o q h s.map session (after_exit s fs)
-  other_exits b h s session [] command l few e first w = other_ends b h session (nat_lt 1024 (la_of s.public)) (Abended A09) (reply_of s) (sym first ∙ e) s.map w
-  other_exits b h s session (f ∷ fs) command l few e first w = exited_chain o shown q b h s session f fs command l few w first
+  other_exits b h s session [] command l few g e first w = other_ends b h session (nat_lt 1024 (la_of s.public)) (Abended A09) (reply_of s) (sym first ∙ e) s.map w
+  other_exits b h s session (f ∷ fs) command l few g e first w = exited_chain o shown q b h s session f fs command l few g w first
 
-  other_follows : (b : Bool) (h : List E) (s : Chain) (session : List ℕ) (next : Then) → s.apdu ≡ q.apdu → public_size ≤ length s.public → length s.below ≤ 3 → bytes_eq s.frame.name o.watch.name ≡ false
+  other_follows : (b : Bool) (h : List E) (s : Chain) (session : List ℕ) (next : Then) → s.apdu ≡ q.apdu → public_size ≤ length s.public → length s.below ≤ 3 → (o.of_bytes → OnGoing (follows s next) IsByteChain) → bytes_eq s.frame.name o.watch.name ≡ false
       → bytes_eq (first_frame s.frame s.below).name o.watch.name ≡ b → FoundBelow o q h (lookup s.map o.watch.name) s.below
       → FollowsKept b o q h s.map session (follows s next)
-  other_follows b h s session Goes command l few e first w =
-      (record { kept = other_goes h (lookup s.map o.watch.name) s.frame s.below s.public e w; command = command; whole = l; shallow = few }, refl, first)
-  other_follows b h s session Exits command l few e first w = other_exits b h s session s.below command l few e first w
-  other_follows b h s session (Delegates n) command l few e first w =
-      called_chain o shown q b h s session n (lookup s.map n) command l few refl first (other_waits h (lookup s.map o.watch.name) s.frame s.below e w)
+  other_follows b h s session Goes command l few g e first w =
+      (record { kept = other_goes h (lookup s.map o.watch.name) s.frame s.below s.public e w; command = command; whole = l; shallow = few; bytes = g }, refl, first)
+  other_follows b h s session Exits command l few g e first w = other_exits b h s session s.below command l few g e first w
+  other_follows b h s session (Delegates n) command l few g e first w =
+      called_chain o shown q b h s session n (lookup s.map n) command l few refl g first (other_waits h (lookup s.map o.watch.name) s.frame s.below e w)
 
   -- a write of another's changes nothing of the application
   other_stops : (b : Bool) (h : List E) (m : List (List ℕ × App)) (n : List ℕ) (c : Option (List (ℕ × List ℕ))) → bytes_eq n o.watch.name ≡ false → StopIf b o h (lookup m o.watch.name) → WritesStop b o h h m (write_of n c)
@@ -66,8 +67,8 @@ module _ {E : Type 0} (o : Domain E) (shown : IsSound o) (q : Asked E) where
   other_stops b h m n (Some ps) e x = (x, subst (StopIf b o h) (sym (beside_changed m n o.watch.name (Some ps) e)) x)
 
   other_done : (b : Bool) (h : List E) (ch : Chain) (i : Ins) (d : Done) → bytes_eq ch.frame.name o.watch.name ≡ false → bytes_eq (first_frame ch.frame ch.below).name o.watch.name ≡ b
-      → ChainKept o q h ch → Keeps ch.frame ch.public d.effect → TurnKept b o q h ch (row_turn ch i (Does d)) None
-  other_done b h ch i d e first c t =
+      → ChainKept o q h ch → Keeps ch.frame ch.public d.effect → (o.of_bytes → OnGoing (row_turn ch i (Does d)).follows IsByteChain) → TurnKept b o q h ch (row_turn ch i (Does d)) None
+  other_done b h ch i d e first c t g =
       let n = ch.frame.name in
       let s : Chain = chain_after_effect ch d.effect in
       let beside : lookup ch.map o.watch.name ≡ lookup s.map o.watch.name = sym (beside_changed ch.map n o.watch.name d.effect.changes e) in
@@ -83,18 +84,18 @@ module _ {E : Type 0} (o : Domain E) (shown : IsSound o) (q : Asked E) where
         stops = other_stops b h ch.map n d.effect.changes e (below_stop o shown q b h (lookup ch.map o.watch.name) ch.frame ch.below e first old);
         next =
             subst (λ (m : List (List ℕ × App)). FollowsKept b o q h m (chain_session ch) (follows s d.next)) written
-            (other_follows b h s (chain_session ch) d.next c.command (omega arith) c.shallow name head w);
+            (other_follows b h s (chain_session ch) d.next c.command (omega arith) c.shallow g name head w);
       }
 
   other_row : (b : Bool) (h : List E) (ch : Chain) (i : Ins) (r : RowEnd) → bytes_eq ch.frame.name o.watch.name ≡ false → bytes_eq (first_frame ch.frame ch.below).name o.watch.name ≡ b
-      → ChainKept o q h ch → OnDone r (λ d. Keeps ch.frame ch.public d.effect) → OnAbend r IsRowCause → TurnKept b o q h ch (row_turn ch i r) None
-  other_row b h ch i (Abends cause) e first c t ok =
+      → ChainKept o q h ch → OnDone r (λ d. Keeps ch.frame ch.public d.effect) → OnAbend r IsRowCause → (o.of_bytes → OnGoing (row_turn ch i r).follows IsByteChain) → TurnKept b o q h ch (row_turn ch i r) None
+  other_row b h ch i (Abends cause) e first c t ok g =
       other_abended o shown q b h ch (Some i) 1 cause ok e first (other_below h (lookup ch.map o.watch.name) ch.frame ch.below ch.public e c.kept)
-  other_row b h ch i (Does d) e first c t ok = other_done b h ch i d e first c t
+  other_row b h ch i (Does d) e first c t ok g = other_done b h ch i d e first c t g
 
   pub other_fetched : (b : Bool) (h : List E) (ch : Chain) (r : Result (Ins × ℕ) DecodeFault) → bytes_eq ch.frame.name o.watch.name ≡ false → bytes_eq (first_frame ch.frame ch.below).name o.watch.name ≡ b
-      → ChainKept o q h ch → TurnKept b o q h ch (turn_of_fetch ch r) None
-  other_fetched b h ch (Err Undefined) e first c = other_abended o shown q b h ch None 0 A01 tt e first (other_below h (lookup ch.map o.watch.name) ch.frame ch.below ch.public e c.kept)
-  other_fetched b h ch (Err Past) e first c = other_abended o shown q b h ch None 0 A02 tt e first (other_below h (lookup ch.map o.watch.name) ch.frame ch.below ch.public e c.kept)
-  other_fetched b h ch (Ok i) e first c =
-      other_row b h ch i.0 (row i.0 (frame_at ch.frame i.1) ch.public (around ch)) e first c (row_keeps i.0 (frame_at ch.frame i.1) ch.public (around ch)) (row_cause i.0 (frame_at ch.frame i.1) ch.public (around ch))
+      → ChainKept o q h ch → (o.of_bytes → OnGoing (turn_of_fetch ch r).follows IsByteChain) → TurnKept b o q h ch (turn_of_fetch ch r) None
+  other_fetched b h ch (Err Undefined) e first c g = other_abended o shown q b h ch None 0 A01 tt e first (other_below h (lookup ch.map o.watch.name) ch.frame ch.below ch.public e c.kept)
+  other_fetched b h ch (Err Past) e first c g = other_abended o shown q b h ch None 0 A02 tt e first (other_below h (lookup ch.map o.watch.name) ch.frame ch.below ch.public e c.kept)
+  other_fetched b h ch (Ok i) e first c g =
+      other_row b h ch i.0 (row i.0 (frame_at ch.frame i.1) ch.public (around ch)) e first c (row_keeps i.0 (frame_at ch.frame i.1) ch.public (around ch)) (row_cause i.0 (frame_at ch.frame i.1) ch.public (around ch)) g

@@ -1,6 +1,6 @@
 -- A line of a play keeps what the domain covers, and so does every play.
 use Rattle.std.proofs.Common.{◌≡◌, ℕ, Bool, true, false, cond, List, [], ◌∷◌, drop, Option, Some, None, refl, sym, ap, subst, ◌∙◌}
-use Rattle.std.specs.Prelude.{◌⊎◌, nat_le}
+use Rattle.std.specs.Prelude.{◌⊎◌, nat_le, length}
 use Rattle.mc_model_device.specs.declared.device.Stop.{Stop}
 use Rattle.mc_model_device.specs.declared.device.Stop.TheVariants as stop
 use Rattle.mc_model_device.specs.Bytes.{lookup}
@@ -19,12 +19,17 @@ use Rattle.mc_model_play.specs.Play.{Armed, Unarmed, Live, Running, Unpowered, M
 use Rattle.mc_family.proofs.Stops.{whole_others}
 use Rattle.mc_family.proofs.OtherCommand.{AreManagers, Aside, send_aside}
 use Rattle.mc_family.proofs.LoadCommands.{load_managers}
+use Rattle.std.specs.List.{AllByRecursion}
+use Rattle.mc_model_play.specs.ReadyAgain.{IsLine}
+use Rattle.mc_byte_laws.specs.OfPlays.{IsByteBase, IsByteState}
+use Rattle.mc_byte_laws.proofs.CommandBytes.{route_bytes, managers_bytes, selects_bytes}
+use Rattle.mc_byte_laws.proofs.PlayBytes.{step_bytes}
 use Rattle.mc_promise.specs.History.{Watch, CutAt, cut_of, with_event, after_route, is_own_route, with_answer, after_items, after_stop, is_selected_on, after_step}
 use Rattle.mc_promise.specs.Along.{CreatesOnly, BringsOnly, stopped_step, parts_for, command_for, OnAnswer}
 use Rattle.mc_promise.specs.Domain.{Domain, IsSound, IdleCovered, SelectedCovered, LiveCovered, BaseCovered, StateCovered, LineCovered, StopsInWrite, StopsAtWrite, AlongWrites, IsCovered}
 use Rattle.mc_promise.proofs.ItemLists.{whole_avoids, items_kept}
 use Rattle.mc_promise.proofs.SelectedStays.{send_avoids}
-use Rattle.mc_promise.proofs.Commands.{OnParts, CommandKept, idle_end, selected_end, managed, route_kept, route_cut}
+use Rattle.mc_promise.proofs.Commands.{IsKnown, OnParts, CommandKept, idle_end, selected_end, managed, route_kept, route_cut}
 use Rattle.mc_model_play.proofs.LineKinds.{past_power}
 use Rattle.mc_model_play.proofs.PlayLemmas.{step_is}
 
@@ -144,26 +149,26 @@ module _ {E : Type 0} (o : Domain E) (shown : IsSound o) where
   command_line_kept h k n l s c r found (Some t) e x = (dead k _ t.kind x.0, subst (λ (z : Option ApduParts). OnAnswer (λ a sw. o.answers a h k sw) z (Some (line_says r (Some t)))) (sym e) x.1)
 
   -- whether its answer is one to the application as the selected one, or is not looked at
-  one_command : (h : List E) (c : Card) (session_state : SessionState) (g : ℕ) (b : List ℕ) (looked : Bool) (t : Option StopAt) → SelectedCovered o h (lookup c.apps o.watch.name) session_state.selected
+  one_command : (h : List E) (c : Card) (session_state : SessionState) (g : ℕ) (b : List ℕ) (looked : Bool) (t : Option StopAt) → (o.of_bytes → IsKnown c session_state (route b)) → SelectedCovered o h (lookup c.apps o.watch.name) session_state.selected
       → o.anywhere ⊎ StopsInWrite (command c session_state b g).items t → CreatesOnly o.watch.name o.app (whole_items (command c session_state b g) t)
       → AfterCommand h
       (after_stop o.watch (is_selected session_state.selected o.watch.name) t (with_answer o.watch (is_own_route o.watch.name session_state.selected (route b)) b (Some (line_says (command c session_state b g) t)) (after_route o.watch c session_state b g (route b) (cut_of t) (after_items o.watch.name (whole_items (command c session_state b g) t) h))))
       c (command c session_state b g) (parts_if looked (parts_for o.watch.name session_state.selected (route b))) t
   unfolding AfterCommand command
-  one_command h c session_state g b looked None kept hits only =
+  one_command h c session_state g b looked None known kept hits only =
       let r = command c session_state b g in
       let k : List E = with_answer o.watch (is_own_route o.watch.name session_state.selected (route b)) b (Some (Answered r.outcome)) (after_route o.watch c session_state b g (route b) None (after_items o.watch.name r.items h)) in
-      let x : CommandKept o h c session_state (route b) r k = route_kept o shown h c session_state b g (route b) refl only kept in
+      let x : CommandKept o h c session_state (route b) r k = route_kept o shown h c session_state b g (route b) refl known only kept in
       let found = parts_for o.watch.name session_state.selected (route b) in
       (x.selected, answered (parts_if looked found) h k r.outcome (looked_at looked found h k r.outcome x.answer))
-  one_command h c session_state g b looked (Some t) kept hits only =
+  one_command h c session_state g b looked (Some t) known kept hits only =
       let cut : CutAt = record { at = t.at; left = t.left } in
       let whole = (at_stop (command c session_state b g).items t.at t.left).whole in
       let was = is_selected session_state.selected o.watch.name in
       let own = is_own_route o.watch.name session_state.selected (route b) in
       let k : List E = after_route o.watch c session_state b g (route b) (Some cut) (after_items o.watch.name whole h) in
       let same : k ≡ with_answer o.watch own b (Some (result_of_stop t t.kind)) k = sym (not_answered o.watch own b t t.kind k) in (
-        subst (λ (p : List E). IdleCovered o (with_event (o.watch.of_end was) p) (lookup (apps_after_items c.apps whole) o.watch.name)) same (route_cut o shown h c session_state b g (route b) cut refl hits only kept),
+        subst (λ (p : List E). IdleCovered o (with_event (o.watch.of_end was) p) (lookup (apps_after_items c.apps whole) o.watch.name)) same (route_cut o shown h c session_state b g (route b) cut refl known hits only kept),
         stopped_answer (parts_if looked (parts_for o.watch.name session_state.selected (route b))) h _ t t.kind,
       )
 
@@ -205,35 +210,35 @@ module _ {E : Type 0} (o : Domain E) (shown : IsSound o) where
   unanswered h k (Some a) Muted = tt
 
   -- what is sent to a card, or to none
-  card_kept : (h : List E) (n : ℕ) (k : DeckCommand) (b : Base) (q : ℕ) (j : Journal) (v : Live) (g : ℕ) (a : Armed) (w : Option FailedWrite) → BaseCovered o h b v → Keeps h (card_line n (line.Sent k) (past_power b q j v g a) v b w)
+  card_kept : (h : List E) (n : ℕ) (k : DeckCommand) (b : Base) (q : ℕ) (j : Journal) (v : Live) (g : ℕ) (a : Armed) (w : Option FailedWrite) → (o.of_bytes → IsLine (line.Sent k)) → (o.of_bytes → IsByteBase b v) → BaseCovered o h b v → Keeps h (card_line n (line.Sent k) (past_power b q j v g a) v b w)
   unfolding Keeps
-  card_kept h n (line.Select x) (OnCard c) q j (Running session_state) g a w kept brings hits =
+  card_kept h n (line.Select x) (OnCard c) q j (Running session_state) g a w is base kept brings hits =
       let r = command c session_state (select_bytes x) g in
       let t = hit_of a (moves r.items) w in
-      command_line_kept h _ n (line.Sent (line.Select x)) (past_power (OnCard c) q j (Running session_state) g a) c r None t refl (one_command h c session_state g (select_bytes x) false t kept hits brings.creates)
-  card_kept h n (line.Delete x) (OnCard c) q j (Running session_state) g a w kept brings hits =
+      command_line_kept h _ n (line.Sent (line.Select x)) (past_power (OnCard c) q j (Running session_state) g a) c r None t refl (one_command h c session_state g (select_bytes x) false t (λ y. record { apps = (base y).0; session = (base y).1; route = selects_bytes 0x0C (length x ∷ x) }) kept hits brings.creates)
+  card_kept h n (line.Delete x) (OnCard c) q j (Running session_state) g a w is base kept brings hits =
       let r = command c session_state (delete_bytes x) g in
       let t = hit_of a (moves r.items) w in
-      command_line_kept h _ n (line.Sent (line.Delete x)) (past_power (OnCard c) q j (Running session_state) g a) c r None t refl (one_command h c session_state g (delete_bytes x) false t kept hits brings.creates)
-  card_kept h n (line.Apdu x) (OnCard c) q j (Running session_state) g a w kept brings hits =
+      command_line_kept h _ n (line.Sent (line.Delete x)) (past_power (OnCard c) q j (Running session_state) g a) c r None t refl (one_command h c session_state g (delete_bytes x) false t (λ y. record { apps = (base y).0; session = (base y).1; route = managers_bytes 0x18 0x00 0x00 (length x ∷ x) (is y) }) kept hits brings.creates)
+  card_kept h n (line.Apdu x) (OnCard c) q j (Running session_state) g a w is base kept brings hits =
       let r = command c session_state x g in
       let t = hit_of a (moves r.items) w in
-      command_line_kept h _ n (line.Sent (line.Apdu x)) (past_power (OnCard c) q j (Running session_state) g a) c r (parts_for o.watch.name session_state.selected (route x)) t refl (one_command h c session_state g x true t kept hits brings.creates)
-  card_kept h n (line.Load u fixed session) (OnCard c) q j (Running session_state) g a w kept brings hits =
+      command_line_kept h _ n (line.Sent (line.Apdu x)) (past_power (OnCard c) q j (Running session_state) g a) c r (parts_for o.watch.name session_state.selected (route x)) t refl (one_command h c session_state g x true t (λ y. record { apps = (base y).0; session = (base y).1; route = route_bytes x (is y) }) kept hits brings.creates)
+  card_kept h n (line.Load u fixed session) (OnCard c) q j (Running session_state) g a w is base kept brings hits =
       let r = send c session_state g (load_commands u fixed session) in
       let t = hit_of a (moves r.items) w in
       command_line_kept h _ n (line.Sent (line.Load u fixed session)) (past_power (OnCard c) q j (Running session_state) g a) c r None t refl (a_load h c session_state g (load_commands u fixed session) t (load_managers u fixed session) kept brings.creates)
-  card_kept h n k (AtFault cause p) q j (Running session_state) g a w kept brings hits =
+  card_kept h n k (AtFault cause p) q j (Running session_state) g a w is base kept brings hits =
       (kept, unanswered h h (command_for o.watch.name (AfterPower (past_power (AtFault cause p) q j (Running session_state) g a)) (line.Sent k)) (Running session_state))
-  card_kept h n k b q j Unpowered g a w kept brings hits = (kept, unanswered h h (command_for o.watch.name (AfterPower (past_power b q j Unpowered g a)) (line.Sent k)) Unpowered)
-  card_kept h n k b q j Muted g a w kept brings hits = (kept, unanswered h h (command_for o.watch.name (AfterPower (past_power b q j Muted g a)) (line.Sent k)) Muted)
+  card_kept h n k b q j Unpowered g a w is base kept brings hits = (kept, unanswered h h (command_for o.watch.name (AfterPower (past_power b q j Unpowered g a)) (line.Sent k)) Unpowered)
+  card_kept h n k b q j Muted g a w is base kept brings hits = (kept, unanswered h h (command_for o.watch.name (AfterPower (past_power b q j Muted g a)) (line.Sent k)) Muted)
 
-  after_power_kept : (h : List E) (n : ℕ) (l : DeckLine) (s : Warm) (w : Option FailedWrite) → BaseCovered o h s.base s.live → Keeps h (after_power_step n l s w)
+  after_power_kept : (h : List E) (n : ℕ) (l : DeckLine) (s : Warm) (w : Option FailedWrite) → (o.of_bytes → IsLine l) → (o.of_bytes → IsByteBase s.base s.live) → BaseCovered o h s.base s.live → Keeps h (after_power_step n l s w)
   unfolding Keeps
-  after_power_kept h n line.Power s w kept brings hits =
+  after_power_kept h n line.Power s w is base kept brings hits =
       (after_power (with_event (o.watch.of_end (is_selected_on o.watch.name s.live)) h) s (hit_of s.armed (power_moves s) w) (base_ended h s.base s.live kept), tt)
-  after_power_kept h n (line.Sent k) s w kept brings hits = card_kept h n k s.base s.owed s.by s.live s.budget s.armed w kept brings hits
-  after_power_kept h n _ s w kept brings hits = (kept, tt)
+  after_power_kept h n (line.Sent k) s w is base kept brings hits = card_kept h n k s.base s.owed s.by s.live s.budget s.armed w is base kept brings hits
+  after_power_kept h n _ s w is base kept brings hits = (kept, tt)
 
   before_power_kept : (h : List E) (n : ℕ) (l : DeckLine) (m : List (List ℕ)) (b : ℕ) (a : Armed) (w : Option FailedWrite) → o.gone h → Keeps h (before_power_step n l m b a w)
   unfolding Keeps
@@ -245,24 +250,25 @@ module _ {E : Type 0} (o : Domain E) (shown : IsSound o) where
   before_power_kept h n _ m b a w gone brings hits = (gone, tt)
 
   -- one line
-  pub step_kept : (h : List E) (z : State) (l : ℕ × DeckLine) (w : Option FailedWrite) → StateCovered o h z → BringsOnly o.watch.name o.app (step z l w) → o.anywhere ⊎ StopsAtWrite (step z l w)
+  pub step_kept : (h : List E) (z : State) (l : ℕ × DeckLine) (w : Option FailedWrite) → (o.of_bytes → IsLine l.1) → (o.of_bytes → IsByteState z) → StateCovered o h z → BringsOnly o.watch.name o.app (step z l w) → o.anywhere ⊎ StopsAtWrite (step z l w)
       → LineCovered o h (step z l w) (after_step o.watch (step z l w) h)
   unfolding step Keeps
-  step_kept h (BeforePower m b a) l w kept = before_power_kept h l.0 l.1 m b a w kept
-  step_kept h (AfterPower s) l w kept = after_power_kept h l.0 l.1 s w kept
+  step_kept h (BeforePower m b a) l w is state kept = before_power_kept h l.0 l.1 m b a w kept
+  step_kept h (AfterPower s) l w is state kept = after_power_kept h l.0 l.1 s w is state kept
 
   -- ---- plays
 
-  along_kept : (ls : List (ℕ × DeckLine)) (ws : List (Option FailedWrite)) (h : List E) (z : State) → StateCovered o h z → AlongWrites o.watch o.app o.anywhere (LineCovered o) h (plays z ls ws)
+  along_kept : (ls : List (ℕ × DeckLine)) (ws : List (Option FailedWrite)) (h : List E) (z : State) → (o.of_bytes → AllByRecursion (λ l. IsLine l.1) ls) → (o.of_bytes → IsByteState z) → StateCovered o h z → AlongWrites o.watch o.app o.anywhere (LineCovered o) h (plays z ls ws)
   unfolding plays
-  along_kept [] ws h z kept = tt
-  along_kept (l ∷ ls) ws h z kept =
+  along_kept [] ws h z lines state kept = tt
+  along_kept (l ∷ ls) ws h z lines state kept =
       let t : Step = step z l (first_failure ws) in
       let k : List E = after_step o.watch t h in (
-        λ brings hits. let line = step_kept h z l (first_failure ws) kept brings hits in (line, along_kept ls (drop 1 ws) k t.after line.0),
-        λ c. subst (λ (u : Step). BringsOnly o.watch.name o.app u → o.anywhere ⊎ StopsAtWrite u → LineCovered o h u (after_step o.watch u h)) (stopped_is z l (first_failure ws) c) (step_kept h z l (Some c) kept),
+        λ brings hits. let line = step_kept h z l (first_failure ws) (λ y. (lines y).0) state kept brings hits in
+            (line, along_kept ls (drop 1 ws) k t.after (λ y. (lines y).1) (λ y. step_bytes z l (first_failure ws) (lines y).0 (state y)) line.0),
+        λ c. subst (λ (u : Step). BringsOnly o.watch.name o.app u → o.anywhere ⊎ StopsAtWrite u → LineCovered o h u (after_step o.watch u h)) (stopped_is z l (first_failure ws) c) (step_kept h z l (Some c) (λ y. (lines y).0) state kept),
       )
 
   -- what a domain covers is so along every play
   pub covered_along : IsCovered o
-  covered_along ls m ws = along_kept ls ws [] (start m) shown.none
+  covered_along ls m ws lines image = along_kept ls ws [] (start m) lines image shown.none

@@ -33,6 +33,7 @@ domain_of o =
       watch = o.watch;
       app = o.app;
       anywhere = ⊤;
+      of_bytes = ⊥;
       gone = λ h. ⊤;
       idle = o.keeps;
       session = λ h fixed session. o.keeps h fixed × o.holds h fixed session;
@@ -109,7 +110,7 @@ module _ {E : Type 0} (o : Outline E) (shown : IsShown o) where
       let k = with_event (o.watch.of_deed deed) h in (
         kept,
         record {
-          back = λ p l. (x p l, kept);
+          back = λ p l. (x p l.0, kept);
           abends = λ cause ok. place_ends e k d.effect.frame (zeros 1041) cause (x (zeros 1041) no_segment) kept;
           stops = shown.ended (is_direct e) k d.effect.frame.fixed kept;
         },
@@ -153,9 +154,9 @@ module _ {E : Type 0} (o : Outline E) (shown : IsShown o) where
         selected = λ h fixed keeps. shown.selected false h fixed keeps;
         selected_again = λ h fixed session x. shown.selected true h fixed x.0;
         ended = λ h fixed session x. shown.ended true h fixed x.0;
-        begins = λ bytes apdu h fixed session to x size. let y = shown.begins bytes apdu h fixed session x.0 x.1 size in (y.1, y.0);
-        entered = λ h fixed public keeps size. (shown.entered h fixed public keeps size, keeps);
-        turn = λ e h f public depth x at fits deep size. fetch_from e h f public depth x (instruction_at o.app.code f.at) at.0 at.1 (shown.turn e h f public depth x at.0 at.1 fits size);
+        begins = λ bytes apdu h fixed session to cmd x size. let y = shown.begins bytes apdu h fixed session x.0 x.1 size in (y.1, y.0);
+        entered = λ h fixed public keeps size. (shown.entered h fixed public keeps size.0, keeps);
+        turn = λ e h f public depth x at fits deep names size. fetch_from e h f public depth x (instruction_at o.app.code f.at) at.0 at.1 (shown.turn e h f public depth x at.0 at.1 fits size.0);
         spent = λ e h f public at. place_ends e h f public _ at.0 at.1;
         place_stops = λ any e h f public at. shown.ended (is_direct e) h f.fixed at.1;
         gone_stops = λ any was h gone. tt;
@@ -203,4 +204,4 @@ module _ {E : Type 0} (o : Outline E) (shown : IsShown o) where
 
   -- what an outline says holds along every play
   pub kept_along : IsKept o
-  kept_along ls m ws = along_kept [] (plays (start m) ls ws) (covered_along (domain_of o) outline_sound ls m ws)
+  kept_along ls m ws = along_kept [] (plays (start m) ls ws) (covered_along (domain_of o) outline_sound ls m ws (λ t. absurd t) (λ t. absurd t))

@@ -15,9 +15,12 @@ use Rattle.mc_model_machine.specs.Primitives.{Then, Goes, Exits, Delegates, Done
 use Rattle.mc_model_machine.specs.Row.{RowEnd, Abends, Does, row}
 use Rattle.mc_model_machine.specs.Chain.{Outcome, Abended, Chain, Ends, code_in, map_changed, write_of, chain_after_effect, depth_of, after_exit, follows, row_turn, turn_of_fetch, frame_at, around, turn_of_chain, delegator_in, first_frame, chain_session}
 use Rattle.mc_model_card.specs.Items.{apps_after_items, write_items}
+use Rattle.std.specs.List.{AllByRecursion}
+use Rattle.mc_byte_laws.specs.OfChains.{IsNamedFrame, IsByteChain, OnGoing}
+use Rattle.mc_byte_laws.proofs.ChainBytes.{turn_bytes}
 use Rattle.mc_promise.specs.History.{Deed, with_event, is_too_long, done_event, row_event, fetched_event, event_if, turn_event}
 use Rattle.mc_promise.specs.Outline.{FitsEntry, reply_to, public_size}
-use Rattle.mc_promise.specs.Domain.{Domain, IsSound, AnswerCovered, EndCovered, StopCovered, ExitCovered, NextCovered, WriteCovered, DeedCovered, RowCovered, FetchCovered, FitsDepth}
+use Rattle.mc_promise.specs.Domain.{Domain, IsSound, IsDelegator, AnswerCovered, EndCovered, StopCovered, ExitCovered, NextCovered, WriteCovered, DeedCovered, RowCovered, FetchCovered, FitsDepth}
 use Rattle.mc_row_laws.specs.Keeping.{after_change, Keeps, OnDone}
 use Rattle.mc_row_laws.proofs.Keeping.{row_keeps}
 use Rattle.mc_promise.specs.Kept.{IsLike}
@@ -40,10 +43,10 @@ module _ {E : Type 0} (o : Domain E) (shown : IsSound o) (q : Asked E) where
   exits_by b true k a session y m is e like ends answer stops = exit_kept b k a session (Abended A09) (lookup m o.watch.name) is e like ends answer stops
   exits_by b false k a session y m is e like ends answer stops = exit_kept b k a session y (lookup m o.watch.name) is e like ends answer stops
 
-  own_exits : (b : Bool) (k : List E) (a : App) (f : Frame) (s : Chain) (d : Done) (fs : List Frame) → s.apdu ≡ q.apdu → s.public ≡ d.effect.public → public_size ≤ length s.public → length fs ≤ 3 → lookup s.map o.watch.name ≡ Some a → IsLike o.app a
+  own_exits : (b : Bool) (k : List E) (a : App) (f : Frame) (s : Chain) (d : Done) (fs : List Frame) → s.apdu ≡ q.apdu → s.public ≡ d.effect.public → public_size ≤ length s.public → length fs ≤ 3 → (o.of_bytes → OnGoing (after_exit s fs) IsByteChain) → lookup s.map o.watch.name ≡ Some a → IsLike o.app a
       → d.effect.frame.fixed ≡ a.fixed → NoneOf o.watch.name fs → bytes_eq f.name o.watch.name ≡ true → bytes_eq (first_frame f fs).name o.watch.name ≡ b → ExitCovered o (entry_over q fs) k f d
       → FollowsKept b o q k s.map (session_of (first_frame f fs)) (after_exit s fs)
-  own_exits b k a f s d [] command public l few is like same none own first x =
+  own_exits b k a f s d [] command public l few g is like same none own first x =
       let t = nat_lt 1024 (la_of d.effect.public) in
       let y = reply_to q.apdu d.effect.public in
       let ends : EndCovered o (entry_of q) k a.fixed (session_of f) (cond t (Abended A09) y) = subst (λ (z : List ℕ). EndCovered o (entry_of q) k z (session_of f) (cond t (Abended A09) y)) same x.0 in
@@ -51,27 +54,27 @@ module _ {E : Type 0} (o : Domain E) (shown : IsSound o) (q : Asked E) where
       let end : FollowsKept b o q k s.map (session_of f) (cond t (Ends (Abended A09)) (Ends y)) = exits_by b t k a (session_of f) y s.map is (sym first ∙ own) like ends x.1 stops in
       subst (λ (z : ApduParts). FollowsKept b o q k s.map (session_of f) (cond (nat_lt 1024 (la_of s.public)) (Ends (Abended A09)) (Ends (reply_to z s.public)))) (sym command)
       (subst (λ (p : List ℕ). FollowsKept b o q k s.map (session_of f) (cond (nat_lt 1024 (la_of p)) (Ends (Abended A09)) (Ends (reply_to q.apdu p)))) (sym public) end)
-  own_exits b k a f s d (g ∷ gs) command public l few is like same none own first x =
+  own_exits b k a f s d (g ∷ gs) command public l few bytes is like same none own first x =
       let idle : o.idle k a.fixed = subst (o.idle k) same x in
       let w : FoundBelow o q k (Some a) (g ∷ gs) = record { like = like; waits = none_waits o q k a.fixed (g ∷ gs) none idle } in
       let found : FoundBelow o q k (lookup s.map o.watch.name) (g ∷ gs) = subst (λ (z : Option App). FoundBelow o q k z (g ∷ gs)) (sym is) w in
-      exited_chain o shown q b k s (session_of (first_frame g gs)) g gs command l few found first
+      exited_chain o shown q b k s (session_of (first_frame g gs)) g gs command l few bytes found first
 
   -- ---- what follows
 
-  own_follows : (b : Bool) (k : List E) (a : App) (ch : Chain) (d : Done) (next : Then) → ch.apdu ≡ q.apdu → public_size ≤ length d.effect.public → length ch.below ≤ 3 → lookup (chain_after_effect ch d.effect).map o.watch.name ≡ Some a → IsLike o.app a
+  own_follows : (b : Bool) (k : List E) (a : App) (ch : Chain) (d : Done) (next : Then) → ch.apdu ≡ q.apdu → public_size ≤ length d.effect.public → length ch.below ≤ 3 → (o.of_bytes → OnGoing (follows (chain_after_effect ch d.effect) next) IsByteChain) → lookup (chain_after_effect ch d.effect).map o.watch.name ≡ Some a → IsLike o.app a
       → d.effect.frame.fixed ≡ a.fixed → NoneOf o.watch.name ch.below → bytes_eq ch.frame.name o.watch.name ≡ true → d.effect.frame.name ≡ ch.frame.name → bytes_eq (first_frame ch.frame ch.below).name o.watch.name ≡ b
       → NextCovered o (entry_over q ch.below) k ch.frame d next
       → FollowsKept b o q k (chain_after_effect ch d.effect).map (chain_session ch) (follows (chain_after_effect ch d.effect) next)
-  own_follows b k a ch d Goes command l few is like same none own name first x =
+  own_follows b k a ch d Goes command l few g is like same none own name first x =
       let s : Chain = chain_after_effect ch d.effect in
       let its : bytes_eq s.frame.name o.watch.name ≡ true = ap (λ (z : List ℕ). bytes_eq z o.watch.name) name ∙ own in
       let head : bytes_eq (first_frame s.frame ch.below).name o.watch.name ≡ b = ap (λ (z : List ℕ). bytes_eq z o.watch.name) (first_name s.frame ch.frame ch.below name) ∙ first in
       let there : ThereKept o q k a s.frame s.below s.public = record { like = like; stack = own_runs o q k a.fixed s.frame s.below s.public its (record { same = same; at = x; none = none }) } in
-      (record { kept = subst (λ (z : Option App). FoundKept o q k z s.frame s.below s.public) (sym is) there; command = command; whole = l; shallow = few }, refl, head)
-  own_follows b k a ch d Exits command l few is like same none own name first x =
-      own_exits b k a ch.frame (chain_after_effect ch d.effect) d ch.below command refl l few is like same none own first x
-  own_follows b k a ch d (Delegates n) command l few is like same none own name first x =
+      (record { kept = subst (λ (z : Option App). FoundKept o q k z s.frame s.below s.public) (sym is) there; command = command; whole = l; shallow = few; bytes = g }, refl, head)
+  own_follows b k a ch d Exits command l few g is like same none own name first x =
+      own_exits b k a ch.frame (chain_after_effect ch d.effect) d ch.below command refl l few g is like same none own first x
+  own_follows b k a ch d (Delegates n) command l few g is like same none own name first x =
       let s : Chain = chain_after_effect ch d.effect in
       let e = entry_over q ch.below in
       let its : bytes_eq s.frame.name o.watch.name ≡ true = ap (λ (z : List ℕ). bytes_eq z o.watch.name) name ∙ own in
@@ -88,7 +91,7 @@ module _ {E : Type 0} (o : Domain E) (shown : IsSound o) (q : Asked E) where
         });
       }
       in
-      called_chain o shown q b k s (chain_session ch) n (lookup s.map n) command l few refl head (subst (λ (z : Option App). FoundBelow o q k z (s.frame ∷ s.below)) (sym is) w)
+      called_chain o shown q b k s (chain_session ch) n (lookup s.map n) command l few refl g head (subst (λ (z : Option App). FoundBelow o q k z (s.frame ∷ s.below)) (sym is) w)
 
   -- ---- a write
 
@@ -105,9 +108,9 @@ module _ {E : Type 0} (o : Domain E) (shown : IsSound o) (q : Asked E) where
 
   own_done : (b : Bool) (h : List E) (ev : Option E) (a : App) (ch : Chain) (i : Ins) (d : Done) → lookup ch.map o.watch.name ≡ Some a → IsLike o.app a → Runs o q h a.fixed ch.frame ch.below ch.public
       → bytes_eq ch.frame.name o.watch.name ≡ true → bytes_eq (first_frame ch.frame ch.below).name o.watch.name ≡ b → ChainKept o q h ch
-      → Keeps ch.frame ch.public d.effect → DeedCovered o (entry_over q ch.below) h (with_event ev h) ch.frame d
+      → Keeps ch.frame ch.public d.effect → (o.of_bytes → OnGoing (row_turn ch i (Does d)).follows IsByteChain) → DeedCovered o (entry_over q ch.below) h (with_event ev h) ch.frame d
       → TurnKept b o q h ch (row_turn ch i (Does d)) ev
-  own_done b h ev a ch i d is like r own first c t x =
+  own_done b h ev a ch i d is like r own first c t g x =
       let n = ch.frame.name in
       let k : List E = with_event ev h in
       let s : Chain = chain_after_effect ch d.effect in
@@ -119,7 +122,7 @@ module _ {E : Type 0} (o : Domain E) (shown : IsSound o) (q : Asked E) where
       let longer : length ch.public ≤ length d.effect.public = t.public in
       let whole : public_size ≤ length ch.public = c.whole in
       let written : s.map ≡ apps_after_items ch.map (write_items (write_of n d.effect.changes)) = done_write ch.map n d.effect.changes in
-      let next : FollowsKept b o q k s.map (chain_session ch) (follows s d.next) = own_follows b k z ch d d.next c.command (omega arith) c.shallow there alike fixed r.none own t.name first x.next in
+      let next : FollowsKept b o q k s.map (chain_session ch) (follows s d.next) = own_follows b k z ch d d.next c.command (omega arith) c.shallow g there alike fixed r.none own t.name first x.next in
       record {
         single = single_write n d.effect.changes;
         stops = own_stops b h k a z ch d d.effect.changes is there like alike r.same fixed r.none own first x.write;
@@ -128,23 +131,23 @@ module _ {E : Type 0} (o : Domain E) (shown : IsSound o) (q : Asked E) where
 
   own_row : (b : Bool) (h : List E) (a : App) (ch : Chain) (i : Ins) (r : RowEnd) → lookup ch.map o.watch.name ≡ Some a → IsLike o.app a → Runs o q h a.fixed ch.frame ch.below ch.public
       → bytes_eq ch.frame.name o.watch.name ≡ true → bytes_eq (first_frame ch.frame ch.below).name o.watch.name ≡ b → ChainKept o q h ch
-      → OnDone r (λ d. Keeps ch.frame ch.public d.effect) → RowCovered o (entry_over q ch.below) h ch.frame ch.public (depth_of ch) i r
+      → OnDone r (λ d. Keeps ch.frame ch.public d.effect) → (o.of_bytes → OnGoing (row_turn ch i r).follows IsByteChain) → RowCovered o (entry_over q ch.below) h ch.frame ch.public (depth_of ch) i r
       → TurnKept b o q h ch (row_turn ch i r) (row_event o.watch ch i r)
-  own_row b h a ch i (Abends cause) is like r own first c t x =
+  own_row b h a ch i (Abends cause) is like r own first c t g x =
       own_abended o shown q b h (o.watch.of_abend ch.frame.at cause) a ch (Some i) 1 cause is like r.same r.none own first x
-  own_row b h a ch i (Does d) is like r own first c t x =
+  own_row b h a ch i (Does d) is like r own first c t g x =
       let deed : Bool → Deed = λ p. record { frame = ch.frame; public = ch.public; direct = p; depth = depth_of ch; ins = i; effect = d.effect } in
-      own_done b h (row_event o.watch ch i (Does d)) a ch i d is like r own first c t
+      own_done b h (row_event o.watch ch i (Does d)) a ch i d is like r own first c t g
       (subst (λ (p : Bool). DeedCovered o (entry_over q ch.below) h (with_event (done_event (is_too_long p d.next d.effect.public) o.watch (deed p)) h) ch.frame d) (direct_is q ch.below) x)
 
   own_fetched : (b : Bool) (h : List E) (a : App) (ch : Chain) (r : Result (Ins × ℕ) DecodeFault) → lookup ch.map o.watch.name ≡ Some a → IsLike o.app a → Runs o q h a.fixed ch.frame ch.below ch.public
-      → bytes_eq ch.frame.name o.watch.name ≡ true → bytes_eq (first_frame ch.frame ch.below).name o.watch.name ≡ b → ChainKept o q h ch
+      → bytes_eq ch.frame.name o.watch.name ≡ true → bytes_eq (first_frame ch.frame ch.below).name o.watch.name ≡ b → ChainKept o q h ch → (o.of_bytes → OnGoing (turn_of_fetch ch r).follows IsByteChain)
       → FetchCovered o (entry_over q ch.below) h ch.frame ch.public (depth_of ch) (around ch) r
       → TurnKept b o q h ch (turn_of_fetch ch r) (fetched_event o.watch ch r)
-  own_fetched b h a ch (Err Undefined) is like r own first c x = own_abended o shown q b h (o.watch.of_abend ch.frame.at A01) a ch None 0 A01 is like r.same r.none own first x
-  own_fetched b h a ch (Err Past) is like r own first c x = own_abended o shown q b h (o.watch.of_abend ch.frame.at A02) a ch None 0 A02 is like r.same r.none own first x
-  own_fetched b h a ch (Ok i) is like r own first c x =
-      own_row b h a ch i.0 (row i.0 (frame_at ch.frame i.1) ch.public (around ch)) is like r own first c (row_keeps i.0 (frame_at ch.frame i.1) ch.public (around ch)) x
+  own_fetched b h a ch (Err Undefined) is like r own first c g x = own_abended o shown q b h (o.watch.of_abend ch.frame.at A01) a ch None 0 A01 is like r.same r.none own first x
+  own_fetched b h a ch (Err Past) is like r own first c g x = own_abended o shown q b h (o.watch.of_abend ch.frame.at A02) a ch None 0 A02 is like r.same r.none own first x
+  own_fetched b h a ch (Ok i) is like r own first c g x =
+      own_row b h a ch i.0 (row i.0 (frame_at ch.frame i.1) ch.public (around ch)) is like r own first c (row_keeps i.0 (frame_at ch.frame i.1) ch.public (around ch)) g x
 
   -- what is known around the frame, and the number of frames
   fits_over : (case : ℕ) (fs : List Frame) → case ≡ apdu_case q.apdu → FitsEntry (entry_over q fs) (record { case = case; delegator = delegator_in fs })
@@ -154,6 +157,11 @@ module _ {E : Type 0} (o : Domain E) (shown : IsSound o) (q : Asked E) where
   depth_over : (fs : List Frame) → length fs ≤ 3 → FitsDepth (entry_over q fs) (length fs + 1)
   depth_over [] few = refl
   depth_over (f ∷ fs) few = (omega (arith, few), omega (arith, few))
+
+  -- the delegator's name
+  delegator_named : (fs : List Frame) → AllByRecursion IsNamedFrame fs → IsDelegator (delegator_in fs)
+  delegator_named [] h = tt
+  delegator_named (f ∷ fs) h = (h.0).name
 
   -- ---- a turn
 
@@ -167,15 +175,15 @@ module _ {E : Type 0} (o : Domain E) (shown : IsSound o) (q : Asked E) where
       let same : ch.frame.name ≡ o.watch.name = same_name ch.frame.name o.watch.name own in
       let code : code_in (lookup ch.map ch.frame.name) ≡ o.app.code = ap (λ (n : List ℕ). code_in (lookup ch.map n)) same ∙ (ap code_in is ∙ f.like.code) in
       let x : FetchCovered o (entry_over q ch.below) h ch.frame ch.public (depth_of ch) (around ch) (instruction_at o.app.code ch.frame.at) =
-      shown.turn (entry_over q ch.below) h ch.frame ch.public (depth_of ch) (around ch) r.at (fits_over (apdu_case ch.apdu) ch.below (ap apdu_case c.command)) (depth_over ch.below c.shallow) c.whole
+      shown.turn (entry_over q ch.below) h ch.frame ch.public (depth_of ch) (around ch) r.at (fits_over (apdu_case ch.apdu) ch.below (ap apdu_case c.command)) (depth_over ch.below c.shallow) (λ t. delegator_named ch.below (c.bytes t).below) (c.whole, λ t. (c.bytes t).public)
       in
-      own_fetched b h a ch (instruction_at (code_in (lookup ch.map ch.frame.name)) ch.frame.at) is f.like r own first c
+      own_fetched b h a ch (instruction_at (code_in (lookup ch.map ch.frame.name)) ch.frame.at) is f.like r own first c (λ t. (turn_bytes ch (c.bytes t)).goes)
       (subst (λ (z : List ℕ). FetchCovered o (entry_over q ch.below) h ch.frame ch.public (depth_of ch) (around ch) (instruction_at z ch.frame.at)) (sym code) x)
 
   other_turn : (b : Bool) (h : List E) (ch : Chain) → bytes_eq ch.frame.name o.watch.name ≡ false → bytes_eq (first_frame ch.frame ch.below).name o.watch.name ≡ b → ChainKept o q h ch
       → TurnKept b o q h ch (turn_of_chain ch) None
   unfolding turn_of_chain
-  other_turn b h ch e first c = other_fetched o shown q b h ch (instruction_at (code_in (lookup ch.map ch.frame.name)) ch.frame.at) e first c
+  other_turn b h ch e first c = other_fetched o shown q b h ch (instruction_at (code_in (lookup ch.map ch.frame.name)) ch.frame.at) e first c (λ t. (turn_bytes ch (c.bytes t)).goes)
 
   turn_by : (b x : Bool) (h : List E) (ch : Chain) → bytes_eq ch.frame.name o.watch.name ≡ x → bytes_eq (first_frame ch.frame ch.below).name o.watch.name ≡ b → ChainKept o q h ch
       → TurnKept b o q h ch (turn_of_chain ch) (event_if x o.watch ch)

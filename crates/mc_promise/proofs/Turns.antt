@@ -12,9 +12,10 @@ use Rattle.mc_model_device.proofs.ListLemmas.{splice_longer}
 use Rattle.mc_model_machine.specs.Frame.{Frame, new_frame, session_of, with_sw}
 use Rattle.mc_model_machine.specs.Chain.{Outcome, Abended, Write, Chain, Acted, Follows, Continues, Ends, map_changed, write_of, is_active, depth_of, called_app, chain_after_call, abends_at, first_frame, chain_session}
 use Rattle.mc_model_card.specs.Items.{apps_after_items, write_items}
+use Rattle.mc_byte_laws.specs.OfChains.{IsByteChain}
 use Rattle.mc_promise.specs.History.{with_event, is_first}
 use Rattle.mc_promise.specs.Outline.{ByDelegation, is_direct, public_size}
-use Rattle.mc_promise.specs.Domain.{Domain, IsSound, EndCovered, StopCovered, IsRowCause, AbendCovered, first_frame_in}
+use Rattle.mc_promise.specs.Domain.{Domain, IsSegment, IsSound, EndCovered, StopCovered, IsRowCause, AbendCovered, first_frame_in}
 use Rattle.mc_promise.specs.Kept.{IsLike}
 use Rattle.mc_promise.proofs.Chains.{NoneOf, inactive, first_none, Asked, entry_over, WaitsIf, AllWait, RunsIf, none_idle, resumed, others_run, own_runs, others_wait, ThereKept, FoundKept, ChainKept, EndIf, AnswerIf, StopIf, EndKept}
 use Rattle.mc_model_device.proofs.MapLemmas.{same_name}
@@ -201,16 +202,16 @@ module _ {E : Type 0} (o : Domain E) (shown : IsSound o) (q : Asked E) where
 
   -- ---- what follows in a settled chain
 
-  resume_found : (h : List E) (found : Option App) (f : Frame) (fs : List Frame) (p : List ℕ) → public_size ≤ length p → FoundBelow o q h found (f ∷ fs) → FoundKept o q h found f fs p
+  resume_found : (h : List E) (found : Option App) (f : Frame) (fs : List Frame) (p : List ℕ) → IsSegment o p → FoundBelow o q h found (f ∷ fs) → FoundKept o q h found f fs p
   resume_found h None f fs p l n = n
   resume_found h (Some a) f fs p l w = record { like = w.like; stack = resumed o q h a.fixed f fs p l w.waits }
 
   -- an exit to the frame below
-  pub exited_chain : (b : Bool) (h : List E) (s : Chain) (session : List ℕ) (f : Frame) (fs : List Frame) → s.apdu ≡ q.apdu → public_size ≤ length s.public → length (f ∷ fs) ≤ 3 → FoundBelow o q h (lookup s.map o.watch.name) (f ∷ fs)
+  pub exited_chain : (b : Bool) (h : List E) (s : Chain) (session : List ℕ) (f : Frame) (fs : List Frame) → s.apdu ≡ q.apdu → public_size ≤ length s.public → length (f ∷ fs) ≤ 3 → (o.of_bytes → IsByteChain (record s { frame = f; below = fs })) → FoundBelow o q h (lookup s.map o.watch.name) (f ∷ fs)
       → bytes_eq (first_frame f fs).name o.watch.name ≡ b
       → FollowsKept b o q h s.map session (Continues (record s { frame = f; below = fs }))
-  exited_chain b h s session f fs command l few w e =
-      (record { kept = resume_found h (lookup s.map o.watch.name) f fs s.public l w; command = command; whole = l; shallow = omega (arith, few) }, refl, e)
+  exited_chain b h s session f fs command l few bytes w e =
+      (record { kept = resume_found h (lookup s.map o.watch.name) f fs s.public (l, λ t. (bytes t).public) w; command = command; whole = l; shallow = omega (arith, few); bytes = bytes }, refl, e)
 
   frame_like : (a : App) (n fixed : List ℕ) → IsLike o.app a → n ≡ o.watch.name → first_frame_in o fixed (zeros o.app.session) ≡ new_frame n (length a.code) a.deny fixed (zeros a.session)
   frame_like a n fixed like same =
@@ -226,7 +227,7 @@ module _ {E : Type 0} (o : Domain E) (shown : IsSound o) (q : Asked E) where
   entered_other h (Some a) g f fs p e w = record { like = w.like; stack = others_run o q h a.fixed g (f ∷ fs) p e w.waits }
 
   -- the application is entered
-  entered_own : (h : List E) (a : App) (n : List ℕ) (f : Frame) (fs : List Frame) (p : List ℕ) → public_size ≤ length p → bytes_eq n o.watch.name ≡ true → NoneOf o.watch.name (f ∷ fs) → BelowKept o q h a (f ∷ fs)
+  entered_own : (h : List E) (a : App) (n : List ℕ) (f : Frame) (fs : List Frame) (p : List ℕ) → IsSegment o p → bytes_eq n o.watch.name ≡ true → NoneOf o.watch.name (f ∷ fs) → BelowKept o q h a (f ∷ fs)
       → ThereKept o q h a (new_frame n (length a.code) a.deny a.fixed (zeros a.session)) (f ∷ fs) p
   entered_own h a n f fs p l e none w =
       let g = new_frame n (length a.code) a.deny a.fixed (zeros a.session) in
@@ -234,7 +235,7 @@ module _ {E : Type 0} (o : Domain E) (shown : IsSound o) (q : Asked E) where
       let at : o.at ByDelegation h g p = subst (λ (z : Frame). o.at ByDelegation h z p) (frame_like a n a.fixed w.like (same_name n o.watch.name e)) (shown.entered h a.fixed p idle l) in
       record { like = w.like; stack = own_runs o q h a.fixed g (f ∷ fs) p e (record { same = refl; at = at; none = none }) }
 
-  entered_by : (h : List E) (s : Chain) (n : List ℕ) (a : App) (b : Bool) → bytes_eq n o.watch.name ≡ b → lookup s.map n ≡ Some a → is_active n s.frame s.below ≡ false → public_size ≤ length s.public
+  entered_by : (h : List E) (s : Chain) (n : List ℕ) (a : App) (b : Bool) → bytes_eq n o.watch.name ≡ b → lookup s.map n ≡ Some a → is_active n s.frame s.below ≡ false → IsSegment o s.public
       → FoundBelow o q h (lookup s.map o.watch.name) (s.frame ∷ s.below)
       → FoundKept o q h (lookup s.map o.watch.name) (new_frame n (length a.code) a.deny a.fixed (zeros a.session)) (s.frame ∷ s.below) s.public
   entered_by h s n a false e is active l w = entered_other h (lookup s.map o.watch.name) _ s.frame s.below s.public e w
@@ -246,24 +247,24 @@ module _ {E : Type 0} (o : Domain E) (shown : IsSound o) (q : Asked E) where
       subst (λ (z : Option App). FoundKept o q h z (new_frame n (length a.code) a.deny a.fixed (zeros a.session)) (s.frame ∷ s.below) s.public) (sym there)
       (entered_own h a n s.frame s.below s.public l e none below)
 
-  with_status : (h : List E) (s : Chain) (sw : ℕ) → s.apdu ≡ q.apdu → public_size ≤ length s.public → length s.below ≤ 3 → FoundBelow o q h (lookup s.map o.watch.name) (s.frame ∷ s.below)
+  with_status : (h : List E) (s : Chain) (sw : ℕ) → s.apdu ≡ q.apdu → public_size ≤ length s.public → length s.below ≤ 3 → (o.of_bytes → IsByteChain (record s { public = with_sw s.public sw })) → FoundBelow o q h (lookup s.map o.watch.name) (s.frame ∷ s.below)
       → ChainKept o q h (record s { public = with_sw s.public sw })
-  with_status h s sw command l few w =
+  with_status h s sw command l few bytes w =
       let longer : length s.public ≤ length (with_sw s.public sw) = splice_longer s.public 1039 (bytes2 sw) in
-      record { kept = resume_found h (lookup s.map o.watch.name) s.frame s.below (with_sw s.public sw) (omega arith) w; command = command; whole = omega arith; shallow = few }
+      record { kept = resume_found h (lookup s.map o.watch.name) s.frame s.below (with_sw s.public sw) (omega arith, λ t. (bytes t).public) w; command = command; whole = omega arith; shallow = few; bytes = bytes }
 
-  called_app_kept : (b : Bool) (h : List E) (s : Chain) (session : List ℕ) (n : List ℕ) (a : App) (e : Bool) → s.apdu ≡ q.apdu → public_size ≤ length s.public → length s.below ≤ 3 → lookup s.map n ≡ Some a → (is_active n s.frame s.below || nat_le 4 (depth_of s)) ≡ e
+  called_app_kept : (b : Bool) (h : List E) (s : Chain) (session : List ℕ) (n : List ℕ) (a : App) (e : Bool) → s.apdu ≡ q.apdu → public_size ≤ length s.public → length s.below ≤ 3 → lookup s.map n ≡ Some a → (is_active n s.frame s.below || nat_le 4 (depth_of s)) ≡ e → (o.of_bytes → IsByteChain (called_app e s n a))
       → bytes_eq (first_frame s.frame s.below).name o.watch.name ≡ b
       → FoundBelow o q h (lookup s.map o.watch.name) (s.frame ∷ s.below) → FollowsKept b o q h s.map session (Continues (called_app e s n a))
-  called_app_kept b h s session n a true command l few is t first w = (with_status h s 0x6985 command l few w, refl, first)
-  called_app_kept b h s session n a false command l few is t first w =
+  called_app_kept b h s session n a true command l few is t bytes first w = (with_status h s 0x6985 command l few bytes w, refl, first)
+  called_app_kept b h s session n a false command l few is t bytes first w =
       let parts = or_parts (is_active n s.frame s.below) (nat_le 4 (depth_of s)) t in
       let low = leb-false 4 (depth_of s) parts.1 in
-      (record { kept = entered_by h s n a (bytes_eq n o.watch.name) refl is parts.0 l w; command = command; whole = l; shallow = omega (arith, low) }, refl, first)
+      (record { kept = entered_by h s n a (bytes_eq n o.watch.name) refl is parts.0 (l, λ t. (bytes t).public) w; command = command; whole = l; shallow = omega (arith, low); bytes = bytes }, refl, first)
 
   -- a delegation
-  pub called_chain : (b : Bool) (h : List E) (s : Chain) (session : List ℕ) (n : List ℕ) (found : Option App) → s.apdu ≡ q.apdu → public_size ≤ length s.public → length s.below ≤ 3 → lookup s.map n ≡ found
+  pub called_chain : (b : Bool) (h : List E) (s : Chain) (session : List ℕ) (n : List ℕ) (found : Option App) → s.apdu ≡ q.apdu → public_size ≤ length s.public → length s.below ≤ 3 → lookup s.map n ≡ found → (o.of_bytes → IsByteChain (chain_after_call s n found))
       → bytes_eq (first_frame s.frame s.below).name o.watch.name ≡ b
       → FoundBelow o q h (lookup s.map o.watch.name) (s.frame ∷ s.below) → FollowsKept b o q h s.map session (Continues (chain_after_call s n found))
-  called_chain b h s session n None command l few is first w = (with_status h s 0x6A82 command l few w, refl, first)
-  called_chain b h s session n (Some a) command l few is first w = called_app_kept b h s session n a (is_active n s.frame s.below || nat_le 4 (depth_of s)) command l few is refl first w
+  called_chain b h s session n None command l few is bytes first w = (with_status h s 0x6A82 command l few bytes w, refl, first)
+  called_chain b h s session n (Some a) command l few is bytes first w = called_app_kept b h s session n a (is_active n s.frame s.below || nat_le 4 (depth_of s)) command l few is refl bytes first w

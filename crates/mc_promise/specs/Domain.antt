@@ -2,11 +2,12 @@
 -- be shown of it, one instruction at a time. What a domain says of a state is the concretisation of the keys that its
 -- tables have (Cousot and Cousot, POPL 1977). A proof outline is a domain whose moments all say the same.
 use Rattle.std.specs.Prelude.{◌≡◌, ◌⊎◌, ℕ, ◌≤◌, Bool, true, false, cond, nat_lt, List, [], ◌∷◌, length, None, Some, Option, Result, Ok, Err, bytes_eq, ⊤}
+use Rattle.std.specs.List.{AllByRecursion}
 use Rattle.mc_model_machine.specs.declared.instruction.Ins.{Ins}
 use Rattle.mc_model_machine.specs.declared.instruction.DecodeFault.{DecodeFault}
 use Rattle.mc_model_machine.specs.declared.machine.Abend.{Abend}
 use Rattle.mc_model_machine.specs.declared.machine.Abend.TheVariants.{A07, A09}
-use Rattle.mc_model_device.specs.Bytes.{zeros, lookup}
+use Rattle.mc_model_device.specs.Bytes.{AreBytes, zeros, lookup}
 use Rattle.mc_model_device.specs.Card.{App}
 use Rattle.mc_model_device.specs.PowerUp.{Base, OnCard, AtFault}
 use Rattle.mc_model_machine.specs.Apdu.{ApduParts}
@@ -20,6 +21,9 @@ use Rattle.mc_model_card.specs.Manager.{Selected, ToApplication, route}
 use Rattle.mc_model_play.specs.DeckGrammar.{DeckLine}
 use Rattle.mc_model_play.specs.DeckGrammar as line
 use Rattle.mc_model_play.specs.Play.{Live, Running, Unpowered, Muted, State, BeforePower, AfterPower, FailedWrite, Step, plays, start}
+use Rattle.mc_model_device.specs.Device.{IsImage}
+use Rattle.mc_model_play.specs.ReadyAgain.{IsLine}
+use Rattle.mc_byte_laws.specs.OfChains.{IsName, IsByteCommand}
 use Rattle.mc_promise.specs.History.{Watch, Deed, with_event, is_too_long, done_event, fetch_cause, after_step}
 use Rattle.mc_promise.specs.Along.{BringsOnly, stopped_step, OnAnswer, command_for}
 use Rattle.mc_promise.specs.Outline.{Entry, BySelection, ByDelegation, is_direct, FitsEntry, reply_to, public_size}
@@ -32,6 +36,8 @@ pub record Domain (E : Type 0) : Type 1 where
   pub app : App
   -- stops are covered anywhere, and not at device writes alone
   pub anywhere : Type 0
+  -- it covers plays of bytes alone; its moments may then use that all is bytes, and that names have 5 to 16 of them
+  pub of_bytes : Type 0
   -- while the application is not on the card
   pub gone : List E → Type 0
   -- whenever it is not selected and none of its frames runs or waits
@@ -42,6 +48,17 @@ pub record Domain (E : Type 0) : Type 1 where
   pub at : Entry E → List E → Frame → List ℕ → Type 0
   -- of a command that was answered: the history before it and after its answer, and the status
   pub answers : ApduParts → List E → List E → ℕ → Type 0
+
+-- ---- bytes
+
+-- a public segment: it is whole, and of bytes if the domain is of bytes
+abbrev pub IsSegment : {E : Type 0} → Domain E → List ℕ → Type 0
+IsSegment o public = (public_size ≤ length public) × (o.of_bytes → AreBytes public)
+
+-- the name of a delegator, if there is one, has 5 to 16 bytes
+abbrev pub IsDelegator : Option (List ℕ) → Type 0
+IsDelegator None = ⊤
+IsDelegator (Some name) = IsName name
 
 -- ---- ends
 
@@ -79,7 +96,7 @@ IsRowCause cause = ⊤
 
 -- A delegation: it is refused or comes back, with any public segment; a delegate abends; or power goes in it.
 pub record DelegationCovered {E : Type 0} (o : Domain E) (e : Entry E) (k : List E) (f : Frame) : Type 0 where
-  pub back : (p : List ℕ) → public_size ≤ length p → o.at e k f p
+  pub back : (p : List ℕ) → IsSegment o p → o.at e k f p
   pub abends : (cause : Abend) → IsRowCause cause → EndCovered o e k f.fixed (session_of f) (Abended cause)
   pub stops : StopCovered o e k f.fixed
 
@@ -144,13 +161,13 @@ pub record IsSound {E : Type 0} (o : Domain E) : Type 0 where
   -- its session ends
   pub ended : (h : List E) (fixed session : List ℕ) → o.session h fixed session → o.idle (with_event (o.watch.of_end true) h) fixed
   -- a command begins in a session
-  pub begins : (bytes : List ℕ) (apdu : ApduParts) (h : List E) (fixed session : List ℕ) → route bytes ≡ ToApplication apdu → o.session h fixed session → length session ≡ o.app.session
+  pub begins : (bytes : List ℕ) (apdu : ApduParts) (h : List E) (fixed session : List ℕ) → route bytes ≡ ToApplication apdu → (o.of_bytes → IsByteCommand apdu) → o.session h fixed session → length session ≡ o.app.session
       → o.at (BySelection bytes apdu h) (with_event (o.watch.of_command bytes apdu) h) (first_frame_in o fixed session) (new_public apdu)
   -- a delegation begins with zero session bytes and any public segment
-  pub entered : (h : List E) (fixed public : List ℕ) → o.idle h fixed → public_size ≤ length public
+  pub entered : (h : List E) (fixed public : List ℕ) → o.idle h fixed → IsSegment o public
       → o.at ByDelegation h (first_frame_in o fixed (zeros o.app.session)) public
   -- each instruction leads to what the domain covers
-  pub turn : (e : Entry E) (h : List E) (f : Frame) (public : List ℕ) (depth : ℕ) (x : Around) → o.at e h f public → FitsEntry e x → FitsDepth e depth → public_size ≤ length public
+  pub turn : (e : Entry E) (h : List E) (f : Frame) (public : List ℕ) (depth : ℕ) (x : Around) → o.at e h f public → FitsEntry e x → FitsDepth e depth → (o.of_bytes → IsDelegator x.delegator) → IsSegment o public
       → FetchCovered o e h f public depth x (instruction_at o.app.code f.at)
   -- the budget may end at each place
   pub spent : (e : Entry E) (h : List E) (f : Frame) (public : List ℕ) → o.at e h f public → EndCovered o e h f.fixed (session_of f) (Abended A07)
@@ -227,7 +244,8 @@ AlongWrites w app anywhere says h (t ∷ ts) =
     (BringsOnly w.name app t → anywhere ⊎ StopsAtWrite t → says h t (after_step w t h) × AlongWrites w app anywhere says (after_step w t h) ts)
     × ((c : FailedWrite) → BringsOnly w.name app (stopped_step t c) → anywhere ⊎ StopsAtWrite (stopped_step t c) → says h (stopped_step t c) (after_step w (stopped_step t c) h))
 
--- for every deck, every image and every list of failed writes
+-- for every deck, every image and every list of failed writes; of lines and words of bytes if the domain is of bytes
 abbrev pub IsCovered : {E : Type 0} → Domain E → Type 0
 IsCovered o =
-    (ls : List (ℕ × DeckLine)) (m : List (List ℕ)) (ws : List (Option FailedWrite)) → AlongWrites o.watch o.app o.anywhere (LineCovered o) [] (plays (start m) ls ws)
+    (ls : List (ℕ × DeckLine)) (m : List (List ℕ)) (ws : List (Option FailedWrite)) → (o.of_bytes → AllByRecursion (λ l. IsLine l.1) ls) → (o.of_bytes → IsImage m)
+    → AlongWrites o.watch o.app o.anywhere (LineCovered o) [] (plays (start m) ls ws)

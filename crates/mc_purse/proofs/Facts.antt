@@ -10,7 +10,7 @@ use Rattle.mc_model_machine.specs.Primitives.{Done}
 use Rattle.mc_promise.specs.History.{with_event}
 use Rattle.mc_promise.specs.Outline.{Entry, BySelection, ByDelegation, is_direct, public_size, ExitShown, DeedShown}
 use Rattle.mc_promise.proofs.PublicBytes.{ins_byte, other_ins, length_bytes, body_of_two, status_set, status_beside_la, status_beside_two, status_new}
-use Rattle.mc_purse.specs.Purse.{Event, Commanded, Tries, Debited, comparison}
+use Rattle.mc_purse.specs.Purse.{Event, Tries, Debited, comparison}
 use Rattle.mc_purse.specs.Laws.{RightLaw, wrong_since, tries_left, JustRight, sum_of_debits, number_of_debits, JustOrdered, is_shown}
 use Rattle.mc_purse.proofs.Places.{PurseKept, Cells, fixed_of, balance_of, less, one_more, IsFresh, IsZeroed, Sits, IsNoDebit, IsDebit, MadeNone, IsPaid, IsSpent, IsOpenIf, IsRight, IsOpen, HasTwo, Carries, Debits, purse_outline}
 use Rattle.mc_model_device.proofs.MapLemmas.{name_is_itself, same_name}

@@ -78,7 +78,7 @@ module _ (r : AppRules) (g : Target) (c : Covering) (covers : CoversRules r g c)
 
   -- so the rules are kept
   pub all_kept : KeptInAll r g
-  all_kept ls m ws = along [] (plays (start m) ls ws) (covered_along (domain_of_rules g c) covers.sound ls m ws)
+  all_kept ls m ws lines image = along [] (plays (start m) ls ws) (covered_along (domain_of_rules g c) covers.sound ls m ws (λ t. lines) (λ t. image))
 
   pub covered_rules : r.target ≡ Some g → AreKept r
-  covered_rules e = subst (AreKeptBy r) (sym e) (λ ls m ws lines image. all_kept ls m ws)
+  covered_rules e = subst (AreKeptBy r) (sym e) all_kept

@@ -25,9 +25,10 @@ pub record StepKeeps (r : AppRules) (g : Target) (t : Step) (h : History) : Type
 abbrev pub KeptAlong : AppRules → Target → History → List Step → Type 0
 KeptAlong r g h ts = AlongWrites (rule_watch g.name) g.app ⊥ (λ before t after. StepKeeps r g t after) h ts
 
--- whatever numbers are in the lines, in the image and in the failed writes
+-- in every list of lines of bytes, from every image of words of bytes and with every list of failed writes
 abbrev pub KeptInAll : AppRules → Target → Type 0
-KeptInAll r g = (ls : List (ℕ × DeckLine)) (m : List (List ℕ)) (ws : List (Option FailedWrite)) → KeptAlong r g [] (plays (start m) ls ws)
+KeptInAll r g =
+    (ls : List (ℕ × DeckLine)) (m : List (List ℕ)) (ws : List (Option FailedWrite)) → AllByRecursion (λ l. IsLine l.1) ls → IsImage m → KeptAlong r g [] (plays (start m) ls ws)
 
 -- The rules are kept of the application: in every list of lines of bytes, from every image of words of bytes and with
 -- every list of failed writes. (An analysis of bytes says nothing of other numbers.)
@@ -57,6 +58,7 @@ domain_of_rules g c =
       watch = rule_watch g.name;
       app = g.app;
       anywhere = ⊥;
+      of_bytes = ⊤;
       gone = c.gone;
       idle = c.idle;
       session = c.session;

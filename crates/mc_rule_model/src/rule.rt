@@ -16,7 +16,7 @@ pub trait RuleAnalysis {
     ghost covers: { CoversRules rules target covering };
 }
 
-/// Rules that no covered moment breaks are kept along every play.
+/// Rules that no covered moment breaks are kept along every play of lines of bytes from an image of words of bytes.
 pub fn covers<A: RuleAnalysis>()
     ensures { KeptInAll A.rules A.target }
 {}
