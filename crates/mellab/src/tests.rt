@@ -269,7 +269,8 @@ const TWICE: &str = "format\npower\n\
 const TWICE_SWEPT: &str = "line 4 writes 22: before 1-18 after 19-22\n\
     line 7 writes 12: before 1-4 between 5-10 after 11-12";
 
-// A line that must be whole and is between two changes: the status is 1 if it is marked, and 0 if not.
+// A line that must be whole and is between two changes: the status is 1 if it is marked, and 0 if not. A mark under a line
+// that makes no write has a line of its own.
 #[test]
 fn whole(rt: HostRuntime) -> Result<(), Fail> {
     let alloc = rt.alloc();
@@ -277,7 +278,7 @@ fn whole(rt: HostRuntime) -> Result<(), Fail> {
     let words = words.as_slice();
     for (mark, reported, status) in [
         ("#! whole all", "", 0u8),
-        ("power\n#! whole", "", 0),
+        ("power\n#! whole", "\nline 9 not swept", 1),
         ("# twice\n\n \t#!  whole\t", " not whole", 1),
     ] {
         let deck = format!(in alloc; "{}{}\ndump A000000001\n", TWICE, mark)?;
