@@ -4,3 +4,4 @@ pub mod Moments
 pub mod Picks
 pub mod Places
 pub mod Spots
+pub mod Rows

@@ -1,14 +1,17 @@
 -- The laws of closed tables between commands: each moment that may follow a moment is one that the tables have.
-use Rattle.std.specs.Prelude.{◌≡◌, ℕ, true, false, List, [], ◌∷◌, Err}
+use Rattle.std.specs.Prelude.{◌≡◌, ℕ, true, false, List, [], ◌∷◌, Ok, Err}
 use Rattle.mc_model_device.specs.Bytes.{AreBytes, zeros}
 use Rattle.mc_model_machine.specs.declared.instruction.DecodeFault.{DecodeFault}
 use Rattle.mc_model_machine.specs.declared.machine.Abend.TheVariants.{A07}
 use Rattle.mc_model_machine.specs.Code.{instruction_at}
 use Rattle.mc_model_machine.specs.Frame.{Frame, session_of}
-use Rattle.mc_model_machine.specs.Chain.{Abended}
+use Rattle.mc_model_machine.specs.declared.instruction.Ins.{Ins}
+use Rattle.mc_model_machine.specs.Primitives.{Around}
+use Rattle.mc_model_machine.specs.Row.{row}
+use Rattle.mc_model_machine.specs.Chain.{Abended, frame_at}
 use Rattle.mc_promise.specs.History.{fetch_cause}
-use Rattle.mc_promise.specs.Outline.{Entry, ByDelegation}
-use Rattle.mc_promise.specs.Domain.{AbendCovered, EndCovered, first_frame_in}
+use Rattle.mc_promise.specs.Outline.{Entry, ByDelegation, FitsEntry}
+use Rattle.mc_promise.specs.Domain.{IsSegment, IsDelegator, AbendCovered, EndCovered, RowCovered, FitsDepth, first_frame_in}
 use Rattle.mc_rule_model.specs.Rules.{Target, AppRules}
 use Rattle.mc_rule_model.specs.Happenings.{Event, History, Failed, Session}
 use Rattle.mc_rule_model.specs.Keeping.{keeps_rules}
@@ -51,3 +54,18 @@ pub record PlacesCovered (s : Setting) (t : Tables) (g : Target) : Type 0 where
 abbrev pub PlaceLaw : Type 0
 PlaceLaw =
     (r : AppRules) (g : Target) (t : Tables) → IsLoadable g.app → is_closed (record { rules = r; app = g.app }) t ≡ true → PlacesCovered (record { rules = r; app = g.app }) t g
+
+-- ---- rows
+
+-- At each place of the tables that has this instruction, what its row leads to is covered: the next place, an exit or a
+-- delegation, a stop in its write, or its abend.
+abbrev pub RowIsCovered : AppRules → Target → Tables → Ins → Type 0
+RowIsCovered r g t i =
+    let s : Setting = record { rules = r; app = g.app } in
+    let o = domain_of_rules g (covering_of s t) in
+    (e : Entry Event) (h : History) (f : Frame) (public : List ℕ) (depth : ℕ) (x : Around) (next : ℕ) → IsPlace s t e h f public → FitsEntry e x → FitsDepth e depth → IsDelegator x.delegator → IsSegment o public
+    → instruction_at g.app.code f.at ≡ Ok (i, next) → RowCovered o e h f public depth i (row i (frame_at f next) public x)
+
+-- of closed tables, for an application that a card can have
+abbrev pub RowLaw : Ins → Type 0
+RowLaw i = (r : AppRules) (g : Target) (t : Tables) → IsLoadable g.app → is_closed (record { rules = r; app = g.app }) t ≡ true → RowIsCovered r g t i

@@ -2,7 +2,8 @@
 
 //! What closed tables of abstract states cover of the plays of an application.
 
-ghost use Rattle.mc_prove_laws.specs.Laws.{MomentLaw, PlaceLaw};
+ghost use Rattle.mc_model_machine.specs.declared.instruction.Ins.TheVariants.{Nop};
+ghost use Rattle.mc_prove_laws.specs.Laws.{MomentLaw, PlaceLaw, RowLaw};
 
 /// Between commands: each moment that may follow one is one that closed tables have, and none breaks a rule.
 pub fn moments_are_covered()
@@ -13,4 +14,9 @@ pub fn moments_are_covered()
 /// instruction is there, they have the moment after the answer, or after the delegation.
 pub fn places_are_covered()
     ensures { PlaceLaw }
+{}
+
+/// After NOP closed tables have the next place, with the allowances that its event leaves.
+pub fn no_operation_is_covered()
+    ensures { RowLaw Nop }
 {}

@@ -1,0 +1,194 @@
+-- The place after a row of one outcome, in closed tables: what is known of the frame, which outcome it is, and its event.
+use Rattle.std.proofs.Common.{◌≡◌, ℕ, ◌+◌, ◌-◌, ◌<◌, Bool, true, false, cond, List, [], ◌∷◌, ◌++◌, length, None, Result, Ok, refl, sym, ap, subst, ◌∙◌}
+use Rattle.std.specs.Prelude.{not, ◌&&◌, nat_lt, nat_le, filter, flat_map, slice_index}
+use Rattle.std.proofs.lemmas.Bool.{ltb-false, lt-ltb}
+use Rattle.mc_model_device.specs.Bytes.{AreBytes}
+use Rattle.mc_model_device.specs.Pieces.{laid_pieces}
+use Rattle.mc_model_machine.specs.declared.instruction.Ins.{Ins}
+use Rattle.mc_model_machine.specs.declared.instruction.Ins.TheVariants as ins
+use Rattle.mc_model_machine.specs.declared.instruction.DecodeFault.{DecodeFault}
+use Rattle.mc_model_machine.specs.declared.machine.Abend.TheVariants.{A07}
+use Rattle.mc_model_machine.specs.Code.{instruction_at}
+use Rattle.mc_model_machine.specs.Frame.{Frame, Effect, dynamic_base, public_base, static_bytes}
+use Rattle.mc_model_machine.specs.Primitives.{Around, frame_effect}
+use Rattle.mc_model_machine.specs.Row.{causes, effect, row}
+use Rattle.mc_model_machine.specs.Chain.{frame_at}
+use Rattle.mc_row_laws.specs.Shapes.{shape}
+use Rattle.mc_promise.specs.History.{Deed}
+use Rattle.mc_promise.specs.Outline.{Entry, is_direct}
+use Rattle.mc_promise.specs.Domain.{FitsDepth}
+use Rattle.mc_rule_model.specs.Rules.{Target, AppRules}
+use Rattle.mc_rule_model.specs.Happenings.{Event, History, Did}
+use Rattle.mc_rule_model.specs.Keeping.{Amounts, after_occasion, OnTurn, line_of, line_of_deed, after_deed}
+use Rattle.mc_prove_model.specs.Sets.{Set, is_in}
+use Rattle.mc_prove_model.specs.Facts.{Facts, Memory, Holds}
+use Rattle.mc_prove_model.specs.Compares.{IsSo}
+use Rattle.mc_prove_model.specs.Keys.{Start, Delegated, OfClass, Call, PlaceKey, Known, Tables, calls_before, calls_below}
+use Rattle.mc_prove_model.specs.Splits.{Scene, stand_in}
+use Rattle.mc_prove_model.specs.Laws.{HoldsBytes}
+use Rattle.mc_prove_model.specs.Arrivals.{Setting, Arrival, static_size, settled, abended, after_turn}
+use Rattle.mc_prove_model.specs.Steps.{Spot, lowered, settled_spot, arrived, arounds, instruction, fetched}
+use Rattle.mc_prove_model.specs.Tables.{includes_all, is_closed}
+use Rattle.mc_prove_model.proofs.CompareLemmas.{touched_holds}
+use Rattle.mc_prove_laws.specs.Coverings.{moment_memory, frame_memory, StartsAs, AreOpen, IsFrameOf, IsPlace}
+use Rattle.mc_prove_laws.specs.Laws.{RowIsCovered, RowLaw}
+use Rattle.mc_prove_laws.proofs.Closed.{included_first, included_second, Arrives}
+use Rattle.mc_prove_laws.proofs.Moments.{within_holds}
+use Rattle.mc_prove_laws.proofs.Places.{place_closed}
+use Rattle.mc_prove_laws.proofs.Spots.{did_stands, turn_arrives, place_key, Covers, spot_arrives}
+
+-- ---- what is known of a frame
+
+-- what is known at a place is so of a frame
+pub record IsKnown (k : Known) (f : Frame) (public : List ℕ) : Type 0 where
+  pub holds : Holds k.bytes (frame_memory f public)
+  pub compares : IsSo k.compare (frame_memory f public)
+  pub keeps : (session : List ℕ) → AreBytes session → Holds k.kept (moment_memory f.fixed session)
+
+-- where nothing waits a static byte is read as power would leave it
+static_read : (f : Frame) (public session : List ℕ) (a : ℕ) → f.pieces ≡ [] → a < length f.fixed → frame_memory f public a ≡ moment_memory f.fixed session a
+static_read f public session a none low =
+    let e = lt-ltb a (length f.fixed) low in
+    let others = cond (nat_lt a public_base) (slice_index f.dyn (a - dynamic_base)) (slice_index public (a - public_base)) in
+    ap (λ (b : Bool). cond b (slice_index (static_bytes f) a) others) e
+    ∙ (ap (λ (ps : List (ℕ × List ℕ)). slice_index (laid_pieces f.fixed ps) a) none
+    ∙ sym (ap (λ (b : Bool). cond b (slice_index f.fixed a) (slice_index session (a - dynamic_base))) e))
+
+-- without protection what power leaves is known as what is read
+pub settled_known : (s : Setting) (protected : Bool) (k : Known) (f : Frame) (public : List ℕ) → length f.fixed ≡ static_size s → (protected ≡ false → f.pieces ≡ []) → IsKnown k f public → IsKnown (settled s protected k) f public
+settled_known s true k f public size none known = known
+settled_known s false k f public size none known =
+    record {
+      holds = known.holds;
+      compares = known.compares;
+      keeps = λ session d. within_holds 0 (static_size s) k.bytes (frame_memory f public) (moment_memory f.fixed session)
+          (λ a low high. static_read f public session a (none refl) (subst (λ (n : ℕ). a < n) (sym size) high)) known.holds;
+    }
+
+kept_by : (b : Bool) (e : ℕ × Set) (rest : Facts) (m : Memory) → is_in (m e.0) e.1 ≡ true → Holds rest m → Holds (cond b (e ∷ rest) rest) m
+kept_by true e rest m is h = (is, h)
+kept_by false e rest m is h = h
+
+-- facts hold with some left out
+pub filter_holds : (test : ℕ × Set → Bool) (f : Facts) (m : Memory) → Holds f m → Holds (filter test f) m
+filter_holds test [] m h = tt
+filter_holds test (e ∷ f) m h = kept_by (test e) e (filter test f) m h.0 (filter_holds test f m h.1)
+
+-- nothing more is known of the bytes above DT
+pub lowered_known : (dt : ℕ) (p : Spot) (f : Frame) (public : List ℕ) → IsKnown p.known f public → IsKnown (lowered dt p).known f public
+lowered_known dt p f public known =
+    let n = public_base - dt in
+    record {
+      holds = filter_holds (λ e. not (nat_le dt e.0 && nat_lt e.0 (dt + n))) p.known.bytes (frame_memory f public) known.holds;
+      compares = touched_holds dt n p.known.compare (frame_memory f public) (frame_memory f public) (λ a other. refl) known.compares;
+      keeps = known.keeps;
+    }
+
+-- ---- open calls
+
+open_if : (b : Bool) (floor top : ℕ) (dyn : List ℕ) (c : Call) (cs rest : List Call) → AreOpen floor top dyn (c ∷ cs) → AreOpen floor (c.dt - 4) dyn rest → AreOpen floor top dyn (cond b [] (c ∷ rest))
+open_if true floor top dyn c cs rest o more = tt
+open_if false floor top dyn c cs rest o more = (o.0, o.1, o.2, more)
+
+-- calls that are open stay so without some of the oldest
+pub open_before : (lost : Call → Bool) (floor top : ℕ) (dyn : List ℕ) (cs : List Call) → AreOpen floor top dyn cs → AreOpen floor top dyn (calls_before lost cs)
+open_before lost floor top dyn [] o = tt
+open_before lost floor top dyn (c ∷ cs) o = open_if (lost c) floor top dyn c cs (calls_before lost cs) o (open_before lost floor (c.dt - 4) dyn cs o.3)
+
+below_if : (b : Bool) (floor top dt : ℕ) (dyn : List ℕ) (c : Call) (cs rest : List Call) → nat_lt dt c.dt ≡ b → AreOpen floor top dyn (c ∷ cs) → AreOpen floor (c.dt - 4) dyn rest → AreOpen floor dt dyn (cond b [] (c ∷ rest))
+below_if true floor top dt dyn c cs rest e o more = tt
+below_if false floor top dt dyn c cs rest e o more = (ltb-false dt c.dt e, o.1, o.2, more)
+
+-- those that end at or below DT are open below it
+pub open_below : (floor top dt : ℕ) (dyn : List ℕ) (cs : List Call) → AreOpen floor top dyn cs → AreOpen floor dt dyn (calls_below dt cs)
+open_below floor top dt dyn [] o = tt
+open_below floor top dt dyn (c ∷ cs) o =
+    below_if (nat_lt dt c.dt) floor top dt dyn c cs (calls_below dt cs) refl o (open_before (λ (c : Call). nat_lt dt c.dt) floor (c.dt - 4) dyn cs o.3)
+
+-- ---- one outcome
+
+-- who delegated to a frame does not matter to a row that does not ask
+pub around_none : (t : Tables) (f : Around → List Arrival) (start : Start) → includes_all t (flat_map f (arounds start None)) ≡ true → includes_all t (f (record { case = 1; delegator = None })) ≡ true
+around_none t f Delegated e = included_first t (f (record { case = 1; delegator = None })) [] e
+around_none t f (OfClass class) e = included_first t (f (record { case = 1; delegator = None })) [] e
+
+module _ (s : Setting) (t : Tables) where
+  -- a place after an instruction that was done, whose frame a spot covers, with its event
+  pub deed_arrives : (e : Entry Event) (h : History) (f : Frame) (public : List ℕ) (depth : ℕ) (p : IsPlace s t e h f public) (i : Ins) (d : Effect) (r : Spot) → FitsDepth e depth → StartsAs s.rules e r.key.start
+      → Covers r d.frame d.public → IsFrameOf s.app d.frame → HoldsBytes (frame_memory d.frame d.public) → AreBytes d.frame.dyn
+      → includes_all t (after_turn s (place_key p.start p.standing.allowances f p.calls) i r.key.dt r.key.c r.key.z (λ a. arrived r a ∷ [])) ≡ true
+      → IsPlace s t e (Did (record { frame = f; public = public; direct = is_direct e; depth = depth; ins = i; effect = d }) ∷ h) d.frame d.public
+  deed_arrives e h f public depth p i d r deep starts covers frame bytes dyn includes =
+      let k : PlaceKey = place_key p.start p.standing.allowances f p.calls in
+      let deed : Deed = record { frame = f; public = public; direct = is_direct e; depth = depth; ins = i; effect = d } in
+      let next : Amounts → List Arrival = λ a. arrived r a ∷ [] in
+      let line : List ℕ = line_of depth f.at i r.key.dt r.key.c r.key.z in
+      let n : Arrives t (after_occasion s.rules.ons (OnTurn line) p.standing.allowances) next = turn_arrives s t e k i r.key.dt r.key.c r.key.z next depth p.starts deep includes in
+      let same : line ≡ line_of_deed deed = ap (λ (z : PlaceKey). line_of depth f.at i z.dt z.c z.z) (covers.key []) in
+      let is : after_occasion s.rules.ons (OnTurn (line_of_deed deed)) p.standing.allowances ≡ Ok n.allowances = sym (ap (λ (z : List ℕ). after_occasion s.rules.ons (OnTurn z) p.standing.allowances) same) ∙ n.is in
+      spot_arrives s t e (Did deed ∷ h) d.frame d.public r (record (after_deed s.rules f.protected deed p.standing) { allowances = n.allowances }) covers starts
+      (did_stands s h deed p.standing n.allowances p.stands is) frame bytes dyn n.rest
+
+-- ---- NOP
+
+-- the place after it: nothing is known of the bytes above DT
+abbrev pub nop_spot : Setting → PlaceKey → Known → ℕ → Spot
+nop_spot s k known next = settled_spot s (lowered k.dt (record { key = record k { at = next }; known = known }))
+
+-- its only outcome is the next place
+nop_turns : (s : Setting) (t : Tables) (k : PlaceKey) (known : Known) (next : ℕ) → includes_all t (fetched s (record { key = k; known = known }) (Ok (ins.Nop, next))) ≡ true
+    → let r = nop_spot s k known next in
+    includes_all t (after_turn s k ins.Nop r.key.dt r.key.c r.key.z (λ a. arrived r a ∷ [])) ≡ true
+unfolding causes shape
+nop_turns s t k known next e =
+    let p : Spot = record { key = k; known = known } in
+    let q : Spot = record { key = record k { at = next }; known = known } in
+    let r : Spot = nop_spot s k known next in
+    let z : Scene = stand_in s.app k in
+    let each : Around → List Arrival = instruction s ins.Nop (record z { frame = frame_at z.frame next }) p q in
+    let all : List Arrival = flat_map each (arounds k.start None) in
+    let one : includes_all t all ≡ true = included_first t all [] (included_first t (all ++ []) [] e) in
+    included_first t (after_turn s k ins.Nop r.key.dt r.key.c r.key.z (λ a. arrived r a ∷ [])) [] (around_none t each k.start one)
+
+nop_covered : (r : AppRules) (g : Target) (t : Tables) → is_closed (record { rules = r; app = g.app }) t ≡ true → RowIsCovered r g t ins.Nop
+unfolding row causes effect
+nop_covered r g t closed e h f public depth x next p entry deep names segment at =
+    let s : Setting = record { rules = r; app = g.app } in
+    let k : PlaceKey = place_key p.start p.standing.allowances f p.calls in
+    let here : Spot = record { key = k; known = p.known } in
+    let all = place_closed s t k p.known closed p.there in
+    let rest = included_second t (abended s p.start p.standing.allowances p.known A07) (fetched s here (instruction_at s.app.code f.at)) all in
+    let turns = nop_turns s t k p.known next (subst (λ (z : Result (Ins × ℕ) DecodeFault). includes_all t (fetched s here z) ≡ true) at rest) in
+    let after : Spot = nop_spot s k p.known next in
+    let frame : IsFrameOf s.app f = p.frame in
+    let so : IsKnown p.known f public = record { holds = p.holds; compares = p.compares; keeps = p.keeps } in
+    let known : IsKnown after.known f public = settled_known s f.protected (lowered f.dt here).known f public frame.size frame.settled (lowered_known f.dt here f public so) in
+    let covers : Covers after (frame_at f next) public = record {
+      key = λ a. refl;
+      open_calls = open_below (dynamic_base + f.session) f.dt f.dt f.dyn p.calls p.open_calls;
+      holds = known.holds;
+      compares = known.compares;
+      keeps = known.keeps;
+    }
+    in
+    let moved : IsFrameOf s.app (frame_at f next) = record {
+      code = frame.code;
+      deny = frame.deny;
+      session = frame.session;
+      size = frame.size;
+      room = frame.room;
+      static = frame.static;
+      inside = frame.inside;
+      settled = frame.settled;
+      low = frame.low;
+      above = frame.above;
+      high = frame.high;
+    }
+    in
+    record {
+      write = tt;
+      next = deed_arrives s t e h f public depth p ins.Nop (frame_effect (frame_at f next) public) after deep p.starts covers moved p.bytes p.dynamic turns;
+    }
+
+pub nop_law : RowLaw ins.Nop
+nop_law r g t loadable closed = nop_covered r g t closed
