@@ -255,7 +255,6 @@ module _ (s : Setting) (t : Tables) (g : Target) (loadable : IsLoadable s.app) (
         inside = tt;
         settled = λ e. refl;
         low = omega arith;
-        above = omega arith;
         high = omega (arith, count, room);
       }
 

@@ -181,7 +181,6 @@ nop_covered r g t closed e h f public depth x next p entry deep names segment at
       inside = frame.inside;
       settled = frame.settled;
       low = frame.low;
-      above = frame.above;
       high = frame.high;
     }
     in

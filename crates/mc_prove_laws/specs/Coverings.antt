@@ -63,7 +63,8 @@ AreOpen floor top dyn [] = ⊤
 AreOpen floor top dyn (c ∷ cs) =
     (c.dt ≤ top) × (floor + 4 ≤ c.dt) × (take 4 (drop (c.dt - 4 - dynamic_base) dyn) ≡ bytes2 c.lb ++ bytes2 c.at) × AreOpen floor (c.dt - 4) dyn cs
 
--- a frame of the application, of bytes, with its registers in their bounds; nothing waits without protection
+-- A frame of the application, of bytes, with DT from its floor to the end of the stack; nothing waits without protection.
+-- (Of LB nothing is said: a call may pop what lies below it, and then DT is less than LB.)
 pub record IsFrameOf (a : App) (f : Frame) : Type 0 where
   pub code : f.code_len ≡ length a.code
   pub deny : f.deny ≡ a.deny
@@ -73,8 +74,7 @@ pub record IsFrameOf (a : App) (f : Frame) : Type 0 where
   pub static : AreBytes f.fixed
   pub inside : PiecesWithin (length f.fixed) f.pieces
   pub settled : f.protected ≡ false → f.pieces ≡ []
-  pub low : dynamic_base + f.session ≤ f.lb
-  pub above : f.lb ≤ f.dt
+  pub low : dynamic_base + f.session ≤ f.dt
   pub high : f.dt ≤ dynamic_end
 
 -- A place that the tables have: with the allowances that stand after the history, with facts and a last compare that hold
