@@ -86,24 +86,24 @@ lowered_known dt p f public known =
 
 -- ---- open calls
 
-open_if : (b : Bool) (floor top : ℕ) (dyn : List ℕ) (c : Call) (cs rest : List Call) → AreOpen floor top dyn (c ∷ cs) → AreOpen floor (c.dt - 4) dyn rest → AreOpen floor top dyn (cond b [] (c ∷ rest))
-open_if true floor top dyn c cs rest o more = tt
-open_if false floor top dyn c cs rest o more = (o.0, o.1, o.2, more)
+open_if : (b : Bool) (floor top lb : ℕ) (dyn : List ℕ) (c : Call) (cs rest : List Call) → AreOpen floor top lb dyn (c ∷ cs) → AreOpen floor (c.dt - 4) c.lb dyn rest → AreOpen floor top lb dyn (cond b [] (c ∷ rest))
+open_if true floor top lb dyn c cs rest o more = tt
+open_if false floor top lb dyn c cs rest o more = (o.0, o.1, o.2, o.3, more)
 
 -- calls that are open stay so without some of the oldest
-pub open_before : (lost : Call → Bool) (floor top : ℕ) (dyn : List ℕ) (cs : List Call) → AreOpen floor top dyn cs → AreOpen floor top dyn (calls_before lost cs)
-open_before lost floor top dyn [] o = tt
-open_before lost floor top dyn (c ∷ cs) o = open_if (lost c) floor top dyn c cs (calls_before lost cs) o (open_before lost floor (c.dt - 4) dyn cs o.3)
+pub open_before : (lost : Call → Bool) (floor top lb : ℕ) (dyn : List ℕ) (cs : List Call) → AreOpen floor top lb dyn cs → AreOpen floor top lb dyn (calls_before lost cs)
+open_before lost floor top lb dyn [] o = tt
+open_before lost floor top lb dyn (c ∷ cs) o = open_if (lost c) floor top lb dyn c cs (calls_before lost cs) o (open_before lost floor (c.dt - 4) c.lb dyn cs o.4)
 
-below_if : (b : Bool) (floor top dt : ℕ) (dyn : List ℕ) (c : Call) (cs rest : List Call) → nat_lt dt c.dt ≡ b → AreOpen floor top dyn (c ∷ cs) → AreOpen floor (c.dt - 4) dyn rest → AreOpen floor dt dyn (cond b [] (c ∷ rest))
-below_if true floor top dt dyn c cs rest e o more = tt
-below_if false floor top dt dyn c cs rest e o more = (ltb-false dt c.dt e, o.1, o.2, more)
+below_if : (b : Bool) (floor top dt lb : ℕ) (dyn : List ℕ) (c : Call) (cs rest : List Call) → nat_lt dt c.dt ≡ b → AreOpen floor top lb dyn (c ∷ cs) → AreOpen floor (c.dt - 4) c.lb dyn rest → AreOpen floor dt lb dyn (cond b [] (c ∷ rest))
+below_if true floor top dt lb dyn c cs rest e o more = tt
+below_if false floor top dt lb dyn c cs rest e o more = (ltb-false dt c.dt e, o.1, o.2, o.3, more)
 
 -- those that end at or below DT are open below it
-pub open_below : (floor top dt : ℕ) (dyn : List ℕ) (cs : List Call) → AreOpen floor top dyn cs → AreOpen floor dt dyn (calls_below dt cs)
-open_below floor top dt dyn [] o = tt
-open_below floor top dt dyn (c ∷ cs) o =
-    below_if (nat_lt dt c.dt) floor top dt dyn c cs (calls_below dt cs) refl o (open_before (λ (c : Call). nat_lt dt c.dt) floor (c.dt - 4) dyn cs o.3)
+pub open_below : (floor top dt lb : ℕ) (dyn : List ℕ) (cs : List Call) → AreOpen floor top lb dyn cs → AreOpen floor dt lb dyn (calls_below dt cs)
+open_below floor top dt lb dyn [] o = tt
+open_below floor top dt lb dyn (c ∷ cs) o =
+    below_if (nat_lt dt c.dt) floor top dt lb dyn c cs (calls_below dt cs) refl o (open_before (λ (c : Call). nat_lt dt c.dt) floor (c.dt - 4) c.lb dyn cs o.4)
 
 -- ---- one outcome
 
@@ -165,7 +165,7 @@ nop_covered r g t closed e h f public depth x next p entry deep names segment at
     let known : IsKnown after.known f public = settled_known s f.protected (lowered f.dt here).known f public frame.size frame.settled (lowered_known f.dt here f public so) in
     let covers : Covers after (frame_at f next) public = record {
       key = λ a. refl;
-      open_calls = open_below (dynamic_base + f.session) f.dt f.dt f.dyn p.calls p.open_calls;
+      open_calls = open_below (dynamic_base + f.session) f.dt f.dt f.lb f.dyn p.calls p.open_calls;
       holds = known.holds;
       compares = known.compares;
       keeps = known.keeps;

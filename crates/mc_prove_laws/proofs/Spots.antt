@@ -120,7 +120,7 @@ place_key start a f calls = record { at = f.at; start = start; allowances = a; c
 -- a spot has the registers of a frame, and what it knows is so
 pub record Covers (p : Spot) (f : Frame) (public : List ℕ) : Type 0 where
   pub key : (a : Amounts) → record p.key { allowances = a } ≡ place_key p.key.start a f p.key.calls
-  pub open_calls : AreOpen (dynamic_base + f.session) f.dt f.dyn p.key.calls
+  pub open_calls : AreOpen (dynamic_base + f.session) f.dt f.lb f.dyn p.key.calls
   pub holds : Holds p.known.bytes (frame_memory f public)
   pub compares : IsSo p.known.compare (frame_memory f public)
   pub keeps : (session : List ℕ) → AreBytes session → Holds p.known.kept (moment_memory f.fixed session)

@@ -57,11 +57,16 @@ StartsAs r (BySelection bytes apdu before) (OfClass class) = class ≡ class_of 
 StartsAs r ByDelegation Delegated = ⊤
 StartsAs r e start = ⊥
 
--- open calls: right below each of their ends the frame has the saved LB and place, above those of the calls before it
-abbrev pub AreOpen : ℕ → ℕ → List ℕ → List Call → Type 0
-AreOpen floor top dyn [] = ⊤
-AreOpen floor top dyn (c ∷ cs) =
-    (c.dt ≤ top) × (floor + 4 ≤ c.dt) × (take 4 (drop (c.dt - 4 - dynamic_base) dyn) ≡ bytes2 c.lb ++ bytes2 c.at) × AreOpen floor (c.dt - 4) dyn cs
+-- Open calls: right below each of their ends the frame has the saved LB and place, above those of the calls before it.
+-- LB is the end of the newest one, and what it has saved is the end of the one before it.
+abbrev pub AreOpen : ℕ → ℕ → ℕ → List ℕ → List Call → Type 0
+AreOpen floor top lb dyn [] = ⊤
+AreOpen floor top lb dyn (c ∷ cs) =
+    (c.dt ≤ top)
+    × (floor + 4 ≤ c.dt)
+    × (c.dt ≡ lb)
+    × (take 4 (drop (c.dt - 4 - dynamic_base) dyn) ≡ bytes2 c.lb ++ bytes2 c.at)
+    × AreOpen floor (c.dt - 4) c.lb dyn cs
 
 -- A frame of the application, of bytes, with DT from its floor to the end of the stack; nothing waits without protection.
 -- (Of LB nothing is said: a call may pop what lies below it, and then DT is less than LB.)
@@ -85,7 +90,7 @@ pub record IsPlace (s : Setting) (t : Tables) (e : Entry Event) (h : History) (f
   pub start : Start
   pub starts : StartsAs s.rules e start
   pub calls : List Call
-  pub open_calls : AreOpen (dynamic_base + f.session) f.dt f.dyn calls
+  pub open_calls : AreOpen (dynamic_base + f.session) f.dt f.lb f.dyn calls
   pub known : Known
   pub there : place_at t.places (record { at = f.at; start = start; allowances = standing.allowances; c = f.c; z = f.z; dt = f.dt; lb = f.lb; protected = f.protected; calls = calls }) ≡ Some known
   pub holds : Holds known.bytes (frame_memory f public)
