@@ -163,7 +163,7 @@ module _ (s : Setting) (t : Tables) (g : Target) (loadable : IsLoadable s.app) (
   failed_stands h at cause x none is =
       ap (λ (z : Result Standing Break). z >>= after_event s.rules (Failed at cause)) is ∙ ap (λ (z : Option ℕ). after_abend z x) none
 
-  fails_by : (e : Entry Event) (h : History) (f : Frame) (public : List ℕ) (p : IsPlace s t e h f public) (cause : Abend) (abends : Option ℕ) (k : PlaceKey) → k.start ≡ p.start → k.allowances ≡ p.standing.allowances → s.rules.abends ≡ abends
+  pub fails_by : (e : Entry Event) (h : History) (f : Frame) (public : List ℕ) (p : IsPlace s t e h f public) (cause : Abend) (abends : Option ℕ) (k : PlaceKey) → k.start ≡ p.start → k.allowances ≡ p.standing.allowances → s.rules.abends ≡ abends
       → includes_all t (fails_unless abends s k p.known cause) ≡ true → AbendCovered (domain_of_rules g (covering_of s t)) e (Failed f.at cause ∷ h) f cause
   fails_by e h f public p cause (Some number) k start allowances is includes = absurd (cc includes)
   fails_by e h f public p cause None k start allowances is includes =

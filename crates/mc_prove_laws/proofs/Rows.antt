@@ -1,22 +1,25 @@
 -- The place after a row of one outcome, in closed tables: what is known of the frame, which outcome it is, and its event.
-use Rattle.std.proofs.Common.{◌≡◌, ℕ, ◌+◌, ◌-◌, ◌<◌, Bool, true, false, cond, List, [], ◌∷◌, ◌++◌, length, None, Result, Ok, refl, sym, ap, subst, ◌∙◌}
-use Rattle.std.specs.Prelude.{not, ◌&&◌, nat_lt, nat_le, filter, flat_map, slice_index}
+use Rattle.std.proofs.Common.{◌≤◌, ◌≡◌, ℕ, arith, Option, Some, None, ◌+◌, ◌-◌, ◌<◌, Bool, true, false, cond, List, [], ◌∷◌, ◌++◌, length, Result, Ok, refl, sym, ap, subst, ◌∙◌}
+use Rattle.std.specs.Prelude.{not, ◌==◌, ◌&&◌, nat_lt, nat_le, filter, flat_map, slice_index}
 use Rattle.std.proofs.lemmas.Bool.{ltb-false, lt-ltb}
 use Rattle.mc_model_device.specs.Bytes.{AreBytes}
 use Rattle.mc_model_device.specs.Pieces.{laid_pieces}
 use Rattle.mc_model_machine.specs.declared.instruction.Ins.{Ins}
 use Rattle.mc_model_machine.specs.declared.instruction.Ins.TheVariants as ins
 use Rattle.mc_model_machine.specs.declared.instruction.DecodeFault.{DecodeFault}
-use Rattle.mc_model_machine.specs.declared.machine.Abend.TheVariants.{A07}
+use Rattle.mc_model_machine.specs.declared.machine.Abend.{Abend}
+use Rattle.mc_model_machine.specs.declared.machine.Abend.TheVariants.{A04, A06, A07}
 use Rattle.mc_model_machine.specs.Code.{instruction_at}
-use Rattle.mc_model_machine.specs.Frame.{Frame, Effect, dynamic_base, public_base, static_bytes}
-use Rattle.mc_model_machine.specs.Primitives.{Around, frame_effect}
-use Rattle.mc_model_machine.specs.Row.{causes, effect, row}
+use Rattle.mc_model_machine.specs.Frame.{Frame, Effect, dynamic_base, dynamic_end, public_base, floor, static_bytes, is_under, frame_after_pop}
+use Rattle.mc_model_machine.specs.Primitives.{Around, frame_effect, effect_and_next}
+use Rattle.mc_model_machine.specs.Row.{Does, causes, effect, row, row_end}
 use Rattle.mc_model_machine.specs.Chain.{frame_at}
-use Rattle.mc_row_laws.specs.Shapes.{shape}
+use Rattle.mc_row_laws.specs.Shapes.{Stays, goes, shape}
 use Rattle.mc_promise.specs.History.{Deed}
 use Rattle.mc_promise.specs.Outline.{Entry, is_direct}
-use Rattle.mc_promise.specs.Domain.{FitsDepth}
+use Rattle.mc_promise.specs.Domain.{RowCovered, FitsDepth}
+use Rattle.mc_rule_model.specs.Law.{domain_of_rules}
+use Rattle.mc_prove_model.specs.Work.{AsShaped}
 use Rattle.mc_rule_model.specs.Rules.{Target, AppRules}
 use Rattle.mc_rule_model.specs.Happenings.{Event, History, Did}
 use Rattle.mc_rule_model.specs.Keeping.{Amounts, after_occasion, OnTurn, line_of, line_of_deed, after_deed}
@@ -27,14 +30,14 @@ use Rattle.mc_prove_model.specs.Keys.{Start, Delegated, OfClass, Call, PlaceKey,
 use Rattle.mc_prove_model.specs.Splits.{Scene, stand_in}
 use Rattle.mc_prove_model.specs.Laws.{HoldsBytes}
 use Rattle.mc_prove_model.specs.Arrivals.{Setting, Arrival, static_size, settled, abended, after_turn}
-use Rattle.mc_prove_model.specs.Steps.{Spot, lowered, settled_spot, arrived, arounds, instruction, fetched}
-use Rattle.mc_prove_model.specs.Tables.{includes_all, is_closed}
+use Rattle.mc_prove_model.specs.Steps.{caused, Spot, lowered, settled_spot, arrived, arounds, instruction, fetched}
+use Rattle.mc_prove_model.specs.Tables.{IsLoadable, includes_all, is_closed}
 use Rattle.mc_prove_model.proofs.CompareLemmas.{touched_holds}
-use Rattle.mc_prove_laws.specs.Coverings.{moment_memory, frame_memory, StartsAs, AreOpen, IsFrameOf, IsPlace}
-use Rattle.mc_prove_laws.specs.Laws.{RowIsCovered, RowLaw}
+use Rattle.mc_prove_laws.specs.Coverings.{moment_memory, frame_memory, StartsAs, AreOpen, IsFrameOf, IsPlace, covering_of}
+use Rattle.mc_prove_laws.specs.Laws.{RowIsCovered, RowLaw, PopLaw}
 use Rattle.mc_prove_laws.proofs.Closed.{included_first, included_second, Arrives}
 use Rattle.mc_prove_laws.proofs.Moments.{within_holds}
-use Rattle.mc_prove_laws.proofs.Places.{place_closed}
+use Rattle.mc_prove_laws.proofs.Places.{place_closed, fails_by}
 use Rattle.mc_prove_laws.proofs.Spots.{did_stands, turn_arrives, place_key, Covers, spot_arrives}
 
 -- ---- what is known of a frame
@@ -191,3 +194,135 @@ nop_covered r g t closed e h f public depth x next p entry deep names segment at
 
 pub nop_law : RowLaw ins.Nop
 nop_law r g t loadable closed = nop_covered r g t closed
+
+-- ---- POPN, POPB and POPW
+
+-- how a row ends that pops n bytes: with abend 06 if that is none, with 04 if it would pass the floor
+abbrev pub pop_cause : Bool → Bool → Option Abend
+pop_cause zero under = cond zero (Some A06) (cond under (Some A04) None)
+
+-- the place after it
+abbrev pub pop_spot : Setting → PlaceKey → Known → ℕ → ℕ → Spot
+pop_spot s k known n next = settled_spot s (lowered (k.dt - n) (record { key = record k { at = next }; known = known }))
+
+-- its only outcome is an abend or the next place
+abbrev pub pop_arrivals : Setting → PlaceKey → Known → Ins → ℕ → ℕ → Option Abend → List Arrival
+pop_arrivals s k known i n next cause =
+    caused cause s i (goes (k.dt - n) Stays) AsShaped (record { key = k; known = known }) (record { key = record k { at = next }; known = known })
+
+module _ (r : AppRules) (g : Target) (t : Tables) (loadable : IsLoadable g.app) (closed : is_closed (record { rules = r; app = g.app }) t ≡ true) where
+  pop_moves : (e : Entry Event) (h : History) (f : Frame) (public : List ℕ) (depth : ℕ) (i : Ins) (n next : ℕ) (p : IsPlace (record { rules = r; app = g.app }) t e h f public) → FitsDepth e depth → floor f + n ≤ f.dt
+      → includes_all t (pop_arrivals (record { rules = r; app = g.app }) (place_key p.start p.standing.allowances f p.calls) p.known i n next None) ≡ true
+      → RowCovered (domain_of_rules g (covering_of (record { rules = r; app = g.app }) t)) e h f public depth i (Does (effect_and_next (frame_effect (frame_after_pop (frame_at f next) n) public)))
+  pop_moves e h f public depth i n next p deep over includes =
+      let s : Setting = record { rules = r; app = g.app } in
+      let k : PlaceKey = place_key p.start p.standing.allowances f p.calls in
+      let here : Spot = record { key = k; known = p.known } in
+      let after : Spot = pop_spot s k p.known n next in
+      let frame : IsFrameOf s.app f = p.frame in
+      let high : f.dt ≤ dynamic_end = frame.high in
+      let so : IsKnown p.known f public = record { holds = p.holds; compares = p.compares; keeps = p.keeps } in
+      let known : IsKnown after.known f public = settled_known s f.protected (lowered (f.dt - n) here).known f public frame.size frame.settled (lowered_known (f.dt - n) here f public so) in
+      let covers : Covers after (frame_after_pop (frame_at f next) n) public = record {
+        key = λ a. refl;
+        open_calls = open_below (dynamic_base + f.session) f.dt (f.dt - n) f.lb f.dyn p.calls p.open_calls;
+        holds = known.holds;
+        compares = known.compares;
+        keeps = known.keeps;
+      }
+      in
+      let moved : IsFrameOf s.app (frame_after_pop (frame_at f next) n) = record {
+        code = frame.code;
+        deny = frame.deny;
+        session = frame.session;
+        size = frame.size;
+        room = frame.room;
+        static = frame.static;
+        inside = frame.inside;
+        settled = frame.settled;
+        low = omega (arith, over);
+        high = omega (arith, high);
+      }
+      in
+      let turns = included_first t (after_turn s k i after.key.dt after.key.c after.key.z (λ a. arrived after a ∷ [])) [] includes in
+      record {
+        write = tt;
+        next = deed_arrives s t e h f public depth p i (frame_effect (frame_after_pop (frame_at f next) n) public) after deep p.starts covers moved p.bytes p.dynamic turns;
+      }
+
+  pop_by : (zero under : Bool) (e : Entry Event) (h : History) (f : Frame) (public : List ℕ) (depth : ℕ) (i : Ins) (n next : ℕ) (p : IsPlace (record { rules = r; app = g.app }) t e h f public) → FitsDepth e depth → (under ≡ false → floor f + n ≤ f.dt)
+      → includes_all t (pop_arrivals (record { rules = r; app = g.app }) (place_key p.start p.standing.allowances f p.calls) p.known i n next (pop_cause zero under)) ≡ true
+      → RowCovered (domain_of_rules g (covering_of (record { rules = r; app = g.app }) t)) e h f public depth i (row_end (pop_cause zero under) (effect_and_next (frame_effect (frame_after_pop (frame_at f next) n) public)))
+  pop_by true under e h f public depth i n next p deep over includes =
+      fails_by (record { rules = r; app = g.app }) t g loadable closed e h f public p A06 r.abends (place_key p.start p.standing.allowances f p.calls) refl refl refl includes
+  pop_by false true e h f public depth i n next p deep over includes =
+      fails_by (record { rules = r; app = g.app }) t g loadable closed e h f public p A04 r.abends (place_key p.start p.standing.allowances f p.calls) refl refl refl includes
+  pop_by false false e h f public depth i n next p deep over includes = pop_moves e h f public depth i n next p deep (over refl) includes
+
+  -- the floor of the frame that stands for a place is that of the frame
+  pop_covered : (zero : Bool) (e : Entry Event) (h : History) (f : Frame) (public : List ℕ) (depth : ℕ) (i : Ins) (n next : ℕ) (p : IsPlace (record { rules = r; app = g.app }) t e h f public) → FitsDepth e depth
+      → includes_all t (pop_arrivals (record { rules = r; app = g.app }) (place_key p.start p.standing.allowances f p.calls) p.known i n next (pop_cause zero (nat_lt f.dt (dynamic_base + g.app.session + n)))) ≡ true
+      → RowCovered (domain_of_rules g (covering_of (record { rules = r; app = g.app }) t)) e h f public depth i (row_end (pop_cause zero (is_under f n)) (effect_and_next (frame_effect (frame_after_pop (frame_at f next) n) public)))
+  pop_covered zero e h f public depth i n next p deep includes =
+      let frame : IsFrameOf g.app f = p.frame in
+      pop_by zero (is_under f n) e h f public depth i n next p deep (λ over. ltb-false f.dt (floor f + n) over)
+      (subst (λ (z : ℕ). includes_all t (pop_arrivals (record { rules = r; app = g.app }) (place_key p.start p.standing.allowances f p.calls) p.known i n next (pop_cause zero (nat_lt f.dt (dynamic_base + z + n)))) ≡ true) (sym frame.session) includes)
+
+  -- what was fetched at a place is included
+  fetched_included : (e : Entry Event) (h : History) (f : Frame) (public : List ℕ) (i : Ins) (next : ℕ) (p : IsPlace (record { rules = r; app = g.app }) t e h f public) → instruction_at g.app.code f.at ≡ Ok (i, next)
+      → includes_all t (fetched (record { rules = r; app = g.app }) (record { key = place_key p.start p.standing.allowances f p.calls; known = p.known }) (Ok (i, next))) ≡ true
+  fetched_included e h f public i next p at =
+      let s : Setting = record { rules = r; app = g.app } in
+      let k : PlaceKey = place_key p.start p.standing.allowances f p.calls in
+      let here : Spot = record { key = k; known = p.known } in
+      let all = place_closed s t k p.known closed p.there in
+      subst (λ (z : Result (Ins × ℕ) DecodeFault). includes_all t (fetched s here z) ≡ true) at
+      (included_second t (abended s p.start p.standing.allowances p.known A07) (fetched s here (instruction_at s.app.code f.at)) all)
+
+popn_arrives : (s : Setting) (t : Tables) (k : PlaceKey) (known : Known) (n next : ℕ) → includes_all t (fetched s (record { key = k; known = known }) (Ok (ins.Popn n, next))) ≡ true
+    → includes_all t (pop_arrivals s k known (ins.Popn n) n next (pop_cause (n == 0) (nat_lt k.dt (dynamic_base + s.app.session + n)))) ≡ true
+unfolding causes shape
+popn_arrives s t k known n next e =
+    let z : Scene = stand_in s.app k in
+    let each : Around → List Arrival = instruction s (ins.Popn n) (record z { frame = frame_at z.frame next }) (record { key = k; known = known }) (record { key = record k { at = next }; known = known }) in
+    let all : List Arrival = flat_map each (arounds k.start None) in
+    around_none t each k.start (included_first t all [] (included_first t (all ++ []) [] e))
+
+popn_law : (n : ℕ) → RowLaw (ins.Popn n)
+unfolding row causes effect
+popn_law n r g t loadable closed e h f public depth x next p entry deep names segment at =
+    pop_covered r g t loadable closed (n == 0) e h f public depth (ins.Popn n) n next p deep
+    (popn_arrives (record { rules = r; app = g.app }) t (place_key p.start p.standing.allowances f p.calls) p.known n next (fetched_included r g t loadable closed e h f public (ins.Popn n) next p at))
+
+popb_arrives : (s : Setting) (t : Tables) (k : PlaceKey) (known : Known) (next : ℕ) → includes_all t (fetched s (record { key = k; known = known }) (Ok (ins.Popb, next))) ≡ true
+    → includes_all t (pop_arrivals s k known ins.Popb 1 next (pop_cause false (nat_lt k.dt (dynamic_base + s.app.session + 1)))) ≡ true
+unfolding causes shape
+popb_arrives s t k known next e =
+    let z : Scene = stand_in s.app k in
+    let each : Around → List Arrival = instruction s ins.Popb (record z { frame = frame_at z.frame next }) (record { key = k; known = known }) (record { key = record k { at = next }; known = known }) in
+    let all : List Arrival = flat_map each (arounds k.start None) in
+    around_none t each k.start (included_first t all [] (included_first t (all ++ []) [] e))
+
+popb_law : RowLaw ins.Popb
+unfolding row causes effect
+popb_law r g t loadable closed e h f public depth x next p entry deep names segment at =
+    pop_covered r g t loadable closed false e h f public depth ins.Popb 1 next p deep
+    (popb_arrives (record { rules = r; app = g.app }) t (place_key p.start p.standing.allowances f p.calls) p.known next (fetched_included r g t loadable closed e h f public ins.Popb next p at))
+
+popw_arrives : (s : Setting) (t : Tables) (k : PlaceKey) (known : Known) (next : ℕ) → includes_all t (fetched s (record { key = k; known = known }) (Ok (ins.Popw, next))) ≡ true
+    → includes_all t (pop_arrivals s k known ins.Popw 2 next (pop_cause false (nat_lt k.dt (dynamic_base + s.app.session + 2)))) ≡ true
+unfolding causes shape
+popw_arrives s t k known next e =
+    let z : Scene = stand_in s.app k in
+    let each : Around → List Arrival = instruction s ins.Popw (record z { frame = frame_at z.frame next }) (record { key = k; known = known }) (record { key = record k { at = next }; known = known }) in
+    let all : List Arrival = flat_map each (arounds k.start None) in
+    around_none t each k.start (included_first t all [] (included_first t (all ++ []) [] e))
+
+popw_law : RowLaw ins.Popw
+unfolding row causes effect
+popw_law r g t loadable closed e h f public depth x next p entry deep names segment at =
+    pop_covered r g t loadable closed false e h f public depth ins.Popw 2 next p deep
+    (popw_arrives (record { rules = r; app = g.app }) t (place_key p.start p.standing.allowances f p.calls) p.known next (fetched_included r g t loadable closed e h f public ins.Popw next p at))
+
+pub pop_law : PopLaw
+pop_law = (popn_law, popb_law, popw_law)

@@ -6,6 +6,7 @@ use Rattle.mc_model_machine.specs.declared.machine.Abend.TheVariants.{A07}
 use Rattle.mc_model_machine.specs.Code.{instruction_at}
 use Rattle.mc_model_machine.specs.Frame.{Frame, session_of}
 use Rattle.mc_model_machine.specs.declared.instruction.Ins.{Ins}
+use Rattle.mc_model_machine.specs.declared.instruction.Ins.TheVariants as ins
 use Rattle.mc_model_machine.specs.Primitives.{Around}
 use Rattle.mc_model_machine.specs.Row.{row}
 use Rattle.mc_model_machine.specs.Chain.{Abended, frame_at}
@@ -69,3 +70,7 @@ RowIsCovered r g t i =
 -- of closed tables, for an application that a card can have
 abbrev pub RowLaw : Ins → Type 0
 RowLaw i = (r : AppRules) (g : Target) (t : Tables) → IsLoadable g.app → is_closed (record { rules = r; app = g.app }) t ≡ true → RowIsCovered r g t i
+
+-- of the rows that pop
+abbrev pub PopLaw : Type 0
+PopLaw = ((n : ℕ) → RowLaw (ins.Popn n)) × RowLaw ins.Popb × RowLaw ins.Popw

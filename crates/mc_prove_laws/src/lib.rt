@@ -3,7 +3,7 @@
 //! What closed tables of abstract states cover of the plays of an application.
 
 ghost use Rattle.mc_model_machine.specs.declared.instruction.Ins.TheVariants.{Nop};
-ghost use Rattle.mc_prove_laws.specs.Laws.{MomentLaw, PlaceLaw, RowLaw};
+ghost use Rattle.mc_prove_laws.specs.Laws.{MomentLaw, PlaceLaw, RowLaw, PopLaw};
 
 /// Between commands: each moment that may follow one is one that closed tables have, and none breaks a rule.
 pub fn moments_are_covered()
@@ -19,4 +19,9 @@ pub fn places_are_covered()
 /// After NOP closed tables have the next place, with the allowances that its event leaves.
 pub fn no_operation_is_covered()
     ensures { RowLaw Nop }
+{}
+
+/// After POPN, POPB and POPW closed tables have the next place, or what follows an abend.
+pub fn pops_are_covered()
+    ensures { PopLaw }
 {}
