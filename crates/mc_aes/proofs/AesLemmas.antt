@@ -1,9 +1,9 @@
 -- The contracts of the public calls, from the rounds.
 use Rattle.std.proofs.Common.{◌≡◌, ℕ, ◌+◌, ◌-◌, ◌*◌, ◌/◌, ◌<◌, ◌≤◌, List, length, take, drop, reverse, refl, sym, ap, ◌∙◌, arith}
 use Rattle.std.proofs.Math.Nat.{sub-zero}
-use Rattle.mc_model_machine.proofs.ModesLemmas.{chain_step}
-use Rattle.mc_model_machine.specs.Modes.{bit_sum, blocks_of, last_of_chain}
-use Rattle.mc_model_machine.specs.Aes.{aes_encipher, aes_decipher, aes_signature, round_keys, cipher_block, inverse_cipher_block}
+use Rattle.model_machine.proofs.ModesLemmas.{chain_step}
+use Rattle.model_machine.specs.Modes.{bit_sum, blocks_of, last_of_chain}
+use Rattle.model_machine.specs.Aes.{aes_encipher, aes_decipher, aes_signature, round_keys, cipher_block, inverse_cipher_block}
 
 pub aes_encipher_open : (key block : List ℕ) → aes_encipher key block ≡ cipher_block (round_keys key) block
 unfolding aes_encipher

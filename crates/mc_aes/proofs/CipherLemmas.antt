@@ -1,8 +1,8 @@
 -- The rounds of a cipher, one key at a time.
 use Rattle.std.proofs.Common.{◌≡◌, ℕ, suc, ◌+◌, ◌-◌, ◌<◌, List, [], ◌∷◌, length, get_or, drop, map, reverse, refl, sym, ap, ◌∙◌, arith, add-one, drop-cons}
 use Rattle.std.proofs.lemmas.List.{get_or-map, get_or-reverse, length-map, length-reverse, drop_all}
-use Rattle.mc_model_machine.specs.Modes.{bit_sum}
-use Rattle.mc_model_machine.specs.Aes.{rounds, round, last_round, cipher_block, inverse_cipher_block, rounds_back, round_back, last_round_back}
+use Rattle.model_machine.specs.Modes.{bit_sum}
+use Rattle.model_machine.specs.Aes.{rounds, round, last_round, cipher_block, inverse_cipher_block, rounds_back, round_back, last_round_back}
 use Rattle.mc_aes.specs.State.{state_bytes}
 use Rattle.mc_aes.specs.declared.state.State.{State}
 

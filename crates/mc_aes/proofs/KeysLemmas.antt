@@ -1,8 +1,8 @@
 -- The key expansion of FIPS 197 on words.
 use Rattle.std.proofs.Common.{◌≡◌, ℕ, ◌/◌, ◌%◌, ◌^◌, List, [], ◌∷◌, ◌++◌, refl}
 use Rattle.std.specs.Prelude.{bit_xor}
-use Rattle.mc_model_machine.specs.Modes.{bit_sum}
-use Rattle.mc_model_machine.specs.Aes.{sub, next_key_word, next_key, round_keys}
+use Rattle.model_machine.specs.Modes.{bit_sum}
+use Rattle.model_machine.specs.Aes.{sub, next_key_word, next_key, round_keys}
 use Rattle.mc_aes.specs.State.{word, state_bytes}
 use Rattle.mc_aes.specs.declared.state.State.{State}
 use Rattle.mc_aes.proofs.StateLemmas.{word_xor}

@@ -7,12 +7,12 @@ use Rattle.std.proofs.lemmas.Nat.{xor_comm, xor_shr, xor_block, xor_mod, xor_lt}
 use Rattle.std.proofs.lemmas.Bool.{eqb-true, ltb-true, and_parts}
 use Rattle.std.proofs.lemmas.Slice.Eq.{bytes_eq-Decides}
 use Rattle.std.proofs.lemmas.List.{reverse-append, reverse-reverse, length-reverse, append_assoc}
-use Rattle.mc_model_machine.specs.Modes.{bit_sum, AllBelow, IsBlock}
-use Rattle.mc_model_machine.proofs.ModesLemmas.{all_below, below_at, added_back, length_added, all_below_append, all_below_take, all_below_drop, all_below_at, all_below_added, listed_from, listed}
-use Rattle.mc_model_machine.specs.Aes.{times2, mul_bits, mul, sub, sub_back, dot, times_matrix, bytes_at_places, shift_rows, shift_rows_back, columns_times_matrix, mix_columns, mix_columns_back, round, last_round, round_back, last_round_back, next_key_word, next_key, round_keys_from, round_keys, rounds, rounds_back, cipher_block, inverse_cipher_block, aes_encipher, aes_decipher}
+use Rattle.model_machine.specs.Modes.{bit_sum, AllBelow, IsBlock}
+use Rattle.model_machine.proofs.ModesLemmas.{all_below, below_at, added_back, length_added, all_below_append, all_below_take, all_below_drop, all_below_at, all_below_added, listed_from, listed}
+use Rattle.model_machine.specs.Aes.{times2, mul_bits, mul, sub, sub_back, dot, times_matrix, bytes_at_places, shift_rows, shift_rows_back, columns_times_matrix, mix_columns, mix_columns_back, round, last_round, round_back, last_round_back, next_key_word, next_key, round_keys_from, round_keys, rounds, rounds_back, cipher_block, inverse_cipher_block, aes_encipher, aes_decipher}
 use Rattle.mc_aes.proofs.CipherLemmas.{rounds_cons, rounds_last, rounds_back_cons, rounds_back_last, enciphered_cons, deciphered_cons}
 use Rattle.mc_aes.proofs.AesLemmas.{aes_encipher_open, aes_decipher_open}
-use Rattle.mc_model_device.proofs.ListLemmas.{bit_cases}
+use Rattle.model_device.proofs.ListLemmas.{bit_cases}
 
 -- ---- bytes
 

@@ -1,7 +1,7 @@
 -- The rounds, from the columns that the code computes.
 use Rattle.std.proofs.Common.{◌≡◌, ℕ, List, ◌++◌, map, refl, ap, ◌∙◌}
-use Rattle.mc_model_machine.specs.Modes.{bit_sum}
-use Rattle.mc_model_machine.specs.Aes.{sub_back, times_matrix, round, last_round, mix_columns_back, shift_rows_back, round_back, last_round_back}
+use Rattle.model_machine.specs.Modes.{bit_sum}
+use Rattle.model_machine.specs.Aes.{sub_back, times_matrix, round, last_round, mix_columns_back, shift_rows_back, round_back, last_round_back}
 use Rattle.mc_aes.specs.State.{word, state_bytes, substitutes_of, bytes_back_of}
 use Rattle.mc_aes.specs.declared.state.State.{State}
 

@@ -3,12 +3,12 @@ use Rattle.std.proofs.Common.{◌≡◌, ℕ, ◌*◌, ◌/◌, ◌%◌, ◌^◌
 use Rattle.std.specs.Int.{w32, from_be_bytes, to_be_bytes}
 use Rattle.std.specs.Int.Bits.{bit_xor, xor_zero_r}
 use Rattle.std.proofs.lemmas.Nat.{xor_mod}
-use Rattle.mc_model_machine.proofs.ModesLemmas.{listed_from, listed}
-use Rattle.mc_model_machine.specs.Modes.{bit_sum}
-use Rattle.mc_model_machine.specs.Aes.{mul, times_matrix}
+use Rattle.model_machine.proofs.ModesLemmas.{listed_from, listed}
+use Rattle.model_machine.specs.Modes.{bit_sum}
+use Rattle.model_machine.specs.Aes.{mul, times_matrix}
 use Rattle.mc_aes.specs.State.{word, state_bytes}
 use Rattle.mc_aes.specs.declared.state.State.{State}
-use Rattle.mc_model_device.proofs.ListLemmas.{byte_xor}
+use Rattle.model_device.proofs.ListLemmas.{byte_xor}
 
 pub word_xor : (a b : ℕ) → word (bit_xor a b) ≡ bit_sum (word a) (word b)
 unfolding word

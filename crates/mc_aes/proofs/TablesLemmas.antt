@@ -3,8 +3,8 @@ use Rattle.std.proofs.Common.{◌≡◌, ℕ, inl, inr, ◌+◌, ◌<◌, ◌==�
 use Rattle.std.specs.Prelude.{bytes_eq}
 use Rattle.std.proofs.lemmas.Bool.{eqb-true, or_cases}
 use Rattle.std.proofs.lemmas.Slice.Eq.{bytes_eq-Decides}
-use Rattle.mc_model_machine.proofs.ModesLemmas.{all_below, below_at}
-use Rattle.mc_model_machine.specs.Aes.{mul, inverse, sub, sub_back}
+use Rattle.model_machine.proofs.ModesLemmas.{all_below, below_at}
+use Rattle.model_machine.specs.Aes.{mul, inverse, sub, sub_back}
 use Rattle.mc_aes.specs.State.{word}
 use Rattle.mc_aes.specs.declared.tables.TheConstants.{SUBSTITUTES, BYTES_OF_SUBSTITUTES, COLUMNS, COLUMNS_BACK}
 

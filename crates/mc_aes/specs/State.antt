@@ -1,6 +1,6 @@
 -- The state of FIPS 197, 16 bytes, as four words, one for each column.
 use Rattle.std.specs.Prelude.{ℕ, ◌/◌, ◌%◌, ◌^◌, List, [], ◌∷◌, ◌++◌}
-use Rattle.mc_model_machine.specs.Aes.{sub, sub_back}
+use Rattle.model_machine.specs.Aes.{sub, sub_back}
 use Rattle.mc_aes.specs.declared.state.State.{State}
 
 -- the four bytes of a word, the highest first

@@ -1,7 +1,7 @@
 -- Known answers of public standards, as numbers of 16 bytes: a key, a block, and the enciphered block.
 use Rattle.std.specs.Prelude.{ℕ, Bool, true, ◌&&◌, List, [], ◌∷◌, bytes_eq}
-use Rattle.mc_model_device.specs.Bytes.{bytes}
-use Rattle.mc_model_machine.specs.Aes.{aes_encipher, aes_decipher}
+use Rattle.model_device.specs.Bytes.{bytes}
+use Rattle.model_machine.specs.Aes.{aes_encipher, aes_decipher}
 
 -- a known answer: a key, a block and the enciphered block
 pub record KnownAesAnswer : Type 0 where

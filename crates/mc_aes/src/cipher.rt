@@ -1,7 +1,7 @@
 // The cipher and the inverse cipher of FIPS 197 on a state, with given round keys.
 
 ghost use Rattle.std.specs.Prelude.{◌≡◌, map, reverse};
-ghost use Rattle.mc_model_machine.specs.Aes.{cipher_block, inverse_cipher_block};
+ghost use Rattle.model_machine.specs.Aes.{cipher_block, inverse_cipher_block};
 ghost use Rattle.mc_aes.specs.State.{state_bytes};
 
 use crate::rounds::{last_round, last_round_back, round, round_back};

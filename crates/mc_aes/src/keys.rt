@@ -1,7 +1,7 @@
 // The round keys of AES-128, by the key expansion of FIPS 197.
 
 ghost use Rattle.std.specs.Prelude.{◌≡◌, map};
-ghost use Rattle.mc_model_machine.specs.Aes.{next_key_word, next_key, round_keys};
+ghost use Rattle.model_machine.specs.Aes.{next_key_word, next_key, round_keys};
 ghost use Rattle.mc_aes.specs.State.{word, state_bytes};
 
 use crate::state::{State, byte0, byte1, byte2, byte3, load};

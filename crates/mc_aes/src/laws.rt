@@ -1,8 +1,8 @@
 // Laws of the cipher, for every key and every block.
 
 ghost use Rattle.std.specs.Prelude.{◌≡◌, ℕ, List};
-ghost use Rattle.mc_model_machine.specs.Modes.{IsBlock};
-ghost use Rattle.mc_model_machine.specs.Aes.{aes_encipher, aes_decipher};
+ghost use Rattle.model_machine.specs.Modes.{IsBlock};
+ghost use Rattle.model_machine.specs.Aes.{aes_encipher, aes_decipher};
 
 /// Deciphering an enciphered block yields the block, and enciphering a deciphered block too.
 pub fn gives_back()

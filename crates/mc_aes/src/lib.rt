@@ -3,7 +3,7 @@
 //! AES-128 (FIPS 197), and the last block of its CBC mode (NIST SP 800-38A).
 
 ghost use Rattle.std.specs.Prelude.{◌≡◌, ◌%◌, ◌<◌, length};
-ghost use Rattle.mc_model_machine.specs.Aes.{aes_encipher, aes_decipher, aes_signature};
+ghost use Rattle.model_machine.specs.Aes.{aes_encipher, aes_decipher, aes_signature};
 
 mod cipher;
 mod keys;

@@ -1,8 +1,8 @@
 // The rounds of FIPS 197 and their inverses, column by column.
 
 ghost use Rattle.std.specs.Prelude.{◌≡◌, ℕ, [], ◌∷◌, slice_index, map};
-ghost use Rattle.mc_model_machine.specs.Modes.{bit_sum};
-ghost use Rattle.mc_model_machine.specs.Aes.{mul, sub, sub_back, times_matrix, round, last_round, round_back, last_round_back, mix_columns_back, shift_rows_back};
+ghost use Rattle.model_machine.specs.Modes.{bit_sum};
+ghost use Rattle.model_machine.specs.Aes.{mul, sub, sub_back, times_matrix, round, last_round, round_back, last_round_back, mix_columns_back, shift_rows_back};
 ghost use Rattle.mc_aes.specs.State.{word, state_bytes, substitutes_of, bytes_back_of};
 
 use crate::state::{State, add, byte0, byte1, byte2, byte3, joined};

@@ -1,7 +1,7 @@
 // The state of FIPS 197: four columns of four bytes, each in a word, the byte of row 0 highest.
 
 ghost use Rattle.std.specs.Prelude.{◌≡◌, [], ◌∷◌, length, ◌/◌, ◌%◌, ◌^◌};
-ghost use Rattle.mc_model_machine.specs.Modes.{bit_sum};
+ghost use Rattle.model_machine.specs.Modes.{bit_sum};
 ghost use Rattle.mc_aes.specs.State.{word, state_bytes};
 
 #[derive(Clone, Copy)]

@@ -1,7 +1,7 @@
 // The tables of bytes and columns. Each is read by one function, whose contract is the meaning of an entry.
 
 ghost use Rattle.std.specs.Prelude.{◌≡◌, [], ◌∷◌};
-ghost use Rattle.mc_model_machine.specs.Aes.{mul, sub, sub_back};
+ghost use Rattle.model_machine.specs.Aes.{mul, sub, sub_back};
 ghost use Rattle.mc_aes.specs.State.{word};
 
 // The S-box of FIPS 197: the substitute of each byte.

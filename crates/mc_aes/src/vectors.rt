@@ -1,8 +1,8 @@
 // Known answers of public standards, as theorems about the definition.
 
 ghost use Rattle.std.specs.Prelude.{◌≡◌, true, ℕ, ◌<◌, take};
-ghost use Rattle.mc_model_device.specs.Bytes.{bytes};
-ghost use Rattle.mc_model_machine.specs.Aes.{aes_signature, inverse, mul};
+ghost use Rattle.model_device.specs.Bytes.{bytes};
+ghost use Rattle.model_machine.specs.Aes.{aes_signature, inverse, mul};
 ghost use Rattle.mc_aes.specs.Vectors.{all_encipher, all_decipher, cipher_examples, ecb_examples, blocks, keys};
 
 /// The definition's inverse is the inverse in the field GF(2^8): its product with the byte is 1.

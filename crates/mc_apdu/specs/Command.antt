@@ -1,5 +1,5 @@
 -- The parts of a command, whatever place its data are borrowed from.
-use Rattle.mc_model_machine.specs.Apdu.{ApduParts, Rest}
+use Rattle.model_machine.specs.Apdu.{ApduParts, Rest}
 use Rattle.mc_apdu.specs.declared.command.Apdu.{Apdu}
 use Rattle.mc_apdu.specs.declared.command.Fields.{Fields}
 

@@ -1,5 +1,5 @@
 ghost use Rattle.std.specs.Prelude.{◌≡◌, ◌≢◌, ◌+◌, ◌*◌, ◌≤◌, length, Some, None, IfOk, IfSome, MatchOption, MatchResult};
-ghost use Rattle.mc_model_machine.specs.Apdu.{apdu_read, apdu_case, extended_body, extended_le, extended_rest, rest_read, short_le, short_rest};
+ghost use Rattle.model_machine.specs.Apdu.{apdu_read, apdu_case, extended_body, extended_le, extended_rest, rest_read, short_le, short_rest};
 ghost use Rattle.mc_apdu.specs.Command.{parts_of, rest_of};
 
 /// A command APDU of ISO/IEC 7816-4: its header, P3, its data, and Le, the greatest number of data bytes that
@@ -48,7 +48,7 @@ struct Fields<'a> {
 /// # Errors
 ///
 /// Returns `WrongLength` if the bytes have none of these cases.
-#[tactic(auto, unfolding(mc_model_machine::specs::Apdu::apdu_read))]
+#[tactic(auto, unfolding(model_machine::specs::Apdu::apdu_read))]
 pub fn parse(bytes: &[u8]) -> Result<Apdu<'_>, WrongLength>
     ensures read { MatchResult result (λ a. apdu_read bytes.now ≡ Some (parts_of a)) (λ _. apdu_read bytes.now ≡ None) }
     ensures body { IfOk result (λ a. length a.body.now ≤ 1024) }

@@ -1,5 +1,5 @@
 ghost use Rattle.std.specs.Prelude.{◌≡◌, ◌↔◌, ℕ, List, [], ◌∷◌, ◌++◌, replicate, Some, None};
-ghost use Rattle.mc_model_machine.specs.Apdu.{apdu_read, ApduParts, IsApdu};
+ghost use Rattle.model_machine.specs.Apdu.{apdu_read, ApduParts, IsApdu};
 
 /// A command is parsed exactly if it has one of the seven cases, with the parts of that case.
 pub fn seven_cases()
@@ -7,7 +7,7 @@ pub fn seven_cases()
 {}
 
 /// Lengths that no short case has.
-#[tactic(auto, unfolding(mc_model_machine::specs::Apdu::apdu_read))]
+#[tactic(auto, unfolding(model_machine::specs::Apdu::apdu_read))]
 pub fn wrong_lengths()
     ensures no_header { apdu_read (0x80 ∷ 1 ∷ []) ≡ None }
     ensures data_missing { apdu_read (0x80 ∷ 1 ∷ 0 ∷ 0 ∷ 2 ∷ 0xaa ∷ []) ≡ None }
@@ -17,7 +17,7 @@ pub fn wrong_lengths()
 {}
 
 /// Commands to the card manager, and one to an application.
-#[tactic(auto, unfolding(mc_model_machine::specs::Apdu::apdu_read))]
+#[tactic(auto, unfolding(model_machine::specs::Apdu::apdu_read))]
 pub fn short_rows()
     ensures class { apdu_read (0xff ∷ 1 ∷ 0 ∷ 0 ∷ [])
         ≡ Some (record { cla = 0xff; ins = 1; p1 = 0; p2 = 0; p3 = 0; body = []; le = None }) }
@@ -58,7 +58,7 @@ pub fn short_rows()
 {}
 
 /// Commands with a two-byte number after a zero byte.
-#[tactic(auto, unfolding(mc_model_machine::specs::Apdu::apdu_read))]
+#[tactic(auto, unfolding(model_machine::specs::Apdu::apdu_read))]
 pub fn extended_rows()
     ensures data_and_le { apdu_read (0x80 ∷ 1 ∷ 0 ∷ 0 ∷ 0 ∷ 0 ∷ 2 ∷ 0x11 ∷ 0x22 ∷ 0 ∷ 4 ∷ [])
         ≡ Some (record { cla = 0x80; ins = 1; p1 = 0; p2 = 0; p3 = 0; body = 0x11 ∷ 0x22 ∷ []; le = Some 4 }) }

@@ -1,2 +1,2 @@
-pub use Rattle.mc_model_machine.specs.Blocks
+pub use Rattle.model_machine.specs.Blocks
 pub mod Carry

@@ -3,12 +3,12 @@ use Rattle.std.proofs.Common.{◌≡◌, ◌≢◌, ℕ, false, List, [], ◌∷
 use Rattle.std.specs.Prelude.{ℤ, nat_le}
 use Rattle.mc_asm.specs.Items.{texts}
 use Rattle.mc_asm.specs.Parts.{pair_of}
-use Rattle.mc_model_text.specs.declared.assembler.AsmCause.{AsmCause}
-use Rattle.mc_model_text.specs.declared.assembler.AsmCause.TheVariants.{BadOperands}
-use Rattle.mc_model_machine.specs.declared.instruction.Ins.{Ins}
-use Rattle.mc_model_machine.specs.declared.instruction.Ins.TheVariants.{Prim}
-use Rattle.mc_model_text.specs.Text.{ok_as}
-use Rattle.mc_model_text.specs.Assembly.{WordForm, CodeItem, byte, both, all_bytes, primitive, Plain, item_of_word, ByDistance, ByPlace, AddressedByte, AddressedWord, Primitive}
+use Rattle.model_text.specs.declared.assembler.AsmCause.{AsmCause}
+use Rattle.model_text.specs.declared.assembler.AsmCause.TheVariants.{BadOperands}
+use Rattle.model_machine.specs.declared.instruction.Ins.{Ins}
+use Rattle.model_machine.specs.declared.instruction.Ins.TheVariants.{Prim}
+use Rattle.model_text.specs.Text.{ok_as}
+use Rattle.model_text.specs.Assembly.{WordForm, CodeItem, byte, both, all_bytes, primitive, Plain, item_of_word, ByDistance, ByPlace, AddressedByte, AddressedWord, Primitive}
 
 one_more : {A : Type 0} (r : Result ℕ AsmCause) (f : A → List ℕ) (s : Result A AsmCause) → ok_as (λ p. p.0 ∷ p.1) (both r (ok_as f s)) ≡ ok_as (λ p. p.0 ∷ f p.1) (both r s)
 one_more (Ok a) f (Ok b) = refl

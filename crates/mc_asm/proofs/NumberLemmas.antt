@@ -1,7 +1,7 @@
 -- Reading hexadecimal numbers digit by digit.
 use Rattle.std.proofs.Common.{◌≡◌, ℕ, zero, suc, ◌+◌, ◌*◌, ◌<◌, ◌≤◌, ◌^◌, List, ◌∷◌, Option, Some, None, arith, refl}
 use Rattle.std.specs.Prelude.{option_map}
-use Rattle.mc_model_text.specs.Text.{digits_onto, hex_value, hex_values, before_values}
+use Rattle.model_text.specs.Text.{digits_onto, hex_value, hex_values, before_values}
 use Rattle.mc_asm.specs.Numbers.{hex_behind}
 
 -- one more character, a hexadecimal digit or not

@@ -5,12 +5,12 @@ use Rattle.std.specs.Int.{w8, w16}
 use Rattle.std.specs.Fmt.{signed_decimal}
 use Rattle.std.proofs.lemmas.Fmt.{decimal_by_steps}
 use Rattle.std.proofs.lemmas.Int.{ints}
-use Rattle.mc_model_text.specs.Text.{every, is_digit, is_empty, digits_onto, decimal_number, hex_value, begins, is_within}
-use Rattle.mc_model_text.specs.Listing.{hex_digit, hex_word, condition_name, register_name, register_names, address_text}
-use Rattle.mc_model_text.specs.Assembly.{natural, fits_signed, byte, word, signed_operand, condition, address, is_label, place_among}
+use Rattle.model_text.specs.Text.{every, is_digit, is_empty, digits_onto, decimal_number, hex_value, begins, is_within}
+use Rattle.model_text.specs.Listing.{hex_digit, hex_word, condition_name, register_name, register_names, address_text}
+use Rattle.model_text.specs.Assembly.{natural, fits_signed, byte, word, signed_operand, condition, address, is_label, place_among}
 use Rattle.mc_asm.proofs.CleanLemmas.{Solid, solid, every_as, pieces_none, pieces_there}
-use Rattle.mc_model_device.proofs.BoolLemmas.{and_false, and_first, and_second}
-use Rattle.mc_model_text.proofs.TextLemmas.{every_append}
+use Rattle.model_device.proofs.BoolLemmas.{and_false, and_first, and_second}
+use Rattle.model_text.proofs.TextLemmas.{every_append}
 
 -- ---- decimal digits
 

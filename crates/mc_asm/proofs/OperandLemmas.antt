@@ -3,11 +3,11 @@ use Rattle.std.proofs.Common.{◌≡◌, ℕ, List, [], ◌∷◌, Option, Some,
 use Rattle.std.specs.Prelude.{ℤ, FitsSigned, ◌==◌}
 use Rattle.std.specs.Int.{w16, cast_signed, cast_unsigned}
 use Rattle.std.proofs.lemmas.Int.{to_z-of_z}
-use Rattle.mc_model_text.specs.declared.assembler.AsmCause.{AsmCause}
-use Rattle.mc_model_text.specs.declared.assembler.AsmCause.TheVariants.{BadOperands}
-use Rattle.mc_model_text.specs.Text.{pieces}
-use Rattle.mc_model_text.specs.Listing.{register_names}
-use Rattle.mc_model_text.specs.Assembly.{address, place_among, offset_and_end, register_and_rest}
+use Rattle.model_text.specs.declared.assembler.AsmCause.{AsmCause}
+use Rattle.model_text.specs.declared.assembler.AsmCause.TheVariants.{BadOperands}
+use Rattle.model_text.specs.Text.{pieces}
+use Rattle.model_text.specs.Listing.{register_names}
+use Rattle.model_text.specs.Assembly.{address, place_among, offset_and_end, register_and_rest}
 use Rattle.mc_asm.specs.Parts.{pair_of, two_parts, offset_in}
 
 -- the tag and the offset after the register's name, from the two parts of that text

@@ -4,11 +4,11 @@ use Rattle.std.specs.Prelude.{bytes_eq, nat_le, MatchResult, IfOk, IfErr}
 use Rattle.std.specs.Ordering.{is_eq, nat_cmp}
 use Rattle.std.specs.Cmp.Lexicographic.{slice_cmp}
 use Rattle.std.proofs.lemmas.Map.Text.{is_eq-slice_cmp}
-use Rattle.mc_model_device.specs.Bytes.{lookup}
-use Rattle.mc_model_text.specs.Text.{◌>>=◌, ok_as, err_as, only_if, lines, with_numbers}
-use Rattle.mc_model_text.specs.declared.assembler.AsmCause.{AsmCause}
-use Rattle.mc_model_text.specs.declared.assembler.AsmCause.TheVariants.{TooLong, LabelTwice}
-use Rattle.mc_model_text.specs.Assembly.{Line, Laid, Placed, is_new, with_label, line_read, line_laid, laid_lines, size, bytes_of_item, joined_code, assembled_lines}
+use Rattle.model_device.specs.Bytes.{lookup}
+use Rattle.model_text.specs.Text.{◌>>=◌, ok_as, err_as, only_if, lines, with_numbers}
+use Rattle.model_text.specs.declared.assembler.AsmCause.{AsmCause}
+use Rattle.model_text.specs.declared.assembler.AsmCause.TheVariants.{TooLong, LabelTwice}
+use Rattle.model_text.specs.Assembly.{Line, Laid, Placed, is_new, with_label, line_read, line_laid, laid_lines, size, bytes_of_item, joined_code, assembled_lines}
 use Rattle.mc_text.specs.Reading.{next_line}
 use Rattle.mc_asm.specs.Refusals.{AssemblyRefuses}
 use Rattle.mc_asm.specs.declared.line.NumberedLine.{NumberedLine}

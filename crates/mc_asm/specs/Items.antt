@@ -1,9 +1,9 @@
 -- Lines and items of the code, as values of the definition.
 use Rattle.std.specs.Prelude.{ℕ, ◌<◌, List, map, option_map}
 use denote.Ref.{Bor}
-use Rattle.mc_model_machine.specs.Code.{Shaped}
-use Rattle.mc_model_machine.specs.declared.instruction.Ins.TheVariants.{Branch}
-use Rattle.mc_model_text.specs.Assembly
+use Rattle.model_machine.specs.Code.{Shaped}
+use Rattle.model_machine.specs.declared.instruction.Ins.TheVariants.{Branch}
+use Rattle.model_text.specs.Assembly
 use Rattle.mc_asm.specs.declared.item.Item.{Item}
 use Rattle.mc_asm.specs.declared.line.Line.{Line}
 use Rattle.mc_asm.specs.Forms.{by_place}

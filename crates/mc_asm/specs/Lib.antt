@@ -1,5 +1,5 @@
-pub use Rattle.mc_model_text.specs.Assembly
-pub use Rattle.mc_model_text.specs.Listing
+pub use Rattle.model_text.specs.Assembly
+pub use Rattle.model_text.specs.Listing
 pub mod Numbers
 pub mod Parts
 pub mod Forms

@@ -1,6 +1,6 @@
 -- Hexadecimal digits that follow others, and the range of signed numbers.
 use Rattle.std.specs.Prelude.{ℕ, ℤ, pos, negsuc, ◌<◌, List, Option, option_map}
-use Rattle.mc_model_text.specs.Text.{digits_onto, hex_values}
+use Rattle.model_text.specs.Text.{digits_onto, hex_values}
 
 -- the number of hexadecimal digits that are appended to those of n, if all are digits
 abbrev pub hex_behind : ℕ → List ℕ → Option ℕ

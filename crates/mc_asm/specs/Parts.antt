@@ -1,9 +1,9 @@
 -- Two parts of a text, and operands.
 use Rattle.std.specs.Prelude.{ℕ, ℤ, ◌==◌, List, [], ◌∷◌, Option, Some, None, Result, Err}
-use Rattle.mc_model_text.specs.declared.assembler.AsmCause.{AsmCause}
-use Rattle.mc_model_text.specs.declared.assembler.AsmCause.TheVariants.{BadOperands}
-use Rattle.mc_model_text.specs.Text.{ok_as, pieces}
-use Rattle.mc_model_text.specs.Assembly.{signed_operand}
+use Rattle.model_text.specs.declared.assembler.AsmCause.{AsmCause}
+use Rattle.model_text.specs.declared.assembler.AsmCause.TheVariants.{BadOperands}
+use Rattle.model_text.specs.Text.{ok_as, pieces}
+use Rattle.model_text.specs.Assembly.{signed_operand}
 
 -- the two elements of a list, if it has two
 abbrev pub pair_of : {A : Type 0} → List A → Option (A × A)

@@ -5,12 +5,12 @@ use Rattle.std.specs.Cmp.Lexicographic.{slice_cmp}
 use Rattle.std.specs.BTreeMap
 use Rattle.std.specs.BTreeMap.{BTreeMap}
 use denote.Ref.{Bor}
-use Rattle.mc_model_device.specs.Limits.{most_code}
-use Rattle.mc_model_device.specs.Bytes.{lookup}
-use Rattle.mc_model_text.specs.Text.{◌>>=◌, ok_as, err_as, only_if}
-use Rattle.mc_model_text.specs.declared.assembler.AsmCause.{AsmCause}
-use Rattle.mc_model_text.specs.declared.assembler.AsmCause.TheVariants.{TooLong}
-use Rattle.mc_model_text.specs.Assembly.{CodeItem, with_label, line_read, line_laid, size, bytes_of_item, fits_signed}
+use Rattle.model_device.specs.Limits.{most_code}
+use Rattle.model_device.specs.Bytes.{lookup}
+use Rattle.model_text.specs.Text.{◌>>=◌, ok_as, err_as, only_if}
+use Rattle.model_text.specs.declared.assembler.AsmCause.{AsmCause}
+use Rattle.model_text.specs.declared.assembler.AsmCause.TheVariants.{TooLong}
+use Rattle.model_text.specs.Assembly.{CodeItem, with_label, line_read, line_laid, size, bytes_of_item, fits_signed}
 use Rattle.mc_asm.specs.declared.line.NumberedLine.{NumberedLine}
 pub use Rattle.mc_asm.specs.Refusals.{AssemblyRefuses}
 

@@ -1,9 +1,9 @@
 -- From code to its listing and back.
 use Rattle.std.specs.Prelude.{◌≡◌, ℕ, ◌<◌, ◌≤◌, List, length, Ok}
 use Rattle.std.specs.List.{AllByRecursion}
-use Rattle.mc_model_device.specs.Limits.{most_code}
-use Rattle.mc_model_text.specs.Assembly.{assembly_of}
-use Rattle.mc_model_text.specs.Listing.{listing_of_code}
+use Rattle.model_device.specs.Limits.{most_code}
+use Rattle.model_text.specs.Assembly.{assembly_of}
+use Rattle.model_text.specs.Listing.{listing_of_code}
 
 -- for each code that has a listing, the listing assembles to it
 abbrev pub ListedIsAssembled : Type 0

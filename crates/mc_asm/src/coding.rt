@@ -1,8 +1,8 @@
 // The second pass, which makes the code, and the whole assembler.
 ghost use Rattle.std.specs.Prelude.{◌≡◌, ◌+◌, ◌≤◌, ℕ, pos, ◌-ℤ◌, List, [], ◌∷◌, ◌++◌, length, Some, None, Ok, Err, IfOk, IfErr, MatchResult, OnOk, vec_len};
-ghost use Rattle.mc_model_device.specs.Limits.{most_code};
-ghost use Rattle.mc_model_text.specs.Text.{lines, with_numbers};
-ghost use Rattle.mc_model_text.specs.Assembly.{bytes_of_item, size, assembly_of, assembled_lines};
+ghost use Rattle.model_device.specs.Limits.{most_code};
+ghost use Rattle.model_text.specs.Text.{lines, with_numbers};
+ghost use Rattle.model_text.specs.Assembly.{bytes_of_item, size, assembly_of, assembled_lines};
 ghost use Rattle.mc_asm.specs.Items.{item_of, Ready};
 ghost use Rattle.mc_asm.specs.Passes.{AreLabels, AssemblyRefuses, code_and_end, code_of_lines, near, numbered_lines};
 ghost use Rattle.mc_asm.specs.declared.refusal.AsmRefusal.TheVariants.{NoMemory};
@@ -14,9 +14,9 @@ use crate::line::{NumberedLine, read_line};
 use crate::refusal::AsmRefusal;
 use arrayvec::ArrayVec;
 use mc_isa::encode;
-use mc_model_machine::Ins;
-use mc_model_text::AsmCause;
 use mc_text::next_line;
+use model_machine::Ins;
+use model_text::AsmCause;
 use std::alloc::Global;
 
 // The displacement of a branch at a place: the distance from the place after the branch.
@@ -170,7 +170,7 @@ fn lines_of(alloc: Global, text: &[u8]) -> Result<Vec<NumberedLine<'_>>, AsmRefu
 /// Returns `At` with the first refused line, counted from 1, and its cause: the first line with a cause of
 /// its own, and if there is none, the first whose label is unknown or too far for a branch. Returns
 /// `NoMemory` if out of memory.
-#[tactic(auto, unfolding(mc_model_text::specs::Assembly::assembly_of))]
+#[tactic(auto, unfolding(model_text::specs::Assembly::assembly_of))]
 pub fn assemble(alloc: Global, text: &[u8]) -> Result<Vec<u8>, AsmRefusal>
     ensures code { IfOk result (λ v. assembly_of text.now ≡ Ok v.items) }
     ensures refused { IfErr result (λ e. AssemblyRefuses (assembly_of text.now) e) }

@@ -1,10 +1,10 @@
 // Labels and their places: the first pass.
 ghost use Rattle.std.specs.Prelude.{◌≡◌, ◌+◌, ◌≤◌, ℕ, List, [], length, option_map, Some, None, Ok, Err, IfOk, IfErr, OnOk, MatchResult};
-ghost use Rattle.mc_model_device.specs.Limits.{most_code};
-ghost use Rattle.mc_model_device.specs.Bytes.{lookup};
-ghost use Rattle.mc_model_text.specs.Text.{ok_as, only_if};
-ghost use Rattle.mc_model_text.specs.Assembly.{is_new, line_laid, line_read, size, with_label};
-ghost use Rattle.mc_model_text.specs.declared.assembler.AsmCause.TheVariants.{TooLong};
+ghost use Rattle.model_device.specs.Limits.{most_code};
+ghost use Rattle.model_device.specs.Bytes.{lookup};
+ghost use Rattle.model_text.specs.Text.{ok_as, only_if};
+ghost use Rattle.model_text.specs.Assembly.{is_new, line_laid, line_read, size, with_label};
+ghost use Rattle.model_text.specs.declared.assembler.AsmCause.TheVariants.{TooLong};
 ghost use Rattle.mc_asm.specs.Items.{item_of, Ready};
 ghost use Rattle.mc_asm.specs.declared.refusal.AsmRefusal.TheVariants.{NoMemory};
 ghost use Rattle.mc_asm.specs.Passes.{AreLabels, AssemblyRefuses, label_and_end, end_of, numbered_lines, places};
@@ -13,7 +13,7 @@ use crate::item::Item;
 use crate::line::{NumberedLine, read_line};
 use crate::refusal::AsmRefusal;
 use mc_isa::encode;
-use mc_model_text::AsmCause;
+use model_text::AsmCause;
 use std::alloc::Global;
 use std::collections::BTreeMap;
 
@@ -104,7 +104,7 @@ pub fn end_of(item: &Item<'_>, place: u16) -> Result<u16, AsmCause>
 }
 
 // A line's label, and the place after the line.
-#[tactic(auto, unfolding(mc_model_text::specs::Assembly::line_laid))]
+#[tactic(auto, unfolding(model_text::specs::Assembly::line_laid))]
 fn label_and_end<'a>(
     line: &'a [u8],
     place: u16,

@@ -1,16 +1,16 @@
 // Lines: a label, and a word with its operands.
 ghost use Rattle.std.specs.Prelude.{◌≡◌, ◌+◌, ◌≤◌, length, take, map, option_map, Some, None, Ok, Err, IfOk, OnOk};
 ghost use Rattle.arrayvec.specs.ArrayVec.{array_vec_len};
-ghost use Rattle.mc_model_text.specs.Text.{first_cut, is_blank, ok_as};
-ghost use Rattle.mc_model_text.specs.Assembly.{operands, word_and_operands, label_and_rest, line_read};
+ghost use Rattle.model_text.specs.Text.{first_cut, is_blank, ok_as};
+ghost use Rattle.model_text.specs.Assembly.{operands, word_and_operands, label_and_rest, line_read};
 ghost use Rattle.mc_asm.specs.Items.{item_of, line_of, texts, Ready};
 
 use crate::item::{Item, worded};
 use crate::operand::is_label;
 use crate::words::form_named;
 use arrayvec::ArrayVec;
-use mc_model_text::AsmCause;
 use mc_text::{cut, cut_blank, trim};
+use model_text::AsmCause;
 
 /// A line of a text without its end, and its number.
 #[derive(Clone, Copy, Debug, PartialEq, Eq)]
@@ -84,7 +84,7 @@ fn labelled<'a>(front: &'a [u8], behind: Option<&'a [u8]>) -> Result<Line<'a>, A
 /// # Errors
 ///
 /// Returns the cause why the line is refused.
-#[tactic(auto, unfolding(mc_model_text::specs::Assembly::line_read))]
+#[tactic(auto, unfolding(model_text::specs::Assembly::line_read))]
 pub fn read_line(line: &[u8]) -> Result<Line<'_>, AsmCause>
     ensures value { ok_as line_of result ≡ line_read line.now }
     ensures ready { IfOk result (λ l. Ready l.item) }

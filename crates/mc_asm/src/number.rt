@@ -1,11 +1,11 @@
 // Numbers of operands.
 ghost use Rattle.std.specs.Prelude.{◌≡◌, ◌+◌, ◌*◌, ◌<◌, ◌≤◌, ◌^◌, ℕ, Ok, Err, OnOk, IfOk, IfSome, MatchResult, option_map};
-ghost use Rattle.mc_model_text.specs.Assembly.{byte, word, hex_number, natural, number_operand, signed_operand};
+ghost use Rattle.model_text.specs.Assembly.{byte, word, hex_number, natural, number_operand, signed_operand};
 ghost use Rattle.mc_asm.specs.Numbers.{FitsHalf};
 ghost use Rattle.mc_text.specs.Reading.{capped_number};
 
-use mc_model_text::AsmCause;
 use mc_text::{decimal_number, hex_value};
+use model_text::AsmCause;
 
 // The number of 1 to 4 hexadecimal digits.
 fn hex_number(digits: &[u8]) -> Option<u32>

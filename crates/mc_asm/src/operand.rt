@@ -1,13 +1,13 @@
 // Operands by their form.
 ghost use Rattle.std.specs.Prelude.{◌≡◌, ◌+◌, ◌<◌, ◌≤◌, ◌==◌, ℕ, List, length, option_map, Some, None, Ok, Err, IfOk, IfSome, Result};
-ghost use Rattle.mc_model_text.specs.Assembly.{is_label, condition, address, place_among, both, first_cause};
-ghost use Rattle.mc_model_text.specs.Listing.{register_names};
-ghost use Rattle.mc_model_text.specs.declared.assembler.AsmCause.{AsmCause};
+ghost use Rattle.model_text.specs.Assembly.{is_label, condition, address, place_among, both, first_cause};
+ghost use Rattle.model_text.specs.Listing.{register_names};
+ghost use Rattle.model_text.specs.declared.assembler.AsmCause.{AsmCause};
 ghost use Rattle.mc_asm.specs.Parts.{two_parts};
 
 use crate::number::offset;
-use mc_model_text::AsmCause;
 use mc_text::{cut, has_name_characters, is_digit};
+use model_text::AsmCause;
 
 /// Returns whether a text has the form of a label: 1 to 32 letters, digits and underscores, of which the
 /// first is no digit.

@@ -1,5 +1,5 @@
-use mc_model_machine::DecodeFault;
-use mc_model_text::AsmCause;
+use model_machine::DecodeFault;
+use model_text::AsmCause;
 use std::alloc::AllocError;
 use thiserror::Error;
 

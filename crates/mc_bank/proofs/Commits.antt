@@ -1,9 +1,9 @@
 -- What a list of commits leaves of any bank, by the laws of one commit.
 use Rattle.std.proofs.Common.{◌≡◌, ℕ, false, List, [], ◌∷◌, Option, Some, Ok, Err, refl, sym, subst, ◌∙◌, inl, inr}
-use Rattle.mc_model_card.specs.declared.card.Part.{Part}
-use Rattle.mc_model_card.specs.declared.card.Sizes.{Sizes}
-use Rattle.mc_model_device.specs.Orders.{Answer, InOrder}
-use Rattle.mc_model_card.specs.Items.{Site, BankItem, Commit}
+use Rattle.model_card.specs.declared.card.Part.{Part}
+use Rattle.model_card.specs.declared.card.Sizes.{Sizes}
+use Rattle.model_device.specs.Orders.{Answer, InOrder}
+use Rattle.model_card.specs.Items.{Site, BankItem, Commit}
 use Rattle.mc_bank.specs.Bank.{BankState, IsGoodSite, StayGood, BytesStay, Spares, Changes, item_done, apps_after_commit}
 
 -- words of the static bytes of a name

@@ -3,9 +3,9 @@ use Rattle.std.proofs.Common.{◌≡◌, ℕ, ◌≤◌, ◌<◌, false, Bool, L
 use Rattle.std.specs.Prelude.{nat_le}
 use Rattle.std.proofs.lemmas.Bool.{le-leb, lt-leb}
 use Rattle.std.proofs.lemmas.List.{length-take-le}
-use Rattle.mc_model_card.specs.declared.card.Sizes.{Sizes}
-use Rattle.mc_model_card.specs.declared.card.OpenRefusal.TheVariants.{Apps}
-use Rattle.mc_model_card.specs.Items.{Site}
+use Rattle.model_card.specs.declared.card.Sizes.{Sizes}
+use Rattle.model_card.specs.declared.card.OpenRefusal.TheVariants.{Apps}
+use Rattle.model_card.specs.Items.{Site}
 use Rattle.mc_bank.specs.declared.entries.Entry.{Entry}
 use Rattle.mc_bank.specs.Bank.{FitsLimits, search_result, IsGoodSite, HasParts, part_len}
 use Rattle.mc_bank.specs.Memory.{facts_in, first_free, count_of_used, apps_from, memory_room, memory_site_bytes, part_of, entry_at, IsMemory}

@@ -1,20 +1,20 @@
 -- The state of a bank of applications, and what its calls and its items do to it.
 use Rattle.std.specs.Prelude.{◌≡◌, ◌≢◌, ◌⊎◌, ℕ, ◌-◌, ◌*◌, ◌<◌, ◌≤◌, Bool, true, false, List, [], ◌++◌, length, unwrap_or, option_and_then, Option, Some, None, Result, Ok, Err}
 use Rattle.std.specs.List.{AllByRecursion}
-use Rattle.mc_model_card.specs.declared.card.Part.{Part}
-use Rattle.mc_model_card.specs.declared.card.Part.TheVariants.{Code, Data, Dir, Fci}
-use Rattle.mc_model_card.specs.declared.card.Sizes.{Sizes}
-use Rattle.mc_model_card.specs.declared.card.OpenRefusal.{OpenRefusal}
-use Rattle.mc_model_card.specs.declared.card.OpenRefusal.TheVariants.{Apps, NoRoom}
-use Rattle.mc_model_device.specs.declared.device.Stop.{Stop}
-use Rattle.mc_model_device.specs.declared.device.Stop.TheVariants.{Off, Worn}
-use Rattle.mc_model_device.specs.Limits.{most_code}
-use Rattle.mc_model_device.specs.Orders.{Answer}
-use Rattle.mc_model_device.specs.Counts.{Rose}
-use Rattle.mc_model_device.specs.Bytes.{AscendByName, zeros, lookup, insert, remove}
-use Rattle.mc_model_device.specs.Pieces.{laid_words, ArePending}
-use Rattle.mc_model_device.specs.Card.{App}
-use Rattle.mc_model_card.specs.Items.{Site, BankItem, Piece, Blank, Note, Commit, Enter, Remove}
+use Rattle.model_card.specs.declared.card.Part.{Part}
+use Rattle.model_card.specs.declared.card.Part.TheVariants.{Code, Data, Dir, Fci}
+use Rattle.model_card.specs.declared.card.Sizes.{Sizes}
+use Rattle.model_card.specs.declared.card.OpenRefusal.{OpenRefusal}
+use Rattle.model_card.specs.declared.card.OpenRefusal.TheVariants.{Apps, NoRoom}
+use Rattle.model_device.specs.declared.device.Stop.{Stop}
+use Rattle.model_device.specs.declared.device.Stop.TheVariants.{Off, Worn}
+use Rattle.model_device.specs.Limits.{most_code}
+use Rattle.model_device.specs.Orders.{Answer}
+use Rattle.model_device.specs.Counts.{Rose}
+use Rattle.model_device.specs.Bytes.{AscendByName, zeros, lookup, insert, remove}
+use Rattle.model_device.specs.Pieces.{laid_words, ArePending}
+use Rattle.model_device.specs.Card.{App}
+use Rattle.model_card.specs.Items.{Site, BankItem, Piece, Blank, Note, Commit, Enter, Remove}
 use Rattle.mc_base.specs.Name.{IsName}
 
 -- the state of a bank: the applications by their names, the counts of cuts and failed writes below it, whether it is

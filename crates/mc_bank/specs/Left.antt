@@ -1,10 +1,10 @@
 -- The entries of a bank in memory after each call.
 use Rattle.std.specs.Prelude.{◌≡◌, ◌≢◌, ℕ, List, [], ◌∷◌, map, IsSome, Some, Ok}
-use Rattle.mc_model_card.specs.declared.card.Part.{Part}
-use Rattle.mc_model_device.specs.Orders.{InOrder}
-use Rattle.mc_model_device.specs.Bytes.{splice, insert, remove}
-use Rattle.mc_model_card.specs.Items.{Site, Piece, Commit, Remove}
-use Rattle.mc_model_card.specs.Manager.{word_parts, create_items}
+use Rattle.model_card.specs.declared.card.Part.{Part}
+use Rattle.model_device.specs.Orders.{InOrder}
+use Rattle.model_device.specs.Bytes.{splice, insert, remove}
+use Rattle.model_card.specs.Items.{Site, Piece, Commit, Remove}
+use Rattle.model_card.specs.Manager.{word_parts, create_items}
 use Rattle.mc_bank.specs.declared.entries.Entry.{Entry}
 use Rattle.mc_bank.specs.Bank.{name_or, apps_after_commit, app_of_site, StayGood, BytesStay, IsChanged}
 use Rattle.mc_bank.specs.Memory.{memory_named, apps_from, memory_state, memory_room, memory_site_bytes, IsMemory, MemoryDid}

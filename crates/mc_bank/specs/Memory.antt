@@ -1,15 +1,15 @@
 -- A bank in memory: 32 entries, each used or free, and what an item does to them.
 use Rattle.std.specs.Prelude.{◌≡◌, ℕ, zero, suc, ◌-◌, ◌*◌, ◌<◌, ◌≤◌, Bool, false, ◌||◌, List, [], ◌∷◌, length, take, map, bytes_eq, slice_index_or, slice_set, Option, Some, None, Ok}
 use Rattle.std.specs.List.{AllByRecursion}
-use Rattle.mc_model_card.specs.declared.card.Part.{Part}
-use Rattle.mc_model_card.specs.declared.card.Part.TheVariants.{Code, Data, Dir, Fci}
-use Rattle.mc_model_card.specs.declared.card.Sizes.{Sizes}
-use Rattle.mc_model_device.specs.Limits.{most_code}
-use Rattle.mc_model_device.specs.Orders.{Answer}
-use Rattle.mc_model_device.specs.Bytes.{zeros, splice, insert}
-use Rattle.mc_model_device.specs.Pieces.{laid_pieces, word_pieces}
-use Rattle.mc_model_device.specs.Card.{App}
-use Rattle.mc_model_card.specs.Items.{Site, BankItem, Piece, Blank, Note, Commit, Enter, Remove}
+use Rattle.model_card.specs.declared.card.Part.{Part}
+use Rattle.model_card.specs.declared.card.Part.TheVariants.{Code, Data, Dir, Fci}
+use Rattle.model_card.specs.declared.card.Sizes.{Sizes}
+use Rattle.model_device.specs.Limits.{most_code}
+use Rattle.model_device.specs.Orders.{Answer}
+use Rattle.model_device.specs.Bytes.{zeros, splice, insert}
+use Rattle.model_device.specs.Pieces.{laid_pieces, word_pieces}
+use Rattle.model_device.specs.Card.{App}
+use Rattle.model_card.specs.Items.{Site, BankItem, Piece, Blank, Note, Commit, Enter, Remove}
 use Rattle.mc_base.specs.Name.{IsName}
 use Rattle.mc_bank.specs.declared.bank.Facts.{Facts}
 use Rattle.mc_bank.specs.declared.entries.Entry.{Entry}

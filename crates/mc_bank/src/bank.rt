@@ -1,17 +1,17 @@
 ghost use Rattle.std.specs.Prelude.{◌≡◌, ◌≢◌, ℕ, ◌+◌, ◌≤◌, false, List, [], ◌∷◌, length, take, drop, map, nat_le, Option, Some, None, is_some, IsSome, IfSome, IfOk, OnOk};
-ghost use Rattle.mc_model_card.specs.declared.card.Part.{Part};
-ghost use Rattle.mc_model_card.specs.declared.card.Sizes.{Sizes};
-ghost use Rattle.mc_model_device.specs.Orders.{Answer, InOrder};
-ghost use Rattle.mc_model_device.specs.Bytes.{lookup, insert, remove, splice};
-ghost use Rattle.mc_model_card.specs.Items.{Site as SiteValue, BankItem, Piece, Commit, Remove};
-ghost use Rattle.mc_model_card.specs.Manager.{word_parts, create_items};
+ghost use Rattle.model_card.specs.declared.card.Part.{Part};
+ghost use Rattle.model_card.specs.declared.card.Sizes.{Sizes};
+ghost use Rattle.model_device.specs.Orders.{Answer, InOrder};
+ghost use Rattle.model_device.specs.Bytes.{lookup, insert, remove, splice};
+ghost use Rattle.model_card.specs.Items.{Site as SiteValue, BankItem, Piece, Commit, Remove};
+ghost use Rattle.model_card.specs.Manager.{word_parts, create_items};
 ghost use Rattle.mc_bank.specs.Slots.{slot_number, slot_place, slot_sizes};
 ghost use Rattle.mc_bank.specs.Bank.{BankState, app_of, name_or, sizes_of, FitsLimits, AreApps, part_len, search_result};
 ghost use Rattle.mc_bank.specs.Bank.{IsGoodSite, HasParts, StayGood, BytesStay, CanCommit, apps_after_commit, app_of_site};
 ghost use Rattle.mc_bank.specs.Bank.{item_done, Spares, Changes};
 
 use mc_base::{Aid, Steps, Stop, Word};
-use mc_model_card::{OpenRefusal, Part, Sizes};
+use model_card::{OpenRefusal, Part, Sizes};
 use std::marker::Model;
 use std::sync::ledger::Ledger;
 
@@ -73,7 +73,7 @@ pub struct Site {
 }
 
 impl Model for Site {
-    ghost use Rattle.mc_model_card.specs.Items.{Site as SiteValue};
+    ghost use Rattle.model_card.specs.Items.{Site as SiteValue};
 
     ghost Value = { SiteValue };
 

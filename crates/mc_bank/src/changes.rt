@@ -1,5 +1,5 @@
 ghost use Rattle.std.specs.Prelude.{◌≡◌, ◌+◌, ◌≤◌, length, vec_len, IsSome, None};
-ghost use Rattle.mc_model_device.specs.Bytes.{lookup};
+ghost use Rattle.model_device.specs.Bytes.{lookup};
 ghost use Rattle.mc_base.specs.Name.{IsName};
 ghost use Rattle.mc_bank.specs.Bank.{CanCommit, IsGoodSite, part_len};
 ghost use Rattle.mc_bank.specs.Memory.{memory_named, apps_from, memory_room, IsMemory};
@@ -9,7 +9,7 @@ ghost use Rattle.mc_bank.specs.Left.{CommitLeft, FillLeft, CreateLeft, DeleteLef
 use crate::bank::{Site, Slot};
 use crate::entries::{Entry, put_app, put_piece, put_words};
 use mc_base::{Aid, Word};
-use mc_model_card::Part;
+use model_card::Part;
 
 /// Sets words of an application.
 pub fn commit(entries: &mut Vec<Entry>, slot: Slot, list: &[(u16, Word)])

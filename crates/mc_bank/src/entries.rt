@@ -1,13 +1,13 @@
 ghost use Rattle.std.specs.Prelude.{◌≡◌, ◌+◌, ◌-◌, ◌*◌, ◌<◌, ◌≤◌, length, take, drop, slice_set, Some, None, is_some, IsSome, IfSome};
 ghost use Rattle.std.specs.List.{AllByRecursion};
-ghost use Rattle.mc_model_device.specs.Bytes.{splice, zeros};
-ghost use Rattle.mc_model_device.specs.Pieces.{laid_pieces, word_pieces};
+ghost use Rattle.model_device.specs.Bytes.{splice, zeros};
+ghost use Rattle.model_device.specs.Pieces.{laid_pieces, word_pieces};
 ghost use Rattle.mc_bank.specs.Memory.{facts_in, name_of_entry, memory_named, first_free, count_of_used, has, is_named, part_of, with_piece, with_list, with_app, IsMemory};
 ghost use Rattle.mc_bank.specs.Shown.{EntryShows};
 
 use crate::bank::{Facts, Slot};
 use mc_base::{Aid, Word};
-use mc_model_card::{Part, Sizes};
+use model_card::{Part, Sizes};
 
 /// The memory of one application, and its facts while it is there.
 #[derive(Clone, Copy, Drop)]

@@ -8,5 +8,5 @@ mod entries;
 mod memory;
 
 pub use bank::{Bank, Facts, Site, Slot};
-pub use mc_model_card::{OpenRefusal, Part, Sizes};
 pub use memory::MemBank;
+pub use model_card::{OpenRefusal, Part, Sizes};

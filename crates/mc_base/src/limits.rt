@@ -1,6 +1,6 @@
 // The limits of an application.
 ghost use Rattle.std.specs.Prelude.{◌≡◌};
-ghost use Rattle.mc_model_device.specs.Limits.{most_code};
+ghost use Rattle.model_device.specs.Limits.{most_code};
 
 /// The most bytes of an application's code.
 pub const MOST_CODE: usize = 8192;

@@ -1,5 +1,5 @@
 ghost use Rattle.std.specs.Prelude.{◌≡◌, ◌+◌, ◌*◌};
-ghost use Rattle.mc_model_device.specs.Bytes.{bytes2};
+ghost use Rattle.model_device.specs.Bytes.{bytes2};
 
 /// Returns the number in two bytes, the high byte first.
 pub fn number_of(high: u8, low: u8) -> u16

@@ -1,4 +1,4 @@
-pub use Rattle.mc_model_card.specs.Commands
+pub use Rattle.model_card.specs.Commands
 pub use Rattle.mc_store.specs.Power
 pub mod ItemWrites
 pub mod Parts

@@ -1,8 +1,8 @@
 -- The number of writes of a recovery.
 use Rattle.std.proofs.Common.{◌≡◌, ℕ, ◌≤◌, List, [], ◌∷◌, length, refl, length-append}
-use Rattle.mc_model_device.specs.Image.{Journal, gate, shut_word, Look, Refused, Closed, Pending, look_j, debt, owed_j}
-use Rattle.mc_model_device.specs.Stopped.{owed_writes}
-use Rattle.mc_model_device.proofs.LookLemmas.{owed_few}
+use Rattle.model_device.specs.Image.{Journal, gate, shut_word, Look, Refused, Closed, Pending, look_j, debt, owed_j}
+use Rattle.model_device.specs.Stopped.{owed_writes}
+use Rattle.model_device.proofs.LookLemmas.{owed_few}
 
 -- there are as many writes that recovery still has to make as the debt states
 pub as_many : (l : Look) → length (owed_writes l) ≡ debt l

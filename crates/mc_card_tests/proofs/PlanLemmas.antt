@@ -1,7 +1,7 @@
 -- The device that a store returns holds the card of the store.
 use Rattle.std.proofs.Common.{◌≡◌, ℕ, true, sym, subst}
 use Rattle.std.specs.Prelude.{IsSome}
-use Rattle.mc_model_device.specs.Device.{DeviceState, IsImage, sized}
+use Rattle.model_device.specs.Device.{DeviceState, IsImage, sized}
 use Rattle.mc_bank.specs.Slots.{slot_place}
 use Rattle.mc_store.specs.Store.{is_going, store_named}
 use Rattle.mc_store.proofs.ChangeLemmas.{DeleteIs, delete_at}

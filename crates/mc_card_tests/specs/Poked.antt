@@ -1,6 +1,6 @@
 -- A small image of zeros in which some words are set by hand.
 use Rattle.std.specs.Prelude.{ℕ, List, [], ◌∷◌, replicate, slice_set}
-use Rattle.mc_model_device.specs.Bytes.{zeros, bytes}
+use Rattle.model_device.specs.Bytes.{zeros, bytes}
 
 -- 256 words of zeros, with these numbers as words of eight bytes in their places
 abbrev pub image_with_numbers : List (ℕ × ℕ) → List (List ℕ)

@@ -3,7 +3,7 @@ use Rattle.std.proofs.Common.{◌≡◌, ℕ, ◌+◌, ◌-◌, ◌<◌, List, [
 use Rattle.std.specs.Prelude.{slice_get}
 use Rattle.std.proofs.lemmas.List.{length-set}
 use Rattle.std.proofs.lemmas.Option.{slice_get-get_or, slice_get_within, none-some}
-use Rattle.mc_model_stack.specs.StackShape.{At}
+use Rattle.model_stack.specs.StackShape.{At}
 use Rattle.mc_check.specs.declared.calls.Call.{Call}
 use Rattle.mc_check.specs.declared.bases.Progress.{Progress}
 use Rattle.mc_check.specs.declared.bases.Progress.TheVariants as progress

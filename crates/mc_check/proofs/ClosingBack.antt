@@ -2,9 +2,9 @@
 use Rattle.std.proofs.Common.{◌≡◌, ◌⊎◌, ◌<◌, ◌≤◌, ◌+◌, ℕ, List, length, slice_get, Option, Some, Result, OnOk, Ok, Err, sym, ap, ap₂, ◌∙◌, subst, inl, inr, arith}
 use Rattle.std.proofs.lemmas.Bool.{cases_eq}
 use Rattle.std.proofs.lemmas.Option.{slice_get_within}
-use Rattle.mc_model_machine.specs.declared.instruction.Ins.{Ins}
-use Rattle.mc_model_stack.specs.StackRows.{counts, call_target}
-use Rattle.mc_model_stack.specs.StackShape.{Routine, At, Fact, Stands, look, Reached}
+use Rattle.model_machine.specs.declared.instruction.Ins.{Ins}
+use Rattle.model_stack.specs.StackRows.{counts, call_target}
+use Rattle.model_stack.specs.StackShape.{Routine, At, Fact, Stands, look, Reached}
 use Rattle.mc_check.specs.declared.table.Entry.{Entry}
 use Rattle.mc_check.specs.declared.shape.Counts.{Counts as Pair}
 use Rattle.mc_check.specs.declared.closing.Found.{Found}

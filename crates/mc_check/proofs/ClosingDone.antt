@@ -1,8 +1,8 @@
 -- The search after a step: from the start, and after a plain instruction, a CALL or a return was followed.
 use Rattle.std.proofs.Common.{◌≡◌, ◌<◌, ℕ, true, false, ◌&&◌, is_some, List, [], ◌∷◌, length, replicate, slice_get, Option, Some, None, Result, OnOk, Ok, Err, refl, sym, subst, inl, inr}
 use Rattle.std.proofs.lemmas.Bool.{true≢false}
-use Rattle.mc_model_stack.specs.StackRows.{counts, goes_on, jump_target, call_target, is_conditional, height_after}
-use Rattle.mc_model_stack.specs.StackShape.{Routine, Main, At, fact, is_main, ReturnsWith}
+use Rattle.model_stack.specs.StackRows.{counts, goes_on, jump_target, call_target, is_conditional, height_after}
+use Rattle.model_stack.specs.StackShape.{Routine, Main, At, fact, is_main, ReturnsWith}
 use Rattle.mc_check.specs.declared.shape.Counts.{Counts as Pair}
 use Rattle.mc_check.specs.declared.closing.Found.{Found}
 use Rattle.mc_check.specs.Table.{IsIn}

@@ -1,7 +1,7 @@
 -- Lists under the search for all facts: an empty table, the places that wait, and the places that are free.
 use Rattle.std.proofs.Common.{◌≡◌, ◌⊎◌, ◌<◌, ◌+◌, ℕ, zero, suc, List, [], ◌∷◌, ◌++◌, length, set, slice_get, replicate, Option, Some, None, refl, sym, ap, ◌∙◌, inl, inr, arith}
 use Rattle.std.proofs.lemmas.Bool.{cases_eq}
-use Rattle.mc_model_stack.specs.StackShape.{Fact}
+use Rattle.model_stack.specs.StackShape.{Fact}
 use Rattle.mc_check.specs.declared.table.Entry.{Entry}
 use Rattle.mc_check.specs.Table.{fact_of, IsIn}
 use Rattle.mc_check.specs.Closing.{IsAmong, free}

@@ -2,11 +2,11 @@
 -- refusals that are due.
 use Rattle.std.proofs.Common.{◌≡◌, ◌≢◌, ◌⊎◌, ◌<◌, ◌≤◌, ◌+◌, ◌-◌, ℕ, Bool, true, false, ◌&&◌, nat_eq, eq-eqb, List, slice_get, Option, Some, None, sym, ap, ap₂, ◌∙◌, subst, inl, inr, arith}
 use Rattle.std.proofs.lemmas.Bool.{cases_eq, true≢false, and_from}
-use Rattle.mc_model_text.specs.declared.checker.CheckCause.TheVariants.{Returns, Under}
-use Rattle.mc_model_machine.specs.declared.instruction.Ins.{Ins}
-use Rattle.mc_model_stack.specs.StackRows.{counts, goes_on, jump_target, call_target, is_conditional, height_after}
-use Rattle.mc_model_stack.specs.StackShape.{At, Fact, fact, Stands, look, Gives, Reached, ReturnsWith, Refuses}
-use Rattle.mc_model_stack.specs.StackShape as shape
+use Rattle.model_text.specs.declared.checker.CheckCause.TheVariants.{Returns, Under}
+use Rattle.model_machine.specs.declared.instruction.Ins.{Ins}
+use Rattle.model_stack.specs.StackRows.{counts, goes_on, jump_target, call_target, is_conditional, height_after}
+use Rattle.model_stack.specs.StackShape.{At, Fact, fact, Stands, look, Gives, Reached, ReturnsWith, Refuses}
+use Rattle.model_stack.specs.StackShape as shape
 use Rattle.mc_check.specs.declared.table.Entry.{Entry}
 use Rattle.mc_check.specs.declared.shape.Counts.{Counts as Pair}
 use Rattle.mc_check.specs.Table.{IsIn}

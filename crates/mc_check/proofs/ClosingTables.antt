@@ -2,9 +2,9 @@
 -- gets its counts.
 use Rattle.std.proofs.Common.{◌≡◌, ◌⊎◌, ◌<◌, ℕ, List, [], ◌∷◌, ◌++◌, length, set, slice_get, Option, Some, None, refl, sym, ap, ◌∙◌, subst, inl, inr, arith, length-set, length-append}
 use Rattle.std.proofs.lemmas.Bool.{cases_eq, true≢false}
-use Rattle.mc_model_machine.specs.declared.instruction.Ins.{Ins}
-use Rattle.mc_model_stack.specs.StackRows.{counts}
-use Rattle.mc_model_stack.specs.StackShape.{Routine, Main, At, Fact, fact, Stands, look, Reached}
+use Rattle.model_machine.specs.declared.instruction.Ins.{Ins}
+use Rattle.model_stack.specs.StackRows.{counts}
+use Rattle.model_stack.specs.StackShape.{Routine, Main, At, Fact, fact, Stands, look, Reached}
 use Rattle.mc_check.specs.declared.table.Entry.{Entry}
 use Rattle.mc_check.specs.declared.shape.Counts.{Counts as Pair}
 use Rattle.mc_check.specs.Table.{fact_of, IsIn, IsGoodFact, IsSoundTable}

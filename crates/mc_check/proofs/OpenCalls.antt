@@ -2,12 +2,12 @@
 -- have bytes spliced in.
 use Rattle.std.proofs.Common.{◌≡◌, ℕ, ◌+◌, ◌-◌, ◌≤◌, ◌<◌, true, List, ◌++◌, length, take, drop, Some, refl, sym, ap, ◌∙◌, arith}
 use Rattle.std.proofs.lemmas.List.{length-take-le, take-take, drop-take, drop-drop, take_at, drop_at, append_assoc}
-use Rattle.mc_model_machine.specs.declared.instruction.Ins.{Ins}
-use Rattle.mc_model_machine.specs.declared.instruction.Ins.TheVariants as ins
-use Rattle.mc_model_device.specs.Bytes.{bytes2, num, splice}
-use Rattle.mc_model_machine.specs.Frame.{Frame, floor}
-use Rattle.mc_model_stack.specs.StackRows.{call_target, is_call}
-use Rattle.mc_model_stack.specs.StackShape.{Routine, fact, Reached, Depth, main, called}
+use Rattle.model_machine.specs.declared.instruction.Ins.{Ins}
+use Rattle.model_machine.specs.declared.instruction.Ins.TheVariants as ins
+use Rattle.model_device.specs.Bytes.{bytes2, num, splice}
+use Rattle.model_machine.specs.Frame.{Frame, floor}
+use Rattle.model_stack.specs.StackRows.{call_target, is_call}
+use Rattle.model_stack.specs.StackShape.{Routine, fact, Reached, Depth, main, called}
 use Rattle.mc_check.proofs.FactLooks.{fine}
 use Rattle.mc_check.specs.Standing.{StandsAt, OpenCalls, none, call, calls_of}
 

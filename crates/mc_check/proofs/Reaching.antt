@@ -1,6 +1,6 @@
 -- The facts that are reached if a fact is.
 use Rattle.std.proofs.Common.{ℕ, List}
-use Rattle.mc_model_stack.specs.StackShape.{Routine, Main, At, Fact, fact, Reached}
+use Rattle.model_stack.specs.StackShape.{Routine, Main, At, Fact, fact, Reached}
 
 -- the routine begins at its own place
 abbrev pub RoutineEntered : List ℕ → Routine → Type 0

@@ -2,7 +2,7 @@
 use Rattle.std.proofs.Common.{◌≡◌, ℕ, ◌+◌, ◌≤◌, List, length, Option, Some, None, refl, sym, ap, subst, ◌∙◌, arith}
 use Rattle.std.specs.Prelude.{slice_get}
 use Rattle.std.proofs.lemmas.Option.{slice_get_within}
-use Rattle.mc_model_stack.specs.StackShape.{Routine, Main, At}
+use Rattle.model_stack.specs.StackShape.{Routine, Main, At}
 use Rattle.mc_check.specs.Table.{routine_of}
 use Rattle.mc_check.specs.declared.calls.Call.{Call}
 use Rattle.mc_check.specs.declared.table.Routine.{Routine as Owner}

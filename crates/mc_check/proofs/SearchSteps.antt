@@ -6,7 +6,7 @@ use Rattle.std.proofs.lemmas.Bool.{cases_eq}
 use Rattle.std.proofs.lemmas.List.{length-set, length-append, length-take}
 use Rattle.std.proofs.lemmas.List.Sums.{sum_by-set}
 use Rattle.std.proofs.lemmas.Option.{slice_get-get_or, slice_get_within, get_or_from_slice_get, same_Some}
-use Rattle.mc_model_stack.specs.StackShape.{At}
+use Rattle.model_stack.specs.StackShape.{At}
 use Rattle.mc_check.specs.Table.{routine_of}
 use Rattle.mc_check.specs.declared.calls.Call.{Call}
 use Rattle.mc_check.specs.declared.table.Routine.{Routine as Owner}
@@ -20,7 +20,7 @@ use Rattle.mc_check.specs.Searching.{CallReports, Answers, is_unseen, count_of_u
 use Rattle.mc_check.proofs.ListPlaces.{get_set_same, get_set_other, get_push_before, get_push_last, get_push, before, last, get_take, take_get}
 use Rattle.mc_check.proofs.CallReporting.{called_is_inside, caller_is_inside}
 use Rattle.mc_check.proofs.ReportedBases.{reported_unseen, reported_open, reported_bound, base_found}
-use Rattle.mc_model_device.specs.Limits.{most_code}
+use Rattle.model_device.specs.Limits.{most_code}
 
 -- ---- one change of a state
 

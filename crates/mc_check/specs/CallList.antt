@@ -1,10 +1,10 @@
 -- The calls between the routines of code as a list, and the bases by that list.
 use Rattle.std.specs.Prelude.{◌≡◌, ◌<◌, ◌≤◌, ◌+◌, ℕ, List, length, slice_get, slice_index, Option, Some, None, Result, Ok, Err}
-use Rattle.mc_model_machine.specs.declared.instruction.Ins.{Ins}
-use Rattle.mc_model_machine.specs.declared.instruction.DecodeFault.{DecodeFault}
-use Rattle.mc_model_text.specs.declared.checker.CheckCause.TheVariants.{Recursive}
-use Rattle.mc_model_stack.specs.StackRows.{call_target}
-use Rattle.mc_model_stack.specs.StackShape.{Routine, Main, At, fact, Reached, IsAt, Calls}
+use Rattle.model_machine.specs.declared.instruction.Ins.{Ins}
+use Rattle.model_machine.specs.declared.instruction.DecodeFault.{DecodeFault}
+use Rattle.model_text.specs.declared.checker.CheckCause.TheVariants.{Recursive}
+use Rattle.model_stack.specs.StackRows.{call_target}
+use Rattle.model_stack.specs.StackShape.{Routine, Main, At, fact, Reached, IsAt, Calls}
 use Rattle.mc_check.specs.Table.{routine_of, IsGoodFact}
 use Rattle.mc_check.specs.declared.calls.Call.{Call}
 use Rattle.mc_check.specs.declared.table.Entry.{Entry}

@@ -1,6 +1,6 @@
 -- A search along calls, from routines to their callers: the bases that it found, and the routines that are open.
 use Rattle.std.specs.Prelude.{◌≡◌, ◌<◌, ◌≤◌, ◌+◌, ◌-◌, ◌*◌, ℕ, Bool, true, false, List, length, slice_get, count_by, Option, Some, None}
-use Rattle.mc_model_stack.specs.StackShape.{At}
+use Rattle.model_stack.specs.StackShape.{At}
 use Rattle.mc_check.specs.CallList.{IsCalled, EntersIn, IsBaseIn}
 use Rattle.mc_check.specs.declared.calls.Call.{Call}
 use Rattle.mc_check.specs.declared.table.Routine.{Routine as Owner}

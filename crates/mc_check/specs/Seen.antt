@@ -1,11 +1,11 @@
 -- The properties of an instruction in the code, as those of the definition.
 use Rattle.std.specs.Prelude.{ℕ, Result, Ok, Err}
-use Rattle.mc_model_text.specs.declared.checker.CheckCause.{CheckCause}
-use Rattle.mc_model_text.specs.declared.checker.CheckCause.TheVariants.{Undefined, Past}
-use Rattle.mc_model_machine.specs.declared.instruction.DecodeFault.{DecodeFault}
-use Rattle.mc_model_machine.specs.declared.instruction.DecodeFault.TheVariants as fault
-use Rattle.mc_model_stack.specs.StackRows as shape
-use Rattle.mc_model_stack.specs.StackShape.{FactLook, Bad, Stands}
+use Rattle.model_text.specs.declared.checker.CheckCause.{CheckCause}
+use Rattle.model_text.specs.declared.checker.CheckCause.TheVariants.{Undefined, Past}
+use Rattle.model_machine.specs.declared.instruction.DecodeFault.{DecodeFault}
+use Rattle.model_machine.specs.declared.instruction.DecodeFault.TheVariants as fault
+use Rattle.model_stack.specs.StackRows as shape
+use Rattle.model_stack.specs.StackShape.{FactLook, Bad, Stands}
 use Rattle.mc_check.specs.declared.shape.Counts.{Counts}
 use Rattle.mc_check.specs.declared.shape.Seen.{Seen}
 use Rattle.mc_check.specs.declared.uses.Uses.{Uses}

@@ -1,10 +1,10 @@
 -- A frame that runs accepted code: its place and its stack, and its open calls.
 use Rattle.std.specs.Prelude.{◌≡◌, ◌≤◌, ◌+◌, ◌-◌, ℕ, List, length, take, drop, Some}
-use Rattle.mc_model_machine.specs.declared.instruction.Ins.{Ins}
-use Rattle.mc_model_device.specs.Bytes.{bytes2}
-use Rattle.mc_model_machine.specs.Frame.{Frame, floor, dynamic_base}
-use Rattle.mc_model_stack.specs.StackRows.{call_target}
-use Rattle.mc_model_stack.specs.StackShape.{Routine, Main, At, fact, Reached, Gives}
+use Rattle.model_machine.specs.declared.instruction.Ins.{Ins}
+use Rattle.model_device.specs.Bytes.{bytes2}
+use Rattle.model_machine.specs.Frame.{Frame, floor, dynamic_base}
+use Rattle.model_stack.specs.StackRows.{call_target}
+use Rattle.model_stack.specs.StackShape.{Routine, Main, At, fact, Reached, Gives}
 
 -- a frame with `size` session bytes, whose DT is `height` bytes above LB, and LB `base` bytes above the floor
 pub record StandsAt (len size base height : ℕ) (f : Frame) : Type 0 where

@@ -1,6 +1,6 @@
 -- The meaning of a verdict of the checker, for code and for every run of it.
 use Rattle.std.specs.Prelude.{ℕ, List, ⊤}
-use Rattle.mc_model_stack.specs.StackShape.{Accepts, Refuses}
+use Rattle.model_stack.specs.StackShape.{Accepts, Refuses}
 use Rattle.mc_check.specs.declared.verdict.Verdict.{Verdict}
 use Rattle.mc_check.specs.declared.verdict.Verdict.TheVariants.{Accept, Refuse}
 use Rattle.mc_check.specs.Checked.{IsChecked}

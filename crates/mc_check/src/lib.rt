@@ -18,7 +18,7 @@ mod verdict;
 mod writing;
 
 pub use laws::checked_plays;
-pub use mc_model_text::CheckCause;
+pub use model_text::CheckCause;
 pub use shape::{
     Counts, Seen, call_target, goes_on, height_after, is_call, is_conditional, jump_target, look,
     return_counts,

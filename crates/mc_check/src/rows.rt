@@ -1,7 +1,7 @@
 // Code whose verdict is known.
 use crate::verdict::{Verdict, check};
 use mc_base::{MOST_CODE, NoMemory};
-use mc_model_text::CheckCause;
+use model_text::CheckCause;
 use std::alloc::Global;
 use std::test::Fail;
 

@@ -1,10 +1,10 @@
 // The places that an instruction goes to, and the rules that a fact may break by itself.
 ghost use Rattle.std.specs.Prelude.{◌≡◌, ◌≤◌, ◌==◌, ◌&&◌, if◌then◌else◌, IfOk, is_some, length, option_map, option_and_then};
-ghost use Rattle.mc_model_device.specs.Limits.{most_code};
-ghost use Rattle.mc_model_machine.specs.Code.{Shaped};
-ghost use Rattle.mc_model_machine.specs.Frame as frame;
-ghost use Rattle.mc_model_stack.specs.StackRows as shape;
-ghost use Rattle.mc_model_stack.specs.StackShape.{is_main, look, fact_look};
+ghost use Rattle.model_device.specs.Limits.{most_code};
+ghost use Rattle.model_machine.specs.Code.{Shaped};
+ghost use Rattle.model_machine.specs.Frame as frame;
+ghost use Rattle.model_stack.specs.StackRows as shape;
+ghost use Rattle.model_stack.specs.StackShape.{is_main, look, fact_look};
 ghost use Rattle.mc_check.specs.Seen.{pair_of, cause_of, fact_look_of};
 ghost use Rattle.mc_check.specs.Table.{fact_of, routine_of};
 
@@ -13,8 +13,8 @@ pub use crate::uses::height_after;
 use crate::uses::{always_abends, need};
 pub use crate::writing::is_plain;
 use mc_isa::decode;
-use mc_model_machine::{DecodeFault, Ins};
-use mc_model_text::CheckCause;
+use model_machine::{DecodeFault, Ins};
+use model_text::CheckCause;
 
 // The condition of a jump or call that always goes.
 const ALWAYS: u8 = 7;
@@ -183,7 +183,7 @@ fn looked_at(len: usize, entry: Entry, ins: Ins, next: u16) -> Result<Seen, Chec
 
 /// Returns the instruction of a fact and the place after it, or the first rule that is broken there by the
 /// fact alone.
-#[tactic(auto, unfolding(mc_model_stack::specs::StackShape::look))]
+#[tactic(auto, unfolding(model_stack::specs::StackShape::look))]
 pub fn look(code: &[u8], place: u16, entry: Entry) -> Result<Seen, CheckCause>
     requires high { length code.now ≤ most_code }
     ensures seen { fact_look_of result ≡ look code.now (fact_of place entry) }

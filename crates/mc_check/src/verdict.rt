@@ -1,6 +1,6 @@
 // The verdict on code.
 ghost use Rattle.std.specs.Prelude.{◌≤◌, length, IfOk, IfErr};
-ghost use Rattle.mc_model_device.specs.Limits.{most_code};
+ghost use Rattle.model_device.specs.Limits.{most_code};
 ghost use Rattle.mc_check.specs.Verdicts.{IsVerdictOf, KeepsTo};
 ghost use Rattle.mc_check.specs.Table.{IsFaultDue};
 
@@ -9,7 +9,7 @@ use crate::closing::close;
 use crate::judging::judge;
 use crate::table::Fault;
 use mc_base::NoMemory;
-use mc_model_text::CheckCause;
+use model_text::CheckCause;
 use std::alloc::Global;
 
 /// A verdict on code: the most bytes of stack that it takes, or the place and cause of a rule that it breaks.

@@ -3,12 +3,12 @@ use Rattle.std.proofs.Common.{◌≡◌, ℕ, zero, suc, ◌<◌, Bool, true, fa
 use Rattle.std.specs.Prelude.{ok_or}
 use Rattle.std.specs.BTreeMap.{BTreeMap}
 use Rattle.std.specs.List.{AllByRecursion}
-use Rattle.mc_model_device.specs.Bytes.{lookup}
-use Rattle.mc_model_text.specs.Text.{◌>>=◌, ok_as, err_as, begins}
-use Rattle.mc_model_play.specs.declared.deck.DeckCause.{DeckCause}
-use Rattle.mc_model_play.specs.declared.deck.DeckCause.TheVariants.{BadLine}
-use Rattle.mc_model_play.specs.DeckGrammar
-use Rattle.mc_model_play.specs.DeckGrammar.{DeckLine, Context, Stated, Says, Opens, LineTurn, Between, between, turn_of, Word, FormatWord, PowerWord, UnitWord, AppWord, LoadWord, SelectWord, DeleteWord, DumpWord, ApduWord, BudgetWord, CutWord, FailWord, PokeWord, statement_of, deck_words, with_unit}
+use Rattle.model_device.specs.Bytes.{lookup}
+use Rattle.model_text.specs.Text.{◌>>=◌, ok_as, err_as, begins}
+use Rattle.model_play.specs.declared.deck.DeckCause.{DeckCause}
+use Rattle.model_play.specs.declared.deck.DeckCause.TheVariants.{BadLine}
+use Rattle.model_play.specs.DeckGrammar
+use Rattle.model_play.specs.DeckGrammar.{DeckLine, Context, Stated, Says, Opens, LineTurn, Between, between, turn_of, Word, FormatWord, PowerWord, UnitWord, AppWord, LoadWord, SelectWord, DeleteWord, DumpWord, ApduWord, BudgetWord, CutWord, FailWord, PokeWord, statement_of, deck_words, with_unit}
 use Rattle.mc_deck.specs.declared.unit.OwnedUnit.{OwnedUnit}
 use Rattle.mc_deck.specs.declared.line.OwnedLine.{OwnedLine}
 use Rattle.mc_deck.specs.Lines.{grammar_line, said_lines, unit_at, owned_parts, is_powered_after_line, UnitWithin, GoodLine, GoodUnit, Timely, OnTime, AreDeck}

@@ -1,13 +1,13 @@
 -- Statements by their words and fields.
 use Rattle.std.proofs.Common.{◌≡◌, ℕ, Bool, true, false, cond, List, [], ◌∷◌, ◌++◌, Option, Some, None, Ok, Err, refl, sym, ap, ◌∙◌}
 use Rattle.std.specs.Prelude.{bytes_eq, option_map}
-use Rattle.mc_model_device.specs.Bytes.{lookup, or_else}
-use Rattle.mc_model_text.specs.Text.{◌>>=◌, err_as}
-use Rattle.mc_model_card.specs.Units.{unit_read}
-use Rattle.mc_model_play.specs.declared.deck.DeckCause.TheVariants as causes
-use Rattle.mc_model_play.specs.declared.deck.DeckCause.TheVariants.{BadLine}
+use Rattle.model_device.specs.Bytes.{lookup, or_else}
+use Rattle.model_text.specs.Text.{◌>>=◌, err_as}
+use Rattle.model_card.specs.Units.{unit_read}
+use Rattle.model_play.specs.declared.deck.DeckCause.TheVariants as causes
+use Rattle.model_play.specs.declared.deck.DeckCause.TheVariants.{BadLine}
 use Rattle.mc_asm.specs.Parts.{pair_of}
-use Rattle.mc_model_play.specs.DeckGrammar.{deck_words, Word, UnitWord, Context, Says, Named, with_unit, statement_of, name_field, hex_field, new_name}
+use Rattle.model_play.specs.DeckGrammar.{deck_words, Word, UnitWord, Context, Says, Named, with_unit, statement_of, name_field, hex_field, new_name}
 use Rattle.mc_deck.specs.declared.statement.Keyword.{Keyword}
 use Rattle.mc_deck.specs.Statements.{first_words, second_words, keyword_of}
 

@@ -1,13 +1,13 @@
 -- Turns: a line between statements, and a line of a section.
 use Rattle.std.proofs.Common.{◌≡◌, ◌≢◌, ◌≤◌, Bor, arith, ℕ, ◌+◌, append_assoc, Bool, true, false, List, [], ◌∷◌, ◌++◌, Option, Some, None, Result, Ok, Err, append-nil, refl, sym, ap, subst, ◌∙◌}
 use Rattle.std.specs.Prelude.{⊤, ◌==◌, option_map, MatchOption, MatchResult, IfOk, IfErr}
-use Rattle.mc_model_text.specs.Text.{◌>>=◌, ok_as, fields, lines, with_numbers}
-use Rattle.mc_model_card.specs.Units.{UnitParts}
+use Rattle.model_text.specs.Text.{◌>>=◌, ok_as, fields, lines, with_numbers}
+use Rattle.model_card.specs.Units.{UnitParts}
 use Rattle.std.specs.BTreeMap.{BTreeMap}
-use Rattle.mc_model_play.specs.declared.deck.DeckCause.{DeckCause}
-use Rattle.mc_model_play.specs.declared.deck.DeckCause.TheVariants.{NoEnd}
-use Rattle.mc_model_play.specs.DeckGrammar
-use Rattle.mc_model_play.specs.DeckGrammar.{DeckLine, Context, LineTurn, Mode, deck_lines, lines_at_end, turn_at, Between, Within, between, within, turn_in, turn_of, is_end, section_unit, with_unit, Named}
+use Rattle.model_play.specs.declared.deck.DeckCause.{DeckCause}
+use Rattle.model_play.specs.declared.deck.DeckCause.TheVariants.{NoEnd}
+use Rattle.model_play.specs.DeckGrammar
+use Rattle.model_play.specs.DeckGrammar.{DeckLine, Context, LineTurn, Mode, deck_lines, lines_at_end, turn_at, Between, Within, between, within, turn_in, turn_of, is_end, section_unit, with_unit, Named}
 use Rattle.mc_deck.specs.declared.refusal.DeckRefusal.{DeckRefusal}
 use Rattle.mc_deck.specs.declared.refusal.DeckRefusal.TheVariants.{At, NoMemory}
 use Rattle.mc_deck.specs.declared.statement.Statement.{Statement}

@@ -1,8 +1,8 @@
 -- The lines of a deck, and what holds of every deck.
 use Rattle.std.specs.Prelude.{ℕ, List, length}
 use Rattle.std.specs.List.{AllByRecursion}
-use Rattle.mc_model_play.specs.DeckGrammar.{DeckLine}
-use Rattle.mc_model_play.specs.ReadyAgain.{IsLine}
+use Rattle.model_play.specs.DeckGrammar.{DeckLine}
+use Rattle.model_play.specs.ReadyAgain.{IsLine}
 use Rattle.mc_deck.specs.declared.deck.Deck.TheInside.{Inside as DeckFields}
 use Rattle.mc_deck.specs.Lines.{said_lines, UnitWithin, AreDeck}
 

@@ -1,6 +1,6 @@
 -- The generated deck as the code has it.
 use Rattle.std.specs.Prelude.{◌≡◌, List}
-use Rattle.mc_model_play.specs.Generator.{counter, purse, relay}
+use Rattle.model_play.specs.Generator.{counter, purse, relay}
 use Rattle.mc_deck.specs.declared.unit.OwnedUnit.{OwnedUnit}
 use Rattle.mc_deck.specs.Lines.{unit_at}
 

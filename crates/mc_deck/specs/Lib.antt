@@ -1,5 +1,5 @@
-pub use Rattle.mc_model_play.specs.DeckGrammar
-pub use Rattle.mc_model_play.specs.Generator
+pub use Rattle.model_play.specs.DeckGrammar
+pub use Rattle.model_play.specs.Generator
 pub mod Refused
 pub mod Lines
 pub mod Decks

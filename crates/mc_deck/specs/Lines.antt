@@ -1,10 +1,10 @@
 -- The lines of a deck as the code has them, and the lines of the grammar that they are.
 use Rattle.std.specs.Prelude.{◌≡◌, ℕ, ◌<◌, ◌≤◌, Bool, true, false, List, [], ◌∷◌, length, map, slice_index_or, Ok}
 use Rattle.std.specs.List.{AllByRecursion}
-use Rattle.mc_model_device.specs.Bytes.{zeros}
-use Rattle.mc_model_card.specs.Units.{UnitParts, FitsUnit, name_of}
-use Rattle.mc_model_play.specs.DeckGrammar
-use Rattle.mc_model_play.specs.DeckGrammar.{DeckLine}
+use Rattle.model_device.specs.Bytes.{zeros}
+use Rattle.model_card.specs.Units.{UnitParts, FitsUnit, name_of}
+use Rattle.model_play.specs.DeckGrammar
+use Rattle.model_play.specs.DeckGrammar.{DeckLine}
 use Rattle.mc_unit.specs.Parts.{parts_of}
 use Rattle.mc_deck.specs.declared.unit.OwnedUnit.{OwnedUnit}
 use Rattle.mc_deck.specs.declared.line.Line.{Line}

@@ -1,6 +1,6 @@
 -- Refusals of a text.
 use Rattle.std.specs.Prelude.{◌≡◌, ℕ, Result, Err, ⊤}
-use Rattle.mc_model_play.specs.declared.deck.DeckCause.{DeckCause}
+use Rattle.model_play.specs.declared.deck.DeckCause.{DeckCause}
 use Rattle.mc_deck.specs.declared.refusal.DeckRefusal.{DeckRefusal}
 use Rattle.mc_deck.specs.declared.refusal.DeckRefusal
 use Rattle.mc_deck.specs.declared.refusal.Fault.{Fault}

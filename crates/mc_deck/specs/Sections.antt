@@ -1,12 +1,12 @@
 -- Sections as the code has them, and the sections of the grammar that they are.
 use Rattle.std.specs.Prelude.{ℕ, List, Result}
-use Rattle.mc_model_text.specs.Text.{err_as}
-use Rattle.mc_model_card.specs.Units.{UnitParts}
-use Rattle.mc_model_play.specs.DeckGrammar
-use Rattle.mc_model_text.specs.Assembly.{assembled_lines}
-use Rattle.mc_model_play.specs.DeckGrammar.{section_program, unit_within}
-use Rattle.mc_model_play.specs.declared.deck.DeckCause.{DeckCause}
-use Rattle.mc_model_play.specs.declared.deck.DeckCause.TheVariants.{Asm, Unit}
+use Rattle.model_text.specs.Text.{err_as}
+use Rattle.model_card.specs.Units.{UnitParts}
+use Rattle.model_play.specs.DeckGrammar
+use Rattle.model_text.specs.Assembly.{assembled_lines}
+use Rattle.model_play.specs.DeckGrammar.{section_program, unit_within}
+use Rattle.model_play.specs.declared.deck.DeckCause.{DeckCause}
+use Rattle.model_play.specs.declared.deck.DeckCause.TheVariants.{Asm, Unit}
 use Rattle.mc_asm.specs.Passes.{numbered_lines}
 use Rattle.mc_deck.specs.declared.section.Section.{Section}
 

@@ -1,7 +1,7 @@
 -- Statements as the code has them, and the statements of the grammar that they are.
 use Rattle.std.specs.Prelude.{◌≡◌, ℕ, ◌<◌, ◌≤◌, Bool, true, false, List, [], length, take, drop}
-use Rattle.mc_model_play.specs.DeckGrammar
-use Rattle.mc_model_play.specs.DeckGrammar.{Context, Stated, Says, Opens, with_unit}
+use Rattle.model_play.specs.DeckGrammar
+use Rattle.model_play.specs.DeckGrammar.{Context, Stated, Says, Opens, with_unit}
 use Rattle.mc_deck.specs.declared.unit.OwnedUnit.{OwnedUnit}
 use Rattle.mc_deck.specs.declared.line.OwnedLine.{OwnedLine}
 use Rattle.mc_deck.specs.declared.names.Names.{Names}

@@ -12,7 +12,7 @@ pub struct Deck {
 
 impl Model for Deck {
     ghost use Rattle.std.specs.Prelude.{ℕ, List};
-    ghost use Rattle.mc_model_play.specs.DeckGrammar.{DeckLine};
+    ghost use Rattle.model_play.specs.DeckGrammar.{DeckLine};
 
     ghost Value = { List (ℕ × DeckLine) };
 
@@ -26,7 +26,7 @@ impl Model for Deck {
 impl Deck {
     ghost use Rattle.std.specs.Prelude.{◌≡◌, ◌<◌, length, slice_get, Some};
     ghost use Rattle.std.specs.List.{AllByRecursion};
-    ghost use Rattle.mc_model_play.specs.ReadyAgain.{IsLine};
+    ghost use Rattle.model_play.specs.ReadyAgain.{IsLine};
     ghost use Rattle.mc_deck.specs.Lines.{line_of, AreDeck, GoodLine};
 
     /// Returns the number of lines of the deck.

@@ -1,14 +1,14 @@
 // The kinds of fields.
 ghost use Rattle.std.specs.Prelude.{◌≡◌, ◌+◌, ◌*◌, ◌<◌, ◌≤◌, ◌/◌, ◌^◌, length, Ok, Err, IfOk, IfErr, OnOk, MatchResult, option_map};
-ghost use Rattle.mc_model_play.specs.DeckGrammar.{aid_field, bytes_field, fill_field, hex_field, name_field, number_field};
+ghost use Rattle.model_play.specs.DeckGrammar.{aid_field, bytes_field, fill_field, hex_field, name_field, number_field};
 ghost use Rattle.mc_deck.specs.Refused.{Faulty};
 
 use crate::bytes::ShortBytes;
 use crate::refusal::Fault;
 use hex::FromHexError;
 use mc_base::{Aid, Word};
-use mc_model_play::DeckCause;
 use mc_text::{decimal_number, has_name_characters};
+use model_play::DeckCause;
 use std::alloc::Global;
 
 /// The most digits of a short command.

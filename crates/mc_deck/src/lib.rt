@@ -20,7 +20,7 @@ pub use deck::Deck;
 pub use field::number_field;
 pub use generator::generate;
 pub use line::Line;
-pub use mc_model_play::DeckCause;
+pub use model_play::DeckCause;
 pub use reading::read_deck;
 pub use refusal::{DeckRefusal, Fault};
 pub use section::{ends_section, has_data};

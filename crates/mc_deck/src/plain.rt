@@ -1,7 +1,7 @@
 // Commands as nearly all decks write them.
 ghost use Rattle.std.specs.Prelude.{◌≡◌, ◌<◌, ◌∷◌, ℕ, length, Ok, Some, IfSome};
-ghost use Rattle.mc_model_text.specs.Text.{fields};
-ghost use Rattle.mc_model_play.specs.DeckGrammar.{Sent, Apdu, Context, Says};
+ghost use Rattle.model_text.specs.Text.{fields};
+ghost use Rattle.model_play.specs.DeckGrammar.{Sent, Apdu, Context, Says};
 ghost use Rattle.mc_deck.specs.Readers.{line_stated};
 
 use crate::bytes::ShortBytes;

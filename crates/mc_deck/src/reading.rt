@@ -1,9 +1,9 @@
 // Decks, read line by line.
 ghost use Rattle.std.specs.Prelude.{◌≡◌, ◌≢◌, ◌==◌, ◌≤◌, ◌<◌, ◌++◌, ◌∷◌, [], ⊤, true, length, option_map, Ok, Err, Some, None, IfOk, IfErr, OnOk, MatchOption, MatchResult};
 ghost use Rattle.std.specs.List.{AllByRecursion};
-ghost use Rattle.mc_model_text.specs.Text.{begins, fields};
-ghost use Rattle.mc_model_play.specs.DeckGrammar.{between, deck_read, turn_at, turn_in, turn_of, with_unit, Context, Named, Within};
-ghost use Rattle.mc_model_play.specs.ReadyAgain.{IsLine};
+ghost use Rattle.model_text.specs.Text.{begins, fields};
+ghost use Rattle.model_play.specs.DeckGrammar.{between, deck_read, turn_at, turn_in, turn_of, with_unit, Context, Named, Within};
+ghost use Rattle.model_play.specs.ReadyAgain.{IsLine};
 ghost use Rattle.mc_asm.specs.Items.{texts};
 ghost use Rattle.mc_asm.specs.Passes.{numbered_lines};
 ghost use Rattle.mc_deck.specs.Refused.{DeckRefuses};
@@ -23,8 +23,8 @@ use crate::statement::{Statement, keyword_named, read_statement};
 use crate::text::fields;
 use crate::unit::OwnedUnit;
 use mc_asm::NumberedLine;
-use mc_model_play::DeckCause;
 use mc_text::next_line;
+use model_play::DeckCause;
 use std::alloc::Global;
 
 // The number of the first line that no deck has.
@@ -302,7 +302,7 @@ fn deck_of(reader: Reader<'_>) -> Deck
 ///
 /// Returns `At` with the number of the first refused line, counted from 1, and its cause, or `NoMemory` if
 /// out of memory.
-#[tactic(auto, unfolding(mc_model_play::specs::DeckGrammar::deck_read))]
+#[tactic(auto, unfolding(model_play::specs::DeckGrammar::deck_read))]
 pub fn read_deck(alloc: Global, text: &[u8]) -> Result<Deck, DeckRefusal>
     ensures lines { IfOk result (λ d. deck_read text.now ≡ Ok d) }
     ensures refused { IfErr result (λ e. DeckRefuses (deck_read text.now) e) }

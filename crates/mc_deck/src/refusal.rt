@@ -1,4 +1,4 @@
-use mc_model_play::DeckCause;
+use model_play::DeckCause;
 use std::alloc::AllocError;
 use thiserror::Error;
 

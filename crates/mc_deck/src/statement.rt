@@ -1,11 +1,11 @@
 // Statements: a line by its word and its fields.
 ghost use Rattle.std.specs.Prelude.{◌≡◌, ◌<◌, ◌+◌, ℕ, Bool, false, List, [], ◌∷◌, length, option_map, Ok, Err, IfOk, MatchResult};
 ghost use Rattle.std.specs.List.{AllByRecursion};
-ghost use Rattle.mc_model_device.specs.Bytes.{lookup};
-ghost use Rattle.mc_model_text.specs.Text.{err_as};
-ghost use Rattle.mc_model_card.specs.Units.{unit_read};
-ghost use Rattle.mc_model_play.specs.declared.deck.DeckCause.TheVariants.{Unit};
-ghost use Rattle.mc_model_play.specs.DeckGrammar.{deck_words, new_name, statement_of, Context, FormatWord, PowerWord, UnitWord, AppWord, LoadWord, SelectWord, DeleteWord, DumpWord, ApduWord, BudgetWord, CutWord, FailWord, PokeWord};
+ghost use Rattle.model_device.specs.Bytes.{lookup};
+ghost use Rattle.model_text.specs.Text.{err_as};
+ghost use Rattle.model_card.specs.Units.{unit_read};
+ghost use Rattle.model_play.specs.declared.deck.DeckCause.TheVariants.{Unit};
+ghost use Rattle.model_play.specs.DeckGrammar.{deck_words, new_name, statement_of, Context, FormatWord, PowerWord, UnitWord, AppWord, LoadWord, SelectWord, DeleteWord, DumpWord, ApduWord, BudgetWord, CutWord, FailWord, PokeWord};
 ghost use Rattle.mc_asm.specs.Items.{texts};
 ghost use Rattle.mc_asm.specs.Parts.{pair_of};
 ghost use Rattle.mc_deck.specs.Refused.{Faulty};
@@ -22,8 +22,8 @@ use crate::names::{Names, place_of};
 use crate::refusal::Fault;
 use crate::unit::{OwnedUnit, copied};
 use mc_base::Aid;
-use mc_model_play::DeckCause;
 use mc_unit::read_unit;
+use model_play::DeckCause;
 use std::alloc::Global;
 
 /// The word of a statement.
@@ -96,7 +96,7 @@ pub fn keyword_named(word: &[u8]) -> Option<Keyword>
 }
 
 // Reads `format`, which is valid only before the first `power`.
-#[tactic(auto, unfolding(mc_model_play::specs::DeckGrammar::statement_of))]
+#[tactic(auto, unfolding(model_play::specs::DeckGrammar::statement_of))]
 fn format_statement<'a>(powered: bool, fields: &[&'a [u8]]) -> Result<Statement<'a>, Fault>
     ensures value { (us : List OwnedUnit) (c : Context) (n : ℕ) → powered ≡ c.powered
         → MatchResult result (λ s. statement_of c n FormatWord (texts fields.now) ≡ Ok (grammar_statement us c n s))
@@ -115,7 +115,7 @@ fn format_statement<'a>(powered: bool, fields: &[&'a [u8]]) -> Result<Statement<
 }
 
 // Reads `power`.
-#[tactic(auto, unfolding(mc_model_play::specs::DeckGrammar::statement_of))]
+#[tactic(auto, unfolding(model_play::specs::DeckGrammar::statement_of))]
 fn power_statement<'a>(powered: bool, fields: &[&'a [u8]]) -> Result<Statement<'a>, Fault>
     ensures value { (us : List OwnedUnit) (c : Context) (n : ℕ)
         → MatchResult result (λ s. statement_of c n PowerWord (texts fields.now) ≡ Ok (grammar_statement us c n s))
@@ -203,7 +203,7 @@ fn new_name<'a>(names: &Names<'a>, name: &'a [u8]) -> Result<(), DeckCause>
 }
 
 // Reads `app NAME AID`.
-#[tactic(auto, unfolding(mc_model_play::specs::DeckGrammar::statement_of))]
+#[tactic(auto, unfolding(model_play::specs::DeckGrammar::statement_of))]
 fn app_statement<'a>(
     alloc: Global,
     names: &Names<'a>,
@@ -225,7 +225,7 @@ fn app_statement<'a>(
 }
 
 // Reads `load NAME STATIC SESSION`.
-#[tactic(auto, unfolding(mc_model_play::specs::DeckGrammar::statement_of))]
+#[tactic(auto, unfolding(model_play::specs::DeckGrammar::statement_of))]
 fn load_statement<'a>(names: &Names<'a>, fields: &[&'a [u8]]) -> Result<Statement<'a>, Fault>
     ensures value { (c : Context) (n : ℕ) → AreNames names.now.places names.now.units.items c.units
         → MatchResult result
@@ -251,7 +251,7 @@ fn load_statement<'a>(names: &Names<'a>, fields: &[&'a [u8]]) -> Result<Statemen
 }
 
 // Reads `select AID`.
-#[tactic(auto, unfolding(mc_model_play::specs::DeckGrammar::statement_of))]
+#[tactic(auto, unfolding(model_play::specs::DeckGrammar::statement_of))]
 fn select_statement<'a>(alloc: Global, fields: &[&'a [u8]]) -> Result<Statement<'a>, Fault>
     ensures value { (us : List OwnedUnit) (c : Context) (n : ℕ)
         → MatchResult result (λ s. statement_of c n SelectWord (texts fields.now) ≡ Ok (grammar_statement us c n s))
@@ -265,7 +265,7 @@ fn select_statement<'a>(alloc: Global, fields: &[&'a [u8]]) -> Result<Statement<
 }
 
 // Reads `delete AID`.
-#[tactic(auto, unfolding(mc_model_play::specs::DeckGrammar::statement_of))]
+#[tactic(auto, unfolding(model_play::specs::DeckGrammar::statement_of))]
 fn delete_statement<'a>(alloc: Global, fields: &[&'a [u8]]) -> Result<Statement<'a>, Fault>
     ensures value { (us : List OwnedUnit) (c : Context) (n : ℕ)
         → MatchResult result (λ s. statement_of c n DeleteWord (texts fields.now) ≡ Ok (grammar_statement us c n s))
@@ -279,7 +279,7 @@ fn delete_statement<'a>(alloc: Global, fields: &[&'a [u8]]) -> Result<Statement<
 }
 
 // Reads `dump AID`.
-#[tactic(auto, unfolding(mc_model_play::specs::DeckGrammar::statement_of))]
+#[tactic(auto, unfolding(model_play::specs::DeckGrammar::statement_of))]
 fn dump_statement<'a>(alloc: Global, fields: &[&'a [u8]]) -> Result<Statement<'a>, Fault>
     ensures value { (us : List OwnedUnit) (c : Context) (n : ℕ)
         → MatchResult result (λ s. statement_of c n DumpWord (texts fields.now) ≡ Ok (grammar_statement us c n s))
@@ -293,7 +293,7 @@ fn dump_statement<'a>(alloc: Global, fields: &[&'a [u8]]) -> Result<Statement<'a
 }
 
 // Reads `apdu HEX`. A field has a digit, so there is a byte.
-#[tactic(auto, unfolding(mc_model_play::specs::DeckGrammar::statement_of))]
+#[tactic(auto, unfolding(model_play::specs::DeckGrammar::statement_of))]
 fn apdu_statement<'a>(alloc: Global, fields: &[&'a [u8]]) -> Result<Statement<'a>, Fault>
     requires { AllByRecursion (λ t. 0 < length t.now) fields.now }
     ensures value { (us : List OwnedUnit) (c : Context) (n : ℕ)
@@ -311,7 +311,7 @@ fn apdu_statement<'a>(alloc: Global, fields: &[&'a [u8]]) -> Result<Statement<'a
 }
 
 // Reads `budget N`.
-#[tactic(auto, unfolding(mc_model_play::specs::DeckGrammar::statement_of))]
+#[tactic(auto, unfolding(model_play::specs::DeckGrammar::statement_of))]
 fn budget_statement<'a>(fields: &[&'a [u8]]) -> Result<Statement<'a>, Fault>
     ensures value { (us : List OwnedUnit) (c : Context) (n : ℕ)
         → MatchResult result (λ s. statement_of c n BudgetWord (texts fields.now) ≡ Ok (grammar_statement us c n s))
@@ -325,7 +325,7 @@ fn budget_statement<'a>(fields: &[&'a [u8]]) -> Result<Statement<'a>, Fault>
 }
 
 // Reads `cut K FILL`.
-#[tactic(auto, unfolding(mc_model_play::specs::DeckGrammar::statement_of))]
+#[tactic(auto, unfolding(model_play::specs::DeckGrammar::statement_of))]
 fn cut_statement<'a>(alloc: Global, fields: &[&'a [u8]]) -> Result<Statement<'a>, Fault>
     ensures value { (us : List OwnedUnit) (c : Context) (n : ℕ)
         → MatchResult result (λ s. statement_of c n CutWord (texts fields.now) ≡ Ok (grammar_statement us c n s))
@@ -343,7 +343,7 @@ fn cut_statement<'a>(alloc: Global, fields: &[&'a [u8]]) -> Result<Statement<'a>
 }
 
 // Reads `fail K`.
-#[tactic(auto, unfolding(mc_model_play::specs::DeckGrammar::statement_of))]
+#[tactic(auto, unfolding(model_play::specs::DeckGrammar::statement_of))]
 fn fail_statement<'a>(fields: &[&'a [u8]]) -> Result<Statement<'a>, Fault>
     ensures value { (us : List OwnedUnit) (c : Context) (n : ℕ)
         → MatchResult result (λ s. statement_of c n FailWord (texts fields.now) ≡ Ok (grammar_statement us c n s))
@@ -357,7 +357,7 @@ fn fail_statement<'a>(fields: &[&'a [u8]]) -> Result<Statement<'a>, Fault>
 }
 
 // Reads `poke AT FILL`, which is valid only before the first `power`.
-#[tactic(auto, unfolding(mc_model_play::specs::DeckGrammar::statement_of))]
+#[tactic(auto, unfolding(model_play::specs::DeckGrammar::statement_of))]
 fn poke_statement<'a>(
     alloc: Global,
     powered: bool,

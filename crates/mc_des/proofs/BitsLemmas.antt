@@ -4,9 +4,9 @@ use Rattle.std.specs.Int.Bits.{bit_xor, xor_zero_r}
 use Rattle.std.proofs.Math.Nat.{div-div-eq-div-mul}
 use Rattle.std.proofs.lemmas.Nat.{xor_shr, xor_mod, pow-add}
 use Rattle.std.proofs.lemmas.List.{length-replicate, append-nil}
-use Rattle.mc_model_device.specs.Bytes.{zeros}
-use Rattle.mc_model_machine.specs.Modes.{bit_sum}
-use Rattle.mc_model_machine.specs.Des.{bits, pick}
+use Rattle.model_device.specs.Bytes.{zeros}
+use Rattle.model_machine.specs.Modes.{bit_sum}
+use Rattle.model_machine.specs.Des.{bits, pick}
 use Rattle.mc_des.specs.Words.{alone, key_bits}
 
 -- ---- bits of numbers

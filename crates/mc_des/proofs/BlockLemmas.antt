@@ -7,8 +7,8 @@ use Rattle.std.proofs.Math.Nat.{mul_comm, div-add-mod}
 use Rattle.std.proofs.lemmas.Nat.{and_mask, mod-pow-add}
 use Rattle.std.proofs.lemmas.Nat.Bits.{bit_at_cat_low}
 use Rattle.std.proofs.lemmas.List.{take_at, drop_at, drop_all, get_or-map, length-map}
-use Rattle.mc_model_machine.specs.Modes.{bit_sum}
-use Rattle.mc_model_machine.specs.Des.{bits, number, bits_of, bytes_of, pick, rounds, f, with_keys, des_block, initial, final}
+use Rattle.model_machine.specs.Modes.{bit_sum}
+use Rattle.model_machine.specs.Des.{bits, number, bits_of, bytes_of, pick, rounds, f, with_keys, des_block, initial, final}
 use Rattle.mc_des.specs.Words.{key_bits, block_after_rounds}
 use Rattle.mc_des.proofs.BitsLemmas.{bits_xor, bits_cat, length_bits}
 use Rattle.mc_des.proofs.CipherFunction.{or_parts}

@@ -7,10 +7,10 @@ use Rattle.std.proofs.Math.Nat.{div-div-eq-div-mul, zero-mul}
 use Rattle.std.proofs.Math.Pow.{pow_pos}
 use Rattle.std.proofs.lemmas.Nat.{xor_shr, or_block, and_mask}
 use Rattle.std.proofs.lemmas.List.{append-nil, take_at, drop_at}
-use Rattle.mc_model_device.specs.Bytes.{zeros}
-use Rattle.mc_model_machine.specs.Modes.{bit_sum}
-use Rattle.mc_model_machine.specs.Des.{bits, pick, f, through, box_at, boxes, expansion, permutation}
-use Rattle.mc_model_machine.proofs.ModesLemmas.{length_added}
+use Rattle.model_device.specs.Bytes.{zeros}
+use Rattle.model_machine.specs.Modes.{bit_sum}
+use Rattle.model_machine.specs.Des.{bits, pick, f, through, box_at, boxes, expansion, permutation}
+use Rattle.model_machine.proofs.ModesLemmas.{length_added}
 use Rattle.mc_des.specs.Words.{key_bits, box_alone}
 use Rattle.mc_des.proofs.BitsLemmas.{bits_xor, bits6_mod, pick_step}
 

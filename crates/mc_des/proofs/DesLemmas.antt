@@ -5,10 +5,10 @@ use Rattle.std.specs.Int.Bits.{bit_xor}
 use Rattle.std.proofs.Math.Nat.{sub-zero}
 use Rattle.std.proofs.lemmas.Nat.{xor_mod}
 use Rattle.std.proofs.lemmas.List.{reverse-append, length-drop, take_all, map-append}
-use Rattle.mc_model_machine.proofs.ModesLemmas.{chain_step}
-use Rattle.mc_model_machine.specs.Modes.{bit_sum, blocks_of, last_of_chain}
-use Rattle.mc_model_machine.specs.Des.{des_block, round_keys, des_encipher, des_decipher, tdes_encipher, tdes_decipher, des_signature, tdes_signature}
-use Rattle.mc_model_device.proofs.ListLemmas.{byte_xor}
+use Rattle.model_machine.proofs.ModesLemmas.{chain_step}
+use Rattle.model_machine.specs.Modes.{bit_sum, blocks_of, last_of_chain}
+use Rattle.model_machine.specs.Des.{des_block, round_keys, des_encipher, des_decipher, tdes_encipher, tdes_decipher, des_signature, tdes_signature}
+use Rattle.model_device.proofs.ListLemmas.{byte_xor}
 
 -- ---- the definitions, unfolded once
 

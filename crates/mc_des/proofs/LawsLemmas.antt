@@ -3,14 +3,14 @@ use Rattle.std.proofs.Common.{◌≡◌, inl, inr, ℕ, zero, suc, ◌+◌, ◌-
 use Rattle.std.proofs.Math.Nat.{pow-suc, one-mul, zero-mul}
 use Rattle.std.proofs.lemmas.Nat.Bits.{bit_at_cat_low, bit_at_cat_high}
 use Rattle.std.proofs.lemmas.List.{reverse-append, reverse-reverse, take_at, drop_at, take-append-drop, nil_from_length}
-use Rattle.mc_model_machine.specs.Modes.{bit_sum, AllBelow, IsBlock}
-use Rattle.mc_model_machine.specs.Des.{bits, number, bits_of, bytes_of, pick, initial, final, permutation, through, boxes, box_at, expansion, f, rounds, with_keys, des_block, round_keys, des_encipher, des_decipher, tdes_encipher, tdes_decipher}
-use Rattle.mc_model_machine.proofs.ModesLemmas.{added_back, length_added, all_below_append, all_below_take, all_below_drop, all_below_at, all_below_added, listed_from, listed}
+use Rattle.model_machine.specs.Modes.{bit_sum, AllBelow, IsBlock}
+use Rattle.model_machine.specs.Des.{bits, number, bits_of, bytes_of, pick, initial, final, permutation, through, boxes, box_at, expansion, f, rounds, with_keys, des_block, round_keys, des_encipher, des_decipher, tdes_encipher, tdes_decipher}
+use Rattle.model_machine.proofs.ModesLemmas.{added_back, length_added, all_below_append, all_below_take, all_below_drop, all_below_at, all_below_added, listed_from, listed}
 use Rattle.mc_des.proofs.BitsLemmas.{length_bits, length_pick}
 use Rattle.mc_des.proofs.BlockLemmas.{number_bits, rounds_cons, rounds_none, with_keys_open, ciphered_open, bytes_of_open, bytes_of_none, bits_of_open}
 use Rattle.mc_des.proofs.CipherFunction.{f_open}
 use Rattle.mc_des.proofs.DesLemmas.{des_encipher_open, des_decipher_open, tdes_encipher_open, tdes_decipher_open}
-use Rattle.mc_model_device.proofs.ListLemmas.{bit_cases}
+use Rattle.model_device.proofs.ListLemmas.{bit_cases}
 
 -- ---- lists of bits
 

@@ -2,7 +2,7 @@
 -- permutations between two of them are inverse.
 use Rattle.std.proofs.Common.{◌≡◌, ℕ, List, length, refl, sym, ap, ◌∙◌}
 use Rattle.std.specs.Int.{w64, to_be_bytes}
-use Rattle.mc_model_machine.specs.Des.{bits, bytes_of, pick, initial, final, with_keys, des_block}
+use Rattle.model_machine.specs.Des.{bits, bytes_of, pick, initial, final, with_keys, des_block}
 use Rattle.mc_des.specs.Words.{block_after_rounds}
 use Rattle.mc_des.proofs.BitsLemmas.{length_bits, length_pick}
 use Rattle.mc_des.proofs.BlockLemmas.{bytes_of_bits, ciphered_open}

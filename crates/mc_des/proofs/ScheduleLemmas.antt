@@ -6,8 +6,8 @@ use Rattle.std.proofs.Math.Seq.{take-suc-set}
 use Rattle.std.proofs.lemmas.Nat.{and_mask}
 use Rattle.std.proofs.lemmas.Bool.{eqb-true, or_cases}
 use Rattle.std.proofs.lemmas.List.{take_at, drop_at, drop_all, take_all, map-append, append-nil}
-use Rattle.mc_model_machine.proofs.ModesLemmas.{all_below, below_at}
-use Rattle.mc_model_machine.specs.Des.{bits, bits_of, pick, turn, choice1, choice2, shifts, schedule, round_keys}
+use Rattle.model_machine.proofs.ModesLemmas.{all_below, below_at}
+use Rattle.model_machine.specs.Des.{bits, bits_of, pick, turn, choice1, choice2, shifts, schedule, round_keys}
 use Rattle.mc_des.specs.Words.{key_bits}
 use Rattle.mc_des.specs.declared.keys.TheConstants.{SHIFTS}
 use Rattle.mc_des.proofs.BitsLemmas.{bits_cat, length_bits}

@@ -2,8 +2,8 @@
 use Rattle.std.proofs.Common.{◌≡◌, ℕ, ◌+◌, ◌*◌, ◌<◌, true, List, get_or, refl}
 use Rattle.std.specs.Prelude.{bytes_eq}
 use Rattle.std.proofs.lemmas.Slice.Eq.{bytes_eq-Decides}
-use Rattle.mc_model_machine.proofs.ModesLemmas.{all_below, below_at}
-use Rattle.mc_model_machine.specs.Des.{bits, pick, initial, final, choice1, choice2, permutation, boxes, box_at}
+use Rattle.model_machine.proofs.ModesLemmas.{all_below, below_at}
+use Rattle.model_machine.specs.Des.{bits, pick, initial, final, choice1, choice2, permutation, boxes, box_at}
 use Rattle.mc_des.specs.Words.{alone, key_bits, box_alone}
 use Rattle.mc_des.specs.declared.tables.TheConstants.{INITIAL, FINAL}
 use Rattle.mc_des.specs.declared.key_tables.TheConstants.{CHOICE1, CHOICE2}

@@ -1,7 +1,7 @@
 -- Words of the code as lists of bits.
 use Rattle.std.specs.Prelude.{ℕ, ◌-◌, ◌*◌, ◌/◌, ◌^◌, List, [], ◌++◌, take, drop, slice_index_or}
-use Rattle.mc_model_device.specs.Bytes.{zeros}
-use Rattle.mc_model_machine.specs.Des.{bits, box_at, boxes, rounds}
+use Rattle.model_device.specs.Bytes.{zeros}
+use Rattle.model_machine.specs.Des.{bits, box_at, boxes, rounds}
 
 -- n nibbles, of which the one at `place` is `four` and the others are zero
 abbrev pub alone : ℕ → ℕ → ℕ → List ℕ

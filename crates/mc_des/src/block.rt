@@ -2,7 +2,7 @@
 
 ghost use Rattle.std.specs.Prelude.{◌≡◌, length, map, reverse};
 ghost use Rattle.std.specs.Int.{w64, to_be_bytes};
-ghost use Rattle.mc_model_machine.specs.Des.{des_block};
+ghost use Rattle.model_machine.specs.Des.{des_block};
 ghost use Rattle.mc_des.specs.Words.{key_bits};
 
 use crate::permute::{final_bits, initial};

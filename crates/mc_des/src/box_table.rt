@@ -3,7 +3,7 @@
 // meaning.
 
 ghost use Rattle.std.specs.Prelude.{◌≡◌, ◌<◌};
-ghost use Rattle.mc_model_machine.specs.Des.{bits, pick, permutation};
+ghost use Rattle.model_machine.specs.Des.{bits, pick, permutation};
 ghost use Rattle.mc_des.specs.Words.{box_alone};
 
 // The permuted values of the S-boxes.

@@ -3,7 +3,7 @@
 // contract is the meaning of an entry.
 
 ghost use Rattle.std.specs.Prelude.{◌≡◌, ◌<◌};
-ghost use Rattle.mc_model_machine.specs.Des.{bits, pick, choice1, choice2};
+ghost use Rattle.model_machine.specs.Des.{bits, pick, choice1, choice2};
 ghost use Rattle.mc_des.specs.Words.{alone, key_bits};
 
 // Permuted choice 1.

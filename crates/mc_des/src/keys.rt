@@ -2,7 +2,7 @@
 
 ghost use Rattle.std.specs.Prelude.{◌≡◌, ◌⊎◌, ◌^◌, ◌<◌, map, slice_index};
 ghost use Rattle.std.specs.Int.{w64, to_be_bytes};
-ghost use Rattle.mc_model_machine.specs.Des.{bits, turn, shifts, round_keys};
+ghost use Rattle.model_machine.specs.Des.{bits, turn, shifts, round_keys};
 ghost use Rattle.mc_des.specs.Words.{key_bits};
 
 use crate::permute::{halves, round_key};

@@ -1,8 +1,8 @@
 // Laws of the ciphers, for every key and every block.
 
 ghost use Rattle.std.specs.Prelude.{◌≡◌, ℕ, List, ◌++◌, length};
-ghost use Rattle.mc_model_machine.specs.Modes.{IsBlock};
-ghost use Rattle.mc_model_machine.specs.Des.{des_encipher, des_decipher, tdes_encipher, tdes_decipher};
+ghost use Rattle.model_machine.specs.Modes.{IsBlock};
+ghost use Rattle.model_machine.specs.Des.{des_encipher, des_decipher, tdes_encipher, tdes_decipher};
 
 /// Deciphering an enciphered block yields the block, and enciphering a deciphered block too.
 pub fn des_gives_back()

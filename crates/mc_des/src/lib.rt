@@ -3,7 +3,7 @@
 //! DES and two-key triple DES (FIPS 46-3), and the last block of their CBC mode (FIPS 81).
 
 ghost use Rattle.std.specs.Prelude.{◌≡◌, ◌%◌, ◌<◌, length};
-ghost use Rattle.mc_model_machine.specs.Des.{des_encipher, des_decipher, tdes_encipher, tdes_decipher, des_signature, tdes_signature};
+ghost use Rattle.model_machine.specs.Des.{des_encipher, des_decipher, tdes_encipher, tdes_decipher, des_signature, tdes_signature};
 
 mod block;
 mod box_table;

@@ -1,7 +1,7 @@
 // The permutations of whole words, one nibble at a time.
 
 ghost use Rattle.std.specs.Prelude.{◌≡◌, ◌/◌, ◌%◌, ◌^◌, ◌<◌};
-ghost use Rattle.mc_model_machine.specs.Des.{bits, pick, initial, final, choice1, choice2};
+ghost use Rattle.model_machine.specs.Des.{bits, pick, initial, final, choice1, choice2};
 ghost use Rattle.mc_des.specs.Words.{key_bits};
 
 use crate::key_tables::{choice1_of, choice2_of};

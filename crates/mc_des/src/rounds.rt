@@ -2,7 +2,7 @@
 
 ghost use Rattle.std.specs.Prelude.{◌≡◌, ◌/◌, ◌%◌, ◌^◌, ◌<◌, map};
 ghost use Rattle.std.specs.Int.{w64, to_be_bytes};
-ghost use Rattle.mc_model_machine.specs.Des.{bits, f, des_block};
+ghost use Rattle.model_machine.specs.Des.{bits, f, des_block};
 ghost use Rattle.mc_des.specs.Words.{key_bits, block_after_rounds};
 
 use crate::box_table::boxed;

@@ -3,7 +3,7 @@
 // meaning of an entry.
 
 ghost use Rattle.std.specs.Prelude.{◌≡◌, ◌<◌};
-ghost use Rattle.mc_model_machine.specs.Des.{bits, pick, initial, final};
+ghost use Rattle.model_machine.specs.Des.{bits, pick, initial, final};
 ghost use Rattle.mc_des.specs.Words.{alone};
 
 // The initial permutation.

@@ -1,5 +1,5 @@
-pub use Rattle.mc_model_machine.specs.Code
-pub use Rattle.mc_model_text.specs.Listing
+pub use Rattle.model_machine.specs.Code
+pub use Rattle.model_text.specs.Listing
 pub mod Lengths
 pub mod Reading
 pub mod Rows

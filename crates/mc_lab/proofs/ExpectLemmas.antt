@@ -1,12 +1,12 @@
 -- Expectations compared one by one, and the report of them.
 use Rattle.std.proofs.Common.{◌≡◌, ◌+◌, ◌<◌, ◌≤◌, refl, sym, ◌∙◌, ap, subst, ℕ, zero, suc, List, [], ◌∷◌, ◌++◌, length, drop, filter, not, Bool, true, false, cond, Result, Ok, Err, IsErr, arith, zero-add, append_assoc}
 use Rattle.std.specs.Prelude.{slice_index_or}
-use Rattle.mc_model_play.specs.Play.{Step}
+use Rattle.model_play.specs.Play.{Step}
 use Rattle.mc_asm.proofs.PassLemmas.{no_line}
 use Rattle.mc_streams.specs.declared.refusals.WriteFault.{WriteFault}
 use Rattle.mc_text.specs.Texts.{Sunk, Puts, Writes, Fails}
 use Rattle.mc_text.proofs.TextLemmas.{fails_before, puts_as, puts_then}
-use Rattle.mc_explore.specs.Matching.{fits}
+use Rattle.law_explore.specs.Matching.{fits}
 use Rattle.mc_lab.specs.declared.remark.Remark.{Remark as Found}
 use Rattle.mc_lab.specs.Remarks.{Remark}
 use Rattle.mc_lab.specs.Remarked.{remark_value, remark_values}

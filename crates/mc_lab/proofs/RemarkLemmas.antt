@@ -1,9 +1,9 @@
 -- Lines that are remarks, and lines that are not.
 use Rattle.std.proofs.Common.{◌≡◌, ◌+◌, ◌<◌, refl, sym, ◌∙◌, ap, ℕ, suc, List, [], ◌∷◌, ◌++◌, Bool, true, false, not, Option, Some, None, append_assoc, append-nil, arith}
 use Rattle.std.specs.Prelude.{◌&&◌, ◌==◌, Result, Ok, Err}
-use Rattle.mc_model_text.specs.Text.{fields, lines, with_numbers}
-use Rattle.mc_model_play.specs.declared.deck.DeckCause.{DeckCause}
-use Rattle.mc_model_play.specs.DeckGrammar.{Mode, Between, LineTurn, turn_at}
+use Rattle.model_text.specs.Text.{fields, lines, with_numbers}
+use Rattle.model_play.specs.declared.deck.DeckCause.{DeckCause}
+use Rattle.model_play.specs.DeckGrammar.{Mode, Between, LineTurn, turn_at}
 use Rattle.mc_text.specs.Reading.{next_line}
 use Rattle.mc_asm.proofs.PassLemmas.{numbered_some, numbered_none}
 use Rattle.mc_lab.specs.Rising.{Rising}
@@ -12,7 +12,7 @@ use Rattle.mc_lab.specs.declared.remark.Mark.{Mark}
 use Rattle.mc_lab.specs.declared.remark.Remark.{Remark as Found}
 use Rattle.mc_lab.specs.Remarks.{Remark, above_after, after_line, in_section, just, remark_at, remarks, remarks_from, text_in}
 use Rattle.mc_lab.specs.Remarked.{remark_number, remark_value, remark_values}
-use Rattle.mc_explore.specs.Rules.{stays_inside}
+use Rattle.law_explore.specs.Rules.{stays_inside}
 use Rattle.mc_lab.specs.Scanning.{scanned_from, scanned}
 
 -- ---- remarks

@@ -1,10 +1,10 @@
-pub use Rattle.mc_model_text.specs.Text
-pub use Rattle.mc_model_play.specs.DeckGrammar
-pub use Rattle.mc_model_play.specs.Play
-pub use Rattle.mc_model_play.specs.Transcript
+pub use Rattle.model_text.specs.Text
+pub use Rattle.model_play.specs.DeckGrammar
+pub use Rattle.model_play.specs.Play
+pub use Rattle.model_play.specs.Transcript
 pub use Rattle.mc_asm.specs.Passes
 pub use Rattle.mc_script.specs.Players
-pub use Rattle.mc_explore.specs.Matching
+pub use Rattle.law_explore.specs.Matching
 pub mod Rising
 pub mod Remarks
 pub mod Remarked

@@ -1,9 +1,9 @@
 -- The states of the model that a player represents in the plays of a sweep.
 use Rattle.std.specs.Prelude.{◌≡◌, ℕ, true, false, Bool, List, option_map, Option, Some, None}
 use Rattle.mc_blocks.specs.declared.image.Unusable.{Unusable}
-use Rattle.mc_model_device.specs.Device.{DeviceState, BenchState}
-use Rattle.mc_model_play.specs.Play.{State}
-use Rattle.mc_model_play.specs.DeckGrammar.{DeckLine}
+use Rattle.model_device.specs.Device.{DeviceState, BenchState}
+use Rattle.model_play.specs.Play.{State}
+use Rattle.model_play.specs.DeckGrammar.{DeckLine}
 use Rattle.mc_script.specs.declared.answer.Answer.{Answer}
 use Rattle.mc_script.specs.declared.answer.Answer.TheVariants as answer
 use Rattle.mc_script.specs.declared.player.Player.{Player}

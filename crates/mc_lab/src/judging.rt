@@ -1,7 +1,7 @@
 // Expectations compared with results, and the report of them.
 ghost use Rattle.std.specs.Prelude.{◌≡◌, codes, decimal, IfOk};
 ghost use Rattle.mc_text.specs.Texts.{sunk, Puts};
-ghost use Rattle.mc_explore.specs.Matching.{fits};
+ghost use Rattle.law_explore.specs.Matching.{fits};
 ghost use Rattle.mc_lab.specs.Expectations.{above_text, count_text, failed_line, expectation_line};
 ghost use Rattle.mc_lab.specs.Judged.{done_of};
 ghost use Rattle.mc_lab.specs.Remarked.{line_value, remark_value};
@@ -9,8 +9,8 @@ ghost use Rattle.mc_lab.specs.Remarked.{line_value, remark_value};
 use crate::laying::put_laid_out;
 use crate::remark::Remark;
 use itoa::Buffer;
+use lab_match::fits;
 use mc_asm::NumberedLine;
-use mc_match::fits;
 use mc_script::Text;
 use mc_streams::{Sink, WriteFault};
 use mc_text::{put, put_number};

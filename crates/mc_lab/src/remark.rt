@@ -1,12 +1,12 @@
 // Remarks: comment lines of a deck that the laboratory reads.
 ghost use Rattle.std.specs.Prelude.{◌≡◌, ◌<◌, ◌&&◌, option_map};
-ghost use Rattle.mc_model_text.specs.Text.{fields, trim_front};
+ghost use Rattle.model_text.specs.Text.{fields, trim_front};
 ghost use Rattle.mc_lab.specs.Remarks.{above_after, begins_statement, is_only, is_whole_mark};
 ghost use Rattle.mc_lab.specs.Remarks.{pattern_in, remark_at, text_in};
 ghost use Rattle.mc_lab.specs.Remarked.{line_value, some_value};
 
+use lab_match::first_field;
 use mc_asm::NumberedLine;
-use mc_match::first_field;
 use mc_text::{trim, trim_front};
 
 /// What a remark says, by the mark that its line begins with.

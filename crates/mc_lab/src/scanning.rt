@@ -1,13 +1,13 @@
 // The remarks of a deck's text.
 ghost use Rattle.std.specs.Prelude.{◌≡◌, ◌^◌, ◌<◌, ◌++◌, length, IfOk, OnOk};
-ghost use Rattle.mc_model_play.specs.DeckGrammar.{deck_read};
+ghost use Rattle.model_play.specs.DeckGrammar.{deck_read};
 ghost use Rattle.mc_lab.specs.Remarks.{just, remarks};
 ghost use Rattle.mc_lab.specs.Remarked.{remark_values, some_value};
 
 use crate::remark::{Mark, Remark, above_after, remark_at};
+use lab_match::stays_inside;
 use mc_asm::NumberedLine;
 use mc_base::NoMemory;
-use mc_match::stays_inside;
 use mc_text::next_line;
 use std::alloc::Global;
 

@@ -1,11 +1,11 @@
 -- Chains whose frames match their applications as a run begins them: their pending pieces lie in their static segments.
 use Rattle.std.specs.Prelude.{◌≡◌, ℕ, ◌≤◌, List, ◌∷◌, length, Some}
 use Rattle.std.specs.List.{AllByRecursion}
-use Rattle.mc_model_device.specs.Card.{App}
-use Rattle.mc_model_machine.specs.Frame.{Frame}
-use Rattle.mc_model_machine.specs.Chain.{Chain}
+use Rattle.model_device.specs.Card.{App}
+use Rattle.model_machine.specs.Frame.{Frame}
+use Rattle.model_machine.specs.Chain.{Chain}
 use Rattle.mc_bank.specs.Bank.{app_of}
-use Rattle.mc_row_laws.specs.Keeping.{PiecesWithin}
+use Rattle.law_rows.specs.Keeping.{PiecesWithin}
 
 -- A frame of one of the given applications: its static segment is as long as the application's, its pending pieces lie
 -- in it, and it has the number of session bytes of the application.

@@ -1,8 +1,8 @@
 // Turns of an application that no frame waits for: the first one of a chain, until it delegates.
 ghost use Rattle.std.specs.Prelude.{◌≡◌, ◌≢◌, ◌+◌, false, ℕ, List, Option, None, Ok};
-ghost use Rattle.mc_model_machine.specs.declared.instruction.Ins.TheVariants.{Prim};
-ghost use Rattle.mc_model_machine.specs.Code.{Shaped};
-ghost use Rattle.mc_model_machine.specs.Chain.{Chain as ModelChain, turn_of};
+ghost use Rattle.model_machine.specs.declared.instruction.Ins.TheVariants.{Prim};
+ghost use Rattle.model_machine.specs.Code.{Shaped};
+ghost use Rattle.model_machine.specs.Chain.{Chain as ModelChain, turn_of};
 ghost use Rattle.mc_segs.specs.HeldFrames.{FitsBank};
 ghost use Rattle.mc_segs.specs.Ends.{scene};
 ghost use Rattle.mc_rows.specs.Rows.{row_result};

@@ -2,10 +2,10 @@
 use Rattle.std.proofs.Common.{◌≡◌, ℕ, List, length, take, Option, Some, None, refl, ap, ◌∙◌}
 use Rattle.std.specs.Prelude.{option_map}
 use Rattle.std.specs.Option.{ForSome}
-use Rattle.mc_model_card.specs.declared.card.Part.{Part}
-use Rattle.mc_model_card.specs.declared.card.Part.TheVariants.{Code, Data, Dir, Fci}
-use Rattle.mc_model_card.specs.Items.{Site}
-use Rattle.mc_model_card.specs.Manager.{Open}
+use Rattle.model_card.specs.declared.card.Part.{Part}
+use Rattle.model_card.specs.declared.card.Part.TheVariants.{Code, Data, Dir, Fci}
+use Rattle.model_card.specs.Items.{Site}
+use Rattle.model_card.specs.Manager.{Open}
 use Rattle.mc_bank.specs.Bank.{IsGoodSite}
 use Rattle.mc_manager.specs.ManagerState.{BankView, Loaded, ManagerState, open_of, session_state_of, FitsLoad, ManagerFits}
 

@@ -3,16 +3,16 @@ use Rattle.std.proofs.Common.{◌≡◌, ◌≢◌, ℕ, ◌+◌, ◌≤◌, Boo
 use Rattle.std.specs.Prelude.{◌==◌, ◌&&◌, option_map}
 use Rattle.std.proofs.lemmas.Bool.Decides.{nat_tests}
 use Rattle.std.proofs.lemmas.List.{length-take-le, length-append, take_at, take_all}
-use Rattle.mc_model_card.specs.declared.card.Part.{Part}
-use Rattle.mc_model_card.specs.declared.card.Part.TheVariants.{Code, Data, Dir, Fci}
-use Rattle.mc_model_card.specs.declared.card.Sizes.{Sizes}
-use Rattle.mc_model_device.specs.Bytes.{splice}
-use Rattle.mc_model_card.specs.Items.{Site}
-use Rattle.mc_model_card.specs.Manager.{got_of, size_of, with_got, is_complete, can_create, fresh}
+use Rattle.model_card.specs.declared.card.Part.{Part}
+use Rattle.model_card.specs.declared.card.Part.TheVariants.{Code, Data, Dir, Fci}
+use Rattle.model_card.specs.declared.card.Sizes.{Sizes}
+use Rattle.model_device.specs.Bytes.{splice}
+use Rattle.model_card.specs.Items.{Site}
+use Rattle.model_card.specs.Manager.{got_of, size_of, with_got, is_complete, can_create, fresh}
 use Rattle.mc_bank.specs.Bank.{part_len, IsGoodSite, StayGood, app_of_site}
 use Rattle.mc_manager.specs.ManagerState.{BankView, Loaded, got_len, got_at, open_of, FitsLoad}
 use Rattle.mc_manager.specs.Load.{with_more, is_full}
-use Rattle.mc_model_device.proofs.ListLemmas.{length_splice}
+use Rattle.model_device.proofs.ListLemmas.{length_splice}
 
 -- ---- sections
 

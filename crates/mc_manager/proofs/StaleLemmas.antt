@@ -1,20 +1,20 @@
 -- What a command adds to the applications: nothing, or the application of the open load.
 use Rattle.std.proofs.Common.{◌≡◌, ℕ, Bool, true, false, List, [], ◌∷◌, Option, Some, None, Ok, Err, refl, sym, ap, subst, ◌∙◌, inl, inr}
 use Rattle.std.specs.Prelude.{◌⊎◌, cond, ◌==◌, ◌&&◌, bytes_eq}
-use Rattle.mc_model_card.specs.declared.card.Sizes.{Sizes}
-use Rattle.mc_model_device.specs.Orders.{Answer}
-use Rattle.mc_model_device.specs.Bytes.{lookup, insert, remove}
-use Rattle.mc_model_machine.specs.Apdu.{ApduParts}
-use Rattle.mc_model_device.specs.Card.{App}
-use Rattle.mc_model_card.specs.Manager.{Selected, Open, SessionState, Managed, first_status, answer_unless, WrongClass, ToSelect, ToManager, ToApplication, select_refusals, select_done, select, fresh, manage}
-use Rattle.mc_manager_laws.specs.Orders.{Order, order_of}
-use Rattle.mc_manager_laws.specs.Answers.{IsAnswer}
-use Rattle.mc_manager_laws.specs.Answers as answer
-use Rattle.mc_manager_laws.proofs.Orders.{answer_made}
+use Rattle.model_card.specs.declared.card.Sizes.{Sizes}
+use Rattle.model_device.specs.Orders.{Answer}
+use Rattle.model_device.specs.Bytes.{lookup, insert, remove}
+use Rattle.model_machine.specs.Apdu.{ApduParts}
+use Rattle.model_device.specs.Card.{App}
+use Rattle.model_card.specs.Manager.{Selected, Open, SessionState, Managed, first_status, answer_unless, WrongClass, ToSelect, ToManager, ToApplication, select_refusals, select_done, select, fresh, manage}
+use Rattle.law_manager.specs.Orders.{Order, order_of}
+use Rattle.law_manager.specs.Answers.{IsAnswer}
+use Rattle.law_manager.specs.Answers as answer
+use Rattle.law_manager.proofs.Orders.{answer_made}
 use Rattle.mc_bank.specs.Bank.{BankState, Changes}
 use Rattle.mc_manager.specs.ManagerState.{BankView, ManagerState, session_state_of, load_of}
 use Rattle.mc_manager.specs.CommandDue.{CommandDue, due_select, due_manager, due_application, due_on, due, apps_after, NoneStale}
-use Rattle.mc_model_device.proofs.MapLemmas.{same_name, lookup_inserted_lem, lookup_beside, lookup_removed_lem}
+use Rattle.model_device.proofs.MapLemmas.{same_name, lookup_inserted_lem, lookup_beside, lookup_removed_lem}
 
 -- ---- maps
 

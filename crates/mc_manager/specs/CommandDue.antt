@@ -1,11 +1,11 @@
 -- The verdict on a command by the routing and the manager's table, and its reply. Status words are those of ISO/IEC
 -- 7816-4.
 use Rattle.std.specs.Prelude.{◌≡◌, ◌⊎◌, ℕ, Bool, cond, ◌&&◌, ◌==◌, List, [], option_map, Option, Some, None}
-use Rattle.mc_model_machine.specs.Apdu.{ApduParts}
-use Rattle.mc_model_device.specs.Bytes.{zeros, lookup}
-use Rattle.mc_model_device.specs.Card.{App}
-use Rattle.mc_model_card.specs.Items.{Change, apps_after_change, BankItem}
-use Rattle.mc_model_card.specs.Manager.{Selected, SessionState, Route, WrongLength, WrongClass, ToSelect, ToManager, ToApplication, route_of_parts, Managed, Declines, Accepts, Accepted, Open, fresh, select, manage}
+use Rattle.model_machine.specs.Apdu.{ApduParts}
+use Rattle.model_device.specs.Bytes.{zeros, lookup}
+use Rattle.model_device.specs.Card.{App}
+use Rattle.model_card.specs.Items.{Change, apps_after_change, BankItem}
+use Rattle.model_card.specs.Manager.{Selected, SessionState, Route, WrongLength, WrongClass, ToSelect, ToManager, ToApplication, route_of_parts, Managed, Declines, Accepts, Accepted, Open, fresh, select, manage}
 use Rattle.mc_apdu.specs.declared.reply.Reply.{Reply}
 use Rattle.mc_bank.specs.Bank.{app_of}
 use Rattle.mc_manager.specs.declared.selection.Selection.{Selection}

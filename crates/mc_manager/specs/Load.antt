@@ -1,8 +1,8 @@
 -- An open load while its sections are received.
 use Rattle.std.specs.Prelude.{ℕ, ◌+◌, Bool, ◌&&◌, ◌==◌, List, [], ◌++◌, length}
-use Rattle.mc_model_card.specs.declared.card.Part.{Part}
-use Rattle.mc_model_card.specs.declared.card.Part.TheVariants.{Code, Data, Dir, Fci}
-use Rattle.mc_model_card.specs.Items.{Site}
+use Rattle.model_card.specs.declared.card.Part.{Part}
+use Rattle.model_card.specs.declared.card.Part.TheVariants.{Code, Data, Dir, Fci}
+use Rattle.model_card.specs.Items.{Site}
 use Rattle.mc_manager.specs.ManagerState.{Loaded}
 
 -- the load of which no section has received a byte

@@ -1,13 +1,13 @@
 -- The state of the manager, the session state of the model that it represents over a bank, and when it fits the bank.
 use Rattle.std.specs.Prelude.{◌≡◌, ℕ, ◌≤◌, List, length, take, option_map, Option, Some, IsSome}
 use Rattle.std.specs.Option.{ForSome}
-use Rattle.mc_model_card.specs.declared.card.Part.{Part}
-use Rattle.mc_model_card.specs.declared.card.Part.TheVariants.{Code, Data, Dir, Fci}
-use Rattle.mc_model_card.specs.declared.card.Sizes.{Sizes}
-use Rattle.mc_model_device.specs.Bytes.{lookup}
-use Rattle.mc_model_device.specs.Card.{App}
-use Rattle.mc_model_card.specs.Items.{Site}
-use Rattle.mc_model_card.specs.Manager.{Selected, Open, SessionState}
+use Rattle.model_card.specs.declared.card.Part.{Part}
+use Rattle.model_card.specs.declared.card.Part.TheVariants.{Code, Data, Dir, Fci}
+use Rattle.model_card.specs.declared.card.Sizes.{Sizes}
+use Rattle.model_device.specs.Bytes.{lookup}
+use Rattle.model_device.specs.Card.{App}
+use Rattle.model_card.specs.Items.{Site}
+use Rattle.model_card.specs.Manager.{Selected, Open, SessionState}
 use Rattle.mc_bank.specs.Bank.{BankState, part_len, IsGoodSite, HasParts}
 use Rattle.mc_bank.specs.declared.bank.Bank.{Ghosts}
 use Rattle.mc_manager.specs.declared.selection.Selection.{Selection}

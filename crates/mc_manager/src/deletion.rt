@@ -1,5 +1,5 @@
 ghost use Rattle.std.specs.Prelude.{◌≡◌, false, bytes_eq, Some, IfOk, IfErr};
-ghost use Rattle.mc_model_card.specs.Manager.{first_status, delete_refusals};
+ghost use Rattle.model_card.specs.Manager.{first_status, delete_refusals};
 ghost use Rattle.mc_apdu.specs.Command.{parts_of};
 ghost use Rattle.mc_manager.specs.ManagerState.{session_state_of, ManagerState};
 ghost use Rattle.mc_manager.specs.Calls.{CanDelete, delete_causes, has_selected};

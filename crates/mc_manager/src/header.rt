@@ -1,10 +1,10 @@
 ghost use Rattle.std.specs.Prelude.{◌≡◌, ◌≢◌, ◌<◌, true, length, IfSome, IfNone};
-ghost use Rattle.mc_model_card.specs.Manager.{fits_limits, p1p2, sizes_in};
+ghost use Rattle.model_card.specs.Manager.{fits_limits, p1p2, sizes_in};
 ghost use Rattle.mc_apdu.specs.Command.{parts_of};
 ghost use Rattle.mc_bank.specs.Bank.{FitsLimits};
 
 use mc_apdu::Apdu;
-use mc_model_card::Sizes;
+use model_card::Sizes;
 
 /// Returns P1 and P2 as one number.
 pub fn parameters(apdu: &Apdu) -> u16

@@ -1,6 +1,6 @@
 ghost use Rattle.std.specs.Prelude.{◌≡◌, ◌+◌, ◌≤◌, ◌==◌, cond, ℕ, List, false, option_map, Ok, None, IfOk, OnOk};
-ghost use Rattle.mc_model_device.specs.Orders.{InOrder, answer_of};
-ghost use Rattle.mc_model_card.specs.Manager.{select, open_load, load_part, create, delete, manage};
+ghost use Rattle.model_device.specs.Orders.{InOrder, answer_of};
+ghost use Rattle.model_card.specs.Manager.{select, open_load, load_part, create, delete, manage};
 ghost use Rattle.mc_apdu.specs.Command.{parts_of};
 ghost use Rattle.mc_bank.specs.Bank.{Changes};
 ghost use Rattle.mc_manager.specs.ManagerState.{BankView, view_of, selected_of, session_state_of, load_of, ManagerFits};
@@ -220,7 +220,7 @@ impl Manager {
     }
 
     // Runs a command of class BE by its INS.
-    #[tactic(auto, unfolding(mc_model_card::specs::Manager::manage))]
+    #[tactic(auto, unfolding(model_card::specs::Manager::manage))]
     fn manage<B: Bank, L: Ledger>(
         &mut self,
         bank: &mut B,

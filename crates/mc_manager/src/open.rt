@@ -1,5 +1,5 @@
 ghost use Rattle.std.specs.Prelude.{◌≡◌, ◌+◌, ◌≤◌, false, Some, IfOk, IfErr};
-ghost use Rattle.mc_model_card.specs.Manager.{first_status, open_refusals};
+ghost use Rattle.model_card.specs.Manager.{first_status, open_refusals};
 ghost use Rattle.mc_apdu.specs.Command.{parts_of};
 ghost use Rattle.mc_manager.specs.ManagerState.{view_of};
 ghost use Rattle.mc_manager.specs.Calls.{CanOpen};

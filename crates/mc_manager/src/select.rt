@@ -1,5 +1,5 @@
 ghost use Rattle.std.specs.Prelude.{◌≡◌, false, take, Some, IsSome, IfOk, IfErr, []};
-ghost use Rattle.mc_model_card.specs.Manager.{first_status, select_refusals, select_body};
+ghost use Rattle.model_card.specs.Manager.{first_status, select_refusals, select_body};
 ghost use Rattle.mc_apdu.specs.Command.{parts_of};
 ghost use Rattle.mc_bank.specs.Bank.{app_of};
 ghost use Rattle.mc_manager.specs.CommandDue.{RepliesWith};

@@ -3,7 +3,7 @@ use Rattle.std.proofs.Common.{◌≡◌, ℕ, suc, ◌+◌, ◌≤◌, List, ◌
 use Rattle.std.proofs.lemmas.List.{drop-drop}
 use Rattle.std.proofs.lemmas.Slice.{take-put_mid, drop-put_mid}
 use borrow.Rule.Slice.PartMut.{put_mid}
-use Rattle.mc_model_machine.specs.Modes.{blocks_of, each}
+use Rattle.model_machine.specs.Modes.{blocks_of, each}
 
 -- one more block, which begins at a, is done
 pub each_step : (f : List ℕ → List ℕ) (size k a j q : ℕ) (l b e : List ℕ) → j ≡ size → q ≡ a + size → a + size ≤ length l → length b ≡ size → b ≡ f (take j (drop a l))

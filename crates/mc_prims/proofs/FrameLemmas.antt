@@ -1,7 +1,7 @@
 -- Addresses that lie in segments, and a stack whose top is replaced.
 use Rattle.std.proofs.Common.{◌≡◌, ℕ, ◌+◌, ◌≤◌, ◌<◌, true, false, List, length, arith}
-use Rattle.mc_model_machine.specs.Primitives.{Cipher, Des, TripleDes, Aes, is_message}
-use Rattle.mc_model_machine.specs.Frame.{Frame, is_outside, is_under, frame_after_push, frame_after_pop, frame_with_top}
+use Rattle.model_machine.specs.Primitives.{Cipher, Des, TripleDes, Aes, is_message}
+use Rattle.model_machine.specs.Frame.{Frame, is_outside, is_under, frame_after_push, frame_after_pop, frame_with_top}
 
 -- a byte in a segment has an address below FFFF
 pub inside_low : (f : Frame) (a : ℕ) → is_outside f a 1 ≡ false → length f.fixed ≤ 4096 → f.dt ≤ 0x8200 → a + 1 < 65536

@@ -1,13 +1,13 @@
 -- The effects of primitives, and how the calls that they share end.
 use Rattle.std.specs.Prelude.{◌≡◌, ℕ, ◌+◌, ◌≤◌, Bool, true, false, List, [], ◌∷◌, length, ◌||◌, Option, None, Result, Ok, Err}
-use Rattle.mc_model_machine.specs.declared.machine.Abend.{Abend}
-use Rattle.mc_model_machine.specs.declared.machine.Abend.TheVariants.{A03, A04, A06}
-use Rattle.mc_model_device.specs.Orders.{Answer}
-use Rattle.mc_model_card.specs.Items.{BankItem}
-use Rattle.mc_model_machine.specs.Blocks.{sub_blocks}
-use Rattle.mc_model_machine.specs.Frame.{Frame, is_under, frame_after_pop, top, is_outside, bytes_at}
-use Rattle.mc_model_machine.specs.Primitives.{Around, Primitive, Done, effect_and_next, comparison_effect, in_range, count_at, later_causes, prim_effect}
-use Rattle.mc_model_machine.specs.Row.{first_cause, row_end}
+use Rattle.model_machine.specs.declared.machine.Abend.{Abend}
+use Rattle.model_machine.specs.declared.machine.Abend.TheVariants.{A03, A04, A06}
+use Rattle.model_device.specs.Orders.{Answer}
+use Rattle.model_card.specs.Items.{BankItem}
+use Rattle.model_machine.specs.Blocks.{sub_blocks}
+use Rattle.model_machine.specs.Frame.{Frame, is_under, frame_after_pop, top, is_outside, bytes_at}
+use Rattle.model_machine.specs.Primitives.{Around, Primitive, Done, effect_and_next, comparison_effect, in_range, count_at, later_causes, prim_effect}
+use Rattle.model_machine.specs.Row.{first_cause, row_end}
 use Rattle.mc_bank.specs.Bank.{BankState}
 use Rattle.mc_segs.specs.HeldFrames.{Held}
 use Rattle.mc_segs.specs.Ends.{Scene, before, EndActs}

@@ -1,7 +1,7 @@
 -- The code's primitives, ciphers and surroundings as values of the definition's types.
 use Rattle.std.specs.Prelude.{ℕ, List}
-use Rattle.mc_model_machine.specs.Blocks.{Worked, shift_left_block, shift_right_block}
-use Rattle.mc_model_machine.specs.Primitives as model
+use Rattle.model_machine.specs.Blocks.{Worked, shift_left_block, shift_right_block}
+use Rattle.model_machine.specs.Primitives as model
 use Rattle.mc_prims.specs.declared.table.Cipher.{Cipher}
 use Rattle.mc_prims.specs.declared.table.Cipher.TheVariants as cipher
 use Rattle.mc_prims.specs.declared.table.Primitive.{Primitive}

@@ -1,8 +1,8 @@
 // The bytes that primitives read from segments.
 ghost use Rattle.std.specs.Prelude.{◌≡◌, ◌%◌, ◌≤◌, ◌<◌, ◌∷◌, false, length};
-ghost use Rattle.mc_model_machine.specs.Modes.{ecb};
-ghost use Rattle.mc_model_machine.specs.Frame.{is_outside};
-ghost use Rattle.mc_model_machine.specs.Primitives as model;
+ghost use Rattle.model_machine.specs.Modes.{ecb};
+ghost use Rattle.model_machine.specs.Frame.{is_outside};
+ghost use Rattle.model_machine.specs.Primitives as model;
 ghost use Rattle.mc_segs.specs.HeldFrames.{frame_on_bank, CanRun};
 ghost use Rattle.mc_segs.specs.Ends.{IfDue};
 ghost use Rattle.mc_prims.specs.Acting.{IsLength, ReadsBytes, ReadsCount};
@@ -11,8 +11,8 @@ ghost use Rattle.mc_prims.specs.Table.{cipher_of, block_under_key};
 use crate::ciphers::Way;
 use crate::table::Cipher;
 use mc_bank::Bank;
-use mc_model_machine::Abend;
 use mc_segs::{Frame, Public, load};
+use model_machine::Abend;
 use std::marker::Model;
 
 /// A block of at most 255 bytes.

@@ -1,9 +1,9 @@
 // Bitwise operations with a mask and shifts of the top of the stack.
 ghost use Rattle.std.specs.Prelude.{◌≡◌, ◌≤◌, ◌<◌, ◌*◌, ◌==◌, cond, [], ◌∷◌, false, slice_index, length};
-ghost use Rattle.mc_model_machine.specs.declared.machine.Abend.TheVariants.{A04};
-ghost use Rattle.mc_model_machine.specs.Blocks.{and_blocks, is_zero};
-ghost use Rattle.mc_model_machine.specs.Frame.{is_under, top};
-ghost use Rattle.mc_model_machine.specs.Primitives as model;
+ghost use Rattle.model_machine.specs.declared.machine.Abend.TheVariants.{A04};
+ghost use Rattle.model_machine.specs.Blocks.{and_blocks, is_zero};
+ghost use Rattle.model_machine.specs.Frame.{is_under, top};
+ghost use Rattle.model_machine.specs.Primitives as model;
 ghost use Rattle.mc_segs.specs.HeldFrames.{frame_on_bank, CanRun};
 ghost use Rattle.mc_segs.specs.Ends.{scene};
 ghost use Rattle.mc_prims.specs.Acting.{CausesAct, PopsInto};

@@ -1,7 +1,7 @@
 // Ciphers over messages.
 ghost use Rattle.std.specs.Prelude.{◌≡◌, ◌%◌, ◌<◌, length, [], ◌∷◌, false, not};
-ghost use Rattle.mc_model_machine.specs.Modes.{ecb};
-ghost use Rattle.mc_model_machine.specs.Primitives as model;
+ghost use Rattle.model_machine.specs.Modes.{ecb};
+ghost use Rattle.model_machine.specs.Primitives as model;
 ghost use Rattle.mc_prims.specs.Table.{cipher_of, block_under_key};
 
 use crate::table::Cipher;

@@ -1,7 +1,7 @@
 // A primitive by its pair of set and number.
 ghost use Rattle.std.specs.Prelude.{◌≡◌, ◌≤◌, false, length};
-ghost use Rattle.mc_model_machine.specs.declared.instruction.Ins.TheVariants.{Prim};
-ghost use Rattle.mc_model_machine.specs.Primitives as model;
+ghost use Rattle.model_machine.specs.declared.instruction.Ins.TheVariants.{Prim};
+ghost use Rattle.model_machine.specs.Primitives as model;
 ghost use Rattle.mc_segs.specs.HeldFrames.{frame_on_bank, CanRun};
 ghost use Rattle.mc_segs.specs.Ends.{RowActs, scene};
 ghost use Rattle.mc_prims.specs.Acting.{PrimActs};
@@ -16,8 +16,8 @@ use crate::registers::{check_case, load_flags, set_protection, store_flags};
 use crate::table::Primitive;
 use mc_bank::Bank;
 use mc_base::Aid;
-use mc_model_machine::Abend;
 use mc_segs::{Frame, Halt, Next, Public};
+use model_machine::Abend;
 
 /// The surroundings of a frame: the case of the chain's command, 1 to 4, and the name of the application
 /// whose frame delegated to the running one, if there is one.
@@ -37,7 +37,7 @@ pub struct Around {
 /// the access list of the frame's application denies the primitive, else the abend of the primitive's first
 /// other cause that holds. An abend writes no byte. Returns the `Stop` of the bank if it stopped during the
 /// change of static bytes.
-#[tactic(auto, unfolding(mc_model_machine::specs::Row::row, mc_model_machine::specs::Row::causes, mc_model_machine::specs::Row::effect))]
+#[tactic(auto, unfolding(model_machine::specs::Row::row, model_machine::specs::Row::causes, model_machine::specs::Row::effect))]
 pub fn prim<B: Bank>(
     bank: &mut B,
     frame: &mut Frame,
@@ -65,7 +65,7 @@ pub fn prim<B: Bank>(
 }
 
 // Executes a primitive whose argument bytes are good and which is not denied.
-#[tactic(auto, unfolding(mc_model_machine::specs::Primitives::later_causes, mc_model_machine::specs::Primitives::prim_effect))]
+#[tactic(auto, unfolding(model_machine::specs::Primitives::later_causes, model_machine::specs::Primitives::prim_effect))]
 fn run<B: Bank>(
     bank: &mut B,
     frame: &mut Frame,

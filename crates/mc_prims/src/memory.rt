@@ -1,8 +1,8 @@
 // The primitives that copy, compare, digest and look up bytes.
 ghost use Rattle.std.specs.Prelude.{◌≡◌, ◌+◌, ◌==◌, ◌≤◌, [], ◌∷◌, false, length, position, Ok};
-ghost use Rattle.mc_model_machine.specs.Frame.{frame_with_flags, frame_after_push};
-ghost use Rattle.mc_model_machine.specs.Primitives as model;
-ghost use Rattle.mc_model_machine.specs.Primitives.{Lookup, MemoryCompare, MemoryCopy, CompareFixed, CopyFixed, Digest};
+ghost use Rattle.model_machine.specs.Frame.{frame_with_flags, frame_after_push};
+ghost use Rattle.model_machine.specs.Primitives as model;
+ghost use Rattle.model_machine.specs.Primitives.{Lookup, MemoryCompare, MemoryCopy, CompareFixed, CopyFixed, Digest};
 ghost use Rattle.mc_segs.specs.HeldFrames.{frame_on_bank, CanRun};
 ghost use Rattle.mc_segs.specs.Ends.{scene};
 ghost use Rattle.mc_segs.specs.declared.ends.Next.TheVariants.{Go};
@@ -16,7 +16,7 @@ use mc_segs::{Frame, Halt, Next, Public, push, store};
 use sha1::Sha1;
 
 /// Executes Memory Copy: copies bytes. Their length and the addresses of target and source are on the stack.
-#[tactic(auto, unfolding(mc_model_machine::specs::Primitives::later_causes, mc_model_machine::specs::Primitives::prim_effect))]
+#[tactic(auto, unfolding(model_machine::specs::Primitives::later_causes, model_machine::specs::Primitives::prim_effect))]
 pub fn copy_memory<B: Bank>(
     bank: &mut B,
     frame: &mut Frame,
@@ -35,7 +35,7 @@ pub fn copy_memory<B: Bank>(
 
 /// Executes Memory Copy Fixed Length: copies as many bytes as the argument byte states. The addresses of
 /// target and source are on the stack.
-#[tactic(auto, unfolding(mc_model_machine::specs::Primitives::later_causes, mc_model_machine::specs::Primitives::prim_effect))]
+#[tactic(auto, unfolding(model_machine::specs::Primitives::later_causes, model_machine::specs::Primitives::prim_effect))]
 pub fn copy_fixed<B: Bank>(
     bank: &mut B,
     frame: &mut Frame,
@@ -55,7 +55,7 @@ pub fn copy_fixed<B: Bank>(
 
 /// Executes Memory Compare: sets the flags of the first block minus the second. Their length and their
 /// addresses are on the stack.
-#[tactic(auto, unfolding(mc_model_machine::specs::Primitives::later_causes, mc_model_machine::specs::Primitives::prim_effect))]
+#[tactic(auto, unfolding(model_machine::specs::Primitives::later_causes, model_machine::specs::Primitives::prim_effect))]
 pub fn compare_memory<B: Bank>(
     bank: &mut B,
     frame: &mut Frame,
@@ -72,7 +72,7 @@ pub fn compare_memory<B: Bank>(
 
 /// Executes Memory Compare Fixed Length: sets the flags of the first block minus the second, of the length in
 /// the argument byte. Their addresses are on the stack.
-#[tactic(auto, unfolding(mc_model_machine::specs::Primitives::later_causes, mc_model_machine::specs::Primitives::prim_effect))]
+#[tactic(auto, unfolding(model_machine::specs::Primitives::later_causes, model_machine::specs::Primitives::prim_effect))]
 pub fn compare_fixed<B: Bank>(
     bank: &mut B,
     frame: &mut Frame,
@@ -112,7 +112,7 @@ fn compare_bytes<B: Bank>(
 
 /// Executes SHA-1 (FIPS 180-4): writes the digest of a message. The length of the message and the addresses
 /// of the message and the digest are on the stack.
-#[tactic(auto, unfolding(mc_model_machine::specs::Primitives::later_causes, mc_model_machine::specs::Primitives::prim_effect))]
+#[tactic(auto, unfolding(model_machine::specs::Primitives::later_causes, model_machine::specs::Primitives::prim_effect))]
 pub fn digest<B: Bank>(bank: &mut B, frame: &mut Frame, public: &mut Public) -> Result<Next, Halt>
     requires runs { CanRun B.Bank bank.old frame.old }
     ensures { PrimActs B.Bank
@@ -129,7 +129,7 @@ pub fn digest<B: Bank>(bank: &mut B, frame: &mut Frame, public: &mut Public) -> 
 
 /// Executes Lookup: pushes the first index of a byte, or 0, and sets Z to whether it was found. The byte and
 /// an address are on the stack; at the address are a count and the bytes among which the byte is looked up.
-#[tactic(auto, unfolding(mc_model_machine::specs::Primitives::later_causes, mc_model_machine::specs::Primitives::prim_effect))]
+#[tactic(auto, unfolding(model_machine::specs::Primitives::later_causes, model_machine::specs::Primitives::prim_effect))]
 pub fn look_up<B: Bank>(bank: &mut B, frame: &mut Frame, public: &mut Public) -> Result<Next, Halt>
     requires runs { CanRun B.Bank bank.old frame.old }
     requires room { length frame.old.frame.fixed ≤ 4096 }

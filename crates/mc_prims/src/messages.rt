@@ -1,6 +1,6 @@
 // The primitives that encipher, decipher and sign messages.
 ghost use Rattle.std.specs.Prelude.{◌≡◌, [], ◌∷◌, false, true, get_or, slice_index};
-ghost use Rattle.mc_model_machine.specs.Primitives as model;
+ghost use Rattle.model_machine.specs.Primitives as model;
 ghost use Rattle.mc_segs.specs.HeldFrames.{frame_on_bank, CanRun};
 ghost use Rattle.mc_segs.specs.Ends.{scene};
 ghost use Rattle.mc_prims.specs.Acting.{alone, CausesAct, PrimActs};
@@ -41,7 +41,7 @@ pub fn turn_message<B: Bank>(
 }
 
 /// Signs a message: the addresses of the start block, the message, the signature and the key are on the stack.
-#[tactic(auto, using(std::proofs::lemmas::Bool::or_right, crate::proofs::FrameLemmas::message_some), unfolding(mc_model_machine::specs::Primitives::later_causes, mc_model_machine::specs::Primitives::prim_effect))]
+#[tactic(auto, using(std::proofs::lemmas::Bool::or_right, crate::proofs::FrameLemmas::message_some), unfolding(model_machine::specs::Primitives::later_causes, model_machine::specs::Primitives::prim_effect))]
 pub fn sign_message<B: Bank>(
     bank: &mut B,
     frame: &mut Frame,

@@ -1,7 +1,7 @@
 // The primitives on the names of applications that delegate and are delegated to.
 ghost use Rattle.std.specs.Prelude.{◌≡◌, ◌≤◌, [], ◌∷◌, false, length};
-ghost use Rattle.mc_model_machine.specs.Primitives as model;
-ghost use Rattle.mc_model_machine.specs.Primitives.{DelegateTo, DelegatorAid};
+ghost use Rattle.model_machine.specs.Primitives as model;
+ghost use Rattle.model_machine.specs.Primitives.{DelegateTo, DelegatorAid};
 ghost use Rattle.mc_segs.specs.HeldFrames.{CanRun};
 ghost use Rattle.mc_segs.specs.Ends.{scene};
 ghost use Rattle.mc_prims.specs.Acting.{alone, PrimActs};
@@ -10,12 +10,12 @@ use crate::access::{Block, read_count};
 use crate::stack::pop_word;
 use mc_bank::Bank;
 use mc_base::Aid;
-use mc_model_machine::Abend;
 use mc_segs::{Frame, Halt, Next, Public, store};
+use model_machine::Abend;
 
 /// Executes Delegate: returns the name of the application to run next. An address is on the stack; at the
 /// address are the name's length and the name.
-#[tactic(auto, unfolding(mc_model_machine::specs::Primitives::later_causes, mc_model_machine::specs::Primitives::prim_effect))]
+#[tactic(auto, unfolding(model_machine::specs::Primitives::later_causes, model_machine::specs::Primitives::prim_effect))]
 pub fn delegate<B: Bank>(bank: &mut B, frame: &mut Frame, public: &mut Public) -> Result<Next, Halt>
     requires runs { CanRun B.Bank bank.old frame.old }
     requires room { length frame.old.frame.fixed ≤ 4096 }
@@ -36,7 +36,7 @@ pub fn delegate<B: Bank>(bank: &mut B, frame: &mut Frame, public: &mut Public) -
 
 /// Executes Get Delegator AID: writes the length and the name of the delegator to the address on the stack,
 /// and clears Z. Without a delegator sets Z, and does not test the address.
-#[tactic(auto, unfolding(mc_model_machine::specs::Primitives::later_causes, mc_model_machine::specs::Primitives::prim_effect))]
+#[tactic(auto, unfolding(model_machine::specs::Primitives::later_causes, model_machine::specs::Primitives::prim_effect))]
 pub fn report_delegator<B: Bank>(
     bank: &mut B,
     frame: &mut Frame,

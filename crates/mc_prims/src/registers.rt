@@ -1,19 +1,19 @@
 // The primitives on the command's case, the flags and the protection of static bytes. Each of them borrows
 // what every primitive borrows, so that its contract is that of its row.
 ghost use Rattle.std.specs.Prelude.{◌≡◌, [], ◌∷◌, false};
-ghost use Rattle.mc_model_machine.specs.Primitives as model;
-ghost use Rattle.mc_model_machine.specs.Primitives.{CheckCase, LoadCcr, StoreCcr, SetProtection};
+ghost use Rattle.model_machine.specs.Primitives as model;
+ghost use Rattle.model_machine.specs.Primitives.{CheckCase, LoadCcr, StoreCcr, SetProtection};
 ghost use Rattle.mc_segs.specs.HeldFrames.{CanRun};
 ghost use Rattle.mc_segs.specs.Ends.{scene};
 ghost use Rattle.mc_prims.specs.Acting.{alone, PrimActs};
 
 use crate::stack::pop_byte;
 use mc_bank::Bank;
-use mc_model_machine::Abend;
 use mc_segs::{Frame, Halt, Next, Public, protect, push};
+use model_machine::Abend;
 
 /// Executes Check Case: pops a case, 1 to 4, and sets Z to whether it is the command's.
-#[tactic(auto, unfolding(mc_model_machine::specs::Primitives::later_causes, mc_model_machine::specs::Primitives::prim_effect))]
+#[tactic(auto, unfolding(model_machine::specs::Primitives::later_causes, model_machine::specs::Primitives::prim_effect))]
 pub fn check_case<B: Bank>(
     bank: &mut B,
     frame: &mut Frame,
@@ -34,7 +34,7 @@ pub fn check_case<B: Bank>(
 }
 
 /// Executes Load CCR: pushes the flags, C as 02 and Z as 01.
-#[tactic(auto, unfolding(mc_model_machine::specs::Primitives::later_causes, mc_model_machine::specs::Primitives::prim_effect))]
+#[tactic(auto, unfolding(model_machine::specs::Primitives::later_causes, model_machine::specs::Primitives::prim_effect))]
 pub fn load_flags<B: Bank>(
     bank: &mut B,
     frame: &mut Frame,
@@ -49,7 +49,7 @@ pub fn load_flags<B: Bank>(
 }
 
 /// Executes Store CCR: pops the flags, as Load CCR pushes them.
-#[tactic(auto, unfolding(mc_model_machine::specs::Primitives::later_causes, mc_model_machine::specs::Primitives::prim_effect))]
+#[tactic(auto, unfolding(model_machine::specs::Primitives::later_causes, model_machine::specs::Primitives::prim_effect))]
 pub fn store_flags<B: Bank>(
     bank: &mut B,
     frame: &mut Frame,
@@ -66,7 +66,7 @@ pub fn store_flags<B: Bank>(
 
 /// Executes Set Transaction Protection: sets the protection of static writes to the mode in the argument
 /// byte.
-#[tactic(auto, unfolding(mc_model_machine::specs::Primitives::later_causes, mc_model_machine::specs::Primitives::prim_effect))]
+#[tactic(auto, unfolding(model_machine::specs::Primitives::later_causes, model_machine::specs::Primitives::prim_effect))]
 pub fn set_protection<B: Bank>(
     bank: &mut B,
     frame: &mut Frame,

@@ -1,6 +1,6 @@
 // The table of the primitives, the ranges of their argument bytes, and which of them an access list denies.
 ghost use Rattle.std.specs.Prelude.{◌≡◌, ◌*◌, ◌-◌, ◌&&◌, option_map};
-ghost use Rattle.mc_model_machine.specs.Primitives as model;
+ghost use Rattle.model_machine.specs.Primitives as model;
 ghost use Rattle.mc_prims.specs.Table.{cipher_of, primitive_of};
 
 /// A cipher of the primitives.

@@ -2,8 +2,8 @@
 
 // Worked rows: sessions from the text of a deck and the bytes of the host's frames to the bytes of the answers.
 ghost use Rattle.std.specs.Prelude.{◌≡◌, ◌++◌, [], codes};
-ghost use Rattle.mc_model_examples.specs.Written.{hex, times};
-ghost use Rattle.mc_model_examples.specs.Played.{unit_line};
+ghost use Rattle.model_examples.specs.Written.{hex, times};
+ghost use Rattle.model_examples.specs.Played.{unit_line};
 ghost use Rattle.mc_reader.specs.Frames.{frames_read};
 ghost use Rattle.mc_reader.specs.SessionDeck.{session_text};
 ghost use Rattle.mc_reader.specs.Computed.{answers_to_input};

@@ -1,10 +1,10 @@
 -- Only primitives depend on the surroundings of their frame.
 use Rattle.std.proofs.Common.{◌≡◌, ℕ, List, refl}
-use Rattle.mc_model_machine.specs.declared.instruction.Ins.{Ins}
-use Rattle.mc_model_machine.specs.declared.instruction.Ins.TheVariants.{Nop, Setsw, Setla, Setswla, Exit, Exitsw, Exitla, Exitswla, Branch, Jump, Call, Pushz, Pushb, Pushw, Popn, Popb, Popw, Prim, Ret, Reti, Reto, Retio, Load, Store, Loadi, Storei, Loada, Index, Setb, Cmpb, Addb, Subb, Setw, Cmpw, Addw, Subw, Clearn, Testn, Incn, Decn, Notn, Cmpn, Addn, Subn, Andn, Orn, Xorn}
-use Rattle.mc_model_machine.specs.Frame.{Frame}
-use Rattle.mc_model_machine.specs.Primitives.{Around}
-use Rattle.mc_model_machine.specs.Row.{row, causes, effect}
+use Rattle.model_machine.specs.declared.instruction.Ins.{Ins}
+use Rattle.model_machine.specs.declared.instruction.Ins.TheVariants.{Nop, Setsw, Setla, Setswla, Exit, Exitsw, Exitla, Exitswla, Branch, Jump, Call, Pushz, Pushb, Pushw, Popn, Popb, Popw, Prim, Ret, Reti, Reto, Retio, Load, Store, Loadi, Storei, Loada, Index, Setb, Cmpb, Addb, Subb, Setw, Cmpw, Addw, Subw, Clearn, Testn, Incn, Decn, Notn, Cmpn, Addn, Subn, Andn, Orn, Xorn}
+use Rattle.model_machine.specs.Frame.{Frame}
+use Rattle.model_machine.specs.Primitives.{Around}
+use Rattle.model_machine.specs.Row.{row, causes, effect}
 use Rattle.mc_rows.specs.Rows.{alone}
 use Rattle.mc_rows.specs.Families.{IsNoPrimitive}
 

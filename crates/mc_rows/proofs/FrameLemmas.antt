@@ -1,13 +1,13 @@
 -- Rows that depend on their frame alone, on a bank.
 use Rattle.std.proofs.Common.{◌≡◌, ℕ, false, List, Option, Result, Ok, Err, refl, sym, ap, subst, ◌∙◌, length}
 use Rattle.std.specs.Prelude.{IsSome}
-use Rattle.mc_model_machine.specs.declared.instruction.Ins.{Ins}
-use Rattle.mc_model_machine.specs.declared.machine.Abend.{Abend}
-use Rattle.mc_model_device.specs.Orders.{Answer}
-use Rattle.mc_model_card.specs.Items.{BankItem}
-use Rattle.mc_model_device.specs.Bytes.{lookup}
-use Rattle.mc_model_machine.specs.Primitives.{Done, effect_and_next, frame_effect}
-use Rattle.mc_model_machine.specs.Row.{RowEnd, Abends, Does, row}
+use Rattle.model_machine.specs.declared.instruction.Ins.{Ins}
+use Rattle.model_machine.specs.declared.machine.Abend.{Abend}
+use Rattle.model_device.specs.Orders.{Answer}
+use Rattle.model_card.specs.Items.{BankItem}
+use Rattle.model_device.specs.Bytes.{lookup}
+use Rattle.model_machine.specs.Primitives.{Done, effect_and_next, frame_effect}
+use Rattle.model_machine.specs.Row.{RowEnd, Abends, Does, row}
 use Rattle.mc_bank.specs.Bank.{BankState, app_of, name_or}
 use Rattle.mc_segs.specs.HeldFrames.{Held, FitsBank, app_under, frame_reading, frame_on_bank}
 use Rattle.mc_segs.specs.Ends.{EndActs, EffectDone, RowActs, scene}

@@ -1,6 +1,6 @@
 -- The families of instructions, by what a row reads and changes.
-use Rattle.mc_model_machine.specs.declared.instruction.Ins.{Ins}
-use Rattle.mc_model_machine.specs.declared.instruction.Ins.TheVariants.{Nop, Setsw, Setla, Setswla, Exit, Exitsw, Exitla, Exitswla, Branch, Jump, Call, Ret, Reti, Reto, Retio, Pushz, Pushb, Pushw, Popn, Popb, Popw, Loada, Index, Setb, Cmpb, Addb, Subb, Setw, Cmpw, Addw, Subw, Prim}
+use Rattle.model_machine.specs.declared.instruction.Ins.{Ins}
+use Rattle.model_machine.specs.declared.instruction.Ins.TheVariants.{Nop, Setsw, Setla, Setswla, Exit, Exitsw, Exitla, Exitswla, Branch, Jump, Call, Ret, Reti, Reto, Retio, Pushz, Pushb, Pushw, Popn, Popb, Popw, Loada, Index, Setb, Cmpb, Addb, Subb, Setw, Cmpw, Addw, Subw, Prim}
 
 -- the rows other than PRIM
 abbrev pub IsNoPrimitive : Ins → Type 0

@@ -1,10 +1,10 @@
 -- Rows that depend on their frame alone, and rows that depend on the public segment alone.
 use Rattle.std.specs.Prelude.{◌≡◌, ℕ, List, length, Result, Ok, Err}
-use Rattle.mc_model_machine.specs.declared.instruction.Ins.{Ins}
-use Rattle.mc_model_machine.specs.declared.machine.Abend.{Abend}
-use Rattle.mc_model_machine.specs.Frame.{Frame}
-use Rattle.mc_model_machine.specs.Primitives.{Then, Goes, Exits, effect_and_next, frame_effect}
-use Rattle.mc_model_machine.specs.Row.{RowEnd, Abends, Does, row}
+use Rattle.model_machine.specs.declared.instruction.Ins.{Ins}
+use Rattle.model_machine.specs.declared.machine.Abend.{Abend}
+use Rattle.model_machine.specs.Frame.{Frame}
+use Rattle.model_machine.specs.Primitives.{Then, Goes, Exits, effect_and_next, frame_effect}
+use Rattle.model_machine.specs.Row.{RowEnd, Abends, Does, row}
 use Rattle.mc_segs.specs.HeldFrames.{Held}
 use Rattle.mc_segs.specs.declared.ends.Halt.{Halt}
 use Rattle.mc_segs.specs.declared.ends.Halt.TheVariants as halt

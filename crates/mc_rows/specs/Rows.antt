@@ -1,11 +1,11 @@
 -- How the rows of a family end, for each operation and length of their operands.
 use Rattle.std.specs.Prelude.{◌≡◌, ℕ, ◌+◌, ◌*◌, Bool, true, false, not, ◌==◌, ℤ, List, ◌∷◌, length, Option, Some, None, Result, Ok, Err}
-use Rattle.mc_model_machine.specs.declared.machine.Abend.{Abend}
-use Rattle.mc_model_machine.specs.declared.machine.Abend.TheVariants.{A02, A03, A04, A06}
-use Rattle.mc_model_machine.specs.Blocks.{Worked, add_blocks, sub_blocks, inc_block, dec_block, and_blocks, or_blocks, xor_blocks, not_block, is_zero}
-use Rattle.mc_model_machine.specs.Frame.{Frame, address_at, bytes_at, is_outside, no_access, write_effect, is_under, top}
-use Rattle.mc_model_machine.specs.Primitives.{Around, Done, effect_and_next, in_range}
-use Rattle.mc_model_machine.specs.Row.{RowEnd, first_cause, row_end, operand, on_stack, immediate_reads, immediate_writes, pair_writes, becomes, flags_of, place_of, value_of, first_of}
+use Rattle.model_machine.specs.declared.machine.Abend.{Abend}
+use Rattle.model_machine.specs.declared.machine.Abend.TheVariants.{A02, A03, A04, A06}
+use Rattle.model_machine.specs.Blocks.{Worked, add_blocks, sub_blocks, inc_block, dec_block, and_blocks, or_blocks, xor_blocks, not_block, is_zero}
+use Rattle.model_machine.specs.Frame.{Frame, address_at, bytes_at, is_outside, no_access, write_effect, is_under, top}
+use Rattle.model_machine.specs.Primitives.{Around, Done, effect_and_next, in_range}
+use Rattle.model_machine.specs.Row.{RowEnd, first_cause, row_end, operand, on_stack, immediate_reads, immediate_writes, pair_writes, becomes, flags_of, place_of, value_of, first_of}
 use Rattle.mc_segs.specs.declared.ends.Halt.{Halt}
 use Rattle.mc_segs.specs.declared.ends.Next.{Next}
 use Rattle.mc_segs.specs.declared.ends.Next.TheVariants.{Go, Exit}

@@ -1,6 +1,6 @@
 // Rows of a block of n bytes at a place.
 ghost use Rattle.std.specs.Prelude.{◌≡◌, ◌≤◌, false, length};
-ghost use Rattle.mc_model_machine.specs.declared.instruction.Ins.TheVariants.{Clearn, Testn};
+ghost use Rattle.model_machine.specs.declared.instruction.Ins.TheVariants.{Clearn, Testn};
 ghost use Rattle.mc_segs.specs.HeldFrames.{frame_on_bank, CanRun};
 ghost use Rattle.mc_segs.specs.Ends.{scene, EndActs, RowActs};
 ghost use Rattle.mc_rows.specs.Rows.{alone, change_end, changed_end, most_unary, onward};
@@ -64,7 +64,7 @@ fn change_in<B: Bank>(
 }
 
 /// Executes CLEARN: sets the bytes at the operand's place to zero.
-#[tactic(auto, unfolding(mc_model_machine::specs::Row::row, mc_model_machine::specs::Row::causes, mc_model_machine::specs::Row::effect))]
+#[tactic(auto, unfolding(model_machine::specs::Row::row, model_machine::specs::Row::causes, model_machine::specs::Row::effect))]
 pub fn clear_block<B: Bank>(
     bank: &mut B,
     frame: &mut Frame,
@@ -87,7 +87,7 @@ pub fn clear_block<B: Bank>(
 }
 
 /// Executes TESTN: sets Z to whether the operand is zero.
-#[tactic(auto, unfolding(mc_model_machine::specs::Row::row, mc_model_machine::specs::Row::causes, mc_model_machine::specs::Row::effect))]
+#[tactic(auto, unfolding(model_machine::specs::Row::row, model_machine::specs::Row::causes, model_machine::specs::Row::effect))]
 pub fn test_block<B: Bank>(
     bank: &mut B,
     frame: &mut Frame,

@@ -1,8 +1,8 @@
 // Rows that go to another place of the code, and calls and returns.
 ghost use Rattle.std.specs.Prelude.{◌≡◌, ◌&&◌, ◌==◌, OnOk, OnErr, Some};
-ghost use Rattle.mc_model_machine.specs.declared.instruction.Ins.TheVariants.{Branch, Jump, Call, Retio};
-ghost use Rattle.mc_model_machine.specs.Frame.{is_under, moved_address};
-ghost use Rattle.mc_model_machine.specs.Row.{holds, no_place, target, without_target};
+ghost use Rattle.model_machine.specs.declared.instruction.Ins.TheVariants.{Branch, Jump, Call, Retio};
+ghost use Rattle.model_machine.specs.Frame.{is_under, moved_address};
+ghost use Rattle.model_machine.specs.Row.{holds, no_place, target, without_target};
 ghost use Rattle.mc_segs.specs.Ends.{GivesOrAbends, IfDue};
 ghost use Rattle.mc_rows.specs.Rows.{Led};
 ghost use Rattle.mc_rows.specs.FrameRows.{FrameActs};
@@ -11,7 +11,7 @@ use crate::bytes::number;
 use mc_segs::{Abend, Frame, come_back, enter, pop, return_address};
 
 /// Executes BRANCH: if the condition holds, goes to a place relative to the next instruction.
-#[tactic(auto, unfolding(mc_model_machine::specs::Row::row, mc_model_machine::specs::Row::causes, mc_model_machine::specs::Row::effect))]
+#[tactic(auto, unfolding(model_machine::specs::Row::row, model_machine::specs::Row::causes, model_machine::specs::Row::effect))]
 pub fn branch(frame: &mut Frame, cond: u8, d: i8) -> Result<(), Abend>
     ensures { FrameActs (Branch cond d) frame.old frame.new result }
 {
@@ -24,7 +24,7 @@ pub fn branch(frame: &mut Frame, cond: u8, d: i8) -> Result<(), Abend>
 }
 
 /// Executes JUMP: goes to an address if the condition holds. Condition 0 always holds, and pops the address.
-#[tactic(auto, unfolding(mc_model_machine::specs::Row::row, mc_model_machine::specs::Row::causes, mc_model_machine::specs::Row::effect))]
+#[tactic(auto, unfolding(model_machine::specs::Row::row, model_machine::specs::Row::causes, model_machine::specs::Row::effect))]
 pub fn jump(frame: &mut Frame, cond: u8, to: u16) -> Result<(), Abend>
     ensures { FrameActs (Jump cond to) frame.old frame.new result }
 {
@@ -38,7 +38,7 @@ pub fn jump(frame: &mut Frame, cond: u8, to: u16) -> Result<(), Abend>
 
 /// Executes CALL: if the condition holds, pushes LB and the next place, and goes to an address. Condition 0
 /// always holds, and pops the address.
-#[tactic(auto, unfolding(mc_model_machine::specs::Row::row, mc_model_machine::specs::Row::causes, mc_model_machine::specs::Row::effect))]
+#[tactic(auto, unfolding(model_machine::specs::Row::row, model_machine::specs::Row::causes, model_machine::specs::Row::effect))]
 pub fn call(frame: &mut Frame, cond: u8, to: u16) -> Result<(), Abend>
     ensures { FrameActs (Call cond to) frame.old frame.new result }
 {
@@ -52,7 +52,7 @@ pub fn call(frame: &mut Frame, cond: u8, to: u16) -> Result<(), Abend>
 
 /// Executes RETIO, and with no bytes RET, RETI or RETO: leaves a call, keeps its top `o` bytes, and drops the
 /// `i` bytes below it.
-#[tactic(auto, unfolding(mc_model_machine::specs::Row::row, mc_model_machine::specs::Row::causes, mc_model_machine::specs::Row::effect))]
+#[tactic(auto, unfolding(model_machine::specs::Row::row, model_machine::specs::Row::causes, model_machine::specs::Row::effect))]
 pub fn return_with(frame: &mut Frame, i: u8, o: u8) -> Result<(), Abend>
     ensures { FrameActs (Retio i o) frame.old frame.new result }
 {

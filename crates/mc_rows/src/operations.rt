@@ -1,6 +1,6 @@
 // Operations on blocks, and the flags that they leave.
 ghost use Rattle.std.specs.Prelude.{◌≡◌, ◌≤◌, ◌==◌, length, not, OnOk};
-ghost use Rattle.mc_model_machine.specs.Primitives.{in_range};
+ghost use Rattle.model_machine.specs.Primitives.{in_range};
 ghost use Rattle.mc_segs.specs.Ends.{IfDue};
 ghost use Rattle.mc_rows.specs.Rows.{binary_result, unary_result, most_binary, most_unary, bad_binary, bad_unary};
 

@@ -1,6 +1,6 @@
 // Rows of n bytes at a place and the top n bytes of the stack.
 ghost use Rattle.std.specs.Prelude.{◌≡◌, ◌≤◌, false, length};
-ghost use Rattle.mc_model_machine.specs.declared.instruction.Ins.TheVariants.{Cmpn};
+ghost use Rattle.model_machine.specs.declared.instruction.Ins.TheVariants.{Cmpn};
 ghost use Rattle.mc_segs.specs.HeldFrames.{frame_on_bank, CanRun};
 ghost use Rattle.mc_segs.specs.Ends.{scene, EndActs, RowActs};
 ghost use Rattle.mc_rows.specs.Rows.{alone, most_binary, pair_end, paired_end, onward};
@@ -67,7 +67,7 @@ fn combine_in<B: Bank>(
 }
 
 /// Executes CMPN: sets the flags of the first operand minus the second.
-#[tactic(auto, unfolding(mc_model_machine::specs::Row::row, mc_model_machine::specs::Row::causes, mc_model_machine::specs::Row::effect))]
+#[tactic(auto, unfolding(model_machine::specs::Row::row, model_machine::specs::Row::causes, model_machine::specs::Row::effect))]
 pub fn compare_pair<B: Bank>(
     bank: &mut B,
     frame: &mut Frame,

@@ -2,8 +2,8 @@
 ghost use Rattle.mc_rows.specs.FrameRows.{PublicActs};
 ghost use Rattle.mc_rows.specs.Families.{IsRegisterRow};
 
-use mc_model_machine::Ins;
 use mc_segs::Public;
+use model_machine::Ins;
 
 /// The continuation after an instruction other than PRIM that was done: the next one, or the frame's exit.
 #[derive(Clone, Copy, Debug, PartialEq, Eq)]
@@ -13,7 +13,7 @@ pub enum Flow {
 }
 
 /// Executes NOP, SETSW, SETLA or SETSWLA, or the exit after one of them.
-#[tactic(auto, unfolding(mc_model_machine::specs::Row::row, mc_model_machine::specs::Row::causes, mc_model_machine::specs::Row::effect))]
+#[tactic(auto, unfolding(model_machine::specs::Row::row, model_machine::specs::Row::causes, model_machine::specs::Row::effect))]
 #[inline(always)]
 pub fn registers(public: &mut Public, ins: &Ins) -> Flow
     requires { IsRegisterRow ins.now }

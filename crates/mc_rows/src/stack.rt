@@ -1,5 +1,5 @@
 // Rows that put bytes on the stack or take them from it.
-ghost use Rattle.mc_model_machine.specs.declared.instruction.Ins.TheVariants.{Pushz, Pushb, Pushw, Popn, Popb, Popw};
+ghost use Rattle.model_machine.specs.declared.instruction.Ins.TheVariants.{Pushz, Pushb, Pushw, Popn, Popb, Popw};
 ghost use Rattle.mc_rows.specs.FrameRows.{FrameActs};
 
 use crate::bytes::zeros;
@@ -8,7 +8,7 @@ use mc_base::bytes_of;
 use mc_segs::{Abend, Frame, discard, push};
 
 /// Executes PUSHZ: pushes n zero bytes.
-#[tactic(auto, unfolding(mc_model_machine::specs::Row::row, mc_model_machine::specs::Row::causes, mc_model_machine::specs::Row::effect))]
+#[tactic(auto, unfolding(model_machine::specs::Row::row, model_machine::specs::Row::causes, model_machine::specs::Row::effect))]
 pub fn push_zeros(frame: &mut Frame, n: u8) -> Result<(), Abend>
     ensures { FrameActs (Pushz n) frame.old frame.new result }
 {
@@ -17,7 +17,7 @@ pub fn push_zeros(frame: &mut Frame, n: u8) -> Result<(), Abend>
 }
 
 /// Executes PUSHB: pushes one byte.
-#[tactic(auto, unfolding(mc_model_machine::specs::Row::row, mc_model_machine::specs::Row::causes, mc_model_machine::specs::Row::effect))]
+#[tactic(auto, unfolding(model_machine::specs::Row::row, model_machine::specs::Row::causes, model_machine::specs::Row::effect))]
 pub fn push_byte(frame: &mut Frame, b: u8) -> Result<(), Abend>
     ensures { FrameActs (Pushb b) frame.old frame.new result }
 {
@@ -25,7 +25,7 @@ pub fn push_byte(frame: &mut Frame, b: u8) -> Result<(), Abend>
 }
 
 /// Executes PUSHW: pushes two bytes.
-#[tactic(auto, unfolding(mc_model_machine::specs::Row::row, mc_model_machine::specs::Row::causes, mc_model_machine::specs::Row::effect))]
+#[tactic(auto, unfolding(model_machine::specs::Row::row, model_machine::specs::Row::causes, model_machine::specs::Row::effect))]
 pub fn push_word(frame: &mut Frame, w: u16) -> Result<(), Abend>
     ensures { FrameActs (Pushw w) frame.old frame.new result }
 {
@@ -33,7 +33,7 @@ pub fn push_word(frame: &mut Frame, w: u16) -> Result<(), Abend>
 }
 
 /// Executes POPN: pops n bytes.
-#[tactic(auto, unfolding(mc_model_machine::specs::Row::row, mc_model_machine::specs::Row::causes, mc_model_machine::specs::Row::effect))]
+#[tactic(auto, unfolding(model_machine::specs::Row::row, model_machine::specs::Row::causes, model_machine::specs::Row::effect))]
 pub fn pop_bytes(frame: &mut Frame, n: u8) -> Result<(), Abend>
     ensures { FrameActs (Popn n) frame.old frame.new result }
 {
@@ -42,7 +42,7 @@ pub fn pop_bytes(frame: &mut Frame, n: u8) -> Result<(), Abend>
 }
 
 /// Executes POPB: pops one byte.
-#[tactic(auto, unfolding(mc_model_machine::specs::Row::row, mc_model_machine::specs::Row::causes, mc_model_machine::specs::Row::effect))]
+#[tactic(auto, unfolding(model_machine::specs::Row::row, model_machine::specs::Row::causes, model_machine::specs::Row::effect))]
 pub fn pop_byte(frame: &mut Frame) -> Result<(), Abend>
     ensures { FrameActs Popb frame.old frame.new result }
 {
@@ -50,7 +50,7 @@ pub fn pop_byte(frame: &mut Frame) -> Result<(), Abend>
 }
 
 /// Executes POPW: pops two bytes.
-#[tactic(auto, unfolding(mc_model_machine::specs::Row::row, mc_model_machine::specs::Row::causes, mc_model_machine::specs::Row::effect))]
+#[tactic(auto, unfolding(model_machine::specs::Row::row, model_machine::specs::Row::causes, model_machine::specs::Row::effect))]
 pub fn pop_word(frame: &mut Frame) -> Result<(), Abend>
     ensures { FrameActs Popw frame.old frame.new result }
 {

@@ -1,6 +1,6 @@
 // One instruction: its row, by families.
 ghost use Rattle.std.specs.Prelude.{◌≡◌, false};
-ghost use Rattle.mc_model_machine.specs.Code.{Shaped};
+ghost use Rattle.model_machine.specs.Code.{Shaped};
 ghost use Rattle.mc_segs.specs.HeldFrames.{CanRun};
 ghost use Rattle.mc_segs.specs.Ends.{scene, RowActs};
 ghost use Rattle.mc_rows.specs.Rows.{alone, row_result, onward};
@@ -19,8 +19,8 @@ use crate::transfers::{
 };
 use mc_bank::Bank;
 use mc_base::bytes_of;
-use mc_model_machine::Ins;
 use mc_segs::{Abend, Frame, Halt, Public};
+use model_machine::Ins;
 
 /// Executes one instruction other than PRIM whose fields are in their ranges; the frame's code address is
 /// already that of the next instruction. Returns the continuation.
@@ -29,7 +29,7 @@ use mc_segs::{Abend, Frame, Halt, Public};
 ///
 /// Returns an abend exactly by the first cause of its row that holds; no byte at an address has changed then.
 /// Returns the `Stop` of the bank if it stopped during the change of static bytes.
-#[tactic(auto, unfolding(mc_model_machine::specs::Row::row, mc_model_machine::specs::Row::causes, mc_model_machine::specs::Row::effect))]
+#[tactic(auto, unfolding(model_machine::specs::Row::row, model_machine::specs::Row::causes, model_machine::specs::Row::effect))]
 #[inline(always)]
 pub fn step<B: Bank>(
     bank: &mut B,
@@ -78,7 +78,7 @@ pub fn step<B: Bank>(
 }
 
 // The rows that depend on their frame alone.
-#[tactic(auto, unfolding(mc_model_machine::specs::Row::row, mc_model_machine::specs::Row::causes, mc_model_machine::specs::Row::effect))]
+#[tactic(auto, unfolding(model_machine::specs::Row::row, model_machine::specs::Row::causes, model_machine::specs::Row::effect))]
 #[inline(always)]
 fn step_frame(frame: &mut Frame, ins: &Ins) -> Result<(), Abend>
     requires shaped { Shaped ins.now }
@@ -107,7 +107,7 @@ fn step_frame(frame: &mut Frame, ins: &Ins) -> Result<(), Abend>
 
 // The rows that read or write an operand with an address tag: those of blocks of n bytes, and then those of an
 // immediate.
-#[tactic(auto, unfolding(mc_model_machine::specs::Row::row, mc_model_machine::specs::Row::causes, mc_model_machine::specs::Row::effect))]
+#[tactic(auto, unfolding(model_machine::specs::Row::row, model_machine::specs::Row::causes, model_machine::specs::Row::effect))]
 #[inline(always)]
 fn step_operand<B: Bank>(
     bank: &mut B,
@@ -142,7 +142,7 @@ fn step_operand<B: Bank>(
 }
 
 // The rows of a byte or a word at a place with an immediate operand.
-#[tactic(auto, unfolding(mc_model_machine::specs::Row::row, mc_model_machine::specs::Row::causes, mc_model_machine::specs::Row::effect))]
+#[tactic(auto, unfolding(model_machine::specs::Row::row, model_machine::specs::Row::causes, model_machine::specs::Row::effect))]
 #[inline(always)]
 fn step_immediate<B: Bank>(
     bank: &mut B,

@@ -1,6 +1,6 @@
 // Rows that move bytes between the stack and an address.
 ghost use Rattle.std.specs.Prelude.{◌≡◌, ◌≤◌, false, length};
-ghost use Rattle.mc_model_machine.specs.declared.instruction.Ins.TheVariants.{Load, Store, Loadi, Storei, Loada, Index};
+ghost use Rattle.model_machine.specs.declared.instruction.Ins.TheVariants.{Load, Store, Loadi, Storei, Loada, Index};
 ghost use Rattle.mc_segs.specs.HeldFrames.{frame_on_bank, CanRun};
 ghost use Rattle.mc_segs.specs.Ends.{scene, RowActs};
 ghost use Rattle.mc_rows.specs.Rows.{alone, AddressUnder, onward};
@@ -16,7 +16,7 @@ use mc_segs::{Abend, Frame, Halt, Public, load, pop, push, store};
 const FEW: usize = 16;
 
 /// Executes LOAD: pushes the n bytes of the operand.
-#[tactic(auto, unfolding(mc_model_machine::specs::Row::row, mc_model_machine::specs::Row::causes, mc_model_machine::specs::Row::effect))]
+#[tactic(auto, unfolding(model_machine::specs::Row::row, model_machine::specs::Row::causes, model_machine::specs::Row::effect))]
 pub fn load_block<B: Bank>(
     bank: &mut B,
     frame: &mut Frame,
@@ -39,7 +39,7 @@ pub fn load_block<B: Bank>(
 }
 
 // LOAD in a buffer of the operand's length.
-#[tactic(auto, unfolding(mc_model_machine::specs::Row::row, mc_model_machine::specs::Row::causes, mc_model_machine::specs::Row::effect))]
+#[tactic(auto, unfolding(model_machine::specs::Row::row, model_machine::specs::Row::causes, model_machine::specs::Row::effect))]
 #[inline(always)]
 fn load_in<B: Bank>(
     bank: &mut B,
@@ -63,7 +63,7 @@ fn load_in<B: Bank>(
 }
 
 /// Executes STORE: pops n bytes, and writes them to the operand's place.
-#[tactic(auto, unfolding(mc_model_machine::specs::Row::row, mc_model_machine::specs::Row::causes, mc_model_machine::specs::Row::effect))]
+#[tactic(auto, unfolding(model_machine::specs::Row::row, model_machine::specs::Row::causes, model_machine::specs::Row::effect))]
 pub fn store_block<B: Bank>(
     bank: &mut B,
     frame: &mut Frame,
@@ -86,7 +86,7 @@ pub fn store_block<B: Bank>(
 }
 
 // STORE in a buffer of the operand's length.
-#[tactic(auto, unfolding(mc_model_machine::specs::Row::row, mc_model_machine::specs::Row::causes, mc_model_machine::specs::Row::effect))]
+#[tactic(auto, unfolding(model_machine::specs::Row::row, model_machine::specs::Row::causes, model_machine::specs::Row::effect))]
 #[inline(always)]
 fn store_in<B: Bank>(
     bank: &mut B,
@@ -112,7 +112,7 @@ fn store_in<B: Bank>(
 }
 
 /// Executes LOADI: pushes n bytes, of which the operand is the address.
-#[tactic(auto, unfolding(mc_model_machine::specs::Row::row, mc_model_machine::specs::Row::causes, mc_model_machine::specs::Row::effect))]
+#[tactic(auto, unfolding(model_machine::specs::Row::row, model_machine::specs::Row::causes, model_machine::specs::Row::effect))]
 pub fn load_indirect<B: Bank>(
     bank: &mut B,
     frame: &mut Frame,
@@ -137,7 +137,7 @@ pub fn load_indirect<B: Bank>(
 }
 
 /// Executes STOREI: pops n bytes, and writes them to the address that the operand was before.
-#[tactic(auto, unfolding(mc_model_machine::specs::Row::row, mc_model_machine::specs::Row::causes, mc_model_machine::specs::Row::effect))]
+#[tactic(auto, unfolding(model_machine::specs::Row::row, model_machine::specs::Row::causes, model_machine::specs::Row::effect))]
 pub fn store_indirect<B: Bank>(
     bank: &mut B,
     frame: &mut Frame,
@@ -161,7 +161,7 @@ pub fn store_indirect<B: Bank>(
 }
 
 /// Executes LOADA: pushes the operand's address, if the tag is 0 that of the top of the stack.
-#[tactic(auto, unfolding(mc_model_machine::specs::Row::row, mc_model_machine::specs::Row::causes, mc_model_machine::specs::Row::effect))]
+#[tactic(auto, unfolding(model_machine::specs::Row::row, model_machine::specs::Row::causes, model_machine::specs::Row::effect))]
 pub fn load_address(frame: &mut Frame, tag: u8, off: i16) -> Result<(), Abend>
     requires { tag ≤ 7 }
     ensures { FrameActs (Loada tag off) frame.old frame.new result }
@@ -172,7 +172,7 @@ pub fn load_address(frame: &mut Frame, tag: u8, off: i16) -> Result<(), Abend>
 
 /// Executes INDEX: pushes the address of an element of a table; pops its number, and if the tag is 0 the
 /// table's address too.
-#[tactic(auto, unfolding(mc_model_machine::specs::Row::row, mc_model_machine::specs::Row::causes, mc_model_machine::specs::Row::effect))]
+#[tactic(auto, unfolding(model_machine::specs::Row::row, model_machine::specs::Row::causes, model_machine::specs::Row::effect))]
 pub fn index(frame: &mut Frame, tag: u8, off: i16, size: u8) -> Result<(), Abend>
     requires { tag ≤ 7 }
     ensures { FrameActs (Index tag off size) frame.old frame.new result }

@@ -1,8 +1,8 @@
 -- The lines that are commands to a card, as the play takes them.
 use Rattle.std.proofs.Common.{◌≡◌, ℕ, true, List, Option, None, refl, arith}
-use Rattle.mc_model_card.specs.Items.{moves}
-use Rattle.mc_model_play.specs.Play as play
-use Rattle.mc_model_play.specs.Play.{Unarmed, State, BeforePower, AfterPower, Warm, FailedWrite, step, card_line, before_power_line, is_card_line, moves_of}
+use Rattle.model_card.specs.Items.{moves}
+use Rattle.model_play.specs.Play as play
+use Rattle.model_play.specs.Play.{Unarmed, State, BeforePower, AfterPower, Warm, FailedWrite, step, card_line, before_power_line, is_card_line, moves_of}
 use Rattle.mc_script.specs.declared.commands.CardLine.{CardLine}
 use Rattle.mc_script.specs.declared.commands.CardLine.TheVariants as command
 use Rattle.mc_script.specs.Counting.{line_powers, line_pokes, line_cuts, line_fails}

@@ -2,12 +2,12 @@
 use Rattle.std.proofs.Common.{◌≡◌, ℕ, zero, suc, ◌+◌, ◌≤◌, true, false, arith, List, [], ◌∷◌, ◌++◌, length, drop, Option, Some, None, Result, Ok, Err, refl, sym, ap, subst, ◌∙◌}
 use Rattle.std.specs.Prelude.{option_map, slice_get, is_err}
 use Rattle.std.proofs.Math.ListN.{drop_of_length-le}
-use Rattle.mc_model_device.specs.Device.{DeviceState, BenchState}
-use Rattle.mc_model_machine.specs.Chain.{Turn}
-use Rattle.mc_model_play.specs.DeckGrammar.{DeckLine}
-use Rattle.mc_model_play.specs.Play.{State, FailedWrite, Step, step}
-use Rattle.mc_model_play.specs.Transcript.{line_text}
-use Rattle.mc_model_play.specs.TraceText.{shown_turns}
+use Rattle.model_device.specs.Device.{DeviceState, BenchState}
+use Rattle.model_machine.specs.Chain.{Turn}
+use Rattle.model_play.specs.DeckGrammar.{DeckLine}
+use Rattle.model_play.specs.Play.{State, FailedWrite, Step, step}
+use Rattle.model_play.specs.Transcript.{line_text}
+use Rattle.model_play.specs.TraceText.{shown_turns}
 use Rattle.mc_streams.specs.declared.refusals.WriteFault.{WriteFault}
 use Rattle.mc_text.specs.Texts.{Sunk, Puts}
 use Rattle.mc_script.specs.declared.answer.Answer.{Answer}
@@ -17,7 +17,7 @@ use Rattle.mc_script.specs.Lines.{bench_of, Lined, Stepped}
 use Rattle.mc_script.specs.Writers.{write_result, text_by}
 use Rattle.mc_script.specs.Plays.{Bench}
 use Rattle.mc_script.specs.StepCounts.{CountsLine, CountsFrom}
-use Rattle.mc_model_play.proofs.PlayLemmas.{step_is}
+use Rattle.model_play.proofs.PlayLemmas.{step_is}
 use Rattle.mc_script.proofs.PlayLemmas.{from_on, from_cut, from_none}
 use Rattle.mc_script.proofs.LinedLemmas.{at_stands}
 use Rattle.mc_script.proofs.StepPlayLemmas.{step_counts}

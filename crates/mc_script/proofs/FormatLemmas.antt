@@ -1,11 +1,11 @@
 -- The lines that poke words before the first power line.
 use Rattle.std.proofs.Common.{◌≡◌, ℕ, List, [], Option, Some, None, refl, sym, ◌∙◌, ap, subst, arith}
 use Rattle.std.specs.Prelude.{slice_set, option_map, cond, nat_lt, length, false}
-use Rattle.mc_model_device.specs.Device.{DeviceState, BenchState, GrowsBy, bench_after_pokes}
-use Rattle.mc_model_play.specs.DeckGrammar.{DeckLine}
-use Rattle.mc_model_play.specs.DeckGrammar as line
-use Rattle.mc_model_play.specs.Play as play
-use Rattle.mc_model_play.specs.Play.{LineResult, Formatted, Warm, BeforePower, AfterPower, step, quiet, is_card_line, moves_of, formatted_image}
+use Rattle.model_device.specs.Device.{DeviceState, BenchState, GrowsBy, bench_after_pokes}
+use Rattle.model_play.specs.DeckGrammar.{DeckLine}
+use Rattle.model_play.specs.DeckGrammar as line
+use Rattle.model_play.specs.Play as play
+use Rattle.model_play.specs.Play.{LineResult, Formatted, Warm, BeforePower, AfterPower, step, quiet, is_card_line, moves_of, formatted_image}
 use Rattle.mc_script.specs.declared.answer.Answer.{Answer}
 use Rattle.mc_script.specs.declared.answer.Answer.TheVariants as answer
 use Rattle.mc_script.specs.declared.player.Power.{Power}

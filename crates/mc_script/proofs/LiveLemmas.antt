@@ -1,13 +1,13 @@
 -- A player whose session state, or whose power without a card, is replaced.
 use Rattle.std.proofs.Common.{◌≡◌, refl, sym, ap, ◌∙◌, subst}
 use Rattle.std.specs.Prelude.{true, false}
-use Rattle.mc_model_device.specs.Device.{DeviceState, BenchState}
-use Rattle.mc_model_device.specs.Card.{means}
-use Rattle.mc_model_device.specs.PowerUp.{OnCard}
-use Rattle.mc_model_card.specs.Manager.{SessionState}
-use Rattle.mc_model_play.specs.Play as play
-use Rattle.mc_model_play.specs.Play.{Warm, State, BeforePower, AfterPower, Running, Unpowered, Muted}
-use Rattle.mc_model_play.specs.Family.{live_in, is_running}
+use Rattle.model_device.specs.Device.{DeviceState, BenchState}
+use Rattle.model_device.specs.Card.{means}
+use Rattle.model_device.specs.PowerUp.{OnCard}
+use Rattle.model_card.specs.Manager.{SessionState}
+use Rattle.model_play.specs.Play as play
+use Rattle.model_play.specs.Play.{Warm, State, BeforePower, AfterPower, Running, Unpowered, Muted}
+use Rattle.model_play.specs.Family.{live_in, is_running}
 use Rattle.mc_store.specs.Power.{HoldsBase}
 use Rattle.mc_card.specs.declared.card.Card.{Card}
 use Rattle.mc_card.specs.Parts.{device_in, session_state_in, IsReadyCard}

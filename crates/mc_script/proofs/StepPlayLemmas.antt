@@ -2,16 +2,16 @@
 use Rattle.std.proofs.Common.{◌≡◌, ℕ, ◌+◌, Bool, true, false, List, [], ◌∷◌, ◌++◌, Option, Some, None, refl, arith, sym, ap, subst, ◌∙◌}
 use Rattle.std.specs.Prelude.{option_map}
 use Rattle.std.specs.List.{AllByRecursion}
-use Rattle.mc_model_device.specs.Device.{DeviceState}
-use Rattle.mc_model_device.specs.Card.{App}
-use Rattle.mc_model_device.specs.PowerUp.{Base, OnCard, AtFault}
-use Rattle.mc_model_device.specs.Bytes.{lookup}
-use Rattle.mc_model_card.specs.Items.{StopAt, moves}
-use Rattle.mc_model_card.specs.Commands.{Command}
-use Rattle.mc_model_play.specs.DeckGrammar.{DeckLine}
-use Rattle.mc_model_play.specs.DeckGrammar as line
-use Rattle.mc_model_play.specs.Play.{LineResult, OffAt, FailureStop, Live, Running, Unpowered, Muted, Warm, State, BeforePower, AfterPower, FailedWrite, Step, step, line_command, card_line, line_says, power_says, power_result, power_moves, play_at_power, hit_of, dump_result, static_of}
-use Rattle.mc_model_play.proofs.PlayLemmas.{step_is}
+use Rattle.model_device.specs.Device.{DeviceState}
+use Rattle.model_device.specs.Card.{App}
+use Rattle.model_device.specs.PowerUp.{Base, OnCard, AtFault}
+use Rattle.model_device.specs.Bytes.{lookup}
+use Rattle.model_card.specs.Items.{StopAt, moves}
+use Rattle.model_card.specs.Commands.{Command}
+use Rattle.model_play.specs.DeckGrammar.{DeckLine}
+use Rattle.model_play.specs.DeckGrammar as line
+use Rattle.model_play.specs.Play.{LineResult, OffAt, FailureStop, Live, Running, Unpowered, Muted, Warm, State, BeforePower, AfterPower, FailedWrite, Step, step, line_command, card_line, line_says, power_says, power_result, power_moves, play_at_power, hit_of, dump_result, static_of}
+use Rattle.model_play.proofs.PlayLemmas.{step_is}
 use Rattle.mc_card.specs.declared.card.Card.{Card}
 use Rattle.mc_card.specs.Parts.{card_in}
 use Rattle.mc_script.specs.declared.answer.Answer.{Answer}

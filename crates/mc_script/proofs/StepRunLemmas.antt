@@ -1,17 +1,17 @@
 -- The steps of a run turn by turn, of the commands of a load, and of a line on a card that runs.
 use Rattle.std.proofs.Common.{◌≡◌, ◌⊎◌, ℕ, zero, suc, ◌+◌, ◌≤◌, Bool, true, false, cond, List, [], ◌∷◌, Option, Some, refl, arith, sym, ap, subst, ◌∙◌, inl, inr}
 use Rattle.std.specs.Prelude.{option_map}
-use Rattle.mc_model_device.specs.declared.device.Stop.{Stop}
-use Rattle.mc_model_device.specs.declared.device.Stop.TheVariants.{Off, Worn}
-use Rattle.mc_model_device.specs.Device.{DeviceState, BenchState}
-use Rattle.mc_model_device.specs.Card as model
-use Rattle.mc_model_device.specs.Card.{means}
-use Rattle.mc_model_device.specs.PowerUp.{Base, OnCard, AtFault}
-use Rattle.mc_model_machine.specs.Chain.{Chain, Turn, Acted, Ran, Follows, Continues, Ends, turn_of_chain, turn_of, end_of, chain_session, run_after_turn, run_of_chain}
-use Rattle.mc_model_card.specs.Manager.{SessionState}
-use Rattle.mc_model_play.specs.DeckGrammar.{DeckLine}
-use Rattle.mc_model_play.specs.DeckGrammar as line
-use Rattle.mc_model_play.specs.Play.{Live, Running, Unpowered, Muted, State, BeforePower, AfterPower, line_command}
+use Rattle.model_device.specs.declared.device.Stop.{Stop}
+use Rattle.model_device.specs.declared.device.Stop.TheVariants.{Off, Worn}
+use Rattle.model_device.specs.Device.{DeviceState, BenchState}
+use Rattle.model_device.specs.Card as model
+use Rattle.model_device.specs.Card.{means}
+use Rattle.model_device.specs.PowerUp.{Base, OnCard, AtFault}
+use Rattle.model_machine.specs.Chain.{Chain, Turn, Acted, Ran, Follows, Continues, Ends, turn_of_chain, turn_of, end_of, chain_session, run_after_turn, run_of_chain}
+use Rattle.model_card.specs.Manager.{SessionState}
+use Rattle.model_play.specs.DeckGrammar.{DeckLine}
+use Rattle.model_play.specs.DeckGrammar as line
+use Rattle.model_play.specs.Play.{Live, Running, Unpowered, Muted, State, BeforePower, AfterPower, line_command}
 use Rattle.mc_machine.specs.declared.outcome.Outcome.{Outcome}
 use Rattle.mc_machine.specs.declared.outcome.Turn.{Turn as CodeTurn}
 use Rattle.mc_machine.specs.Turns.{outcome_value, turn_value}

@@ -3,14 +3,14 @@ use Rattle.std.proofs.Common.{◌≡◌, ℕ, suc, ◌+◌, ◌≤◌, Bool, tru
 use Rattle.std.specs.Prelude.{option_map, filter, flat_map}
 use Rattle.std.specs.List.{AllByRecursion}
 use Rattle.std.proofs.lemmas.List.{append-nil}
-use Rattle.mc_model_device.specs.Device.{DeviceState, BenchState}
-use Rattle.mc_model_machine.specs.Chain.{Turn}
-use Rattle.mc_model_play.specs.DeckGrammar.{DeckLine}
-use Rattle.mc_model_play.specs.DeckGrammar as line
-use Rattle.mc_model_play.specs.Play.{State, BeforePower, AfterPower, FailedWrite, LineResult, Step, plays, step, first_failure, last_state}
-use Rattle.mc_model_play.specs.Transcript.{text_of_result}
-use Rattle.mc_model_play.specs.Generator.{is_dump, results, count, dump_lines, count_line, summary, is_reply, is_abend, is_cut, is_off, is_ready}
-use Rattle.mc_model_play.proofs.PlayLemmas.{step_is}
+use Rattle.model_device.specs.Device.{DeviceState, BenchState}
+use Rattle.model_machine.specs.Chain.{Turn}
+use Rattle.model_play.specs.DeckGrammar.{DeckLine}
+use Rattle.model_play.specs.DeckGrammar as line
+use Rattle.model_play.specs.Play.{State, BeforePower, AfterPower, FailedWrite, LineResult, Step, plays, step, first_failure, last_state}
+use Rattle.model_play.specs.Transcript.{text_of_result}
+use Rattle.model_play.specs.Generator.{is_dump, results, count, dump_lines, count_line, summary, is_reply, is_abend, is_cut, is_off, is_ready}
+use Rattle.model_play.proofs.PlayLemmas.{step_is}
 use Rattle.mc_script.specs.declared.answer.Answer.{Answer}
 use Rattle.mc_script.specs.declared.player.Player.{Player}
 use Rattle.mc_script.specs.declared.summary.Counts.{Counts}

@@ -1,15 +1,15 @@
 -- The text of static bytes.
 use Rattle.std.proofs.Common.{◌≡◌, ◌≢◌, ℕ, zero, suc, ◌+◌, ◌≤◌, Option, Some, None, false, List, [], ◌∷◌, ◌++◌, length, take, drop, codes, refl, sym, ap, ◌∙◌, append_assoc, arith}
 use Rattle.mc_text.proofs.TextLemmas.{hex_text_split}
-use Rattle.mc_model_play.specs.Generator.{is_reply, is_abend, is_cut, is_off, is_ready}
-use Rattle.mc_model_device.specs.declared.cause.Cause.{Cause}
-use Rattle.mc_model_device.specs.declared.cause.Cause.TheVariants.{BadJournal, NoRoot, BadBlock, BadRecord, BadChain}
-use Rattle.mc_model_device.specs.Card.{App}
-use Rattle.mc_model_play.specs.Play.{static_of}
-use Rattle.mc_model_device.specs.Words.{cause_text}
-use Rattle.mc_model_text.specs.Listing.{hex_text}
-use Rattle.mc_model_play.specs.Transcript.{static_text}
-use Rattle.mc_model_device.proofs.ListLemmas.{drop_none}
+use Rattle.model_play.specs.Generator.{is_reply, is_abend, is_cut, is_off, is_ready}
+use Rattle.model_device.specs.declared.cause.Cause.{Cause}
+use Rattle.model_device.specs.declared.cause.Cause.TheVariants.{BadJournal, NoRoot, BadBlock, BadRecord, BadChain}
+use Rattle.model_device.specs.Card.{App}
+use Rattle.model_play.specs.Play.{static_of}
+use Rattle.model_device.specs.Words.{cause_text}
+use Rattle.model_text.specs.Listing.{hex_text}
+use Rattle.model_play.specs.Transcript.{static_text}
+use Rattle.model_device.proofs.ListLemmas.{drop_none}
 
 -- the text of static bytes, if there are any
 pub static_some : (bs : List ℕ) → length bs ≢ 0 → codes "static " ++ hex_text bs ≡ static_text bs

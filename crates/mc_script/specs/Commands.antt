@@ -1,6 +1,6 @@
 -- The commands of a line, and those of a load that are still to be sent.
-use Rattle.mc_model_play.specs.DeckGrammar.{DeckLine}
-use Rattle.mc_model_play.specs.DeckGrammar as line
+use Rattle.model_play.specs.DeckGrammar.{DeckLine}
+use Rattle.model_play.specs.DeckGrammar as line
 use Rattle.mc_unit.specs.Parts.{parts_of}
 use Rattle.mc_script.specs.declared.commands.CardLine.{CardLine}
 use Rattle.mc_script.specs.declared.commands.CardLine.TheVariants as command

@@ -1,7 +1,7 @@
-pub use Rattle.mc_model_play.specs.Play
-pub use Rattle.mc_model_play.specs.Transcript
-pub use Rattle.mc_model_play.specs.TraceText
-pub use Rattle.mc_model_play.specs.Generator
+pub use Rattle.model_play.specs.Play
+pub use Rattle.model_play.specs.Transcript
+pub use Rattle.model_play.specs.TraceText
+pub use Rattle.model_play.specs.Generator
 pub mod Loads
 pub mod Classes
 pub mod Runs

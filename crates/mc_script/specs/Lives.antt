@@ -1,7 +1,7 @@
 -- What runs on a player's device, saved and put back.
 use Rattle.std.specs.Prelude.{◌≡◌, ℕ, List, ⊤}
-use Rattle.mc_model_play.specs.Play as play
-use Rattle.mc_model_play.specs.Play.{Running, Unpowered, Muted}
+use Rattle.model_play.specs.Play as play
+use Rattle.model_play.specs.Play.{Running, Unpowered, Muted}
 use Rattle.mc_card.specs.Saved.{SavedState, FitsWords, session_state_on}
 use Rattle.mc_script.specs.declared.player.Power.{Power}
 use Rattle.mc_script.specs.declared.player.Power.TheVariants as power

@@ -1,6 +1,6 @@
 -- The commands of a load that are still to be sent.
 use Rattle.std.specs.Prelude.{ℕ, List, [], ◌∷◌, ◌++◌, length, Option, Some, None}
-use Rattle.mc_model_play.specs.Play.{piece_commands}
+use Rattle.model_play.specs.Play.{piece_commands}
 use Rattle.mc_script.specs.declared.loading.LoadCommands.TheInside.{Inside as LoadFields}
 use Rattle.mc_script.specs.declared.loading.Section.TheInside.{Inside as SectionFields}
 

@@ -1,12 +1,12 @@
 -- The summary of a play: its counts, and the results of the dump lines, which are last.
 use Rattle.std.specs.Prelude.{◌≡◌, ℕ, true, List, [], ◌∷◌, ◌++◌, length, codes, Option, Some, None, Result}
 use Rattle.std.specs.List.{AllByRecursion}
-use Rattle.mc_model_play.specs.DeckGrammar.{DeckLine}
-use Rattle.mc_model_play.specs.DeckGrammar as line
-use Rattle.mc_model_play.specs.Play.{State, FailedWrite, LineResult, Step, plays, last_state, step}
-use Rattle.mc_model_play.specs.Transcript.{text_of_result}
-use Rattle.mc_model_play.specs.Generator.{is_reply, is_abend, is_cut, is_off, is_ready, is_dump, results, count}
-use Rattle.mc_model_device.specs.Device.{DeviceState, BenchState}
+use Rattle.model_play.specs.DeckGrammar.{DeckLine}
+use Rattle.model_play.specs.DeckGrammar as line
+use Rattle.model_play.specs.Play.{State, FailedWrite, LineResult, Step, plays, last_state, step}
+use Rattle.model_play.specs.Transcript.{text_of_result}
+use Rattle.model_play.specs.Generator.{is_reply, is_abend, is_cut, is_off, is_ready, is_dump, results, count}
+use Rattle.model_device.specs.Device.{DeviceState, BenchState}
 use Rattle.mc_streams.specs.declared.refusals.WriteFault.{WriteFault}
 use Rattle.mc_text.specs.Texts.{Sunk, Puts}
 use Rattle.mc_script.specs.declared.summary.Counts.{Counts}

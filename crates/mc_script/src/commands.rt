@@ -1,6 +1,6 @@
 // The lines that are commands to a card.
 ghost use Rattle.std.specs.Prelude.{◌≡◌, ◌≤◌, ◌++◌, ◌∷◌, length, is_err};
-ghost use Rattle.mc_model_play.specs.Play.{line_command};
+ghost use Rattle.model_play.specs.Play.{line_command};
 ghost use Rattle.mc_deck.specs.Lines.{GoodLine};
 ghost use Rattle.mc_card.specs.Parts.{device_in, card_in, session_state_in, IsReadyCard};
 ghost use Rattle.mc_script.specs.Commands.{deck_line_of};

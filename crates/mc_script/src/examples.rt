@@ -1,11 +1,11 @@
 // Worked examples of what a line leaves and counts.
 ghost use Rattle.std.specs.Prelude.{◌≡◌, true, false, [], ◌∷◌, Some, None};
-ghost use Rattle.mc_model_device.specs.declared.device.Stop.TheVariants.{Off, Worn};
-ghost use Rattle.mc_model_device.specs.Bytes.{zeros};
-ghost use Rattle.mc_model_device.specs.Device.{blank_words};
-ghost use Rattle.mc_model_machine.specs.declared.instruction.Ins.TheVariants.{Nop};
-ghost use Rattle.mc_model_play.specs.DeckGrammar as line;
-ghost use Rattle.mc_model_play.specs.Play.{start, formatted_image};
+ghost use Rattle.model_device.specs.declared.device.Stop.TheVariants.{Off, Worn};
+ghost use Rattle.model_device.specs.Bytes.{zeros};
+ghost use Rattle.model_device.specs.Device.{blank_words};
+ghost use Rattle.model_machine.specs.declared.instruction.Ins.TheVariants.{Nop};
+ghost use Rattle.model_play.specs.DeckGrammar as line;
+ghost use Rattle.model_play.specs.Play.{start, formatted_image};
 ghost use Rattle.mc_script.specs.Counting.{on_after};
 ghost use Rattle.mc_script.specs.Plays.{words_after};
 ghost use Rattle.mc_script.specs.StepCounts.{instructions, command_search};
@@ -21,7 +21,7 @@ pub fn power_after_lines()
 {}
 
 /// The words after lines: those of a `format` line, and no other after a power line that makes no write.
-#[tactic(auto, unfolding(mc_model_play::specs::Play::step, mc_model_play::specs::Play::moves_of))]
+#[tactic(auto, unfolding(model_play::specs::Play::step, model_play::specs::Play::moves_of))]
 pub fn words_after_lines()
     ensures none { words_after (blank_words 256) (start (blank_words 256)) [] [] [] ≡ blank_words 256 }
     ensures format { words_after (blank_words 256) (start (blank_words 256)) ((1, line.Format) ∷ []) (None ∷ []) []

@@ -1,8 +1,8 @@
 // What runs on a player's device, saved and put back.
 ghost use Rattle.std.specs.Prelude.{◌≡◌, true, false, IfOk};
-ghost use Rattle.mc_model_play.specs.Play as play;
-ghost use Rattle.mc_model_play.specs.Play.{State, Warm, AfterPower, Running};
-ghost use Rattle.mc_model_play.specs.Family.{live_in, is_running};
+ghost use Rattle.model_play.specs.Play as play;
+ghost use Rattle.model_play.specs.Play.{State, Warm, AfterPower, Running};
+ghost use Rattle.model_play.specs.Family.{live_in, is_running};
 ghost use Rattle.mc_script.specs.Players.{device_of};
 ghost use Rattle.mc_script.specs.Benches.{IsPlayerAt, IsPlaying};
 ghost use Rattle.mc_script.specs.Lives.{LiveShows, FitsLive, IsStopped, live_at};

@@ -1,10 +1,10 @@
 // The commands of a load, one after the other.
 ghost use Rattle.std.specs.List.{AllByRecursion};
 ghost use Rattle.std.specs.Prelude.{◌≡◌, ◌+◌, ◌++◌, ◌∷◌, [], ◌≤◌, length, is_err, true, false};
-ghost use Rattle.mc_model_device.specs.Limits.{most_code};
-ghost use Rattle.mc_model_device.specs.Bytes.{bytes2};
-ghost use Rattle.mc_model_card.specs.Units.{FitsUnit};
-ghost use Rattle.mc_model_play.specs.Play.{is_done, load_commands, section_commands, send};
+ghost use Rattle.model_device.specs.Limits.{most_code};
+ghost use Rattle.model_device.specs.Bytes.{bytes2};
+ghost use Rattle.model_card.specs.Units.{FitsUnit};
+ghost use Rattle.model_play.specs.Play.{is_done, load_commands, section_commands, send};
 ghost use Rattle.mc_unit.specs.Parts.{parts_of};
 ghost use Rattle.mc_machine.specs.Turns.{outcome_value};
 ghost use Rattle.mc_card.specs.Parts.{device_in, card_in, session_state_in, IsReadyCard};
@@ -154,7 +154,7 @@ struct Section<'a> {
 impl<'a> Model for Section<'a> {
     ghost use Rattle.std.specs.List.{AllByRecursion};
     ghost use Rattle.std.specs.Prelude.{◌+◌, ◌≤◌, length, List, ℕ};
-    ghost use Rattle.mc_model_device.specs.Limits.{most_code};
+    ghost use Rattle.model_device.specs.Limits.{most_code};
 
     ghost Value = { List (List ℕ) };
 

@@ -1,12 +1,12 @@
 // Whole decks.
 ghost use Rattle.std.specs.Prelude.{◌≡◌, None};
 ghost use Rattle.std.specs.List.{AllByRecursion};
-ghost use Rattle.mc_model_device.specs.Device.{IsImage};
-ghost use Rattle.mc_model_play.specs.Play.{start};
-ghost use Rattle.mc_model_play.specs.ReadyAgain.{IsLine};
+ghost use Rattle.model_device.specs.Device.{IsImage};
+ghost use Rattle.model_play.specs.Play.{start};
+ghost use Rattle.model_play.specs.ReadyAgain.{IsLine};
 ghost use Rattle.mc_script.specs.Players.{IsUnfused};
 ghost use Rattle.mc_script.specs.Writers.{write_result};
-ghost use Rattle.mc_model_play.specs.Generator.{summary};
+ghost use Rattle.model_play.specs.Generator.{summary};
 ghost use Rattle.mc_script.specs.Sums.{DumpsLast};
 ghost use Rattle.mc_script.specs.Plays.{plain_text, traced_text, PlaysDeck, SumsDeck};
 ghost use Rattle.mc_script.specs.StepCounts.{CountsFrom, CountsDeck, CountsSum};

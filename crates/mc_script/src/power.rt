@@ -1,6 +1,6 @@
 // Power lines, card lines, and how a stop ends them.
 ghost use Rattle.std.specs.Prelude.{◌≡◌, ◌≤◌, Some, None};
-ghost use Rattle.mc_model_play.specs.DeckGrammar as line;
+ghost use Rattle.model_play.specs.DeckGrammar as line;
 ghost use Rattle.mc_deck.specs.Lines.{GoodLine};
 ghost use Rattle.mc_card.specs.Parts.{device_in, with_device, IsReadyCard};
 ghost use Rattle.mc_script.specs.Arming.{armed_bench, power_after_stop, answer_after_stop, power_after_failure, answer_after_failure};

@@ -1,10 +1,10 @@
 // Lines that make no device write.
 ghost use Rattle.std.specs.Prelude.{◌≡◌, ◌≤◌, ◌<◌, length, None, cond, nat_lt, slice_set};
 ghost use Rattle.std.specs.List.{AllByRecursion};
-ghost use Rattle.mc_model_device.specs.Device.{bench_after_pokes};
-ghost use Rattle.mc_model_device.specs.Image.{image_with};
-ghost use Rattle.mc_model_play.specs.DeckGrammar as line;
-ghost use Rattle.mc_model_play.specs.Play.{formatted_image};
+ghost use Rattle.model_device.specs.Device.{bench_after_pokes};
+ghost use Rattle.model_device.specs.Image.{image_with};
+ghost use Rattle.model_play.specs.DeckGrammar as line;
+ghost use Rattle.model_play.specs.Play.{formatted_image};
 ghost use Rattle.mc_card.specs.Parts.{device_in};
 ghost use Rattle.mc_script.specs.Players.{device_of};
 ghost use Rattle.mc_script.specs.Benches.{SilentDone};

@@ -1,10 +1,10 @@
 // A deck that is played and counted, and the results of its dump lines.
 ghost use Rattle.std.specs.Prelude.{◌≡◌, ◌++◌, List, None};
 ghost use Rattle.std.specs.List.{AllByRecursion};
-ghost use Rattle.mc_model_device.specs.Device.{IsImage};
-ghost use Rattle.mc_model_play.specs.Play.{start, State, LineResult};
-ghost use Rattle.mc_model_play.specs.ReadyAgain.{IsLine};
-ghost use Rattle.mc_model_play.specs.Generator.{count_line, summary};
+ghost use Rattle.model_device.specs.Device.{IsImage};
+ghost use Rattle.model_play.specs.Play.{start, State, LineResult};
+ghost use Rattle.model_play.specs.ReadyAgain.{IsLine};
+ghost use Rattle.model_play.specs.Generator.{count_line, summary};
 ghost use Rattle.mc_deck.specs.Lines.{line_of};
 ghost use Rattle.mc_text.specs.Texts.{sunk, Puts};
 ghost use Rattle.mc_script.specs.Players.{device_of, IsUnfused};

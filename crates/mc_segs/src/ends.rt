@@ -1,5 +1,5 @@
 use mc_base::{Aid, Stop};
-use mc_model_machine::Abend;
+use model_machine::Abend;
 
 /// The continuation after an instruction that was done: the next one, the frame's exit, or the application
 /// with this name.

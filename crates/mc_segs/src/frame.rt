@@ -1,5 +1,5 @@
 ghost use Rattle.std.specs.Prelude.{◌≡◌, ◌≢◌, ◌-◌, ◌+◌, ◌≤◌, ◌<◌, length, true, false, OnOk, OnErr};
-ghost use Rattle.mc_model_machine.specs.Frame.{frame_with_flags, floor, session_of};
+ghost use Rattle.model_machine.specs.Frame.{frame_with_flags, floor, session_of};
 ghost use Rattle.mc_segs.specs.HeldFrames.{new_held};
 
 use crate::bytes::write;
@@ -98,6 +98,13 @@ impl Frame {
         ensures high { result ≤ 0x8200 }
     {
         self.dt
+    }
+
+    /// Returns LB, the address after the two words that the newest call saved, or the floor if no call is open.
+    pub fn lb(&self) -> u16
+        ensures { result ≡ self.now.frame.lb }
+    {
+        self.lb
     }
 
     /// Returns the floor of the stack, the lowest address that DT may have.

@@ -2,7 +2,7 @@
 use Rattle.std.proofs.Common.{◌≡◌, ℕ, suc, ◌+◌, ◌*◌, ◌-◌, ◌<◌, ◌≤◌, Bool, true, false, cond, List, [], ◌∷◌, ◌++◌, length, take, Option, Some, None, arith, refl, sym, ap, ◌∙◌}
 use Rattle.std.specs.Prelude.{map, nat_le, nat_lt, option_map, position, slice_index, ◌==◌}
 use Rattle.std.specs.List.{position_or_len}
-use Rattle.mc_model_text.specs.Text.{before_trimmed, pieces_with_character, halves_with_character, digits_onto, every, first_cut, is_blank, is_digit, lines, no_last_empty, pieces, trim_end, without_returns}
+use Rattle.model_text.specs.Text.{before_trimmed, pieces_with_character, halves_with_character, digits_onto, every, first_cut, is_blank, is_digit, lines, no_last_empty, pieces, trim_end, without_returns}
 use Rattle.mc_text.specs.Reading.{capped_number, decimal_behind, halves_at, without_return, line_cut, next_line}
 
 -- ---- numbers

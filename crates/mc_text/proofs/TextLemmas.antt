@@ -1,7 +1,7 @@
 -- How texts that are written one behind the other compose.
 use Rattle.std.proofs.Common.{◌≡◌, ℕ, List, [], ◌∷◌, ◌++◌, take, drop, Result, Ok, Err, IsErr, refl, arith, sym, ap, subst, ◌∙◌, append_assoc, length-append}
 use Rattle.std.proofs.lemmas.List.{take-append-drop}
-use Rattle.mc_model_text.specs.Listing.{hex_text}
+use Rattle.model_text.specs.Listing.{hex_text}
 use Rattle.mc_streams.proofs.StreamsLemmas.{grew_append, grew_none, rose_later}
 use Rattle.mc_streams.specs.declared.refusals.WriteFault.{WriteFault}
 use Rattle.mc_text.specs.Texts.{Sunk, Writes, Fails, Puts}

@@ -1,7 +1,7 @@
 -- A log of turns, one line each, which writes no more after its sink failed.
 use Rattle.std.specs.Prelude.{◌≡◌, List, Option, Some, None}
-use Rattle.mc_model_machine.specs.Chain.{Turn}
-use Rattle.mc_model_text.specs.TurnText.{turn_lines}
+use Rattle.model_machine.specs.Chain.{Turn}
+use Rattle.model_text.specs.TurnText.{turn_lines}
 use Rattle.mc_streams.specs.declared.refusals.WriteFault.{WriteFault}
 use Rattle.mc_text.specs.Texts.{Sunk, Writes, Fails}
 

@@ -1,6 +1,6 @@
 -- Reading texts: a number up to a greatest one, and a text that is cut at the first character that satisfies a test.
 use Rattle.std.specs.Prelude.{ℕ, suc, ◌-◌, cond, nat_le, ◌==◌, List, [], map, length, take, drop, slice_index, Option, Some, None}
-use Rattle.mc_model_text.specs.Text.{every, is_digit, digits_onto, first_cut, is_empty}
+use Rattle.model_text.specs.Text.{every, is_digit, digits_onto, first_cut, is_empty}
 
 -- the minimum of a number and 4,294,967,296
 abbrev pub capped_number : ℕ → ℕ

@@ -1,7 +1,7 @@
 // Appends words, numbers and bytes to a text without allocation.
 ghost use Rattle.std.specs.Prelude.{◌≡◌, ◌+◌, ◌*◌, ◌≤◌, ◌++◌, length, decimal};
 ghost use Rattle.arrayvec.specs.ArrayVec.{array_vec_len};
-ghost use Rattle.mc_model_text.specs.Listing.{hex_text};
+ghost use Rattle.model_text.specs.Listing.{hex_text};
 
 use crate::pieces::digit;
 use arrayvec::ArrayVec;

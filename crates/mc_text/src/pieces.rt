@@ -1,6 +1,6 @@
 // Words and numbers, and the digits of bytes.
 ghost use Rattle.std.specs.Prelude.{◌≡◌, ◌<◌, ◌++◌, decimal};
-ghost use Rattle.mc_model_text.specs.Listing.{hex_digit};
+ghost use Rattle.model_text.specs.Listing.{hex_digit};
 ghost use Rattle.mc_text.specs.Texts.{sunk, Puts};
 
 use itoa::Buffer;

@@ -1,6 +1,6 @@
 // Reading texts: characters, numbers, cuts, lines, and trimmed blanks.
 ghost use Rattle.std.specs.Prelude.{◌≡◌, ◌+◌, ◌*◌, ◌<◌, ◌≤◌, ◌==◌, length, position, option_map, IfSome};
-ghost use Rattle.mc_model_text.specs.Text.{decimal_number, every, first_cut, hex_value, is_blank, is_digit, is_name_character, trim, trim_front, trim_end};
+ghost use Rattle.model_text.specs.Text.{decimal_number, every, first_cut, hex_value, is_blank, is_digit, is_name_character, trim, trim_front, trim_end};
 ghost use Rattle.mc_text.specs.Reading.{capped_number, halves_at, next_line, without_return};
 
 /// Returns whether a character is a space or a tab.

@@ -1,2 +1,2 @@
-pub use Rattle.mc_model_text.specs.TurnText
+pub use Rattle.model_text.specs.TurnText
 pub use Rattle.mc_machine.specs.Turns

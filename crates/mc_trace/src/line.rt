@@ -1,10 +1,10 @@
 // The line of one turn: an executed instruction, or a fetch that found none.
 ghost use Rattle.std.specs.Prelude.{◌≡◌, ◌+◌, ◌≤◌, ◌++◌, ◌∷◌, [], ℕ, length, codes, Option, IfSome};
 ghost use Rattle.arrayvec.specs.ArrayVec.{array_vec_len};
-ghost use Rattle.mc_model_device.specs.Bytes.{bytes2};
-ghost use Rattle.mc_model_machine.specs.Code.{Shaped};
-ghost use Rattle.mc_model_text.specs.Listing.{hex_text};
-ghost use Rattle.mc_model_text.specs.TurnText.{bit_text, ins_text, turn_line};
+ghost use Rattle.model_device.specs.Bytes.{bytes2};
+ghost use Rattle.model_machine.specs.Code.{Shaped};
+ghost use Rattle.model_text.specs.Listing.{hex_text};
+ghost use Rattle.model_text.specs.TurnText.{bit_text, ins_text, turn_line};
 ghost use Rattle.mc_machine.specs.Turns.{turn_value};
 
 use arrayvec::ArrayVec;
@@ -66,7 +66,7 @@ fn bit(flag: bool) -> u8
 /// Returns the line of a turn in a trace, with its line feed: the depth of its frame from 1 to 4, the place,
 /// the instruction as in a listing or `?` if there is none, DT, and the flags C and Z. Place and DT have four
 /// hexadecimal digits.
-#[tactic(auto, unfolding(mc_model_text::specs::TurnText::turn_line))]
+#[tactic(auto, unfolding(model_text::specs::TurnText::turn_line))]
 pub fn line_of(turn: &Turn) -> ArrayVec<u8, 96>
     requires shaped { IfSome turn.now.ins Shaped }
     requires low { 1 ≤ turn.now.depth }

@@ -1,9 +1,9 @@
 // Worked examples of lines, written by hand.
 ghost use Rattle.std.specs.Prelude.{◌≡◌, codes, false, true, negsuc, Some, None};
-ghost use Rattle.mc_model_machine.specs.declared.instruction.Ins.TheVariants.{Exit, Cmpb, Jump};
-ghost use Rattle.mc_model_machine.specs.declared.machine.Abend.TheVariants.{A01};
-ghost use Rattle.mc_model_machine.specs.Chain.{Abended};
-ghost use Rattle.mc_model_text.specs.TurnText.{turn_line};
+ghost use Rattle.model_machine.specs.declared.instruction.Ins.TheVariants.{Exit, Cmpb, Jump};
+ghost use Rattle.model_machine.specs.declared.machine.Abend.TheVariants.{A01};
+ghost use Rattle.model_machine.specs.Chain.{Abended};
+ghost use Rattle.model_text.specs.TurnText.{turn_line};
 
 /// The lines of four turns, one of which is a fetch that found no instruction.
 pub fn lines()

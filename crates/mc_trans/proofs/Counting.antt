@@ -3,9 +3,9 @@ use Rattle.std.proofs.Common.{◌≡◌, ℕ, zero, suc, ◌+◌, ◌-◌, ◌/�
 use Rattle.std.specs.Prelude.{nat_eq, is_none}
 use Rattle.std.proofs.lemmas.Bool.{cases_lt, ne_eqb}
 use Rattle.std.proofs.lemmas.Bool.Decides.{nat_tests}
-use Rattle.mc_model_device.specs.Pieces.{touched_words, numbers, pending_at, not_pending, with_number, with_words, Ascend, HoldPieces}
+use Rattle.model_device.specs.Pieces.{touched_words, numbers, pending_at, not_pending, with_number, with_words, Ascend, HoldPieces}
 use Rattle.mc_trans.proofs.Touched.{mem, mem_number}
-use Rattle.mc_model_device.proofs.PieceLemmas.{touched_append, with_number_twice}
+use Rattle.model_device.proofs.PieceLemmas.{touched_append, with_number_twice}
 
 -- a sorted set of numbers with `count` more, from n on
 with_numbers : ℕ → ℕ → List ℕ → List ℕ

@@ -1,7 +1,7 @@
 -- Pending words that hold pieces.
 use Rattle.std.proofs.Common.{◌≡◌, ℕ, ◌+◌, ◌*◌, ◌/◌, ◌%◌, ◌<◌, List, [], length, get_or, Option, Some, None, refl, sym, ap, subst, ◌∙◌, arith}
 use Rattle.std.specs.Prelude.{IfSome, option_map, unwrap_or}
-use Rattle.mc_model_device.specs.Pieces.{laid_pieces, touched_words, pending_at, HoldPieces, LieIn, word_pieces, laid_words}
+use Rattle.model_device.specs.Pieces.{laid_pieces, touched_words, pending_at, HoldPieces, LieIn, word_pieces, laid_words}
 use Rattle.std.proofs.lemmas.List.{ext_get_or, get_or-take, length-take}
 use Rattle.mc_trans.proofs.Overlay.{length_laid, length_laid_low, laid_covered}
 use Rattle.mc_trans.proofs.Touched.{untouched, words_begin_in, covered_word}

@@ -5,9 +5,9 @@ use Rattle.std.specs.List.{AllByRecursion}
 use Rattle.std.proofs.lemmas.Bool.{cases_lt, le-leb, lt-leb}
 use Rattle.std.proofs.lemmas.List.{get_or_append_left, get_or-append_right, get_or-take, get_or-drop, length-append, length-take, drop-drop, take_at}
 use Rattle.std.proofs.Math.Seq.{drop-append-add}
-use Rattle.mc_model_device.specs.Bytes.{splice, or_else}
-use Rattle.mc_model_device.specs.Pieces.{covering_byte, laid_pieces, LieIn}
-use Rattle.mc_model_device.proofs.ListLemmas.{length_splice, splice_longer}
+use Rattle.model_device.specs.Bytes.{splice, or_else}
+use Rattle.model_device.specs.Pieces.{covering_byte, laid_pieces, LieIn}
+use Rattle.model_device.proofs.ListLemmas.{length_splice, splice_longer}
 use Rattle.std.proofs.lemmas.Option.{slice_get_past}
 
 -- ---- one piece

@@ -3,12 +3,12 @@ use Rattle.std.proofs.Common.{◌≡◌, ◌≢◌, ℕ, ◌+◌, ◌-◌, ◌*�
 use Rattle.std.specs.Prelude.{nat_eq, IfSome}
 use Rattle.std.proofs.lemmas.Bool.{cases_lt}
 use Rattle.std.proofs.lemmas.Bool.Decides.{nat_tests, eqb_tells}
-use Rattle.mc_model_device.specs.Bytes.{splice}
-use Rattle.mc_model_device.specs.Pieces.{laid_pieces, touched_words, numbers, pending_at, put_word, with_number, with_words, HoldPieces, LieIn}
-use Rattle.mc_model_device.proofs.ListLemmas.{length_splice}
+use Rattle.model_device.specs.Bytes.{splice}
+use Rattle.model_device.specs.Pieces.{laid_pieces, touched_words, numbers, pending_at, put_word, with_number, with_words, HoldPieces, LieIn}
+use Rattle.model_device.proofs.ListLemmas.{length_splice}
 use Rattle.mc_trans.proofs.Overlay.{length_laid, splice_before, splice_in, splice_behind, splice_append}
 use Rattle.mc_trans.proofs.Words.{put_pending}
-use Rattle.mc_model_device.proofs.PieceLemmas.{laid_append, touched_append, one_word, held_same}
+use Rattle.model_device.proofs.PieceLemmas.{laid_append, touched_append, one_word, held_same}
 
 -- ---- numbers
 

@@ -4,9 +4,9 @@ use Rattle.std.specs.Prelude.{nat_le, nat_eq, ◌||◌, option_map, slice_get}
 use Rattle.std.specs.List.{AllByRecursion}
 use Rattle.std.proofs.lemmas.Bool.{cases_lt, eqb-false, ne_eqb, le-leb, or_parts, lt-leb}
 use Rattle.std.proofs.lemmas.Bool.Decides.{nat_tests, eqb_tells}
-use Rattle.mc_model_device.specs.Bytes.{splice, or_else}
-use Rattle.mc_model_device.specs.Pieces.{covering_byte, laid_pieces, word_pieces, with_number, with_words, with_touched, touched_words, numbers, pending_at, Ascend, LieIn}
-use Rattle.mc_model_device.proofs.ListLemmas.{length_splice}
+use Rattle.model_device.specs.Bytes.{splice, or_else}
+use Rattle.model_device.specs.Pieces.{covering_byte, laid_pieces, word_pieces, with_number, with_words, with_touched, touched_words, numbers, pending_at, Ascend, LieIn}
+use Rattle.model_device.proofs.ListLemmas.{length_splice}
 use Rattle.mc_trans.proofs.Overlay.{splice_before, splice_behind, BeginIn, get_some}
 use Rattle.std.proofs.lemmas.Option.{slice_get_past}
 

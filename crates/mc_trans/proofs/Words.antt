@@ -7,7 +7,7 @@ use Rattle.std.proofs.lemmas.Bool.{ltb-false}
 use Rattle.std.proofs.lemmas.Bool.Decides.{nat_tests}
 use Rattle.std.proofs.lemmas.List.Recursion.{is_position_or_len}
 use Rattle.std.proofs.lemmas.List.Sums.{prefix_len-le-length}
-use Rattle.mc_model_device.specs.Pieces.{Ascend, ArePending, numbers, pending_at, put_word}
+use Rattle.model_device.specs.Pieces.{Ascend, ArePending, numbers, pending_at, put_word}
 use Rattle.mc_trans.specs.Place.{place}
 
 -- a word with its number

@@ -1,6 +1,6 @@
 ghost use Rattle.std.specs.Prelude.{◌≡◌, ◌+◌, ◌-◌, ◌*◌, ◌/◌, ◌%◌, ◌<◌, ◌≤◌, ℕ, List, [], ◌∷◌, ◌++◌, length, option_map, slice_index, unwrap_or, Some, None};
-ghost use Rattle.mc_model_device.specs.Bytes.{splice, zeros};
-ghost use Rattle.mc_model_device.specs.Pieces.{covering_byte, laid_pieces, laid_words, not_pending, pending_at, put_word, touched_words, HoldPieces, LieIn};
+ghost use Rattle.model_device.specs.Bytes.{splice, zeros};
+ghost use Rattle.model_device.specs.Pieces.{covering_byte, laid_pieces, laid_words, not_pending, pending_at, put_word, touched_words, HoldPieces, LieIn};
 ghost use Rattle.mc_trans.specs.Rows.{word_fronts};
 
 /// A byte of a list with pieces written over it is that of the last piece that covers it, and else the
@@ -55,7 +55,7 @@ pub fn counts_words()
 {}
 
 /// Two words of a segment of nine bytes, pieces over each other, and the words of many pieces.
-#[tactic(auto, unfolding(mc_model_device::specs::Pieces::touched_words))]
+#[tactic(auto, unfolding(model_device::specs::Pieces::touched_words))]
 pub fn piece_rows()
     ensures two_words { laid_pieces (zeros 9) ((0, 0x11 ∷ []) ∷ (8, 0x22 ∷ []) ∷ [])
         ≡ 0x11 ∷ 0 ∷ 0 ∷ 0 ∷ 0 ∷ 0 ∷ 0 ∷ 0 ∷ 0x22 ∷ [] }

@@ -1,6 +1,6 @@
 ghost use Rattle.std.specs.Prelude.{◌≡◌, ◌≢◌, ◌↔◌, ◌<◌, ◌≤◌, ℕ, List, [], ◌∷◌, true, false, length, nat_le, position, slice_index_or, slice_set, Option, Some, None, OnOk, OnErr, IsErr, IfSome, insert};
 ghost use Rattle.arrayvec.specs.ArrayVec.{array_vec_len};
-ghost use Rattle.mc_model_device.specs.Pieces.{pending_at, put_word, ArePending};
+ghost use Rattle.model_device.specs.Pieces.{pending_at, put_word, ArePending};
 ghost use Rattle.mc_trans.specs.Place.{place};
 
 use arrayvec::ArrayVec;
@@ -20,7 +20,7 @@ pub struct Pending {
 
 impl Model for Pending {
     ghost use Rattle.std.specs.Prelude.{ℕ, List};
-    ghost use Rattle.mc_model_device.specs.Pieces.{ArePending};
+    ghost use Rattle.model_device.specs.Pieces.{ArePending};
 
     ghost Value = { List (ℕ × List ℕ) };
 

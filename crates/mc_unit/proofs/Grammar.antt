@@ -3,11 +3,11 @@ use Rattle.std.proofs.Common.{◌≡◌, ℕ, zero, suc, ◌+◌, ◌*◌, ◌/�
 use Rattle.std.specs.Prelude.{nat_lt, nat_eq}
 use Rattle.std.proofs.lemmas.Bool.{eqb-true, ltb-false, le-ltb, ne_eqb}
 use Rattle.std.proofs.lemmas.List.{take_at, drop_at, take-append-drop, length-append, length-take, get_or-drop, append-nil}
-use Rattle.mc_model_device.specs.Bytes.{bytes2, zeros}
-use Rattle.mc_model_card.specs.declared.unit.UnitRefusal.{UnitRefusal}
-use Rattle.mc_model_card.specs.declared.unit.UnitRefusal.TheVariants as refusals
-use Rattle.mc_model_card.specs.declared.unit.AidFault.{AidFault}
-use Rattle.mc_model_card.specs.Units.{◌>>=◌, bytes_at, length_at, field_at, code_at, empty_at, end_at, refused_name, name_of, unit_read, field, unit_text, unit_bytes, UnitParts, FitsUnit, IsUnit}
+use Rattle.model_device.specs.Bytes.{bytes2, zeros}
+use Rattle.model_card.specs.declared.unit.UnitRefusal.{UnitRefusal}
+use Rattle.model_card.specs.declared.unit.UnitRefusal.TheVariants as refusals
+use Rattle.model_card.specs.declared.unit.AidFault.{AidFault}
+use Rattle.model_card.specs.Units.{◌>>=◌, bytes_at, length_at, field_at, code_at, empty_at, end_at, refused_name, name_of, unit_read, field, unit_text, unit_bytes, UnitParts, FitsUnit, IsUnit}
 
 -- every element is a byte
 abbrev pub IsBytes : List ℕ → Type 0

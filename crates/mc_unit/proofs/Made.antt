@@ -3,7 +3,7 @@ use Rattle.std.proofs.Common.{◌≡◌, ℕ, suc, ◌≤◌, ◌<◌, ◌%◌, 
 use Rattle.std.specs.Prelude.{nat_lt, nat_le, nat_eq, option_and_then}
 use Rattle.std.proofs.lemmas.Bool.{le-ltb, lt-ltb, le-leb}
 use Rattle.std.proofs.lemmas.List.{take_all, drop_all}
-use Rattle.mc_model_card.specs.Units.{made_dir, name_of, name_among, object, object_at, template_of, checked_name}
+use Rattle.model_card.specs.Units.{made_dir, name_of, name_among, object, object_at, template_of, checked_name}
 
 -- an object with a tag of one byte and a length of one byte is read, with no bytes after it
 object_is : (t : ℕ) (v : List ℕ) → nat_eq (t % 32) 31 ≡ false → length v < 128 → object_at (object t v) ≡ Some (record { tag = t ∷ []; value = v; rest = [] })

@@ -1,7 +1,7 @@
 -- The first name in a template, object by object.
 use Rattle.std.proofs.Common.{◌≡◌, ℕ, zero, suc, ◌+◌, ◌≤◌, true, false, List, [], ◌∷◌, length, take, drop, Option, Some, None, refl, sym, ◌∙◌, arith, length-drop}
 use Rattle.std.specs.Prelude.{bytes_eq, option_and_then}
-use Rattle.mc_model_card.specs.Units.{Object, name_among, object_at, size_at, tag_len, value_at}
+use Rattle.model_card.specs.Units.{Object, name_among, object_at, size_at, tag_len, value_at}
 use Rattle.std.proofs.lemmas.Bool.Decides.{nat_tests}
 
 some_is : {A : Type 0} {x y : A} → Some x ≡ Some y → x ≡ y

@@ -1,5 +1,5 @@
 -- The values of the crate's structs, whatever place their bytes are borrowed from.
-use Rattle.mc_model_card.specs.Units.{Object, UnitParts}
+use Rattle.model_card.specs.Units.{Object, UnitParts}
 use Rattle.mc_unit.specs.declared.name.Object.{Object as Borrowed}
 use Rattle.mc_unit.specs.declared.unit.Unit.{Unit as LoadUnit}
 

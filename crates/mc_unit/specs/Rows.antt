@@ -1,8 +1,8 @@
 -- The load unit of a small application, for worked examples: the code of a counter, and the name A000000001.
 use Rattle.std.specs.Prelude.{ℕ, zero, suc, Bool, true, false, ◌&&◌, List, [], ◌∷◌, take, Result, Ok, Err}
-use Rattle.mc_model_card.specs.declared.unit.UnitRefusal.{UnitRefusal}
-use Rattle.mc_model_card.specs.declared.unit.UnitRefusal.TheVariants as refusals
-use Rattle.mc_model_card.specs.Units.{unit_read, UnitParts}
+use Rattle.model_card.specs.declared.unit.UnitRefusal.{UnitRefusal}
+use Rattle.model_card.specs.declared.unit.UnitRefusal.TheVariants as refusals
+use Rattle.model_card.specs.Units.{unit_read, UnitParts}
 
 -- the name of the counter
 abbrev pub counter_name : List ℕ

@@ -1,9 +1,9 @@
 ghost use Rattle.std.specs.Prelude.{◌≡◌, ◌↔◌, ◌<◌, ◌≤◌, ℕ, true, List, [], ◌∷◌, ◌++◌, length, take, Ok, Err, slice_index};
-ghost use Rattle.mc_model_device.specs.Bytes.{zeros};
-ghost use Rattle.mc_model_card.specs.Units.{made_dir, made_fci, name_of, unit_bytes, unit_read, IsUnit, UnitParts};
+ghost use Rattle.model_device.specs.Bytes.{zeros};
+ghost use Rattle.model_card.specs.Units.{made_dir, made_fci, name_of, unit_bytes, unit_read, IsUnit, UnitParts};
 ghost use Rattle.mc_unit.specs.Rows.{counter_code, counter_name, counter_unit, short_below};
 
-use mc_model_card::{AidFault, UnitRefusal};
+use model_card::{AidFault, UnitRefusal};
 
 /// The bytes that are read as a unit are exactly those of the grammar.
 pub fn is_grammar()
@@ -16,7 +16,7 @@ pub fn made_name()
 {}
 
 /// The unit of a counter: written, read, and cut at each length.
-#[tactic(auto, unfolding(mc_model_card::specs::Units::unit_read, crate::specs::Rows::short_below))]
+#[tactic(auto, unfolding(model_card::specs::Units::unit_read, crate::specs::Rows::short_below))]
 pub fn counter_rows()
     ensures written { unit_bytes counter_code [] (made_dir counter_name) (made_fci counter_name) ≡ counter_unit }
     ensures read { unit_read counter_unit
@@ -35,7 +35,7 @@ pub fn counter_rows()
 {}
 
 /// Units that are refused by a length, before the bytes that it counts.
-#[tactic(auto, unfolding(mc_model_card::specs::Units::unit_read))]
+#[tactic(auto, unfolding(model_card::specs::Units::unit_read))]
 pub fn length_rows()
     ensures no_code { unit_read (zeros 10) ≡ Err UnitRefusal.NoCode }
     ensures code { unit_read (zeros 8 ++ 0x20 ∷ 1 ∷ []) ≡ Err UnitRefusal.TooLarge }
@@ -48,7 +48,7 @@ pub fn length_rows()
 {}
 
 /// DIR records and their names.
-#[tactic(auto, unfolding(mc_model_card::specs::Units::name_of))]
+#[tactic(auto, unfolding(model_card::specs::Units::name_of))]
 pub fn name_rows()
     ensures label_behind { name_of (0x61 ∷ 0xc ∷ 0x4f ∷ 5 ∷ 0xa0 ∷ 0 ∷ 0 ∷ 0 ∷ 1 ∷ 0x50 ∷ 3 ∷ 0x50 ∷ 0x55 ∷ 0x52 ∷ [])
         ≡ Ok counter_name }

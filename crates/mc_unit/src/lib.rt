@@ -8,7 +8,7 @@ mod unit;
 mod writing;
 
 pub use laws::{counter_rows, is_grammar, length_rows, made_name, name_rows};
-pub use mc_model_card::{AidFault, UnitRefusal};
+pub use model_card::{AidFault, UnitRefusal};
 pub use name::aid_of;
 pub use unit::{Unit, read_unit};
 pub use writing::write_unit;

@@ -1,9 +1,9 @@
 ghost use Rattle.std.specs.Prelude.{◌≡◌, ◌+◌, ◌<◌, ◌≤◌, [], ◌∷◌, length, nat_lt, position, bytes_eq, option_map, Some, None, Ok, Err, IfSome, MatchOption, MatchResult};
-ghost use Rattle.mc_model_card.specs.Units.{byte_at, checked_name, name_among, name_of, object_at, size_at, tag_len, template_of, value_at};
+ghost use Rattle.model_card.specs.Units.{byte_at, checked_name, name_among, name_of, object_at, size_at, tag_len, template_of, value_at};
 ghost use Rattle.mc_unit.specs.Parts.{object_of};
 
 use mc_base::Aid;
-use mc_model_card::AidFault;
+use model_card::AidFault;
 
 // A data object at the front of some bytes, and the bytes after it.
 #[derive(Clone, Copy)]
@@ -21,7 +21,7 @@ struct Object<'a> {
 ///
 /// Returns `NoAid` if no such object is reached, or an object before it does not fit, and `AidLength` if the
 /// name's length is not 5 to 16.
-#[tactic(auto, unfolding(mc_model_card::specs::Units::name_of))]
+#[tactic(auto, unfolding(model_card::specs::Units::name_of))]
 pub fn aid_of(dir: &[u8]) -> Result<Aid, AidFault>
     ensures { MatchResult result (λ a. name_of dir.now ≡ Ok a) (λ e. name_of dir.now ≡ Err e) }
 {
@@ -38,7 +38,7 @@ pub fn aid_of(dir: &[u8]) -> Result<Aid, AidFault>
 }
 
 // The value of the object with the tag 61 that the record begins with.
-#[tactic(auto, unfolding(mc_model_card::specs::Units::template_of))]
+#[tactic(auto, unfolding(model_card::specs::Units::template_of))]
 fn template_of(dir: &[u8]) -> Option<&[u8]>
     ensures { MatchOption result (template_of dir.now ≡ None) (λ t. template_of dir.now ≡ Some t.now) }
 {
@@ -79,7 +79,7 @@ fn is_tag(tag: &[u8], byte: u8) -> bool
     }
 }
 
-#[tactic(auto, unfolding(mc_model_card::specs::Units::object_at))]
+#[tactic(auto, unfolding(model_card::specs::Units::object_at))]
 fn object_at(bytes: &[u8]) -> Option<Object<'_>>
     ensures value { MatchOption result (object_at bytes.now ≡ None) (λ o. object_at bytes.now ≡ Some (object_of o)) }
     ensures shorter { IfSome result (λ o. length o.rest.now + 2 ≤ length bytes.now) }

@@ -1,5 +1,5 @@
 use crate::{read_unit, write_unit};
-use mc_model_card::UnitRefusal;
+use model_card::UnitRefusal;
 use std::test::Fail;
 
 const COUNTER: [u8; 53] = [
@@ -16,7 +16,7 @@ const FCI: [u8; 9] = [0x6F, 7, 0x84, 5, 0xA0, 0, 0, 0, 1];
 // The unit of the counter is written from its fields and read with them, and each of its proper prefixes is
 // too short.
 #[test]
-#[tactic(auto, unfolding(mc_model_card::specs::Units::name_of))]
+#[tactic(auto, unfolding(model_card::specs::Units::name_of))]
 fn counter_unit(rt: HostRuntime) -> Result<(), Fail> {
     let unit = write_unit(rt.alloc(), &CODE, &[], &DIR, &FCI)?;
     assert_eq!(rt; unit.as_slice(), COUNTER.as_slice());

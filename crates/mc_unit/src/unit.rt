@@ -1,10 +1,10 @@
 ghost use Rattle.std.specs.Prelude.{◌≡◌, ◌≤◌, ◌+◌, length, Some, None, Ok, Err, IfOk, OnErr, MatchOption, MatchResult};
-ghost use Rattle.mc_model_card.specs.Units.{bytes_at, code_at, empty_at, end_at, field_at, length_at, refused_name, name_of, unit_read, IsUnit, UnitParts};
+ghost use Rattle.model_card.specs.Units.{bytes_at, code_at, empty_at, end_at, field_at, length_at, refused_name, name_of, unit_read, IsUnit, UnitParts};
 ghost use Rattle.mc_unit.specs.Parts.{parts_of};
 
 use crate::name::aid_of;
 use mc_base::Aid;
-use mc_model_card::{AidFault, UnitRefusal};
+use model_card::{AidFault, UnitRefusal};
 
 /// A load unit: its card number of eight bytes, its code, the first bytes of its static segment, its
 /// DIR and FCI records, and the name in the DIR record. All but the name is borrowed.
@@ -37,7 +37,7 @@ pub fn read_unit(bytes: &[u8]) -> Result<Unit<'_>, UnitRefusal>
     unit_from(bytes)
 }
 
-#[tactic(auto, unfolding(mc_model_card::specs::Units::unit_read))]
+#[tactic(auto, unfolding(model_card::specs::Units::unit_read))]
 fn unit_from(bytes: &[u8]) -> Result<Unit<'_>, UnitRefusal>
     ensures { MatchResult result (λ u. unit_read bytes.now ≡ Ok (parts_of u)) (λ e. unit_read bytes.now ≡ Err e) }
 {
@@ -94,7 +94,7 @@ fn length_at(bytes: &[u8]) -> Result<(usize, &[u8]), UnitRefusal>
 }
 
 // The code field, which is not empty.
-#[tactic(auto, unfolding(mc_model_card::specs::Units::code_at))]
+#[tactic(auto, unfolding(model_card::specs::Units::code_at))]
 fn code_at(bytes: &[u8]) -> Result<(&[u8], &[u8]), UnitRefusal>
     ensures { MatchResult result (λ x. code_at bytes.now ≡ Ok (x.0.now, x.1.now)) (λ e. code_at bytes.now ≡ Err e) }
 {
@@ -109,7 +109,7 @@ fn code_at(bytes: &[u8]) -> Result<(&[u8], &[u8]), UnitRefusal>
 }
 
 // A field of at most `most` bytes.
-#[tactic(auto, unfolding(mc_model_card::specs::Units::field_at))]
+#[tactic(auto, unfolding(model_card::specs::Units::field_at))]
 fn field_at(bytes: &[u8], most: usize) -> Result<(&[u8], &[u8]), UnitRefusal>
     ensures { MatchResult result (λ x. field_at most bytes.now ≡ Ok (x.0.now, x.1.now))
         (λ e. field_at most bytes.now ≡ Err e) }
@@ -122,7 +122,7 @@ fn field_at(bytes: &[u8], most: usize) -> Result<(&[u8], &[u8]), UnitRefusal>
 }
 
 // The bytes after a field that has to be empty, or the given refusal if it is not.
-#[tactic(auto, unfolding(mc_model_card::specs::Units::empty_at))]
+#[tactic(auto, unfolding(model_card::specs::Units::empty_at))]
 fn empty_at(bytes: &[u8], refusal: UnitRefusal) -> Result<&[u8], UnitRefusal>
     ensures { MatchResult result (λ rest. empty_at refusal bytes.now ≡ Ok rest.now)
         (λ e. empty_at refusal bytes.now ≡ Err e) }

@@ -1,19 +1,19 @@
 -- Verdicts of the lines of a deck, line by line.
 use Rattle.std.proofs.Common.{◌≡◌, ◌≢◌, ℕ, ◌+◌, ◌≤◌, Bool, true, List, [], ◌∷◌, ◌++◌, length, drop, Some, Result, Ok, Err, refl, ap, sym, ◌∙◌, subst, append_assoc, append-nil}
 use Rattle.std.specs.Prelude.{slice_get, OnOk}
-use Rattle.mc_model_play.specs.DeckGrammar.{DeckLine}
-use Rattle.mc_model_play.specs.DeckGrammar as grammar
-use Rattle.mc_model_card.specs.Units.{UnitParts}
+use Rattle.model_play.specs.DeckGrammar.{DeckLine}
+use Rattle.model_play.specs.DeckGrammar as grammar
+use Rattle.model_card.specs.Units.{UnitParts}
 use Rattle.mc_check.specs.declared.verdict.Verdict.{Verdict}
 use Rattle.mc_check.specs.Verdicts.{IsVerdictOf, KeepsTo}
 use Rattle.mc_deck.specs.declared.line.Line.{Line}
 use Rattle.mc_deck.specs.declared.line.Line.TheVariants as line
 use Rattle.mc_deck.specs.Lines.{line_of}
 use Rattle.mc_script.proofs.DeckLemmas.{next_line, no_line}
-use Rattle.mc_desk.specs.Listings.{Desk}
-use Rattle.mc_desk.specs.declared.verdict.Loads.{Loads}
-use Rattle.mc_desk.specs.Loads.{AreLoads}
-use Rattle.mc_desk.specs.Verdicts.{CodeVerdict, verdict_line, verdict_lines}
+use Rattle.desk_draft.specs.Listings.{Desk}
+use Rattle.desk_draft.specs.declared.verdict.Loads.{Loads}
+use Rattle.desk_draft.specs.Loads.{AreLoads}
+use Rattle.desk_draft.specs.Verdicts.{CodeVerdict, verdict_line, verdict_lines}
 use Rattle.meldesk.specs.Checks.{accepts, all_accept, verdict_value, AddsVerdicts, AreVerdicts, ShowsVerdicts}
 
 abbrev Judged : Type 0

@@ -1,8 +1,8 @@
 -- The meaning of the status with which a job that plays ended.
 use Rattle.std.proofs.Common.{◌≡◌, ℕ, Bool, true, false, List, Result, Ok, Err, IfErr, IfOk, refl, ap, sym, subst, ◌∙◌, inl, inr}
-use Rattle.mc_model_device.specs.Counts.{Rose}
-use Rattle.mc_model_play.specs.declared.deck.DeckCause.{DeckCause}
-use Rattle.mc_model_play.specs.DeckGrammar.{DeckLine}
+use Rattle.model_device.specs.Counts.{Rose}
+use Rattle.model_play.specs.declared.deck.DeckCause.{DeckCause}
+use Rattle.model_play.specs.DeckGrammar.{DeckLine}
 use Rattle.mc_streams.specs.declared.refusals.WriteFault.{WriteFault as Fault}
 use Rattle.mc_script.specs.Plays.{Bench, PlaysDeck}
 use Rattle.mc_text.specs.Texts.{Sunk}
@@ -15,11 +15,11 @@ use Rattle.mc_filter.specs.declared.status.Status.{Status}
 use Rattle.mc_filter.specs.declared.status.Status.TheVariants.{Done, Failed, WriteFault}
 use Rattle.mc_filter.proofs.Outside as filter
 use Rattle.mc_filter.proofs.Statuses.{written_whole}
-use Rattle.mc_desk.specs.Listings.{Desk, Source, desk_read}
-use Rattle.mc_cover.specs.declared.covering.CoverFault.{CoverFault}
-use Rattle.mc_cover.specs.declared.covering.CoverFault.TheVariants as cover
-use Rattle.mc_cover.specs.Plays.{CoversBy, CoversDeck}
-use Rattle.mc_steps.specs.Recorded.{StepsDeck}
+use Rattle.desk_draft.specs.Listings.{Desk, Source, desk_read}
+use Rattle.desk_cover.specs.declared.covering.CoverFault.{CoverFault}
+use Rattle.desk_cover.specs.declared.covering.CoverFault.TheVariants as cover
+use Rattle.desk_cover.specs.Plays.{CoversBy, CoversDeck}
+use Rattle.desk_steps.specs.Recorded.{StepsDeck}
 use Rattle.meldesk.specs.Jobs.{Shown, Coverage, Steps, Trace}
 use Rattle.meldesk.specs.Plays.{IsCovered, IsStepped, IsPlayOf, IsShown, IsShownAs, PlayVerdict, Plays, Refuses, RejectsPlay, ShowCompletes, ShowDone, ShowNoMemory, ShowReadFault, ShowSays, ShowWhole, ShowsDraft, of_desk, status_of_play}
 use Rattle.meldesk.specs.Running.{refused_desk}

@@ -1,16 +1,16 @@
 -- The text of a draft, and the line that refuses it.
 use Rattle.std.proofs.Common.{◌≡◌, ◌≤◌, ◌<◌, ℕ, Bool, true, false, nat_lt, List, length, Result, Ok, Err, IfErr, OnOk, refl, ap, sym, subst, ◌∙◌, arith}
-use Rattle.mc_model_text.specs.Text.{◌>>=◌, ok_as}
-use Rattle.mc_model_play.specs.DeckGrammar.{DeckLine, deck_read}
-use Rattle.mc_model_play.specs.declared.deck.DeckCause.{DeckCause}
+use Rattle.model_text.specs.Text.{◌>>=◌, ok_as}
+use Rattle.model_play.specs.DeckGrammar.{DeckLine, deck_read}
+use Rattle.model_play.specs.declared.deck.DeckCause.{DeckCause}
 use Rattle.mc_filter.specs.Inputs.{input_limit, refused_deck, Rejects}
 use Rattle.mc_filter.specs.Lines.{too_long}
 use Rattle.mc_filter.specs.declared.rejection.Rejection.{Rejection}
 use Rattle.mc_filter.specs.declared.rejection.Rejection.TheVariants as rejection
-use Rattle.mc_desk.specs.Drafts.{Draft, deck_of, draft_read}
-use Rattle.mc_desk.specs.Listings.{Desk, desk_read, draft_listing, listing_of, sources_of}
-use Rattle.mc_desk.proofs.DeskLemmas as desk
-use Rattle.mc_explain.specs.Explained.{Explains}
+use Rattle.desk_draft.specs.Drafts.{Draft, deck_of, draft_read}
+use Rattle.desk_draft.specs.Listings.{Desk, desk_read, draft_listing, listing_of, sources_of}
+use Rattle.desk_draft.proofs.DeskLemmas as desk
+use Rattle.desk_explain.specs.Explained.{Explains}
 use Rattle.meldesk.specs.Checks.{ShowsVerdicts}
 use Rattle.meldesk.specs.Running.{refused_desk, refused_draft, RejectsAs}
 use Rattle.meldesk.specs.Verdicts.{has_long_deck, is_long, of_listing, of_text, IsCheckOf, IsExplainedOf, IsNamesOf, JobVerdict, Refusal, Whole}

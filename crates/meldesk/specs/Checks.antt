@@ -1,12 +1,12 @@
 -- The verdicts of the stack checker on the code of a deck's load lines.
 use Rattle.std.specs.Prelude.{◌≡◌, ℕ, Bool, true, false, List, [], ◌∷◌, ◌++◌, Ok, Err}
-use Rattle.mc_model_play.specs.DeckGrammar.{DeckLine}
-use Rattle.mc_model_play.specs.DeckGrammar as line
+use Rattle.model_play.specs.DeckGrammar.{DeckLine}
+use Rattle.model_play.specs.DeckGrammar as line
 use Rattle.mc_check.specs.declared.verdict.Verdict.{Verdict}
 use Rattle.mc_check.specs.declared.verdict.Verdict.TheVariants.{Accept, Refuse}
 use Rattle.mc_check.specs.Verdicts.{IsVerdictOf, KeepsTo}
-use Rattle.mc_desk.specs.Listings.{Desk}
-use Rattle.mc_desk.specs.Verdicts.{CodeVerdict, verdict_lines}
+use Rattle.desk_draft.specs.Listings.{Desk}
+use Rattle.desk_draft.specs.Verdicts.{CodeVerdict, verdict_lines}
 
 -- a verdict of the checker
 abbrev pub verdict_value : Verdict → CodeVerdict

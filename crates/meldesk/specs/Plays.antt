@@ -1,8 +1,8 @@
 -- The jobs that play the deck of a draft: the verdict on a draft, and the meaning of each status.
 use Rattle.std.specs.Prelude.{◌≡◌, ℕ, ◌≤◌, Bool, true, false, List, flat_map, length, Result, Ok, Err}
-use Rattle.mc_model_play.specs.declared.deck.DeckCause.{DeckCause}
-use Rattle.mc_model_play.specs.DeckGrammar.{DeckLine}
-use Rattle.mc_model_play.specs.Play.{plays, start}
+use Rattle.model_play.specs.declared.deck.DeckCause.{DeckCause}
+use Rattle.model_play.specs.DeckGrammar.{DeckLine}
+use Rattle.model_play.specs.Play.{plays, start}
 use Rattle.mc_streams.specs.declared.refusals.WriteFault.{WriteFault as Fault}
 use Rattle.mc_text.specs.Texts.{Sunk}
 use Rattle.mc_script.specs.Plays.{Bench, PlaysDeck, SumsDeck}
@@ -14,12 +14,12 @@ use Rattle.mc_filter.specs.declared.rejection.Rejection.TheVariants as rejection
 use Rattle.mc_filter.specs.Lines.{deck_line, too_long}
 use Rattle.mc_filter.specs.Outside.{AllStands, Completes, IsRead, IsWhole, JobSays, Outside, SaysDone, SaysNoMemory, SaysReadFault}
 use Rattle.mc_filter.specs.Statuses.{status_after_writing, IsWritten}
-use Rattle.mc_desk.specs.Coverage.{coverage}
-use Rattle.mc_desk.specs.FullTurns.{turns_of_step}
-use Rattle.mc_desk.specs.Listings.{Desk, Source, desk_read}
-use Rattle.mc_desk.specs.Traces.{trace_text}
-use Rattle.mc_cover.specs.Counting.{most_count}
-use Rattle.mc_steps.specs.Recorded.{ShowsSteps}
+use Rattle.desk_draft.specs.Coverage.{coverage}
+use Rattle.desk_draft.specs.FullTurns.{turns_of_step}
+use Rattle.desk_draft.specs.Listings.{Desk, Source, desk_read}
+use Rattle.desk_draft.specs.Traces.{trace_text}
+use Rattle.desk_cover.specs.Counting.{most_count}
+use Rattle.desk_steps.specs.Recorded.{ShowsSteps}
 use Rattle.meldesk.specs.Jobs.{Shown, Coverage, Steps, Trace}
 use Rattle.meldesk.specs.Verdicts.{has_long_deck}
 

@@ -1,6 +1,6 @@
 -- The parts of a job that makes a text, and why it is not done.
 use Rattle.std.specs.Prelude.{◌≡◌, ℕ, Bool, true, false, List, Result, Ok, Err}
-use Rattle.mc_model_play.specs.declared.deck.DeckCause.{DeckCause}
+use Rattle.model_play.specs.declared.deck.DeckCause.{DeckCause}
 use Rattle.mc_filter.specs.declared.status.Status.{Status}
 use Rattle.mc_filter.specs.Inputs.{FailsReading, ReadsLimited, Rejects}
 use Rattle.mc_filter.specs.Lines.{deck_line, too_long}
@@ -8,7 +8,7 @@ use Rattle.mc_filter.specs.Outside.{IsRead, Outside}
 use Rattle.mc_filter.specs.Statuses.{IsWritten}
 use Rattle.mc_filter.specs.declared.rejection.Rejection.{Rejection}
 use Rattle.mc_filter.specs.declared.rejection.Rejection.TheVariants as rejection
-use Rattle.mc_desk.specs.Listings.{Desk}
+use Rattle.desk_draft.specs.Listings.{Desk}
 use Rattle.meldesk.specs.Jobs.{MadeText}
 use Rattle.meldesk.specs.Statuses.{status_if}
 use Rattle.meldesk.specs.Verdicts.{IsTextOf, JobVerdict, Refusal, Whole}

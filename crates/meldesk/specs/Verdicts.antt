@@ -1,11 +1,11 @@
 -- The verdict on a draft of which a text is made: the complete text due, or the one line that refuses it.
 use Rattle.std.specs.Prelude.{◌≡◌, ℕ, Bool, true, false, nat_lt, List, length, Result, Ok, Err}
-use Rattle.mc_model_play.specs.declared.deck.DeckCause.{DeckCause}
+use Rattle.model_play.specs.declared.deck.DeckCause.{DeckCause}
 use Rattle.mc_filter.specs.Inputs.{input_limit}
 use Rattle.mc_filter.specs.Lines.{deck_line, too_long}
-use Rattle.mc_desk.specs.Drafts.{deck_of}
-use Rattle.mc_desk.specs.Listings.{Desk, desk_read, draft_listing}
-use Rattle.mc_explain.specs.Explained.{Explains}
+use Rattle.desk_draft.specs.Drafts.{deck_of}
+use Rattle.desk_draft.specs.Listings.{Desk, desk_read, draft_listing}
+use Rattle.desk_explain.specs.Explained.{Explains}
 use Rattle.meldesk.specs.Jobs.{MadeText}
 use Rattle.meldesk.specs.Jobs as text
 use Rattle.meldesk.specs.Checks.{ShowsVerdicts}

@@ -1,17 +1,17 @@
 // The stack checker's verdicts on a draft.
 ghost use Rattle.std.specs.Prelude.{◌≡◌, ◌++◌, codes, decimal, Err, IfOk, OnOk};
 ghost use Rattle.mc_deck.specs.Lines.{line_of, GoodLine};
-ghost use Rattle.mc_desk.specs.Listings.{Desk};
-ghost use Rattle.mc_desk.specs.Loads.{AreLoads};
-ghost use Rattle.mc_desk.specs.Verdicts.{verdict_line, verdict_text};
+ghost use Rattle.desk_draft.specs.Listings.{Desk};
+ghost use Rattle.desk_draft.specs.Loads.{AreLoads};
+ghost use Rattle.desk_draft.specs.Verdicts.{verdict_line, verdict_text};
 ghost use Rattle.meldesk.specs.Checks.{accepts, verdict_value, AddsVerdicts, ShowsVerdicts};
 
 use crate::draft_text::DraftText;
+use desk_draft::{Loads, push_source_part};
 use itoa::Buffer;
 use mc_base::NoMemory;
 use mc_check::{CheckCause, Verdict, check};
 use mc_deck::{Deck, Line};
-use mc_desk::{Loads, push_source_part};
 use std::alloc::Global;
 
 // Adds a number in decimal.

@@ -2,19 +2,19 @@
 use Rattle.std.specs.Prelude.{◌≡◌, ℕ, true, false, List, Result, Ok, Err}
 use Rattle.std.proofs.Common.{ap, inr, refl, subst, sym, ◌∙◌}
 use Rattle.mc_text.specs.Texts.{Fails}
-use Rattle.mc_explore.specs.Rules as rule
-use Rattle.mc_explore.specs.Rules.{exploration_read}
-use Rattle.mc_explore.specs.Search.{Ending, All, AtDepth, Broken, TooMany, most_states, search_of}
-use Rattle.mc_explore_text.specs.Report.{explore_text}
-use Rattle.mc_explore.proofs.ReadRules.{moves_of_exploration}
-use Rattle.mc_rules.specs.Meanings.{IsExplorationRead}
-use Rattle.mc_rules.specs.declared.reading.Exploration.{Exploration}
-use Rattle.mc_search.specs.Kept.{IsExplorationOf}
-use Rattle.mc_search.specs.Endings.{explored_as, IsExplored, WritesFront}
-use Rattle.mc_search.specs.declared.endings.Explored.{Explored}
-use Rattle.mc_search.specs.declared.endings.Explored.TheVariants as explored
-use Rattle.mc_search.specs.declared.endings.SearchFault.{SearchFault}
-use Rattle.mc_search.specs.declared.endings.SearchFault.TheVariants as fault
+use Rattle.law_explore.specs.Rules as rule
+use Rattle.law_explore.specs.Rules.{exploration_read}
+use Rattle.law_explore.specs.Search.{Ending, All, AtDepth, Broken, TooMany, most_states, search_of}
+use Rattle.law_explore_text.specs.Report.{explore_text}
+use Rattle.law_explore.proofs.ReadRules.{moves_of_exploration}
+use Rattle.lab_rules.specs.Meanings.{IsExplorationRead}
+use Rattle.lab_rules.specs.declared.reading.Exploration.{Exploration}
+use Rattle.lab_search.specs.Kept.{IsExplorationOf}
+use Rattle.lab_search.specs.Endings.{explored_as, IsExplored, WritesFront}
+use Rattle.lab_search.specs.declared.endings.Explored.{Explored}
+use Rattle.lab_search.specs.declared.endings.Explored.TheVariants as explored
+use Rattle.lab_search.specs.declared.endings.SearchFault.{SearchFault}
+use Rattle.lab_search.specs.declared.endings.SearchFault.TheVariants as fault
 use Rattle.mc_filter.specs.Inputs.{ReadWhole}
 use Rattle.mc_filter.specs.Outside.{IsRead, Outside}
 use Rattle.mc_filter.specs.declared.status.Status.{Status}

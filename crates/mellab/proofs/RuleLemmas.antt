@@ -2,9 +2,9 @@
 use Rattle.std.proofs.Common.{◌≡◌, sym, subst, ℕ, Bool, List, Result, Ok, inr}
 use Rattle.mc_streams.specs.declared.refusals.WriteFault.{WriteFault as Fault}
 use Rattle.mc_text.specs.Texts.{Puts}
-use Rattle.mc_model_play.specs.DeckGrammar.{DeckLine, deck_read}
-use Rattle.mc_model_play.specs.declared.deck.DeckCause.{DeckCause}
-use Rattle.mc_prove.specs.Reports.{IsReport}
+use Rattle.model_play.specs.DeckGrammar.{DeckLine, deck_read}
+use Rattle.model_play.specs.declared.deck.DeckCause.{DeckCause}
+use Rattle.prove_tables.specs.Reports.{IsReport}
 use Rattle.mc_filter.specs.Inputs.{ReadWhole}
 use Rattle.mc_filter.specs.Outside.{Outside}
 use Rattle.mc_filter.specs.Statuses.{status_after_writing}

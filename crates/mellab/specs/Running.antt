@@ -1,11 +1,11 @@
 -- The parts of a job, and why a job is not done.
 use Rattle.std.specs.Prelude.{◌≡◌, ℕ, List, Result, Ok, Err}
-use Rattle.mc_explore.specs.Rules.{Exploration, ExplorationFault}
+use Rattle.law_explore.specs.Rules.{Exploration, ExplorationFault}
 use Rattle.mc_lab.specs.Expectations.{ExpectedDeck, ExpectationFault}
-use Rattle.mc_search.specs.declared.endings.Explored.{Explored}
-use Rattle.mc_search.specs.declared.endings.Explored.TheVariants as explored
-use Rattle.mc_search.specs.declared.endings.SearchFault.{SearchFault}
-use Rattle.mc_search.specs.declared.endings.SearchFault.TheVariants as fault
+use Rattle.lab_search.specs.declared.endings.Explored.{Explored}
+use Rattle.lab_search.specs.declared.endings.Explored.TheVariants as explored
+use Rattle.lab_search.specs.declared.endings.SearchFault.{SearchFault}
+use Rattle.lab_search.specs.declared.endings.SearchFault.TheVariants as fault
 use Rattle.mc_filter.specs.Inputs.{FailsReading, ReadsLimited}
 use Rattle.mc_filter.specs.Outside.{IsRead, Outside}
 use Rattle.mellab.specs.declared.job.Job.{Job}

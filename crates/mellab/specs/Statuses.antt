@@ -3,14 +3,14 @@ use Rattle.std.specs.Prelude.{◌⊎◌, ℕ, ◌==◌, Bool, true, false, List,
 use Rattle.mc_streams.specs.declared.refusals.WriteFault.{WriteFault as Fault}
 use Rattle.mc_filter.specs.declared.status.Status.{Status}
 use Rattle.mc_filter.specs.declared.status.Status.TheVariants.{Done, Failed, Partial, WriteFault}
-use Rattle.mc_search.specs.Endings.{WritesFront}
+use Rattle.lab_search.specs.Endings.{WritesFront}
 use Rattle.mc_filter.specs.Inputs.{ReadWhole, TookLimited}
 use Rattle.mc_filter.specs.Statuses.{IsWritten}
 use Rattle.mc_filter.specs.Outside.{AllStands, Completes, IsRead, IsWhole, NoJobSays, Outside, PartJobSays, SaysDone, SaysNoForm, SaysNoMemory, SaysReadFault}
 use Rattle.mellab.specs.declared.job.Job.{Job}
 use Rattle.mellab.specs.declared.job.Job.TheVariants as job
 use Rattle.mellab.specs.Jobs.{usage}
-use Rattle.mc_explore.specs.Rules.{exploration_read}
+use Rattle.law_explore.specs.Rules.{exploration_read}
 use Rattle.mellab.specs.Verdicts.{LabVerdict, Reports, ReportsPart, Refusal, exploration_verdict, text_of_verdict, IsVerdictOfJob}
 
 -- ---- what was read, and what was done

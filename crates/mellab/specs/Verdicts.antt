@@ -1,17 +1,17 @@
 -- The verdict on the input of a job: the text due, and whether all that is asked of it holds, or the one line that
 -- refuses the input.
 use Rattle.std.specs.Prelude.{◌≡◌, ℕ, Bool, true, false, ◌==◌, List, codes, Result, Ok, Err}
-use Rattle.mc_model_device.specs.Device.{blank_words, device_words}
-use Rattle.mc_model_play.specs.DeckGrammar.{DeckLine, deck_read}
-use Rattle.mc_model_play.specs.declared.deck.DeckCause.{DeckCause}
+use Rattle.model_device.specs.Device.{blank_words, device_words}
+use Rattle.model_play.specs.DeckGrammar.{DeckLine, deck_read}
+use Rattle.model_play.specs.declared.deck.DeckCause.{DeckCause}
 use Rattle.mc_lab.specs.Expectations.{ExpectedDeck, ExpectationFault, DeckFault, NoAnswer, NoExpectation, expected_deck_read, steady_steps, expect_text, count_failed}
 use Rattle.mc_lab.specs.declared.remark.Mark.TheVariants as mark
 use Rattle.mc_lab.specs.Remarks.{Remark, remarks}
 use Rattle.mc_lab.specs.Sweeps.{is_whole, sweep_text}
-use Rattle.mc_explore.specs.Rules.{Exploration, ExplorationFault, LineFault, NoMove, NoRule, exploration_read}
-use Rattle.mc_explore.specs.Search.{Ending, All, AtDepth, Broken, TooMany, most_states, search_of}
-use Rattle.mc_explore_text.specs.Report.{explore_text}
-use Rattle.mc_prove.specs.Reports.{IsReport}
+use Rattle.law_explore.specs.Rules.{Exploration, ExplorationFault, LineFault, NoMove, NoRule, exploration_read}
+use Rattle.law_explore.specs.Search.{Ending, All, AtDepth, Broken, TooMany, most_states, search_of}
+use Rattle.law_explore_text.specs.Report.{explore_text}
+use Rattle.prove_tables.specs.Reports.{IsReport}
 use Rattle.mc_filter.specs.Lines.{at_line, deck_line}
 use Rattle.mellab.specs.declared.job.Job.{Job}
 use Rattle.mellab.specs.declared.job.Job.TheVariants as job

@@ -1,7 +1,7 @@
 // The exploration of a deck.
 ghost use Rattle.std.specs.Prelude.{◌≡◌, Some, IfErr, IfOk};
-ghost use Rattle.mc_explore.specs.Rules.{exploration_read};
-ghost use Rattle.mc_rules.specs.Meanings.{IsExplorationRead};
+ghost use Rattle.law_explore.specs.Rules.{exploration_read};
+ghost use Rattle.lab_rules.specs.Meanings.{IsExplorationRead};
 ghost use Rattle.mc_text.specs.Texts.{sunk};
 ghost use Rattle.mc_filter.specs.Inputs.{Rejects};
 ghost use Rattle.mc_filter.specs.Outside.{outside};
@@ -9,10 +9,10 @@ ghost use Rattle.mellab.specs.declared.job.Job.TheVariants as job;
 ghost use Rattle.mellab.specs.Running.{refused_exploration, status_explored, RejectsLabJob};
 ghost use Rattle.mellab.specs.Statuses.{MellabEnds};
 
+use lab_rules::{Exploration, ExplorationRefusal, read_exploration};
+use lab_search::{Explored, SearchFault, explore};
 use mc_base::Steps;
 use mc_filter::{Rejection, Status, read_input, refused};
-use mc_rules::{Exploration, ExplorationRefusal, read_exploration};
-use mc_search::{Explored, SearchFault, explore};
 use mc_streams::{Sink, Source};
 use std::alloc::Global;
 use std::sync::ledger::Ledger;

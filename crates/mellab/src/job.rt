@@ -1,6 +1,6 @@
 // The jobs of the program, and the words that name them.
 ghost use Rattle.std.specs.Prelude.{◌≡◌, ◌≤◌, length, IfSome};
-ghost use Rattle.mc_model_text.specs.Text.{decimal_number};
+ghost use Rattle.model_text.specs.Text.{decimal_number};
 ghost use Rattle.mellab.specs.Jobs.{depth_of, exploration_named, job_named, job_of};
 
 use mc_text::decimal_number;

@@ -10,11 +10,11 @@ ghost use Rattle.mellab.specs.Verdicts.{IsRuleRefusal};
 
 use crate::running::status_by;
 use mc_deck::Deck;
-use mc_events::Rules;
 use mc_filter::{Rejection, Status, deck_of, ended, read_input, refused};
-use mc_proof_rules::{RuleRefusal, read_rules};
-use mc_prove::prove;
 use mc_streams::{Sink, Source, put_all};
+use prove_events::Rules;
+use prove_rules::{RuleRefusal, read_rules};
+use prove_tables::prove;
 use std::alloc::Global;
 
 // Reads the rules of a deck, or returns the line that refuses them.

@@ -1,6 +1,6 @@
 use Rattle.std.proofs.Common.{◌≡◌, ◌-◌, ◌*◌, ◌/◌, length, drop}
-use Rattle.mc_model_machine.specs.Modes.{last_of_chain, blocks_of}
-use Rattle.mc_model_machine.specs.Aes.{aes_encipher, aes_signature}
+use Rattle.model_machine.specs.Modes.{last_of_chain, blocks_of}
+use Rattle.model_machine.specs.Aes.{aes_encipher, aes_signature}
 use Rattle.mc_aes.specs.State.{state_bytes}
 use Rattle.mc_aes.proofs.aes_signature.Given as goal
 

@@ -1,6 +1,6 @@
 ghost use Rattle.std.specs.Prelude.{◌≡◌, ◌≤◌, true, length, map};
-ghost use Rattle.mc_model_device.specs.Image.{ascend};
-ghost use Rattle.mc_model_device.specs.Stopped.{IsAtomic};
+ghost use Rattle.model_device.specs.Image.{ascend};
+ghost use Rattle.model_device.specs.Stopped.{IsAtomic};
 
 use crate::journals::rule::{Journal, ZERO, old_word, target, value, word_after};
 use arrayvec::ArrayVec;

@@ -1,6 +1,6 @@
 ghost use Rattle.std.specs.Prelude.{◌≡◌, ◌≤◌, ℕ, List, [], ◌∷◌, length, map};
-ghost use Rattle.mc_model_device.specs.Image.{Journal, One, Two, look_j, owed_j};
-ghost use Rattle.mc_model_device.specs.Stopped.{IsAtomic, cost, opens_at, writes, owed_writes};
+ghost use Rattle.model_device.specs.Image.{Journal, One, Two, look_j, owed_j};
+ghost use Rattle.model_device.specs.Stopped.{IsAtomic, cost, opens_at, writes, owed_writes};
 
 /// The number of device writes of an atomic write of 1, 2, 3, 33 and 64 words in the journal of layout 1.
 pub fn costs_of_journal_1()

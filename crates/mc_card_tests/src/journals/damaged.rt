@@ -1,7 +1,7 @@
-#![tactic(auto, unfolding(mc_model_device::specs::Image::targets_1, mc_model_device::specs::Image::targets_2, mc_model_device::specs::Image::pairs))]
+#![tactic(auto, unfolding(model_device::specs::Image::targets_1, model_device::specs::Image::targets_2, model_device::specs::Image::pairs))]
 
 ghost use Rattle.std.specs.Prelude.{◌≡◌, [], ◌∷◌};
-ghost use Rattle.mc_model_device.specs.Image.{look, count_of_recovery_writes, after, Closed, Refused, Words};
+ghost use Rattle.model_device.specs.Image.{look, count_of_recovery_writes, after, Closed, Refused, Words};
 ghost use Rattle.mc_card_tests.specs.Poked.{image_with_numbers};
 
 /// The gate is open over a head of zeros.

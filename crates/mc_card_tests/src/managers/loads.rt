@@ -1,5 +1,5 @@
 ghost use Rattle.std.specs.Prelude.{◌≡◌, ◌<◌, ◌≤◌, false, true, length};
-ghost use Rattle.mc_model_device.specs.Limits.{most_code};
+ghost use Rattle.model_device.specs.Limits.{most_code};
 ghost use Rattle.mc_manager.specs.ManagerState.{view_of, ManagerFits};
 
 use crate::managers::rig::{Want, comes_to};

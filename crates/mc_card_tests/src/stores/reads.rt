@@ -1,8 +1,8 @@
 // The number of words that a store reads to find room, to fill a hole and to free a block.
 ghost use Rattle.std.specs.Prelude.{◌≡◌, ◌<◌, true, false, IsSome, IfSome, IfOk};
-ghost use Rattle.mc_model_device.specs.Image.{Closed, look};
-ghost use Rattle.mc_model_device.specs.Card.{means};
-ghost use Rattle.mc_model_device.specs.Layout.{spans, IsWellLaid};
+ghost use Rattle.model_device.specs.Image.{Closed, look};
+ghost use Rattle.model_device.specs.Card.{means};
+ghost use Rattle.model_device.specs.Layout.{spans, IsWellLaid};
 ghost use Rattle.mc_nvm.specs.Sim.{sim_state};
 ghost use Rattle.mc_blocks.specs.Plans.{has_span};
 ghost use Rattle.mc_store.specs.Store.{is_going, store_named};

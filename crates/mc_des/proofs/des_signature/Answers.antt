@@ -1,4 +1,4 @@
-use Rattle.mc_model_machine.specs.Des.{des_encipher}
+use Rattle.model_machine.specs.Des.{des_encipher}
 use Rattle.mc_des.proofs.DesLemmas.{des_encipher_is, des_signature_init, signature_step, signature_end, bytes_xor}
 use Rattle.mc_des.proofs.des_signature.Goals as goal
 

@@ -1,7 +1,7 @@
 use Rattle.std.proofs.Common.{◌≡◌, ◌-◌, ◌*◌, ◌/◌, length, drop}
 use Rattle.std.specs.Int.{w64, to_be_bytes}
-use Rattle.mc_model_machine.specs.Modes.{last_of_chain, blocks_of}
-use Rattle.mc_model_machine.specs.Des.{des_encipher, des_signature}
+use Rattle.model_machine.specs.Modes.{last_of_chain, blocks_of}
+use Rattle.model_machine.specs.Des.{des_encipher, des_signature}
 use Rattle.mc_des.proofs.des_signature.Given as goal
 
 abbrev pub invariant-loop-i : goal.invariant-loop-i

@@ -1,5 +1,5 @@
 use Rattle.std.proofs.Common.{◌∙◌}
-use Rattle.mc_model_machine.specs.Des.{tdes_encipher}
+use Rattle.model_machine.specs.Des.{tdes_encipher}
 use Rattle.mc_des.proofs.DesLemmas.{tdes_encipher_is, tdes_signature_init, signature_step, signature_end, bytes_xor, second_half}
 use Rattle.mc_des.proofs.tdes_signature.Goals as goal
 

@@ -1,5 +1,5 @@
 use Rattle.std.proofs.Common.{◌≡◌, map, drop, reverse}
-use Rattle.mc_model_machine.specs.Aes.{inverse_cipher_block, rounds_back}
+use Rattle.model_machine.specs.Aes.{inverse_cipher_block, rounds_back}
 use Rattle.mc_aes.specs.State.{state_bytes}
 use Rattle.mc_aes.proofs.cipher.decipher_with.Given as goal
 

@@ -1,6 +1,6 @@
 use Rattle.std.proofs.Common.{◌∙◌, ap}
 use Rattle.std.proofs.lemmas.Nat.{xor_of_8}
-use Rattle.mc_model_machine.specs.Aes.{sub}
+use Rattle.model_machine.specs.Aes.{sub}
 use Rattle.mc_aes.proofs.StateLemmas.{word_from}
 use Rattle.mc_aes.proofs.KeysLemmas.{changed_is}
 use Rattle.mc_aes.proofs.keys.changed.Goals as goal

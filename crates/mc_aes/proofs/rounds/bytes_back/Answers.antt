@@ -1,5 +1,5 @@
 use Rattle.std.proofs.Common.{◌≡◌, ap, ◌∙◌}
-use Rattle.mc_model_machine.specs.Aes.{sub_back}
+use Rattle.model_machine.specs.Aes.{sub_back}
 use Rattle.mc_aes.proofs.rounds.bytes_back.Goals as goal
 
 pub returns : goal.returns

@@ -1,5 +1,5 @@
 use Rattle.std.proofs.Common.{◌≡◌, ap, ◌∙◌}
-use Rattle.mc_model_machine.specs.Aes.{sub}
+use Rattle.model_machine.specs.Aes.{sub}
 use Rattle.mc_aes.proofs.StateLemmas.{word_xor_of}
 use Rattle.mc_aes.proofs.rounds.last_column.Goals as goal
 

@@ -1,5 +1,5 @@
 use Rattle.std.proofs.Common.{ap}
-use Rattle.mc_model_machine.specs.Aes.{sub}
+use Rattle.model_machine.specs.Aes.{sub}
 use Rattle.mc_aes.proofs.StateLemmas.{matrix_column}
 use Rattle.mc_aes.proofs.rounds.round_column.Goals as goal
 

@@ -1,5 +1,5 @@
 use Rattle.std.proofs.Common.{refl}
-use Rattle.mc_model_machine.specs.Aes.{aes_signature}
+use Rattle.model_machine.specs.Aes.{aes_signature}
 use Rattle.mc_aes.proofs.vectors.blocks_of_cbc.Goals as goal
 
 pub returns : goal.returns

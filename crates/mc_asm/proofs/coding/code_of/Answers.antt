@@ -1,5 +1,5 @@
 use Rattle.std.proofs.Common.{◌+◌, ◌++◌, ◌∙◌, Ok, drop, get_or, sym, ap, append-nil, arith, length}
-use Rattle.mc_model_text.specs.Text.{ok_as}
+use Rattle.model_text.specs.Text.{ok_as}
 use Rattle.mc_asm.specs.Passes.{code_of_lines, numbered_lines}
 use Rattle.mc_asm.proofs.PassLemmas.{coded_more, coded_refused, coded_end, coded_behind, line_at, no_line, no_line_left}
 use Rattle.mc_asm.proofs.coding.code_of.Goals as goal

@@ -1,5 +1,5 @@
 use Rattle.std.proofs.Common.{◌≡◌, ◌≤◌, ◌++◌, ℕ, List, drop, vec_len}
-use Rattle.mc_model_text.specs.Text.{ok_as}
+use Rattle.model_text.specs.Text.{ok_as}
 use Rattle.mc_asm.specs.Passes.{AreLabels, code_of_lines, numbered_lines}
 use Rattle.mc_asm.proofs.coding.code_of.Given as goal
 

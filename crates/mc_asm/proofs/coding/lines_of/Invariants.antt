@@ -1,5 +1,5 @@
 use Rattle.std.proofs.Common.{◌≡◌, ◌+◌, ◌++◌, length, vec_len}
-use Rattle.mc_model_text.specs.Text.{lines, with_numbers}
+use Rattle.model_text.specs.Text.{lines, with_numbers}
 use Rattle.mc_asm.specs.Passes.{numbered_lines}
 use Rattle.mc_asm.proofs.coding.lines_of.Given as goal
 

@@ -1,7 +1,7 @@
 use Rattle.std.proofs.Common.{◌+◌, ◌∙◌, ℕ, List, Option, Bor, drop, get_or, sym, ap}
 use Rattle.std.specs.Prelude.{option_map}
-use Rattle.mc_model_text.specs.Text.{ok_as}
-use Rattle.mc_model_text.specs.Assembly.{with_label}
+use Rattle.model_text.specs.Text.{ok_as}
+use Rattle.model_text.specs.Assembly.{with_label}
 use Rattle.mc_asm.specs.Passes.{places, numbered_lines}
 use Rattle.mc_asm.proofs.PassLemmas.{places_more, places_refused, places_end, line_at, no_line, no_line_left}
 use Rattle.mc_asm.proofs.labels.labels_of.Goals as goal

@@ -1,6 +1,6 @@
 use Rattle.std.proofs.Common.{◌≡◌, ◌++◌, ℕ, List, Option, Bor, subst, arith}
 use Rattle.std.specs.Prelude.{option_map}
-use Rattle.mc_model_text.specs.Assembly.{operands}
+use Rattle.model_text.specs.Assembly.{operands}
 use Rattle.mc_asm.specs.Items.{texts}
 use Rattle.mc_asm.proofs.LineLemmas.{operand_more, operands_full, operands_all}
 use Rattle.mc_asm.proofs.line.operands.Goals as goal

@@ -1,6 +1,6 @@
 use Rattle.std.proofs.Common.{◌≡◌, ◌≤◌, ◌++◌, length}
 use Rattle.std.specs.Prelude.{option_map}
-use Rattle.mc_model_text.specs.Assembly.{operands}
+use Rattle.model_text.specs.Assembly.{operands}
 use Rattle.mc_asm.specs.Items.{texts}
 use Rattle.mc_asm.proofs.LineLemmas.{left_of}
 use Rattle.mc_asm.proofs.line.operands.Given as goal

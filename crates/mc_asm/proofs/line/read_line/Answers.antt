@@ -1,5 +1,5 @@
 use Rattle.std.specs.Prelude.{option_map}
-use Rattle.mc_model_text.specs.Text.{ok_as}
+use Rattle.model_text.specs.Text.{ok_as}
 use Rattle.mc_asm.specs.Items.{line_of}
 use Rattle.mc_asm.proofs.LineLemmas.{line_by_parts}
 use Rattle.mc_asm.proofs.line.read_line.Goals as goal

@@ -1,7 +1,7 @@
 use Rattle.std.proofs.Common.{ap, sym, ◌∙◌, arith}
 use Rattle.std.specs.Prelude.{option_map}
-use Rattle.mc_model_text.specs.Text.{first_cut, is_blank, ok_as}
-use Rattle.mc_model_text.specs.Assembly.{item_of_word}
+use Rattle.model_text.specs.Text.{first_cut, is_blank, ok_as}
+use Rattle.model_text.specs.Assembly.{item_of_word}
 use Rattle.mc_asm.specs.Items.{item_of, texts}
 use Rattle.mc_asm.specs.Forms.{form_of}
 use Rattle.mc_asm.proofs.LineLemmas.{word_then, nonempty}

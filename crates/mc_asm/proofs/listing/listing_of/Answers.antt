@@ -1,6 +1,6 @@
 use Rattle.std.proofs.Common.{◌++◌, ◌∙◌, Ok, sym, ap, append-nil}
-use Rattle.mc_model_text.specs.Text.{ok_as}
-use Rattle.mc_model_text.specs.Listing.{text_of}
+use Rattle.model_text.specs.Text.{ok_as}
+use Rattle.model_text.specs.Listing.{text_of}
 use Rattle.mc_asm.proofs.ListingLemmas.{left_listed, listed_more, listed_fault, listed_end, line_behind, no_text}
 use Rattle.mc_asm.proofs.listing.listing_of.Goals as goal
 

@@ -1,6 +1,6 @@
 use Rattle.std.proofs.Common.{◌≡◌, ◌-◌, ◌++◌, length}
-use Rattle.mc_model_text.specs.Text.{ok_as}
-use Rattle.mc_model_text.specs.Listing.{listing_of_code}
+use Rattle.model_text.specs.Text.{ok_as}
+use Rattle.model_text.specs.Listing.{listing_of_code}
 use Rattle.mc_asm.proofs.ListingLemmas.{left_listed}
 use Rattle.mc_asm.proofs.listing.listing_of.Given as goal
 

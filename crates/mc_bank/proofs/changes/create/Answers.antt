@@ -1,6 +1,6 @@
 use Rattle.std.proofs.Common.{ap, ◌∙◌, subst, sym, ◌<◌, ◌≤◌, ℕ, length, slice_set, arith}
-use Rattle.mc_model_card.specs.declared.card.Sizes.{Sizes}
-use Rattle.mc_model_card.specs.Items.{Site}
+use Rattle.model_card.specs.declared.card.Sizes.{Sizes}
+use Rattle.model_card.specs.Items.{Site}
 use Rattle.mc_bank.specs.declared.entries.Entry.{Entry}
 use Rattle.mc_bank.specs.Memory.{entry_at, with_app}
 use Rattle.mc_bank.specs.EntryLaws.{whole_at}

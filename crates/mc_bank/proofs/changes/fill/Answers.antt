@@ -1,5 +1,5 @@
 use Rattle.std.proofs.Common.{ap, ◌∙◌, subst, sym, ◌<◌, ℕ, length, slice_set, arith}
-use Rattle.mc_model_card.specs.Items.{Site}
+use Rattle.model_card.specs.Items.{Site}
 use Rattle.mc_bank.specs.declared.entries.Entry.{Entry}
 use Rattle.mc_bank.specs.Memory.{entry_at, part_of, with_piece}
 use Rattle.mc_bank.specs.Left.{FillLeft}

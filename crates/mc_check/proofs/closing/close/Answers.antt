@@ -1,4 +1,4 @@
-use Rattle.mc_model_stack.specs.StackShape.{begins}
+use Rattle.model_stack.specs.StackShape.{begins}
 use Rattle.mc_check.specs.Closing.{tables_of}
 use Rattle.mc_check.proofs.ClosingDone.{started}
 use Rattle.mc_check.proofs.ClosingWhole.{whole}

@@ -1,5 +1,5 @@
 use Rattle.mc_check.proofs.VerdictKept.{keeps}
-use Rattle.mc_model_device.proofs.ListLemmas.{all_bytes}
+use Rattle.model_device.proofs.ListLemmas.{all_bytes}
 use Rattle.mc_check.proofs.verdict.decide.Goals as goal
 
 pub returns-clause-runs : goal.returns-clause-runs

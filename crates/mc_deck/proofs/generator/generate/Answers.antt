@@ -1,9 +1,9 @@
 use Rattle.std.proofs.Common.{◌++◌, ℕ, List, sym, ap, subst, ◌∙◌}
 use Rattle.std.specs.List.{AllByRecursion}
-use Rattle.mc_model_text.specs.Text.{with_numbers}
-use Rattle.mc_model_play.specs.DeckGrammar.{DeckLine}
-use Rattle.mc_model_play.specs.Generator.{turns, closing_lines}
-use Rattle.mc_model_play.specs.ReadyAgain.{IsLine}
+use Rattle.model_text.specs.Text.{with_numbers}
+use Rattle.model_play.specs.DeckGrammar.{DeckLine}
+use Rattle.model_play.specs.Generator.{turns, closing_lines}
+use Rattle.model_play.specs.ReadyAgain.{IsLine}
 use Rattle.mc_deck.specs.declared.line.OwnedLine.{OwnedLine}
 use Rattle.mc_deck.specs.Lines.{AreDeck, UnitWithin}
 use Rattle.mc_deck.proofs.GeneratorLemmas.{generated_parts, generated_deck}

@@ -1,6 +1,6 @@
 use Rattle.std.proofs.Common.{◌++◌}
-use Rattle.mc_model_text.specs.Text.{with_numbers}
-use Rattle.mc_model_play.specs.Generator.{turns}
+use Rattle.model_text.specs.Text.{with_numbers}
+use Rattle.model_play.specs.Generator.{turns}
 use Rattle.mc_deck.specs.Lines.{grammar_line, said_lines}
 use Rattle.mc_deck.proofs.GeneratorLemmas.{turn_more, turns_done}
 use Rattle.mc_deck.proofs.generator.push_turns.Goals as goal

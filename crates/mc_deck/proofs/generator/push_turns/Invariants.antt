@@ -1,7 +1,7 @@
 use Rattle.std.proofs.Common.{◌≡◌, ◌<◌, ◌-◌, ◌^◌, ◌++◌, List}
 use Rattle.std.specs.List.{AllByRecursion}
-use Rattle.mc_model_text.specs.Text.{with_numbers}
-use Rattle.mc_model_play.specs.Generator.{turns}
+use Rattle.model_text.specs.Text.{with_numbers}
+use Rattle.model_play.specs.Generator.{turns}
 use Rattle.mc_deck.specs.declared.unit.OwnedUnit.{OwnedUnit}
 use Rattle.mc_deck.specs.Lines.{said_lines, UnitWithin}
 use Rattle.mc_deck.specs.Generated.{AreUnits}

@@ -1,8 +1,8 @@
 use Rattle.std.proofs.Common.{◌≡◌, ◌+◌, arith, ℕ, List, Bor, [], false, Ok, sym, ap, subst, ◌∙◌}
 use Rattle.std.specs.Prelude.{option_map}
-use Rattle.mc_model_text.specs.Text.{lines, with_numbers}
-use Rattle.mc_model_play.specs.DeckGrammar.{Context, Mode, Between, deck_lines, deck_read}
-use Rattle.mc_family.proofs.DeckBytes.{read_lines_law}
+use Rattle.model_text.specs.Text.{lines, with_numbers}
+use Rattle.model_play.specs.DeckGrammar.{Context, Mode, Between, deck_lines, deck_read}
+use Rattle.law_family.proofs.DeckBytes.{read_lines_law}
 use Rattle.mc_deck.specs.Readers.{lines_of, mode_of}
 use Rattle.mc_deck.proofs.TurnLemmas.{left_lines, first_stands, first_lines, line_read, line_refused, lines_done, ended_none, ended_some, still_few}
 use Rattle.mc_deck.proofs.reading.read_deck.Goals as goal

@@ -1,5 +1,5 @@
 use Rattle.std.proofs.Common.{length, true, refl, sym, subst, None}
-use Rattle.mc_model_play.specs.DeckGrammar.{turn_of}
+use Rattle.model_play.specs.DeckGrammar.{turn_of}
 use Rattle.mc_deck.specs.declared.statement.Statement.{Statement}
 use Rattle.mc_deck.specs.Statements.{grammar_statement, StatementFits}
 use Rattle.mc_deck.specs.Readers.{TurnTaken}

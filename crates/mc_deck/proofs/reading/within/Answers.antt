@@ -1,5 +1,5 @@
 use Rattle.std.proofs.Common.{◌++◌, ◌∷◌, [], append-nil, refl, sym, ap, ◌∙◌}
-use Rattle.mc_model_play.specs.DeckGrammar.{with_unit, Within, Between, Named}
+use Rattle.model_play.specs.DeckGrammar.{with_unit, Within, Between, Named}
 use Rattle.mc_deck.specs.Lines.{owned_parts}
 use Rattle.mc_deck.specs.Sections.{section_of}
 use Rattle.mc_deck.specs.Readers.{lines_of}

@@ -1,7 +1,7 @@
 use Rattle.std.proofs.Common.{sym, ap, subst, ◌∙◌}
 use Rattle.std.specs.Prelude.{option_map}
 use Rattle.mc_asm.specs.Items.{texts}
-use Rattle.mc_model_play.specs.DeckGrammar.{statement_of}
+use Rattle.model_play.specs.DeckGrammar.{statement_of}
 use Rattle.mc_deck.specs.declared.refusal.Fault.{Fault}
 use Rattle.mc_deck.specs.Refused.{Faulty}
 use Rattle.mc_deck.specs.Statements.{keyword_of}

@@ -1,6 +1,6 @@
 use Rattle.std.proofs.Common.{◌≡◌, ◌++◌, drop}
-use Rattle.mc_model_text.specs.Text.{ok_as}
-use Rattle.mc_model_play.specs.DeckGrammar.{section_data}
+use Rattle.model_text.specs.Text.{ok_as}
+use Rattle.model_play.specs.DeckGrammar.{section_data}
 use Rattle.mc_asm.specs.Passes.{numbered_lines}
 use Rattle.mc_deck.proofs.section.section_data.Given as goal
 

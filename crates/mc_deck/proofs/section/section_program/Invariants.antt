@@ -1,5 +1,5 @@
 use Rattle.std.proofs.Common.{◌≡◌, ◌++◌, drop}
-use Rattle.mc_model_play.specs.DeckGrammar.{section_program}
+use Rattle.model_play.specs.DeckGrammar.{section_program}
 use Rattle.mc_asm.specs.Passes.{numbered_lines}
 use Rattle.mc_deck.proofs.section.section_program.Given as goal
 

@@ -1,6 +1,6 @@
 use Rattle.std.proofs.Common.{◌≡◌, ◌<◌, ◌^◌, ◌++◌, length, map, take, drop}
 use Rattle.std.specs.Int.{w64, to_be_bytes}
-use Rattle.mc_model_machine.specs.Des.{bits, schedule, shifts, round_keys}
+use Rattle.model_machine.specs.Des.{bits, schedule, shifts, round_keys}
 use Rattle.mc_des.specs.Words.{key_bits}
 use Rattle.mc_des.proofs.keys.round_keys.Given as goal
 

@@ -1,5 +1,5 @@
 use Rattle.std.proofs.Common.{◌≡◌, ◌-◌, ◌*◌, arith, refl}
-use Rattle.mc_model_machine.specs.Des.{bits, pick, final}
+use Rattle.model_machine.specs.Des.{bits, pick, final}
 use Rattle.mc_des.proofs.BitsLemmas.{fours_step, fours_all, bits_xor}
 use Rattle.mc_des.proofs.permute.final_bits.Goals as goal
 

@@ -1,6 +1,6 @@
 use Rattle.std.proofs.Common.{◌≡◌, ◌-◌, ◌*◌, ◌/◌, ◌^◌, ◌++◌}
-use Rattle.mc_model_device.specs.Bytes.{zeros}
-use Rattle.mc_model_machine.specs.Des.{bits, pick, initial}
+use Rattle.model_device.specs.Bytes.{zeros}
+use Rattle.model_machine.specs.Des.{bits, pick, initial}
 use Rattle.mc_des.proofs.permute.initial.Given as goal
 
 abbrev pub invariant-loop-i : goal.invariant-loop-i

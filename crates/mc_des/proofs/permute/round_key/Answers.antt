@@ -1,5 +1,5 @@
 use Rattle.std.proofs.Common.{◌≡◌, ◌-◌, ◌*◌, arith, refl}
-use Rattle.mc_model_machine.specs.Des.{bits, pick, choice2}
+use Rattle.model_machine.specs.Des.{bits, pick, choice2}
 use Rattle.mc_des.specs.Words.{key_bits}
 use Rattle.mc_des.proofs.BitsLemmas.{fours_step, fours_all, key_bits_xor}
 use Rattle.mc_des.proofs.permute.round_key.Goals as goal

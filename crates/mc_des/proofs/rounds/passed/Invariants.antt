@@ -1,5 +1,5 @@
 use Rattle.std.proofs.Common.{◌≡◌, ◌*◌, map, take, drop}
-use Rattle.mc_model_machine.specs.Des.{bits, rounds}
+use Rattle.model_machine.specs.Des.{bits, rounds}
 use Rattle.mc_des.specs.Words.{key_bits}
 use Rattle.mc_des.proofs.rounds.passed.Given as goal
 

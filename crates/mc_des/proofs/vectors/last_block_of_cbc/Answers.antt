@@ -1,5 +1,5 @@
 use Rattle.std.proofs.Common.{refl}
-use Rattle.mc_model_machine.specs.Des.{des_signature, tdes_signature}
+use Rattle.model_machine.specs.Des.{des_signature, tdes_signature}
 use Rattle.mc_des.proofs.vectors.last_block_of_cbc.Goals as goal
 
 pub returns : goal.returns

@@ -1,7 +1,7 @@
 -- the line so far with the arguments that are left is the whole line, and there is room for them
 use Rattle.std.proofs.Common.{◌≡◌, ◌+◌, ◌*◌, ◌≤◌, ◌++◌, drop}
 use Rattle.arrayvec.specs.ArrayVec.{array_vec_len}
-use Rattle.mc_model_text.specs.Listing.{arguments_text}
+use Rattle.model_text.specs.Listing.{arguments_text}
 use Rattle.mc_isa.proofs.listing.put_arguments.Given as goal
 
 abbrev pub invariant-loop-b : goal.invariant-loop-b

@@ -1,6 +1,6 @@
 use Rattle.std.proofs.Common.{refl}
 use Rattle.std.specs.Fmt.{digits}
-use Rattle.mc_model_text.specs.Listing.{listing_of_code}
+use Rattle.model_text.specs.Listing.{listing_of_code}
 use Rattle.mc_isa.proofs.worked.listings.Goals as goal
 
 pub returns : goal.returns

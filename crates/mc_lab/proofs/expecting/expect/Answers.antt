@@ -1,8 +1,8 @@
 use Rattle.std.proofs.Common.{◌≡◌, ◌+◌, ◌≤◌, ◌∷◌, [], ◌∙◌, ap, sym, arith, zero-add, rules, ℕ, List, Ok, drop, length, slice_index_or}
-use Rattle.mc_model_play.specs.Play.{start}
+use Rattle.model_play.specs.Play.{start}
 use Rattle.mc_text.specs.Texts.{sunk_in}
 use Rattle.mc_text.proofs.TextLemmas.{puts_as}
-use Rattle.mc_explore.specs.Matching.{fits}
+use Rattle.law_explore.specs.Matching.{fits}
 use Rattle.mc_lab.specs.declared.remark.Remark.{Remark as Found}
 use Rattle.mc_lab.specs.Remarked.{remark_value, remark_values}
 use Rattle.mc_lab.specs.Rising.{last_of}

@@ -1,12 +1,12 @@
 use Rattle.std.proofs.Common.{◌≡◌, ◌+◌, ◌++◌, arith, ℕ, List, [], Bor, Bool, Option, false, sym, ap, subst, ◌∙◌}
 use Rattle.std.specs.Prelude.{option_map}
 use Rattle.std.proofs.lemmas.Result.{on_ok_weaker}
-use Rattle.mc_model_text.specs.Text.{fields}
-use Rattle.mc_model_play.specs.DeckGrammar.{deck_read}
+use Rattle.model_text.specs.Text.{fields}
+use Rattle.model_play.specs.DeckGrammar.{deck_read}
 use Rattle.mc_lab.specs.declared.remark.Remark.{Remark as Found}
 use Rattle.mc_lab.specs.Remarks.{Remark, just}
 use Rattle.mc_lab.specs.Remarked.{line_value, remark_values}
-use Rattle.mc_explore.specs.Rules.{stays_inside}
+use Rattle.law_explore.specs.Rules.{stays_inside}
 use Rattle.mc_lab.specs.Scanning.{scanned}
 use Rattle.mc_lab.proofs.SectionLemmas.{scanned_is}
 use Rattle.mc_lab.proofs.RemarkLemmas.{with_left, line_read, lines_done, scanned_are}

@@ -1,5 +1,5 @@
 use Rattle.std.proofs.Common.{◌∙◌, ap}
-use Rattle.mc_model_device.specs.Device.{blank_words}
+use Rattle.model_device.specs.Device.{blank_words}
 use Rattle.mc_nvm.specs.Sim.{Sim}
 use Rattle.mc_lab.proofs.sweep_play.play_blank.Goals as goal
 

@@ -1,5 +1,5 @@
 use Rattle.std.proofs.Common.{◌≡◌, take}
-use Rattle.mc_model_play.specs.Play.{armed_stop_in}
+use Rattle.model_play.specs.Play.{armed_stop_in}
 use Rattle.mc_lab.specs.Sweeps.{is_unarmed, state_on_blank}
 use Rattle.mc_lab.proofs.sweeping.is_free.Given as goal
 

@@ -1,7 +1,7 @@
 -- The chain in which the name is called runs to its end.
 use Rattle.std.proofs.Common.{List, sym, subst}
-use Rattle.mc_model_device.specs.Bytes.{lookup}
-use Rattle.mc_model_machine.specs.Chain.{chain_after_call}
+use Rattle.model_device.specs.Bytes.{lookup}
+use Rattle.model_machine.specs.Chain.{chain_after_call}
 use Rattle.mc_segs.specs.HeldFrames.{Held}
 use Rattle.mc_machine.specs.Chains.{RunsAs}
 use Rattle.mc_machine.proofs.running.run_chain.Goals as goal

@@ -1,9 +1,9 @@
 -- An offset in its range is unchanged.
 use Rattle.std.proofs.Common.{ℤ, sym, subst, w16}
 use Rattle.std.proofs.lemmas.Int.{to_z-of_z}
-use Rattle.mc_model_machine.specs.declared.instruction.Ins.{Ins}
-use Rattle.mc_model_machine.specs.declared.instruction.Ins.TheVariants.{Loada, Index}
-use Rattle.mc_model_machine.specs.Code.{Shaped}
+use Rattle.model_machine.specs.declared.instruction.Ins.{Ins}
+use Rattle.model_machine.specs.declared.instruction.Ins.TheVariants.{Loada, Index}
+use Rattle.model_machine.specs.Code.{Shaped}
 use Rattle.mc_rows.specs.FrameRows.{FrameActs}
 use Rattle.mc_rows.proofs.stepping.step_frame.Goals as goal
 

@@ -1,6 +1,6 @@
 use Rattle.std.proofs.Common.{subst, sym, ◌∙◌, List, [], ℕ}
 use Rattle.std.specs.Prelude.{is_err}
-use Rattle.mc_model_play.specs.Play.{send, line_command}
+use Rattle.model_play.specs.Play.{send, line_command}
 use Rattle.mc_card.specs.Parts.{card_in, session_state_in, due}
 use Rattle.mc_card.specs.Ends.{outcome_or_stop}
 use Rattle.mc_script.specs.declared.commands.CardLine.{CardLine}

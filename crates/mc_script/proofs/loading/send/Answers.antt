@@ -1,6 +1,6 @@
 use Rattle.std.proofs.Common.{◌≡◌, ℕ, ◌+◌, List, [], ◌∷◌, Ok, Err, true, false, ap, subst, sym, ◌∙◌, rules}
 use Rattle.std.proofs.lemmas.Result.{err_from_is_err_and}
-use Rattle.mc_model_play.specs.Play.{is_done, send}
+use Rattle.model_play.specs.Play.{is_done, send}
 use Rattle.mc_card.specs.Parts.{card_in, session_state_in, due}
 use Rattle.mc_script.specs.Runs.{sent_to}
 use Rattle.mc_script.specs.StepCounts.{first_search, instructions}

@@ -1,7 +1,7 @@
 use Rattle.std.proofs.Common.{◌≡◌, ℕ, ◌+◌, List, true, false, drop, length, sym, ap, subst, ◌≤◌, rules, Result, Ok}
 use Rattle.std.specs.Prelude.{is_err}
-use Rattle.mc_model_play.specs.DeckGrammar.{DeckLine}
-use Rattle.mc_model_play.specs.Play.{Step, start, step}
+use Rattle.model_play.specs.DeckGrammar.{DeckLine}
+use Rattle.model_play.specs.Play.{Step, start, step}
 use Rattle.mc_deck.specs.Lines.{line_of}
 use Rattle.mc_streams.specs.declared.refusals.WriteFault.{WriteFault}
 use Rattle.mc_text.specs.Texts.{Puts}

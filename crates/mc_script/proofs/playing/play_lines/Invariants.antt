@@ -1,5 +1,5 @@
 use Rattle.std.proofs.Common.{◌≡◌, None, drop}
-use Rattle.mc_model_play.specs.Play.{start}
+use Rattle.model_play.specs.Play.{start}
 use Rattle.mc_script.specs.Players.{device_of}
 use Rattle.mc_script.proofs.DeckLemmas.{PlayReached}
 use Rattle.mc_script.proofs.playing.play_lines.Given as goal

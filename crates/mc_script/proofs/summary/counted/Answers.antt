@@ -1,6 +1,6 @@
 use Rattle.std.proofs.Common.{◌++◌, arith, subst, sym}
 use Rattle.std.specs.Prelude.{option_map}
-use Rattle.mc_model_play.specs.Generator.{is_reply, is_abend, is_cut, is_off, is_ready}
+use Rattle.model_play.specs.Generator.{is_reply, is_abend, is_cut, is_off, is_ready}
 use Rattle.mc_script.specs.Players.{answer_value}
 use Rattle.mc_script.specs.Sums.{Counted, result_list}
 use Rattle.mc_script.proofs.SumLemmas.{count_most, counted_on}

@@ -1,5 +1,5 @@
 use Rattle.std.proofs.Common.{◌≡◌, ◌++◌, [], rules, ap, sym, ◌∙◌, codes}
-use Rattle.mc_model_play.specs.Transcript.{text_of_result}
+use Rattle.model_play.specs.Transcript.{text_of_result}
 use Rattle.mc_deck.specs.Lines.{line_of}
 use Rattle.mc_text.proofs.TextLemmas.{puts_as}
 use Rattle.mc_script.specs.declared.answer.Answer.TheVariants as answer

@@ -1,5 +1,5 @@
 use Rattle.std.proofs.Common.{drop, Result}
-use Rattle.mc_model_play.specs.Play.{State}
+use Rattle.model_play.specs.Play.{State}
 use Rattle.mc_streams.specs.declared.refusals.WriteFault.{WriteFault}
 use Rattle.mc_text.specs.Texts.{Sunk, Puts, sunk_in}
 use Rattle.mc_script.specs.Players.{IsPlayerAt}

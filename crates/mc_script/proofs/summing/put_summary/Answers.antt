@@ -1,5 +1,5 @@
 use Rattle.mc_text.proofs.TextLemmas.{puts_failed, puts_then, fails_before}
-use Rattle.mc_model_play.specs.Generator.{count_line}
+use Rattle.model_play.specs.Generator.{count_line}
 use Rattle.mc_script.specs.Sums.{dumps_text}
 use Rattle.mc_script.proofs.summing.put_summary.Goals as goal
 

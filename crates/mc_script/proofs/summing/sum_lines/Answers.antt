@@ -1,6 +1,6 @@
 use Rattle.std.proofs.Common.{◌≡◌, Result, sym, ap, subst, ◌∙◌}
-use Rattle.mc_model_play.specs.Play.{start, plays, last_state}
-use Rattle.mc_model_play.specs.Generator.{results, summary}
+use Rattle.model_play.specs.Play.{start, plays, last_state}
+use Rattle.model_play.specs.Generator.{results, summary}
 use Rattle.mc_streams.specs.declared.refusals.WriteFault.{WriteFault}
 use Rattle.mc_text.specs.Texts.{Puts, sunk_in}
 use Rattle.mc_text.proofs.TextLemmas.{puts_as}

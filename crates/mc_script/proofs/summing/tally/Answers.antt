@@ -1,5 +1,5 @@
 use Rattle.std.proofs.Common.{ℕ, ◌+◌, List, ◌≤◌, drop, length, subst, rules}
-use Rattle.mc_model_play.specs.DeckGrammar.{DeckLine}
+use Rattle.model_play.specs.DeckGrammar.{DeckLine}
 use Rattle.mc_deck.specs.Lines.{line_of}
 use Rattle.mc_script.specs.Lines.{bench_of}
 use Rattle.mc_script.proofs.DeckLemmas.{next_line, no_line}

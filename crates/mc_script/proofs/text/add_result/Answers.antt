@@ -1,5 +1,5 @@
 use Rattle.std.proofs.Common.{◌++◌, ap, codes, decimal, sym, ◌∙◌, append_assoc}
-use Rattle.mc_model_play.specs.Transcript.{text_of_result}
+use Rattle.model_play.specs.Transcript.{text_of_result}
 use Rattle.mc_script.specs.Players.{answer_value}
 use Rattle.mc_script.proofs.text.add_result.Goals as goal
 

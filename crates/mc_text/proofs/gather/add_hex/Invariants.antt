@@ -1,5 +1,5 @@
 use Rattle.std.proofs.Common.{◌≡◌, ◌+◌, ◌*◌, ◌++◌, length, drop}
-use Rattle.mc_model_text.specs.Listing.{hex_text}
+use Rattle.model_text.specs.Listing.{hex_text}
 use Rattle.mc_text.proofs.gather.add_hex.Given as goal
 
 -- the text so far, followed by the digits of the bytes that are left, is the old text followed by all digits, and there

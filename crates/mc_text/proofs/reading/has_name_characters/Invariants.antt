@@ -1,5 +1,5 @@
 use Rattle.std.proofs.Common.{◌≡◌, drop}
-use Rattle.mc_model_text.specs.Text.{every, is_name_character}
+use Rattle.model_text.specs.Text.{every, is_name_character}
 use Rattle.mc_text.proofs.reading.has_name_characters.Given as goal
 
 -- the characters that are left pass the test exactly if all pass it

@@ -1,5 +1,5 @@
 use Rattle.std.proofs.Common.{◌≡◌, length}
-use Rattle.mc_model_text.specs.Text.{trim_end}
+use Rattle.model_text.specs.Text.{trim_end}
 use Rattle.mc_text.proofs.reading.trim_end.Given as goal
 
 -- the text that is left is trimmed to the same text as the whole

@@ -1,6 +1,6 @@
 use Rattle.std.proofs.Common.{refl}
 use Rattle.std.specs.Fmt.{digits}
-use Rattle.mc_model_text.specs.TurnText.{turn_line}
+use Rattle.model_text.specs.TurnText.{turn_line}
 use Rattle.mc_trace.proofs.worked.lines.Goals as goal
 
 pub returns : goal.returns

@@ -1,5 +1,5 @@
 use Rattle.std.proofs.Common.{◌≡◌, length}
-use Rattle.mc_model_card.specs.Units.{name_among}
+use Rattle.model_card.specs.Units.{name_among}
 use Rattle.mc_unit.proofs.name.name_in.Given as goal
 
 -- the bytes that are left have the name of the whole

@@ -1,5 +1,5 @@
-use Rattle.mc_desk.specs.Listings.{Desk}
-use Rattle.mc_desk.specs.Loads.{AreLoads}
+use Rattle.desk_draft.specs.Listings.{Desk}
+use Rattle.desk_draft.specs.Loads.{AreLoads}
 use Rattle.meldesk.proofs.CheckLemmas.{VerdictsLead}
 use Rattle.meldesk.proofs.checking.verdicts_of.Given as goal
 

@@ -1,6 +1,6 @@
 use Rattle.std.proofs.Common.{ℕ, List, inr, subst}
 use Rattle.std.proofs.lemmas.Result.{IfOk-weaker}
-use Rattle.mc_desk.specs.Loads.{desk_value}
+use Rattle.desk_draft.specs.Loads.{desk_value}
 use Rattle.meldesk.specs.Plays.{IsPlayOf, Plays}
 use Rattle.meldesk.proofs.PlayLemmas.{play_due}
 use Rattle.meldesk.proofs.playing.play_draft.Goals as goal

@@ -1,6 +1,6 @@
 use Rattle.std.proofs.Common.{◌≡◌, ◌<◌, ◌≤◌, ℕ, List, length, IfErr, OnOk, rules, subst}
 use Rattle.mc_filter.specs.Inputs.{input_limit}
-use Rattle.mc_desk.specs.Written.{draft_value}
+use Rattle.desk_draft.specs.Written.{draft_value}
 use Rattle.meldesk.proofs.RunLemmas.{long_by, short_by}
 use Rattle.meldesk.proofs.running.check_length.Goals as goal
 

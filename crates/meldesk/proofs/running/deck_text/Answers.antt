@@ -1,5 +1,5 @@
 use Rattle.std.proofs.lemmas.Result.{err_from_is_err_and}
-use Rattle.mc_desk.specs.Written.{draft_value}
+use Rattle.desk_draft.specs.Written.{draft_value}
 use Rattle.meldesk.proofs.RunLemmas.{deck_made, deck_rejected}
 use Rattle.meldesk.proofs.running.deck_text.Goals as goal
 

@@ -1,10 +1,10 @@
 use Rattle.std.proofs.Common.{◌≡◌, ◌∙◌, ◌<◌, ◌≤◌, ℕ, List, length, Ok, ap, rules, subst, sym}
 use Rattle.std.specs.Prelude.{map}
 use Rattle.std.proofs.lemmas.Result.{err_from_is_err_and}
-use Rattle.mc_model_play.specs.DeckGrammar.{deck_read}
-use Rattle.mc_desk.specs.declared.draft.Section.{Section}
-use Rattle.mc_desk.specs.Listings.{Source, source_of}
-use Rattle.mc_desk.specs.Written.{draft_value, section_value}
+use Rattle.model_play.specs.DeckGrammar.{deck_read}
+use Rattle.desk_draft.specs.declared.draft.Section.{Section}
+use Rattle.desk_draft.specs.Listings.{Source, source_of}
+use Rattle.desk_draft.specs.Written.{draft_value, section_value}
 use Rattle.mc_filter.specs.Inputs.{input_limit, refused_deck, Rejects}
 use Rattle.meldesk.proofs.RunLemmas.{desk_made, desk_rejected, draft_rejected, is_short, long_rejected}
 use Rattle.meldesk.proofs.running.desk_of.Goals as goal

@@ -1,9 +1,9 @@
 use Rattle.std.proofs.Common.{◌≡◌, ◌∙◌, List, true, ap, rules}
 use Rattle.std.proofs.lemmas.Result.{err_from_is_err_and}
-use Rattle.mc_desk.specs.declared.source.Source.{Source}
-use Rattle.mc_desk.specs.Listings.{listing_of}
-use Rattle.mc_desk.specs.Loads.{desk_value}
-use Rattle.mc_desk.specs.Sources.{sources_value}
+use Rattle.desk_draft.specs.declared.source.Source.{Source}
+use Rattle.desk_draft.specs.Listings.{listing_of}
+use Rattle.desk_draft.specs.Loads.{desk_value}
+use Rattle.desk_draft.specs.Sources.{sources_value}
 use Rattle.meldesk.specs.Verdicts.{Whole}
 use Rattle.meldesk.proofs.RunLemmas.{listing_made, listing_rejected}
 use Rattle.meldesk.proofs.running.listing_text.Goals as goal

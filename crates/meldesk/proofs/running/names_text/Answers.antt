@@ -1,5 +1,5 @@
 use Rattle.std.proofs.lemmas.Result.{err_from_is_err_and}
-use Rattle.mc_desk.specs.Loads.{desk_value}
+use Rattle.desk_draft.specs.Loads.{desk_value}
 use Rattle.meldesk.proofs.RunLemmas.{names_made, names_rejected}
 use Rattle.meldesk.proofs.running.names_text.Goals as goal
 

@@ -1,8 +1,8 @@
 use Rattle.std.proofs.Common.{◌≡◌, ℕ, List, rules, subst}
 use Rattle.std.proofs.lemmas.Result.{err_from_is_err_and}
-use Rattle.mc_desk.specs.declared.source.Source.{Source}
-use Rattle.mc_desk.specs.Loads.{desk_value, AreLoads}
-use Rattle.mc_desk.specs.Sources.{sources_value}
+use Rattle.desk_draft.specs.declared.source.Source.{Source}
+use Rattle.desk_draft.specs.Loads.{desk_value, AreLoads}
+use Rattle.desk_draft.specs.Sources.{sources_value}
 use Rattle.meldesk.proofs.RunLemmas.{check_made, check_rejected}
 use Rattle.meldesk.proofs.running.verdicts_text.Goals as goal
 

@@ -1,5 +1,5 @@
 use Rattle.std.proofs.Common.{◌∙◌, ap, sym}
-use Rattle.mc_model_play.specs.DeckGrammar.{deck_read}
+use Rattle.model_play.specs.DeckGrammar.{deck_read}
 use Rattle.mc_filter.proofs.Statuses.{puts_by}
 use Rattle.mc_filter.specs.Outside.{outside, Outside}
 use Rattle.mc_filter.specs.Statuses.{status_after_writing}

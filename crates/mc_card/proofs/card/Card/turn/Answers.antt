@@ -1,9 +1,9 @@
 use Rattle.std.proofs.Common.{ℕ, List, None, Ok, Err, sym, ◌∙◌, ap, subst}
 use Rattle.std.proofs.lemmas.Result.{err_from_is_err_and}
 use Rattle.std.specs.Option.{option_copied_mut}
-use Rattle.mc_model_device.proofs.LoopLemmas.{makes_same}
-use Rattle.mc_model_machine.specs.Chain.{turn_of}
-use Rattle.mc_model_device.specs.Device.{Ended}
+use Rattle.model_device.proofs.LoopLemmas.{makes_same}
+use Rattle.model_machine.specs.Chain.{turn_of}
+use Rattle.model_device.specs.Device.{Ended}
 use Rattle.mc_store.specs.GoingLaws.{going_is}
 use Rattle.mc_card.specs.declared.card.Card.{Card}
 use Rattle.mc_card.specs.Ends.{ChainTurned}

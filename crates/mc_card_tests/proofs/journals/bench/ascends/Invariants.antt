@@ -1,5 +1,5 @@
 use Rattle.std.proofs.Common.{◌≡◌, drop, map}
-use Rattle.mc_model_device.specs.Image.{ascend}
+use Rattle.model_device.specs.Image.{ascend}
 use Rattle.mc_card_tests.proofs.journals.bench.ascends.Given as goal
 
 -- the targets that remain decide

@@ -1,4 +1,4 @@
-use Rattle.mc_model_device.specs.Image.{look_j}
+use Rattle.model_device.specs.Image.{look_j}
 use Rattle.mc_card_tests.proofs.CostLemmas.{as_many, at_most_65}
 use Rattle.mc_card_tests.proofs.journals.costs.at_most_65_writes.Goals as goal
 

@@ -1,5 +1,5 @@
 use Rattle.std.proofs.Common.{◌≡◌, true, rules}
-use Rattle.mc_model_stack.specs.StackRows as shape
+use Rattle.model_stack.specs.StackRows as shape
 use Rattle.mc_check.specs.Closing.{found_fact}
 use Rattle.mc_check.proofs.ClosingPlaces.{next_inside}
 use Rattle.mc_check.proofs.ClosingSteps.{goes_reached}

@@ -1,5 +1,5 @@
 use Rattle.std.proofs.Common.{◌≡◌, ◌∙◌, Some, sym}
-use Rattle.mc_model_stack.specs.StackRows as shape
+use Rattle.model_stack.specs.StackRows as shape
 use Rattle.mc_check.specs.Closing.{found_fact}
 use Rattle.mc_check.proofs.ClosingPlaces.{jump_inside, target_some}
 use Rattle.mc_check.proofs.ClosingSteps.{jump_reached}

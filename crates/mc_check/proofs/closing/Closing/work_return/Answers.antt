@@ -1,7 +1,7 @@
 use Rattle.std.proofs.Common.{◌≡◌, ◌∙◌, ◌<◌, Some, length, refl, sym, ap, arith}
 use Rattle.std.proofs.lemmas.Option.{slice_get_read}
 use Rattle.std.proofs.lemmas.Result.{on_ok_weaker}
-use Rattle.mc_model_stack.specs.StackShape.{At}
+use Rattle.model_stack.specs.StackShape.{At}
 use Rattle.mc_check.specs.declared.shape.Counts.{Counts}
 use Rattle.mc_check.specs.Table.{routine_of}
 use Rattle.mc_check.specs.Closing.{tables_of, found_fact}

@@ -1,5 +1,5 @@
 use Rattle.std.proofs.Common.{ℕ, List, ◌<◌, length, ap, ◌∙◌, sym, subst}
-use Rattle.mc_model_play.specs.DeckGrammar.{DeckLine}
+use Rattle.model_play.specs.DeckGrammar.{DeckLine}
 use Rattle.mc_deck.specs.Lines.{grammar_line, GoodLine}
 use Rattle.mc_deck.proofs.LineLemmas.{good_in}
 use Rattle.mc_deck.proofs.deck.Deck.line.Goals as goal

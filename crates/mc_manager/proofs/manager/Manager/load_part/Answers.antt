@@ -1,7 +1,7 @@
 use Rattle.std.proofs.Common.{Option, refl, sym, ◌∙◌, ap}
 use Rattle.std.specs.Prelude.{option_map}
 use Rattle.std.proofs.lemmas.Result.{err_from_is_err_and}
-use Rattle.mc_model_card.specs.Manager.{first_status, load_refusals}
+use Rattle.model_card.specs.Manager.{first_status, load_refusals}
 use Rattle.mc_apdu.specs.Command.{parts_of}
 use Rattle.mc_manager.specs.Status.{word_of}
 use Rattle.mc_manager.specs.ManagerState.{ManagerState, Loaded, view_of, open_of}

@@ -1,5 +1,5 @@
 use Rattle.std.proofs.Common.{◌≡◌, ℕ, take, drop, ◌++◌, ◌+◌, ◌-◌, ◌*◌, ◌/◌, ◌≤◌, suc, length, arith, subst}
-use Rattle.mc_model_machine.specs.Modes.{ecb, each, blocks_of}
+use Rattle.model_machine.specs.Modes.{ecb, each, blocks_of}
 use Rattle.mc_prims.specs.Table.{cipher_of, block_under_key}
 use Rattle.mc_prims.proofs.BlocksLemmas.{each_step}
 use Rattle.mc_prims.proofs.table.Cipher.turn_each.Goals as goal

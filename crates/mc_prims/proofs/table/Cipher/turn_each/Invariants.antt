@@ -1,5 +1,5 @@
 use Rattle.std.proofs.Common.{◌≡◌, ◌-◌, ◌*◌, ◌/◌, ◌++◌, length, take, drop}
-use Rattle.mc_model_machine.specs.Modes.{ecb, each, blocks_of}
+use Rattle.model_machine.specs.Modes.{ecb, each, blocks_of}
 use Rattle.mc_prims.specs.Table.{cipher_of, block_under_key}
 use Rattle.mc_prims.proofs.table.Cipher.turn_each.Given as goal
 

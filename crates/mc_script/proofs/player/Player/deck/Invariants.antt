@@ -1,5 +1,5 @@
 use Rattle.std.proofs.Common.{drop}
-use Rattle.mc_model_play.specs.Play.{State}
+use Rattle.model_play.specs.Play.{State}
 use Rattle.mc_script.specs.Players.{device_of, IsPlayerAt}
 use Rattle.mc_script.specs.Lines.{bench_of}
 use Rattle.mc_script.proofs.Composing.{Between}

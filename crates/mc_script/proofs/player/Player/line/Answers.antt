@@ -1,6 +1,6 @@
 use Rattle.std.proofs.Common.{Some, None, refl, ap}
-use Rattle.mc_model_play.specs.DeckGrammar.{DeckLine}
-use Rattle.mc_model_play.specs.DeckGrammar as line
+use Rattle.model_play.specs.DeckGrammar.{DeckLine}
+use Rattle.model_play.specs.DeckGrammar as line
 use Rattle.mc_unit.specs.Parts.{parts_of}
 use Rattle.mc_deck.specs.Lines.{line_of}
 use Rattle.mc_script.specs.declared.answer.Answer.TheVariants as answer

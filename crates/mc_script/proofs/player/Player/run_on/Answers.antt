@@ -1,6 +1,6 @@
 use Rattle.std.proofs.Common.{subst}
 use Rattle.std.specs.Prelude.{is_err}
-use Rattle.mc_model_play.specs.Play.{line_command}
+use Rattle.model_play.specs.Play.{line_command}
 use Rattle.mc_card.specs.Parts.{card_in, session_state_in}
 use Rattle.mc_card.specs.Ends.{outcome_or_stop}
 use Rattle.mc_script.specs.Commands.{deck_line_of}

@@ -1,6 +1,6 @@
 use Rattle.std.proofs.Common.{◌≡◌, ◌++◌, None, Result, sym, ap, subst, ◌∙◌, rules}
 use Rattle.std.specs.Prelude.{option_map}
-use Rattle.mc_model_play.specs.Transcript.{line_text}
+use Rattle.model_play.specs.Transcript.{line_text}
 use Rattle.mc_streams.specs.declared.refusals.WriteFault.{WriteFault}
 use Rattle.mc_text.specs.Texts.{sunk_in, Puts}
 use Rattle.mc_script.specs.Players.{answer_value}

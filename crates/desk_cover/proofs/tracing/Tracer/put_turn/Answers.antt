@@ -1,0 +1,23 @@
+use Rattle.std.proofs.Common.{ℕ, ◌-◌, ◌++◌, List, codes, decimal, length, take, ap, subst, ◌∙◌}
+use Rattle.model_text.specs.TurnText.{turn_line}
+use Rattle.mc_machine.specs.Turns.{turn_value}
+use Rattle.desk_cover.specs.Tracing.{Adds, adds_on, state_part_of}
+use Rattle.desk_cover.proofs.TraceLemmas.{line_parts}
+use Rattle.desk_cover.proofs.tracing.Tracer.put_turn.Goals as goal
+
+pub returns : goal.returns
+returns g c wrote =
+    let sink = g.T.Sink in
+    let q = c.args.self.now in
+    let front = c.gather_front.new.text.items in
+    let text = c.args.line.now.text.now in
+    let behind = c.gather_state.new.text.items in
+    let v = c.write_gathered-2.new.self in
+    let one : Adds sink q front c.write_gathered.new.self = let h = c.write_gathered.ensures in record { adds = h.adds; sections = h.sections; same = h.same } in
+    let three : Adds sink c.write.new.self behind v = let h = c.write_gathered-2.ensures in record { adds = h.adds; sections = h.sections; same = h.same } in
+    let all = adds_on sink q c.write.new.self v (front ++ text) behind (adds_on sink q c.write_gathered.new.self c.write.new.self front text one c.write.ensures) three in
+    let line : List ℕ = turn_line (turn_value c.args.turn.now wrote) in
+    let number : List ℕ = codes " ; " ++ decimal c.args.line.now.number ++ codes " " in
+    let state : List ℕ = state_part_of c.args.after.now.operand.items c.args.after.now.stack.items in
+    subst (λ (x : List ℕ). Adds sink q x v)
+    (ap (λ (x : List ℕ). x ++ text ++ behind) (c.gather_front.ensures wrote) ∙ ap (λ (x : List ℕ). take (length line - 1) line ++ number ++ text ++ x) c.gather_state.ensures ∙ line_parts (take (length line - 1) line) number text state (codes "\n")) all

@@ -1,0 +1,88 @@
+#![tactic(auto, unfolding(crate::specs::Computed::deck))]
+
+ghost use Rattle.std.specs.Prelude.{◌≡◌, ◌++◌, codes, Ok};
+ghost use Rattle.desk_draft.specs.Computed.{deck};
+
+/// A section with each kind of declaration, and statements that name it.
+pub fn whole_draft()
+    ensures { deck (
+        codes "format\npower\napp purse A000000100\nSTATIC balance 2 03E8\nSTATIC tries 1\nSTATIC pin 2 1234\n" ++
+        codes "STATIC log 4\nSESSION shown 1        ; 1 once the PIN was shown\nPUBLIC amount 0 2\n" ++
+        codes "CONST poor 0x6985\n" ++
+        codes "balance: CMPB INS,0x40\n LOAD balance\n CMPN pin\n SETB shown,3\n LOAD amount+1\n" ++
+        codes " STORE PB[0],balance.size\n EXITSW poor\nend\nload purse\nselect purse\napdu 80 40 0000 (0064) 02\n")
+        ≡ Ok (
+        codes "format\npower\napp purse A000000100\nDATA 03E8\nDATA 00\nDATA 1234\n\n\n\n\n" ++
+        codes "balance: CMPB PT[-12],0x40\n LOAD SB[0],2\n CMPN SB[3],2\n SETB DB[0],3\n LOAD PB[1],1\n" ++
+        codes " STORE PB[0],2\n EXITSW 0x6985\nend\nload purse 9 1\nselect A000000100\napdu 8040000002006402\n") }
+{}
+
+/// Static bytes that are not given are zeros before those that are, and nothing after them.
+pub fn zeros_between()
+    ensures between { deck (codes "app a A000000100\nSTATIC x 1\nSTATIC y 3\nSTATIC z 2 ABcd\nSTATIC w 2\nend\n")
+        ≡ Ok (codes "app a A000000100\nDATA 00\nDATA 000000\nDATA ABcd\n\nend\n") }
+    ensures none_given { deck (codes "app a A000000100\nSTATIC x 1\nSTATIC y 3\nend\nload a")
+        ≡ Ok (codes "app a A000000100\n\n\nend\nload a 4 0") }
+    ensures apart { deck (codes "app a A000000100\nSTATIC x 1\n NOP\nSTATIC y 1 FF\n LOAD y\nend\n")
+        ≡ Ok (codes "app a A000000100\nDATA 00\n NOP\nDATA FF\n LOAD SB[1],1\nend\n") }
+    ensures own_section { deck (codes "app a A000000100\nSTATIC x 1\nend\napp b A000000101\nSTATIC y 1 01\nend\n")
+        ≡ Ok (codes "app a A000000100\n\nend\napp b A000000101\nDATA 01\nend\n") }
+{}
+
+/// Each segment is filled in the order of its lines, from place 0 on, and public bytes stand where they are put.
+pub fn places()
+    ensures { deck (
+        codes "app a A000000100\nSTATIC x 2\nSESSION s 3\nSTATIC y 04\nSESSION t 1\nPUBLIC p 7 2\nPUBLIC q 7 1\n" ++
+        codes " LOAD x\n LOAD y\n LOAD s\n LOAD t\n LOAD p\n LOAD q\nend\nload a\n")
+        ≡ Ok (
+        codes "app a A000000100\n\n\n\n\n\n\n" ++
+        codes " LOAD SB[0],2\n LOAD SB[2],4\n LOAD DB[0],3\n LOAD DB[3],1\n LOAD PB[7],2\n LOAD PB[7],1\nend\n" ++
+        codes "load a 6 4\n") }
+{}
+
+/// A number stays as it was written, in each form.
+pub fn numbers()
+    ensures { deck (
+        codes "app a A000000100\nCONST low -32768\nCONST high 0xFFFF\nCONST seven 007\nCONST none -0\n" ++
+        codes "CONST six 0xa\n" ++
+        codes " PUSHW low\n PUSHW high\n PUSHB seven\n PUSHB none\n PRIM six,seven\nend\n")
+        ≡ Ok (
+        codes "app a A000000100\n\n\n\n\n\n" ++
+        codes " PUSHW -32768\n PUSHW 0xFFFF\n PUSHB 007\n PUSHB -0\n PRIM 0xa,007\nend\n") }
+{}
+
+/// The nine names of the command's header are there in every section.
+pub fn header()
+    ensures { deck (
+        codes "app a A000000100\n LOAD CLA\n LOAD INS\n LOAD P1\n LOAD P2\n LOAD P3\n LOAD Lc\n LOAD Le\n" ++
+        codes " LOAD La\n LOAD SW\nend\n")
+        ≡ Ok (
+        codes "app a A000000100\n LOAD PT[-13],1\n LOAD PT[-12],1\n LOAD PT[-11],1\n LOAD PT[-10],1\n" ++
+        codes " LOAD PT[-9],1\n" ++
+        codes " LOAD PT[-8],2\n LOAD PT[-6],2\n LOAD PT[-4],2\n LOAD PT[-2],2\nend\n") }
+{}
+
+/// A name is there from the line after its declaration to the end of its section.
+pub fn in_force()
+    ensures before { deck (codes "app a A000000100\n LOAD x\nSTATIC x 1\n LOAD x\nend\n")
+        ≡ Ok (codes "app a A000000100\n LOAD x\n\n LOAD SB[0],1\nend\n") }
+    ensures other_section { deck (codes "app a A000000100\nSTATIC x 1\nend\napp b A000000101\n LOAD x\nend\n")
+        ≡ Ok (codes "app a A000000100\n\nend\napp b A000000101\n LOAD x\nend\n") }
+    ensures again { deck (codes "app a A000000100\nSTATIC x 1\nend\napp b A000000101\nSESSION x 2\n LOAD x\nend\n")
+        ≡ Ok (codes "app a A000000100\n\nend\napp b A000000101\n\n LOAD DB[0],2\nend\n") }
+{}
+
+/// Blanks may stand around every field, and a comment may follow; a word with a colon after it is a label.
+pub fn forms()
+    ensures blanks { deck (codes "app a A000000100\n\tSTATIC \t x  1;c\n LOAD x\nend\n")
+        ≡ Ok (codes "app a A000000100\n\n LOAD SB[0],1\nend\n") }
+    ensures given { deck (codes "app a A000000100\n  STATIC x 1 0a ; c\nend\n")
+        ≡ Ok (codes "app a A000000100\nDATA 0a\nend\n") }
+    ensures label { deck (codes "app a A000000100\nSTATIC: NOP\nCONST : NOP\nSESSION :NOP\nPUBLIC\t: \nend\n")
+        ≡ Ok (codes "app a A000000100\nSTATIC: NOP\nCONST : NOP\nSESSION :NOP\nPUBLIC\t: \nend\n") }
+    ensures lower { deck (codes "app a A000000100\nstatic x 1\nend\n")
+        ≡ Ok (codes "app a A000000100\nstatic x 1\nend\n") }
+    ensures outside { deck (codes "STATIC x 1\n LOAD CLA\n") ≡ Ok (codes "STATIC x 1\n LOAD CLA\n") }
+    ensures open { deck (codes "app a A000000100\nSTATIC x 1 01\nSESSION y 1")
+        ≡ Ok (codes "app a A000000100\nDATA 01\n") }
+{}

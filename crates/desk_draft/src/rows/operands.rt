@@ -1,0 +1,81 @@
+#![tactic(auto, unfolding(crate::specs::Computed::deck))]
+
+ghost use Rattle.std.specs.Prelude.{◌≡◌, ◌++◌, codes, Ok};
+ghost use Rattle.desk_draft.specs.Computed.{deck};
+
+/// The size is added for the words whose second operand is a length, where the name is their only operand.
+pub fn sizes()
+    ensures with_size { deck (
+        codes "app a A000000100\nPUBLIC x 3 2\n LOAD x\n STORE x\n CLEARN x\n TESTN x\n INCN x\n DECN x\n NOTN x\n" ++
+        codes " CMPN x\n ADDN x\n SUBN x\n ANDN x\n ORN x\n XORN x\nend\n")
+        ≡ Ok (
+        codes "app a A000000100\n\n LOAD PB[3],2\n STORE PB[3],2\n CLEARN PB[3],2\n TESTN PB[3],2\n" ++
+        codes " INCN PB[3],2\n DECN PB[3],2\n" ++
+        codes " NOTN PB[3],2\n CMPN PB[3],2\n ADDN PB[3],2\n SUBN PB[3],2\n ANDN PB[3],2\n ORN PB[3],2\n" ++
+        codes " XORN PB[3],2\nend\n") }
+    ensures without { deck (
+        codes "app a A000000100\nPUBLIC x 3 2\n LOADI x\n STOREI x\n INDEX x\n LOADA x\n SETB x\n CMPB x\n" ++
+        codes " ADDB x\n SUBB x\n" ++
+        codes " SETW x\n CMPW x\n ADDW x\n SUBW x\nend\n")
+        ≡ Ok (
+        codes "app a A000000100\n\n LOADI PB[3]\n STOREI PB[3]\n INDEX PB[3]\n LOADA PB[3]\n SETB PB[3]\n" ++
+        codes " CMPB PB[3]\n" ++
+        codes " ADDB PB[3]\n SUBB PB[3]\n SETW PB[3]\n CMPW PB[3]\n ADDW PB[3]\n SUBW PB[3]\nend\n") }
+    ensures two_operands { deck (codes "app a A000000100\nPUBLIC x 3 2\n LOAD x,1\n CMPN x,x.size\n STORE x,\n" ++
+        codes " LOAD ,x\nend\n")
+        ≡ Ok (codes "app a A000000100\n\n LOAD PB[3],1\n CMPN PB[3],2\n STORE PB[3],\n LOAD ,PB[3]\nend\n") }
+    ensures number { deck (codes "app a A000000100\nCONST n 4\n LOAD n\n LOAD SB[0],n\nend\n")
+        ≡ Ok (codes "app a A000000100\n\n LOAD 4\n LOAD SB[0],4\nend\n") }
+    ensures labelled { deck (codes "app a A000000100\nLOAD: LOAD CLA\n LOAD SB[0],1\nend\n")
+        ≡ Ok (codes "app a A000000100\nLOAD: LOAD PT[-13],1\n LOAD SB[0],1\nend\n") }
+{}
+
+/// A place some bytes further has the rest of the size.
+pub fn places_further()
+    ensures first { deck (codes "app a A000000100\nSTATIC x 5\n LOAD x+0\n LOAD x+4\n LOAD x+02\nend\n")
+        ≡ Ok (codes "app a A000000100\n\n LOAD SB[0],5\n LOAD SB[4],1\n LOAD SB[2],3\nend\n") }
+    ensures header { deck (codes "app a A000000100\n LOAD Lc+1\n SETB SW+1,0\nend\n")
+        ≡ Ok (codes "app a A000000100\n LOAD PT[-7],1\n SETB PT[-1],0\nend\n") }
+    ensures pair { deck (codes "app a A000000100\nSTATIC x 5\n LOAD x+2,3\nend\n")
+        ≡ Ok (codes "app a A000000100\n\n LOAD SB[2],3\nend\n") }
+    ensures no_number { deck (
+        codes "app a A000000100\nSTATIC x 5\nCONST n 1\n LOAD x+\n LOAD x+n\n LOAD x+0x1\n LOAD x+-1\n" ++
+        codes " LOAD x+1+1\n LOAD x +1\n LOAD x-1\n LOAD n+0\nend\n")
+        ≡ Ok (codes "app a A000000100\n\n\n LOAD x+\n LOAD x+n\n LOAD x+0x1\n LOAD x+-1\n LOAD x+1+1\n" ++
+        codes " LOAD x +1\n LOAD x-1\n LOAD n+0\nend\n") }
+{}
+
+/// A size by itself.
+pub fn sizes_alone()
+    ensures each { deck (codes "app a A000000100\nSTATIC x 05\n PUSHB x.size\n STORE PB[0],x.size\n LOAD x.size\n" ++
+        codes " PRIM x.size,Lc.size\nend\n")
+        ≡ Ok (codes "app a A000000100\n\n PUSHB 5\n STORE PB[0],5\n LOAD 5\n PRIM 5,2\nend\n") }
+    ensures none { deck (codes "app a A000000100\nSTATIC x 5\nCONST n 1\n PUSHB n.size\n PUSHB x.SIZE\n" ++
+        codes " PUSHB x.\n PUSHB x.size.size\n PUSHB x+1.size\n PUSHB y.size\nend\n")
+        ≡ Ok (codes "app a A000000100\n\n\n PUSHB n.size\n PUSHB x.SIZE\n PUSHB x.\n PUSHB x.size.size\n" ++
+        codes " PUSHB x+1.size\n PUSHB y.size\nend\n") }
+{}
+
+/// Names stand for nothing in BRANCH, JUMP and CALL, in labels, in comments and in longer names; case counts.
+pub fn not_a_name()
+    ensures jumps { deck (codes "app a A000000100\nCONST EQ1 1\nCONST x 0\n BRANCH ALL,x\n JUMP x,EQ1\n" ++
+        codes " CALL EQ1,x\nend\n")
+        ≡ Ok (codes "app a A000000100\n\n\n BRANCH ALL,x\n JUMP x,EQ1\n CALL EQ1,x\nend\n") }
+    ensures labels { deck (codes "app a A000000100\nCONST x 1\nx: PUSHB x\nx : PUSHB x\nx:PUSHB x\nx:\nend\n")
+        ≡ Ok (codes "app a A000000100\n\nx: PUSHB 1\nx : PUSHB 1\nx:PUSHB 1\nx:\nend\n") }
+    ensures comments { deck (codes "app a A000000100\nCONST x 1\n PUSHB x ;PUSHB x\n PUSHB x; x: x,x\n; x\nend\n")
+        ≡ Ok (codes "app a A000000100\n\n PUSHB 1 ;PUSHB x\n PUSHB 1; x: x,x\n; x\nend\n") }
+    ensures longer { deck (codes "app a A000000100\nCONST x 1\n PUSHB xx\n PUSHB x1\n PUSHB X\n PUSHB x x\n" ++
+        codes " LOAD SB[x],1\nend\n")
+        ≡ Ok (codes "app a A000000100\n\n PUSHB xx\n PUSHB x1\n PUSHB X\n PUSHB x x\n LOAD SB[x],1\nend\n") }
+    ensures word { deck (codes "app a A000000100\nCONST x 1\n x\n x x\nend\n")
+        ≡ Ok (codes "app a A000000100\n\n x\n x 1\nend\n") }
+{}
+
+/// All blanks stay.
+pub fn blanks()
+    ensures { deck (codes "app a A000000100\nSTATIC x 2\n\t x:  SETB \tx\t, 3 \t; c \n  LOAD\t x  \n NOP  \n \t\n" ++
+        codes " SETB x ,x.size,\t\nend\n")
+        ≡ Ok (codes "app a A000000100\n\n\t x:  SETB \tSB[0]\t, 3 \t; c \n  LOAD\t SB[0],2  \n NOP  \n \t\n" ++
+        codes " SETB SB[0] ,2,\t\nend\n") }
+{}

@@ -1,0 +1,261 @@
+// All that is wrong with a draft.
+ghost use Rattle.std.specs.Prelude.{◌≡◌, ◌++◌, ℕ, List, codes, decimal, Err, IfOk, OnOk, Ok};
+ghost use Rattle.model_play.specs.Words.{deck_word};
+ghost use Rattle.desk_draft.specs.Listings.{desk_read, Desk};
+ghost use Rattle.desk_explain.specs.Explained.{explained_line, BeginsWith, Explains};
+
+use crate::entry::{Entry, entry_of};
+use crate::kind::{Kind, kind_in_section};
+use crate::lines::{line_numbered, lines_of};
+use crate::place::part_of;
+use crate::refusals::{Reading, Refused, first_refusal, read_all};
+use crate::sentence::refusal_sentence;
+use crate::text::{push, push_number};
+use crate::uses::Uses;
+use crate::verdicts::judge_codes;
+use crate::warnings::warn_of_section;
+use desk_draft::{Desk, Section, Source, read_desk, read_draft};
+use mc_deck::DeckCause;
+use std::alloc::{AllocError, Global};
+
+/// What is explained of a draft, and whether it passes: nothing of it is refused, though it may be warned of something.
+#[derive(Drop)]
+pub struct Explained {
+    pub text: Vec<u8>,
+    pub passes: bool,
+}
+
+// Adds the place of a line, as `NAME:LINE:COLUMN: `.
+fn push_place(text: &mut Vec<u8>, name: &[u8], number: u32, column: u32) -> Result<(), AllocError>
+    ensures { OnOk result (text.new.items ≡ text.old.items
+        ++ (name.now ++ codes ":" ++ decimal number ++ codes ":" ++ decimal column ++ codes ": ")) }
+{
+    push(text, name)?;
+    push(text, b":")?;
+    push_number(text, number)?;
+    push(text, b":")?;
+    push_number(text, column)?;
+    push(text, b": ")
+}
+
+// Adds a line.
+fn push_line(text: &mut Vec<u8>, name: &[u8], entry: &Entry) -> Result<(), AllocError>
+    ensures { OnOk result (text.new.items ≡ text.old.items ++ explained_line name.now entry.now.number entry.now.column
+        entry.now.word.now entry.now.text.items) }
+{
+    push_place(text, name, entry.number, entry.column)?;
+    push(text, entry.word.as_bytes())?;
+    push(text, b": ")?;
+    push(text, entry.text.as_slice())?;
+    push(text, b"\n")
+}
+
+// The entry of a line that is refused.
+fn refusal_entry(alloc: Global, lines: &[&[u8]], refused: Refused) -> Result<Entry, AllocError>
+    ensures number { IfOk result (λ e. e.number ≡ refused.number) }
+    ensures word { IfOk result (λ e. e.word.now ≡ deck_word refused.cause) }
+{
+    let line = line_numbered(lines, refused.number);
+    let part = part_of(line, refused.kind, refused.cause);
+    let sentence = refusal_sentence(refused.kind, refused.cause);
+    entry_of(
+        alloc,
+        refused.number,
+        line,
+        part,
+        refused.cause.word(),
+        sentence,
+    )
+}
+
+// Adds the entries of refusals but the first.
+fn add_later(
+    alloc: Global,
+    entries: &mut Vec<Entry>,
+    lines: &[&[u8]],
+    refusals: &[Refused],
+) -> Result<(), AllocError> {
+    for (index, refused) in refusals.iter().enumerate() {
+        if index > 0 {
+            entries.push(refusal_entry(alloc, lines, *refused)?)?;
+        }
+    }
+    Ok(())
+}
+
+// The uses of a section: of its lines in the draft, and of all rules.
+fn uses_of<'a>(
+    alloc: Global,
+    lines: &[&'a [u8]],
+    section: &Section<'a>,
+) -> Result<Uses<'a>, AllocError> {
+    let mut uses = Uses::none(alloc);
+    for line in &section.lines {
+        let text = line_numbered(lines, line.number);
+        uses.take_line(kind_in_section(text), text)?;
+    }
+    for line in lines {
+        uses.take_rule(line)?;
+    }
+    Ok(uses)
+}
+
+// Adds the warnings of all sections.
+fn warn_of_sections<'a>(
+    alloc: Global,
+    entries: &mut Vec<Entry>,
+    lines: &[&'a [u8]],
+    sections: &[Section<'a>],
+    sources: &[Source<'a>],
+    refusals: &[Refused],
+) -> Result<(), AllocError> {
+    for i in 0..sections.len().min(sources.len()) {
+        let uses = uses_of(alloc, lines, &sections[i])?;
+        warn_of_section(
+            alloc,
+            entries,
+            lines,
+            &sections[i],
+            &sources[i],
+            &uses,
+            refusals,
+        )?;
+    }
+    Ok(())
+}
+
+// Adds what is said of a draft that is read: its refused code, and what it is warned of. Returns whether all its code is
+// accepted.
+fn judge_desk<'a>(
+    alloc: Global,
+    entries: &mut Vec<Entry>,
+    lines: &[&'a [u8]],
+    text: &'a [u8],
+    desk: &Desk<'a>,
+    refusals: &[Refused],
+) -> Result<bool, AllocError> {
+    let passes = judge_codes(alloc, entries, lines, desk)?;
+    let Ok(draft) = read_draft(alloc, text) else {
+        return Err(AllocError);
+    };
+    let sections = draft.sections.as_slice();
+    warn_of_sections(
+        alloc,
+        entries,
+        lines,
+        sections,
+        desk.sources.as_slice(),
+        refusals,
+    )?;
+    Ok(passes)
+}
+
+// Adds what is said of a text that is read, which is a draft without its refused lines.
+fn judge<'a>(
+    alloc: Global,
+    entries: &mut Vec<Entry>,
+    draft: &'a [u8],
+    text: &'a [u8],
+    refusals: &[Refused],
+) -> Result<bool, AllocError> {
+    let lines = lines_of(alloc, draft)?;
+    match read_desk(alloc, text) {
+        Ok(desk) => judge_desk(alloc, entries, lines.as_slice(), text, &desk, refusals),
+        Err(_) => Err(AllocError),
+    }
+}
+
+// Adds entries in the order of their lines.
+fn push_sorted(text: &mut Vec<u8>, name: &[u8], entries: Vec<Entry>) -> Result<(), AllocError>
+    ensures { OnOk result ((rest : List ℕ) × (text.new.items ≡ text.old.items ++ rest)) }
+{
+    let mut entries = entries;
+    entries.sort_by_key(|entry| entry.number)?;
+    for entry in &entries {
+        push_line(text, name, entry)?;
+    }
+    Ok(())
+}
+
+// What is explained of a draft that is read.
+fn explain_read(alloc: Global, name: &[u8], draft: &[u8]) -> Result<Explained, AllocError> {
+    let mut entries = Vec::new(alloc);
+    let passes = judge(alloc, &mut entries, draft, draft, &[])?;
+    let mut text = Vec::new(alloc);
+    push_sorted(&mut text, name, entries)?;
+    Ok(Explained { text, passes })
+}
+
+// The entries of a draft behind its first refusal.
+fn later_entries(alloc: Global, draft: &[u8], reading: &Reading) -> Result<Vec<Entry>, AllocError> {
+    let mut entries = Vec::new(alloc);
+    let lines = lines_of(alloc, draft)?;
+    let refusals = reading.refusals.as_slice();
+    add_later(alloc, &mut entries, lines.as_slice(), refusals)?;
+    if reading.is_read {
+        judge(
+            alloc,
+            &mut entries,
+            draft,
+            reading.text.as_slice(),
+            refusals,
+        )?;
+    }
+    Ok(entries)
+}
+
+// The kind of the line that is refused first.
+fn kind_of_first(reading: &Reading) -> Kind {
+    match reading.refusals.first() {
+        Some(refused) => refused.kind,
+        None => Kind::Statement,
+    }
+}
+
+// The text of a draft that is refused first at a line for a cause.
+fn refused_text(
+    alloc: Global,
+    name: &[u8],
+    draft: &[u8],
+    number: u32,
+    cause: DeckCause,
+) -> Result<Vec<u8>, AllocError>
+    ensures { IfOk result (λ t. BeginsWith name.now (number, cause) t.items) }
+{
+    let lines = lines_of(alloc, draft)?;
+    let reading = read_all(alloc, draft, number, cause)?;
+    let mut text = Vec::new(alloc);
+    let kind = kind_of_first(&reading);
+    let first = refusal_entry(
+        alloc,
+        lines.as_slice(),
+        Refused {
+            number,
+            kind,
+            cause,
+        },
+    )?;
+    push_line(&mut text, name, &first)?;
+    push_sorted(&mut text, name, later_entries(alloc, draft, &reading)?)?;
+    Ok(text)
+}
+
+/// Returns all that is wrong with a draft, as lines `NAME:LINE:COLUMN: CAUSE: TEXT`. If the draft is refused, the first
+/// line is that of its first refusal; the rest are in the order of their lines, and `warning` is the cause of what
+/// refuses nothing.
+///
+/// # Errors
+///
+/// Returns `AllocError` if out of memory.
+#[tactic(auto, using(crate::proofs::ExplainLemmas::explained_read, crate::proofs::ExplainLemmas::explained_refused))]
+pub fn explain(alloc: Global, name: &[u8], draft: &[u8]) -> Result<Explained, AllocError>
+    ensures { IfOk result (λ e. Explains name.now (desk_read draft.now) e.passes e.text.items) }
+{
+    match first_refusal(alloc, draft)? {
+        None => explain_read(alloc, name, draft),
+        Some((number, cause)) => Ok(Explained {
+            text: refused_text(alloc, name, draft, number, cause)?,
+            passes: false,
+        }),
+    }
+}

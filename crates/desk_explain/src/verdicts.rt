@@ -1,0 +1,234 @@
+// What is said of code that the stack checker refuses.
+ghost use Rattle.std.specs.Prelude.{◌≤◌, length};
+ghost use Rattle.model_device.specs.Limits.{most_code};
+
+use crate::column::column_at;
+use crate::entry::{Entry, push_sentence};
+use crate::lines::line_numbered;
+use crate::part::{without_comment, word_part};
+use crate::sentence::verdict_sentence;
+use crate::text::{push, push_number};
+use crate::ways::{Way, Ways, ways_to};
+use desk_draft::{Desk, Loads, Source};
+use mc_check::{CheckCause, Routine, Verdict, check};
+use mc_deck::Line;
+use mc_text::trim;
+use std::alloc::{AllocError, Global};
+
+/// The most bytes of code.
+pub const MOST_CODE: usize = 8192;
+
+// Code that is refused: the number of the line that loads it, the place and the cause.
+#[derive(Clone, Copy)]
+struct Judged {
+    load: u32,
+    place: u16,
+    cause: CheckCause,
+}
+
+// The place and the cause for which code is refused, or `None` if it is accepted.
+fn refused_place(
+    alloc: Global,
+    code: &[u8],
+    session: u16,
+) -> Result<Option<(u16, CheckCause)>, AllocError> {
+    if code.is_empty() || code.len() > MOST_CODE {
+        return Ok(None);
+    }
+    match check(alloc, code, session) {
+        Ok(Verdict::Accept { .. }) => Ok(None),
+        Ok(Verdict::Refuse { place, cause }) => Ok(Some((place, cause))),
+        Err(_) => Err(AllocError),
+    }
+}
+
+// Adds the line of a place of code, or the place if its code is of no section.
+fn push_place(
+    text: &mut Vec<u8>,
+    source: Option<&Source<'_>>,
+    place: u16,
+) -> Result<(), AllocError> {
+    let line = match source {
+        Some(source) => source.line_at(place),
+        None => None,
+    };
+    match line {
+        Some(line) => {
+            push(text, b"line ")?;
+            push_number(text, line.number)
+        }
+        None => {
+            push(text, b"place ")?;
+            push_number(text, place as u32)
+        }
+    }
+}
+
+// Adds the routine in which code is.
+fn push_routine(
+    text: &mut Vec<u8>,
+    source: Option<&Source<'_>>,
+    routine: Routine,
+) -> Result<(), AllocError> {
+    match routine {
+        Routine::Main => push(text, b" in the main code"),
+        Routine::At(place) => {
+            push(text, b" in the routine at ")?;
+            push_place(text, source, place)
+        }
+    }
+}
+
+// Adds where a way comes from.
+fn push_from(
+    text: &mut Vec<u8>,
+    source: Option<&Source<'_>>,
+    from: Option<u16>,
+) -> Result<(), AllocError> {
+    match from {
+        Some(place) => {
+            push(text, b"from ")?;
+            push_place(text, source, place)
+        }
+        None => push(text, b"as its first instruction"),
+    }
+}
+
+// Adds one way to a place: the line that leads there, and the height of the stack with which it does; and the routine if
+// it is named.
+fn push_way(
+    text: &mut Vec<u8>,
+    source: Option<&Source<'_>>,
+    way: Way,
+    names: bool,
+) -> Result<(), AllocError> {
+    push_from(text, source, way.from)?;
+    if names {
+        push_routine(text, source, way.entry.routine)?;
+    }
+    push(text, b" with a stack of ")?;
+    push_number(text, way.entry.height as u32)
+}
+
+// Adds the ways to a place: both that disagree, or the first.
+fn push_ways(
+    text: &mut Vec<u8>,
+    source: Option<&Source<'_>>,
+    ways: Ways,
+) -> Result<(), AllocError> {
+    let Some(first) = ways.first else {
+        return Ok(());
+    };
+    push(text, b"; the code comes here ")?;
+    let Some(second) = ways.second else {
+        return push_way(text, source, first, false);
+    };
+    let names = first.entry.routine != second.entry.routine;
+    push_way(text, source, first, names)?;
+    push(text, b" and ")?;
+    push_way(text, source, second, names)
+}
+
+// The text of code that is refused.
+fn text_of(
+    alloc: Global,
+    line: &[u8],
+    source: Option<&Source<'_>>,
+    code: &[u8],
+    judged: Judged,
+) -> Result<Vec<u8>, AllocError> {
+    let mut text = Vec::new(alloc);
+    push(&mut text, b"`")?;
+    push(&mut text, line)?;
+    push(&mut text, b"` stands here")?;
+    if code.len() <= MOST_CODE {
+        push_ways(&mut text, source, ways_to(alloc, code, judged.place)?)?;
+    }
+    push_sentence(&mut text, verdict_sentence(judged.cause))?;
+    Ok(text)
+}
+
+// Whether an entry says what is said already, as of code that two lines load.
+fn is_known(entries: &[Entry], number: u32, word: &'static str) -> bool {
+    for entry in entries {
+        if entry.number == number && entry.word == word {
+            return true;
+        }
+    }
+    false
+}
+
+// Adds an entry of code that is refused, at the line of the place, or at the line that loads the code if it is of no
+// section.
+fn push_judged(
+    alloc: Global,
+    entries: &mut Vec<Entry>,
+    lines: &[&[u8]],
+    source: Option<&Source<'_>>,
+    code: &[u8],
+    judged: Judged,
+) -> Result<(), AllocError> {
+    let number = match source {
+        Some(source) => match source.line_at(judged.place) {
+            Some(line) => line.number,
+            None => judged.load,
+        },
+        None => judged.load,
+    };
+    let word = judged.cause.word();
+    if is_known(entries.as_slice(), number, word) {
+        return Ok(());
+    }
+    let line = line_numbered(lines, number);
+    let part = word_part(line);
+    let text = text_of(alloc, trim(without_comment(line)), source, code, judged)?;
+    entries.push(Entry {
+        number,
+        column: column_at(line, part.at),
+        word,
+        text,
+    })?;
+    Ok(())
+}
+
+// Whether code of a line of a deck is accepted, which adds an entry if it is not.
+fn judge_line(
+    alloc: Global,
+    entries: &mut Vec<Entry>,
+    lines: &[&[u8]],
+    loads: &Loads<'_, '_>,
+    load: u32,
+    line: &Line<'_>,
+) -> Result<bool, AllocError> {
+    let Line::Load { unit, session, .. } = line else {
+        return Ok(true);
+    };
+    let Some((place, cause)) = refused_place(alloc, unit.code, *session)? else {
+        return Ok(true);
+    };
+    let judged = Judged { load, place, cause };
+    push_judged(alloc, entries, lines, loads.source(load), unit.code, judged)?;
+    Ok(false)
+}
+
+/// Adds an entry for the code of each `load` line that the stack checker refuses, and returns whether it accepts all.
+/// `lines` are those of the draft.
+///
+/// # Errors
+///
+/// Returns `AllocError` if out of memory.
+pub fn judge_codes(
+    alloc: Global,
+    entries: &mut Vec<Entry>,
+    lines: &[&[u8]],
+    desk: &Desk<'_>,
+) -> Result<bool, AllocError> {
+    let loads = Loads::new(alloc, desk.text.as_slice(), desk.sources.as_slice())?;
+    let mut passes = true;
+    for i in 0..desk.deck.len() {
+        let (load, line) = desk.deck.line(i);
+        let accepted = judge_line(alloc, entries, lines, &loads, load, &line)?;
+        passes = passes && accepted;
+    }
+    Ok(passes)
+}

@@ -1,0 +1,59 @@
+-- The texts of JSON: the characters of strings, keys, and the runs of addresses whose bytes differ.
+use Rattle.std.specs.Prelude.{ℕ, ◌+◌, Bool, true, false, cond, ◌&&◌, nat_le, ◌==◌, List, [], ◌∷◌, ◌++◌, codes, decimal}
+use Rattle.model_text.specs.Listing.{hex_text}
+
+-- ---- strings and keys
+
+-- a character of a string: escaped if it is a quotation mark, a backslash, or no printable character of ASCII
+abbrev pub character : ℕ → List ℕ
+character c =
+    cond (c == 34) (92 ∷ 34 ∷ []) (cond (c == 92) (92 ∷ 92 ∷ []) (
+    cond (nat_le 32 c && nat_le c 126) (c ∷ []) (codes "\\u00" ++ hex_text (c ∷ []))
+    ))
+
+-- the characters of a string
+abbrev pub characters : List ℕ → List ℕ
+characters [] = []
+characters (c ∷ cs) = character c ++ characters cs
+
+-- ---- runs
+
+-- a byte at an address before runs of bytes: it is of the first run if that begins right after it
+abbrev pub before_runs : ℕ → ℕ → List (ℕ × List ℕ) → List (ℕ × List ℕ)
+before_runs a b [] = (a, b ∷ []) ∷ []
+before_runs a b (r ∷ rs) = cond (r.0 == a + 1) ((a, b ∷ r.1) ∷ rs) ((a, b ∷ []) ∷ r ∷ rs)
+
+-- a byte at an address before runs of bytes, if it differs from an old one
+abbrev pub before_if : Bool → ℕ → ℕ → List (ℕ × List ℕ) → List (ℕ × List ℕ)
+before_if true a b rs = rs
+before_if false a b rs = before_runs a b rs
+
+-- the longest runs of addresses from one on whose bytes differ from old ones; after the last old one, from zeros
+abbrev pub changes : ℕ → List ℕ → List ℕ → List (ℕ × List ℕ)
+changes a old [] = []
+changes a [] (b ∷ bs) = before_if (b == 0) a b (changes (a + 1) [] bs)
+changes a (o ∷ os) (b ∷ bs) = before_if (b == o) a b (changes (a + 1) os bs)
+
+-- a run: its address and its bytes
+abbrev pub run_text : ℕ × List ℕ → List ℕ
+run_text r = codes "[" ++ decimal r.0 ++ codes ",\"" ++ hex_text r.1 ++ codes "\"]"
+
+-- runs after another one
+abbrev pub runs_after : List (ℕ × List ℕ) → List ℕ
+runs_after [] = []
+runs_after (r ∷ rs) = codes "," ++ run_text r ++ runs_after rs
+
+-- runs, after another one or as the first
+abbrev pub runs_more : Bool → List (ℕ × List ℕ) → List ℕ
+runs_more true rs = runs_after rs
+runs_more false [] = []
+runs_more false (r ∷ rs) = run_text r ++ runs_after rs
+
+-- runs in brackets
+abbrev pub runs_text : List (ℕ × List ℕ) → List ℕ
+runs_text rs = codes "[" ++ runs_more false rs ++ codes "]"
+
+-- whether there is a run, or was one before
+abbrev pub any_run : Bool → List (ℕ × List ℕ) → Bool
+any_run any [] = any
+any_run any (r ∷ rs) = true

@@ -1,0 +1,5 @@
+use Rattle.desk_json.specs.Sheets.{adds_on}
+use Rattle.desk_steps.proofs.keys.add_ins.Goals as goal
+
+pub returns : goal.returns
+returns g c = adds_on g.T.Sink _ _ _ _ _ (adds_on g.T.Sink _ _ _ _ _ c.add.ensures (c.add_text.ensures)) (c.add-2.ensures)

@@ -1,0 +1,301 @@
+// The lines of frames and turns, as a recorder writes them.
+ghost use Rattle.std.specs.Prelude.{◌≡◌, ℕ, Option, [], ◌++◌, codes, Some, None, true, false, IfSome};
+ghost use Rattle.model_machine.specs.Code.{Shaped};
+ghost use Rattle.mc_card.specs.Parts.{IsUp};
+ghost use Rattle.mc_machine.specs.Turns.{turn_value};
+ghost use Rattle.desk_cover.specs.Watching.{IsWatched};
+ghost use Rattle.mc_text.specs.Texts.{sunk};
+ghost use Rattle.desk_json.specs.Sheets.{Adds, PutsOn};
+ghost use Rattle.desk_steps.specs.Lines.{aid_key, frame_text, number_key, sets_key, turn_text, Found};
+ghost use Rattle.desk_steps.specs.Recorded.{next_number, BeginsFrames, PutsText, RecordsTurn};
+ghost use Rattle.desk_steps.specs.Shots.{shot_changes};
+
+use crate::changes::add_changes;
+use crate::keys::{add_aid, add_command, add_place, add_registers, add_writes};
+use crate::looking::running_aid;
+use crate::memory::{Memory, Next};
+use crate::shot::Shot;
+use desk_cover::Sections;
+use desk_json::Sheet;
+use mc_base::Aid;
+use mc_card::{Card, Turn};
+use mc_deck::Line;
+use mc_nvm::Nvm;
+use mc_streams::{Sink, WriteFault};
+
+/// Records the turns of a play as JSON. Once its sink failed it writes no more, and commands are run to their end.
+#[derive(Drop)]
+pub struct Recorder<'s, 'o, T: Sink> {
+    pub out: &'o mut T,
+    pub fault: Option<WriteFault>,
+    pub sections: &'o Sections<'s>,
+    turns: u32,
+    memory: Memory,
+}
+
+// Adds the bytes of a frame that begins, by the shot of no frame and its own.
+fn add_first<T: Sink>(sheet: &mut Sheet<'_, T>, blank: &Shot, shot: &Shot, is_first: bool)
+    ensures { Adds T.Sink sheet.old (sets_key (shot_changes is_first blank.now shot.now)) sheet.new }
+{
+    sheet.add(b",\"sets\":");
+    add_changes(sheet, blank, shot, is_first);
+}
+
+// Writes the line of the first frame of a command.
+fn put_first<T: Sink>(sheet: &mut Sheet<'_, T>, aid: &Aid, memory: &Memory)
+    ensures adds { Adds T.Sink sheet.old (frame_text 1 aid.now (Some memory.now.command.items)
+        (shot_changes true memory.now.blank memory.now.before)) sheet.new }
+    ensures text { sheet.new.text.items ≡ [] }
+{
+    sheet.add_key(b"{\"frame\":", 1);
+    add_aid(sheet, aid);
+    add_command(sheet, memory.command.as_slice());
+    add_first(sheet, &memory.blank, &memory.before, true);
+    sheet.end_line();
+}
+
+// Writes the line of a frame that another one called.
+fn put_called<T: Sink>(sheet: &mut Sheet<'_, T>, depth: u8, aid: &Aid, memory: &Memory)
+    ensures adds { Adds T.Sink sheet.old (frame_text depth aid.now None
+        (shot_changes false memory.now.blank memory.now.before)) sheet.new }
+    ensures text { sheet.new.text.items ≡ [] }
+{
+    sheet.add_key(b"{\"frame\":", depth as u32);
+    add_aid(sheet, aid);
+    add_first(sheet, &memory.blank, &memory.before, false);
+    sheet.end_line();
+}
+
+// Adds the bytes that a turn changed, by the shots before it and after it.
+fn add_sets<T: Sink>(sheet: &mut Sheet<'_, T>, memory: &Memory)
+    ensures { Adds T.Sink sheet.old (sets_key (shot_changes true memory.now.before memory.now.after)) sheet.new }
+{
+    sheet.add(b",\"sets\":");
+    add_changes(sheet, &memory.before, &memory.after, true);
+}
+
+// Adds the number, the depth and the application of a turn.
+fn add_turn<T: Sink>(sheet: &mut Sheet<'_, T>, number: u32, depth: u8, aid: &Aid)
+    ensures { Adds T.Sink sheet.old (number_key (codes "{\"turn\":") number ++ number_key (codes ",\"depth\":") depth
+        ++ aid_key aid.now) sheet.new }
+{
+    sheet.add_key(b"{\"turn\":", number);
+    sheet.add_key(b",\"depth\":", depth as u32);
+    add_aid(sheet, aid);
+}
+
+// Writes the line of a turn with a number, whose shots were taken.
+fn put_turn<T: Sink>(
+    sheet: &mut Sheet<'_, T>,
+    memory: &Memory,
+    number: u32,
+    aid: &Aid,
+    turn: &Turn,
+    source: Option<u32>,
+    is_on: bool,
+    writes: Option<(u32, u32)>,
+)
+    requires { IfSome turn.now.ins Shaped }
+    ensures adds { (wrote : Option ℕ) → Adds T.Sink sheet.old (turn_text number aid.now source (turn_value turn.now wrote)
+        (record {
+          lb = memory.now.after.lb;
+          is_on = is_on;
+          sets = shot_changes true memory.now.before memory.now.after;
+          writes = writes;
+        })) sheet.new }
+    ensures text { sheet.new.text.items ≡ [] }
+{
+    add_turn(sheet, number, turn.depth, aid);
+    add_place(sheet, turn, source);
+    add_registers(sheet, turn, memory.after.lb, is_on);
+    add_sets(sheet, memory);
+    add_writes(sheet, writes);
+    sheet.end_line();
+}
+
+// Writes the line of the first frame of a command, and returns the fault of the sink.
+fn write_first<T: Sink>(
+    out: &mut T,
+    fault: Option<WriteFault>,
+    aid: &Aid,
+    memory: &Memory,
+) -> Option<WriteFault>
+    ensures { PutsOn fault (sunk T.Sink out.old) (frame_text 1 aid.now (Some memory.now.command.items)
+        (shot_changes true memory.now.blank memory.now.before)) result (sunk T.Sink out.new) }
+{
+    let mut sheet = Sheet::new(&mut *out, fault);
+    put_first(&mut sheet, aid, memory);
+    sheet.fault()
+}
+
+// Writes the line of a frame that another one called, and returns the fault of the sink.
+fn write_called<T: Sink>(
+    out: &mut T,
+    fault: Option<WriteFault>,
+    depth: u8,
+    aid: &Aid,
+    memory: &Memory,
+) -> Option<WriteFault>
+    ensures { PutsOn fault (sunk T.Sink out.old) (frame_text depth aid.now None
+        (shot_changes false memory.now.blank memory.now.before)) result (sunk T.Sink out.new) }
+{
+    let mut sheet = Sheet::new(&mut *out, fault);
+    put_called(&mut sheet, depth, aid, memory);
+    sheet.fault()
+}
+
+// Writes the line of a turn with a number, whose shots were taken, and returns the fault of the sink.
+fn write_counted<T: Sink>(
+    out: &mut T,
+    fault: Option<WriteFault>,
+    memory: &Memory,
+    number: u32,
+    aid: &Aid,
+    turn: &Turn,
+    source: Option<u32>,
+    is_on: bool,
+    writes: Option<(u32, u32)>,
+) -> Option<WriteFault>
+    requires { IfSome turn.now.ins Shaped }
+    ensures { (wrote : Option ℕ) → PutsOn fault (sunk T.Sink out.old)
+        (turn_text number aid.now source (turn_value turn.now wrote)
+        (record {
+          lb = memory.now.after.lb;
+          is_on = is_on;
+          sets = shot_changes true memory.now.before memory.now.after;
+          writes = writes;
+        })) result (sunk T.Sink out.new) }
+{
+    let mut sheet = Sheet::new(&mut *out, fault);
+    put_turn(&mut sheet, memory, number, aid, turn, source, is_on, writes);
+    sheet.fault()
+}
+
+impl<'s, 'o, T: Sink> Recorder<'s, 'o, T> {
+    /// Returns a recorder that has written nothing.
+    pub fn new(out: &'o mut T, sections: &'o Sections<'s>) -> Recorder<'s, 'o, T>
+        ensures out { result.out.now ≡ out.old }
+        ensures same { result.out.ghost_name ≡ out.entry.ghost_name }
+        ensures fault { result.fault ≡ None }
+        ensures sections { result.sections.now ≡ sections.now }
+    {
+        Recorder {
+            out,
+            fault: None,
+            sections,
+            turns: 0,
+            memory: Memory::new(),
+        }
+    }
+
+    /// Begins a line of the deck: none of its turns ran, and it made no device write. A command to an application is
+    /// kept for the line of its first frame.
+    pub fn begin_line(&mut self, line: &Line<'_>)
+        ensures out { self.new.out ≡ self.old.out }
+        ensures fault { self.new.fault ≡ self.old.fault }
+        ensures sections { self.new.sections.now ≡ self.old.sections.now }
+        ensures turns { self.new.turns ≡ 0 }
+    {
+        self.turns = 0;
+        self.memory.begin_line(line);
+    }
+
+    // Writes the line of the first frame of a command, before its first turn.
+    #[tactic(auto, using(crate::proofs::ChangeLemmas::begins_none, crate::proofs::ChangeLemmas::begins_one))]
+    fn begin_first(&mut self, aid: &Aid)
+        ensures { BeginsFrames T.Sink self.old self.new }
+    {
+        if self.turns == 0 {
+            self.memory.begin_frame(1);
+            self.fault = write_first(self.out, self.fault, aid, &self.memory);
+        }
+    }
+
+    /// Records what is before a turn of an application: the frame of the command, if it is its first turn.
+    #[tactic(auto, using(crate::proofs::ChangeLemmas::begins_from))]
+    pub fn before_turn<N: Nvm>(&mut self, card: &Card<N>, aid: &Aid)
+        requires { IsWatched N.state card.now }
+        ensures { BeginsFrames T.Sink self.old self.new }
+    {
+        self.memory.look_before(card);
+        self.begin_first(aid);
+    }
+
+    // Writes the line of a frame that another one called, which runs now.
+    #[tactic(auto, using(crate::proofs::ChangeLemmas::begins_none, crate::proofs::ChangeLemmas::begins_one))]
+    fn begin_called<N: Nvm>(&mut self, card: &Card<N>, depth: u8)
+        requires { IsWatched N.state card.now }
+        ensures { BeginsFrames T.Sink self.old self.new }
+    {
+        self.memory.look_before(card);
+        self.memory.begin_frame(depth);
+        if let Some(aid) = running_aid(card) {
+            self.fault = write_called(self.out, self.fault, depth, &aid, &self.memory);
+        }
+    }
+
+    // Writes the line of a turn, whose shots were taken.
+    fn write_turn(&mut self, aid: &Aid, turn: &Turn, source: Option<u32>)
+        requires { IfSome turn.now.ins Shaped }
+        ensures adds { (wrote : Option ℕ) → (found : Found) × PutsText T.Sink self.old
+            (turn_text (next_number self.old.turns) aid.now source (turn_value turn.now wrote) found) self.new }
+        ensures sections { self.new.sections.now ≡ self.old.sections.now }
+        ensures turns { self.new.turns ≡ next_number self.old.turns }
+    {
+        let writes = self.memory.writes_of(turn);
+        let is_on = self.memory.is_on(turn.depth);
+        self.turns = self.turns.saturating_add(1);
+        self.fault = write_counted(
+            self.out,
+            self.fault,
+            &self.memory,
+            self.turns,
+            aid,
+            turn,
+            source,
+            is_on,
+            writes,
+        );
+    }
+
+    // Looks at the card after a turn of an application.
+    fn look_after<N: Nvm>(&mut self, card: &Card<N>, aid: &Aid, turn: &Turn) -> Next
+        requires up { IsUp N.state card.now }
+        requires watched { IsWatched N.state card.now }
+        ensures out { self.new.out ≡ self.old.out }
+        ensures fault { self.new.fault ≡ self.old.fault }
+        ensures sections { self.new.sections.now ≡ self.old.sections.now }
+        ensures turns { self.new.turns ≡ self.old.turns }
+    {
+        self.memory.look_after(card, aid, turn)
+    }
+
+    // Records the frame that a turn at a depth called, if it called one.
+    #[tactic(auto, using(crate::proofs::ChangeLemmas::begins_none))]
+    fn after_call<N: Nvm>(&mut self, card: &Card<N>, next: Next, depth: u8)
+        requires { IsWatched N.state card.now }
+        ensures { BeginsFrames T.Sink self.old self.new }
+    {
+        if next == Next::Called {
+            self.begin_called(card, depth.saturating_add(1));
+        }
+    }
+
+    /// Records a turn of an application, with its source line if it has one, and the frame that it called.
+    pub fn after_turn<N: Nvm>(
+        &mut self,
+        card: &Card<N>,
+        aid: &Aid,
+        turn: &Turn,
+        source: Option<u32>,
+    )
+        requires up { IsUp N.state card.now }
+        requires watched { IsWatched N.state card.now }
+        requires shaped { IfSome turn.now.ins Shaped }
+        ensures { (wrote : Option ℕ) → RecordsTurn T.Sink self.old aid.now source (turn_value turn.now wrote) self.new }
+    {
+        let next = self.look_after(card, aid, turn);
+        self.write_turn(aid, turn, source);
+        self.after_call(card, next, turn.depth);
+    }
+}

@@ -1,0 +1,169 @@
+// The bytes that a frame reads between two turns.
+ghost use Rattle.std.specs.Prelude.{◌≡◌, ◌≤◌, length};
+ghost use Rattle.mc_card.specs.Parts.{IsUp};
+ghost use Rattle.mc_segs.specs.HeldFrames.{CanRun};
+ghost use Rattle.desk_steps.specs.Shots.{dynamics, statics};
+
+use mc_bank::Bank;
+use mc_base::Aid;
+use mc_card::Card;
+use mc_nvm::Nvm;
+use mc_segs::{Frame, Place, Public, look, resolve};
+
+/// DB, the address of the first dynamic byte.
+pub const DYNAMIC: u16 = 0x8000;
+
+/// PB, the address of the first public byte.
+pub const PUBLIC: u16 = 0xC000;
+
+/// The tags of the registers ST and LB.
+const ST: u8 = 2;
+
+const LB: u8 = 4;
+
+/// The bytes that a frame reads: static ones with those that wait for a commit over them, dynamic ones below DT with
+/// zeros after them, and public ones; and its registers LB and DT.
+#[derive(Drop)]
+pub struct Shot {
+    pub fixed: [u8; 4096],
+    pub fixed_len: u16,
+    pub dynamic: [u8; 512],
+    pub lb: u16,
+    pub dt: u16,
+    pub public: [u8; 1041],
+}
+
+// The value of a register, 0 if it is no address.
+fn register(frame: &Frame, tag: u8) -> u16
+    requires low { 1 ≤ tag }
+    requires high { tag ≤ 7 }
+{
+    resolve(frame, tag, 0).unwrap_or(0)
+}
+
+impl Shot {
+    /// Returns the shot of no frame: all its bytes are zero.
+    pub fn blank() -> Shot {
+        Shot {
+            fixed: [0; 4096],
+            fixed_len: 0,
+            dynamic: [0; 512],
+            lb: DYNAMIC,
+            dt: DYNAMIC,
+            public: [0; 1041],
+        }
+    }
+
+    /// Becomes equal to another shot.
+    pub fn copy(&mut self, other: &Shot) {
+        self.fixed = other.fixed;
+        self.fixed_len = other.fixed_len;
+        self.dynamic = other.dynamic;
+        self.lb = other.lb;
+        self.dt = other.dt;
+        self.public = other.public;
+    }
+
+    /// Becomes the shot of a frame.
+    pub fn take<B: Bank>(&mut self, bank: &B, frame: &Frame, public: &Public)
+        requires { CanRun B.Bank bank.now frame.now }
+    {
+        self.lb = register(frame, LB);
+        self.dt = frame.dt();
+        self.fixed_len = register(frame, ST).min(4096);
+        self.dynamic = [0; 512];
+        let fixed = &mut self.fixed[..self.fixed_len as usize];
+        let _whole = look(bank, frame, public, Place::Static(0), fixed);
+        let dynamic = &mut self.dynamic[..(self.dt - DYNAMIC) as usize];
+        let _whole = look(bank, frame, public, Place::Dynamic(0), dynamic);
+        self.public.copy_from_slice(public.bytes());
+    }
+
+    /// Has the static bytes that a card keeps of the application of a name.
+    pub fn take_kept<N: Nvm>(&mut self, card: &Card<N>, aid: &Aid)
+        requires { IsUp N.state card.now }
+    {
+        if let Some(len) = card.static_len(aid) {
+            self.fixed_len = len;
+            card.static_of(aid, 0, &mut self.fixed[..len as usize]);
+        }
+    }
+
+    /// Sets the length of the reply in the public bytes.
+    pub fn set_la(&mut self, la: u16) {
+        self.public[1037] = (la / 256) as u8;
+        self.public[1038] = (la % 256) as u8;
+    }
+
+    /// Sets the status of the reply in the public bytes.
+    pub fn set_sw(&mut self, sw: u16) {
+        self.public[1039] = (sw / 256) as u8;
+        self.public[1040] = (sw % 256) as u8;
+    }
+
+    /// Returns the static bytes.
+    pub fn statics(&self) -> &[u8]
+        ensures value { result.now ≡ statics self.now }
+        ensures short { length result.now ≤ 4096 }
+    {
+        &self.fixed[..(self.fixed_len as usize).min(4096)]
+    }
+
+    /// Returns the dynamic bytes below DT.
+    pub fn dynamics(&self) -> &[u8]
+        ensures value { result.now ≡ dynamics self.now }
+        ensures short { length result.now ≤ 512 }
+    {
+        &self.dynamic[..(self.dt.saturating_sub(DYNAMIC) as usize).min(512)]
+    }
+
+    // The byte at an address, 0 if no segment has it.
+    fn byte_at(&self, address: u16) -> u8 {
+        let at = address as usize;
+        if address < self.fixed_len {
+            return self.fixed[at.min(4095)];
+        }
+        if address >= PUBLIC {
+            return self.public[(at - PUBLIC as usize).min(1040)];
+        }
+        if address >= DYNAMIC {
+            return self.dynamic[(at - DYNAMIC as usize).min(511)];
+        }
+        0
+    }
+
+    /// Returns the number in the byte at an address.
+    pub fn count_at(&self, address: u16) -> u16
+        ensures { result ≤ 255 }
+    {
+        self.byte_at(address) as u16
+    }
+
+    /// Returns the number in the two bytes at an address.
+    pub fn number_at(&self, address: u16) -> u16 {
+        self.count_at(address) * 256 + self.count_at(address.wrapping_add(1))
+    }
+
+    /// Returns the number in the two bytes that begin some bytes below DT.
+    pub fn number_below_top(&self, count: u16) -> u16 {
+        self.number_at(self.dt.wrapping_sub(count))
+    }
+
+    // The value of the register with a tag from 1 to 7.
+    fn register(&self, tag: u8) -> u16 {
+        match tag {
+            1 => 0,
+            2 => self.fixed_len,
+            3 => DYNAMIC,
+            4 => self.lb,
+            5 => self.dt,
+            6 => PUBLIC,
+            _ => 0xC411,
+        }
+    }
+
+    /// Returns the address of the register with a tag from 1 to 7 plus an offset, or `None` if the sum is no address.
+    pub fn resolve(&self, tag: u8, off: i16) -> Option<u16> {
+        self.register(tag).checked_add_signed(off)
+    }
+}

@@ -1,0 +1,33 @@
+-- What the purse promises follows from its outline.
+use Rattle.std.proofs.Common.{List, []}
+use Rattle.model_play.specs.Play.{Step, plays, start}
+use Rattle.law_promise.specs.Kept.{LineKept}
+use Rattle.law_promise.proofs.OutlineDomain.{kept_along}
+use Rattle.law_promise.proofs.FromOutline.{along_from, fixed_from}
+use Rattle.example_purse.specs.Purse.{Event, purse_watch, purse_app}
+use Rattle.example_purse.specs.Laws.{KeepsGuesses, KeepsBooks, KeepsSessions, InEveryPlay, SaysGuesses, SaysBooks, SaysSessions, GuessesLaw, BooksLaw, SessionsLaw}
+use Rattle.example_purse.proofs.Places.{purse_outline}
+use Rattle.example_purse.proofs.PurseOutline.{purse_shown}
+
+-- what follows of each line
+from_outline : (says : List Event → Step → List Event → Type 0) → ((h : List Event) (t : Step) (k : List Event) → LineKept purse_outline h t k → says h t k) → InEveryPlay says
+from_outline says f ls m ws =
+    along_from purse_watch purse_app (LineKept purse_outline) says f [] (plays (start m) ls ws) (kept_along purse_outline purse_shown ls m ws)
+
+guesses : (h : List Event) (t : Step) (k : List Event) → LineKept purse_outline h t k → SaysGuesses h t k
+guesses h t k x = fixed_from purse_outline k (KeepsGuesses k) t.after (λ fixed kept. record { few = kept.few; left = kept.left; costs = kept.costs; tries = kept.tries; pin = kept.pin }) x.0
+
+books : (h : List Event) (t : Step) (k : List Event) → LineKept purse_outline h t k → SaysBooks h t k
+books h t k x = (fixed_from purse_outline k (KeepsBooks k) t.after (λ fixed kept. record { balance = kept.balance; number = kept.number; ordered = kept.ordered }) x.0, x.1)
+
+sessions : (h : List Event) (t : Step) (k : List Event) → LineKept purse_outline h t k → SaysSessions h t k
+sessions h t k x = fixed_from purse_outline k (λ fixed. KeepsSessions k) t.after (λ fixed kept. kept.sessions) x.0
+
+pub guesses_law : GuessesLaw
+guesses_law = from_outline SaysGuesses guesses
+
+pub books_law : BooksLaw
+books_law = from_outline SaysBooks books
+
+pub sessions_law : SessionsLaw
+sessions_law = from_outline SaysSessions sessions

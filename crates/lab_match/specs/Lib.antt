@@ -1,0 +1,3 @@
+pub use Rattle.law_explore.specs.Matching
+pub mod Walks
+pub mod Fields

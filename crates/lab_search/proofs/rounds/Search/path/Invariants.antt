@@ -1,0 +1,13 @@
+use Rattle.std.proofs.Common.{List, ◌∷◌}
+use Rattle.law_explore.specs.Search.{Node}
+use Rattle.law_explore.specs.Tries.{Try}
+use Rattle.lab_search.specs.Rounds.{Depth, IsFrom, IsTry}
+use Rattle.lab_search.proofs.PathLemmas.{Walked}
+use Rattle.lab_search.proofs.rounds.Search.path.Given as goal
+
+abbrev pub invariant-loop-at : goal.invariant-loop-at
+invariant-loop-at l =
+    (d : Depth) (ns : List Node) (n : Node) (t : Try) → IsFrom d l.self ns n l.fn.last.before → IsTry d.rules.moves l.fn.last t → Walked d.rules.moves ns l.path.items l.at (t ∷ n.path)
+
+abbrev pub decreases-loop-at : goal.decreases-loop-at
+decreases-loop-at l = l.at

@@ -1,0 +1,165 @@
+-- The moves of a deck that was read are lines to the card.
+use Rattle.std.specs.Prelude.{◌≡◌, ℕ, Bool, true, false, cond, List, [], ◌∷◌, ◌++◌, is_none, is_some, bytes_eq, ok_or, Option, Some, None, Result, Ok, Err, ⊤, refl}
+use Rattle.std.specs.List.{AllByRecursion}
+use Rattle.std.proofs.Common.{subst}
+use Rattle.model_device.specs.Bytes.{lookup}
+use Rattle.model_device.proofs.ImageLemmas.{all_append}
+use Rattle.model_text.specs.Text.{◌>>=◌, ok_as, err_as, only_if, lines, with_numbers, fields}
+use Rattle.model_play.specs.declared.deck.DeckCause.{DeckCause}
+use Rattle.model_play.specs.declared.deck.DeckCause.TheVariants.{BadLine}
+use Rattle.model_play.specs.DeckGrammar.{DeckLine, Context, Stated, Says, Opens, Word, PowerWord, SelectWord, DeleteWord, ApduWord, statement_of, aid_field, hex_field, deck_read}
+use Rattle.model_play.specs.DeckGrammar as line
+use Rattle.model_play.specs.Play.{is_card_line}
+use Rattle.law_explore.specs.Rules.{Move, Rules, no_rules, marked_lines, move_words, line_stated, move_line, parts_of, full_parts, occasion_words, effect_words, name_and_amount, RuleWord, MoveWord, AllowWord, OnWord, rule_word, with_rule, with_line, rules_from, rules_read, Exploration, exploration_read, line_fault, is_some_of, tested_rules, NoMove, NoRule}
+use Rattle.law_explore.proofs.Searches.{IfGoesOn, goes_on}
+
+-- each move is a line to the card
+abbrev pub AreMoves : List Move → Type 0
+AreMoves ms = AllByRecursion (λ m. is_card_line m.line ≡ true) ms
+
+-- ---- statements
+
+abbrev IsCardLine : DeckLine → Type 0
+IsCardLine l = is_card_line l ≡ true
+
+abbrev powered : Context
+powered = record { units = []; powered = true }
+
+select_line : (x : Result (List ℕ) DeckCause) → IfGoesOn IsCardLine (ok_as (λ a. Says (line.Sent (line.Select a)) powered) x >>= line_stated)
+select_line (Ok a) = refl
+select_line (Err e) = tt
+
+delete_line : (x : Result (List ℕ) DeckCause) → IfGoesOn IsCardLine (ok_as (λ a. Says (line.Sent (line.Delete a)) powered) x >>= line_stated)
+delete_line (Ok a) = refl
+delete_line (Err e) = tt
+
+apdu_line : (x : Result (List ℕ) DeckCause) → IfGoesOn IsCardLine (ok_as (λ a. Says (line.Sent (line.Apdu a)) powered) x >>= line_stated)
+apdu_line (Ok a) = refl
+apdu_line (Err e) = tt
+
+-- what is stated with a word is a line to the card
+abbrev StatesCardLine : ℕ → List (List ℕ) → Word → Type 0
+StatesCardLine n fs w = IfGoesOn IsCardLine (statement_of powered n w fs >>= line_stated)
+
+power_states : (n : ℕ) (fs : List (List ℕ)) → StatesCardLine n fs PowerWord
+unfolding statement_of
+power_states n [] = refl
+power_states n (f ∷ fs) = tt
+
+select_states : (n : ℕ) (fs : List (List ℕ)) → StatesCardLine n fs SelectWord
+unfolding statement_of
+select_states n [] = tt
+select_states n (f ∷ []) = select_line (aid_field f)
+select_states n (f ∷ g ∷ fs) = tt
+
+delete_states : (n : ℕ) (fs : List (List ℕ)) → StatesCardLine n fs DeleteWord
+unfolding statement_of
+delete_states n [] = tt
+delete_states n (f ∷ []) = delete_line (aid_field f)
+delete_states n (f ∷ g ∷ fs) = tt
+
+apdu_states : (n : ℕ) (fs : List (List ℕ)) → StatesCardLine n fs ApduWord
+unfolding statement_of
+apdu_states n [] = tt
+apdu_states n (f ∷ []) = apdu_line (hex_field f)
+apdu_states n (f ∷ g ∷ fs) = tt
+
+-- ---- words
+
+-- what holds of a value that was found
+abbrev OnFound : {A : Type 0} → (A → Type 0) → Option A → Type 0
+OnFound P None = ⊤
+OnFound P (Some a) = P a
+
+cond_found : {A : Type 0} (P : A → Type 0) (b : Bool) (a : A) (o : Option A) → P a → OnFound P o → OnFound P (cond b (Some a) o)
+cond_found P true a o h g = h
+cond_found P false a o h g = g
+
+lookup_all : {A : Type 0} (P : A → Type 0) (es : List (List ℕ × A)) (n : List ℕ) → AllByRecursion (λ e. P e.1) es → OnFound P (lookup es n)
+lookup_all P [] n h = tt
+lookup_all P (e ∷ es) n h = cond_found P (bytes_eq e.0 n) e.1 (lookup es n) h.0 (lookup_all P es n h.1)
+
+found_goes : {A E : Type 0} (P : A → Type 0) (o : Option A) (e : E) → OnFound P o → IfGoesOn P (ok_or o e)
+found_goes P None e h = tt
+found_goes P (Some a) e h = h
+
+-- ---- answers
+
+any_goes : {A E : Type 0} (x : Result A E) → IfGoesOn (λ a. ⊤) x
+any_goes (Ok a) = tt
+any_goes (Err e) = tt
+
+as_goes : {A B E : Type 0} (P : A → Type 0) (Q : B → Type 0) (f : A → B) (x : Result A E) → ((a : A) → P a → Q (f a)) → IfGoesOn P x → IfGoesOn Q (ok_as f x)
+as_goes P Q f (Ok a) g h = g a h
+as_goes P Q f (Err e) g h = tt
+
+err_goes : {A E F : Type 0} (P : A → Type 0) (f : E → F) (x : Result A E) → IfGoesOn P x → IfGoesOn P (err_as f x)
+err_goes P f (Ok a) h = h
+err_goes P f (Err e) h = tt
+
+only_goes : {A E : Type 0} (P : A → Type 0) (b : Bool) (e : E) (a : A) → P a → IfGoesOn P (only_if b e a)
+only_goes P true e a h = h
+only_goes P false e a h = tt
+
+-- ---- rules
+
+line_of_move : (n : ℕ) (fs : List (List ℕ)) → IfGoesOn IsCardLine (move_line n fs)
+unfolding move_line
+line_of_move n [] = tt
+line_of_move n (word ∷ rest) =
+    goes_on (StatesCardLine n rest) IsCardLine (ok_or (lookup move_words word) BadLine) (λ w. statement_of powered n w rest >>= line_stated)
+    (found_goes (StatesCardLine n rest) (lookup move_words word) BadLine (lookup_all (StatesCardLine n rest) move_words word (power_states n rest, (select_states n rest, (delete_states n rest, (apdu_states n rest, tt))))))
+    (λ w h. h)
+
+-- rules whose moves are lines to the card
+abbrev HasMoves : Rules → Type 0
+HasMoves r = AreMoves r.moves
+
+moves_of_rule : (r : Rules) (n : ℕ) (text : List ℕ) (w : RuleWord) (fs : List (List ℕ)) → HasMoves r → IfGoesOn HasMoves (with_rule r n text w fs)
+unfolding with_rule
+moves_of_rule r n text MoveWord fs h =
+    as_goes IsCardLine HasMoves (λ l. record r { moves = r.moves ++ record { number = n; text = text; line = l } ∷ [] }) (move_line n fs)
+    (λ l g. all_append (λ m. is_card_line m.line ≡ true) r.moves (record { number = n; text = text; line = l } ∷ []) h (g, tt)) (line_of_move n fs)
+moves_of_rule r n text AllowWord fs h =
+    goes_on (λ a. ⊤) HasMoves (name_and_amount fs) _ (any_goes (name_and_amount fs)) (λ a g. only_goes HasMoves (is_none (lookup r.allowances a.0)) _ _ h)
+moves_of_rule r n text OnWord fs h =
+    goes_on (λ a. ⊤) HasMoves (full_parts (parts_of occasion_words fs)) _ (any_goes (full_parts (parts_of occasion_words fs)))
+    (λ m g. goes_on (λ a. ⊤) HasMoves (full_parts (parts_of effect_words m.2)) _ (any_goes (full_parts (parts_of effect_words m.2)))
+    (λ o i. goes_on (λ a. ⊤) HasMoves (name_and_amount o.2) _ (any_goes (name_and_amount o.2)) (λ a j. only_goes HasMoves (is_some (lookup r.allowances a.0)) _ _ h)))
+
+moves_of_line : (r : Rules) (l : ℕ × List ℕ) (fs : List (List ℕ)) → HasMoves r → IfGoesOn HasMoves (with_line r l fs)
+unfolding with_line
+moves_of_line r l [] h = tt
+moves_of_line r l (mark ∷ []) h = tt
+moves_of_line r l (mark ∷ word ∷ rest) h =
+    goes_on (λ w. ⊤) HasMoves (rule_word mark word) _ (any_goes (rule_word mark word)) (λ w g. moves_of_rule r l.0 _ w rest h)
+
+moves_of_rules : (r : Rules) (ls : List (ℕ × List ℕ)) → HasMoves r → IfGoesOn HasMoves (rules_from r ls)
+unfolding rules_from
+moves_of_rules r [] h = h
+moves_of_rules r (l ∷ ls) h =
+    goes_on HasMoves HasMoves (err_as (λ e. (l.0, e)) (with_line r l (fields l.1))) (λ s. rules_from s ls) (err_goes HasMoves (λ e. (l.0, e)) (with_line r l (fields l.1)) (moves_of_line r l (fields l.1) h))
+    (λ s g. moves_of_rules s ls g)
+
+moves_read : (text : List ℕ) → IfGoesOn HasMoves (rules_read text)
+unfolding rules_read
+moves_read text = moves_of_rules no_rules (marked_lines false (with_numbers 1 (lines text))) tt
+
+abbrev ExploresMoves : Exploration → Type 0
+ExploresMoves x = AreMoves x.rules.moves
+
+tested_goes : (r : Rules) → HasMoves r → IfGoesOn HasMoves (tested_rules r)
+tested_goes r h =
+    goes_on HasMoves HasMoves (only_if (is_some_of r.moves) NoMove r) (λ s. only_if (is_some_of s.ons) NoRule s) (only_goes HasMoves (is_some_of r.moves) NoMove r h)
+    (λ s g. only_goes HasMoves (is_some_of s.ons) NoRule s g)
+
+exploration_goes : (text : List ℕ) → IfGoesOn ExploresMoves (exploration_read text)
+unfolding exploration_read
+exploration_goes text =
+    goes_on (λ ls. ⊤) ExploresMoves (err_as line_fault (deck_read text)) _ (any_goes (err_as line_fault (deck_read text)))
+    (λ ls g. goes_on HasMoves ExploresMoves (err_as line_fault (rules_read text)) (λ r. ok_as (λ s. record { lines = ls; rules = s }) (tested_rules r)) (err_goes HasMoves line_fault (rules_read text) (moves_read text))
+    (λ r h. as_goes HasMoves ExploresMoves (λ s. record { lines = ls; rules = s }) (tested_rules r) (λ s i. i) (tested_goes r h)))
+
+-- each move of a deck that was read is a line to the card
+pub moves_of_exploration : (text : List ℕ) (x : Exploration) → exploration_read text ≡ Ok x → AreMoves x.rules.moves
+moves_of_exploration text x e = subst (λ z. IfGoesOn ExploresMoves z) e (exploration_goes text)

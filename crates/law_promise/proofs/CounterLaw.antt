@@ -1,0 +1,20 @@
+-- What the counter promises follows from its outline.
+use Rattle.std.proofs.Common.{ℕ, List, []}
+use Rattle.model_play.specs.Play.{Step, plays, start}
+use Rattle.law_promise.specs.Along.{OnFixed, OnAnswer, command_for}
+use Rattle.law_promise.specs.Kept.{LineKept}
+use Rattle.law_promise.specs.Counter.{CounterLaw, KeepsCount, counter_name, counter_watch, counter_app, AnswersCount}
+use Rattle.law_promise.proofs.OutlineDomain.{kept_along}
+use Rattle.law_promise.proofs.FromOutline.{along_from, fixed_from}
+use Rattle.law_promise.proofs.CounterOutline.{CountKept, counter_outline, counter_shown}
+
+counts : (h fixed : List ℕ) → CountKept h fixed → KeepsCount h fixed
+counts h fixed k = record { holds = k.holds; rises = k.rises }
+
+line : (h : List ℕ) (t : Step) (k : List ℕ) → LineKept counter_outline h t k
+    → OnFixed counter_name (KeepsCount k) t.after × OnAnswer (AnswersCount h k) (command_for counter_name t.before t.line) t.result
+line h t k x = (fixed_from counter_outline k (KeepsCount k) t.after (λ fixed kept. counts k fixed kept) x.0, x.1)
+
+pub counter_law : CounterLaw
+counter_law ls m ws =
+    along_from counter_watch counter_app (LineKept counter_outline) _ line [] (plays (start m) ls ws) (kept_along counter_outline counter_shown ls m ws)

@@ -1,0 +1,76 @@
+-- The laws of closed tables between commands: each moment that may follow a moment is one that the tables have.
+use Rattle.std.specs.Prelude.{◌≡◌, ℕ, true, false, List, [], ◌∷◌, Ok, Err}
+use Rattle.model_device.specs.Bytes.{AreBytes, zeros}
+use Rattle.model_machine.specs.declared.instruction.DecodeFault.{DecodeFault}
+use Rattle.model_machine.specs.declared.machine.Abend.TheVariants.{A07}
+use Rattle.model_machine.specs.Code.{instruction_at}
+use Rattle.model_machine.specs.Frame.{Frame, session_of}
+use Rattle.model_machine.specs.declared.instruction.Ins.{Ins}
+use Rattle.model_machine.specs.declared.instruction.Ins.TheVariants as ins
+use Rattle.model_machine.specs.Primitives.{Around}
+use Rattle.model_machine.specs.Row.{row}
+use Rattle.model_machine.specs.Chain.{Abended, frame_at}
+use Rattle.law_promise.specs.History.{fetch_cause}
+use Rattle.law_promise.specs.Outline.{Entry, ByDelegation, FitsEntry}
+use Rattle.law_promise.specs.Domain.{IsSegment, IsDelegator, AbendCovered, EndCovered, RowCovered, FitsDepth, first_frame_in}
+use Rattle.model_rules.specs.Rules.{Target, AppRules}
+use Rattle.model_rules.specs.Happenings.{Event, History, Failed, Session}
+use Rattle.model_rules.specs.Keeping.{keeps_rules}
+use Rattle.model_rules.specs.Law.{domain_of_rules}
+use Rattle.model_prove.specs.Keys.{Tables}
+use Rattle.model_prove.specs.Arrivals.{Setting}
+use Rattle.model_prove.specs.Tables.{IsLoadable, is_closed}
+use Rattle.law_prove.specs.Coverings.{IsMoment, IsUnbroken, IsPlace, covering_of}
+
+-- What closed tables have between commands: the moment of a creation; after each moment the selection of the
+-- application, with zero session bytes, and the end of a session; and no moment breaks a rule, nor is one broken while
+-- the application is not on the card.
+pub record MomentsCovered (s : Setting) (t : Tables) : Type 0 where
+  pub none : IsUnbroken s []
+  pub created : IsMoment s t false [] s.app.fixed []
+  pub deleted : (h : History) (fixed : List ℕ) → IsMoment s t false h fixed [] → IsUnbroken s h
+  pub selected : (h : History) (fixed : List ℕ) → IsMoment s t false h fixed [] → IsMoment s t true (Session ∷ h) fixed (zeros s.app.session)
+  pub selected_again : (h : History) (fixed session : List ℕ) → IsMoment s t true h fixed session → IsMoment s t true (Session ∷ h) fixed (zeros s.app.session)
+  pub ended : (h : History) (fixed session : List ℕ) → IsMoment s t true h fixed session → IsMoment s t false (Session ∷ h) fixed []
+  pub idle_keeps : s.rules.totals ≡ [] → (h : History) (fixed : List ℕ) → IsMoment s t false h fixed [] → keeps_rules s.rules h fixed ≡ true
+  pub session_keeps : s.rules.totals ≡ [] → (h : History) (fixed session : List ℕ) → IsMoment s t true h fixed session → keeps_rules s.rules h fixed ≡ true
+
+-- of each setting whose application a card can have
+abbrev pub MomentLaw : Type 0
+MomentLaw = (s : Setting) (t : Tables) → IsLoadable s.app → is_closed s t ≡ true → MomentsCovered s t
+
+-- ---- places
+
+-- What closed tables have at places: the beginning of a frame by a delegation, with a public segment of bytes; and where
+-- the budget ends at a place, or no instruction is there, the answer to the command or the end of the delegation.
+pub record PlacesCovered (s : Setting) (t : Tables) (g : Target) : Type 0 where
+  pub entered : (h : History) (fixed public : List ℕ) → IsMoment s t false h fixed [] → AreBytes public
+      → IsPlace s t ByDelegation h (first_frame_in (domain_of_rules g (covering_of s t)) fixed (zeros s.app.session)) public
+  pub spent : (e : Entry Event) (h : History) (f : Frame) (public : List ℕ) → IsPlace s t e h f public
+      → EndCovered (domain_of_rules g (covering_of s t)) e h f.fixed (session_of f) (Abended A07)
+  pub unfetched : (e : Entry Event) (h : History) (f : Frame) (public : List ℕ) (fault : DecodeFault) → IsPlace s t e h f public → instruction_at s.app.code f.at ≡ Err fault
+      → AbendCovered (domain_of_rules g (covering_of s t)) e (Failed f.at (fetch_cause fault) ∷ h) f (fetch_cause fault)
+
+-- of an application that a card can have
+abbrev pub PlaceLaw : Type 0
+PlaceLaw =
+    (r : AppRules) (g : Target) (t : Tables) → IsLoadable g.app → is_closed (record { rules = r; app = g.app }) t ≡ true → PlacesCovered (record { rules = r; app = g.app }) t g
+
+-- ---- rows
+
+-- At each place of the tables that has this instruction, what its row leads to is covered: the next place, an exit or a
+-- delegation, a stop in its write, or its abend.
+abbrev pub RowIsCovered : AppRules → Target → Tables → Ins → Type 0
+RowIsCovered r g t i =
+    let s : Setting = record { rules = r; app = g.app } in
+    let o = domain_of_rules g (covering_of s t) in
+    (e : Entry Event) (h : History) (f : Frame) (public : List ℕ) (depth : ℕ) (x : Around) (next : ℕ) → IsPlace s t e h f public → FitsEntry e x → FitsDepth e depth → IsDelegator x.delegator → IsSegment o public
+    → instruction_at g.app.code f.at ≡ Ok (i, next) → RowCovered o e h f public depth i (row i (frame_at f next) public x)
+
+-- of closed tables, for an application that a card can have
+abbrev pub RowLaw : Ins → Type 0
+RowLaw i = (r : AppRules) (g : Target) (t : Tables) → IsLoadable g.app → is_closed (record { rules = r; app = g.app }) t ≡ true → RowIsCovered r g t i
+
+-- of the rows that pop
+abbrev pub PopLaw : Type 0
+PopLaw = ((n : ℕ) → RowLaw (ins.Popn n)) × RowLaw ins.Popb × RowLaw ins.Popw

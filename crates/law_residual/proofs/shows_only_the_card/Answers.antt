@@ -1,0 +1,5 @@
+use Rattle.law_residual.proofs.Alike.{residual}
+use Rattle.law_residual.proofs.shows_only_the_card.Goals as goal
+
+pub returns : goal.returns
+returns c = record { texts = residual }

@@ -1,0 +1,112 @@
+-- The number of atomic writes of one command, and of the commands of a load.
+use Rattle.std.proofs.Common.{◌≡◌, ℕ, zero, suc, ◌+◌, ◌≤◌, Bool, true, false, cond, List, [], ◌∷◌, ◌++◌, length, Some, None, refl, sym, ◌∙◌, ap, subst, arith}
+use Rattle.std.specs.Prelude.{◌==◌}
+use Rattle.model_machine.specs.Apdu.{ApduParts}
+use Rattle.model_card.specs.Units.{UnitParts}
+use Rattle.model_device.specs.Card.{Card}
+use Rattle.model_card.specs.Items.{Created, Deleted, Item, Plain, Atomic, card_done}
+use Rattle.model_card.specs.Manager.{SessionState, Route, WrongLength, WrongClass, ToSelect, ToManager, ToApplication, route, select, p1p2, fresh, word_parts, manage, room_on}
+use Rattle.model_card.specs.Commands.{Command, atomic_of, manager_command, by_route, command}
+use Rattle.model_play.specs.Play.{is_done, command_with_rest, send, load_commands}
+use Rattle.law_manager.specs.Orders.{Order, order_of, HasIns}
+use Rattle.law_manager.specs.OnCard.{IsCommand, IsSelect, plains, done, blank_words}
+use Rattle.law_manager.specs.OnCard as made
+use Rattle.law_manager.proofs.Orders.{order_law}
+use Rattle.law_manager.proofs.OnCard.{command_made, selects_law}
+use Rattle.law_family.proofs.LoadCommands.{IsFiller, AreFillers, load_front, create_bytes, front_fillers, IsManagerOf, create_manager}
+use Rattle.law_wear.specs.Most.{most_atomic_of_manager, most_atomic_of_route}
+use Rattle.law_wear.specs.Laws.{atomic_writes}
+
+pub atomic_writes_append : (is js : List Item) → atomic_writes (is ++ js) ≡ atomic_writes is + atomic_writes js
+atomic_writes_append [] js = omega arith
+atomic_writes_append (Plain ∷ is) js = atomic_writes_append is js
+atomic_writes_append (Atomic w c ∷ is) js = let rest = atomic_writes_append is js in omega (arith, rest)
+
+-- ---- the manager
+
+plains_atomic : (n : ℕ) (is : List Item) → atomic_writes (plains n is) ≡ atomic_writes is
+plains_atomic zero is = refl
+plains_atomic (suc n) is = plains_atomic n is
+
+module _ (c : Card) (session_state : SessionState) (a : ApduParts) where
+  abbrev Atoms : ℕ → Command → Type 0
+  Atoms ins r = atomic_writes r.items ≤ most_atomic_of_manager ins
+
+  made_atoms : (o : Order) (r : Command) → HasIns o a.ins → IsCommand c session_state a o r → Atoms a.ins r
+  made_atoms _ _ ins (made.refused o sw h) = omega arith
+  made_atoms _ _ ins (made.quiet o body load h) = omega arith
+  made_atoms _ _ ins (made.loaded p l h) = let none = plains_atomic (length (word_parts (p1p2 a) a.body)) [] in omega (arith, none)
+  made_atoms _ _ ins (made.created l n h) =
+      let items = plains 4 (atomic_of c (Some (Created n (fresh l))) ∷ []) in
+      let one = plains_atomic (blank_words l.site) items in
+      subst (λ (i : ℕ). Atoms i (done [] (record session_state { load = None }) (plains (blank_words l.site) items))) (sym ins) (omega (arith, one))
+  made_atoms _ _ ins (made.deleted h) = subst (λ (i : ℕ). Atoms i (done [] (record session_state { load = None }) (atomic_of c (Some (Deleted a.body)) ∷ []))) (sym ins) (omega arith)
+
+  manage_atoms : Atoms a.ins (manager_command c session_state (manage (room_on c) c.apps session_state a))
+  manage_atoms = made_atoms (order_of a.ins) (manager_command c session_state (manage (room_on c) c.apps session_state a)) (order_law (room_on c) c.apps session_state a).ins (command_made c session_state a)
+
+  select_atoms : (r : Command) → IsSelect c session_state a r → atomic_writes r.items ≤ 0
+  select_atoms _ (made.unselected sw h) = omega arith
+  select_atoms _ (made.selected app h) = omega arith
+
+-- a command that no application runs
+pub route_atoms : (c : Card) (session_state : SessionState) (budget k : ℕ) (r : Route) → ((a : ApduParts) → r ≡ ToApplication a → ⊥) → atomic_writes (by_route c session_state budget r).items ≤ most_atomic_of_route k r
+route_atoms c session_state budget k WrongLength h = omega arith
+route_atoms c session_state budget k WrongClass h = omega arith
+route_atoms c session_state budget k (ToSelect a) h = select_atoms c session_state a (manager_command c session_state (select c.apps session_state a)) (selects_law c session_state a)
+route_atoms c session_state budget k (ToManager a) h = manage_atoms c session_state a
+route_atoms c session_state budget k (ToApplication a) h = absurd (h a refl)
+
+-- ---- a load
+
+filler_route : (c : Card) (session_state : SessionState) (budget : ℕ) (r : Route) → IsFiller r → atomic_writes (by_route c session_state budget r).items ≤ 0
+filler_route c session_state budget WrongLength h = omega arith
+filler_route c session_state budget WrongClass h = absurd h
+filler_route c session_state budget (ToSelect a) h = absurd h
+filler_route c session_state budget (ToManager a) h =
+    let few : atomic_writes (by_route c session_state budget (ToManager a)).items ≤ most_atomic_of_manager a.ins = manage_atoms c session_state a in
+    let none : most_atomic_of_manager a.ins ≡ 0 = ap (λ (b : Bool). cond b 1 (cond (a.ins == 0x18) 1 0)) h.0 ∙ ap (λ (b : Bool). cond b 1 0) h.1 in
+    omega (arith, few, none)
+filler_route c session_state budget (ToApplication a) h = absurd h
+
+filler_atoms : (c : Card) (session_state : SessionState) (b : List ℕ) (budget : ℕ) → IsFiller (route b) → atomic_writes (command c session_state b budget).items ≤ 0
+unfolding command
+filler_atoms c session_state b budget h = filler_route c session_state budget (route b) h
+
+manager_most : (ins : ℕ) → most_atomic_of_manager ins ≤ 1
+manager_most ins = by (ins == 0x16) (ins == 0x18)
+  where
+    by : (x y : Bool) → cond x 1 (cond y 1 0) ≤ 1
+    by true y = omega arith
+    by false true = omega arith
+    by false false = omega arith
+
+creates_route : (c : Card) (session_state : SessionState) (budget : ℕ) (r : Route) → IsManagerOf 0x16 r → atomic_writes (by_route c session_state budget r).items ≤ 1
+creates_route c session_state budget WrongLength h = omega arith
+creates_route c session_state budget WrongClass h = absurd h
+creates_route c session_state budget (ToSelect a) h = absurd h
+creates_route c session_state budget (ToManager a) h =
+    let few : atomic_writes (by_route c session_state budget (ToManager a)).items ≤ most_atomic_of_manager a.ins = manage_atoms c session_state a in
+    let most = manager_most a.ins in
+    omega (arith, few, most)
+creates_route c session_state budget (ToApplication a) h = absurd h
+
+creates_atoms : (c : Card) (session_state : SessionState) (budget : ℕ) → atomic_writes (command c session_state create_bytes budget).items ≤ 1
+unfolding command
+creates_atoms c session_state budget = creates_route c session_state budget (route create_bytes) create_manager
+
+sent_atoms : (b : Bool) (r rest : Command) (k n : ℕ) → atomic_writes r.items ≤ k → atomic_writes rest.items ≤ n → atomic_writes (command_with_rest b r rest).items ≤ k + n
+sent_atoms true r rest k n h j = let all = atomic_writes_append r.items rest.items in omega (arith, all, h, j)
+sent_atoms false r rest k n h j = omega (arith, h)
+
+send_atoms : (c : Card) (session_state : SessionState) (budget : ℕ) (bs : List (List ℕ)) → AreFillers bs → atomic_writes (send c session_state budget (bs ++ create_bytes ∷ [])).items ≤ 1
+unfolding send
+send_atoms c session_state budget [] h =
+    let r = command c session_state create_bytes budget in
+    sent_atoms (is_done r.outcome) r (send (card_done c r.items) r.session_state budget []) 1 0 (creates_atoms c session_state budget) (omega arith)
+send_atoms c session_state budget (b ∷ bs) h =
+    let r = command c session_state b budget in
+    sent_atoms (is_done r.outcome) r (send (card_done c r.items) r.session_state budget (bs ++ create_bytes ∷ [])) 0 1 (filler_atoms c session_state b budget h.0) (send_atoms (card_done c r.items) r.session_state budget bs h.1)
+
+pub load_atoms : (c : Card) (session_state : SessionState) (budget : ℕ) (u : UnitParts) (fixed session : ℕ) → atomic_writes (send c session_state budget (load_commands u fixed session)).items ≤ 1
+load_atoms c session_state budget u fixed session = send_atoms c session_state budget (load_front u fixed session) (front_fillers u fixed session)

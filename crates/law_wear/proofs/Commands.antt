@@ -1,0 +1,148 @@
+-- The device writes of one command at the most, by its route.
+use Rattle.std.proofs.Common.{◌≡◌, ℕ, ◌+◌, ◌*◌, ◌≤◌, List, [], ◌∷◌, length, Option, Some, None, refl, sym, ap, subst, arith}
+use Rattle.model_card.specs.declared.card.Part.{Part}
+use Rattle.model_card.specs.declared.card.Part.TheVariants as part
+use Rattle.model_device.specs.Limits.{most_static}
+use Rattle.model_device.specs.Bytes.{insert, remove}
+use Rattle.model_machine.specs.Apdu.{ApduParts}
+use Rattle.model_machine.specs.Chain.{Turn}
+use Rattle.model_device.specs.Card.{Card}
+use Rattle.model_device.specs.Layout.{step_of}
+use Rattle.model_card.specs.Items.{Created, moves}
+use Rattle.model_card.specs.Manager.{Selected, Open, SessionState, Route, WrongLength, WrongClass, ToSelect, ToManager, ToApplication, route, Managed, Declines, Accepts, p1p2, select, word_parts, fresh, manage, room_on}
+use Rattle.model_card.specs.Commands.{Command, atomic_of, manager_command, application_command, by_route, command}
+use Rattle.law_machine.proofs.AppSizes.{Limited}
+use Rattle.law_manager.specs.Orders.{Order, Loads, Creates, Deletes, order_of, ins_of_part, HasIns}
+use Rattle.law_manager.specs.OnCard.{IsCommand, IsSelect, plains, blank_words}
+use Rattle.law_manager.specs.OnCard as made
+use Rattle.law_manager.proofs.Orders.{order_law}
+use Rattle.law_manager.proofs.OnCard.{command_made, selects_law}
+use Rattle.law_manager.proofs.Plains.{plains_moves}
+use Rattle.law_family.proofs.CardFacts.{AreOnCard, are_coded}
+use Rattle.law_family.proofs.PlaySizes.{LoadFits, SessionStateFits}
+use Rattle.law_family.proofs.FewItems.{SelectedStands, SessionStateStands}
+use Rattle.law_wear.specs.Most.{most_atomic_of_route, most_of_creation, most_of_deletion, most_of_manager, most_of_route}
+use Rattle.law_wear.specs.Laws.{atomic_writes, instructions}
+use Rattle.law_wear.proofs.Atoms.{route_atoms}
+use Rattle.law_wear.proofs.Headers.{created_headers, deleted_headers}
+use Rattle.law_wear.proofs.Pieces.{parts_few, zeros_few}
+use Rattle.law_wear.proofs.Runs.{run_few}
+
+-- the static bytes of an open load
+abbrev pub fixed_in : Option Open → ℕ
+fixed_in None = 0
+fixed_in (Some o) = o.site.sizes.fixed
+
+creation_small : (o : Option Open) → LoadFits o → most_of_creation (fixed_in o) ≤ most_of_creation most_static
+creation_small None h = omega arith
+creation_small (Some o) h = let small : o.site.sizes.fixed ≤ 4096 = h.0 in omega (arith, small)
+
+-- ---- the manager
+
+-- a command of the manager runs no instruction
+pub manager_turns : (c : Card) (session_state : SessionState) (m : Managed) → (manager_command c session_state m).turns ≡ []
+manager_turns c session_state (Declines sw) = refl
+manager_turns c session_state (Accepts a) = refl
+
+part_most : (p : Part) (a : ApduParts) → length (word_parts (p1p2 a) a.body) ≤ most_of_manager (ins_of_part p) (length a.body)
+part_most part.Code a = let few = parts_few (p1p2 a) a.body in omega (arith, few)
+part_most part.Data a = let few = parts_few (p1p2 a) a.body in omega (arith, few)
+part_most part.Dir a = let few = parts_few (p1p2 a) a.body in omega (arith, few)
+part_most part.Fci a = let few = parts_few (p1p2 a) a.body in omega (arith, few)
+
+module _ (c : Card) (session_state : SessionState) (a : ApduParts) where
+  -- the most device writes of a command: of a LOAD one for each word that its piece touches, of a CREATE by the sizes
+  -- of the open load
+  abbrev pub most_of_order : Order → ℕ
+  most_of_order (Loads p) = length (word_parts (p1p2 a) a.body)
+  most_of_order Creates = most_of_creation (fixed_in session_state.load)
+  most_of_order Deletes = most_of_deletion
+  most_of_order _ = 0
+
+  pub made_few : (o : Order) (r : Command) → AreOnCard c.apps → LoadFits session_state.load → IsCommand c session_state a o r → moves r.items ≤ most_of_order o
+  made_few _ _ on fits (made.refused o sw h) = omega arith
+  made_few _ _ on fits (made.quiet o body load h) = omega arith
+  made_few _ _ on fits (made.loaded p l h) = let all = plains_moves (length (word_parts (p1p2 a) a.body)) [] in omega (arith, all)
+  made_few _ _ on fits (made.created l n h) =
+      let fit : LoadFits (Some l) = subst LoadFits h.is fits in
+      let less : l.site.sizes.init ≤ l.site.sizes.fixed = fit.1 in
+      let few : 8 * blank_words l.site ≤ l.site.sizes.fixed + 7 = zeros_few l.site.sizes.init l.site.sizes.fixed less in
+      let words : length (step_of c (record c { apps = insert c.apps n (fresh l) })) ≤ 3 = created_headers c n (fresh l) h.free in
+      let all = plains_moves (blank_words l.site) (plains 4 (atomic_of c (Some (Created n (fresh l))) ∷ [])) in
+      let same : fixed_in session_state.load ≡ l.site.sizes.fixed = ap fixed_in h.is in
+      omega (arith, few, words, all, same)
+  made_few _ _ on fits (made.deleted h) =
+      let words : length (step_of c (record c { apps = remove c.apps a.body })) ≤ 2 = deleted_headers c a.body on.ascending in
+      omega (arith, words)
+
+  -- no more than by its INS
+  most_by_ins : (o : Order) → LoadFits session_state.load → HasIns o a.ins → most_of_order o ≤ most_of_manager a.ins (length a.body)
+  most_by_ins (Loads p) fits ins = subst (λ (i : ℕ). length (word_parts (p1p2 a) a.body) ≤ most_of_manager i (length a.body)) (sym ins) (part_most p a)
+  most_by_ins Creates fits ins = subst (λ (i : ℕ). most_of_creation (fixed_in session_state.load) ≤ most_of_manager i (length a.body)) (sym ins) (creation_small session_state.load fits)
+  most_by_ins Deletes fits ins = subst (λ (i : ℕ). most_of_deletion ≤ most_of_manager i (length a.body)) (sym ins) (omega arith)
+  most_by_ins _ fits ins = omega arith
+
+  manage_few : AreOnCard c.apps → LoadFits session_state.load → moves (manager_command c session_state (manage (room_on c) c.apps session_state a)).items ≤ most_of_manager a.ins (length a.body)
+  manage_few on fits =
+      let few = made_few (order_of a.ins) (manager_command c session_state (manage (room_on c) c.apps session_state a)) on fits (command_made c session_state a) in
+      let most = most_by_ins (order_of a.ins) fits (order_law (room_on c) c.apps session_state a).ins in
+      omega (arith, few, most)
+
+  select_few : (r : Command) → IsSelect c session_state a r → moves r.items ≤ 0
+  select_few _ (made.unselected sw h) = omega arith
+  select_few _ (made.selected app h) = omega arith
+
+-- ---- a command
+
+-- the device writes of a command, and the instructions that it runs
+pub record CommandWears (most : ℕ → ℕ) (budget : ℕ) (r : Command) : Type 0 where
+  pub writes : moves r.items ≤ most (instructions r.turns)
+  pub count : instructions r.turns ≤ budget
+
+managed_wears : (c : Card) (session_state : SessionState) (n budget : ℕ) (m : Managed) → moves (manager_command c session_state m).items ≤ n → CommandWears (λ k. n) budget (manager_command c session_state m)
+managed_wears c session_state n budget m h =
+    let none : instructions (manager_command c session_state m).turns ≡ 0 = ap (λ (ts : List Turn). instructions ts) (manager_turns c session_state m) in
+    record { writes = h; count = omega (arith, none) }
+
+passed_wears : (c : Card) (session_state : SessionState) (o : Option Selected) (a : ApduParts) (budget : ℕ) → session_state.selected ≡ o → Limited c.apps → AreOnCard c.apps → SessionStateStands c.apps session_state
+    → CommandWears (λ k. 78 * k) budget (application_command c session_state o a budget)
+passed_wears c session_state None a budget e limited on h = record { writes = omega arith; count = omega arith }
+passed_wears c session_state (Some s) a budget e limited on h =
+    let short : length s.name ≤ 16 = subst SelectedStands e h.selected in
+    let r = run_few c.apps s.name s.session a budget (are_coded c.apps limited on) short in
+    let writes = r.writes in
+    record { writes = omega (arith, writes); count = r.count }
+
+routed_wears : (c : Card) (session_state : SessionState) (budget : ℕ) (r : Route) → SessionStateFits c.apps session_state → Limited c.apps → AreOnCard c.apps → SessionStateStands c.apps session_state → CommandWears (λ k. most_of_route k r) budget (by_route c session_state budget r)
+routed_wears c session_state budget WrongLength fits limited on h = record { writes = omega arith; count = omega arith }
+routed_wears c session_state budget WrongClass fits limited on h = record { writes = omega arith; count = omega arith }
+routed_wears c session_state budget (ToSelect a) fits limited on h = managed_wears c session_state 0 budget (select c.apps session_state a) (select_few c session_state a (manager_command c session_state (select c.apps session_state a)) (selects_law c session_state a))
+routed_wears c session_state budget (ToManager a) fits limited on h =
+    managed_wears c session_state (most_of_manager a.ins (length a.body)) budget (manage (room_on c) c.apps session_state a) (manage_few c session_state a on fits.load)
+routed_wears c session_state budget (ToApplication a) fits limited on h = passed_wears c session_state session_state.selected a budget refl limited on h
+
+-- its atomic writes
+run_atoms : (c : Card) (session_state : SessionState) (o : Option Selected) (a : ApduParts) (budget : ℕ) → session_state.selected ≡ o → Limited c.apps → AreOnCard c.apps → SessionStateStands c.apps session_state
+    → let r = application_command c session_state o a budget in atomic_writes r.items ≤ instructions r.turns
+run_atoms c session_state None a budget e limited on h = omega arith
+run_atoms c session_state (Some s) a budget e limited on h =
+    let short : length s.name ≤ 16 = subst SelectedStands e h.selected in
+    (run_few c.apps s.name s.session a budget (are_coded c.apps limited on) short).atomic
+
+routed_atoms : (c : Card) (session_state : SessionState) (budget : ℕ) (r : Route) → Limited c.apps → AreOnCard c.apps → SessionStateStands c.apps session_state
+    → atomic_writes (by_route c session_state budget r).items ≤ most_atomic_of_route (instructions (by_route c session_state budget r).turns) r
+routed_atoms c session_state budget WrongLength limited on h = omega arith
+routed_atoms c session_state budget WrongClass limited on h = omega arith
+routed_atoms c session_state budget (ToSelect a) limited on h = route_atoms c session_state budget 0 (ToSelect a) (λ b e. absurd (cc e))
+routed_atoms c session_state budget (ToManager a) limited on h = route_atoms c session_state budget 0 (ToManager a) (λ b e. absurd (cc e))
+routed_atoms c session_state budget (ToApplication a) limited on h = run_atoms c session_state session_state.selected a budget refl limited on h
+
+pub command_atoms : (c : Card) (session_state : SessionState) (b : List ℕ) (budget : ℕ) → Limited c.apps → AreOnCard c.apps → SessionStateStands c.apps session_state
+    → atomic_writes (command c session_state b budget).items ≤ most_atomic_of_route (instructions (command c session_state b budget).turns) (route b)
+unfolding command
+command_atoms c session_state b budget limited on h = routed_atoms c session_state budget (route b) limited on h
+
+pub command_wears : (c : Card) (session_state : SessionState) (b : List ℕ) (budget : ℕ) → SessionStateFits c.apps session_state → Limited c.apps → AreOnCard c.apps → SessionStateStands c.apps session_state
+    → CommandWears (λ k. most_of_route k (route b)) budget (command c session_state b budget)
+unfolding command
+command_wears c session_state b budget fits limited on h = routed_wears c session_state budget (route b) fits limited on h

@@ -1,5 +1,0 @@
-use Rattle.mc_byte_laws.proofs.ChainBytes.{turn_bytes, run_bytes, start_bytes}
-use Rattle.mc_byte_laws.proofs.chains_stay_bytes.Goals as goal
-
-pub returns : goal.returns
-returns c = record { turn = turn_bytes; run = run_bytes; start = start_bytes }

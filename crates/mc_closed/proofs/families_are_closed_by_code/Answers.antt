@@ -1,5 +1,0 @@
-use Rattle.mc_closed.proofs.Plays.{closed_by_code_law}
-use Rattle.mc_closed.proofs.families_are_closed_by_code.Goals as goal
-
-pub returns : goal.returns
-returns c = record { closed = closed_by_code_law }

@@ -1,4 +1,0 @@
-use Rattle.mc_cover.proofs.tracing.TracerReporter.ended.Goals as goal
-
-pub returns : goal.returns
-returns g c = c.written.ensures

@@ -1,8 +1,0 @@
-use Rattle.std.proofs.Common.{◌≡◌, drop}
-use Rattle.mc_model_text.specs.Text.{every}
-use Rattle.mc_desk.specs.Views.{is_hex}
-use Rattle.mc_desk.proofs.hexadecimal.has_digits.Given as goal
-
--- what is left has digits alone just where the whole has
-abbrev pub invariant-loop-character : goal.invariant-loop-character
-invariant-loop-character l = every is_hex (drop l.character-index l.text) ≡ every is_hex l.text

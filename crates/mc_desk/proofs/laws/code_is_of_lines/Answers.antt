@@ -1,5 +1,0 @@
-use Rattle.mc_desk.proofs.SourceLemmas.{code_is_of_lines}
-use Rattle.mc_desk.proofs.laws.code_is_of_lines.Goals as goal
-
-pub returns : goal.returns
-returns c = code_is_of_lines

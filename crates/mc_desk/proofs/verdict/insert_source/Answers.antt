@@ -1,6 +1,0 @@
-use Rattle.std.proofs.Common.{refl}
-use Rattle.mc_desk.proofs.LoadLemmas.{source_new}
-use Rattle.mc_desk.proofs.verdict.insert_source.Goals as goal
-
-pub returns : goal.returns
-returns c = λ l n h q. source_new l c.args.source.now.name.now q.now c.args.source _ _ refl (c.in_ok-insert.ensures.updates.0 q) n (h q)

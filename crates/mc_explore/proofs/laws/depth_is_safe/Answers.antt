@@ -1,5 +1,0 @@
-use Rattle.mc_explore.proofs.Safety.{depth_law}
-use Rattle.mc_explore.proofs.laws.depth_is_safe.Goals as goal
-
-pub returns : goal.returns
-returns c = depth_law

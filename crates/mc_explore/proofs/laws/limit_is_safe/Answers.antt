@@ -1,5 +1,0 @@
-use Rattle.mc_explore.proofs.Safety.{limit_law}
-use Rattle.mc_explore.proofs.laws.limit_is_safe.Goals as goal
-
-pub returns : goal.returns
-returns c = limit_law

@@ -1,5 +1,0 @@
-use Rattle.mc_explore.proofs.Decisions.{words_law}
-use Rattle.mc_explore.proofs.laws.meanings_decide_states.Goals as goal
-
-pub returns : goal.returns
-returns c = words_law

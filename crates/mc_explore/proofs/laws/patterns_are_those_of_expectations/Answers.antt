@@ -1,5 +1,0 @@
-use Rattle.mc_explore.proofs.FitLemmas.{fits_law}
-use Rattle.mc_explore.proofs.laws.patterns_are_those_of_expectations.Goals as goal
-
-pub returns : goal.returns
-returns c = fits_law

@@ -1,5 +1,0 @@
-use Rattle.mc_explore.proofs.Recoveries.{recovery_law}
-use Rattle.mc_explore.proofs.laws.recoveries_lead_to_one_state.Goals as goal
-
-pub returns : goal.returns
-returns c = recovery_law

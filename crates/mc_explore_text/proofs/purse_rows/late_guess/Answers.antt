@@ -1,7 +1,0 @@
-use Rattle.std.proofs.Common.{refl}
-use Rattle.mc_explore_text.specs.Computed.{explored_deck}
-use Rattle.mc_explore_text.proofs.purse_rows.late_guess.Goals as goal
-
-pub returns : goal.returns
-unfolding explored_deck
-returns c = refl

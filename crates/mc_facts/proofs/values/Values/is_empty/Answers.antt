@@ -1,6 +1,0 @@
-use Rattle.mc_facts.proofs.BitLemmas.{empty_words}
-use Rattle.std.proofs.lemmas.Bool.{eqb-true}
-use Rattle.mc_facts.proofs.values.Values.is_empty.Goals as goal
-
-pub returns : goal.returns
-returns c e v h = empty_words c.args.self.now.words v (eqb-true _ 0 e) h

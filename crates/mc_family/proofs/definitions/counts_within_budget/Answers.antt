@@ -1,5 +1,0 @@
-use Rattle.mc_family.proofs.DefinitionLemmas.{run_count}
-use Rattle.mc_family.proofs.definitions.counts_within_budget.Goals as goal
-
-pub returns : goal.returns
-returns c = run_count

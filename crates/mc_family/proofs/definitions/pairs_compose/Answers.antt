@@ -1,5 +1,0 @@
-use Rattle.mc_model_device.proofs.ImageLemmas.{laid_append}
-use Rattle.mc_family.proofs.definitions.pairs_compose.Goals as goal
-
-pub returns : goal.returns
-returns c = laid_append

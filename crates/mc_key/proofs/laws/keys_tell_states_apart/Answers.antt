@@ -1,5 +1,0 @@
-use Rattle.mc_key.proofs.SameKeys.{key_same}
-use Rattle.mc_key.proofs.laws.keys_tell_states_apart.Goals as goal
-
-pub returns : goal.returns
-returns c = key_same

@@ -1,5 +1,0 @@
-use Rattle.mc_machine_laws.proofs.FewRuns.{few_runs_law}
-use Rattle.mc_machine_laws.proofs.laws.runs_write_few_words.Goals as goal
-
-pub returns : goal.returns
-returns c = few_runs_law

@@ -1,5 +1,0 @@
-use Rattle.mc_manager_laws.proofs.Orders.{answers_law}
-use Rattle.mc_manager_laws.proofs.laws.each_answer_is_of_its_order.Goals as goal
-
-pub returns : goal.returns
-returns c = answers_law

@@ -1,8 +1,0 @@
-use Rattle.std.proofs.Common.{sym, ◌∙◌}
-use Rattle.mc_explore.specs.Matching.{matches, plain}
-use Rattle.mc_match.proofs.MatchingLemmas.{some_rest_first}
-use Rattle.mc_match.proofs.matching.matches_some_rest.Goals as goal
-
-pub returns-in-Whole : goal.returns-in-Whole
-returns-in-Whole c =
-    sym (some_rest_first (matches (plain c.loop-next_signs.signs.now)) (plain c.loop-next_signs.rest.now) c.in-Whole.ensures.is) ∙ c.loop-next_signs.invariant

@@ -1,5 +1,0 @@
-use Rattle.mc_model_examples.proofs.FirstDeck as deck
-use Rattle.mc_model_examples.proofs.generated.first_summary.Goals as goal
-
-pub returns : goal.returns
-returns c = deck.first_summary

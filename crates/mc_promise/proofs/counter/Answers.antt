@@ -1,5 +1,0 @@
-use Rattle.mc_promise.proofs.CounterLaw.{counter_law}
-use Rattle.mc_promise.proofs.counter.Goals as goal
-
-pub returns : goal.returns
-returns c = counter_law

@@ -1,5 +1,0 @@
-use Rattle.mc_promise.proofs.FormattedNone.{formatted_law}
-use Rattle.mc_promise.proofs.formatted_has_none.Goals as goal
-
-pub returns : goal.returns
-returns c = formatted_law

@@ -1,5 +1,0 @@
-use Rattle.mc_promise.proofs.OutlineDomain.{kept_along}
-use Rattle.mc_promise.proofs.rule.keeps.Goals as goal
-
-pub returns : goal.returns
-returns g c = kept_along g.P.Promise.outline g.P.Promise.shown

@@ -1,5 +1,0 @@
-use Rattle.mc_prove.proofs.ReportLemmas.{ended_on_ok}
-use Rattle.mc_prove.proofs.text.end_line.Goals as goal
-
-pub returns : goal.returns
-returns c = ended_on_ok c.add.result c.args.text.now.items c.add.new.text.items c.add.ensures

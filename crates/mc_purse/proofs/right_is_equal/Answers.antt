@@ -1,5 +1,0 @@
-use Rattle.mc_purse.proofs.Facts.{right_law}
-use Rattle.mc_purse.proofs.right_is_equal.Goals as goal
-
-pub returns : goal.returns
-returns c = right_law

@@ -1,8 +1,0 @@
-use Rattle.std.proofs.Common.{refl}
-use Rattle.mc_promise.specs.Computed.{broken_at}
-use Rattle.mc_purse.proofs.WrongPurses.{reads_again_broken}
-use Rattle.mc_purse.proofs.worked.amount_read_again_is_raised.Goals as goal
-
-pub returns : goal.returns
-unfolding broken_at
-returns c = record { at = refl; ordered = refl; law = reads_again_broken }

@@ -1,8 +1,0 @@
-use Rattle.std.proofs.Common.{refl}
-use Rattle.mc_promise.specs.Computed.{broken_at}
-use Rattle.mc_purse.proofs.WrongPurses.{early_session_broken}
-use Rattle.mc_purse.proofs.worked.early_session_is_open.Goals as goal
-
-pub returns : goal.returns
-unfolding broken_at
-returns c = record { at = refl; law = early_session_broken }

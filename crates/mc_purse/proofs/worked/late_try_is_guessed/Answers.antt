@@ -1,8 +1,0 @@
-use Rattle.std.proofs.Common.{refl}
-use Rattle.mc_promise.specs.Computed.{broken_at}
-use Rattle.mc_purse.proofs.WrongPurses.{late_try_broken}
-use Rattle.mc_purse.proofs.worked.late_try_is_guessed.Goals as goal
-
-pub returns : goal.returns
-unfolding broken_at
-returns c = record { at = refl; costs = refl; law = late_try_broken }

@@ -1,8 +1,0 @@
-use Rattle.std.proofs.Common.{refl}
-use Rattle.mc_promise.specs.Computed.{broken_at}
-use Rattle.mc_purse.proofs.WrongPurses.{unprotected_broken}
-use Rattle.mc_purse.proofs.worked.unprotected_is_torn.Goals as goal
-
-pub returns : goal.returns
-unfolding broken_at
-returns c = record { at = refl; law = unprotected_broken }

@@ -1,5 +1,0 @@
-use Rattle.mc_recovery.proofs.Sweeps.{sweep_law}
-use Rattle.mc_recovery.proofs.sweeps_show_all_cards.Goals as goal
-
-pub returns : goal.returns
-returns c = record { shown = sweep_law }

@@ -1,5 +1,0 @@
-use Rattle.mc_residual.proofs.FreeWords.{free_words}
-use Rattle.mc_residual.proofs.free_words_mean_nothing.Goals as goal
-
-pub returns : goal.returns
-returns c = record { same = free_words }

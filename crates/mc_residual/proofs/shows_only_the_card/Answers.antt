@@ -1,5 +1,0 @@
-use Rattle.mc_residual.proofs.Alike.{residual}
-use Rattle.mc_residual.proofs.shows_only_the_card.Goals as goal
-
-pub returns : goal.returns
-returns c = record { texts = residual }

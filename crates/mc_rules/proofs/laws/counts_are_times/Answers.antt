@@ -1,5 +1,0 @@
-use Rattle.mc_rules.proofs.CountLemmas as lemma
-use Rattle.mc_rules.proofs.laws.counts_are_times.Goals as goal
-
-pub returns : goal.returns
-returns c = lemma.counts_are_times

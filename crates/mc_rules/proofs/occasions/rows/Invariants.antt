@@ -1,9 +1,0 @@
-use Rattle.std.proofs.Common.{◌≡◌, ◌++◌, drop, map}
-use Rattle.mc_explore.specs.Matching.{plain}
-use Rattle.mc_rules.specs.Occasions.{row_of}
-use Rattle.mc_rules.proofs.occasions.rows.Given as goal
-
--- the rows so far, and those of the moves that are left, are all
-abbrev pub invariant-loop-chosen : goal.invariant-loop-chosen
-invariant-loop-chosen l =
-    map (λ r. r.items) l.rows.items ++ map (λ m. row_of l.ons (plain m.text.now)) (drop l.chosen-index l.moves) ≡ map (λ m. row_of l.fn.ons (plain m.text.now)) l.fn.moves

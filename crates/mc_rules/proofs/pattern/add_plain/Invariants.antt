@@ -1,7 +1,0 @@
-use Rattle.std.proofs.Common.{◌≡◌, ◌++◌, drop}
-use Rattle.mc_explore.specs.Matching.{plain}
-use Rattle.mc_rules.proofs.pattern.add_plain.Given as goal
-
--- the text so far and what is left of it make the whole
-abbrev pub invariant-loop-character : goal.invariant-loop-character
-invariant-loop-character l = l.into.items ++ plain (drop l.character-index l.text) ≡ l.fn.into.items ++ plain l.fn.text

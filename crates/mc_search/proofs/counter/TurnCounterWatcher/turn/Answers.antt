@@ -1,8 +1,0 @@
-use Rattle.std.proofs.Common.{[], ◌∷◌, sym, subst}
-use Rattle.mc_model_machine.specs.Chain.{Turn, turn_of}
-use Rattle.mc_search.specs.Counters.{CountsTurns}
-use Rattle.mc_search.proofs.counter.TurnCounterWatcher.turn.Goals as goal
-
-pub returns-clause-watches : goal.returns-clause-watches
-returns-clause-watches g c ch left runs wide =
-    subst (λ (t : Turn). CountsTurns c.args.self.now (t ∷ []) c.count_turn.new.self) (sym (c.in_ok-turn.ensures.done ch left runs).turn) (c.count_turn.ensures (turn_of left ch).turn.wrote)

@@ -1,6 +1,0 @@
-use Rattle.mc_explore_text.specs.Report.{explore_text}
-use Rattle.mc_search.proofs.search.explore.Goals as goal
-
-pub returns : goal.returns
-unfolding explore_text
-returns g c = c.explore_within.ensures

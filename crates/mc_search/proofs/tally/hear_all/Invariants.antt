@@ -1,7 +1,0 @@
-use Rattle.std.proofs.Common.{◌≡◌, drop}
-use Rattle.mc_search.specs.Tallies.{heard_from}
-use Rattle.mc_search.proofs.tally.hear_all.Given as goal
-
--- the counts that are left note what all note
-abbrev pub invariant-loop-i : goal.invariant-loop-i
-invariant-loop-i l = heard_from l.i (drop l.i l.counts) l.heard ≡ heard_from 0 l.fn.counts l.fn.heard

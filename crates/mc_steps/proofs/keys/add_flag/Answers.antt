@@ -1,5 +1,0 @@
-use Rattle.mc_json.specs.Sheets.{adds_on}
-use Rattle.mc_steps.proofs.keys.add_flag.Goals as goal
-
-pub returns : goal.returns
-returns g c = adds_on g.T.Sink _ _ _ _ _ c.add.ensures c.add_bit.ensures

@@ -1,0 +1,225 @@
+// Sets of byte values.
+ghost use Rattle.std.specs.Prelude.{◌≡◌, ◌<◌, ◌≤◌, ◌↔◌, ℕ, ◌+◌, ◌-◌, ◌%◌, ◌^◌, min, Bool, true, false, not, ◌&&◌, ◌||◌, ◌==◌, nat_lt, nat_le, IsTrue, IfSome, IfNone};
+ghost use Rattle.std.specs.Int.{bit_at};
+ghost use Rattle.prove_facts.specs.Sets.{has_value};
+
+/// A set of some of the 256 values of a byte.
+#[derive(Clone, Copy, PartialEq, Eq, Debug)]
+pub struct Values {
+    pub words: [u64; 4],
+}
+
+impl Values {
+    /// All 256 values.
+    pub const ALL: Values = Values {
+        words: [u64::MAX; 4],
+    };
+    /// No value.
+    pub const NONE: Values = Values { words: [0; 4] };
+
+    /// Returns the set of one value.
+    pub fn one(value: u8) -> Values
+        ensures { (v : ℕ) → v < 256 → has_value result v ≡ (v == value) }
+    {
+        let bit = 1u64 << (value % 64);
+        match value / 64 {
+            0 => Values {
+                words: [bit, 0, 0, 0],
+            },
+            1 => Values {
+                words: [0, bit, 0, 0],
+            },
+            2 => Values {
+                words: [0, 0, bit, 0],
+            },
+            _ => Values {
+                words: [0, 0, 0, bit],
+            },
+        }
+    }
+
+    /// Returns the set of the values below a number.
+    pub fn below(end: u16) -> Values
+        ensures { (v : ℕ) → v < 256 → has_value result v ≡ nat_lt v end }
+    {
+        Values {
+            words: [
+                low_bits(end),
+                low_bits(end.saturating_sub(64)),
+                low_bits(end.saturating_sub(128)),
+                low_bits(end.saturating_sub(192)),
+            ],
+        }
+    }
+
+    /// Returns the set of the values from one to another.
+    pub fn range(low: u8, high: u8) -> Values
+        ensures { (v : ℕ) → v < 256 → has_value result v ≡ nat_le low v && nat_le v high }
+    {
+        Values::below(high as u16 + 1).and(&Values::below(low as u16).not())
+    }
+
+    /// Returns the values of either set.
+    pub fn or(&self, other: &Values) -> Values
+        ensures { (v : ℕ) → v < 256 → has_value result v ≡ has_value self.now v || has_value other.now v }
+    {
+        let [a, b, c, d] = self.words;
+        let [e, f, g, h] = other.words;
+        Values {
+            words: [a | e, b | f, c | g, d | h],
+        }
+    }
+
+    /// Returns the values of both sets.
+    pub fn and(&self, other: &Values) -> Values
+        ensures { (v : ℕ) → v < 256 → has_value result v ≡ has_value self.now v && has_value other.now v }
+    {
+        let [a, b, c, d] = self.words;
+        let [e, f, g, h] = other.words;
+        Values {
+            words: [a & e, b & f, c & g, d & h],
+        }
+    }
+
+    /// Returns the other values.
+    pub fn not(&self) -> Values
+        ensures { (v : ℕ) → v < 256 → has_value result v ≡ not (has_value self.now v) }
+    {
+        let [a, b, c, d] = self.words;
+        Values {
+            words: [inverted(a), inverted(b), inverted(c), inverted(d)],
+        }
+    }
+
+    /// Returns whether a value is there.
+    pub fn has(&self, value: u8) -> bool
+        ensures { result ≡ has_value self.now value }
+    {
+        let [a, b, c, d] = self.words;
+        let word = match value / 64 {
+            0 => a,
+            1 => b,
+            2 => c,
+            _ => d,
+        };
+        word >> (value % 64) & 1 == 1
+    }
+
+    /// Returns the set with one more value.
+    pub fn with(&self, value: u8) -> Values
+        ensures { (v : ℕ) → v < 256 → has_value result v ≡ has_value self.now v || (v == value) }
+    {
+        self.or(&Values::one(value))
+    }
+
+    /// Returns whether no value is there.
+    pub fn is_empty(&self) -> bool
+        ensures { result ≡ true → (v : ℕ) → v < 256 → has_value self.now v ≡ false }
+    {
+        let [a, b, c, d] = self.words;
+        a | b | c | d == 0
+    }
+
+    /// Returns whether all 256 values are there.
+    pub fn is_all(&self) -> bool
+        ensures { result ≡ true → (v : ℕ) → v < 256 → has_value self.now v ≡ true }
+    {
+        *self == Values::ALL
+    }
+
+    /// Returns the number of values.
+    pub fn count(&self) -> u32 {
+        let [a, b, c, d] = self.words;
+        let low = a.count_ones().saturating_add(b.count_ones());
+        low.saturating_add(c.count_ones())
+            .saturating_add(d.count_ones())
+    }
+
+    /// Returns whether each value is in another set.
+    pub fn is_within(&self, other: &Values) -> bool
+        ensures { result ≡ true → (v : ℕ) → v < 256 → has_value self.now v ≡ true → has_value other.now v ≡ true }
+    {
+        self.and(other) == *self
+    }
+
+    /// Returns each value plus a number, modulo 256.
+    pub fn moved(&self, by: u8) -> Values {
+        let [a, b, c, d] = self.words;
+        let [a, b, c, d] = match by / 64 {
+            0 => [a, b, c, d],
+            1 => [d, a, b, c],
+            2 => [c, d, a, b],
+            _ => [b, c, d, a],
+        };
+        let r = by % 64;
+        Values {
+            words: [
+                joined(a, d, r),
+                joined(b, a, r),
+                joined(c, b, r),
+                joined(d, c, r),
+            ],
+        }
+    }
+
+    /// Returns the one value of a set that has one.
+    pub fn only(&self) -> Option<u8> {
+        if self.count() == 1 {
+            self.least()
+        } else {
+            None
+        }
+    }
+
+    /// Returns the least value, or `None` if there is none.
+    pub fn least(&self) -> Option<u8> {
+        let [a, b, c, d] = self.words;
+        if a != 0 {
+            return Some(lowest(0, a));
+        }
+        if b != 0 {
+            return Some(lowest(1, b));
+        }
+        if c != 0 {
+            return Some(lowest(2, c));
+        }
+        if d != 0 { Some(lowest(3, d)) } else { None }
+    }
+}
+
+// The other bits of a word.
+fn inverted(word: u64) -> u64
+    ensures { (i : ℕ) → i < 64 → (bit_at result i == 1) ≡ not (bit_at word i == 1) }
+{
+    !word
+}
+
+// The lowest bits of a word, as many as a number says.
+fn low_bits(count: u16) -> u64
+    ensures { result ≡ 2 ^ min count 64 - 1 }
+{
+    if count == 0 {
+        return 0;
+    }
+    if count >= 64 {
+        u64::MAX
+    } else {
+        u64::MAX >> (64 - count)
+    }
+}
+
+// A word moved up by some bits, with the highest bits of the word below it.
+fn joined(word: u64, lower: u64, by: u8) -> u64 {
+    if by == 0 || by >= 64 {
+        return word;
+    }
+    word << by | lower >> (64 - by)
+}
+
+// The place of the lowest bit of a word that is not zero, behind some words.
+fn lowest(words: u32, word: u64) -> u8 {
+    (words
+        .saturating_mul(64)
+        .saturating_add(word.trailing_zeros())
+        .min(255)) as u8
+}

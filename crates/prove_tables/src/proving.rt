@@ -1,0 +1,130 @@
+// The proof of an application's rules.
+ghost use Rattle.std.specs.Prelude.{IfOk};
+ghost use Rattle.prove_tables.specs.Reports.{IsReport};
+
+use crate::balances::balance_at_creation;
+use crate::checking::is_closed;
+use crate::keys::{Break, MomentKey, Rule};
+use crate::searching::{Stopped, search};
+use crate::subject::{Subject, blocks_of};
+use crate::tables::{MOST_KEYS, Tables};
+use crate::text::{add_verdict, break_ranges, text_of_tables};
+use mc_base::NoMemory;
+use prove_events::{Balance, Load, Rules};
+use prove_facts::{Facts, Values, mask, push};
+use std::alloc::Global;
+
+/// A text, and whether it says that all rules are proved.
+#[derive(Drop)]
+pub struct Verdict {
+    pub text: Vec<u8>,
+    pub proved: bool,
+}
+
+// The static byte at a place as the application is created.
+fn first_byte(load: &Load<'_>, at: u16) -> u8 {
+    match load.data.get(at as usize) {
+        Some(byte) => *byte,
+        None => 0,
+    }
+}
+
+fn first_facts(alloc: Global, load: &Load<'_>) -> Result<Facts, NoMemory> {
+    let mut facts = Facts::new(alloc);
+    for at in 0..load.fixed {
+        facts.set(at, Values::one(first_byte(load, at)))?;
+    }
+    Ok(facts)
+}
+
+fn first_key(alloc: Global, rules: &Rules<'_>) -> Result<MomentKey, NoMemory> {
+    let mut amounts = Vec::new(alloc);
+    for allowance in &rules.allowances {
+        push(&mut amounts, allowance.amount)?;
+    }
+    Ok(MomentKey {
+        selected: false,
+        amounts,
+    })
+}
+
+// The number that a block is as the application is created, modulo 256 to its length.
+fn first_number(load: &Load<'_>, balance: &Balance) -> u128 {
+    let mut number: u128 = 0;
+    for i in 0..balance.n {
+        number = number.wrapping_shl(8) | first_byte(load, balance.at.saturating_add(i)) as u128;
+    }
+    number & mask(balance.n)
+}
+
+// The lines of sums that do not hold at the creation are broken.
+fn break_balances(rules: &Rules<'_>, tables: &mut Tables) -> Result<(), NoMemory> {
+    for (number, balance) in rules.balances.iter().enumerate() {
+        if first_number(&rules.load, balance) != balance_at_creation(rules, balance) {
+            let broken = Break {
+                line: balance.line,
+                at: None,
+                rule: Rule::Balance(number),
+            };
+            if tables.broken.insert(broken).is_err() {
+                return Err(NoMemory);
+            }
+        }
+    }
+    Ok(())
+}
+
+// The text where there are too many keys.
+fn too_many(alloc: Global) -> Result<Verdict, NoMemory>
+    ensures { IfOk result (λ v. IsReport v.proved v.text.items) }
+{
+    let mut text = Vec::new(alloc);
+    add_verdict(&mut text, false, MOST_KEYS)?;
+    Ok(Verdict {
+        text,
+        proved: false,
+    })
+}
+
+fn verdict_of(
+    alloc: Global,
+    subject: &Subject<'_>,
+    tables: Tables,
+    first: &MomentKey,
+    facts: &Facts,
+) -> Result<Verdict, NoMemory>
+    ensures { IfOk result (λ v. IsReport v.proved v.text.items) }
+{
+    let mut tables = tables;
+    break_balances(subject.rules, &mut tables)?;
+    break_ranges(subject, &mut tables)?;
+    let kept = tables.broken.is_empty() && tables.unknown.is_empty();
+    let proved = kept && is_closed(alloc, subject, &tables, first, facts)?;
+    let text = text_of_tables(alloc, subject, &tables, proved)?;
+    Ok(Verdict { text, proved })
+}
+
+/// Decides whether an application keeps its rules in every play of every deck, and returns the text that says so: what may
+/// be known at each moment at which power may go, the rules that may be broken, and the verdict.
+///
+/// # Errors
+///
+/// Returns `NoMemory` if it is out of memory.
+pub fn prove(alloc: Global, rules: &Rules<'_>) -> Result<Verdict, NoMemory>
+    ensures report { IfOk result (λ v. IsReport v.proved v.text.items) }
+{
+    let blocks = blocks_of(alloc, rules)?;
+    let subject = Subject::new(alloc, rules, blocks.as_slice())?;
+    let facts = first_facts(alloc, &rules.load)?;
+    let first = first_key(alloc, rules)?;
+    match search(
+        alloc,
+        &subject,
+        first_key(alloc, rules)?,
+        facts.copied(alloc)?,
+    ) {
+        Ok(tables) => verdict_of(alloc, &subject, tables, &first, &facts),
+        Err(Stopped::TooMany) => too_many(alloc),
+        Err(Stopped::NoMemory) => Err(NoMemory),
+    }
+}

@@ -1,0 +1,290 @@
+// The search that fills the tables.
+use crate::keys::{MomentKey, Outcome, PlaceKey};
+use crate::moments::moment_outcomes;
+use crate::places::place_outcomes;
+use crate::subject::Subject;
+use crate::tables::{MOST_KEYS, Tables, rounded};
+use mc_base::NoMemory;
+use prove_facts::{Facts, push};
+use prove_outcomes::{Known, PackedKnown};
+use std::alloc::Global;
+use std::collections::VecDeque;
+
+/// Why a search has no tables.
+#[derive(Clone, Copy, PartialEq, Eq, Debug)]
+pub enum Stopped {
+    NoMemory,
+    /// There are too many keys.
+    TooMany,
+}
+
+impl From<NoMemory> for Stopped {
+    ghost use Rattle.std.specs.Prelude.{◌≡◌};
+    ghost use Rattle.prove_tables.specs.declared.searching.Stopped.TheVariants.{NoMemory};
+
+    ghost from_gives = { λ f e. e ≡ NoMemory };
+
+    fn from(_error: NoMemory) -> Self {
+        Stopped::NoMemory
+    }
+}
+
+/// The tables so far, for each key whether its outcomes are due, and the numbers of the keys whose are.
+#[derive(Drop)]
+struct Run {
+    tables: Tables,
+    moment_waits: Vec<bool>,
+    place_waits: Vec<bool>,
+    due_moments: Vec<usize>,
+    due_places: VecDeque<usize>,
+}
+
+/// A key whose outcomes are due, by its number.
+#[derive(Clone, Copy)]
+enum Due {
+    Moment(usize),
+    Place(usize),
+    Nothing,
+}
+
+// Marks a key; returns whether it was not marked.
+fn mark(waits: &mut Vec<bool>, number: usize) -> bool {
+    let Some(place) = waits.get_mut(number) else {
+        return false;
+    };
+    let fresh = !*place;
+    *place = true;
+    fresh
+}
+
+fn unmark(waits: &mut Vec<bool>, number: usize) {
+    if let Some(place) = waits.get_mut(number) {
+        *place = false;
+    }
+}
+
+// The outcomes of a moment are due.
+fn await_moment(run: &mut Run, number: usize) -> Result<(), NoMemory> {
+    if mark(&mut run.moment_waits, number) {
+        push(&mut run.due_moments, number)?;
+    }
+    Ok(())
+}
+
+// The outcomes of a place are due.
+fn await_place(run: &mut Run, number: usize) -> Result<(), NoMemory> {
+    if !mark(&mut run.place_waits, number) {
+        return Ok(());
+    }
+    match run.due_places.push_back(number) {
+        Ok(()) => Ok(()),
+        Err(_) => Err(NoMemory),
+    }
+}
+
+// Facts at a moment join those that are there; returns whether they grow.
+fn facts_grow(
+    alloc: Global,
+    subject: &Subject<'_>,
+    there: &mut Facts,
+    facts: &Facts,
+) -> Result<bool, NoMemory> {
+    if there.covers(facts) {
+        return Ok(false);
+    }
+    let joined = there.joined(alloc, facts)?;
+    *there = rounded(alloc, subject.rules, &joined)?;
+    Ok(true)
+}
+
+// What is known at a place joins what is there; returns whether it grows.
+fn known_grows(alloc: Global, there: &mut PackedKnown, known: &Known) -> Result<bool, NoMemory> {
+    if there.covers(alloc, known)? {
+        return Ok(false);
+    }
+    let joined = there.known(alloc)?.joined(alloc, known)?;
+    *there = PackedKnown::new(alloc, &joined)?;
+    Ok(true)
+}
+
+fn join_moment(
+    alloc: Global,
+    subject: &Subject<'_>,
+    run: &mut Run,
+    key: MomentKey,
+    facts: Facts,
+) -> Result<(), NoMemory> {
+    let Ok((number, fresh)) = run.tables.moments.insert_full(key) else {
+        return Err(NoMemory);
+    };
+    if fresh {
+        push(
+            &mut run.tables.facts,
+            rounded(alloc, subject.rules, &facts)?,
+        )?;
+        push(&mut run.moment_waits, false)?;
+        return await_moment(run, number);
+    }
+    let grows = match run.tables.facts.get_mut(number) {
+        Some(there) => facts_grow(alloc, subject, there, &facts)?,
+        None => false,
+    };
+    if grows {
+        await_moment(run, number)
+    } else {
+        Ok(())
+    }
+}
+
+fn join_place(alloc: Global, run: &mut Run, key: PlaceKey, known: Known) -> Result<(), NoMemory> {
+    let Ok((number, fresh)) = run.tables.places.insert_full(key) else {
+        return Err(NoMemory);
+    };
+    if fresh {
+        push(&mut run.tables.known, PackedKnown::new(alloc, &known)?)?;
+        push(&mut run.place_waits, false)?;
+        return await_place(run, number);
+    }
+    let grows = match run.tables.known.get_mut(number) {
+        Some(there) => known_grows(alloc, there, &known)?,
+        None => false,
+    };
+    if grows {
+        await_place(run, number)
+    } else {
+        Ok(())
+    }
+}
+
+fn join(
+    alloc: Global,
+    subject: &Subject<'_>,
+    run: &mut Run,
+    outcome: Outcome,
+) -> Result<(), NoMemory> {
+    match outcome {
+        Outcome::Moment(key, facts) => join_moment(alloc, subject, run, key, facts),
+        Outcome::Place(key, known) => join_place(alloc, run, key, known),
+        Outcome::Broken(broken) => match run.tables.broken.insert(broken) {
+            Ok(_) => Ok(()),
+            Err(_) => Err(NoMemory),
+        },
+        Outcome::Unknown(at) => match run.tables.unknown.insert(at) {
+            Ok(_) => Ok(()),
+            Err(_) => Err(NoMemory),
+        },
+    }
+}
+
+fn join_all(
+    alloc: Global,
+    subject: &Subject<'_>,
+    run: &mut Run,
+    outcomes: Vec<Outcome>,
+) -> Result<(), Stopped> {
+    for outcome in outcomes {
+        join(alloc, subject, run, outcome)?;
+        if run.tables.keys() > MOST_KEYS {
+            return Err(Stopped::TooMany);
+        }
+    }
+    Ok(())
+}
+
+// The next key whose outcomes are due: a place, the one that waits longest, and else the moment that waits shortest.
+fn next_due(run: &mut Run) -> Due {
+    if let Some(number) = run.due_places.pop_front() {
+        unmark(&mut run.place_waits, number);
+        return Due::Place(number);
+    }
+    if let Some(number) = run.due_moments.pop() {
+        unmark(&mut run.moment_waits, number);
+        return Due::Moment(number);
+    }
+    Due::Nothing
+}
+
+/// Returns the outcomes of a moment by its number.
+///
+/// # Errors
+///
+/// Returns `NoMemory` if it is out of memory.
+pub fn outcomes_of_moment(
+    alloc: Global,
+    subject: &Subject<'_>,
+    tables: &Tables,
+    number: usize,
+) -> Result<Vec<Outcome>, NoMemory> {
+    let Some(key) = tables.moments.get_index(number) else {
+        return Ok(Vec::new(alloc));
+    };
+    match tables.facts.get(number) {
+        Some(facts) => moment_outcomes(alloc, subject, key, facts),
+        None => Ok(Vec::new(alloc)),
+    }
+}
+
+/// Returns the outcomes of a place by its number.
+///
+/// # Errors
+///
+/// Returns `NoMemory` if it is out of memory.
+pub fn outcomes_of_place(
+    alloc: Global,
+    subject: &Subject<'_>,
+    tables: &Tables,
+    number: usize,
+) -> Result<Vec<Outcome>, NoMemory> {
+    let Some(key) = tables.places.get_index(number) else {
+        return Ok(Vec::new(alloc));
+    };
+    match tables.known.get(number) {
+        Some(known) => place_outcomes(alloc, subject, key, known.known(alloc)?),
+        None => Ok(Vec::new(alloc)),
+    }
+}
+
+// Takes the outcomes of one key; returns whether some were due.
+fn advance(alloc: Global, subject: &Subject<'_>, run: &mut Run) -> Result<bool, Stopped> {
+    let outcomes = match next_due(run) {
+        Due::Moment(number) => outcomes_of_moment(alloc, subject, &run.tables, number)?,
+        Due::Place(number) => outcomes_of_place(alloc, subject, &run.tables, number)?,
+        Due::Nothing => return Ok(false),
+    };
+    join_all(alloc, subject, run, outcomes)?;
+    Ok(true)
+}
+
+// Takes the outcomes of all keys, until none are due. No table of so few keys needs 2^64 turns; after them it gives up.
+fn run_all(alloc: Global, subject: &Subject<'_>, run: &mut Run) -> Result<(), Stopped> {
+    for _turn in 0..u64::MAX {
+        if !advance(alloc, subject, run)? {
+            return Ok(());
+        }
+    }
+    Err(Stopped::NoMemory)
+}
+
+/// Returns the least tables that hold the first key with its facts and are closed under each outcome.
+///
+/// # Errors
+///
+/// Returns `NoMemory` if it is out of memory, and `TooMany` if there are more than 1,000,000 keys.
+pub fn search(
+    alloc: Global,
+    subject: &Subject<'_>,
+    first: MomentKey,
+    facts: Facts,
+) -> Result<Tables, Stopped> {
+    let mut run = Run {
+        tables: Tables::new(alloc),
+        moment_waits: Vec::new(alloc),
+        place_waits: Vec::new(alloc),
+        due_moments: Vec::new(alloc),
+        due_places: VecDeque::new(alloc),
+    };
+    join_moment(alloc, subject, &mut run, first, facts)?;
+    run_all(alloc, subject, &mut run)?;
+    let Run { tables, .. } = run;
+    Ok(tables)
+}

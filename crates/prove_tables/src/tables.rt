@@ -1,0 +1,105 @@
+// The two tables: the moments between commands, and the places of the code.
+use crate::keys::{Break, MomentKey, PlaceKey};
+use indexmap::IndexSet;
+use mc_base::NoMemory;
+use prove_events::{Always, Rules};
+use prove_facts::{Fact, Facts, Values, push};
+use prove_outcomes::PackedKnown;
+use std::alloc::Global;
+use std::collections::BTreeSet;
+
+/// The most keys of both tables.
+pub const MOST_KEYS: usize = 1_000_000;
+// The most values of a set that is not rounded.
+const MOST_VALUES: u32 = 16;
+
+/// What is known at each key, by its number, and the rules that some outcome breaks.
+#[derive(Drop)]
+pub struct Tables {
+    pub moments: IndexSet<MomentKey>,
+    pub facts: Vec<Facts>,
+    pub places: IndexSet<PlaceKey>,
+    pub known: Vec<PackedKnown>,
+    pub broken: BTreeSet<Break>,
+    /// The places at which it is not known where the code goes on.
+    pub unknown: BTreeSet<u16>,
+}
+
+impl Tables {
+    /// Returns tables without keys.
+    pub fn new(alloc: Global) -> Tables {
+        Tables {
+            moments: IndexSet::new(alloc),
+            facts: Vec::new(alloc),
+            places: IndexSet::new(alloc),
+            known: Vec::new(alloc),
+            broken: BTreeSet::new(alloc),
+            unknown: BTreeSet::new(alloc),
+        }
+    }
+
+    /// Returns the number of keys of both tables.
+    pub fn keys(&self) -> usize {
+        self.facts.len().saturating_add(self.known.len())
+    }
+}
+
+// The values that all lines of a byte allow which hold a set.
+fn range_of(always: &[Always], at: u16, values: &Values) -> Values {
+    let mut range = Values::ALL;
+    for line in always {
+        let held = Values::range(line.low, line.high);
+        if line.at == at && values.is_within(&held) {
+            range = range.and(&held);
+        }
+    }
+    range
+}
+
+// The values of a byte between commands.
+fn rounded_values(always: &[Always], fact: &Fact) -> Values {
+    if fact.values.count() > MOST_VALUES {
+        return range_of(always, fact.at, &fact.values);
+    }
+    fact.values
+}
+
+/// Returns facts as they are kept between commands: a set of more than 16 values becomes the range of the lines of its byte
+/// that hold it all, or no fact.
+///
+/// # Errors
+///
+/// Returns `NoMemory` if it is out of memory.
+pub fn rounded(alloc: Global, rules: &Rules<'_>, facts: &Facts) -> Result<Facts, NoMemory> {
+    let mut list = Vec::new(alloc);
+    for fact in &facts.list {
+        let values = rounded_values(rules.always.as_slice(), fact);
+        if !values.is_all() {
+            push(
+                &mut list,
+                Fact {
+                    at: fact.at,
+                    values,
+                },
+            )?;
+        }
+    }
+    Ok(Facts { list })
+}
+
+/// Returns whether the byte of a line has only values that it allows.
+pub fn is_kept(line: &Always, facts: &Facts) -> bool {
+    facts
+        .at(line.at)
+        .is_within(&Values::range(line.low, line.high))
+}
+
+/// Returns whether every moment keeps a line.
+pub fn all_keep(line: &Always, tables: &Tables) -> bool {
+    for facts in &tables.facts {
+        if !is_kept(line, facts) {
+            return false;
+        }
+    }
+    true
+}
