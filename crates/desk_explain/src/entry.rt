@@ -18,7 +18,7 @@ pub struct Entry {
     pub text: Vec<u8>,
 }
 
-// Adds what stands in a place.
+// Adds the text of a place.
 fn push_part(text: &mut Vec<u8>, part: &[u8]) -> Result<(), AllocError> {
     if part.is_empty() {
         return push(text, b"nothing stands here");
@@ -36,7 +36,7 @@ pub fn push_sentence(text: &mut Vec<u8>, sentence: Sentence) -> Result<(), Alloc
     push(text, sentence.advice.as_bytes())
 }
 
-/// Returns an entry of a part of a line: what stands there, what was expected, and what to do.
+/// Returns an entry of a part of a line: its text, what was expected, and what to do.
 pub fn entry_of(
     alloc: Global,
     number: u32,

@@ -186,7 +186,7 @@ fn explain_read(alloc: Global, name: &[u8], draft: &[u8]) -> Result<Explained, A
     Ok(Explained { text, passes })
 }
 
-// The entries of a draft behind its first refusal.
+// The entries of a draft after its first refusal.
 fn later_entries(alloc: Global, draft: &[u8], reading: &Reading) -> Result<Vec<Entry>, AllocError> {
     let mut entries = Vec::new(alloc);
     let lines = lines_of(alloc, draft)?;

@@ -81,7 +81,7 @@ pub fn word_part(line: &[u8]) -> Part<'_> {
     }
 }
 
-/// Returns what stands after the word of a line of assembly.
+/// Returns the text after the word of a line of assembly.
 pub fn operands_of(line: &[u8]) -> &[u8] {
     cut_blank(trim_front(body_of(line))).1.unwrap_or(b"")
 }

@@ -19,7 +19,7 @@ fn is_hex(text: &[u8]) -> bool {
     !text.is_empty() && text.len() % 2 == 0
 }
 
-// What stands in the round brackets of a field, or the field if it has none.
+// The text in the round brackets of a field, or the field if it has none.
 fn without_brackets(field: &[u8]) -> &[u8] {
     match field {
         [b'(', inner @ .., b')'] => inner,

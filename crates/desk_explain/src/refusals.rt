@@ -109,7 +109,7 @@ fn field_or(
     }
 }
 
-// A name that stands for one that is refused.
+// A name in place of one that is refused.
 fn other_name(alloc: Global, number: u32) -> Result<Vec<u8>, AllocError> {
     let mut name = Vec::from_slice(alloc, b"left_out_")?;
     push_number(&mut name, number)?;
@@ -130,7 +130,7 @@ fn name_after(
     }
 }
 
-// An AID that stands for one that is refused.
+// An AID in place of one that is refused.
 const OTHER_AID: &[u8] = b"A000000000";
 
 // The AID of a section whose first line is refused, or one in its place if the AID is the cause.
@@ -229,7 +229,7 @@ fn leave_out(alloc: Global, rest: &mut Rest, refused: Refused) -> Result<(), All
     }
 }
 
-// Whether nothing is read on behind a refusal: the whole text is refused, or a section has no end.
+// Whether nothing is read on after a refusal: the whole text is refused, or a section has no end.
 fn is_last(cause: DeckCause) -> bool {
     matches!(cause, DeckCause::NoEnd | DeckCause::TooManyLines)
 }
@@ -304,7 +304,7 @@ fn take(
     Ok(true)
 }
 
-// Reads on behind a refusal, at most as many times as each line can be refused.
+// Reads on after a refusal, at most as many times as each line can be refused.
 fn read_on(
     alloc: Global,
     rest: &mut Rest,

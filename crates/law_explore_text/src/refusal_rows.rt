@@ -24,11 +24,14 @@ pub fn bad_lines()
     ensures more { explored_deck 1 (codes "format\n#@ move power 1\n") ≡ Err (LineFault 2 BadLine) }
     ensures allow { explored_deck 1 (codes "format\n#@ allow a\n") ≡ Err (LineFault 2 BadLine) }
     ensures allow_more { explored_deck 1 (codes "format\n#@ allow a 1 2\n") ≡ Err (LineFault 2 BadLine) }
-    ensures no_effect { explored_deck 1 (codes "format\n#@ allow a 1\n#@ on power gives *\n") ≡ Err (LineFault 3 BadLine) }
-    ensures no_occasion { explored_deck 1 (codes "format\n#@ allow a 1\n#@ on power * allow a 1\n") ≡ Err (LineFault 3 BadLine) }
+    ensures no_effect { explored_deck 1 (codes "format\n#@ allow a 1\n#@ on power gives *\n")
+        ≡ Err (LineFault 3 BadLine) }
+    ensures no_occasion { explored_deck 1 (codes "format\n#@ allow a 1\n#@ on power * allow a 1\n")
+        ≡ Err (LineFault 3 BadLine) }
     ensures no_pattern { explored_deck 1 (codes "format\n#@ allow a 1\n#@ on power gives allow a 1\n")
         ≡ Err (LineFault 3 BadLine) }
-    ensures no_moves { explored_deck 1 (codes "format\n#@ allow a 1\n#@ on gives * allow a 1\n") ≡ Err (LineFault 3 BadLine) }
+    ensures no_moves { explored_deck 1 (codes "format\n#@ allow a 1\n#@ on gives * allow a 1\n")
+        ≡ Err (LineFault 3 BadLine) }
     ensures no_amount { explored_deck 1 (codes "format\n#@ allow a 1\n#@ on power gives * allow a\n")
         ≡ Err (LineFault 3 BadLine) }
 {}
@@ -49,7 +52,8 @@ pub fn bad_names()
     ensures unknown { explored_deck 1 (codes "format\n#@ on power gives * spend a 1\n#@ allow a 1\n")
         ≡ Err (LineFault 2 UnknownName) }
     ensures on_name { explored_deck 1 (codes "format\n#@ on power turns * spend a-b 1\n") ≡ Err (LineFault 2 BadName) }
-    ensures on_number { explored_deck 1 (codes "format\n#@ on power turns * spend a -1\n") ≡ Err (LineFault 2 BadNumber) }
+    ensures on_number { explored_deck 1 (codes "format\n#@ on power turns * spend a -1\n")
+        ≡ Err (LineFault 2 BadNumber) }
     ensures on_range { explored_deck 1 (codes "format\n#@ on power turns * spend a 4294967296\n")
         ≡ Err (LineFault 2 OutOfRange) }
 {}
@@ -83,5 +87,6 @@ pub fn no_test()
 
 /// After a section there are rules again, whatever blanks are around them.
 pub fn sections()
-    ensures { explored_deck 1 (codes "format\napp a A000000001\nEXIT\nend\n  #@\tallow a x\n") ≡ Err (LineFault 5 BadNumber) }
+    ensures { explored_deck 1 (codes "format\napp a A000000001\nEXIT\nend\n  #@\tallow a x\n")
+        ≡ Err (LineFault 5 BadNumber) }
 {}

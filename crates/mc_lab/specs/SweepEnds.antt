@@ -56,7 +56,7 @@ pub record IsLineOf (marks : List Remark) (s : Swept) (number : ℕ) (words : Li
   pub words_are : s.words ≡ words
   pub broken_is : broken ≡ is_broken marks s
 
--- whether rows are fine, added to whether those before them are
+-- whether rows are as marked, added to whether those before them are
 abbrev pub AddsFine : List Remark → Bool → List Row → Bool → Type 0
 AddsFine marks a rs b = b ≡ (a && are_fine marks rs)
 

@@ -340,7 +340,7 @@ abbrev pub rows_above : Option ℕ → Option ℕ → List Remark → List Row
 rows_above number last [] = []
 rows_above number last (m ∷ ms) = rows_if (is_above number m) (row_unless (is_guarded last m) m.number (rows_above number last ms))
 
--- the marks that are left, or those behind the first
+-- the marks that are left, or those after the first
 abbrev pub left_if : Bool → List Remark → List Remark → List Remark
 left_if true behind ms = behind
 left_if false behind ms = ms

@@ -57,7 +57,7 @@ pub struct Pending {
     pub last: Option<u32>,
 }
 
-/// The place of the first mark behind a line, and whether those above it are all of swept lines.
+/// The place of the first mark after a line, and whether those above it are all of swept lines.
 #[derive(Clone, Copy)]
 pub struct Passed {
     pub next: usize,

@@ -20,7 +20,7 @@ pub record StepKeeps (r : AppRules) (g : Target) (t : Step) (h : History) : Type
   pub always : OnFixed g.name (λ fixed. keeps_rules r h fixed ≡ true) t.after
 
 -- After each line of a play, and after each device write at which it could be stopped, as long as no other application
--- came under the name and stops come at device writes. (A stop that a list of failed writes puts behind the last write
+-- came under the name and stops come at device writes. (A stop that a list of failed writes puts after the last write
 -- of a command is none: no tape has it, and a rule may break there that no card can break.)
 abbrev pub KeptAlong : AppRules → Target → History → List Step → Type 0
 KeptAlong r g h ts = AlongWrites (rule_watch g.name) g.app ⊥ (λ before t after. StepKeeps r g t after) h ts

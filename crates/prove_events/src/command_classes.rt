@@ -125,8 +125,8 @@ fn add_number(numbers: &mut Vec<usize>, number: usize) -> Result<(), NoMemory> {
     push(numbers, number)
 }
 
-// The numbers of the classes that a header leads to with any bytes behind it.
-fn classes_behind(
+// The numbers of the classes that a header leads to with any bytes after it.
+fn classes_after(
     alloc: Global,
     patterns: &Patterns,
     walked: &Walked,
@@ -150,7 +150,7 @@ fn last_classes(
 ) -> Result<Vec<Vec<usize>>, NoMemory> {
     let mut behind = Vec::new(alloc);
     for walked in last.states.as_slice() {
-        push(&mut behind, classes_behind(alloc, patterns, walked, found)?)?;
+        push(&mut behind, classes_after(alloc, patterns, walked, found)?)?;
     }
     Ok(behind)
 }
@@ -416,7 +416,7 @@ fn headers_of(
     })
 }
 
-/// Returns the classes of commands that some header, with some bytes behind it, is in.
+/// Returns the classes of commands that some header, with some bytes after it, is in.
 ///
 /// # Errors
 ///

@@ -35,7 +35,7 @@ fn set_bit(state: &mut Reached, bit: usize) {
     }
 }
 
-// A place in a pattern is reached, and those behind it over any number of `*`.
+// A place in a pattern is reached, and those that follow it over any number of `*`.
 fn reach(state: &mut Reached, pattern: &Pattern, place: usize) {
     set_bit(state, pattern.start.saturating_add(place));
     for (i, sign) in pattern.signs.iter().enumerate() {

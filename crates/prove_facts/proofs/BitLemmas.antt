@@ -188,7 +188,7 @@ below_bit m i =
       | inr l ↦ ap (λ (n : ℕ). n == 1) (bit_at_ones_above m i l) ∙ sym (le-ltb i m l)
     ]
 
--- the bit of a value in the word behind k words
+-- the bit of a value in the word after k words
 low_bit : (end v k n : ℕ) → n ≡ 2 ^ min (end - 64 * k) 64 - 1 → v / 64 ≡ k → (bit_at n (v % 64) == 1) ≡ nat_lt v end
 low_bit end v k n e i =
     ap (λ (m : ℕ). bit_at m (v % 64) == 1) e ∙ below_bit (min (end - 64 * k) 64) (v % 64)

@@ -39,7 +39,8 @@ fn place_of(list: &[Fact], at: u32) -> usize {
 
 // The values of a byte as a fact says.
 fn values_at(fact: &Fact, at: u16) -> Values
-    ensures { (m : Memory) → HoldsBytes m → has_value fact.now.values (m fact.now.at) ≡ true → has_value result (m at) ≡ true }
+    ensures { (m : Memory) → HoldsBytes m → has_value fact.now.values (m fact.now.at) ≡ true
+        → has_value result (m at) ≡ true }
 {
     if fact.at == at {
         return fact.values;
@@ -91,7 +92,7 @@ impl Facts {
         }
     }
 
-    // Takes the place of a fact; one that tells nothing is taken away.
+    // Replaces a fact; one with every value is taken away.
     fn replace(&mut self, place: usize, fact: Fact) {
         if place >= self.list.len() {
             return;
@@ -148,7 +149,8 @@ impl Facts {
 
     /// Appends facts of higher addresses.
     pub fn append(&mut self, more: &[Fact]) -> Result<(), NoMemory>
-        ensures { OnOk result ((m : Memory) → Holds self.old.list.items m → Holds more.now m → Holds self.new.list.items m) }
+        ensures { OnOk result ((m : Memory) → Holds self.old.list.items m → Holds more.now m
+            → Holds self.new.list.items m) }
     {
         self.list.extend_from_slice(more)?;
         Ok(())
@@ -185,8 +187,10 @@ impl Facts {
 
 // Adds the union of a fact and the first of some, if both are of one byte.
 fn add_union(list: &mut Vec<Fact>, fact: &Fact, rest: &[Fact]) -> Result<(), NoMemory>
-    ensures left { OnOk result ((m : Memory) → HoldsBytes m → Holds list.old.items m → has_value fact.now.values (m fact.now.at) ≡ true → Holds list.new.items m) }
-    ensures right { OnOk result ((m : Memory) → HoldsBytes m → Holds list.old.items m → Holds rest.now m → Holds list.new.items m) }
+    ensures left { OnOk result ((m : Memory) → HoldsBytes m → Holds list.old.items m
+        → has_value fact.now.values (m fact.now.at) ≡ true → Holds list.new.items m) }
+    ensures right { OnOk result ((m : Memory) → HoldsBytes m → Holds list.old.items m → Holds rest.now m
+        → Holds list.new.items m) }
 {
     match rest {
         [first, ..] => add_both(list, fact, first),
@@ -194,9 +198,12 @@ fn add_union(list: &mut Vec<Fact>, fact: &Fact, rest: &[Fact]) -> Result<(), NoM
     }
 }
 
+// Adds the union of two facts, if both are of one byte and it leaves out a value.
 fn add_both(list: &mut Vec<Fact>, fact: &Fact, first: &Fact) -> Result<(), NoMemory>
-    ensures left { OnOk result ((m : Memory) → HoldsBytes m → Holds list.old.items m → has_value fact.now.values (m fact.now.at) ≡ true → Holds list.new.items m) }
-    ensures right { OnOk result ((m : Memory) → HoldsBytes m → Holds list.old.items m → has_value first.now.values (m first.now.at) ≡ true → Holds list.new.items m) }
+    ensures left { OnOk result ((m : Memory) → HoldsBytes m → Holds list.old.items m
+        → has_value fact.now.values (m fact.now.at) ≡ true → Holds list.new.items m) }
+    ensures right { OnOk result ((m : Memory) → HoldsBytes m → Holds list.old.items m
+        → has_value first.now.values (m first.now.at) ≡ true → Holds list.new.items m) }
 {
     if first.at != fact.at {
         return Ok(());
@@ -216,7 +223,8 @@ fn add_both(list: &mut Vec<Fact>, fact: &Fact, first: &Fact) -> Result<(), NoMem
 
 // Whether a fact of a byte is there with no more values than some.
 fn is_fact_within(fact: &Fact, at: u16, values: &Values) -> bool
-    ensures { result ≡ true → (m : Memory) → HoldsBytes m → has_value fact.now.values (m fact.now.at) ≡ true → has_value values.now (m at) ≡ true }
+    ensures { result ≡ true → (m : Memory) → HoldsBytes m → has_value fact.now.values (m fact.now.at) ≡ true
+        → has_value values.now (m at) ≡ true }
 {
     fact.at == at && fact.values.is_within(values)
 }

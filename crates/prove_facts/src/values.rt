@@ -216,7 +216,7 @@ fn joined(word: u64, lower: u64, by: u8) -> u64 {
     word << by | lower >> (64 - by)
 }
 
-// The place of the lowest bit of a word that is not zero, behind some words.
+// The place of the lowest bit of a word that is not zero, after some words.
 fn lowest(words: u32, word: u64) -> u8 {
     (words
         .saturating_mul(64)

@@ -17,7 +17,7 @@ pub struct Computation {
     pub carries: bool,
 }
 
-// The byte of a constant that stands i bytes above its end.
+// The byte of a constant i bytes above its end.
 fn byte_of(constant: u128, i: u16) -> u8 {
     if i >= 16 {
         0
@@ -96,7 +96,7 @@ fn is_possible(last: &Last, compute: &Computation, c: bool, z: bool) -> bool {
 }
 
 // The bounds that a compare with a constant gives, by its flags.
-fn bounds_told(compute: &Computation, c: bool, z: bool) -> Last {
+fn bounds_by_flags(compute: &Computation, c: bool, z: bool) -> Last {
     let (at, n, k) = (compute.first, compute.n, compute.constant);
     let (low, high) = if c {
         (0, k.saturating_sub(1))
@@ -108,15 +108,15 @@ fn bounds_told(compute: &Computation, c: bool, z: bool) -> Last {
     Last::Bounds(Bounds { at, n, low, high })
 }
 
-// What a compare or a test tells, by its flags.
-fn told(compute: &Computation, c: bool, z: bool) -> Last {
+// What a compare or a test says of its bytes, by its flags.
+fn said(compute: &Computation, c: bool, z: bool) -> Last {
     let (at, n) = (compute.first, compute.n);
     match compute.second {
         None if compute.digit == Digit::First => {
             let (low, high) = if z { (0, 0) } else { (1, mask(n)) };
             Last::Bounds(Bounds { at, n, low, high })
         }
-        None => bounds_told(compute, c, z),
+        None => bounds_by_flags(compute, c, z),
         Some(second) => Last::Order(Order {
             first: at,
             second,
@@ -128,7 +128,7 @@ fn told(compute: &Computation, c: bool, z: bool) -> Last {
     }
 }
 
-fn is_told(compute: &Computation) -> bool {
+fn is_compare(compute: &Computation) -> bool {
     !compute.writes && (compute.digit == Digit::Sub || compute.digit == Digit::First)
 }
 
@@ -181,8 +181,8 @@ fn outcome(
     if compute.carries {
         next.registers.c = way.c;
     }
-    if is_told(compute) {
-        next.known.last = told(compute, way.c, way.z);
+    if is_compare(compute) {
+        next.known.last = said(compute, way.c, way.z);
     }
     if !compute.writes {
         return Ok(Some(Step::Goes(next)));

@@ -257,7 +257,7 @@ fn is_message(block: u8, n: u8) -> bool {
     block != 0 && n >= block && n % block == 0
 }
 
-/// The outcomes of a cipher: a block of so many bytes, a key, and a message of n bytes.
+/// The outcomes of a cipher over a block, a key, and a message of n bytes.
 ///
 /// # Errors
 ///

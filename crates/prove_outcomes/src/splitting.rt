@@ -36,7 +36,7 @@ fn add_values(out: &mut Vec<u8>, row: &[u8], set: &Values) -> Result<(), NoMemor
     Ok(())
 }
 
-/// Each combination of values of some sets, one behind the other, or `None` if there are too many.
+/// Each combination of values of some sets, one after the other, or `None` if there are too many.
 pub fn split(alloc: Global, sets: &[Values]) -> Result<Option<Vec<u8>>, NoMemory> {
     let count = combinations(sets);
     if count > MOST {

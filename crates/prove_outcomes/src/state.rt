@@ -26,7 +26,7 @@ impl<'a> Sizes<'a> {
     }
 }
 
-/// A call that is open: DT behind its four saved bytes, the saved LB and the saved place.
+/// A call that is open: DT after its four saved bytes, the saved LB and the saved place.
 #[derive(Clone, Copy, PartialEq, Eq, Hash, Debug)]
 pub struct Call {
     pub end: u16,
@@ -64,7 +64,7 @@ pub struct Order {
     pub greater: bool,
 }
 
-/// What the last compare told.
+/// What the last compare says.
 #[derive(Clone, Copy, PartialEq, Eq, Debug)]
 pub enum Last {
     Nothing,

@@ -95,7 +95,7 @@ fn signed_number(text: &[u8]) -> Result<i64, DeckCause> {
     }
 }
 
-/// Returns what stands in the brackets of `REG[..]` for a register of two letters, or `None` if a text has another form.
+/// Returns the text in the brackets of `REG[..]` for a register of two letters, or `None` if a text has another form.
 pub fn inside<'a>(text: &'a [u8], register: &[u8; 2]) -> Option<&'a [u8]> {
     let [first, second] = *register;
     match text {

@@ -20,13 +20,13 @@ fn load_line(text: &[u8], name: &[u8]) -> Option<u32> {
     let mut inside = false;
     let mut number: u32 = 0;
     let mut rest = text;
-    while let Some((line, behind)) = next_line(rest) {
+    while let Some((line, after)) = next_line(rest) {
         number = number.saturating_add(1);
         if !inside && is_load(line, name) {
             return Some(number);
         }
         inside = stays_inside(inside, line);
-        rest = behind;
+        rest = after;
     }
     None
 }

@@ -1,4 +1,4 @@
-// The parts of an `on` line: a pattern, and the word behind it.
+// The parts of an `on` line: a pattern, and the word after it.
 use crate::fault::Fault;
 use lab_match::{first_field, small};
 use mc_base::NoMemory;
@@ -48,7 +48,7 @@ fn add_plain(into: &mut Vec<u8>, field: &[u8]) -> Result<(), NoMemory> {
     Ok(())
 }
 
-/// Returns the plain pattern before the first word that names an effect, that effect, and the text behind it.
+/// Returns the plain pattern before the first word that names an effect, that effect, and the text after it.
 ///
 /// # Errors
 ///
@@ -66,7 +66,7 @@ pub fn effect_parts(alloc: Global, text: &[u8]) -> Result<(Vec<u8>, EffectWord, 
     Err(Fault::from(DeckCause::BadLine))
 }
 
-/// Returns the plain pattern before the first word `gives`, and the text behind it.
+/// Returns the plain pattern before the first word `gives`, and the text after it.
 ///
 /// # Errors
 ///

@@ -339,7 +339,7 @@ fn add_always(alloc: Global, rules: &mut Partial<'_>, line: u32, text: &[u8]) ->
     }
 }
 
-// Adds the rule of a line, by the text behind its mark.
+// Adds the rule of a line, by the text after its mark.
 fn add_rule<'a>(
     alloc: Global,
     source: &Source<'a>,

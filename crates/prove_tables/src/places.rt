@@ -15,7 +15,7 @@ use prove_outcomes::{Known, Registers, State, Step, row};
 use std::alloc::Global;
 
 /// An instruction at a place: the key, the instruction and its text, and the frame before it, whose code address is already
-/// the place behind it.
+/// the place after it.
 #[derive(Clone, Copy)]
 struct Turn<'a> {
     key: &'a PlaceKey,

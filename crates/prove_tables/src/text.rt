@@ -64,7 +64,7 @@ fn add_stretch(text: &mut Vec<u8>, first: bool, stretch: &Stretch) -> Result<(),
     Ok(())
 }
 
-// The run that a value ends, if the value behind it is in no set and it began at `low`.
+// The run that a value ends, if the value after it is in no set and it began at `low`.
 fn is_end(values: &Values, value: u8) -> bool {
     value == 255 || !values.has(value.saturating_add(1))
 }
