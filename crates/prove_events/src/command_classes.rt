@@ -148,11 +148,11 @@ fn last_classes(
     last: &Level,
     found: &mut IndexSet<Vec<bool>>,
 ) -> Result<Vec<Vec<usize>>, NoMemory> {
-    let mut behind = Vec::new(alloc);
+    let mut after = Vec::new(alloc);
     for walked in last.states.as_slice() {
-        push(&mut behind, classes_after(alloc, patterns, walked, found)?)?;
+        push(&mut after, classes_after(alloc, patterns, walked, found)?)?;
     }
-    Ok(behind)
+    Ok(after)
 }
 
 fn add_values(column: &mut Column, class: usize, values: &Values) {
@@ -239,9 +239,9 @@ fn spread_over(alloc: Global, ons: &[On], matched: &[bool]) -> Result<Vec<bool>,
     for on in ons {
         let mut is = false;
         if is_of_command(on) {
-            if let [first, behind @ ..] = rest {
+            if let [first, after @ ..] = rest {
                 is = *first;
-                rest = behind;
+                rest = after;
             }
         }
         push(&mut spread, is)?;
@@ -374,9 +374,9 @@ fn last_columns(
     alloc: Global,
     levels: &Levels,
     count: usize,
-    behind: &[Vec<usize>],
+    after: &[Vec<usize>],
 ) -> Result<(Back, Column), NoMemory> {
-    let p2 = back_over(alloc, &levels.p2, levels.p1.states.len(), count, behind)?;
+    let p2 = back_over(alloc, &levels.p2, levels.p1.states.len(), count, after)?;
     let p1 = back_over(
         alloc,
         &levels.p1,
@@ -391,9 +391,9 @@ fn headers_of(
     alloc: Global,
     levels: &Levels,
     count: usize,
-    behind: &[Vec<usize>],
+    after: &[Vec<usize>],
 ) -> Result<Headers, NoMemory> {
-    let (p1, p2) = last_columns(alloc, levels, count, behind)?;
+    let (p1, p2) = last_columns(alloc, levels, count, after)?;
     let ins = back_over(
         alloc,
         &levels.ins,
@@ -425,7 +425,7 @@ pub fn classes(alloc: Global, ons: &[On]) -> Result<Vec<Class>, NoMemory> {
     let patterns = command_patterns(alloc, ons)?;
     let levels = levels_of(alloc, &patterns)?;
     let mut found = IndexSet::new(alloc);
-    let behind = last_classes(alloc, &patterns, &levels.p2, &mut found)?;
-    let headers = headers_of(alloc, &levels, found.len(), behind.as_slice())?;
+    let after = last_classes(alloc, &patterns, &levels.p2, &mut found)?;
+    let headers = headers_of(alloc, &levels, found.len(), after.as_slice())?;
     listed_classes(alloc, ons, &found, &headers)
 }

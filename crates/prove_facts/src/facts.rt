@@ -126,14 +126,14 @@ impl Facts {
         if low >= high {
             return Ok(());
         }
-        let behind = copied_part(
+        let after = copied_part(
             *self.list.allocator(),
             self.list.as_slice(),
             high,
             self.list.len(),
         )?;
         self.list.truncate(low);
-        self.append(behind.as_slice())
+        self.append(after.as_slice())
     }
 
     /// The facts of addresses from one to below another.

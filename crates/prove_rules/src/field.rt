@@ -107,8 +107,8 @@ pub fn inside<'a>(text: &'a [u8], register: &[u8; 2]) -> Option<&'a [u8]> {
 /// Returns the two parts of a range, which are the same if it has no `..`.
 pub fn range_parts(text: &[u8]) -> (&[u8], &[u8]) {
     for i in 0..text.len() {
-        if let [b'.', b'.', behind @ ..] = &text[i..] {
-            return (&text[..i], behind);
+        if let [b'.', b'.', after @ ..] = &text[i..] {
+            return (&text[..i], after);
         }
     }
     (text, text)

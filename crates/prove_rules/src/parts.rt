@@ -56,12 +56,12 @@ fn add_plain(into: &mut Vec<u8>, field: &[u8]) -> Result<(), NoMemory> {
 pub fn effect_parts(alloc: Global, text: &[u8]) -> Result<(Vec<u8>, EffectWord, &[u8]), Fault> {
     let mut pattern = Vec::new(alloc);
     let mut rest = text;
-    while let Some((field, behind)) = first_field(rest) {
+    while let Some((field, after)) = first_field(rest) {
         if let Some(effect) = effect_named(field) {
-            return Ok((pattern, effect, behind));
+            return Ok((pattern, effect, after));
         }
         add_plain(&mut pattern, field)?;
-        rest = behind;
+        rest = after;
     }
     Err(Fault::from(DeckCause::BadLine))
 }
@@ -74,15 +74,15 @@ pub fn effect_parts(alloc: Global, text: &[u8]) -> Result<(Vec<u8>, EffectWord, 
 pub fn answer_parts(alloc: Global, text: &[u8]) -> Result<(Vec<u8>, &[u8]), Fault> {
     let mut pattern = Vec::new(alloc);
     let mut rest = text;
-    while let Some((field, behind)) = first_field(rest) {
+    while let Some((field, after)) = first_field(rest) {
         if field == b"gives".as_slice() {
             if pattern.is_empty() {
                 return Err(Fault::from(DeckCause::BadLine));
             }
-            return Ok((pattern, behind));
+            return Ok((pattern, after));
         }
         add_plain(&mut pattern, field)?;
-        rest = behind;
+        rest = after;
     }
     Err(Fault::from(DeckCause::BadLine))
 }

@@ -101,12 +101,12 @@ struct Head<'a> {
     pattern: Vec<u8>,
     result: Vec<u8>,
     word: EffectWord,
-    behind: &'a [u8],
+    after: &'a [u8],
 }
 
 fn answer_head(alloc: Global, text: &[u8]) -> Result<Head<'_>, Fault> {
-    let (pattern, behind) = answer_parts(alloc, text)?;
-    let (result, word, behind) = effect_parts(alloc, behind)?;
+    let (pattern, after) = answer_parts(alloc, text)?;
+    let (result, word, after) = effect_parts(alloc, after)?;
     if result.is_empty() {
         return Err(bad_line());
     }
@@ -114,12 +114,12 @@ fn answer_head(alloc: Global, text: &[u8]) -> Result<Head<'_>, Fault> {
         pattern,
         result,
         word,
-        behind,
+        after,
     })
 }
 
 fn plain_head(alloc: Global, event: Event, text: &[u8]) -> Result<Head<'_>, Fault> {
-    let (pattern, word, behind) = effect_parts(alloc, text)?;
+    let (pattern, word, after) = effect_parts(alloc, text)?;
     if pattern.is_empty() != (event == Event::Session) {
         return Err(bad_line());
     }
@@ -127,7 +127,7 @@ fn plain_head(alloc: Global, event: Event, text: &[u8]) -> Result<Head<'_>, Faul
         pattern,
         result: Vec::new(alloc),
         word,
-        behind,
+        after,
     })
 }
 
@@ -162,7 +162,7 @@ fn place_named(rules: &Partial<'_>, word: EffectWord, name: &[u8]) -> Option<usi
 }
 
 fn add_on(alloc: Global, rules: &mut Partial<'_>, line: u32, text: &[u8]) -> Result<(), Fault> {
-    let Some((word, behind)) = first_field(text) else {
+    let Some((word, after)) = first_field(text) else {
         return Err(bad_line());
     };
     let Some(event) = event_named(word) else {
@@ -172,9 +172,9 @@ fn add_on(alloc: Global, rules: &mut Partial<'_>, line: u32, text: &[u8]) -> Res
         pattern,
         result,
         word,
-        behind,
-    } = head_of(alloc, event, behind)?;
-    let (name, amount) = two_fields(behind)?;
+        after,
+    } = head_of(alloc, event, after)?;
+    let (name, amount) = two_fields(after)?;
     if is_of_sum(word) && event != Event::Turn {
         return Err(bad_line());
     }
@@ -232,15 +232,15 @@ fn sign_of(sign: &[u8]) -> Option<bool> {
 fn signed_names(alloc: Global, text: &[u8]) -> Result<Vec<SignedName<'_>>, Fault> {
     let mut names = Vec::new(alloc);
     let mut rest = text;
-    while let Some((sign, behind)) = first_field(rest) {
+    while let Some((sign, after)) = first_field(rest) {
         let Some(minus) = sign_of(sign) else {
             return Err(bad_line());
         };
-        let Some((name, behind)) = first_field(behind) else {
+        let Some((name, after)) = first_field(after) else {
             return Err(bad_line());
         };
         push(&mut names, SignedName { minus, name })?;
-        rest = behind;
+        rest = after;
     }
     Ok(names)
 }
@@ -327,15 +327,15 @@ fn add_range(rules: &mut Partial<'_>, line: u32, at: &[u8], text: &[u8]) -> Resu
 }
 
 fn add_always(alloc: Global, rules: &mut Partial<'_>, line: u32, text: &[u8]) -> Result<(), Fault> {
-    let Some((byte, behind)) = first_field(text) else {
+    let Some((byte, after)) = first_field(text) else {
         return Err(bad_line());
     };
     let Some(at) = inside(byte, b"SB") else {
         return Err(bad_line());
     };
-    match first_field(behind) {
+    match first_field(after) {
         Some((sign, rest)) if sign == b"=".as_slice() => add_balance(alloc, rules, line, at, rest),
-        _ => add_range(rules, line, at, behind),
+        _ => add_range(rules, line, at, after),
     }
 }
 
@@ -347,17 +347,17 @@ fn add_rule<'a>(
     line: u32,
     text: &'a [u8],
 ) -> Result<(), Fault> {
-    let Some((word, behind)) = first_field(text) else {
+    let Some((word, after)) = first_field(text) else {
         return Err(bad_line());
     };
     match word {
         b"move" => Ok(()),
-        b"app" => add_app(source, rules, behind),
-        b"allow" => add_named(&mut rules.allowances, behind),
-        b"sum" => add_named(&mut rules.sums, behind),
-        b"on" => add_on(alloc, rules, line, behind),
-        b"never" => add_never(rules, line, behind),
-        b"always" => add_always(alloc, rules, line, behind),
+        b"app" => add_app(source, rules, after),
+        b"allow" => add_named(&mut rules.allowances, after),
+        b"sum" => add_named(&mut rules.sums, after),
+        b"on" => add_on(alloc, rules, line, after),
+        b"never" => add_never(rules, line, after),
+        b"always" => add_always(alloc, rules, line, after),
         _ => Err(bad_line()),
     }
 }
@@ -370,11 +370,11 @@ fn add_line<'a>(
     number: u32,
     line: &'a [u8],
 ) -> Result<(), Fault> {
-    let Some((mark, behind)) = first_field(line) else {
+    let Some((mark, after)) = first_field(line) else {
         return Ok(());
     };
     match mark {
-        b"#@" => add_rule(alloc, source, rules, number, behind),
+        b"#@" => add_rule(alloc, source, rules, number, after),
         [b'#', b'@', ..] => Err(bad_line()),
         _ => Ok(()),
     }
@@ -400,7 +400,7 @@ fn read_lines<'a>(alloc: Global, source: &Source<'a>) -> Result<Partial<'a>, Rul
     let mut inside = false;
     let mut number: u32 = 0;
     let mut rest = source.text;
-    while let Some((line, behind)) = next_line(rest) {
+    while let Some((line, after)) = next_line(rest) {
         number = number.saturating_add(1);
         if !inside {
             match add_line(alloc, source, &mut rules, number, line) {
@@ -409,7 +409,7 @@ fn read_lines<'a>(alloc: Global, source: &Source<'a>) -> Result<Partial<'a>, Rul
             }
         }
         inside = stays_inside(inside, line);
-        rest = behind;
+        rest = after;
     }
     Ok(rules)
 }
