@@ -16,6 +16,7 @@ use Rattle.mc_manager.specs.declared.selection.Selection.{Selection}
 use Rattle.mc_manager.specs.CommandDue.{most_ticks}
 use Rattle.mc_machine.specs.declared.outcome.End.{End}
 use Rattle.mc_machine.specs.declared.outcome.Outcome.{Outcome}
+use Rattle.mc_machine.specs.Places.{Runs, IsBegun}
 use Rattle.mc_machine.specs.Chains.{Chained, RunsAs, ChainWrote}
 use Rattle.mc_machine.specs.Turns.{outcome_value, outcome_by, reply_or_stop}
 use Rattle.mc_store.specs.declared.store.Store.{Store}
@@ -276,6 +277,12 @@ module _ {N : Type 0} (state : N → DeviceState) (wrote : N → ℕ → List �
       subst (λ (x : Card N). PassedToChain state wrote c bytes budget (record x { chain = Some k })) (sym p.unchanged)
       (begun_done c ready p.selected p.is a budget slot bytes k p.slot_is read p.route
       (subst (λ (x : Card N). RunsAs (view_in state x).state (view_in state x).named k (start (apps_in (state x.store.device).words) (name_or (store_named (state x.store.device) slot)) x.session a)) p.unchanged runs) left)
+
+  -- the chain that runs on the card after a command is passed to it
+  pub passed_running : (c d : Card N) (a : ApduParts) (slot budget : ℕ) (bytes : List ℕ) (o : Option Chained) → IsReadyCard state c → IsPassed state wrote c a slot d → apdu_read bytes ≡ Some a
+      → Runs o (IsBegun (view_in state d).state (view_in state d).named (start (apps_in (state d.store.device).words) (name_or (store_named (state d.store.device) slot)) d.session a) budget) → PassedToChain state wrote c bytes budget (record d { chain = o })
+  passed_running c d a slot budget bytes None ready p read begun = absurd begun
+  passed_running c d a slot budget bytes (Some k) ready p read begun = passed_begun c d a slot budget bytes k ready p read begun.runs begun.left
 
 -- ---- a command whose outcome was written to a place
 

@@ -17,6 +17,7 @@ use Rattle.mc_card.specs.declared.card.Card.{Card}
 use Rattle.mc_machine.specs.declared.outcome.Outcome.{Outcome}
 use Rattle.mc_machine.specs.declared.outcome.Turn.{Turn}
 use Rattle.mc_machine.specs.Chains.{Chained, RunsAs, ChainWrote, session_in}
+use Rattle.mc_machine.specs.Places.{Runs, TurnsTo}
 use Rattle.mc_machine.specs.Turns.{Follow, TurnActs, TurnDone, WritesFew, outcome_value}
 use Rattle.mc_card.specs.Ends.{TurnGoesOn, ChainTurned}
 use Rattle.mc_card.specs.ItemWrites.{ItemsMade}
@@ -32,6 +33,13 @@ use Rattle.mc_card.proofs.StoreBank.{store_bank}
 -- the card with these parts
 abbrev pub card_of : {N : Type 0} → Store N → ManagerState → List ℕ → Option Chained → Card N
 card_of store manager session chain = record { store = store; manager = manager; session = session; chain = chain }
+
+-- the card whose chain has ended, by the place of the chain and the session bytes that are written
+pub end_card : {N : Type 0} (store : Store N) (manager : ManagerState) (o : Option Chained) (d : Chained) (p : Option Chained) (session : List ℕ) → o ≡ Some d → p ≡ None → Runs o (λ k. session ≡ session_in k)
+    → card_of store manager session p ≡ card_of store manager (session_in d) None
+end_card store manager o d p session is none ends =
+    let same : session ≡ session_in d = subst (λ (x : Option Chained). Runs x (λ k. session ≡ session_in k)) is ends in
+    ap (λ (x : Option Chained). card_of store manager session x) none ∙ ap (λ (s : List ℕ). card_of store manager s None) same
 
 module _ {N : Type 0} (state : N → DeviceState) (wrote : N → ℕ → List ℕ → Answer → N → Type 0)
     (obeys : (d : N) (at : ℕ) (w : List ℕ) (a : Answer) (e : N) → (state d).on ≡ true → wrote d at w a e → DeviceWrote (state d) at w a (state e)) where
@@ -115,6 +123,22 @@ module _ {N : Type 0} (state : N → DeviceState) (wrote : N → ℕ → List �
       turn_ends o some = ends_by t.follows o refl (sym (turn_end left ch) ∙ some)
 
   -- ---- the turn of the code
+
+  -- a turn of the chain that runs on a card, by its result and the number of steps before and after it
+  pub record PlaceTurned (c : Card N) (o : Option Chained) (e : Store N) (result : Result Turn Stop) (old new : ℕ) : Type 0 where
+    pub before : Chained
+    pub was : c.chain ≡ Some before
+    pub after : Chained
+    pub is : o ≡ Some after
+    pub turns : TurnsTo (store_bank state wrote) c.store e result old new before after
+
+  pub place_turned : (c : Card N) (o : Option Chained) (e : Store N) (result : Result Turn Stop) (old new : ℕ) → Runs c.chain (λ k. Runs o (TurnsTo (store_bank state wrote) c.store e result old new k)) → PlaceTurned c o e result old new
+  place_turned c o e result old new turned = split c.chain o refl refl turned
+    where
+      split : (x y : Option Chained) → c.chain ≡ x → o ≡ y → Runs x (λ k. Runs y (TurnsTo (store_bank state wrote) c.store e result old new k)) → PlaceTurned c o e result old new
+      split None y was is turned = absurd turned
+      split (Some k) None was is turned = absurd turned
+      split (Some k) (Some d) was is turned = record { before = k; was = was; after = d; is = is; turns = turned }
 
   module _ (c : Card N) (k : Chained) (is : c.chain ≡ Some k) (e : Store N) (d : Chained) where
     -- the card whose chain continues, and the card whose chain has ended

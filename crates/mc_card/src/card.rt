@@ -19,7 +19,7 @@ use arrayvec::ArrayVec;
 use mc_apdu::{Reply, parse};
 use mc_bank::Bank;
 use mc_base::{Aid, Steps, Stop};
-use mc_machine::{Chain, End, Outcome, Turn, begin, run_into, turn};
+use mc_machine::{ChainPlace, End, Outcome, Turn, run_into};
 use mc_manager::Manager;
 use mc_nvm::Nvm;
 use mc_segs::{Abend, Session};
@@ -33,7 +33,7 @@ pub struct Card<N: Nvm> {
     pub(crate) store: Store<N>,
     pub(crate) manager: Manager,
     pub(crate) session: Session,
-    pub(crate) chain: Option<Chain>,
+    pub(crate) chain: ChainPlace,
 }
 
 impl<N: Nvm> Card<N> {
@@ -78,7 +78,7 @@ impl<N: Nvm> Card<N> {
             store: Store::asleep(dev),
             manager: Manager::new(),
             session: Session::new(0),
-            chain: None,
+            chain: ChainPlace::new(),
         }
     }
 
@@ -109,20 +109,8 @@ impl<N: Nvm> Card<N> {
         let writes = self.store.restart()?;
         self.manager = Manager::new();
         self.session = Session::new(0);
-        if self.chain.is_some() {
-            self.end_chain();
-        }
+        self.chain.clear();
         Ok(writes)
-    }
-
-    // Ends the chain. It is a call of its own because a chain is large and its place is cleared where it is
-    // made.
-    #[cold]
-    #[inline(never)]
-    fn end_chain(&mut self)
-        ensures { self.new ≡ record self.old { chain = None } }
-    {
-        self.chain = None;
     }
 
     /// Runs one command, `bytes` as they come (ISO/IEC 7816-4), and returns its outcome: a reply, or the abend of the
@@ -321,7 +309,8 @@ impl<N: Nvm> Card<N> {
         match self.direct(&apdu, &mut reply, steps)? {
             None => Ok(Some(Outcome::Reply(reply))),
             Some(slot) => {
-                self.chain = Some(begin(&self.store, slot, &self.session, &apdu, budget));
+                self.chain
+                    .begin(&self.store, slot, &self.session, &apdu, budget);
                 Ok(None)
             }
         }
@@ -348,11 +337,9 @@ impl<N: Nvm> Card<N> {
         ensures ended { Ended (answer_of result) (N.state (device_in self.old)) (N.state (device_in self.new)) }
         ensures keeps_device { N.same (device_in self.old) (device_in self.new) }
     {
-        let chain = self.chain.as_mut().unwrap();
-        let reported = turn(&mut self.store, chain, steps)?;
+        let reported = self.chain.turn(&mut self.store, steps)?;
         if reported.end.is_some() {
-            self.session = chain.session();
-            self.chain = None;
+            self.chain.end(&mut self.session);
         }
         Ok(reported)
     }

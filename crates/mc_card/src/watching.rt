@@ -11,7 +11,7 @@ impl<N: Nvm> Card<N> {
     pub fn chain(&self) -> Option<&Chain>
         ensures { option_map (λ c. c.now) result ≡ self.now.chain }
     {
-        self.chain.as_ref()
+        self.chain.running()
     }
 
     /// Returns the bank of the applications.

@@ -78,6 +78,43 @@ pub fn first_frame<B: Bank>(bank: &B, first: Slot, session: &Session) -> Frame
 }
 
 impl Chain {
+    /// Makes this chain the one that `begin` returns, in place to avoid moving it.
+    pub(crate) fn begin_again<B: Bank>(
+        &mut self,
+        bank: &B,
+        first: Slot,
+        session: &Session,
+        apdu: &Apdu,
+        budget: u32,
+    )
+        requires going { (B.state bank.now).stopped ≡ false }
+        requires there { IsSome (B.named bank.now first) }
+        requires session { length session.now ≡ (app_of (B.state bank.now).apps (B.named bank.now first)).session }
+        requires some { 1 ≤ budget }
+        requires budget { budget ≤ 65536 }
+        requires data { length apdu.now.body.now ≤ 1024 }
+        ensures runs { RunsAs (B.state bank.now) (B.named bank.now) self.new
+            (start (B.state bank.now).apps (name_or (B.named bank.now first)) session.now (parts_of apdu.now)) }
+        ensures left { self.new.left ≡ budget }
+    {
+        self.running = first_frame(bank, first, session);
+        self.waiting.clear();
+        self.public = Public::new(apdu);
+        self.case = apdu.case();
+        self.le = apdu.le.unwrap_or(0);
+        self.left = budget;
+    }
+
+    /// Writes the present session bytes of the first frame to `session`.
+    pub(crate) fn keep_session(&self, session: &mut Session)
+        ensures { session.new ≡ session_in self.now }
+    {
+        match &self.waiting.first {
+            Some(first) => first.keep_session(session),
+            None => self.running.keep_session(session),
+        }
+    }
+
     /// Returns the present session bytes of the first frame.
     pub fn session(&self) -> Session
         ensures { result ≡ session_in self.now }

@@ -67,6 +67,26 @@ impl Waiting {
         }
     }
 
+    /// Removes all frames.
+    pub fn clear(&mut self)
+        ensures { self.new ≡ [] }
+    {
+        if self.first.is_some() {
+            self.remove_all();
+        }
+    }
+
+    // Removes all frames. It is a call of its own because the place of a frame is cleared where it is emptied.
+    #[cold]
+    #[inline(never)]
+    fn remove_all(&mut self)
+        ensures { self.new ≡ [] }
+    {
+        self.first = None;
+        self.second = None;
+        self.third = None;
+    }
+
     /// Adds a frame, which delegated last. There are at most two frames before.
     pub fn push(&mut self, frame: Frame)
         requires { length self.old < 3 }

@@ -9,7 +9,7 @@ use Rattle.mc_machine.specs.declared.outcome.Outcome.TheVariants as outcome
 use Rattle.mc_card.specs.Managing.{Directs}
 use Rattle.mc_card.specs.Parts.{device_in}
 use Rattle.mc_card.specs.Ends.{Begun}
-use Rattle.mc_card.proofs.CommandLemmas.{wrong_begun, answered_begun, passed_session, passed_begun}
+use Rattle.mc_card.proofs.CommandLemmas.{wrong_begun, answered_begun, passed_session, passed_running}
 use Rattle.mc_card.proofs.DeviceLemmas.{commanded_ended, none_ended}
 use Rattle.mc_card.proofs.card.Card.begin.Goals as goal
 
@@ -43,9 +43,9 @@ pub returns-in-Some-clause-done : goal.returns-in-Some-clause-done
 returns-in-Some-clause-done g c =
     let old = c.args.self.now in
     let a = parts_of c.in-Ok.apdu in
-    passed_begun g.N.Nvm.state g.N.Nvm.wrote g.met.N.Nvm.obeys old c.direct.new.self a c.in-Some.slot c.args.budget c.args.bytes.now c.begin.result c.requires.ready
+    passed_running g.N.Nvm.state g.N.Nvm.wrote g.met.N.Nvm.obeys old c.direct.new.self a c.in-Some.slot c.args.budget c.args.bytes.now c.begin.new.self c.requires.ready
     (subst (λ (x : Option ℕ). Directs g.N.Nvm.state g.N.Nvm.wrote old a (Ok x) c.direct.new.reply c.direct.new.self) c.in-Some.is c.in_ok-direct.ensures.done)
-    c.in-Ok.ensures.read c.begin.ensures.runs c.begin.ensures.left
+    c.in-Ok.ensures.read c.begin.ensures
 
 pub returns-in_default-clause-ended : goal.returns-in_default-clause-ended
 returns-in_default-clause-ended g c =
@@ -64,4 +64,4 @@ returns-in-None-clause-ended g c =
 
 pub returns-in-Some-clause-ended : goal.returns-in-Some-clause-ended
 returns-in-Some-clause-ended g c =
-    none_ended g.N.Nvm.state g.N.Nvm.wrote g.met.N.Nvm.obeys c.args.self.now (record c.direct.new.self { chain = Some c.begin.result }) c.requires.ready.up (returns-in-Some-clause-done g c).device
+    none_ended g.N.Nvm.state g.N.Nvm.wrote g.met.N.Nvm.obeys c.args.self.now (record c.direct.new.self { chain = c.begin.new.self }) c.requires.ready.up (returns-in-Some-clause-done g c).device
