@@ -22,6 +22,7 @@ from typing import Dict, Iterator, List, Tuple
 
 import card
 import labtexts
+import prove_html
 import sweep_svg
 from labtexts import BadText, Job
 from tear import Names, name_at
@@ -187,9 +188,11 @@ def explored(job: Job) -> Iterator[str]:
 
 
 def proved(job: Job) -> Iterator[str]:
-    """The rules that were not proved."""
-    if job.text.unproved:
-        yield "<pre>" + escape("\n".join(line for _, line in job.text.unproved)) + "</pre>"
+    """The rules that were not proved, with the ways to them, and the keys between commands as a matrix."""
+    text = labtexts.read(str(job.path)) if job.path.is_file() else ""
+    draft = job.source.with_suffix(".draft")
+    yield from prove_html.faults(text)
+    yield from prove_html.matrix(text, prove_html.names_in(card.text_of(draft)) if draft.is_file() else [])
 
 
 def mutants(folder: Path) -> Iterator[str]:
@@ -213,7 +216,7 @@ def page(title: str, jobs: List[Job], folder: Path) -> Iterator[str]:
     """The whole page."""
     kinds = [verdict(job)[1] for job in jobs]
     yield f'<!DOCTYPE html>\n<html lang="en"><head><meta charset="utf-8"><title>{escape(title)}</title>'
-    yield f'<meta name="viewport" content="width=device-width, initial-scale=1"><style>{STYLE}</style></head><body>'
+    yield f'<meta name="viewport" content="width=device-width, initial-scale=1"><style>{STYLE}{prove_html.STYLE}</style></head><body>'
     yield f"<h1>{escape(title)}</h1>"
     writes, decks = sum(it.writes for job in jobs for it in job.text.swept), len({job.deck for job in jobs})
     sums = [(decks, "deck" if decks == 1 else "decks", ""), (len(jobs), "run" if len(jobs) == 1 else "runs", ""),

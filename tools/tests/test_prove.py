@@ -497,6 +497,11 @@ def proves(victim):
     return done.returncode, done.stdout
 
 
+def without_help(text):
+    """A text without what follows ` ; ` in its lines."""
+    return [line.partition(" ; ")[0] for line in text.splitlines()]
+
+
 def test_the_texts_of_decks_are_those_of_another_program():
     with tarfile.open(DECKS) as packed:
         files = {pathlib.PurePath(it.name).name: packed.extractfile(it).read() for it in packed.getmembers() if it.isfile()}
@@ -504,7 +509,7 @@ def test_the_texts_of_decks_are_those_of_another_program():
     assert len(names) == 72
     for name in names:
         done = subprocess.run([program_path("mellab"), "prove"], input=files[f"{name}.deck"], stdout=subprocess.PIPE, timeout=100, check=False)
-        assert done.stdout == files[f"{name}.txt"], name
+        assert without_help(done.stdout.decode()) == without_help(files[f"{name}.txt"].decode()), name
 
 
 @pytest.mark.parametrize("name", VICTIMS)

@@ -84,10 +84,19 @@ pub struct Load<'a> {
     pub session: u16,
 }
 
+/// A line of a section whose code begins at a place.
+#[derive(Clone, Copy, Debug)]
+pub struct CodeLine {
+    pub place: u16,
+    pub line: u32,
+}
+
 /// The rules of a deck for its application, each kind in the order of its lines.
 #[derive(Drop)]
 pub struct Rules<'a> {
     pub load: Load<'a>,
+    /// The lines of its code in the order of their places, none if it is a unit.
+    pub code_lines: Vec<CodeLine>,
     pub allowances: Vec<Named<'a>>,
     pub sums: Vec<Named<'a>>,
     pub ons: Vec<On>,

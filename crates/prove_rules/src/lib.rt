@@ -4,6 +4,7 @@
 
 mod fault;
 mod field;
+mod lines;
 mod load;
 mod parts;
 mod reading;

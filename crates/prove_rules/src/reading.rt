@@ -3,12 +3,13 @@ use crate::fault::{Fault, RuleCause, RuleRefusal};
 use crate::field::{
     amount_field, assembly_number, inside, name_field, range_parts, sum_amount, two_fields,
 };
+use crate::lines::code_lines;
 use crate::load::load_of;
 use crate::parts::{EffectWord, answer_parts, effect_parts, event_named};
 use lab_match::{first_field, stays_inside};
 use mc_deck::{Deck, DeckCause};
 use mc_text::next_line;
-use prove_events::{Always, Balance, Effect, Event, Load, Named, On, Rules, SignedSum};
+use prove_events::{Always, Balance, CodeLine, Effect, Event, Load, Named, On, Rules, SignedSum};
 use prove_facts::push;
 use std::alloc::Global;
 
@@ -23,6 +24,7 @@ struct Source<'a> {
 #[derive(Drop)]
 struct Partial<'a> {
     load: Option<Load<'a>>,
+    code_lines: Vec<CodeLine>,
     allowances: Vec<Named<'a>>,
     sums: Vec<Named<'a>>,
     ons: Vec<On>,
@@ -62,7 +64,12 @@ fn is_refused(load: &Load<'_>) -> bool {
     load.fixed > 4096 || load.data.len() > load.fixed as usize || load.session > 256
 }
 
-fn add_app<'a>(source: &Source<'a>, rules: &mut Partial<'a>, text: &[u8]) -> Result<(), Fault> {
+fn add_app<'a>(
+    alloc: Global,
+    source: &Source<'a>,
+    rules: &mut Partial<'a>,
+    text: &[u8],
+) -> Result<(), Fault> {
     let Some((name, rest)) = first_field(text) else {
         return Err(bad_line());
     };
@@ -80,6 +87,7 @@ fn add_app<'a>(source: &Source<'a>, rules: &mut Partial<'a>, text: &[u8]) -> Res
         return Err(cause(DeckCause::OutOfRange));
     }
     rules.load = Some(load);
+    rules.code_lines = code_lines(alloc, source.text, name)?;
     Ok(())
 }
 
@@ -352,7 +360,7 @@ fn add_rule<'a>(
     };
     match word {
         b"move" => Ok(()),
-        b"app" => add_app(source, rules, after),
+        b"app" => add_app(alloc, source, rules, after),
         b"allow" => add_named(&mut rules.allowances, after),
         b"sum" => add_named(&mut rules.sums, after),
         b"on" => add_on(alloc, rules, line, after),
@@ -390,6 +398,7 @@ fn refusal_at(number: u32, fault: Fault) -> RuleRefusal {
 fn read_lines<'a>(alloc: Global, source: &Source<'a>) -> Result<Partial<'a>, RuleRefusal> {
     let mut rules = Partial {
         load: None,
+        code_lines: Vec::new(alloc),
         allowances: Vec::new(alloc),
         sums: Vec::new(alloc),
         ons: Vec::new(alloc),
@@ -428,6 +437,7 @@ pub fn read_rules<'a>(
 ) -> Result<Rules<'a>, RuleRefusal> {
     let Partial {
         load,
+        code_lines,
         allowances,
         sums,
         ons,
@@ -438,6 +448,7 @@ pub fn read_rules<'a>(
     match load {
         Some(load) => Ok(Rules {
             load,
+            code_lines,
             allowances,
             sums,
             ons,

@@ -15,5 +15,7 @@ mod searching;
 mod subject;
 mod tables;
 mod text;
+mod way_text;
+mod ways;
 
 pub use proving::{Verdict, prove};

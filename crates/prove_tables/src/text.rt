@@ -5,6 +5,8 @@ ghost use Rattle.prove_tables.specs.Reports.{is_of_lines, verdict_words, IsRepor
 use crate::keys::{Break, MomentKey, Rule};
 use crate::subject::{Subject, code_of};
 use crate::tables::{Tables, all_keep};
+use crate::way_text::add_way;
+use crate::ways::{Key, Walk, walk_to_faults};
 use itoa::Buffer;
 use mc_base::{NoMemory, bytes_of};
 use mc_isa::{decode, text_of};
@@ -14,14 +16,24 @@ use prove_outcomes::DYNAMIC;
 use std::alloc::Global;
 use std::collections::BTreeMap;
 
-fn add(text: &mut Vec<u8>, piece: &[u8]) -> Result<(), NoMemory>
+/// Adds bytes to a text.
+///
+/// # Errors
+///
+/// Returns `NoMemory` if it is out of memory.
+pub fn add(text: &mut Vec<u8>, piece: &[u8]) -> Result<(), NoMemory>
     ensures { OnOk result (text.new.items ≡ text.old.items ++ piece.now) }
 {
     text.extend_from_slice(piece)?;
     Ok(())
 }
 
-fn add_number(text: &mut Vec<u8>, number: u64) -> Result<(), NoMemory>
+/// Adds a number in decimal.
+///
+/// # Errors
+///
+/// Returns `NoMemory` if it is out of memory.
+pub fn add_number(text: &mut Vec<u8>, number: u64) -> Result<(), NoMemory>
     ensures { OnOk result (text.new.items ≡ text.old.items ++ decimal number) }
 {
     let mut buffer = Buffer::new();
@@ -39,7 +51,12 @@ fn add_byte(text: &mut Vec<u8>, byte: u8) -> Result<(), NoMemory> {
     add(text, &[digit(byte / 16), digit(byte % 16)])
 }
 
-fn add_word(text: &mut Vec<u8>, word: u16) -> Result<(), NoMemory> {
+/// Adds a number in four hexadecimal digits.
+///
+/// # Errors
+///
+/// Returns `NoMemory` if it is out of memory.
+pub fn add_word(text: &mut Vec<u8>, word: u16) -> Result<(), NoMemory> {
     let [high, low] = bytes_of(word);
     add_byte(text, high)?;
     add_byte(text, low)
@@ -69,7 +86,12 @@ fn is_end(values: &Values, value: u8) -> bool {
     value == 255 || !values.has(value.saturating_add(1))
 }
 
-fn add_values(text: &mut Vec<u8>, values: &Values) -> Result<(), NoMemory> {
+/// Adds the values of a set in two hexadecimal digits, runs of them by the first and the last.
+///
+/// # Errors
+///
+/// Returns `NoMemory` if it is out of memory.
+pub fn add_values(text: &mut Vec<u8>, values: &Values) -> Result<(), NoMemory> {
     let mut low = 0;
     let mut first = true;
     let mut inside = false;
@@ -231,7 +253,32 @@ fn add_place(text: &mut Vec<u8>, subject: &Subject<'_>, at: u16) -> Result<(), N
     Ok(())
 }
 
-fn add_break(text: &mut Vec<u8>, subject: &Subject<'_>, broken: &Break) -> Result<(), NoMemory>
+// The way to a key, if there is one.
+fn add_way_to(
+    alloc: Global,
+    text: &mut Vec<u8>,
+    subject: &Subject<'_>,
+    tables: &Tables,
+    walk: &Walk,
+    key: Option<Key>,
+) -> Result<(), NoMemory> {
+    match key {
+        Some(key) => {
+            let way = walk.way_to(alloc, key)?;
+            add_way(alloc, text, subject, tables, way.as_slice())
+        }
+        None => Ok(()),
+    }
+}
+
+fn add_break(
+    alloc: Global,
+    text: &mut Vec<u8>,
+    subject: &Subject<'_>,
+    tables: &Tables,
+    walk: &Walk,
+    broken: &Break,
+) -> Result<(), NoMemory>
     ensures { OnOk result (is_of_lines text.new.items ≡ true) }
 {
     add(text, b"broken ")?;
@@ -241,34 +288,55 @@ fn add_break(text: &mut Vec<u8>, subject: &Subject<'_>, broken: &Break) -> Resul
     if let Some(at) = broken.at {
         add_place(text, subject, at)?;
     }
+    add_way_to(alloc, text, subject, tables, walk, walk.at_break(broken))?;
     end_line(text)
 }
 
-fn add_breaks(text: &mut Vec<u8>, subject: &Subject<'_>, tables: &Tables) -> Result<(), NoMemory>
+fn add_breaks(
+    alloc: Global,
+    text: &mut Vec<u8>,
+    subject: &Subject<'_>,
+    tables: &Tables,
+    walk: &Walk,
+) -> Result<(), NoMemory>
     requires { is_of_lines text.old.items ≡ true }
     ensures { OnOk result (is_of_lines text.new.items ≡ true) }
 {
     for broken in &tables.broken {
-        add_break(text, subject, broken)?;
+        add_break(alloc, text, subject, tables, walk, broken)?;
     }
     Ok(())
 }
 
 // The line of a place of unknown control.
-fn add_unknown_place(text: &mut Vec<u8>, at: u16) -> Result<(), NoMemory>
+fn add_unknown_place(
+    alloc: Global,
+    text: &mut Vec<u8>,
+    subject: &Subject<'_>,
+    tables: &Tables,
+    walk: &Walk,
+    at: u16,
+) -> Result<(), NoMemory>
     ensures { OnOk result (is_of_lines text.new.items ≡ true) }
 {
     add(text, b"unknown ")?;
     add_word(text, at)?;
+    add_way_to(alloc, text, subject, tables, walk, walk.at_unknown(at))?;
     end_line(text)
 }
 
-fn add_unknown(text: &mut Vec<u8>, tables: &Tables) -> Result<(), NoMemory>
+fn add_unknown(
+    alloc: Global,
+    text: &mut Vec<u8>,
+    subject: &Subject<'_>,
+    tables: &Tables,
+    walk: &Walk,
+) -> Result<(), NoMemory>
     requires { is_of_lines text.old.items ≡ true }
     ensures { OnOk result (is_of_lines text.new.items ≡ true) }
 {
     for at in &tables.unknown {
-        add_unknown_place(text, *at)?;
+        add_unknown_place(alloc, text, subject, tables, walk, *at)?;
     }
     Ok(())
 }
@@ -319,6 +387,24 @@ pub fn break_ranges(subject: &Subject<'_>, tables: &mut Tables) -> Result<(), No
     Ok(())
 }
 
+// The lines of what is broken or not known, if anything is.
+fn add_faults(
+    alloc: Global,
+    text: &mut Vec<u8>,
+    subject: &Subject<'_>,
+    tables: &Tables,
+) -> Result<(), NoMemory>
+    requires { is_of_lines text.old.items ≡ true }
+    ensures { OnOk result (is_of_lines text.new.items ≡ true) }
+{
+    if tables.broken.is_empty() && tables.unknown.is_empty() {
+        return Ok(());
+    }
+    let walk = walk_to_faults(alloc, subject, tables)?;
+    add_breaks(alloc, text, subject, tables, &walk)?;
+    add_unknown(alloc, text, subject, tables, &walk)
+}
+
 /// Returns the text of tables, whose last line says whether all rules are proved.
 ///
 /// # Errors
@@ -334,8 +420,7 @@ pub fn text_of_tables(
 {
     let mut text = Vec::new(alloc);
     add_moments(alloc, &mut text, subject, tables)?;
-    add_breaks(&mut text, subject, tables)?;
-    add_unknown(&mut text, tables)?;
+    add_faults(alloc, &mut text, subject, tables)?;
     add_verdict(&mut text, proved, tables.keys())?;
     Ok(text)
 }
