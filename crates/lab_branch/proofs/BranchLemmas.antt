@@ -129,6 +129,18 @@ returned_by p m n root m1 root1 list1 h none em er el len set =
     returned p m n root h none (len ∙ ap (λ (k : List (List ℕ)). length k) em)
     (subst (λ (l : List ℕ). SetsAt l m root n) el (subst (λ (r : List (List ℕ)). SetsAt list1 m r n) er (subst (λ (k : List (List ℕ)). SetsAt list1 k root1 n) em set)))
 
+-- ---- the words of the device as the root
+
+pub copied : (p : Places) (m n root : List (List ℕ)) (list1 : List ℕ) → IsBranch p m root → p.all ≡ false → list1 ≡ p.list → length n ≡ length root
+    → ((i : ℕ) → i < length m → IsListed i list1 ⊎ (slice_index_or m i [] ≡ slice_index_or root i []) → slice_index_or m i [] ≡ slice_index_or n i []) → n ≡ m
+copied p m n root list1 h none el len set =
+    words_same n m (len ∙ h.len) (λ i lt.
+    let below : i < length m = subst (λ (k : ℕ). i < k) (len ∙ h.len) lt in
+    sym (elim (h.differs i below) [
+      | inl place ↦ elim place [ inl all ↦ absurd (cc (sym all ∙ none)) | inr listed ↦ set i below (inl (subst (λ (l : List ℕ). IsListed i l) (sym el) listed)) ]
+      | inr same ↦ set i below (inr same)
+    ]))
+
 -- ---- a new device
 
 pub blank_not : (p : Places) (s : Sim) (n : ℕ) (root : List (List ℕ)) → p ≡ no_places → s ≡ blank_sim n → root ≡ blank_words n → IsBranch p s.words root

@@ -3,7 +3,7 @@ ghost use Rattle.std.specs.Prelude.{◌≡◌, ◌⊎◌, ℕ, ◌<◌, [], leng
 ghost use Rattle.model_device.specs.Bytes.{zeros};
 ghost use Rattle.model_device.specs.Image.{image_with};
 ghost use Rattle.model_device.specs.Device.{device_words, blank_words};
-ghost use Rattle.lab_branch.specs.Branches.{IsListed, blank_branch, HasWords, AreOfEither, HasOneMore};
+ghost use Rattle.lab_branch.specs.Branches.{IsBranch, IsListed, blank_branch, HasWords, AreOfEither, HasOneMore};
 
 use crate::growth::push;
 use crate::places::Places;
@@ -47,6 +47,35 @@ fn copy_words(device: &SimNvm, words: &mut [Word])
         let word = device.read(place);
         words[place as usize] = word;
     }
+}
+
+// Copies the words of a device at some places, if it has them.
+fn copy_at(device: &SimNvm, words: &mut [Word], places: &[u16])
+    requires { length words.old ≡ length device.now.words }
+    ensures len { length words.new ≡ length words.old }
+    ensures words { (i : ℕ) → i < length device.now.words
+        → IsListed i places.now ⊎ (slice_index_or device.now.words i [] ≡ slice_index_or words.old i [])
+        → slice_index_or device.now.words i [] ≡ slice_index_or words.new i [] }
+{
+    let count = device.len();
+    for place in places {
+        if (*place as u32) < count {
+            let word = device.read(*place as u32);
+            words[*place as usize] = word;
+        }
+    }
+}
+
+// Copies the words of a device to words that differ from them at some places alone.
+fn copy_changed(device: &SimNvm, words: &mut [Word], changed: &Places)
+    requires { IsBranch changed.now device.now.words words.old }
+    ensures { words.new ≡ device.now.words }
+{
+    if changed.are_all() {
+        copy_words(device, words);
+        return;
+    }
+    copy_at(device, words, changed.list());
 }
 
 // Sets all words of a device.
@@ -99,11 +128,11 @@ impl BranchNvm {
         })
     }
 
-    /// Makes the words of the device its root.
+    /// Makes the words of the device its root, at the cost of those that changed.
     pub fn take_root(&mut self)
         ensures { self.new ≡ record self.old { root = self.old.device.words } }
     {
-        copy_words(&self.device, self.root.as_mut_slice());
+        copy_changed(&self.device, self.root.as_mut_slice(), &self.changed);
         self.changed.clear();
     }
 
