@@ -17,17 +17,18 @@ pub data SeenAlike : State → State → Type 0 where
   NotYet : (m k : List (List ℕ)) (budget : ℕ) (armed : Armed) → MeanAlike m k → SeenAlike (BeforePower m budget armed) (BeforePower k budget armed)
   Same : (s : State) → SeenAlike s s
 
--- two steps that write the same text, and leave states alike
+-- two steps that write the same text, make as many device writes, and leave states alike
 pub record StepsAlike (t u : Step) : Type 0 where
   pub text : plain_text t ≡ plain_text u
   pub traced : traced_text t ≡ traced_text u
+  pub writes : t.moves ≡ u.moves
   pub after : SeenAlike t.after u.after
 
 -- the play that the first power line finds, by what it sees of the image
 abbrev pub found : ℕ → Armed → Base → ℕ → Journal → Warm
 found budget armed base recovery journal = record { base = base; owed = recovery; by = journal; live = Unpowered; budget = budget; armed = armed }
 
-found_alike : (m k : List (List ℕ)) (budget : ℕ) (armed : Armed) → MeanAlike m k → play_at_power m budget armed ≡ play_at_power k budget armed
+pub found_alike : (m k : List (List ℕ)) (budget : ℕ) (armed : Armed) → MeanAlike m k → play_at_power m budget armed ≡ play_at_power k budget armed
 unfolding play_at_power
 found_alike m k budget armed alike =
     ap (λ (b : Base). found budget armed b (count_of_recovery_writes m) (pending_journal (which m))) alike.base
@@ -39,7 +40,7 @@ power_alike : (n : ℕ) (m k : List (List ℕ)) (b : ℕ) (a : Armed) (w : Optio
     → StepsAlike (power_step n (BeforePower m b a) s (hit_of a (power_moves s) w)) (power_step n (BeforePower k b a) t (hit_of a (power_moves t) w))
 power_alike n m k b a w s t same =
     subst (λ (t : Warm). StepsAlike (power_step n (BeforePower m b a) s (hit_of a (power_moves s) w)) (power_step n (BeforePower k b a) t (hit_of a (power_moves t) w))) same
-    (record { text = refl; traced = refl; after = Same _ })
+    (record { text = refl; traced = refl; writes = refl; after = Same _ })
 
 -- a line before the first power line, or that line
 before_alike : (n : ℕ) (l : DeckLine) (m k : List (List ℕ)) (b : ℕ) (a : Armed) (w : Option FailedWrite) → MeanAlike m k → writes_words l ≡ false → StepsAlike (step (BeforePower m b a) (n, l) w) (step (BeforePower k b a) (n, l) w)
@@ -47,12 +48,12 @@ unfolding step
 before_alike n line.Format m k b a w alike none = absurd (cc none)
 before_alike n (line.Poke at x) m k b a w alike none = absurd (cc none)
 before_alike n line.Power m k b a w alike none = power_alike n m k b a w (play_at_power m b a) (play_at_power k b a) (found_alike m k b a alike)
-before_alike n _ m k b a w alike none = record { text = refl; traced = refl; after = NotYet m k _ _ alike }
+before_alike n _ m k b a w alike none = record { text = refl; traced = refl; writes = refl; after = NotYet m k _ _ alike }
 
 -- one line from states that are alike
-step_alike : (s z : State) (l : ℕ × DeckLine) (w : Option FailedWrite) → SeenAlike s z → writes_words l.1 ≡ false → StepsAlike (step s l w) (step z l w)
+pub step_alike : (s z : State) (l : ℕ × DeckLine) (w : Option FailedWrite) → SeenAlike s z → writes_words l.1 ≡ false → StepsAlike (step s l w) (step z l w)
 step_alike _ _ l w (NotYet m k b a alike) none = before_alike l.0 l.1 m k b a w alike none
-step_alike _ _ l w (Same s) none = record { text = refl; traced = refl; after = Same _ }
+step_alike _ _ l w (Same s) none = record { text = refl; traced = refl; writes = refl; after = Same _ }
 
 -- the texts of plays from states that are alike
 pub record PlaysAlike (ts us : List Step) : Type 0 where

@@ -1,2 +1,4 @@
-mod Alike
 mod FreeWords
+mod Alike
+mod OnDevice
+mod Possible

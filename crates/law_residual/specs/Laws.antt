@@ -1,15 +1,16 @@
 -- No residual information: of a device's words a play shows the card that they mean, and nothing else.
-use Rattle.std.specs.Prelude.{◌≡◌, ℕ, Bool, true, false, List, length, take, drop, Option}
+use Rattle.std.specs.Prelude.{◌≡◌, ℕ, ◌+◌, Bool, true, false, nat_le, List, ◌∷◌, ◌++◌, length, take, drop, Option, Some}
 use Rattle.std.specs.List.{AllByRecursion}
 use Rattle.model_device.specs.Card.{word, blocks, Block}
 use Rattle.model_device.specs.Image.{count_of_recovery_writes, which, Neither}
 use Rattle.model_device.specs.Layout.{fault, IsWellLaid}
-use Rattle.model_device.specs.PowerUp.{base_of, pending_journal}
+use Rattle.model_device.specs.PowerUp.{base_of, migration, pending_journal}
 use Rattle.model_play.specs.DeckGrammar.{DeckLine}
 use Rattle.model_play.specs.DeckGrammar as line
-use Rattle.model_play.specs.Play.{plays, start, FailedWrite}
-use Rattle.model_play.specs.Transcript.{transcript}
+use Rattle.model_play.specs.Play.{plays, start, FailedWrite, Possible, Step, power_result}
+use Rattle.model_play.specs.Transcript.{line_text, transcript}
 use Rattle.model_play.specs.TraceText.{trace_text}
+use Rattle.law_residual.specs.Refusals.{Refusals, failures_on, play_on, refuses_after}
 
 -- two images with the same first fault, or the same card, each application with its bytes and its place, and with the
 -- same number of recovery writes in the same journal
@@ -39,6 +40,68 @@ pub record ShowAlike (m k : List (List ℕ)) (ls : List (ℕ × DeckLine)) (ws :
 abbrev pub ResidualLaw : Type 0
 ResidualLaw =
     (m k : List (List ℕ)) → MeanAlike m k → (ls : List (ℕ × DeckLine)) → NoneWritesWords ls → (ws : List (Option FailedWrite)) → ShowAlike m k ls ws
+
+-- ---- a device that refuses writes
+
+-- what a deck over two images shows on a device that refuses the same writes of both, counted from the first that is
+-- tried: the same texts, with the same failed writes
+pub record ShowAlikeOn (r : Refusals) (m k : List (List ℕ)) (ls : List (ℕ × DeckLine)) : Type 0 where
+  pub transcript : transcript (play_on r m ls) ≡ transcript (play_on r k ls)
+  pub trace : trace_text (play_on r m ls) ≡ trace_text (play_on r k ls)
+  pub failures : failures_on r 0 (start m) ls ≡ failures_on r 0 (start k) ls
+
+-- The law of residual information on a device. Images that mean the same show the same, whichever writes the device
+-- refuses and whatever it leaves in their words.
+abbrev pub DeviceLaw : Type 0
+DeviceLaw =
+    (m k : List (List ℕ)) → MeanAlike m k → (ls : List (ℕ × DeckLine)) → NoneWritesWords ls → (r : Refusals) → ShowAlikeOn r m k ls
+
+-- ---- images of one card with other recovery writes
+
+-- whether a stop that a line arms, if it arms one, is counted from 1, as in every deck that is read
+abbrev pub counts_from_one : DeckLine → Bool
+counts_from_one (line.Cut k x) = nat_le 1 k
+counts_from_one (line.Fail k) = nat_le 1 k
+counts_from_one _ = true
+
+-- lines of which each does
+abbrev pub CountFromOne : List (ℕ × DeckLine) → Type 0
+CountFromOne ls = AllByRecursion (λ l. counts_from_one l.1 ≡ true) ls
+
+-- the number of writes that a whole first power line makes: those of the recovery, and those of the migration
+abbrev pub first_writes : List (List ℕ) → ℕ
+first_writes m = count_of_recovery_writes m + migration (base_of (fault m) m)
+
+-- what it writes: its number of writes is all that is seen of the recovery
+abbrev pub first_text : ℕ → List (List ℕ) → List ℕ
+first_text n m = line_text n (Some (power_result (first_writes m) (base_of (fault m) m)))
+
+-- the play of a deck that begins with a power line, on a device that refuses no write of this line, and of the writes
+-- after it those of `r`
+abbrev pub play_after_power : Refusals → List (List ℕ) → ℕ → List (ℕ × DeckLine) → List Step
+play_after_power r m n ls = play_on (refuses_after (first_writes m) r) m ((n, line.Power) ∷ ls)
+
+-- what such a deck shows over two images: the same but for the number of writes of the first power line
+pub record ShowAlikeAfter (r : Refusals) (m k : List (List ℕ)) (n : ℕ) (ls : List (ℕ × DeckLine)) : Type 0 where
+  pub rest : List ℕ
+  pub one : transcript (play_after_power r m n ls) ≡ first_text n m ++ rest
+  pub other : transcript (play_after_power r k n ls) ≡ first_text n k ++ rest
+  pub traced : List ℕ
+  pub trace_of_one : trace_text (play_after_power r m n ls) ≡ first_text n m ++ traced
+  pub trace_of_other : trace_text (play_after_power r k n ls) ≡ first_text n k ++ traced
+
+-- The law of images that mean one card, or have the same first fault, and need any recoveries: once a power line has
+-- made these, they show the same, whichever writes the device refuses from then on. In the recovery itself they need
+-- not, since the writes that are left are not the same.
+abbrev pub RecoveredLaw : Type 0
+RecoveredLaw =
+    (m k : List (List ℕ)) → base_of (fault m) m ≡ base_of (fault k) k → (n : ℕ) (ls : List (ℕ × DeckLine)) → CountFromOne ls
+    → (r : Refusals) → ShowAlikeAfter r m k n ls
+
+-- The failed writes of a play on a device are possible.
+abbrev pub PossibleLaw : Type 0
+PossibleLaw =
+    (r : Refusals) (m : List (List ℕ)) (ls : List (ℕ × DeckLine)) → CountFromOne ls → Possible (start m) ls (failures_on r 0 (start m) ls)
 
 -- ---- free words, and shut journals
 
