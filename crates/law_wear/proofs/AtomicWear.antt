@@ -18,19 +18,19 @@ Pair = ℕ × List ℕ
 -- ---- how often a word is written
 
 -- 1 if a write is one of this word, else 0
-abbrev hits : ℕ → ℕ → ℕ
+abbrev pub hits : ℕ → ℕ → ℕ
 hits at p = cond (at == p) 1 0
 
-hits_most : (at p : ℕ) → hits at p ≤ 1
+pub hits_most : (at p : ℕ) → hits at p ≤ 1
 hits_most at p = cond_most (at == p) 1 0 1 (omega arith) (omega arith)
 
-hits_not : (at p : ℕ) → at ≢ p → hits at p ≡ 0
+pub hits_not : (at p : ℕ) → at ≢ p → hits at p ≡ 0
 hits_not at p h = elim (eqb_tells at p) [ inl own ↦ absurd (h own.1) | inr not ↦ ap (λ (b : Bool). cond b 1 0) not.0 ]
 
 hits_own : (at : ℕ) → hits at at ≡ 1
 hits_own at = elim (eqb_tells at at) [ inl own ↦ ap (λ (b : Bool). cond b 1 0) own.0 | inr not ↦ absurd (not.1 refl) ]
 
-times_append : (p : ℕ) (xs ys : List Pair) → times_written p (xs ++ ys) ≡ times_written p xs + times_written p ys
+pub times_append : (p : ℕ) (xs ys : List Pair) → times_written p (xs ++ ys) ≡ times_written p xs + times_written p ys
 times_append p [] ys = omega arith
 times_append p (x ∷ xs) ys = let rest = times_append p xs ys in omega (arith, rest)
 

@@ -9,3 +9,4 @@ mod Commands
 mod Loads
 mod Lines
 mod Plays
+mod OfWord

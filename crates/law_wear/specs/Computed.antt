@@ -19,6 +19,7 @@ use Rattle.model_play.specs.Given.{budget_in}
 use Rattle.model_play.specs.Play.{Step, start, send, play_at_power, step, plays, moves_of, steady_failures}
 use Rattle.law_wear.specs.Most.{most_atomic, most_writes}
 use Rattle.law_wear.specs.Laws.{atomic_writes, writes_of_play, most_of_play}
+use Rattle.law_wear.specs.OfWord.{most_of_word}
 
 -- the words of a small device
 abbrev pub blank : List (List ℕ)
@@ -76,3 +77,10 @@ unfolding deck_read name_of apdu_read touched_words targets_1 targets_2 pairs bl
 last_atomic deck =
     let ls = lines_of (deck_read deck) in
     last_pair (atomic_lines (plays (start blank) ls (steady_failures (start blank) ls)))
+
+-- the most that the play of a deck's text writes this word
+unfoldable pub most_in_play : ℕ → List ℕ → ℕ
+unfolding deck_read name_of apdu_read touched_words targets_1 targets_2 pairs blocks_from apps_of layout step_of bad_block bad_record bytes_at write_effect too_many later_causes prim_effect causes effect row turn_of_chain run_of_chain manage command send play_at_power step plays moves_of steady_failures
+most_in_play p deck =
+    let ls = lines_of (deck_read deck) in
+    most_of_word p (plays (start blank) ls (steady_failures (start blank) ls))

@@ -1,4 +1,6 @@
 pub mod Most
 pub mod Laws
+pub mod OfWord
+pub mod WordLaws
 pub mod Computed
 pub mod Decks

@@ -1,8 +1,12 @@
 //! Worked rows: lines that write exactly what the table says at the most.
-#![tactic(auto, unfolding(crate::specs::Computed::last_atomic, crate::specs::Computed::last_line_failure, crate::specs::Computed::last_failure, crate::specs::Computed::play_failure))]
+#![tactic(auto, unfolding(crate::specs::Computed::last_atomic, crate::specs::Computed::last_line_failure, crate::specs::Computed::last_failure, crate::specs::Computed::play_failure, crate::specs::Computed::most_in_play))]
 
-ghost use Rattle.std.specs.Prelude.{◌≡◌};
-ghost use Rattle.law_wear.specs.Computed.{last_atomic, last_line_failure, last_failure, play_failure};
+ghost use Rattle.std.specs.Prelude.{◌≡◌, [], ◌∷◌};
+ghost use Rattle.model_device.specs.Bytes.{zeros};
+ghost use Rattle.model_device.specs.Image.{Two};
+ghost use Rattle.model_device.specs.Stopped.{writes};
+ghost use Rattle.law_wear.specs.Laws.{times_written};
+ghost use Rattle.law_wear.specs.Computed.{last_atomic, most_in_play, last_line_failure, last_failure, play_failure};
 ghost use Rattle.law_wear.specs.Decks.{clearing, creation, deletion, first_load, longest_power, odd_piece, three_instructions, two_instructions};
 
 /// A power-up that recovers 64 words of journal 1 and migrates the card: 65 writes and 6.
@@ -48,4 +52,19 @@ pub fn atomic_writes()
     ensures instructions { last_atomic two_instructions ≡ (2, 2) }
     ensures load { last_atomic first_load ≡ (1, 1) }
     ensures deletion { last_atomic deletion ≡ (1, 1) }
+{}
+
+/// Words of a whole play, at the most: the gate once by `power`, twice by the load and four times by two instructions; the
+/// first word of the heap once by `power`, by the 43 plain writes and the atomic write of the load, and by two
+/// instructions; word 3 of the journal by `power` and each atomic write.
+pub fn words_of_play()
+    ensures gate { most_in_play 130 two_instructions ≡ 7 }
+    ensures heap { most_in_play 131 two_instructions ≡ 47 }
+    ensures journal { most_in_play 3 two_instructions ≡ 4 }
+{}
+
+/// An atomic write of one word writes its gate twice, so a bound of one is false; the word itself, once.
+pub fn words_of_one()
+    ensures gate { times_written 130 (writes Two ((200, zeros 8) ∷ [])) ≡ 2 }
+    ensures target { times_written 200 (writes Two ((200, zeros 8) ∷ [])) ≡ 1 }
 {}
