@@ -1,0 +1,3 @@
+pub mod Powers
+pub mod Laws
+pub mod Computed
