@@ -1,12 +1,12 @@
 -- What the purse promises follows from its outline.
-use Rattle.std.proofs.Common.{List, []}
+use Rattle.std.proofs.Common.{ℕ, List, []}
 use Rattle.model_play.specs.Play.{Step, plays, start}
 use Rattle.law_promise.specs.Kept.{LineKept}
-use Rattle.law_promise.proofs.OutlineDomain.{kept_along}
-use Rattle.law_promise.proofs.FromOutline.{along_from, fixed_from}
+use Rattle.law_promise.proofs.OutlineDomain.{kept_along, kept_from}
+use Rattle.law_promise.proofs.FromOutline.{along_as, along_from, fixed_from}
 use Rattle.example_purse.specs.Purse.{Event, purse_watch, purse_app}
-use Rattle.example_purse.specs.Laws.{KeepsGuesses, KeepsBooks, KeepsSessions, InEveryPlay, SaysGuesses, SaysBooks, SaysSessions, GuessesLaw, BooksLaw, SessionsLaw}
-use Rattle.example_purse.proofs.Places.{purse_outline}
+use Rattle.example_purse.specs.Laws.{Begins, InEveryPlayFrom, KeepsGuesses, KeepsBooks, KeepsSessions, InEveryPlay, SaysGuesses, SaysBooks, SaysSessions, GuessesLaw, BooksLaw, SessionsLaw}
+use Rattle.example_purse.proofs.Places.{purse_outline, PurseKept}
 use Rattle.example_purse.proofs.PurseOutline.{purse_shown}
 
 -- what follows of each line
@@ -31,3 +31,33 @@ books_law = from_outline SaysBooks books
 
 pub sessions_law : SessionsLaw
 sessions_law = from_outline SaysSessions sessions
+
+-- ---- from a history
+
+begun : (h : List Event) (fixed : List ℕ) → Begins h fixed → PurseKept h fixed
+begun h fixed b =
+    record {
+      size = b.size;
+      few = b.guesses.few;
+      left = b.guesses.left;
+      costs = b.guesses.costs;
+      tries = b.guesses.tries;
+      pin = b.guesses.pin;
+      balance = b.books.balance;
+      number = b.books.number;
+      ordered = b.books.ordered;
+      sessions = b.sessions;
+    }
+
+from_history : (says : List Event → Step → List Event → Type 0) → ((h : List Event) (t : Step) (k : List Event) → LineKept purse_outline h t k → says h t k) → InEveryPlayFrom says
+from_history says f h ls m ws =
+    along_as purse_watch purse_app PurseKept Begins (LineKept purse_outline) says begun f h (plays (start m) ls ws) (kept_from purse_outline purse_shown h ls m ws)
+
+pub guesses_go_on : InEveryPlayFrom SaysGuesses
+guesses_go_on = from_history SaysGuesses guesses
+
+pub books_go_on : InEveryPlayFrom SaysBooks
+books_go_on = from_history SaysBooks books
+
+pub sessions_go_on : InEveryPlayFrom SaysSessions
+sessions_go_on = from_history SaysSessions sessions

@@ -6,6 +6,7 @@ use Rattle.model_machine.specs.Blocks.{sub_blocks}
 use Rattle.model_play.specs.DeckGrammar.{DeckLine}
 use Rattle.model_play.specs.Play.{FailedWrite, Step, plays, start}
 use Rattle.law_promise.specs.Along.{Along, OnFixed, OnAnswer, command_for}
+use Rattle.law_promise.specs.Found.{AlongFrom}
 use Rattle.example_purse.specs.Purse.{Event, Commanded, Right, Wrong, Tries, Debited, Selected, Ended, purse_name, purse_app, purse_watch}
 
 -- ---- guesses
@@ -155,3 +156,18 @@ BooksLaw = InEveryPlay SaysBooks
 -- the law of sessions
 abbrev pub SessionsLaw : Type 0
 SessionsLaw = InEveryPlay SaysSessions
+
+-- ---- from a history
+
+-- the seven static bytes of a purse whose history this is
+pub record Begins (h : List Event) (fixed : List ℕ) : Type 0 where
+  pub size : length fixed ≡ 7
+  pub guesses : KeepsGuesses h fixed
+  pub books : KeepsBooks h fixed
+  pub sessions : KeepsSessions h
+
+-- what holds along every play, from any history that a purse on the first card begins with, and in which each
+-- application that comes under its name is the purse
+abbrev pub InEveryPlayFrom : (List Event → Step → List Event → Type 0) → Type 0
+InEveryPlayFrom says =
+    (h : List Event) (ls : List (ℕ × DeckLine)) (m : List (List ℕ)) (ws : List (Option FailedWrite)) → AlongFrom purse_watch purse_app Begins says h (plays (start m) ls ws)

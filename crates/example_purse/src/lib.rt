@@ -9,7 +9,7 @@ mod worked;
 ghost use Rattle.std.specs.Prelude.{◌≡◌, Ok};
 ghost use Rattle.model_text.specs.Assembly.{assembly_of};
 ghost use Rattle.example_purse.specs.Purse.{purse_code, purse_text};
-ghost use Rattle.example_purse.specs.Laws.{BooksLaw, GuessesLaw, RightLaw, SessionsLaw};
+ghost use Rattle.example_purse.specs.Laws.{BooksLaw, GuessesLaw, InEveryPlayFrom, RightLaw, SaysBooks, SaysGuesses, SaysSessions, SessionsLaw};
 
 pub use applied::{Counter, counter_keeps};
 pub use purse::{CODE, TEXT};
@@ -52,4 +52,12 @@ pub fn books()
 /// selection with no end of a session between, and none by another application through delegation.
 pub fn sessions()
     ensures { SessionsLaw }
+{}
+
+/// A purse that the card already holds when power first comes keeps the three promises too: from a history that its
+/// static bytes begin with, they go on from there.
+pub fn promises_go_on()
+    ensures guesses { InEveryPlayFrom SaysGuesses }
+    ensures books { InEveryPlayFrom SaysBooks }
+    ensures sessions { InEveryPlayFrom SaysSessions }
 {}

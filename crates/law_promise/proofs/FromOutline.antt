@@ -3,11 +3,15 @@ use Rattle.std.proofs.Common.{◌≡◌, ℕ, List, [], ◌∷◌, Option, Some,
 use Rattle.model_device.specs.Bytes.{lookup}
 use Rattle.model_device.specs.Card.{App}
 use Rattle.model_device.specs.PowerUp.{Base, OnCard, AtFault}
+use Rattle.model_play.specs.DeckGrammar.{DeckLine}
+use Rattle.model_play.specs.DeckGrammar as line
+use Rattle.model_play.specs.Given.{apps_in}
 use Rattle.model_play.specs.Play.{State, BeforePower, AfterPower, Warm, Live, Step}
 use Rattle.law_promise.specs.History.{Watch, after_step}
 use Rattle.law_promise.specs.Along.{stopped_step, Along, OnApp, OnFixed}
 use Rattle.law_promise.specs.Outline.{Outline}
 use Rattle.law_promise.specs.Kept.{KeptIn, BaseKept, StateKept}
+use Rattle.law_promise.specs.Found.{AlongFrom, BeginsIn, BringsFrom, FindsFrom}
 
 -- what follows of each line holds along the play
 pub along_from : {E : Type 0} (w : Watch E) (app : App) (P Q : List E → Step → List E → Type 0) → ((h : List E) (t : Step) (k : List E) → P h t k → Q h t k)
@@ -17,6 +21,28 @@ along_from w app P Q f h (t ∷ ts) x = (
   λ brings. (f h t (after_step w t h) (x.0 brings).0, along_from w app P Q f (after_step w t h) ts (x.0 brings).1),
   λ c brings. f h (stopped_step t c) (after_step w (stopped_step t c) h) (x.1 c brings),
 )
+
+-- so does what follows of each line from a history, if bytes that begin with it begin as the lines need
+module _ {E : Type 0} (w : Watch E) (app : App) (b c : List E → List ℕ → Type 0) (P Q : List E → Step → List E → Type 0)
+    (more : (h : List E) (fixed : List ℕ) → c h fixed → b h fixed) (says : (h : List E) (t : Step) (k : List E) → P h t k → Q h t k) where
+  begins_as : (h : List E) (found : Option App) → BeginsIn app c h found → BeginsIn app b h found
+  begins_as h None x = tt
+  begins_as h (Some a) x = (x.0, more h a.fixed x.1)
+
+  finds_as : (h : List E) (z : State) (l : DeckLine) (after : State) → FindsFrom w app c h z l after → FindsFrom w app b h z l after
+  finds_as h (BeforePower m g a) line.Power after x = begins_as h (lookup (apps_in after) w.name) x
+  finds_as h (BeforePower m g a) _ after x = tt
+  finds_as h (AfterPower s) l after x = tt
+
+  brings_as : (h : List E) (t : Step) → BringsFrom w app c h t → BringsFrom w app b h t
+  brings_as h t x = record { creates = x.creates; finds = finds_as h t.before t.line t.after x.finds }
+
+  pub along_as : (h : List E) (ts : List Step) → AlongFrom w app b P h ts → AlongFrom w app c Q h ts
+  along_as h [] x = tt
+  along_as h (t ∷ ts) x = (
+    λ brings. let y = x.0 (brings_as h t brings) in (says h t (after_step w t h) y.0, along_as (after_step w t h) ts y.1),
+    λ d brings. says h (stopped_step t d) (after_step w (stopped_step t d) h) (x.1 d (brings_as h (stopped_step t d) brings)),
+  )
 
 module _ {E : Type 0} (o : Outline E) (h : List E) (holds : List ℕ → Type 0) where
   app_from : (found : Option App) → ((fixed : List ℕ) → o.keeps h fixed → holds fixed) → KeptIn o h found → OnApp holds found

@@ -8,8 +8,10 @@ pub mod ItemLists
 pub mod SelectedStays
 pub mod Commands
 pub mod Lines
+pub mod FoundLines
 pub mod OutlineDomain
 pub mod PublicBytes
+pub mod CommandBytes
 pub mod CounterOutline
 pub mod FromOutline
 pub mod CounterLaw

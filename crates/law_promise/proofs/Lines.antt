@@ -41,7 +41,7 @@ parts_if false found = None
 -- ---- a line knows the state before it, its number and its statement
 
 -- the line as it is stopped elsewhere
-stopped_is : (z : State) (l : ℕ × DeckLine) (w : Option FailedWrite) (c : FailedWrite) → step z l (Some c) ≡ stopped_step (step z l w) c
+pub stopped_is : (z : State) (l : ℕ × DeckLine) (w : Option FailedWrite) (c : FailedWrite) → step z l (Some c) ≡ stopped_step (step z l w) c
 stopped_is z l w c =
     let e = step_is z l w in
     ap (λ (q : State). step q l (Some c)) (sym e.before)
@@ -79,7 +79,7 @@ module _ {E : Type 0} (o : Domain E) (shown : IsSound o) where
   dead h found stop.Worn x = x
 
   -- of the base alone
-  OnBase : List E → Base → Type 0
+  pub OnBase : List E → Base → Type 0
   OnBase h (OnCard c) = IdleCovered o h (lookup c.apps o.watch.name)
   OnBase h (AtFault cause p) = o.gone h
 
@@ -103,7 +103,7 @@ module _ {E : Type 0} (o : Domain E) (shown : IsSound o) where
   stopped_powered true h s t x = pulled h s.base t.kind x
   stopped_powered false h s t x = pulled_cond _ h s.base t.kind x
 
-  after_power : (h : List E) (s : Warm) (t : Option StopAt) → OnBase h s.base → StateCovered o h (AfterPower (power_after s t))
+  pub after_power : (h : List E) (s : Warm) (t : Option StopAt) → OnBase h s.base → StateCovered o h (AfterPower (power_after s t))
   after_power h s None x = powered h s.base x
   after_power h s (Some t) x = stopped_powered (nat_le t.at s.owed) h s t x
 
@@ -113,7 +113,7 @@ module _ {E : Type 0} (o : Domain E) (shown : IsSound o) where
   live_end h found Muted x = idle_end o shown h found x
 
   -- a base that was covered, at the end of a session
-  base_ended : (h : List E) (b : Base) (v : Live) → BaseCovered o h b v → OnBase (with_event (o.watch.of_end (is_selected_on o.watch.name v)) h) b
+  pub base_ended : (h : List E) (b : Base) (v : Live) → BaseCovered o h b v → OnBase (with_event (o.watch.of_end (is_selected_on o.watch.name v)) h) b
   unfolding OnBase
   base_ended h (OnCard c) v x = live_end h (lookup c.apps o.watch.name) v x
   base_ended h (AtFault cause p) v x = live_end h None v x

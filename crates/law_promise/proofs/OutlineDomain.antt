@@ -16,15 +16,19 @@ use Rattle.model_machine.specs.Primitives.{Around, Then, Goes, Exits, Delegates,
 use Rattle.model_machine.specs.Row.{RowEnd, Abends, Does, row}
 use Rattle.model_machine.specs.Chain.{Outcome, Abended, frame_at}
 use Rattle.model_card.specs.Manager.{Selected}
+use Rattle.model_play.specs.DeckGrammar.{DeckLine}
+use Rattle.model_play.specs.DeckGrammar as line
+use Rattle.model_play.specs.Given.{apps_in}
 use Rattle.model_play.specs.Play.{Live, Running, Unpowered, Muted, State, BeforePower, AfterPower, Step, plays, start}
 use Rattle.law_promise.specs.History.{Deed, with_event, is_too_long, done_event, fetch_cause, after_step}
-use Rattle.law_promise.specs.Along.{stopped_step, Along}
+use Rattle.law_promise.specs.Along.{stopped_step, Along, BringsOnly, FindsNone}
 use Rattle.law_promise.specs.Outline.{Entry, BySelection, ByDelegation, Outline, is_direct, reply_to, public_size, NextShown, RowShown, FetchShown, IsShown}
 use Rattle.law_promise.specs.Kept.{KeptIn, SessionIf, SelectedKept, LiveKept, BaseKept, StateKept, LineKept, IsKept}
-use Rattle.law_promise.specs.Domain.{Domain, IsSound, AnswerCovered, EndCovered, NextCovered, WriteCovered, AbendCovered, RowCovered, FetchCovered, IdleCovered, CoveredIf, SelectedCovered, LiveCovered, BaseCovered, StateCovered, LineCovered, AlongWrites}
+use Rattle.law_promise.specs.Domain.{Domain, IsSound, AnswerCovered, EndCovered, NextCovered, WriteCovered, AbendCovered, RowCovered, FetchCovered, IdleCovered, CoveredIf, SelectedCovered, LiveCovered, BaseCovered}
 use Rattle.law_rows.specs.Keeping.{OnLeave, Leaves, OnDone}
 use Rattle.law_rows.proofs.Keeping.{row_leaves}
-use Rattle.law_promise.proofs.Lines.{covered_along}
+use Rattle.law_promise.specs.Found.{AlongFound, AlongFrom, BeginsIn, BringsCovered, BringsFrom, FindsCovered, FindsFrom, IsKeptFrom, LineFound, StateFound}
+use Rattle.law_promise.proofs.FoundLines.{covered_from}
 
 -- the domain of an outline
 abbrev pub domain_of : {E : Type 0} → Outline E → Domain E
@@ -188,20 +192,55 @@ module _ {E : Type 0} (o : Outline E) (shown : IsShown o) where
   base_from h (OnCard c) v x = live_from h c.apps v x
   base_from h (AtFault cause p) v x = tt
 
-  state_from : (h : List E) (z : State) → StateCovered (domain_of o) h z → StateKept o h z
-  state_from h (BeforePower m b a) x = tt
-  state_from h (AfterPower s) x = base_from h s.base s.live x
+  -- ---- from what the first card holds
 
-  line_from : (h : List E) (t : Step) (k : List E) → LineCovered (domain_of o) h t k → LineKept o h t k
-  line_from h t k x = (state_from k t.after x.0, x.1)
+  idle_to : (h : List E) (found : Option App) → BeginsIn o.app o.keeps h found → IdleCovered (domain_of o) h found
+  idle_to h None x = tt
+  idle_to h (Some a) x = x
 
-  along_kept : (h : List E) (ts : List Step) → AlongWrites o.watch o.app ⊤ (LineCovered (domain_of o)) h ts → Along o.watch o.app (LineKept o) h ts
-  along_kept h [] x = tt
-  along_kept h (t ∷ ts) x = (
-    λ brings. let y = x.0 brings (inl tt) in (line_from h t (after_step o.watch t h) y.0, along_kept (after_step o.watch t h) ts y.1),
-    λ c brings. line_from h (stopped_step t c) (after_step o.watch (stopped_step t c) h) (x.1 c brings (inl tt)),
+  finds_to : (h : List E) (z : State) (l : DeckLine) (after : State) → FindsFrom o.watch o.app o.keeps h z l after → FindsCovered (domain_of o) h z l after
+  finds_to h (BeforePower m b a) line.Power after x = idle_to h (lookup (apps_in after) o.watch.name) x
+  finds_to h (BeforePower m b a) _ after x = tt
+  finds_to h (AfterPower s) l after x = tt
+
+  brings_to : (h : List E) (t : Step) → BringsFrom o.watch o.app o.keeps h t → BringsCovered (domain_of o) h t
+  brings_to h t x = record { creates = x.creates; finds = finds_to h t.before t.line t.after x.finds }
+
+  kept_state : (h : List E) (z : State) → StateFound (domain_of o) h z → StateKept o h z
+  kept_state h (BeforePower m b a) x = tt
+  kept_state h (AfterPower s) x = base_from h s.base s.live x
+
+  kept_line : (h : List E) (t : Step) (k : List E) → LineFound (domain_of o) h t k → LineKept o h t k
+  kept_line h t k x = (kept_state k t.after x.0, x.1)
+
+  kept_found : (h : List E) (ts : List Step) → AlongFound (domain_of o) h ts → AlongFrom o.watch o.app o.keeps (LineKept o) h ts
+  kept_found h [] x = tt
+  kept_found h (t ∷ ts) x = (
+    λ brings. let y = x.0 (brings_to h t brings) (inl tt) in (kept_line h t (after_step o.watch t h) y.0, kept_found (after_step o.watch t h) ts y.1),
+    λ c brings. kept_line h (stopped_step t c) (after_step o.watch (stopped_step t c) h) (x.1 c (brings_to h (stopped_step t c) brings) (inl tt)),
   )
 
-  -- what an outline says holds along every play
+  -- what an outline says holds along every play, from a history that the first card begins with
+  pub kept_from : IsKeptFrom o
+  kept_from h ls m ws = kept_found h (plays (start m) ls ws) (covered_from (domain_of o) outline_sound h ls m ws (λ t. absurd t) (λ t. absurd t))
+
+  -- ---- from a card that has none of the name
+
+  finds_none : (h : List E) (z : State) (l : DeckLine) (after : State) → FindsNone o.watch.name z l after → FindsFrom o.watch o.app o.keeps h z l after
+  finds_none h (BeforePower m b a) line.Power after x = subst (λ (found : Option App). BeginsIn o.app o.keeps h found) (sym x) tt
+  finds_none h (BeforePower m b a) _ after x = tt
+  finds_none h (AfterPower s) l after x = tt
+
+  brings_none : (h : List E) (t : Step) → BringsOnly o.watch.name o.app t → BringsFrom o.watch o.app o.keeps h t
+  brings_none h t x = record { creates = x.creates; finds = finds_none h t.before t.line t.after x.finds }
+
+  along_none : (h : List E) (ts : List Step) → AlongFrom o.watch o.app o.keeps (LineKept o) h ts → Along o.watch o.app (LineKept o) h ts
+  along_none h [] x = tt
+  along_none h (t ∷ ts) x = (
+    λ brings. let y = x.0 (brings_none h t brings) in (y.0, along_none (after_step o.watch t h) ts y.1),
+    λ c brings. x.1 c (brings_none h (stopped_step t c) brings),
+  )
+
+  -- what an outline says holds along every play: the first card begins with no history
   pub kept_along : IsKept o
-  kept_along ls m ws = along_kept [] (plays (start m) ls ws) (covered_along (domain_of o) outline_sound ls m ws (λ t. absurd t) (λ t. absurd t))
+  kept_along ls m ws = along_none [] (plays (start m) ls ws) (kept_from [] ls m ws)

@@ -19,10 +19,10 @@ front_of a = a.body ++ zeros (1028 - length a.body)
 pub front_size : (a : ApduParts) → length a.body ≤ 1024 → length (front_of a) ≡ 1028
 front_size a h = omega (arith, length-append a.body (zeros (1028 - length a.body)), length-replicate {A = ℕ} (1028 - length a.body) 0)
 
-equal_is : (n : ℕ) → (sub_blocks (n ∷ []) (n ∷ [])).z ≡ true
+pub equal_is : (n : ℕ) → (sub_blocks (n ∷ []) (n ∷ [])).z ≡ true
 equal_is n = let same : 256 + num (n ∷ []) - num (n ∷ []) ≡ 256 = omega arith in ap (λ (k : ℕ). is_zero (bytes 1 k)) same
 
-words_behind : (a : ApduParts) → length a.body ≤ 1024 → drop 1028 (new_public a) ≡ words_of a
+pub words_behind : (a : ApduParts) → length a.body ≤ 1024 → drop 1028 (new_public a) ≡ words_of a
 words_behind a h = drop_at (front_of a) (words_of a) 1028 (front_size a h)
 
 pub ins_byte : (a : ApduParts) → length a.body ≤ 1024 → take 1 (drop 1029 (new_public a)) ≡ a.ins ∷ []

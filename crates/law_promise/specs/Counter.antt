@@ -1,6 +1,6 @@
 -- A counter that never falls, as an example of the rule: its text, its code, what is counted of it, and what it
 -- promises.
-use Rattle.std.specs.Prelude.{◌≡◌, ◌≢◌, ℕ, suc, ◌+◌, ◌≤◌, Bool, true, ◌&&◌, ◌==◌, List, [], ◌∷◌, ◌++◌, length, codes, Option, Some, None, ⊤}
+use Rattle.std.specs.Prelude.{◌≡◌, ◌≢◌, ℕ, suc, ◌+◌, ◌<◌, ◌≤◌, Bool, true, ◌&&◌, ◌==◌, List, [], ◌∷◌, ◌++◌, length, codes, Option, Some, None, ⊤}
 use Rattle.model_device.specs.Bytes.{num}
 use Rattle.model_device.specs.Card.{App}
 use Rattle.model_machine.specs.Apdu.{ApduParts}
@@ -8,6 +8,7 @@ use Rattle.model_play.specs.DeckGrammar.{DeckLine}
 use Rattle.model_play.specs.Play.{FailedWrite, plays, start}
 use Rattle.law_promise.specs.History.{Deed, Watch}
 use Rattle.law_promise.specs.Along.{Along, OnFixed, OnAnswer, command_for}
+use Rattle.law_promise.specs.Found.{AlongFrom}
 
 -- its name
 abbrev pub counter_name : List ℕ
@@ -75,6 +76,20 @@ pub record AnswersCount (before after : List ℕ) (a : ApduParts) (sw : ℕ) : T
   pub durable : length a.body ≤ 1024 → a.ins ≡ 0x10 → sw ≡ 0x9000 → after ≡ suc (newest_count before) ∷ before
   pub refused : length a.body ≤ 1024 → a.ins ≡ 0x10 → sw ≢ 0x9000 → after ≡ before
 
+-- the two static bytes of a counter whose history this is
+pub record BeginsCount (h : List ℕ) (fixed : List ℕ) : Type 0 where
+  pub size : length fixed ≡ 2
+  pub small : num fixed < 65536
+  pub keeps : KeepsCount h fixed
+
+-- For every history, every deck, every image and every list of failed writes: along the whole play of a card that has no
+-- counter, or one whose bytes begin with this history.
+abbrev pub CounterFromLaw : Type 0
+CounterFromLaw =
+    (h : List ℕ) (ls : List (ℕ × DeckLine)) (m : List (List ℕ)) (ws : List (Option FailedWrite))
+    → AlongFrom counter_watch counter_app BeginsCount (λ before t after. OnFixed counter_name (KeepsCount after) t.after × OnAnswer (AnswersCount before after) (command_for counter_name t.before t.line) t.result) h
+    (plays (start m) ls ws)
+
 -- for every deck, every image and every list of failed writes, along the whole play
 abbrev pub CounterLaw : Type 0
 CounterLaw =
@@ -107,3 +122,12 @@ three_counts =
 abbrev pub set_back : List ℕ
 set_back =
     codes " CMPB PT[-12],0x10\n JUMP EQ,count\n SETW SB[0],0\n EXIT\ncount: INCN SB[0],2\n EXIT\n"
+
+-- the counter with two counts, as a card holds it
+abbrev pub found_counter : App
+found_counter = record counter_app { fixed = 0 ∷ 2 ∷ [] }
+
+-- two counts on a card that holds it, of which the first is cut after it is durable
+abbrev pub two_more : List ℕ
+two_more =
+    codes "power\nselect A000000200\ncut 5 FFFFFFFFFFFFFFFF\napdu 8010000002\npower\nselect A000000200\napdu 8010000002\n"

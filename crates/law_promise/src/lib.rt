@@ -11,10 +11,10 @@ ghost use Rattle.model_device.specs.Bytes.{AreBytes};
 ghost use Rattle.model_machine.specs.Apdu.{ApduParts, apdu_read};
 ghost use Rattle.model_text.specs.Assembly.{assembly_of};
 ghost use Rattle.law_promise.specs.Along.{FormattedLaw};
-ghost use Rattle.law_promise.specs.Counter.{CounterLaw, counter_code, counter_text};
+ghost use Rattle.law_promise.specs.Counter.{CounterFromLaw, CounterLaw, counter_code, counter_text};
 
-pub use examples::{counter_play, set_back_falls};
-pub use rule::{Analysis, Promise, covers, keeps};
+pub use examples::{counter_goes_on, counter_play, set_back_falls};
+pub use rule::{Analysis, Promise, covers, covers_from, keeps, keeps_from};
 
 /// The card of a device that was formatted just before the first power line has none of any name, whatever stop hits
 /// that line.
@@ -40,4 +40,9 @@ pub fn counter_is_assembled()
 /// one that was answered with another status changed nothing.
 pub fn counter()
     ensures { CounterLaw }
+{}
+
+/// So it is from a history that a counter which is already on the card begins with: it goes on from there.
+pub fn counter_from()
+    ensures { CounterFromLaw }
 {}
