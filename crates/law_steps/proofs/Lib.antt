@@ -1,0 +1,3 @@
+pub mod RunBytes
+pub mod Replaying
+pub mod AfterTurns

@@ -1,0 +1,40 @@
+-- The laws of the lines of a play, as its functions promise them.
+use Rattle.std.specs.Prelude.{◌≡◌, ◌≢◌, ⊤, ℕ, ◌+◌, ◌<◌, ◌≤◌, true, false, cond, ◌==◌, List, [], ◌∷◌, length, get_or, Some, None}
+use Rattle.model_device.specs.Pieces.{covering_byte}
+use Rattle.model_machine.specs.declared.instruction.Ins.{Ins}
+use Rattle.model_machine.specs.declared.machine.Abend.{Abend}
+use Rattle.model_machine.specs.Chain.{Chain, Abended, turn_of}
+use Rattle.desk_json.specs.Json.{changes}
+use Rattle.law_steps.specs.Readings.{last_reading, reading_after, reading_of}
+use Rattle.law_steps.specs.Shown.{EndsFrame, exit_public, is_exit_of, shown_reading}
+use Rattle.law_steps.specs.Replays.{FitsAlong, HoldsAlong, frame_line, memory_after, no_memory}
+
+-- the runs of what differs have exactly the addresses whose bytes differ, each with its new byte; after its last old byte
+-- a segment was zero
+abbrev pub ExactSetsLaw : Type 0
+ExactSetsLaw = (a i : ℕ) (old new : List ℕ) → i < length new → covering_byte (changes a old new) (a + i) ≡ cond (get_or new i 0 == get_or old i 0) None (Some (get_or new i 0))
+
+-- runs from an address on ascend, are not empty, and do not touch: each begins after the address that follows the one
+-- before it
+abbrev pub AreApart : ℕ → List (ℕ × List ℕ) → Type 0
+AreApart a [] = ⊤
+AreApart a (r ∷ rs) = (a ≤ r.0) × (0 < length r.1) × AreApart (r.0 + length r.1 + 1) rs
+
+-- the runs of what differs are the longest
+abbrev pub LongestRunsLaw : Type 0
+LongestRunsLaw = (a : ℕ) (old new : List ℕ) → AreApart a (changes a old new)
+
+-- From the lines alone, each byte of each frame of a command, and each public byte, is known before each turn and after
+-- the last one.
+abbrev pub ReplayLaw : Type 0
+ReplayLaw = (n : ℕ) (ch : Chain) → ch.below ≡ [] → FitsAlong n ch → HoldsAlong (memory_after no_memory (frame_line ch)) n ch
+
+-- What the frame that ran a turn reads after it is found in what the turn and the chain after it show: after an abend
+-- what it read, without what waited; after an exit the same with the public bytes of the exit; and else what the running
+-- frame reads, or below DT what the frame read that called it. A turn that ends its frame writes nothing.
+pub record AfterLaw : Type 0 where
+  pub abends : (n : ℕ) (ch : Chain) (c : Abend) → (turn_of n ch).turn.end ≡ Some (Abended c) → reading_after n ch ≡ last_reading ch.frame ch.public
+  pub exits : (n : ℕ) (ch : Chain) (i : Ins) → (turn_of n ch).turn.ins ≡ Some i → is_exit_of i ≡ true → ((c : Abend) → (turn_of n ch).turn.end ≢ Some (Abended c)) → reading_after n ch ≡ last_reading ch.frame (exit_public i ch.public)
+  pub goes : (n : ℕ) (ch : Chain) → ((i : Ins) → (turn_of n ch).turn.ins ≡ Some i → is_exit_of i ≡ false) → ((c : Abend) → (turn_of n ch).turn.end ≢ Some (Abended c))
+      → reading_after n ch ≡ shown_reading (turn_of n ch).follows ch.frame.name (reading_of ch.frame ch.public) (turn_of n ch).turn.dt
+  pub quiet : (n : ℕ) (ch : Chain) → EndsFrame (turn_of n ch).turn → (turn_of n ch).writes ≡ []

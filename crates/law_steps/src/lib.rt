@@ -1,0 +1,26 @@
+#![tactic(auto)]
+
+//! Laws of the lines that a play is written as, over the definitions alone: what each turn changes, and that the lines
+//! alone give each byte of each frame.
+
+mod rows;
+
+ghost use Rattle.law_steps.specs.Laws.{AfterLaw, ExactSetsLaw, LongestRunsLaw, ReplayLaw};
+
+/// The runs that are written of two segments have exactly the addresses whose bytes differ, each with its new byte.
+/// They ascend, and each is as long as it can be.
+pub fn sets_are_what_differs()
+    ensures exact { ExactSetsLaw }
+    ensures longest { LongestRunsLaw }
+{}
+
+/// From the lines alone, each byte of each frame, and each public byte, is known before each turn and after the last
+/// one.
+pub fn lines_give_each_byte()
+    ensures replays { ReplayLaw }
+{}
+
+/// What the frame that ran a turn reads after it is found in the turn and in the chain after it.
+pub fn turns_show_what_is_read()
+    ensures after { AfterLaw }
+{}
