@@ -1,5 +1,6 @@
--- How the rules of an application are read: the lines of a deck whose first field is `#@`, each with its refusals in
--- their order, after the deck's own.
+-- How the rules of an application are read: the lines of a deck whose first field begins with `#@`, each with its
+-- refusals in their order, after the deck's own. One whose first field is longer is refused, so that no rule is taken for
+-- a comment.
 use Rattle.std.specs.Prelude.{ℕ, suc, ◌-◌, ℤ, pos, negsuc, Bool, true, false, cond, not, ◌&&◌, ◌||◌, nat_lt, nat_le, ◌==◌, List, [], ◌∷◌, ◌++◌, length, bytes_eq, codes, is_some, is_none, ok_or, Option, Some, None, Result, Ok, Err}
 use Rattle.model_device.specs.Bytes.{lookup, zeros}
 use Rattle.model_text.specs.Text.{◌>>=◌, ok_as, err_as, only_if, is_empty, pieces, lines, with_numbers, fields}
@@ -12,7 +13,7 @@ use Rattle.model_play.specs.declared.deck.DeckCause.{DeckCause}
 use Rattle.model_play.specs.declared.deck.DeckCause.TheVariants.{BadLine, BadNumber, OutOfRange, NameTwice, UnknownName}
 use Rattle.model_play.specs.DeckGrammar.{DeckLine, name_field, number_field, deck_read}
 use Rattle.model_play.specs.DeckGrammar as line
-use Rattle.law_explore.specs.Rules.{Parts, parts_of, full_parts, name_and_amount, begins_with, stays_inside, rule_lines}
+use Rattle.law_explore.specs.Rules.{Parts, parts_of, full_parts, name_and_amount, begins_with, stays_inside, marked_lines}
 use Rattle.model_rules.specs.Rules.{Trigger, AtTurn, AtCommand, AtAnswer, AtSession, Action, Allows, Spends, Needs, Amount, Constant, PublicBytes, Target, AppRules, no_app_rules}
 
 -- why a line of rules is refused: a cause of decks, or that no `#@ app` line is above
@@ -388,9 +389,13 @@ app_rule loads r n AlwaysLine fs = always_line r n fs
 app_rule loads r n MoveLine fs = Ok r
 app_rule loads r n word fs = Err (Deck BadLine)
 
+-- the word of a rule, by the first field of its line, which is `#@` and no more, and the field after it
+abbrev pub app_word : List ℕ → List ℕ → Result AppWord RuleCause
+app_word mark word = cond (bytes_eq mark (codes "#@")) (ok_or (lookup app_words word) (Deck BadLine)) (Err (Deck BadLine))
+
 -- a line by its fields
 abbrev pub app_line : List (List ℕ × LoadLine) → AppRules → ℕ → List (List ℕ) → Result AppRules RuleCause
-app_line loads r n (mark ∷ word ∷ fs) = ok_or (lookup app_words word) (Deck BadLine) >>= λ w. app_rule loads r n w fs
+app_line loads r n (mark ∷ word ∷ fs) = app_word mark word >>= λ w. app_rule loads r n w fs
 app_line loads r n other = Err (Deck BadLine)
 
 -- the rules of lines, or the first refusal
@@ -405,8 +410,8 @@ with_some_app r = only_if (is_some r.target) (0, NoApplication) r
 
 -- the rules of a deck's text, or the first refusal; the deck's own come first
 unfoldable pub app_rules_read : List ℕ → Result AppRules (ℕ × RuleCause)
-unfolding deck_read rule_lines app_rules_from
+unfolding deck_read marked_lines app_rules_from
 app_rules_read text = do
   ls ← err_as (λ e. (e.0, Deck e.1)) (deck_read text)
-  r ← app_rules_from (loads_of (load_names false (with_numbers 1 (lines text))) ls) no_app_rules (rule_lines false (with_numbers 1 (lines text)))
+  r ← app_rules_from (loads_of (load_names false (with_numbers 1 (lines text))) ls) no_app_rules (marked_lines false (with_numbers 1 (lines text)))
   with_some_app r

@@ -32,6 +32,8 @@ pub fn explorations()
     ensures gives { shown (with_rules (codes "#@ app a\n#@ allow n 1\n#@ on select* gives * allow n 1\n"))
         ≡ Refused 11 (Deck BadLine) }
     ensures word { shown (with_rules (codes "#@ app a\n#@ moves power\n")) ≡ Refused 10 (Deck BadLine) }
+    ensures mark { shown (with_rules (codes "#@ app a\n#@move power\n")) ≡ Refused 10 (Deck BadLine) }
+    ensures comment { shown (with_rules (codes "#@ app a\n# @move power\n")) ≡ Kept [] }
 {}
 
 /// `on` lines: their patterns, names and numbers, and an allowance above.

@@ -1,0 +1,5 @@
+//! Explorations of the rules of one application: what happens to it along the deck and every sequence of moves, whole and
+//! cut, counted event by event; definitions, and worked rows.
+#![tactic(auto)]
+
+mod rows;
