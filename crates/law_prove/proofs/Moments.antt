@@ -112,7 +112,7 @@ created_holds fixed =
 
 -- ---- what stands
 
-session_stands : (s : Setting) (h : History) (x : Standing) (b : Amounts) → standing_after s.rules h ≡ Ok x → after_session s x.allowances ≡ Ok b → standing_after s.rules (Session ∷ h) ≡ Ok (record x { allowances = b })
+pub session_stands : (s : Setting) (h : History) (x : Standing) (b : Amounts) → standing_after s.rules h ≡ Ok x → after_session s x.allowances ≡ Ok b → standing_after s.rules (Session ∷ h) ≡ Ok (record x { allowances = b })
 session_stands s h x b is e =
     ap (λ (z : Result Standing Break). z >>= after_event s.rules Session) is ∙ ap (λ (z : Result Amounts Break). z >>= with_allowances x) e
 

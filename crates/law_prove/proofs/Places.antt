@@ -38,6 +38,7 @@ use Rattle.law_prove.specs.Laws.{PlaceLaw}
 use Rattle.law_prove.proofs.Keys.{places_are}
 use Rattle.law_prove.proofs.Closed.{included_first, included_second, Arrives, arrives, moment_included, moment_closed}
 use Rattle.law_prove.proofs.Moments.{byte_of, cond_small, zeros_are, memory_bytes, within_holds, zero_at, bytes_in, from_memory}
+use Rattle.law_prove.proofs.Parts.{memory_static, memory_dynamic}
 use Rattle.law_prove.proofs.Picks.{answered_is}
 
 -- ---- places of the tables
@@ -81,7 +82,7 @@ compares_so c NoCompare m e none = tt
 compares_so c (Bounds a n l h) m e none = absurd (cc (sym (ap (λ (z : Compare). compare_follows z (Bounds a n l h)) none) ∙ e))
 compares_so c (Ordered a n b o) m e none = absurd (cc (sym (ap (λ (z : Compare). compare_follows z (Ordered a n b o)) none) ∙ e))
 
-holds_both : (f g : Facts) (m : Memory) → Holds f m → Holds g m → Holds (f ++ g) m
+pub holds_both : (f g : Facts) (m : Memory) → Holds f m → Holds g m → Holds (f ++ g) m
 holds_both [] g m x y = y
 holds_both (e ∷ f) g m x y = (x.0, holds_both f g m x.1 y)
 
@@ -114,14 +115,10 @@ module _ (s : Setting) (t : Tables) (g : Target) (loadable : IsLoadable s.app) (
       let room : dynamic_base + s.app.session ≤ dynamic_end = loadable.session in
       let count : f.session ≡ s.app.session = fits.session in
       let past : nat_lt a (length f.fixed) ≡ false = false_from_ne_true (nat_lt a (length f.fixed)) (λ is. let less = ltb-true a (length f.fixed) is in omega (arith, less, low, size, static)) in
-      let inner : nat_lt a public_base ≡ true = lt-ltb a public_base (omega (arith, high, room)) in
-      let x = slice_index (static_bytes f) a in
-      let y = slice_index f.dyn (a - dynamic_base) in
-      let z = slice_index public (a - public_base) in
       let u = slice_index f.fixed a in
       let v = slice_index (session_of f) (a - dynamic_base) in
-      ap (λ (b : Bool). cond b x (cond (nat_lt a public_base) y z)) past ∙ (ap (λ (b : Bool). cond b y z) inner
-      ∙ (sym (get_or-take f.session f.dyn (a - dynamic_base) 0 (omega (arith, low, high, count))) ∙ sym (ap (λ (b : Bool). cond b u v) past)))
+      memory_dynamic (length f.fixed) (static_bytes f) f.dyn public a (omega (arith, size, static)) low (omega (arith, high, room))
+      ∙ (sym (get_or-take f.session f.dyn (a - dynamic_base) 0 (omega (arith, low, high, count))) ∙ sym (ap (λ (b : Bool). cond b u v) past))
 
   session_bytes : (f : Frame) → AreBytes f.dyn → AreBytes (session_of f)
   session_bytes f h = taken f.session f.dyn h
@@ -203,10 +200,9 @@ module _ (s : Setting) (t : Tables) (g : Target) (loadable : IsLoadable s.app) (
   -- its static bytes are those of the moment
   begun_static : (fixed session public : List ℕ) (a : ℕ) → a < length fixed → moment_memory fixed session a ≡ frame_memory (begun_frame s g fixed) public a
   begun_static fixed session public a h =
-      let e = lt-ltb a (length fixed) h in
       let f = begun_frame s g fixed in
-      ap (λ (b : Bool). cond b (slice_index fixed a) (slice_index session (a - dynamic_base))) e
-      ∙ sym (ap (λ (b : Bool). cond b (slice_index fixed a) (cond (nat_lt a public_base) (slice_index f.dyn (a - dynamic_base)) (slice_index public (a - public_base)))) e)
+      ap (λ (b : Bool). cond b (slice_index fixed a) (slice_index session (a - dynamic_base))) (lt-ltb a (length fixed) h)
+      ∙ sym (memory_static (length fixed) fixed f.dyn public a h)
 
   -- its session bytes are zero
   begun_zero : (fixed public : List ℕ) (a : ℕ) → length fixed ≡ static_size s → dynamic_base ≤ a → a < dynamic_base + s.app.session → frame_memory (begun_frame s g fixed) public a ≡ 0
@@ -214,12 +210,8 @@ module _ (s : Setting) (t : Tables) (g : Target) (loadable : IsLoadable s.app) (
       let static : length s.app.fixed ≤ dynamic_base = loadable.static in
       let room : dynamic_base + s.app.session ≤ dynamic_end = loadable.session in
       let f = begun_frame s g fixed in
-      let past : nat_lt a (length fixed) ≡ false = false_from_ne_true (nat_lt a (length fixed)) (λ is. let less = ltb-true a (length fixed) is in omega (arith, less, low, size, static)) in
-      let inner : nat_lt a public_base ≡ true = lt-ltb a public_base (omega (arith, high, room)) in
-      let y = slice_index f.dyn (a - dynamic_base) in
-      let z = slice_index public (a - public_base) in
-      ap (λ (b : Bool). cond b (slice_index fixed a) (cond (nat_lt a public_base) y z)) past ∙ (ap (λ (b : Bool). cond b y z) inner
-      ∙ append_zero s.app.session (512 - length (zeros s.app.session)) (a - dynamic_base))
+      memory_dynamic (length fixed) fixed f.dyn public a (omega (arith, size, static)) low (omega (arith, high, room))
+      ∙ append_zero s.app.session (512 - length (zeros s.app.session)) (a - dynamic_base)
 
   begun_holds : (f : Facts) (fixed public : List ℕ) → length fixed ≡ static_size s → Holds f (moment_memory fixed []) → Holds (with_zero_session s f) (frame_memory (begun_frame s g fixed) public)
   begun_holds f fixed public size h =
@@ -235,8 +227,9 @@ module _ (s : Setting) (t : Tables) (g : Target) (loadable : IsLoadable s.app) (
       let f = begun_frame s g fixed in
       let y = slice_index f.dyn (a - dynamic_base) in
       let z = slice_index public (a - public_base) in
-      cond_small (nat_lt a (length fixed)) (slice_index fixed a) (cond (nat_lt a public_base) y z) (byte_of fixed a static)
-      (cond_small (nat_lt a public_base) y z (byte_of f.dyn (a - dynamic_base) (zeros_append s.app.session (512 - length (zeros s.app.session)))) (byte_of public (a - public_base) others))
+      cond_small (nat_lt a (length fixed)) (slice_index fixed a) (cond (nat_lt a dynamic_base) 0 (cond (nat_lt a public_base) y z)) (byte_of fixed a static)
+      (cond_small (nat_lt a dynamic_base) 0 (cond (nat_lt a public_base) y z) (omega arith)
+      (cond_small (nat_lt a public_base) y z (byte_of f.dyn (a - dynamic_base) (zeros_append s.app.session (512 - length (zeros s.app.session)))) (byte_of public (a - public_base) others)))
 
   begun_fits : (fixed : List ℕ) → length fixed ≡ static_size s → AreBytes fixed → IsFrameOf s.app (begun_frame s g fixed)
   begun_fits fixed size static =
@@ -252,10 +245,12 @@ module _ (s : Setting) (t : Tables) (g : Target) (loadable : IsLoadable s.app) (
         size = size;
         room = omega (arith, count, room, filled, whole);
         static = static;
+        pieces = tt;
         inside = tt;
         settled = λ e. refl;
         low = omega arith;
         high = omega (arith, count, room);
+        base = omega (arith, count, room);
       }
 
   pub is_entered : (h : History) (fixed public : List ℕ) → IsMoment s t false h fixed [] → AreBytes public → IsPlace s t ByDelegation h (begun_frame s g fixed) public

@@ -1,11 +1,12 @@
 -- What tables cover: the states of a play that a key with its facts stands for. It is the concretisation of the tables
 -- (Cousot and Cousot, POPL 1977).
-use Rattle.std.specs.Prelude.{◌≡◌, ℕ, ◌+◌, ◌-◌, ◌≤◌, Bool, true, false, cond, nat_lt, List, [], ◌∷◌, ◌++◌, length, take, drop, map, slice_index, Some, Ok, ⊤}
+use Rattle.std.specs.Prelude.{◌≡◌, ℕ, ◌+◌, ◌-◌, ◌<◌, ◌≤◌, Bool, true, false, cond, nat_lt, List, [], ◌∷◌, ◌++◌, length, take, drop, map, slice_index, Some, Ok, ⊤}
 use Rattle.model_device.specs.Bytes.{AreBytes, bytes2}
 use Rattle.model_device.specs.Card.{App}
 use Rattle.model_text.specs.Listing.{hex_text}
 use Rattle.model_machine.specs.Frame.{Frame, dynamic_base, dynamic_end, public_base, static_bytes}
 use Rattle.law_rows.specs.Keeping.{PiecesWithin}
+use Rattle.law_bytes.specs.OfBytes.{ArePieces}
 use Rattle.law_promise.specs.Outline.{Entry, BySelection, ByDelegation}
 use Rattle.law_explore.specs.Matching.{fits}
 use Rattle.model_rules.specs.Rules.{OnLine, AppRules}
@@ -42,10 +43,16 @@ IsUnbroken s h = is_broken s.rules h ≡ false
 
 -- ---- places
 
+-- the bytes of the segments by their parts: static, dynamic and public bytes at their addresses, and none at others
+abbrev pub parts_memory : ℕ → List ℕ → List ℕ → List ℕ → Memory
+parts_memory size static dyn public = λ a.
+    cond (nat_lt a size) (slice_index static a) (
+    cond (nat_lt a dynamic_base) 0 (cond (nat_lt a public_base) (slice_index dyn (a - dynamic_base)) (slice_index public (a - public_base)))
+    )
+
 -- the bytes of a running frame: static bytes as it reads them, dynamic bytes, and the public segment
 abbrev pub frame_memory : Frame → List ℕ → Memory
-frame_memory f public = λ a.
-    cond (nat_lt a (length f.fixed)) (slice_index (static_bytes f) a) (cond (nat_lt a public_base) (slice_index f.dyn (a - dynamic_base)) (slice_index public (a - public_base)))
+frame_memory f public = parts_memory (length f.fixed) (static_bytes f) f.dyn public
 
 -- of each line that speaks of commands whether a command of these bytes matches
 abbrev pub class_of : List ℕ → List OnLine → List Bool
@@ -66,6 +73,7 @@ AreOpen floor top lb dyn (c ∷ cs) =
     × (floor + 4 ≤ c.dt)
     × (c.dt ≡ lb)
     × (take 4 (drop (c.dt - 4 - dynamic_base) dyn) ≡ bytes2 c.lb ++ bytes2 c.at)
+    × ((c.lb < 65536) × (c.at < 65536))
     × AreOpen floor (c.dt - 4) c.lb dyn cs
 
 -- A frame of the application, of bytes, with DT from its floor to the end of the stack; nothing waits without protection.
@@ -77,10 +85,12 @@ pub record IsFrameOf (a : App) (f : Frame) : Type 0 where
   pub size : length f.fixed ≡ length a.fixed
   pub room : length f.dyn ≡ 512
   pub static : AreBytes f.fixed
+  pub pieces : ArePieces f.pieces
   pub inside : PiecesWithin (length f.fixed) f.pieces
   pub settled : f.protected ≡ false → f.pieces ≡ []
   pub low : dynamic_base + f.session ≤ f.dt
   pub high : f.dt ≤ dynamic_end
+  pub base : f.lb < 65536
 
 -- A place that the tables have: with the allowances that stand after the history, with facts and a last compare that hold
 -- of the bytes before its instruction, and with facts that hold of the static bytes that power would leave.

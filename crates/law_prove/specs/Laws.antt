@@ -1,5 +1,5 @@
 -- The laws of closed tables between commands: each moment that may follow a moment is one that the tables have.
-use Rattle.std.specs.Prelude.{◌≡◌, ℕ, true, false, List, [], ◌∷◌, Ok, Err}
+use Rattle.std.specs.Prelude.{◌≡◌, ℕ, ℤ, ◌==◌, true, false, List, [], ◌∷◌, Ok, Err}
 use Rattle.model_device.specs.Bytes.{AreBytes, zeros}
 use Rattle.model_machine.specs.declared.instruction.DecodeFault.{DecodeFault}
 use Rattle.model_machine.specs.declared.machine.Abend.TheVariants.{A07}
@@ -74,3 +74,66 @@ RowLaw i = (r : AppRules) (g : Target) (t : Tables) → IsLoadable g.app → is_
 -- of the rows that pop
 abbrev pub PopLaw : Type 0
 PopLaw = ((n : ℕ) → RowLaw (ins.Popn n)) × RowLaw ins.Popb × RowLaw ins.Popw
+
+-- of the rows that set status and length of the reply
+abbrev pub StatusLaw : Type 0
+StatusLaw = ((sw : ℕ) → RowLaw (ins.Setsw sw)) × ((la : ℕ) → RowLaw (ins.Setla la)) × ((sw la : ℕ) → RowLaw (ins.Setswla sw la))
+
+-- of branches, and of jumps and calls whose target is in the instruction
+abbrev pub JumpLaw : Type 0
+JumpLaw =
+    ((k : ℕ) (d : ℤ) → RowLaw (ins.Branch k d)) × ((k to : ℕ) → (k == 0) ≡ false → RowLaw (ins.Jump k to)) × ((k to : ℕ) → (k == 0) ≡ false → RowLaw (ins.Call k to))
+
+-- of the rows that push what the instruction or the registers say
+abbrev pub PushLaw : Type 0
+PushLaw = ((n : ℕ) → RowLaw (ins.Pushz n)) × ((b : ℕ) → RowLaw (ins.Pushb b)) × ((w : ℕ) → RowLaw (ins.Pushw w)) × ((tag : ℕ) (off : ℤ) → RowLaw (ins.Loada tag off))
+
+-- of the rows that copy bytes between the stack and an operand, or set an operand
+abbrev pub MoveLaw : Type 0
+MoveLaw =
+    ((tag : ℕ) (off : ℤ) (n : ℕ) → RowLaw (ins.Load tag off n))
+    × ((tag : ℕ) (off : ℤ) (n : ℕ) → RowLaw (ins.Store tag off n))
+    × ((tag : ℕ) (off : ℤ) (b : ℕ) → RowLaw (ins.Setb tag off b))
+    × ((tag : ℕ) (off : ℤ) (w : ℕ) → RowLaw (ins.Setw tag off w))
+
+-- of the comparisons and the test
+abbrev pub CompareLaw : Type 0
+CompareLaw =
+    ((tag : ℕ) (off : ℤ) (b : ℕ) → RowLaw (ins.Cmpb tag off b))
+    × ((tag : ℕ) (off : ℤ) (w : ℕ) → RowLaw (ins.Cmpw tag off w))
+    × ((tag : ℕ) (off : ℤ) (n : ℕ) → RowLaw (ins.Cmpn tag off n))
+    × ((tag : ℕ) (off : ℤ) (n : ℕ) → RowLaw (ins.Testn tag off n))
+
+-- of the sums and differences
+abbrev pub SumLaw : Type 0
+SumLaw =
+    ((tag : ℕ) (off : ℤ) (b : ℕ) → RowLaw (ins.Addb tag off b))
+    × ((tag : ℕ) (off : ℤ) (b : ℕ) → RowLaw (ins.Subb tag off b))
+    × ((tag : ℕ) (off : ℤ) (w : ℕ) → RowLaw (ins.Addw tag off w))
+    × ((tag : ℕ) (off : ℤ) (w : ℕ) → RowLaw (ins.Subw tag off w))
+    × ((tag : ℕ) (off : ℤ) (n : ℕ) → RowLaw (ins.Incn tag off n))
+    × ((tag : ℕ) (off : ℤ) (n : ℕ) → RowLaw (ins.Decn tag off n))
+    × ((tag : ℕ) (off : ℤ) (n : ℕ) → RowLaw (ins.Addn tag off n))
+    × ((tag : ℕ) (off : ℤ) (n : ℕ) → RowLaw (ins.Subn tag off n))
+
+-- of the operations on bits
+abbrev pub BitLaw : Type 0
+BitLaw =
+    ((tag : ℕ) (off : ℤ) (n : ℕ) → RowLaw (ins.Clearn tag off n))
+    × ((tag : ℕ) (off : ℤ) (n : ℕ) → RowLaw (ins.Notn tag off n))
+    × ((tag : ℕ) (off : ℤ) (n : ℕ) → RowLaw (ins.Andn tag off n))
+    × ((tag : ℕ) (off : ℤ) (n : ℕ) → RowLaw (ins.Orn tag off n))
+    × ((tag : ℕ) (off : ℤ) (n : ℕ) → RowLaw (ins.Xorn tag off n))
+
+-- of the primitives that push the flags and that change the protection
+abbrev pub PrimitiveLaw : Type 0
+PrimitiveLaw = ((args : List ℕ) → RowLaw (ins.Prim 0 2 args)) × ((args : List ℕ) → RowLaw (ins.Prim 1 3 args))
+
+-- of the primitives that manipulate the bits of the top under a mask
+abbrev pub MaskLaw : Type 0
+MaskLaw = ((args : List ℕ) → RowLaw (ins.Prim 2 1 args)) × ((args : List ℕ) → RowLaw (ins.Prim 3 1 args))
+
+-- of the rows that return
+abbrev pub ReturnLaw : Type 0
+ReturnLaw =
+    RowLaw ins.Ret × ((less : ℕ) → RowLaw (ins.Reti less)) × ((more : ℕ) → RowLaw (ins.Reto more)) × ((less more : ℕ) → RowLaw (ins.Retio less more))

@@ -14,7 +14,7 @@ use Rattle.model_prove.specs.Facts.{Facts, values_at, within, without_bytes}
 use Rattle.model_prove.specs.Compares.{touched}
 use Rattle.model_prove.specs.Keys.{Start, Delegated, OfClass, PlaceKey, MomentKey, Known, same_lists}
 use Rattle.model_prove.specs.Digits.{same}
-use Rattle.model_prove.specs.Texts.{Opens, opened, after_bytes, after_any, matches_of}
+use Rattle.model_prove.specs.Texts.{Opens, opened, after_bytes, after_any, any_count, matches_of}
 
 -- the rules and the application that they speak of
 pub record Setting : Type 0 where
@@ -189,7 +189,7 @@ la_at = public_base + 1037
 -- the bytes of a reply before its SW: none, or any
 abbrev pub bodies : Bool → Opens → List Opens
 bodies false o = o ∷ []
-bodies true o = after_any 1000 (o ∷ [])
+bodies true o = after_any any_count (o ∷ [])
 
 -- whether a combination is among some
 abbrev pub has_combination : List Bool → List (List Bool) → Bool

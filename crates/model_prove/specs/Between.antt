@@ -11,7 +11,7 @@ use Rattle.model_prove.specs.Facts.{Facts, values_at, know, know_all, know_bytes
 use Rattle.model_prove.specs.Compares.{NoCompare}
 use Rattle.model_prove.specs.Digits.{same}
 use Rattle.model_prove.specs.Keys.{Start, Delegated, OfClass, PlaceKey, MomentKey, Known, same_lists}
-use Rattle.model_prove.specs.Texts.{Opens, opened, all_after, same_opens, after_any, matches_of}
+use Rattle.model_prove.specs.Texts.{Opens, opened, all_after, same_opens, after_any, any_count, matches_of}
 use Rattle.model_prove.specs.Arrivals.{Setting, Arrival, AtPlace, AtMoment, arrive, idle, static_size, after_command, after_session}
 
 -- ---- classes
@@ -88,7 +88,7 @@ with_classes sets (o ∷ os) cs = with_class (record { matches = matches_of o; s
 -- the classes of some headers
 abbrev pub classes_of : List Header → List Class
 classes_of [] = []
-classes_of (h ∷ hs) = with_classes h.sets (after_any 1000 (h.left ∷ [])) (classes_of hs)
+classes_of (h ∷ hs) = with_classes h.sets (after_any any_count (h.left ∷ [])) (classes_of hs)
 
 -- the classes that some command is in
 abbrev pub classes : AppRules → List Class

@@ -92,16 +92,17 @@ abbrev pub called_if : Bool → ℕ → Spot → Spot
 called_if true to p = called to p
 called_if false to p = p
 
--- a return through the newest call, with these values of the bytes that move over it and the bytes below it
-abbrev pub returned : Call → ℕ → List Set → Spot → Spot
-returned c to ss p =
-    let q = record p { key = record p.key { lb = c.lb; at = c.at } } in
+-- a return through the newest call, which leaves those before it open, with these values of the bytes that move over it
+-- and the bytes below it
+abbrev pub returned : Call → List Call → ℕ → List Set → Spot → Spot
+returned c cs to ss p =
+    let q = record p { key = record p.key { lb = c.lb; at = c.at; calls = cs } } in
     lowered (to + length ss) (written to ss q)
 
 -- a return, if a call is open
 abbrev pub returned_by : List Call → ℕ → List Set → Spot → Spot
 returned_by [] to ss p = p
-returned_by (c ∷ cs) to ss p = returned c to ss p
+returned_by (c ∷ cs) to ss p = returned c cs to ss p
 
 -- a commit (1, 3) keeps what is read, and 0 and 2 read what is kept; the protection is on after 2 and 3
 abbrev pub protection_set : Setting → ℕ → Spot → Spot

@@ -1,5 +1,5 @@
 -- The tables: when they are closed under every outcome, the least ones, what they break, and the text of a proof.
-use Rattle.std.specs.Prelude.{◌≡◌, ℕ, zero, suc, ◌+◌, ◌-◌, ◌/◌, ◌≤◌, Bool, true, false, cond, not, ◌&&◌, ◌||◌, nat_lt, nat_le, ◌==◌, List, [], ◌∷◌, ◌++◌, length, map, flat_map, filter, codes, decimal, Option, Some, None, Result, Ok, Err}
+use Rattle.std.specs.Prelude.{◌≡◌, ℕ, zero, suc, ◌+◌, ◌-◌, ◌/◌, ◌<◌, ◌≤◌, Bool, true, false, cond, not, ◌&&◌, ◌||◌, nat_lt, nat_le, ◌==◌, List, [], ◌∷◌, ◌++◌, length, map, flat_map, filter, codes, decimal, Option, Some, None, Result, Ok, Err}
 use Rattle.model_device.specs.Bytes.{AreBytes, bytes2}
 use Rattle.model_device.specs.Card.{App}
 use Rattle.model_text.specs.Listing.{hex_text}
@@ -70,9 +70,11 @@ places_closed s t (p ∷ ps) = includes_all t (place_arrivals s p.0 p.1) && plac
 unfoldable pub is_closed : Setting → Tables → Bool
 is_closed s t = includes t (created s) && moments_closed s (classes s.rules) t t.moments && places_closed s t t.places
 
--- an application that a card can have: of bytes, with static and session bytes that lie in their segments
+-- an application that a card can have: of bytes, whose code has addresses of two bytes, with static and session bytes that
+-- lie in their segments
 pub record IsLoadable (a : App) : Type 0 where
   pub code : AreBytes a.code
+  pub places : length a.code < 65536
   pub bytes : AreBytes a.fixed
   pub static : length a.fixed ≤ dynamic_base
   pub session : dynamic_base + a.session ≤ dynamic_end

@@ -115,6 +115,10 @@ abbrev pub any_unless : Bool → List Opens → List Opens → List Opens
 any_unless true os rest = os
 any_unless false os rest = rest
 
+-- more bytes than a command or a reply has
+abbrev pub any_count : ℕ
+any_count = 1000000
+
 -- What is left after any number of bytes: each that some front leads to. The fuel bounds how many there are.
 abbrev pub after_any : ℕ → List Opens → List Opens
 after_any zero os = os

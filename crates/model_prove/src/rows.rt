@@ -35,6 +35,13 @@ pub fn a_counter_falls()
         codes "broken under line 11 at 0000\nnot proved keys 8\n") }
 {}
 
+/// A return closes the newest call alone: after a call in a call the first one is still open.
+pub fn a_call_in_a_call()
+    ensures { proof_of 60 (deck_of (codes "CALL ALL,first\nEXIT\nfirst: CALL ALL,second\nRET\nsecond: RET\n") (codes "0 0")
+        (codes ""))
+        ≡ Ok (codes "idle:\nsession:\nproved keys 12\n") }
+{}
+
 /// Tables are closed once nothing comes to them, and not before; those that break a rule never are.
 pub fn closing()
     ensures closed { closed_after 40 (deck_of (codes "SETB SB[0],1\nEXIT\n") (codes "1 0")

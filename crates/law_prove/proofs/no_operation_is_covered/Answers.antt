@@ -1,4 +1,4 @@
-use Rattle.law_prove.proofs.Rows.{nop_law}
+use Rattle.law_prove.proofs.Plain.{nop_law}
 use Rattle.law_prove.proofs.no_operation_is_covered.Goals as goal
 
 pub returns : goal.returns

@@ -1,5 +1,5 @@
-use Rattle.law_prove.proofs.Rows.{pop_law}
+use Rattle.law_prove.proofs.Plain.{pop_laws}
 use Rattle.law_prove.proofs.pops_are_covered.Goals as goal
 
 pub returns : goal.returns
-returns c = pop_law
+returns c = pop_laws
