@@ -42,7 +42,9 @@ RUNS = [
      b"line 12 expected 0002 9000 was 0001 9000 (line 11 apdu 8001000002)\nexpected 1 failed 1\n"),
     ("mellab", ["sweep"], b"format\nreboot\n", 1, b"line 2 BadLine\n"),
     ("mellab", ["prove"], RULED, 0, b"idle:\nsession:\nproved keys 16\n"),
-    ("mellab", ["prove"], RULED + WRAPS, 1, b"idle wraps 0:\nsession wraps 0:\nbroken wraps line 15 at 0000 ; INCN SB[0],2\nnot proved keys 10\n"),
+    ("mellab", ["prove"], RULED + WRAPS, 1,
+     b"idle wraps 0:\nsession wraps 0:\nbroken wraps line 15 at 0000 ; INCN SB[0],2 ; created, select, apdu 00-BD,BF-FE 00-FF 00-FF 00-FF: 4\n"
+     b"not proved keys 10\n"),
     ("mellab", ["prove"], RULED + WRAPS.replace(b"spend", b"lend"), 1, b"line 15 BadLine\n"),
     ("mellab", ["prove"], COUNTER, 1, b"line 0 NoApplication\n"),
     ("mellab", [], EXPECTED, 2, LAB_USAGE),

@@ -325,16 +325,20 @@ fn proved(rt: HostRuntime) -> Result<(), Fail> {
         (
             "",
             "NOP",
-            "broken guesses line 19 at 0010 ; CMPB PB[0],7\nnot proved keys 106\n",
+            "broken guesses line 19 at 0010 ; CMPB PB[0],7 ; created, select, apdu 00-BD,BF-FE 20 00-FF 00-FF: 4-5 7-11, exit, \
+                apdu 00-BD,BF-FE 20 00-FF 00-FF: 4-5 7-11, exit, apdu 00-BD,BF-FE 20 00-FF 00-FF: 4-5 7-11, exit, \
+                apdu 00-BD,BF-FE 20 00-FF 00-FF: 4-5 7-10\nnot proved keys 106\n",
         ),
         (
             "CMPB PT[-12],0x99\nJUMP EQ,gift\n",
             "DECN SB[0],1",
-            "broken guesses line 21 at 001A ; CMPB PB[0],7\nnot proved keys 180\n",
+            "broken guesses line 21 at 001A ; CMPB PB[0],7 ; created, select, apdu 00-BD,BF-FE 20 00-FF 00-FF: 4-7 9-13, exit, \
+                apdu 00-BD,BF-FE 20 00-FF 00-FF: 4-7 9-13, exit, apdu 00-BD,BF-FE 20 00-FF 00-FF: 4-7 9-13, exit, \
+                apdu 00-BD,BF-FE 20 00-FF 00-FF: 4-7 9-12\nnot proved keys 180\n",
         ),
     ] {
         let deck = door(alloc, first, cost, "spend")?;
-        let end = ended(alloc, words, deck.as_bytes(), 400, &[])?;
+        let end = ended(alloc, words, deck.as_bytes(), 600, &[])?;
         assert!(rt;
             end.status == 1 && end.text.as_slice().ends_with(tail.as_bytes()),
             "{}",
