@@ -126,7 +126,8 @@ fn add_abend<T: Sink>(sheet: &mut Sheet<'_, T>, end: &Option<Outcome>)
 
 /// Adds the registers, the flags, the protection and the abend of a turn.
 pub fn add_registers<T: Sink>(sheet: &mut Sheet<'_, T>, turn: &Turn, lb: u16, is_on: bool)
-    ensures { (wrote : Option ℕ) → Adds T.Sink sheet.old (register_keys (turn_value turn.now wrote) lb is_on) sheet.new }
+    ensures { (wrote : Option ℕ) →
+        Adds T.Sink sheet.old (register_keys (turn_value turn.now wrote) lb is_on) sheet.new }
 {
     sheet.add_key(b",\"dt\":", turn.dt as u32);
     sheet.add_key(b",\"lb\":", lb as u32);

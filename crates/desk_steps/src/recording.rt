@@ -96,7 +96,8 @@ fn put_turn<T: Sink>(
     writes: Option<(u32, u32)>,
 )
     requires { IfSome turn.now.ins Shaped }
-    ensures adds { (wrote : Option ℕ) → Adds T.Sink sheet.old (turn_text number aid.now source (turn_value turn.now wrote)
+    ensures adds { (wrote : Option ℕ) →
+        Adds T.Sink sheet.old (turn_text number aid.now source (turn_value turn.now wrote)
         (record {
           lb = memory.now.after.lb;
           is_on = is_on;

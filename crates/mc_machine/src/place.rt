@@ -93,7 +93,8 @@ impl ChainPlace {
     ) -> Result<Turn, Stop>
         requires going { (B.state bank.old).stopped ≡ false }
         requires fits { Runs self.old (FitsChain B.Bank bank.old) }
-        ensures done { Runs self.old (λ c. Runs self.new (TurnsTo B.Bank bank.old bank.new result steps.old steps.new c)) }
+        ensures done { Runs self.old
+            (λ c. Runs self.new (TurnsTo B.Bank bank.old bank.new result steps.old steps.new c)) }
         ensures shaped { IfOk result (λ turn. IfSome turn.ins Shaped) }
         ensures low { IfOk result (λ turn. 1 ≤ turn.depth) }
         ensures high { IfOk result (λ turn. turn.depth ≤ 4) }
