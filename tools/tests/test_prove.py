@@ -104,7 +104,7 @@ DOORS = {
     "gift": (changed("purse", ("        EXITSW 0x6D00\n", "        CMPB PT[-12],0x99\n        JUMP EQ,gift\n        EXITSW 0x6D00\n"
                                                          "gift:   SETB SB[2],3\n        EXIT\n")), "guesses"),
     # a guess is spent only after the PIN was compared
-    "late": (changed("purse", ("        DECN SB[2],1            ; a guess is spent before the PIN is looked at\n", ""),
+    "late": (changed("purse", ("        DECN SB[2],1              ; a guess is spent before the PIN is looked at\n", ""),
                      ("        JUMP NE,denied\n        SETB SB[2],3", "        JUMP NE,wrong\n        SETB SB[2],3"),
                      ("denied: EXITSW", "wrong:  DECN SB[2],1\ndenied: EXITSW")), "guesses"),
     # money and number change one after the other

@@ -1,7 +1,8 @@
 -- Drafts line by line: sections that open and end, lines that are taken or refused, and the whole draft.
-use Rattle.std.proofs.Common.{◌≡◌, ℕ, ◌+◌, ◌-◌, Bool, true, false, cond, List, [], ◌∷◌, ◌++◌, take, Bor, Option, Some, None, Result, Ok, Err, refl, sym, ap, subst, ◌∙◌, append_assoc, append-nil}
-use Rattle.std.specs.Prelude.{bytes_eq, codes, map, unwrap_or, ◌==◌}
+use Rattle.std.proofs.Common.{◌≡◌, ℕ, ◌+◌, ◌-◌, Bool, true, false, cond, List, [], ◌∷◌, ◌++◌, length, take, drop, Bor, Option, Some, None, Result, Ok, Err, refl, sym, ap, subst, ◌∙◌, append_assoc, append-nil}
+use Rattle.std.specs.Prelude.{bytes_eq, codes, map, not, unwrap_or, ◌==◌, ◌&&◌}
 use Rattle.std.specs.BTreeMap.{BTreeMap}
+use Rattle.std.proofs.lemmas.List.{drop_at}
 use Rattle.model_text.specs.Text.{◌>>=◌, ok_as, err_as, only_if, fields}
 use Rattle.model_play.specs.DeckGrammar.{is_data}
 use Rattle.model_play.specs.declared.deck.DeckCause.{DeckCause}
@@ -13,20 +14,19 @@ use Rattle.desk_draft.specs.Declarations
 use Rattle.desk_draft.specs.Declarations.{DeclarationWord, NameMeaning, data_count, data_scope, declaration_in, declaration_text, gives_later, scope_after}
 use Rattle.desk_draft.specs.Operands.{instruction_text}
 use Rattle.desk_draft.specs.Statements.{Loadable, statement_text}
+use Rattle.desk_draft.specs.Rules.{is_rule, rule_text}
 use Rattle.desk_draft.specs.Parts.{EndedLine}
 use Rattle.desk_draft.specs.Drafts
-use Rattle.desk_draft.specs.Drafts.{Before, Between, Draft, DraftTurn, Mode, Within, by_name, closed_section, coded_turn, draft_of_lines, draft_turn, kept_line, new_section, opening_line, scope_turn, section_line, sizes_of, static_size, with_line}
+use Rattle.desk_draft.specs.Drafts.{Before, Between, Draft, DraftTurn, Mode, Rules, Within, by_name, closed_section, coded_turn, draft_of_lines, draft_turn, ended_before, ended_rules, kept_line, marked, marked_rules, marked_turn, new_section, opening_line, rule_names, rules_after, scope_turn, section_line, sizes_of, spoken_text, spoken_turn, static_size, with_line}
 use Rattle.desk_draft.specs.declared.declaration.Declaration.{Declaration}
 use Rattle.desk_draft.specs.declared.draft.OpenSection.{OpenSection}
+use Rattle.desk_draft.specs.declared.known.Known.{Known}
 use Rattle.desk_draft.specs.declared.scope.Scope.{Scope}
 use Rattle.desk_draft.specs.declared.statement.Sizes.{Sizes}
-use Rattle.desk_draft.specs.Views.{AreNames, AreSections, Declares, DeclaresMaybe, EndedLineTurned, LineTurned, OpensSection, Pushes, ScopeTurned, Stands, StandsMode, StandsSection, TakesScope, scope_by, scope_of, text_by}
+use Rattle.desk_draft.specs.Views.{AreNames, AreScopes, AreSections, Declares, DeclaresMaybe, EndedLineTurned, Knows, LineTurned, OpensSection, Pushes, ScopeTurned, Stands, StandsMode, StandsSection, TakesScope, scope_by, scope_of, text_by}
 
 abbrev Names : Type 0
 Names = List (List ℕ × NameMeaning)
-
-abbrev ByName : Type 0
-ByName = BTreeMap (Bor (List ℕ)) Sizes
 
 -- ---- sections
 
@@ -61,11 +61,33 @@ by_name_more [] s = refl
 by_name_more (x ∷ ss) s = ap (λ l. (x.name, x.sizes) ∷ l) (by_name_more ss s)
 
 -- a section that has ended is kept by its name
-pub section_kept : (m : ByName) (ss : List Drafts.Section) (s : OpenSection) (t : Drafts.OpenSection) (z : Loadable) → StandsSection s t → z ≡ sizes_of t → AreSections m (by_name ss ++ (s.name.now, z) ∷ [])
-    → AreSections m (by_name (ss ++ closed_section t ∷ []))
-section_kept m ss s t z h e a =
-    let f : (s.name.now, z) ≡ (t.name, sizes_of t) = ap (λ n. (n, z)) h.name ∙ ap (λ x. (t.name, x)) e in
+pub section_kept : (m : BTreeMap (Bor (List ℕ)) Sizes) (ss : List Drafts.Section) (n : List ℕ) (t : Drafts.OpenSection) (z : Loadable) → n ≡ t.name → z ≡ sizes_of t → AreSections m (by_name ss ++ (n, z) ∷ []) → AreSections m (by_name (ss ++ closed_section t ∷ []))
+section_kept m ss n t z h e a =
+    let f : (n, z) ≡ (t.name, sizes_of t) = ap (λ n. (n, z)) h ∙ ap (λ x. (t.name, x)) e in
     subst (λ (l : List (List ℕ × Loadable)). AreSections m l) (ap (λ p. by_name ss ++ p ∷ []) f ∙ sym (by_name_more ss (closed_section t))) a
+
+-- what is known after the end of a section
+pub knows_ended : (k m : Known) (ss : List Drafts.Section) (r : Rules) (t : Drafts.OpenSection) (n : List ℕ) (z : Loadable) → Knows k ss r → n ≡ t.name → z ≡ sizes_of t → AreSections m.sections (by_name ss ++ (n, z) ∷ [])
+    → AreScopes m.scopes ((n, t.scope.names) ∷ r.scopes) → m.app ≡ k.app → m.is_draft ≡ k.is_draft → Knows m (ss ++ closed_section t ∷ []) (ended_rules t r)
+knows_ended k m ss r t n z h e f a b i j = record {
+  sections = section_kept m.sections ss n t z e f a;
+  scopes = subst (λ (x : List ℕ). AreScopes m.scopes ((x, t.scope.names) ∷ r.scopes)) e b;
+  app = ap (λ (x : Bor (List ℕ)). x.now) i ∙ h.app;
+  is_draft = j ∙ h.is_draft;
+}
+
+-- a rule or a statement, by whether it is a rule of a draft
+pub ruled_pushed : (b : Before) (l d n : List ℕ) (x : Bool) (p : Result (Unit {0}) Fault) → x ≡ b.rules.is_draft → (x && is_rule l) ≡ true → Pushes d (rule_text (by_name b.sections) (rule_names b.rules) l) p n → Pushes d (spoken_text b l) p n
+ruled_pushed b l d n x p e h k =
+    let i : (b.rules.is_draft && is_rule l) ≡ true = ap (λ (y : Bool). y && is_rule l) (sym e) ∙ h in
+    let j : rule_text (by_name b.sections) (rule_names b.rules) l ≡ spoken_text b l = rw i refl in
+    subst (λ (r : Result (List ℕ) DeckCause). Pushes d r p n) j k
+
+pub statement_pushed : (b : Before) (l d n : List ℕ) (x : Bool) (p : Result (Unit {0}) Fault) → x ≡ b.rules.is_draft → (x && is_rule l) ≡ false → Pushes d (statement_text (by_name b.sections) l) p n → Pushes d (spoken_text b l) p n
+statement_pushed b l d n x p e h k =
+    let i : (b.rules.is_draft && is_rule l) ≡ false = ap (λ (y : Bool). y && is_rule l) (sym e) ∙ h in
+    let j : statement_text (by_name b.sections) l ≡ spoken_text b l = rw i refl in
+    subst (λ (r : Result (List ℕ) DeckCause). Pushes d r p n) j k
 
 -- ---- refusals
 
@@ -148,43 +170,43 @@ scope_by_code d l old new later b s p e h = subst (λ (x : Bool). ScopeTurned ol
 -- ---- lines between sections
 
 -- a line that opens a section
-pub opening_turned : (o : Option Drafts.OpenSection) (b : Before) (l old new : List ℕ) (m : ByName) (s : OpenSection) → OpensSection (Some s) o → new ≡ old ++ l → AreSections m (by_name b.sections) → LineTurned old new m (Some s) (opening_line o b l)
+pub opening_turned : (o : Option Drafts.OpenSection) (b : Before) (l old new : List ℕ) (m : Known) (s : OpenSection) → OpensSection (Some s) o → new ≡ old ++ l → Knows m b.sections b.rules → LineTurned old new m (Some s) (opening_line o b l)
 opening_turned None b l old new m s h e a = absurd h
 opening_turned (Some t) b l old new m s h e a = record {
   turn = record { text = l; before = record b { mode = Within t } };
   is = refl;
   text = e;
-  stands = record { sections = a; mode = h };
+  stands = record { knows = a; mode = h };
 }
 
--- a statement
-stated_by : (r : Result (List ℕ) DeckCause) (b : Before) (old new : List ℕ) (m : ByName) → ok_as (λ t. old ++ t) r ≡ Ok new → Stands m None b → LineTurned old new m None (ok_as (λ deck. record { text = deck; before = b }) r)
-stated_by (Err e) b old new m h s = absurd (cc h)
-stated_by (Ok t) b old new m h s =
+-- a rule or a statement
+spoken_by : (r : Result (List ℕ) DeckCause) (b : Before) (l old new : List ℕ) (m : Known) → ok_as (λ t. old ++ t) r ≡ Ok new → StandsMode None b.mode → Knows m b.sections (rules_after b.rules l) → LineTurned old new m None (ok_as (spoken_turn b l) r)
+spoken_by (Err e) b l old new m h s k = absurd (cc h)
+spoken_by (Ok t) b l old new m h s k =
     let i : old ++ t ≡ new = cc h in
-    record { turn = record { text = t; before = b }; is = refl; text = sym i; stands = s }
+    record { turn = spoken_turn b l t; is = refl; text = sym i; stands = record { knows = k; mode = s } }
 
-pub statement_turned : (o : Option Drafts.OpenSection) (b : Before) (l old new : List ℕ) (m : ByName) → OpensSection None o → Stands m None b → ok_as (λ t. old ++ t) (statement_text (by_name b.sections) l) ≡ Ok new → LineTurned old new m None (opening_line o b l)
-statement_turned (Some t) b l old new m h s e = absurd h
-statement_turned None b l old new m h s e = stated_by (statement_text (by_name b.sections) l) b old new m e s
+pub spoken_turned : (o : Option Drafts.OpenSection) (b : Before) (l old new : List ℕ) (m : Known) → OpensSection None o → StandsMode None b.mode → ok_as (λ t. old ++ t) (spoken_text b l) ≡ Ok new → Knows m b.sections (rules_after b.rules l) → LineTurned old new m None (opening_line o b l)
+spoken_turned (Some t) b l old new m h s e k = absurd h
+spoken_turned None b l old new m h s e k = spoken_by (spoken_text b l) b l old new m e s k
 
-pub statement_refused : (o : Option Drafts.OpenSection) (b : Before) (l : List ℕ) (x : Fault) → OpensSection None o → Faulty (statement_text (by_name b.sections) l) x → Faulty (opening_line o b l) x
-statement_refused (Some t) b l x h e = absurd h
-statement_refused None b l x h e = faulty_ok_as (λ deck. record { text = deck; before = b }) (statement_text (by_name b.sections) l) x e
+pub spoken_refused : (o : Option Drafts.OpenSection) (b : Before) (l : List ℕ) (x : Fault) → OpensSection None o → Faulty (spoken_text b l) x → Faulty (opening_line o b l) x
+spoken_refused (Some t) b l x h e = absurd h
+spoken_refused None b l x h e = faulty_ok_as (spoken_turn b l) (spoken_text b l) x e
 
 -- ---- a line of an open section
 
 -- the end of a section
-pub end_turned : (b : Before) (t : Drafts.OpenSection) (n : ℕ) (l old new : List ℕ) (later e : Bool) (m : ByName) → e ≡ true → new ≡ old ++ l → AreSections m (by_name (b.sections ++ closed_section t ∷ [])) → LineTurned old new m None (section_line e b t n l later)
+pub end_turned : (b : Before) (t : Drafts.OpenSection) (n : ℕ) (l old new : List ℕ) (later e : Bool) (m : Known) → e ≡ true → new ≡ old ++ l → Knows m (b.sections ++ closed_section t ∷ []) (ended_rules t b.rules) → LineTurned old new m None (section_line e b t n l later)
 end_turned b t n l old new later e m i h a = subst (λ (e : Bool). LineTurned old new m None (section_line e b t n l later)) (sym i) (record {
-  turn = record { text = l; before = record { sections = b.sections ++ closed_section t ∷ []; mode = Between } };
+  turn = record { text = l; before = ended_before t b };
   is = refl;
   text = h;
-  stands = record { sections = a; mode = tt };
+  stands = record { knows = a; mode = tt };
 })
 
 -- a line that the section keeps
-pub line_kept : (b : Before) (t : Drafts.OpenSection) (n : ℕ) (l old new : List ℕ) (later e : Bool) (m : ByName) (s z : OpenSection) → e ≡ false → StandsSection s t → z.name ≡ s.name → z.aid ≡ s.aid → AreSections m (by_name b.sections)
+pub line_kept : (b : Before) (t : Drafts.OpenSection) (n : ℕ) (l old new : List ℕ) (later e : Bool) (m : Known) (s z : OpenSection) → e ≡ false → StandsSection s t → z.name ≡ s.name → z.aid ≡ s.aid → Knows m b.sections b.rules
     → ScopeTurned old new z.scope (Ok tt) (scope_turn (is_data (fields l)) (scope_of s.scope t.scope.names) l later) → LineTurned old new m (Some z) (section_line e b t n l later)
 line_kept b t n l old new later e m s z i h f g a k =
     let r : scope_turn (is_data (fields l)) t.scope l later ≡ Ok (record { text = k.0; scope = scope_of z.scope k.1 }) =
@@ -193,7 +215,7 @@ line_kept b t n l old new later e m s z i h f g a k =
       turn = kept_line b t n l (record { text = k.0; scope = scope_of z.scope k.1 });
       is = ap (ok_as (kept_line b t n l)) r;
       text = k.4;
-      stands = record { sections = a; mode = record { names = k.2; name = ap (λ x. x.now) f ∙ h.name; aid = ap (λ x. x.now) g ∙ h.aid; scope = refl } };
+      stands = record { knows = a; mode = record { names = k.2; name = ap (λ x. x.now) f ∙ h.name; aid = ap (λ x. x.now) g ∙ h.aid; scope = refl } };
     })
 
 pub line_faulty : (b : Before) (t : Drafts.OpenSection) (n : ℕ) (l : List ℕ) (later e : Bool) (s : OpenSection) (x : Fault) → e ≡ false → StandsSection s t → Faulty (scope_turn (is_data (fields l)) (scope_of s.scope t.scope.names) l later) x
@@ -205,7 +227,7 @@ line_faulty b t n l later e s x i h k =
 
 -- ---- a line
 
-pub line_ended : (old mid new ending : List ℕ) (m : ByName) (s : Option OpenSection) (r : Result DraftTurn DeckCause) → LineTurned old mid m s r → new ≡ mid ++ ending → EndedLineTurned old new ending m s r
+pub line_ended : (old mid new ending : List ℕ) (m : Known) (s : Option OpenSection) (r : Result DraftTurn DeckCause) → LineTurned old mid m s r → new ≡ mid ++ ending → EndedLineTurned old new ending m s r
 line_ended old mid new ending m s r h e = record {
   turn = h.turn;
   is = h.is;
@@ -213,15 +235,32 @@ line_ended old mid new ending m s r h e = record {
   stands = h.stands;
 }
 
+-- a line after which it is known whether it became another one
+pub line_marked : (old new l : List ℕ) (m n : Known) (s : Option OpenSection) (b : Before) (k : ℕ) (later : Bool) → LineTurned old new m s (draft_turn b.mode b k l later)
+    → ((ss : List Drafts.Section) (r : Rules) → Knows m ss r → Knows n ss (marked_rules r (not (bytes_eq (drop (length old) new) l)))) → LineTurned old new n s (marked_turn b k l later)
+line_marked old new l m n s b k later h f =
+    let t = h.turn in
+    let same : drop (length old) new ≡ t.text = ap (drop (length old)) h.text ∙ drop_at old t.text (length old) refl in
+    let knows = subst (λ (x : List ℕ). Knows n t.before.sections (marked_rules t.before.rules (not (bytes_eq x l)))) same (f t.before.sections t.before.rules h.stands.knows) in
+    record {
+      turn = marked l t;
+      is = ap (ok_as (marked l)) h.is;
+      text = h.text;
+      stands = record { knows = knows; mode = h.stands.mode };
+    }
+
+pub mark_faulty : (l : List ℕ) (b : Before) (k : ℕ) (later : Bool) (x : Fault) → Faulty (draft_turn b.mode b k l later) x → Faulty (marked_turn b k l later) x
+mark_faulty l b k later x h = faulty_ok_as (marked l) (draft_turn b.mode b k l later) x h
+
 -- a line between sections, and a line of a section that is open
-pub mode_between : (m : ByName) (b : Before) → Stands m None b → b.mode ≡ Between
+pub mode_between : (m : Known) (b : Before) → Stands m None b → b.mode ≡ Between
 mode_between m b h = between_by b.mode h.mode
   where
     between_by : (d : Mode) → StandsMode None d → d ≡ Between
     between_by Between h = refl
     between_by (Within t) h = absurd h
 
-pub mode_within : (m : ByName) (b : Before) (s : OpenSection) → Stands m (Some s) b → (t : Drafts.OpenSection) × (b.mode ≡ Within t) × StandsSection s t
+pub mode_within : (m : Known) (b : Before) (s : OpenSection) → Stands m (Some s) b → (t : Drafts.OpenSection) × (b.mode ≡ Within t) × StandsSection s t
 mode_within m b s h = within_by b.mode h.mode
   where
     within_by : (d : Mode) → StandsMode (Some s) d → (t : Drafts.OpenSection) × (d ≡ Within t) × StandsSection s t
@@ -239,7 +278,7 @@ abbrev pub left_draft : List ℕ → Before → List (ℕ × EndedLine) → Resu
 left_draft so b ls = ok_as (with_front so) (draft_of_lines b ls)
 
 lines_step : (b : Before) (l : ℕ × EndedLine) (ls : List (ℕ × EndedLine))
-    → draft_of_lines b (l ∷ ls) ≡ (err_as (λ c. (l.0, c)) (draft_turn b.mode b l.0 (l.1).text (gives_later (map (λ m. (m.1).text) ls))) >>= λ t. ok_as (with_line t.text (l.1).ending) (draft_of_lines t.before ls))
+    → draft_of_lines b (l ∷ ls) ≡ (err_as (λ c. (l.0, c)) (marked_turn b l.0 (l.1).text (gives_later (map (λ m. (m.1).text) ls))) >>= λ t. ok_as (with_line t.text (l.1).ending) (draft_of_lines t.before ls))
 unfolding draft_of_lines
 lines_step b l ls = refl
 
@@ -254,9 +293,9 @@ deck_after so text ending (Err e) = refl
 
 -- one more line
 pub line_taken : (so new : List ℕ) (b : Before) (n : ℕ) (l : EndedLine) (later : Bool) (ls : List (ℕ × EndedLine)) (t : DraftTurn) (whole : Result Draft (ℕ × DeckCause)) → later ≡ gives_later (map (λ m. (m.1).text) ls)
-    → draft_turn b.mode b n l.text later ≡ Ok t → new ≡ so ++ t.text ++ l.ending → left_draft so b ((n, l) ∷ ls) ≡ whole → left_draft new t.before ls ≡ whole
+    → marked_turn b n l.text later ≡ Ok t → new ≡ so ++ t.text ++ l.ending → left_draft so b ((n, l) ∷ ls) ≡ whole → left_draft new t.before ls ≡ whole
 line_taken so new b n l later ls t whole f h e w =
-    let i : draft_turn b.mode b n l.text (gives_later (map (λ m. (m.1).text) ls)) ≡ Ok t = ap (draft_turn b.mode b n l.text) (sym f) ∙ h in
+    let i : marked_turn b n l.text (gives_later (map (λ m. (m.1).text) ls)) ≡ Ok t = ap (marked_turn b n l.text) (sym f) ∙ h in
     ap (λ x. left_draft x t.before ls) e
     ∙ deck_after so t.text l.ending (draft_of_lines t.before ls)
     ∙ ap (ok_as (with_front so)) (sym (lines_step b (n, l) ls ∙ ap (λ r. err_as (λ c. (n, c)) r >>= λ (t : DraftTurn). ok_as (with_line t.text l.ending) (draft_of_lines t.before ls)) i))
@@ -264,9 +303,9 @@ line_taken so new b n l later ls t whole f h e w =
 
 -- a line that is refused
 pub line_refused : (so : List ℕ) (b : Before) (n : ℕ) (l : EndedLine) (later : Bool) (ls : List (ℕ × EndedLine)) (c : DeckCause) (whole : Result Draft (ℕ × DeckCause)) → later ≡ gives_later (map (λ m. (m.1).text) ls)
-    → draft_turn b.mode b n l.text later ≡ Err c → left_draft so b ((n, l) ∷ ls) ≡ whole → whole ≡ Err (n, c)
+    → marked_turn b n l.text later ≡ Err c → left_draft so b ((n, l) ∷ ls) ≡ whole → whole ≡ Err (n, c)
 line_refused so b n l later ls c whole f h w =
-    let i : draft_turn b.mode b n l.text (gives_later (map (λ m. (m.1).text) ls)) ≡ Err c = ap (draft_turn b.mode b n l.text) (sym f) ∙ h in
+    let i : marked_turn b n l.text (gives_later (map (λ m. (m.1).text) ls)) ≡ Err c = ap (marked_turn b n l.text) (sym f) ∙ h in
     sym w ∙ ap (ok_as (with_front so)) (lines_step b (n, l) ls ∙ ap (λ r. err_as (λ c. (n, c)) r >>= λ (t : DraftTurn). ok_as (with_line t.text l.ending) (draft_of_lines t.before ls)) i)
 
 -- the end of the draft

@@ -1,6 +1,6 @@
 -- Parts of a text without a line feed, and what a line of a draft becomes, have none either.
 use Rattle.std.proofs.Common.{◌≡◌, ℕ, zero, suc, ◌-◌, Bool, true, false, cond, ◌&&◌, not, List, [], ◌∷◌, ◌++◌, length, take, drop, Option, Some, None, Result, Ok, Err, refl, subst}
-use Rattle.std.specs.Prelude.{ℤ, pos, ◌+ℤ◌, nat_lt, nat_le, ◌==◌, bytes_eq, codes, decimal, filter, ok_or, slice_index, slice_index_or, ⊤}
+use Rattle.std.specs.Prelude.{ℤ, pos, ◌+ℤ◌, nat_lt, nat_le, ◌==◌, bytes_eq, codes, decimal, filter, ok_or, slice_index, slice_index_or, unwrap_or, ⊤}
 use Rattle.std.specs.Fmt.{signed_decimal}
 use Rattle.std.specs.List.{AllByRecursion}
 use Rattle.std.proofs.lemmas.Bool.{and_from, and_parts}
@@ -8,12 +8,13 @@ use Rattle.model_device.specs.Bytes.{has_name, lookup}
 use Rattle.model_text.specs.Text.{◌>>=◌, ok_as, only_if, before_trimmed, decimal_number, every, fields, first_cut, halves_with_character, hex_bytes, is_blank, is_empty, pieces, pieces_with_character, trim, trim_end, trim_front}
 use Rattle.model_text.specs.Listing.{address_text, hex_text, register_name, register_names}
 use Rattle.model_play.specs.declared.deck.DeckCause.{DeckCause}
-use Rattle.model_play.specs.declared.deck.DeckCause.TheVariants.{OutOfRange, UnknownName}
+use Rattle.model_play.specs.declared.deck.DeckCause.TheVariants.{BadHex, OutOfRange, UnknownName}
 use Rattle.law_family.proofs.FlatTexts.{unfed, Flat, flat_append, flat_decimal, flat_hex}
 use Rattle.desk_draft.specs.Parts.{part_in, part_of, with_core, before_rest, first_word, after_word, without_comment}
 use Rattle.desk_draft.specs.Declarations.{NameMeaning, Bytes, Number}
 use Rattle.desk_draft.specs.Operands.{after_text, body_text, bytes_text, instruction_text, jump_words, labelled_text, later_text, named_text, operand_by_parts, operand_text, operands_text, piece_text, pieces_text, plain_operand, shifted_text, size_text, sized_words}
 use Rattle.desk_draft.specs.Statements.{Loadable, after_open, aid_or_name, aid_text, command_field, command_text, counted_hex, field_by, is_aid, load_text, naming_words, one_field_text, only_of, only_text, plain_hex, stated_text, statement_text, text_in_brackets}
+use Rattle.desk_draft.specs.Rules.{after_two, brace_text, braces_of, braces_text, has_second, is_unknown, moved_text, opened_text, opened_texts, rule_text}
 use Rattle.law_family.proofs.FlatTexts.{flat_signed}
 
 -- ---- parts of a text
@@ -335,3 +336,58 @@ flat_statement ss l h k =
     let after = after_word l in
     flat_ok_as (with_core (part_in l after)) (stated_text ss (fields l) (trim after)) (flat_core l after k (flat_after l k))
     (flat_stated ss (fields l) (trim after) h (flat_fields l k) (flat_trim after (flat_after l k)))
+
+-- ---- rules
+
+flat_made : (b : Bool) (t : List ℕ) → Flat t → FlatOk (only_if b UnknownName t)
+flat_made true t h = h
+flat_made false t h = tt
+
+flat_brace : (ns : List (List ℕ × NameMeaning)) (t : List ℕ) → FlatNames ns → Flat t → FlatOk (brace_text ns t)
+flat_brace ns t h k = flat_bind (operand_text ns false t) (λ made. only_if (not (bytes_eq made t)) UnknownName made) (flat_operand ns false t h k) (λ made e. flat_made (not (bytes_eq made t)) made e)
+
+flat_opened : (ns : List (List ℕ × NameMeaning)) (p : List ℕ × Option (List ℕ)) → FlatNames ns → Flat p.0 → FlatMaybe p.1 → FlatOk (opened_text ns p)
+flat_opened ns (t, None) h k e = tt
+flat_opened ns (t, Some rest) h k e = flat_ok_as (λ made. made ++ rest) (brace_text ns t) (λ made f. flat_append made rest f e) (flat_brace ns t h k)
+
+flat_opened_all : (ns : List (List ℕ × NameMeaning)) (ps : List (List ℕ)) → FlatNames ns → AllFlat ps → FlatOk (opened_texts ns ps)
+flat_opened_all ns [] h k = refl
+flat_opened_all ns (p ∷ ps) h k =
+    let cut = flat_cut (λ c. c == 125) p k.0 in
+    flat_bind (opened_text ns (first_cut (λ c. c == 125) p)) (λ t. ok_as (λ rest. t ++ rest) (opened_texts ns ps)) (flat_opened ns (first_cut (λ c. c == 125) p) h cut.0 cut.1)
+    (λ t e. flat_ok_as (λ rest. t ++ rest) (opened_texts ns ps) (λ rest f. flat_append t rest e f) (flat_opened_all ns ps h k.1))
+
+flat_braces_of : (ns : List (List ℕ × NameMeaning)) (ps : List (List ℕ)) → FlatNames ns → AllFlat ps → FlatOk (braces_of ns ps)
+flat_braces_of ns [] h k = refl
+flat_braces_of ns (p ∷ ps) h k = flat_ok_as (λ rest. p ++ rest) (opened_texts ns ps) (λ rest f. flat_append p rest k.0 f) (flat_opened_all ns ps h k.1)
+
+flat_two : (l : List ℕ) → Flat l → Flat (after_two l)
+flat_two l h = flat_after (after_word l) (flat_after l h)
+
+flat_moved : (ss : List (List ℕ × Loadable)) (s : List ℕ) → FlatAids ss → Flat s → FlatOk (moved_text ss s)
+flat_moved ss s h k = flat_cond (is_unknown ss (fields s)) (Err BadHex) (statement_text ss s) tt (flat_statement ss s h k)
+
+-- a rule
+pub flat_rule : (ss : List (List ℕ × Loadable)) (ns : List (List ℕ × NameMeaning)) (l : List ℕ) → FlatAids ss → FlatNames ns → Flat l → FlatOk (rule_text ss ns l)
+flat_rule ss ns l h k e =
+    let s = after_two l in
+    flat_cond (has_second l (codes "move")) (ok_as (λ t. before_rest l s ++ t) (moved_text ss s)) (braces_text ns l)
+    (flat_ok_as (λ t. before_rest l s ++ t) (moved_text ss s) (λ t f. flat_append (before_rest l s) t (flat_before l s e) f) (flat_moved ss s h (flat_two l e)))
+    (flat_braces_of ns (pieces (λ c. c == 123) l) k (flat_pieces (λ c. c == 123) l e))
+
+-- what sections declare
+abbrev pub FlatScopes : List (List ℕ × List (List ℕ × NameMeaning)) → Type 0
+FlatScopes rs = AllByRecursion (λ p. FlatNames p.1) rs
+
+scope_by : (b : Bool) (ns : List (List ℕ × NameMeaning)) (o : Option (List (List ℕ × NameMeaning))) (d : List (List ℕ × NameMeaning)) → FlatNames ns → FlatNames (unwrap_or o d) → FlatNames (unwrap_or (cond b (Some ns) o) d)
+scope_by true ns o d h k = h
+scope_by false ns o d h k = k
+
+-- what a section declares, or other names if it is not there
+pub flat_scope_of : (rs : List (List ℕ × List (List ℕ × NameMeaning))) (n : List ℕ) (d : List (List ℕ × NameMeaning)) → FlatScopes rs → FlatNames d → FlatNames (unwrap_or (lookup rs n) d)
+flat_scope_of [] n d h k = k
+flat_scope_of (p ∷ rs) n d h k = scope_by (bytes_eq p.0 n) p.1 (lookup rs n) d h.0 (flat_scope_of rs n d h.1 k)
+
+-- a rule or a statement
+pub flat_spoken : (b : Bool) (ss : List (List ℕ × Loadable)) (ns : List (List ℕ × NameMeaning)) (l : List ℕ) → FlatAids ss → FlatNames ns → Flat l → FlatOk (cond b (rule_text ss ns l) (statement_text ss l))
+flat_spoken b ss ns l h k e = flat_cond b (rule_text ss ns l) (statement_text ss l) (flat_rule ss ns l h k e) (flat_statement ss l h e)

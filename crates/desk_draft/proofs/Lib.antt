@@ -20,3 +20,4 @@ pub mod WordLemmas
 pub mod TurnLemmas
 pub mod HexLemmas
 pub mod StatementLemmas
+pub mod RuleLemmas

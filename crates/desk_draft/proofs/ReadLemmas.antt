@@ -1,7 +1,6 @@
 -- A draft that is read: the line at an index and those after it, and the whole.
-use Rattle.std.proofs.Common.{◌≡◌, ℕ, zero, suc, ◌+◌, ◌≤◌, Bool, List, [], ◌∷◌, length, drop, Bor, Option, Some, None, Result, Ok, Err, refl, sym, ap, subst, ◌∙◌, arith}
+use Rattle.std.proofs.Common.{◌≡◌, ℕ, zero, suc, ◌+◌, ◌≤◌, Bool, List, [], ◌∷◌, length, drop, Option, Some, None, Result, Ok, Err, refl, sym, ap, subst, ◌∙◌, arith}
 use Rattle.std.specs.Prelude.{map, slice_get, MatchResult, IfOk}
-use Rattle.std.specs.BTreeMap.{BTreeMap}
 use Rattle.model_text.specs.Text.{fields, ok_as, with_numbers}
 use Rattle.model_play.specs.DeckGrammar.{is_end}
 use Rattle.model_play.specs.declared.deck.DeckCause.{DeckCause}
@@ -13,12 +12,12 @@ use Rattle.mc_deck.specs.Refused.{DeckRefuses, Faulty}
 use Rattle.desk_draft.specs.Declarations.{gives_later}
 use Rattle.desk_draft.specs.Parts.{EndedLine, ended_lines}
 use Rattle.desk_draft.specs.Drafts
-use Rattle.desk_draft.specs.Drafts.{Before, Draft, DraftTurn, Mode, by_name, deck_of, draft_of_lines, draft_read, draft_turn, new_section, nothing_before, opening_line, section_line}
+use Rattle.desk_draft.specs.Drafts.{Before, Draft, DraftTurn, Mode, deck_of, draft_of_lines, draft_read, draft_turn, marked_turn, new_section, nothing_before, opening_line, section_line}
 use Rattle.desk_draft.specs.declared.draft.OpenSection.{OpenSection}
 use Rattle.desk_draft.specs.declared.draft.Section.{Section}
 use Rattle.desk_draft.specs.declared.line.EndedLine.{EndedLine as CodeLine}
-use Rattle.desk_draft.specs.declared.statement.Sizes.{Sizes}
-use Rattle.desk_draft.specs.Views.{AreSections, EndedLineTurned, LineTurned, Stands, StandsSection, ended_line_of, gives_later_each, line_texts, refusal_at}
+use Rattle.desk_draft.specs.declared.known.Known.{Known}
+use Rattle.desk_draft.specs.Views.{EndedLineTurned, Knows, LineTurned, Stands, StandsSection, ended_line_of, gives_later_each, line_texts, refusal_at}
 use Rattle.desk_draft.specs.Written.{KeepsSections}
 use Rattle.desk_draft.proofs.LineLemmas.{later_at, numbered_at, texts_from}
 use Rattle.desk_draft.proofs.DraftLemmas.{left_draft, line_refused, line_taken, lines_done, mode_between, mode_within, with_front}
@@ -33,7 +32,7 @@ Whole = Result Draft (ℕ × DeckCause)
 
 -- something stands before the lines that are left, the sections that have ended are kept, and the lines that are left
 -- make the rest of the whole
-pub record Leads (deck : List ℕ) (m : BTreeMap (Bor (List ℕ)) Sizes) (ss : List Section) (s : Option OpenSection) (rest : List (ℕ × EndedLine)) (whole : Whole) : Type 0 where
+pub record Leads (deck : List ℕ) (m : Known) (ss : List Section) (s : Option OpenSection) (rest : List (ℕ × EndedLine)) (whole : Whole) : Type 0 where
   pub before : Before
   pub stands : Stands m s before
   pub keeps : KeepsSections deck ss s before
@@ -66,8 +65,8 @@ judged_is ls later i g e h =
     ∙ sym (ap gives_later (texts_from (map ended_line_of ls) 1 (i + 1) ∙ ap (drop (i + 1)) (texts_same ls)))
 
 -- the line at an index is taken
-pub turn_taken : (so new : List ℕ) (ls : List CodeLine) (later : List Bool) (i n : ℕ) (l : CodeLine) (g : Bool) (m : BTreeMap (Bor (List ℕ)) Sizes) (ss : List Section) (s : Option OpenSection) (b : Before) (whole : Whole)
-    → later ≡ gives_later_each (line_texts ls) → slice_get ls i ≡ Some l → slice_get later i ≡ Some g → n ≡ i + 1 → EndedLineTurned so new l.ending.now m s (draft_turn b.mode b n l.text.now g) → Keeps new ss s (draft_turn b.mode b n l.text.now g)
+pub turn_taken : (so new : List ℕ) (ls : List CodeLine) (later : List Bool) (i n : ℕ) (l : CodeLine) (g : Bool) (m : Known) (ss : List Section) (s : Option OpenSection) (b : Before) (whole : Whole)
+    → later ≡ gives_later_each (line_texts ls) → slice_get ls i ≡ Some l → slice_get later i ≡ Some g → n ≡ i + 1 → EndedLineTurned so new l.ending.now m s (marked_turn b n l.text.now g) → Keeps new ss s (marked_turn b n l.text.now g)
     → left_draft so b (drop i (numbered ls)) ≡ whole → Leads new m ss s (drop (i + 1) (numbered ls)) whole
 turn_taken so new ls later i n l g m ss s b whole e h j k t f w = record {
   before = t.turn.before;
@@ -78,27 +77,27 @@ turn_taken so new ls later i n l g m ss s b whole e h j k t f w = record {
 
 -- the line at an index is refused
 pub turn_refused : (so : List ℕ) (ls : List CodeLine) (later : List Bool) (i n : ℕ) (l : CodeLine) (g : Bool) (b : Before) (whole : Whole) (x : Fault) → later ≡ gives_later_each (line_texts ls) → slice_get ls i ≡ Some l → slice_get later i ≡ Some g → n ≡ i + 1
-    → Faulty (draft_turn b.mode b n l.text.now g) x → left_draft so b (drop i (numbered ls)) ≡ whole → DeckRefuses whole (refusal_at n x)
+    → Faulty (marked_turn b n l.text.now g) x → left_draft so b (drop i (numbered ls)) ≡ whole → DeckRefuses whole (refusal_at n x)
 turn_refused so ls later i n l g b whole (fault.Cause c) e h j k t w =
     line_refused so b n (ended_line_of l) g (drop (i + 1) (numbered ls)) c whole (judged_is ls later i g e j) t (ap (left_draft so b) (sym (here_is ls i n l h k)) ∙ w)
 turn_refused so ls later i n l g b whole fault.NoMemory e h j k t w = tt
 
 -- the answer to the line at an index
-abbrev pub Ends : List ℕ → List ℕ → CodeLine → BTreeMap (Bor (List ℕ)) Sizes → Result (Option OpenSection) Fault → Before → ℕ → Bool → Type 0
-Ends old new l m r b n g = MatchResult r (λ s. EndedLineTurned old new l.ending.now m s (draft_turn b.mode b n l.text.now g)) (λ e. Faulty (draft_turn b.mode b n l.text.now g) e)
+abbrev pub Ends : List ℕ → List ℕ → CodeLine → Known → Result (Option OpenSection) Fault → Before → ℕ → Bool → Type 0
+Ends old new l m r b n g = MatchResult r (λ s. EndedLineTurned old new l.ending.now m s (marked_turn b n l.text.now g)) (λ e. Faulty (marked_turn b n l.text.now g) e)
 
 -- the sections after the line at an index
 abbrev pub KeepsAfter : List ℕ → List Section → CodeLine → Result (Option OpenSection) Fault → Before → ℕ → Bool → Type 0
-KeepsAfter new ss l r b n g = IfOk r (λ s. Keeps new ss s (draft_turn b.mode b n l.text.now g))
+KeepsAfter new ss l r b n g = IfOk r (λ s. Keeps new ss s (marked_turn b n l.text.now g))
 
-pub draft_taken : (so new : List ℕ) (ls : List CodeLine) (later : List Bool) (i n : ℕ) (l : CodeLine) (g : Bool) (m : BTreeMap (Bor (List ℕ)) Sizes) (ss : List Section) (s : Option OpenSection) (b : Before) (whole : Whole) (r : Result (Option OpenSection) Fault)
+pub draft_taken : (so new : List ℕ) (ls : List CodeLine) (later : List Bool) (i n : ℕ) (l : CodeLine) (g : Bool) (m : Known) (ss : List Section) (s : Option OpenSection) (b : Before) (whole : Whole) (r : Result (Option OpenSection) Fault)
     → later ≡ gives_later_each (line_texts ls) → slice_get ls i ≡ Some l → slice_get later i ≡ Some g → n ≡ i + 1 → r ≡ Ok s → Ends so new l m r b n g → KeepsAfter new ss l r b n g → left_draft so b (drop i (numbered ls)) ≡ whole
     → Leads new m ss s (drop (i + 1) (numbered ls)) whole
 draft_taken so new ls later i n l g m ss s b whole r j here judged k is t f w =
     turn_taken so new ls later i n l g m ss s b whole j here judged k (subst (λ (r : Result (Option OpenSection) Fault). Ends so new l m r b n g) is t)
     (subst (λ (r : Result (Option OpenSection) Fault). KeepsAfter new ss l r b n g) is f) w
 
-pub draft_refused : (so new : List ℕ) (ls : List CodeLine) (later : List Bool) (i n : ℕ) (l : CodeLine) (g : Bool) (m : BTreeMap (Bor (List ℕ)) Sizes) (b : Before) (whole : Whole) (r : Result (Option OpenSection) Fault) (x : Fault)
+pub draft_refused : (so new : List ℕ) (ls : List CodeLine) (later : List Bool) (i n : ℕ) (l : CodeLine) (g : Bool) (m : Known) (b : Before) (whole : Whole) (r : Result (Option OpenSection) Fault) (x : Fault)
     → later ≡ gives_later_each (line_texts ls) → slice_get ls i ≡ Some l → slice_get later i ≡ Some g → n ≡ i + 1 → r ≡ Err x → Ends so new l m r b n g → left_draft so b (drop i (numbered ls)) ≡ whole → DeckRefuses whole (refusal_at n x)
 draft_refused so new ls later i n l g m b whole r x j here judged k is t w =
     turn_refused so ls later i n l g b whole x j here judged k (subst (λ (r : Result (Option OpenSection) Fault). Ends so new l m r b n g) is t) w
@@ -147,24 +146,21 @@ deck_refused t refusal.NoMemory h = tt
 
 -- ---- a line, by the section that is open
 
-abbrev pub ByName : Type 0
-ByName = BTreeMap (Bor (List ℕ)) Sizes
-
 -- a line was taken, or refused
-abbrev pub Turns : List ℕ → List ℕ → ByName → Result (Option OpenSection) Fault → Result DraftTurn DeckCause → Type 0
+abbrev pub Turns : List ℕ → List ℕ → Known → Result (Option OpenSection) Fault → Result DraftTurn DeckCause → Type 0
 Turns old new m r t = MatchResult r (λ s. LineTurned old new m s t) (λ e. Faulty t e)
 
 -- a line between sections
-pub turned_between : (old new : List ℕ) (m n : ByName) (s : Option OpenSection) (b : Before) (k : ℕ) (l : List ℕ) (later : Bool) (r : Result (Option OpenSection) Fault) → s ≡ None → Stands m s b
+pub turned_between : (old new : List ℕ) (m n : Known) (s : Option OpenSection) (b : Before) (k : ℕ) (l : List ℕ) (later : Bool) (r : Result (Option OpenSection) Fault) → s ≡ None → Stands m s b
     → (Stands m None b → Turns old new n r (opening_line (new_section (fields l)) b l)) → Turns old new n r (draft_turn b.mode b k l later)
 turned_between old new m n s b k l later r e h f =
     let at = subst (λ (s : Option OpenSection). Stands m s b) e h in
     subst (λ (d : Mode). Turns old new n r (draft_turn d b k l later)) (sym (mode_between m b at)) (f at)
 
 -- a line of a section
-pub turned_within : (old new : List ℕ) (m n : ByName) (s : Option OpenSection) (b : Before) (k : ℕ) (l : List ℕ) (later : Bool) (r : Result (Option OpenSection) Fault) (x : OpenSection) → s ≡ Some x → Stands m s b
-    → ((t : Drafts.OpenSection) → AreSections m (by_name b.sections) → StandsSection x t → Turns old new n r (section_line (is_end (fields l)) b t k l later)) → Turns old new n r (draft_turn b.mode b k l later)
+pub turned_within : (old new : List ℕ) (m n : Known) (s : Option OpenSection) (b : Before) (k : ℕ) (l : List ℕ) (later : Bool) (r : Result (Option OpenSection) Fault) (x : OpenSection) → s ≡ Some x → Stands m s b
+    → ((t : Drafts.OpenSection) → Knows m b.sections b.rules → StandsSection x t → Turns old new n r (section_line (is_end (fields l)) b t k l later)) → Turns old new n r (draft_turn b.mode b k l later)
 turned_within old new m n s b k l later r x e h f =
     let at = subst (λ (s : Option OpenSection). Stands m s b) e h in
     let t = mode_within m b x at in
-    subst (λ (d : Mode). Turns old new n r (draft_turn d b k l later)) (sym t.1) (f t.0 h.sections t.2)
+    subst (λ (d : Mode). Turns old new n r (draft_turn d b k l later)) (sym t.1) (f t.0 h.knows t.2)

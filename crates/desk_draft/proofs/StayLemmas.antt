@@ -1,6 +1,6 @@
 -- A draft and its deck have as many lines.
 use Rattle.std.proofs.Common.{◌≡◌, ℕ, suc, ◌+◌, ◌-◌, Bool, true, false, cond, List, [], ◌∷◌, ◌++◌, length, take, drop, Option, Some, None, Result, Ok, Err, refl, sym, ap, subst, ◌∙◌, append_assoc, append-nil}
-use Rattle.std.specs.Prelude.{pos, ◌==◌, bytes_eq, codes, is_none, map, ok_or, option_map, slice_index, unwrap_or, ⊤}
+use Rattle.std.specs.Prelude.{pos, ◌==◌, ◌&&◌, bytes_eq, codes, is_none, map, ok_or, option_map, slice_index, unwrap_or, ⊤}
 use Rattle.model_device.specs.Bytes.{lookup, zeros}
 use Rattle.model_text.specs.Text.{◌>>=◌, ok_as, err_as, only_if, fields, pieces, pieces_with_character, with_numbers}
 use Rattle.model_text.specs.Assembly.{signed_number}
@@ -14,9 +14,9 @@ use Rattle.mc_asm.proofs.CleanLemmas.{pieces_none, pieces_there}
 use Rattle.desk_draft.specs.Parts.{EndedLine, ended_lines, ended_pieces, without_comment}
 use Rattle.desk_draft.specs.Declarations.{Bytes, NameMeaning, Number, Scope, fits_word, DeclarationWord, StaticWord, SessionWord, PublicWord, ConstWord, const_scope, constant, data_count, data_scope, declaration_in, declaration_of, declaration_text, declaration_words, empty_scope, gives_later, header_names, is_labelled, label_name, most_session, public_scope, public_span, scope_after, session_scope, static_count, static_scope, with_name}
 use Rattle.desk_draft.specs.Operands.{instruction_text}
-use Rattle.desk_draft.specs.Statements.{statement_text}
-use Rattle.desk_draft.specs.Drafts.{Before, Between, Draft, DraftTurn, Mode, OpenSection, ScopeTurn, Section, Within, by_name, closed_section, coded_turn, deck_of, draft_of_lines, draft_read, draft_turn, kept_line, new_section, nothing_before, opening_line, scope_turn, section_line, with_line}
-use Rattle.desk_draft.proofs.FlatLemmas.{AllFlat, FlatAids, FlatNames, FlatMeaning, FlatOk, flat_drop, flat_fields, flat_instruction, flat_statement, flat_take, flat_uncommented}
+use Rattle.desk_draft.specs.Rules.{is_rule}
+use Rattle.desk_draft.specs.Drafts.{Before, Between, Draft, DraftTurn, Mode, OpenSection, ScopeTurn, Section, Within, by_name, closed_section, coded_turn, deck_of, draft_of_lines, draft_read, draft_turn, kept_line, marked, marked_turn, new_section, nothing_before, opening_line, rule_names, scope_turn, section_line, spoken_text, spoken_turn, with_line}
+use Rattle.desk_draft.proofs.FlatLemmas.{AllFlat, FlatAids, FlatNames, FlatMeaning, FlatOk, FlatScopes, flat_drop, flat_fields, flat_instruction, flat_scope_of, flat_spoken, flat_take, flat_uncommented}
 
 -- ---- results
 
@@ -156,6 +156,7 @@ FlatMode (Within s) = Flat s.aid × FlatScope s.scope
 
 record FlatBefore (b : Before) : Type 0 where
   sections : FlatAids (by_name b.sections)
+  scopes : FlatScopes b.rules.scopes
   mode : FlatMode b.mode
 
 record FlatLine (t : DraftTurn) : Type 0 where
@@ -166,10 +167,10 @@ aids_more : (ss : List Section) (s : Section) → FlatAids (by_name ss) → Flat
 aids_more [] s h k = (k, tt)
 aids_more (x ∷ ss) s h k = (h.0, aids_more ss s h.1 k)
 
-section_flat : (e : Bool) (b : Before) (s : OpenSection) (n : ℕ) (l : List ℕ) (later : Bool) → FlatAids (by_name b.sections) → Flat s.aid → FlatScope s.scope → Flat l → Good FlatLine (section_line e b s n l later)
-section_flat true b s n l later h a d k = record { text = k; before = record { sections = aids_more b.sections (closed_section s) h a; mode = tt } }
+section_flat : (e : Bool) (b : Before) (s : OpenSection) (n : ℕ) (l : List ℕ) (later : Bool) → FlatBefore b → Flat s.aid → FlatScope s.scope → Flat l → Good FlatLine (section_line e b s n l later)
+section_flat true b s n l later h a d k = record { text = k; before = record { sections = aids_more b.sections (closed_section s) h.sections a; scopes = (d, h.scopes); mode = tt } }
 section_flat false b s n l later h a d k =
-    good_as FlatTurn FlatLine (kept_line b s n l) (scope_turn (is_data (fields l)) s.scope l later) (λ t f. record { text = f.text; before = record { sections = h; mode = (a, f.scope) } }) (turn_flat (is_data (fields l)) s.scope l later d k)
+    good_as FlatTurn FlatLine (kept_line b s n l) (scope_turn (is_data (fields l)) s.scope l later) (λ t f. record { text = f.text; before = record { sections = h.sections; scopes = h.scopes; mode = (a, f.scope) } }) (turn_flat (is_data (fields l)) s.scope l later d k)
 
 header_flat : FlatNames header_names
 header_flat = (tt, (tt, (tt, (tt, (tt, (tt, (tt, (tt, (tt, tt)))))))))
@@ -191,15 +192,20 @@ open_flat (a ∷ b ∷ c ∷ []) h = open_by (bytes_eq a (codes "app")) b c h.1.
 open_flat (a ∷ b ∷ c ∷ d ∷ ts) h = tt
 
 opening_flat : (o : Option OpenSection) (b : Before) (l : List ℕ) → FlatOpen o → FlatBefore b → Flat l → Good FlatLine (opening_line o b l)
-opening_flat (Some s) b l o h k = record { text = k; before = record { sections = h.sections; mode = o } }
+opening_flat (Some s) b l o h k = record { text = k; before = record { sections = h.sections; scopes = h.scopes; mode = o } }
 opening_flat None b l o h k =
-    good_as Flat FlatLine (λ deck. record { text = deck; before = b }) (statement_text (by_name b.sections) l) (λ t f. record { text = f; before = h }) (good_flat (statement_text (by_name b.sections) l) (flat_statement (by_name b.sections) l h.sections k))
+    good_as Flat FlatLine (spoken_turn b l) (spoken_text b l) (λ t f. record { text = f; before = record { sections = h.sections; scopes = h.scopes; mode = h.mode } })
+    (good_flat (spoken_text b l) (flat_spoken (b.rules.is_draft && is_rule l) (by_name b.sections) (rule_names b.rules) l h.sections (flat_scope_of b.rules.scopes b.rules.app header_names h.scopes header_flat) k))
 
 line_flat : (m : Mode) (b : Before) (n : ℕ) (l : List ℕ) (later : Bool) → m ≡ b.mode → FlatBefore b → Flat l → Good FlatLine (draft_turn m b n l later)
 line_flat Between b n l later e h k = opening_flat (new_section (fields l)) b l (open_flat (fields l) (flat_fields l k)) h k
 line_flat (Within s) b n l later e h k =
     let m : FlatMode (Within s) = subst FlatMode (sym e) h.mode in
-    section_flat (is_end (fields l)) b s n l later h.sections m.0 m.1 k
+    section_flat (is_end (fields l)) b s n l later h m.0 m.1 k
+
+marked_flat : (b : Before) (n : ℕ) (l : List ℕ) (later : Bool) → FlatBefore b → Flat l → Good FlatLine (marked_turn b n l later)
+marked_flat b n l later h k =
+    good_as FlatLine FlatLine (marked l) (draft_turn b.mode b n l later) (λ t f. record { text = f.text; before = record { sections = f.before.sections; scopes = f.before.scopes; mode = f.before.mode } }) (line_flat b.mode b n l later refl h k)
 
 -- ---- lines and what ends them
 
@@ -287,10 +293,10 @@ step_by n l ls d m (Ok t) f e g h = more_by t l d m (draft_of_lines t.before ls)
 drafted_lines : (b : Before) (n : ℕ) (ls : List EndedLine) (d : Draft) → FlatBefore b → Ended ls → draft_of_lines b (with_numbers n ls) ≡ Ok d → lines_in d.deck ≡ length ls
 unfolding draft_of_lines
 drafted_lines b n [] d h e i = absurd e
-drafted_lines b n (l ∷ []) d h e i = last_by n l d (draft_turn b.mode b n l.text (gives_later [])) (line_flat b.mode b n l.text (gives_later []) refl h e.0) e.1 i
+drafted_lines b n (l ∷ []) d h e i = last_by n l d (marked_turn b n l.text (gives_later [])) (marked_flat b n l.text (gives_later []) h e.0) e.1 i
 drafted_lines b n (l ∷ k ∷ ls) d h e i =
     let later = gives_later (map (λ (m : ℕ × EndedLine). (m.1).text) (with_numbers (suc n) (k ∷ ls))) in
-    step_by n l (with_numbers (suc n) (k ∷ ls)) d (length (k ∷ ls)) (draft_turn b.mode b n l.text later) (line_flat b.mode b n l.text later refl h e.0) e.1
+    step_by n l (with_numbers (suc n) (k ∷ ls)) d (length (k ∷ ls)) (marked_turn b n l.text later) (marked_flat b n l.text later h e.0) e.1
     (λ t x f j. drafted_lines t.before (suc n) (k ∷ ls) x f e.2 j) i
 
 deck_by : (r : Result Draft (ℕ × DeckCause)) (deck : List ℕ) (m : ℕ) → ((d : Draft) → r ≡ Ok d → lines_in d.deck ≡ m) → ok_as (λ d. d.deck) r ≡ Ok deck → lines_in deck ≡ m
@@ -301,5 +307,5 @@ deck_by (Ok d) deck m f h = let i : d.deck ≡ deck = cc h in subst (λ x. lines
 pub lines_stay : (draft deck : List ℕ) → deck_of draft ≡ Ok deck → length (pieces (λ c. c == 10) deck) ≡ length (pieces (λ c. c == 10) draft)
 unfolding deck_of draft_read
 lines_stay draft deck h =
-    deck_by (draft_of_lines nothing_before (with_numbers 1 (ended_lines draft))) deck (length (ended_lines draft)) (λ d i. drafted_lines nothing_before 1 (ended_lines draft) d (record { sections = tt; mode = tt }) (ended_is draft) i) h
+    deck_by (draft_of_lines nothing_before (with_numbers 1 (ended_lines draft))) deck (length (ended_lines draft)) (λ d i. drafted_lines nothing_before 1 (ended_lines draft) d (record { sections = tt; scopes = tt; mode = tt }) (ended_is draft) i) h
     ∙ as_many (pieces (λ c. c == 10) draft)

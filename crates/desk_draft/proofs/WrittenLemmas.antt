@@ -1,20 +1,18 @@
 -- The sections that are kept while the deck grows, and the draft that they are in the end.
-use Rattle.std.proofs.Common.{◌≡◌, ℕ, ◌-◌, Bool, true, false, cond, List, [], ◌∷◌, ◌++◌, length, take, drop, Bor, Option, Some, None, Result, Ok, Err, refl, sym, ap, subst, ◌∙◌, append_assoc, append-nil, arith}
+use Rattle.std.proofs.Common.{◌≡◌, ℕ, ◌-◌, Bool, true, false, cond, List, [], ◌∷◌, ◌++◌, length, take, drop, Option, Some, None, Result, Ok, Err, refl, sym, ap, subst, ◌∙◌, append_assoc, append-nil, arith}
 use Rattle.std.specs.Prelude.{bytes_eq, codes, map, IfOk}
-use Rattle.std.specs.BTreeMap.{BTreeMap}
 use Rattle.std.proofs.lemmas.List.{length-append, take_at, drop_at}
 use Rattle.model_text.specs.Text.{ok_as, fields}
 use Rattle.model_play.specs.DeckGrammar.{is_data, is_end}
 use Rattle.model_play.specs.declared.deck.DeckCause.{DeckCause}
 use Rattle.mc_deck.specs.declared.refusal.Fault.{Fault}
 use Rattle.desk_draft.specs.Declarations.{empty_scope}
-use Rattle.desk_draft.specs.Statements.{statement_text}
 use Rattle.desk_draft.specs.Drafts
-use Rattle.desk_draft.specs.Drafts.{Before, Between, DraftTurn, Mode, Within, by_name, closed_section, draft_turn, kept_line, new_section, opening_line, scope_turn, section_line, sizes_of}
+use Rattle.desk_draft.specs.Drafts.{Before, DraftTurn, Between, Mode, Within, closed_section, draft_turn, ended_before, kept_line, marked, marked_turn, new_section, opening_line, scope_turn, section_line, sizes_of, spoken_text, spoken_turn}
 use Rattle.desk_draft.specs.declared.draft.OpenSection.{OpenSection}
 use Rattle.desk_draft.specs.declared.draft.Section.{Section}
 use Rattle.desk_draft.specs.declared.draft.SourceLine.{SourceLine}
-use Rattle.desk_draft.specs.declared.statement.Sizes.{Sizes}
+use Rattle.desk_draft.specs.declared.known.Known.{Known}
 use Rattle.desk_draft.specs.Views.{OpensSection, ScopeTurned, Stands, StandsSection, loadable_of, scope_of}
 use Rattle.desk_draft.specs.Written.{Each, HasLines, IsSection, IsSourceLine, KeepsSections, HasText, line_value, section_value}
 use Rattle.desk_draft.proofs.DraftLemmas.{mode_within}
@@ -107,7 +105,7 @@ ok_inj x y r e f = let i : Ok x ≡ Ok y = sym e ∙ f in cc i
 pub end_keeps : (b : Before) (t : Drafts.OpenSection) (n : ℕ) (l old new more : List ℕ) (later e : Bool) (u : DraftTurn) (xs ss : List Section) (ls : List SourceLine) → e ≡ true → new ≡ old ++ more → section_line e b t n l later ≡ Ok u
     → Each (IsSection old) xs b.sections → Each (IsSourceLine old) ls t.lines → (Each (IsSection new) xs b.sections → Each (IsSourceLine new) ls t.lines → Each (IsSection new) ss (b.sections ++ closed_section t ∷ [])) → KeepsSections new ss None u.before
 end_keeps b t n l old new more later e u xs ss ls i grew h kept lines f =
-    let made : DraftTurn = record { text = l; before = record { sections = b.sections ++ closed_section t ∷ []; mode = Between } } in
+    let made : DraftTurn = record { text = l; before = ended_before t b } in
     let is : section_line e b t n l later ≡ Ok made = ap (λ x. section_line x b t n l later) i in
     let ended = f (subst (λ (d : List ℕ). Each (IsSection d) xs b.sections) (sym grew) (sections_grow old more xs b.sections kept)) (subst (λ (d : List ℕ). Each (IsSourceLine d) ls t.lines) (sym grew) (lines_grow old more ls t.lines lines)) in
     subst (λ (v : DraftTurn). KeepsSections new ss None v.before) (ok_inj made u (section_line e b t n l later) is h) (record { ended = ended; lines = tt })
@@ -149,30 +147,38 @@ opening_keeps ts (Some x) b l old new u ss s is h none e k t =
     subst (λ (ls : List SourceLine). Each (IsSourceLine new) ls x.lines) (sym none) (subst (λ (ls : List Drafts.SourceLine). Each (IsSourceLine new) [] ls) (sym (opens_empty ts x is)) tt) in
     subst (λ (v : DraftTurn). KeepsSections new ss (Some s) v.before) (ok_inj made u (Ok made) refl t) (record { ended = ended; lines = lines })
 
-stated_keeps : (r : Result (List ℕ) DeckCause) (b : Before) (old new : List ℕ) (u : DraftTurn) (ss : List Section) → ok_as (λ t. old ++ t) r ≡ Ok new → KeepsSections old ss None b → ok_as (λ deck. record { text = deck; before = b }) r ≡ Ok u
-    → KeepsSections new ss None u.before
-stated_keeps (Err e) b old new u ss h k t = absurd (cc h)
-stated_keeps (Ok x) b old new u ss h k t =
-    let made : DraftTurn = record { text = x; before = b } in
-    subst (λ (v : DraftTurn). KeepsSections new ss None v.before) (ok_inj made u (Ok made) refl t) (keeps_grows old x new ss None b (sym (ok_inj (old ++ x) new (Ok (old ++ x)) refl h)) k)
+spoken_by : (r : Result (List ℕ) DeckCause) (b : Before) (l old new : List ℕ) (u : DraftTurn) (ss : List Section) → ok_as (λ t. old ++ t) r ≡ Ok new → KeepsSections old ss None b → ok_as (spoken_turn b l) r ≡ Ok u → KeepsSections new ss None u.before
+spoken_by (Err e) b l old new u ss h k t = absurd (cc h)
+spoken_by (Ok x) b l old new u ss h k t =
+    let made : DraftTurn = spoken_turn b l x in
+    let kept = keeps_grows old x new ss None b (sym (ok_inj (old ++ x) new (Ok (old ++ x)) refl h)) k in
+    subst (λ (v : DraftTurn). KeepsSections new ss None v.before) (ok_inj made u (Ok made) refl t) (record { ended = kept.ended; lines = kept.lines })
 
--- a statement
-pub statement_keeps : (o : Option Drafts.OpenSection) (b : Before) (l old new : List ℕ) (u : DraftTurn) (ss : List Section) → OpensSection None o → ok_as (λ t. old ++ t) (statement_text (by_name b.sections) l) ≡ Ok new → KeepsSections old ss None b
-    → opening_line o b l ≡ Ok u → KeepsSections new ss None u.before
-statement_keeps (Some x) b l old new u ss h e k t = absurd h
-statement_keeps None b l old new u ss h e k t = stated_keeps (statement_text (by_name b.sections) l) b old new u ss e k t
+-- a rule or a statement
+pub spoken_keeps : (o : Option Drafts.OpenSection) (b : Before) (l old new : List ℕ) (u : DraftTurn) (ss : List Section) → OpensSection None o → ok_as (λ t. old ++ t) (spoken_text b l) ≡ Ok new → KeepsSections old ss None b → opening_line o b l ≡ Ok u
+    → KeepsSections new ss None u.before
+spoken_keeps (Some x) b l old new u ss h e k t = absurd h
+spoken_keeps None b l old new u ss h e k t = spoken_by (spoken_text b l) b l old new u ss e k t
+
+marked_by : (r : Result DraftTurn DeckCause) (l new : List ℕ) (u : DraftTurn) (ss : List Section) (s : Option OpenSection) → ((t : DraftTurn) → r ≡ Ok t → KeepsSections new ss s t.before) → ok_as (marked l) r ≡ Ok u → KeepsSections new ss s u.before
+marked_by (Err e) l new u ss s f h = absurd (cc h)
+marked_by (Ok t) l new u ss s f h =
+    let kept = f t refl in
+    subst (λ (v : DraftTurn). KeepsSections new ss s v.before) (ok_inj (marked l t) u (Ok (marked l t)) refl h) (record { ended = kept.ended; lines = kept.lines })
+
+-- a line after which it is known whether it became another one
+pub marked_keeps : (b : Before) (n : ℕ) (l new : List ℕ) (later : Bool) (u : DraftTurn) (ss : List Section) (s : Option OpenSection) → ((t : DraftTurn) → draft_turn b.mode b n l later ≡ Ok t → KeepsSections new ss s t.before) → marked_turn b n l later ≡ Ok u
+    → KeepsSections new ss s u.before
+marked_keeps b n l new later u ss s f h = marked_by (draft_turn b.mode b n l later) l new u ss s f h
 
 -- ---- a line, by the section that is open
-
-abbrev ByName : Type 0
-ByName = BTreeMap (Bor (List ℕ)) Sizes
 
 -- the sections that are kept after a line, if it is taken
 abbrev pub KeptBy : List ℕ → List Section → Result (Option OpenSection) Fault → Result DraftTurn DeckCause → Type 0
 KeptBy new ss r d = IfOk r (λ z. (u : DraftTurn) → d ≡ Ok u → KeepsSections new ss z u.before)
 
 -- a line of a section
-pub within_keeps : (old new l : List ℕ) (m : ByName) (xs ss : List Section) (s : Option OpenSection) (r : Result (Option OpenSection) Fault) (b : Before) (k : ℕ) (later : Bool) (x : OpenSection) → s ≡ Some x → Stands m s b → KeepsSections old xs s b
+pub within_keeps : (old new l : List ℕ) (m : Known) (xs ss : List Section) (s : Option OpenSection) (r : Result (Option OpenSection) Fault) (b : Before) (k : ℕ) (later : Bool) (x : OpenSection) → s ≡ Some x → Stands m s b → KeepsSections old xs s b
     → ((t : Drafts.OpenSection) → StandsSection x t → Each (IsSection old) xs b.sections → Each (IsSourceLine old) x.lines.items t.lines → KeptBy new ss r (section_line (is_end (fields l)) b t k l later))
     → KeptBy new ss r (draft_turn b.mode b k l later)
 within_keeps old new l m xs ss s r b k later x e h w f =

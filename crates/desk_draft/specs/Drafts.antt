@@ -1,12 +1,14 @@
 -- Drafts line by line: the deck of a draft, and its sections, or the first refusal.
-use Rattle.std.specs.Prelude.{ℕ, ◌-◌, Bool, true, false, cond, nat_lt, List, [], ◌∷◌, ◌++◌, map, bytes_eq, codes, unwrap_or, Option, Some, None, Result, Ok}
+use Rattle.std.specs.Prelude.{ℕ, ◌-◌, Bool, true, false, cond, not, ◌&&◌, ◌||◌, nat_lt, List, [], ◌∷◌, ◌++◌, map, bytes_eq, codes, unwrap_or, Option, Some, None, Result, Ok}
+use Rattle.model_device.specs.Bytes.{lookup}
 use Rattle.model_text.specs.Text.{◌>>=◌, ok_as, err_as, with_numbers, fields}
 use Rattle.model_play.specs.DeckGrammar.{is_data, is_end}
 use Rattle.model_play.specs.declared.deck.DeckCause.{DeckCause}
-use Rattle.desk_draft.specs.Parts.{EndedLine, ended_lines}
-use Rattle.desk_draft.specs.Declarations.{Scope, DeclarationWord, empty_scope, scope_after, data_scope, declaration_in, declaration_text, gives_later}
+use Rattle.desk_draft.specs.Parts.{EndedLine, ended_lines, first_word}
+use Rattle.desk_draft.specs.Declarations.{NameMeaning, Scope, DeclarationWord, empty_scope, header_names, scope_after, data_scope, declaration_in, declaration_text, gives_later}
 use Rattle.desk_draft.specs.Operands.{instruction_text}
 use Rattle.desk_draft.specs.Statements.{Loadable, statement_text}
+use Rattle.desk_draft.specs.Rules.{after_two, has_second, is_rule, rule_text}
 
 -- a line of a section: its number, its text in the draft, and its text in the deck
 pub record SourceLine : Type 0 where
@@ -32,9 +34,17 @@ pub data Mode : Type 0 where
   Between : Mode
   Within : OpenSection → Mode
 
--- what stands before a line: the sections that have ended, in order, and whether one is open
+-- what rules may name: what the sections that have ended declare, by the sections' names, the last first; the application
+-- of which the rules speak; and whether a line became another one, which no line of a deck does
+pub record Rules : Type 0 where
+  pub scopes : List (List ℕ × List (List ℕ × NameMeaning))
+  pub app : List ℕ
+  pub is_draft : Bool
+
+-- what stands before a line: the sections that have ended, in order, what rules may name, and whether a section is open
 pub record Before : Type 0 where
   pub sections : List Section
+  pub rules : Rules
   pub mode : Mode
 
 -- after a line: its text in the deck, and what stands before the next one
@@ -88,9 +98,17 @@ abbrev pub kept_line : Before → OpenSection → ℕ → List ℕ → ScopeTurn
 kept_line b s n l t =
     record { text = t.text; before = record b { mode = Within (record s { scope = t.scope; lines = s.lines ++ record { number = n; draft = l; deck = t.text } ∷ [] }) } }
 
+-- what rules may name after the end of a section
+abbrev pub ended_rules : OpenSection → Rules → Rules
+ended_rules s r = record r { scopes = (s.name, s.scope.names) ∷ r.scopes }
+
+-- what stands before the line after the end of a section
+abbrev pub ended_before : OpenSection → Before → Before
+ended_before s b = record { sections = b.sections ++ closed_section s ∷ []; rules = ended_rules s b.rules; mode = Between }
+
 -- a line of a section, which ends it or goes on
 abbrev pub section_line : Bool → Before → OpenSection → ℕ → List ℕ → Bool → Result DraftTurn DeckCause
-section_line true b s n l later = Ok (record { text = l; before = record { sections = b.sections ++ closed_section s ∷ []; mode = Between } })
+section_line true b s n l later = Ok (record { text = l; before = ended_before s b })
 section_line false b s n l later = ok_as (kept_line b s n l) (scope_turn (is_data (fields l)) s.scope l later)
 
 -- ---- a line between sections
@@ -100,10 +118,30 @@ abbrev pub new_section : List (List ℕ) → Option OpenSection
 new_section (word ∷ name ∷ aid ∷ []) = cond (bytes_eq word (codes "app")) (Some (record { name = name; aid = aid; scope = empty_scope; lines = [] })) None
 new_section fields = None
 
+-- the names in the braces of rules: those of the section of which they speak, or of the command's header if none is there
+abbrev pub rule_names : Rules → List (List ℕ × NameMeaning)
+rule_names r = unwrap_or (lookup r.scopes r.app) header_names
+
+-- the application of which rules speak after a line
+abbrev pub app_after : List ℕ → List ℕ → List ℕ
+app_after app l = cond (is_rule l && has_second l (codes "app")) (first_word (after_two l)) app
+
+-- what rules may name after a line
+abbrev pub rules_after : Rules → List ℕ → Rules
+rules_after r l = record r { app = app_after r.app l }
+
+-- the deck's line of a rule of a draft, or of a statement; the rules of a deck stay, as its other comments
+abbrev pub spoken_text : Before → List ℕ → Result (List ℕ) DeckCause
+spoken_text b l = cond (b.rules.is_draft && is_rule l) (rule_text (by_name b.sections) (rule_names b.rules) l) (statement_text (by_name b.sections) l)
+
+-- after a line that opens no section
+abbrev pub spoken_turn : Before → List ℕ → List ℕ → DraftTurn
+spoken_turn b l deck = record { text = deck; before = record b { rules = rules_after b.rules l } }
+
 -- a line that opens a section, or a statement
 abbrev pub opening_line : Option OpenSection → Before → List ℕ → Result DraftTurn DeckCause
 opening_line (Some s) b l = Ok (record { text = l; before = record b { mode = Within s } })
-opening_line None b l = ok_as (λ deck. record { text = deck; before = b }) (statement_text (by_name b.sections) l)
+opening_line None b l = ok_as (spoken_turn b l) (spoken_text b l)
 
 -- ---- line by line
 
@@ -111,6 +149,18 @@ opening_line None b l = ok_as (λ deck. record { text = deck; before = b }) (sta
 abbrev pub draft_turn : Mode → Before → ℕ → List ℕ → Bool → Result DraftTurn DeckCause
 draft_turn Between b n l later = opening_line (new_section (fields l)) b l
 draft_turn (Within s) b n l later = section_line (is_end (fields l)) b s n l later
+
+-- what rules may name, once a line became another one or not
+abbrev pub marked_rules : Rules → Bool → Rules
+marked_rules r differs = record r { is_draft = r.is_draft || differs }
+
+-- after a line, by whether it became another one
+abbrev pub marked : List ℕ → DraftTurn → DraftTurn
+marked l t = record t { before = record t.before { rules = marked_rules t.before.rules (not (bytes_eq t.text l)) } }
+
+-- a line, after which it is known whether it became another one
+abbrev pub marked_turn : Before → ℕ → List ℕ → Bool → Result DraftTurn DeckCause
+marked_turn b n l later = ok_as (marked l) (draft_turn b.mode b n l later)
 
 -- a line of the deck before the others
 abbrev pub with_line : List ℕ → List ℕ → Draft → Draft
@@ -121,12 +171,12 @@ unfoldable pub draft_of_lines : Before → List (ℕ × EndedLine) → Result Dr
 unfolding instruction_text statement_text
 draft_of_lines b [] = Ok (record { deck = []; sections = b.sections })
 draft_of_lines b (l ∷ ls) = do
-  t ← err_as (λ c. (l.0, c)) (draft_turn b.mode b l.0 (l.1).text (gives_later (map (λ m. (m.1).text) ls)))
+  t ← err_as (λ c. (l.0, c)) (marked_turn b l.0 (l.1).text (gives_later (map (λ m. (m.1).text) ls)))
   ok_as (with_line t.text (l.1).ending) (draft_of_lines t.before ls)
 
 -- a draft before its first line
 abbrev pub nothing_before : Before
-nothing_before = record { sections = []; mode = Between }
+nothing_before = record { sections = []; rules = record { scopes = []; app = []; is_draft = false }; mode = Between }
 
 -- a draft that is read: its deck and its sections, or its first refused line and the cause
 unfoldable pub draft_read : List ℕ → Result Draft (ℕ × DeckCause)

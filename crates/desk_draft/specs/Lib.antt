@@ -2,6 +2,7 @@ pub mod Parts
 pub mod Declarations
 pub mod Operands
 pub mod Statements
+pub mod Rules
 pub mod Drafts
 pub mod Listings
 pub mod Verdicts

@@ -28,6 +28,7 @@ use Rattle.desk_draft.specs.declared.declaration.DeclarationWord.TheVariants as 
 use Rattle.desk_draft.specs.declared.declaration.Declaration.{Declaration}
 use Rattle.desk_draft.specs.declared.declaration.Declaration.TheVariants as declaration
 use Rattle.desk_draft.specs.declared.scope.Scope.{Scope}
+use Rattle.desk_draft.specs.declared.known.Known.{Known}
 use Rattle.desk_draft.specs.declared.draft.OpenSection.{OpenSection}
 use Rattle.desk_draft.specs.declared.statement.Sizes.{Sizes}
 use Rattle.desk_draft.specs.Statements.{Loadable, command_field}
@@ -189,6 +190,24 @@ loadable_of s = record { aid = s.aid.now; fixed = s.fixed; session = s.session }
 abbrev pub AreSections : BTreeMap (Bor (List ℕ)) Sizes → List (List ℕ × Loadable) → Type 0
 AreSections m l = (q : Bor (List ℕ)) → option_map loadable_of (BTreeMap.get (λ x y. slice_cmp nat_cmp x.now y.now) m q) ≡ lookup l q.now
 
+-- the names that a section declares, if there is one
+abbrev pub AreNamesMaybe : Option (BTreeMap (Bor (List ℕ)) Meaning) → Option (List (List ℕ × Declarations.NameMeaning)) → Type 0
+AreNamesMaybe None None = ⊤
+AreNamesMaybe None (Some l) = ⊥
+AreNamesMaybe (Some m) None = ⊥
+AreNamesMaybe (Some m) (Some l) = AreNames m l
+
+-- the map has what sections declare, by their names
+abbrev pub AreScopes : BTreeMap (Bor (List ℕ)) (BTreeMap (Bor (List ℕ)) Meaning) → List (List ℕ × List (List ℕ × Declarations.NameMeaning)) → Type 0
+AreScopes m l = (q : Bor (List ℕ)) → AreNamesMaybe (BTreeMap.get (λ x y. slice_cmp nat_cmp x.now y.now) m q) (lookup l q.now)
+
+-- the sections that have ended, and what rules may name
+pub record Knows (k : Known) (ss : List Drafts.Section) (r : Drafts.Rules) : Type 0 where
+  pub sections : AreSections k.sections (Drafts.by_name ss)
+  pub scopes : AreScopes k.scopes r.scopes
+  pub app : k.app.now ≡ r.app
+  pub is_draft : k.is_draft ≡ r.is_draft
+
 -- an open section is that of the definition, but for its lines
 pub record StandsSection (s : OpenSection) (t : Drafts.OpenSection) : Type 0 where
   pub names : AreNames s.scope.names t.scope.names
@@ -210,20 +229,20 @@ StandsMode None (Drafts.Within t) = ⊥
 StandsMode (Some s) Drafts.Between = ⊥
 StandsMode (Some s) (Drafts.Within t) = StandsSection s t
 
--- the sections that have ended, by their names, and the open one are those before a line
-pub record Stands (m : BTreeMap (Bor (List ℕ)) Sizes) (s : Option OpenSection) (b : Drafts.Before) : Type 0 where
-  pub sections : AreSections m (Drafts.by_name b.sections)
+-- what is known of the sections that have ended, and the open one, are those before a line
+pub record Stands (m : Known) (s : Option OpenSection) (b : Drafts.Before) : Type 0 where
+  pub knows : Knows m b.sections b.rules
   pub mode : StandsMode s b.mode
 
 -- a line was taken: its text was added, and what stands before the next line is there
-pub record LineTurned (old new : List ℕ) (m : BTreeMap (Bor (List ℕ)) Sizes) (s : Option OpenSection) (r : Result Drafts.DraftTurn DeckCause) : Type 0 where
+pub record LineTurned (old new : List ℕ) (m : Known) (s : Option OpenSection) (r : Result Drafts.DraftTurn DeckCause) : Type 0 where
   pub turn : Drafts.DraftTurn
   pub is : r ≡ Ok turn
   pub text : new ≡ old ++ turn.text
   pub stands : Stands m s turn.before
 
 -- a line was taken, with what ends it
-pub record EndedLineTurned (old new ending : List ℕ) (m : BTreeMap (Bor (List ℕ)) Sizes) (s : Option OpenSection) (r : Result Drafts.DraftTurn DeckCause) : Type 0 where
+pub record EndedLineTurned (old new ending : List ℕ) (m : Known) (s : Option OpenSection) (r : Result Drafts.DraftTurn DeckCause) : Type 0 where
   pub turn : Drafts.DraftTurn
   pub is : r ≡ Ok turn
   pub text : new ≡ old ++ turn.text ++ ending

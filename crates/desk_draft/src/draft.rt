@@ -1,6 +1,6 @@
 // Drafts, line by line.
-ghost use Rattle.std.specs.Prelude.{◌≡◌, ◌<◌, length, slice_get, ◌+◌, ◌++◌, ◌∷◌, [], ℕ, Bool, List, true, option_map, codes, cond, IfErr, IfOk, IfSome, MatchResult, Ok, OnOk, Some, None};
-ghost use Rattle.model_device.specs.Bytes.{lookup, zeros};
+ghost use Rattle.std.specs.Prelude.{◌≡◌, ◌<◌, length, slice_get, ◌+◌, ◌++◌, ◌∷◌, ◌&&◌, [], ℕ, Bool, List, true, option_map, codes, cond, IfErr, IfOk, IfSome, MatchResult, Ok, OnOk, Some, None};
+ghost use Rattle.model_device.specs.Bytes.{zeros};
 ghost use Rattle.model_text.specs.Text.{fields};
 ghost use Rattle.model_text.specs.Listing.{hex_text};
 ghost use Rattle.model_play.specs.DeckGrammar.{is_data, is_end};
@@ -8,22 +8,23 @@ ghost use Rattle.mc_asm.specs.Items.{texts};
 ghost use Rattle.mc_deck.specs.Refused.{DeckRefuses, Faulty};
 ghost use Rattle.mc_deck.specs.declared.refusal.DeckRefusal.TheVariants.{NoMemory};
 ghost use Rattle.desk_draft.specs.Declarations.{declaration_in, DeclarationWord, NameMeaning};
-ghost use Rattle.desk_draft.specs.Statements.{Loadable};
-ghost use Rattle.desk_draft.specs.Drafts.{by_name, closed_section, coded_turn, deck_of, draft_read, draft_turn, new_section, opening_line, scope_turn, section_line, sizes_of, static_size, Before, DraftTurn};
+ghost use Rattle.desk_draft.specs.Rules.{is_rule, rule_text};
+ghost use Rattle.desk_draft.specs.Drafts.{by_name, closed_section, coded_turn, deck_of, draft_read, draft_turn, ended_rules, marked_turn, new_section, opening_line, rule_names, scope_turn, section_line, sizes_of, spoken_text, static_size, Before, DraftTurn, Rules};
 ghost use Rattle.desk_draft.specs.Drafts;
-ghost use Rattle.desk_draft.specs.Views.{loadable_of, refusal_at, scope_of, static_line, text_by, AreNames, AreSections, Declares, EndedLineTurned, LineTurned, OpensSection, ScopeTurned, Stands, StandsSection};
+ghost use Rattle.desk_draft.specs.Views.{loadable_of, refusal_at, scope_of, static_line, text_by, AreNames, Declares, EndedLineTurned, Knows, LineTurned, OpensSection, Pushes, ScopeTurned, Stands, StandsSection};
 ghost use Rattle.desk_draft.specs.Written.{draft_value, Each, IsSection, IsSourceLine, KeepsSections};
 
 use crate::declaration::{Declaration, declaration_in};
 use crate::instruction::push_instruction;
+use crate::known::{Known, differs, end_section, hear, mark, nothing_known};
 use crate::line::{EndedLine, ended_lines, gives_later};
+use crate::meaning::no_names;
+use crate::rule::{is_rule, push_rule};
 use crate::scope::{Scope, empty_scope, take_data, take_declaration};
-use crate::statement;
-use crate::statement::{Sections, Sizes, push_statement};
+use crate::statement::{Sizes, push_statement};
 use crate::text::{push, push_zeros};
 use mc_deck::{DeckRefusal, Fault, ends_section, fields, has_data};
 use std::alloc::{AllocError, Global};
-use std::collections::BTreeMap;
 
 /// A line of a section: its number, its text in the draft, and where its text in the deck begins and ends.
 #[derive(Clone, Copy)]
@@ -58,12 +59,12 @@ struct OpenSection<'a> {
     lines: Vec<SourceLine<'a>>,
 }
 
-// The deck of the lines so far, and the sections that have ended, in order and by their names.
+// The deck of the lines so far, the sections that have ended, and what the lines so far have named.
 #[derive(Drop)]
 struct Writer<'a> {
     deck: Vec<u8>,
     sections: Vec<Section<'a>>,
-    by_name: Sections<'a>,
+    known: Known<'a>,
 }
 
 // The section with a name and an AID, if it begins with the word `app`.
@@ -124,41 +125,11 @@ fn sizes_of<'a>(section: &OpenSection<'a>) -> Sizes<'a>
     }
 }
 
-// Keeps the sizes of a section under its name, which no section before it has.
-fn insert_section<'a>(
-    sections: &mut Sections<'a>,
-    name: &'a [u8],
-    sizes: Sizes<'a>,
-) -> Result<(), AllocError>
-    ensures { OnOk result ((l : List (List ℕ × Loadable)) → None ≡ lookup l name.now → AreSections sections.old l
-        → AreSections sections.new (l ++ (name.now, loadable_of sizes.entry) ∷ [])) }
-{
-    sections.insert(name, sizes)?;
-    Ok(())
-}
-
-// Keeps the sizes of a section under its name, unless an earlier one has that name.
-#[tactic(auto, using(crate::proofs::SectionLemmas::section_there))]
-fn put_section<'a>(
-    sections: &mut Sections<'a>,
-    name: &'a [u8],
-    sizes: Sizes<'a>,
-) -> Result<(), AllocError>
-    ensures { OnOk result ((l : List (List ℕ × Loadable)) → AreSections sections.old l
-        → AreSections sections.new (l ++ (name.now, loadable_of sizes.entry) ∷ [])) }
-{
-    match statement::sizes_of(sections, name) {
-        Some(_) => Ok(()),
-        None => insert_section(sections, name, sizes),
-    }
-}
-
 // Keeps a section that has ended.
-#[tactic(auto, using(crate::proofs::DraftLemmas::section_kept))]
 fn close_section<'a>(writer: &mut Writer<'a>, section: OpenSection<'a>) -> Result<(), AllocError>
-    ensures kept { OnOk result ((ss : List Drafts.Section) (t : Drafts.OpenSection)
-        → AreSections writer.old.by_name (by_name ss)
-        → StandsSection section.entry t → AreSections writer.new.by_name (by_name (ss ++ closed_section t ∷ []))) }
+    ensures kept { OnOk result ((ss : List Drafts.Section) (r : Rules) (t : Drafts.OpenSection)
+        → Knows writer.old.known ss r → StandsSection section.entry t
+        → Knows writer.new.known (ss ++ closed_section t ∷ []) (ended_rules t r)) }
     ensures sections { OnOk result ((deck : List ℕ) (ss : List Drafts.Section) (t : Drafts.OpenSection)
         → StandsSection section.entry t → Each (IsSection deck) writer.old.sections.items ss
         → Each (IsSourceLine deck) section.entry.lines.items t.lines
@@ -166,7 +137,7 @@ fn close_section<'a>(writer: &mut Writer<'a>, section: OpenSection<'a>) -> Resul
     ensures deck { writer.new.deck.items ≡ writer.old.deck.items }
 {
     let sizes = sizes_of(&section);
-    put_section(&mut writer.by_name, section.name, sizes)?;
+    end_section(&mut writer.known, section.name, sizes, section.scope.names)?;
     writer.sections.push(Section {
         name: section.name,
         sizes,
@@ -302,19 +273,58 @@ fn scope_line<'a>(
     coded_line(deck, scope, line, later)
 }
 
+// Adds the deck's line of a rule, whose names are those of the section of which it speaks.
+fn push_ruled<'a>(
+    alloc: Global,
+    deck: &mut Vec<u8>,
+    known: &Known<'a>,
+    line: &'a [u8],
+) -> Result<(), Fault>
+    ensures { (b : Before) → Knows known.now b.sections b.rules
+        → Pushes deck.old.items (rule_text (by_name b.sections) (rule_names b.rules) line.now) result deck.new.items }
+{
+    match known.scopes.get(&known.app) {
+        Some(names) => push_rule(alloc, deck, &known.sections, names, line),
+        None => push_rule(alloc, deck, &known.sections, &no_names(alloc), line),
+    }
+}
+
+// Whether a line is a rule of a draft.
+fn is_ruled(known: &Known<'_>, line: &[u8]) -> bool
+    ensures { result ≡ (known.now.is_draft && is_rule line.now) }
+{
+    known.is_draft && is_rule(line)
+}
+
+// Adds the deck's line of a rule or a statement.
+fn push_spoken<'a>(
+    alloc: Global,
+    deck: &mut Vec<u8>,
+    known: &Known<'a>,
+    line: &'a [u8],
+) -> Result<(), Fault>
+    ensures { (b : Before) → Knows known.now b.sections b.rules
+        → Pushes deck.old.items (spoken_text b line.now) result deck.new.items }
+{
+    if is_ruled(known, line) {
+        return push_ruled(alloc, deck, known, line);
+    }
+    push_statement(deck, &known.sections, line)
+}
+
 // Adds the deck's line of a line between sections, and returns the section that it opens.
-#[tactic(auto, using(crate::proofs::DraftLemmas::opening_turned, crate::proofs::DraftLemmas::statement_turned, crate::proofs::DraftLemmas::statement_refused))]
+#[tactic(auto, using(crate::proofs::DraftLemmas::opening_turned, crate::proofs::DraftLemmas::spoken_turned, crate::proofs::DraftLemmas::spoken_refused))]
 fn between<'a>(
     alloc: Global,
     writer: &mut Writer<'a>,
     line: &'a [u8],
 ) -> Result<Option<OpenSection<'a>>, Fault>
-    ensures turned { (b : Before) → Stands writer.old.by_name None b
+    ensures turned { (b : Before) → Stands writer.old.known None b
         → MatchResult result
-        (λ s. LineTurned writer.old.deck.items writer.new.deck.items writer.new.by_name s
+        (λ s. LineTurned writer.old.deck.items writer.new.deck.items writer.new.known s
         (opening_line (new_section (fields line.now)) b line.now))
         (λ e. Faulty (opening_line (new_section (fields line.now)) b line.now) e) }
-    ensures kept { (b : Before) → Stands writer.old.by_name None b
+    ensures kept { (b : Before) → Stands writer.old.known None b
         → KeepsSections writer.old.deck.items writer.old.sections.items None b
         → IfOk result (λ s. (t : DraftTurn) → opening_line (new_section (fields line.now)) b line.now ≡ Ok t
         → KeepsSections writer.new.deck.items writer.new.sections.items s t.before) }
@@ -325,7 +335,8 @@ fn between<'a>(
             Ok(Some(section))
         }
         None => {
-            push_statement(&mut writer.deck, &writer.by_name, line)?;
+            push_spoken(alloc, &mut writer.deck, &writer.known, line)?;
+            hear(&mut writer.known, line);
             Ok(None)
         }
     }
@@ -337,9 +348,9 @@ fn end_line<'a>(
     section: OpenSection<'a>,
     line: &'a [u8],
 ) -> Result<(), AllocError>
-    ensures kept { OnOk result ((ss : List Drafts.Section) (t : Drafts.OpenSection)
-        → AreSections writer.old.by_name (by_name ss)
-        → StandsSection section.entry t → AreSections writer.new.by_name (by_name (ss ++ closed_section t ∷ []))) }
+    ensures kept { OnOk result ((ss : List Drafts.Section) (r : Rules) (t : Drafts.OpenSection)
+        → Knows writer.old.known ss r → StandsSection section.entry t
+        → Knows writer.new.known (ss ++ closed_section t ∷ []) (ended_rules t r)) }
     ensures sections { OnOk result ((deck : List ℕ) (ss : List Drafts.Section) (t : Drafts.OpenSection)
         → StandsSection section.entry t → Each (IsSection deck) writer.old.sections.items ss
         → Each (IsSourceLine deck) section.entry.lines.items t.lines
@@ -382,7 +393,7 @@ fn keep_line<'a>(
 }
 
 // Adds the deck's line of a line of a section, and returns the section if it goes on.
-#[tactic(auto, using(crate::proofs::DraftLemmas::end_turned, crate::proofs::DraftLemmas::line_kept, crate::proofs::DraftLemmas::line_faulty))]
+#[tactic(auto, using(crate::proofs::DraftLemmas::line_kept, crate::proofs::DraftLemmas::line_faulty))]
 fn within<'a>(
     writer: &mut Writer<'a>,
     section: OpenSection<'a>,
@@ -390,10 +401,10 @@ fn within<'a>(
     line: &'a [u8],
     later: bool,
 ) -> Result<Option<OpenSection<'a>>, Fault>
-    ensures turned { (b : Before) (t : Drafts.OpenSection) → AreSections writer.old.by_name (by_name b.sections)
+    ensures turned { (b : Before) (t : Drafts.OpenSection) → Knows writer.old.known b.sections b.rules
         → StandsSection section.entry t
         → MatchResult result
-        (λ s. LineTurned writer.old.deck.items writer.new.deck.items writer.new.by_name s
+        (λ s. LineTurned writer.old.deck.items writer.new.deck.items writer.new.known s
         (section_line (is_end (fields line.now)) b t number line.now later))
         (λ e. Faulty (section_line (is_end (fields line.now)) b t number line.now later) e) }
     ensures kept { (b : Before) (t : Drafts.OpenSection) → StandsSection section.entry t
@@ -421,12 +432,12 @@ fn line_turn<'a>(
     line: &'a [u8],
     later: bool,
 ) -> Result<Option<OpenSection<'a>>, Fault>
-    ensures turned { (b : Before) → Stands writer.old.by_name section.entry b
+    ensures turned { (b : Before) → Stands writer.old.known section.entry b
         → MatchResult result
-        (λ s. LineTurned writer.old.deck.items writer.new.deck.items writer.new.by_name s
+        (λ s. LineTurned writer.old.deck.items writer.new.deck.items writer.new.known s
         (draft_turn b.mode b number line.now later))
         (λ e. Faulty (draft_turn b.mode b number line.now later) e) }
-    ensures kept { (b : Before) → Stands writer.old.by_name section.entry b
+    ensures kept { (b : Before) → Stands writer.old.known section.entry b
         → KeepsSections writer.old.deck.items writer.old.sections.items section.entry b
         → IfOk result (λ s. (t : DraftTurn) → draft_turn b.mode b number line.now later ≡ Ok t
         → KeepsSections writer.new.deck.items writer.new.sections.items s t.before) }
@@ -435,6 +446,33 @@ fn line_turn<'a>(
         None => between(alloc, writer, line),
         Some(section) => within(writer, section, number, line, later),
     }
+}
+
+// Adds the deck's line of a line without what ends it, and takes whether it became another one.
+#[tactic(auto, using(crate::proofs::DraftLemmas::mark_faulty))]
+fn marked_turn<'a>(
+    alloc: Global,
+    writer: &mut Writer<'a>,
+    section: Option<OpenSection<'a>>,
+    number: u32,
+    line: &'a [u8],
+    later: bool,
+) -> Result<Option<OpenSection<'a>>, Fault>
+    ensures turned { (b : Before) → Stands writer.old.known section.entry b
+        → MatchResult result
+        (λ s. LineTurned writer.old.deck.items writer.new.deck.items writer.new.known s
+        (marked_turn b number line.now later))
+        (λ e. Faulty (marked_turn b number line.now later) e) }
+    ensures kept { (b : Before) → Stands writer.old.known section.entry b
+        → KeepsSections writer.old.deck.items writer.old.sections.items section.entry b
+        → IfOk result (λ s. (t : DraftTurn) → marked_turn b number line.now later ≡ Ok t
+        → KeepsSections writer.new.deck.items writer.new.sections.items s t.before) }
+{
+    let start = writer.deck.len();
+    let section = line_turn(alloc, writer, section, number, line, later)?;
+    let other = differs(writer.deck.as_slice(), start, line);
+    mark(&mut writer.known, other);
+    Ok(section)
 }
 
 // Adds the deck's line of a line, and returns the section that is open after it.
@@ -447,17 +485,17 @@ fn turn<'a>(
     line: &EndedLine<'a>,
     later: bool,
 ) -> Result<Option<OpenSection<'a>>, Fault>
-    ensures turned { (b : Before) → Stands writer.old.by_name section.entry b
+    ensures turned { (b : Before) → Stands writer.old.known section.entry b
         → MatchResult result
-        (λ s. EndedLineTurned writer.old.deck.items writer.new.deck.items line.now.ending.now writer.new.by_name s
-        (draft_turn b.mode b number line.now.text.now later))
-        (λ e. Faulty (draft_turn b.mode b number line.now.text.now later) e) }
-    ensures kept { (b : Before) → Stands writer.old.by_name section.entry b
+        (λ s. EndedLineTurned writer.old.deck.items writer.new.deck.items line.now.ending.now writer.new.known s
+        (marked_turn b number line.now.text.now later))
+        (λ e. Faulty (marked_turn b number line.now.text.now later) e) }
+    ensures kept { (b : Before) → Stands writer.old.known section.entry b
         → KeepsSections writer.old.deck.items writer.old.sections.items section.entry b
-        → IfOk result (λ s. (t : DraftTurn) → draft_turn b.mode b number line.now.text.now later ≡ Ok t
+        → IfOk result (λ s. (t : DraftTurn) → marked_turn b number line.now.text.now later ≡ Ok t
         → KeepsSections writer.new.deck.items writer.new.sections.items s t.before) }
 {
-    let section = line_turn(alloc, writer, section, number, line.text, later)?;
+    let section = marked_turn(alloc, writer, section, number, line.text, later)?;
     push(&mut writer.deck, line.ending)?;
     Ok(section)
 }
@@ -502,8 +540,9 @@ fn later_at(later: &Vec<bool>, i: usize) -> bool
 
 /// Reads a draft: its deck, whose line N is that of line N of the draft, and its sections. In the sections of a draft
 /// `STATIC NAME SIZE [HEX]`, `SESSION NAME SIZE`, `PUBLIC NAME AT SIZE` and `CONST NAME NUMBER` declare names, which
-/// may stand in place of operands; between them sections are named by their names, and the fields of a command may be
-/// apart. Every deck is a draft, and is its own deck. A draft is read in time that grows with its length alone.
+/// may stand in place of operands; between them sections are named by their names, the fields of a command may be apart,
+/// and rules have names in braces. Every deck is a draft, and is its own deck. A draft is read in time that grows with
+/// its length alone.
 ///
 /// # Errors
 ///
@@ -518,7 +557,7 @@ pub fn read_draft(alloc: Global, draft: &[u8]) -> Result<Draft<'_>, DeckRefusal>
     let mut writer = Writer {
         deck: Vec::new(alloc),
         sections: Vec::new(alloc),
-        by_name: BTreeMap::new(alloc),
+        known: nothing_known(alloc),
     };
     let mut section = None;
     for i in 0..lines.len() {

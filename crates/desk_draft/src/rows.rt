@@ -6,4 +6,5 @@ mod operands;
 mod plays;
 mod purse;
 mod refusals;
+mod rules;
 mod statements;

@@ -1,5 +1,5 @@
 // A statement between sections, and what it becomes.
-ghost use Rattle.std.specs.Prelude.{◌≡◌, ◌++◌, ◌∷◌, [], ℕ, List, bytes_eq, codes, ok_or, option_map, OnOk};
+ghost use Rattle.std.specs.Prelude.{◌≡◌, ◌++◌, ◌∷◌, ◌&&◌, [], ℕ, List, bytes_eq, codes, is_none, not, ok_or, option_map, OnOk};
 ghost use Rattle.model_device.specs.Bytes.{has_name, lookup};
 ghost use Rattle.model_text.specs.Text.{fields, hex_bytes, is_within, ok_as};
 ghost use Rattle.model_text.specs.Listing.{hex_text};
@@ -203,6 +203,14 @@ fn is_naming(word: &[u8]) -> bool
     ensures { result ≡ has_name word.now naming_words }
 {
     matches!(word, b"select" | b"delete" | b"dump")
+}
+
+/// Returns whether a field may name a section by its word, and neither is an AID nor the name of a section.
+pub fn is_unnamed<'a>(sections: &Sections<'a>, word: &[u8], field: &'a [u8]) -> bool
+    ensures { (l : List (List ℕ × Loadable)) → AreSections sections.now l
+        → result ≡ (has_name word.now naming_words && (not (is_aid field.now) && is_none (lookup l field.now))) }
+{
+    is_naming(word) && !is_aid(field) && sizes_of(sections, field).is_none()
 }
 
 // Whether a word is `load`.

@@ -7,8 +7,10 @@ ghost use Rattle.desk_explain.specs.Explained.{explained_line, BeginsWith, Expla
 use crate::entry::{Entry, entry_of};
 use crate::kind::{Kind, kind_in_section};
 use crate::lines::{line_numbered, lines_of};
+use crate::part::Part;
 use crate::place::part_of;
 use crate::refusals::{Reading, Refused, first_refusal, read_all};
+use crate::rule::rule_part;
 use crate::sentence::refusal_sentence;
 use crate::text::{push, push_number};
 use crate::uses::Uses;
@@ -50,13 +52,25 @@ fn push_line(text: &mut Vec<u8>, name: &[u8], entry: &Entry) -> Result<(), Alloc
     push(text, b"\n")
 }
 
+// The part of a refused line that its cause is about.
+fn refused_part<'a>(lines: &[&'a [u8]], refused: Refused) -> Part<'a> {
+    if refused.kind == Kind::Rule {
+        return rule_part(lines, refused.number, refused.cause);
+    }
+    part_of(
+        line_numbered(lines, refused.number),
+        refused.kind,
+        refused.cause,
+    )
+}
+
 // The entry of a line that is refused.
 fn refusal_entry(alloc: Global, lines: &[&[u8]], refused: Refused) -> Result<Entry, AllocError>
     ensures number { IfOk result (λ e. e.number ≡ refused.number) }
     ensures word { IfOk result (λ e. e.word.now ≡ deck_word refused.cause) }
 {
     let line = line_numbered(lines, refused.number);
-    let part = part_of(line, refused.kind, refused.cause);
+    let part = refused_part(lines, refused);
     let sentence = refusal_sentence(refused.kind, refused.cause);
     entry_of(
         alloc,

@@ -3,11 +3,12 @@
 use crate::part::{first_field, without_comment};
 use mc_deck::{ends_section, fields, has_data};
 
-/// What a line of a draft is: a statement between sections, the `app` of a section, its `end`, or a declaration, bytes or
-/// an instruction in it.
+/// What a line of a draft is: a statement or a rule between sections, the `app` of a section, its `end`, or a declaration,
+/// bytes or an instruction in it.
 #[derive(Clone, Copy, Debug, PartialEq, Eq)]
 pub enum Kind {
     Statement,
+    Rule,
     App,
     End,
     Declaration,
@@ -30,10 +31,10 @@ fn declares(line: &[u8]) -> bool {
 
 // The kind of a line between sections.
 fn outside(line: &[u8]) -> Kind {
-    if first_field(line).text == b"app".as_slice() {
-        Kind::App
-    } else {
-        Kind::Statement
+    match first_field(line).text {
+        b"app" => Kind::App,
+        b"#@" => Kind::Rule,
+        _ => Kind::Statement,
     }
 }
 

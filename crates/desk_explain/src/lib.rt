@@ -11,6 +11,7 @@ mod part;
 mod place;
 mod reach;
 mod refusals;
+mod rule;
 mod sentence;
 #[cfg(test)]
 mod tests;

@@ -104,8 +104,8 @@ fn range_of_declaration(line: &[u8]) -> Part<'_> {
     field_or_first(line, 2)
 }
 
-// The part of a statement that a cause is about.
-fn in_statement<'a>(line: &'a [u8], cause: DeckCause) -> Part<'a> {
+/// Returns the part of a statement that a cause is about.
+pub fn statement_part<'a>(line: &'a [u8], cause: DeckCause) -> Part<'a> {
     let word = first_field(line).text;
     match cause {
         DeckCause::BadName | DeckCause::NameTwice | DeckCause::UnknownName => {
@@ -205,11 +205,11 @@ fn in_data<'a>(line: &'a [u8], cause: DeckCause) -> Part<'a> {
     }
 }
 
-/// Returns the part of a line that its cause is about.
+/// Returns the part of a line that its cause is about, which is the first field of a rule.
 pub fn part_of<'a>(line: &'a [u8], kind: Kind, cause: DeckCause) -> Part<'a> {
     match kind {
-        Kind::Statement | Kind::App => in_statement(line, cause),
-        Kind::End => first_field(line),
+        Kind::Statement | Kind::App => statement_part(line, cause),
+        Kind::Rule | Kind::End => first_field(line),
         Kind::Declaration => in_declaration(without_comment(line), cause),
         Kind::Data => in_data(line, cause),
         Kind::Instruction => in_instruction(line, cause),

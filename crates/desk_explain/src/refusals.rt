@@ -255,14 +255,30 @@ fn has_refused_line(rest: &Rest, refusals: &[Refused], number: u32) -> bool {
     false
 }
 
-// Whether the line of a refusal names a section or unit that is left out.
-fn names_gone(rest: &Rest, refused: Refused) -> bool {
-    match rest.lines.get(index_of(refused.number)) {
-        Some(line) => match field_at(line.as_slice(), 1) {
-            Some(part) => refused.kind == Kind::Statement
-                && is_among(rest.gone.as_slice(), part.text),
+// The index of the field of a line that may name a section or unit: of a statement or of a move.
+fn naming_field(kind: Kind) -> Option<usize> {
+    match kind {
+        Kind::Statement => Some(1),
+        Kind::Rule => Some(3),
+        _ => None,
+    }
+}
+
+// Whether the field of a line names a section or unit that is left out.
+fn field_is_gone(rest: &Rest, index: usize, field: usize) -> bool {
+    match rest.lines.get(index) {
+        Some(line) => match field_at(line.as_slice(), field) {
+            Some(part) => is_among(rest.gone.as_slice(), part.text),
             None => false,
         },
+        None => false,
+    }
+}
+
+// Whether the line of a refusal names a section or unit that is left out.
+fn names_gone(rest: &Rest, refused: Refused) -> bool {
+    match naming_field(refused.kind) {
+        Some(field) => field_is_gone(rest, index_of(refused.number), field),
         None => false,
     }
 }

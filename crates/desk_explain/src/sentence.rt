@@ -172,6 +172,22 @@ fn declaration_sentence(cause: DeckCause) -> Sentence {
     }
 }
 
+// Of a rule that is refused.
+fn rule_sentence(cause: DeckCause) -> Sentence {
+    match cause {
+        DeckCause::BadLine => say("a closing brace after the name", "write the brace"),
+        DeckCause::UnknownName => say(
+            "a name that the section of the last `#@ app` line above declares, or one with a plus sign or a point and size",
+            "name the section in an `#@ app` line above, or mend the name",
+        ),
+        DeckCause::OutOfRange => say(
+            "a place among the bytes of the name, and at most 255 bytes in round brackets",
+            "write a number after the plus sign that is less than the size of the name",
+        ),
+        other => statement_sentence(other),
+    }
+}
+
 // Of bytes that are refused.
 fn data_sentence(cause: DeckCause) -> Sentence {
     match cause {
@@ -200,6 +216,7 @@ pub fn refusal_sentence(kind: Kind, cause: DeckCause) -> Sentence {
         Kind::Declaration => declaration_sentence(cause),
         Kind::Data => data_sentence(cause),
         Kind::Instruction => instruction_sentence(cause),
+        Kind::Rule => rule_sentence(cause),
         Kind::Statement | Kind::App | Kind::End => statement_sentence(cause),
     }
 }

@@ -90,3 +90,16 @@ a.draft:10:2: warning: `EXIT` stands here; expected a way from the first instruc
 a.draft:11:1: warning: `l` stands here; expected a BRANCH, JUMP or CALL to the label; take the label away, or go there\n";
     assert!(rt; explains(rt.alloc(), draft, true, text));
 }
+
+#[test]
+fn rules_that_name_nothing(rt: HostRuntime) {
+    let draft =
+        b"app a A000000001\nSTATIC x 2\n CLEARN x\n EXIT\nend\nload a\n#@ app a\n#@ always {x} 0 {y.size}\n#@ always {x+2} 0 1\n#@ always {x 0 1\n#@ move  select b\n#@ move apdu 80 (1)\n#@ move select a\n";
+    let text =
+        b"a.draft:8:18: UnknownName: `y.size` stands here; expected a name that the section of the last `#@ app` line above declares, or one with a plus sign or a point and size; name the section in an `#@ app` line above, or mend the name\n\
+a.draft:9:12: OutOfRange: `x+2` stands here; expected a place among the bytes of the name, and at most 255 bytes in round brackets; write a number after the plus sign that is less than the size of the name\n\
+a.draft:10:12: BadLine: `x 0 1` stands here; expected a closing brace after the name; write the brace\n\
+a.draft:11:17: BadHex: `b` stands here; expected bytes as pairs of hexadecimal digits, or the name of a section above; count the digits, or mend the name\n\
+a.draft:12:17: BadHex: `(1)` stands here; expected bytes as pairs of hexadecimal digits, or the name of a section above; count the digits, or mend the name\n";
+    assert!(rt; explains(rt.alloc(), draft, false, text));
+}

@@ -1,7 +1,8 @@
 -- A deck is a draft that makes itself, line by line.
 use Rattle.std.proofs.Common.{◌≡◌, ℕ, suc, ◌+◌, Bool, true, false, cond, List, [], ◌∷◌, ◌++◌, map, Option, Some, None, Result, Ok, Err, refl, sym, ap, subst, ◌∙◌}
-use Rattle.std.specs.Prelude.{◌==◌, not, ok_or, unwrap_or, ⊤}
+use Rattle.std.specs.Prelude.{◌==◌, ◌&&◌, ◌||◌, bytes_eq, not, ok_or, unwrap_or, ⊤}
 use Rattle.model_device.specs.Bytes.{lookup}
+use Rattle.model_device.proofs.MapLemmas.{name_is_itself}
 use Rattle.model_text.specs.Text.{◌>>=◌, begins, err_as, fields, is_empty, ok_as, only_if, trim, with_numbers}
 use Rattle.model_text.specs.declared.assembler.AsmCause.{AsmCause}
 use Rattle.model_text.specs.Assembly.{assembled_lines, joined_code, laid_lines, line_laid, line_read, size, with_label}
@@ -14,8 +15,9 @@ use Rattle.model_play.specs.DeckGrammar
 use Rattle.desk_draft.specs.Parts.{EndedLine, after_word, ended_lines}
 use Rattle.desk_draft.specs.Declarations.{Scope, data_count, data_scope, empty_scope, gives_later, header_names}
 use Rattle.desk_draft.specs.Operands.{instruction_text}
-use Rattle.desk_draft.specs.Statements.{stated_text}
-use Rattle.desk_draft.specs.Drafts.{Before, closed_section, Draft, DraftTurn, OpenSection, by_name, coded_turn, deck_of, draft_of_lines, draft_read, draft_turn, kept_line, new_section, nothing_before, opening_line, scope_turn, section_line, with_line}
+use Rattle.desk_draft.specs.Statements.{stated_text, statement_text}
+use Rattle.desk_draft.specs.Rules.{is_rule, rule_text}
+use Rattle.desk_draft.specs.Drafts.{Before, closed_section, Draft, DraftTurn, OpenSection, by_name, coded_turn, deck_of, draft_of_lines, draft_read, draft_turn, ended_before, kept_line, marked, new_section, nothing_before, opening_line, rule_names, scope_turn, section_line, spoken_text, spoken_turn, with_line}
 use Rattle.desk_draft.specs.Drafts
 use Rattle.law_desk.proofs.Results.{Fine, fine_as, fine_err, fine_ok, fine_or, fine_then}
 use Rattle.law_desk.proofs.SelfLines.{joined, lines_joined, lines_read, texts_read}
@@ -138,23 +140,33 @@ Agrees (DeckGrammar.Between c) (Drafts.Within t) = ⊥
 Agrees (DeckGrammar.Within s c) Drafts.Between = ⊥
 Agrees (DeckGrammar.Within s c) (Drafts.Within t) = (t.scope.names ≡ header_names) × (t.scope.fixed ≡ 0)
 
+-- no line became another one
+abbrev Plain : Before → Type 0
+Plain b = b.rules.is_draft ≡ false
+
+-- the rules of a deck stay, as its statements do
+spoken_stays : (b : Before) (l : List ℕ) → Plain b → spoken_text b l ≡ statement_text (by_name b.sections) l
+spoken_stays b l p = ap (λ x. cond (x && is_rule l) (rule_text (by_name b.sections) (rule_names b.rules) l) (statement_text (by_name b.sections) l)) p
+
 -- the draft takes a line as it is, and the lines after it are read from there
 record Steps (m : Drafts.Mode) (b : Before) (n : ℕ) (t : List ℕ) (later : Bool) (ls : List (ℕ × List ℕ)) : Type 0 where
   turn : DraftTurn
   is : draft_turn m b n t later ≡ Ok turn
   text : turn.text ≡ t
+  plain : Plain turn.before
   mode : DeckGrammar.Mode
   agrees : Agrees mode turn.before.mode
   rest : Fine (deck_lines mode ls)
 
 -- a line between sections that stays
-stays_between : (c : Context) (b : Before) (n : ℕ) (t : List ℕ) (later : Bool) (ls : List (ℕ × List ℕ)) → Drafts.Between ≡ b.mode → new_section (fields t) ≡ None → stated_text (by_name b.sections) (fields t) (trim (after_word t)) ≡ Ok (trim (after_word t)) → Fine (deck_lines (DeckGrammar.Between c) ls)
+stays_between : (c : Context) (b : Before) (n : ℕ) (t : List ℕ) (later : Bool) (ls : List (ℕ × List ℕ)) → Plain b → Drafts.Between ≡ b.mode → new_section (fields t) ≡ None → stated_text (by_name b.sections) (fields t) (trim (after_word t)) ≡ Ok (trim (after_word t)) → Fine (deck_lines (DeckGrammar.Between c) ls)
     → Steps Drafts.Between b n t later ls
-stays_between c b n t later ls e o k h =
+stays_between c b n t later ls p e o k h =
     record {
-      turn = record { text = t; before = b };
-      is = ap (λ o. opening_line o b t) o ∙ ap (ok_as (λ deck. record { text = deck; before = b })) (statement_stays (by_name b.sections) t k);
+      turn = spoken_turn b t t;
+      is = ap (λ o. opening_line o b t) o ∙ ap (ok_as (spoken_turn b t)) (spoken_stays b t p ∙ statement_stays (by_name b.sections) t k);
       text = refl;
+      plain = p;
       mode = DeckGrammar.Between c;
       agrees = subst (Agrees (DeckGrammar.Between c)) e tt;
       rest = h;
@@ -181,39 +193,40 @@ word_fields : (t w : List ℕ) (fs : List (List ℕ)) (k : Word) → fields t �
 word_fields t w fs k h e = h ∙ ap (λ x. x ∷ fs) (word_known w k e)
 
 -- a statement that opens no section
-line_steps : (c : Context) (b : Before) (n : ℕ) (t : List ℕ) (later : Bool) (ls : List (ℕ × List ℕ)) (w : Word) (fs : List (List ℕ)) (v : Stated) → Drafts.Between ≡ b.mode → fields t ≡ word_name w ∷ fs → is_app w ≡ false → statement_of c n w fs ≡ Ok v
+line_steps : (c : Context) (b : Before) (n : ℕ) (t : List ℕ) (later : Bool) (ls : List (ℕ × List ℕ)) (w : Word) (fs : List (List ℕ)) (v : Stated) → Plain b → Drafts.Between ≡ b.mode → fields t ≡ word_name w ∷ fs → is_app w ≡ false → statement_of c n w fs ≡ Ok v
     → Fine (deck_lines (turn_of n v).mode ls) → Steps Drafts.Between b n t later ls
-line_steps c b n t later ls w fs v e h a s r =
+line_steps c b n t later ls w fs v p e h a s r =
     let core = trim (after_word t) in
     let sections = by_name b.sections in
     let k = statement_kept c n w fs sections core (other_fields t (word_name w) fs h) (λ x i. only_other t (word_name w) fs x h i) a (fine_ok (statement_of c n w fs) v s) in
     let m = line_mode n v (good_value IsLine (statement_of c n w fs) v k.says s) in
-    stays_between m.0 b n t later ls e (ap new_section h ∙ k.opens) (ap (λ fs. stated_text sections fs core) h ∙ k.stays) (subst (λ m. Fine (deck_lines m ls)) m.1 r)
+    stays_between m.0 b n t later ls p e (ap new_section h ∙ k.opens) (ap (λ fs. stated_text sections fs core) h ∙ k.stays) (subst (λ m. Fine (deck_lines m ls)) m.1 r)
 
 -- the section that a line opens
 abbrev opened : List ℕ → List ℕ → OpenSection
 opened name aid = record { name = name; aid = aid; scope = empty_scope; lines = [] }
 
 -- a statement that opens a section
-opening_steps : (c : Context) (b : Before) (n : ℕ) (t : List ℕ) (later : Bool) (ls : List (ℕ × List ℕ)) (fs : List (List ℕ)) (v : Stated) → fields t ≡ word_name AppWord ∷ fs → statement_of c n AppWord fs ≡ Ok v → Fine (deck_lines (turn_of n v).mode ls)
+opening_steps : (c : Context) (b : Before) (n : ℕ) (t : List ℕ) (later : Bool) (ls : List (ℕ × List ℕ)) (fs : List (List ℕ)) (v : Stated) → Plain b → fields t ≡ word_name AppWord ∷ fs → statement_of c n AppWord fs ≡ Ok v → Fine (deck_lines (turn_of n v).mode ls)
     → Steps Drafts.Between b n t later ls
-opening_steps c b n t later ls fs v h s r =
+opening_steps c b n t later ls fs v p h s r =
     let k = opening_kept c n fs (fine_ok (statement_of c n AppWord fs) v s) in
     let m = section_mode n v (good_value IsOpening (statement_of c n AppWord fs) v k.3 s) in
     record {
       turn = record { text = t; before = record b { mode = Drafts.Within (opened k.0 k.1) } };
       is = ap (λ fs. opening_line (new_section fs) b t) (h ∙ ap (λ fs. word_name AppWord ∷ fs) k.2);
       text = refl;
+      plain = p;
       mode = DeckGrammar.Within m.0 m.1;
       agrees = (refl, refl);
       rest = subst (λ m. Fine (deck_lines m ls)) m.2 r;
     }
 
-statement_steps : (c : Context) (b : Before) (n : ℕ) (t : List ℕ) (later : Bool) (ls : List (ℕ × List ℕ)) (w : Word) (fs : List (List ℕ)) (v : Stated) (a : Bool) → is_app w ≡ a → Drafts.Between ≡ b.mode → fields t ≡ word_name w ∷ fs → statement_of c n w fs ≡ Ok v
+statement_steps : (c : Context) (b : Before) (n : ℕ) (t : List ℕ) (later : Bool) (ls : List (ℕ × List ℕ)) (w : Word) (fs : List (List ℕ)) (v : Stated) (a : Bool) → is_app w ≡ a → Plain b → Drafts.Between ≡ b.mode → fields t ≡ word_name w ∷ fs → statement_of c n w fs ≡ Ok v
     → Fine (deck_lines (turn_of n v).mode ls) → Steps Drafts.Between b n t later ls
-statement_steps c b n t later ls AppWord fs v a i e h s r = opening_steps c b n t later ls fs v h s r
-statement_steps c b n t later ls w fs v false i e h s r = line_steps c b n t later ls w fs v e h i s r
-statement_steps c b n t later ls w fs v true i e h s r = absurd (cc i)
+statement_steps c b n t later ls AppWord fs v a i p e h s r = opening_steps c b n t later ls fs v p h s r
+statement_steps c b n t later ls w fs v false i p e h s r = line_steps c b n t later ls w fs v p e h i s r
+statement_steps c b n t later ls w fs v true i p e h s r = absurd (cc i)
 
 -- a cause at a line
 abbrev line_cause : ℕ → DeckCause → ℕ × DeckCause
@@ -224,22 +237,22 @@ abbrev numbered : ℕ → Result LineTurn DeckCause → Result LineTurn (ℕ × 
 numbered n r = err_as (line_cause n) r
 
 -- a line between sections that begins with a word
-word_steps : (x : Bool) (c : Context) (b : Before) (n : ℕ) (t : List ℕ) (later : Bool) (ls : List (ℕ × List ℕ)) (w : List ℕ) (fs : List (List ℕ)) (u : LineTurn) → begins 35 w ≡ x → Drafts.Between ≡ b.mode → fields t ≡ w ∷ fs
+word_steps : (x : Bool) (c : Context) (b : Before) (n : ℕ) (t : List ℕ) (later : Bool) (ls : List (ℕ × List ℕ)) (w : List ℕ) (fs : List (List ℕ)) (u : LineTurn) → begins 35 w ≡ x → Plain b → Drafts.Between ≡ b.mode → fields t ≡ w ∷ fs
     → cond x (Ok (record { lines = []; mode = DeckGrammar.Between c })) (numbered n (ok_or (lookup deck_words w) BadLine >>= λ k. ok_as (turn_of n) (statement_of c n k fs))) ≡ Ok u
     → Fine (deck_lines u.mode ls) → Steps Drafts.Between b n t later ls
-word_steps true c b n t later ls w fs u i e h k r =
+word_steps true c b n t later ls w fs u i p e h k r =
     let z : (record { lines = []; mode = DeckGrammar.Between c }) ≡ u = cc k in
     let core = trim (after_word t) in
     let a = skipped_stays (by_name b.sections) w fs core i (λ x j. only_other t w fs x h j) in
-    stays_between c b n t later ls e (ap new_section h ∙ a.0) (ap (λ fs. stated_text (by_name b.sections) fs core) h ∙ a.1) (subst (λ (u : LineTurn). Fine (deck_lines u.mode ls)) (sym z) r)
-word_steps false c b n t later ls w fs u i e h k r =
+    stays_between c b n t later ls p e (ap new_section h ∙ a.0) (ap (λ fs. stated_text (by_name b.sections) fs core) h ∙ a.1) (subst (λ (u : LineTurn). Fine (deck_lines u.mode ls)) (sym z) r)
+word_steps false c b n t later ls w fs u i p e h k r =
     let made = ok_or (lookup deck_words w) BadLine >>= λ k. ok_as (turn_of n) (statement_of c n k fs) in
     let f = fine_err (line_cause n) made (fine_ok (numbered n made) u k) in
     let a = fine_then (ok_or (lookup deck_words w) BadLine) (λ k. ok_as (turn_of n) (statement_of c n k fs)) f in
     let o = fine_or (lookup deck_words w) BadLine (fine_ok (ok_or (lookup deck_words w) BadLine) a.0 a.1) in
     let g : ok_as (turn_of n) (statement_of c n o.0 fs) ≡ Ok u = known_turn (lookup deck_words w) o.0 u (λ k. ok_as (turn_of n) (statement_of c n k fs)) o.1 k in
     let v = as_value (turn_of n) (statement_of c n o.0 fs) u g in
-    statement_steps c b n t later ls o.0 fs v.0 (is_app o.0) refl e (word_fields t w fs o.0 h o.1) v.1 (subst (λ (u : LineTurn). Fine (deck_lines u.mode ls)) (sym v.2) r)
+    statement_steps c b n t later ls o.0 fs v.0 (is_app o.0) refl p e (word_fields t w fs o.0 h o.1) v.1 (subst (λ (u : LineTurn). Fine (deck_lines u.mode ls)) (sym v.2) r)
   where
     known_turn : (o : Option Word) (k : Word) (u : LineTurn) (f : Word → Result LineTurn DeckCause) → o ≡ Some k → numbered n (ok_or o BadLine >>= f) ≡ Ok u → f k ≡ Ok u
     known_turn o k u f e h = no_error (f k) u (sym (ap (λ o. numbered n (ok_or o BadLine >>= f)) e) ∙ h)
@@ -249,12 +262,12 @@ word_steps false c b n t later ls w fs u i e h k r =
         no_error (Err x) u h = absurd (cc h)
 
 -- a line between sections
-between_steps : (c : Context) (b : Before) (n : ℕ) (t : List ℕ) (later : Bool) (ls : List (ℕ × List ℕ)) (fs : List (List ℕ)) (u : LineTurn) → Drafts.Between ≡ b.mode → fields t ≡ fs → between c n fs ≡ Ok u → Fine (deck_lines u.mode ls) → Steps Drafts.Between b n t later ls
-between_steps c b n t later ls [] u e h k r =
+between_steps : (c : Context) (b : Before) (n : ℕ) (t : List ℕ) (later : Bool) (ls : List (ℕ × List ℕ)) (fs : List (List ℕ)) (u : LineTurn) → Plain b → Drafts.Between ≡ b.mode → fields t ≡ fs → between c n fs ≡ Ok u → Fine (deck_lines u.mode ls) → Steps Drafts.Between b n t later ls
+between_steps c b n t later ls [] u p e h k r =
     let z : (record { lines = []; mode = DeckGrammar.Between c }) ≡ u = cc k in
     let core = trim (after_word t) in
-    stays_between c b n t later ls e (ap new_section h) (ap (λ fs. stated_text (by_name b.sections) fs core) h) (subst (λ (u : LineTurn). Fine (deck_lines u.mode ls)) (sym z) r)
-between_steps c b n t later ls (w ∷ fs) u e h k r = word_steps (begins 35 w) c b n t later ls w fs u refl e h k r
+    stays_between c b n t later ls p e (ap new_section h) (ap (λ fs. stated_text (by_name b.sections) fs core) h) (subst (λ (u : LineTurn). Fine (deck_lines u.mode ls)) (sym z) r)
+between_steps c b n t later ls (w ∷ fs) u p e h k r = word_steps (begins 35 w) c b n t later ls w fs u refl p e h k r
 
 -- ---- a line of a section
 
@@ -288,18 +301,19 @@ takes false d t later h k g =
     }
 
 -- a line in a section, which ends it or goes on
-section_steps : (x : Bool) (s : Section) (c : Context) (o : OpenSection) (b : Before) (n : ℕ) (t : List ℕ) (later : Bool) (ls : List (ℕ × List ℕ)) (u : LineTurn) → is_end (fields t) ≡ x → o.scope.names ≡ header_names → o.scope.fixed ≡ 0
+section_steps : (x : Bool) (s : Section) (c : Context) (o : OpenSection) (b : Before) (n : ℕ) (t : List ℕ) (later : Bool) (ls : List (ℕ × List ℕ)) (u : LineTurn) → Plain b → is_end (fields t) ≡ x → o.scope.names ≡ header_names → o.scope.fixed ≡ 0
     → SectionTurned x s c (n, t) u → Fine (deck_lines u.mode ls) → Steps (Drafts.Within o) b n t later ls
-section_steps true s c o b n t later ls u e h k f r =
+section_steps true s c o b n t later ls u p e h k f r =
     record {
-      turn = record { text = t; before = record { sections = b.sections ++ closed_section o ∷ []; mode = Drafts.Between } };
+      turn = record { text = t; before = ended_before o b };
       is = ap (λ x. section_line x b o n t later) e;
       text = refl;
+      plain = p;
       mode = DeckGrammar.Between f.1;
       agrees = tt;
       rest = subst (λ m. Fine (deck_lines m ls)) f.2 r;
     }
-section_steps false s c o b n t later ls u e h k f r =
+section_steps false s c o b n t later ls u p e h k f r =
     let rest : Fine (deck_lines (DeckGrammar.Within (longer s (n, t)) c) ls) = subst (λ m. Fine (deck_lines m ls)) f r in
     let good = good_last s.lines (n, t) (goods ls (longer s (n, t)) c rest) in
     let a = takes (is_data (fields t)) o.scope t later h k good in
@@ -307,21 +321,22 @@ section_steps false s c o b n t later ls u e h k f r =
       turn = kept_line b o n t (record { text = t; scope = a.scope });
       is = ap (λ x. section_line x b o n t later) e ∙ ap (ok_as (kept_line b o n t)) a.is;
       text = refl;
+      plain = p;
       mode = DeckGrammar.Within (longer s (n, t)) c;
       agrees = (a.names, a.fixed);
       rest = rest;
     }
 
 -- a line that the deck's reader takes is one that the draft takes as it is
-steps : (m : DeckGrammar.Mode) (o : Drafts.Mode) (b : Before) (n : ℕ) (t : List ℕ) (later : Bool) (ls : List (ℕ × List ℕ)) → o ≡ b.mode → Agrees m o → Fine (deck_lines m ((n, t) ∷ ls)) → Steps o b n t later ls
-steps (DeckGrammar.Between c) Drafts.Between b n t later ls e h f =
+steps : (m : DeckGrammar.Mode) (o : Drafts.Mode) (b : Before) (n : ℕ) (t : List ℕ) (later : Bool) (ls : List (ℕ × List ℕ)) → Plain b → o ≡ b.mode → Agrees m o → Fine (deck_lines m ((n, t) ∷ ls)) → Steps o b n t later ls
+steps (DeckGrammar.Between c) Drafts.Between b n t later ls p e h f =
     let a = turn_then (DeckGrammar.Between c) (n, t) ls f in
-    between_steps c b n t later ls (fields t) a.0 e refl a.1 a.2
-steps (DeckGrammar.Between c) (Drafts.Within o) b n t later ls e h f = absurd h
-steps (DeckGrammar.Within s c) Drafts.Between b n t later ls e h f = absurd h
-steps (DeckGrammar.Within s c) (Drafts.Within o) b n t later ls e h f =
+    between_steps c b n t later ls (fields t) a.0 p e refl a.1 a.2
+steps (DeckGrammar.Between c) (Drafts.Within o) b n t later ls p e h f = absurd h
+steps (DeckGrammar.Within s c) Drafts.Between b n t later ls p e h f = absurd h
+steps (DeckGrammar.Within s c) (Drafts.Within o) b n t later ls p e h f =
     let a = turn_then (DeckGrammar.Within s c) (n, t) ls f in
-    section_steps (is_end (fields t)) s c o b n t later ls a.0 refl h.0 h.1 (section_turned (is_end (fields t)) s c (n, t) a.0 a.1) a.2
+    section_steps (is_end (fields t)) s c o b n t later ls a.0 p refl h.0 h.1 (section_turned (is_end (fields t)) s c (n, t) a.0 a.1) a.2
 
 -- ---- all lines
 
@@ -335,15 +350,21 @@ record Makes (r : Result Draft (ℕ × DeckCause)) (text : List ℕ) : Type 0 wh
 abbrev later_of : List (ℕ × EndedLine) → Bool
 later_of ls = gives_later (map (λ m. (m.1).text) ls)
 
+-- a line that stays shows no draft
+marked_plain : (t : DraftTurn) (l : List ℕ) → t.text ≡ l → Plain t.before → Plain (marked l t).before
+marked_plain t l h p =
+    let same : bytes_eq t.text l ≡ true = ap (λ x. bytes_eq x l) h ∙ name_is_itself l in
+    ap (λ x. x || not (bytes_eq t.text l)) p ∙ ap not same
+
 -- one more line before those that make themselves
-makes_more : (b : Before) (n : ℕ) (l : EndedLine) (ls : List (ℕ × EndedLine)) (rest : List ℕ) (u : DraftTurn) → draft_turn b.mode b n l.text (later_of ls) ≡ Ok u → u.text ≡ l.text → Makes (draft_of_lines u.before ls) rest
+makes_more : (b : Before) (n : ℕ) (l : EndedLine) (ls : List (ℕ × EndedLine)) (rest : List ℕ) (u : DraftTurn) → draft_turn b.mode b n l.text (later_of ls) ≡ Ok u → u.text ≡ l.text → Makes (draft_of_lines (marked l.text u).before ls) rest
     → Makes (draft_of_lines b ((n, l) ∷ ls)) (l.text ++ l.ending ++ rest)
 unfolding draft_of_lines
 makes_more b n l ls rest u e h k =
     record {
       draft = with_line u.text l.ending k.draft;
       is =
-          ap (λ r. err_as (λ c. (n, c)) r >>= λ t. ok_as (with_line t.text l.ending) (draft_of_lines t.before ls)) e
+          ap (λ r. err_as (λ c. (n, c)) (ok_as (marked l.text) r) >>= λ t. ok_as (with_line t.text l.ending) (draft_of_lines t.before ls)) e
           ∙ ap (ok_as (with_line u.text l.ending)) k.is;
       deck = ap (λ x. x ++ l.ending ++ k.draft.deck) h ∙ ap (λ x. l.text ++ l.ending ++ x) k.deck;
     }
@@ -358,29 +379,29 @@ ends_between (DeckGrammar.Between c) Drafts.Between h f = refl
 ends_between (DeckGrammar.Between c) (Drafts.Within o) h f = absurd h
 ends_between (DeckGrammar.Within s c) o h f = absurd f
 
-empty_stays : (b : Before) (n : ℕ) (later : Bool) → b.mode ≡ Drafts.Between → draft_turn b.mode b n [] later ≡ Ok (record { text = []; before = b })
-empty_stays b n later e = ap (λ m. draft_turn m b n [] later) e ∙ ap (ok_as (λ deck. record { text = deck; before = b })) (statement_stays (by_name b.sections) [] refl)
+empty_stays : (b : Before) (n : ℕ) (later : Bool) → Plain b → b.mode ≡ Drafts.Between → draft_turn b.mode b n [] later ≡ Ok (spoken_turn b [] [])
+empty_stays b n later p e = ap (λ m. draft_turn m b n [] later) e ∙ ap (ok_as (spoken_turn b [])) (spoken_stays b [] p ∙ statement_stays (by_name b.sections) [] refl)
 
-last_makes : (x : Bool) (m : DeckGrammar.Mode) (b : Before) (n : ℕ) (l : EndedLine) → is_empty l.text ≡ x → Agrees m b.mode → Fine (deck_lines m (with_numbers n (cond x [] (l.text ∷ [])))) → Makes (draft_of_lines b ((n, l) ∷ [])) (l.text ++ l.ending ++ [])
+last_makes : (x : Bool) (m : DeckGrammar.Mode) (b : Before) (n : ℕ) (l : EndedLine) → is_empty l.text ≡ x → Plain b → Agrees m b.mode → Fine (deck_lines m (with_numbers n (cond x [] (l.text ∷ [])))) → Makes (draft_of_lines b ((n, l) ∷ [])) (l.text ++ l.ending ++ [])
 unfolding deck_lines
-last_makes true m b n l e h f =
+last_makes true m b n l e p h f =
     let k = no_text l.text e in
-    let u : draft_turn b.mode b n l.text (later_of []) ≡ Ok (record { text = []; before = b }) = ap (λ t. draft_turn b.mode b n t (later_of [])) k ∙ empty_stays b n (later_of []) (ends_between m b.mode h f) in
-    makes_more b n l [] [] (record { text = []; before = b }) u (sym k) (makes_none b)
+    let u : draft_turn b.mode b n l.text (later_of []) ≡ Ok (spoken_turn b [] []) = ap (λ t. draft_turn b.mode b n t (later_of [])) k ∙ empty_stays b n (later_of []) p (ends_between m b.mode h f) in
+    makes_more b n l [] [] (spoken_turn b [] []) u (sym k) (makes_none (marked l.text (spoken_turn b [] [])).before)
   where
     no_text : (t : List ℕ) → is_empty t ≡ true → t ≡ []
     no_text [] e = refl
     no_text (c ∷ t) e = absurd (cc e)
-last_makes false m b n l e h f =
-    let a = steps m b.mode b n l.text (later_of []) [] refl h f in
-    makes_more b n l [] [] a.turn a.is a.text (makes_none a.turn.before)
+last_makes false m b n l e p h f =
+    let a = steps m b.mode b n l.text (later_of []) [] p refl h f in
+    makes_more b n l [] [] a.turn a.is a.text (makes_none (marked l.text a.turn).before)
 
-makes : (ls : List EndedLine) (n : ℕ) (m : DeckGrammar.Mode) (b : Before) → Agrees m b.mode → Fine (deck_lines m (with_numbers n (texts_read ls))) → Makes (draft_of_lines b (with_numbers n ls)) (joined ls)
-makes [] n m b h f = makes_none b
-makes (l ∷ []) n m b h f = last_makes (is_empty l.text) m b n l refl h f
-makes (l ∷ k ∷ ls) n m b h f =
-    let a = steps m b.mode b n l.text (later_of (with_numbers (suc n) (k ∷ ls))) (with_numbers (suc n) (texts_read (k ∷ ls))) refl h f in
-    makes_more b n l (with_numbers (suc n) (k ∷ ls)) (joined (k ∷ ls)) a.turn a.is a.text (makes (k ∷ ls) (suc n) a.mode a.turn.before a.agrees a.rest)
+makes : (ls : List EndedLine) (n : ℕ) (m : DeckGrammar.Mode) (b : Before) → Plain b → Agrees m b.mode → Fine (deck_lines m (with_numbers n (texts_read ls))) → Makes (draft_of_lines b (with_numbers n ls)) (joined ls)
+makes [] n m b p h f = makes_none b
+makes (l ∷ []) n m b p h f = last_makes (is_empty l.text) m b n l refl p h f
+makes (l ∷ k ∷ ls) n m b p h f =
+    let a = steps m b.mode b n l.text (later_of (with_numbers (suc n) (k ∷ ls))) (with_numbers (suc n) (texts_read (k ∷ ls))) p refl h f in
+    makes_more b n l (with_numbers (suc n) (k ∷ ls)) (joined (k ∷ ls)) a.turn a.is a.text (makes (k ∷ ls) (suc n) a.mode (marked l.text a.turn).before (marked_plain a.turn l.text a.text a.plain) a.agrees a.rest)
 
 -- no unit was named, and there was no `power` line
 abbrev first_context : Context
@@ -391,5 +412,5 @@ pub deck_makes_itself : (text : List ℕ) (all : List (ℕ × DeckLine)) → dec
 unfolding deck_read deck_of draft_read
 deck_makes_itself text all h =
     let f : Fine (deck_lines (DeckGrammar.Between first_context) (with_numbers 1 (texts_read (ended_lines text)))) = subst (λ ls. Fine (deck_lines (DeckGrammar.Between first_context) (with_numbers 1 ls))) (lines_read text) (fine_ok (deck_read text) all h) in
-    let a = makes (ended_lines text) 1 (DeckGrammar.Between first_context) nothing_before tt f in
+    let a = makes (ended_lines text) 1 (DeckGrammar.Between first_context) nothing_before refl tt f in
     ap (ok_as (λ (d : Draft). d.deck)) a.is ∙ ap Ok (a.deck ∙ lines_joined text)

@@ -33,3 +33,9 @@ pub fn names()
     ensures { deck (codes "app a A000000100\n CMPB CLA, 1\nend\n")
         ≡ Ok (codes "app a A000000100\n CMPB PT[-13], 1\nend\n") }
 {}
+
+/// The rules of a deck stay, whatever stands in their braces, and whatever their moves select.
+pub fn rules()
+    ensures { let t = codes "app a A000000100\n EXIT\nend\nload a 0 0\n#@ app a\n#@ move select a\n#@ always {INS} 0 {y\n" in
+        deck t ≡ Ok t }
+{}

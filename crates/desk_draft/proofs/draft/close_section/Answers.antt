@@ -10,3 +10,6 @@ returns-clause-sections c = λ deck ss t h e k.
     let made : Section = record { name = c.args.section.name; sizes = c.sizes_of-sizes.result; lines = c.args.section.lines } in
     subst (λ (x : List Section). Each (IsSection deck) x (ss ++ closed_section t ∷ [])) (sym c.in_ok-push.ensures.items)
     (sections_more deck c.args.writer.now.sections.items ss made c.args.section t refl (c.sizes_of-sizes.ensures t h) refl h e k)
+
+pub returns-clause-kept : goal.returns-clause-kept
+returns-clause-kept c = λ ss r t h s. c.in_ok-end_section.ensures ss r t h s.name (c.sizes_of-sizes.ensures t s) s.names

@@ -9,6 +9,6 @@ abbrev pub invariant-loop-i : goal.invariant-loop-i
 invariant-loop-i l =
     let ls = l.lines.items in
     record {
-      leads : Leads l.writer.deck.items l.writer.by_name l.writer.sections.items l.section (drop l.i (numbered ls)) (left_draft [] nothing_before (numbered ls));
+      leads : Leads l.writer.deck.items l.writer.known l.writer.sections.items l.section (drop l.i (numbered ls)) (left_draft [] nothing_before (numbered ls));
       judged : length l.later.items ≡ length ls;
     }

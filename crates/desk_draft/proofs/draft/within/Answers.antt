@@ -1,8 +1,15 @@
 use Rattle.std.proofs.Common.{◌≡◌, true, false, rules}
 use Rattle.model_text.specs.Text.{fields}
 use Rattle.model_play.specs.DeckGrammar.{is_end}
+use Rattle.desk_draft.proofs.DraftLemmas.{end_turned}
 use Rattle.desk_draft.proofs.WrittenLemmas.{end_keeps, line_keeps}
 use Rattle.desk_draft.proofs.draft.within.Goals as goal
+
+pub returns-then-ends_section-clause-turned : goal.returns-then-ends_section-clause-turned
+returns-then-ends_section-clause-turned c = λ b t knows st.
+    let is : is_end (fields c.args.line.now) ≡ true = search rules in
+    end_turned b t c.args.number c.args.line.now c.args.writer.now.deck.items c.end_line.new.writer.deck.items c.args.later (is_end (fields c.args.line.now)) c.end_line.new.writer.known is c.in_ok-end_line.ensures.deck
+    (c.in_ok-end_line.ensures.kept b.sections b.rules t knows st)
 
 pub returns-then-ends_section-clause-kept : goal.returns-then-ends_section-clause-kept
 returns-then-ends_section-clause-kept c = λ b t st kept lines u h.

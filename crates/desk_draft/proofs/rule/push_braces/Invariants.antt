@@ -1,0 +1,18 @@
+use Rattle.std.proofs.Common.{◌≡◌, ◌++◌, ℕ, List}
+use Rattle.std.specs.Prelude.{option_map}
+use Rattle.model_text.specs.Text.{ok_as}
+use Rattle.mc_asm.proofs.LineLemmas.{left_of}
+use Rattle.desk_draft.specs.Declarations.{NameMeaning}
+use Rattle.desk_draft.specs.Rules.{braces_text}
+use Rattle.desk_draft.specs.Views.{AreNames}
+use Rattle.desk_draft.proofs.RuleLemmas.{left_braces}
+use Rattle.desk_draft.proofs.rule.push_braces.Given as goal
+
+-- the deck so far with what is left is what the whole text makes of the deck before
+abbrev pub invariant-loop-rest : goal.invariant-loop-rest
+invariant-loop-rest l =
+    (names : List (List ℕ × NameMeaning)) → AreNames l.fn.names names
+    → ok_as (λ t. l.deck.items ++ t) (left_braces names (option_map (λ t. t.now) l.rest)) ≡ ok_as (λ t. l.fn.deck.items ++ t) (braces_text names l.fn.text)
+
+abbrev pub decreases-loop-rest : goal.decreases-loop-rest
+decreases-loop-rest l = left_of (option_map (λ t. t.now) l.rest)
