@@ -17,5 +17,6 @@ mod SweepAccounts
 mod SweepNames
 mod SweepLoops
 mod SweepPlayers
+mod SweepFrontLemmas
 mod SweepRows
 mod SweepDecks

@@ -65,6 +65,18 @@ free_on ls i n l free here is =
     ∙ sym (free_step (state_on_blank (take i ls)) n l _)
     ∙ sym (ap (λ (x : List (ℕ × DeckLine)). is_unarmed (armed_stop_in (state_on_blank x))) (take_one i ls (n, l) here) ∙ ap (λ (s : State). is_unarmed (armed_stop_in s)) (played_one (take i ls) (n, l)))
 
+-- whether no stop is armed after the first lines
+abbrev pub is_free_at : List (ℕ × DeckLine) → ℕ → Bool
+is_free_at ls i = is_unarmed (armed_stop_in (state_on_blank (take i ls)))
+
+-- a line that leaves it as it was
+pub free_same : (ls : List (ℕ × DeckLine)) (i k n : ℕ) (l : DeckLine) → k ≡ i + 1 → slice_get ls i ≡ Some (n, l) → ((b : Bool) → free_behind l b ≡ b) → is_free_at ls k ≡ is_free_at ls i
+free_same ls i k n l next here h = ap (is_free_at ls) next ∙ sym (free_on ls i n l (is_free_at ls i) here refl) ∙ h (is_free_at ls i)
+
+-- a line that decides it
+pub free_decided : (ls : List (ℕ × DeckLine)) (i k n : ℕ) (l : DeckLine) (free : Bool) → k ≡ i + 1 → slice_get ls i ≡ Some (n, l) → ((b : Bool) → free_behind l b ≡ free) → is_free_at ls k ≡ free
+free_decided ls i k n l free next here h = ap (is_free_at ls) next ∙ sym (free_on ls i n l (is_free_at ls i) here refl) ∙ h (is_free_at ls i)
+
 -- ---- lines that may be swept
 
 pub open_is : (p : Place) → is_open_at p.deck.now p.at ≡ true → IsUnarmedLine p

@@ -214,3 +214,7 @@ swept_as p n words plays s e =
       words_are = s.words_are ∙ ap (λ (m : ℕ). map (λ t. t.word) (map (cut_write_at p) (count_from 1 m))) e;
       plays_are = s.plays_are ∙ ap (λ (m : ℕ). plays_of (map (cut_write_at p) (count_from 1 m))) e;
     }
+
+-- a line that makes no write
+pub swept_none : (p : Place) (words : List SweepWord) → writes_in p ≡ 0 → SweptAs p 0 words 0
+swept_none p words none = swept_as p 0 words 0 (sweeping_none p words) (sym none)

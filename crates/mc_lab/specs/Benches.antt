@@ -2,6 +2,7 @@
 -- of the same name in `Stages` or `SweepPlayers`, which lemmas cite by the functions of the bench.
 use Rattle.std.specs.Prelude.{ℕ, Bool, List, Option}
 use Rattle.model_play.specs.DeckGrammar.{DeckLine}
+use Rattle.model_device.specs.Card.{Card}
 use Rattle.model_play.specs.Play.{State, Step}
 use Rattle.mc_script.specs.declared.answer.Answer.{Answer}
 use Rattle.mc_script.specs.declared.player.Player.{Player}
@@ -17,6 +18,10 @@ Staged n = stages.Staged n.state n.bench
 -- a player represents a state, and its bench refuses no write by itself
 abbrev pub IsSteadyAt : {N : Type 0} → BenchMembers N → Player N → State → Type 0
 IsSteadyAt n = players.IsSteadyAt n.state n.bench
+
+-- a card of these words runs after a power line that made no write, with this budget
+abbrev pub IsPoweredUp : {N : Type 0} → BenchMembers N → Player N → List (List ℕ) → ℕ → Card → Type 0
+IsPoweredUp n = players.IsPoweredUp n.state n.bench
 
 -- a line was played from a state, with its result
 abbrev pub LineOn : {N : Type 0} → BenchMembers N → State → ℕ × DeckLine → Option Answer → Player N → Type 0

@@ -18,6 +18,7 @@ pub mod Sweeps
 pub mod SweepLaws
 pub mod SweepBodies
 pub mod SweepPlayers
+pub mod SweepFronts
 pub mod Benches
 pub mod SweepEnds
 pub mod SweptRows

@@ -1,5 +1,5 @@
 -- The data of the code of sweeps, and its plays.
-use Rattle.std.specs.Prelude.{◌≡◌, ℕ, ◌≤◌, ◌<◌, Bool, true, false, List, [], ◌∷◌, ◌++◌, length, take, get_or, map, option_map, Option, Some, None, bytes_eq}
+use Rattle.std.specs.Prelude.{◌≡◌, ℕ, ◌+◌, ◌≤◌, ◌<◌, Bool, true, false, List, [], ◌∷◌, ◌++◌, length, take, get_or, map, option_map, Option, Some, None, bytes_eq}
 use Rattle.arrayvec.specs.ArrayVec.{ArrayVec}
 use Rattle.mc_blocks.specs.declared.image.Unusable.{Unusable}
 use Rattle.model_device.specs.Image.{opening, Two}
@@ -67,6 +67,10 @@ line_at ls i = get_or ls i (0, line.Named)
 -- the lines before the line of a place
 abbrev pub front_of : Place → List (ℕ × DeckLine)
 front_of p = take p.at p.deck.now
+
+-- the lines up to that of a place, and this one
+abbrev pub lines_through : Place → List (ℕ × DeckLine)
+lines_through p = take (p.at + 1) p.deck.now
 
 -- the line of a place
 abbrev pub line_in : Place → ℕ × DeckLine

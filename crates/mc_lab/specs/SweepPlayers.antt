@@ -2,7 +2,10 @@
 use Rattle.std.specs.Prelude.{◌≡◌, ℕ, true, false, Bool, List, option_map, Option, Some, None}
 use Rattle.mc_blocks.specs.declared.image.Unusable.{Unusable}
 use Rattle.model_device.specs.Device.{DeviceState, BenchState}
-use Rattle.model_play.specs.Play.{State}
+use Rattle.model_device.specs.Card.{Card}
+use Rattle.model_device.specs.PowerUp.{OnCard}
+use Rattle.model_play.specs.Family.{is_running}
+use Rattle.model_play.specs.Play.{State, AfterPower, Warm, Unarmed}
 use Rattle.model_play.specs.DeckGrammar.{DeckLine}
 use Rattle.mc_script.specs.declared.answer.Answer.{Answer}
 use Rattle.mc_script.specs.declared.answer.Answer.TheVariants as answer
@@ -33,6 +36,17 @@ module _ {N : Type 0} (state : N → DeviceState) (bench : N → BenchState) whe
   pub record IsSteadyAt (p : Player N) (s : State) : Type 0 where
     pub at : IsPlayerAt state bench p s
     pub steady : (bench (device_of p)).steady ≡ true
+
+  -- a card of these words runs after a power line that made no write, with this budget
+  pub record IsPoweredUp (p : Player N) (m : List (List ℕ)) (b : ℕ) (c : Card) : Type 0 where
+    pub warm : Warm
+    pub at : IsSteadyAt p (AfterPower warm)
+    pub words : (state (device_of p)).words ≡ m
+    pub base : warm.base ≡ OnCard c
+    pub owed : warm.owed ≡ 0
+    pub runs : is_running warm.live ≡ true
+    pub budget : warm.budget ≡ b
+    pub unarmed : warm.armed ≡ Unarmed
 
   -- a line was played from a state, with its result
   pub record LineOn (s : State) (l : ℕ × DeckLine) (answer : Option Answer) (q : Player N) : Type 0 where

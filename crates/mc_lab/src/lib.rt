@@ -13,6 +13,7 @@ mod rows;
 mod scanning;
 mod stage;
 mod sweep_account;
+mod sweep_front;
 mod sweep_laws;
 mod sweep_line;
 mod sweep_marks;

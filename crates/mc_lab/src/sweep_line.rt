@@ -1,7 +1,7 @@
 // One line of a sweep: each of its writes is cut, and each write of the recovery after it.
 ghost use Rattle.std.specs.Prelude.{◌≡◌, ◌&&◌, ◌+◌, ◌≤◌, ◌<◌, ◌*◌, length, map, take, IfNone, IfOk, IfSome, MatchOption};
 ghost use Rattle.mc_lab.specs.Sweeps.{all_same, count_from, plays_of};
-ghost use Rattle.mc_lab.specs.SweepBodies.{account_value, again_in, recovery_states_at, state_at_place};
+ghost use Rattle.mc_lab.specs.SweepBodies.{account_value, again_in, front_of, lines_through, recovery_states_at, state_at_place};
 ghost use Rattle.mc_lab.specs.SweepBodies.{cut_write_at, word_with};
 ghost use Rattle.mc_lab.specs.SweepBodies.{writes_in, AccountFits, AccountsHaveRoom, IsUnarmedLine, IsPlace};
 ghost use Rattle.mc_lab.specs.SweepBodies.{OpensNoGate};
@@ -88,6 +88,7 @@ fn recoveries<D: Trials, L: Ledger>(
     steps: &mut Steps<L>,
 ) -> (bool, u16)
     requires at { IsPlace place.now }
+    requires played { D.has_played trials.old (front_of place.now) }
     requires open { IsUnarmedLine place.now }
     requires low { 1 ≤ k }
     requires high { k ≤ writes_in place.now }
@@ -98,6 +99,7 @@ fn recoveries<D: Trials, L: Ledger>(
     ensures count { result.1 ≡ length (recovery_states_at place.now k fill) }
     ensures first { pair.new.first ≡ pair.old.first }
     ensures room { AccountFits pair.new.now place.now }
+    ensures played { D.has_played trials.new (front_of place.now) }
 {
     let mut same = true;
     for made in 0..most {
@@ -123,6 +125,7 @@ fn try_write<D: Trials, L: Ledger>(
     steps: &mut Steps<L>,
 ) -> Option<Tried>
     requires at { IsPlace place.now }
+    requires played { D.has_played trials.old (front_of place.now) }
     requires open { IsUnarmedLine place.now }
     requires low { 1 ≤ k }
     requires before { account_value ends.now.before ≡ state_at_place place.now trial.Nothing }
@@ -135,6 +138,7 @@ fn try_write<D: Trials, L: Ledger>(
     ensures few_plays { IfSome result (λ t. t.plays ≤ 131072) }
     ensures first { AccountFits pair.new.first place.now }
     ensures now { AccountFits pair.new.now place.now }
+    ensures played { D.has_played trials.new (front_of place.now) }
 {
     let trial = TrialLines::Cut { k, fill: ZEROS };
     let first = trials.report(place, trial, &mut pair.first, steps);
@@ -184,7 +188,8 @@ impl<D: Trials + Drop> LineSweeper<D> {
     ///
     /// Returns `NoMemory` if it is out of memory.
     pub fn new(alloc: Global, trials: D, names: usize) -> Result<LineSweeper<D>, NoMemory>
-        ensures { IfOk result (λ sweeper. AccountsHaveRoom sweeper.ends sweeper.pair names) }
+        ensures room { IfOk result (λ sweeper. AccountsHaveRoom sweeper.ends sweeper.pair names) }
+        ensures trials { IfOk result (λ sweeper. sweeper.trials ≡ trials) }
     {
         Ok(LineSweeper {
             trials,
@@ -210,6 +215,7 @@ impl<D: Trials + Drop> LineSweeper<D> {
         steps: &mut Steps<L>,
     ) -> Option<u32>
         requires at { IsPlace place.now }
+        requires played { D.has_played self.old.trials (front_of place.now) }
         requires open { IsUnarmedLine place.now }
         requires small { most < 4294967295 }
         requires room { AccountsHaveRoom self.old.ends self.old.pair (length place.now.names.now) }
@@ -217,19 +223,26 @@ impl<D: Trials + Drop> LineSweeper<D> {
         ensures grows { IfSome result (λ n. most ≤ n) }
         ensures small { IfSome result (λ n. n < 4294967295) }
         ensures room { AccountsHaveRoom self.new.ends self.new.pair (length place.now.names.now) }
+        ensures played { D.has_played self.new.trials (front_of place.now) }
     {
         let mut bound = most;
         loop {
-            let trial = TrialLines::Cut {
-                k: bound + 1,
-                fill: ZEROS,
-            };
-            let played = self.trials.report(place, trial, &mut self.pair.now, steps);
-            if !played.hit {
+            if !self.trials.reaches(place, bound + 1, steps) {
                 return Some(bound);
             }
             bound = doubled(bound)?;
         }
+    }
+
+    /// Plays a line after the lines before it, which were played.
+    pub fn advance<L: Ledger>(&mut self, place: &Place<'_>, steps: &mut Steps<L>)
+        requires at { IsPlace place.now }
+        requires played { D.has_played self.old.trials (front_of place.now) }
+        requires room { AccountsHaveRoom self.old.ends self.old.pair (length place.now.names.now) }
+        ensures played { D.has_played self.new.trials (lines_through place.now) }
+        ensures room { AccountsHaveRoom self.new.ends self.new.pair (length place.now.names.now) }
+    {
+        self.trials.advance(place, steps);
     }
 
     /// Cuts each write of a line, which makes at most as many writes as there is room for in `words`.
@@ -240,6 +253,7 @@ impl<D: Trials + Drop> LineSweeper<D> {
         steps: &mut Steps<L>,
     ) -> Swept
         requires at { IsPlace place.now }
+        requires played { D.has_played self.old.trials (front_of place.now) }
         requires open { IsUnarmedLine place.now }
         requires room { AccountsHaveRoom self.old.ends self.old.pair (length place.now.names.now) }
         requires words { writes_in place.now ≤ length words.old }
@@ -251,7 +265,14 @@ impl<D: Trials + Drop> LineSweeper<D> {
         ensures few_plays { result.plays ≤ 131072 * result.writes }
         ensures size { length words.new ≡ length words.old }
         ensures room { AccountsHaveRoom self.new.ends self.new.pair (length place.now.names.now) }
+        ensures played { D.has_played self.new.trials (front_of place.now) }
     {
+        if !self.trials.reaches(place, 1, steps) {
+            return Swept {
+                writes: 0,
+                plays: 0,
+            };
+        }
         let _played = self
             .trials
             .report(place, TrialLines::Nothing, &mut self.ends.before, steps);

@@ -1,46 +1,40 @@
 // The laboratory's device, and the plays on it.
-ghost use Rattle.std.specs.Prelude.{◌≡◌, ◌≤◌, ◌<◌, ℕ, List, length, map, take, true, IfOk};
+ghost use Rattle.std.specs.Prelude.{◌≡◌, ◌≤◌, ℕ, List, [], length, map, take, true, IfOk};
 ghost use Rattle.model_play.specs.Play.{State};
 ghost use Rattle.model_play.specs.DeckGrammar.{DeckLine};
 ghost use Rattle.mc_deck.specs.Lines.{line_of, GoodLine};
 ghost use Rattle.mc_script.specs.Players.{device_of, statics_in, IsUnfused};
 ghost use Rattle.mc_script.specs.Benches.{IsPlaying};
 ghost use Rattle.mc_lab.specs.Sweeps.{state_on_blank};
-ghost use Rattle.model_device.specs.Device.{blank_words, device_words};
+ghost use Rattle.model_device.specs.Bytes.{zeros};
 ghost use Rattle.mc_lab.specs.SweepBodies.{account_value, held_value, hit_in, state_at_place, CanCut, AccountFits};
 ghost use Rattle.mc_lab.specs.SweepBodies.{IsRecoveryBound, IsPlace};
 ghost use Rattle.mc_lab.specs.declared.sweep_trial.TrialLines.TheVariants as trial;
 ghost use Rattle.mc_lab.specs.SweepPlayers.{fault_in, most_in, off_in};
+ghost use Rattle.mc_lab.specs.SweepFronts.{HasPlayed, IsKeptAt};
 ghost use Rattle.mc_lab.specs.Benches.{CutOn, IsSteadyAt, LineOn, TrialOn};
 
 use crate::sweep_account::{Account, Held};
+use crate::sweep_front::{Kept, play_front, play_on};
 use crate::sweep_trial::{Place, Played, TrialLines, Trials};
 use arrayvec::ArrayVec;
+use lab_branch::BranchNvm;
 use mc_base::{Aid, NoMemory, Steps, Word};
 use mc_blocks::Unusable;
-use mc_deck::{Deck, Line};
-use mc_nvm::{Bench, DEVICE_WORDS, Nvm, SimNvm};
+use mc_deck::Line;
+use mc_nvm::Bench;
 use mc_script::{Answer, Player, Silent};
 use std::alloc::Global;
-use std::marker::Model;
 use std::sync::ledger::Ledger;
 
-/// A device in memory, which is blank again for each play.
+/// A device in memory whose root is the words after some lines of a deck, what was kept of the play then, and the number
+/// of these lines. Lines are played anew on each trial from the last one on after which a card runs and no stop is armed.
 #[derive(Drop)]
 pub struct Laboratory {
-    device: SimNvm,
-}
-
-impl Model for Laboratory {
-    ghost use Rattle.std.specs.Prelude.{◌≡◌, length};
-    ghost use Rattle.mc_nvm.specs.Sim.{Sim};
-    ghost use Rattle.model_device.specs.Device.{device_words};
-
-    ghost Value = { Sim };
-
-    ghost view = { λ a. a.device };
-
-    ghost invariant = { λ a. length a.device.words ≡ device_words };
+    alloc: Global,
+    device: BranchNvm,
+    kept: Option<Kept>,
+    played: usize,
 }
 
 // Whether a cut hit a line.
@@ -70,8 +64,8 @@ fn most_of(answer: &Option<Answer>) -> u16
     }
 }
 
-// Plays a line, and drops the record of its turns.
-fn play_line<N: Bench, L: Ledger>(
+/// Plays a line, and drops the record of its turns.
+pub fn play_line<N: Bench, L: Ledger>(
     player: &mut Player<N>,
     line: &Line<'_>,
     steps: &mut Steps<L>,
@@ -85,29 +79,6 @@ fn play_line<N: Bench, L: Ledger>(
     ensures keeps_device { N.same (device_of player.old) (device_of player.new) }
 {
     player.line(line, &mut Silent, steps)
-}
-
-// Plays the lines of a deck before one of them.
-fn play_front<N: Bench, L: Ledger>(
-    device: N,
-    deck: &Deck,
-    at: usize,
-    steps: &mut Steps<L>,
-) -> Player<N>
-    requires fuses { IsUnfused (N.bench device) }
-    requires steady { (N.bench device).steady ≡ true }
-    requires words { (N.state device).words ≡ blank_words device_words }
-    requires place { at ≤ length deck.now }
-    ensures at { IsSteadyAt N.Bench result (state_on_blank (take at deck.now)) }
-    ensures size { length (N.state (device_of result)).words ≡ length (N.state device).words }
-    ensures keeps_device { N.same device (device_of result) }
-{
-    let mut player = Player::new(device);
-    for i in 0..at {
-        let (_number, line) = deck.line(i);
-        let _answer = play_line(&mut player, &line, steps);
-    }
-    player
 }
 
 // Plays a line with its write `k` cut, and returns whether it made that write.
@@ -230,10 +201,12 @@ fn take_down<N: Bench>(
     take_held(into.held.as_mut_slice(), player, names);
 }
 
-// One play on a blank device: the lines before a line, the lines of the trial from there on, and a power line
-// without a cut.
+// One trial on a device with the words of the lines that were played: the lines before a line that were not played yet,
+// the lines of the trial from there on, and a power line without a cut.
 fn play_trial<N: Bench, L: Ledger>(
     device: N,
+    kept: &Option<Kept>,
+    from: usize,
     place: &Place<'_>,
     trial: TrialLines,
     into: &mut Account,
@@ -241,7 +214,8 @@ fn play_trial<N: Bench, L: Ledger>(
 ) -> (N, Played)
     requires fuses { IsUnfused (N.bench device) }
     requires steady { (N.bench device).steady ≡ true }
-    requires words { (N.state device).words ≡ blank_words device_words }
+    requires kept { IsKeptAt (N.state device).words kept.now (state_on_blank (take from place.now.deck.now)) }
+    requires from { from ≤ place.now.at }
     requires at { IsPlace place.now }
     requires room { AccountFits into.old place.now }
     requires cuts { CanCut trial }
@@ -249,10 +223,9 @@ fn play_trial<N: Bench, L: Ledger>(
     ensures hit { result.1.hit ≡ hit_in place.now trial }
     ensures few { IsRecoveryBound place.now trial result.1.most }
     ensures room { AccountFits into.new place.now }
-    ensures size { length (N.state result.0).words ≡ length (N.state device).words }
     ensures keeps_device { N.same device result.0 }
 {
-    let mut player = play_front(device, place.deck, place.at, steps);
+    let mut player = play_front(device, kept, place.deck, from, place.at, steps);
     let (_number, line) = place.deck.line(place.at);
     let hit = play_trial_lines(&mut player, &line, trial, steps);
     let answer = play_line(&mut player, &Line::Power, steps);
@@ -261,43 +234,53 @@ fn play_trial<N: Bench, L: Ledger>(
     (player.into_dev(), Played { hit, most })
 }
 
-// One play on a device in memory of 8,192 words, which is erased for it.
-fn play_blank<L: Ledger>(
-    device: &mut SimNvm,
+// Plays the lines before a line that were not played yet, and then the line with its write `k` cut. Returns whether it
+// made that write.
+fn play_reach<N: Bench, L: Ledger>(
+    device: N,
+    kept: &Option<Kept>,
+    from: usize,
     place: &Place<'_>,
-    trial: TrialLines,
-    into: &mut Account,
+    k: u32,
     steps: &mut Steps<L>,
-) -> Played
-    requires size { length device.old.words ≡ device_words }
+) -> (N, bool)
+    requires fuses { IsUnfused (N.bench device) }
+    requires steady { (N.bench device).steady ≡ true }
+    requires kept { IsKeptAt (N.state device).words kept.now (state_on_blank (take from place.now.deck.now)) }
+    requires from { from ≤ place.now.at }
     requires at { IsPlace place.now }
-    requires room { AccountFits into.old place.now }
-    requires cuts { CanCut trial }
-    ensures reported { account_value into.new ≡ state_at_place place.now trial }
-    ensures hit { result.hit ≡ hit_in place.now trial }
-    ensures few { IsRecoveryBound place.now trial result.most }
-    ensures room { AccountFits into.new place.now }
-    ensures size { length device.new.words ≡ device_words }
+    requires low { 1 ≤ k }
+    ensures hit { result.1 ≡ hit_in place.now (trial.Cut k (zeros 8)) }
+    ensures keeps_device { N.same device result.0 }
 {
-    device.erase();
-    let (_device, played) = play_trial(&mut *device, place, trial, into, steps);
-    played
+    let mut player = play_front(device, kept, place.deck, from, place.at, steps);
+    let (_number, line) = place.deck.line(place.at);
+    let hit = play_cut(&mut player, &line, k, [0; 8], steps);
+    (player.into_dev(), hit)
 }
 
 impl Laboratory {
-    /// Returns a laboratory with room for its device.
+    /// Returns a laboratory with room for its device, of which no line was played.
     ///
     /// # Errors
     ///
     /// Returns `NoMemory` if it is out of memory.
-    pub fn new(alloc: Global) -> Result<Laboratory, NoMemory> {
+    pub fn new(alloc: Global) -> Result<Laboratory, NoMemory>
+        ensures { IfOk result (λ l. HasPlayed l []) }
+    {
+        let device = BranchNvm::new(alloc)?;
         Ok(Laboratory {
-            device: SimNvm::new(alloc, DEVICE_WORDS)?,
+            alloc,
+            device,
+            kept: None,
+            played: 0,
         })
     }
 }
 
 impl Trials for Laboratory {
+    ghost has_played = { HasPlayed };
+
     fn report<L: Ledger>(
         &mut self,
         place: &Place<'_>,
@@ -305,6 +288,45 @@ impl Trials for Laboratory {
         into: &mut Account,
         steps: &mut Steps<L>,
     ) -> Played {
-        play_blank(&mut self.device, place, trial, into, steps)
+        self.device.return_to_root();
+        let (_device, played) = play_trial(
+            &mut self.device,
+            &self.kept,
+            self.played,
+            place,
+            trial,
+            into,
+            steps,
+        );
+        played
+    }
+
+    fn reaches<L: Ledger>(&mut self, place: &Place<'_>, k: u32, steps: &mut Steps<L>) -> bool {
+        self.device.return_to_root();
+        let (_device, hit) = play_reach(&mut self.device, &self.kept, self.played, place, k, steps);
+        hit
+    }
+
+    fn advance<L: Ledger>(&mut self, place: &Place<'_>, steps: &mut Steps<L>) {
+        // bounds the number of lines, so that the next one has a number
+        let _count = place.deck.len();
+        self.device.return_to_root();
+        let (_device, kept) = play_on(
+            self.alloc,
+            &mut self.device,
+            &self.kept,
+            place.deck,
+            self.played,
+            place.at + 1,
+            steps,
+        );
+        match kept {
+            None => {}
+            Some(kept) => {
+                self.device.take_root();
+                self.kept = Some(kept);
+                self.played = place.at + 1;
+            }
+        }
     }
 }

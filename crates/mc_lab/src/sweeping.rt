@@ -1,5 +1,5 @@
 // Sweeps of a deck.
-ghost use Rattle.std.specs.Prelude.{◌≡◌, ◌+◌, ◌≤◌, ◌<◌, ◌&&◌, List, [], ◌∷◌, length, not, take, true, false};
+ghost use Rattle.std.specs.Prelude.{◌≡◌, ◌+◌, ◌≤◌, ◌<◌, ◌&&◌, Bool, List, [], ◌∷◌, length, not, take, true, false};
 ghost use Rattle.std.specs.Prelude.{IfOk, IfSome, MatchOption, OnOk};
 ghost use Rattle.model_play.specs.Play.{armed_stop_in, is_card_line};
 ghost use Rattle.mc_deck.specs.Lines.{line_of};
@@ -7,7 +7,8 @@ ghost use Rattle.mc_text.specs.Texts.{sunk, Puts};
 ghost use Rattle.mc_lab.specs.Judged.{done_of};
 ghost use Rattle.mc_lab.specs.Remarked.{remark_values};
 ghost use Rattle.mc_lab.specs.Sweeps.{are_fine, is_whole, is_unarmed, marks_after, names_from, rows_text, rows_to, state_on_blank, sweep_text, Swept};
-ghost use Rattle.mc_lab.specs.SweepBodies.{line_at, writes_in, AccountsHaveRoom, IsUnarmedLine, IsPlace};
+ghost use Rattle.mc_lab.specs.SweepFronts.{HasPlayed};
+ghost use Rattle.mc_lab.specs.SweepBodies.{front_of, line_at, writes_in, AccountsHaveRoom, IsUnarmedLine, IsPlace};
 ghost use Rattle.mc_lab.specs.SweepEnds.{free_behind, is_open_at, sweeps_from, sweeps_at, pending_value, AddsFine, AddsSums, AtMost, IsLineOf, IsRoom};
 ghost use Rattle.mc_lab.specs.SweepEnds.{IsSmall, ReportsSweep};
 
@@ -56,33 +57,38 @@ fn is_card_line(line: &Line<'_>) -> bool
     }
 }
 
-// Whether no stop is armed after a line, by whether none was before it.
-fn free_behind(line: &Line<'_>, free: bool) -> bool
-    ensures { result ≡ free_behind (line_of line.now) free }
+// Whether no stop is armed after a line, or `None` if that is as before it.
+fn free_behind(line: &Line<'_>) -> Option<bool>
+    ensures { MatchOption result ((b : Bool) → free_behind (line_of line.now) b ≡ b)
+        (λ free. (b : Bool) → free_behind (line_of line.now) b ≡ free) }
 {
     match line {
-        Line::Cut { .. } => false,
-        Line::Fail(_) => false,
-        Line::Power => true,
-        Line::Load { .. } => true,
-        Line::Select(_) => true,
-        Line::Delete(_) => true,
-        Line::Apdu(_) => true,
-        _ => free,
+        Line::Cut { .. } => Some(false),
+        Line::Fail(_) => Some(false),
+        Line::Power => Some(true),
+        Line::Load { .. } => Some(true),
+        Line::Select(_) => Some(true),
+        Line::Delete(_) => Some(true),
+        Line::Apdu(_) => Some(true),
+        _ => None,
     }
 }
 
-// Whether no stop is armed after the first `at` lines of a deck.
+// Whether no stop is armed after the first `at` lines of a deck: the last of them that is one to the card, or that arms
+// a stop, says so.
 fn is_free(deck: &Deck, at: usize) -> bool
     requires { at ≤ length deck.now }
     ensures { result ≡ is_unarmed (armed_stop_in (state_on_blank (take at deck.now))) }
 {
-    let mut free = true;
-    for i in 0..at {
-        let (_number, line) = deck.line(i);
-        free = free_behind(&line, free);
+    let mut left = at;
+    while left > 0 {
+        let (_number, line) = deck.line(left - 1);
+        if let Some(free) = free_behind(&line) {
+            return free;
+        }
+        left -= 1;
     }
-    free
+    true
 }
 
 // The number of the line, if it may be swept: a line to the card for which no stop is armed.
@@ -110,12 +116,14 @@ fn bound_at<D: Trials + Drop, L: Ledger>(
     steps: &mut Steps<L>,
 ) -> Option<u32>
     requires at { IsPlace place.now }
+    requires played { D.has_played sweeper.old.trials (front_of place.now) }
     requires small { most < 4294967295 }
     requires room { AccountsHaveRoom sweeper.old.ends sweeper.old.pair (length place.now.names.now) }
     ensures writes { IfSome result (λ n. is_open_at place.now.deck.now place.now.at ≡ true → writes_in place.now ≤ n) }
     ensures grows { IfSome result (λ n. most ≤ n) }
     ensures small { IfSome result (λ n. n < 4294967295) }
     ensures room { AccountsHaveRoom sweeper.new.ends sweeper.new.pair (length place.now.names.now) }
+    ensures played { D.has_played sweeper.new.trials (front_of place.now) }
 {
     match open_number(place.deck, place.at) {
         None => Some(most),
@@ -132,14 +140,15 @@ fn most_writes<D: Trials + Drop, L: Ledger>(
     steps: &mut Steps<L>,
 ) -> Option<u32>
     requires room { AccountsHaveRoom sweeper.old.ends sweeper.old.pair (length names.now) }
-    ensures most { IfSome result (λ n. AtMost deck.now (length deck.now) n) }
-    ensures room { AccountsHaveRoom sweeper.new.ends sweeper.new.pair (length names.now) }
+    requires played { D.has_played sweeper.old.trials [] }
+    ensures { IfSome result (λ n. AtMost deck.now (length deck.now) n) }
 {
     let mut most = 0;
     for at in 0..deck.len() {
         let place = Place { deck, at, names };
         let bound = bound_at(sweeper, &place, most, steps)?;
         most = bound;
+        sweeper.advance(&place, steps);
     }
     Some(most)
 }
@@ -193,6 +202,7 @@ fn sweep_place<D: Trials + Drop, T: Sink, L: Ledger>(
     steps: &mut Steps<L>,
 ) -> Result<(), WriteFault>
     requires at { IsPlace place.now }
+    requires played { D.has_played sweeper.old.trials (front_of place.now) }
     requires open { IsUnarmedLine place.now }
     requires number { number ≡ (line_at place.now.deck.now place.now.at).0 }
     requires words { writes_in place.now ≤ length words.old }
@@ -211,6 +221,7 @@ fn sweep_place<D: Trials + Drop, T: Sink, L: Ledger>(
     ensures small { OnOk result (IsSmall sums.new (place.now.at + 1)) }
     ensures size { length words.new ≡ length words.old }
     ensures room { AccountsHaveRoom sweeper.new.ends sweeper.new.pair (length place.now.names.now) }
+    ensures played { D.has_played sweeper.new.trials (front_of place.now) }
 {
     let swept = sweeper.sweep_line(place, words, steps);
     if swept.writes == 0 {
@@ -245,6 +256,7 @@ fn sweep_at<D: Trials + Drop, T: Sink, L: Ledger>(
     steps: &mut Steps<L>,
 ) -> Result<(), WriteFault>
     requires at { IsPlace place.now }
+    requires played { D.has_played sweeper.old.trials (front_of place.now) }
     requires words { AtMost place.now.deck.now (length place.now.deck.now) (length words.old) }
     requires most { length words.old ≤ 4294967295 }
     requires sums { IsSmall sums.old place.now.at }
@@ -261,6 +273,7 @@ fn sweep_at<D: Trials + Drop, T: Sink, L: Ledger>(
     ensures small { OnOk result (IsSmall sums.new (place.now.at + 1)) }
     ensures size { length words.new ≡ length words.old }
     ensures room { AccountsHaveRoom sweeper.new.ends sweeper.new.pair (length place.now.names.now) }
+    ensures played { D.has_played sweeper.new.trials (front_of place.now) }
 {
     match open_number(place.deck, place.at) {
         None => Ok(()),
@@ -302,6 +315,7 @@ fn sweep_lines<D: Trials + Drop, T: Sink, L: Ledger>(
     requires most { length words.old ≤ 4294967295 }
     requires sums { IsSmall sums.old 0 }
     requires room { AccountsHaveRoom sweeper.old.ends sweeper.old.pair (length names.now) }
+    requires played { D.has_played sweeper.old.trials [] }
     ensures reported { Puts (sunk T.Sink out.old)
         (rows_text (remark_values marks.now)
         (rows_to (pending_value (remark_values marks.now) pending.old) (sweeps_from names.now deck.now 0))) result
@@ -316,14 +330,16 @@ fn sweep_lines<D: Trials + Drop, T: Sink, L: Ledger>(
     for at in 0..deck.len() {
         let place = Place { deck, at, names };
         sweep_at(sweeper, &place, marks, pending, words, out, sums, steps)?;
+        sweeper.advance(&place, steps);
     }
     Ok(())
 }
 
 // Allocates the room for a sweep of a deck.
 fn room_for<L: Ledger>(alloc: Global, deck: &Deck, steps: &mut Steps<L>) -> Result<Room, NoMemory>
-    ensures { IfOk result (λ room. IsRoom deck.now room.names.items room.sweeper.ends room.sweeper.pair
+    ensures room { IfOk result (λ room. IsRoom deck.now room.names.items room.sweeper.ends room.sweeper.pair
         (length room.words.items)) }
+    ensures played { IfOk result (λ room. HasPlayed room.sweeper.trials []) }
 {
     let names = names_of(alloc, deck)?;
     let mut sweeper = LineSweeper::new(alloc, Laboratory::new(alloc)?, names.len())?;
@@ -331,6 +347,7 @@ fn room_for<L: Ledger>(alloc: Global, deck: &Deck, steps: &mut Steps<L>) -> Resu
         return Err(NoMemory);
     };
     let words = vec![in alloc; SweepWord::Same; most as usize]?;
+    let sweeper = LineSweeper::new(alloc, Laboratory::new(alloc)?, names.len())?;
     Ok(Room {
         names,
         sweeper,
@@ -347,8 +364,9 @@ fn sweep_in<T: Sink, L: Ledger>(
     out: &mut T,
     steps: &mut Steps<L>,
 ) -> Result<bool, WriteFault>
-    requires { IsRoom deck.now room.old.names.items room.old.sweeper.ends room.old.sweeper.pair
+    requires room { IsRoom deck.now room.old.names.items room.old.sweeper.ends room.old.sweeper.pair
         (length room.old.words.items) }
+    requires played { HasPlayed room.old.sweeper.trials [] }
     ensures reported { Puts (sunk T.Sink out.old) (sweep_text (remark_values marks.now) deck.now)
         (done_of result) (sunk T.Sink out.new) }
     ensures whole { IfOk result (λ whole. whole ≡ is_whole (remark_values marks.now) deck.now) }
@@ -381,9 +399,11 @@ fn sweep_in<T: Sink, L: Ledger>(
 /// no swept line has a line of text of its own. The marks are in the order of their lines. Returns whether each line
 /// that must be whole is, and each mark is of a swept line.
 ///
-/// Each of its plays runs on a blank device of 8,192 words. All memory is allocated before the first byte is
-/// written, as measured by one play of each line that may be swept and one more each time that the room is doubled;
-/// for a line of more than 4,294,967,294 device writes the sweep is out of memory.
+/// Its plays run on a device of 8,192 words. The deck is played twice, line by line: once to measure the room, once to
+/// sweep; each trial goes on from the card before its line. All memory that the sweep needs is allocated before the first
+/// byte is written, as measured by one play of each line that may be swept and one more each time that the room is
+/// doubled; for a line of more than 4,294,967,294 device writes the sweep is out of memory. If there is none to keep the
+/// card after a line, the next trials play more lines.
 ///
 /// # Errors
 ///

@@ -6,7 +6,7 @@ use Rattle.mc_lab.proofs.SweepLoops.{hit_again, Recovering, recovering_none, rec
 use Rattle.mc_lab.proofs.sweep_line.recoveries.Goals as goal
 
 pub loop-made-init : goal.loop-made-init
-loop-made-init g c = record { recovering = recovering_none c.args.place.now c.args.k c.args.fill (account_value c.args.pair.now.first); first = refl; room = c.requires.room }
+loop-made-init g c = record { recovering = recovering_none c.args.place.now c.args.k c.args.fill (account_value c.args.pair.now.first); first = refl; room = c.requires.room; played = c.requires.played }
 
 pub returns-then-not-played-clause-same : goal.returns-then-not-played-clause-same
 returns-then-not-played-clause-same g c =
@@ -38,6 +38,7 @@ loop-made-preserved g c =
           (recovering_more c.args.place.now c.args.k c.args.fill first (account_value c.report-played.new.into) made c.loop-made.same c.is_same.result c.report-played.result.hit c.loop-made.invariant.recovering test hit c.report-played.ensures.reported same);
       first = c.loop-made.invariant.first;
       room = c.report-played.ensures.room;
+      played = c.report-played.ensures.played;
     }
 
 pub returns-clause-same : goal.returns-clause-same

@@ -1,8 +1,14 @@
-use Rattle.std.proofs.Common.{◌≡◌, take}
-use Rattle.model_play.specs.Play.{armed_stop_in}
-use Rattle.mc_lab.specs.Sweeps.{is_unarmed, state_on_blank}
+use Rattle.std.proofs.Common.{◌≡◌, ◌≤◌}
+use Rattle.mc_lab.proofs.SweepDecks.{is_free_at}
 use Rattle.mc_lab.proofs.sweeping.is_free.Given as goal
 
--- whether no stop is armed after the lines up to here
-abbrev pub invariant-loop-i : goal.invariant-loop-i
-invariant-loop-i l = l.free ≡ is_unarmed (armed_stop_in (state_on_blank (take l.i l.deck)))
+-- no line from here on says whether a stop is armed
+abbrev pub invariant-loop-left : goal.invariant-loop-left
+invariant-loop-left l =
+    record {
+      within : l.left ≤ l.at;
+      same : is_free_at l.deck l.at ≡ is_free_at l.deck l.left;
+    }
+
+abbrev pub decreases-loop-left : goal.decreases-loop-left
+decreases-loop-left l = l.left

@@ -17,7 +17,7 @@ returns-in_err-sweep_lines-clause-reported g c =
     let ss = sweeps_from names ls 0 in
     let a : Sunk = sunk_in g.T.Sink.taken g.T.Sink.faults c.args.out.now in
     let b : Sunk = sunk_in g.T.Sink.taken g.T.Sink.faults c.sweep_lines.new.out in
-    let e = text_whole marks ls names (c.as_slice.ensures.value ∙ c.requires.names_are) in
+    let e = text_whole marks ls names (c.as_slice.ensures.value ∙ c.requires.room.names_are) in
     fails_done c.from_residual.result c.from_residual.ensures.0
     (subst (λ (t : List ℕ). Fails a t b) e (fails_first marks ss (sums_text (length ss) (total (λ s. length s.words) ss) (total (λ s. s.plays) ss)) a b c.in_err-sweep_lines.ensures.reported))
 
@@ -31,7 +31,7 @@ returns-in_err-rest-clause-reported g c =
     let a : Sunk = sunk_in g.T.Sink.taken g.T.Sink.faults c.args.out.now in
     let b : Sunk = sunk_in g.T.Sink.taken g.T.Sink.faults c.sweep_lines.new.out in
     let d : Sunk = sunk_in g.T.Sink.taken g.T.Sink.faults c.put_above.new.out in
-    let e = text_whole marks ls names (c.as_slice.ensures.value ∙ c.requires.names_are) in
+    let e = text_whole marks ls names (c.as_slice.ensures.value ∙ c.requires.room.names_are) in
     fails_done r.result r.ensures.0
     (subst (λ (t : List ℕ). Fails a t d) e
     (fails_rest marks ss (sums_text (length ss) (total (λ s. length s.words) ss) (total (λ s. s.plays) ss)) (pending_value (remark_values c.args.marks.now) c.sweep_lines.new.pending) a b d c.in_ok-sweep_lines.ensures.left c.in_ok-sweep_lines.ensures.reported c.in_err-rest.ensures.reported))
@@ -48,7 +48,7 @@ returns-in_err-put_sums-clause-reported g c =
     let d : Sunk = sunk_in g.T.Sink.taken g.T.Sink.faults c.put_above.new.out in
     let none = c.no_sums-sums.ensures in
     let rows = whole_rows marks (sweeps_from names ls 0) (pending_value (remark_values c.args.marks.now) c.sweep_lines.new.pending) c.in_ok-sweep_lines.ensures.left in
-    let e = text_is marks ls names (c.as_slice.ensures.value ∙ c.requires.names_are) c.no_sums-sums.result sums none.lines none.writes none.plays c.in_ok-sweep_lines.ensures.adds in
+    let e = text_is marks ls names (c.as_slice.ensures.value ∙ c.requires.room.names_are) c.no_sums-sums.result sums none.lines none.writes none.plays c.in_ok-sweep_lines.ensures.adds in
     let written = subst (λ (t : List ℕ). Writes a t d) rows (writes_then c.in_ok-sweep_lines.ensures.reported c.in_ok-rest.ensures.reported) in
     fails_done r.result r.ensures.0 (subst (λ (t : List ℕ). Fails a t b) e (fails_then written c.in_err-put_sums.ensures))
 
@@ -63,7 +63,7 @@ returns-clause-reported g c =
     let d : Sunk = sunk_in g.T.Sink.taken g.T.Sink.faults c.put_above.new.out in
     let none = c.no_sums-sums.ensures in
     let rows = whole_rows marks (sweeps_from names ls 0) (pending_value (remark_values c.args.marks.now) c.sweep_lines.new.pending) c.in_ok-sweep_lines.ensures.left in
-    let e = text_is marks ls names (c.as_slice.ensures.value ∙ c.requires.names_are) c.no_sums-sums.result sums none.lines none.writes none.plays c.in_ok-sweep_lines.ensures.adds in
+    let e = text_is marks ls names (c.as_slice.ensures.value ∙ c.requires.room.names_are) c.no_sums-sums.result sums none.lines none.writes none.plays c.in_ok-sweep_lines.ensures.adds in
     let written = subst (λ (t : List ℕ). Writes a t d) rows (writes_then c.in_ok-sweep_lines.ensures.reported c.in_ok-rest.ensures.reported) in
     subst (λ (t : List ℕ). Writes a t b) e (writes_then written c.in_ok-put_sums.ensures)
 
@@ -75,5 +75,5 @@ returns-clause-whole g c =
     let ss = sweeps_from names ls 0 in
     let q = pending_value (remark_values c.args.marks.now) c.sweep_lines.new.pending in
     let first = subst (λ (b : Bool). AddsFine marks b (rows_to (all_marks marks) ss) c.sweep_lines.new.sums.whole) c.no_sums-sums.ensures.whole c.in_ok-sweep_lines.ensures.fine in
-    whole_is marks ls names (c.as_slice.ensures.value ∙ c.requires.names_are) c.both.result
+    whole_is marks ls names (c.as_slice.ensures.value ∙ c.requires.room.names_are) c.both.result
     (c.both.ensures ∙ whole_fine marks ss q c.sweep_lines.new.sums.whole c.in_ok-rest.rest.whole c.in_ok-sweep_lines.ensures.left first c.in_ok-rest.ensures.whole)

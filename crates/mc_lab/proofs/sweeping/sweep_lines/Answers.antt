@@ -9,7 +9,7 @@ use Rattle.mc_lab.proofs.SweepDecks.{adds_none, adds_on, left_none, left_step, s
 use Rattle.mc_lab.proofs.sweeping.sweep_lines.Goals as goal
 
 pub loop-at-init : goal.loop-at-init
-loop-at-init g c = record { reported = λ r b p. p; adds = λ b p. p; fine = λ b p. p; left = λ q p. p; small = c.requires.sums; size = refl; room = c.requires.room }
+loop-at-init g c = record { reported = λ r b p. p; adds = λ b p. p; fine = λ b p. p; left = λ q p. p; small = c.requires.sums; size = refl; room = c.requires.room; played = c.requires.played }
 
 pub returns-in_err-sweep_at-clause-reported : goal.returns-in_err-sweep_at-clause-reported
 returns-in_err-sweep_at-clause-reported g c =
@@ -46,7 +46,8 @@ loop-at-preserved g c =
       left = λ z w. c.loop-at.invariant.left z (rows_left marks q all now rest step p z one.left w);
       small = one.small;
       size = c.sweep_at.ensures.size ∙ c.loop-at.invariant.size;
-      room = c.sweep_at.ensures.room;
+      room = c.advance.ensures.room;
+      played = c.advance.ensures.played;
     }
 
 pub returns-clause-reported : goal.returns-clause-reported

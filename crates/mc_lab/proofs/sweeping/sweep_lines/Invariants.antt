@@ -1,4 +1,4 @@
-use Rattle.std.proofs.Common.{◌≡◌, length, Bool, Result}
+use Rattle.std.proofs.Common.{◌≡◌, length, take, Bool, Result}
 use Rattle.mc_streams.specs.declared.refusals.WriteFault.{WriteFault}
 use Rattle.mc_text.specs.Texts.{Sunk, Puts, sunk_in}
 use Rattle.mc_lab.specs.declared.sweep_text.Sums.{Sums}
@@ -22,4 +22,5 @@ invariant-loop-at g l =
       small : IsSmall l.sums l.at;
       size : length l.words ≡ length l.fn.words;
       room : AccountsHaveRoom l.sweeper.ends l.sweeper.pair (length l.names);
+      played : g.D.Trials.has_played l.sweeper.trials (take l.at l.deck);
     }

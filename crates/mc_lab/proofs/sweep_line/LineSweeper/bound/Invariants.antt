@@ -1,5 +1,5 @@
 use Rattle.std.proofs.Common.{length, ◌-◌, ◌<◌, ◌≤◌}
-use Rattle.mc_lab.specs.SweepBodies.{AccountsHaveRoom}
+use Rattle.mc_lab.specs.SweepBodies.{front_of, AccountsHaveRoom}
 use Rattle.mc_lab.proofs.sweep_line.LineSweeper.bound.Given as goal
 
 -- the bounds that were exceeded already
@@ -9,6 +9,7 @@ invariant-loop-most g l =
       low : l.most ≤ l.bound;
       small : l.bound < 4294967295;
       room : AccountsHaveRoom l.self.ends l.self.pair (length l.place.names.now);
+      played : g.D.Trials.has_played l.self.trials (front_of l.place);
     }
 
 abbrev pub decreases-loop-most : goal.decreases-loop-most

@@ -1,7 +1,29 @@
-use Rattle.std.proofs.Common.{◌<◌, length, arith, ◌∙◌}
+use Rattle.std.proofs.Common.{◌≡◌, ◌<◌, false, length, arith, rules, sym, ◌∙◌}
 use Rattle.std.proofs.lemmas.List.{length-set}
-use Rattle.mc_lab.proofs.SweepLoops.{sweeping_more}
+use Rattle.model_device.specs.Bytes.{zeros}
+use Rattle.mc_lab.specs.SweepBodies.{writes_in}
+use Rattle.mc_lab.proofs.SweepLoops.{missed_past, swept_none, sweeping_more}
 use Rattle.mc_lab.proofs.sweep_line.LineSweeper.sweep_line.Goals as goal
+
+pub returns-then-not-reaches-clause-writes : goal.returns-then-not-reaches-clause-writes
+returns-then-not-reaches-clause-writes g c =
+    let missed : c.reaches.result ≡ false = search rules in
+    let past = missed_past c.args.place.now 1 c.reaches.result c.requires.open (omega arith) (zeros 8) c.reaches.ensures.hit missed in
+    omega (arith, past)
+
+pub returns-then-not-reaches-clause-words : goal.returns-then-not-reaches-clause-words
+returns-then-not-reaches-clause-words g c =
+    let missed : c.reaches.result ≡ false = search rules in
+    let past = missed_past c.args.place.now 1 c.reaches.result c.requires.open (omega arith) (zeros 8) c.reaches.ensures.hit missed in
+    let none : writes_in c.args.place.now ≡ 0 = omega (arith, past) in
+    (swept_none c.args.place.now c.args.words.now none).words_are
+
+pub returns-then-not-reaches-clause-plays : goal.returns-then-not-reaches-clause-plays
+returns-then-not-reaches-clause-plays g c =
+    let missed : c.reaches.result ≡ false = search rules in
+    let past = missed_past c.args.place.now 1 c.reaches.result c.requires.open (omega arith) (zeros 8) c.reaches.ensures.hit missed in
+    let none : writes_in c.args.place.now ≡ 0 = omega (arith, past) in
+    (swept_none c.args.place.now c.args.words.now none).plays_are
 
 pub loop-writes-preserved : goal.loop-writes-preserved
 loop-writes-preserved g c =
@@ -16,4 +38,5 @@ loop-writes-preserved g c =
       after = i.after;
       room = record { before = i.room.before; after = i.room.after; first = c.try_write.ensures.first; now = c.try_write.ensures.now };
       size = length-set words writes c.in-Some.tried.word ∙ i.size;
+      played = c.try_write.ensures.played;
     }
