@@ -50,6 +50,7 @@ RUNS = [
     ("mellab", [], EXPECTED, 2, LAB_USAGE),
     ("mellab", ["expect", "sweep"], EXPECTED, 2, LAB_USAGE),
     ("mellab", [NO_TEXT], EXPECTED, 2, LAB_USAGE),
+    ("mellab", ["--help", "expect"], EXPECTED, 2, LAB_USAGE),
 ]
 
 
@@ -62,6 +63,19 @@ def run(name, words, given, **more):
 def test_a_run_has_its_status_and_its_text(name, words, given, status, text):
     done = run(name, words, given)
     assert (done.returncode, done.stdout, done.stderr) == (status, text, b"")
+
+
+# What the programs but melcard say of themselves: the page that their help names.
+ABOUT = [("mellab", LAB_USAGE, "docs/LABORATORY.md"), ("melreader", READER_USAGE, "docs/READER.md"), ("meldesk", b"usage: meldesk deck | ", "docs/DESK.md")]
+
+
+@pytest.mark.parametrize("name, usage, page", ABOUT)
+def test_a_program_says_what_it_is(name, usage, page, tmp_path):
+    help_text = run(name, ["--help"], b"", cwd=tmp_path)
+    assert (help_text.returncode, help_text.stderr) == (0, b"") and help_text.stdout.startswith(usage)
+    assert help_text.stdout.endswith(f"\nThe page is {page}.\n".encode()) and b"Example: " in help_text.stdout
+    version = run(name, ["--version"], b"", cwd=tmp_path)
+    assert (version.returncode, version.stdout, version.stderr) == (0, f"{name} 3\n".encode(), b"")
 
 
 @pytest.mark.parametrize("name, words, given", [("melcard", ["play"], COUNTER), ("mellab", ["expect"], EXPECTED), ("melcard", [], b"")])

@@ -16,4 +16,4 @@ mod tally;
 mod trying;
 
 pub use endings::{Explored, SearchFault};
-pub use search::explore;
+pub use search::{explore, explore_within};

@@ -9,8 +9,8 @@ use Rattle.model_play.specs.Play.{State}
 use Rattle.law_explore.specs.Rules.{OnRule, Rules, no_rules, Exploration}
 use Rattle.law_explore.specs.States.{CardState, is_known, play_of_deck}
 use Rattle.law_explore.specs.Tries.{Try, tries_of, outcome}
-use Rattle.law_explore.specs.Search.{Node, Round, Halt, RuleBroken, Full, HaltedRound, with_try, with_new, with_reached, after_outcome, round_of_tries, round_of_states, Ending, All, AtDepth, Broken, TooMany, Search, search_end, ending_of, after_depth, after_round, search_on, search_from, most_states, first_state, search_of, Tally, no_tries}
-use Rattle.law_explore_text.specs.Report.{silent_lines, silent_numbers, sums_text, ending_text, text_within, explore_text}
+use Rattle.law_explore.specs.Search.{Node, Round, Halt, RuleBroken, Full, HaltedRound, with_try, with_new, with_reached, after_outcome, round_of_tries, round_of_states, Ending, All, AtDepth, Broken, TooMany, Search, search_end, ending_of, after_depth, after_round, search_on, search_from, first_state, search_of, Tally, no_tries}
+use Rattle.law_explore_text.specs.Report.{silent_lines, silent_numbers, sums_text, ending_text, text_within}
 use Rattle.law_explore_text.specs.TextSafety.{DepthTextLaw}
 use Rattle.law_explore.proofs.Breaks.{EitherWay, either_way}
 use Rattle.law_explore.proofs.Safety.{depth_law}
@@ -146,32 +146,32 @@ module _ (ons : List OnRule) (s : State) (e : Search) (ms : List ℕ) where
   sums_same : (how : List ℕ) (n m d : ℕ) → sums_of how n m d → sums_text e.states e.tally.tries how ≡ sums_text n m (codes " depth " ++ decimal d)
   sums_same how n m d h = same_sums (silent_numbers ons e.tally.heard) ms e.states e.tally.tries n m how (codes " depth " ++ decimal d) h
 
-  depth_is : (x : Ending) (last n m d : ℕ) → EndsAt most_states no_rules x last e.states → last < 2 ^ 64 → n < most_states → d < 2 ^ 64
+  depth_is : (most : ℕ) (x : Ending) (last n m d : ℕ) → EndsAt most no_rules x last e.states → most < 2 ^ 64 → last < 2 ^ 64 → n < most → d < 2 ^ 64
       → ending_text ons s e x ≡ silent_lines ms ++ sums_text n m (codes " depth " ++ decimal d) → x ≡ AtDepth d
-  depth_is All last n m d ends a b c h = absurd (all_none e.states e.tally.tries n m d (sums_same (codes " all") n m d h))
-  depth_is (AtDepth f) last n m d ends a b c h =
+  depth_is most All last n m d ends top a b c h = absurd (all_none e.states e.tally.tries n m d (sums_same (codes " all") n m d h))
+  depth_is most (AtDepth f) last n m d ends top a b c h =
       ap (λ (k : ℕ). AtDepth k) (decimal_injective f d (omega (arith, ends, a)) c (same_depth e.states e.tally.tries f n m d (sums_same (codes " depth " ++ decimal f) n m d h)))
-  depth_is (TooMany f) last n m d ends a b c h =
+  depth_is most (TooMany f) last n m d ends top a b c h =
       absurd (
-      let same : e.states ≡ n = decimal_injective e.states n (omega (arith, ends)) (omega (arith, b)) (same_states e.states e.tally.tries f n m d (sums_same (codes " depth " ++ decimal f) n m d h)) in
+      let same : e.states ≡ n = decimal_injective e.states n (omega (arith, ends, top)) (omega (arith, b, top)) (same_states e.states e.tally.tries f n m d (sums_same (codes " depth " ++ decimal f) n m d h)) in
       omega (arith, same, ends, b)
       )
-  depth_is (Broken name path) last n m d ends a b c h = absurd (broken_no_sums (ending_text ons s e (Broken name path)) ms n m (codes " depth " ++ decimal d) refl h)
+  depth_is most (Broken name path) last n m d ends top a b c h = absurd (broken_no_sums (ending_text ons s e (Broken name path)) ms n m (codes " depth " ++ decimal d) refl h)
 
 -- ---- the law
 
-ends_in : (n : ℕ) (x : Exploration) → let e = search_of most_states n x in EndsAt most_states no_rules e.ending n e.states
+ends_in : (most n : ℕ) (x : Exploration) → 1 ≤ most → let e = search_of most n x in EndsAt most no_rules e.ending n e.states
 unfolding search_of
-ends_in n x = search_ends most_states x.rules n (first_state x) (omega arith)
+ends_in most n x some = search_ends most x.rules n (first_state x) (omega (arith, some))
 
 pub depth_text_law : DepthTextLaw
-unfolding explore_text text_within
-depth_text_law n d text x small few read says ts most =
+unfolding text_within
+depth_text_law most n d text x some top small few read says ts short =
     let ons = x.rules.ons in
     let s = play_of_deck x.lines in
-    let e = search_of most_states n x in
+    let e = search_of most n x in
     let how = codes " depth " ++ decimal d in
     let end = silent_lines says.silent ++ sums_text says.states says.tries how in
     let ends : ending_text ons s e e.ending ≡ end =
     unlines e.news says.news 1 (ending_text ons s e e.ending) end (no_depth ons s e e.ending) (silent_no_depth says.silent says.states says.tries how) says.is in
-    depth_law most_states n d text x read (depth_is ons s e says.silent e.ending n says.states says.tries d (ends_in n x) small says.few few ends) ts most
+    depth_law most n d text x read (depth_is ons s e says.silent most e.ending n says.states says.tries d (ends_in most n x some) top small says.few few ends) ts short

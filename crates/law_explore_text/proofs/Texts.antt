@@ -8,8 +8,8 @@ use Rattle.model_text.specs.Text.{every}
 use Rattle.model_play.specs.Play.{State}
 use Rattle.law_explore.specs.Rules.{OnRule}
 use Rattle.law_explore.specs.States.{play_of_deck}
-use Rattle.law_explore.specs.Search.{Ending, All, AtDepth, Broken, TooMany, Search, most_states, search_of}
-use Rattle.law_explore_text.specs.Report.{depth_lines, silent_lines, silent_numbers, sums_text, ending_text, text_within, explore_text}
+use Rattle.law_explore.specs.Search.{Ending, All, AtDepth, Broken, TooMany, Search, search_of}
+use Rattle.law_explore_text.specs.Report.{depth_lines, silent_lines, silent_numbers, sums_text, ending_text, text_within}
 use Rattle.law_explore_text.specs.TextSafety.{TextLaw}
 use Rattle.law_explore.proofs.Safety.{all_law}
 
@@ -171,12 +171,12 @@ module _ (ons : List OnRule) (s : State) (e : Search) (ms : List ℕ) where
 -- ---- the law
 
 pub text_law : TextLaw
-unfolding explore_text text_within
-text_law n text x read says ts =
+unfolding text_within
+text_law most n text x read says ts =
     let ons = x.rules.ons in
     let s = play_of_deck x.lines in
-    let e = search_of most_states n x in
+    let e = search_of most n x in
     let end = silent_lines says.silent ++ sums_text says.states says.tries (codes " all") in
     let ends : ending_text ons s e e.ending ≡ end =
     unlines e.news says.news 1 (ending_text ons s e e.ending) end (no_depth ons s e e.ending) (silent_no_depth says.silent says.states says.tries (codes " all")) says.is in
-    all_law most_states n text x read (ending_is ons s e says.silent e.ending says.states says.tries ends) ts
+    all_law most n text x read (ending_is ons s e says.silent e.ending says.states says.tries ends) ts

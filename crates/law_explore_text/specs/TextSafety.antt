@@ -1,9 +1,8 @@
 -- What the text of an exploration promises.
 use Rattle.std.specs.Prelude.{◌≡◌, ℕ, ◌<◌, ◌≤◌, List, ◌++◌, length, codes, decimal, ◌^◌, Ok}
 use Rattle.law_explore.specs.Rules.{Exploration, exploration_read}
-use Rattle.law_explore.specs.Search.{most_states}
 use Rattle.law_explore.specs.Safety.{Action, KeepsRulesIn}
-use Rattle.law_explore_text.specs.Report.{depth_lines, silent_lines, sums_text, explore_text}
+use Rattle.law_explore_text.specs.Report.{depth_lines, silent_lines, sums_text, text_within}
 
 -- a text that says `all`: the lines of depths, those of rules that applied to no try, and the line of the sums with this
 -- word
@@ -14,22 +13,23 @@ pub record SaysAll (text : List ℕ) : Type 0 where
   pub tries : ℕ
   pub is : text ≡ depth_lines 1 news ++ (silent_lines silent ++ sums_text states tries (codes " all"))
 
--- If the text of an exploration says `all`, no list of actions, of any length, spends an allowance below zero.
+-- If the text of an exploration says `all`, whatever the most states are, no list of actions, of any length, spends an
+-- allowance below zero.
 abbrev pub TextLaw : Type 0
-TextLaw = (n : ℕ) (text : List ℕ) (x : Exploration) → exploration_read text ≡ Ok x → SaysAll (explore_text n x) → (ts : List Action) → KeepsRulesIn x ts
+TextLaw = (most n : ℕ) (text : List ℕ) (x : Exploration) → exploration_read text ≡ Ok x → SaysAll (text_within most n x) → (ts : List Action) → KeepsRulesIn x ts
 
 -- a text that says `depth N`, with fewer states than the most: the lines of depths, those of rules that applied to no
 -- try, and the line of the sums with this depth
-pub record SaysDepth (text : List ℕ) (depth : ℕ) : Type 0 where
+pub record SaysDepth (most : ℕ) (text : List ℕ) (depth : ℕ) : Type 0 where
   pub news : List ℕ
   pub silent : List ℕ
   pub states : ℕ
   pub tries : ℕ
-  pub few : states < most_states
+  pub few : states < most
   pub is : text ≡ depth_lines 1 news ++ (silent_lines silent ++ sums_text states tries (codes " depth " ++ decimal depth))
 
 -- If it says `depth N`, no list of at most N actions does.
 abbrev pub DepthTextLaw : Type 0
 DepthTextLaw =
-    (n d : ℕ) (text : List ℕ) (x : Exploration) → n < 2 ^ 64 → d < 2 ^ 64 → exploration_read text ≡ Ok x → SaysDepth (explore_text n x) d
+    (most n d : ℕ) (text : List ℕ) (x : Exploration) → 1 ≤ most → most < 2 ^ 64 → n < 2 ^ 64 → d < 2 ^ 64 → exploration_read text ≡ Ok x → SaysDepth most (text_within most n x) d
     → (ts : List Action) → length ts ≤ d → KeepsRulesIn x ts

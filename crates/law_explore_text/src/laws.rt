@@ -5,7 +5,7 @@ pub fn a_text_that_says_all_is_safe()
     ensures { TextLaw }
 {}
 
-/// If the text of an exploration says `depth N` and fewer than 1,000,000 states, no sequence of at most N moves does.
+/// If the text of an exploration says `depth N` and fewer states than the most, no sequence of at most N moves does.
 pub fn a_text_that_says_depth_is_safe()
     ensures { DepthTextLaw }
 {}

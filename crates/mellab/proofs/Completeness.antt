@@ -1,4 +1,4 @@
--- A job is complete if no call of source or sink fails.
+-- What is requested is complete if no call of source or sink fails.
 use Rattle.std.proofs.Common.{◌≡◌, ℕ, Option, Some, None, IfSome, subst}
 use Rattle.model_device.specs.Counts.{Rose}
 use Rattle.mc_filter.proofs.Statuses.{same_status, written_whole}
@@ -8,7 +8,10 @@ use Rattle.mc_filter.specs.Statuses.{number_of}
 use Rattle.mc_filter.specs.Outside.{IsWithoutFault, Outside, SaysReadFault}
 use Rattle.mellab.specs.declared.job.Job.{Job}
 use Rattle.mc_filter.specs.declared.status.Status.{Status}
-use Rattle.mc_filter.specs.declared.status.Status.TheVariants.{Failed, Partial}
+use Rattle.mc_filter.specs.declared.status.Status.TheVariants.{Done, Failed, Partial}
+use Rattle.mellab.specs.declared.job.Request.{Request}
+use Rattle.mellab.specs.declared.job.Request.TheVariants as request
+use Rattle.mellab.specs.Jobs.{about_text}
 use Rattle.mellab.specs.Verdicts.{LabVerdict, Reports, ReportsPart, Refusal, IsVerdictOfJob}
 use Rattle.mellab.specs.Statuses.{status_by, status_of, IsTextWritten, MellabCompletes, MellabDone, MellabStops, MellabWhole, MellabSays}
 
@@ -27,11 +30,14 @@ whole work a s quiet says =
       done = says.done;
     }
 
-completes : (s : Status) (work : Job) (a : Outside) → MellabSays s (Some work) a → MellabCompletes s work a
-completes s work a says =
+completes : (s : Status) (r : Request) (a : Outside) → MellabSays s (Some r) a → MellabCompletes s r a
+completes s (request.Describe t) a says =
+    let w = says.1 in
+    λ quiet. written_whole a.out_old a.out (about_text t) Done s w.result quiet w.status w.written
+completes s (request.Do work) a says =
     complete_part (MellabDone work a) (MellabWhole work a) (SaysReadFault (TookLimited a.input_old a.input) a) (MellabStops work a) a s (whole work a) (λ f. f.cause) says
 
--- a job is complete at the number of a status, for the job that the words select
-pub complete_at : (form : Option Job) (s t : Status) (a : Outside) (n : ℕ) → n ≡ number_of s → n ≡ number_of t → MellabSays s form a → IfSome form (λ work. MellabCompletes t work a)
+-- what the words select is complete at the number of a status
+pub complete_at : (form : Option Request) (s t : Status) (a : Outside) (n : ℕ) → n ≡ number_of s → n ≡ number_of t → MellabSays s form a → IfSome form (λ r. MellabCompletes t r a)
 complete_at None s t a n e f says = tt
-complete_at (Some work) s t a n e f says = subst (λ t. MellabCompletes t work a) (same_status s t n e f) (completes s work a says)
+complete_at (Some r) s t a n e f says = subst (λ t. MellabCompletes t r a) (same_status s t n e f) (completes s r a says)

@@ -32,27 +32,27 @@ digits_most n (c ∷ t) h =
     let small : c - 48 ≤ 9 = digit_small c (and_first (is_digit c) (every is_digit t) h) in
     omega (arith, digits_most (n * 10 + (c - 48)) t (and_second (is_digit c) (every is_digit t) h), most_grows (length t) (n * 10 + (c - 48)) (n * 10 + 9) (omega (arith, small)))
 
-six_digits : (t : List ℕ) → length t ≤ 6 → every is_digit t ≡ true → digits_onto 10 0 (map (λ c. c - 48) t) ≤ 999999
-six_digits t few h = omega (arith, digits_most 0 t h, most_longer (length t) 6 0 few)
+eight_digits : (t : List ℕ) → length t ≤ 8 → every is_digit t ≡ true → digits_onto 10 0 (map (λ c. c - 48) t) ≤ 99999999
+eight_digits t few h = omega (arith, digits_most 0 t h, most_longer (length t) 8 0 few)
 
--- a number of at most six digits
+-- a number of at most eight digits
 record Few (t : List ℕ) (o : Option ℕ) : Type 0 where
   value : option_map capped_number o ≡ o
-  bound : IfSome o (λ n. n ≤ 999999)
+  bound : IfSome o (λ n. n ≤ 99999999)
 
-few_by : (b : Bool) (t : List ℕ) → (not (is_empty t) && every is_digit t) ≡ b → length t ≤ 6 → Few t (cond b (Some (digits_onto 10 0 (map (λ c. c - 48) t))) None)
+few_by : (b : Bool) (t : List ℕ) → (not (is_empty t) && every is_digit t) ≡ b → length t ≤ 8 → Few t (cond b (Some (digits_onto 10 0 (map (λ c. c - 48) t))) None)
 few_by false t e few = record { value = refl; bound = grind arith }
 few_by true t e few =
     let n : ℕ = digits_onto 10 0 (map (λ c. c - 48) t) in
-    let small : n ≤ 999999 = six_digits t few (and_second (not (is_empty t)) (every is_digit t) e) in
+    let small : n ≤ 99999999 = eight_digits t few (and_second (not (is_empty t)) (every is_digit t) e) in
     let same : capped_number n ≡ n = grind (arith, small) in
     record { value = ap Some same; bound = small }
 
-few : (t : List ℕ) → length t ≤ 6 → Few t (decimal_number t)
+few : (t : List ℕ) → length t ≤ 8 → Few t (decimal_number t)
 few t h = few_by _ t refl h
 
-pub few_value : (t : List ℕ) → length t ≤ 6 → option_map capped_number (decimal_number t) ≡ decimal_number t
+pub few_value : (t : List ℕ) → length t ≤ 8 → option_map capped_number (decimal_number t) ≡ decimal_number t
 few_value t h = (few t h).value
 
-pub few_bound : (t : List ℕ) (o : Option ℕ) → o ≡ option_map capped_number (decimal_number t) → length t ≤ 6 → IfSome o (λ n. n ≤ 999999)
-few_bound t o e h = subst (λ (x : Option ℕ). IfSome x (λ n. n ≤ 999999)) (sym e) (subst (λ (x : Option ℕ). IfSome x (λ n. n ≤ 999999)) (sym (few t h).value) (few t h).bound)
+pub few_bound : (t : List ℕ) (o : Option ℕ) → o ≡ option_map capped_number (decimal_number t) → length t ≤ 8 → IfSome o (λ n. n ≤ 99999999)
+few_bound t o e h = subst (λ (x : Option ℕ). IfSome x (λ n. n ≤ 99999999)) (sym e) (subst (λ (x : Option ℕ). IfSome x (λ n. n ≤ 99999999)) (sym (few t h).value) (few t h).bound)

@@ -4,8 +4,8 @@ use Rattle.std.proofs.Common.{ap, inr, refl, subst, sym, ◌∙◌}
 use Rattle.mc_text.specs.Texts.{Fails}
 use Rattle.law_explore.specs.Rules as rule
 use Rattle.law_explore.specs.Rules.{exploration_read}
-use Rattle.law_explore.specs.Search.{Ending, All, AtDepth, Broken, TooMany, most_states, search_of}
-use Rattle.law_explore_text.specs.Report.{explore_text}
+use Rattle.law_explore.specs.Search.{Ending, All, AtDepth, Broken, TooMany, search_of}
+use Rattle.law_explore_text.specs.Report.{text_within}
 use Rattle.law_explore.proofs.ReadRules.{moves_of_exploration}
 use Rattle.lab_rules.specs.Meanings.{IsExplorationRead}
 use Rattle.lab_rules.specs.declared.reading.Exploration.{Exploration}
@@ -53,18 +53,18 @@ verdict_is text (AtDepth d) = refl
 verdict_is text (Broken name path) = refl
 verdict_is text (TooMany d) = refl
 
-module _ (depth : ℕ) (a : Outside) (input : List ℕ) (x : rule.Exploration) (read : ReadWhole a.input_old a.input input) (is : exploration_read input ≡ Ok x) where
+module _ (depth most : ℕ) (a : Outside) (input : List ℕ) (x : rule.Exploration) (read : ReadWhole a.input_old a.input input) (is : exploration_read input ≡ Ok x) where
   abbrev text : List ℕ
-  text = explore_text depth x
+  text = text_within most depth x
 
   abbrev end : Ending
-  end = (search_of most_states depth x).ending
+  end = (search_of most depth x).ending
 
-  verdict : exploration_verdict depth (exploration_read input) ≡ ending_verdict text end
-  verdict = ap (exploration_verdict depth) is
+  verdict : exploration_verdict depth most (exploration_read input) ≡ ending_verdict text end
+  verdict = ap (exploration_verdict depth most) is
 
   -- the verdict that is due
-  due : (e : Explored) → e ≡ explored_as end → IsRead Refusal (IsVerdictOfJob (job.Explore depth)) a.input_old a.input (verdict_by text e)
+  due : (e : Explored) → e ≡ explored_as end → IsRead Refusal (IsVerdictOfJob (job.Explore depth most)) a.input_old a.input (verdict_by text e)
   due e how = inr (record { input = input; read = read; is = ap (verdict_by text) how ∙ sym (verdict ∙ verdict_is text end) })
 
   failed : (v : LabVerdict) → Fails a.out_old (text_of_verdict v) a.out → IsTextWritten v WriteFault a
@@ -77,10 +77,10 @@ module _ (depth : ℕ) (a : Outside) (input : List ℕ) (x : rule.Exploration) (
   same_text explored.Partial = refl
   same_text explored.Broken = refl
 
-  verdict_text : text_of_verdict (exploration_verdict depth (exploration_read input)) ≡ text
+  verdict_text : text_of_verdict (exploration_verdict depth most (exploration_read input)) ≡ text
   verdict_text = ap text_of_verdict (verdict ∙ verdict_is text end) ∙ same_text (explored_as end)
 
-  ends_as : (r : Result Explored SearchFault) → IsExplored a.out_old text end r a.out → MellabEnds (job.Explore depth) a (status_explored r)
+  ends_as : (r : Result Explored SearchFault) → IsExplored a.out_old text end r a.out → MellabEnds (job.Explore depth most) a (status_explored r)
   ends_as (Ok explored.All) h =
       record { verdict = verdict_by text explored.All; due = due explored.All h.ending; done = record { result = Ok tt; status = refl; written = h.text } }
   ends_as (Ok explored.Partial) h =
@@ -98,5 +98,5 @@ module _ (depth : ℕ) (a : Outside) (input : List ℕ) (x : rule.Exploration) (
       inr (record { input = input; read = read; written = subst (λ (t : List ℕ). WritesFront a.out_old t a.out) (sym verdict_text) h.text })
 
   -- an exploration ended
-  pub ends_explored : (r : Result Explored SearchFault) (s : Status) → s ≡ status_explored r → IsExplored a.out_old text end r a.out → MellabEnds (job.Explore depth) a s
-  ends_explored r s e h = subst (λ (t : Status). MellabEnds (job.Explore depth) a t) (sym e) (ends_as r h)
+  pub ends_explored : (r : Result Explored SearchFault) (s : Status) → s ≡ status_explored r → IsExplored a.out_old text end r a.out → MellabEnds (job.Explore depth most) a s
+  ends_explored r s e h = subst (λ (t : Status). MellabEnds (job.Explore depth most) a t) (sym e) (ends_as r h)

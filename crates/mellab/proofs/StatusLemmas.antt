@@ -12,6 +12,8 @@ use Rattle.mc_filter.specs.declared.rejection.Rejection.{Rejection}
 use Rattle.mc_filter.specs.declared.rejection.Rejection.TheVariants as rejection
 use Rattle.mc_filter.specs.declared.status.Status.{Status}
 use Rattle.mc_filter.specs.declared.status.Status.TheVariants.{Done, Failed, NoForm, Partial}
+use Rattle.mellab.specs.declared.job.Request.{Request}
+use Rattle.mellab.specs.declared.job.Request.TheVariants as request
 use Rattle.mellab.specs.Jobs.{usage}
 use Rattle.mellab.specs.Verdicts.{LabVerdict, Reports, ReportsPart, Refusal, IsVerdictOfJob}
 use Rattle.mellab.specs.Running.{RejectsLabJob}
@@ -43,17 +45,17 @@ ends_done work a (Err e) d = tt
 stops_early : (work : Job) (a : Outside) → SaysNoMemory (TookLimited a.input_old a.input) a → MellabStops work a
 stops_early job.Expect a h = h
 stops_early job.Sweep a h = h
-stops_early (job.Explore depth) a h = inl h
+stops_early (job.Explore depth most) a h = inl h
 stops_early job.Prove a h = h
 
 -- a job that was rejected ended
-pub says_rejected : (work : Job) (a : Outside) (x : Sunk) (e : Rejection) (s : Status) → RejectsLabJob work (record a { out = x }) e → RejectionEnds e a.out_old s a.out → MellabSays s (Some work) a
+pub says_rejected : (work : Job) (a : Outside) (x : Sunk) (e : Rejection) (s : Status) → RejectsLabJob work (record a { out = x }) e → RejectionEnds e a.out_old s a.out → MellabSays s (Some (request.Do work)) a
 says_rejected work a x (rejection.Refusal line) s why ends = says_verdict work a (Refusal line.items) s why ends
-says_rejected work a x rejection.ReadFault s why ends = subst (λ s. MellabSays s (Some work) a) (sym ends.0) (record { cause = why.0; source = why.1; written = ends.1 })
-says_rejected work a x rejection.NoMemory s why ends = subst (λ s. MellabSays s (Some work) a) (sym ends.0) (stops_early work a (record { quiet = why.0; source = why.1; written = ends.1 }))
+says_rejected work a x rejection.ReadFault s why ends = subst (λ s. MellabSays s (Some (request.Do work)) a) (sym ends.0) (record { cause = why.0; source = why.1; written = ends.1 })
+says_rejected work a x rejection.NoMemory s why ends = subst (λ s. MellabSays s (Some (request.Do work)) a) (sym ends.0) (stops_early work a (record { quiet = why.0; source = why.1; written = ends.1 }))
 
--- the words select no job, and the usage line was written
-pub says_no_form : (form : Option Job) (a : Outside) (r : Result (Unit {0}) Fault) (s : Status) → form ≡ None → s ≡ status_after_writing NoForm r → Untouched a → Puts a.out_old usage r a.out → MellabSays s form a
+-- the words select nothing, and the usage line was written
+pub says_no_form : (form : Option Request) (a : Outside) (r : Result (Unit {0}) Fault) (s : Status) → form ≡ None → s ≡ status_after_writing NoForm r → Untouched a → Puts a.out_old usage r a.out → MellabSays s form a
 says_no_form form a r s is e still put =
     subst (λ o. MellabSays s o a) (sym is)
     (filter.says_no_job (λ (t : Status). SaysNoForm usage t a) r s e (record { source = still; written = record { result = r; status = e; written = put } }))

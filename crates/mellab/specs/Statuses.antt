@@ -1,5 +1,6 @@
 -- The relation of the top call to its environment at each of its statuses.
-use Rattle.std.specs.Prelude.{◌⊎◌, ℕ, ◌==◌, Bool, true, false, List, Option, Some, None, Result, Ok, Err}
+use Rattle.std.specs.Prelude.{◌≡◌, ◌⊎◌, ℕ, ◌==◌, Bool, true, false, List, Option, Some, None, Result, Ok, Err}
+use Rattle.model_device.specs.Counts.{Rose}
 use Rattle.mc_streams.specs.declared.refusals.WriteFault.{WriteFault as Fault}
 use Rattle.mc_filter.specs.declared.status.Status.{Status}
 use Rattle.mc_filter.specs.declared.status.Status.TheVariants.{Done, Failed, Partial, WriteFault}
@@ -9,7 +10,10 @@ use Rattle.mc_filter.specs.Statuses.{IsWritten}
 use Rattle.mc_filter.specs.Outside.{AllStands, Completes, IsRead, IsWhole, NoJobSays, Outside, PartJobSays, SaysDone, SaysNoForm, SaysNoMemory, SaysReadFault}
 use Rattle.mellab.specs.declared.job.Job.{Job}
 use Rattle.mellab.specs.declared.job.Job.TheVariants as job
-use Rattle.mellab.specs.Jobs.{usage}
+use Rattle.mellab.specs.declared.job.About.{About}
+use Rattle.mellab.specs.declared.job.Request.{Request}
+use Rattle.mellab.specs.declared.job.Request.TheVariants as request
+use Rattle.mellab.specs.Jobs.{about_text, usage}
 use Rattle.law_explore.specs.Rules.{exploration_read}
 use Rattle.mellab.specs.Verdicts.{LabVerdict, Reports, ReportsPart, Refusal, exploration_verdict, text_of_verdict, IsVerdictOfJob}
 
@@ -39,25 +43,30 @@ MellabDone job a s = SaysDone (IsRead Refusal (IsVerdictOfJob job) a.input_old a
 
 -- out of memory within an exploration: the input was read to its end, a prefix of the text that is due was written, and
 -- no call of source or sink failed
-pub record StopsWithin (depth : ℕ) (a : Outside) : Type 0 where
+pub record StopsWithin (depth most : ℕ) (a : Outside) : Type 0 where
   pub input : List ℕ
   pub read : ReadWhole a.input_old a.input input
-  pub written : WritesFront a.out_old (text_of_verdict (exploration_verdict depth (exploration_read input))) a.out
+  pub written : WritesFront a.out_old (text_of_verdict (exploration_verdict depth most (exploration_read input))) a.out
 
 -- out of memory: before the first byte was written, or for an exploration within its text
 abbrev pub MellabStops : Job → Outside → Type 0
 MellabStops job.Expect a = SaysNoMemory (TookLimited a.input_old a.input) a
 MellabStops job.Sweep a = SaysNoMemory (TookLimited a.input_old a.input) a
-MellabStops (job.Explore depth) a = SaysNoMemory (TookLimited a.input_old a.input) a ⊎ StopsWithin depth a
+MellabStops (job.Explore depth most) a = SaysNoMemory (TookLimited a.input_old a.input) a ⊎ StopsWithin depth most a
 MellabStops job.Prove a = SaysNoMemory (TookLimited a.input_old a.input) a
 
 -- the meaning of each status of a job
 abbrev pub MellabEnds : Job → Outside → Status → Type 0
 MellabEnds job a s = PartJobSays (MellabDone job a) (SaysReadFault (TookLimited a.input_old a.input) a) (MellabStops job a) s
 
--- the meaning of each status, by the job that the words select
-abbrev pub MellabSays : Status → Option Job → Outside → Type 0
-MellabSays s (Some job) a = MellabEnds job a s
+-- what the program says of itself was written, and the source was not touched
+abbrev pub SaysAbout : About → Status → Outside → Type 0
+SaysAbout t s a = (a.input ≡ a.input_old) × IsWritten Done (about_text t) s a.out_old a.out
+
+-- the meaning of each status, by what the words select
+abbrev pub MellabSays : Status → Option Request → Outside → Type 0
+MellabSays s (Some (request.Do job)) a = MellabEnds job a s
+MellabSays s (Some (request.Describe t)) a = SaysAbout t s a
 MellabSays s None a = NoJobSays (λ (t : Status). SaysNoForm usage t a) s
 
 -- ---- completeness
@@ -73,5 +82,6 @@ abbrev pub MellabWhole : Job → Outside → Status → Type 0
 MellabWhole job a s = IsWhole (AllStands Refusal (IsVerdictOfJob job) a.input_old.left) status_of (λ (v : LabVerdict). IsTextWritten v s a) s
 
 -- if no call of source or sink fails, all that is due is written, or the call was out of memory
-abbrev pub MellabCompletes : Status → Job → Outside → Type 0
-MellabCompletes s job a = Completes (MellabWhole job a s) s a
+abbrev pub MellabCompletes : Status → Request → Outside → Type 0
+MellabCompletes s (request.Do job) a = Completes (MellabWhole job a s) s a
+MellabCompletes s (request.Describe t) a = (Rose a.out_old.faults a.out.faults → ⊥) → s ≡ Done

@@ -9,8 +9,8 @@ use Rattle.mc_lab.specs.declared.remark.Mark.TheVariants as mark
 use Rattle.mc_lab.specs.Remarks.{Remark, remarks}
 use Rattle.mc_lab.specs.Sweeps.{is_whole, sweep_text}
 use Rattle.law_explore.specs.Rules.{Exploration, ExplorationFault, LineFault, NoMove, NoRule, exploration_read}
-use Rattle.law_explore.specs.Search.{Ending, All, AtDepth, Broken, TooMany, most_states, search_of}
-use Rattle.law_explore_text.specs.Report.{explore_text}
+use Rattle.law_explore.specs.Search.{Ending, All, AtDepth, Broken, TooMany, search_of}
+use Rattle.law_explore_text.specs.Report.{text_within}
 use Rattle.prove_tables.specs.Reports.{IsReport}
 use Rattle.mc_filter.specs.Lines.{at_line, deck_line}
 use Rattle.mellab.specs.declared.job.Job.{Job}
@@ -62,11 +62,11 @@ ending_verdict text (AtDepth d) = ReportsPart text
 ending_verdict text (Broken name path) = Reports text false
 ending_verdict text (TooMany d) = ReportsPart text
 
--- the verdict on the exploration of a deck with its rules to a depth: whether no rule is broken in what is explored, and
--- whether that is all
-abbrev pub exploration_verdict : ℕ → Result Exploration ExplorationFault → LabVerdict
-exploration_verdict depth (Ok x) = ending_verdict (explore_text depth x) (search_of most_states depth x).ending
-exploration_verdict depth (Err e) = Refusal (exploration_fault_line e)
+-- the verdict on the exploration of a deck with its rules to a depth, with the most states: whether no rule is broken in
+-- what is explored, and whether that is all
+abbrev pub exploration_verdict : ℕ → ℕ → Result Exploration ExplorationFault → LabVerdict
+exploration_verdict depth most (Ok x) = ending_verdict (text_within most depth x) (search_of most depth x).ending
+exploration_verdict depth most (Err e) = Refusal (exploration_fault_line e)
 
 -- the line that refuses a rule of a deck that can be read
 pub record IsRuleRefusal (line : List ℕ) : Type 0 where
@@ -86,5 +86,5 @@ IsProofVerdict (Err e) v = v ≡ Refusal (deck_line e)
 abbrev pub IsVerdictOfJob : Job → List ℕ → LabVerdict → Type 0
 IsVerdictOfJob job.Expect input v = v ≡ expectation_verdict (expected_deck_read input)
 IsVerdictOfJob job.Sweep input v = v ≡ sweep_verdict (remarks mark.Whole input) (deck_read input)
-IsVerdictOfJob (job.Explore depth) input v = v ≡ exploration_verdict depth (exploration_read input)
+IsVerdictOfJob (job.Explore depth most) input v = v ≡ exploration_verdict depth most (exploration_read input)
 IsVerdictOfJob job.Prove input v = IsProofVerdict (deck_read input) v

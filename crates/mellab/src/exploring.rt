@@ -10,7 +10,7 @@ ghost use Rattle.mellab.specs.Running.{refused_exploration, status_explored, Rej
 ghost use Rattle.mellab.specs.Statuses.{MellabEnds};
 
 use lab_rules::{Exploration, ExplorationRefusal, read_exploration};
-use lab_search::{Explored, SearchFault, explore};
+use lab_search::{Explored, SearchFault, explore_within};
 use mc_base::Steps;
 use mc_filter::{Rejection, Status, read_input, refused};
 use mc_streams::{Sink, Source};
@@ -49,8 +49,8 @@ fn status_explored(explored: Result<Explored, SearchFault>) -> Status
     }
 }
 
-/// Explores the deck that an input spells, at most `depth` moves deep, on a device of its own. It may be out of
-/// memory after lines that it has written.
+/// Explores the deck that an input spells, at most `depth` moves deep and with at most as many states, on a device of its
+/// own. It may be out of memory after lines that it has written.
 ///
 /// # Errors
 ///
@@ -58,17 +58,18 @@ fn status_explored(explored: Result<Explored, SearchFault>) -> Status
 pub fn explore_input<S: Source, T: Sink, L: Ledger>(
     alloc: Global,
     depth: u32,
+    most: u32,
     input: &mut S,
     out: &mut T,
     steps: &mut Steps<L>,
 ) -> Result<Status, Rejection>
     ensures ends { IfOk result
-        (MellabEnds (job.Explore depth) (outside S.Source T.Sink input.old input.new out.old out.new)) }
+        (MellabEnds (job.Explore depth most) (outside S.Source T.Sink input.old input.new out.old out.new)) }
     ensures rejected { IfErr result
-        (RejectsLabJob (job.Explore depth) (outside S.Source T.Sink input.old input.new out.old out.new)) }
+        (RejectsLabJob (job.Explore depth most) (outside S.Source T.Sink input.old input.new out.old out.new)) }
     ensures out { IfErr result (λ e. sunk T.Sink out.new ≡ sunk T.Sink out.old) }
 {
     let text = read_input(alloc, input)?;
     let exploration = exploration_of(alloc, text.as_slice())?;
-    Ok(status_explored(explore(alloc, &exploration, depth, out, steps)))
+    Ok(status_explored(explore_within(alloc, &exploration, most as usize, depth, out, steps)))
 }

@@ -2,6 +2,7 @@
 
 //! The laboratory, over the standard streams.
 
+mod about;
 #[cfg(test)]
 mod examples;
 mod exploring;

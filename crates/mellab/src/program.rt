@@ -1,4 +1,4 @@
-// The program: its words select a job.
+// The program: its words select a job, or what it says of itself.
 ghost use Rattle.std.specs.Prelude.{◌≡◌, ◌<◌};
 ghost use Rattle.mc_filter.specs.Outside.{outside};
 ghost use Rattle.mellab.specs.Programs.{ProgramSays};
@@ -10,8 +10,8 @@ use mc_streams::{Sink, Source};
 use std::alloc::Global;
 use std::sync::ledger::{Blank, Ledger};
 
-/// Does the job that the words of the command line select, and returns its status, as [`mellab`]; words that cannot be
-/// read select none. Its status is 5 if memory was out before the words were read, and then nothing is written.
+/// Does what the words of the command line select, and returns its status, as [`mellab`]; words that cannot be read
+/// select nothing. Its status is 5 if memory was out before the words were read, and then nothing is written.
 pub fn program<S: Source, T: Sink, L: Ledger>(
     alloc: Global,
     words: Result<Option<Vec<String>>, NoMemory>,

@@ -9,12 +9,14 @@ ghost use Rattle.mc_filter.specs.Inputs.{input_limit, Rejects};
 ghost use Rattle.mc_filter.specs.Outside.{outside};
 ghost use Rattle.mc_filter.specs.Statuses.{number_of};
 ghost use Rattle.mellab.specs.declared.job.Job.TheVariants as job;
-ghost use Rattle.mellab.specs.Jobs.{job_of};
+ghost use Rattle.mellab.specs.declared.job.Request.TheVariants as request;
+ghost use Rattle.mellab.specs.Jobs.{request_of};
 ghost use Rattle.mellab.specs.Running.{refused_expected_deck, RejectsLabJob};
 ghost use Rattle.mellab.specs.Statuses.{status_after, status_by, MellabCompletes, MellabDone, MellabEnds, MellabSays};
 
+use crate::about::describe;
 use crate::exploring::explore_input;
-use crate::job::{Job, job_of};
+use crate::job::{Job, Request, request_of};
 use crate::proving::prove_input;
 use mc_base::Steps;
 use mc_filter::{
@@ -129,7 +131,7 @@ fn attempt<S: Source, T: Sink, L: Ledger>(
     match job {
         Job::Expect => expect_input(alloc, input, out, steps),
         Job::Sweep => sweep_input(alloc, input, out, steps),
-        Job::Explore(depth) => explore_input(alloc, depth, input, out, steps),
+        Job::Explore { depth, most } => explore_input(alloc, depth, most, input, out, steps),
         Job::Prove => prove_input(alloc, input, out),
     }
 }
@@ -142,7 +144,7 @@ fn run<S: Source, T: Sink, L: Ledger>(
     out: &mut T,
     steps: &mut Steps<L>,
 ) -> Status
-    ensures { MellabSays result (Some job) (outside S.Source T.Sink input.old input.new out.old out.new) }
+    ensures { MellabSays result (Some (request.Do job)) (outside S.Source T.Sink input.old input.new out.old out.new) }
 {
     match attempt(alloc, job, input, out, steps) {
         Ok(status) => status,
@@ -150,7 +152,39 @@ fn run<S: Source, T: Sink, L: Ledger>(
     }
 }
 
-/// Does the job that the words select, over a source and a sink, and returns its status: 0 done, all expectations
+// Does what is requested.
+fn answer<S: Source, T: Sink, L: Ledger>(
+    alloc: Global,
+    request: Request,
+    input: &mut S,
+    out: &mut T,
+    steps: &mut Steps<L>,
+) -> Status
+    ensures { MellabSays result (Some request) (outside S.Source T.Sink input.old input.new out.old out.new) }
+{
+    match request {
+        Request::Do(job) => run(alloc, job, input, out, steps),
+        Request::Describe(about) => describe(about, out),
+    }
+}
+
+// Does what the words select, or writes the usage line.
+fn run_words<S: Source, T: Sink, L: Ledger>(
+    alloc: Global,
+    words: &[String],
+    input: &mut S,
+    out: &mut T,
+    steps: &mut Steps<L>,
+) -> Status
+    ensures { MellabSays result (request_of words.now) (outside S.Source T.Sink input.old input.new out.old out.new) }
+{
+    let Some(request) = request_of(words) else {
+        return ended(Status::NoForm, put_all(out, USAGE));
+    };
+    answer(alloc, request, input, out, steps)
+}
+
+/// Does what the words select, a job over a source and a sink, and returns its status: 0 done, all expectations
 /// hold, each line that must be whole is, no rule is broken or all rules are proved, 1 an expectation failed, a line is
 /// not whole, a rule is broken or not proved, or the input is refused, 2 the words select no job, 3 a fault of the
 /// source, 4 a fault of the sink, 5 out of memory, in which case nothing was written, but for the first bytes of the
@@ -165,12 +199,9 @@ pub fn mellab<S: Source, T: Sink, L: Ledger>(
     steps: &mut Steps<L>,
 ) -> u8
     ensures says { (s : Status) × (result ≡ number_of s)
-        × MellabSays s (job_of words.now) (outside S.Source T.Sink input.old input.new out.old out.new) }
-    ensures complete { (s : Status) → result ≡ number_of s → IfSome (job_of words.now)
-        (λ job. MellabCompletes s job (outside S.Source T.Sink input.old input.new out.old out.new)) }
+        × MellabSays s (request_of words.now) (outside S.Source T.Sink input.old input.new out.old out.new) }
+    ensures complete { (s : Status) → result ≡ number_of s → IfSome (request_of words.now)
+        (λ r. MellabCompletes s r (outside S.Source T.Sink input.old input.new out.old out.new)) }
 {
-    let Some(job) = job_of(words) else {
-        return number(ended(Status::NoForm, put_all(out, USAGE)));
-    };
-    number(run(alloc, job, input, out, steps))
+    number(run_words(alloc, words, input, out, steps))
 }

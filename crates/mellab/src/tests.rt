@@ -200,6 +200,14 @@ const BROKEN: &[u8] =
 
 const KEPT: &[u8] = b"depth 1 states 3\nexplored states 4 tries 19 depth 1\n";
 
+// The text of the second, if a fourth state is one too many.
+const FULL: &[u8] = b"explored states 3 tries 13 depth 1\n";
+
+// The words of an exploration one move deep with the most states.
+fn bounded(alloc: Global, most: &str) -> Result<Vec<String>, AllocError> {
+    words(alloc, &["explore", "1", "--states", most])
+}
+
 // Explorations: a rule that is broken, and up to a fault of the sink; one that ends at its depth; a source that
 // fails, and rules and a deck that are refused.
 #[test]
@@ -215,6 +223,12 @@ fn explored(rt: HostRuntime) -> Result<(), Fail> {
         assert!(rt; end.is(4, &BROKEN[..room]), "at {room}");
     }
     let end = ended(alloc, words, RULED, 400, &[])?;
+    assert!(rt; end.is(6, KEPT));
+    let few = bounded(alloc, "3")?;
+    let end = ended(alloc, few.as_slice(), RULED, 400, &[])?;
+    assert!(rt; end.is(6, FULL));
+    let enough = bounded(alloc, "4")?;
+    let end = ended(alloc, enough.as_slice(), RULED, 400, &[])?;
     assert!(rt; end.is(6, KEPT));
     let end = ended(alloc, words, RULED, 400, &[1])?;
     assert!(rt; end.is(3, b""));
@@ -353,7 +367,32 @@ fn proved(rt: HostRuntime) -> Result<(), Fail> {
     Ok(())
 }
 
-// Words that select no job: the usage line is written, and the source is unchanged.
+// What the program says of itself: the source is unchanged, and a fault of the sink is status 4.
+#[test]
+fn described(rt: HostRuntime) -> Result<(), Fail> {
+    let alloc = rt.alloc();
+    let help = words(alloc, &["--help"])?;
+    let end = ended(alloc, help.as_slice(), FAILING, 2000, &[])?;
+    assert!(rt;
+        end.status == 0
+            && end.left == FAILING.len()
+            && end.text.as_slice().starts_with(
+                b"usage: mellab expect | sweep | explore N | prove\n\nmellab reads a deck"
+            )
+            && end
+                .text
+                .as_slice()
+                .ends_with(b"\nThe page is docs/LABORATORY.md.\n")
+    );
+    let end = ended(alloc, help.as_slice(), FAILING, 10, &[])?;
+    assert!(rt; end.is(4, b"usage: mel"));
+    let version = words(alloc, &["--version"])?;
+    let end = ended(alloc, version.as_slice(), FAILING, 10, &[])?;
+    assert!(rt; end.is(0, b"mellab 3\n") && end.left == FAILING.len());
+    Ok(())
+}
+
+// Words that select nothing: the usage line is written, and the source is unchanged.
 #[test]
 fn usage(rt: HostRuntime) -> Result<(), Fail> {
     let alloc = rt.alloc();
@@ -361,11 +400,24 @@ fn usage(rt: HostRuntime) -> Result<(), Fail> {
         &[] as &[&str],
         &["expect", "sweep"],
         &["play"],
-        &["--help"],
+        &["--help", "expect"],
+        &["--version", "--help"],
+        &["-h"],
         &["explore"],
         &["explore", "0"],
         &["explore", "1234567"],
         &["explore", "1", "2"],
+        &["explore", "1", "--states"],
+        &["explore", "1", "--states", "0"],
+        &["explore", "1", "--states", "123456789"],
+        &["explore", "1", "--depth", "3"],
+        &["explore", "0", "--states", "3"],
+        &["prove", "1", "--states", "3"],
+        &["explore", "1", "--states", "-3"],
+        &["explore", "1", "--states", ""],
+        &["explore", "--states", "3", "1"],
+        &["explore", "1", "--states", "3", "3"],
+        &["explore", "1", "--states", "3", "--states", "3"],
     ] {
         let words = words(alloc, texts)?;
         let end = ended(alloc, words.as_slice(), FAILING, 58, &[])?;

@@ -1,5 +1,5 @@
 -- The program: the deck that its words select, and the session on its own device.
-use Rattle.std.specs.Prelude.{◌≡◌, ◌⊎◌, ℕ, List, [], ◌∷◌, Option, Some, None, Result, Ok, Err, string_bytes}
+use Rattle.std.specs.Prelude.{◌≡◌, ◌⊎◌, ℕ, List, [], ◌∷◌, ◌++◌, bytes_eq, codes, cond, Option, Some, None, Result, Ok, Err, string_bytes}
 use Rattle.std.specs.declared.alloc.Global.{Global}
 use Rattle.std.specs.declared.string.String.{String}
 use Rattle.std.specs.Global.{Vec}
@@ -12,25 +12,47 @@ use Rattle.mc_text.specs.Texts.{sunk, Puts}
 use Rattle.mc_nvm.specs.Sim.{blank_sim, Sim}
 use Rattle.mc_filter.specs.Inputs.{stream, Stream}
 use Rattle.mc_filter.specs.Programs.{sim_members}
-use Rattle.mc_filter.specs.Statuses.{IsNumberOf}
+use Rattle.mc_filter.specs.Statuses.{IsNumberOf, IsWritten}
 use Rattle.mc_filter.specs.declared.status.Status.{Status}
-use Rattle.mc_filter.specs.declared.status.Status.TheVariants.{NoForm, NoMemory}
+use Rattle.mc_filter.specs.declared.status.Status.TheVariants.{Done, NoForm, NoMemory}
 use Rattle.melreader.specs.Sessions.{outside, unopened, usage, AreKept, MelreaderSays}
 
 -- ---- words
 
 -- what the words of a command line select: nothing, because memory was out before they were read; a blank card; a
--- card on which the deck of a path was played; or no card
+-- card on which the deck of a path was played; what the program says of itself; or no card
 pub data Selection : Type 0 where
   OutOfMemory : Selection
   BlankCard : Selection
   DeckOf : (path : List ℕ) → Selection
+  Describes : (text : List ℕ) → Selection
   NoCard : Selection
 
--- the selection of words that are text: none of them select a blank card, and one is the path of a deck
+-- the version
+abbrev pub version : List ℕ
+version = codes "melreader 3\n"
+
+-- what the program reads and writes, an example, and its page
+abbrev pub help : List ℕ
+help =
+    codes "usage: melreader [DECK]\n\nmelreader is a card in a reader: it reads the frames of a host from standard input and writes its answers to standard output.\n" ++
+    codes "A frame is a length of two bytes, big endian, and that number of bytes, as the virtual reader vpcd has them. The deck of the path DECK is\n" ++
+    codes "played first; without it the card is blank. What refuses a deck is written to standard error.\n\n" ++
+    codes "Example: tools/vpcd.py purse.deck, which runs it behind pcscd\nThe page is docs/READER.md.\n"
+
+-- what the program says of itself if a word asks for it
+abbrev pub about_named : List ℕ → Option (List ℕ)
+about_named w = cond (bytes_eq w (codes "--help")) (Some help) (cond (bytes_eq w (codes "--version")) (Some version) None)
+
+-- the selection of one word, by what it asks the program to say of itself: any other is the path of a deck
+abbrev pub selection_by : List ℕ → Option (List ℕ) → Selection
+selection_by w (Some text) = Describes text
+selection_by w None = DeckOf w
+
+-- the selection of words that are text: none of them select a blank card
 abbrev pub selection_of : List (String Global) → Selection
 selection_of [] = BlankCard
-selection_of (w ∷ []) = DeckOf (string_bytes w)
+selection_of (w ∷ []) = selection_by (string_bytes w) (about_named (string_bytes w))
 selection_of (w ∷ x ∷ ws) = NoCard
 
 -- the selection of a command line; words that are no text select no card
@@ -44,6 +66,7 @@ abbrev pub selected_path : Selection → Option (List ℕ)
 selected_path OutOfMemory = None
 selected_path BlankCard = None
 selected_path (DeckOf path) = Some path
+selected_path (Describes text) = None
 selected_path NoCard = None
 
 -- ---- statuses
@@ -77,6 +100,12 @@ module _ {S T E : Type 0} (s : source.Ghosts S) (t : sink.Ghosts T) (e : sink.Gh
     pub result : Result (Unit {0}) Fault
     pub written : Puts (sunk e x.err_old) text result (sunk e x.err_new)
 
+  -- a text was written, whole or up to a fault, and nothing was read
+  pub record IsDescribed (text : List ℕ) (x : Streams) (status : Status) : Type 0 where
+    pub input : x.in_new ≡ x.in_old
+    pub err : x.err_new ≡ x.err_old
+    pub written : IsWritten Done text status (sunk t x.out_old) (sunk t x.out_new)
+
   -- a session after the deck of a source, if there is one, on a blank device of 8,192 words
   pub record IsOnBlank (deck_old deck : Option Stream) (x : Streams) (status : Status) : Type 0 where
     pub dev_old : Sim
@@ -100,4 +129,5 @@ module _ {S T E : Type 0} (s : source.Ghosts S) (t : sink.Ghosts T) (e : sink.Gh
     ProgramSays file OutOfMemory x n = IsNumberOf (IsShort x) n
     ProgramSays file BlankCard x n = IsNumberOf (SessionSays None None x) n
     ProgramSays file (DeckOf path) x n = PathSays path file x n
+    ProgramSays file (Describes text) x n = IsNumberOf (IsDescribed text x) n
     ProgramSays file NoCard x n = IsNumberOf (IsRefused usage x) n

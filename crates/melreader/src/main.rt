@@ -2,6 +2,7 @@
 
 //! A card in a reader, over the standard streams.
 
+mod about;
 mod deck;
 mod lines;
 mod running;

@@ -1,10 +1,12 @@
-// The program: its words select a deck, which is played on a blank device before the frames of a host are served.
+// The program: its words select a deck, which is played on a blank device before the frames of a host are served, or what
+// it says of itself.
 ghost use Rattle.std.specs.Prelude.{◌≡◌, ◌<◌, option_map, None, Some};
 ghost use Rattle.mc_filter.specs.Statuses.{IsNumberOf};
 ghost use Rattle.mc_filter.specs.Inputs.{stream};
-ghost use Rattle.melreader.specs.Program.{selected_path, selection, selection_of, IsRefused, PathSays, ProgramSays, SessionSays};
+ghost use Rattle.melreader.specs.Program.{about_named, selected_path, selection, selection_by, selection_of, IsRefused, PathSays, ProgramSays, SessionSays};
 ghost use Rattle.melreader.specs.Sessions.{unopened, usage};
 
+use crate::about::{about_of, describe};
 use crate::lines::put_unopened;
 use crate::running::melreader;
 use mc_base::{NoMemory, Steps};
@@ -127,6 +129,31 @@ fn after_deck<D: Source + Drop, S: Source, T: Sink, E: Sink, L: Ledger>(
     }
 }
 
+// Runs the session that one word selects, or writes what the program says of itself.
+fn by_word<D: Source + Drop, S: Source, T: Sink, E: Sink, L: Ledger>(
+    alloc: Global,
+    word: &str,
+    file: Option<D>,
+    input: &mut S,
+    out: &mut T,
+    err: &mut E,
+    steps: &mut Steps<L>,
+) -> u8
+    ensures { ProgramSays S.Source T.Sink E.Sink D.Source file (selection_by word.now (about_named word.now)) (record {
+      in_old = input.old;
+      in_new = input.new;
+      out_old = out.old;
+      out_new = out.new;
+      err_old = err.old;
+      err_new = err.new;
+    }) result }
+{
+    match about_of(word) {
+        Some(text) => describe(text, input, out, err),
+        None => after_deck(alloc, word, file, input, out, err, steps),
+    }
+}
+
 // Runs the session that words of text select.
 fn by_words<D: Source + Drop, S: Source, T: Sink, E: Sink, L: Ledger>(
     alloc: Global,
@@ -148,8 +175,18 @@ fn by_words<D: Source + Drop, S: Source, T: Sink, E: Sink, L: Ledger>(
 {
     match words {
         [] => blank_card(alloc, input, out, err, steps),
-        [path] => after_deck(alloc, path.as_str(), file, input, out, err, steps),
+        [word] => by_word(alloc, word.as_str(), file, input, out, err, steps),
         _ => usage(input, out, err),
+    }
+}
+
+// The path of the deck that one word selects.
+fn path_of(word: &str) -> Option<&str>
+    ensures { option_map (λ path. path.now) result ≡ selected_path (selection_by word.now (about_named word.now)) }
+{
+    match about_of(word) {
+        Some(_) => None,
+        None => Some(word),
     }
 }
 
@@ -161,13 +198,14 @@ pub fn deck_path(words: &Result<Option<Vec<String>>, NoMemory>) -> Option<&str>
         return None;
     };
     match words.as_slice() {
-        [path] => Some(path.as_str()),
+        [word] => path_of(word.as_str()),
         _ => None,
     }
 }
 
 /// Runs the program: a session on a blank device of 8,192 words, after the deck of `file` if the words select a deck,
-/// whose path ([`deck_path`]) was opened there. Its status is that of the session; 2 if the path could not be opened,
+/// whose path ([`deck_path`]) was opened there; or writes what the program says of itself, which is all that the word
+/// `--help` or `--version` selects. Its status is that of the session, or 0 or 4 after such a text; 2 if the path could not be opened,
 /// which is written to `err`, or if the words are more or are no text, and then the usage line is; and 5 if it was out
 /// of memory for the words or the device, and then nothing is written.
 pub fn program<D: Source + Drop, S: Source, T: Sink, E: Sink, L: Ledger>(

@@ -205,6 +205,17 @@ fn end_by(alloc: Global, texts: &[&str], err_room: usize) -> Result<End, NoMemor
     end_of::<Brand>(alloc, Some(words), err_room, Blank::new(1))
 }
 
+// What the program says of itself, at a sink with the room of the answers to frames.
+#[test]
+fn described(rt: HostRuntime) -> Result<(), Fail> {
+    let alloc = rt.alloc();
+    assert!(rt; end_by(alloc, &["--version"], 0)?.is(0, b"melreader 3\n", b""));
+    assert!(rt; end_by(alloc, &["--help"], 0)?.is(4, b"usage: melreader [", b""));
+    let usage = b"usage: melreader [DECK]\n";
+    assert!(rt; end_by(alloc, &["--help", "card.deck"], 60)?.is(2, b"", usage));
+    Ok(())
+}
+
 // The deck of the path that is given, a path that cannot be opened, no word, two words, and words that are no text.
 #[test]
 fn selections(rt: HostRuntime) -> Result<(), Fail> {
