@@ -178,7 +178,7 @@ top_is f public n z over =
 
 -- ---- the frame that stands for a place
 
-stack_length : (floor top lb : ℕ) (dyn : List ℕ) (calls : List Call) → dynamic_base ≤ floor → top ≤ dynamic_end → AreOpen floor top lb dyn calls → length (stand_in_stack calls) ≡ 512
+pub stack_length : (floor top lb : ℕ) (dyn : List ℕ) (calls : List Call) → dynamic_base ≤ floor → top ≤ dynamic_end → AreOpen floor top lb dyn calls → length (stand_in_stack calls) ≡ 512
 stack_length floor top lb dyn [] low high o = length-replicate {A = ℕ} 512 0
 stack_length floor top lb dyn (c ∷ cs) low high o =
     let under : c.dt ≤ top = o.0 in

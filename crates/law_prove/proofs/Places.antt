@@ -89,7 +89,7 @@ holds_both (e ∷ f) g m x y = (x.0, holds_both f g m x.1 y)
 -- ---- ends
 
 -- an answer leaves what its lines do
-answer_stands : (s : Setting) (h : History) (bytes : List ℕ) (outcome : Outcome) (class : List Bool) (x : Standing) (b : Amounts) → class ≡ class_of bytes s.rules.ons → standing_after s.rules h ≡ Ok x
+pub answer_stands : (s : Setting) (h : History) (bytes : List ℕ) (outcome : Outcome) (class : List Bool) (x : Standing) (b : Amounts) → class ≡ class_of bytes s.rules.ons → standing_after s.rules h ≡ Ok x
     → after_answer s class (map (λ q. fits q (outcome_text outcome)) (result_patterns s.rules.ons)) x.allowances ≡ Ok b → standing_after s.rules (Answers bytes outcome ∷ h) ≡ Ok (record x { allowances = b })
 answer_stands s h bytes outcome class x b same is e =
     let results = map (λ q. fits q (outcome_text outcome)) (result_patterns s.rules.ons) in
@@ -108,7 +108,7 @@ key_of s t e h f public p = record { at = f.at; start = p.start; allowances = p.
 
 module _ (s : Setting) (t : Tables) (g : Target) (loadable : IsLoadable s.app) (closed : is_closed s t ≡ true) where
   -- the session bytes of a frame are those of the moment after its command
-  session_same : (f : Frame) (public : List ℕ) (a : ℕ) → IsFrameOf s.app f → dynamic_base ≤ a → a < dynamic_base + s.app.session → frame_memory f public a ≡ moment_memory f.fixed (session_of f) a
+  pub session_same : (f : Frame) (public : List ℕ) (a : ℕ) → IsFrameOf s.app f → dynamic_base ≤ a → a < dynamic_base + s.app.session → frame_memory f public a ≡ moment_memory f.fixed (session_of f) a
   session_same f public a fits low high =
       let size : length f.fixed ≡ length s.app.fixed = fits.size in
       let static : length s.app.fixed ≤ dynamic_base = loadable.static in

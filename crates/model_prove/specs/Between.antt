@@ -130,13 +130,17 @@ static_facts s f = within 0 (static_size s) f
 abbrev pub with_zero_session : Setting → Facts → Facts
 with_zero_session s f = know_bytes dynamic_base (zeros s.app.session) (static_facts s f)
 
+-- the facts of the static and session bytes alone: between commands nothing else is kept
+abbrev pub own_facts : Setting → Facts → Facts
+own_facts s f = static_facts s f ++ within dynamic_base (dynamic_base + s.app.session) f
+
 -- a place from which nothing waits and nothing was compared
 abbrev pub begun : Setting → Start → Amounts → Facts → Arrival
 begun s start a f = AtPlace (first_place s start a) (record { bytes = f; kept = static_facts s f; compare = NoCompare })
 
 -- a command of a class, after its event
 abbrev pub commanded : Setting → Amounts → Facts → Class → List Arrival
-commanded s a f c = arrive None (after_command s c.matches a) (λ b. begun s (OfClass c.matches) b (public_facts c.sets f) ∷ [])
+commanded s a f c = arrive None (after_command s c.matches a) (λ b. begun s (OfClass c.matches) b (public_facts c.sets (own_facts s f)) ∷ [])
 
 -- a selection: a session begins with zero session bytes
 abbrev pub selected : Setting → Amounts → Facts → List Arrival

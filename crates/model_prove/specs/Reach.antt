@@ -137,11 +137,12 @@ known_causes bad_length cs = filter (λ c. is_known_cause bad_length c.0) cs
 
 -- ---- jumps to an address from the stack
 
--- the greatest value of a set
+-- the greatest value of a set, in whatever order a table has them
 abbrev pub greatest_value : Set → ℕ
 greatest_value [] = 0
-greatest_value (v ∷ []) = v
-greatest_value (v ∷ w ∷ vs) = greatest_value (w ∷ vs)
+greatest_value (v ∷ vs) =
+    let rest = greatest_value vs in
+    cond (nat_lt rest v) v rest
 
 -- the choice of the two bytes at a place that are this address
 abbrev pub address_choice : ℕ → ℕ → List (ℕ × ℕ)

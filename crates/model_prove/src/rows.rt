@@ -1,7 +1,9 @@
 #![tactic(auto, unfolding(crate::specs::Computed::proof_of, crate::specs::Computed::closed_after))]
 
 // Worked rows: the whole texts of small proofs.
-ghost use Rattle.std.specs.Prelude.{◌≡◌, ◌++◌, codes, true, false, Ok};
+ghost use Rattle.std.specs.Prelude.{◌≡◌, [], ◌∷◌, ◌++◌, codes, true, false, Ok};
+ghost use Rattle.model_rules.specs.Rules.{no_app_rules};
+ghost use Rattle.model_prove.specs.Between.{commanded};
 ghost use Rattle.model_prove.specs.Computed.{closed_after, proof_of, deck_of, counter_deck, counter_text};
 
 /// An application that does nothing: a moment without a session and one in it, and the first place of a frame that a
@@ -37,7 +39,8 @@ pub fn a_counter_falls()
 
 /// A return closes the newest call alone: after a call in a call the first one is still open.
 pub fn a_call_in_a_call()
-    ensures { proof_of 60 (deck_of (codes "CALL ALL,first\nEXIT\nfirst: CALL ALL,second\nRET\nsecond: RET\n") (codes "0 0")
+    ensures { proof_of 60
+        (deck_of (codes "CALL ALL,first\nEXIT\nfirst: CALL ALL,second\nRET\nsecond: RET\n") (codes "0 0")
         (codes ""))
         ≡ Ok (codes "idle:\nsession:\nproved keys 12\n") }
 {}
@@ -58,4 +61,22 @@ pub fn closing()
 /// A counter that answers 9000 only where it has counted, and counts at most once for each command.
 pub fn counter()
     ensures { proof_of 800 counter_deck ≡ Ok counter_text }
+{}
+
+/// Of a moment only facts of static and session bytes go into a command: those of other bytes, which no outcome has but
+/// tables may, are left out.
+pub fn moments_know_own_bytes()
+    ensures { commanded
+        (record {
+          rules = no_app_rules;
+          app = record { code = []; fixed = 7 ∷ []; session = 1; deny = 0; dir = []; fci = []; place = 0 };
+        })
+        [] ((0, 7 ∷ []) ∷ (2, 5 ∷ []) ∷ (0x8000, 3 ∷ []) ∷ (0x8001, 1 ∷ []) ∷ (0xC000, 0 ∷ []) ∷ [])
+        (record { matches = []; sets = [] })
+        ≡ commanded
+        (record {
+          rules = no_app_rules;
+          app = record { code = []; fixed = 7 ∷ []; session = 1; deny = 0; dir = []; fci = []; place = 0 };
+        })
+        [] ((0, 7 ∷ []) ∷ (0x8000, 3 ∷ []) ∷ []) (record { matches = []; sets = [] }) }
 {}

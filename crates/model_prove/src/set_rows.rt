@@ -1,8 +1,11 @@
-// Worked rows: sets, digits, rounding, classes of commands.
+// Worked rows: sets, digits, rounding, patterns that are followed, classes of commands.
 ghost use Rattle.std.specs.Prelude.{◌≡◌, [], ◌∷◌, codes, length, true, false, Some, None};
 ghost use Rattle.model_prove.specs.Sets.{union, common, numbers_from};
 ghost use Rattle.model_prove.specs.Digits.{Minus, Plus, arcs, digits_to};
+ghost use Rattle.law_explore.specs.Matching.{plain};
+ghost use Rattle.model_prove.specs.Texts.{opened, after_text, is_match};
 ghost use Rattle.model_prove.specs.Between.{rounded, headers, classes_of};
+ghost use Rattle.model_prove.specs.Reach.{target_choices};
 
 /// Unions and intersections are ascending.
 pub fn sets()
@@ -45,4 +48,31 @@ pub fn command_classes()
     ensures two { length (classes_of (headers (codes "8020*" ∷ []))) ≡ 2 }
     ensures one { length (classes_of (headers (codes "*" ∷ []))) ≡ 1 }
     ensures length_tells { length (classes_of (headers (codes "????????*00" ∷ []))) ≡ 2 }
+{}
+
+/// A pattern that is followed through a text: `?` is one character, `*` any characters or none, every other one itself,
+/// a bracket too; letters are in either case, blanks are nothing, and an empty pattern matches nothing.
+pub fn followed_patterns()
+    ensures star { is_match (after_text (plain (codes "80200001")) (opened (codes "8020*"))) ≡ true }
+    ensures none { is_match (after_text (plain (codes "8020")) (opened (codes "8020*"))) ≡ true }
+    ensures other { is_match (after_text (plain (codes "8021")) (opened (codes "8020*"))) ≡ false }
+    ensures one { is_match (after_text (plain (codes "8020")) (opened (codes "802?"))) ≡ true }
+    ensures too_few { is_match (after_text (plain (codes "802")) (opened (codes "802?"))) ≡ false }
+    ensures too_many { is_match (after_text (plain (codes "80200")) (opened (codes "802?"))) ≡ false }
+    ensures between { is_match (after_text (plain (codes "8020020102")) (opened (codes "8020*02"))) ≡ true }
+    ensures once { is_match (after_text (plain (codes "802002")) (opened (codes "8020*02*02"))) ≡ false }
+    ensures stars { is_match (after_text (plain (codes "80009000")) (opened (codes "**9000"))) ≡ true }
+    ensures letters { is_match (after_text (plain (codes "FB0A")) (opened (codes "fb 0?"))) ≡ true }
+    ensures bracket { is_match (after_text (plain (codes "8020")) (opened (codes "80[2]0"))) ≡ false }
+    ensures itself { is_match (after_text (plain (codes "SB[3],2")) (opened (codes "sb[3]*"))) ≡ true }
+    ensures empty { is_match (after_text [] (opened [])) ≡ false }
+{}
+
+/// A jump to an address from the stack is followed to each place of the code that two sets allow, and once to a place
+/// that is not in the code, if they allow one; the order of a set does not matter.
+pub fn targets()
+    ensures inside { target_choices ((0, 0 ∷ []) ∷ (1, 3 ∷ 5 ∷ []) ∷ []) 0 10
+        ≡ ((0, 0) ∷ (1, 3) ∷ []) ∷ ((0, 0) ∷ (1, 5) ∷ []) ∷ [] }
+    ensures outside { target_choices ((0, 0 ∷ []) ∷ (1, 20 ∷ 3 ∷ []) ∷ []) 0 10
+        ≡ ((0, 0) ∷ (1, 3) ∷ []) ∷ ((0, 0) ∷ (1, 20) ∷ []) ∷ [] }
 {}
