@@ -116,12 +116,12 @@ exited_reading (suc n) ch j e exits goes = fetch_exited ch (instruction_at (code
 -- ---- else
 
 -- an instruction that is no exit does not exit, and one that delegates leaves the public bytes
-abbrev OnCall : Then → Type 0 → Type 0
+abbrev pub OnCall : Then → Type 0 → Type 0
 OnCall Goes P = ⊤
 OnCall Exits P = ⊥
 OnCall (Delegates n) P = P
 
-abbrev StaysIn : List ℕ → Done → Type 0
+abbrev pub StaysIn : List ℕ → Done → Type 0
 StaysIn public d = OnCall d.next (d.effect.public ≡ public)
 
 delegator_stays : (f : Frame) (public : List ℕ) (o : Option (List ℕ)) → StaysIn public (meaning (delegator_shape f o) f public)
@@ -147,7 +147,7 @@ shape_stays (ins.Exitswla sw la) f public x h = absurd (cc h)
 shape_stays (ins.Prim set number args) f public x h = pair_stays (primitive set number) args f public x
 shape_stays _ f public x h = tt
 
-row_stays : (i : Ins) (f : Frame) (public : List ℕ) (x : Around) → is_exit_of i ≡ false → OnDone (row i f public x) (λ d. StaysIn public d)
+pub row_stays : (i : Ins) (f : Frame) (public : List ℕ) (x : Around) → is_exit_of i ≡ false → OnDone (row i f public x) (λ d. StaysIn public d)
 unfolding row
 row_stays i f public x h =
     on_done (λ d. StaysIn public d) (first_cause (causes i f public x)) (effect i f public x)
@@ -178,15 +178,15 @@ shown_same c name r s dt t e = sym e ∙ sym (ap (λ (b : Bool). cond b (reading
 shown_other : (c : Chain) (name : List ℕ) (r s : Reading) (dt : ℕ) → bytes_eq c.frame.name name ≡ false → s ≡ record r { dynamic = take (dt - dynamic_base) r.dynamic } → s ≡ shown_reading (Continues c) name r dt
 shown_other c name r s dt t e = e ∙ sym (ap (λ (b : Bool). cond b (reading_of c.frame c.public) (record r { dynamic = take (dt - dynamic_base) r.dynamic })) t)
 
-or_first : (b c : Bool) → (b || c) ≡ false → b ≡ false
+pub or_first : (b c : Bool) → (b || c) ≡ false → b ≡ false
 or_first true c e = absurd (cc e)
 or_first false c e = refl
 
-first_other : (n : List ℕ) (f : Frame) (fs : List Frame) → is_active n f fs ≡ false → bytes_eq f.name n ≡ false
+pub first_other : (n : List ℕ) (f : Frame) (fs : List Frame) → is_active n f fs ≡ false → bytes_eq f.name n ≡ false
 first_other n f [] h = h
 first_other n f (g ∷ gs) h = or_first (bytes_eq f.name n) (is_active n g gs) h
 
-same_name : (f g : Frame) → g.name ≡ f.name → bytes_eq g.name f.name ≡ true
+pub same_name : (f g : Frame) → g.name ≡ f.name → bytes_eq g.name f.name ≡ true
 same_name f g e = ap (λ (n : List ℕ). bytes_eq n f.name) e ∙ name_is_itself f.name
 
 -- what is shown after a row that is done

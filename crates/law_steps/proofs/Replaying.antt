@@ -52,8 +52,8 @@ covered a k old new b low high is =
     ap (λ (o : Option ℕ). unwrap_or o b) here ∙ ap (λ (y : ℕ). unwrap_or (cond (get_or new (k - a) 0 == get_or old (k - a) 0) None (Some (get_or new (k - a) 0))) y) is
     ∙ same_or (get_or new (k - a) 0) (get_or old (k - a) 0) (get_or new (k - a) 0 == get_or old (k - a) 0) refl
 
--- an address of a segment, which has as many bytes as before
-covered_all : (a k : ℕ) (old new : List ℕ) (b : ℕ) → a ≤ k → length new ≡ length old → b ≡ get_or old (k - a) 0 → unwrap_or (covering_byte (changes a old new) k) b ≡ get_or new (k - a) 0
+-- an address of a segment, which has no fewer bytes than before
+covered_all : (a k : ℕ) (old new : List ℕ) (b : ℕ) → a ≤ k → length old ≤ length new → b ≡ get_or old (k - a) 0 → unwrap_or (covering_byte (changes a old new) k) b ≡ get_or new (k - a) 0
 covered_all a k old new b low size is = by (nat_lt k (a + length new)) refl
   where
     by : (t : Bool) → nat_lt k (a + length new) ≡ t → unwrap_or (covering_byte (changes a old new) k) b ≡ get_or new (k - a) 0
@@ -99,12 +99,12 @@ itself n = grind (arith, nat_tests)
 -- bytes of a frame with runs over them
 module _ (old new : Reading) (bytes : ℕ → ℕ) where
   static_held : (a : ℕ) → a < dynamic_base → (length new.fixed ≡ length old.fixed) → bytes a ≡ get_or old.fixed a 0 → bytes_with (sets_between old new) bytes a ≡ get_or new.fixed a 0
-  static_held a h size is = ap (λ (o : Option ℕ). unwrap_or o (bytes a)) (static_part old new a h) ∙ covered_all 0 a old.fixed new.fixed (bytes a) (omega arith) size (is ∙ ap (λ (k : ℕ). get_or old.fixed k 0) (sym (less_none a))) ∙ ap (λ (k : ℕ). get_or new.fixed k 0) (less_none a)
+  static_held a h size is = ap (λ (o : Option ℕ). unwrap_or o (bytes a)) (static_part old new a h) ∙ covered_all 0 a old.fixed new.fixed (bytes a) (omega arith) (omega (arith, size)) (is ∙ ap (λ (k : ℕ). get_or old.fixed k 0) (sym (less_none a))) ∙ ap (λ (k : ℕ). get_or new.fixed k 0) (less_none a)
 
   dynamic_held : (a : ℕ) → dynamic_base ≤ a → length new.fixed ≤ dynamic_base → a < dynamic_base + length new.dynamic → a < public_base → bytes a ≡ get_or old.dynamic (a - dynamic_base) 0 → bytes_with (sets_between old new) bytes a ≡ get_or new.dynamic (a - dynamic_base) 0
   dynamic_held a low few high top is = ap (λ (o : Option ℕ). unwrap_or o (bytes a)) (dynamic_part old new a (omega (arith, low, few)) top) ∙ covered dynamic_base a old.dynamic new.dynamic (bytes a) low high is
 
-  public_held : (a : ℕ) → public_base ≤ a → length new.fixed ≤ dynamic_base → dynamic_base + length new.dynamic ≤ public_base → length new.public ≡ length old.public → bytes a ≡ get_or old.public (a - public_base) 0 → bytes_with (sets_between old new) bytes a ≡ get_or new.public (a - public_base) 0
+  public_held : (a : ℕ) → public_base ≤ a → length new.fixed ≤ dynamic_base → dynamic_base + length new.dynamic ≤ public_base → length old.public ≤ length new.public → bytes a ≡ get_or old.public (a - public_base) 0 → bytes_with (sets_between old new) bytes a ≡ get_or new.public (a - public_base) 0
   public_held a low few high size is = ap (λ (o : Option ℕ). unwrap_or o (bytes a)) (public_part old new a (omega (arith, low, few)) (omega (arith, low, high))) ∙ covered_all public_base a old.public new.public (bytes a) low size is
 
 -- the bytes of the frame that ran a turn

@@ -1,9 +1,17 @@
 -- The laws of the lines of a play, as its functions promise them.
-use Rattle.std.specs.Prelude.{◌≡◌, ◌≢◌, ⊤, ℕ, ◌+◌, ◌<◌, ◌≤◌, true, false, cond, ◌==◌, List, [], ◌∷◌, length, get_or, Some, None}
+use Rattle.std.specs.Prelude.{◌≡◌, ◌≢◌, ⊤, ℕ, ◌+◌, ◌<◌, ◌≤◌, true, false, cond, ◌==◌, List, [], ◌∷◌, length, get_or, Option, Some, None}
+use Rattle.model_device.specs.Bytes.{lookup}
+use Rattle.model_device.specs.Card.{App}
+use Rattle.model_device.specs.Limits.{most_session}
 use Rattle.model_device.specs.Pieces.{covering_byte}
+use Rattle.model_machine.specs.Apdu.{ApduParts}
 use Rattle.model_machine.specs.declared.instruction.Ins.{Ins}
 use Rattle.model_machine.specs.declared.machine.Abend.{Abend}
-use Rattle.model_machine.specs.Chain.{Chain, Abended, turn_of}
+use Rattle.model_machine.specs.Chain.{Chain, Abended, turn_of, start as first_chain}
+use Rattle.model_play.specs.DeckGrammar.{DeckLine}
+use Rattle.model_play.specs.Play.{FailedWrite, plays, start}
+use Rattle.law_machine.specs.Limited.{AreLimited, session_in}
+use Rattle.law_family.specs.Begins.{OnEachRun}
 use Rattle.desk_json.specs.Json.{changes}
 use Rattle.law_steps.specs.Readings.{last_reading, reading_after, reading_of}
 use Rattle.law_steps.specs.Shown.{EndsFrame, exit_public, is_exit_of, shown_reading}
@@ -28,6 +36,24 @@ LongestRunsLaw = (a : ℕ) (old new : List ℕ) → AreApart a (changes a old ne
 -- the last one.
 abbrev pub ReplayLaw : Type 0
 ReplayLaw = (n : ℕ) (ch : Chain) → ch.below ≡ [] → FitsAlong n ch → HoldsAlong (memory_after no_memory (frame_line ch)) n ch
+
+-- each application has at most the most session bytes
+abbrev pub HaveFewSessionBytes : List (List ℕ × App) → Type 0
+HaveFewSessionBytes map = (name : List ℕ) (a : App) → lookup map name ≡ Some a → a.session ≤ most_session
+
+-- The run of a command to an application has these sizes, if each application is within its limits and the command begins
+-- with as many session bytes as its application has.
+abbrev pub SizesLaw : Type 0
+SizesLaw =
+    (map : List (List ℕ × App)) (first session : List ℕ) (apdu : ApduParts) (budget : ℕ)
+    → AreLimited map → HaveFewSessionBytes map → length session ≡ session_in (lookup map first) → FitsAlong budget (first_chain map first session apdu)
+
+-- From the lines of a command of a play alone, each byte of each frame, and each public byte, is known before each turn and
+-- after the last one: for every deck, image and list of failed writes.
+abbrev pub PlaysReplayLaw : Type 0
+PlaysReplayLaw =
+    (ls : List (ℕ × DeckLine)) (m : List (List ℕ)) (ws : List (Option FailedWrite))
+    → OnEachRun (λ n ch. HoldsAlong (memory_after no_memory (frame_line ch)) n ch) (plays (start m) ls ws)
 
 -- What the frame that ran a turn reads after it is found in what the turn and the chain after it show: after an abend
 -- what it read, without what waited; after an exit the same with the public bytes of the exit; and else what the running

@@ -1,4 +1,5 @@
 pub mod Readings
 pub mod Shown
+pub mod Registers
 pub mod Replays
 pub mod Laws

@@ -98,13 +98,13 @@ pub record HoldsLast (m : Memory) (depth : ℕ) (r : Reading) : Type 0 where
 -- ---- sizes
 
 -- The sizes of what a frame reads before and after a turn: as many static bytes, which end before the dynamic segment
--- begins; the dynamic bytes end at DT, and before the public segment; as many public bytes.
+-- begins; the dynamic bytes end at DT, and before the public segment; no fewer public bytes.
 pub record TurnFits (old new : Reading) (dt : ℕ) : Type 0 where
   pub fixed : length new.fixed ≡ length old.fixed
   pub few : length old.fixed ≤ dynamic_base
-  pub dynamic : dynamic_base + length new.dynamic ≡ dt
+  pub dynamic : length new.dynamic ≡ dt - dynamic_base
   pub high : dt ≤ public_base
-  pub public : length new.public ≡ length old.public
+  pub public : length old.public ≤ length new.public
 
 -- the sizes of what a frame reads that begins
 pub record FrameFits (r : Reading) : Type 0 where

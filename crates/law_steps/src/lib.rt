@@ -5,7 +5,8 @@
 
 mod rows;
 
-ghost use Rattle.law_steps.specs.Laws.{AfterLaw, ExactSetsLaw, LongestRunsLaw, ReplayLaw};
+ghost use Rattle.law_steps.specs.Laws.{AfterLaw, ExactSetsLaw, LongestRunsLaw, PlaysReplayLaw, ReplayLaw, SizesLaw};
+ghost use Rattle.law_steps.specs.Registers.{RegistersLaw};
 
 /// The runs that are written of two segments have exactly the addresses whose bytes differ, each with its new byte.
 /// They ascend, and each is as long as it can be.
@@ -20,7 +21,19 @@ pub fn lines_give_each_byte()
     ensures replays { ReplayLaw }
 {}
 
+/// The sizes that this law asks for are those of every command of every play: so from the lines of a play alone each byte
+/// is known, whatever the deck, the image and the failed writes are.
+pub fn plays_give_each_byte()
+    ensures sizes { SizesLaw }
+    ensures plays { PlaysReplayLaw }
+{}
+
 /// What the frame that ran a turn reads after it is found in the turn and in the chain after it.
 pub fn turns_show_what_is_read()
     ensures after { AfterLaw }
+{}
+
+/// LB and the protection of the frame that ran a turn are found after it in the turn and in the chain after it.
+pub fn turns_show_registers()
+    ensures registers { RegistersLaw }
 {}
