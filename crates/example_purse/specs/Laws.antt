@@ -54,8 +54,8 @@ EachCostsATry (Wrong ∷ h) = JustTook h × EachCostsATry h
 EachCostsATry (Tries left ∷ h) = ((suc left ≡ tries_left h) ⊎ ((left ≡ 3) × JustRight h)) × EachCostsATry h
 EachCostsATry (_ ∷ h) = EachCostsATry h
 
--- So it is. Static byte 2 alone decides whether a PIN is compared: it holds the tries left, of which each comparison
--- costs one; it never has more than 3 less what was wrong since; and the PIN is 1234.
+-- So it is. No PIN is compared without a try in static byte 2: it holds the tries left, of which each comparison costs
+-- one; it never has more than 3 less what was wrong since; and the PIN is 1234.
 pub record KeepsGuesses (h : List Event) (fixed : List ℕ) : Type 0 where
   pub few : AtMostThree h
   pub left : slice_index fixed 2 ≡ tries_left h

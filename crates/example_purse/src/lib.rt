@@ -29,12 +29,12 @@ pub fn right_is_equal()
     ensures { RightLaw }
 {}
 
-/// In every play, whatever is cut, whichever writes fail and whatever else is on the card, at most three wrong PINs
-/// are compared between two right ones and before the first. Only static byte 2 decides whether a PIN is compared: it
-/// holds the tries left, each comparison, right or wrong, costs one that was taken just before it, and three are
-/// there again only just after a right one. It never has more than 3 less what was wrong since; and the PIN stays
-/// 1234. Comparisons count in every frame of the purse, also in one that another application began by delegation, and
-/// in commands that were cut or refused later.
+/// In every play, whatever is cut, whichever writes fail and whatever else is on the card, at most three wrong PINs are
+/// compared between two right ones and before the first. No PIN is compared without a try in static byte 2, which holds
+/// the tries left: each comparison, right or wrong, costs one that was taken just before it, and three are there again
+/// only just after a right one. It never has more than 3 less what was wrong since; and the PIN stays 1234. That a PIN
+/// is compared while a try is left is not said. Comparisons count in every frame of the purse, also in one that another
+/// application began by delegation, and in commands that were cut or refused later.
 pub fn guesses()
     ensures { GuessesLaw }
 {}

@@ -21,7 +21,8 @@ pub fn recoveries_leave_only_the_card()
     ensures after_power { RecoveredLaw }
 {}
 
-/// What a device refuses of a play's writes is a list of failed writes that is possible for the play.
+/// What a device refuses of a play's writes is a list of failed writes that is possible for the play, if its lines
+/// count their stops from 1.
 pub fn refusals_are_possible()
     ensures possible { PossibleLaw }
 {}
