@@ -152,7 +152,7 @@ module _ {E : Type 0} (o : Domain E) (shown : IsSound o) (q : Asked E) where
   -- what is known around the frame, and the number of frames
   fits_over : (case : ℕ) (fs : List Frame) → case ≡ apdu_case q.apdu → FitsEntry (entry_over q fs) (record { case = case; delegator = delegator_in fs })
   fits_over case [] e = (e, refl)
-  fits_over case (f ∷ fs) e = tt
+  fits_over case (f ∷ fs) e = refl
 
   depth_over : (fs : List Frame) → length fs ≤ 3 → FitsDepth (entry_over q fs) (length fs + 1)
   depth_over [] few = refl

@@ -1,6 +1,6 @@
 -- Proof outlines: what an application's writer says of its static bytes, of its sessions and of each place of its code,
 -- and what is to be shown of it, one instruction at a time.
-use Rattle.std.specs.Prelude.{◌≡◌, ℕ, ◌≤◌, Bool, true, false, min, List, [], length, take, unwrap_or, None, Result, Ok, Err, ⊤}
+use Rattle.std.specs.Prelude.{◌≡◌, ℕ, ◌≤◌, Bool, true, false, min, List, [], length, take, unwrap_or, is_some, None, Result, Ok, Err, ⊤}
 use Rattle.model_machine.specs.declared.instruction.Ins.{Ins}
 use Rattle.model_machine.specs.declared.instruction.DecodeFault.{DecodeFault}
 use Rattle.model_machine.specs.declared.machine.Abend.{Abend}
@@ -40,10 +40,10 @@ abbrev pub is_direct : {E : Type 0} → Entry E → Bool
 is_direct (BySelection bytes apdu before) = true
 is_direct ByDelegation = false
 
--- what is known around a frame that began so
+-- what is known around a frame that began so: one that a delegation began has a delegator
 abbrev pub FitsEntry : {E : Type 0} → Entry E → Around → Type 0
 FitsEntry (BySelection bytes apdu before) x = (x.case ≡ apdu_case apdu) × (x.delegator ≡ None)
-FitsEntry ByDelegation x = ⊤
+FitsEntry ByDelegation x = is_some x.delegator ≡ true
 
 -- the reply to a command, by the public segment at its exit
 abbrev pub reply_to : ApduParts → List ℕ → Outcome

@@ -39,6 +39,12 @@ touched b m NoCompare = NoCompare
 touched b m (Bounds a n l h) = cond (meet a n b m) NoCompare (Bounds a n l h)
 touched b m (Ordered a n c o) = cond (meet a n b m || meet c n b m) NoCompare (Ordered a n c o)
 
+-- the last compare, if all of its bytes lie below an address
+abbrev pub compare_below : ℕ → Compare → Compare
+compare_below limit NoCompare = NoCompare
+compare_below limit (Bounds a n l h) = cond (nat_le (a + n) limit) (Bounds a n l h) NoCompare
+compare_below limit (Ordered a n c o) = cond (nat_le (a + n) limit && nat_le (c + n) limit) (Ordered a n c o) NoCompare
+
 -- ---- what it says
 
 -- n bytes from an address on

@@ -1,6 +1,6 @@
 -- The frame that stands for all of a place, and the bytes that decide an address, a length or an index of its
 -- instruction: each combination of their values is followed by itself, with the machine's own rows.
-use Rattle.std.specs.Prelude.{ℕ, zero, suc, ◌+◌, ◌-◌, ◌*◌, Bool, true, false, cond, not, ◌&&◌, ◌||◌, nat_lt, nat_le, ◌==◌, List, [], ◌∷◌, ◌++◌, length, map, flat_map, filter, slice_index, unwrap_or, Option, Some, None}
+use Rattle.std.specs.Prelude.{ℕ, zero, suc, ◌+◌, ◌-◌, ◌*◌, Bool, true, false, cond, not, ◌&&◌, ◌||◌, nat_lt, nat_le, ◌==◌, min, List, [], ◌∷◌, ◌++◌, length, map, flat_map, filter, slice_index, unwrap_or, Option, Some, None}
 use Rattle.model_machine.specs.declared.instruction.Ins.{Ins}
 use Rattle.model_machine.specs.declared.instruction.Ins.TheVariants as ins
 use Rattle.model_device.specs.Bytes.{bytes2, zeros, splice}
@@ -133,10 +133,10 @@ abbrev pub combinations : Facts → List ℕ → List Choice
 combinations f [] = [] ∷ []
 combinations f (a ∷ places) = before_choices a (values_at f a) (combinations f places)
 
--- the number of combinations
+-- the number of combinations; a byte has at most 256 values, however many a table lists
 abbrev pub count_of_combinations : Facts → List ℕ → ℕ
 count_of_combinations f [] = 1
-count_of_combinations f (a ∷ places) = length (values_at f a) * count_of_combinations f places
+count_of_combinations f (a ∷ places) = min 256 (length (values_at f a)) * count_of_combinations f places
 
 -- the most combinations that are followed by themselves
 abbrev pub most_combinations : ℕ

@@ -8,7 +8,7 @@ use Rattle.model_machine.specs.declared.machine.Abend.{Abend}
 use Rattle.model_machine.specs.declared.machine.Abend.TheVariants.{A01, A02, A03, A04, A05, A06, A07, A08, A09, A0A}
 use Rattle.model_device.specs.Bytes.{num, bytes2, zeros}
 use Rattle.model_machine.specs.Code.{instruction_at}
-use Rattle.model_machine.specs.Frame.{Frame, dynamic_base, public_base, public_end, is_outside, no_return}
+use Rattle.model_machine.specs.Frame.{Frame, dynamic_base, public_base, is_outside, no_return}
 use Rattle.model_machine.specs.Primitives.{Around, Then, Goes, Exits, Delegates, Primitive, DelegatorAid, primitive}
 use Rattle.model_machine.specs.Row.{causes, first_cause}
 use Rattle.model_machine.specs.Chain.{frame_at}
@@ -17,7 +17,7 @@ use Rattle.law_rows.specs.Shapes.{Act, Stays, Answers, Jumps, Calls, Returns, Pu
 use Rattle.model_rules.specs.Keeping.{Amounts}
 use Rattle.model_prove.specs.Sets.{Set, is_in, all_bytes, common, is_empty, union, numbers_from}
 use Rattle.model_prove.specs.Facts.{Facts, values_at, values_from, know, know_all, know_bytes, within, without_bytes, narrow, narrow_all}
-use Rattle.model_prove.specs.Compares.{Compare, NoCompare, Bounds, Ordered, Orders, Span, touched, greatest, orders_of, span_added, span_subtracted, allows_span, allows_orders}
+use Rattle.model_prove.specs.Compares.{Compare, NoCompare, Bounds, Ordered, Orders, Span, touched, compare_below, greatest, orders_of, span_added, span_subtracted, allows_span, allows_orders}
 use Rattle.model_prove.specs.Digits.{Operation, Plus, Minus, And, Or, Xor, Flags, Digits, arcs, digits_to}
 use Rattle.model_prove.specs.Keys.{Start, Delegated, OfClass, Call, PlaceKey, Known, calls_after_write, calls_below}
 use Rattle.model_prove.specs.Splits.{Scene, stand_in, with_values, deciders, later_deciders, Choice, combinations, few_combinations}
@@ -312,13 +312,13 @@ arrived p a = AtPlace (record p.key { allowances = a }) p.known
 abbrev pub delegate_abends : List Abend
 delegate_abends = A01 ∷ A02 ∷ A03 ∷ A04 ∷ A05 ∷ A06 ∷ A07 ∷ A08 ∷ A0A ∷ []
 
--- what a delegation leaves: nothing of public bytes
+-- what a delegation leaves: nothing of public bytes, nor of what lies above them
 abbrev pub after_delegation : Spot → Spot
 after_delegation p =
     record p {
       known = record p.known {
-        bytes = without_bytes public_base (public_end - public_base) p.known.bytes;
-        compare = touched public_base (public_end - public_base) p.known.compare;
+        bytes = within 0 public_base p.known.bytes;
+        compare = compare_below public_base p.known.compare;
       };
     }
 

@@ -1,0 +1,7 @@
+pub mod Sound
+pub mod Stands
+pub mod Delegated
+pub mod Delegations
+pub mod Rows
+pub mod Decks
+pub mod Counter

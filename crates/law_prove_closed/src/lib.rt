@@ -1,0 +1,55 @@
+#![tactic(auto)]
+
+//! What closed tables of abstract states mean: their rules are kept in every play.
+
+ghost use Rattle.std.specs.Prelude.{◌≡◌, [], ◌∷◌};
+ghost use Rattle.model_prove.specs.Compares.{NoCompare, Bounds};
+ghost use Rattle.model_prove.specs.Computed.{counter_deck};
+ghost use Rattle.model_prove.specs.Facts.{Facts};
+ghost use Rattle.model_prove.specs.Keys.{PlaceKey};
+ghost use Rattle.model_prove.specs.Steps.{after_delegation};
+ghost use Rattle.model_prove.specs.Tables.{ClosedLaw};
+ghost use Rattle.law_prove_closed.specs.Laws.{DelegateLaw, AllRowsLaw};
+ghost use Rattle.law_prove_closed.specs.Decks.{DeckLaw, DeckIsKept};
+
+/// After PRIM 7 closed tables have the place after the delegation, whatever public segment comes back, and the moments
+/// to which an abend of a delegate and a stop in it lead; or what follows an abend of its own.
+pub fn delegations_are_covered()
+    ensures { DelegateLaw }
+{}
+
+/// A delegation leaves what is known of static and dynamic bytes, and nothing of public bytes nor of what lies above them,
+/// which no outcome has but tables may.
+pub fn delegations_leave_no_public_bytes()
+    ensures { (k : PlaceKey) (kept : Facts)
+        → (after_delegation (record {
+          key = k;
+          known = record {
+            bytes = (0, 7 ∷ []) ∷ (0x8000, 3 ∷ []) ∷ (0xC000, 0 ∷ []) ∷ (0xC411, 5 ∷ []) ∷ [];
+            kept = kept;
+            compare = Bounds 0xC411 1 5 5;
+          };
+        })).known
+        ≡ record { bytes = (0, 7 ∷ []) ∷ (0x8000, 3 ∷ []) ∷ []; kept = kept; compare = NoCompare } }
+{}
+
+/// At each place of closed tables what the row of its instruction leads to is covered, whichever instruction it is.
+pub fn rows_are_covered()
+    ensures { AllRowsLaw }
+{}
+
+/// Rules without sums of an application that a card can have are kept in every play of every deck of bytes if closed
+/// tables are known for them.
+pub fn closed_tables_keep_rules()
+    ensures { ClosedLaw }
+{}
+
+/// The rules of a deck are kept in every play if the tables that a search finds are closed, all of which is computed.
+pub fn decks_are_kept()
+    ensures { DeckLaw }
+{}
+
+/// So are the rules of the counter: it counts once for each command that is answered with 9000.
+pub fn counter_is_kept()
+    ensures { DeckIsKept counter_deck }
+{}

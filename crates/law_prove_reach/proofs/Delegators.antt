@@ -1,0 +1,299 @@
+-- The name of the delegator: of a frame that a delegation began it is written after its length; of another there is none.
+use Rattle.std.proofs.Common.{◌≡◌, ◌⊎◌, inl, inr, ℕ, ◌+◌, ◌-◌, ◌≤◌, Bool, true, false, List, [], ◌∷◌, length, Option, Some, None, refl, sym, ap, subst, ◌∙◌, arith}
+use Rattle.std.specs.Prelude.{◌&&◌, ◌==◌, not, is_none, is_some, ⊤}
+use Rattle.std.proofs.lemmas.List.{length-replicate}
+use Rattle.model_device.specs.Bytes.{AreBytes, zeros}
+use Rattle.model_machine.specs.declared.instruction.Ins.{Ins}
+use Rattle.model_machine.specs.declared.instruction.Ins.TheVariants as ins
+use Rattle.model_machine.specs.declared.machine.Abend.{Abend}
+use Rattle.model_machine.specs.declared.machine.Abend.TheVariants.{A03, A04, A06, A08, A0A}
+use Rattle.model_machine.specs.Frame.{Frame, where_is, is_outside, is_under, too_many, dynamic_end, frame_after_pop}
+use Rattle.model_machine.specs.Primitives.{Around, Goes, DelegatorAid, has_bit, number_below_top, reported_causes, later_causes}
+use Rattle.model_machine.specs.Row.{causes, first_cause, row}
+use Rattle.law_rows.specs.Shapes.{Stays, Writes, Shape, act_effect, delegator_shape, meaning, shape, prim_shape}
+use Rattle.law_promise.specs.Outline.{Entry, BySelection, ByDelegation, FitsEntry}
+use Rattle.law_promise.specs.Domain.{IsDelegator}
+use Rattle.model_rules.specs.Rules.{Target, AppRules}
+use Rattle.model_rules.specs.Happenings.{Event}
+use Rattle.model_prove.specs.Sets.{numbers_from}
+use Rattle.model_prove.specs.Keys.{Start, Delegated, OfClass, Known, Tables, calls_below}
+use Rattle.model_prove.specs.Laws.{Among}
+use Rattle.model_prove.specs.Splits.{Scene, top_places}
+use Rattle.model_prove.specs.Work.{NoFact}
+use Rattle.model_prove.specs.Reach.{Leads, known_causes}
+use Rattle.model_prove.specs.Arrivals.{Setting, Arrival}
+use Rattle.model_prove.specs.Steps.{Spot, lowered, acted, with_flags, settled_spot, follows, caused, arounds, coarse_done, coarse_arrivals, coarse_around}
+use Rattle.model_prove.specs.Tables.{IsLoadable, includes_all, is_closed}
+use Rattle.model_prove.proofs.SetLemmas.{is_between}
+use Rattle.law_prove.specs.Coverings.{StartsAs}
+use Rattle.law_prove.proofs.Closed.{included_first}
+use Rattle.law_prove.proofs.Plain.{above}
+use Rattle.law_prove.proofs.Seen.{Seen}
+use Rattle.law_prove.proofs.Acts.{spot_of, Led, stays_led, lowered_seen}
+use Rattle.law_prove.proofs.Turns.{NoCause, nobody, walked}
+use Rattle.law_prove.proofs.Single.{going, Turn, here, there, IsRowCovered, row_is, low_frame, low_framed}
+use Rattle.law_prove_reach.specs.Laws.{DelegatorLaw}
+use Rattle.law_prove_reach.proofs.Scenes.{with_bytes, same_outside}
+use Rattle.law_prove_reach.proofs.Reached.{among_made}
+use Rattle.law_prove_reach.proofs.Choices.{fetched_frame, base, Followed, IsCoarse, IsBy, few_or_many, law_with}
+use Rattle.law_prove_reach.proofs.Rows.{chosen_there, led_row}
+use Rattle.law_prove_reach.proofs.Tops.{Top, IsTop, Ready, cs, among_numbers, result_row, coarse_top}
+use Rattle.law_prove_reach.proofs.Accesses.{inside_of, not_zero}
+
+-- ---- names
+
+-- there is a name
+abbrev IsNamed : Option (List ℕ) → Type 0
+IsNamed None = ⊥
+IsNamed (Some name) = ⊤
+
+abbrev size_of : Option (List ℕ) → ℕ
+size_of None = 0
+size_of (Some name) = length name
+
+-- its length, and the name
+abbrev report : Option (List ℕ) → List ℕ
+report None = []
+report (Some name) = length name ∷ name
+
+abbrev HasName : Around → Type 0
+HasName x = IsNamed x.delegator
+
+report_length : (o : Option (List ℕ)) → IsNamed o → length (report o) ≡ 1 + size_of o
+report_length None h = absurd h
+report_length (Some name) h = omega arith
+
+report_bytes : (o : Option (List ℕ)) → IsNamed o → IsDelegator o → AreBytes (report o)
+report_bytes None h names = absurd h
+report_bytes (Some name) h names = let most : length name ≤ 16 = names.most in (omega (arith, most), names.bytes)
+
+size_least : (o : Option (List ℕ)) → IsNamed o → IsDelegator o → 5 ≤ size_of o
+size_least None h names = absurd h
+size_least (Some name) h names = names.least
+
+size_most : (o : Option (List ℕ)) → IsDelegator o → size_of o ≤ 16
+size_most None names = omega arith
+size_most (Some name) names = names.most
+
+-- ---- the row with a name
+
+abbrev reporting : Top
+reporting =
+    record {
+      pops = 2;
+      to = 2;
+      bad = false;
+      arg = false;
+      denied = λ deny. has_bit deny 4;
+      missed = λ h x v. is_outside h (v 2) (1 + size_of x.delegator);
+      range = λ v. false;
+      count = λ x v. 1 + size_of x.delegator;
+      bytes = λ f public x. report x.delegator;
+      flags = λ c. Some (c, false);
+      task = λ v. NoFact;
+      lengths = λ k dt. numbers_from 6 12;
+    }
+
+first_reported : (den under : Bool) (g : Frame) (a : ℕ) (o : Option (List ℕ)) → IsNamed o → first_cause ((A06, false) ∷ (A0A, den) ∷ (A04, under) ∷ reported_causes g a o)
+    ≡ first_cause ((A06, false) ∷ (A0A, den) ∷ (A04, under) ∷ (A03, is_outside g a (1 + size_of o)) ∷ (A06, false) ∷ (A08, too_many g a (1 + size_of o)) ∷ [])
+first_reported den under g a None h = absurd h
+first_reported den under g a (Some name) h = refl
+
+known_reported : (den under : Bool) (g : Frame) (a : ℕ) (o : Option (List ℕ)) → IsNamed o → first_cause (known_causes false ((A06, false) ∷ (A0A, den) ∷ (A04, under) ∷ reported_causes g a o))
+    ≡ first_cause ((A06, false) ∷ (A0A, den) ∷ (A04, under) ∷ (A08, too_many g a (1 + size_of o)) ∷ [])
+known_reported den under g a None h = absurd h
+known_reported den under g a (Some name) h = refl
+
+reported_shape : (f : Frame) (o : Option (List ℕ)) → IsNamed o → delegator_shape f o ≡ going (f.dt - 2) (Writes (number_below_top f 2) (1 + size_of o) (report o)) (Some (f.c, false))
+reported_shape f None h = absurd h
+reported_shape f (Some name) h = refl
+
+reporting_top : (args : List ℕ) → IsTop (ins.Prim 0 8 args) reporting HasName
+unfolding causes shape later_causes prim_shape
+reporting_top args =
+    record {
+      cause = λ f public x good. first_reported (has_bit f.deny 4) (is_under f 2) (frame_after_pop f 2) (number_below_top f 2) x.delegator good;
+      known = λ f public x good. known_reported (has_bit f.deny 4) (is_under f 2) (frame_after_pop f 2) (number_below_top f 2) x.delegator good;
+      shaped = λ f public x good. reported_shape f x.delegator good;
+      works = λ f public. refl;
+      lasts = refl;
+      reaches = λ f k. refl;
+      low = omega arith;
+      high = omega arith;
+      same_missed = λ h fixed dyn x v w size a.
+          ap (λ (y : ℕ). is_outside (with_bytes h fixed dyn) y (1 + size_of x.delegator)) (a 2 (omega arith) (omega arith)) ∙ same_outside h fixed dyn (w 2) (1 + size_of x.delegator) size;
+      same_range = λ v w a. refl;
+      same_count = λ x v w a. refl;
+      ranges = λ v e. absurd (cc e);
+    }
+
+-- who stands for a delegator with a name of n bytes
+abbrev named : ℕ → Around
+named n = record { case = 1; delegator = Some (zeros n) }
+
+named_among : (n : ℕ) → 5 ≤ n → n ≤ 16 → Among (named n) (arounds Delegated (Some DelegatorAid))
+named_among n least most = among_made named n (numbers_from 5 12) (among_numbers n 5 12 least (omega (arith, most)))
+
+-- ---- who delegated
+
+-- a frame that a delegation began has a delegator, and another has none
+abbrev Delegates : Start → Option (List ℕ) → Type 0
+Delegates Delegated o = IsNamed o
+Delegates (OfClass class) o = o ≡ None
+
+some_named : (o : Option (List ℕ)) → is_some o ≡ true → IsNamed o
+some_named None e = absurd (cc e)
+some_named (Some name) e = tt
+
+delegates : (r : AppRules) (e : Entry Event) (start : Start) (x : Around) → StartsAs r e start → FitsEntry e x → Delegates start x.delegator
+delegates r (BySelection bytes apdu before) (OfClass class) x starts fits = fits.1
+delegates r ByDelegation Delegated x starts fits = some_named x.delegator fits
+delegates r (BySelection bytes apdu before) Delegated x starts fits = absurd starts
+delegates r ByDelegation (OfClass class) x starts fits = absurd starts
+
+module _ (args : List ℕ) (s : Setting) (t : Tables) (g : Target) (loadable : IsLoadable s.app) (closed : is_closed s t ≡ true) (turn : Turn s t (ins.Prim 0 8 args)) (names : IsDelegator turn.around.delegator) where
+  abbrev i : Ins
+  i = ins.Prim 0 8 args
+
+  abbrev f : Frame
+  f = fetched_frame s t g loadable closed i turn
+
+  abbrev places : List ℕ
+  places = top_places (base s t g loadable closed i turn).frame 2
+
+  abbrev Covered : Type 0
+  Covered = IsRowCovered s t g loadable closed i turn (row i f turn.public turn.around)
+
+  -- ---- with a name
+
+  module _ (has : HasName turn.around) where
+    abbrev n : ℕ
+    n = size_of turn.around.delegator
+
+    abbrev named_causes : List (Abend × Bool)
+    named_causes = cs s t g loadable closed i turn reporting HasName (reporting_top args) has
+
+    stood_size : length (zeros n) ≡ n
+    stood_size = length-replicate {A = ℕ} n 0
+
+    stands_few : (start : Start) → 1 + size_of (coarse_around start).delegator ≤ 256
+    stands_few Delegated = omega arith
+    stands_few (OfClass class) = omega arith
+
+    named_ready : NoCause named_causes → Ready s t g loadable closed i turn reporting HasName (reporting_top args) has
+    named_ready none =
+        let least = size_least turn.around.delegator has names in
+        let most = size_most turn.around.delegator names in
+        record {
+          few = omega (arith, most);
+          some = omega arith;
+          inside = inside_by n (is_none (where_is (frame_after_pop f 2) (number_below_top f 2) (1 + n))) none.1.1.1.0;
+          long = report_length turn.around.delegator has;
+          bytes = report_bytes turn.around.delegator has names;
+          length_in = is_between (1 + n) 6 12 (omega (arith, least)) (omega (arith, most));
+          stands = stands_few turn.place.start;
+        }
+      where
+        inside_by : (n : ℕ) (x : Bool) → (not (1 + n == 0) && x) ≡ false → x ≡ false
+        inside_by n x e = inside_of (1 + n == 0) x (not_zero (1 + n) (omega arith)) e
+
+    named_few : Followed s t g loadable closed i turn places (named n) → Covered
+    named_few w =
+        result_row s t g loadable closed i turn reporting HasName (reporting_top args) has (named n) tt
+        (λ h v. ap (λ (k : ℕ). is_outside h (v 2) (1 + k)) stood_size) (λ v. ap (λ (k : ℕ). 1 + k) stood_size) w named_ready refl
+        (λ none. report_length (Some (zeros n)) tt ∙ ap (λ (k : ℕ). 1 + k) stood_size)
+
+    named_covered : Followed s t g loadable closed i turn places (named n) ⊎ IsCoarse s t g loadable closed i turn → turn.place.start ≡ Delegated → Covered
+    named_covered o start =
+        elim o [
+          | inl w ↦ named_few w
+          | inr includes ↦ coarse_top s t g loadable closed i turn reporting HasName (reporting_top args) has includes (subst (λ (z : Start). HasName (coarse_around z)) (sym start) tt) named_ready
+        ]
+
+  -- ---- without one
+
+  abbrev d : ℕ
+  d = turn.frame.dt - 2
+
+  abbrev unnamed : List (Abend × Bool)
+  unnamed = (A06, false) ∷ (A0A, has_bit f.deny 4) ∷ (A04, is_under f 2) ∷ []
+
+  abbrev quiet : Shape
+  quiet = going d Stays (Some (f.c, true))
+
+  module _ (none_named : turn.around.delegator ≡ None) where
+    real_causes : causes i f turn.public turn.around ≡ unnamed
+    unfolding causes later_causes
+    real_causes = ap (λ (o : Option (List ℕ)). (A06, false) ∷ (A0A, has_bit f.deny 4) ∷ (A04, is_under f 2) ∷ reported_causes (frame_after_pop f 2) (number_below_top f 2) o) none_named
+
+    real_shape : shape i f turn.public turn.around ≡ quiet
+    unfolding shape prim_shape
+    real_shape = ap (λ (o : Option (List ℕ)). delegator_shape f o) none_named
+
+    -- DT without the address, at a place that is known
+    quiet_led : (k : Known) → Seen turn.place.calls k f turn.public → is_under f 2 ≡ false
+        → Led s turn.place.start turn.place.standing.allowances (acted s Stays [] (lowered d (spot_of turn.place.start turn.place.standing.allowances f turn.place.calls k))) false (act_effect Stays (low_frame s t g loadable closed i turn d) turn.public)
+    quiet_led k seen under =
+        let st = turn.place.start in
+        let al = turn.place.standing.allowances in
+        let enough = above f 2 under in
+        let high : turn.frame.dt ≤ dynamic_end = turn.place.frame.high in
+        stays_led s loadable.static st al (low_frame s t g loadable closed i turn d) turn.public (calls_below d turn.place.calls) (lowered d (spot_of st al f turn.place.calls k)).known []
+        (low_framed s t g loadable closed i turn d (omega (arith, enough)) (omega (arith, high))) (lowered_seen d st al f turn.public turn.place.calls k seen)
+
+    quiet_row : (k : Known) (seen : Seen turn.place.calls k f turn.public)
+        → includes_all t (caused (first_cause unnamed) s i quiet NoFact (here s t g loadable closed i turn) (chosen_there s t g loadable closed i turn k seen)) ≡ true → Covered
+    quiet_row k seen includes =
+        let p : Spot = here s t g loadable closed i turn in
+        let q : Spot = chosen_there s t g loadable closed i turn k seen in
+        let r : Spot = acted s Stays [] (lowered d q) in
+        let one : List Arrival = follows s i false Goes p (settled_spot s (with_flags (Some (f.c, true)) r)) in
+        subst (IsRowCovered s t g loadable closed i turn) (row_is s t g loadable closed i turn unnamed quiet real_causes real_shape)
+        (walked s t g loadable closed turn.entry turn.history turn.frame turn.public turn.depth turn.place turn.deep i q unnamed quiet NoFact (meaning quiet f turn.public) includes
+        (λ none all. led_row s t g loadable closed i turn d Stays (Some (f.c, true)) r false real_shape (quiet_led k seen none.1.1.0) (included_first t one [] all)))
+
+    quiet_few : Followed s t g loadable closed i turn places nobody → Covered
+    unfolding causes later_causes shape prim_shape
+    quiet_few w = quiet_row w.known w.seen w.is
+
+    quiet_seen : Seen turn.place.calls turn.place.known f turn.public
+    quiet_seen = record { open_calls = turn.place.open_calls; holds = turn.place.holds; compares = turn.place.compares; keeps = λ on session d. turn.place.keeps session d }
+
+    quiet_by : (den under : Bool) (e : Frame) (p q : Spot) → includes_all t (coarse_done (first_cause ((A06, false) ∷ (A0A, den) ∷ (A04, under) ∷ [])) s i e quiet Leads p q) ≡ true
+        → includes_all t (caused (first_cause ((A06, false) ∷ (A0A, den) ∷ (A04, under) ∷ [])) s i quiet NoFact p q) ≡ true
+    quiet_by true under e p q h = h
+    quiet_by false true e p q h = h
+    quiet_by false false e p q h = h
+
+    quiet_coarse : (class : List Bool) → turn.place.start ≡ OfClass class → IsCoarse s t g loadable closed i turn → Covered
+    unfolding causes later_causes shape prim_shape
+    quiet_coarse class start includes =
+        let p : Spot = here s t g loadable closed i turn in
+        let q : Spot = there s t g loadable closed i turn in
+        let b : Scene = base s t g loadable closed i turn in
+        let two : includes_all t (coarse_arrivals s i b p q nobody) ≡ true = subst (λ (z : Start). includes_all t (coarse_arrivals s i b p q (coarse_around z)) ≡ true) start includes in
+        quiet_row turn.place.known quiet_seen (quiet_by (has_bit f.deny 4) (is_under f 2) (record b.frame { dt = d }) p q two)
+
+    quiet_covered : (class : List Bool) → turn.place.start ≡ OfClass class → Followed s t g loadable closed i turn places nobody ⊎ IsCoarse s t g loadable closed i turn → Covered
+    quiet_covered class start o =
+        elim o [
+          | inl w ↦ quiet_few w
+          | inr includes ↦ quiet_coarse class start includes
+        ]
+
+  -- ---- each
+
+  by_start : (start : Start) → turn.place.start ≡ start → Delegates start turn.around.delegator → IsBy s t g loadable closed i turn false → Covered
+  by_start Delegated e has includes =
+      let least = size_least turn.around.delegator has names in
+      let most = size_most turn.around.delegator names in
+      named_covered has (few_or_many s t g loadable closed i turn (named (size_of turn.around.delegator)) (λ f. refl)
+      (subst (λ (z : Start). Among (named (size_of turn.around.delegator)) (arounds z (Some DelegatorAid))) (sym e) (named_among (size_of turn.around.delegator) least most)) includes) e
+  by_start (OfClass class) e none includes =
+      quiet_covered none class e (few_or_many s t g loadable closed i turn nobody (λ f. refl) (subst (λ (z : Start). Among nobody (arounds z (Some DelegatorAid))) (sym e) (inl refl)) includes)
+
+  pub delegator_covered : IsBy s t g loadable closed i turn false → Covered
+  delegator_covered includes = by_start turn.place.start refl (delegates s.rules turn.entry turn.place.start turn.around turn.place.starts turn.fits) includes
+
+pub delegator_law : DelegatorLaw
+delegator_law args = law_with (ins.Prim 0 8 args) (λ s t g loadable closed turn names includes. delegator_covered args s t g loadable closed turn names includes)

@@ -1,0 +1,143 @@
+-- COPYFIXED: as many bytes as the instruction says; and the law of both copies.
+use Rattle.std.proofs.Common.{◌≡◌, ◌⊎◌, inl, inr, ℕ, ◌<◌, Bool, true, false, List, [], ◌∷◌, length, Some, None, refl, sym, ap, subst, ◌∙◌, arith}
+use Rattle.std.specs.Prelude.{◌==◌, is_none, slice_index}
+use Rattle.std.proofs.lemmas.Bool.{or_parts}
+use Rattle.model_device.specs.Bytes.{AreBytes}
+use Rattle.model_machine.specs.declared.instruction.Ins.{Ins}
+use Rattle.model_machine.specs.declared.instruction.Ins.TheVariants as ins
+use Rattle.model_machine.specs.declared.machine.Abend.{Abend}
+use Rattle.model_machine.specs.Frame.{Frame, where_is, is_outside, bytes_at, frame_after_pop}
+use Rattle.model_machine.specs.Primitives.{CopyFixed, number_below_top, later_causes}
+use Rattle.model_machine.specs.Row.{causes, row}
+use Rattle.law_rows.specs.Shapes.{shape, prim_shape}
+use Rattle.model_rules.specs.Rules.{Target}
+use Rattle.model_prove.specs.Facts.{Memory}
+use Rattle.model_prove.specs.Compares.{bytes_from}
+use Rattle.model_prove.specs.Keys.{Start, Delegated, OfClass, Tables}
+use Rattle.model_prove.specs.Laws.{Among}
+use Rattle.model_prove.specs.Splits.{top_places}
+use Rattle.model_prove.specs.Work.{Copies}
+use Rattle.model_prove.specs.Arrivals.{Setting}
+use Rattle.model_prove.specs.Steps.{arounds}
+use Rattle.model_prove.specs.Tables.{IsLoadable, is_closed}
+use Rattle.model_prove.proofs.SetLemmas.{is_first}
+use Rattle.law_prove.proofs.Moments.{byte_of}
+use Rattle.law_prove.proofs.Moves.{positive}
+use Rattle.law_prove.proofs.Turns.{NoCause, nobody}
+use Rattle.law_prove.proofs.Single.{Turn, IsRowCovered}
+use Rattle.law_prove_reach.proofs.Scenes.{with_bytes}
+use Rattle.law_prove_reach.proofs.Choices.{fetched_frame, memory, base, Followed, IsCoarse, few_or_many, ChoiceCase, law_by}
+use Rattle.law_prove_reach.proofs.Tops.{Agree, Top, IsTop, cs, Ready, agree, copy_row, coarse_top}
+use Rattle.law_prove_reach.proofs.Accesses.{anybody, inside_of, bytes_of, both_missed, both_same, both_numbers, fits_low, read_length, turn_read, turn_length}
+use Rattle.law_prove_reach.specs.Laws.{CopyLaw}
+use Rattle.law_prove_reach.proofs.Copies.{memory_copy_law}
+
+fixed_alone : (st : Start) → Among nobody (arounds st (Some CopyFixed))
+fixed_alone Delegated = inl refl
+fixed_alone (OfClass class) = inl refl
+
+abbrev fixed_copy : ℕ → Top
+fixed_copy n =
+    record {
+      pops = 4;
+      to = 4;
+      bad = false;
+      arg = n == 0;
+      denied = λ deny. false;
+      missed = λ h x v. both_missed h (v 4) (v 2) n;
+      range = λ v. false;
+      count = λ x v. n;
+      bytes = λ f public x. bytes_at (frame_after_pop f 4) public (number_below_top f 2) n;
+      flags = λ c. None;
+      task = λ v. Copies (v 2);
+      lengths = λ k dt. n ∷ [];
+    }
+
+fixed_top : (args : List ℕ) → IsTop (ins.Prim 1 2 args) (fixed_copy (slice_index args 0)) anybody
+unfolding causes shape later_causes prim_shape
+fixed_top args =
+    record {
+      cause = λ f public x good. refl;
+      known = λ f public x good. refl;
+      shaped = λ f public x good. refl;
+      works = λ f public. refl;
+      lasts = refl;
+      reaches = λ f k. refl;
+      low = omega arith;
+      high = omega arith;
+      same_missed = λ h fixed dyn x v w size a.
+          both_numbers (with_bytes h fixed dyn) 4 v w (slice_index args 0) a (omega arith) ∙ both_same h fixed dyn (w 4) (w 2) (slice_index args 0) size;
+      same_range = λ v w a. refl;
+      same_count = λ x v w a. refl;
+      ranges = λ v e. absurd (cc e);
+    }
+
+module _ (args : List ℕ) (s : Setting) (t : Tables) (g : Target) (loadable : IsLoadable s.app) (closed : is_closed s t ≡ true) (turn : Turn s t (ins.Prim 1 2 args)) where
+  abbrev i : Ins
+  i = ins.Prim 1 2 args
+
+  abbrev f : Frame
+  f = fetched_frame s t g loadable closed i turn
+
+  abbrev m : Memory
+  m = memory s t g loadable closed i turn
+
+  abbrev low : Frame
+  low = frame_after_pop f 4
+
+  abbrev n : ℕ
+  n = slice_index args 0
+
+  abbrev o : Top
+  o = fixed_copy n
+
+  abbrev from : ℕ
+  from = number_below_top f 2
+
+  abbrev causes_here : List (Abend × Bool)
+  causes_here = cs s t g loadable closed i turn o anybody (fixed_top args) tt
+
+  inside : NoCause causes_here → is_none (where_is low from n) ≡ false
+  inside none = inside_of (n == 0) (is_none (where_is low from n)) none.0 (or_parts (is_outside low (number_below_top f 4) n) (is_outside low from n) none.1.1.1.0).1
+
+  read : NoCause causes_here → bytes_at low turn.public from n ≡ bytes_from m from n
+  read none = turn_read s t g loadable closed i turn 4 from n none.0 (inside none)
+
+  ready : NoCause causes_here → Ready s t g loadable closed i turn o anybody (fixed_top args) tt
+  ready none =
+      let byte : n < 256 = byte_of args 0 turn.shaped.bytes in
+      record {
+        few = omega (arith, byte);
+        some = positive n none.0;
+        inside = inside_of (n == 0) (is_none (where_is low (number_below_top f 4) n)) none.0 (or_parts (is_outside low (number_below_top f 4) n) (is_outside low from n) none.1.1.1.0).0;
+        long = turn_length s t g loadable closed i turn 4 from n none.0 (inside none);
+        bytes = subst (λ (z : List ℕ). AreBytes z) (sym (read none)) (bytes_of m from n turn.place.bytes);
+        length_in = is_first n [];
+        stands = omega (arith, byte);
+      }
+
+  few_case : Followed s t g loadable closed i turn (top_places (base s t g loadable closed i turn).frame 4) nobody → IsRowCovered s t g loadable closed i turn (row i f turn.public turn.around)
+  few_case w =
+      let e : Frame = with_bytes f w.fixed w.dyn in
+      copy_row s t g loadable closed i turn o anybody (fixed_top args) tt nobody tt (λ h v. refl) (λ v. refl) w 2 (omega arith) (omega arith) ready refl read
+      (λ none.
+      let a : Agree 4 (number_below_top e) (number_below_top f) = agree s t g loadable closed i turn o anybody (fixed_top args) tt nobody tt (λ h v. refl) (λ v. refl) w none.1.1.0 in
+      ap (λ (x : ℕ). length (bytes_at (frame_after_pop e 4) w.public x n)) (a 2 (omega arith) (omega arith))
+      ∙ read_length low w.fixed w.dyn w.public from n (fits_low f 4 w.fixed w.dyn w.public w.fits) none.0 (inside none))
+
+  -- both ways to follow it
+  pub fixed_covered : Followed s t g loadable closed i turn (top_places (base s t g loadable closed i turn).frame 4) nobody ⊎ IsCoarse s t g loadable closed i turn
+      → IsRowCovered s t g loadable closed i turn (row i f turn.public turn.around)
+  fixed_covered outcome =
+      elim outcome [
+        | inl w ↦ few_case w
+        | inr includes ↦ coarse_top s t g loadable closed i turn o anybody (fixed_top args) tt includes tt ready
+      ]
+
+fixed_case : (args : List ℕ) → ChoiceCase (ins.Prim 1 2 args)
+fixed_case args s t g loadable closed turn includes =
+    fixed_covered args s t g loadable closed turn (few_or_many s t g loadable closed (ins.Prim 1 2 args) turn nobody (λ f. refl) (fixed_alone turn.place.start) includes)
+
+-- the laws of both copies
+pub copy_laws : CopyLaw
+copy_laws = (memory_copy_law, λ args. law_by (ins.Prim 1 2 args) (fixed_case args))

@@ -1,0 +1,15 @@
+pub mod Accesses
+pub mod Choices
+pub mod Ciphers
+pub mod Copies
+pub mod Delegators
+pub mod FixedCopies
+pub mod Lengths
+pub mod Reached
+pub mod Results
+pub mod Rows
+pub mod Scenes
+pub mod Signatures
+pub mod Stands
+pub mod Stores
+pub mod Tops

@@ -1,0 +1,9 @@
+pub mod Scenes
+pub mod Reading
+pub mod Chosen
+pub mod Pairs
+pub mod Shifts
+pub mod Address
+pub mod Searches
+pub mod Compared
+pub mod Tops

@@ -1,0 +1,52 @@
+-- A pair of set and number that is no primitive abends, whatever bytes there are.
+use Rattle.std.proofs.Common.{◌≡◌, ℕ, true, List, [], ◌∷◌, Option, Some, None, sym, ap, subst, ◌∙◌}
+use Rattle.model_machine.specs.declared.instruction.Ins.{Ins}
+use Rattle.model_machine.specs.declared.instruction.Ins.TheVariants as ins
+use Rattle.model_machine.specs.Frame.{Frame}
+use Rattle.model_machine.specs.Primitives.{Primitive, primitive, prim_causes}
+use Rattle.model_machine.specs.Row.{causes, row, first_cause}
+use Rattle.model_machine.specs.Chain.{frame_at}
+use Rattle.model_rules.specs.Rules.{Target}
+use Rattle.model_prove.specs.Keys.{Delegated, Tables}
+use Rattle.model_prove.specs.Splits.{pair_deciders, few_combinations}
+use Rattle.model_prove.specs.Arrivals.{Setting}
+use Rattle.model_prove.specs.Steps.{inside, arounds}
+use Rattle.model_prove.specs.Tables.{IsLoadable, is_closed}
+use Rattle.law_prove.proofs.Turns.{NoCause, nobody}
+use Rattle.law_prove.proofs.Single.{Turn, IsRowCovered}
+use Rattle.law_prove_reads.specs.Laws.{UnknownLaw}
+use Rattle.law_prove_reads.proofs.Scenes.{drawn}
+use Rattle.law_prove_reads.proofs.Chosen.{Chosen, places, stand, real, chosen_row, law_of}
+
+module _ (set number : ℕ) (args : List ℕ) (unknown : primitive set number ≡ None) where
+  abbrev pair : Ins
+  pair = ins.Prim set number args
+
+  module _ (s : Setting) (t : Tables) (g : Target) (loadable : IsLoadable s.app) (closed : is_closed s t ≡ true) (turn : Turn s t pair) where
+    none_decides : few_combinations turn.place.known.bytes (places s t g loadable closed pair turn) ≡ Some ([] ∷ [])
+    none_decides =
+        let z = stand s t g loadable closed pair turn in
+        ap (λ (o : Option Primitive). few_combinations turn.place.known.bytes (inside z (pair_deciders o args z.frame))) unknown
+
+    pair_covered : Chosen s t g loadable closed pair turn → IsRowCovered s t g loadable closed pair turn (row pair (frame_at turn.frame turn.next) turn.public turn.around)
+    unfolding causes
+    pair_covered z =
+        let f : Frame = real s t g loadable closed pair turn in
+        let l : Frame = drawn f z.fixed z.dyn in
+        chosen_row s t g loadable closed pair turn z
+        (ap (λ (o : Option Primitive). first_cause (prim_causes o args l z.public nobody)) unknown ∙ sym (ap (λ (o : Option Primitive). first_cause (prim_causes o args f turn.public turn.around)) unknown))
+        (λ none all.
+        let no : NoCause (prim_causes None args f turn.public turn.around) = subst (λ (o : Option Primitive). NoCause (prim_causes o args f turn.public turn.around)) unknown none in
+        absurd (cc no.0))
+
+  none_asks : arounds Delegated (primitive set number) ≡ arounds Delegated None
+  none_asks = ap (λ (o : Option Primitive). arounds Delegated o) unknown
+
+pub unknown_laws : UnknownLaw
+unknown_laws set number args unknown =
+    law_of (ins.Prim set number args) (λ s t g loadable closed turn e. e)
+    (record {
+      asks = none_asks set number args unknown;
+      few = pair_covered set number args unknown;
+      many = λ s t g loadable closed turn few rough. absurd (cc (sym (none_decides set number args unknown s t g loadable closed turn) ∙ few));
+    })
