@@ -1,9 +1,9 @@
 -- Bits of four words: of unions, of what sets have in common, of complements, of one value and of those below a number.
-use Rattle.std.specs.Prelude.{◌≡◌, ◌≢◌, ℕ, zero, suc, ◌+◌, ◌-◌, ◌*◌, ◌/◌, ◌%◌, ◌^◌, ◌<◌, ◌≤◌, min, max, Bool, true, false, not, ◌&&◌, ◌||◌, nat_lt, nat_le, ◌==◌, List, [], ◌∷◌, get_or, bit_and, bit_or, refl}
+use Rattle.std.specs.Prelude.{◌≡◌, ◌≢◌, ℕ, zero, suc, ◌+◌, ◌-◌, ◌*◌, ◌/◌, ◌%◌, ◌^◌, ◌<◌, ◌≤◌, min, max, Bool, true, false, not, ◌&&◌, ◌||◌, nat_lt, nat_le, ◌==◌, List, [], ◌∷◌, length, get_or, bit_and, bit_or, refl}
 use Rattle.std.specs.Int.{bit_at, bit_not, w64}
 use Rattle.std.proofs.Common.{arith, ap, sym, subst, ◌∙◌, inl, inr}
 use Rattle.std.proofs.lemmas.Bool.{and_parts, eq-eqb, ne_eqb, lt-ltb, le-ltb, le-leb, lt-leb, cases_lt, cases_eq}
-use Rattle.std.proofs.lemmas.Nat.Bits.{bit_at_and, bit_at_or, bit_at_not, bit_at-lt, bit_at-zero, bit_at_ones, bit_at_ones_above, bit_at-pow_same, bit_at-pow_other, shr_and_one}
+use Rattle.std.proofs.lemmas.Nat.Bits.{bit_at_and, bit_at_or, bit_at_not, bit_at-lt, bit_at-zero, bit_at_ones, bit_at_ones_above, bit_at-pow_same, bit_at-pow_other, shr_and_one, same_from_bits_below}
 use Rattle.std.proofs.lemmas.Nat.{le_or_l, le_or_r, one_shl}
 use Rattle.prove_facts.specs.Sets.{has_bit}
 
@@ -226,3 +226,63 @@ below_next v high =
 pub range_test : (v low high : ℕ) → (nat_lt v (high + 1) && not (nat_lt v low)) ≡ (nat_le low v && nat_le v high)
 range_test v low high =
     ap (λ (b : Bool). b && not (nat_lt v low)) (below_next v high) ∙ ap (λ (b : Bool). nat_le v high && b) (not_below v low) ∙ swapped (nat_le v high) (nat_le low v)
+
+-- ---- words by their bits
+
+bit_same : (x y : ℕ) → x < 2 → y < 2 → (x == 1) ≡ (y == 1) → x ≡ y
+bit_same zero zero h k e = refl
+bit_same (suc zero) (suc zero) h k e = refl
+bit_same zero (suc zero) h k e = absurd (cc e)
+bit_same (suc zero) zero h k e = absurd (cc e)
+bit_same (suc (suc x)) y h k e = absurd (omega arith)
+bit_same zero (suc (suc y)) h k e = absurd (omega arith)
+bit_same (suc zero) (suc (suc y)) h k e = absurd (omega arith)
+
+pub bit_of_word : (xs : List ℕ) (k i : ℕ) → i < 64 → has_bit xs (64 * k + i) ≡ (bit_at (get_or xs k 0) i == 1)
+unfolding has_bit
+bit_of_word xs k i h =
+    let d : (64 * k + i) / 64 ≡ k = omega arith in
+    let r : (64 * k + i) % 64 ≡ i = omega arith in
+    ap (λ (n : ℕ). bit_at (get_or xs n 0) ((64 * k + i) % 64) == 1) d ∙ ap (λ (n : ℕ). bit_at (get_or xs k 0) n == 1) r
+
+-- no bit of words that are zero, and words without a bit
+pub zero_words : (xs : List ℕ) → ((k : ℕ) → k < 4 → get_or xs k 0 < 2 ^ 64) → ((v : ℕ) → v < 256 → has_bit xs v ≡ false) → (k : ℕ) → k < 4 → get_or xs k 0 ≡ 0
+zero_words xs p h k l =
+    same_from_bits_below 64 (get_or xs k 0) 0 (p k l) (omega arith) (λ i n. bit_same (bit_at (get_or xs k 0) i) (bit_at 0 i) (bit_at-lt (get_or xs k 0) i) (bit_at-lt 0 i)
+    (sym (bit_of_word xs k i n) ∙ h (64 * k + i) (omega arith) ∙ sym (ap (λ (m : ℕ). m == 1) (bit_at-zero i))))
+
+-- a value whose word is zero
+pub at_zero : (xs : List ℕ) (v : ℕ) → get_or xs (v / 64) 0 ≡ 0 → has_bit xs v ≡ false
+unfolding has_bit
+at_zero xs v e = ap (λ (n : ℕ). bit_at n (v % 64) == 1) e ∙ ap (λ (b : ℕ). b == 1) (bit_at-zero (v % 64))
+
+at_bit : (xs : List ℕ) (v k : ℕ) → v / 64 ≡ k → bit_at (get_or xs k 0) (v % 64) ≡ 0 → has_bit xs v ≡ false
+unfolding has_bit
+at_bit xs v k e h = ap (λ (n : ℕ). bit_at (get_or xs n 0) (v % 64) == 1) e ∙ ap (λ (b : ℕ). b == 1) h
+
+-- the lowest bit of the first word that is not zero
+pub lowest_bit : (xs : List ℕ) (k t : ℕ) → k < 4 → t < 64 → ((j : ℕ) → j < k → get_or xs j 0 ≡ 0) → bit_at (get_or xs k 0) t ≡ 1
+    → ((i : ℕ) → i < t → bit_at (get_or xs k 0) i ≡ 0) → (has_bit xs (64 * k + t) ≡ true) × ((v : ℕ) → v < 64 * k + t → has_bit xs v ≡ false)
+lowest_bit xs k t l m z o h = (
+  bit_of_word xs k t m ∙ ap (λ (b : ℕ). b == 1) o,
+  λ v n. elim (cases_lt (v / 64) k) [
+    | inl j ↦ at_zero xs v (z (v / 64) j)
+    | inr j ↦
+        let e : v / 64 ≡ k = omega (arith, n, j, m) in
+        let r : v % 64 < t = omega (arith, n, j, m, e) in
+        at_bit xs v k e (h (v % 64) r)
+  ],
+)
+
+-- the union of words without a bit is zero
+pub zero_union : (xs : List ℕ) → ((k : ℕ) → k < 4 → get_or xs k 0 < 2 ^ 64) → ((v : ℕ) → v < 256 → has_bit xs v ≡ false)
+    → bit_or (bit_or (bit_or (get_or xs 0 0) (get_or xs 1 0)) (get_or xs 2 0)) (get_or xs 3 0) ≡ 0
+zero_union xs p h =
+    let a = zero_words xs p h 0 (omega arith) in
+    let b = zero_words xs p h 1 (omega arith) in
+    let c = zero_words xs p h 2 (omega arith) in
+    let d = zero_words xs p h 3 (omega arith) in
+    ap (λ (n : ℕ). bit_or (bit_or (bit_or n (get_or xs 1 0)) (get_or xs 2 0)) (get_or xs 3 0)) a
+    ∙ ap (λ (n : ℕ). bit_or (bit_or (bit_or 0 n) (get_or xs 2 0)) (get_or xs 3 0)) b
+    ∙ ap (λ (n : ℕ). bit_or (bit_or (bit_or 0 0) n) (get_or xs 3 0)) c
+    ∙ ap (λ (n : ℕ). bit_or (bit_or (bit_or 0 0) 0) n) d

@@ -1,21 +1,43 @@
--- Facts: which values bytes may have, by their addresses. A byte without a fact has any value.
-use Rattle.std.specs.Prelude.{◌≡◌, ℕ, ◌<◌, true, List, [], ◌∷◌, ⊤}
+-- Facts as the definition has them: addresses and sets. A byte without a fact has any value.
+use Rattle.std.specs.Prelude.{◌≡◌, ℕ, suc, ◌<◌, ◌≤◌, Bool, true, false, cond, ◌==◌, List, [], ◌∷◌, map, ⊤}
+use Rattle.model_prove.specs.Sets.{Set, is_full}
+use Rattle.model_prove.specs.Facts as known
 use Rattle.prove_facts.specs.declared.facts.Fact.{Fact}
-use Rattle.prove_facts.specs.Sets.{has_value}
+use Rattle.prove_facts.specs.Sets.{set_of}
 
--- a memory: what each address holds
-abbrev pub Memory : Type 0
-Memory = ℕ → ℕ
+-- a fact, as an address and a set
+abbrev pub fact_of : Fact → ℕ × Set
+fact_of e = (e.at, set_of e.values)
 
--- each address holds a byte
-abbrev pub HoldsBytes : Memory → Type 0
-HoldsBytes m = (a : ℕ) → m a < 256
+-- facts, as addresses and sets
+abbrev pub facts_of : List Fact → known.Facts
+facts_of f = map fact_of f
 
--- each byte with a fact has one of its values
-abbrev pub Holds : List Fact → Memory → Type 0
-Holds [] m = ⊤
-Holds (e ∷ f) m = (has_value e.values (m e.at) ≡ true) × Holds f m
+-- The addresses are strictly ascending, none below a number, and no set is full.
+abbrev pub AreSparse : ℕ → known.Facts → Type 0
+AreSparse low [] = ⊤
+AreSparse low (e ∷ f) = (low ≤ e.0) × (is_full e.1 ≡ false) × AreSparse (suc e.0) f
 
--- every memory of which the first facts hold is one of which the second hold
-abbrev pub Weakens : List Fact → List Fact → Type 0
-Weakens f g = (m : Memory) → HoldsBytes m → Holds f m → Holds g m
+-- each address is below a number
+abbrev pub AreBelow : ℕ → known.Facts → Type 0
+AreBelow high [] = ⊤
+AreBelow high (e ∷ f) = (e.0 < high) × AreBelow high f
+
+-- each address is a number or above it
+abbrev pub AreFrom : ℕ → known.Facts → Type 0
+AreFrom low [] = ⊤
+AreFrom low (e ∷ f) = (low ≤ e.0) × AreFrom low f
+
+-- whether the first fact is one of this address
+abbrev pub starts_at : ℕ → known.Facts → Bool
+starts_at a [] = false
+starts_at a (e ∷ f) = e.0 == a
+
+-- a fact alone, or none if it says nothing
+abbrev pub fact_alone : ℕ × Set → known.Facts
+fact_alone e = cond (is_full e.1) [] (e ∷ [])
+
+-- from the first of some facts on, other facts have those of the list
+abbrev pub Agree : known.Facts → known.Facts → known.Facts → Type 0
+Agree [] rest f = ⊤
+Agree (e ∷ more) rest f = (a : ℕ) → e.0 ≤ a → known.fact_at rest a ≡ known.fact_at f a

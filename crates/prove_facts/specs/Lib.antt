@@ -1,2 +1,4 @@
 pub mod Facts
+pub mod Packed
+pub mod Packing
 pub mod Sets

@@ -1,9 +1,16 @@
 // Facts in little room: most are of one value.
-use crate::facts::{Fact, Facts, from_address, is_covered};
+ghost use Rattle.std.specs.Prelude.{◌≡◌, ◌⊎◌, ℕ, ◌≤◌, List, [], ◌∷◌, ◌++◌, length, OnOk, IfOk};
+ghost use Rattle.model_prove.specs.Sets.{is_subset};
+ghost use Rattle.model_prove.specs.Facts.{values_at, follow};
+ghost use Rattle.prove_facts.specs.Facts.{fact_of, facts_of, AreSparse};
+ghost use Rattle.prove_facts.specs.Packed.{ones_of, among, AreApart};
+
+use crate::facts::{Fact, Facts, are_covered, from_address, is_covered, passed, rest_from};
 use crate::growth::push;
 use crate::values::Values;
 use mc_base::NoMemory;
 use std::alloc::Global;
+use std::marker::Model;
 
 /// The fact that the byte at an address has one value.
 #[derive(Clone, Copy, PartialEq, Eq, Debug)]
@@ -19,45 +26,81 @@ pub struct PackedFacts {
     sets: Vec<Fact>,
 }
 
+impl Model for PackedFacts {
+    ghost use Rattle.std.specs.Prelude.{ℕ, List};
+    ghost use Rattle.prove_facts.specs.Facts.{facts_of, AreSparse};
+    ghost use Rattle.prove_facts.specs.Packed.{ones_of, among, AreApart};
+
+    ghost Value = { List (ℕ × List ℕ) };
+
+    ghost view = { λ p. among (ones_of p.ones.items) (facts_of p.sets.items) };
+
+    ghost invariant = { λ p. AreSparse 0 (ones_of p.ones.items) × AreSparse 0 (facts_of p.sets.items)
+        × AreApart (ones_of p.ones.items) (facts_of p.sets.items) };
+}
+
 // Adds a fact to one of two lists.
-fn add_fact(packed: &mut PackedFacts, fact: &Fact) -> Result<(), NoMemory> {
+fn add_fact(ones: &mut Vec<One>, sets: &mut Vec<Fact>, fact: &Fact) -> Result<(), NoMemory>
+    ensures { OnOk result (((ones_of ones.new.items ≡ ones_of ones.old.items ++ fact_of fact.now ∷ [])
+        × (facts_of sets.new.items ≡ facts_of sets.old.items))
+        ⊎ ((ones_of ones.new.items ≡ ones_of ones.old.items)
+        × (facts_of sets.new.items ≡ facts_of sets.old.items ++ fact_of fact.now ∷ []))) }
+{
     match fact.values.only() {
-        Some(value) => push(&mut packed.ones, One { at: fact.at, value }),
-        None => push(&mut packed.sets, *fact),
+        Some(value) => push(ones, One { at: fact.at, value }),
+        None => push(sets, *fact),
     }
 }
 
-// Adds the facts of several values that come before an address, and returns the others.
-fn add_before<'a>(list: &mut Vec<Fact>, sets: &'a [Fact], at: u16) -> Result<&'a [Fact], NoMemory> {
-    for (index, fact) in sets.iter().enumerate() {
-        if fact.at > at {
-            return Ok(&sets[index..]);
-        }
-        push(list, *fact)?;
+// The fact that a byte has one value.
+fn fact_of_one(one: &One) -> Fact
+    ensures { fact_of result ≡ (one.now.at, one.now.value ∷ []) }
+{
+    Fact {
+        at: one.at,
+        values: Values::one(one.value),
     }
-    Ok(&[])
 }
 
-fn cover_ones(ones: &[One], list: &[Fact]) -> bool {
+// Whether a byte of which the first facts of a list are has only one value.
+fn is_one_covered(rest: &[Fact], one: &One) -> bool
+    ensures { AreSparse one.now.at (facts_of rest.now)
+        → result ≡ is_subset (values_at (facts_of rest.now) one.now.at) (one.now.value ∷ []) }
+{
+    is_covered(rest, one.at, &Values::one(one.value))
+}
+
+// Whether each fact of one value follows from those of a list.
+fn cover_ones(ones: &[One], list: &[Fact]) -> bool
+    ensures { AreSparse 0 (ones_of ones.now) → AreSparse 0 (facts_of list.now)
+        → result ≡ follow (facts_of list.now) (ones_of ones.now) }
+{
     let mut rest = list;
     for one in ones {
         rest = from_address(rest, one.at);
-        if !is_covered(rest, one.at, &Values::one(one.value)) {
+        if !is_one_covered(rest, one) {
             return false;
         }
     }
     true
 }
 
-fn cover_sets(sets: &[Fact], list: &[Fact]) -> bool {
-    let mut rest = list;
-    for set in sets {
-        rest = from_address(rest, set.at);
-        if !is_covered(rest, set.at, &set.values) {
-            return false;
-        }
+// All facts in the order of their addresses.
+fn merged(alloc: Global, ones: &[One], sets: &[Fact]) -> Result<Vec<Fact>, NoMemory>
+    ensures { AreSparse 0 (ones_of ones.now) → AreSparse 0 (facts_of sets.now)
+        → AreApart (ones_of ones.now) (facts_of sets.now)
+        → IfOk result (λ list. facts_of list.items ≡ among (ones_of ones.now) (facts_of sets.now)) }
+{
+    let mut list = Vec::with_capacity(alloc, ones.len().saturating_add(sets.len()))?;
+    let mut rest = sets;
+    for one in ones {
+        let before = passed(rest, one.at);
+        list.extend_from_slice(&rest[..before])?;
+        push(&mut list, fact_of_one(one))?;
+        rest = rest_from(rest, before);
     }
-    true
+    list.extend_from_slice(rest)?;
+    Ok(list)
 }
 
 impl PackedFacts {
@@ -66,17 +109,18 @@ impl PackedFacts {
     /// # Errors
     ///
     /// Returns `NoMemory` if it is out of memory.
-    pub fn new(alloc: Global, facts: &Facts) -> Result<PackedFacts, NoMemory> {
-        let mut packed = PackedFacts {
-            ones: Vec::new(alloc),
-            sets: Vec::new(alloc),
-        };
-        for fact in &facts.list {
-            add_fact(&mut packed, fact)?;
+    pub fn new(alloc: Global, facts: &Facts) -> Result<PackedFacts, NoMemory>
+        ensures { IfOk result (λ packed. packed ≡ facts.now) }
+    {
+        let mut ones = Vec::new(alloc);
+        let mut sets = Vec::new(alloc);
+        let list = facts.list();
+        for fact in list {
+            add_fact(&mut ones, &mut sets, fact)?;
         }
-        packed.ones.shrink_to_fit();
-        packed.sets.shrink_to_fit();
-        Ok(packed)
+        ones.shrink_to_fit();
+        sets.shrink_to_fit();
+        Ok(PackedFacts { ones, sets })
     }
 
     /// Returns the facts.
@@ -84,26 +128,18 @@ impl PackedFacts {
     /// # Errors
     ///
     /// Returns `NoMemory` if it is out of memory.
-    pub fn facts(&self, alloc: Global) -> Result<Facts, NoMemory> {
-        let mut list = Vec::with_capacity(alloc, self.ones.len().saturating_add(self.sets.len()))?;
-        let mut rest = self.sets.as_slice();
-        for one in &self.ones {
-            rest = add_before(&mut list, rest, one.at)?;
-            push(
-                &mut list,
-                Fact {
-                    at: one.at,
-                    values: Values::one(one.value),
-                },
-            )?;
-        }
-        list.extend_from_slice(rest)?;
+    pub fn facts(&self, alloc: Global) -> Result<Facts, NoMemory>
+        ensures { IfOk result (λ facts. facts ≡ self.now) }
+    {
+        let list = merged(alloc, self.ones.as_slice(), self.sets.as_slice())?;
         Ok(Facts { list })
     }
 
     /// Returns whether what other facts allow, these allow.
-    pub fn covers(&self, other: &Facts) -> bool {
-        cover_ones(self.ones.as_slice(), other.list.as_slice())
-            && cover_sets(self.sets.as_slice(), other.list.as_slice())
+    pub fn covers(&self, other: &Facts) -> bool
+        ensures { result ≡ follow other.now self.now }
+    {
+        let ones = cover_ones(self.ones.as_slice(), other.list());
+        ones && are_covered(self.sets.as_slice(), other.list())
     }
 }

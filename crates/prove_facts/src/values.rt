@@ -1,7 +1,8 @@
 // Sets of byte values.
-ghost use Rattle.std.specs.Prelude.{◌≡◌, ◌<◌, ◌≤◌, ◌↔◌, ℕ, ◌+◌, ◌-◌, ◌%◌, ◌^◌, min, Bool, true, false, not, ◌&&◌, ◌||◌, ◌==◌, nat_lt, nat_le, IsTrue, IfSome, IfNone};
-ghost use Rattle.std.specs.Int.{bit_at};
-ghost use Rattle.prove_facts.specs.Sets.{has_value};
+ghost use Rattle.std.specs.Prelude.{◌≡◌, ◌<◌, ◌≤◌, ◌↔◌, ℕ, ◌+◌, ◌-◌, ◌%◌, ◌^◌, min, Bool, true, false, not, ◌&&◌, ◌||◌, ◌==◌, nat_lt, nat_le, [], ◌∷◌, length, ◌*◌, bit_or, count_ones};
+ghost use Rattle.std.specs.Int.{bit_at, trailing_zeros, w64};
+ghost use Rattle.model_prove.specs.Sets.{union, common, is_subset, is_empty, is_full, only_value};
+ghost use Rattle.prove_facts.specs.Sets.{has_value, set_of, values_of, least_value};
 
 /// A set of some of the 256 values of a byte.
 #[derive(Clone, Copy, PartialEq, Eq, Debug)]
@@ -19,7 +20,8 @@ impl Values {
 
     /// Returns the set of one value.
     pub fn one(value: u8) -> Values
-        ensures { (v : ℕ) → v < 256 → has_value result v ≡ (v == value) }
+        ensures values { (v : ℕ) → v < 256 → has_value result v ≡ (v == value) }
+        ensures set { set_of result ≡ value ∷ [] }
     {
         let bit = 1u64 << (value % 64);
         match value / 64 {
@@ -61,7 +63,8 @@ impl Values {
 
     /// Returns the values of either set.
     pub fn or(&self, other: &Values) -> Values
-        ensures { (v : ℕ) → v < 256 → has_value result v ≡ has_value self.now v || has_value other.now v }
+        ensures values { (v : ℕ) → v < 256 → has_value result v ≡ has_value self.now v || has_value other.now v }
+        ensures set { set_of result ≡ union (set_of self.now) (set_of other.now) }
     {
         let [a, b, c, d] = self.words;
         let [e, f, g, h] = other.words;
@@ -72,7 +75,8 @@ impl Values {
 
     /// Returns the values of both sets.
     pub fn and(&self, other: &Values) -> Values
-        ensures { (v : ℕ) → v < 256 → has_value result v ≡ has_value self.now v && has_value other.now v }
+        ensures values { (v : ℕ) → v < 256 → has_value result v ≡ has_value self.now v && has_value other.now v }
+        ensures set { set_of result ≡ common (set_of self.now) (set_of other.now) }
     {
         let [a, b, c, d] = self.words;
         let [e, f, g, h] = other.words;
@@ -114,32 +118,35 @@ impl Values {
 
     /// Returns whether no value is there.
     pub fn is_empty(&self) -> bool
-        ensures { result ≡ true → (v : ℕ) → v < 256 → has_value self.now v ≡ false }
+        ensures values { result ≡ true → (v : ℕ) → v < 256 → has_value self.now v ≡ false }
+        ensures set { result ≡ is_empty (set_of self.now) }
     {
         let [a, b, c, d] = self.words;
-        a | b | c | d == 0
+        are_zero(a, b, c, d)
     }
 
     /// Returns whether all 256 values are there.
     pub fn is_all(&self) -> bool
-        ensures { result ≡ true → (v : ℕ) → v < 256 → has_value self.now v ≡ true }
+        ensures values { result ≡ true → (v : ℕ) → v < 256 → has_value self.now v ≡ true }
+        ensures set { result ≡ is_full (set_of self.now) }
     {
-        *self == Values::ALL
+        self.not().is_empty()
     }
 
     /// Returns the number of values.
-    pub fn count(&self) -> u32 {
+    pub fn count(&self) -> u32
+        ensures { result ≡ length (set_of self.now) }
+    {
         let [a, b, c, d] = self.words;
-        let low = a.count_ones().saturating_add(b.count_ones());
-        low.saturating_add(c.count_ones())
-            .saturating_add(d.count_ones())
+        ones_of(a, b, c, d)
     }
 
     /// Returns whether each value is in another set.
     pub fn is_within(&self, other: &Values) -> bool
-        ensures { result ≡ true → (v : ℕ) → v < 256 → has_value self.now v ≡ true → has_value other.now v ≡ true }
+        ensures values { result ≡ true → (v : ℕ) → v < 256 → has_value self.now v ≡ true → has_value other.now v ≡ true }
+        ensures set { result ≡ is_subset (set_of self.now) (set_of other.now) }
     {
-        self.and(other) == *self
+        self.and(&other.not()).is_empty()
     }
 
     /// Returns each value plus a number, modulo 256.
@@ -163,7 +170,9 @@ impl Values {
     }
 
     /// Returns the one value of a set that has one.
-    pub fn only(&self) -> Option<u8> {
+    pub fn only(&self) -> Option<u8>
+        ensures { result ≡ only_value (set_of self.now) }
+    {
         if self.count() == 1 {
             self.least()
         } else {
@@ -172,19 +181,46 @@ impl Values {
     }
 
     /// Returns the least value, or `None` if there is none.
-    pub fn least(&self) -> Option<u8> {
+    pub fn least(&self) -> Option<u8>
+        ensures { result ≡ least_value (set_of self.now) }
+    {
         let [a, b, c, d] = self.words;
-        if a != 0 {
-            return Some(lowest(0, a));
-        }
-        if b != 0 {
-            return Some(lowest(1, b));
-        }
-        if c != 0 {
-            return Some(lowest(2, c));
-        }
-        if d != 0 { Some(lowest(3, d)) } else { None }
+        least_of(a, b, c, d)
     }
+}
+
+// The least value of four words.
+fn least_of(a: u64, b: u64, c: u64, d: u64) -> Option<u8>
+    ensures { result ≡ least_value (values_of (a ∷ b ∷ c ∷ d ∷ [])) }
+{
+    if a != 0 {
+        return Some(lowest(0, a));
+    }
+    if b != 0 {
+        return Some(lowest(1, b));
+    }
+    if c != 0 {
+        return Some(lowest(2, c));
+    }
+    if d != 0 { Some(lowest(3, d)) } else { None }
+}
+
+// Whether no bit of four words is set.
+fn are_zero(a: u64, b: u64, c: u64, d: u64) -> bool
+    ensures zero { result ≡ (bit_or (bit_or (bit_or a b) c) d == 0) }
+    ensures fit { (a < 2 ^ 64) × (b < 2 ^ 64) × (c < 2 ^ 64) × (d < 2 ^ 64) }
+{
+    a | b | c | d == 0
+}
+
+// The number of bits of four words that are set.
+fn ones_of(a: u64, b: u64, c: u64, d: u64) -> u32
+    ensures ones { result ≡ count_ones a + (count_ones b + (count_ones c + count_ones d)) }
+    ensures fit { (a < 2 ^ 64) × (b < 2 ^ 64) × (c < 2 ^ 64) × (d < 2 ^ 64) }
+{
+    let low = a.count_ones().saturating_add(b.count_ones());
+    low.saturating_add(c.count_ones())
+        .saturating_add(d.count_ones())
 }
 
 // The other bits of a word.
@@ -217,7 +253,11 @@ fn joined(word: u64, lower: u64, by: u8) -> u64 {
 }
 
 // The place of the lowest bit of a word that is not zero, after some words.
-fn lowest(words: u32, word: u64) -> u8 {
+fn lowest(words: u32, word: u64) -> u8
+    requires few { words < 4 }
+    requires some { 0 < word }
+    ensures { result ≡ 64 * words + trailing_zeros w64 word }
+{
     (words
         .saturating_mul(64)
         .saturating_add(word.trailing_zeros())

@@ -1,5 +1,6 @@
 // Rows that compute on digits: their outcomes by final flags, narrowed operands, and the last compare.
-use crate::state::{Bounds, Last, Order, Segment, Sizes, State, plain, where_is};
+use crate::last::{Bounds, Last, Order};
+use crate::state::{Segment, Sizes, State, plain, where_is};
 use crate::step::{Step, goes_or_wrote, limit};
 use mc_base::NoMemory;
 use prove_facts::{Digit, Form, Values, Way, form_of, mask, push, ways};

@@ -5,6 +5,7 @@
 mod coarse;
 mod compute;
 mod jumps;
+mod last;
 mod numbers;
 mod prims;
 mod rows;
@@ -14,9 +15,9 @@ mod splitting;
 mod state;
 mod step;
 
+pub use last::{Bounds, Last, Order};
 pub use rows::row;
 pub use state::{
-    Bounds, Call, DYNAMIC, DYNAMIC_END, Known, Last, Order, PUBLIC, PUBLIC_END, PackedKnown,
-    Registers, Sizes, State,
+    Call, DYNAMIC, DYNAMIC_END, Known, PUBLIC, PUBLIC_END, PackedKnown, Registers, Sizes, State,
 };
 pub use step::Step;

@@ -1,4 +1,5 @@
 // A frame of the application: its registers, its open calls, and what is known of its bytes.
+use crate::last::{Last, touches};
 use mc_base::NoMemory;
 use prove_facts::{Block, Facts, Form, Origin, PackedFacts, Sums, Values, push};
 use std::alloc::Global;
@@ -44,35 +45,7 @@ pub struct Registers {
     pub protected: bool,
 }
 
-/// That the number of n bytes at an address lies between two bounds.
-#[derive(Clone, Copy, PartialEq, Eq, Debug)]
-pub struct Bounds {
-    pub at: u16,
-    pub n: u16,
-    pub low: u128,
-    pub high: u128,
-}
-
-/// What the n bytes at one address may be to those at another.
-#[derive(Clone, Copy, PartialEq, Eq, Debug)]
-pub struct Order {
-    pub first: u16,
-    pub second: u16,
-    pub n: u16,
-    pub less: bool,
-    pub equal: bool,
-    pub greater: bool,
-}
-
-/// What the last compare says.
-#[derive(Clone, Copy, PartialEq, Eq, Debug)]
-pub enum Last {
-    Nothing,
-    Bounds(Bounds),
-    Order(Order),
-}
-
-#[derive(PartialEq, Eq, Drop)]
+#[derive(Drop)]
 pub struct Known {
     /// The bytes as the application reads them.
     pub read: Facts,
@@ -124,59 +97,6 @@ pub fn where_is(sizes: &Sizes<'_>, dt: u16, at: u16, n: u16) -> Option<Segment> 
 
 pub fn is_outside(sizes: &Sizes<'_>, dt: u16, at: u16, n: u16) -> bool {
     n != 0 && where_is(sizes, dt, at, n).is_none()
-}
-
-fn touches(at: u16, n: u16, from: u32, to: u32) -> bool {
-    (at as u32) < to && from < at as u32 + n as u32
-}
-
-impl Last {
-    /// The last compare, unless one of its bytes is from one address to below another.
-    pub fn without(&self, from: u32, to: u32) -> Last {
-        let touched = match self {
-            Last::Nothing => false,
-            Last::Bounds(bounds) => touches(bounds.at, bounds.n, from, to),
-            Last::Order(order) => touches(order.first, order.n, from, to)
-                || touches(order.second, order.n, from, to),
-        };
-        if touched { Last::Nothing } else { *self }
-    }
-
-    pub fn joined(&self, other: &Last) -> Last {
-        match (self, other) {
-            (Last::Bounds(a), Last::Bounds(b)) => wider(a, b),
-            (Last::Order(a), Last::Order(b)) => either(a, b),
-            _ => Last::Nothing,
-        }
-    }
-}
-
-// The bounds that hold all numbers of two pairs of bounds of the same bytes.
-fn wider(a: &Bounds, b: &Bounds) -> Last {
-    if a.at != b.at || a.n != b.n {
-        return Last::Nothing;
-    }
-    Last::Bounds(Bounds {
-        at: a.at,
-        n: a.n,
-        low: a.low.min(b.low),
-        high: a.high.max(b.high),
-    })
-}
-
-// The orders of one compare or of another of the same bytes.
-fn either(a: &Order, b: &Order) -> Last {
-    if a.first != b.first || a.second != b.second || a.n != b.n {
-        return Last::Nothing;
-    }
-    Last::Order(Order {
-        first: a.first,
-        second: a.second,
-        n: a.n,
-        less: a.less || b.less,
-        equal: a.equal || b.equal,
-        greater: a.greater || b.greater,
-    })
 }
 
 impl Known {
@@ -474,9 +394,8 @@ impl State {
         if !self.registers.protected {
             return Ok(());
         }
-        let dynamic = self.known.read.part(alloc, DYNAMIC as u32, 0x10000)?;
         let mut read = self.known.kept.copied(alloc)?;
-        read.append(dynamic.list.as_slice())?;
+        read.append_part(&self.known.read, DYNAMIC as u32, 0x10000)?;
         self.known.read = read;
         self.known.last = self.known.last.without(0, DYNAMIC as u32);
         self.known.sums.drop_waiting(alloc)
@@ -496,11 +415,7 @@ impl State {
     /// The session bytes and the static bytes as power would leave them.
     pub fn kept_and_session(&self, alloc: Global, sizes: &Sizes<'_>) -> Result<Facts, NoMemory> {
         let mut facts = self.kept(alloc)?;
-        let session = self
-            .known
-            .read
-            .part(alloc, DYNAMIC as u32, sizes.floor() as u32)?;
-        facts.append(session.list.as_slice())?;
+        facts.append_part(&self.known.read, DYNAMIC as u32, sizes.floor() as u32)?;
         Ok(facts)
     }
 }

@@ -3,7 +3,7 @@ use crate::keys::{Break, MomentKey, PlaceKey};
 use indexmap::IndexSet;
 use mc_base::NoMemory;
 use prove_events::{Always, Rules};
-use prove_facts::{Fact, Facts, Values, push};
+use prove_facts::{Fact, Facts, Values};
 use prove_outcomes::PackedKnown;
 use std::alloc::Global;
 use std::collections::BTreeSet;
@@ -71,20 +71,11 @@ fn rounded_values(always: &[Always], fact: &Fact) -> Values {
 ///
 /// Returns `NoMemory` if it is out of memory.
 pub fn rounded(alloc: Global, rules: &Rules<'_>, facts: &Facts) -> Result<Facts, NoMemory> {
-    let mut list = Vec::new(alloc);
-    for fact in &facts.list {
-        let values = rounded_values(rules.always.as_slice(), fact);
-        if !values.is_all() {
-            push(
-                &mut list,
-                Fact {
-                    at: fact.at,
-                    values,
-                },
-            )?;
-        }
+    let mut rounded = Facts::new(alloc);
+    for fact in facts.list() {
+        rounded.set(fact.at, rounded_values(rules.always.as_slice(), fact))?;
     }
-    Ok(Facts { list })
+    Ok(rounded)
 }
 
 /// Returns whether the byte of a line has only values that it allows.

@@ -135,7 +135,7 @@ fn add_amounts(text: &mut Vec<u8>, subject: &Subject<'_>, key: &MomentKey) -> Re
 }
 
 fn add_facts(text: &mut Vec<u8>, facts: &Facts) -> Result<(), NoMemory> {
-    for fact in &facts.list {
+    for fact in facts.list() {
         add_fact(text, fact)?;
     }
     Ok(())

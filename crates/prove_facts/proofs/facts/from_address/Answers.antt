@@ -1,8 +1,16 @@
-use Rattle.prove_facts.proofs.FactLemmas.{holds_take, holds_drop}
-use Rattle.std.proofs.Common.{◌-◌, [], drop}
-use Rattle.std.specs.Prelude.{length}
+use Rattle.std.proofs.Common.{◌∙◌, ℕ, sym, ap, subst, take}
+use Rattle.model_prove.specs.Facts as known
+use Rattle.prove_facts.specs.Facts.{facts_of, AreSparse}
+use Rattle.prove_facts.proofs.FactLemmas.{at_rest, below_higher, slice_rest}
 use Rattle.prove_facts.proofs.facts.from_address.Goals as goal
 
-pub returns-then-fact-at : goal.returns-then-fact-at
-returns-then-fact-at c m h =
-    holds_take (length c.args.list.now - c.loop-index.index) (drop c.loop-index.index c.args.list.now) m (holds_drop c.loop-index.index c.args.list.now m h)
+pub returns-clause-same : goal.returns-clause-same
+returns-clause-same c a h =
+    let l = c.args.list.now in
+    let n = c.passed.result in
+    ap (λ (f : known.Facts). known.fact_at f a) (slice_rest l n)
+    ∙ sym (at_rest (facts_of l) n a (below_higher c.args.at a (take n (facts_of l)) h c.passed.ensures.below))
+
+pub returns-clause-sparse : goal.returns-clause-sparse
+returns-clause-sparse c k s =
+    subst (λ (f : known.Facts). AreSparse c.args.at f) (sym (slice_rest c.args.list.now c.passed.result)) (c.passed.ensures.above k s)

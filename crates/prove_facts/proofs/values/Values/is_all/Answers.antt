@@ -1,7 +1,10 @@
-use Rattle.prove_facts.proofs.BitLemmas.{same_full}
 use Rattle.std.proofs.Common.{◌∙◌, sym}
-use Rattle.std.proofs.lemmas.Slice.Eq.{bytes_eq-Decides}
+use Rattle.prove_facts.proofs.SetLemmas.{full_if, full_bits}
 use Rattle.prove_facts.proofs.values.Values.is_all.Goals as goal
 
-pub returns : goal.returns
-returns c e v h = same_full c.args.self.now.words v ((bytes_eq-Decides c.args.self.now.words _).0 (sym c.eq.ensures ∙ e)) h
+pub returns-clause-values : goal.returns-clause-values
+returns-clause-values c e v h =
+    full_bits c.args.self.now.words v (sym (c.is_empty.ensures.set ∙ full_if c.not.result.words c.args.self.now.words c.not.ensures) ∙ e) h
+
+pub returns-clause-set : goal.returns-clause-set
+returns-clause-set c = c.is_empty.ensures.set ∙ full_if c.not.result.words c.args.self.now.words c.not.ensures

@@ -1,10 +1,18 @@
-use Rattle.prove_facts.proofs.BitLemmas.{same_common}
-use Rattle.std.proofs.Common.{◌∙◌, sym}
-use Rattle.std.proofs.lemmas.Slice.Eq.{bytes_eq-Decides}
-use Rattle.prove_facts.specs.Sets.{has_value}
+use Rattle.std.proofs.Common.{◌∙◌, sym, ap, Bool, ℕ, ◌<◌, ◌≡◌}
+use Rattle.std.specs.Prelude.{not, ◌&&◌}
+use Rattle.prove_facts.specs.Sets.{has_bit}
+use Rattle.prove_facts.proofs.SetLemmas.{within_is, subset_bits}
 use Rattle.prove_facts.proofs.values.Values.is_within.Goals as goal
 
-pub returns : goal.returns
-returns c e v h i =
-    same_common c.args.self.now.words c.and.result.words v (has_value c.args.other.now v) ((bytes_eq-Decides c.and.result.words c.args.self.now.words).0 (sym c.eq.ensures ∙ e))
-    (c.and.ensures v h) i
+pub returns-clause-values : goal.returns-clause-values
+returns-clause-values c e v h i =
+    let xs = c.args.self.now.words in
+    let ys = c.args.other.now.words in
+    subset_bits xs ys v
+    (sym (c.is_empty.ensures.set ∙ within_is c.and.result.words xs ys (λ w l. c.and.ensures.values w l ∙ ap (λ (b : Bool). has_bit xs w && b) (c.not.ensures w l))) ∙ e) h i
+
+pub returns-clause-set : goal.returns-clause-set
+returns-clause-set c =
+    let xs = c.args.self.now.words in
+    let ys = c.args.other.now.words in
+    c.is_empty.ensures.set ∙ within_is c.and.result.words xs ys (λ w l. c.and.ensures.values w l ∙ ap (λ (b : Bool). has_bit xs w && b) (c.not.ensures w l))

@@ -1,0 +1,28 @@
+use Rattle.std.proofs.Common.{◌∙◌, true, false, sym, arith}
+use Rattle.prove_facts.specs.Facts.{facts_of}
+use Rattle.prove_facts.specs.Packed.{ones_of}
+use Rattle.prove_facts.proofs.CoverLemmas.{rest_sparse, turn_of, cover_turn}
+use Rattle.prove_facts.proofs.PackedLemmas.{drop_one}
+use Rattle.prove_facts.proofs.packed.cover_ones.Goals as goal
+
+pub returns-then-not-is_one_covered : goal.returns-then-not-is_one_covered
+returns-then-not-is_one_covered c s t =
+    let inv = c.loop-one.invariant s t in
+    let n = c.from_address-rest.ensures.sparse 0 inv.0 in
+    let e = drop_one c.args.ones.now c.loop-one.one-index _ (omega arith) in
+    let r = rest_sparse (ones_of c.args.ones.now) _ c.loop-one.one-index _ s e in
+    sym (inv.2 ∙ cover_turn _ _ (facts_of c.args.list.now) (facts_of c.loop-one.rest.now) (facts_of c.from_address-rest.result.now) _ false
+    e r inv.1 c.from_address-rest.ensures.same n (λ o u. sym c.if-not-is_one_covered.true ∙ c.is_one_covered.ensures o))
+
+pub loop-one-preserved : goal.loop-one-preserved
+loop-one-preserved c s t =
+    let inv = c.loop-one.invariant s t in
+    let n = c.from_address-rest.ensures.sparse 0 inv.0 in
+    let g = facts_of c.args.list.now in
+    let rest = facts_of c.loop-one.rest.now in
+    let next = facts_of c.from_address-rest.result.now in
+    let e = drop_one c.args.ones.now c.loop-one.one-index _ (omega arith) in
+    let r = rest_sparse (ones_of c.args.ones.now) _ c.loop-one.one-index _ s e in
+    let p = turn_of _ _ g rest next _ e r inv.1 c.from_address-rest.ensures.same n in
+    let q = cover_turn _ _ g rest next _ true e r inv.1 c.from_address-rest.ensures.same n (λ o u. sym c.if-not-is_one_covered.false ∙ c.is_one_covered.ensures o) in
+    (p.sparse, p.agree, inv.2 ∙ q)
