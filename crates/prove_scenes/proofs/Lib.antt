@@ -1,0 +1,8 @@
+pub mod ByteLemmas
+pub mod CipherLemmas
+pub mod CountingLemmas
+pub mod OutlineLemmas
+pub mod PartLemmas
+pub mod PlaceLemmas
+pub mod SceneLemmas
+pub mod WordLemmas

@@ -1,0 +1,12 @@
+pub mod Coarse
+pub mod Counting
+pub mod Deciders
+pub mod Families
+pub mod Heads
+pub mod Outlines
+pub mod Places
+pub mod Scenes
+pub mod ShapeValues
+pub mod Shifts
+pub mod Transfers
+pub mod Works

@@ -1,0 +1,234 @@
+// The frame that stands for all frames of a place.
+ghost use Rattle.std.specs.Prelude.{◌≡◌, ◌≤◌, ◌<◌, ◌+◌, ◌-◌, ◌∷◌, ◌++◌, [], length, true, false, IfSome};
+ghost use Rattle.arrayvec.specs.ArrayVec.{array_vec_len};
+ghost use Rattle.model_device.specs.Bytes.{bytes2, splice, zeros};
+ghost use Rattle.model_device.specs.Card.{App};
+ghost use Rattle.model_prove.specs.Keys.{PlaceKey};
+ghost use Rattle.model_prove.specs.Splits.{stand_in, with_byte, with_values};
+ghost use Rattle.prove_scenes.specs.Scenes.{IsSized, HasRegisters, EndsInStack, scene_of, stack_under};
+
+use arrayvec::ArrayVec;
+use mc_base::bytes_of;
+use std::marker::Model;
+
+/// The address of the first dynamic byte.
+pub const DYNAMIC: u16 = 0x8000;
+
+/// The greatest address at which the dynamic segment ends.
+pub const DYNAMIC_END: u16 = 0x8200;
+
+/// The address of the first public byte.
+pub const PUBLIC: u16 = 0xC000;
+
+/// The address after the last public byte.
+pub const PUBLIC_END: u16 = 0xC411;
+
+/// The numbers of bytes of an application's code, static segment and session, and its access list.
+#[derive(Clone, Copy, Debug, PartialEq, Eq)]
+pub struct Sizes {
+    pub code: u16,
+    pub fixed: u16,
+    pub session: u16,
+    pub deny: u16,
+}
+
+/// An open call: DT right above its four saved bytes, the saved LB, and the saved place.
+#[derive(Clone, Copy, Debug, PartialEq, Eq)]
+pub struct OpenCall {
+    pub dt: u16,
+    pub lb: u16,
+    pub at: u16,
+}
+
+/// The registers of a place, and its newest open call.
+#[derive(Clone, Copy, Debug, PartialEq, Eq)]
+pub struct Registers {
+    pub at: u16,
+    pub c: bool,
+    pub z: bool,
+    pub dt: u16,
+    pub lb: u16,
+    pub protected: bool,
+    pub newest: Option<OpenCall>,
+}
+
+/// A frame and the public segment around it, which stand for all of a place: their bytes are zeros, but for those that
+/// were set and those that the newest call saved.
+#[derive(Drop)]
+pub struct Scene {
+    pub(crate) code_len: u16,
+    pub(crate) session: u16,
+    pub(crate) deny: u16,
+    pub(crate) fixed: ArrayVec<u8, 4096>,
+    pub(crate) dynamic: [u8; 512],
+    pub(crate) dt: u16,
+    pub(crate) lb: u16,
+    pub(crate) at: u16,
+    pub(crate) c: bool,
+    pub(crate) z: bool,
+    pub(crate) protected: bool,
+    pub(crate) public: [u8; 1041],
+}
+
+impl Model for Scene {
+    ghost use Rattle.model_prove.specs.Splits.{Scene};
+    ghost use Rattle.prove_scenes.specs.Scenes.{scene_value, KeepsScene};
+
+    ghost Value = { Scene };
+
+    ghost view = { scene_value };
+
+    ghost invariant = { KeepsScene };
+}
+
+impl Scene {
+    /// Returns the frame that stands for those of a place, or `None` if its registers lie in no segment: its registers
+    /// are those of the place, its bytes zeros.
+    #[tactic(auto, using(crate::proofs::SceneLemmas::stands_in))]
+    pub fn stand_in(sizes: &Sizes, place: &Registers) -> Option<Scene>
+        ensures { IfSome result (λ s. (app : App) (k : PlaceKey) → IsSized app sizes.now → HasRegisters k place.now
+            → s ≡ stand_in app k) }
+    {
+        Scene::of(sizes, place)
+    }
+
+    // The scene of a place, if its registers lie in the dynamic segment.
+    fn of(sizes: &Sizes, place: &Registers) -> Option<Scene>
+        ensures { IfSome result (λ s. s ≡ scene_of sizes.now place.now) }
+    {
+        if sizes.fixed > 4096 || !has_stack(sizes, place) || !has_call(place.newest) {
+            return None;
+        }
+        Some(Scene {
+            code_len: sizes.code,
+            session: sizes.session,
+            deny: sizes.deny,
+            fixed: zero_bytes(sizes.fixed),
+            dynamic: stack_of(place.newest),
+            dt: place.dt,
+            lb: place.lb,
+            at: place.at,
+            c: place.c,
+            z: place.z,
+            protected: place.protected,
+            public: [0; 1041],
+        })
+    }
+
+    /// Sets the code address, and nothing else.
+    pub fn go(&mut self, at: u16)
+        ensures { self.new ≡ record self.old { frame = record self.old.frame { at = at } } }
+    {
+        self.at = at;
+    }
+
+    /// Sets the byte at an address, and returns `true`; or `false`, if the scene has no such byte.
+    pub fn set_byte(&mut self, at: u16, value: u8) -> bool
+        ensures set { result ≡ true → self.new ≡ with_byte self.old (at, value) }
+    {
+        let place = at as usize;
+        if place < self.fixed.len() {
+            put_fixed(&mut self.fixed, place, value);
+            return true;
+        }
+        if at < PUBLIC {
+            let i = at.saturating_sub(DYNAMIC) as usize;
+            if i >= 512 {
+                return false;
+            }
+            put(&mut self.dynamic, i, value);
+            return true;
+        }
+        let i = (at - PUBLIC) as usize;
+        if i >= 1041 {
+            return false;
+        }
+        put(&mut self.public, i, value);
+        true
+    }
+
+    /// Sets bytes in their order, and returns `true`; or `false`, if the scene has not all of them.
+    pub fn set_bytes(&mut self, bytes: &[(u16, u8)]) -> bool
+        ensures set { result ≡ true → self.new ≡ with_values self.old bytes.now }
+    {
+        for (at, value) in bytes {
+            if !self.set_byte(*at, *value) {
+                return false;
+            }
+        }
+        true
+    }
+}
+
+// Whether DT lies between the floor and the end of the dynamic segment.
+fn has_stack(sizes: &Sizes, place: &Registers) -> bool
+    ensures low { result ≡ true → 0x8000 + sizes.now.session ≤ place.now.dt }
+    ensures high { result ≡ true → place.now.dt ≤ 0x8200 }
+{
+    DYNAMIC as u32 + sizes.session as u32 <= place.dt as u32 && place.dt <= DYNAMIC_END
+}
+
+// Whether a call, if there is one, ends in the dynamic segment.
+fn has_call(newest: Option<OpenCall>) -> bool
+    ensures { result ≡ true → EndsInStack newest }
+{
+    match newest {
+        Some(call) => call.dt <= DYNAMIC_END,
+        None => true,
+    }
+}
+
+// Some static bytes, all zeros.
+#[tactic(auto, using(crate::proofs::SceneLemmas::front_of_zeros))]
+fn zero_bytes(count: u16) -> ArrayVec<u8, 4096>
+    requires { count ≤ 4096 }
+    ensures { result.items ≡ zeros count }
+{
+    let mut bytes = ArrayVec::new();
+    bytes
+        .try_extend_from_slice(&[0; 4096][..count as usize])
+        .unwrap();
+    bytes
+}
+
+// The dynamic bytes under a newest call.
+fn stack_of(newest: Option<OpenCall>) -> [u8; 512]
+    requires { EndsInStack newest }
+    ensures { result ≡ stack_under newest }
+{
+    let mut bytes = [0; 512];
+    if let Some(call) = newest {
+        save(&mut bytes, &call);
+    }
+    bytes
+}
+
+// Writes what a call saved.
+fn save(bytes: &mut [u8], call: &OpenCall)
+    requires room { length bytes.old ≡ 512 }
+    requires end { call.now.dt ≤ 0x8200 }
+    ensures { bytes.new ≡ splice bytes.old (call.now.dt - 4 - 0x8000) (bytes2 call.now.lb ++ bytes2 call.now.at) }
+{
+    let from = call.dt.saturating_sub(4).saturating_sub(DYNAMIC) as usize;
+    let [a, b] = bytes_of(call.lb);
+    let [c, d] = bytes_of(call.at);
+    bytes[from..from + 4].copy_from_slice(&[a, b, c, d]);
+}
+
+// Replaces a byte.
+#[tactic(auto, using(crate::proofs::SceneLemmas::set_is_splice))]
+fn put(bytes: &mut [u8], i: usize, value: u8)
+    requires { i < length bytes.old }
+    ensures { bytes.new ≡ splice bytes.old i (value ∷ []) }
+{
+    bytes[i] = value;
+}
+
+// Replaces a static byte.
+#[tactic(auto, using(crate::proofs::SceneLemmas::refill_same))]
+fn put_fixed(bytes: &mut ArrayVec<u8, 4096>, i: usize, value: u8)
+    requires { i < array_vec_len bytes.old }
+    ensures { bytes.new.items ≡ splice bytes.old.items i (value ∷ []) }
+{
+    put(bytes.as_mut_slice(), i, value);
+}
