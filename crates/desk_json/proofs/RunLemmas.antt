@@ -1,9 +1,10 @@
 -- What is written byte by byte of bytes is the text of the runs that differ.
-use Rattle.std.proofs.Common.{◌≡◌, ◌≢◌, ℕ, suc, ◌+◌, ◌≤◌, Bool, true, false, cond, not, ◌==◌, List, [], ◌∷◌, ◌++◌, codes, decimal, refl, arith, ap, sym, subst, ◌∙◌, append_assoc, append-nil}
+use Rattle.std.proofs.Common.{◌≡◌, ℕ, zero, suc, ◌+◌, ◌≤◌, Bool, true, false, cond, not, ◌==◌, List, [], ◌∷◌, ◌++◌, length, drop, codes, decimal, refl, arith, ap, sym, ◌∙◌, append_assoc, append-nil}
+use Rattle.std.specs.Prelude.{min}
 use Rattle.std.proofs.lemmas.Bool.Decides.{nat_tests}
 use Rattle.model_text.specs.Listing.{hex_text}
 use Rattle.desk_json.specs.Json.{any_run, before_if, before_runs, changes, run_text, runs_after, runs_more}
-use Rattle.desk_json.specs.Runs.{any_after, begin_text, byte_text, close_text, open_text, rest_text}
+use Rattle.desk_json.specs.Runs.{any_after, begin_text, byte_text, close_text, rest_text}
 
 abbrev Run : Type 0
 Run = ℕ × List ℕ
@@ -191,3 +192,27 @@ next_two any going a o b old new os bs first second = sym (ap (λ (t : List ℕ)
 pub next_any : (any : Bool) (a o b : ℕ) (old new os bs : List ℕ) → old ≡ o ∷ os → new ≡ b ∷ bs → any_run (any_after (b == o) any) (changes (a + 1) os bs) ≡ any_run any (changes a old new)
 next_any any a o b old new os bs first second =
     sym (ap (λ (t : List ℕ). any_run any (changes a t new)) first ∙ ap (λ (t : List ℕ). any_run any (changes a (o ∷ os) t)) second ∙ any_on any a o b os bs)
+
+-- the bytes of a list from a place on, after the last old one
+pub next_one : (any going : Bool) (a b : ℕ) (new bs : List ℕ) → new ≡ b ∷ bs → byte_text (b == 0) any going a b ++ rest_text (any_after (b == 0) any) (not (b == 0)) (a + 1) [] bs ≡ rest_text any going a [] new
+next_one any going a b new bs is = sym (ap (λ (t : List ℕ). rest_text any going a [] t) is)
+
+pub next_one_any : (any : Bool) (a b : ℕ) (new bs : List ℕ) → new ≡ b ∷ bs → any_run (any_after (b == 0) any) (changes (a + 1) [] bs) ≡ any_run any (changes a [] new)
+next_one_any any a b new bs is = sym (ap (λ (t : List ℕ). any_run any (changes a [] t)) is ∙ any_step (b == 0) any a b (changes (a + 1) [] bs))
+
+-- after the last old byte, or the last new one, no old ones are left
+pub no_old : (any going : Bool) (a i : ℕ) (old new : List ℕ) → i ≡ min (length old) (length new) → rest_text any going a (drop i old) (drop i new) ≡ rest_text any going a [] (drop i new)
+no_old any going a zero [] new h = refl
+no_old any going a zero (o ∷ os) [] h = refl
+no_old any going a zero (o ∷ os) (b ∷ bs) h = absurd (omega (arith, h))
+no_old any going a (suc i) [] new h = refl
+no_old any going a (suc i) (o ∷ os) [] h = refl
+no_old any going a (suc i) (o ∷ os) (b ∷ bs) h = no_old any going a i os bs (omega (arith, h))
+
+pub no_old_any : (any : Bool) (a i : ℕ) (old new : List ℕ) → i ≡ min (length old) (length new) → any_run any (changes a (drop i old) (drop i new)) ≡ any_run any (changes a [] (drop i new))
+no_old_any any a zero [] new h = refl
+no_old_any any a zero (o ∷ os) [] h = refl
+no_old_any any a zero (o ∷ os) (b ∷ bs) h = absurd (omega (arith, h))
+no_old_any any a (suc i) [] new h = refl
+no_old_any any a (suc i) (o ∷ os) [] h = refl
+no_old_any any a (suc i) (o ∷ os) (b ∷ bs) h = no_old_any any a i os bs (omega (arith, h))

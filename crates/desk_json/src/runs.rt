@@ -81,8 +81,8 @@ fn runs_after(runs: Runs, old: u8, new: u8) -> Runs
     }
 }
 
-/// Adds the runs of addresses, from `base` on, whose bytes differ from old ones, of which there are no fewer, after other
-/// runs if `any` is true. Returns whether a run was written or stood before.
+/// Adds the runs of addresses, from `base` on, whose bytes differ from old ones, or from zero after the last old one, after
+/// other runs if `any` is true. Returns whether a run was written or stood before.
 pub fn add_runs<T: Sink>(
     sheet: &mut Sheet<'_, T>,
     any: bool,
@@ -90,8 +90,7 @@ pub fn add_runs<T: Sink>(
     old: &[u8],
     new: &[u8],
 ) -> bool
-    requires most { length new.now ≤ 65535 }
-    requires fewer { length new.now ≤ length old.now }
+    requires { length new.now ≤ 65535 }
     ensures adds { Adds T.Sink sheet.old (runs_more any (changes base old.now new.now)) sheet.new }
     ensures any { result ≡ any_run any (changes base old.now new.now) }
 {
@@ -99,9 +98,14 @@ pub fn add_runs<T: Sink>(
         any,
         is_open: false,
     };
-    for i in 0..new.len() {
+    let both = old.len().min(new.len());
+    for i in 0..both {
         add_byte(sheet, runs, base as u32 + i as u32, old[i], new[i]);
         runs = runs_after(runs, old[i], new[i]);
+    }
+    for k in both..new.len() {
+        add_byte(sheet, runs, base as u32 + k as u32, 0, new[k]);
+        runs = runs_after(runs, 0, new[k]);
     }
     end(sheet, runs.is_open);
     runs.any

@@ -1,10 +1,10 @@
 -- A deck that was played before a recorder, and its text that was put.
-use Rattle.std.proofs.Common.{◌≡◌, ℕ, List, [], ◌++◌, None, Result, refl, sym, ap, subst, ◌∙◌, append-nil}
+use Rattle.std.proofs.Common.{◌≡◌, ℕ, List, [], None, Result, refl, sym, subst}
 use Rattle.std.specs.List.{AllByRecursion}
 use Rattle.model_device.specs.Device.{IsImage}
 use Rattle.model_play.specs.DeckGrammar.{DeckLine}
 use Rattle.model_play.specs.Laws.{HoldsOf}
-use Rattle.model_play.specs.Play.{Step, plays, start}
+use Rattle.model_play.specs.Play.{plays, start}
 use Rattle.model_play.specs.ReadyAgain.{AreLines, IsLine}
 use Rattle.law_family.proofs.DeckBytes.{played_bytes}
 use Rattle.law_family.proofs.PlayLaw.{play_law}

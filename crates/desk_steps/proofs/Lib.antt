@@ -1,4 +1,9 @@
+pub mod CallLemmas
 pub mod ChangeLemmas
 pub mod DeckLemmas
+pub mod FrameLemmas
+pub mod LineLemmas
+pub mod MomentLemmas
 pub mod PlayLemmas
+pub mod ShotLemmas
 pub mod TurnLemmas

@@ -1,12 +1,13 @@
 -- The loop that plays a deck before a recorder.
-use Rattle.std.proofs.Common.{◌≡◌, ℕ, List, [], ◌∷◌, ◌++◌, Option, refl, sym, ap, subst, ◌∙◌, append_assoc, append-nil}
-use Rattle.std.specs.Prelude.{option_map}
+use Rattle.std.proofs.Common.{◌≡◌, inl, inr, ℕ, ◌<◌, Bool, List, [], ◌∷◌, ◌++◌, Option, None, refl, arith, sym, ap, subst, ◌∙◌, append_assoc, append-nil}
+use Rattle.std.specs.Prelude.{length, option_map}
 use Rattle.model_device.specs.Device.{DeviceState, BenchState}
+use Rattle.model_machine.specs.Chain.{Chain}
 use Rattle.model_play.specs.DeckGrammar.{DeckLine}
 use Rattle.model_play.specs.Play.{FailedWrite, LineResult, State, Step, plays, step}
+use Rattle.model_play.specs.TraceText.{shown_turns}
 use Rattle.model_play.proofs.PlayLemmas.{step_is}
 use Rattle.mc_streams.specs.declared.sink.Sink.{Ghosts}
-use Rattle.desk_draft.specs.FullTurns.{FullTurn, turns_of_step}
 use Rattle.desk_draft.specs.Listings.{Source}
 use Rattle.mc_script.specs.declared.answer.Answer.{Answer}
 use Rattle.mc_script.specs.declared.player.Player.{Player}
@@ -19,11 +20,14 @@ use Rattle.mc_script.specs.Watching.{Watches}
 use Rattle.mc_script.proofs.LinedLemmas.{at_stands}
 use Rattle.mc_script.proofs.PlayLemmas.{played_none, played_on, plays_none, plays_on}
 use Rattle.mc_script.proofs.StepPlayLemmas.{step_counts, steps_as, steps_none, steps_then}
-use Rattle.desk_cover.specs.Watching.{full_turn_of}
-use Rattle.desk_cover.proofs.SentLemmas.{sent_shown}
 use Rattle.desk_steps.specs.declared.recording.Recorder.{Recorder}
 use Rattle.desk_steps.specs.Lines.{line_text}
-use Rattle.desk_steps.specs.Recorded.{puts_from, puts_none, puts_on, AreLines, PutsText, Recorded, RecordsPlay, ShowsStep, ShowsSteps}
+use Rattle.desk_steps.specs.Moments.{Moment, command_of, moment, moments_of_step}
+use Rattle.desk_steps.specs.Recorded.{first_text, next_number, number_after, puts_from, puts_none, puts_on, AreLinesBy, IsStoppedFrame, PutsText, Recorded, RecordsPlay, ShowsStep, ShowsSteps, StoppedBy, WaitsFirst}
+use Rattle.desk_steps.specs.Turning.{all_shut}
+use Rattle.desk_steps.proofs.FrameLemmas.{first_is}
+use Rattle.desk_steps.proofs.LineLemmas.{AlongRun, along_sent, lines_along}
+use Rattle.desk_steps.proofs.MomentLemmas.{moments_full, moments_shown}
 
 module _ {T : Type 0} (sink : Ghosts T) {N : Type 0} (state : N → DeviceState) (bench : N → BenchState) where
   -- a player at a state of a play, with the given lines left, and what its recorder wrote: a play of these from here
@@ -48,38 +52,73 @@ module _ {T : Type 0} (sink : Ghosts T) {N : Type 0} (state : N → DeviceState)
       let shows = subst (λ (t : List ℕ). ShowsSteps q.sections.now (plays s ls all.0) t) (append-nil h.text) (all.3 [] nothing) in
       record { worn = all.0; played = all.1; steps = all.2; text = h.text; adds = h.adds; shows = shows }
 
+  -- what a recorder has at the beginning of a line
+  pub record BeginsLine (ss : List Source) (l : DeckLine) (q : Recorder T) : Type 0 where
+    pub sections : q.sections.now ≡ ss
+    pub turns : q.turns ≡ 0
+    pub first : q.first ≡ None
+    pub command : q.memory.command.items ≡ command_of l
+    pub opens : q.memory.opens ≡ all_shut
+
+  -- what stands after the turns of a line
+  frame_shown : (t : Step) (q : Recorder T) (frame : List ℕ) → q.memory.command.items ≡ command_of t.line → (q.turns ≡ 0 → moments_of_step t ≡ []) → WaitsFirst q → StoppedBy q frame → IsStoppedFrame t frame
+  frame_shown t q frame command none waits (inl e) = inl e
+  frame_shown t q frame command none (inl e) (inr h) = absurd (cc (sym e ∙ h.2))
+  frame_shown t q frame command none (inr f) (inr h) =
+      let ch : Chain = f.0 in
+      let named : h.1 ≡ ch.frame.name = cc (sym h.2 ∙ f.1) in
+      inr (none h.0, ch, h.3 ∙ first_is 0 q.memory.command.items h.1 q.memory.before ch named f.3 f.2 ∙ ap (λ (b : List ℕ). first_text b ch) command)
+
+  number_some : (n : ℕ) (ts : List Moment) → 0 < n → 0 < number_after n ts
+  number_some n [] h = h
+  number_some n (t ∷ ts) h = number_some (next_number n) ts (omega arith)
+
+  no_turns : (ts : List Moment) → number_after 0 ts ≡ 0 → ts ≡ []
+  no_turns [] e = refl
+  no_turns (t ∷ ts) e = let some = number_some (next_number 0) ts (omega arith) in absurd (omega (arith, e, some))
+
   -- the text of a line: the lines of its turns, and its own
-  line_shown : (ss : List Source) (s : State) (l : ℕ × DeckLine) (w : Option FailedWrite) (q m r : Recorder T) (statement : List ℕ) (result : Option LineResult) → q.sections.now ≡ ss → q.turns ≡ 0 → (let t = step s l w in Recorded sink q (turns_of_step t) m → result ≡ t.result → PutsText sink m (line_text l.0 statement result) r
+  line_shown : (ss : List Source) (s : State) (l : ℕ × DeckLine) (w : Option FailedWrite) (p : Player N) (q m r : Recorder T) (statement frame : List ℕ) (result : Option LineResult) → IsPlayerAt state bench p s → BeginsLine ss l.1 q → StoppedBy m frame → (let t = step s l w in Recorded sink q (moments_of_step t) m → result ≡ t.result → PutsText sink m (frame ++ line_text l.0 statement result) r
       → (x : List ℕ) × ShowsStep ss t x × PutsText sink q x r)
-  line_shown ss s l w q m r statement result same none did is adds =
+  line_shown ss s l w p q m r statement frame result at begins stopped did is adds =
       let t = step s l w in
+      let k = length (shown_turns t.turns t.stop) in
+      let ts : List Moment = moments_of_step t in
       let line : List ℕ = line_text l.0 statement result in
       let due : line ≡ line_text t.number statement t.result = ap (λ (o : Option LineResult). line_text l.0 statement o) is ∙ ap (λ (n : ℕ). line_text n statement t.result) (sym ((step_is s l w).number)) in
-      let lines = subst (λ (zs : List Source). AreLines zs 0 (turns_of_step t) did.text) same (subst (λ (n : ℕ). AreLines q.sections.now n (turns_of_step t) did.text) none did.lines) in (
-        did.text ++ line,
-        (did.text, statement, lines, ap (λ (y : List ℕ). did.text ++ y) due),
-        puts_on sink q m r did.text line did.adds adds,
+      let command : q.memory.command.items ≡ command_of t.line = begins.command ∙ ap (λ (d : DeckLine). command_of d) (sym ((step_is s l w).line)) in
+      let one = subst (λ (zs : List Source). AreLinesBy zs q.memory.command.items q.turns q.memory.opens ts did.text) begins.sections did.lines in
+      let two = subst (λ (b : List ℕ). AreLinesBy ss b q.turns q.memory.opens ts did.text) command one in
+      let three = subst (λ (n : ℕ). AreLinesBy ss (command_of t.line) n q.memory.opens ts did.text) begins.turns two in
+      let four = subst (λ (os : List Bool). AreLinesBy ss (command_of t.line) 0 os ts did.text) begins.opens three in
+      let along : AlongRun all_shut ts = subst (λ (us : List Moment). AlongRun all_shut us) (moments_shown state bench p s l w at) (along_sent k (sent_by state p l.1)) in
+      let none : m.turns ≡ 0 → ts ≡ [] = λ e. no_turns ts (ap (λ (n : ℕ). number_after n ts) (sym begins.turns) ∙ sym did.turns ∙ e) in
+      let after = frame_shown t m frame (did.command ∙ command) none (did.waits (inl begins.first)) stopped in (
+        did.text ++ (frame ++ line),
+        (did.text, frame, statement, lines_along ss (command_of t.line) 0 all_shut ts did.text along four, after, moments_full state bench p s l w at, ap (λ (y : List ℕ). did.text ++ (frame ++ y)) due),
+        puts_on sink q m r did.text (frame ++ line) did.adds adds,
       )
 
-  pub recording_on : (s : State) (ls : List (ℕ × DeckLine)) (a : Bench) (q : Recorder T) (left : List (ℕ × DeckLine)) (n : ℕ) (l : DeckLine) (p v : Player N) (before begun after last : Recorder T) (answer : Option Answer) (statement : List ℕ) (old now new : ℕ) → Recording s ls a q old ((n, l) ∷ left) p before now
-      → begun.out ≡ before.out → begun.fault ≡ before.fault → begun.sections.now ≡ before.sections.now → begun.turns ≡ 0 → LineDone state bench (Watches full_turn_of (Recorded sink) (sent_by state p l)) p l begun after answer v → CountsLine state bench p l answer now new
-      → PutsText sink after (line_text n statement (option_map (answer_value state v) answer)) last → last.sections.now ≡ after.sections.now → Recording s ls a q old left v last new
-  recording_on s ls a q left n l p v before begun after last answer statement old now new h out fault sections turns done counts adds kept =
+  pub recording_on : (s : State) (ls : List (ℕ × DeckLine)) (a : Bench) (q : Recorder T) (left : List (ℕ × DeckLine)) (n : ℕ) (l : DeckLine) (p v : Player N) (before begun after last : Recorder T) (answer : Option Answer) (statement frame : List ℕ) (old now new : ℕ) → Recording s ls a q old ((n, l) ∷ left) p before now
+      → begun.out ≡ before.out → begun.fault ≡ before.fault → BeginsLine before.sections.now l begun → LineDone state bench (Watches moment (Recorded sink) (sent_by state p l)) p l begun after answer v → CountsLine state bench p l answer now new
+      → StoppedBy after frame → PutsText sink after (frame ++ line_text n statement (option_map (answer_value state v) answer)) last → last.sections.now ≡ after.sections.now → Recording s ls a q old left v last new
+  recording_on s ls a q left n l p v before begun after last answer statement frame old now new h out fault begins done counts stopped adds kept =
       let line = done h.here n h.at in
       let w = line.0 in
       let t = step h.here (n, l) w in
       let end = line.1.stepped in
       let ss : List Source = q.sections.now in
       let steps = step_counts state v h.here (n, l) w answer now new end.answers (counts h.here h.at) in
-      let did : Recorded sink begun (turns_of_step t) after = subst (λ (ts : List FullTurn). Recorded sink begun ts after) (sent_shown state bench p h.here (n, l) w h.at) line.1.reports in
-      let shown = line_shown ss h.here (n, l) w begun after last statement (option_map (answer_value state v) answer) (sections ∙ h.sections) turns did end.answers adds in
+      let did : Recorded sink begun (moments_of_step t) after = subst (λ (ts : List Moment). Recorded sink begun ts after) (moments_shown state bench p h.here (n, l) w h.at) line.1.reports in
+      let begun_on : BeginsLine ss l begun = record { sections = begins.sections ∙ h.sections; turns = begins.turns; first = begins.first; command = begins.command; opens = begins.opens } in
+      let shown = line_shown ss h.here (n, l) w p begun after last statement frame (option_map (answer_value state v) answer) h.at begun_on stopped did end.answers adds in
       let from : PutsText sink before shown.0 last = puts_from sink before begun last shown.0 out fault shown.2 in
       record {
         here = t.after;
         at = end.at;
         text = h.text ++ shown.0;
         adds = puts_on sink q before last h.text shown.0 h.adds from;
-        sections = kept ∙ did.sections ∙ sections ∙ h.sections;
+        sections = kept ∙ did.sections ∙ begins.sections ∙ h.sections;
         rest = λ ws b end played rest.
             let one = plays_on h.here (n, l) w left ws in
             let both = steps_as (t ∷ plays t.after left ws) (plays h.here ((n, l) ∷ left) (w ∷ ws)) now end (sym one) (steps_then (t ∷ []) (plays t.after left ws) now new end steps rest) in

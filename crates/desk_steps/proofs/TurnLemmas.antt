@@ -1,27 +1,40 @@
 -- A card after a turn is up, and the turn that a recorder saw.
-use Rattle.std.proofs.Common.{◌≡◌, ℕ, List, Option, Result, Ok, Err, IsErr, ap, sym, subst, ◌∙◌}
-use Rattle.std.specs.Prelude.{option_map}
+use Rattle.std.proofs.Common.{◌≡◌, ℕ, zero, suc, List, [], Option, Some, None, refl, Result, Ok, Err, ap, sym, subst, ◌∙◌}
+use Rattle.std.specs.Prelude.{option_map, IsSome}
 use Rattle.model_device.specs.declared.device.Stop.{Stop}
 use Rattle.model_device.specs.Orders.{Answer}
+use Rattle.model_device.specs.Bytes.{lookup}
+use Rattle.model_device.specs.Card as model
+use Rattle.model_device.specs.Card.{App}
 use Rattle.model_device.specs.Device.{DeviceState}
-use Rattle.model_machine.specs.Chain.{Chain, Continues, Ends, Follows, Turn as ModelTurn, turn_of}
+use Rattle.model_machine.specs.Chain.{Chain, Continues, Ends, Follows, Turn as ModelTurn, Write, turn_of, turn_of_chain}
+use Rattle.model_card.specs.Items.{write_items}
+use Rattle.law_steps.specs.Shown.{EndsFrame}
+use Rattle.law_steps.proofs.AfterTurns.{ended_writes}
+use Rattle.mc_bank.specs.Bank.{app_of, name_or}
+use Rattle.mc_segs.specs.HeldFrames.{Seen}
 use Rattle.mc_machine.specs.declared.outcome.Turn.{Turn}
-use Rattle.mc_machine.specs.Turns.{turn_value}
 use Rattle.mc_card.specs.declared.card.Card.{Card}
-use Rattle.mc_card.specs.Parts.{IsRunning, IsUp, RunsChain}
+use Rattle.mc_card.specs.Parts.{IsRunning, IsUp, RunsChain, card_in, device_in, view_in, words_in}
+use Rattle.mc_card.proofs.StaticLemmas.{going_apps}
+use Rattle.mc_card.specs.ItemWrites.{IsCardAfter}
+use Rattle.mc_card.proofs.MadeLemmas.{card_found}
 use Rattle.mc_card.specs.Ends.{ChainTurned, TurnGoesOn}
 use Rattle.mc_streams.specs.declared.sink.Sink.{Ghosts}
 use Rattle.desk_draft.specs.FullTurns.{FullTurn}
 use Rattle.desk_draft.specs.Listings.{CodeLine, Source}
 use Rattle.desk_draft.specs.Traces.{line_of_turn, section_of_turn}
 use Rattle.desk_draft.specs.Verdicts.{source_line}
-use Rattle.mc_script.specs.Watching.{WatchesTurn}
-use Rattle.desk_cover.specs.Looking.{section_at}
-use Rattle.desk_cover.specs.Watching.{full_turn_of}
+use Rattle.mc_script.specs.Watching.{IsWide, WatchesTurn}
+use Rattle.mc_script.proofs.WideLemmas.{next_wide}
+use Rattle.desk_cover.specs.Looking.{Shows, section_at}
+use Rattle.desk_cover.specs.Watching.{name_in}
+use Rattle.desk_cover.proofs.FullTurnLemmas.{chained_name}
 use Rattle.desk_cover.proofs.TraceLemmas.{IsTurnOf}
 use Rattle.desk_steps.specs.declared.recording.Recorder.{Recorder}
-use Rattle.desk_steps.specs.Lines.{turn_text, Found}
-use Rattle.desk_steps.specs.Recorded.{next_number, puts_from, recorded_stopped, BeginsFrames, PutsText, Recorded, RecordsTurn}
+use Rattle.desk_steps.specs.Moments.{moment}
+use Rattle.desk_steps.specs.Turning.{IsWideNext, KeepsStatics, WasTurn}
+use Rattle.desk_steps.specs.Recorded.{recorded_stopped, IsQuiet, Recorded, WaitsFirst}
 
 module _ {N : Type 0} (state : N → DeviceState) (wrote : N → ℕ → List ℕ → Answer → N → Type 0) where
   goes_up : (c d : Card N) (ch : Chain) (left : ℕ) (f : Follows) → TurnGoesOn state wrote c ch left f d → IsUp state d
@@ -35,33 +48,53 @@ module _ {N : Type 0} (state : N → DeviceState) (wrote : N → ℕ → List �
       goes_up c d r.0 _ t.follows (h r.0 r.1 r.2).follows
 
 -- the number of the source line of a turn
-source_found : (turn : Turn) (ss : List Source) (o : Option ℕ) (t : FullTurn) (n : Option ℕ) → IsTurnOf turn ss o t → n ≡ option_map (λ (l : CodeLine). l.number) (source_line (section_at ss o) turn.at) → n ≡ option_map (λ (l : CodeLine). l.number) (line_of_turn ss t)
+pub source_found : (turn : Turn) (ss : List Source) (o : Option ℕ) (t : FullTurn) (n : Option ℕ) → IsTurnOf turn ss o t → n ≡ option_map (λ (l : CodeLine). l.number) (source_line (section_at ss o) turn.at) → n ≡ option_map (λ (l : CodeLine). l.number) (line_of_turn ss t)
 source_found turn ss o t n h e =
     e ∙ ap (λ (s : Option Source). option_map (λ (l : CodeLine). l.number) (source_line s turn.at)) h.section ∙ ap (λ (u : ModelTurn). option_map (λ (l : CodeLine). l.number) (source_line (section_of_turn ss t) u.at)) (sym h.same)
 
 module _ {T : Type 0} (sink : Ghosts T) where
-  -- a turn that was recorded, by the name and the source line that were found of it
-  pub records_full : (p r : Recorder T) (turn : Turn) (ss : List Source) (o : Option ℕ) (t : FullTurn) (name : List ℕ) (n : Option ℕ) (h : IsTurnOf turn ss o t) → name ≡ t.frame.name → n ≡ option_map (λ (l : CodeLine). l.number) (source_line (section_at ss o) turn.at)
-      → RecordsTurn sink p name n (turn_value turn h.wrote) r → RecordsTurn sink p t.frame.name (option_map (λ l. l.number) (line_of_turn ss t)) t.turn r
-  records_full p r turn ss o t name n h named source did =
-      let one = subst (λ (m : List ℕ). RecordsTurn sink p m n (turn_value turn h.wrote) r) named did in
-      let two = subst (λ (k : Option ℕ). RecordsTurn sink p t.frame.name k (turn_value turn h.wrote) r) (source_found turn ss o t n h source) one in
-      subst (λ (u : ModelTurn). RecordsTurn sink p t.frame.name (option_map (λ (l : CodeLine). l.number) (line_of_turn ss t)) u r) (sym h.same) two
+  -- a turn whose write stopped is not recorded
+  pub watches_stopped : (n : ℕ) (ch : Chain) (result : Result Turn Stop) (stop : Stop) (q p : Recorder T) → result ≡ Err stop → IsQuiet q p → WaitsFirst p → WatchesTurn moment (Recorded sink) n ch result q p
+  watches_stopped n ch result stop q p is h waits = subst (λ (r : Result Turn Stop). WatchesTurn moment (Recorded sink) n ch r q p) (sym is) (recorded_stopped sink q p h waits)
 
-  -- a turn that was recorded after a recorder looked at its card
-  pub records_from : (q p m r : Recorder T) (name : List ℕ) (source : Option ℕ) (t : ModelTurn) (f : Found) → p.out ≡ q.out → p.fault ≡ q.fault → p.sections.now ≡ q.sections.now → p.turns ≡ q.turns → PutsText sink p (turn_text (next_number p.turns) name source t f) m → m.sections.now ≡ p.sections.now
-      → m.turns ≡ next_number p.turns → BeginsFrames sink m r → RecordsTurn sink q name source t r
-  records_from q p m r name source t f out fault sections turns adds kept counted frames =
+-- ---- the card after a turn
+
+module _ {N : Type 0} (state : N → DeviceState) (wrote : N → ℕ → List ℕ → Answer → N → Type 0) where
+  shown_after : (c d : Card N) (ch : Chain) (left : ℕ) (f : Follows) → TurnGoesOn state wrote c ch left f d → Shows state d f
+  shown_after c d ch left (Continues next) h = (left, h.0)
+  shown_after c d ch left (Ends o) h = (h.0).idle
+
+  wide_after : (n : ℕ) (ch : Chain) → IsWide ch → IsWideNext (turn_of n ch).follows
+  wide_after zero ch w = tt
+  wide_after (suc n) ch w = by (turn_of_chain ch).follows refl
+    where
+      by : (f : Follows) → (turn_of_chain ch).follows ≡ f → IsWideNext f
+      by (Ends o) e = tt
+      by (Continues c) e = (next_wide ch c e w).frames.0
+
+  name_there : (o : Option (List ℕ)) (n : List ℕ) → IsSome o → name_or o ≡ n → o ≡ Some n
+  name_there None n there e = absurd (cc there)
+  name_there (Some m) n there e = ap Some e
+
+  -- a turn that ends its frame writes nothing, so the card keeps the static bytes that the frame has
+  kept_after : (c d : Card N) (ch : Chain) (left : ℕ) (turn : Turn) → RunsChain state c ch left → ChainTurned state wrote c ch left (turn_of left ch) (Ok turn) d → EndsFrame (turn_of left ch).turn → KeepsStatics state d ch.frame
+  kept_after c d ch left turn runs h ends =
+      let done : IsCardAfter (card_in state c) (write_items []) (Ok tt) (words_in state d) = subst (λ (ws : List Write). IsCardAfter (card_in state c) (write_items ws) (Ok tt) (words_in state d)) (ended_writes left ch ends) h.made.done in
+      let same : card_in state c ≡ card_in state d = card_found (card_in state c) 0 (words_in state d) done in
+      let name : name_in state c runs.chained.running ≡ ch.frame.name = chained_name state c ch left runs in
+      let named : (view_in state c).named runs.chained.running.slot ≡ Some ch.frame.name = name_there ((view_in state c).named runs.chained.running.slot) ch.frame.name runs.runs.running.fits.there name in
+      let apps : (view_in state c).state.apps ≡ (card_in state c).apps = going_apps (state (device_in c)) _ runs.up.going in
+      let app : IsSome (lookup (view_in state c).state.apps ch.frame.name) = subst (λ (n : List ℕ). IsSome (lookup (view_in state c).state.apps n)) name runs.runs.running.fits.app in
+      let there : IsSome (lookup (card_in state c).apps ch.frame.name) = subst (λ (m : List (List ℕ × App)). IsSome (lookup m ch.frame.name)) apps app in
+      let fixed : (app_of (card_in state c).apps (Some ch.frame.name)).fixed ≡ ch.frame.fixed =
+      ap (λ (m : List (List ℕ × App)). (app_of m (Some ch.frame.name)).fixed) (sym apps) ∙ ap (λ (o : Option (List ℕ)). (app_of (view_in state c).state.apps o).fixed) (sym named) ∙ ap (λ (s : Seen). s.fixed) runs.runs.running.same
+      in
       record {
-        found = f;
-        middle = m;
-        adds = subst (λ (n : ℕ). PutsText sink q (turn_text (next_number n) name source t f) m) turns (puts_from sink q p m (turn_text (next_number p.turns) name source t f) out fault adds);
-        sections = kept ∙ sections;
-        turns = counted ∙ ap (λ (n : ℕ). next_number n) turns;
-        frames = frames;
+        there = subst (λ (k : model.Card). IsSome (lookup k.apps ch.frame.name)) same there;
+        fixed = subst (λ (k : model.Card). (app_of k.apps (Some ch.frame.name)).fixed ≡ ch.frame.fixed) same fixed;
       }
 
-  -- a turn whose write stopped is not recorded
-  pub watches_stopped : (n : ℕ) (ch : Chain) (result : Result Turn Stop) (q p : Recorder T) → IsErr result → BeginsFrames sink q p → WatchesTurn full_turn_of (Recorded sink) n ch result q p
-  watches_stopped n ch (Ok t) q p is h = absurd (cc is)
-  watches_stopped n ch (Err s) q p is h = recorded_stopped sink q p h
+  -- a card after a turn of a chain
+  pub was_turn : (c d : Card N) (ch : Chain) (left : ℕ) (turn : Turn) → RunsChain state c ch left → IsWide ch → ChainTurned state wrote c ch left (turn_of left ch) (Ok turn) d → WasTurn state d left ch turn
+  was_turn c d ch left turn runs wide h =
+      record { same = h.turn; shows = shown_after c d ch _ _ h.follows; wide = wide_after left ch wide; few = runs.runs.few; kept = λ ends. kept_after c d ch left turn runs h ends }

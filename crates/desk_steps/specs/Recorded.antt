@@ -1,35 +1,43 @@
 -- What a recorder writes: frames that begin, turns in order, and the lines of the deck.
-use Rattle.std.specs.Prelude.{◌≡◌, ℕ, ◌+◌, min, List, [], ◌∷◌, ◌++◌, option_map, Option, Result}
+use Rattle.std.specs.Prelude.{◌≡◌, ◌⊎◌, ℕ, ◌+◌, ◌≤◌, Bool, true, false, cond, ◌==◌, nat_lt, min, List, [], ◌∷◌, ◌++◌, length, map, get_or, option_map, Option, Some, None, Result}
 use Rattle.std.specs.Borrow.{MutBor}
-use Rattle.std.proofs.Common.{refl, sym, ap, subst, ◌∙◌, append_assoc, append-nil}
+use Rattle.std.proofs.Common.{inl, refl, sym, ap, subst, ◌∙◌, append_assoc, append-nil}
 use Rattle.model_play.specs.DeckGrammar.{DeckLine}
 use Rattle.model_play.specs.Play.{FailedWrite, State, Step, plays, start}
-use Rattle.model_machine.specs.Chain.{Turn}
+use Rattle.model_machine.specs.Chain.{Chain, Follows, Continues, Ends, depth_of, turn_of}
 use Rattle.mc_streams.specs.declared.refusals.WriteFault.{WriteFault}
 use Rattle.mc_streams.specs.declared.sink.Sink.{Ghosts}
 use Rattle.mc_text.specs.Texts.{sunk, Sunk}
-use Rattle.desk_draft.specs.FullTurns.{FullTurn, turns_of_step}
+use Rattle.desk_draft.specs.FullTurns.{turns_of_step}
 use Rattle.desk_draft.specs.Listings.{Source}
 use Rattle.desk_draft.specs.Traces.{line_of_turn}
 use Rattle.mc_script.specs.Plays.{Bench, Played}
 use Rattle.mc_script.specs.StepCounts.{CountsSum, PlaySteps}
 use Rattle.desk_json.specs.Sheets.{PutsOn, puts_both, puts_nothing}
+use Rattle.law_steps.specs.Nexts.{called_opens, open_after, open_by, opens_after}
+use Rattle.law_steps.specs.Readings.{first_sets, turn_sets}
+use Rattle.law_steps.specs.Registers.{frame_after}
 use Rattle.desk_steps.specs.declared.recording.Recorder.{Recorder}
+use Rattle.desk_steps.specs.declared.shot.Shot.{Shot}
 use Rattle.desk_steps.specs.Lines.{Found, frame_text, line_text, turn_text}
+use Rattle.desk_steps.specs.Moments.{Moment, command_of, full_of, moments_of_step}
+use Rattle.desk_steps.specs.Shots.{frame_changes}
+use Rattle.desk_steps.specs.Turning.{IsBefore}
 
 -- ---- frames
 
--- what was found of a frame that begins
-pub record Begun : Type 0 where
-  pub depth : ℕ
-  pub name : List ℕ
-  pub command : Option (List ℕ)
-  pub sets : List (ℕ × List ℕ)
+-- the line of the first frame of a command: its bytes that are not zero are those of the chain before its first turn
+abbrev pub first_text : List ℕ → Chain → List ℕ
+first_text command ch = frame_text 1 ch.frame.name (Some command) (first_sets 1 ch.frame ch.public)
 
--- the lines of frames that begin
-abbrev pub frames_text : List Begun → List ℕ
-frames_text [] = []
-frames_text (f ∷ fs) = frame_text f.depth f.name f.command f.sets ++ frames_text fs
+-- the line of the first frame, before the first turn of a line, after which the turns before it are counted
+abbrev pub first_before : ℕ → List ℕ → Chain → List ℕ
+first_before n command ch = cond (n == 0) (first_text command ch) []
+
+-- the line of the frame that a turn at a depth called, if it called one
+abbrev pub called_text : ℕ → Follows → List ℕ
+called_text depth (Ends o) = []
+called_text depth (Continues c) = cond (nat_lt depth (depth_of c)) (frame_text (depth_of c) c.frame.name None (first_sets (depth_of c) c.frame c.public)) []
 
 -- ---- turns
 
@@ -38,25 +46,67 @@ abbrev pub next_number : ℕ → ℕ
 next_number n = min (n + 1) 4294967295
 
 -- the number of the last of some turns after one
-abbrev pub number_after : ℕ → List FullTurn → ℕ
+abbrev pub number_after : ℕ → List Moment → ℕ
 number_after n [] = n
 number_after n (t ∷ ts) = number_after (next_number n) ts
 
--- the line of a turn of a play, by its number and what was found of it besides
-abbrev pub line_of_full : List Source → ℕ → FullTurn → Found → List ℕ
-line_of_full ss n t x = turn_text n t.frame.name (option_map (λ l. l.number) (line_of_turn ss t)) t.turn x
+-- the number of the source line of a turn
+abbrev pub source_number : List Source → Moment → Option ℕ
+source_number ss t = option_map (λ l. l.number) (line_of_turn ss (full_of t))
 
--- a line for each of some turns, in order and numbered on, and before each and after the last those of frames that begin
-abbrev pub AreLines : List Source → ℕ → List FullTurn → List ℕ → Type 0
-AreLines ss n [] text = (fs : List Begun) × (text ≡ frames_text fs)
-AreLines ss n (t ∷ ts) text = (fs : List Begun) × (x : Found) × (rest : List ℕ) × (text ≡ frames_text fs ++ (line_of_full ss (next_number n) t x ++ rest)) × AreLines ss (next_number n) ts rest
+-- what a line has of a turn besides the turn: LB after it, whether protection is on, the runs that it changed, and its
+-- device writes
+abbrev pub found_of : Moment → Bool → Option (ℕ × ℕ) → Found
+found_of t on w = record { lb = (frame_after t.left t.chain).lb; is_on = on; sets = turn_sets t.left t.chain; writes = w }
+
+-- the line of a turn, by its number, its source line and what was found of it besides
+abbrev pub line_of : ℕ → Option ℕ → Moment → Found → List ℕ
+line_of n source t x = turn_text n t.chain.frame.name source (turn_of t.left t.chain).turn x
+
+-- the lines of a turn after some others: before the first one that of its frame, its own, and that of the frame that it
+-- called
+abbrev pub turn_lines : ℕ → List ℕ → Option ℕ → Moment → Bool → Option (ℕ × ℕ) → List ℕ
+turn_lines n command source t on w =
+    first_before n command t.chain ++ (line_of (next_number n) source t (found_of t on w) ++ called_text (depth_of t.chain) (turn_of t.left t.chain).follows)
+
+-- The lines of some turns of a command, in order and numbered on. All that a line has is said but for its device writes.
+abbrev pub AreLines : List Source → List ℕ → ℕ → List Moment → List ℕ → Type 0
+AreLines ss command n [] text = text ≡ []
+AreLines ss command n (t ∷ ts) text =
+    (w : Option (ℕ × ℕ)) × (rest : List ℕ) × (text ≡ turn_lines n command (source_number ss t) t (open_after t.left t.chain) w ++ rest)
+    × AreLines ss command (next_number n) ts rest
+
+-- ---- turns, with protection by depth
+
+-- protection after a turn, by protection by depth before it
+abbrev pub open_in : List Bool → Moment → Bool
+open_in os t = let u = (turn_of t.left t.chain).turn in open_by u.end u.ins (get_or os (length t.chain.below) false)
+
+-- protection by depth after some turns
+abbrev pub opens_of : List Bool → List Moment → List Bool
+opens_of os [] = os
+opens_of os (t ∷ ts) = opens_of (opens_after t.left t.chain os) ts
+
+-- the lines of some turns, with protection by that by depth before them
+abbrev pub AreLinesBy : List Source → List ℕ → ℕ → List Bool → List Moment → List ℕ → Type 0
+AreLinesBy ss command n os [] text = text ≡ []
+AreLinesBy ss command n os (t ∷ ts) text =
+    (w : Option (ℕ × ℕ)) × (rest : List ℕ) × (text ≡ turn_lines n command (source_number ss t) t (open_in os t) w ++ rest)
+    × AreLinesBy ss command (next_number n) (opens_after t.left t.chain os) ts rest
 
 -- ---- lines of the deck
+
+-- what stands after the turns of a line: nothing, or if it has none the line of the first frame of some chain, whose
+-- first turn a stop hit
+abbrev pub IsStoppedFrame : Step → List ℕ → Type 0
+IsStoppedFrame t frame = (frame ≡ []) ⊎ ((moments_of_step t ≡ []) × (ch : Chain) × (frame ≡ first_text (command_of t.line) ch))
 
 -- the text of a line that was played: the lines of its turns up to the one in which a stop hit it, and its own with its
 -- number and its result
 abbrev pub ShowsStep : List Source → Step → List ℕ → Type 0
-ShowsStep ss t text = (turns : List ℕ) × (statement : List ℕ) × AreLines ss 0 (turns_of_step t) turns × (text ≡ turns ++ line_text t.number statement t.result)
+ShowsStep ss t text =
+    (turns : List ℕ) × (frame : List ℕ) × (statement : List ℕ) × AreLines ss (command_of t.line) 0 (moments_of_step t) turns × IsStoppedFrame t frame
+    × (map full_of (moments_of_step t) ≡ turns_of_step t) × (text ≡ turns ++ (frame ++ line_text t.number statement t.result))
 
 -- the text of lines that were played, one after the other
 abbrev pub ShowsSteps : List Source → List Step → List ℕ → Type 0
@@ -72,32 +122,24 @@ pub record StepsDeck (ss : List Source) (ls : List (ℕ × DeckLine)) (a : Bench
 
 -- ---- the laws of lines
 
-frames_append : (fs gs : List Begun) → frames_text (fs ++ gs) ≡ frames_text fs ++ frames_text gs
-frames_append [] gs = refl
-frames_append (f ∷ fs) gs = ap (λ (t : List ℕ). frame_text f.depth f.name f.command f.sets ++ t) (frames_append fs gs) ∙ sym (append_assoc (frame_text f.depth f.name f.command f.sets) (frames_text fs) (frames_text gs))
-
--- frames before turns
-frames_first : (ss : List Source) (n : ℕ) (fs : List Begun) (us : List FullTurn) (x y : List ℕ) → x ≡ frames_text fs → AreLines ss n us y → AreLines ss n us (x ++ y)
-frames_first ss n fs [] x y e h = (fs ++ h.0, ap (λ (t : List ℕ). t ++ y) e ∙ ap (λ (t : List ℕ). frames_text fs ++ t) h.1 ∙ sym (frames_append fs h.0))
-frames_first ss n fs (u ∷ us) x y e h =
-    let tail : List ℕ = line_of_full ss (next_number n) u h.1 ++ h.2 in
-    (fs ++ h.0, h.1, h.2, ap (λ (t : List ℕ). t ++ y) e ∙ ap (λ (t : List ℕ). frames_text fs ++ t) h.3 ∙ sym (append_assoc (frames_text fs) (frames_text h.0) tail) ∙ ap (λ (t : List ℕ). t ++ tail) (sym (frames_append fs h.0)), h.4)
-
 -- turns after turns
-pub lines_on : (ss : List Source) (n : ℕ) (ts us : List FullTurn) (x y : List ℕ) → AreLines ss n ts x → AreLines ss (number_after n ts) us y → AreLines ss n (ts ++ us) (x ++ y)
-lines_on ss n [] us x y first rest = frames_first ss n first.0 us x y first.1 rest
-lines_on ss n (t ∷ ts) us x y first rest =
-    let line : List ℕ = line_of_full ss (next_number n) t first.1 in (
+pub lines_on : (ss : List Source) (command : List ℕ) (n : ℕ) (os : List Bool) (ts us : List Moment) (x y : List ℕ) → AreLinesBy ss command n os ts x → AreLinesBy ss command (number_after n ts) (opens_of os ts) us y → AreLinesBy ss command n os (ts ++ us) (x ++ y)
+lines_on ss command n os [] us x y first rest = subst (λ (z : List ℕ). AreLinesBy ss command n os us (z ++ y)) (sym first) rest
+lines_on ss command n os (t ∷ ts) us x y first rest =
+    let lines : List ℕ = turn_lines n command (source_number ss t) t (open_in os t) first.0 in (
       first.0,
-      first.1,
-      first.2 ++ y,
-      ap (λ (z : List ℕ). z ++ y) first.3 ∙ append_assoc (frames_text first.0) (line ++ first.2) y ∙ ap (λ (z : List ℕ). frames_text first.0 ++ z) (append_assoc line first.2 y),
-      lines_on ss (next_number n) ts us first.2 y first.4 rest,
+      first.1 ++ y,
+      ap (λ (z : List ℕ). z ++ y) first.2 ∙ append_assoc lines first.1 y,
+      lines_on ss command (next_number n) (opens_after t.left t.chain os) ts us first.1 y first.3 rest,
     )
 
-number_append : (n : ℕ) (ts us : List FullTurn) → number_after n (ts ++ us) ≡ number_after (number_after n ts) us
+number_append : (n : ℕ) (ts us : List Moment) → number_after n (ts ++ us) ≡ number_after (number_after n ts) us
 number_append n [] us = refl
 number_append n (t ∷ ts) us = number_append (next_number n) ts us
+
+opens_append : (os : List Bool) (ts us : List Moment) → opens_of os (ts ++ us) ≡ opens_of (opens_of os ts) us
+opens_append os [] us = refl
+opens_append os (t ∷ ts) us = opens_append (opens_after t.left t.chain os) ts us
 
 -- ---- recorders
 
@@ -125,66 +167,125 @@ module _ {T : Type 0} (sink : Ghosts T) where
       let one : PutsOn q.fault (sunk sink p.out.now) x r.fault (sunk sink r.out.now) = subst (λ (f : Option WriteFault). PutsOn f (sunk sink p.out.now) x r.fault (sunk sink r.out.now)) fault h.puts in
       record { puts = subst (λ (o : MutBor T). PutsOn q.fault (sunk sink o.now) x r.fault (sunk sink r.out.now)) out one; same = h.same ∙ ap (λ (o : MutBor T). o.ghost_name) out }
 
+-- ---- what a recorder keeps
+
+-- a recorder is as before but for its text, the shots and the frame that waits
+pub record KeepsState {T : Type 0} (q r : Recorder T) : Type 0 where
+  pub sections : r.sections.now ≡ q.sections.now
+  pub turns : r.turns ≡ q.turns
+  pub command : r.memory.command.items ≡ q.memory.command.items
+  pub opens : r.memory.opens ≡ q.memory.opens
+
+-- and wrote nothing
+pub record IsQuiet {T : Type 0} (q r : Recorder T) : Type 0 where
+  pub out : r.out ≡ q.out
+  pub fault : r.fault ≡ q.fault
+  pub keeps : KeepsState q r
+
+-- the line of the first frame before the first turn, by the shot of the frame
+abbrev pub first_by : ℕ → List ℕ → List ℕ → Shot → List ℕ
+first_by n command name s = cond (n == 0) (frame_text 1 name (Some command) (frame_changes true s)) []
+
+-- what stands after the turns of a line, by what its recorder kept: nothing, or the line of the frame that waits if no
+-- turn was recorded
+abbrev pub StoppedBy : {T : Type 0} → Recorder T → List ℕ → Type 0
+StoppedBy q frame = (frame ≡ []) ⊎ ((q.turns ≡ 0) × (name : List ℕ) × (q.first ≡ Some name) × (frame ≡ frame_text 1 name (Some q.memory.command.items) (frame_changes true q.memory.before)))
+
+-- the frame of a recorder that waits, if one does, is that of a chain before a turn
+abbrev pub WaitsFirst : {T : Type 0} → Recorder T → Type 0
+WaitsFirst r = (r.first ≡ None) ⊎ ((ch : Chain) × (r.first ≡ Some ch.frame.name) × (512 ≤ length ch.frame.dyn) × IsBefore r.memory.before ch)
+
 module _ {T : Type 0} (sink : Ghosts T) where
-  -- a recorder wrote the lines of frames that begin, and none of a turn
-  pub record BeginsFrames (q r : Recorder T) : Type 0 where
-    pub frames : List Begun
-    pub adds : PutsText sink q (frames_text frames) r
+  -- a recorder wrote what stands after the turns of a line
+  abbrev pub StoppedText : Recorder T → Recorder T → Type 0
+  StoppedText q r = (frame : List ℕ) × StoppedBy q frame × PutsText sink q frame r
+
+  -- a recorder wrote the line of the frame that a turn at a depth called, if it called one
+  pub record CallsNext (q : Recorder T) (depth : ℕ) (next : Follows) (r : Recorder T) : Type 0 where
+    pub adds : PutsText sink q (called_text depth next) r
     pub sections : r.sections.now ≡ q.sections.now
     pub turns : r.turns ≡ q.turns
+    pub command : r.memory.command.items ≡ q.memory.command.items
+    pub opens : r.memory.opens ≡ called_opens depth next q.memory.opens
 
-  -- a recorder wrote the line of a turn, by the name of its application and its source line, and after it the lines of
-  -- frames that begin
-  pub record RecordsTurn (q : Recorder T) (name : List ℕ) (source : Option ℕ) (t : Turn) (r : Recorder T) : Type 0 where
-    pub found : Found
-    pub middle : Recorder T
-    pub adds : PutsText sink q (turn_text (next_number q.turns) name source t found) middle
-    pub sections : middle.sections.now ≡ q.sections.now
-    pub turns : middle.turns ≡ next_number q.turns
-    pub frames : BeginsFrames middle r
+  -- a recorder wrote the lines of a turn, by its source line
+  pub record RecordsTurn (q : Recorder T) (source : Option ℕ) (t : Moment) (r : Recorder T) : Type 0 where
+    pub writes : Option (ℕ × ℕ)
+    pub adds : PutsText sink q (turn_lines q.turns q.memory.command.items source t (open_in q.memory.opens t) writes) r
+    pub sections : r.sections.now ≡ q.sections.now
+    pub turns : r.turns ≡ next_number q.turns
+    pub command : r.memory.command.items ≡ q.memory.command.items
+    pub opens : r.memory.opens ≡ opens_after t.left t.chain q.memory.opens
+    pub first : r.first ≡ None
 
   -- a recorder wrote the lines of turns
-  pub record Recorded (q : Recorder T) (ts : List FullTurn) (r : Recorder T) : Type 0 where
+  pub record Recorded (q : Recorder T) (ts : List Moment) (r : Recorder T) : Type 0 where
     pub text : List ℕ
     pub adds : PutsText sink q text r
-    pub lines : AreLines q.sections.now q.turns ts text
+    pub lines : AreLinesBy q.sections.now q.memory.command.items q.turns q.memory.opens ts text
     pub sections : r.sections.now ≡ q.sections.now
     pub turns : r.turns ≡ number_after q.turns ts
+    pub command : r.memory.command.items ≡ q.memory.command.items
+    pub opens : r.memory.opens ≡ opens_of q.memory.opens ts
+    pub waits : WaitsFirst q → WaitsFirst r
 
   -- of no turn no line is written
   pub recorded_none : (r : Recorder T) → Recorded r [] r
-  recorded_none r = record { text = []; adds = puts_none sink r; lines = ([], refl); sections = refl; turns = refl }
+  recorded_none r = record { text = []; adds = puts_none sink r; lines = refl; sections = refl; turns = refl; command = refl; opens = refl; waits = λ h. h }
 
   -- the lines of turns are written after those before them
-  pub recorded_on : (q r s : Recorder T) (ts us : List FullTurn) → Recorded q ts r → Recorded r us s → Recorded q (ts ++ us) s
+  pub recorded_on : (q r s : Recorder T) (ts us : List Moment) → Recorded q ts r → Recorded r us s → Recorded q (ts ++ us) s
   recorded_on q r s ts us first rest =
-      let here = subst (λ (ss : List Source). AreLines ss r.turns us rest.text) first.sections rest.lines in
-      let there = subst (λ (n : ℕ). AreLines q.sections.now n us rest.text) first.turns here in
+      let one = subst (λ (ss : List Source). AreLinesBy ss r.memory.command.items r.turns r.memory.opens us rest.text) first.sections rest.lines in
+      let two = subst (λ (b : List ℕ). AreLinesBy q.sections.now b r.turns r.memory.opens us rest.text) first.command one in
+      let three = subst (λ (n : ℕ). AreLinesBy q.sections.now q.memory.command.items n r.memory.opens us rest.text) first.turns two in
+      let four = subst (λ (os : List Bool). AreLinesBy q.sections.now q.memory.command.items (number_after q.turns ts) os us rest.text) first.opens three in
       record {
         text = first.text ++ rest.text;
         adds = puts_on sink q r s first.text rest.text first.adds rest.adds;
-        lines = lines_on q.sections.now q.turns ts us first.text rest.text first.lines there;
+        lines = lines_on q.sections.now q.memory.command.items q.turns q.memory.opens ts us first.text rest.text first.lines four;
         sections = rest.sections ∙ first.sections;
         turns = rest.turns ∙ ap (λ (n : ℕ). number_after n us) first.turns ∙ sym (number_append q.turns ts us);
+        command = rest.command ∙ first.command;
+        opens = rest.opens ∙ ap (λ (os : List Bool). opens_of os us) first.opens ∙ sym (opens_append q.memory.opens ts us);
+        waits = λ h. rest.waits (first.waits h);
       }
 
-  -- frames, a turn, and frames after it
-  pub recorded_turn : (ss : List Source) (q p r : Recorder T) (t : FullTurn) → q.sections.now ≡ ss → BeginsFrames q p → RecordsTurn p t.frame.name (option_map (λ l. l.number) (line_of_turn ss t)) t.turn r → Recorded q (t ∷ []) r
+  -- a turn, after its recorder looked at the card
+  pub recorded_turn : (ss : List Source) (q p r : Recorder T) (t : Moment) → q.sections.now ≡ ss → IsQuiet q p → RecordsTurn p (source_number ss t) t r → Recorded q (t ∷ []) r
   recorded_turn ss q p r t same before h =
-      let line : List ℕ = line_of_full ss (next_number q.turns) t h.found in
-      let adds = subst (λ (n : ℕ). PutsText sink p (line_of_full ss (next_number n) t h.found) h.middle) before.turns h.adds in
-      let last = puts_on sink p h.middle r line (frames_text h.frames.frames) adds h.frames.adds in
+      let k = before.keeps in
+      let text : ℕ → List ℕ → List Bool → List ℕ = λ n b os. turn_lines n b (source_number ss t) t (open_in os t) h.writes in
+      let one : PutsText sink q (text p.turns p.memory.command.items p.memory.opens) r = puts_from sink q p r (text p.turns p.memory.command.items p.memory.opens) before.out before.fault h.adds in
+      let two = subst (λ (n : ℕ). PutsText sink q (text n p.memory.command.items p.memory.opens) r) k.turns one in
+      let three = subst (λ (b : List ℕ). PutsText sink q (text q.turns b p.memory.opens) r) k.command two in
+      let four = subst (λ (os : List Bool). PutsText sink q (text q.turns q.memory.command.items os) r) k.opens three in
+      let whole : List ℕ = text q.turns q.memory.command.items q.memory.opens in
       record {
-        text = frames_text before.frames ++ (line ++ frames_text h.frames.frames);
-        adds = puts_on sink q p r (frames_text before.frames) (line ++ frames_text h.frames.frames) before.adds last;
-        lines = subst (λ (zs : List Source). AreLines zs q.turns (t ∷ []) (frames_text before.frames ++ (line ++ frames_text h.frames.frames))) (sym same) (before.frames, h.found, frames_text h.frames.frames, refl, (h.frames.frames, refl));
-        sections = h.frames.sections ∙ h.sections ∙ before.sections;
-        turns = h.frames.turns ∙ h.turns ∙ ap next_number before.turns;
+        text = whole ++ [];
+        adds = puts_as sink q r whole (whole ++ []) (sym (append-nil whole)) four;
+        lines = subst (λ (zs : List Source). AreLinesBy zs q.memory.command.items q.turns q.memory.opens (t ∷ []) (whole ++ [])) (sym same) (h.writes, [], refl, refl);
+        sections = h.sections ∙ k.sections;
+        turns = h.turns ∙ ap (λ (n : ℕ). next_number n) k.turns;
+        command = h.command ∙ k.command;
+        opens = h.opens ∙ ap (λ (os : List Bool). opens_after t.left t.chain os) k.opens;
+        waits = λ x. inl h.first;
       }
 
-  -- frames before a turn whose write stopped
-  pub recorded_stopped : (q r : Recorder T) → BeginsFrames q r → Recorded q [] r
-  recorded_stopped q r h = record { text = frames_text h.frames; adds = h.adds; lines = (h.frames, refl); sections = h.sections; turns = h.turns }
+  -- a turn whose write stopped, after its recorder looked at the card: its frame waits
+  pub recorded_stopped : (q r : Recorder T) → IsQuiet q r → WaitsFirst r → Recorded q [] r
+  recorded_stopped q r h waits =
+      let k = h.keeps in
+      record {
+        text = [];
+        adds = puts_from sink q r r [] h.out h.fault (puts_none sink r);
+        lines = refl;
+        sections = k.sections;
+        turns = k.turns;
+        command = k.command;
+        opens = k.opens;
+        waits = λ x. waits;
+      }
 
 -- ---- whole plays
 

@@ -1,7 +1,8 @@
 -- The bytes of a shot, and what differs between two of them.
-use Rattle.std.specs.Prelude.{ℕ, ◌-◌, min, Bool, true, false, List, [], ◌++◌, take}
+use Rattle.std.specs.Prelude.{ℕ, ◌-◌, min, Bool, cond, List, [], ◌++◌, take}
 use Rattle.model_machine.specs.Frame.{dynamic_base, public_base}
 use Rattle.desk_json.specs.Json.{changes}
+use Rattle.law_steps.specs.Readings.{Reading, no_reading, sets_between}
 use Rattle.desk_steps.specs.declared.shot.Shot.{Shot}
 
 -- the static bytes
@@ -12,19 +13,30 @@ statics s = take (min s.fixed_len 4096) s.fixed
 abbrev pub dynamics : Shot → List ℕ
 dynamics s = take (min (s.dt - dynamic_base) 512) s.dynamic
 
+-- what a shot has of what its frame reads
+abbrev pub shot_reading : Shot → Reading
+shot_reading s = record { fixed = statics s; dynamic = dynamics s; public = s.public }
+
 -- the runs of static bytes that differ
 abbrev pub static_changes : Shot → Shot → List (ℕ × List ℕ)
-static_changes old new = changes 0 old.fixed (statics new)
+static_changes old new = changes 0 (statics old) (statics new)
 
 -- the runs of dynamic bytes that differ
 abbrev pub dynamic_changes : Shot → Shot → List (ℕ × List ℕ)
-dynamic_changes old new = changes dynamic_base old.dynamic (dynamics new)
+dynamic_changes old new = changes dynamic_base (dynamics old) (dynamics new)
 
--- the runs of public bytes that differ, unless they are left out
-abbrev pub public_changes : Bool → Shot → Shot → List (ℕ × List ℕ)
-public_changes true old new = changes public_base old.public new.public
-public_changes false old new = []
+-- the runs of public bytes that differ
+abbrev pub public_changes : Shot → Shot → List (ℕ × List ℕ)
+public_changes old new = changes public_base old.public new.public
 
 -- the runs of bytes that differ
-abbrev pub shot_changes : Bool → Shot → Shot → List (ℕ × List ℕ)
-shot_changes with_public old new = static_changes old new ++ dynamic_changes old new ++ public_changes with_public old new
+abbrev pub shot_changes : Shot → Shot → List (ℕ × List ℕ)
+shot_changes old new = static_changes old new ++ dynamic_changes old new ++ public_changes old new
+
+-- the public bytes of a shot, unless they are left out
+abbrev pub shown_public : Bool → Shot → List ℕ
+shown_public with_public s = cond with_public s.public []
+
+-- the runs of the bytes of a frame that begins which are not zero
+abbrev pub frame_changes : Bool → Shot → List (ℕ × List ℕ)
+frame_changes with_public s = sets_between no_reading (record (shot_reading s) { public = shown_public with_public s })

@@ -1,29 +1,22 @@
-// Whether protection is on in a frame, and the number of words that wait for a commit.
+// The words that wait for a commit in a frame.
 
 /// The number of words of the longest static segment.
 const WORDS: usize = 512;
 
-/// The protection of a frame.
+/// The words of a frame that wait for a commit, and their number.
 #[derive(Clone, Copy)]
 pub struct Guard {
-    is_on: bool,
     waits: [bool; 512],
     count: u16,
 }
 
 impl Guard {
-    /// Returns the guard of a frame that begins: protection is off.
-    pub fn off() -> Guard {
+    /// Returns the guard of a frame in which no word waits.
+    pub fn empty() -> Guard {
         Guard {
-            is_on: false,
             waits: [false; 512],
             count: 0,
         }
-    }
-
-    /// Returns whether protection is on.
-    pub fn is_on(&self) -> bool {
-        self.is_on
     }
 
     // A word waits for a commit.
@@ -41,11 +34,10 @@ impl Guard {
         }
     }
 
-    /// Protection begins or ends. Returns the number of words that waited.
-    pub fn turn(&mut self, is_on: bool) -> u16 {
+    /// No word waits any more. Returns the number of words that waited.
+    pub fn clear(&mut self) -> u16 {
         let count = self.count;
-        *self = Guard::off();
-        self.is_on = is_on;
+        *self = Guard::empty();
         count
     }
 }

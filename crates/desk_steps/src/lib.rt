@@ -7,6 +7,7 @@ mod guard;
 mod keys;
 mod looking;
 mod memory;
+mod modes;
 mod playing;
 mod recording;
 mod shot;

@@ -1,67 +1,61 @@
 // What is kept of the frames of a play between two turns: their bytes, their protection and the device writes.
-ghost use Rattle.std.specs.Prelude.{◌≡◌, ◌≤◌, length};
-ghost use Rattle.mc_card.specs.Parts.{IsUp};
-ghost use Rattle.desk_cover.specs.Watching.{IsWatched};
+ghost use Rattle.std.specs.Prelude.{◌≡◌, ◌≤◌, ℕ, bytes_eq, get_or, length, option_map, slice_set, take, false, IsSome, Some};
+ghost use Rattle.model_device.specs.Bytes.{lookup};
+ghost use Rattle.mc_bank.specs.Bank.{app_of};
+ghost use Rattle.model_machine.specs.Chain.{depth_of, turn_of, Chain as ModelChain, Follows};
+ghost use Rattle.mc_deck.specs.Lines.{line_of};
+ghost use Rattle.mc_machine.specs.Turns.{outcome_value};
+ghost use Rattle.mc_card.specs.Parts.{IsUp, RunsChain, card_in};
+ghost use Rattle.desk_cover.specs.Looking.{Shows};
+ghost use Rattle.desk_cover.specs.Watching.{FrameRuns, IsWatched, frame_in, name_in};
+ghost use Rattle.law_steps.specs.Nexts.{open_by};
+ghost use Rattle.law_steps.specs.Readings.{reading_of};
+ghost use Rattle.law_steps.specs.Shown.{exit_public, shown_reading};
+ghost use Rattle.desk_steps.specs.Moments.{command_of};
+ghost use Rattle.desk_steps.specs.Shots.{shot_reading};
+ghost use Rattle.desk_steps.specs.Turning.{all_shut, frame_place, is_deeper, is_other, IsAfter, IsBefore, IsWideNext, WasTurn, lb_shown};
 
 use crate::guard::Guard;
+use crate::modes::{abend_of, exit_of, is_exit, open_by};
 use crate::shot::Shot;
 use crate::writes::{device_writes, words_written};
 use arrayvec::ArrayVec;
 use mc_bank::Bank;
 use mc_base::Aid;
-use mc_card::{Card, Outcome, Turn};
+use mc_card::{Card, Chain, Turn};
 use mc_deck::Line;
 use mc_isa::Ins;
 use mc_nvm::Nvm;
-use mc_segs::Abend;
 
 /// The most bytes of a command that an application gets.
 const COMMAND: usize = 1040;
 
-/// The command of a line; the shots of the frame that runs, before a turn and after it, and of no frame; the
-/// protection of each frame; and the number of device writes that the line made.
+/// The command of a line; the shots of the frame that runs, before a turn and after it; of the frames at depths 1 to 4
+/// whether protection is on, and the words that wait; and the number of device writes that the line made.
 #[derive(Drop)]
 pub struct Memory {
     pub command: ArrayVec<u8, 1040>,
-    pub blank: Shot,
     pub before: Shot,
     pub after: Shot,
+    pub opens: [bool; 4],
     guards: [Guard; 4],
     writes: u32,
 }
 
-/// The frame that is running after a turn, by its application's name: the one that ran the turn, or one that it called.
-#[derive(Clone, Copy, Debug, PartialEq, Eq)]
-pub enum Next {
-    Same,
-    Called,
-}
-
-// The place of the guard of a frame, by its depth from 1 to 4.
-fn guard_of(depth: u8) -> usize
-    ensures { result ≤ 3 }
+// The place of what is kept of a frame, by its depth from 1 to 4.
+fn place_of(depth: u8) -> usize
+    ensures value { result ≡ frame_place depth }
+    ensures few { result ≤ 3 }
 {
     (depth.saturating_sub(1) as usize).min(3)
 }
 
-// How an abend ends a turn, `None` for one that goes on or ends with a reply.
-fn abend_of(turn: &Turn) -> Option<Abend> {
-    match &turn.end {
-        Some(Outcome::Abend(abend)) => Some(*abend),
-        _ => None,
-    }
-}
-
-// Whether an instruction exits its frame.
-fn is_exit(ins: &Ins) -> bool {
-    match ins {
-        Ins::Exit | Ins::Exitsw { .. } | Ins::Exitla { .. } | Ins::Exitswla { .. } => true,
-        _ => false,
-    }
-}
-
 // Sets in a shot the public bytes that an instruction which exits sets.
-fn set_exit(shot: &mut Shot, ins: &Ins) {
+fn set_exit(shot: &mut Shot, ins: &Ins)
+    ensures lb { shot.new.lb ≡ shot.old.lb }
+    ensures reading { shot_reading shot.new
+        ≡ record (shot_reading shot.old) { public = exit_public ins.now shot.old.public } }
+{
     match *ins {
         Ins::Exitsw { sw } => shot.set_sw(sw),
         Ins::Exitla { la } => shot.set_la(la),
@@ -73,115 +67,198 @@ fn set_exit(shot: &mut Shot, ins: &Ins) {
     }
 }
 
+// Takes the shot of the running frame of a card.
+fn take_running<N: Nvm>(shot: &mut Shot, card: &Card<N>, chain: &Chain)
+    requires { FrameRuns N.state card.now chain.now.running }
+    ensures lb { shot.new.lb ≡ chain.now.running.frame.lb }
+    ensures reading { 512 ≤ length chain.now.running.frame.dyn
+        → shot_reading shot.new ≡ reading_of (frame_in N.state card.now chain.now.running) chain.now.public }
+{
+    shot.take(card.bank(), chain.running(), chain.public());
+}
+
+// Whether the running frame of a card is of the application of a name.
+fn is_named<N: Nvm>(card: &Card<N>, chain: &Chain, aid: &Aid) -> bool
+    requires { FrameRuns N.state card.now chain.now.running }
+    ensures { result ≡ bytes_eq (name_in N.state card.now chain.now.running) aid.now }
+{
+    let facts = card.bank().facts(chain.running().slot());
+    facts.aid.bytes() == aid.bytes()
+}
+
 impl Memory {
     /// Returns the memory of a play of which no line was played.
     pub fn new() -> Memory {
         Memory {
             command: ArrayVec::new(),
-            blank: Shot::blank(),
             before: Shot::blank(),
             after: Shot::blank(),
-            guards: [Guard::off(); 4],
+            opens: [false; 4],
+            guards: [Guard::empty(); 4],
             writes: 0,
         }
     }
 
-    // Keeps a command.
-    fn keep_command(&mut self, bytes: &[u8]) {
+    // Keeps the first 1,040 bytes of a command.
+    fn keep_command(&mut self, bytes: &[u8])
+        ensures { self.new.command.items ≡ take 1040 bytes.now }
+    {
         self.command.clear();
         let _ = self
             .command
             .try_extend_from_slice(&bytes[..bytes.len().min(COMMAND)]);
     }
 
-    /// Begins a line of the deck, which made no device write. A command to an application is kept.
-    pub fn begin_line(&mut self, line: &Line<'_>) {
-        self.writes = 0;
-        if let Line::Apdu(bytes) = line {
-            self.keep_command(bytes);
+    // Keeps the command of a line, if it is one to an application.
+    fn keep_line(&mut self, line: &Line<'_>)
+        ensures { self.new.command.items ≡ command_of (line_of line.now) }
+    {
+        match line {
+            Line::Apdu(bytes) => self.keep_command(bytes),
+            _ => self.command.clear(),
         }
     }
 
-    /// Begins a frame, whose protection is off.
-    pub fn begin_frame(&mut self, depth: u8) {
-        self.guards[guard_of(depth)] = Guard::off();
+    /// Begins a line of the deck, which made no device write: protection is off. A command to an application is kept.
+    pub fn begin_line(&mut self, line: &Line<'_>)
+        ensures command { self.new.command.items ≡ command_of (line_of line.now) }
+        ensures opens { self.new.opens ≡ all_shut }
+    {
+        self.keep_line(line);
+        self.opens = [false; 4];
+        self.guards[0] = Guard::empty();
+        self.writes = 0;
+    }
+
+    /// Begins a frame that another one called, whose protection is off.
+    pub fn begin_frame(&mut self, depth: u8)
+        ensures command { self.new.command.items ≡ self.old.command.items }
+        ensures before { self.new.before ≡ self.old.before }
+        ensures opens { self.new.opens ≡ slice_set self.old.opens (frame_place depth) false }
+    {
+        let place = place_of(depth);
+        self.opens[place] = false;
+        self.guards[place] = Guard::empty();
     }
 
     /// Takes the shot of the running frame before a turn.
     #[tactic(auto, using(desk_cover::proofs::WatchLemmas::watched_chain))]
     pub fn look_before<N: Nvm>(&mut self, card: &Card<N>)
         requires { IsWatched N.state card.now }
+        ensures command { self.new.command.items ≡ self.old.command.items }
+        ensures opens { self.new.opens ≡ self.old.opens }
+        ensures before { (ch : ModelChain) (left : ℕ) → RunsChain N.state card.now ch left
+            → IsBefore self.new.before ch }
     {
         if let Some(chain) = card.chain() {
-            self.before
-                .take(card.bank(), chain.running(), chain.public());
+            take_running(&mut self.before, card, chain);
         }
     }
 
-    // Takes the shot after a turn that did not end its frame, whose application has a name.
+    // Takes the shot after a turn that did not end its frame, whose application has a name. Returns whether another
+    // frame runs.
     #[tactic(auto, using(desk_cover::proofs::WatchLemmas::watched_chain))]
-    fn look_running<N: Nvm>(&mut self, card: &Card<N>, aid: &Aid, dt: u16) -> Next
+    fn look_running<N: Nvm>(&mut self, card: &Card<N>, aid: &Aid, dt: u16) -> bool
         requires { IsWatched N.state card.now }
+        ensures command { self.new.command.items ≡ self.old.command.items }
+        ensures opens { self.new.opens ≡ self.old.opens }
+        ensures before { self.new.before ≡ self.old.before }
+        ensures lb { (next : Follows) → Shows N.state card.now next
+            → self.new.after.lb ≡ lb_shown next aid.now self.old.after.lb }
+        ensures reading { (next : Follows) → Shows N.state card.now next → IsWideNext next
+            → shot_reading self.new.after ≡ shown_reading next aid.now (shot_reading self.old.after) dt }
+        ensures called { (next : Follows) → Shows N.state card.now next → result ≡ is_other next aid.now }
     {
         let Some(chain) = card.chain() else {
-            return Next::Same;
+            return false;
         };
-        let bank = card.bank();
-        let frame = chain.running();
-        if bank.facts(frame.slot()).aid == *aid {
-            self.after.take(bank, frame, chain.public());
-            return Next::Same;
+        if is_named(card, chain, aid) {
+            take_running(&mut self.after, card, chain);
+            return false;
         }
-        self.after.dt = dt;
-        Next::Called
+        self.after.lower(dt);
+        true
     }
 
     // Takes the shot after a turn that ended its frame with an instruction that exits.
     fn look_exit<N: Nvm>(&mut self, card: &Card<N>, aid: &Aid, ins: &Ins)
         requires { IsUp N.state card.now }
+        ensures command { self.new.command.items ≡ self.old.command.items }
+        ensures opens { self.new.opens ≡ self.old.opens }
+        ensures before { self.new.before ≡ self.old.before }
+        ensures lb { self.new.after.lb ≡ self.old.after.lb }
+        ensures reading { IsSome (lookup (card_in N.state card.now).apps aid.now)
+            → shot_reading self.new.after ≡ record (shot_reading self.old.after) {
+              fixed = (app_of (card_in N.state card.now).apps (Some aid.now)).fixed;
+              public = exit_public ins.now self.old.after.public;
+            } }
     {
         self.after.take_kept(card, aid);
         set_exit(&mut self.after, ins);
     }
 
-    /// Takes the shot after a turn of the frame that ran it, whose application has a name.
-    pub fn look_after<N: Nvm>(&mut self, card: &Card<N>, aid: &Aid, turn: &Turn) -> Next
+    /// Takes the shot after a turn of the frame that ran it, whose application has a name. Returns whether the turn
+    /// called another frame.
+    pub fn look_after<N: Nvm>(&mut self, card: &Card<N>, aid: &Aid, turn: &Turn) -> bool
         requires up { IsUp N.state card.now }
         requires watched { IsWatched N.state card.now }
+        ensures command { self.new.command.items ≡ self.old.command.items }
+        ensures opens { self.new.opens ≡ self.old.opens }
+        ensures before { self.new.before ≡ self.old.before }
+        ensures after { (n : ℕ) (ch : ModelChain) → WasTurn N.state card.now n ch turn.now
+            → IsBefore self.old.before ch → aid.now ≡ ch.frame.name → IsAfter self.new.after n ch }
+        ensures called { (n : ℕ) (ch : ModelChain) → WasTurn N.state card.now n ch turn.now
+            → aid.now ≡ ch.frame.name → result ≡ is_deeper (depth_of ch) (turn_of n ch).follows }
     {
         self.after.copy(&self.before);
-        if abend_of(turn).is_some() {
+        if abend_of(&turn.end).is_some() {
             self.after.take_kept(card, aid);
-            return Next::Same;
+            return false;
         }
-        match &turn.ins {
-            Some(ins) if is_exit(ins) => {
-                self.look_exit(card, aid, ins);
-                Next::Same
-            }
-            _ => self.look_running(card, aid, turn.dt),
+        if let Some(ins) = exit_of(turn) {
+            self.look_exit(card, aid, &ins);
+            return false;
         }
+        self.look_running(card, aid, turn.dt)
     }
 
-    // Keeps the protection of the frame that ran a turn, and returns the number of device writes of the turn.
-    fn count_writes(&mut self, turn: &Turn) -> u32 {
+    // Keeps the words that wait after a turn, and returns the number of device writes of the turn.
+    fn count_writes(&mut self, turn: &Turn) -> u32
+        ensures command { self.new.command.items ≡ self.old.command.items }
+        ensures opens { self.new.opens ≡ self.old.opens }
+        ensures before { self.new.before ≡ self.old.before }
+        ensures after { self.new.after ≡ self.old.after }
+    {
         let Some(ins) = turn.ins else {
             return 0;
         };
-        if abend_of(turn).is_some() {
+        if abend_of(&turn.end).is_some() {
             return 0;
         }
-        let guard = &mut self.guards[guard_of(turn.depth)];
+        let place = place_of(turn.depth);
+        let guard = &mut self.guards[place];
         if is_exit(&ins) {
-            guard.turn(false);
+            guard.clear();
             return 0;
         }
-        device_writes(words_written(guard, &ins, &self.before, &self.after, turn.flags.z))
+        device_writes(words_written(
+            guard,
+            self.opens[place],
+            &ins,
+            &self.before,
+            &self.after,
+            turn.flags.z,
+        ))
     }
 
-    /// Keeps the protection of the frame that ran a turn, and returns the first and the last device write of the turn,
-    /// counted in its line from 1, or `None` if it made none.
-    pub fn writes_of(&mut self, turn: &Turn) -> Option<(u32, u32)> {
+    /// Keeps the words that wait after a turn, and returns the first and the last device write of the turn, counted in
+    /// its line from 1, or `None` if it made none.
+    pub fn writes_of(&mut self, turn: &Turn) -> Option<(u32, u32)>
+        ensures command { self.new.command.items ≡ self.old.command.items }
+        ensures opens { self.new.opens ≡ self.old.opens }
+        ensures before { self.new.before ≡ self.old.before }
+        ensures after { self.new.after ≡ self.old.after }
+    {
         let count = self.count_writes(turn);
         if count == 0 {
             return None;
@@ -191,8 +268,18 @@ impl Memory {
         Some((first, self.writes))
     }
 
-    /// Returns whether protection is on in the frame at a depth.
-    pub fn is_on(&self, depth: u8) -> bool {
-        self.guards[guard_of(depth)].is_on()
+    /// Keeps the protection of the frame that ran a turn, and returns whether it is on.
+    pub fn protection_of(&mut self, turn: &Turn) -> bool
+        ensures command { self.new.command.items ≡ self.old.command.items }
+        ensures before { self.new.before ≡ self.old.before }
+        ensures after { self.new.after ≡ self.old.after }
+        ensures opens { self.new.opens ≡ slice_set self.old.opens (frame_place turn.now.depth) result }
+        ensures on { result ≡ open_by (option_map outcome_value turn.now.end) turn.now.ins
+            (get_or self.old.opens (frame_place turn.now.depth) false) }
+    {
+        let place = place_of(turn.depth);
+        let is_on = open_by(turn, self.opens[place]);
+        self.opens[place] = is_on;
+        is_on
     }
 }

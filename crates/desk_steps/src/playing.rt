@@ -1,5 +1,5 @@
 // The play of a deck as JSON Lines.
-ghost use Rattle.std.specs.Prelude.{◌≡◌, ◌≤◌, ◌++◌, [], codes, option_map, Option, Some};
+ghost use Rattle.std.specs.Prelude.{◌≡◌, ◌≤◌, ◌++◌, ℕ, List, [], codes, option_map, Option, Some};
 ghost use Rattle.std.specs.List.{AllByRecursion};
 ghost use Rattle.arrayvec.specs.ArrayVec.{array_vec_len};
 ghost use Rattle.model_device.specs.Device.{IsImage};
@@ -12,7 +12,7 @@ ghost use Rattle.mc_script.specs.Benches.{bench_at, IsPlaying};
 ghost use Rattle.desk_json.specs.Json.{characters};
 ghost use Rattle.desk_json.specs.Sheets.{Adds, PutsOn};
 ghost use Rattle.desk_steps.specs.Lines.{line_keys, line_text, result_key};
-ghost use Rattle.desk_steps.specs.Recorded.{PutsText, RecordsPlay, StepsDeck};
+ghost use Rattle.desk_steps.specs.Recorded.{PutsText, RecordsPlay, StepsDeck, StoppedBy};
 
 use crate::recording::Recorder;
 use crate::statements::Statements;
@@ -116,7 +116,8 @@ fn write_line<N: Bench, T: Sink>(
     sheet.fault()
 }
 
-// Records a line of the deck, whose text is `statement`.
+// Records a line of the deck, whose text is `statement`, and before it the frame of its command if a stop hit its first
+// turn.
 fn record_line<N: Bench, T: Sink>(
     recorder: &mut Recorder<'_, '_, T>,
     number: u32,
@@ -125,10 +126,12 @@ fn record_line<N: Bench, T: Sink>(
     answer: &Option<Answer>,
 )
     requires { IsPlaying N.Bench player.now }
-    ensures puts { PutsText T.Sink recorder.old (line_text number statement.now
+    ensures puts { (frame : List ℕ) × StoppedBy recorder.old frame × PutsText T.Sink recorder.old
+        (frame ++ line_text number statement.now
         (option_map (answer_value N.state player.now) answer.now)) recorder.new }
     ensures sections { recorder.new.sections.now ≡ recorder.old.sections.now }
 {
+    recorder.end_turns();
     recorder.fault = write_line(
         recorder.out,
         recorder.fault,
@@ -187,8 +190,9 @@ pub fn put_steps<N: Bench, T: Sink, L: Ledger>(
 ) -> Result<(), WriteFault>
     requires { IsUnfused (N.bench dev.old) }
     // All lines of the deck are played in order. The text has a line for each of them, in order, with its number and
-    // its result, and before it one for each of its turns, in order: with its number, its depth, its application, its
-    // place, its source line and its instruction, DT and the flags after it, and its abend.
+    // its result, and before it one for each of its turns, in order: all of it but its device writes is that of the
+    // definition. Before the first turn is the line of the first frame, and after a turn that called a frame is its
+    // line.
     ensures { StepsDeck sections.now deck.now
         (bench_at N.Bench dev.old) (sunk T.Sink out.old) result
         (bench_at N.Bench dev.new) (sunk T.Sink out.new) steps.old steps.new }

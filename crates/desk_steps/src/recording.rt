@@ -1,19 +1,26 @@
 // The lines of frames and turns, as a recorder writes them.
-ghost use Rattle.std.specs.Prelude.{◌≡◌, ℕ, Option, [], ◌++◌, codes, Some, None, true, false, IfSome};
+ghost use Rattle.std.specs.Prelude.{◌≡◌, ◌≤◌, length, ℕ, Option, [], ◌++◌, codes, get_or, option_map, slice_set, Some, None, true, false, IfSome};
 ghost use Rattle.model_machine.specs.Code.{Shaped};
-ghost use Rattle.mc_card.specs.Parts.{IsUp};
-ghost use Rattle.mc_machine.specs.Turns.{turn_value};
+ghost use Rattle.model_machine.specs.Chain.{depth_of, turn_of, Chain as ModelChain, Follows};
+ghost use Rattle.mc_card.specs.Parts.{IsUp, RunsChain};
+ghost use Rattle.mc_deck.specs.Lines.{line_of};
+ghost use Rattle.mc_machine.specs.Turns.{outcome_value, turn_value};
+ghost use Rattle.desk_cover.specs.Looking.{Shows};
 ghost use Rattle.desk_cover.specs.Watching.{IsWatched};
 ghost use Rattle.mc_text.specs.Texts.{sunk};
 ghost use Rattle.desk_json.specs.Sheets.{Adds, PutsOn};
-ghost use Rattle.desk_steps.specs.Lines.{aid_key, frame_text, number_key, sets_key, turn_text, Found};
-ghost use Rattle.desk_steps.specs.Recorded.{next_number, BeginsFrames, PutsText, RecordsTurn};
-ghost use Rattle.desk_steps.specs.Shots.{shot_changes};
+ghost use Rattle.law_steps.specs.Nexts.{open_by};
+ghost use Rattle.law_steps.specs.Readings.{first_sets};
+ghost use Rattle.desk_steps.specs.Lines.{aid_key, frame_text, number_key, sets_key, turn_text};
+ghost use Rattle.desk_steps.specs.Moments.{command_of, moment};
+ghost use Rattle.desk_steps.specs.Recorded.{first_by, next_number, CallsNext, IsQuiet, KeepsState, PutsText, RecordsTurn, StoppedText};
+ghost use Rattle.desk_steps.specs.Shots.{frame_changes, shot_changes};
+ghost use Rattle.desk_steps.specs.Turning.{all_shut, frame_place, is_deeper, IsAfter, IsBefore, IsOneDeeper, IsWideNext, WasTurn};
 
-use crate::changes::add_changes;
+use crate::changes::{add_changes, add_frame};
 use crate::keys::{add_aid, add_command, add_place, add_registers, add_writes};
 use crate::looking::running_aid;
-use crate::memory::{Memory, Next};
+use crate::memory::Memory;
 use crate::shot::Shot;
 use desk_cover::Sections;
 use desk_json::Sheet;
@@ -24,54 +31,57 @@ use mc_nvm::Nvm;
 use mc_streams::{Sink, WriteFault};
 
 /// Records the turns of a play as JSON. Once its sink failed it writes no more, and commands are run to their end.
+///
+/// The line of the first frame of a command waits until its first turn ran: `first` is its application until then.
 #[derive(Drop)]
 pub struct Recorder<'s, 'o, T: Sink> {
     pub out: &'o mut T,
     pub fault: Option<WriteFault>,
     pub sections: &'o Sections<'s>,
     turns: u32,
+    first: Option<Aid>,
     memory: Memory,
 }
 
-// Adds the bytes of a frame that begins, by the shot of no frame and its own.
-fn add_first<T: Sink>(sheet: &mut Sheet<'_, T>, blank: &Shot, shot: &Shot, is_first: bool)
-    ensures { Adds T.Sink sheet.old (sets_key (shot_changes is_first blank.now shot.now)) sheet.new }
+// Adds the bytes of a frame that begins, by its shot.
+fn add_first<T: Sink>(sheet: &mut Sheet<'_, T>, shot: &Shot, is_first: bool)
+    ensures { Adds T.Sink sheet.old (sets_key (frame_changes is_first shot.now)) sheet.new }
 {
     sheet.add(b",\"sets\":");
-    add_changes(sheet, blank, shot, is_first);
+    add_frame(sheet, shot, is_first);
 }
 
 // Writes the line of the first frame of a command.
 fn put_first<T: Sink>(sheet: &mut Sheet<'_, T>, aid: &Aid, memory: &Memory)
     ensures adds { Adds T.Sink sheet.old (frame_text 1 aid.now (Some memory.now.command.items)
-        (shot_changes true memory.now.blank memory.now.before)) sheet.new }
+        (frame_changes true memory.now.before)) sheet.new }
     ensures text { sheet.new.text.items ≡ [] }
 {
     sheet.add_key(b"{\"frame\":", 1);
     add_aid(sheet, aid);
     add_command(sheet, memory.command.as_slice());
-    add_first(sheet, &memory.blank, &memory.before, true);
+    add_first(sheet, &memory.before, true);
     sheet.end_line();
 }
 
 // Writes the line of a frame that another one called.
 fn put_called<T: Sink>(sheet: &mut Sheet<'_, T>, depth: u8, aid: &Aid, memory: &Memory)
     ensures adds { Adds T.Sink sheet.old (frame_text depth aid.now None
-        (shot_changes false memory.now.blank memory.now.before)) sheet.new }
+        (frame_changes false memory.now.before)) sheet.new }
     ensures text { sheet.new.text.items ≡ [] }
 {
     sheet.add_key(b"{\"frame\":", depth as u32);
     add_aid(sheet, aid);
-    add_first(sheet, &memory.blank, &memory.before, false);
+    add_first(sheet, &memory.before, false);
     sheet.end_line();
 }
 
 // Adds the bytes that a turn changed, by the shots before it and after it.
 fn add_sets<T: Sink>(sheet: &mut Sheet<'_, T>, memory: &Memory)
-    ensures { Adds T.Sink sheet.old (sets_key (shot_changes true memory.now.before memory.now.after)) sheet.new }
+    ensures { Adds T.Sink sheet.old (sets_key (shot_changes memory.now.before memory.now.after)) sheet.new }
 {
     sheet.add(b",\"sets\":");
-    add_changes(sheet, &memory.before, &memory.after, true);
+    add_changes(sheet, &memory.before, &memory.after);
 }
 
 // Adds the number, the depth and the application of a turn.
@@ -101,7 +111,7 @@ fn put_turn<T: Sink>(
         (record {
           lb = memory.now.after.lb;
           is_on = is_on;
-          sets = shot_changes true memory.now.before memory.now.after;
+          sets = shot_changes memory.now.before memory.now.after;
           writes = writes;
         })) sheet.new }
     ensures text { sheet.new.text.items ≡ [] }
@@ -122,7 +132,7 @@ fn write_first<T: Sink>(
     memory: &Memory,
 ) -> Option<WriteFault>
     ensures { PutsOn fault (sunk T.Sink out.old) (frame_text 1 aid.now (Some memory.now.command.items)
-        (shot_changes true memory.now.blank memory.now.before)) result (sunk T.Sink out.new) }
+        (frame_changes true memory.now.before)) result (sunk T.Sink out.new) }
 {
     let mut sheet = Sheet::new(&mut *out, fault);
     put_first(&mut sheet, aid, memory);
@@ -138,7 +148,7 @@ fn write_called<T: Sink>(
     memory: &Memory,
 ) -> Option<WriteFault>
     ensures { PutsOn fault (sunk T.Sink out.old) (frame_text depth aid.now None
-        (shot_changes false memory.now.blank memory.now.before)) result (sunk T.Sink out.new) }
+        (frame_changes false memory.now.before)) result (sunk T.Sink out.new) }
 {
     let mut sheet = Sheet::new(&mut *out, fault);
     put_called(&mut sheet, depth, aid, memory);
@@ -163,7 +173,7 @@ fn write_counted<T: Sink>(
         (record {
           lb = memory.now.after.lb;
           is_on = is_on;
-          sets = shot_changes true memory.now.before memory.now.after;
+          sets = shot_changes memory.now.before memory.now.after;
           writes = writes;
         })) result (sunk T.Sink out.new) }
 {
@@ -185,6 +195,7 @@ impl<'s, 'o, T: Sink> Recorder<'s, 'o, T> {
             fault: None,
             sections,
             turns: 0,
+            first: None,
             memory: Memory::new(),
         }
     }
@@ -196,37 +207,62 @@ impl<'s, 'o, T: Sink> Recorder<'s, 'o, T> {
         ensures fault { self.new.fault ≡ self.old.fault }
         ensures sections { self.new.sections.now ≡ self.old.sections.now }
         ensures turns { self.new.turns ≡ 0 }
+        ensures first { self.new.first ≡ None }
+        ensures command { self.new.memory.command.items ≡ command_of (line_of line.now) }
+        ensures opens { self.new.memory.opens ≡ all_shut }
     {
         self.turns = 0;
+        self.first = None;
         self.memory.begin_line(line);
     }
 
-    // Writes the line of the first frame of a command, before its first turn.
-    #[tactic(auto, using(crate::proofs::ChangeLemmas::begins_none, crate::proofs::ChangeLemmas::begins_one))]
+    /// Looks at the card before a turn of an application.
+    pub fn look_before<N: Nvm>(&mut self, card: &Card<N>, aid: Aid)
+        requires { IsWatched N.state card.now }
+        ensures quiet { IsQuiet self.old self.new }
+        ensures first { self.new.first ≡ Some aid }
+        ensures before { (ch : ModelChain) (left : ℕ) → RunsChain N.state card.now ch left
+            → IsBefore self.new.memory.before ch }
+    {
+        self.memory.look_before(card);
+        self.first = Some(aid);
+    }
+
+    // Writes the line of the first frame of a command, if no turn of it was recorded.
     fn begin_first(&mut self, aid: &Aid)
-        ensures { BeginsFrames T.Sink self.old self.new }
+        ensures adds { PutsText T.Sink self.old (first_by self.old.turns self.old.memory.command.items aid.now
+            self.old.memory.before) self.new }
+        ensures keeps { KeepsState self.old self.new }
+        ensures before { self.new.memory.before ≡ self.old.memory.before }
+        ensures after { self.new.memory.after ≡ self.old.memory.after }
     {
         if self.turns == 0 {
-            self.memory.begin_frame(1);
             self.fault = write_first(self.out, self.fault, aid, &self.memory);
         }
     }
 
-    /// Records what is before a turn of an application: the frame of the command, if it is its first turn.
-    #[tactic(auto, using(crate::proofs::ChangeLemmas::begins_from))]
-    pub fn before_turn<N: Nvm>(&mut self, card: &Card<N>, aid: &Aid)
-        requires { IsWatched N.state card.now }
-        ensures { BeginsFrames T.Sink self.old self.new }
+    /// Writes the line of the first frame of a command of which no turn was recorded, because a stop hit its first one.
+    pub fn end_turns(&mut self)
+        ensures adds { StoppedText T.Sink self.old self.new }
+        ensures keeps { KeepsState self.old self.new }
     {
-        self.memory.look_before(card);
-        self.begin_first(aid);
+        if self.turns == 0 {
+            if let Some(aid) = self.first {
+                self.fault = write_first(self.out, self.fault, &aid, &self.memory);
+            }
+        }
     }
 
     // Writes the line of a frame that another one called, which runs now.
-    #[tactic(auto, using(crate::proofs::ChangeLemmas::begins_none, crate::proofs::ChangeLemmas::begins_one))]
     fn begin_called<N: Nvm>(&mut self, card: &Card<N>, depth: u8)
         requires { IsWatched N.state card.now }
-        ensures { BeginsFrames T.Sink self.old self.new }
+        ensures adds { (c : ModelChain) (left : ℕ) → RunsChain N.state card.now c left → 512 ≤ length c.frame.dyn
+            → 2 ≤ depth → PutsText T.Sink self.old
+            (frame_text depth c.frame.name None (first_sets depth c.frame c.public)) self.new }
+        ensures sections { self.new.sections.now ≡ self.old.sections.now }
+        ensures turns { self.new.turns ≡ self.old.turns }
+        ensures command { self.new.memory.command.items ≡ self.old.memory.command.items }
+        ensures opens { self.new.memory.opens ≡ slice_set self.old.memory.opens (frame_place depth) false }
     {
         self.memory.look_before(card);
         self.memory.begin_frame(depth);
@@ -238,13 +274,23 @@ impl<'s, 'o, T: Sink> Recorder<'s, 'o, T> {
     // Writes the line of a turn, whose shots were taken.
     fn write_turn(&mut self, aid: &Aid, turn: &Turn, source: Option<u32>)
         requires { IfSome turn.now.ins Shaped }
-        ensures adds { (wrote : Option ℕ) → (found : Found) × PutsText T.Sink self.old
-            (turn_text (next_number self.old.turns) aid.now source (turn_value turn.now wrote) found) self.new }
+        ensures adds { (wrote : Option ℕ) → (w : Option (ℕ × ℕ)) × PutsText T.Sink self.old
+            (turn_text (next_number self.old.turns) aid.now source (turn_value turn.now wrote) (record {
+              lb = self.old.memory.after.lb;
+              is_on = open_by (option_map outcome_value turn.now.end) turn.now.ins
+                  (get_or self.old.memory.opens (frame_place turn.now.depth) false);
+              sets = shot_changes self.old.memory.before self.old.memory.after;
+              writes = w;
+            })) self.new }
         ensures sections { self.new.sections.now ≡ self.old.sections.now }
         ensures turns { self.new.turns ≡ next_number self.old.turns }
+        ensures command { self.new.memory.command.items ≡ self.old.memory.command.items }
+        ensures opens { self.new.memory.opens ≡ slice_set self.old.memory.opens (frame_place turn.now.depth)
+            (open_by (option_map outcome_value turn.now.end) turn.now.ins
+            (get_or self.old.memory.opens (frame_place turn.now.depth) false)) }
     {
         let writes = self.memory.writes_of(turn);
-        let is_on = self.memory.is_on(turn.depth);
+        let is_on = self.memory.protection_of(turn);
         self.turns = self.turns.saturating_add(1);
         self.fault = write_counted(
             self.out,
@@ -259,30 +305,33 @@ impl<'s, 'o, T: Sink> Recorder<'s, 'o, T> {
         );
     }
 
-    // Looks at the card after a turn of an application.
-    fn look_after<N: Nvm>(&mut self, card: &Card<N>, aid: &Aid, turn: &Turn) -> Next
+    // Looks at the card after a turn of an application, and returns whether the turn called another frame.
+    fn look_after<N: Nvm>(&mut self, card: &Card<N>, aid: &Aid, turn: &Turn) -> bool
         requires up { IsUp N.state card.now }
         requires watched { IsWatched N.state card.now }
-        ensures out { self.new.out ≡ self.old.out }
-        ensures fault { self.new.fault ≡ self.old.fault }
-        ensures sections { self.new.sections.now ≡ self.old.sections.now }
-        ensures turns { self.new.turns ≡ self.old.turns }
+        ensures quiet { IsQuiet self.old self.new }
+        ensures before { self.new.memory.before ≡ self.old.memory.before }
+        ensures after { (n : ℕ) (ch : ModelChain) → WasTurn N.state card.now n ch turn.now
+            → IsBefore self.old.memory.before ch → aid.now ≡ ch.frame.name → IsAfter self.new.memory.after n ch }
+        ensures called { (n : ℕ) (ch : ModelChain) → WasTurn N.state card.now n ch turn.now
+            → aid.now ≡ ch.frame.name → result ≡ is_deeper (depth_of ch) (turn_of n ch).follows }
     {
         self.memory.look_after(card, aid, turn)
     }
 
     // Records the frame that a turn at a depth called, if it called one.
-    #[tactic(auto, using(crate::proofs::ChangeLemmas::begins_none))]
-    fn after_call<N: Nvm>(&mut self, card: &Card<N>, next: Next, depth: u8)
+    fn after_call<N: Nvm>(&mut self, card: &Card<N>, called: bool, depth: u8)
         requires { IsWatched N.state card.now }
-        ensures { BeginsFrames T.Sink self.old self.new }
+        ensures { (next : Follows) → Shows N.state card.now next → IsWideNext next → IsOneDeeper depth next
+            → 1 ≤ depth → called ≡ is_deeper depth next → CallsNext T.Sink self.old depth next self.new }
     {
-        if next == Next::Called {
+        if called {
             self.begin_called(card, depth.saturating_add(1));
         }
     }
 
-    /// Records a turn of an application, with its source line if it has one, and the frame that it called.
+    /// Records a turn of an application, with its source line if it has one: before it the first frame of the command,
+    /// if it is its first turn, and after it the frame that it called.
     pub fn after_turn<N: Nvm>(
         &mut self,
         card: &Card<N>,
@@ -293,10 +342,14 @@ impl<'s, 'o, T: Sink> Recorder<'s, 'o, T> {
         requires up { IsUp N.state card.now }
         requires watched { IsWatched N.state card.now }
         requires shaped { IfSome turn.now.ins Shaped }
-        ensures { (wrote : Option ℕ) → RecordsTurn T.Sink self.old aid.now source (turn_value turn.now wrote) self.new }
+        ensures { (n : ℕ) (ch : ModelChain) → WasTurn N.state card.now n ch turn.now
+            → IsBefore self.old.memory.before ch → aid.now ≡ ch.frame.name → 512 ≤ length ch.frame.dyn
+            → RecordsTurn T.Sink self.old source (moment n ch) self.new }
     {
-        let next = self.look_after(card, aid, turn);
+        let called = self.look_after(card, aid, turn);
+        self.begin_first(aid);
         self.write_turn(aid, turn, source);
-        self.after_call(card, next, turn.depth);
+        self.after_call(card, called, turn.depth);
+        self.first = None;
     }
 }

@@ -1,25 +1,24 @@
 // The bytes that a frame reads between two turns.
-ghost use Rattle.std.specs.Prelude.{◌≡◌, ◌≤◌, length};
-ghost use Rattle.mc_card.specs.Parts.{IsUp};
-ghost use Rattle.mc_segs.specs.HeldFrames.{CanRun};
-ghost use Rattle.desk_steps.specs.Shots.{dynamics, statics};
+ghost use Rattle.std.specs.Prelude.{◌≡◌, ◌+◌, ◌-◌, ◌≤◌, length, take, IsSome, Some};
+ghost use Rattle.model_machine.specs.Frame.{dynamic_base, static_bytes, with_la, with_sw};
+ghost use Rattle.model_device.specs.Bytes.{bytes2, lookup, splice};
+ghost use Rattle.mc_bank.specs.Bank.{app_of};
+ghost use Rattle.mc_card.specs.Parts.{IsUp, card_in};
+ghost use Rattle.mc_segs.specs.HeldFrames.{CanRun, frame_on_bank};
+ghost use Rattle.law_steps.specs.Readings.{reading_of};
+ghost use Rattle.desk_steps.specs.Shots.{dynamics, shot_reading, statics};
 
 use mc_bank::Bank;
-use mc_base::Aid;
+use mc_base::{Aid, bytes_of};
 use mc_card::Card;
 use mc_nvm::Nvm;
-use mc_segs::{Frame, Place, Public, look, resolve};
+use mc_segs::{Frame, Place, Public, look};
 
 /// DB, the address of the first dynamic byte.
 pub const DYNAMIC: u16 = 0x8000;
 
 /// PB, the address of the first public byte.
 pub const PUBLIC: u16 = 0xC000;
-
-/// The tags of the registers ST and LB.
-const ST: u8 = 2;
-
-const LB: u8 = 4;
 
 /// The bytes that a frame reads: static ones with those that wait for a commit over them, dynamic ones below DT with
 /// zeros after them, and public ones; and its registers LB and DT.
@@ -33,12 +32,33 @@ pub struct Shot {
     pub public: [u8; 1041],
 }
 
-// The value of a register, 0 if it is no address.
-fn register(frame: &Frame, tag: u8) -> u16
-    requires low { 1 ≤ tag }
-    requires high { tag ≤ 7 }
+// Reads all static bytes of a frame.
+fn read_static<B: Bank>(bank: &B, frame: &Frame, public: &Public, into: &mut [u8], len: usize)
+    requires runs { CanRun B.Bank bank.now frame.now }
+    requires size { len ≡ length frame.now.frame.fixed }
+    requires room { len ≤ length into.old }
+    ensures { take len into.new ≡ take (length (frame_on_bank B.Bank bank.now frame.now).fixed)
+        (static_bytes (frame_on_bank B.Bank bank.now frame.now)) }
 {
-    resolve(frame, tag, 0).unwrap_or(0)
+    let _whole = look(bank, frame, public, Place::Static(0), &mut into[..len]);
+}
+
+// Reads the dynamic bytes of a frame below DT.
+fn read_dynamic<B: Bank>(bank: &B, frame: &Frame, public: &Public, into: &mut [u8], len: usize)
+    requires runs { CanRun B.Bank bank.now frame.now }
+    requires most { len ≤ 512 }
+    requires room { len ≤ length into.old }
+    ensures { 512 ≤ length frame.now.frame.dyn → take len into.new ≡ take len frame.now.frame.dyn }
+{
+    let _whole = look(bank, frame, public, Place::Dynamic(0), &mut into[..len]);
+}
+
+// Writes a number in two bytes.
+fn put_number(into: &mut [u8], at: usize, number: u16)
+    requires { at + 2 ≤ length into.old }
+    ensures { into.new ≡ splice into.old at (bytes2 number) }
+{
+    into[at..at + 2].copy_from_slice(&bytes_of(number));
 }
 
 impl Shot {
@@ -55,7 +75,10 @@ impl Shot {
     }
 
     /// Becomes equal to another shot.
-    pub fn copy(&mut self, other: &Shot) {
+    pub fn copy(&mut self, other: &Shot)
+        ensures lb { self.new.lb ≡ other.now.lb }
+        ensures reading { shot_reading self.new ≡ shot_reading other.now }
+    {
         self.fixed = other.fixed;
         self.fixed_len = other.fixed_len;
         self.dynamic = other.dynamic;
@@ -67,21 +90,43 @@ impl Shot {
     /// Becomes the shot of a frame.
     pub fn take<B: Bank>(&mut self, bank: &B, frame: &Frame, public: &Public)
         requires { CanRun B.Bank bank.now frame.now }
+        ensures lb { self.new.lb ≡ frame.now.frame.lb }
+        ensures reading { 512 ≤ length frame.now.frame.dyn
+            → shot_reading self.new ≡ reading_of (frame_on_bank B.Bank bank.now frame.now) public.now }
     {
-        self.lb = register(frame, LB);
-        self.dt = frame.dt();
-        self.fixed_len = register(frame, ST).min(4096);
+        let dt = frame.dt();
+        let len = bank.facts(frame.slot()).sizes.fixed;
+        self.lb = frame.lb();
+        self.dt = dt;
+        self.fixed_len = len;
         self.dynamic = [0; 512];
-        let fixed = &mut self.fixed[..self.fixed_len as usize];
-        let _whole = look(bank, frame, public, Place::Static(0), fixed);
-        let dynamic = &mut self.dynamic[..(self.dt - DYNAMIC) as usize];
-        let _whole = look(bank, frame, public, Place::Dynamic(0), dynamic);
+        read_static(bank, frame, public, &mut self.fixed, len as usize);
+        read_dynamic(
+            bank,
+            frame,
+            public,
+            &mut self.dynamic,
+            (dt - DYNAMIC) as usize,
+        );
         self.public.copy_from_slice(public.bytes());
+    }
+
+    /// Has DT at an address, if that is lower.
+    pub fn lower(&mut self, dt: u16)
+        ensures lb { self.new.lb ≡ self.old.lb }
+        ensures reading { shot_reading self.new ≡ record (shot_reading self.old)
+            { dynamic = take (dt - dynamic_base) (dynamics self.old) } }
+    {
+        self.dt = self.dt.min(dt);
     }
 
     /// Has the static bytes that a card keeps of the application of a name.
     pub fn take_kept<N: Nvm>(&mut self, card: &Card<N>, aid: &Aid)
         requires { IsUp N.state card.now }
+        ensures lb { self.new.lb ≡ self.old.lb }
+        ensures reading { IsSome (lookup (card_in N.state card.now).apps aid.now)
+            → shot_reading self.new ≡ record (shot_reading self.old)
+            { fixed = (app_of (card_in N.state card.now).apps (Some aid.now)).fixed } }
     {
         if let Some(len) = card.static_len(aid) {
             self.fixed_len = len;
@@ -90,15 +135,21 @@ impl Shot {
     }
 
     /// Sets the length of the reply in the public bytes.
-    pub fn set_la(&mut self, la: u16) {
-        self.public[1037] = (la / 256) as u8;
-        self.public[1038] = (la % 256) as u8;
+    pub fn set_la(&mut self, la: u16)
+        ensures lb { self.new.lb ≡ self.old.lb }
+        ensures reading { shot_reading self.new
+            ≡ record (shot_reading self.old) { public = with_la self.old.public la } }
+    {
+        put_number(&mut self.public, 1037, la);
     }
 
     /// Sets the status of the reply in the public bytes.
-    pub fn set_sw(&mut self, sw: u16) {
-        self.public[1039] = (sw / 256) as u8;
-        self.public[1040] = (sw % 256) as u8;
+    pub fn set_sw(&mut self, sw: u16)
+        ensures lb { self.new.lb ≡ self.old.lb }
+        ensures reading { shot_reading self.new
+            ≡ record (shot_reading self.old) { public = with_sw self.old.public sw } }
+    {
+        put_number(&mut self.public, 1039, sw);
     }
 
     /// Returns the static bytes.

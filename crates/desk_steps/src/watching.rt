@@ -1,8 +1,7 @@
 // A recorder as what watches the turns of a play.
 ghost use Rattle.std.specs.Prelude.{[]};
-ghost use Rattle.desk_draft.specs.FullTurns.{FullTurn};
 ghost use Rattle.mc_script.specs.Watching.{Watches};
-ghost use Rattle.desk_cover.specs.Watching.{full_turn_of};
+ghost use Rattle.desk_steps.specs.Moments.{moment, Moment};
 ghost use Rattle.desk_steps.specs.Recorded.{recorded_none, recorded_on, Recorded};
 
 use crate::looking::{running_aid, source_of};
@@ -17,9 +16,9 @@ use mc_streams::Sink;
 use std::sync::ledger::Ledger;
 
 impl<'s, 'o, T: Sink> Watcher for Recorder<'s, 'o, T> {
-    ghost Seen = { FullTurn };
+    ghost Seen = { Moment };
 
-    ghost seen = { full_turn_of };
+    ghost seen = { moment };
 
     ghost watched = { Recorded T.Sink };
 
@@ -36,7 +35,7 @@ impl<'s, 'o, T: Sink> Watcher for Recorder<'s, 'o, T> {
             return card.turn(steps);
         };
         let section = running_section(card, self.sections);
-        self.before_turn(card, &aid);
+        self.look_before(card, aid);
         let turn = card.turn(steps)?;
         let source = source_of(self.sections, section, turn.at);
         self.after_turn(card, &aid, &turn, source);
@@ -45,7 +44,7 @@ impl<'s, 'o, T: Sink> Watcher for Recorder<'s, 'o, T> {
 }
 
 impl<'s, 'o, T: Sink> Runner for Recorder<'s, 'o, T> {
-    ghost reported = { Watches full_turn_of (Recorded T.Sink) };
+    ghost reported = { Watches moment (Recorded T.Sink) };
 
     ghost silent = { λ c. recorded_none T.Sink };
 

@@ -1,6 +1,7 @@
 // The static bytes that an executed instruction writes, and the device writes that they take.
 
 use crate::guard::Guard;
+use crate::modes::mode_of;
 use crate::shot::Shot;
 use mc_isa::Ins;
 use mc_prims::Primitive;
@@ -97,20 +98,8 @@ fn target(ins: &Ins, before: &Shot, after: &Shot, z: bool) -> Option<Written> {
     }
 }
 
-// The mode of an instruction that sets the protection.
-fn protection_of(ins: &Ins) -> Option<u8> {
-    match *ins {
-        Ins::Prim {
-            set: 1,
-            number: 3,
-            args,
-        } => Some(args[0]),
-        _ => None,
-    }
-}
-
 // The number of words that a target has in the static segment, which wait if protection is on; 0 if it has none.
-fn take_target(guard: &mut Guard, target: Written, fixed_len: u16) -> u16 {
+fn take_target(guard: &mut Guard, is_on: bool, target: Written, fixed_len: u16) -> u16 {
     let end = target.at as u32 + target.count as u32;
     if target.count == 0 || end > fixed_len as u32 {
         return 0;
@@ -118,7 +107,7 @@ fn take_target(guard: &mut Guard, target: Written, fixed_len: u16) -> u16 {
     let first = target.at / 8;
     let last = ((end - 1) / 8) as u16;
     let count = last.saturating_sub(first).saturating_add(1);
-    if guard.is_on() {
+    if is_on {
         guard.keep(first, count);
         return 0;
     }
@@ -126,14 +115,22 @@ fn take_target(guard: &mut Guard, target: Written, fixed_len: u16) -> u16 {
 }
 
 /// Returns the number of words of static bytes that an instruction which was executed wrote at once, by the bytes of
-/// its frame before and after it and its flag Z, and keeps those that wait under the frame's guard.
-pub fn words_written(guard: &mut Guard, ins: &Ins, before: &Shot, after: &Shot, z: bool) -> u16 {
-    if let Some(mode) = protection_of(ins) {
-        let waited = guard.turn(mode >= 2);
+/// its frame before and after it and its flag Z, and keeps those that wait, if protection was on, under the frame's
+/// guard.
+pub fn words_written(
+    guard: &mut Guard,
+    is_on: bool,
+    ins: &Ins,
+    before: &Shot,
+    after: &Shot,
+    z: bool,
+) -> u16 {
+    if let Some(mode) = mode_of(ins) {
+        let waited = guard.clear();
         return if mode % 2 == 1 { waited } else { 0 };
     }
     match target(ins, before, after, z) {
-        Some(target) => take_target(guard, target, before.fixed_len),
+        Some(target) => take_target(guard, is_on, target, before.fixed_len),
         None => 0,
     }
 }

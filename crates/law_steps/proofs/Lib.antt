@@ -5,3 +5,5 @@ pub mod StackEnds
 pub mod ChainSizes
 pub mod PlaySessions
 pub mod RegistersAfter
+pub mod NextFrames
+pub mod Opens

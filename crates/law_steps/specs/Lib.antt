@@ -1,5 +1,6 @@
 pub mod Readings
 pub mod Shown
 pub mod Registers
+pub mod Nexts
 pub mod Replays
 pub mod Laws

@@ -6,6 +6,7 @@
 mod rows;
 
 ghost use Rattle.law_steps.specs.Laws.{AfterLaw, ExactSetsLaw, LongestRunsLaw, PlaysReplayLaw, ReplayLaw, SizesLaw};
+ghost use Rattle.law_steps.specs.Nexts.{NextLaw, OpensLaw};
 ghost use Rattle.law_steps.specs.Registers.{RegistersLaw};
 
 /// The runs that are written of two segments have exactly the addresses whose bytes differ, each with its new byte.
@@ -36,4 +37,14 @@ pub fn turns_show_what_is_read()
 /// LB and the protection of the frame that ran a turn are found after it in the turn and in the chain after it.
 pub fn turns_show_registers()
     ensures registers { RegistersLaw }
+{}
+
+/// After a turn the frame that ran it goes on, or a frame that it called runs, one deeper, or the one that had called it.
+pub fn turns_lead_to_the_next_frame()
+    ensures nexts { NextLaw }
+{}
+
+/// Protection that is computed turn by turn, from the instructions alone, is that of each frame.
+pub fn turns_give_protection()
+    ensures opens { OpensLaw }
 {}

@@ -2,10 +2,11 @@ use Rattle.std.proofs.Common.{List, ℕ, ap, ◌∙◌}
 use Rattle.model_machine.specs.Frame.{dynamic_base}
 use Rattle.desk_json.specs.Json.{any_run, changes, runs_more}
 use Rattle.desk_json.specs.Sheets.{adds_as}
+use Rattle.desk_steps.specs.Shots.{dynamics}
 use Rattle.desk_steps.proofs.changes.add_dynamic.Goals as goal
 
 pub returns-clause-adds : goal.returns-clause-adds
-returns-clause-adds g c = adds_as g.T.Sink _ _ _ _ (ap (λ (t : List ℕ). runs_more c.args.any (changes dynamic_base c.args.old.now.dynamic t)) c.dynamics.ensures.value) c.add_runs.ensures.adds
+returns-clause-adds g c = adds_as g.T.Sink _ _ _ _ (ap (λ (o : List ℕ). runs_more c.args.any (changes dynamic_base o c.dynamics-2.result.now)) c.dynamics.ensures.value ∙ ap (λ (t : List ℕ). runs_more c.args.any (changes dynamic_base (dynamics c.args.old.now) t)) c.dynamics-2.ensures.value) c.add_runs.ensures.adds
 
 pub returns-clause-any : goal.returns-clause-any
-returns-clause-any g c = c.add_runs.ensures.any ∙ ap (λ (t : List ℕ). any_run c.args.any (changes dynamic_base c.args.old.now.dynamic t)) c.dynamics.ensures.value
+returns-clause-any g c = c.add_runs.ensures.any ∙ ap (λ (o : List ℕ). any_run c.args.any (changes dynamic_base o c.dynamics-2.result.now)) c.dynamics.ensures.value ∙ ap (λ (t : List ℕ). any_run c.args.any (changes dynamic_base (dynamics c.args.old.now) t)) c.dynamics-2.ensures.value

@@ -1,4 +1,4 @@
-use Rattle.std.proofs.Common.{ℕ, ◌+◌, List, ◌≤◌, drop, length, refl, sym, subst, rules}
+use Rattle.std.proofs.Common.{ℕ, ◌+◌, List, ◌≤◌, drop, length, sym, subst, rules}
 use Rattle.model_play.specs.DeckGrammar.{DeckLine}
 use Rattle.model_play.specs.Play.{start}
 use Rattle.mc_deck.specs.Lines.{line_of}
@@ -33,8 +33,8 @@ loop-i-preserved g c =
     let begun = c.begin_line.ensures in
     record {
       recording =
-          recording_on g.T.Sink state bench first deck a c.args.recorder.now (drop (c.loop-i.i + 1) deck) line.0 (line_of line.1) c.loop-i.player c.line-answer.new.self c.loop-i.recorder c.begin_line.new.self c.line-answer.new.runner c.record_line.new.recorder c.line-answer.result c.statement-statement.result.now c.args.steps.now c.loop-i.steps c.line-answer.new.steps h
-          begun.out begun.fault begun.sections begun.turns c.line-answer.ensures.done c.line-answer.ensures.steps c.record_line.ensures.puts c.record_line.ensures.sections;
+          recording_on g.T.Sink state bench first deck a c.args.recorder.now (drop (c.loop-i.i + 1) deck) line.0 (line_of line.1) c.loop-i.player c.line-answer.new.self c.loop-i.recorder c.begin_line.new.self c.line-answer.new.runner c.record_line.new.recorder c.line-answer.result c.statement-statement.result.now (c.record_line.ensures.puts).0 c.args.steps.now c.loop-i.steps c.line-answer.new.steps h
+          begun.out begun.fault (record { sections = begun.sections; turns = begun.turns; first = begun.first; command = begun.command; opens = begun.opens }) c.line-answer.ensures.done c.line-answer.ensures.steps (c.record_line.ensures.puts).1 (c.record_line.ensures.puts).2 c.record_line.ensures.sections;
       keeps_device = g.met.N.Nvm.onward _ _ _ c.loop-i.invariant.keeps_device c.line-answer.ensures.keeps_device;
     }
 

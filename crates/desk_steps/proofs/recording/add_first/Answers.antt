@@ -2,4 +2,4 @@ use Rattle.desk_json.specs.Sheets.{adds_on}
 use Rattle.desk_steps.proofs.recording.add_first.Goals as goal
 
 pub returns : goal.returns
-returns g c = adds_on g.T.Sink _ _ _ _ _ c.add.ensures (c.add_changes.ensures)
+returns g c = adds_on g.T.Sink _ _ _ _ _ c.add.ensures (c.add_frame.ensures)

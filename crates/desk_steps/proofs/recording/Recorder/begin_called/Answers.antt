@@ -1,6 +1,19 @@
-use Rattle.std.proofs.Common.{None, refl}
-use Rattle.desk_steps.proofs.ChangeLemmas.{begins_one}
+use Rattle.std.proofs.Common.{◌≡◌, ℕ, List, None, false, refl, sym, ap, ◌∙◌}
+use Rattle.desk_steps.specs.declared.shot.Shot.{Shot}
+use Rattle.desk_steps.specs.Lines.{frame_text}
+use Rattle.desk_steps.specs.Recorded.{puts_as}
+use Rattle.desk_steps.specs.Shots.{frame_changes}
+use Rattle.desk_steps.proofs.FrameLemmas.{called_shown}
 use Rattle.desk_steps.proofs.recording.Recorder.begin_called.Goals as goal
 
-pub returns-in-Some : goal.returns-in-Some
-returns-in-Some g c = begins_one g.T.Sink c.args.self.now _ c.args.depth _ None _ (record { puts = c.write_called-self.ensures; same = refl }) refl refl
+pub returns-in-Some-clause-adds : goal.returns-in-Some-clause-adds
+returns-in-Some-clause-adds g c ch left runs wide deep =
+    let d : ℕ = c.args.depth in
+    let named : c.in-Some.aid ≡ ch.frame.name = cc (sym c.in-Some.is ∙ c.running_aid.ensures ch left runs) in
+    let s : Shot = c.begin_frame.new.self.before in
+    let runs_of = ap (λ (x : Shot). frame_changes false x) c.begin_frame.ensures.before ∙ called_shown c.look_before.new.self.before ch d (c.look_before.ensures.before ch left runs) wide deep in
+    let text = ap (λ (n : List ℕ). frame_text d n None (frame_changes false s)) named ∙ ap (λ (rs : List (ℕ × List ℕ)). frame_text d ch.frame.name None rs) runs_of in
+    puts_as g.T.Sink c.args.self.now _ _ _ text (record { puts = c.write_called-self.ensures; same = refl })
+
+pub returns-in_default-clause-adds : goal.returns-in_default-clause-adds
+returns-in_default-clause-adds g c ch left runs wide deep = absurd (c.in_default.not-Some _ (c.running_aid.ensures ch left runs))

@@ -1,17 +1,33 @@
-use Rattle.std.proofs.Common.{◌≡◌, ℕ, List, true, refl, subst, rules}
-use Rattle.mc_machine.specs.Turns.{turn_value}
+use Rattle.std.proofs.Common.{◌≡◌, ℕ, List, Bool, false, refl, ap, subst, rules, ◌∙◌}
+use Rattle.std.specs.Prelude.{get_or, option_map}
+use Rattle.mc_machine.specs.Turns.{outcome_value, turn_value}
 use Rattle.mc_text.specs.Texts.{sunk}
+use Rattle.law_steps.specs.Nexts.{open_by}
 use Rattle.desk_json.specs.Sheets.{PutsOn}
+use Rattle.desk_steps.specs.declared.shot.Shot.{Shot}
 use Rattle.desk_steps.specs.Lines.{turn_text, Found}
 use Rattle.desk_steps.specs.Recorded.{next_number}
 use Rattle.desk_steps.specs.Shots.{shot_changes}
+use Rattle.desk_steps.specs.Turning.{frame_place}
 use Rattle.desk_steps.proofs.recording.Recorder.write_turn.Goals as goal
 
 pub returns-clause-adds : goal.returns-clause-adds
 returns-clause-adds g c wrote =
-    let m = c.writes_of-writes.new.self in
-    let x : Found = record { lb = m.after.lb; is_on = c.is_on-is_on.result; sets = shot_changes true m.before m.after; writes = c.writes_of-writes.result } in
-    let n : c.saturating_add-self.result ≡ next_number c.args.self.now.turns = search rules in
+    let q = c.args.self.now in
+    let one = c.writes_of-writes.ensures in
+    let two = c.protection_of-is_on.ensures in
+    let m = c.protection_of-is_on.new.self in
     let w = c.write_counted-self in
-    let line : (k : ℕ) → List ℕ = λ k. turn_text k c.args.aid.now c.args.source (turn_value c.args.turn.now wrote) x in
-    (x, record { puts = subst (λ (k : ℕ). PutsOn c.args.self.now.fault (sunk g.T.Sink c.args.self.now.out.now) (line k) w.result (sunk g.T.Sink w.new.out)) n (w.ensures wrote); same = refl })
+    let turn = c.args.turn.now in
+    let b : Bool = c.protection_of-is_on.result in
+    let k : ℕ = c.saturating_add-self.result in
+    let next : ℕ = next_number q.turns in
+    let n : k ≡ next = search rules in
+    let found : Shot → Shot → Bool → Found = λ before after on. record { lb = after.lb; is_on = on; sets = shot_changes before after; writes = c.writes_of-writes.result } in
+    let text : ℕ → Found → List ℕ = λ i x. turn_text i c.args.aid.now c.args.source (turn_value turn wrote) x in
+    let on = two.on ∙ ap (λ (os : List Bool). open_by (option_map outcome_value turn.end) turn.ins (get_or os (frame_place turn.depth) false)) one.opens in
+    let is =
+    ap (λ (i : ℕ). text i (found m.before m.after b)) n ∙ ap (λ (s : Shot). text next (found s m.after b)) (two.before ∙ one.before) ∙ ap (λ (s : Shot). text next (found q.memory.before s b)) (two.after ∙ one.after)
+    ∙ ap (λ (x : Bool). text next (found q.memory.before q.memory.after x)) on
+    in
+    (c.writes_of-writes.result, record { puts = subst (λ (t : List ℕ). PutsOn q.fault (sunk g.T.Sink q.out.now) t w.result (sunk g.T.Sink w.new.out)) is (w.ensures wrote); same = refl })
