@@ -1,11 +1,12 @@
 -- Texts without blanks, and walks of a pattern along a text.
-use Rattle.std.proofs.Common.{◌≡◌, ℕ, ◌+◌, ◌&&◌, ◌||◌, ◌==◌, refl, sym, ◌∙◌, ap, subst, List, [], ◌∷◌, Bool, true, false, cond, arith}
-use Rattle.std.specs.Prelude.{not}
+use Rattle.std.proofs.Common.{◌≡◌, ◌≤◌, ℕ, ◌+◌, ◌-◌, ◌&&◌, ◌||◌, ◌==◌, length, take, drop, refl, sym, ◌∙◌, ap, subst, List, [], ◌∷◌, Bool, true, false, cond, arith}
+use Rattle.std.specs.Prelude.{not, slice_index}
 use Rattle.model_text.specs.Text.{is_blank, is_empty, is_within}
 use Rattle.lab_match.specs.Walks.{Parts}
 use Rattle.model_play.specs.Patterns.{is_any, is_star}
 use Rattle.law_explore.specs.Matching.{some_rest, first_and_rest, fits, matches, plain, small}
 use Rattle.std.proofs.lemmas.Bool.{or_left, or_right}
+use Rattle.std.proofs.lemmas.List.{take_rest}
 use Rattle.model_device.proofs.BoolLemmas.{and_second}
 
 -- ---- blanks
@@ -156,3 +157,37 @@ walked_star p t x s ps ts i e v =
       here = here;
       later = both_ways (some_rest (matches p) t) (some_rest (matches ps) ts) (λ h. sym whole ∙ w.later h) (λ h. some_rest_first (matches p) t (here ∙ h));
     }
+
+-- ---- the front of a text at which no match begins
+
+rest_apart : (s : ℕ) (ps : List ℕ) (c : ℕ) (t : List ℕ) → is_star s ≡ false → (is_any s || (c == s)) ≡ false → some_rest (matches (s ∷ ps)) (c ∷ t) ≡ some_rest (matches (s ∷ ps)) t
+rest_apart s ps c t e h = ap (λ (b : Bool). b || some_rest (matches (s ∷ ps)) t) (sign_apart s ps c t e h)
+
+apart_by : (b : Bool) (s : ℕ) (ps : List ℕ) (c : ℕ) (t : List ℕ) → is_blank c ≡ b → is_star s ≡ false → (is_any s || (small c == s)) ≡ false
+    → some_rest (matches (s ∷ ps)) (plain (c ∷ t)) ≡ some_rest (matches (s ∷ ps)) (plain t)
+apart_by true s ps c t e k h = ap (some_rest (matches (s ∷ ps))) (plain_blank c t e)
+apart_by false s ps c t e k h = ap (some_rest (matches (s ∷ ps))) (plain_kept c t e) ∙ rest_apart s ps (small c) (plain t) k h
+
+behind_by : (s : ℕ) (ps : List ℕ) (c : ℕ) (t u : List ℕ) → u ≡ t → is_star s ≡ false → (is_any s || (small c == s)) ≡ false
+    → some_rest (matches (s ∷ ps)) (plain u) ≡ some_rest (matches (s ∷ ps)) (plain (c ∷ t))
+behind_by s ps c t u i k h = ap (λ (x : List ℕ). some_rest (matches (s ∷ ps)) (plain x)) i ∙ sym (apart_by (is_blank c) s ps c t refl k h)
+
+-- no match begins at a character that the first sign does not match
+pub match_behind : (s : ℕ) (ps t : List ℕ) → 1 ≤ length t → is_star s ≡ false → (is_any s || (small (slice_index t 0) == s)) ≡ false
+    → some_rest (matches (s ∷ ps)) (plain (take (length t - 1) (drop 1 t))) ≡ some_rest (matches (s ∷ ps)) (plain t)
+match_behind s ps [] l k h = absurd (omega (arith, l))
+match_behind s ps (c ∷ t) l k h = behind_by s ps c t (take (length (c ∷ t) - 1) (drop 1 (c ∷ t))) (take_rest (c ∷ t) 1) k h
+
+-- an empty pattern matches the end of each text
+end_matches : (t : List ℕ) → some_rest (matches []) t ≡ true
+unfolding matches
+end_matches [] = refl
+end_matches (c ∷ t) = end_matches t
+
+-- a pattern that has ended matches the end of one text as that of another
+pub match_ended : (p t u : List ℕ) → p ≡ [] → some_rest (matches p) u ≡ some_rest (matches p) t
+match_ended p t u i = subst (λ (x : List ℕ). some_rest (matches x) u ≡ some_rest (matches x) t) (sym i) (end_matches u ∙ sym (end_matches t))
+
+-- a pattern by its first sign and the signs after it
+pub match_of_sign : (p t u : List ℕ) (s : ℕ) (ps : List ℕ) → p ≡ s ∷ ps → some_rest (matches (s ∷ ps)) u ≡ some_rest (matches (s ∷ ps)) t → some_rest (matches p) u ≡ some_rest (matches p) t
+match_of_sign p t u s ps i h = subst (λ (x : List ℕ). some_rest (matches x) u ≡ some_rest (matches x) t) (sym i) h

@@ -1,5 +1,5 @@
 // Patterns matched against texts.
-ghost use Rattle.std.specs.Prelude.{◌≡◌, ◌<◌, ◌||◌, ◌==◌, ◌∷◌, [], length, IfSome, MatchOption};
+ghost use Rattle.std.specs.Prelude.{◌≡◌, ◌<◌, ◌≤◌, ◌||◌, ◌==◌, ◌∷◌, ℕ, List, [], length, IfSome, MatchOption};
 ghost use Rattle.model_play.specs.Patterns.{is_any};
 ghost use Rattle.law_explore.specs.Matching.{fits, matches, plain, small, some_rest};
 ghost use Rattle.lab_match.specs.Walks.{WalkEnds, WalkIs};
@@ -74,6 +74,39 @@ fn walk_to_star<'a>(pattern: &'a [u8], text: &'a [u8]) -> Walk<'a>
     }
 }
 
+// The text from the first character on that a sign matches, or its end if no character does; the whole text if the sign
+// is `?` or `*`.
+fn from_sign<'a>(sign: u8, text: &'a [u8]) -> &'a [u8]
+    ensures same { (ps : List ℕ) → some_rest (matches (sign ∷ ps)) (plain result.now)
+        ≡ some_rest (matches (sign ∷ ps)) (plain text.now) }
+    ensures shorter { length result.now ≤ length text.now }
+{
+    if sign == b'?' || sign == b'*' {
+        return text;
+    }
+    let mut rest = text;
+    while let [first, behind @ ..] = rest {
+        if small(*first) == sign {
+            return rest;
+        }
+        rest = behind;
+    }
+    rest
+}
+
+// The text without characters at its front at which no match of a pattern begins: some rest of it matches exactly if one
+// of the text does. Of a pattern that has ended it is the end of the text.
+fn from_match<'a>(pattern: &[u8], text: &'a [u8]) -> &'a [u8]
+    ensures same { some_rest (matches (plain pattern.now)) (plain result.now)
+        ≡ some_rest (matches (plain pattern.now)) (plain text.now) }
+    ensures shorter { length result.now ≤ length text.now }
+{
+    match first_of(pattern) {
+        Some((sign, _)) => from_sign(sign, text),
+        None => &[],
+    }
+}
+
 // Whether some rest of a text matches a pattern. Blanks are ignored, and letters match in either case.
 fn matches_some_rest(pattern: &[u8], text: &[u8]) -> bool
     ensures { result ≡ some_rest (matches (plain pattern.now)) (plain text.now) }
@@ -81,14 +114,15 @@ fn matches_some_rest(pattern: &[u8], text: &[u8]) -> bool
     let mut signs = pattern;
     let mut rest = text;
     loop {
-        match walk_to_star(signs, rest) {
+        let from = from_match(signs, rest);
+        match walk_to_star(signs, from) {
             Walk::Whole => return true,
             Walk::Star(next_signs, behind) => {
                 signs = next_signs;
                 rest = behind;
             }
             Walk::Apart => {
-                let Some((_, behind)) = first_of(rest) else {
+                let Some((_, behind)) = first_of(from) else {
                     return false;
                 };
                 rest = behind;
