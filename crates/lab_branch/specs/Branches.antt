@@ -1,7 +1,8 @@
 -- A device in memory with a root, the words to which it goes back.
-use Rattle.std.specs.Prelude.{◌≡◌, ◌≢◌, ◌⊎◌, ℕ, ◌<◌, Bool, true, false, List, [], ◌∷◌, length, get_or, slice_index_or}
+use Rattle.std.specs.Prelude.{◌≡◌, ◌≢◌, ◌⊎◌, ℕ, ◌<◌, ◌≤◌, Bool, true, false, eqb, List, [], ◌∷◌, length, get_or, slice_index_or, bytes_eq}
+use Rattle.std.specs.List.{IsDistinct}
 use Rattle.model_device.specs.Orders.{Answer}
-use Rattle.model_device.specs.Device.{DeviceState, BenchState, blank_words}
+use Rattle.model_device.specs.Device.{DeviceState, BenchState, blank_words, device_words}
 use Rattle.mc_nvm.specs.Sim.{Sim, sim_state, sim_bench, SimWrote, blank_sim}
 
 -- ---- places
@@ -11,22 +12,17 @@ abbrev pub IsListed : ℕ → List ℕ → Type 0
 IsListed n [] = ⊥
 IsListed n (x ∷ xs) = (n ≡ x) ⊎ IsListed n xs
 
--- some places of a device: a list of them, or any place at all
-pub record Places : Type 0 where
-  pub list : List ℕ
-  pub all : Bool
-
--- a place is among some
-abbrev pub IsPlace : ℕ → Places → Type 0
-IsPlace n p = (p.all ≡ true) ⊎ IsListed n p.list
-
--- no place
-abbrev pub no_places : Places
-no_places = record { list = []; all = false }
-
 -- each place that is marked is listed
 abbrev pub MarksAreListed : List Bool → List ℕ → Type 0
 MarksAreListed marks list = (i : ℕ) → get_or marks i false ≡ true → IsListed i list
+
+-- Places of a device, each once, are those that are marked, and the list has room for all that the device has.
+pub record HasRoom (marks : List Bool) (list : List ℕ) (room : ℕ) : Type 0 where
+  pub listed : MarksAreListed marks list
+  pub marked : (i : ℕ) → IsListed i list → get_or marks i false ≡ true
+  pub distinct : IsDistinct eqb list
+  pub size : length marks ≡ device_words
+  pub all : device_words ≤ room
 
 -- ---- a device with a root
 
@@ -43,24 +39,33 @@ blank_branch n = record { device = blank_sim n; root = blank_words n }
 abbrev pub words_of : BranchState → List (List ℕ)
 words_of b = b.device.words
 
--- at each place that is not among some, the words are those of the root
-abbrev pub DiffersAt : Places → List (List ℕ) → List (List ℕ) → Type 0
-DiffersAt p words root = (i : ℕ) → i < length words → IsPlace i p ⊎ (slice_index_or words i [] ≡ slice_index_or root i [])
+-- at each place that is not listed, the words are those of the root
+abbrev pub DiffersAt : List ℕ → List (List ℕ) → List (List ℕ) → Type 0
+DiffersAt list words root = (i : ℕ) → i < length words → IsListed i list ⊎ (slice_index_or words i [] ≡ slice_index_or root i [])
 
--- at each place, words are those of the root or those of the device
-abbrev pub AreOfEither : List (List ℕ) → List (List ℕ) → List (List ℕ) → Type 0
-AreOfEither words root m =
-    (i : ℕ) → i < length words → (slice_index_or m i [] ≡ slice_index_or root i []) ⊎ (slice_index_or m i [] ≡ slice_index_or words i [])
-
--- words have the word of the device at one place more
-pub record HasOneMore (words : List (List ℕ)) (place : ℕ) (m n : List (List ℕ)) : Type 0 where
-  pub there : place < length words → slice_index_or words place [] ≡ slice_index_or n place []
-  pub others : (i : ℕ) → i ≢ place → slice_index_or n i [] ≡ slice_index_or m i []
-
--- what holds of each device with a root
-pub record IsBranch (p : Places) (words root : List (List ℕ)) : Type 0 where
+-- what holds of each device with a root: the words differ from it at the listed places alone
+pub record IsBranch (list : List ℕ) (words root : List (List ℕ)) : Type 0 where
   pub len : length root ≡ length words
-  pub differs : DiffersAt p words root
+  pub size : length words ≡ device_words
+  pub differs : DiffersAt list words root
+
+-- a word with its place is another one than the root has there
+abbrev pub IsDifference : List (List ℕ) → ℕ × List ℕ → Type 0
+IsDifference root d = (d.0 < length root) × (d.1 ≢ slice_index_or root d.0 [])
+
+-- whether words and a root have one word at a place
+abbrev pub has_root_word : List (List ℕ) → List (List ℕ) → ℕ → Bool
+has_root_word words root place = bytes_eq (slice_index_or root place []) (slice_index_or words place [])
+
+-- a word with its place before others, unless it is the word of the root
+abbrev pub unless_root : Bool → ℕ × List ℕ → List (ℕ × List ℕ) → List (ℕ × List ℕ)
+unless_root true d ds = ds
+unless_root false d ds = d ∷ ds
+
+-- the words at some places that are not those of the root, each with its place
+abbrev pub differences_at : List (List ℕ) → List (List ℕ) → List ℕ → List (ℕ × List ℕ)
+differences_at words root [] = []
+differences_at words root (p ∷ ps) = unless_root (has_root_word words root p) (p, slice_index_or words p []) (differences_at words root ps)
 
 -- ---- as a device
 

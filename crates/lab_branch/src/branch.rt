@@ -1,9 +1,12 @@
 // A device in memory that goes back to the words that it once had.
-ghost use Rattle.std.specs.Prelude.{◌≡◌, ◌⊎◌, ℕ, ◌<◌, [], length, slice_index_or, slice_set, None, IfOk, OnOk};
+ghost use Rattle.std.specs.Prelude.{◌≡◌, ◌≢◌, ◌⊎◌, ◌++◌, ℕ, ◌<◌, eqb, false, [], length, map, slice_index_or, slice_set};
+ghost use Rattle.std.specs.Prelude.{None, IfOk, OnErr, OnOk};
+ghost use Rattle.std.specs.List.{AllByRecursion, IsDistinct};
 ghost use Rattle.model_device.specs.Bytes.{zeros};
 ghost use Rattle.model_device.specs.Image.{image_with};
 ghost use Rattle.model_device.specs.Device.{device_words, blank_words};
-ghost use Rattle.lab_branch.specs.Branches.{IsBranch, IsListed, blank_branch, HasWords, AreOfEither, HasOneMore};
+ghost use Rattle.lab_branch.specs.Branches.{IsBranch, IsDifference, IsListed, blank_branch, HasWords};
+ghost use Rattle.lab_branch.specs.Branches.{differences_at, has_root_word, unless_root};
 
 use crate::growth::push;
 use crate::places::Places;
@@ -38,17 +41,6 @@ fn blank(alloc: Global, count: usize) -> Result<Vec<Word>, NoMemory>
     Ok(vec![in alloc; [0xFF; 8]; count]?)
 }
 
-// Copies all words of a device.
-fn copy_words(device: &SimNvm, words: &mut [Word])
-    requires { length words.old ≡ length device.now.words }
-    ensures { words.new ≡ device.now.words }
-{
-    for place in 0..device.len() {
-        let word = device.read(place);
-        words[place as usize] = word;
-    }
-}
-
 // Copies the words of a device at some places, if it has them.
 fn copy_at(device: &SimNvm, words: &mut [Word], places: &[u16])
     requires { length words.old ≡ length device.now.words }
@@ -71,24 +63,7 @@ fn copy_changed(device: &SimNvm, words: &mut [Word], changed: &Places)
     requires { IsBranch changed.now device.now.words words.old }
     ensures { words.new ≡ device.now.words }
 {
-    if changed.are_all() {
-        copy_words(device, words);
-        return;
-    }
     copy_at(device, words, changed.list());
-}
-
-// Sets all words of a device.
-fn put_all(device: &mut SimNvm, words: &[Word])
-    requires { length words.now ≡ length device.old.words }
-    ensures words { device.new.words ≡ words.now }
-    ensures cut { device.new.cut ≡ device.old.cut }
-    ensures worn { device.new.worn ≡ device.old.worn }
-{
-    for place in 0..device.len() {
-        let word = words[place as usize];
-        device.poke(place, word);
-    }
 }
 
 // Sets the words of a device at some places, if it has them.
@@ -144,11 +119,7 @@ impl BranchNvm {
         ensures worn { self.new.device.worn ≡ None }
     {
         self.device.disarm();
-        if self.changed.are_all() {
-            put_all(&mut self.device, self.root.as_slice());
-        } else {
-            put_at(&mut self.device, self.root.as_slice(), self.changed.list());
-        }
+        put_at(&mut self.device, self.root.as_slice(), self.changed.list());
         self.changed.clear();
     }
 
@@ -182,18 +153,18 @@ impl BranchNvm {
         }
     }
 
-    /// Returns the words that differ from the root, each with its place: laid over the root they are those of the
+    /// Returns the words that differ from the root, each once with its place: laid over the root they are those of the
     /// device.
     ///
     /// # Errors
     ///
-    /// Returns `NoMemory` if it is out of memory.
+    /// Returns `NoMemory` if it is out of memory. It takes none if no word differs.
     pub fn differences(&self, alloc: Global) -> Result<Vec<(u16, Word)>, NoMemory>
-        ensures { IfOk result (λ d. image_with self.now.root d.items ≡ self.now.device.words) }
+        ensures laid { IfOk result (λ d. image_with self.now.root d.items ≡ self.now.device.words) }
+        ensures differ { IfOk result (λ d. AllByRecursion (IsDifference self.now.root) d.items) }
+        ensures distinct { IfOk result (λ d. IsDistinct eqb (map (λ e. e.0) d.items)) }
+        ensures memory { OnErr result (self.now.device.words ≢ self.now.root) }
     {
-        if self.changed.are_all() {
-            return Err(NoMemory);
-        }
         differences_at(
             alloc,
             &self.device,
@@ -210,10 +181,11 @@ fn add_difference(
     root: &[Word],
     place: u16,
 ) -> Result<(), NoMemory>
-    requires len { length root.now ≡ length device.now.words }
-    requires either { AreOfEither device.now.words root.now (image_with root.now differences.old.items) }
-    ensures { OnOk result (HasOneMore device.now.words place
-        (image_with root.now differences.old.items) (image_with root.now differences.new.items)) }
+    requires { length root.now ≡ length device.now.words }
+    ensures added { OnOk result (differences.new.items ≡ differences.old.items
+        ++ unless_root (has_root_word device.now.words root.now place)
+        (place, slice_index_or device.now.words place []) []) }
+    ensures memory { OnErr result (has_root_word device.now.words root.now place ≡ false) }
 {
     if (place as u32) >= device.len() {
         return Ok(());
@@ -225,17 +197,16 @@ fn add_difference(
     push(differences, (place, word))
 }
 
-// Returns the words of a device that differ from a root, each with its place, if they differ at some places alone.
+// Returns the words of a device at some places that differ from a root, each with its place.
 fn differences_at(
     alloc: Global,
     device: &SimNvm,
     root: &[Word],
     places: &[u16],
 ) -> Result<Vec<(u16, Word)>, NoMemory>
-    requires len { length root.now ≡ length device.now.words }
-    requires differs { (i : ℕ) → i < length device.now.words → IsListed i places.now
-        ⊎ (slice_index_or device.now.words i [] ≡ slice_index_or root.now i []) }
-    ensures { IfOk result (λ d. image_with root.now d.items ≡ device.now.words) }
+    requires { length root.now ≡ length device.now.words }
+    ensures differ { IfOk result (λ d. d.items ≡ differences_at device.now.words root.now places.now) }
+    ensures memory { OnErr result (device.now.words ≢ root.now) }
 {
     let mut differences = Vec::new(alloc);
     for place in places {

@@ -1,35 +1,38 @@
 // Places of a device.
-ghost use Rattle.std.specs.Prelude.{◌≡◌, ◌⊎◌, ◌++◌, ◌∷◌, ℕ, true, false, [], IfOk, get_or, replicate};
-ghost use Rattle.lab_branch.specs.Branches.{IsListed, IsPlace, no_places, MarksAreListed};
+ghost use Rattle.std.specs.Prelude.{◌≡◌, ◌⊎◌, ◌++◌, ◌∷◌, ◌<◌, ◌≤◌, ℕ, true, false, eqb, [], IfOk, get_or, length};
+ghost use Rattle.std.specs.Prelude.{replicate, slice_set, vec_len, vec_capacity};
+ghost use Rattle.std.specs.List.{IsDistinct};
+ghost use Rattle.model_device.specs.Device.{device_words};
+ghost use Rattle.lab_branch.specs.Branches.{IsListed, MarksAreListed};
 
 use mc_base::NoMemory;
 use mc_nvm::DEVICE_WORDS;
 use std::alloc::Global;
 use std::marker::Model;
 
-/// Some places of a device, each once, in the order in which they came; or any place at all, once there was no room for
-/// one more.
+/// Some places of a device of [`DEVICE_WORDS`] words, each once, in the order in which they came.
 #[derive(Drop)]
 pub(crate) struct Places {
     list: Vec<u16>,
     is_listed: Vec<bool>,
-    all: bool,
 }
 
 impl Model for Places {
-    ghost use Rattle.lab_branch.specs.Branches.{Places as PlacesValue, MarksAreListed};
+    ghost use Rattle.std.specs.Prelude.{ℕ, List, vec_capacity};
+    ghost use Rattle.lab_branch.specs.Branches.{HasRoom};
 
-    ghost Value = { PlacesValue };
+    ghost Value = { List ℕ };
 
-    ghost view = { λ p. record { list = p.list.items; all = p.all } };
+    ghost view = { λ p. p.list.items };
 
-    ghost invariant = { λ p. MarksAreListed p.is_listed.items p.list.items };
+    ghost invariant = { λ p. HasRoom p.is_listed.items p.list.items (vec_capacity p.list) };
 }
 
 // Takes the marks of the listed places away.
 fn unmark(marks: &mut [bool], list: &[u16])
     requires { MarksAreListed marks.old list.now }
-    ensures { MarksAreListed marks.new [] }
+    ensures none { MarksAreListed marks.new [] }
+    ensures len { length marks.new ≡ length marks.old }
 {
     for place in list {
         if (*place as usize) < marks.len() {
@@ -50,20 +53,20 @@ fn is_marked(marks: &[bool], place: u16) -> bool
 
 // Marks a place, if it has a mark.
 fn mark(marks: &mut Vec<bool>, place: u16)
-    ensures { (i : ℕ) → get_or marks.new.items i false ≡ true
-        → (get_or marks.old.items i false ≡ true) ⊎ (i ≡ place) }
+    ensures { marks.new.items ≡ slice_set marks.old.items place true }
 {
     if (place as usize) < marks.len() {
         marks[place as usize] = true;
     }
 }
 
-// Appends a place to a list, and returns whether it had room.
-fn append(list: &mut Vec<u16>, place: u16) -> bool
-    ensures appended { result ≡ true → list.new.items ≡ list.old.items ++ place ∷ [] }
-    ensures stays { result ≡ false → list.new.items ≡ list.old.items }
+// Appends a place to a list that has room for it.
+fn append(list: &mut Vec<u16>, place: u16)
+    requires { vec_len list.old < vec_capacity list.old }
+    ensures items { list.new.items ≡ list.old.items ++ place ∷ [] }
+    ensures room { vec_capacity list.old ≤ vec_capacity list.new }
 {
-    list.push(place).is_ok()
+    list.push(place).unwrap();
 }
 
 // Returns marks, none of which is set.
@@ -80,51 +83,42 @@ impl Places {
     ///
     /// Returns `NoMemory` if it is out of memory.
     pub(crate) fn new(alloc: Global) -> Result<Places, NoMemory>
-        ensures { IfOk result (λ p. p ≡ no_places) }
+        ensures { IfOk result (λ p. p ≡ []) }
     {
         let count = DEVICE_WORDS as usize;
         Ok(Places {
             list: Vec::with_capacity(alloc, count)?,
             is_listed: no_marks(alloc, count)?,
-            all: false,
         })
     }
 
     /// Adds a place, unless it is there.
     pub(crate) fn add(&mut self, place: u16)
-        ensures added { IsPlace place self.new }
-        ensures stays { (q : ℕ) → IsPlace q self.old → IsPlace q self.new }
+        requires { place < device_words }
+        ensures added { IsListed place self.new }
+        ensures stays { (q : ℕ) → IsListed q self.old → IsListed q self.new }
+        ensures no_more { (q : ℕ) → IsListed q self.new → IsListed q self.old ⊎ (q ≡ place) }
     {
         if is_marked(self.is_listed.as_slice(), place) {
             return;
         }
-        if append(&mut self.list, place) {
-            mark(&mut self.is_listed, place);
-        } else {
-            self.all = true;
-        }
+        append(&mut self.list, place);
+        mark(&mut self.is_listed, place);
     }
 
     /// Takes all places out.
     pub(crate) fn clear(&mut self)
-        ensures { self.new ≡ no_places }
+        ensures { self.new ≡ [] }
     {
         unmark(self.is_listed.as_mut_slice(), self.list.as_slice());
         self.list.clear();
-        self.all = false;
     }
 
-    /// Returns the places that were listed.
+    /// Returns the places.
     pub(crate) fn list(&self) -> &[u16]
-        ensures { result.now ≡ self.now.list }
+        ensures list { result.now ≡ self.now }
+        ensures distinct { IsDistinct eqb result.now }
     {
         self.list.as_slice()
-    }
-
-    /// Returns whether any place may be among these.
-    pub(crate) fn are_all(&self) -> bool
-        ensures { result ≡ self.now.all }
-    {
-        self.all
     }
 }

@@ -1,8 +1,8 @@
-use Rattle.std.proofs.Common.{drop}
-use Rattle.model_device.specs.Image.{image_with}
-use Rattle.lab_branch.proofs.BranchLemmas.{Differs}
+use Rattle.std.proofs.Common.{◌≡◌, ◌++◌, drop}
+use Rattle.lab_branch.specs.Branches.{differences_at}
 use Rattle.lab_branch.proofs.branch.differences_at.Given as goal
 
--- the root with the differences so far has the words of the device, but at the places that are left
+-- the differences so far, and those at the places that are left
 abbrev pub invariant-loop-place : goal.invariant-loop-place
-invariant-loop-place l = Differs l.device.words l.root (drop l.place-index l.places) (image_with l.root l.differences.items)
+invariant-loop-place l =
+    l.differences.items ++ differences_at l.device.words l.root (drop l.place-index l.places) ≡ differences_at l.device.words l.root l.places

@@ -14,10 +14,10 @@ returns-in_default-clause-keeps c b l shown device n d m h = keeps_beside _ _ _ 
 
 pub returns-clause-of : goal.returns-clause-of
 returns-clause-of c b l shown device =
-    let words = subst (λ (w : List (List ℕ)). IsShown w c.args.live b l) (sym c.in_ok-words.ensures) shown in
+    let words = subst (λ (w : List (List ℕ)). IsShown w c.args.live b l) (sym c.in_ok-words.ensures.laid) shown in
     keeps_new _ c.args.self.now _ c.in_ok-key.key _ b l (c.in_ok-key.ensures.of b l shown) words device c.in-Ok.ensures.entries c.in-Ok.ensures.unique _ c.in-Ok.ensures.index
 
 pub returns-clause-keeps : goal.returns-clause-keeps
 returns-clause-keeps c b l shown device n d m h =
-    let words = subst (λ (w : List (List ℕ)). IsShown w c.args.live b l) (sym c.in_ok-words.ensures) shown in
+    let words = subst (λ (w : List (List ℕ)). IsShown w c.args.live b l) (sym c.in_ok-words.ensures.laid) shown in
     keeps_old _ c.args.self.now _ c.in_ok-key.key _ b l (c.in_ok-key.ensures.of b l shown) words device c.in-Ok.ensures.entries c.in-Ok.ensures.unique n d m c.in_ok-key.ensures.keeps h

@@ -23,4 +23,4 @@ returns c =
     let new = sym c.contains.ensures ∙ c.if-contains.false in
     let keys = ok_then c.insert_full.result _ c.insert_full.ensures.keys (sym c.is_err.ensures.value ∙ c.if-is_err.false) in
     keeps_new d c.args.self.now _ ns n t c.args.step c.args.state e new (omega (arith, c.len.ensures.len, c.if-len-self.false)) refl refl refl refl
-    (keys ∙ new_last _ c.args.self.now.states.keys c.args.state new) c.in_ok-push.ensures
+    (keys ∙ new_last _ c.args.self.now.states.keys c.args.state new) c.in_ok-push.ensures.items
