@@ -75,8 +75,8 @@ fn has_other_size(line: &[u8], index: usize, size: u64) -> bool {
     }
 }
 
-// The number of the field of a line at an index, 0 if it is none.
-fn number_at(line: &[u8], index: usize) -> u64 {
+/// Returns the number of the field of a line at an index, 0 if it is none.
+pub fn number_at(line: &[u8], index: usize) -> u64 {
     match field_at(line, index) {
         Some(part) => decimal_number(part.text).unwrap_or(0),
         None => 0,

@@ -3,9 +3,9 @@
 use crate::kind::{Kind, kind_in_section};
 use crate::lines::line_numbered;
 use crate::part::{Part, field_at, field_or_first, first_field};
-use crate::place::statement_part;
+use crate::place::{number_at, statement_part};
 use mc_deck::{DeckCause, ends_section, fields};
-use mc_text::cut;
+use mc_text::{cut, decimal_number};
 
 /// Returns whether a line between sections is a rule.
 pub fn is_rule(line: &[u8]) -> bool {
@@ -57,9 +57,19 @@ fn is_closed(line: &[u8], part: Part<'_>) -> bool {
     line.get(part.at.saturating_add(part.text.len())) == Some(&b'}')
 }
 
-// The name in a brace, without what follows a point or a plus sign.
-fn name_in(text: &[u8]) -> &[u8] {
-    cut(cut(text, b'.').0, b'+').0
+// A text in braces: a name, and what follows its point or plus sign.
+#[derive(Clone, Copy)]
+struct Brace<'a> {
+    name: &'a [u8],
+    field: Option<&'a [u8]>,
+    place: Option<&'a [u8]>,
+}
+
+// The name in a brace and what follows it.
+fn brace_of(text: &[u8]) -> Brace<'_> {
+    let (front, place) = cut(text, b'+');
+    let (name, field) = cut(front, b'.');
+    Brace { name, field, place }
 }
 
 // The section that a line opens.
@@ -75,16 +85,26 @@ fn declares(line: &[u8], name: &[u8]) -> bool {
     kind_in_section(line) == Kind::Declaration && field_or_first(line, 1).text == name
 }
 
-// Whether a name is one of the command's header.
-fn is_header(name: &[u8]) -> bool {
-    matches!(
-        name,
-        b"CLA" | b"INS" | b"P1" | b"P2" | b"P3" | b"Lc" | b"Le" | b"La" | b"SW"
-    )
+// The number of bytes of a declaration, 0 if it is of a number.
+fn declared_size(line: &[u8]) -> u64 {
+    match first_field(line).text {
+        b"CONST" => 0,
+        b"PUBLIC" => number_at(line, 3),
+        _ => number_at(line, 2),
+    }
 }
 
-// Whether the section of a name declares another one.
-fn has_name(lines: &[&[u8]], app: &[u8], name: &[u8]) -> bool {
+// The number of bytes of a name of the command's header.
+fn header_size(name: &[u8]) -> Option<u64> {
+    match name {
+        b"CLA" | b"INS" | b"P1" | b"P2" | b"P3" => Some(1),
+        b"Lc" | b"Le" | b"La" | b"SW" => Some(2),
+        _ => None,
+    }
+}
+
+// The number of bytes of a name, 0 of a number, where the section of an application declares it.
+fn size_of(lines: &[&[u8]], app: &[u8], name: &[u8]) -> Option<u64> {
     let mut inside = false;
     for line in lines {
         if let Some(section) = opened(line) {
@@ -94,10 +114,28 @@ fn has_name(lines: &[&[u8]], app: &[u8], name: &[u8]) -> bool {
             inside = false;
         }
         if inside && declares(line, name) {
-            return true;
+            return Some(declared_size(line));
         }
     }
-    is_header(name)
+    header_size(name)
+}
+
+// Whether a name of so many bytes, 0 of a number, goes with what follows it in braces.
+fn goes_with(size: u64, brace: Brace<'_>) -> bool {
+    match (brace.field, brace.place) {
+        (None, None) => true,
+        (Some(field), None) => size > 0 && field == b"size".as_slice(),
+        (None, Some(place)) => size > 0 && decimal_number(place).is_some(),
+        (Some(_), Some(_)) => false,
+    }
+}
+
+// Whether the place in braces is none of the bytes of its name.
+fn is_beyond(size: u64, brace: Brace<'_>) -> bool {
+    match brace.place {
+        Some(place) => decimal_number(place).unwrap_or(0) >= size,
+        None => false,
+    }
 }
 
 // The application of which the rule with a number speaks, which is empty if none is named.
@@ -113,10 +151,14 @@ fn app_of<'a>(lines: &[&'a [u8]], number: u32) -> &'a [u8] {
 
 // Whether a brace of a rule is what its cause is about.
 fn is_meant(lines: &[&[u8]], line: &[u8], app: &[u8], part: Part<'_>, cause: DeckCause) -> bool {
-    match cause {
-        DeckCause::BadLine => !is_closed(line, part),
-        DeckCause::OutOfRange => part.text.contains(&b'+'),
-        _ => !has_name(lines, app, name_in(part.text)),
+    if cause == DeckCause::BadLine {
+        return !is_closed(line, part);
+    }
+    let brace = brace_of(part.text);
+    match size_of(lines, app, brace.name) {
+        Some(size) if cause == DeckCause::OutOfRange => is_beyond(size, brace),
+        Some(size) => !goes_with(size, brace),
+        None => cause == DeckCause::UnknownName,
     }
 }
 

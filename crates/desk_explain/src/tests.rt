@@ -103,3 +103,17 @@ a.draft:11:17: BadHex: `b` stands here; expected bytes as pairs of hexadecimal d
 a.draft:12:17: BadHex: `(1)` stands here; expected bytes as pairs of hexadecimal digits, or the name of a section above; count the digits, or mend the name\n";
     assert!(rt; explains(rt.alloc(), draft, false, text));
 }
+
+#[test]
+fn the_brace_that_is_meant(rt: HostRuntime) {
+    let draft =
+        b"app a A000000001\nSTATIC x 2\nPUBLIC p 3 4\nCONST n 7\n CLEARN x\n CLEARN p\n EXITSW n\nend\nload a\n#@ on turn *{INS}* need n 1\n#@ on turn {x}* need n 1\n#@ app a\n#@ on turn {x+1},{p+4} need n 1\n#@ on turn {Lc+1},{n.size} need n 1\n#@ on turn {p.size},{n+1} need n 1\n#@ on turn {n},{x.length}{ need n 1\n#@ on turn {x},{p+3},{x need n 1\n";
+    let text =
+        b"a.draft:11:13: UnknownName: `x` stands here; expected a name that the section of the last `#@ app` line above declares, or one with a plus sign or a point and size; name the section in an `#@ app` line above, or mend the name\n\
+a.draft:13:19: OutOfRange: `p+4` stands here; expected a place among the bytes of the name, and at most 255 bytes in round brackets; write a number after the plus sign that is less than the size of the name\n\
+a.draft:14:20: UnknownName: `n.size` stands here; expected a name that the section of the last `#@ app` line above declares, or one with a plus sign or a point and size; name the section in an `#@ app` line above, or mend the name\n\
+a.draft:15:22: UnknownName: `n+1` stands here; expected a name that the section of the last `#@ app` line above declares, or one with a plus sign or a point and size; name the section in an `#@ app` line above, or mend the name\n\
+a.draft:16:17: UnknownName: `x.length` stands here; expected a name that the section of the last `#@ app` line above declares, or one with a plus sign or a point and size; name the section in an `#@ app` line above, or mend the name\n\
+a.draft:17:23: BadLine: `x need n 1` stands here; expected a closing brace after the name; write the brace\n";
+    assert!(rt; explains(rt.alloc(), draft, false, text));
+}
