@@ -120,7 +120,7 @@ fn size_of(lines: &[&[u8]], app: &[u8], name: &[u8]) -> Option<u64> {
     header_size(name)
 }
 
-// Whether a name of so many bytes, 0 of a number, goes with what follows it in braces.
+// Whether a name of `size` bytes, 0 of a number, goes with what follows it in braces.
 fn goes_with(size: u64, brace: Brace<'_>) -> bool {
     match (brace.field, brace.place) {
         (None, None) => true,

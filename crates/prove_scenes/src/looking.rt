@@ -187,7 +187,7 @@ impl Scene {
     }
 }
 
-// The bytes of a list from a place on, at most so many.
+// The bytes of a list from a place on, at most `count` of them.
 #[tactic(auto, using(crate::proofs::PartLemmas::part_is))]
 fn part(bytes: &[u8], from: usize, count: usize) -> &[u8]
     ensures value { result.now ≡ take count (drop from bytes.now) }

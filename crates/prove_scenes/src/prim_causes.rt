@@ -199,7 +199,7 @@ fn copy_memory(scene: &Scene, head: Head) -> Option<Abend>
     )
 }
 
-// Whether one of two blocks is not whole in a segment, whose addresses lie so many bytes below the top of the stack.
+// Whether one of two blocks is not whole in a segment; their addresses lie `first` and `second` bytes below the top.
 fn both_outside(scene: &Scene, dt: u16, first: u16, second: u16, n: u16) -> bool
     ensures { result ≡ (is_outside (frame_to scene.now dt) (model.number_below_top scene.now.frame first) n
         || is_outside (frame_to scene.now dt) (model.number_below_top scene.now.frame second) n) }

@@ -107,7 +107,7 @@ fn store_flags(scene: &Scene) -> Shape
     }
 }
 
-// A copy of n bytes, once the top bytes of the stack are popped; none if there are not so many.
+// A copy of n bytes, once the top `popped` bytes of the stack are popped; none if the stack has fewer.
 fn copy(scene: &Scene, popped: u16, n: u16) -> Option<Shape>
     requires { popped ≤ 8 }
     ensures { IfSome result (λ h. shape_value h ≡ shapes.goes (scene.now.frame.dt - popped)
