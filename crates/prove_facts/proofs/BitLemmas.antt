@@ -44,7 +44,7 @@ not_by zero z h e = subst (λ (n : ℕ). (n == 1) ≡ true) (sym e) refl
 not_by (suc zero) z h e = subst (λ (n : ℕ). (n == 1) ≡ false) (sym e) refl
 not_by (suc (suc x)) z h e = absurd (omega arith)
 
-or_bit : (a b i : ℕ) → (bit_at (bit_or a b) i == 1) ≡ (bit_at a i == 1) || (bit_at b i == 1)
+pub or_bit : (a b i : ℕ) → (bit_at (bit_or a b) i == 1) ≡ (bit_at a i == 1) || (bit_at b i == 1)
 or_bit a b i = or_by (bit_at a i) (bit_at b i) (bit_at (bit_or a b) i) (bit_at-lt a i) (bit_at-lt b i) (bit_at_or a b i)
 
 and_bit : (a b i : ℕ) → (bit_at (bit_and a b) i == 1) ≡ (bit_at a i == 1) && (bit_at b i == 1)

@@ -5,3 +5,4 @@ pub mod PackedLemmas
 pub mod SetLemmas
 pub mod CoverLemmas
 pub mod LeastLemmas
+pub mod MoveLemmas

@@ -1,20 +1,15 @@
 #![tactic(auto)]
 
-//! What may be known of bytes: sets of values, facts by addresses, arithmetic on sets of digits, and sums.
+//! What may be known of bytes: sets of values, facts by addresses, and sums.
 
-mod digits;
 mod facts;
 mod growth;
 mod packed;
 mod sums;
 mod values;
 
-pub use digits::{Digit, Way, ways};
 pub use facts::{Fact, Facts};
 pub use growth::push;
 pub use packed::PackedFacts;
 pub use sums::{Block, Form, Known, More, Origin, Sums, Term, form_of, mask};
 pub use values::Values;
-
-#[cfg(test)]
-mod tests;

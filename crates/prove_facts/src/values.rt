@@ -1,8 +1,8 @@
 // Sets of byte values.
-ghost use Rattle.std.specs.Prelude.{◌≡◌, ◌<◌, ◌≤◌, ◌↔◌, ℕ, ◌+◌, ◌-◌, ◌%◌, ◌^◌, min, Bool, true, false, not, ◌&&◌, ◌||◌, ◌==◌, nat_lt, nat_le, [], ◌∷◌, length, ◌*◌, bit_or, count_ones};
+ghost use Rattle.std.specs.Prelude.{◌≡◌, ◌<◌, ◌≤◌, ◌↔◌, ℕ, ◌+◌, ◌-◌, ◌%◌, ◌^◌, min, Bool, true, false, not, ◌&&◌, ◌||◌, ◌==◌, nat_lt, nat_le, [], ◌∷◌, cond, length, ◌*◌, bit_or, count_ones};
 ghost use Rattle.std.specs.Int.{bit_at, trailing_zeros, w64};
 ghost use Rattle.model_prove.specs.Sets.{union, common, is_subset, is_empty, is_full, only_value};
-ghost use Rattle.prove_facts.specs.Sets.{has_value, set_of, values_of, least_value};
+ghost use Rattle.prove_facts.specs.Sets.{has_bit, has_value, set_of, values_of, least_value};
 
 /// A set of some of the 256 values of a byte.
 #[derive(Clone, Copy, PartialEq, Eq, Debug)]
@@ -150,22 +150,16 @@ impl Values {
     }
 
     /// Returns each value plus a number, modulo 256.
-    pub fn moved(&self, by: u8) -> Values {
+    pub fn moved(&self, by: u8) -> Values
+        ensures { (v : ℕ) → v < 256 → has_value result v ≡ has_value self.now ((v + 256 - by) % 256) }
+    {
         let [a, b, c, d] = self.words;
-        let [a, b, c, d] = match by / 64 {
-            0 => [a, b, c, d],
-            1 => [d, a, b, c],
-            2 => [c, d, a, b],
-            _ => [b, c, d, a],
-        };
         let r = by % 64;
-        Values {
-            words: [
-                joined(a, d, r),
-                joined(b, a, r),
-                joined(c, b, r),
-                joined(d, c, r),
-            ],
+        match by / 64 {
+            0 => moved_words(a, b, c, d, r),
+            1 => moved_words(d, a, b, c, r),
+            2 => moved_words(c, d, a, b, r),
+            _ => moved_words(b, c, d, a, r),
         }
     }
 
@@ -244,12 +238,32 @@ fn low_bits(count: u16) -> u64
     }
 }
 
-// A word moved up by some bits, with the highest bits of the word below it.
-fn joined(word: u64, lower: u64, by: u8) -> u64 {
-    if by == 0 || by >= 64 {
+// A word moved up by fewer than 64 bits, with the highest bits of the word below it.
+fn joined(word: u64, lower: u64, by: u8) -> u64
+    ensures { by < 64 → (i : ℕ) → i < 64 → (bit_at result i == 1)
+        ≡ cond (nat_le by i) (bit_at word (i - by) == 1) (bit_at lower (i + 64 - by) == 1) }
+{
+    if by == 0 {
+        return word;
+    }
+    if by >= 64 {
         return word;
     }
     word << by | lower >> (64 - by)
+}
+
+// Four words whose values are moved by fewer than 64.
+fn moved_words(a: u64, b: u64, c: u64, d: u64, by: u8) -> Values
+    ensures { by < 64 → (v : ℕ) → v < 256 → has_value result v ≡ has_bit (a ∷ b ∷ c ∷ d ∷ []) ((v + 256 - by) % 256) }
+{
+    Values {
+        words: [
+            joined(a, d, by),
+            joined(b, a, by),
+            joined(c, b, by),
+            joined(d, c, by),
+        ],
+    }
 }
 
 // The place of the lowest bit of a word that is not zero, after some words.

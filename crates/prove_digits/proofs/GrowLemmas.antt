@@ -1,0 +1,279 @@
+-- Digits that grow by one value of the second byte after another are those of the definition in the end.
+use Rattle.std.specs.Prelude.{◌≡◌, ◌⊎◌, ℕ, ◌+◌, ◌<◌, ◌≤◌, Bool, true, false, cond, ◌&&◌, List, [], ◌∷◌, get_or, ◌/◌, refl}
+use Rattle.std.proofs.Common.{arith, ap, sym, subst, ◌∙◌, inl, inr}
+use Rattle.std.proofs.lemmas.Bool.{and_parts, and_from, both_ways, cases_lt}
+use Rattle.model_prove.specs.Sets.{Set, is_in, is_empty, union}
+use Rattle.model_prove.specs.Digits.{Operation, Flags, digit, flags_after, same_flags, Digits, digits_from}
+use Rattle.model_prove.proofs.SetLemmas.{is_first}
+use Rattle.prove_facts.specs.Sets.{set_of}
+use Rattle.prove_facts.specs.declared.values.Values.{Values}
+use Rattle.prove_facts.specs.Sets.{values_of}
+use Rattle.prove_facts.proofs.BitLemmas.{each_word, is_word, at_zero}
+use Rattle.prove_facts.proofs.SetLemmas.{rises_values, none_is}
+use Rattle.prove_digits.specs.Trios.{trio_value, no_digits, grown, IsGrown, trio_in, trio_at, edge_of}
+use Rattle.prove_digits.specs.declared.trios.Trio.{Trio}
+use Rattle.prove_digits.specs.declared.turns.Split.{Split}
+use Rattle.prove_digits.specs.declared.turns.Turn.{Turn}
+use Rattle.prove_digits.proofs.MemberLemmas.{same_tests, in_either, in_left, in_right, only_in, byte_of, Leads, results_to, results_from, first_to, first_from, second_to, second_from, rising_from, same_digits}
+
+-- ---- one value more
+
+first_of : (x : ℕ) (s : Set) → is_in x s ≡ true → (b : Bool) → is_empty s ≡ b → b ≡ false
+first_of x [] h b e = absurd (cc h)
+first_of x (y ∷ s) h b e = sym e
+
+-- a set with an element is not empty
+not_none : (x : ℕ) (s : Set) → is_in x s ≡ true → is_empty s ≡ false
+not_none x [] h = absurd (cc h)
+not_none x (y ∷ s) h = refl
+
+grown_keeps_a : (b : Bool) (d : Digits) (xs ys rs : Set) (v : ℕ) → is_in v d.a ≡ true
+    → is_in v (let e : Digits = cond b d (record { a = union d.a xs; b = union d.b ys; r = union d.r rs }) in e.a) ≡ true
+grown_keeps_a true d xs ys rs v h = h
+grown_keeps_a false d xs ys rs v h = in_left v d.a xs h
+
+grown_keeps_b : (b : Bool) (d : Digits) (xs ys rs : Set) (v : ℕ) → is_in v d.b ≡ true
+    → is_in v (let e : Digits = cond b d (record { a = union d.a xs; b = union d.b ys; r = union d.r rs }) in e.b) ≡ true
+grown_keeps_b true d xs ys rs v h = h
+grown_keeps_b false d xs ys rs v h = in_left v d.b ys h
+
+grown_keeps_r : (b : Bool) (d : Digits) (xs ys rs : Set) (v : ℕ) → is_in v d.r ≡ true
+    → is_in v (let e : Digits = cond b d (record { a = union d.a xs; b = union d.b ys; r = union d.r rs }) in e.r) ≡ true
+grown_keeps_r true d xs ys rs v h = h
+grown_keeps_r false d xs ys rs v h = in_left v d.r rs h
+
+grown_is : (b : Bool) (d : Digits) (xs ys rs : Set) → b ≡ false
+    → cond b d (record { a = union d.a xs; b = union d.b ys; r = union d.r rs }) ≡ (let e : Digits = record { a = union d.a xs; b = union d.b ys; r = union d.r rs } in e)
+grown_is true d xs ys rs h = absurd (cc h)
+grown_is false d xs ys rs h = refl
+
+grown_from_a : (b : Bool) (d : Digits) (xs ys rs : Set) (v : ℕ)
+    → is_in v (let e : Digits = cond b d (record { a = union d.a xs; b = union d.b ys; r = union d.r rs }) in e.a) ≡ true → (is_in v d.a ≡ true) ⊎ (is_in v xs ≡ true)
+grown_from_a true d xs ys rs v h = inl h
+grown_from_a false d xs ys rs v h = in_either v d.a xs h
+
+grown_from_b : (b : Bool) (d : Digits) (xs : Set) (y : ℕ) (rs : Set) (v : ℕ)
+    → is_in v (let e : Digits = cond b d (record { a = union d.a xs; b = union d.b (y ∷ []); r = union d.r rs }) in e.b) ≡ true → is_empty xs ≡ b
+    → (is_in v d.b ≡ true) ⊎ ((v ≡ y) × ((x : ℕ) × (is_in x xs ≡ true)))
+grown_from_b true d xs y rs v h e = inl h
+grown_from_b false d [] y rs v h e = absurd (cc e)
+grown_from_b false d (x ∷ xs) y rs v h e =
+    elim (in_either v d.b (y ∷ []) h) [
+      | inl k ↦ inl k
+      | inr k ↦ inr (only_in v y k, (x, is_first x xs))
+    ]
+
+grown_from_r : (b : Bool) (d : Digits) (xs ys rs : Set) (v : ℕ)
+    → is_in v (let e : Digits = cond b d (record { a = union d.a xs; b = union d.b ys; r = union d.r rs }) in e.r) ≡ true → (is_in v d.r ≡ true) ⊎ (is_in v rs ≡ true)
+grown_from_r true d xs ys rs v h = inl h
+grown_from_r false d xs ys rs v h = in_either v d.r rs h
+
+-- a set has the values that pass a test, and another what a function makes of them
+pub record AreMade (test : ℕ → Bool) (result : ℕ → ℕ) (xs rs : Set) : Type 0 where
+  pub test_is : (x : ℕ) → is_in x xs ≡ test x
+  pub made : (x : ℕ) → is_in x xs ≡ true → is_in (result x) rs ≡ true
+  pub from : (r : ℕ) → is_in r rs ≡ true → is_empty xs ≡ false → (x : ℕ) × (is_in x xs ≡ true) × (result x ≡ r)
+
+grown_from_made : (b : Bool) (test : ℕ → Bool) (result : ℕ → ℕ) (d : Digits) (xs ys rs : Set) (v : ℕ) → AreMade test result xs rs → is_empty xs ≡ b
+    → is_in v (let e : Digits = cond b d (record { a = union d.a xs; b = union d.b ys; r = union d.r rs }) in e.r) ≡ true
+    → (is_in v d.r ≡ true) ⊎ ((x : ℕ) × (test x ≡ true) × (result x ≡ v))
+grown_from_made true test result d xs ys rs v m e h = inl h
+grown_from_made false test result d xs ys rs v m e h =
+    elim (in_either v d.r rs h) [
+      | inl k ↦ inl k
+      | inr k ↦ let q = m.from v k e in inr (q.0, sym (m.test_is q.0) ∙ q.1, q.2)
+    ]
+
+pub is_grown : (d e : Digits) (xs : Set) (y : ℕ) (rs : Set) (test : ℕ → Bool) (result : ℕ → ℕ) → e ≡ grown d xs y rs → AreMade test result xs rs → IsGrown d e test y result
+is_grown d e xs y rs test result h m =
+    let b = is_empty xs in
+    let full : (x : ℕ) → test x ≡ true → e ≡ (let k : Digits = record { a = union d.a xs; b = union d.b (y ∷ []); r = union d.r rs } in k)
+    = λ x t. h ∙ grown_is (is_empty xs) d xs (y ∷ []) rs (not_none x xs (m.test_is x ∙ t)) in
+    record {
+      keeps_a = λ v k. ap (λ (c : Digits). is_in v c.a) h ∙ grown_keeps_a (is_empty xs) d xs (y ∷ []) rs v k;
+      keeps_b = λ v k. ap (λ (c : Digits). is_in v c.b) h ∙ grown_keeps_b (is_empty xs) d xs (y ∷ []) rs v k;
+      keeps_r = λ v k. ap (λ (c : Digits). is_in v c.r) h ∙ grown_keeps_r (is_empty xs) d xs (y ∷ []) rs v k;
+      adds_a = λ x t. ap (λ (c : Digits). is_in x c.a) (full x t) ∙ in_right x d.a xs (m.test_is x ∙ t);
+      adds_b = λ x t. ap (λ (c : Digits). is_in y c.b) (full x t) ∙ in_right y d.b (y ∷ []) (is_first y []);
+      adds_r = λ x t. ap (λ (c : Digits). is_in (result x) c.r) (full x t) ∙ in_right (result x) d.r rs (m.made x (m.test_is x ∙ t));
+      from_a = λ v k. elim (grown_from_a (is_empty xs) d xs (y ∷ []) rs v (sym (ap (λ (c : Digits). is_in v c.a) h) ∙ k)) [
+        | inl i ↦ inl i
+        | inr i ↦ inr (sym (m.test_is v) ∙ i)
+      ];
+      from_b = λ v k. elim (grown_from_b (is_empty xs) d xs y rs v (sym (ap (λ (c : Digits). is_in v c.b) h) ∙ k) refl) [
+        | inl i ↦ inl i
+        | inr i ↦ inr (i.0, (i.1.0, sym (m.test_is i.1.0) ∙ i.1.1))
+      ];
+      from_r = λ v k. grown_from_made (is_empty xs) test result d xs (y ∷ []) rs v m refl (sym (ap (λ (c : Digits). is_in v c.r) h) ∙ k);
+    }
+
+-- a test and a result by those that are equal
+pub grown_alike : (d e : Digits) (y : ℕ) (test other : ℕ → Bool) (result made : ℕ → ℕ) → ((x : ℕ) → test x ≡ other x) → ((x : ℕ) → test x ≡ true → result x ≡ made x)
+    → IsGrown d e test y result → IsGrown d e other y made
+grown_alike d e y test other result made h k g =
+    record {
+      keeps_a = g.keeps_a;
+      keeps_b = g.keeps_b;
+      keeps_r = g.keeps_r;
+      adds_a = λ x t. g.adds_a x (h x ∙ t);
+      adds_b = λ x t. g.adds_b x (h x ∙ t);
+      adds_r = λ x t. subst (λ (r : ℕ). is_in r e.r ≡ true) (k x (h x ∙ t)) (g.adds_r x (h x ∙ t));
+      from_a = λ v i. elim (g.from_a v i) [ inl q ↦ inl q | inr q ↦ inr (sym (h v) ∙ q) ];
+      from_b = λ v i. elim (g.from_b v i) [ inl q ↦ inl q | inr q ↦ inr (q.0, (q.1.0, sym (h q.1.0) ∙ q.1.1)) ];
+      from_r = λ v i. elim (g.from_r v i) [ inl q ↦ inl q | inr q ↦ inr (q.0, sym (h q.0) ∙ q.1, sym (k q.0 q.1) ∙ q.2) ];
+    }
+
+-- ---- all values below a number
+
+-- digits have what the values of the second set below a number lead to
+pub record AreBelow (op : Operation) (s t : Set) (f g : Flags) (n : ℕ) (d : Digits) : Type 0 where
+  pub a_to : (v : ℕ) → is_in v d.a ≡ true → (y : ℕ) × Leads op s t f g v y
+  pub b_to : (v : ℕ) → is_in v d.b ≡ true → (x : ℕ) × Leads op s t f g x v
+  pub r_to : (v : ℕ) → is_in v d.r ≡ true → (x : ℕ) × (y : ℕ) × Leads op s t f g x y × ((digit op x y f.c).0 ≡ v)
+  pub a_from : (x y : ℕ) → y < n → Leads op s t f g x y → is_in x d.a ≡ true
+  pub b_from : (x y : ℕ) → y < n → Leads op s t f g x y → is_in y d.b ≡ true
+  pub r_from : (x y : ℕ) → y < n → Leads op s t f g x y → is_in (digit op x y f.c).0 d.r ≡ true
+
+pub none_below : (op : Operation) (s t : Set) (f g : Flags) → AreBelow op s t f g 0 no_digits
+none_below op s t f g =
+    record {
+      a_to = λ v h. absurd (cc h);
+      b_to = λ v h. absurd (cc h);
+      r_to = λ v h. absurd (cc h);
+      a_from = λ x y l h. absurd (omega (arith, l));
+      b_from = λ x y l h. absurd (omega (arith, l));
+      r_from = λ x y l h. absurd (omega (arith, l));
+    }
+
+-- ---- no values
+
+abbrev pub zeros : List ℕ
+zeros = 0 ∷ 0 ∷ 0 ∷ 0 ∷ []
+
+zero_at : (k : ℕ) → k < 4 → get_or zeros k 0 ≡ 0
+zero_at k h = each_word (λ (w : ℕ). get_or zeros w 0 ≡ 0) refl refl refl refl k h
+
+pub empty_words : values_of zeros ≡ []
+empty_words = none_is zeros (λ v h. at_zero zeros v (zero_at (v / 64) (is_word v h)))
+
+abbrev pub none_trio : Trio
+none_trio = record { x = record { words = zeros }; y = record { words = zeros }; r = record { words = zeros } }
+
+abbrev pub none_split : Split
+none_split = record { other = none_trio; zero = none_trio }
+
+abbrev pub none_turn : Turn
+none_turn = record { clear = none_split; set = none_split }
+
+same_sets : Set → Digits
+same_sets s = record { a = s; b = s; r = s }
+
+pub none_value : trio_value none_trio ≡ no_digits
+unfolding same_sets
+none_value = ap same_sets empty_words
+
+pub trio_below : (op : Operation) (s t : Set) (f g : Flags) → AreBelow op s t f g 0 (trio_value none_trio)
+trio_below op s t f g = subst (λ (d : Digits). AreBelow op s t f g 0 d) (sym none_value) (none_below op s t f g)
+
+pub split_below : (op : Operation) (s t : Set) (f g : Flags) (z : Bool) → AreBelow op s t f g 0 (trio_value (trio_in none_split z))
+split_below op s t f g false = trio_below op s t f g
+split_below op s t f g true = trio_below op s t f g
+
+pub turn_below : (op : Operation) (s t : Set) (f g : Flags) (c z : Bool) → AreBelow op s t f g 0 (trio_value (trio_at none_turn c z))
+turn_below op s t f g false z = split_below op s t f g z
+turn_below op s t f g true z = split_below op s t f g z
+
+pub none_at : (c z : Bool) → trio_value (trio_at none_turn c z) ≡ no_digits
+none_at false false = none_value
+none_at false true = none_value
+none_at true false = none_value
+none_at true true = none_value
+
+pub none_in : (z : Bool) → trio_value (trio_in none_split z) ≡ no_digits
+none_in false = none_value
+none_in true = none_value
+
+pub edge_none : (t : Turn) (so_far c z : Bool) → so_far ≡ false → z ≡ true → no_digits ≡ edge_of t so_far c z
+edge_none t false c true e h = refl
+edge_none t true c z e h = absurd (cc e)
+edge_none t false c false e h = absurd (cc h)
+
+-- a value that is not in the second set leads nowhere
+pub skip_below : (op : Operation) (s t : Set) (f g : Flags) (n : ℕ) (d : Digits) → is_in n t ≡ false → AreBelow op s t f g n d → AreBelow op s t f g (n + 1) d
+skip_below op s t f g n d h p =
+    let under : (x y : ℕ) → y < n + 1 → Leads op s t f g x y → y < n = λ x y l q. elim (cases_lt y n) [
+      | inl k ↦ k
+      | inr k ↦
+          let e : y ≡ n = omega (arith, l, k) in
+          absurd (both_ways (is_in n t) h (subst (λ (w : ℕ). is_in w t ≡ true) e q.second))
+    ] in
+    record {
+      a_to = p.a_to;
+      b_to = p.b_to;
+      r_to = p.r_to;
+      a_from = λ x y l q. p.a_from x y (under x y l q) q;
+      b_from = λ x y l q. p.b_from x y (under x y l q) q;
+      r_from = λ x y l q. p.r_from x y (under x y l q) q;
+    }
+
+leads_by : (op : Operation) (s t : Set) (f g : Flags) (x y : ℕ) → is_in y t ≡ true → (is_in x s && same_flags (flags_after op x y f) g) ≡ true → Leads op s t f g x y
+leads_by op s t f g x y h k =
+    let p = and_parts (is_in x s) (same_flags (flags_after op x y f) g) k in
+    record { first = p.0; second = h; flags = p.1 }
+
+leads_test : (op : Operation) (s t : Set) (f g : Flags) (x y : ℕ) → Leads op s t f g x y → (is_in x s && same_flags (flags_after op x y f) g) ≡ true
+leads_test op s t f g x y l = and_from (is_in x s) (same_flags (flags_after op x y f) g) l.first l.flags
+
+at_value : (op : Operation) (s t : Set) (f g : Flags) (x y n : ℕ) → y < n + 1 → n ≤ y → Leads op s t f g x y → Leads op s t f g x n
+at_value op s t f g x y n l k q =
+    let e : y ≡ n = omega (arith, l, k) in
+    subst (λ (w : ℕ). Leads op s t f g x w) e q
+
+pub more_below : (op : Operation) (s t : Set) (f g : Flags) (n : ℕ) (d e : Digits) → is_in n t ≡ true
+    → IsGrown d e (λ x. is_in x s && same_flags (flags_after op x n f) g) n (λ x. (digit op x n f.c).0) → AreBelow op s t f g n d → AreBelow op s t f g (n + 1) e
+more_below op s t f g n d e h w p =
+    record {
+      a_to = λ v i. elim (w.from_a v i) [ inl q ↦ p.a_to v q | inr q ↦ (n, leads_by op s t f g v n h q) ];
+      b_to = λ v i. elim (w.from_b v i) [
+        | inl q ↦ p.b_to v q
+        | inr q ↦ (q.1.0, subst (λ (y : ℕ). Leads op s t f g q.1.0 y) (sym q.0) (leads_by op s t f g q.1.0 n h q.1.1))
+      ];
+      r_to = λ v i. elim (w.from_r v i) [ inl q ↦ p.r_to v q | inr q ↦ (q.0, n, leads_by op s t f g q.0 n h q.1, q.2) ];
+      a_from = λ x y l q. elim (cases_lt y n) [
+        | inl k ↦ w.keeps_a x (p.a_from x y k q)
+        | inr k ↦ w.adds_a x (leads_test op s t f g x n (at_value op s t f g x y n l k q))
+      ];
+      b_from = λ x y l q. elim (cases_lt y n) [
+        | inl k ↦ w.keeps_b y (p.b_from x y k q)
+        | inr k ↦
+            let i : n ≡ y = omega (arith, l, k) in
+            subst (λ (u : ℕ). is_in u e.b ≡ true) i (w.adds_b x (leads_test op s t f g x n (at_value op s t f g x y n l k q)))
+      ];
+      r_from = λ x y l q. elim (cases_lt y n) [
+        | inl k ↦ w.keeps_r (digit op x y f.c).0 (p.r_from x y k q)
+        | inr k ↦
+            let i : n ≡ y = omega (arith, l, k) in
+            subst (λ (u : ℕ). is_in (digit op x u f.c).0 e.r ≡ true) i (w.adds_r x (leads_test op s t f g x n (at_value op s t f g x y n l k q)))
+      ];
+    }
+
+-- in the end they are those of the definition
+pub all_below : (op : Operation) (xs ys : Values) (f g : Flags) (t : Trio) → AreBelow op (set_of xs) (set_of ys) f g 256 (trio_value t)
+    → trio_value t ≡ digits_from op (set_of xs) (set_of ys) f g
+all_below op xs ys f g t p =
+    let u = set_of xs in
+    let w = set_of ys in
+    let d = digits_from op (set_of xs) (set_of ys) f g in
+    same_digits (trio_value t) (digits_from op (set_of xs) (set_of ys) f g)
+    (record { a = rises_values t.x.words; b = rises_values t.y.words; r = rises_values t.r.words })
+    (rising_from op (set_of xs) (set_of ys) f g (rises_values xs.words) (rises_values ys.words))
+    (λ v. same_tests (is_in v (set_of t.x)) (is_in v (digits_from op (set_of xs) (set_of ys) f g).a)
+    (λ h. let q = p.a_to v h in first_from op v q.0 (set_of xs) (set_of ys) f g q.1)
+    (λ h. let q = first_to op v (set_of xs) (set_of ys) f g h in p.a_from v q.0 (byte_of ys q.0 q.1.second) q.1))
+    (λ v. same_tests (is_in v (set_of t.y)) (is_in v (digits_from op (set_of xs) (set_of ys) f g).b)
+    (λ h. let q = p.b_to v h in second_from op q.0 v (set_of xs) (set_of ys) f g q.1)
+    (λ h. let q = second_to op v (set_of xs) (set_of ys) f g h in p.b_from q.0 v (byte_of ys v q.1.second) q.1))
+    (λ v. same_tests (is_in v (set_of t.r)) (is_in v (digits_from op (set_of xs) (set_of ys) f g).r)
+    (λ h. let q = p.r_to v h in subst (λ (r : ℕ). is_in r (digits_from op (set_of xs) (set_of ys) f g).r ≡ true) q.3 (results_from op q.0 q.1 (set_of xs) (set_of ys) f g q.2))
+    (λ h. let q = results_to op v (set_of xs) (set_of ys) f g h in
+    subst (λ (r : ℕ). is_in r (set_of t.r) ≡ true) q.3 (p.r_from q.0 q.1 (byte_of ys q.1 q.2.second) q.2)))

@@ -1,0 +1,9 @@
+pub mod MemberLemmas
+pub mod GrowLemmas
+pub mod TurnLemmas
+pub mod BitLemmas
+pub mod EdgeLemmas
+pub mod ShapeLemmas
+pub mod WayLemmas
+pub mod FoundLemmas
+pub mod StepLemmas

@@ -1,0 +1,217 @@
+-- Sums and differences: the values below a number make one carry, the others the other one, and all move alike.
+use Rattle.std.specs.Prelude.{◌≡◌, ℕ, ◌+◌, ◌-◌, ◌%◌, ◌<◌, ◌≤◌, Bool, true, false, cond, not, ◌&&◌, ◌||◌, nat_lt, nat_le, ◌==◌, [], ◌∷◌, refl}
+use Rattle.std.proofs.Common.{arith, ap, sym, ◌∙◌, inl, inr}
+use Rattle.std.proofs.lemmas.Bool.{and_parts, and_left, cases_lt, cases_eq, eq-eqb, ne_eqb, lt-ltb, le-ltb, le-leb, lt-leb, eqb-true}
+use Rattle.model_prove.specs.Sets.{Set, is_in, is_empty, common}
+use Rattle.model_prove.specs.Digits.{Operation, Plus, Minus, carried, digit, same, Digits}
+use Rattle.model_prove.proofs.SetLemmas.{is_first}
+use Rattle.prove_facts.specs.Sets.{set_of, has_value}
+use Rattle.prove_facts.specs.declared.values.Values.{Values}
+use Rattle.prove_facts.proofs.SetLemmas.{in_filter, in_values, out_values}
+use Rattle.prove_digits.specs.Trios.{IsGrown, leads_on, sum_of}
+use Rattle.prove_digits.proofs.MemberLemmas.{byte_of}
+use Rattle.prove_digits.proofs.GrowLemmas.{AreMade, grown_alike}
+
+-- a test by whether a zero is wanted
+abbrev pub zero_test : Bool → Bool → Bool
+zero_test true b = b
+zero_test false b = not b
+
+pub same_zero : (z b : Bool) → same b z ≡ zero_test z b
+same_zero true true = refl
+same_zero true false = refl
+same_zero false true = refl
+same_zero false false = refl
+
+-- ---- what two sets have in common
+
+in_common : (v : ℕ) (s t : Set) → is_in v (common s t) ≡ (is_in v s && is_in v t)
+in_common v s t = in_filter (λ w. is_in w t) v s
+
+-- a set is what another has of the values that pass a test
+pub common_by : (set part mask : Values) (test : ℕ → Bool) → set_of set ≡ common (set_of part) (set_of mask) → ((v : ℕ) → v < 256 → has_value mask v ≡ test v)
+    → (v : ℕ) → is_in v (set_of set) ≡ (is_in v (set_of part) && test v)
+common_by set part mask test e h v =
+    ap (λ (s : Set). is_in v s) e ∙ in_common v (set_of part) (set_of mask)
+    ∙ elim (cases_lt v 256) [
+      | inl l ↦ ap (λ (b : Bool). is_in v (set_of part) && b) (in_values mask.words v l ∙ h v l)
+      | inr g ↦
+          let n = out_values part.words v g in
+          and_left (is_in v (set_of part)) (is_in v (set_of mask)) n ∙ sym (and_left (is_in v (set_of part)) (test v) n)
+    ]
+
+-- ---- one part
+
+zero_at : (x e by : ℕ) → x < 256 → e < 256 → by < 256 → (e + by) % 256 ≡ 0 → (x == e) ≡ ((x + by) % 256 == 0)
+zero_at x e by l k n h =
+    elim (cases_eq x e) [
+      | inl q ↦ let z : (x + by) % 256 ≡ 0 = omega (arith, q, h) in eq-eqb x e q ∙ sym (eq-eqb ((x + by) % 256) 0 z)
+      | inr q ↦ ne_eqb x e q ∙ sym (ne_eqb ((x + by) % 256) 0 (λ z. q (omega (arith, z, h, l, k, n))))
+    ]
+
+-- the values that do not become zero
+pub other_made : (part rest end others moved : Values) (by e : ℕ) → by < 256 → e < 256 → (e + by) % 256 ≡ 0
+    → ((v : ℕ) → v < 256 → has_value end v ≡ (v == e)) → ((v : ℕ) → v < 256 → has_value others v ≡ not (has_value end v))
+    → set_of rest ≡ common (set_of part) (set_of others) → ((v : ℕ) → v < 256 → has_value moved v ≡ has_value rest ((v + 256 - by) % 256))
+    → AreMade (λ x. is_in x (set_of part) && not ((x + by) % 256 == 0)) (λ x. (x + by) % 256) (set_of rest) (set_of moved)
+other_made part rest end others moved by e l k n h o c m =
+    record {
+      test_is = common_by rest part others (λ x. not ((x + by) % 256 == 0)) c (λ v q. o v q ∙ ap not (h v q ∙ zero_at v e by q k l n));
+      made = λ x i.
+          let q = byte_of rest x i in
+          let back : ((x + by) % 256 + 256 - by) % 256 ≡ x = omega (arith, q, l) in
+          let r : (x + by) % 256 < 256 = omega arith in
+          in_values moved.words ((x + by) % 256) r ∙ m ((x + by) % 256) r ∙ ap (λ (w : ℕ). has_value rest w) back ∙ sym (in_values rest.words x q) ∙ i;
+      from = λ r i s.
+          let q = byte_of moved r i in
+          let w : (r + 256 - by) % 256 < 256 = omega arith in
+          let on : ((r + 256 - by) % 256 + by) % 256 ≡ r = omega (arith, q, l) in
+          ((r + 256 - by) % 256, in_values rest.words ((r + 256 - by) % 256) w ∙ sym (m r q) ∙ sym (in_values moved.words r q) ∙ i, on);
+    }
+
+first_in : (s : Set) → is_empty s ≡ false → (x : ℕ) × (is_in x s ≡ true)
+first_in [] h = absurd (cc h)
+first_in (x ∷ s) h = (x, is_first x s)
+
+or_only : (b : Bool) → (b || false) ≡ true → b ≡ true
+or_only true h = refl
+or_only false h = h
+
+zero_only : (r : ℕ) (rs : Set) → rs ≡ 0 ∷ [] → is_in r rs ≡ true → r ≡ 0
+zero_only r rs e h = sym (eqb-true 0 r (or_only (0 == r) (sym (ap (λ (s : Set). is_in r s) e) ∙ h)))
+
+-- values that become zero
+pub zeros_made : (test : ℕ → Bool) (make : ℕ → ℕ) (xs rs : Set) → ((x : ℕ) → is_in x xs ≡ test x) → ((x : ℕ) → is_in x xs ≡ true → make x ≡ 0) → rs ≡ 0 ∷ []
+    → AreMade test make xs rs
+zeros_made test make xs rs h z e =
+    record {
+      test_is = h;
+      made = λ x i. ap (λ (s : Set). is_in (make x) s) e ∙ ap (λ (w : ℕ). is_in w (0 ∷ [])) (z x i);
+      from = λ r i s. let q = first_in xs s in (q.0, q.1, z q.0 q.1 ∙ sym (zero_only r rs e i));
+    }
+
+pub zero_made : (part zero end : Values) (rs : Set) (by e : ℕ) → by < 256 → e < 256 → (e + by) % 256 ≡ 0
+    → ((v : ℕ) → v < 256 → has_value end v ≡ (v == e)) → set_of zero ≡ common (set_of part) (set_of end) → rs ≡ 0 ∷ []
+    → AreMade (λ x. is_in x (set_of part) && ((x + by) % 256 == 0)) (λ x. (x + by) % 256) (set_of zero) rs
+zero_made part zero end rs by e l k n h c s =
+    let t = common_by zero part end (λ x. (x + by) % 256 == 0) c (λ v q. h v q ∙ zero_at v e by q k l n) in
+    zeros_made (λ x. is_in x (set_of part) && ((x + by) % 256 == 0)) (λ x. (x + by) % 256) (set_of zero) rs t
+    (λ x i. eqb-true ((x + by) % 256) 0 (and_parts (is_in x (set_of part)) ((x + by) % 256 == 0) (sym (t x) ∙ i)).1) s
+
+-- ---- both parts
+
+regrouped : (a p q r z : Bool) → p ≡ q → r ≡ z → ((a && p) && z) ≡ (a && (q && r))
+regrouped true p q r z h k = ap (λ (b : Bool). b && z) h ∙ ap (λ (b : Bool). q && b) (sym k)
+regrouped false p q r z h k = refl
+
+part_grows : (op : Operation) (carry c z : Bool) (xs part : Set) (y by : ℕ) (in_part : ℕ → Bool) (d e : Digits) → ((x : ℕ) → is_in x part ≡ (is_in x xs && in_part x))
+    → ((x : ℕ) → in_part x ≡ same (digit op x y carry).1 c) → ((x : ℕ) → (x + by) % 256 ≡ (digit op x y carry).0)
+    → IsGrown d e (λ x. is_in x part && zero_test z ((x + by) % 256 == 0)) y (λ x. (x + by) % 256)
+    → IsGrown d e (λ x. is_in x xs && leads_on op carry c z x y) y (λ x. (digit op x y carry).0)
+part_grows op carry c z xs part y by in_part d e p q r g =
+    grown_alike d e y (λ x. is_in x part && zero_test z ((x + by) % 256 == 0)) (λ x. is_in x xs && leads_on op carry c z x y) (λ x. (x + by) % 256)
+    (λ x. (digit op x y carry).0)
+    (λ x.
+    ap (λ (b : Bool). b && zero_test z ((x + by) % 256 == 0)) (p x)
+    ∙ regrouped (is_in x xs) (in_part x) (same (digit op x y carry).1 c) (same ((digit op x y carry).0 == 0) z) (zero_test z ((x + by) % 256 == 0)) (q x)
+    (same_zero z ((digit op x y carry).0 == 0) ∙ ap (λ (n : ℕ). zero_test z (n == 0)) (sym (r x))))
+    (λ x t. r x) g
+
+-- the part that makes a carry
+abbrev pub part_with : Bool → Bool → Set → Set → Set
+part_with true true below above = below
+part_with true false below above = above
+part_with false true below above = above
+part_with false false below above = below
+
+same_true : (b : Bool) → same b true ≡ b
+same_true true = refl
+same_true false = refl
+
+same_false : (b : Bool) → same b false ≡ not b
+same_false true = refl
+same_false false = refl
+
+plus_below : (x k : ℕ) → k ≤ 256 → nat_lt x (256 - k) ≡ not (nat_le 256 (x + k))
+plus_below x k h =
+    elim (cases_lt x (256 - k)) [
+      | inl l ↦ lt-ltb x (256 - k) l ∙ sym (ap not (lt-leb 256 (x + k) (omega (arith, l, h))))
+      | inr l ↦ le-ltb x (256 - k) l ∙ sym (ap not (le-leb 256 (x + k) (omega (arith, l, h))))
+    ]
+
+not_not : (b : Bool) → not (not b) ≡ b
+not_not true = refl
+not_not false = refl
+
+small_carry : (c : Bool) → carried c ≤ 1
+small_carry true = omega arith
+small_carry false = omega arith
+
+added : (x y k by : ℕ) → by ≡ (y + k) % 256 → (x + by) % 256 ≡ (x + y + k) % 256
+added x y k by e = omega (arith, e)
+
+taken : (x y k by : ℕ) → y + k ≤ 256 → by ≡ (256 - (y + k)) % 256 → (x + by) % 256 ≡ (256 + x - y - k) % 256
+taken x y k by h e = omega (arith, e, h)
+
+together : (x y k : ℕ) → x + (y + k) ≡ x + y + k
+together x y k = omega arith
+
+pub moves_grow : (b carry : Bool) (xs below above : Set) (y by split : ℕ) (d e : Bool → Bool → Digits) → y < 256
+    → split ≡ cond b (y + carried carry) (256 - (y + carried carry)) → by ≡ cond b ((256 - (y + carried carry)) % 256) ((y + carried carry) % 256)
+    → ((x : ℕ) → is_in x below ≡ (is_in x xs && nat_lt x split)) → ((x : ℕ) → is_in x above ≡ (is_in x xs && not (nat_lt x split)))
+    → ((c z : Bool) → IsGrown (d c z) (e c z) (λ x. is_in x (part_with b c below above) && zero_test z ((x + by) % 256 == 0)) y (λ x. (x + by) % 256))
+    → (c z : Bool) → IsGrown (d c z) (e c z) (λ x. is_in x xs && leads_on (sum_of b) carry c z x y) y (λ x. (digit (sum_of b) x y carry).0)
+moves_grow true carry xs below above y by split d e l s m p q g true z =
+    part_grows Minus carry true z xs below y by (λ x. nat_lt x split) (d true z) (e true z) p
+    (λ x. ap (λ (n : ℕ). nat_lt x n) s ∙ sym (same_true (nat_lt x (y + carried carry))))
+    (λ x. let k = small_carry carry in taken x y (carried carry) by (omega (arith, l, k)) m) (g true z)
+moves_grow true carry xs below above y by split d e l s m p q g false z =
+    part_grows Minus carry false z xs above y by (λ x. not (nat_lt x split)) (d false z) (e false z) q
+    (λ x. ap (λ (n : ℕ). not (nat_lt x n)) s ∙ sym (same_false (nat_lt x (y + carried carry))))
+    (λ x. let k = small_carry carry in taken x y (carried carry) by (omega (arith, l, k)) m) (g false z)
+moves_grow false carry xs below above y by split d e l s m p q g false z =
+    let k = small_carry carry in
+    let w : y + carried carry ≤ 256 = omega (arith, l, k) in
+    part_grows Plus carry false z xs below y by (λ x. nat_lt x split) (d false z) (e false z) p
+    (λ x. ap (λ (n : ℕ). nat_lt x n) s ∙ plus_below x (y + carried carry) w
+    ∙ ap (λ (n : ℕ). not (nat_le 256 n)) (together x y (carried carry)) ∙ sym (same_false (nat_le 256 (x + y + carried carry))))
+    (λ x. added x y (carried carry) by m) (g false z)
+moves_grow false carry xs below above y by split d e l s m p q g true z =
+    let k = small_carry carry in
+    let w : y + carried carry ≤ 256 = omega (arith, l, k) in
+    part_grows Plus carry true z xs above y by (λ x. not (nat_lt x split)) (d true z) (e true z) q
+    (λ x. ap (λ (n : ℕ). not (nat_lt x n)) s ∙ ap not (plus_below x (y + carried carry) w) ∙ not_not (nat_le 256 (x + (y + carried carry)))
+    ∙ ap (λ (n : ℕ). nat_le 256 n) (together x y (carried carry)) ∙ sym (same_true (nat_le 256 (x + y + carried carry))))
+    (λ x. added x y (carried carry) by m) (g true z)
+
+-- flags one by one
+pub each_pair : (P : Bool → Bool → Type 0) → P false false → P false true → P true false → P true true → (c z : Bool) → P c z
+each_pair P a b c d false false = a
+each_pair P a b c d false true = b
+each_pair P a b c d true false = c
+each_pair P a b c d true true = d
+
+-- the parts that a byte's turn grows by
+pub parts_true : (s : Bool) (below above : Set) (y by : ℕ) (d e : Bool → Bool → Digits) → s ≡ true
+    → IsGrown (d false false) (e false false) (λ x. is_in x above && not ((x + by) % 256 == 0)) y (λ x. (x + by) % 256)
+    → IsGrown (d false true) (e false true) (λ x. is_in x above && ((x + by) % 256 == 0)) y (λ x. (x + by) % 256)
+    → IsGrown (d true false) (e true false) (λ x. is_in x below && not ((x + by) % 256 == 0)) y (λ x. (x + by) % 256)
+    → IsGrown (d true true) (e true true) (λ x. is_in x below && ((x + by) % 256 == 0)) y (λ x. (x + by) % 256)
+    → (c z : Bool) → IsGrown (d c z) (e c z) (λ x. is_in x (part_with s c below above) && zero_test z ((x + by) % 256 == 0)) y (λ x. (x + by) % 256)
+parts_true false below above y by d e h p q r t c z = absurd (cc h)
+parts_true true below above y by d e h p q r t false false = p
+parts_true true below above y by d e h p q r t false true = q
+parts_true true below above y by d e h p q r t true false = r
+parts_true true below above y by d e h p q r t true true = t
+
+pub parts_false : (s : Bool) (below above : Set) (y by : ℕ) (d e : Bool → Bool → Digits) → s ≡ false
+    → IsGrown (d false false) (e false false) (λ x. is_in x below && not ((x + by) % 256 == 0)) y (λ x. (x + by) % 256)
+    → IsGrown (d false true) (e false true) (λ x. is_in x below && ((x + by) % 256 == 0)) y (λ x. (x + by) % 256)
+    → IsGrown (d true false) (e true false) (λ x. is_in x above && not ((x + by) % 256 == 0)) y (λ x. (x + by) % 256)
+    → IsGrown (d true true) (e true true) (λ x. is_in x above && ((x + by) % 256 == 0)) y (λ x. (x + by) % 256)
+    → (c z : Bool) → IsGrown (d c z) (e c z) (λ x. is_in x (part_with s c below above) && zero_test z ((x + by) % 256 == 0)) y (λ x. (x + by) % 256)
+parts_false true below above y by d e h p q r t c z = absurd (cc h)
+parts_false false below above y by d e h p q r t false false = p
+parts_false false below above y by d e h p q r t false true = q
+parts_false false below above y by d e h p q r t true false = r
+parts_false false below above y by d e h p q r t true true = t

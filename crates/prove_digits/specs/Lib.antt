@@ -1,0 +1,4 @@
+pub mod Trios
+pub mod States
+pub mod Ways
+pub mod Bits
