@@ -1,9 +1,10 @@
 // Rows that compute on digits: their outcomes by final flags, narrowed operands, and the last compare.
-use crate::last::{Bounds, Last, Order};
 use crate::state::{Segment, Sizes, State, plain, where_is};
 use crate::step::{Step, goes_or_wrote, limit};
 use mc_base::NoMemory;
-use prove_facts::{Digit, Form, Values, Way, form_of, mask, push, ways};
+use prove_digits::{Digit, Way, ways};
+use prove_facts::{Form, Values, form_of, mask, push};
+use prove_keys::{Bounds, Last, Order};
 use std::alloc::Global;
 
 /// A computation on the n bytes at an address, with n bytes at a second one or with a constant.

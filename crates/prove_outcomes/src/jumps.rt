@@ -1,9 +1,10 @@
 // Where the code goes on: branches, jumps, calls and returns.
 use crate::shared::known_word;
-use crate::state::{Call, Sizes, State};
+use crate::state::{Sizes, State};
 use crate::step::{Step, abend, goes};
 use mc_base::NoMemory;
 use prove_facts::{Values, push};
+use prove_keys::Call;
 use std::alloc::Global;
 
 type Grown = Result<(), NoMemory>;

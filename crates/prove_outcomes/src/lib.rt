@@ -5,7 +5,6 @@
 mod coarse;
 mod compute;
 mod jumps;
-mod last;
 mod numbers;
 mod prims;
 mod rows;
@@ -15,9 +14,6 @@ mod splitting;
 mod state;
 mod step;
 
-pub use last::{Bounds, Last, Order};
 pub use rows::row;
-pub use state::{
-    Call, DYNAMIC, DYNAMIC_END, Known, PUBLIC, PUBLIC_END, PackedKnown, Registers, Sizes, State,
-};
+pub use state::{Sizes, State};
 pub use step::Step;

@@ -1,13 +1,14 @@
 // Primitives whose popped bytes are numbers: compares, copies, digests and ciphers.
 use crate::coarse::{coarse_write, write_any};
 use crate::compute::{Computation, compute_at};
-use crate::last::Last;
 use crate::shared::{after_pop, top, values_in, with_flags};
 use crate::splitting::{number_at, split};
 use crate::state::{Segment, Sizes, State, is_outside};
 use crate::step::{Step, abend};
 use mc_base::NoMemory;
-use prove_facts::{Digit, Values};
+use prove_digits::Digit;
+use prove_facts::Values;
+use prove_keys::Last;
 use std::alloc::Global;
 
 type Grown = Result<(), NoMemory>;

@@ -9,7 +9,8 @@ use crate::state::{Byte, Sizes, State, constant, is_outside, known_byte, plain, 
 use crate::step::{Step, abend, goes, goes_or_wrote, limit};
 use mc_base::{NoMemory, bytes_of};
 use model_machine::Ins;
-use prove_facts::{Block, Digit, Values, push};
+use prove_digits::Digit;
+use prove_facts::{Block, Values, push};
 use std::alloc::Global;
 
 type Grown = Result<(), NoMemory>;

@@ -5,7 +5,8 @@ use crate::splitting::split;
 use crate::state::{Sizes, State, known_byte, plain};
 use crate::step::{Step, abend};
 use mc_base::NoMemory;
-use prove_facts::{Digit, Values, mask, push};
+use prove_digits::Digit;
+use prove_facts::{Values, mask, push};
 use std::alloc::Global;
 
 type Grown = Result<(), NoMemory>;

@@ -1,7 +1,8 @@
 // Bytes that decide an address, a length or an index: each combination of their values by itself, or what all could reach.
-use crate::state::{DYNAMIC, PUBLIC, PUBLIC_END, Sizes};
+use crate::state::Sizes;
 use mc_base::NoMemory;
 use prove_facts::{Values, push};
+use prove_keys::{DYNAMIC, PUBLIC, PUBLIC_END};
 use std::alloc::Global;
 
 /// The most combinations that are followed each by itself.

@@ -1,16 +1,8 @@
 // A frame of the application: its registers, its open calls, and what is known of its bytes.
-use crate::last::{Last, touches};
 use mc_base::NoMemory;
-use prove_facts::{Block, Facts, Form, Origin, PackedFacts, Sums, Values, push};
+use prove_facts::{Block, Facts, Form, Origin, Values, push};
+use prove_keys::{Call, DYNAMIC, DYNAMIC_END, Known, PUBLIC, PUBLIC_END, Registers, touches};
 use std::alloc::Global;
-
-pub const DYNAMIC: u16 = 0x8000;
-
-pub const DYNAMIC_END: u16 = 0x8200;
-
-pub const PUBLIC: u16 = 0xC000;
-
-pub const PUBLIC_END: u16 = 0xC411;
 
 /// The sizes of the application, and the blocks of its lines of sums.
 #[derive(Clone, Copy)]
@@ -25,34 +17,6 @@ impl<'a> Sizes<'a> {
     pub fn floor(&self) -> u16 {
         DYNAMIC.saturating_add(self.session)
     }
-}
-
-/// A call that is open: DT after its four saved bytes, the saved LB and the saved place.
-#[derive(Clone, Copy, PartialEq, Eq, Hash, Debug)]
-pub struct Call {
-    pub end: u16,
-    pub lb: u16,
-    pub place: u16,
-}
-
-#[derive(Clone, Copy, PartialEq, Eq, Hash, Debug)]
-pub struct Registers {
-    pub at: u16,
-    pub c: bool,
-    pub z: bool,
-    pub dt: u16,
-    pub lb: u16,
-    pub protected: bool,
-}
-
-#[derive(Drop)]
-pub struct Known {
-    /// The bytes as the application reads them.
-    pub read: Facts,
-    /// The static bytes as power would leave them, where protection is on.
-    pub kept: Facts,
-    pub last: Last,
-    pub sums: Sums,
 }
 
 #[derive(Drop)]
@@ -97,83 +61,6 @@ pub fn where_is(sizes: &Sizes<'_>, dt: u16, at: u16, n: u16) -> Option<Segment> 
 
 pub fn is_outside(sizes: &Sizes<'_>, dt: u16, at: u16, n: u16) -> bool {
     n != 0 && where_is(sizes, dt, at, n).is_none()
-}
-
-impl Known {
-    pub fn copied(&self, alloc: Global) -> Result<Known, NoMemory> {
-        Ok(Known {
-            read: self.read.copied(alloc)?,
-            kept: self.kept.copied(alloc)?,
-            last: self.last,
-            sums: self.sums.copied(alloc)?,
-        })
-    }
-
-    pub fn joined(&self, alloc: Global, other: &Known) -> Result<Known, NoMemory> {
-        Ok(Known {
-            read: self.read.joined(alloc, &other.read)?,
-            kept: self.kept.joined(alloc, &other.kept)?,
-            last: self.last.joined(&other.last),
-            sums: self.sums.joined(alloc, &other.sums)?,
-        })
-    }
-}
-
-/// What is known, in little room.
-#[derive(Drop)]
-pub struct PackedKnown {
-    read: PackedFacts,
-    kept: PackedFacts,
-    last: Last,
-    sums: Sums,
-}
-
-impl PackedKnown {
-    /// Packs what is known.
-    ///
-    /// # Errors
-    ///
-    /// Returns `NoMemory` if it is out of memory.
-    pub fn new(alloc: Global, known: &Known) -> Result<PackedKnown, NoMemory> {
-        Ok(PackedKnown {
-            read: PackedFacts::new(alloc, &known.read)?,
-            kept: PackedFacts::new(alloc, &known.kept)?,
-            last: known.last,
-            sums: known.sums.copied(alloc)?,
-        })
-    }
-
-    /// Returns what is known.
-    ///
-    /// # Errors
-    ///
-    /// Returns `NoMemory` if it is out of memory.
-    pub fn known(&self, alloc: Global) -> Result<Known, NoMemory> {
-        Ok(Known {
-            read: self.read.facts(alloc)?,
-            kept: self.kept.facts(alloc)?,
-            last: self.last,
-            sums: self.sums.copied(alloc)?,
-        })
-    }
-
-    /// Returns whether joining the other changes nothing.
-    ///
-    /// # Errors
-    ///
-    /// Returns `NoMemory` if it is out of memory.
-    pub fn covers(&self, alloc: Global, other: &Known) -> Result<bool, NoMemory> {
-        if !self.read.covers(&other.read)
-            || !self.kept.covers(&other.kept)
-            || self.last.joined(&other.last) != self.last
-        {
-            return Ok(false);
-        }
-        if self.sums.is_idle() {
-            return Ok(true);
-        }
-        Ok(self.sums.joined(alloc, &other.sums)? == self.sums)
-    }
 }
 
 impl State {

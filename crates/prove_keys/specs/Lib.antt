@@ -1,0 +1,4 @@
+pub mod Compares
+pub mod Keys
+pub mod Known
+pub mod Tables
