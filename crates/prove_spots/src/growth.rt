@@ -1,0 +1,18 @@
+// Lists that grow.
+ghost use Rattle.std.specs.Prelude.{◌≡◌, [], ◌∷◌, ◌++◌, OnOk};
+
+use mc_base::NoMemory;
+
+/// Appends a value to a list.
+///
+/// # Errors
+///
+/// Returns `NoMemory` if it is out of memory.
+pub fn push<T: Drop>(list: &mut Vec<T>, value: T) -> Result<(), NoMemory>
+    ensures { OnOk result (list.new.items ≡ list.old.items ++ value ∷ []) }
+{
+    match list.push(value) {
+        Ok(()) => Ok(()),
+        Err(_) => Err(NoMemory),
+    }
+}

@@ -1,0 +1,5 @@
+pub mod Reaches
+pub mod Numbers
+pub mod Searches
+pub mod Narrowing
+pub mod Rows
