@@ -1,0 +1,3 @@
+pub mod AmountLemmas
+pub mod LineLemmas
+pub mod MarkLemmas

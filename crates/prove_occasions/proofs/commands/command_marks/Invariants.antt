@@ -1,0 +1,7 @@
+use Rattle.std.proofs.Common.{◌≡◌, ◌++◌, drop}
+use Rattle.prove_occasions.specs.Picks.{command_marks}
+use Rattle.prove_occasions.proofs.commands.command_marks.Given as goal
+
+-- the marks so far, and those of the lines that are left, are all
+abbrev pub invariant-loop-on : goal.invariant-loop-on
+invariant-loop-on l = l.marks.items ++ command_marks (drop l.on-index l.ons) l.rest ≡ command_marks l.fn.ons l.fn.class

@@ -1,0 +1,12 @@
+#![tactic(auto)]
+
+//! What an event does to the allowances of an application, line by line as the definition says it.
+
+mod amounts;
+mod commands;
+mod lines;
+mod turns;
+
+pub use amounts::after_session;
+pub use commands::{abend_results, after_answer, after_command};
+pub use turns::after_turn;
