@@ -1,6 +1,6 @@
 // Why a line is no rule.
 use mc_base::NoMemory;
-use mc_deck::DeckCause;
+use model_play::DeckCause;
 use std::alloc::AllocError;
 
 /// Why a line is no rule: a cause that lines of decks have too, or that no line above names the application.
@@ -67,4 +67,14 @@ impl From<AllocError> for Fault {
     fn from(_error: AllocError) -> Self {
         Fault::NoMemory
     }
+}
+
+/// Returns the fault of a line of another form.
+pub fn bad_line() -> Fault {
+    Fault::Cause(RuleCause::Deck(DeckCause::BadLine))
+}
+
+/// Returns the fault of a cause.
+pub fn refused(cause: DeckCause) -> Fault {
+    Fault::Cause(RuleCause::Deck(cause))
 }

@@ -2,11 +2,17 @@
 
 //! The rules of a deck for one application, read from its comments that begin with `#@`.
 
+mod always;
+mod app;
 mod fault;
 mod field;
 mod lines;
 mod load;
+mod on;
+mod partial;
 mod parts;
+mod public;
+mod range;
 mod reading;
 
 pub use fault::{RuleCause, RuleRefusal};

@@ -1,24 +1,39 @@
 // The parts of an `on` line: a pattern, and the word after it.
-use crate::fault::Fault;
+ghost use Rattle.std.specs.Prelude.{◌≡◌, ◌++◌, None, Some, cond, true, option_map, IfOk, OnOk};
+ghost use Rattle.model_device.specs.Bytes.{lookup};
+ghost use Rattle.model_text.specs.Text.{fields};
+ghost use Rattle.law_explore.specs.Matching.{plain};
+ghost use Rattle.law_explore.specs.Rules.{parts_of};
+ghost use Rattle.model_rules.specs.Reading.{event_words, gives_words, turn_words};
+ghost use Rattle.prove_rules.specs.Parts.{deeds_value, event_value, HasParts};
+
+use crate::fault::{Fault, bad_line};
 use lab_match::{first_field, small};
 use mc_base::NoMemory;
-use mc_deck::DeckCause;
+use mc_text::is_blank;
 use prove_events::Event;
 use prove_facts::push;
 use std::alloc::Global;
 
-/// What an event does, as its word says.
+/// What is done to an allowance.
 #[derive(Clone, Copy, Debug, PartialEq, Eq)]
-pub enum EffectWord {
+pub enum Action {
     Allow,
     Spend,
     Need,
-    Add,
-    Take,
+}
+
+/// What the word of an `on` line does: to an allowance, or to a sum, which it adds to or takes from.
+#[derive(Clone, Copy, Debug, PartialEq, Eq)]
+pub enum Deeds {
+    OnAllowance(Action),
+    OnSum(bool),
 }
 
 /// Returns the event that a word names.
-pub fn event_named(word: &[u8]) -> Option<Event> {
+pub fn event_named(word: &[u8]) -> Option<Event>
+    ensures { option_map event_value result ≡ lookup event_words word.now }
+{
     match word {
         b"turn" => Some(Event::Turn),
         b"command" => Some(Event::Command),
@@ -28,61 +43,76 @@ pub fn event_named(word: &[u8]) -> Option<Event> {
     }
 }
 
-// The effect that a word names.
-fn effect_named(word: &[u8]) -> Option<EffectWord> {
+// What a word does.
+fn deeds_named(word: &[u8]) -> Option<Deeds>
+    ensures { option_map deeds_value result ≡ lookup turn_words word.now }
+{
     match word {
-        b"allow" => Some(EffectWord::Allow),
-        b"spend" => Some(EffectWord::Spend),
-        b"need" => Some(EffectWord::Need),
-        b"add" => Some(EffectWord::Add),
-        b"take" => Some(EffectWord::Take),
+        b"add" => Some(Deeds::OnSum(true)),
+        b"take" => Some(Deeds::OnSum(false)),
+        b"allow" => Some(Deeds::OnAllowance(Action::Allow)),
+        b"spend" => Some(Deeds::OnAllowance(Action::Spend)),
+        b"need" => Some(Deeds::OnAllowance(Action::Need)),
         _ => None,
     }
 }
 
+// Whether a word is before a result.
+fn is_gives(word: &[u8]) -> bool
+    ensures { cond result (Some true) None ≡ lookup gives_words word.now }
+{
+    matches!(word, b"gives")
+}
+
 // Appends a field, capital letters as small ones.
-fn add_plain(into: &mut Vec<u8>, field: &[u8]) -> Result<(), NoMemory> {
+fn add_plain(into: &mut Vec<u8>, field: &[u8]) -> Result<(), NoMemory>
+    ensures { OnOk result (into.new.items ≡ into.old.items ++ plain field.now) }
+{
     for character in field {
-        push(into, small(*character))?;
+        if !is_blank(*character) {
+            push(into, small(*character))?;
+        }
     }
     Ok(())
 }
 
-/// Returns the plain pattern before the first word that names an effect, that effect, and the text after it.
+/// Returns the plain pattern before the first word that does something, what it does, and the text after it.
 ///
 /// # Errors
 ///
 /// Returns `BadLine` if no field is such a word.
-pub fn effect_parts(alloc: Global, text: &[u8]) -> Result<(Vec<u8>, EffectWord, &[u8]), Fault> {
+#[tactic(auto, using(crate::proofs::PartLemmas::parts_start, crate::proofs::PartLemmas::parts_found))]
+pub fn effect_parts(alloc: Global, text: &[u8]) -> Result<(Vec<u8>, Deeds, &[u8]), Fault>
+    ensures { IfOk result (λ p. HasParts (parts_of turn_words (fields text.now)) p.0.items (deeds_value p.1) p.2.now) }
+{
     let mut pattern = Vec::new(alloc);
     let mut rest = text;
     while let Some((field, after)) = first_field(rest) {
-        if let Some(effect) = effect_named(field) {
-            return Ok((pattern, effect, after));
+        if let Some(deeds) = deeds_named(field) {
+            return Ok((pattern, deeds, after));
         }
         add_plain(&mut pattern, field)?;
         rest = after;
     }
-    Err(Fault::from(DeckCause::BadLine))
+    Err(bad_line())
 }
 
 /// Returns the plain pattern before the first word `gives`, and the text after it.
 ///
 /// # Errors
 ///
-/// Returns `BadLine` if no field is that word, or the first one is.
-pub fn answer_parts(alloc: Global, text: &[u8]) -> Result<(Vec<u8>, &[u8]), Fault> {
+/// Returns `BadLine` if no field is that word.
+pub fn answer_parts(alloc: Global, text: &[u8]) -> Result<(Vec<u8>, &[u8]), Fault>
+    ensures { IfOk result (λ p. HasParts (parts_of gives_words (fields text.now)) p.0.items true p.1.now) }
+{
     let mut pattern = Vec::new(alloc);
     let mut rest = text;
     while let Some((field, after)) = first_field(rest) {
-        if field == b"gives".as_slice() {
-            if pattern.is_empty() {
-                return Err(Fault::from(DeckCause::BadLine));
-            }
+        if is_gives(field) {
             return Ok((pattern, after));
         }
         add_plain(&mut pattern, field)?;
         rest = after;
     }
-    Err(Fault::from(DeckCause::BadLine))
+    Err(bad_line())
 }

@@ -1,393 +1,146 @@
 // The rules of a deck for one application, line by line.
-use crate::fault::{Fault, RuleCause, RuleRefusal};
-use crate::field::{
-    amount_field, assembly_number, inside, name_field, range_parts, sum_amount, two_fields,
-};
-use crate::lines::code_lines;
-use crate::load::load_of;
-use crate::parts::{EffectWord, answer_parts, effect_parts, event_named};
+ghost use Rattle.std.specs.Prelude.{◌≡◌, ◌≤◌, ◌∷◌, codes, length, option_map, IfOk, IfSome, Ok, OnOk};
+ghost use Rattle.model_device.specs.Bytes.{lookup};
+ghost use Rattle.model_text.specs.Text.{fields, lines};
+ghost use Rattle.model_play.specs.DeckGrammar.{deck_read};
+ghost use Rattle.law_explore.specs.Rules.{is_marked};
+ghost use Rattle.model_rules.specs.Rules.{no_app_rules, AppRules, Target};
+ghost use Rattle.model_rules.specs.Reading.{app_rule, app_rules_read, app_words};
+ghost use Rattle.prove_events.specs.Rules.{AreRules};
+ghost use Rattle.prove_rules.specs.Lines.{kind_value, lines_read, rule_of, rules_with};
+ghost use Rattle.prove_rules.specs.Loads.{loads_in};
+ghost use Rattle.prove_rules.specs.Partials.{ArePart, ArePartRead, IsFinished};
+
+use crate::always::add_always;
+use crate::app::{Source, add_allowance, add_app, add_never, add_sum};
+use crate::fault::{Fault, RuleCause, RuleRefusal, bad_line};
+use crate::on::add_on;
+use crate::partial::Partial;
 use lab_match::{first_field, stays_inside};
-use mc_deck::{Deck, DeckCause};
+use mc_deck::Deck;
 use mc_text::next_line;
-use prove_events::{Always, Balance, CodeLine, Effect, Event, Load, Named, On, Rules, SignedSum};
-use prove_facts::push;
+use prove_events::Rules;
 use std::alloc::Global;
 
-/// A deck and its text.
-#[derive(Clone, Copy)]
-struct Source<'a> {
-    deck: &'a Deck,
-    text: &'a [u8],
+/// What the word of a rule makes of its line.
+#[derive(Clone, Copy, Debug, PartialEq, Eq)]
+pub enum Kind {
+    App,
+    Allow,
+    Sum,
+    On,
+    Never,
+    Always,
+    Move,
 }
 
-/// The rules so far, before and after the application is named.
-#[derive(Drop)]
-struct Partial<'a> {
-    load: Option<Load<'a>>,
-    code_lines: Vec<CodeLine>,
-    allowances: Vec<Named<'a>>,
-    sums: Vec<Named<'a>>,
-    ons: Vec<On>,
-    always: Vec<Always>,
-    balances: Vec<Balance>,
-    never: Option<u32>,
-}
-
-fn bad_line() -> Fault {
-    Fault::Cause(RuleCause::Deck(DeckCause::BadLine))
-}
-
-fn cause(cause: DeckCause) -> Fault {
-    Fault::Cause(RuleCause::Deck(cause))
-}
-
-// The number of the allowance or the sum of a name.
-fn place_of(list: &[Named<'_>], name: &[u8]) -> Option<usize> {
-    for (place, one) in list.iter().enumerate() {
-        if one.name == name {
-            return Some(place);
-        }
-    }
-    None
-}
-
-// The application that the lines above name.
-fn named_load<'a>(rules: &Partial<'a>) -> Result<Load<'a>, Fault> {
-    match rules.load {
-        Some(load) => Ok(load),
-        None => Err(Fault::Cause(RuleCause::NoApplication)),
-    }
-}
-
-// Whether the card refuses the sizes of an application.
-fn is_refused(load: &Load<'_>) -> bool {
-    load.fixed > 4096 || load.data.len() > load.fixed as usize || load.session > 256
-}
-
-fn add_app<'a>(
-    alloc: Global,
-    source: &Source<'a>,
-    rules: &mut Partial<'a>,
-    text: &[u8],
-) -> Result<(), Fault> {
-    let Some((name, rest)) = first_field(text) else {
-        return Err(bad_line());
-    };
-    if first_field(rest).is_some() {
-        return Err(bad_line());
-    }
-    let name = name_field(name)?;
-    if rules.load.is_some() {
-        return Err(cause(DeckCause::NameTwice));
-    }
-    let Some(load) = load_of(source.deck, source.text, name) else {
-        return Err(cause(DeckCause::UnknownName));
-    };
-    if is_refused(&load) {
-        return Err(cause(DeckCause::OutOfRange));
-    }
-    rules.load = Some(load);
-    rules.code_lines = code_lines(alloc, source.text, name)?;
-    Ok(())
-}
-
-// Adds an allowance or a sum.
-fn add_named<'a>(list: &mut Vec<Named<'a>>, text: &'a [u8]) -> Result<(), Fault> {
-    let (name, amount) = two_fields(text)?;
-    let name = name_field(name)?;
-    let amount = amount_field(amount)?;
-    if place_of(list.as_slice(), name).is_some() {
-        return Err(cause(DeckCause::NameTwice));
-    }
-    push(list, Named { name, amount })?;
-    Ok(())
-}
-
-/// An `on` line up to its name: the pattern of the turn or the command, that of the result, the effect, and the rest.
-#[derive(Drop)]
-struct Head<'a> {
-    pattern: Vec<u8>,
-    result: Vec<u8>,
-    word: EffectWord,
-    after: &'a [u8],
-}
-
-fn answer_head(alloc: Global, text: &[u8]) -> Result<Head<'_>, Fault> {
-    let (pattern, after) = answer_parts(alloc, text)?;
-    let (result, word, after) = effect_parts(alloc, after)?;
-    if result.is_empty() {
-        return Err(bad_line());
-    }
-    Ok(Head {
-        pattern,
-        result,
-        word,
-        after,
-    })
-}
-
-fn plain_head(alloc: Global, event: Event, text: &[u8]) -> Result<Head<'_>, Fault> {
-    let (pattern, word, after) = effect_parts(alloc, text)?;
-    if pattern.is_empty() != (event == Event::Session) {
-        return Err(bad_line());
-    }
-    Ok(Head {
-        pattern,
-        result: Vec::new(alloc),
-        word,
-        after,
-    })
-}
-
-fn head_of(alloc: Global, event: Event, text: &[u8]) -> Result<Head<'_>, Fault> {
-    if event == Event::Answer {
-        return answer_head(alloc, text);
-    }
-    plain_head(alloc, event, text)
-}
-
-fn is_of_sum(word: EffectWord) -> bool {
-    word == EffectWord::Add || word == EffectWord::Take
-}
-
-// What a word does with an amount.
-fn effect_of(word: EffectWord, amount: &[u8]) -> Result<Effect, DeckCause> {
+// What a word makes of a rule.
+fn kind_named(word: &[u8]) -> Option<Kind>
+    ensures { option_map kind_value result ≡ lookup app_words word.now }
+{
     match word {
-        EffectWord::Allow => Ok(Effect::Allow(amount_field(amount)?)),
-        EffectWord::Spend => Ok(Effect::Spend(amount_field(amount)?)),
-        EffectWord::Need => Ok(Effect::Need(amount_field(amount)?)),
-        EffectWord::Add => Ok(Effect::Add(sum_amount(amount)?)),
-        EffectWord::Take => Ok(Effect::Take(sum_amount(amount)?)),
-    }
-}
-
-// The number of the allowance or the sum that an `on` line names.
-fn place_named(rules: &Partial<'_>, word: EffectWord, name: &[u8]) -> Option<usize> {
-    if is_of_sum(word) {
-        return place_of(rules.sums.as_slice(), name);
-    }
-    place_of(rules.allowances.as_slice(), name)
-}
-
-fn add_on(alloc: Global, rules: &mut Partial<'_>, line: u32, text: &[u8]) -> Result<(), Fault> {
-    let Some((word, after)) = first_field(text) else {
-        return Err(bad_line());
-    };
-    let Some(event) = event_named(word) else {
-        return Err(bad_line());
-    };
-    let Head {
-        pattern,
-        result,
-        word,
-        after,
-    } = head_of(alloc, event, after)?;
-    let (name, amount) = two_fields(after)?;
-    if is_of_sum(word) && event != Event::Turn {
-        return Err(bad_line());
-    }
-    let name = name_field(name)?;
-    let effect = effect_of(word, amount)?;
-    named_load(rules)?;
-    let Some(name) = place_named(rules, word, name) else {
-        return Err(cause(DeckCause::UnknownName));
-    };
-    push(
-        &mut rules.ons,
-        On {
-            line,
-            event,
-            pattern,
-            result,
-            effect,
-            name,
-        },
-    )?;
-    Ok(())
-}
-
-fn add_never(rules: &mut Partial<'_>, line: u32, text: &[u8]) -> Result<(), Fault> {
-    let Some((word, rest)) = first_field(text) else {
-        return Err(bad_line());
-    };
-    if word != b"abend".as_slice() || first_field(rest).is_some() {
-        return Err(bad_line());
-    }
-    named_load(rules)?;
-    if rules.never.is_none() {
-        rules.never = Some(line);
-    }
-    Ok(())
-}
-
-/// A sum in a line, by its name.
-#[derive(Clone, Copy)]
-struct SignedName<'a> {
-    minus: bool,
-    name: &'a [u8],
-}
-
-// Whether a sign takes away.
-fn sign_of(sign: &[u8]) -> Option<bool> {
-    match sign {
-        b"+" => Some(false),
-        b"-" => Some(true),
+        b"app" => Some(Kind::App),
+        b"allow" => Some(Kind::Allow),
+        b"sum" => Some(Kind::Sum),
+        b"on" => Some(Kind::On),
+        b"never" => Some(Kind::Never),
+        b"always" => Some(Kind::Always),
+        b"move" => Some(Kind::Move),
         _ => None,
     }
 }
 
-// The sums of a line, each with its sign.
-fn signed_names(alloc: Global, text: &[u8]) -> Result<Vec<SignedName<'_>>, Fault> {
-    let mut names = Vec::new(alloc);
-    let mut rest = text;
-    while let Some((sign, after)) = first_field(rest) {
-        let Some(minus) = sign_of(sign) else {
-            return Err(bad_line());
-        };
-        let Some((name, after)) = first_field(after) else {
-            return Err(bad_line());
-        };
-        push(&mut names, SignedName { minus, name })?;
-        rest = after;
-    }
-    Ok(names)
-}
-
-fn check_names(names: &[SignedName<'_>]) -> Result<(), DeckCause> {
-    for signed in names {
-        name_field(signed.name)?;
-    }
-    Ok(())
-}
-
-fn sums_of(
+// Adds a rule of this kind, by the number of its line and the text after its word.
+fn add_kind<'a>(
     alloc: Global,
-    sums: &[Named<'_>],
-    names: &[SignedName<'_>],
-) -> Result<Vec<SignedSum>, Fault> {
-    let mut list = Vec::new(alloc);
-    for signed in names {
-        let Some(sum) = place_of(sums, signed.name) else {
-            return Err(cause(DeckCause::UnknownName));
-        };
-        push(
-            &mut list,
-            SignedSum {
-                minus: signed.minus,
-                sum,
-            },
-        )?;
-    }
-    Ok(list)
-}
-
-fn add_balance(
-    alloc: Global,
-    rules: &mut Partial<'_>,
+    source: &Source<'a>,
+    rules: &mut Partial<'a>,
+    kind: Kind,
     line: u32,
-    range: &[u8],
-    text: &[u8],
-) -> Result<(), Fault> {
-    let Some((constant, rest)) = first_field(text) else {
-        return Err(bad_line());
-    };
-    let names = signed_names(alloc, rest)?;
-    let (from, to) = range_parts(range);
-    let from = assembly_number(from)?;
-    let to = assembly_number(to)?;
-    let constant = amount_field(constant)?;
-    check_names(names.as_slice())?;
-    let load = named_load(rules)?;
-    let sums = sums_of(alloc, rules.sums.as_slice(), names.as_slice())?;
-    if to >= load.fixed as u32 || from > to {
-        return Err(cause(DeckCause::OutOfRange));
-    }
-    let balance = Balance {
-        line,
-        at: from as u16,
-        n: (to - from + 1) as u16,
-        constant,
-        sums,
-    };
-    push(&mut rules.balances, balance)?;
-    Ok(())
-}
-
-fn add_range(rules: &mut Partial<'_>, line: u32, at: &[u8], text: &[u8]) -> Result<(), Fault> {
-    let (low, high) = two_fields(text)?;
-    let at = assembly_number(at)?;
-    let low = assembly_number(low)?;
-    let high = assembly_number(high)?;
-    let load = named_load(rules)?;
-    if at >= load.fixed as u32 || low > high || high > 255 {
-        return Err(cause(DeckCause::OutOfRange));
-    }
-    push(
-        &mut rules.always,
-        Always {
-            line,
-            at: at as u16,
-            low: low as u8,
-            high: high as u8,
-        },
-    )?;
-    Ok(())
-}
-
-fn add_always(alloc: Global, rules: &mut Partial<'_>, line: u32, text: &[u8]) -> Result<(), Fault> {
-    let Some((byte, after)) = first_field(text) else {
-        return Err(bad_line());
-    };
-    let Some(at) = inside(byte, b"SB") else {
-        return Err(bad_line());
-    };
-    match first_field(after) {
-        Some((sign, rest)) if sign == b"=".as_slice() => add_balance(alloc, rules, line, at, rest),
-        _ => add_range(rules, line, at, after),
+    text: &'a [u8],
+) -> Result<(), Fault>
+    requires { length (lines source.now.text.now) ≤ 20000 }
+    ensures { OnOk result ((a : AppRules) → ArePart a rules.old
+        → ArePartRead (app_rule (loads_in source.now.text.now source.now.deck.now) a line (kind_value kind)
+        (fields text.now)) rules.new) }
+{
+    match kind {
+        Kind::App => add_app(alloc, source, rules, text),
+        Kind::Allow => add_allowance(rules, text),
+        Kind::Sum => add_sum(rules, text),
+        Kind::On => add_on(alloc, rules, line, text),
+        Kind::Never => add_never(rules, line, text),
+        Kind::Always => add_always(alloc, rules, line, text),
+        Kind::Move => Ok(()),
     }
 }
 
-// Adds the rule of a line, by the text after its mark.
+// Adds the rule of a line, by its number and the text after its mark.
 fn add_rule<'a>(
     alloc: Global,
     source: &Source<'a>,
     rules: &mut Partial<'a>,
     line: u32,
     text: &'a [u8],
-) -> Result<(), Fault> {
+) -> Result<(), Fault>
+    requires { length (lines source.now.text.now) ≤ 20000 }
+    ensures { OnOk result ((a : AppRules) → ArePart a rules.old
+        → ArePartRead (rule_of (loads_in source.now.text.now source.now.deck.now) a line (fields text.now)) rules.new) }
+{
     let Some((word, after)) = first_field(text) else {
         return Err(bad_line());
     };
-    match word {
-        b"move" => Ok(()),
-        b"app" => add_app(alloc, source, rules, after),
-        b"allow" => add_named(&mut rules.allowances, after),
-        b"sum" => add_named(&mut rules.sums, after),
-        b"on" => add_on(alloc, rules, line, after),
-        b"never" => add_never(rules, line, after),
-        b"always" => add_always(alloc, rules, line, after),
-        _ => Err(bad_line()),
+    let Some(kind) = kind_named(word) else {
+        return Err(bad_line());
+    };
+    add_kind(alloc, source, rules, kind, line, after)
+}
+
+// Whether a line begins with `#@`, after the blanks in front of it.
+fn is_marked(line: &[u8]) -> bool
+    ensures { result ≡ is_marked (fields line.now) }
+{
+    match first_field(line) {
+        Some(([b'#', b'@', ..], _)) => true,
+        _ => false,
     }
 }
 
-// Adds the rule of a line of a deck outside a section, if it is one.
+// The text of a rule, after its mark, or `None` if the mark is longer.
+fn rule_text(line: &[u8]) -> Option<&[u8]>
+    ensures { IfSome result (λ t. fields line.now ≡ codes "#@" ∷ fields t.now) }
+{
+    let (mark, after) = first_field(line)?;
+    if mark == b"#@".as_slice() {
+        return Some(after);
+    }
+    None
+}
+
+// Adds the rule of a line of a deck, if it is one, by whether it is in a section.
 fn add_line<'a>(
     alloc: Global,
     source: &Source<'a>,
     rules: &mut Partial<'a>,
+    inside: bool,
     number: u32,
     line: &'a [u8],
-) -> Result<(), Fault> {
-    let Some((mark, after)) = first_field(line) else {
+) -> Result<(), Fault>
+    requires { length (lines source.now.text.now) ≤ 20000 }
+    ensures { OnOk result ((a : AppRules) → ArePart a rules.old
+        → ArePartRead (rules_with (loads_in source.now.text.now source.now.deck.now) inside (number, line.now) a)
+        rules.new) }
+{
+    if inside || !is_marked(line) {
         return Ok(());
-    };
-    match mark {
-        b"#@" => add_rule(alloc, source, rules, number, after),
-        [b'#', b'@', ..] => Err(bad_line()),
-        _ => Ok(()),
     }
+    let Some(text) = rule_text(line) else {
+        return Err(bad_line());
+    };
+    add_rule(alloc, source, rules, number, text)
 }
 
+// The refusal of a line that is no rule.
 fn refusal_at(number: u32, fault: Fault) -> RuleRefusal {
     match fault {
         Fault::Cause(cause) => RuleRefusal::At(number, cause),
@@ -395,8 +148,11 @@ fn refusal_at(number: u32, fault: Fault) -> RuleRefusal {
     }
 }
 
-fn read_lines<'a>(alloc: Global, source: &Source<'a>) -> Result<Partial<'a>, RuleRefusal> {
-    let mut rules = Partial {
+// No rules yet.
+fn no_rules<'a>(alloc: Global) -> Partial<'a>
+    ensures { ArePart no_app_rules result }
+{
+    Partial {
         load: None,
         code_lines: Vec::new(alloc),
         allowances: Vec::new(alloc),
@@ -405,22 +161,58 @@ fn read_lines<'a>(alloc: Global, source: &Source<'a>) -> Result<Partial<'a>, Rul
         always: Vec::new(alloc),
         balances: Vec::new(alloc),
         never: None,
-    };
+    }
+}
+
+// Reads the rules of the lines of a text.
+#[tactic(auto, using(crate::proofs::ReadLemmas::rules_start))]
+fn read_lines<'a>(alloc: Global, source: &Source<'a>) -> Result<Partial<'a>, RuleRefusal>
+    requires { length (lines source.now.text.now) ≤ 20000 }
+    ensures { IfOk result (ArePartRead (lines_read source.now.text.now source.now.deck.now)) }
+{
+    let mut rules = no_rules(alloc);
     let mut inside = false;
     let mut number: u32 = 0;
     let mut rest = source.text;
     while let Some((line, after)) = next_line(rest) {
-        number = number.saturating_add(1);
-        if !inside {
-            match add_line(alloc, source, &mut rules, number, line) {
-                Ok(()) => {}
-                Err(fault) => return Err(refusal_at(number, fault)),
-            }
+        number += 1;
+        match add_line(alloc, source, &mut rules, inside, number, line) {
+            Ok(()) => {}
+            Err(fault) => return Err(refusal_at(number, fault)),
         }
         inside = stays_inside(inside, line);
         rest = after;
     }
     Ok(rules)
+}
+
+// The rules of all lines, if these name an application.
+fn finished(rules: Partial<'_>) -> Result<Rules<'_>, RuleRefusal>
+    ensures { IfOk result (IsFinished rules.entry) }
+{
+    let Partial {
+        load,
+        code_lines,
+        allowances,
+        sums,
+        ons,
+        always,
+        balances,
+        never,
+    } = rules;
+    match load {
+        Some(load) => Ok(Rules {
+            load,
+            code_lines,
+            allowances,
+            sums,
+            ons,
+            always,
+            balances,
+            never,
+        }),
+        None => Err(RuleRefusal::At(0, RuleCause::NoApplication)),
+    }
 }
 
 /// Reads the rules of a deck for one application: its comments whose first field is `#@`. A line inside a section is
@@ -434,28 +226,13 @@ pub fn read_rules<'a>(
     alloc: Global,
     deck: &'a Deck,
     text: &'a [u8],
-) -> Result<Rules<'a>, RuleRefusal> {
-    let Partial {
-        load,
-        code_lines,
-        allowances,
-        sums,
-        ons,
-        always,
-        balances,
-        never,
-    } = read_lines(alloc, &Source { deck, text })?;
-    match load {
-        Some(load) => Ok(Rules {
-            load,
-            code_lines,
-            allowances,
-            sums,
-            ons,
-            always,
-            balances,
-            never,
-        }),
-        None => Err(RuleRefusal::At(0, RuleCause::NoApplication)),
+) -> Result<Rules<'a>, RuleRefusal>
+    requires { deck_read text.now ≡ Ok deck.now }
+    ensures { IfOk result (λ r. (a : AppRules) × (g : Target) × (app_rules_read text.now ≡ Ok a) × AreRules a g r) }
+{
+    let source = Source { deck, text };
+    match read_lines(alloc, &source) {
+        Ok(rules) => finished(rules),
+        Err(refusal) => Err(refusal),
     }
 }

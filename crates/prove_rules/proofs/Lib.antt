@@ -1,0 +1,10 @@
+pub mod AlwaysLemmas
+pub mod AppLemmas
+pub mod CountLemmas
+pub mod FieldLemmas
+pub mod LoadLemmas
+pub mod OnLemmas
+pub mod PartLemmas
+pub mod PlaceLemmas
+pub mod PublicLemmas
+pub mod ReadLemmas

@@ -1,0 +1,230 @@
+-- The first `load` line of a name.
+use Rattle.std.proofs.Common.{◌≡◌, ◌+◌, ◌<◌, ◌≤◌, ℕ, suc, List, [], ◌∷◌, ◌++◌, Bool, true, false, not, cond, drop, drop-cons, add-one, Option, Some, None, arith, refl, sym, ap, subst, ◌∙◌}
+use Rattle.std.specs.Prelude.{◌==◌, ◌&&◌, nat_lt, codes, slice_get, IfSome}
+use Rattle.std.proofs.lemmas.Option.{slice_get_within, get_or_from_slice_get}
+use Rattle.model_device.specs.Bytes.{lookup}
+use Rattle.model_text.specs.Text.{fields, lines, with_numbers}
+use Rattle.model_machine.specs.Primitives.{entry_of_number}
+use Rattle.model_play.specs.DeckGrammar.{DeckLine}
+use Rattle.model_play.specs.DeckGrammar as line
+use Rattle.law_explore.specs.Rules.{begins_with, stays_inside}
+use Rattle.mc_text.specs.Reading.{next_line}
+use Rattle.mc_text.proofs.ReadingLemmas.{lines_at, lines_from}
+use Rattle.model_rules.specs.Reading.{LoadLine, load_names, load_under, loads_of}
+use Rattle.prove_events.specs.declared.rules.Load.{Load}
+use Rattle.prove_rules.specs.Loads.{first_named, is_second, loaded, loaded_at, loaded_line, loads_in, IsLoad, IsLoadOf}
+
+abbrev Names : Type 0
+Names = List (ℕ × List (List ℕ))
+
+-- ---- numbers ascend
+
+-- the numbers of some lines ascend from n on
+abbrev Rising : ℕ → Names → Type 0
+Rising n [] = Unit {0}
+Rising n (l ∷ ls) = (n ≤ l.0) × Rising (suc l.0) ls
+
+rising_lower : (n m : ℕ) (ls : Names) → n ≤ m → Rising m ls → Rising n ls
+rising_lower n m [] e h = tt
+rising_lower n m (l ∷ ls) e h = let f = h.0 in (omega (arith, f, e), h.1)
+
+rise_by : (b : Bool) (n : ℕ) (f : List (List ℕ)) (rest : Names) → Rising (suc n) rest → Rising n (cond b ((n, f) ∷ rest) rest)
+rise_by true n f rest h = (omega arith, h)
+rise_by false n f rest h = rising_lower n (suc n) rest (omega arith) h
+
+names_rise : (inside : Bool) (n : ℕ) (ls : List (List ℕ)) → Rising n (load_names inside (with_numbers n ls))
+names_rise inside n [] = tt
+names_rise inside n (l ∷ ls) =
+    rise_by (not inside && begins_with (codes "load") (fields l)) n (fields l) (load_names (stays_inside inside (fields l)) (with_numbers (suc n) ls)) (names_rise (stays_inside inside (fields l)) (suc n) ls)
+
+apart : (a b : ℕ) → b < a → (a == b) ≡ false
+apart a b h = grind (arith, h)
+
+alike : (a b : ℕ) → a ≡ b → (a == b) ≡ true
+alike a b h = grind (arith, h)
+
+same_by : (a b : ℕ) → (a == b) ≡ true → a ≡ b
+same_by a b h = grind (arith, h)
+
+absent : (k m : ℕ) (ls : Names) → Rising k ls → m < k → entry_of_number m ls ≡ None
+absent k m [] h e = refl
+absent k m (l ∷ ls) h e =
+    let f = h.0 in
+    ap (λ b. cond b (Some l.1) (entry_of_number m ls)) (apart l.0 m (omega (arith, f, e))) ∙ absent (suc l.0) m ls h.1 (omega (arith, f, e))
+
+-- ---- the first line of a name
+
+module _ (name : List ℕ) where
+  under_skip : (fs : List (List ℕ)) (l : LoadLine) (ls : List (List ℕ × LoadLine)) → is_second fs name ≡ false → lookup (load_under (Some fs) l ++ ls) name ≡ lookup ls name
+  under_skip [] l ls e = refl
+  under_skip (w ∷ []) l ls e = refl
+  under_skip (w ∷ s ∷ rest) l ls e = ap (λ b. cond b (Some l) (lookup ls name)) e
+
+  under_hit : (fs : List (List ℕ)) (l : LoadLine) (ls : List (List ℕ × LoadLine)) → is_second fs name ≡ true → lookup (load_under (Some fs) l ++ ls) name ≡ Some l
+  under_hit [] l ls e = absurd (cc e)
+  under_hit (w ∷ []) l ls e = absurd (cc e)
+  under_hit (w ∷ s ∷ rest) l ls e = ap (λ b. cond b (Some l) (lookup ls name)) e
+
+  above_by : (b : Bool) (k j n : ℕ) (o : Option ℕ) → k ≤ j → (o ≡ Some n → suc j ≤ n) → cond b (Some j) o ≡ Some n → k ≤ n
+  above_by true k j n o e h i = let f : j ≡ n = cc i in omega (arith, f, e)
+  above_by false k j n o e h i = let f = h i in omega (arith, f, e)
+
+  first_above : (k n : ℕ) (ls : Names) → Rising k ls → first_named ls name ≡ Some n → k ≤ n
+  first_above k n [] h e = absurd (cc e)
+  first_above k n (l ∷ ls) h e = above_by (is_second l.1 name) k l.0 n (first_named ls name) h.0 (λ i. first_above (suc l.0) n ls h.1 i) e
+
+  skip_by : (j : ℕ) (fs : List (List ℕ)) (ls : Names) (m n : ℕ) (l : LoadLine) (more : List (List ℕ × LoadLine)) (b d : Bool) → is_second fs name ≡ b → (j == m) ≡ d → Rising (suc j) ls → m < n → cond b (Some j) (first_named ls name) ≡ Some n
+      → (first_named ls name ≡ Some n → lookup (load_under (entry_of_number m ls) l ++ more) name ≡ lookup more name)
+      → lookup (load_under (cond d (Some fs) (entry_of_number m ls)) l ++ more) name ≡ lookup more name
+  skip_by j fs ls m n l more true true s e r h i again =
+      let f : j ≡ n = cc i in
+      let g = same_by j m e in
+      absurd (omega (arith, f, g, h))
+  skip_by j fs ls m n l more true false s e r h i again =
+      let f : j ≡ n = cc i in
+      ap (λ o. lookup (load_under o l ++ more) name) (absent (suc j) m ls r (omega (arith, f, h)))
+  skip_by j fs ls m n l more false true s e r h i again = under_skip fs l more s
+  skip_by j fs ls m n l more false false s e r h i again = again i
+
+  -- a line before the first of the name is not under it
+  before_first : (k m n : ℕ) (ls : Names) (l : LoadLine) (more : List (List ℕ × LoadLine)) → Rising k ls → m < n → first_named ls name ≡ Some n → lookup (load_under (entry_of_number m ls) l ++ more) name ≡ lookup more name
+  before_first k m n [] l more r h e = absurd (cc e)
+  before_first k m n (x ∷ ls) l more r h e =
+      skip_by x.0 x.1 ls m n l more (is_second x.1 name) (x.0 == m) refl refl r.1 h e (λ i. before_first (suc x.0) m n ls l more r.1 h i)
+
+  hit_by : (j : ℕ) (fs : List (List ℕ)) (ls : Names) (n : ℕ) (l : LoadLine) (more : List (List ℕ × LoadLine)) (b d : Bool) → is_second fs name ≡ b → (j == n) ≡ d → Rising (suc j) ls → cond b (Some j) (first_named ls name) ≡ Some n
+      → (first_named ls name ≡ Some n → lookup (load_under (entry_of_number n ls) l ++ more) name ≡ Some l)
+      → lookup (load_under (cond d (Some fs) (entry_of_number n ls)) l ++ more) name ≡ Some l
+  hit_by j fs ls n l more true true s e r i again = under_hit fs l more s
+  hit_by j fs ls n l more true false s e r i again =
+      let f : j ≡ n = cc i in
+      let g = alike j n f in
+      absurd (cc (sym g ∙ e))
+  hit_by j fs ls n l more false true s e r i again =
+      let f = same_by j n e in
+      let g = first_above (suc j) n ls r i in
+      absurd (omega (arith, f, g))
+  hit_by j fs ls n l more false false s e r i again = again i
+
+  -- the first line of the name is under it
+  at_first : (k n : ℕ) (ls : Names) (l : LoadLine) (more : List (List ℕ × LoadLine)) → Rising k ls → first_named ls name ≡ Some n → lookup (load_under (entry_of_number n ls) l ++ more) name ≡ Some l
+  at_first k n [] l more r e = absurd (cc e)
+  at_first k n (x ∷ ls) l more r e = hit_by x.0 x.1 ls n l more (is_second x.1 name) (x.0 == n) refl refl r.1 e (λ i. at_first (suc x.0) n ls l more r.1 i)
+
+-- ---- the lines of a deck
+
+-- a line under the name of its number
+abbrev under : Option (List (List ℕ)) → Option LoadLine → List (List ℕ × LoadLine)
+under o None = []
+under o (Some l) = load_under o l
+
+loads_step : (ns : Names) (n : ℕ) (x : DeckLine) (ls : List (ℕ × DeckLine)) → loads_of ns ((n, x) ∷ ls) ≡ under (entry_of_number n ns) (loaded x) ++ loads_of ns ls
+loads_step ns n line.Format ls = refl
+loads_step ns n line.Power ls = refl
+loads_step ns n line.Named ls = refl
+loads_step ns n (line.Sent (line.Load u f s)) ls = refl
+loads_step ns n (line.Sent (line.Select a)) ls = refl
+loads_step ns n (line.Sent (line.Delete a)) ls = refl
+loads_step ns n (line.Sent (line.Apdu b)) ls = refl
+loads_step ns n (line.Dump a) ls = refl
+loads_step ns n (line.Budget b) ls = refl
+loads_step ns n (line.Cut k f) ls = refl
+loads_step ns n (line.Fail k) ls = refl
+loads_step ns n (line.Poke a f) ls = refl
+
+module _ (ns : Names) (name : List ℕ) (n : ℕ) (rise : Rising 1 ns) (first : first_named ns name ≡ Some n) (l : LoadLine) where
+  earlier : (m : ℕ) (o : Option LoadLine) (more : List (List ℕ × LoadLine)) → m < n → lookup (under (entry_of_number m ns) o ++ more) name ≡ lookup more name
+  earlier m None more h = refl
+  earlier m (Some k) more h = before_first name 1 m n ns k more rise h first
+
+  there_by : (m : ℕ) (x : DeckLine) (ls : List (ℕ × DeckLine)) (b c : Bool) → (m == n) ≡ b → nat_lt n m ≡ c → cond b (loaded x) (cond c None (loaded_at n ls)) ≡ Some l
+      → (loaded_at n ls ≡ Some l → lookup (loads_of ns ls) name ≡ Some l) → lookup (under (entry_of_number m ns) (loaded x) ++ loads_of ns ls) name ≡ Some l
+  there_by m x ls true c e f h again =
+      ap (λ k. lookup (under (entry_of_number k ns) (loaded x) ++ loads_of ns ls) name) (same_by m n e)
+      ∙ ap (λ o. lookup (under (entry_of_number n ns) o ++ loads_of ns ls) name) h ∙ at_first name 1 n ns l (loads_of ns ls) rise first
+  there_by m x ls false true e f h again = absurd (cc h)
+  there_by m x ls false false e f h again = earlier m (loaded x) (loads_of ns ls) (grind (arith, e, f)) ∙ again h
+
+  -- the line of the number is the first of the name
+  loads_at : (d : List (ℕ × DeckLine)) → loaded_at n d ≡ Some l → lookup (loads_of ns d) name ≡ Some l
+  loads_at [] h = absurd (cc h)
+  loads_at (x ∷ d) h = ap (λ ls. lookup ls name) (loads_step ns x.0 x.1 d) ∙ there_by x.0 x.1 d (x.0 == n) (nat_lt n x.0) refl refl h (λ i. loads_at d i)
+
+found_by : (text name : List ℕ) (d : List (ℕ × DeckLine)) (n : ℕ) (load : Load) (o : Option LoadLine) → loaded_at n d ≡ o → first_named (load_names false (with_numbers 1 (lines text))) name ≡ Some n → IsLoadOf o load
+    → IsLoadOf (lookup (loads_in text d) name) load
+found_by text name d n load None e f h = absurd h
+found_by text name d n load (Some l) e f h =
+    let ns = load_names false (with_numbers 1 (lines text)) in
+    subst (λ (o : Option LoadLine). IsLoadOf o load) (sym (loads_at ns name n (names_rise false 1 (lines text)) f l d e)) h
+
+-- what the line of the first number loads is what the name loads
+pub load_found : (text name : List ℕ) (d : List (ℕ × DeckLine)) (n : ℕ) (o : Option Load) → Some n ≡ first_named (load_names false (with_numbers 1 (lines text))) name → IfSome o (IsLoadOf (loaded_at n d))
+    → IfSome o (IsLoadOf (lookup (loads_in text d) name))
+load_found text name d n None e h = tt
+load_found text name d n (Some load) e h = found_by text name d n load (loaded_at n d) refl (sym e) h
+
+-- ---- the lines of a deck, one after the other
+
+drop_at : (d : List (ℕ × DeckLine)) (i : ℕ) (x : ℕ × DeckLine) → slice_get d i ≡ Some x → drop i d ≡ x ∷ drop (i + 1) d
+drop_at d i x e =
+    drop-cons d i x (slice_get_within d i x e) ∙ ap (λ y. y ∷ drop (suc i) d) (get_or_from_slice_get d i x x e) ∙ ap (λ k. x ∷ drop k d) (sym (add-one i))
+
+-- the line of the number
+pub line_here : (n : ℕ) (d : List (ℕ × DeckLine)) (i m : ℕ) (x : DeckLine) (o : Option Load) → slice_get d i ≡ Some (m, x) → m ≡ n → loaded_at n d ≡ loaded_at n (drop i d) → IfSome o (IsLoadOf (loaded_line (slice_get d i))) → IfSome o (IsLoadOf (loaded_at n d))
+line_here n d i m x o e f h g =
+    let at : loaded_at n d ≡ loaded x = h ∙ ap (loaded_at n) (drop_at d i (m, x) e) ∙ ap (λ b. cond b (loaded x) (cond (nat_lt n m) None (loaded_at n (drop (i + 1) d)))) (alike m n f) in
+    subst (λ (l : Option LoadLine). IfSome o (IsLoadOf l)) (ap loaded_line e ∙ sym at) g
+
+not_lower : (n m : ℕ) → m < n → nat_lt n m ≡ false
+not_lower n m h = grind (arith, h)
+
+unlike : (m n : ℕ) → m < n → (m == n) ≡ false
+unlike m n h = grind (arith, h)
+
+-- a line of a lower number
+pub line_before : (n : ℕ) (d : List (ℕ × DeckLine)) (i m : ℕ) (x : DeckLine) → slice_get d i ≡ Some (m, x) → m < n → loaded_at n d ≡ loaded_at n (drop i d) → loaded_at n d ≡ loaded_at n (drop (i + 1) d)
+line_before n d i m x e f h =
+    h ∙ ap (loaded_at n) (drop_at d i (m, x) e) ∙ ap (λ b. cond b (loaded x) (cond (nat_lt n m) None (loaded_at n (drop (i + 1) d)))) (unlike m n f)
+    ∙ ap (λ b. cond b None (loaded_at n (drop (i + 1) d))) (not_lower n m f)
+
+-- ---- the lines of a text, one after the other
+
+pub numbered : (n : ℕ) (t l b : List ℕ) → Some (l, b) ≡ next_line t → with_numbers n (lines t) ≡ (n, l) ∷ with_numbers (n + 1) (lines b)
+numbered n t l b e = ap (with_numbers n) (lines_at t ∙ ap lines_from (sym e)) ∙ ap (λ k. (n, l) ∷ with_numbers k (lines b)) (sym (add-one n))
+
+pub no_lines : (n : ℕ) (t : List ℕ) → None ≡ next_line t → with_numbers n (lines t) ≡ []
+no_lines n t e = ap (with_numbers n) (lines_at t ∙ ap lines_from (sym e))
+
+named_by : (n : ℕ) (fs : List (List ℕ)) (rest : Names) (name : List ℕ) (p q : Bool) → is_second fs name ≡ q → first_named (cond p ((n, fs) ∷ rest) rest) name ≡ cond (p && q) (Some n) (first_named rest name)
+named_by n fs rest name true q e = ap (λ b. cond b (Some n) (first_named rest name)) e
+named_by n fs rest name false q e = refl
+
+-- one more line of a text
+pub first_step : (inside : Bool) (n : ℕ) (t l b name : List ℕ) (r : Bool) → Some (l, b) ≡ next_line t → r ≡ ((not inside && begins_with (codes "load") (fields l)) && is_second (fields l) name)
+    → first_named (load_names inside (with_numbers n (lines t))) name ≡ cond r (Some n) (first_named (load_names (stays_inside inside (fields l)) (with_numbers (n + 1) (lines b))) name)
+first_step inside n t l b name r e h =
+    let rest = load_names (stays_inside inside (fields l)) (with_numbers (n + 1) (lines b)) in
+    ap (λ ls. first_named (load_names inside ls) name) (numbered n t l b e)
+    ∙ named_by n (fields l) rest name (not inside && begins_with (codes "load") (fields l)) (is_second (fields l) name) refl
+    ∙ ap (λ b. cond b (Some n) (first_named rest name)) (sym h)
+
+-- a line that is not the first of the name
+pub first_next : (inside stays : Bool) (n : ℕ) (t l b name : List ℕ) (r : Bool) (whole : Option ℕ) → Some (l, b) ≡ next_line t → r ≡ ((not inside && begins_with (codes "load") (fields l)) && is_second (fields l) name) → r ≡ false
+    → stays ≡ stays_inside inside (fields l) → first_named (load_names inside (with_numbers n (lines t))) name ≡ whole → first_named (load_names stays (with_numbers (n + 1) (lines b))) name ≡ whole
+first_next inside stays n t l b name r whole e h f s g =
+    ap (λ k. first_named (load_names k (with_numbers (n + 1) (lines b))) name) s
+    ∙ sym (first_step inside n t l b name r e h ∙ ap (λ c. cond c (Some n) (first_named (load_names (stays_inside inside (fields l)) (with_numbers (n + 1) (lines b))) name)) f) ∙ g
+
+-- the first line of the name
+pub first_here : (inside : Bool) (n : ℕ) (t l b name : List ℕ) (r : Bool) (whole : Option ℕ) → Some (l, b) ≡ next_line t → r ≡ ((not inside && begins_with (codes "load") (fields l)) && is_second (fields l) name) → r ≡ true
+    → first_named (load_names inside (with_numbers n (lines t))) name ≡ whole → Some n ≡ whole
+first_here inside n t l b name r whole e h f g =
+    sym (first_step inside n t l b name r e h ∙ ap (λ c. cond c (Some n) (first_named (load_names (stays_inside inside (fields l)) (with_numbers (n + 1) (lines b))) name)) f) ∙ g
+
+-- no line is left
+pub first_none : (inside : Bool) (n : ℕ) (t name : List ℕ) (whole : Option ℕ) → None ≡ next_line t → first_named (load_names inside (with_numbers n (lines t))) name ≡ whole → None ≡ whole
+first_none inside n t name whole e g = sym (ap (λ ls. first_named (load_names inside ls) name) (no_lines n t e)) ∙ g
+
+-- what a `load` line loads
+pub load_is : (d : List (ℕ × DeckLine)) (i n : ℕ) (x : DeckLine) (l : LoadLine) (load : Load) → slice_get d i ≡ Some (n, x) → loaded x ≡ Some l → IsLoad l load → IsLoadOf (loaded_line (slice_get d i)) load
+load_is d i n x l load e h g = subst (λ (o : Option LoadLine). IsLoadOf o load) (sym (ap loaded_line e ∙ h)) g

@@ -1,0 +1,9 @@
+use Rattle.std.proofs.Common.{◌≡◌, drop, map}
+use Rattle.model_rules.specs.Reading.{are_sums}
+use Rattle.prove_events.specs.Rules.{allowance_of}
+use Rattle.prove_rules.specs.Always.{term_of}
+use Rattle.prove_rules.proofs.always.sums_of.Given as goal
+
+-- the terms that are left are sums exactly if all are
+abbrev pub invariant-loop-signed : goal.invariant-loop-signed
+invariant-loop-signed l = are_sums (map allowance_of l.fn.sums) (map term_of (drop l.signed-index l.names)) ≡ are_sums (map allowance_of l.fn.sums) (map term_of l.fn.names)

@@ -1,0 +1,9 @@
+use Rattle.std.proofs.Common.{refl, Some}
+use Rattle.model_text.specs.Text.{fields}
+use Rattle.prove_rules.specs.Loads.{loads_in}
+use Rattle.prove_rules.proofs.AppLemmas.{app_added}
+use Rattle.prove_rules.proofs.app.add_app.Goals as goal
+
+pub returns : goal.returns
+returns c = λ a n are.
+    app_added (loads_in c.args.source.now.text.now c.args.source.now.deck.now) a c.args.rules.now n (fields c.args.text.now) c.in_ok-name.load (Some c.in_ok-name.load) are c.in_ok-name.ensures refl

@@ -1,0 +1,17 @@
+-- The line that names the application, as the code reads it.
+use Rattle.std.specs.Prelude.{◌≡◌, ℕ, List, [], ◌∷◌, None, Ok}
+use Rattle.model_device.specs.Bytes.{lookup}
+use Rattle.model_play.specs.DeckGrammar.{name_field}
+use Rattle.model_rules.specs.Reading.{LoadLine}
+use Rattle.prove_events.specs.declared.rules.Load.{Load}
+use Rattle.prove_rules.specs.declared.partial.Partial.{Partial}
+use Rattle.prove_rules.specs.Loads.{IsAccepted, IsLoadOf}
+
+-- fields are the name of an application that is loaded
+pub record IsAppRead (loads : List (List ℕ × LoadLine)) (p : Partial) (fs : List (List ℕ)) (load : Load) : Type 0 where
+  pub name : List ℕ
+  pub parts : fs ≡ name ∷ []
+  pub named : name_field name ≡ Ok name
+  pub new : p.load ≡ None
+  pub is : IsLoadOf (lookup loads name) load
+  pub accepted : IsAccepted load

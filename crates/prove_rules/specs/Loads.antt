@@ -1,0 +1,60 @@
+-- The `load` lines of a deck as the code finds them.
+use Rattle.std.specs.Prelude.{◌≡◌, ℕ, Bool, false, cond, nat_lt, ◌==◌, ◌≤◌, List, [], ◌∷◌, bytes_eq, length, Option, Some, None}
+use Rattle.model_device.specs.Bytes.{AreBytes}
+use Rattle.model_text.specs.Text.{lines, with_numbers}
+use Rattle.model_play.specs.DeckGrammar.{DeckLine}
+use Rattle.model_play.specs.DeckGrammar as line
+use Rattle.model_rules.specs.Reading.{LoadLine, load_names, loads_of}
+use Rattle.mc_deck.specs.Lines.{GoodUnit}
+use Rattle.prove_events.specs.declared.rules.Load.{Load}
+
+-- the `load` lines of a deck's text, each under the name of its unit
+abbrev pub loads_in : List ℕ → List (ℕ × DeckLine) → List (List ℕ × LoadLine)
+loads_in text deck = loads_of (load_names false (with_numbers 1 (lines text))) deck
+
+-- whether the second of some fields is this name
+abbrev pub is_second : List (List ℕ) → List ℕ → Bool
+is_second [] name = false
+is_second (word ∷ []) name = false
+is_second (word ∷ second ∷ rest) name = bytes_eq second name
+
+-- the number of the first line whose second field is this name
+abbrev pub first_named : List (ℕ × List (List ℕ)) → List ℕ → Option ℕ
+first_named [] name = None
+first_named (l ∷ ls) name = cond (is_second l.1 name) (Some l.0) (first_named ls name)
+
+-- a line of a deck, if it is a `load` line
+abbrev pub loaded : DeckLine → Option LoadLine
+loaded (line.Sent (line.Load u fixed session)) = Some (record { unit = u; fixed = fixed; session = session })
+loaded l = None
+
+-- the same of a line with its number, if there is one
+abbrev pub loaded_line : Option (ℕ × DeckLine) → Option LoadLine
+loaded_line None = None
+loaded_line (Some l) = loaded l.1
+
+-- the `load` line of this number; none if a line of a greater one is before it
+abbrev pub loaded_at : ℕ → List (ℕ × DeckLine) → Option LoadLine
+loaded_at n [] = None
+loaded_at n (l ∷ ls) = cond (l.0 == n) (loaded l.1) (cond (nat_lt n l.0) None (loaded_at n ls))
+
+-- what the code has of a `load` line
+pub record IsLoad (l : LoadLine) (load : Load) : Type 0 where
+  pub code : l.unit.code ≡ load.code.now
+  pub bytes : AreBytes l.unit.code
+  pub front : l.unit.init ≡ load.data.now
+  pub init : AreBytes l.unit.init
+  pub fixed : l.fixed ≡ load.fixed
+  pub session : l.session ≡ load.session
+  pub good : GoodUnit l.unit
+
+-- it is that of a line, if this is a `load` line
+abbrev pub IsLoadOf : Option LoadLine → Load → Type 0
+IsLoadOf None load = ⊥
+IsLoadOf (Some l) load = IsLoad l load
+
+-- its sizes are those that a card accepts
+pub record IsAccepted (load : Load) : Type 0 where
+  pub fixed : load.fixed ≤ 4096
+  pub front : length load.data.now ≤ load.fixed
+  pub session : load.session ≤ 256

@@ -1,0 +1,97 @@
+-- `on` lines as the code reads them.
+use Rattle.std.specs.Prelude.{◌≡◌, ℕ, Bool, true, false, List, [], ◌∷◌, ◌++◌, map, Option, Some, None, Result, Ok}
+use Rattle.model_text.specs.Text.{fields, is_empty}
+use Rattle.model_play.specs.DeckGrammar.{name_field}
+use Rattle.law_explore.specs.Matching.{plain}
+use Rattle.law_explore.specs.Rules.{name_and_amount, parts_of}
+use Rattle.model_rules.specs.Rules as rules
+use Rattle.model_rules.specs.Rules.{AppRules, OnLine, SumLine, Trigger, AtTurn, AtCommand, AtAnswer, AtSession}
+use Rattle.model_rules.specs.Reading.{RuleCause, gives_words, turn_words, with_deed, with_event_line}
+use Rattle.prove_events.specs.declared.rules.Amount.{Amount}
+use Rattle.prove_events.specs.declared.rules.Effect.{Effect}
+use Rattle.prove_events.specs.declared.rules.Event.{Event}
+use Rattle.prove_events.specs.declared.rules.Event.TheVariants as event
+use Rattle.prove_events.specs.declared.rules.Load.{Load}
+use Rattle.prove_events.specs.declared.rules.On.{On}
+use Rattle.prove_events.specs.Rules.{allowance_of, deed_of, IsLine}
+use Rattle.prove_rules.specs.declared.partial.Partial.{Partial}
+use Rattle.prove_rules.specs.declared.on.Head.{Head}
+use Rattle.prove_rules.specs.declared.parts.Deeds.{Deeds}
+use Rattle.prove_rules.specs.declared.parts.Deeds.TheVariants as deeds
+use Rattle.prove_rules.specs.Fields.{IsSumAmount}
+use Rattle.prove_rules.specs.Parts.{action_value, deeds_value, event_value, HasParts}
+use Rattle.prove_rules.specs.Partials.{place_of}
+
+-- ---- up to the word
+
+-- the parts of fields before a word of a line, and its word
+abbrev pub HasWord : List (List ℕ) → Head → Type 0
+HasWord fs h = HasParts (parts_of turn_words fs) h.pattern.items (deeds_value h.deeds) h.after.now
+
+-- the parts of fields with a result
+pub record HasResult (fs : List (List ℕ)) (h : Head) : Type 0 where
+  pub mid : List ℕ
+  pub first : HasParts (parts_of gives_words fs) h.pattern.items true mid
+  pub some : is_empty h.pattern.items ≡ false
+  pub second : HasParts (parts_of turn_words (fields mid)) h.result.items (deeds_value h.deeds) h.after.now
+  pub full : is_empty h.result.items ≡ false
+
+-- an event with its patterns, as the code has them
+abbrev pub IsTriggerOf : Trigger → Event → List ℕ → List ℕ → Type 0
+IsTriggerOf (AtTurn p) e pattern result = (e ≡ event.Turn) × (pattern ≡ plain p)
+IsTriggerOf (AtCommand p) e pattern result = (e ≡ event.Command) × (pattern ≡ plain p)
+IsTriggerOf (AtAnswer p q) e pattern result = (e ≡ event.Answer) × (pattern ≡ plain p) × (result ≡ plain q)
+IsTriggerOf AtSession e pattern result = e ≡ event.Session
+
+-- whether an event has such a word: one about a sum is a turn's alone
+abbrev pub is_timely : Event → Deeds → Bool
+is_timely event.Turn d = true
+is_timely e (deeds.OnAllowance a) = true
+is_timely e (deeds.OnSum adds) = false
+
+-- the head of a line is read of the fields after its event
+pub record IsHead (e : Event) (fs : List (List ℕ)) (h : Head) : Type 0 where
+  pub trigger : Trigger
+  pub is : IsTriggerOf trigger e h.pattern.items h.result.items
+  pub leads : is_timely e h.deeds ≡ true → (a : AppRules) (n : ℕ) → with_event_line a n (event_value e) fs ≡ with_deed a n trigger (deeds_value h.deeds) (fields h.after.now)
+
+-- ---- after it
+
+-- fields are the name and the amount of an effect on an allowance
+pub record IsAllowanceEffect (p : Partial) (fs : List (List ℕ)) (act : rules.Action) (effect : Effect) (at : ℕ) : Type 0 where
+  pub name : List ℕ
+  pub amount : ℕ
+  pub named : name_and_amount fs ≡ Ok (name, amount)
+  pub deed : deed_of effect ≡ Some (act, amount)
+  pub place : place_of (map allowance_of p.allowances.items) name ≡ Some at
+  pub load : Load
+  pub loaded : p.load ≡ Some load
+
+-- fields are the name and the amount of an effect on a sum
+pub record IsSumEffect (p : Partial) (fs : List (List ℕ)) (effect : Effect) (at : ℕ) : Type 0 where
+  pub name : List ℕ
+  pub text : List ℕ
+  pub parts : fs ≡ name ∷ text ∷ []
+  pub named : name_field name ≡ Ok name
+  pub value : Amount
+  pub amount : IsSumAmount text value
+  pub deed : deed_of effect ≡ None
+  pub place : place_of (map allowance_of p.sums.items) name ≡ Some at
+  pub load : Load
+  pub loaded : p.load ≡ Some load
+
+-- fields are the name and the amount of an effect
+abbrev pub IsEffect : Partial → Event → List (List ℕ) → Deeds → Effect → ℕ → Type 0
+IsEffect p e fs (deeds.OnAllowance a) effect place = IsAllowanceEffect p fs (action_value a) effect place
+IsEffect p e fs (deeds.OnSum adds) effect place = (e ≡ event.Turn) × IsSumEffect p fs effect place
+
+-- ---- a line
+
+-- rules with one more line, about an allowance or about a sum
+abbrev pub MoreLines : Option (rules.Action × ℕ) → List (List ℕ) → AppRules → Result AppRules RuleCause → On → Type 0
+MoreLines None names a r on = (m : SumLine) × (r ≡ Ok (record a { moves = a.moves ++ m ∷ [] }))
+MoreLines (Some deed) names a r on = (l : OnLine) × (r ≡ Ok (record a { ons = a.ons ++ l ∷ [] })) × IsLine names deed l on
+
+-- rules with this `on` line
+abbrev pub IsOnRead : List (List ℕ) → AppRules → Result AppRules RuleCause → On → Type 0
+IsOnRead names a r on = MoreLines (deed_of on.effect) names a r on

@@ -1,0 +1,38 @@
+-- The parts of an `on` line as the code has them.
+use Rattle.std.specs.Prelude.{◌≡◌, ℕ, List, Option, Some}
+use Rattle.model_text.specs.Text.{fields, is_empty}
+use Rattle.law_explore.specs.Matching.{plain}
+use Rattle.law_explore.specs.Rules.{Parts}
+use Rattle.model_rules.specs.Rules as rules
+use Rattle.model_rules.specs.Reading as reading
+use Rattle.prove_events.specs.declared.rules.Event.{Event}
+use Rattle.prove_events.specs.declared.rules.Event.TheVariants as event
+use Rattle.prove_rules.specs.declared.parts.Action.{Action}
+use Rattle.prove_rules.specs.declared.parts.Action.TheVariants as action
+use Rattle.prove_rules.specs.declared.parts.Deeds.{Deeds}
+use Rattle.prove_rules.specs.declared.parts.Deeds.TheVariants as deeds
+
+-- an event, as the definition has it
+abbrev pub event_value : Event → reading.EventWord
+event_value event.Turn = reading.TurnEvent
+event_value event.Command = reading.CommandEvent
+event_value event.Answer = reading.AnswerEvent
+event_value event.Session = reading.SessionEvent
+
+-- an action on an allowance, as the definition has it
+abbrev pub action_value : Action → rules.Action
+action_value action.Allow = rules.Allows
+action_value action.Spend = rules.Spends
+action_value action.Need = rules.Needs
+
+-- what a word does, as the definition has it
+abbrev pub deeds_value : Deeds → reading.Deeds
+deeds_value (deeds.OnAllowance a) = reading.OnAllowance (action_value a)
+deeds_value (deeds.OnSum adds) = reading.OnSum adds
+
+-- fields have a word among them: a pattern is that of the fields before it, and a text has those after it
+pub record HasParts {W : Type 0} (found : Option (Parts W)) (text : List ℕ) (word : W) (rest : List ℕ) : Type 0 where
+  pub front : List ℕ
+  pub is : found ≡ Some (front, word, fields rest)
+  pub pattern : text ≡ plain front
+  pub empty : is_empty front ≡ is_empty text

@@ -1,0 +1,211 @@
+// `on` lines.
+ghost use Rattle.std.specs.Prelude.{◌≡◌, ℕ, false, true, map, IfOk, OnOk, Some};
+ghost use Rattle.model_text.specs.Text.{fields, is_empty};
+ghost use Rattle.model_rules.specs.Rules.{AppRules};
+ghost use Rattle.model_rules.specs.Reading.{on_line};
+ghost use Rattle.prove_events.specs.Rules.{deed_of, name_of};
+ghost use Rattle.prove_rules.specs.Parts.{action_value};
+ghost use Rattle.prove_rules.specs.Partials.{ArePart, ArePartRead};
+ghost use Rattle.prove_rules.specs.Ons.{is_timely, HasResult, HasWord, IsAllowanceEffect, IsEffect, IsHead, IsOnRead, IsSumEffect};
+
+use crate::fault::{Fault, bad_line, refused};
+use crate::field::{name_and_amount, name_field, two_fields};
+use crate::partial::{Partial, named_load, place_of};
+use crate::parts::{Action, Deeds, answer_parts, effect_parts, event_named};
+use crate::public::sum_amount;
+use lab_match::first_field;
+use model_play::DeckCause;
+use prove_events::{Effect, Event, On};
+use prove_facts::push;
+use std::alloc::Global;
+
+/// An `on` line up to its name: the pattern of the turn or the command, that of the result, what the word after it does,
+/// and the rest.
+#[derive(Drop)]
+pub struct Head<'a> {
+    pub pattern: Vec<u8>,
+    pub result: Vec<u8>,
+    pub deeds: Deeds,
+    pub after: &'a [u8],
+}
+
+// The head of a line whose event has a result.
+fn answer_head(alloc: Global, text: &[u8]) -> Result<Head<'_>, Fault>
+    ensures { IfOk result (HasResult (fields text.now)) }
+{
+    let (pattern, after) = answer_parts(alloc, text)?;
+    if pattern.is_empty() {
+        return Err(bad_line());
+    }
+    let (result, deeds, after) = effect_parts(alloc, after)?;
+    if result.is_empty() {
+        return Err(bad_line());
+    }
+    Ok(Head {
+        pattern,
+        result,
+        deeds,
+        after,
+    })
+}
+
+// The head of a line whose event has no result.
+fn plain_head(alloc: Global, text: &[u8]) -> Result<Head<'_>, Fault>
+    ensures { IfOk result (HasWord (fields text.now)) }
+{
+    let (pattern, deeds, after) = effect_parts(alloc, text)?;
+    Ok(Head {
+        pattern,
+        result: Vec::new(alloc),
+        deeds,
+        after,
+    })
+}
+
+// The head of a line about turns or commands.
+fn full_head(alloc: Global, text: &[u8]) -> Result<Head<'_>, Fault>
+    ensures word { IfOk result (HasWord (fields text.now)) }
+    ensures some { IfOk result (λ h. is_empty h.pattern.items ≡ false) }
+{
+    let head = plain_head(alloc, text)?;
+    if head.pattern.is_empty() {
+        return Err(bad_line());
+    }
+    Ok(head)
+}
+
+// The head of a line about sessions.
+fn bare_head(alloc: Global, text: &[u8]) -> Result<Head<'_>, Fault>
+    ensures word { IfOk result (HasWord (fields text.now)) }
+    ensures none { IfOk result (λ h. is_empty h.pattern.items ≡ true) }
+{
+    let head = plain_head(alloc, text)?;
+    if !head.pattern.is_empty() {
+        return Err(bad_line());
+    }
+    Ok(head)
+}
+
+// The head of a line about an event.
+#[tactic(auto, using(crate::proofs::OnLemmas::head_turn, crate::proofs::OnLemmas::head_command, crate::proofs::OnLemmas::head_answer, crate::proofs::OnLemmas::head_session))]
+fn head_of(alloc: Global, event: Event, text: &[u8]) -> Result<Head<'_>, Fault>
+    ensures { IfOk result (IsHead event (fields text.now)) }
+{
+    match event {
+        Event::Turn => full_head(alloc, text),
+        Event::Command => full_head(alloc, text),
+        Event::Answer => answer_head(alloc, text),
+        Event::Session => bare_head(alloc, text),
+    }
+}
+
+// What an action does with an amount.
+fn with_amount(action: Action, amount: u32) -> Effect
+    ensures { deed_of result ≡ Some (action_value action, amount) }
+{
+    match action {
+        Action::Allow => Effect::Allow(amount),
+        Action::Spend => Effect::Spend(amount),
+        Action::Need => Effect::Need(amount),
+    }
+}
+
+// The effect on an allowance, and the place of this.
+fn allowance_effect(
+    rules: &Partial<'_>,
+    action: Action,
+    text: &[u8],
+) -> Result<(Effect, usize), Fault>
+    ensures { IfOk result (λ p. IsAllowanceEffect rules.now (fields text.now) (action_value action) p.0 p.1) }
+{
+    let (name, amount) = name_and_amount(text)?;
+    let _load = named_load(rules)?;
+    let Some(place) = place_of(rules.allowances.as_slice(), name) else {
+        return Err(refused(DeckCause::UnknownName));
+    };
+    Ok((with_amount(action, amount), place))
+}
+
+// The effect on a sum, and the place of this.
+fn sum_effect(rules: &Partial<'_>, adds: bool, text: &[u8]) -> Result<(Effect, usize), Fault>
+    ensures { IfOk result (λ p. IsSumEffect rules.now (fields text.now) p.0 p.1) }
+{
+    let (name, amount) = two_fields(text)?;
+    let name = name_field(name)?;
+    let amount = sum_amount(amount)?;
+    let _load = named_load(rules)?;
+    let Some(place) = place_of(rules.sums.as_slice(), name) else {
+        return Err(refused(DeckCause::UnknownName));
+    };
+    if adds {
+        return Ok((Effect::Add(amount), place));
+    }
+    Ok((Effect::Take(amount), place))
+}
+
+// Whether an event has a word that does this: one about a sum is a turn's alone.
+fn is_timely(event: Event, deeds: Deeds) -> bool
+    ensures { result ≡ is_timely event deeds }
+{
+    match (event, deeds) {
+        (Event::Turn, _) => true,
+        (_, Deeds::OnAllowance(_)) => true,
+        _ => false,
+    }
+}
+
+// The effect of a line, and the place of its allowance or of its sum.
+fn effect_of(
+    rules: &Partial<'_>,
+    event: Event,
+    deeds: Deeds,
+    text: &[u8],
+) -> Result<(Effect, usize), Fault>
+    ensures effect { IfOk result (λ p. IsEffect rules.now event (fields text.now) deeds p.0 p.1) }
+    ensures timely { OnOk result (is_timely event deeds ≡ true) }
+{
+    if !is_timely(event, deeds) {
+        return Err(bad_line());
+    }
+    match deeds {
+        Deeds::OnAllowance(action) => allowance_effect(rules, action, text),
+        Deeds::OnSum(adds) => sum_effect(rules, adds, text),
+    }
+}
+
+// Reads an `on` line, by its number and the text after that word.
+fn read_on(alloc: Global, rules: &Partial<'_>, line: u32, text: &[u8]) -> Result<On, Fault>
+    ensures { IfOk result (λ on. (a : AppRules) → ArePart a rules.now
+        → IsOnRead (map name_of rules.now.allowances.items) a (on_line a line (fields text.now)) on) }
+{
+    let Some((word, after)) = first_field(text) else {
+        return Err(bad_line());
+    };
+    let Some(event) = event_named(word) else {
+        return Err(bad_line());
+    };
+    let head = head_of(alloc, event, after)?;
+    let (effect, name) = effect_of(rules, event, head.deeds, head.after)?;
+    Ok(On {
+        line,
+        event,
+        pattern: head.pattern,
+        result: head.result,
+        effect,
+        name,
+    })
+}
+
+/// Adds the rule of an `on` line, by its number and the text after that word.
+///
+/// # Errors
+///
+/// Returns why the line is no rule, or `NoMemory` if it is out of memory.
+pub fn add_on(alloc: Global, rules: &mut Partial<'_>, line: u32, text: &[u8]) -> Result<(), Fault>
+    ensures { OnOk result ((a : AppRules) → ArePart a rules.old
+        → ArePartRead (on_line a line (fields text.now)) rules.new) }
+{
+    let on = read_on(alloc, rules, line, text)?;
+    push(&mut rules.ons, on)?;
+    Ok(())
+}

@@ -1,0 +1,46 @@
+// The rules of the lines so far.
+ghost use Rattle.std.specs.Prelude.{◌≡◌, map, IfOk, Some};
+ghost use Rattle.prove_events.specs.Rules.{allowance_of};
+ghost use Rattle.prove_rules.specs.Partials.{place_of};
+
+use crate::fault::{Fault, RuleCause};
+use prove_events::{Always, Balance, CodeLine, Load, Named, On};
+
+/// The rules so far, before and after the application is named.
+#[derive(Drop)]
+pub struct Partial<'a> {
+    pub load: Option<Load<'a>>,
+    pub code_lines: Vec<CodeLine>,
+    pub allowances: Vec<Named<'a>>,
+    pub sums: Vec<Named<'a>>,
+    pub ons: Vec<On>,
+    pub always: Vec<Always>,
+    pub balances: Vec<Balance>,
+    pub never: Option<u32>,
+}
+
+/// Returns the number of the allowance or the sum of a name, or `None` if none has it.
+pub fn place_of(list: &[Named<'_>], name: &[u8]) -> Option<usize>
+    ensures { result ≡ place_of (map allowance_of list.now) name.now }
+{
+    for (place, one) in list.iter().enumerate() {
+        if one.name == name {
+            return Some(place);
+        }
+    }
+    None
+}
+
+/// Returns the application that the lines above name.
+///
+/// # Errors
+///
+/// Returns `NoApplication` if they name none.
+pub fn named_load<'a>(rules: &Partial<'a>) -> Result<Load<'a>, Fault>
+    ensures { IfOk result (λ load. rules.now.load ≡ Some load) }
+{
+    match rules.load {
+        Some(load) => Ok(load),
+        None => Err(Fault::Cause(RuleCause::NoApplication)),
+    }
+}
