@@ -1,0 +1,14 @@
+#![tactic(auto)]
+
+//! Whether finished tables are closed: every outcome of each of their keys is there, and none breaks a rule.
+
+mod beginnings;
+mod classes;
+mod closing;
+mod creation;
+mod knowing;
+mod moments;
+mod places;
+mod ranges;
+
+pub use closing::is_closed;

@@ -1,0 +1,5 @@
+pub mod ChoiceLemmas
+pub mod CrudeLemmas
+pub mod SceneLemmas
+pub mod StepLemmas
+pub mod TargetLemmas

@@ -1,0 +1,3 @@
+pub mod Choices
+pub mod Scenes
+pub mod Steps
