@@ -1,9 +1,17 @@
 -- A deck whose rules are proved.
-use Rattle.std.proofs.Common.{◌≡◌, sym, subst, ℕ, Bool, List, Result, Ok, inr}
+use Rattle.std.proofs.Common.{◌≡◌, ◌∙◌, sym, subst, ap, refl, ℕ, Bool, true, false, List, [], length, Option, Some, Result, Ok, inr}
+use Rattle.std.specs.Prelude.{vec_len}
 use Rattle.mc_streams.specs.declared.refusals.WriteFault.{WriteFault as Fault}
 use Rattle.mc_text.specs.Texts.{Puts}
 use Rattle.model_play.specs.DeckGrammar.{DeckLine, deck_read}
 use Rattle.model_play.specs.declared.deck.DeckCause.{DeckCause}
+use Rattle.model_rules.specs.Law.{AreKept, AreKeptBy}
+use Rattle.model_rules.specs.Reading.{RuleCause, app_rules_read}
+use Rattle.model_rules.specs.Rules.{AppRules, Target}
+use Rattle.law_prove_closed.specs.Decks.{TargetIsKept}
+use Rattle.prove_events.specs.declared.rules.Rules.{Rules}
+use Rattle.prove_events.specs.Rules.{AreRules}
+use Rattle.prove_tables.specs.Closed.{AsksNobody}
 use Rattle.prove_tables.specs.Reports.{IsReport}
 use Rattle.mc_filter.specs.Inputs.{ReadWhole}
 use Rattle.mc_filter.specs.Outside.{Outside}
@@ -11,14 +19,31 @@ use Rattle.mc_filter.specs.Statuses.{status_after_writing}
 use Rattle.mc_filter.specs.declared.status.Status.{Status}
 use Rattle.mellab.specs.declared.job.Job.TheVariants as job
 use Rattle.mellab.specs.Statuses.{status_by, MellabDone}
-use Rattle.mellab.specs.Verdicts.{Reports, IsProofVerdict}
+use Rattle.mellab.specs.Verdicts.{Reports, AreKeptIfRead, IsProofOf, IsProofVerdict, TargetAsksNobody}
+
+-- rules that are kept of an application that asks nobody are so of the one that they name
+kept_of_target : (a : AppRules) (g : Target) → a.target ≡ Some g → (AsksNobody g.app.code → AreKept a) → TargetAsksNobody a.target → TargetIsKept a a.target
+kept_of_target a g is kept asks =
+    subst (λ (t : Option Target). AreKeptBy a t → TargetIsKept a t) (sym is) (λ k. k)
+    (kept (subst (λ (t : Option Target). TargetAsksNobody t) is asks))
+
+-- rules that were read and proved are kept, if they have no sums
+pub kept_as_read : (input : List ℕ) (rules : Rules) (proved : Bool)
+    → ((a : AppRules) × (g : Target) × (app_rules_read input ≡ Ok a) × AreRules a g rules)
+    → (proved ≡ true → vec_len rules.balances ≡ 0 → AsksNobody rules.load.code.now → (a : AppRules) (g : Target) → AreRules a g rules → AreKept a)
+    → IsProofOf proved (app_rules_read input)
+kept_as_read input rules false read kept = tt
+kept_as_read input rules true (a, g, is, are) kept =
+    subst (λ (r : Result AppRules (ℕ × RuleCause)). AreKeptIfRead r) (sym is) (λ none asks.
+    kept_of_target a g are.target (λ quiet. kept refl (sym are.totals ∙ ap length none)
+    (subst (λ (c : List ℕ). AsksNobody c) are.created.code quiet) a g are) asks)
 
 -- the text of a proof of a deck's rules was written, or the sink failed
-pub says_proved : (a : Outside) (input : List ℕ) (ls : List (ℕ × DeckLine)) (text : List ℕ) (proved : Bool) (r : Result (Unit {0}) Fault) (s : Status) → ReadWhole a.input_old a.input input → deck_read input ≡ Ok ls → IsReport proved text
+pub says_proved : (a : Outside) (input : List ℕ) (ls : List (ℕ × DeckLine)) (text : List ℕ) (proved : Bool) (r : Result (Unit {0}) Fault) (s : Status) → ReadWhole a.input_old a.input input → deck_read input ≡ Ok ls → IsReport proved text → IsProofOf proved (app_rules_read input)
     → s ≡ status_after_writing (status_by proved) r → Puts a.out_old text r a.out → MellabDone job.Prove a s
-says_proved a input ls text proved r s read is report status put =
+says_proved a input ls text proved r s read is report kept status put =
     record {
       verdict = Reports text proved;
-      due = inr (record { input = input; read = read; is = subst (λ (d : Result (List (ℕ × DeckLine)) (ℕ × DeckCause)). IsProofVerdict d (Reports text proved)) (sym is) report });
+      due = inr (record { input = input; read = read; is = subst (λ (d : Result (List (ℕ × DeckLine)) (ℕ × DeckCause)). IsProofVerdict input d (Reports text proved)) (sym is) (report, kept) });
       done = record { result = r; status = status; written = put };
     }

@@ -1,6 +1,6 @@
 -- The verdict on the input of a job: the text due, and whether all that is asked of it holds, or the one line that
 -- refuses the input.
-use Rattle.std.specs.Prelude.{◌≡◌, ℕ, Bool, true, false, ◌==◌, List, codes, Result, Ok, Err}
+use Rattle.std.specs.Prelude.{◌≡◌, ℕ, Bool, true, false, ◌==◌, List, [], codes, Option, Some, None, Result, Ok, Err, ⊤}
 use Rattle.model_device.specs.Device.{blank_words, device_words}
 use Rattle.model_play.specs.DeckGrammar.{DeckLine, deck_read}
 use Rattle.model_play.specs.declared.deck.DeckCause.{DeckCause}
@@ -11,6 +11,10 @@ use Rattle.mc_lab.specs.Sweeps.{is_whole, sweep_text}
 use Rattle.law_explore.specs.Rules.{Exploration, ExplorationFault, LineFault, NoMove, NoRule, exploration_read}
 use Rattle.law_explore.specs.Search.{Ending, All, AtDepth, Broken, TooMany, search_of}
 use Rattle.law_explore_text.specs.Report.{text_within}
+use Rattle.model_rules.specs.Rules.{AppRules, Target}
+use Rattle.model_rules.specs.Reading.{RuleCause, app_rules_read}
+use Rattle.law_prove_closed.specs.Decks.{TargetIsKept}
+use Rattle.prove_tables.specs.Closed.{AsksNobody}
 use Rattle.prove_tables.specs.Reports.{IsReport}
 use Rattle.mc_filter.specs.Lines.{at_line, deck_line}
 use Rattle.mellab.specs.declared.job.Job.{Job}
@@ -74,17 +78,34 @@ pub record IsRuleRefusal (line : List ℕ) : Type 0 where
   pub cause : List ℕ
   pub is : line ≡ at_line number cause
 
+-- an application does not ask for the name of the one that delegated
+abbrev pub TargetAsksNobody : Option Target → Type 0
+TargetAsksNobody None = ⊤
+TargetAsksNobody (Some g) = AsksNobody g.app.code
+
+-- what is proved of rules that were read: without lines of sums, and if their application does not ask who delegated,
+-- they are kept in every play of every deck
+abbrev pub AreKeptIfRead : Result AppRules (ℕ × RuleCause) → Type 0
+AreKeptIfRead (Err e) = ⊥
+AreKeptIfRead (Ok r) = r.totals ≡ [] → TargetAsksNobody r.target → TargetIsKept r r.target
+
+-- what a verdict says of the rules of a deck
+abbrev pub IsProofOf : Bool → Result AppRules (ℕ × RuleCause) → Type 0
+IsProofOf false r = ⊤
+IsProofOf true r = AreKeptIfRead r
+
 -- A verdict on the rules of a deck in every play of every deck. Its text is no definition: of a deck that can be read, a
--- line refuses a rule, or the last line of a text is whether all rules are proved.
-abbrev pub IsProofVerdict : Result (List (ℕ × DeckLine)) (ℕ × DeckCause) → LabVerdict → Type 0
-IsProofVerdict (Ok ls) (Reports text well) = IsReport well text
-IsProofVerdict (Ok ls) (ReportsPart text) = ⊥
-IsProofVerdict (Ok ls) (Refusal line) = IsRuleRefusal line
-IsProofVerdict (Err e) v = v ≡ Refusal (deck_line e)
+-- line refuses a rule, or the last line of a text is whether all rules are proved; then they are kept, if they have no
+-- sums.
+abbrev pub IsProofVerdict : List ℕ → Result (List (ℕ × DeckLine)) (ℕ × DeckCause) → LabVerdict → Type 0
+IsProofVerdict input (Ok ls) (Reports text well) = IsReport well text × IsProofOf well (app_rules_read input)
+IsProofVerdict input (Ok ls) (ReportsPart text) = ⊥
+IsProofVerdict input (Ok ls) (Refusal line) = IsRuleRefusal line
+IsProofVerdict input (Err e) v = v ≡ Refusal (deck_line e)
 
 -- the verdict on an input within the limit
 abbrev pub IsVerdictOfJob : Job → List ℕ → LabVerdict → Type 0
 IsVerdictOfJob job.Expect input v = v ≡ expectation_verdict (expected_deck_read input)
 IsVerdictOfJob job.Sweep input v = v ≡ sweep_verdict (remarks mark.Whole input) (deck_read input)
 IsVerdictOfJob (job.Explore depth most) input v = v ≡ exploration_verdict depth most (exploration_read input)
-IsVerdictOfJob job.Prove input v = IsProofVerdict (deck_read input) v
+IsVerdictOfJob job.Prove input v = IsProofVerdict input (deck_read input) v

@@ -1,5 +1,9 @@
 // The proof of the rules of a deck.
-ghost use Rattle.std.specs.Prelude.{◌≡◌, IfErr, IfOk};
+ghost use Rattle.std.specs.Prelude.{◌≡◌, IfErr, IfOk, Ok};
+ghost use Rattle.model_play.specs.DeckGrammar.{deck_read};
+ghost use Rattle.model_rules.specs.Rules.{AppRules, Target};
+ghost use Rattle.model_rules.specs.Reading.{app_rules_read};
+ghost use Rattle.prove_events.specs.Rules.{AreRules};
 ghost use Rattle.mc_text.specs.Texts.{sunk};
 ghost use Rattle.mc_filter.specs.Inputs.{Rejects};
 ghost use Rattle.mc_filter.specs.Outside.{outside};
@@ -19,6 +23,9 @@ use std::alloc::Global;
 
 // Reads the rules of a deck, or returns the line that refuses them.
 fn rules_of<'a>(alloc: Global, deck: &'a Deck, text: &'a [u8]) -> Result<Rules<'a>, Rejection>
+    requires { deck_read text.now ≡ Ok deck.now }
+    ensures read { IfOk result (λ r. (a : AppRules) × (g : Target) × (app_rules_read text.now ≡ Ok a)
+        × AreRules a g r) }
     ensures rejected { IfErr result (Rejects IsRuleRefusal) }
 {
     match read_rules(alloc, deck, text) {

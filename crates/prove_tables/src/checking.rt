@@ -1,11 +1,11 @@
 // The check of finished tables: they hold the first key, and are closed under each outcome.
-use crate::keys::{MomentKey, Outcome, PlaceKey};
+use crate::keys::Outcome;
 use crate::searching::{outcomes_of_moment, outcomes_of_place};
 use crate::subject::Subject;
-use crate::tables::{Tables, all_keep};
+use crate::tables::all_keep;
 use mc_base::NoMemory;
 use prove_facts::Facts;
-use prove_outcomes::Known;
+use prove_keys::{Known, MomentKey, PlaceKey, Tables};
 use std::alloc::Global;
 
 // Whether a moment with its facts lies in the tables.

@@ -1,10 +1,11 @@
 // The ends of a chain: an abend, a stop, an exit.
 use crate::events::{amounts_after, session};
-use crate::keys::{Begun, MomentKey, Outcome};
+use crate::keys::Outcome;
 use crate::subject::Subject;
 use mc_base::NoMemory;
 use prove_events::{Class, abend_lines, answers};
 use prove_facts::{Values, push};
+use prove_keys::{Begun, MomentKey};
 use prove_outcomes::State;
 use std::alloc::Global;
 

@@ -1,29 +1,6 @@
-// The keys of the tables, and the outcomes that lead from one to another.
+// The rules that are broken, and the outcomes that lead from one key of the tables to another.
 use prove_facts::Facts;
-use prove_outcomes::{Call, Known, Registers};
-
-/// How a frame began: by a delegation, or by a command of a class.
-#[derive(Clone, Copy, PartialEq, Eq, Hash, Debug)]
-pub enum Begun {
-    Delegated,
-    Class(usize),
-}
-
-/// A moment between commands at which power may go: whether the application is selected, and the allowances.
-#[derive(PartialEq, Eq, PartialOrd, Ord, Hash, Drop)]
-pub struct MomentKey {
-    pub selected: bool,
-    pub amounts: Vec<u32>,
-}
-
-/// A place of the application's code: how the frame began, the allowances, the registers, and the open calls.
-#[derive(PartialEq, Eq, Hash, Drop)]
-pub struct PlaceKey {
-    pub begun: Begun,
-    pub amounts: Vec<u32>,
-    pub registers: Registers,
-    pub calls: Vec<Call>,
-}
+use prove_keys::{Known, MomentKey, PlaceKey};
 
 /// A rule by its number among those of its kind: an allowance, no abend, a range, or the block of a line of sums.
 #[derive(Clone, Copy, PartialEq, Eq, PartialOrd, Ord, Debug)]

@@ -5,6 +5,7 @@
 
 mod balances;
 mod checking;
+mod closing;
 mod ends;
 mod events;
 mod keys;

@@ -1,11 +1,11 @@
 // The outcomes of a moment between commands.
 use crate::events::{amounts_after, session};
-use crate::keys::{Begun, MomentKey, Outcome, PlaceKey};
+use crate::keys::Outcome;
 use crate::subject::Subject;
 use mc_base::NoMemory;
 use prove_events::{Class, Event, lines_in};
 use prove_facts::{Facts, Sums, Values, push};
-use prove_outcomes::{DYNAMIC, Known, Last, Registers};
+use prove_keys::{Begun, DYNAMIC, Known, Last, MomentKey, PlaceKey, Registers};
 use std::alloc::Global;
 
 // The four bytes before CLA.

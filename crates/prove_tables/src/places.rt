@@ -4,14 +4,15 @@ ghost use Rattle.model_machine.specs.Code.{Shaped};
 use crate::balances::{ask_balances, count_sums};
 use crate::ends::{abend, exit, reply_lengths, stop};
 use crate::events::amounts_after;
-use crate::keys::{Begun, Break, Outcome, PlaceKey, Rule};
+use crate::keys::{Break, Outcome, Rule};
 use crate::subject::{Subject, code_of};
 use mc_base::NoMemory;
 use mc_isa::{decode, text_of};
 use model_machine::{DecodeFault, Ins};
 use prove_events::{TurnEvent, turn_lines};
 use prove_facts::push;
-use prove_outcomes::{Known, Registers, State, Step, row};
+use prove_keys::{Begun, Known, PlaceKey, Registers};
+use prove_outcomes::{State, Step, row};
 use std::alloc::Global;
 
 /// An instruction at a place: the key, the instruction and its text, and the frame before it, whose code address is already

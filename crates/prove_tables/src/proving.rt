@@ -1,17 +1,25 @@
 // The proof of an application's rules.
-ghost use Rattle.std.specs.Prelude.{IfOk};
+ghost use Rattle.std.specs.Prelude.{◌≡◌, true, false, vec_len, IfOk};
+ghost use Rattle.model_prove.specs.Tables.{ClosedLaw};
+ghost use Rattle.model_rules.specs.Law.{AreKept};
+ghost use Rattle.model_rules.specs.Rules.{AppRules, Target};
+ghost use Rattle.prove_events.specs.Rules.{AreRules};
+ghost use Rattle.prove_tables.specs.Closed.{AreClosed, AsksNobody};
 ghost use Rattle.prove_tables.specs.Reports.{IsReport};
 
 use crate::balances::balance_at_creation;
 use crate::checking::is_closed;
-use crate::keys::{Break, MomentKey, Rule};
+use crate::closing::{are_closed, is_by_definition};
+use crate::keys::{Break, Rule};
 use crate::searching::{Stopped, search};
 use crate::subject::{Subject, blocks_of};
-use crate::tables::{MOST_KEYS, Tables};
+use crate::tables::{Found, MOST_KEYS};
 use crate::text::{add_verdict, break_ranges, text_of_tables};
+use law_prove_closed::closed_tables_keep_rules;
 use mc_base::NoMemory;
 use prove_events::{Balance, Load, Rules};
 use prove_facts::{Facts, Values, mask, push};
+use prove_keys::MomentKey;
 use std::alloc::Global;
 
 /// A text, and whether it says that all rules are proved.
@@ -58,7 +66,7 @@ fn first_number(load: &Load<'_>, balance: &Balance) -> u128 {
 }
 
 // The lines of sums that do not hold at the creation are broken.
-fn break_balances(rules: &Rules<'_>, tables: &mut Tables) -> Result<(), NoMemory> {
+fn break_balances(rules: &Rules<'_>, found: &mut Found) -> Result<(), NoMemory> {
     for (number, balance) in rules.balances.iter().enumerate() {
         if first_number(&rules.load, balance) != balance_at_creation(rules, balance) {
             let broken = Break {
@@ -66,7 +74,7 @@ fn break_balances(rules: &Rules<'_>, tables: &mut Tables) -> Result<(), NoMemory
                 at: None,
                 rule: Rule::Balance(number),
             };
-            if tables.broken.insert(broken).is_err() {
+            if found.broken.insert(broken).is_err() {
                 return Err(NoMemory);
             }
         }
@@ -76,7 +84,8 @@ fn break_balances(rules: &Rules<'_>, tables: &mut Tables) -> Result<(), NoMemory
 
 // The text where there are too many keys.
 fn too_many(alloc: Global) -> Result<Verdict, NoMemory>
-    ensures { IfOk result (λ v. IsReport v.proved v.text.items) }
+    ensures report { IfOk result (λ v. IsReport v.proved v.text.items) }
+    ensures unproved { IfOk result (λ v. v.proved ≡ false) }
 {
     let mut text = Vec::new(alloc);
     add_verdict(&mut text, false, MOST_KEYS)?;
@@ -86,21 +95,50 @@ fn too_many(alloc: Global) -> Result<Verdict, NoMemory>
     })
 }
 
+// Whether finished tables prove the rules: by the definition of outcomes, or with lines of sums or an instruction that asks
+// for the delegator's name by those of the search once more.
+fn is_proved(
+    alloc: Global,
+    subject: &Subject<'_>,
+    found: &Found,
+    first: &MomentKey,
+    facts: &Facts,
+) -> Result<bool, NoMemory>
+    ensures { IfOk result (λ proved. proved ≡ true → vec_len subject.now.rules.now.balances ≡ 0
+        → AsksNobody subject.now.rules.now.load.code.now
+        → (a : AppRules) (g : Target) → AreRules a g subject.now.rules.now → AreClosed a g) }
+{
+    if !found.broken.is_empty() || !found.unknown.is_empty() {
+        return Ok(false);
+    }
+    if is_by_definition(subject.rules) {
+        return are_closed(
+            alloc,
+            subject.rules,
+            subject.classes.as_slice(),
+            &found.tables,
+        );
+    }
+    is_closed(alloc, subject, &found.tables, first, facts)
+}
+
 fn verdict_of(
     alloc: Global,
     subject: &Subject<'_>,
-    tables: Tables,
+    found: Found,
     first: &MomentKey,
     facts: &Facts,
 ) -> Result<Verdict, NoMemory>
-    ensures { IfOk result (λ v. IsReport v.proved v.text.items) }
+    ensures report { IfOk result (λ v. IsReport v.proved v.text.items) }
+    ensures closed { IfOk result (λ v. v.proved ≡ true → vec_len subject.now.rules.now.balances ≡ 0
+        → AsksNobody subject.now.rules.now.load.code.now
+        → (a : AppRules) (g : Target) → AreRules a g subject.now.rules.now → AreClosed a g) }
 {
-    let mut tables = tables;
-    break_balances(subject.rules, &mut tables)?;
-    break_ranges(subject, &mut tables)?;
-    let kept = tables.broken.is_empty() && tables.unknown.is_empty();
-    let proved = kept && is_closed(alloc, subject, &tables, first, facts)?;
-    let text = text_of_tables(alloc, subject, &tables, proved)?;
+    let mut found = found;
+    break_balances(subject.rules, &mut found)?;
+    break_ranges(subject, &mut found)?;
+    let proved = is_proved(alloc, subject, &found, first, facts)?;
+    let text = text_of_tables(alloc, subject, &found, proved)?;
     Ok(Verdict { text, proved })
 }
 
@@ -112,7 +150,13 @@ fn verdict_of(
 /// Returns `NoMemory` if it is out of memory.
 pub fn prove(alloc: Global, rules: &Rules<'_>) -> Result<Verdict, NoMemory>
     ensures report { IfOk result (λ v. IsReport v.proved v.text.items) }
+    // Rules without lines of sums that are proved, of an application that does not ask who delegated, are kept in every
+    // play of every deck.
+    ensures kept { IfOk result (λ v. v.proved ≡ true → vec_len rules.now.balances ≡ 0
+        → AsksNobody rules.now.load.code.now
+        → (a : AppRules) (g : Target) → AreRules a g rules.now → AreKept a) }
 {
+    closed_tables_keep_rules();
     let blocks = blocks_of(alloc, rules)?;
     let subject = Subject::new(alloc, rules, blocks.as_slice())?;
     let facts = first_facts(alloc, &rules.load)?;
@@ -123,7 +167,7 @@ pub fn prove(alloc: Global, rules: &Rules<'_>) -> Result<Verdict, NoMemory>
         first_key(alloc, rules)?,
         facts.copied(alloc)?,
     ) {
-        Ok(tables) => verdict_of(alloc, &subject, tables, &first, &facts),
+        Ok(found) => verdict_of(alloc, &subject, found, &first, &facts),
         Err(Stopped::TooMany) => too_many(alloc),
         Err(Stopped::NoMemory) => Err(NoMemory),
     }

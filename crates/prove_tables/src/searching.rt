@@ -1,12 +1,12 @@
 // The search that fills the tables.
-use crate::keys::{MomentKey, Outcome, PlaceKey};
+use crate::keys::Outcome;
 use crate::moments::moment_outcomes;
 use crate::places::place_outcomes;
 use crate::subject::Subject;
-use crate::tables::{MOST_KEYS, Tables, rounded};
+use crate::tables::{Found, MOST_KEYS, rounded};
 use mc_base::NoMemory;
 use prove_facts::{Facts, push};
-use prove_outcomes::{Known, PackedKnown};
+use prove_keys::{Known, MomentKey, PackedKnown, PlaceKey, Tables};
 use std::alloc::Global;
 use std::collections::VecDeque;
 
@@ -29,10 +29,10 @@ impl From<NoMemory> for Stopped {
     }
 }
 
-/// The tables so far, for each key whether its outcomes are due, and the numbers of the keys whose are.
+/// What was found so far, for each key whether its outcomes are due, and the numbers of the keys whose are.
 #[derive(Drop)]
 struct Run {
-    tables: Tables,
+    found: Found,
     moment_waits: Vec<bool>,
     place_waits: Vec<bool>,
     due_moments: Vec<usize>,
@@ -114,18 +114,18 @@ fn join_moment(
     key: MomentKey,
     facts: Facts,
 ) -> Result<(), NoMemory> {
-    let Ok((number, fresh)) = run.tables.moments.insert_full(key) else {
+    let Ok((number, fresh)) = run.found.tables.moments.insert_full(key) else {
         return Err(NoMemory);
     };
     if fresh {
         push(
-            &mut run.tables.facts,
+            &mut run.found.tables.facts,
             rounded(alloc, subject.rules, &facts)?,
         )?;
         push(&mut run.moment_waits, false)?;
         return await_moment(run, number);
     }
-    let grows = match run.tables.facts.get_mut(number) {
+    let grows = match run.found.tables.facts.get_mut(number) {
         Some(there) => facts_grow(alloc, subject, there, &facts)?,
         None => false,
     };
@@ -137,15 +137,18 @@ fn join_moment(
 }
 
 fn join_place(alloc: Global, run: &mut Run, key: PlaceKey, known: Known) -> Result<(), NoMemory> {
-    let Ok((number, fresh)) = run.tables.places.insert_full(key) else {
+    let Ok((number, fresh)) = run.found.tables.places.insert_full(key) else {
         return Err(NoMemory);
     };
     if fresh {
-        push(&mut run.tables.known, PackedKnown::new(alloc, &known)?)?;
+        push(
+            &mut run.found.tables.known,
+            PackedKnown::new(alloc, &known)?,
+        )?;
         push(&mut run.place_waits, false)?;
         return await_place(run, number);
     }
-    let grows = match run.tables.known.get_mut(number) {
+    let grows = match run.found.tables.known.get_mut(number) {
         Some(there) => known_grows(alloc, there, &known)?,
         None => false,
     };
@@ -165,11 +168,11 @@ fn join(
     match outcome {
         Outcome::Moment(key, facts) => join_moment(alloc, subject, run, key, facts),
         Outcome::Place(key, known) => join_place(alloc, run, key, known),
-        Outcome::Broken(broken) => match run.tables.broken.insert(broken) {
+        Outcome::Broken(broken) => match run.found.broken.insert(broken) {
             Ok(_) => Ok(()),
             Err(_) => Err(NoMemory),
         },
-        Outcome::Unknown(at) => match run.tables.unknown.insert(at) {
+        Outcome::Unknown(at) => match run.found.unknown.insert(at) {
             Ok(_) => Ok(()),
             Err(_) => Err(NoMemory),
         },
@@ -184,7 +187,7 @@ fn join_all(
 ) -> Result<(), Stopped> {
     for outcome in outcomes {
         join(alloc, subject, run, outcome)?;
-        if run.tables.keys() > MOST_KEYS {
+        if run.found.tables.keys() > MOST_KEYS {
             return Err(Stopped::TooMany);
         }
     }
@@ -247,8 +250,8 @@ pub fn outcomes_of_place(
 // Takes the outcomes of one key; returns whether some were due.
 fn advance(alloc: Global, subject: &Subject<'_>, run: &mut Run) -> Result<bool, Stopped> {
     let outcomes = match next_due(run) {
-        Due::Moment(number) => outcomes_of_moment(alloc, subject, &run.tables, number)?,
-        Due::Place(number) => outcomes_of_place(alloc, subject, &run.tables, number)?,
+        Due::Moment(number) => outcomes_of_moment(alloc, subject, &run.found.tables, number)?,
+        Due::Place(number) => outcomes_of_place(alloc, subject, &run.found.tables, number)?,
         Due::Nothing => return Ok(false),
     };
     join_all(alloc, subject, run, outcomes)?;
@@ -275,9 +278,9 @@ pub fn search(
     subject: &Subject<'_>,
     first: MomentKey,
     facts: Facts,
-) -> Result<Tables, Stopped> {
+) -> Result<Found, Stopped> {
     let mut run = Run {
-        tables: Tables::new(alloc),
+        found: Found::new(alloc),
         moment_waits: Vec::new(alloc),
         place_waits: Vec::new(alloc),
         due_moments: Vec::new(alloc),
@@ -285,6 +288,6 @@ pub fn search(
     };
     join_moment(alloc, subject, &mut run, first, facts)?;
     run_all(alloc, subject, &mut run)?;
-    let Run { tables, .. } = run;
-    Ok(tables)
+    let Run { found, .. } = run;
+    Ok(found)
 }

@@ -1,5 +1,5 @@
 // What is asked: an application, its rules, and the classes of commands.
-ghost use Rattle.std.specs.Prelude.{◌≤◌, length};
+ghost use Rattle.std.specs.Prelude.{◌≡◌, ◌≤◌, length, IfOk};
 ghost use Rattle.model_device.specs.Limits.{most_code};
 
 use mc_base::NoMemory;
@@ -55,7 +55,9 @@ impl<'a> Subject<'a> {
         alloc: Global,
         rules: &'a Rules<'a>,
         blocks: &'a [Block],
-    ) -> Result<Subject<'a>, NoMemory> {
+    ) -> Result<Subject<'a>, NoMemory>
+        ensures { IfOk result (λ subject. subject.rules.now ≡ rules.now) }
+    {
         let sizes = Sizes {
             code: code_of(&rules.load).len().min(8192) as u16,
             fixed: rules.load.fixed,

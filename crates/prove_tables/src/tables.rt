@@ -1,10 +1,9 @@
-// The two tables: the moments between commands, and the places of the code.
-use crate::keys::{Break, MomentKey, PlaceKey};
-use indexmap::IndexSet;
+// What a search found, and facts as they are kept between commands.
+use crate::keys::Break;
 use mc_base::NoMemory;
 use prove_events::{Always, Rules};
 use prove_facts::{Fact, Facts, Values};
-use prove_outcomes::PackedKnown;
+use prove_keys::Tables;
 use std::alloc::Global;
 use std::collections::BTreeSet;
 
@@ -13,34 +12,23 @@ pub const MOST_KEYS: usize = 1_000_000;
 // The most values of a set that is not rounded.
 const MOST_VALUES: u32 = 16;
 
-/// What is known at each key, by its number, and the rules that some outcome breaks.
+/// What a search found: the tables, the rules that some outcome breaks, and the places at which it is not known where the
+/// code goes on.
 #[derive(Drop)]
-pub struct Tables {
-    pub moments: IndexSet<MomentKey>,
-    pub facts: Vec<Facts>,
-    pub places: IndexSet<PlaceKey>,
-    pub known: Vec<PackedKnown>,
+pub struct Found {
+    pub tables: Tables,
     pub broken: BTreeSet<Break>,
-    /// The places at which it is not known where the code goes on.
     pub unknown: BTreeSet<u16>,
 }
 
-impl Tables {
-    /// Returns tables without keys.
-    pub fn new(alloc: Global) -> Tables {
-        Tables {
-            moments: IndexSet::new(alloc),
-            facts: Vec::new(alloc),
-            places: IndexSet::new(alloc),
-            known: Vec::new(alloc),
+impl Found {
+    /// Returns nothing found so far: tables without keys.
+    pub fn new(alloc: Global) -> Found {
+        Found {
+            tables: Tables::new(alloc),
             broken: BTreeSet::new(alloc),
             unknown: BTreeSet::new(alloc),
         }
-    }
-
-    /// Returns the number of keys of both tables.
-    pub fn keys(&self) -> usize {
-        self.facts.len().saturating_add(self.known.len())
     }
 }
 

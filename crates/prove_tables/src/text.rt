@@ -2,9 +2,9 @@
 ghost use Rattle.std.specs.Prelude.{◌≡◌, ◌++◌, decimal, true, IfOk, OnOk};
 ghost use Rattle.prove_tables.specs.Reports.{is_of_lines, verdict_words, IsReport};
 
-use crate::keys::{Break, MomentKey, Rule};
+use crate::keys::{Break, Rule};
 use crate::subject::{Subject, code_of};
-use crate::tables::{Tables, all_keep};
+use crate::tables::{Found, all_keep};
 use crate::way_text::add_way;
 use crate::ways::{Key, Walk, walk_to_faults};
 use itoa::Buffer;
@@ -12,7 +12,7 @@ use mc_base::{NoMemory, bytes_of};
 use mc_isa::{decode, text_of};
 use mc_text::digit;
 use prove_facts::{Fact, Facts, Values};
-use prove_outcomes::DYNAMIC;
+use prove_keys::{DYNAMIC, MomentKey, Tables};
 use std::alloc::Global;
 use std::collections::BTreeMap;
 
@@ -296,14 +296,14 @@ fn add_breaks(
     alloc: Global,
     text: &mut Vec<u8>,
     subject: &Subject<'_>,
-    tables: &Tables,
+    found: &Found,
     walk: &Walk,
 ) -> Result<(), NoMemory>
     requires { is_of_lines text.old.items ≡ true }
     ensures { OnOk result (is_of_lines text.new.items ≡ true) }
 {
-    for broken in &tables.broken {
-        add_break(alloc, text, subject, tables, walk, broken)?;
+    for broken in &found.broken {
+        add_break(alloc, text, subject, &found.tables, walk, broken)?;
     }
     Ok(())
 }
@@ -329,14 +329,14 @@ fn add_unknown(
     alloc: Global,
     text: &mut Vec<u8>,
     subject: &Subject<'_>,
-    tables: &Tables,
+    found: &Found,
     walk: &Walk,
 ) -> Result<(), NoMemory>
     requires { is_of_lines text.old.items ≡ true }
     ensures { OnOk result (is_of_lines text.new.items ≡ true) }
 {
-    for at in &tables.unknown {
-        add_unknown_place(alloc, text, subject, tables, walk, *at)?;
+    for at in &found.unknown {
+        add_unknown_place(alloc, text, subject, &found.tables, walk, *at)?;
     }
     Ok(())
 }
@@ -371,15 +371,15 @@ pub fn add_verdict(text: &mut Vec<u8>, proved: bool, keys: usize) -> Result<(), 
 /// # Errors
 ///
 /// Returns `NoMemory` if it is out of memory.
-pub fn break_ranges(subject: &Subject<'_>, tables: &mut Tables) -> Result<(), NoMemory> {
+pub fn break_ranges(subject: &Subject<'_>, found: &mut Found) -> Result<(), NoMemory> {
     for (number, line) in subject.rules.always.iter().enumerate() {
-        if !all_keep(line, tables) {
+        if !all_keep(line, &found.tables) {
             let broken = Break {
                 line: line.line,
                 at: None,
                 rule: Rule::Range(number),
             };
-            if tables.broken.insert(broken).is_err() {
+            if found.broken.insert(broken).is_err() {
                 return Err(NoMemory);
             }
         }
@@ -392,20 +392,20 @@ fn add_faults(
     alloc: Global,
     text: &mut Vec<u8>,
     subject: &Subject<'_>,
-    tables: &Tables,
+    found: &Found,
 ) -> Result<(), NoMemory>
     requires { is_of_lines text.old.items ≡ true }
     ensures { OnOk result (is_of_lines text.new.items ≡ true) }
 {
-    if tables.broken.is_empty() && tables.unknown.is_empty() {
+    if found.broken.is_empty() && found.unknown.is_empty() {
         return Ok(());
     }
-    let walk = walk_to_faults(alloc, subject, tables)?;
-    add_breaks(alloc, text, subject, tables, &walk)?;
-    add_unknown(alloc, text, subject, tables, &walk)
+    let walk = walk_to_faults(alloc, subject, found)?;
+    add_breaks(alloc, text, subject, found, &walk)?;
+    add_unknown(alloc, text, subject, found, &walk)
 }
 
-/// Returns the text of tables, whose last line says whether all rules are proved.
+/// Returns the text of what was found, whose last line says whether all rules are proved.
 ///
 /// # Errors
 ///
@@ -413,14 +413,14 @@ fn add_faults(
 pub fn text_of_tables(
     alloc: Global,
     subject: &Subject<'_>,
-    tables: &Tables,
+    found: &Found,
     proved: bool,
 ) -> Result<Vec<u8>, NoMemory>
     ensures { IfOk result (λ text. IsReport proved text.items) }
 {
     let mut text = Vec::new(alloc);
-    add_moments(alloc, &mut text, subject, tables)?;
-    add_faults(alloc, &mut text, subject, tables)?;
-    add_verdict(&mut text, proved, tables.keys())?;
+    add_moments(alloc, &mut text, subject, &found.tables)?;
+    add_faults(alloc, &mut text, subject, found)?;
+    add_verdict(&mut text, proved, found.tables.keys())?;
     Ok(text)
 }

@@ -1,7 +1,5 @@
 // The text of a way: what a terminal does, and the lines or places of the code.
-use crate::keys::Begun;
 use crate::subject::{Subject, code_of};
-use crate::tables::Tables;
 use crate::text::{add, add_number, add_values, add_word};
 use crate::ways::Key;
 use mc_base::NoMemory;
@@ -9,6 +7,7 @@ use mc_isa::decode;
 use model_machine::Ins;
 use prove_events::{Class, CodeLine};
 use prove_facts::{Facts, Values};
+use prove_keys::{Begun, Tables};
 use std::alloc::Global;
 
 // The addresses of CLA, INS, P1 and P2.

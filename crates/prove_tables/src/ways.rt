@@ -1,10 +1,11 @@
 // The shortest ways to what is broken: from the creation, over the keys of finished tables.
-use crate::keys::{Begun, Break, Outcome, PlaceKey, Rule};
+use crate::keys::{Break, Outcome, Rule};
 use crate::searching::{outcomes_of_moment, outcomes_of_place};
 use crate::subject::Subject;
-use crate::tables::{Tables, is_kept};
+use crate::tables::{Found, is_kept};
 use mc_base::NoMemory;
 use prove_facts::push;
+use prove_keys::{Begun, PlaceKey, Tables};
 use std::alloc::Global;
 use std::collections::{BTreeMap, VecDeque};
 
@@ -205,8 +206,8 @@ fn take_all(
 }
 
 // Whether the walk came to all that is broken or not known.
-fn is_done(walk: &Walk, tables: &Tables) -> bool {
-    walk.broken.len() >= tables.broken.len() && walk.unknown.len() >= tables.unknown.len()
+fn is_done(walk: &Walk, found: &Found) -> bool {
+    walk.broken.len() >= found.broken.len() && walk.unknown.len() >= found.unknown.len()
 }
 
 // The next key whose outcomes are due.
@@ -234,8 +235,9 @@ fn next_key(walk: &mut Walk) -> Option<Key> {
 pub fn walk_to_faults(
     alloc: Global,
     subject: &Subject<'_>,
-    tables: &Tables,
+    found: &Found,
 ) -> Result<Walk, NoMemory> {
+    let tables = &found.tables;
     let mut walk = Walk {
         moments: nowhere(alloc, tables.facts.len())?,
         places: nowhere(alloc, tables.known.len())?,
@@ -246,7 +248,7 @@ pub fn walk_to_faults(
     };
     reach_moment(&mut walk, subject, tables, 0, Origin::Creation)?;
     for _ in 0..tables.keys() {
-        if is_done(&walk, tables) {
+        if is_done(&walk, found) {
             break;
         }
         let Some(key) = next_key(&mut walk) else {
