@@ -7,3 +7,6 @@ pub mod MomentLemmas
 pub mod PlayLemmas
 pub mod ShotLemmas
 pub mod TurnLemmas
+pub mod GuardLemmas
+pub mod SeenLemmas
+pub mod StatementLemmas

@@ -1,6 +1,6 @@
 -- The loop that plays a deck before a recorder.
-use Rattle.std.proofs.Common.{◌≡◌, inl, inr, ℕ, ◌<◌, Bool, List, [], ◌∷◌, ◌++◌, Option, None, refl, arith, sym, ap, subst, ◌∙◌, append_assoc, append-nil}
-use Rattle.std.specs.Prelude.{length, option_map}
+use Rattle.std.proofs.Common.{◌≡◌, inl, inr, ℕ, ◌<◌, List, [], ◌∷◌, ◌++◌, Option, None, refl, arith, sym, ap, subst, ◌∙◌, append_assoc, append-nil}
+use Rattle.std.specs.Prelude.{length, option_map, take}
 use Rattle.model_device.specs.Device.{DeviceState, BenchState}
 use Rattle.model_machine.specs.Chain.{Chain}
 use Rattle.model_play.specs.DeckGrammar.{DeckLine}
@@ -16,21 +16,23 @@ use Rattle.mc_script.specs.Lines.{LineDone, bench_of}
 use Rattle.mc_script.specs.Plays.{Bench, Played}
 use Rattle.mc_script.specs.Runs.{sent_by}
 use Rattle.mc_script.specs.StepCounts.{CountsLine, PlaySteps}
-use Rattle.mc_script.specs.Watching.{Watches}
+use Rattle.mc_script.specs.Watching.{Watches, seen_of}
 use Rattle.mc_script.proofs.LinedLemmas.{at_stands}
 use Rattle.mc_script.proofs.PlayLemmas.{played_none, played_on, plays_none, plays_on}
 use Rattle.mc_script.proofs.StepPlayLemmas.{step_counts, steps_as, steps_none, steps_then}
 use Rattle.desk_steps.specs.declared.recording.Recorder.{Recorder}
+use Rattle.desk_steps.specs.Guards.{all_clear}
 use Rattle.desk_steps.specs.Lines.{line_text}
 use Rattle.desk_steps.specs.Moments.{Moment, command_of, moment, moments_of_step}
-use Rattle.desk_steps.specs.Recorded.{first_text, next_number, number_after, puts_from, puts_none, puts_on, AreLinesBy, IsStoppedFrame, PutsText, Recorded, RecordsPlay, ShowsStep, ShowsSteps, StoppedBy, WaitsFirst}
+use Rattle.desk_steps.specs.Recorded.{first_text, kept_after, kept_in, kept_of, kept_parts, lines_by, lines_of, puts_as, puts_from, puts_none, puts_on, AllRoomy, IsStoppedFrame, Kept, PutsText, Recorded, RecordsPlay, ShowsStep, ShowsSteps, StoppedBy, WaitsFirst}
+use Rattle.desk_steps.specs.Statements.{statement_at}
 use Rattle.desk_steps.specs.Turning.{all_shut}
 use Rattle.desk_steps.proofs.FrameLemmas.{first_is}
-use Rattle.desk_steps.proofs.LineLemmas.{AlongRun, along_sent, lines_along}
+use Rattle.desk_steps.proofs.LineLemmas.{AlongRun, along_sent, first_kept, lines_along}
 use Rattle.desk_steps.proofs.MomentLemmas.{moments_full, moments_shown}
 
-module _ {T : Type 0} (sink : Ghosts T) {N : Type 0} (state : N → DeviceState) (bench : N → BenchState) where
-  -- a player at a state of a play, with the given lines left, and what its recorder wrote: a play of these from here
+module _ {T : Type 0} (sink : Ghosts T) {N : Type 0} (state : N → DeviceState) (bench : N → BenchState) (script : List ℕ) where
+  -- a player at a state of a play of a deck with this text, with the given lines left, and what its recorder wrote: a play of these from here
   -- makes the play of all lines from the start, and its text after this one is the text of that
   pub record Recording (s : State) (ls : List (ℕ × DeckLine)) (a : Bench) (q : Recorder T) (old : ℕ) (left : List (ℕ × DeckLine)) (p : Player N) (r : Recorder T) (now : ℕ) : Type 0 where
     pub here : State
@@ -39,17 +41,17 @@ module _ {T : Type 0} (sink : Ghosts T) {N : Type 0} (state : N → DeviceState)
     pub adds : PutsText sink q text r
     pub sections : r.sections.now ≡ q.sections.now
     pub rest : (ws : List (Option FailedWrite)) (b : Bench) (new : ℕ) → Played here left ws (bench_of state bench p) b → PlaySteps (plays here left ws) now new
-        → (vs : List (Option FailedWrite)) × Played s ls vs a b × PlaySteps (plays s ls vs) old new × ((more : List ℕ) → ShowsSteps q.sections.now (plays here left ws) more → ShowsSteps q.sections.now (plays s ls vs) (text ++ more))
+        → (vs : List (Option FailedWrite)) × Played s ls vs a b × PlaySteps (plays s ls vs) old new × ((more : List ℕ) → ShowsSteps q.sections.now script (plays here left ws) more → ShowsSteps q.sections.now script (plays s ls vs) (text ++ more))
 
   pub recording_start : (s : State) (ls : List (ℕ × DeckLine)) (p : Player N) (q : Recorder T) (old : ℕ) → IsPlayerAt state bench p s → Recording s ls (bench_of state bench p) q old ls p q old
   recording_start s ls p q old at = record { here = s; at = at; text = []; adds = puts_none sink q; sections = refl; rest = λ ws b new h k. (ws, h, k, λ more shows. shows) }
 
-  pub recording_end : (s : State) (ls : List (ℕ × DeckLine)) (a : Bench) (q : Recorder T) (p : Player N) (r : Recorder T) (old now : ℕ) → Recording s ls a q old [] p r now → RecordsPlay sink s ls a (bench_of state bench p) q r old now
+  pub recording_end : (s : State) (ls : List (ℕ × DeckLine)) (a : Bench) (q : Recorder T) (p : Player N) (r : Recorder T) (old now : ℕ) → Recording s ls a q old [] p r now → RecordsPlay sink script s ls a (bench_of state bench p) q r old now
   recording_end s ls a q p r old now h =
       let none = plays_none h.here in
       let all = h.rest [] (bench_of state bench p) now (played_none h.here (bench_of state bench p) (at_stands state bench p h.here h.at) h.at.unfused) (steps_as [] (plays h.here [] []) now now (sym none) (steps_none now)) in
-      let nothing : ShowsSteps q.sections.now (plays h.here [] []) [] = subst (λ (ts : List Step). ShowsSteps q.sections.now ts []) (sym none) refl in
-      let shows = subst (λ (t : List ℕ). ShowsSteps q.sections.now (plays s ls all.0) t) (append-nil h.text) (all.3 [] nothing) in
+      let nothing : ShowsSteps q.sections.now script (plays h.here [] []) [] = subst (λ (ts : List Step). ShowsSteps q.sections.now script ts []) (sym none) refl in
+      let shows = subst (λ (t : List ℕ). ShowsSteps q.sections.now script (plays s ls all.0) t) (append-nil h.text) (all.3 [] nothing) in
       record { worn = all.0; played = all.1; steps = all.2; text = h.text; adds = h.adds; shows = shows }
 
   -- what a recorder has at the beginning of a line
@@ -59,6 +61,8 @@ module _ {T : Type 0} (sink : Ghosts T) {N : Type 0} (state : N → DeviceState)
     pub first : q.first ≡ None
     pub command : q.memory.command.items ≡ command_of l
     pub opens : q.memory.opens ≡ all_shut
+    pub guards : q.memory.guards ≡ all_clear
+    pub writes : q.memory.writes ≡ 0
 
   -- what stands after the turns of a line
   frame_shown : (t : Step) (q : Recorder T) (frame : List ℕ) → q.memory.command.items ≡ command_of t.line → (q.turns ≡ 0 → moments_of_step t ≡ []) → WaitsFirst q → StoppedBy q frame → IsStoppedFrame t frame
@@ -69,40 +73,45 @@ module _ {T : Type 0} (sink : Ghosts T) {N : Type 0} (state : N → DeviceState)
       let named : h.1 ≡ ch.frame.name = cc (sym h.2 ∙ f.1) in
       inr (none h.0, ch, h.3 ∙ first_is 0 q.memory.command.items h.1 q.memory.before ch named f.3 f.2 ∙ ap (λ (b : List ℕ). first_text b ch) command)
 
-  number_some : (n : ℕ) (ts : List Moment) → 0 < n → 0 < number_after n ts
-  number_some n [] h = h
-  number_some n (t ∷ ts) h = number_some (next_number n) ts (omega arith)
+  number_some : (k : Kept) (ts : List Moment) → 0 < k.turns → 0 < (kept_of k ts).turns
+  number_some k [] h = h
+  number_some k (t ∷ ts) h = number_some (kept_after k t) ts (omega arith)
 
-  no_turns : (ts : List Moment) → number_after 0 ts ≡ 0 → ts ≡ []
-  no_turns [] e = refl
-  no_turns (t ∷ ts) e = let some = number_some (next_number 0) ts (omega arith) in absurd (omega (arith, e, some))
+  no_turns : (k : Kept) (ts : List Moment) → (kept_of k ts).turns ≡ 0 → ts ≡ []
+  no_turns k [] e = refl
+  no_turns k (t ∷ ts) e = let some = number_some (kept_after k t) ts (omega arith) in absurd (omega (arith, e, some))
 
   -- the text of a line: the lines of its turns, and its own
-  line_shown : (ss : List Source) (s : State) (l : ℕ × DeckLine) (w : Option FailedWrite) (p : Player N) (q m r : Recorder T) (statement frame : List ℕ) (result : Option LineResult) → IsPlayerAt state bench p s → BeginsLine ss l.1 q → StoppedBy m frame → (let t = step s l w in Recorded sink q (moments_of_step t) m → result ≡ t.result → PutsText sink m (frame ++ line_text l.0 statement result) r
-      → (x : List ℕ) × ShowsStep ss t x × PutsText sink q x r)
-  line_shown ss s l w p q m r statement frame result at begins stopped did is adds =
+  line_shown : (ss : List Source) (s : State) (l : ℕ × DeckLine) (w : Option FailedWrite) (p : Player N) (q m r : Recorder T) (statement frame : List ℕ) (result : Option LineResult) → IsPlayerAt state bench p s → statement ≡ statement_at l.0 script → BeginsLine ss l.1 q → StoppedBy m frame → (let t = step s l w in Recorded sink q (moments_of_step t) m → result ≡ t.result → PutsText sink m (frame ++ line_text l.0 statement result) r
+      → (x : List ℕ) × ShowsStep ss script t x × PutsText sink q x r)
+  line_shown ss s l w p q m r statement frame result at words begins stopped did is adds =
       let t = step s l w in
       let k = length (shown_turns t.turns t.stop) in
       let ts : List Moment = moments_of_step t in
       let line : List ℕ = line_text l.0 statement result in
-      let due : line ≡ line_text t.number statement t.result = ap (λ (o : Option LineResult). line_text l.0 statement o) is ∙ ap (λ (n : ℕ). line_text n statement t.result) (sym ((step_is s l w).number)) in
+      let due : line ≡ line_text t.number (statement_at t.number script) t.result = ap (λ (o : Option LineResult). line_text l.0 statement o) is ∙ ap (λ (x : List ℕ). line_text l.0 x t.result) words ∙ ap (λ (n : ℕ). line_text n (statement_at n script) t.result) (sym ((step_is s l w).number)) in
       let command : q.memory.command.items ≡ command_of t.line = begins.command ∙ ap (λ (d : DeckLine). command_of d) (sym ((step_is s l w).line)) in
-      let one = subst (λ (zs : List Source). AreLinesBy zs q.memory.command.items q.turns q.memory.opens ts did.text) begins.sections did.lines in
-      let two = subst (λ (b : List ℕ). AreLinesBy ss b q.turns q.memory.opens ts did.text) command one in
-      let three = subst (λ (n : ℕ). AreLinesBy ss (command_of t.line) n q.memory.opens ts did.text) begins.turns two in
-      let four = subst (λ (os : List Bool). AreLinesBy ss (command_of t.line) 0 os ts did.text) begins.opens three in
-      let along : AlongRun all_shut ts = subst (λ (us : List Moment). AlongRun all_shut us) (moments_shown state bench p s l w at) (along_sent k (sent_by state p l.1)) in
-      let none : m.turns ≡ 0 → ts ≡ [] = λ e. no_turns ts (ap (λ (n : ℕ). number_after n ts) (sym begins.turns) ∙ sym did.turns ∙ e) in
+      let first : kept_in q ≡ first_kept = kept_parts q.turns 0 q.memory.writes 0 q.memory.opens all_shut q.memory.guards all_clear begins.turns begins.writes begins.opens begins.guards in
+      let sent : List Moment = take k (seen_of moment (sent_by state p l.1)) in
+      let shown : sent ≡ ts = moments_shown state bench p s l w at in
+      let along : AlongRun first_kept ts = subst (λ (us : List Moment). AlongRun first_kept us) shown (along_sent k (sent_by state p l.1) (subst (λ (us : List Moment). AllRoomy us) (sym shown) did.roomy)) in
+      let lines : lines_by q.sections.now q.memory.command.items (kept_in q) ts ≡ lines_of ss (command_of t.line) 0 0 ts =
+      ap (λ (zs : List Source). lines_by zs q.memory.command.items (kept_in q) ts) begins.sections ∙ ap (λ (b : List ℕ). lines_by ss b (kept_in q) ts) command
+      ∙ ap (λ (x : Kept). lines_by ss (command_of t.line) x ts) first ∙ lines_along ss (command_of t.line) first_kept ts along did.roomy
+      in
+      let turns : List ℕ = lines_of ss (command_of t.line) 0 0 ts in
+      let adds_turns : PutsText sink q turns m = puts_as sink q m (lines_by q.sections.now q.memory.command.items (kept_in q) ts) turns lines did.adds in
+      let none : m.turns ≡ 0 → ts ≡ [] = λ e. no_turns (kept_in q) ts (ap (λ (x : Kept). x.turns) (sym did.kept) ∙ e) in
       let after = frame_shown t m frame (did.command ∙ command) none (did.waits (inl begins.first)) stopped in (
-        did.text ++ (frame ++ line),
-        (did.text, frame, statement, lines_along ss (command_of t.line) 0 all_shut ts did.text along four, after, moments_full state bench p s l w at, ap (λ (y : List ℕ). did.text ++ (frame ++ y)) due),
-        puts_on sink q m r did.text (frame ++ line) did.adds adds,
+        turns ++ (frame ++ line),
+        (frame, after, moments_full state bench p s l w at, ap (λ (y : List ℕ). turns ++ (frame ++ y)) due),
+        puts_on sink q m r turns (frame ++ line) adds_turns adds,
       )
 
-  pub recording_on : (s : State) (ls : List (ℕ × DeckLine)) (a : Bench) (q : Recorder T) (left : List (ℕ × DeckLine)) (n : ℕ) (l : DeckLine) (p v : Player N) (before begun after last : Recorder T) (answer : Option Answer) (statement frame : List ℕ) (old now new : ℕ) → Recording s ls a q old ((n, l) ∷ left) p before now
+  pub recording_on : (s : State) (ls : List (ℕ × DeckLine)) (a : Bench) (q : Recorder T) (left : List (ℕ × DeckLine)) (n : ℕ) (l : DeckLine) (p v : Player N) (before begun after last : Recorder T) (answer : Option Answer) (statement frame : List ℕ) (old now new : ℕ) → Recording s ls a q old ((n, l) ∷ left) p before now → statement ≡ statement_at n script
       → begun.out ≡ before.out → begun.fault ≡ before.fault → BeginsLine before.sections.now l begun → LineDone state bench (Watches moment (Recorded sink) (sent_by state p l)) p l begun after answer v → CountsLine state bench p l answer now new
       → StoppedBy after frame → PutsText sink after (frame ++ line_text n statement (option_map (answer_value state v) answer)) last → last.sections.now ≡ after.sections.now → Recording s ls a q old left v last new
-  recording_on s ls a q left n l p v before begun after last answer statement frame old now new h out fault begins done counts stopped adds kept =
+  recording_on s ls a q left n l p v before begun after last answer statement frame old now new h words out fault begins done counts stopped adds kept =
       let line = done h.here n h.at in
       let w = line.0 in
       let t = step h.here (n, l) w in
@@ -110,8 +119,8 @@ module _ {T : Type 0} (sink : Ghosts T) {N : Type 0} (state : N → DeviceState)
       let ss : List Source = q.sections.now in
       let steps = step_counts state v h.here (n, l) w answer now new end.answers (counts h.here h.at) in
       let did : Recorded sink begun (moments_of_step t) after = subst (λ (ts : List Moment). Recorded sink begun ts after) (moments_shown state bench p h.here (n, l) w h.at) line.1.reports in
-      let begun_on : BeginsLine ss l begun = record { sections = begins.sections ∙ h.sections; turns = begins.turns; first = begins.first; command = begins.command; opens = begins.opens } in
-      let shown = line_shown ss h.here (n, l) w p begun after last statement frame (option_map (answer_value state v) answer) h.at begun_on stopped did end.answers adds in
+      let begun_on : BeginsLine ss l begun = record { sections = begins.sections ∙ h.sections; turns = begins.turns; first = begins.first; command = begins.command; opens = begins.opens; guards = begins.guards; writes = begins.writes } in
+      let shown = line_shown ss h.here (n, l) w p begun after last statement frame (option_map (answer_value state v) answer) h.at words begun_on stopped did end.answers adds in
       let from : PutsText sink before shown.0 last = puts_from sink before begun last shown.0 out fault shown.2 in
       record {
         here = t.after;
@@ -127,8 +136,8 @@ module _ {T : Type 0} (sink : Ghosts T) {N : Type 0} (state : N → DeviceState)
               all.1,
               all.2,
               λ more shows.
-                  let here : ShowsSteps ss (t ∷ plays t.after left ws) (shown.0 ++ more) = (shown.0, more, shown.1, shows, refl) in
-                  let there : ShowsSteps ss (plays h.here ((n, l) ∷ left) (w ∷ ws)) (shown.0 ++ more) = subst (λ (ts : List Step). ShowsSteps ss ts (shown.0 ++ more)) (sym one) here in
-                  subst (λ (x : List ℕ). ShowsSteps ss (plays s ls all.0) x) (sym (append_assoc h.text shown.0 more)) (all.3 (shown.0 ++ more) there),
+                  let here : ShowsSteps ss script (t ∷ plays t.after left ws) (shown.0 ++ more) = (shown.0, more, shown.1, shows, refl) in
+                  let there : ShowsSteps ss script (plays h.here ((n, l) ∷ left) (w ∷ ws)) (shown.0 ++ more) = subst (λ (ts : List Step). ShowsSteps ss script ts (shown.0 ++ more)) (sym one) here in
+                  subst (λ (x : List ℕ). ShowsSteps ss script (plays s ls all.0) x) (sym (append_assoc h.text shown.0 more)) (all.3 (shown.0 ++ more) there),
             );
       }

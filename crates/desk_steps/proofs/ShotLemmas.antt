@@ -1,5 +1,5 @@
 -- Shots of the frame that ran a turn, before it and after it.
-use Rattle.std.proofs.Common.{◌≡◌, ◌≢◌, inl, inr, ℕ, ◌-◌, ◌≤◌, Bool, true, false, cond, List, Option, Some, None, refl, sym, ap, subst, ◌∙◌}
+use Rattle.std.proofs.Common.{◌≡◌, ◌≢◌, inl, inr, ℕ, ◌-◌, ◌≤◌, Bool, true, false, cond, List, [], ◌∷◌, Option, Some, None, refl, sym, ap, subst, arith, ◌∙◌}
 use Rattle.std.specs.Prelude.{bytes_eq, length, not, take, is_some, option_map, IsSome}
 use Rattle.model_device.specs.Bytes.{lookup}
 use Rattle.model_device.specs.Device.{DeviceState}
@@ -11,7 +11,7 @@ use Rattle.mc_machine.specs.Chains.{Chained}
 use Rattle.mc_machine.specs.Turns.{outcome_value, turn_value}
 use Rattle.mc_machine.specs.declared.outcome.Turn.{Turn}
 use Rattle.mc_bank.specs.Bank.{app_of}
-use Rattle.mc_segs.specs.HeldFrames.{Seen, frame_reading}
+use Rattle.mc_segs.specs.HeldFrames.{Seen, frame_reading, no_pieces}
 use Rattle.mc_card.specs.declared.card.Card.{Card}
 use Rattle.mc_card.specs.Parts.{RunsChain, card_in}
 use Rattle.law_steps.specs.Readings.{Reading, reading_of}
@@ -76,6 +76,10 @@ exit_none (Some i) e j h = by (is_exit_of i) refl e
 
 reading_alike : (f g : Frame) (public : List ℕ) → frame_reading f ≡ frame_reading g → reading_of f public ≡ reading_of g public
 reading_alike f g public e = ap (λ (s : Seen). record { fixed = take (length s.fixed) s.read; dynamic = take (s.dt - dynamic_base) s.dyn; public = public }) e
+
+-- a copy of a shot
+pub copied : (s t : Shot) (ch : Chain) → t.lb ≡ s.lb → t.dt ≡ s.dt → t.fixed_len ≡ s.fixed_len → shot_reading t ≡ shot_reading s → IsBefore s ch → IsBefore t ch
+copied s t ch lb dt size reading h = record { lb = lb ∙ h.lb; dt = dt ∙ h.dt; size = size ∙ h.size; reading = λ wide. reading ∙ h.reading wide; roomy = h.roomy; guard = h.guard }
 
 module _ {N : Type 0} (state : N → DeviceState) where
   -- the static bytes that a card keeps under a name
@@ -152,16 +156,28 @@ module _ {N : Type 0} (state : N → DeviceState) where
       other ∙ ap (λ (m : List ℕ). is_other (turn_of n ch).follows m) named
       ∙ going_calls n ch (λ j h. exit_none turn.ins (sym is ∙ sym none) j (sym (ap (λ t. t.ins) was.same) ∙ h))
 
+  no_pieces_none : (ps : List (ℕ × List ℕ)) → no_pieces ps ≡ true → ps ≡ []
+  no_pieces_none [] e = refl
+  no_pieces_none (p ∷ ps) e = absurd (cc e)
+
   -- a shot of the frame that a card runs
-  pub running_shot : (c : Card N) (ch : Chain) (left : ℕ) (h : Chained) (s : Shot) → RunsChain state c ch left → Some h ≡ c.chain → s.lb ≡ h.running.frame.lb → (512 ≤ length h.running.frame.dyn → shot_reading s ≡ reading_of (frame_in state c h.running) h.public) → IsBefore s ch
-  running_shot c ch left h s runs e lb reads =
+  pub running_shot : (c : Card N) (ch : Chain) (left : ℕ) (h : Chained) (s : Shot) → RunsChain state c ch left → Some h ≡ c.chain → s.lb ≡ h.running.frame.lb → s.dt ≡ h.running.frame.dt → s.fixed_len ≡ length (frame_in state c h.running).fixed → s.fixed_len ≤ 4096 → s.dt ≤ 0x8200 → length h.public ≡ 1041
+      → (512 ≤ length h.running.frame.dyn → shot_reading s ≡ reading_of (frame_in state c h.running) h.public) → IsBefore s ch
+  running_shot c ch left h s runs e lb dt len few high whole reads =
       let like = alike state c ch left h runs e in
       let size : length h.running.frame.dyn ≡ length ch.frame.dyn = ap (λ (x : Seen). length x.dyn) like.reads in
+      let top : s.dt ≡ ch.frame.dt = dt ∙ ap (λ (x : Seen). x.dt) like.reads in
+      let fixed : s.fixed_len ≡ length ch.frame.fixed = len ∙ ap (λ (x : Seen). length x.fixed) like.reads in
+      let public : length h.public ≡ length ch.public = ap (λ (p : List ℕ). length p) like.public in
       record {
         lb = lb ∙ ap (λ (x : Seen). x.lb) like.reads;
+        dt = top;
+        size = fixed;
         reading = λ wide.
             reads (subst (λ (m : ℕ). 512 ≤ m) (sym size) wide) ∙ ap (λ (p : List ℕ). reading_of (frame_in state c h.running) p) like.public
             ∙ reading_alike (frame_in state c h.running) ch.frame ch.public like.reads;
+        roomy = λ wide. record { fixed = omega (arith, few, fixed); dyn = wide; high = omega (arith, high, top); whole = omega (arith, whole, public) };
+        guard = λ off. no_pieces_none ch.frame.pieces (runs.runs.running.guarded off);
       }
 
   -- what is shown of a frame, if the running one has its name

@@ -17,11 +17,14 @@ use Rattle.desk_json.specs.Sheets.{PutsOn, puts_both, puts_nothing}
 use Rattle.law_steps.specs.Nexts.{called_opens, open_after, open_by, opens_after}
 use Rattle.law_steps.specs.Readings.{first_sets, turn_sets}
 use Rattle.law_steps.specs.Registers.{frame_after}
+use Rattle.law_steps.specs.Writes.{IsRoomy, called_waits, moves_in, turn_moves, waits_after}
 use Rattle.desk_steps.specs.declared.recording.Recorder.{Recorder}
 use Rattle.desk_steps.specs.declared.shot.Shot.{Shot}
+use Rattle.desk_steps.specs.Counted.{count_after, writes_after}
 use Rattle.desk_steps.specs.Lines.{Found, frame_text, line_text, turn_text}
 use Rattle.desk_steps.specs.Moments.{Moment, command_of, full_of, moments_of_step}
 use Rattle.desk_steps.specs.Shots.{frame_changes}
+use Rattle.desk_steps.specs.Statements.{statement_at}
 use Rattle.desk_steps.specs.Turning.{IsBefore}
 
 -- ---- frames
@@ -45,11 +48,6 @@ called_text depth (Continues c) = cond (nat_lt depth (depth_of c)) (frame_text (
 abbrev pub next_number : ℕ → ℕ
 next_number n = min (n + 1) 4294967295
 
--- the number of the last of some turns after one
-abbrev pub number_after : ℕ → List Moment → ℕ
-number_after n [] = n
-number_after n (t ∷ ts) = number_after (next_number n) ts
-
 -- the number of the source line of a turn
 abbrev pub source_number : List Source → Moment → Option ℕ
 source_number ss t = option_map (λ l. l.number) (line_of_turn ss (full_of t))
@@ -69,30 +67,59 @@ abbrev pub turn_lines : ℕ → List ℕ → Option ℕ → Moment → Bool → 
 turn_lines n command source t on w =
     first_before n command t.chain ++ (line_of (next_number n) source t (found_of t on w) ++ called_text (depth_of t.chain) (turn_of t.left t.chain).follows)
 
--- The lines of some turns of a command, in order and numbered on. All that a line has is said but for its device writes.
-abbrev pub AreLines : List Source → List ℕ → ℕ → List Moment → List ℕ → Type 0
-AreLines ss command n [] text = text ≡ []
-AreLines ss command n (t ∷ ts) text =
-    (w : Option (ℕ × ℕ)) × (rest : List ℕ) × (text ≡ turn_lines n command (source_number ss t) t (open_after t.left t.chain) w ++ rest)
-    × AreLines ss command (next_number n) ts rest
+-- The lines of some turns of a command, in order and numbered on, after some device writes of their line.
+abbrev pub lines_of : List Source → List ℕ → ℕ → ℕ → List Moment → List ℕ
+lines_of ss command n m [] = []
+lines_of ss command n m (t ∷ ts) =
+    let moves = turn_moves t.left t.chain in
+    turn_lines n command (source_number ss t) t (open_after t.left t.chain) (writes_after m moves) ++ lines_of ss command (next_number n) (count_after m moves) ts
 
--- ---- turns, with protection by depth
+-- ---- turns, with protection and the words that wait by depth
 
 -- protection after a turn, by protection by depth before it
 abbrev pub open_in : List Bool → Moment → Bool
 open_in os t = let u = (turn_of t.left t.chain).turn in open_by u.end u.ins (get_or os (length t.chain.below) false)
 
--- protection by depth after some turns
-abbrev pub opens_of : List Bool → List Moment → List Bool
-opens_of os [] = os
-opens_of os (t ∷ ts) = opens_of (opens_after t.left t.chain os) ts
+-- what a recorder keeps of the turns of a line: their number, that of their device writes, and by depth protection and
+-- the words that wait
+pub record Kept : Type 0 where
+  pub turns : ℕ
+  pub writes : ℕ
+  pub opens : List Bool
+  pub waits : List (List ℕ)
 
--- the lines of some turns, with protection by that by depth before them
-abbrev pub AreLinesBy : List Source → List ℕ → ℕ → List Bool → List Moment → List ℕ → Type 0
-AreLinesBy ss command n os [] text = text ≡ []
-AreLinesBy ss command n os (t ∷ ts) text =
-    (w : Option (ℕ × ℕ)) × (rest : List ℕ) × (text ≡ turn_lines n command (source_number ss t) t (open_in os t) w ++ rest)
-    × AreLinesBy ss command (next_number n) (opens_after t.left t.chain os) ts rest
+-- the device writes of a turn, by what was kept before it
+abbrev pub kept_moves : Kept → Moment → ℕ
+kept_moves k t = moves_in k.opens k.waits t.left t.chain
+
+-- what is kept after a turn
+abbrev pub kept_after : Kept → Moment → Kept
+kept_after k t =
+    record {
+      turns = next_number k.turns;
+      writes = count_after k.writes (kept_moves k t);
+      opens = opens_after t.left t.chain k.opens;
+      waits = waits_after t.left t.chain k.opens k.waits;
+    }
+
+-- what is kept after some turns
+abbrev pub kept_of : Kept → List Moment → Kept
+kept_of k [] = k
+kept_of k (t ∷ ts) = kept_of (kept_after k t) ts
+
+-- the lines of a turn, by what was kept before it
+abbrev pub lines_with : List ℕ → Option ℕ → Kept → Moment → List ℕ
+lines_with command source k t = turn_lines k.turns command source t (open_in k.opens t) (writes_after k.writes (kept_moves k t))
+
+-- the lines of some turns, by what was kept before them
+abbrev pub lines_by : List Source → List ℕ → Kept → List Moment → List ℕ
+lines_by ss command k [] = []
+lines_by ss command k (t ∷ ts) = lines_with command (source_number ss t) k t ++ lines_by ss command (kept_after k t) ts
+
+-- the segments of the running frame of each of some turns have their sizes
+abbrev pub AllRoomy : List Moment → Type 0
+AllRoomy [] = Unit {0}
+AllRoomy (t ∷ ts) = IsRoomy t.chain.frame t.chain.public × AllRoomy ts
 
 -- ---- lines of the deck
 
@@ -101,45 +128,41 @@ AreLinesBy ss command n os (t ∷ ts) text =
 abbrev pub IsStoppedFrame : Step → List ℕ → Type 0
 IsStoppedFrame t frame = (frame ≡ []) ⊎ ((moments_of_step t ≡ []) × (ch : Chain) × (frame ≡ first_text (command_of t.line) ch))
 
--- the text of a line that was played: the lines of its turns up to the one in which a stop hit it, and its own with its
--- number and its result
-abbrev pub ShowsStep : List Source → Step → List ℕ → Type 0
-ShowsStep ss t text =
-    (turns : List ℕ) × (frame : List ℕ) × (statement : List ℕ) × AreLines ss (command_of t.line) 0 (moments_of_step t) turns × IsStoppedFrame t frame
-    × (map full_of (moments_of_step t) ≡ turns_of_step t) × (text ≡ turns ++ (frame ++ line_text t.number statement t.result))
+-- the text of a line that was played, of a deck with this text: the lines of its turns up to the one in which a stop hit
+-- it, and its own with its number, its statement and its result
+abbrev pub ShowsStep : List Source → List ℕ → Step → List ℕ → Type 0
+ShowsStep ss deck t text =
+    (frame : List ℕ) × IsStoppedFrame t frame × (map full_of (moments_of_step t) ≡ turns_of_step t)
+    × (text ≡ lines_of ss (command_of t.line) 0 0 (moments_of_step t) ++ (frame ++ line_text t.number (statement_at t.number deck) t.result))
 
 -- the text of lines that were played, one after the other
-abbrev pub ShowsSteps : List Source → List Step → List ℕ → Type 0
-ShowsSteps ss [] text = text ≡ []
-ShowsSteps ss (t ∷ ts) text = (one : List ℕ) × (rest : List ℕ) × ShowsStep ss t one × ShowsSteps ss ts rest × (text ≡ one ++ rest)
+abbrev pub ShowsSteps : List Source → List ℕ → List Step → List ℕ → Type 0
+ShowsSteps ss deck [] text = text ≡ []
+ShowsSteps ss deck (t ∷ ts) text = (one : List ℕ) × (rest : List ℕ) × ShowsStep ss deck t one × ShowsSteps ss deck ts rest × (text ≡ one ++ rest)
 
--- All lines of a deck were played in order, and the text of the play under the sections of its draft was written, or a
--- proper front of it if the sink failed.
-pub record StepsDeck (ss : List Source) (ls : List (ℕ × DeckLine)) (a : Bench) (x : Sunk) (result : Result (Unit {0}) WriteFault) (b : Bench) (y : Sunk) (old new : ℕ) : Type 0 where
+-- All lines of a deck with this text were played in order, and the text of the play under the sections of its draft was
+-- written, or a proper front of it if the sink failed.
+pub record StepsDeck (ss : List Source) (script : List ℕ) (ls : List (ℕ × DeckLine)) (a : Bench) (x : Sunk) (result : Result (Unit {0}) WriteFault) (b : Bench) (y : Sunk) (old new : ℕ) : Type 0 where
   pub text : List ℕ
   pub sums : CountsSum (λ ts. text) ls a x result b y old new
-  pub shows : ShowsSteps ss (plays (start a.device.words) ls sums.deck.worn) text
+  pub shows : ShowsSteps ss script (plays (start a.device.words) ls sums.deck.worn) text
 
 -- ---- the laws of lines
 
 -- turns after turns
-pub lines_on : (ss : List Source) (command : List ℕ) (n : ℕ) (os : List Bool) (ts us : List Moment) (x y : List ℕ) → AreLinesBy ss command n os ts x → AreLinesBy ss command (number_after n ts) (opens_of os ts) us y → AreLinesBy ss command n os (ts ++ us) (x ++ y)
-lines_on ss command n os [] us x y first rest = subst (λ (z : List ℕ). AreLinesBy ss command n os us (z ++ y)) (sym first) rest
-lines_on ss command n os (t ∷ ts) us x y first rest =
-    let lines : List ℕ = turn_lines n command (source_number ss t) t (open_in os t) first.0 in (
-      first.0,
-      first.1 ++ y,
-      ap (λ (z : List ℕ). z ++ y) first.2 ∙ append_assoc lines first.1 y,
-      lines_on ss command (next_number n) (opens_after t.left t.chain os) ts us first.1 y first.3 rest,
-    )
+pub lines_on : (ss : List Source) (command : List ℕ) (k : Kept) (ts us : List Moment) → lines_by ss command k (ts ++ us) ≡ lines_by ss command k ts ++ lines_by ss command (kept_of k ts) us
+lines_on ss command k [] us = refl
+lines_on ss command k (t ∷ ts) us =
+    let lines : List ℕ = lines_with command (source_number ss t) k t in
+    ap (λ (z : List ℕ). lines ++ z) (lines_on ss command (kept_after k t) ts us) ∙ sym (append_assoc lines (lines_by ss command (kept_after k t) ts) (lines_by ss command (kept_of (kept_after k t) ts) us))
 
-number_append : (n : ℕ) (ts us : List Moment) → number_after n (ts ++ us) ≡ number_after (number_after n ts) us
-number_append n [] us = refl
-number_append n (t ∷ ts) us = number_append (next_number n) ts us
+kept_append : (k : Kept) (ts us : List Moment) → kept_of k (ts ++ us) ≡ kept_of (kept_of k ts) us
+kept_append k [] us = refl
+kept_append k (t ∷ ts) us = kept_append (kept_after k t) ts us
 
-opens_append : (os : List Bool) (ts us : List Moment) → opens_of os (ts ++ us) ≡ opens_of (opens_of os ts) us
-opens_append os [] us = refl
-opens_append os (t ∷ ts) us = opens_append (opens_after t.left t.chain os) ts us
+roomy_append : (ts us : List Moment) → AllRoomy ts → AllRoomy us → AllRoomy (ts ++ us)
+roomy_append [] us one two = two
+roomy_append (t ∷ ts) us one two = (one.0, roomy_append ts us one.1 two)
 
 -- ---- recorders
 
@@ -169,12 +192,27 @@ module _ {T : Type 0} (sink : Ghosts T) where
 
 -- ---- what a recorder keeps
 
+-- what a recorder keeps of the turns of its line
+abbrev pub kept_in : {T : Type 0} → Recorder T → Kept
+kept_in q = record { turns = q.turns; writes = q.memory.writes; opens = q.memory.opens; waits = q.memory.guards }
+
 -- a recorder is as before but for its text, the shots and the frame that waits
 pub record KeepsState {T : Type 0} (q r : Recorder T) : Type 0 where
   pub sections : r.sections.now ≡ q.sections.now
   pub turns : r.turns ≡ q.turns
   pub command : r.memory.command.items ≡ q.memory.command.items
   pub opens : r.memory.opens ≡ q.memory.opens
+  pub guards : r.memory.guards ≡ q.memory.guards
+  pub writes : r.memory.writes ≡ q.memory.writes
+
+-- what is kept, by its parts
+pub kept_parts : (m n v w : ℕ) (os us : List Bool) (vs ws : List (List ℕ)) → m ≡ n → v ≡ w → os ≡ us → vs ≡ ws → ◌≡◌ {A = Kept} (record { turns = m; writes = v; opens = os; waits = vs }) (record { turns = n; writes = w; opens = us; waits = ws })
+kept_parts m n v w os us vs ws a b c d =
+    let all : ℕ → ℕ → List Bool → List (List ℕ) → Kept = λ i j k l. record { turns = i; writes = j; opens = k; waits = l } in
+    ap (λ (i : ℕ). all i v os vs) a ∙ ap (λ (j : ℕ). all n j os vs) b ∙ ap (λ (k : List Bool). all n w k vs) c ∙ ap (λ (l : List (List ℕ)). all n w us l) d
+
+pub same_kept : {T : Type 0} (q r : Recorder T) → KeepsState q r → kept_in r ≡ kept_in q
+same_kept q r h = kept_parts r.turns q.turns r.memory.writes q.memory.writes r.memory.opens q.memory.opens r.memory.guards q.memory.guards h.turns h.writes h.opens h.guards
 
 -- and wrote nothing
 pub record IsQuiet {T : Type 0} (q r : Recorder T) : Type 0 where
@@ -200,54 +238,53 @@ module _ {T : Type 0} (sink : Ghosts T) where
   abbrev pub StoppedText : Recorder T → Recorder T → Type 0
   StoppedText q r = (frame : List ℕ) × StoppedBy q frame × PutsText sink q frame r
 
+  -- what is kept after a turn at a depth, if it called a frame
+  abbrev pub kept_called : ℕ → Follows → Kept → Kept
+  kept_called depth next k = record k { opens = called_opens depth next k.opens; waits = called_waits depth next k.waits }
+
   -- a recorder wrote the line of the frame that a turn at a depth called, if it called one
   pub record CallsNext (q : Recorder T) (depth : ℕ) (next : Follows) (r : Recorder T) : Type 0 where
     pub adds : PutsText sink q (called_text depth next) r
     pub sections : r.sections.now ≡ q.sections.now
-    pub turns : r.turns ≡ q.turns
     pub command : r.memory.command.items ≡ q.memory.command.items
-    pub opens : r.memory.opens ≡ called_opens depth next q.memory.opens
+    pub kept : kept_in r ≡ kept_called depth next (kept_in q)
 
   -- a recorder wrote the lines of a turn, by its source line
   pub record RecordsTurn (q : Recorder T) (source : Option ℕ) (t : Moment) (r : Recorder T) : Type 0 where
-    pub writes : Option (ℕ × ℕ)
-    pub adds : PutsText sink q (turn_lines q.turns q.memory.command.items source t (open_in q.memory.opens t) writes) r
+    pub adds : PutsText sink q (lines_with q.memory.command.items source (kept_in q) t) r
     pub sections : r.sections.now ≡ q.sections.now
-    pub turns : r.turns ≡ next_number q.turns
     pub command : r.memory.command.items ≡ q.memory.command.items
-    pub opens : r.memory.opens ≡ opens_after t.left t.chain q.memory.opens
+    pub kept : kept_in r ≡ kept_after (kept_in q) t
+    pub roomy : IsRoomy t.chain.frame t.chain.public
     pub first : r.first ≡ None
 
   -- a recorder wrote the lines of turns
   pub record Recorded (q : Recorder T) (ts : List Moment) (r : Recorder T) : Type 0 where
-    pub text : List ℕ
-    pub adds : PutsText sink q text r
-    pub lines : AreLinesBy q.sections.now q.memory.command.items q.turns q.memory.opens ts text
+    pub adds : PutsText sink q (lines_by q.sections.now q.memory.command.items (kept_in q) ts) r
     pub sections : r.sections.now ≡ q.sections.now
-    pub turns : r.turns ≡ number_after q.turns ts
     pub command : r.memory.command.items ≡ q.memory.command.items
-    pub opens : r.memory.opens ≡ opens_of q.memory.opens ts
+    pub kept : kept_in r ≡ kept_of (kept_in q) ts
+    pub roomy : AllRoomy ts
     pub waits : WaitsFirst q → WaitsFirst r
 
   -- of no turn no line is written
   pub recorded_none : (r : Recorder T) → Recorded r [] r
-  recorded_none r = record { text = []; adds = puts_none sink r; lines = refl; sections = refl; turns = refl; command = refl; opens = refl; waits = λ h. h }
+  recorded_none r = record { adds = puts_none sink r; sections = refl; command = refl; kept = refl; roomy = tt; waits = λ h. h }
 
   -- the lines of turns are written after those before them
   pub recorded_on : (q r s : Recorder T) (ts us : List Moment) → Recorded q ts r → Recorded r us s → Recorded q (ts ++ us) s
   recorded_on q r s ts us first rest =
-      let one = subst (λ (ss : List Source). AreLinesBy ss r.memory.command.items r.turns r.memory.opens us rest.text) first.sections rest.lines in
-      let two = subst (λ (b : List ℕ). AreLinesBy q.sections.now b r.turns r.memory.opens us rest.text) first.command one in
-      let three = subst (λ (n : ℕ). AreLinesBy q.sections.now q.memory.command.items n r.memory.opens us rest.text) first.turns two in
-      let four = subst (λ (os : List Bool). AreLinesBy q.sections.now q.memory.command.items (number_after q.turns ts) os us rest.text) first.opens three in
+      let one = subst (λ (ss : List Source). PutsText sink r (lines_by ss r.memory.command.items (kept_in r) us) s) first.sections rest.adds in
+      let two = subst (λ (b : List ℕ). PutsText sink r (lines_by q.sections.now b (kept_in r) us) s) first.command one in
+      let three = subst (λ (k : Kept). PutsText sink r (lines_by q.sections.now q.memory.command.items k us) s) first.kept two in
+      let x : List ℕ = lines_by q.sections.now q.memory.command.items (kept_in q) ts in
+      let y : List ℕ = lines_by q.sections.now q.memory.command.items (kept_of (kept_in q) ts) us in
       record {
-        text = first.text ++ rest.text;
-        adds = puts_on sink q r s first.text rest.text first.adds rest.adds;
-        lines = lines_on q.sections.now q.memory.command.items q.turns q.memory.opens ts us first.text rest.text first.lines four;
+        adds = puts_as sink q s (x ++ y) (lines_by q.sections.now q.memory.command.items (kept_in q) (ts ++ us)) (sym (lines_on q.sections.now q.memory.command.items (kept_in q) ts us)) (puts_on sink q r s x y first.adds three);
         sections = rest.sections ∙ first.sections;
-        turns = rest.turns ∙ ap (λ (n : ℕ). number_after n us) first.turns ∙ sym (number_append q.turns ts us);
         command = rest.command ∙ first.command;
-        opens = rest.opens ∙ ap (λ (os : List Bool). opens_of os us) first.opens ∙ sym (opens_append q.memory.opens ts us);
+        kept = rest.kept ∙ ap (λ (k : Kept). kept_of k us) first.kept ∙ sym (kept_append (kept_in q) ts us);
+        roomy = roomy_append ts us first.roomy rest.roomy;
         waits = λ h. rest.waits (first.waits h);
       }
 
@@ -255,20 +292,18 @@ module _ {T : Type 0} (sink : Ghosts T) where
   pub recorded_turn : (ss : List Source) (q p r : Recorder T) (t : Moment) → q.sections.now ≡ ss → IsQuiet q p → RecordsTurn p (source_number ss t) t r → Recorded q (t ∷ []) r
   recorded_turn ss q p r t same before h =
       let k = before.keeps in
-      let text : ℕ → List ℕ → List Bool → List ℕ = λ n b os. turn_lines n b (source_number ss t) t (open_in os t) h.writes in
-      let one : PutsText sink q (text p.turns p.memory.command.items p.memory.opens) r = puts_from sink q p r (text p.turns p.memory.command.items p.memory.opens) before.out before.fault h.adds in
-      let two = subst (λ (n : ℕ). PutsText sink q (text n p.memory.command.items p.memory.opens) r) k.turns one in
-      let three = subst (λ (b : List ℕ). PutsText sink q (text q.turns b p.memory.opens) r) k.command two in
-      let four = subst (λ (os : List Bool). PutsText sink q (text q.turns q.memory.command.items os) r) k.opens three in
-      let whole : List ℕ = text q.turns q.memory.command.items q.memory.opens in
+      let text : List ℕ → Kept → List ℕ = λ b x. lines_with b (source_number ss t) x t in
+      let one : PutsText sink q (text p.memory.command.items (kept_in p)) r = puts_from sink q p r (text p.memory.command.items (kept_in p)) before.out before.fault h.adds in
+      let two = subst (λ (b : List ℕ). PutsText sink q (text b (kept_in p)) r) k.command one in
+      let three = subst (λ (x : Kept). PutsText sink q (text q.memory.command.items x) r) (same_kept q p k) two in
+      let whole : List ℕ = text q.memory.command.items (kept_in q) in
+      let four : PutsText sink q (lines_by ss q.memory.command.items (kept_in q) (t ∷ [])) r = puts_as sink q r whole (whole ++ []) (sym (append-nil whole)) three in
       record {
-        text = whole ++ [];
-        adds = puts_as sink q r whole (whole ++ []) (sym (append-nil whole)) four;
-        lines = subst (λ (zs : List Source). AreLinesBy zs q.memory.command.items q.turns q.memory.opens (t ∷ []) (whole ++ [])) (sym same) (h.writes, [], refl, refl);
+        adds = subst (λ (zs : List Source). PutsText sink q (lines_by zs q.memory.command.items (kept_in q) (t ∷ [])) r) (sym same) four;
         sections = h.sections ∙ k.sections;
-        turns = h.turns ∙ ap (λ (n : ℕ). next_number n) k.turns;
         command = h.command ∙ k.command;
-        opens = h.opens ∙ ap (λ (os : List Bool). opens_after t.left t.chain os) k.opens;
+        kept = h.kept ∙ ap (λ (x : Kept). kept_after x t) (same_kept q p k);
+        roomy = (h.roomy, tt);
         waits = λ x. inl h.first;
       }
 
@@ -276,25 +311,16 @@ module _ {T : Type 0} (sink : Ghosts T) where
   pub recorded_stopped : (q r : Recorder T) → IsQuiet q r → WaitsFirst r → Recorded q [] r
   recorded_stopped q r h waits =
       let k = h.keeps in
-      record {
-        text = [];
-        adds = puts_from sink q r r [] h.out h.fault (puts_none sink r);
-        lines = refl;
-        sections = k.sections;
-        turns = k.turns;
-        command = k.command;
-        opens = k.opens;
-        waits = λ x. waits;
-      }
+      record { adds = puts_from sink q r r [] h.out h.fault (puts_none sink r); sections = k.sections; command = k.command; kept = same_kept q r k; roomy = tt; waits = λ x. waits }
 
 -- ---- whole plays
 
 module _ {T : Type 0} (sink : Ghosts T) where
   -- all lines were played from a state before a recorder, which wrote their text
-  pub record RecordsPlay (s : State) (ls : List (ℕ × DeckLine)) (a b : Bench) (q r : Recorder T) (old new : ℕ) : Type 0 where
+  pub record RecordsPlay (script : List ℕ) (s : State) (ls : List (ℕ × DeckLine)) (a b : Bench) (q r : Recorder T) (old new : ℕ) : Type 0 where
     pub worn : List (Option FailedWrite)
     pub played : Played s ls worn a b
     pub steps : PlaySteps (plays s ls worn) old new
     pub text : List ℕ
     pub adds : PutsText sink q text r
-    pub shows : ShowsSteps q.sections.now (plays s ls worn) text
+    pub shows : ShowsSteps q.sections.now script (plays s ls worn) text

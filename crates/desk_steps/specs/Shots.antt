@@ -1,8 +1,10 @@
 -- The bytes of a shot, and what differs between two of them.
-use Rattle.std.specs.Prelude.{ℕ, ◌-◌, min, Bool, cond, List, [], ◌++◌, take}
+use Rattle.std.specs.Prelude.{ℕ, ◌+◌, ◌-◌, ◌*◌, min, Bool, cond, nat_le, nat_lt, List, [], ◌++◌, get_or, take, Option, Some, None}
+use Rattle.model_machine.specs.declared.instruction.Ins.{Ins}
 use Rattle.model_machine.specs.Frame.{dynamic_base, public_base}
 use Rattle.desk_json.specs.Json.{changes}
 use Rattle.law_steps.specs.Readings.{Reading, no_reading, sets_between}
+use Rattle.law_steps.specs.Spans.{Look, static_only, target}
 use Rattle.desk_steps.specs.declared.shot.Shot.{Shot}
 
 -- the static bytes
@@ -40,3 +42,30 @@ shown_public with_public s = cond with_public s.public []
 -- the runs of the bytes of a frame that begins which are not zero
 abbrev pub frame_changes : Bool → Shot → List (ℕ × List ℕ)
 frame_changes with_public s = sets_between no_reading (record (shot_reading s) { public = shown_public with_public s })
+
+-- ---- addresses
+
+-- the byte at an address, 0 if no segment has it
+abbrev pub shot_byte : Shot → ℕ → ℕ
+shot_byte s a =
+    cond (nat_lt a s.fixed_len) (get_or s.fixed (min a 4095) 0) (
+    cond (nat_le public_base a) (get_or s.public (min (a - public_base) 1040) 0) (
+    cond (nat_le dynamic_base a) (get_or s.dynamic (min (a - dynamic_base) 511) 0) 0
+    )
+    )
+
+-- the number in the two bytes at an address
+abbrev pub shot_number : Shot → ℕ → ℕ
+shot_number s a = shot_byte s a * 256 + shot_byte s (min (a + 1) 65535)
+
+-- what is seen of the frame
+abbrev pub look_of : Shot → Look
+look_of s = record { size = s.fixed_len; lb = s.lb; dt = s.dt; number = λ a. shot_number s a }
+
+-- the length of a name at the address on top of the stack, as it is read after a turn, if a frame delegated
+abbrev pub name_seen : Bool → Shot → Shot → Option ℕ
+name_seen deep before after = cond deep (Some (shot_byte after (shot_number before (before.dt - 2)))) None
+
+-- the static bytes that an instruction writes, by the shots before and after it
+abbrev pub span_seen : Shot → Shot → Bool → Ins → Option (ℕ × ℕ)
+span_seen before after deep i = static_only before.fixed_len (target i (look_of before) (name_seen deep before after))

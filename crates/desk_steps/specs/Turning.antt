@@ -1,5 +1,5 @@
 -- A card after a turn of a chain, and the shots of the frame that ran it, before the turn and after it.
-use Rattle.std.specs.Prelude.{◌≡◌, ℕ, ◌+◌, ◌-◌, ◌≤◌, Bool, true, false, cond, not, nat_lt, min, List, length, replicate, bytes_eq, Option, Some, None, IsSome}
+use Rattle.std.specs.Prelude.{◌≡◌, ℕ, ◌+◌, ◌-◌, ◌≤◌, Bool, true, false, cond, not, nat_lt, min, List, [], length, replicate, bytes_eq, Option, Some, None, IsSome}
 use Rattle.model_device.specs.Bytes.{lookup}
 use Rattle.model_device.specs.Device.{DeviceState}
 use Rattle.model_machine.specs.declared.instruction.Ins.{Ins}
@@ -9,6 +9,7 @@ use Rattle.model_machine.specs.Chain.{Chain, Follows, Continues, Ends, Outcome, 
 use Rattle.law_steps.specs.Readings.{reading_after, reading_of}
 use Rattle.law_steps.specs.Registers.{frame_after}
 use Rattle.law_steps.specs.Shown.{EndsFrame, is_exit_of}
+use Rattle.law_steps.specs.Writes.{IsRoomy}
 use Rattle.mc_bank.specs.Bank.{app_of}
 use Rattle.mc_machine.specs.declared.outcome.Turn.{Turn}
 use Rattle.mc_machine.specs.Turns.{turn_value}
@@ -84,10 +85,14 @@ lb_shown (Continues ch) name lb = cond (bytes_eq ch.frame.name name) ch.frame.lb
 
 -- ---- shots
 
--- a shot of the frame that a chain runs
+-- a shot of the frame that a chain runs; its segments have their sizes, and its pieces wait while protection is on
 pub record IsBefore (s : Shot) (ch : Chain) : Type 0 where
   pub lb : s.lb ≡ ch.frame.lb
+  pub dt : s.dt ≡ ch.frame.dt
+  pub size : s.fixed_len ≡ length ch.frame.fixed
   pub reading : 512 ≤ length ch.frame.dyn → shot_reading s ≡ reading_of ch.frame ch.public
+  pub roomy : 512 ≤ length ch.frame.dyn → IsRoomy ch.frame ch.public
+  pub guard : ch.frame.protected ≡ false → ch.frame.pieces ≡ []
 
 -- a shot of that frame after a turn
 pub record IsAfter (s : Shot) (n : ℕ) (ch : Chain) : Type 0 where

@@ -1,5 +1,5 @@
 // What is kept of the frames of a play between two turns: their bytes, their protection and the device writes.
-ghost use Rattle.std.specs.Prelude.{◌≡◌, ◌≤◌, ℕ, bytes_eq, get_or, length, option_map, slice_set, take, false, IsSome, Some};
+ghost use Rattle.std.specs.Prelude.{◌≡◌, ◌≤◌, ℕ, bytes_eq, get_or, length, option_map, slice_set, take, false, IsSome, Some, []};
 ghost use Rattle.model_device.specs.Bytes.{lookup};
 ghost use Rattle.mc_bank.specs.Bank.{app_of};
 ghost use Rattle.model_machine.specs.Chain.{depth_of, turn_of, Chain as ModelChain, Follows};
@@ -11,14 +11,16 @@ ghost use Rattle.desk_cover.specs.Watching.{FrameRuns, IsWatched, frame_in, name
 ghost use Rattle.law_steps.specs.Nexts.{open_by};
 ghost use Rattle.law_steps.specs.Readings.{reading_of};
 ghost use Rattle.law_steps.specs.Shown.{exit_public, shown_reading};
+ghost use Rattle.desk_steps.specs.Counted.{count_after, moves_by_shots, waits_by_shots, writes_after};
+ghost use Rattle.desk_steps.specs.Guards.{all_clear};
 ghost use Rattle.desk_steps.specs.Moments.{command_of};
 ghost use Rattle.desk_steps.specs.Shots.{shot_reading};
 ghost use Rattle.desk_steps.specs.Turning.{all_shut, frame_place, is_deeper, is_other, IsAfter, IsBefore, IsWideNext, WasTurn, lb_shown};
 
 use crate::guard::Guard;
-use crate::modes::{abend_of, exit_of, is_exit, open_by};
+use crate::modes::{abend_of, exit_of, open_by};
 use crate::shot::Shot;
-use crate::writes::{device_writes, words_written};
+use crate::writes::{device_writes, turn_words};
 use arrayvec::ArrayVec;
 use mc_bank::Bank;
 use mc_base::Aid;
@@ -38,8 +40,20 @@ pub struct Memory {
     pub before: Shot,
     pub after: Shot,
     pub opens: [bool; 4],
-    guards: [Guard; 4],
-    writes: u32,
+    pub guards: [Guard; 4],
+    pub writes: u32,
+}
+
+// The guards of four frames in which no word waits.
+fn no_guards() -> [Guard; 4]
+    ensures { result ≡ all_clear }
+{
+    [
+        Guard::empty(),
+        Guard::empty(),
+        Guard::empty(),
+        Guard::empty(),
+    ]
 }
 
 // The place of what is kept of a frame, by its depth from 1 to 4.
@@ -71,6 +85,11 @@ fn set_exit(shot: &mut Shot, ins: &Ins)
 fn take_running<N: Nvm>(shot: &mut Shot, card: &Card<N>, chain: &Chain)
     requires { FrameRuns N.state card.now chain.now.running }
     ensures lb { shot.new.lb ≡ chain.now.running.frame.lb }
+    ensures dt { shot.new.dt ≡ chain.now.running.frame.dt }
+    ensures size { shot.new.fixed_len ≡ length (frame_in N.state card.now chain.now.running).fixed }
+    ensures few { shot.new.fixed_len ≤ 4096 }
+    ensures high { shot.new.dt ≤ 0x8200 }
+    ensures whole { length chain.now.public ≡ 1041 }
     ensures reading { 512 ≤ length chain.now.running.frame.dyn
         → shot_reading shot.new ≡ reading_of (frame_in N.state card.now chain.now.running) chain.now.public }
 {
@@ -94,7 +113,7 @@ impl Memory {
             before: Shot::blank(),
             after: Shot::blank(),
             opens: [false; 4],
-            guards: [Guard::empty(); 4],
+            guards: no_guards(),
             writes: 0,
         }
     }
@@ -119,22 +138,27 @@ impl Memory {
         }
     }
 
-    /// Begins a line of the deck, which made no device write: protection is off. A command to an application is kept.
+    /// Begins a line of the deck, which made no device write: protection is off, and no word waits. A command to an
+    /// application is kept.
     pub fn begin_line(&mut self, line: &Line<'_>)
         ensures command { self.new.command.items ≡ command_of (line_of line.now) }
         ensures opens { self.new.opens ≡ all_shut }
+        ensures guards { self.new.guards ≡ all_clear }
+        ensures writes { self.new.writes ≡ 0 }
     {
         self.keep_line(line);
+        self.guards = no_guards();
         self.opens = [false; 4];
-        self.guards[0] = Guard::empty();
         self.writes = 0;
     }
 
-    /// Begins a frame that another one called, whose protection is off.
+    /// Begins a frame that another one called, whose protection is off, and in which no word waits.
     pub fn begin_frame(&mut self, depth: u8)
         ensures command { self.new.command.items ≡ self.old.command.items }
         ensures before { self.new.before ≡ self.old.before }
         ensures opens { self.new.opens ≡ slice_set self.old.opens (frame_place depth) false }
+        ensures guards { self.new.guards ≡ slice_set self.old.guards (frame_place depth) [] }
+        ensures writes { self.new.writes ≡ self.old.writes }
     {
         let place = place_of(depth);
         self.opens[place] = false;
@@ -147,6 +171,8 @@ impl Memory {
         requires { IsWatched N.state card.now }
         ensures command { self.new.command.items ≡ self.old.command.items }
         ensures opens { self.new.opens ≡ self.old.opens }
+        ensures guards { self.new.guards ≡ self.old.guards }
+        ensures writes { self.new.writes ≡ self.old.writes }
         ensures before { (ch : ModelChain) (left : ℕ) → RunsChain N.state card.now ch left
             → IsBefore self.new.before ch }
     {
@@ -162,6 +188,8 @@ impl Memory {
         requires { IsWatched N.state card.now }
         ensures command { self.new.command.items ≡ self.old.command.items }
         ensures opens { self.new.opens ≡ self.old.opens }
+        ensures guards { self.new.guards ≡ self.old.guards }
+        ensures writes { self.new.writes ≡ self.old.writes }
         ensures before { self.new.before ≡ self.old.before }
         ensures lb { (next : Follows) → Shows N.state card.now next
             → self.new.after.lb ≡ lb_shown next aid.now self.old.after.lb }
@@ -185,6 +213,8 @@ impl Memory {
         requires { IsUp N.state card.now }
         ensures command { self.new.command.items ≡ self.old.command.items }
         ensures opens { self.new.opens ≡ self.old.opens }
+        ensures guards { self.new.guards ≡ self.old.guards }
+        ensures writes { self.new.writes ≡ self.old.writes }
         ensures before { self.new.before ≡ self.old.before }
         ensures lb { self.new.after.lb ≡ self.old.after.lb }
         ensures reading { IsSome (lookup (card_in N.state card.now).apps aid.now)
@@ -204,6 +234,8 @@ impl Memory {
         requires watched { IsWatched N.state card.now }
         ensures command { self.new.command.items ≡ self.old.command.items }
         ensures opens { self.new.opens ≡ self.old.opens }
+        ensures guards { self.new.guards ≡ self.old.guards }
+        ensures writes { self.new.writes ≡ self.old.writes }
         ensures before { self.new.before ≡ self.old.before }
         ensures after { (n : ℕ) (ch : ModelChain) → WasTurn N.state card.now n ch turn.now
             → IsBefore self.old.before ch → aid.now ≡ ch.frame.name → IsAfter self.new.after n ch }
@@ -228,27 +260,25 @@ impl Memory {
         ensures opens { self.new.opens ≡ self.old.opens }
         ensures before { self.new.before ≡ self.old.before }
         ensures after { self.new.after ≡ self.old.after }
+        ensures writes { self.new.writes ≡ self.old.writes }
+        ensures guards { self.new.guards ≡ slice_set self.old.guards (frame_place turn.now.depth)
+            (waits_by_shots turn.now self.old.before self.old.after
+            (get_or self.old.opens (frame_place turn.now.depth) false)
+            (get_or self.old.guards (frame_place turn.now.depth) [])) }
+        ensures moves { result ≡ moves_by_shots turn.now self.old.before self.old.after
+            (get_or self.old.opens (frame_place turn.now.depth) false)
+            (get_or self.old.guards (frame_place turn.now.depth) []) }
     {
-        let Some(ins) = turn.ins else {
-            return 0;
-        };
-        if abend_of(&turn.end).is_some() {
-            return 0;
-        }
         let place = place_of(turn.depth);
-        let guard = &mut self.guards[place];
-        if is_exit(&ins) {
-            guard.clear();
-            return 0;
-        }
-        device_writes(words_written(
-            guard,
-            self.opens[place],
-            &ins,
+        let is_on = self.opens[place];
+        let words = turn_words(
+            &mut self.guards[place],
+            is_on,
+            turn,
             &self.before,
             &self.after,
-            turn.flags.z,
-        ))
+        );
+        device_writes(words)
     }
 
     /// Keeps the words that wait after a turn, and returns the first and the last device write of the turn, counted in
@@ -258,19 +288,33 @@ impl Memory {
         ensures opens { self.new.opens ≡ self.old.opens }
         ensures before { self.new.before ≡ self.old.before }
         ensures after { self.new.after ≡ self.old.after }
+        ensures guards { self.new.guards ≡ slice_set self.old.guards (frame_place turn.now.depth)
+            (waits_by_shots turn.now self.old.before self.old.after
+            (get_or self.old.opens (frame_place turn.now.depth) false)
+            (get_or self.old.guards (frame_place turn.now.depth) [])) }
+        ensures writes { self.new.writes ≡ count_after self.old.writes
+            (moves_by_shots turn.now self.old.before self.old.after
+            (get_or self.old.opens (frame_place turn.now.depth) false)
+            (get_or self.old.guards (frame_place turn.now.depth) [])) }
+        ensures range { result ≡ writes_after self.old.writes
+            (moves_by_shots turn.now self.old.before self.old.after
+            (get_or self.old.opens (frame_place turn.now.depth) false)
+            (get_or self.old.guards (frame_place turn.now.depth) [])) }
     {
         let count = self.count_writes(turn);
+        let first = self.writes.saturating_add(1);
+        self.writes = self.writes.saturating_add(count);
         if count == 0 {
             return None;
         }
-        let first = self.writes.saturating_add(1);
-        self.writes = self.writes.saturating_add(count);
         Some((first, self.writes))
     }
 
     /// Keeps the protection of the frame that ran a turn, and returns whether it is on.
     pub fn protection_of(&mut self, turn: &Turn) -> bool
         ensures command { self.new.command.items ≡ self.old.command.items }
+        ensures guards { self.new.guards ≡ self.old.guards }
+        ensures writes { self.new.writes ≡ self.old.writes }
         ensures before { self.new.before ≡ self.old.before }
         ensures after { self.new.after ≡ self.old.after }
         ensures opens { self.new.opens ≡ slice_set self.old.opens (frame_place turn.now.depth) result }

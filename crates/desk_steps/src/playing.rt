@@ -151,7 +151,7 @@ fn play_lines<N: Bench, T: Sink, L: Ledger>(
     steps: &mut Steps<L>,
 ) -> N
     requires { IsUnfused (N.bench device) }
-    ensures records { RecordsPlay T.Sink (start (N.state device).words) deck.now
+    ensures records { RecordsPlay T.Sink text.now (start (N.state device).words) deck.now
         (bench_at N.Bench device)
         (bench_at N.Bench result) recorder.old recorder.new steps.old steps.new }
     ensures image { IsImage (N.state device).words }
@@ -189,11 +189,10 @@ pub fn put_steps<N: Bench, T: Sink, L: Ledger>(
     steps: &mut Steps<L>,
 ) -> Result<(), WriteFault>
     requires { IsUnfused (N.bench dev.old) }
-    // All lines of the deck are played in order. The text has a line for each of them, in order, with its number and
-    // its result, and before it one for each of its turns, in order: all of it but its device writes is that of the
-    // definition. Before the first turn is the line of the first frame, and after a turn that called a frame is its
-    // line.
-    ensures { StepsDeck sections.now deck.now
+    // All lines of the deck are played in order. The text has a line for each of them, in order, with its number, its
+    // statement and its result, and before it one for each of its turns, in order: that of the definition. Before the
+    // first turn is the line of the first frame, and after a turn that called a frame is its line.
+    ensures { StepsDeck sections.now text.now deck.now
         (bench_at N.Bench dev.old) (sunk T.Sink out.old) result
         (bench_at N.Bench dev.new) (sunk T.Sink out.new) steps.old steps.new }
 {

@@ -11,6 +11,8 @@ ghost use Rattle.mc_text.specs.Texts.{sunk};
 ghost use Rattle.desk_json.specs.Sheets.{Adds, PutsOn};
 ghost use Rattle.law_steps.specs.Nexts.{open_by};
 ghost use Rattle.law_steps.specs.Readings.{first_sets};
+ghost use Rattle.desk_steps.specs.Counted.{count_after, moves_by_shots, waits_by_shots, writes_after};
+ghost use Rattle.desk_steps.specs.Guards.{all_clear};
 ghost use Rattle.desk_steps.specs.Lines.{aid_key, frame_text, number_key, sets_key, turn_text};
 ghost use Rattle.desk_steps.specs.Moments.{command_of, moment};
 ghost use Rattle.desk_steps.specs.Recorded.{first_by, next_number, CallsNext, IsQuiet, KeepsState, PutsText, RecordsTurn, StoppedText};
@@ -210,6 +212,8 @@ impl<'s, 'o, T: Sink> Recorder<'s, 'o, T> {
         ensures first { self.new.first ≡ None }
         ensures command { self.new.memory.command.items ≡ command_of (line_of line.now) }
         ensures opens { self.new.memory.opens ≡ all_shut }
+        ensures guards { self.new.memory.guards ≡ all_clear }
+        ensures writes { self.new.memory.writes ≡ 0 }
     {
         self.turns = 0;
         self.first = None;
@@ -263,6 +267,8 @@ impl<'s, 'o, T: Sink> Recorder<'s, 'o, T> {
         ensures turns { self.new.turns ≡ self.old.turns }
         ensures command { self.new.memory.command.items ≡ self.old.memory.command.items }
         ensures opens { self.new.memory.opens ≡ slice_set self.old.memory.opens (frame_place depth) false }
+        ensures guards { self.new.memory.guards ≡ slice_set self.old.memory.guards (frame_place depth) [] }
+        ensures writes { self.new.memory.writes ≡ self.old.memory.writes }
     {
         self.memory.look_before(card);
         self.memory.begin_frame(depth);
@@ -274,13 +280,16 @@ impl<'s, 'o, T: Sink> Recorder<'s, 'o, T> {
     // Writes the line of a turn, whose shots were taken.
     fn write_turn(&mut self, aid: &Aid, turn: &Turn, source: Option<u32>)
         requires { IfSome turn.now.ins Shaped }
-        ensures adds { (wrote : Option ℕ) → (w : Option (ℕ × ℕ)) × PutsText T.Sink self.old
+        ensures adds { (wrote : Option ℕ) → PutsText T.Sink self.old
             (turn_text (next_number self.old.turns) aid.now source (turn_value turn.now wrote) (record {
               lb = self.old.memory.after.lb;
               is_on = open_by (option_map outcome_value turn.now.end) turn.now.ins
                   (get_or self.old.memory.opens (frame_place turn.now.depth) false);
               sets = shot_changes self.old.memory.before self.old.memory.after;
-              writes = w;
+              writes = writes_after self.old.memory.writes
+                  (moves_by_shots turn.now self.old.memory.before self.old.memory.after
+                  (get_or self.old.memory.opens (frame_place turn.now.depth) false)
+                  (get_or self.old.memory.guards (frame_place turn.now.depth) []));
             })) self.new }
         ensures sections { self.new.sections.now ≡ self.old.sections.now }
         ensures turns { self.new.turns ≡ next_number self.old.turns }
@@ -288,6 +297,14 @@ impl<'s, 'o, T: Sink> Recorder<'s, 'o, T> {
         ensures opens { self.new.memory.opens ≡ slice_set self.old.memory.opens (frame_place turn.now.depth)
             (open_by (option_map outcome_value turn.now.end) turn.now.ins
             (get_or self.old.memory.opens (frame_place turn.now.depth) false)) }
+        ensures guards { self.new.memory.guards ≡ slice_set self.old.memory.guards (frame_place turn.now.depth)
+            (waits_by_shots turn.now self.old.memory.before self.old.memory.after
+            (get_or self.old.memory.opens (frame_place turn.now.depth) false)
+            (get_or self.old.memory.guards (frame_place turn.now.depth) [])) }
+        ensures writes { self.new.memory.writes ≡ count_after self.old.memory.writes
+            (moves_by_shots turn.now self.old.memory.before self.old.memory.after
+            (get_or self.old.memory.opens (frame_place turn.now.depth) false)
+            (get_or self.old.memory.guards (frame_place turn.now.depth) [])) }
     {
         let writes = self.memory.writes_of(turn);
         let is_on = self.memory.protection_of(turn);

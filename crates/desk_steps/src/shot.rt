@@ -6,7 +6,8 @@ ghost use Rattle.mc_bank.specs.Bank.{app_of};
 ghost use Rattle.mc_card.specs.Parts.{IsUp, card_in};
 ghost use Rattle.mc_segs.specs.HeldFrames.{CanRun, frame_on_bank};
 ghost use Rattle.law_steps.specs.Readings.{reading_of};
-ghost use Rattle.desk_steps.specs.Shots.{dynamics, shot_reading, statics};
+ghost use Rattle.law_steps.specs.Spans.{look_register, look_resolve};
+ghost use Rattle.desk_steps.specs.Shots.{dynamics, look_of, shot_byte, shot_number, shot_reading, statics};
 
 use mc_bank::Bank;
 use mc_base::{Aid, bytes_of};
@@ -77,6 +78,8 @@ impl Shot {
     /// Becomes equal to another shot.
     pub fn copy(&mut self, other: &Shot)
         ensures lb { self.new.lb ≡ other.now.lb }
+        ensures dt { self.new.dt ≡ other.now.dt }
+        ensures size { self.new.fixed_len ≡ other.now.fixed_len }
         ensures reading { shot_reading self.new ≡ shot_reading other.now }
     {
         self.fixed = other.fixed;
@@ -91,6 +94,11 @@ impl Shot {
     pub fn take<B: Bank>(&mut self, bank: &B, frame: &Frame, public: &Public)
         requires { CanRun B.Bank bank.now frame.now }
         ensures lb { self.new.lb ≡ frame.now.frame.lb }
+        ensures dt { self.new.dt ≡ frame.now.frame.dt }
+        ensures size { self.new.fixed_len ≡ length (frame_on_bank B.Bank bank.now frame.now).fixed }
+        ensures few { self.new.fixed_len ≤ 4096 }
+        ensures high { self.new.dt ≤ 0x8200 }
+        ensures whole { length public.now ≡ 1041 }
         ensures reading { 512 ≤ length frame.now.frame.dyn
             → shot_reading self.new ≡ reading_of (frame_on_bank B.Bank bank.now frame.now) public.now }
     {
@@ -169,7 +177,9 @@ impl Shot {
     }
 
     // The byte at an address, 0 if no segment has it.
-    fn byte_at(&self, address: u16) -> u8 {
+    fn byte_at(&self, address: u16) -> u8
+        ensures { result ≡ shot_byte self.now address }
+    {
         let at = address as usize;
         if address < self.fixed_len {
             return self.fixed[at.min(4095)];
@@ -185,23 +195,30 @@ impl Shot {
 
     /// Returns the number in the byte at an address.
     pub fn count_at(&self, address: u16) -> u16
-        ensures { result ≤ 255 }
+        ensures value { result ≡ shot_byte self.now address }
+        ensures byte { result ≤ 255 }
     {
         self.byte_at(address) as u16
     }
 
     /// Returns the number in the two bytes at an address.
-    pub fn number_at(&self, address: u16) -> u16 {
-        self.count_at(address) * 256 + self.count_at(address.wrapping_add(1))
+    pub fn number_at(&self, address: u16) -> u16
+        ensures { result ≡ shot_number self.now address }
+    {
+        self.count_at(address) * 256 + self.count_at(address.saturating_add(1))
     }
 
     /// Returns the number in the two bytes that begin some bytes below DT.
-    pub fn number_below_top(&self, count: u16) -> u16 {
-        self.number_at(self.dt.wrapping_sub(count))
+    pub fn number_below_top(&self, count: u16) -> u16
+        ensures { result ≡ shot_number self.now (self.now.dt - count) }
+    {
+        self.number_at(self.dt.saturating_sub(count))
     }
 
     // The value of the register with a tag from 1 to 7.
-    fn register(&self, tag: u8) -> u16 {
+    fn register(&self, tag: u8) -> u16
+        ensures { result ≡ look_register (look_of self.now) tag }
+    {
         match tag {
             1 => 0,
             2 => self.fixed_len,
@@ -214,7 +231,9 @@ impl Shot {
     }
 
     /// Returns the address of the register with a tag from 1 to 7 plus an offset, or `None` if the sum is no address.
-    pub fn resolve(&self, tag: u8, off: i16) -> Option<u16> {
+    pub fn resolve(&self, tag: u8, off: i16) -> Option<u16>
+        ensures { result ≡ look_resolve (look_of self.now) tag off }
+    {
         self.register(tag).checked_add_signed(off)
     }
 }

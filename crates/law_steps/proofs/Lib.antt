@@ -7,3 +7,10 @@ pub mod PlaySessions
 pub mod RegistersAfter
 pub mod NextFrames
 pub mod Opens
+pub mod BlockSizes
+pub mod WaitingWords
+pub mod WrittenBytes
+pub mod TurnWrites
+pub mod Waits
+pub mod SeenSpans
+pub mod DoneRows

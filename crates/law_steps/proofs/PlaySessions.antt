@@ -1,19 +1,17 @@
 -- Each application of a play has at most the most session bytes, and so each command of a play has the sizes of the law.
-use Rattle.std.proofs.Common.{◌≡◌, ℕ, ◌+◌, ◌-◌, ◌≤◌, Bool, true, false, cond, not, List, [], ◌∷◌, ◌++◌, take, drop, length, Option, Some, None, refl, sym, ap, subst, ◌∙◌, arith, inl}
+use Rattle.std.proofs.Common.{◌≡◌, ℕ, ◌+◌, ◌-◌, ◌≤◌, Bool, true, false, cond, not, List, [], ◌∷◌, ◌++◌, take, drop, length, Option, Some, None, refl, sym, subst, inl}
 use Rattle.std.specs.Prelude.{⊤, ◌==◌, ◌&&◌, nat_lt, nat_le, bytes_eq, slice_index}
-use Rattle.std.specs.List.{AllByRecursion}
 use Rattle.std.proofs.lemmas.Bool.{and_parts, leb-true}
 use Rattle.model_device.specs.declared.cause.Cause.{Cause}
 use Rattle.model_device.specs.declared.device.Stop.{Stop}
 use Rattle.model_device.specs.declared.device.Stop.TheVariants as stop
-use Rattle.model_device.specs.Bytes.{lookup, insert, remove, zeros, up, be2, has_name}
+use Rattle.model_device.specs.Bytes.{lookup, insert, remove, zeros, be2, has_name}
 use Rattle.model_device.specs.Card.{App, Card, Block, words_of_lengths, record_at, name_in, name_at, app_at, apps_of, blocks, words_after, means}
 use Rattle.model_device.specs.Image.{Two, look, after}
 use Rattle.model_device.specs.Layout.{is_record, bad_record, fault}
 use Rattle.model_device.specs.Limits.{most_static, most_code, most_session, most_record}
 use Rattle.model_device.specs.PowerUp.{Base, OnCard, AtFault, base_after_migration, base_of}
 use Rattle.model_device.specs.Stopped.{cost, stands}
-use Rattle.model_device.proofs.ImageLemmas.{all_append}
 use Rattle.model_device.proofs.LayoutLemmas.{sound_after}
 use Rattle.model_device.proofs.MapLemmas.{same_name, lookup_inserted_lem, lookup_beside, lookup_removed_lem, lookup_left}
 use Rattle.model_machine.specs.Apdu.{ApduParts}
@@ -34,7 +32,6 @@ use Rattle.law_manager.specs.OnCard as made
 use Rattle.law_manager.specs.Orders.{Order, order_of}
 use Rattle.law_manager.proofs.OnCard.{command_made, selects_law}
 use Rattle.law_manager.proofs.Plains.{plains_are}
-use Rattle.law_machine.specs.Limited.{AreLimited, session_in}
 use Rattle.law_family.specs.Begins.{BehindDone, OnEachRun, OnLine, OnPassed, OnRouted, OnSent, OnTaken, HoldsWherever}
 use Rattle.law_family.proofs.EachRun.{each_run}
 use Rattle.law_family.proofs.PlaySizes.{good_records}

@@ -1,5 +1,5 @@
 -- LB and the protection of the frame that ran a turn, after an abend, after an exit, and else.
-use Rattle.std.proofs.Common.{◌≡◌, ◌≢◌, ℕ, zero, suc, ◌-◌, Bool, true, false, cond, ◌||◌, List, [], ◌∷◌, Option, Some, None, Result, Ok, Err, refl, sym, ap, subst, ◌∙◌}
+use Rattle.std.proofs.Common.{◌≡◌, ◌≢◌, ℕ, zero, suc, Bool, true, false, cond, ◌||◌, List, [], Option, Some, None, Result, Ok, Err, refl, sym, ap, subst, ◌∙◌}
 use Rattle.std.specs.Prelude.{◌==◌, bytes_eq, length, nat_le}
 use Rattle.model_device.specs.Bytes.{lookup}
 use Rattle.model_device.specs.Card.{App}
@@ -14,7 +14,7 @@ use Rattle.model_machine.specs.Frame.{Frame, Effect, Place, Static, Dynamic, Pub
 use Rattle.model_machine.specs.Primitives.{Around, Delegates, Done, Exits, Goes, Then, Primitive, DelegateTo, DelegatorAid, primitive}
 use Rattle.model_machine.specs.Row.{RowEnd, Abends, Does, causes, effect, first_cause, row}
 use Rattle.model_machine.specs.Chain.{Chain, Follows, Continues, Ends, Reply, Abended, around, called_app, chain_after_call, chain_after_effect, code_in, depth_of, end_of, follows, frame_at, is_active, reported_frame, row_turn, turn_of, turn_of_chain, turn_of_fetch}
-use Rattle.law_rows.specs.Shapes.{Act, Stays, Answers, Jumps, Calls, Returns, Pushes, Replaces, Writes, Protects, Shape, act_effect, delegator_shape, meaning, pair_shape, prim_shape, shape, with_flags}
+use Rattle.law_rows.specs.Shapes.{Act, Stays, Answers, Jumps, Calls, Returns, Pushes, Replaces, Writes, Protects, act_effect, delegator_shape, meaning, pair_shape, prim_shape, shape, with_flags}
 use Rattle.law_rows.specs.Keeping.{Keeps, OnDone, OnLeave}
 use Rattle.law_rows.proofs.Keeping.{on_done, row_keeps}
 use Rattle.law_rows.proofs.RowShapes.{shapes}

@@ -4,3 +4,5 @@ pub mod Registers
 pub mod Nexts
 pub mod Replays
 pub mod Laws
+pub mod Writes
+pub mod Spans

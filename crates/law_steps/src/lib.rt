@@ -8,6 +8,7 @@ mod rows;
 ghost use Rattle.law_steps.specs.Laws.{AfterLaw, ExactSetsLaw, LongestRunsLaw, PlaysReplayLaw, ReplayLaw, SizesLaw};
 ghost use Rattle.law_steps.specs.Nexts.{NextLaw, OpensLaw};
 ghost use Rattle.law_steps.specs.Registers.{RegistersLaw};
+ghost use Rattle.law_steps.specs.Writes.{WritesLaw};
 
 /// The runs that are written of two segments have exactly the addresses whose bytes differ, each with its new byte.
 /// They ascend, and each is as long as it can be.
@@ -47,4 +48,10 @@ pub fn turns_lead_to_the_next_frame()
 /// Protection that is computed turn by turn, from the instructions alone, is that of each frame.
 pub fn turns_give_protection()
     ensures opens { OpensLaw }
+{}
+
+/// The device writes of a turn follow from its instruction, from protection and from the words that wait for a commit,
+/// and these are computed turn by turn.
+pub fn turns_show_writes()
+    ensures writes { WritesLaw }
 {}

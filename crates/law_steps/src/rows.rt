@@ -1,9 +1,11 @@
-//! Worked rows: the runs of two readings, and memory by lines.
+//! Worked rows: the runs of two readings, memory by lines, and device writes.
 #![tactic(auto)]
 
-ghost use Rattle.std.specs.Prelude.{◌≡◌, [], ◌∷◌};
+ghost use Rattle.std.specs.Prelude.{◌≡◌, [], ◌∷◌, true, false, Some, None};
 ghost use Rattle.law_steps.specs.Readings.{no_reading, sets_between};
+ghost use Rattle.law_rows.specs.Shapes.{Writes};
 ghost use Rattle.law_steps.specs.Replays.{BeginsFrame, RunsTurn, memory_of, no_memory};
+ghost use Rattle.law_steps.specs.Writes.{act_span, now_by, span_now, span_waits, waits_by, with_waits, words_under, writes_of_words};
 
 /// A static byte that changed, a byte that was pushed, and two public bytes that changed side by side are three runs.
 pub fn runs_of_three_segments()
@@ -33,4 +35,30 @@ pub fn memory_of_two_frames()
         ∷ BeginsFrame 2 ((3, 6 ∷ []) ∷ []) ∷ RunsTurn 2 0x8000 ((3, 9 ∷ []) ∷ []) ∷ [])).frames 1 3 ≡ 5 }
     ensures public { (memory_of no_memory (BeginsFrame 1 ((0xC000, 5 ∷ []) ∷ []) ∷ BeginsFrame 2 []
         ∷ RunsTurn 2 0x8000 ((0xC000, 9 ∷ []) ∷ []) ∷ [])).public 0xC000 ≡ 9 }
+{}
+
+/// Four bytes from the seventh on lie in two words. They are written at once, or wait while protection is on.
+pub fn words_of_bytes()
+    ensures span { act_span (Writes 6 4 (1 ∷ 2 ∷ 3 ∷ 4 ∷ [])) 16 ≡ Some (6, 4) }
+    ensures outside { act_span (Writes 0x8001 1 (1 ∷ [])) 16 ≡ None }
+    ensures words { words_under (6, 4) ≡ 2 }
+    ensures now { span_now false (Some (6, 4)) ≡ 2 }
+    ensures later { span_now true (Some (6, 4)) ≡ 0 }
+    ensures waits { span_waits true (Some (6, 4)) (1 ∷ 5 ∷ []) ≡ 0 ∷ 1 ∷ 5 ∷ [] }
+    ensures still { span_waits false (Some (6, 4)) (1 ∷ 5 ∷ []) ≡ 1 ∷ 5 ∷ [] }
+{}
+
+/// A commit writes each word that waits once, however often it was written, and none waits then; modes 0 and 2 drop them.
+pub fn commits_write_what_waits()
+    ensures twice { with_waits 4 2 (with_waits 3 2 []) ≡ 3 ∷ 4 ∷ 5 ∷ [] }
+    ensures commit { now_by (Some 3) true None (3 ∷ 4 ∷ 5 ∷ []) ≡ 3 }
+    ensures drop { now_by (Some 2) true None (3 ∷ 4 ∷ 5 ∷ []) ≡ 0 }
+    ensures after { waits_by (Some 3) true None (3 ∷ 4 ∷ 5 ∷ []) ≡ [] }
+{}
+
+/// The device writes of an atomic write: six of one word, twelve of four, none of none.
+pub fn writes_of_some_words()
+    ensures none { writes_of_words 0 ≡ 0 }
+    ensures one { writes_of_words 1 ≡ 6 }
+    ensures four { writes_of_words 4 ≡ 12 }
 {}

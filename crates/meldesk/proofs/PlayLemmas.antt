@@ -61,8 +61,8 @@ pub is_covered : (name : List ℕ) (ss : List Source) (ls : List (ℕ × DeckLin
 is_covered name ss ls s a x r b y old new status h = record { result = r; status = status; text = h.text; sums = h.sums.deck; covers = h.covers }
 
 -- a deck whose steps were written
-pub is_stepped : (ss : List Source) (ls : List (ℕ × DeckLine)) (s : Status) (a : Bench) (x : Sunk) (r : Result (Unit {0}) Fault) (b : Bench) (y : Sunk) (old new : ℕ) → s ≡ status_after_writing Done r → StepsDeck ss ls a x r b y old new → IsStepped ss ls s a x b y
-is_stepped ss ls s a x r b y old new status h = record { result = r; status = status; text = h.text; sums = h.sums.deck; shows = h.shows }
+pub is_stepped : (ss : List Source) (deck : List ℕ) (ls : List (ℕ × DeckLine)) (s : Status) (a : Bench) (x : Sunk) (r : Result (Unit {0}) Fault) (b : Bench) (y : Sunk) (old new : ℕ) → s ≡ status_after_writing Done r → StepsDeck ss deck ls a x r b y old new → IsStepped ss deck ls s a x b y
+is_stepped ss deck ls s a x r b y old new status h = record { result = r; status = status; text = h.text; sums = h.sums.deck; shows = h.shows }
 
 -- a deck whose coverage was not wholly written
 pub cover_fault : (name : List ℕ) (ss : List Source) (ls : List (ℕ × DeckLine)) (a : Bench) (x : Sunk) (r : Result (Unit {0}) CoverFault) (b : Bench) (y : Sunk) (old new : ℕ) → r ≡ Err cover.WriteFault → CoversBy name ss ls a x r b y old new → IsCovered name ss ls WriteFault a x b y
@@ -73,14 +73,14 @@ cover_fault name ss ls a x r b y old new is h =
 -- ---- statuses
 
 -- the result of a play that was shown
-shown_result : (p : Shown) (ss : List Source) (ls : List (ℕ × DeckLine)) (s : Status) (a : Bench) (x : Sunk) (b : Bench) (y : Sunk) → IsShown p ss ls s a x b y → (r : Result (Unit {0}) Fault) × (s ≡ status_after_writing Done r)
-shown_result Trace ss ls s a x b y h = (h.result, h.status)
-shown_result Steps ss ls s a x b y h = (h.result, h.status)
-shown_result (Coverage name) ss ls s a x b y h = (h.result, h.status)
+shown_result : (p : Shown) (ss : List Source) (deck : List ℕ) (ls : List (ℕ × DeckLine)) (s : Status) (a : Bench) (x : Sunk) (b : Bench) (y : Sunk) → IsShown p ss deck ls s a x b y → (r : Result (Unit {0}) Fault) × (s ≡ status_after_writing Done r)
+shown_result Trace ss deck ls s a x b y h = (h.result, h.status)
+shown_result Steps ss deck ls s a x b y h = (h.result, h.status)
+shown_result (Coverage name) ss deck ls s a x b y h = (h.result, h.status)
 
 says_shown : (Kept : Type 0) (p : Shown) (s : Status) (a : Outside) (old new : Bench) → ShowsDraft p s a old new → ShowSays Kept p s a old new
 says_shown Kept p s a old new w =
-    let r = shown_result p w.desk.sources w.desk.lines s old a.out_old new a.out w.shown in
+    let r = shown_result p w.desk.sources w.desk.deck w.desk.lines s old a.out_old new a.out w.shown in
     filter.says_done (ShowDone Kept p a old new) (ShowReadFault Kept a) (ShowNoMemory Kept a) r.0 s r.1 (record { verdict = Plays w.desk; due = w.due; done = w.shown })
 
 says_rejected : (Kept : Type 0) (p : Shown) (i j : Stream) (x m y : Sunk) (old new : Bench) (e : Rejection) (s : Status) → m ≡ x → Kept → RejectsPlay (around i j x m) e → RejectionEnds e x s y → ShowSays Kept p s (around i j x y) old new
@@ -104,17 +104,17 @@ says_play Kept p i j x m y old new (Err e) s shows rejects same kept done ends =
 -- ---- completeness
 
 -- a trace that was written completely
-shown_whole : (p : Shown) (ss : List Source) (ls : List (ℕ × DeckLine)) (s : Status) (a : Bench) (x : Sunk) (b : Bench) (y : Sunk) → (Rose x.faults y.faults → ⊥) → IsShown p ss ls s a x b y → s ≡ Done
-shown_whole Trace ss ls s a x b y quiet h = by_result h.result h.status h.plays
+shown_whole : (p : Shown) (ss : List Source) (deck : List ℕ) (ls : List (ℕ × DeckLine)) (s : Status) (a : Bench) (x : Sunk) (b : Bench) (y : Sunk) → (Rose x.faults y.faults → ⊥) → IsShown p ss deck ls s a x b y → s ≡ Done
+shown_whole Trace ss deck ls s a x b y quiet h = by_result h.result h.status h.plays
   where
     by_result : {f : _} (r : Result (Unit {0}) Fault) → s ≡ status_after_writing Done r → PlaysDeck f ls a x r b y → s ≡ Done
     by_result (Ok u) e plays = e
     by_result (Err w) e plays = absurd (quiet plays.from.text.cause)
-shown_whole Steps ss ls s a x b y quiet h = written_whole x y h.text Done s h.result quiet h.status h.sums.text
-shown_whole (Coverage name) ss ls s a x b y quiet h = written_whole x y h.text Done s h.result quiet h.status h.sums.text
+shown_whole Steps ss deck ls s a x b y quiet h = written_whole x y h.text Done s h.result quiet h.status h.sums.text
+shown_whole (Coverage name) ss deck ls s a x b y quiet h = written_whole x y h.text Done s h.result quiet h.status h.sums.text
 
 play_whole : (Kept : Type 0) (p : Shown) (v : PlayVerdict) (s : Status) (a : Outside) (old new : Bench) → (Rose a.out_old.faults a.out.faults → ⊥) → IsShownAs Kept p v s a old new → s ≡ status_of_play v
-play_whole Kept p (Plays d) s a old new quiet h = shown_whole p d.sources d.lines s old a.out_old new a.out quiet h
+play_whole Kept p (Plays d) s a old new quiet h = shown_whole p d.sources d.deck d.lines s old a.out_old new a.out quiet h
 play_whole Kept p (Refuses line) s a old new quiet h = written_whole a.out_old a.out line Failed s (h.0).result quiet (h.0).status (h.0).written
 
 whole : (Kept : Type 0) (p : Shown) (a : Outside) (old new : Bench) (s : Status) → IsWithoutFault a → ShowDone Kept p a old new s → ShowWhole Kept p a old new s

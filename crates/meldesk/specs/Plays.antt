@@ -58,30 +58,30 @@ pub record IsCovered (name : List ℕ) (ss : List Source) (ls : List (ℕ × Dec
   pub covers : let ts = plays (start dev_old.device.words) ls sums.worn in length (flat_map turns_of_step ts) ≤ most_count → text ≡ coverage name ss ts
 
 -- The deck of a draft was played and a text written, completely or up to a fault: a line for each line of the deck, in
--- order, and before it one for each of its turns.
-pub record IsStepped (ss : List Source) (ls : List (ℕ × DeckLine)) (s : Status) (dev_old : Bench) (out_old : Sunk) (dev : Bench) (out : Sunk) : Type 0 where
+-- order, with its statement in the deck's text, and before it one for each of its turns.
+pub record IsStepped (ss : List Source) (deck : List ℕ) (ls : List (ℕ × DeckLine)) (s : Status) (dev_old : Bench) (out_old : Sunk) (dev : Bench) (out : Sunk) : Type 0 where
   pub result : Result (Unit {0}) Fault
   pub status : s ≡ status_after_writing Done result
   pub text : List ℕ
   pub sums : SumsDeck (λ ts. text) ls dev_old out_old result dev out
-  pub shows : ShowsSteps ss (plays (start dev_old.device.words) ls sums.worn) text
+  pub shows : ShowsSteps ss deck (plays (start dev_old.device.words) ls sums.worn) text
 
--- what a job shows of the play of a deck under the sections of its draft
-abbrev pub IsShown : Shown → List Source → List (ℕ × DeckLine) → Status → Bench → Sunk → Bench → Sunk → Type 0
-IsShown Trace ss ls s dev_old out_old dev out = IsTraced ss ls s dev_old out_old dev out
-IsShown Steps ss ls s dev_old out_old dev out = IsStepped ss ls s dev_old out_old dev out
-IsShown (Coverage name) ss ls s dev_old out_old dev out = IsCovered name ss ls s dev_old out_old dev out
+-- what a job shows of the play of a deck, with its text, under the sections of its draft
+abbrev pub IsShown : Shown → List Source → List ℕ → List (ℕ × DeckLine) → Status → Bench → Sunk → Bench → Sunk → Type 0
+IsShown Trace ss deck ls s dev_old out_old dev out = IsTraced ss ls s dev_old out_old dev out
+IsShown Steps ss deck ls s dev_old out_old dev out = IsStepped ss deck ls s dev_old out_old dev out
+IsShown (Coverage name) ss deck ls s dev_old out_old dev out = IsCovered name ss ls s dev_old out_old dev out
 
 -- the verdict on a draft was carried out; a device on which nothing is played is unchanged
 abbrev pub IsShownAs : Type 0 → Shown → PlayVerdict → Status → Outside → Bench → Bench → Type 0
-IsShownAs Kept p (Plays d) s a dev_old dev = IsShown p d.sources d.lines s dev_old a.out_old dev a.out
+IsShownAs Kept p (Plays d) s a dev_old dev = IsShown p d.sources d.deck d.lines s dev_old a.out_old dev a.out
 IsShownAs Kept p (Refuses line) s a dev_old dev = IsWritten Failed line s a.out_old a.out × Kept
 
 -- the draft was read, its deck played, and what is due shown
 pub record ShowsDraft (p : Shown) (s : Status) (a : Outside) (dev_old dev : Bench) : Type 0 where
   pub desk : Desk
   pub due : IsRead Refuses IsPlayOf a.input_old a.input (Plays desk)
-  pub shown : IsShown p desk.sources desk.lines s dev_old a.out_old dev a.out
+  pub shown : IsShown p desk.sources desk.deck desk.lines s dev_old a.out_old dev a.out
 
 -- why nothing was played: a line that refuses the draft, one call of the source that failed, or out of memory, in which
 -- case none did

@@ -47,7 +47,7 @@ fn write_steps<T: Sink, N: Bench, L: Ledger>(
     steps: &mut Steps<L>,
 ) -> Status
     requires { IsUnfused (N.bench dev.old) }
-    ensures { IsStepped sections.now deck.now result (bench_at N.Bench dev.old)
+    ensures { IsStepped sections.now text.now deck.now result (bench_at N.Bench dev.old)
         (sunk T.Sink out.old) (bench_at N.Bench dev.new) (sunk T.Sink out.new) }
 {
     ended(
@@ -93,7 +93,7 @@ fn play_deck<T: Sink, N: Bench, L: Ledger>(
     steps: &mut Steps<L>,
 ) -> Result<Status, Rejection>
     requires { IsUnfused (N.bench dev.old) }
-    ensures shown { IfOk result (λ s. IsShown (shown_by play.entry) sections.now deck.now s
+    ensures shown { IfOk result (λ s. IsShown (shown_by play.entry) sections.now text.now deck.now s
         (bench_at N.Bench dev.old) (sunk T.Sink out.old)
         (bench_at N.Bench dev.new) (sunk T.Sink out.new)) }
     ensures memory { IfErr result (λ e. e ≡ rejection.NoMemory) }
@@ -117,8 +117,9 @@ fn play_desk<T: Sink, N: Bench, L: Ledger>(
     steps: &mut Steps<L>,
 ) -> Result<Status, Rejection>
     requires { IsUnfused (N.bench dev.old) }
-    ensures shown { IfOk result (λ s. IsShown (shown_by play.entry) (sources_value desk.now.sources.items) desk.now.deck
-        s (bench_at N.Bench dev.old) (sunk T.Sink out.old)
+    ensures shown { IfOk result (λ s. IsShown (shown_by play.entry)
+        (sources_value desk.now.sources.items) desk.now.text.items desk.now.deck s
+        (bench_at N.Bench dev.old) (sunk T.Sink out.old)
         (bench_at N.Bench dev.new) (sunk T.Sink out.new)) }
     ensures memory { IfErr result (λ e. e ≡ rejection.NoMemory) }
     ensures out { IfErr result (λ e. sunk T.Sink out.new ≡ sunk T.Sink out.old) }
