@@ -97,7 +97,7 @@ class Adapter:
         except (Failed, Refused, BadExpression, cuts.NoCut) as why:
             self.wire.refuse(request, str(why))
             return
-        except (KeyError, IndexError, TypeError, ValueError) as why:
+        except (AttributeError, KeyError, IndexError, TypeError, ValueError) as why:
             self.wire.refuse(request, f"{name} is malformed: {why!r}")
             return
         self.wire.answer(request, body)
@@ -471,6 +471,8 @@ class Adapter:
         return {"variables": found[start:start + (given.get("count") or len(found))]}
 
     def on_evaluate(self, given: dict) -> dict:
+        if not isinstance(given["expression"], str):
+            raise BadExpression("no expression")
         text, spot = given["expression"].strip(), self.spot(given.get("frameId"))
         if given.get("context") == "repl":
             said = self.order(text.split(), spot)

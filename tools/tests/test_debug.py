@@ -245,6 +245,7 @@ def test_wrong_requests_are_refused(client, draft):
     assert "malformed" in client.refused("scopes")
     assert "no name" in client.refused("evaluate", expression="nothing", frameId=1)
     assert "not whole" in client.refused("evaluate", expression="SB[5],4", frameId=1)
+    assert "no expression" in client.refused("evaluate", expression=None, frameId=1)
     assert not client.ask("dataBreakpointInfo", name="1 + 1", frameId=1)["dataId"]
 
 
