@@ -23,7 +23,7 @@ use Rattle.model_prove.specs.Keys.{Start, Delegated, OfClass, Call, PlaceKey, Kn
 use Rattle.model_prove.specs.Splits.{Scene, stand_in, with_values, deciders, later_deciders, Choice, combinations, few_combinations}
 use Rattle.model_prove.specs.Reach.{Reach, Coarse, PushesAny, Shifts, Compares, WritesWithin, Leads, coarse, some_reached, facts_not_reached, compare_not_reached, calls_hit, may_have_bad_length, may_miss, known_causes, target_choices, takes_target}
 use Rattle.model_prove.specs.Reach as reach
-use Rattle.model_prove.specs.Work.{Operand, AtAddress, These, Digitwise, Work, AsShaped, Copies, Works, Searches, AnyZ, NoFact, work}
+use Rattle.model_prove.specs.Work.{Operand, AtAddress, These, Digitwise, Work, AsShaped, Copies, Works, Searches, AnyZ, Counted, NoFact, work}
 use Rattle.model_prove.specs.Arrivals.{Setting, Arrival, AtPlace, AtMoment, Breaks, Lost, arrive, static_size, settled, idle, stopped, abended, fails, after_turn, Lengths, lengths_of, la_at, some_value, exited}
 
 -- ---- a place and what is known there
@@ -67,6 +67,11 @@ sets b = map (λ v. v ∷ []) b
 -- n bytes without a fact
 abbrev pub any_bytes : ℕ → List Set
 any_bytes n = replicate n all_bytes
+
+-- bytes behind their number: the number is known, and each of them has no fact
+abbrev pub counted_sets : List ℕ → List Set
+counted_sets [] = []
+counted_sets (n ∷ b) = (n ∷ []) ∷ any_bytes (length b)
 
 -- ---- acts
 
@@ -281,6 +286,7 @@ spots s h (Copies from) p =
 spots s h (Works d) p = map (lowered h.dt) (works_to d p)
 spots s h (Searches value table n) p = searched (values_at p.known.bytes value) (values_from p.known.bytes table n) (lowered h.dt p)
 spots s h AnyZ p = flagged false (record { c = false; z = true }) (lowered h.dt p) ∷ flagged false (record { c = false; z = false }) (lowered h.dt p) ∷ []
+spots s h Counted p = with_flags h.flags (acted s h.act (counted_sets (shaped_bytes h.act)) (lowered h.dt p)) ∷ []
 spots s h NoFact p = with_flags h.flags (acted s h.act (any_bytes (length (shaped_bytes h.act))) (lowered h.dt p)) ∷ []
 
 -- whether a row changes what power leaves: a write of static bytes that does not wait, or a commit under protection

@@ -1,5 +1,5 @@
 -- What a row does to the bytes that it works on, beside its shape: the bytes that it writes or pushes are those of the
--- shape, copies, the result of a digitwise operation, or have no fact.
+-- shape, copies, the result of a digitwise operation, have no fact, or have none behind a first byte, their number.
 use Rattle.std.specs.Prelude.{ℕ, ◌+◌, ◌-◌, ◌*◌, Bool, true, false, cond, not, ◌==◌, nat_lt, List, [], ◌∷◌, ◌++◌, length, take, drop, slice_index, replicate, Option, Some, None}
 use Rattle.model_machine.specs.declared.instruction.Ins.{Ins}
 use Rattle.model_machine.specs.declared.instruction.Ins.TheVariants as ins
@@ -32,6 +32,7 @@ pub data Work : Type 0 where
   Works : (digitwise : Digitwise) → Work
   Searches : (value : ℕ) (table : ℕ) (n : ℕ) → Work
   AnyZ : Work
+  Counted : Work
   NoFact : Work
 
 -- an operation against the top of the stack, or a number
@@ -56,7 +57,7 @@ prim_work Lookup args f public = Searches (f.dt - 3) (number_below_top f 2 + 1) 
 prim_work MemoryCompare args f public = works Minus (number_below_top f 4) (number_below_top f 6) (AtAddress (number_below_top f 2)) false true
 prim_work MemoryCopy args f public = Copies (number_below_top f 2)
 prim_work DelegateTo args f public = AsShaped
-prim_work DelegatorAid args f public = NoFact
+prim_work DelegatorAid args f public = Counted
 prim_work Digest args f public = NoFact
 prim_work CompareFixed args f public = works Minus (number_below_top f 4) (slice_index args 0) (AtAddress (number_below_top f 2)) false true
 prim_work CopyFixed args f public = Copies (number_below_top f 2)

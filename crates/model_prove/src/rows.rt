@@ -45,6 +45,14 @@ pub fn a_call_in_a_call()
         ≡ Ok (codes "idle:\nsession:\nproved keys 12\n") }
 {}
 
+/// The name of a delegator is written after its length, which is 5 to 16, and its bytes have any values. What lies past
+/// the longest name stays, and where nobody delegated nothing is written.
+pub fn a_delegator_has_a_name()
+    ensures { proof_of 60 (deck_of (codes "LOADA SB[0]\nPRIM 8\nEXIT\n") (codes "18 0")
+        (codes "#@ always SB[0] 0 16\n"))
+        ≡ Ok (codes "idle: SB[0] 00,05-10 SB[17] 00\nsession: SB[0] 00,05-10 SB[17] 00\nproved keys 8\n") }
+{}
+
 /// Tables are closed once nothing comes to them, and not before; those that break a rule never are.
 pub fn closing()
     ensures closed { closed_after 40 (deck_of (codes "SETB SB[0],1\nEXIT\n") (codes "1 0")
