@@ -21,10 +21,10 @@ use Rattle.model_prove.specs.Laws.{HoldsBytes}
 use Rattle.model_prove.specs.Arrivals.{Setting, static_size, settled, la_at}
 use Rattle.model_prove.specs.Steps.{Spot, sets, lowered, acted, with_flags, settled_spot, makes_write}
 use Rattle.model_prove.proofs.CompareLemmas.{touched_holds}
-use Rattle.law_prove.specs.Coverings.{moment_memory, frame_memory, AreOpen}
+use Rattle.law_prove.specs.Coverings.{moment_memory, frame_memory, AreOpen, IsKnown}
 use Rattle.law_prove.proofs.Windows.{window, windows_same, taken_is, index_within}
 use Rattle.law_prove.proofs.Spots.{place_key, Covers}
-use Rattle.law_prove.proofs.Known.{IsKnown, filter_holds, open_below}
+use Rattle.law_prove.proofs.Known.{filter_holds, open_below}
 use Rattle.law_prove.proofs.Seen.{FitSets, fit_length, fit_sets, Seen, settled_seen, known_written, stack_seen, public_seen, static_seen, laid_more}
 
 -- a spot of a frame

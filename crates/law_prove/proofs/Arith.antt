@@ -131,7 +131,7 @@ module _ (i : Ins) (tag : ℕ) (off : ℤ) (n : ℕ) (op : Operation) (b : List 
       split (p ∷ ps) h = let q = split ps h.1 in ((h.0, q.0), q.1)
 
   pub compare_case : (fl : Frame → List ℕ → Bool × Bool) → Compares fl → RowCase i
-  compare_case fl is s t g loadable closed turn includes =
+  compare_case fl is s u t g loadable leads turn includes =
       let f : Frame = frame_at turn.frame turn.next in
       let dyn = stand_in_stack turn.place.calls in
       let l : Frame = like f dyn in
@@ -143,9 +143,9 @@ module _ (i : Ins) (tag : ℕ) (off : ℤ) (n : ℕ) (op : Operation) (b : List 
       let same : operand l tag off n ≡ o = same_operand f dyn tag off n in
       let later : List (Abend × Bool) = (A04, tag == 0 && is_under f n) ∷ (A03, no_access f o n) ∷ [] in
       let cs : List (Abend × Bool) = pre ++ later in
-      let sized : Sized f turn.public = turn_sized s t loadable i turn in
+      let sized : Sized f turn.public = turn_sized s u loadable i turn in
       let f0 = fl l (bytes_at l blank a n) in
-      outcome_row s t g loadable closed i turn cs turn.frame.dt Stays Stays (Some f0) (Some (set_flags (carries_of op) (worked op xs b).1 turn.frame)) (Works (immediate op a n b false)) includes
+      outcome_row s u t g loadable leads i turn cs turn.frame.dt Stays Stays (Some f0) (Some (set_flags (carries_of op) (worked op xs b).1 turn.frame)) (Works (immediate op a n b false)) includes
       (is.cause l blank nobody
       ∙ ap (λ (z : Bool). pre ++ (A04, tag == 0 && is_under f n) ∷ (A03, z) ∷ []) (ap (λ (z : Option ℕ). no_access l z n) same ∙ same_access f dyn o n))
       (is.cause f turn.public turn.around)
@@ -157,7 +157,7 @@ module _ (i : Ins) (tag : ℕ) (off : ℤ) (n : ℕ) (op : Operation) (b : List 
       is.form f turn.public turn.around ∙ ap (λ (z : Bool × Bool). going f.dt Stays (Some z)) (ap (λ (l : List ℕ). fl f l) read ∙ is.flags f xs (from_length m a n) bytes))
       (is.task l blank ∙ ap (λ (z : Option ℕ). Works (immediate op (address_or_zero z) n b false)) same) refl
       (λ none all.
-      compared_outcome s t g loadable closed i turn op a n (These b) b (refl, size) size (carries_of op) refl (Some f0)
+      compared_outcome s u t g loadable leads i turn op a n (These b) b (refl, size) size (carries_of op) refl (Some f0)
       (immediate_allowed op false a n b turn.place.known.compare m turn.place.compares size bytes are (is.runs xs (from_length m a n) bytes))
       (immediate_so op a n b turn.place.known.compare m turn.place.compares size bytes are (is.runs xs (from_length m a n) bytes)) all)
 
@@ -172,7 +172,7 @@ module _ (i : Ins) (tag : ℕ) (off : ℤ) (n : ℕ) (op : Operation) (b : List 
     pub runs : (xs : List ℕ) → length xs ≡ n → AreBytes xs → RunsAs op true n xs b
 
   pub result_case : (val : List ℕ → List ℕ) (fl : Frame → List ℕ → Bool × Bool) → Results val fl → RowCase i
-  result_case val fl is s t g loadable closed turn includes =
+  result_case val fl is s u t g loadable leads turn includes =
       let f : Frame = frame_at turn.frame turn.next in
       let dyn = stand_in_stack turn.place.calls in
       let l : Frame = like f dyn in
@@ -186,10 +186,10 @@ module _ (i : Ins) (tag : ℕ) (off : ℤ) (n : ℕ) (op : Operation) (b : List 
       let cs : List (Abend × Bool) = pre ++ later in
       let was = too_many l a n in
       let unmet : was ≡ false = few_wait f dyn a n few in
-      let sized : Sized f turn.public = turn_sized s t loadable i turn in
+      let sized : Sized f turn.public = turn_sized s u loadable i turn in
       let v0 = bytes_at l blank a n in
       let r = worked op xs b in
-      outcome_limited s t g loadable closed i turn cs was (too_many f a n) turn.frame.dt (Writes a n (val v0)) (Writes a n r.0) (Some (fl l v0)) (Some (set_flags (carries_of op) r.1 turn.frame)) (Works (immediate op a n b true)) includes
+      outcome_limited s u t g loadable leads i turn cs was (too_many f a n) turn.frame.dt (Writes a n (val v0)) (Writes a n r.0) (Some (fl l v0)) (Some (set_flags (carries_of op) r.1 turn.frame)) (Works (immediate op a n b true)) includes
       (is.cause l blank nobody
       ∙ (ap (λ (z : Option ℕ). pre ++ (A04, tag == 0 && is_under f n) ∷ (A03, no_access l z n) ∷ (A08, too_many l (address_or_zero z) n) ∷ []) same
       ∙ (ap (λ (z : Bool). pre ++ (A04, tag == 0 && is_under f n) ∷ (A03, z) ∷ (A08, was) ∷ []) (same_access f dyn o n) ∙ sym (append_assoc pre later ((A08, was) ∷ [])))))
@@ -209,7 +209,7 @@ module _ (i : Ins) (tag : ℕ) (off : ℤ) (n : ℕ) (op : Operation) (b : List 
       (λ none all.
       let parts = none_before later none in
       let within : is_none (where_is f a n) ≡ false = inside_of f o n (some parts.0) parts.1.1.0 in
-      written_outcome s t g loadable closed i turn op a n (These b) b (refl, size) size (carries_of op) refl n (val v0) (Some (fl l v0))
+      written_outcome s u t g loadable leads i turn op a n (These b) b (refl, size) size (carries_of op) refl n (val v0) (Some (fl l v0))
       (immediate_allowed op true a n b turn.place.known.compare m turn.place.compares size bytes are (is.runs xs (from_length m a n) bytes)) within (positive n (some parts.0)) all)
 
 -- ---- rows against the top of the stack
@@ -223,7 +223,7 @@ module _ (i : Ins) (tag : ℕ) (off : ℤ) (n : ℕ) (op : Operation) (few : n �
     pub flags : (f : Frame) (xs ys : List ℕ) → length xs ≡ n → length ys ≡ n → AreBytes xs → AreBytes ys → fl f xs ys ≡ set_flags true (worked Minus xs ys).1 f
 
   pub pair_compare_case : (fl : Frame → List ℕ → List ℕ → Bool × Bool) → PairCompares fl → RowCase i
-  pair_compare_case fl is s t g loadable closed turn includes =
+  pair_compare_case fl is s u t g loadable leads turn includes =
       let f : Frame = frame_at turn.frame turn.next in
       let dyn = stand_in_stack turn.place.calls in
       let l : Frame = like f dyn in
@@ -237,10 +237,10 @@ module _ (i : Ins) (tag : ℕ) (off : ℤ) (n : ℕ) (op : Operation) (few : n �
       let second : AreBytes ys = memory_bytes_from m (d - n) n turn.place.bytes in
       let same : operand l tag off (2 * n) ≡ o = same_operand f dyn tag off (2 * n) in
       let cs : List (Abend × Bool) = pre ∷ (A04, is_under f (on_stack tag (2 * n) n)) ∷ (A03, no_access f o n) ∷ [] in
-      let sized : Sized f turn.public = turn_sized s t loadable i turn in
+      let sized : Sized f turn.public = turn_sized s u loadable i turn in
       let runs : RunsAs Minus true n xs ys = λ e. subst (λ (k : ℕ). num (worked Minus xs ys).0 + num ys ≡ num xs + carried ((worked Minus xs ys).1).c * 256 ^ k) (from_length m a n) (worked_difference xs ys (from_length m a n ∙ sym (from_length m (d - n) n)) first second) in
       let f0 = fl l (bytes_at l blank a n) (top l n) in
-      outcome_row s t g loadable closed i turn cs d Stays Stays (Some f0) (Some (set_flags true (worked Minus xs ys).1 turn.frame)) (Works (with_bytes Minus a n (d - n) false)) includes
+      outcome_row s u t g loadable leads i turn cs d Stays Stays (Some f0) (Some (set_flags true (worked Minus xs ys).1 turn.frame)) (Works (with_bytes Minus a n (d - n) false)) includes
       (is.cause l blank nobody
       ∙ ap (λ (z : Bool). pre ∷ (A04, is_under f (on_stack tag (2 * n) n)) ∷ (A03, z) ∷ []) (ap (λ (z : Option ℕ). no_access l z n) same ∙ same_access f dyn o n))
       (is.cause f turn.public turn.around)
@@ -255,7 +255,7 @@ module _ (i : Ins) (tag : ℕ) (off : ℤ) (n : ℕ) (op : Operation) (few : n �
       ∙ (ap (λ (v : List ℕ). going f.dt Stays (Some (fl f xs v))) tops ∙ ap (λ (z : Bool × Bool). going f.dt Stays (Some z)) (is.flags f xs ys (from_length m a n) (from_length m (d - n) n) first second))))
       (is.task l blank ∙ ap (λ (z : Option ℕ). Works (with_bytes Minus (address_or_zero z) n (d - n) false)) same) refl
       (λ none all.
-      compared_outcome s t g loadable closed i turn Minus a n (AtAddress (d - n)) ys refl (from_length m (d - n) n) true refl (Some f0)
+      compared_outcome s u t g loadable leads i turn Minus a n (AtAddress (d - n)) ys refl (from_length m (d - n) n) true refl (Some f0)
       (bytes_allowed Minus false a n (d - n) turn.place.known.compare m turn.place.compares first second runs)
       (order_left n xs ys (from_length m a n) (from_length m (d - n) n) first second runs) all)
 
@@ -270,7 +270,7 @@ module _ (i : Ins) (tag : ℕ) (off : ℤ) (n : ℕ) (op : Operation) (few : n �
     pub runs : (xs ys : List ℕ) → length xs ≡ n → length ys ≡ n → AreBytes xs → AreBytes ys → RunsAs op true n xs ys
 
   pub pair_result_case : (val : List ℕ → List ℕ → List ℕ) (fl : Frame → List ℕ → List ℕ → Bool × Bool) → PairResults val fl → RowCase i
-  pair_result_case val fl is s t g loadable closed turn includes =
+  pair_result_case val fl is s u t g loadable leads turn includes =
       let f : Frame = frame_at turn.frame turn.next in
       let dyn = stand_in_stack turn.place.calls in
       let l : Frame = like f dyn in
@@ -286,11 +286,11 @@ module _ (i : Ins) (tag : ℕ) (off : ℤ) (n : ℕ) (op : Operation) (few : n �
       let cs : List (Abend × Bool) = pre ∷ (A04, is_under f (on_stack tag (2 * n) n)) ∷ (A03, no_access f o n) ∷ [] in
       let was = too_many l a n in
       let unmet : was ≡ false = few_wait f dyn a n few in
-      let sized : Sized f turn.public = turn_sized s t loadable i turn in
+      let sized : Sized f turn.public = turn_sized s u loadable i turn in
       let v0 = bytes_at l blank a n in
       let w0 = top l n in
       let r = worked op xs ys in
-      outcome_limited s t g loadable closed i turn cs was (too_many f a n) d (Writes a n (val v0 w0)) (Writes a n r.0) (Some (fl l v0 w0)) (Some (set_flags (carries_of op) r.1 turn.frame)) (Works (with_bytes op a n (d - n) true)) includes
+      outcome_limited s u t g loadable leads i turn cs was (too_many f a n) d (Writes a n (val v0 w0)) (Writes a n r.0) (Some (fl l v0 w0)) (Some (set_flags (carries_of op) r.1 turn.frame)) (Works (with_bytes op a n (d - n) true)) includes
       (is.cause l blank nobody
       ∙ (ap (λ (z : Option ℕ). pre ∷ (A04, is_under f (on_stack tag (2 * n) n)) ∷ (A03, no_access l z n) ∷ (A08, too_many l (address_or_zero z) n) ∷ []) same
       ∙ ap (λ (z : Bool). pre ∷ (A04, is_under f (on_stack tag (2 * n) n)) ∷ (A03, z) ∷ (A08, was) ∷ []) (same_access f dyn o n)))
@@ -311,5 +311,5 @@ module _ (i : Ins) (tag : ℕ) (off : ℤ) (n : ℕ) (op : Operation) (few : n �
       (λ none many. absurd (cc (sym unmet ∙ many)))
       (λ none all.
       let within : is_none (where_is f a n) ≡ false = inside_of f o n (some none.0) none.1.1.0 in
-      written_outcome s t g loadable closed i turn op a n (AtAddress (d - n)) ys refl (from_length m (d - n) n) (carries_of op) refl n (val v0 w0) (Some (fl l v0 w0))
+      written_outcome s u t g loadable leads i turn op a n (AtAddress (d - n)) ys refl (from_length m (d - n) n) (carries_of op) refl n (val v0 w0) (Some (fl l v0 w0))
       (bytes_allowed op true a n (d - n) turn.place.known.compare m turn.place.compares first second (is.runs xs ys (from_length m a n) (from_length m (d - n) n) first second)) within (positive n (some none.0)) all)

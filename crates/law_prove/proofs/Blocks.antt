@@ -23,8 +23,9 @@ use Rattle.model_prove.specs.Work.{Operand, Digitwise, Work, Works, work}
 use Rattle.model_prove.specs.Arrivals.{Setting, Arrival, fails}
 use Rattle.model_prove.specs.Steps.{Spot, written, lowered, flagged, final_flags, works_to, worked_at, narrowed_operands, operand_sets, operand_narrowed, pairs_of, allows, compare_after, settled_spot, makes_write, may_wait_too_long, follows, row_arrivals, is_return, no_calls}
 use Rattle.model_prove.specs.Steps as steps
-use Rattle.model_prove.specs.Tables.{IsLoadable, includes_all, is_closed}
+use Rattle.model_prove.specs.Tables.{IsLoadable, includes_all}
 use Rattle.law_prove.specs.Coverings.{frame_memory}
+use Rattle.law_prove.specs.Laws.{LeadsInto}
 use Rattle.law_prove.proofs.Closed.{included_first, included_second}
 use Rattle.law_prove.proofs.Seen.{fit_length, fit_values, Seen}
 use Rattle.law_prove.proofs.Acts.{spot_of, Framed, Led, replaces_led, writes_led, stays_led, flags_led, led_covers, lowered_seen}
@@ -135,58 +136,58 @@ write_keeps : (f : Frame) (public : List ℕ) (a : ℕ) (b : List ℕ) → ((wri
 unfolding write_effect
 write_keeps f public a b = kept_at f public b (where_is f a (length b))
 
-module _ (s : Setting) (t : Tables) (g : Target) (loadable : IsLoadable s.app) (closed : is_closed s t ≡ true) (i : Ins) (turn : Turn s t i) where
+module _ (s : Setting) (u t : Tables) (g : Target) (loadable : IsLoadable s.app) (leads : LeadsInto s u t) (i : Ins) (turn : Turn s u i) where
   -- an outcome that is included and leads to what is seen
   pub record Outcome (m : Shape) : Type 0 where
     pub spot : Spot
     pub led : Led s turn.place.start turn.place.standing.allowances spot (makes_write s turn.frame.protected m.act) (shape_effect m (frame_at turn.frame turn.next) turn.public)
-    pub included : includes_all t (follows s i (makes_write s turn.frame.protected m.act) Goes (here s t g loadable closed i turn) (settled_spot s spot)) ≡ true
+    pub included : includes_all t (follows s i (makes_write s turn.frame.protected m.act) Goes (here s u t g loadable leads i turn) (settled_spot s spot)) ≡ true
 
-  outcome_covered : (m : Shape) → IsByteEffect (shape_effect m (frame_at turn.frame turn.next) turn.public) → Outcome m → IsRowCovered s t g loadable closed i turn (Does (effect_and_next (shape_effect m (frame_at turn.frame turn.next) turn.public)))
+  outcome_covered : (m : Shape) → IsByteEffect (shape_effect m (frame_at turn.frame turn.next) turn.public) → Outcome m → IsRowCovered s u t g loadable leads i turn (Does (effect_and_next (shape_effect m (frame_at turn.frame turn.next) turn.public)))
   outcome_covered m bytes o =
       let d : Effect = shape_effect m (frame_at turn.frame turn.next) turn.public in
       let w = makes_write s turn.frame.protected m.act in
-      goes_covered s t g loadable closed turn.entry turn.history turn.frame turn.public turn.depth turn.place turn.deep i d (settled_spot s o.spot) w (ap (λ (k : PlaceKey). k.start) o.led.key)
+      goes_covered s u t g loadable leads turn.entry turn.history turn.frame turn.public turn.depth turn.place turn.deep i d (settled_spot s o.spot) w (ap (λ (k : PlaceKey). k.start) o.led.key)
       (led_covers s turn.place.start turn.place.standing.allowances o.spot w d o.led) (frame_of s.app d.frame o.led.framed bytes.frame) (memory_of_bytes d.frame d.public bytes.frame bytes.public) bytes.frame.stack o.led.writes o.included
 
   -- a row whose outcomes have one that is the machine's
-  pub outcome_row : (cs : List (Abend × Bool)) (d : ℕ) (a0 a1 : Act) (f0 f1 : Option (Bool × Bool)) (w : Work) → IsOnly s t g loadable closed i turn
-      → causes i (scene s t g loadable closed i turn) blank nobody ≡ cs → causes i (frame_at turn.frame turn.next) turn.public turn.around ≡ cs
-      → shape i (scene s t g loadable closed i turn) blank nobody ≡ going d a0 f0 → (NoCause cs → shape i (frame_at turn.frame turn.next) turn.public turn.around ≡ going d a1 f1) → work i (scene s t g loadable closed i turn) blank ≡ w → is_return a0 ≡ false
-      → (NoCause cs → includes_all t (row_arrivals false s i (going d a0 f0) w (here s t g loadable closed i turn) (there s t g loadable closed i turn)) ≡ true → Outcome (going d a1 f1))
-      → IsRowCovered s t g loadable closed i turn (row i (frame_at turn.frame turn.next) turn.public turn.around)
+  pub outcome_row : (cs : List (Abend × Bool)) (d : ℕ) (a0 a1 : Act) (f0 f1 : Option (Bool × Bool)) (w : Work) → IsOnly s u t g loadable leads i turn
+      → causes i (scene s u t g loadable leads i turn) blank nobody ≡ cs → causes i (frame_at turn.frame turn.next) turn.public turn.around ≡ cs
+      → shape i (scene s u t g loadable leads i turn) blank nobody ≡ going d a0 f0 → (NoCause cs → shape i (frame_at turn.frame turn.next) turn.public turn.around ≡ going d a1 f1) → work i (scene s u t g loadable leads i turn) blank ≡ w → is_return a0 ≡ false
+      → (NoCause cs → includes_all t (row_arrivals false s i (going d a0 f0) w (here s u t g loadable leads i turn) (there s u t g loadable leads i turn)) ≡ true → Outcome (going d a1 f1))
+      → IsRowCovered s u t g loadable leads i turn (row i (frame_at turn.frame turn.next) turn.public turn.around)
   unfolding row
   outcome_row cs d a0 a1 f0 f1 w includes stand real m0 m1 works other outcome =
-      subst (λ (c : List (Abend × Bool)). IsRowCovered s t g loadable closed i turn (row_end (first_cause c) (effect i (frame_at turn.frame turn.next) turn.public turn.around))) (sym real)
-      (walked s t g loadable closed turn.entry turn.history turn.frame turn.public turn.depth turn.place turn.deep i (there s t g loadable closed i turn) cs (going d a0 f0) w (effect i (frame_at turn.frame turn.next) turn.public turn.around)
-      (stood s t g loadable closed i turn cs (going d a0 f0) w includes stand m0 works)
+      subst (λ (c : List (Abend × Bool)). IsRowCovered s u t g loadable leads i turn (row_end (first_cause c) (effect i (frame_at turn.frame turn.next) turn.public turn.around))) (sym real)
+      (walked s u t g loadable leads turn.entry turn.history turn.frame turn.public turn.depth turn.place turn.deep i (there s u t g loadable leads i turn) cs (going d a0 f0) w (effect i (frame_at turn.frame turn.next) turn.public turn.around)
+      (stood s u t g loadable leads i turn cs (going d a0 f0) w includes stand m0 works)
       (λ none all.
       let is : effect i (frame_at turn.frame turn.next) turn.public turn.around ≡ meaning (going d a1 f1) (frame_at turn.frame turn.next) turn.public =
       shapes i (frame_at turn.frame turn.next) turn.public turn.around ∙ ap (λ (z : Shape). meaning z (frame_at turn.frame turn.next) turn.public) (m1 none)
       in
-      subst (λ (e : Done). IsRowCovered s t g loadable closed i turn (Does e)) (sym is)
-      (outcome_covered (going d a1 f1) (shape_bytes s t g loadable closed i turn (going d a1 f1) (m1 none) turn.after)
-      (outcome none (subst (λ (b : Bool). includes_all t (row_arrivals (b && no_calls turn.place.calls) s i (going d a0 f0) w (here s t g loadable closed i turn) (there s t g loadable closed i turn)) ≡ true) other all)))))
+      subst (λ (e : Done). IsRowCovered s u t g loadable leads i turn (Does e)) (sym is)
+      (outcome_covered (going d a1 f1) (shape_bytes s u t g loadable leads i turn (going d a1 f1) (m1 none) turn.after)
+      (outcome none (subst (λ (b : Bool). includes_all t (row_arrivals (b && no_calls turn.place.calls) s i (going d a0 f0) w (here s u t g loadable leads i turn) (there s u t g loadable leads i turn)) ≡ true) other all)))))
 
   -- the same of a row whose last cause is that too many words wait
-  pub outcome_limited : (cs : List (Abend × Bool)) (was is : Bool) (d : ℕ) (a0 a1 : Act) (f0 f1 : Option (Bool × Bool)) (w : Work) → IsOnly s t g loadable closed i turn
-      → causes i (scene s t g loadable closed i turn) blank nobody ≡ cs ++ (A08, was) ∷ [] → causes i (frame_at turn.frame turn.next) turn.public turn.around ≡ cs ++ (A08, is) ∷ []
-      → shape i (scene s t g loadable closed i turn) blank nobody ≡ going d a0 f0 → (NoCause cs → shape i (frame_at turn.frame turn.next) turn.public turn.around ≡ going d a1 f1) → work i (scene s t g loadable closed i turn) blank ≡ w → is_return a0 ≡ false
+  pub outcome_limited : (cs : List (Abend × Bool)) (was is : Bool) (d : ℕ) (a0 a1 : Act) (f0 f1 : Option (Bool × Bool)) (w : Work) → IsOnly s u t g loadable leads i turn
+      → causes i (scene s u t g loadable leads i turn) blank nobody ≡ cs ++ (A08, was) ∷ [] → causes i (frame_at turn.frame turn.next) turn.public turn.around ≡ cs ++ (A08, is) ∷ []
+      → shape i (scene s u t g loadable leads i turn) blank nobody ≡ going d a0 f0 → (NoCause cs → shape i (frame_at turn.frame turn.next) turn.public turn.around ≡ going d a1 f1) → work i (scene s u t g loadable leads i turn) blank ≡ w → is_return a0 ≡ false
       → (NoCause cs → is ≡ true → was ≡ false → may_wait_too_long s turn.frame.protected a0 ≡ true) → (NoCause cs → was ≡ true → is ≡ true)
-      → (NoCause cs → includes_all t (row_arrivals false s i (going d a0 f0) w (here s t g loadable closed i turn) (there s t g loadable closed i turn)) ≡ true → Outcome (going d a1 f1))
-      → IsRowCovered s t g loadable closed i turn (row i (frame_at turn.frame turn.next) turn.public turn.around)
+      → (NoCause cs → includes_all t (row_arrivals false s i (going d a0 f0) w (here s u t g loadable leads i turn) (there s u t g loadable leads i turn)) ≡ true → Outcome (going d a1 f1))
+      → IsRowCovered s u t g loadable leads i turn (row i (frame_at turn.frame turn.next) turn.public turn.around)
   unfolding row
   outcome_limited cs was is d a0 a1 f0 f1 w includes stand real m0 m1 works other waits less outcome =
-      subst (λ (c : List (Abend × Bool)). IsRowCovered s t g loadable closed i turn (row_end (first_cause c) (effect i (frame_at turn.frame turn.next) turn.public turn.around))) (sym real)
-      (walked_limit s t g loadable closed turn.entry turn.history turn.frame turn.public turn.depth turn.place turn.deep i (there s t g loadable closed i turn) cs was is (going d a0 f0) w (effect i (frame_at turn.frame turn.next) turn.public turn.around) other waits less
-      (stood s t g loadable closed i turn (cs ++ (A08, was) ∷ []) (going d a0 f0) w includes stand m0 works)
+      subst (λ (c : List (Abend × Bool)). IsRowCovered s u t g loadable leads i turn (row_end (first_cause c) (effect i (frame_at turn.frame turn.next) turn.public turn.around))) (sym real)
+      (walked_limit s u t g loadable leads turn.entry turn.history turn.frame turn.public turn.depth turn.place turn.deep i (there s u t g loadable leads i turn) cs was is (going d a0 f0) w (effect i (frame_at turn.frame turn.next) turn.public turn.around) other waits less
+      (stood s u t g loadable leads i turn (cs ++ (A08, was) ∷ []) (going d a0 f0) w includes stand m0 works)
       (λ none free all.
       let same : effect i (frame_at turn.frame turn.next) turn.public turn.around ≡ meaning (going d a1 f1) (frame_at turn.frame turn.next) turn.public =
       shapes i (frame_at turn.frame turn.next) turn.public turn.around ∙ ap (λ (z : Shape). meaning z (frame_at turn.frame turn.next) turn.public) (m1 none)
       in
-      subst (λ (e : Done). IsRowCovered s t g loadable closed i turn (Does e)) (sym same)
-      (outcome_covered (going d a1 f1) (shape_bytes s t g loadable closed i turn (going d a1 f1) (m1 none) turn.after)
-      (outcome none (subst (λ (b : Bool). includes_all t (row_arrivals (b && no_calls turn.place.calls) s i (going d a0 f0) w (here s t g loadable closed i turn) (there s t g loadable closed i turn)) ≡ true) other all)))))
+      subst (λ (e : Done). IsRowCovered s u t g loadable leads i turn (Does e)) (sym same)
+      (outcome_covered (going d a1 f1) (shape_bytes s u t g loadable leads i turn (going d a1 f1) (m1 none) turn.after)
+      (outcome none (subst (λ (b : Bool). includes_all t (row_arrivals (b && no_calls turn.place.calls) s i (going d a0 f0) w (here s u t g loadable leads i turn) (there s u t g loadable leads i turn)) ≡ true) other all)))))
 
   -- ---- operations
 
@@ -196,12 +197,12 @@ module _ (s : Setting) (t : Tables) (g : Target) (loadable : IsLoadable s.app) (
 
   -- one of the outcomes of an operation is included
   work_included : (d : Digitwise) (m : Shape) (x : Spot) (f : Flags) (ds : List Digits) → m.next ≡ Goes → (d.carries ≡ false → f.c ≡ false) → allows turn.place.known.compare d d.operand f ≡ true
-      → digits_to f (map (arcs d.op) (reverse (pairs_of (values_from turn.place.known.bytes d.at d.n) (operand_sets turn.place.known.bytes d.operand d.n)))) ≡ Some ds → Among x (steps.worked d f (Some ds) (there s t g loadable closed i turn))
-      → includes_all t (row_arrivals false s i m (Works d) (here s t g loadable closed i turn) (there s t g loadable closed i turn)) ≡ true
-      → includes_all t (follows s i (makes_write s turn.frame.protected m.act) Goes (here s t g loadable closed i turn) (settled_spot s (lowered m.dt (flagged d.carries f x)))) ≡ true
+      → digits_to f (map (arcs d.op) (reverse (pairs_of (values_from turn.place.known.bytes d.at d.n) (operand_sets turn.place.known.bytes d.operand d.n)))) ≡ Some ds → Among x (steps.worked d f (Some ds) (there s u t g loadable leads i turn))
+      → includes_all t (row_arrivals false s i m (Works d) (here s u t g loadable leads i turn) (there s u t g loadable leads i turn)) ≡ true
+      → includes_all t (follows s i (makes_write s turn.frame.protected m.act) Goes (here s u t g loadable leads i turn) (settled_spot s (lowered m.dt (flagged d.carries f x)))) ≡ true
   work_included d m x f ds goes clear allowed is in_it includes =
-      let p : Spot = here s t g loadable closed i turn in
-      let q : Spot = there s t g loadable closed i turn in
+      let p : Spot = here s u t g loadable leads i turn in
+      let q : Spot = there s u t g loadable leads i turn in
       let w = makes_write s turn.frame.protected m.act in
       let each : Spot → List Arrival = λ r. follows s i w m.next p (settled_spot s r) in
       let all : List Spot = map (lowered m.dt) (works_to d q) in
@@ -246,23 +247,23 @@ module _ (s : Setting) (t : Tables) (g : Target) (loadable : IsLoadable s.app) (
 
     -- an operation that writes nothing
     pub compared_outcome : (f0 : Option (Bool × Bool)) → allows turn.place.known.compare (operation false) operand flags_left ≡ true → IsSo (compare_after (operation false) flags_left turn.place.known.compare) memory
-        → includes_all t (row_arrivals false s i (going turn.frame.dt Stays f0) (Works (operation false)) (here s t g loadable closed i turn) (there s t g loadable closed i turn)) ≡ true
+        → includes_all t (row_arrivals false s i (going turn.frame.dt Stays f0) (Works (operation false)) (here s u t g loadable leads i turn) (there s u t g loadable leads i turn)) ≡ true
         → Outcome (going turn.frame.dt Stays (Some (set_flags carries flags_left turn.frame)))
     compared_outcome f0 allowed so includes =
         let st = turn.place.start in
         let al = turn.place.standing.allowances in
-        let q : Spot = there s t g loadable closed i turn in
+        let q : Spot = there s u t g loadable leads i turn in
         let x : Spot = spot_of st al (frame_at turn.frame turn.next) turn.place.calls compared_known in
         let rds = reverse known_digits.digits in
         let facts_are : narrowed_operands (operation false) rds turn.place.known.bytes ≡ Some both_narrowed.facts =
         ap (λ (o : Option Facts). narrow_all at (map (λ d. d.a) rds) o) second_narrowed.is ∙ both_narrowed.is
         in
         let there_is : Among x (steps.worked (operation false) flags_left (Some known_digits.digits) q) = subst (λ (o : Option Facts). Among x (worked_at (operation false) flags_left rds o q)) (sym facts_are) (inl refl) in
-        let seen : Seen turn.place.calls compared_known (low_frame s t g loadable closed i turn turn.frame.dt) turn.public =
+        let seen : Seen turn.place.calls compared_known (low_frame s u t g loadable leads i turn turn.frame.dt) turn.public =
         record { open_calls = turn.place.open_calls; holds = both_narrowed.holds; compares = so; keeps = λ on session d. turn.place.keeps session d }
         in
-        let e : Effect = act_effect Stays (low_frame s t g loadable closed i turn turn.frame.dt) turn.public in
-        let led : Led s st al x false e = stays_led s loadable.static st al (low_frame s t g loadable closed i turn turn.frame.dt) turn.public turn.place.calls compared_known [] (same_framed s t g loadable closed i turn) seen in
+        let e : Effect = act_effect Stays (low_frame s u t g loadable leads i turn turn.frame.dt) turn.public in
+        let led : Led s st al x false e = stays_led s loadable.static st al (low_frame s u t g loadable leads i turn turn.frame.dt) turn.public turn.place.calls compared_known [] (same_framed s u t g loadable leads i turn) seen in
         let flags : Led s st al (flagged carries flags_left x) false (shapes.with_flags (Some (set_flags carries flags_left turn.frame)) e) = flag_led s st al x false e carries flags_left led in
         record {
           spot = lowered turn.frame.dt (flagged carries flags_left x);
@@ -276,13 +277,13 @@ module _ (s : Setting) (t : Tables) (g : Target) (loadable : IsLoadable s.app) (
 
     -- an operation that writes its result
     pub written_outcome : (k : ℕ) (b0 : List ℕ) (f0 : Option (Bool × Bool)) → allows turn.place.known.compare (operation true) operand flags_left ≡ true → is_none (where_is (frame_at turn.frame turn.next) at n) ≡ false → 0 < n
-        → includes_all t (row_arrivals false s i (going turn.frame.dt (Writes at k b0) f0) (Works (operation true)) (here s t g loadable closed i turn) (there s t g loadable closed i turn)) ≡ true
+        → includes_all t (row_arrivals false s i (going turn.frame.dt (Writes at k b0) f0) (Works (operation true)) (here s u t g loadable leads i turn) (there s u t g loadable leads i turn)) ≡ true
         → Outcome (going turn.frame.dt (Writes at k (worked op first_block ys).0) (Some (set_flags carries flags_left turn.frame)))
     written_outcome k b0 f0 allowed inside some includes =
         let st = turn.place.start in
         let al = turn.place.standing.allowances in
-        let q : Spot = there s t g loadable closed i turn in
-        let low : Frame = low_frame s t g loadable closed i turn turn.frame.dt in
+        let q : Spot = there s u t g loadable leads i turn in
+        let low : Frame = low_frame s u t g loadable leads i turn turn.frame.dt in
         let b = (worked op first_block ys).0 in
         let rds = reverse known_digits.digits in
         let ss = map (λ d. d.r) rds in
@@ -295,7 +296,7 @@ module _ (s : Setting) (t : Tables) (g : Target) (loadable : IsLoadable s.app) (
         let e : Effect = act_effect (Writes at k b) low turn.public in
         let w = makes_write s turn.frame.protected (Writes at k b) in
         let led : Led s st al x w e =
-        writes_led s loadable.static st al low turn.public turn.place.calls operand_known at k b ss (subst (λ (j : ℕ). is_none (where_is low at j) ≡ false) (sym count) inside) known_digits.result (subst (λ (j : ℕ). 0 < j) (sym count) some) turn.whole (same_framed s t g loadable closed i turn) seen
+        writes_led s loadable.static st al low turn.public turn.place.calls operand_known at k b ss (subst (λ (j : ℕ). is_none (where_is low at j) ≡ false) (sym count) inside) known_digits.result (subst (λ (j : ℕ). 0 < j) (sym count) some) turn.whole (same_framed s u t g loadable leads i turn) seen
         in
         let dt_is : e.frame.dt ≡ turn.frame.dt = (write_keeps low turn.public at b).0 in
         let c_is : e.frame.c ≡ turn.frame.c = (write_keeps low turn.public at b).1 in
@@ -311,13 +312,13 @@ module _ (s : Setting) (t : Tables) (g : Target) (loadable : IsLoadable s.app) (
 
     -- an operation that takes the place of the top
     pub replaced_outcome : (b0 : List ℕ) (f0 : Option (Bool × Bool)) → at ≡ turn.frame.dt - n → dynamic_base + n ≤ turn.frame.dt → allows turn.place.known.compare (operation true) operand flags_left ≡ true
-        → includes_all t (row_arrivals false s i (going turn.frame.dt (Replaces b0) f0) (Works (operation true)) (here s t g loadable closed i turn) (there s t g loadable closed i turn)) ≡ true
+        → includes_all t (row_arrivals false s i (going turn.frame.dt (Replaces b0) f0) (Works (operation true)) (here s u t g loadable leads i turn) (there s u t g loadable leads i turn)) ≡ true
         → Outcome (going turn.frame.dt (Replaces (worked op first_block ys).0) (Some (set_flags carries flags_left turn.frame)))
     replaced_outcome b0 f0 place over allowed includes =
         let st = turn.place.start in
         let al = turn.place.standing.allowances in
-        let q : Spot = there s t g loadable closed i turn in
-        let low : Frame = low_frame s t g loadable closed i turn turn.frame.dt in
+        let q : Spot = there s u t g loadable leads i turn in
+        let low : Frame = low_frame s u t g loadable leads i turn turn.frame.dt in
         let b = (worked op first_block ys).0 in
         let rds = reverse known_digits.digits in
         let ss = map (λ d. d.r) rds in
@@ -331,7 +332,7 @@ module _ (s : Setting) (t : Tables) (g : Target) (loadable : IsLoadable s.app) (
         let e : Effect = act_effect (Replaces b) low turn.public in
         let led : Led s st al x false e =
         subst (λ (k : ℕ). Led s st al (written k ss (spot_of st al (frame_at turn.frame turn.next) turn.place.calls operand_known)) false e) (ap (λ (k : ℕ). turn.frame.dt - k) many ∙ sym place)
-        (replaces_led s loadable.static st al low turn.public turn.place.calls operand_known b ss known_digits.result (subst (λ (k : ℕ). dynamic_base + k ≤ turn.frame.dt) (sym count) over) (same_framed s t g loadable closed i turn) seen)
+        (replaces_led s loadable.static st al low turn.public turn.place.calls operand_known b ss known_digits.result (subst (λ (k : ℕ). dynamic_base + k ≤ turn.frame.dt) (sym count) over) (same_framed s u t g loadable leads i turn) seen)
         in
         let flags : Led s st al (flagged carries flags_left x) false (shapes.with_flags (Some (set_flags carries flags_left turn.frame)) e) = flag_led s st al x false e carries flags_left led in
         record {

@@ -2,7 +2,6 @@
 use Rattle.std.proofs.Common.{◌≡◌, ℕ, None, ◌-◌, ◌<◌, Bool, true, false, cond, List, [], ◌∷◌, length, refl, sym, ap, ◌∙◌}
 use Rattle.std.specs.Prelude.{not, nat_lt, filter, flat_map, slice_index}
 use Rattle.std.proofs.lemmas.Bool.{ltb-false, lt-ltb}
-use Rattle.model_device.specs.Bytes.{AreBytes}
 use Rattle.model_device.specs.Pieces.{laid_pieces}
 use Rattle.model_machine.specs.declared.instruction.Ins.TheVariants as ins
 use Rattle.model_machine.specs.Frame.{Frame, dynamic_base, floor, static_bytes}
@@ -10,8 +9,7 @@ use Rattle.model_machine.specs.Primitives.{Around}
 use Rattle.model_machine.specs.Row.{row}
 use Rattle.model_prove.specs.Sets.{Set, is_in}
 use Rattle.model_prove.specs.Facts.{Facts, Memory, Holds}
-use Rattle.model_prove.specs.Compares.{IsSo}
-use Rattle.model_prove.specs.Keys.{Start, Delegated, OfClass, Call, Known, Tables, calls_before, calls_below}
+use Rattle.model_prove.specs.Keys.{Start, Delegated, OfClass, Call, Tables, calls_before, calls_below}
 use Rattle.model_prove.specs.Arrivals.{Arrival}
 use Rattle.model_prove.specs.Steps.{arounds}
 use Rattle.model_prove.specs.Tables.{includes_all}
@@ -20,12 +18,6 @@ use Rattle.law_prove.proofs.Closed.{included_first}
 use Rattle.law_prove.proofs.Parts.{memory_static}
 
 -- ---- what is known of a frame
-
--- what is known at a place is so of a frame
-pub record IsKnown (k : Known) (f : Frame) (public : List ℕ) : Type 0 where
-  pub holds : Holds k.bytes (frame_memory f public)
-  pub compares : IsSo k.compare (frame_memory f public)
-  pub keeps : (session : List ℕ) → AreBytes session → Holds k.kept (moment_memory f.fixed session)
 
 -- where nothing waits a static byte is read as power would leave it
 pub static_read : (f : Frame) (public session : List ℕ) (a : ℕ) → f.pieces ≡ [] → a < length f.fixed → frame_memory f public a ≡ moment_memory f.fixed session a

@@ -25,9 +25,9 @@ use Rattle.model_prove.specs.Work.{These, Works, work, mask_work}
 use Rattle.model_prove.specs.Arrivals.{Setting}
 use Rattle.model_prove.specs.Steps.{row_arrivals, instruction, allows, is_or}
 use Rattle.model_prove.specs.Splits.{stand_in}
-use Rattle.model_prove.specs.Tables.{IsLoadable, includes_all, is_closed}
+use Rattle.model_prove.specs.Tables.{IsLoadable, includes_all}
 use Rattle.law_prove.specs.Coverings.{frame_memory}
-use Rattle.law_prove.specs.Laws.{MaskLaw}
+use Rattle.law_prove.specs.Laws.{LeadsInto, MaskLaw}
 use Rattle.law_prove.proofs.Spots.{place_key}
 use Rattle.law_prove.proofs.Acts.{spot_of, Led}
 use Rattle.law_prove.proofs.Turns.{blank, nobody}
@@ -53,7 +53,7 @@ bits_zero op c v xs ys l is = ap (λ (b : Bool). (c, b)) (ap is_zero is ∙ sym 
 
 -- ---- the operations
 
-module _ (s : Setting) (t : Tables) (g : Target) (loadable : IsLoadable s.app) (closed : is_closed s t ≡ true) (i : Ins) (turn : Turn s t i) (n : ℕ) (mask : List ℕ) (size : length mask ≡ n) (are : AreBytes mask) (over : dynamic_base + n ≤ turn.frame.dt) where
+module _ (s : Setting) (u t : Tables) (g : Target) (loadable : IsLoadable s.app) (leads : LeadsInto s u t) (i : Ins) (turn : Turn s u i) (n : ℕ) (mask : List ℕ) (size : length mask ≡ n) (are : AreBytes mask) (over : dynamic_base + n ≤ turn.frame.dt) where
   abbrev block : List ℕ
   block = bytes_from (frame_memory turn.frame turn.public) (turn.frame.dt - n) n
 
@@ -61,10 +61,10 @@ module _ (s : Setting) (t : Tables) (g : Target) (loadable : IsLoadable s.app) (
   abbrev left_of : ℕ → Shape
   left_of k = going turn.frame.dt (Replaces (masked_bytes k block mask)) (Some (turn.frame.c, is_zero (cond (k == 3) (and_blocks block mask) (masked_bytes k block mask))))
 
-  replaced : (b c : List ℕ) (fl gl : Bool × Bool) → b ≡ c → fl ≡ gl → Outcome s t g loadable closed i turn (going turn.frame.dt (Replaces b) (Some fl)) → Outcome s t g loadable closed i turn (going turn.frame.dt (Replaces c) (Some gl))
+  replaced : (b c : List ℕ) (fl gl : Bool × Bool) → b ≡ c → fl ≡ gl → Outcome s u t g loadable leads i turn (going turn.frame.dt (Replaces b) (Some fl)) → Outcome s u t g loadable leads i turn (going turn.frame.dt (Replaces c) (Some gl))
   replaced b c fl gl same alike o =
-      subst (λ (z : List ℕ). Outcome s t g loadable closed i turn (going turn.frame.dt (Replaces z) (Some gl))) same
-      (subst (λ (z : Bool × Bool). Outcome s t g loadable closed i turn (going turn.frame.dt (Replaces b) (Some z))) alike o)
+      subst (λ (z : List ℕ). Outcome s u t g loadable leads i turn (going turn.frame.dt (Replaces z) (Some gl))) same
+      (subst (λ (z : Bool × Bool). Outcome s u t g loadable leads i turn (going turn.frame.dt (Replaces b) (Some z))) alike o)
 
   bytes : AreBytes block
   bytes = memory_bytes_from (frame_memory turn.frame turn.public) (turn.frame.dt - n) n turn.place.bytes
@@ -74,13 +74,13 @@ module _ (s : Setting) (t : Tables) (g : Target) (loadable : IsLoadable s.app) (
 
   -- a mask that is laid over the top
   laid_over : (op : Operation) (ys : List ℕ) (v : List ℕ) (b0 : List ℕ) (f0 : Option (Bool × Bool)) → carries_of op ≡ false → length ys ≡ n → AreBytes ys → v ≡ (worked op block ys).0
-      → includes_all t (row_arrivals false s i (going turn.frame.dt (Replaces b0) f0) (Works (record { op = op; at = turn.frame.dt - n; n = n; operand = These ys; written = true; carries = false })) (here s t g loadable closed i turn) (there s t g loadable closed i turn)) ≡ true
-      → Outcome s t g loadable closed i turn (going turn.frame.dt (Replaces v) (Some (turn.frame.c, is_zero v)))
+      → includes_all t (row_arrivals false s i (going turn.frame.dt (Replaces b0) f0) (Works (record { op = op; at = turn.frame.dt - n; n = n; operand = These ys; written = true; carries = false })) (here s u t g loadable leads i turn) (there s u t g loadable leads i turn)) ≡ true
+      → Outcome s u t g loadable leads i turn (going turn.frame.dt (Replaces v) (Some (turn.frame.c, is_zero v)))
   laid_over op ys v b0 f0 plain count others is all =
       let m : Memory = frame_memory turn.frame turn.public in
       let r = worked op block ys in
       replaced r.0 v (turn.frame.c, (r.1).z) (turn.frame.c, is_zero v) (sym is) (sym (bits_zero op turn.frame.c v block ys (long ∙ sym count) is))
-      (replaced_outcome s t g loadable closed i turn op (turn.frame.dt - n) n (These ys) ys (refl, count) count false plain b0 f0 refl over
+      (replaced_outcome s u t g loadable leads i turn op (turn.frame.dt - n) n (These ys) ys (refl, count) count false plain b0 f0 refl over
       (subst (λ (c : Bool). allows turn.place.known.compare (record { op = op; at = turn.frame.dt - n; n = n; operand = These ys; written = true; carries = c }) (These ys) r.1 ≡ true) plain
       (immediate_allowed op true (turn.frame.dt - n) n ys turn.place.known.compare m turn.place.compares count bytes others (λ e. absurd (cc (sym (unordered op plain) ∙ e))))) all)
     where
@@ -89,13 +89,13 @@ module _ (s : Setting) (t : Tables) (g : Target) (loadable : IsLoadable s.app) (
 
   -- a test leaves the top as it was
   tested : (b0 : List ℕ) (f0 : Option (Bool × Bool))
-      → includes_all t (row_arrivals false s i (going turn.frame.dt (Replaces b0) f0) (Works (record { op = And; at = turn.frame.dt - n; n = n; operand = These mask; written = false; carries = false })) (here s t g loadable closed i turn) (there s t g loadable closed i turn)) ≡ true
-      → Outcome s t g loadable closed i turn (going turn.frame.dt (Replaces block) (Some (turn.frame.c, is_zero (and_blocks block mask))))
+      → includes_all t (row_arrivals false s i (going turn.frame.dt (Replaces b0) f0) (Works (record { op = And; at = turn.frame.dt - n; n = n; operand = These mask; written = false; carries = false })) (here s u t g loadable leads i turn) (there s u t g loadable leads i turn)) ≡ true
+      → Outcome s u t g loadable leads i turn (going turn.frame.dt (Replaces block) (Some (turn.frame.c, is_zero (and_blocks block mask))))
   tested b0 f0 all =
       let m : Memory = frame_memory turn.frame turn.public in
       let c = turn.place.known.compare in
       let r = worked And block mask in
-      let sized : Sized (frame_at turn.frame turn.next) turn.public = turn_sized s t loadable i turn in
+      let sized : Sized (frame_at turn.frame turn.next) turn.public = turn_sized s u loadable i turn in
       let tops : top turn.frame n ≡ block = top_is (frame_at turn.frame turn.next) turn.public n sized over in
       let count : length (top turn.frame n) ≡ n = ap (λ (b : List ℕ). length b) tops ∙ long in
       let k = turn.frame.dt - n - dynamic_base in
@@ -103,8 +103,8 @@ module _ (s : Setting) (t : Tables) (g : Target) (loadable : IsLoadable s.app) (
       ap (λ (j : ℕ). splice turn.frame.dyn (turn.frame.dt - j - dynamic_base) block) long
       ∙ (ap (λ (b : List ℕ). splice turn.frame.dyn k b) (sym tops) ∙ splice_self turn.frame.dyn k n count)
       in
-      let o : Outcome s t g loadable closed i turn (going turn.frame.dt Stays (Some (turn.frame.c, (r.1).z))) =
-      compared_outcome s t g loadable closed i turn And (turn.frame.dt - n) n (These mask) mask (refl, size) size false refl f0
+      let o : Outcome s u t g loadable leads i turn (going turn.frame.dt Stays (Some (turn.frame.c, (r.1).z))) =
+      compared_outcome s u t g loadable leads i turn And (turn.frame.dt - n) n (These mask) mask (refl, size) size false refl f0
       (immediate_allowed And false (turn.frame.dt - n) n mask c m turn.place.compares size bytes are (λ e. absurd (cc e)))
       (immediate_so And (turn.frame.dt - n) n mask c m turn.place.compares size bytes are (λ e. absurd (cc e))) all
       in
@@ -120,8 +120,8 @@ module _ (s : Setting) (t : Tables) (g : Target) (loadable : IsLoadable s.app) (
 
   -- by the operation
   by_mode : (k : ℕ) (l : Frame) (b0 : List ℕ) (f0 : Option (Bool × Bool)) → l.dt ≡ turn.frame.dt → nat_lt 3 k ≡ false
-      → includes_all t (row_arrivals false s i (going turn.frame.dt (Replaces b0) f0) (mask_work (record l { dt = turn.frame.dt }) k n mask) (here s t g loadable closed i turn) (there s t g loadable closed i turn)) ≡ true
-      → Outcome s t g loadable closed i turn (left_of k)
+      → includes_all t (row_arrivals false s i (going turn.frame.dt (Replaces b0) f0) (mask_work (record l { dt = turn.frame.dt }) k n mask) (here s u t g loadable leads i turn) (there s u t g loadable leads i turn)) ≡ true
+      → Outcome s u t g loadable leads i turn (left_of k)
   by_mode zero l b0 f0 same low all = laid_over And (not_block mask) (and_blocks block (not_block mask)) b0 f0 refl (length_map (λ x. 255 - x) mask ∙ size) (inverted mask) (sym (worked_and block (not_block mask))) all
   by_mode (suc zero) l b0 f0 same low all = laid_over Or mask (or_blocks block mask) b0 f0 refl size are (sym (worked_or block mask)) all
   by_mode (suc (suc zero)) l b0 f0 same low all = laid_over Xor mask (xor_blocks block mask) b0 f0 refl size are (sym (worked_xor block mask)) all
@@ -135,16 +135,16 @@ module _ (i : Ins) (n k : ℕ) (mask : List ℕ) where
     pub task : (f : Frame) (public : List ℕ) → work i f public ≡ mask_work f k n mask
 
   mask_case : IsMask → length mask ≡ n → AreBytes mask → RowCase i
-  mask_case is size are s t g loadable closed turn includes =
+  mask_case is size are s u t g loadable leads turn includes =
       let f : Frame = frame_at turn.frame turn.next in
-      let l : Frame = scene s t g loadable closed i turn in
+      let l : Frame = scene s u t g loadable leads i turn in
       let d = turn.frame.dt in
       let cs : List (Abend × Bool) = (A06, nat_lt 3 k) ∷ (A0A, false) ∷ (A04, is_under f n) ∷ [] in
       let b0 = masked_bytes k (top l n) mask in
       let xs = bytes_from (frame_memory turn.frame turn.public) (d - n) n in
       let f0 = Some (f.c, is_zero (cond (k == 3) (and_blocks (top l n) mask) b0)) in
-      let sized : Sized f turn.public = turn_sized s t loadable i turn in
-      outcome_row s t g loadable closed i turn cs d (Replaces b0) (Replaces (masked_bytes k xs mask)) f0 (Some (f.c, is_zero (cond (k == 3) (and_blocks xs mask) (masked_bytes k xs mask)))) (mask_work l k n mask) includes
+      let sized : Sized f turn.public = turn_sized s u loadable i turn in
+      outcome_row s u t g loadable leads i turn cs d (Replaces b0) (Replaces (masked_bytes k xs mask)) f0 (Some (f.c, is_zero (cond (k == 3) (and_blocks xs mask) (masked_bytes k xs mask)))) (mask_work l k n mask) includes
       (is.cause l blank nobody) (is.cause f turn.public turn.around) (is.form l blank nobody)
       (λ none.
       let over = above f n none.1.1.0 in
@@ -153,7 +153,7 @@ module _ (i : Ins) (n k : ℕ) (mask : List ℕ) where
       (is.task l blank) refl
       (λ none all.
       let over = above f n none.1.1.0 in
-      by_mode s t g loadable closed i turn n mask size are (omega (arith, over)) k l b0 f0 refl none.0 all)
+      by_mode s u t g loadable leads i turn n mask size are (omega (arith, over)) k l b0 f0 refl none.0 all)
 
 -- ---- the laws
 
@@ -164,7 +164,7 @@ three_bytes (a ∷ b ∷ []) e = absurd (omega (arith, e))
 three_bytes (a ∷ b ∷ c ∷ rest) e = (refl, refl)
 
 byte_once : (args : List ℕ) → IsFetchedOnce (ins.Prim 2 1 args)
-byte_once args s t g loadable closed turn e =
+byte_once args s u t g loadable leads turn e =
     asks_nobody t
     (instruction s (ins.Prim 2 1 args) (record { frame = frame_at (stand_in s.app (place_key turn.place.start turn.place.standing.allowances turn.frame turn.place.calls)).frame turn.next; public = blank })
     (spot_of turn.place.start turn.place.standing.allowances turn.frame turn.place.calls turn.place.known) (spot_of turn.place.start turn.place.standing.allowances (frame_at turn.frame turn.next) turn.place.calls turn.place.known))
@@ -172,12 +172,12 @@ byte_once args s t g loadable closed turn e =
 
 byte_case : (args : List ℕ) → RowCase (ins.Prim 2 1 args)
 unfolding causes shape later_causes prim_shape
-byte_case args s t g loadable closed turn includes =
+byte_case args s u t g loadable leads turn includes =
     mask_case (ins.Prim 2 1 args) 1 (slice_index args 0) (take 1 (drop 1 args)) (record { cause = λ f public x. refl; form = λ f public x. refl; task = λ f public. refl })
-    (three_bytes args turn.shaped.three).0 (taken 1 (drop 1 args) (bytes_after args 1 turn.shaped.bytes)) s t g loadable closed turn includes
+    (three_bytes args turn.shaped.three).0 (taken 1 (drop 1 args) (bytes_after args 1 turn.shaped.bytes)) s u t g loadable leads turn includes
 
 word_once : (args : List ℕ) → IsFetchedOnce (ins.Prim 3 1 args)
-word_once args s t g loadable closed turn e =
+word_once args s u t g loadable leads turn e =
     asks_nobody t
     (instruction s (ins.Prim 3 1 args) (record { frame = frame_at (stand_in s.app (place_key turn.place.start turn.place.standing.allowances turn.frame turn.place.calls)).frame turn.next; public = blank })
     (spot_of turn.place.start turn.place.standing.allowances turn.frame turn.place.calls turn.place.known) (spot_of turn.place.start turn.place.standing.allowances (frame_at turn.frame turn.next) turn.place.calls turn.place.known))
@@ -185,9 +185,9 @@ word_once args s t g loadable closed turn e =
 
 word_case : (args : List ℕ) → RowCase (ins.Prim 3 1 args)
 unfolding causes shape later_causes prim_shape
-word_case args s t g loadable closed turn includes =
+word_case args s u t g loadable leads turn includes =
     mask_case (ins.Prim 3 1 args) 2 (slice_index args 0) (take 2 (drop 1 args)) (record { cause = λ f public x. refl; form = λ f public x. refl; task = λ f public. refl })
-    (three_bytes args turn.shaped.three).1 (taken 2 (drop 1 args) (bytes_after args 1 turn.shaped.bytes)) s t g loadable closed turn includes
+    (three_bytes args turn.shaped.three).1 (taken 2 (drop 1 args) (bytes_after args 1 turn.shaped.bytes)) s u t g loadable leads turn includes
 
 pub mask_laws : MaskLaw
 mask_laws = (λ args. law_of (ins.Prim 2 1 args) (byte_once args) (byte_case args), λ args. law_of (ins.Prim 3 1 args) (word_once args) (word_case args))

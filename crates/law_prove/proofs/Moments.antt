@@ -157,17 +157,17 @@ idle_by false fixed a e = let high = ltb-false a (length fixed) e in sym (past_e
 idle_memory : (fixed : List ℕ) (a : ℕ) → moment_memory fixed [] a ≡ slice_index fixed a
 idle_memory fixed a = idle_by (nat_lt a (length fixed)) fixed a refl
 
+-- ---- the moments that follow
+
+pub from_memory : (s : Setting) (t : Tables) (x : Bool) (h : History) (fixed session : List ℕ) (standing : Standing) → standing_after s.rules h ≡ Ok standing → length fixed ≡ static_size s → AreBytes fixed → AreBytes session
+    → HasMoment t (record { selected = x; allowances = standing.allowances }) (moment_memory fixed session) → IsMoment s t x h fixed session
+from_memory s t x h fixed session standing stands size static dynamic m =
+    record { standing = standing; stands = stands; facts = m.facts; there = m.there; holds = m.holds; size = size; static = static; dynamic = dynamic }
+
 module _ (s : Setting) (t : Tables) (loadable : IsLoadable s.app) (closed : is_closed s t ≡ true) where
-  -- ---- the moments that follow
-
-  pub from_memory : (x : Bool) (h : History) (fixed session : List ℕ) (standing : Standing) → standing_after s.rules h ≡ Ok standing → length fixed ≡ static_size s → AreBytes fixed → AreBytes session
-      → HasMoment t (record { selected = x; allowances = standing.allowances }) (moment_memory fixed session) → IsMoment s t x h fixed session
-  from_memory x h fixed session standing stands size static dynamic m =
-      record { standing = standing; stands = stands; facts = m.facts; there = m.there; holds = m.holds; size = size; static = static; dynamic = dynamic }
-
   is_created : IsMoment s t false [] s.app.fixed []
   is_created =
-      from_memory false [] s.app.fixed [] (first_standing s.rules) refl refl loadable.bytes tt
+      from_memory s t false [] s.app.fixed [] (first_standing s.rules) refl refl loadable.bytes tt
       (moment_included t (record { selected = false; allowances = s.rules.allowances }) (know_bytes 0 s.app.fixed []) (moment_memory s.app.fixed []) (created_included s t closed) (created_holds s.app.fixed)
       (memory_bytes s.app.fixed [] loadable.bytes tt))
 
@@ -179,7 +179,7 @@ module _ (s : Setting) (t : Tables) (loadable : IsLoadable s.app) (closed : is_c
       let next : Arrives t (after_session s a) (λ b. AtMoment (record { selected = true; allowances = b }) (with_zero_session s m.facts) ∷ []) =
       arrives t None (after_session s a) (λ b. AtMoment (record { selected = true; allowances = b }) (with_zero_session s m.facts) ∷ []) sel
       in
-      from_memory true (Session ∷ h) fixed (zeros s.app.session) (record m.standing { allowances = next.allowances }) (session_stands s h m.standing next.allowances m.stands next.is) m.size m.static (zeros_are s.app.session)
+      from_memory s t true (Session ∷ h) fixed (zeros s.app.session) (record m.standing { allowances = next.allowances }) (session_stands s h m.standing next.allowances m.stands next.is) m.size m.static (zeros_are s.app.session)
       (moment_included t (record { selected = true; allowances = next.allowances }) (with_zero_session s m.facts) (moment_memory fixed (zeros s.app.session)) next.rest
       (zero_session_holds s m.facts fixed session m.size loadable.static m.holds) (memory_bytes fixed (zeros s.app.session) m.static (zeros_are s.app.session)))
 
@@ -190,7 +190,7 @@ module _ (s : Setting) (t : Tables) (loadable : IsLoadable s.app) (closed : is_c
       let on = included_second t (selected s a m.facts) (continued true s (classes s.rules) a m.facts) all in
       let end = included_first t (arrive None (after_session s a) (λ b. idle b (static_facts s m.facts))) (flat_map (commanded s a m.facts) (classes s.rules)) on in
       let next : Arrives t (after_session s a) (λ b. idle b (static_facts s m.facts)) = arrives t None (after_session s a) (λ b. idle b (static_facts s m.facts)) end in
-      from_memory false (Session ∷ h) fixed [] (record m.standing { allowances = next.allowances }) (session_stands s h m.standing next.allowances m.stands next.is) m.size m.static tt
+      from_memory s t false (Session ∷ h) fixed [] (record m.standing { allowances = next.allowances }) (session_stands s h m.standing next.allowances m.stands next.is) m.size m.static tt
       (moment_included t (record { selected = false; allowances = next.allowances }) (static_facts s m.facts) (moment_memory fixed []) next.rest
       (static_holds s m.facts fixed session [] m.size m.holds) (memory_bytes fixed [] m.static tt))
 

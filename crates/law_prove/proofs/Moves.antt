@@ -48,8 +48,8 @@ above_by f true n e = let h = above f (2 * n) e in omega (arith, h)
 above_by f false n e = above f n e
 
 -- the segments of a turn's frame have their lengths
-pub turn_sized : (s : Setting) (t : Tables) (loadable : IsLoadable s.app) (i : Ins) (turn : Turn s t i) → Sized (frame_at turn.frame turn.next) turn.public
-turn_sized s t loadable i turn =
+pub turn_sized : (s : Setting) (u : Tables) (loadable : IsLoadable s.app) (i : Ins) (turn : Turn s u i) → Sized (frame_at turn.frame turn.next) turn.public
+turn_sized s u loadable i turn =
     let frame : IsFrameOf s.app turn.frame = turn.place.frame in
     let size : length turn.frame.fixed ≡ length s.app.fixed = frame.size in
     let small : length s.app.fixed ≤ dynamic_base = loadable.static in
@@ -64,7 +64,7 @@ copied_fit f m from n k b is same fit =
 
 load_case : (tag : ℕ) (off : ℤ) (n : ℕ) → RowCase (ins.Load tag off n)
 unfolding causes shape
-load_case tag off n s t g loadable closed turn includes =
+load_case tag off n s u t g loadable leads turn includes =
     let i : Ins = ins.Load tag off n in
     let f : Frame = frame_at turn.frame turn.next in
     let l : Frame = like f (stand_in_stack turn.place.calls) in
@@ -78,11 +78,11 @@ load_case tag off n s t g loadable closed turn includes =
     let access : no_access l (operand l tag off n) n ≡ no_access f o n = ap (λ (z : Option ℕ). no_access l z n) same ∙ same_access f (stand_in_stack turn.place.calls) o n in
     let cs : List (Abend × Bool) = (A06, n == 0) ∷ (A04, tag == 0 && is_under f n) ∷ (A03, no_access f o n) ∷ (A05, nat_lt dynamic_end (d + n)) ∷ [] in
     let ss : List Set = values_from turn.place.known.bytes from (length b0) in
-    let sized : Sized f turn.public = turn_sized s t loadable i turn in
-    moved_row s t g loadable closed i turn cs d (Pushes b0) (Pushes b1) None (Copies from) ss includes
+    let sized : Sized f turn.public = turn_sized s u loadable i turn in
+    moved_row s u t g loadable leads i turn cs d (Pushes b0) (Pushes b1) None (Copies from) ss includes
     (ap (λ (z : Bool). (A06, n == 0) ∷ (A04, tag == 0 && is_under f n) ∷ (A03, z) ∷ (A05, nat_lt dynamic_end (d + n)) ∷ []) access) refl refl refl
     (ap (λ (z : Option ℕ). Copies (address_or_zero z)) same) refl
-    (λ none all. one_copied s t i d (Pushes b0) None from (here s t g loadable closed i turn) (there s t g loadable closed i turn) all)
+    (λ none all. one_copied s t i d (Pushes b0) None from (here s u t g loadable leads i turn) (there s u t g loadable leads i turn) all)
     (λ none.
     let some : (n == 0) ≡ false = none.0 in
     let within : is_none (where_is f from n) ≡ false = inside_of f o n some none.1.1.0 in
@@ -94,7 +94,7 @@ load_case tag off n s t g loadable closed turn includes =
     let count : length b0 ≡ n = ap (λ (z : List ℕ). length z) stood ∙ from_length (frame_memory l blank) from n in
     let long : length b1 ≡ n = ap (λ (z : List ℕ). length z) read ∙ from_length m from n in
     let fit : FitSets b1 ss = copied_fit turn.place.known.bytes m from n (length b0) b1 read count (fit_values turn.place.known.bytes m from n turn.place.holds turn.place.bytes) in
-    led_pushes s t g loadable closed i turn d b1 ss fit (over_is d n (length b1) none.1.1.1.0 long) turn.place.frame.low turn.place.frame.high)
+    led_pushes s u t g loadable leads i turn d b1 ss fit (over_is d n (length b1) none.1.1.1.0 long) turn.place.frame.low turn.place.frame.high)
 
 -- ---- SETB and SETW
 
@@ -107,7 +107,7 @@ module _ (i : Ins) (tag : ℕ) (off : ℤ) (n : ℕ) (b : List ℕ) (size : leng
     pub task : (f : Frame) (public : List ℕ) → work i f public ≡ AsShaped
 
   pub set_case : IsSet → RowCase i
-  set_case is s t g loadable closed turn includes =
+  set_case is s u t g loadable leads turn includes =
       let f : Frame = frame_at turn.frame turn.next in
       let l : Frame = like f (stand_in_stack turn.place.calls) in
       let d = turn.frame.dt in
@@ -122,14 +122,14 @@ module _ (i : Ins) (tag : ℕ) (off : ℤ) (n : ℕ) (b : List ℕ) (size : leng
       ∙ ap (λ (z : Bool). (A04, tag == 0 && is_under f n) ∷ (A03, z) ∷ (A08, was) ∷ []) (same_access f (stand_in_stack turn.place.calls) o n))
       in
       let unmet : was ≡ false = few_wait f (stand_in_stack turn.place.calls) a n few in
-      limited_row s t g loadable closed i turn cs was (too_many f a n) d (Writes a n b) (Writes a n b) None AsShaped (sets b) includes stand (is.cause f turn.public turn.around)
+      limited_row s u t g loadable leads i turn cs was (too_many f a n) d (Writes a n b) (Writes a n b) None AsShaped (sets b) includes stand (is.cause f turn.public turn.around)
       (is.form l blank nobody ∙ ap (λ (z : Option ℕ). going d (Writes (address_or_zero z) n b) None) same) (is.form f turn.public turn.around) (is.task l blank) refl
       (λ none many less. many_wait s f a n n b (positive n some) turn.place.frame.size turn.place.frame.inside many)
       (λ none many. absurd (cc (sym unmet ∙ many)))
-      (λ none all. one_shaped s t i d (Writes a n b) None (here s t g loadable closed i turn) (there s t g loadable closed i turn) all)
+      (λ none all. one_shaped s t i d (Writes a n b) None (here s u t g loadable leads i turn) (there s u t g loadable leads i turn) all)
       (λ none.
       let within : is_none (where_is f a n) ≡ false = inside_of f o n some none.1.0 in
-      led_writes s t g loadable closed i turn d a n b (sets b) (subst (λ (k : ℕ). is_none (where_is f a k) ≡ false) (sym size) within) (fit_sets b) (subst (λ (k : ℕ). 0 < k) (sym size) (positive n some)) turn.place.frame.low turn.place.frame.high)
+      led_writes s u t g loadable leads i turn d a n b (sets b) (subst (λ (k : ℕ). is_none (where_is f a k) ≡ false) (sym size) within) (fit_sets b) (subst (λ (k : ℕ). 0 < k) (sym size) (positive n some)) turn.place.frame.low turn.place.frame.high)
 
 setb_case : (tag : ℕ) (off : ℤ) (v : ℕ) → RowCase (ins.Setb tag off v)
 unfolding causes shape
@@ -143,7 +143,7 @@ setw_case tag off v = set_case (ins.Setw tag off v) tag off 2 (bytes2 v) refl re
 
 store_case : (tag : ℕ) (off : ℤ) (n : ℕ) → RowCase (ins.Store tag off n)
 unfolding causes shape
-store_case tag off n s t g loadable closed turn includes =
+store_case tag off n s u t g loadable leads turn includes =
     let i : Ins = ins.Store tag off n in
     let f : Frame = frame_at turn.frame turn.next in
     let dyn = stand_in_stack turn.place.calls in
@@ -161,14 +161,14 @@ store_case tag off n s t g loadable closed turn includes =
     let b0 = top l n in
     let b1 = top f n in
     let ss : List Set = values_from turn.place.known.bytes d (length b0) in
-    let sized : Sized f turn.public = turn_sized s t loadable i turn in
-    limited_row s t g loadable closed i turn cs was (too_many low a n) d (Writes a n b0) (Writes a n b1) None (Copies d) ss includes
+    let sized : Sized f turn.public = turn_sized s u loadable i turn in
+    limited_row s u t g loadable leads i turn cs was (too_many low a n) d (Writes a n b0) (Writes a n b1) None (Copies d) ss includes
     (ap (λ (z : Option ℕ). (A06, n == 0) ∷ (A04, is_under f (on_stack tag (2 * n) n)) ∷ (A03, no_access (frame_after_pop l n) z n) ∷ (A08, too_many (frame_after_pop l n) (address_or_zero z) n) ∷ []) same
     ∙ ap (λ (z : Bool). (A06, n == 0) ∷ (A04, is_under f (on_stack tag (2 * n) n)) ∷ (A03, z) ∷ (A08, was) ∷ []) (same_access low dyn o n)) refl
     (ap (λ (z : Option ℕ). going d (Writes (address_or_zero z) n b0) None) same) refl refl refl
     (λ none many less. many_wait s low a n n b0 (positive n none.0) turn.place.frame.size turn.place.frame.inside many)
     (λ none many. absurd (cc (sym unmet ∙ many)))
-    (λ none all. one_copied s t i d (Writes a n b0) None d (here s t g loadable closed i turn) (there s t g loadable closed i turn) all)
+    (λ none all. one_copied s t i d (Writes a n b0) None d (here s u t g loadable leads i turn) (there s u t g loadable leads i turn) all)
     (λ none.
     let some : (n == 0) ≡ false = none.0 in
     let over : dynamic_base + turn.frame.session + n ≤ turn.frame.dt = above_by f (tag == 0) n none.1.0 in
@@ -180,14 +180,14 @@ store_case tag off n s t g loadable closed turn includes =
     let long : length b1 ≡ n = ap (λ (z : List ℕ). length z) read ∙ from_length m d n in
     let fit : FitSets b1 ss = copied_fit turn.place.known.bytes m d n (length b0) b1 read count (fit_values turn.place.known.bytes m d n turn.place.holds turn.place.bytes) in
     let high : turn.frame.dt ≤ dynamic_end = turn.place.frame.high in
-    led_writes s t g loadable closed i turn d a n b1 ss (subst (λ (k : ℕ). is_none (where_is low a k) ≡ false) (sym long) within) fit (subst (λ (k : ℕ). 0 < k) (sym long) (positive n some)) (omega (arith, over)) (omega (arith, high)))
+    led_writes s u t g loadable leads i turn d a n b1 ss (subst (λ (k : ℕ). is_none (where_is low a k) ≡ false) (sym long) within) fit (subst (λ (k : ℕ). 0 < k) (sym long) (positive n some)) (omega (arith, over)) (omega (arith, high)))
 
 -- ---- the laws
 
 pub move_laws : MoveLaw
 move_laws = (
-  λ tag off n. law_of (ins.Load tag off n) (λ s t g loadable closed turn e. e) (load_case tag off n),
-  λ tag off n. law_of (ins.Store tag off n) (λ s t g loadable closed turn e. e) (store_case tag off n),
-  λ tag off b. law_of (ins.Setb tag off b) (λ s t g loadable closed turn e. e) (setb_case tag off b),
-  λ tag off w. law_of (ins.Setw tag off w) (λ s t g loadable closed turn e. e) (setw_case tag off w),
+  λ tag off n. law_of (ins.Load tag off n) (λ s u t g loadable leads turn e. e) (load_case tag off n),
+  λ tag off n. law_of (ins.Store tag off n) (λ s u t g loadable leads turn e. e) (store_case tag off n),
+  λ tag off b. law_of (ins.Setb tag off b) (λ s u t g loadable leads turn e. e) (setb_case tag off b),
+  λ tag off w. law_of (ins.Setw tag off w) (λ s u t g loadable leads turn e. e) (setw_case tag off w),
 )

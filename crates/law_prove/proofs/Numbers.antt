@@ -58,7 +58,7 @@ both_flags w = (w.c, w.z)
 
 cmpb_case : (tag : ℕ) (off : ℤ) (v : ℕ) → RowCase (ins.Cmpb tag off v)
 unfolding causes shape
-cmpb_case tag off v s t g loadable closed turn includes =
+cmpb_case tag off v s u t g loadable leads turn includes =
     let b = v ∷ [] in
     let are : AreBytes b = (turn.shaped.1, tt) in
     compare_case (ins.Cmpb tag off v) tag off 1 Minus b refl are (omega arith) [] (λ none. refl) (λ f xs. both_flags (sub_blocks xs b))
@@ -68,11 +68,11 @@ cmpb_case tag off v s t g loadable closed turn includes =
       task = λ f public. refl;
       flags = λ f xs size bytes. ap both_flags (difference_left xs b size bytes are);
       runs = λ xs size bytes. runs_minus false 1 xs b size refl bytes are;
-    }) s t g loadable closed turn includes
+    }) s u t g loadable leads turn includes
 
 cmpw_case : (tag : ℕ) (off : ℤ) (v : ℕ) → RowCase (ins.Cmpw tag off v)
 unfolding causes shape
-cmpw_case tag off v s t g loadable closed turn includes =
+cmpw_case tag off v s u t g loadable leads turn includes =
     let b = bytes2 v in
     let are : AreBytes b = pair_bytes v in
     compare_case (ins.Cmpw tag off v) tag off 2 Minus b refl are (omega arith) [] (λ none. refl) (λ f xs. both_flags (sub_blocks xs b))
@@ -82,11 +82,11 @@ cmpw_case tag off v s t g loadable closed turn includes =
       task = λ f public. refl;
       flags = λ f xs size bytes. ap both_flags (difference_left xs b size bytes are);
       runs = λ xs size bytes. runs_minus false 2 xs b size refl bytes are;
-    }) s t g loadable closed turn includes
+    }) s u t g loadable leads turn includes
 
 cmpn_case : (tag : ℕ) (off : ℤ) (n : ℕ) → RowCase (ins.Cmpn tag off n)
 unfolding causes shape
-cmpn_case tag off n s t g loadable closed turn includes =
+cmpn_case tag off n s u t g loadable leads turn includes =
     let byte : n < 256 = turn.shaped.1 in
     pair_compare_case (ins.Cmpn tag off n) tag off n Minus (omega (arith, byte)) (A06, n == 0) (λ none. none) (λ f xs ys. both_flags (sub_blocks xs ys))
     (record {
@@ -94,13 +94,13 @@ cmpn_case tag off n s t g loadable closed turn includes =
       form = λ f public x. refl;
       task = λ f public. refl;
       flags = λ f xs ys a b h k. ap both_flags (difference_left xs ys (a ∙ sym b) h k);
-    }) s t g loadable closed turn includes
+    }) s u t g loadable leads turn includes
 
 -- ---- sums and differences with an immediate
 
 addb_case : (tag : ℕ) (off : ℤ) (v : ℕ) → RowCase (ins.Addb tag off v)
 unfolding causes shape
-addb_case tag off v s t g loadable closed turn includes =
+addb_case tag off v s u t g loadable leads turn includes =
     let b = v ∷ [] in
     let are : AreBytes b = (turn.shaped.1, tt) in
     result_case (ins.Addb tag off v) tag off 1 Plus b refl are (omega arith) [] (λ none. refl) (λ xs. (add_blocks xs b).value) (λ f xs. both_flags (add_blocks xs b))
@@ -111,11 +111,11 @@ addb_case tag off v s t g loadable closed turn includes =
       value = λ some xs size bytes. ap (λ (w : Worked). w.value) (sum_left xs b size bytes are);
       flags = λ some f xs size bytes. ap both_flags (sum_left xs b size bytes are);
       runs = λ xs size bytes. runs_plus true 1 xs b size refl bytes are;
-    }) s t g loadable closed turn includes
+    }) s u t g loadable leads turn includes
 
 addw_case : (tag : ℕ) (off : ℤ) (v : ℕ) → RowCase (ins.Addw tag off v)
 unfolding causes shape
-addw_case tag off v s t g loadable closed turn includes =
+addw_case tag off v s u t g loadable leads turn includes =
     let b = bytes2 v in
     let are : AreBytes b = pair_bytes v in
     result_case (ins.Addw tag off v) tag off 2 Plus b refl are (omega arith) [] (λ none. refl) (λ xs. (add_blocks xs b).value) (λ f xs. both_flags (add_blocks xs b))
@@ -126,11 +126,11 @@ addw_case tag off v s t g loadable closed turn includes =
       value = λ some xs size bytes. ap (λ (w : Worked). w.value) (sum_left xs b size bytes are);
       flags = λ some f xs size bytes. ap both_flags (sum_left xs b size bytes are);
       runs = λ xs size bytes. runs_plus true 2 xs b size refl bytes are;
-    }) s t g loadable closed turn includes
+    }) s u t g loadable leads turn includes
 
 subb_case : (tag : ℕ) (off : ℤ) (v : ℕ) → RowCase (ins.Subb tag off v)
 unfolding causes shape
-subb_case tag off v s t g loadable closed turn includes =
+subb_case tag off v s u t g loadable leads turn includes =
     let b = v ∷ [] in
     let are : AreBytes b = (turn.shaped.1, tt) in
     result_case (ins.Subb tag off v) tag off 1 Minus b refl are (omega arith) [] (λ none. refl) (λ xs. (sub_blocks xs b).value) (λ f xs. both_flags (sub_blocks xs b))
@@ -141,11 +141,11 @@ subb_case tag off v s t g loadable closed turn includes =
       value = λ some xs size bytes. ap (λ (w : Worked). w.value) (difference_left xs b size bytes are);
       flags = λ some f xs size bytes. ap both_flags (difference_left xs b size bytes are);
       runs = λ xs size bytes. runs_minus true 1 xs b size refl bytes are;
-    }) s t g loadable closed turn includes
+    }) s u t g loadable leads turn includes
 
 subw_case : (tag : ℕ) (off : ℤ) (v : ℕ) → RowCase (ins.Subw tag off v)
 unfolding causes shape
-subw_case tag off v s t g loadable closed turn includes =
+subw_case tag off v s u t g loadable leads turn includes =
     let b = bytes2 v in
     let are : AreBytes b = pair_bytes v in
     result_case (ins.Subw tag off v) tag off 2 Minus b refl are (omega arith) [] (λ none. refl) (λ xs. (sub_blocks xs b).value) (λ f xs. both_flags (sub_blocks xs b))
@@ -156,7 +156,7 @@ subw_case tag off v s t g loadable closed turn includes =
       value = λ some xs size bytes. ap (λ (w : Worked). w.value) (difference_left xs b size bytes are);
       flags = λ some f xs size bytes. ap both_flags (difference_left xs b size bytes are);
       runs = λ xs size bytes. runs_minus true 2 xs b size refl bytes are;
-    }) s t g loadable closed turn includes
+    }) s u t g loadable leads turn includes
 
 -- ---- INCN and DECN
 
@@ -244,7 +244,7 @@ kept_block n xs long h = subst (λ (k : ℕ). xs ≡ or_blocks xs (zeros k)) lon
 
 clearn_case : (tag : ℕ) (off : ℤ) (n : ℕ) → RowCase (ins.Clearn tag off n)
 unfolding causes shape
-clearn_case tag off n s t g loadable closed turn includes =
+clearn_case tag off n s u t g loadable leads turn includes =
     let byte : n < 256 = turn.shaped.1 in
     let b = zeros n in
     let size : length b ≡ n = length-replicate {A = ℕ} n 0 in
@@ -257,11 +257,11 @@ clearn_case tag off n s t g loadable closed turn includes =
       value = λ some xs long bytes. cleared n xs long bytes ∙ sym (worked_and xs b);
       flags = λ some f xs long bytes. bit_flags And f.c (zeros n) xs b (long ∙ sym size) (cleared n xs long bytes ∙ sym (worked_and xs b));
       runs = λ xs long bytes. λ e. absurd (cc e);
-    }) s t g loadable closed turn includes
+    }) s u t g loadable leads turn includes
 
 notn_case : (tag : ℕ) (off : ℤ) (n : ℕ) → RowCase (ins.Notn tag off n)
 unfolding causes shape
-notn_case tag off n s t g loadable closed turn includes =
+notn_case tag off n s u t g loadable leads turn includes =
     let byte : n < 256 = turn.shaped.1 in
     let b = replicate n 255 in
     let size : length b ≡ n = length-replicate {A = ℕ} n 255 in
@@ -274,11 +274,11 @@ notn_case tag off n s t g loadable closed turn includes =
       value = λ some xs long bytes. inverted n xs long bytes ∙ sym (worked_xor xs b);
       flags = λ some f xs long bytes. bit_flags Xor f.c (not_block xs) xs b (long ∙ sym size) (inverted n xs long bytes ∙ sym (worked_xor xs b));
       runs = λ xs long bytes. λ e. absurd (cc e);
-    }) s t g loadable closed turn includes
+    }) s u t g loadable leads turn includes
 
 testn_case : (tag : ℕ) (off : ℤ) (n : ℕ) → RowCase (ins.Testn tag off n)
 unfolding causes shape
-testn_case tag off n s t g loadable closed turn includes =
+testn_case tag off n s u t g loadable leads turn includes =
     let byte : n < 256 = turn.shaped.1 in
     let b = zeros n in
     let size : length b ≡ n = length-replicate {A = ℕ} n 0 in
@@ -290,13 +290,13 @@ testn_case tag off n s t g loadable closed turn includes =
       task = λ f public. refl;
       flags = λ f xs long bytes. bit_flags Or f.c xs xs b (long ∙ sym size) (kept_block n xs long bytes ∙ sym (worked_or xs b));
       runs = λ xs long bytes e. ap num (worked_or xs b ∙ sym (kept_block n xs long bytes));
-    }) s t g loadable closed turn includes
+    }) s u t g loadable leads turn includes
 
 -- ---- INCN and DECN: of no bytes they abend
 
 incn_case : (tag : ℕ) (off : ℤ) (n : ℕ) → RowCase (ins.Incn tag off n)
 unfolding causes shape
-incn_case tag off n s t g loadable closed turn includes =
+incn_case tag off n s u t g loadable leads turn includes =
     let byte : n < 256 = turn.shaped.1 in
     let b = bytes n 1 in
     let are : AreBytes b = number_bytes n 1 in
@@ -308,11 +308,11 @@ incn_case tag off n s t g loadable closed turn includes =
       value = λ some xs long bytes. ap (λ (w : Worked). w.value) (inc_left n xs some long bytes);
       flags = λ some f xs long bytes. ap both_flags (inc_left n xs some long bytes);
       runs = λ xs long bytes. runs_plus true n xs b long (length_bytes n 1) bytes are;
-    }) s t g loadable closed turn includes
+    }) s u t g loadable leads turn includes
 
 decn_case : (tag : ℕ) (off : ℤ) (n : ℕ) → RowCase (ins.Decn tag off n)
 unfolding causes shape
-decn_case tag off n s t g loadable closed turn includes =
+decn_case tag off n s u t g loadable leads turn includes =
     let byte : n < 256 = turn.shaped.1 in
     let b = bytes n 1 in
     let are : AreBytes b = number_bytes n 1 in
@@ -324,13 +324,13 @@ decn_case tag off n s t g loadable closed turn includes =
       value = λ some xs long bytes. ap (λ (w : Worked). w.value) (dec_left n xs some long bytes);
       flags = λ some f xs long bytes. ap both_flags (dec_left n xs some long bytes);
       runs = λ xs long bytes. runs_minus true n xs b long (length_bytes n 1) bytes are;
-    }) s t g loadable closed turn includes
+    }) s u t g loadable leads turn includes
 
 -- ---- blocks against the top of the stack
 
 addn_case : (tag : ℕ) (off : ℤ) (n : ℕ) → RowCase (ins.Addn tag off n)
 unfolding causes shape
-addn_case tag off n s t g loadable closed turn includes =
+addn_case tag off n s u t g loadable leads turn includes =
     let byte : n < 256 = turn.shaped.1 in
     pair_result_case (ins.Addn tag off n) tag off n Plus (omega (arith, byte)) (A06, not (in_range 1 16 n)) (λ none. ranged n none) (λ xs ys. (add_blocks xs ys).value) (λ f xs ys. both_flags (add_blocks xs ys))
     (record {
@@ -340,11 +340,11 @@ addn_case tag off n s t g loadable closed turn includes =
       value = λ xs ys a b h k. ap (λ (w : Worked). w.value) (sum_left xs ys (a ∙ sym b) h k);
       flags = λ f xs ys a b h k. ap both_flags (sum_left xs ys (a ∙ sym b) h k);
       runs = λ xs ys a b h k. runs_plus true n xs ys a b h k;
-    }) s t g loadable closed turn includes
+    }) s u t g loadable leads turn includes
 
 subn_case : (tag : ℕ) (off : ℤ) (n : ℕ) → RowCase (ins.Subn tag off n)
 unfolding causes shape
-subn_case tag off n s t g loadable closed turn includes =
+subn_case tag off n s u t g loadable leads turn includes =
     let byte : n < 256 = turn.shaped.1 in
     pair_result_case (ins.Subn tag off n) tag off n Minus (omega (arith, byte)) (A06, not (in_range 1 16 n)) (λ none. ranged n none) (λ xs ys. (sub_blocks xs ys).value) (λ f xs ys. both_flags (sub_blocks xs ys))
     (record {
@@ -354,11 +354,11 @@ subn_case tag off n s t g loadable closed turn includes =
       value = λ xs ys a b h k. ap (λ (w : Worked). w.value) (difference_left xs ys (a ∙ sym b) h k);
       flags = λ f xs ys a b h k. ap both_flags (difference_left xs ys (a ∙ sym b) h k);
       runs = λ xs ys a b h k. runs_minus true n xs ys a b h k;
-    }) s t g loadable closed turn includes
+    }) s u t g loadable leads turn includes
 
 andn_case : (tag : ℕ) (off : ℤ) (n : ℕ) → RowCase (ins.Andn tag off n)
 unfolding causes shape
-andn_case tag off n s t g loadable closed turn includes =
+andn_case tag off n s u t g loadable leads turn includes =
     let byte : n < 256 = turn.shaped.1 in
     pair_result_case (ins.Andn tag off n) tag off n And (omega (arith, byte)) (A06, n == 0) (λ none. none) (λ xs ys. and_blocks xs ys) (λ f xs ys. (f.c, is_zero (and_blocks xs ys)))
     (record {
@@ -368,11 +368,11 @@ andn_case tag off n s t g loadable closed turn includes =
       value = λ xs ys a b h k. sym (worked_and xs ys);
       flags = λ f xs ys a b h k. bit_flags And f.c (and_blocks xs ys) xs ys (a ∙ sym b) (sym (worked_and xs ys));
       runs = λ xs ys a b h k. λ e. absurd (cc e);
-    }) s t g loadable closed turn includes
+    }) s u t g loadable leads turn includes
 
 orn_case : (tag : ℕ) (off : ℤ) (n : ℕ) → RowCase (ins.Orn tag off n)
 unfolding causes shape
-orn_case tag off n s t g loadable closed turn includes =
+orn_case tag off n s u t g loadable leads turn includes =
     let byte : n < 256 = turn.shaped.1 in
     pair_result_case (ins.Orn tag off n) tag off n Or (omega (arith, byte)) (A06, n == 0) (λ none. none) (λ xs ys. or_blocks xs ys) (λ f xs ys. (f.c, is_zero (or_blocks xs ys)))
     (record {
@@ -382,11 +382,11 @@ orn_case tag off n s t g loadable closed turn includes =
       value = λ xs ys a b h k. sym (worked_or xs ys);
       flags = λ f xs ys a b h k. bit_flags Or f.c (or_blocks xs ys) xs ys (a ∙ sym b) (sym (worked_or xs ys));
       runs = λ xs ys a b h k. λ e. absurd (cc e);
-    }) s t g loadable closed turn includes
+    }) s u t g loadable leads turn includes
 
 xorn_case : (tag : ℕ) (off : ℤ) (n : ℕ) → RowCase (ins.Xorn tag off n)
 unfolding causes shape
-xorn_case tag off n s t g loadable closed turn includes =
+xorn_case tag off n s u t g loadable leads turn includes =
     let byte : n < 256 = turn.shaped.1 in
     pair_result_case (ins.Xorn tag off n) tag off n Xor (omega (arith, byte)) (A06, n == 0) (λ none. none) (λ xs ys. xor_blocks xs ys) (λ f xs ys. (f.c, is_zero (xor_blocks xs ys)))
     (record {
@@ -396,35 +396,35 @@ xorn_case tag off n s t g loadable closed turn includes =
       value = λ xs ys a b h k. sym (worked_xor xs ys);
       flags = λ f xs ys a b h k. bit_flags Xor f.c (xor_blocks xs ys) xs ys (a ∙ sym b) (sym (worked_xor xs ys));
       runs = λ xs ys a b h k. λ e. absurd (cc e);
-    }) s t g loadable closed turn includes
+    }) s u t g loadable leads turn includes
 
 -- ---- the laws
 
 pub compare_laws : CompareLaw
 compare_laws = (
-  λ tag off b. law_of (ins.Cmpb tag off b) (λ s t g loadable closed turn e. e) (cmpb_case tag off b),
-  λ tag off w. law_of (ins.Cmpw tag off w) (λ s t g loadable closed turn e. e) (cmpw_case tag off w),
-  λ tag off n. law_of (ins.Cmpn tag off n) (λ s t g loadable closed turn e. e) (cmpn_case tag off n),
-  λ tag off n. law_of (ins.Testn tag off n) (λ s t g loadable closed turn e. e) (testn_case tag off n),
+  λ tag off b. law_of (ins.Cmpb tag off b) (λ s u t g loadable leads turn e. e) (cmpb_case tag off b),
+  λ tag off w. law_of (ins.Cmpw tag off w) (λ s u t g loadable leads turn e. e) (cmpw_case tag off w),
+  λ tag off n. law_of (ins.Cmpn tag off n) (λ s u t g loadable leads turn e. e) (cmpn_case tag off n),
+  λ tag off n. law_of (ins.Testn tag off n) (λ s u t g loadable leads turn e. e) (testn_case tag off n),
 )
 
 pub sum_laws : SumLaw
 sum_laws = (
-  λ tag off b. law_of (ins.Addb tag off b) (λ s t g loadable closed turn e. e) (addb_case tag off b),
-  λ tag off b. law_of (ins.Subb tag off b) (λ s t g loadable closed turn e. e) (subb_case tag off b),
-  λ tag off w. law_of (ins.Addw tag off w) (λ s t g loadable closed turn e. e) (addw_case tag off w),
-  λ tag off w. law_of (ins.Subw tag off w) (λ s t g loadable closed turn e. e) (subw_case tag off w),
-  λ tag off n. law_of (ins.Incn tag off n) (λ s t g loadable closed turn e. e) (incn_case tag off n),
-  λ tag off n. law_of (ins.Decn tag off n) (λ s t g loadable closed turn e. e) (decn_case tag off n),
-  λ tag off n. law_of (ins.Addn tag off n) (λ s t g loadable closed turn e. e) (addn_case tag off n),
-  λ tag off n. law_of (ins.Subn tag off n) (λ s t g loadable closed turn e. e) (subn_case tag off n),
+  λ tag off b. law_of (ins.Addb tag off b) (λ s u t g loadable leads turn e. e) (addb_case tag off b),
+  λ tag off b. law_of (ins.Subb tag off b) (λ s u t g loadable leads turn e. e) (subb_case tag off b),
+  λ tag off w. law_of (ins.Addw tag off w) (λ s u t g loadable leads turn e. e) (addw_case tag off w),
+  λ tag off w. law_of (ins.Subw tag off w) (λ s u t g loadable leads turn e. e) (subw_case tag off w),
+  λ tag off n. law_of (ins.Incn tag off n) (λ s u t g loadable leads turn e. e) (incn_case tag off n),
+  λ tag off n. law_of (ins.Decn tag off n) (λ s u t g loadable leads turn e. e) (decn_case tag off n),
+  λ tag off n. law_of (ins.Addn tag off n) (λ s u t g loadable leads turn e. e) (addn_case tag off n),
+  λ tag off n. law_of (ins.Subn tag off n) (λ s u t g loadable leads turn e. e) (subn_case tag off n),
 )
 
 pub bit_laws : BitLaw
 bit_laws = (
-  λ tag off n. law_of (ins.Clearn tag off n) (λ s t g loadable closed turn e. e) (clearn_case tag off n),
-  λ tag off n. law_of (ins.Notn tag off n) (λ s t g loadable closed turn e. e) (notn_case tag off n),
-  λ tag off n. law_of (ins.Andn tag off n) (λ s t g loadable closed turn e. e) (andn_case tag off n),
-  λ tag off n. law_of (ins.Orn tag off n) (λ s t g loadable closed turn e. e) (orn_case tag off n),
-  λ tag off n. law_of (ins.Xorn tag off n) (λ s t g loadable closed turn e. e) (xorn_case tag off n),
+  λ tag off n. law_of (ins.Clearn tag off n) (λ s u t g loadable leads turn e. e) (clearn_case tag off n),
+  λ tag off n. law_of (ins.Notn tag off n) (λ s u t g loadable leads turn e. e) (notn_case tag off n),
+  λ tag off n. law_of (ins.Andn tag off n) (λ s u t g loadable leads turn e. e) (andn_case tag off n),
+  λ tag off n. law_of (ins.Orn tag off n) (λ s u t g loadable leads turn e. e) (orn_case tag off n),
+  λ tag off n. law_of (ins.Xorn tag off n) (λ s u t g loadable leads turn e. e) (xorn_case tag off n),
 )

@@ -33,8 +33,8 @@ use Rattle.model_prove.specs.Between.{classes, selected, continued, created, sta
 use Rattle.model_prove.specs.Tables.{place_at, has_known, includes, includes_all, moments_closed, places_closed, IsLoadable, is_closed}
 use Rattle.model_prove.proofs.FactLemmas.{follow_holds}
 use Rattle.model_prove.proofs.ChangeLemmas.{written_holds}
-use Rattle.law_prove.specs.Coverings.{moment_memory, IsMoment, frame_memory, class_of, StartsAs, IsFrameOf, IsPlace, covering_of}
-use Rattle.law_prove.specs.Laws.{PlaceLaw}
+use Rattle.law_prove.specs.Coverings.{moment_memory, IsMoment, frame_memory, class_of, StartsAs, IsFrameOf, IsPlace, key_of, covering_of}
+use Rattle.law_prove.specs.Laws.{LeadsInto, LeadLaw, RowLaw, PlaceLaw}
 use Rattle.law_prove.proofs.Keys.{places_are}
 use Rattle.law_prove.proofs.Closed.{included_first, included_second, Arrives, arrives, moment_included, moment_closed}
 use Rattle.law_prove.proofs.Moments.{byte_of, cond_small, zeros_are, memory_bytes, within_holds, zero_at, bytes_in, from_memory}
@@ -65,7 +65,7 @@ places_by s t n k g f true rest is e outcomes again =
     subst (λ (z : PlaceKey). includes_all t (place_arrivals s z f) ≡ true) key (subst (λ (z : Known). includes_all t (place_arrivals s n z) ≡ true) facts outcomes)
 places_by s t n k g f false rest is e outcomes again = again e
 
-places_in : (s : Setting) (t : Tables) (ps : List (PlaceKey × Known)) (k : PlaceKey) (f : Known) → places_closed s t ps ≡ true → place_at ps k ≡ Some f → includes_all t (place_arrivals s k f) ≡ true
+pub places_in : (s : Setting) (t : Tables) (ps : List (PlaceKey × Known)) (k : PlaceKey) (f : Known) → places_closed s t ps ≡ true → place_at ps k ≡ Some f → includes_all t (place_arrivals s k f) ≡ true
 places_in s t [] k f c e = absurd (cc e)
 places_in s t (n ∷ ps) k f c e =
     let p = and_parts (includes_all t (place_arrivals s n.0 n.1)) (places_closed s t ps) c in
@@ -74,6 +74,14 @@ places_in s t (n ∷ ps) k f c e =
 pub place_closed : (s : Setting) (t : Tables) (k : PlaceKey) (f : Known) → is_closed s t ≡ true → place_at t.places k ≡ Some f → includes_all t (place_arrivals s k f) ≡ true
 unfolding is_closed
 place_closed s t k f c e = places_in s t t.places k f (and_parts (includes t (created s) && moments_closed s (classes s.rules) t t.moments) (places_closed s t t.places) c).1 e
+
+-- closed tables lead into themselves
+pub closed_leads : (s : Setting) (t : Tables) → is_closed s t ≡ true → LeadsInto s t t
+closed_leads s t closed k known there = place_closed s t k known closed there
+
+-- so a row that tables cover into which others lead is one that closed tables cover
+pub of_closed : (i : Ins) → LeadLaw i → RowLaw i
+of_closed i law r g t loadable closed = law r g t t loadable (closed_leads (record { rules = r; app = g.app }) t closed)
 
 -- ---- what follows of what is known
 
@@ -102,11 +110,7 @@ answer_stands s h bytes outcome class x b same is e =
 abbrev pub begun_frame : Setting → Target → List ℕ → Frame
 begun_frame s g fixed = new_frame g.name (length s.app.code) s.app.deny fixed (zeros s.app.session)
 
--- the key of a place
-abbrev pub key_of : (s : Setting) (t : Tables) (e : Entry Event) (h : History) (f : Frame) (public : List ℕ) → IsPlace s t e h f public → PlaceKey
-key_of s t e h f public p = record { at = f.at; start = p.start; allowances = p.standing.allowances; c = f.c; z = f.z; dt = f.dt; lb = f.lb; protected = f.protected; calls = p.calls }
-
-module _ (s : Setting) (t : Tables) (g : Target) (loadable : IsLoadable s.app) (closed : is_closed s t ≡ true) where
+module _ (s : Setting) (t : Tables) (g : Target) (loadable : IsLoadable s.app) where
   -- the session bytes of a frame are those of the moment after its command
   pub session_same : (f : Frame) (public : List ℕ) (a : ℕ) → IsFrameOf s.app f → dynamic_base ≤ a → a < dynamic_base + s.app.session → frame_memory f public a ≡ moment_memory f.fixed (session_of f) a
   session_same f public a fits low high =
@@ -137,21 +141,22 @@ module _ (s : Setting) (t : Tables) (g : Target) (loadable : IsLoadable s.app) (
       let next : Arrives t r (in_session s k) = arrives t None r (in_session s k) e in
       let m : Memory = moment_memory f.fixed (session_of f) in
       let own : Holds (session_facts s k) m = within_holds dynamic_base (dynamic_base + s.app.session) k.bytes (frame_memory f public) m (λ a low high. session_same f public a frame low high) holds in
-      from_memory s t loadable closed true (Answers bytes (Abended cause) ∷ h) f.fixed (session_of f) (record x { allowances = next.allowances }) (answer_stands s h bytes (Abended cause) class x next.allowances starts stands next.is)
+      from_memory s t true (Answers bytes (Abended cause) ∷ h) f.fixed (session_of f) (record x { allowances = next.allowances }) (answer_stands s h bytes (Abended cause) class x next.allowances starts stands next.is)
       frame.size frame.static (session_bytes f dyn)
       (moment_included t (record { selected = true; allowances = next.allowances }) (k.kept ++ session_facts s k) m next.rest (holds_both k.kept (session_facts s k) m (kept (session_of f) (session_bytes f dyn)) own)
       (memory_bytes f.fixed (session_of f) frame.static (session_bytes f dyn)))
   abend_arrives ByDelegation h f public Delegated x k cause starts stands kept holds frame dyn e =
-      from_memory s t loadable closed false h f.fixed [] x stands frame.size frame.static tt
+      from_memory s t false h f.fixed [] x stands frame.size frame.static tt
       (moment_included t (record { selected = false; allowances = x.allowances }) k.kept (moment_memory f.fixed []) e (kept [] tt) (memory_bytes f.fixed [] frame.static tt))
   abend_arrives (BySelection bytes apdu before) h f public Delegated x k cause starts stands kept holds frame dyn e = absurd starts
   abend_arrives ByDelegation h f public (OfClass class) x k cause starts stands kept holds frame dyn e = absurd starts
 
-  pub is_spent : (e : Entry Event) (h : History) (f : Frame) (public : List ℕ) → IsPlace s t e h f public → EndCovered (domain_of_rules g (covering_of s t)) e h f.fixed (session_of f) (Abended A07)
+module _ (s : Setting) (u t : Tables) (g : Target) (loadable : IsLoadable s.app) (leads : LeadsInto s u t) where
+  pub is_spent : (e : Entry Event) (h : History) (f : Frame) (public : List ℕ) → IsPlace s u e h f public → EndCovered (domain_of_rules g (covering_of s t)) e h f.fixed (session_of f) (Abended A07)
   is_spent e h f public p =
       let k : PlaceKey = record { at = f.at; start = p.start; allowances = p.standing.allowances; c = f.c; z = f.z; dt = f.dt; lb = f.lb; protected = f.protected; calls = p.calls } in
-      let all = place_closed s t k p.known closed p.there in
-      abend_arrives e h f public p.start p.standing p.known A07 p.starts p.stands p.keeps p.holds p.frame p.dynamic
+      let all = leads k p.known p.there in
+      abend_arrives s t g loadable e h f public p.start p.standing p.known A07 p.starts p.stands p.keeps p.holds p.frame p.dynamic
       (included_first t (abended s p.start p.standing.allowances p.known A07) (fetched s (record { key = k; known = p.known }) (instruction_at s.app.code f.at)) all)
 
   -- ---- an abend of an instruction
@@ -160,7 +165,7 @@ module _ (s : Setting) (t : Tables) (g : Target) (loadable : IsLoadable s.app) (
   failed_stands h at cause x none is =
       ap (λ (z : Result Standing Break). z >>= after_event s.rules (Failed at cause)) is ∙ ap (λ (z : Option ℕ). after_abend z x) none
 
-  pub fails_by : (e : Entry Event) (h : History) (f : Frame) (public : List ℕ) (p : IsPlace s t e h f public) (cause : Abend) (abends : Option ℕ) (k : PlaceKey) → k.start ≡ p.start → k.allowances ≡ p.standing.allowances → s.rules.abends ≡ abends
+  pub fails_by : (e : Entry Event) (h : History) (f : Frame) (public : List ℕ) (p : IsPlace s u e h f public) (cause : Abend) (abends : Option ℕ) (k : PlaceKey) → k.start ≡ p.start → k.allowances ≡ p.standing.allowances → s.rules.abends ≡ abends
       → includes_all t (fails_unless abends s k p.known cause) ≡ true → AbendCovered (domain_of_rules g (covering_of s t)) e (Failed f.at cause ∷ h) f cause
   fails_by e h f public p cause (Some number) k start allowances is includes = absurd (cc includes)
   fails_by e h f public p cause None k start allowances is includes =
@@ -169,25 +174,26 @@ module _ (s : Setting) (t : Tables) (g : Target) (loadable : IsLoadable s.app) (
       subst (λ (z : Start). includes_all t (abended s z p.standing.allowances known cause) ≡ true) start (subst (λ (z : Amounts). includes_all t (abended s k.start z known cause) ≡ true) allowances includes)
       in
       record {
-        ends = abend_arrives e (Failed f.at cause ∷ h) f public p.start p.standing known cause p.starts (failed_stands h f.at cause p.standing is p.stands) p.keeps p.holds p.frame p.dynamic there;
+        ends = abend_arrives s t g loadable e (Failed f.at cause ∷ h) f public p.start p.standing known cause p.starts (failed_stands h f.at cause p.standing is p.stands) p.keeps p.holds p.frame p.dynamic there;
         stops = λ any. absurd any;
       }
 
-  unfetched_by : (e : Entry Event) (h : History) (f : Frame) (public : List ℕ) (fault : DecodeFault) (p : IsPlace s t e h f public) → includes_all t (fetched s (record { key = key_of s t e h f public p; known = p.known }) (Err fault)) ≡ true
+  unfetched_by : (e : Entry Event) (h : History) (f : Frame) (public : List ℕ) (fault : DecodeFault) (p : IsPlace s u e h f public) → includes_all t (fetched s (record { key = key_of s u e h f public p; known = p.known }) (Err fault)) ≡ true
       → AbendCovered (domain_of_rules g (covering_of s t)) e (Failed f.at (fetch_cause fault) ∷ h) f (fetch_cause fault)
-  unfetched_by e h f public Undefined p includes = fails_by e h f public p A01 s.rules.abends (key_of s t e h f public p) refl refl refl includes
-  unfetched_by e h f public Past p includes = fails_by e h f public p A02 s.rules.abends (key_of s t e h f public p) refl refl refl includes
+  unfetched_by e h f public Undefined p includes = fails_by e h f public p A01 s.rules.abends (key_of s u e h f public p) refl refl refl includes
+  unfetched_by e h f public Past p includes = fails_by e h f public p A02 s.rules.abends (key_of s u e h f public p) refl refl refl includes
 
-  pub is_unfetched : (e : Entry Event) (h : History) (f : Frame) (public : List ℕ) (fault : DecodeFault) → IsPlace s t e h f public → instruction_at s.app.code f.at ≡ Err fault
+  pub is_unfetched : (e : Entry Event) (h : History) (f : Frame) (public : List ℕ) (fault : DecodeFault) → IsPlace s u e h f public → instruction_at s.app.code f.at ≡ Err fault
       → AbendCovered (domain_of_rules g (covering_of s t)) e (Failed f.at (fetch_cause fault) ∷ h) f (fetch_cause fault)
   is_unfetched e h f public fault p is =
-      let spot : Spot = record { key = key_of s t e h f public p; known = p.known } in
-      let all = place_closed s t (key_of s t e h f public p) p.known closed p.there in
+      let spot : Spot = record { key = key_of s u e h f public p; known = p.known } in
+      let all = leads (key_of s u e h f public p) p.known p.there in
       let rest = included_second t (abended s p.start p.standing.allowances p.known A07) (fetched s spot (instruction_at s.app.code f.at)) all in
       unfetched_by e h f public fault p (subst (λ (z : Result (Ins × ℕ) DecodeFault). includes_all t (fetched s spot z) ≡ true) is rest)
 
-  -- ---- the beginning of a frame by a delegation
+-- ---- the beginning of a frame by a delegation
 
+module _ (s : Setting) (t : Tables) (g : Target) (loadable : IsLoadable s.app) (closed : is_closed s t ≡ true) where
   append_zero : (n m i : ℕ) → slice_index (zeros n ++ zeros m) i ≡ 0
   append_zero zero m i = zero_at m i
   append_zero (suc n) m zero = refl
@@ -292,4 +298,5 @@ module _ (s : Setting) (t : Tables) (g : Target) (loadable : IsLoadable s.app) (
 pub place_law : PlaceLaw
 place_law r g t loadable closed =
     let s : Setting = record { rules = r; app = g.app } in
-    record { entered = is_entered s t g loadable closed; spent = is_spent s t g loadable closed; unfetched = is_unfetched s t g loadable closed }
+    let leads : LeadsInto s t t = closed_leads s t closed in
+    record { entered = is_entered s t g loadable closed; spent = is_spent s t t g loadable leads; unfetched = is_unfetched s t t g loadable leads }

@@ -24,7 +24,7 @@ use Rattle.model_prove.specs.Splits.{stand_in}
 use Rattle.model_prove.specs.Tables.{includes_all}
 use Rattle.model_prove.proofs.CompareLemmas.{touched_holds}
 use Rattle.law_prove.specs.Coverings.{parts_memory, moment_memory, frame_memory, IsFrameOf}
-use Rattle.law_prove.specs.Laws.{RowLaw, PrimitiveLaw}
+use Rattle.law_prove.specs.Laws.{LeadLaw, PrimitiveLaw}
 use Rattle.law_prove.proofs.Parts.{not_lt, memory_static}
 use Rattle.law_prove.proofs.Moments.{within_holds, cond_small, byte_of}
 use Rattle.law_prove.proofs.Places.{holds_both}
@@ -45,7 +45,7 @@ asks_nobody t f p (OfClass class) same e = e
 -- ---- the flags
 
 load_ccr_once : (args : List ℕ) → IsFetchedOnce (ins.Prim 0 2 args)
-load_ccr_once args s t g loadable closed turn e =
+load_ccr_once args s u t g loadable leads turn e =
     asks_nobody t
     (instruction s (ins.Prim 0 2 args) (record { frame = frame_at (stand_in s.app (place_key turn.place.start turn.place.standing.allowances turn.frame turn.place.calls)).frame turn.next; public = blank })
     (spot_of turn.place.start turn.place.standing.allowances turn.frame turn.place.calls turn.place.known) (spot_of turn.place.start turn.place.standing.allowances (frame_at turn.frame turn.next) turn.place.calls turn.place.known))
@@ -53,11 +53,11 @@ load_ccr_once args s t g loadable closed turn e =
 
 load_ccr_case : (args : List ℕ) → RowCase (ins.Prim 0 2 args)
 unfolding causes shape later_causes prim_shape
-load_ccr_case args s t g loadable closed turn includes =
+load_ccr_case args s u t g loadable leads turn includes =
     let d = turn.frame.dt in
     let b = (cond turn.frame.c 2 0 + cond turn.frame.z 1 0) ∷ [] in
-    shaped_row s t g loadable closed (ins.Prim 0 2 args) turn ((A06, false) ∷ (A0A, false) ∷ (A05, nat_lt dynamic_end (d + 1)) ∷ []) d (Pushes b) None includes refl refl refl refl refl refl
-    (λ none. led_pushes s t g loadable closed (ins.Prim 0 2 args) turn d b (sets b) (fit_sets b) (over_is d 1 1 none.1.1.0 refl) turn.place.frame.low turn.place.frame.high)
+    shaped_row s u t g loadable leads (ins.Prim 0 2 args) turn ((A06, false) ∷ (A0A, false) ∷ (A05, nat_lt dynamic_end (d + 1)) ∷ []) d (Pushes b) None includes refl refl refl refl refl refl
+    (λ none. led_pushes s u t g loadable leads (ins.Prim 0 2 args) turn d b (sets b) (fit_sets b) (over_is d 1 1 none.1.1.0 refl) turn.place.frame.low turn.place.frame.high)
 
 -- ---- protection
 
@@ -146,7 +146,7 @@ protects_by true s st al f public calls k framed seen always bytes on = committe
 protects_by false s st al f public calls k framed seen always bytes on = dropped_led s st al f public calls k framed seen always bytes on
 
 protection_once : (args : List ℕ) → IsFetchedOnce (ins.Prim 1 3 args)
-protection_once args s t g loadable closed turn e =
+protection_once args s u t g loadable leads turn e =
     asks_nobody t
     (instruction s (ins.Prim 1 3 args) (record { frame = frame_at (stand_in s.app (place_key turn.place.start turn.place.standing.allowances turn.frame turn.place.calls)).frame turn.next; public = blank })
     (spot_of turn.place.start turn.place.standing.allowances turn.frame turn.place.calls turn.place.known) (spot_of turn.place.start turn.place.standing.allowances (frame_at turn.frame turn.next) turn.place.calls turn.place.known))
@@ -154,7 +154,7 @@ protection_once args s t g loadable closed turn e =
 
 protection_case : (args : List ℕ) → RowCase (ins.Prim 1 3 args)
 unfolding causes shape later_causes prim_shape
-protection_case args s t g loadable closed turn includes =
+protection_case args s u t g loadable leads turn includes =
     let i : Ins = ins.Prim 1 3 args in
     let d = turn.frame.dt in
     let mode = slice_index args 0 in
@@ -168,14 +168,14 @@ protection_case args s t g loadable closed turn includes =
     (cond_small (nat_lt a dynamic_base) 0 (cond (nat_lt a public_base) y z) (omega arith)
     (cond_small (nat_lt a public_base) y z (byte_of f.dyn (a - dynamic_base) turn.place.dynamic) (byte_of turn.public (a - public_base) turn.bytes)))
     in
-    shaped_row s t g loadable closed i turn ((A06, nat_lt 3 mode) ∷ (A0A, is_denied f.deny SetProtection) ∷ []) d (Protects mode) None includes refl refl refl refl refl refl
-    (λ none. protects_by (mode == 1 || mode == 3) s turn.place.start turn.place.standing.allowances (low_frame s t g loadable closed i turn d) turn.public (low_calls s t g loadable closed i turn d) (low_known s t g loadable closed i turn d)
-    (same_framed s t g loadable closed i turn) (low_seen s t g loadable closed i turn d) turn.place.keeps bytes (nat_le 2 mode))
+    shaped_row s u t g loadable leads i turn ((A06, nat_lt 3 mode) ∷ (A0A, is_denied f.deny SetProtection) ∷ []) d (Protects mode) None includes refl refl refl refl refl refl
+    (λ none. protects_by (mode == 1 || mode == 3) s turn.place.start turn.place.standing.allowances (low_frame s u t g loadable leads i turn d) turn.public (low_calls s u t g loadable leads i turn d) (low_known s u t g loadable leads i turn d)
+    (same_framed s u t g loadable leads i turn) (low_seen s u t g loadable leads i turn d) turn.place.keeps bytes (nat_le 2 mode))
 
-load_ccr_law : (args : List ℕ) → RowLaw (ins.Prim 0 2 args)
+load_ccr_law : (args : List ℕ) → LeadLaw (ins.Prim 0 2 args)
 load_ccr_law args = law_of (ins.Prim 0 2 args) (load_ccr_once args) (load_ccr_case args)
 
-protection_law : (args : List ℕ) → RowLaw (ins.Prim 1 3 args)
+protection_law : (args : List ℕ) → LeadLaw (ins.Prim 1 3 args)
 protection_law args = law_of (ins.Prim 1 3 args) (protection_once args) (protection_case args)
 
 pub primitive_laws : PrimitiveLaw

@@ -25,9 +25,9 @@ use Rattle.model_prove.specs.Splits.{stand_in_stack}
 use Rattle.model_prove.specs.Work.{AsShaped, work}
 use Rattle.model_prove.specs.Arrivals.{Setting, static_size}
 use Rattle.model_prove.specs.Steps.{Spot, acted, written, makes_write, caused, row_arrivals, no_calls}
-use Rattle.model_prove.specs.Tables.{IsLoadable, includes_all, is_closed}
+use Rattle.model_prove.specs.Tables.{IsLoadable, includes_all}
 use Rattle.law_prove.specs.Coverings.{frame_memory, AreOpen}
-use Rattle.law_prove.specs.Laws.{ReturnLaw}
+use Rattle.law_prove.specs.Laws.{LeadsInto, ReturnLaw}
 use Rattle.law_prove.proofs.Windows.{window, taken_is}
 use Rattle.law_prove.proofs.Parts.{not_lt}
 use Rattle.law_prove.proofs.Places.{fails_by}
@@ -176,7 +176,7 @@ module _ (i : Ins) (less more : ℕ) where
     pub task : (f : Frame) (public : List ℕ) → work i f public ≡ AsShaped
     pub some : 0 < length (spell i)
 
-  module _ (is : IsReturn) (s : Setting) (t : Tables) (g : Target) (loadable : IsLoadable s.app) (closed : is_closed s t ≡ true) (turn : Turn s t i) (includes : IsOnly s t g loadable closed i turn) where
+  module _ (is : IsReturn) (s : Setting) (u t : Tables) (g : Target) (loadable : IsLoadable s.app) (leads : LeadsInto s u t) (turn : Turn s u i) (includes : IsOnly s u t g loadable leads i turn) where
     -- the frame after the fetch
     abbrev frame : Frame
     frame = frame_at turn.frame turn.next
@@ -185,18 +185,18 @@ module _ (i : Ins) (less more : ℕ) where
     form_of = going turn.frame.dt (Returns less more) None
 
     lost_by : (x y : Bool) (rest : Option Abend) (d : Done) → y ≡ false → no_calls turn.place.calls ≡ true
-        → includes_all t (caused (first_cause ((A04, x) ∷ (A02, y) ∷ [])) s i form_of AsShaped (here s t g loadable closed i turn) (there s t g loadable closed i turn)) ≡ true
-        → IsRowCovered s t g loadable closed i turn (row_end (cond x (Some A04) rest) d)
-    lost_by true y rest d none lost all = fails_by s t g loadable closed turn.entry turn.history turn.frame turn.public turn.place A04 s.rules.abends (place_key turn.place.start turn.place.standing.allowances turn.frame turn.place.calls) refl refl refl all
+        → includes_all t (caused (first_cause ((A04, x) ∷ (A02, y) ∷ [])) s i form_of AsShaped (here s u t g loadable leads i turn) (there s u t g loadable leads i turn)) ≡ true
+        → IsRowCovered s u t g loadable leads i turn (row_end (cond x (Some A04) rest) d)
+    lost_by true y rest d none lost all = fails_by s u t g loadable leads turn.entry turn.history turn.frame turn.public turn.place A04 s.rules.abends (place_key turn.place.start turn.place.standing.allowances turn.frame turn.place.calls) refl refl refl all
     lost_by false true rest d none lost all = absurd (cc none)
     lost_by false false rest d none lost all =
-        absurd (cc (subst (λ (b : Bool). includes_all t (row_arrivals b s i form_of AsShaped (here s t g loadable closed i turn) (there s t g loadable closed i turn)) ≡ true) lost all))
+        absurd (cc (subst (λ (b : Bool). includes_all t (row_arrivals b s i form_of AsShaped (here s u t g loadable leads i turn) (there s u t g loadable leads i turn)) ≡ true) lost all))
 
     -- without an open call control would be lost, so that the row abends
-    without_calls : no_calls turn.place.calls ≡ true → IsRowCovered s t g loadable closed i turn (row i frame turn.public turn.around)
+    without_calls : no_calls turn.place.calls ≡ true → IsRowCovered s u t g loadable leads i turn (row i frame turn.public turn.around)
     unfolding row
     without_calls lost =
-        let l : Frame = scene s t g loadable closed i turn in
+        let l : Frame = scene s u t g loadable leads i turn in
         let y = no_place l (Some (saved_address l 2)) in
         let inside : turn.next ≤ length s.app.code = turn.inside in
         let after : turn.next ≡ turn.frame.at + length (spell i) = turn.after_it in
@@ -206,25 +206,25 @@ module _ (i : Ins) (less more : ℕ) where
         ap (λ (cs : List Call). num (take 2 (drop (turn.frame.lb - 2 - dynamic_base) (stand_in_stack cs)))) (none_are turn.place.calls lost) ∙ zero_rest (turn.frame.lb - 2 - dynamic_base) 512
         in
         let there_is : y ≡ false = ap (λ (a : ℕ). not (nat_lt a turn.frame.code_len)) zero_at ∙ ap (λ (b : Bool). not b) (lt-ltb 0 turn.frame.code_len (omega (arith, inside, after, size, some))) in
-        let all = stood s t g loadable closed i turn ((A04, no_return l less more) ∷ (A02, y) ∷ []) form_of AsShaped includes (is.cause l blank nobody) (is.form l blank nobody) (is.task l blank) in
-        subst (λ (c : List (Abend × Bool)). IsRowCovered s t g loadable closed i turn (row_end (first_cause c) (effect i frame turn.public turn.around))) (sym (is.cause frame turn.public turn.around))
+        let all = stood s u t g loadable leads i turn ((A04, no_return l less more) ∷ (A02, y) ∷ []) form_of AsShaped includes (is.cause l blank nobody) (is.form l blank nobody) (is.task l blank) in
+        subst (λ (c : List (Abend × Bool)). IsRowCovered s u t g loadable leads i turn (row_end (first_cause c) (effect i frame turn.public turn.around))) (sym (is.cause frame turn.public turn.around))
         (lost_by (no_return frame less more) y (first_cause ((A02, no_place frame (Some (saved_address frame 2))) ∷ [])) (effect i frame turn.public turn.around) there_is lost all)
 
-    through_call : no_calls turn.place.calls ≡ false → IsRowCovered s t g loadable closed i turn (row i frame turn.public turn.around)
+    through_call : no_calls turn.place.calls ≡ false → IsRowCovered s u t g loadable leads i turn (row i frame turn.public turn.around)
     through_call some =
         let d = turn.frame.dt in
-        let l : Frame = scene s t g loadable closed i turn in
+        let l : Frame = scene s u t g loadable leads i turn in
         let cs : List (Abend × Bool) = (A04, no_return frame less more) ∷ (A02, no_place frame (Some (saved_address frame 2))) ∷ [] in
-        let sized : Sized frame turn.public = turn_sized s t loadable i turn in
+        let sized : Sized frame turn.public = turn_sized s u loadable i turn in
         let other : Sized l blank = like_sized frame turn.public turn.place.calls sized turn.place.open_calls in
         let m : Memory = frame_memory turn.frame turn.public in
         let same : saved_address l 2 ≡ saved_address frame 2 =
         saved_same (dynamic_base + turn.frame.session) d turn.frame.lb turn.frame.dyn turn.place.calls some (omega arith) turn.place.frame.high turn.place.frame.room other.room turn.place.open_calls
         in
         let ss : List Set = values_from turn.place.known.bytes (d - more) more in
-        subst (λ (e : RowEnd). IsRowCovered s t g loadable closed i turn e) (row_is s t g loadable closed i turn cs form_of (is.cause frame turn.public turn.around) (is.form frame turn.public turn.around))
-        (walked s t g loadable closed turn.entry turn.history turn.frame turn.public turn.depth turn.place turn.deep i (there s t g loadable closed i turn) cs form_of AsShaped (meaning form_of frame turn.public)
-        (stood s t g loadable closed i turn cs form_of AsShaped includes
+        subst (λ (e : RowEnd). IsRowCovered s u t g loadable leads i turn e) (row_is s u t g loadable leads i turn cs form_of (is.cause frame turn.public turn.around) (is.form frame turn.public turn.around))
+        (walked s u t g loadable leads turn.entry turn.history turn.frame turn.public turn.depth turn.place turn.deep i (there s u t g loadable leads i turn) cs form_of AsShaped (meaning form_of frame turn.public)
+        (stood s u t g loadable leads i turn cs form_of AsShaped includes
         (is.cause l blank nobody ∙ ap (λ (a : ℕ). (A04, no_return frame less more) ∷ (A02, no_place frame (Some a)) ∷ []) same) (is.form l blank nobody) (is.task l blank))
         (λ none all.
         let floors = both_of (nat_le (floor frame + 4 + less) turn.frame.lb) (nat_le (turn.frame.lb + more) d) none.0 in
@@ -233,21 +233,21 @@ module _ (i : Ins) (less more : ℕ) where
         let tops : top frame more ≡ bytes_from m (d - more) more = top_is frame turn.public more sized (omega (arith, low, high)) in
         let fit : FitSets (top frame more) ss = subst (λ (b : List ℕ). FitSets b ss) (sym tops) (fit_values turn.place.known.bytes m (d - more) more turn.place.holds turn.place.bytes) in
         let count : length (top frame more) ≡ more = ap (λ (b : List ℕ). length b) tops ∙ from_length m (d - more) more in
-        let led : LedBy s t g loadable closed i turn d (Returns less more) ss =
-        returned_any s loadable.static turn.place.start turn.place.standing.allowances (low_frame s t g loadable closed i turn d) turn.public (low_calls s t g loadable closed i turn d) (low_known s t g loadable closed i turn d) less more ss
-        (below_some (dynamic_base + turn.frame.session) d turn.frame.lb turn.frame.dyn turn.place.calls turn.place.open_calls some) (same_framed s t g loadable closed i turn) (low_seen s t g loadable closed i turn d) fit count low high
+        let led : LedBy s u t g loadable leads i turn d (Returns less more) ss =
+        returned_any s loadable.static turn.place.start turn.place.standing.allowances (low_frame s u t g loadable leads i turn d) turn.public (low_calls s u t g loadable leads i turn d) (low_known s u t g loadable leads i turn d) less more ss
+        (below_some (dynamic_base + turn.frame.session) d turn.frame.lb turn.frame.dyn turn.place.calls turn.place.open_calls some) (same_framed s u t g loadable leads i turn) (low_seen s u t g loadable leads i turn d) fit count low high
         in
-        moved_covered s t g loadable closed turn.entry turn.history turn.frame turn.public turn.depth turn.place turn.deep i turn.next form_of ss led
-        (shape_bytes s t g loadable closed i turn form_of (is.form frame turn.public turn.around) turn.after)
-        (one_shaped s t i d (Returns less more) None (here s t g loadable closed i turn) (there s t g loadable closed i turn)
-        (subst (λ (b : Bool). includes_all t (row_arrivals b s i form_of AsShaped (here s t g loadable closed i turn) (there s t g loadable closed i turn)) ≡ true) some all))))
+        moved_covered s u t g loadable leads turn.entry turn.history turn.frame turn.public turn.depth turn.place turn.deep i turn.next form_of ss led
+        (shape_bytes s u t g loadable leads i turn form_of (is.form frame turn.public turn.around) turn.after)
+        (one_shaped s t i d (Returns less more) None (here s u t g loadable leads i turn) (there s u t g loadable leads i turn)
+        (subst (λ (b : Bool). includes_all t (row_arrivals b s i form_of AsShaped (here s u t g loadable leads i turn) (there s u t g loadable leads i turn)) ≡ true) some all))))
 
-    return_by : (b : Bool) → no_calls turn.place.calls ≡ b → IsRowCovered s t g loadable closed i turn (row i frame turn.public turn.around)
+    return_by : (b : Bool) → no_calls turn.place.calls ≡ b → IsRowCovered s u t g loadable leads i turn (row i frame turn.public turn.around)
     return_by true e = without_calls e
     return_by false e = through_call e
 
   pub return_case : IsReturn → RowCase i
-  return_case is s t g loadable closed turn includes = return_by is s t g loadable closed turn includes (no_calls turn.place.calls) refl
+  return_case is s u t g loadable leads turn includes = return_by is s u t g loadable leads turn includes (no_calls turn.place.calls) refl
 
 -- ---- the laws
 
@@ -269,8 +269,8 @@ retio_case less more = return_case (ins.Retio less more) less more (record { cau
 
 pub return_laws : ReturnLaw
 return_laws = (
-  law_of ins.Ret (λ s t g loadable closed turn e. e) ret_case,
-  λ less. law_of (ins.Reti less) (λ s t g loadable closed turn e. e) (reti_case less),
-  λ more. law_of (ins.Reto more) (λ s t g loadable closed turn e. e) (reto_case more),
-  λ less more. law_of (ins.Retio less more) (λ s t g loadable closed turn e. e) (retio_case less more),
+  law_of ins.Ret (λ s u t g loadable leads turn e. e) ret_case,
+  λ less. law_of (ins.Reti less) (λ s u t g loadable leads turn e. e) (reti_case less),
+  λ more. law_of (ins.Reto more) (λ s u t g loadable leads turn e. e) (reto_case more),
+  λ less more. law_of (ins.Retio less more) (λ s u t g loadable leads turn e. e) (retio_case less more),
 )

@@ -17,11 +17,11 @@ use Rattle.model_prove.proofs.CompareLemmas.{SameBut, touched_holds}
 use Rattle.model_prove.proofs.ChangeLemmas.{written_holds}
 use Rattle.model_prove.proofs.FactLemmas.{value_holds}
 use Rattle.model_prove.proofs.SetLemmas.{is_first, is_byte}
-use Rattle.law_prove.specs.Coverings.{parts_memory, moment_memory, frame_memory, AreOpen}
+use Rattle.law_prove.specs.Coverings.{parts_memory, moment_memory, frame_memory, AreOpen, IsKnown}
 use Rattle.law_prove.proofs.Windows.{window, windows_same, taken_is, index_beside}
 use Rattle.law_prove.proofs.Parts.{static_same, dynamic_same, public_same, static_new, dynamic_new, public_new}
 use Rattle.law_prove.proofs.Moments.{within_holds}
-use Rattle.law_prove.proofs.Known.{IsKnown, static_read, open_before}
+use Rattle.law_prove.proofs.Known.{static_read, open_before}
 
 -- ---- bytes of some sets
 

@@ -25,9 +25,9 @@ use Rattle.model_prove.specs.Splits.{stand_in, stand_in_stack}
 use Rattle.model_prove.specs.Work.{Work, AsShaped, Copies, work}
 use Rattle.model_prove.specs.Arrivals.{Setting, Arrival, fails}
 use Rattle.model_prove.specs.Steps.{Spot, lowered, acted, with_flags, settled_spot, makes_write, may_wait_too_long, follows, row_arrivals, caused, instruction, fetched, is_return, no_calls, returned_sets, shaped_bytes}
-use Rattle.model_prove.specs.Tables.{IsLoadable, includes_all, is_closed}
+use Rattle.model_prove.specs.Tables.{IsLoadable, includes_all}
 use Rattle.law_prove.specs.Coverings.{IsFrameOf, IsPlace, covering_of}
-use Rattle.law_prove.specs.Laws.{RowLaw}
+use Rattle.law_prove.specs.Laws.{LeadsInto, LeadLaw}
 use Rattle.law_prove.proofs.Closed.{included_first, included_second}
 use Rattle.law_prove.proofs.Spots.{place_key}
 use Rattle.law_prove.proofs.Seen.{FitSets, Seen}
@@ -73,7 +73,7 @@ pub record Turn (s : Setting) (t : Tables) (i : Ins) : Type 0 where
   pub inside : next ≤ length s.app.code
   pub after : IsByteEffect (effect i (frame_at frame next) public around).effect
 
-module _ (s : Setting) (t : Tables) (g : Target) (loadable : IsLoadable s.app) (closed : is_closed s t ≡ true) (i : Ins) (turn : Turn s t i) where
+module _ (s : Setting) (u t : Tables) (g : Target) (loadable : IsLoadable s.app) (leads : LeadsInto s u t) (i : Ins) (turn : Turn s u i) where
   -- the places before and after the fetch
   abbrev pub here : Spot
   here = spot_of turn.place.start turn.place.standing.allowances turn.frame turn.place.calls turn.place.known
@@ -103,7 +103,7 @@ module _ (s : Setting) (t : Tables) (g : Target) (loadable : IsLoadable s.app) (
       subst (λ (c : List (Abend × Bool)). includes_all t (caused (first_cause c) s i m w here there) ≡ true) cause
       (subst (λ (z : Shape). includes_all t (caused (first_cause (causes i scene blank nobody)) s i z w here there) ≡ true) is
       (subst (λ (z : Work). includes_all t (caused (first_cause (causes i scene blank nobody)) s i (shape i scene blank nobody) z here there) ≡ true) works
-      (only_one s t g loadable closed turn.entry turn.history turn.frame turn.public i turn.next turn.place includes)))
+      (only_one s u t g loadable leads turn.entry turn.history turn.frame turn.public i turn.next turn.place includes)))
 
   pub row_is : (cs : List (Abend × Bool)) (m : Shape) → causes i (frame_at turn.frame turn.next) turn.public turn.around ≡ cs → shape i (frame_at turn.frame turn.next) turn.public turn.around ≡ m → row_end (first_cause cs) (meaning m (frame_at turn.frame turn.next) turn.public) ≡ row i (frame_at turn.frame turn.next) turn.public turn.around
   unfolding row
@@ -121,8 +121,8 @@ module _ (s : Setting) (t : Tables) (g : Target) (loadable : IsLoadable s.app) (
       → (NoCause cs → LedBy d a1 ss) → IsRowCovered (row i (frame_at turn.frame turn.next) turn.public turn.around)
   moved_row cs d a0 a1 fl w ss includes stand real m0 m1 works other extract led =
       subst IsRowCovered (row_is cs (going d a1 fl) real m1)
-      (walked s t g loadable closed turn.entry turn.history turn.frame turn.public turn.depth turn.place turn.deep i there cs (going d a0 fl) w (meaning (going d a1 fl) (frame_at turn.frame turn.next) turn.public) (stood cs (going d a0 fl) w includes stand m0 works)
-      (λ none all. moved_covered s t g loadable closed turn.entry turn.history turn.frame turn.public turn.depth turn.place turn.deep i turn.next (going d a1 fl) ss (led none) (shape_bytes (going d a1 fl) m1 turn.after)
+      (walked s u t g loadable leads turn.entry turn.history turn.frame turn.public turn.depth turn.place turn.deep i there cs (going d a0 fl) w (meaning (going d a1 fl) (frame_at turn.frame turn.next) turn.public) (stood cs (going d a0 fl) w includes stand m0 works)
+      (λ none all. moved_covered s u t g loadable leads turn.entry turn.history turn.frame turn.public turn.depth turn.place turn.deep i turn.next (going d a1 fl) ss (led none) (shape_bytes (going d a1 fl) m1 turn.after)
       (extract none (subst (λ (b : Bool). includes_all t (row_arrivals (b && no_calls turn.place.calls) s i (going d a0 fl) w here there) ≡ true) other all))))
 
   -- the same of a row whose last cause is that too many words wait
@@ -133,9 +133,9 @@ module _ (s : Setting) (t : Tables) (g : Target) (loadable : IsLoadable s.app) (
       → (NoCause cs → LedBy d a1 ss) → IsRowCovered (row i (frame_at turn.frame turn.next) turn.public turn.around)
   limited_row cs was is d a0 a1 fl w ss includes stand real m0 m1 works other waits less extract led =
       subst IsRowCovered (row_is (cs ++ (A08, is) ∷ []) (going d a1 fl) real m1)
-      (walked_limit s t g loadable closed turn.entry turn.history turn.frame turn.public turn.depth turn.place turn.deep i there cs was is (going d a0 fl) w (meaning (going d a1 fl) (frame_at turn.frame turn.next) turn.public) other waits less
+      (walked_limit s u t g loadable leads turn.entry turn.history turn.frame turn.public turn.depth turn.place turn.deep i there cs was is (going d a0 fl) w (meaning (going d a1 fl) (frame_at turn.frame turn.next) turn.public) other waits less
       (stood (cs ++ (A08, was) ∷ []) (going d a0 fl) w includes stand m0 works)
-      (λ none free all. moved_covered s t g loadable closed turn.entry turn.history turn.frame turn.public turn.depth turn.place turn.deep i turn.next (going d a1 fl) ss (led none) (shape_bytes (going d a1 fl) m1 turn.after)
+      (λ none free all. moved_covered s u t g loadable leads turn.entry turn.history turn.frame turn.public turn.depth turn.place turn.deep i turn.next (going d a1 fl) ss (led none) (shape_bytes (going d a1 fl) m1 turn.after)
       (extract none (subst (λ (b : Bool). includes_all t (row_arrivals (b && no_calls turn.place.calls) s i (going d a0 fl) w here there) ≡ true) other all))))
 
   -- the same of a row that does what its shape says
@@ -157,7 +157,7 @@ module _ (s : Setting) (t : Tables) (g : Target) (loadable : IsLoadable s.app) (
   low_known d = (lowered d there).known
 
   pub low_seen : (d : ℕ) → Seen (low_calls d) (low_known d) (low_frame d) turn.public
-  low_seen d = lowered_at s t g loadable closed turn.entry turn.history turn.frame turn.public turn.depth turn.place turn.deep i turn.next d
+  low_seen d = lowered_at s u t g loadable leads turn.entry turn.history turn.frame turn.public turn.depth turn.place turn.deep i turn.next d
 
   pub low_framed : (d : ℕ) → dynamic_base + turn.frame.session ≤ d → d ≤ dynamic_end → Framed s.app (low_frame d)
   low_framed d low high =
@@ -192,21 +192,21 @@ module _ (s : Setting) (t : Tables) (g : Target) (loadable : IsLoadable s.app) (
 -- A row of one outcome is covered in each of its turns.
 abbrev pub RowCase : Ins → Type 0
 RowCase i =
-    (s : Setting) (t : Tables) (g : Target) (loadable : IsLoadable s.app) (closed : is_closed s t ≡ true) (turn : Turn s t i) → IsOnly s t g loadable closed i turn
-    → IsRowCovered s t g loadable closed i turn (row i (frame_at turn.frame turn.next) turn.public turn.around)
+    (s : Setting) (u t : Tables) (g : Target) (loadable : IsLoadable s.app) (leads : LeadsInto s u t) (turn : Turn s u i) → IsOnly s u t g loadable leads i turn
+    → IsRowCovered s u t g loadable leads i turn (row i (frame_at turn.frame turn.next) turn.public turn.around)
 
 -- what is fetched has one outcome
 abbrev pub IsFetchedOnce : Ins → Type 0
 IsFetchedOnce i =
-    (s : Setting) (t : Tables) (g : Target) (loadable : IsLoadable s.app) (closed : is_closed s t ≡ true) (turn : Turn s t i)
-    → includes_all t (fetched s (spot_of turn.place.start turn.place.standing.allowances turn.frame turn.place.calls turn.place.known) (Ok (i, turn.next))) ≡ true → IsOnly s t g loadable closed i turn
+    (s : Setting) (u t : Tables) (g : Target) (loadable : IsLoadable s.app) (leads : LeadsInto s u t) (turn : Turn s u i)
+    → includes_all t (fetched s (spot_of turn.place.start turn.place.standing.allowances turn.frame turn.place.calls turn.place.known) (Ok (i, turn.next))) ≡ true → IsOnly s u t g loadable leads i turn
 
 -- such a row is covered
-pub law_of : (i : Ins) → IsFetchedOnce i → RowCase i → RowLaw i
-law_of i once case r g t loadable closed e h f public depth x next p entry deep names segment at =
+pub law_of : (i : Ins) → IsFetchedOnce i → RowCase i → LeadLaw i
+law_of i once case r g u t loadable leads e h f public depth x next p entry deep names segment at =
     let s : Setting = record { rules = r; app = g.app } in
-    let decoded : Decodes s.app.code f.at i next = decoded_at s t g loadable closed f i next at in
-    let turn : Turn s t i = record {
+    let decoded : Decodes s.app.code f.at i next = decoded_at s u t g loadable leads f i next at in
+    let turn : Turn s u i = record {
       entry = e;
       history = h;
       frame = f;
@@ -222,7 +222,7 @@ law_of i once case r g t loadable closed e h f public depth x next p entry deep 
       shaped = decoded.shaped;
       after_it = decoded.place;
       inside = decoded.inside;
-      after = leaves_bytes s t g loadable closed f public i next x at p.frame p.dynamic (segment.1 tt) names;
+      after = leaves_bytes s u t g loadable leads f public i next x at p.frame p.dynamic (segment.1 tt) names;
     }
     in
-    case s t g loadable closed turn (once s t g loadable closed turn (included_at s t g loadable closed e h f public i next p at))
+    case s u t g loadable leads turn (once s u t g loadable leads turn (included_at s u t g loadable leads e h f public i next p at))

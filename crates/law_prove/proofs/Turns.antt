@@ -1,5 +1,5 @@
--- From an instruction of closed tables to what follows it: the first cause that holds, the event, the next place, and the
--- stops of its write.
+-- From an instruction at a place of tables to what follows it in those that they lead into: the first cause that holds,
+-- the event, the next place, and the stops of its write.
 use Rattle.std.proofs.Common.{◌≡◌, ℕ, ◌+◌, ◌-◌, ◌≤◌, Bool, true, false, cond, List, [], ◌∷◌, ◌++◌, length, Option, Some, None, Result, Ok, refl, sym, ap, subst, ◌∙◌, arith}
 use Rattle.std.specs.Prelude.{◌&&◌, nat_lt, flat_map, slice_index}
 use Rattle.std.specs.List.{AllByRecursion}
@@ -36,11 +36,12 @@ use Rattle.model_prove.specs.Laws.{HoldsBytes}
 use Rattle.model_prove.specs.Work.{Work}
 use Rattle.model_prove.specs.Arrivals.{Setting, Arrival, static_size, idle, stopped, abended, fails, after_session, after_turn}
 use Rattle.model_prove.specs.Steps.{Spot, lowered, acted, with_flags, settled_spot, makes_write, may_wait_too_long, stops, stop_before, arrived, follows, row_arrivals, caused, instruction, arounds, fetched, is_return, no_calls, spots}
-use Rattle.model_prove.specs.Tables.{IsLoadable, includes, includes_all, is_closed}
+use Rattle.model_prove.specs.Tables.{IsLoadable, includes, includes_all}
 use Rattle.law_prove.specs.Coverings.{moment_memory, frame_memory, StartsAs, IsFrameOf, IsPlace, covering_of}
+use Rattle.law_prove.specs.Laws.{LeadsInto}
 use Rattle.law_prove.proofs.Closed.{included_first, included_second, Arrives, arrives, moment_included}
 use Rattle.law_prove.proofs.Moments.{byte_of, cond_small, memory_bytes, session_stands, from_memory}
-use Rattle.law_prove.proofs.Places.{place_closed, fails_by}
+use Rattle.law_prove.proofs.Places.{fails_by}
 use Rattle.law_prove.proofs.Spots.{did_stands, turn_arrives, place_key, Covers, spot_arrives}
 use Rattle.law_prove.proofs.Known.{around_none}
 use Rattle.law_prove.proofs.Seen.{Seen}
@@ -126,7 +127,7 @@ stand_in_like a f st al calls next framed =
 abbrev pub only : Setting → Ins → Frame → Spot → Spot → List Arrival
 only s i scene p q = flat_map (instruction s i (record { frame = scene; public = blank }) p q) (arounds p.key.start None)
 
-module _ (s : Setting) (t : Tables) (g : Target) (loadable : IsLoadable s.app) (closed : is_closed s t ≡ true) where
+module _ (s : Setting) (u t : Tables) (g : Target) (loadable : IsLoadable s.app) (leads : LeadsInto s u t) where
   -- ---- stops
 
   -- a stop in a write leads to a moment without a session
@@ -135,15 +136,15 @@ module _ (s : Setting) (t : Tables) (g : Target) (loadable : IsLoadable s.app) (
       → includes_all t (stopped s start x.allowances kept) ≡ true → StopCovered (domain_of_rules g (covering_of s t)) e h fixed
   stopped_arrives (BySelection bytes apdu before) h fixed (OfClass class) x kept starts stands holds size static includes =
       let next : Arrives t (after_session s x.allowances) (λ b. idle b kept) = arrives t None (after_session s x.allowances) (λ b. idle b kept) includes in
-      from_memory s t loadable closed false (Session ∷ h) fixed [] (record x { allowances = next.allowances }) (session_stands s h x next.allowances stands next.is) size static tt
+      from_memory s t false (Session ∷ h) fixed [] (record x { allowances = next.allowances }) (session_stands s h x next.allowances stands next.is) size static tt
       (moment_included t (record { selected = false; allowances = next.allowances }) kept (moment_memory fixed []) next.rest (holds [] tt) (memory_bytes fixed [] static tt))
   stopped_arrives ByDelegation h fixed Delegated x kept starts stands holds size static includes =
-      from_memory s t loadable closed false h fixed [] x stands size static tt
+      from_memory s t false h fixed [] x stands size static tt
       (moment_included t (record { selected = false; allowances = x.allowances }) kept (moment_memory fixed []) includes (holds [] tt) (memory_bytes fixed [] static tt))
   stopped_arrives (BySelection bytes apdu before) h fixed Delegated x kept starts stands holds size static includes = absurd starts
   stopped_arrives ByDelegation h fixed (OfClass class) x kept starts stands holds size static includes = absurd starts
 
-  module _ (e : Entry Event) (h : History) (f : Frame) (public : List ℕ) (depth : ℕ) (p : IsPlace s t e h f public) (deep : FitsDepth e depth) (i : Ins) where
+  module _ (e : Entry Event) (h : History) (f : Frame) (public : List ℕ) (depth : ℕ) (p : IsPlace s u e h f public) (deep : FitsDepth e depth) (i : Ins) where
     -- the place before the instruction
     abbrev pub before_it : Spot
     before_it = spot_of p.start p.standing.allowances f p.calls p.known
@@ -190,7 +191,7 @@ module _ (s : Setting) (t : Tables) (g : Target) (loadable : IsLoadable s.app) (
       walked_by : (b : Bool) (c : Abend) (cs : List (Abend × Bool)) (m : Shape) (w : Work) (d : Done) → includes_all t (caused (cond b (Some c) (first_cause cs)) s i m w before_it q) ≡ true
           → (b ≡ false → includes_all t (caused (first_cause cs) s i m w before_it q) ≡ true → RowCovered (domain_of_rules g (covering_of s t)) e h f public depth i (row_end (first_cause cs) d))
           → RowCovered (domain_of_rules g (covering_of s t)) e h f public depth i (row_end (cond b (Some c) (first_cause cs)) d)
-      walked_by true c cs m w d includes rest = fails_by s t g loadable closed e h f public p c s.rules.abends (place_key p.start p.standing.allowances f p.calls) refl refl refl includes
+      walked_by true c cs m w d includes rest = fails_by s u t g loadable leads e h f public p c s.rules.abends (place_key p.start p.standing.allowances f p.calls) refl refl refl includes
       walked_by false c cs m w d includes rest = rest refl includes
 
       -- a row by its causes: an abend by the first that holds, or what follows if none does
@@ -204,7 +205,7 @@ module _ (s : Setting) (t : Tables) (g : Target) (loadable : IsLoadable s.app) (
           → includes_all t (caused (first_cause ((A08, was) ∷ [])) s i m w before_it q) ≡ true
           → (is ≡ false → includes_all t (row_arrivals (is_return m.act && no_calls p.calls) s i m w before_it q) ≡ true → RowCovered (domain_of_rules g (covering_of s t)) e h f public depth i (Does d))
           → RowCovered (domain_of_rules g (covering_of s t)) e h f public depth i (row_end (first_cause ((A08, is) ∷ [])) d)
-      limit_by true true m w d other waits less includes done = fails_by s t g loadable closed e h f public p A08 s.rules.abends (place_key p.start p.standing.allowances f p.calls) refl refl refl includes
+      limit_by true true m w d other waits less includes done = fails_by s u t g loadable leads e h f public p A08 s.rules.abends (place_key p.start p.standing.allowances f p.calls) refl refl refl includes
       limit_by true false m w d other waits less includes done = absurd (cc (less refl))
       limit_by false true m w d other waits less includes done =
           let rest : List Arrival = flat_map (λ r. follows s i (makes_write s f.protected m.act) m.next before_it (settled_spot s r)) (spots s m w q) in
@@ -212,7 +213,7 @@ module _ (s : Setting) (t : Tables) (g : Target) (loadable : IsLoadable s.app) (
           let one : includes_all t (cond (may_wait_too_long s f.protected m.act) (fails s (place_key p.start p.standing.allowances f p.calls) p.known A08) []) ≡ true =
           included_first t (cond (may_wait_too_long s f.protected m.act) (fails s (place_key p.start p.standing.allowances f p.calls) p.known A08) []) rest all
           in
-          fails_by s t g loadable closed e h f public p A08 s.rules.abends (place_key p.start p.standing.allowances f p.calls) refl refl refl
+          fails_by s u t g loadable leads e h f public p A08 s.rules.abends (place_key p.start p.standing.allowances f p.calls) refl refl refl
           (subst (λ (b : Bool). includes_all t (cond b (fails s (place_key p.start p.standing.allowances f p.calls) p.known A08) []) ≡ true) (waits refl refl) one)
       limit_by false false m w d other waits less includes done = done refl includes
 
@@ -227,22 +228,22 @@ module _ (s : Setting) (t : Tables) (g : Target) (loadable : IsLoadable s.app) (
           limited_by : (b : Bool) (c : Abend) (cs : List (Abend × Bool)) (was is : Bool) (m : Shape) (w : Work) (d : Done) → includes_all t (caused (cond b (Some c) (first_cause (cs ++ (A08, was) ∷ []))) s i m w before_it q) ≡ true
               → (b ≡ false → includes_all t (caused (first_cause (cs ++ (A08, was) ∷ [])) s i m w before_it q) ≡ true → RowCovered (domain_of_rules g (covering_of s t)) e h f public depth i (row_end (first_cause (cs ++ (A08, is) ∷ [])) d))
               → RowCovered (domain_of_rules g (covering_of s t)) e h f public depth i (row_end (cond b (Some c) (first_cause (cs ++ (A08, is) ∷ []))) d)
-          limited_by true c cs was is m w d includes rest = fails_by s t g loadable closed e h f public p c s.rules.abends (place_key p.start p.standing.allowances f p.calls) refl refl refl includes
+          limited_by true c cs was is m w d includes rest = fails_by s u t g loadable leads e h f public p c s.rules.abends (place_key p.start p.standing.allowances f p.calls) refl refl refl includes
           limited_by false c cs was is m w d includes rest = rest refl includes
 
   -- ---- what was fetched
 
   -- what was fetched at a place is included
-  pub included_at : (e : Entry Event) (h : History) (f : Frame) (public : List ℕ) (i : Ins) (next : ℕ) (p : IsPlace s t e h f public) → instruction_at s.app.code f.at ≡ Ok (i, next)
+  pub included_at : (e : Entry Event) (h : History) (f : Frame) (public : List ℕ) (i : Ins) (next : ℕ) (p : IsPlace s u e h f public) → instruction_at s.app.code f.at ≡ Ok (i, next)
       → includes_all t (fetched s (spot_of p.start p.standing.allowances f p.calls p.known) (Ok (i, next))) ≡ true
   included_at e h f public i next p at =
       let here : Spot = spot_of p.start p.standing.allowances f p.calls p.known in
-      let all = place_closed s t here.key p.known closed p.there in
+      let all = leads here.key p.known p.there in
       subst (λ (z : Result (Ins × ℕ) DecodeFault). includes_all t (fetched s here z) ≡ true) at
       (included_second t (abended s p.start p.standing.allowances p.known A07) (fetched s here (instruction_at s.app.code f.at)) all)
 
   -- if no byte decides, its outcome is the instruction's in a scene like the frame
-  pub only_one : (e : Entry Event) (h : History) (f : Frame) (public : List ℕ) (i : Ins) (next : ℕ) (p : IsPlace s t e h f public)
+  pub only_one : (e : Entry Event) (h : History) (f : Frame) (public : List ℕ) (i : Ins) (next : ℕ) (p : IsPlace s u e h f public)
       → includes_all t ((only s i (frame_at (stand_in s.app (place_key p.start p.standing.allowances f p.calls)).frame next) (spot_of p.start p.standing.allowances f p.calls p.known) (spot_of p.start p.standing.allowances (frame_at f next) p.calls p.known) ++ []) ++ []) ≡ true
       → includes_all t (instruction s i (record { frame = like (frame_at f next) (stand_in_stack p.calls); public = blank }) (spot_of p.start p.standing.allowances f p.calls p.known) (spot_of p.start p.standing.allowances (frame_at f next) p.calls p.known) nobody) ≡ true
   only_one e h f public i next p includes =
@@ -269,7 +270,7 @@ module _ (s : Setting) (t : Tables) (g : Target) (loadable : IsLoadable s.app) (
 
   -- ---- a row that goes on by its act
 
-  module _ (e : Entry Event) (h : History) (f : Frame) (public : List ℕ) (depth : ℕ) (p : IsPlace s t e h f public) (deep : FitsDepth e depth) (i : Ins) (next : ℕ) where
+  module _ (e : Entry Event) (h : History) (f : Frame) (public : List ℕ) (depth : ℕ) (p : IsPlace s u e h f public) (deep : FitsDepth e depth) (i : Ins) (next : ℕ) where
     -- what is known of the frame after the fetch
     pub seen_at : Seen p.calls p.known (frame_at f next) public
     seen_at = record { open_calls = p.open_calls; holds = p.holds; compares = p.compares; keeps = λ on session d. p.keeps session d }

@@ -15,7 +15,7 @@ use Rattle.model_rules.specs.Keeping.{Standing, standing_after, is_broken}
 use Rattle.model_rules.specs.Law.{Covering}
 use Rattle.model_prove.specs.Facts.{Facts, Memory, Holds}
 use Rattle.model_prove.specs.Compares.{IsSo}
-use Rattle.model_prove.specs.Keys.{Start, Delegated, OfClass, Call, Known, Tables}
+use Rattle.model_prove.specs.Keys.{Start, Delegated, OfClass, Call, PlaceKey, Known, Tables}
 use Rattle.model_prove.specs.Laws.{HoldsBytes}
 use Rattle.model_prove.specs.Arrivals.{Setting, static_size}
 use Rattle.model_prove.specs.Between.{apdu_patterns}
@@ -109,6 +109,16 @@ pub record IsPlace (s : Setting) (t : Tables) (e : Entry Event) (h : History) (f
   pub frame : IsFrameOf s.app f
   pub bytes : HoldsBytes (frame_memory f public)
   pub dynamic : AreBytes f.dyn
+
+-- the key of a place
+abbrev pub key_of : (s : Setting) (t : Tables) (e : Entry Event) (h : History) (f : Frame) (public : List ℕ) → IsPlace s t e h f public → PlaceKey
+key_of s t e h f public p = record { at = f.at; start = p.start; allowances = p.standing.allowances; c = f.c; z = f.z; dt = f.dt; lb = f.lb; protected = f.protected; calls = p.calls }
+
+-- what is known at a place is so of a frame
+pub record IsKnown (k : Known) (f : Frame) (public : List ℕ) : Type 0 where
+  pub holds : Holds k.bytes (frame_memory f public)
+  pub compares : IsSo k.compare (frame_memory f public)
+  pub keeps : (session : List ℕ) → AreBytes session → Holds k.kept (moment_memory f.fixed session)
 
 -- what tables cover
 abbrev pub covering_of : Setting → Tables → Covering

@@ -1,9 +1,10 @@
 #![tactic(auto)]
 
-//! What closed tables of abstract states cover of the plays of an application.
+//! What closed tables of abstract states cover of the plays of an application. The law of a row is of any tables: what
+//! it leads to at their places is covered by all tables that include the outcomes, as closed tables include their own.
 
 ghost use Rattle.model_machine.specs.declared.instruction.Ins.TheVariants.{Nop};
-ghost use Rattle.law_prove.specs.Laws.{MomentLaw, PlaceLaw, RowLaw, PopLaw, StatusLaw, JumpLaw, PushLaw};
+ghost use Rattle.law_prove.specs.Laws.{MomentLaw, PlaceLaw, LeadLaw, PopLaw, StatusLaw, JumpLaw, PushLaw};
 ghost use Rattle.law_prove.specs.Laws.{MoveLaw, CompareLaw, SumLaw, BitLaw, PrimitiveLaw, MaskLaw, ReturnLaw};
 
 /// Between commands: each moment that may follow one is one that closed tables have, and none breaks a rule.
@@ -19,7 +20,7 @@ pub fn places_are_covered()
 
 /// After NOP closed tables have the next place, with the allowances that its event leaves.
 pub fn no_operation_is_covered()
-    ensures { RowLaw Nop }
+    ensures { LeadLaw Nop }
 {}
 
 /// After POPN, POPB and POPW closed tables have the next place, or what follows an abend.

@@ -23,8 +23,9 @@ use Rattle.model_prove.specs.Keys.{Start, PlaceKey, Tables}
 use Rattle.model_prove.specs.Laws.{Among}
 use Rattle.model_prove.specs.Arrivals.{Setting, Arrival, stopped, abended}
 use Rattle.model_prove.specs.Steps.{Spot, after_delegation, arrived, delegate_abends, follows}
-use Rattle.model_prove.specs.Tables.{IsLoadable, includes, includes_all, is_closed}
+use Rattle.model_prove.specs.Tables.{IsLoadable, includes, includes_all}
 use Rattle.law_prove.specs.Coverings.{frame_memory, IsFrameOf, IsPlace, StartsAs, covering_of}
+use Rattle.law_prove.specs.Laws.{LeadsInto}
 use Rattle.law_prove.proofs.Closed.{included_first, included_second, Arrives}
 use Rattle.law_prove.proofs.Moments.{within_holds}
 use Rattle.law_prove.proofs.Places.{abend_arrives}
@@ -102,9 +103,9 @@ back_covers r f public other covers =
 
 -- ---- what follows
 
-module _ (s : Setting) (t : Tables) (g : Target) (loadable : IsLoadable s.app) (closed : is_closed s t ≡ true) (e : Entry Event) (h : History) (f : Frame) (public : List ℕ) (depth : ℕ) (p : IsPlace s t e h f public) (deep : FitsDepth e depth) (i : Ins) where
+module _ (s : Setting) (u t : Tables) (g : Target) (loadable : IsLoadable s.app) (leads : LeadsInto s u t) (e : Entry Event) (h : History) (f : Frame) (public : List ℕ) (depth : ℕ) (p : IsPlace s u e h f public) (deep : FitsDepth e depth) (i : Ins) where
   pub delegates_covered : (n name : List ℕ) (r : Spot) (after : Frame) → r.key.start ≡ p.start → Covers r after public → IsFrameOf s.app after → IsByteFrame after
-      → includes_all t (follows s i false (Delegates n) (before_it s t g loadable closed e h f public depth p deep i) r) ≡ true
+      → includes_all t (follows s i false (Delegates n) (before_it s u t g loadable leads e h f public depth p deep i) r) ≡ true
       → RowCovered (domain_of_rules g (covering_of s t)) e h f public depth i (Does (record { effect = frame_effect after public; next = Delegates name }))
   delegates_covered n name r after same covers frame bytes all =
       let k : PlaceKey = place_key p.start p.standing.allowances f p.calls in
@@ -127,8 +128,8 @@ module _ (s : Setting) (t : Tables) (g : Target) (loadable : IsLoadable s.app) (
         next = record {
           back = λ other segment. spot_arrives s t e (Did deed ∷ h) after other (after_delegation r) x (back_covers r after public other covers) starts stands frame
               (memory_of_bytes after other bytes (segment.1 tt)) bytes.stack (ap (λ (b : Bool). b && true) parts.0);
-          abends = λ cause row. abend_arrives s t g loadable closed e (Did deed ∷ h) after public p.start x r.known cause p.starts stands covers.keeps covers.holds frame bytes.stack
+          abends = λ cause row. abend_arrives s t g loadable e (Did deed ∷ h) after public p.start x r.known cause p.starts stands covers.keeps covers.holds frame bytes.stack
               (one_of t (ends m.allowances) cause delegate_abends (among_abends cause row) abends);
-          stops = stopped_arrives s t g loadable closed e (Did deed ∷ h) after.fixed p.start x r.known.kept p.starts stands covers.keeps frame.size frame.static stops;
+          stops = stopped_arrives s u t g loadable leads e (Did deed ∷ h) after.fixed p.start x r.known.kept p.starts stands covers.keeps frame.size frame.static stops;
         };
       }

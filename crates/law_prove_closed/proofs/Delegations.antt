@@ -27,13 +27,14 @@ use Rattle.model_prove.specs.Work.{AsShaped}
 use Rattle.model_prove.specs.Arrivals.{Setting, Arrival, fails}
 use Rattle.model_prove.specs.Steps.{Spot, lowered, settled_spot, follows, caused, instruction, arounds, chosen, with_first_choice, with_choice, inside, by_choices, coarse_around, coarse_for, coarse_done, coarse_arrivals}
 use Rattle.model_prove.specs.Reach.{Coarse, Leads, may_miss, known_causes}
-use Rattle.model_prove.specs.Tables.{IsLoadable, includes_all, is_closed}
+use Rattle.model_prove.specs.Tables.{IsLoadable, includes_all}
 use Rattle.model_prove.proofs.ChangeLemmas.{choice_is_there}
 use Rattle.law_prove.specs.Coverings.{frame_memory, IsFrameOf}
+use Rattle.law_prove.specs.Laws.{LeadsInto, LeadLaw}
 use Rattle.law_prove.proofs.Acts.{spot_of, Framed, Led, stays_led, led_covers, lowered_seen}
 use Rattle.law_prove.proofs.Alike.{Sized, read_is, top_is, stack_length}
 use Rattle.law_prove.proofs.Closed.{included_first, included_second}
-use Rattle.law_prove.proofs.Places.{fails_by}
+use Rattle.law_prove.proofs.Places.{of_closed, fails_by}
 use Rattle.law_prove.proofs.Seen.{Seen}
 use Rattle.law_prove.proofs.Single.{Turn, here, there, IsRowCovered, row_is, shape_bytes}
 use Rattle.law_prove.proofs.Turns.{frame_of, nobody, walked, included_at, decoded_at, leaves_bytes}
@@ -133,15 +134,15 @@ number_by e f segment public dt over x y first second =
 under_first : (denied : Bool) (size dt a n : ℕ) → first_cause (delegate_causes denied true size dt a n) ≡ cond denied (Some A0A) (Some A04)
 under_first denied size dt a n = refl
 
-module _ (s : Setting) (t : Tables) (g : Target) (loadable : IsLoadable s.app) (closed : is_closed s t ≡ true) (args : List ℕ) (turn : Turn s t (ins.Prim 0 7 args)) where
+module _ (s : Setting) (u t : Tables) (g : Target) (loadable : IsLoadable s.app) (leads : LeadsInto s u t) (args : List ℕ) (turn : Turn s u (ins.Prim 0 7 args)) where
   abbrev delegation : Ins
   delegation = ins.Prim 0 7 args
 
   abbrev before : Spot
-  before = here s t g loadable closed delegation turn
+  before = here s u t g loadable leads delegation turn
 
   abbrev fetched_spot : Spot
-  fetched_spot = there s t g loadable closed delegation turn
+  fetched_spot = there s u t g loadable leads delegation turn
 
   -- the frame after the fetch, and its bytes
   abbrev fetched_frame : Frame
@@ -161,7 +162,7 @@ module _ (s : Setting) (t : Tables) (g : Target) (loadable : IsLoadable s.app) (
   real_shape = delegating (turn.frame.dt - 2) (name_in fetched_frame turn.public)
 
   abbrev IsCovered : Type 0
-  IsCovered = IsRowCovered s t g loadable closed delegation turn (row delegation fetched_frame turn.public turn.around)
+  IsCovered = IsRowCovered s u t g loadable leads delegation turn (row delegation fetched_frame turn.public turn.around)
 
   static_low : length turn.frame.fixed ≤ dynamic_base
   static_low =
@@ -214,7 +215,7 @@ module _ (s : Setting) (t : Tables) (g : Target) (loadable : IsLoadable s.app) (
 
   done_covered : (k : Known) (n : List ℕ) → is_under fetched_frame 2 ≡ false → Seen turn.place.calls k fetched_frame turn.public
       → includes_all t (follows s delegation false (Delegates n) before (settled_spot s (lowered (turn.frame.dt - 2) (spot_with k)))) ≡ true
-      → IsRowCovered s t g loadable closed delegation turn (Does (meaning real_shape fetched_frame turn.public))
+      → IsRowCovered s u t g loadable leads delegation turn (Does (meaning real_shape fetched_frame turn.public))
   done_covered k n over seen all =
       let p = turn.place in
       let d = turn.frame.dt - 2 in
@@ -222,15 +223,15 @@ module _ (s : Setting) (t : Tables) (g : Target) (loadable : IsLoadable s.app) (
       let led : Led s p.start p.standing.allowances (lowered d (spot_with k)) false (act_effect Stays low_frame turn.public) =
       stays_led s loadable.static p.start p.standing.allowances low_frame turn.public (calls_below d p.calls) (lowered d (spot_with k)).known [] (low_framed over) low
       in
-      let bytes : IsByteEffect (shape_effect real_shape fetched_frame turn.public) = shape_bytes s t g loadable closed delegation turn real_shape (delegate_shape args fetched_frame turn.public turn.around) turn.after in
-      delegates_covered s t g loadable closed turn.entry turn.history turn.frame turn.public turn.depth p turn.deep delegation n (name_in fetched_frame turn.public) (settled_spot s (lowered d (spot_with k))) low_frame refl
+      let bytes : IsByteEffect (shape_effect real_shape fetched_frame turn.public) = shape_bytes s u t g loadable leads delegation turn real_shape (delegate_shape args fetched_frame turn.public turn.around) turn.after in
+      delegates_covered s u t g loadable leads turn.entry turn.history turn.frame turn.public turn.depth p turn.deep delegation n (name_in fetched_frame turn.public) (settled_spot s (lowered d (spot_with k))) low_frame refl
       (led_covers s p.start p.standing.allowances (lowered d (spot_with k)) false (act_effect Stays low_frame turn.public) led) (frame_of s.app low_frame (low_framed over) bytes.frame) bytes.frame all
 
   -- the row by its causes
-  by_causes : IsRowCovered s t g loadable closed delegation turn (row_end (first_cause real_causes) (meaning real_shape fetched_frame turn.public)) → IsCovered
+  by_causes : IsRowCovered s u t g loadable leads delegation turn (row_end (first_cause real_causes) (meaning real_shape fetched_frame turn.public)) → IsCovered
   by_causes covered =
-      subst (IsRowCovered s t g loadable closed delegation turn)
-      (row_is s t g loadable closed delegation turn real_causes real_shape (delegate_cause args fetched_frame turn.public turn.around) (delegate_shape args fetched_frame turn.public turn.around)) covered
+      subst (IsRowCovered s u t g loadable leads delegation turn)
+      (row_is s u t g loadable leads delegation turn real_causes real_shape (delegate_cause args fetched_frame turn.public turn.around) (delegate_shape args fetched_frame turn.public turn.around)) covered
 
   -- ---- one choice
 
@@ -352,7 +353,7 @@ module _ (s : Setting) (t : Tables) (g : Target) (loadable : IsLoadable s.app) (
       (ap first_cause (delegate_cause args z.frame z.public nobody) ∙ first_same (is_under fetched_frame 2) refl) two
       in
       by_causes
-      (walked s t g loadable closed turn.entry turn.history turn.frame turn.public turn.depth turn.place turn.deep delegation q real_causes m AsShaped (meaning real_shape fetched_frame turn.public) all
+      (walked s u t g loadable leads turn.entry turn.history turn.frame turn.public turn.depth turn.place turn.deep delegation q real_causes m AsShaped (meaning real_shape fetched_frame turn.public) all
       (λ none more. done_covered chosen_known name none.1.1.0 chosen_seen (included_first t (follows s delegation false (Delegates name) before (settled_spot s (lowered (turn.frame.dt - 2) q))) [] more)))
 
   few_is : (b : Bool) (all cs : List Choice) → few_if b all ≡ Some cs → all ≡ cs
@@ -379,12 +380,12 @@ module _ (s : Setting) (t : Tables) (g : Target) (loadable : IsLoadable s.app) (
 
   coarse_by : (denied under x y : Bool) (m : Shape) → is_under fetched_frame 2 ≡ under → includes_all t (fails s before.key before.known A03) ≡ true → includes_all t (fails s before.key before.known A06) ≡ true
       → includes_all t (coarse_done (first_cause ((A0A, denied) ∷ (A04, under) ∷ [])) s delegation (record scene.frame { dt = m.dt }) m Leads before fetched_spot) ≡ true
-      → (is_under fetched_frame 2 ≡ false → includes_all t (coarse_done None s delegation (record scene.frame { dt = m.dt }) m Leads before fetched_spot) ≡ true → IsRowCovered s t g loadable closed delegation turn (Does (meaning real_shape fetched_frame turn.public)))
-      → IsRowCovered s t g loadable closed delegation turn (row_end (first_cause ((A06, false) ∷ (A0A, denied) ∷ (A04, under) ∷ (A03, x) ∷ (A06, y) ∷ [])) (meaning real_shape fetched_frame turn.public))
-  coarse_by true under x y m is misses long includes rest = fails_by s t g loadable closed turn.entry turn.history turn.frame turn.public turn.place A0A s.rules.abends before.key refl refl refl includes
-  coarse_by false true x y m is misses long includes rest = fails_by s t g loadable closed turn.entry turn.history turn.frame turn.public turn.place A04 s.rules.abends before.key refl refl refl includes
-  coarse_by false false true y m is misses long includes rest = fails_by s t g loadable closed turn.entry turn.history turn.frame turn.public turn.place A03 s.rules.abends before.key refl refl refl misses
-  coarse_by false false false true m is misses long includes rest = fails_by s t g loadable closed turn.entry turn.history turn.frame turn.public turn.place A06 s.rules.abends before.key refl refl refl long
+      → (is_under fetched_frame 2 ≡ false → includes_all t (coarse_done None s delegation (record scene.frame { dt = m.dt }) m Leads before fetched_spot) ≡ true → IsRowCovered s u t g loadable leads delegation turn (Does (meaning real_shape fetched_frame turn.public)))
+      → IsRowCovered s u t g loadable leads delegation turn (row_end (first_cause ((A06, false) ∷ (A0A, denied) ∷ (A04, under) ∷ (A03, x) ∷ (A06, y) ∷ [])) (meaning real_shape fetched_frame turn.public))
+  coarse_by true under x y m is misses long includes rest = fails_by s u t g loadable leads turn.entry turn.history turn.frame turn.public turn.place A0A s.rules.abends before.key refl refl refl includes
+  coarse_by false true x y m is misses long includes rest = fails_by s u t g loadable leads turn.entry turn.history turn.frame turn.public turn.place A04 s.rules.abends before.key refl refl refl includes
+  coarse_by false false true y m is misses long includes rest = fails_by s u t g loadable leads turn.entry turn.history turn.frame turn.public turn.place A03 s.rules.abends before.key refl refl refl misses
+  coarse_by false false false true m is misses long includes rest = fails_by s u t g loadable leads turn.entry turn.history turn.frame turn.public turn.place A06 s.rules.abends before.key refl refl refl long
   coarse_by false false false false m is misses long includes rest = rest is includes
 
   abbrev around_there : Around
@@ -435,12 +436,12 @@ module _ (s : Setting) (t : Tables) (g : Target) (loadable : IsLoadable s.app) (
   covered_by (Some cs) e includes = few_covered cs e includes
   covered_by None e includes = coarse_covered includes
 
-pub delegate_law : DelegateLaw
-delegate_law args r g t loadable closed e h f public depth x next p entry deep names segment at =
+pub delegate_lead : (args : List ℕ) → LeadLaw (ins.Prim 0 7 args)
+delegate_lead args r g u t loadable leads e h f public depth x next p entry deep names segment at =
     let i : Ins = ins.Prim 0 7 args in
     let s : Setting = record { rules = r; app = g.app } in
-    let decoded : Decodes s.app.code f.at i next = decoded_at s t g loadable closed f i next at in
-    let turn : Turn s t i = record {
+    let decoded : Decodes s.app.code f.at i next = decoded_at s u t g loadable leads f i next at in
+    let turn : Turn s u i = record {
       entry = e;
       history = h;
       frame = f;
@@ -456,7 +457,10 @@ delegate_law args r g t loadable closed e h f public depth x next p entry deep n
       shaped = decoded.shaped;
       after_it = decoded.place;
       inside = decoded.inside;
-      after = leaves_bytes s t g loadable closed f public i next x at p.frame p.dynamic (segment.1 tt) names;
+      after = leaves_bytes s u t g loadable leads f public i next x at p.frame p.dynamic (segment.1 tt) names;
     }
     in
-    covered_by s t g loadable closed args turn (few_combinations p.known.bytes (first_places s t g loadable closed args turn)) refl (included_at s t g loadable closed e h f public i next p at)
+    covered_by s u t g loadable leads args turn (few_combinations p.known.bytes (first_places s u t g loadable leads args turn)) refl (included_at s u t g loadable leads e h f public i next p at)
+
+pub delegate_law : DelegateLaw
+delegate_law args = of_closed (ins.Prim 0 7 args) (delegate_lead args)

@@ -9,7 +9,8 @@ ghost use Rattle.model_prove.specs.Facts.{Facts};
 ghost use Rattle.model_prove.specs.Keys.{PlaceKey};
 ghost use Rattle.model_prove.specs.Steps.{after_delegation};
 ghost use Rattle.model_prove.specs.Tables.{ClosedLaw};
-ghost use Rattle.law_prove_closed.specs.Laws.{DelegateLaw, AllRowsLaw};
+ghost use Rattle.law_prove_closed.specs.Laws.{DelegateLaw, AllRowsLaw, AllLeadsLaw};
+ghost use Rattle.law_prove_closed.specs.Outcomes.{LeftLaw, NextLaw, NextEndLaw, ClosedNextLaw};
 ghost use Rattle.law_prove_closed.specs.Decks.{DeckLaw, DeckIsKept};
 
 /// After PRIM 7 closed tables have the place after the delegation, whatever public segment comes back, and the moments
@@ -36,6 +37,33 @@ pub fn delegations_leave_no_public_bytes()
 /// At each place of closed tables what the row of its instruction leads to is covered, whichever instruction it is.
 pub fn rows_are_covered()
     ensures { AllRowsLaw }
+{}
+
+/// So it is at each place of tables that lead into others: what its row leads to is covered by those.
+pub fn rows_lead_into_tables()
+    ensures { AllLeadsLaw }
+{}
+
+/// Each place that is left of tables by some outcomes is one of the tables, and one of the outcomes leads to it; so is
+/// each moment.
+pub fn keys_left_are_outcomes()
+    ensures { LeftLaw }
+{}
+
+/// At a place of tables that include the outcomes of its key, with what is known of its frame, what the row of its
+/// instruction leads to is covered by the keys of these outcomes: the next place has one of them.
+pub fn next_places_are_outcomes()
+    ensures { NextLaw }
+{}
+
+/// So it is where the budget ends at the place, and where no instruction is there.
+pub fn next_ends_are_outcomes()
+    ensures { NextEndLaw }
+{}
+
+/// The same is so of a row at each place of closed tables, with what they have there.
+pub fn next_places_of_closed_tables_are_outcomes()
+    ensures { ClosedNextLaw }
 {}
 
 /// Rules without sums of an application that a card can have are kept in every play of every deck of bytes if closed

@@ -173,7 +173,7 @@ module _ (s : Setting) (t : Tables) (g : Target) (loadable : IsLoadable s.app) (
     begun_session : (public : List ℕ) (a : ℕ) → dynamic_base ≤ a → a < dynamic_base + s.app.session → moment_memory fixed session a ≡ frame_memory (command_frame fixed session) public a
     begun_session public a low high =
         let first : session_of (command_frame fixed session) ≡ session = take_at session (zeros (512 - length session)) (length session) refl in
-        sym (ap (λ (l : List ℕ). moment_memory fixed l a) first) ∙ sym (session_same s t g loadable closed (command_frame fixed session) public a command_fits low high)
+        sym (ap (λ (l : List ℕ). moment_memory fixed l a) first) ∙ sym (session_same s t g loadable (command_frame fixed session) public a command_fits low high)
 
     own_hold : (f : Facts) (public : List ℕ) → Holds f (moment_memory fixed session) → Holds (own_facts s f) (frame_memory (command_frame fixed session) public)
     own_hold f public h =

@@ -32,9 +32,10 @@ use Rattle.model_prove.specs.Laws.{Among, HoldsBytes}
 use Rattle.model_prove.specs.Work.{AsShaped, work}
 use Rattle.model_prove.specs.Arrivals.{Setting, Arrival, Lengths, lengths_of, la_at, session_facts, in_session, fails, after_turn, after_answer, result_patterns, replies, exited, arrive}
 use Rattle.model_prove.specs.Steps.{Spot, lowered, acted, settled_spot, caused, exits_from}
-use Rattle.model_prove.specs.Tables.{IsLoadable, includes_all, is_closed}
+use Rattle.model_prove.specs.Tables.{IsLoadable, includes_all}
 use Rattle.model_prove.proofs.FactLemmas.{value_holds}
 use Rattle.law_prove.specs.Coverings.{moment_memory, IsMoment, frame_memory, class_of, StartsAs, IsFrameOf, IsPlace, covering_of}
+use Rattle.law_prove.specs.Laws.{LeadsInto}
 use Rattle.law_prove.proofs.Closed.{included_first, included_second, Arrives, arrives, moment_included}
 use Rattle.law_prove.proofs.Moments.{memory_bytes, within_holds, from_memory}
 use Rattle.law_prove.proofs.Parts.{memory_public}
@@ -67,7 +68,7 @@ one_of t f m (n ∷ ms) a e =
 least : (n m : ℕ) → min n m ≤ n
 least n m = omega arith
 
-module _ (s : Setting) (t : Tables) (g : Target) (loadable : IsLoadable s.app) (closed : is_closed s t ≡ true) (i : Ins) (next : ℕ) (after : List ℕ) where
+module _ (s : Setting) (u t : Tables) (g : Target) (loadable : IsLoadable s.app) (leads : LeadsInto s u t) (i : Ins) (next : ℕ) (after : List ℕ) where
   -- an exit that was done, from a frame and a public segment
   abbrev exit_deed : Bool → Frame → List ℕ → ℕ → Deed
   exit_deed direct f public depth =
@@ -84,7 +85,7 @@ module _ (s : Setting) (t : Tables) (g : Target) (loadable : IsLoadable s.app) (
     stands : standing_after s.rules (Did d ∷ h) ≡ Ok (record (after_deed s.rules d.frame.protected d x) { allowances = allowances })
     rest : includes_all t (more allowances) ≡ true
 
-  exits_so : (e : Entry Event) (h : History) (f : Frame) (public : List ℕ) (depth : ℕ) (p : IsPlace s t e h f public) (q : Spot) → FitsDepth e depth → Covers q (frame_at f next) after → (more : Amounts → List Arrival)
+  exits_so : (e : Entry Event) (h : History) (f : Frame) (public : List ℕ) (depth : ℕ) (p : IsPlace s u e h f public) (q : Spot) → FitsDepth e depth → Covers q (frame_at f next) after → (more : Amounts → List Arrival)
       → includes_all t (after_turn s (place_key p.start p.standing.allowances f p.calls) i q.key.dt q.key.c q.key.z more) ≡ true → Exited h (exit_deed (is_direct e) f public depth) p.standing more
   exits_so e h f public depth p q deep covers more includes =
       let k : PlaceKey = place_key p.start p.standing.allowances f p.calls in
@@ -169,9 +170,9 @@ module _ (s : Setting) (t : Tables) (g : Target) (loadable : IsLoadable s.app) (
         let m : Memory = moment_memory f.fixed (session_of f) in
         let session : AreBytes (session_of f) = taken f.session f.dyn dyn in
         let own : Holds (session_facts s q.known) m =
-        within_holds dynamic_base (dynamic_base + s.app.session) q.known.bytes (frame_memory (frame_at f next) after) m (λ a low high. session_same s t g loadable closed (frame_at f next) after a after_framed low high) covers.holds
+        within_holds dynamic_base (dynamic_base + s.app.session) q.known.bytes (frame_memory (frame_at f next) after) m (λ a low high. session_same s t g loadable (frame_at f next) after a after_framed low high) covers.holds
         in
-        from_memory s t loadable closed true (Answered bytes outcome ∷ k) f.fixed (session_of f) (record x { allowances = n.allowances }) (answer_stands s k bytes outcome class x n.allowances starts stands n.is)
+        from_memory s t true (Answered bytes outcome ∷ k) f.fixed (session_of f) (record x { allowances = n.allowances }) (answer_stands s k bytes outcome class x n.allowances starts stands n.is)
         framed.size framed.static session
         (moment_included t (record { selected = true; allowances = n.allowances }) (q.known.kept ++ session_facts s q.known) m n.rest (holds_both q.known.kept (session_facts s q.known) m (covers.keeps (session_of f) session) own)
         (memory_bytes f.fixed (session_of f) framed.static session))
@@ -186,7 +187,7 @@ module _ (s : Setting) (t : Tables) (g : Target) (loadable : IsLoadable s.app) (
       let outcome : Outcome = cond long (Abended A09) (reply_to apdu after) in
       EndCovered o (BySelection bytes apdu before) k f.fixed (session_of f) outcome × AnswerCovered o bytes apdu before k outcome × (o.anywhere → StopCovered o (BySelection bytes apdu before) k f.fixed)
 
-  command_exits : (long : Bool) (bytes : List ℕ) (apdu : ApduParts) (before h : History) (f : Frame) (public : List ℕ) (depth : ℕ) (p : IsPlace s t (BySelection bytes apdu before) h f public) (q : Spot) (class : List Bool) → nat_lt 1024 (la_of after) ≡ long → class ≡ class_of bytes s.rules.ons
+  command_exits : (long : Bool) (bytes : List ℕ) (apdu : ApduParts) (before h : History) (f : Frame) (public : List ℕ) (depth : ℕ) (p : IsPlace s u (BySelection bytes apdu before) h f public) (q : Spot) (class : List Bool) → nat_lt 1024 (la_of after) ≡ long → class ≡ class_of bytes s.rules.ons
       → depth ≡ 1 → AreBytes after → Covers q (frame_at f next) after → HoldsBytes (frame_memory (frame_at f next) after)
       → includes_all t (exits_from s i (OfClass class) (lengths_of (values_at q.known.bytes la_at) (values_at q.known.bytes (la_at + 1))) (spot_of p.start p.standing.allowances f p.calls p.known) q) ≡ true
       → CommandExits long bytes apdu before h f public depth
@@ -196,7 +197,7 @@ module _ (s : Setting) (t : Tables) (g : Target) (loadable : IsLoadable s.app) (
       let first : List Arrival = cond la.too_long (fails s k p.known A09) [] in
       let second : List Arrival = cond la.fitting (after_turn s k i q.key.dt q.key.c q.key.z (exited s (OfClass class) q.known)) [] in
       let one : includes_all t (fails s k p.known A09) ≡ true = subst (λ (b : Bool). includes_all t (cond b (fails s k p.known A09) []) ≡ true) (too_long f q p.frame p.dynamic others covers memory long) (included_first t first second includes) in
-      let ends : AbendCovered (domain_of_rules g (covering_of s t)) (BySelection bytes apdu before) (Failed f.at A09 ∷ h) f A09 = fails_by s t g loadable closed (BySelection bytes apdu before) h f public p A09 s.rules.abends k refl refl refl one in
+      let ends : AbendCovered (domain_of_rules g (covering_of s t)) (BySelection bytes apdu before) (Failed f.at A09 ∷ h) f A09 = fails_by s u t g loadable leads (BySelection bytes apdu before) h f public p A09 s.rules.abends k refl refl refl one in
       (ends.ends, tt, λ any. absurd any)
   command_exits false bytes apdu before h f public depth p q class long is deep others covers memory includes =
       let la : Lengths = lengths f q p.frame p.dynamic others covers memory in
@@ -212,7 +213,7 @@ module _ (s : Setting) (t : Tables) (g : Target) (loadable : IsLoadable s.app) (
       in
       (answered_arrives f q p.frame p.dynamic others covers memory bytes (reply_to apdu after) (Did (exit_deed true f public depth) ∷ h) class x is n.stands reply, tt, λ any. absurd any)
 
-  exits_by : (e : Entry Event) (h : History) (f : Frame) (public : List ℕ) (depth : ℕ) (p : IsPlace s t e h f public) (q : Spot) (start : Start) → StartsAs s.rules e start → FitsDepth e depth → AreBytes after → Covers q (frame_at f next) after
+  exits_by : (e : Entry Event) (h : History) (f : Frame) (public : List ℕ) (depth : ℕ) (p : IsPlace s u e h f public) (q : Spot) (start : Start) → StartsAs s.rules e start → FitsDepth e depth → AreBytes after → Covers q (frame_at f next) after
       → HoldsBytes (frame_memory (frame_at f next) after)
       → includes_all t (exits_from s i start (lengths_of (values_at q.known.bytes la_at) (values_at q.known.bytes (la_at + 1))) (spot_of p.start p.standing.allowances f p.calls p.known) q) ≡ true
       → ExitIsCovered e h f public depth
@@ -224,7 +225,7 @@ module _ (s : Setting) (t : Tables) (g : Target) (loadable : IsLoadable s.app) (
       let frame : IsFrameOf s.app f = p.frame in
       record {
         write = tt;
-        next = from_memory s t loadable closed false (Did (exit_deed false f public depth) ∷ h) f.fixed [] x n.stands frame.size frame.static tt
+        next = from_memory s t false (Did (exit_deed false f public depth) ∷ h) f.fixed [] x n.stands frame.size frame.static tt
             (moment_included t (record { selected = false; allowances = n.allowances }) q.known.kept (moment_memory f.fixed []) n.rest (covers.keeps [] tt) (memory_bytes f.fixed [] frame.static tt));
       }
   exits_by (BySelection bytes apdu before) h f public depth p q Delegated starts deep others covers memory includes = absurd starts
@@ -243,23 +244,23 @@ record IsExit (i : Ins) (sw la : Option ℕ) : Type 0 where
   shaped : (f : Frame) (public : List ℕ) → work i f public ≡ AsShaped
 
 exit_case : (i : Ins) (sw la : Option ℕ) → IsExit i sw la → RowCase i
-exit_case i sw la exit s t g loadable closed turn includes =
+exit_case i sw la exit s u t g loadable leads turn includes =
     let f : Frame = turn.frame in
     let after : List ℕ = with_length la (with_status sw turn.public) in
     let m : Shape = leaving f.dt sw la in
     let st = turn.place.start in
     let al = turn.place.standing.allowances in
-    let led : Led s st al (acted s (Answers sw la) [] (lowered f.dt (there s t g loadable closed i turn))) false (act_effect (Answers sw la) (frame_at f turn.next) turn.public) = led_answers s t g loadable closed i turn [] sw la in
-    let r : Spot = acted s (Answers sw la) [] (lowered f.dt (there s t g loadable closed i turn)) in
+    let led : Led s st al (acted s (Answers sw la) [] (lowered f.dt (there s u t g loadable leads i turn))) false (act_effect (Answers sw la) (frame_at f turn.next) turn.public) = led_answers s u t g loadable leads i turn [] sw la in
+    let r : Spot = acted s (Answers sw la) [] (lowered f.dt (there s u t g loadable leads i turn)) in
     let q : Spot = settled_spot s r in
     let covers : Covers q (frame_at f turn.next) after = led_covers s st al r false (act_effect (Answers sw la) (frame_at f turn.next) turn.public) led in
-    let bytes : IsByteEffect (shape_effect m (frame_at f turn.next) turn.public) = shape_bytes s t g loadable closed i turn m (exit.leaves (frame_at f turn.next) turn.public turn.around) turn.after in
-    let all : includes_all t (caused (first_cause []) s i m AsShaped (here s t g loadable closed i turn) (there s t g loadable closed i turn)) ≡ true =
-    stood s t g loadable closed i turn [] m AsShaped includes (exit.none (scene s t g loadable closed i turn) blank nobody) (exit.leaves (scene s t g loadable closed i turn) blank nobody) (exit.shaped (scene s t g loadable closed i turn) blank)
+    let bytes : IsByteEffect (shape_effect m (frame_at f turn.next) turn.public) = shape_bytes s u t g loadable leads i turn m (exit.leaves (frame_at f turn.next) turn.public turn.around) turn.after in
+    let all : includes_all t (caused (first_cause []) s i m AsShaped (here s u t g loadable leads i turn) (there s u t g loadable leads i turn)) ≡ true =
+    stood s u t g loadable leads i turn [] m AsShaped includes (exit.none (scene s u t g loadable leads i turn) blank nobody) (exit.leaves (scene s u t g loadable leads i turn) blank nobody) (exit.shaped (scene s u t g loadable leads i turn) blank)
     in
-    let one : List Arrival = exits_from s i st (lengths_of (values_at q.known.bytes la_at) (values_at q.known.bytes (la_at + 1))) (here s t g loadable closed i turn) q in
-    subst (IsRowCovered s t g loadable closed i turn) (row_is s t g loadable closed i turn [] m (exit.none (frame_at f turn.next) turn.public turn.around) (exit.leaves (frame_at f turn.next) turn.public turn.around))
-    (exits_by s t g loadable closed i turn.next after turn.entry turn.history f turn.public turn.depth turn.place q st turn.place.starts turn.deep bytes.public covers (memory_of_bytes (frame_at f turn.next) after bytes.frame bytes.public)
+    let one : List Arrival = exits_from s i st (lengths_of (values_at q.known.bytes la_at) (values_at q.known.bytes (la_at + 1))) (here s u t g loadable leads i turn) q in
+    subst (IsRowCovered s u t g loadable leads i turn) (row_is s u t g loadable leads i turn [] m (exit.none (frame_at f turn.next) turn.public turn.around) (exit.leaves (frame_at f turn.next) turn.public turn.around))
+    (exits_by s u t g loadable leads i turn.next after turn.entry turn.history f turn.public turn.depth turn.place q st turn.place.starts turn.deep bytes.public covers (memory_of_bytes (frame_at f turn.next) after bytes.frame bytes.public)
     (included_first t one [] all))
 
 exit_is : IsExit ins.Exit None None
@@ -280,8 +281,8 @@ exitswla_is sw la = record { none = λ f public x. refl; leaves = λ f public x.
 
 pub exit_laws : ExitLaw
 exit_laws = (
-  law_of ins.Exit (λ s t g loadable closed turn e. e) (exit_case ins.Exit None None exit_is),
-  λ sw. law_of (ins.Exitsw sw) (λ s t g loadable closed turn e. e) (exit_case (ins.Exitsw sw) (Some sw) None (exitsw_is sw)),
-  λ la. law_of (ins.Exitla la) (λ s t g loadable closed turn e. e) (exit_case (ins.Exitla la) None (Some la) (exitla_is la)),
-  λ sw la. law_of (ins.Exitswla sw la) (λ s t g loadable closed turn e. e) (exit_case (ins.Exitswla sw la) (Some sw) (Some la) (exitswla_is sw la)),
+  law_of ins.Exit (λ s u t g loadable leads turn e. e) (exit_case ins.Exit None None exit_is),
+  λ sw. law_of (ins.Exitsw sw) (λ s u t g loadable leads turn e. e) (exit_case (ins.Exitsw sw) (Some sw) None (exitsw_is sw)),
+  λ la. law_of (ins.Exitla la) (λ s u t g loadable leads turn e. e) (exit_case (ins.Exitla la) None (Some la) (exitla_is la)),
+  λ sw la. law_of (ins.Exitswla sw la) (λ s u t g loadable leads turn e. e) (exit_case (ins.Exitswla sw la) (Some sw) (Some la) (exitswla_is sw la)),
 )

@@ -17,7 +17,7 @@ use Rattle.model_prove.specs.Arrivals.{Setting}
 use Rattle.model_prove.specs.Between.{Class, classes}
 use Rattle.model_prove.specs.Tables.{IsLoadable, is_closed}
 use Rattle.law_prove.specs.Coverings.{IsMoment, class_of, IsPlace, covering_of}
-use Rattle.law_prove.specs.Laws.{RowLaw}
+use Rattle.law_prove.specs.Laws.{LeadLaw}
 use Rattle.law_prove.proofs.Seen.{FitSets}
 
 -- The ways that a pattern leaves open after a text say whether it matches exactly as `fits` does.
@@ -45,4 +45,4 @@ BeginLaw =
 
 -- of the rows that end a frame
 abbrev pub ExitLaw : Type 0
-ExitLaw = RowLaw ins.Exit × ((sw : ℕ) → RowLaw (ins.Exitsw sw)) × ((la : ℕ) → RowLaw (ins.Exitla la)) × ((sw la : ℕ) → RowLaw (ins.Exitswla sw la))
+ExitLaw = LeadLaw ins.Exit × ((sw : ℕ) → LeadLaw (ins.Exitsw sw)) × ((la : ℕ) → LeadLaw (ins.Exitla la)) × ((sw la : ℕ) → LeadLaw (ins.Exitswla sw la))

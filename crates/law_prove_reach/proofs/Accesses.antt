@@ -11,8 +11,9 @@ use Rattle.model_prove.specs.Facts.{Memory}
 use Rattle.model_prove.specs.Compares.{bytes_from}
 use Rattle.model_prove.specs.Keys.{Tables}
 use Rattle.model_prove.specs.Arrivals.{Setting}
-use Rattle.model_prove.specs.Tables.{IsLoadable, is_closed}
+use Rattle.model_prove.specs.Tables.{IsLoadable}
 use Rattle.law_prove.specs.Coverings.{frame_memory}
+use Rattle.law_prove.specs.Laws.{LeadsInto}
 use Rattle.law_prove.proofs.Alike.{Sized, from_length, read_is}
 use Rattle.law_prove.proofs.Moves.{turn_sized}
 use Rattle.law_prove.proofs.Single.{Turn}
@@ -74,18 +75,18 @@ read_length h fixed dyn public a n fits some inside =
     ap (λ (z : List ℕ). length z) (read_is e public a n (fits_sized h fixed dyn public fits) some (ap (λ (p : Option Place). is_none p) (same_where h fixed dyn a n fits.size) ∙ inside)) ∙ from_length (frame_memory e public) a n
 
 -- bytes below those that are popped are read in the memory
-pub turn_read : (s : Setting) (t : Tables) (g : Target) (loadable : IsLoadable s.app) (closed : is_closed s t ≡ true) (i : Ins) (turn : Turn s t i) (k a n : ℕ) → (n == 0) ≡ false
-    → is_none (where_is (frame_after_pop (fetched_frame s t g loadable closed i turn) k) a n) ≡ false
-    → bytes_at (frame_after_pop (fetched_frame s t g loadable closed i turn) k) turn.public a n ≡ bytes_from (memory s t g loadable closed i turn) a n
-turn_read s t g loadable closed i turn k a n some inside =
-    let f : Frame = fetched_frame s t g loadable closed i turn in
-    let sized : Sized f turn.public = turn_sized s t loadable i turn in
+pub turn_read : (s : Setting) (u t : Tables) (g : Target) (loadable : IsLoadable s.app) (leads : LeadsInto s u t) (i : Ins) (turn : Turn s u i) (k a n : ℕ) → (n == 0) ≡ false
+    → is_none (where_is (frame_after_pop (fetched_frame s u t g loadable leads i turn) k) a n) ≡ false
+    → bytes_at (frame_after_pop (fetched_frame s u t g loadable leads i turn) k) turn.public a n ≡ bytes_from (memory s u t g loadable leads i turn) a n
+turn_read s u t g loadable leads i turn k a n some inside =
+    let f : Frame = fetched_frame s u t g loadable leads i turn in
+    let sized : Sized f turn.public = turn_sized s u loadable i turn in
     let high = sized.high in
     read_is (frame_after_pop f k) turn.public a n (record { small = sized.small; room = sized.room; high = omega (arith, high); inside = sized.inside; whole = sized.whole }) some inside
 
 -- as many as are asked for
-pub turn_length : (s : Setting) (t : Tables) (g : Target) (loadable : IsLoadable s.app) (closed : is_closed s t ≡ true) (i : Ins) (turn : Turn s t i) (k a n : ℕ) → (n == 0) ≡ false
-    → is_none (where_is (frame_after_pop (fetched_frame s t g loadable closed i turn) k) a n) ≡ false
-    → length (bytes_at (frame_after_pop (fetched_frame s t g loadable closed i turn) k) turn.public a n) ≡ n
-turn_length s t g loadable closed i turn k a n some inside =
-    ap (λ (z : List ℕ). length z) (turn_read s t g loadable closed i turn k a n some inside) ∙ from_length (memory s t g loadable closed i turn) a n
+pub turn_length : (s : Setting) (u t : Tables) (g : Target) (loadable : IsLoadable s.app) (leads : LeadsInto s u t) (i : Ins) (turn : Turn s u i) (k a n : ℕ) → (n == 0) ≡ false
+    → is_none (where_is (frame_after_pop (fetched_frame s u t g loadable leads i turn) k) a n) ≡ false
+    → length (bytes_at (frame_after_pop (fetched_frame s u t g loadable leads i turn) k) turn.public a n) ≡ n
+turn_length s u t g loadable leads i turn k a n some inside =
+    ap (λ (z : List ℕ). length z) (turn_read s u t g loadable leads i turn k a n some inside) ∙ from_length (memory s u t g loadable leads i turn) a n

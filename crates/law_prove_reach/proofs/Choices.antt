@@ -20,11 +20,11 @@ use Rattle.model_prove.specs.Splits.{Scene, Choice, stand_in, stand_in_stack, wi
 use Rattle.model_prove.specs.Reach.{takes_target}
 use Rattle.model_prove.specs.Arrivals.{Setting, Arrival}
 use Rattle.model_prove.specs.Steps.{Spot, with_facts, instruction, arounds, primitive_of, chosen, with_choice, inside, with_first_choice, by_choices, coarse_arrivals, coarse_around, fetched}
-use Rattle.model_prove.specs.Tables.{IsLoadable, includes_all, is_closed}
+use Rattle.model_prove.specs.Tables.{IsLoadable, includes_all}
 use Rattle.model_prove.proofs.ChangeLemmas.{written_holds, choice_is_there}
 use Rattle.model_prove.proofs.SetLemmas.{is_first}
 use Rattle.law_prove.specs.Coverings.{parts_memory, frame_memory, IsFrameOf}
-use Rattle.law_prove.specs.Laws.{RowLaw}
+use Rattle.law_prove.specs.Laws.{LeadsInto, LeadLaw}
 use Rattle.law_prove.proofs.Alike.{Sized, stack_length}
 use Rattle.law_prove.proofs.Closed.{included_first, included_second}
 use Rattle.law_prove.proofs.Moves.{turn_sized}
@@ -82,7 +82,7 @@ nothing_after (e ∷ c) = ap (λ (t : Choice). e ∷ t) (nothing_after c)
 abbrev pub IsDecided : Ins → Type 0
 IsDecided i = (f : Frame) → later_deciders i f ≡ []
 
-module _ (s : Setting) (t : Tables) (g : Target) (loadable : IsLoadable s.app) (closed : is_closed s t ≡ true) (i : Ins) (turn : Turn s t i) where
+module _ (s : Setting) (u t : Tables) (g : Target) (loadable : IsLoadable s.app) (leads : LeadsInto s u t) (i : Ins) (turn : Turn s u i) where
   -- the frame after the fetch, and its bytes
   abbrev pub fetched_frame : Frame
   fetched_frame = frame_at turn.frame turn.next
@@ -98,7 +98,7 @@ module _ (s : Setting) (t : Tables) (g : Target) (loadable : IsLoadable s.app) (
   -- its segments have their lengths
   pub base_fits : Fits fetched_frame (zeros (length turn.frame.fixed)) (stand_in_stack turn.place.calls) blank
   base_fits =
-      let sized : Sized fetched_frame turn.public = turn_sized s t loadable i turn in
+      let sized : Sized fetched_frame turn.public = turn_sized s u loadable i turn in
       let count : length (zeros (public_end - public_base)) ≡ public_end - public_base = length-replicate {A = ℕ} (public_end - public_base) 0 in
       record {
         small = sized.small;
@@ -110,13 +110,13 @@ module _ (s : Setting) (t : Tables) (g : Target) (loadable : IsLoadable s.app) (
 
   -- what was fetched, in that scene
   abbrev pub IsBy : Bool → Type 0
-  IsBy jump = includes_all t (by_choices (few_combinations turn.place.known.bytes (inside base (deciders i base.frame))) jump s i base (here s t g loadable closed i turn) (there s t g loadable closed i turn)) ≡ true
+  IsBy jump = includes_all t (by_choices (few_combinations turn.place.known.bytes (inside base (deciders i base.frame))) jump s i base (here s u t g loadable leads i turn) (there s u t g loadable leads i turn)) ≡ true
 
   -- an instruction that was fetched is followed in that scene
-  pub by_base : includes_all t (fetched s (here s t g loadable closed i turn) (Ok (i, turn.next))) ≡ true → IsBy (takes_target i)
+  pub by_base : includes_all t (fetched s (here s u t g loadable leads i turn) (Ok (i, turn.next))) ≡ true → IsBy (takes_target i)
   by_base includes =
-      let p : Spot = here s t g loadable closed i turn in
-      let q : Spot = there s t g loadable closed i turn in
+      let p : Spot = here s u t g loadable leads i turn in
+      let q : Spot = there s u t g loadable leads i turn in
       let old : Frame = frame_at (stand_in s.app (place_key turn.place.start turn.place.standing.allowances turn.frame turn.place.calls)).frame turn.next in
       let same : old ≡ base.frame = stand_in_like s.app turn.frame turn.place.start turn.place.standing.allowances turn.place.calls turn.next (framed_of s.app turn.frame turn.place.frame) in
       subst (λ (z : Frame). includes_all t (by_choices (few_combinations turn.place.known.bytes (inside (record { frame = z; public = blank }) (deciders i z))) (takes_target i) s i (record { frame = z; public = blank }) p q) ≡ true) same includes
@@ -132,18 +132,18 @@ module _ (s : Setting) (t : Tables) (g : Target) (loadable : IsLoadable s.app) (
     pub agrees : (b : ℕ) → Among b places → is_outside fetched_frame b 1 ≡ false → parts_memory (length turn.frame.fixed) fixed dyn public b ≡ memory b
     pub known : Known
     pub seen : Seen turn.place.calls known fetched_frame turn.public
-    pub is : includes_all t (instruction s i (scene_of fetched_frame fixed dyn public) (here s t g loadable closed i turn) (spot_of turn.place.start turn.place.standing.allowances fetched_frame turn.place.calls known) x) ≡ true
+    pub is : includes_all t (instruction s i (scene_of fetched_frame fixed dyn public) (here s u t g loadable leads i turn) (spot_of turn.place.start turn.place.standing.allowances fetched_frame turn.place.calls known) x) ≡ true
 
   -- the choice that the memory makes
   abbrev pub choice : List ℕ → Choice
   choice places = values_in memory (inside base places)
 
   choice_followed : (places : List ℕ) (cs : List Choice) → IsDecided i → few_combinations turn.place.known.bytes (inside base places) ≡ Some cs
-      → includes_all t (flat_map (with_first_choice s i base (here s t g loadable closed i turn) (there s t g loadable closed i turn)) cs) ≡ true
-      → includes_all t (with_choice s i base (here s t g loadable closed i turn) (there s t g loadable closed i turn) (choice places)) ≡ true
+      → includes_all t (flat_map (with_first_choice s i base (here s u t g loadable leads i turn) (there s u t g loadable leads i turn)) cs) ≡ true
+      → includes_all t (with_choice s i base (here s u t g loadable leads i turn) (there s u t g loadable leads i turn) (choice places)) ≡ true
   choice_followed places cs decided e includes =
-      let p : Spot = here s t g loadable closed i turn in
-      let q : Spot = there s t g loadable closed i turn in
+      let p : Spot = here s u t g loadable leads i turn in
+      let q : Spot = there s u t g loadable leads i turn in
       let c : Choice = choice places in
       let z : Scene = with_values base c in
       let one = one_of t (with_first_choice s i base p q) c cs (choice_among turn.place.known.bytes (inside base places) memory cs e turn.place.holds turn.place.bytes) includes in
@@ -154,10 +154,10 @@ module _ (s : Setting) (t : Tables) (g : Target) (loadable : IsLoadable s.app) (
 
   -- so is the outcome of each of those that may have delegated to the frame
   pub followed_by : (places : List ℕ) (cs : List Choice) (x : Around) → IsDecided i → Among x (arounds turn.place.start (primitive_of i)) → few_combinations turn.place.known.bytes (inside base places) ≡ Some cs
-      → includes_all t (flat_map (with_first_choice s i base (here s t g loadable closed i turn) (there s t g loadable closed i turn)) cs) ≡ true → Followed places x
+      → includes_all t (flat_map (with_first_choice s i base (here s u t g loadable leads i turn) (there s u t g loadable leads i turn)) cs) ≡ true → Followed places x
   followed_by places cs x decided among e includes =
-      let p : Spot = here s t g loadable closed i turn in
-      let q : Spot = there s t g loadable closed i turn in
+      let p : Spot = here s u t g loadable leads i turn in
+      let q : Spot = there s u t g loadable leads i turn in
       let c : Choice = choice places in
       let frame : IsFrameOf s.app turn.frame = turn.place.frame in
       let fixed = zeros (length turn.frame.fixed) in
@@ -191,10 +191,10 @@ module _ (s : Setting) (t : Tables) (g : Target) (loadable : IsLoadable s.app) (
 
   -- the outcomes of too many choices
   abbrev pub IsCoarse : Type 0
-  IsCoarse = includes_all t (coarse_arrivals s i base (here s t g loadable closed i turn) (there s t g loadable closed i turn) (coarse_around turn.place.start)) ≡ true
+  IsCoarse = includes_all t (coarse_arrivals s i base (here s u t g loadable leads i turn) (there s u t g loadable leads i turn) (coarse_around turn.place.start)) ≡ true
 
   by_number : (o : Option (List Choice)) (places : List ℕ) (x : Around) → IsDecided i → Among x (arounds turn.place.start (primitive_of i)) → few_combinations turn.place.known.bytes (inside base places) ≡ o
-      → includes_all t (by_choices o false s i base (here s t g loadable closed i turn) (there s t g loadable closed i turn)) ≡ true → Followed places x ⊎ IsCoarse
+      → includes_all t (by_choices o false s i base (here s u t g loadable leads i turn) (there s u t g loadable leads i turn)) ≡ true → Followed places x ⊎ IsCoarse
   by_number (Some cs) places x decided among e includes = inl (followed_by places cs x decided among e includes)
   by_number None places x decided among e includes = inr includes
 
@@ -205,15 +205,15 @@ module _ (s : Setting) (t : Tables) (g : Target) (loadable : IsLoadable s.app) (
 -- A row that bytes decide is covered in each of its turns, whoever delegated to the frame.
 abbrev pub DelegatedCase : Ins → Type 0
 DelegatedCase i =
-    (s : Setting) (t : Tables) (g : Target) (loadable : IsLoadable s.app) (closed : is_closed s t ≡ true) (turn : Turn s t i) → IsDelegator turn.around.delegator → IsBy s t g loadable closed i turn (takes_target i)
-    → IsRowCovered s t g loadable closed i turn (row i (frame_at turn.frame turn.next) turn.public turn.around)
+    (s : Setting) (u t : Tables) (g : Target) (loadable : IsLoadable s.app) (leads : LeadsInto s u t) (turn : Turn s u i) → IsDelegator turn.around.delegator → IsBy s u t g loadable leads i turn (takes_target i)
+    → IsRowCovered s u t g loadable leads i turn (row i (frame_at turn.frame turn.next) turn.public turn.around)
 
 -- so its law holds
-pub law_with : (i : Ins) → DelegatedCase i → RowLaw i
-law_with i case r g t loadable closed e h f public depth x next p entry deep names segment at =
+pub law_with : (i : Ins) → DelegatedCase i → LeadLaw i
+law_with i case r g u t loadable leads e h f public depth x next p entry deep names segment at =
     let s : Setting = record { rules = r; app = g.app } in
-    let decoded : Decodes s.app.code f.at i next = decoded_at s t g loadable closed f i next at in
-    let turn : Turn s t i = record {
+    let decoded : Decodes s.app.code f.at i next = decoded_at s u t g loadable leads f i next at in
+    let turn : Turn s u i = record {
       entry = e;
       history = h;
       frame = f;
@@ -229,16 +229,16 @@ law_with i case r g t loadable closed e h f public depth x next p entry deep nam
       shaped = decoded.shaped;
       after_it = decoded.place;
       inside = decoded.inside;
-      after = leaves_bytes s t g loadable closed f public i next x at p.frame p.dynamic (segment.1 tt) names;
+      after = leaves_bytes s u t g loadable leads f public i next x at p.frame p.dynamic (segment.1 tt) names;
     }
     in
-    case s t g loadable closed turn names (by_base s t g loadable closed i turn (included_at s t g loadable closed e h f public i next p at))
+    case s u t g loadable leads turn names (by_base s u t g loadable leads i turn (included_at s u t g loadable leads e h f public i next p at))
 
 -- a row that does not ask who that was
 abbrev pub ChoiceCase : Ins → Type 0
 ChoiceCase i =
-    (s : Setting) (t : Tables) (g : Target) (loadable : IsLoadable s.app) (closed : is_closed s t ≡ true) (turn : Turn s t i) → IsBy s t g loadable closed i turn (takes_target i)
-    → IsRowCovered s t g loadable closed i turn (row i (frame_at turn.frame turn.next) turn.public turn.around)
+    (s : Setting) (u t : Tables) (g : Target) (loadable : IsLoadable s.app) (leads : LeadsInto s u t) (turn : Turn s u i) → IsBy s u t g loadable leads i turn (takes_target i)
+    → IsRowCovered s u t g loadable leads i turn (row i (frame_at turn.frame turn.next) turn.public turn.around)
 
-pub law_by : (i : Ins) → ChoiceCase i → RowLaw i
-law_by i case = law_with i (λ s t g loadable closed turn names includes. case s t g loadable closed turn includes)
+pub law_by : (i : Ins) → ChoiceCase i → LeadLaw i
+law_by i case = law_with i (λ s u t g loadable leads turn names includes. case s u t g loadable leads turn includes)

@@ -20,7 +20,7 @@ use Rattle.model_prove.specs.Work.{NoFact, pair_work}
 use Rattle.model_prove.specs.Reach.{may_have_bad_length, known_causes, pair_coarse}
 use Rattle.model_prove.specs.Steps.{arounds}
 use Rattle.model_prove.proofs.SetLemmas.{is_first}
-use Rattle.law_prove.specs.Laws.{RowLaw}
+use Rattle.law_prove.specs.Laws.{LeadLaw}
 use Rattle.law_prove.proofs.Moments.{byte_of}
 use Rattle.law_prove.proofs.Turns.{NoCause, nobody}
 use Rattle.law_prove_reach.proofs.Scenes.{with_bytes, same_outside}
@@ -157,15 +157,15 @@ module _ (set number : ℕ) (args : List ℕ) where
 
   -- a message through a cipher is covered
   cipher_case : (c : Cipher) (cipher : List ℕ → List ℕ → List ℕ) → IsCipher c cipher → IsResult i (ciphered cipher c n) → ChoiceCase i
-  cipher_case c cipher good is s t g loadable closed turn includes =
+  cipher_case c cipher good is s u t g loadable leads turn includes =
       let o : Top = ciphered cipher c n in
-      let f : Frame = fetched_frame s t g loadable closed i turn in
+      let f : Frame = fetched_frame s u t g loadable leads i turn in
       let h : Frame = frame_after_pop f 6 in
       let key = bytes_at h turn.public (number_below_top f 2) (key_len c) in
       let from = number_below_top f 6 in
       let to = number_below_top f 4 in
       let message = bytes_at h turn.public from n in
-      let none_cs : List (Abend × Bool) = cs s t g loadable closed i turn o anybody is.top tt in
+      let none_cs : List (Abend × Bool) = cs s u t g loadable leads i turn o anybody is.top tt in
       let byte : n < 256 = byte_of args 0 turn.shaped.bytes in
       let key_bytes : AreBytes key = read_bytes h turn.public (number_below_top f 2) (key_len c) (record { static = turn.place.frame.static; pieces = turn.place.frame.pieces; stack = turn.place.dynamic }) turn.bytes in
       let message_are : AreBytes message = read_bytes h turn.public from n (record { static = turn.place.frame.static; pieces = turn.place.frame.pieces; stack = turn.place.dynamic }) turn.bytes in
@@ -179,8 +179,8 @@ module _ (set number : ℕ) (args : List ℕ) where
       let whole : (l : List ℕ) (k : List ℕ) → NoCause none_cs → length l ≡ n → length (ecb (cipher k) (block_len c) l) ≡ n = λ l k none size.
       ecb_whole c (cipher k) l (good.keeps k) (ap (λ (j : ℕ). j % block_len c) size ∙ (message_blocks c n none.0).1) ∙ size
       in
-      let real_length : NoCause none_cs → length message ≡ n = λ none. turn_length s t g loadable closed i turn 6 from n (filled none) (inside none) in
-      result_covered i o is s t g loadable closed turn (λ v. refl) (λ h v. refl)
+      let real_length : NoCause none_cs → length message ≡ n = λ none. turn_length s u t g loadable leads i turn 6 from n (filled none) (inside none) in
+      result_covered i o is s u t g loadable leads turn (λ v. refl) (λ h v. refl)
       (λ none. record {
         few = omega (arith, byte);
         some = some none;
@@ -196,14 +196,14 @@ module _ (set number : ℕ) (args : List ℕ) where
       ap (λ (x : ℕ). length (bytes_at (frame_after_pop e 6) public x n)) (a 6 (omega arith) (omega arith)) ∙ read_length h fixed dyn public from n (fits_low f 6 fixed dyn public fits) (filled none) (inside none)
       in
       whole (bytes_at (frame_after_pop e 6) public (number_below_top e 6) n) (bytes_at (frame_after_pop e 6) public (number_below_top e 2) (key_len c)) none size)
-      (few_or_many s t g loadable closed i turn nobody is.later (is.alone turn.place.start) includes)
+      (few_or_many s u t g loadable leads i turn nobody is.later (is.alone turn.place.start) includes)
 
 -- ---- the laws
 
 -- each enciphering
-pub encipher_law : (number : ℕ) (c : Cipher) → primitive 1 number ≡ Some (Encipher c) → (args : List ℕ) → RowLaw (ins.Prim 1 number args)
+pub encipher_law : (number : ℕ) (c : Cipher) → primitive 1 number ≡ Some (Encipher c) → (args : List ℕ) → LeadLaw (ins.Prim 1 number args)
 encipher_law number c e args = law_by (ins.Prim 1 number args) (cipher_case 1 number args c (encipherment c) (enciphers c) (encipher_result 1 number args c e))
 
 -- and each deciphering
-pub decipher_law : (number : ℕ) (c : Cipher) → primitive 1 number ≡ Some (Decipher c) → (args : List ℕ) → RowLaw (ins.Prim 1 number args)
+pub decipher_law : (number : ℕ) (c : Cipher) → primitive 1 number ≡ Some (Decipher c) → (args : List ℕ) → LeadLaw (ins.Prim 1 number args)
 decipher_law number c e args = law_by (ins.Prim 1 number args) (cipher_case 1 number args c (decipherment c) (deciphers c) (decipher_result 1 number args c e))

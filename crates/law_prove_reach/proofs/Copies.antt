@@ -21,10 +21,10 @@ use Rattle.model_prove.specs.Work.{Copies}
 use Rattle.model_prove.specs.Reach.{lengths_at}
 use Rattle.model_prove.specs.Arrivals.{Setting}
 use Rattle.model_prove.specs.Steps.{arounds}
-use Rattle.model_prove.specs.Tables.{IsLoadable, is_closed}
+use Rattle.model_prove.specs.Tables.{IsLoadable}
 use Rattle.model_prove.proofs.FactLemmas.{value_holds}
 use Rattle.model_prove.proofs.SetLemmas.{is_kept}
-use Rattle.law_prove.specs.Laws.{RowLaw}
+use Rattle.law_prove.specs.Laws.{LeadsInto, LeadLaw}
 use Rattle.law_prove.proofs.Alike.{Sized}
 use Rattle.law_prove.proofs.Moves.{turn_sized}
 use Rattle.law_prove.proofs.Plain.{above}
@@ -90,15 +90,15 @@ length_by : (b : Bool) (n : ℕ) (s : Set) → b ≡ true → is_in n (filter (�
 length_by true n s e h = h
 length_by false n s e h = absurd (cc e)
 
-module _ (args : List ℕ) (s : Setting) (t : Tables) (g : Target) (loadable : IsLoadable s.app) (closed : is_closed s t ≡ true) (turn : Turn s t (ins.Prim 0 6 args)) where
+module _ (args : List ℕ) (s : Setting) (u t : Tables) (g : Target) (loadable : IsLoadable s.app) (leads : LeadsInto s u t) (turn : Turn s u (ins.Prim 0 6 args)) where
   abbrev i : Ins
   i = ins.Prim 0 6 args
 
   abbrev f : Frame
-  f = fetched_frame s t g loadable closed i turn
+  f = fetched_frame s u t g loadable leads i turn
 
   abbrev m : Memory
-  m = memory s t g loadable closed i turn
+  m = memory s u t g loadable leads i turn
 
   abbrev low : Frame
   low = frame_after_pop f 6
@@ -110,10 +110,10 @@ module _ (args : List ℕ) (s : Setting) (t : Tables) (g : Target) (loadable : I
   from = number_below_top f 2
 
   abbrev causes_here : List (Abend × Bool)
-  causes_here = cs s t g loadable closed i turn copy anybody (copy_top args) tt
+  causes_here = cs s u t g loadable leads i turn copy anybody (copy_top args) tt
 
   sized : Sized f turn.public
-  sized = turn_sized s t loadable i turn
+  sized = turn_sized s u loadable i turn
 
   inside : NoCause causes_here → is_none (where_is low from n) ≡ false
   inside none =
@@ -122,9 +122,9 @@ module _ (args : List ℕ) (s : Setting) (t : Tables) (g : Target) (loadable : I
       inside_of (n == 0) (is_none (where_is low from n)) (not_zero n range.0) (or_parts (is_outside low (number_below_top f 4) n) (is_outside low from n) missed).1
 
   read : NoCause causes_here → bytes_at low turn.public from n ≡ bytes_from m from n
-  read none = turn_read s t g loadable closed i turn 6 from n (not_zero n (range_of n none.1.1.1.1.0).0) (inside none)
+  read none = turn_read s u t g loadable leads i turn 6 from n (not_zero n (range_of n none.1.1.1.1.0).0) (inside none)
 
-  ready : NoCause causes_here → Ready s t g loadable closed i turn copy anybody (copy_top args) tt
+  ready : NoCause causes_here → Ready s u t g loadable leads i turn copy anybody (copy_top args) tt
   ready none =
       let range = range_of n none.1.1.1.1.0 in
       let one : 1 ≤ n = range.0 in
@@ -141,40 +141,40 @@ module _ (args : List ℕ) (s : Setting) (t : Tables) (g : Target) (loadable : I
       let k : Facts = turn.place.known.bytes in
       let zero_in : is_in 0 (values_at k a) ≡ true = subst (λ (v : ℕ). is_in v (values_at k a) ≡ true) high_zero (value_holds k m a turn.place.holds first) in
       let n_in : is_in n (values_at k (suc a)) ≡ true = subst (λ (v : ℕ). is_in v (values_at k (suc a)) ≡ true) low_is (value_holds k m (suc a) turn.place.holds second) in
-      let less = number_less f turn.public (zeros (length turn.frame.fixed)) blank turn.place.calls 6 sized (base_fits s t g loadable closed i turn) turn.place.open_calls (omega (arith, enough)) (omega arith) in
+      let less = number_less f turn.public (zeros (length turn.frame.fixed)) blank turn.place.calls 6 sized (base_fits s u t g loadable leads i turn) turn.place.open_calls (omega (arith, enough)) (omega arith) in
       record {
         few = omega (arith, most);
         some = one;
         inside = inside_of (n == 0) (is_none (where_is low (number_below_top f 4) n)) some (or_parts (is_outside low (number_below_top f 4) n) (is_outside low from n) missed).0;
-        long = turn_length s t g loadable closed i turn 6 from n some (inside none);
+        long = turn_length s u t g loadable leads i turn 6 from n some (inside none);
         bytes = subst (λ (z : List ℕ). AreBytes z) (sym (read none)) (bytes_of m from n turn.place.bytes);
         length_in = length_by (is_in 0 (values_at k a)) n (values_at k (suc a)) zero_in (is_kept (λ v. nat_lt 0 v) n (values_at k (suc a)) n_in (lt-ltb 0 n one));
         stands = omega (arith, less, most);
       }
 
-  few_case : Followed s t g loadable closed i turn (top_places (base s t g loadable closed i turn).frame 6) nobody → IsRowCovered s t g loadable closed i turn (row i f turn.public turn.around)
+  few_case : Followed s u t g loadable leads i turn (top_places (base s u t g loadable leads i turn).frame 6) nobody → IsRowCovered s u t g loadable leads i turn (row i f turn.public turn.around)
   few_case w =
       let e : Frame = with_bytes f w.fixed w.dyn in
-      copy_row s t g loadable closed i turn copy anybody (copy_top args) tt nobody tt (λ h v. refl) (λ v. refl) w 2 (omega arith) (omega arith) ready refl read
+      copy_row s u t g loadable leads i turn copy anybody (copy_top args) tt nobody tt (λ h v. refl) (λ v. refl) w 2 (omega arith) (omega arith) ready refl read
       (λ none.
-      let a : Agree 6 (number_below_top e) (number_below_top f) = agree s t g loadable closed i turn copy anybody (copy_top args) tt nobody tt (λ h v. refl) (λ v. refl) w none.1.1.0 in
+      let a : Agree 6 (number_below_top e) (number_below_top f) = agree s u t g loadable leads i turn copy anybody (copy_top args) tt nobody tt (λ h v. refl) (λ v. refl) w none.1.1.0 in
       ap (λ (x : ℕ). length (bytes_at (frame_after_pop e 6) w.public x (number_below_top e 6))) (a 2 (omega arith) (omega arith))
       ∙ (ap (λ (x : ℕ). length (bytes_at (frame_after_pop e 6) w.public from x)) (a 6 (omega arith) (omega arith))
       ∙ read_length low w.fixed w.dyn w.public from n (fits_low f 6 w.fixed w.dyn w.public w.fits) (not_zero n (range_of n none.1.1.1.1.0).0) (inside none)))
 
   -- both ways to follow it
-  pub copy_covered : Followed s t g loadable closed i turn (top_places (base s t g loadable closed i turn).frame 6) nobody ⊎ IsCoarse s t g loadable closed i turn
-      → IsRowCovered s t g loadable closed i turn (row i f turn.public turn.around)
+  pub copy_covered : Followed s u t g loadable leads i turn (top_places (base s u t g loadable leads i turn).frame 6) nobody ⊎ IsCoarse s u t g loadable leads i turn
+      → IsRowCovered s u t g loadable leads i turn (row i f turn.public turn.around)
   copy_covered o =
       elim o [
         | inl w ↦ few_case w
-        | inr includes ↦ coarse_top s t g loadable closed i turn copy anybody (copy_top args) tt includes tt ready
+        | inr includes ↦ coarse_top s u t g loadable leads i turn copy anybody (copy_top args) tt includes tt ready
       ]
 
 copy_case : (args : List ℕ) → ChoiceCase (ins.Prim 0 6 args)
-copy_case args s t g loadable closed turn includes =
-    copy_covered args s t g loadable closed turn (few_or_many s t g loadable closed (ins.Prim 0 6 args) turn nobody (λ f. refl) (copy_alone turn.place.start) includes)
+copy_case args s u t g loadable leads turn includes =
+    copy_covered args s u t g loadable leads turn (few_or_many s u t g loadable leads (ins.Prim 0 6 args) turn nobody (λ f. refl) (copy_alone turn.place.start) includes)
 
 -- the law of the row
-pub memory_copy_law : (args : List ℕ) → RowLaw (ins.Prim 0 6 args)
+pub memory_copy_law : (args : List ℕ) → LeadLaw (ins.Prim 0 6 args)
 memory_copy_law args = law_by (ins.Prim 0 6 args) (copy_case args)

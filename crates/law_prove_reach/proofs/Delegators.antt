@@ -15,20 +15,21 @@ use Rattle.law_promise.specs.Outline.{Entry, BySelection, ByDelegation, FitsEntr
 use Rattle.law_promise.specs.Domain.{IsDelegator}
 use Rattle.model_rules.specs.Rules.{Target, AppRules}
 use Rattle.model_rules.specs.Happenings.{Event}
-use Rattle.model_prove.specs.Sets.{numbers_from}
+use Rattle.model_prove.specs.Sets.{is_in, numbers_from}
 use Rattle.model_prove.specs.Keys.{Start, Delegated, OfClass, Known, Tables, calls_below}
 use Rattle.model_prove.specs.Laws.{Among}
 use Rattle.model_prove.specs.Splits.{Scene, top_places}
-use Rattle.model_prove.specs.Work.{NoFact}
+use Rattle.model_prove.specs.Work.{Counted}
 use Rattle.model_prove.specs.Reach.{Leads, known_causes}
 use Rattle.model_prove.specs.Arrivals.{Setting, Arrival}
-use Rattle.model_prove.specs.Steps.{Spot, lowered, acted, with_flags, settled_spot, follows, caused, arounds, coarse_done, coarse_arrivals, coarse_around}
-use Rattle.model_prove.specs.Tables.{IsLoadable, includes_all, is_closed}
-use Rattle.model_prove.proofs.SetLemmas.{is_between}
+use Rattle.model_prove.specs.Steps.{Spot, lowered, any_bytes, counted_sets, acted, with_flags, settled_spot, follows, caused, arounds, coarse_done, coarse_arrivals, coarse_around}
+use Rattle.model_prove.specs.Tables.{IsLoadable, includes_all}
+use Rattle.model_prove.proofs.SetLemmas.{is_first, is_between}
 use Rattle.law_prove.specs.Coverings.{StartsAs}
+use Rattle.law_prove.specs.Laws.{LeadsInto}
 use Rattle.law_prove.proofs.Closed.{included_first}
 use Rattle.law_prove.proofs.Plain.{above}
-use Rattle.law_prove.proofs.Seen.{Seen}
+use Rattle.law_prove.proofs.Seen.{FitSets, Seen, fit_any}
 use Rattle.law_prove.proofs.Acts.{spot_of, Led, stays_led, lowered_seen}
 use Rattle.law_prove.proofs.Turns.{NoCause, nobody, walked}
 use Rattle.law_prove.proofs.Single.{going, Turn, here, there, IsRowCovered, row_is, low_frame, low_framed}
@@ -37,7 +38,7 @@ use Rattle.law_prove_reach.proofs.Scenes.{with_bytes, same_outside}
 use Rattle.law_prove_reach.proofs.Reached.{among_made}
 use Rattle.law_prove_reach.proofs.Choices.{fetched_frame, base, Followed, IsCoarse, IsBy, few_or_many, law_with}
 use Rattle.law_prove_reach.proofs.Rows.{chosen_there, led_row}
-use Rattle.law_prove_reach.proofs.Tops.{Top, IsTop, Ready, cs, among_numbers, result_row, coarse_top}
+use Rattle.law_prove_reach.proofs.Tops.{Top, IsTop, Ready, cs, among_numbers, counted_row, coarse_top}
 use Rattle.law_prove_reach.proofs.Accesses.{inside_of, not_zero}
 
 -- ---- names
@@ -67,6 +68,15 @@ report_bytes : (o : Option (List ℕ)) → IsNamed o → IsDelegator o → AreBy
 report_bytes None h names = absurd h
 report_bytes (Some name) h names = let most : length name ≤ 16 = names.most in (omega (arith, most), names.bytes)
 
+-- It is of the sets that a name of as many zeros leaves: its length is the same, and its bytes have no fact.
+report_fits : (o : Option (List ℕ)) → IsNamed o → IsDelegator o → FitSets (report o) (counted_sets (report (Some (zeros (size_of o)))))
+report_fits None h names = absurd h
+report_fits (Some name) h names =
+    let n : length (zeros (length name)) ≡ length name = length-replicate {A = ℕ} (length name) 0 in (
+      subst (λ (k : ℕ). is_in (length name) (k ∷ []) ≡ true) (sym n) (is_first (length name) []),
+      subst (λ (k : ℕ). FitSets name (any_bytes k)) (sym n) (fit_any name names.bytes),
+    )
+
 size_least : (o : Option (List ℕ)) → IsNamed o → IsDelegator o → 5 ≤ size_of o
 size_least None h names = absurd h
 size_least (Some name) h names = names.least
@@ -90,7 +100,7 @@ reporting =
       count = λ x v. 1 + size_of x.delegator;
       bytes = λ f public x. report x.delegator;
       flags = λ c. Some (c, false);
-      task = λ v. NoFact;
+      task = λ v. Counted;
       lengths = λ k dt. numbers_from 6 12;
     }
 
@@ -151,18 +161,18 @@ delegates r ByDelegation Delegated x starts fits = some_named x.delegator fits
 delegates r (BySelection bytes apdu before) Delegated x starts fits = absurd starts
 delegates r ByDelegation (OfClass class) x starts fits = absurd starts
 
-module _ (args : List ℕ) (s : Setting) (t : Tables) (g : Target) (loadable : IsLoadable s.app) (closed : is_closed s t ≡ true) (turn : Turn s t (ins.Prim 0 8 args)) (names : IsDelegator turn.around.delegator) where
+module _ (args : List ℕ) (s : Setting) (u t : Tables) (g : Target) (loadable : IsLoadable s.app) (leads : LeadsInto s u t) (turn : Turn s u (ins.Prim 0 8 args)) (names : IsDelegator turn.around.delegator) where
   abbrev i : Ins
   i = ins.Prim 0 8 args
 
   abbrev f : Frame
-  f = fetched_frame s t g loadable closed i turn
+  f = fetched_frame s u t g loadable leads i turn
 
   abbrev places : List ℕ
-  places = top_places (base s t g loadable closed i turn).frame 2
+  places = top_places (base s u t g loadable leads i turn).frame 2
 
   abbrev Covered : Type 0
-  Covered = IsRowCovered s t g loadable closed i turn (row i f turn.public turn.around)
+  Covered = IsRowCovered s u t g loadable leads i turn (row i f turn.public turn.around)
 
   -- ---- with a name
 
@@ -171,7 +181,7 @@ module _ (args : List ℕ) (s : Setting) (t : Tables) (g : Target) (loadable : I
     n = size_of turn.around.delegator
 
     abbrev named_causes : List (Abend × Bool)
-    named_causes = cs s t g loadable closed i turn reporting HasName (reporting_top args) has
+    named_causes = cs s u t g loadable leads i turn reporting HasName (reporting_top args) has
 
     stood_size : length (zeros n) ≡ n
     stood_size = length-replicate {A = ℕ} n 0
@@ -180,7 +190,7 @@ module _ (args : List ℕ) (s : Setting) (t : Tables) (g : Target) (loadable : I
     stands_few Delegated = omega arith
     stands_few (OfClass class) = omega arith
 
-    named_ready : NoCause named_causes → Ready s t g loadable closed i turn reporting HasName (reporting_top args) has
+    named_ready : NoCause named_causes → Ready s u t g loadable leads i turn reporting HasName (reporting_top args) has
     named_ready none =
         let least = size_least turn.around.delegator has names in
         let most = size_most turn.around.delegator names in
@@ -197,17 +207,17 @@ module _ (args : List ℕ) (s : Setting) (t : Tables) (g : Target) (loadable : I
         inside_by : (n : ℕ) (x : Bool) → (not (1 + n == 0) && x) ≡ false → x ≡ false
         inside_by n x e = inside_of (1 + n == 0) x (not_zero (1 + n) (omega arith)) e
 
-    named_few : Followed s t g loadable closed i turn places (named n) → Covered
+    named_few : Followed s u t g loadable leads i turn places (named n) → Covered
     named_few w =
-        result_row s t g loadable closed i turn reporting HasName (reporting_top args) has (named n) tt
+        counted_row s u t g loadable leads i turn reporting HasName (reporting_top args) has (named n) tt
         (λ h v. ap (λ (k : ℕ). is_outside h (v 2) (1 + k)) stood_size) (λ v. ap (λ (k : ℕ). 1 + k) stood_size) w named_ready refl
-        (λ none. report_length (Some (zeros n)) tt ∙ ap (λ (k : ℕ). 1 + k) stood_size)
+        (λ none. report_fits turn.around.delegator has names)
 
-    named_covered : Followed s t g loadable closed i turn places (named n) ⊎ IsCoarse s t g loadable closed i turn → turn.place.start ≡ Delegated → Covered
+    named_covered : Followed s u t g loadable leads i turn places (named n) ⊎ IsCoarse s u t g loadable leads i turn → turn.place.start ≡ Delegated → Covered
     named_covered o start =
         elim o [
           | inl w ↦ named_few w
-          | inr includes ↦ coarse_top s t g loadable closed i turn reporting HasName (reporting_top args) has includes (subst (λ (z : Start). HasName (coarse_around z)) (sym start) tt) named_ready
+          | inr includes ↦ coarse_top s u t g loadable leads i turn reporting HasName (reporting_top args) has includes (subst (λ (z : Start). HasName (coarse_around z)) (sym start) tt) named_ready
         ]
 
   -- ---- without one
@@ -232,27 +242,27 @@ module _ (args : List ℕ) (s : Setting) (t : Tables) (g : Target) (loadable : I
 
     -- DT without the address, at a place that is known
     quiet_led : (k : Known) → Seen turn.place.calls k f turn.public → is_under f 2 ≡ false
-        → Led s turn.place.start turn.place.standing.allowances (acted s Stays [] (lowered d (spot_of turn.place.start turn.place.standing.allowances f turn.place.calls k))) false (act_effect Stays (low_frame s t g loadable closed i turn d) turn.public)
+        → Led s turn.place.start turn.place.standing.allowances (acted s Stays [] (lowered d (spot_of turn.place.start turn.place.standing.allowances f turn.place.calls k))) false (act_effect Stays (low_frame s u t g loadable leads i turn d) turn.public)
     quiet_led k seen under =
         let st = turn.place.start in
         let al = turn.place.standing.allowances in
         let enough = above f 2 under in
         let high : turn.frame.dt ≤ dynamic_end = turn.place.frame.high in
-        stays_led s loadable.static st al (low_frame s t g loadable closed i turn d) turn.public (calls_below d turn.place.calls) (lowered d (spot_of st al f turn.place.calls k)).known []
-        (low_framed s t g loadable closed i turn d (omega (arith, enough)) (omega (arith, high))) (lowered_seen d st al f turn.public turn.place.calls k seen)
+        stays_led s loadable.static st al (low_frame s u t g loadable leads i turn d) turn.public (calls_below d turn.place.calls) (lowered d (spot_of st al f turn.place.calls k)).known []
+        (low_framed s u t g loadable leads i turn d (omega (arith, enough)) (omega (arith, high))) (lowered_seen d st al f turn.public turn.place.calls k seen)
 
     quiet_row : (k : Known) (seen : Seen turn.place.calls k f turn.public)
-        → includes_all t (caused (first_cause unnamed) s i quiet NoFact (here s t g loadable closed i turn) (chosen_there s t g loadable closed i turn k seen)) ≡ true → Covered
+        → includes_all t (caused (first_cause unnamed) s i quiet Counted (here s u t g loadable leads i turn) (chosen_there s u t g loadable leads i turn k seen)) ≡ true → Covered
     quiet_row k seen includes =
-        let p : Spot = here s t g loadable closed i turn in
-        let q : Spot = chosen_there s t g loadable closed i turn k seen in
+        let p : Spot = here s u t g loadable leads i turn in
+        let q : Spot = chosen_there s u t g loadable leads i turn k seen in
         let r : Spot = acted s Stays [] (lowered d q) in
         let one : List Arrival = follows s i false Goes p (settled_spot s (with_flags (Some (f.c, true)) r)) in
-        subst (IsRowCovered s t g loadable closed i turn) (row_is s t g loadable closed i turn unnamed quiet real_causes real_shape)
-        (walked s t g loadable closed turn.entry turn.history turn.frame turn.public turn.depth turn.place turn.deep i q unnamed quiet NoFact (meaning quiet f turn.public) includes
-        (λ none all. led_row s t g loadable closed i turn d Stays (Some (f.c, true)) r false real_shape (quiet_led k seen none.1.1.0) (included_first t one [] all)))
+        subst (IsRowCovered s u t g loadable leads i turn) (row_is s u t g loadable leads i turn unnamed quiet real_causes real_shape)
+        (walked s u t g loadable leads turn.entry turn.history turn.frame turn.public turn.depth turn.place turn.deep i q unnamed quiet Counted (meaning quiet f turn.public) includes
+        (λ none all. led_row s u t g loadable leads i turn d Stays (Some (f.c, true)) r false real_shape (quiet_led k seen none.1.1.0) (included_first t one [] all)))
 
-    quiet_few : Followed s t g loadable closed i turn places nobody → Covered
+    quiet_few : Followed s u t g loadable leads i turn places nobody → Covered
     unfolding causes later_causes shape prim_shape
     quiet_few w = quiet_row w.known w.seen w.is
 
@@ -260,21 +270,21 @@ module _ (args : List ℕ) (s : Setting) (t : Tables) (g : Target) (loadable : I
     quiet_seen = record { open_calls = turn.place.open_calls; holds = turn.place.holds; compares = turn.place.compares; keeps = λ on session d. turn.place.keeps session d }
 
     quiet_by : (den under : Bool) (e : Frame) (p q : Spot) → includes_all t (coarse_done (first_cause ((A06, false) ∷ (A0A, den) ∷ (A04, under) ∷ [])) s i e quiet Leads p q) ≡ true
-        → includes_all t (caused (first_cause ((A06, false) ∷ (A0A, den) ∷ (A04, under) ∷ [])) s i quiet NoFact p q) ≡ true
+        → includes_all t (caused (first_cause ((A06, false) ∷ (A0A, den) ∷ (A04, under) ∷ [])) s i quiet Counted p q) ≡ true
     quiet_by true under e p q h = h
     quiet_by false true e p q h = h
     quiet_by false false e p q h = h
 
-    quiet_coarse : (class : List Bool) → turn.place.start ≡ OfClass class → IsCoarse s t g loadable closed i turn → Covered
+    quiet_coarse : (class : List Bool) → turn.place.start ≡ OfClass class → IsCoarse s u t g loadable leads i turn → Covered
     unfolding causes later_causes shape prim_shape
     quiet_coarse class start includes =
-        let p : Spot = here s t g loadable closed i turn in
-        let q : Spot = there s t g loadable closed i turn in
-        let b : Scene = base s t g loadable closed i turn in
+        let p : Spot = here s u t g loadable leads i turn in
+        let q : Spot = there s u t g loadable leads i turn in
+        let b : Scene = base s u t g loadable leads i turn in
         let two : includes_all t (coarse_arrivals s i b p q nobody) ≡ true = subst (λ (z : Start). includes_all t (coarse_arrivals s i b p q (coarse_around z)) ≡ true) start includes in
         quiet_row turn.place.known quiet_seen (quiet_by (has_bit f.deny 4) (is_under f 2) (record b.frame { dt = d }) p q two)
 
-    quiet_covered : (class : List Bool) → turn.place.start ≡ OfClass class → Followed s t g loadable closed i turn places nobody ⊎ IsCoarse s t g loadable closed i turn → Covered
+    quiet_covered : (class : List Bool) → turn.place.start ≡ OfClass class → Followed s u t g loadable leads i turn places nobody ⊎ IsCoarse s u t g loadable leads i turn → Covered
     quiet_covered class start o =
         elim o [
           | inl w ↦ quiet_few w
@@ -283,17 +293,17 @@ module _ (args : List ℕ) (s : Setting) (t : Tables) (g : Target) (loadable : I
 
   -- ---- each
 
-  by_start : (start : Start) → turn.place.start ≡ start → Delegates start turn.around.delegator → IsBy s t g loadable closed i turn false → Covered
+  by_start : (start : Start) → turn.place.start ≡ start → Delegates start turn.around.delegator → IsBy s u t g loadable leads i turn false → Covered
   by_start Delegated e has includes =
       let least = size_least turn.around.delegator has names in
       let most = size_most turn.around.delegator names in
-      named_covered has (few_or_many s t g loadable closed i turn (named (size_of turn.around.delegator)) (λ f. refl)
+      named_covered has (few_or_many s u t g loadable leads i turn (named (size_of turn.around.delegator)) (λ f. refl)
       (subst (λ (z : Start). Among (named (size_of turn.around.delegator)) (arounds z (Some DelegatorAid))) (sym e) (named_among (size_of turn.around.delegator) least most)) includes) e
   by_start (OfClass class) e none includes =
-      quiet_covered none class e (few_or_many s t g loadable closed i turn nobody (λ f. refl) (subst (λ (z : Start). Among nobody (arounds z (Some DelegatorAid))) (sym e) (inl refl)) includes)
+      quiet_covered none class e (few_or_many s u t g loadable leads i turn nobody (λ f. refl) (subst (λ (z : Start). Among nobody (arounds z (Some DelegatorAid))) (sym e) (inl refl)) includes)
 
-  pub delegator_covered : IsBy s t g loadable closed i turn false → Covered
+  pub delegator_covered : IsBy s u t g loadable leads i turn false → Covered
   delegator_covered includes = by_start turn.place.start refl (delegates s.rules turn.entry turn.place.start turn.around turn.place.starts turn.fits) includes
 
 pub delegator_law : DelegatorLaw
-delegator_law args = law_with (ins.Prim 0 8 args) (λ s t g loadable closed turn names includes. delegator_covered args s t g loadable closed turn names includes)
+delegator_law args = law_with (ins.Prim 0 8 args) (λ s u t g loadable leads turn names includes. delegator_covered args s u t g loadable leads turn names includes)

@@ -1,5 +1,5 @@
 -- COPYFIXED: as many bytes as the instruction says; and the law of both copies.
-use Rattle.std.proofs.Common.{◌≡◌, ◌⊎◌, inl, inr, ℕ, ◌<◌, Bool, true, false, List, [], ◌∷◌, length, Some, None, refl, sym, ap, subst, ◌∙◌, arith}
+use Rattle.std.proofs.Common.{◌≡◌, ◌⊎◌, inl, inr, ℕ, ◌<◌, Bool, false, List, [], ◌∷◌, length, Some, None, refl, sym, ap, subst, ◌∙◌, arith}
 use Rattle.std.specs.Prelude.{◌==◌, is_none, slice_index}
 use Rattle.std.proofs.lemmas.Bool.{or_parts}
 use Rattle.model_device.specs.Bytes.{AreBytes}
@@ -19,7 +19,8 @@ use Rattle.model_prove.specs.Splits.{top_places}
 use Rattle.model_prove.specs.Work.{Copies}
 use Rattle.model_prove.specs.Arrivals.{Setting}
 use Rattle.model_prove.specs.Steps.{arounds}
-use Rattle.model_prove.specs.Tables.{IsLoadable, is_closed}
+use Rattle.model_prove.specs.Tables.{IsLoadable}
+use Rattle.law_prove.specs.Laws.{LeadsInto}
 use Rattle.model_prove.proofs.SetLemmas.{is_first}
 use Rattle.law_prove.proofs.Moments.{byte_of}
 use Rattle.law_prove.proofs.Moves.{positive}
@@ -72,15 +73,15 @@ fixed_top args =
       ranges = λ v e. absurd (cc e);
     }
 
-module _ (args : List ℕ) (s : Setting) (t : Tables) (g : Target) (loadable : IsLoadable s.app) (closed : is_closed s t ≡ true) (turn : Turn s t (ins.Prim 1 2 args)) where
+module _ (args : List ℕ) (s : Setting) (u t : Tables) (g : Target) (loadable : IsLoadable s.app) (leads : LeadsInto s u t) (turn : Turn s u (ins.Prim 1 2 args)) where
   abbrev i : Ins
   i = ins.Prim 1 2 args
 
   abbrev f : Frame
-  f = fetched_frame s t g loadable closed i turn
+  f = fetched_frame s u t g loadable leads i turn
 
   abbrev m : Memory
-  m = memory s t g loadable closed i turn
+  m = memory s u t g loadable leads i turn
 
   abbrev low : Frame
   low = frame_after_pop f 4
@@ -95,48 +96,48 @@ module _ (args : List ℕ) (s : Setting) (t : Tables) (g : Target) (loadable : I
   from = number_below_top f 2
 
   abbrev causes_here : List (Abend × Bool)
-  causes_here = cs s t g loadable closed i turn o anybody (fixed_top args) tt
+  causes_here = cs s u t g loadable leads i turn o anybody (fixed_top args) tt
 
   inside : NoCause causes_here → is_none (where_is low from n) ≡ false
   inside none = inside_of (n == 0) (is_none (where_is low from n)) none.0 (or_parts (is_outside low (number_below_top f 4) n) (is_outside low from n) none.1.1.1.0).1
 
   read : NoCause causes_here → bytes_at low turn.public from n ≡ bytes_from m from n
-  read none = turn_read s t g loadable closed i turn 4 from n none.0 (inside none)
+  read none = turn_read s u t g loadable leads i turn 4 from n none.0 (inside none)
 
-  ready : NoCause causes_here → Ready s t g loadable closed i turn o anybody (fixed_top args) tt
+  ready : NoCause causes_here → Ready s u t g loadable leads i turn o anybody (fixed_top args) tt
   ready none =
       let byte : n < 256 = byte_of args 0 turn.shaped.bytes in
       record {
         few = omega (arith, byte);
         some = positive n none.0;
         inside = inside_of (n == 0) (is_none (where_is low (number_below_top f 4) n)) none.0 (or_parts (is_outside low (number_below_top f 4) n) (is_outside low from n) none.1.1.1.0).0;
-        long = turn_length s t g loadable closed i turn 4 from n none.0 (inside none);
+        long = turn_length s u t g loadable leads i turn 4 from n none.0 (inside none);
         bytes = subst (λ (z : List ℕ). AreBytes z) (sym (read none)) (bytes_of m from n turn.place.bytes);
         length_in = is_first n [];
         stands = omega (arith, byte);
       }
 
-  few_case : Followed s t g loadable closed i turn (top_places (base s t g loadable closed i turn).frame 4) nobody → IsRowCovered s t g loadable closed i turn (row i f turn.public turn.around)
+  few_case : Followed s u t g loadable leads i turn (top_places (base s u t g loadable leads i turn).frame 4) nobody → IsRowCovered s u t g loadable leads i turn (row i f turn.public turn.around)
   few_case w =
       let e : Frame = with_bytes f w.fixed w.dyn in
-      copy_row s t g loadable closed i turn o anybody (fixed_top args) tt nobody tt (λ h v. refl) (λ v. refl) w 2 (omega arith) (omega arith) ready refl read
+      copy_row s u t g loadable leads i turn o anybody (fixed_top args) tt nobody tt (λ h v. refl) (λ v. refl) w 2 (omega arith) (omega arith) ready refl read
       (λ none.
-      let a : Agree 4 (number_below_top e) (number_below_top f) = agree s t g loadable closed i turn o anybody (fixed_top args) tt nobody tt (λ h v. refl) (λ v. refl) w none.1.1.0 in
+      let a : Agree 4 (number_below_top e) (number_below_top f) = agree s u t g loadable leads i turn o anybody (fixed_top args) tt nobody tt (λ h v. refl) (λ v. refl) w none.1.1.0 in
       ap (λ (x : ℕ). length (bytes_at (frame_after_pop e 4) w.public x n)) (a 2 (omega arith) (omega arith))
       ∙ read_length low w.fixed w.dyn w.public from n (fits_low f 4 w.fixed w.dyn w.public w.fits) none.0 (inside none))
 
   -- both ways to follow it
-  pub fixed_covered : Followed s t g loadable closed i turn (top_places (base s t g loadable closed i turn).frame 4) nobody ⊎ IsCoarse s t g loadable closed i turn
-      → IsRowCovered s t g loadable closed i turn (row i f turn.public turn.around)
+  pub fixed_covered : Followed s u t g loadable leads i turn (top_places (base s u t g loadable leads i turn).frame 4) nobody ⊎ IsCoarse s u t g loadable leads i turn
+      → IsRowCovered s u t g loadable leads i turn (row i f turn.public turn.around)
   fixed_covered outcome =
       elim outcome [
         | inl w ↦ few_case w
-        | inr includes ↦ coarse_top s t g loadable closed i turn o anybody (fixed_top args) tt includes tt ready
+        | inr includes ↦ coarse_top s u t g loadable leads i turn o anybody (fixed_top args) tt includes tt ready
       ]
 
 fixed_case : (args : List ℕ) → ChoiceCase (ins.Prim 1 2 args)
-fixed_case args s t g loadable closed turn includes =
-    fixed_covered args s t g loadable closed turn (few_or_many s t g loadable closed (ins.Prim 1 2 args) turn nobody (λ f. refl) (fixed_alone turn.place.start) includes)
+fixed_case args s u t g loadable leads turn includes =
+    fixed_covered args s u t g loadable leads turn (few_or_many s u t g loadable leads (ins.Prim 1 2 args) turn nobody (λ f. refl) (fixed_alone turn.place.start) includes)
 
 -- the laws of both copies
 pub copy_laws : CopyLaw

@@ -19,9 +19,9 @@ use Rattle.model_prove.specs.Splits.{deciders, later_deciders, top_places}
 use Rattle.model_prove.specs.Work.{NoFact}
 use Rattle.model_prove.specs.Arrivals.{Setting}
 use Rattle.model_prove.specs.Steps.{arounds, primitive_of}
-use Rattle.model_prove.specs.Tables.{IsLoadable, is_closed}
+use Rattle.model_prove.specs.Tables.{IsLoadable}
 use Rattle.model_prove.proofs.SetLemmas.{is_first}
-use Rattle.law_prove.specs.Laws.{RowLaw}
+use Rattle.law_prove.specs.Laws.{LeadsInto, LeadLaw}
 use Rattle.law_prove.proofs.Turns.{NoCause, nobody}
 use Rattle.law_prove.proofs.Single.{Turn, IsRowCovered}
 use Rattle.law_prove_reach.proofs.Scenes.{with_bytes, Fits, same_outside}
@@ -40,12 +40,12 @@ pub record IsResult (i : Ins) (o : Top) : Type 0 where
   pub later : (f : Frame) → later_deciders i f ≡ []
   pub alone : (st : Start) → Among nobody (arounds st (primitive_of i))
 
-module _ (i : Ins) (o : Top) (is : IsResult i o) (s : Setting) (t : Tables) (g : Target) (loadable : IsLoadable s.app) (closed : is_closed s t ≡ true) (turn : Turn s t i) where
+module _ (i : Ins) (o : Top) (is : IsResult i o) (s : Setting) (u t : Tables) (g : Target) (loadable : IsLoadable s.app) (leads : LeadsInto s u t) (turn : Turn s u i) where
   abbrev f : Frame
-  f = fetched_frame s t g loadable closed i turn
+  f = fetched_frame s u t g loadable leads i turn
 
   abbrev causes_here : List (Abend × Bool)
-  causes_here = cs s t g loadable closed i turn o anybody is.top tt
+  causes_here = cs s u t g loadable leads i turn o anybody is.top tt
 
   abbrev amount : ℕ
   amount = o.count turn.around (number_below_top f)
@@ -56,19 +56,19 @@ module _ (i : Ins) (o : Top) (is : IsResult i o) (s : Setting) (t : Tables) (g :
 
   -- both ways to follow it, if what it writes is ready and has the same length in each scene
   pub result_covered : (counted : (v : Numbers) → o.count nobody v ≡ o.count turn.around v) (alike : (h : Frame) (v : Numbers) → o.missed h nobody v ≡ o.missed h turn.around v)
-      → (NoCause causes_here → Ready s t g loadable closed i turn o anybody is.top tt) → SameLength
-      → Followed s t g loadable closed i turn (deciders i (base s t g loadable closed i turn).frame) nobody ⊎ IsCoarse s t g loadable closed i turn
-      → IsRowCovered s t g loadable closed i turn (row i f turn.public turn.around)
+      → (NoCause causes_here → Ready s u t g loadable leads i turn o anybody is.top tt) → SameLength
+      → Followed s u t g loadable leads i turn (deciders i (base s u t g loadable leads i turn).frame) nobody ⊎ IsCoarse s u t g loadable leads i turn
+      → IsRowCovered s u t g loadable leads i turn (row i f turn.public turn.around)
   result_covered counted alike ready size o2 =
       elim o2 [
-        | inl w ↦ few (subst (λ (l : List ℕ). Followed s t g loadable closed i turn l nobody) (is.places (base s t g loadable closed i turn).frame) w)
-        | inr includes ↦ coarse_top s t g loadable closed i turn o anybody is.top tt includes tt ready
+        | inl w ↦ few (subst (λ (l : List ℕ). Followed s u t g loadable leads i turn l nobody) (is.places (base s u t g loadable leads i turn).frame) w)
+        | inr includes ↦ coarse_top s u t g loadable leads i turn o anybody is.top tt includes tt ready
       ]
     where
-      few : Followed s t g loadable closed i turn (top_places (base s t g loadable closed i turn).frame o.pops) nobody → IsRowCovered s t g loadable closed i turn (row i f turn.public turn.around)
+      few : Followed s u t g loadable leads i turn (top_places (base s u t g loadable leads i turn).frame o.pops) nobody → IsRowCovered s u t g loadable leads i turn (row i f turn.public turn.around)
       few w =
-          result_row s t g loadable closed i turn o anybody is.top tt nobody tt alike counted w ready (is.task (number_below_top (with_bytes f w.fixed w.dyn)))
-          (λ none. size w.fixed w.dyn w.public w.fits (agree s t g loadable closed i turn o anybody is.top tt nobody tt alike counted w none.1.1.0) none)
+          result_row s u t g loadable leads i turn o anybody is.top tt nobody tt alike counted w ready (is.task (number_below_top (with_bytes f w.fixed w.dyn)))
+          (λ none. size w.fixed w.dyn w.public w.fits (agree s u t g loadable leads i turn o anybody is.top tt nobody tt alike counted w none.1.1.0) none)
 
 -- ---- the digest
 
@@ -125,12 +125,12 @@ digest_result : (args : List ℕ) → IsResult (ins.Prim 0 9 args) digest
 digest_result args = record { top = digest_top args; task = λ v. refl; places = λ f. refl; later = λ f. refl; alone = digest_alone }
 
 digest_case : (args : List ℕ) → ChoiceCase (ins.Prim 0 9 args)
-digest_case args s t g loadable closed turn includes =
+digest_case args s u t g loadable leads turn includes =
     let i : Ins = ins.Prim 0 9 args in
-    let f : Frame = fetched_frame s t g loadable closed i turn in
+    let f : Frame = fetched_frame s u t g loadable leads i turn in
     let h : Frame = frame_after_pop f 6 in
     let message = bytes_at h turn.public (number_below_top f 4) (number_below_top f 6) in
-    result_covered i digest (digest_result args) s t g loadable closed turn (λ v. refl) (λ h v. refl)
+    result_covered i digest (digest_result args) s u t g loadable leads turn (λ v. refl) (λ h v. refl)
     (λ none. record {
       few = omega arith;
       some = omega arith;
@@ -141,8 +141,8 @@ digest_case args s t g loadable closed turn includes =
       stands = omega arith;
     })
     (λ fixed dyn public fits a none. length_sha1 (bytes_at (frame_after_pop (with_bytes f fixed dyn) 6) public (number_below_top (with_bytes f fixed dyn) 4) (number_below_top (with_bytes f fixed dyn) 6)))
-    (few_or_many s t g loadable closed i turn nobody (λ f. refl) (digest_alone turn.place.start) includes)
+    (few_or_many s u t g loadable leads i turn nobody (λ f. refl) (digest_alone turn.place.start) includes)
 
 -- the law of the digest
-pub digest_law : (args : List ℕ) → RowLaw (ins.Prim 0 9 args)
+pub digest_law : (args : List ℕ) → LeadLaw (ins.Prim 0 9 args)
 digest_law args = law_by (ins.Prim 0 9 args) (digest_case args)

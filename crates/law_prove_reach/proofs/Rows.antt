@@ -17,11 +17,12 @@ use Rattle.model_prove.specs.Facts.{Memory, values_from}
 use Rattle.model_prove.specs.Compares.{bytes_from}
 use Rattle.model_prove.specs.Keys.{Call, PlaceKey, Known, Tables, calls_after_write, calls_below}
 use Rattle.model_prove.specs.Laws.{Among}
-use Rattle.model_prove.specs.Work.{Work, Copies, NoFact}
+use Rattle.model_prove.specs.Work.{Work, Copies}
 use Rattle.model_prove.specs.Reach.{Reach, WritesWithin, some_reached, calls_hit}
 use Rattle.model_prove.specs.Arrivals.{Setting, Arrival, static_size, fails}
-use Rattle.model_prove.specs.Steps.{Spot, any_bytes, lowered, acted, with_flags, settled_spot, makes_write, may_wait_too_long, follows, row_arrivals, caused, reached_spot, coarse_done}
-use Rattle.model_prove.specs.Tables.{IsLoadable, includes_all, is_closed}
+use Rattle.model_prove.specs.Steps.{Spot, lowered, acted, with_flags, settled_spot, makes_write, may_wait_too_long, follows, spots, row_arrivals, caused, reached_spot, coarse_done}
+use Rattle.model_prove.specs.Tables.{IsLoadable, includes_all}
+use Rattle.law_prove.specs.Laws.{LeadsInto}
 use Rattle.law_prove.proofs.Alike.{from_length, many_wait}
 use Rattle.law_prove.proofs.Closed.{included_first, included_second}
 use Rattle.law_prove.proofs.Moves.{copied_fit}
@@ -33,14 +34,15 @@ use Rattle.law_prove.proofs.Single.{going, one_copied, Turn, here, there, IsRowC
 use Rattle.law_prove_reach.proofs.Reached.{IsWithin, some_is, among_made, spared_among, reached_led}
 use Rattle.law_prove_reach.proofs.Choices.{one_of, fetched_frame, memory, base}
 
--- the only outcome of a row whose result has no fact
-pub one_unknown : (s : Setting) (t : Tables) (i : Ins) (d : ℕ) (to n : ℕ) (b : List ℕ) (fl : Option (Bool × Bool)) (p q : Spot) → includes_all t (row_arrivals false s i (going d (Writes to n b) fl) NoFact p q) ≡ true
-    → includes_all t (follows s i (makes_write s p.key.protected (Writes to n b)) Goes p (settled_spot s (with_flags fl (acted s (Writes to n b) (any_bytes (length b)) (lowered d q))))) ≡ true
-one_unknown s t i d to n b fl p q includes =
-    let a : Act = Writes to n b in
-    let w = makes_write s p.key.protected a in
-    let one : List Arrival = follows s i w Goes p (settled_spot s (with_flags fl (acted s a (any_bytes (length b)) (lowered d q)))) in
-    included_first t one [] (included_second t (cond (may_wait_too_long s p.key.protected a) (fails s p.key p.known A08) []) (one ++ []) includes)
+-- the only outcome of a row whose work leads to one place, with values of these sets of the bytes that it writes
+pub one_led : (s : Setting) (t : Tables) (i : Ins) (d : ℕ) (a : Act) (fl : Option (Bool × Bool)) (w : Work) (ss : List Set) (p q : Spot) → spots s (going d a fl) w q ≡ with_flags fl (acted s a ss (lowered d q)) ∷ []
+    → includes_all t (row_arrivals false s i (going d a fl) w p q) ≡ true
+    → includes_all t (follows s i (makes_write s p.key.protected a) Goes p (settled_spot s (with_flags fl (acted s a ss (lowered d q))))) ≡ true
+one_led s t i d a fl w ss p q leads includes =
+    let next : Spot → List Arrival = λ r. follows s i (makes_write s p.key.protected a) Goes p (settled_spot s r) in
+    let one : List Arrival = next (with_flags fl (acted s a ss (lowered d q))) in
+    let stop : List Arrival = cond (may_wait_too_long s p.key.protected a) (fails s p.key p.known A08) [] in
+    included_first t one [] (included_second t stop (one ++ []) (subst (λ (rs : List Spot). includes_all t (stop ++ flat_map next rs) ≡ true) leads includes))
 
 -- the causes that a key decides
 abbrev pub known_of : Bool → Bool → Bool → Bool → List (Abend × Bool)
@@ -54,25 +56,25 @@ causes_but arg den under missed range = (A06, arg) ∷ (A0A, den) ∷ (A04, unde
 abbrev pub causes_of : Bool → Bool → Bool → Bool → Bool → Bool → List (Abend × Bool)
 causes_of arg den under missed range many = causes_but arg den under missed range ++ (A08, many) ∷ []
 
-module _ (s : Setting) (t : Tables) (g : Target) (loadable : IsLoadable s.app) (closed : is_closed s t ≡ true) (i : Ins) (turn : Turn s t i) where
+module _ (s : Setting) (u t : Tables) (g : Target) (loadable : IsLoadable s.app) (leads : LeadsInto s u t) (i : Ins) (turn : Turn s u i) where
   abbrev before : Spot
-  before = here s t g loadable closed i turn
+  before = here s u t g loadable leads i turn
 
   abbrev low : ℕ → Frame
-  low d = low_frame s t g loadable closed i turn d
+  low d = low_frame s u t g loadable leads i turn d
 
   -- a row is covered if its act leads to a spot that is followed
-  pub led_row : (d : ℕ) (a : Act) (fl : Option (Bool × Bool)) (r : Spot) (w : Bool) → shape i (fetched_frame s t g loadable closed i turn) turn.public turn.around ≡ going d a fl
+  pub led_row : (d : ℕ) (a : Act) (fl : Option (Bool × Bool)) (r : Spot) (w : Bool) → shape i (fetched_frame s u t g loadable leads i turn) turn.public turn.around ≡ going d a fl
       → Led s turn.place.start turn.place.standing.allowances r w (act_effect a (low d) turn.public)
       → includes_all t (follows s i w Goes before (settled_spot s (with_flags fl r))) ≡ true
-      → IsRowCovered s t g loadable closed i turn (Does (meaning (going d a fl) (fetched_frame s t g loadable closed i turn) turn.public))
+      → IsRowCovered s u t g loadable leads i turn (Does (meaning (going d a fl) (fetched_frame s u t g loadable leads i turn) turn.public))
   led_row d a fl r w shaped led includes =
       let st = turn.place.start in
       let al = turn.place.standing.allowances in
-      let e : Effect = shape_effect (going d a fl) (fetched_frame s t g loadable closed i turn) turn.public in
-      let bytes : IsByteEffect e = shape_bytes s t g loadable closed i turn (going d a fl) shaped turn.after in
+      let e : Effect = shape_effect (going d a fl) (fetched_frame s u t g loadable leads i turn) turn.public in
+      let bytes : IsByteEffect e = shape_bytes s u t g loadable leads i turn (going d a fl) shaped turn.after in
       let all : Led s st al (with_flags fl r) w e = flags_led s st al r w (act_effect a (low d) turn.public) fl led in
-      goes_covered s t g loadable closed turn.entry turn.history turn.frame turn.public turn.depth turn.place turn.deep i e (settled_spot s (with_flags fl r)) w (ap (λ (k : PlaceKey). k.start) all.key)
+      goes_covered s u t g loadable leads turn.entry turn.history turn.frame turn.public turn.depth turn.place turn.deep i e (settled_spot s (with_flags fl r)) w (ap (λ (k : PlaceKey). k.start) all.key)
       (led_covers s st al (with_flags fl r) w e all) (frame_of s.app e.frame all.framed bytes.frame) (memory_of_bytes e.frame e.public bytes.frame bytes.public) bytes.frame.stack all.writes includes
 
   -- ---- an outcome that is followed
@@ -88,10 +90,10 @@ module _ (s : Setting) (t : Tables) (g : Target) (loadable : IsLoadable s.app) (
     pub low : dynamic_base + turn.frame.session ≤ d
     pub high : d ≤ dynamic_end
 
-  module _ (k : Known) (seen : Seen turn.place.calls k (fetched_frame s t g loadable closed i turn) turn.public) where
+  module _ (k : Known) (seen : Seen turn.place.calls k (fetched_frame s u t g loadable leads i turn) turn.public) where
     -- the place after the fetch, with the facts of a choice
     abbrev pub chosen_there : Spot
-    chosen_there = spot_of turn.place.start turn.place.standing.allowances (fetched_frame s t g loadable closed i turn) turn.place.calls k
+    chosen_there = spot_of turn.place.start turn.place.standing.allowances (fetched_frame s u t g loadable leads i turn) turn.place.calls k
 
     written_led : (was : Bool) (d to0 to n : ℕ) (b : List ℕ) (ss : List Set) → IsWritten was d to0 to n b ss
         → Led s turn.place.start turn.place.standing.allowances (acted s (Writes to n b) ss (lowered d chosen_there)) (makes_write s turn.frame.protected (Writes to n b)) (act_effect (Writes to n b) (low d) turn.public)
@@ -101,23 +103,23 @@ module _ (s : Setting) (t : Tables) (g : Target) (loadable : IsLoadable s.app) (
         let q : Spot = lowered d chosen_there in
         writes_led s loadable.static st al (low d) turn.public (calls_below d turn.place.calls) q.known to n b ss
         (subst (λ (j : ℕ). is_none (where_is (low d) to j) ≡ false) (sym is.long) is.inside) is.fit (subst (λ (j : ℕ). 0 < j) (sym is.long) is.some) turn.whole
-        (low_framed s t g loadable closed i turn d is.low is.high)
-        (lowered_seen d st al (fetched_frame s t g loadable closed i turn) turn.public turn.place.calls k seen)
+        (low_framed s u t g loadable leads i turn d is.low is.high)
+        (lowered_seen d st al (fetched_frame s u t g loadable leads i turn) turn.public turn.place.calls k seen)
 
     -- a row that writes, by its causes in the scene
     pub chosen_row : (cs : List (Abend × Bool)) (was : Bool) (d to0 n0 to n : ℕ) (b0 b : List ℕ) (fl : Option (Bool × Bool)) (w : Work) (ss : List Set)
         → includes_all t (caused (first_cause (cs ++ (A08, was) ∷ [])) s i (going d (Writes to0 n0 b0) fl) w before chosen_there) ≡ true
-        → first_cause (causes i (fetched_frame s t g loadable closed i turn) turn.public turn.around) ≡ first_cause (cs ++ (A08, too_many (low d) to n) ∷ [])
-        → shape i (fetched_frame s t g loadable closed i turn) turn.public turn.around ≡ going d (Writes to n b) fl
+        → first_cause (causes i (fetched_frame s u t g loadable leads i turn) turn.public turn.around) ≡ first_cause (cs ++ (A08, too_many (low d) to n) ∷ [])
+        → shape i (fetched_frame s u t g loadable leads i turn) turn.public turn.around ≡ going d (Writes to n b) fl
         → (includes_all t (row_arrivals false s i (going d (Writes to0 n0 b0) fl) w before chosen_there) ≡ true
         → includes_all t (follows s i (makes_write s turn.frame.protected (Writes to0 n0 b0)) Goes before (settled_spot s (with_flags fl (acted s (Writes to0 n0 b0) ss (lowered d chosen_there))))) ≡ true)
-        → (NoCause cs → IsWritten was d to0 to n b ss) → IsRowCovered s t g loadable closed i turn (row i (fetched_frame s t g loadable closed i turn) turn.public turn.around)
+        → (NoCause cs → IsWritten was d to0 to n b ss) → IsRowCovered s u t g loadable leads i turn (row i (fetched_frame s u t g loadable leads i turn) turn.public turn.around)
     chosen_row cs was d to0 n0 to n b0 b fl w ss includes real shaped extract written =
-        let f : Frame = fetched_frame s t g loadable closed i turn in
+        let f : Frame = fetched_frame s u t g loadable leads i turn in
         let m = meaning (going d (Writes to n b) fl) f turn.public in
-        subst (IsRowCovered s t g loadable closed i turn) (row_is s t g loadable closed i turn (causes i f turn.public turn.around) (going d (Writes to n b) fl) refl shaped)
-        (subst (λ (c : Option Abend). IsRowCovered s t g loadable closed i turn (row_end c m)) (sym real)
-        (walked_limit s t g loadable closed turn.entry turn.history turn.frame turn.public turn.depth turn.place turn.deep i chosen_there cs was (too_many (low d) to n) (going d (Writes to0 n0 b0) fl) w m refl
+        subst (IsRowCovered s u t g loadable leads i turn) (row_is s u t g loadable leads i turn (causes i f turn.public turn.around) (going d (Writes to n b) fl) refl shaped)
+        (subst (λ (c : Option Abend). IsRowCovered s u t g loadable leads i turn (row_end c m)) (sym real)
+        (walked_limit s u t g loadable leads turn.entry turn.history turn.frame turn.public turn.depth turn.place turn.deep i chosen_there cs was (too_many (low d) to n) (going d (Writes to0 n0 b0) fl) w m refl
         (λ none many less.
         let is : IsWritten was d to0 to n b ss = written none in
         subst (λ (a : ℕ). may_wait_too_long s turn.frame.protected (Writes a n0 b0) ≡ true) (sym is.same) (many_wait s (low d) to n n0 b0 is.some turn.place.frame.size turn.place.frame.inside many))
@@ -134,7 +136,7 @@ module _ (s : Setting) (t : Tables) (g : Target) (loadable : IsLoadable s.app) (
       pub same : to0 ≡ to
       pub source : from0 ≡ from
       pub count : length b0 ≡ n
-      pub read : b ≡ bytes_from (memory s t g loadable closed i turn) from n
+      pub read : b ≡ bytes_from (memory s u t g loadable leads i turn) from n
       pub some : 0 < n
       pub inside : is_none (where_is (low d) to n) ≡ false
       pub low : dynamic_base + turn.frame.session ≤ d
@@ -142,7 +144,7 @@ module _ (s : Setting) (t : Tables) (g : Target) (loadable : IsLoadable s.app) (
 
     copy_written : (was : Bool) (d to0 to n from0 from : ℕ) (b0 b : List ℕ) → IsCopied was d to0 to n from0 from b0 b → IsWritten was d to0 to n b (values_from k.bytes from0 (length b0))
     copy_written was d to0 to n from0 from b0 b is =
-        let m : Memory = memory s t g loadable closed i turn in
+        let m : Memory = memory s u t g loadable leads i turn in
         record {
           free = is.free;
           same = is.same;
@@ -157,9 +159,9 @@ module _ (s : Setting) (t : Tables) (g : Target) (loadable : IsLoadable s.app) (
     -- a row that copies
     pub copied_row : (cs : List (Abend × Bool)) (was : Bool) (d to0 n0 to n from0 from : ℕ) (b0 b : List ℕ)
         → includes_all t (caused (first_cause (cs ++ (A08, was) ∷ [])) s i (going d (Writes to0 n0 b0) None) (Copies from0) before chosen_there) ≡ true
-        → first_cause (causes i (fetched_frame s t g loadable closed i turn) turn.public turn.around) ≡ first_cause (cs ++ (A08, too_many (low d) to n) ∷ [])
-        → shape i (fetched_frame s t g loadable closed i turn) turn.public turn.around ≡ going d (Writes to n b) None
-        → (NoCause cs → IsCopied was d to0 to n from0 from b0 b) → IsRowCovered s t g loadable closed i turn (row i (fetched_frame s t g loadable closed i turn) turn.public turn.around)
+        → first_cause (causes i (fetched_frame s u t g loadable leads i turn) turn.public turn.around) ≡ first_cause (cs ++ (A08, too_many (low d) to n) ∷ [])
+        → shape i (fetched_frame s u t g loadable leads i turn) turn.public turn.around ≡ going d (Writes to n b) None
+        → (NoCause cs → IsCopied was d to0 to n from0 from b0 b) → IsRowCovered s u t g loadable leads i turn (row i (fetched_frame s u t g loadable leads i turn) turn.public turn.around)
     copied_row cs was d to0 n0 to n from0 from b0 b includes real shaped copied =
         chosen_row cs was d to0 n0 to n b0 b None (Copies from0) (values_from k.bytes from0 (length b0)) includes real shaped
         (λ all. one_copied s t i d (Writes to0 n0 b0) None from0 before chosen_there all) (λ none. copy_written was d to0 to n from0 from b0 b (copied none))
@@ -173,7 +175,7 @@ module _ (s : Setting) (t : Tables) (g : Target) (loadable : IsLoadable s.app) (
     pub bytes : AreBytes b
     pub some : 0 < n
     pub inside : is_none (where_is (low d) to n) ≡ false
-    pub within : IsWithin (record (base s t g loadable closed i turn).frame { dt = d }) r to n
+    pub within : IsWithin (record (base s u t g loadable leads i turn).frame { dt = d }) r to n
     pub low : dynamic_base + turn.frame.session ≤ d
     pub high : d ≤ dynamic_end
 
@@ -182,36 +184,36 @@ module _ (s : Setting) (t : Tables) (g : Target) (loadable : IsLoadable s.app) (
   Outcomes bad known d a fl r =
       fails s before.key before.known A03
       ++ (cond bad (fails s before.key before.known A06) [])
-      ++ coarse_done (first_cause known) s i (record (base s t g loadable closed i turn).frame { dt = d }) (going d a fl) (WritesWithin r) before (there s t g loadable closed i turn)
+      ++ coarse_done (first_cause known) s i (record (base s u t g loadable leads i turn).frame { dt = d }) (going d a fl) (WritesWithin r) before (there s u t g loadable leads i turn)
 
   -- whether static bytes may be reached
   abbrev static : ℕ → Reach → Bool
-  static d r = some_reached (record (base s t g loadable closed i turn).frame { dt = d }) r 0 (static_size s)
+  static d r = some_reached (record (base s u t g loadable leads i turn).frame { dt = d }) r 0 (static_size s)
 
   reached_static : (d : ℕ) (r : Reach) (was : Bool) (to n : ℕ) (b : List ℕ) → IsReached r was d to n b → nat_lt to (static_size s) ≡ true → static d r ≡ true
   reached_static d r was to n b is less =
       let some : 0 < n = is.some in
-      some_is (record (base s t g loadable closed i turn).frame { dt = d }) r to 0 (static_size s) (is.within to (omega arith) (omega (arith, some))) (omega arith) (below less)
+      some_is (record (base s u t g loadable leads i turn).frame { dt = d }) r to 0 (static_size s) (is.within to (omega arith) (omega (arith, some))) (omega arith) (below less)
     where
       below : nat_lt to (static_size s) ≡ true → to < 0 + static_size s
       below e = let h = ltb-true to (static_size s) e in omega (arith, h)
 
   -- an abend of the row
-  abends_with : (c : Abend) → includes_all t (fails s before.key before.known c) ≡ true → IsRowCovered s t g loadable closed i turn (Abends c)
-  abends_with c includes = fails_by s t g loadable closed turn.entry turn.history turn.frame turn.public turn.place c s.rules.abends before.key refl refl refl includes
+  abends_with : (c : Abend) → includes_all t (fails s before.key before.known c) ≡ true → IsRowCovered s u t g loadable leads i turn (Abends c)
+  abends_with c includes = fails_by s u t g loadable leads turn.entry turn.history turn.frame turn.public turn.place c s.rules.abends before.key refl refl refl includes
 
   -- the places after it
   abbrev places_after : ℕ → Option (Bool × Bool) → Reach → List Arrival
   places_after d fl r =
       flat_map (λ q. follows s i (static d r && not turn.frame.protected) Goes before (settled_spot s q))
-      (map (λ cs. with_flags fl (reached_spot (record (base s t g loadable closed i turn).frame { dt = d }) r (lowered d (there s t g loadable closed i turn)) cs))
-      (calls_hit (record (base s t g loadable closed i turn).frame { dt = d }) r (calls_below d turn.place.calls)))
+      (map (λ cs. with_flags fl (reached_spot (record (base s u t g loadable leads i turn).frame { dt = d }) r (lowered d (there s u t g loadable leads i turn)) cs))
+      (calls_hit (record (base s u t g loadable leads i turn).frame { dt = d }) r (calls_below d turn.place.calls)))
 
   -- the abend of too many words that wait
   abbrev waits_after : ℕ → Reach → List Arrival
   waits_after d r = cond (static d r && turn.frame.protected && nat_lt 512 (static_size s)) (fails s before.key before.known A08) []
 
-  reached_waits : (r : Reach) (was : Bool) (d to n : ℕ) (b : List ℕ) (rest : List Arrival) → IsReached r was d to n b → too_many (low d) to n ≡ true → includes_all t (waits_after d r ++ rest) ≡ true → IsRowCovered s t g loadable closed i turn (Abends A08)
+  reached_waits : (r : Reach) (was : Bool) (d to n : ℕ) (b : List ℕ) (rest : List Arrival) → IsReached r was d to n b → too_many (low d) to n ≡ true → includes_all t (waits_after d r ++ rest) ≡ true → IsRowCovered s u t g loadable leads i turn (Abends A08)
   reached_waits r was d to n b rest is many includes =
       let p = turn.frame.protected in
       let size = static_size s in
@@ -227,14 +229,14 @@ module _ (s : Setting) (t : Tables) (g : Target) (loadable : IsLoadable s.app) (
       let both = and_parts p (nat_lt to (static_size s)) makes in
       and_from (static d r) p (reached_static d r was to n b is both.1) both.0
 
-  done_row : (r : Reach) (was : Bool) (d to n : ℕ) (b : List ℕ) (fl : Option (Bool × Bool)) → shape i (fetched_frame s t g loadable closed i turn) turn.public turn.around ≡ going d (Writes to n b) fl → IsReached r was d to n b
-      → includes_all t (places_after d fl r) ≡ true → IsRowCovered s t g loadable closed i turn (Does (meaning (going d (Writes to n b) fl) (fetched_frame s t g loadable closed i turn) turn.public))
+  done_row : (r : Reach) (was : Bool) (d to n : ℕ) (b : List ℕ) (fl : Option (Bool × Bool)) → shape i (fetched_frame s u t g loadable leads i turn) turn.public turn.around ≡ going d (Writes to n b) fl → IsReached r was d to n b
+      → includes_all t (places_after d fl r) ≡ true → IsRowCovered s u t g loadable leads i turn (Does (meaning (going d (Writes to n b) fl) (fetched_frame s u t g loadable leads i turn) turn.public))
   done_row r was d to n b fl shaped is includes =
       let st = turn.place.start in
       let al = turn.place.standing.allowances in
-      let e : Frame = record (base s t g loadable closed i turn).frame { dt = d } in
-      let calls : List Call = low_calls s t g loadable closed i turn d in
-      let k : Known = low_known s t g loadable closed i turn d in
+      let e : Frame = record (base s u t g loadable leads i turn).frame { dt = d } in
+      let calls : List Call = low_calls s u t g loadable leads i turn d in
+      let k : Known = low_known s u t g loadable leads i turn d in
       let q : Spot = spot_of st al (low d) calls k in
       let w = static d r && not turn.frame.protected in
       let cs : List Call = calls_after_write to (length b) calls in
@@ -245,17 +247,17 @@ module _ (s : Setting) (t : Tables) (g : Target) (loadable : IsLoadable s.app) (
       let one : includes_all t (follows s i w Goes before (settled_spot s (made cs))) ≡ true = one_of t (λ q. follows s i w Goes before (settled_spot s q)) (made cs) (map made (calls_hit e r calls)) among includes in
       led_row d (Writes to n b) fl (reached_spot e r q cs) w shaped
       (reached_led s loadable.static st al (low d) turn.public to n b is.bytes some (subst (λ (j : ℕ). is_none (where_is (low d) to j) ≡ false) (sym is.long) is.inside) turn.whole
-      (low_framed s t g loadable closed i turn d is.low is.high) e r w calls k within (reached_makes r was d to n b is) (low_seen s t g loadable closed i turn d))
+      (low_framed s u t g loadable leads i turn d is.low is.high) e r w calls k within (reached_makes r was d to n b is) (low_seen s u t g loadable leads i turn d))
       one
 
   -- the outcomes of the causes that the key decides
   abbrev decided : List (Abend × Bool) → ℕ → Act → Option (Bool × Bool) → Reach → List Arrival
-  decided known d a fl r = coarse_done (first_cause known) s i (record (base s t g loadable closed i turn).frame { dt = d }) (going d a fl) (WritesWithin r) before (there s t g loadable closed i turn)
+  decided known d a fl r = coarse_done (first_cause known) s i (record (base s u t g loadable leads i turn).frame { dt = d }) (going d a fl) (WritesWithin r) before (there s u t g loadable leads i turn)
 
   limit_by : (many : Bool) (r : Reach) (was : Bool) (d to n : ℕ) (a0 : Act) (b : List ℕ) (fl : Option (Bool × Bool)) → too_many (low d) to n ≡ many
-      → shape i (fetched_frame s t g loadable closed i turn) turn.public turn.around ≡ going d (Writes to n b) fl → IsReached r was d to n b
+      → shape i (fetched_frame s u t g loadable leads i turn) turn.public turn.around ≡ going d (Writes to n b) fl → IsReached r was d to n b
       → includes_all t (decided (known_of false false false was) d a0 fl r) ≡ true
-      → IsRowCovered s t g loadable closed i turn (row_end (first_cause (causes_of false false false false false many)) (meaning (going d (Writes to n b) fl) (fetched_frame s t g loadable closed i turn) turn.public))
+      → IsRowCovered s u t g loadable leads i turn (row_end (first_cause (causes_of false false false false false many)) (meaning (going d (Writes to n b) fl) (fetched_frame s u t g loadable leads i turn) turn.public))
   limit_by true r was d to n a0 b fl e shaped is includes =
       reached_waits r was d to n b (places_after d fl r) is e (subst (λ (x : Bool). includes_all t (decided (known_of false false false x) d a0 fl r) ≡ true) is.free includes)
   limit_by false r was d to n a0 b fl e shaped is includes =
@@ -265,9 +267,9 @@ module _ (s : Setting) (t : Tables) (g : Target) (loadable : IsLoadable s.app) (
   coarse_by : (bad arg den under missed range : Bool) (r : Reach) (was : Bool) (d to n : ℕ) (a0 : Act) (b : List ℕ) (fl : Option (Bool × Bool))
       → includes_all t (fails s before.key before.known A03) ≡ true → includes_all t (cond bad (fails s before.key before.known A06) []) ≡ true
       → includes_all t (decided (known_of arg den under was) d a0 fl r) ≡ true
-      → shape i (fetched_frame s t g loadable closed i turn) turn.public turn.around ≡ going d (Writes to n b) fl → (range ≡ true → bad ≡ true)
+      → shape i (fetched_frame s u t g loadable leads i turn) turn.public turn.around ≡ going d (Writes to n b) fl → (range ≡ true → bad ≡ true)
       → (arg ≡ false → den ≡ false → under ≡ false → missed ≡ false → range ≡ false → IsReached r was d to n b)
-      → IsRowCovered s t g loadable closed i turn (row_end (first_cause (causes_of arg den under missed range (too_many (low d) to n))) (meaning (going d (Writes to n b) fl) (fetched_frame s t g loadable closed i turn) turn.public))
+      → IsRowCovered s u t g loadable leads i turn (row_end (first_cause (causes_of arg den under missed range (too_many (low d) to n))) (meaning (going d (Writes to n b) fl) (fetched_frame s u t g loadable leads i turn) turn.public))
   coarse_by bad true den under missed range r was d to n a0 b fl miss length_bad includes shaped lengths reached = abends_with A06 includes
   coarse_by bad false true under missed range r was d to n a0 b fl miss length_bad includes shaped lengths reached = abends_with A0A includes
   coarse_by bad false false true missed range r was d to n a0 b fl miss length_bad includes shaped lengths reached = abends_with A04 includes
@@ -281,17 +283,17 @@ module _ (s : Setting) (t : Tables) (g : Target) (loadable : IsLoadable s.app) (
   -- write within the reach leads on.
   pub coarse_row : (bad arg den under missed range : Bool) (r : Reach) (was : Bool) (d to n : ℕ) (a0 : Act) (b : List ℕ) (fl : Option (Bool × Bool))
       → includes_all t (Outcomes bad (known_of arg den under was) d a0 fl r) ≡ true
-      → first_cause (causes i (fetched_frame s t g loadable closed i turn) turn.public turn.around) ≡ first_cause (causes_of arg den under missed range (too_many (low d) to n))
-      → shape i (fetched_frame s t g loadable closed i turn) turn.public turn.around ≡ going d (Writes to n b) fl → (range ≡ true → bad ≡ true)
+      → first_cause (causes i (fetched_frame s u t g loadable leads i turn) turn.public turn.around) ≡ first_cause (causes_of arg den under missed range (too_many (low d) to n))
+      → shape i (fetched_frame s u t g loadable leads i turn) turn.public turn.around ≡ going d (Writes to n b) fl → (range ≡ true → bad ≡ true)
       → (arg ≡ false → den ≡ false → under ≡ false → missed ≡ false → range ≡ false → IsReached r was d to n b)
-      → IsRowCovered s t g loadable closed i turn (row i (fetched_frame s t g loadable closed i turn) turn.public turn.around)
+      → IsRowCovered s u t g loadable leads i turn (row i (fetched_frame s u t g loadable leads i turn) turn.public turn.around)
   coarse_row bad arg den under missed range r was d to n a0 b fl includes first shaped lengths reached =
-      let f : Frame = fetched_frame s t g loadable closed i turn in
+      let f : Frame = fetched_frame s u t g loadable leads i turn in
       let m = meaning (going d (Writes to n b) fl) f turn.public in
       let miss = fails s before.key before.known A03 in
       let short = cond bad (fails s before.key before.known A06) [] in
       let rest = decided (known_of arg den under was) d a0 fl r in
-      subst (IsRowCovered s t g loadable closed i turn) (row_is s t g loadable closed i turn (causes i f turn.public turn.around) (going d (Writes to n b) fl) refl shaped)
-      (subst (λ (c : Option Abend). IsRowCovered s t g loadable closed i turn (row_end c m)) (sym first)
+      subst (IsRowCovered s u t g loadable leads i turn) (row_is s u t g loadable leads i turn (causes i f turn.public turn.around) (going d (Writes to n b) fl) refl shaped)
+      (subst (λ (c : Option Abend). IsRowCovered s u t g loadable leads i turn (row_end c m)) (sym first)
       (coarse_by bad arg den under missed range r was d to n a0 b fl (included_first t miss short (included_first t (miss ++ short) rest includes)) (included_second t miss short (included_first t (miss ++ short) rest includes))
       (included_second t (miss ++ short) rest includes) shaped lengths reached))

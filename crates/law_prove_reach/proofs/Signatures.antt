@@ -19,7 +19,7 @@ use Rattle.model_prove.specs.Work.{NoFact, pair_work}
 use Rattle.model_prove.specs.Reach.{may_have_bad_length, known_causes, pair_coarse}
 use Rattle.model_prove.specs.Steps.{arounds}
 use Rattle.model_prove.proofs.SetLemmas.{is_first}
-use Rattle.law_prove.specs.Laws.{RowLaw}
+use Rattle.law_prove.specs.Laws.{LeadLaw}
 use Rattle.law_prove.proofs.Turns.{NoCause, nobody}
 use Rattle.law_prove_reach.proofs.Scenes.{with_bytes, same_outside}
 use Rattle.law_prove_reach.proofs.Lengths.{signature_whole}
@@ -112,9 +112,9 @@ module _ (set number : ℕ) (args : List ℕ) (c : Cipher) (e : primitive set nu
 
   -- a signature is covered
   sign_case : ChoiceCase i
-  sign_case s t g loadable closed turn includes =
+  sign_case s u t g loadable leads turn includes =
       let o : Top = signing c n in
-      let f : Frame = fetched_frame s t g loadable closed i turn in
+      let f : Frame = fetched_frame s u t g loadable leads i turn in
       let h : Frame = frame_after_pop f 8 in
       let size = block_len c in
       let from = number_below_top f 8 in
@@ -122,7 +122,7 @@ module _ (set number : ℕ) (args : List ℕ) (c : Cipher) (e : primitive set nu
       let key = bytes_at h turn.public (number_below_top f 2) (key_len c) in
       let start = bytes_at h turn.public from size in
       let message = bytes_at h turn.public (number_below_top f 6) n in
-      let none_cs : List (Abend × Bool) = cs s t g loadable closed i turn o anybody sign_top tt in
+      let none_cs : List (Abend × Bool) = cs s u t g loadable leads i turn o anybody sign_top tt in
       let all : (a k : ℕ) → AreBytes (bytes_at h turn.public a k) = λ a k. read_bytes h turn.public a k (record { static = turn.place.frame.static; pieces = turn.place.frame.pieces; stack = turn.place.dynamic }) turn.bytes in
       let filled : (size == 0) ≡ false = not_zero size (block_positive c) in
       let first : Bool = is_outside h from size in
@@ -130,12 +130,12 @@ module _ (set number : ℕ) (args : List ℕ) (c : Cipher) (e : primitive set nu
       let third : Bool = is_outside h to size in
       let apart : NoCause none_cs → ((first || second) ≡ false) × (third ≡ false) = λ none. or_parts (first || second) third (or_parts (first || second || third) (is_outside h (number_below_top f 2) (key_len c)) none.1.1.1.0).0 in
       let inside : NoCause none_cs → is_none (where_is h from size) ≡ false = λ none. inside_of (size == 0) (is_none (where_is h from size)) filled (or_parts first second (apart none).0).0 in
-      result_covered i o sign_result s t g loadable closed turn (λ v. refl) (λ h v. refl)
+      result_covered i o sign_result s u t g loadable leads turn (λ v. refl) (λ h v. refl)
       (λ none. record {
         few = block_few c;
         some = block_positive c;
         inside = inside_of (size == 0) (is_none (where_is h to size)) filled (apart none).1;
-        long = signature_whole c key start message (turn_length s t g loadable closed i turn 8 from size filled (inside none));
+        long = signature_whole c key start message (turn_length s u t g loadable leads i turn 8 from size filled (inside none));
         bytes = signed c key start message (all (number_below_top f 2) (key_len c)) (all from size) (all (number_below_top f 6) n);
         length_in = is_first size [];
         stands = block_few c;
@@ -145,11 +145,11 @@ module _ (set number : ℕ) (args : List ℕ) (c : Cipher) (e : primitive set nu
       let l : Frame = frame_after_pop e 8 in
       signature_whole c (bytes_at l public (number_below_top e 2) (key_len c)) (bytes_at l public (number_below_top e 8) size) (bytes_at l public (number_below_top e 6) n)
       (ap (λ (x : ℕ). length (bytes_at l public x size)) (a 8 (omega arith) (omega arith)) ∙ read_length h fixed dyn public from size (fits_low f 8 fixed dyn public fits) filled (inside none)))
-      (few_or_many s t g loadable closed i turn nobody (λ f. ap (λ (z : Option Primitive). count_deciders z f) e) (sign_alone turn.place.start) includes)
+      (few_or_many s u t g loadable leads i turn nobody (λ f. ap (λ (z : Option Primitive). count_deciders z f) e) (sign_alone turn.place.start) includes)
 
 -- ---- the laws
 
-sign_law : (number : ℕ) (c : Cipher) → primitive 1 number ≡ Some (Sign c) → (args : List ℕ) → RowLaw (ins.Prim 1 number args)
+sign_law : (number : ℕ) (c : Cipher) → primitive 1 number ≡ Some (Sign c) → (args : List ℕ) → LeadLaw (ins.Prim 1 number args)
 sign_law number c e args = law_by (ins.Prim 1 number args) (sign_case 1 number args c e)
 
 -- the laws of all results without a fact

@@ -21,10 +21,11 @@ use Rattle.model_prove.specs.Work.{Copies}
 use Rattle.model_prove.specs.Reach.{Reach, reach_at}
 use Rattle.model_prove.specs.Arrivals.{Setting}
 use Rattle.model_prove.specs.Steps.{Spot, arounds, caused}
-use Rattle.model_prove.specs.Tables.{IsLoadable, includes_all, is_closed}
+use Rattle.model_prove.specs.Tables.{IsLoadable, includes_all}
 use Rattle.model_prove.proofs.FactLemmas.{value_holds}
 use Rattle.model_prove.proofs.SetLemmas.{is_first}
 use Rattle.law_prove.specs.Coverings.{parts_memory, frame_memory}
+use Rattle.law_prove.specs.Laws.{LeadsInto}
 use Rattle.law_prove.proofs.Alike.{Sized, from_length, top_is}
 use Rattle.law_prove.proofs.Moves.{positive, turn_sized}
 use Rattle.law_prove.proofs.Plain.{above}
@@ -55,15 +56,15 @@ alone : (st : Start) → Among nobody (arounds st None)
 alone Delegated = inl refl
 alone (OfClass class) = inl refl
 
-module _ (tag : ℕ) (off : ℤ) (n : ℕ) (s : Setting) (t : Tables) (g : Target) (loadable : IsLoadable s.app) (closed : is_closed s t ≡ true) (turn : Turn s t (ins.Storei tag off n)) where
+module _ (tag : ℕ) (off : ℤ) (n : ℕ) (s : Setting) (u t : Tables) (g : Target) (loadable : IsLoadable s.app) (leads : LeadsInto s u t) (turn : Turn s u (ins.Storei tag off n)) where
   abbrev i : Ins
   i = ins.Storei tag off n
 
   abbrev f : Frame
-  f = fetched_frame s t g loadable closed i turn
+  f = fetched_frame s u t g loadable leads i turn
 
   abbrev m : Memory
-  m = memory s t g loadable closed i turn
+  m = memory s u t g loadable leads i turn
 
   -- the place of the address, the address, and DT after the row
   abbrev o : Option ℕ
@@ -79,7 +80,7 @@ module _ (tag : ℕ) (off : ℤ) (n : ℕ) (s : Setting) (t : Tables) (g : Targe
   d = turn.frame.dt - n
 
   sized : Sized f turn.public
-  sized = turn_sized s t loadable i turn
+  sized = turn_sized s u loadable i turn
 
   byte : n < 256
   byte = turn.shaped.1
@@ -94,7 +95,7 @@ module _ (tag : ℕ) (off : ℤ) (n : ℕ) (s : Setting) (t : Tables) (g : Targe
 
   -- ---- few choices
 
-  module _ (w : Followed s t g loadable closed i turn (places_from (operand (base s t g loadable closed i turn).frame tag off (n + 2)) 2) nobody) where
+  module _ (w : Followed s u t g loadable leads i turn (places_from (operand (base s u t g loadable leads i turn).frame tag off (n + 2)) 2) nobody) where
     abbrev e : Frame
     e = with_bytes f w.fixed w.dyn
 
@@ -108,9 +109,9 @@ module _ (tag : ℕ) (off : ℤ) (n : ℕ) (s : Setting) (t : Tables) (g : Targe
     operand_is = same_operand f w.fixed w.dyn tag off (n + 2) w.fits.size
 
     -- both bytes of the address are those of the memory
-    places_are : no_access f o 2 ≡ false → places_from (operand (base s t g loadable closed i turn).frame tag off (n + 2)) 2 ≡ at ∷ suc at ∷ []
+    places_are : no_access f o 2 ≡ false → places_from (operand (base s u t g loadable leads i turn).frame tag off (n + 2)) 2 ≡ at ∷ suc at ∷ []
     places_are access =
-        ap (λ (z : Option ℕ). places_from z 2) (same_operand f (zeros (length turn.frame.fixed)) (stand_in_stack turn.place.calls) tag off (n + 2) (base_fits s t g loadable closed i turn).size ∙ (access_of f o access).0)
+        ap (λ (z : Option ℕ). places_from z 2) (same_operand f (zeros (length turn.frame.fixed)) (stand_in_stack turn.place.calls) tag off (n + 2) (base_fits s u t g loadable leads i turn).size ∙ (access_of f o access).0)
 
     both_agree : no_access f o 2 ≡ false → to0 ≡ to
     both_agree access =
@@ -134,7 +135,7 @@ module _ (tag : ℕ) (off : ℤ) (n : ℕ) (s : Setting) (t : Tables) (g : Targe
         ∙ or_same (no_access f o 2) (is_outside (frame_after_pop e n) to0 n) (is_outside (frame_after_pop f n) to n) (λ access.
         ap (λ (a : ℕ). is_outside (frame_after_pop e n) a n) (both_agree access) ∙ same_outside (frame_after_pop f n) w.fixed w.dyn to n w.fits.size)
 
-    copied : NoCause cs → IsCopied s t g loadable closed i turn w.known w.seen (too_many (frame_after_pop e n) to0 n) d to0 to n d d (top e n) (top f n)
+    copied : NoCause cs → IsCopied s u t g loadable leads i turn w.known w.seen (too_many (frame_after_pop e n) to0 n) d to0 to n d d (top e n) (top f n)
     copied none =
         let over : dynamic_base + turn.frame.session + n ≤ turn.frame.dt = above_by f (tag == 0) n none.1.0 in
         let high : turn.frame.dt ≤ dynamic_end = turn.place.frame.high in
@@ -151,18 +152,18 @@ module _ (tag : ℕ) (off : ℤ) (n : ℕ) (s : Setting) (t : Tables) (g : Targe
           high = omega (arith, high);
         }
 
-    few_case : IsRowCovered s t g loadable closed i turn (row i f turn.public turn.around)
+    few_case : IsRowCovered s u t g loadable leads i turn (row i f turn.public turn.around)
     unfolding causes shape
     few_case =
         let under = is_under f (on_stack tag (n + 2) n) in
         let low0 : Frame = frame_after_pop e n in
-        let p : Spot = here s t g loadable closed i turn in
-        let q : Spot = chosen_there s t g loadable closed i turn w.known w.seen in
+        let p : Spot = here s u t g loadable leads i turn in
+        let q : Spot = chosen_there s u t g loadable leads i turn w.known w.seen in
         let one : includes_all t (caused (first_cause ((A06, n == 0) ∷ (A04, under) ∷ (A03, no_access e o 2 || is_outside low0 to0 n) ∷ (A08, too_many low0 to0 n) ∷ [])) s i (going d (Writes to0 n (top e n)) None) (Copies d) p q) ≡ true =
         subst (λ (z : Option ℕ). let a = address_at e w.public (address_or_zero z) in
         includes_all t (caused (first_cause ((A06, n == 0) ∷ (A04, under) ∷ (A03, no_access e z 2 || is_outside low0 a n) ∷ (A08, too_many low0 a n) ∷ [])) s i (going d (Writes a n (top e n)) None) (Copies d) p q) ≡ true) operand_is w.is
         in
-        copied_row s t g loadable closed i turn w.known w.seen cs (too_many low0 to0 n) d to0 n to n d d (top e n) (top f n)
+        copied_row s u t g loadable leads i turn w.known w.seen cs (too_many low0 to0 n) d to0 n to n d d (top e n) (top f n)
         (subst (λ (x : Bool). includes_all t (caused (first_cause ((A06, n == 0) ∷ (A04, under) ∷ (A03, x) ∷ (A08, too_many low0 to0 n) ∷ [])) s i (going d (Writes to0 n (top e n)) None) (Copies d) p q) ≡ true) missed_same one)
         refl refl copied
 
@@ -173,22 +174,22 @@ module _ (tag : ℕ) (off : ℤ) (n : ℕ) (s : Setting) (t : Tables) (g : Targe
   r = reach_at turn.place.known.bytes at (n ∷ [])
 
   abbrev l : Frame
-  l = (base s t g loadable closed i turn).frame
+  l = (base s u t g loadable leads i turn).frame
 
   base_operand : operand l tag off (n + 2) ≡ o
-  base_operand = same_operand f (zeros (length turn.frame.fixed)) (stand_in_stack turn.place.calls) tag off (n + 2) (base_fits s t g loadable closed i turn).size
+  base_operand = same_operand f (zeros (length turn.frame.fixed)) (stand_in_stack turn.place.calls) tag off (n + 2) (base_fits s u t g loadable leads i turn).size
 
   abbrev was : Bool
   was = too_many (frame_after_pop l n) (address_at l blank at) n
 
-  reached : (n == 0) ≡ false → is_under f (on_stack tag (n + 2) n) ≡ false → (no_access f o 2 || is_outside (frame_after_pop f n) to n) ≡ false → IsReached s t g loadable closed i turn r was d to n (top f n)
+  reached : (n == 0) ≡ false → is_under f (on_stack tag (n + 2) n) ≡ false → (no_access f o 2 || is_outside (frame_after_pop f n) to n) ≡ false → IsReached s u t g loadable leads i turn r was d to n (top f n)
   reached some under missed =
       let over : dynamic_base + turn.frame.session + n ≤ turn.frame.dt = above_by f (tag == 0) n under in
       let high : turn.frame.dt ≤ dynamic_end = turn.place.frame.high in
       let p = or_parts (no_access f o 2) (is_outside (frame_after_pop f n) to n) missed in
       let fixed = zeros (length turn.frame.fixed) in
       let dyn = stand_in_stack turn.place.calls in
-      let size : length fixed ≡ length turn.frame.fixed = (base_fits s t g loadable closed i turn).size in
+      let size : length fixed ≡ length turn.frame.fixed = (base_fits s u t g loadable leads i turn).size in
       let first : m at < 256 = turn.place.bytes at in
       let second : m (suc at) < 256 = turn.place.bytes (suc at) in
       let is : to ≡ m at * 256 + m (suc at) = to_is p.0 ∙ pair_is m at in
@@ -212,19 +213,19 @@ module _ (tag : ℕ) (off : ℤ) (n : ℕ) (s : Setting) (t : Tables) (g : Targe
       low_of : to ≡ m at * 256 + m (suc at) → m at < 256 → m (suc at) < 256 → m (suc at) ≡ to % 256
       low_of is first second = omega (arith, is, first, second)
 
-  coarse_case : IsCoarse s t g loadable closed i turn → IsRowCovered s t g loadable closed i turn (row i f turn.public turn.around)
+  coarse_case : IsCoarse s u t g loadable leads i turn → IsRowCovered s u t g loadable leads i turn (row i f turn.public turn.around)
   unfolding causes shape
   coarse_case includes =
       let under = is_under f (on_stack tag (n + 2) n) in
       let low0 : Frame = frame_after_pop l n in
-      coarse_row s t g loadable closed i turn false (n == 0) false under (no_access f o 2 || is_outside (frame_after_pop f n) to n) false r was d to n (Writes (address_at l blank at) n (top l n)) (top f n) None
+      coarse_row s u t g loadable leads i turn false (n == 0) false under (no_access f o 2 || is_outside (frame_after_pop f n) to n) false r was d to n (Writes (address_at l blank at) n (top l n)) (top f n) None
       (subst (λ (z : Option ℕ). let a = address_at l blank (address_or_zero z) in
-      includes_all t (Outcomes s t g loadable closed i turn false (known_of (n == 0) false under (too_many low0 a n)) d (Writes a n (top l n)) None (reach_at turn.place.known.bytes (address_or_zero z) (n ∷ []))) ≡ true) base_operand includes)
+      includes_all t (Outcomes s u t g loadable leads i turn false (known_of (n == 0) false under (too_many low0 a n)) d (Writes a n (top l n)) None (reach_at turn.place.known.bytes (address_or_zero z) (n ∷ []))) ≡ true) base_operand includes)
       refl refl (λ e. absurd (cc e)) (λ some allowed under missed range. reached some under missed)
 
   -- both ways to follow it
-  pub storei_covered : Followed s t g loadable closed i turn (places_from (operand (base s t g loadable closed i turn).frame tag off (n + 2)) 2) nobody ⊎ IsCoarse s t g loadable closed i turn
-      → IsRowCovered s t g loadable closed i turn (row i f turn.public turn.around)
+  pub storei_covered : Followed s u t g loadable leads i turn (places_from (operand (base s u t g loadable leads i turn).frame tag off (n + 2)) 2) nobody ⊎ IsCoarse s u t g loadable leads i turn
+      → IsRowCovered s u t g loadable leads i turn (row i f turn.public turn.around)
   storei_covered o =
       elim o [
         | inl w ↦ few_case w
@@ -232,8 +233,8 @@ module _ (tag : ℕ) (off : ℤ) (n : ℕ) (s : Setting) (t : Tables) (g : Targe
       ]
 
 storei_case : (tag : ℕ) (off : ℤ) (n : ℕ) → ChoiceCase (ins.Storei tag off n)
-storei_case tag off n s t g loadable closed turn includes =
-    storei_covered tag off n s t g loadable closed turn (few_or_many s t g loadable closed (ins.Storei tag off n) turn nobody (λ f. refl) (alone turn.place.start) includes)
+storei_case tag off n s u t g loadable leads turn includes =
+    storei_covered tag off n s u t g loadable leads turn (few_or_many s u t g loadable leads (ins.Storei tag off n) turn nobody (λ f. refl) (alone turn.place.start) includes)
 
 -- the law of the row
 pub store_law : StoreLaw

@@ -18,23 +18,24 @@ use Rattle.model_prove.specs.Compares.{bytes_from}
 use Rattle.model_prove.specs.Keys.{Tables}
 use Rattle.model_prove.specs.Laws.{Among}
 use Rattle.model_prove.specs.Splits.{top_places, stand_in_stack}
-use Rattle.model_prove.specs.Work.{Work, Copies, NoFact, work}
+use Rattle.model_prove.specs.Work.{Work, Copies, Counted, NoFact, work}
 use Rattle.model_prove.specs.Reach.{Reach, Coarse, WritesWithin, reach_at, coarse, may_have_bad_length, may_miss, known_causes}
 use Rattle.model_prove.specs.Arrivals.{Setting, Arrival, fails}
-use Rattle.model_prove.specs.Steps.{Spot, any_bytes, row_arrivals, caused, primitive_of, coarse_for, coarse_done, coarse_around}
-use Rattle.model_prove.specs.Tables.{IsLoadable, includes_all, is_closed}
+use Rattle.model_prove.specs.Steps.{Spot, lowered, any_bytes, counted_sets, acted, with_flags, spots, caused, primitive_of, coarse_for, coarse_done, coarse_around}
+use Rattle.model_prove.specs.Tables.{IsLoadable, includes_all}
 use Rattle.model_prove.proofs.FactLemmas.{value_holds}
 use Rattle.law_prove.specs.Coverings.{parts_memory, frame_memory}
+use Rattle.law_prove.specs.Laws.{LeadsInto}
 use Rattle.law_prove.proofs.Alike.{Sized}
 use Rattle.law_prove.proofs.Moves.{turn_sized, copied_fit}
 use Rattle.law_prove.proofs.Plain.{above}
 use Rattle.law_prove.proofs.Seen.{FitSets, fit_any, fit_values}
 use Rattle.law_prove.proofs.Turns.{NoCause, blank}
-use Rattle.law_prove.proofs.Single.{going, Turn, here, there, IsRowCovered, one_copied}
+use Rattle.law_prove.proofs.Single.{going, Turn, here, there, IsRowCovered}
 use Rattle.law_prove_reach.proofs.Scenes.{with_bytes, fits_sized, same_outside, few_wait, pair_in, pair_is, same_pair, below_is, stack_inside}
 use Rattle.law_prove_reach.proofs.Reached.{is_within}
 use Rattle.law_prove_reach.proofs.Choices.{fetched_frame, memory, base, base_fits, Followed, IsCoarse}
-use Rattle.law_prove_reach.proofs.Rows.{known_of, causes_but, causes_of, one_unknown, chosen_there, IsWritten, chosen_row, IsReached, coarse_row}
+use Rattle.law_prove_reach.proofs.Rows.{known_of, causes_but, causes_of, one_led, chosen_there, IsWritten, chosen_row, IsReached, coarse_row}
 
 -- ---- what such a row is
 
@@ -92,12 +93,12 @@ under_by : (b : Bool) (xs ys : List (Abend × Bool)) → (b ≡ false → xs ≡
 under_by true xs ys same = refl
 under_by false xs ys same = ap first_cause (same refl)
 
-module _ (s : Setting) (t : Tables) (g : Target) (loadable : IsLoadable s.app) (closed : is_closed s t ≡ true) (i : Ins) (turn : Turn s t i) (o : Top) (fits : Around → Type 0) (top : IsTop i o fits) (real : fits turn.around) where
+module _ (s : Setting) (u t : Tables) (g : Target) (loadable : IsLoadable s.app) (leads : LeadsInto s u t) (i : Ins) (turn : Turn s u i) (o : Top) (fits : Around → Type 0) (top : IsTop i o fits) (real : fits turn.around) where
   abbrev f : Frame
-  f = fetched_frame s t g loadable closed i turn
+  f = fetched_frame s u t g loadable leads i turn
 
   abbrev m : Memory
-  m = memory s t g loadable closed i turn
+  m = memory s u t g loadable leads i turn
 
   abbrev d : ℕ
   d = turn.frame.dt - o.pops
@@ -123,7 +124,7 @@ module _ (s : Setting) (t : Tables) (g : Target) (loadable : IsLoadable s.app) (
   cs = causes_but o.arg (o.denied f.deny) (is_under f o.pops) (o.missed popped turn.around numbers) (o.range numbers)
 
   sized : Sized f turn.public
-  sized = turn_sized s t loadable i turn
+  sized = turn_sized s u loadable i turn
 
   over : is_under f o.pops ≡ false → dynamic_base + turn.frame.session + o.pops ≤ turn.frame.dt
   over none = above f o.pops none
@@ -143,12 +144,12 @@ module _ (s : Setting) (t : Tables) (g : Target) (loadable : IsLoadable s.app) (
     pub long : length (o.bytes f turn.public turn.around) ≡ count
     pub bytes : AreBytes (o.bytes f turn.public turn.around)
     pub length_in : is_in count (o.lengths turn.place.known.bytes turn.frame.dt) ≡ true
-    pub stands : o.count (coarse_around turn.place.start) (number_below_top (base s t g loadable closed i turn).frame) ≤ 256
+    pub stands : o.count (coarse_around turn.place.start) (number_below_top (base s u t g loadable leads i turn).frame) ≤ 256
 
   -- ---- few choices
 
   module _ (x : Around) (good : fits x) (alike : (h : Frame) (v : Numbers) → o.missed h x v ≡ o.missed h turn.around v) (counted : (v : Numbers) → o.count x v ≡ o.count turn.around v)
-      (w : Followed s t g loadable closed i turn (top_places (base s t g loadable closed i turn).frame o.pops) x) where
+      (w : Followed s u t g loadable leads i turn (top_places (base s u t g loadable leads i turn).frame o.pops) x) where
     abbrev e : Frame
     e = with_bytes f w.fixed w.dyn
 
@@ -197,16 +198,16 @@ module _ (s : Setting) (t : Tables) (g : Target) (loadable : IsLoadable s.app) (
         ∙ ap (λ (n : ℕ). rest (o.missed popped turn.around numbers) (o.range numbers) to n) (counted stood_numbers ∙ top.same_count turn.around stood_numbers numbers a)))))
 
     -- the causes and the shape of the scene are followed
-    followed_is : includes_all t (caused (first_cause (cs ++ (A08, was) ∷ [])) s i (going d (Writes (stood_numbers o.to) count0 bytes0) (o.flags f.c)) (o.task stood_numbers) (here s t g loadable closed i turn) (chosen_there s t g loadable closed i turn w.known w.seen)) ≡ true
+    followed_is : includes_all t (caused (first_cause (cs ++ (A08, was) ∷ [])) s i (going d (Writes (stood_numbers o.to) count0 bytes0) (o.flags f.c)) (o.task stood_numbers) (here s u t g loadable leads i turn) (chosen_there s u t g loadable leads i turn w.known w.seen)) ≡ true
     followed_is =
-        let p : Spot = here s t g loadable closed i turn in
-        let q : Spot = chosen_there s t g loadable closed i turn w.known w.seen in
+        let p : Spot = here s u t g loadable leads i turn in
+        let q : Spot = chosen_there s u t g loadable leads i turn w.known w.seen in
         subst (λ (c : Option Abend). includes_all t (caused c s i (going d (Writes (stood_numbers o.to) count0 bytes0) (o.flags f.c)) (o.task stood_numbers) p q) ≡ true) first_same
         (subst (λ (h : Shape). includes_all t (caused (first_cause (causes i e w.public x)) s i h (o.task stood_numbers) p q) ≡ true) (top.shaped e w.public x good)
         (subst (λ (z : Work). includes_all t (caused (first_cause (causes i e w.public x)) s i (shape i e w.public x) z p q) ≡ true) (top.works e w.public) w.is))
 
     written : (ss : List Set) → (NoCause cs → Ready) → (NoCause cs → FitSets (o.bytes f turn.public turn.around) ss) → NoCause cs
-        → IsWritten s t g loadable closed i turn was d (stood_numbers o.to) to count (o.bytes f turn.public turn.around) ss
+        → IsWritten s u t g loadable leads i turn was d (stood_numbers o.to) to count (o.bytes f turn.public turn.around) ss
     written ss ready fit none =
         let is : Ready = ready none in
         let enough = over none.1.1.0 in
@@ -222,40 +223,54 @@ module _ (s : Setting) (t : Tables) (g : Target) (loadable : IsLoadable s.app) (
           high = omega (arith, highest);
         }
 
-    -- a row whose result has no fact
-    pub result_row : (NoCause cs → Ready) → o.task stood_numbers ≡ NoFact → (NoCause cs → length bytes0 ≡ count) → IsRowCovered s t g loadable closed i turn (row i f turn.public turn.around)
-    result_row ready task size =
-        let p : Spot = here s t g loadable closed i turn in
-        let q : Spot = chosen_there s t g loadable closed i turn w.known w.seen in
-        chosen_row s t g loadable closed i turn w.known w.seen cs was d (stood_numbers o.to) count0 to count bytes0 (o.bytes f turn.public turn.around) (o.flags f.c) (o.task stood_numbers) (any_bytes (length bytes0)) followed_is
+    -- what it does in the scene
+    abbrev pub act0 : Act
+    act0 = Writes (stood_numbers o.to) count0 bytes0
+
+    -- a work leads to one place, with values of these sets of the bytes that are written
+    abbrev pub LeadsTo : Work → List Set → Type 0
+    LeadsTo z ss =
+        let q : Spot = chosen_there s u t g loadable leads i turn w.known w.seen in
+        spots s (going d act0 (o.flags f.c)) z q ≡ with_flags (o.flags f.c) (acted s act0 ss (lowered d q)) ∷ []
+
+    -- a row whose work leads to one place, if what it writes is of these sets
+    pub one_row : (ss : List Set) → (NoCause cs → Ready) → LeadsTo (o.task stood_numbers) ss → (NoCause cs → FitSets (o.bytes f turn.public turn.around) ss) → IsRowCovered s u t g loadable leads i turn (row i f turn.public turn.around)
+    one_row ss ready one fit =
+        let p : Spot = here s u t g loadable leads i turn in
+        let q : Spot = chosen_there s u t g loadable leads i turn w.known w.seen in
+        chosen_row s u t g loadable leads i turn w.known w.seen cs was d (stood_numbers o.to) count0 to count bytes0 (o.bytes f turn.public turn.around) (o.flags f.c) (o.task stood_numbers) ss followed_is
         (top.cause f turn.public turn.around real) (top.shaped f turn.public turn.around real)
-        (λ all. one_unknown s t i d (stood_numbers o.to) count0 bytes0 (o.flags f.c) p q
-        (subst (λ (z : Work). includes_all t (row_arrivals false s i (going d (Writes (stood_numbers o.to) count0 bytes0) (o.flags f.c)) z p q) ≡ true) task all))
-        (written (any_bytes (length bytes0)) ready (λ none.
+        (λ all. one_led s t i d act0 (o.flags f.c) (o.task stood_numbers) ss p q one all) (written ss ready fit)
+
+    -- a row whose result has no fact
+    pub result_row : (NoCause cs → Ready) → o.task stood_numbers ≡ NoFact → (NoCause cs → length bytes0 ≡ count) → IsRowCovered s u t g loadable leads i turn (row i f turn.public turn.around)
+    result_row ready task size =
+        let b = o.bytes f turn.public turn.around in
+        let ss : List Set = any_bytes (length bytes0) in
+        one_row ss ready (subst (λ (z : Work). LeadsTo z ss) (sym task) refl) (λ none.
         let is : Ready = ready none in
-        subst (λ (n : ℕ). FitSets (o.bytes f turn.public turn.around) (any_bytes n)) (is.long ∙ sym (size none)) (fit_any (o.bytes f turn.public turn.around) is.bytes)))
+        subst (λ (n : ℕ). FitSets b (any_bytes n)) (is.long ∙ sym (size none)) (fit_any b is.bytes))
+
+    -- a row whose result stands behind its number
+    pub counted_row : (NoCause cs → Ready) → o.task stood_numbers ≡ Counted → (NoCause cs → FitSets (o.bytes f turn.public turn.around) (counted_sets bytes0)) → IsRowCovered s u t g loadable leads i turn (row i f turn.public turn.around)
+    counted_row ready task fit = one_row (counted_sets bytes0) ready (subst (λ (z : Work). LeadsTo z (counted_sets bytes0)) (sym task) refl) fit
 
     -- a row that copies bytes from an address that the stack has
     pub copy_row : (from : ℕ) → 2 ≤ from → from ≤ o.pops → (NoCause cs → Ready) → o.task stood_numbers ≡ Copies (stood_numbers from) → (NoCause cs → o.bytes f turn.public turn.around ≡ bytes_from m (numbers from) count)
-        → (NoCause cs → length bytes0 ≡ count) → IsRowCovered s t g loadable closed i turn (row i f turn.public turn.around)
+        → (NoCause cs → length bytes0 ≡ count) → IsRowCovered s u t g loadable leads i turn (row i f turn.public turn.around)
     copy_row from low high ready task read size =
-        let p : Spot = here s t g loadable closed i turn in
-        let q : Spot = chosen_there s t g loadable closed i turn w.known w.seen in
         let a = stood_numbers from in
         let b = o.bytes f turn.public turn.around in
         let k : Facts = w.known.bytes in
-        chosen_row s t g loadable closed i turn w.known w.seen cs was d (stood_numbers o.to) count0 to count bytes0 b (o.flags f.c) (o.task stood_numbers) (values_from k a (length bytes0)) followed_is
-        (top.cause f turn.public turn.around real) (top.shaped f turn.public turn.around real)
-        (λ all. one_copied s t i d (Writes (stood_numbers o.to) count0 bytes0) (o.flags f.c) a p q
-        (subst (λ (z : Work). includes_all t (row_arrivals false s i (going d (Writes (stood_numbers o.to) count0 bytes0) (o.flags f.c)) z p q) ≡ true) task all))
-        (written (values_from k a (length bytes0)) ready (λ none.
+        let ss : List Set = values_from k a (length bytes0) in
+        one_row ss ready (subst (λ (z : Work). LeadsTo z ss) (sym task) refl) (λ none.
         subst (λ (j : ℕ). FitSets b (values_from k j (length bytes0))) (sym (agree none.1.1.0 from low high))
-        (copied_fit k m (numbers from) count (length bytes0) b (read none) (size none) (fit_values k m (numbers from) count w.seen.holds turn.place.bytes))))
+        (copied_fit k m (numbers from) count (length bytes0) b (read none) (size none) (fit_values k m (numbers from) count w.seen.holds turn.place.bytes)))
 
   -- ---- too many choices
 
   abbrev l : Frame
-  l = (base s t g loadable closed i turn).frame
+  l = (base s u t g loadable leads i turn).frame
 
   abbrev r : Reach
   r = reach_at turn.place.known.bytes (turn.frame.dt - o.to) (o.lengths turn.place.known.bytes turn.frame.dt)
@@ -266,13 +281,13 @@ module _ (s : Setting) (t : Tables) (g : Target) (loadable : IsLoadable s.app) (
   abbrev stands : Bool
   stands = too_many (frame_after_pop l o.pops) (number_below_top l o.to) (o.count far (number_below_top l))
 
-  reached : is_under f o.pops ≡ false → Ready → IsReached s t g loadable closed i turn r stands d to count (o.bytes f turn.public turn.around)
+  reached : is_under f o.pops ≡ false → Ready → IsReached s u t g loadable leads i turn r stands d to count (o.bytes f turn.public turn.around)
   reached none is =
       let enough = over none in
       let highest : turn.frame.dt ≤ dynamic_end = top_high in
       let fixed = zeros (length turn.frame.fixed) in
       let dyn = stand_in_stack turn.place.calls in
-      let size : length fixed ≡ length turn.frame.fixed = (base_fits s t g loadable closed i turn).size in
+      let size : length fixed ≡ length turn.frame.fixed = (base_fits s u t g loadable leads i turn).size in
       let a = turn.frame.dt - o.to in
       let first : m a < 256 = turn.place.bytes a in
       let second : m (suc a) < 256 = turn.place.bytes (suc a) in
@@ -303,10 +318,10 @@ module _ (s : Setting) (t : Tables) (g : Target) (loadable : IsLoadable s.app) (
       outside_by false c e = e
 
   -- a row of too many choices is covered, if what it writes is ready
-  pub coarse_top : IsCoarse s t g loadable closed i turn → fits far → (NoCause cs → Ready) → IsRowCovered s t g loadable closed i turn (row i f turn.public turn.around)
+  pub coarse_top : IsCoarse s u t g loadable leads i turn → fits far → (NoCause cs → Ready) → IsRowCovered s u t g loadable leads i turn (row i f turn.public turn.around)
   coarse_top includes good ready =
-      let p : Spot = here s t g loadable closed i turn in
-      let q : Spot = there s t g loadable closed i turn in
+      let p : Spot = here s u t g loadable leads i turn in
+      let q : Spot = there s u t g loadable leads i turn in
       let a0 : Act = Writes (number_below_top l o.to) (o.count far (number_below_top l)) (o.bytes l blank far) in
       let arrivals : Shape → Coarse → Bool → Option Abend → List Arrival = λ h c bad first.
       (cond (may_miss (primitive_of i) (coarse_for h.act c)) (fails s p.key p.known A03) []) ++ (cond bad (fails s p.key p.known A06) []) ++ coarse_done first s i (record l { dt = h.dt }) h (coarse_for h.act c) p q
@@ -317,6 +332,6 @@ module _ (s : Setting) (t : Tables) (g : Target) (loadable : IsLoadable s.app) (
       let first = first_cause (known_of o.arg (o.denied f.deny) (is_under f o.pops) stands) in
       let three = subst (λ (h : Shape). includes_all t (arrivals h (coarse i l turn.place.known.bytes) o.bad first) ≡ true) (top.shaped l blank far good) two in
       let four : includes_all t (arrivals shaped (WritesWithin r) o.bad first) ≡ true = subst (λ (c : Coarse). includes_all t (arrivals shaped c o.bad first) ≡ true) (top.reaches l turn.place.known.bytes) three in
-      coarse_row s t g loadable closed i turn o.bad o.arg (o.denied f.deny) (is_under f o.pops) (o.missed popped turn.around numbers) (o.range numbers) r stands d to count a0 (o.bytes f turn.public turn.around) (o.flags f.c) four
+      coarse_row s u t g loadable leads i turn o.bad o.arg (o.denied f.deny) (is_under f o.pops) (o.missed popped turn.around numbers) (o.range numbers) r stands d to count a0 (o.bytes f turn.public turn.around) (o.flags f.c) four
       (top.cause f turn.public turn.around real) (top.shaped f turn.public turn.around real) (top.ranges numbers)
       (λ arg allowed under missed range. reached under (ready (arg, (allowed, (under, (missed, (range, tt)))))))

@@ -25,10 +25,10 @@ use Rattle.model_prove.specs.Reach.{Coarse, coarse, is_known_cause, known_causes
 use Rattle.model_prove.specs.Work.{Work, work}
 use Rattle.model_prove.specs.Arrivals.{Setting, Arrival, fails}
 use Rattle.model_prove.specs.Steps.{Spot, lowered, acted, inside, chosen, settled_spot, makes_write, row_arrivals, caused, instruction, arounds, primitive_of, with_choice, with_first_choice, coarse_for, coarse_done, coarse_arrivals, coarse_around, by_choices, fetched, is_return, no_calls}
-use Rattle.model_prove.specs.Tables.{IsLoadable, includes_all, is_closed}
+use Rattle.model_prove.specs.Tables.{IsLoadable, includes_all}
 use Rattle.model_prove.proofs.ChangeLemmas.{choice_is_there}
 use Rattle.law_prove.specs.Coverings.{frame_memory}
-use Rattle.law_prove.specs.Laws.{RowLaw}
+use Rattle.law_prove.specs.Laws.{LeadsInto, LeadLaw}
 use Rattle.law_prove.proofs.Closed.{included_first}
 use Rattle.law_prove.proofs.Places.{fails_by}
 use Rattle.law_prove.proofs.Seen.{FitSets, Seen}
@@ -58,13 +58,13 @@ few_is : (b : Bool) (all cs : List Choice) → few_if b all ≡ Some cs → all 
 few_is true all cs e = cc e
 few_is false all cs e = absurd (cc e)
 
-module _ (s : Setting) (t : Tables) (g : Target) (loadable : IsLoadable s.app) (closed : is_closed s t ≡ true) (i : Ins) (turn : Turn s t i) where
+module _ (s : Setting) (u t : Tables) (g : Target) (loadable : IsLoadable s.app) (leads : LeadsInto s u t) (i : Ins) (turn : Turn s u i) where
   -- the places before and after the fetch
   abbrev pub before : Spot
-  before = here s t g loadable closed i turn
+  before = here s u t g loadable leads i turn
 
   abbrev pub after_fetch : Spot
-  after_fetch = there s t g loadable closed i turn
+  after_fetch = there s u t g loadable leads i turn
 
   -- the frame after the fetch, and its bytes
   abbrev pub real : Frame
@@ -82,19 +82,19 @@ module _ (s : Setting) (t : Tables) (g : Target) (loadable : IsLoadable s.app) (
   places = inside stand (deciders i stand.frame)
 
   -- a row that was done is covered by an outcome that is included
-  outcome_covered : (m : Shape) → IsByteEffect (shape_effect m real turn.public) → Outcome s t g loadable closed i turn m → IsRowCovered s t g loadable closed i turn (Does (effect_and_next (shape_effect m real turn.public)))
+  outcome_covered : (m : Shape) → IsByteEffect (shape_effect m real turn.public) → Outcome s u t g loadable leads i turn m → IsRowCovered s u t g loadable leads i turn (Does (effect_and_next (shape_effect m real turn.public)))
   outcome_covered m bytes o =
       let d : Effect = shape_effect m real turn.public in
       let w = makes_write s turn.frame.protected m.act in
-      goes_covered s t g loadable closed turn.entry turn.history turn.frame turn.public turn.depth turn.place turn.deep i d (settled_spot s o.spot) w (ap (λ (k : PlaceKey). k.start) o.led.key)
+      goes_covered s u t g loadable leads turn.entry turn.history turn.frame turn.public turn.depth turn.place turn.deep i d (settled_spot s o.spot) w (ap (λ (k : PlaceKey). k.start) o.led.key)
       (led_covers s turn.place.start turn.place.standing.allowances o.spot w d o.led) (frame_of s.app d.frame o.led.framed bytes.frame) (memory_of_bytes d.frame d.public bytes.frame bytes.public) bytes.frame.stack o.led.writes o.included
 
-  pub outcome_done : (d : ℕ) (a : Act) (fl : Option (Bool × Bool)) → shape i real turn.public turn.around ≡ going d a fl → Outcome s t g loadable closed i turn (going d a fl)
-      → IsRowCovered s t g loadable closed i turn (Does (effect i real turn.public turn.around))
+  pub outcome_done : (d : ℕ) (a : Act) (fl : Option (Bool × Bool)) → shape i real turn.public turn.around ≡ going d a fl → Outcome s u t g loadable leads i turn (going d a fl)
+      → IsRowCovered s u t g loadable leads i turn (Does (effect i real turn.public turn.around))
   outcome_done d a fl is o =
       let m : Shape = going d a fl in
       let same : effect i real turn.public turn.around ≡ meaning m real turn.public = shapes i real turn.public turn.around ∙ ap (λ (z : Shape). meaning z real turn.public) is in
-      subst (λ (e : Done). IsRowCovered s t g loadable closed i turn (Does e)) (sym same) (outcome_covered m (shape_bytes s t g loadable closed i turn m is turn.after) o)
+      subst (λ (e : Done). IsRowCovered s u t g loadable leads i turn (Does e)) (sym same) (outcome_covered m (shape_bytes s u t g loadable leads i turn m is turn.after) o)
 
   -- ---- what is known
 
@@ -116,20 +116,20 @@ module _ (s : Setting) (t : Tables) (g : Target) (loadable : IsLoadable s.app) (
   module _ (facts : Facts) (h : Holds facts memory) (d : ℕ) (low : dynamic_base + turn.frame.session ≤ d) (high : d ≤ dynamic_end) where
     pub knowing_stays : (ss : List Set) → Led s turn.place.start turn.place.standing.allowances (acted s Stays ss (lowered d (knowing_spot facts))) false (act_effect Stays (record real { dt = d }) turn.public)
     knowing_stays ss =
-        stays_led s loadable.static turn.place.start turn.place.standing.allowances (record real { dt = d }) turn.public (calls_below d turn.place.calls) (lowered d (knowing_spot facts)).known ss (low_framed s t g loadable closed i turn d low high) (knowing_low facts d h)
+        stays_led s loadable.static turn.place.start turn.place.standing.allowances (record real { dt = d }) turn.public (calls_below d turn.place.calls) (lowered d (knowing_spot facts)).known ss (low_framed s u t g loadable leads i turn d low high) (knowing_low facts d h)
 
     pub knowing_pushes : (b : List ℕ) (ss : List Set) → FitSets b ss → d + length b ≤ dynamic_end → Led s turn.place.start turn.place.standing.allowances (acted s (Pushes b) ss (lowered d (knowing_spot facts))) false (act_effect (Pushes b) (record real { dt = d }) turn.public)
     knowing_pushes b ss fit over =
-        pushes_led s loadable.static turn.place.start turn.place.standing.allowances (record real { dt = d }) turn.public (calls_below d turn.place.calls) (lowered d (knowing_spot facts)).known b ss fit over (low_framed s t g loadable closed i turn d low high) (knowing_low facts d h)
+        pushes_led s loadable.static turn.place.start turn.place.standing.allowances (record real { dt = d }) turn.public (calls_below d turn.place.calls) (lowered d (knowing_spot facts)).known b ss fit over (low_framed s u t g loadable leads i turn d low high) (knowing_low facts d h)
 
     pub knowing_replaces : (b : List ℕ) (ss : List Set) → FitSets b ss → dynamic_base + length b ≤ d → Led s turn.place.start turn.place.standing.allowances (acted s (Replaces b) ss (lowered d (knowing_spot facts))) false (act_effect (Replaces b) (record real { dt = d }) turn.public)
     knowing_replaces b ss fit over =
-        replaces_led s loadable.static turn.place.start turn.place.standing.allowances (record real { dt = d }) turn.public (calls_below d turn.place.calls) (lowered d (knowing_spot facts)).known b ss fit over (low_framed s t g loadable closed i turn d low high) (knowing_low facts d h)
+        replaces_led s loadable.static turn.place.start turn.place.standing.allowances (record real { dt = d }) turn.public (calls_below d turn.place.calls) (lowered d (knowing_spot facts)).known b ss fit over (low_framed s u t g loadable leads i turn d low high) (knowing_low facts d h)
 
   -- ---- the segments
 
   pub sized : Sized real turn.public
-  sized = turn_sized s t loadable i turn
+  sized = turn_sized s u loadable i turn
 
   pub stand_is : IsScene real stand
   stand_is =
@@ -227,40 +227,40 @@ module _ (s : Setting) (t : Tables) (g : Target) (loadable : IsLoadable s.app) (
   pub chosen_row : (z : Chosen) → first_cause (causes i (drawn real z.fixed z.dyn) z.public nobody) ≡ first_cause (causes i real turn.public turn.around)
       → (NoCause (causes i real turn.public turn.around)
       → includes_all t (row_arrivals (is_return (shape i (drawn real z.fixed z.dyn) z.public nobody).act && no_calls turn.place.calls) s i (shape i (drawn real z.fixed z.dyn) z.public nobody) (work i (drawn real z.fixed z.dyn) z.public) before (knowing_spot z.facts)) ≡ true
-      → IsRowCovered s t g loadable closed i turn (Does (effect i real turn.public turn.around)))
-      → IsRowCovered s t g loadable closed i turn (row i real turn.public turn.around)
+      → IsRowCovered s u t g loadable leads i turn (Does (effect i real turn.public turn.around)))
+      → IsRowCovered s u t g loadable leads i turn (row i real turn.public turn.around)
   unfolding row
   chosen_row z same done =
       let m : Shape = shape i (drawn real z.fixed z.dyn) z.public nobody in
       let w : Work = work i (drawn real z.fixed z.dyn) z.public in
-      walked s t g loadable closed turn.entry turn.history turn.frame turn.public turn.depth turn.place turn.deep i (knowing_spot z.facts) (causes i real turn.public turn.around) m w (effect i real turn.public turn.around)
+      walked s u t g loadable leads turn.entry turn.history turn.frame turn.public turn.depth turn.place turn.deep i (knowing_spot z.facts) (causes i real turn.public turn.around) m w (effect i real turn.public turn.around)
       (subst (λ (o : Option Abend). includes_all t (caused o s i m w before (knowing_spot z.facts)) ≡ true) same z.included) done
 
   -- ---- too many combinations
 
   -- the coarse outcomes are included
   abbrev pub IsCoarse : Type 0
-  IsCoarse = includes_all t (coarse_arrivals s i (blank_scene (scene s t g loadable closed i turn)) before after_fetch (coarse_around turn.place.start)) ≡ true
+  IsCoarse = includes_all t (coarse_arrivals s i (blank_scene (scene s u t g loadable leads i turn)) before after_fetch (coarse_around turn.place.start)) ≡ true
 
   -- causes that the key does not decide are among the outcomes
   abbrev pub AreIncluded : Bool → List (Abend × Bool) → Type 0
   AreIncluded bad cs = AllByRecursion (λ c. is_known_cause bad c.0 ≡ false → includes_all t (fails s before.key before.known c.0) ≡ true) cs
 
-  abend_covered : (c : Abend) → includes_all t (fails s before.key before.known c) ≡ true → (d : Done) → IsRowCovered s t g loadable closed i turn (row_end (Some c) d)
-  abend_covered c includes d = fails_by s t g loadable closed turn.entry turn.history turn.frame turn.public turn.place c s.rules.abends before.key refl refl refl includes
+  abend_covered : (c : Abend) → includes_all t (fails s before.key before.known c) ≡ true → (d : Done) → IsRowCovered s u t g loadable leads i turn (row_end (Some c) d)
+  abend_covered c includes d = fails_by s u t g loadable leads turn.entry turn.history turn.frame turn.public turn.place c s.rules.abends before.key refl refl refl includes
 
   module _ (bad : Bool) (h : Shape) (c : Coarse) (fr : Frame) (d : Done) where
     coarse_by : (k b : Bool) (a : Abend) (cs : List (Abend × Bool)) → is_known_cause bad a ≡ k → (is_known_cause bad a ≡ false → includes_all t (fails s before.key before.known a) ≡ true)
         → includes_all t (coarse_done (first_cause (cond k ((a, b) ∷ known_causes bad cs) (known_causes bad cs))) s i fr h c before after_fetch) ≡ true
-        → (b ≡ false → includes_all t (coarse_done (first_cause (known_causes bad cs)) s i fr h c before after_fetch) ≡ true → IsRowCovered s t g loadable closed i turn (row_end (first_cause cs) d))
-        → IsRowCovered s t g loadable closed i turn (row_end (cond b (Some a) (first_cause cs)) d)
+        → (b ≡ false → includes_all t (coarse_done (first_cause (known_causes bad cs)) s i fr h c before after_fetch) ≡ true → IsRowCovered s u t g loadable leads i turn (row_end (first_cause cs) d))
+        → IsRowCovered s u t g loadable leads i turn (row_end (cond b (Some a) (first_cause cs)) d)
     coarse_by true true a cs e unknown includes rest = abend_covered a includes d
     coarse_by true false a cs e unknown includes rest = rest refl includes
     coarse_by false true a cs e unknown includes rest = abend_covered a (unknown e) d
     coarse_by false false a cs e unknown includes rest = rest refl includes
 
     coarse_walked : (cs : List (Abend × Bool)) → AreIncluded bad cs → includes_all t (coarse_done (first_cause (known_causes bad cs)) s i fr h c before after_fetch) ≡ true
-        → (NoCause cs → includes_all t (coarse_done None s i fr h c before after_fetch) ≡ true → IsRowCovered s t g loadable closed i turn (Does d)) → IsRowCovered s t g loadable closed i turn (row_end (first_cause cs) d)
+        → (NoCause cs → includes_all t (coarse_done None s i fr h c before after_fetch) ≡ true → IsRowCovered s u t g loadable leads i turn (Does d)) → IsRowCovered s u t g loadable leads i turn (row_end (first_cause cs) d)
     coarse_walked [] unknown includes done = done tt includes
     coarse_walked (x ∷ cs) unknown includes done =
         coarse_by (is_known_cause bad x.0) x.1 x.0 cs refl unknown.0 includes (λ none more. coarse_walked cs unknown.1 more (λ others. done (none, others)))
@@ -268,19 +268,19 @@ module _ (s : Setting) (t : Tables) (g : Target) (loadable : IsLoadable s.app) (
   -- a row by its causes: each that the key does not decide is included, and those that it decides are the machine's
   pub coarse_row : (bad : Bool) (h : Shape) (c : Coarse) (fr : Frame) (cs : List (Abend × Bool)) → causes i real turn.public turn.around ≡ cs → AreIncluded bad cs
       → includes_all t (coarse_done (first_cause (known_causes bad cs)) s i fr h c before after_fetch) ≡ true
-      → (NoCause cs → includes_all t (coarse_done None s i fr h c before after_fetch) ≡ true → IsRowCovered s t g loadable closed i turn (Does (effect i real turn.public turn.around)))
-      → IsRowCovered s t g loadable closed i turn (row i real turn.public turn.around)
+      → (NoCause cs → includes_all t (coarse_done None s i fr h c before after_fetch) ≡ true → IsRowCovered s u t g loadable leads i turn (Does (effect i real turn.public turn.around)))
+      → IsRowCovered s u t g loadable leads i turn (row i real turn.public turn.around)
   unfolding row
   coarse_row bad h c fr cs is unknown includes done =
-      subst (λ (z : List (Abend × Bool)). IsRowCovered s t g loadable closed i turn (row_end (first_cause z) (effect i real turn.public turn.around))) (sym is)
+      subst (λ (z : List (Abend × Bool)). IsRowCovered s u t g loadable leads i turn (row_end (first_cause z) (effect i real turn.public turn.around))) (sym is)
       (coarse_walked bad h c fr (effect i real turn.public turn.around) cs unknown includes done)
 
   -- the coarse outcomes, by what the row is
-  pub rough_is : (miss bad : Bool) (h : Shape) (cs : List (Abend × Bool)) (c : Coarse) → let l : Frame = scene s t g loadable closed i turn in let x : Around = coarse_around turn.place.start in
+  pub rough_is : (miss bad : Bool) (h : Shape) (cs : List (Abend × Bool)) (c : Coarse) → let l : Frame = scene s u t g loadable leads i turn in let x : Around = coarse_around turn.place.start in
       may_have_bad_length (primitive_of i) ≡ bad → shape i l blank x ≡ h → coarse_for h.act (coarse i l turn.place.known.bytes) ≡ c → may_miss (primitive_of i) c ≡ miss → causes i l blank x ≡ cs → IsCoarse
       → includes_all t (coarse_list s i miss bad h cs c l before after_fetch) ≡ true
   rough_is miss bad h cs c bad_is form rough miss_is cause includes =
-      let l : Frame = scene s t g loadable closed i turn in
+      let l : Frame = scene s u t g loadable leads i turn in
       let x : Around = coarse_around turn.place.start in
       let o : Option Primitive = primitive_of i in
       let c0 : Coarse = coarse i l turn.place.known.bytes in
@@ -309,24 +309,24 @@ module _ (s : Setting) (t : Tables) (g : Target) (loadable : IsLoadable s.app) (
 -- An instruction is covered with the values that decide it, and coarsely.
 pub record IsDecided (i : Ins) : Type 0 where
   pub asks : arounds Delegated (primitive_of i) ≡ arounds Delegated None
-  pub few : (s : Setting) (t : Tables) (g : Target) (loadable : IsLoadable s.app) (closed : is_closed s t ≡ true) (turn : Turn s t i) → Chosen s t g loadable closed i turn
-      → IsRowCovered s t g loadable closed i turn (row i (frame_at turn.frame turn.next) turn.public turn.around)
-  pub many : (s : Setting) (t : Tables) (g : Target) (loadable : IsLoadable s.app) (closed : is_closed s t ≡ true) (turn : Turn s t i)
-      → few_combinations turn.place.known.bytes (places s t g loadable closed i turn) ≡ None → IsCoarse s t g loadable closed i turn
-      → IsRowCovered s t g loadable closed i turn (row i (frame_at turn.frame turn.next) turn.public turn.around)
+  pub few : (s : Setting) (u t : Tables) (g : Target) (loadable : IsLoadable s.app) (leads : LeadsInto s u t) (turn : Turn s u i) → Chosen s u t g loadable leads i turn
+      → IsRowCovered s u t g loadable leads i turn (row i (frame_at turn.frame turn.next) turn.public turn.around)
+  pub many : (s : Setting) (u t : Tables) (g : Target) (loadable : IsLoadable s.app) (leads : LeadsInto s u t) (turn : Turn s u i)
+      → few_combinations turn.place.known.bytes (places s u t g loadable leads i turn) ≡ None → IsCoarse s u t g loadable leads i turn
+      → IsRowCovered s u t g loadable leads i turn (row i (frame_at turn.frame turn.next) turn.public turn.around)
 
 -- what was fetched is the choices of the deciding bytes, and no target
 abbrev pub IsSplit : Ins → Type 0
 IsSplit i =
-    (s : Setting) (t : Tables) (g : Target) (loadable : IsLoadable s.app) (closed : is_closed s t ≡ true) (turn : Turn s t i) → includes_all t (fetched s (before s t g loadable closed i turn) (Ok (i, turn.next))) ≡ true
-    → includes_all t (by_choices (few_combinations turn.place.known.bytes (places s t g loadable closed i turn)) false s i (stand s t g loadable closed i turn) (before s t g loadable closed i turn) (after_fetch s t g loadable closed i turn)) ≡ true
+    (s : Setting) (u t : Tables) (g : Target) (loadable : IsLoadable s.app) (leads : LeadsInto s u t) (turn : Turn s u i) → includes_all t (fetched s (before s u t g loadable leads i turn) (Ok (i, turn.next))) ≡ true
+    → includes_all t (by_choices (few_combinations turn.place.known.bytes (places s u t g loadable leads i turn)) false s i (stand s u t g loadable leads i turn) (before s u t g loadable leads i turn) (after_fetch s u t g loadable leads i turn)) ≡ true
 
 -- such an instruction is covered in each of its turns
-pub law_of : (i : Ins) → IsSplit i → IsDecided i → RowLaw i
-law_of i split decided r g t loadable closed e h f public depth x next p entry deep names segment at =
+pub law_of : (i : Ins) → IsSplit i → IsDecided i → LeadLaw i
+law_of i split decided r g u t loadable leads e h f public depth x next p entry deep names segment at =
     let s : Setting = record { rules = r; app = g.app } in
-    let decoded : Decodes s.app.code f.at i next = decoded_at s t g loadable closed f i next at in
-    let turn : Turn s t i = record {
+    let decoded : Decodes s.app.code f.at i next = decoded_at s u t g loadable leads f i next at in
+    let turn : Turn s u i = record {
       entry = e;
       history = h;
       frame = f;
@@ -342,10 +342,10 @@ law_of i split decided r g t loadable closed e h f public depth x next p entry d
       shaped = decoded.shaped;
       after_it = decoded.place;
       inside = decoded.inside;
-      after = leaves_bytes s t g loadable closed f public i next x at p.frame p.dynamic (segment.1 tt) names;
+      after = leaves_bytes s u t g loadable leads f public i next x at p.frame p.dynamic (segment.1 tt) names;
     }
     in
-    elim (split_by s t g loadable closed i turn (few_combinations turn.place.known.bytes (places s t g loadable closed i turn)) decided.asks refl (split s t g loadable closed turn (included_at s t g loadable closed e h f public i next p at))) [
-      | inl chosen ↦ decided.few s t g loadable closed turn chosen
-      | inr coarse ↦ decided.many s t g loadable closed turn coarse.0 coarse.1
+    elim (split_by s u t g loadable leads i turn (few_combinations turn.place.known.bytes (places s u t g loadable leads i turn)) decided.asks refl (split s u t g loadable leads turn (included_at s u t g loadable leads e h f public i next p at))) [
+      | inl chosen ↦ decided.few s u t g loadable leads turn chosen
+      | inr coarse ↦ decided.many s u t g loadable leads turn coarse.0 coarse.1
     ]

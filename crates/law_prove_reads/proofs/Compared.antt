@@ -30,8 +30,8 @@ use Rattle.model_prove.specs.Work.{AtAddress, Digitwise, Work, Works, work}
 use Rattle.model_prove.specs.Arrivals.{Setting, Arrival, fails}
 use Rattle.model_prove.specs.Steps.{Spot, lowered, flagged, final_flags, works_to, worked_at, narrowed_operands, operand_narrowed, pairs_of, allows, compare_after, uncompared, order_flags, settled_spot, follows, row_arrivals, primitive_of, is_return, no_calls, coarse_for, coarse_done}
 use Rattle.model_prove.specs.Steps as steps
-use Rattle.model_prove.specs.Tables.{IsLoadable, includes_all, is_closed}
-use Rattle.law_prove.specs.Laws.{RowLaw}
+use Rattle.model_prove.specs.Tables.{IsLoadable, includes_all}
+use Rattle.law_prove.specs.Laws.{LeadsInto, LeadLaw}
 use Rattle.law_prove.proofs.Closed.{included_first, included_second}
 use Rattle.law_prove.proofs.Seen.{fit_values, Seen}
 use Rattle.law_prove.proofs.Acts.{spot_of, Led, stays_led, flags_led, lowered_seen}
@@ -112,9 +112,9 @@ module _ (at n other : ℕ) where
       (subst (λ (o : Option (List Digits)). Among (flagged true f x) (map (flagged true f) (steps.worked taken f o q))) (sym is)
       (among_mapped (flagged true f) x (steps.worked taken f (Some ds) q) there)))
 
-  module _ (s : Setting) (t : Tables) (g : Target) (loadable : IsLoadable s.app) (closed : is_closed s t ≡ true) (i : Ins) (turn : Turn s t i) where
+  module _ (s : Setting) (u t : Tables) (g : Target) (loadable : IsLoadable s.app) (leads : LeadsInto s u t) (i : Ins) (turn : Turn s u i) where
     abbrev m : Memory
-    m = memory s t g loadable closed i turn
+    m = memory s u t g loadable leads i turn
 
     abbrev xs : List ℕ
     xs = bytes_from m at n
@@ -146,26 +146,26 @@ module _ (at n other : ℕ) where
         (below (worked Minus xs ys).0 (worked_bytes Minus xs ys same_length first_bytes second_bytes) (worked_length Minus xs ys same_length ∙ from_length m at n)) (runs refl) (worked_zero Minus xs ys same_length)
 
     -- a row that leaves the frame but for its stack and its flags
-    stays_with : (k : Known) (c z : Bool) (d : ℕ) → Seen turn.place.calls k (real s t g loadable closed i turn) turn.public → dynamic_base + turn.frame.session ≤ d → d ≤ dynamic_end
-        → Led s turn.place.start turn.place.standing.allowances (flagged true (record { c = c; z = z }) (lowered d (spot_of turn.place.start turn.place.standing.allowances (real s t g loadable closed i turn) turn.place.calls k))) false
-        (record { frame = record (real s t g loadable closed i turn) { dt = d; c = c; z = z }; public = turn.public; changes = None })
+    stays_with : (k : Known) (c z : Bool) (d : ℕ) → Seen turn.place.calls k (real s u t g loadable leads i turn) turn.public → dynamic_base + turn.frame.session ≤ d → d ≤ dynamic_end
+        → Led s turn.place.start turn.place.standing.allowances (flagged true (record { c = c; z = z }) (lowered d (spot_of turn.place.start turn.place.standing.allowances (real s u t g loadable leads i turn) turn.place.calls k))) false
+        (record { frame = record (real s u t g loadable leads i turn) { dt = d; c = c; z = z }; public = turn.public; changes = None })
     stays_with k c z d seen low high =
         let st = turn.place.start in
         let al = turn.place.standing.allowances in
-        let f = real s t g loadable closed i turn in
+        let f = real s u t g loadable leads i turn in
         let x : Spot = lowered d (spot_of st al f turn.place.calls k) in
         flags_led s st al x false (act_effect Stays (record f { dt = d }) turn.public) (Some (c, z))
-        (stays_led s loadable.static st al (record f { dt = d }) turn.public (calls_below d turn.place.calls) x.known [] (low_framed s t g loadable closed i turn d low high) (lowered_seen d st al f turn.public turn.place.calls k seen))
+        (stays_led s loadable.static st al (record f { dt = d }) turn.public (calls_below d turn.place.calls) x.known [] (low_framed s u t g loadable leads i turn d low high) (lowered_seen d st al f turn.public turn.place.calls k seen))
 
     -- the machine's comparison is one of those that are followed
     compared_outcome : (facts : Facts) → Holds facts m → (f0 : Option (Bool × Bool)) (d : ℕ) → dynamic_base + turn.frame.session ≤ d → d ≤ dynamic_end
-        → includes_all t (row_arrivals false s i (going d Stays f0) (Works taken) (before s t g loadable closed i turn) (knowing_spot s t g loadable closed i turn facts)) ≡ true → Outcome s t g loadable closed i turn (going d Stays (Some (fl.c, fl.z)))
+        → includes_all t (row_arrivals false s i (going d Stays f0) (Works taken) (before s u t g loadable leads i turn) (knowing_spot s u t g loadable leads i turn facts)) ≡ true → Outcome s u t g loadable leads i turn (going d Stays (Some (fl.c, fl.z)))
     compared_outcome facts holds f0 d low high includes =
         let st = turn.place.start in
         let al = turn.place.standing.allowances in
-        let f = real s t g loadable closed i turn in
-        let p : Spot = before s t g loadable closed i turn in
-        let q : Spot = knowing_spot s t g loadable closed i turn facts in
+        let f = real s u t g loadable leads i turn in
+        let p : Spot = before s u t g loadable leads i turn in
+        let q : Spot = knowing_spot s u t g loadable leads i turn facts in
         let digits : OnDigits Minus xs ys (values_from facts at n) (values_from facts other n) =
         on_digits Minus xs ys (values_from facts at n) (values_from facts other n) same_length (fit_values facts m at n holds turn.place.bytes) (fit_values facts m other n holds turn.place.bytes)
         in
@@ -187,12 +187,12 @@ module _ (at n other : ℕ) where
 
     -- so it is if nothing is known of the two
     coarse_outcome : (d : ℕ) → dynamic_base + turn.frame.session ≤ d → d ≤ dynamic_end
-        → includes_all t (flat_map (λ r. follows s i false Goes (before s t g loadable closed i turn) (settled_spot s r)) (map (λ f. uncompared (flagged true f (lowered d (after_fetch s t g loadable closed i turn)))) order_flags)) ≡ true
-        → Outcome s t g loadable closed i turn (going d Stays (Some (fl.c, fl.z)))
+        → includes_all t (flat_map (λ r. follows s i false Goes (before s u t g loadable leads i turn) (settled_spot s r)) (map (λ f. uncompared (flagged true f (lowered d (after_fetch s u t g loadable leads i turn)))) order_flags)) ≡ true
+        → Outcome s u t g loadable leads i turn (going d Stays (Some (fl.c, fl.z)))
     coarse_outcome d low high includes =
-        let f = real s t g loadable closed i turn in
-        let p : Spot = before s t g loadable closed i turn in
-        let q : Spot = lowered d (after_fetch s t g loadable closed i turn) in
+        let f = real s u t g loadable leads i turn in
+        let p : Spot = before s u t g loadable leads i turn in
+        let q : Spot = lowered d (after_fetch s u t g loadable leads i turn) in
         let k : Known = record turn.place.known { compare = NoCompare } in
         let seen : Seen turn.place.calls k f turn.public = record { open_calls = turn.place.open_calls; holds = turn.place.holds; compares = tt; keeps = λ on session d. turn.place.keeps session d } in
         let each : Spot → List Arrival = λ r. follows s i false Goes p (settled_spot s r) in
@@ -227,9 +227,9 @@ module _ (i : Ins) (k : ℕ) (enough_bytes : 4 ≤ k) (own bad : Bool) (count : 
     pub knows : (u x y : Bool) (n p : ℕ) → known_causes bad (compare_causes u n x) ≡ known_causes bad (compare_causes u p y)
     pub unknown : (q : Abend → Bool) (u x : Bool) (n : ℕ) → q A03 ≡ true → (bad ≡ true → q A06 ≡ true) → AllByRecursion (λ c. is_known_cause bad c.0 ≡ false → q c.0 ≡ true) (compare_causes u n x)
 
-  module _ (is : IsComparison) (s : Setting) (t : Tables) (g : Target) (loadable : IsLoadable s.app) (closed : is_closed s t ≡ true) (turn : Turn s t i) where
+  module _ (is : IsComparison) (s : Setting) (u t : Tables) (g : Target) (loadable : IsLoadable s.app) (leads : LeadsInto s u t) (turn : Turn s u i) where
     abbrev f : Frame
-    f = real s t g loadable closed i turn
+    f = real s u t g loadable leads i turn
 
     abbrev low : Frame
     low = frame_after_pop f k
@@ -244,11 +244,11 @@ module _ (i : Ins) (k : ℕ) (enough_bytes : 4 ≤ k) (own bad : Bool) (count : 
     n = count f
 
     abbrev mem : Memory
-    mem = memory s t g loadable closed i turn
+    mem = memory s u t g loadable leads i turn
 
     low_sized : Sized low turn.public
     low_sized =
-        let z = sized s t g loadable closed i turn in
+        let z = sized s u t g loadable leads i turn in
         let high : turn.frame.dt ≤ dynamic_end = z.high in
         record { small = z.small; room = z.room; high = omega (arith, high); inside = z.inside; whole = z.whole }
 
@@ -268,7 +268,7 @@ module _ (i : Ins) (k : ℕ) (enough_bytes : 4 ≤ k) (own bad : Bool) (count : 
         ∙ (ap (λ (v : List ℕ). going d Stays (Some (both_flags (sub_blocks (bytes_from mem a n) v)))) (read_any low turn.public c n low_sized there.1)
         ∙ ap (λ (v : Bool × Bool). going d Stays (Some v)) (difference_left (bytes_from mem a n) (bytes_from mem c n) (from_length mem a n ∙ sym (from_length mem c n)) (memory_bytes_from mem a n turn.place.bytes) (memory_bytes_from mem c n turn.place.bytes))))
 
-    module _ (z : Chosen s t g loadable closed i turn) where
+    module _ (z : Chosen s u t g loadable leads i turn) where
       abbrev l : Frame
       l = drawn f z.fixed z.dyn
 
@@ -278,9 +278,9 @@ module _ (i : Ins) (k : ℕ) (enough_bytes : 4 ≤ k) (own bad : Bool) (count : 
       numbers : is_under f k ≡ false → (j : ℕ) → 2 ≤ j → j ≤ k → number_below_top l j ≡ number_below_top f j
       numbers over j two few =
           let enough = above f k over in
-          number_alike f turn.public z.fixed z.dyn z.public (sized s t g loadable closed i turn) z.size z.room z.whole j (omega (arith, enough, few)) two
+          number_alike f turn.public z.fixed z.dyn z.public (sized s u t g loadable leads i turn) z.size z.room z.whole j (omega (arith, enough, few)) two
           (part_alike zs mem turn.frame.dt k j 2 (omega (arith, enough)) two few
-          (top_alike zs mem f k (omega (arith, enough)) (λ b there h. z.agrees b there (subst (λ (ps : List ℕ). Among b ps) (sym (is.decided (stand s t g loadable closed i turn).frame)) h))))
+          (top_alike zs mem f k (omega (arith, enough)) (λ b there h. z.agrees b there (subst (λ (ps : List ℕ). Among b ps) (sym (is.decided (stand s u t g loadable leads i turn).frame)) h))))
 
       first_number : is_under f k ≡ false → number_below_top l 4 ≡ a
       first_number over = numbers over 4 (omega arith) enough_bytes
@@ -312,16 +312,16 @@ module _ (i : Ins) (k : ℕ) (enough_bytes : 4 ≤ k) (own bad : Bool) (count : 
           (λ fine. first_same A04 (is_under f k) (later (count l) x) (later n y) (λ over. ap first_cause (later_same over)))
           ∙ sym (ap first_cause (is.cause f turn.public turn.around)))
 
-      few_compared : IsRowCovered s t g loadable closed i turn (row i (frame_at turn.frame turn.next) turn.public turn.around)
+      few_compared : IsRowCovered s u t g loadable leads i turn (row i (frame_at turn.frame turn.next) turn.public turn.around)
       few_compared =
-          chosen_row s t g loadable closed i turn z cause_same
+          chosen_row s u t g loadable leads i turn z cause_same
           (λ none all.
           let no : NoCause (compare_causes (is_under f k) n (either_outside low n a c)) = subst (λ (cs : List (Abend × Bool)). NoCause cs) (is.cause f turn.public turn.around) none in
           let over : is_under f k ≡ false = no.1.1.0 in
           let out : either_outside low n a c ≡ false = is.clear f (either_outside low n a c) no.0 no.1.1.1 in
           let bounds = bottom over in
-          let p : Spot = before s t g loadable closed i turn in
-          let q : Spot = knowing_spot s t g loadable closed i turn z.facts in
+          let p : Spot = before s u t g loadable leads i turn in
+          let q : Spot = knowing_spot s u t g loadable leads i turn z.facts in
           let d = f.dt - k in
           let fl0 = both_flags (sub_blocks (bytes_at (frame_after_pop l k) z.public (number_below_top l 4) (count l)) (bytes_at (frame_after_pop l k) z.public (number_below_top l 2) (count l))) in
           let h : Shape = going d Stays (Some fl0) in
@@ -334,14 +334,14 @@ module _ (i : Ins) (k : ℕ) (enough_bytes : 4 ≤ k) (own bad : Bool) (count : 
           ∙ (ap (λ (v : ℕ). Works (taken a v (number_below_top l 2))) (count_same over) ∙ ap (λ (v : ℕ). Works (taken a n v)) (second_number over)))
           in
           let fl : Flags = (worked Minus (bytes_from mem a n) (bytes_from mem c n)).1 in
-          outcome_done s t g loadable closed i turn d Stays (Some (fl.c, fl.z)) (flags_are out)
-          (compared_outcome a n c s t g loadable closed i turn z.facts z.holds (Some fl0) d bounds.0 bounds.1 (subst (λ (w : Work). includes_all t (row_arrivals false s i h w p q) ≡ true) works one)))
+          outcome_done s u t g loadable leads i turn d Stays (Some (fl.c, fl.z)) (flags_are out)
+          (compared_outcome a n c s u t g loadable leads i turn z.facts z.holds (Some fl0) d bounds.0 bounds.1 (subst (λ (w : Work). includes_all t (row_arrivals false s i h w p q) ≡ true) works one)))
 
-    many_compared : IsCoarse s t g loadable closed i turn → IsRowCovered s t g loadable closed i turn (row i (frame_at turn.frame turn.next) turn.public turn.around)
+    many_compared : IsCoarse s u t g loadable leads i turn → IsRowCovered s u t g loadable leads i turn (row i (frame_at turn.frame turn.next) turn.public turn.around)
     many_compared rough =
-        let l : Frame = scene s t g loadable closed i turn in
-        let p : Spot = before s t g loadable closed i turn in
-        let q : Spot = after_fetch s t g loadable closed i turn in
+        let l : Frame = scene s u t g loadable leads i turn in
+        let p : Spot = before s u t g loadable leads i turn in
+        let q : Spot = after_fetch s u t g loadable leads i turn in
         let d = f.dt - k in
         let fl0 = both_flags (sub_blocks (bytes_at (frame_after_pop l k) blank (number_below_top l 4) (count l)) (bytes_at (frame_after_pop l k) blank (number_below_top l 2) (count l))) in
         let h : Shape = going d Stays (Some fl0) in
@@ -351,7 +351,7 @@ module _ (i : Ins) (k : ℕ) (enough_bytes : 4 ≤ k) (own bad : Bool) (count : 
         let cs : List (Abend × Bool) = compare_causes (is_under f k) n y in
         let done : List Arrival = coarse_done (first_cause (known_causes bad ds)) s i (record l { dt = d }) h Compares p q in
         let includes : includes_all t (coarse_list s i true bad h ds Compares l p q) ≡ true =
-        rough_is s t g loadable closed i turn true bad h ds Compares is.length_bad (is.form l blank _) (ap (λ (c : Coarse). coarse_for Stays c) (is.rough l turn.place.known.bytes)) is.misses (is.cause l blank _) rough
+        rough_is s u t g loadable leads i turn true bad h ds Compares is.length_bad (is.form l blank _) (ap (λ (c : Coarse). coarse_for Stays c) (is.rough l turn.place.known.bytes)) is.misses (is.cause l blank _) rough
         in
         let three : List Arrival = fails s p.key p.known A03 in
         let six : List Arrival = cond bad (fails s p.key p.known A06) [] in
@@ -360,13 +360,13 @@ module _ (i : Ins) (k : ℕ) (enough_bytes : 4 ≤ k) (own bad : Bool) (count : 
         let length_fails : bad ≡ true → includes_all t (fails s p.key p.known A06) ≡ true =
         λ e. subst (λ (b : Bool). includes_all t (cond b (fails s p.key p.known A06) []) ≡ true) e (included_second t three six both)
         in
-        coarse_row s t g loadable closed i turn bad h Compares (record l { dt = d }) cs (is.cause f turn.public turn.around)
+        coarse_row s u t g loadable leads i turn bad h Compares (record l { dt = d }) cs (is.cause f turn.public turn.around)
         (is.unknown (λ c. includes_all t (fails s p.key p.known c)) (is_under f k) y n misses length_fails)
         (subst (λ (cs : List (Abend × Bool)). includes_all t (coarse_done (first_cause cs) s i (record l { dt = d }) h Compares p q) ≡ true) (is.knows (is_under f k) x y (count l) n) (included_second t (three ++ six) done includes))
         (λ none all.
         let bounds = bottom none.1.1.0 in
         let fl : Flags = (worked Minus (bytes_from mem a n) (bytes_from mem c n)).1 in
-        outcome_done s t g loadable closed i turn d Stays (Some (fl.c, fl.z)) (flags_are (is.clear f y none.0 none.1.1.1)) (coarse_outcome a n c s t g loadable closed i turn d bounds.0 bounds.1 all))
+        outcome_done s u t g loadable leads i turn d Stays (Some (fl.c, fl.z)) (flags_are (is.clear f y none.0 none.1.1.1)) (coarse_outcome a n c s u t g loadable leads i turn d bounds.0 bounds.1 all))
 
 -- ---- the laws
 
@@ -408,23 +408,23 @@ fixed_is args =
       unknown = λ q u x n three six. ((λ e. absurd (cc e)), ((λ e. absurd (cc e)), ((λ e. absurd (cc e)), ((λ e. three), tt))));
     }
 
-memory_law : (args : List ℕ) → RowLaw (ins.Prim 0 5 args)
+memory_law : (args : List ℕ) → LeadLaw (ins.Prim 0 5 args)
 memory_law args =
-    law_of (ins.Prim 0 5 args) (λ s t g loadable closed turn e. e)
+    law_of (ins.Prim 0 5 args) (λ s u t g loadable leads turn e. e)
     (record {
       asks = refl;
       few = few_compared (ins.Prim 0 5 args) 6 (omega arith) false true (λ f. number_below_top f 6) (λ n x. (A03, in_range 1 255 n && x) ∷ (A06, not (in_range 1 255 n)) ∷ []) (memory_is args);
-      many = λ s t g loadable closed turn few rough.
-          many_compared (ins.Prim 0 5 args) 6 (omega arith) false true (λ f. number_below_top f 6) (λ n x. (A03, in_range 1 255 n && x) ∷ (A06, not (in_range 1 255 n)) ∷ []) (memory_is args) s t g loadable closed turn rough;
+      many = λ s u t g loadable leads turn few rough.
+          many_compared (ins.Prim 0 5 args) 6 (omega arith) false true (λ f. number_below_top f 6) (λ n x. (A03, in_range 1 255 n && x) ∷ (A06, not (in_range 1 255 n)) ∷ []) (memory_is args) s u t g loadable leads turn rough;
     })
 
-fixed_law : (args : List ℕ) → RowLaw (ins.Prim 1 1 args)
+fixed_law : (args : List ℕ) → LeadLaw (ins.Prim 1 1 args)
 fixed_law args =
-    law_of (ins.Prim 1 1 args) (λ s t g loadable closed turn e. e)
+    law_of (ins.Prim 1 1 args) (λ s u t g loadable leads turn e. e)
     (record {
       asks = refl;
       few = few_compared (ins.Prim 1 1 args) 4 (omega arith) (slice_index args 0 == 0) false (λ f. slice_index args 0) (λ n x. (A03, x) ∷ []) (fixed_is args);
-      many = λ s t g loadable closed turn few rough. many_compared (ins.Prim 1 1 args) 4 (omega arith) (slice_index args 0 == 0) false (λ f. slice_index args 0) (λ n x. (A03, x) ∷ []) (fixed_is args) s t g loadable closed turn rough;
+      many = λ s u t g loadable leads turn few rough. many_compared (ins.Prim 1 1 args) 4 (omega arith) (slice_index args 0 == 0) false (λ f. slice_index args 0) (λ n x. (A03, x) ∷ []) (fixed_is args) s u t g loadable leads turn rough;
     })
 
 pub block_laws : BlockLaw

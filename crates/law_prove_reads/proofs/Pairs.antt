@@ -1,5 +1,5 @@
 -- A pair of set and number that is no primitive abends, whatever bytes there are.
-use Rattle.std.proofs.Common.{◌≡◌, ℕ, true, List, [], ◌∷◌, Option, Some, None, sym, ap, subst, ◌∙◌}
+use Rattle.std.proofs.Common.{◌≡◌, ℕ, List, [], ◌∷◌, Option, Some, None, sym, ap, subst, ◌∙◌}
 use Rattle.model_machine.specs.declared.instruction.Ins.{Ins}
 use Rattle.model_machine.specs.declared.instruction.Ins.TheVariants as ins
 use Rattle.model_machine.specs.Frame.{Frame}
@@ -11,7 +11,8 @@ use Rattle.model_prove.specs.Keys.{Delegated, Tables}
 use Rattle.model_prove.specs.Splits.{pair_deciders, few_combinations}
 use Rattle.model_prove.specs.Arrivals.{Setting}
 use Rattle.model_prove.specs.Steps.{inside, arounds}
-use Rattle.model_prove.specs.Tables.{IsLoadable, is_closed}
+use Rattle.model_prove.specs.Tables.{IsLoadable}
+use Rattle.law_prove.specs.Laws.{LeadsInto}
 use Rattle.law_prove.proofs.Turns.{NoCause, nobody}
 use Rattle.law_prove.proofs.Single.{Turn, IsRowCovered}
 use Rattle.law_prove_reads.specs.Laws.{UnknownLaw}
@@ -22,18 +23,18 @@ module _ (set number : ℕ) (args : List ℕ) (unknown : primitive set number �
   abbrev pair : Ins
   pair = ins.Prim set number args
 
-  module _ (s : Setting) (t : Tables) (g : Target) (loadable : IsLoadable s.app) (closed : is_closed s t ≡ true) (turn : Turn s t pair) where
-    none_decides : few_combinations turn.place.known.bytes (places s t g loadable closed pair turn) ≡ Some ([] ∷ [])
+  module _ (s : Setting) (u t : Tables) (g : Target) (loadable : IsLoadable s.app) (leads : LeadsInto s u t) (turn : Turn s u pair) where
+    none_decides : few_combinations turn.place.known.bytes (places s u t g loadable leads pair turn) ≡ Some ([] ∷ [])
     none_decides =
-        let z = stand s t g loadable closed pair turn in
+        let z = stand s u t g loadable leads pair turn in
         ap (λ (o : Option Primitive). few_combinations turn.place.known.bytes (inside z (pair_deciders o args z.frame))) unknown
 
-    pair_covered : Chosen s t g loadable closed pair turn → IsRowCovered s t g loadable closed pair turn (row pair (frame_at turn.frame turn.next) turn.public turn.around)
+    pair_covered : Chosen s u t g loadable leads pair turn → IsRowCovered s u t g loadable leads pair turn (row pair (frame_at turn.frame turn.next) turn.public turn.around)
     unfolding causes
     pair_covered z =
-        let f : Frame = real s t g loadable closed pair turn in
+        let f : Frame = real s u t g loadable leads pair turn in
         let l : Frame = drawn f z.fixed z.dyn in
-        chosen_row s t g loadable closed pair turn z
+        chosen_row s u t g loadable leads pair turn z
         (ap (λ (o : Option Primitive). first_cause (prim_causes o args l z.public nobody)) unknown ∙ sym (ap (λ (o : Option Primitive). first_cause (prim_causes o args f turn.public turn.around)) unknown))
         (λ none all.
         let no : NoCause (prim_causes None args f turn.public turn.around) = subst (λ (o : Option Primitive). NoCause (prim_causes o args f turn.public turn.around)) unknown none in
@@ -44,9 +45,9 @@ module _ (set number : ℕ) (args : List ℕ) (unknown : primitive set number �
 
 pub unknown_laws : UnknownLaw
 unknown_laws set number args unknown =
-    law_of (ins.Prim set number args) (λ s t g loadable closed turn e. e)
+    law_of (ins.Prim set number args) (λ s u t g loadable leads turn e. e)
     (record {
       asks = none_asks set number args unknown;
       few = pair_covered set number args unknown;
-      many = λ s t g loadable closed turn few rough. absurd (cc (sym (none_decides set number args unknown s t g loadable closed turn) ∙ few));
+      many = λ s u t g loadable leads turn few rough. absurd (cc (sym (none_decides set number args unknown s u t g loadable leads turn) ∙ few));
     })

@@ -26,7 +26,8 @@ use Rattle.model_prove.specs.Splits.{Scene}
 use Rattle.model_prove.specs.Reach as reach
 use Rattle.model_prove.specs.Arrivals.{Setting, Arrival, fails, some_value}
 use Rattle.model_prove.specs.Steps.{Spot, sets, any_bytes, lowered, pushed, flagged, final_flags, settled_spot, follows, is_only, may_pass, found_at, found, each_index, searched, coarse_done}
-use Rattle.model_prove.specs.Tables.{IsLoadable, includes_all, is_closed}
+use Rattle.model_prove.specs.Tables.{IsLoadable, includes_all}
+use Rattle.law_prove.specs.Laws.{LeadsInto}
 use Rattle.model_prove.proofs.FactLemmas.{value_holds}
 use Rattle.model_prove.proofs.SetLemmas.{in_first, in_second, is_byte}
 use Rattle.law_prove.proofs.Closed.{included_first, included_second}
@@ -165,12 +166,12 @@ module _ (args : List ℕ) where
   abbrev lookup_causes : Frame → Bool → List (Abend × Bool)
   lookup_causes f b = (A06, false) ∷ (A0A, false) ∷ (A04, is_under f 3) ∷ (A03, b) ∷ []
 
-  module _ (s : Setting) (t : Tables) (g : Target) (loadable : IsLoadable s.app) (closed : is_closed s t ≡ true) (turn : Turn s t lookup) where
+  module _ (s : Setting) (u t : Tables) (g : Target) (loadable : IsLoadable s.app) (leads : LeadsInto s u t) (turn : Turn s u lookup) where
     abbrev f : Frame
-    f = real s t g loadable closed lookup turn
+    f = real s u t g loadable leads lookup turn
 
     abbrev m : Memory
-    m = memory s t g loadable closed lookup turn
+    m = memory s u t g loadable leads lookup turn
 
     -- DT and the frame without the bytes that are taken
     abbrev d : ℕ
@@ -197,7 +198,7 @@ module _ (args : List ℕ) where
 
     low_sized : Sized low turn.public
     low_sized =
-        let z = sized s t g loadable closed lookup turn in
+        let z = sized s u t g loadable leads lookup turn in
         let high : turn.frame.dt ≤ dynamic_end = z.high in
         record { small = z.small; room = z.room; high = omega (arith, high); inside = z.inside; whole = z.whole }
 
@@ -220,7 +221,7 @@ module _ (args : List ℕ) where
     value_is : is_under f 3 ≡ false → v ≡ m d
     value_is over =
         let enough = above f 3 over in
-        ap num (stack_is f turn.public 3 1 (sized s t g loadable closed lookup turn) (omega (arith, enough)) (omega arith)) ∙ omega arith
+        ap num (stack_is f turn.public 3 1 (sized s u t g loadable leads lookup turn) (omega (arith, enough)) (omega arith)) ∙ omega arith
 
     bottom : is_under f 3 ≡ false → (dynamic_base + turn.frame.session ≤ d) × (d ≤ dynamic_end) × (d + 1 ≤ dynamic_end)
     bottom over =
@@ -228,7 +229,7 @@ module _ (args : List ℕ) where
         let high : turn.frame.dt ≤ dynamic_end = turn.place.frame.high in
         (omega (arith, enough), omega (arith, high), omega (arith, high, enough))
 
-    module _ (z : Chosen s t g loadable closed lookup turn) where
+    module _ (z : Chosen s u t g loadable leads lookup turn) where
       abbrev l : Frame
       l = drawn f z.fixed z.dyn
 
@@ -238,7 +239,7 @@ module _ (args : List ℕ) where
       address_same : is_under f 3 ≡ false → number_below_top l 2 ≡ a
       address_same over =
           let enough = above f 3 over in
-          number_alike f turn.public z.fixed z.dyn z.public (sized s t g loadable closed lookup turn) z.size z.room z.whole 2 (omega (arith, enough)) (omega arith)
+          number_alike f turn.public z.fixed z.dyn z.public (sized s u t g loadable leads lookup turn) z.size z.room z.whole 2 (omega (arith, enough)) (omega arith)
           (top_alike zs m f 2 (omega (arith, enough)) (λ b there h. z.agrees b there h))
 
       first_same_address : is_under f 3 ≡ false → number_below_top z.first.frame 2 ≡ a
@@ -249,7 +250,7 @@ module _ (args : List ℕ) where
           top_alike (scene_of f e.fixed e.dyn z.first.public) m f 2 (omega (arith, enough)) (λ b there h. ap (λ (w : Scene). scene_memory w b) (sym e.is) ∙ z.first_agrees b there h)
           in
           ap (λ (w : Scene). number_below_top w.frame 2) e.is
-          ∙ number_alike f turn.public e.fixed e.dyn z.first.public (sized s t g loadable closed lookup turn) e.size e.room e.whole 2 (omega (arith, enough)) (omega arith) alike
+          ∙ number_alike f turn.public e.fixed e.dyn z.first.public (sized s u t g loadable leads lookup turn) e.size e.room e.whole 2 (omega (arith, enough)) (omega arith) alike
 
       -- the length byte was followed
       length_alike : is_under f 3 ≡ false → is_outside low a 1 ≡ false → Alike zs m a 1
@@ -266,8 +267,8 @@ module _ (args : List ℕ) where
       whole_count over there =
           let lower : d ≤ f.dt = omega arith in
           let here : is_outside f a 1 ≡ false = deeper_inside f d a lower there in
-          ap num (read_alike f turn.public z.fixed z.dyn z.public (sized s t g loadable closed lookup turn) z.size z.room z.whole a 1 here (length_alike over there)
-          ∙ (read_any f turn.public a 1 (sized s t g loadable closed lookup turn) here ∙ sym (read_any low turn.public a 1 low_sized there)))
+          ap num (read_alike f turn.public z.fixed z.dyn z.public (sized s u t g loadable leads lookup turn) z.size z.room z.whole a 1 here (length_alike over there)
+          ∙ (read_any f turn.public a 1 (sized s u t g loadable leads lookup turn) here ∙ sym (read_any low turn.public a 1 low_sized there)))
 
       misses_by : (x : Bool) → is_under f 3 ≡ false → is_outside low a 1 ≡ x → misses_at (record l { dt = d }) z.public a ≡ misses_at low turn.public a
       misses_by true over e =
@@ -280,18 +281,18 @@ module _ (args : List ℕ) where
       misses_same : is_under f 3 ≡ false → misses_at (record l { dt = d }) z.public (number_below_top l 2) ≡ misses_at low turn.public a
       misses_same over = ap (λ (b : ℕ). misses_at (record l { dt = d }) z.public b) (address_same over) ∙ misses_by (is_outside low a 1) over refl
 
-      few_searched : IsRowCovered s t g loadable closed lookup turn (row lookup (frame_at turn.frame turn.next) turn.public turn.around)
+      few_searched : IsRowCovered s u t g loadable leads lookup turn (row lookup (frame_at turn.frame turn.next) turn.public turn.around)
       unfolding causes shape later_causes prim_shape
       few_searched =
-          chosen_row s t g loadable closed lookup turn z
+          chosen_row s u t g loadable leads lookup turn z
           (first_same A04 (is_under f 3) ((A03, misses_at (record l { dt = d }) z.public (number_below_top l 2)) ∷ []) ((A03, misses_at low turn.public a) ∷ [])
           (λ over. ap (λ (x : Bool). first_cause ((A03, x) ∷ [])) (misses_same over)))
           (λ none all.
           let over : is_under f 3 ≡ false = none.1.1.0 in
           let there = neither (is_outside low a 1) (is_outside low (a + 1) n) none.1.1.1.0 in
           let bounds = bottom over in
-          let p : Spot = before s t g loadable closed lookup turn in
-          let q : Spot = knowing_spot s t g loadable closed lookup turn z.facts in
+          let p : Spot = before s u t g loadable leads lookup turn in
+          let q : Spot = knowing_spot s u t g loadable leads lookup turn z.facts in
           let each : Spot → List Arrival = λ r. follows s lookup false Goes p (settled_spot s r) in
           let vs : Set = values_at z.facts d in
           let ts : List Set = values_from z.facts (a + 1) n in
@@ -307,11 +308,11 @@ module _ (args : List ℕ) where
           let b : List ℕ = unwrap_or o 0 ∷ [] in
           let st = turn.place.start in
           let al = turn.place.standing.allowances in
-          outcome_done s t g loadable closed lookup turn d (Pushes b) (Some (f.c, is_some o)) refl
+          outcome_done s u t g loadable leads lookup turn d (Pushes b) (Some (f.c, is_some o)) refl
           (record {
             spot = spot;
             led = flags_led s st al (pushed (sets b) (lowered d q)) false (act_effect (Pushes b) (record f { dt = d }) turn.public) (Some (f.c, is_some o))
-                (knowing_pushes s t g loadable closed lookup turn z.facts z.holds d bounds.0 bounds.1 b (sets b) (fit_sets b) bounds.2);
+                (knowing_pushes s u t g loadable leads lookup turn z.facts z.holds d bounds.0 bounds.1 b (sets b) (fit_sets b) bounds.2);
             included = included_of t each (searched vs ts (lowered d q)) spot (searched_there v vs table ts (lowered d q) in_it fit) two;
           }))
 
@@ -319,18 +320,18 @@ module _ (args : List ℕ) where
     flag_there false = inl refl
     flag_there true = inr (inl refl)
 
-    many_searched : IsCoarse s t g loadable closed lookup turn → IsRowCovered s t g loadable closed lookup turn (row lookup (frame_at turn.frame turn.next) turn.public turn.around)
+    many_searched : IsCoarse s u t g loadable leads lookup turn → IsRowCovered s u t g loadable leads lookup turn (row lookup (frame_at turn.frame turn.next) turn.public turn.around)
     unfolding causes shape later_causes prim_shape
     many_searched rough =
-        let l : Frame = scene s t g loadable closed lookup turn in
-        let p : Spot = before s t g loadable closed lookup turn in
-        let q : Spot = after_fetch s t g loadable closed lookup turn in
+        let l : Frame = scene s u t g loadable leads lookup turn in
+        let p : Spot = before s u t g loadable leads lookup turn in
+        let q : Spot = after_fetch s u t g loadable leads lookup turn in
         let h : Shape = shape lookup l blank nobody in
         let cs : List (Abend × Bool) = lookup_causes f (misses_at low turn.public a) in
         let rest : List Arrival = coarse_done (first_cause ((A06, false) ∷ (A0A, false) ∷ (A04, is_under f 3) ∷ [])) s lookup (record l { dt = h.dt }) h reach.Searches p q in
-        let includes : includes_all t _ ≡ true = rough_is s t g loadable closed lookup turn true false h (causes lookup l blank nobody) reach.Searches refl refl refl refl refl rough in
+        let includes : includes_all t _ ≡ true = rough_is s u t g loadable leads lookup turn true false h (causes lookup l blank nobody) reach.Searches refl refl refl refl refl rough in
         let misses : includes_all t (fails s p.key p.known A03) ≡ true = included_first t (fails s p.key p.known A03) [] (included_first t (fails s p.key p.known A03 ++ []) rest includes) in
-        coarse_row s t g loadable closed lookup turn false h reach.Searches (record l { dt = h.dt }) cs refl ((λ e. absurd (cc e)), ((λ e. absurd (cc e)), ((λ e. absurd (cc e)), ((λ e. misses), tt))))
+        coarse_row s u t g loadable leads lookup turn false h reach.Searches (record l { dt = h.dt }) cs refl ((λ e. absurd (cc e)), ((λ e. absurd (cc e)), ((λ e. absurd (cc e)), ((λ e. misses), tt))))
         (included_second t (fails s p.key p.known A03 ++ []) rest includes)
         (λ none all.
         let bounds = bottom none.1.1.0 in
@@ -341,15 +342,15 @@ module _ (args : List ℕ) where
         let fl : Flags = record { c = false; z = is_some o } in
         let st = turn.place.start in
         let al = turn.place.standing.allowances in
-        outcome_done s t g loadable closed lookup turn d (Pushes b) (Some (f.c, is_some o)) refl
+        outcome_done s u t g loadable leads lookup turn d (Pushes b) (Some (f.c, is_some o)) refl
         (record {
           spot = flagged false fl x;
           led = flags_led s st al x false (act_effect (Pushes b) (record f { dt = d }) turn.public) (Some (f.c, is_some o))
-              (knowing_pushes s t g loadable closed lookup turn turn.place.known.bytes turn.place.holds d bounds.0 bounds.1 b ss (is_byte (unwrap_or o 0) index_byte, tt) bounds.2);
+              (knowing_pushes s u t g loadable leads lookup turn turn.place.known.bytes turn.place.holds d bounds.0 bounds.1 b ss (is_byte (unwrap_or o 0) index_byte, tt) bounds.2);
           included = included_of t each (map (λ g. flagged false g x) (final_flags false)) (flagged false fl x) (among_mapped (λ g. flagged false g x) fl (final_flags false) (flag_there (is_some o))) all;
         }))
 
 pub search_laws : SearchLaw
 search_laws args =
-    law_of (ins.Prim 0 4 args) (λ s t g loadable closed turn e. e)
-    (record { asks = refl; few = few_searched args; many = λ s t g loadable closed turn few rough. many_searched args s t g loadable closed turn rough })
+    law_of (ins.Prim 0 4 args) (λ s u t g loadable leads turn e. e)
+    (record { asks = refl; few = few_searched args; many = λ s u t g loadable leads turn few rough. many_searched args s u t g loadable leads turn rough })

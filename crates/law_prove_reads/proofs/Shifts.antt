@@ -26,9 +26,9 @@ use Rattle.model_prove.specs.Reach.{Shifts, coarse, may_have_bad_length}
 use Rattle.model_prove.specs.Work.{Work, AsShaped, work}
 use Rattle.model_prove.specs.Arrivals.{Setting}
 use Rattle.model_prove.specs.Steps.{Spot, sets, any_bytes, lowered, written, flagged, final_flags, settled_spot, follows, row_arrivals, arounds, primitive_of, is_return, no_calls}
-use Rattle.model_prove.specs.Tables.{IsLoadable, includes_all, is_closed}
+use Rattle.model_prove.specs.Tables.{IsLoadable, includes_all}
 use Rattle.law_prove.specs.Coverings.{frame_memory}
-use Rattle.law_prove.specs.Laws.{RowLaw}
+use Rattle.law_prove.specs.Laws.{LeadsInto, LeadLaw}
 use Rattle.law_prove.proofs.Seen.{FitSets, fit_sets, fit_any}
 use Rattle.law_prove.proofs.Acts.{Led, flags_led}
 use Rattle.law_prove.proofs.Turns.{NoCause, nobody, blank}
@@ -78,9 +78,9 @@ module _ (i : Ins) (n : ℕ) (bad : Bool) (shift : List ℕ → Worked) where
     pub size : (v : List ℕ) → length (shift v).value ≡ length v
     pub bytes : (v : List ℕ) → AreBytes (shift v).value
 
-  module _ (is : IsShift) (s : Setting) (t : Tables) (g : Target) (loadable : IsLoadable s.app) (closed : is_closed s t ≡ true) (turn : Turn s t i) where
+  module _ (is : IsShift) (s : Setting) (u t : Tables) (g : Target) (loadable : IsLoadable s.app) (leads : LeadsInto s u t) (turn : Turn s u i) where
     abbrev f : Frame
-    f = real s t g loadable closed i turn
+    f = real s u t g loadable leads i turn
 
     -- the top, and what takes its place
     abbrev v : List ℕ
@@ -95,50 +95,50 @@ module _ (i : Ins) (n : ℕ) (bad : Bool) (shift : List ℕ → Worked) where
     count : is_under f n ≡ false → length b ≡ n
     count over =
         let enough = above f n over in
-        is.size v ∙ (ap (λ (l : List ℕ). length l) (top_is f turn.public n (sized s t g loadable closed i turn) (omega (arith, enough))) ∙ from_length (frame_memory f turn.public) (f.dt - n) n)
+        is.size v ∙ (ap (λ (l : List ℕ). length l) (top_is f turn.public n (sized s u t g loadable leads i turn) (omega (arith, enough))) ∙ from_length (frame_memory f turn.public) (f.dt - n) n)
 
     room : is_under f n ≡ false → dynamic_base + length b ≤ f.dt
     room over = let enough = above f n over in let size = count over in omega (arith, enough, size)
 
-    few_covered : Chosen s t g loadable closed i turn → IsRowCovered s t g loadable closed i turn (row i (frame_at turn.frame turn.next) turn.public turn.around)
+    few_covered : Chosen s u t g loadable leads i turn → IsRowCovered s u t g loadable leads i turn (row i (frame_at turn.frame turn.next) turn.public turn.around)
     few_covered z =
         let l : Frame = drawn f z.fixed z.dyn in
-        chosen_row s t g loadable closed i turn z (ap first_cause (is.cause l z.public nobody ∙ sym (is.cause f turn.public turn.around)))
+        chosen_row s u t g loadable leads i turn z (ap first_cause (is.cause l z.public nobody ∙ sym (is.cause f turn.public turn.around)))
         (λ none all.
         let no : NoCause (shift_causes f) = subst (λ (cs : List (Abend × Bool)). NoCause cs) (is.cause f turn.public turn.around) none in
         let over : is_under f n ≡ false = no.1.1.0 in
         let enough = above f n over in
         let zs : Scene = scene_of f z.fixed z.dyn z.public in
-        let alike : Alike zs (memory s t g loadable closed i turn) (f.dt - n) n =
-        top_alike zs (memory s t g loadable closed i turn) f n (omega (arith, enough)) (λ a there h. z.agrees a there (subst (λ (ps : List ℕ). Among a ps) (sym (is.decided (stand s t g loadable closed i turn).frame)) h))
+        let alike : Alike zs (memory s u t g loadable leads i turn) (f.dt - n) n =
+        top_alike zs (memory s u t g loadable leads i turn) f n (omega (arith, enough)) (λ a there h. z.agrees a there (subst (λ (ps : List ℕ). Among a ps) (sym (is.decided (stand s u t g loadable leads i turn).frame)) h))
         in
-        let tops : top l n ≡ v = stack_alike f turn.public z.fixed z.dyn z.public (sized s t g loadable closed i turn) z.size z.room z.whole n n (omega (arith, enough)) (omega arith) alike in
+        let tops : top l n ≡ v = stack_alike f turn.public z.fixed z.dyn z.public (sized s u t g loadable leads i turn) z.size z.room z.whole n n (omega (arith, enough)) (omega arith) alike in
         let form : shape i l z.public nobody ≡ m = is.form l z.public nobody ∙ ap (λ (u : List ℕ). shift_shape f.dt u) tops in
-        let p : Spot = before s t g loadable closed i turn in
-        let q : Spot = knowing_spot s t g loadable closed i turn z.facts in
+        let p : Spot = before s u t g loadable leads i turn in
+        let q : Spot = knowing_spot s u t g loadable leads i turn z.facts in
         let one : includes_all t (row_arrivals false s i m AsShaped p q) ≡ true =
         subst (λ (w : Work). includes_all t (row_arrivals false s i m w p q) ≡ true) (is.task l z.public)
         (subst (λ (h : Shape). includes_all t (row_arrivals (is_return h.act && no_calls turn.place.calls) s i h (work i l z.public) p q) ≡ true) form all)
         in
         let st = turn.place.start in
         let al = turn.place.standing.allowances in
-        outcome_done s t g loadable closed i turn f.dt (Replaces b) (Some ((shift v).c, (shift v).z)) (is.form f turn.public turn.around)
+        outcome_done s u t g loadable leads i turn f.dt (Replaces b) (Some ((shift v).c, (shift v).z)) (is.form f turn.public turn.around)
         (record {
           spot = _;
-          led = flags_led s st al _ false _ (Some ((shift v).c, (shift v).z)) (knowing_replaces s t g loadable closed i turn z.facts z.holds f.dt turn.place.frame.low turn.place.frame.high b (sets b) (fit_sets b) (room over));
+          led = flags_led s st al _ false _ (Some ((shift v).c, (shift v).z)) (knowing_replaces s u t g loadable leads i turn z.facts z.holds f.dt turn.place.frame.low turn.place.frame.high b (sets b) (fit_sets b) (room over));
           included = one_shaped s t i f.dt (Replaces b) (Some ((shift v).c, (shift v).z)) p q one;
         }))
 
-    many_covered : IsCoarse s t g loadable closed i turn → IsRowCovered s t g loadable closed i turn (row i (frame_at turn.frame turn.next) turn.public turn.around)
+    many_covered : IsCoarse s u t g loadable leads i turn → IsRowCovered s u t g loadable leads i turn (row i (frame_at turn.frame turn.next) turn.public turn.around)
     many_covered rough =
-        let l : Frame = scene s t g loadable closed i turn in
-        let p : Spot = before s t g loadable closed i turn in
-        let q : Spot = after_fetch s t g loadable closed i turn in
+        let l : Frame = scene s u t g loadable leads i turn in
+        let p : Spot = before s u t g loadable leads i turn in
+        let q : Spot = after_fetch s u t g loadable leads i turn in
         let h : Shape = shift_shape f.dt (top l n) in
         let st = turn.place.start in
         let al = turn.place.standing.allowances in
-        coarse_row s t g loadable closed i turn false h (Shifts n) l (shift_causes f) (is.cause f turn.public turn.around) ((λ e. absurd (cc e)), ((λ e. absurd (cc e)), ((λ e. absurd (cc e)), tt)))
-        (rough_is s t g loadable closed i turn false false h (shift_causes f) (Shifts n) is.fine (is.form l blank _) (is.rough l turn.place.known.bytes) refl (is.cause l blank _) rough)
+        coarse_row s u t g loadable leads i turn false h (Shifts n) l (shift_causes f) (is.cause f turn.public turn.around) ((λ e. absurd (cc e)), ((λ e. absurd (cc e)), ((λ e. absurd (cc e)), tt)))
+        (rough_is s u t g loadable leads i turn false false h (shift_causes f) (Shifts n) is.fine (is.form l blank _) (is.rough l turn.place.known.bytes) refl (is.cause l blank _) rough)
         (λ none all.
         let over : is_under f n ≡ false = none.1.1.0 in
         let ss : List Set = any_bytes n in
@@ -148,9 +148,9 @@ module _ (i : Ins) (n : ℕ) (bad : Bool) (shift : List ℕ → Worked) where
         let fl : Flags = record { c = (shift v).c; z = (shift v).z } in
         let one : Led s st al (written (f.dt - n) ss low) false (act_effect (Replaces b) (record f { dt = f.dt }) turn.public) =
         subst (λ (k : ℕ). Led s st al (written (f.dt - k) ss low) false (act_effect (Replaces b) (record f { dt = f.dt }) turn.public)) many
-        (knowing_replaces s t g loadable closed i turn turn.place.known.bytes turn.place.holds f.dt turn.place.frame.low turn.place.frame.high b ss fit (room over))
+        (knowing_replaces s u t g loadable leads i turn turn.place.known.bytes turn.place.holds f.dt turn.place.frame.low turn.place.frame.high b ss fit (room over))
         in
-        outcome_done s t g loadable closed i turn f.dt (Replaces b) (Some (fl.c, fl.z)) (is.form f turn.public turn.around)
+        outcome_done s u t g loadable leads i turn f.dt (Replaces b) (Some (fl.c, fl.z)) (is.form f turn.public turn.around)
         (record {
           spot = flagged true fl (written (f.dt - n) ss low);
           led = flags_led s st al (written (f.dt - n) ss low) false (act_effect (Replaces b) (record f { dt = f.dt }) turn.public) (Some (fl.c, fl.z)) one;
@@ -190,13 +190,13 @@ right_is args =
       bytes = λ v. number_bytes (length v) _;
     }
 
-shift_law : (args : List ℕ) (number : ℕ) (shift : List ℕ → Worked) → IsShift (ins.Prim 2 number args) (slice_index args 0) (bad_shift args) shift → arounds Delegated (primitive_of (ins.Prim 2 number args)) ≡ arounds Delegated None → RowLaw (ins.Prim 2 number args)
+shift_law : (args : List ℕ) (number : ℕ) (shift : List ℕ → Worked) → IsShift (ins.Prim 2 number args) (slice_index args 0) (bad_shift args) shift → arounds Delegated (primitive_of (ins.Prim 2 number args)) ≡ arounds Delegated None → LeadLaw (ins.Prim 2 number args)
 shift_law args number shift is asks =
-    law_of (ins.Prim 2 number args) (λ s t g loadable closed turn e. e)
+    law_of (ins.Prim 2 number args) (λ s u t g loadable leads turn e. e)
     (record {
       asks = asks;
       few = few_covered (ins.Prim 2 number args) (slice_index args 0) (bad_shift args) shift is;
-      many = λ s t g loadable closed turn few rough. many_covered (ins.Prim 2 number args) (slice_index args 0) (bad_shift args) shift is s t g loadable closed turn rough;
+      many = λ s u t g loadable leads turn few rough. many_covered (ins.Prim 2 number args) (slice_index args 0) (bad_shift args) shift is s u t g loadable leads turn rough;
     })
 
 pub shift_laws : ShiftLaw

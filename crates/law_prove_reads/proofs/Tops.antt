@@ -21,8 +21,8 @@ use Rattle.model_prove.specs.Splits.{Choice, combinations, count_of_combinations
 use Rattle.model_prove.specs.Work.{AsShaped}
 use Rattle.model_prove.specs.Arrivals.{Setting, Arrival}
 use Rattle.model_prove.specs.Steps.{Spot, lowered, flagged, settled_spot, follows, row_arrivals}
-use Rattle.model_prove.specs.Tables.{IsLoadable, includes_all, is_closed}
-use Rattle.law_prove.specs.Laws.{RowLaw}
+use Rattle.model_prove.specs.Tables.{IsLoadable, includes_all}
+use Rattle.law_prove.specs.Laws.{LeadsInto, LeadLaw}
 use Rattle.law_prove.proofs.Acts.{flags_led}
 use Rattle.law_prove.proofs.Single.{going, Turn, IsRowCovered, one_shaped}
 use Rattle.law_prove.proofs.Plain.{above}
@@ -46,12 +46,12 @@ one_by : (b : Bool) (k : Facts) (a : ℕ) → few_combinations k (cond (not b) (
 one_by true k a h = absurd (cc h)
 one_by false k a h = few_by (nat_le (count_of_combinations k (a ∷ [])) most_combinations) (combinations k (a ∷ [])) (one_byte k a) h
 
-module _ (s : Setting) (t : Tables) (g : Target) (loadable : IsLoadable s.app) (closed : is_closed s t ≡ true) (i : Ins) (turn : Turn s t i) where
+module _ (s : Setting) (u t : Tables) (g : Target) (loadable : IsLoadable s.app) (leads : LeadsInto s u t) (i : Ins) (turn : Turn s u i) where
   abbrev f : Frame
-  f = real s t g loadable closed i turn
+  f = real s u t g loadable leads i turn
 
   abbrev m : Memory
-  m = memory s t g loadable closed i turn
+  m = memory s u t g loadable leads i turn
 
   -- the top byte
   abbrev v : ℕ
@@ -64,10 +64,10 @@ module _ (s : Setting) (t : Tables) (g : Target) (loadable : IsLoadable s.app) (
       (omega (arith, enough), omega (arith, high))
 
   -- the scene has it
-  top_same : (z : Chosen s t g loadable closed i turn) → is_under f 1 ≡ false → ((a : ℕ) → is_outside f a 1 ≡ false → Among a (numbers_from (f.dt - 1) 1) → scene_memory (scene_of f z.fixed z.dyn z.public) a ≡ m a) → num (top (drawn f z.fixed z.dyn) 1) ≡ v
+  top_same : (z : Chosen s u t g loadable leads i turn) → is_under f 1 ≡ false → ((a : ℕ) → is_outside f a 1 ≡ false → Among a (numbers_from (f.dt - 1) 1) → scene_memory (scene_of f z.fixed z.dyn z.public) a ≡ m a) → num (top (drawn f z.fixed z.dyn) 1) ≡ v
   top_same z over agrees =
       let enough = above f 1 over in
-      ap num (stack_alike f turn.public z.fixed z.dyn z.public (sized s t g loadable closed i turn) z.size z.room z.whole 1 1 (omega (arith, enough)) (omega arith)
+      ap num (stack_alike f turn.public z.fixed z.dyn z.public (sized s u t g loadable leads i turn) z.size z.room z.whole 1 1 (omega (arith, enough)) (omega arith)
       (top_alike (scene_of f z.fixed z.dyn z.public) m f 1 (omega (arith, enough)) agrees))
 
 -- ---- CHECK CASE
@@ -76,36 +76,36 @@ module _ (args : List ℕ) where
   abbrev check : Ins
   check = ins.Prim 0 1 args
 
-  module _ (s : Setting) (t : Tables) (g : Target) (loadable : IsLoadable s.app) (closed : is_closed s t ≡ true) (turn : Turn s t check) (z : Chosen s t g loadable closed check turn) where
+  module _ (s : Setting) (u t : Tables) (g : Target) (loadable : IsLoadable s.app) (leads : LeadsInto s u t) (turn : Turn s u check) (z : Chosen s u t g loadable leads check turn) where
     abbrev l : Frame
-    l = drawn (f s t g loadable closed check turn) z.fixed z.dyn
+    l = drawn (f s u t g loadable leads check turn) z.fixed z.dyn
 
     case_there : (x : Bool) (p : Spot) → Among (flagged false (record { c = false; z = x }) p) (flagged false (record { c = false; z = true }) p ∷ flagged false (record { c = false; z = false }) p ∷ [])
     case_there true p = inl refl
     case_there false p = inr (inl refl)
 
-    check_covered : IsRowCovered s t g loadable closed check turn (row check (frame_at turn.frame turn.next) turn.public turn.around)
+    check_covered : IsRowCovered s u t g loadable leads check turn (row check (frame_at turn.frame turn.next) turn.public turn.around)
     unfolding causes shape later_causes prim_shape
     check_covered =
-        let fr : Frame = f s t g loadable closed check turn in
-        let same : is_under fr 1 ≡ false → num (top l 1) ≡ num (top fr 1) = λ over. top_same s t g loadable closed check turn z over (λ a there h. z.agrees a there h) in
-        chosen_row s t g loadable closed check turn z
+        let fr : Frame = f s u t g loadable leads check turn in
+        let same : is_under fr 1 ≡ false → num (top l 1) ≡ num (top fr 1) = λ over. top_same s u t g loadable leads check turn z over (λ a there h. z.agrees a there h) in
+        chosen_row s u t g loadable leads check turn z
         (first_same A04 (is_under fr 1) ((A06, not (in_range 1 4 (num (top l 1)))) ∷ []) ((A06, not (in_range 1 4 (num (top fr 1)))) ∷ [])
         (λ over. ap (λ (v : ℕ). first_cause ((A06, not (in_range 1 4 v)) ∷ [])) (same over)))
         (λ none all.
         let over : is_under fr 1 ≡ false = none.1.1.0 in
-        let bounds = bottom s t g loadable closed check turn over in
+        let bounds = bottom s u t g loadable leads check turn over in
         let d = fr.dt - 1 in
         let x : Bool = num (top fr 1) == turn.around.case in
-        let p : Spot = before s t g loadable closed check turn in
-        let low : Spot = lowered d (knowing_spot s t g loadable closed check turn z.facts) in
+        let p : Spot = before s u t g loadable leads check turn in
+        let low : Spot = lowered d (knowing_spot s u t g loadable leads check turn z.facts) in
         let each : Spot → List Arrival = λ r. follows s check false Goes p (settled_spot s r) in
         let fl : Flags = record { c = false; z = x } in
-        outcome_done s t g loadable closed check turn d Stays (Some (fr.c, x)) refl
+        outcome_done s u t g loadable leads check turn d Stays (Some (fr.c, x)) refl
         (record {
           spot = flagged false fl low;
           led = flags_led s turn.place.start turn.place.standing.allowances low false (act_effect Stays (record fr { dt = d }) turn.public) (Some (fr.c, x))
-              (knowing_stays s t g loadable closed check turn z.facts z.holds d bounds.0 bounds.1 []);
+              (knowing_stays s u t g loadable leads check turn z.facts z.holds d bounds.0 bounds.1 []);
           included = included_of t each (flagged false (record { c = false; z = true }) low ∷ flagged false (record { c = false; z = false }) low ∷ []) (flagged false fl low) (case_there x low) all;
         }))
 
@@ -114,49 +114,49 @@ module _ (args : List ℕ) where
   abbrev store : Ins
   store = ins.Prim 0 3 args
 
-  module _ (s : Setting) (t : Tables) (g : Target) (loadable : IsLoadable s.app) (closed : is_closed s t ≡ true) (turn : Turn s t store) (z : Chosen s t g loadable closed store turn) where
-    store_covered : IsRowCovered s t g loadable closed store turn (row store (frame_at turn.frame turn.next) turn.public turn.around)
+  module _ (s : Setting) (u t : Tables) (g : Target) (loadable : IsLoadable s.app) (leads : LeadsInto s u t) (turn : Turn s u store) (z : Chosen s u t g loadable leads store turn) where
+    store_covered : IsRowCovered s u t g loadable leads store turn (row store (frame_at turn.frame turn.next) turn.public turn.around)
     unfolding causes shape later_causes prim_shape
     store_covered =
-        let fr : Frame = f s t g loadable closed store turn in
+        let fr : Frame = f s u t g loadable leads store turn in
         let v : ℕ = num (top fr 1) in
-        chosen_row s t g loadable closed store turn z refl
+        chosen_row s u t g loadable leads store turn z refl
         (λ none all.
         let over : is_under fr 1 ≡ false = none.1.1.0 in
-        let bounds = bottom s t g loadable closed store turn over in
+        let bounds = bottom s u t g loadable leads store turn over in
         let d = fr.dt - 1 in
-        let p : Spot = before s t g loadable closed store turn in
-        let q : Spot = knowing_spot s t g loadable closed store turn z.facts in
+        let p : Spot = before s u t g loadable leads store turn in
+        let q : Spot = knowing_spot s u t g loadable leads store turn z.facts in
         let low : Spot = lowered d q in
         let fl : Option (Bool × Bool) = Some (has_bit v 2, has_bit v 1) in
         let one : includes_all t (row_arrivals false s store (going d Stays fl) AsShaped p q) ≡ true =
-        subst (λ (v : ℕ). includes_all t (row_arrivals false s store (going d Stays (Some (has_bit v 2, has_bit v 1))) AsShaped p q) ≡ true) (top_same s t g loadable closed store turn z over (λ a there h. z.agrees a there h)) all
+        subst (λ (v : ℕ). includes_all t (row_arrivals false s store (going d Stays (Some (has_bit v 2, has_bit v 1))) AsShaped p q) ≡ true) (top_same s u t g loadable leads store turn z over (λ a there h. z.agrees a there h)) all
         in
-        outcome_done s t g loadable closed store turn d Stays fl refl
+        outcome_done s u t g loadable leads store turn d Stays fl refl
         (record {
           spot = _;
-          led = flags_led s turn.place.start turn.place.standing.allowances low false (act_effect Stays (record fr { dt = d }) turn.public) fl (knowing_stays s t g loadable closed store turn z.facts z.holds d bounds.0 bounds.1 []);
+          led = flags_led s turn.place.start turn.place.standing.allowances low false (act_effect Stays (record fr { dt = d }) turn.public) fl (knowing_stays s u t g loadable leads store turn z.facts z.holds d bounds.0 bounds.1 []);
           included = one_shaped s t store d Stays fl p q one;
         }))
 
-check_law : (args : List ℕ) → RowLaw (ins.Prim 0 1 args)
+check_law : (args : List ℕ) → LeadLaw (ins.Prim 0 1 args)
 check_law args =
-    law_of (ins.Prim 0 1 args) (λ s t g loadable closed turn e. e)
+    law_of (ins.Prim 0 1 args) (λ s u t g loadable leads turn e. e)
     (record {
       asks = refl;
       few = check_covered args;
-      many = λ s t g loadable closed turn few rough.
-          absurd (one_by (is_outside (stand s t g loadable closed (ins.Prim 0 1 args) turn).frame (turn.frame.dt - 1) 1) turn.place.known.bytes (turn.frame.dt - 1) few);
+      many = λ s u t g loadable leads turn few rough.
+          absurd (one_by (is_outside (stand s u t g loadable leads (ins.Prim 0 1 args) turn).frame (turn.frame.dt - 1) 1) turn.place.known.bytes (turn.frame.dt - 1) few);
     })
 
-store_law : (args : List ℕ) → RowLaw (ins.Prim 0 3 args)
+store_law : (args : List ℕ) → LeadLaw (ins.Prim 0 3 args)
 store_law args =
-    law_of (ins.Prim 0 3 args) (λ s t g loadable closed turn e. e)
+    law_of (ins.Prim 0 3 args) (λ s u t g loadable leads turn e. e)
     (record {
       asks = refl;
       few = store_covered args;
-      many = λ s t g loadable closed turn few rough.
-          absurd (one_by (is_outside (stand s t g loadable closed (ins.Prim 0 3 args) turn).frame (turn.frame.dt - 1) 1) turn.place.known.bytes (turn.frame.dt - 1) few);
+      many = λ s u t g loadable leads turn few rough.
+          absurd (one_by (is_outside (stand s u t g loadable leads (ins.Prim 0 3 args) turn).frame (turn.frame.dt - 1) 1) turn.place.known.bytes (turn.frame.dt - 1) few);
     })
 
 pub flag_laws : FlagLaw

@@ -26,12 +26,12 @@ use Rattle.model_prove.specs.Reach.{target_choices, greatest_value, address_choi
 use Rattle.model_prove.specs.Work.{Work, AsShaped, work}
 use Rattle.model_prove.specs.Arrivals.{Setting, Arrival, static_size, fails}
 use Rattle.model_prove.specs.Steps.{Spot, lowered, acted, settled_spot, makes_write, row_arrivals, caused, instruction, arounds, chosen, inside, by_choices, fetched, is_return, no_calls, returned_sets}
-use Rattle.model_prove.specs.Tables.{IsLoadable, includes_all, is_closed}
+use Rattle.model_prove.specs.Tables.{IsLoadable, includes_all}
 use Rattle.model_prove.proofs.ChangeLemmas.{written_holds, choice_is_there}
 use Rattle.model_prove.proofs.FactLemmas.{value_holds}
 use Rattle.model_prove.proofs.SetLemmas.{is_first}
 use Rattle.law_prove.specs.Coverings.{frame_memory, IsFrameOf}
-use Rattle.law_prove.specs.Laws.{RowLaw}
+use Rattle.law_prove.specs.Laws.{LeadsInto, LeadLaw}
 use Rattle.law_prove.proofs.Alike.{stack_length}
 use Rattle.law_prove.proofs.Closed.{included_first, included_second}
 use Rattle.law_prove.proofs.Known.{around_none}
@@ -84,12 +84,12 @@ first_outside rest f v e more =
     ap (λ (b : Bool). cond {A = Option Abend} b (Some A04) (first_cause ((A02, not (nat_lt v f.code_len)) ∷ rest (f.dt - 2)))) e
     ∙ ap (λ (b : Bool). cond {A = Option Abend} (not b) (Some A02) (first_cause (rest (f.dt - 2)))) none
 
-module _ (s : Setting) (t : Tables) (g : Target) (loadable : IsLoadable s.app) (closed : is_closed s t ≡ true) (i : Ins) (act : ℕ → Act) (rest : ℕ → List (Abend × Bool)) (targeted : IsTargeted i act rest) (turn : Turn s t i) where
+module _ (s : Setting) (u t : Tables) (g : Target) (loadable : IsLoadable s.app) (leads : LeadsInto s u t) (i : Ins) (act : ℕ → Act) (rest : ℕ → List (Abend × Bool)) (targeted : IsTargeted i act rest) (turn : Turn s u i) where
   abbrev before : Spot
-  before = here s t g loadable closed i turn
+  before = here s u t g loadable leads i turn
 
   abbrev fetched_spot : Spot
-  fetched_spot = there s t g loadable closed i turn
+  fetched_spot = there s u t g loadable leads i turn
 
   -- the frame after the fetch, and its bytes
   abbrev fetched_frame : Frame
@@ -193,12 +193,12 @@ module _ (s : Setting) (t : Tables) (g : Target) (loadable : IsLoadable s.app) (
   real_shape = going (turn.frame.dt - 2) (act number) None
 
   abends_by : (c : Abend) → first_cause (target_causes rest fetched_frame number) ≡ Some c → includes_all t (fails s before.key before.known c) ≡ true
-      → IsRowCovered s t g loadable closed i turn (row i fetched_frame turn.public turn.around)
+      → IsRowCovered s u t g loadable leads i turn (row i fetched_frame turn.public turn.around)
   abends_by c first includes =
       let p = turn.place in
-      subst (IsRowCovered s t g loadable closed i turn) (row_is s t g loadable closed i turn (target_causes rest fetched_frame number) real_shape (targeted.cause fetched_frame turn.public turn.around) (targeted.shaped fetched_frame turn.public turn.around))
-      (subst (λ (z : Option Abend). IsRowCovered s t g loadable closed i turn (row_end z (meaning real_shape fetched_frame turn.public))) (sym first)
-      (fails_by s t g loadable closed turn.entry turn.history turn.frame turn.public p c s.rules.abends before.key refl refl refl includes))
+      subst (IsRowCovered s u t g loadable leads i turn) (row_is s u t g loadable leads i turn (target_causes rest fetched_frame number) real_shape (targeted.cause fetched_frame turn.public turn.around) (targeted.shaped fetched_frame turn.public turn.around))
+      (subst (λ (z : Option Abend). IsRowCovered s u t g loadable leads i turn (row_end z (meaning real_shape fetched_frame turn.public))) (sym first)
+      (fails_by s u t g loadable leads turn.entry turn.history turn.frame turn.public p c s.rules.abends before.key refl refl refl includes))
 
   -- an outcome by the first cause in a scene
   failed_in : (z : Scene) (q : Spot) (c : Abend) → first_cause (target_causes rest z.frame (num (top z.frame 2))) ≡ Some c → includes_all t (instruction s i z before q nobody) ≡ true → includes_all t (fails s before.key before.known c) ≡ true
@@ -218,7 +218,7 @@ module _ (s : Setting) (t : Tables) (g : Target) (loadable : IsLoadable s.app) (
   under_same e same =
       ap (λ (n : ℕ). nat_lt n (dynamic_base + e.session + 2)) same.dt ∙ ap (λ (n : ℕ). nat_lt turn.frame.dt (dynamic_base + n + 2)) (same.session ∙ session_is)
 
-  under_covered : is_under fetched_frame 2 ≡ true → SomeOutcome → IsRowCovered s t g loadable closed i turn (row i fetched_frame turn.public turn.around)
+  under_covered : is_under fetched_frame 2 ≡ true → SomeOutcome → IsRowCovered s u t g loadable leads i turn (row i fetched_frame turn.public turn.around)
   under_covered under o =
       let z : Scene = with_values scene o.choice in
       abends_by A04 (first_under rest fetched_frame number under)
@@ -266,7 +266,7 @@ module _ (s : Setting) (t : Tables) (g : Target) (loadable : IsLoadable s.app) (
     scene_is : (x y : ℕ) → num (top (two_values scene place x y).frame 2) ≡ x * 256 + y
     scene_is x y = let enough = above in let highest = top_low in let size = stack_size in scene_number scene place x y refl (omega (arith, enough)) (omega (arith, highest, size))
 
-    outside_covered : Outside → IsRowCovered s t g loadable closed i turn (row i fetched_frame turn.public turn.around)
+    outside_covered : Outside → IsRowCovered s u t g loadable leads i turn (row i fetched_frame turn.public turn.around)
     outside_covered out =
         let x = most / 256 in
         let y = most % 256 in
@@ -320,20 +320,20 @@ module _ (s : Setting) (t : Tables) (g : Target) (loadable : IsLoadable s.app) (
         (lowered_seen place turn.place.start turn.place.standing.allowances fetched_frame turn.public turn.place.calls known_pair pair_seen)
 
     goes_there : NoCause (target_causes rest fetched_frame number) → includes_all t (row_arrivals (is_return (act number) && no_calls turn.place.calls) s i real_shape AsShaped before pair_spot) ≡ true
-        → IsRowCovered s t g loadable closed i turn (Does (meaning real_shape fetched_frame turn.public))
+        → IsRowCovered s u t g loadable leads i turn (Does (meaning real_shape fetched_frame turn.public))
     goes_there none all =
         let p = turn.place in
         let ss : List Set = returned_sets (act number) known_pair.bytes turn.frame.dt in
         let w = makes_write s turn.frame.protected (act number) in
         let d : Effect = act_effect (act number) low_frame turn.public in
         let led = moved_led ss none.1.1 in
-        let byte_effect : IsByteEffect (shape_effect real_shape fetched_frame turn.public) = shape_bytes s t g loadable closed i turn real_shape (targeted.shaped fetched_frame turn.public turn.around) turn.after in
+        let byte_effect : IsByteEffect (shape_effect real_shape fetched_frame turn.public) = shape_bytes s u t g loadable leads i turn real_shape (targeted.shaped fetched_frame turn.public turn.around) turn.after in
         let plain : includes_all t (row_arrivals false s i real_shape AsShaped before pair_spot) ≡ true = subst (λ (b : Bool). includes_all t (row_arrivals (b && no_calls p.calls) s i real_shape AsShaped before pair_spot) ≡ true) (targeted.other number) all in
-        goes_covered s t g loadable closed turn.entry turn.history turn.frame turn.public turn.depth p turn.deep i d (settled_spot s (moved ss)) w (ap (λ (k : PlaceKey). k.start) led.key)
+        goes_covered s u t g loadable leads turn.entry turn.history turn.frame turn.public turn.depth p turn.deep i d (settled_spot s (moved ss)) w (ap (λ (k : PlaceKey). k.start) led.key)
         (led_covers s p.start p.standing.allowances (moved ss) w d led) (frame_of s.app d.frame led.framed byte_effect.frame) (memory_of_bytes d.frame d.public byte_effect.frame byte_effect.public) byte_effect.frame.stack led.writes
         (one_shaped s t i place (act number) None before pair_spot plain)
 
-    pair_covered : IsFollowed pair → IsRowCovered s t g loadable closed i turn (row i fetched_frame turn.public turn.around)
+    pair_covered : IsFollowed pair → IsRowCovered s u t g loadable leads i turn (row i fetched_frame turn.public turn.around)
     pair_covered followed =
         let p = turn.place in
         let z : Scene = two_values scene place high_byte low_byte in
@@ -352,13 +352,13 @@ module _ (s : Setting) (t : Tables) (g : Target) (loadable : IsLoadable s.app) (
         (subst (λ (m : Shape). includes_all t (caused (first_cause (causes i z.frame z.public nobody)) s i m AsShaped before pair_spot) ≡ true) shaped
         (subst (λ (w : Work). includes_all t (caused (first_cause (causes i z.frame z.public nobody)) s i (shape i z.frame z.public nobody) w before pair_spot) ≡ true) (targeted.works z.frame z.public) at_scene))
         in
-        subst (IsRowCovered s t g loadable closed i turn) (row_is s t g loadable closed i turn cs real_shape (targeted.cause fetched_frame turn.public turn.around) (targeted.shaped fetched_frame turn.public turn.around))
-        (walked s t g loadable closed turn.entry turn.history turn.frame turn.public turn.depth p turn.deep i pair_spot cs real_shape AsShaped (meaning real_shape fetched_frame turn.public) all goes_there)
+        subst (IsRowCovered s u t g loadable leads i turn) (row_is s u t g loadable leads i turn cs real_shape (targeted.cause fetched_frame turn.public turn.around) (targeted.shaped fetched_frame turn.public turn.around))
+        (walked s u t g loadable leads turn.entry turn.history turn.frame turn.public turn.depth p turn.deep i pair_spot cs real_shape AsShaped (meaning real_shape fetched_frame turn.public) all goes_there)
 
   -- ---- by the height of the stack
 
   covered_by : (b : Bool) → is_under fetched_frame 2 ≡ b → includes_all t (targets_of (few_combinations turn.place.known.bytes (inside scene (top_places scene.frame 2))) s i scene before fetched_spot) ≡ true
-      → IsRowCovered s t g loadable closed i turn (row i fetched_frame turn.public turn.around)
+      → IsRowCovered s u t g loadable leads i turn (row i fetched_frame turn.public turn.around)
   covered_by true under includes = under_covered under (some_by (inside scene (top_places scene.frame 2)) (few_combinations turn.place.known.bytes (inside scene (top_places scene.frame 2))) refl includes)
   covered_by false over includes =
       let enough = above over in
@@ -402,12 +402,12 @@ call_form None t s to z p q e = e
 
 -- a row is covered if what was fetched is covered in each of its turns
 law_from : (i : Ins)
-    → ((s : Setting) (t : Tables) (g : Target) (loadable : IsLoadable s.app) (closed : is_closed s t ≡ true) (turn : Turn s t i) → includes_all t (fetched s (here s t g loadable closed i turn) (Ok (i, turn.next))) ≡ true
-    → IsRowCovered s t g loadable closed i turn (row i (frame_at turn.frame turn.next) turn.public turn.around)) → RowLaw i
-law_from i case r g t loadable closed e h f public depth x next p entry deep names segment at =
+    → ((s : Setting) (u t : Tables) (g : Target) (loadable : IsLoadable s.app) (leads : LeadsInto s u t) (turn : Turn s u i) → includes_all t (fetched s (here s u t g loadable leads i turn) (Ok (i, turn.next))) ≡ true
+    → IsRowCovered s u t g loadable leads i turn (row i (frame_at turn.frame turn.next) turn.public turn.around)) → LeadLaw i
+law_from i case r g u t loadable leads e h f public depth x next p entry deep names segment at =
     let s : Setting = record { rules = r; app = g.app } in
-    let decoded : Decodes s.app.code f.at i next = decoded_at s t g loadable closed f i next at in
-    let turn : Turn s t i = record {
+    let decoded : Decodes s.app.code f.at i next = decoded_at s u t g loadable leads f i next at in
+    let turn : Turn s u i = record {
       entry = e;
       history = h;
       frame = f;
@@ -423,27 +423,27 @@ law_from i case r g t loadable closed e h f public depth x next p entry deep nam
       shaped = decoded.shaped;
       after_it = decoded.place;
       inside = decoded.inside;
-      after = leaves_bytes s t g loadable closed f public i next x at p.frame p.dynamic (segment.1 tt) names;
+      after = leaves_bytes s u t g loadable leads f public i next x at p.frame p.dynamic (segment.1 tt) names;
     }
     in
-    case s t g loadable closed turn (included_at s t g loadable closed e h f public i next p at)
+    case s u t g loadable leads turn (included_at s u t g loadable leads e h f public i next p at)
 
-jump_law : (to : ℕ) → RowLaw (ins.Jump 0 to)
+jump_law : (to : ℕ) → LeadLaw (ins.Jump 0 to)
 jump_law to =
-    law_from (ins.Jump 0 to) (λ s t g loadable closed turn includes.
-    let z : Scene = scene s t g loadable closed (ins.Jump 0 to) (Jumps true) (λ dt. []) (jump_is to) turn in
-    let p : Spot = here s t g loadable closed (ins.Jump 0 to) turn in
-    covered_by s t g loadable closed (ins.Jump 0 to) (Jumps true) (λ dt. []) (jump_is to) turn (is_under (frame_at turn.frame turn.next) 2) refl
-    (jump_form (few_combinations p.known.bytes (inside z (top_places z.frame 2))) t s to z p (there s t g loadable closed (ins.Jump 0 to) turn) includes))
+    law_from (ins.Jump 0 to) (λ s u t g loadable leads turn includes.
+    let z : Scene = scene s u t g loadable leads (ins.Jump 0 to) (Jumps true) (λ dt. []) (jump_is to) turn in
+    let p : Spot = here s u t g loadable leads (ins.Jump 0 to) turn in
+    covered_by s u t g loadable leads (ins.Jump 0 to) (Jumps true) (λ dt. []) (jump_is to) turn (is_under (frame_at turn.frame turn.next) 2) refl
+    (jump_form (few_combinations p.known.bytes (inside z (top_places z.frame 2))) t s to z p (there s u t g loadable leads (ins.Jump 0 to) turn) includes))
 
-call_law : (to : ℕ) → RowLaw (ins.Call 0 to)
+call_law : (to : ℕ) → LeadLaw (ins.Call 0 to)
 call_law to =
-    law_from (ins.Call 0 to) (λ s t g loadable closed turn includes.
+    law_from (ins.Call 0 to) (λ s u t g loadable leads turn includes.
     let more : ℕ → List (Abend × Bool) = λ dt. (A05, nat_lt dynamic_end (dt + 4)) ∷ [] in
-    let z : Scene = scene s t g loadable closed (ins.Call 0 to) (Calls true) more (call_is to) turn in
-    let p : Spot = here s t g loadable closed (ins.Call 0 to) turn in
-    covered_by s t g loadable closed (ins.Call 0 to) (Calls true) more (call_is to) turn (is_under (frame_at turn.frame turn.next) 2) refl
-    (call_form (few_combinations p.known.bytes (inside z (top_places z.frame 2))) t s to z p (there s t g loadable closed (ins.Call 0 to) turn) includes))
+    let z : Scene = scene s u t g loadable leads (ins.Call 0 to) (Calls true) more (call_is to) turn in
+    let p : Spot = here s u t g loadable leads (ins.Call 0 to) turn in
+    covered_by s u t g loadable leads (ins.Call 0 to) (Calls true) more (call_is to) turn (is_under (frame_at turn.frame turn.next) 2) refl
+    (call_form (few_combinations p.known.bytes (inside z (top_places z.frame 2))) t s to z p (there s u t g loadable leads (ins.Call 0 to) turn) includes))
 
 pub target_laws : TargetLaw
 target_laws = (jump_law, call_law)
