@@ -512,6 +512,47 @@ def test_the_texts_of_decks_are_those_of_another_program():
         assert without_help(done.stdout.decode()) == without_help(files[f"{name}.txt"].decode()), name
 
 
+# A byte that protection drops: what is loaded from it is not the constant that was stored.
+DROPPED = """format
+power
+app a A000000001
+        PRIM 3,2
+        PUSHB 7
+        STORE SB[1],1
+        PRIM 3,0
+        LOAD SB[1],1
+        ADDN SB[0],1
+        EXIT
+end
+load a 2 0
+#@ app a
+#@ sum s 0
+#@ on turn *ADDN SB[0],1* add s 7
+#@ always SB[0..0] = 0 + s
+"""
+# A sum of 17 bytes, of which the lower 16 are taken again.
+LONG = """format
+power
+app a A000000001
+        NOP
+        EXIT
+end
+load a 17 0
+#@ app a
+#@ sum s 0
+#@ on turn *NOP* add s PB[0..16]
+#@ on turn *NOP* take s PB[1..16]
+#@ always SB[0..16] = 0 + s
+"""
+
+
+@pytest.mark.parametrize("deck, broken", [(DROPPED, "broken SB[0..0] line 16 at 0010"), (LONG, "broken SB[0..16] line 12 at 0000")])
+def test_a_sum_that_is_not_kept_is_broken(deck, broken):
+    done = subprocess.run([program_path("mellab"), "prove"], input=deck, stdout=subprocess.PIPE, text=True, timeout=100, check=False)
+    assert done.returncode == 1
+    assert without_help(done.stdout)[-2] == broken and done.stdout.splitlines()[-1].startswith("not proved keys ")
+
+
 @pytest.mark.parametrize("name", VICTIMS)
 def test_no_attack_breaks_what_is_proved(name):
     status, text = proves(VICTIMS[name])

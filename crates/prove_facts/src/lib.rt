@@ -9,7 +9,7 @@ mod sums;
 mod values;
 
 pub use facts::{Fact, Facts};
-pub use growth::push;
+pub use growth::{prepend, push};
 pub use packed::PackedFacts;
 pub use sums::{Block, Form, Known, More, Origin, Sums, Term, form_of, mask};
 pub use values::Values;

@@ -3,8 +3,13 @@ use crate::growth::push;
 use mc_base::NoMemory;
 use std::alloc::Global;
 
-/// Where the public segment begins.
+/// Where the dynamic and the public segment begin.
+const DYNAMIC: u16 = 0x8000;
+
 const PUBLIC: u16 = 0xC000;
+
+/// The most bytes of a number whose forms are followed.
+const LONGEST: u16 = 16;
 
 /// Where a byte comes from: not known, a constant, or a public byte as the frame began.
 #[derive(Clone, Copy, PartialEq, Eq, Debug)]
@@ -158,12 +163,30 @@ impl Form {
         self.constant & mask(n) == 0 && self.terms.is_empty()
     }
 
-    /// Returns this plus a multiple of another, modulo 256 to the n.
+    /// Returns this plus a multiple of another, modulo 256 to the n, if that is known: of numbers of more than 16 bytes
+    /// nothing is but what stays as it is.
     ///
     /// # Errors
     ///
     /// Returns `NoMemory` if it is out of memory.
-    pub fn plus(&self, alloc: Global, other: &Form, times: u128, n: u16) -> Result<Form, NoMemory> {
+    pub fn moved(
+        &self,
+        alloc: Global,
+        other: &Form,
+        times: u128,
+        n: u16,
+    ) -> Result<Option<Form>, NoMemory> {
+        if n <= LONGEST {
+            return Ok(Some(self.plus(alloc, other, times, n)?));
+        }
+        if other.is_zero(LONGEST) {
+            return Ok(Some(self.copied(alloc)?));
+        }
+        Ok(None)
+    }
+
+    // This plus a multiple of another, modulo 256 to the n, n at most 16.
+    fn plus(&self, alloc: Global, other: &Form, times: u128, n: u16) -> Result<Form, NoMemory> {
         let more = other.constant.wrapping_mul(times);
         let constant = self.constant.wrapping_add(more) & mask(n);
         let mut terms = Vec::new(alloc);
@@ -198,20 +221,24 @@ fn form_of_byte(alloc: Global, origin: Origin) -> Result<Option<Form>, NoMemory>
     }
 }
 
-/// Returns the number that bytes of these origins are, the highest first, or `None` if one is not known.
+/// Returns the number that bytes of these origins are, the highest first, or `None` if one is not known or they are more
+/// than 16.
 ///
 /// # Errors
 ///
 /// Returns `NoMemory` if it is out of memory.
 pub fn form_of(alloc: Global, origins: &[Origin]) -> Result<Option<Form>, NoMemory> {
+    if origins.len() > LONGEST as usize {
+        return Ok(None);
+    }
     let zero = Form::constant(alloc, 0);
     let mut form = Form::constant(alloc, 0);
     for origin in origins {
         let Some(byte) = form_of_byte(alloc, *origin)? else {
             return Ok(None);
         };
-        let shifted = zero.plus(alloc, &form, 256, 16)?;
-        form = shifted.plus(alloc, &byte, 1, 16)?;
+        let shifted = zero.plus(alloc, &form, 256, LONGEST)?;
+        form = shifted.plus(alloc, &byte, 1, LONGEST)?;
     }
     Ok(Some(form))
 }
@@ -383,7 +410,7 @@ fn moved_form(
         return copied_form(alloc, off);
     }
     match off {
-        Some(off) if block == moved => Ok(Some(off.plus(alloc, form, times, block.n)?)),
+        Some(off) if block == moved => off.moved(alloc, form, times, block.n),
         _ => Ok(None),
     }
 }
@@ -406,6 +433,16 @@ fn moved_forms(
     Ok(next)
 }
 
+// A loaded block that is more by a form, if that is known.
+fn more_by(more: &More, form: Option<Form>) -> Option<More> {
+    let form = form?;
+    Some(More {
+        line: more.line,
+        at: more.at,
+        form,
+    })
+}
+
 // How much more a loaded block is after a whole block became more by a form, or `None` if that is not known.
 fn moved_more(
     alloc: Global,
@@ -423,20 +460,12 @@ fn moved_more(
     if block == *moved {
         let form = more
             .form
-            .plus(alloc, form, 0u128.wrapping_sub(times), block.n)?;
-        return Ok(Some(More {
-            line: more.line,
-            at: more.at,
-            form,
-        }));
+            .moved(alloc, form, 0u128.wrapping_sub(times), block.n)?;
+        return Ok(more_by(more, form));
     }
     if own == *moved {
-        let form = more.form.plus(alloc, form, times, block.n)?;
-        return Ok(Some(More {
-            line: more.line,
-            at: more.at,
-            form,
-        }));
+        let form = more.form.moved(alloc, form, times, block.n)?;
+        return Ok(more_by(more, form));
     }
     if is_more_touched(blocks, more, moved.at as u32, moved.n as u32) {
         return Ok(None);
@@ -634,7 +663,7 @@ impl Sums {
         self.origins.retain(|known| known.at < PUBLIC);
     }
 
-    /// What waits is dropped.
+    /// What waits is dropped, and with it where static bytes come from.
     ///
     /// # Errors
     ///
@@ -642,6 +671,7 @@ impl Sums {
     pub fn drop_waiting(&mut self, alloc: Global) -> Result<(), NoMemory> {
         self.off = evens(alloc, self.off.len())?;
         self.more = Vec::new(alloc);
+        self.origins.retain(|known| known.at >= DYNAMIC);
         Ok(())
     }
 
