@@ -1,4 +1,5 @@
--- Lists of digits: what each part has at each place, and that lists of ascending digits that have the same are the same.
+-- Lists of digits: what each part has at each place, and that lists of ascending digits that have the same are the
+-- same.
 use Rattle.std.specs.Prelude.{◌≡◌, ℕ, zero, suc, Bool, true, false, cond, ◌||◌, List, [], ◌∷◌, map, ◌++◌, length, flat_map, Option, Some, None, ⊤, refl}
 use Rattle.std.proofs.Common.{ap, ◌∙◌}
 use Rattle.model_prove.specs.Sets.{Set, is_in, is_empty}
@@ -27,7 +28,7 @@ abbrev pub may_have : Part → ℕ → ℕ → Option (List Digits) → Bool
 may_have k i v None = false
 may_have k i v (Some ds) = has_at k i v ds
 
--- so many digits, all ascending
+-- n digits, all ascending
 abbrev pub AreShaped : ℕ → List Digits → Type 0
 AreShaped zero [] = ⊤
 AreShaped zero (d ∷ ds) = ⊥
@@ -74,7 +75,7 @@ joined_shaped (suc n) (d ∷ ds) (e ∷ es) p q = (joined_rising d e p.0 q.0, jo
 
 -- ---- the ways of the definition
 
--- all ways have so many digits
+-- all ways have n digits
 abbrev pub WaysAreShaped : ℕ → List Way → Type 0
 WaysAreShaped n [] = ⊤
 WaysAreShaped n (w ∷ ws) = AreShaped n w.digits × WaysAreShaped n ws
@@ -111,7 +112,7 @@ with_shaped : (n : ℕ) (w : Way) (ws : List Way) → AreShaped n w.digits → W
 with_shaped n w [] p q = (p, tt)
 with_shaped n w (v ∷ vs) p q = with_by (same_flags v.from w.from) n w v vs (with_way w vs) p q.0 q.1 (with_shaped n w vs p q.1)
 
--- digits that are there, if any, are so many
+-- digits that are there, if any, are n
 abbrev pub MayBeShaped : ℕ → Option (List Digits) → Type 0
 MayBeShaped n None = ⊤
 MayBeShaped n (Some ds) = AreShaped n ds

@@ -20,7 +20,8 @@ no_digits = record { a = []; b = []; r = [] }
 abbrev pub grown : Digits → Set → ℕ → Set → Digits
 grown d xs y rs = cond (is_empty xs) d (record { a = union d.a xs; b = union d.b (y ∷ []); r = union d.r rs })
 
--- digits after others: with the values of the first byte that pass a test, with one of the second, and with their results
+-- digits after others: with the values of the first byte that pass a test, with one of the second, and with their
+-- results
 pub record IsGrown (d e : Digits) (test : ℕ → Bool) (y : ℕ) (result : ℕ → ℕ) : Type 0 where
   pub keeps_a : (v : ℕ) → is_in v d.a ≡ true → is_in v e.a ≡ true
   pub keeps_b : (v : ℕ) → is_in v d.b ≡ true → is_in v e.b ≡ true

@@ -108,8 +108,8 @@ fn add_way(
     push(found, way_to(alloc, walk.steps.as_slice(), c, z)?)
 }
 
-/// Returns the pairs of final flags that some values of the bytes lead to, the highest bytes first. Without a carry C is
-/// clear.
+/// Returns the pairs of final flags that some values of the bytes lead to, the highest bytes first. Without a carry C
+/// is clear.
 ///
 /// # Errors
 ///

@@ -25,8 +25,8 @@ pub record HoldsAlike (p : PackedKnown) (k : Known) : Type 0 where
   pub kept : k.kept ≡ packed_kept p
   pub compare : compare_of k.last ≡ packed_compare p
 
--- The facts of the static bytes as power would leave them: those that are held, or without protection those of the bytes
--- that are read.
+-- The facts of the static bytes as power would leave them: those that are held, or without protection those of the
+-- bytes that are read.
 abbrev pub kept_of : Bool → ℕ → Facts → Facts → Facts
 kept_of true fixed bytes kept = kept
 kept_of false fixed bytes kept = within 0 fixed bytes

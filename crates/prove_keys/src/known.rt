@@ -121,8 +121,8 @@ impl PackedKnown {
         Ok(self.sums.joined(alloc, &other.sums)? == self.sums)
     }
 
-    /// Returns whether what is known here, at a place under protection or not, follows from facts of all bytes, facts of
-    /// the static bytes as power would leave them, and a last compare; `fixed` is the number of static bytes.
+    /// Returns whether what is known here, at a place under protection or not, follows from facts of all bytes, facts
+    /// of the static bytes as power would leave them, and a last compare; `fixed` is the number of static bytes.
     ///
     /// # Errors
     ///

@@ -1,6 +1,7 @@
 #![tactic(auto)]
 
-//! The keys of the two tables of a proof, the last compare that is known at a place, and the tables with their look-ups.
+//! The keys of the two tables of a proof, the last compare that is known at a place, and the tables with their
+//! look-ups.
 
 mod compares;
 mod keys;

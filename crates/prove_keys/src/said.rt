@@ -42,8 +42,8 @@ impl LastSaid {
         }
     }
 
-    /// Returns whether it allows that the n bytes at an address are a number from one to another. It gives up where it is
-    /// said of more bytes than a table holds numbers of that they are not all zero.
+    /// Returns whether it allows that the n bytes at an address are a number from one to another. It gives up where it
+    /// is said of more bytes than a table holds numbers of that they are not all zero.
     pub fn allows_span(&self, at: u16, n: u16, low: u128, high: u128) -> Option<bool>
         ensures { IfSome result (λ allowed. allowed ≡ allows_span (said self.now) at n (low, high)) }
     {

@@ -85,8 +85,8 @@ impl Tables {
         }
     }
 
-    /// Returns whether the tables have a place, at which what is known follows from facts of all bytes, facts of the static
-    /// bytes as power would leave them, and a last compare; `fixed` is the number of static bytes.
+    /// Returns whether the tables have a place, at which what is known follows from facts of all bytes, facts of the
+    /// static bytes as power would leave them, and a last compare; `fixed` is the number of static bytes.
     ///
     /// # Errors
     ///
@@ -112,8 +112,8 @@ impl Tables {
         }
     }
 
-    /// Returns whether the tables have a place without protection, at which what is known follows from facts of all bytes,
-    /// which power would leave, and a last compare.
+    /// Returns whether the tables have a place without protection, at which what is known follows from facts of all
+    /// bytes, which power would leave, and a last compare.
     pub fn holds_settled(&self, key: &PlaceKey, bytes: &Facts, last: &LastSaid) -> bool
         ensures { (names : List (List ℕ)) (classes : List (List Bool)) (fixed : ℕ)
             → AreWhole (length names) (length classes) self.now → AreDistinct classes → result ≡ true

@@ -33,6 +33,6 @@ one_is (suc n) h = let less : suc n - 1 ≡ n = omega arith in ap (λ (k : ℕ).
 pub none_is : (n : ℕ) → n ≡ 0 → [] ≡ bytes n 1
 none_is n h = rw h refl
 
--- a name of zeros after its length
-pub name_length : (n : ℕ) → length (length (zeros n) ∷ zeros n) ≡ 1 + n
-name_length n = omega (arith, length-replicate {A = ℕ} n 0)
+-- the length of a name of zeros
+pub name_length : (n : ℕ) → length (zeros n) ≡ n
+name_length n = length-replicate n 0

@@ -5,4 +5,5 @@ pub mod OutlineLemmas
 pub mod PartLemmas
 pub mod PlaceLemmas
 pub mod SceneLemmas
+pub mod SegmentLemmas
 pub mod WordLemmas

@@ -9,12 +9,12 @@ use Rattle.model_machine.specs.Primitives.{Then, Goes, Exits, Delegates}
 use Rattle.law_rows.specs.Shapes.{Act, Stays, Answers, Jumps, Calls, Returns, Pushes, Replaces, Writes, Protects, Shape}
 use Rattle.model_prove.specs.Sets.{Set}
 use Rattle.model_prove.specs.Facts.{values_from}
-use Rattle.model_prove.specs.Work.{Work, AsShaped, Copies, Works, Searches, AnyZ, NoFact}
+use Rattle.model_prove.specs.Work.{Work, AsShaped, Copies, Works, Searches, AnyZ, Counted, NoFact}
 use Rattle.model_prove.specs.Arrivals.{Setting, Arrival, fails, static_size}
 use Rattle.model_prove.specs.Reach.{Coarse, PushesAny, Shifts, Compares, WritesWithin, Leads}
 use Rattle.model_prove.specs.Reach as reach
-use Rattle.model_prove.specs.Steps.{Spot, row_arrivals, is_return, no_calls, may_wait_too_long, makes_write, follows, settled_spot, spots, with_flags, acted, lowered, any_bytes, shaped_bytes, returned_sets, coarse_done, coarse_for, coarse_spots, reaches_static}
-use Rattle.prove_scenes.specs.Outlines.{outlined_act, outlined_next, outlined, OutlineLaw}
+use Rattle.model_prove.specs.Steps.{Spot, row_arrivals, is_return, no_calls, may_wait_too_long, makes_write, follows, settled_spot, spots, with_flags, acted, lowered, any_bytes, counted_sets, shaped_bytes, returned_sets, coarse_done, coarse_for, coarse_spots, reaches_static}
+use Rattle.prove_scenes.specs.Outlines.{outlined_bytes, outlined_act, outlined_next, outlined, OutlineLaw}
 use Rattle.prove_scenes.specs.Coarse.{coarse_flags, coarse_act, coarse_outlined, CoarseOutlineLaw}
 
 -- ---- acts
@@ -95,12 +95,29 @@ no_fact_same s dt flags q (Replaces b) = ap (λ (k : ℕ). after_act s dt flags 
 no_fact_same s dt flags q (Writes a n b) = ap (λ (k : ℕ). after_act s dt flags q (Writes a n b) (any_bytes k)) (length-replicate (length b) 0)
 no_fact_same s dt flags q (Protects mode) = refl
 
+counted_bytes : (b : List ℕ) → counted_sets (outlined_bytes Counted b) ≡ counted_sets b
+counted_bytes [] = refl
+counted_bytes (n ∷ b) = ap (λ (k : ℕ). (n ∷ []) ∷ any_bytes k) (length-replicate (length b) 0)
+
+counted_same : (s : Setting) (dt : ℕ) (flags : Option (Bool × Bool)) (q : Spot) (a : Act)
+    → after_act s dt flags q (outlined_act Counted a) (counted_sets (shaped_bytes (outlined_act Counted a))) ≡ after_act s dt flags q a (counted_sets (shaped_bytes a))
+counted_same s dt flags q Stays = refl
+counted_same s dt flags q (Answers sw la) = refl
+counted_same s dt flags q (Jumps taken to) = refl
+counted_same s dt flags q (Calls taken to) = refl
+counted_same s dt flags q (Returns less more) = refl
+counted_same s dt flags q (Pushes b) = ap (after_act s dt flags q (Pushes b)) (counted_bytes b)
+counted_same s dt flags q (Replaces b) = ap (after_act s dt flags q (Replaces b)) (counted_bytes b)
+counted_same s dt flags q (Writes a n b) = ap (after_act s dt flags q (Writes a n b)) (counted_bytes b)
+counted_same s dt flags q (Protects mode) = refl
+
 spots_same : (s : Setting) (h : Shape) (w : Work) (q : Spot) → spots s (outlined w h) w q ≡ spots s h w q
 spots_same s h AsShaped q = shaped_same s h.dt h.flags q h.act
 spots_same s h (Copies from) q = copied_same s h.dt h.flags q from h.act
 spots_same s h (Works d) q = refl
 spots_same s h (Searches value table n) q = refl
 spots_same s h AnyZ q = refl
+spots_same s h Counted q = counted_same s h.dt h.flags q h.act
 spots_same s h NoFact q = no_fact_same s h.dt h.flags q h.act
 
 -- ---- arrivals

@@ -1,8 +1,8 @@
 -- The scene of a place, by the values that it is made of; and bytes that are replaced one by one.
 use Rattle.std.proofs.Common.{◌≡◌, ℕ, zero, suc, ◌+◌, ◌-◌, ◌≤◌, ◌<◌, List, [], ◌∷◌, ◌++◌, length, take, drop, get_or, refl, sym, ap, ◌∙◌, arith}
-use Rattle.std.specs.Prelude.{slice_set, Option, Some, None}
+use Rattle.std.specs.Prelude.{Option, Some, None}
 use Rattle.std.specs.List.{refill}
-use Rattle.std.proofs.lemmas.List.{take-replicate, take_at}
+use Rattle.std.proofs.lemmas.List.{take_at}
 use Rattle.model_device.specs.Bytes.{zeros, splice, bytes2}
 use Rattle.model_device.specs.Card.{App}
 use Rattle.model_machine.specs.Frame.{dynamic_base, public_base, public_end}
@@ -36,8 +36,8 @@ stands_in s sizes r app k is size at =
     is ∙ sym (rw (size.code, size.fixed, size.session, size.deny, at.at, at.c, at.z, at.dt, at.lb, at.protected, same_stack k.calls r.newest at.newest) refl)
 
 -- a scene of these parts
-abbrev built : Sizes → Registers → List ℕ → List ℕ → Scene
-built s r fixed dyn =
+abbrev built : Sizes → Registers → List ℕ → List ℕ → List ℕ → Scene
+built s r fixed dyn public =
     record {
       frame = record {
         name = [];
@@ -54,24 +54,16 @@ built s r fixed dyn =
         z = r.z;
         protected = r.protected;
       };
-      public = zeros (public_end - public_base);
+      public = public;
     }
 
 -- a scene that is made of its parts
-pub made : (s : Sizes) (r : Registers) (fixed dyn : List ℕ) → fixed ≡ zeros s.fixed → dyn ≡ stack_under r.newest → built s r fixed dyn ≡ scene_of s r
-made s r fixed dyn f d = ap (λ (t : List ℕ). built s r t dyn) f ∙ ap (λ (t : List ℕ). built s r (zeros s.fixed) t) d
-
--- the first of some zeros
-pub front_of_zeros : (n : ℕ) → n ≤ 4096 → take n (zeros 4096) ≡ zeros n
-front_of_zeros n h = take-replicate n 4096 0 h
-
--- one byte replaced
-pub set_is_splice : (l : List ℕ) (i v : ℕ) → i < length l → slice_set l i v ≡ splice l i (v ∷ [])
-set_is_splice [] i v h = absurd (omega (arith, h))
-set_is_splice (x ∷ l) zero v h = refl
-set_is_splice (x ∷ l) (suc i) v h =
-    let next : suc (i + 1) ≡ suc i + 1 = omega arith in
-    ap (λ (t : List ℕ). x ∷ t) (set_is_splice l i v (omega (arith, h))) ∙ ap (λ (k : ℕ). x ∷ (take i l ++ v ∷ [] ++ drop k (x ∷ l))) next
+pub made : (s : Sizes) (r : Registers) (fixed dyn public : List ℕ) → fixed ≡ zeros s.fixed → dyn ≡ stack_under r.newest → public ≡ zeros (public_end - public_base)
+    → built s r fixed dyn public ≡ scene_of s r
+made s r fixed dyn public f d p =
+    ap (λ (t : List ℕ). built s r t dyn public) f
+    ∙ ap (λ (t : List ℕ). built s r (zeros s.fixed) t public) d
+    ∙ ap (built s r (zeros s.fixed) (stack_under r.newest)) p
 
 -- a write through as_mut_slice comes back as `refill`
 pub refill_same : (n : ℕ) (xs ws : List ℕ) → length ws ≡ n → refill n xs ws ≡ ws

@@ -6,6 +6,7 @@ pub mod Heads
 pub mod Outlines
 pub mod Places
 pub mod Scenes
+pub mod Segments
 pub mod ShapeValues
 pub mod Shifts
 pub mod Transfers

@@ -1,12 +1,13 @@
 -- What of a row's shape matters to what follows it. Of the bytes that a row copies, or that have no fact, the number
--- alone does; of those that it works on digit by digit or searches, and of the flags that it then sets, nothing.
-use Rattle.std.specs.Prelude.{◌≡◌, ℕ, Bool, List, [], length, Option, None}
+-- alone does, and so of bytes behind a first one, their number; of those that it works on digit by digit or searches,
+-- and of the flags that it then sets, nothing.
+use Rattle.std.specs.Prelude.{◌≡◌, ℕ, Bool, List, [], ◌∷◌, length, Option, None}
 use Rattle.model_machine.specs.declared.instruction.Ins.{Ins}
 use Rattle.model_device.specs.Bytes.{zeros}
 use Rattle.model_machine.specs.Primitives.{Then, Goes, Exits, Delegates}
 use Rattle.law_rows.specs.Shapes.{Act, Stays, Answers, Jumps, Calls, Returns, Pushes, Replaces, Writes, Protects, Shape}
 use Rattle.model_machine.specs.declared.machine.Abend.{Abend}
-use Rattle.model_prove.specs.Work.{Work, AsShaped, Copies, Works, Searches, AnyZ, NoFact}
+use Rattle.model_prove.specs.Work.{Work, AsShaped, Copies, Works, Searches, AnyZ, Counted, NoFact}
 use Rattle.model_prove.specs.Arrivals.{Setting}
 use Rattle.model_prove.specs.Steps.{Spot, caused}
 
@@ -17,6 +18,8 @@ outlined_bytes (Copies from) b = zeros (length b)
 outlined_bytes (Works d) b = []
 outlined_bytes (Searches value table n) b = []
 outlined_bytes AnyZ b = []
+outlined_bytes Counted [] = []
+outlined_bytes Counted (n ∷ b) = n ∷ zeros (length b)
 outlined_bytes NoFact b = zeros (length b)
 
 -- the flags of a row that matter
@@ -26,6 +29,7 @@ outlined_flags (Copies from) flags = flags
 outlined_flags (Works d) flags = None
 outlined_flags (Searches value table n) flags = None
 outlined_flags AnyZ flags = None
+outlined_flags Counted flags = flags
 outlined_flags NoFact flags = flags
 
 -- an act with the bytes that matter

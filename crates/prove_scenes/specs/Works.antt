@@ -41,4 +41,5 @@ work_value (works.Copies from) = work.Copies from
 work_value (works.Works d) = work.Works (digitwise_value d)
 work_value (works.Searches value table n) = work.Searches value table n
 work_value works.AnyZ = work.AnyZ
+work_value works.Counted = work.Counted
 work_value works.NoFact = work.NoFact

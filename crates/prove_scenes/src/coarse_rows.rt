@@ -26,8 +26,8 @@ pub enum Lengths {
     At(u16),
 }
 
-/// What a row of too many combinations does: it pushes bytes without a fact, shifts top bytes, compares, searches, writes
-/// at an address that the two bytes at a place may be, or leads on.
+/// What a row of too many combinations does: it pushes bytes without a fact, shifts top bytes, compares, searches,
+/// writes at an address that the two bytes at a place may be, or leads on.
 #[derive(Clone, Copy, Debug, PartialEq, Eq)]
 pub enum Coarse {
     PushesAny(u8),

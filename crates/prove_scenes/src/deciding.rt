@@ -125,8 +125,8 @@ fn prim_deciders(primitive: Primitive, args: &[u8; 3], scene: &Scene) -> Places
     }
 }
 
-/// Returns the places of the bytes that decide besides, once those are known: the length byte at the address of a search
-/// or a delegation.
+/// Returns the places of the bytes that decide besides, once those are known: the length byte at the address of a
+/// search or a delegation.
 pub fn later_deciders(ins: &Ins, scene: &Scene) -> Places
     ensures { places_value result ≡ splits.later_deciders ins.now scene.now.frame }
 {

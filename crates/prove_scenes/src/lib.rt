@@ -14,6 +14,7 @@ mod operands;
 mod prim_causes;
 mod prim_shaping;
 mod scene;
+mod segment;
 mod shapes;
 mod shaping;
 mod words;

@@ -103,13 +103,13 @@ impl Scene {
         ensures short { length result.now ≤ count }
     {
         if count == 0 {
-            return &self.public[..0];
+            return &[];
         }
         match self.where_is(dt, at, count) {
-            Some(Place::Static(i)) => part(self.fixed.as_slice(), i as usize, count as usize),
-            Some(Place::Dynamic(i)) => part(&self.dynamic, i as usize, count as usize),
-            Some(Place::Public(i)) => part(&self.public, i as usize, count as usize),
-            None => part(&self.public, 0, 0),
+            Some(Place::Static(i)) => part(self.fixed.bytes(), i as usize, count as usize),
+            Some(Place::Dynamic(i)) => part(self.dynamic.bytes(), i as usize, count as usize),
+            Some(Place::Public(i)) => part(self.public.bytes(), i as usize, count as usize),
+            None => &[],
         }
     }
 
@@ -161,7 +161,7 @@ impl Scene {
         ensures short { length result.now ≤ count }
     {
         let from = self.dt.saturating_sub(below).saturating_sub(DYNAMIC);
-        part(&self.dynamic, from as usize, count as usize)
+        part(self.dynamic.bytes(), from as usize, count as usize)
     }
 
     /// Returns the number in the two bytes that begin `below` bytes below the top of the stack.
@@ -183,7 +183,7 @@ impl Scene {
         ensures { result ≡ model.saved_address self.now.frame below }
     {
         let from = self.lb.saturating_sub(below).saturating_sub(DYNAMIC);
-        number(part(&self.dynamic, from as usize, 2))
+        number(part(self.dynamic.bytes(), from as usize, 2))
     }
 }
 

@@ -28,8 +28,8 @@ pub enum Side {
     Right,
 }
 
-/// Returns the shape of the primitive of a set and a number in a scene, as far as it matters. `None` is returned only if
-/// its row abends.
+/// Returns the shape of the primitive of a set and a number in a scene, as far as it matters. `None` is returned only
+/// if its row abends.
 pub fn prim_shape(
     scene: &Scene,
     around: &Around,
@@ -144,7 +144,7 @@ pub fn delegates(scene: &Scene) -> Shape
 // The delegator's name written after its length, or nothing.
 #[tactic(auto, using(crate::proofs::ByteLemmas::name_length))]
 fn report_delegator(scene: &Scene, around: &Around) -> Option<Shape>
-    ensures { IfSome result (λ h. shape_value h ≡ outlined work.NoFact
+    ensures { IfSome result (λ h. shape_value h ≡ outlined work.Counted
         (shapes.delegator_shape scene.now.frame (around_value around.now).delegator)) }
 {
     let dt = scene.dt() - 2;
@@ -164,13 +164,23 @@ fn report_delegator(scene: &Scene, around: &Around) -> Option<Shape>
                 act: Act::Writes {
                     at: scene.number_below_top(2),
                     count: 1 + len as u16,
-                    bytes: same_bytes(1 + len, 0),
+                    bytes: zeros_after(len),
                 },
                 flags: Some((scene.c(), false)),
                 next: Next::Goes,
             })
         }
     }
+}
+
+// A number, and behind it as many zeros.
+fn zeros_after(number: u8) -> Bytes
+    requires { number < 255 }
+    ensures { result.items ≡ number ∷ zeros number }
+{
+    let mut bytes = same_bytes(number, 0);
+    bytes.insert(0, number);
+    bytes
 }
 
 // A digest.

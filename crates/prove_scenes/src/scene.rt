@@ -1,14 +1,14 @@
 // The frame that stands for all frames of a place.
-ghost use Rattle.std.specs.Prelude.{◌≡◌, ◌≤◌, ◌<◌, ◌+◌, ◌-◌, ◌∷◌, ◌++◌, [], length, true, false, IfSome};
-ghost use Rattle.arrayvec.specs.ArrayVec.{array_vec_len};
-ghost use Rattle.model_device.specs.Bytes.{bytes2, splice, zeros};
+ghost use Rattle.std.specs.Prelude.{◌≡◌, ◌≤◌, ◌+◌, ◌-◌, ◌++◌, length, true, false, IfOk, IfSome, OnOk};
+ghost use Rattle.model_device.specs.Bytes.{bytes2, splice};
 ghost use Rattle.model_device.specs.Card.{App};
 ghost use Rattle.model_prove.specs.Keys.{PlaceKey};
 ghost use Rattle.model_prove.specs.Splits.{stand_in, with_byte, with_values};
 ghost use Rattle.prove_scenes.specs.Scenes.{IsSized, HasRegisters, EndsInStack, scene_of, stack_under};
 
-use arrayvec::ArrayVec;
-use mc_base::bytes_of;
+use crate::segment::Segment;
+use mc_base::{NoMemory, bytes_of};
+use std::alloc::Global;
 use std::marker::Model;
 
 /// The address of the first dynamic byte.
@@ -59,15 +59,15 @@ pub struct Scene {
     pub(crate) code_len: u16,
     pub(crate) session: u16,
     pub(crate) deny: u16,
-    pub(crate) fixed: ArrayVec<u8, 4096>,
-    pub(crate) dynamic: [u8; 512],
+    pub(crate) fixed: Segment,
+    pub(crate) dynamic: Segment,
     pub(crate) dt: u16,
     pub(crate) lb: u16,
     pub(crate) at: u16,
     pub(crate) c: bool,
     pub(crate) z: bool,
     pub(crate) protected: bool,
-    pub(crate) public: [u8; 1041],
+    pub(crate) public: Segment,
 }
 
 impl Model for Scene {
@@ -84,35 +84,43 @@ impl Model for Scene {
 impl Scene {
     /// Returns the frame that stands for those of a place, or `None` if its registers lie in no segment: its registers
     /// are those of the place, its bytes zeros.
+    ///
+    /// # Errors
+    ///
+    /// Returns `NoMemory` if it is out of memory.
     #[tactic(auto, using(crate::proofs::SceneLemmas::stands_in))]
-    pub fn stand_in(sizes: &Sizes, place: &Registers) -> Option<Scene>
-        ensures { IfSome result (λ s. (app : App) (k : PlaceKey) → IsSized app sizes.now → HasRegisters k place.now
-            → s ≡ stand_in app k) }
+    pub fn stand_in(
+        alloc: Global,
+        sizes: &Sizes,
+        place: &Registers,
+    ) -> Result<Option<Scene>, NoMemory>
+        ensures { IfOk result (λ r. IfSome r (λ s. (app : App) (k : PlaceKey) → IsSized app sizes.now
+            → HasRegisters k place.now → s ≡ stand_in app k)) }
     {
-        Scene::of(sizes, place)
+        Scene::of(alloc, sizes, place)
     }
 
     // The scene of a place, if its registers lie in the dynamic segment.
-    fn of(sizes: &Sizes, place: &Registers) -> Option<Scene>
-        ensures { IfSome result (λ s. s ≡ scene_of sizes.now place.now) }
+    fn of(alloc: Global, sizes: &Sizes, place: &Registers) -> Result<Option<Scene>, NoMemory>
+        ensures { IfOk result (λ r. IfSome r (λ s. s ≡ scene_of sizes.now place.now)) }
     {
         if sizes.fixed > 4096 || !has_stack(sizes, place) || !has_call(place.newest) {
-            return None;
+            return Ok(None);
         }
-        Some(Scene {
+        Ok(Some(Scene {
             code_len: sizes.code,
             session: sizes.session,
             deny: sizes.deny,
-            fixed: zero_bytes(sizes.fixed),
-            dynamic: stack_of(place.newest),
+            fixed: Segment::new(alloc, sizes.fixed),
+            dynamic: stack_of(alloc, place.newest)?,
             dt: place.dt,
             lb: place.lb,
             at: place.at,
             c: place.c,
             z: place.z,
             protected: place.protected,
-            public: [0; 1041],
-        })
+            public: Segment::new(alloc, PUBLIC_END - PUBLIC),
+        }))
     }
 
     /// Sets the code address, and nothing else.
@@ -123,40 +131,48 @@ impl Scene {
     }
 
     /// Sets the byte at an address, and returns `true`; or `false`, if the scene has no such byte.
-    pub fn set_byte(&mut self, at: u16, value: u8) -> bool
-        ensures set { result ≡ true → self.new ≡ with_byte self.old (at, value) }
+    ///
+    /// # Errors
+    ///
+    /// Returns `NoMemory` if it is out of memory.
+    pub fn set_byte(&mut self, at: u16, value: u8) -> Result<bool, NoMemory>
+        ensures set { IfOk result (λ set. set ≡ true → self.new ≡ with_byte self.old (at, value)) }
     {
         let place = at as usize;
         if place < self.fixed.len() {
-            put_fixed(&mut self.fixed, place, value);
-            return true;
+            self.fixed.put(place, &[value])?;
+            return Ok(true);
         }
         if at < PUBLIC {
             let i = at.saturating_sub(DYNAMIC) as usize;
-            if i >= 512 {
-                return false;
+            if i >= self.dynamic.len() {
+                return Ok(false);
             }
-            put(&mut self.dynamic, i, value);
-            return true;
+            self.dynamic.put(i, &[value])?;
+            return Ok(true);
         }
         let i = (at - PUBLIC) as usize;
-        if i >= 1041 {
-            return false;
+        if i >= self.public.len() {
+            return Ok(false);
         }
-        put(&mut self.public, i, value);
-        true
+        self.public.put(i, &[value])?;
+        Ok(true)
     }
 
     /// Sets bytes in their order, and returns `true`; or `false`, if the scene has not all of them.
-    pub fn set_bytes(&mut self, bytes: &[(u16, u8)]) -> bool
-        ensures set { result ≡ true → self.new ≡ with_values self.old bytes.now }
+    ///
+    /// # Errors
+    ///
+    /// Returns `NoMemory` if it is out of memory.
+    pub fn set_bytes(&mut self, bytes: &[(u16, u8)]) -> Result<bool, NoMemory>
+        ensures set { IfOk result (λ set. set ≡ true → self.new ≡ with_values self.old bytes.now) }
     {
         for (at, value) in bytes {
-            if !self.set_byte(*at, *value) {
-                return false;
+            if !self.set_byte(*at, *value)? {
+                return Ok(false);
             }
         }
-        true
+        Ok(true)
     }
 }
 
@@ -178,57 +194,27 @@ fn has_call(newest: Option<OpenCall>) -> bool
     }
 }
 
-// Some static bytes, all zeros.
-#[tactic(auto, using(crate::proofs::SceneLemmas::front_of_zeros))]
-fn zero_bytes(count: u16) -> ArrayVec<u8, 4096>
-    requires { count ≤ 4096 }
-    ensures { result.items ≡ zeros count }
-{
-    let mut bytes = ArrayVec::new();
-    bytes
-        .try_extend_from_slice(&[0; 4096][..count as usize])
-        .unwrap();
-    bytes
-}
-
 // The dynamic bytes under a newest call.
-fn stack_of(newest: Option<OpenCall>) -> [u8; 512]
+fn stack_of(alloc: Global, newest: Option<OpenCall>) -> Result<Segment, NoMemory>
     requires { EndsInStack newest }
-    ensures { result ≡ stack_under newest }
+    ensures { IfOk result (λ bytes. bytes ≡ stack_under newest) }
 {
-    let mut bytes = [0; 512];
+    let mut bytes = Segment::new(alloc, 512);
     if let Some(call) = newest {
-        save(&mut bytes, &call);
+        save(&mut bytes, &call)?;
     }
-    bytes
+    Ok(bytes)
 }
 
 // Writes what a call saved.
-fn save(bytes: &mut [u8], call: &OpenCall)
+fn save(bytes: &mut Segment, call: &OpenCall) -> Result<(), NoMemory>
     requires room { length bytes.old ≡ 512 }
     requires end { call.now.dt ≤ 0x8200 }
-    ensures { bytes.new ≡ splice bytes.old (call.now.dt - 4 - 0x8000) (bytes2 call.now.lb ++ bytes2 call.now.at) }
+    ensures { OnOk result (bytes.new ≡ splice bytes.old (call.now.dt - 4 - 0x8000)
+        (bytes2 call.now.lb ++ bytes2 call.now.at)) }
 {
     let from = call.dt.saturating_sub(4).saturating_sub(DYNAMIC) as usize;
     let [a, b] = bytes_of(call.lb);
     let [c, d] = bytes_of(call.at);
-    bytes[from..from + 4].copy_from_slice(&[a, b, c, d]);
-}
-
-// Replaces a byte.
-#[tactic(auto, using(crate::proofs::SceneLemmas::set_is_splice))]
-fn put(bytes: &mut [u8], i: usize, value: u8)
-    requires { i < length bytes.old }
-    ensures { bytes.new ≡ splice bytes.old i (value ∷ []) }
-{
-    bytes[i] = value;
-}
-
-// Replaces a static byte.
-#[tactic(auto, using(crate::proofs::SceneLemmas::refill_same))]
-fn put_fixed(bytes: &mut ArrayVec<u8, 4096>, i: usize, value: u8)
-    requires { i < array_vec_len bytes.old }
-    ensures { bytes.new.items ≡ splice bytes.old.items i (value ∷ []) }
-{
-    put(bytes.as_mut_slice(), i, value);
+    bytes.put(from, &[a, b, c, d])
 }

@@ -18,8 +18,8 @@ use crate::shapes::{Act, Next, Shape};
 use crate::working::{Bytes, byte_alone, no_bytes, same_bytes, word_bytes};
 use model_machine::Ins;
 
-/// Returns the shape of an instruction's row in a scene, as far as it matters: of the bytes that it copies, or that have
-/// no fact, zeros are given, and of those that it works on none. `None` is returned only if the row abends.
+/// Returns the shape of an instruction's row in a scene, as far as it matters: of the bytes that it copies, or that
+/// have no fact, zeros are given, and of those that it works on none. `None` is returned only if the row abends.
 #[tactic(auto, unfolding(law_rows::specs::Shapes::shape))]
 pub fn shape_of(ins: &Ins, scene: &Scene, around: &Around) -> Option<Shape>
     ensures { IfSome result (λ h. shape_value h ≡ outlined (work ins.now scene.now.frame scene.now.public)

@@ -56,6 +56,7 @@ pub enum Work {
     Works(Digitwise),
     Searches { value: u16, table: u32, n: u8 },
     AnyZ,
+    Counted,
     NoFact,
 }
 
@@ -280,11 +281,9 @@ fn prim_work(primitive: Primitive, args: &[u8; 3], scene: &Scene) -> Work
         Primitive::MemoryCopy | Primitive::CopyFixed => Work::Copies {
             from: scene.number_below_top(2),
         },
-        Primitive::DelegatorAid
-        | Primitive::Digest
-        | Primitive::Encipher(_)
-        | Primitive::Decipher(_)
-        | Primitive::Sign(_) => Work::NoFact,
+        Primitive::DelegatorAid => Work::Counted,
+        Primitive::Digest | Primitive::Encipher(_) | Primitive::Decipher(_) | Primitive::Sign(_) =>
+            Work::NoFact,
         Primitive::CompareFixed => compare(scene, args[0] as u16),
         Primitive::BitByte => mask(
             scene,

@@ -4,8 +4,8 @@ ghost use Rattle.model_prove.specs.Keys.{calls_before};
 ghost use Rattle.prove_keys.specs.Keys.{call_of, calls_of};
 ghost use Rattle.prove_spots.specs.Losses.{IsOrdered, is_lost};
 
-use crate::growth::push;
 use mc_base::NoMemory;
+use prove_facts::push;
 use prove_keys::{Call, touches};
 
 /// How bytes are lost: from one address to below another by a write, or above DT.

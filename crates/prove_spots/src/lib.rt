@@ -4,7 +4,6 @@
 
 mod acts;
 mod calls;
-mod growth;
 mod lists;
 mod moves;
 mod parts;
@@ -13,9 +12,9 @@ mod statics;
 mod writes;
 
 pub use calls::{Loss, lose_calls, pop_call, push_call};
-pub use growth::push;
 pub use lists::{
-    any_values, know_all, only_values, returned_values, shaped_len, shaped_values, values_from,
+    any_values, counted_values, know_all, only_values, returned_values, shaped_bytes, shaped_len,
+    shaped_values, values_from,
 };
 pub use parts::with_part;
 pub use spot::Spot;

@@ -1,13 +1,12 @@
 // Lists of values of bytes.
-ghost use Rattle.std.specs.Prelude.{◌≡◌, ◌+◌, ◌≤◌, map, length, OnOk, IfOk, IfSome};
+ghost use Rattle.std.specs.Prelude.{◌≡◌, ◌+◌, ◌≤◌, ◌<◌, map, length, OnOk, IfOk, IfSome};
 ghost use Rattle.model_prove.specs.Facts as known;
-ghost use Rattle.model_prove.specs.Steps.{sets, any_bytes, shaped_bytes, returned_sets};
+ghost use Rattle.model_prove.specs.Steps.{sets, any_bytes, counted_sets, shaped_bytes, returned_sets};
 ghost use Rattle.prove_facts.specs.Sets.{set_of};
 ghost use Rattle.prove_scenes.specs.ShapeValues.{act_value};
 
-use crate::growth::push;
 use mc_base::NoMemory;
-use prove_facts::{Facts, Values};
+use prove_facts::{Facts, Values, prepend, push};
 use prove_scenes::Act;
 use std::alloc::Global;
 
@@ -39,6 +38,25 @@ pub fn any_values(alloc: Global, n: u16) -> Result<Vec<Values>, NoMemory>
         push(&mut list, Values::ALL)?;
     }
     Ok(list)
+}
+
+/// Returns the values of bytes behind their number: that number, and for each of them all values.
+///
+/// # Errors
+///
+/// Returns `NoMemory` if it is out of memory.
+pub fn counted_values(alloc: Global, bytes: &[u8]) -> Result<Vec<Values>, NoMemory>
+    requires { length bytes.now < 65536 }
+    ensures { IfOk result (λ list. map set_of list.items ≡ counted_sets bytes.now) }
+{
+    match bytes {
+        [] => Ok(Vec::new(alloc)),
+        [number, counted @ ..] => {
+            let mut list = any_values(alloc, counted.len() as u16)?;
+            prepend(&mut list, Values::one(*number))?;
+            Ok(list)
+        }
+    }
 }
 
 /// Returns the values of n bytes from an address on, or `None` if they go past the last address.
@@ -87,6 +105,19 @@ pub fn know_all(facts: &mut Facts, at: u16, list: &[Values]) -> Result<(), NoMem
     Ok(())
 }
 
+/// Returns the bytes of an act that its shape says.
+pub fn shaped_bytes(act: &Act) -> &[u8]
+    ensures bytes { result.now ≡ shaped_bytes (act_value act.now) }
+    ensures few { length result.now ≤ 255 }
+{
+    match act {
+        Act::Pushes { bytes } => bytes.as_slice(),
+        Act::Replaces { bytes } => bytes.as_slice(),
+        Act::Writes { bytes, .. } => bytes.as_slice(),
+        _ => &[],
+    }
+}
+
 /// Returns the values of the bytes of an act that its shape says.
 ///
 /// # Errors
@@ -95,28 +126,18 @@ pub fn know_all(facts: &mut Facts, at: u16, list: &[Values]) -> Result<(), NoMem
 pub fn shaped_values(alloc: Global, act: &Act) -> Result<Vec<Values>, NoMemory>
     ensures { IfOk result (λ list. map set_of list.items ≡ sets (shaped_bytes (act_value act.now))) }
 {
-    match act {
-        Act::Pushes { bytes } => only_values(alloc, bytes.as_slice()),
-        Act::Replaces { bytes } => only_values(alloc, bytes.as_slice()),
-        Act::Writes { bytes, .. } => only_values(alloc, bytes.as_slice()),
-        _ => Ok(Vec::new(alloc)),
-    }
+    only_values(alloc, shaped_bytes(act))
 }
 
 /// Returns the number of bytes of an act that its shape says.
 pub fn shaped_len(act: &Act) -> u16
     ensures { result ≡ length (shaped_bytes (act_value act.now)) }
 {
-    match act {
-        Act::Pushes { bytes } => bytes.len() as u16,
-        Act::Replaces { bytes } => bytes.len() as u16,
-        Act::Writes { bytes, .. } => bytes.len() as u16,
-        _ => 0,
-    }
+    shaped_bytes(act).len() as u16
 }
 
-/// Returns the values of the bytes that an act moves by itself, with the facts and DT of a place: those on top that a return
-/// leaves, or those that its shape says. `None` is returned if they go past the last address.
+/// Returns the values of the bytes that an act moves by itself, with the facts and DT of a place: those on top that a
+/// return leaves, or those that its shape says. `None` is returned if they go past the last address.
 ///
 /// # Errors
 ///

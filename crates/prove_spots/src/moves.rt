@@ -87,8 +87,8 @@ impl Spot {
         Ok(())
     }
 
-    /// Returns through the newest call, if one is open, which leaves those before it open, with these values of the bytes
-    /// that move over it and the bytes below it. Returns whether they end below the last address.
+    /// Returns through the newest call, if one is open, which leaves those before it open, with these values of the
+    /// bytes that move over it and the bytes below it. Returns whether they end below the last address.
     ///
     /// # Errors
     ///

@@ -14,8 +14,8 @@ use mc_base::NoMemory;
 use std::alloc::Global;
 
 impl Spot {
-    /// Sets the protection, of an application with so many static bytes: a commit keeps what is read of them, and otherwise
-    /// what is kept is read. Returns whether nothing else is kept.
+    /// Sets the protection, of an application with this number of static bytes: a commit keeps what is read of them,
+    /// and otherwise what is kept is read. Returns whether nothing else is kept.
     ///
     /// # Errors
     ///
@@ -67,7 +67,7 @@ impl Spot {
         Ok(true)
     }
 
-    /// Makes what power would leave of so many static bytes what is read, unless writes wait under protection.
+    /// Makes what power would leave of this number of static bytes what is read, unless writes wait under protection.
     ///
     /// # Errors
     ///

@@ -89,8 +89,8 @@ impl Spot {
         Ok(true)
     }
 
-    /// Writes the two bytes of a number at an address, if there is one. Returns whether they end at the last address or below
-    /// it.
+    /// Writes the two bytes of a number at an address, if there is one. Returns whether they end at the last address or
+    /// below it.
     ///
     /// # Errors
     ///

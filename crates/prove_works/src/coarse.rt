@@ -16,10 +16,10 @@ use crate::hits::{calls_hit, facts_not_reached, last_not_reached};
 use crate::reach::{Reach, reach_of, some_reached};
 use crate::rows::{add_flagged, one};
 use mc_base::NoMemory;
-use prove_facts::Facts;
+use prove_facts::{Facts, push};
 use prove_keys::Call;
 use prove_scenes::{Coarse, Scene};
-use prove_spots::{Spot, any_values, push};
+use prove_spots::{Spot, any_values};
 use std::alloc::Global;
 
 // The place after bytes without a fact were pushed.

@@ -14,9 +14,11 @@ ghost use Rattle.prove_works.specs.Numbers.{flags_of};
 use crate::searched::{lowered, searched};
 use crate::worked::works_to;
 use mc_base::NoMemory;
-use prove_facts::Values;
+use prove_facts::{Values, push};
 use prove_scenes::{Shape, Work};
-use prove_spots::{Spot, any_values, push, returned_values, shaped_len, values_from};
+use prove_spots::{
+    Spot, any_values, counted_values, returned_values, shaped_bytes, shaped_len, values_from,
+};
 use std::alloc::Global;
 
 // The place after a row's act with these values of the bytes that it writes or pushes, and its flags.
@@ -106,6 +108,21 @@ fn without_facts(
     shaped(alloc, fixed, shape, list.as_slice(), spot)
 }
 
+// The place after a row that writes or pushes bytes without a fact behind a first one, their number, which is known.
+fn counted(
+    alloc: Global,
+    fixed: u16,
+    shape: &Shape,
+    spot: &Spot,
+) -> Result<Option<Vec<Spot>>, NoMemory>
+    ensures { IfOk result (λ found. IfSome found (λ spots. (x : Setting) (s : Start) (a : Amounts)
+        → static_size x ≡ fixed
+        → map (spot_of s a) spots.items ≡ steps.spots x (shape_value shape.now) work.Counted (spot_of s a spot.now))) }
+{
+    let list = counted_values(alloc, shaped_bytes(&shape.act))?;
+    shaped(alloc, fixed, shape, list.as_slice(), spot)
+}
+
 // The places after a row that sets Z any way.
 fn with_any_z(alloc: Global, dt: u16, spot: &Spot) -> Result<Vec<Spot>, NoMemory>
     ensures { IfOk result (λ spots. (s : Start) (a : Amounts) → map (spot_of s a) spots.items
@@ -166,6 +183,7 @@ pub fn spots(
             searched(alloc, shape.dt, *value, *table, *n, spot)
         }
         Work::AnyZ => Ok(Some(with_any_z(alloc, shape.dt, spot)?)),
+        Work::Counted => counted(alloc, fixed, shape, spot),
         Work::NoFact => without_facts(alloc, fixed, shape, spot),
     }
 }

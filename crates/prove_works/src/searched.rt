@@ -11,8 +11,8 @@ ghost use Rattle.prove_works.specs.Searches.{sets_of};
 use crate::lists::list_of;
 use crate::searches::{each_index, some_pass};
 use mc_base::NoMemory;
-use prove_facts::Values;
-use prove_spots::{Spot, push, values_from};
+use prove_facts::{Values, push};
+use prove_spots::{Spot, values_from};
 use std::alloc::Global;
 
 // Adds the place after an index was pushed.

@@ -16,10 +16,10 @@ use crate::narrowing::operands_narrowed;
 use crate::operands::{allows, last_after, operand_values};
 use mc_base::NoMemory;
 use prove_digits::{Digit, Way, ways};
-use prove_facts::{Facts, Values};
+use prove_facts::{Facts, Values, push};
 use prove_keys::LastSaid;
 use prove_scenes::{Digitwise, Operation};
-use prove_spots::{Spot, push, values_from};
+use prove_spots::{Spot, values_from};
 use std::alloc::Global;
 
 // A place after bytes were written, with these facts before it, unless they go past the last address.

@@ -4,7 +4,7 @@ use Rattle.prove_keys.specs.Keys.{calls_of}
 use Rattle.prove_spots.specs.Losses.{IsOrdered, is_lost}
 use Rattle.prove_spots.proofs.calls.lost_calls.Given as goal
 
--- of the calls so far so many are lost
+-- of the calls so far this number is lost
 abbrev pub invariant-loop-index : goal.invariant-loop-index
 invariant-loop-index l =
     record {
