@@ -1,3 +1,4 @@
 pub mod AllowedLemmas
 pub mod IncludedLemmas
+pub mod LandingLemmas
 pub mod OutcomeLemmas

@@ -2,16 +2,17 @@
 ghost use Rattle.std.specs.Prelude.{◌≡◌, ℕ, Bool, true, List, [], ◌∷◌, length, IfOk, IfSome};
 ghost use Rattle.model_prove.specs.Arrivals as arrivals;
 ghost use Rattle.model_prove.specs.Arrivals.{AtMoment, AtPlace, Setting};
-ghost use Rattle.model_prove.specs.Facts.{Facts};
+ghost use Rattle.model_prove.specs.Facts.{Facts, within};
 ghost use Rattle.model_prove.specs.Keys as known;
 ghost use Rattle.model_prove.specs.Tables.{includes};
-ghost use Rattle.prove_keys.specs.Keys.{amounts_of, moment_of};
-ghost use Rattle.prove_arrivals.specs.Subjects.{Accepts, IsOver, known_in, spot_in, tables_in};
+ghost use Rattle.prove_facts.specs.Facts.{facts_of};
+ghost use Rattle.prove_keys.specs.Keys.{amounts_of, moment_of, place_of};
+ghost use Rattle.prove_arrivals.specs.Subjects.{Accepts, IsOver, IsSubject, classes_in, known_in, spot_in, tables_in};
 
 use crate::subject::Subject;
 use mc_base::NoMemory;
-use prove_facts::Facts;
-use prove_keys::{Begun, MomentKey};
+use prove_facts::{Fact, Facts};
+use prove_keys::{Begun, MomentKey, PlaceKey};
 use prove_spots::{Spot, with_part};
 use std::alloc::Global;
 
@@ -84,6 +85,42 @@ pub fn in_session(
     Ok(holds)
 }
 
+// Whether two lists of facts are the same.
+fn are_same(facts: &[Fact], others: &[Fact]) -> bool
+    ensures { result ≡ true → facts_of facts.now ≡ facts_of others.now }
+{
+    facts == others
+}
+
+// Whether power would leave the static bytes of a place as they are read; `fixed` is the number of static bytes.
+fn is_settled(alloc: Global, spot: &Spot, fixed: u16) -> Result<bool, NoMemory>
+    ensures { IfOk result (λ settled. settled ≡ true → spot.now.kept ≡ within 0 fixed spot.now.bytes) }
+{
+    let read = spot.bytes().part(alloc, 0, fixed as u32)?;
+    Ok(are_same(read.list(), spot.kept().list()))
+}
+
+// Whether the tables include a place with this key, if power would leave the static bytes as they are read: what the
+// tables keep of these need not be unpacked then.
+fn at_settled(
+    alloc: Global,
+    subject: &Subject<'_>,
+    key: &PlaceKey,
+    spot: &Spot,
+) -> Result<bool, NoMemory>
+    ensures { IfOk result (λ holds. holds ≡ true → (names : List (List ℕ)) (s : Setting)
+        → IsSubject names s subject.now → includes (tables_in names subject.now)
+        (AtPlace (place_of names (classes_in subject.now) key.now) (known_in spot.now)) ≡ true) }
+{
+    if spot.protected() {
+        return Ok(false);
+    }
+    if !is_settled(alloc, spot, subject.sizes.fixed)? {
+        return Ok(false);
+    }
+    Ok(subject.tables.holds_settled(key, spot.bytes(), spot.last()))
+}
+
 /// Returns whether the tables include a place.
 ///
 /// # Errors
@@ -102,6 +139,9 @@ pub fn at_place(
         (AtPlace (spot_in names subject.now begun amounts.now spot.now).key (known_in spot.now)) ≡ true) }
 {
     let key = spot.key(alloc, begun, amounts)?;
+    if at_settled(alloc, subject, &key, spot)? {
+        return Ok(true);
+    }
     let fixed = subject.sizes.fixed;
     let holds = subject
         .tables

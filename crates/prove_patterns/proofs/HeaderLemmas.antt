@@ -1,17 +1,17 @@
 -- Groups of values that leave the same, and the headers of a definition's bytes.
-use Rattle.std.proofs.Common.{◌≡◌, ◌∙◌, ℕ, zero, suc, ◌-◌, ◌<◌, ◌≤◌, Bool, true, false, cond, List, [], ◌∷◌, ◌++◌, length, get_or, set, map, ap, sym, subst, refl, inl, inr, arith}
+use Rattle.std.proofs.Common.{◌≡◌, ◌∙◌, ℕ, zero, suc, ◌+◌, ◌-◌, ◌*◌, ◌/◌, ◌%◌, ◌<◌, ◌≤◌, Bool, true, false, cond, List, [], ◌∷◌, ◌++◌, length, get_or, set, map, ap, sym, subst, refl, inl, inr, arith}
 use Rattle.std.specs.Prelude.{not, ◌&&◌, ◌||◌, ◌==◌, flat_map}
 use Rattle.std.proofs.lemmas.Bool.{or_from, eq-eqb, ne_eqb, cases_eq}
 use Rattle.model_text.specs.Listing.{hex_text}
 use Rattle.model_prove.specs.Sets.{Set, is_in, all_bytes, with_value}
-use Rattle.model_prove.specs.Texts.{Opens, opened, same_opens, all_after}
+use Rattle.model_prove.specs.Texts.{Opens, opened, same_opens, after_character, after_text, all_after}
 use Rattle.model_prove.specs.Between.{Header, with_left, by_left, with_header_byte, all_but, headers}
 use Rattle.model_prove.proofs.SetLemmas.{is_byte}
 use Rattle.prove_facts.specs.Sets.{has_bit, values_of}
 use Rattle.prove_facts.proofs.SetLemmas.{values_are, in_with, in_filter, in_values, out_values, past_not_in, rises_with, rises_values, rises_filter, rises_numbers}
-use Rattle.prove_patterns.specs.Ways.{values_from}
+use Rattle.prove_patterns.specs.Ways.{digit_sign, values_from}
 use Rattle.prove_patterns.specs.Headers.{ByteSets, place_of, group_with, headers_with, header_bytes, headers_from, all_except}
-use Rattle.prove_patterns.proofs.SignLemmas.{values_with, values_without}
+use Rattle.prove_patterns.proofs.SignLemmas.{after_two, values_with, values_without}
 
 abbrev Left : Type 0
 Left = Opens × Set
@@ -68,6 +68,42 @@ left_without ws e o old some within b i =
     let back : e ≡ suc (e - 1) = omega arith in
     let j : old ≡ by_left o (values_from ws (suc (e - 1))) = subst (λ (k : ℕ). old ≡ by_left o (values_from ws k)) back i in
     j ∙ sym (ap (λ (s : Set). by_left o s) (values_without ws (e - 1) (omega arith) b))
+
+-- two characters after one another
+twice : (a b : ℕ) (o : Opens) → map (after_character b) (map (after_character a) o) ≡ map (after_text (a ∷ b ∷ [])) o
+twice a b [] = refl
+twice a b (p ∷ o) = ap (λ (x : Opens). after_character b (after_character a p) ∷ x) (twice a b o)
+
+-- what a byte leaves is what its low digit leaves after its high one
+after_digits : (h l : ℕ) (o half : Opens) → h < 16 → l < 16 → half ≡ map (after_character (digit_sign h)) o
+    → map (after_character (digit_sign l)) half ≡ all_after (hex_text ((16 * h + l) ∷ [])) o
+after_digits h l o half below low e =
+    let high : (16 * h + l) / 16 ≡ h = omega arith in
+    let rest : (16 * h + l) % 16 ≡ l = omega arith in
+    ap (λ (x : Opens). map (after_character (digit_sign l)) x) e
+    ∙ twice (digit_sign h) (digit_sign l) o
+    ∙ sym (ap (λ (d : ℕ). map (after_text (digit_sign d ∷ digit_sign l ∷ [])) o) high)
+    ∙ sym (ap (λ (d : ℕ). map (after_text (digit_sign ((16 * h + l) / 16) ∷ digit_sign d ∷ [])) o) rest)
+    ∙ sym (after_two (16 * h + l) o (omega (arith, below, low)))
+
+-- one place back from the last value of a high digit
+pub low_with : (ws : List ℕ) (h e : ℕ) (o half : Opens) (old new : List Left) → h < 16 → 0 < e → e ≤ 16 → has_bit ws (16 * h + (e - 1)) ≡ true
+    → half ≡ map (after_character (digit_sign h)) o → old ≡ by_left o (values_from ws (16 * h + e))
+    → new ≡ with_left (16 * h + (e - 1)) (map (after_character (digit_sign (e - 1))) half) old → new ≡ by_left o (values_from ws (16 * h + (e - 1)))
+low_with ws h e o half old new below some within b so i n =
+    let back : (16 * h + e) - 1 ≡ 16 * h + (e - 1) = omega (arith, some) in
+    let added : new ≡ with_left (16 * h + (e - 1)) (all_after (hex_text ((16 * h + (e - 1)) ∷ [])) o) old =
+    n ∙ ap (λ (p : Opens). with_left (16 * h + (e - 1)) p old) (after_digits h (e - 1) o half below (omega (arith, some, within)) so) in
+    subst (λ (k : ℕ). new ≡ by_left o (values_from ws k)) back
+    (left_with ws (16 * h + e) o old new (omega (arith, some)) (omega (arith, below, within)) (subst (λ (k : ℕ). has_bit ws k ≡ true) (sym back) b) i
+    (subst (λ (k : ℕ). new ≡ with_left k (all_after (hex_text (k ∷ [])) o) old) (sym back) added))
+
+pub low_without : (ws : List ℕ) (h e : ℕ) (o : Opens) (old : List Left) → h < 16 → 0 < e → e ≤ 16 → has_bit ws (16 * h + (e - 1)) ≡ false
+    → old ≡ by_left o (values_from ws (16 * h + e)) → old ≡ by_left o (values_from ws (16 * h + (e - 1)))
+low_without ws h e o old below some within b i =
+    let back : (16 * h + e) - 1 ≡ 16 * h + (e - 1) = omega (arith, some) in
+    subst (λ (k : ℕ). old ≡ by_left o (values_from ws k)) back
+    (left_without ws (16 * h + e) o old (omega (arith, some)) (omega (arith, below, within)) (subst (λ (k : ℕ). has_bit ws k ≡ false) (sym back) b) i)
 
 -- ---- sets
 

@@ -7,9 +7,9 @@ ghost use Rattle.model_prove.specs.Arrivals.{has_combination, distinct};
 ghost use Rattle.prove_patterns.specs.Opens.{many_of};
 ghost use Rattle.prove_patterns.specs.Replies.{combinations_of, with_combination};
 
-use crate::growth::prepend;
 use crate::opens::{Opens, matches_of};
 use mc_base::NoMemory;
+use prove_facts::prepend;
 use std::alloc::Global;
 
 /// Returns whether the same lines match.

@@ -1,13 +1,15 @@
 // Headers of commands that the patterns do not tell apart.
-ghost use Rattle.std.specs.Prelude.{◌≡◌, ◌<◌, ◌++◌, map, length, set, IfOk, OnOk, [], ◌∷◌};
+ghost use Rattle.std.specs.Prelude.{◌≡◌, ◌<◌, ◌+◌, ◌*◌, ◌++◌, map, length, set, IfOk, OnOk, [], ◌∷◌};
 ghost use Rattle.std.specs.List.{flat_map};
 ghost use Rattle.model_prove.specs.Between.{with_left, by_left, with_header_byte};
+ghost use Rattle.model_prove.specs.Texts as texts;
 ghost use Rattle.prove_facts.specs.Sets.{set_of};
 ghost use Rattle.prove_patterns.specs.Opens.{opens_of};
+ghost use Rattle.prove_patterns.specs.Ways.{digit_sign, values_from};
 ghost use Rattle.prove_patterns.specs.Headers.{groups_of, header_of, headers_of, headers_with, headers_from, group_with, place_of, bytes_of, all_except};
 
-use crate::opens::{Opens, all_after, same_opens};
-use crate::ways::Open;
+use crate::opens::{Opens, each_after, same_opens};
+use crate::ways::{Open, digit_sign};
 use mc_base::NoMemory;
 use prove_facts::{Values, push};
 use std::alloc::Global;
@@ -73,18 +75,41 @@ fn add_left<'a>(groups: &mut Vec<Group<'a>>, byte: u8, left: Opens<'a>) -> Resul
     push(groups, Group { left, values })
 }
 
+// Puts the values of a byte with one high digit to those that leave the same; `half` is what that digit leaves of the
+// patterns.
+fn add_low<'a>(
+    alloc: Global,
+    groups: &mut Vec<Group<'a>>,
+    set: &Values,
+    high: u8,
+    half: &[Open<'a>],
+) -> Result<(), NoMemory>
+    requires { high < 16 }
+    ensures { OnOk result ((o : texts.Opens) → opens_of half.now ≡ map (texts.after_character (digit_sign high)) o
+        → groups_of groups.old.items ≡ by_left o (values_from set.now.words (16 * high + 16))
+        → groups_of groups.new.items ≡ by_left o (values_from set.now.words (16 * high))) }
+{
+    let mut end: u8 = 16;
+    while end > 0 {
+        end -= 1;
+        let byte = 16 * high + end;
+        if set.has(byte) {
+            add_left(groups, byte, each_after(alloc, digit_sign(end), half)?)?;
+        }
+    }
+    Ok(())
+}
+
 // The values of a byte, by what they leave of the patterns.
 fn by_left<'a>(alloc: Global, opens: &[Open<'a>], set: &Values) -> Result<Vec<Group<'a>>, NoMemory>
     ensures { IfOk result (λ g. groups_of g.items ≡ by_left (opens_of opens.now) (set_of set.now)) }
 {
     let mut groups = Vec::new(alloc);
-    let mut end: u16 = 256;
-    while end > 0 {
-        end -= 1;
-        let byte = end as u8;
-        if set.has(byte) {
-            add_left(&mut groups, byte, all_after(alloc, byte, opens)?)?;
-        }
+    let mut high: u8 = 16;
+    while high > 0 {
+        high -= 1;
+        let half = each_after(alloc, digit_sign(high), opens)?;
+        add_low(alloc, &mut groups, set, high, half.as_slice())?;
     }
     Ok(groups)
 }

@@ -6,7 +6,6 @@
 mod combining;
 mod command_classes;
 mod command_headers;
-mod growth;
 mod lengths;
 mod lines;
 mod opens;

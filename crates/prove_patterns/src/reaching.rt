@@ -5,11 +5,10 @@ ghost use Rattle.model_prove.specs.Texts.{is_among, with_opens, both_opens, afte
 ghost use Rattle.prove_facts.specs.Sets.{set_of};
 ghost use Rattle.prove_patterns.specs.Opens.{opens_of, many_of};
 
-use crate::growth::prepend;
 use crate::opens::{Opens, all_after, each_after, same_opens};
 use crate::ways::{Open, digit_sign};
 use mc_base::NoMemory;
-use prove_facts::{Values, push};
+use prove_facts::{Values, prepend, push};
 use std::alloc::Global;
 
 /// What may be left of several patterns, each possibility once.

@@ -4,8 +4,8 @@ ghost use Rattle.model_device.specs.Bytes.{has_name};
 ghost use Rattle.model_prove.specs.Texts.{with_way, both_ways, openings, way_after, after_character, after_text, is_match};
 ghost use Rattle.prove_patterns.specs.Ways.{texts, ways_of, byte_digits, digit_sign};
 
-use crate::growth::prepend;
 use mc_base::NoMemory;
+use prove_facts::prepend;
 use std::alloc::Global;
 
 /// What is left of a pattern on each open way.
@@ -33,18 +33,6 @@ fn add_way<'a>(ways: &mut Open<'a>, way: &'a [u8]) -> Result<(), NoMemory>
     prepend(ways, way)
 }
 
-// Puts ways before some, but those that are there.
-fn add_ways<'a>(ways: &mut Open<'a>, more: &[&'a [u8]]) -> Result<(), NoMemory>
-    ensures { OnOk result (texts ways.new.items ≡ both_ways (texts more.now) (texts ways.old.items)) }
-{
-    let mut i = more.len();
-    while i > 0 {
-        i -= 1;
-        add_way(ways, more[i])?;
-    }
-    Ok(())
-}
-
 // The number of stars at the front of a pattern.
 fn stars_of(pattern: &[u8]) -> usize
     ensures within { result ≤ length pattern.now }
@@ -57,6 +45,19 @@ fn stars_of(pattern: &[u8]) -> usize
         }
     }
     pattern.len()
+}
+
+// Puts the openings of a pattern before some ways, but those that are there.
+fn add_openings<'a>(ways: &mut Open<'a>, pattern: &'a [u8]) -> Result<(), NoMemory>
+    ensures { OnOk result (texts ways.new.items ≡ both_ways (openings pattern.now) (texts ways.old.items)) }
+{
+    let mut i = stars_of(pattern);
+    add_way(ways, &pattern[i..])?;
+    while i > 0 {
+        i -= 1;
+        add_way(ways, &pattern[i..])?;
+    }
+    Ok(())
 }
 
 /// Returns a pattern, and what is left of it where stars at its front are nothing.
@@ -112,7 +113,7 @@ pub fn after_character<'a>(
     while i > 0 {
         i -= 1;
         if let Some(way) = way_after(character, ways[i]) {
-            add_ways(&mut found, openings(alloc, way)?.as_slice())?;
+            add_openings(&mut found, way)?;
         }
     }
     Ok(found)

@@ -1,0 +1,12 @@
+use Rattle.std.proofs.Common.{◌≡◌, ◌≤◌, drop}
+use Rattle.model_prove.specs.Texts.{both_ways, openings}
+use Rattle.prove_patterns.specs.Ways.{texts}
+use Rattle.prove_patterns.proofs.ways.add_openings.Given as goal
+
+-- the openings from a place on are there
+abbrev pub invariant-loop-i : goal.invariant-loop-i
+invariant-loop-i l =
+    record { within : l.i ≤ l.initial.i; ways : texts l.ways.items ≡ both_ways (openings (drop l.i l.pattern)) (texts l.fn.ways.items) }
+
+abbrev pub decreases-loop-i : goal.decreases-loop-i
+decreases-loop-i l = l.i
