@@ -1,7 +1,7 @@
 -- What an instruction leads to, by equations of its parts.
-use Rattle.std.specs.Prelude.{◌≡◌, ℕ, ◌+◌, ◌-◌, ◌<◌, ◌≤◌, true, false, List, [], ◌∷◌, length, drop, get_or, flat_map, map, Option, Some, None, IfSome, Bool}
-use Rattle.std.proofs.Common.{ap, sym, subst, ◌∙◌}
-use Rattle.std.proofs.lemmas.List.{drop_more, drop_all}
+use Rattle.std.specs.Prelude.{◌≡◌, ℕ, ◌+◌, ◌-◌, ◌<◌, ◌≤◌, true, false, List, [], ◌∷◌, ◌++◌, length, drop, get_or, flat_map, map, Option, Some, None, IfSome, Bool}
+use Rattle.std.proofs.Common.{ap, sym, subst, ◌∙◌, arith}
+use Rattle.std.proofs.lemmas.List.{append-nil, drop_more, drop_all}
 use Rattle.law_rows.specs.Shapes.{Shape}
 use Rattle.model_machine.specs.declared.instruction.Ins.{Ins}
 use Rattle.model_machine.specs.declared.machine.Abend.{Abend}
@@ -11,14 +11,14 @@ use Rattle.model_prove.specs.Facts.{Facts, know}
 use Rattle.model_prove.specs.Keys.{Tables}
 use Rattle.model_prove.specs.Reach.{target_choices}
 use Rattle.model_prove.specs.Splits.{Scene, Choice, combinations, deciders, few_combinations, later_deciders}
-use Rattle.model_prove.specs.Steps.{Spot, by_choices, caused, chosen, coarse_around, coarse_arrivals, inside, spots, with_facts, with_choice}
+use Rattle.model_prove.specs.Steps.{Spot, by_choices, caused, chosen, coarse_around, coarse_arrivals, inside, spots, with_facts, with_choice, with_first_choice}
 use Rattle.model_prove.specs.Tables.{includes_all}
 use Rattle.model_prove.specs.Work.{Work}
 use Rattle.prove_scenes.specs.Outlines.{OutlineLaw, outlined}
 use Rattle.prove_steps.specs.declared.choices.Choices.{Choices}
 use Rattle.prove_steps.specs.declared.choices.Choices.TheVariants.{Few, Many}
 use Rattle.prove_steps.specs.Choices.{ChoicesAre, choices_value}
-use Rattle.prove_arrivals.proofs.IncludedLemmas.{next_included, none_included, mapped_included}
+use Rattle.prove_arrivals.proofs.IncludedLemmas.{next_included, none_included, one_of, mapped_included}
 
 -- the value of the next byte of a choice
 pub chosen_next : (xs : Choice) (i : ℕ) (d : ℕ × ℕ) (p q r : Spot) → i < length xs
@@ -103,6 +103,19 @@ pub later_of : (k f : Facts) (e g : Scene) (i : Ins) (places list : List ℕ) �
 later_of k f e g i places list a b c d =
     ap (λ (f : Facts). combinations f list) a
     ∙ ap (combinations k) (b ∙ ap (inside e) c ∙ ap (λ (e : Scene). inside e (later_deciders i e.frame)) d)
+
+-- a first choice after which no bytes decide
+pub alone_included : (t : Tables) (f : Choice → List Arrival) (k : Facts) (c : Choice) (places : List ℕ) → length places ≡ 0
+    → includes_all t (f c) ≡ true → includes_all t (flat_map (λ d. f (c ++ d)) (combinations k places)) ≡ true
+alone_included t f k c [] none so =
+    one_of t (λ (d : Choice). f (c ++ d)) [] (subst (λ (d : Choice). includes_all t (f d) ≡ true) (sym (append-nil c)) so)
+alone_included t f k c (a ∷ places) none so = absurd (omega (arith, none))
+
+-- no bytes decide, so that there is one choice, of none
+pub few_alone : (t : Tables) (jump : Bool) (s : Setting) (i : Ins) (g : Scene) (p q : Spot) (k : Facts) (places : List ℕ) → length places ≡ 0
+    → includes_all t (with_first_choice s i g p q []) ≡ true → includes_all t (by_choices (few_combinations k places) jump s i g p q) ≡ true
+few_alone t jump s i g p q k [] none so = one_of t (with_first_choice s i g p q) [] so
+few_alone t jump s i g p q k (a ∷ places) none so = absurd (omega (arith, none))
 
 -- choices that are those of a place
 pub choices_are : (f : Facts) (places : List ℕ) (cs : Choices) → ChoicesAre f places cs → few_combinations f places ≡ choices_value cs

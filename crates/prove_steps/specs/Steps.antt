@@ -7,7 +7,7 @@ use Rattle.model_prove.specs.Facts.{Facts, values_at}
 use Rattle.model_prove.specs.Reach.{address_choice, greatest_value, takes_target}
 use Rattle.model_prove.specs.Arrivals.{Setting, Arrival, fails}
 use Rattle.model_machine.specs.Primitives.{Around}
-use Rattle.model_prove.specs.Splits.{Scene, Choice, deciders, few_combinations}
+use Rattle.model_prove.specs.Splits.{Scene, Choice, deciders, few_combinations, with_values}
 use Rattle.model_prove.specs.Steps as steps
 use Rattle.prove_arrivals.specs.declared.subject.Subject.{Subject}
 use Rattle.prove_arrivals.specs.Subjects.{Accepts, IsOver, spot_in}
@@ -60,9 +60,13 @@ abbrev pub by_choices : List (List ℕ) → Setting → Subject → Fetched → 
 by_choices names s u f few =
     steps.by_choices few (takes_target f.ins.now) s f.ins.now (scene_of names s u f) (before names u f) (after_fetch names u f)
 
+-- a scene is that after a fetch, with a choice of the bytes that decide
+abbrev pub IsSceneWith : Subject → Fetched → Scene → Choice → Type 0
+IsSceneWith u f e c = (names : List (List ℕ)) (s : Setting) → IsSized s.app u.sizes → e ≡ with_values (scene_of names s u f) c
+
 -- a scene is that after a fetch
 abbrev pub IsSceneOf : Subject → Fetched → Scene → Type 0
-IsSceneOf u f e = (names : List (List ℕ)) (s : Setting) → IsSized s.app u.sizes → e ≡ scene_of names s u f
+IsSceneOf u f e = IsSceneWith u f e []
 
 -- what it leads to with the two bytes at a place an address
 abbrev pub by_target : List (List ℕ) → Setting → Subject → Fetched → ℕ → ℕ → List Arrival

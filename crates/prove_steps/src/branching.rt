@@ -4,14 +4,15 @@ ghost use Rattle.model_machine.specs.Code.{Shaped};
 ghost use Rattle.model_prove.specs.Facts.{values_at};
 ghost use Rattle.model_prove.specs.Reach.{greatest_value, target_choices};
 ghost use Rattle.model_prove.specs.Sets.{is_in, numbers_from};
+ghost use Rattle.model_prove.specs.Splits.{few_combinations};
 ghost use Rattle.prove_facts.specs.Sets.{has_value, set_of};
 ghost use Rattle.prove_steps.specs.Choices.{choice_of, choices_of, choices_value};
-ghost use Rattle.prove_steps.specs.Steps.{AcceptsAll, IsSceneOf, by_choice, by_choices, by_first_choice, by_target, fetched_arrivals, is_target, last_targets};
+ghost use Rattle.prove_steps.specs.Steps.{AcceptsAll, IsSceneOf, IsSceneWith, by_choice, by_choices, by_first_choice, by_target, fetched_arrivals, is_target, last_targets};
 
 use crate::choices::{Choice, Choices, choices_among, combined};
 use crate::crude::crude_holds;
 use crate::scenes::scene_with;
-use crate::stepping::{Fetched, choice_holds};
+use crate::stepping::{Fetched, choice_holds, scene_holds};
 use mc_base::{NoMemory, number_of};
 use prove_arrivals::Subject;
 use prove_facts::{Facts, Values};
@@ -19,10 +20,10 @@ use prove_scenes::{Scene, deciders, inside, later_deciders, takes_target};
 use std::alloc::Global;
 
 // A choice after another.
-fn both(alloc: Global, first: &Choice, second: &Choice) -> Result<Choice, NoMemory>
-    ensures { IfOk result (λ c. choice_of c ≡ choice_of first.now ++ choice_of second.now) }
+fn both(alloc: Global, first: &[(u16, u8)], second: &Choice) -> Result<Choice, NoMemory>
+    ensures { IfOk result (λ c. choice_of c ≡ first.now ++ choice_of second.now) }
 {
-    let mut bytes = Vec::from_slice(alloc, first.bytes.as_slice())?;
+    let mut bytes = Vec::from_slice(alloc, first)?;
     bytes.extend_from_slice(second.bytes.as_slice())?;
     Ok(Choice { bytes })
 }
@@ -32,12 +33,12 @@ fn both_hold(
     alloc: Global,
     subject: &Subject<'_>,
     fetched: &Fetched<'_>,
-    first: &Choice,
+    first: &[(u16, u8)],
     second: &Choice,
 ) -> Result<bool, NoMemory>
     requires { Shaped fetched.now.ins.now }
     ensures { IfOk result (λ holds. holds ≡ true → AcceptsAll subject.now fetched.now.amounts.now
-        (λ names s. by_choice names s subject.now fetched.now (choice_of first.now ++ choice_of second.now))) }
+        (λ names s. by_choice names s subject.now fetched.now (first.now ++ choice_of second.now))) }
 {
     let choice = both(alloc, first, second)?;
     let holds = choice_holds(alloc, subject, fetched, choice.bytes.as_slice())?;
@@ -49,12 +50,12 @@ fn each_after_holds(
     alloc: Global,
     subject: &Subject<'_>,
     fetched: &Fetched<'_>,
-    first: &Choice,
+    first: &[(u16, u8)],
     list: &[Choice],
 ) -> Result<bool, NoMemory>
     requires { Shaped fetched.now.ins.now }
     ensures { IfOk result (λ holds. holds ≡ true → AcceptsAll subject.now fetched.now.amounts.now
-        (λ names s. flat_map (λ d. by_choice names s subject.now fetched.now (choice_of first.now ++ d))
+        (λ names s. flat_map (λ d. by_choice names s subject.now fetched.now (first.now ++ d))
         (choices_of list.now))) }
 {
     for second in list {
@@ -65,8 +66,32 @@ fn each_after_holds(
     Ok(true)
 }
 
-// Whether the tables include what an instruction leads to after its first choice, with the bytes that then decide.
+// Whether the tables include what an instruction leads to after its first choice, in the scene of that choice, with the
+// bytes that then decide.
 fn first_holds(
+    alloc: Global,
+    subject: &Subject<'_>,
+    fetched: &Fetched<'_>,
+    scene: &Scene,
+    first: &[(u16, u8)],
+) -> Result<bool, NoMemory>
+    requires scene { IsSceneWith subject.now fetched.now scene.now first.now }
+    requires shaped { Shaped fetched.now.ins.now }
+    ensures { IfOk result (λ holds. holds ≡ true → AcceptsAll subject.now fetched.now.amounts.now
+        (λ names s. by_first_choice names s subject.now fetched.now first.now)) }
+{
+    let places = inside(scene, later_deciders(fetched.ins, scene));
+    if places.is_empty() {
+        let holds = scene_holds(alloc, subject, fetched, scene, first)?;
+        return Ok(holds);
+    }
+    let list = combined(alloc, fetched.before.bytes(), places.as_slice())?;
+    let holds = each_after_holds(alloc, subject, fetched, first, list.as_slice())?;
+    Ok(holds)
+}
+
+// Whether they do after a first choice.
+fn first_included(
     alloc: Global,
     subject: &Subject<'_>,
     fetched: &Fetched<'_>,
@@ -76,17 +101,12 @@ fn first_holds(
     ensures { IfOk result (λ holds. holds ≡ true → AcceptsAll subject.now fetched.now.amounts.now
         (λ names s. by_first_choice names s subject.now fetched.now (choice_of first.now))) }
 {
-    let Some(scene) = scene_with(
-        &subject.sizes,
-        fetched.before,
-        fetched.next,
-        first.bytes.as_slice(),
-    ) else {
+    let sizes = &subject.sizes;
+    let first = first.bytes.as_slice();
+    let Some(scene) = scene_with(alloc, sizes, fetched.before, fetched.next, first)? else {
         return Ok(false);
     };
-    let places = inside(&scene, later_deciders(fetched.ins, &scene));
-    let list = combined(alloc, fetched.before.bytes(), places.as_slice())?;
-    let holds = each_after_holds(alloc, subject, fetched, first, list.as_slice())?;
+    let holds = first_holds(alloc, subject, fetched, &scene, first)?;
     Ok(holds)
 }
 
@@ -102,7 +122,7 @@ fn each_first_holds(
         (λ names s. flat_map (by_first_choice names s subject.now fetched.now) (choices_of list.now))) }
 {
     for first in list {
-        if !first_holds(alloc, subject, fetched, first)? {
+        if !first_included(alloc, subject, fetched, first)? {
             return Ok(false);
         }
     }
@@ -309,6 +329,32 @@ fn choices_hold(
     }
 }
 
+// Whether the tables include what an instruction leads to by the choices of the bytes at some places, which decide it.
+fn decided_holds(
+    alloc: Global,
+    subject: &Subject<'_>,
+    fetched: &Fetched<'_>,
+    scene: &Scene,
+    places: &[u16],
+) -> Result<bool, NoMemory>
+    requires code { length subject.now.code.now ≤ 8192 }
+    requires scene { IsSceneOf subject.now fetched.now scene.now }
+    requires shaped { Shaped fetched.now.ins.now }
+    ensures { IfOk result (λ holds. holds ≡ true → AcceptsAll subject.now fetched.now.amounts.now
+        (λ names s. by_choices names s subject.now fetched.now
+        (few_combinations fetched.now.before.now.bytes places.now))) }
+{
+    if places.is_empty() {
+        let holds = first_holds(alloc, subject, fetched, scene, &[])?;
+        return Ok(holds);
+    }
+    let Some(choices) = choices_among(alloc, fetched.before.bytes(), places)? else {
+        return Ok(false);
+    };
+    let holds = choices_hold(alloc, subject, fetched, scene, &choices)?;
+    Ok(holds)
+}
+
 /// Returns whether the tables include what an instruction leads to by the choices of the bytes that decide it.
 ///
 /// # Errors
@@ -324,13 +370,11 @@ pub fn instruction_included(
     ensures { IfOk result (λ holds. holds ≡ true → AcceptsAll subject.now fetched.now.amounts.now
         (λ names s. fetched_arrivals names s subject.now fetched.now)) }
 {
-    let Some(scene) = scene_with(&subject.sizes, fetched.before, fetched.next, &[]) else {
+    let sizes = &subject.sizes;
+    let Some(scene) = scene_with(alloc, sizes, fetched.before, fetched.next, &[])? else {
         return Ok(false);
     };
     let places = inside(&scene, deciders(fetched.ins, &scene));
-    let Some(choices) = choices_among(alloc, fetched.before.bytes(), places.as_slice())? else {
-        return Ok(false);
-    };
-    let holds = choices_hold(alloc, subject, fetched, &scene, &choices)?;
+    let holds = decided_holds(alloc, subject, fetched, &scene, places.as_slice())?;
     Ok(holds)
 }

@@ -22,7 +22,6 @@ pub enum Choices {
 }
 
 // The number of combinations of the values of some bytes, up to 257; or `None` if a byte has no value.
-
 fn count_of(facts: &Facts, places: &[u16]) -> Option<u32>
     ensures count { IfSome result (λ n. n ≡ min 257 (count_of_combinations facts.now places.now)) }
     ensures most { IfSome result (λ n. n ≤ 257) }
@@ -33,8 +32,7 @@ fn count_of(facts: &Facts, places: &[u16]) -> Option<u32>
     }
 }
 
-// The number of combinations, up to 257, if a byte of so many values comes before those of a number of combinations.
-
+// The number of combinations, up to 257, if a byte of n values comes before those of a number of combinations.
 fn count_before(values: u32, rest: Option<u32>) -> Option<u32>
     requires { IfSome rest (λ n. n ≤ 257) }
     ensures count { IfSome result (λ n. IfSome rest (λ r. (c : ℕ) → r ≡ min 257 c → n ≡ min 257 (min 256 values * c))) }
@@ -94,9 +92,9 @@ fn add_value(
     Ok(())
 }
 
-// Each value of one byte before each of some choices.
+// Each value of one byte before each of some choices, by all 256 that a byte may have.
 #[tactic(auto, unfolding(prove_facts::specs::Sets::values_of))]
-fn headed(
+fn each_headed(
     alloc: Global,
     at: u16,
     values: &Values,
@@ -108,6 +106,30 @@ fn headed(
     for value in 0..256u16 {
         add_value(alloc, &mut list, at, values, value, rests)?;
     }
+    Ok(list)
+}
+
+// Each value of one byte before each of some choices.
+fn headed(
+    alloc: Global,
+    at: u16,
+    values: &Values,
+    rests: &[Choice],
+) -> Result<Vec<Choice>, NoMemory>
+    ensures { IfOk result (λ cs. choices_of cs.items ≡ before_choices at (set_of values.now) (choices_of rests.now)) }
+{
+    match values.only() {
+        Some(value) => one_headed(alloc, at, value, rests),
+        None => each_headed(alloc, at, values, rests),
+    }
+}
+
+// One value of one byte before each of some choices.
+fn one_headed(alloc: Global, at: u16, value: u8, rests: &[Choice]) -> Result<Vec<Choice>, NoMemory>
+    ensures { IfOk result (λ cs. choices_of cs.items ≡ headed_by at value (choices_of rests.now)) }
+{
+    let mut list = Vec::with_capacity(alloc, rests.len())?;
+    add_headed(alloc, &mut list, at, value, rests)?;
     Ok(list)
 }
 

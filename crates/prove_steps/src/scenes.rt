@@ -1,5 +1,5 @@
 // The scene after the fetch at a place, with a choice of the bytes that decide.
-ghost use Rattle.std.specs.Prelude.{◌≡◌, IfSome};
+ghost use Rattle.std.specs.Prelude.{◌≡◌, IfOk, IfSome};
 ghost use Rattle.model_device.specs.Card.{App};
 ghost use Rattle.model_prove.specs.Keys.{Start};
 ghost use Rattle.model_prove.specs.Splits.{with_values};
@@ -10,9 +10,11 @@ ghost use Rattle.prove_scenes.specs.Scenes.{HasRegisters, IsSized};
 ghost use Rattle.prove_spots.specs.Grounds.{spot_of};
 ghost use Rattle.prove_steps.specs.Scenes.{scene_after};
 
+use mc_base::NoMemory;
 use prove_keys::Call;
 use prove_scenes::{OpenCall, Registers, Scene, Sizes};
 use prove_spots::Spot;
+use std::alloc::Global;
 
 // The newest of some calls, the oldest of which is the first.
 fn newest_of(calls: &[Call]) -> Option<OpenCall>
@@ -46,14 +48,26 @@ fn registers_of(spot: &Spot) -> Registers
 
 /// Returns the scene of a place after a fetch that ended at `next`, with a choice of the bytes that decide; or `None`
 /// if it has no such scene.
-pub fn scene_with(sizes: &Sizes, spot: &Spot, next: u16, choice: &[(u16, u8)]) -> Option<Scene>
-    ensures { IfSome result (λ e. (app : App) (s : Start) (a : Amounts) → IsSized app sizes.now
-        → e ≡ with_values (scene_after app (spot_of s a spot.now).key next) choice.now) }
+///
+/// # Errors
+///
+/// Returns `NoMemory` if it is out of memory.
+pub fn scene_with(
+    alloc: Global,
+    sizes: &Sizes,
+    spot: &Spot,
+    next: u16,
+    choice: &[(u16, u8)],
+) -> Result<Option<Scene>, NoMemory>
+    ensures { IfOk result (λ r. IfSome r (λ e. (app : App) (s : Start) (a : Amounts) → IsSized app sizes.now
+        → e ≡ with_values (scene_after app (spot_of s a spot.now).key next) choice.now)) }
 {
-    let mut scene = Scene::stand_in(sizes, &registers_of(spot))?;
+    let Some(mut scene) = Scene::stand_in(alloc, sizes, &registers_of(spot))? else {
+        return Ok(None);
+    };
     scene.go(next);
-    if !scene.set_bytes(choice) {
-        return None;
+    if !scene.set_bytes(choice)? {
+        return Ok(None);
     }
-    Some(scene)
+    Ok(Some(scene))
 }

@@ -13,7 +13,7 @@ ghost use Rattle.prove_arrivals.specs.Subjects.{spot_in};
 ghost use Rattle.prove_keys.specs.Keys.{start_of};
 ghost use Rattle.prove_scenes.specs.Heads.{around_value};
 ghost use Rattle.prove_spots.specs.Grounds.{spot_of};
-ghost use Rattle.prove_steps.specs.Steps.{AcceptsAll, after_fetch, before, by_choice, in_scene, named_value};
+ghost use Rattle.prove_steps.specs.Steps.{AcceptsAll, IsSceneWith, after_fetch, before, by_choice, in_scene, named_value};
 
 use crate::scenes::scene_with;
 use mc_base::NoMemory;
@@ -208,6 +208,30 @@ fn each_around_holds(
     Ok(true)
 }
 
+/// Returns whether the tables include what an instruction leads to with a choice of the bytes that decide it, in the scene
+/// of that choice.
+///
+/// # Errors
+///
+/// Returns `NoMemory` if it is out of memory.
+pub fn scene_holds(
+    alloc: Global,
+    subject: &Subject<'_>,
+    fetched: &Fetched<'_>,
+    scene: &Scene,
+    choice: &[(u16, u8)],
+) -> Result<bool, NoMemory>
+    requires scene { IsSceneWith subject.now fetched.now scene.now choice.now }
+    requires shaped { Shaped fetched.now.ins.now }
+    ensures { IfOk result (λ holds. holds ≡ true → AcceptsAll subject.now fetched.now.amounts.now
+        (λ names s. by_choice names s subject.now fetched.now choice.now)) }
+{
+    let after = chosen(alloc, fetched, choice)?;
+    let list = arounds(alloc, fetched.begun, fetched.ins)?;
+    let holds = each_around_holds(alloc, subject, fetched, scene, &after, list.as_slice())?;
+    Ok(holds)
+}
+
 /// Returns whether the tables include what an instruction leads to with a choice of the bytes that decide it.
 ///
 /// # Errors
@@ -223,11 +247,10 @@ pub fn choice_holds(
     ensures { IfOk result (λ holds. holds ≡ true → AcceptsAll subject.now fetched.now.amounts.now
         (λ names s. by_choice names s subject.now fetched.now choice.now)) }
 {
-    let Some(scene) = scene_with(&subject.sizes, fetched.before, fetched.next, choice) else {
+    let sizes = &subject.sizes;
+    let Some(scene) = scene_with(alloc, sizes, fetched.before, fetched.next, choice)? else {
         return Ok(false);
     };
-    let after = chosen(alloc, fetched, choice)?;
-    let list = arounds(alloc, fetched.begun, fetched.ins)?;
-    let holds = each_around_holds(alloc, subject, fetched, &scene, &after, list.as_slice())?;
+    let holds = scene_holds(alloc, subject, fetched, &scene, choice)?;
     Ok(holds)
 }

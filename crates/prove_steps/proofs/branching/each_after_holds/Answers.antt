@@ -9,13 +9,13 @@ use Rattle.prove_steps.proofs.branching.each_after_holds.Goals as goal
 
 pub loop-second-init : goal.loop-second-init
 loop-second-init c names s o h =
-    let f : splits.Choice → List Arrival = λ d. by_choice names s c.args.subject.now c.args.fetched.now (choice_of c.args.first.now ++ d) in
+    let f : splits.Choice → List Arrival = λ d. by_choice names s c.args.subject.now c.args.fetched.now (c.args.first.now ++ d) in
     values_whole (tables_in names c.args.subject.now) f choice_of c.args.list.now h
 
 pub loop-second-preserved : goal.loop-second-preserved
 loop-second-preserved c names s o =
     let u = c.args.subject.now in
-    let f : splits.Choice → List Arrival = λ d. by_choice names s u c.args.fetched.now (choice_of c.args.first.now ++ d) in
+    let f : splits.Choice → List Arrival = λ d. by_choice names s u c.args.fetched.now (c.args.first.now ++ d) in
     let xs = c.args.list.now in
     item_next (tables_in names u) f choice_of xs c.loop-second.second-index c.second-item.result (Accepts names u (flat_map f (choices_of xs))) c.loop-second-test.true c.second-item.is
     (c.in_ok-both_hold.ensures c.if-not-branch.false names s o) (c.loop-second.invariant names s o)
@@ -23,5 +23,5 @@ loop-second-preserved c names s o =
 pub returns : goal.returns
 returns c h names s o =
     let u = c.args.subject.now in
-    let f : splits.Choice → List Arrival = λ d. by_choice names s u c.args.fetched.now (choice_of c.args.first.now ++ d) in
+    let f : splits.Choice → List Arrival = λ d. by_choice names s u c.args.fetched.now (c.args.first.now ++ d) in
     values_all (tables_in names u) f choice_of c.args.list.now c.loop-second.second-index (omega arith) (c.loop-second.invariant names s o)

@@ -7,5 +7,5 @@ use Rattle.prove_steps.proofs.branching.each_after_holds.Given as goal
 abbrev pub invariant-loop-second : goal.invariant-loop-second
 invariant-loop-second l =
     Leaves l.subject l.fetched.amounts.now
-    (λ names s. flat_map (λ d. by_choice names s l.subject l.fetched (choice_of l.first ++ choice_of d)) (drop l.second-index l.list))
-    (λ names s. flat_map (λ d. by_choice names s l.subject l.fetched (choice_of l.first ++ d)) (choices_of l.list))
+    (λ names s. flat_map (λ d. by_choice names s l.subject l.fetched (l.first ++ choice_of d)) (drop l.second-index l.list))
+    (λ names s. flat_map (λ d. by_choice names s l.subject l.fetched (l.first ++ d)) (choices_of l.list))

@@ -15,7 +15,7 @@ loop-first-preserved c names s o =
     let f = by_first_choice names s u c.args.fetched.now in
     let xs = c.args.list.now in
     item_next (tables_in names u) f choice_of xs c.loop-first.first-index c.first-item.result (Accepts names u (flat_map f (choices_of xs))) c.loop-first-test.true c.first-item.is
-    (c.in_ok-first_holds.ensures c.if-not-branch.false names s o) (c.loop-first.invariant names s o)
+    (c.in_ok-first_included.ensures c.if-not-branch.false names s o) (c.loop-first.invariant names s o)
 
 pub returns : goal.returns
 returns c h names s o =

@@ -3,7 +3,7 @@ use Rattle.model_prove.specs.Sets.{numbers_from}
 use Rattle.model_prove.specs.Splits.{before_choices}
 use Rattle.prove_facts.specs.Sets.{has_value, set_of}
 use Rattle.prove_steps.specs.Choices.{choices_of}
-use Rattle.prove_steps.proofs.choices.headed.Given as goal
+use Rattle.prove_steps.proofs.choices.each_headed.Given as goal
 
 -- what the values that are left add from here, all of them add from the start
 abbrev pub invariant-loop-value : goal.invariant-loop-value

@@ -3,7 +3,7 @@ use Rattle.model_prove.specs.Splits.{before_choices}
 use Rattle.prove_facts.specs.Sets.{has_value, set_of}
 use Rattle.prove_steps.specs.Choices.{choices_of}
 use Rattle.prove_steps.proofs.ChoiceLemmas.{value_step, value_last}
-use Rattle.prove_steps.proofs.choices.headed.Goals as goal
+use Rattle.prove_steps.proofs.choices.each_headed.Goals as goal
 
 pub loop-value-preserved : goal.loop-value-preserved
 loop-value-preserved c =
