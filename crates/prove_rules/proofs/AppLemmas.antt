@@ -1,22 +1,29 @@
 -- The lines of the application, of allowances and sums, and of abends.
-use Rattle.std.proofs.Common.{◌≡◌, ◌-◌, ◌≤◌, ℕ, zero, suc, List, [], ◌∷◌, ◌++◌, Bool, true, false, length, map, Option, Some, None, Result, Ok, length-append, arith, refl, sym, ap, subst, ◌∙◌}
-use Rattle.std.specs.Prelude.{◌&&◌, nat_le, bytes_eq, codes, is_none, ok_or}
+use Rattle.std.proofs.Common.{◌≡◌, ◌-◌, ◌≤◌, ℕ, zero, suc, List, [], ◌∷◌, ◌++◌, Bool, true, false, length, map, Option, Some, None, Result, Ok, Err, length-append, arith, refl, sym, ap, subst, ◌∙◌}
+use Rattle.std.specs.Prelude.{◌&&◌, nat_le, bytes_eq, codes, is_none, is_some, ok_or}
 use Rattle.model_device.specs.Bytes.{lookup, zeros, AreBytes}
 use Rattle.model_text.specs.Text.{◌>>=◌, only_if}
 use Rattle.model_card.specs.Manager.{fits_limits}
+use Rattle.model_play.specs.DeckGrammar.{name_field}
+use Rattle.model_play.specs.declared.deck.DeckCause.{DeckCause}
 use Rattle.model_play.specs.declared.deck.DeckCause.TheVariants.{BadLine, NameTwice, OutOfRange, UnknownName}
 use Rattle.law_explore.specs.Rules.{name_and_amount}
 use Rattle.model_rules.specs.Rules.{AppRules, Target}
-use Rattle.model_rules.specs.Reading.{AllowLine, AppLine, Deck, LoadLine, NeverLine, NoApplication, RuleCause, SumWord, app_rule, of_deck, sizes_of, target_of, unless, with_app, with_never, with_target}
+use Rattle.model_rules.specs.Reading.{AllowLine, AppLine, AppWord, Deck, LoadLine, NeverLine, NoApplication, RuleCause, SumWord, app_rule, of_deck, sizes_of, target_of, unless, with_app, with_never, with_target}
 use Rattle.prove_events.specs.declared.rules.Load.{Load}
 use Rattle.prove_events.specs.declared.rules.Named.{Named}
 use Rattle.prove_events.specs.Rules.{allowance_of, name_of, AreDistinct, AreLines, IsCreated}
 use Rattle.prove_rules.specs.declared.partial.Partial.{Partial}
-use Rattle.prove_rules.specs.Apps.{IsAppRead}
-use Rattle.prove_rules.specs.Loads.{IsAccepted, IsLoad, IsLoadOf}
-use Rattle.prove_rules.specs.Partials.{place_of, ArePart, AreLists, AreListsRead, IsMoreNamed, IsTarget}
-use Rattle.prove_rules.proofs.OnLemmas.{is_target}
-use Rattle.prove_rules.proofs.PlaceLemmas.{distinct_more, lines_names, map_more, place_none}
+use Rattle.prove_rules.specs.declared.fault.Fault.{Fault}
+use Rattle.prove_rules.specs.declared.fault.Fault.TheVariants as fault
+use Rattle.prove_rules.specs.declared.fault.RuleCause.TheVariants as cause
+use Rattle.prove_rules.specs.Apps.{one_of, IsAppRead}
+use Rattle.prove_rules.specs.Loads.{is_accepted, IsLoad, IsLoadOf}
+use Rattle.prove_rules.specs.Partials.{place_of, ArePart, AreLists, AreListsRead, HasFault, IsMoreNamed, IsTarget}
+use Rattle.prove_rules.specs.Refused.{cause_value, Faulty}
+use Rattle.prove_rules.proofs.OnLemmas.{is_target, no_target}
+use Rattle.prove_rules.proofs.PlaceLemmas.{distinct_more, lines_names, map_more, place_none, place_some}
+use Rattle.prove_rules.proofs.RefusalLemmas.{deck_faulty, same_faulty}
 
 -- ---- rules by their words
 
@@ -40,31 +47,59 @@ never_is loads a n word = refl
 
 -- ---- the application
 
-no_target : (o : Option Target) (l : Option Load) → IsTarget o l → l ≡ None → is_none o ≡ true
-no_target None l h e = refl
-no_target (Some g) None h e = absurd h
-no_target (Some g) (Some l) h e = absurd (cc e)
+no_app : (o : Option Target) (l : Option Load) → IsTarget o l → l ≡ None → is_none o ≡ true
+no_app None l h e = refl
+no_app (Some g) None h e = absurd h
+no_app (Some g) (Some l) h e = absurd (cc e)
 
-all_seven : (a b c d e f g : Bool) → a ≡ true → b ≡ true → c ≡ true → d ≡ true → e ≡ true → f ≡ true → g ≡ true → (a && b && c && d && e && f && g) ≡ true
-all_seven a b c d e f g h1 h2 h3 h4 h5 h6 h7 = rw h1 (rw h2 (rw h3 (rw h4 (rw h5 (rw h6 h7)))))
+some_app : (o : Option Target) (l : Option Load) → IsTarget o l → is_some l ≡ true → is_none o ≡ false
+some_app None None h e = absurd (cc e)
+some_app None (Some l) h e = absurd h
+some_app (Some g) l h e = refl
 
 upto : (a b : ℕ) → a ≤ b → nat_le a b ≡ true
 upto a b h = grind (arith, h)
 
-fits : (l : LoadLine) (load : Load) → IsLoad l load → IsAccepted load → fits_limits (sizes_of l) ≡ true
-fits l load h a =
-    let code = ap length h.code in
-    let front = ap length h.front in
+and_true : (b : Bool) → (b && true) ≡ b
+and_true true = refl
+and_true false = refl
+
+three_left : (a b c d e f g : Bool) → a ≡ true → b ≡ true → f ≡ true → g ≡ true → (a && b && c && d && e && f && g) ≡ (c && d && e)
+three_left a b c d e f g h1 h2 h3 h4 = rw h1 (rw h2 (rw h3 (rw h4 (and_true (c && d && e && true) ∙ and_true (c && d && e)))))
+
+-- a card accepts the sizes of an application exactly if those that a `load` line gives are accepted
+fits_is : (l : LoadLine) (load : Load) → IsLoad l load → fits_limits (sizes_of l) ≡ is_accepted load
+fits_is l load h =
     let good = h.good.limits in
-    let fixed : l.fixed ≤ 4096 = omega (arith, h.fixed, a.fixed) in
-    let init : length l.unit.init ≤ l.fixed = omega (arith, h.fixed, a.front, front) in
-    let session : l.session ≤ 256 = omega (arith, h.session, a.session) in
     let some : 1 ≤ length l.unit.code = omega (arith, good.some_code) in
     let long : length l.unit.code ≤ 8192 = good.code_len in
     let dir : length l.unit.dir ≤ 128 = good.dir_len in
     let fci : length l.unit.fci ≤ 128 = good.fci_len in
-    all_seven (nat_le 1 (length l.unit.code)) (nat_le (length l.unit.code) 8192) (nat_le l.fixed 4096) (nat_le (length l.unit.init) l.fixed) (nat_le l.session 256) (nat_le (length l.unit.dir) 128) (nat_le (length l.unit.fci) 128)
-    (upto 1 (length l.unit.code) some) (upto (length l.unit.code) 8192 long) (upto l.fixed 4096 fixed) (upto (length l.unit.init) l.fixed init) (upto l.session 256 session) (upto (length l.unit.dir) 128 dir) (upto (length l.unit.fci) 128 fci)
+    three_left (nat_le 1 (length l.unit.code)) (nat_le (length l.unit.code) 8192) (nat_le l.fixed 4096) (nat_le (length l.unit.init) l.fixed) (nat_le l.session 256) (nat_le (length l.unit.dir) 128) (nat_le (length l.unit.fci) 128)
+    (upto 1 (length l.unit.code) some) (upto (length l.unit.code) 8192 long) (upto (length l.unit.dir) 128 dir) (upto (length l.unit.fci) 128 fci)
+    ∙ ap (λ n. nat_le n 4096 && nat_le (length l.unit.init) n && nat_le l.session 256) h.fixed
+    ∙ ap (λ t. nat_le load.fixed 4096 && nat_le (length t) load.fixed && nat_le l.session 256) h.front
+    ∙ ap (λ n. nat_le load.fixed 4096 && nat_le (length load.data.now) load.fixed && nat_le n 256) h.session
+
+and_parts : (a b : Bool) → (a && b) ≡ true → (a ≡ true) × (b ≡ true)
+and_parts true true e = (refl, refl)
+and_parts true false e = absurd (cc e)
+and_parts false b e = absurd (cc e)
+
+at_most : (a b : ℕ) → nat_le a b ≡ true → a ≤ b
+at_most a b h = grind (arith, h)
+
+-- the sizes that a card accepts
+record IsAccepted (load : Load) : Type 0 where
+  fixed : load.fixed ≤ 4096
+  front : length load.data.now ≤ load.fixed
+  session : load.session ≤ 256
+
+accepted : (load : Load) → is_accepted load ≡ true → IsAccepted load
+accepted load e =
+    let p = and_parts (nat_le load.fixed 4096 && nat_le (length load.data.now) load.fixed) (nat_le load.session 256) e in
+    let q = and_parts (nat_le load.fixed 4096) (nat_le (length load.data.now) load.fixed) p.0 in
+    record { fixed = at_most load.fixed 4096 q.0; front = at_most (length load.data.now) load.fixed q.1; session = at_most load.session 256 p.1 }
 
 bytes_append : (s t : List ℕ) → AreBytes s → AreBytes t → AreBytes (s ++ t)
 bytes_append [] t h i = i
@@ -85,8 +120,9 @@ size_by t n h =
     omega (arith, k, z, h)
 
 -- the application is the one that a `load` line creates
-pub created : (name : List ℕ) (l : LoadLine) (load : Load) → IsLoad l load → IsAccepted load → IsCreated (target_of name l).app load
-created name l load h a =
+pub created : (name : List ℕ) (l : LoadLine) (load : Load) → IsLoad l load → is_accepted load ≡ true → IsCreated (target_of name l).app load
+created name l load h accepts =
+    let a = accepted load accepts in
     let front = ap length h.front in
     let fixed : l.fixed ≤ 4096 = omega (arith, h.fixed, a.fixed) in
     let init : length l.unit.init ≤ l.fixed = omega (arith, h.fixed, a.front, front) in
@@ -111,16 +147,26 @@ abbrev app_by : List (List ℕ × LoadLine) → AppRules → List ℕ → Bool �
 app_by loads a name new found =
     unless new NameTwice a >>= λ r. ok_or found (Deck UnknownName) >>= λ l. unless (fits_limits (sizes_of l)) OutOfRange (record r { target = Some (target_of name l) })
 
+-- the line of an application, by its only field
+app_line : (loads : List (List ℕ × LoadLine)) (a : AppRules) (n : ℕ) (fs : List (List ℕ)) (name : List ℕ) → fs ≡ name ∷ [] → app_rule loads a n AppLine fs ≡ with_target loads a name
+app_line loads a n fs name e = ap (app_rule loads a n AppLine) e ∙ app_is loads a n name
+
+app_named : (loads : List (List ℕ × LoadLine)) (a : AppRules) (n : ℕ) (fs : List (List ℕ)) (name : List ℕ) → fs ≡ name ∷ [] → name_field name ≡ Ok name
+    → app_rule loads a n AppLine fs ≡ app_by loads a name (is_none a.target) (lookup loads name)
+app_named loads a n fs name e h = app_line loads a n fs name e ∙ ap (λ m. of_deck m >>= λ name. app_by loads a name (is_none a.target) (lookup loads name)) h
+
+app_new : (loads : List (List ℕ × LoadLine)) (a : AppRules) (p : Partial) (n : ℕ) (fs : List (List ℕ)) (name : List ℕ) → ArePart a p → fs ≡ name ∷ [] → name_field name ≡ Ok name → p.load ≡ None
+    → app_rule loads a n AppLine fs ≡ app_by loads a name true (lookup loads name)
+app_new loads a p n fs name are e h l = app_named loads a n fs name e h ∙ ap (λ b. app_by loads a name b (lookup loads name)) (no_app a.target p.load are.target l)
+
 app_found : (loads : List (List ℕ × LoadLine)) (a : AppRules) (p : Partial) (n : ℕ) (fs : List (List ℕ)) (load : Load) (o : Option LoadLine) → ArePart a p → (h : IsAppRead loads p fs load) → lookup loads h.name ≡ o → IsLoadOf o load
     → AreListsRead (app_rule loads a n AppLine fs) (Some load) p.allowances.items p.sums.items p.ons.items p.always.items (length p.balances.items) p.never
 app_found loads a p n fs load None are h e i = absurd i
 app_found loads a p n fs load (Some l) are h e i =
     let whole : app_rule loads a n AppLine fs ≡ Ok (record a { target = Some (target_of h.name l) }) =
-    ap (app_rule loads a n AppLine) h.parts ∙ app_is loads a n h.name
-    ∙ ap (λ m. of_deck m >>= λ name. app_by loads a name (is_none a.target) (lookup loads name)) h.named
-    ∙ ap (λ b. app_by loads a h.name b (lookup loads h.name)) (no_target a.target p.load are.target h.new)
+    app_new loads a p n fs h.name are h.parts h.named h.new
     ∙ ap (app_by loads a h.name true) e
-    ∙ ap (λ b. unless b OutOfRange (record a { target = Some (target_of h.name l) })) (fits l load i h.accepted) in
+    ∙ ap (λ b. unless b OutOfRange (record a { target = Some (target_of h.name l) })) (fits_is l load i ∙ h.accepted) in
     subst (λ (r : Result AppRules RuleCause). AreListsRead r (Some load) p.allowances.items p.sums.items p.ons.items p.always.items (length p.balances.items) p.never) (sym whole) (record {
       target = created h.name l load i h.accepted;
       allowances = are.allowances;
@@ -131,6 +177,33 @@ app_found loads a p n fs load (Some l) are h e i =
       totals = are.totals;
       abends = are.abends;
     })
+
+-- ---- refused applications
+
+pub no_name : (loads : List (List ℕ × LoadLine)) (a : AppRules) (n : ℕ) (fs : List (List ℕ)) → one_of fs ≡ None → app_rule loads a n AppLine fs ≡ Err (Deck BadLine)
+unfolding app_rule
+no_name loads a n [] h = refl
+no_name loads a n (x ∷ []) h = absurd (cc h)
+no_name loads a n (x ∷ y ∷ fs) h = refl
+
+pub app_name_refused : (loads : List (List ℕ × LoadLine)) (a : AppRules) (n : ℕ) (fs : List (List ℕ)) (name : List ℕ) (c : DeckCause) → fs ≡ name ∷ [] → name_field name ≡ Err c → app_rule loads a n AppLine fs ≡ Err (Deck c)
+app_name_refused loads a n fs name c e h = app_line loads a n fs name e ∙ ap (λ m. of_deck m >>= λ name. app_by loads a name (is_none a.target) (lookup loads name)) h
+
+pub app_twice : (loads : List (List ℕ × LoadLine)) (a : AppRules) (p : Partial) (n : ℕ) (fs : List (List ℕ)) (name : List ℕ) → ArePart a p → fs ≡ name ∷ [] → name_field name ≡ Ok name → is_some p.load ≡ true
+    → app_rule loads a n AppLine fs ≡ Err (Deck NameTwice)
+app_twice loads a p n fs name are e h l = app_named loads a n fs name e h ∙ ap (λ b. app_by loads a name b (lookup loads name)) (some_app a.target p.load are.target l)
+
+pub app_unknown : (loads : List (List ℕ × LoadLine)) (a : AppRules) (p : Partial) (n : ℕ) (fs : List (List ℕ)) (name : List ℕ) → ArePart a p → fs ≡ name ∷ [] → name_field name ≡ Ok name → p.load ≡ None → lookup loads name ≡ None
+    → app_rule loads a n AppLine fs ≡ Err (Deck UnknownName)
+app_unknown loads a p n fs name are e h l i = app_new loads a p n fs name are e h l ∙ ap (app_by loads a name true) i
+
+large_by : (loads : List (List ℕ × LoadLine)) (a : AppRules) (name : List ℕ) (load : Load) (o : Option LoadLine) → IsLoadOf o load → is_accepted load ≡ false → app_by loads a name true o ≡ Err (Deck OutOfRange)
+large_by loads a name load None h e = absurd h
+large_by loads a name load (Some l) h e = ap (λ b. unless b OutOfRange (record a { target = Some (target_of name l) })) (fits_is l load h ∙ e)
+
+pub app_large : (loads : List (List ℕ × LoadLine)) (a : AppRules) (p : Partial) (n : ℕ) (fs : List (List ℕ)) (name : List ℕ) (load : Load) → ArePart a p → fs ≡ name ∷ [] → name_field name ≡ Ok name → p.load ≡ None
+    → IsLoadOf (lookup loads name) load → is_accepted load ≡ false → app_rule loads a n AppLine fs ≡ Err (Deck OutOfRange)
+app_large loads a p n fs name load are e h l i out = app_new loads a p n fs name are e h l ∙ large_by loads a name load (lookup loads name) i out
 
 -- the rules with their application
 pub app_added : (loads : List (List ℕ × LoadLine)) (a : AppRules) (p : Partial) (n : ℕ) (fs : List (List ℕ)) (load : Load) (o : Option Load) → ArePart a p → IsAppRead loads p fs load → o ≡ Some load
@@ -146,6 +219,69 @@ new_name list old m e h = ap (λ l. is_none (lookup l m)) e ∙ place_none (map 
 
 more_values : (list : List (List ℕ × ℕ)) (old new : List Named) (one : Named) → list ≡ map allowance_of old → new ≡ old ++ one ∷ [] → list ++ allowance_of one ∷ [] ≡ map allowance_of new
 more_values list old new one e m = ap (λ l. l ++ allowance_of one ∷ []) e ∙ sym (map_more allowance_of old one) ∙ ap (map allowance_of) (sym m)
+
+-- two fields that are no name and amount, or whose name is in a list
+abbrev named_by : List (List ℕ × ℕ) → Result (List ℕ × ℕ) DeckCause → Result (List ℕ × ℕ) RuleCause
+named_by list r = of_deck r >>= λ a. unless (is_none (lookup list a.0)) NameTwice a
+
+pub pair_fault : (old : List Named) (fs : List (List ℕ)) (c : DeckCause) (e : Fault) → name_and_amount fs ≡ Err c → e ≡ fault.Cause (cause.Deck c) → HasFault old fs e
+pair_fault old fs c e h i = deck_faulty (named_by (map allowance_of old) (name_and_amount fs)) e c i (ap (named_by (map allowance_of old)) h)
+
+some_not : {A : Type 0} (o : Option A) → is_some o ≡ true → is_none o ≡ false
+some_not None e = absurd (cc e)
+some_not (Some a) e = refl
+
+some_by : (held : List (List ℕ × ℕ)) (name : List ℕ) (i : ℕ) → place_of held name ≡ Some i → is_none (lookup held name) ≡ false
+some_by held name i e = some_not (lookup held name) (place_some held name i e)
+
+place_by : (held : List (List ℕ × ℕ)) (name : List ℕ) (o : Option ℕ) → o ≡ place_of held name → is_some o ≡ true → is_none (lookup held name) ≡ false
+place_by held name None e h = absurd (cc h)
+place_by held name (Some i) e h = some_by held name i (sym e)
+
+pub twice_fault : (old : List Named) (fs : List (List ℕ)) (name : List ℕ) (k : ℕ) (o : Option ℕ) (e : Fault) → name_and_amount fs ≡ Ok (name, k) → o ≡ place_of (map allowance_of old) name → is_some o ≡ true
+    → e ≡ fault.Cause (cause.Deck NameTwice) → HasFault old fs e
+twice_fault old fs name k o e h p s i =
+    deck_faulty (named_by (map allowance_of old) (name_and_amount fs)) e NameTwice i
+    (ap (named_by (map allowance_of old)) h ∙ ap (λ b. unless b NameTwice (name, k)) (place_by (map allowance_of old) name o p s))
+
+test_by : {A B : Type 0} (b : Bool) (x : A) (y : B) (e : Fault) → Faulty (unless b NameTwice x) e → Faulty (unless b NameTwice y) e
+test_by true x y (fault.Cause c) h = absurd (cc h)
+test_by false x y (fault.Cause c) h =
+    let same : Deck NameTwice ≡ cause_value c = cc h in
+    ap (λ z. Err z) same
+test_by b x y fault.NoMemory h = tt
+
+-- a refused name before the rules with it
+then_by : (r : Result (List ℕ × ℕ) RuleCause) (test : List ℕ × ℕ → Bool) (f : List ℕ × ℕ → AppRules) (e : Fault) → Faulty (r >>= λ a. unless (test a) NameTwice a) e → Faulty (r >>= λ a. unless (test a) NameTwice (f a)) e
+then_by (Err c) test f (fault.Cause d) h =
+    let same : c ≡ cause_value d = cc h in
+    ap (λ x. Err x) same
+then_by (Err c) test f fault.NoMemory h = tt
+then_by (Ok a) test f e h = test_by (test a) a (f a) e h
+
+-- the fault of a line about an allowance or a sum
+abbrev pub NamedFault : Partial → AppWord → List (List ℕ) → Fault → Type 0
+NamedFault p w fs e = (loads : List (List ℕ × LoadLine)) (a : AppRules) (n : ℕ) → ArePart a p → Faulty (app_rule loads a n w fs) e
+
+-- the fault of a line that names the application, and of one about abends
+abbrev pub AppFault : List (List ℕ × LoadLine) → Partial → List (List ℕ) → Fault → Type 0
+AppFault loads p fs e = (a : AppRules) (n : ℕ) → ArePart a p → Faulty (app_rule loads a n AppLine fs) e
+
+abbrev pub NeverFault : Partial → ℕ → List (List ℕ) → Fault → Type 0
+NeverFault p n fs e = (loads : List (List ℕ × LoadLine)) (a : AppRules) → ArePart a p → Faulty (app_rule loads a n NeverLine fs) e
+
+-- refused allowances and sums
+pub allowance_refused : (loads : List (List ℕ × LoadLine)) (a : AppRules) (p : Partial) (n : ℕ) (fs : List (List ℕ)) (e : Fault) → ArePart a p → HasFault p.allowances.items fs e → Faulty (app_rule loads a n AllowLine fs) e
+allowance_refused loads a p n fs e are h =
+    same_faulty (app_rule loads a n AllowLine fs) (of_deck (name_and_amount fs) >>= λ x. unless (is_none (lookup a.allowances x.0)) NameTwice (record a { allowances = a.allowances ++ x ∷ [] })) e (allow_is loads a n fs)
+    (then_by (of_deck (name_and_amount fs)) (λ x. is_none (lookup a.allowances x.0)) (λ x. record a { allowances = a.allowances ++ x ∷ [] }) e
+    (subst (λ (l : List (List ℕ × ℕ)). Faulty (named_by l (name_and_amount fs)) e) (sym are.allowances) h))
+
+pub sum_refused : (loads : List (List ℕ × LoadLine)) (a : AppRules) (p : Partial) (n : ℕ) (fs : List (List ℕ)) (e : Fault) → ArePart a p → HasFault p.sums.items fs e → Faulty (app_rule loads a n SumWord fs) e
+sum_refused loads a p n fs e are h =
+    same_faulty (app_rule loads a n SumWord fs) (of_deck (name_and_amount fs) >>= λ x. unless (is_none (lookup a.sums x.0)) NameTwice (record a { sums = a.sums ++ x ∷ [] })) e (sum_is loads a n fs)
+    (then_by (of_deck (name_and_amount fs)) (λ x. is_none (lookup a.sums x.0)) (λ x. record a { sums = a.sums ++ x ∷ [] }) e
+    (subst (λ (l : List (List ℕ × ℕ)). Faulty (named_by l (name_and_amount fs)) e) (sym are.sums) h))
 
 -- the rules with one more allowance
 pub allowance_added : (loads : List (List ℕ × LoadLine)) (a : AppRules) (p : Partial) (n : ℕ) (fs : List (List ℕ)) (more : List Named) → ArePart a p → IsMoreNamed p.allowances.items fs more
@@ -237,3 +373,29 @@ never_new (Some m) n e = absurd (cc e)
 pub never_there : (o : Option ℕ) (n : ℕ) → is_none o ≡ false → o ≡ first_never n o
 never_there None n e = absurd (cc e)
 never_there (Some m) n e = refl
+
+-- ---- refused lines about abends
+
+pub no_abend : (loads : List (List ℕ × LoadLine)) (a : AppRules) (n : ℕ) (fs : List (List ℕ)) → one_of fs ≡ None → app_rule loads a n NeverLine fs ≡ Err (Deck BadLine)
+unfolding app_rule
+no_abend loads a n [] h = refl
+no_abend loads a n (x ∷ []) h = absurd (cc h)
+no_abend loads a n (x ∷ y ∷ fs) h = refl
+
+never_line : (loads : List (List ℕ × LoadLine)) (a : AppRules) (n : ℕ) (fs : List (List ℕ)) (word : List ℕ) → fs ≡ word ∷ []
+    → app_rule loads a n NeverLine fs ≡ (unless (bytes_eq word (codes "abend")) BadLine a >>= λ r. with_app r (with_never r n r.abends))
+never_line loads a n fs word e = ap (app_rule loads a n NeverLine) e ∙ never_is loads a n word
+
+pub other_never : (loads : List (List ℕ × LoadLine)) (a : AppRules) (n : ℕ) (fs : List (List ℕ)) (word : List ℕ) → fs ≡ word ∷ [] → bytes_eq word (codes "abend") ≡ false → app_rule loads a n NeverLine fs ≡ Err (Deck BadLine)
+other_never loads a n fs word e h = never_line loads a n fs word e ∙ ap (λ b. unless b BadLine a >>= λ r. with_app r (with_never r n r.abends)) h
+
+pub never_unnamed : (loads : List (List ℕ × LoadLine)) (a : AppRules) (p : Partial) (n : ℕ) (fs : List (List ℕ)) (word : List ℕ) → ArePart a p → fs ≡ word ∷ [] → bytes_eq word (codes "abend") ≡ true → p.load ≡ None
+    → app_rule loads a n NeverLine fs ≡ Err NoApplication
+never_unnamed loads a p n fs word are e h l =
+    never_line loads a n fs word e ∙ ap (λ b. unless b BadLine a >>= λ r. with_app r (with_never r n r.abends)) h
+    ∙ ap (λ b. only_if b NoApplication (with_never a n a.abends)) (no_target a.target p.load are.target l)
+
+-- no application was named
+pub none_yet : {A : Type 0} (o : Option A) → is_some o ≡ false → o ≡ None
+none_yet None e = refl
+none_yet (Some a) e = absurd (cc e)

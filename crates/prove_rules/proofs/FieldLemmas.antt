@@ -1,174 +1,174 @@
 -- Numbers, ranges and brackets in the fields of rules.
-use Rattle.std.proofs.Common.{◌≡◌, ◌<◌, ℕ, List, [], ◌∷◌, ◌++◌, Bool, true, false, not, cond, length, take, drop, Option, Some, None, Ok, inl, inr, arith, refl, sym, ap, ◌∙◌}
-use Rattle.std.specs.Prelude.{◌==◌, ◌&&◌, nat_le, bytes_eq, codes, option_map}
-use Rattle.std.proofs.lemmas.Slice.Eq.{bytes_eq-Decides}
-use Rattle.model_text.specs.Text.{◌>>=◌, ok_as, before_values, decimal_number, digits_onto, every, hex_value, hex_values, is_digit, is_empty, is_within, pieces, pieces_with_character}
-use Rattle.model_text.specs.Assembly.{hex_number, natural}
+use Rattle.std.proofs.Common.{◌≡◌, ◌<◌, ◌≤◌, ℕ, suc, not, Bor, List, [], ◌∷◌, Bool, true, false, length, Option, Some, None, Result, Ok, Err, arith, refl, sym, ap, ◌∙◌}
+use Rattle.std.specs.Prelude.{◌==◌, nat_le, bytes_eq, codes, cond, is_some, option_map}
+use Rattle.model_text.specs.Text.{◌>>=◌, first_cut, halves_with_character, ok_as, pieces, pieces_with_character}
 use Rattle.mc_text.specs.Reading.{capped_number}
 use Rattle.model_play.specs.declared.deck.DeckCause.TheVariants.{BadLine}
-use Rattle.model_rules.specs.Reading.{bracketed, ends_in, ends_of, register_and_text, register_field, static_field, unless}
-use Rattle.prove_rules.specs.Fields.{AreEnds, IsInside, IsNumber}
+use Rattle.model_rules.specs.Reading.{Deck, RuleCause, bracketed, ends_in, ends_of, has_no_bracket, register_and_text, register_field, static_field, unless}
+use Rattle.prove_rules.specs.Fields.{two_of, IsNumber}
 
--- ---- characters that a text has not
+-- ---- pieces by their first cut
 
--- whether a character is not in a text
-abbrev pub free : ℕ → List ℕ → Bool
-free x [] = true
-free x (c ∷ t) = not (c == x) && free x t
+-- the pieces of a text after a cut, if there is one
+abbrev pub pieces_after : (ℕ → Bool) → Option (List ℕ) → List (List ℕ)
+pieces_after f None = []
+pieces_after f (Some t) = pieces f t
 
-and_parts : (a b : Bool) → (a && b) ≡ true → (a ≡ true) × (b ≡ true)
-and_parts true true e = (refl, refl)
-and_parts true false e = absurd (cc e)
-and_parts false b e = absurd (cc e)
+cut_by : (b : Bool) (f : ℕ → Bool) (c : ℕ) (t : List ℕ) (h : List ℕ × Option (List ℕ)) → pieces f t ≡ h.0 ∷ pieces_after f h.1
+    → pieces_with_character b c (pieces f t) ≡ (halves_with_character b c t h).0 ∷ pieces_after f (halves_with_character b c t h).1
+cut_by true f c t h e = refl
+cut_by false f c t h e = ap (pieces_with_character false c) e
 
-and_both : (a b : Bool) → a ≡ true → b ≡ true → (a && b) ≡ true
-and_both true true e h = refl
-and_both true false e h = h
-and_both false b e h = e
+pub pieces_cut : (f : ℕ → Bool) (t : List ℕ) → pieces f t ≡ (first_cut f t).0 ∷ pieces_after f (first_cut f t).1
+pieces_cut f [] = refl
+pieces_cut f (c ∷ t) = cut_by (f c) f c t (first_cut f t) (pieces_cut f t)
 
-not_true : (b : Bool) → not b ≡ true → b ≡ false
-not_true true e = absurd (cc e)
-not_true false e = refl
+pub pieces_some : (f : ℕ → Bool) (t u : List ℕ) → Some u ≡ (first_cut f t).1 → pieces f t ≡ (first_cut f t).0 ∷ pieces f u
+pieces_some f t u e = pieces_cut f t ∙ ap (λ o. (first_cut f t).0 ∷ pieces_after f o) (sym e)
 
-pub free_append : (x : ℕ) (s t : List ℕ) → free x s ≡ true → free x t ≡ true → free x (s ++ t) ≡ true
-free_append x [] t h i = i
-free_append x (c ∷ s) t h i =
-    let p = and_parts (not (c == x)) (free x s) h in
-    and_both (not (c == x)) (free x (s ++ t)) p.0 (free_append x s t p.1 i)
+pub pieces_none : (f : ℕ → Bool) (t : List ℕ) → None ≡ (first_cut f t).1 → pieces f t ≡ (first_cut f t).0 ∷ []
+pieces_none f t e = pieces_cut f t ∙ ap (λ o. (first_cut f t).0 ∷ pieces_after f o) (sym e)
 
-pieces_by : (b : Bool) (c : ℕ) (p : List ℕ) (ps : List (List ℕ)) → b ≡ false → pieces_with_character b c (p ∷ ps) ≡ (c ∷ p) ∷ ps
-pieces_by true c p ps e = absurd (cc e)
-pieces_by false c p ps e = refl
+whole_by : (b : Bool) (c : ℕ) (t : List ℕ) (h : List ℕ × Option (List ℕ)) → (None ≡ h.1 → h.0 ≡ t) → None ≡ (halves_with_character b c t h).1 → (halves_with_character b c t h).0 ≡ c ∷ t
+whole_by true c t h k e = absurd (cc e)
+whole_by false c t h k e = ap (λ s. c ∷ s) (k e)
 
--- a text without a cut is one piece
-pub pieces_free : (x : ℕ) (t : List ℕ) → free x t ≡ true → pieces (λ c. c == x) t ≡ t ∷ []
-pieces_free x [] h = refl
-pieces_free x (c ∷ t) h =
-    let p = and_parts (not (c == x)) (free x t) h in
-    ap (pieces_with_character (c == x) c) (pieces_free x t p.1) ∙ pieces_by (c == x) c t [] (not_true (c == x) p.0)
+-- a text without a cut is before it
+whole : (f : ℕ → Bool) (t : List ℕ) → None ≡ (first_cut f t).1 → (first_cut f t).0 ≡ t
+whole f [] e = refl
+whole f (c ∷ t) e = whole_by (f c) c t (first_cut f t) (whole f t) e
 
--- the first piece of a text
-pub pieces_cut : (x : ℕ) (s t : List ℕ) → free x s ≡ true → (x == x) ≡ true → pieces (λ c. c == x) (s ++ x ∷ t) ≡ s ∷ pieces (λ c. c == x) t
-pieces_cut x [] t h i = ap (λ b. pieces_with_character b x (pieces (λ c. c == x) t)) i
-pieces_cut x (c ∷ s) t h i =
-    let p = and_parts (not (c == x)) (free x s) h in
-    ap (pieces_with_character (c == x) c) (pieces_cut x s t p.1 i) ∙ pieces_by (c == x) c s (pieces (λ c. c == x) t) (not_true (c == x) p.0)
+-- ---- two pieces
 
--- ---- numbers have digits alone
+pub no_cut : (f : ℕ → Bool) (t : List ℕ) → None ≡ (first_cut f t).1 → None ≡ two_of (pieces f t)
+no_cut f t e = sym (ap two_of (pieces_none f t e))
 
-other : (f : ℕ → Bool) (c x : ℕ) (b : Bool) → (c == x) ≡ b → f c ≡ true → f x ≡ false → not b ≡ true
-other f c x true e h i =
-    let same : c ≡ x = grind (arith, e) in
-    let no : true ≡ false = sym h ∙ ap f same ∙ i in
-    absurd (cc no)
-other f c x false e h i = refl
+pub one_cut : (f : ℕ → Bool) (t u : List ℕ) → Some u ≡ (first_cut f t).1 → None ≡ (first_cut f u).1 → Some ((first_cut f t).0, u) ≡ two_of (pieces f t)
+one_cut f t u e h =
+    ap (λ v. Some ((first_cut f t).0, v)) (sym (whole f u h)) ∙ sym (ap two_of (pieces_some f t u e ∙ ap (λ ps. (first_cut f t).0 ∷ ps) (pieces_none f u h)))
 
-every_free : (f : ℕ → Bool) (x : ℕ) (t : List ℕ) → f x ≡ false → every f t ≡ true → free x t ≡ true
-every_free f x [] i h = refl
-every_free f x (c ∷ t) i h =
-    let p = and_parts (f c) (every f t) h in
-    and_both (not (c == x)) (free x t) (other f c x (c == x) refl p.0 i) (every_free f x t i p.1)
+pub two_cuts : (f : ℕ → Bool) (t u v : List ℕ) → Some u ≡ (first_cut f t).1 → Some v ≡ (first_cut f u).1 → None ≡ two_of (pieces f t)
+two_cuts f t u v e h =
+    sym (ap two_of (pieces_some f t u e ∙ ap (λ ps. (first_cut f t).0 ∷ ps) (pieces_some f u v h ∙ ap (λ ps. (first_cut f u).0 ∷ ps) (pieces_cut f v))))
 
-decimal_by : (a b : Bool) (n m : ℕ) → cond (a && b) (Some n) None ≡ Some m → b ≡ true
-decimal_by true true n m e = refl
-decimal_by true false n m e = absurd (cc e)
-decimal_by false b n m e = absurd (cc e)
+abbrev both_of : Option (List ℕ × List ℕ) → List (List ℕ)
+both_of None = []
+both_of (Some p) = p.0 ∷ p.1 ∷ []
 
-pub decimal_free : (x : ℕ) (t : List ℕ) (n : ℕ) → is_digit x ≡ false → decimal_number t ≡ Some n → free x t ≡ true
-decimal_free x t n i h = every_free is_digit x t i (decimal_by (not (is_empty t)) (every is_digit t) _ n h)
-
-values_by : (o : Option ℕ) (p : Option (List ℕ)) (vs : List ℕ) → before_values o p ≡ Some vs → (v : ℕ) × (ws : List ℕ) × (o ≡ Some v) × (p ≡ Some ws)
-values_by (Some v) (Some ws) vs e = (v, ws, refl, refl)
-values_by (Some v) None vs e = absurd (cc e)
-values_by None p vs e = absurd (cc e)
-
-hex_other : (c x : ℕ) (b : Bool) (v : ℕ) → (c == x) ≡ b → hex_value c ≡ Some v → hex_value x ≡ None → not b ≡ true
-hex_other c x true v e h i =
-    let same : c ≡ x = grind (arith, e) in
-    let no : Some v ≡ None = sym h ∙ ap hex_value same ∙ i in
-    absurd (cc no)
-hex_other c x false v e h i = refl
-
-hex_free : (x : ℕ) (t : List ℕ) (vs : List ℕ) → hex_value x ≡ None → hex_values t ≡ Some vs → free x t ≡ true
-hex_free x [] vs i h = refl
-hex_free x (c ∷ t) vs i h =
-    let p = values_by (hex_value c) (hex_values t) vs h in
-    and_both (not (c == x)) (free x t) (hex_other c x (c == x) p.0 refl p.2 i) (hex_free x t p.1 i p.3)
-
--- a character that is in no number
-pub record IsNoDigit (x : ℕ) : Type 0 where
-  pub decimal : is_digit x ≡ false
-  pub hex : hex_value x ≡ None
-  pub zero : (48 == x) ≡ false
-  pub letter : (120 == x) ≡ false
-  pub minus : (45 == x) ≡ false
-
-some_of : {A B : Type 0} (f : A → B) (o : Option A) (b : B) → option_map f o ≡ Some b → (a : A) × (o ≡ Some a)
-some_of f (Some a) b e = (a, refl)
-some_of f None b e = absurd (cc e)
-
-cond_some : {A : Type 0} (b : Bool) (o : Option A) (a : A) → cond b o None ≡ Some a → o ≡ Some a
-cond_some true o a e = e
-cond_some false o a e = absurd (cc e)
-
-hex_number_free : (x : ℕ) (t : List ℕ) (n : ℕ) → hex_value x ≡ None → hex_number t ≡ Some n → free x t ≡ true
-hex_number_free x t n i h =
-    let p = some_of (digits_onto 16 0) (hex_values t) n (cond_some (is_within 1 4 (length t)) (option_map (digits_onto 16 0) (hex_values t)) n h) in
-    hex_free x t p.0 i p.1
-
-two_front : (t : List ℕ) (x : ℕ) → take 2 t ≡ 48 ∷ 120 ∷ [] → IsNoDigit x → free x (drop 2 t) ≡ true → free x t ≡ true
-two_front [] x e n h = refl
-two_front (c ∷ []) x e n h = absurd (cc e)
-two_front (c ∷ d ∷ t) x e n h =
-    let a : c ≡ 48 = cc e in
-    let b : d ≡ 120 = cc e in
-    and_both (not (c == x)) (not (d == x) && free x t) (ap (λ k. not (k == x)) a ∙ ap not n.zero) (and_both (not (d == x)) (free x t) (ap (λ k. not (k == x)) b ∙ ap not n.letter) h)
-
-natural_by : (x : ℕ) (t : List ℕ) (n : ℕ) (b : Bool) → bytes_eq (take 2 t) (codes "0x") ≡ b → IsNoDigit x → cond b (hex_number (drop 2 t)) (decimal_number t) ≡ Some n → free x t ≡ true
-natural_by x t n true e i h = two_front t x ((bytes_eq-Decides (take 2 t) (codes "0x")).0 e) i (hex_number_free x (drop 2 t) n i.hex h)
-natural_by x t n false e i h = decimal_free x t n i.decimal h
-
-pub natural_free : (x : ℕ) (t : List ℕ) (n : ℕ) → IsNoDigit x → natural t ≡ Some n → free x t ≡ true
-natural_free x t n i h = natural_by x t n (bytes_eq (take 2 t) (codes "0x")) refl i h
-
--- ---- ranges
-
-pub dot : IsNoDigit 46
-dot = record { decimal = refl; hex = refl; zero = refl; letter = refl; minus = refl }
-
-pub opening : IsNoDigit 91
-opening = record { decimal = refl; hex = refl; zero = refl; letter = refl; minus = refl }
-
-pub closing : IsNoDigit 93
-closing = record { decimal = refl; hex = refl; zero = refl; letter = refl; minus = refl }
-
--- the ends of a range whose ends have no full stop
-pub ends_are : (t p q : List ℕ) → AreEnds t p q → free 46 p ≡ true → free 46 q ≡ true → ends_of t ≡ Ok (p, q)
-ends_are t p q (inl h) e f = ap ends_of h.0 ∙ ap ends_in (pieces_free 46 p e) ∙ ap (λ u. Ok (p, u)) (sym h.0 ∙ h.1)
-ends_are t p q (inr h) e f = ap ends_of h ∙ ap ends_in (pieces_cut 46 p (46 ∷ q) e refl ∙ ap (λ ps. p ∷ [] ∷ ps) (pieces_free 46 q f))
-
-pub ends_free : (x : ℕ) (t p q : List ℕ) → AreEnds t p q → (46 == x) ≡ false → free x p ≡ true → free x q ≡ true → free x t ≡ true
-ends_free x t p q (inl h) i e f = ap (free x) h.0 ∙ e
-ends_free x t p q (inr h) i e f = ap (free x) h ∙ free_append x p (46 ∷ 46 ∷ q) e (and_both (not (46 == x)) (not (46 == x) && free x q) (ap not i) (and_both (not (46 == x)) (free x q) (ap not i) f))
+pub two_are : (ps : List (List ℕ)) (a b : List ℕ) → Some (a, b) ≡ two_of ps → ps ≡ a ∷ b ∷ []
+two_are [] a b e = absurd (cc e)
+two_are (p ∷ []) a b e = absurd (cc e)
+two_are (p ∷ q ∷ []) a b e = ap both_of (sym e)
+two_are (p ∷ q ∷ r ∷ ps) a b e = absurd (cc e)
 
 -- ---- brackets
 
--- a register's text between brackets that has none
-pub inside_is : (t : List ℕ) (a b : ℕ) (w : List ℕ) → IsInside t (a ∷ b ∷ []) w → free 91 (a ∷ b ∷ []) ≡ true → free 91 w ≡ true → free 93 w ≡ true → register_field t ≡ Ok (a ∷ b ∷ [], w)
-inside_is t a b w h f o c =
-    ap register_field h
-    ∙ ap register_and_text (pieces_cut 91 (a ∷ b ∷ []) (w ++ 93 ∷ []) f refl ∙ ap (λ ps. (a ∷ b ∷ []) ∷ ps) (pieces_free 91 (w ++ 93 ∷ []) (free_append 91 w (93 ∷ []) o refl)))
-    ∙ ap (λ ps. ok_as (λ t. (a ∷ b ∷ [], t)) (bracketed ps)) (pieces_cut 93 w [] c refl)
+-- a field whose register and text are not two pieces
+not_opened : (ps : List (List ℕ)) → None ≡ two_of ps → register_and_text ps ≡ Err (Deck BadLine)
+not_opened [] e = refl
+not_opened (p ∷ []) e = refl
+not_opened (p ∷ q ∷ []) e = absurd (cc e)
+not_opened (p ∷ q ∷ r ∷ ps) e = refl
 
--- static bytes by the ends of their range
-pub static_is : (t w p q : List ℕ) (n m : ℕ) → IsInside t (codes "SB") w → AreEnds w p q → natural p ≡ Some n → natural q ≡ Some m → static_field t ≡ Ok w
-static_is t w p q n m h e f g =
-    let from : (x : ℕ) → IsNoDigit x → (46 == x) ≡ false → free x w ≡ true = λ x i d. ends_free x w p q e d (natural_free x p n i f) (natural_free x q m i g) in
-    ap (λ r. r >>= λ p. unless (bytes_eq p.0 (codes "SB")) BadLine p.1) (inside_is t 83 66 w h refl (from 91 opening refl) (from 93 closing refl))
+not_closed : (ps : List (List ℕ)) → None ≡ two_of ps → bracketed ps ≡ Err (Deck BadLine)
+not_closed [] e = refl
+not_closed (p ∷ []) e = refl
+not_closed (p ∷ q ∷ []) e = absurd (cc e)
+not_closed (p ∷ [] ∷ r ∷ ps) e = refl
+not_closed (p ∷ (c ∷ q) ∷ r ∷ ps) e = refl
 
--- the ends of a range of static bytes
-pub static_ends : (w p q : List ℕ) (n m : ℕ) → AreEnds w p q → natural p ≡ Some n → natural q ≡ Some m → ends_of w ≡ Ok (p, q)
-static_ends w p q n m e f g = ends_are w p q e (natural_free 46 p n dot f) (natural_free 46 q m dot g)
+pub zero_of : (n : ℕ) → (n == 0) ≡ true → n ≡ 0
+zero_of n h = grind (arith, h)
+
+more_after : (w q : List ℕ) → (length q == 0) ≡ false → bracketed (w ∷ q ∷ []) ≡ Err (Deck BadLine)
+more_after w [] n = absurd (cc n)
+more_after w (c ∷ q) n = refl
+
+none_after : (w q : List ℕ) → (length q == 0) ≡ true → bracketed (w ∷ q ∷ []) ≡ Ok w
+none_after w [] n = refl
+none_after w (c ∷ q) n = absurd (cc (zero_of (length (c ∷ q)) n))
+
+pub no_register : (t : List ℕ) → None ≡ two_of (pieces (λ c. c == 91) t) → register_field t ≡ Err (Deck BadLine)
+no_register t e = not_opened (pieces (λ c. c == 91) t) e
+
+with_register : (t r u : List ℕ) (x : Result (List ℕ) RuleCause) → Some (r, u) ≡ two_of (pieces (λ c. c == 91) t) → bracketed (pieces (λ c. c == 93) u) ≡ x → register_field t ≡ ok_as (λ w. (r, w)) x
+with_register t r u x e h = ap register_and_text (two_are (pieces (λ c. c == 91) t) r u e) ∙ ap (ok_as (λ w. (r, w))) h
+
+pub no_bracket : (t r u : List ℕ) → Some (r, u) ≡ two_of (pieces (λ c. c == 91) t) → None ≡ two_of (pieces (λ c. c == 93) u) → register_field t ≡ Err (Deck BadLine)
+no_bracket t r u e h = with_register t r u (Err (Deck BadLine)) e (not_closed (pieces (λ c. c == 93) u) h)
+
+pub text_after : (t r u w q : List ℕ) → Some (r, u) ≡ two_of (pieces (λ c. c == 91) t) → Some (w, q) ≡ two_of (pieces (λ c. c == 93) u) → (length q == 0) ≡ false → register_field t ≡ Err (Deck BadLine)
+text_after t r u w q e h n = with_register t r u (Err (Deck BadLine)) e (ap bracketed (two_are (pieces (λ c. c == 93) u) w q h) ∙ more_after w q n)
+
+pub register_is : (t r u w q : List ℕ) → Some (r, u) ≡ two_of (pieces (λ c. c == 91) t) → Some (w, q) ≡ two_of (pieces (λ c. c == 93) u) → (length q == 0) ≡ true → register_field t ≡ Ok (r, w)
+register_is t r u w q e h n = with_register t r u (Ok w) e (ap bracketed (two_are (pieces (λ c. c == 93) u) w q h) ∙ none_after w q n)
+
+-- static bytes
+static_by : (t : List ℕ) (x : Result (List ℕ × List ℕ) RuleCause) → register_field t ≡ x → static_field t ≡ (x >>= λ p. unless (bytes_eq p.0 (codes "SB")) BadLine p.1)
+static_by t x e = ap (λ r. r >>= λ p. unless (bytes_eq p.0 (codes "SB")) BadLine p.1) e
+
+pub no_static : (t : List ℕ) → register_field t ≡ Err (Deck BadLine) → static_field t ≡ Err (Deck BadLine)
+no_static t e = static_by t (Err (Deck BadLine)) e
+
+pub other_register : (t r w : List ℕ) → register_field t ≡ Ok (r, w) → bytes_eq r (codes "SB") ≡ false → static_field t ≡ Err (Deck BadLine)
+other_register t r w e h = static_by t (Ok (r, w)) e ∙ ap (λ b. unless b BadLine w) h
+
+pub static_is : (t r w : List ℕ) → register_field t ≡ Ok (r, w) → bytes_eq r (codes "SB") ≡ true → static_field t ≡ Ok w
+static_is t r w e h = static_by t (Ok (r, w)) e ∙ ap (λ b. unless b BadLine w) h
+
+-- ---- ranges
+
+pub one_end : (t p : List ℕ) → p ≡ (first_cut (λ c. c == 46) t).0 → None ≡ (first_cut (λ c. c == 46) t).1 → ends_of t ≡ Ok (p, p)
+one_end t p e h = ap ends_in (pieces_none (λ c. c == 46) t h) ∙ ap (λ x. Ok (x, x)) (sym e)
+
+not_ends : (p q : List ℕ) (ps : List (List ℕ)) → None ≡ two_of (q ∷ ps) → ends_in (p ∷ q ∷ ps) ≡ Err (Deck BadLine)
+not_ends p [] [] e = refl
+not_ends p (c ∷ q) [] e = refl
+not_ends p q (r ∷ []) e = absurd (cc e)
+not_ends p [] (r ∷ s ∷ ps) e = refl
+not_ends p (c ∷ q) (r ∷ s ∷ ps) e = refl
+
+pub no_ends : (t u : List ℕ) → Some u ≡ (first_cut (λ c. c == 46) t).1 → None ≡ two_of (pieces (λ c. c == 46) u) → ends_of t ≡ Err (Deck BadLine)
+no_ends t u e h =
+    let f : ℕ → Bool = λ c. c == 46 in
+    ap ends_in (pieces_some f t u e ∙ ap (λ ps. (first_cut f t).0 ∷ ps) (pieces_cut f u))
+    ∙ not_ends (first_cut f t).0 (first_cut f u).0 (pieces_after f (first_cut f u).1) (h ∙ ap two_of (pieces_cut f u))
+
+middle_by : (p m q : List ℕ) → (length m == 0) ≡ false → ends_in (p ∷ m ∷ q ∷ []) ≡ Err (Deck BadLine)
+middle_by p [] q n = absurd (cc n)
+middle_by p (c ∷ m) q n = refl
+
+no_middle_by : (p m q : List ℕ) → (length m == 0) ≡ true → ends_in (p ∷ m ∷ q ∷ []) ≡ Ok (p, q)
+no_middle_by p [] q n = refl
+no_middle_by p (c ∷ m) q n = absurd (cc (zero_of (length (c ∷ m)) n))
+
+three : (t u m q : List ℕ) → Some u ≡ (first_cut (λ c. c == 46) t).1 → Some (m, q) ≡ two_of (pieces (λ c. c == 46) u) → ends_of t ≡ ends_in ((first_cut (λ c. c == 46) t).0 ∷ m ∷ q ∷ [])
+three t u m q e h = ap ends_in (pieces_some (λ c. c == 46) t u e ∙ ap (λ ps. (first_cut (λ c. c == 46) t).0 ∷ ps) (two_are (pieces (λ c. c == 46) u) m q h))
+
+pub text_between : (t u m q : List ℕ) → Some u ≡ (first_cut (λ c. c == 46) t).1 → Some (m, q) ≡ two_of (pieces (λ c. c == 46) u) → (length m == 0) ≡ false → ends_of t ≡ Err (Deck BadLine)
+text_between t u m q e h n = three t u m q e h ∙ middle_by (first_cut (λ c. c == 46) t).0 m q n
+
+pub two_ends : (t p u m q : List ℕ) → p ≡ (first_cut (λ c. c == 46) t).0 → Some u ≡ (first_cut (λ c. c == 46) t).1 → Some (m, q) ≡ two_of (pieces (λ c. c == 46) u) → (length m == 0) ≡ true → ends_of t ≡ Ok (p, q)
+two_ends t p u m q s e h n = three t u m q e h ∙ no_middle_by (first_cut (λ c. c == 46) t).0 m q n ∙ ap (λ x. Ok (x, q)) (sym s)
+
+-- the ends of a text, or BadLine
+abbrev pub AreEndsRead : Result (List ℕ × List ℕ) RuleCause → Type 0
+AreEndsRead (Ok e) = Unit {0}
+AreEndsRead (Err c) = c ≡ Deck BadLine
+
+ends_either : (ps : List (List ℕ)) → AreEndsRead (ends_in ps)
+ends_either [] = refl
+ends_either (p ∷ []) = tt
+ends_either (p ∷ [] ∷ []) = refl
+ends_either (p ∷ (c ∷ q) ∷ []) = refl
+ends_either (p ∷ [] ∷ q ∷ []) = tt
+ends_either (p ∷ (c ∷ m) ∷ q ∷ []) = refl
+ends_either (p ∷ [] ∷ q ∷ r ∷ ps) = refl
+ends_either (p ∷ (c ∷ m) ∷ q ∷ r ∷ ps) = refl
+
+-- a range that is refused is BadLine
+pub ends_refused : (t : List ℕ) → AreEndsRead (ends_of t)
+ends_refused t = ends_either (pieces (λ c. c == 46) t)
 
 -- ---- capped numbers
 
@@ -179,11 +179,18 @@ capped_by false n m e i h = absurd (omega (arith, h, i))
 pub capped_same : (n m : ℕ) → n ≡ capped_number m → n < 4294967296 → n ≡ m
 capped_same n m i h = capped_by (nat_le m 4294967296) n m refl i h
 
+high_by : (b : Bool) (n m : ℕ) → nat_le m 4294967296 ≡ b → n ≡ cond b m 4294967296 → 4294967296 ≤ n → 4294967296 ≤ m
+high_by true n m e i h = omega (arith, i, h)
+high_by false n m e i h = grind (arith, e)
+
+pub capped_high : (n m : ℕ) → n ≡ capped_number m → 4294967296 ≤ n → 4294967296 ≤ m
+capped_high n m i h = high_by (nat_le m 4294967296) n m refl i h
+
 number_by : (o : Option ℕ) (n : ℕ) → Some n ≡ option_map capped_number o → IsNumber o n
 number_by None n e = absurd (cc e)
 number_by (Some m) n e =
     let i : n ≡ capped_number m = cc e in
-    (m, refl, λ h. capped_same n m i h)
+    record { number = m; is = refl; capped = i; low = λ h. capped_same n m i h; high = λ h. capped_high n m i h }
 
 -- a number of a text
 pub number_is : (o : Option ℕ) (n : ℕ) → Some n ≡ option_map capped_number o → IsNumber o n
@@ -193,6 +200,32 @@ pub no_number : (o : Option ℕ) → None ≡ option_map capped_number o → o �
 no_number None e = refl
 no_number (Some m) e = absurd (cc e)
 
--- a small number is that of the text
-pub number_at : (o : Option ℕ) (n : ℕ) → IsNumber o n → n < 4294967296 → o ≡ Some n
-number_at o n h e = h.1 ∙ ap Some (sym (h.2 e))
+-- ---- pieces as the code has them
+
+abbrev now_of : Option (Bor (List ℕ)) → Option (List ℕ)
+now_of o = option_map (λ (r : Bor (List ℕ)). r.now) o
+
+pub cut_twice : (f : ℕ → Bool) (t : List ℕ) (u : Bor (List ℕ)) (o p : Option (Bor (List ℕ))) → Some u ≡ o → now_of o ≡ (first_cut f t).1 → now_of p ≡ (first_cut f u.now).1 → is_some p ≡ true → None ≡ two_of (pieces f t)
+cut_twice f t u o None e h i s = absurd (cc s)
+cut_twice f t u o (Some v) e h i s = two_cuts f t u.now v.now (ap now_of e ∙ h) i
+
+pub cut_once : (f : ℕ → Bool) (t q : List ℕ) (u : Bor (List ℕ)) (o p : Option (Bor (List ℕ))) → Some u ≡ o → q ≡ (first_cut f t).0 → now_of o ≡ (first_cut f t).1 → now_of p ≡ (first_cut f u.now).1 → is_some p ≡ false → Some (q, u.now) ≡ two_of (pieces f t)
+cut_once f t q u o None e g h i s = ap (λ x. Some (x, u.now)) g ∙ one_cut f t u.now (ap now_of e ∙ h) i
+cut_once f t q u o (Some v) e g h i s = absurd (cc s)
+
+two_or_more : (n : ℕ) → nat_le (suc (suc n)) 1 ≡ false
+two_or_more n = grind arith
+
+-- whether a text is cut
+pub is_cut : (t : List ℕ) (o : Option (Bor (List ℕ))) (b : Bool) → now_of o ≡ (first_cut (λ c. c == 91) t).1 → b ≡ is_some o → has_no_bracket t ≡ not b
+is_cut t None b e i = ap (λ ps. nat_le (length ps) 1) (pieces_none (λ c. c == 91) t e) ∙ ap not (sym i)
+is_cut t (Some v) b e i =
+    ap (λ ps. nat_le (length ps) 1) (pieces_some (λ c. c == 91) t v.now e ∙ ap (λ ps. (first_cut (λ c. c == 91) t).0 ∷ ps) (pieces_cut (λ c. c == 91) v.now))
+    ∙ two_or_more (length (pieces_after (λ c. c == 91) (first_cut (λ c. c == 91) v.now).1)) ∙ ap not (sym i)
+
+-- a range by what the code has of its first cut
+pub one_end_of : (t p : List ℕ) (o : Option (Bor (List ℕ))) → o ≡ None → p ≡ (first_cut (λ c. c == 46) t).0 → now_of o ≡ (first_cut (λ c. c == 46) t).1 → ends_of t ≡ Ok (p, p)
+one_end_of t p o e s h = one_end t p s (sym (ap now_of e) ∙ h)
+
+pub rest_of_cut : (t : List ℕ) (u : Bor (List ℕ)) (o : Option (Bor (List ℕ))) → o ≡ Some u → now_of o ≡ (first_cut (λ c. c == 46) t).1 → Some u.now ≡ (first_cut (λ c. c == 46) t).1
+rest_of_cut t u o e h = sym (ap now_of e) ∙ h

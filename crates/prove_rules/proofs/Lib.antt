@@ -3,8 +3,10 @@ pub mod AppLemmas
 pub mod CountLemmas
 pub mod FieldLemmas
 pub mod LoadLemmas
+pub mod DeckLemmas
 pub mod OnLemmas
 pub mod PartLemmas
 pub mod PlaceLemmas
 pub mod PublicLemmas
 pub mod ReadLemmas
+pub mod RefusalLemmas

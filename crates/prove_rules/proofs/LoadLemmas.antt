@@ -1,6 +1,6 @@
 -- The first `load` line of a name.
 use Rattle.std.proofs.Common.{◌≡◌, ◌+◌, ◌<◌, ◌≤◌, ℕ, suc, List, [], ◌∷◌, ◌++◌, Bool, true, false, not, cond, drop, drop-cons, add-one, Option, Some, None, arith, refl, sym, ap, subst, ◌∙◌}
-use Rattle.std.specs.Prelude.{◌==◌, ◌&&◌, nat_lt, codes, slice_get, IfSome}
+use Rattle.std.specs.Prelude.{◌==◌, ◌&&◌, nat_lt, codes, slice_get, is_some, MatchOption}
 use Rattle.std.proofs.lemmas.Option.{slice_get_within, get_or_from_slice_get}
 use Rattle.model_device.specs.Bytes.{lookup}
 use Rattle.model_text.specs.Text.{fields, lines, with_numbers}
@@ -14,13 +14,13 @@ use Rattle.model_rules.specs.Reading.{LoadLine, load_names, load_under, loads_of
 use Rattle.prove_events.specs.declared.rules.Load.{Load}
 use Rattle.prove_rules.specs.Loads.{first_named, is_second, loaded, loaded_at, loaded_line, loads_in, IsLoad, IsLoadOf}
 
-abbrev Names : Type 0
+abbrev pub Names : Type 0
 Names = List (ℕ × List (List ℕ))
 
 -- ---- numbers ascend
 
 -- the numbers of some lines ascend from n on
-abbrev Rising : ℕ → Names → Type 0
+abbrev pub Rising : ℕ → Names → Type 0
 Rising n [] = Unit {0}
 Rising n (l ∷ ls) = (n ≤ l.0) × Rising (suc l.0) ls
 
@@ -32,7 +32,7 @@ rise_by : (b : Bool) (n : ℕ) (f : List (List ℕ)) (rest : Names) → Rising (
 rise_by true n f rest h = (omega arith, h)
 rise_by false n f rest h = rising_lower n (suc n) rest (omega arith) h
 
-names_rise : (inside : Bool) (n : ℕ) (ls : List (List ℕ)) → Rising n (load_names inside (with_numbers n ls))
+pub names_rise : (inside : Bool) (n : ℕ) (ls : List (List ℕ)) → Rising n (load_names inside (with_numbers n ls))
 names_rise inside n [] = tt
 names_rise inside n (l ∷ ls) =
     rise_by (not inside && begins_with (codes "load") (fields l)) n (fields l) (load_names (stays_inside inside (fields l)) (with_numbers (suc n) ls)) (names_rise (stays_inside inside (fields l)) (suc n) ls)
@@ -40,7 +40,7 @@ names_rise inside n (l ∷ ls) =
 apart : (a b : ℕ) → b < a → (a == b) ≡ false
 apart a b h = grind (arith, h)
 
-alike : (a b : ℕ) → a ≡ b → (a == b) ≡ true
+pub alike : (a b : ℕ) → a ≡ b → (a == b) ≡ true
 alike a b h = grind (arith, h)
 
 same_by : (a b : ℕ) → (a == b) ≡ true → a ≡ b
@@ -69,7 +69,7 @@ module _ (name : List ℕ) where
   above_by true k j n o e h i = let f : j ≡ n = cc i in omega (arith, f, e)
   above_by false k j n o e h i = let f = h i in omega (arith, f, e)
 
-  first_above : (k n : ℕ) (ls : Names) → Rising k ls → first_named ls name ≡ Some n → k ≤ n
+  pub first_above : (k n : ℕ) (ls : Names) → Rising k ls → first_named ls name ≡ Some n → k ≤ n
   first_above k n [] h e = absurd (cc e)
   first_above k n (l ∷ ls) h e = above_by (is_second l.1 name) k l.0 n (first_named ls name) h.0 (λ i. first_above (suc l.0) n ls h.1 i) e
 
@@ -158,10 +158,43 @@ found_by text name d n load (Some l) e f h =
     subst (λ (o : Option LoadLine). IsLoadOf o load) (sym (loads_at ns name n (names_rise false 1 (lines text)) f l d e)) h
 
 -- what the line of the first number loads is what the name loads
-pub load_found : (text name : List ℕ) (d : List (ℕ × DeckLine)) (n : ℕ) (o : Option Load) → Some n ≡ first_named (load_names false (with_numbers 1 (lines text))) name → IfSome o (IsLoadOf (loaded_at n d))
-    → IfSome o (IsLoadOf (lookup (loads_in text d) name))
-load_found text name d n None e h = tt
-load_found text name d n (Some load) e h = found_by text name d n load (loaded_at n d) refl (sym e) h
+pub load_found : (text name : List ℕ) (d : List (ℕ × DeckLine)) (n : ℕ) (load : Load) → Some n ≡ first_named (load_names false (with_numbers 1 (lines text))) name → IsLoadOf (loaded_at n d) load
+    → IsLoadOf (lookup (loads_in text d) name) load
+load_found text name d n load e h = found_by text name d n load (loaded_at n d) refl (sym e) h
+
+-- ---- a name without a line
+
+no_second : (fs : List (List ℕ)) (name : List ℕ) (l : LoadLine) (ls : List (List ℕ × LoadLine)) → is_second fs name ≡ false → lookup ls name ≡ None → lookup (load_under (Some fs) l ++ ls) name ≡ None
+no_second fs name l ls e h = under_skip name fs l ls e ∙ h
+
+absent_by : (b : Bool) (k : ℕ) (o : Option ℕ) → cond b (Some k) o ≡ None → (b ≡ false) × (o ≡ None)
+absent_by true k o e = absurd (cc e)
+absent_by false k o e = (refl, e)
+
+entry_by : (name : List ℕ) (fs : List (List ℕ)) (o : Option (List (List ℕ))) (b : Bool) (l : LoadLine) (more : List (List ℕ × LoadLine)) → is_second fs name ≡ false
+    → lookup (load_under o l ++ more) name ≡ lookup more name → lookup (load_under (cond b (Some fs) o) l ++ more) name ≡ lookup more name
+entry_by name fs o true l more e h = under_skip name fs l more e
+entry_by name fs o false l more e h = h
+
+-- no line is under a name that none has
+under_none : (name : List ℕ) (m : ℕ) (ns : Names) (l : LoadLine) (more : List (List ℕ × LoadLine)) → first_named ns name ≡ None → lookup (load_under (entry_of_number m ns) l ++ more) name ≡ lookup more name
+under_none name m [] l more e = refl
+under_none name m (x ∷ ns) l more e =
+    let p = absent_by (is_second x.1 name) x.0 (first_named ns name) e in
+    entry_by name x.1 (entry_of_number m ns) (x.0 == m) l more p.0 (under_none name m ns l more p.1)
+
+loads_none_by : (name : List ℕ) (ns : Names) (m : ℕ) (o : Option LoadLine) (more : List (List ℕ × LoadLine)) → first_named ns name ≡ None → lookup (under (entry_of_number m ns) o ++ more) name ≡ lookup more name
+loads_none_by name ns m None more e = refl
+loads_none_by name ns m (Some l) more e = under_none name m ns l more e
+
+loads_none : (name : List ℕ) (ns : Names) (d : List (ℕ × DeckLine)) → first_named ns name ≡ None → lookup (loads_of ns d) name ≡ None
+loads_none name ns [] e = refl
+loads_none name ns (x ∷ d) e =
+    ap (λ ls. lookup ls name) (loads_step ns x.0 x.1 d) ∙ loads_none_by name ns x.0 (loaded x.1) (loads_of ns d) e ∙ loads_none name ns d e
+
+-- a name that no line has loads nothing
+pub load_missing : (text name : List ℕ) (d : List (ℕ × DeckLine)) → None ≡ first_named (load_names false (with_numbers 1 (lines text))) name → lookup (loads_in text d) name ≡ None
+load_missing text name d e = loads_none name (load_names false (with_numbers 1 (lines text))) d (sym e)
 
 -- ---- the lines of a deck, one after the other
 
@@ -170,15 +203,23 @@ drop_at d i x e =
     drop-cons d i x (slice_get_within d i x e) ∙ ap (λ y. y ∷ drop (suc i) d) (get_or_from_slice_get d i x x e) ∙ ap (λ k. x ∷ drop k d) (sym (add-one i))
 
 -- the line of the number
-pub line_here : (n : ℕ) (d : List (ℕ × DeckLine)) (i m : ℕ) (x : DeckLine) (o : Option Load) → slice_get d i ≡ Some (m, x) → m ≡ n → loaded_at n d ≡ loaded_at n (drop i d) → IfSome o (IsLoadOf (loaded_line (slice_get d i))) → IfSome o (IsLoadOf (loaded_at n d))
-line_here n d i m x o e f h g =
-    let at : loaded_at n d ≡ loaded x = h ∙ ap (loaded_at n) (drop_at d i (m, x) e) ∙ ap (λ b. cond b (loaded x) (cond (nat_lt n m) None (loaded_at n (drop (i + 1) d)))) (alike m n f) in
-    subst (λ (l : Option LoadLine). IfSome o (IsLoadOf l)) (ap loaded_line e ∙ sym at) g
+pub line_here : (n : ℕ) (d : List (ℕ × DeckLine)) (i m : ℕ) (x : DeckLine) → slice_get d i ≡ Some (m, x) → m ≡ n → loaded_at n d ≡ loaded_at n (drop i d) → loaded_at n d ≡ loaded_line (slice_get d i)
+line_here n d i m x e f h =
+    h ∙ ap (loaded_at n) (drop_at d i (m, x) e) ∙ ap (λ b. cond b (loaded x) (cond (nat_lt n m) None (loaded_at n (drop (i + 1) d)))) (alike m n f) ∙ sym (ap loaded_line e)
 
-not_lower : (n m : ℕ) → m < n → nat_lt n m ≡ false
+lower : (n m : ℕ) → n < m → nat_lt n m ≡ true
+lower n m h = grind (arith, h)
+
+-- a line of a greater number
+pub line_past : (n : ℕ) (d : List (ℕ × DeckLine)) (i m : ℕ) (x : DeckLine) → slice_get d i ≡ Some (m, x) → n < m → loaded_at n d ≡ loaded_at n (drop i d) → loaded_at n d ≡ None
+line_past n d i m x e f h =
+    h ∙ ap (loaded_at n) (drop_at d i (m, x) e) ∙ ap (λ b. cond b (loaded x) (cond (nat_lt n m) None (loaded_at n (drop (i + 1) d)))) (apart m n f)
+    ∙ ap (λ b. cond b None (loaded_at n (drop (i + 1) d))) (lower n m f)
+
+pub not_lower : (n m : ℕ) → m < n → nat_lt n m ≡ false
 not_lower n m h = grind (arith, h)
 
-unlike : (m n : ℕ) → m < n → (m == n) ≡ false
+pub unlike : (m n : ℕ) → m < n → (m == n) ≡ false
 unlike m n h = grind (arith, h)
 
 -- a line of a lower number
@@ -195,7 +236,7 @@ numbered n t l b e = ap (with_numbers n) (lines_at t ∙ ap lines_from (sym e)) 
 pub no_lines : (n : ℕ) (t : List ℕ) → None ≡ next_line t → with_numbers n (lines t) ≡ []
 no_lines n t e = ap (with_numbers n) (lines_at t ∙ ap lines_from (sym e))
 
-named_by : (n : ℕ) (fs : List (List ℕ)) (rest : Names) (name : List ℕ) (p q : Bool) → is_second fs name ≡ q → first_named (cond p ((n, fs) ∷ rest) rest) name ≡ cond (p && q) (Some n) (first_named rest name)
+pub named_by : (n : ℕ) (fs : List (List ℕ)) (rest : Names) (name : List ℕ) (p q : Bool) → is_second fs name ≡ q → first_named (cond p ((n, fs) ∷ rest) rest) name ≡ cond (p && q) (Some n) (first_named rest name)
 named_by n fs rest name true q e = ap (λ b. cond b (Some n) (first_named rest name)) e
 named_by n fs rest name false q e = refl
 
@@ -228,3 +269,24 @@ first_none inside n t name whole e g = sym (ap (λ ls. first_named (load_names i
 -- what a `load` line loads
 pub load_is : (d : List (ℕ × DeckLine)) (i n : ℕ) (x : DeckLine) (l : LoadLine) (load : Load) → slice_get d i ≡ Some (n, x) → loaded x ≡ Some l → IsLoad l load → IsLoadOf (loaded_line (slice_get d i)) load
 load_is d i n x l load e h g = subst (λ (o : Option LoadLine). IsLoadOf o load) (sym (ap loaded_line e ∙ h)) g
+
+pub no_load : (d : List (ℕ × DeckLine)) (i n : ℕ) (x : DeckLine) → slice_get d i ≡ Some (n, x) → loaded x ≡ None → loaded_line (slice_get d i) ≡ None
+no_load d i n x e h = ap loaded_line e ∙ h
+
+pub load_at_line : (o u : Option LoadLine) (load : Load) → o ≡ u → IsLoadOf u load → IsLoadOf o load
+load_at_line o u load e h = subst (λ (x : Option LoadLine). IsLoadOf x load) (sym e) h
+
+no_none : {A : Type 0} (o : Option A) → o ≡ None → is_some o ≡ true → ⊥
+no_none None e h = absurd (cc h)
+no_none (Some a) e h = absurd (cc e)
+
+-- the line of the first number, which loads
+pub loads_of_line : (text name : List ℕ) (d : List (ℕ × DeckLine)) (n : ℕ) (o : Option Load) → Some n ≡ first_named (load_names false (with_numbers 1 (lines text))) name → is_some (loaded_at n d) ≡ true
+    → MatchOption o (loaded_at n d ≡ None) (IsLoadOf (loaded_at n d)) → MatchOption o (lookup (loads_in text d) name ≡ None) (IsLoadOf (lookup (loads_in text d) name))
+loads_of_line text name d n None e there h = absurd (no_none (loaded_at n d) h there)
+loads_of_line text name d n (Some load) e there h = load_found text name d n load e h
+
+-- what the line at a place loads is what its number loads
+pub at_place : (n : ℕ) (d : List (ℕ × DeckLine)) (i m : ℕ) (x : DeckLine) (o : Option Load) → slice_get d i ≡ Some (m, x) → m ≡ n → loaded_at n d ≡ loaded_at n (drop i d)
+    → MatchOption o (loaded_line (slice_get d i) ≡ None) (IsLoadOf (loaded_line (slice_get d i))) → MatchOption o (loaded_at n d ≡ None) (IsLoadOf (loaded_at n d))
+at_place n d i m x o e f h g = subst (λ (l : Option LoadLine). MatchOption o (l ≡ None) (IsLoadOf l)) (sym (line_here n d i m x e f h)) g

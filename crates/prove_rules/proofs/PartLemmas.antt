@@ -1,10 +1,14 @@
 -- The fields of a line up to a word, one after the other.
-use Rattle.std.proofs.Common.{◌≡◌, ℕ, List, [], ◌∷◌, ◌++◌, Some, None, Bool, true, false, append-nil, append_assoc, refl, sym, ap, ◌∙◌}
+use Rattle.std.proofs.Common.{◌≡◌, ℕ, List, [], ◌∷◌, ◌++◌, Option, Some, None, Bool, true, false, append-nil, append_assoc, refl, sym, ap, subst, ◌∙◌}
 use Rattle.model_device.specs.Bytes.{lookup}
 use Rattle.model_text.specs.Text.{fields, is_blank, is_empty}
 use Rattle.law_explore.specs.Matching.{plain, small}
-use Rattle.law_explore.specs.Rules.{parts_at, parts_of, with_front}
-use Rattle.prove_rules.specs.Parts.{HasParts}
+use Rattle.law_explore.specs.Rules.{parts_at, parts_of, with_front, Parts}
+use Rattle.model_play.specs.declared.deck.DeckCause.TheVariants.{BadLine}
+use Rattle.prove_rules.specs.declared.fault.Fault.{Fault}
+use Rattle.prove_rules.specs.declared.fault.Fault.TheVariants as fault
+use Rattle.prove_rules.specs.declared.fault.RuleCause.TheVariants as cause
+use Rattle.prove_rules.specs.Parts.{HasNoParts, HasParts}
 
 -- ---- plain texts
 
@@ -33,10 +37,11 @@ module _ {W : Type 0} (words : List (List ℕ × W)) where
     pub pattern : text ≡ plain front
     pub empty : is_empty front ≡ is_empty text
     pub leads : (f : List ℕ) (w : W) (rest : List (List ℕ)) → parts_of words left ≡ Some (f, w, rest) → parts_of words all ≡ Some (front ++ f, w, rest)
+    pub none : parts_of words left ≡ None → parts_of words all ≡ None
 
   -- no field yet
   pub parts_start : (all : List (List ℕ)) (text : List ℕ) → text ≡ [] → PartsLeft all all text
-  parts_start all text e = record { front = []; pattern = e; empty = ap is_empty (sym e); leads = λ f w rest h. h }
+  parts_start all text e = record { front = []; pattern = e; empty = ap is_empty (sym e); leads = λ f w rest h. h; none = λ h. h }
 
   -- one more field
   pub parts_step : (all left : List (List ℕ)) (text f : List ℕ) (fs : List (List ℕ)) (more : List ℕ) → left ≡ f ∷ fs → None ≡ lookup words f → is_empty (plain f) ≡ false → more ≡ text ++ plain f
@@ -46,6 +51,7 @@ module _ {W : Type 0} (words : List (List ℕ × W)) where
     pattern = m ∙ ap (λ t. t ++ plain f) h.pattern ∙ sym (plain_append h.front f);
     empty = empty_append h.front f (not_empty f b) ∙ sym (empty_append text (plain f) b) ∙ ap is_empty (sym m);
     leads = λ g w rest i. h.leads (f ++ g) w rest (ap (parts_of words) e ∙ ap (λ o. parts_at o f fs (parts_of words fs)) (sym n) ∙ ap (with_front f) i) ∙ ap (λ t. Some (t, w, rest)) (sym (append_assoc h.front f g));
+    none = λ i. h.none (ap (parts_of words) e ∙ ap (λ o. parts_at o f fs (parts_of words fs)) (sym n) ∙ ap (with_front f) i);
   }
 
   -- the word
@@ -56,3 +62,13 @@ module _ {W : Type 0} (words : List (List ℕ × W)) where
     pattern = h.pattern;
     empty = h.empty;
   }
+
+  -- no word
+  pub parts_none : (all left : List (List ℕ)) (text : List ℕ) → left ≡ [] → PartsLeft all left text → parts_of words all ≡ None
+  parts_none all left text e h = h.none (ap (parts_of words) e)
+
+-- ---- no parts
+
+-- a line without a word, or without memory to look for it
+pub none_by : {W : Type 0} (o : Option (Parts W)) (e : Fault) → o ≡ None → e ≡ fault.Cause (cause.Deck BadLine) → HasNoParts o e
+none_by o e h i = subst (HasNoParts o) (sym i) (refl, h)

@@ -1,6 +1,6 @@
 -- The lines of a text, read rule by rule.
 use Rattle.std.proofs.Common.{◌≡◌, ◌+◌, ℕ, List, [], ◌∷◌, Bool, true, false, not, cond, length, map, Some, None, Result, Ok, Err, arith, refl, sym, ap, subst, ◌∙◌}
-use Rattle.std.specs.Prelude.{◌&&◌, codes, is_some, ok_or, IfOk}
+use Rattle.std.specs.Prelude.{◌&&◌, bytes_eq, codes, is_some, ok_or, IfErr, IfOk}
 use Rattle.model_device.specs.Bytes.{lookup}
 use Rattle.model_text.specs.Text.{◌>>=◌, err_as, fields, lines, only_if, with_numbers}
 use Rattle.model_play.specs.declared.deck.DeckCause.TheVariants.{BadLine}
@@ -14,13 +14,18 @@ use Rattle.prove_events.specs.declared.rules.Rules.{Rules}
 use Rattle.prove_events.specs.declared.rules.Named.{Named}
 use Rattle.prove_events.specs.declared.rules.On.{On}
 use Rattle.prove_events.specs.Rules.{allowance_of, name_of, range_of, AreDistinct, AreLines, AreRules, IsCreated}
+use Rattle.prove_rules.specs.declared.fault.Fault.{Fault}
+use Rattle.prove_rules.specs.declared.fault.Fault.TheVariants as fault
+use Rattle.prove_rules.specs.declared.fault.RuleCause.TheVariants as cause
 use Rattle.prove_rules.specs.declared.fault.RuleRefusal.{RuleRefusal}
+use Rattle.prove_rules.specs.declared.fault.RuleRefusal.TheVariants as refusal
 use Rattle.prove_rules.specs.declared.partial.Partial.{Partial}
-use Rattle.prove_rules.specs.Lines.{lines_read, rule_of, rules_with}
+use Rattle.prove_rules.specs.Lines.{is_plain_mark, lines_read, rule_of, rules_with}
 use Rattle.prove_rules.specs.Loads.{loads_in}
 use Rattle.prove_rules.specs.Partials.{ArePart, ArePartRead, IsFinished}
 use Rattle.prove_rules.proofs.LoadLemmas.{no_lines, numbered}
-use Rattle.prove_rules.proofs.OnLemmas.{target_is}
+use Rattle.prove_rules.specs.Refused.{refusal_at, Faulty, RefusesRules}
+use Rattle.prove_rules.proofs.OnLemmas.{no_target, target_is}
 
 abbrev pub Loads : Type 0
 Loads = List (List ℕ × LoadLine)
@@ -43,6 +48,16 @@ move_is loads a n fs = refl
 abbrev pub Keeps : Loads → Partial → Partial → ℕ → List (List ℕ) → AppWord → Type 0
 Keeps loads p q n fs w = (a : AppRules) → ArePart a p → ArePartRead (app_rule loads a n w fs) q
 
+-- the fault of a rule by its word, and by all its fields
+abbrev pub RuleFault : Loads → Partial → ℕ → AppWord → List (List ℕ) → Fault → Type 0
+RuleFault loads p n w fs e = (a : AppRules) → ArePart a p → Faulty (app_rule loads a n w fs) e
+
+abbrev pub WordFault : Loads → Partial → ℕ → List (List ℕ) → Fault → Type 0
+WordFault loads p n fs e = (a : AppRules) → ArePart a p → Faulty (rule_of loads a n fs) e
+
+abbrev pub TextFault : Loads → Partial → Bool → ℕ × List ℕ → Fault → Type 0
+TextFault loads p inside l e = (a : AppRules) → ArePart a p → Faulty (rules_with loads inside l a) e
+
 -- a rule by its word
 pub word_is : (loads : Loads) (a : AppRules) (n : ℕ) (all fs : List (List ℕ)) (word : List ℕ) (w : AppWord) → all ≡ word ∷ fs → Some w ≡ lookup app_words word → app_rule loads a n w fs ≡ rule_of loads a n all
 word_is loads a n all fs word w e h = sym (ap (rule_of loads a n) e ∙ ap (λ o. ok_or o (Deck BadLine) >>= λ w. app_rule loads a n w fs) (sym h))
@@ -59,6 +74,30 @@ rule_line loads a n inside l fs e m h =
     sym (
     ap (λ b. cond (not b && is_marked (fields l)) (app_line loads a n (fields l)) (Ok a)) e
     ∙ ap (λ b. cond b (app_line loads a n (fields l)) (Ok a)) m ∙ ap (app_line loads a n) h ∙ with_mark loads a n fs)
+
+-- a line whose mark is longer
+longer_by : (loads : Loads) (a : AppRules) (n : ℕ) (fs : List (List ℕ)) → is_plain_mark fs ≡ false → app_line loads a n fs ≡ Err (Deck BadLine)
+longer_by loads a n [] h = refl
+longer_by loads a n (mark ∷ []) h = refl
+longer_by loads a n (mark ∷ word ∷ fs) h = ap (λ b. cond b (ok_or (lookup app_words word) (Deck BadLine)) (Err (Deck BadLine)) >>= λ w. app_rule loads a n w fs) h
+
+line_is : (loads : Loads) (a : AppRules) (n : ℕ) (inside : Bool) (l : List ℕ) → inside ≡ false → is_marked (fields l) ≡ true → rules_with loads inside (n, l) a ≡ app_line loads a n (fields l)
+line_is loads a n inside l e m =
+    ap (λ b. cond (not b && is_marked (fields l)) (app_line loads a n (fields l)) (Ok a)) e
+    ∙ ap (λ b. cond b (app_line loads a n (fields l)) (Ok a)) m
+
+pub longer_mark : (loads : Loads) (a : AppRules) (n : ℕ) (inside : Bool) (l : List ℕ) → inside ≡ false → is_marked (fields l) ≡ true → is_plain_mark (fields l) ≡ false → rules_with loads inside (n, l) a ≡ Err (Deck BadLine)
+longer_mark loads a n inside l e m h = line_is loads a n inside l e m ∙ longer_by loads a n (fields l) h
+
+pub other_mark : (fs rest : List (List ℕ)) (mark : List ℕ) → fs ≡ mark ∷ rest → bytes_eq mark (codes "#@") ≡ false → is_plain_mark fs ≡ false
+other_mark fs rest mark e h = ap is_plain_mark e ∙ h
+
+-- a rule without a word, or with another
+pub no_word : (loads : Loads) (a : AppRules) (n : ℕ) (fs : List (List ℕ)) → fs ≡ [] → rule_of loads a n fs ≡ Err (Deck BadLine)
+no_word loads a n fs e = ap (rule_of loads a n) e
+
+pub other_word : (loads : Loads) (a : AppRules) (n : ℕ) (all fs : List (List ℕ)) (word : List ℕ) → all ≡ word ∷ fs → None ≡ lookup app_words word → rule_of loads a n all ≡ Err (Deck BadLine)
+other_word loads a n all fs word e h = ap (rule_of loads a n) e ∙ ap (λ o. ok_or o (Deck BadLine) >>= λ w. app_rule loads a n w fs) (sym h)
 
 no_rule_by : (inside marked : Bool) (r : Result AppRules RuleCause) (a : AppRules) → (not inside && marked) ≡ false → Ok a ≡ cond (not inside && marked) r (Ok a)
 no_rule_by inside marked r a h = sym (ap (λ b. cond b r (Ok a)) h)
@@ -112,6 +151,22 @@ rules_step loads p q inside stays n t l b whole e i added h =
     subst (λ (s : Bool). RulesLeft loads q s (n + 1) b whole) (sym i) (
     step_by loads q (stays_inside inside (fields l)) n (n + 1) b whole (rules_with loads inside (n, l) h.rules) (added h.rules h.are) (sym (line_step loads h.rules inside n t l b e) ∙ h.leads))
 
+refuse_by : (n : ℕ) (e : Fault) (x : Result AppRules RuleCause) (k : AppRules → Result AppRules (ℕ × RuleCause)) → Faulty x e → RefusesRules (err_as (λ c. (n, c)) x >>= k) (refusal_at n e)
+refuse_by n (fault.Cause c) x k h = ap (λ r. err_as (λ c. (n, c)) r >>= k) h
+refuse_by n fault.NoMemory x k h = tt
+
+pub same_refused : (r s : Result AppRules (ℕ × RuleCause)) (e : RuleRefusal) → r ≡ s → RefusesRules s e → RefusesRules r e
+same_refused r s (refusal.At n c) e h = e ∙ h
+same_refused r s refusal.NoMemory e h = tt
+
+-- a line that is refused refuses all
+pub rules_refuse : (loads : Loads) (p : Partial) (inside : Bool) (n : ℕ) (t l b : List ℕ) (whole : Result AppRules (ℕ × RuleCause)) (e : Fault) → Some (l, b) ≡ next_line t
+    → ((a : AppRules) → ArePart a p → Faulty (rules_with loads inside (n, l) a) e) → RulesLeft loads p inside n t whole → RefusesRules whole (refusal_at n e)
+rules_refuse loads p inside n t l b whole e i refused h =
+    same_refused whole (err_as (λ c. (n, c)) (rules_with loads inside (n, l) h.rules) >>= λ s. left_rules loads s (stays_inside inside (fields l)) (n + 1) b) (refusal_at n e)
+    (sym h.leads ∙ line_step loads h.rules inside n t l b i)
+    (refuse_by n e (rules_with loads inside (n, l) h.rules) (λ s. left_rules loads s (stays_inside inside (fields l)) (n + 1) b) (refused h.rules h.are))
+
 -- no line is left
 pub rules_done : (loads : Loads) (p : Partial) (inside : Bool) (n : ℕ) (t : List ℕ) (whole : Result AppRules (ℕ × RuleCause)) → None ≡ next_line t → RulesLeft loads p inside n t whole → ArePartRead whole p
 rules_done loads p inside n t whole e h = subst (λ (x : Result AppRules (ℕ × RuleCause)). ArePartRead x p) (sym (no_line loads h.rules inside n t e) ∙ h.leads) h.are
@@ -151,3 +206,30 @@ pub rules_finished : (t : List ℕ) (d : List (ℕ × DeckLine)) (p : Partial) (
 rules_finished t d p (Ok r) deck h f =
     read_by t d p r.load r (lines_read t d) deck refl h f.load refl (ap (λ v. v.items) f.allowances) (ap (λ v. v.items) f.ons) (ap (λ v. v.items) f.always) (ap (λ v. length v.items) f.balances) f.never
 rules_finished t d p (Err e) deck h f = tt
+
+-- ---- refused decks
+
+from_lines : (t : List ℕ) (d : List (ℕ × DeckLine)) → deck_read t ≡ Ok d → app_rules_read t ≡ (lines_read t d >>= with_some_app)
+unfolding app_rules_read
+from_lines t d e = ap (λ x. err_as (λ e. (e.0, Deck e.1)) x >>= λ ls. lines_read t ls >>= with_some_app) e
+
+refused_by : (x : Result AppRules (ℕ × RuleCause)) (e : RuleRefusal) → RefusesRules x e → RefusesRules (x >>= with_some_app) e
+refused_by x (refusal.At n c) h = ap (λ r. r >>= with_some_app) h
+refused_by x refusal.NoMemory h = tt
+
+-- a line of the rules is refused
+pub lines_refuse : (t : List ℕ) (d : List (ℕ × DeckLine)) (e : RuleRefusal) → deck_read t ≡ Ok d → RefusesRules (lines_read t d) e → RefusesRules (app_rules_read t) e
+lines_refuse t d e deck h = same_refused (app_rules_read t) (lines_read t d >>= with_some_app) e (from_lines t d deck) (refused_by (lines_read t d) e h)
+
+unnamed_by : (x : Result AppRules (ℕ × RuleCause)) (p : Partial) → ArePartRead x p → p.load ≡ None → (x >>= with_some_app) ≡ Err (0, NoApplication)
+unnamed_by (Err e) p h l = absurd h
+unnamed_by (Ok a) p h l = ap (λ b. only_if b (0, NoApplication) a) (no_target a.target p.load h.target l)
+
+-- no line names an application
+pub none_named : (t : List ℕ) (d : List (ℕ × DeckLine)) (p : Partial) (e : RuleRefusal) → deck_read t ≡ Ok d → ArePartRead (lines_read t d) p → p.load ≡ None → e ≡ refusal.At 0 cause.NoApplication → RefusesRules (app_rules_read t) e
+none_named t d p e deck h l i = subst (RefusesRules (app_rules_read t)) (sym i) (from_lines t d deck ∙ unnamed_by (lines_read t d) p h l)
+
+pub unfinished : (t : List ℕ) (d : List (ℕ × DeckLine)) (p : Partial) (x : Result Rules RuleRefusal) → deck_read t ≡ Ok d → ArePartRead (lines_read t d) p → IfErr x (λ e. (e ≡ refusal.At 0 cause.NoApplication) × (p.load ≡ None))
+    → IfErr x (RefusesRules (app_rules_read t))
+unfinished t d p (Ok r) deck h f = tt
+unfinished t d p (Err e) deck h f = none_named t d p e deck h f.1 f.0

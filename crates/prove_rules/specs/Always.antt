@@ -1,14 +1,18 @@
 -- `always` lines as the code reads them.
-use Rattle.std.specs.Prelude.{◌≡◌, ◌<◌, ◌≤◌, ℕ, Bool, not, List, [], ◌∷◌, map, Some, Ok, true}
+use Rattle.std.specs.Prelude.{◌≡◌, ◌<◌, ◌≤◌, ℕ, Bool, not, List, [], ◌∷◌, map, Some, Ok, true, false, ⊤}
 use Rattle.model_play.specs.DeckGrammar.{number_field}
+use Rattle.model_play.specs.declared.deck.DeckCause.TheVariants.{UnknownName}
 use Rattle.model_text.specs.Assembly.{natural}
-use Rattle.model_rules.specs.Reading.{are_names, are_sums, terms_of}
+use Rattle.model_rules.specs.Reading.{are_names, are_sums, ends_of, terms_of}
 use Rattle.prove_events.specs.declared.rules.Always.{Always}
 use Rattle.prove_events.specs.declared.rules.Load.{Load}
 use Rattle.prove_events.specs.Rules.{allowance_of}
 use Rattle.prove_rules.specs.declared.always.SignedName.{SignedName}
+use Rattle.prove_rules.specs.declared.always.TotalForm.{TotalForm}
+use Rattle.prove_rules.specs.declared.fault.Fault.{Fault}
+use Rattle.prove_rules.specs.declared.fault.Fault.TheVariants as fault
+use Rattle.prove_rules.specs.declared.fault.RuleCause.TheVariants as cause
 use Rattle.prove_rules.specs.declared.partial.Partial.{Partial}
-use Rattle.prove_rules.specs.Fields.{AreEnds}
 
 -- a term of a total: whether it is added, and its name
 abbrev pub term_of : SignedName → Bool × List ℕ
@@ -28,24 +32,28 @@ pub record IsRangeRead (p : Partial) (at : List ℕ) (fs : List (List ℕ)) (w :
   pub loaded : p.load ≡ Some load
   pub within : w.at < load.fixed
 
--- a total, of the text in the brackets and of the fields after the sign
-pub record IsTotalRead (p : Partial) (range : List ℕ) (fs : List (List ℕ)) : Type 0 where
-  pub constant : List ℕ
+-- a name of the terms is no sum, or there was no memory for the sums
+abbrev pub AreNoSums : Bool → Fault → Type 0
+AreNoSums are (fault.Cause c) = (c ≡ cause.Deck UnknownName) × (are ≡ false)
+AreNoSums are fault.NoMemory = ⊤
+
+-- the fields of a total, of the text in the brackets and of the fields after the sign
+pub record IsTotalForm (range : List ℕ) (fs : List (List ℕ)) (f : TotalForm) : Type 0 where
   pub rest : List (List ℕ)
-  pub parts : fs ≡ constant ∷ rest
-  pub from : List ℕ
-  pub to : List ℕ
-  pub ends : AreEnds range from to
+  pub parts : fs ≡ f.constant.now ∷ rest
+  pub ends : ends_of range ≡ Ok (f.from.now, f.to.now)
+  pub terms : terms_of rest ≡ Ok (map term_of f.names.items)
+
+-- a total, of its fields
+pub record IsTotalRead (p : Partial) (f : TotalForm) : Type 0 where
   pub first : ℕ
   pub last : ℕ
-  pub starts : natural from ≡ Some first
-  pub stops : natural to ≡ Some last
+  pub starts : natural f.from.now ≡ Some first
+  pub stops : natural f.to.now ≡ Some last
   pub k : ℕ
-  pub number : number_field 0 4294967295 constant ≡ Ok k
-  pub terms : List (Bool × List ℕ)
-  pub termed : terms_of rest ≡ Ok terms
-  pub named : are_names terms ≡ Ok terms
-  pub sums : are_sums (map allowance_of p.sums.items) terms ≡ true
+  pub number : number_field 0 4294967295 f.constant.now ≡ Ok k
+  pub named : are_names (map term_of f.names.items) ≡ Ok (map term_of f.names.items)
+  pub sums : are_sums (map allowance_of p.sums.items) (map term_of f.names.items) ≡ true
   pub order : first ≤ last
   pub load : Load
   pub loaded : p.load ≡ Some load

@@ -1,11 +1,16 @@
 -- The line that names the application, as the code reads it.
-use Rattle.std.specs.Prelude.{◌≡◌, ℕ, List, [], ◌∷◌, None, Ok}
+use Rattle.std.specs.Prelude.{◌≡◌, ℕ, List, [], ◌∷◌, true, Option, Some, None, Ok}
 use Rattle.model_device.specs.Bytes.{lookup}
 use Rattle.model_play.specs.DeckGrammar.{name_field}
 use Rattle.model_rules.specs.Reading.{LoadLine}
 use Rattle.prove_events.specs.declared.rules.Load.{Load}
 use Rattle.prove_rules.specs.declared.partial.Partial.{Partial}
-use Rattle.prove_rules.specs.Loads.{IsAccepted, IsLoadOf}
+use Rattle.prove_rules.specs.Loads.{is_accepted, IsLoadOf}
+
+-- the only one of some texts
+abbrev pub one_of : List (List ℕ) → Option (List ℕ)
+one_of (a ∷ []) = Some a
+one_of other = None
 
 -- fields are the name of an application that is loaded
 pub record IsAppRead (loads : List (List ℕ × LoadLine)) (p : Partial) (fs : List (List ℕ)) (load : Load) : Type 0 where
@@ -14,4 +19,4 @@ pub record IsAppRead (loads : List (List ℕ × LoadLine)) (p : Partial) (fs : L
   pub named : name_field name ≡ Ok name
   pub new : p.load ≡ None
   pub is : IsLoadOf (lookup loads name) load
-  pub accepted : IsAccepted load
+  pub accepted : is_accepted load ≡ true

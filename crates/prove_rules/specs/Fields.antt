@@ -1,49 +1,57 @@
--- Numbers, ranges and amounts in the fields of rules.
-use Rattle.std.specs.Prelude.{◌≡◌, ◌<◌, ◌-◌, ◌⊎◌, ℕ, ℤ, Bool, List, [], ◌∷◌, ◌++◌, IfSome, Option, Some, Ok}
+-- Numbers and amounts in the fields of rules.
+use Rattle.std.specs.Prelude.{◌≡◌, ◌<◌, ◌≤◌, ◌-◌, ℕ, ℤ, Bool, List, [], ◌∷◌, option_map, Option, Some, None, Result, Ok, Err}
+use Rattle.mc_text.specs.Reading.{capped_number}
 use Rattle.model_text.specs.Assembly.{signed_number}
 use Rattle.model_rules.specs.Rules as rules
-use Rattle.model_rules.specs.Reading.{AmountForm, AmountRead, form_of_amount, has_no_bracket, amount_read, amount_of_read, place_from, public_amount}
+use Rattle.model_rules.specs.Reading as reading
+use Rattle.model_rules.specs.Reading.{place_from}
 use Rattle.prove_events.specs.declared.rules.Amount.{Amount}
 use Rattle.prove_events.specs.declared.rules.Amount.TheVariants as amount
+use Rattle.prove_rules.specs.declared.public.AmountForm.{AmountForm}
+use Rattle.prove_rules.specs.declared.public.AmountForm.TheVariants as form
+use Rattle.prove_rules.specs.declared.public.AmountRead.{AmountRead}
+use Rattle.prove_rules.specs.declared.public.AmountRead.TheVariants as read
 
--- a number is one that a text may have, if it is below 2 ^ 32
-abbrev pub IsNumber : Option ℕ → ℕ → Type 0
-IsNumber o n = (m : ℕ) × (o ≡ Some m) × (n < 4294967296 → n ≡ m)
+-- two texts that are all
+abbrev pub two_of : List (List ℕ) → Option (List ℕ × List ℕ)
+two_of (a ∷ b ∷ []) = Some (a, b)
+two_of other = None
 
--- a text is `REG[..]`, with the two letters of a register and a text between the brackets
-abbrev pub IsInside : List ℕ → List ℕ → List ℕ → Type 0
-IsInside text register within = text ≡ register ++ 91 ∷ (within ++ 93 ∷ [])
+-- A number is one that a text may have; above 4,294,967,296 it counts as that.
+pub record IsNumber (o : Option ℕ) (n : ℕ) : Type 0 where
+  pub number : ℕ
+  pub is : o ≡ Some number
+  pub capped : n ≡ capped_number number
+  pub low : n < 4294967296 → n ≡ number
+  pub high : 4294967296 ≤ n → 4294967296 ≤ number
 
--- a text is the ends of a range: the same text for both, or `P..Q`
-abbrev pub AreEnds : List ℕ → List ℕ → List ℕ → Type 0
-AreEnds text from to = ((text ≡ from) × (text ≡ to)) ⊎ (text ≡ from ++ 46 ∷ 46 ∷ to)
+-- ---- amounts
 
 -- an amount of a sum, as the definition has it: places count from the public segment's beginning
 abbrev pub amount_value : Amount → rules.Amount
 amount_value (amount.Number k) = rules.Constant k
 amount_value (amount.Public at n) = rules.PublicBytes (at - 49152) n
 
--- a text is the amount of a sum
-pub record IsSumAmount (text : List ℕ) (a : Amount) : Type 0 where
-  pub form : AmountForm
-  pub formed : form_of_amount (has_no_bracket text) text ≡ Ok form
-  pub read : AmountRead
-  pub reads : amount_read form ≡ Ok read
-  pub is : amount_of_read read ≡ Ok (amount_value a)
+-- the form of an amount, as the definition has it
+abbrev pub form_value : AmountForm → reading.AmountForm
+form_value (form.Number t) = reading.OfNumber t.now
+form_value (form.Bytes beginning from to) = reading.OfBytes beginning from.now to.now
 
--- an offset from one of the ends of the public segment has this place in it
-pub record IsPublicPlace (beginning : Bool) (text : List ℕ) (place : Option ℕ) : Type 0 where
+-- an offset from one of the ends of the public segment has this place; one above 4,294,967,296 counts as that
+pub record IsPlace (beginning : Bool) (text : List ℕ) (place : Option ℕ) : Type 0 where
   pub offset : ℤ
   pub reads : signed_number text ≡ Some offset
-  pub is : IfSome place (λ p. (p < 1041) × (place_from beginning offset ≡ Some p))
+  pub is : place ≡ option_map capped_number (place_from beginning offset)
 
--- a text between brackets is an amount of public bytes, by offsets from one of the ends of the segment
-pub record IsPublicAmount (beginning : Bool) (text : List ℕ) (a : Amount) : Type 0 where
-  pub from : List ℕ
-  pub to : List ℕ
-  pub ends : AreEnds text from to
-  pub first : ℤ
-  pub last : ℤ
-  pub starts : signed_number from ≡ Some first
-  pub stops : signed_number to ≡ Some last
-  pub is : public_amount (place_from beginning first) (place_from beginning last) ≡ Ok (amount_value a)
+-- an amount whose numbers were read is that of the definition
+abbrev pub IsReadOf : reading.AmountRead → AmountRead → Type 0
+IsReadOf (reading.Number k) (read.Number n) = n ≡ k
+IsReadOf (reading.Number k) (read.Places from to) = ⊥
+IsReadOf (reading.Offsets beginning p q) (read.Number n) = ⊥
+IsReadOf (reading.Offsets beginning p q) (read.Places from to) =
+    (from ≡ option_map capped_number (place_from beginning p)) × (to ≡ option_map capped_number (place_from beginning q))
+
+-- it is, if its numbers can be read
+abbrev pub IsAmountRead : {E : Type 0} → Result reading.AmountRead E → AmountRead → Type 0
+IsAmountRead (Ok r) a = IsReadOf r a
+IsAmountRead (Err e) a = ⊥

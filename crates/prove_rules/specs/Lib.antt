@@ -6,3 +6,5 @@ pub mod Loads
 pub mod Ons
 pub mod Partials
 pub mod Parts
+pub mod Refused
+pub mod Rows

@@ -1,5 +1,5 @@
 -- The rules of lines, one after the other.
-use Rattle.std.specs.Prelude.{ℕ, Bool, false, cond, not, ◌&&◌, List, [], ◌∷◌, ok_or, Result, Ok, Err}
+use Rattle.std.specs.Prelude.{ℕ, Bool, false, cond, not, ◌&&◌, List, [], ◌∷◌, bytes_eq, codes, ok_or, Result, Ok, Err}
 use Rattle.model_device.specs.Bytes.{lookup}
 use Rattle.model_text.specs.Text.{◌>>=◌, fields, lines, with_numbers}
 use Rattle.model_play.specs.DeckGrammar.{DeckLine}
@@ -26,6 +26,11 @@ kind_value kind.Move = reading.MoveLine
 abbrev pub rule_of : List (List ℕ × LoadLine) → AppRules → ℕ → List (List ℕ) → Result AppRules RuleCause
 rule_of loads a n [] = Err (Deck BadLine)
 rule_of loads a n (word ∷ fs) = ok_or (lookup app_words word) (Deck BadLine) >>= λ w. app_rule loads a n w fs
+
+-- whether the first field of a line is `#@` and no more
+abbrev pub is_plain_mark : List (List ℕ) → Bool
+is_plain_mark [] = false
+is_plain_mark (mark ∷ fs) = bytes_eq mark (codes "#@")
 
 -- the rules with that of one more line, if it is one, by whether it is in a section
 abbrev pub rules_with : List (List ℕ × LoadLine) → Bool → ℕ × List ℕ → AppRules → Result AppRules RuleCause

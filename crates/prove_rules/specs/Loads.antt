@@ -1,5 +1,5 @@
 -- The `load` lines of a deck as the code finds them.
-use Rattle.std.specs.Prelude.{◌≡◌, ℕ, Bool, false, cond, nat_lt, ◌==◌, ◌≤◌, List, [], ◌∷◌, bytes_eq, length, Option, Some, None}
+use Rattle.std.specs.Prelude.{◌≡◌, ℕ, Bool, false, cond, nat_le, nat_lt, ◌==◌, ◌&&◌, List, [], ◌∷◌, bytes_eq, length, Option, Some, None}
 use Rattle.model_device.specs.Bytes.{AreBytes}
 use Rattle.model_text.specs.Text.{lines, with_numbers}
 use Rattle.model_play.specs.DeckGrammar.{DeckLine}
@@ -53,8 +53,6 @@ abbrev pub IsLoadOf : Option LoadLine → Load → Type 0
 IsLoadOf None load = ⊥
 IsLoadOf (Some l) load = IsLoad l load
 
--- its sizes are those that a card accepts
-pub record IsAccepted (load : Load) : Type 0 where
-  pub fixed : load.fixed ≤ 4096
-  pub front : length load.data.now ≤ load.fixed
-  pub session : load.session ≤ 256
+-- whether its sizes are those that a card accepts
+abbrev pub is_accepted : Load → Bool
+is_accepted load = nat_le load.fixed 4096 && nat_le (length load.data.now) load.fixed && nat_le load.session 256

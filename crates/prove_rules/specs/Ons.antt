@@ -1,12 +1,13 @@
 -- `on` lines as the code reads them.
-use Rattle.std.specs.Prelude.{◌≡◌, ℕ, Bool, true, false, List, [], ◌∷◌, ◌++◌, map, Option, Some, None, Result, Ok}
-use Rattle.model_text.specs.Text.{fields, is_empty}
+use Rattle.std.specs.Prelude.{◌≡◌, ℕ, Bool, true, false, List, [], ◌∷◌, ◌++◌, map, Option, Some, None, Result, Ok, ⊤}
+use Rattle.model_text.specs.Text.{◌>>=◌, fields, is_empty}
 use Rattle.model_play.specs.DeckGrammar.{name_field}
 use Rattle.law_explore.specs.Matching.{plain}
-use Rattle.law_explore.specs.Rules.{name_and_amount, parts_of}
+use Rattle.law_explore.specs.Rules.{full_parts, name_and_amount, parts_of, Parts}
 use Rattle.model_rules.specs.Rules as rules
 use Rattle.model_rules.specs.Rules.{AppRules, OnLine, SumLine, Trigger, AtTurn, AtCommand, AtAnswer, AtSession}
-use Rattle.model_rules.specs.Reading.{RuleCause, gives_words, turn_words, with_deed, with_event_line}
+use Rattle.model_rules.specs.Reading as reading
+use Rattle.model_rules.specs.Reading.{AmountForm, AmountRead, RuleCause, action_words, amount_of_read, amount_read, form_of_amount, gives_words, has_no_bracket, of_deck, with_deed, with_event_line}
 use Rattle.prove_events.specs.declared.rules.Amount.{Amount}
 use Rattle.prove_events.specs.declared.rules.Effect.{Effect}
 use Rattle.prove_events.specs.declared.rules.Event.{Event}
@@ -18,22 +19,26 @@ use Rattle.prove_rules.specs.declared.partial.Partial.{Partial}
 use Rattle.prove_rules.specs.declared.on.Head.{Head}
 use Rattle.prove_rules.specs.declared.parts.Deeds.{Deeds}
 use Rattle.prove_rules.specs.declared.parts.Deeds.TheVariants as deeds
-use Rattle.prove_rules.specs.Fields.{IsSumAmount}
-use Rattle.prove_rules.specs.Parts.{action_value, deeds_value, event_value, HasParts}
+use Rattle.prove_rules.specs.Fields.{amount_value}
+use Rattle.prove_rules.specs.Parts.{action_value, deeds_value, effect_words, event_value, HasParts}
 use Rattle.prove_rules.specs.Partials.{place_of}
 
 -- ---- up to the word
 
--- the parts of fields before a word of a line, and its word
-abbrev pub HasWord : List (List ℕ) → Head → Type 0
-HasWord fs h = HasParts (parts_of turn_words fs) h.pattern.items (deeds_value h.deeds) h.after.now
+-- the parts of fields before a word of a line, and its word, by whether it is after a turn
+abbrev pub HasWord : Bool → List (List ℕ) → Head → Type 0
+HasWord of_turn fs h = HasParts (parts_of (effect_words of_turn) fs) h.pattern.items (deeds_value h.deeds) h.after.now
+
+-- the parts of fields with a result, as the definition reads them
+abbrev pub result_parts : List (List ℕ) → Result (Parts reading.Deeds) RuleCause
+result_parts fs = of_deck (full_parts (parts_of gives_words fs)) >>= λ a. of_deck (full_parts (parts_of action_words a.2))
 
 -- the parts of fields with a result
 pub record HasResult (fs : List (List ℕ)) (h : Head) : Type 0 where
   pub mid : List ℕ
   pub first : HasParts (parts_of gives_words fs) h.pattern.items true mid
   pub some : is_empty h.pattern.items ≡ false
-  pub second : HasParts (parts_of turn_words (fields mid)) h.result.items (deeds_value h.deeds) h.after.now
+  pub second : HasParts (parts_of action_words (fields mid)) h.result.items (deeds_value h.deeds) h.after.now
   pub full : is_empty h.result.items ≡ false
 
 -- an event with its patterns, as the code has them
@@ -43,17 +48,17 @@ IsTriggerOf (AtCommand p) e pattern result = (e ≡ event.Command) × (pattern �
 IsTriggerOf (AtAnswer p q) e pattern result = (e ≡ event.Answer) × (pattern ≡ plain p) × (result ≡ plain q)
 IsTriggerOf AtSession e pattern result = e ≡ event.Session
 
--- whether an event has such a word: one about a sum is a turn's alone
-abbrev pub is_timely : Event → Deeds → Bool
-is_timely event.Turn d = true
-is_timely e (deeds.OnAllowance a) = true
-is_timely e (deeds.OnSum adds) = false
+-- an event has such a word: one about a sum is a turn's alone
+abbrev pub IsTimely : Trigger → Deeds → Type 0
+IsTimely t (deeds.OnAllowance a) = ⊤
+IsTimely t (deeds.OnSum adds) = (p : List ℕ) × (t ≡ AtTurn p)
 
 -- the head of a line is read of the fields after its event
 pub record IsHead (e : Event) (fs : List (List ℕ)) (h : Head) : Type 0 where
   pub trigger : Trigger
   pub is : IsTriggerOf trigger e h.pattern.items h.result.items
-  pub leads : is_timely e h.deeds ≡ true → (a : AppRules) (n : ℕ) → with_event_line a n (event_value e) fs ≡ with_deed a n trigger (deeds_value h.deeds) (fields h.after.now)
+  pub timely : IsTimely trigger h.deeds
+  pub leads : (a : AppRules) (n : ℕ) → with_event_line a n (event_value e) fs ≡ with_deed a n trigger (deeds_value h.deeds) (fields h.after.now)
 
 -- ---- after it
 
@@ -72,18 +77,22 @@ pub record IsSumEffect (p : Partial) (fs : List (List ℕ)) (effect : Effect) (a
   pub name : List ℕ
   pub text : List ℕ
   pub parts : fs ≡ name ∷ text ∷ []
+  pub form : AmountForm
+  pub formed : form_of_amount (has_no_bracket text) text ≡ Ok form
   pub named : name_field name ≡ Ok name
+  pub read : AmountRead
+  pub reads : amount_read form ≡ Ok read
   pub value : Amount
-  pub amount : IsSumAmount text value
+  pub is : amount_of_read read ≡ Ok (amount_value value)
   pub deed : deed_of effect ≡ None
   pub place : place_of (map allowance_of p.sums.items) name ≡ Some at
   pub load : Load
   pub loaded : p.load ≡ Some load
 
 -- fields are the name and the amount of an effect
-abbrev pub IsEffect : Partial → Event → List (List ℕ) → Deeds → Effect → ℕ → Type 0
-IsEffect p e fs (deeds.OnAllowance a) effect place = IsAllowanceEffect p fs (action_value a) effect place
-IsEffect p e fs (deeds.OnSum adds) effect place = (e ≡ event.Turn) × IsSumEffect p fs effect place
+abbrev pub IsEffect : Partial → List (List ℕ) → Deeds → Effect → ℕ → Type 0
+IsEffect p fs (deeds.OnAllowance a) effect place = IsAllowanceEffect p fs (action_value a) effect place
+IsEffect p fs (deeds.OnSum adds) effect place = IsSumEffect p fs effect place
 
 -- ---- a line
 

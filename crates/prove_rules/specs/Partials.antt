@@ -1,6 +1,10 @@
 -- The rules of the lines so far, as the code has them, and those of the definition that they are.
-use Rattle.std.specs.Prelude.{◌≡◌, ℕ, suc, cond, List, [], ◌∷◌, ◌++◌, length, map, bytes_eq, option_map, Option, Some, None, Result, Ok, Err, ⊤}
+use Rattle.std.specs.Prelude.{◌≡◌, ℕ, suc, cond, List, [], ◌∷◌, ◌++◌, length, map, bytes_eq, is_none, option_map, Option, Some, None, Result, Ok, Err, ⊤}
+use Rattle.model_device.specs.Bytes.{lookup}
 use Rattle.law_explore.specs.Rules.{name_and_amount}
+use Rattle.model_text.specs.Text.{◌>>=◌}
+use Rattle.model_play.specs.declared.deck.DeckCause.TheVariants.{NameTwice}
+use Rattle.model_rules.specs.Reading.{of_deck, unless}
 use Rattle.model_rules.specs.Rules.{AppRules, Target}
 use Rattle.prove_events.specs.declared.rules.Always.{Always}
 use Rattle.prove_events.specs.declared.rules.Load.{Load}
@@ -8,7 +12,9 @@ use Rattle.prove_events.specs.declared.rules.Named.{Named}
 use Rattle.prove_events.specs.declared.rules.On.{On}
 use Rattle.prove_events.specs.declared.rules.Rules.{Rules}
 use Rattle.prove_events.specs.Rules.{allowance_of, name_of, range_of, AreDistinct, AreLines, IsCreated}
+use Rattle.prove_rules.specs.declared.fault.Fault.{Fault}
 use Rattle.prove_rules.specs.declared.partial.Partial.{Partial}
+use Rattle.prove_rules.specs.Refused.{Faulty}
 
 -- the place of a name among allowances or sums
 abbrev pub place_of : List (List ℕ × ℕ) → List ℕ → Option ℕ
@@ -52,6 +58,10 @@ pub record IsMoreNamed (old : List Named) (fs : List (List ℕ)) (new : List Nam
   pub named : name_and_amount fs ≡ Ok (allowance_of one)
   pub fresh : place_of (map allowance_of old) (name_of one) ≡ None
   pub more : new ≡ old ++ one ∷ []
+
+-- two fields are no name and amount, or their name is in a list
+abbrev pub HasFault : List Named → List (List ℕ) → Fault → Type 0
+HasFault old fs e = Faulty (of_deck (name_and_amount fs) >>= λ a. unless (is_none (lookup (map allowance_of old) a.0)) NameTwice a) e
 
 -- rules have the application and the lists of those of all lines
 pub record IsFinished (p : Partial) (r : Rules) : Type 0 where

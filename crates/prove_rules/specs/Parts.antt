@@ -1,12 +1,17 @@
 -- The parts of an `on` line as the code has them.
-use Rattle.std.specs.Prelude.{◌≡◌, ℕ, List, Option, Some}
+use Rattle.std.specs.Prelude.{◌≡◌, ℕ, Bool, true, false, List, Option, Some, None, ⊤}
 use Rattle.model_text.specs.Text.{fields, is_empty}
 use Rattle.law_explore.specs.Matching.{plain}
 use Rattle.law_explore.specs.Rules.{Parts}
 use Rattle.model_rules.specs.Rules as rules
 use Rattle.model_rules.specs.Reading as reading
+use Rattle.model_rules.specs.Reading.{action_words, turn_words}
+use Rattle.model_play.specs.declared.deck.DeckCause.TheVariants.{BadLine}
 use Rattle.prove_events.specs.declared.rules.Event.{Event}
 use Rattle.prove_events.specs.declared.rules.Event.TheVariants as event
+use Rattle.prove_rules.specs.declared.fault.Fault.{Fault}
+use Rattle.prove_rules.specs.declared.fault.Fault.TheVariants as fault
+use Rattle.prove_rules.specs.declared.fault.RuleCause.TheVariants as cause
 use Rattle.prove_rules.specs.declared.parts.Action.{Action}
 use Rattle.prove_rules.specs.declared.parts.Action.TheVariants as action
 use Rattle.prove_rules.specs.declared.parts.Deeds.{Deeds}
@@ -25,10 +30,24 @@ action_value action.Allow = rules.Allows
 action_value action.Spend = rules.Spends
 action_value action.Need = rules.Needs
 
+-- what a word does to an allowance, as the definition has it
+abbrev pub action_deeds : Action → reading.Deeds
+action_deeds a = reading.OnAllowance (action_value a)
+
 -- what a word does, as the definition has it
 abbrev pub deeds_value : Deeds → reading.Deeds
 deeds_value (deeds.OnAllowance a) = reading.OnAllowance (action_value a)
 deeds_value (deeds.OnSum adds) = reading.OnSum adds
+
+-- the words that do something, by whether they are after a turn
+abbrev pub effect_words : Bool → List (List ℕ × reading.Deeds)
+effect_words true = turn_words
+effect_words false = action_words
+
+-- fields have no word among them, or there was no memory to look for it
+abbrev pub HasNoParts : {W : Type 0} → Option (Parts W) → Fault → Type 0
+HasNoParts found (fault.Cause c) = (c ≡ cause.Deck BadLine) × (found ≡ None)
+HasNoParts found fault.NoMemory = ⊤
 
 -- fields have a word among them: a pattern is that of the fields before it, and a text has those after it
 pub record HasParts {W : Type 0} (found : Option (Parts W)) (text : List ℕ) (word : W) (rest : List ℕ) : Type 0 where

@@ -1,18 +1,19 @@
 // `always` lines.
-ghost use Rattle.std.specs.Prelude.{◌≡◌, ◌∷◌, [], ℕ, List, false, map, codes, not, IfOk, IfSome, MatchOption, Ok, OnOk, true};
+ghost use Rattle.std.specs.Prelude.{◌≡◌, ◌≤◌, ◌&&◌, nat_le, ◌∷◌, [], ℕ, List, false, map, codes, not, Err, IfErr, IfOk, MatchOption, Ok, OnOk, true};
 ghost use Rattle.model_text.specs.Text.{fields};
 ghost use Rattle.law_explore.specs.Rules.{begins_with};
 ghost use Rattle.model_rules.specs.Rules.{AppRules};
-ghost use Rattle.model_rules.specs.Reading.{always_line, are_names, are_sums, sign_of, terms_of};
+ghost use Rattle.model_play.specs.declared.deck.DeckCause.TheVariants.{BadLine};
+ghost use Rattle.model_rules.specs.Reading.{always_line, are_names, are_sums, sign_of, static_field, terms_of, with_total, Deck};
 ghost use Rattle.prove_events.specs.Rules.{allowance_of};
-ghost use Rattle.prove_rules.specs.Always.{term_of, IsRangeRead, IsTotalRead};
-ghost use Rattle.prove_rules.specs.Fields.{IsInside};
+ghost use Rattle.prove_rules.specs.Always.{term_of, AreNoSums, IsRangeRead, IsTotalForm, IsTotalRead};
 ghost use Rattle.prove_rules.specs.Partials.{ArePart, ArePartRead};
+ghost use Rattle.prove_rules.specs.Refused.{Faulty};
 
 use crate::fault::{Fault, bad_line, refused};
 use crate::field::{amount_field, assembly_number, name_field, two_fields};
 use crate::partial::{Partial, named_load, place_of};
-use crate::range::{inside, range_ends};
+use crate::range::{range_ends, static_field};
 use lab_match::first_field;
 use model_play::DeckCause;
 use prove_events::{Always, Balance, Named, SignedSum};
@@ -26,9 +27,18 @@ pub struct SignedName<'a> {
     pub name: &'a [u8],
 }
 
+/// A total by its fields: the texts of the ends of its block and of its constant, and its terms.
+#[derive(Drop)]
+struct TotalForm<'a> {
+    from: &'a [u8],
+    to: &'a [u8],
+    constant: &'a [u8],
+    names: Vec<SignedName<'a>>,
+}
+
 // Whether a sign takes away.
 fn sign_of(sign: &[u8]) -> Option<bool>
-    ensures { IfSome result (λ minus. sign_of sign.now ≡ Ok (not minus)) }
+    ensures { MatchOption result (sign_of sign.now ≡ Err (Deck BadLine)) (λ minus. sign_of sign.now ≡ Ok (not minus)) }
 {
     match sign {
         b"+" => Some(false),
@@ -39,7 +49,8 @@ fn sign_of(sign: &[u8]) -> Option<bool>
 
 // The sums of a line, each with its sign.
 fn signed_names(alloc: Global, text: &[u8]) -> Result<Vec<SignedName<'_>>, Fault>
-    ensures { IfOk result (λ names. terms_of (fields text.now) ≡ Ok (map term_of names.items)) }
+    ensures terms { IfOk result (λ names. terms_of (fields text.now) ≡ Ok (map term_of names.items)) }
+    ensures refused { IfErr result (Faulty (terms_of (fields text.now))) }
 {
     let mut names = Vec::new(alloc);
     let mut rest = text;
@@ -58,7 +69,8 @@ fn signed_names(alloc: Global, text: &[u8]) -> Result<Vec<SignedName<'_>>, Fault
 
 // Refuses a term that is no name.
 fn check_names(names: &[SignedName<'_>]) -> Result<(), DeckCause>
-    ensures { OnOk result (are_names (map term_of names.now) ≡ Ok (map term_of names.now)) }
+    ensures named { OnOk result (are_names (map term_of names.now) ≡ Ok (map term_of names.now)) }
+    ensures refused { IfErr result (λ e. are_names (map term_of names.now) ≡ Err (Deck e)) }
 {
     for signed in names {
         name_field(signed.name)?;
@@ -72,7 +84,8 @@ fn sums_of(
     sums: &[Named<'_>],
     names: &[SignedName<'_>],
 ) -> Result<Vec<SignedSum>, Fault>
-    ensures { OnOk result (are_sums (map allowance_of sums.now) (map term_of names.now) ≡ true) }
+    ensures sums { OnOk result (are_sums (map allowance_of sums.now) (map term_of names.now) ≡ true) }
+    ensures refused { IfErr result (AreNoSums (are_sums (map allowance_of sums.now) (map term_of names.now))) }
 {
     let mut list = Vec::new(alloc);
     for signed in names {
@@ -90,28 +103,46 @@ fn sums_of(
     Ok(list)
 }
 
-// Reads a total, by the number of its line, the text in the brackets and the text after the sign.
-fn read_total(
-    alloc: Global,
-    rules: &Partial<'_>,
-    line: u32,
-    range: &[u8],
-    text: &[u8],
-) -> Result<Balance, Fault>
-    ensures { OnOk result (IsTotalRead rules.now range.now (fields text.now)) }
+// The fields of a total, by the text in the brackets and the text after the sign.
+fn total_form<'a>(alloc: Global, range: &'a [u8], text: &'a [u8]) -> Result<TotalForm<'a>, Fault>
+    ensures form { IfOk result (IsTotalForm range.now (fields text.now)) }
+    ensures refused { IfErr result (λ e. (a : AppRules) (n : ℕ) (block : List ℕ) → static_field block ≡ Ok range.now
+        → Faulty (always_line a n (block ∷ codes "=" ∷ fields text.now)) e) }
 {
     let Some((constant, rest)) = first_field(text) else {
         return Err(bad_line());
     };
+    let Some((from, to)) = range_ends(range) else {
+        return Err(bad_line());
+    };
     let names = signed_names(alloc, rest)?;
-    let (from, to) = range_ends(range);
-    let from = assembly_number(from)?;
-    let to = assembly_number(to)?;
-    let constant = amount_field(constant)?;
-    check_names(names.as_slice())?;
+    Ok(TotalForm {
+        from,
+        to,
+        constant,
+        names,
+    })
+}
+
+// Reads a total, by the number of its line and its fields.
+fn read_total(
+    alloc: Global,
+    rules: &Partial<'_>,
+    line: u32,
+    form: &TotalForm<'_>,
+) -> Result<Balance, Fault>
+    ensures read { OnOk result (IsTotalRead rules.now form.now) }
+    ensures refused { IfErr result (λ e. (a : AppRules) (n : ℕ) → ArePart a rules.now
+        → Faulty (with_total a n (form.now.from.now, form.now.to.now) form.now.constant.now
+        (map term_of form.now.names.items)) e) }
+{
+    let from = assembly_number(form.from)?;
+    let to = assembly_number(form.to)?;
+    let constant = amount_field(form.constant)?;
+    check_names(form.names.as_slice())?;
     let load = named_load(rules)?;
-    let sums = sums_of(alloc, rules.sums.as_slice(), names.as_slice())?;
-    if to >= load.fixed as u64 || from > to {
+    let sums = sums_of(alloc, rules.sums.as_slice(), form.names.as_slice())?;
+    if from > to || to >= load.fixed as u64 {
         return Err(refused(DeckCause::OutOfRange));
     }
     Ok(Balance {
@@ -123,24 +154,38 @@ fn read_total(
     })
 }
 
+// Whether two numbers are the lowest and the highest value of a byte.
+fn are_in_order(lowest: u64, highest: u64) -> bool
+    ensures yes { result ≡ true → (lowest ≤ highest) × (highest ≤ 255) }
+    ensures is { result ≡ (nat_le lowest highest && nat_le highest 255) }
+{
+    lowest <= highest && highest <= 255
+}
+
 // Reads the range of a static byte, by the number of its line, the text in the brackets and the text after them.
 fn read_range(rules: &Partial<'_>, line: u32, at: &[u8], text: &[u8]) -> Result<Always, Fault>
+    requires { begins_with (codes "=") (fields text.now) ≡ false }
     ensures range { IfOk result (IsRangeRead rules.now at.now (fields text.now)) }
     ensures line { IfOk result (λ w. w.line ≡ line) }
+    ensures refused { IfErr result (λ e. (a : AppRules) (n : ℕ) (block : List ℕ) → ArePart a rules.now
+        → static_field block ≡ Ok at.now → Faulty (always_line a n (block ∷ fields text.now)) e) }
 {
     let (low, high) = two_fields(text)?;
-    let at = assembly_number(at)?;
-    let low = assembly_number(low)?;
-    let high = assembly_number(high)?;
+    let place = assembly_number(at)?;
+    let lowest = assembly_number(low)?;
+    let highest = assembly_number(high)?;
     let load = named_load(rules)?;
-    if at >= load.fixed as u64 || low > high || high > 255 {
+    if place >= load.fixed as u64 {
+        return Err(refused(DeckCause::OutOfRange));
+    }
+    if !are_in_order(lowest, highest) {
         return Err(refused(DeckCause::OutOfRange));
     }
     Ok(Always {
         line,
-        at: at as u16,
-        low: low as u8,
-        high: high as u8,
+        at: place as u16,
+        low: lowest as u8,
+        high: highest as u8,
     })
 }
 
@@ -152,10 +197,15 @@ fn add_total(
     range: &[u8],
     text: &[u8],
 ) -> Result<(), Fault>
-    ensures { OnOk result ((a : AppRules) (block : List ℕ) → ArePart a rules.old → IsInside block (codes "SB") range.now
+    ensures added { OnOk result ((a : AppRules) (block : List ℕ) → ArePart a rules.old
+        → static_field block ≡ Ok range.now
         → ArePartRead (always_line a line (block ∷ codes "=" ∷ fields text.now)) rules.new) }
+    ensures refused { IfErr result (λ e. (a : AppRules) (block : List ℕ) → ArePart a rules.old
+        → static_field block ≡ Ok range.now
+        → Faulty (always_line a line (block ∷ codes "=" ∷ fields text.now)) e) }
 {
-    let total = read_total(alloc, rules, line, range, text)?;
+    let form = total_form(alloc, range, text)?;
+    let total = read_total(alloc, rules, line, &form)?;
     push(&mut rules.balances, total)?;
     Ok(())
 }
@@ -163,8 +213,10 @@ fn add_total(
 // Adds the range of a line.
 fn add_range(rules: &mut Partial<'_>, line: u32, at: &[u8], text: &[u8]) -> Result<(), Fault>
     requires { begins_with (codes "=") (fields text.now) ≡ false }
-    ensures { OnOk result ((a : AppRules) (block : List ℕ) → ArePart a rules.old → IsInside block (codes "SB") at.now
-        → ArePartRead (always_line a line (block ∷ fields text.now)) rules.new) }
+    ensures added { OnOk result ((a : AppRules) (block : List ℕ) → ArePart a rules.old
+        → static_field block ≡ Ok at.now → ArePartRead (always_line a line (block ∷ fields text.now)) rules.new) }
+    ensures refused { IfErr result (λ e. (a : AppRules) (block : List ℕ) → ArePart a rules.old
+        → static_field block ≡ Ok at.now → Faulty (always_line a line (block ∷ fields text.now)) e) }
 {
     let range = read_range(rules, line, at, text)?;
     push(&mut rules.always, range)?;
@@ -194,13 +246,15 @@ pub fn add_always(
     line: u32,
     text: &[u8],
 ) -> Result<(), Fault>
-    ensures { OnOk result ((a : AppRules) → ArePart a rules.old
+    ensures added { OnOk result ((a : AppRules) → ArePart a rules.old
         → ArePartRead (always_line a line (fields text.now)) rules.new) }
+    ensures refused { IfErr result (λ e. (a : AppRules) → ArePart a rules.old
+        → Faulty (always_line a line (fields text.now)) e) }
 {
     let Some((block, after)) = first_field(text) else {
         return Err(bad_line());
     };
-    let Some(within) = inside(block, b"SB") else {
+    let Some(within) = static_field(block) else {
         return Err(bad_line());
     };
     match total_text(after) {

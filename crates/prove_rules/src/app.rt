@@ -1,11 +1,13 @@
 // The line that names the application, and the lines of allowances, sums and abends.
-ghost use Rattle.std.specs.Prelude.{◌≡◌, ◌≤◌, ◌∷◌, [], ℕ, List, true, length, IfOk, IfSome, OnOk};
+ghost use Rattle.std.specs.Prelude.{◌≡◌, ◌≤◌, ◌∷◌, [], ℕ, List, None, Ok, length, IfErr, IfOk, MatchOption, OnOk};
 ghost use Rattle.model_text.specs.Text.{fields, lines};
+ghost use Rattle.model_play.specs.DeckGrammar.{deck_read};
 ghost use Rattle.model_rules.specs.Rules.{AppRules};
 ghost use Rattle.model_rules.specs.Reading.{app_rule, AllowLine, AppLine, LoadLine, NeverLine, SumWord};
-ghost use Rattle.prove_rules.specs.Loads.{loads_in, IsAccepted};
-ghost use Rattle.prove_rules.specs.Apps.{IsAppRead};
-ghost use Rattle.prove_rules.specs.Partials.{ArePart, ArePartRead, IsMoreNamed};
+ghost use Rattle.prove_rules.specs.Loads.{is_accepted, loads_in};
+ghost use Rattle.prove_rules.specs.Apps.{one_of, IsAppRead};
+ghost use Rattle.prove_rules.specs.Partials.{ArePart, ArePartRead, HasFault, IsMoreNamed};
+ghost use Rattle.prove_rules.specs.Refused.{Faulty};
 
 use crate::fault::{Fault, bad_line, refused};
 use crate::field::{name_and_amount, name_field};
@@ -28,14 +30,14 @@ pub struct Source<'a> {
 
 // Whether the card accepts the sizes of an application.
 fn is_accepted(load: &Load<'_>) -> bool
-    ensures { result ≡ true → IsAccepted load.now }
+    ensures { result ≡ is_accepted load.now }
 {
     load.fixed <= 4096 && load.data.len() <= load.fixed as usize && load.session <= 256
 }
 
 // The only field of a text.
 fn one_field(text: &[u8]) -> Option<&[u8]>
-    ensures { IfSome result (λ t. fields text.now ≡ t.now ∷ []) }
+    ensures { MatchOption result (one_of (fields text.now) ≡ None) (λ t. fields text.now ≡ t.now ∷ []) }
 {
     let (field, rest) = first_field(text)?;
     if first_field(rest).is_some() {
@@ -50,14 +52,17 @@ fn read_app<'a, 't>(
     rules: &Partial<'a>,
     text: &'t [u8],
 ) -> Result<(&'t [u8], Load<'a>), Fault>
-    requires { length (lines source.now.text.now) ≤ 20000 }
-    ensures { IfOk result (λ p. IsAppRead (loads_in source.now.text.now source.now.deck.now) rules.now
+    requires few { length (lines source.now.text.now) ≤ 20000 }
+    requires deck { deck_read source.now.text.now ≡ Ok source.now.deck.now }
+    ensures read { IfOk result (λ p. IsAppRead (loads_in source.now.text.now source.now.deck.now) rules.now
         (fields text.now) p.1) }
+    ensures refused { IfErr result (λ e. (a : AppRules) (n : ℕ) → ArePart a rules.now
+        → Faulty (app_rule (loads_in source.now.text.now source.now.deck.now) a n AppLine (fields text.now)) e) }
 {
-    let Some(name) = one_field(text) else {
+    let Some(field) = one_field(text) else {
         return Err(bad_line());
     };
-    let name = name_field(name)?;
+    let name = name_field(field)?;
     if rules.load.is_some() {
         return Err(refused(DeckCause::NameTwice));
     }
@@ -81,10 +86,13 @@ pub fn add_app<'a>(
     rules: &mut Partial<'a>,
     text: &[u8],
 ) -> Result<(), Fault>
-    requires { length (lines source.now.text.now) ≤ 20000 }
-    ensures { OnOk result ((a : AppRules) (n : ℕ) → ArePart a rules.old
+    requires few { length (lines source.now.text.now) ≤ 20000 }
+    requires deck { deck_read source.now.text.now ≡ Ok source.now.deck.now }
+    ensures added { OnOk result ((a : AppRules) (n : ℕ) → ArePart a rules.old
         → ArePartRead (app_rule (loads_in source.now.text.now source.now.deck.now) a n AppLine (fields text.now))
         rules.new) }
+    ensures refused { IfErr result (λ e. (a : AppRules) (n : ℕ) → ArePart a rules.old
+        → Faulty (app_rule (loads_in source.now.text.now source.now.deck.now) a n AppLine (fields text.now)) e) }
 {
     let (name, load) = read_app(source, rules, text)?;
     rules.code_lines = code_lines(alloc, source.text, name)?;
@@ -94,7 +102,8 @@ pub fn add_app<'a>(
 
 // Adds an allowance or a sum.
 fn add_named<'a>(list: &mut Vec<Named<'a>>, text: &'a [u8]) -> Result<(), Fault>
-    ensures { OnOk result (IsMoreNamed list.old.items (fields text.now) list.new.items) }
+    ensures more { OnOk result (IsMoreNamed list.old.items (fields text.now) list.new.items) }
+    ensures refused { IfErr result (HasFault list.old.items (fields text.now)) }
 {
     let (name, amount) = name_and_amount(text)?;
     if place_of(list.as_slice(), name).is_some() {
@@ -110,8 +119,10 @@ fn add_named<'a>(list: &mut Vec<Named<'a>>, text: &'a [u8]) -> Result<(), Fault>
 ///
 /// Returns why the line is no rule, or `NoMemory` if it is out of memory.
 pub fn add_allowance<'a>(rules: &mut Partial<'a>, text: &'a [u8]) -> Result<(), Fault>
-    ensures { OnOk result ((loads : List (List ℕ × LoadLine)) (a : AppRules) (n : ℕ) → ArePart a rules.old
+    ensures added { OnOk result ((loads : List (List ℕ × LoadLine)) (a : AppRules) (n : ℕ) → ArePart a rules.old
         → ArePartRead (app_rule loads a n AllowLine (fields text.now)) rules.new) }
+    ensures refused { IfErr result (λ e. (loads : List (List ℕ × LoadLine)) (a : AppRules) (n : ℕ)
+        → ArePart a rules.old → Faulty (app_rule loads a n AllowLine (fields text.now)) e) }
 {
     add_named(&mut rules.allowances, text)
 }
@@ -122,8 +133,10 @@ pub fn add_allowance<'a>(rules: &mut Partial<'a>, text: &'a [u8]) -> Result<(), 
 ///
 /// Returns why the line is no rule, or `NoMemory` if it is out of memory.
 pub fn add_sum<'a>(rules: &mut Partial<'a>, text: &'a [u8]) -> Result<(), Fault>
-    ensures { OnOk result ((loads : List (List ℕ × LoadLine)) (a : AppRules) (n : ℕ) → ArePart a rules.old
+    ensures added { OnOk result ((loads : List (List ℕ × LoadLine)) (a : AppRules) (n : ℕ) → ArePart a rules.old
         → ArePartRead (app_rule loads a n SumWord (fields text.now)) rules.new) }
+    ensures refused { IfErr result (λ e. (loads : List (List ℕ × LoadLine)) (a : AppRules) (n : ℕ)
+        → ArePart a rules.old → Faulty (app_rule loads a n SumWord (fields text.now)) e) }
 {
     add_named(&mut rules.sums, text)
 }
@@ -134,8 +147,10 @@ pub fn add_sum<'a>(rules: &mut Partial<'a>, text: &'a [u8]) -> Result<(), Fault>
 ///
 /// Returns why the line is no rule.
 pub fn add_never(rules: &mut Partial<'_>, line: u32, text: &[u8]) -> Result<(), Fault>
-    ensures { OnOk result ((loads : List (List ℕ × LoadLine)) (a : AppRules) → ArePart a rules.old
+    ensures added { OnOk result ((loads : List (List ℕ × LoadLine)) (a : AppRules) → ArePart a rules.old
         → ArePartRead (app_rule loads a line NeverLine (fields text.now)) rules.new) }
+    ensures refused { IfErr result (λ e. (loads : List (List ℕ × LoadLine)) (a : AppRules) → ArePart a rules.old
+        → Faulty (app_rule loads a line NeverLine (fields text.now)) e) }
 {
     let Some(word) = one_field(text) else {
         return Err(bad_line());

@@ -1,4 +1,10 @@
 // Why a line is no rule.
+ghost use Rattle.std.specs.Prelude.{◌≡◌};
+ghost use Rattle.model_play.specs.declared.deck.DeckCause.TheVariants.{BadLine};
+ghost use Rattle.prove_rules.specs.declared.fault.Fault.TheVariants.{Cause};
+ghost use Rattle.prove_rules.specs.declared.fault.RuleCause.TheVariants.{Deck};
+ghost use Rattle.prove_rules.specs.Refused.{cause_value, cause_word};
+
 use mc_base::NoMemory;
 use model_play::DeckCause;
 use std::alloc::AllocError;
@@ -12,7 +18,9 @@ pub enum RuleCause {
 
 impl RuleCause {
     /// Returns the word that a refusal prints.
-    pub fn word(&self) -> &'static str {
+    pub fn word(&self) -> &'static str
+        ensures { result.now ≡ cause_word (cause_value self.now) }
+    {
         match self {
             RuleCause::Deck(cause) => cause.word(),
             RuleCause::NoApplication => "NoApplication",
@@ -36,10 +44,6 @@ pub enum Fault {
 }
 
 impl From<DeckCause> for Fault {
-    ghost use Rattle.std.specs.Prelude.{◌≡◌};
-    ghost use Rattle.prove_rules.specs.declared.fault.Fault.TheVariants.{Cause};
-    ghost use Rattle.prove_rules.specs.declared.fault.RuleCause.TheVariants.{Deck};
-
     ghost from_gives = { λ c e. e ≡ Cause (Deck c) };
 
     fn from(cause: DeckCause) -> Self {
@@ -70,11 +74,15 @@ impl From<AllocError> for Fault {
 }
 
 /// Returns the fault of a line of another form.
-pub fn bad_line() -> Fault {
+pub fn bad_line() -> Fault
+    ensures { result ≡ Cause (Deck BadLine) }
+{
     Fault::Cause(RuleCause::Deck(DeckCause::BadLine))
 }
 
 /// Returns the fault of a cause.
-pub fn refused(cause: DeckCause) -> Fault {
+pub fn refused(cause: DeckCause) -> Fault
+    ensures { result ≡ Cause (Deck cause) }
+{
     Fault::Cause(RuleCause::Deck(cause))
 }

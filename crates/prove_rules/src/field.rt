@@ -2,10 +2,10 @@
 ghost use Rattle.std.specs.Prelude.{◌≡◌, ◌∷◌, [], Ok, Err, None, IfErr, IfOk, MatchResult};
 ghost use Rattle.model_text.specs.Text.{fields};
 ghost use Rattle.model_text.specs.Assembly.{natural};
-ghost use Rattle.model_play.specs.declared.deck.DeckCause.TheVariants.{BadNumber};
+ghost use Rattle.model_play.specs.declared.deck.DeckCause.TheVariants.{BadLine, BadNumber};
 ghost use Rattle.model_play.specs.DeckGrammar.{name_field, number_field};
 ghost use Rattle.law_explore.specs.Rules.{name_and_amount};
-ghost use Rattle.prove_rules.specs.Fields.{IsNumber};
+ghost use Rattle.prove_rules.specs.Fields.{two_of, IsNumber};
 
 use lab_match::first_field;
 use mc_asm::natural;
@@ -47,6 +47,7 @@ pub fn amount_field(text: &[u8]) -> Result<u32, DeckCause>
 pub fn two_fields(text: &[u8]) -> Result<(&[u8], &[u8]), DeckCause>
     ensures parts { IfOk result (λ p. fields text.now ≡ p.0.now ∷ p.1.now ∷ []) }
     ensures refused { IfErr result (λ e. name_and_amount (fields text.now) ≡ Err e) }
+    ensures none { IfErr result (λ e. (e ≡ BadLine) × (two_of (fields text.now) ≡ None)) }
 {
     let Some((first, rest)) = first_field(text) else {
         return Err(DeckCause::BadLine);

@@ -14,6 +14,7 @@ mod parts;
 mod public;
 mod range;
 mod reading;
+mod refusal_rows;
 
 pub use fault::{RuleCause, RuleRefusal};
 pub use reading::read_rules;

@@ -1,8 +1,9 @@
 // The application of a name: as the deck's first line creates it that loads it.
-ghost use Rattle.std.specs.Prelude.{◌≡◌, ◌<◌, ◌≤◌, ◌&&◌, codes, false, not, length, slice_get, IfSome};
+ghost use Rattle.std.specs.Prelude.{◌≡◌, ◌<◌, ◌≤◌, ◌&&◌, codes, false, not, length, slice_get, MatchOption, None, Ok};
 ghost use Rattle.model_text.specs.Text.{fields, lines, with_numbers};
 ghost use Rattle.model_device.specs.Bytes.{lookup, AreBytes};
 ghost use Rattle.law_explore.specs.Rules.{begins_with};
+ghost use Rattle.model_play.specs.DeckGrammar.{deck_read};
 ghost use Rattle.model_rules.specs.Reading.{load_names};
 ghost use Rattle.prove_rules.specs.Loads.{first_named, is_second, loaded_at, loaded_line, loads_in, IsLoadOf};
 
@@ -62,7 +63,8 @@ fn bytes_of(bytes: &[u8]) -> &[u8]
 // What the line at a place of a deck loads.
 fn load_in(deck: &Deck, i: usize) -> Option<Load<'_>>
     requires { i < length deck.now }
-    ensures { IfSome result (IsLoadOf (loaded_line (slice_get deck.now i))) }
+    ensures { MatchOption result (loaded_line (slice_get deck.now i) ≡ None)
+        (IsLoadOf (loaded_line (slice_get deck.now i))) }
 {
     let (_, line) = deck.line(i);
     match line {
@@ -81,9 +83,8 @@ fn load_in(deck: &Deck, i: usize) -> Option<Load<'_>>
 }
 
 // What the line of a number loads. The lines of a deck are in the order of their numbers.
-#[tactic(auto, using(crate::proofs::LoadLemmas::line_here, crate::proofs::LoadLemmas::line_before))]
 fn load_at(deck: &Deck, number: u32) -> Option<Load<'_>>
-    ensures { IfSome result (IsLoadOf (loaded_at number deck.now)) }
+    ensures { MatchOption result (loaded_at number deck.now ≡ None) (IsLoadOf (loaded_at number deck.now)) }
 {
     for i in 0..deck.len() {
         let (there, _) = deck.line(i);
@@ -99,8 +100,10 @@ fn load_at(deck: &Deck, number: u32) -> Option<Load<'_>>
 
 /// Returns the application of a name as the deck's first line creates it that loads it, or `None` if no line does.
 pub fn load_of<'a>(deck: &'a Deck, text: &[u8], name: &[u8]) -> Option<Load<'a>>
-    requires { length (lines text.now) ≤ 20000 }
-    ensures { IfSome result (IsLoadOf (lookup (loads_in text.now deck.now) name.now)) }
+    requires few { length (lines text.now) ≤ 20000 }
+    requires deck { deck_read text.now ≡ Ok deck.now }
+    ensures { MatchOption result (lookup (loads_in text.now deck.now) name.now ≡ None)
+        (IsLoadOf (lookup (loads_in text.now deck.now) name.now)) }
 {
     match load_line(text, name) {
         Some(number) => load_at(deck, number),

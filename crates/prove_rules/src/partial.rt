@@ -1,6 +1,8 @@
 // The rules of the lines so far.
-ghost use Rattle.std.specs.Prelude.{◌≡◌, map, IfOk, Some};
+ghost use Rattle.std.specs.Prelude.{◌≡◌, map, IfErr, IfOk, None, Some};
 ghost use Rattle.prove_events.specs.Rules.{allowance_of};
+ghost use Rattle.prove_rules.specs.declared.fault.Fault.TheVariants.{Cause};
+ghost use Rattle.prove_rules.specs.declared.fault.RuleCause.TheVariants.{NoApplication};
 ghost use Rattle.prove_rules.specs.Partials.{place_of};
 
 use crate::fault::{Fault, RuleCause};
@@ -37,7 +39,8 @@ pub fn place_of(list: &[Named<'_>], name: &[u8]) -> Option<usize>
 ///
 /// Returns `NoApplication` if they name none.
 pub fn named_load<'a>(rules: &Partial<'a>) -> Result<Load<'a>, Fault>
-    ensures { IfOk result (λ load. rules.now.load ≡ Some load) }
+    ensures load { IfOk result (λ load. rules.now.load ≡ Some load) }
+    ensures refused { IfErr result (λ e. (e ≡ Cause NoApplication) × (rules.now.load ≡ None)) }
 {
     match rules.load {
         Some(load) => Ok(load),

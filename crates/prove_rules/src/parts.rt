@@ -1,11 +1,11 @@
 // The parts of an `on` line: a pattern, and the word after it.
-ghost use Rattle.std.specs.Prelude.{◌≡◌, ◌++◌, None, Some, cond, true, option_map, IfOk, OnOk};
+ghost use Rattle.std.specs.Prelude.{◌≡◌, ◌++◌, None, Some, cond, true, option_map, IfErr, IfOk, OnOk};
 ghost use Rattle.model_device.specs.Bytes.{lookup};
 ghost use Rattle.model_text.specs.Text.{fields};
 ghost use Rattle.law_explore.specs.Matching.{plain};
 ghost use Rattle.law_explore.specs.Rules.{parts_of};
-ghost use Rattle.model_rules.specs.Reading.{event_words, gives_words, turn_words};
-ghost use Rattle.prove_rules.specs.Parts.{deeds_value, event_value, HasParts};
+ghost use Rattle.model_rules.specs.Reading.{action_words, event_words, gives_words, turn_words};
+ghost use Rattle.prove_rules.specs.Parts.{action_deeds, deeds_value, effect_words, event_value, HasNoParts, HasParts};
 
 use crate::fault::{Fault, bad_line};
 use lab_match::{first_field, small};
@@ -43,8 +43,20 @@ pub fn event_named(word: &[u8]) -> Option<Event>
     }
 }
 
-// What a word does.
-fn deeds_named(word: &[u8]) -> Option<Deeds>
+// What a word does to an allowance.
+fn action_named(word: &[u8]) -> Option<Action>
+    ensures { option_map action_deeds result ≡ lookup action_words word.now }
+{
+    match word {
+        b"allow" => Some(Action::Allow),
+        b"spend" => Some(Action::Spend),
+        b"need" => Some(Action::Need),
+        _ => None,
+    }
+}
+
+// What a word does after a turn.
+fn turn_deeds(word: &[u8]) -> Option<Deeds>
     ensures { option_map deeds_value result ≡ lookup turn_words word.now }
 {
     match word {
@@ -55,6 +67,16 @@ fn deeds_named(word: &[u8]) -> Option<Deeds>
         b"need" => Some(Deeds::OnAllowance(Action::Need)),
         _ => None,
     }
+}
+
+// What a word does, by whether it is after a turn: else none is about a sum.
+fn deeds_named(of_turn: bool, word: &[u8]) -> Option<Deeds>
+    ensures { option_map deeds_value result ≡ lookup (effect_words of_turn) word.now }
+{
+    if of_turn {
+        return turn_deeds(word);
+    }
+    Some(Deeds::OnAllowance(action_named(word)?))
 }
 
 // Whether a word is before a result.
@@ -76,19 +98,26 @@ fn add_plain(into: &mut Vec<u8>, field: &[u8]) -> Result<(), NoMemory>
     Ok(())
 }
 
-/// Returns the plain pattern before the first word that does something, what it does, and the text after it.
+/// Returns the plain pattern before the first word that does something, what it does, and the text after it. Words about
+/// sums do something after a turn alone.
 ///
 /// # Errors
 ///
 /// Returns `BadLine` if no field is such a word.
 #[tactic(auto, using(crate::proofs::PartLemmas::parts_start, crate::proofs::PartLemmas::parts_found))]
-pub fn effect_parts(alloc: Global, text: &[u8]) -> Result<(Vec<u8>, Deeds, &[u8]), Fault>
-    ensures { IfOk result (λ p. HasParts (parts_of turn_words (fields text.now)) p.0.items (deeds_value p.1) p.2.now) }
+pub fn effect_parts(
+    alloc: Global,
+    of_turn: bool,
+    text: &[u8],
+) -> Result<(Vec<u8>, Deeds, &[u8]), Fault>
+    ensures parts { IfOk result (λ p. HasParts (parts_of (effect_words of_turn) (fields text.now)) p.0.items
+        (deeds_value p.1) p.2.now) }
+    ensures refused { IfErr result (HasNoParts (parts_of (effect_words of_turn) (fields text.now))) }
 {
     let mut pattern = Vec::new(alloc);
     let mut rest = text;
     while let Some((field, after)) = first_field(rest) {
-        if let Some(deeds) = deeds_named(field) {
+        if let Some(deeds) = deeds_named(of_turn, field) {
             return Ok((pattern, deeds, after));
         }
         add_plain(&mut pattern, field)?;
@@ -103,7 +132,8 @@ pub fn effect_parts(alloc: Global, text: &[u8]) -> Result<(Vec<u8>, Deeds, &[u8]
 ///
 /// Returns `BadLine` if no field is that word.
 pub fn answer_parts(alloc: Global, text: &[u8]) -> Result<(Vec<u8>, &[u8]), Fault>
-    ensures { IfOk result (λ p. HasParts (parts_of gives_words (fields text.now)) p.0.items true p.1.now) }
+    ensures parts { IfOk result (λ p. HasParts (parts_of gives_words (fields text.now)) p.0.items true p.1.now) }
+    ensures refused { IfErr result (HasNoParts (parts_of gives_words (fields text.now))) }
 {
     let mut pattern = Vec::new(alloc);
     let mut rest = text;

@@ -1,5 +1,5 @@
 // The rules of a deck for one application, line by line.
-ghost use Rattle.std.specs.Prelude.{◌≡◌, ◌≤◌, ◌∷◌, codes, length, option_map, IfOk, IfSome, Ok, OnOk};
+ghost use Rattle.std.specs.Prelude.{◌≡◌, ◌≤◌, ◌∷◌, codes, false, length, option_map, true, IfErr, IfOk, MatchOption, None, Ok, OnOk};
 ghost use Rattle.model_device.specs.Bytes.{lookup};
 ghost use Rattle.model_text.specs.Text.{fields, lines};
 ghost use Rattle.model_play.specs.DeckGrammar.{deck_read};
@@ -7,9 +7,12 @@ ghost use Rattle.law_explore.specs.Rules.{is_marked};
 ghost use Rattle.model_rules.specs.Rules.{no_app_rules, AppRules, Target};
 ghost use Rattle.model_rules.specs.Reading.{app_rule, app_rules_read, app_words};
 ghost use Rattle.prove_events.specs.Rules.{AreRules};
-ghost use Rattle.prove_rules.specs.Lines.{kind_value, lines_read, rule_of, rules_with};
+ghost use Rattle.prove_rules.specs.declared.fault.RuleCause.TheVariants.{NoApplication};
+ghost use Rattle.prove_rules.specs.declared.fault.RuleRefusal.TheVariants.{At};
+ghost use Rattle.prove_rules.specs.Lines.{is_plain_mark, kind_value, lines_read, rule_of, rules_with};
 ghost use Rattle.prove_rules.specs.Loads.{loads_in};
 ghost use Rattle.prove_rules.specs.Partials.{ArePart, ArePartRead, IsFinished};
+ghost use Rattle.prove_rules.specs.Refused.{refusal_at, Faulty, RefusesRules};
 
 use crate::always::add_always;
 use crate::app::{Source, add_allowance, add_app, add_never, add_sum};
@@ -59,10 +62,14 @@ fn add_kind<'a>(
     line: u32,
     text: &'a [u8],
 ) -> Result<(), Fault>
-    requires { length (lines source.now.text.now) ≤ 20000 }
-    ensures { OnOk result ((a : AppRules) → ArePart a rules.old
+    requires few { length (lines source.now.text.now) ≤ 20000 }
+    requires deck { deck_read source.now.text.now ≡ Ok source.now.deck.now }
+    ensures added { OnOk result ((a : AppRules) → ArePart a rules.old
         → ArePartRead (app_rule (loads_in source.now.text.now source.now.deck.now) a line (kind_value kind)
         (fields text.now)) rules.new) }
+    ensures refused { IfErr result (λ e. (a : AppRules) → ArePart a rules.old
+        → Faulty (app_rule (loads_in source.now.text.now source.now.deck.now) a line (kind_value kind)
+        (fields text.now)) e) }
 {
     match kind {
         Kind::App => add_app(alloc, source, rules, text),
@@ -83,9 +90,12 @@ fn add_rule<'a>(
     line: u32,
     text: &'a [u8],
 ) -> Result<(), Fault>
-    requires { length (lines source.now.text.now) ≤ 20000 }
-    ensures { OnOk result ((a : AppRules) → ArePart a rules.old
+    requires few { length (lines source.now.text.now) ≤ 20000 }
+    requires deck { deck_read source.now.text.now ≡ Ok source.now.deck.now }
+    ensures added { OnOk result ((a : AppRules) → ArePart a rules.old
         → ArePartRead (rule_of (loads_in source.now.text.now source.now.deck.now) a line (fields text.now)) rules.new) }
+    ensures refused { IfErr result (λ e. (a : AppRules) → ArePart a rules.old
+        → Faulty (rule_of (loads_in source.now.text.now source.now.deck.now) a line (fields text.now)) e) }
 {
     let Some((word, after)) = first_field(text) else {
         return Err(bad_line());
@@ -108,7 +118,8 @@ fn is_marked(line: &[u8]) -> bool
 
 // The text of a rule, after its mark, or `None` if the mark is longer.
 fn rule_text(line: &[u8]) -> Option<&[u8]>
-    ensures { IfSome result (λ t. fields line.now ≡ codes "#@" ∷ fields t.now) }
+    ensures { MatchOption result (is_plain_mark (fields line.now) ≡ false)
+        (λ t. fields line.now ≡ codes "#@" ∷ fields t.now) }
 {
     let (mark, after) = first_field(line)?;
     if mark == b"#@".as_slice() {
@@ -126,10 +137,13 @@ fn add_line<'a>(
     number: u32,
     line: &'a [u8],
 ) -> Result<(), Fault>
-    requires { length (lines source.now.text.now) ≤ 20000 }
-    ensures { OnOk result ((a : AppRules) → ArePart a rules.old
+    requires few { length (lines source.now.text.now) ≤ 20000 }
+    requires deck { deck_read source.now.text.now ≡ Ok source.now.deck.now }
+    ensures added { OnOk result ((a : AppRules) → ArePart a rules.old
         → ArePartRead (rules_with (loads_in source.now.text.now source.now.deck.now) inside (number, line.now) a)
         rules.new) }
+    ensures refused { IfErr result (λ e. (a : AppRules) → ArePart a rules.old
+        → Faulty (rules_with (loads_in source.now.text.now source.now.deck.now) inside (number, line.now) a) e) }
 {
     if inside || !is_marked(line) {
         return Ok(());
@@ -141,7 +155,9 @@ fn add_line<'a>(
 }
 
 // The refusal of a line that is no rule.
-fn refusal_at(number: u32, fault: Fault) -> RuleRefusal {
+fn refusal_at(number: u32, fault: Fault) -> RuleRefusal
+    ensures { result ≡ refusal_at number fault }
+{
     match fault {
         Fault::Cause(cause) => RuleRefusal::At(number, cause),
         Fault::NoMemory => RuleRefusal::NoMemory,
@@ -167,8 +183,10 @@ fn no_rules<'a>(alloc: Global) -> Partial<'a>
 // Reads the rules of the lines of a text.
 #[tactic(auto, using(crate::proofs::ReadLemmas::rules_start))]
 fn read_lines<'a>(alloc: Global, source: &Source<'a>) -> Result<Partial<'a>, RuleRefusal>
-    requires { length (lines source.now.text.now) ≤ 20000 }
-    ensures { IfOk result (ArePartRead (lines_read source.now.text.now source.now.deck.now)) }
+    requires few { length (lines source.now.text.now) ≤ 20000 }
+    requires deck { deck_read source.now.text.now ≡ Ok source.now.deck.now }
+    ensures read { IfOk result (ArePartRead (lines_read source.now.text.now source.now.deck.now)) }
+    ensures refused { IfErr result (RefusesRules (lines_read source.now.text.now source.now.deck.now)) }
 {
     let mut rules = no_rules(alloc);
     let mut inside = false;
@@ -188,7 +206,8 @@ fn read_lines<'a>(alloc: Global, source: &Source<'a>) -> Result<Partial<'a>, Rul
 
 // The rules of all lines, if these name an application.
 fn finished(rules: Partial<'_>) -> Result<Rules<'_>, RuleRefusal>
-    ensures { IfOk result (IsFinished rules.entry) }
+    ensures finished { IfOk result (IsFinished rules.entry) }
+    ensures refused { IfErr result (λ e. (e ≡ At 0 NoApplication) × (rules.entry.load ≡ None)) }
 {
     let Partial {
         load,
@@ -228,7 +247,8 @@ pub fn read_rules<'a>(
     text: &'a [u8],
 ) -> Result<Rules<'a>, RuleRefusal>
     requires { deck_read text.now ≡ Ok deck.now }
-    ensures { IfOk result (λ r. (a : AppRules) × (g : Target) × (app_rules_read text.now ≡ Ok a) × AreRules a g r) }
+    ensures read { IfOk result (λ r. (a : AppRules) × (g : Target) × (app_rules_read text.now ≡ Ok a) × AreRules a g r) }
+    ensures refused { IfErr result (RefusesRules (app_rules_read text.now)) }
 {
     let source = Source { deck, text };
     match read_lines(alloc, &source) {

@@ -1,9 +1,16 @@
 use Rattle.std.proofs.Common.{map}
+use Rattle.std.proofs.lemmas.Result.{err_from_is_err_and}
 use Rattle.model_rules.specs.Reading.{are_sums}
 use Rattle.prove_events.specs.Rules.{allowance_of}
 use Rattle.prove_rules.specs.Always.{term_of}
-use Rattle.prove_rules.proofs.AlwaysLemmas.{sums_step}
+use Rattle.prove_rules.proofs.AlwaysLemmas.{are_no_sums, sums_refused, sums_step}
 use Rattle.prove_rules.proofs.always.sums_of.Goals as goal
+
+pub returns-in_default-clause-refused : goal.returns-in_default-clause-refused
+returns-in_default-clause-refused c =
+    let whole = are_sums (map allowance_of c.args.sums.now) (map term_of c.args.names.now) in
+    are_no_sums whole c.refused.result
+    (sums_refused (map allowance_of c.args.sums.now) c.args.names.now c.loop-signed.signed-index _ whole c.loop-signed-test.true c.in_default.ensures c.loop-signed.invariant) c.refused.ensures
 
 pub loop-signed-preserved : goal.loop-signed-preserved
 loop-signed-preserved c =

@@ -1,7 +1,14 @@
-use Rattle.std.proofs.lemmas.Result.{on_ok_weaker}
+use Rattle.std.proofs.lemmas.Result.{on_ok_weaker, IfErr-weaker}
 use Rattle.model_text.specs.Text.{fields}
-use Rattle.prove_rules.proofs.AppLemmas.{allowance_added}
+use Rattle.prove_rules.specs.Partials.{HasFault}
+use Rattle.prove_rules.proofs.AppLemmas.{allowance_added, allowance_refused, NamedFault}
+use Rattle.model_rules.specs.Reading.{AllowLine}
 use Rattle.prove_rules.proofs.app.add_allowance.Goals as goal
 
-pub returns : goal.returns
-returns c = on_ok_weaker c.add_named.result (λ h loads a n are. allowance_added loads a c.args.rules.now n (fields c.args.text.now) c.add_named.new.list.items are h) c.add_named.ensures
+pub returns-clause-added : goal.returns-clause-added
+returns-clause-added c = on_ok_weaker c.add_named.result (λ h loads a n are. allowance_added loads a c.args.rules.now n (fields c.args.text.now) c.add_named.new.list.items are h) c.add_named.ensures.more
+
+pub returns-clause-refused : goal.returns-clause-refused
+returns-clause-refused c =
+    IfErr-weaker c.add_named.result (HasFault c.args.rules.now.allowances.items (fields c.args.text.now)) (NamedFault c.args.rules.now AllowLine (fields c.args.text.now))
+    (λ e h loads a n are. allowance_refused loads a c.args.rules.now n (fields c.args.text.now) e are h) c.add_named.ensures.refused

@@ -1,12 +1,12 @@
 use Rattle.std.proofs.Common.{length}
 use Rattle.model_text.specs.Text.{fields}
-use Rattle.model_rules.specs.Reading.{turn_words}
+use Rattle.prove_rules.specs.Parts.{effect_words}
 use Rattle.prove_rules.proofs.PartLemmas.{PartsLeft}
 use Rattle.prove_rules.proofs.parts.effect_parts.Given as goal
 
 -- the fields so far, and those that are left, are those of the text
 abbrev pub invariant-loop-field : goal.invariant-loop-field
-invariant-loop-field l = PartsLeft turn_words (fields l.fn.text) (fields l.rest) l.pattern.items
+invariant-loop-field l = PartsLeft (effect_words l.fn.of_turn) (fields l.fn.text) (fields l.rest) l.pattern.items
 
 abbrev pub decreases-loop-field : goal.decreases-loop-field
 decreases-loop-field l = length l.rest
