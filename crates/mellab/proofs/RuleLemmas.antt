@@ -1,5 +1,5 @@
 -- A deck whose rules are proved.
-use Rattle.std.proofs.Common.{◌≡◌, ◌∙◌, sym, subst, ap, refl, ℕ, Bool, true, false, List, [], length, Option, Some, Result, Ok, inr}
+use Rattle.std.proofs.Common.{◌≡◌, ◌∙◌, sym, subst, ap, refl, ℕ, Bool, true, false, List, length, Option, Some, Result, Ok, inr}
 use Rattle.std.specs.Prelude.{vec_len}
 use Rattle.mc_streams.specs.declared.refusals.WriteFault.{WriteFault as Fault}
 use Rattle.mc_text.specs.Texts.{Puts}
@@ -11,7 +11,6 @@ use Rattle.model_rules.specs.Rules.{AppRules, Target}
 use Rattle.law_prove_closed.specs.Decks.{TargetIsKept}
 use Rattle.prove_events.specs.declared.rules.Rules.{Rules}
 use Rattle.prove_events.specs.Rules.{AreRules}
-use Rattle.prove_tables.specs.Closed.{AsksNobody}
 use Rattle.prove_tables.specs.Reports.{IsReport}
 use Rattle.mc_filter.specs.Inputs.{ReadWhole}
 use Rattle.mc_filter.specs.Outside.{Outside}
@@ -19,24 +18,21 @@ use Rattle.mc_filter.specs.Statuses.{status_after_writing}
 use Rattle.mc_filter.specs.declared.status.Status.{Status}
 use Rattle.mellab.specs.declared.job.Job.TheVariants as job
 use Rattle.mellab.specs.Statuses.{status_by, MellabDone}
-use Rattle.mellab.specs.Verdicts.{Reports, AreKeptIfRead, IsProofOf, IsProofVerdict, TargetAsksNobody}
+use Rattle.mellab.specs.Verdicts.{Reports, AreKeptIfRead, IsProofOf, IsProofVerdict}
 
--- rules that are kept of an application that asks nobody are so of the one that they name
-kept_of_target : (a : AppRules) (g : Target) → a.target ≡ Some g → (AsksNobody g.app.code → AreKept a) → TargetAsksNobody a.target → TargetIsKept a a.target
-kept_of_target a g is kept asks =
-    subst (λ (t : Option Target). AreKeptBy a t → TargetIsKept a t) (sym is) (λ k. k)
-    (kept (subst (λ (t : Option Target). TargetAsksNobody t) is asks))
+-- rules that are kept are so of the application that they name
+kept_of_target : (a : AppRules) (g : Target) → a.target ≡ Some g → AreKept a → TargetIsKept a a.target
+kept_of_target a g is kept = subst (λ (t : Option Target). AreKeptBy a t → TargetIsKept a t) (sym is) (λ k. k) kept
 
 -- rules that were read and proved are kept, if they have no sums
 pub kept_as_read : (input : List ℕ) (rules : Rules) (proved : Bool)
     → ((a : AppRules) × (g : Target) × (app_rules_read input ≡ Ok a) × AreRules a g rules)
-    → (proved ≡ true → vec_len rules.balances ≡ 0 → AsksNobody rules.load.code.now → (a : AppRules) (g : Target) → AreRules a g rules → AreKept a)
+    → (proved ≡ true → vec_len rules.balances ≡ 0 → (a : AppRules) (g : Target) → AreRules a g rules → AreKept a)
     → IsProofOf proved (app_rules_read input)
 kept_as_read input rules false read kept = tt
 kept_as_read input rules true (a, g, is, are) kept =
-    subst (λ (r : Result AppRules (ℕ × RuleCause)). AreKeptIfRead r) (sym is) (λ none asks.
-    kept_of_target a g are.target (λ quiet. kept refl (sym are.totals ∙ ap length none)
-    (subst (λ (c : List ℕ). AsksNobody c) are.created.code quiet) a g are) asks)
+    subst (λ (r : Result AppRules (ℕ × RuleCause)). AreKeptIfRead r) (sym is) (λ none.
+    kept_of_target a g are.target (kept refl (sym are.totals ∙ ap length none) a g are))
 
 -- the text of a proof of a deck's rules was written, or the sink failed
 pub says_proved : (a : Outside) (input : List ℕ) (ls : List (ℕ × DeckLine)) (text : List ℕ) (proved : Bool) (r : Result (Unit {0}) Fault) (s : Status) → ReadWhole a.input_old a.input input → deck_read input ≡ Ok ls → IsReport proved text → IsProofOf proved (app_rules_read input)

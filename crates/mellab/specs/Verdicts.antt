@@ -1,6 +1,6 @@
 -- The verdict on the input of a job: the text due, and whether all that is asked of it holds, or the one line that
 -- refuses the input.
-use Rattle.std.specs.Prelude.{◌≡◌, ℕ, Bool, true, false, ◌==◌, List, [], codes, Option, Some, None, Result, Ok, Err, ⊤}
+use Rattle.std.specs.Prelude.{◌≡◌, ℕ, Bool, true, false, ◌==◌, List, [], codes, Result, Ok, Err, ⊤}
 use Rattle.model_device.specs.Device.{blank_words, device_words}
 use Rattle.model_play.specs.DeckGrammar.{DeckLine, deck_read}
 use Rattle.model_play.specs.declared.deck.DeckCause.{DeckCause}
@@ -11,10 +11,10 @@ use Rattle.mc_lab.specs.Sweeps.{is_whole, sweep_text}
 use Rattle.law_explore.specs.Rules.{Exploration, ExplorationFault, LineFault, NoMove, NoRule, exploration_read}
 use Rattle.law_explore.specs.Search.{Ending, All, AtDepth, Broken, TooMany, search_of}
 use Rattle.law_explore_text.specs.Report.{text_within}
-use Rattle.model_rules.specs.Rules.{AppRules, Target}
+use Rattle.model_rules.specs.Rules.{AppRules}
 use Rattle.model_rules.specs.Reading.{RuleCause, app_rules_read}
 use Rattle.law_prove_closed.specs.Decks.{TargetIsKept}
-use Rattle.prove_tables.specs.Closed.{AsksNobody}
+use Rattle.prove_rules.specs.Refused.{cause_word}
 use Rattle.prove_tables.specs.Reports.{IsReport}
 use Rattle.mc_filter.specs.Lines.{at_line, deck_line}
 use Rattle.mellab.specs.declared.job.Job.{Job}
@@ -72,22 +72,15 @@ abbrev pub exploration_verdict : ℕ → ℕ → Result Exploration ExplorationF
 exploration_verdict depth most (Ok x) = ending_verdict (text_within most depth x) (search_of most depth x).ending
 exploration_verdict depth most (Err e) = Refusal (exploration_fault_line e)
 
--- the line that refuses a rule of a deck that can be read
-pub record IsRuleRefusal (line : List ℕ) : Type 0 where
-  pub number : ℕ
-  pub cause : List ℕ
-  pub is : line ≡ at_line number cause
+-- the line that refuses the rules of a deck that can be read
+abbrev pub refused_rules : Result AppRules (ℕ × RuleCause) → List ℕ → Type 0
+refused_rules (Ok r) line = ⊥
+refused_rules (Err e) line = line ≡ at_line e.0 (cause_word e.1)
 
--- an application does not ask for the name of the one that delegated
-abbrev pub TargetAsksNobody : Option Target → Type 0
-TargetAsksNobody None = ⊤
-TargetAsksNobody (Some g) = AsksNobody g.app.code
-
--- what is proved of rules that were read: without lines of sums, and if their application does not ask who delegated,
--- they are kept in every play of every deck
+-- what is proved of rules that were read: without lines of sums they are kept in every play of every deck
 abbrev pub AreKeptIfRead : Result AppRules (ℕ × RuleCause) → Type 0
 AreKeptIfRead (Err e) = ⊥
-AreKeptIfRead (Ok r) = r.totals ≡ [] → TargetAsksNobody r.target → TargetIsKept r r.target
+AreKeptIfRead (Ok r) = r.totals ≡ [] → TargetIsKept r r.target
 
 -- what a verdict says of the rules of a deck
 abbrev pub IsProofOf : Bool → Result AppRules (ℕ × RuleCause) → Type 0
@@ -95,12 +88,12 @@ IsProofOf false r = ⊤
 IsProofOf true r = AreKeptIfRead r
 
 -- A verdict on the rules of a deck in every play of every deck. Its text is no definition: of a deck that can be read, a
--- line refuses a rule, or the last line of a text is whether all rules are proved; then they are kept, if they have no
--- sums.
+-- line refuses its rules as the definition does, or the last line of a text is whether all rules are proved; then they
+-- are kept, if they have no sums.
 abbrev pub IsProofVerdict : List ℕ → Result (List (ℕ × DeckLine)) (ℕ × DeckCause) → LabVerdict → Type 0
 IsProofVerdict input (Ok ls) (Reports text well) = IsReport well text × IsProofOf well (app_rules_read input)
 IsProofVerdict input (Ok ls) (ReportsPart text) = ⊥
-IsProofVerdict input (Ok ls) (Refusal line) = IsRuleRefusal line
+IsProofVerdict input (Ok ls) (Refusal line) = refused_rules (app_rules_read input) line
 IsProofVerdict input (Err e) v = v ≡ Refusal (deck_line e)
 
 -- the verdict on an input within the limit

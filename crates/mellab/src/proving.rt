@@ -10,7 +10,7 @@ ghost use Rattle.mc_filter.specs.Outside.{outside};
 ghost use Rattle.mellab.specs.declared.job.Job.TheVariants as job;
 ghost use Rattle.mellab.specs.Running.{RejectsLabJob};
 ghost use Rattle.mellab.specs.Statuses.{MellabDone};
-ghost use Rattle.mellab.specs.Verdicts.{IsRuleRefusal};
+ghost use Rattle.mellab.specs.Verdicts.{refused_rules};
 
 use crate::running::status_by;
 use mc_deck::Deck;
@@ -26,7 +26,7 @@ fn rules_of<'a>(alloc: Global, deck: &'a Deck, text: &'a [u8]) -> Result<Rules<'
     requires { deck_read text.now ≡ Ok deck.now }
     ensures read { IfOk result (λ r. (a : AppRules) × (g : Target) × (app_rules_read text.now ≡ Ok a)
         × AreRules a g r) }
-    ensures rejected { IfErr result (Rejects IsRuleRefusal) }
+    ensures rejected { IfErr result (Rejects (refused_rules (app_rules_read text.now))) }
 {
     match read_rules(alloc, deck, text) {
         Ok(rules) => Ok(rules),

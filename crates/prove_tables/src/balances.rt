@@ -2,7 +2,7 @@
 use crate::keys::{Break, Outcome, Rule};
 use mc_base::NoMemory;
 use prove_events::{Amount, Balance, Effect, On, Rules};
-use prove_facts::{Form, Origin, Sums, form_of, mask, push};
+use prove_facts::{Form, Origin, Sums, form_of, push};
 use std::alloc::Global;
 
 // The origin of a public byte that is its own, and else none.
@@ -39,7 +39,7 @@ fn off_after(
 ) -> Result<Option<Form>, NoMemory> {
     let times = if grows { u128::MAX } else { 1 };
     match (off, form) {
-        (Some(off), Some(form)) => Ok(Some(off.plus(alloc, form, times, balance.n)?)),
+        (Some(off), Some(form)) => off.moved(alloc, form, times, balance.n),
         _ => Ok(None),
     }
 }
@@ -158,7 +158,7 @@ pub fn ask_balances(
     Ok(())
 }
 
-/// Returns what a line says that its block is at the creation, modulo 256 to the length of the block.
+/// Returns what a line says that its block is at the creation, modulo 256 to the 16th.
 pub fn balance_at_creation(rules: &Rules<'_>, balance: &Balance) -> u128 {
     let mut value = balance.constant as u128;
     for signed in &balance.sums {
@@ -171,5 +171,5 @@ pub fn balance_at_creation(rules: &Rules<'_>, balance: &Balance) -> u128 {
             };
         }
     }
-    value & mask(balance.n)
+    value
 }

@@ -1,7 +1,7 @@
 #![tactic(auto)]
 
-//! Whether an application keeps its rules whatever a terminal sends: tables of what may be known at each place of its code
-//! and at each moment between commands, the search that fills them, and the check of the finished tables.
+//! Whether an application keeps its rules whatever a terminal sends: tables of what may be known at each place of its
+//! code and at each moment between commands, the search that fills them, and the check of the finished tables.
 
 mod balances;
 mod checking;

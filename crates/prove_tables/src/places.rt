@@ -15,8 +15,8 @@ use prove_keys::{Begun, Known, PlaceKey, Registers};
 use prove_outcomes::{State, Step, row};
 use std::alloc::Global;
 
-/// An instruction at a place: the key, the instruction and its text, and the frame before it, whose code address is already
-/// the place after it.
+/// An instruction at a place: the key, the instruction and its text, and the frame before it, whose code address is
+/// already the place after it.
 #[derive(Clone, Copy)]
 struct Turn<'a> {
     key: &'a PlaceKey,

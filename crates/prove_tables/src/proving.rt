@@ -4,7 +4,7 @@ ghost use Rattle.model_prove.specs.Tables.{ClosedLaw};
 ghost use Rattle.model_rules.specs.Law.{AreKept};
 ghost use Rattle.model_rules.specs.Rules.{AppRules, Target};
 ghost use Rattle.prove_events.specs.Rules.{AreRules};
-ghost use Rattle.prove_tables.specs.Closed.{AreClosed, AsksNobody};
+ghost use Rattle.prove_tables.specs.Closed.{AreClosed};
 ghost use Rattle.prove_tables.specs.Reports.{IsReport};
 
 use crate::balances::balance_at_creation;
@@ -65,10 +65,28 @@ fn first_number(load: &Load<'_>, balance: &Balance) -> u128 {
     number & mask(balance.n)
 }
 
+// Whether the bytes of a block before its last 16 are those of a small number, which may be below zero.
+fn is_extended(load: &Load<'_>, balance: &Balance, value: u128) -> bool {
+    let sign = if value > u128::MAX / 2 { 255 } else { 0 };
+    for i in 0..balance.n.saturating_sub(16) {
+        if first_byte(load, balance.at.saturating_add(i)) != sign {
+            return false;
+        }
+    }
+    true
+}
+
+// Whether a line of sums holds at the creation.
+fn holds_at_creation(rules: &Rules<'_>, balance: &Balance) -> bool {
+    let value = balance_at_creation(rules, balance);
+    let number = first_number(&rules.load, balance);
+    number == value & mask(balance.n) && is_extended(&rules.load, balance, value)
+}
+
 // The lines of sums that do not hold at the creation are broken.
 fn break_balances(rules: &Rules<'_>, found: &mut Found) -> Result<(), NoMemory> {
     for (number, balance) in rules.balances.iter().enumerate() {
-        if first_number(&rules.load, balance) != balance_at_creation(rules, balance) {
+        if !holds_at_creation(rules, balance) {
             let broken = Break {
                 line: balance.line,
                 at: None,
@@ -95,8 +113,8 @@ fn too_many(alloc: Global) -> Result<Verdict, NoMemory>
     })
 }
 
-// Whether finished tables prove the rules: by the definition of outcomes, or with lines of sums or an instruction that asks
-// for the delegator's name by those of the search once more.
+// Whether finished tables prove the rules: by the definition of outcomes, or with lines of sums by those of the search
+// once more.
 fn is_proved(
     alloc: Global,
     subject: &Subject<'_>,
@@ -105,7 +123,6 @@ fn is_proved(
     facts: &Facts,
 ) -> Result<bool, NoMemory>
     ensures { IfOk result (λ proved. proved ≡ true → vec_len subject.now.rules.now.balances ≡ 0
-        → AsksNobody subject.now.rules.now.load.code.now
         → (a : AppRules) (g : Target) → AreRules a g subject.now.rules.now → AreClosed a g) }
 {
     if !found.broken.is_empty() || !found.unknown.is_empty() {
@@ -131,7 +148,6 @@ fn verdict_of(
 ) -> Result<Verdict, NoMemory>
     ensures report { IfOk result (λ v. IsReport v.proved v.text.items) }
     ensures closed { IfOk result (λ v. v.proved ≡ true → vec_len subject.now.rules.now.balances ≡ 0
-        → AsksNobody subject.now.rules.now.load.code.now
         → (a : AppRules) (g : Target) → AreRules a g subject.now.rules.now → AreClosed a g) }
 {
     let mut found = found;
@@ -142,18 +158,16 @@ fn verdict_of(
     Ok(Verdict { text, proved })
 }
 
-/// Decides whether an application keeps its rules in every play of every deck, and returns the text that says so: what may
-/// be known at each moment at which power may go, the rules that may be broken, and the verdict.
+/// Decides whether an application keeps its rules in every play of every deck, and returns the text that says so: what
+/// may be known at each moment at which power may go, the rules that may be broken, and the verdict.
 ///
 /// # Errors
 ///
 /// Returns `NoMemory` if it is out of memory.
 pub fn prove(alloc: Global, rules: &Rules<'_>) -> Result<Verdict, NoMemory>
     ensures report { IfOk result (λ v. IsReport v.proved v.text.items) }
-    // Rules without lines of sums that are proved, of an application that does not ask who delegated, are kept in every
-    // play of every deck.
+    // Rules without lines of sums that are proved are kept in every play of every deck.
     ensures kept { IfOk result (λ v. v.proved ≡ true → vec_len rules.now.balances ≡ 0
-        → AsksNobody rules.now.load.code.now
         → (a : AppRules) (g : Target) → AreRules a g rules.now → AreKept a) }
 {
     closed_tables_keep_rules();

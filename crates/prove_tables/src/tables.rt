@@ -12,8 +12,8 @@ pub const MOST_KEYS: usize = 1_000_000;
 // The most values of a set that is not rounded.
 const MOST_VALUES: u32 = 16;
 
-/// What a search found: the tables, the rules that some outcome breaks, and the places at which it is not known where the
-/// code goes on.
+/// What a search found: the tables, the rules that some outcome breaks, and the places at which it is not known where
+/// the code goes on.
 #[derive(Drop)]
 pub struct Found {
     pub tables: Tables,
@@ -52,8 +52,8 @@ fn rounded_values(always: &[Always], fact: &Fact) -> Values {
     fact.values
 }
 
-/// Returns facts as they are kept between commands: a set of more than 16 values becomes the range of the lines of its byte
-/// that hold it all, or no fact.
+/// Returns facts as they are kept between commands: a set of more than 16 values becomes the range of the lines of its
+/// byte that hold it all, or no fact.
 ///
 /// # Errors
 ///

@@ -31,9 +31,9 @@ struct Delegation {
     moment: usize,
 }
 
-/// A walk over the keys, the nearest first, and those that only a delegation leads to after all others: of each key where it
-/// came to it from, the keys whose outcomes are due, and the first key at which each rule is broken or the code goes on where
-/// it is not known.
+/// A walk over the keys, the nearest first, and those that only a delegation leads to after all others: of each key
+/// where it came to it from, the keys whose outcomes are due, and the first key at which each rule is broken or the
+/// code goes on where it is not known.
 #[derive(Drop)]
 pub struct Walk {
     moments: Vec<Origin>,
@@ -226,8 +226,8 @@ fn next_key(walk: &mut Walk) -> Option<Key> {
     None
 }
 
-/// Returns the walk from the creation over finished tables to all that is broken or not known. Lines of sums that do not
-/// hold at the creation are no outcome of a key, and have no way.
+/// Returns the walk from the creation over finished tables to all that is broken or not known. Lines of sums that do
+/// not hold at the creation are no outcome of a key, and have no way.
 ///
 /// # Errors
 ///
