@@ -1,0 +1,12 @@
+pub mod Modulo
+pub mod FormLemmas
+pub mod OriginLemmas
+pub mod OriginMoves
+pub mod Bytes
+pub mod MoveLemmas
+pub mod KnownLemmas
+pub mod EventLemmas
+pub mod CopyLemmas
+pub mod LossLemmas
+pub mod ReachLemmas
+pub mod TurnLemmas

@@ -1,0 +1,36 @@
+-- Congruences modulo a number: sums of congruent numbers, and what is added to both sides.
+use Rattle.std.specs.Prelude.{◌≡◌, ℕ, zero, suc, ◌+◌, ◌-◌, ◌*◌, ◌%◌, ◌^◌, ◌<◌, ◌≤◌, refl}
+use Rattle.std.proofs.Common.{arith, ap, sym, ◌∙◌}
+use Rattle.std.proofs.Math.Nat.{pow-succ', add-mod, add-mul-mod_self_right, mul_comm, mul-add, add-mul}
+
+-- congruent numbers have congruent sums
+pub add_same : (m a b c d : ℕ) → a % m ≡ b % m → c % m ≡ d % m → (a + c) % m ≡ (b + d) % m
+add_same m a b c d p q = add-mod a c m ∙ ap (λ (x : ℕ). (x + c % m) % m) p ∙ ap (λ (x : ℕ). (b % m + x) % m) q ∙ sym (add-mod b d m)
+
+-- a multiple of the modulus adds nothing
+pub add_whole : (m a k : ℕ) → (a + k * m) % m ≡ a % m
+add_whole m a k = add-mul-mod_self_right a k m
+
+-- a number and one less than the modulus times it make a multiple
+pub one_less_more : (m k : ℕ) → 0 < m → (m - 1) * k + k ≡ k * m
+one_less_more m k h =
+    let parts : (m - 1 + 1) * k ≡ (m - 1) * k + 1 * k = add-mul (m - 1) 1 k in
+    let whole : m - 1 + 1 ≡ m = omega (arith, h) in
+    let same : (m - 1 + 1) * k ≡ m * k = ap (λ (x : ℕ). x * k) whole in
+    omega (arith, parts, same, mul_comm m k)
+
+-- congruent numbers stay so with a number that cancels one
+pub cancel_same : (m a b c d : ℕ) → (a + c) % m ≡ (b + c) % m → (c + d) % m ≡ 0 % m → a % m ≡ b % m
+cancel_same m a b c d h k =
+    let left : (a + (c + d)) % m ≡ (a + 0) % m = add_same m a a (c + d) 0 refl k in
+    let right : (b + (c + d)) % m ≡ (b + 0) % m = add_same m b b (c + d) 0 refl k in
+    let both : (a + c + d) % m ≡ (b + c + d) % m = add_same m (a + c) (b + c) d d h refl in
+    let one : a + (c + d) ≡ a + c + d = omega arith in
+    let two : b + (c + d) ≡ b + c + d = omega arith in
+    let three : a + 0 ≡ a = omega arith in
+    let four : b + 0 ≡ b = omega arith in
+    ap (λ (x : ℕ). x % m) (sym three) ∙ sym left ∙ ap (λ (x : ℕ). x % m) one ∙ both ∙ ap (λ (x : ℕ). x % m) (sym two) ∙ right ∙ ap (λ (x : ℕ). x % m) four
+
+pub power_positive : (n : ℕ) → 0 < 256 ^ n
+power_positive zero = omega arith
+power_positive (suc n) = rw (pow-succ' 256 n) (let h = power_positive n in omega (arith, h))

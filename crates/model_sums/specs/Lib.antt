@@ -1,0 +1,10 @@
+pub mod Forms
+pub mod Origins
+pub mod Sums
+pub mod Says
+pub mod Writes
+pub mod Operations
+pub mod Moves
+pub mod Events
+pub mod Closed
+pub mod Computed
