@@ -138,7 +138,7 @@ def tear(given: argparse.Namespace) -> List[str]:
     _, after = state([*front, line], names)
     shown, cut = state([*front, f"cut {given.write} {given.fill}", line], names)
     if shown[-1] != f"off at write {given.write}":
-        raise NotDone(f"line {given.line} makes fewer than {given.write} writes: its result is {shown[-1]}")
+        raise NotDone(f"line {given.line} has no write {given.write}: its result is {shown[-1]}")
     end_with_reader()
     print(f"line {given.line}: {text[given.line - 1].strip()}\ncut in write {given.write}, {given.fill} left in its word\n{verdict(before, after, cut)}\n")
     rows = list(table(names, of_bytes, before, after, cut))

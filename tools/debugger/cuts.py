@@ -60,7 +60,7 @@ def cut_at(draft: bytes, line: int, write: int, fill: str, selected: Optional[st
     except tear.NotDone as why:
         raise NoCut(str(why)) from None
     if shown[-1] != f"off at write {write}":
-        raise NoCut(f"line {line} makes fewer than {write} device writes: its result is {shown[-1]}")
+        raise NoCut(f"line {line} has no device write {write}: its result is {shown[-1]}")
     further = ["power", *([f"select {selected}"] if selected else []), *(f"dump {it}" for it in names)]
     played = [*lines[:line - 1], f"cut {write} {fill}", lines[line - 1], *further, *lines[line:]]
     return Cut(line, write, "".join(f"{it}\n" for it in played).encode(), len(further), before, after, cut)

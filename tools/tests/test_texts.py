@@ -50,7 +50,7 @@ def test_a_tear_writes_the_deck_that_plays_it(tmp_path):
 
 def test_a_write_that_a_line_does_not_make_is_none():
     shown = tool("tear.py", TOP / "examples/purse.deck", 21, 7)
-    assert (shown.returncode, "fewer than 7 writes" in shown.stderr) == (1, True)
+    assert (shown.returncode, "has no write 7" in shown.stderr) == (1, True)
 
 
 def test_a_line_that_a_deck_does_not_have_is_said():
