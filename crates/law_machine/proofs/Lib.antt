@@ -1,5 +1,6 @@
 pub mod TouchedWords
 pub mod BlockLengths
+pub mod BlockSizes
 pub mod ActWords
 pub mod RowWords
 pub mod AppSizes

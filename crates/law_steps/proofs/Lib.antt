@@ -7,7 +7,6 @@ pub mod PlaySessions
 pub mod RegistersAfter
 pub mod NextFrames
 pub mod Opens
-pub mod BlockSizes
 pub mod WaitingWords
 pub mod WrittenBytes
 pub mod TurnWrites

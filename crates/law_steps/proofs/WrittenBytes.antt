@@ -17,7 +17,7 @@ use Rattle.model_machine.specs.Row.{address_or_zero, causes, immediate_writes, o
 use Rattle.law_rows.specs.Shapes.{Act, Shape, Writes, delegator_shape, pair_shape, prim_shape, shape}
 use Rattle.law_machine.proofs.RowWords.{NoneHolds}
 use Rattle.law_steps.specs.Writes.{IsRoomy}
-use Rattle.law_steps.proofs.BlockSizes.{deciphered_length, digest_length, enciphered_length, signature_length}
+use Rattle.law_machine.proofs.BlockSizes.{deciphered_length, digest_length, enciphered_length, signature_length}
 
 -- what is known of a write of some bytes, if an access of n bytes was tested
 pub record Exact (f : Frame) (a n : ℕ) (b : List ℕ) : Type 0 where

@@ -623,13 +623,13 @@ impl Sums {
         }
     }
 
-    /// Sets the origin of a byte.
+    /// Sets the origin of a dynamic or public byte; static ones have none.
     ///
     /// # Errors
     ///
     /// Returns `NoMemory` if it is out of memory.
     pub fn set_origin(&mut self, at: u16, origin: Origin) -> Result<(), NoMemory> {
-        if self.off.is_empty() {
+        if self.off.is_empty() || at < DYNAMIC {
             return Ok(());
         }
         self.origins.retain(|known| known.at != at);
@@ -663,7 +663,7 @@ impl Sums {
         self.origins.retain(|known| known.at < PUBLIC);
     }
 
-    /// What waits is dropped, and with it where static bytes come from.
+    /// What waits is dropped.
     ///
     /// # Errors
     ///
@@ -671,7 +671,6 @@ impl Sums {
     pub fn drop_waiting(&mut self, alloc: Global) -> Result<(), NoMemory> {
         self.off = evens(alloc, self.off.len())?;
         self.more = Vec::new(alloc);
-        self.origins.retain(|known| known.at >= DYNAMIC);
         Ok(())
     }
 

@@ -1,5 +1,4 @@
 pub mod ByteLemmas
-pub mod CipherLemmas
 pub mod CountingLemmas
 pub mod OutlineLemmas
 pub mod PartLemmas

@@ -184,7 +184,7 @@ fn zeros_after(number: u8) -> Bytes
 }
 
 // A digest.
-#[tactic(auto, using(crate::proofs::CipherLemmas::digest_length), unfolding(law_rows::specs::Shapes::prim_shape))]
+#[tactic(auto, using(law_machine::proofs::BlockSizes::digest_length), unfolding(law_rows::specs::Shapes::prim_shape))]
 fn digest(scene: &Scene) -> Shape
     ensures { (args : List ℕ) (x : model.Around) → shape_value result ≡ outlined work.NoFact
         (shapes.prim_shape model.Digest args scene.now.frame scene.now.public x) }
@@ -194,7 +194,7 @@ fn digest(scene: &Scene) -> Shape
 }
 
 // A cipher over a message of n bytes; none if its row abends.
-#[tactic(auto, using(crate::proofs::CipherLemmas::enciphered_length, crate::proofs::CipherLemmas::deciphered_length))]
+#[tactic(auto, using(law_machine::proofs::BlockSizes::enciphered_length, law_machine::proofs::BlockSizes::deciphered_length))]
 fn turn(scene: &Scene, cipher: Cipher, n: u8) -> Option<Shape>
     ensures enciphered { IfSome result (λ h. shape_value h ≡ outlined work.NoFact
         (shapes.cipher_shape (model.encipherment (cipher_of cipher)) (cipher_of cipher) n scene.now.frame
@@ -213,7 +213,7 @@ fn turn(scene: &Scene, cipher: Cipher, n: u8) -> Option<Shape>
 }
 
 // A signature over a message of n bytes; none if its row abends.
-#[tactic(auto, using(crate::proofs::CipherLemmas::signature_length), unfolding(law_rows::specs::Shapes::prim_shape))]
+#[tactic(auto, using(law_machine::proofs::BlockSizes::signature_length), unfolding(law_rows::specs::Shapes::prim_shape))]
 fn sign(scene: &Scene, cipher: Cipher, args: &[u8; 3]) -> Option<Shape>
     ensures { (x : model.Around) → IfSome result (λ h. shape_value h ≡ outlined work.NoFact
         (shapes.prim_shape (model.Sign (cipher_of cipher)) args.now scene.now.frame scene.now.public x)) }
