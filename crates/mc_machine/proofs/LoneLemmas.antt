@@ -19,12 +19,12 @@ use Rattle.mc_machine.specs.Alike.{SameRowEnd, KeepsRow}
 use Rattle.mc_machine.specs.Chains.{Chained, ReadAll, RunsAs}
 use Rattle.mc_machine.specs.Turns.{ActDone, Followed, chain_at_next, step_of_frame, last_end, end_value}
 use Rattle.mc_machine.specs.Lone.{lone_chain, lone_of, EndDone, Delegated, NameIsCalled, LoneDone}
-use Rattle.mc_machine.specs.declared.lone.Lone.TheVariants.{Delegates}
+use Rattle.mc_machine.specs.declared.lone.Lone.TheVariants.{Goes, Delegates}
 use Rattle.mc_machine.specs.declared.outcome.End.{End}
 use Rattle.mc_machine.specs.declared.outcome.End.TheVariants as end
 use Rattle.mc_machine.specs.declared.outcome.Step.{Step}
 use Rattle.mc_machine.proofs.RowFacts.{ExitKeeps}
-use Rattle.mc_machine.proofs.TurnLemmas.{BankLaws, writes_of, committed_of}
+use Rattle.mc_machine.proofs.TurnLemmas.{BankLaws, writes_of, committed_of, code_under_stays}
 use Rattle.mc_machine.proofs.ActLemmas.{one_less, own_fixed, mid_runs, performed_done, performed_halts}
 use Rattle.mc_bank.specs.declared.bank.Bank.{Ghosts}
 
@@ -125,6 +125,18 @@ module _ {B : Type 0} (ghosts : Ghosts B) where
     )
     lone_does (Err (halt.Stop stop)) callee x y going some same keeps exits acts called =
         performed_halts ghosts laws b e from mid ch next i r refl going some (step_of_frame old (Some i) None) refl (halt.Stop stop) x y same acts
+
+  -- the code of an application that goes on is the same as before
+  pub goes_code : (laws : BankLaws ghosts) (b e : B) (old h : Held) (public segment seen : List ℕ) (x : RowEnd) (o : Result Next Halt) → lone_of o seen ≡ Ok Goes → IsSome (ghosts.named b old.slot) → CallActs ghosts (scene b e old h public segment) x o
+      → (app_under (ghosts.state e) (ghosts.named e) h).code ≡ (app_under (ghosts.state b) (ghosts.named b) old).code
+  goes_code laws b e old h public segment seen (Abends a) (Ok go.Go) is there acts = absurd acts
+  goes_code laws b e old h public segment seen (Does d) (Ok go.Go) is there acts =
+      let done = acts.1 in
+      code_under_stays ghosts laws (app_under (ghosts.state b) (ghosts.named b) old).fixed d.effect.changes b e old h there done.slot done.commits
+  goes_code laws b e old h public segment seen x (Ok go.Exit) is there acts = absurd (cc is)
+  goes_code laws b e old h public segment seen x (Ok (go.Delegate name)) is there acts = absurd (cc is)
+  goes_code laws b e old h public segment seen x (Err (halt.Abend a)) is there acts = absurd (cc is)
+  goes_code laws b e old h public segment seen x (Err (halt.Stop stop)) is there acts = absurd (cc is)
 
   -- a turn that delegates has called a name
   pub name_called : (b e : B) (c : Chained) (d : ℕ → Chained) (ch : Chain) (t : Acted) (callee : Option (List ℕ)) → LoneDone ghosts b e c d ch t (Ok Delegates) callee → IsSome callee

@@ -223,6 +223,18 @@ module _ {B : Type 0} (ghosts : Ghosts B) where
       let all = u.count in
       omega (arith, count, few, all)
 
+  -- the end of the rest of a run is that of the whole run
+  pub rest_ends : (start : B) (whole : Ran) (ticks budget turn : ℕ) (here : B) (c : Chained) (steps : ℕ) (u : Underway ghosts start whole ticks budget turn here c steps) (end : B) (bytes after : List ℕ) (last : ℕ) (result : Result CodeOutcome Stop)
+      → RanDone ghosts here end bytes after steps last (run_of_chain c.left u.chain) result → RanDone ghosts start end bytes after ticks last whole result
+  rest_ends start whole ticks budget turn here c steps u end bytes after last (Ok o) f =
+      let more = f.count in
+      let all = u.count in
+      record { writes = u.writes (Ok tt) end f.writes; going = f.going; count = omega (arith, more, all); session = f.session ∙ u.session; outcome = f.outcome ∙ u.outcome }
+  rest_ends start whole ticks budget turn here c steps u end bytes after last (Err s) h =
+      let more = h.count in
+      let all = u.count in
+      record { writes = u.writes (Err s) end h.writes; count = omega (arith, more, all); session = h.session }
+
   -- no turn is left
   pub underway_spent : (start : B) (whole : Ran) (ticks budget turn : ℕ) (here : B) (c : Chained) (steps : ℕ) → Underway ghosts start whole ticks budget turn here c steps → budget ≤ turn → Finished ghosts start whole ticks here (session_in c) (Abended A07) steps
   underway_spent start whole ticks budget turn here c steps u done =

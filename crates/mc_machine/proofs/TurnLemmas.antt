@@ -1,6 +1,6 @@
 -- What an instruction leaves of a chain: its atomic writes, the applications after them, and the frames.
 use Rattle.std.proofs.Common.{◌≡◌, ℕ, false, List, [], ◌∷◌, ◌≤◌, length, Option, Some, None, Ok, Err, sym, ap, subst, ◌∙◌, inl, inr, arith}
-use Rattle.std.specs.Prelude.{bytes_eq, unwrap_or}
+use Rattle.std.specs.Prelude.{bytes_eq, unwrap_or, IsSome}
 use Rattle.std.proofs.lemmas.List.{length-map}
 use Rattle.std.specs.List.{AllByRecursion}
 use Rattle.model_device.specs.Orders.{Answer, InOrder}
@@ -18,6 +18,7 @@ use Rattle.mc_machine.specs.Chains.{Chained, ReadAll, RunsAs, ChainWrote}
 use Rattle.mc_machine.proofs.Alike.{committed_seen, changed_seen}
 use Rattle.mc_machine.proofs.ReadsLemmas.{name_is, app_is, moved_reads}
 use Rattle.model_device.proofs.MapLemmas.{lookup_inserted_lem, lookup_beside}
+use Rattle.mc_bank.proofs.LeftLemmas.{some_name}
 use Rattle.mc_bank.specs.declared.bank.Bank.{Ghosts}
 
 -- the properties of a bank that the lemmas use: the effect of a commit on the applications and on the slots
@@ -86,6 +87,24 @@ module _ {B : Type 0} (ghosts : Ghosts B) (laws : BankLaws ghosts) where
       ap (λ (m : List (List ℕ × App)). app_of m (Some name)) now ∙ ap (λ (l : Option App). unwrap_or l no_app) (lookup_inserted_lem apps name (with_words ws a)) in
       let same : laid_pieces a.fixed ps ≡ laid_words a.fixed ws = sym bytes ∙ ap (λ (x : App). x.fixed) new in
       ap (λ (l : Option App). changed_app apps name ps l) there ∙ ap (λ (l : List ℕ). insert apps name (record a { fixed = l })) same ∙ sym now
+
+  -- the code of an application stays
+  pub code_stays : (name fixed : List ℕ) (changes : Option (List (ℕ × List ℕ))) (b e : B) → IsOneCommit ghosts.did name fixed changes b (Ok tt) e → (app_of (ghosts.state e).apps (Some name)).code ≡ (app_of (ghosts.state b).apps (Some name)).code
+  code_stays name fixed None b e done = ap (λ (x : B). (app_of (ghosts.state x).apps (Some name)).code) done
+  code_stays name fixed (Some ps) b e done =
+      let apps = (ghosts.state b).apps in
+      ap (λ (m : List (List ℕ × App)). (app_of m (Some name)).code) (apps_after name fixed ps b e done)
+      ∙ ap (λ (l : Option App). (unwrap_or l no_app).code) (lookup_inserted_lem apps name (with_words done.0 (app_of apps (Some name))))
+
+  -- the code under a frame stays, if its slot does
+  pub code_under_stays : (fixed : List ℕ) (changes : Option (List (ℕ × List ℕ))) (b e : B) (old h : Held) → IsSome (ghosts.named b old.slot) → h.slot ≡ old.slot → IsOneCommit ghosts.did (name_or (ghosts.named b old.slot)) fixed changes b (Ok tt) e
+      → (app_under (ghosts.state e) (ghosts.named e) h).code ≡ (app_under (ghosts.state b) (ghosts.named b) old).code
+  code_under_stays fixed changes b e old h there slot done =
+      let name = name_or (ghosts.named b old.slot) in
+      let was : ghosts.named b old.slot ≡ Some name = some_name (ghosts.named b old.slot) there in
+      let now : ghosts.named e h.slot ≡ Some name = ap (λ (k : ℕ). ghosts.named e k) slot ∙ slots_stay name fixed changes b e done old.slot name was in
+      ap (λ (o : Option (List ℕ)). (app_of (ghosts.state e).apps o).code) now ∙ code_stays name fixed changes b e done
+      ∙ ap (λ (o : Option (List ℕ)). (app_of (ghosts.state b).apps o).code) (sym was)
 
   below_stay : (name fixed : List ℕ) (changes : Option (List (ℕ × List ℕ))) (b e : B) → IsOneCommit ghosts.did name fixed changes b (Ok tt) e → (hs : List Held) (fs : List Frame)
       → AllByRecursion (λ (g : Frame). bytes_eq name g.name ≡ false) fs → ReadAll (ghosts.state b) (ghosts.named b) hs fs → ReadAll (ghosts.state e) (ghosts.named e) hs fs

@@ -5,3 +5,4 @@ pub mod Lone
 pub mod Places
 pub mod Sound
 pub mod Turns
+pub mod Known

@@ -58,6 +58,10 @@ LoneFits public (Ok (Ends end)) = EndFits public end
 LoneFits public (Ok Delegates) = Unit {0}
 LoneFits public (Err stop) = Unit {0}
 
+-- the application goes on after a turn
+abbrev pub GoesOn : Result Lone Stop → Type 0
+GoesOn result = result ≡ Ok Goes
+
 -- the result of a turn whose instruction was done, with the given public bytes
 abbrev pub lone_next_of : Next → List ℕ → Lone
 lone_next_of go.Go public = Goes

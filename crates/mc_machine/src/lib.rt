@@ -4,6 +4,7 @@
 
 mod chain;
 mod fetch;
+mod known;
 mod laws;
 mod lone;
 mod outcome;

@@ -1,16 +1,18 @@
 // Turns of an application that no frame waits for: the first one of a chain, until it delegates.
 ghost use Rattle.std.specs.Prelude.{◌≡◌, ◌≢◌, ◌+◌, false, ℕ, List, Option, None, Ok};
 ghost use Rattle.model_machine.specs.declared.instruction.Ins.TheVariants.{Prim};
-ghost use Rattle.model_machine.specs.Code.{Shaped};
+ghost use Rattle.model_machine.specs.Code.{Shaped, instruction_at, DecodesTo};
 ghost use Rattle.model_machine.specs.Chain.{Chain as ModelChain, turn_of};
-ghost use Rattle.mc_segs.specs.HeldFrames.{FitsBank};
+ghost use Rattle.mc_segs.specs.HeldFrames.{FitsBank, app_under};
 ghost use Rattle.mc_segs.specs.Ends.{scene};
 ghost use Rattle.mc_rows.specs.Rows.{row_result};
 ghost use Rattle.mc_machine.specs.Chains.{RunsAs};
 ghost use Rattle.mc_machine.specs.Lone.{lone_chain, lone_of, lone_next_of, lone_halt_of};
-ghost use Rattle.mc_machine.specs.Lone.{NameIsCalled, LoneActs, LoneDone, LoneFits};
+ghost use Rattle.mc_machine.specs.Known.{KnowsCode};
+ghost use Rattle.mc_machine.specs.Lone.{NameIsCalled, GoesOn, LoneActs, LoneDone, LoneFits};
 
 use crate::fetch::fetch;
+use crate::known::{Table, fetch_known};
 use crate::outcome::{End, last_exit};
 use mc_bank::Bank;
 use mc_base::{Aid, Steps, Stop};
@@ -53,7 +55,70 @@ pub fn lone_turn<B: Bank, L: Ledger>(
         → steps.new ≡ steps.old + (turn_of left ch).count }
     ensures fits { LoneFits public.new result }
 {
-    let (ins, next) = match fetch(bank, frame) {
+    let found = fetch(bank, frame);
+    perform_found(bank, frame, public, found, case, callee, steps)
+}
+
+/// Runs one turn as `lone_turn` does, with a table of instructions that were decoded before. If the application goes
+/// on, its code is the same as before.
+#[inline(always)]
+pub fn known_turn<B: Bank, L: Ledger>(
+    bank: &mut B,
+    frame: &mut Frame,
+    public: &mut Public,
+    table: &mut Table,
+    case: u8,
+    callee: &mut Option<Aid>,
+    steps: &mut Steps<L>,
+) -> Result<Lone, Stop>
+    requires going { (B.state bank.old).stopped ≡ false }
+    requires fits { FitsBank (B.state bank.old) (B.named bank.old) frame.old }
+    requires knows { KnowsCode (app_under (B.state bank.old) (B.named bank.old) frame.old).code table.old }
+    ensures done { (ch : ModelChain) (le left : ℕ) → left ≢ 0
+        → RunsAs (B.state bank.old) (B.named bank.old) (lone_chain frame.old public.old case le left) ch
+        → LoneDone B.Bank bank.old bank.new (lone_chain frame.old public.old case le left)
+        (lone_chain frame.new public.new case le) ch (turn_of left ch) result callee.new }
+    ensures ticks { (ch : ModelChain) (le left : ℕ) → left ≢ 0
+        → RunsAs (B.state bank.old) (B.named bank.old) (lone_chain frame.old public.old case le left) ch
+        → steps.new ≡ steps.old + (turn_of left ch).count }
+    ensures fits { LoneFits public.new result }
+    ensures knows { GoesOn result → KnowsCode (app_under (B.state bank.new) (B.named bank.new) frame.new).code
+        table.new }
+{
+    let found = fetch_known(bank, frame, table);
+    perform_found(bank, frame, public, found, case, callee, steps)
+}
+
+// Executes the instruction at the code address of an application that no frame waits for, or ends the chain if there is
+// none.
+#[inline(always)]
+fn perform_found<B: Bank, L: Ledger>(
+    bank: &mut B,
+    frame: &mut Frame,
+    public: &mut Public,
+    found: Result<(Ins, u16), DecodeFault>,
+    case: u8,
+    callee: &mut Option<Aid>,
+    steps: &mut Steps<L>,
+) -> Result<Lone, Stop>
+    requires going { (B.state bank.old).stopped ≡ false }
+    requires fits { FitsBank (B.state bank.old) (B.named bank.old) frame.old }
+    requires exact { found ≡ instruction_at (app_under (B.state bank.old) (B.named bank.old) frame.old).code
+        frame.old.frame.at }
+    requires stands { DecodesTo (app_under (B.state bank.old) (B.named bank.old) frame.old).code
+        frame.old.frame.at found }
+    ensures done { (ch : ModelChain) (le left : ℕ) → left ≢ 0
+        → RunsAs (B.state bank.old) (B.named bank.old) (lone_chain frame.old public.old case le left) ch
+        → LoneDone B.Bank bank.old bank.new (lone_chain frame.old public.old case le left)
+        (lone_chain frame.new public.new case le) ch (turn_of left ch) result callee.new }
+    ensures ticks { (ch : ModelChain) (le left : ℕ) → left ≢ 0
+        → RunsAs (B.state bank.old) (B.named bank.old) (lone_chain frame.old public.old case le left) ch
+        → steps.new ≡ steps.old + (turn_of left ch).count }
+    ensures fits { LoneFits public.new result }
+    ensures code { GoesOn result → (app_under (B.state bank.new) (B.named bank.new) frame.new).code
+        ≡ (app_under (B.state bank.old) (B.named bank.old) frame.old).code }
+{
+    let (ins, next) = match found {
         Ok(found) => found,
         Err(DecodeFault::Undefined) => return Ok(Lone::Ends(End::Abend(Abend::A01))),
         Err(DecodeFault::Past) => return Ok(Lone::Ends(End::Abend(Abend::A02))),

@@ -10,7 +10,8 @@ ghost use Rattle.mc_machine.specs.Lone.{lone_chain, RanDone};
 ghost use Rattle.mc_machine.specs.Turns.{outcome_value, outcome_by, reply_or_stop};
 
 use crate::chain::{Chain, first_frame};
-use crate::lone::{Lone, lone_turn};
+use crate::known::blank;
+use crate::lone::{Lone, known_turn, lone_turn};
 use crate::outcome::{End, Outcome, put_end};
 use crate::turning::act;
 use crate::waiting::Waiting;
@@ -19,7 +20,12 @@ use mc_apdu::{Apdu, Reply};
 use mc_bank::{Bank, Slot};
 use mc_base::{Aid, Steps, Stop};
 use mc_segs::{Abend, Frame, Public, Session};
+use std::mem;
 use std::sync::ledger::Ledger;
+
+/// The number of turns after which a run keeps the instructions that it decodes. Most commands end before, and making
+/// room for those takes as long as some of their turns.
+const FEW: u32 = 32;
 
 /// Runs a command for the application of slot `first`, from its first turn to its end, and returns its outcome: a reply
 /// of ISO/IEC 7816-4 or an abend.
@@ -164,7 +170,8 @@ fn run_turns<B: Bank, L: Ledger>(
     let case = apdu.case();
     let le = apdu.le.unwrap_or(0);
     let mut callee = None;
-    for turn in 0..budget {
+    let few = budget.min(FEW);
+    for turn in 0..few {
         match lone_turn(bank, &mut frame, &mut public, case, &mut callee, steps)? {
             Lone::Goes => {}
             Lone::Ends(end) => {
@@ -176,7 +183,61 @@ fn run_turns<B: Bank, L: Ledger>(
                 let left = budget - turn - 1;
                 let aid = callee.unwrap();
                 return run_chain(
-                    bank, frame, public, case, le, left, &aid, session, reply, steps,
+                    bank, &mut frame, public, case, le, left, &aid, session, reply, steps,
+                );
+            }
+        }
+    }
+    run_long(
+        bank,
+        &mut frame,
+        &mut public,
+        case,
+        le,
+        budget - few,
+        session,
+        reply,
+        steps,
+    )
+}
+
+// Runs the rest of a command of many turns. It keeps the instructions that it decodes.
+#[inline(never)]
+fn run_long<B: Bank, L: Ledger>(
+    bank: &mut B,
+    frame: &mut Frame,
+    public: &mut Public,
+    case: u8,
+    le: u16,
+    left: u32,
+    session: &mut Session,
+    reply: &mut Reply,
+    steps: &mut Steps<L>,
+) -> Result<End, Stop>
+    requires going { (B.state bank.old).stopped ≡ false }
+    requires fits { FitsChain B.Bank bank.old (lone_chain frame.old public.old case le left) }
+    requires left { left ≤ 65536 }
+    ensures { (ch : ModelChain)
+        → RunsAs (B.state bank.old) (B.named bank.old) (lone_chain frame.old public.old case le left) ch
+        → RanDone B.Bank bank.old bank.new session.old session.new steps.old steps.new (run_of_chain left ch)
+        (reply_or_stop result reply.new) }
+{
+    let mut table = blank();
+    let mut callee = None;
+    for turn in 0..left {
+        match known_turn(bank, frame, public, &mut table, case, &mut callee, steps)? {
+            Lone::Goes => {}
+            Lone::Ends(end) => {
+                frame.keep_session(session);
+                put_end(public, le, end, reply);
+                return Ok(end);
+            }
+            Lone::Delegates => {
+                let rest = left - turn - 1;
+                let aid = callee.unwrap();
+                let segment = mem::replace(public, Public::blank());
+                return run_chain(
+                    bank, frame, segment, case, le, rest, &aid, session, reply, steps,
                 );
             }
         }
@@ -185,12 +246,13 @@ fn run_turns<B: Bank, L: Ledger>(
     Ok(End::Abend(Abend::A07))
 }
 
-// Runs the rest of a command, from the first delegation on: the application that runs delegates to a name.
+// Runs the rest of a command, from the first delegation on: the application that runs delegates to a name. Its frame is
+// moved to a chain, and a blank one takes its place: each caller would clear room for the frame if it were a value.
 #[cold]
 #[inline(never)]
 fn run_chain<B: Bank, L: Ledger>(
     bank: &mut B,
-    frame: Frame,
+    frame: &mut Frame,
     public: Public,
     case: u8,
     le: u16,
@@ -201,15 +263,20 @@ fn run_chain<B: Bank, L: Ledger>(
     steps: &mut Steps<L>,
 ) -> Result<End, Stop>
     requires going { (B.state bank.old).stopped ≡ false }
-    requires fits { FitsChain B.Bank bank.old (lone_chain frame public case le left) }
+    requires fits { FitsChain B.Bank bank.old (lone_chain frame.old public case le left) }
     requires left { left ≤ 65536 }
-    ensures { (ch : ModelChain) → RunsAs (B.state bank.old) (B.named bank.old) (lone_chain frame public case le left) ch
+    ensures { (ch : ModelChain)
+        → RunsAs (B.state bank.old) (B.named bank.old) (lone_chain frame.old public case le left) ch
         → RanDone B.Bank bank.old bank.new session.old session.new steps.old steps.new
         (run_of_chain left (chain_after_call ch aid.now (lookup ch.map aid.now))) (reply_or_stop result reply.new) }
 {
+    let facts = bank.facts(frame.slot());
+    let blank = Frame::new(frame.slot(), &facts, &Session::new(facts.sizes.session));
+    let running = mem::replace(frame, blank);
+    let waiting = Waiting::new();
     let mut chain = Chain {
-        running: frame,
-        waiting: Waiting::new(),
+        running,
+        waiting,
         public,
         case,
         le,

@@ -1,5 +1,5 @@
 -- Each turn keeps the invariant, and each end is that of the whole run.
-use Rattle.std.proofs.Common.{ℕ, List, Option, ◌+◌, ◌-◌, ◌∙◌, Ok, refl, subst, arith}
+use Rattle.std.proofs.Common.{ℕ, ◌≡◌, List, Option, ◌+◌, ◌-◌, ◌∙◌, Ok, refl, subst, arith}
 use Rattle.std.proofs.lemmas.Result.{err_from_is_err_and}
 use Rattle.model_machine.specs.Chain.{start, turn_of}
 use Rattle.mc_apdu.specs.Command.{parts_of}
@@ -10,7 +10,7 @@ use Rattle.mc_machine.specs.Turns.{reply_or_stop}
 use Rattle.mc_machine.specs.declared.lone.Lone.{Lone}
 use Rattle.mc_machine.specs.declared.lone.Lone.TheVariants.{Delegates}
 use Rattle.mc_machine.proofs.LoneLemmas.{name_called}
-use Rattle.mc_machine.proofs.RunLemmas.{Underway, underway, end_goes, end_ends, delegated_ends, underway_stops, underway_most, underway_spent, something_left, lone_left}
+use Rattle.mc_machine.proofs.RunLemmas.{Underway, underway, end_goes, end_ends, delegated_ends, underway_stops, underway_most, rest_ends, something_left, lone_left}
 use Rattle.mc_machine.proofs.running.run_turns.Goals as goal
 
 pub loop-turn-init : goal.loop-turn-init
@@ -24,6 +24,7 @@ loop-turn-init g c =
     record { map = refl; running = c.first_frame-frame.ensures; below = tt; public = c.open.ensures; case = c.case-case.ensures; le = c.unwrap_or-le.ensures; few = omega arith; apart = (tt, tt) } in
     record {
       session = refl;
+      within = omega arith;
       underway = underway g.B.Bank b here first c.args.budget c.args.steps.now c.requires.going runs (omega arith);
     }
 
@@ -73,7 +74,9 @@ unwrap-aid-requires g c =
     let le = c.unwrap_or-le.result in
     let left = budget - l.turn in
     let here = lone_chain l.frame l.public case le left in
-    let some = something_left budget l.turn c.loop-turn-test.true in
+    let fits = c.min-few.ensures in
+    let before = c.loop-turn-test.true in
+    let some = something_left budget l.turn (omega (arith, fits, before)) in
     let e = c.lone_turn.new.bank in
     let now = c.lone_turn.new.steps in
     let after : ℕ → Chained = λ n. lone_chain c.lone_turn.new.frame c.lone_turn.new.public case le n in
@@ -95,7 +98,9 @@ run_chain-requires-clause-going g c =
     let le = c.unwrap_or-le.result in
     let left = budget - l.turn in
     let here = lone_chain l.frame l.public case le left in
-    let some = something_left budget l.turn c.loop-turn-test.true in
+    let fits = c.min-few.ensures in
+    let before = c.loop-turn-test.true in
+    let some = something_left budget l.turn (omega (arith, fits, before)) in
     let e = c.lone_turn.new.bank in
     let now = c.lone_turn.new.steps in
     let after : ℕ → Chained = λ n. lone_chain c.lone_turn.new.frame c.lone_turn.new.public case le n in
@@ -118,7 +123,9 @@ run_chain-requires-clause-fits g c =
     let le = c.unwrap_or-le.result in
     let left = budget - l.turn in
     let here = lone_chain l.frame l.public case le left in
-    let some = something_left budget l.turn c.loop-turn-test.true in
+    let fits = c.min-few.ensures in
+    let before = c.loop-turn-test.true in
+    let some = something_left budget l.turn (omega (arith, fits, before)) in
     let e = c.lone_turn.new.bank in
     let now = c.lone_turn.new.steps in
     let after : ℕ → Chained = λ n. lone_chain c.lone_turn.new.frame c.lone_turn.new.public case le n in
@@ -141,7 +148,9 @@ loop-turn-preserved g c =
     let le = c.unwrap_or-le.result in
     let left = budget - l.turn in
     let here = lone_chain l.frame l.public case le left in
-    let some = something_left budget l.turn c.loop-turn-test.true in
+    let fits = c.min-few.ensures in
+    let before = c.loop-turn-test.true in
+    let some = something_left budget l.turn (omega (arith, fits, before)) in
     let e = c.lone_turn.new.bank in
     let now = c.lone_turn.new.steps in
     let after : ℕ → Chained = λ n. lone_chain c.lone_turn.new.frame c.lone_turn.new.public case le n in
@@ -151,6 +160,7 @@ loop-turn-preserved g c =
     let total = v.left in
     record {
       session = l.invariant.session;
+      within = omega (arith, before);
       underway = subst (λ (m : ℕ). Underway g.B.Bank start whole ticks budget (l.turn + 1) e (after m) now) (lone_left done.0 (l.turn + 1) budget total) v;
     }
 
@@ -168,7 +178,9 @@ returns-in_err-lone_turn g c =
     let le = c.unwrap_or-le.result in
     let left = budget - l.turn in
     let here = lone_chain l.frame l.public case le left in
-    let some = something_left budget l.turn c.loop-turn-test.true in
+    let fits = c.min-few.ensures in
+    let before = c.loop-turn-test.true in
+    let some = something_left budget l.turn (omega (arith, fits, before)) in
     let e = c.lone_turn.new.bank in
     let now = c.lone_turn.new.steps in
     let after : ℕ → Chained = λ n. lone_chain c.lone_turn.new.frame c.lone_turn.new.public case le n in
@@ -193,7 +205,9 @@ returns-in-Ends g c =
     let le = c.unwrap_or-le.result in
     let left = budget - l.turn in
     let here = lone_chain l.frame l.public case le left in
-    let some = something_left budget l.turn c.loop-turn-test.true in
+    let fits = c.min-few.ensures in
+    let before = c.loop-turn-test.true in
+    let some = something_left budget l.turn (omega (arith, fits, before)) in
     let e = c.lone_turn.new.bank in
     let now = c.lone_turn.new.steps in
     let after : ℕ → Chained = λ n. lone_chain c.lone_turn.new.frame c.lone_turn.new.public case le n in
@@ -216,7 +230,9 @@ returns-in-Delegates g c =
     let le = c.unwrap_or-le.result in
     let left = budget - l.turn in
     let here = lone_chain l.frame l.public case le left in
-    let some = something_left budget l.turn c.loop-turn-test.true in
+    let fits = c.min-few.ensures in
+    let before = c.loop-turn-test.true in
+    let some = something_left budget l.turn (omega (arith, fits, before)) in
     let e = c.lone_turn.new.bank in
     let now = c.lone_turn.new.steps in
     let after : ℕ → Chained = λ n. lone_chain c.lone_turn.new.frame c.lone_turn.new.public case le n in
@@ -225,6 +241,30 @@ returns-in-Delegates g c =
     let done = subst (λ (n : Option (List ℕ)). LoneDone g.B.Bank l.bank e here after u.chain (turn_of left u.chain) (Ok Delegates) n) c.unwrap-aid.ensures called in
     subst (λ (x : List ℕ). RanDone g.B.Bank start c.run_chain.new.bank x c.run_chain.new.session ticks c.run_chain.new.steps whole (reply_or_stop c.run_chain.result c.run_chain.new.reply)) l.invariant.session
     (delegated_ends g.B.Bank start whole ticks budget l.turn l.bank e here (after (left - 1)) l.steps now u c.unwrap-aid.result done count c.run_chain.new.bank l.session c.run_chain.new.session c.run_chain.new.steps (reply_or_stop c.run_chain.result c.run_chain.new.reply) (c.run_chain.ensures done.chain done.runs))
+
+pub run_long-requires-clause-going : goal.run_long-requires-clause-going
+run_long-requires-clause-going g c = c.loop-turn.invariant.underway.going
+
+pub run_long-requires-clause-fits : goal.run_long-requires-clause-fits
+run_long-requires-clause-fits g c =
+    let state = g.B.Bank.state in
+    let named = g.B.Bank.named in
+    let start = c.args.bank.now in
+    let budget = c.args.budget in
+    let whole = run_of_command (state start) (named start) c.args.first c.args.session.now c.args.apdu.now budget in
+    let ticks = c.args.steps.now in
+    let l = c.loop-turn in
+    let u = l.invariant.underway in
+    let case = c.case-case.result in
+    let le = c.unwrap_or-le.result in
+    let left = budget - l.turn in
+    let here = lone_chain l.frame l.public case le left in
+    let few = c.min-few.result in
+    let within = l.invariant.within in
+    let done = c.loop-turn-test.false in
+    let last : l.turn ≡ few = omega (arith, within, done) in
+    let v = subst (λ (t : ℕ). Underway g.B.Bank start whole ticks budget t l.bank (lone_chain l.frame l.public case le (budget - t)) l.steps) last u in
+    (v.chain, v.runs)
 
 pub returns : goal.returns
 returns g c =
@@ -240,5 +280,10 @@ returns g c =
     let le = c.unwrap_or-le.result in
     let left = budget - l.turn in
     let here = lone_chain l.frame l.public case le left in
-    let f = underway_spent g.B.Bank start whole ticks budget l.turn l.bank here l.steps u c.loop-turn-test.false in
-    record { writes = f.writes; going = f.going; count = f.count; session = c.keep_session-2.ensures ∙ f.session; outcome = f.outcome }
+    let few = c.min-few.result in
+    let within = l.invariant.within in
+    let done = c.loop-turn-test.false in
+    let last : l.turn ≡ few = omega (arith, within, done) in
+    let v = subst (λ (t : ℕ). Underway g.B.Bank start whole ticks budget t l.bank (lone_chain l.frame l.public case le (budget - t)) l.steps) last u in
+    subst (λ (x : List ℕ). RanDone g.B.Bank start c.run_long.new.bank x c.run_long.new.session ticks c.run_long.new.steps whole (reply_or_stop c.run_long.result c.run_long.new.reply)) l.invariant.session
+    (rest_ends g.B.Bank start whole ticks budget few l.bank (lone_chain l.frame l.public case le (budget - few)) l.steps v c.run_long.new.bank l.session c.run_long.new.session c.run_long.new.steps (reply_or_stop c.run_long.result c.run_long.new.reply) (c.run_long.ensures v.chain v.runs))

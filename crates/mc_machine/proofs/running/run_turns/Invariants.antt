@@ -1,4 +1,4 @@
-use Rattle.std.proofs.Common.{◌≡◌, ◌-◌}
+use Rattle.std.proofs.Common.{◌≡◌, ◌-◌, ◌≤◌}
 use Rattle.mc_machine.specs.Chains.{run_of_command}
 use Rattle.mc_machine.specs.Lone.{lone_chain}
 use Rattle.mc_machine.proofs.RunLemmas.{Underway}
@@ -9,5 +9,6 @@ abbrev pub invariant-loop-turn : goal.invariant-loop-turn
 invariant-loop-turn g l =
     record {
       session : l.session ≡ l.fn.session;
+      within : l.turn ≤ l.few;
       underway : Underway g.B.Bank l.fn.bank (run_of_command (g.B.Bank.state l.fn.bank) (g.B.Bank.named l.fn.bank) l.fn.first l.fn.session l.fn.apdu l.fn.budget) l.fn.steps l.fn.budget l.turn l.bank (lone_chain l.frame l.public l.case l.le (l.fn.budget - l.turn)) l.steps;
     }
