@@ -21,6 +21,7 @@ pub mod AccountLemmas
 pub mod BenchLemmas
 pub mod PokeLemmas
 pub mod HitLemmas
+pub mod CutLemmas
 pub mod CommandStepLemmas
 pub mod LinedLemmas
 pub mod TriedLemmas

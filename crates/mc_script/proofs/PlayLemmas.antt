@@ -131,7 +131,7 @@ played_none s a stands unfused =
 
 -- the texts of a line that was written, and of a play after it
 pub ends_on : (f : Step → List ℕ) (x y z : Sunk) (rest : List (ℕ × DeckLine)) (t : Step) (ts : List Step) (r : Result (Unit {0}) WriteFault) → Writes x (f t) y → PlayEnds f y rest ts r z → PlayEnds f x rest (t ∷ ts) r z
-ends_on f x y z rest t ts (Ok u) first h = (h.0, grew_append x.taken y.taken z.taken (f t) (texts f ts) first.whole h.1)
+ends_on f x y z rest t ts (Ok u) first h = (h.0, record { whole = grew_append x.taken y.taken z.taken (f t) (texts f ts) first.whole h.1.whole; counted = h.1.counted ∙ first.counted })
 ends_on f x y z rest t ts (Err e) first h =
     record {
       before = t ∷ h.before;
@@ -212,7 +212,7 @@ from_none f s a x old stands unfused =
             are = refl;
             worn = [];
             played = played_none s a stands unfused;
-            text = (refl, subst (λ (ts : List Step). Grew x.taken x.taken (texts f ts)) (sym (plays_none s)) (grew_none x.taken));
+            text = (refl, record { whole = subst (λ (ts : List Step). Grew x.taken x.taken (texts f ts)) (sym (plays_none s)) (grew_none x.taken); counted = refl });
           };
       steps = steps_as [] (plays s [] []) old old (sym (plays_none s)) (steps_none old);
     }

@@ -9,6 +9,7 @@ pub mod Watching
 pub mod Writers
 pub mod Players
 pub mod Counting
+pub mod Cuts
 pub mod Arming
 pub mod Commands
 pub mod Plays

@@ -13,7 +13,7 @@ use Rattle.mc_streams.specs.Streams.{Grew}
 use Rattle.mc_streams.specs.declared.refusals.WriteFault.{WriteFault}
 use Rattle.mc_script.specs.Counting.{on_after, on_at_end, LineCounts, PlayCounts}
 use Rattle.mc_script.specs.Players.{IsUnfused}
-use Rattle.mc_text.specs.Texts.{Sunk, Puts}
+use Rattle.mc_text.specs.Texts.{Sunk, Puts, Writes}
 
 -- a device and its bench at one moment
 pub record Bench : Type 0 where
@@ -102,10 +102,10 @@ pub record CutText (f : Step → List ℕ) (a : Sunk) (ts : List Step) (b : Sunk
   pub written : Grew a.taken b.taken (texts f before ++ front)
   pub cause : Rose a.faults b.faults
 
--- the lines that were played, and what was written of their text: all lines, or those up to the first whose text is not
--- wholly written
+-- the lines that were played, and what was written of their text: all lines by calls none of which failed, or those up
+-- to the first whose text is not wholly written
 abbrev pub PlayEnds : (Step → List ℕ) → Sunk → List (ℕ × DeckLine) → List Step → Result (Unit {0}) WriteFault → Sunk → Type 0
-PlayEnds f a rest ts (Ok u) b = (rest ≡ []) × Grew a.taken b.taken (texts f ts)
+PlayEnds f a rest ts (Ok u) b = (rest ≡ []) × Writes a (texts f ts) b
 PlayEnds f a rest ts (Err e) b = CutText f a ts b
 
 -- ---- calls

@@ -1,3 +1,6 @@
+ghost use Rattle.std.specs.Prelude.{◌≡◌};
+ghost use Rattle.mc_script.specs.Cuts.{off_in};
+
 use mc_base::Aid;
 use mc_blocks::Unusable;
 
@@ -17,4 +20,11 @@ pub enum Answer {
     Mute,
     Outcome,
     Dump(Aid),
+}
+
+/// Returns whether a cut hit a line, by what it answered.
+pub fn was_cut(answer: &Option<Answer>) -> bool
+    ensures { result ≡ off_in answer.now }
+{
+    matches!(answer, Some(Answer::OffAt(_)))
 }

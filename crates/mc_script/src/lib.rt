@@ -24,7 +24,7 @@ mod text;
 mod watching;
 mod writer;
 
-pub use answer::Answer;
+pub use answer::{Answer, was_cut};
 pub use examples::{power_after_lines, steps_of_commands, words_after_lines};
 pub use live::Live;
 pub use player::Player;
