@@ -58,7 +58,7 @@ pub written_more : (x y z : Sunk) (os : List (Option (List ℕ))) (o : Option (L
 written_more x y z os o h k =
     record {
       whole = subst (λ (t : List ℕ). Grew x.taken z.taken t) (sym (present_more os o)) (grew_append x.taken y.taken z.taken (frames_bytes (present os)) (answer_frame o) h.whole k.whole);
-      counted = omega (arith, h.counted, k.counted);
+      counted = k.counted ∙ h.counted;
     }
 
 -- empty bytes have no part that is left
@@ -80,5 +80,5 @@ written_cut x y z os (Some f) h k =
       parts = k.part.parts;
       some_left = k.part.some_left;
       written = grew_append x.taken y.taken z.taken (frames_bytes (present os)) k.part.front h.whole k.part.grew;
-      cause = rose_later x.faults y.faults z.faults h.counted k.cause;
+      cause = rose_later x.faults y.faults z.faults (omega (arith, h.counted)) k.cause;
     }

@@ -111,7 +111,7 @@ module _ {N : Type 0} (state : N → DeviceState) (bench : N → BenchState) whe
         fit = tt;
         took = took_none heard.left;
         counted = omega arith;
-        written = record { whole = grew_none out.taken; counted = omega arith };
+        written = record { whole = grew_none out.taken; counted = refl };
         many = refl;
         moments = [];
         recorded = records_none heard.asked;

@@ -53,10 +53,10 @@ around h t n in_old in_new out_old out_new dev_old dev_new =
 
 -- ---- what was written
 
--- the answers were written, each as a frame, in order
+-- the answers were written, each as a frame, in order, and no call of the sink failed
 pub record AnswersWritten (x : Sunk) (os : List (Option (List ℕ))) (y : Sunk) : Type 0 where
   pub whole : Grew x.taken y.taken (frames_bytes (present os))
-  pub counted : x.faults ≤ y.faults
+  pub counted : y.faults ≡ x.faults
 
 -- the answer of the last frame was not written completely: the answers before it were, and the first bytes of its own
 pub record AnswersCut (x : Sunk) (os : List (Option (List ℕ))) (y : Sunk) : Type 0 where
