@@ -12,7 +12,8 @@ use Rattle.model_card.specs.Commands.{Command}
 use Rattle.model_play.specs.DeckGrammar.{DeckLine}
 use Rattle.model_play.specs.DeckGrammar as line
 use Rattle.mc_lab.specs.Sweeps.{steady_step, state_on_blank, cut_statement}
-use Rattle.mc_lab.specs.SweepLaws.{is_off, HitsWithin}
+use Rattle.mc_script.specs.Cuts.{is_off}
+use Rattle.mc_lab.specs.SweepLaws.{HitsWithin}
 use Rattle.mc_lab.proofs.SweepPlays.{next, played_one, warmed_moves}
 use Rattle.model_play.proofs.LineKinds.{past_power}
 

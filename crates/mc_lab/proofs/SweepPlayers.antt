@@ -22,13 +22,14 @@ use Rattle.mc_script.specs.declared.player.Power.TheVariants as power
 use Rattle.mc_script.specs.declared.player.Player.{Player}
 use Rattle.mc_card.specs.declared.card.Card.{Card}
 use Rattle.mc_card.specs.Parts.{card_in, device_in}
+use Rattle.mc_script.proofs.CutLemmas.{off_answer}
+use Rattle.mc_script.specs.Cuts.{is_off, off_in}
 use Rattle.mc_script.specs.Players.{answer_value, device_of, dump_value, statics_by, statics_in, LiveIs, StateIs, IsPlayerAt, IsPlaying}
 use Rattle.mc_script.specs.Lines.{LineDone}
 use Rattle.model_device.proofs.ImageLemmas.{length_laid as laid-size}
 use Rattle.mc_lab.specs.Sweeps.{steady_step, state_on_blank, state_after_lines, state_after_power, state_by_result, Holds, static_bytes_under, running_apps, running_in, cut_statement, under_cut}
-use Rattle.mc_lab.specs.SweepLaws.{is_off}
 use Rattle.mc_lab.specs.SweepBodies.{state_by_fault, next, trial_lines, hits, front_of, line_in, names_in, state_at_place, hit_in, again_in, IsRecoveryBound}
-use Rattle.mc_lab.specs.SweepPlayers.{fault_in, most_in, off_in, TrialOn, CutOn, IsSteadyAt, LineOn}
+use Rattle.mc_lab.specs.SweepPlayers.{fault_in, most_in, TrialOn, CutOn, IsSteadyAt, LineOn}
 use Rattle.mc_lab.specs.declared.sweep_trial.TrialLines.{TrialLines}
 use Rattle.mc_lab.specs.declared.sweep_trial.Place.{Place}
 use Rattle.mc_lab.specs.declared.sweep_trial.TrialLines.TheVariants as trial
@@ -91,10 +92,6 @@ static_held : (o : Option App) (names : List (List ℕ)) (s : State) → state_b
 static_held None names s = refl
 static_held (Some a) names s = refl
 
-static_on : (o : Option App) → false ≡ is_off (Some (static_of o))
-static_on None = refl
-static_on (Some a) = refl
-
 module _ {N : Type 0} (state : N → DeviceState) where
   dump_held : (p : Power) (c : Card N) (aid : List ℕ) (names : List (List ℕ)) (s : State) → state_by_result names (Some (dump_value state p c aid)) s ≡ Holds (static_bytes_under names (running_in s))
   dump_held power.BeforePower c aid names s = refl
@@ -113,24 +110,6 @@ module _ {N : Type 0} (state : N → DeviceState) where
   reported_answer p (Some answer.Mute) names s = refl
   reported_answer p (Some answer.Outcome) names s = refl
   reported_answer p (Some (answer.Dump aid)) names s = sym (dump_held p.power p.card aid names s)
-
-  dump_on : (p : Power) (c : Card N) (aid : List ℕ) → false ≡ is_off (Some (dump_value state p c aid))
-  dump_on power.BeforePower c aid = refl
-  dump_on power.Off c aid = refl
-  dump_on power.Mute c aid = refl
-  dump_on power.On c aid = static_on _
-
-  pub off_answer : (p : Player N) (a : Option Answer) → off_in a ≡ is_off (option_map (answer_value state p) a)
-  off_answer p None = refl
-  off_answer p (Some answer.Formatted) = refl
-  off_answer p (Some (answer.Ready n)) = refl
-  off_answer p (Some (answer.Unusable u)) = refl
-  off_answer p (Some (answer.OffAt k)) = refl
-  off_answer p (Some answer.Worn) = refl
-  off_answer p (Some answer.NoCard) = refl
-  off_answer p (Some answer.Mute) = refl
-  off_answer p (Some answer.Outcome) = refl
-  off_answer p (Some (answer.Dump aid)) = dump_on p.power p.card aid
 
   -- the static bytes that a player shows are those of the card that runs
   live_statics : (p : Power) (c : Card N) (b : Base) (v : Live) (n : List ℕ) → LiveIs state p c b v → statics_by state p c n ≡ option_map (λ a. a.fixed) (lookup (running_apps v b) n)

@@ -8,7 +8,7 @@ use Rattle.model_play.specs.DeckGrammar.{DeckLine}
 use Rattle.model_play.specs.DeckGrammar as line
 use Rattle.mc_lab.specs.declared.sweep_word.SweepWord.{SweepWord}
 use Rattle.mc_lab.specs.Sweeps.{word_if, word_by, recovery_states, state_after_power, Tried, cut_write, steady_step, state_on_blank, cut_statement, power, under_cut, under_cuts, writes_behind, is_unarmed, ReportedState, Holds, NoCard}
-use Rattle.mc_lab.specs.SweepLaws.{is_off}
+use Rattle.mc_script.specs.Cuts.{is_off}
 use Rattle.mc_lab.specs.declared.sweep_account.Account.{Account}
 use Rattle.mc_lab.specs.declared.sweep_trial.TrialLines.{TrialLines}
 use Rattle.mc_lab.specs.declared.sweep_trial.TrialLines.TheVariants as trial

@@ -7,7 +7,8 @@ use Rattle.model_device.specs.Stopped.{opens_at}
 use Rattle.model_device.specs.Card.{App}
 use Rattle.model_card.specs.Items.{Item, Plain, Atomic, weight, apps_after_items}
 use Rattle.model_play.specs.Given.{apps_in}
-use Rattle.model_play.specs.Play.{Unarmed, LineResult, OffAt, step, armed_stop_in, is_card_line}
+use Rattle.mc_script.specs.Cuts.{is_off}
+use Rattle.model_play.specs.Play.{Unarmed, step, armed_stop_in, is_card_line}
 use Rattle.model_play.specs.DeckGrammar.{DeckLine}
 use Rattle.mc_lab.specs.Sweeps.{steady_step, state_on_blank, cut_statement, static_bytes_under, are_same_held, Swept, line_sweep, is_swept, writes_behind, names_from, Run, runs, sweep}
 use Rattle.mc_lab.specs.declared.sweep_word.SweepWord.{SweepWord}
@@ -81,11 +82,6 @@ EachSwept P front [] = ⊤
 EachSwept P front (l ∷ ls) = (is_swept front l ≡ true → P front l) × EachSwept P (front ++ l ∷ []) ls
 
 -- ---- the lines that a cut hits
-
--- whether a result is that of a cut
-abbrev pub is_off : Option LineResult → Bool
-is_off (Some (OffAt k)) = true
-is_off r = false
 
 -- a cut at write `k` hits a line to the card exactly if the line makes at least `k` writes, so that trial plays
 -- determine the numbers of a sweep

@@ -10,16 +10,11 @@ use Rattle.model_play.specs.DeckGrammar.{DeckLine}
 use Rattle.mc_script.specs.declared.answer.Answer.{Answer}
 use Rattle.mc_script.specs.declared.answer.Answer.TheVariants as answer
 use Rattle.mc_script.specs.declared.player.Player.{Player}
+use Rattle.mc_script.specs.Cuts.{is_off}
 use Rattle.mc_script.specs.Players.{answer_value, device_of, IsPlayerAt}
 use Rattle.mc_lab.specs.Sweeps.{steady_step, state_on_blank, cut_statement}
-use Rattle.mc_lab.specs.SweepLaws.{is_off}
 use Rattle.mc_lab.specs.declared.sweep_trial.TrialLines.{TrialLines}
 use Rattle.mc_lab.specs.SweepBodies.{next, trial_lines, hits}
-
--- whether a result is that of a cut
-abbrev pub off_in : Option Answer → Bool
-off_in (Some (answer.OffAt k)) = true
-off_in r = false
 
 -- why a power line found no card
 abbrev pub fault_in : Option Answer → Option Unusable

@@ -10,7 +10,7 @@ ghost use Rattle.model_device.specs.Bytes.{zeros};
 ghost use Rattle.mc_lab.specs.SweepBodies.{account_value, held_value, hit_in, state_at_place, CanCut, AccountFits};
 ghost use Rattle.mc_lab.specs.SweepBodies.{IsRecoveryBound, IsPlace};
 ghost use Rattle.mc_lab.specs.declared.sweep_trial.TrialLines.TheVariants as trial;
-ghost use Rattle.mc_lab.specs.SweepPlayers.{fault_in, most_in, off_in};
+ghost use Rattle.mc_lab.specs.SweepPlayers.{fault_in, most_in};
 ghost use Rattle.mc_lab.specs.SweepFronts.{HasPlayed, IsKeptAt};
 ghost use Rattle.mc_lab.specs.Benches.{CutOn, IsSteadyAt, LineOn, TrialOn};
 
@@ -23,7 +23,7 @@ use mc_base::{Aid, NoMemory, Steps, Word};
 use mc_blocks::Unusable;
 use mc_deck::Line;
 use mc_nvm::Bench;
-use mc_script::{Answer, Player, Silent};
+use mc_script::{Answer, Player, Silent, was_cut};
 use std::alloc::Global;
 use std::sync::ledger::Ledger;
 
@@ -35,13 +35,6 @@ pub struct Laboratory {
     device: BranchNvm,
     kept: Option<Kept>,
     played: usize,
-}
-
-// Whether a cut hit a line.
-fn is_off(answer: &Option<Answer>) -> bool
-    ensures { result ≡ off_in answer.now }
-{
-    matches!(answer, Some(Answer::OffAt(_)))
 }
 
 // Why a power line found no card.
@@ -100,7 +93,7 @@ fn play_cut<N: Bench, L: Ledger>(
 {
     let _armed = play_line(player, &Line::Cut { k, fill }, steps);
     let answer = play_line(player, line, steps);
-    is_off(&answer)
+    was_cut(&answer)
 }
 
 // Plays a line with its write `k` cut, and after it a power line with its write `again` cut, and returns
