@@ -1,5 +1,5 @@
 -- How an exploration ends within a depth.
-use Rattle.std.proofs.Common.{◌≡◌, ℕ, false, List, [], ◌∷◌, ◌++◌, codes, decimal, length, reverse, Result, Ok, Err, IsErr, refl, sym, subst, ◌∙◌}
+use Rattle.std.proofs.Common.{◌≡◌, ℕ, List, [], ◌∷◌, ◌++◌, codes, decimal, length, reverse, Result, Ok, Err, IsErr, refl, sym, subst, ◌∙◌}
 use Rattle.std.specs.Result.{IsErrAnd}
 use Rattle.model_play.specs.Play.{State}
 use Rattle.law_explore.specs.Rules as rule

@@ -1,5 +1,5 @@
 -- The end of an exploration that broke no rule: the rules that applied to no try, and the sums.
-use Rattle.std.specs.Prelude.{◌≡◌, ℕ, Bool, List, ◌++◌}
+use Rattle.std.specs.Prelude.{◌≡◌, ℕ, Bool, List}
 use Rattle.std.proofs.Common.{ap, subst, ◌∙◌}
 use Rattle.law_explore.specs.Rules as rule
 use Rattle.law_explore.specs.Search as found

@@ -10,8 +10,9 @@ use Rattle.model_card.specs.Manager.{SessionState}
 use Rattle.model_card.specs.Commands.{Command}
 use Rattle.model_play.specs.DeckGrammar.{DeckLine}
 use Rattle.model_play.specs.DeckGrammar as line
-use Rattle.model_play.specs.Play.{Armed, Unarmed, ArmedCut, Live, Running, Unpowered, Muted, Warm, State, AfterPower, LineResult, OffAt, step, is_card_line, moves_of, hit_of, power_moves, power_result, power_says, power_after, stopped_power, card_line, command_step, line_command, line_says, line_after}
+use Rattle.model_play.specs.Play.{Armed, Unarmed, ArmedCut, Live, Running, Unpowered, Muted, Warm, State, AfterPower, step, is_card_line, moves_of, hit_of, power_moves, power_result, power_says, power_after, stopped_power, card_line, command_step, line_command, line_says, line_after}
 use Rattle.model_play.specs.Family.{is_running}
+use Rattle.mc_script.specs.Cuts.{is_off}
 use Rattle.law_explore.specs.Rules.{Move}
 use Rattle.law_explore.specs.States.{CardState, play_of}
 use Rattle.law_explore.specs.Tries.{Manner, Whole, CutAt, writes_of, next, step_of, recovery}
@@ -81,11 +82,6 @@ move_recovers c m (CutAt k x) is =
     record { warm = p.0; is = p.1; unarmed = p.2; budget = p.3; owed = p.4 }
 
 -- ---- whether a cut hits
-
--- whether a result is that of a line at which power was cut
-abbrev pub is_off : Option LineResult → Bool
-is_off (Some (OffAt k)) = true
-is_off _ = false
 
 power_off : (m : ℕ) (b : Base) → is_off (Some (power_result m b)) ≡ false
 power_off m (OnCard c) = refl

@@ -1,5 +1,5 @@
 -- What tries came to, as the code counts it, is what they come to by the definition.
-use Rattle.std.specs.Prelude.{◌≡◌, ◌+◌, ◌≤◌, ℕ, zero, suc, ◌||◌, drop, slice_get, Some, Bool, true, false, nat_lt, List, [], ◌∷◌, ◌++◌, length, map, replicate, slice_index_or, refl}
+use Rattle.std.specs.Prelude.{◌≡◌, ◌+◌, ◌≤◌, ℕ, suc, ◌||◌, drop, slice_get, Some, Bool, true, false, nat_lt, List, [], ◌∷◌, ◌++◌, length, map, replicate, slice_index_or, refl}
 use Rattle.std.proofs.Common.{arith, add-one, ap, sym, subst, ◌∙◌}
 use Rattle.model_play.specs.Play.{Step}
 use Rattle.law_explore.specs.Rules as rule

@@ -2,9 +2,7 @@
 use Rattle.std.proofs.Common.{◌≡◌, ap, sym, subst, ◌∙◌, refl, arith}
 use Rattle.std.specs.Prelude.{ℕ, ◌+◌, ◌<◌, ◌≤◌, Bool, true, false, nat_le, List, Option, None, Some, option_map, Result, Ok, Err, IfOk}
 use Rattle.std.proofs.lemmas.Bool.{leb-true, leb-false, not-true, not-false}
-use Rattle.model_device.specs.Bytes.{lookup}
 use Rattle.model_device.specs.Device.{DeviceState, BenchState}
-use Rattle.model_device.specs.Card.{App}
 use Rattle.model_device.specs.PowerUp.{Base, OnCard, AtFault}
 use Rattle.model_play.specs.DeckGrammar.{DeckLine}
 use Rattle.model_play.specs.DeckGrammar as line
@@ -18,18 +16,15 @@ use Rattle.law_explore.specs.Tries.{writes_of, step_of, recovery, result_text}
 use Rattle.law_explore.specs.Safety.{CanMake}
 use Rattle.law_explore.proofs.Actions.{IsStarted, Agrees}
 use Rattle.law_explore.proofs.Decisions.{done_same}
-use Rattle.mc_card.specs.declared.card.Card.{Card}
-use Rattle.mc_card.specs.Parts.{card_in}
 use Rattle.lab_rules.specs.declared.rules.OnRule.{OnRule}
 use Rattle.lab_rules.specs.Occasions.{counts_after_turns}
 use Rattle.mc_script.specs.declared.answer.Answer.{Answer}
-use Rattle.mc_script.specs.declared.answer.Answer.TheVariants as answer
 use Rattle.mc_script.specs.declared.live.Live.{Live}
-use Rattle.mc_script.specs.declared.player.Power.{Power}
-use Rattle.mc_script.specs.declared.player.Power.TheVariants as power
 use Rattle.mc_script.specs.declared.player.Player.{Player}
-use Rattle.mc_script.specs.Players.{answer_value, dump_value, device_of, IsPlayerAt}
+use Rattle.mc_script.specs.Cuts.{is_off, off_in}
+use Rattle.mc_script.specs.Players.{answer_value, device_of, IsPlayerAt}
 use Rattle.mc_script.specs.Lives.{LiveShows}
+use Rattle.mc_script.proofs.CutLemmas.{off_answer}
 use Rattle.lab_search.specs.declared.journey.Fill.{Fill}
 use Rattle.lab_search.specs.declared.journey.Manner.{Manner}
 use Rattle.lab_search.specs.declared.journey.Manner.TheVariants as manner
@@ -37,8 +32,8 @@ use Rattle.lab_search.specs.Playing.{FailsNot, PlaysAs, CountsAs}
 use Rattle.lab_search.specs.Reports.{fill_value, manner_value}
 use Rattle.lab_key.specs.Shown.{IsKeptBase, IsShown}
 use Rattle.lab_search.specs.Shown.{settled_play}
-use Rattle.lab_search.specs.Trying.{CanCut, CountsWrite, IsMade, IsMissed, armed_for, is_off_answer, is_missed, reached, MadeAs, IsLiveAfter, TriedState, TriedAs}
-use Rattle.lab_search.proofs.MoveLemmas.{IsOnCard, is_off, move_hit, card_line_leaves, IsRecovered, move_recovers}
+use Rattle.lab_search.specs.Trying.{CanCut, CountsWrite, IsMade, IsMissed, armed_for, is_missed, reached, MadeAs, IsLiveAfter, TriedState, TriedAs}
+use Rattle.lab_search.proofs.MoveLemmas.{IsOnCard, move_hit, card_line_leaves, IsRecovered, move_recovers}
 
 -- ---- states
 
@@ -79,31 +74,7 @@ kept_after c m w a is kept can made =
     let d = (done_same (play_of c) c m (manner_value w) is (agrees_self c kept) (can_make c m w can made)).after a in
     kept_of (reached c m w a).live (reached c m w a).base d.warm.owed d.started
 
--- ---- answers
-
-static_not_off : (a : Option App) → is_off (Some (static_of a)) ≡ false
-static_not_off None = refl
-static_not_off (Some a) = refl
-
 module _ {N : Type 0} (state : N → DeviceState) (bench : N → BenchState) where
-  dump_not_off : (x : Power) (c : Card N) (aid : List ℕ) → is_off (Some (dump_value state x c aid)) ≡ false
-  dump_not_off power.BeforePower c aid = refl
-  dump_not_off power.Off c aid = refl
-  dump_not_off power.Mute c aid = refl
-  dump_not_off power.On c aid = static_not_off (lookup (card_in state c).apps aid)
-
-  off_by : (q : Player N) (a : Option Answer) → is_off (option_map (answer_value state q) a) ≡ is_off_answer a
-  off_by q None = refl
-  off_by q (Some answer.Formatted) = refl
-  off_by q (Some (answer.Ready n)) = refl
-  off_by q (Some (answer.Unusable u)) = refl
-  off_by q (Some (answer.OffAt k)) = refl
-  off_by q (Some answer.Worn) = refl
-  off_by q (Some answer.NoCard) = refl
-  off_by q (Some answer.Mute) = refl
-  off_by q (Some answer.Outcome) = refl
-  off_by q (Some (answer.Dump aid)) = dump_not_off q.power q.card aid
-
   -- ---- a move
 
   abbrev made_step : CardState → Move → Manner → Step
@@ -140,8 +111,8 @@ module _ {N : Type 0} (state : N → DeviceState) (bench : N → BenchState) whe
       → is_missed w a ≡ false → IsMade c m w
   missed_false c m manner.Whole q a is kept can h off = tt
   missed_false c m (manner.Cut n f) q a is kept can h off =
-      let hit = sym (off_by q a) ∙ ap (λ (r : Option LineResult). is_off r) h.answers ∙ move_hit c m (n + 1) (fill_value f) is can.0 (runs_on_card c.live c.base kept can.0) in
-      let yes : nat_le (n + 1) (writes_of (play_of c) m) ≡ true = sym hit ∙ not-false (is_off_answer a) off in
+      let hit = off_answer state q a ∙ ap (λ (r : Option LineResult). is_off r) h.answers ∙ move_hit c m (n + 1) (fill_value f) is can.0 (runs_on_card c.live c.base kept can.0) in
+      let yes : nat_le (n + 1) (writes_of (play_of c) m) ≡ true = sym hit ∙ not-false (off_in a) off in
       let le : n + 1 ≤ writes_of (play_of c) m = leb-true (n + 1) (writes_of (play_of c) m) yes in
       omega (arith, le)
 
@@ -149,8 +120,8 @@ module _ {N : Type 0} (state : N → DeviceState) (bench : N → BenchState) whe
       → is_missed w a ≡ true → IsMissed c m w
   missed_true c m manner.Whole q a is kept can h off = absurd (cc off)
   missed_true c m (manner.Cut n f) q a is kept can h off =
-      let hit = sym (off_by q a) ∙ ap (λ (r : Option LineResult). is_off r) h.answers ∙ move_hit c m (n + 1) (fill_value f) is can.0 (runs_on_card c.live c.base kept can.0) in
-      let not_le : nat_le (n + 1) (writes_of (play_of c) m) ≡ false = sym hit ∙ not-true (is_off_answer a) off in
+      let hit = off_answer state q a ∙ ap (λ (r : Option LineResult). is_off r) h.answers ∙ move_hit c m (n + 1) (fill_value f) is can.0 (runs_on_card c.live c.base kept can.0) in
+      let not_le : nat_le (n + 1) (writes_of (play_of c) m) ≡ false = sym hit ∙ not-true (off_in a) off in
       let lt : writes_of (play_of c) m < n + 1 = leb-false (n + 1) (writes_of (play_of c) m) not_le in
       omega (arith, lt)
 

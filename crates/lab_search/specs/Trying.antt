@@ -12,7 +12,7 @@ use Rattle.law_explore.specs.Tries.{writes_of, step_of, recovery, next, result_t
 use Rattle.lab_rules.specs.declared.rules.OnRule.{OnRule}
 use Rattle.lab_rules.specs.Occasions.{counts_after_turns}
 use Rattle.mc_script.specs.declared.answer.Answer.{Answer}
-use Rattle.mc_script.specs.declared.answer.Answer.TheVariants as answer
+use Rattle.mc_script.specs.Cuts.{off_in}
 use Rattle.mc_script.specs.declared.live.Live.{Live}
 use Rattle.mc_script.specs.declared.player.Player.{Player}
 use Rattle.mc_script.specs.Players.{device_of, IsPlayerAt}
@@ -51,15 +51,10 @@ CountsWrite (manner.Cut made f) = made + 1 < 2 ^ 32
 
 -- ---- answers
 
--- whether a cut hit a line
-abbrev pub is_off_answer : Option Answer → Bool
-is_off_answer (Some (answer.OffAt k)) = true
-is_off_answer _ = false
-
 -- whether a cut hit no write of a line
 abbrev pub is_missed : Manner → Option Answer → Bool
 is_missed manner.Whole a = false
-is_missed (manner.Cut made f) a = not (is_off_answer a)
+is_missed (manner.Cut made f) a = not (off_in a)
 
 -- ---- a move that was made
 

@@ -161,6 +161,14 @@ fn play_deck<L: Ledger>(
     first
 }
 
+// An empty text on the heap.
+fn text(alloc: Global) -> Result<Box<Text>, NoMemory> {
+    match Box::new(alloc, Text::new()) {
+        Ok(text) => Ok(text),
+        Err(_) => Err(NoMemory),
+    }
+}
+
 /// Plays the deck of an exploration, and returns its beginning.
 ///
 /// # Errors
@@ -181,8 +189,8 @@ pub fn begin<L: Ledger>(
     let laboratory = Laboratory {
         device,
         budget,
-        text: Text::new(),
-        plain: Text::new(),
+        text: text(alloc)?,
+        plain: text(alloc)?,
         counts: vec![in alloc; 0; exploration.rules.ons.len()]?,
     };
     let first = CardState {

@@ -19,7 +19,7 @@ ghost use Rattle.lab_search.specs.Benches.{CountsAs, IsLiveAfter, MadeAs, PlaysA
 ghost use Rattle.lab_search.specs.Reports.{fill_value, manner_value};
 ghost use Rattle.lab_key.specs.Shown.{IsKeptBase, IsShown, ShowsSome};
 ghost use Rattle.lab_search.specs.Shown.{settled_play};
-ghost use Rattle.lab_search.specs.Trying.{CanCut, CountsWrite, armed_for, is_off_answer, is_missed, TriedAs};
+ghost use Rattle.lab_search.specs.Trying.{CanCut, CountsWrite, armed_for, is_missed, TriedAs};
 
 use crate::counter::play_counted;
 use crate::journey::{Fill, Manner};
@@ -28,7 +28,7 @@ use lab_rules::{Move, OnRule};
 use mc_base::{NoMemory, Steps};
 use mc_deck::Line;
 use mc_nvm::Bench;
-use mc_script::{Answer, Live, Player, Text, add_result};
+use mc_script::{Answer, Live, Player, Text, add_result, was_cut};
 use std::alloc::Global;
 use std::sync::ledger::Ledger;
 
@@ -111,23 +111,13 @@ fn recover<N: Bench, L: Ledger>(player: &mut Player<N>, manner: Manner, steps: &
     }
 }
 
-// Whether a cut hit a line.
-fn is_off(answer: &Option<Answer>) -> bool
-    ensures { result ≡ is_off_answer answer.now }
-{
-    match answer {
-        Some(Answer::OffAt(_)) => true,
-        _ => false,
-    }
-}
-
 // Whether a cut hit no write of a line.
 fn is_missed(manner: Manner, answer: &Option<Answer>) -> bool
     ensures { result ≡ is_missed manner answer.now }
 {
     match manner {
         Manner::Whole => false,
-        Manner::Cut { made: _, fill: _ } => !is_off(answer),
+        Manner::Cut { made: _, fill: _ } => !was_cut(answer),
     }
 }
 

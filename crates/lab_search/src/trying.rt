@@ -27,13 +27,14 @@ use mc_script::{Live, Text};
 use std::alloc::Global;
 use std::sync::ledger::Ledger;
 
-/// A device, and the room for the texts and the counts of a try.
+/// A device, and the room for the texts and the counts of a try. The texts are on the heap, so that a laboratory can be
+/// moved without a large frame on the stack.
 #[derive(Drop)]
 pub struct Laboratory {
     pub device: BranchNvm,
     pub budget: Budget,
-    pub text: Text,
-    pub plain: Text,
+    pub text: Box<Text>,
+    pub plain: Box<Text>,
     pub counts: Vec<u64>,
 }
 
@@ -116,11 +117,11 @@ impl Laboratory {
             → IsShown (image_with self.old.device.root saved.now.words.items) saved.now.live c.base c.live
             → c.budget ≡ self.old.budget → IsMove candidate.now.chosen.now m → is_card_line m.line ≡ true
             → CanCut c manner → TriedAs c m manner candidate.now.ons.now candidate.now.applies.now
-            (replicate (vec_len self.old.counts) 0) self.new.counts.items self.new.text.items
+            (replicate (vec_len self.old.counts) 0) self.new.counts.items self.new.text.value.items
             self.new.device.device.words result }
         ensures root { self.new.device.root ≡ self.old.device.root }
         ensures budget { self.new.budget ≡ self.old.budget }
-        ensures short { array_vec_len self.new.text ≤ 8210 }
+        ensures short { array_vec_len self.new.text.value ≤ 8210 }
     {
         self.device.return_to_root();
         self.device.put_words(saved.words.as_slice());
@@ -133,7 +134,7 @@ impl Laboratory {
             candidate,
             manner,
             self.counts.as_mut_slice(),
-            &mut self.text,
+            &mut *self.text,
             steps,
         );
         live
@@ -179,8 +180,8 @@ impl Laboratory {
         let mut allowances = Vec::from_slice(alloc, state.allowances.as_slice())?;
         let broken = spend(
             candidate,
-            &self.text,
-            &mut self.plain,
+            &*self.text,
+            &mut *self.plain,
             self.counts.as_mut_slice(),
             allowances.as_mut_slice(),
         );

@@ -23,8 +23,9 @@ returns-in-Some-broken-clause-tried g c held ons k m kept candidate can =
     let tried = c.in_ok-live.ensures.tried k m shown kept.budget_is candidate.move candidate.card can in
     let made = made_by k m c.args.manner c.play.new.self.device.device.words c.in_ok-live.field-0 c.in-Some-2.live c.in-Some-2.is tried.state in
     let long : vec_len c.args.self.now.counts ≡ length c.args.candidate.now.ons.now = search rules in
-    let spends = spends_by c.args.self.now c.args.rosters.now held ons c.args.state.now k m c.args.manner c.args.candidate.now c.play.new.self.text.items c.play.new.self.counts.items c.as_mut_slice.result.now c.as_mut_slice-2.result.now
-    (vec_len c.args.self.now.counts) long kept candidate tried.text tried.counts c.as_mut_slice.ensures.value (search rules) in
+    let same : c.deref.result.now.items ≡ c.play.new.self.text.value.items = search rules in
+    let spends = spends_by c.args.self.now c.args.rosters.now held ons c.args.state.now k m c.args.manner c.args.candidate.now c.deref.result.now.items c.play.new.self.counts.items c.as_mut_slice.result.now c.as_mut_slice-2.result.now
+    (vec_len c.args.self.now.counts) long kept candidate (same ∙ tried.text) tried.counts c.as_mut_slice.ensures.value (search rules) in
     broken_is c.play.new.self c.args.rosters.now held ons k m c.args.manner c.spend-broken.result c.in-Some-broken.allowance c.spend-broken.new.amounts made.0 c.in-Some-broken.is (c.spend-broken.ensures.spent held k.allowances ons m (tried_step k m c.args.manner) spends)
 
 pub keep-requires : goal.keep-requires
@@ -52,8 +53,9 @@ returns-clause-tried g c held ons k m kept candidate can =
     let tried = c.in_ok-live.ensures.tried k m shown kept.budget_is candidate.move candidate.card can in
     let made = made_by k m c.args.manner c.play.new.self.device.device.words c.in_ok-live.field-0 c.in-Some-2.live c.in-Some-2.is tried.state in
     let long : vec_len c.args.self.now.counts ≡ length c.args.candidate.now.ons.now = search rules in
-    let spends = spends_by c.args.self.now c.args.rosters.now held ons c.args.state.now k m c.args.manner c.args.candidate.now c.play.new.self.text.items c.play.new.self.counts.items c.as_mut_slice.result.now c.as_mut_slice-2.result.now
-    (vec_len c.args.self.now.counts) long kept candidate tried.text tried.counts c.as_mut_slice.ensures.value (search rules) in
+    let same : c.deref.result.now.items ≡ c.play.new.self.text.value.items = search rules in
+    let spends = spends_by c.args.self.now c.args.rosters.now held ons c.args.state.now k m c.args.manner c.args.candidate.now c.deref.result.now.items c.play.new.self.counts.items c.as_mut_slice.result.now c.as_mut_slice-2.result.now
+    (vec_len c.args.self.now.counts) long kept candidate (same ∙ tried.text) tried.counts c.as_mut_slice.ensures.value (search rules) in
     let spent = c.spend-broken.ensures.spent held k.allowances ons m (tried_step k m c.args.manner) spends in
     let many : length c.spend-broken.new.amounts ≡ c.in_ok-allowances.allowances.len = search rules in
     let none = none_is c.spend-broken.result c.in_default-broken.not-Some in
@@ -67,8 +69,9 @@ returns-in-Some-broken-clause-counted g c held ons k m kept candidate can =
     let shown = c.in-Some.ensures c.args.self.now.device.root k.base k.live kept.card in
     let tried = c.in_ok-live.ensures.tried k m shown kept.budget_is candidate.move candidate.card can in
     let long : vec_len c.args.self.now.counts ≡ length c.args.candidate.now.ons.now = search rules in
-    let spends = spends_by c.args.self.now c.args.rosters.now held ons c.args.state.now k m c.args.manner c.args.candidate.now c.play.new.self.text.items c.play.new.self.counts.items c.as_mut_slice.result.now c.as_mut_slice-2.result.now
-    (vec_len c.args.self.now.counts) long kept candidate tried.text tried.counts c.as_mut_slice.ensures.value (search rules) in
+    let same : c.deref.result.now.items ≡ c.play.new.self.text.value.items = search rules in
+    let spends = spends_by c.args.self.now c.args.rosters.now held ons c.args.state.now k m c.args.manner c.args.candidate.now c.deref.result.now.items c.play.new.self.counts.items c.as_mut_slice.result.now c.as_mut_slice-2.result.now
+    (vec_len c.args.self.now.counts) long kept candidate (same ∙ tried.text) tried.counts c.as_mut_slice.ensures.value (search rules) in
     let counted = c.spend-broken.ensures.counted held k.allowances ons m (tried_step k m c.args.manner) spends in
     let many : length c.spend-broken.new.counts ≡ c.play.new.self.counts.len = search rules in
     take_at c.spend-broken.new.counts _ c.play.new.self.counts.len many ∙ counted
@@ -78,8 +81,9 @@ returns-clause-counted g c held ons k m kept candidate can =
     let shown = c.in-Some.ensures c.args.self.now.device.root k.base k.live kept.card in
     let tried = c.in_ok-live.ensures.tried k m shown kept.budget_is candidate.move candidate.card can in
     let long : vec_len c.args.self.now.counts ≡ length c.args.candidate.now.ons.now = search rules in
-    let spends = spends_by c.args.self.now c.args.rosters.now held ons c.args.state.now k m c.args.manner c.args.candidate.now c.play.new.self.text.items c.play.new.self.counts.items c.as_mut_slice.result.now c.as_mut_slice-2.result.now
-    (vec_len c.args.self.now.counts) long kept candidate tried.text tried.counts c.as_mut_slice.ensures.value (search rules) in
+    let same : c.deref.result.now.items ≡ c.play.new.self.text.value.items = search rules in
+    let spends = spends_by c.args.self.now c.args.rosters.now held ons c.args.state.now k m c.args.manner c.args.candidate.now c.deref.result.now.items c.play.new.self.counts.items c.as_mut_slice.result.now c.as_mut_slice-2.result.now
+    (vec_len c.args.self.now.counts) long kept candidate (same ∙ tried.text) tried.counts c.as_mut_slice.ensures.value (search rules) in
     let counted = c.spend-broken.ensures.counted held k.allowances ons m (tried_step k m c.args.manner) spends in
     let many : length c.spend-broken.new.counts ≡ c.play.new.self.counts.len = search rules in
     take_at c.spend-broken.new.counts _ c.play.new.self.counts.len many ∙ counted
